@@ -1,0 +1,44 @@
+-- Reading from the front of the tokens: words that the mirrors of the parser share.
+-- This file mirrors code (src/reader.rt); no definition of the language stands on it.
+use Rattle.std.specs.Prelude.{◌≡◌, Bool, false, if◌then◌else◌, List, [], ◌∷◌, Option, Some, None, Result, Ok, Err}
+use denote.Enum.Bare.{sameb}
+use Rattle.lb_syntax.specs.contracts.token.Mark.{the_type}
+use Rattle.lb_syntax.specs.declared.reader.ReadError.{ReadError}
+use Rattle.lb_syntax.specs.declared.reader.ReadError.TheVariants as error
+use Rattle.lb_syntax.specs.declared.token.Mark.{Mark}
+use Rattle.lb_syntax.specs.declared.token.Token.{Token}
+use Rattle.lb_syntax.specs.declared.token.Token.TheVariants as token
+use Rattle.lb_syntax.specs.Tree.{Name}
+
+infixl 10 ◌>>=◌
+abbrev pub ◌>>=◌ : {A B : Type 0} → Option A → (A → Option B) → Option B
+(Some x) >>= f = f x
+None >>= f = None
+
+-- a thing from the front of the tokens, and the tokens after it; none where none stands there
+abbrev pub Reader : Type 0 → Type 0
+Reader A = List Token → Option (A × List Token)
+
+-- a function that failed: for want of memory, or where the mirror reads nothing either
+abbrev pub Fails : {Y : Type 0} → ReadError → Option Y → Type 0
+Fails error.Memory read = Unit {0}
+Fails (error.Syntax left) read = read ≡ None
+
+-- what a function returned, seen by view, is what its mirror reads, unless memory ran out
+abbrev pub Gives : {X Y : Type 0} → (X → Y) → Result X ReadError → Option Y → Type 0
+Gives view (Ok x) read = read ≡ Some (view x)
+Gives view (Err e) read = Fails e read
+
+abbrev pub is_mark : Mark → Token → Bool
+is_mark m (token.Mark k) = sameb the_type k m
+is_mark m _ = false
+
+-- the tokens after this mark
+unfoldable pub expect : Mark → List Token → Option (List Token)
+expect m [] = None
+expect m (t ∷ ts) = if is_mark m t then Some ts else None
+
+-- a name
+unfoldable pub name_at : Reader Name
+name_at (token.Name x ∷ ts) = Some (x, ts)
+name_at _ = None

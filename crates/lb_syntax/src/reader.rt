@@ -1,0 +1,83 @@
+//! Reading from the front of a slice of tokens: what all parts of the parser share.
+
+ghost use Rattle.std.specs.Prelude.{◌≡◌, Some, None, IfNone, IfSome};
+ghost use Rattle.lb_syntax.specs.Readers as reading;
+ghost use Rattle.lb_syntax.specs.Readers.{Gives};
+
+use crate::token::{Mark, Token};
+use crate::tree::Name;
+use std::alloc::{AllocError, AllocFailed, Global};
+
+/// Why nothing was read.
+#[derive(Debug, Drop)]
+pub enum ReadError {
+    /// Memory ran out.
+    Memory,
+    /// How many tokens are left from the first that fits nothing.
+    Syntax(usize),
+}
+
+impl From<AllocError> for ReadError {
+    ghost use Rattle.std.specs.Prelude.{◌≡◌};
+    ghost use Rattle.lb_syntax.specs.declared.reader.ReadError.TheVariants.{Memory};
+
+    ghost from_gives = { λ _ e. e ≡ Memory };
+
+    fn from(_e: AllocError) -> ReadError {
+        ReadError::Memory
+    }
+}
+
+impl<T: Drop> From<AllocFailed<T>> for ReadError {
+    ghost use Rattle.std.specs.Prelude.{◌≡◌};
+    ghost use Rattle.lb_syntax.specs.declared.reader.ReadError.TheVariants.{Memory};
+
+    ghost from_gives = { λ _ e. e ≡ Memory };
+
+    fn from(_e: AllocFailed<T>) -> ReadError {
+        ReadError::Memory
+    }
+}
+
+/// Whether a token is this mark.
+pub fn is_mark(mark: Mark, token: &Token) -> bool
+    ensures { result ≡ reading.is_mark mark token.now }
+{
+    match token {
+        Token::Mark(k) => *k == mark,
+        _ => false,
+    }
+}
+
+/// The tokens after this mark, if it comes next.
+#[tactic(auto, unfolding(crate::specs::Readers::expect))]
+pub fn after(mark: Mark, tokens: &[Token]) -> Option<&[Token]>
+    ensures none { IfNone result (reading.expect mark tokens.now ≡ None) }
+    ensures some { IfSome result (λ rest. reading.expect mark tokens.now ≡ Some rest.now) }
+{
+    match tokens {
+        [first, rest @ ..] if is_mark(mark, first) => Some(rest),
+        _ => None,
+    }
+}
+
+/// The tokens after this mark, which has to come next.
+pub fn expect(mark: Mark, tokens: &[Token]) -> Result<&[Token], ReadError>
+    ensures { Gives (λ rest. rest.now) result (reading.expect mark tokens.now) }
+{
+    match after(mark, tokens) {
+        Some(rest) => Ok(rest),
+        None => Err(ReadError::Syntax(tokens.len())),
+    }
+}
+
+/// A name, and the tokens after it.
+#[tactic(auto, unfolding(crate::specs::Readers::name_at))]
+pub fn name_at(alloc: Global, tokens: &[Token]) -> Result<(Name, &[Token]), ReadError>
+    ensures { Gives (λ x. (x.0, x.1.now)) result (reading.name_at tokens.now) }
+{
+    match tokens {
+        [Token::Name(x), rest @ ..] => Ok((x.copy(alloc)?, rest)),
+        _ => Err(ReadError::Syntax(tokens.len())),
+    }
+}
