@@ -1,2 +1,4 @@
+pub mod Lists
+pub mod Refusals
 pub mod Tree
 pub mod Readers

@@ -9,11 +9,7 @@ use Rattle.lb_syntax.specs.declared.token.Mark.{Mark}
 use Rattle.lb_syntax.specs.declared.token.Token.{Token}
 use Rattle.lb_syntax.specs.declared.token.Token.TheVariants as token
 use Rattle.lb_syntax.specs.Tree.{Name}
-
-infixl 10 ◌>>=◌
-abbrev pub ◌>>=◌ : {A B : Type 0} → Option A → (A → Option B) → Option B
-(Some x) >>= f = f x
-None >>= f = None
+pub use Rattle.lb_syntax.specs.Lists.{◌>>=◌}
 
 -- a thing from the front of the tokens, and the tokens after it; none where none stands there
 abbrev pub Reader : Type 0 → Type 0

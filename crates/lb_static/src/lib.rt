@@ -1,0 +1,2 @@
+//! Names, static values and instances: what a source stands for before any type is looked at.
+#![tactic(auto)]
