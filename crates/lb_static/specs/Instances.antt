@@ -31,6 +31,9 @@ pub record Site : Type 0 where
   pub arguments : List Static
   pub count : Option Static
 
+abbrev pub call_site : Name → List Static → Site
+call_site f statics = record { callee = f; arguments = statics; count = None }
+
 abbrev mutual
   -- the calls of an expression in text order, each before those in its arguments; an iterated
   -- symbol is no call
@@ -54,8 +57,7 @@ abbrev mutual
   sites (Array es) = sites_in es
   sites (AtMostOne es) = sites_in es
   sites (Nor es) = sites_in es
-  sites (Call f statics es) =
-      record { callee = f; arguments = statics; count = None } ∷ sites_in es
+  sites (Call f statics es) = call_site f statics ∷ sites_in es
   sites (Iterate it (Node_named f statics) n es) =
       record { callee = f; arguments = statics; count = Some n } ∷ sites_in es
   sites (Iterate it (Symbol op) n es) = sites_in es
@@ -117,7 +119,8 @@ module _ (P : Program) where
   callee_of here site call index =
       node_named site.callee >>= λ n.
       all_some (map (static_value here) site.arguments) >>= λ values.
-      Some (record { path = Child here.path call index; node = n; values = zip n.parameters values })
+      let at = Child here.path call index in
+      Some (record { path = at; node = n; values = zip n.parameters values })
 
   -- the instance at which a walk starts
   abbrev pub start_at : Path → Name → Option Instance

@@ -94,3 +94,7 @@ scalar_elements P here d =
 abbrev pub signature : Program → List (Name × Kind)
 signature P =
     listed (λ root. flat_map (scalar_elements P root) root.node.inputs) (instance_at P Root)
+
+-- the kinds of the cells of an instant of a trace, in the order of the signature
+abbrev pub input_kinds : Program → List Kind
+input_kinds P = map (λ x. x.1) (signature P)

@@ -1,4 +1,5 @@
--- Words on lists and options that the definitions of all layers share. Source: this project's words.
+-- Words on lists and options that the definitions of all layers share.
+-- Source: this project's words.
 use Rattle.std.specs.Prelude.{◌≡◌, ℕ, zero, suc, ◌*◌, ◌/◌, Bool, true, false, Option, Some, None, option_map, List, [], ◌∷◌, ◌++◌, length, take, drop, ◌⊎◌}
 
 -- each one of a list

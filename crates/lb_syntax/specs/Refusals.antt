@@ -1,4 +1,5 @@
--- Why a text is refused. Source: this project's rule; the numbers and words are part of the product.
+-- Why a text is refused.
+-- Source: this project's rule; the numbers are part of the product.
 use Rattle.std.specs.Prelude.{ℕ, Bool, true, false, Option, Some, None}
 
 pub data Refusal : Type 0 where

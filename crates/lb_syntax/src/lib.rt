@@ -1,4 +1,5 @@
-//! The syntax of the language: tokens, trees, and the parser from a text to the one tree that it spells.
+//! The syntax of the language: tokens, trees, and the parser from a text to the one tree that it
+//! spells.
 #![tactic(auto)]
 
 pub mod reader;

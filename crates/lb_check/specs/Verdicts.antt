@@ -1,0 +1,138 @@
+-- The verdict of a trace, from the history that solves the program on it.
+-- Source: this project's rule, after the 1993 paper on synchronous observers: an assertion is an
+-- assumption on the environment, and the property is judged only while the assumptions have held.
+use Rattle.std.specs.Prelude.{◌≡◌, ℕ, zero, suc, ◌+◌, ◌<◌, Bool, true, false, ◌||◌, Option, Some, None, List, ◌++◌, map, length, flat_map, slice_get, if◌then◌else◌}
+use Rattle.std.specs.List.{list_any}
+use Rattle.lb_syntax.specs.Lists.{some_of, listed}
+use Rattle.lb_syntax.specs.Tree.{Name, Expr, Fby, Pre, Current, Node, Statement, Equation, Assertion}
+use Rattle.lb_static.specs.Instances.{Program, Instance, Path, Root, Observer, instance_at, instances}
+use Rattle.lb_static.specs.Shapes.{variables}
+use Rattle.lb_check.specs.Scalars.{Boolean, Bad, Cell, Stream}
+use Rattle.lb_check.specs.Clocks.{Clock, clock_of, clock_or}
+use Rattle.lb_check.specs.Occurrences.{Occurrence, at, call_count, node_occurrences, statements}
+use Rattle.lb_check.specs.Streams.{History}
+use Rattle.lb_check.specs.Solutions.{Inputs, Solves, streams_at}
+pub use Rattle.lb_check.specs.declared.verdict.Verdict.{Verdict}
+pub use Rattle.lb_check.specs.declared.verdict.Verdict.TheVariants.{Passed, Fault, Assertion as Assertion_fails, False}
+
+-- ## Named places
+
+-- the operand that `pre`, `fby` or `current` keeps
+abbrev pub operand_of : Program → Instance → Clock → ℕ → Expr → Option Occurrence
+operand_of P here k n (Pre a) = Some (at k n a)
+operand_of P here k n (Fby a b) = Some (at k (n + call_count a) b)
+operand_of P here k n (Current a) = Some (at (clock_or (clock_of P here.node a)) n a)
+operand_of P here k n e = None
+
+abbrev pub kept_operand : Program → Instance → Occurrence → Option Occurrence
+kept_operand P here o = operand_of P here o.clock o.calls_before o.expr
+
+abbrev pub kept_operands : Program → Instance → List Occurrence
+kept_operands P here = some_of (map (kept_operand P here) (node_occurrences P here.node))
+
+-- the right side of an assertion
+abbrev pub assertion_of : Statement → Occurrence → Option Occurrence
+assertion_of (Assertion e) o = Some o
+assertion_of (Equation lefts e) o = None
+
+abbrev pub assertions : Program → Node → List Occurrence
+assertions P n = some_of (map (λ s. assertion_of s.0 s.1) (statements P n))
+
+-- the streams of the variables of an instance, inputs among them
+abbrev pub variable_columns : History → Instance → List Stream
+variable_columns H here = flat_map (λ d. H.columns here.path d.name) (variables here.node)
+
+-- those of the operands that it keeps
+abbrev pub kept_columns : Program → History → Instance → List Stream
+kept_columns P H here = flat_map (streams_at P H here) (kept_operands P here)
+
+-- those of its assertions
+abbrev pub assertion_columns : Program → History → Instance → List Stream
+assertion_columns P H here = flat_map (streams_at P H here) (assertions P here.node)
+
+-- the places at which a fault counts
+abbrev pub named_places : Program → History → Instance → List Stream
+named_places P H here =
+    variable_columns H here ++ (kept_columns P H here ++ assertion_columns P H here)
+
+-- ## What happens at an instant
+
+-- a cell is present and holds a fault
+abbrev pub is_bad : Option Cell → Bool
+is_bad (Some (Some Bad)) = true
+is_bad x = false
+
+-- a cell is present and false
+abbrev pub is_false : Option Cell → Bool
+is_false (Some (Some (Boolean false))) = true
+is_false x = false
+
+-- one of some streams passes a test at instant t
+abbrev pub some_at : (Option Cell → Bool) → ℕ → List Stream → Bool
+some_at test t xss = list_any (λ xs. test (slice_get xs t)) xss
+
+-- a fault occurs: a named place holds one
+abbrev pub is_fault : Program → History → ℕ → Bool
+is_fault P H t = list_any (λ here. some_at is_bad t (named_places P H here)) (instances P)
+
+-- an assertion of some instance is false
+abbrev pub is_failed : Program → History → ℕ → Bool
+is_failed P H t = list_any (λ here. some_at is_false t (assertion_columns P H here)) (instances P)
+
+-- where the node stands whose one output is the property: the observer, or else the node under test
+abbrev pub judge : Option Name → Path
+judge None = Root
+judge (Some o) = Observer
+
+abbrev pub property_columns : Program → History → List Stream
+property_columns P H =
+    listed (λ here. flat_map (λ d. H.columns here.path d.name) here.node.outputs)
+    (instance_at P (judge P.observer))
+
+-- the property is false
+abbrev pub is_violated : Program → History → ℕ → Bool
+is_violated P H t = some_at is_false t (property_columns P H)
+
+-- ## The verdict
+
+-- one of the three happens
+abbrev pub decides : Program → History → ℕ → Bool
+decides P H t = is_fault P H t || (is_failed P H t || is_violated P H t)
+
+-- one happens at this instant, which is one of so many, and none before
+pub record IsLeast (P : Program) (H : History) (count t : ℕ) : Type 0 where
+  pub within : t < count
+  pub happens : decides P H t ≡ true
+  pub not_before : (s : ℕ) → s < t → decides P H s ≡ false
+
+-- a history over so many instants ends with a verdict: at the least instant a fault comes before an
+-- assertion, and an assertion before the property
+abbrev pub Ends : Program → History → ℕ → Verdict → Type 0
+Ends P H count Passed = (t : ℕ) → t < count → decides P H t ≡ false
+Ends P H count (Fault t) = IsLeast P H count t × (is_fault P H t ≡ true)
+Ends P H count (Assertion_fails t) =
+    IsLeast P H count t × (is_fault P H t ≡ false) × (is_failed P H t ≡ true)
+Ends P H count (False t) =
+    IsLeast P H count t × (is_fault P H t ≡ false) × (is_failed P H t ≡ false)
+
+-- the verdict of a trace
+abbrev pub HasVerdict : Program → Inputs → Verdict → Type 0
+HasVerdict P X v = (H : History) × Solves P X H × Ends P H (length X) v
+
+-- ## The same by looking at one instant after another
+
+-- what an instant decides; `Passed` where it decides nothing
+abbrev pub judged : Program → History → ℕ → Verdict
+judged P H t =
+    if is_fault P H t then Fault t else
+    if is_failed P H t then Assertion_fails t else
+    if is_violated P H t then False t else Passed
+
+abbrev pub or_later : Verdict → Verdict → Verdict
+or_later Passed v = v
+or_later v w = v
+
+-- the verdict over so many instants from instant t on
+abbrev pub verdict_from : Program → History → ℕ → ℕ → Verdict
+verdict_from P H t zero = Passed
+verdict_from P H t (suc n) = or_later (judged P H t) (verdict_from P H (suc t) n)
