@@ -5,3 +5,4 @@ pub mod Shapes
 pub mod Parts
 pub mod Names
 pub mod Walk
+pub mod Signature

@@ -8,6 +8,7 @@ use Rattle.lb_syntax.specs.Lists.{all_some, either_or, listed}
 use Rattle.lb_syntax.specs.declared.tree.Kind.{Kind}
 use Rattle.lb_syntax.specs.declared.tree.Kind.TheVariants.{Int as Int_kind, Bool as Bool_kind}
 use Rattle.lb_syntax.specs.Tree.{Name, Declaration, Node}
+use Rattle.lb_static.specs.Signature.{Elements, kinds_of}
 use Rattle.lb_static.specs.Instances.{Program, Instance, Root, instance_at, static_count}
 
 -- ## Types
@@ -86,15 +87,15 @@ output_shapes P n = all_some (map (shape_of P n) n.node.outputs)
 -- ## The signature
 
 -- the names and kinds of the scalar elements of a variable
-abbrev pub scalar_elements : Program → Instance → Declaration → List (Name × Kind)
+abbrev pub scalar_elements : Program → Instance → Declaration → Elements
 scalar_elements P here d =
     listed (λ t. map (λ x. (x, t.kind)) (element_names d.name t.sizes)) (shape_of P here d)
 
 -- the scalar input elements of the node under test, in order
-abbrev pub signature : Program → List (Name × Kind)
+abbrev pub signature : Program → Elements
 signature P =
     listed (λ root. flat_map (scalar_elements P root) root.node.inputs) (instance_at P Root)
 
 -- the kinds of the cells of an instant of a trace, in the order of the signature
 abbrev pub input_kinds : Program → List Kind
-input_kinds P = map (λ x. x.1) (signature P)
+input_kinds P = kinds_of (signature P)

@@ -1,2 +1,4 @@
 //! Names, static values and instances: what a source stands for before any type is looked at.
 #![tactic(auto)]
+
+pub mod signature;

@@ -1,0 +1,109 @@
+//! The signature of a program: the scalar input elements of the node under test, in order.
+
+ghost use Rattle.std.specs.Prelude.{◌≡◌, ◌<◌, ◌≤◌, ◌++◌, ◌∷◌, [], ◌==◌, length, slice_get, Some, OnOk, OnErr, string_bytes};
+ghost use Rattle.lb_static.specs.Signature.{names_of, kinds_of};
+
+pub use lb_syntax::tree::Kind;
+use std::alloc::{AllocError, Global};
+use std::marker::Model;
+
+/// A scalar input element: its name, as `x` or `m[1][2]`, and what it holds.
+#[derive(Drop)]
+struct Element {
+    name: String,
+    kind: Kind,
+}
+
+/// The scalar input elements of the node under test, in order; there are at most 1,023.
+///
+/// Contracts see a list of names (as bytes) and kinds.
+#[derive(Drop)]
+pub struct Signature {
+    elements: Vec<Element>,
+}
+
+impl Model for Signature {
+    ghost use Rattle.std.specs.Prelude.{◌≤◌, length, map, string_bytes};
+    ghost use Rattle.lb_static.specs.Signature.{Elements};
+
+    ghost Value = { Elements };
+
+    ghost view = { λ s. map (λ e. (string_bytes e.name, e.kind)) s.elements.items };
+
+    ghost invariant = { λ s. length s.elements.items ≤ 1023 };
+}
+
+impl Signature {
+    /// The most scalar input elements that a node under test has.
+    pub const MOST: u32 = 1023;
+
+    /// A signature with no element yet.
+    pub fn new(alloc: Global) -> Signature
+        ensures { result ≡ [] }
+    {
+        Signature {
+            elements: Vec::new(alloc),
+        }
+    }
+
+    /// Adds an element at the end. Where memory is refused the signature stays as it was.
+    pub fn push(&mut self, name: String, kind: Kind) -> Result<(), AllocError>
+        requires { length self.old < 1023 }
+        ensures ok { OnOk result (self.new ≡ self.old ++ (string_bytes name, kind) ∷ []) }
+        ensures err { OnErr result (self.new ≡ self.old) }
+    {
+        self.elements.push(Element { name, kind })?;
+        Ok(())
+    }
+
+    /// How many elements there are.
+    pub fn len(&self) -> u32
+        ensures count { result ≡ length self.now }
+        ensures limit { result ≤ 1023 }
+    {
+        self.elements.len() as u32
+    }
+
+    /// Whether there is no element, as for a node with no inputs.
+    pub fn is_empty(&self) -> bool
+        ensures { result ≡ (length self.now == 0) }
+    {
+        self.elements.is_empty()
+    }
+
+    /// What the element at this place holds.
+    pub fn kind(&self, i: u32) -> Kind
+        requires { i < length self.now }
+        ensures { slice_get (kinds_of self.now) i ≡ Some result }
+    {
+        self.elements[i as usize].kind
+    }
+
+    /// The name of the element at this place, as `x` or `m[1][2]`.
+    pub fn name(&self, i: u32) -> &str
+        requires { i < length self.now }
+        ensures { slice_get (names_of self.now) i ≡ Some result.now }
+    {
+        self.elements[i as usize].name.as_str()
+    }
+}
+
+#[cfg(test)]
+mod tests {
+    use super::*;
+    use std::test::Fail;
+
+    #[test]
+    fn elements_keep_their_order(rt: HostRuntime) -> Result<(), Fail> {
+        let alloc = rt.alloc();
+        let mut signature = Signature::new(alloc);
+        assert!(rt; signature.is_empty());
+        signature.push(String::from_str(alloc, "m[1][2]")?, Kind::Int)?;
+        signature.push(String::from_str(alloc, "c")?, Kind::Bool)?;
+        assert_eq!(rt; signature.len(), 2);
+        assert_eq!(rt; signature.name(0), "m[1][2]");
+        assert_eq!(rt; signature.name(1), "c");
+        assert_eq!(rt; signature.kind(1), Kind::Bool);
+        Ok(())
+    }
+}
