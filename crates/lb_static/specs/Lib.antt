@@ -6,3 +6,6 @@ pub mod Parts
 pub mod Names
 pub mod Walk
 pub mod Signature
+pub mod Terms
+pub mod Elaborated
+pub mod Nodes

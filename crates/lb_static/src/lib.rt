@@ -1,4 +1,6 @@
 //! Names, static values and instances: what a source stands for before any type is looked at.
 #![tactic(auto)]
 
+pub mod elab;
 pub mod signature;
+pub mod term;
