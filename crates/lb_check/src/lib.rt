@@ -1,4 +1,5 @@
 //! Types, clocks and definitions, and the meaning of a program: streams, solutions and verdicts.
 #![tactic(auto)]
 
+pub mod kind;
 pub mod verdict;

@@ -42,6 +42,11 @@ abbrev mutual
   are_within count end_of-Term = true
   are_within count (more_of-Term e rest) = is_within count e && are_within count rest
 
+-- the same of a list of terms
+abbrev pub all_within : ℕ → List Term → Bool
+all_within count [] = true
+all_within count (e ∷ es) = is_within count e && all_within count es
+
 abbrev pub is_step_within : ℕ → Step → Bool
 is_step_within count (step.Equation lefts e) =
     list_all (is_place count) lefts.items && is_within count e
