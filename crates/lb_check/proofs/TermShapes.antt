@@ -109,6 +109,7 @@ module _ (P : Program) (here : Instance) (names : List Name) (kinds : List Kind)
 
   mutual
     unfolding term_kind
+
     pub term_shapes : (t : Term) → is_within count t ≡ true → shapes P here (expr_of names t) ≡ shape_list (term_kind kinds t)
     term_shapes (Literal n) w = refl
     term_shapes (Truth b) w = refl
