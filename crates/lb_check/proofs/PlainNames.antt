@@ -117,13 +117,13 @@ not_among x (z ∷ ys) zero y a e =
     let same : z ≡ y = cc in subst (λ w. bytes_eq x w ≡ false) same (or_first (bytes_eq x z) _ a)
 not_among x (z ∷ ys) (suc i) y a e = not_among x ys i y (or_second (bytes_eq x z) _ a) e
 
-get_name : (vars : List Variable) (i : ℕ) (v : Variable) → slice_get vars i ≡ Some v → slice_get (map (λ v. v.name) vars) i ≡ Some v.name
+pub get_name : (vars : List Variable) (i : ℕ) (v : Variable) → slice_get vars i ≡ Some v → slice_get (map (λ v. v.name) vars) i ≡ Some v.name
 get_name [] i v e = absurd cc
 get_name (w ∷ vars) zero v e = let same : w ≡ v = cc in ap (λ z. Some z.name) same
 get_name (w ∷ vars) (suc i) v e = get_name vars i v e
 
 -- the variable at a place is the one found by its name
-found_at : (vars : List Variable) (i : ℕ) (v : Variable) → are_distinct (map (λ v. v.name) vars) ≡ true → slice_get vars i ≡ Some v
+pub found_at : (vars : List Variable) (i : ℕ) (v : Variable) → are_distinct (map (λ v. v.name) vars) ≡ true → slice_get vars i ≡ Some v
     → named (λ d. d.name) v.name (map declaration_of vars) ≡ Some (declaration_of v)
 found_at [] i v d e = absurd cc
 found_at (w ∷ vars) zero v d e =

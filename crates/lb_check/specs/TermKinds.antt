@@ -9,6 +9,9 @@ use Rattle.lb_syntax.specs.declared.tree.Kind.TheVariants.{Int as Int_kind, Bool
 use Rattle.lb_syntax.specs.Lists.{◌>>=◌, where_true}
 use Rattle.lb_static.specs.Shapes.{is_kind}
 use Rattle.lb_static.specs.declared.term.Term.{Term, Literal, Truth, Variable, Group', Unary', Binary', If', Arrow', Fby', Pre', AtMostOne', Nor', Row_of-Term, end_of-Term, more_of-Term}
+use Rattle.lb_static.specs.declared.term.VariableId.{VariableId}
+use Rattle.lb_static.specs.declared.term.Step.{Step}
+use Rattle.lb_static.specs.declared.term.Step.TheVariants as step
 use Rattle.lb_check.specs.Types.{is_arithmetic, is_logical, is_equality}
 
 abbrev pub unary_kind : UnaryOperator → Kind → Option Kind
@@ -58,3 +61,18 @@ unfoldable mutual
 abbrev pub all_truths : List Kind → List Term → Bool
 all_truths kinds [] = true
 all_truths kinds (e ∷ es) = is_bool (term_kind kinds e) && all_truths kinds es
+
+-- ## Statements
+
+abbrev pub is_same : Option Kind → Option Kind → Bool
+is_same (Some k) (Some l) = is_kind k l
+is_same o p = false
+
+-- a right side of this kind has one left variable, and that is of its kind
+abbrev pub fits_left : List Kind → List VariableId → Option Kind → Bool
+fits_left kinds (x ∷ []) o = is_same o (slice_get kinds x.0)
+fits_left kinds xs o = false
+
+abbrev pub is_step_typed : List Kind → Step → Bool
+is_step_typed kinds (step.Equation lefts e) = fits_left kinds lefts.items (term_kind kinds e)
+is_step_typed kinds (step.Assertion e) = is_bool (term_kind kinds e)

@@ -3,10 +3,10 @@
 ghost use Rattle.std.specs.Prelude.{◌≡◌, ◌&&◌, true, length, map};
 ghost use Rattle.lb_syntax.specs.Lists.{where_true};
 ghost use Rattle.lb_static.specs.Shapes.{is_kind};
-ghost use Rattle.lb_static.specs.Elaborated.{is_within, all_within};
+ghost use Rattle.lb_static.specs.Elaborated.{is_within, is_step_within};
 ghost use Rattle.lb_check.specs.TermKinds as mirror;
 
-use lb_static::term::{Term, Variable};
+use lb_static::term::{Step, Term, Variable};
 use lb_syntax::tree::{BinaryOperator, Kind, UnaryOperator};
 
 /// What an operator gives, where its operand has the kind that it takes.
@@ -88,5 +88,20 @@ pub fn kind(variables: &[Variable], term: &Term) -> Option<Kind>
             }
             Some(Kind::Bool)
         }
+    }
+}
+
+/// Whether a statement keeps the rules of types: the one left variable has the kind of the right
+/// side, and an assertion is a truth.
+pub fn is_step_typed(variables: &[Variable], step: &Step) -> bool
+    requires { is_step_within (length variables.now) step.now ≡ true }
+    ensures { result ≡ mirror.is_step_typed (map (λ v. v.kind) variables.now) step.now }
+{
+    match step {
+        Step::Equation(lefts, e) => match lefts.as_slice() {
+            [x] => kind(variables, e) == Some(variables[x.0 as usize].kind),
+            _ => false,
+        },
+        Step::Assertion(e) => kind(variables, e) == Some(Kind::Bool),
     }
 }
