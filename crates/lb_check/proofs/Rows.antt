@@ -19,7 +19,7 @@ unfolding term_kind
 truths_items kinds n end_of-Term = refl
 truths_items kinds n (more_of-Term e rest) = ap (λ b. is_bool (term_kind kinds e) && b) (truths_items kinds _ rest)
 
-abbrev row_of : Term → (n : Count) × Row_of-Term n
+abbrev pub row_of : Term → (n : Count) × Row_of-Term n
 row_of (AtMostOne' _ row) = (_, row)
 row_of (Nor' _ row) = (_, row)
 row_of _ = (_, end_of-Term)

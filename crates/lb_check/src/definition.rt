@@ -1,0 +1,60 @@
+//! Definitions, and functions without memory (E11).
+
+ghost use Rattle.std.specs.Prelude.{◌≡◌, ◌+◌, ◌<◌, ◌≤◌, ◌↔◌, ℕ, true, min, length, slice_index, EachIndex, IsTrue, IfOk};
+ghost use Rattle.std.specs.List.{list_all};
+ghost use Rattle.lb_static.specs.Elaborated.{is_place, is_step_within};
+ghost use Rattle.lb_check.specs.TermDefinitions as mirror;
+
+use lb_static::term::{Step, Term, VariableId};
+use std::alloc::{AllocError, Global};
+
+#[tactic(auto, using(crate::proofs::Steps::places_next, crate::proofs::Steps::count_next))]
+/// Counts the places of some left variables: 0, 1, and 2 for any more.
+fn count(counts: &mut [u8], lefts: &[VariableId])
+    requires { list_all (is_place (length counts.old)) lefts.now ≡ true }
+    ensures { EachIndex counts.new (λ i.
+        min 2 (slice_index counts.new i) ≡ min 2 (slice_index counts.old i + mirror.count_left i lefts.now)) }
+{
+    for x in lefts {
+        let seen = counts[x.0 as usize];
+        if seen < 2 {
+            counts[x.0 as usize] = seen + 1;
+        }
+    }
+}
+
+/// Whether a term holds `->`, `fby` or `pre`.
+#[tactic(auto, unfolding(crate::specs::TermDefinitions::has_memory), using(crate::proofs::Steps::memory_at_most_one, crate::proofs::Steps::memory_nor, crate::proofs::Steps::memory_next))]
+pub fn has_memory(term: &Term) -> bool
+    ensures { result ≡ mirror.has_memory term.now }
+{
+    match term {
+        Term::Literal(_) | Term::Truth(_) | Term::Variable(_) => false,
+        Term::Group(e) | Term::Unary(_, e) => has_memory(e),
+        Term::Binary(_, a, b) => has_memory(a) || has_memory(b),
+        Term::If(c, a, b) => has_memory(c) || has_memory(a) || has_memory(b),
+        Term::Arrow(_, _) | Term::Fby(_, _) | Term::Pre(_) => true,
+        Term::AtMostOne(terms) | Term::Nor(terms) => {
+            for term in terms {
+                if has_memory(term) {
+                    return true;
+                }
+            }
+            false
+        }
+    }
+}
+
+#[tactic(auto, using(crate::proofs::Steps::steps_next))]
+/// Whether some statement holds `->`, `fby` or `pre`.
+pub fn have_memory(body: &[Step]) -> bool
+    ensures { result ≡ mirror.steps_memory body.now }
+{
+    for step in body {
+        let (Step::Equation(_, e) | Step::Assertion(e)) = step;
+        if has_memory(e) {
+            return true;
+        }
+    }
+    false
+}
