@@ -6,8 +6,8 @@ use Rattle.std.proofs.lemmas.List.{drop_more}
 use Rattle.lb_static.specs.declared.term.VariableId.{VariableId}
 use Rattle.lb_static.specs.declared.term.Step.{Step}
 use Rattle.lb_static.specs.declared.term.Term.{Term, AtMostOne, Nor, Row_of-Term, end_of-Term, more_of-Term, items-the_row-Term, items_hidden-the_row-Term-0}
-use Rattle.lb_static.specs.Elaborated.{is_place}
-use Rattle.lb_check.specs.TermDefinitions.{count_left, has_memory, row_memory, any_memory, step_memory, steps_memory}
+use Rattle.lb_static.specs.Elaborated.{is_place, is_step_within}
+use Rattle.lb_check.specs.TermDefinitions.{count_left, count_step, count_steps, has_memory, row_memory, any_memory, step_memory, steps_memory}
 use Rattle.lb_check.proofs.Rows.{row_of}
 
 pub places_next : (count : ℕ) (xs : List VariableId) (i : ℕ) (d : VariableId) → i < length xs
@@ -42,3 +42,11 @@ memory_next es i d lt = ap any_memory (drop_more es i d lt)
 pub steps_next : (ss : List Step) (i : ℕ) (d : Step) → i < length ss
     → steps_memory (drop i ss) ≡ step_memory (get_or ss i d) || steps_memory (drop (i + 1) ss)
 steps_next ss i d lt = ap steps_memory (drop_more ss i d lt)
+
+pub within_next : (count : ℕ) (ss : List Step) (i : ℕ) (d : Step) → i < length ss
+    → list_all (is_step_within count) (drop i ss) ≡ is_step_within count (get_or ss i d) && list_all (is_step_within count) (drop (i + 1) ss)
+within_next count ss i d lt = ap (list_all (is_step_within count)) (drop_more ss i d lt)
+
+pub counts_next : (k : ℕ) (ss : List Step) (i : ℕ) (d : Step) → i < length ss
+    → count_steps k (drop i ss) ≡ count_step k (get_or ss i d) + count_steps k (drop (i + 1) ss)
+counts_next k ss i d lt = ap (count_steps k) (drop_more ss i d lt)

@@ -58,3 +58,41 @@ pub fn have_memory(body: &[Step]) -> bool
     }
     false
 }
+
+/// How often each of so many variables stands on the left: 0, 1, and 2 for any more.
+#[tactic(auto, using(crate::proofs::Steps::within_next, crate::proofs::Steps::counts_next))]
+fn left_counts(alloc: Global, variables: usize, body: &[Step]) -> Result<Vec<u8>, AllocError>
+    requires { list_all (is_step_within variables) body.now ≡ true }
+    ensures length_kept { IfOk result (λ counts. length counts.items ≡ variables) }
+    ensures counted { IfOk result (λ counts. EachIndex counts.items (λ i.
+        min 2 (slice_index counts.items i) ≡ min 2 (mirror.count_steps i body.now))) }
+{
+    let mut counts = vec![in alloc; 0u8; variables]?;
+    for step in body {
+        if let Step::Equation(lefts, _) = step {
+            count(&mut counts, lefts.as_slice());
+        }
+    }
+    Ok(counts)
+}
+
+/// Whether each output and local stands on the left once, and each input never; the inputs come
+/// first among the variables.
+pub fn defines_each(
+    alloc: Global,
+    inputs: usize,
+    variables: usize,
+    body: &[Step],
+) -> Result<bool, AllocError>
+    requires { list_all (is_step_within variables) body.now ≡ true }
+    ensures { IfOk result (λ holds. IsTrue holds ↔ mirror.DefinesEach inputs variables body.now) }
+{
+    let counts = left_counts(alloc, variables, body)?;
+    for (i, seen) in counts.iter().enumerate() {
+        let wanted = if i < inputs { 0 } else { 1 };
+        if *seen != wanted {
+            return Ok(false);
+        }
+    }
+    Ok(true)
+}
