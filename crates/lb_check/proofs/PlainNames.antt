@@ -111,7 +111,7 @@ distinct_names P n e =
 
 -- ## A place and its name
 
-not_among : (x : Name) (ys : List Name) (i : ℕ) (y : Name) → among x ys ≡ false → slice_get ys i ≡ Some y → bytes_eq x y ≡ false
+pub not_among : (x : Name) (ys : List Name) (i : ℕ) (y : Name) → among x ys ≡ false → slice_get ys i ≡ Some y → bytes_eq x y ≡ false
 not_among x [] i y a e = absurd cc
 not_among x (z ∷ ys) zero y a e =
     let same : z ≡ y = cc in subst (λ w. bytes_eq x w ≡ false) same (or_first (bytes_eq x z) _ a)
