@@ -120,3 +120,87 @@ distinct_at (z ∷ xs) (suc i) zero x y d p q =
     subst (λ w. bytes_eq x w ≡ false) s (unequal z x no) ∙ sym (suc_zero i)
 distinct_at (z ∷ xs) (suc i) (suc j) x y d p q =
     distinct_at xs i j x y (and_second (not (among z xs)) _ d) p q ∙ same_suc i j
+
+-- ## How often a name stands on the left
+
+abbrev name_count : Name → List Name → ℕ
+name_count x [] = 0
+name_count x (y ∷ ys) = cond (bytes_eq x y) (1 + name_count x ys) (name_count x ys)
+
+count_append : (x : Name) (ys zs : List Name) → name_count x (ys ++ zs) ≡ name_count x ys + name_count x zs
+count_append x [] zs = omega arith
+count_append x (y ∷ ys) zs = by (bytes_eq x y) (count_append x ys zs)
+  where
+    by : (b : Bool) → name_count x (ys ++ zs) ≡ name_count x ys + name_count x zs
+        → cond b (1 + name_count x (ys ++ zs)) (name_count x (ys ++ zs)) ≡ cond b (1 + name_count x ys) (name_count x ys) + name_count x zs
+    by true e = omega (arith, e)
+    by false e = e
+
+one_or_none : (b : Bool) (m n : ℕ) → m ≡ n → cond b (1 + m) m ≡ cond b 1 0 + n
+one_or_none true m n e = ap (λ z. 1 + z) e
+one_or_none false m n e = e ∙ omega arith
+
+module _ (names : List Name) (distinct : are_distinct names ≡ true) (i : ℕ) (x : Name) (at : slice_get names i ≡ Some x) where
+  lefts_counted : (xs : List VariableId) → list_all (is_place (length names)) xs ≡ true
+      → name_count x (map (name_of names) xs) ≡ count_left i xs
+  lefts_counted [] w = refl
+  lefts_counted (y ∷ xs) w =
+      let h = held_at names y.0 (and_first _ (list_all (is_place (length names)) xs) w) in
+      let same = distinct_at names i y.0 x h.0 distinct at h.1 in
+      let rest = lefts_counted xs (and_second (is_place (length names) y) _ w) in
+      ap (λ o. cond (bytes_eq x (either_or o [])) (1 + name_count x (map (name_of names) xs)) (name_count x (map (name_of names) xs))) h.1
+      ∙ ap (λ b. cond b (1 + name_count x (map (name_of names) xs)) (name_count x (map (name_of names) xs))) same
+      ∙ one_or_none (y.0 == i) _ _ rest
+
+  step_counted : (s : Step) → is_step_within (length names) s ≡ true
+      → name_count x (left_names (statement_of names s)) ≡ count_step i s
+  step_counted (step.Equation lefts e) w = lefts_counted lefts.items (and_first _ _ w)
+  step_counted (step.Assertion e) w = refl
+
+  steps_counted : (ss : List Step) → list_all (is_step_within (length names)) ss ≡ true
+      → name_count x (flat_map left_names (map (statement_of names) ss)) ≡ count_steps i ss
+  steps_counted [] w = refl
+  steps_counted (s ∷ ss) w =
+      let a = step_counted s (and_first _ (list_all (is_step_within (length names)) ss) w) in
+      let b = steps_counted ss (and_second (is_step_within (length names) s) _ w) in
+      count_append x (left_names (statement_of names s)) (flat_map left_names (map (statement_of names) ss)) ∙ rw a (rw b refl)
+
+  pub counted : (n : Node) (ss : List Step) → n.body ≡ map (statement_of names) ss → list_all (is_step_within (length names)) ss ≡ true
+      → definition_count n x ≡ count_steps i ss
+  counted n ss body w =
+      sym (is_count_by (name_count x) (bytes_eq x) refl (λ y ys. refl) (flat_map left_names n.body))
+      ∙ ap (λ b. name_count x (flat_map left_names b)) body ∙ steps_counted ss w
+
+-- ## Declarations place by place
+
+all_from : {A : Type 0} (f : A → Bool) (ds : List A) → ((i : ℕ) (d : A) → slice_get ds i ≡ Some d → f d ≡ true) → list_all f ds ≡ true
+all_from f [] h = refl
+all_from f (d ∷ ds) h =
+    let a = h 0 d refl in
+    let b = all_from f ds (λ i e is. h (suc i) e is) in
+    rw a b
+
+all_at : {A : Type 0} (f : A → Bool) (ds : List A) (i : ℕ) (d : A) → list_all f ds ≡ true → slice_get ds i ≡ Some d → f d ≡ true
+all_at f [] i d all e = absurd cc
+all_at f (x ∷ ds) zero d all e =
+    let same : x ≡ d = cc in subst (λ z. f z ≡ true) same (and_first (f x) _ all)
+all_at f (x ∷ ds) (suc i) d all e = all_at f ds i d (and_second (f x) _ all) e
+
+get_drop : {A : Type 0} (a : ℕ) (ds : List A) (i : ℕ) → slice_get (drop a ds) i ≡ slice_get ds (a + i)
+get_drop zero ds i = ap (slice_get ds) (omega arith)
+get_drop (suc a) [] i = refl
+get_drop (suc a) (d ∷ ds) i =
+    let e : suc (a + i) ≡ suc a + i = omega arith in
+    get_drop a ds i ∙ ap (slice_get (d ∷ ds)) e
+
+get_take : {A : Type 0} (a : ℕ) (ds : List A) (i : ℕ) → i < a → slice_get (take a ds) i ≡ slice_get ds i
+get_take zero ds i lt = absurd (omega arith)
+get_take (suc a) [] i lt = refl
+get_take (suc a) (d ∷ ds) zero lt = refl
+get_take (suc a) (d ∷ ds) (suc i) lt = get_take a ds i (omega arith)
+
+take_past : {A : Type 0} (a : ℕ) (ds : List A) (i : ℕ) (d : A) → slice_get (take a ds) i ≡ Some d → i < a
+take_past zero ds i d e = absurd cc
+take_past (suc a) [] i d e = absurd cc
+take_past (suc a) (x ∷ ds) zero d e = omega arith
+take_past (suc a) (x ∷ ds) (suc i) d e = let lt = take_past a ds i d e in omega arith
