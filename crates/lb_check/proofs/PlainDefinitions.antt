@@ -204,3 +204,85 @@ take_past zero ds i d e = absurd cc
 take_past (suc a) [] i d e = absurd cc
 take_past (suc a) (x ∷ ds) zero d e = omega arith
 take_past (suc a) (x ∷ ds) (suc i) d e = let lt = take_past a ds i d e in omega arith
+
+-- ## Each variable is defined as it has to be
+
+equal_is : (m n : ℕ) → m ≡ n → nat_eq m n ≡ true
+equal_is m n e = grind (arith, nat_tests)
+
+is_equal : (m n : ℕ) → nat_eq m n ≡ true → m ≡ n
+is_equal m n e = grind (arith, nat_tests)
+
+below : (i a : ℕ) → i < a → nat_lt i a ≡ true
+below i a lt = grind (arith, nat_tests)
+
+above : (i a : ℕ) → a ≤ i → nat_lt i a ≡ false
+above i a le = grind (arith, nat_tests)
+
+module _ (n : Node) (vars : List Variable) (ss : List Step) (inputs : ℕ)
+    (distinct : are_distinct (map (λ v. v.name) vars) ≡ true)
+    (body : n.body ≡ map (statement_of (map (λ v. v.name) vars)) ss)
+    (within : list_all (is_step_within (length vars)) ss ≡ true)
+    (ins_are : n.inputs ≡ take inputs (map declaration_of vars))
+    (rest_are : n.outputs ++ n.locals ≡ drop inputs (map declaration_of vars)) where
+  abbrev names : List Name
+  names = map (λ v. v.name) vars
+
+  length_names : (vs : List Variable) → length (map (λ v. v.name) vs) ≡ length vs
+  length_names [] = refl
+  length_names (v ∷ vs) = ap suc (length_names vs)
+
+  declared_at : (vs : List Variable) (i : ℕ) (d : Declaration) → slice_get (map declaration_of vs) i ≡ Some d
+      → (i < length vs) × (slice_get (map (λ v. v.name) vs) i ≡ Some d.name)
+  declared_at [] i d e = absurd cc
+  declared_at (v ∷ vs) zero d e =
+      let same : declaration_of v ≡ d = cc in (omega arith, ap (λ z. Some z.name) same)
+  declared_at (v ∷ vs) (suc i) d e = let r = declared_at vs i d e in let lt = r.0 in (omega arith, r.1)
+
+  declared_some : (vs : List Variable) (i : ℕ) → i < length vs → (d : Declaration) × (slice_get (map declaration_of vs) i ≡ Some d)
+  declared_some [] i lt = absurd (omega arith)
+  declared_some (v ∷ vs) zero lt = (declaration_of v, refl)
+  declared_some (v ∷ vs) (suc i) lt = declared_some vs i (omega arith)
+
+  counted_at : (i : ℕ) (d : Declaration) → slice_get (map declaration_of vars) i ≡ Some d → definition_count n d.name ≡ count_steps i ss
+  counted_at i d e =
+      counted names distinct i d.name (declared_at vars i d e).1 n ss body
+      (subst (λ k. list_all (is_step_within k) ss ≡ true) (sym (length_names vars)) within)
+
+  abbrev once : Declaration → Bool
+  once d = nat_eq (definition_count n d.name) 1
+
+  abbrev never : Declaration → Bool
+  never d = nat_eq (definition_count n d.name) 0
+
+  pub defines_from : DefinesEach inputs (length vars) ss → defines_once n ≡ true
+  defines_from each =
+      let rest = all_from once (drop inputs (map declaration_of vars)) (λ i d e.
+        let at = sym (get_drop inputs (map declaration_of vars) i) ∙ e in
+        let lt = (declared_at vars (inputs + i) d at).0 in
+        equal_is _ 1 (counted_at (inputs + i) d at ∙ each (inputs + i) lt ∙ ap (λ b. cond b 0 1) (above (inputs + i) inputs (omega arith)))) in
+      let ins = all_from never (take inputs (map declaration_of vars)) (λ i d e.
+        let lt = take_past inputs (map declaration_of vars) i d e in
+        let at = sym (get_take inputs (map declaration_of vars) i lt) ∙ e in
+        equal_is _ 0 (counted_at i d at ∙ each i (declared_at vars i d at).0 ∙ ap (λ b. cond b 0 1) (below i inputs lt))) in
+      rw (ap (list_all once) rest_are ∙ rest) (ap (list_all never) ins_are ∙ ins)
+
+  pub from_defines : defines_once n ≡ true → DefinesEach inputs (length vars) ss
+  from_defines all i lt =
+      let rest = sym (ap (list_all once) rest_are) ∙ and_first _ (list_all never n.inputs) all in
+      let ins = sym (ap (list_all never) ins_are) ∙ and_second (list_all once (n.outputs ++ n.locals)) _ all in
+      let d = declared_some vars i lt in
+      by d.0 d.1 rest ins (nat_lt i inputs) refl
+    where
+      by : (d : Declaration) → slice_get (map declaration_of vars) i ≡ Some d → list_all once (drop inputs (map declaration_of vars)) ≡ true
+          → list_all never (take inputs (map declaration_of vars)) ≡ true → (b : Bool) → nat_lt i inputs ≡ b → count_steps i ss ≡ cond (nat_lt i inputs) 0 1
+      by d at rest ins true is =
+          let lt : i < inputs = grind (arith, nat_tests) in
+          let e = all_at never (take inputs (map declaration_of vars)) i d ins (get_take inputs (map declaration_of vars) i lt ∙ at) in
+          sym (counted_at i d at) ∙ is_equal _ 0 e ∙ sym (ap (λ b. cond b 0 1) is)
+      by d at rest ins false is =
+          let le : inputs ≤ i = grind (arith, nat_tests) in
+          let sum : inputs + (i - inputs) ≡ i = omega arith in
+          let e = all_at once (drop inputs (map declaration_of vars)) (i - inputs) d rest
+            (get_drop inputs (map declaration_of vars) (i - inputs) ∙ ap (slice_get (map declaration_of vars)) sum ∙ at) in
+          sym (counted_at i d at) ∙ is_equal _ 1 e ∙ sym (ap (λ b. cond b 0 1) is)
