@@ -1,28 +1,27 @@
 -- The rules of definitions of a plain node are what the code counts.
-use Rattle.std.proofs.Common.{◌≡◌, ◌⊎◌, inl, inr, ℕ, zero, suc, ◌+◌, ◌-◌, ◌<◌, ◌≤◌, Bool, true, false, cond, List, [], ◌∷◌, ◌++◌, length, map, take, drop, Option, Some, None, refl, ap, sym, ◌∙◌, subst, arith}
-use Rattle.std.specs.Prelude.{◌&&◌, ◌||◌, not, nat_lt, nat_eq, slice_get, option_map, count_by, flat_map, ◌==◌}
+use Rattle.std.proofs.Common.{◌≡◌, ℕ, zero, suc, ◌+◌, ◌-◌, ◌<◌, ◌≤◌, Bool, true, false, cond, List, [], ◌∷◌, ◌++◌, length, map, take, drop, Some, refl, ap, sym, ◌∙◌, subst, arith}
+use Rattle.std.specs.Prelude.{◌&&◌, ◌||◌, not, nat_lt, nat_eq, slice_get, flat_map, ◌==◌}
 use Rattle.std.specs.List.{list_all}
 use Rattle.std.specs.Str.{bytes_eq}
 use Rattle.std.proofs.lemmas.Bool.Decides.{nat_tests}
 use Rattle.std.proofs.lemmas.List.Folds.{list_all-append}
 use Rattle.std.proofs.lemmas.List.Recursion.{is_count_by}
-use Rattle.std.proofs.lemmas.Option.{slice_get_past}
 use Rattle.std.proofs.lemmas.Slice.Eq.{bytes_eq-Decides}
 use Rattle.lb_syntax.specs.Lists.{either_or}
-use Rattle.lb_syntax.specs.Tree.{Name, Node, Declaration, Expr, Statement, Equation, Assertion}
+use Rattle.lb_syntax.specs.Tree.{Name, Node, Declaration, Expr}
 use Rattle.lb_static.specs.declared.term.VariableId.{VariableId}
 use Rattle.lb_static.specs.declared.term.Variable.{Variable}
 use Rattle.lb_static.specs.declared.term.Step.{Step}
 use Rattle.lb_static.specs.declared.term.Step.TheVariants as step
 use Rattle.lb_static.specs.declared.term.Term.{Term, Literal, Truth, Variable as Named, Group', Unary', Binary', If', Arrow', Fby', Pre', AtMostOne', Nor', Row_of-Term, end_of-Term, more_of-Term}
 use Rattle.lb_static.specs.Instances.{Program}
-use Rattle.lb_static.specs.Parts.{among, left_names, parts, parts_in, node_parts, right_side}
+use Rattle.lb_static.specs.Parts.{among, left_names, parts, parts_in, right_side}
 use Rattle.lb_static.specs.Names.{are_distinct}
 use Rattle.lb_static.specs.Elaborated.{is_place, is_step_within}
 use Rattle.lb_static.specs.Terms.{declaration_of, name_of, expr_of, row_of, statement_of}
-use Rattle.lb_check.specs.DefinitionRules.{definition_count, defines_once, is_memoryless, is_defined}
+use Rattle.lb_check.specs.DefinitionRules.{definition_count, defines_once, is_memoryless}
 use Rattle.lb_check.specs.TermDefinitions.{count_left, count_step, count_steps, DefinesEach, has_memory, row_memory, step_memory, steps_memory}
-use Rattle.lb_check.proofs.PlainNames.{get_name, held_at, not_among}
+use Rattle.lb_check.proofs.PlainNames.{held_at, not_among}
 
 and_first : (a b : Bool) → (a && b) ≡ true → a ≡ true
 and_first true b e = refl
@@ -51,6 +50,7 @@ module _ (P : Program) (names : List Name) where
 
   mutual
     unfolding has_memory
+
     term_memoryless : (t : Term) → memoryless (parts (expr_of names t)) ≡ not (has_memory t)
     term_memoryless (Literal n) = refl
     term_memoryless (Truth b) = refl
@@ -258,13 +258,13 @@ module _ (n : Node) (vars : List Variable) (ss : List Step) (inputs : ℕ)
   pub defines_from : DefinesEach inputs (length vars) ss → defines_once n ≡ true
   defines_from each =
       let rest = all_from once (drop inputs (map declaration_of vars)) (λ i d e.
-        let at = sym (get_drop inputs (map declaration_of vars) i) ∙ e in
-        let lt = (declared_at vars (inputs + i) d at).0 in
-        equal_is _ 1 (counted_at (inputs + i) d at ∙ each (inputs + i) lt ∙ ap (λ b. cond b 0 1) (above (inputs + i) inputs (omega arith)))) in
+      let at = sym (get_drop inputs (map declaration_of vars) i) ∙ e in
+      let lt = (declared_at vars (inputs + i) d at).0 in
+      equal_is _ 1 (counted_at (inputs + i) d at ∙ each (inputs + i) lt ∙ ap (λ b. cond b 0 1) (above (inputs + i) inputs (omega arith)))) in
       let ins = all_from never (take inputs (map declaration_of vars)) (λ i d e.
-        let lt = take_past inputs (map declaration_of vars) i d e in
-        let at = sym (get_take inputs (map declaration_of vars) i lt) ∙ e in
-        equal_is _ 0 (counted_at i d at ∙ each i (declared_at vars i d at).0 ∙ ap (λ b. cond b 0 1) (below i inputs lt))) in
+      let lt = take_past inputs (map declaration_of vars) i d e in
+      let at = sym (get_take inputs (map declaration_of vars) i lt) ∙ e in
+      equal_is _ 0 (counted_at i d at ∙ each i (declared_at vars i d at).0 ∙ ap (λ b. cond b 0 1) (below i inputs lt))) in
       rw (ap (list_all once) rest_are ∙ rest) (ap (list_all never) ins_are ∙ ins)
 
   pub from_defines : defines_once n ≡ true → DefinesEach inputs (length vars) ss
@@ -284,5 +284,5 @@ module _ (n : Node) (vars : List Variable) (ss : List Step) (inputs : ℕ)
           let le : inputs ≤ i = grind (arith, nat_tests) in
           let sum : inputs + (i - inputs) ≡ i = omega arith in
           let e = all_at once (drop inputs (map declaration_of vars)) (i - inputs) d rest
-            (get_drop inputs (map declaration_of vars) (i - inputs) ∙ ap (slice_get (map declaration_of vars)) sum ∙ at) in
+          (get_drop inputs (map declaration_of vars) (i - inputs) ∙ ap (slice_get (map declaration_of vars)) sum ∙ at) in
           sym (counted_at i d at) ∙ is_equal _ 1 e ∙ sym (ap (λ b. cond b 0 1) is)

@@ -33,7 +33,7 @@ and_second : (a b : Bool) → (a && b) ≡ true → b ≡ true
 and_second true b e = e
 and_second false b e = absurd cc
 
-names_map : (vars : List Variable) → map (λ d. d.name) (map declaration_of vars) ≡ map (λ v. v.name) vars
+pub names_map : (vars : List Variable) → map (λ d. d.name) (map declaration_of vars) ≡ map (λ v. v.name) vars
 names_map [] = refl
 names_map (v ∷ vars) = ap (λ (xs : List Name). v.name ∷ xs) (names_map vars)
 

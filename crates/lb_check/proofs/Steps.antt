@@ -8,6 +8,8 @@ use Rattle.lb_static.specs.declared.term.Step.{Step}
 use Rattle.lb_static.specs.declared.term.Term.{Term, AtMostOne, Nor, Row_of-Term, end_of-Term, more_of-Term, items-the_row-Term, items_hidden-the_row-Term-0}
 use Rattle.lb_static.specs.Elaborated.{is_place, is_step_within}
 use Rattle.lb_check.specs.TermDefinitions.{count_left, count_step, count_steps, has_memory, row_memory, any_memory, step_memory, steps_memory}
+use Rattle.lb_check.specs.TermKinds.{is_step_typed}
+use Rattle.lb_syntax.specs.declared.tree.Kind.{Kind}
 use Rattle.lb_check.proofs.Rows.{row_of}
 
 pub places_next : (count : ℕ) (xs : List VariableId) (i : ℕ) (d : VariableId) → i < length xs
@@ -50,3 +52,7 @@ within_next count ss i d lt = ap (list_all (is_step_within count)) (drop_more ss
 pub counts_next : (k : ℕ) (ss : List Step) (i : ℕ) (d : Step) → i < length ss
     → count_steps k (drop i ss) ≡ count_step k (get_or ss i d) + count_steps k (drop (i + 1) ss)
 counts_next k ss i d lt = ap (count_steps k) (drop_more ss i d lt)
+
+pub typed_next : (kinds : List Kind) (ss : List Step) (i : ℕ) (d : Step) → i < length ss
+    → list_all (is_step_typed kinds) (drop i ss) ≡ is_step_typed kinds (get_or ss i d) && list_all (is_step_typed kinds) (drop (i + 1) ss)
+typed_next kinds ss i d lt = ap (list_all (is_step_typed kinds)) (drop_more ss i d lt)

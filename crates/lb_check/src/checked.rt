@@ -1,0 +1,16 @@
+//! A checked program: what the layer above reads of it.
+
+ghost use Rattle.std.specs.Prelude.{◌≡◌, true, length, map};
+ghost use Rattle.std.specs.List.{list_all};
+ghost use Rattle.lb_check.specs.TermDefinitions.{DefinesEach};
+ghost use Rattle.lb_check.specs.TermKinds.{is_step_typed};
+
+use lb_static::elab::Elab;
+
+/// An elaborated program that keeps the rules of types, clocks and definitions.
+#[derive(Drop)]
+pub struct Checked {
+    pub elab: Elab,
+    pub ghost is_typed: { list_all (is_step_typed (map (λ v. v.kind) elab.variables.items)) elab.body.items ≡ true },
+    pub ghost is_defined: { DefinesEach elab.inputs (length elab.variables.items) elab.body.items },
+}

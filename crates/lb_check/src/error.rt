@@ -1,0 +1,42 @@
+//! Why a program is refused here.
+
+use std::alloc::{AllocError, AllocFailed};
+
+/// Which rule of types, clocks or definitions a program breaks first.
+///
+/// Names, static values and instances were judged before, by `lb_static`. What comes later, the
+/// size of the program and its cycles, is judged by `lb_flat`.
+#[derive(Debug, Drop, thiserror::Error)]
+pub enum CheckError {
+    /// Memory ran out (E0).
+    #[error("memory ran out")]
+    Memory,
+    /// A rule of types is broken (E9).
+    #[error("an expression, a left side or an assertion has the wrong type")]
+    Type,
+    /// A variable has not exactly one definition, or a function has memory (E11).
+    #[error("a variable has not exactly one definition, or a function has memory")]
+    Definition,
+}
+
+impl From<AllocError> for CheckError {
+    ghost use Rattle.std.specs.Prelude.{◌≡◌};
+    ghost use Rattle.lb_check.specs.declared.error.CheckError.TheVariants.{Memory};
+
+    ghost from_gives = { λ _ e. e ≡ Memory };
+
+    fn from(_e: AllocError) -> CheckError {
+        CheckError::Memory
+    }
+}
+
+impl<T: Drop> From<AllocFailed<T>> for CheckError {
+    ghost use Rattle.std.specs.Prelude.{◌≡◌};
+    ghost use Rattle.lb_check.specs.declared.error.CheckError.TheVariants.{Memory};
+
+    ghost from_gives = { λ _ e. e ≡ Memory };
+
+    fn from(_e: AllocFailed<T>) -> CheckError {
+        CheckError::Memory
+    }
+}
