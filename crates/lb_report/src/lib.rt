@@ -1,0 +1,4 @@
+//! The report: from a source and its traces to the text that lists each trace's verdict.
+#![tactic(auto)]
+
+pub mod case;
