@@ -1,6 +1,6 @@
 //! The signature of a program: the scalar input elements of the node under test, in order.
 
-ghost use Rattle.std.specs.Prelude.{◌≡◌, ◌<◌, ◌≤◌, ◌++◌, ◌∷◌, [], ◌==◌, length, slice_get, Some, OnOk, OnErr, string_bytes};
+ghost use Rattle.std.specs.Prelude.{◌≡◌, ◌<◌, ◌≤◌, ◌++◌, ◌∷◌, [], ◌==◌, length, slice_get, Some, OnOk, OnErr, IfOk, string_bytes};
 ghost use Rattle.lb_static.specs.Signature.{names_of, kinds_of};
 
 pub use lb_syntax::tree::Kind;
@@ -56,6 +56,18 @@ impl Signature {
         Ok(())
     }
 
+    /// A signature of its own with the same elements.
+    pub fn copy(&self, alloc: Global) -> Result<Signature, AllocError>
+        ensures { IfOk result (λ copied. copied ≡ self.now) }
+    {
+        let mut copied = Signature::new(alloc);
+        for element in &self.elements {
+            let name = String::from_str(alloc, element.name.as_str())?;
+            copied.push(name, element.kind)?;
+        }
+        Ok(copied)
+    }
+
     /// How many elements there are.
     pub fn len(&self) -> u32
         ensures count { result ≡ length self.now }
@@ -104,6 +116,7 @@ mod tests {
         assert_eq!(rt; signature.name(0), "m[1][2]");
         assert_eq!(rt; signature.name(1), "c");
         assert_eq!(rt; signature.kind(1), Kind::Bool);
+        assert_eq!(rt; signature.copy(alloc)?.len(), 2);
         Ok(())
     }
 }

@@ -1,0 +1,5 @@
+pub mod Ledgers
+pub mod NameTexts
+pub mod Recordings
+pub mod Rows
+pub mod Storing

@@ -1,0 +1,8 @@
+-- There is a trace for each name.
+use Rattle.std.proofs.Common.{arith}
+use Rattle.lb_flat.proofs.Storing.{count_of}
+use Rattle.lb_flat.proofs.traces.TraceSet.len.Goals as goal
+
+pub returns-clause-count : goal.returns-clause-count
+returns-clause-count c =
+    omega (arith, c.len.ensures.count, count_of c.args.self.now c.self.inside.signature c.self.inside.names c.self.inside.cells.items c.self.inside.row_ends.items c.self.view_is)

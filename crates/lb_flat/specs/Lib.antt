@@ -1,0 +1,3 @@
+pub mod Traces
+pub mod Ledger
+pub mod Stored
