@@ -1,0 +1,6 @@
+pub mod OnPlanes
+pub mod Words
+pub mod Divisions
+pub mod Vectors
+pub mod Joined
+pub mod Views

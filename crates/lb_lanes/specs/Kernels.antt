@@ -1,0 +1,38 @@
+-- What the kernels on 64 integer lanes do, lane by lane. All of it is this project's rule.
+use Rattle.std.specs.Prelude.{◌≡◌, ℕ, ◌<◌, Bool, true, false, Option, Some, None, List, ℤ, pos, IsTrue, slice_index_or, if◌then◌else◌}
+use Rattle.std.specs.Int.{cast_signed, w64}
+use Rattle.lb_lanes.specs.Operators.{is_int}
+use Rattle.lb_lanes.specs.Planes.{on}
+
+-- lane i of a list of integers
+abbrev pub lane_of : List ℤ → ℕ → ℤ
+lane_of xs i = slice_index_or xs i (pos 0)
+
+-- lane i of the words that hold integers
+abbrev pub word_lane : List ℕ → ℕ → ℤ
+word_lane words i = cast_signed w64 (slice_index_or words i 0)
+
+-- each of the n lanes is in the range of `int`
+abbrev pub AreInts : ℕ → (ℕ → ℤ) → Type 0
+AreInts n lanes = (i : ℕ) → i < n → IsTrue (is_int (lanes i))
+
+-- what a lane holds after an operator: the value, if the lane is active and has one, and else 0
+abbrev pub kept : Bool → Option ℤ → ℤ
+kept true (Some v) = v
+kept true None = pos 0
+kept false v = pos 0
+
+-- whether a lane has a fault after an operator: it is active, and has no value
+abbrev pub faulty : Bool → Option ℤ → Bool
+faulty true (Some v) = false
+faulty true None = true
+faulty false v = false
+
+-- the n lanes and the faults are what the operator gives at the lanes of a and b, under the active plane
+pub record IsKernel (n : ℕ) (op : ℤ → ℤ → Option ℤ) (a b : ℕ → ℤ) (active : ℕ) (out : ℕ → ℤ) (faults : ℕ) : Type 0 where
+  pub values : (i : ℕ) → i < n → out i ≡ kept (on active i) (op (a i) (b i))
+  pub fault_bits : (i : ℕ) → i < n → on faults i ≡ faulty (on active i) (op (a i) (b i))
+
+-- the n lanes are those of a where the mask is true, and those of b where it is not
+abbrev pub IsBlend : ℕ → ℕ → (ℕ → ℤ) → (ℕ → ℤ) → (ℕ → ℤ) → Type 0
+IsBlend n mask a b out = (i : ℕ) → i < n → out i ≡ (if on mask i then a i else b i)

@@ -1,0 +1,186 @@
+//! Integer lanes: 64 integers side by side.
+
+ghost use Rattle.std.specs.Prelude.{◌≡◌, ℕ, ◌<◌, ◌==◌, not, List, ℤ, map, int_lt, int_le, if◌then◌else◌};
+ghost use Rattle.std.specs.Int.{cast_signed, w64};
+ghost use Rattle.std.specs.Ordering.{int_eq};
+ghost use Rattle.lb_lanes.specs.Kernels.{AreInts, IsBlend, IsKernel, lane_of};
+ghost use Rattle.lb_lanes.specs.Operators.{difference_of, is_int, negation_of, product_of, quotient_of, remainder_of, sum_of};
+ghost use Rattle.lb_lanes.specs.Planes.{IsPlaneOf};
+
+use crate::comparisons::{AtMost, Below, Equal, Outside, tested};
+use crate::operators::{
+    Difference, Negation, Product, Quotient, Remainder, Sum, commit, run, run_division,
+};
+use crate::planes::Plane;
+use std::marker::Model;
+
+/// 64 integers of 64 bits, a lane each.
+///
+/// The operators take lanes in the range of `int`, -2147483648 to 2147483647, and give such lanes.
+/// They compute in the lanes of the active plane alone, and give the lanes with a fault as a plane.
+#[derive(Drop)]
+pub struct IntLanes {
+    bits: [u64; 64],
+}
+
+impl Model for IntLanes {
+    ghost Value = { List ℤ };
+
+    ghost view = { λ s. map (cast_signed w64) s.bits };
+}
+
+impl IntLanes {
+    /// The value in every lane.
+    pub fn splat(value: i64) -> IntLanes
+        ensures { (i : ℕ) → i < 64 → lane_of result i ≡ value }
+    {
+        IntLanes {
+            bits: [value.cast_unsigned(); 64],
+        }
+    }
+
+    /// The lane, a number below 64.
+    pub fn get(&self, lane: u32) -> i64
+        requires { lane < 64 }
+        ensures { result ≡ lane_of self.now lane }
+    {
+        self.bits[lane as usize].cast_signed()
+    }
+
+    /// Puts the value into the lane, a number below 64.
+    pub fn set(&mut self, lane: u32, value: i64)
+        requires { lane < 64 }
+        ensures { (i : ℕ) → i < 64 → lane_of self.new i ≡ (if i == lane then value else lane_of self.old i) }
+    {
+        self.bits[lane as usize] = value.cast_unsigned();
+    }
+
+    /// The lanes that are equal in both.
+    pub fn eq(&self, other: &IntLanes) -> Plane
+        ensures { IsPlaneOf (λ i. int_eq (lane_of self.now i) (lane_of other.now i)) result.0 }
+    {
+        Plane(tested::<Equal>(&self.bits, &other.bits))
+    }
+
+    /// The lanes that are below those of `other`.
+    pub fn lt(&self, other: &IntLanes) -> Plane
+        ensures { IsPlaneOf (λ i. int_lt (lane_of self.now i) (lane_of other.now i)) result.0 }
+    {
+        Plane(tested::<Below>(&self.bits, &other.bits))
+    }
+
+    /// The lanes that are at most those of `other`.
+    pub fn le(&self, other: &IntLanes) -> Plane
+        ensures { IsPlaneOf (λ i. int_le (lane_of self.now i) (lane_of other.now i)) result.0 }
+    {
+        Plane(tested::<AtMost>(&self.bits, &other.bits))
+    }
+
+    /// The lanes that are out of the range of `int`.
+    pub fn outside(&self) -> Plane
+        ensures { IsPlaneOf (λ i. not (is_int (lane_of self.now i))) result.0 }
+    {
+        Plane(tested::<Outside>(&self.bits, &self.bits))
+    }
+
+    /// The lanes of `a` where the mask is true, and those of `b` where it is not.
+    pub fn blend(mask: Plane, a: &IntLanes, b: &IntLanes) -> IntLanes
+        ensures { IsBlend 64 mask.0 (lane_of a.now) (lane_of b.now) (lane_of result) }
+    {
+        let mut bits = b.bits;
+        commit(&mut bits, &a.bits, mask.0);
+        IntLanes { bits }
+    }
+
+    // Puts the lanes of `new` where the mask is true.
+    pub(crate) fn commit(&mut self, new: &IntLanes, mask: Plane)
+        ensures { IsBlend 64 mask.0 (lane_of new.now) (lane_of self.old) (lane_of self.new) }
+    {
+        commit(&mut self.bits, &new.bits, mask.0);
+    }
+
+    /// The sums, and the faults: where a sum is out of the range of `int`.
+    ///
+    /// A lane that is not active, or has a fault, gives 0.
+    pub fn add(&self, other: &IntLanes, active: Plane) -> (IntLanes, Plane)
+        requires left { AreInts 64 (lane_of self.now) }
+        requires right { AreInts 64 (lane_of other.now) }
+        ensures lanes { IsKernel 64 sum_of (lane_of self.now) (lane_of other.now) active.0 (lane_of result.0) result.1.0 }
+        ensures in_range { AreInts 64 (lane_of result.0) }
+    {
+        let mut bits = [0; 64];
+        let faults = run::<Sum>(&self.bits, &other.bits, active.0, &mut bits);
+        (IntLanes { bits }, Plane(faults))
+    }
+
+    /// The differences, and the faults: where a difference is out of the range of `int`.
+    ///
+    /// A lane that is not active, or has a fault, gives 0.
+    pub fn sub(&self, other: &IntLanes, active: Plane) -> (IntLanes, Plane)
+        requires left { AreInts 64 (lane_of self.now) }
+        requires right { AreInts 64 (lane_of other.now) }
+        ensures lanes { IsKernel 64 difference_of (lane_of self.now) (lane_of other.now) active.0 (lane_of result.0) result.1.0 }
+        ensures in_range { AreInts 64 (lane_of result.0) }
+    {
+        let mut bits = [0; 64];
+        let faults = run::<Difference>(&self.bits, &other.bits, active.0, &mut bits);
+        (IntLanes { bits }, Plane(faults))
+    }
+
+    /// The products, and the faults: where a product is out of the range of `int`.
+    ///
+    /// A lane that is not active, or has a fault, gives 0.
+    pub fn mul(&self, other: &IntLanes, active: Plane) -> (IntLanes, Plane)
+        requires left { AreInts 64 (lane_of self.now) }
+        requires right { AreInts 64 (lane_of other.now) }
+        ensures lanes { IsKernel 64 product_of (lane_of self.now) (lane_of other.now) active.0 (lane_of result.0) result.1.0 }
+        ensures in_range { AreInts 64 (lane_of result.0) }
+    {
+        let mut bits = [0; 64];
+        let faults = run::<Product>(&self.bits, &other.bits, active.0, &mut bits);
+        (IntLanes { bits }, Plane(faults))
+    }
+
+    /// The negations, and the faults: where the lane is the least integer.
+    ///
+    /// A lane that is not active, or has a fault, gives 0.
+    pub fn neg(&self, active: Plane) -> (IntLanes, Plane)
+        requires { AreInts 64 (lane_of self.now) }
+        ensures lanes { IsKernel 64 (λ a b. negation_of a) (lane_of self.now) (lane_of self.now) active.0 (lane_of result.0) result.1.0 }
+        ensures in_range { AreInts 64 (lane_of result.0) }
+    {
+        let mut bits = [0; 64];
+        let faults = run::<Negation>(&self.bits, &self.bits, active.0, &mut bits);
+        (IntLanes { bits }, Plane(faults))
+    }
+
+    /// The quotients, truncated toward zero, and the faults: where a divisor is 0, or the least
+    /// integer is divided by -1.
+    ///
+    /// A lane that is not active, or has a fault, gives 0.
+    pub fn div(&self, other: &IntLanes, active: Plane) -> (IntLanes, Plane)
+        requires left { AreInts 64 (lane_of self.now) }
+        requires right { AreInts 64 (lane_of other.now) }
+        ensures lanes { IsKernel 64 quotient_of (lane_of self.now) (lane_of other.now) active.0 (lane_of result.0) result.1.0 }
+        ensures in_range { AreInts 64 (lane_of result.0) }
+    {
+        let mut bits = [0; 64];
+        let faults = run_division::<Quotient>(&self.bits, &other.bits, active.0, &mut bits);
+        (IntLanes { bits }, Plane(faults))
+    }
+
+    /// The remainders, with the dividend's sign, and the faults: where a divisor is 0, or the least
+    /// integer is divided by -1.
+    ///
+    /// A lane that is not active, or has a fault, gives 0.
+    pub fn rem(&self, other: &IntLanes, active: Plane) -> (IntLanes, Plane)
+        requires left { AreInts 64 (lane_of self.now) }
+        requires right { AreInts 64 (lane_of other.now) }
+        ensures lanes { IsKernel 64 remainder_of (lane_of self.now) (lane_of other.now) active.0 (lane_of result.0) result.1.0 }
+        ensures in_range { AreInts 64 (lane_of result.0) }
+    {
+        let mut bits = [0; 64];
+        let faults = run_division::<Remainder>(&self.bits, &other.bits, active.0, &mut bits);
+        (IntLanes { bits }, Plane(faults))
+    }
+}

@@ -1,0 +1,17 @@
+//! Lane kernels: 64 Booleans in one word, 64 integers side by side, and what is computed on them.
+//!
+//! A kernel treats its 64 lanes alike, whatever they hold. Where an operator has no result in the
+//! range of `int`, the lane gets 0 and a bit in a plane of faults, and no other lane notices.
+//! No call takes memory or refuses.
+#![tactic(auto)]
+
+mod chunks;
+mod comparisons;
+mod lanes;
+mod operators;
+mod planes;
+mod slices;
+
+pub use lanes::IntLanes;
+pub use planes::Plane;
+pub use slices::{and_slices, any_outside, commit_ints, commit_planes, or_slices, xor_slices};
