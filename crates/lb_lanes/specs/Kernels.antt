@@ -1,5 +1,5 @@
 -- What the kernels on 64 integer lanes do, lane by lane. All of it is this project's rule.
-use Rattle.std.specs.Prelude.{◌≡◌, ℕ, ◌<◌, Bool, true, false, Option, Some, None, List, ℤ, pos, IsTrue, slice_index_or, if◌then◌else◌}
+use Rattle.std.specs.Prelude.{◌≡◌, ℕ, ◌<◌, Bool, true, false, Option, Some, None, List, [], ℤ, pos, IsTrue, EachIndex, slice_index_or, if◌then◌else◌}
 use Rattle.std.specs.Int.{cast_signed, w64}
 use Rattle.lb_lanes.specs.Operators.{is_int}
 use Rattle.lb_lanes.specs.Planes.{on}
@@ -11,10 +11,6 @@ lane_of xs i = slice_index_or xs i (pos 0)
 -- lane i of the words that hold integers
 abbrev pub word_lane : List ℕ → ℕ → ℤ
 word_lane words i = cast_signed w64 (slice_index_or words i 0)
-
--- each of the n lanes is in the range of `int`
-abbrev pub AreInts : ℕ → (ℕ → ℤ) → Type 0
-AreInts n lanes = (i : ℕ) → i < n → IsTrue (is_int (lanes i))
 
 -- what a lane holds after an operator: the value, if the lane is active and has one, and else 0
 abbrev pub kept : Bool → Option ℤ → ℤ
@@ -28,11 +24,37 @@ faulty true (Some v) = false
 faulty true None = true
 faulty false v = false
 
--- the n lanes and the faults are what the operator gives at the lanes of a and b, under the active plane
-pub record IsKernel (n : ℕ) (op : ℤ → ℤ → Option ℤ) (a b : ℕ → ℤ) (active : ℕ) (out : ℕ → ℤ) (faults : ℕ) : Type 0 where
+-- the first n lanes are in the range of `int`
+abbrev pub AreIntsBelow : ℕ → (ℕ → ℤ) → Type 0
+AreIntsBelow n lanes = (i : ℕ) → i < n → IsTrue (is_int (lanes i))
+
+-- all 64 lanes are in the range of `int`
+abbrev pub AreInts : List ℤ → Type 0
+AreInts xs = AreIntsBelow 64 (lane_of xs)
+
+-- the first n lanes, and their faults, are what the operator gives at the lanes of a and b under
+-- the active plane
+pub record IsKernelBelow (n : ℕ) (op : ℤ → ℤ → Option ℤ) (a b : ℕ → ℤ) (active : ℕ)
+    (out : ℕ → ℤ) (faults : ℕ) : Type 0 where
   pub values : (i : ℕ) → i < n → out i ≡ kept (on active i) (op (a i) (b i))
   pub fault_bits : (i : ℕ) → i < n → on faults i ≡ faulty (on active i) (op (a i) (b i))
 
--- the n lanes are those of a where the mask is true, and those of b where it is not
-abbrev pub IsBlend : ℕ → ℕ → (ℕ → ℤ) → (ℕ → ℤ) → (ℕ → ℤ) → Type 0
-IsBlend n mask a b out = (i : ℕ) → i < n → out i ≡ (if on mask i then a i else b i)
+-- all 64 lanes, and their faults, are what the operator gives
+abbrev pub IsKernel : (ℤ → ℤ → Option ℤ) → List ℤ → List ℤ → ℕ → List ℤ → ℕ → Type 0
+IsKernel op a b active out faults =
+    IsKernelBelow 64 op (lane_of a) (lane_of b) active (lane_of out) faults
+
+-- the first n lanes are those of a where the mask is true, and those of b where it is not
+abbrev pub IsBlendBelow : ℕ → ℕ → (ℕ → ℤ) → (ℕ → ℤ) → (ℕ → ℤ) → Type 0
+IsBlendBelow n mask a b out = (i : ℕ) → i < n → out i ≡ (if on mask i then a i else b i)
+
+-- the same of all 64 lanes
+abbrev pub IsBlend : ℕ → List ℤ → List ℤ → List ℤ → Type 0
+IsBlend mask a b out = IsBlendBelow 64 mask (lane_of a) (lane_of b) (lane_of out)
+
+-- each element has the lanes of the new one where the mask is true, and is as it was elsewhere
+abbrev pub CommitsInts : ℕ → List (List ℤ) → List (List ℤ) → List (List ℤ) → Type 0
+CommitsInts mask old new out =
+    EachIndex out
+    (λ k.
+    IsBlend mask (slice_index_or new k []) (slice_index_or old k []) (slice_index_or out k []))

@@ -1,6 +1,6 @@
 -- The operators on integers as tables: none where the operator has a fault.
--- Which operators there are, and that `div` truncates toward zero, is the reference manual's section
--- on data operators. The range of `int`, and what is a fault, is this project's rule.
+-- Which operators there are, and that `div` truncates toward zero: the Lustre V6 reference manual,
+-- on data operators. The range of `int`, and what is a fault: this project's rule.
 use Rattle.std.specs.Prelude.{Bool, not, ◌&&◌, Option, Some, None, ℤ, pos, negsuc, ◌+ℤ◌, ◌-ℤ◌, ◌*ℤ◌, neg_ℤ, int_le, int_div, int_rem, if◌then◌else◌}
 use Rattle.std.specs.Ordering.{int_eq}
 
@@ -33,10 +33,14 @@ negation_of a = lawful (neg_ℤ a)
 unfoldable pub can_divide : ℤ → ℤ → Bool
 can_divide a b = not (int_eq b (pos 0)) && not (int_eq a (negsuc 2147483647) && int_eq b (negsuc 0))
 
+-- a division, where the two can be divided
+abbrev pub divided_by : (ℤ → ℤ → ℤ) → ℤ → ℤ → Option ℤ
+divided_by division a b = if can_divide a b then Some (division a b) else None
+
 -- `a div b`, which truncates toward zero
 abbrev pub quotient_of : ℤ → ℤ → Option ℤ
-quotient_of a b = if can_divide a b then Some (int_div a b) else None
+quotient_of a b = divided_by int_div a b
 
 -- `a mod b`, which is a - b * (a div b)
 abbrev pub remainder_of : ℤ → ℤ → Option ℤ
-remainder_of a b = if can_divide a b then Some (int_rem a b) else None
+remainder_of a b = divided_by int_rem a b

@@ -44,7 +44,8 @@ pub(crate) fn outside8(x: u64x8) -> u64
 
 // The lanes of `a` where the mask is true, else those of `b`.
 pub(crate) fn blended8(mask: u64, a: u64x8, b: u64x8) -> u64x8
-    ensures { (i : ℕ) → i < 8 → slice_index result i ≡ (if on mask i then slice_index a i else slice_index b i) }
+    ensures { (i : ℕ) → i < 8
+        → slice_index result i ≡ (if on mask i then slice_index a i else slice_index b i) }
 {
     let bits = u64x8::from_array(BITS);
     (u64x8::splat(mask) & bits).simd_eq(bits).select(a, b)

@@ -50,7 +50,8 @@ impl IntLanes {
     /// Puts the value into the lane, a number below 64.
     pub fn set(&mut self, lane: u32, value: i64)
         requires { lane < 64 }
-        ensures { (i : ℕ) → i < 64 → lane_of self.new i ≡ (if i == lane then value else lane_of self.old i) }
+        ensures { (i : ℕ) → i < 64
+            → lane_of self.new i ≡ (if i == lane then value else lane_of self.old i) }
     {
         self.bits[lane as usize] = value.cast_unsigned();
     }
@@ -85,7 +86,7 @@ impl IntLanes {
 
     /// The lanes of `a` where the mask is true, and those of `b` where it is not.
     pub fn blend(mask: Plane, a: &IntLanes, b: &IntLanes) -> IntLanes
-        ensures { IsBlend 64 mask.0 (lane_of a.now) (lane_of b.now) (lane_of result) }
+        ensures { IsBlend mask.0 a.now b.now result }
     {
         let mut bits = b.bits;
         commit(&mut bits, &a.bits, mask.0);
@@ -94,7 +95,7 @@ impl IntLanes {
 
     // Puts the lanes of `new` where the mask is true.
     pub(crate) fn commit(&mut self, new: &IntLanes, mask: Plane)
-        ensures { IsBlend 64 mask.0 (lane_of new.now) (lane_of self.old) (lane_of self.new) }
+        ensures { IsBlend mask.0 new.now self.old self.new }
     {
         commit(&mut self.bits, &new.bits, mask.0);
     }
@@ -103,10 +104,10 @@ impl IntLanes {
     ///
     /// A lane that is not active, or has a fault, gives 0.
     pub fn add(&self, other: &IntLanes, active: Plane) -> (IntLanes, Plane)
-        requires left { AreInts 64 (lane_of self.now) }
-        requires right { AreInts 64 (lane_of other.now) }
-        ensures lanes { IsKernel 64 sum_of (lane_of self.now) (lane_of other.now) active.0 (lane_of result.0) result.1.0 }
-        ensures in_range { AreInts 64 (lane_of result.0) }
+        requires left { AreInts self.now }
+        requires right { AreInts other.now }
+        ensures lanes { IsKernel sum_of self.now other.now active.0 result.0 result.1.0 }
+        ensures in_range { AreInts result.0 }
     {
         let mut bits = [0; 64];
         let faults = run::<Sum>(&self.bits, &other.bits, active.0, &mut bits);
@@ -117,10 +118,10 @@ impl IntLanes {
     ///
     /// A lane that is not active, or has a fault, gives 0.
     pub fn sub(&self, other: &IntLanes, active: Plane) -> (IntLanes, Plane)
-        requires left { AreInts 64 (lane_of self.now) }
-        requires right { AreInts 64 (lane_of other.now) }
-        ensures lanes { IsKernel 64 difference_of (lane_of self.now) (lane_of other.now) active.0 (lane_of result.0) result.1.0 }
-        ensures in_range { AreInts 64 (lane_of result.0) }
+        requires left { AreInts self.now }
+        requires right { AreInts other.now }
+        ensures lanes { IsKernel difference_of self.now other.now active.0 result.0 result.1.0 }
+        ensures in_range { AreInts result.0 }
     {
         let mut bits = [0; 64];
         let faults = run::<Difference>(&self.bits, &other.bits, active.0, &mut bits);
@@ -131,10 +132,10 @@ impl IntLanes {
     ///
     /// A lane that is not active, or has a fault, gives 0.
     pub fn mul(&self, other: &IntLanes, active: Plane) -> (IntLanes, Plane)
-        requires left { AreInts 64 (lane_of self.now) }
-        requires right { AreInts 64 (lane_of other.now) }
-        ensures lanes { IsKernel 64 product_of (lane_of self.now) (lane_of other.now) active.0 (lane_of result.0) result.1.0 }
-        ensures in_range { AreInts 64 (lane_of result.0) }
+        requires left { AreInts self.now }
+        requires right { AreInts other.now }
+        ensures lanes { IsKernel product_of self.now other.now active.0 result.0 result.1.0 }
+        ensures in_range { AreInts result.0 }
     {
         let mut bits = [0; 64];
         let faults = run::<Product>(&self.bits, &other.bits, active.0, &mut bits);
@@ -145,9 +146,9 @@ impl IntLanes {
     ///
     /// A lane that is not active, or has a fault, gives 0.
     pub fn neg(&self, active: Plane) -> (IntLanes, Plane)
-        requires { AreInts 64 (lane_of self.now) }
-        ensures lanes { IsKernel 64 (λ a b. negation_of a) (lane_of self.now) (lane_of self.now) active.0 (lane_of result.0) result.1.0 }
-        ensures in_range { AreInts 64 (lane_of result.0) }
+        requires { AreInts self.now }
+        ensures lanes { IsKernel (λ a b. negation_of a) self.now self.now active.0 result.0 result.1.0 }
+        ensures in_range { AreInts result.0 }
     {
         let mut bits = [0; 64];
         let faults = run::<Negation>(&self.bits, &self.bits, active.0, &mut bits);
@@ -159,10 +160,10 @@ impl IntLanes {
     ///
     /// A lane that is not active, or has a fault, gives 0.
     pub fn div(&self, other: &IntLanes, active: Plane) -> (IntLanes, Plane)
-        requires left { AreInts 64 (lane_of self.now) }
-        requires right { AreInts 64 (lane_of other.now) }
-        ensures lanes { IsKernel 64 quotient_of (lane_of self.now) (lane_of other.now) active.0 (lane_of result.0) result.1.0 }
-        ensures in_range { AreInts 64 (lane_of result.0) }
+        requires left { AreInts self.now }
+        requires right { AreInts other.now }
+        ensures lanes { IsKernel quotient_of self.now other.now active.0 result.0 result.1.0 }
+        ensures in_range { AreInts result.0 }
     {
         let mut bits = [0; 64];
         let faults = run_division::<Quotient>(&self.bits, &other.bits, active.0, &mut bits);
@@ -174,10 +175,10 @@ impl IntLanes {
     ///
     /// A lane that is not active, or has a fault, gives 0.
     pub fn rem(&self, other: &IntLanes, active: Plane) -> (IntLanes, Plane)
-        requires left { AreInts 64 (lane_of self.now) }
-        requires right { AreInts 64 (lane_of other.now) }
-        ensures lanes { IsKernel 64 remainder_of (lane_of self.now) (lane_of other.now) active.0 (lane_of result.0) result.1.0 }
-        ensures in_range { AreInts 64 (lane_of result.0) }
+        requires left { AreInts self.now }
+        requires right { AreInts other.now }
+        ensures lanes { IsKernel remainder_of self.now other.now active.0 result.0 result.1.0 }
+        ensures in_range { AreInts result.0 }
     {
         let mut bits = [0; 64];
         let faults = run_division::<Remainder>(&self.bits, &other.bits, active.0, &mut bits);

@@ -4,10 +4,10 @@
 //! formed in 64 bits, where two integers of 32 bits never wrap, and then tested for the range of
 //! `int`. Quotients are formed one by one, over divisors that were made harmless first.
 
-ghost use Rattle.std.specs.Prelude.{◌≡◌, ℕ, ◌+◌, ◌<◌, ◌≤◌, Some, None, ℤ, pos, ◌+ℤ◌, ◌-ℤ◌, ◌*ℤ◌, neg_ℤ, int_div, int_rem, IsTrue, length, slice_index, if◌then◌else◌};
+ghost use Rattle.std.specs.Prelude.{◌≡◌, ℕ, ◌+◌, ◌<◌, ◌≤◌, ℤ, pos, ◌+ℤ◌, ◌-ℤ◌, ◌*ℤ◌, neg_ℤ, int_div, int_rem, IsTrue, length, slice_index, if◌then◌else◌};
 ghost use Rattle.std.specs.Int.{cast_signed, w64};
-ghost use Rattle.lb_lanes.specs.Kernels.{AreInts, IsBlend, IsKernel, word_lane};
-ghost use Rattle.lb_lanes.specs.Operators.{can_divide, is_int, lawful};
+ghost use Rattle.lb_lanes.specs.Kernels.{AreIntsBelow, IsBlendBelow, IsKernelBelow, word_lane};
+ghost use Rattle.lb_lanes.specs.Operators.{can_divide, divided_by, is_int, lawful};
 ghost use Rattle.lb_lanes.specs.Planes.{on};
 
 use crate::chunks::{blended8, load8, outside8, store8};
@@ -21,8 +21,8 @@ pub(crate) trait Exact {
 
     // The exact results of eight lanes.
     fn exact8(x: u64x8, y: u64x8) -> u64x8
-        requires left { AreInts 8 (word_lane x) }
-        requires right { AreInts 8 (word_lane y) }
+        requires left { AreIntsBelow 8 (word_lane x) }
+        requires right { AreIntsBelow 8 (word_lane y) }
         ensures { (i : ℕ) → i < 8 → word_lane result i ≡ exact (word_lane x i) (word_lane y i) };
 }
 
@@ -70,9 +70,10 @@ impl Exact for Negation {
 
 // Eight lanes after the operator, and their faults.
 fn run8<K: Exact>(x: u64x8, y: u64x8, live: u64) -> (u64x8, u64)
-    requires left { AreInts 8 (word_lane x) }
-    requires right { AreInts 8 (word_lane y) }
-    ensures lanes { IsKernel 8 (λ a b. lawful (K.exact a b)) (word_lane x) (word_lane y) live (word_lane result.0) result.1 }
+    requires left { AreIntsBelow 8 (word_lane x) }
+    requires right { AreIntsBelow 8 (word_lane y) }
+    ensures lanes { IsKernelBelow 8 (λ a b. lawful (K.exact a b)) (word_lane x) (word_lane y) live
+        (word_lane result.0) result.1 }
     ensures within { result.1 < 256 }
 {
     let exact = K::exact8(x, y);
@@ -82,10 +83,11 @@ fn run8<K: Exact>(x: u64x8, y: u64x8, live: u64) -> (u64x8, u64)
 
 // Puts the 64 lanes after the operator into `out`, and gives their faults.
 pub(crate) fn run<K: Exact>(a: &[u64; 64], b: &[u64; 64], active: u64, out: &mut [u64; 64]) -> u64
-    requires left { AreInts 64 (word_lane a.now) }
-    requires right { AreInts 64 (word_lane b.now) }
-    ensures lanes { IsKernel 64 (λ x y. lawful (K.exact x y)) (word_lane a.now) (word_lane b.now) active (word_lane out.new) result }
-    ensures in_range { AreInts 64 (word_lane out.new) }
+    requires left { AreIntsBelow 64 (word_lane a.now) }
+    requires right { AreIntsBelow 64 (word_lane b.now) }
+    ensures lanes { IsKernelBelow 64 (λ x y. lawful (K.exact x y)) (word_lane a.now) (word_lane b.now) active
+        (word_lane out.new) result }
+    ensures in_range { AreIntsBelow 64 (word_lane out.new) }
 {
     let mut faults = 0u64;
     for c in 0..8usize {
@@ -149,10 +151,11 @@ pub(crate) fn run_division<K: Division>(
     active: u64,
     out: &mut [u64; 64],
 ) -> u64
-    requires left { AreInts 64 (word_lane a.now) }
-    requires right { AreInts 64 (word_lane b.now) }
-    ensures lanes { IsKernel 64 (λ x y. if can_divide x y then Some (K.divided x y) else None) (word_lane a.now) (word_lane b.now) active (word_lane out.new) result }
-    ensures in_range { AreInts 64 (word_lane out.new) }
+    requires left { AreIntsBelow 64 (word_lane a.now) }
+    requires right { AreIntsBelow 64 (word_lane b.now) }
+    ensures lanes { IsKernelBelow 64 (divided_by K.divided) (word_lane a.now) (word_lane b.now) active
+        (word_lane out.new) result }
+    ensures in_range { AreIntsBelow 64 (word_lane out.new) }
 {
     let divisible = tested::<Divisible>(a, b);
     let divides = active & divisible;
@@ -166,7 +169,7 @@ pub(crate) fn run_division<K: Division>(
 
 // Puts the lanes of `new` into `old` where the mask is true.
 pub(crate) fn commit(old: &mut [u64; 64], new: &[u64; 64], mask: u64)
-    ensures { IsBlend 64 mask (word_lane new.now) (word_lane old.old) (word_lane old.new) }
+    ensures { IsBlendBelow 64 mask (word_lane new.now) (word_lane old.old) (word_lane old.new) }
 {
     for c in 0..8usize {
         let at = 8 * c;

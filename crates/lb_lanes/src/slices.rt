@@ -1,10 +1,10 @@
 //! Kernels on slices of any length: chunks of eight words, and a plain loop for the rest.
 
-ghost use Rattle.std.specs.Prelude.{◌≡◌, ℕ, ◌+◌, ◌<◌, ◌≤◌, not, ℤ, pos, [], length, slice_index, slice_index_or, bit_and, bit_or, bit_xor, EachIndex};
+ghost use Rattle.std.specs.Prelude.{◌≡◌, ℕ, ◌+◌, ◌<◌, ◌≤◌, not, ℤ, pos, length, slice_index, slice_index_or, bit_and, bit_or, bit_xor};
 ghost use Rattle.std.specs.List.{list_any};
-ghost use Rattle.lb_lanes.specs.Kernels.{IsBlend, lane_of, word_lane};
+ghost use Rattle.lb_lanes.specs.Kernels.{CommitsInts, word_lane};
 ghost use Rattle.lb_lanes.specs.Operators.{is_int};
-ghost use Rattle.lb_lanes.specs.Planes.{IsSelection};
+ghost use Rattle.lb_lanes.specs.Planes.{CommitsPlanes, IsSelection, IsWordwise};
 
 use crate::chunks::{load8, outside8, store8};
 use crate::lanes::IntLanes;
@@ -68,7 +68,7 @@ impl WordOp for Xor {
 fn combine<K: WordOp>(a: &[u64], b: &[u64], out: &mut [u64])
     requires left { length a.now ≡ length out.old }
     requires right { length b.now ≡ length out.old }
-    ensures { EachIndex out.new (λ k. slice_index out.new k ≡ K.word (slice_index a.now k) (slice_index b.now k)) }
+    ensures { IsWordwise K.word a.now b.now out.new }
 {
     let whole = out.len() / 8;
     for c in 0..whole {
@@ -85,7 +85,7 @@ fn combine<K: WordOp>(a: &[u64], b: &[u64], out: &mut [u64])
 pub fn and_slices(a: &[u64], b: &[u64], out: &mut [u64])
     requires left { length a.now ≡ length out.old }
     requires right { length b.now ≡ length out.old }
-    ensures { EachIndex out.new (λ k. slice_index out.new k ≡ bit_and (slice_index a.now k) (slice_index b.now k)) }
+    ensures { IsWordwise bit_and a.now b.now out.new }
 {
     combine::<And>(a, b, out);
 }
@@ -94,7 +94,7 @@ pub fn and_slices(a: &[u64], b: &[u64], out: &mut [u64])
 pub fn or_slices(a: &[u64], b: &[u64], out: &mut [u64])
     requires left { length a.now ≡ length out.old }
     requires right { length b.now ≡ length out.old }
-    ensures { EachIndex out.new (λ k. slice_index out.new k ≡ bit_or (slice_index a.now k) (slice_index b.now k)) }
+    ensures { IsWordwise bit_or a.now b.now out.new }
 {
     combine::<Or>(a, b, out);
 }
@@ -103,14 +103,15 @@ pub fn or_slices(a: &[u64], b: &[u64], out: &mut [u64])
 pub fn xor_slices(a: &[u64], b: &[u64], out: &mut [u64])
     requires left { length a.now ≡ length out.old }
     requires right { length b.now ≡ length out.old }
-    ensures { EachIndex out.new (λ k. slice_index out.new k ≡ bit_xor (slice_index a.now k) (slice_index b.now k)) }
+    ensures { IsWordwise bit_xor a.now b.now out.new }
 {
     combine::<Xor>(a, b, out);
 }
 
 // Each bit of `a` where the mask is set, and of `b` where it is not.
 fn selected8(mask: u64, a: u64x8, b: u64x8) -> u64x8
-    ensures { (k : ℕ) → k < 8 → IsSelection mask (slice_index a k) (slice_index b k) (slice_index result k) }
+    ensures { (k : ℕ) → k < 8
+        → IsSelection mask (slice_index a k) (slice_index b k) (slice_index result k) }
 {
     (u64x8::splat(mask) & a) | (u64x8::splat(!mask) & b)
 }
@@ -118,7 +119,7 @@ fn selected8(mask: u64, a: u64x8, b: u64x8) -> u64x8
 /// Puts the lanes of each new plane into the old one where the mask is true, and leaves the rest.
 pub fn commit_planes(old: &mut [u64], new: &[u64], mask: Plane)
     requires { length new.now ≡ length old.old }
-    ensures { EachIndex old.new (λ k. IsSelection mask.0 (slice_index new.now k) (slice_index old.old k) (slice_index old.new k)) }
+    ensures { CommitsPlanes mask.0 old.old new.now old.new }
 {
     let whole = old.len() / 8;
     for c in 0..whole {
@@ -134,7 +135,7 @@ pub fn commit_planes(old: &mut [u64], new: &[u64], mask: Plane)
 /// Puts the lanes of each new element into the old one where the mask is true, and leaves the rest.
 pub fn commit_ints(old: &mut [IntLanes], new: &[IntLanes], mask: Plane)
     requires { length new.now ≡ length old.old }
-    ensures { EachIndex old.new (λ k. IsBlend 64 mask.0 (lane_of (slice_index_or new.now k [])) (lane_of (slice_index_or old.old k [])) (lane_of (slice_index_or old.new k []))) }
+    ensures { CommitsInts mask.0 old.old new.now old.new }
 {
     for k in 0..old.len() {
         old[k].commit(&new[k], mask);

@@ -1,6 +1,6 @@
 use Rattle.std.proofs.Common.{◌≡◌, ◌≢◌, List, ℤ, [], get_or, set, sym, ◌∙◌, subst, arith, below_more}
 use Rattle.std.proofs.lemmas.List.{get_or-set_same, get_or-set_other, get_or_default}
-use Rattle.lb_lanes.specs.Kernels.{IsBlend, lane_of}
+use Rattle.lb_lanes.specs.Kernels.{IsBlend}
 use Rattle.lb_lanes.proofs.slices.commit_ints.Goals as goal
 
 pub loop-k-preserved : goal.loop-k-preserved
@@ -9,7 +9,7 @@ loop-k-preserved c =
     let old = c.args.old.now in
     let new = c.args.new.now in
     let v : List ℤ = c.commit.new.self in
-    let Blended : List ℤ → List ℤ → List ℤ → Type 0 = λ a b o. IsBlend 64 c.args.mask.0 (lane_of a) (lane_of b) (lane_of o) in
+    let Blended : List ℤ → List ℤ → List ℤ → Type 0 = λ a b o. IsBlend c.args.mask.0 a b o in
     let x : c.index-new-k.result ≡ get_or new k [] = c.index-new-k.is ∙ get_or_default new k c.index-new-k.result [] (omega arith) in
     let y : get_or c.loop-k.old k c.index-old-k.result ≡ get_or old k []
     = get_or_default c.loop-k.old k c.index-old-k.result [] (omega arith) ∙ c.loop-k.invariant.rest k (omega arith) in
