@@ -1,18 +1,19 @@
 -- Lanes of the integers that words stand for.
-use Rattle.std.proofs.Common.{◌≡◌, ◌≢◌, ℕ, zero, suc, ◌<◌, ◌==◌, Bool, true, false, List, ℤ, pos, cond, map, set, replicate, length, refl, sym, ap, ◌∙◌, subst, arith, w64, SFits, to_z, of_z}
+use Rattle.std.proofs.Common.{◌≡◌, ◌≢◌, ℕ, zero, suc, ◌<◌, ◌==◌, Bool, true, false, List, [], ◌∷◌, ℤ, pos, cond, map, set, replicate, length, refl, sym, ap, ◌∙◌, subst, arith, w64, SFits, to_z, of_z}
 use Rattle.std.proofs.lemmas.List.{get_or-map, get_or-set_same, get_or-set_other, length-set}
 use Rattle.std.proofs.lemmas.Simd.{get_or-replicate, length-replicate}
 use Rattle.std.proofs.lemmas.Int.{to_z-of_z}
 use Rattle.lb_lanes.specs.Kernels.{lane_of, word_lane}
 
 -- lane i of the integers that the words stand for
-pub lane-view : (bits : List ℕ) (i : ℕ) → length bits ≡ 64 → i < 64 → lane_of (map (to_z w64) bits) i ≡ word_lane bits i
-lane-view bits i long h = get_or-map (to_z w64) bits i 0 (pos 0) (omega (arith, long))
+pub lane-view : (bits : List ℕ) (i : ℕ) → lane_of (map (to_z w64) bits) i ≡ word_lane bits i
+lane-view [] i = refl
+lane-view (n ∷ bits) zero = refl
+lane-view (n ∷ bits) (suc i) = lane-view bits i
 
 -- the same, where the integers are known by another name
-pub view_lane : (bits : List ℕ) (now : List ℤ) (i : ℕ) → length bits ≡ 64 → map (to_z w64) bits ≡ now → i < 64
-    → word_lane bits i ≡ lane_of now i
-view_lane bits now i long is h = sym (lane-view bits i long h) ∙ ap (λ l. lane_of l i) is
+pub view_lane : (bits : List ℕ) (now : List ℤ) (i : ℕ) → map (to_z w64) bits ≡ now → word_lane bits i ≡ lane_of now i
+view_lane bits now i is = sym (lane-view bits i) ∙ ap (λ l. lane_of l i) is
 
 same : (a b : ℕ) → (a == b) ≡ true → a ≡ b
 same a b e = grind arith
@@ -20,10 +21,10 @@ same a b e = grind arith
 other : (a b : ℕ) → (a == b) ≡ false → a ≢ b
 other a b e = grind arith
 
-pub lane-set : (bits : List ℕ) (k i n : ℕ) → length bits ≡ 64 → k < 64 → i < 64
+pub lane-set : (bits : List ℕ) (k i n : ℕ) → length bits ≡ 64 → k < 64
     → lane_of (map (to_z w64) (set bits k n)) i ≡ cond (i == k) (to_z w64 n) (lane_of (map (to_z w64) bits) i)
-lane-set bits k i n long hk hi =
-    lane-view (set bits k n) i (length-set bits k n ∙ long) hi ∙ by (i == k) refl
+lane-set bits k i n long hk =
+    lane-view (set bits k n) i ∙ by (i == k) refl
   where
     by : (b : Bool) → (i == k) ≡ b → word_lane (set bits k n) i ≡ cond b (to_z w64 n) (lane_of (map (to_z w64) bits) i)
     by true e =
@@ -32,11 +33,11 @@ lane-set bits k i n long hk hi =
         (ap (to_z w64) (get_or-set_same bits k n 0 (omega (arith, long, hk))))
     by false e =
         let ne = other i k e in
-        ap (to_z w64) (get_or-set_other bits k i n 0 ne) ∙ sym (lane-view bits i long hi)
+        ap (to_z w64) (get_or-set_other bits k i n 0 ne) ∙ sym (lane-view bits i)
 
 pub lane-splat : (n i : ℕ) → i < 64 → lane_of (map (to_z w64) (replicate 64 n)) i ≡ to_z w64 n
 lane-splat n i h =
-    lane-view (replicate 64 n) i (length-replicate {A = ℕ} 64 n) h ∙ ap (to_z w64) (get_or-replicate 64 i n 0 h)
+    lane-view (replicate 64 n) i ∙ ap (to_z w64) (get_or-replicate 64 i n 0 h)
 
 -- the integer of a word that a cast made
 pub word_of : (n : ℕ) (v : ℤ) → SFits w64 v → n ≡ of_z w64 (to_z w64 (of_z w64 v)) → to_z w64 n ≡ v

@@ -4,12 +4,12 @@ ghost use Rattle.std.specs.Prelude.{◌≡◌, ℕ, ◌<◌, ◌==◌, not, List
 ghost use Rattle.std.specs.Int.{cast_signed, w64};
 ghost use Rattle.std.specs.Ordering.{int_eq};
 ghost use Rattle.lb_lanes.specs.Kernels.{AreInts, IsBlend, IsKernel, lane_of};
-ghost use Rattle.lb_lanes.specs.Operators.{difference_of, is_int, negation_of, product_of, quotient_of, remainder_of, sum_of};
+ghost use Rattle.lb_lanes.specs.Operators.{difference_of, divided_by, is_int, lawful, negation_of, product_of, quotient_of, remainder_of, sum_of};
 ghost use Rattle.lb_lanes.specs.Planes.{IsPlaneOf};
 
 use crate::comparisons::{AtMost, Below, Equal, Outside, tested};
 use crate::operators::{
-    Difference, Negation, Product, Quotient, Remainder, Sum, commit, run, run_division,
+    Difference, Division, Exact, Negation, Product, Quotient, Remainder, Sum, commit, run, run_division,
 };
 use crate::planes::Plane;
 use std::marker::Model;
@@ -100,6 +100,34 @@ impl IntLanes {
         commit(&mut self.bits, &new.bits, mask.0);
     }
 
+    // The lanes after the operator, and their faults.
+    fn operated<K: Exact>(&self, other: &IntLanes, active: Plane) -> (IntLanes, Plane)
+        requires left { AreInts self.now }
+        requires right { AreInts other.now }
+        ensures lanes {
+            IsKernel (λ x y. lawful (K.exact x y)) self.now other.now active.0 result.0 result.1.0
+        }
+        ensures in_range { AreInts result.0 }
+    {
+        let mut outcome = (IntLanes { bits: [0; 64] }, Plane(0));
+        outcome.1 = Plane(run::<K>(&self.bits, &other.bits, active.0, &mut outcome.0.bits));
+        outcome
+    }
+
+    // The lanes after the division, and their faults.
+    fn divided<K: Division>(&self, other: &IntLanes, active: Plane) -> (IntLanes, Plane)
+        requires left { AreInts self.now }
+        requires right { AreInts other.now }
+        ensures lanes {
+            IsKernel (divided_by K.divided) self.now other.now active.0 result.0 result.1.0
+        }
+        ensures in_range { AreInts result.0 }
+    {
+        let mut lanes = IntLanes { bits: [0; 64] };
+        let faults = run_division::<K>(&self.bits, &other.bits, active.0, &mut lanes.bits);
+        (lanes, Plane(faults))
+    }
+
     /// The sums, and the faults: where a sum is out of the range of `int`.
     ///
     /// A lane that is not active, or has a fault, gives 0.
@@ -109,9 +137,7 @@ impl IntLanes {
         ensures lanes { IsKernel sum_of self.now other.now active.0 result.0 result.1.0 }
         ensures in_range { AreInts result.0 }
     {
-        let mut bits = [0; 64];
-        let faults = run::<Sum>(&self.bits, &other.bits, active.0, &mut bits);
-        (IntLanes { bits }, Plane(faults))
+        self.operated::<Sum>(other, active)
     }
 
     /// The differences, and the faults: where a difference is out of the range of `int`.
@@ -123,9 +149,7 @@ impl IntLanes {
         ensures lanes { IsKernel difference_of self.now other.now active.0 result.0 result.1.0 }
         ensures in_range { AreInts result.0 }
     {
-        let mut bits = [0; 64];
-        let faults = run::<Difference>(&self.bits, &other.bits, active.0, &mut bits);
-        (IntLanes { bits }, Plane(faults))
+        self.operated::<Difference>(other, active)
     }
 
     /// The products, and the faults: where a product is out of the range of `int`.
@@ -137,9 +161,7 @@ impl IntLanes {
         ensures lanes { IsKernel product_of self.now other.now active.0 result.0 result.1.0 }
         ensures in_range { AreInts result.0 }
     {
-        let mut bits = [0; 64];
-        let faults = run::<Product>(&self.bits, &other.bits, active.0, &mut bits);
-        (IntLanes { bits }, Plane(faults))
+        self.operated::<Product>(other, active)
     }
 
     /// The negations, and the faults: where the lane is the least integer.
@@ -150,9 +172,7 @@ impl IntLanes {
         ensures lanes { IsKernel (λ a b. negation_of a) self.now self.now active.0 result.0 result.1.0 }
         ensures in_range { AreInts result.0 }
     {
-        let mut bits = [0; 64];
-        let faults = run::<Negation>(&self.bits, &self.bits, active.0, &mut bits);
-        (IntLanes { bits }, Plane(faults))
+        self.operated::<Negation>(self, active)
     }
 
     /// The quotients, truncated toward zero, and the faults: where a divisor is 0, or the least
@@ -165,9 +185,7 @@ impl IntLanes {
         ensures lanes { IsKernel quotient_of self.now other.now active.0 result.0 result.1.0 }
         ensures in_range { AreInts result.0 }
     {
-        let mut bits = [0; 64];
-        let faults = run_division::<Quotient>(&self.bits, &other.bits, active.0, &mut bits);
-        (IntLanes { bits }, Plane(faults))
+        self.divided::<Quotient>(other, active)
     }
 
     /// The remainders, with the dividend's sign, and the faults: where a divisor is 0, or the least
@@ -180,8 +198,6 @@ impl IntLanes {
         ensures lanes { IsKernel remainder_of self.now other.now active.0 result.0 result.1.0 }
         ensures in_range { AreInts result.0 }
     {
-        let mut bits = [0; 64];
-        let faults = run_division::<Remainder>(&self.bits, &other.bits, active.0, &mut bits);
-        (IntLanes { bits }, Plane(faults))
+        self.divided::<Remainder>(other, active)
     }
 }
