@@ -1,11 +1,11 @@
 -- When a quotient of two integers of 32 bits fits.
-use Rattle.std.proofs.Common.{◌≡◌, ℕ, zero, suc, ◌<◌, ◌≤◌, ◌*◌, ◌/◌, ◌-◌, Bool, true, false, not, ◌&&◌, ℤ, pos, negsuc, neg_ℤ, refl, sym, ap₂, arith, w32, SFits, to_z, of_z, subst, ◌⊎◌, inl, inr}
+use Rattle.std.proofs.Common.{◌≡◌, ℕ, zero, suc, ◌<◌, ◌≤◌, ◌*◌, ◌/◌, ◌-◌, Bool, true, false, not, ◌&&◌, ℤ, pos, negsuc, neg_ℤ, refl, sym, ap₂, arith, w32, SFits, to_z, of_z, subst, ◌⊎◌, inl, inr, cond}
 use Rattle.std.proofs.Math.Nat.{div-le_self, div-mul-le_self, mul-le-mul_left, eq-or-lt_of_le}
 use Rattle.std.specs.Int.RustNames.{int_div}
 use Rattle.std.specs.Int.Signed.{mag}
 use Rattle.std.specs.Ordering.{int_eq}
 use Rattle.std.proofs.lemmas.Int.{to_z-of_z}
-use Rattle.lb_lanes.specs.Operators.{can_divide}
+use Rattle.lb_lanes.specs.Operators.{can_divide, is_int}
 
 mag-neg : (n : ℕ) → mag (neg_ℤ (pos n)) ≡ n - 1
 mag-neg zero = refl
@@ -48,10 +48,24 @@ pub quotient_fits_words : (a d : ℤ) → SFits w32 a → SFits w32 d → can_di
 quotient_fits_words a d f g e =
     subst (SFits w32) (sym (ap₂ int_div (to_z-of_z w32 a f) (to_z-of_z w32 d g))) (quotient_fits a d f e)
 
-pub one_divides : (a : ℤ) → can_divide a (pos 1) ≡ true
+one_divides : (a : ℤ) → can_divide a (pos 1) ≡ true
 unfolding can_divide
 one_divides a = by (int_eq a (negsuc 2147483647))
   where
     by : (b : Bool) → not (b && false) ≡ true
     by true = refl
     by false = refl
+
+-- 1 stands in for a divisor where the test fails
+pub stand_in-is_int : (t : Bool) (b : ℤ) → is_int b ≡ true → is_int (cond t b (pos 1)) ≡ true
+unfolding is_int
+stand_in-is_int true b e = e
+stand_in-is_int false b e = refl
+
+pub stand_in-can_divide : (t : Bool) (a b : ℤ) → (t ≡ true → can_divide a b ≡ true) → can_divide a (cond t b (pos 1)) ≡ true
+stand_in-can_divide true a b h = h refl
+stand_in-can_divide false a b h = one_divides a
+
+pub stand_in-divided : (f : ℤ → ℤ → ℤ) (t : Bool) (a b : ℤ) → cond t (f a (cond t b (pos 1))) (pos 0) ≡ cond t (f a b) (pos 0)
+stand_in-divided f true a b = refl
+stand_in-divided f false a b = refl

@@ -1,7 +1,7 @@
 -- Lanes of the integers that words stand for.
-use Rattle.std.proofs.Common.{◌≡◌, ◌≢◌, ℕ, zero, suc, ◌<◌, ◌==◌, Bool, true, false, List, [], ◌∷◌, ℤ, pos, cond, map, set, replicate, length, refl, sym, ap, ◌∙◌, subst, arith, w64, SFits, to_z, of_z}
-use Rattle.std.proofs.lemmas.List.{get_or-map, get_or-set_same, get_or-set_other, length-set}
-use Rattle.std.proofs.lemmas.Simd.{get_or-replicate, length-replicate}
+use Rattle.std.proofs.Common.{◌≡◌, ◌≢◌, ℕ, zero, suc, ◌<◌, ◌==◌, Bool, true, false, List, [], ◌∷◌, ℤ, cond, map, set, replicate, length, refl, sym, ap, ◌∙◌, subst, arith, w64, SFits, to_z, of_z}
+use Rattle.std.proofs.lemmas.List.{get_or-set_same, get_or-set_other}
+use Rattle.std.proofs.lemmas.Simd.{get_or-replicate}
 use Rattle.std.proofs.lemmas.Int.{to_z-of_z}
 use Rattle.lb_lanes.specs.Kernels.{lane_of, word_lane}
 

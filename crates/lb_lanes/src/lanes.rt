@@ -9,7 +9,8 @@ ghost use Rattle.lb_lanes.specs.Planes.{IsPlaneOf};
 
 use crate::comparisons::{AtMost, Below, Equal, Outside, tested};
 use crate::operators::{
-    Difference, Division, Exact, Negation, Product, Quotient, Remainder, Sum, commit, run, run_division,
+    Difference, Division, Exact, Negation, Product, Quotient, Remainder, Sum, commit, run,
+    run_division,
 };
 use crate::planes::Plane;
 use std::marker::Model;
@@ -104,9 +105,7 @@ impl IntLanes {
     fn operated<K: Exact>(&self, other: &IntLanes, active: Plane) -> (IntLanes, Plane)
         requires left { AreInts self.now }
         requires right { AreInts other.now }
-        ensures lanes {
-            IsKernel (λ x y. lawful (K.exact x y)) self.now other.now active.0 result.0 result.1.0
-        }
+        ensures lanes { IsKernel (λ x y. lawful (K.exact x y)) self.now other.now active.0 result.0 result.1.0 }
         ensures in_range { AreInts result.0 }
     {
         let mut outcome = (IntLanes { bits: [0; 64] }, Plane(0));
@@ -118,9 +117,7 @@ impl IntLanes {
     fn divided<K: Division>(&self, other: &IntLanes, active: Plane) -> (IntLanes, Plane)
         requires left { AreInts self.now }
         requires right { AreInts other.now }
-        ensures lanes {
-            IsKernel (divided_by K.divided) self.now other.now active.0 result.0 result.1.0
-        }
+        ensures lanes { IsKernel (divided_by K.divided) self.now other.now active.0 result.0 result.1.0 }
         ensures in_range { AreInts result.0 }
     {
         let mut lanes = IntLanes { bits: [0; 64] };

@@ -130,18 +130,14 @@ impl Division for Remainder {
     }
 }
 
-// The word of the result, or 0 if the lane is not to be divided: then 1 stands in for its divisor.
+// The word of the result, or 0 where the lane is not to be divided.
 fn divided_or_zero<K: Division>(x: i32, y: i32, divides: bool) -> u64
-    requires { IsTrue divides → IsTrue (can_divide x y) }
+    requires { IsTrue (can_divide x y) }
     ensures value { cast_signed w64 result ≡ (if divides then K.divided x y else pos 0) }
     ensures in_range { IsTrue (is_int (cast_signed w64 result)) }
 {
-    let divided = K::divide(x, if divides { y } else { 1 });
-    if divides {
-        i64::from(divided).cast_unsigned()
-    } else {
-        0
-    }
+    let divided = i64::from(K::divide(x, y)).cast_unsigned();
+    if divides { divided } else { 0 }
 }
 
 // Puts the 64 lanes after the division into `out`, and gives their faults.
@@ -159,9 +155,12 @@ pub(crate) fn run_division<K: Division>(
 {
     let divisible = tested::<Divisible>(a, b);
     let divides = active & divisible;
+    // In a lane that is not to be divided, 1 stands in for the divisor.
+    let mut divisors = [1; 64];
+    commit(&mut divisors, b, divides);
     for i in 0..64usize {
         let x = a[i].cast_signed() as i32;
-        let y = b[i].cast_signed() as i32;
+        let y = divisors[i].cast_signed() as i32;
         out[i] = divided_or_zero::<K>(x, y, (divides >> (i as u64)) % 2 == 1);
     }
     active & !divisible

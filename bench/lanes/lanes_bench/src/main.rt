@@ -11,7 +11,9 @@ use std::io;
 use std::rt::{Clock, Runtime};
 use std::time::Instant;
 
-const ROUNDS: u64 = 1_000_000;
+const RUNS: u64 = 50;
+
+const ROUNDS: u64 = 20_000;
 
 // About half of the lanes, and all.
 const HALF: u64 = 0xf0f3_1234_89ab_cdef;
@@ -34,15 +36,20 @@ fn filled(seed: u64) -> IntLanes
     lanes
 }
 
-// Times the rounds of one kernel. What they add up to is printed, so that no call is left out.
+// Times the rounds of one kernel, and tells the shortest of some runs. What the rounds add up to
+// is printed too, so that no call is left out.
 macro_rules! timed {
     ($rt:expr, $name:expr, $i:ident, $body:expr) => {{
-        let start = Instant::now($rt)?;
+        let mut shortest = u128::MAX;
         let mut sink = 0u64;
-        for $i in 0..ROUNDS {
-            sink ^= $body;
+        for _ in 0..RUNS {
+            let start = Instant::now($rt)?;
+            for $i in 0..ROUNDS {
+                sink ^= $body;
+            }
+            shortest = shortest.min(start.elapsed($rt)?.as_nanos());
         }
-        told($rt, $name, start, sink)?;
+        told($rt, $name, shortest, sink)?;
     }};
 }
 
@@ -165,8 +172,8 @@ fn search(values: &[i64]) -> bool {
     any_outside(values)
 }
 
-fn told<R: Runtime>(rt: &R, name: &str, start: Instant, sink: u64) -> io::Result<()> {
-    let picoseconds = start.elapsed(rt)?.as_nanos() / 1000;
+fn told<R: Runtime>(rt: &R, name: &str, nanoseconds: u128, sink: u64) -> io::Result<()> {
+    let picoseconds = nanoseconds / (ROUNDS as u128 / 1000);
     println!(rt; "{name} {picoseconds} {sink}")
 }
 

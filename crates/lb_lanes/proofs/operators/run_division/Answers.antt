@@ -1,4 +1,6 @@
-use Rattle.std.proofs.Common.{◌≡◌, ◌≢◌, ℕ, Bool, true, false, not, ◌&&◌, ℤ, cond, pos, refl, ap, ap₂, ◌∙◌, subst, sym, arith, set, below_more, get_or-set_other, get_or-set_same, length-set, w32, w64, to_z, of_z, SFits}
+use Rattle.std.proofs.Common.{◌≡◌, ◌≢◌, ℕ, Bool, true, false, not, ◌&&◌, ℤ, cond, pos, refl, ap, ap₂, ◌∙◌, subst, sym, arith, set, below_more, get_or-set_other, get_or-set_same, length-set, w32, w64, to_z, of_z, SFits, List, replicate, ◌<◌}
+use Rattle.std.proofs.lemmas.Simd.{get_or-replicate}
+use Rattle.lb_lanes.proofs.Divisions.{stand_in-is_int, stand_in-can_divide, stand_in-divided}
 use lib.Bits.{bit_and}
 use Rattle.std.specs.Prelude.{Some, None}
 use Rattle.std.proofs.lemmas.Int.{to_z-of_z}
@@ -33,20 +35,38 @@ faulty_by false can v = refl
 pub overflow_cast-x : goal.overflow_cast-x
 overflow_cast-x g c = cast_fits c.cast_signed-x.result _ (record { sfits = c.cast_signed-x.type_inv }) c.cast_signed-x.ensures (c.requires.left c.loop-i.i c.loop-i-test.true)
 
-pub overflow_cast-y : goal.overflow_cast-y
-overflow_cast-y g c = cast_fits c.cast_signed-y.result _ (record { sfits = c.cast_signed-y.type_inv }) c.cast_signed-y.ensures (c.requires.right c.loop-i.i c.loop-i-test.true)
+-- the divisors that the loop takes
+divisor_at : (divides : ℕ) (b divisors : List ℕ) (i : ℕ) → i < 64
+    → word_lane divisors i ≡ cond (on divides i) (word_lane b i) (word_lane (replicate 64 1) i)
+    → word_lane divisors i ≡ cond (on divides i) (word_lane b i) (pos 1)
+divisor_at divides b divisors i h e = e ∙ ap (λ n. cond (on divides i) (word_lane b i) (to_z w64 n)) (get_or-replicate 64 i 1 0 h)
 
-pub divided_or_zero-requires : goal.divided_or_zero-requires
-unfolding on
-divided_or_zero-requires g c e =
+pub overflow_cast-y : goal.overflow_cast-y
+overflow_cast-y g c =
     let i = c.loop-i.i in
     let h = c.loop-i-test.true in
+    let divides = bit_and c.args.active c.tested-divisible.result in
+    let b = c.args.b.now in
+    cast_fits c.cast_signed-y.result (cond (on divides i) (word_lane b i) (pos 1)) (record { sfits = c.cast_signed-y.type_inv })
+    (c.cast_signed-y.ensures ∙ divisor_at divides b c.commit.new.old i h (c.commit.ensures i h))
+    (stand_in-is_int (on divides i) (word_lane b i) (c.requires.right i h))
+
+pub divided_or_zero-requires : goal.divided_or_zero-requires
+divided_or_zero-requires g c =
+    let i = c.loop-i.i in
+    let h = c.loop-i-test.true in
+    let active = c.args.active in
     let divisible = c.tested-divisible.result in
+    let divides = bit_and active divisible in
+    let a = word_lane c.args.a.now i in
+    let b = word_lane c.args.b.now i in
     ap₂ can_divide
-    (cast_is c.cast_signed-x.result _ (record { sfits = c.cast_signed-x.type_inv }) c.cast_signed-x.ensures (c.requires.left i h))
-    (cast_is c.cast_signed-y.result _ (record { sfits = c.cast_signed-y.type_inv }) c.cast_signed-y.ensures (c.requires.right i h))
-    ∙ sym (c.tested-divisible.ensures i h)
-    ∙ and_right (on c.args.active i) (on divisible i) (sym (on-and c.args.active divisible i) ∙ e)
+    (cast_is c.cast_signed-x.result a (record { sfits = c.cast_signed-x.type_inv }) c.cast_signed-x.ensures (c.requires.left i h))
+    (cast_is c.cast_signed-y.result (cond (on divides i) b (pos 1)) (record { sfits = c.cast_signed-y.type_inv })
+    (c.cast_signed-y.ensures ∙ divisor_at divides c.args.b.now c.commit.new.old i h (c.commit.ensures i h))
+    (stand_in-is_int (on divides i) b (c.requires.right i h)))
+    ∙ stand_in-can_divide (on divides i) a b
+    (λ e. sym (c.tested-divisible.ensures i h) ∙ and_right (on active i) (on divisible i) (sym (on-and active divisible i) ∙ e))
 
 pub loop-i-preserved : goal.loop-i-preserved
 unfolding on
@@ -59,14 +79,17 @@ loop-i-preserved g c =
     let b = λ (k : ℕ). word_lane c.args.b.now k in
     let long = c.loop-i.invariant.long in
     let x = cast_is c.cast_signed-x.result (a i) (record { sfits = c.cast_signed-x.type_inv }) c.cast_signed-x.ensures (c.requires.left i h) in
-    let y = cast_is c.cast_signed-y.result (b i) (record { sfits = c.cast_signed-y.type_inv }) c.cast_signed-y.ensures (c.requires.right i h) in
+    let y = cast_is c.cast_signed-y.result (cond (on divides i) (b i) (pos 1)) (record { sfits = c.cast_signed-y.type_inv })
+    (c.cast_signed-y.ensures ∙ divisor_at divides c.args.b.now c.commit.new.old i h (c.commit.ensures i h))
+    (stand_in-is_int (on divides i) (b i) (c.requires.right i h)) in
     record {
       long = length-set c.loop-i.out i v ∙ long;
       values = below_more
           (λ k. word_lane (set c.loop-i.out i v) k ≡ cond (on divides k) (g.K.Division.divided (a k) (b k)) (pos 0)) i
           (λ k l. let ne : k ≢ i = omega arith in ap (to_z w64) (get_or-set_other c.loop-i.out i k v 0 ne) ∙ c.loop-i.invariant.values k l)
           (ap (to_z w64) (get_or-set_same c.loop-i.out i v 0 (omega (arith, h, long))) ∙ c.divided_or_zero.ensures.value
-          ∙ ap₂ (λ (u w : ℤ). cond (on divides i) (g.K.Division.divided u w) (pos 0)) x y);
+          ∙ ap₂ (λ (u w : ℤ). cond (on divides i) (g.K.Division.divided u w) (pos 0)) x y
+          ∙ stand_in-divided g.K.Division.divided (on divides i) (a i) (b i));
       in_range = below_more
           (λ k. is_int (word_lane (set c.loop-i.out i v) k) ≡ true) i
           (λ k l. let ne : k ≢ i = omega arith in ap (λ n. is_int (to_z w64 n)) (get_or-set_other c.loop-i.out i k v 0 ne) ∙ c.loop-i.invariant.in_range k l)

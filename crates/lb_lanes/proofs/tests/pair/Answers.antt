@@ -1,6 +1,5 @@
 use Rattle.std.proofs.Common.{◌≡◌, ◌==◌, Bool, true, false, cond, ℤ, pos, refl, ap, ◌∙◌, w32, w64, to_z, of_z, SFits}
 use Rattle.std.proofs.lemmas.Int.{to_z-of_z}
-use Rattle.lb_lanes.specs.Kernels.{lane_of}
 use Rattle.lb_lanes.specs.Operators.{is_int}
 use Rattle.lb_lanes.proofs.Words.{int_fits}
 use Rattle.lb_lanes.proofs.tests.pair.Goals as goal
