@@ -7,3 +7,5 @@ pub mod definition;
 pub mod error;
 pub mod kind;
 pub mod verdict;
+#[cfg(test)]
+mod worked;

@@ -9,3 +9,5 @@ pub mod Signature
 pub mod Terms
 pub mod Elaborated
 pub mod Nodes
+pub mod WorkedTrees
+pub mod WorkedStatics

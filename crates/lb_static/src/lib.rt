@@ -4,3 +4,5 @@
 pub mod elab;
 pub mod signature;
 pub mod term;
+#[cfg(test)]
+mod worked;

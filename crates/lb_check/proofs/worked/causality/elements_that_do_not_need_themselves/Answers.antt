@@ -1,0 +1,28 @@
+use Rattle.std.proofs.Common.{[], ◌∷◌, refl}
+use Rattle.lb_static.specs.Instances.{Root}
+use Rattle.lb_check.specs.Needs.{needs}
+use Rattle.lb_check.specs.Verdicts.{Passed}
+use Rattle.lb_check.specs.WorkedSamples.{at, history}
+use Rattle.lb_check.specs.WorkedCausality as worked
+use Rattle.lb_check.proofs.CausalTest.{accepted}
+use Rattle.lb_check.proofs.SolvesTest.{by_history}
+use Rattle.lb_check.proofs.CausalTest.{refused_by}
+use Rattle.lb_check.specs.WorkedSamples.{element_of}
+use Rattle.lb_check.specs.WorkedSamples.{element}
+use Rattle.lb_check.proofs.worked.causality.elements_that_do_not_need_themselves.Goals as goal
+
+pub returns : goal.returns
+unfolding needs
+returns c = record {
+  result_as_an_argument = (accepted worked.one_after_the_other).shows refl;
+  through_pre = (accepted worked.through_pre).shows refl;
+  through_fby = (accepted worked.through_fby).shows refl;
+  elements_of_one_array = (accepted worked.elements_of_one_array).shows refl;
+  they_have_values = by_history _ _ Passed (history (
+      at Root "c f; A 1; A 1; A 1; ok t" ∷ [])) refl refl;
+  two_elements_in_a_circle =
+      (refused_by worked.one_array_in_a_circle (element_of Root "A" 0 ∷ element_of Root "A" 1
+      ∷ [])).shows refl;
+  iterated_array = (accepted worked.iterated_array).shows refl;
+  loop_on_a_slower_clock = (accepted worked.slower_loop).shows refl;
+}

@@ -1,0 +1,19 @@
+use Rattle.std.proofs.Common.{[], ◌∷◌, refl}
+use Rattle.lb_static.specs.Instances.{Root}
+use Rattle.lb_check.specs.Needs.{needs}
+use Rattle.lb_check.specs.Verdicts.{Fault, Passed}
+use Rattle.lb_check.specs.WorkedSamples.{at, history}
+use Rattle.lb_check.specs.WorkedScalars as worked
+use Rattle.lb_check.proofs.CausalTest.{accepted}
+use Rattle.lb_check.proofs.SolvesTest.{by_history}
+use Rattle.lb_check.proofs.worked.scalars.a_fault_in_what_is_not_needed.Goals as goal
+
+pub returns : goal.returns
+unfolding needs
+returns c = record {
+  accepted = (accepted worked.chosen_branch).shows refl;
+  branch_not_chosen = by_history _ _ Passed (history (
+      at Root "n 5; d 0; ok t; q 0" ∷ [])) refl refl;
+  under_and = by_history _ _ (Fault 0) (history (
+      at Root "n 5; d 0; ok !" ∷ [])) refl refl;
+}

@@ -1,0 +1,18 @@
+use Rattle.std.proofs.Common.{[], ◌∷◌, refl}
+use Rattle.lb_static.specs.Instances.{Root}
+use Rattle.lb_check.specs.Verdicts.{Fault, Passed}
+use Rattle.lb_check.specs.WorkedSamples.{at, history}
+use Rattle.lb_check.proofs.SolvesTest.{by_history}
+use Rattle.lb_check.proofs.worked.scalars.the_least_integer_by_minus_one.Goals as goal
+
+pub returns : goal.returns
+returns c = record {
+  divided = by_history _ _ (Fault 0) (history (
+      at Root "x -2147483648; ok t; y !" ∷ [])) refl refl;
+  remainder = by_history _ _ (Fault 0) (history (
+      at Root "x -2147483648; ok t; y !" ∷ [])) refl refl;
+  negated = by_history _ _ (Fault 0) (history (
+      at Root "x -2147483648; ok t; y !" ∷ [])) refl refl;
+  negation_of_the_greatest = by_history _ _ Passed (history (
+      at Root "x 2147483647; ok t; y -2147483647" ∷ [])) refl refl;
+}

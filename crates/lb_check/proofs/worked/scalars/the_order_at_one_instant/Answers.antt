@@ -1,0 +1,16 @@
+use Rattle.std.proofs.Common.{[], ◌∷◌, refl}
+use Rattle.lb_static.specs.Instances.{Root}
+use Rattle.lb_check.specs.Verdicts.{Assertion_fails, False, Fault}
+use Rattle.lb_check.specs.WorkedSamples.{at, history}
+use Rattle.lb_check.proofs.SolvesTest.{by_history}
+use Rattle.lb_check.proofs.worked.scalars.the_order_at_one_instant.Goals as goal
+
+pub returns : goal.returns
+returns c = record {
+  fault_first = by_history _ _ (Fault 0) (history (
+      at Root "x 0; ok f; y !" ∷ [])) refl refl;
+  assertion_next = by_history _ _ (Assertion_fails 0) (history (
+      at Root "x 0; ok f; y 10" ∷ [])) refl refl;
+  property_last = by_history _ _ (False 0) (history (
+      at Root "x 0; ok f; y 10" ∷ [])) refl refl;
+}

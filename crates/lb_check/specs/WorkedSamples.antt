@@ -1,0 +1,94 @@
+-- Short ways to write the traces of worked examples, and the histories that solve them.
+-- Source: this project's words.
+use Rattle.std.specs.Prelude.{ℕ, Bool, true, false, ◌&&◌, nat_eq, Option, Some, None, List, [], ◌∷◌, map, filter, length, slice_get, replicate, codes, find, if◌then◌else◌}
+use Rattle.std.specs.Str.{bytes_eq}
+use Rattle.std.specs.Str.Parse.{signed_digits_value}
+use Prim.Native.String.{String}
+use Rattle.lb_syntax.specs.Lists.{or_else, heads, listed, some_of, tail_of}
+use Rattle.lb_syntax.specs.Tree.{Name}
+use Rattle.lb_static.specs.StaticValues.{named}
+use Rattle.lb_static.specs.WorkedTrees.{pieces, words}
+use Rattle.lb_static.specs.Instances.{Path, Root, Observer, Child}
+use Rattle.lb_check.specs.Scalars.{Scalar, Integer, Boolean, Bad, Cell, Stream}
+use Rattle.lb_check.specs.Streams.{History}
+use Rattle.lb_check.specs.Solutions.{Inputs}
+use Rattle.lb_check.specs.Needs.{Element}
+
+-- ## Cells as they are written
+
+-- the parts of a text, parted by semicolons
+abbrev parts : String → List (List ℕ)
+parts text = pieces 59 (codes text)
+
+-- a cell: `.` for absent, `t` and `f` for true and false, `!` for the value of a fault, or a
+-- whole number
+abbrev cell : List ℕ → Cell
+cell w =
+    if bytes_eq w (codes ".") then None else
+    if bytes_eq w (codes "t") then Some (Boolean true) else
+    if bytes_eq w (codes "f") then Some (Boolean false) else
+    if bytes_eq w (codes "!") then Some Bad else
+    Some (Integer (signed_digits_value 10 w))
+
+-- ## Traces
+
+-- the instants of a trace, each the scalars of the inputs, as `1 t; -5 f`
+abbrev pub trace : String → Inputs
+trace text = map (λ row. some_of (map cell (words row))) (parts text)
+
+-- ## Histories
+
+-- a variable's name and then its cells, instant by instant, as `n 0 5 11`
+abbrev column : List ℕ → Name × Stream
+column line = let ws = words line in (heads ws, map cell (tail_of ws))
+
+-- an instance: the instants at which it runs, and the streams of its variables, those of the
+-- elements of an array in order, each under the variable's name
+pub record Part : Type 0 where
+  pub path : Path
+  pub ticks : List Bool
+  pub columns : List (Name × Stream)
+
+abbrev truths : String → List Bool
+truths text = map (λ w. bytes_eq w (codes "t")) (words (codes text))
+
+-- an instance that runs where the first text has `t`
+abbrev pub running : String → Path → String → Part
+running ticks p text = record { path = p; ticks = truths ticks; columns = map column (parts text) }
+
+-- an instance that runs at every instant
+abbrev pub at : Path → String → Part
+at p text =
+    let columns = map column (parts text) in
+    let count = length (listed (λ c. c.1) (slice_get columns 0)) in
+    record { path = p; ticks = replicate count true; columns = columns }
+
+abbrev pub is_path : Path → Path → Bool
+is_path Root Root = true
+is_path Observer Observer = true
+is_path (Child p c i) (Child q d j) = nat_eq c d && (nat_eq i j && is_path p q)
+is_path _ _ = false
+
+abbrev part_at : List Part → Path → Option Part
+part_at told p = find (λ part. is_path part.path p) told
+
+-- the streams of the columns of this name
+abbrev columns_named : Name → Part → List Stream
+columns_named x part = map (λ c. c.1) (filter (λ c. bytes_eq c.0 x) part.columns)
+
+-- what is told of some instances, the node under test first; where nothing is told of the
+-- observer, it runs as the node under test does
+abbrev pub history : List Part → History
+history told = record {
+  ticks = λ p. listed (λ part. part.ticks) (or_else (part_at told p) (slice_get told 0));
+  columns = λ p x. listed (columns_named x) (part_at told p);
+}
+
+-- ## Elements
+
+-- one scalar element of a variable of an instance, and a variable that is a scalar
+abbrev pub element_of : Path → String → ℕ → Element
+element_of p x i = record { path = p; variable = codes x; index = i }
+
+abbrev pub element : Path → String → Element
+element p x = element_of p x 0
