@@ -1,5 +1,5 @@
 -- Facts with tests: where the test is passed, the fact holds.
-use Rattle.std.proofs.Common.{◌≡◌, ℕ, zero, suc, Bool, true, false, ◌&&◌, nat_eq, Option, Some, None, IfSome, List, [], ◌∷◌, refl, ap}
+use Rattle.std.proofs.Common.{◌≡◌, ℕ, Bool, true, false, ◌&&◌, ◌||◌, nat_eq, Option, Some, None, IfSome, List, [], ◌∷◌, refl, ap}
 use Rattle.std.specs.Ordering.{int_eq}
 use Rattle.std.specs.Prelude.{ℤ}
 use Rattle.std.specs.Str.{bytes_eq}
@@ -8,7 +8,7 @@ use Rattle.std.proofs.lemmas.Bool.Decides.{Decides-int_eq}
 use Rattle.std.proofs.lemmas.Slice.Eq.{bytes_eq-Decides}
 use Rattle.lb_syntax.specs.Lists.{Every}
 use Rattle.lb_syntax.specs.Tree.{Name}
-use Rattle.lb_check.specs.Scalars.{Scalar, Integer, Boolean, Bad, Cell, Stream, same}
+use Rattle.lb_check.specs.Scalars.{Scalar, Integer, Boolean, Bad, Cell, Stream}
 
 -- a test whose passing shows a fact
 pub record Test (A : Type 0) : Type 0 where
@@ -24,6 +24,11 @@ and_first false b e = cc
 pub and_second : (a b : Bool) → (a && b) ≡ true → b ≡ true
 and_second true b e = e
 and_second false b e = cc
+
+pub or_shows :
+    {C : Type 0} (a b : Bool) → (a ≡ true → C) → (b ≡ true → C) → (a || b) ≡ true → C
+or_shows true b f g e = f refl
+or_shows false b f g e = g e
 
 pub absurd_false : {A : Type 0} → false ≡ true → A
 absurd_false e = absurd cc
@@ -43,17 +48,30 @@ so f t = record { passed = t.passed; shows = λ e. f (t.shows e) }
 
 abbrev pub both : {A B : Type 0} → Test A → Test B → Test (A × B)
 both s t = record {
-  passed = s.passed && t.passed;
-  shows = λ e. (s.shows (and_first s.passed t.passed e), t.shows (and_second s.passed t.passed e));
-}
+    passed = s.passed && t.passed;
+    shows = λ e.
+    (s.shows (and_first s.passed t.passed e), t.shows (and_second s.passed t.passed e)) }
 
-abbrev pub each : {A : Type 0} (P : A → Type 0) → ((x : A) → Test (P x)) → (xs : List A) → Test (Every P xs)
+-- a fact that follows from either of two
+abbrev pub one_or_other : {A B C : Type 0} → (A → C) → (B → C) → Test A → Test B → Test C
+one_or_other f g s t = record {
+    passed = s.passed || t.passed;
+    shows = or_shows s.passed t.passed (λ e. f (s.shows e)) (λ e. g (t.shows e)) }
+
+abbrev pub each :
+    {A : Type 0} (P : A → Type 0) → ((x : A) → Test (P x)) → (xs : List A) → Test (Every P xs)
 each P t [] = holds tt
 each P t (x ∷ xs) = both (t x) (each P t xs)
 
-abbrev pub if_some : {A : Type 0} (P : A → Type 0) → ((x : A) → Test (P x)) → (o : Option A) → Test (IfSome o P)
+abbrev pub if_some :
+    {A : Type 0} (P : A → Type 0) → ((x : A) → Test (P x)) → (o : Option A) →
+    Test (IfSome o P)
 if_some P t None = holds tt
 if_some P t (Some x) = t x
+
+abbrev pub is_none : {A : Type 0} → (o : Option A) → Test (o ≡ None)
+is_none None = holds refl
+is_none (Some x) = fails
 
 -- ## Equal values
 
@@ -82,10 +100,12 @@ equal_cells None None = holds refl
 equal_cells (Some v) (Some w) = so (ap Some) (equal_scalars v w)
 equal_cells x y = fails
 
-pub cons_equal : {A : Type 0} (x y : A) (xs ys : List A) → (x ≡ y) × (xs ≡ ys) → (x ∷ xs) ≡ (y ∷ ys)
-cons_equal x y xs ys e = let a : x ≡ y = e.0 in let b : xs ≡ ys = e.1 in cc
+pub cons_equal :
+    {A : Type 0} (x y : A) (xs ys : List A) → (x ≡ y) × (xs ≡ ys) → (x ∷ xs) ≡ (y ∷ ys)
+cons_equal x y xs ys e = let first : x ≡ y = e.0 in let rest : xs ≡ ys = e.1 in cc
 
-abbrev pub equal_lists : {A : Type 0} → ((x y : A) → Test (x ≡ y)) → (xs ys : List A) → Test (xs ≡ ys)
+abbrev pub equal_lists :
+    {A : Type 0} → ((x y : A) → Test (x ≡ y)) → (xs ys : List A) → Test (xs ≡ ys)
 equal_lists t [] [] = holds refl
 equal_lists t (x ∷ xs) (y ∷ ys) = so (cons_equal x y xs ys) (both (t x y) (equal_lists t xs ys))
 equal_lists t xs ys = fails
