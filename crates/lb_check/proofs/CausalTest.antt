@@ -1,14 +1,14 @@
 -- Tests of causality: an order in which each element comes after all that it needs, and a cycle of
 -- elements that each need the next.
-use Rattle.std.proofs.Common.{◌≡◌, ℕ, zero, suc, ◌<◌, inl, inr, Bool, true, ◌&&◌, ◌||◌, not, nat_lt, if◌then◌else◌, List, [], ◌∷◌, length, map, None, Some, refl, subst, arith}
+use Rattle.std.proofs.Common.{◌≡◌, ℕ, zero, suc, ◌<◌, inl, inr, Bool, true, ◌&&◌, ◌||◌, not, nat_lt, if◌then◌else◌, List, [], ◌∷◌, length, map, Some, refl, subst, arith}
 use Rattle.std.specs.List.{list_all, list_any}
-use Rattle.lb_syntax.specs.Lists.{In}
+use Rattle.lb_syntax.specs.Lists.{Every, In}
 use Rattle.lb_syntax.specs.Refusals.{E13}
 use Rattle.lb_syntax.specs.Tree.{Name}
 use Rattle.lb_static.specs.Instances.{Program, Path, Root, Observer, Child}
 use Rattle.lb_check.specs.Needs.{Element, Definition, definitions, Needs, Reaches, at_once, through, IsCausal, IsCyclic}
 use Rattle.lb_check.specs.Acceptance.{refusal, IsAccepted, IsFirst}
-use Rattle.lb_check.proofs.Tests.{Test, holds, fails, so, both, one_or_other, is_none, and_first, and_second, equal_nats, equal_names}
+use Rattle.lb_check.proofs.Tests.{Test, holds, fails, so, both, each, one_or_other, is_none, and_first, and_second, equal_nats, equal_names}
 
 -- ## The same element
 
@@ -165,3 +165,6 @@ module _ (P : Program) where
   -- whether it keeps every rule but that of causality, by this cycle
   abbrev pub refused_by : List Element → Test (IsFirst P (Some E13))
   refused_by xs = both (is_none (refusal P)) (cyclic xs)
+
+abbrev pub all_accepted : (Ps : List Program) → Test (Every IsAccepted Ps)
+all_accepted Ps = each IsAccepted accepted Ps

@@ -6,7 +6,7 @@ use Rattle.lb_syntax.specs.Lists.{Every}
 use Rattle.lb_syntax.specs.Tree.{Name, Node_named, Expr, Call, Iterate, Exprs, Declaration, Node, Statement, Equation, Assertion}
 use Rattle.lb_static.specs.Instances.{Program, Instance, Path, Root, Observer, Child, instance_at, node_named, instances}
 use Rattle.lb_static.specs.Shapes.{variables, width, input_kinds}
-use Rattle.lb_check.specs.Scalars.{Scalar, Stream}
+use Rattle.lb_check.specs.Scalars.{Stream}
 use Rattle.lb_check.specs.Clocks.{Clock, base_clock, argument_clocks}
 use Rattle.lb_check.specs.Occurrences.{Occurrence, node_occurrences, statements}
 use Rattle.lb_check.specs.Streams.{History, presence, all_streams, argument_streams, number}
@@ -106,12 +106,13 @@ module _ (P : Program) (X : Inputs) (H : History) where
   abbrev pub solves : Test (Solves P X H)
   solves =
       so (λ s. record {
-      rows = s.0;
-      root_runs = s.1.0;
-      observer_runs = s.1.1.0;
-      inputs = s.1.1.1.0;
-      observed = s.1.1.1.1.0;
-      instances = s.1.1.1.1.1 })
+        rows = s.0;
+        root_runs = s.1.0;
+        observer_runs = s.1.1.0;
+        inputs = s.1.1.1.0;
+        observed = s.1.1.1.1.0;
+        instances = s.1.1.1.1.1;
+      })
       (both lawful_rows
       (both (equal_ticks (H.ticks Root) (replicate (length X) true))
       (both (equal_ticks (H.ticks Observer) (replicate (length X) true))

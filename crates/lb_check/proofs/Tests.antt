@@ -48,15 +48,17 @@ so f t = record { passed = t.passed; shows = λ e. f (t.shows e) }
 
 abbrev pub both : {A B : Type 0} → Test A → Test B → Test (A × B)
 both s t = record {
-    passed = s.passed && t.passed;
-    shows = λ e.
-    (s.shows (and_first s.passed t.passed e), t.shows (and_second s.passed t.passed e)) }
+  passed = s.passed && t.passed;
+  shows = λ e.
+      (s.shows (and_first s.passed t.passed e), t.shows (and_second s.passed t.passed e));
+}
 
 -- a fact that follows from either of two
 abbrev pub one_or_other : {A B C : Type 0} → (A → C) → (B → C) → Test A → Test B → Test C
 one_or_other f g s t = record {
-    passed = s.passed || t.passed;
-    shows = or_shows s.passed t.passed (λ e. f (s.shows e)) (λ e. g (t.shows e)) }
+  passed = s.passed || t.passed;
+  shows = or_shows s.passed t.passed (λ e. f (s.shows e)) (λ e. g (t.shows e));
+}
 
 abbrev pub each :
     {A : Type 0} (P : A → Type 0) → ((x : A) → Test (P x)) → (xs : List A) → Test (Every P xs)

@@ -9,8 +9,9 @@ ordered zero zero = inr (inl refl)
 ordered zero (suc u) = inl (omega arith)
 ordered (suc t) zero = inr (inr (omega arith))
 ordered (suc t) (suc u) = elim (ordered t u) [
-      inl lt ↦ inl (omega arith)
-    | inr r ↦ elim r [ inl e ↦ inr (inl (ap suc e)) | inr gt ↦ inr (inr (omega arith)) ] ]
+  | inl lt ↦ inl (omega arith)
+  | inr r ↦ elim r [ inl e ↦ inr (inl (ap suc e)) | inr gt ↦ inr (inr (omega arith)) ]
+]
 
 apart : {A : Type 0} (b : Bool) → b ≡ true → b ≡ false → A
 apart true p q = absurd cc
@@ -22,10 +23,12 @@ module _ (P : Program) (H : History) (count : ℕ) where
   -- the least instant is one
   least : (t u : ℕ) → IsLeast P H count t → IsLeast P H count u → t ≡ u
   least t u a b = elim (ordered t u) [
-        inl lt ↦ apart (decides P H t) a.happens (b.not_before t lt)
-      | inr r ↦ elim r [
-          inl e ↦ e
-        | inr gt ↦ apart (decides P H u) b.happens (a.not_before u gt) ] ]
+    | inl lt ↦ apart (decides P H t) a.happens (b.not_before t lt)
+    | inr r ↦ elim r [
+      | inl e ↦ e
+      | inr gt ↦ apart (decides P H u) b.happens (a.not_before u gt)
+    ]
+  ]
 
   none : {A : Type 0} (t : ℕ) → Ends P H count Passed → IsLeast P H count t → A
   none t p a = apart (decides P H t) a.happens (p t a.within)
@@ -65,10 +68,12 @@ module _ (P : Program) (H : History) (count : ℕ) where
 
   quiet_on : (t : ℕ) → Quiet t → decides P H t ≡ false → Quiet (suc t)
   quiet_on t q e s lt = elim (ordered s t) [
-        inl less ↦ q s less
-      | inr r ↦ elim r [
-          inl same ↦ subst (λ u. decides P H u ≡ false) (sym same) e
-        | inr more ↦ absurd (omega arith) ] ]
+    | inl less ↦ q s less
+    | inr r ↦ elim r [
+      | inl same ↦ subst (λ u. decides P H u ≡ false) (sym same) e
+      | inr more ↦ absurd (omega arith)
+    ]
+  ]
 
   -- from an instant before which nothing happened
   step :

@@ -1,6 +1,6 @@
 -- Programs with arrays, iterators and an observer.
 -- Source: this project's rule.
-use Rattle.std.specs.Prelude.{true, List, [], ◌∷◌}
+use Rattle.std.specs.Prelude.{true, [], ◌∷◌}
 use Rattle.lb_syntax.specs.declared.tree.BinaryOperator.TheVariants.{And, Equal, Unequal, Less, Greater, AtLeast, Plus, Minus, Times, Divide}
 use Rattle.lb_syntax.specs.declared.tree.ArrayIterator.TheVariants.{Map, Red, Fill}
 use Rattle.lb_syntax.specs.Tree.{Whole, Combined, Literal, Truth, Group, Binary, If, Arrow, Fby, Pre, Copies, Index, Slice, Join, Array, Assertion, Node}
@@ -28,7 +28,7 @@ up = node "up" (int_var "a" ∷ []) (int_var "b" ∷ int_var "e" ∷ []) []
     (equation "b" (Binary Times (v "a") (Literal 2))
     ∷ equation "e" (Binary Plus (v "a") (Literal 1)) ∷ [])
 
--- (and the node `cnt`)
+-- with the node `cnt` above:
 -- node main(A: int^3; b: int) returns (ok: bool);
 -- var S: int^3;
 -- let S = map<<cnt,3>>(A); ok = red<<+,3>>(0, S) = b; tel
@@ -40,7 +40,7 @@ counters = program [] (
     ∷ equation "ok" (Binary Equal (iterate_symbol Red Plus (Whole 3) (Literal 0 ∷ v "S" ∷ []))
     (v "b")) ∷ []) ∷ [])
 
--- (and the node `dg`)
+-- with the node `dg` above:
 -- node main(A: int^3; b: int) returns (ok: bool);
 -- let ok = red<<dg,3>>(0, A) = b; tel
 abbrev pub digits : Program
@@ -67,8 +67,8 @@ pairs = alone (main (int_array "A" (Whole 2 ∷ []) ∷ int_array "B" (Whole 2 �
     ∷ equation "ok" (Binary And (Binary Equal (Index (v "C") (Whole 0)) (v "p")) (Binary Equal
     (Index (v "C") (Whole 1)) (v "q"))) ∷ []))
 
--- (and the node `dg`)
--- (and the node `up`)
+-- with the node `dg` above:
+-- with the node `up` above:
 -- node main(x: int) returns (ok: bool);
 -- var z: int; B: int^3;
 -- let
@@ -84,7 +84,7 @@ unrolled = program [] (
     ∷ equation "ok" (Binary And (Binary Equal (v "z") (Literal 8)) (Binary Equal (iterate Red "dg"
     (Whole 3) (Literal 0 ∷ v "B" ∷ [])) (Literal 235))) ∷ []) ∷ [])
 
--- (and the node `up`)
+-- with the node `up` above:
 -- node main(A: int^2; e: int) returns (ok: bool);
 -- var B, C: int^2;
 -- let (B, C) = map<<up,2>>(A); ok = B[0] + 10 * B[1] + 100 * C[0] + 1000 * C[1] = e; tel
@@ -105,7 +105,7 @@ far_steps = trace "2147483647 -2147483647 3 7; -2147483648 2147483647 3 7"
 
 -- ## Forms of arrays
 
--- (and the node `dg`)
+-- with the node `dg` above:
 -- node main(A: int^3; x, e: int) returns (ok: bool);
 -- var B: int^3;
 -- let B = A[1..2] | [x]; ok = red<<dg,3>>(0, B) = e; tel
@@ -207,7 +207,7 @@ two = node "two" (int_var "a" ∷ int_var "b" ∷ []) (int_var "p" ∷ int_var "
     (equation "p" (Binary Plus (v "a") (Literal 1))
     ∷ equation "q" (Binary Times (v "b") (Literal 2)) ∷ [])
 
--- (and the node `two`)
+-- with the node `two` above:
 -- node main(x, e: int) returns (ok: bool);
 -- var p, q: int;
 -- let (p, q) = two(x, p); ok = q = e; tel
@@ -251,7 +251,7 @@ abbrev pub inverse : Node
 inverse = node "inverse" (int_var "x" ∷ []) (int_var "y" ∷ []) []
     (equation "y" (Binary Divide (Literal 10) (v "x")) ∷ [])
 
--- (and the node `inverse`)
+-- with the node `inverse` above:
 -- node main(c: bool; x: int) returns (ok: bool);
 -- let ok = if c then true else inverse(x) = 1; tel
 abbrev pub call_not_chosen : Program

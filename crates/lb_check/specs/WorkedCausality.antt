@@ -1,6 +1,6 @@
 -- Programs with and without an element that needs itself.
 -- Source: this project's rule.
-use Rattle.std.specs.Prelude.{true, List, [], ◌∷◌}
+use Rattle.std.specs.Prelude.{true, [], ◌∷◌}
 use Rattle.lb_syntax.specs.declared.tree.BinaryOperator.TheVariants.{Equal, Less, Plus, Minus, Times}
 use Rattle.lb_syntax.specs.declared.tree.ArrayIterator.TheVariants.{Fill}
 use Rattle.lb_syntax.specs.Tree.{Whole, Literal, Truth, Group, Binary, If, Arrow, Fby, Pre, Current, Index, Slice, Join, Array, Node}
@@ -74,7 +74,7 @@ two = node "two" (int_var "a" ∷ int_var "b" ∷ []) (int_var "p" ∷ int_var "
     (equation "p" (Binary Plus (v "a") (Literal 1))
     ∷ equation "q" (Binary Times (v "b") (Literal 2)) ∷ [])
 
--- (and the node `two`)
+-- with the node `two` above:
 -- node main(x, e: int) returns (ok: bool);
 -- var p, q: int;
 -- let (p, q) = two(q, p); ok = q = e; tel
@@ -96,7 +96,7 @@ through_the_observer = bench "plant" "obs" (
 
 -- ## No cycles
 
--- (and the node `two`)
+-- with the node `two` above:
 -- node main(x, e: int) returns (ok: bool);
 -- var p, q: int;
 -- let (p, q) = two(x, p); ok = q = e; tel

@@ -1,6 +1,6 @@
 -- Programs with slower clocks.
 -- Source: this project's rule.
-use Rattle.std.specs.Prelude.{true, List, [], ◌∷◌}
+use Rattle.std.specs.Prelude.{true, [], ◌∷◌}
 use Rattle.lb_syntax.specs.declared.tree.BinaryOperator.TheVariants.{Equal, Less, Greater, Plus, Times, Divide}
 use Rattle.lb_syntax.specs.declared.tree.ArrayIterator.TheVariants.{Map}
 use Rattle.lb_syntax.specs.Tree.{Whole, Literal, Truth, Group, Binary, Arrow, Pre, Current, Index, Array, Assertion, Node}
@@ -14,7 +14,7 @@ abbrev pub cnt : Node
 cnt = node "cnt" (int_var "x" ∷ []) (int_var "n" ∷ []) []
     (equation "n" (Arrow (v "x") (Binary Plus (Pre (v "n")) (v "x"))) ∷ [])
 
--- (and the node `cnt`)
+-- with the node `cnt` above:
 -- node main(c: bool; x, e: int) returns (ok: bool);
 -- var m: int;
 -- let m = current (cnt(x when c)); ok = m = e; tel
@@ -74,7 +74,7 @@ abbrev pub f : Node
 f = node "f" (bool_var "c" ∷ on_true (int_var "y") "c" ∷ []) (on_true (int_var "z") "c" ∷ []) []
     (equation "z" (v "y") ∷ [])
 
--- (and the node `f`)
+-- with the node `f` above:
 -- node main(c: bool; x: int) returns (ok: bool);
 -- var w: int when c;
 -- let w = f(c, x when c); ok = true; tel
@@ -85,7 +85,7 @@ clocked_result = program [] (
     (equation "w" (call "f" (v "c" ∷ when_true (v "x") "c" ∷ []))
     ∷ equation "ok" (Truth true) ∷ []) ∷ [])
 
--- (and the node `f`)
+-- with the node `f` above:
 -- node main(c: bool; x, e: int) returns (ok: bool);
 -- var w: int;
 -- let w = current f(((c)), x when c); ok = w = e; tel
@@ -96,7 +96,7 @@ current_of_a_result = program [] (
     (equation "w" (Current (call "f" (Group (Group (v "c")) ∷ when_true (v "x") "c" ∷ [])))
     ∷ equation "ok" (Binary Equal (v "w") (v "e")) ∷ []) ∷ [])
 
--- (and the node `f`)
+-- with the node `f` above:
 -- node main(c: bool; x: int) returns (ok: bool);
 -- var w: int when c;
 -- let w = f(true, x); ok = true; tel
@@ -107,7 +107,7 @@ truth_for_a_clock = program [] (
     (equation "w" (call "f" (Truth true ∷ v "x" ∷ []))
     ∷ equation "ok" (Truth true) ∷ []) ∷ [])
 
--- (and the node `f`)
+-- with the node `f` above:
 -- node main(c, d: bool; x: int) returns (ok: bool);
 -- var w: int when c;
 -- let w = f(c, x when d); ok = true; tel
@@ -118,7 +118,7 @@ other_clock_for_an_argument = program [] (
     (equation "w" (call "f" (v "c" ∷ when_true (v "x") "d" ∷ []))
     ∷ equation "ok" (Truth true) ∷ []) ∷ [])
 
--- (and the node `f`)
+-- with the node `f` above:
 -- node main(c: bool; x: int) returns (ok: bool);
 -- var w: int;
 -- let w = current f(c = c, x when c); ok = true; tel
@@ -135,7 +135,7 @@ split = node "split" (int_var "x" ∷ []) (bool_var "c" ∷ on_true (int_var "y"
     (equation "c" (Binary Greater (v "x") (Literal 0))
     ∷ equation "y" (when_true (v "x") "c") ∷ [])
 
--- (and the node `split`)
+-- with the node `split` above:
 -- node main(x, e: int) returns (ok: bool);
 -- var d: bool; z: int when d; m: int;
 -- let (d, z) = split(x); m = current z; ok = m = e; tel
@@ -148,7 +148,7 @@ clock_among_results = program [] (
     ∷ equation "m" (Current (v "z"))
     ∷ equation "ok" (Binary Equal (v "m") (v "e")) ∷ []) ∷ [])
 
--- (and the node `split`)
+-- with the node `split` above:
 -- node main(x, e: int) returns (ok: bool);
 -- var d, b: bool; z: int when b;
 -- let (d, z) = split(x); b = true; ok = true; tel
@@ -167,7 +167,7 @@ g = node "g" (bool_var "c" ∷ bool_var "d" ∷ on_true (int_var "x") "c" ∷ on
     ∷ []) (on_true (int_var "z") "c" ∷ []) []
     (equation "z" (v "x") ∷ [])
 
--- (and the node `g`)
+-- with the node `g` above:
 -- node main(a: bool; x: int) returns (ok: bool);
 -- var w: int when a;
 -- let w = g(a, a, x when a, x when a); ok = true; tel
@@ -191,7 +191,7 @@ two_parameters_are_two_clocks = program [] (
     (equation "w" (call "g" (v "a" ∷ v "a" ∷ when_true (v "x") "a" ∷ when_true (v "x") "a" ∷ []))
     ∷ equation "ok" (Truth true) ∷ []) ∷ [])
 
--- (and the node `f`)
+-- with the node `f` above:
 -- node main(c: bool; e: int) returns (ok: bool);
 -- var w: int;
 -- let w = current f(c, 3); ok = w = e; tel
@@ -211,7 +211,7 @@ inner = node "inner" (bool_var "c" ∷ int_var "x" ∷ []) (int_var "y" ∷ []) 
     (equation "z" (when_true (v "x") "c")
     ∷ equation "y" (Current (v "z")) ∷ [])
 
--- (and the node `inner`)
+-- with the node `inner` above:
 -- node main(x, e: int) returns (ok: bool);
 -- let ok = inner(x > 0, x) = e; tel
 abbrev pub any_expression_for_an_inner_clock : Program
@@ -228,7 +228,7 @@ abbrev pub ticks : Node
 ticks = node "ticks" [] (int_var "n" ∷ []) []
     (equation "n" (Arrow (Literal 1) (Binary Plus (Pre (v "n")) (Literal 1))) ∷ [])
 
--- (and the node `ticks`)
+-- with the node `ticks` above:
 -- node main(c: bool; e: int) returns (ok: bool);
 -- var n: int when c; m: int;
 -- let n = ticks(); m = current n; ok = m = e; tel
@@ -240,7 +240,7 @@ slower_call_without_arguments = program [] (
     ∷ equation "m" (Current (v "n"))
     ∷ equation "ok" (Binary Equal (v "m") (v "e")) ∷ []) ∷ [])
 
--- (and the node `ticks`)
+-- with the node `ticks` above:
 -- node main(c: bool) returns (ok: bool);
 -- var m: int;
 -- let m = current ticks(); ok = true; tel
@@ -352,7 +352,7 @@ abbrev pub pos : Node
 pos = node "pos" (int_var "x" ∷ []) (bool_var "p" ∷ []) []
     (equation "p" (Binary Greater (v "x") (Literal 0)) ∷ [])
 
--- (and the node `pos`)
+-- with the node `pos` above:
 -- node main(x: int) returns (ok: bool);
 -- let assert pos(x); ok = x < 3; tel
 abbrev pub asserted_call : Program
@@ -373,7 +373,7 @@ slower_arrays = alone (main (bool_var "c" ∷ int_array "A" (Whole 2 ∷ []) ∷
     ∷ equation "ok" (Binary Equal (Binary Plus (Binary Times (Index (v "C") (Whole 0)) (Literal 10))
     (Index (v "C") (Whole 1))) (v "e")) ∷ []))
 
--- (and the node `f`)
+-- with the node `f` above:
 -- node main(c: bool^2; x: int^2) returns (ok: bool);
 -- var w: int^2;
 -- let w = map<<f,2>>(c, x); ok = true; tel

@@ -1,13 +1,11 @@
 -- Programs at the limits of levels, instances and size.
 -- Source: this project's rule.
-use Rattle.std.specs.Prelude.{true, List, [], ◌∷◌}
+use Rattle.std.specs.Prelude.{true, List, [], ◌∷◌, ℕ, zero, suc, ◌+◌, replicate}
 use Rattle.lb_syntax.specs.declared.tree.BinaryOperator.TheVariants.{And, Equal}
 use Rattle.lb_syntax.specs.declared.tree.ArrayIterator.TheVariants.{Map}
-use Rattle.lb_syntax.specs.Tree.{Whole, Truth, Binary, Copies, Index, Node, Call}
+use Rattle.lb_syntax.specs.Tree.{Whole, Truth, Binary, Copies, Index, Node, Call, Name, Expr}
 use Rattle.lb_static.specs.Instances.{Program}
 use Rattle.lb_static.specs.WorkedTrees.{v, exprs, iterate, int_var, int_array, equation, node, main, program, alone}
-use Rattle.std.specs.Prelude.{ℕ, zero, suc, ◌+◌, replicate}
-use Rattle.lb_syntax.specs.Tree.{Name, Expr}
 
 -- ## Levels
 

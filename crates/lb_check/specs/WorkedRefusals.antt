@@ -1,6 +1,6 @@
 -- Programs that are refused, and near ones that are not.
 -- Source: this project's rule.
-use Rattle.std.specs.Prelude.{true, List, [], ◌∷◌}
+use Rattle.std.specs.Prelude.{true, [], ◌∷◌}
 use Rattle.lb_syntax.specs.declared.tree.BinaryOperator.TheVariants.{Equal, Less, Plus, Times, Divide}
 use Rattle.lb_syntax.specs.declared.tree.ArrayIterator.TheVariants.{Map, Red, Fill}
 use Rattle.lb_syntax.specs.Tree.{Whole, Negated, Combined, Grouped, Literal, Truth, Group, Binary, If, Pre, Current, Copies, Index, Slice, Join, Array, Assertion}
@@ -315,8 +315,8 @@ observer_of_other_types = bench "plant" "obs" (
 
 -- node plant(x: int) returns (y: int); let y = x; tel
 -- node obs(x, y: int) returns (z: int); let z = y; tel
-abbrev pub observer_without_an_output : Program
-observer_without_an_output = bench "plant" "obs" (
+abbrev pub observer_of_an_int : Program
+observer_of_an_int = bench "plant" "obs" (
     node "plant" (int_var "x" ∷ []) (int_var "y" ∷ []) []
     (equation "y" (v "x") ∷ [])
     ∷ node "obs" (int_var "x" ∷ int_var "y" ∷ []) (int_var "z" ∷ []) []

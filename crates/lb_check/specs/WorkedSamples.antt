@@ -1,15 +1,14 @@
 -- Short ways to write the traces of worked examples, and the histories that solve them.
 -- Source: this project's words.
-use Rattle.std.specs.Prelude.{ℕ, Bool, true, false, ◌&&◌, nat_eq, Option, Some, None, List, [], ◌∷◌, map, filter, length, slice_get, replicate, codes, find, if◌then◌else◌}
+use Rattle.std.specs.Prelude.{ℕ, Bool, true, false, ◌&&◌, nat_eq, Option, Some, None, List, map, filter, length, slice_get, replicate, codes, find, if◌then◌else◌}
 use Rattle.std.specs.Str.{bytes_eq}
 use Rattle.std.specs.Str.Parse.{signed_digits_value}
 use Prim.Native.String.{String}
 use Rattle.lb_syntax.specs.Lists.{or_else, heads, listed, some_of, tail_of}
 use Rattle.lb_syntax.specs.Tree.{Name}
-use Rattle.lb_static.specs.StaticValues.{named}
 use Rattle.lb_static.specs.WorkedTrees.{pieces, words}
 use Rattle.lb_static.specs.Instances.{Path, Root, Observer, Child}
-use Rattle.lb_check.specs.Scalars.{Scalar, Integer, Boolean, Bad, Cell, Stream}
+use Rattle.lb_check.specs.Scalars.{Integer, Boolean, Bad, Cell, Stream}
 use Rattle.lb_check.specs.Streams.{History}
 use Rattle.lb_check.specs.Solutions.{Inputs}
 use Rattle.lb_check.specs.Needs.{Element}

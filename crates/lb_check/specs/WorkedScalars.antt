@@ -1,6 +1,6 @@
 -- Programs of one node without clocks or arrays.
 -- Source: this project's rule.
-use Rattle.std.specs.Prelude.{true, List, [], ◌∷◌}
+use Rattle.std.specs.Prelude.{true, [], ◌∷◌}
 use Rattle.lb_syntax.specs.declared.tree.UnaryOperator.TheVariants.{Not, Negate}
 use Rattle.lb_syntax.specs.declared.tree.BinaryOperator.TheVariants.{Or, Xor, And, Implies, Equal, Unequal, Less, AtMost, Greater, AtLeast, Plus, Divide, Modulo}
 use Rattle.lb_syntax.specs.Tree.{Literal, Truth, Group, Unary, Binary, If, Arrow, Fby, Pre, AtMostOne, Nor, Assertion}
@@ -101,6 +101,20 @@ abbrev pub strict_and : Program
 strict_and = alone (main (int_var "n" ∷ int_var "d" ∷ []) []
     (equation "ok" (Binary And (Binary Unequal (v "d") (Literal 0)) (Binary Greater (Binary Divide
     (v "n") (v "d")) (Literal 2))) ∷ []))
+
+-- node main(n, d: int) returns (ok: bool);
+-- let ok = d = 0 or n / d > 2; tel
+abbrev pub strict_or : Program
+strict_or = alone (main (int_var "n" ∷ int_var "d" ∷ []) []
+    (equation "ok" (Binary Or (Binary Equal (v "d") (Literal 0)) (Binary Greater (Binary Divide
+    (v "n") (v "d")) (Literal 2))) ∷ []))
+
+-- node main(n, d: int) returns (ok: bool);
+-- let ok = d <> 0 => n / d > 2; tel
+abbrev pub strict_implies : Program
+strict_implies = alone (main (int_var "n" ∷ int_var "d" ∷ []) []
+    (equation "ok" (Binary Implies (Binary Unequal (v "d") (Literal 0)) (Binary Greater
+    (Binary Divide (v "n") (v "d")) (Literal 2))) ∷ []))
 
 -- ## The order at one instant
 

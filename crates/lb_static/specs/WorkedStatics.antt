@@ -1,17 +1,14 @@
 -- Static expressions, and programs for their signatures, instances and names.
 -- Source: this project's rule.
-use Rattle.std.specs.Prelude.{true, List, [], ◌∷◌}
+use Rattle.std.specs.Prelude.{true, List, [], ◌∷◌, None, ℕ, ℤ, pos, Option, length, codes, map}
+use Prim.Native.String.{String}
 use Rattle.lb_syntax.specs.declared.tree.BinaryOperator.TheVariants.{Equal, Plus, Minus, Times, Divide, Modulo}
 use Rattle.lb_syntax.specs.declared.tree.ArrayIterator.TheVariants.{Map, Red}
-use Rattle.lb_syntax.specs.Tree.{Static, Whole, Negated, Combined, Grouped, Literal, Truth, Binary, Copies, Index, Array}
-use Rattle.lb_static.specs.Instances.{Program}
+use Rattle.lb_syntax.specs.Tree.{Static, Whole, Negated, Combined, Grouped, Literal, Truth, Binary, Copies, Index, Array, Name}
+use Rattle.lb_static.specs.Instances.{Program, Path, instances}
 use Rattle.lb_static.specs.WorkedTrees.{static, v, exprs, call, call_with, iterate, int_var, bool_var, int_array, equation, node, with_parameters, main, constant, program, alone, bench}
-use Rattle.std.specs.Prelude.{ℤ, Option, length, codes, map}
-use Prim.Native.String.{String}
-use Rattle.lb_static.specs.StaticValues.{constant_value}
-use Rattle.lb_syntax.specs.Tree.{Name}
+use Rattle.lb_static.specs.StaticValues.{value_under, constant_value}
 use Rattle.lb_static.specs.Shapes.{signature}
-use Rattle.lb_static.specs.Instances.{Path, instances}
 use Rattle.lb_static.specs.Names.{reached_nodes, reached_constants}
 
 -- ## Static expressions
@@ -57,6 +54,10 @@ left_to_right = Combined Minus (Combined Minus (Whole 10) (Whole 3)) (Combined T
 -- n div 2
 abbrev pub half_of_a_name : Static
 half_of_a_name = Combined Divide (static "n") (Whole 2)
+
+-- the value of a static expression without names
+abbrev pub plain_value : Static → Option ℤ
+plain_value s = value_under (λ x. None) s
 
 -- ## Constants
 
@@ -151,6 +152,9 @@ callees P = map (λ i. i.node.name) (instances P)
 -- the values of the static parameters of each instance
 abbrev pub values : Program → List (List (Name × ℤ))
 values P = map (λ i. i.values) (instances P)
+
+abbrev pub given : String → ℕ → Name × ℤ
+given x n = (codes x, pos n)
 
 -- ## What is reached
 

@@ -1,58 +1,55 @@
 //! Arrays, iterators, calls with several results, and observers.
 
-ghost use Rattle.std.specs.Prelude.{◌≡◌};
+ghost use Rattle.std.specs.Prelude.{List, [], ◌∷◌, ◌≡◌};
+ghost use Rattle.lb_syntax.specs.Lists.{Every};
 ghost use Rattle.lb_check.specs.Acceptance.{IsAccepted};
 ghost use Rattle.lb_check.specs.Verdicts.{HasVerdict, Passed, Fault, Assertion_fails, False};
 ghost use Rattle.lb_check.specs.WorkedSamples.{trace};
-ghost use Rattle.lb_check.specs.WorkedArrays.{counters, digits, differences, far_steps, pairs, unrolled, two_maps, sliced, matrix, matrix_row, chosen_array, whole_choice_faults, array_memory, copied, size_by_a_constant, static_parameter, call_not_chosen, symbol_not_chosen, two_results, loop_through_pre, exchanged, observed};
+ghost use Rattle.lb_check.specs.WorkedArrays.{counters, digits, differences, pairs, unrolled, two_maps, far_steps, sliced, matrix, matrix_row, chosen_array, whole_choice_faults, array_memory, copied, size_by_a_constant, static_parameter, call_not_chosen, symbol_not_chosen, two_results, loop_through_pre, exchanged, observed};
 
 /// `map` runs an instance an element, `red` and `fill` go from the first element on.
 pub fn iterators()
-    ensures accepted_map { IsAccepted counters }
+    ensures accepted { Every IsAccepted (counters ∷ digits ∷ differences ∷ pairs ∷ unrolled
+        ∷ two_maps ∷ []) }
     ensures counters_of_their_own { HasVerdict counters (trace "1 10 100 111; 1 0 0 112") Passed }
-    ensures accepted_red { IsAccepted digits }
     ensures digits_from_the_left { HasVerdict digits (trace "1 2 3 123") Passed }
     ensures digits_not_from_the_right { HasVerdict digits (trace "1 2 3 321") (False 0) }
-    ensures accepted_symbol { IsAccepted differences }
     ensures a_symbol_from_the_left { HasVerdict differences (trace "1 2 3 4") Passed }
     ensures each_step_is_in_range { HasVerdict differences far_steps (Fault 1) }
     ensures map_of_a_symbol { HasVerdict pairs (trace "2 3 4 5 8 15") Passed }
-    ensures accepted_fill { IsAccepted unrolled }
     ensures fill_from_the_first { HasVerdict unrolled (trace "0") Passed }
-    ensures accepted_map_with_two_results { IsAccepted two_maps }
     ensures map_with_two_results { HasVerdict two_maps (trace "3 4 5486") Passed }
 {}
 
 /// Copies, lists, indexes, slices and joins; arrays in memories and branches; static parameters.
 pub fn forms_of_arrays()
-    ensures accepted { IsAccepted sliced }
+    ensures accepted { Every IsAccepted (sliced ∷ matrix ∷ matrix_row ∷ chosen_array
+        ∷ whole_choice_faults ∷ array_memory ∷ copied ∷ size_by_a_constant ∷ static_parameter
+        ∷ []) }
     ensures slice_and_join { HasVerdict sliced (trace "4 5 6 7 567") Passed }
-    ensures accepted_matrix { IsAccepted matrix }
     ensures element_of_a_matrix { HasVerdict matrix (trace "1 2 3 4 5 6 6") Passed }
     ensures row_and_slice_of_a_matrix { HasVerdict matrix_row (trace "1 2 3 4 5 6 17") Passed }
     ensures chosen_array { HasVerdict chosen_array (trace "t 1 2 4; f 1 2 5") Passed }
     ensures faulty_condition { HasVerdict whole_choice_faults (trace "0 1 2") (Fault 0) }
     ensures memory_of_an_array { HasVerdict array_memory (trace "1 2 78; 3 4 12") Passed }
     ensures copies_of_copies { HasVerdict copied (trace "5 5") Passed }
-    ensures accepted_constant { IsAccepted size_by_a_constant }
     ensures size_by_a_constant { HasVerdict size_by_a_constant (trace "3 3; 3 4") (False 1) }
     ensures static_parameter_of_each_call { HasVerdict static_parameter (trace "1 304") Passed }
 {}
 
 /// A call runs in a branch that is not chosen, and its faults count; those of a symbol do not.
 pub fn what_runs_in_a_branch_that_is_not_chosen()
+    ensures accepted { Every IsAccepted (call_not_chosen ∷ symbol_not_chosen ∷ []) }
     ensures fault_of_a_call { HasVerdict call_not_chosen (trace "t 0") (Fault 0) }
     ensures fault_of_a_symbol { HasVerdict symbol_not_chosen (trace "t 2147483647 1") Passed }
 {}
 
 /// A result may be an argument of its own call where elements do not need themselves.
 pub fn several_results()
-    ensures accepted { IsAccepted two_results }
+    ensures accepted { Every IsAccepted (two_results ∷ loop_through_pre ∷ exchanged ∷ []) }
     ensures second_from_first { HasVerdict two_results (trace "3 8") Passed }
-    ensures accepted_loop { IsAccepted loop_through_pre }
     ensures no_inputs_and_five_instants { HasVerdict loop_through_pre (trace ";;;;") (False 3) }
     ensures no_inputs_and_one_instant { HasVerdict loop_through_pre (trace "") Passed }
-    ensures accepted_exchanged { IsAccepted exchanged }
     ensures order_of_equations_is_free { HasVerdict exchanged (trace "1; 5; 6") (False 2) }
 {}
 

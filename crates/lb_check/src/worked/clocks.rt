@@ -1,6 +1,7 @@
 //! Slower clocks: `when`, `current`, clocked declarations and clocked parameters.
 
-ghost use Rattle.std.specs.Prelude.{Some, ◌≡◌};
+ghost use Rattle.std.specs.Prelude.{List, Some, [], ◌∷◌, ◌≡◌};
+ghost use Rattle.lb_syntax.specs.Lists.{Every};
 ghost use Rattle.lb_syntax.specs.Refusals.{E8, E9, E10};
 ghost use Rattle.lb_check.specs.Acceptance.{refusal, IsAccepted};
 ghost use Rattle.lb_check.specs.Verdicts.{HasVerdict, Passed, Fault, Assertion_fails, False};
@@ -17,11 +18,10 @@ pub fn a_counter_on_a_slower_clock()
 
 /// `->` and `pre` count the ticks of their clock; `not c` ticks where `c` is present and false.
 pub fn memories_on_a_slower_clock()
-    ensures accepted { IsAccepted slow_memory }
+    ensures accepted { Every IsAccepted (slow_memory ∷ absent_clock ∷ faulty_clock
+        ∷ both_signs_absent ∷ []) }
     ensures by_ticks { HasVerdict slow_memory (trace "f 5 0; t 3 0; f 9 0; t 4 3; t 6 4") Passed }
-    ensures accepted_on_two_steps { IsAccepted absent_clock }
     ensures not_c_while_c_is_absent { HasVerdict absent_clock (trace "t f 1; f f 1; t f 2") Passed }
-    ensures accepted_with_a_fault { IsAccepted faulty_clock }
     ensures fault_of_a_clock_variable { HasVerdict faulty_clock (trace "0") (Fault 0) }
     ensures both_signs_are_absent { HasVerdict both_signs_absent (trace "1; 0") (Fault 1) }
 {}
@@ -47,8 +47,8 @@ pub fn what_stands_for_a_clock_parameter()
     ensures literal_for_a_clocked_input { IsAccepted literal_for_a_clocked_input }
     ensures at_its_ticks { HasVerdict literal_for_a_clocked_input (trace "f 0; t 3") Passed }
     ensures any_expression_for_an_inner_clock { IsAccepted any_expression_for_an_inner_clock }
-    ensures a_clock_inside { HasVerdict any_expression_for_an_inner_clock (trace "-2 0; 5 5; -1 5")
-        Passed }
+    ensures a_clock_inside { HasVerdict any_expression_for_an_inner_clock
+        (trace "-2 0; 5 5; -1 5") Passed }
 {}
 
 /// Such a call runs on the clock of the place where it stands.
@@ -81,9 +81,8 @@ pub fn what_clock_an_expression_is_on()
 
 /// An assertion is judged where it is present, in every instance.
 pub fn assertions_count_at_the_ticks_of_their_clock()
-    ensures accepted { IsAccepted slow_assertion }
+    ensures accepted { Every IsAccepted (slow_assertion ∷ asserted_call ∷ []) }
     ensures ticks_alone { HasVerdict slow_assertion (trace "f -1; t 2; t 0") (Assertion_fails 2) }
-    ensures accepted_call { IsAccepted asserted_call }
     ensures assertion_by_a_call_holds { HasVerdict asserted_call (trace "1; 3") (False 1) }
     ensures assertion_by_a_call_fails { HasVerdict asserted_call (trace "0") (Assertion_fails 0) }
 {}

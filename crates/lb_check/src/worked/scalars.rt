@@ -1,17 +1,17 @@
 //! One node, without clocks or arrays.
 
-ghost use Rattle.std.specs.Prelude.{◌≡◌};
+ghost use Rattle.std.specs.Prelude.{List, [], ◌∷◌, ◌≡◌};
+ghost use Rattle.lb_syntax.specs.Lists.{Every};
 ghost use Rattle.lb_check.specs.Acceptance.{IsAccepted};
 ghost use Rattle.lb_check.specs.Verdicts.{HasVerdict, Passed, Fault, Assertion_fails, False};
 ghost use Rattle.lb_check.specs.WorkedSamples.{trace};
-ghost use Rattle.lb_check.specs.WorkedScalars.{counter, assuming_counter, increment, quotient_by_minus_one, remainder_by_minus_one, negation, quotients, each_sign, literal_quotients, chosen_branch, strict_and, all_three, without_a_fault, property_alone, assumed, logic_table, logic, equality_table, equality_of_truths, comparison_table, comparisons, counting, first_then, followed, before_the_first, truth_before_the_first, unused_operand, unused_side};
+ghost use Rattle.lb_check.specs.WorkedScalars.{counter, assuming_counter, increment, quotient_by_minus_one, remainder_by_minus_one, negation, quotients, literal_quotients, each_sign, chosen_branch, strict_and, strict_or, strict_implies, all_three, without_a_fault, property_alone, assumed, logic, equality_of_truths, comparisons, counting, logic_table, equality_table, comparison_table, first_then, followed, before_the_first, truth_before_the_first, unused_operand, unused_side};
 
 /// A sum of inputs stays below ten.
 pub fn the_counter_of_the_first_run()
-    ensures accepted { IsAccepted counter }
+    ensures accepted { Every IsAccepted (counter ∷ assuming_counter ∷ []) }
     ensures false_where_the_sum_is_eleven { HasVerdict counter (trace "1; 5; 6") (False 2) }
     ensures passes_on_one_instant { HasVerdict counter (trace "0") Passed }
-    ensures accepted_with_an_assertion { IsAccepted assuming_counter }
     ensures assertion_first { HasVerdict assuming_counter (trace "1; 5; 6") (Assertion_fails 2) }
 {}
 
@@ -24,6 +24,8 @@ pub fn overflow_at_the_bound()
 
 /// The least integer has no quotient, remainder or negation in range.
 pub fn the_least_integer_by_minus_one()
+    ensures accepted { Every IsAccepted (quotient_by_minus_one ∷ remainder_by_minus_one ∷ negation
+        ∷ []) }
     ensures divided { HasVerdict quotient_by_minus_one (trace "-2147483648") (Fault 0) }
     ensures remainder { HasVerdict remainder_by_minus_one (trace "-2147483648") (Fault 0) }
     ensures negated { HasVerdict negation (trace "-2147483648") (Fault 0) }
@@ -32,20 +34,24 @@ pub fn the_least_integer_by_minus_one()
 
 /// A quotient is cut off toward zero, and a remainder has the sign of the dividend.
 pub fn division_cuts_off_toward_zero()
-    ensures accepted { IsAccepted quotients }
+    ensures accepted { Every IsAccepted (quotients ∷ literal_quotients ∷ []) }
     ensures each_sign { HasVerdict quotients each_sign Passed }
     ensures of_literals { HasVerdict literal_quotients (trace "0") Passed }
 {}
 
-/// `if` gives the chosen branch alone; `and` is strict.
+/// `if` gives the chosen branch alone; `and`, `or` and `=>` are strict.
 pub fn a_fault_in_what_is_not_needed()
-    ensures accepted { IsAccepted chosen_branch }
+    ensures accepted { Every IsAccepted (chosen_branch ∷ strict_and ∷ strict_or ∷ strict_implies
+        ∷ []) }
     ensures branch_not_chosen { HasVerdict chosen_branch (trace "5 0") Passed }
     ensures under_and { HasVerdict strict_and (trace "5 0") (Fault 0) }
+    ensures under_or { HasVerdict strict_or (trace "5 0") (Fault 0) }
+    ensures under_implies { HasVerdict strict_implies (trace "5 0") (Fault 0) }
 {}
 
 /// At one instant a fault comes before an assertion, and that before the property.
 pub fn the_order_at_one_instant()
+    ensures accepted { Every IsAccepted (all_three ∷ without_a_fault ∷ property_alone ∷ []) }
     ensures fault_first { HasVerdict all_three (trace "0") (Fault 0) }
     ensures assertion_next { HasVerdict without_a_fault (trace "0") (Assertion_fails 0) }
     ensures property_last { HasVerdict property_alone (trace "0") (False 0) }
@@ -60,10 +66,10 @@ pub fn the_first_instant_decides()
 
 /// The tables of the operators of truths, of the comparisons, and of `#` and `nor`.
 pub fn operators_of_data()
+    ensures accepted { Every IsAccepted (logic ∷ equality_of_truths ∷ comparisons ∷ counting ∷ []) }
     ensures tables_of_logic { HasVerdict logic logic_table Passed }
     ensures equal_truths { HasVerdict equality_of_truths equality_table Passed }
     ensures comparisons_of_integers { HasVerdict comparisons comparison_table Passed }
-    ensures accepted { IsAccepted counting }
     ensures one_of_three_but_not_two { HasVerdict counting (trace "t f f; t t f") (False 1) }
     ensures none_is_at_most_one_too { HasVerdict counting (trace "f t f; f f f") (False 1) }
     ensures three_are_too_many { HasVerdict counting (trace "f f t; t t t") (False 1) }
@@ -71,7 +77,8 @@ pub fn operators_of_data()
 
 /// `->` and `fby` give their first operand at the first instant; before it `pre` has 0 or false.
 pub fn first_instants()
-    ensures accepted { IsAccepted first_then }
+    ensures accepted { Every IsAccepted (first_then ∷ followed ∷ before_the_first
+        ∷ truth_before_the_first ∷ []) }
     ensures arrow { HasVerdict first_then (trace "f 7; t 1; f 5") Passed }
     ensures fby { HasVerdict followed (trace "1 5; 2 1; 3 2") Passed }
     ensures pre_of_an_int_is_zero { HasVerdict before_the_first (trace "2 4; 2 4") (Fault 0) }
@@ -80,6 +87,7 @@ pub fn first_instants()
 
 /// A fault counts where a memory keeps it, used or not; a side of `->` that is not used is none.
 pub fn the_operand_of_pre_is_a_named_place()
+    ensures accepted { Every IsAccepted (unused_operand ∷ unused_side ∷ []) }
     ensures operand_of_pre { HasVerdict unused_operand (trace "0") (Fault 0) }
     ensures unused_side_of_arrow { HasVerdict unused_side (trace "0; 1") Passed }
 {}

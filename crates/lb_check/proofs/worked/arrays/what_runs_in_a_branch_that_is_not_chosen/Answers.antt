@@ -1,12 +1,17 @@
 use Rattle.std.proofs.Common.{[], ◌∷◌, refl}
 use Rattle.lb_static.specs.Instances.{Root, Child}
+use Rattle.lb_check.specs.Needs.{needs}
 use Rattle.lb_check.specs.Verdicts.{Fault, Passed}
 use Rattle.lb_check.specs.WorkedSamples.{at, history}
+use Rattle.lb_check.specs.WorkedArrays as worked
+use Rattle.lb_check.proofs.CausalTest.{all_accepted}
 use Rattle.lb_check.proofs.SolvesTest.{by_history}
 use Rattle.lb_check.proofs.worked.arrays.what_runs_in_a_branch_that_is_not_chosen.Goals as goal
 
 pub returns : goal.returns
+unfolding needs
 returns c = record {
+  accepted = (all_accepted (worked.call_not_chosen ∷ worked.symbol_not_chosen ∷ [])).shows refl;
   fault_of_a_call = by_history _ _ (Fault 0) (history (
       at Root "c t; x 0; ok t"
       ∷ at (Child Root 0 0) "x 0; y !" ∷ [])) refl refl;

@@ -8,7 +8,6 @@ use Rattle.lb_check.proofs.CausalTest.{accepted}
 use Rattle.lb_check.proofs.SolvesTest.{by_history}
 use Rattle.lb_check.proofs.CausalTest.{refused_by}
 use Rattle.lb_check.specs.WorkedSamples.{element_of}
-use Rattle.lb_check.specs.WorkedSamples.{element}
 use Rattle.lb_check.proofs.worked.causality.elements_that_do_not_need_themselves.Goals as goal
 
 pub returns : goal.returns

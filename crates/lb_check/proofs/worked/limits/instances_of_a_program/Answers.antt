@@ -1,4 +1,4 @@
-use Rattle.std.proofs.Common.{[], ◌∷◌, refl}
+use Rattle.std.proofs.Common.{refl}
 use Rattle.lb_check.proofs.worked.limits.instances_of_a_program.Goals as goal
 
 pub returns : goal.returns

@@ -1,4 +1,4 @@
-use Rattle.std.proofs.Common.{[], ◌∷◌, refl}
+use Rattle.std.proofs.Common.{refl}
 use Rattle.lb_check.specs.Needs.{needs}
 use Rattle.lb_check.specs.WorkedRefusals as worked
 use Rattle.lb_check.proofs.CausalTest.{accepted}

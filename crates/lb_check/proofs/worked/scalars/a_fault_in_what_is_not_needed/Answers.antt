@@ -4,16 +4,22 @@ use Rattle.lb_check.specs.Needs.{needs}
 use Rattle.lb_check.specs.Verdicts.{Fault, Passed}
 use Rattle.lb_check.specs.WorkedSamples.{at, history}
 use Rattle.lb_check.specs.WorkedScalars as worked
-use Rattle.lb_check.proofs.CausalTest.{accepted}
+use Rattle.lb_check.proofs.CausalTest.{all_accepted}
 use Rattle.lb_check.proofs.SolvesTest.{by_history}
 use Rattle.lb_check.proofs.worked.scalars.a_fault_in_what_is_not_needed.Goals as goal
 
 pub returns : goal.returns
 unfolding needs
 returns c = record {
-  accepted = (accepted worked.chosen_branch).shows refl;
+  accepted =
+      (all_accepted (worked.chosen_branch ∷ worked.strict_and ∷ worked.strict_or
+      ∷ worked.strict_implies ∷ [])).shows refl;
   branch_not_chosen = by_history _ _ Passed (history (
       at Root "n 5; d 0; ok t; q 0" ∷ [])) refl refl;
   under_and = by_history _ _ (Fault 0) (history (
+      at Root "n 5; d 0; ok !" ∷ [])) refl refl;
+  under_or = by_history _ _ (Fault 0) (history (
+      at Root "n 5; d 0; ok !" ∷ [])) refl refl;
+  under_implies = by_history _ _ (Fault 0) (history (
       at Root "n 5; d 0; ok !" ∷ [])) refl refl;
 }

@@ -4,14 +4,16 @@ use Rattle.lb_check.specs.Needs.{needs}
 use Rattle.lb_check.specs.Verdicts.{False, Fault, Passed}
 use Rattle.lb_check.specs.WorkedSamples.{at, history}
 use Rattle.lb_check.specs.WorkedScalars as worked
-use Rattle.lb_check.proofs.CausalTest.{accepted}
+use Rattle.lb_check.proofs.CausalTest.{all_accepted}
 use Rattle.lb_check.proofs.SolvesTest.{by_history}
 use Rattle.lb_check.proofs.worked.scalars.first_instants.Goals as goal
 
 pub returns : goal.returns
 unfolding needs
 returns c = record {
-  accepted = (accepted worked.first_then).shows refl;
+  accepted =
+      (all_accepted (worked.first_then ∷ worked.followed ∷ worked.before_the_first
+      ∷ worked.truth_before_the_first ∷ [])).shows refl;
   arrow = by_history _ _ Passed (history (
       at Root "c f t f; e 7 1 5; ok t t t; r 7 1 5" ∷ [])) refl refl;
   fby = by_history _ _ Passed (history (

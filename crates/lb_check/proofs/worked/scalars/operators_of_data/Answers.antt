@@ -4,13 +4,16 @@ use Rattle.lb_check.specs.Needs.{needs}
 use Rattle.lb_check.specs.Verdicts.{False, Passed}
 use Rattle.lb_check.specs.WorkedSamples.{at, history}
 use Rattle.lb_check.specs.WorkedScalars as worked
-use Rattle.lb_check.proofs.CausalTest.{accepted}
+use Rattle.lb_check.proofs.CausalTest.{all_accepted}
 use Rattle.lb_check.proofs.SolvesTest.{by_history}
 use Rattle.lb_check.proofs.worked.scalars.operators_of_data.Goals as goal
 
 pub returns : goal.returns
 unfolding needs
 returns c = record {
+  accepted =
+      (all_accepted (worked.logic ∷ worked.equality_of_truths ∷ worked.comparisons ∷ worked.counting
+      ∷ [])).shows refl;
   tables_of_logic = by_history _ _ Passed (history (
       at Root
       "a f f t t; b f t f t; o f t t t; x f t t f; n f f f t; i t t f t; ok t t t t"
@@ -21,7 +24,6 @@ returns c = record {
       at Root
       "a -1 2 3; b 2 2 2; l t f f; m t t f; g f f t; h f t t; e f t f; u t f t; ok t t t"
       ∷ [])) refl refl;
-  accepted = (accepted worked.counting).shows refl;
   one_of_three_but_not_two = by_history _ _ (False 1) (history (
       at Root "a t t; b f t; c f f; ok t f" ∷ [])) refl refl;
   none_is_at_most_one_too = by_history _ _ (False 1) (history (

@@ -1,4 +1,4 @@
-use Rattle.std.proofs.Common.{[], ◌∷◌, refl}
+use Rattle.std.proofs.Common.{refl}
 use Rattle.lb_static.proofs.worked.static_values.instances_in_the_order_of_the_walk.Goals as goal
 
 pub returns : goal.returns
