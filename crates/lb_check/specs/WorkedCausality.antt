@@ -2,7 +2,7 @@
 -- Source: this project's rule.
 use Rattle.std.specs.Prelude.{true, [], ◌∷◌}
 use Rattle.lb_syntax.specs.declared.tree.BinaryOperator.TheVariants.{Equal, Less, Plus, Minus, Times}
-use Rattle.lb_syntax.specs.declared.tree.ArrayIterator.TheVariants.{Fill}
+use Rattle.lb_syntax.specs.declared.tree.ArrayIterator.TheVariants.{Map, Fill}
 use Rattle.lb_syntax.specs.Tree.{Whole, Literal, Truth, Group, Binary, If, Arrow, Fby, Pre, Current, Index, Slice, Join, Array, Node}
 use Rattle.lb_static.specs.Instances.{Program}
 use Rattle.lb_static.specs.WorkedTrees.{v, exprs, call, when_true, iterate, int_var, bool_var, int_array, on_true, equation, equations, node, main, program, alone, bench}
@@ -131,6 +131,19 @@ abbrev pub elements_of_one_array : Program
 elements_of_one_array = alone (main (bool_var "c" ∷ []) (int_array "A" (Whole 3 ∷ []) ∷ [])
     (equation "A" (Join (Array (exprs (Literal 1 ∷ []))) (Slice (v "A") (Whole 0) (Whole 1)))
     ∷ equation "ok" (Binary Equal (Index (v "A") (Whole 2)) (Literal 1)) ∷ []))
+
+-- node add(a, b: int) returns (s: int); let s = a + b; tel
+-- node main(A: int^3; e: int) returns (ok: bool);
+-- var S: int^3;
+-- let S = map<<add,3>>([0] | S[0..1], A); ok = S[2] = e; tel
+abbrev pub running_sums : Program
+running_sums = program [] (
+    node "add" (int_var "a" ∷ int_var "b" ∷ []) (int_var "s" ∷ []) []
+    (equation "s" (Binary Plus (v "a") (v "b")) ∷ [])
+    ∷ main (int_array "A" (Whole 3 ∷ []) ∷ int_var "e" ∷ []) (int_array "S" (Whole 3 ∷ []) ∷ [])
+    (equation "S" (iterate Map "add" (Whole 3) (Join (Array (exprs (Literal 0 ∷ []))) (Slice (v "S")
+    (Whole 0) (Whole 1)) ∷ v "A" ∷ []))
+    ∷ equation "ok" (Binary Equal (Index (v "S") (Whole 2)) (v "e")) ∷ []) ∷ [])
 
 -- node main(c: bool) returns (ok: bool);
 -- var A: int^2;

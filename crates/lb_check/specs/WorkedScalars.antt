@@ -116,6 +116,13 @@ strict_implies = alone (main (int_var "n" ∷ int_var "d" ∷ []) []
     (equation "ok" (Binary Implies (Binary Unequal (v "d") (Literal 0)) (Binary Greater
     (Binary Divide (v "n") (v "d")) (Literal 2))) ∷ []))
 
+-- node main(n, d: int) returns (ok: bool);
+-- let ok = #(n > 0, n > 1, n / d > 2); tel
+abbrev pub strict_count : Program
+strict_count = alone (main (int_var "n" ∷ int_var "d" ∷ []) []
+    (equation "ok" (AtMostOne (exprs (Binary Greater (v "n") (Literal 0) ∷ Binary Greater (v "n")
+    (Literal 1) ∷ Binary Greater (Binary Divide (v "n") (v "d")) (Literal 2) ∷ []))) ∷ []))
+
 -- ## The order at one instant
 
 -- node main(x: int) returns (ok: bool);

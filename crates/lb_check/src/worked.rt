@@ -9,6 +9,7 @@ mod scalars;
 
 #[test]
 fn worked_examples() {
+    scalars::how_traces_are_written();
     scalars::the_counter_of_the_first_run();
     scalars::overflow_at_the_bound();
     scalars::the_least_integer_by_minus_one();

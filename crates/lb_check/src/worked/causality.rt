@@ -6,7 +6,7 @@ ghost use Rattle.lb_syntax.specs.Refusals.{E13};
 ghost use Rattle.lb_check.specs.Acceptance.{IsAccepted};
 ghost use Rattle.lb_check.specs.Verdicts.{HasVerdict, Passed};
 ghost use Rattle.lb_check.specs.WorkedSamples.{trace};
-ghost use Rattle.lb_check.specs.WorkedCausality.{each_other, itself, clock_of_itself, both_branches, both_sides, first_side_of_fby, unused_by_product, crossed_results, through_the_observer, one_after_the_other, through_pre, through_fby, elements_of_one_array, one_array_in_a_circle, iterated_array, slower_loop};
+ghost use Rattle.lb_check.specs.WorkedCausality.{each_other, itself, clock_of_itself, both_branches, both_sides, first_side_of_fby, unused_by_product, crossed_results, through_the_observer, one_after_the_other, through_pre, through_fby, elements_of_one_array, running_sums, one_array_in_a_circle, iterated_array, slower_loop};
 
 /// E13: the elements listed in the proof each need the next, and the last needs the first.
 pub fn an_element_that_needs_itself()
@@ -28,6 +28,8 @@ pub fn elements_that_do_not_need_themselves()
     ensures through_fby { IsAccepted through_fby }
     ensures elements_of_one_array { IsAccepted elements_of_one_array }
     ensures they_have_values { HasVerdict elements_of_one_array (trace "f") Passed }
+    ensures running_sums { IsAccepted running_sums }
+    ensures sums_so_far { HasVerdict running_sums (trace "1 2 3 6") Passed }
     ensures two_elements_in_a_circle { IsFirst one_array_in_a_circle (Some E13) }
     ensures iterated_array { IsAccepted iterated_array }
     ensures loop_on_a_slower_clock { IsAccepted slower_loop }

@@ -1,11 +1,20 @@
 //! One node, without clocks or arrays.
 
-ghost use Rattle.std.specs.Prelude.{List, [], ◌∷◌, ◌≡◌};
+ghost use Rattle.std.specs.Prelude.{List, [], false, negsuc, pos, true, ◌∷◌, ◌≡◌};
 ghost use Rattle.lb_syntax.specs.Lists.{Every};
+ghost use Rattle.lb_check.specs.Scalars.{Integer, Boolean};
 ghost use Rattle.lb_check.specs.Acceptance.{IsAccepted};
 ghost use Rattle.lb_check.specs.Verdicts.{HasVerdict, Passed, Fault, Assertion_fails, False};
 ghost use Rattle.lb_check.specs.WorkedSamples.{trace};
-ghost use Rattle.lb_check.specs.WorkedScalars.{counter, assuming_counter, increment, quotient_by_minus_one, remainder_by_minus_one, negation, quotients, literal_quotients, each_sign, chosen_branch, strict_and, strict_or, strict_implies, all_three, without_a_fault, property_alone, assumed, logic, equality_of_truths, comparisons, counting, logic_table, equality_table, comparison_table, first_then, followed, before_the_first, truth_before_the_first, unused_operand, unused_side};
+ghost use Rattle.lb_check.specs.WorkedScalars.{counter, assuming_counter, increment, quotient_by_minus_one, remainder_by_minus_one, negation, quotients, literal_quotients, each_sign, chosen_branch, strict_and, strict_or, strict_implies, strict_count, all_three, without_a_fault, property_alone, assumed, logic, equality_of_truths, comparisons, counting, logic_table, equality_table, comparison_table, first_then, followed, before_the_first, truth_before_the_first, unused_operand, unused_side};
+
+/// The notation of traces below: instants parted by semicolons, cells by spaces.
+pub fn how_traces_are_written()
+    ensures two_instants { trace "1 t; -5 f" ≡
+        ((Integer (pos 1) ∷ Boolean true ∷ [])
+        ∷ (Integer (negsuc 4) ∷ Boolean false ∷ []) ∷ []) }
+    ensures two_instants_without_inputs { trace ";" ≡ ([] ∷ [] ∷ []) }
+{}
 
 /// A sum of inputs stays below ten.
 pub fn the_counter_of_the_first_run()
@@ -39,14 +48,15 @@ pub fn division_cuts_off_toward_zero()
     ensures of_literals { HasVerdict literal_quotients (trace "0") Passed }
 {}
 
-/// `if` gives the chosen branch alone; `and`, `or` and `=>` are strict.
+/// `if` gives the chosen branch alone; `and`, `or`, `=>` and `#` are strict.
 pub fn a_fault_in_what_is_not_needed()
     ensures accepted { Every IsAccepted (chosen_branch ∷ strict_and ∷ strict_or ∷ strict_implies
-        ∷ []) }
+        ∷ strict_count ∷ []) }
     ensures branch_not_chosen { HasVerdict chosen_branch (trace "5 0") Passed }
     ensures under_and { HasVerdict strict_and (trace "5 0") (Fault 0) }
     ensures under_or { HasVerdict strict_or (trace "5 0") (Fault 0) }
     ensures under_implies { HasVerdict strict_implies (trace "5 0") (Fault 0) }
+    ensures under_at_most_one { HasVerdict strict_count (trace "5 0") (Fault 0) }
 {}
 
 /// At one instant a fault comes before an assertion, and that before the property.

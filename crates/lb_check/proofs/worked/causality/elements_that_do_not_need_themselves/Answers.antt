@@ -1,5 +1,5 @@
 use Rattle.std.proofs.Common.{[], ◌∷◌, refl}
-use Rattle.lb_static.specs.Instances.{Root}
+use Rattle.lb_static.specs.Instances.{Root, Child}
 use Rattle.lb_check.specs.Needs.{needs}
 use Rattle.lb_check.specs.Verdicts.{Passed}
 use Rattle.lb_check.specs.WorkedSamples.{at, history}
@@ -19,6 +19,12 @@ returns c = record {
   elements_of_one_array = (accepted worked.elements_of_one_array).shows refl;
   they_have_values = by_history _ _ Passed (history (
       at Root "c f; A 1; A 1; A 1; ok t" ∷ [])) refl refl;
+  running_sums = (accepted worked.running_sums).shows refl;
+  sums_so_far = by_history _ _ Passed (history (
+      at Root "A 1; A 2; A 3; e 6; S 1; S 3; S 6; ok t"
+      ∷ at (Child Root 0 0) "a 0; b 1; s 1"
+      ∷ at (Child Root 0 1) "a 1; b 2; s 3"
+      ∷ at (Child Root 0 2) "a 3; b 3; s 6" ∷ [])) refl refl;
   two_elements_in_a_circle =
       (refused_by worked.one_array_in_a_circle (element_of Root "A" 0 ∷ element_of Root "A" 1
       ∷ [])).shows refl;

@@ -13,7 +13,7 @@ unfolding needs
 returns c = record {
   accepted =
       (all_accepted (worked.chosen_branch ∷ worked.strict_and ∷ worked.strict_or
-      ∷ worked.strict_implies ∷ [])).shows refl;
+      ∷ worked.strict_implies ∷ worked.strict_count ∷ [])).shows refl;
   branch_not_chosen = by_history _ _ Passed (history (
       at Root "n 5; d 0; ok t; q 0" ∷ [])) refl refl;
   under_and = by_history _ _ (Fault 0) (history (
@@ -21,5 +21,7 @@ returns c = record {
   under_or = by_history _ _ (Fault 0) (history (
       at Root "n 5; d 0; ok !" ∷ [])) refl refl;
   under_implies = by_history _ _ (Fault 0) (history (
+      at Root "n 5; d 0; ok !" ∷ [])) refl refl;
+  under_at_most_one = by_history _ _ (Fault 0) (history (
       at Root "n 5; d 0; ok !" ∷ [])) refl refl;
 }
