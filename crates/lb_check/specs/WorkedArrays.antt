@@ -5,7 +5,7 @@ use Rattle.lb_syntax.specs.declared.tree.BinaryOperator.TheVariants.{And, Equal,
 use Rattle.lb_syntax.specs.declared.tree.ArrayIterator.TheVariants.{Map, Red, Fill}
 use Rattle.lb_syntax.specs.Tree.{Whole, Combined, Literal, Truth, Group, Binary, If, Arrow, Fby, Pre, Copies, Index, Slice, Join, Array, Assertion, Node}
 use Rattle.lb_static.specs.Instances.{Program}
-use Rattle.lb_static.specs.WorkedTrees.{static, v, exprs, call, call_with, iterate, iterate_symbol, int_var, bool_var, int_array, equation, equations, node, with_parameters, main, constant, program, alone, bench}
+use Rattle.lb_static.specs.WorkedTrees.{static, v, exprs, call, call_with, when_true, iterate, iterate_symbol, int_var, bool_var, int_array, on_true, equation, equations, node, with_parameters, main, constant, program, alone, bench}
 use Rattle.lb_check.specs.Solutions.{Inputs}
 use Rattle.lb_check.specs.WorkedSamples.{trace}
 
@@ -267,3 +267,36 @@ abbrev pub symbol_not_chosen : Program
 symbol_not_chosen = alone (main (bool_var "c" ∷ int_array "A" (Whole 2 ∷ []) ∷ []) []
     (equation "ok" (If (v "c") (Truth true) (Binary Equal (iterate_symbol Red Plus (Whole 2)
     (Literal 0 ∷ v "A" ∷ [])) (Literal 0))) ∷ []))
+
+-- node first(a, b: int) returns (c: int); let c = a; tel
+-- node main(x, d: int) returns (ok: bool);
+-- let ok = first(x, 1 / d) = x; tel
+abbrev pub unused_input : Program
+unused_input = program [] (
+    node "first" (int_var "a" ∷ int_var "b" ∷ []) (int_var "c" ∷ []) []
+    (equation "c" (v "a") ∷ [])
+    ∷ main (int_var "x" ∷ int_var "d" ∷ []) []
+    (equation "ok" (Binary Equal (call "first" (v "x" ∷ Binary Divide (Literal 1) (v "d") ∷ []))
+    (v "x")) ∷ []) ∷ [])
+
+-- node main(x, d: int) returns (ok: bool);
+-- let ok = [1 / d, x][1] = x; tel
+abbrev pub element_not_taken : Program
+element_not_taken = alone (main (int_var "x" ∷ int_var "d" ∷ []) []
+    (equation "ok" (Binary Equal (Index (Array (exprs (Binary Divide (Literal 1) (v "d") ∷ v "x"
+    ∷ []))) (Whole 1)) (v "x")) ∷ []))
+
+-- node main(c: bool; d: int) returns (ok: bool);
+-- var y: int when c;
+-- let y = (1 / d) when c; ok = true; tel
+abbrev pub value_not_sampled : Program
+value_not_sampled = alone (main (bool_var "c" ∷ int_var "d" ∷ []) (on_true (int_var "y") "c" ∷ [])
+    (equation "y" (when_true (Group (Binary Divide (Literal 1) (v "d"))) "c")
+    ∷ equation "ok" (Truth true) ∷ []))
+
+-- node main(x, d: int) returns (ok: bool);
+-- let assert x / d = 1; ok = true; tel
+abbrev pub assertion_with_a_fault : Program
+assertion_with_a_fault = alone (main (int_var "x" ∷ int_var "d" ∷ []) []
+    (Assertion (Binary Equal (Binary Divide (v "x") (v "d")) (Literal 1))
+    ∷ equation "ok" (Truth true) ∷ []))

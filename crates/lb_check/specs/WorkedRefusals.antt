@@ -1,36 +1,40 @@
 -- Programs that are refused, and near ones that are not.
 -- Source: this project's rule.
-use Rattle.std.specs.Prelude.{true, [], ◌∷◌}
+use Rattle.std.specs.Prelude.{true, List, [], ◌∷◌}
 use Rattle.lb_syntax.specs.declared.tree.BinaryOperator.TheVariants.{Equal, Less, Plus, Times, Divide}
 use Rattle.lb_syntax.specs.declared.tree.ArrayIterator.TheVariants.{Map, Red, Fill}
-use Rattle.lb_syntax.specs.Tree.{Whole, Negated, Combined, Grouped, Literal, Truth, Group, Binary, If, Pre, Current, Copies, Index, Slice, Join, Array, Assertion}
+use Rattle.lb_syntax.specs.Tree.{Whole, Negated, Combined, Grouped, Literal, Truth, Group, Binary, If, Pre, Current, Copies, Index, Slice, Join, Array, Assertion, Node, Declaration, Statement}
 use Rattle.lb_static.specs.Instances.{Program}
 use Rattle.lb_static.specs.WorkedTrees.{static, v, exprs, call, call_with, when_true, iterate, iterate_symbol, int_var, bool_var, int_array, equation, equations, node, function, with_parameters, main, constant, program, alone, bench}
+
+-- node main(x, y: int; c: bool) returns (ok: bool); with these locals and statements
+abbrev changed : List Declaration → List Statement → Node
+changed vars body = main (int_var "x" ∷ int_var "y" ∷ bool_var "c" ∷ []) vars body
 
 -- ## Names
 
 -- node main(x, y: int; c: bool) returns (ok: bool);
 -- let ok = true; tel
 abbrev pub nothing_wrong : Program
-nothing_wrong = alone (main (int_var "x" ∷ int_var "y" ∷ bool_var "c" ∷ []) []
+nothing_wrong = alone (changed []
     (equation "ok" (Truth true) ∷ []))
 
 -- node main(x, y: int; c: bool) returns (ok: bool);
 -- let ok = z; tel
 abbrev pub unknown_name : Program
-unknown_name = alone (main (int_var "x" ∷ int_var "y" ∷ bool_var "c" ∷ []) []
+unknown_name = alone (changed []
     (equation "ok" (v "z") ∷ []))
 
 -- node main(x, y: int; c: bool) returns (ok: bool);
 -- let ok = g(x); tel
 abbrev pub unknown_node : Program
-unknown_node = alone (main (int_var "x" ∷ int_var "y" ∷ bool_var "c" ∷ []) []
+unknown_node = alone (changed []
     (equation "ok" (call "g" (v "x" ∷ [])) ∷ []))
 
 -- node main(x, y: int; c: bool) returns (ok: bool);
 -- let z = 1; ok = true; tel
 abbrev pub unknown_left_name : Program
-unknown_left_name = alone (main (int_var "x" ∷ int_var "y" ∷ bool_var "c" ∷ []) []
+unknown_left_name = alone (changed []
     (equation "z" (Literal 1)
     ∷ equation "ok" (Truth true) ∷ []))
 
@@ -38,7 +42,7 @@ unknown_left_name = alone (main (int_var "x" ∷ int_var "y" ∷ bool_var "c" �
 -- var z: int;
 -- let z = x when d; ok = true; tel
 abbrev pub unknown_clock_name : Program
-unknown_clock_name = alone (main (int_var "x" ∷ int_var "y" ∷ bool_var "c" ∷ []) (int_var "z" ∷ [])
+unknown_clock_name = alone (changed (int_var "z" ∷ [])
     (equation "z" (when_true (v "x") "d")
     ∷ equation "ok" (Truth true) ∷ []))
 
@@ -48,7 +52,7 @@ unknown_clock_name = alone (main (int_var "x" ∷ int_var "y" ∷ bool_var "c" �
 -- let z = x when k; ok = true; tel
 abbrev pub constant_for_a_clock_name : Program
 constant_for_a_clock_name = program (constant "k" (Whole 1) ∷ []) (
-    main (int_var "x" ∷ int_var "y" ∷ bool_var "c" ∷ []) (int_var "z" ∷ [])
+    changed (int_var "z" ∷ [])
     (equation "z" (when_true (v "x") "k")
     ∷ equation "ok" (Truth true) ∷ []) ∷ [])
 
@@ -56,8 +60,7 @@ constant_for_a_clock_name = program (constant "k" (Whole 1) ∷ []) (
 -- var A: int^n;
 -- let A = x^1; ok = true; tel
 abbrev pub unknown_static_name : Program
-unknown_static_name = alone (main (int_var "x" ∷ int_var "y" ∷ bool_var "c" ∷ []) (int_array "A"
-    (static "n" ∷ []) ∷ [])
+unknown_static_name = alone (changed (int_array "A" (static "n" ∷ []) ∷ [])
     (equation "A" (Copies (v "x") (Whole 1))
     ∷ equation "ok" (Truth true) ∷ []))
 
@@ -68,8 +71,7 @@ unknown_static_name = alone (main (int_var "x" ∷ int_var "y" ∷ bool_var "c" 
 -- let z = 1; A = x^1; ok = true; tel
 abbrev pub variable_in_a_static_expression : Program
 variable_in_a_static_expression = program (constant "z" (Whole 2) ∷ []) (
-    main (int_var "x" ∷ int_var "y" ∷ bool_var "c" ∷ []) (int_var "z" ∷ int_array "A"
-    (static "z" ∷ []) ∷ [])
+    changed (int_var "z" ∷ int_array "A" (static "z" ∷ []) ∷ [])
     (equation "z" (Literal 1)
     ∷ equation "A" (Copies (v "x") (Whole 1))
     ∷ equation "ok" (Truth true) ∷ []) ∷ [])
@@ -81,7 +83,7 @@ variable_in_a_static_expression = program (constant "z" (Whole 2) ∷ []) (
 -- let k = x; ok = k = x; tel
 abbrev pub variable_hides_a_constant : Program
 variable_hides_a_constant = program (constant "k" (Combined Divide (Whole 1) (Whole 0)) ∷ []) (
-    main (int_var "x" ∷ int_var "y" ∷ bool_var "c" ∷ []) (int_var "k" ∷ [])
+    changed (int_var "k" ∷ [])
     (equation "k" (v "x")
     ∷ equation "ok" (Binary Equal (v "k") (v "x")) ∷ []) ∷ [])
 
@@ -89,7 +91,7 @@ variable_hides_a_constant = program (constant "k" (Combined Divide (Whole 1) (Wh
 -- var x: int;
 -- let ok = true; tel
 abbrev pub doubled_variable : Program
-doubled_variable = alone (main (int_var "x" ∷ int_var "y" ∷ bool_var "c" ∷ []) (int_var "x" ∷ [])
+doubled_variable = alone (changed (int_var "x" ∷ [])
     (equation "ok" (Truth true) ∷ []))
 
 -- node a(x: int) returns (y: int); let y = x; tel
@@ -102,7 +104,7 @@ doubled_unreached_nodes = program [] (
     (equation "y" (v "x") ∷ [])
     ∷ node "a" (int_var "x" ∷ []) (int_var "y" ∷ []) []
     (equation "y" (v "x") ∷ [])
-    ∷ main (int_var "x" ∷ int_var "y" ∷ bool_var "c" ∷ []) []
+    ∷ changed []
     (equation "ok" (Truth true) ∷ []) ∷ [])
 
 -- const main = 1;
@@ -110,7 +112,7 @@ doubled_unreached_nodes = program [] (
 -- let ok = true; tel
 abbrev pub constant_named_as_a_node : Program
 constant_named_as_a_node = program (constant "main" (Whole 1) ∷ []) (
-    main (int_var "x" ∷ int_var "y" ∷ bool_var "c" ∷ []) []
+    changed []
     (equation "ok" (Truth true) ∷ []) ∷ [])
 
 -- node a<<const k: int>>(x: int) returns (y: int); let y = x + k; tel
@@ -121,7 +123,7 @@ abbrev pub static_argument_too_many : Program
 static_argument_too_many = program [] (
     with_parameters "k" (node "a" (int_var "x" ∷ []) (int_var "y" ∷ []) []
     (equation "y" (Binary Plus (v "x") (v "k")) ∷ []))
-    ∷ main (int_var "x" ∷ int_var "y" ∷ bool_var "c" ∷ []) (int_var "z" ∷ [])
+    ∷ changed (int_var "z" ∷ [])
     (equation "z" (call_with "a" (Whole 1 ∷ Whole 2 ∷ []) (v "x" ∷ []))
     ∷ equation "ok" (Truth true) ∷ []) ∷ [])
 
@@ -133,7 +135,7 @@ abbrev pub unknown_name_unreached : Program
 unknown_name_unreached = program (constant "k" (static "q") ∷ []) (
     node "a" (int_var "x" ∷ []) (int_var "y" ∷ []) []
     (equation "y" (v "z") ∷ [])
-    ∷ main (int_var "x" ∷ int_var "y" ∷ bool_var "c" ∷ []) []
+    ∷ changed []
     (equation "ok" (Truth true) ∷ []) ∷ [])
 
 -- node other(x: int) returns (ok: bool); let ok = true; tel
@@ -154,7 +156,7 @@ no_observer = alone (node "plant" (int_var "x" ∷ []) (int_var "y" ∷ []) []
 -- let A = x^n; ok = true; tel
 abbrev pub constant_without_a_value : Program
 constant_without_a_value = program (constant "n" (Combined Divide (Whole 1) (Whole 0)) ∷ []) (
-    main (int_var "x" ∷ int_var "y" ∷ bool_var "c" ∷ []) (int_array "A" (static "n" ∷ []) ∷ [])
+    changed (int_array "A" (static "n" ∷ []) ∷ [])
     (equation "A" (Copies (v "x") (static "n"))
     ∷ equation "ok" (Truth true) ∷ []) ∷ [])
 
@@ -164,7 +166,7 @@ constant_without_a_value = program (constant "n" (Combined Divide (Whole 1) (Who
 -- let A = x^a; ok = true; tel
 abbrev pub constants_in_a_circle : Program
 constants_in_a_circle = program (constant "a" (static "b") ∷ constant "b" (static "a") ∷ []) (
-    main (int_var "x" ∷ int_var "y" ∷ bool_var "c" ∷ []) (int_array "A" (static "a" ∷ []) ∷ [])
+    changed (int_array "A" (static "a" ∷ []) ∷ [])
     (equation "A" (Copies (v "x") (static "a"))
     ∷ equation "ok" (Truth true) ∷ []) ∷ [])
 
@@ -174,7 +176,7 @@ constants_in_a_circle = program (constant "a" (static "b") ∷ constant "b" (sta
 -- let A = x^n; ok = true; tel
 abbrev pub constant_out_of_range : Program
 constant_out_of_range = program (constant "n" (Combined Plus (Whole 2147483647) (Whole 1)) ∷ []) (
-    main (int_var "x" ∷ int_var "y" ∷ bool_var "c" ∷ []) (int_array "A" (static "n" ∷ []) ∷ [])
+    changed (int_array "A" (static "n" ∷ []) ∷ [])
     (equation "A" (Copies (v "x") (static "n"))
     ∷ equation "ok" (Truth true) ∷ []) ∷ [])
 
@@ -183,7 +185,7 @@ constant_out_of_range = program (constant "n" (Combined Plus (Whole 2147483647) 
 -- let ok = x = n; tel
 abbrev pub constant_in_an_expression : Program
 constant_in_an_expression = program (constant "n" (Combined Divide (Whole 1) (Whole 0)) ∷ []) (
-    main (int_var "x" ∷ int_var "y" ∷ bool_var "c" ∷ []) []
+    changed []
     (equation "ok" (Binary Equal (v "x") (v "n")) ∷ []) ∷ [])
 
 -- const n = 1 div 0;
@@ -191,15 +193,14 @@ constant_in_an_expression = program (constant "n" (Combined Divide (Whole 1) (Wh
 -- let ok = true; tel
 abbrev pub unreached_constant : Program
 unreached_constant = program (constant "n" (Combined Divide (Whole 1) (Whole 0)) ∷ []) (
-    main (int_var "x" ∷ int_var "y" ∷ bool_var "c" ∷ []) []
+    changed []
     (equation "ok" (Truth true) ∷ []) ∷ [])
 
 -- node main(x, y: int; c: bool) returns (ok: bool);
 -- var A: int^0;
 -- let A = x^1; ok = true; tel
 abbrev pub size_of_zero : Program
-size_of_zero = alone (main (int_var "x" ∷ int_var "y" ∷ bool_var "c" ∷ []) (int_array "A"
-    (Whole 0 ∷ []) ∷ [])
+size_of_zero = alone (changed (int_array "A" (Whole 0 ∷ []) ∷ [])
     (equation "A" (Copies (v "x") (Whole 1))
     ∷ equation "ok" (Truth true) ∷ []))
 
@@ -209,14 +210,14 @@ size_of_zero = alone (main (int_var "x" ∷ int_var "y" ∷ bool_var "c" ∷ [])
 -- let A = x^1; ok = true; tel
 abbrev pub negative_size : Program
 negative_size = program (constant "n" (Negated (Whole 1)) ∷ []) (
-    main (int_var "x" ∷ int_var "y" ∷ bool_var "c" ∷ []) (int_array "A" (static "n" ∷ []) ∷ [])
+    changed (int_array "A" (static "n" ∷ []) ∷ [])
     (equation "A" (Copies (v "x") (Whole 1))
     ∷ equation "ok" (Truth true) ∷ []) ∷ [])
 
 -- node main(x, y: int; c: bool) returns (ok: bool);
 -- let ok = (x^4097)[0] = y; tel
 abbrev pub size_above_4096 : Program
-size_above_4096 = alone (main (int_var "x" ∷ int_var "y" ∷ bool_var "c" ∷ []) []
+size_above_4096 = alone (changed []
     (equation "ok" (Binary Equal (Index (Group (Copies (v "x") (Whole 4097))) (Whole 0)) (v "y"))
     ∷ []))
 
@@ -224,8 +225,7 @@ size_above_4096 = alone (main (int_var "x" ∷ int_var "y" ∷ bool_var "c" ∷ 
 -- var A: int^3;
 -- let A = x^3; ok = A[4096] = x; tel
 abbrev pub index_above_4095 : Program
-index_above_4095 = alone (main (int_var "x" ∷ int_var "y" ∷ bool_var "c" ∷ []) (int_array "A"
-    (Whole 3 ∷ []) ∷ [])
+index_above_4095 = alone (changed (int_array "A" (Whole 3 ∷ []) ∷ [])
     (equation "A" (Copies (v "x") (Whole 3))
     ∷ equation "ok" (Binary Equal (Index (v "A") (Whole 4096)) (v "x")) ∷ []))
 
@@ -233,8 +233,7 @@ index_above_4095 = alone (main (int_var "x" ∷ int_var "y" ∷ bool_var "c" ∷
 -- var A: int^3; B: int^2;
 -- let A = x^3; B = A[2..1]; ok = true; tel
 abbrev pub slice_backwards : Program
-slice_backwards = alone (main (int_var "x" ∷ int_var "y" ∷ bool_var "c" ∷ []) (int_array "A"
-    (Whole 3 ∷ []) ∷ int_array "B" (Whole 2 ∷ []) ∷ [])
+slice_backwards = alone (changed (int_array "A" (Whole 3 ∷ []) ∷ int_array "B" (Whole 2 ∷ []) ∷ [])
     (equation "A" (Copies (v "x") (Whole 3))
     ∷ equation "B" (Slice (v "A") (Whole 2) (Whole 1))
     ∷ equation "ok" (Truth true) ∷ []))
@@ -243,15 +242,14 @@ slice_backwards = alone (main (int_var "x" ∷ int_var "y" ∷ bool_var "c" ∷ 
 -- var A: int^257^256;
 -- let A = x^257^256; ok = true; tel
 abbrev pub type_of_65792_elements : Program
-type_of_65792_elements = alone (main (int_var "x" ∷ int_var "y" ∷ bool_var "c" ∷ []) (int_array "A"
-    (Whole 257 ∷ Whole 256 ∷ []) ∷ [])
+type_of_65792_elements = alone (changed (int_array "A" (Whole 257 ∷ Whole 256 ∷ []) ∷ [])
     (equation "A" (Copies (Copies (v "x") (Whole 257)) (Whole 256))
     ∷ equation "ok" (Truth true) ∷ []))
 
 -- node main(x, y: int; c: bool) returns (ok: bool);
 -- let ok = main(x, y, c); tel
 abbrev pub calls_itself : Program
-calls_itself = alone (main (int_var "x" ∷ int_var "y" ∷ bool_var "c" ∷ []) []
+calls_itself = alone (changed []
     (equation "ok" (call "main" (v "x" ∷ v "y" ∷ v "c" ∷ [])) ∷ []))
 
 -- node f(x: int) returns (y: int); let y = g(x); tel
@@ -268,7 +266,7 @@ calls_in_a_circle = program [] (
     (equation "y" (iterate Red "h" (Whole 1) (v "x" ∷ Array (exprs (v "x" ∷ [])) ∷ [])) ∷ [])
     ∷ node "h" (int_var "a" ∷ int_var "x" ∷ []) (int_var "y" ∷ []) []
     (equation "y" (call "f" (v "a" ∷ [])) ∷ [])
-    ∷ main (int_var "x" ∷ int_var "y" ∷ bool_var "c" ∷ []) (int_var "z" ∷ [])
+    ∷ changed (int_var "z" ∷ [])
     (equation "z" (call "f" (v "x" ∷ []))
     ∷ equation "ok" (Truth true) ∷ []) ∷ [])
 
@@ -279,7 +277,7 @@ abbrev pub unreached_recursion : Program
 unreached_recursion = program [] (
     node "f" (int_var "x" ∷ []) (int_var "y" ∷ []) []
     (equation "y" (call "f" (v "x" ∷ [])) ∷ [])
-    ∷ main (int_var "x" ∷ int_var "y" ∷ bool_var "c" ∷ []) []
+    ∷ changed []
     (equation "ok" (Truth true) ∷ []) ∷ [])
 
 -- ## The shape of the node under test and of its observer
@@ -336,27 +334,26 @@ functions_under_test = bench "plant" "obs" (
 -- node main(x, y: int; c: bool) returns (ok: bool);
 -- let ok = x; tel
 abbrev pub int_for_a_truth : Program
-int_for_a_truth = alone (main (int_var "x" ∷ int_var "y" ∷ bool_var "c" ∷ []) []
+int_for_a_truth = alone (changed []
     (equation "ok" (v "x") ∷ []))
 
 -- node main(x, y: int; c: bool) returns (ok: bool);
 -- let ok = c < c; tel
 abbrev pub truths_in_order : Program
-truths_in_order = alone (main (int_var "x" ∷ int_var "y" ∷ bool_var "c" ∷ []) []
+truths_in_order = alone (changed []
     (equation "ok" (Binary Less (v "c") (v "c")) ∷ []))
 
 -- node main(x, y: int; c: bool) returns (ok: bool);
 -- let ok = if c then x else true; tel
 abbrev pub branches_of_two_types : Program
-branches_of_two_types = alone (main (int_var "x" ∷ int_var "y" ∷ bool_var "c" ∷ []) []
+branches_of_two_types = alone (changed []
     (equation "ok" (If (v "c") (v "x") (Truth true)) ∷ []))
 
 -- node main(x, y: int; c: bool) returns (ok: bool);
 -- var A: int^3;
 -- let A = x^3; ok = A[3] = x; tel
 abbrev pub index_past_the_end : Program
-index_past_the_end = alone (main (int_var "x" ∷ int_var "y" ∷ bool_var "c" ∷ []) (int_array "A"
-    (Whole 3 ∷ []) ∷ [])
+index_past_the_end = alone (changed (int_array "A" (Whole 3 ∷ []) ∷ [])
     (equation "A" (Copies (v "x") (Whole 3))
     ∷ equation "ok" (Binary Equal (Index (v "A") (Whole 3)) (v "x")) ∷ []))
 
@@ -364,8 +361,8 @@ index_past_the_end = alone (main (int_var "x" ∷ int_var "y" ∷ bool_var "c" �
 -- var A: int^3; B: int^2;
 -- let A = x^3; B = A[2..3]; ok = true; tel
 abbrev pub slice_past_the_end : Program
-slice_past_the_end = alone (main (int_var "x" ∷ int_var "y" ∷ bool_var "c" ∷ []) (int_array "A"
-    (Whole 3 ∷ []) ∷ int_array "B" (Whole 2 ∷ []) ∷ [])
+slice_past_the_end = alone (changed (int_array "A" (Whole 3 ∷ []) ∷ int_array "B" (Whole 2 ∷ [])
+    ∷ [])
     (equation "A" (Copies (v "x") (Whole 3))
     ∷ equation "B" (Slice (v "A") (Whole 2) (Whole 3))
     ∷ equation "ok" (Truth true) ∷ []))
@@ -374,8 +371,7 @@ slice_past_the_end = alone (main (int_var "x" ∷ int_var "y" ∷ bool_var "c" �
 -- var A: int^3;
 -- let A = x^3; ok = A = A; tel
 abbrev pub equal_arrays : Program
-equal_arrays = alone (main (int_var "x" ∷ int_var "y" ∷ bool_var "c" ∷ []) (int_array "A"
-    (Whole 3 ∷ []) ∷ [])
+equal_arrays = alone (changed (int_array "A" (Whole 3 ∷ []) ∷ [])
     (equation "A" (Copies (v "x") (Whole 3))
     ∷ equation "ok" (Binary Equal (v "A") (v "A")) ∷ []))
 
@@ -383,8 +379,7 @@ equal_arrays = alone (main (int_var "x" ∷ int_var "y" ∷ bool_var "c" ∷ [])
 -- var A: int^4096;
 -- let A = x^4096; ok = (A | [x])[0] = x; tel
 abbrev pub joined_past_4096 : Program
-joined_past_4096 = alone (main (int_var "x" ∷ int_var "y" ∷ bool_var "c" ∷ []) (int_array "A"
-    (Whole 4096 ∷ []) ∷ [])
+joined_past_4096 = alone (changed (int_array "A" (Whole 4096 ∷ []) ∷ [])
     (equation "A" (Copies (v "x") (Whole 4096))
     ∷ equation "ok" (Binary Equal (Index (Group (Join (v "A") (Array (exprs (v "x" ∷ [])))))
     (Whole 0)) (v "x")) ∷ []))
@@ -398,7 +393,7 @@ two_results_inside = program [] (
     node "two" (int_var "a" ∷ int_var "b" ∷ []) (int_var "p" ∷ int_var "q" ∷ []) []
     (equation "p" (v "a")
     ∷ equation "q" (v "b") ∷ [])
-    ∷ main (int_var "x" ∷ int_var "y" ∷ bool_var "c" ∷ []) (int_var "z" ∷ [])
+    ∷ changed (int_var "z" ∷ [])
     (equation "z" (Binary Plus (call "two" (v "x" ∷ v "y" ∷ [])) (Literal 1))
     ∷ equation "ok" (Truth true) ∷ []) ∷ [])
 
@@ -411,14 +406,14 @@ two_results_in_parentheses = program [] (
     node "two" (int_var "a" ∷ int_var "b" ∷ []) (int_var "p" ∷ int_var "q" ∷ []) []
     (equation "p" (v "a")
     ∷ equation "q" (v "b") ∷ [])
-    ∷ main (int_var "x" ∷ int_var "y" ∷ bool_var "c" ∷ []) (int_var "p" ∷ int_var "q" ∷ [])
+    ∷ changed (int_var "p" ∷ int_var "q" ∷ [])
     (equations "p q" (Group (Group (call "two" (v "x" ∷ v "y" ∷ []))))
     ∷ equation "ok" (Truth true) ∷ []) ∷ [])
 
 -- node main(x, y: int; c: bool) returns (ok: bool);
 -- let assert x; ok = true; tel
 abbrev pub assertion_of_an_int : Program
-assertion_of_an_int = alone (main (int_var "x" ∷ int_var "y" ∷ bool_var "c" ∷ []) []
+assertion_of_an_int = alone (changed []
     (Assertion (v "x")
     ∷ equation "ok" (Truth true) ∷ []))
 
@@ -426,8 +421,8 @@ assertion_of_an_int = alone (main (int_var "x" ∷ int_var "y" ∷ bool_var "c" 
 -- var A: int^3; B: int^2;
 -- let A = x^3; B = map<<+,2>>(A, A); ok = true; tel
 abbrev pub map_of_other_length : Program
-map_of_other_length = alone (main (int_var "x" ∷ int_var "y" ∷ bool_var "c" ∷ []) (int_array "A"
-    (Whole 3 ∷ []) ∷ int_array "B" (Whole 2 ∷ []) ∷ [])
+map_of_other_length = alone (changed (int_array "A" (Whole 3 ∷ []) ∷ int_array "B" (Whole 2 ∷ [])
+    ∷ [])
     (equation "A" (Copies (v "x") (Whole 3))
     ∷ equation "B" (iterate_symbol Map Plus (Whole 2) (v "A" ∷ v "A" ∷ []))
     ∷ equation "ok" (Truth true) ∷ []))
@@ -440,7 +435,7 @@ abbrev pub red_without_arrays : Program
 red_without_arrays = program [] (
     node "up" (int_var "a" ∷ []) (int_var "b" ∷ []) []
     (equation "b" (Binary Plus (v "a") (Literal 1)) ∷ [])
-    ∷ main (int_var "x" ∷ int_var "y" ∷ bool_var "c" ∷ []) (int_var "z" ∷ [])
+    ∷ changed (int_var "z" ∷ [])
     (equation "z" (iterate Red "up" (Whole 3) (v "x" ∷ []))
     ∷ equation "ok" (Truth true) ∷ []) ∷ [])
 
@@ -452,7 +447,7 @@ abbrev pub fill_of_one_output : Program
 fill_of_one_output = program [] (
     node "up" (int_var "a" ∷ []) (int_var "b" ∷ []) []
     (equation "b" (Binary Plus (v "a") (Literal 1)) ∷ [])
-    ∷ main (int_var "x" ∷ int_var "y" ∷ bool_var "c" ∷ []) (int_var "z" ∷ [])
+    ∷ changed (int_var "z" ∷ [])
     (equation "z" (iterate Fill "up" (Whole 3) (v "x" ∷ []))
     ∷ equation "ok" (Truth true) ∷ []) ∷ [])
 
@@ -462,15 +457,14 @@ fill_of_one_output = program [] (
 -- var z: int;
 -- let ok = true; tel
 abbrev pub local_without_a_definition : Program
-local_without_a_definition = alone (main (int_var "x" ∷ int_var "y" ∷ bool_var "c" ∷ [])
-    (int_var "z" ∷ [])
+local_without_a_definition = alone (changed (int_var "z" ∷ [])
     (equation "ok" (Truth true) ∷ []))
 
 -- node main(x, y: int; c: bool) returns (ok: bool);
 -- var z: int;
 -- let z = x; z = y; ok = true; tel
 abbrev pub two_equations : Program
-two_equations = alone (main (int_var "x" ∷ int_var "y" ∷ bool_var "c" ∷ []) (int_var "z" ∷ [])
+two_equations = alone (changed (int_var "z" ∷ [])
     (equation "z" (v "x")
     ∷ equation "z" (v "y")
     ∷ equation "ok" (Truth true) ∷ []))
@@ -484,14 +478,14 @@ two_left_sides_of_one_name = program [] (
     node "two" (int_var "a" ∷ int_var "b" ∷ []) (int_var "p" ∷ int_var "q" ∷ []) []
     (equation "p" (Binary Plus (v "a") (Literal 1))
     ∷ equation "q" (Binary Times (v "b") (Literal 2)) ∷ [])
-    ∷ main (int_var "x" ∷ int_var "y" ∷ bool_var "c" ∷ []) (int_var "p" ∷ [])
+    ∷ changed (int_var "p" ∷ [])
     (equations "p p" (call "two" (v "x" ∷ v "y" ∷ []))
     ∷ equation "ok" (Truth true) ∷ []) ∷ [])
 
 -- node main(x, y: int; c: bool) returns (ok: bool);
 -- let x = 1; ok = true; tel
 abbrev pub input_on_the_left : Program
-input_on_the_left = alone (main (int_var "x" ∷ int_var "y" ∷ bool_var "c" ∷ []) []
+input_on_the_left = alone (changed []
     (equation "x" (Literal 1)
     ∷ equation "ok" (Truth true) ∷ []))
 
@@ -503,7 +497,7 @@ abbrev pub function_with_a_memory : Program
 function_with_a_memory = program [] (
     function (node "f" (int_var "x" ∷ []) (int_var "y" ∷ []) []
     (equation "y" (Pre (v "x")) ∷ []))
-    ∷ main (int_var "x" ∷ int_var "y" ∷ bool_var "c" ∷ []) (int_var "z" ∷ [])
+    ∷ changed (int_var "z" ∷ [])
     (equation "z" (call "f" (v "x" ∷ []))
     ∷ equation "ok" (Truth true) ∷ []) ∷ [])
 
@@ -518,7 +512,7 @@ function_that_calls_a_node = program [] (
     (equation "y" (v "x") ∷ [])
     ∷ function (node "f" (int_var "x" ∷ []) (int_var "y" ∷ []) []
     (equation "y" (call "g" (v "x" ∷ [])) ∷ []))
-    ∷ main (int_var "x" ∷ int_var "y" ∷ bool_var "c" ∷ []) (int_var "z" ∷ [])
+    ∷ changed (int_var "z" ∷ [])
     (equation "z" (call "f" (v "x" ∷ []))
     ∷ equation "ok" (Truth true) ∷ []) ∷ [])
 
@@ -533,7 +527,7 @@ function_that_iterates_a_node = program [] (
     (equation "y" (v "x") ∷ [])
     ∷ function (node "f" (int_var "x" ∷ []) (int_var "y" ∷ []) []
     (equation "y" (iterate Red "g" (Whole 1) (v "x" ∷ Array (exprs (v "x" ∷ [])) ∷ [])) ∷ []))
-    ∷ main (int_var "x" ∷ int_var "y" ∷ bool_var "c" ∷ []) (int_var "z" ∷ [])
+    ∷ changed (int_var "z" ∷ [])
     (equation "z" (call "f" (v "x" ∷ []))
     ∷ equation "ok" (Truth true) ∷ []) ∷ [])
 
@@ -544,7 +538,7 @@ abbrev pub unreached_function_with_a_memory : Program
 unreached_function_with_a_memory = program [] (
     function (node "f" (int_var "x" ∷ []) (int_var "y" ∷ []) []
     (equation "y" (Pre (v "x")) ∷ []))
-    ∷ main (int_var "x" ∷ int_var "y" ∷ bool_var "c" ∷ []) []
+    ∷ changed []
     (equation "ok" (Truth true) ∷ []) ∷ [])
 
 -- ## The order of refusals
@@ -567,7 +561,7 @@ call_before_its_arguments = program [] (
     ∷ node "no_range" (int_var "x" ∷ []) (int_var "y" ∷ []) (int_array "A" (Whole 0 ∷ []) ∷ [])
     (equation "y" (v "x")
     ∷ equation "A" (Copies (v "x") (Whole 1)) ∷ [])
-    ∷ main (int_var "x" ∷ int_var "y" ∷ bool_var "c" ∷ []) (int_var "z" ∷ [])
+    ∷ changed (int_var "z" ∷ [])
     (equation "z" (call "no_range" (call "no_value" (v "x" ∷ []) ∷ []))
     ∷ equation "ok" (Truth true) ∷ []) ∷ [])
 
@@ -589,7 +583,7 @@ arguments_after_their_call = program [] (
     ∷ node "no_range" (int_var "x" ∷ []) (int_var "y" ∷ []) (int_array "A" (Whole 0 ∷ []) ∷ [])
     (equation "y" (v "x")
     ∷ equation "A" (Copies (v "x") (Whole 1)) ∷ [])
-    ∷ main (int_var "x" ∷ int_var "y" ∷ bool_var "c" ∷ []) (int_var "z" ∷ [])
+    ∷ changed (int_var "z" ∷ [])
     (equation "z" (call "no_value" (call "no_range" (v "x" ∷ []) ∷ []))
     ∷ equation "ok" (Truth true) ∷ []) ∷ [])
 
@@ -597,8 +591,8 @@ arguments_after_their_call = program [] (
 -- var A: int^0; B: int^(1 div 0);
 -- let A = x^1; B = x^1; ok = true; tel
 abbrev pub value_before_range : Program
-value_before_range = alone (main (int_var "x" ∷ int_var "y" ∷ bool_var "c" ∷ []) (int_array "A"
-    (Whole 0 ∷ []) ∷ int_array "B" (Grouped (Combined Divide (Whole 1) (Whole 0)) ∷ []) ∷ [])
+value_before_range = alone (changed (int_array "A" (Whole 0 ∷ []) ∷ int_array "B"
+    (Grouped (Combined Divide (Whole 1) (Whole 0)) ∷ []) ∷ [])
     (equation "A" (Copies (v "x") (Whole 1))
     ∷ equation "B" (Copies (v "x") (Whole 1))
     ∷ equation "ok" (Truth true) ∷ []))
@@ -615,7 +609,7 @@ one_value_of_a_parameter = program [] (
     (static "k" ∷ []) ∷ [])
     (equation "A" (Copies (v "x") (static "k"))
     ∷ equation "y" (Index (v "A") (Whole 0)) ∷ []))
-    ∷ main (int_var "x" ∷ int_var "y" ∷ bool_var "c" ∷ []) (int_var "z" ∷ int_var "w" ∷ [])
+    ∷ changed (int_var "z" ∷ int_var "w" ∷ [])
     (equation "z" (call_with "g" (Whole 1 ∷ []) (v "x" ∷ []))
     ∷ equation "w" (call_with "g" (Whole 0 ∷ []) (v "x" ∷ []))
     ∷ equation "ok" (Truth true) ∷ []) ∷ [])
@@ -624,8 +618,7 @@ one_value_of_a_parameter = program [] (
 -- var z: int;
 -- let z = q; ok = main(x, y, c); tel
 abbrev pub name_before_recursion : Program
-name_before_recursion = alone (main (int_var "x" ∷ int_var "y" ∷ bool_var "c" ∷ [])
-    (int_var "z" ∷ [])
+name_before_recursion = alone (changed (int_var "z" ∷ [])
     (equation "z" (v "q")
     ∷ equation "ok" (call "main" (v "x" ∷ v "y" ∷ v "c" ∷ [])) ∷ []))
 
@@ -667,7 +660,7 @@ abbrev pub types_before_clocks : Program
 types_before_clocks = program [] (
     node "g" (int_var "x" ∷ []) (int_var "y" ∷ []) []
     (equation "y" (Truth true) ∷ [])
-    ∷ main (int_var "x" ∷ int_var "y" ∷ bool_var "c" ∷ []) (int_var "z" ∷ int_var "w" ∷ [])
+    ∷ changed (int_var "z" ∷ int_var "w" ∷ [])
     (equation "z" (when_true (v "x") "c")
     ∷ equation "w" (call "g" (v "x" ∷ []))
     ∷ equation "ok" (Truth true) ∷ []) ∷ [])
@@ -680,7 +673,7 @@ abbrev pub clocks_before_definitions : Program
 clocks_before_definitions = program [] (
     node "f" (int_var "x" ∷ []) (int_var "y" ∷ []) []
     (equation "y" (Current (v "x")) ∷ [])
-    ∷ main (int_var "x" ∷ int_var "y" ∷ bool_var "c" ∷ []) (int_var "z" ∷ int_var "w" ∷ [])
+    ∷ changed (int_var "z" ∷ int_var "w" ∷ [])
     (equation "w" (v "x")
     ∷ equation "w" (v "y")
     ∷ equation "z" (call "f" (v "x" ∷ []))

@@ -29,6 +29,7 @@ fn worked_examples() {
     clocks::assertions_count_at_the_ticks_of_their_clock();
     arrays::iterators();
     arrays::forms_of_arrays();
+    arrays::where_a_fault_counts();
     arrays::what_runs_in_a_branch_that_is_not_chosen();
     arrays::several_results();
     arrays::an_observer();

@@ -5,7 +5,7 @@ ghost use Rattle.lb_syntax.specs.Lists.{Every};
 ghost use Rattle.lb_check.specs.Acceptance.{IsAccepted};
 ghost use Rattle.lb_check.specs.Verdicts.{HasVerdict, Passed, Fault, Assertion_fails, False};
 ghost use Rattle.lb_check.specs.WorkedSamples.{trace};
-ghost use Rattle.lb_check.specs.WorkedArrays.{counters, digits, differences, pairs, unrolled, two_maps, far_steps, sliced, matrix, matrix_row, chosen_array, whole_choice_faults, array_memory, copied, size_by_a_constant, static_parameter, call_not_chosen, symbol_not_chosen, two_results, loop_through_pre, exchanged, observed};
+ghost use Rattle.lb_check.specs.WorkedArrays.{counters, digits, differences, pairs, unrolled, two_maps, far_steps, sliced, matrix, matrix_row, chosen_array, whole_choice_faults, array_memory, copied, size_by_a_constant, static_parameter, unused_input, assertion_with_a_fault, element_not_taken, value_not_sampled, call_not_chosen, symbol_not_chosen, two_results, loop_through_pre, exchanged, observed};
 
 /// `map` runs an instance an element, `red` and `fill` go from the first element on.
 pub fn iterators()
@@ -35,6 +35,17 @@ pub fn forms_of_arrays()
     ensures copies_of_copies { HasVerdict copied (trace "5 5") Passed }
     ensures size_by_a_constant { HasVerdict size_by_a_constant (trace "3 3; 3 4") (False 1) }
     ensures static_parameter_of_each_call { HasVerdict static_parameter (trace "1 304") Passed }
+{}
+
+/// A fault counts in a variable, an input of a call and an assertion; not in what is left out.
+pub fn where_a_fault_counts()
+    ensures accepted { Every IsAccepted (unused_input ∷ assertion_with_a_fault ∷ element_not_taken
+        ∷ value_not_sampled ∷ []) }
+    ensures input_that_is_not_used { HasVerdict unused_input (trace "5 0") (Fault 0) }
+    ensures assertion { HasVerdict assertion_with_a_fault (trace "5 0") (Fault 0) }
+    ensures element_that_is_not_taken { HasVerdict element_not_taken (trace "5 0") Passed }
+    ensures value_that_is_not_sampled { HasVerdict value_not_sampled (trace "f 0; t 1; t 0")
+        (Fault 2) }
 {}
 
 /// A call runs in a branch that is not chosen, and its faults count; those of a symbol do not.
