@@ -3,9 +3,9 @@
 use Rattle.std.specs.Prelude.{true, [], ◌∷◌}
 use Rattle.lb_syntax.specs.declared.tree.UnaryOperator.TheVariants.{Not, Negate}
 use Rattle.lb_syntax.specs.declared.tree.BinaryOperator.TheVariants.{Or, Xor, And, Implies, Equal, Unequal, Less, AtMost, Greater, AtLeast, Plus, Divide, Modulo}
-use Rattle.lb_syntax.specs.Tree.{Literal, Truth, Group, Unary, Binary, If, Arrow, Fby, Pre, AtMostOne, Nor, Assertion}
+use Rattle.lb_syntax.specs.Tree.{Literal, Truth, Group, Unary, Binary, If, Arrow, Fby, Pre, Current, AtMostOne, Nor, Assertion}
 use Rattle.lb_static.specs.Instances.{Program}
-use Rattle.lb_static.specs.WorkedTrees.{v, exprs, int_var, bool_var, equation, main, alone}
+use Rattle.lb_static.specs.WorkedTrees.{v, exprs, when_true, int_var, bool_var, equation, main, alone}
 use Rattle.lb_check.specs.Solutions.{Inputs}
 use Rattle.lb_check.specs.WorkedSamples.{trace}
 
@@ -255,6 +255,22 @@ abbrev pub unused_operand : Program
 unused_operand = alone (main (int_var "y" ∷ []) (int_var "z" ∷ [])
     (equation "z" (Arrow (Literal 1) (Pre (Group (Binary Divide (Literal 1) (v "y")))))
     ∷ equation "ok" (Truth true) ∷ []))
+
+-- node main(y: int) returns (ok: bool);
+-- var z: int;
+-- let z = 1 fby 1 / y; ok = true; tel
+abbrev pub unused_operand_of_fby : Program
+unused_operand_of_fby = alone (main (int_var "y" ∷ []) (int_var "z" ∷ [])
+    (equation "z" (Fby (Literal 1) (Binary Divide (Literal 1) (v "y")))
+    ∷ equation "ok" (Truth true) ∷ []))
+
+-- node main(b, c: bool; x: int) returns (ok: bool);
+-- let ok = if b then true else current (1 / (x when c)) > 0; tel
+abbrev pub unused_operand_of_current : Program
+unused_operand_of_current = alone (main (bool_var "b" ∷ bool_var "c" ∷ int_var "x" ∷ []) []
+    (equation "ok" (If (v "b") (Truth true) (Binary Greater
+    (Current (Group (Binary Divide (Literal 1) (Group (when_true (v "x") "c"))))) (Literal 0)))
+    ∷ []))
 
 -- node main(y: int) returns (ok: bool);
 -- var z: int;

@@ -19,7 +19,7 @@ fn worked_examples() {
     scalars::the_first_instant_decides();
     scalars::operators_of_data();
     scalars::first_instants();
-    scalars::the_operand_of_pre_is_a_named_place();
+    scalars::the_operand_of_a_memory_is_a_named_place();
     clocks::a_counter_on_a_slower_clock();
     clocks::memories_on_a_slower_clock();
     clocks::calls_with_clocked_parameters();

@@ -6,7 +6,7 @@ ghost use Rattle.lb_check.specs.Scalars.{Integer, Boolean};
 ghost use Rattle.lb_check.specs.Acceptance.{IsAccepted};
 ghost use Rattle.lb_check.specs.Verdicts.{HasVerdict, Passed, Fault, Assertion_fails, False};
 ghost use Rattle.lb_check.specs.WorkedSamples.{trace};
-ghost use Rattle.lb_check.specs.WorkedScalars.{counter, assuming_counter, increment, quotient_by_minus_one, remainder_by_minus_one, negation, quotients, literal_quotients, each_sign, chosen_branch, strict_and, strict_or, strict_implies, strict_count, all_three, without_a_fault, property_alone, assumed, logic, equality_of_truths, comparisons, counting, logic_table, equality_table, comparison_table, first_then, followed, before_the_first, truth_before_the_first, unused_operand, unused_side};
+ghost use Rattle.lb_check.specs.WorkedScalars.{counter, assuming_counter, increment, quotient_by_minus_one, remainder_by_minus_one, negation, quotients, literal_quotients, each_sign, chosen_branch, strict_and, strict_or, strict_implies, strict_count, all_three, without_a_fault, property_alone, assumed, logic, equality_of_truths, comparisons, counting, logic_table, equality_table, comparison_table, first_then, followed, before_the_first, truth_before_the_first, unused_operand, unused_operand_of_fby, unused_operand_of_current, unused_side};
 
 /// The notation of traces below: instants parted by semicolons, cells by spaces.
 pub fn how_traces_are_written()
@@ -95,9 +95,13 @@ pub fn first_instants()
     ensures pre_of_a_bool_is_false { HasVerdict truth_before_the_first (trace "t") (False 0) }
 {}
 
-/// A fault counts where a memory keeps it, used or not; a side of `->` that is not used is none.
-pub fn the_operand_of_pre_is_a_named_place()
-    ensures accepted { Every IsAccepted (unused_operand ∷ unused_side ∷ []) }
+/// A fault counts where `pre`, `fby` or `current` keeps it; in an unused side of `->` it does not.
+pub fn the_operand_of_a_memory_is_a_named_place()
+    ensures accepted { Every IsAccepted (unused_operand ∷ unused_operand_of_fby
+        ∷ unused_operand_of_current ∷ unused_side ∷ []) }
     ensures operand_of_pre { HasVerdict unused_operand (trace "0") (Fault 0) }
+    ensures operand_of_fby { HasVerdict unused_operand_of_fby (trace "0") (Fault 0) }
+    ensures operand_of_current { HasVerdict unused_operand_of_current
+        (trace "t f 0; t t 1; t t 0") (Fault 2) }
     ensures unused_side_of_arrow { HasVerdict unused_side (trace "0; 1") Passed }
 {}
