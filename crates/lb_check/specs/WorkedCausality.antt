@@ -35,6 +35,15 @@ clock_of_itself = alone (main (int_var "x" ∷ []) (bool_var "c" ∷ on_true (bo
     ∷ equation "c" (Current (v "y"))
     ∷ equation "ok" (Truth true) ∷ []))
 
+-- node main(x: int) returns (ok: bool);
+-- var c: bool; y: bool when c;
+-- let y = true when c; c = current pre y; ok = true; tel
+abbrev pub clock_of_a_memory : Program
+clock_of_a_memory = alone (main (int_var "x" ∷ []) (bool_var "c" ∷ on_true (bool_var "y") "c" ∷ [])
+    (equation "y" (when_true (Truth true) "c")
+    ∷ equation "c" (Current (Pre (v "y")))
+    ∷ equation "ok" (Truth true) ∷ []))
+
 -- node main(c: bool) returns (ok: bool);
 -- var x, y: int;
 -- let x = if c then y else 1; y = if c then 1 else x; ok = true; tel

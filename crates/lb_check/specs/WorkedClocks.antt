@@ -294,6 +294,16 @@ clocks_in_a_circle = alone (main (int_var "x" ∷ []) (on_true (bool_var "a") "b
     ∷ equation "b" (when_true (Truth true) "a")
     ∷ equation "ok" (Truth true) ∷ []))
 
+-- node main(x: int) returns (ok: bool);
+-- var a: bool when b; b: bool when a;
+-- let a = true; b = true; ok = true; tel
+abbrev pub circle_of_literals : Program
+circle_of_literals = alone (main (int_var "x" ∷ []) (on_true (bool_var "a") "b" ∷ on_true
+    (bool_var "b") "a" ∷ [])
+    (equation "a" (Truth true)
+    ∷ equation "b" (Truth true)
+    ∷ equation "ok" (Truth true) ∷ []))
+
 -- node main(x, y: int; c: bool) returns (ok: bool);
 -- var z: int;
 -- let z = x + (y when c); ok = true; tel

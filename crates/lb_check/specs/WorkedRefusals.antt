@@ -127,6 +127,18 @@ static_argument_too_many = program [] (
     (equation "z" (call_with "a" (Whole 1 ∷ Whole 2 ∷ []) (v "x" ∷ []))
     ∷ equation "ok" (Truth true) ∷ []) ∷ [])
 
+-- node a<<const k: int>>(x: int) returns (y: int); let y = x + k; tel
+-- node main(x, y: int; c: bool) returns (ok: bool);
+-- var z: int;
+-- let z = a(x); ok = true; tel
+abbrev pub static_argument_missing : Program
+static_argument_missing = program [] (
+    with_parameters "k" (node "a" (int_var "x" ∷ []) (int_var "y" ∷ []) []
+    (equation "y" (Binary Plus (v "x") (v "k")) ∷ []))
+    ∷ changed (int_var "z" ∷ [])
+    (equation "z" (call "a" (v "x" ∷ []))
+    ∷ equation "ok" (Truth true) ∷ []) ∷ [])
+
 -- const k = q;
 -- node a(x: int) returns (y: int); let y = z; tel
 -- node main(x, y: int; c: bool) returns (ok: bool);

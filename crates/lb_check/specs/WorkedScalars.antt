@@ -96,6 +96,15 @@ chosen_branch = alone (main (int_var "n" ∷ int_var "d" ∷ []) (int_var "q" �
     ∷ equation "ok" (Binary AtLeast (v "q") (Literal 0)) ∷ []))
 
 -- node main(n, d: int) returns (ok: bool);
+-- var q: int;
+-- let q = if d <> 0 then n / d else 0; ok = q >= 0; tel
+abbrev pub other_branch : Program
+other_branch = alone (main (int_var "n" ∷ int_var "d" ∷ []) (int_var "q" ∷ [])
+    (equation "q" (If (Binary Unequal (v "d") (Literal 0)) (Binary Divide (v "n") (v "d"))
+    (Literal 0))
+    ∷ equation "ok" (Binary AtLeast (v "q") (Literal 0)) ∷ []))
+
+-- node main(n, d: int) returns (ok: bool);
 -- let ok = d <> 0 and n / d > 2; tel
 abbrev pub strict_and : Program
 strict_and = alone (main (int_var "n" ∷ int_var "d" ∷ []) []

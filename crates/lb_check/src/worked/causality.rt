@@ -6,13 +6,14 @@ ghost use Rattle.lb_syntax.specs.Refusals.{E13};
 ghost use Rattle.lb_check.specs.Acceptance.{IsAccepted};
 ghost use Rattle.lb_check.specs.Verdicts.{HasVerdict, Passed};
 ghost use Rattle.lb_check.specs.WorkedSamples.{trace};
-ghost use Rattle.lb_check.specs.WorkedCausality.{each_other, itself, clock_of_itself, both_branches, both_sides, first_side_of_fby, unused_by_product, crossed_results, through_the_observer, one_after_the_other, through_pre, through_fby, elements_of_one_array, running_sums, one_array_in_a_circle, iterated_array, slower_loop};
+ghost use Rattle.lb_check.specs.WorkedCausality.{each_other, itself, clock_of_itself, clock_of_a_memory, both_branches, both_sides, first_side_of_fby, unused_by_product, crossed_results, through_the_observer, one_after_the_other, through_pre, through_fby, elements_of_one_array, running_sums, one_array_in_a_circle, iterated_array, slower_loop};
 
 /// E13: the elements listed in the proof each need the next, and the last needs the first.
 pub fn an_element_that_needs_itself()
     ensures each_other { IsFirst each_other (Some E13) }
     ensures itself { IsFirst itself (Some E13) }
     ensures clock_variable_and_what_it_clocks { IsFirst clock_of_itself (Some E13) }
+    ensures clock_variable_that_brings_back_a_memory { IsFirst clock_of_a_memory (Some E13) }
     ensures both_branches_of_if { IsFirst both_branches (Some E13) }
     ensures later_side_of_arrow { IsFirst both_sides (Some E13) }
     ensures first_side_of_fby { IsFirst first_side_of_fby (Some E13) }

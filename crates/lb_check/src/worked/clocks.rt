@@ -6,7 +6,7 @@ ghost use Rattle.lb_syntax.specs.Refusals.{E8, E9, E10};
 ghost use Rattle.lb_check.specs.Acceptance.{refusal, IsAccepted};
 ghost use Rattle.lb_check.specs.Verdicts.{HasVerdict, Passed, Fault, Assertion_fails, False};
 ghost use Rattle.lb_check.specs.WorkedSamples.{trace};
-ghost use Rattle.lb_check.specs.WorkedClocks.{slower_counter, slow_memory, absent_clock, faulty_clock, both_signs_absent, clocked_result, current_of_a_result, truth_for_a_clock, expression_for_a_clock, other_clock_for_an_argument, clock_among_results, result_on_another_clock, one_variable_for_two, two_parameters_are_two_clocks, literal_for_a_clocked_input, any_expression_for_an_inner_clock, slower_call_without_arguments, current_of_a_call_without_arguments, slower_results_of_literals, slower_literals, slower_arrays, current_of_a_literal, current_on_the_base_clock, two_clocks, two_signs, equal_variables_are_two_clocks, when_of_an_int, clocks_in_a_circle, input_clocked_by_a_local, iterated_clocked_node, clocked_root, slow_assertion, asserted_call};
+ghost use Rattle.lb_check.specs.WorkedClocks.{slower_counter, slow_memory, absent_clock, faulty_clock, both_signs_absent, clocked_result, current_of_a_result, truth_for_a_clock, expression_for_a_clock, other_clock_for_an_argument, clock_among_results, result_on_another_clock, one_variable_for_two, two_parameters_are_two_clocks, literal_for_a_clocked_input, any_expression_for_an_inner_clock, slower_call_without_arguments, current_of_a_call_without_arguments, slower_results_of_literals, slower_literals, slower_arrays, current_of_a_literal, current_on_the_base_clock, two_clocks, two_signs, equal_variables_are_two_clocks, when_of_an_int, clocks_in_a_circle, circle_of_literals, input_clocked_by_a_local, iterated_clocked_node, clocked_root, slow_assertion, asserted_call};
 
 /// The counter runs where `c` is true, keeps its memory elsewhere, and `current` brings it back.
 pub fn a_counter_on_a_slower_clock()
@@ -74,6 +74,7 @@ pub fn what_clock_an_expression_is_on()
     ensures equal_variables_are_two_clocks { refusal equal_variables_are_two_clocks ≡ Some E10 }
     ensures when_of_an_int { refusal when_of_an_int ≡ Some E9 }
     ensures declared_clocks_in_a_circle { refusal clocks_in_a_circle ≡ Some E10 }
+    ensures circle_though_literals_fit { refusal circle_of_literals ≡ Some E10 }
     ensures input_clocked_by_a_local { refusal input_clocked_by_a_local ≡ Some E10 }
     ensures iterated_node_with_a_clocked_parameter { refusal iterated_clocked_node ≡ Some E10 }
     ensures clocked_input_of_the_node_under_test { refusal clocked_root ≡ Some E8 }

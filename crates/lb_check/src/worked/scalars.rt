@@ -6,7 +6,7 @@ ghost use Rattle.lb_check.specs.Scalars.{Integer, Boolean};
 ghost use Rattle.lb_check.specs.Acceptance.{IsAccepted};
 ghost use Rattle.lb_check.specs.Verdicts.{HasVerdict, Passed, Fault, Assertion_fails, False};
 ghost use Rattle.lb_check.specs.WorkedSamples.{trace};
-ghost use Rattle.lb_check.specs.WorkedScalars.{counter, assuming_counter, increment, quotient_by_minus_one, remainder_by_minus_one, negation, quotients, literal_quotients, each_sign, chosen_branch, strict_and, strict_or, strict_implies, strict_count, all_three, without_a_fault, property_alone, assumed, logic, equality_of_truths, comparisons, counting, logic_table, equality_table, comparison_table, first_then, followed, before_the_first, truth_before_the_first, unused_operand, unused_operand_of_fby, unused_operand_of_current, unused_side};
+ghost use Rattle.lb_check.specs.WorkedScalars.{counter, assuming_counter, increment, quotient_by_minus_one, remainder_by_minus_one, negation, quotients, literal_quotients, each_sign, chosen_branch, other_branch, strict_and, strict_or, strict_implies, strict_count, all_three, without_a_fault, property_alone, assumed, logic, equality_of_truths, comparisons, counting, logic_table, equality_table, comparison_table, first_then, followed, before_the_first, truth_before_the_first, unused_operand, unused_operand_of_fby, unused_operand_of_current, unused_side};
 
 /// The notation of traces below: instants parted by semicolons, cells by spaces.
 pub fn how_traces_are_written()
@@ -50,9 +50,10 @@ pub fn division_cuts_off_toward_zero()
 
 /// `if` gives the chosen branch alone; `and`, `or`, `=>` and `#` are strict.
 pub fn a_fault_in_what_is_not_needed()
-    ensures accepted { Every IsAccepted (chosen_branch ∷ strict_and ∷ strict_or ∷ strict_implies
-        ∷ strict_count ∷ []) }
+    ensures accepted { Every IsAccepted (chosen_branch ∷ other_branch ∷ strict_and ∷ strict_or
+        ∷ strict_implies ∷ strict_count ∷ []) }
     ensures branch_not_chosen { HasVerdict chosen_branch (trace "5 0") Passed }
+    ensures other_branch_not_chosen { HasVerdict other_branch (trace "5 0") Passed }
     ensures under_and { HasVerdict strict_and (trace "5 0") (Fault 0) }
     ensures under_or { HasVerdict strict_or (trace "5 0") (Fault 0) }
     ensures under_implies { HasVerdict strict_implies (trace "5 0") (Fault 0) }

@@ -14,6 +14,8 @@ returns c = record {
   itself = (refused_by worked.itself (element Root "x" ∷ [])).shows refl;
   clock_variable_and_what_it_clocks =
       (refused_by worked.clock_of_itself (element Root "y" ∷ element Root "c" ∷ [])).shows refl;
+  clock_variable_that_brings_back_a_memory =
+      (refused_by worked.clock_of_a_memory (element Root "c" ∷ [])).shows refl;
   both_branches_of_if =
       (refused_by worked.both_branches (element Root "x" ∷ element Root "y" ∷ [])).shows refl;
   later_side_of_arrow = (refused_by worked.both_sides (element Root "x" ∷ [])).shows refl;

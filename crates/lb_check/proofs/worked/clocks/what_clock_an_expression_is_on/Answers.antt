@@ -26,6 +26,7 @@ returns c = record {
   equal_variables_are_two_clocks = refl;
   when_of_an_int = refl;
   declared_clocks_in_a_circle = refl;
+  circle_though_literals_fit = refl;
   input_clocked_by_a_local = refl;
   iterated_node_with_a_clocked_parameter = refl;
   clocked_input_of_the_node_under_test = refl;

@@ -20,6 +20,7 @@ returns c = record {
   doubled_unreached_nodes = refl;
   constant_named_as_a_node = refl;
   static_argument_too_many = refl;
+  static_argument_missing = refl;
   unknown_name_unreached = (accepted worked.unknown_name_unreached).shows refl;
   no_node_under_test = refl;
   no_observer = refl;
