@@ -1,0 +1,14 @@
+-- The cell is the field after as many as its place says, or there is none.
+use Rattle.std.proofs.Common.{arith, rules, ◌≡◌, ◌+◌, ◌≤◌, sym, ◌∙◌, Some, None, []}
+use Rattle.csv.specs.Records.{field_at, fields_of}
+use Rattle.lb_trace.proofs.Fields.{cell-some, cell-none}
+use Rattle.lb_trace.proofs.record.cell.Goals as goal
+
+pub returns-in-Some : goal.returns-in-Some
+returns-in-Some c =
+    cell-some (fields_of c.args.record.now) c.args.i c.saturating_add.result c.in-Some.cell.now
+    (omega (arith, c.saturating_add.ensures, c.in-Some.ensures.place)) (sym c.in-Some.ensures.value)
+
+pub returns-in-None : goal.returns-in-None
+returns-in-None c =
+    c.as_slice.ensures ∙ cell-none (fields_of c.args.record.now) c.args.i c.saturating_add.result (omega (arith, c.saturating_add.ensures)) (sym c.in-None.ensures.value)

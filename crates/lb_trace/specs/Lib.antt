@@ -1,0 +1,5 @@
+pub mod Cells
+pub mod Spelling
+pub mod Refusals
+pub mod Errors
+pub mod Mirrors

@@ -1,0 +1,69 @@
+//! The cells of a trace text.
+//!
+//! A cell's bytes are read once, from the left, with no text made of them.
+
+ghost use Rattle.std.specs.Prelude.{◌≡◌, min, option_map};
+ghost use Rattle.lb_trace.specs.Cells.{bool_of, cell_value, int_of, natural_of};
+
+use lb_static::signature::Kind;
+
+// More than any number that an `int` cell may spell.
+const TOO_LARGE: u64 = 1 << 32;
+
+/// What a cell of this kind spells, a Boolean as 0 or 1; None where it is no value of the kind.
+pub fn cell_value(kind: Kind, cell: &[u8]) -> Option<i32>
+    ensures { result ≡ cell_value kind cell.now }
+{
+    match kind {
+        Kind::Int => int_of(cell),
+        Kind::Bool => bool_of(cell),
+    }
+}
+
+// The integer that a cell spells: an optional `-` and 1 to 20 digits.
+fn int_of(cell: &[u8]) -> Option<i32>
+    ensures { result ≡ int_of cell.now }
+{
+    let (is_negative, digits) = match cell {
+        [b'-', digits @ ..] => (true, digits),
+        _ => (false, cell),
+    };
+    let n = natural_of(digits)?;
+    if is_negative && n <= 2147483648 {
+        Some((0 - n as i64) as i32)
+    } else if !is_negative && n <= 2147483647 {
+        Some(n as i32)
+    } else {
+        None
+    }
+}
+
+// The number that 1 to 20 digits spell, or `TOO_LARGE` where it is greater.
+fn natural_of(digits: &[u8]) -> Option<u64>
+    ensures { result ≡ option_map (λ n. min n TOO_LARGE) (natural_of digits.now) }
+{
+    if digits.is_empty() || digits.len() > 20 {
+        return None;
+    }
+    let mut n: u64 = 0;
+    for digit in digits {
+        if !digit.is_ascii_digit() {
+            return None;
+        }
+        n = (n * 10 + u64::from(*digit - b'0')).min(TOO_LARGE);
+    }
+    Some(n)
+}
+
+// The Boolean that a cell spells: `0`, `1`, `true` or `false`.
+fn bool_of(cell: &[u8]) -> Option<i32>
+    ensures { result ≡ bool_of cell.now }
+{
+    if cell == b"1".as_slice() || cell == b"true".as_slice() {
+        Some(1)
+    } else if cell == b"0".as_slice() || cell == b"false".as_slice() {
+        Some(0)
+    } else {
+        None
+    }
+}
