@@ -25,7 +25,7 @@ is_trace_name-true name lawful =
     let bytes : list_all is_name_byte name ≡ true = list_all-from_AllPass is_name_byte name lawful.bytes in
     rw (some, few, bytes) refl
 
-and_true : (a b : Bool) → (a && b) ≡ true → (a ≡ true) × (b ≡ true)
+pub and_true : (a b : Bool) → (a && b) ≡ true → (a ≡ true) × (b ≡ true)
 and_true true b h = (refl, h)
 and_true false b h = cc h
 
