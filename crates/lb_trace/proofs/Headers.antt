@@ -1,12 +1,12 @@
 -- The header: one more element's column, and what refuses it.
-use Rattle.std.proofs.Common.{ℕ, ◌≡◌, ◌≢◌, ◌+◌, ◌<◌, ◌≤◌, Bool, true, false, ◌&&◌, ◌==◌, List, [], ◌∷◌, ◌++◌, length, map, take, get_or, Option, Some, None, refl, sym, ap, ◌∙◌, arith, eqb, eq-eqb}
+use Rattle.std.proofs.Common.{ℕ, ◌≡◌, ◌≢◌, ◌+◌, ◌<◌, Bool, true, false, ◌==◌, List, [], ◌∷◌, ◌++◌, length, map, take, get_or, Some, None, refl, sym, ap, ◌∙◌, arith, eq-eqb}
 use Rattle.std.specs.Prelude.{codes}
 use Rattle.std.proofs.lemmas.Bool.{eqb-true, false_from_ne_true}
 use Rattle.std.proofs.lemmas.List.{get_or-map, length-map, map_more}
 use Rattle.std.proofs.lemmas.List.Folds.{list_all_more}
 use Rattle.std.proofs.lemmas.List.Sums.{AllPass-from_list_all}
 use Rattle.std.proofs.lemmas.Option.{get_or_from_slice_get, slice_get_within}
-use Rattle.std.specs.List.{count_by, list_all, list_any, position_or_len, slice_get}
+use Rattle.std.specs.List.{count_by, list_all, position_or_len, slice_get}
 use Rattle.std.specs.Str.{bytes_eq}
 use Rattle.csv.specs.Records.{field_at}
 use Rattle.lb_syntax.specs.declared.tree.Kind.{Kind}
@@ -35,8 +35,8 @@ not_once elements fields i n name named counted other =
     let below : i < length names = slice_get_within names i name named in
     let same : get_or names i [] ≡ name = get_or_from_slice_get names i name [] named in
     let some_not : list_all once names ≡ false = false_from_ne_true (list_all once names)
-            (λ all. other (counted ∙ eqb-true (count_by (bytes_eq name) (after_first fields)) 1
-                (ap once (sym same) ∙ AllPass-from_list_all once names all i [] below))) in
+    (λ all. other (counted ∙ eqb-true (count_by (bytes_eq name) (after_first fields)) 1
+    (ap once (sym same) ∙ AllPass-from_list_all once names all i [] below))) in
     rw some_not (and-false (begins fields))
 
 -- one more name that stands once
@@ -66,8 +66,8 @@ table_more elements columns table i at kind name named kinded placed before =
     let kind_is : element.1 ≡ kind = sym (get_or-map kind_of elements i default kind below) ∙ get_or_from_slice_get (kinds_of elements) i kind kind kinded in
     let column_at : ℕ → Kind → Column = λ a k. record { at = a; kind = k } in
     let column_is : column_at at kind ≡ column_of columns element =
-            ap (λ a. column_at a kind) (placed ∙ ap (λ m. position_or_len (bytes_eq m) columns) (sym name_is))
-            ∙ ap (λ k. column_at (position_or_len (bytes_eq element.0) columns) k) (sym kind_is) in
+    ap (λ a. column_at a kind) (placed ∙ ap (λ m. position_or_len (bytes_eq m) columns) (sym name_is))
+    ∙ ap (λ k. column_at (position_or_len (bytes_eq element.0) columns) k) (sym kind_is) in
     ap (λ t. t ++ column_at at kind ∷ []) before
     ∙ ap (λ c. map (column_of columns) (take i elements) ++ c ∷ []) column_is
     ∙ sym (map_more (column_of columns) elements i default below)

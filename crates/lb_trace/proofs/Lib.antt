@@ -6,3 +6,7 @@ pub mod Headers
 pub mod Soundness
 pub mod Outcomes
 pub mod Records
+pub mod Lasts
+pub mod Additions
+pub mod Clauses
+pub mod Readings

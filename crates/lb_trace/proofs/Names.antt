@@ -1,14 +1,15 @@
 -- Tests on the names of traces.
-use Rattle.std.proofs.Common.{ℕ, ◌≡◌, ◌≢◌, ◌+◌, ◌<◌, ◌≤◌, Bool, true, false, ◌&&◌, ◌||◌, not, IsTrue, List, [], ◌∷◌, ◌++◌, length, map, get_or, nat_le, refl, sym, ap, ◌∙◌, subst, arith}
+use Rattle.std.proofs.Common.{ℕ, suc, ◌≡◌, ◌≢◌, Bool, true, false, ◌&&◌, ◌||◌, List, [], ◌∷◌, ◌++◌, length, get_or, nat_le, refl, sym, ◌∙◌, subst, arith}
 use Rattle.std.proofs.lemmas.Bool.{false_from_ne_true, le-leb, leb-true}
 use Rattle.std.proofs.lemmas.List.{get_or-map, length-map}
-use Rattle.std.proofs.lemmas.List.Folds.{list_any_none, list_any-append, list_any-from_Any}
+use Rattle.std.proofs.lemmas.List.Folds.{list_any_none}
 use Rattle.std.proofs.lemmas.List.Sums.{list_all-from_AllPass, AllPass-from_list_all}
 use Rattle.std.proofs.lemmas.Slice.Eq.{bytes_eq-Decides}
 use Rattle.std.specs.Bool.{Decides}
 use Rattle.std.specs.List.{All, list_all, list_any}
 use Rattle.std.specs.Str.{bytes_eq}
-use Rattle.lb_flat.specs.Traces.{IsTraceName, Trace, Traces, is_name_byte, trace_names}
+use Rattle.lb_static.specs.Signature.{Elements}
+use Rattle.lb_flat.specs.Traces.{IsTrace, IsTraceName, Trace, Traces, is_name_byte, trace_names}
 use Rattle.lb_trace.specs.Refusals.{comes_back, is_last, is_trace_name}
 
 pub bytes_eq-same : (name : List ℕ) → bytes_eq name name ≡ true
@@ -33,6 +34,10 @@ pub or_false : (a b : Bool) → (a || b) ≡ false → (a ≡ false) × (b ≡ f
 or_false true b h = cc h
 or_false false b h = (refl, h)
 
+pub and-true : (a : Bool) → (a && true) ≡ a
+and-true true = refl
+and-true false = refl
+
 pub and-false : (a : Bool) → (a && false) ≡ false
 and-false true = refl
 and-false false = refl
@@ -44,7 +49,7 @@ IsTraceName-from name test =
     record {
       not_empty = leb-true 1 (length name) sizes.0;
       short = leb-true (length name) 64 sizes.1;
-      bytes = AllPass-from_list_all is_name_byte name parts.1
+      bytes = AllPass-from_list_all is_name_byte name parts.1;
     }
 
 pub is_last-push : (name : List ℕ) (front : Traces) (t : Trace) → is_last name (front ++ t ∷ []) ≡ bytes_eq name t.0
@@ -72,5 +77,24 @@ pub none_named : (name : List ℕ) (traces : Traces) → All (λ other. other �
 none_named name traces others =
     list_any_none (λ (t : Trace). bytes_eq name t.0) traces
     (λ k d below. bytes_eq-other name (get_or traces k d).0
-        (λ same. others k d.0 (omega (arith, length-map traces (λ (t : Trace). t.0)))
-            (get_or-map (λ (t : Trace). t.0) traces k d d.0 below ∙ sym same)))
+    (λ same. others k d.0 (omega (arith, length-map traces (λ (t : Trace). t.0)))
+    (get_or-map (λ (t : Trace). t.0) traces k d d.0 below ∙ sym same)))
+
+same_tests : (a b : Bool) → (a ≡ true → b ≡ true) → (b ≡ true → a ≡ true) → a ≡ b
+same_tests true b go back = sym (go refl)
+same_tests false true go back = back refl
+same_tests false false go back = refl
+
+pub bytes_eq-flip : (a b : List ℕ) → bytes_eq a b ≡ bytes_eq b a
+bytes_eq-flip a b =
+    let one : Decides (bytes_eq a b) (a ≡ b) = bytes_eq-Decides a b in
+    let two : Decides (bytes_eq b a) (b ≡ a) = bytes_eq-Decides b a in
+    same_tests (bytes_eq a b) (bytes_eq b a) (λ h. two.1 (sym (one.0 h))) (λ h. one.1 (sym (two.0 h)))
+
+-- the name of the last trace is lawful
+pub last_lawful : (elements : Elements) (name : List ℕ) (traces : Traces) → All (IsTrace elements) traces → is_last name traces ≡ true → IsTraceName name
+last_lawful elements name [] each last = cc last
+last_lawful elements name (t ∷ []) each last =
+    subst IsTraceName (sym ((bytes_eq-Decides name t.0).0 last)) (each 0 t (omega arith)).name
+last_lawful elements name (t ∷ u ∷ more) each last =
+    last_lawful elements name (u ∷ more) (λ k d below. each (suc k) d (omega arith)) last

@@ -1,5 +1,5 @@
 -- A text spells traces exactly where they are its outcome.
-use Rattle.std.proofs.Common.{ℕ, ◌≡◌, ◌<◌, ◌≤◌, Bool, true, false, ◌&&◌, if◌then◌else◌, List, [], ◌∷◌, ◌++◌, length, Result, Ok, Err, refl, sym, ap, ◌∙◌, subst, arith, nat_le}
+use Rattle.std.proofs.Common.{ℕ, ◌≡◌, ◌<◌, ◌≤◌, Bool, true, false, if◌then◌else◌, List, [], ◌∷◌, length, Ok, Err, refl, sym, ap, ◌∙◌, subst, arith, nat_le}
 use Rattle.std.proofs.lemmas.Bool.{false_from_ne_true, le-leb, leb-true}
 use Rattle.std.specs.List.{AllZip}
 use Rattle.lb_static.specs.Signature.{Elements}
@@ -23,7 +23,7 @@ pub outcome-long : (elements : Elements) (text : List ℕ) → 1073741824 < leng
 unfolding outcome
 outcome-long elements text long =
     let over : nat_le (length text) 1073741824 ≡ false =
-            false_from_ne_true (nat_le (length text) 1073741824) (λ fits. let short : length text ≤ 1073741824 = leb-true (length text) 1073741824 fits in omega arith) in
+    false_from_ne_true (nat_le (length text) 1073741824) (λ fits. let short : length text ≤ 1073741824 = leb-true (length text) 1073741824 fits in omega arith) in
     rw over refl
 
 -- the reading of a header and rows

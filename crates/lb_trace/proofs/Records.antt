@@ -1,12 +1,12 @@
 -- The records that a reader has reached are the first records of its text.
-use Rattle.std.proofs.Common.{ℕ, zero, suc, ◌≡◌, ◌+◌, ◌-◌, ◌<◌, ◌≤◌, Bool, true, false, if◌then◌else◌, List, [], ◌∷◌, ◌++◌, length, Option, Some, None, refl, sym, ap, ◌∙◌, subst, arith, ◌⊎◌, inl, inr, ⊎_elim}
+use Rattle.std.proofs.Common.{ℕ, zero, suc, ◌≡◌, ◌+◌, ◌-◌, ◌<◌, ◌≤◌, Bool, true, false, if◌then◌else◌, List, [], ◌∷◌, ◌++◌, length, Option, Some, None, refl, sym, ap, ◌∙◌, arith, ◌⊎◌, inl, inr, ⊎_elim}
 use Rattle.std.proofs.lemmas.List.{append-nil}
 use Rattle.csv.specs.declared.parser.Action.{Action}
 use Rattle.csv.specs.declared.parser.Config.{Config}
 use Rattle.csv.specs.declared.parser.State.{State}
 use Rattle.csv.specs.declared.parser.State.TheVariants as st
 use Rattle.csv.specs.Machine.{Read, ends_at_end, field_after, fields_after, is_end, next_record, step}
-use Rattle.csv.specs.Reading.{Reached, default_config, records, records_from, records_next, strip_bom}
+use Rattle.csv.specs.Reading.{Reached, default_config, records_from, records_next, strip_bom}
 use Rattle.lb_trace.specs.Spelling.{Record, records_of}
 
 -- a read takes a byte, or it ends the text
@@ -54,7 +54,7 @@ few cfg s s2 xs ys (r ∷ rows) reached =
     let rest : length rows ≤ length reached.0.2 + 1 = few cfg reached.0.1 s2 reached.0.2 ys rows reached.3 in
     ⊎_elim (λ (h : length reached.0.2 < length xs). omega arith)
     (λ (h : (reached.0.1 ≡ st.StartRecord) × (reached.0.2 ≡ [])).
-        let none : length rows ≡ 0 = after_end cfg reached.0.1 s2 reached.0.2 ys rows h.0 h.1 reached.3 in omega arith)
+    let none : length rows ≡ 0 = after_end cfg reached.0.1 s2 reached.0.2 ys rows h.0 h.1 reached.3 in omega arith)
     (takes_one cfg s [] [] xs reached.0 reached.1)
 
 -- the records from a state are those that were reached, and those after them
@@ -82,10 +82,11 @@ none_left cfg (suc n) s xs none = rw none refl
 pub reached_first : (text ys : List ℕ) (s : State) (rows : List Record) → Reached default_config st.StartRecord (strip_bom text) rows s ys
     → (more : List Record) × (records_of text ≡ rows ++ more)
 unfolding records_of
-reached_first text ys s rows reached =
-    (records_from default_config (length (strip_bom text) + 1 - length rows) s ys,
-        split default_config (length (strip_bom text) + 1) st.StartRecord s (strip_bom text) ys rows reached
-        (few default_config st.StartRecord s (strip_bom text) ys rows reached))
+reached_first text ys s rows reached = (
+  records_from default_config (length (strip_bom text) + 1 - length rows) s ys,
+  split default_config (length (strip_bom text) + 1) st.StartRecord s (strip_bom text) ys rows reached
+      (few default_config st.StartRecord s (strip_bom text) ys rows reached),
+)
 
 -- and all of them where none is left
 pub reached_all : (text ys : List ℕ) (s : State) (rows : List Record) → Reached default_config st.StartRecord (strip_bom text) rows s ys

@@ -1,25 +1,24 @@
 -- What is read of records is what they spell.
-use Rattle.std.proofs.Common.{ℕ, ◌≡◌, ◌≢◌, ◌+◌, ◌*◌, ◌<◌, ◌≤◌, Bool, true, false, ◌&&◌, ◌||◌, ◌==◌, not, if◌then◌else◌, List, [], ◌∷◌, ◌++◌, length, map, get_or, Option, Some, None, Result, Ok, Err, ℤ, pos, neg_ℤ, refl, sym, ap, ◌∙◌, subst, arith, append_assoc, nat_le, nat_lt, inl, inr}
+use Rattle.std.proofs.Common.{ℕ, ◌≡◌, ◌+◌, ◌*◌, ◌<◌, ◌≤◌, Bool, true, false, ◌||◌, ◌==◌, not, if◌then◌else◌, List, [], ◌∷◌, ◌++◌, length, map, get_or, Option, Some, None, Result, Ok, Err, ℤ, pos, neg_ℤ, refl, sym, ap, ◌∙◌, subst, arith, append_assoc, nat_le, nat_lt, inl, inr}
 use Rattle.std.specs.Prelude.{codes}
 use Rattle.std.proofs.lemmas.Bool.{eqb-true, leb-true, ltb-true}
 use Rattle.std.proofs.lemmas.List.{append-nil, get_or-map, length-map, map-append}
 use Rattle.std.proofs.lemmas.Int.{ints}
 use Rattle.std.proofs.lemmas.Grind.{flat_map-append}
 use Rattle.std.proofs.lemmas.List.Folds.{list_any_at}
-use Rattle.std.proofs.lemmas.List.Elements.{Contains-get_or}
 use Rattle.std.proofs.lemmas.Slice.Eq.{bytes_eq-Decides}
 use Rattle.std.specs.Str.{bytes_eq}
-use Rattle.std.specs.List.{AllZip, Contains, list_any, flat_map}
+use Rattle.std.specs.List.{AllZip, Contains, list_any}
 use Rattle.std.specs.Option.{option_and_then, option_map}
 use Rattle.lb_syntax.specs.declared.tree.Kind.{Kind}
 use Rattle.lb_syntax.specs.declared.tree.Kind.TheVariants as kind
 use Rattle.lb_static.specs.Signature.{Elements}
-use Rattle.lb_flat.specs.Traces.{HasRoom, IsCell, IsInt, IsRecording, IsRow, IsTraceName, Recording, Row, Trace, Traces, cells_of_instant, instants_of, last_rows, trace_names, with_row, with_trace}
+use Rattle.lb_flat.specs.Traces.{HasRoom, IsCell, IsInt, IsRecording, IsRow, IsTraceName, Row, Trace, Traces, cells_of_instant, instants_of, last_rows, trace_names, with_row, with_trace}
 use Rattle.lb_flat.proofs.Recordings.{IsRecording-row, IsRecording-trace}
-use Rattle.lb_trace.specs.Cells.{bool_of, cell_value, int_of, natural_of, signed}
+use Rattle.lb_trace.specs.Cells.{cell_value, int_of, natural_of, signed}
 use Rattle.lb_trace.specs.Refusals.{comes_back, has_room, is_last, is_trace_name, then_read, with_cells, with_instant, with_record, with_records}
 use Rattle.lb_trace.specs.Spelling.{Instant, Record, SpellsInstant, instants, row_of, under}
-use Rattle.lb_trace.proofs.Names.{IsTraceName-from, and_true, or_false}
+use Rattle.lb_trace.proofs.Names.{IsTraceName-from, and-true, and_true}
 
 -- what a choice says that gives a value
 some_if : {A : Type 0} (b : Bool) (x v : A) → (if b then Some x else None) ≡ Some v → (b ≡ true) × (v ≡ x)
@@ -131,14 +130,14 @@ pub reads_record : (elements : Elements) (columns : Record) (traces next : Trace
 reads_record elements columns traces next [] is = cc is
 reads_record elements columns traces next (name ∷ cells) is =
     let parts = peel (length cells == length columns) (is_trace_name name) (comes_back name traces)
-            (with_cells elements name traces (row_of elements columns cells)) next is in
+    (with_cells elements name traces (row_of elements columns cells)) next is in
     let row = cells_ok elements name traces next (row_of elements columns cells) parts.3 in
     record {
       instant = (name, row.0);
       spells = (eqb-true (length cells) (length columns) parts.0, refl, IsTraceName-from name parts.1, row.1);
       stays = parts.2;
       room = row.2;
-      is = row.3
+      is = row.3;
     }
 
 -- the name and the row of an instant that is spelled
@@ -150,18 +149,24 @@ spelled_row : (elements : Elements) (columns : Record) (r : Record) (instant : I
 spelled_row elements columns [] instant spells = absurd spells
 spelled_row elements columns (name ∷ cells) instant spells = IsRow-cells elements columns cells instant.1 spells.3
 
--- a name that does not come back and is not the last is new
-pub new_name : (name : List ℕ) (traces : Traces) → comes_back name traces ≡ false → is_last name traces ≡ false → ¬ (Contains (trace_names traces) name)
-new_name name traces stays other has =
+-- a name that no trace has
+pub none_contains : (name : List ℕ) (traces : Traces) → list_any (λ t. bytes_eq name t.0) traces ≡ false → ¬ (Contains (trace_names traces) name)
+none_contains name traces none has =
     let name_of : Trace → List ℕ = λ t. t.0 in
     let below : has.0 < length traces = omega (arith, has.1, length-map traces name_of) in
     let same : (get_or traces has.0 (name, [])).0 ≡ name = sym (get_or-map name_of traces has.0 (name, []) name below) ∙ has.2 in
     let some : list_any (λ (t : Trace). bytes_eq name t.0) traces ≡ true =
-            list_any_at (λ (t : Trace). bytes_eq name t.0) traces has.0 (name, []) below ((bytes_eq-Decides name (get_or traces has.0 (name, [])).0).1 (sym same)) in
-    let back : comes_back name traces ≡ true = rw (some, other) refl in
-    cc (back, stays)
+    list_any_at (λ (t : Trace). bytes_eq name t.0) traces has.0 (name, []) below ((bytes_eq-Decides name (get_or traces has.0 (name, [])).0).1 (sym same)) in
+    cc (none, some)
 
-some_last : (name : List ℕ) (traces : Traces) → is_last name traces ≡ true → 0 < length traces
+-- what does not come back and is not the last is not there at all
+pub comes_back-other : (name : List ℕ) (traces : Traces) → is_last name traces ≡ false → comes_back name traces ≡ list_any (λ t. bytes_eq name t.0) traces
+comes_back-other name traces other = rw other (and-true (list_any (λ (t : Trace). bytes_eq name t.0) traces))
+
+new_name : (name : List ℕ) (traces : Traces) → comes_back name traces ≡ false → is_last name traces ≡ false → ¬ (Contains (trace_names traces) name)
+new_name name traces stays other = none_contains name traces (sym (comes_back-other name traces other) ∙ stays)
+
+pub some_last : (name : List ℕ) (traces : Traces) → is_last name traces ≡ true → 0 < length traces
 some_last name [] last = cc last
 some_last name (t ∷ more) last = omega arith
 
@@ -183,11 +188,11 @@ pub IsRecording-instant : (elements : Elements) (columns : Record) (traces next 
 IsRecording-instant elements columns traces next r lawful reads =
     let name : List ℕ = reads.instant.0 in
     let parts = and_true (if is_last name traces then nat_lt (length (last_rows traces)) 1000000 else nat_lt (length traces) 1000000)
-            (nat_le ((instants_of traces + 1) * cells_of_instant elements) 67108864) reads.room in
+    (nat_le ((instants_of traces + 1) * cells_of_instant elements) 67108864) reads.room in
     subst (λ ts. IsRecording record { signature = elements; traces = ts }) (sym reads.is)
     (IsRecording-either (is_last name traces) elements traces reads.instant refl lawful (spelled_name elements columns r reads.instant reads.spells)
-        (spelled_row elements columns r reads.instant reads.spells) reads.stays parts.0
-        (leb-true ((instants_of traces + 1) * cells_of_instant elements) 67108864 parts.1))
+    (spelled_row elements columns r reads.instant reads.spells) reads.stays parts.0
+    (leb-true ((instants_of traces + 1) * cells_of_instant elements) 67108864 parts.1))
 
 -- what a reading of records says
 pub record Sound (elements : Elements) (columns : Record) (before after : Traces) (records : List Record) : Type 0 where
@@ -211,19 +216,19 @@ sound elements columns before after [] lawful is =
       lawful = subst (λ ts. IsRecording record { signature = elements; traces = ts }) same lawful;
       more = [];
       is = ap instants (sym same) ∙ sym (append-nil (instants before));
-      spelled = tt
+      spelled = tt;
     }
 sound elements columns before after (r ∷ records) lawful is =
     let first = then_ok (λ further. with_records elements columns further records) (with_record elements columns before r) after is in
     let reads : Reads elements columns before first.0 r = reads_record elements columns before first.0 r first.1 in
     let rest : Sound elements columns first.0 after records =
-            sound elements columns first.0 after records (IsRecording-instant elements columns before first.0 r lawful reads) first.2 in
+    sound elements columns first.0 after records (IsRecording-instant elements columns before first.0 r lawful reads) first.2 in
     record {
       lawful = rest.lawful;
       more = reads.instant ∷ rest.more;
       is = rest.is
-        ∙ ap (λ ts. instants ts ++ rest.more) reads.is
-        ∙ ap (λ is. is ++ rest.more) (instants-push before reads.instant.0 reads.instant.1)
-        ∙ append_assoc (instants before) (reads.instant ∷ []) rest.more;
-      spelled = (reads.spells, rest.spelled)
+          ∙ ap (λ ts. instants ts ++ rest.more) reads.is
+          ∙ ap (λ is. is ++ rest.more) (instants-push before reads.instant.0 reads.instant.1)
+          ∙ append_assoc (instants before) (reads.instant ∷ []) rest.more;
+      spelled = (reads.spells, rest.spelled);
     }

@@ -1,10 +1,8 @@
 -- One record of a reading.
-use Rattle.std.proofs.Common.{ℕ, ◌≡◌, ◌≢◌, ◌+◌, ◌*◌, ◌<◌, ◌≤◌, Bool, true, false, ◌&&◌, ◌||◌, ◌==◌, not, List, [], ◌∷◌, ◌++◌, length, map, get_or, nat_le, nat_lt, Some, None, Ok, Err, refl, sym, ap, ◌∙◌, subst, arith, eq-eqb}
-use Rattle.std.proofs.lemmas.Bool.{le-leb, lt-ltb}
-use Rattle.std.proofs.Math.Nat.{mul-le-mul_right}
+use Rattle.std.proofs.Common.{◌≡◌, true, false, ◌==◌, List, [], ◌∷◌, length, Some, Ok, refl, ap, ◌∙◌, eq-eqb}
 use Rattle.lb_static.specs.Signature.{Elements}
-use Rattle.lb_flat.specs.Traces.{IsTraceName, Row, Traces, cells_of_instant, instants_of, last_rows, with_row, with_trace}
-use Rattle.lb_trace.specs.Refusals.{comes_back, has_room, is_last, is_trace_name, with_instant, with_record, with_records}
+use Rattle.lb_flat.specs.Traces.{Traces}
+use Rattle.lb_trace.specs.Refusals.{comes_back, has_room, is_trace_name, with_instant, with_record, with_records}
 use Rattle.lb_trace.specs.Spelling.{Instant, Record, SpellsInstant, row_of}
 use Rattle.lb_trace.proofs.Names.{is_trace_name-true}
 

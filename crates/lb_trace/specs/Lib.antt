@@ -3,3 +3,4 @@ pub mod Spelling
 pub mod Refusals
 pub mod Errors
 pub mod Mirrors
+pub mod Readers

@@ -1,12 +1,16 @@
 -- These definitions mirror code: the table of columns, and the row that is read by it.
-use Rattle.std.specs.Prelude.{ℕ, List, [], ◌∷◌, get_or, Option, Some, None}
-use Rattle.std.specs.List.{position_or_len}
+use Rattle.std.specs.Prelude.{ℕ, ◌+◌, ◌*◌, ◌&&◌, nat_lt, nat_le, ◌≡◌, ◌==◌, ◌||◌, not, if◌then◌else◌, List, [], ◌∷◌, length, get_or, Option, Some, None, Result, Ok, Err}
+use Rattle.std.specs.HashSet.{HashSet, contains_text}
+use Rattle.std.specs.Prelude.{String}
+use Rattle.std.specs.Global.{Global}
+use Rattle.std.specs.List.{list_any, position_or_len}
 use Rattle.std.specs.Option.{option_and_then, option_map}
 use Rattle.std.specs.Str.{bytes_eq}
-use Rattle.lb_static.specs.Signature.{Element}
-use Rattle.lb_flat.specs.Traces.{Row}
+use Rattle.lb_static.specs.Signature.{Element, Elements}
+use Rattle.lb_flat.specs.Traces.{IsRow, Row, Traces, cells_of_instant, instants_of, last_rows, with_row, with_trace}
 use Rattle.lb_trace.specs.declared.header.Column.{Column}
 use Rattle.lb_trace.specs.Cells.{cell_value}
+use Rattle.lb_trace.specs.Refusals.{comes_back, is_trace_name, with_cells}
 use Rattle.lb_trace.specs.Spelling.{Record}
 
 -- the column of an element
@@ -17,3 +21,37 @@ column_of columns e = record { at = position_or_len (bytes_eq e.0) columns; kind
 abbrev pub row_by : List Column → Record → Option Row
 row_by [] cells = Some []
 row_by (c ∷ more) cells = option_and_then (λ v. option_map (λ row. v ∷ row) (row_by more cells)) (cell_value c.kind (get_or cells c.at []))
+
+-- the set has the names of the traces
+abbrev pub knows : {S : Type 0} → HashSet (String Global) S → Traces → Type 0
+knows names traces = (q : List ℕ) → contains_text names q ≡ list_any (λ t. bytes_eq q t.0) traces
+
+-- the traces with one more record, by a table of columns
+abbrev pub record_by : Elements → List Column → ℕ → Traces → Record → Result Traces ℕ
+record_by elements table width traces [] = Err 15
+record_by elements table width traces (name ∷ cells) =
+    if not (length cells == width) then Err 15
+    else if not (is_trace_name name) || comes_back name traces then Err 17
+    else with_cells elements name traces (row_by table cells)
+
+-- what is left of a record of the last trace, after its length and its name
+abbrev pub go_on_by : Elements → Traces → Option Row → Result Traces ℕ
+go_on_by elements traces None = Err 16
+go_on_by elements traces (Some row) =
+    if nat_lt (length (last_rows traces)) 1000000 && nat_le ((instants_of traces + 1) * cells_of_instant elements) 67108864
+    then Ok (with_row traces row) else Err 18
+
+-- what is left of a record of another trace, after its length
+abbrev pub start_cells : Elements → List ℕ → Traces → Option Row → Result Traces ℕ
+start_cells elements name traces None = Err 16
+start_cells elements name traces (Some row) =
+    if nat_lt (length traces) 1000000 && nat_le ((instants_of traces + 1) * cells_of_instant elements) 67108864
+    then Ok (with_trace traces name row) else Err 18
+
+abbrev pub start_by : Elements → List ℕ → Traces → Option Row → Result Traces ℕ
+start_by elements name traces row =
+    if not (is_trace_name name) || list_any (λ t. bytes_eq name t.0) traces then Err 17 else start_cells elements name traces row
+
+-- a row that is read by a table follows a signature
+abbrev pub RowsFollow : List Column → Elements → Type 0
+RowsFollow table elements = (cells : Record) (row : Row) → row_by table cells ≡ Some row → IsRow elements row

@@ -26,13 +26,20 @@ pub enum TraceError {
     },
     /// E16: a cell that is no value of its column.
     #[error("the cell of record {record} in column {column} is no value of it")]
-    Cell { record: u64, column: usize },
+    Cell {
+        record: u64,
+        column: usize,
+    },
     /// E17: a name that is ill-formed or comes back after another.
     #[error("the trace name of record {record} is ill-formed or comes back")]
-    Trace { record: u64 },
+    Trace {
+        record: u64,
+    },
     /// E18: a text, a number of traces, of instants or of cells over its limit; None is the text.
     #[error("the trace text is over a limit")]
-    Limit { record: Option<u64> },
+    Limit {
+        record: Option<u64>,
+    },
 }
 
 impl TraceError {

@@ -4,5 +4,10 @@
 mod cells;
 pub mod error;
 mod header;
+mod read;
+mod reader;
 mod record;
+mod recorder;
 mod rows;
+
+pub use read::read_traces;

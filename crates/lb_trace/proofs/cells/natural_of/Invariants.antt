@@ -7,5 +7,5 @@ use Rattle.lb_trace.proofs.cells.natural_of.Given as goal
 abbrev pub invariant-loop-digit : goal.invariant-loop-digit
 invariant-loop-digit l = record {
   digits : list_all is_ascii_digit (take l.digit-index l.digits) ≡ true;
-  value : l.n ≡ min (decimal (take l.digit-index l.digits)) 4294967296
+  value : l.n ≡ min (decimal (take l.digit-index l.digits)) 4294967296;
 }

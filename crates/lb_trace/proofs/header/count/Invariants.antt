@@ -8,5 +8,5 @@ use Rattle.lb_trace.proofs.header.count.Given as goal
 abbrev pub invariant-loop-i : goal.invariant-loop-i
 invariant-loop-i l = record {
   counted : l.count ≡ count_by (bytes_eq l.name) (take l.i (after_first (fields_of l.header)));
-  few : l.count ≤ l.i
+  few : l.count ≤ l.i;
 }

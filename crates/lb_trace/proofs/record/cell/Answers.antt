@@ -1,6 +1,6 @@
 -- The cell is the field after as many as its place says, or there is none.
-use Rattle.std.proofs.Common.{arith, rules, ◌≡◌, ◌+◌, ◌≤◌, sym, ◌∙◌, Some, None, []}
-use Rattle.csv.specs.Records.{field_at, fields_of}
+use Rattle.std.proofs.Common.{arith, sym, ◌∙◌}
+use Rattle.csv.specs.Records.{fields_of}
 use Rattle.lb_trace.proofs.Fields.{cell-some, cell-none}
 use Rattle.lb_trace.proofs.record.cell.Goals as goal
 

@@ -1,0 +1,74 @@
+//! From the bytes of a trace text to a set of traces.
+
+ghost use Rattle.std.specs.Prelude.{◌≡◌, ◌≤◌, Ok, IfOk, IfErr};
+ghost use Rattle.lb_flat.specs.Traces.{Traces};
+ghost use Rattle.lb_trace.specs.Errors.{IsRefusal, error_number, Refuses};
+ghost use Rattle.lb_trace.specs.Refusals.{outcome};
+ghost use Rattle.lb_trace.specs.Spelling.{Spells};
+
+use crate::error::TraceError;
+use crate::header::columns_of;
+use crate::reader::{next, reader_of};
+use crate::record::width;
+use crate::recorder::Recorder;
+use csv::ByteRecord;
+use lb_flat::traces::TraceSet;
+use lb_static::signature::Signature;
+use std::alloc::{AllocError, Global};
+
+/// The most bytes of a trace text.
+const MOST_BYTES: usize = 1_073_741_824;
+
+/// The traces that a text spells under a signature.
+///
+/// The first record is `trace` and the name of each scalar input, in any order. Each later one is
+/// an instant: the name of its trace, and a cell for each column. Adjacent records of one name are
+/// one trace. An error is the first refusal: of the text's length (E18), of the header (E14), or of
+/// the first record with a fault, in it of its length (E15), its name (E17), a cell (E16) or a limit
+/// (E18).
+///
+/// ```text
+/// trace,x
+/// a,1
+/// a,5
+/// b,0
+/// ```
+pub fn read_traces(
+    alloc: Global,
+    signature: &Signature,
+    text: &[u8],
+) -> Result<TraceSet, TraceError>
+    // What is read is what the text spells, and it spells nothing else.
+    ensures signature { IfOk result (λ set. set.signature ≡ signature.now) }
+    ensures spelled { IfOk result (λ set. Spells signature.now text.now set.traces) }
+    ensures only { IfOk result (λ set. (other : Traces) → Spells signature.now text.now other → other ≡ set.traces) }
+
+    // A refusal is the first one of a text that spells nothing, or a growth was refused.
+    ensures refused { IfErr result (Refuses signature.now text.now) }
+{
+    if text.len() > MOST_BYTES {
+        return Err(TraceError::Limit { record: None });
+    }
+    let mut reader = reader_of(alloc, text);
+    let mut record = ByteRecord::new(alloc);
+    if !next(&mut reader, &mut record)? {
+        return Err(TraceError::Header);
+    }
+    let Ok(header) = columns_of(alloc, signature, &record) else {
+        return Err(TraceError::Memory(AllocError));
+    };
+    let Some(table) = header else {
+        return Err(TraceError::Header);
+    };
+    let columns = width(&record);
+    let Ok(mut recorder) = Recorder::new(alloc, signature) else {
+        return Err(TraceError::Memory(AllocError));
+    };
+    for number in 1..u64::MAX {
+        if !next(&mut reader, &mut record)? {
+            return Ok(recorder.rows.into_set());
+        }
+        recorder.add(alloc, &table, columns, &record, number)?;
+    }
+    unreachable!()
+}
