@@ -1,0 +1,4 @@
+use Rattle.lb_syntax.proofs.expression.+tree_at.Given as goal
+
+abbrev pub decreases-tree_at : goal.decreases-tree_at
+decreases-tree_at l = l.depth

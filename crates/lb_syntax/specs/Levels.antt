@@ -1,0 +1,150 @@
+-- The levels of the forms, from which it follows where a tree may stand as an operand.
+-- Source: the operators are those of the Lustre V6 reference manual (expressions). The levels,
+-- `->` and `fby` on one of them, and the rule of the right edge are this project's rule.
+use Rattle.std.specs.Prelude.{ℕ, ◌+◌, ◌≤◌, min, Option, Some, None}
+pub use Rattle.lb_syntax.specs.declared.level.Form.{Form}
+use Rattle.lb_syntax.specs.declared.level.Form.TheVariants as form
+pub use Rattle.lb_syntax.specs.declared.level.Row.{Row}
+use Rattle.lb_syntax.specs.declared.token.Mark.{Mark}
+use Rattle.lb_syntax.specs.declared.token.Mark.TheVariants as m
+use Rattle.lb_syntax.specs.Tree.{BinaryOperator, Or, Xor, And, Implies, Equal, Unequal, Less, AtMost, Greater, AtLeast, Plus, Minus, Times, Divide, Modulo, UnaryOperator, Not, Negate, Static, Negated, Combined}
+use Rattle.lb_syntax.specs.Tree.{Expr, Unary, Binary, If, Arrow, Fby, Pre, Current, When, Copies, Index, Slice, Join}
+
+-- ---- the table
+
+-- forms that group to the left, `a - b - c` as `(a - b) - c`, to the right, and to no side: the
+-- operand on the side to which a form groups may have the level of the form itself
+abbrev pub to_left : ℕ → Row
+to_left k = record { level = k; left = k; right = k + 1 }
+
+abbrev pub to_right : ℕ → Row
+to_right k = record { level = k; left = k + 1; right = k }
+
+abbrev pub to_none : ℕ → Row
+to_none k = record { level = k; left = k + 1; right = k + 1 }
+
+-- the infix and postfix forms
+abbrev pub row_of : Form → Row
+row_of form.Join = to_left 1
+row_of form.Arrow = to_right 3
+row_of form.Fby = to_right 3
+row_of (form.Data Implies) = to_right 4
+row_of (form.Data Or) = to_left 5
+row_of (form.Data Xor) = to_left 5
+row_of (form.Data And) = to_left 6
+row_of (form.Data Equal) = to_none 7
+row_of (form.Data Unequal) = to_none 7
+row_of (form.Data Less) = to_none 7
+row_of (form.Data AtMost) = to_none 7
+row_of (form.Data Greater) = to_none 7
+row_of (form.Data AtLeast) = to_none 7
+row_of (form.Data Plus) = to_left 9
+row_of (form.Data Minus) = to_left 9
+row_of (form.Data Times) = to_left 10
+row_of (form.Data Divide) = to_left 10
+row_of (form.Data Modulo) = to_left 10
+row_of form.When = to_left 11
+row_of form.Copies = to_left 13
+row_of form.Element = to_left 13
+
+-- the prefix forms
+abbrev pub choice_level : ℕ
+choice_level = 2
+
+abbrev pub unary_level : UnaryOperator → ℕ
+unary_level Not = 8
+unary_level Negate = 12
+
+abbrev pub memory_level : ℕ
+memory_level = 12
+
+-- what is none of these
+abbrev pub atom_level : ℕ
+atom_level = 14
+
+-- ---- the marks of the table
+
+-- the operators of static expressions
+abbrev pub arithmetic_of : Mark → Option BinaryOperator
+arithmetic_of m.Plus = Some Plus
+arithmetic_of m.Minus = Some Minus
+arithmetic_of m.Star = Some Times
+arithmetic_of m.Slash = Some Divide
+arithmetic_of m.Div = Some Divide
+arithmetic_of m.Mod = Some Modulo
+arithmetic_of _ = None
+
+abbrev pub data_form : Option BinaryOperator → Option Form
+data_form (Some op) = Some (form.Data op)
+data_form None = None
+
+-- the form that goes on with an operand where this mark follows it
+abbrev pub form_of : Mark → Option Form
+form_of m.Bar = Some form.Join
+form_of m.Arrow = Some form.Arrow
+form_of m.Fby = Some form.Fby
+form_of m.Implies = Some (form.Data Implies)
+form_of m.Or = Some (form.Data Or)
+form_of m.Xor = Some (form.Data Xor)
+form_of m.And = Some (form.Data And)
+form_of m.Equal = Some (form.Data Equal)
+form_of m.Unequal = Some (form.Data Unequal)
+form_of m.Less = Some (form.Data Less)
+form_of m.AtMost = Some (form.Data AtMost)
+form_of m.Greater = Some (form.Data Greater)
+form_of m.AtLeast = Some (form.Data AtLeast)
+form_of m.When = Some form.When
+form_of m.Caret = Some form.Copies
+form_of m.OpenBracket = Some form.Element
+form_of mark = data_form (arithmetic_of mark)
+
+-- ---- trees as operands
+
+abbrev pub level : Expr → ℕ
+level (Binary op a b) = (row_of (form.Data op)).level
+level (Arrow a b) = (row_of form.Arrow).level
+level (Fby a b) = (row_of form.Fby).level
+level (Join a b) = (row_of form.Join).level
+level (When e x sign) = (row_of form.When).level
+level (Copies e n) = (row_of form.Copies).level
+level (Index e i) = (row_of form.Element).level
+level (Slice e i j) = (row_of form.Element).level
+level (If c a b) = choice_level
+level (Unary op a) = unary_level op
+level (Pre a) = memory_level
+level (Current a) = memory_level
+level _ = atom_level
+
+-- The right edge of a tree is the tree itself and, where it is an infix or prefix form, the right
+-- edge of its last operand. This is the least level of a prefix form there, and 14 without one.
+abbrev pub edge : Expr → ℕ
+edge (Binary op a b) = edge b
+edge (Arrow a b) = edge b
+edge (Fby a b) = edge b
+edge (Join a b) = edge b
+edge (If c a b) = min choice_level (edge b)
+edge (Unary op a) = min (unary_level op) (edge a)
+edge (Pre a) = min memory_level (edge a)
+edge (Current a) = min memory_level (edge a)
+edge _ = atom_level
+
+-- the left operand of a form: no prefix form of a lower level than the form's ends it, as that
+-- would take the form into its own operand
+pub record IsLeft (row : Row) (e : Expr) : Type 0 where
+  pub high : row.left ≤ level e
+  pub clear : row.level ≤ edge e
+
+-- the last operand of a form: of this level at least, or any prefix form
+abbrev pub IsLast : ℕ → Expr → Type 0
+IsLast least (If c a b) = Unit {0}
+IsLast least (Unary op a) = Unit {0}
+IsLast least (Pre a) = Unit {0}
+IsLast least (Current a) = Unit {0}
+IsLast least e = least ≤ level e
+
+-- the same of static expressions, whose one prefix form `- s` has a level above those of their
+-- infix forms, so that it stands wherever one of them may
+abbrev pub static_level : Static → ℕ
+static_level (Combined op a b) = (row_of (form.Data op)).level
+static_level (Negated s) = unary_level Negate
+static_level _ = atom_level

@@ -1,0 +1,106 @@
+-- The limits of a source text.
+-- Source: this project's rule; the reference manual sets none.
+use Rattle.std.specs.Prelude.{ℕ, ◌+◌, ◌-◌, ◌<◌, Bool, true, false, ◌&&◌, if◌then◌else◌, ◌==◌, nat_le, List, [], ◌∷◌, length, count_by, take, IsTrue, IsFalse}
+use Rattle.std.specs.List.{list_all}
+use Rattle.lb_syntax.specs.declared.token.Mark.TheVariants as m
+use Rattle.lb_syntax.specs.declared.token.Token.{Token}
+use Rattle.lb_syntax.specs.declared.token.Token.TheVariants as token
+
+-- ---- names and literals
+
+-- a name has at most 64 bytes
+abbrev pub is_short_name : Token → Bool
+is_short_name (token.Name name) = nat_le (length name) 64
+is_short_name t = true
+
+-- a literal is at most 2147483647
+abbrev pub is_small_literal : Token → Bool
+is_small_literal (token.Literal value) = nat_le value 2147483647
+is_small_literal t = true
+
+-- ---- statements
+
+-- the static brackets that are open after a token; `let` and `tel` close them all, and a `>>` too
+-- many closes none
+abbrev pub depth_after : ℕ → Token → ℕ
+depth_after depth (token.Mark m.Let) = 0
+depth_after depth (token.Mark m.Tel) = 0
+depth_after depth (token.Mark m.OpenStatic) = depth + 1
+depth_after depth (token.Mark m.CloseStatic) = depth - 1
+depth_after depth t = depth
+
+-- `let`, `tel`, and a `;` that stands in no static brackets
+abbrev pub is_separator : ℕ → Token → Bool
+is_separator depth (token.Mark m.Let) = true
+is_separator depth (token.Mark m.Tel) = true
+is_separator depth (token.Mark m.Semicolon) = depth == 0
+is_separator depth t = false
+
+-- a token more at the front of the first of some runs
+abbrev pub in_first : Token → List (List Token) → List (List Token)
+in_first t [] = (t ∷ []) ∷ []
+in_first t (run ∷ rest) = (t ∷ run) ∷ rest
+
+-- the longest runs of tokens without a separator, from a place in so many static brackets on
+unfoldable pub runs : ℕ → List Token → List (List Token)
+runs depth [] = [] ∷ []
+runs depth (t ∷ ts) =
+    if is_separator depth t then [] ∷ runs (depth_after depth t) ts
+    else in_first t (runs (depth_after depth t) ts)
+
+-- the statements of a text, with what stands before, between and after them
+abbrev pub statements : List Token → List (List Token)
+statements = runs 0
+
+-- the tokens that are counted: operators, and the brackets that nest
+abbrev pub is_counted : Token → Bool
+is_counted (token.Mark m.Bar) = true
+is_counted (token.Mark m.If) = true
+is_counted (token.Mark m.Arrow) = true
+is_counted (token.Mark m.Fby) = true
+is_counted (token.Mark m.Implies) = true
+is_counted (token.Mark m.Or) = true
+is_counted (token.Mark m.Xor) = true
+is_counted (token.Mark m.And) = true
+is_counted (token.Mark m.Equal) = true
+is_counted (token.Mark m.Unequal) = true
+is_counted (token.Mark m.Less) = true
+is_counted (token.Mark m.AtMost) = true
+is_counted (token.Mark m.Greater) = true
+is_counted (token.Mark m.AtLeast) = true
+is_counted (token.Mark m.Not) = true
+is_counted (token.Mark m.Plus) = true
+is_counted (token.Mark m.Minus) = true
+is_counted (token.Mark m.Star) = true
+is_counted (token.Mark m.Slash) = true
+is_counted (token.Mark m.Div) = true
+is_counted (token.Mark m.Mod) = true
+is_counted (token.Mark m.When) = true
+is_counted (token.Mark m.Pre) = true
+is_counted (token.Mark m.Current) = true
+is_counted (token.Mark m.Caret) = true
+is_counted (token.Mark m.Hash) = true
+is_counted (token.Mark m.Nor) = true
+is_counted (token.Mark m.Open) = true
+is_counted (token.Mark m.OpenBracket) = true
+is_counted (token.Mark m.OpenStatic) = true
+is_counted t = false
+
+-- a statement has at most 500 counted tokens
+abbrev pub is_small_statement : List Token → Bool
+is_small_statement run = nat_le (count_by is_counted run) 500
+
+-- ---- all of them
+
+-- every name, literal and statement keeps its limit
+abbrev pub keeps_limits : List Token → Bool
+keeps_limits ts =
+    list_all is_short_name ts && list_all is_small_literal ts &&
+    list_all is_small_statement (statements ts)
+
+-- a token at which the tokens so far break a limit first: a name, a literal, or the 501st counted
+-- token of a statement
+pub record IsFirstOver (ts : List Token) (index : ℕ) : Type 0 where
+  pub within : index < length ts
+  pub kept_before : IsTrue (keeps_limits (take index ts))
+  pub broken_with_it : IsFalse (keeps_limits (take (index + 1) ts))

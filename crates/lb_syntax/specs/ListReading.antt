@@ -1,0 +1,47 @@
+-- What comes next, and lists of any number of items.
+-- This file mirrors code (src/lookahead.rt, src/list.rt); no definition of the language stands on
+-- it.
+use Rattle.std.specs.Prelude.{Bool, false, true, if◌then◌else◌, List, ◌∷◌, length, Option, Some, None}
+use Rattle.lb_syntax.specs.declared.token.Mark.{Mark}
+use Rattle.lb_syntax.specs.declared.token.Mark.TheVariants as m
+use Rattle.lb_syntax.specs.declared.token.Token.{Token}
+use Rattle.lb_syntax.specs.declared.token.Token.TheVariants as token
+use Rattle.lb_syntax.specs.Readers.{◌>>=◌, Reader, expect}
+use Rattle.lb_syntax.specs.Reading.{tail_at}
+
+abbrev pub is_name : List Token → Bool
+is_name (token.Name x ∷ ts) = true
+is_name _ = false
+
+-- these tokens, if a name comes next
+abbrev pub at_name : List Token → Option (List Token)
+at_name ts = if is_name ts then Some ts else None
+
+abbrev pub skip_by : Option (List Token) → List Token → List Token
+skip_by (Some after) ts = after
+skip_by None ts = ts
+
+-- the tokens after this mark, or these if it does not come next
+abbrev pub skip : Mark → List Token → List Token
+skip k ts = skip_by (expect k ts) ts
+
+abbrev pub unless : Option (List Token) → List Token → Option (List Token)
+unless (Some after) ts = None
+unless None ts = Some ts
+
+-- the tokens after `;`, if a name follows it
+unfoldable pub at_next_group : List Token → Option (List Token)
+at_next_group ts = expect m.Semicolon ts >>= at_name
+
+-- the tokens after nothing or `var`, if a name follows it
+unfoldable pub at_next_local : List Token → Option (List Token)
+at_next_local ts = at_name (skip m.Var ts)
+
+-- these tokens, unless `tel` comes next
+unfoldable pub at_next_statement : List Token → Option (List Token)
+at_next_statement ts = unless (expect m.Tel ts) ts
+
+-- any number of items
+unfoldable pub any_at : {A : Type 0} → (List Token → Option (List Token)) → Reader A →
+    Reader (List A)
+any_at separates item ts = tail_at separates item (length ts) ts

@@ -1,0 +1,73 @@
+//! Trees that grow to the left: an operand, and then whatever takes it as its left operand.
+
+ghost use Rattle.std.specs.Prelude.{◌≡◌, ℕ, List};
+ghost use Rattle.lb_syntax.specs.declared.token.Token.{Token as AToken};
+ghost use Rattle.lb_syntax.specs.Growths.{Grows, Step};
+ghost use Rattle.lb_syntax.specs.Reading as reading;
+ghost use Rattle.lb_syntax.specs.Readers.{Gives};
+
+use crate::reader::ReadError;
+use crate::token::Token;
+
+/// What the next tokens do to a tree on their left.
+#[derive(Drop)]
+pub enum Growth<'t, T> {
+    /// Nothing: the tree is whole.
+    Stop(T),
+    /// They make a longer tree, with these tokens after it.
+    More(T, &'t [Token]),
+}
+
+/// A reader of what may follow a tree.
+pub trait Grower {
+    /// A tree as it is stored.
+    type Tree: Drop;
+
+    // The plain tree, and the one that a tree stands for.
+    ghost Plain: { Type 0 };
+
+    ghost view: { Self.Tree → Plain };
+
+    // Whether the reader may be called.
+    ghost can_grow: { Self → Type 0 };
+
+    // What follows a tree does to it, where a least level is wanted.
+    ghost step_at: { Self → ℕ → Plain → List AToken → Step Plain };
+
+    /// One step.
+    fn step<'t>(
+        &self,
+        least: u8,
+        left: Self::Tree,
+        tokens: &'t [Token],
+    ) -> Result<Growth<'t, Self::Tree>, ReadError>
+        requires { can_grow self.now }
+        ensures { Grows view (view left) result (step_at self.now least (view left) tokens.now) };
+}
+
+/// The tree that grows from the first one by so many steps at the most, with the tokens after it.
+#[tactic(auto, unfolding(crate::specs::Reading::climb))]
+pub fn climb<'t, G: Grower>(
+    grower: &G,
+    least: u8,
+    turns: usize,
+    first: G::Tree,
+    tokens: &'t [Token],
+) -> Result<(G::Tree, &'t [Token]), ReadError>
+    requires { G.can_grow grower.now }
+    ensures { Gives (λ x. (G.view x.0, x.1.now)) result
+        (reading.climb (G.step_at grower.now least) turns (G.view first) tokens.now) }
+{
+    let mut left = first;
+    let mut rest = tokens;
+    for _turn in 0..turns {
+        match grower.step(least, left, rest)? {
+            Growth::Stop(whole) => return Ok((whole, rest)),
+            Growth::More(longer, after) => {
+                left = longer;
+                rest = after;
+            }
+        }
+    }
+    Ok((left, rest))
+}

@@ -1,0 +1,66 @@
+//! Why a source text is refused.
+
+use std::alloc::{AllocError, AllocFailed};
+use thiserror::Error;
+
+/// Why a source text is refused.
+///
+/// This layer judges the shape of a text alone. An unknown name, a constant without a value, a type
+/// that does not fit and a program without a node under test all pass: later layers refuse them.
+///
+/// Lines and columns are counted from 1 and in bytes; the newline alone ends a line, and a tab is
+/// one column.
+#[derive(Debug, Drop, Error)]
+pub enum SyntaxError {
+    /// E0: memory ran out.
+    #[error("out of memory")]
+    Memory,
+    /// E1: a byte that begins no token, or a comment without an end, at its first byte.
+    #[error("no token begins at {line}:{column}")]
+    Character {
+        /// From 1.
+        line: u32,
+        /// In bytes, from 1.
+        column: u32,
+    },
+    /// E2: no tree spells the tokens. Here stands the first token with which the tokens so far
+    /// begin no accepted text, or the end of the text.
+    #[error("no tree fits the tokens up to {line}:{column}")]
+    Syntax {
+        /// From 1.
+        line: u32,
+        /// In bytes, from 1.
+        column: u32,
+    },
+    /// E3: a name, a literal or a statement over its limit, at the name, the literal or the 501st
+    /// counted token; or, at 1:1, a text over its limit.
+    #[error("over its limit at {line}:{column}")]
+    Size {
+        /// From 1.
+        line: u32,
+        /// In bytes, from 1.
+        column: u32,
+    },
+}
+
+impl From<AllocError> for SyntaxError {
+    ghost use Rattle.std.specs.Prelude.{◌≡◌};
+    ghost use Rattle.lb_syntax.specs.declared.error.SyntaxError.TheVariants.{Memory};
+
+    ghost from_gives = { λ _ e. e ≡ Memory };
+
+    fn from(_e: AllocError) -> SyntaxError {
+        SyntaxError::Memory
+    }
+}
+
+impl<T: Drop> From<AllocFailed<T>> for SyntaxError {
+    ghost use Rattle.std.specs.Prelude.{◌≡◌};
+    ghost use Rattle.lb_syntax.specs.declared.error.SyntaxError.TheVariants.{Memory};
+
+    ghost from_gives = { λ _ e. e ≡ Memory };
+
+    fn from(_e: AllocFailed<T>) -> SyntaxError {
+        SyntaxError::Memory
+    }
+}

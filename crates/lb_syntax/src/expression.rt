@@ -1,0 +1,613 @@
+//! Expressions, by one climb over the table of levels.
+
+ghost use Rattle.std.specs.Prelude.{◌≡◌, ℕ, Option, List, Some, None, map, nat_le, ◌≤◌, IfNone, IfSome};
+ghost use Rattle.lb_syntax.specs.Levels as levels;
+ghost use Rattle.lb_syntax.specs.Nests.{Nests};
+ghost use Rattle.lb_syntax.specs.Reading as reading;
+ghost use Rattle.lb_syntax.specs.Readers as readers;
+ghost use Rattle.lb_syntax.specs.Readers.{Gives, IfOkOrMemory};
+ghost use Rattle.lb_syntax.specs.Tree as tree;
+ghost use Rattle.lb_syntax.specs.View.{view, view_box, view_static, view_statics, view_operator};
+ghost use Rattle.lb_syntax.specs.declared.token.Mark.TheVariants as m;
+
+use crate::climb::{Grower, Growth, climb};
+use crate::level::{
+    ANY_LEVEL, ATOM_LEVEL, CHOICE_LEVEL, Form, MEMORY_LEVEL, Row, form_of, row_of, unary_level,
+};
+use crate::list::{Items, list};
+use crate::reader::{ReadError, after, expect};
+use crate::statics::{clock, separator, size, static_expression, statics};
+use crate::token::{Mark, Token};
+use crate::tree::{ArrayIterator, BinaryOperator, Expr, Name, Operator, Static, UnaryOperator};
+use std::alloc::Global;
+
+fn form_at(token: &Token) -> Option<Form>
+    ensures { result ≡ reading.form_at token.now }
+{
+    match token {
+        Token::Mark(mark) => form_of(*mark),
+        _ => None,
+    }
+}
+
+fn level(e: &Expr) -> u8
+    ensures { result ≡ levels.level (view e.now) }
+{
+    match e {
+        Expr::Binary(op, _, _) => row_of(Form::Data(*op)).level,
+        Expr::Arrow(_, _) | Expr::Fby(_, _) => row_of(Form::Arrow).level,
+        Expr::Join(_, _) => row_of(Form::Join).level,
+        Expr::When(_, _, _) => row_of(Form::When).level,
+        Expr::Copies(_, _) => row_of(Form::Copies).level,
+        Expr::Index(_, _) | Expr::Slice(_, _, _) => row_of(Form::Element).level,
+        Expr::If(_, _, _) => CHOICE_LEVEL,
+        Expr::Unary(op, _) => unary_level(*op),
+        Expr::Pre(_) | Expr::Current(_) => MEMORY_LEVEL,
+        Expr::Literal(_) | Expr::Truth(_) | Expr::Variable(_) | Expr::Group(_) => { ATOM_LEVEL }
+        Expr::Array(_) | Expr::AtMostOne(_) | Expr::Nor(_) => ATOM_LEVEL,
+        Expr::Call(_, _, _) | Expr::Iterate(_, _, _, _) => ATOM_LEVEL,
+    }
+}
+
+/// Whether no prefix form of a level below k ends a tree. It looks no further than the first.
+fn is_clear(k: u8, e: &Expr) -> bool
+    requires { k ≤ 14 }
+    ensures { result ≡ nat_le k (levels.edge (view e.now)) }
+{
+    match e {
+        Expr::Binary(_, _, b) | Expr::Arrow(_, b) => is_clear(k, b),
+        Expr::Fby(_, b) | Expr::Join(_, b) => is_clear(k, b),
+        Expr::If(_, _, b) => k <= CHOICE_LEVEL && is_clear(k, b),
+        Expr::Unary(op, a) => k <= unary_level(*op) && is_clear(k, a),
+        Expr::Pre(a) | Expr::Current(a) => k <= MEMORY_LEVEL && is_clear(k, a),
+        _ => true,
+    }
+}
+
+/// Whether a form takes a tree on its left, where the least level is wanted.
+#[tactic(auto, unfolding(crate::specs::Reading::takes))]
+fn takes(least: u8, row: Row, e: &Expr) -> bool
+    requires { row.level ≤ 14 }
+    ensures { result ≡ reading.takes least row (view e.now) }
+{
+    least <= row.level && row.left <= level(e) && is_clear(row.level, e)
+}
+
+/// The iterator that a name stands for where `<<` follows it.
+#[tactic(auto, unfolding(crate::specs::Reading::iterator_of))]
+fn iterator_of(name: &Name) -> Option<ArrayIterator>
+    ensures { result ≡ reading.iterator_of name.now }
+{
+    let bytes = name.as_bytes();
+    if bytes == b"map".as_slice() {
+        Some(ArrayIterator::Map)
+    } else if bytes == b"red".as_slice() {
+        Some(ArrayIterator::Red)
+    } else if bytes == b"fill".as_slice() {
+        Some(ArrayIterator::Fill)
+    } else {
+        None
+    }
+}
+
+/// The operator that a mark stands for where it may be iterated.
+fn symbol_of(mark: Mark) -> Option<BinaryOperator>
+    ensures { result ≡ reading.symbol_of mark }
+{
+    match mark {
+        Mark::Plus => Some(BinaryOperator::Plus),
+        Mark::Minus => Some(BinaryOperator::Minus),
+        Mark::Star => Some(BinaryOperator::Times),
+        Mark::And => Some(BinaryOperator::And),
+        Mark::Or => Some(BinaryOperator::Or),
+        Mark::Xor => Some(BinaryOperator::Xor),
+        _ => None,
+    }
+}
+
+/// Static arguments in `<<` and `>>`, of which there may be none.
+#[tactic(auto, unfolding(crate::specs::Reading::arguments_at))]
+fn arguments(alloc: Global, tokens: &[Token]) -> Result<(Vec<Static>, &[Token]), ReadError>
+    ensures { Gives (λ x. (view_statics x.0.items, x.1.now)) result
+        (reading.arguments_at tokens.now) }
+{
+    match after(Mark::OpenStatic, tokens) {
+        None => Ok((Vec::new(alloc), tokens)),
+        Some(next) => {
+            let (found, rest) = statics(alloc, next)?;
+            let rest = expect(Mark::CloseStatic, rest)?;
+            Ok((found, rest))
+        }
+    }
+}
+
+/// What an iterator applies.
+#[tactic(auto, unfolding(crate::specs::Reading::operator_at))]
+fn operator(alloc: Global, tokens: &[Token]) -> Result<(Operator, &[Token]), ReadError>
+    ensures { Gives (λ x. (view_operator x.0, x.1.now)) result (reading.operator_at tokens.now) }
+{
+    match tokens {
+        [Token::Name(f), rest @ ..] => {
+            let name = f.copy(alloc)?;
+            let (found, rest) = arguments(alloc, rest)?;
+            Ok((Operator::Node(name, found), rest))
+        }
+        [Token::Mark(mark), rest @ ..] => match symbol_of(*mark) {
+            Some(op) => Ok((Operator::Symbol(op), rest)),
+            None => Err(ReadError::Syntax(tokens.len())),
+        },
+        _ => Err(ReadError::Syntax(tokens.len())),
+    }
+}
+
+fn expect_separator(tokens: &[Token]) -> Result<&[Token], ReadError>
+    ensures { Gives (λ rest. rest.now) result (reading.separator tokens.now) }
+{
+    match separator(tokens) {
+        Some(rest) => Ok(rest),
+        None => Err(ReadError::Syntax(tokens.len())),
+    }
+}
+
+/// After `<<`, what an iterator applies and how often.
+#[tactic(auto, unfolding(crate::specs::Reading::applied_at))]
+fn applied(alloc: Global, tokens: &[Token]) -> Result<(Operator, Static, &[Token]), ReadError>
+    ensures { Gives (λ x. ((view_operator x.0, view_static x.1), x.2.now)) result
+        (reading.applied_at tokens.now) }
+{
+    let (f, rest) = operator(alloc, tokens)?;
+    let rest = expect_separator(rest)?;
+    let (n, rest) = static_expression(alloc, rest)?;
+    let rest = expect(Mark::CloseStatic, rest)?;
+    Ok((f, n, rest))
+}
+
+/// After `e[`, an index or a slice of it.
+#[tactic(auto, unfolding(crate::specs::Reading::element_at))]
+fn element(
+    alloc: Global,
+    e: Box<Expr>,
+    tokens: &[Token],
+) -> Result<(Box<Expr>, &[Token]), ReadError>
+    ensures { Gives (λ x. (view_box x.0, x.1.now)) result
+        (reading.element_at (view_box e) tokens.now) }
+{
+    let (i, rest) = static_expression(alloc, tokens)?;
+    match after(Mark::DotDot, rest) {
+        None => {
+            let rest = expect(Mark::CloseBracket, rest)?;
+            Ok((boxed(alloc, Expr::Index(e, i))?, rest))
+        }
+        Some(next) => {
+            let (j, rest) = static_expression(alloc, next)?;
+            let rest = expect(Mark::CloseBracket, rest)?;
+            Ok((boxed(alloc, Expr::Slice(e, i, j))?, rest))
+        }
+    }
+}
+
+fn boxed(alloc: Global, e: Expr) -> Result<Box<Expr>, ReadError>
+    ensures { IfOkOrMemory result (λ b. view_box b ≡ view e) }
+{
+    Ok(Box::new(alloc, e)?)
+}
+
+/// The tree of an infix form and its two operands.
+fn joined(alloc: Global, form: Form, a: Box<Expr>, b: Box<Expr>) -> Result<Box<Expr>, ReadError>
+    ensures { IfOkOrMemory result
+        (λ e. view_box e ≡ reading.joined form (view_box a) (view_box b)) }
+{
+    match form {
+        Form::Data(op) => boxed(alloc, Expr::Binary(op, a, b)),
+        Form::Arrow => boxed(alloc, Expr::Arrow(a, b)),
+        Form::Fby => boxed(alloc, Expr::Fby(a, b)),
+        _ => boxed(alloc, Expr::Join(a, b)),
+    }
+}
+
+fn call(
+    alloc: Global,
+    name: Name,
+    statics: Vec<Static>,
+    operands: Vec<Expr>,
+) -> Result<Box<Expr>, ReadError>
+    ensures { IfOkOrMemory result (λ e. view_box e
+        ≡ tree.Call name (view_statics statics.items) (reading.exprs (map view operands.items))) }
+{
+    boxed(alloc, Expr::Call(name, statics, operands))
+}
+
+fn iterate(
+    alloc: Global,
+    iterator: ArrayIterator,
+    operator: Operator,
+    size: Static,
+    operands: Vec<Expr>,
+) -> Result<Box<Expr>, ReadError>
+    ensures { IfOkOrMemory result (λ e. view_box e
+        ≡ tree.Iterate iterator (view_operator operator) (view_static size)
+        (reading.exprs (map view operands.items))) }
+{
+    boxed(alloc, Expr::Iterate(iterator, operator, size, operands))
+}
+
+/// The reader of what stands inside an expression, to one depth less, is handed in, so that each
+/// function is proved by itself.
+#[derive(Clone, Copy)]
+pub struct Grammar<F> {
+    alloc: Global,
+    /// How deep trees may still nest.
+    depth: usize,
+    inner: F,
+}
+
+impl<F: Fn(Global, usize, u8, &[Token]) -> Result<(Box<Expr>, &[Token]), ReadError>> Grammar<F> {
+    fn inner<'t>(
+        &self,
+        least: u8,
+        tokens: &'t [Token],
+    ) -> Result<(Box<Expr>, &'t [Token]), ReadError>
+        requires { Nests self.now.depth (F.pre self.now.inner) (F.post self.now.inner) }
+        ensures { Gives (λ x. (view_box x.0, x.1.now)) result
+            (reading.tree_at self.now.depth least tokens.now) }
+    {
+        (self.inner)(self.alloc, self.depth, least, tokens)
+    }
+
+    #[tactic(auto, unfolding(crate::specs::Reading::level_at))]
+    fn level_at<'t>(
+        &self,
+        least: u8,
+        tokens: &'t [Token],
+    ) -> Result<(Box<Expr>, &'t [Token]), ReadError>
+        requires { Nests self.now.depth (F.pre self.now.inner) (F.post self.now.inner) }
+        ensures { Gives (λ x. (view_box x.0, x.1.now)) result
+            (reading.level_at (reading.tree_at self.now.depth) least tokens.now) }
+    {
+        let (first, rest) = self.first(tokens)?;
+        climb(self, least, tokens.len(), first, rest)
+    }
+
+    #[tactic(auto, unfolding(crate::specs::Reading::first))]
+    fn first<'t>(&self, tokens: &'t [Token]) -> Result<(Box<Expr>, &'t [Token]), ReadError>
+        requires { Nests self.now.depth (F.pre self.now.inner) (F.post self.now.inner) }
+        ensures { Gives (λ x. (view_box x.0, x.1.now)) result
+            (reading.first (reading.tree_at self.now.depth) tokens.now) }
+    {
+        match tokens {
+            [Token::Literal(n), rest @ ..] => Ok((boxed(self.alloc, Expr::Literal(*n))?, rest)),
+            [Token::Name(x), rest @ ..] => self.named(x.copy(self.alloc)?, rest),
+            [Token::Mark(mark), rest @ ..] => self.marked(*mark, rest),
+            _ => Err(ReadError::Syntax(tokens.len())),
+        }
+    }
+
+    /// What a mark begins.
+    #[tactic(auto, using(crate::proofs::Views::lists), unfolding(crate::specs::Reading::marked))]
+    fn marked<'t>(
+        &self,
+        mark: Mark,
+        tokens: &'t [Token],
+    ) -> Result<(Box<Expr>, &'t [Token]), ReadError>
+        requires { Nests self.now.depth (F.pre self.now.inner) (F.post self.now.inner) }
+        ensures { Gives (λ x. (view_box x.0, x.1.now)) result
+            (reading.marked (reading.tree_at self.now.depth) mark tokens.now) }
+    {
+        match mark {
+            Mark::True => Ok((boxed(self.alloc, Expr::Truth(true))?, tokens)),
+            Mark::False => Ok((boxed(self.alloc, Expr::Truth(false))?, tokens)),
+            Mark::Open => {
+                let (e, rest) = self.until(Mark::Close, tokens)?;
+                Ok((boxed(self.alloc, Expr::Group(e))?, rest))
+            }
+            Mark::Not => self.unary(UnaryOperator::Not, tokens),
+            Mark::Minus => self.unary(UnaryOperator::Negate, tokens),
+            Mark::Pre => {
+                let (a, rest) = self.inner(MEMORY_LEVEL, tokens)?;
+                Ok((boxed(self.alloc, Expr::Pre(a))?, rest))
+            }
+            Mark::Current => {
+                let (a, rest) = self.inner(MEMORY_LEVEL, tokens)?;
+                Ok((boxed(self.alloc, Expr::Current(a))?, rest))
+            }
+            Mark::If => self.choice(tokens),
+            Mark::OpenBracket => {
+                let (es, rest) = self.list_until(Mark::CloseBracket, tokens)?;
+                Ok((boxed(self.alloc, Expr::Array(es))?, rest))
+            }
+            Mark::Hash => {
+                let (es, rest) = self.items(tokens)?;
+                Ok((boxed(self.alloc, Expr::AtMostOne(es))?, rest))
+            }
+            Mark::Nor => {
+                let (es, rest) = self.items(tokens)?;
+                Ok((boxed(self.alloc, Expr::Nor(es))?, rest))
+            }
+            _ => Err(ReadError::Syntax(tokens.len())),
+        }
+    }
+
+    fn unary<'t>(
+        &self,
+        op: UnaryOperator,
+        tokens: &'t [Token],
+    ) -> Result<(Box<Expr>, &'t [Token]), ReadError>
+        requires { Nests self.now.depth (F.pre self.now.inner) (F.post self.now.inner) }
+        ensures { Gives (λ x. (view_box x.0, x.1.now)) result
+            (reading.prefixed (reading.tree_at self.now.depth) (tree.Unary op)
+            (levels.unary_level op) tokens.now) }
+    {
+        let (a, rest) = self.inner(unary_level(op), tokens)?;
+        Ok((boxed(self.alloc, Expr::Unary(op, a))?, rest))
+    }
+
+    /// Any expression, and then a mark.
+    #[tactic(auto, unfolding(crate::specs::Reading::until))]
+    fn until<'t>(
+        &self,
+        mark: Mark,
+        tokens: &'t [Token],
+    ) -> Result<(Box<Expr>, &'t [Token]), ReadError>
+        requires { Nests self.now.depth (F.pre self.now.inner) (F.post self.now.inner) }
+        ensures { Gives (λ x. (view_box x.0, x.1.now)) result
+            (reading.until (reading.tree_at self.now.depth) mark tokens.now) }
+    {
+        let (e, rest) = self.inner(ANY_LEVEL, tokens)?;
+        let rest = expect(mark, rest)?;
+        Ok((e, rest))
+    }
+
+    #[tactic(auto, unfolding(crate::specs::Reading::choice))]
+    fn choice<'t>(&self, tokens: &'t [Token]) -> Result<(Box<Expr>, &'t [Token]), ReadError>
+        requires { Nests self.now.depth (F.pre self.now.inner) (F.post self.now.inner) }
+        ensures { Gives (λ x. (view_box x.0, x.1.now)) result
+            (reading.choice (reading.tree_at self.now.depth) tokens.now) }
+    {
+        let (c, rest) = self.until(Mark::Then, tokens)?;
+        let (a, rest) = self.until(Mark::Else, rest)?;
+        let (b, rest) = self.inner(CHOICE_LEVEL, rest)?;
+        Ok((boxed(self.alloc, Expr::If(c, a, b))?, rest))
+    }
+
+    /// What a name begins.
+    #[tactic(auto, unfolding(crate::specs::Reading::named))]
+    fn named<'t>(
+        &self,
+        name: Name,
+        tokens: &'t [Token],
+    ) -> Result<(Box<Expr>, &'t [Token]), ReadError>
+        requires { Nests self.now.depth (F.pre self.now.inner) (F.post self.now.inner) }
+        ensures { Gives (λ x. (view_box x.0, x.1.now)) result
+            (reading.named (reading.tree_at self.now.depth) name tokens.now) }
+    {
+        match after(Mark::OpenStatic, tokens) {
+            None => self.plain(name, tokens),
+            Some(next) => match iterator_of(&name) {
+                Some(i) => self.iterate(i, next),
+                None => self.static_call(name, next),
+            },
+        }
+    }
+
+    /// A variable, or a call without static arguments.
+    fn plain<'t>(
+        &self,
+        name: Name,
+        tokens: &'t [Token],
+    ) -> Result<(Box<Expr>, &'t [Token]), ReadError>
+        requires { Nests self.now.depth (F.pre self.now.inner) (F.post self.now.inner) }
+        ensures { Gives (λ x. (view_box x.0, x.1.now)) result
+            (reading.plain_by (reading.tree_at self.now.depth) name
+            (readers.expect m.Open tokens.now) tokens.now) }
+    {
+        match after(Mark::Open, tokens) {
+            None => Ok((boxed(self.alloc, Expr::Variable(name))?, tokens)),
+            Some(next) => {
+                let (es, rest) = self.operands(next)?;
+                let none = Vec::new(self.alloc);
+                Ok((call(self.alloc, name, none, es)?, rest))
+            }
+        }
+    }
+
+    /// After `map<<`, `red<<` or `fill<<`.
+    #[tactic(auto, unfolding(crate::specs::Reading::iterate))]
+    fn iterate<'t>(
+        &self,
+        i: ArrayIterator,
+        tokens: &'t [Token],
+    ) -> Result<(Box<Expr>, &'t [Token]), ReadError>
+        requires { Nests self.now.depth (F.pre self.now.inner) (F.post self.now.inner) }
+        ensures { Gives (λ x. (view_box x.0, x.1.now)) result
+            (reading.iterate (reading.tree_at self.now.depth) i tokens.now) }
+    {
+        let (f, n, rest) = applied(self.alloc, tokens)?;
+        let (es, rest) = self.items(rest)?;
+        Ok((iterate(self.alloc, i, f, n, es)?, rest))
+    }
+
+    /// After `f<<`.
+    #[tactic(auto, unfolding(crate::specs::Reading::static_call))]
+    fn static_call<'t>(
+        &self,
+        name: Name,
+        tokens: &'t [Token],
+    ) -> Result<(Box<Expr>, &'t [Token]), ReadError>
+        requires { Nests self.now.depth (F.pre self.now.inner) (F.post self.now.inner) }
+        ensures { Gives (λ x. (view_box x.0, x.1.now)) result
+            (reading.static_call (reading.tree_at self.now.depth) name tokens.now) }
+    {
+        let (found, rest) = statics(self.alloc, tokens)?;
+        let rest = expect(Mark::CloseStatic, rest)?;
+        let rest = expect(Mark::Open, rest)?;
+        let (es, rest) = self.operands(rest)?;
+        Ok((call(self.alloc, name, found, es)?, rest))
+    }
+
+    /// After `f(`, operands of which there may be none.
+    #[tactic(auto, unfolding(crate::specs::Reading::operands))]
+    fn operands<'t>(&self, tokens: &'t [Token]) -> Result<(Vec<Expr>, &'t [Token]), ReadError>
+        requires { Nests self.now.depth (F.pre self.now.inner) (F.post self.now.inner) }
+        ensures { Gives (λ x. (map view x.0.items, x.1.now)) result
+            (reading.operands (reading.tree_at self.now.depth) tokens.now) }
+    {
+        match after(Mark::Close, tokens) {
+            Some(rest) => Ok((Vec::new(self.alloc), rest)),
+            None => self.list_until(Mark::Close, tokens),
+        }
+    }
+
+    /// One expression or more in parentheses.
+    #[tactic(auto, unfolding(crate::specs::Reading::items))]
+    fn items<'t>(&self, tokens: &'t [Token]) -> Result<(Vec<Expr>, &'t [Token]), ReadError>
+        requires { Nests self.now.depth (F.pre self.now.inner) (F.post self.now.inner) }
+        ensures { Gives (λ x. (map view x.0.items, x.1.now)) result
+            (reading.items (reading.tree_at self.now.depth) tokens.now) }
+    {
+        let next = expect(Mark::Open, tokens)?;
+        self.list_until(Mark::Close, next)
+    }
+
+    /// One expression or more, and then a mark.
+    #[tactic(auto, unfolding(crate::specs::Reading::list_until))]
+    fn list_until<'t>(
+        &self,
+        mark: Mark,
+        tokens: &'t [Token],
+    ) -> Result<(Vec<Expr>, &'t [Token]), ReadError>
+        requires { Nests self.now.depth (F.pre self.now.inner) (F.post self.now.inner) }
+        ensures { Gives (λ x. (map view x.0.items, x.1.now)) result
+            (reading.list_until (reading.tree_at self.now.depth) mark tokens.now) }
+    {
+        let (es, rest) = list(self.alloc, self, tokens)?;
+        let rest = expect(mark, rest)?;
+        Ok((es, rest))
+    }
+
+    /// The tree that a form makes of its left operand and what follows its mark.
+    fn longer<'t>(
+        &self,
+        left: Box<Expr>,
+        form: Form,
+        tokens: &'t [Token],
+    ) -> Result<(Box<Expr>, &'t [Token]), ReadError>
+        requires { Nests self.now.depth (F.pre self.now.inner) (F.post self.now.inner) }
+        ensures { Gives (λ x. (view_box x.0, x.1.now)) result
+            (reading.longer (reading.tree_at self.now.depth) (view_box left) form tokens.now) }
+    {
+        let alloc = self.alloc;
+        match form {
+            Form::When => {
+                let (c, rest) = clock(alloc, tokens)?;
+                Ok((boxed(alloc, Expr::When(left, c.variable, c.sign))?, rest))
+            }
+            Form::Copies => {
+                let (n, rest) = size(alloc, tokens)?;
+                Ok((boxed(alloc, Expr::Copies(left, n))?, rest))
+            }
+            Form::Element => element(alloc, left, tokens),
+            _ => self.infix(left, form, tokens),
+        }
+    }
+
+    /// The tree that an infix form makes of its left operand and what follows its mark.
+    #[tactic(auto, unfolding(crate::specs::Reading::infix_at))]
+    fn infix<'t>(
+        &self,
+        left: Box<Expr>,
+        form: Form,
+        tokens: &'t [Token],
+    ) -> Result<(Box<Expr>, &'t [Token]), ReadError>
+        requires { Nests self.now.depth (F.pre self.now.inner) (F.post self.now.inner) }
+        ensures { Gives (λ x. (view_box x.0, x.1.now)) result
+            (reading.infix_at (reading.tree_at self.now.depth) (view_box left) form tokens.now) }
+    {
+        let (right, rest) = self.inner(row_of(form).right, tokens)?;
+        Ok((joined(self.alloc, form, left, right)?, rest))
+    }
+}
+
+impl<F: Fn(Global, usize, u8, &[Token]) -> Result<(Box<Expr>, &[Token]), ReadError>> Items
+    for Grammar<F> {
+    type Item = Expr;
+
+    ghost Plain = { tree.Expr };
+
+    ghost view = { view };
+
+    ghost can_read = { λ s. Nests s.depth (F.pre s.inner) (F.post s.inner) };
+
+    ghost item_at = { λ s. reading.tree_at s.depth 1 };
+
+    ghost separator_at = { λ _. readers.expect m.Comma };
+
+    fn item<'t>(&self, tokens: &'t [Token]) -> Result<(Expr, &'t [Token]), ReadError> {
+        let (e, rest) = self.inner(ANY_LEVEL, tokens)?;
+        Ok((Box::into_inner(e), rest))
+    }
+
+    fn separator<'t>(&self, tokens: &'t [Token]) -> Option<&'t [Token]> {
+        after(Mark::Comma, tokens)
+    }
+}
+
+impl<F: Fn(Global, usize, u8, &[Token]) -> Result<(Box<Expr>, &[Token]), ReadError>> Grower
+    for Grammar<F> {
+    type Tree = Box<Expr>;
+
+    ghost Plain = { tree.Expr };
+
+    ghost view = { view_box };
+
+    ghost can_grow = { λ s. Nests s.depth (F.pre s.inner) (F.post s.inner) };
+
+    ghost step_at = { λ s. reading.step (reading.tree_at s.depth) };
+
+    fn step<'t>(
+        &self,
+        least: u8,
+        left: Box<Expr>,
+        tokens: &'t [Token],
+    ) -> Result<Growth<'t, Box<Expr>>, ReadError> {
+        let [token, next @ ..] = tokens else {
+            return Ok(Growth::Stop(left));
+        };
+        let Some(form) = form_at(token) else {
+            return Ok(Growth::Stop(left));
+        };
+        if !takes(least, row_of(form), &left) {
+            return Ok(Growth::Stop(left));
+        }
+        let (longer, rest) = self.longer(left, form, next)?;
+        Ok(Growth::More(longer, rest))
+    }
+}
+
+#[tactic(auto, unfolding(crate::specs::Reading::tree_at))]
+fn tree_at(
+    alloc: Global,
+    depth: usize,
+    least: u8,
+    tokens: &[Token],
+) -> Result<(Box<Expr>, &[Token]), ReadError>
+    ensures { Gives (λ x. (view_box x.0, x.1.now)) result (reading.tree_at depth least tokens.now) }
+{
+    if depth == 0 {
+        return Err(ReadError::Syntax(tokens.len()));
+    }
+    Grammar {
+        alloc,
+        depth: depth - 1,
+        inner: tree_at,
+    }
+    .level_at(least, tokens)
+}
+
+/// An expression, and the tokens after it.
+#[tactic(auto, unfolding(crate::specs::Reading::expression_at))]
+pub fn expression(alloc: Global, tokens: &[Token]) -> Result<(Expr, &[Token]), ReadError>
+    ensures { Gives (λ x. (view x.0, x.1.now)) result (reading.expression_at tokens.now) }
+{
+    let (e, rest) = tree_at(alloc, tokens.len(), ANY_LEVEL, tokens)?;
+    Ok((Box::into_inner(e), rest))
+}

@@ -1,0 +1,133 @@
+//! Nodes and functions.
+
+ghost use Rattle.std.specs.Prelude.{◌≡◌, ℕ, List};
+ghost use Rattle.lb_syntax.specs.Programs as reading;
+ghost use Rattle.lb_syntax.specs.Reading as expressions;
+ghost use Rattle.lb_syntax.specs.Readers.{Gives};
+ghost use Rattle.lb_syntax.specs.Headings.{view_heading};
+ghost use Rattle.lb_syntax.specs.SourceView.{view_node};
+
+use crate::declaration::{groups, inputs, locals};
+use crate::list::{Items, list};
+use crate::lookahead::skip;
+use crate::reader::{ReadError, after, expect, name_at};
+use crate::statement::body;
+use crate::statics::separator;
+use crate::token::{Mark, Token};
+use crate::tree::{Declarations, Name, Node};
+use std::alloc::Global;
+
+/// A static parameter, `const n: int`.
+#[tactic(auto, unfolding(crate::specs::Programs::parameter_at))]
+fn parameter(alloc: Global, tokens: &[Token]) -> Result<(Name, &[Token]), ReadError>
+    ensures { Gives (λ x. (x.0, x.1.now)) result (reading.parameter_at tokens.now) }
+{
+    let rest = expect(Mark::Const, tokens)?;
+    let (name, rest) = name_at(alloc, rest)?;
+    let rest = expect(Mark::Colon, rest)?;
+    let rest = expect(Mark::Int, rest)?;
+    Ok((name, rest))
+}
+
+/// A reader of static parameters with `,` or `;` between.
+#[derive(Clone, Copy)]
+struct ParameterItems {
+    alloc: Global,
+}
+
+impl Items for ParameterItems {
+    type Item = Name;
+
+    ghost Plain = { List ℕ };
+
+    ghost view = { λ x. x };
+
+    ghost can_read = { λ _. Unit {0} };
+
+    ghost item_at = { λ _. reading.parameter_at };
+
+    ghost separator_at = { λ _. expressions.separator };
+
+    fn item<'t>(&self, tokens: &'t [Token]) -> Result<(Name, &'t [Token]), ReadError> {
+        parameter(self.alloc, tokens)
+    }
+
+    fn separator<'t>(&self, tokens: &'t [Token]) -> Option<&'t [Token]> {
+        separator(tokens)
+    }
+}
+
+/// The static parameters, if there are any.
+#[tactic(auto, unfolding(crate::specs::Programs::parameters_at), using(crate::proofs::ListFronts::same_names))]
+fn parameters(alloc: Global, tokens: &[Token]) -> Result<(Vec<Name>, &[Token]), ReadError>
+    ensures { Gives (λ x. (x.0.items, x.1.now)) result (reading.parameters_at tokens.now) }
+{
+    match after(Mark::OpenStatic, tokens) {
+        None => Ok((Vec::new(alloc), tokens)),
+        Some(inner) => {
+            let (names, rest) = list(alloc, &ParameterItems { alloc }, inner)?;
+            let rest = expect(Mark::CloseStatic, rest)?;
+            Ok((names, rest))
+        }
+    }
+}
+
+/// The name of a node, its static parameters, inputs and outputs.
+#[derive(Drop)]
+pub struct Heading {
+    name: Name,
+    parameters: Vec<Name>,
+    inputs: Vec<Declarations>,
+    outputs: Vec<Declarations>,
+}
+
+/// A heading, `f<<const n: int>>(a: int) returns (b: int)`.
+#[tactic(auto, unfolding(crate::specs::Programs::heading_at))]
+fn heading_at(alloc: Global, tokens: &[Token]) -> Result<(Heading, &[Token]), ReadError>
+    ensures { Gives (λ x. (view_heading x.0, x.1.now)) result (reading.heading_at tokens.now) }
+{
+    let (name, rest) = name_at(alloc, tokens)?;
+    let (parameters, rest) = parameters(alloc, rest)?;
+    let rest = expect(Mark::Open, rest)?;
+    let (inputs, rest) = inputs(alloc, rest)?;
+    let rest = expect(Mark::Close, rest)?;
+    let rest = expect(Mark::Returns, rest)?;
+    let rest = expect(Mark::Open, rest)?;
+    let (outputs, rest) = groups(alloc, rest)?;
+    let rest = expect(Mark::Close, rest)?;
+    Ok((
+        Heading {
+            name,
+            parameters,
+            inputs,
+            outputs,
+        },
+        rest,
+    ))
+}
+
+/// A node after the word `node`, or a function after the word `function`.
+#[tactic(auto, unfolding(crate::specs::Programs::node_at))]
+pub fn node_at(
+    alloc: Global,
+    is_function: bool,
+    tokens: &[Token],
+) -> Result<(Node, &[Token]), ReadError>
+    ensures { Gives (λ x. (view_node x.0, x.1.now)) result (reading.node_at is_function tokens.now) }
+{
+    let (heading, rest) = heading_at(alloc, tokens)?;
+    let (locals, rest) = locals(alloc, skip(Mark::Semicolon, rest))?;
+    let (body, rest) = body(alloc, rest)?;
+    Ok((
+        Node {
+            name: heading.name,
+            is_function,
+            parameters: heading.parameters,
+            inputs: heading.inputs,
+            outputs: heading.outputs,
+            locals,
+            body,
+        },
+        rest,
+    ))
+}

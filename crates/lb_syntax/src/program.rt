@@ -1,0 +1,135 @@
+//! Programs: constants, nodes and functions.
+
+ghost use Rattle.std.specs.Prelude.{◌≡◌, Some, IfOk};
+ghost use Rattle.lb_syntax.specs.ListReading as lists;
+ghost use Rattle.lb_syntax.specs.Parts.{view_part, added};
+ghost use Rattle.lb_syntax.specs.Programs as reading;
+ghost use Rattle.lb_syntax.specs.Readers.{Gives};
+ghost use Rattle.lb_syntax.specs.SourceView.{view_constant, view_source};
+ghost use Rattle.lb_syntax.specs.Tree as tree;
+
+use crate::list::{Items, list};
+use crate::lookahead::at_name;
+use crate::node::node_at;
+use crate::reader::{ReadError, after, expect, name_at};
+use crate::statics::static_expression;
+use crate::token::{Mark, Token};
+use crate::tree::{Constant, Node, Source};
+use std::alloc::{AllocError, Global};
+
+/// The tokens after `: int`, or all of them if no `:` comes next.
+fn skip_type(tokens: &[Token]) -> Result<&[Token], ReadError>
+    ensures { Gives (λ x. x.now) result (reading.type_at tokens.now) }
+{
+    match after(Mark::Colon, tokens) {
+        None => Ok(tokens),
+        Some(rest) => expect(Mark::Int, rest),
+    }
+}
+
+/// A constant, `n = s;` or `n: int = s;`.
+#[tactic(auto, unfolding(crate::specs::Programs::constant_at))]
+fn constant_at(alloc: Global, tokens: &[Token]) -> Result<(Constant, &[Token]), ReadError>
+    ensures { Gives (λ x. (view_constant x.0, x.1.now)) result (reading.constant_at tokens.now) }
+{
+    let (name, rest) = name_at(alloc, tokens)?;
+    let rest = skip_type(rest)?;
+    let rest = expect(Mark::Equal, rest)?;
+    let (value, rest) = static_expression(alloc, rest)?;
+    let rest = expect(Mark::Semicolon, rest)?;
+    Ok((Constant { name, value }, rest))
+}
+
+/// A reader of constants, one after the other.
+#[derive(Clone, Copy)]
+struct ConstantItems {
+    alloc: Global,
+}
+
+impl Items for ConstantItems {
+    type Item = Constant;
+
+    ghost Plain = { tree.Constant };
+
+    ghost view = { view_constant };
+
+    ghost can_read = { λ _. Unit {0} };
+
+    ghost item_at = { λ _. reading.constant_at };
+
+    ghost separator_at = { λ _. lists.at_name };
+
+    fn item<'t>(&self, tokens: &'t [Token]) -> Result<(Constant, &'t [Token]), ReadError> {
+        constant_at(self.alloc, tokens)
+    }
+
+    fn separator<'t>(&self, tokens: &'t [Token]) -> Option<&'t [Token]> {
+        at_name(tokens)
+    }
+}
+
+/// A part of a program.
+#[derive(Drop)]
+pub enum Part {
+    /// `const n = s; k: int = t;`
+    Constants(Vec<Constant>),
+    /// A node or a function.
+    Single(Node),
+}
+
+/// The constants after a `const`, or a node or a function.
+#[tactic(auto, unfolding(crate::specs::Programs::part_at))]
+fn part_at(alloc: Global, tokens: &[Token]) -> Result<(Part, &[Token]), ReadError>
+    ensures { Gives (λ x. (view_part x.0, x.1.now)) result (reading.part_at tokens.now) }
+{
+    if let Some(rest) = after(Mark::Const, tokens) {
+        let (constants, rest) = list(alloc, &ConstantItems { alloc }, rest)?;
+        return Ok((Part::Constants(constants), rest));
+    }
+    if let Some(rest) = after(Mark::Node, tokens) {
+        let (node, rest) = node_at(alloc, false, rest)?;
+        return Ok((Part::Single(node), rest));
+    }
+    match after(Mark::Function, tokens) {
+        Some(rest) => {
+            let (node, rest) = node_at(alloc, true, rest)?;
+            Ok((Part::Single(node), rest))
+        }
+        None => Err(ReadError::Syntax(tokens.len())),
+    }
+}
+
+/// A part more at the end of a program.
+fn add(source: &mut Source, part: Part) -> Result<(), AllocError>
+    ensures { IfOk result (λ _. view_source source.new ≡ added (view_source source.old) (view_part part)) }
+{
+    match part {
+        Part::Constants(mut constants) => source.constants.append(&mut constants)?,
+        Part::Single(node) => source.nodes.push(node)?,
+    }
+    Ok(())
+}
+
+/// The program that the tokens spell, all of them.
+pub fn program(alloc: Global, tokens: &[Token]) -> Result<Source, ReadError>
+    ensures { Gives view_source result (reading.source_at tokens.now) }
+{
+    let mut source = Source {
+        constants: Vec::new(alloc),
+        nodes: Vec::new(alloc),
+    };
+    let mut rest = tokens;
+    for _turn in 0..tokens.len() {
+        if rest.is_empty() {
+            return Ok(source);
+        }
+        let (part, after) = part_at(alloc, rest)?;
+        add(&mut source, part)?;
+        rest = after;
+    }
+    if rest.is_empty() {
+        Ok(source)
+    } else {
+        Err(ReadError::Syntax(rest.len()))
+    }
+}

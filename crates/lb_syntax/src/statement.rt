@@ -1,0 +1,106 @@
+//! Statements of a node.
+
+ghost use Rattle.std.specs.Prelude.{◌≡◌, map};
+ghost use Rattle.lb_syntax.specs.ListReading as lists;
+ghost use Rattle.lb_syntax.specs.Programs as reading;
+ghost use Rattle.lb_syntax.specs.Readers.{Gives};
+ghost use Rattle.lb_syntax.specs.SourceView.{view_statement};
+ghost use Rattle.lb_syntax.specs.Tree as tree;
+
+use crate::declaration::names;
+use crate::expression::expression;
+use crate::list::{Items, any};
+use crate::lookahead::skip;
+use crate::reader::{ReadError, after, expect};
+use crate::token::{Mark, Token};
+use crate::tree::{Name, Statement};
+use std::alloc::Global;
+
+/// The left side of an equation, `a, b` or `(a, b)`.
+#[tactic(auto, unfolding(crate::specs::Programs::left_at))]
+fn left(alloc: Global, tokens: &[Token]) -> Result<(Vec<Name>, &[Token]), ReadError>
+    ensures { Gives (λ x. (x.0.items, x.1.now)) result (reading.left_at tokens.now) }
+{
+    match after(Mark::Open, tokens) {
+        None => names(alloc, tokens),
+        Some(inner) => {
+            let (names, rest) = names(alloc, inner)?;
+            let rest = expect(Mark::Close, rest)?;
+            Ok((names, rest))
+        }
+    }
+}
+
+/// An equation or an assertion.
+#[tactic(auto, unfolding(crate::specs::Programs::statement_at))]
+fn statement(alloc: Global, tokens: &[Token]) -> Result<(Statement, &[Token]), ReadError>
+    ensures { Gives (λ x. (view_statement x.0, x.1.now)) result (reading.statement_at tokens.now) }
+{
+    match after(Mark::Assert, tokens) {
+        Some(claim) => {
+            let (e, rest) = expression(alloc, claim)?;
+            let rest = expect(Mark::Semicolon, rest)?;
+            Ok((Statement::Assertion(e), rest))
+        }
+        None => {
+            let (names, rest) = left(alloc, tokens)?;
+            let rest = expect(Mark::Equal, rest)?;
+            let (e, rest) = expression(alloc, rest)?;
+            let rest = expect(Mark::Semicolon, rest)?;
+            Ok((Statement::Equation(names, e), rest))
+        }
+    }
+}
+
+/// A reader of statements, up to `tel`.
+#[derive(Clone, Copy)]
+struct StatementItems {
+    alloc: Global,
+}
+
+impl Items for StatementItems {
+    type Item = Statement;
+
+    ghost Plain = { tree.Statement };
+
+    ghost view = { view_statement };
+
+    ghost can_read = { λ _. Unit {0} };
+
+    ghost item_at = { λ _. reading.statement_at };
+
+    ghost separator_at = { λ _. lists.at_next_statement };
+
+    fn item<'t>(&self, tokens: &'t [Token]) -> Result<(Statement, &'t [Token]), ReadError> {
+        statement(self.alloc, tokens)
+    }
+
+    #[tactic(auto, unfolding(crate::specs::ListReading::at_next_statement))]
+    fn separator<'t>(&self, tokens: &'t [Token]) -> Option<&'t [Token]> {
+        match after(Mark::Tel, tokens) {
+            Some(_) => None,
+            None => Some(tokens),
+        }
+    }
+}
+
+/// The tokens after the end of a node: nothing, `;` or `.`.
+fn end(tokens: &[Token]) -> &[Token]
+    ensures { result.now ≡ reading.end_at tokens.now }
+{
+    match after(Mark::Semicolon, tokens) {
+        Some(rest) => rest,
+        None => skip(Mark::Dot, tokens),
+    }
+}
+
+/// `let`, any number of statements, and `tel` with the end of the node.
+#[tactic(auto, unfolding(crate::specs::Programs::body_at))]
+pub fn body(alloc: Global, tokens: &[Token]) -> Result<(Vec<Statement>, &[Token]), ReadError>
+    ensures { Gives (λ x. (map view_statement x.0.items, x.1.now)) result (reading.body_at tokens.now) }
+{
+    let rest = expect(Mark::Let, tokens)?;
+    let (body, rest) = any(alloc, &StatementItems { alloc }, rest)?;
+    let rest = expect(Mark::Tel, rest)?;
+    Ok((body, end(rest)))
+}

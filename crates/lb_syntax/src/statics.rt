@@ -1,0 +1,259 @@
+//! Static expressions, sizes, clocks and static arguments.
+
+ghost use Rattle.std.specs.Prelude.{◌≡◌, ℕ, Option, List, Some, None, IfNone, IfSome};
+ghost use Rattle.lb_syntax.specs.Nests.{NestsStatic};
+ghost use Rattle.lb_syntax.specs.Reading as reading;
+ghost use Rattle.lb_syntax.specs.Readers.{Gives};
+ghost use Rattle.lb_syntax.specs.Tree as tree;
+ghost use Rattle.lb_syntax.specs.View.{view_static, view_statics, view_sampling};
+ghost use Rattle.lb_syntax.specs.Levels as levels;
+
+use crate::climb::{Grower, Growth, climb};
+use crate::level::{ANY_LEVEL, ATOM_LEVEL, Form, Row, arithmetic_of, row_of, unary_level};
+use crate::list::{Items, list};
+use crate::reader::{ReadError, after, expect, name_at};
+use crate::token::{Mark, Token};
+use crate::tree::{BinaryOperator, Name, Sampling, Static, UnaryOperator};
+use std::alloc::Global;
+
+fn arithmetic_at(token: &Token) -> Option<BinaryOperator>
+    ensures { result ≡ reading.arithmetic_at token.now }
+{
+    match token {
+        Token::Mark(mark) => arithmetic_of(*mark),
+        _ => None,
+    }
+}
+
+fn level(s: &Static) -> u8
+    ensures { result ≡ levels.static_level (view_static s.now) }
+{
+    match s {
+        Static::Combined(op, _, _) => row_of(Form::Data(*op)).level,
+        Static::Negated(_) => unary_level(UnaryOperator::Negate),
+        _ => ATOM_LEVEL,
+    }
+}
+
+/// Whether an operator takes a tree on its left, where the least level is wanted.
+#[tactic(auto, unfolding(crate::specs::Reading::static_takes))]
+fn takes(least: u8, row: Row, s: &Static) -> bool
+    ensures { result ≡ reading.static_takes least row (view_static s.now) }
+{
+    least <= row.level && row.left <= level(s)
+}
+
+/// The reader of what stands inside a static expression, to one depth less, is handed in, so that
+/// each function is proved by itself.
+#[derive(Clone, Copy)]
+pub struct StaticGrammar<F> {
+    alloc: Global,
+    /// How deep trees may still nest.
+    depth: usize,
+    inner: F,
+}
+
+impl<F: Fn(Global, usize, u8, &[Token]) -> Result<(Static, &[Token]), ReadError>> StaticGrammar<F> {
+    fn inner<'t>(&self, least: u8, tokens: &'t [Token]) -> Result<(Static, &'t [Token]), ReadError>
+        requires { NestsStatic self.now.depth (F.pre self.now.inner) (F.post self.now.inner) }
+        ensures { Gives (λ x. (view_static x.0, x.1.now)) result
+            (reading.static_tree self.now.depth least tokens.now) }
+    {
+        (self.inner)(self.alloc, self.depth, least, tokens)
+    }
+
+    #[tactic(auto, unfolding(crate::specs::Reading::static_level_at))]
+    fn level_at<'t>(
+        &self,
+        least: u8,
+        tokens: &'t [Token],
+    ) -> Result<(Static, &'t [Token]), ReadError>
+        requires { NestsStatic self.now.depth (F.pre self.now.inner) (F.post self.now.inner) }
+        ensures { Gives (λ x. (view_static x.0, x.1.now)) result
+            (reading.static_level_at (reading.static_tree self.now.depth) least tokens.now) }
+    {
+        let (first, rest) = self.first(tokens)?;
+        climb(self, least, tokens.len(), first, rest)
+    }
+
+    #[tactic(auto, unfolding(crate::specs::Reading::static_first))]
+    fn first<'t>(&self, tokens: &'t [Token]) -> Result<(Static, &'t [Token]), ReadError>
+        requires { NestsStatic self.now.depth (F.pre self.now.inner) (F.post self.now.inner) }
+        ensures { Gives (λ x. (view_static x.0, x.1.now)) result
+            (reading.static_first (reading.static_tree self.now.depth) tokens.now) }
+    {
+        match tokens {
+            [Token::Literal(n), rest @ ..] => Ok((Static::Whole(*n), rest)),
+            [Token::Name(x), rest @ ..] => Ok((Static::Named(x.copy(self.alloc)?), rest)),
+            [Token::Mark(Mark::Open), rest @ ..] => {
+                let (s, rest) = self.inner(ANY_LEVEL, rest)?;
+                let rest = expect(Mark::Close, rest)?;
+                Ok((Static::Grouped(Box::new(self.alloc, s)?), rest))
+            }
+            [Token::Mark(Mark::Minus), rest @ ..] => {
+                let (s, rest) = self.inner(unary_level(UnaryOperator::Negate), rest)?;
+                Ok((Static::Negated(Box::new(self.alloc, s)?), rest))
+            }
+            _ => Err(ReadError::Syntax(tokens.len())),
+        }
+    }
+}
+
+impl<F: Fn(Global, usize, u8, &[Token]) -> Result<(Static, &[Token]), ReadError>> Grower
+    for StaticGrammar<F> {
+    type Tree = Static;
+
+    ghost Plain = { tree.Static };
+
+    ghost view = { view_static };
+
+    ghost can_grow = { λ s. NestsStatic s.depth (F.pre s.inner) (F.post s.inner) };
+
+    ghost step_at = { λ s. reading.static_step (reading.static_tree s.depth) };
+
+    fn step<'t>(
+        &self,
+        least: u8,
+        left: Static,
+        tokens: &'t [Token],
+    ) -> Result<Growth<'t, Static>, ReadError> {
+        let [token, next @ ..] = tokens else {
+            return Ok(Growth::Stop(left));
+        };
+        let Some(op) = arithmetic_at(token) else {
+            return Ok(Growth::Stop(left));
+        };
+        let row = row_of(Form::Data(op));
+        if !takes(least, row, &left) {
+            return Ok(Growth::Stop(left));
+        }
+        let (right, rest) = self.inner(row.right, next)?;
+        let a = Box::new(self.alloc, left)?;
+        let b = Box::new(self.alloc, right)?;
+        Ok(Growth::More(Static::Combined(op, a, b), rest))
+    }
+}
+
+#[tactic(auto, unfolding(crate::specs::Reading::static_tree))]
+fn static_tree(
+    alloc: Global,
+    depth: usize,
+    least: u8,
+    tokens: &[Token],
+) -> Result<(Static, &[Token]), ReadError>
+    ensures { Gives (λ x. (view_static x.0, x.1.now)) result
+        (reading.static_tree depth least tokens.now) }
+{
+    if depth == 0 {
+        return Err(ReadError::Syntax(tokens.len()));
+    }
+    StaticGrammar {
+        alloc,
+        depth: depth - 1,
+        inner: static_tree,
+    }
+    .level_at(least, tokens)
+}
+
+/// A static expression, and the tokens after it.
+#[tactic(auto, unfolding(crate::specs::Reading::static_at))]
+pub fn static_expression(alloc: Global, tokens: &[Token]) -> Result<(Static, &[Token]), ReadError>
+    ensures { Gives (λ x. (view_static x.0, x.1.now)) result (reading.static_at tokens.now) }
+{
+    static_tree(alloc, tokens.len(), ANY_LEVEL, tokens)
+}
+
+/// A reader of static expressions with `,` or `;` between.
+#[derive(Clone, Copy)]
+pub struct StaticItems {
+    alloc: Global,
+}
+
+impl Items for StaticItems {
+    type Item = Static;
+
+    ghost Plain = { tree.Static };
+
+    ghost view = { view_static };
+
+    ghost can_read = { λ _. Unit {0} };
+
+    ghost item_at = { λ _. reading.static_at };
+
+    ghost separator_at = { λ _. reading.separator };
+
+    fn item<'t>(&self, tokens: &'t [Token]) -> Result<(Static, &'t [Token]), ReadError> {
+        static_expression(self.alloc, tokens)
+    }
+
+    #[tactic(auto, unfolding(crate::specs::Reading::separator))]
+    fn separator<'t>(&self, tokens: &'t [Token]) -> Option<&'t [Token]> {
+        separator(tokens)
+    }
+}
+
+/// The tokens after `,` or `;`, if one comes next.
+#[tactic(auto, unfolding(crate::specs::Reading::separator))]
+pub fn separator(tokens: &[Token]) -> Option<&[Token]>
+    ensures none { IfNone result (reading.separator tokens.now ≡ None) }
+    ensures some { IfSome result (λ rest. reading.separator tokens.now ≡ Some rest.now) }
+{
+    match after(Mark::Comma, tokens) {
+        Some(rest) => Some(rest),
+        None => after(Mark::Semicolon, tokens),
+    }
+}
+
+/// One static expression or more with `,` or `;` between, and the tokens after them.
+#[tactic(auto, unfolding(crate::specs::Reading::statics_at))]
+pub fn statics(alloc: Global, tokens: &[Token]) -> Result<(Vec<Static>, &[Token]), ReadError>
+    ensures { Gives (λ x. (view_statics x.0.items, x.1.now)) result
+        (reading.statics_at tokens.now) }
+{
+    list(alloc, &StaticItems { alloc }, tokens)
+}
+
+/// A size after `^`: a literal, a name or a static expression in parentheses.
+#[tactic(auto, unfolding(crate::specs::Reading::size_at))]
+pub fn size(alloc: Global, tokens: &[Token]) -> Result<(Static, &[Token]), ReadError>
+    ensures { Gives (λ x. (view_static x.0, x.1.now)) result (reading.size_at tokens.now) }
+{
+    match tokens {
+        [Token::Literal(n), rest @ ..] => Ok((Static::Whole(*n), rest)),
+        [Token::Name(x), rest @ ..] => Ok((Static::Named(x.copy(alloc)?), rest)),
+        [Token::Mark(Mark::Open), rest @ ..] => {
+            let (s, rest) = static_expression(alloc, rest)?;
+            let rest = expect(Mark::Close, rest)?;
+            Ok((Static::Grouped(Box::new(alloc, s)?), rest))
+        }
+        _ => Err(ReadError::Syntax(tokens.len())),
+    }
+}
+
+/// The variable of a clock, in parentheses or not.
+#[tactic(auto, unfolding(crate::specs::Reading::clock_name_at))]
+fn clock_name(alloc: Global, tokens: &[Token]) -> Result<(Name, &[Token]), ReadError>
+    ensures { Gives (λ x. (x.0, x.1.now)) result (reading.clock_name_at tokens.now) }
+{
+    match after(Mark::Open, tokens) {
+        None => name_at(alloc, tokens),
+        Some(inner) => {
+            let (x, rest) = name_at(alloc, inner)?;
+            let rest = expect(Mark::Close, rest)?;
+            Ok((x, rest))
+        }
+    }
+}
+
+/// A clock after `when`, and the tokens after it.
+#[tactic(auto, unfolding(crate::specs::Reading::clock_at))]
+pub fn clock(alloc: Global, tokens: &[Token]) -> Result<(Sampling, &[Token]), ReadError>
+    ensures { Gives (λ x. (view_sampling x.0, x.1.now)) result (reading.clock_at tokens.now) }
+{
+    let (name, sign) = match after(Mark::Not, tokens) {
+        None => (tokens, true),
+        Some(next) => (next, false),
+    };
+    let (variable, rest) = clock_name(alloc, name)?;
+    Ok((Sampling { variable, sign }, rest))
+}
