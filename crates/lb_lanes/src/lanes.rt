@@ -105,7 +105,8 @@ impl IntLanes {
     fn operated<K: Exact>(&self, other: &IntLanes, active: Plane) -> (IntLanes, Plane)
         requires left { AreInts self.now }
         requires right { AreInts other.now }
-        ensures lanes { IsKernel (λ x y. lawful (K.exact x y)) self.now other.now active.0 result.0 result.1.0 }
+        ensures lanes { IsKernel (λ x y. lawful (K.exact x y)) self.now other.now active.0
+            result.0 result.1.0 }
         ensures in_range { AreInts result.0 }
     {
         let mut outcome = (IntLanes { bits: [0; 64] }, Plane(0));
@@ -117,7 +118,8 @@ impl IntLanes {
     fn divided<K: Division>(&self, other: &IntLanes, active: Plane) -> (IntLanes, Plane)
         requires left { AreInts self.now }
         requires right { AreInts other.now }
-        ensures lanes { IsKernel (divided_by K.divided) self.now other.now active.0 result.0 result.1.0 }
+        ensures lanes { IsKernel (divided_by K.divided) self.now other.now active.0
+            result.0 result.1.0 }
         ensures in_range { AreInts result.0 }
     {
         let mut lanes = IntLanes { bits: [0; 64] };
@@ -166,7 +168,8 @@ impl IntLanes {
     /// A lane that is not active, or has a fault, gives 0.
     pub fn neg(&self, active: Plane) -> (IntLanes, Plane)
         requires { AreInts self.now }
-        ensures lanes { IsKernel (λ a b. negation_of a) self.now self.now active.0 result.0 result.1.0 }
+        ensures lanes { IsKernel (λ a b. negation_of a) self.now self.now active.0
+            result.0 result.1.0 }
         ensures in_range { AreInts result.0 }
     {
         self.operated::<Negation>(self, active)

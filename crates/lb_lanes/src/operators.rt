@@ -85,8 +85,8 @@ fn run8<K: Exact>(x: u64x8, y: u64x8, live: u64) -> (u64x8, u64)
 pub(crate) fn run<K: Exact>(a: &[u64; 64], b: &[u64; 64], active: u64, out: &mut [u64; 64]) -> u64
     requires left { AreIntsBelow 64 (word_lane a.now) }
     requires right { AreIntsBelow 64 (word_lane b.now) }
-    ensures lanes { IsKernelBelow 64 (λ x y. lawful (K.exact x y)) (word_lane a.now) (word_lane b.now) active
-        (word_lane out.new) result }
+    ensures lanes { IsKernelBelow 64 (λ x y. lawful (K.exact x y)) (word_lane a.now)
+        (word_lane b.now) active (word_lane out.new) result }
     ensures in_range { AreIntsBelow 64 (word_lane out.new) }
 {
     let mut faults = 0u64;
@@ -149,8 +149,8 @@ pub(crate) fn run_division<K: Division>(
 ) -> u64
     requires left { AreIntsBelow 64 (word_lane a.now) }
     requires right { AreIntsBelow 64 (word_lane b.now) }
-    ensures lanes { IsKernelBelow 64 (divided_by K.divided) (word_lane a.now) (word_lane b.now) active
-        (word_lane out.new) result }
+    ensures lanes { IsKernelBelow 64 (divided_by K.divided) (word_lane a.now)
+        (word_lane b.now) active (word_lane out.new) result }
     ensures in_range { AreIntsBelow 64 (word_lane out.new) }
 {
     let divisible = tested::<Divisible>(a, b);

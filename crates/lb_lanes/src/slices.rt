@@ -20,7 +20,8 @@ pub(crate) trait WordOp {
         ensures { result ≡ word x y };
 
     fn eight(x: u64x8, y: u64x8) -> u64x8
-        ensures { (i : ℕ) → i < 8 → slice_index result i ≡ word (slice_index x i) (slice_index y i) };
+        ensures { (i : ℕ) → i < 8
+            → slice_index result i ≡ word (slice_index x i) (slice_index y i) };
 }
 
 struct And;
