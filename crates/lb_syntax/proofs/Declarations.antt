@@ -100,7 +100,8 @@ static_end : (rest : List Token) → IsGroupEnd rest → EndsStatic rest
 static_end rest (after, inl s) = rw s refl
 static_end rest (after, inr s) = rw s refl
 
-pub mark_end : (k : Mark) (ts rest : List Token) → arithmetic_of k ≡ None → IsMark k ts rest → EndsStatic ts
+pub mark_end : (k : Mark) (ts rest : List Token) → arithmetic_of k ≡ None → IsMark k ts rest →
+    EndsStatic ts
 mark_end k ts rest none s = rw s (rw none refl)
 
 no_when : (rest : List Token) → IsGroupEnd rest → expect m.When rest ≡ None

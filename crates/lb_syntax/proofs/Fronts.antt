@@ -35,3 +35,8 @@ pub tail_turn : {X A : Type 0} (view : X → A) (separates : List Token → Opti
 unfolding tail_at
 tail_turn view separates item n front x rest next after p q =
     rw (p, q) (front_more view front x (tail_at separates item n after))
+
+-- a list after none
+pub front_none : {A : Type 0} (o : Option (List A × List Token)) → with_front [] o ≡ o
+front_none (Some r) = refl
+front_none None = refl

@@ -19,7 +19,7 @@ pub mod Pieces
 pub mod LimitLaws
 pub mod Spans
 pub mod ListLaws
-pub mod ListFronts
+pub mod Names
 pub mod Declarations
 pub mod Nodes
 pub mod Sources

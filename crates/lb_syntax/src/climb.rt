@@ -45,7 +45,10 @@ pub trait Grower {
         ensures { Grows view (view left) result (step_at self.now least (view left) tokens.now) };
 }
 
-/// The tree that grows from the first one by so many steps at the most, with the tokens after it.
+/// The tree that grows from the first one by so many steps at the most, with the tokens after it:
+/// of `1` before `- 2 - 3`, the tree of `(1 - 2) - 3`.
+///
+/// Errors: those of a step.
 #[tactic(auto, unfolding(crate::specs::Reading::climb))]
 pub fn climb<'t, G: Grower>(
     grower: &G,

@@ -1,6 +1,6 @@
 //! Declarations of variables, and lists of names.
 
-ghost use Rattle.std.specs.Prelude.{◌≡◌, ℕ, List, Option, Some, None};
+ghost use Rattle.std.specs.Prelude.{ℕ, List};
 ghost use Rattle.lb_syntax.specs.Grammar.{Group};
 ghost use Rattle.lb_syntax.specs.ListReading as lists;
 ghost use Rattle.lb_syntax.specs.Programs as reading;
@@ -49,7 +49,7 @@ impl Items for NameItems {
 }
 
 /// Names, `a, b`.
-#[tactic(auto, using(crate::proofs::ListFronts::same_names))]
+#[tactic(auto, using(crate::proofs::Names::same))]
 pub fn names(alloc: Global, tokens: &[Token]) -> Result<(Vec<Name>, &[Token]), ReadError>
     ensures { Gives (λ x. (x.0.items, x.1.now)) result (reading.names_at tokens.now) }
 {

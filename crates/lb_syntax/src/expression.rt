@@ -1,4 +1,11 @@
 //! Expressions, by one climb over the table of levels.
+//!
+//! An operand is read first, and then whatever goes on with it: each form whose level is high
+//! enough takes the tree so far as its left operand, and reads its right operand to a least level
+//! of its own. Every token is read once. What is looked at again is the right edge of a left
+//! operand, and that only as far as the first prefix form that rules the form out.
+//!
+//! The functions hand on a `Box`, which keeps each level of nesting small on the stack.
 
 ghost use Rattle.std.specs.Prelude.{◌≡◌, ℕ, Option, List, Some, None, map, nat_le, ◌≤◌, IfNone, IfSome};
 ghost use Rattle.lb_syntax.specs.Levels as levels;
@@ -186,6 +193,7 @@ fn element(
     }
 }
 
+/// The tree in a box.
 fn boxed(alloc: Global, e: Expr) -> Result<Box<Expr>, ReadError>
     ensures { IfOkOrMemory result (λ b. view_box b ≡ view e) }
 {
@@ -205,6 +213,7 @@ fn joined(alloc: Global, form: Form, a: Box<Expr>, b: Box<Expr>) -> Result<Box<E
     }
 }
 
+/// A call.
 fn call(
     alloc: Global,
     name: Name,
@@ -217,6 +226,7 @@ fn call(
     boxed(alloc, Expr::Call(name, statics, operands))
 }
 
+/// What an iterator makes of arrays.
 fn iterate(
     alloc: Global,
     iterator: ArrayIterator,
@@ -603,7 +613,10 @@ fn tree_at(
     .level_at(least, tokens)
 }
 
-/// An expression, and the tokens after it.
+/// The expression at the front of the tokens, and the tokens after it: of `a + b; c` the sum of
+/// `a` and `b`, and `; c`.
+///
+/// Errors: `Syntax` where no expression stands there, and `Memory`.
 #[tactic(auto, unfolding(crate::specs::Reading::expression_at))]
 pub fn expression(alloc: Global, tokens: &[Token]) -> Result<(Expr, &[Token]), ReadError>
     ensures { Gives (λ x. (view x.0, x.1.now)) result (reading.expression_at tokens.now) }

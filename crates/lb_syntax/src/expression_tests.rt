@@ -4,6 +4,7 @@ ghost use Rattle.lb_syntax.specs.Worked.{AreLevels};
 
 use crate::expression::expression;
 use crate::level::{Form, arithmetic_of, form_of, row_of, unary_level};
+use crate::reader::ReadError;
 use crate::statics::{clock, separator, size, static_expression, statics};
 use crate::token::{Mark, Token};
 use crate::tree::{BinaryOperator, Expr, Name, Static, UnaryOperator};
@@ -163,6 +164,15 @@ fn comparisons_do_not_chain(rt: HostRuntime) -> Result<(), Fail> {
     let tokens = spelled(rt.alloc(), &words)?;
     let (_, rest) = expression(rt.alloc(), &tokens)?;
     assert_eq!(rt; rest.len(), 2);
+    Ok(())
+}
+
+/// `(1 2` fits nothing from `2` on.
+#[test]
+fn refused_at_the_second_number(rt: HostRuntime) -> Result<(), Fail> {
+    let words = [Word::Mark(Mark::Open), Word::Number(1), Word::Number(2)];
+    let tokens = spelled(rt.alloc(), &words)?;
+    assert!(rt; matches!(expression(rt.alloc(), &tokens), Err(ReadError::Syntax(1))));
     Ok(())
 }
 

@@ -40,7 +40,9 @@ pub trait Items {
         ensures some { IfSome result (λ rest. separator_at self.now tokens.now ≡ Some rest.now) };
 }
 
-/// One item or more, and the tokens after them.
+/// One item or more with a separator between two, and the tokens after them.
+///
+/// Errors: those of the reader of an item, and `Memory`.
 #[tactic(auto, unfolding(crate::specs::Reading::list_at))]
 pub fn list<'t, I: Items>(
     alloc: Global,
@@ -84,7 +86,7 @@ fn tail<'t, I: Items>(
 }
 
 /// Any number of items, each after a separator, and the tokens after them.
-#[tactic(auto, unfolding(crate::specs::ListReading::any_at), using(crate::proofs::ListFronts::front_none))]
+#[tactic(auto, unfolding(crate::specs::ListReading::any_at), using(crate::proofs::Fronts::front_none))]
 pub fn any<'t, I: Items>(
     alloc: Global,
     items: &I,

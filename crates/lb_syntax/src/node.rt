@@ -1,6 +1,6 @@
 //! Nodes and functions.
 
-ghost use Rattle.std.specs.Prelude.{◌≡◌, ℕ, List};
+ghost use Rattle.std.specs.Prelude.{ℕ, List};
 ghost use Rattle.lb_syntax.specs.Programs as reading;
 ghost use Rattle.lb_syntax.specs.Reading as expressions;
 ghost use Rattle.lb_syntax.specs.Readers.{Gives};
@@ -58,7 +58,7 @@ impl Items for ParameterItems {
 }
 
 /// The static parameters, if there are any.
-#[tactic(auto, unfolding(crate::specs::Programs::parameters_at), using(crate::proofs::ListFronts::same_names))]
+#[tactic(auto, unfolding(crate::specs::Programs::parameters_at), using(crate::proofs::Names::same))]
 fn parameters(alloc: Global, tokens: &[Token]) -> Result<(Vec<Name>, &[Token]), ReadError>
     ensures { Gives (λ x. (x.0.items, x.1.now)) result (reading.parameters_at tokens.now) }
 {
@@ -113,7 +113,8 @@ pub fn node_at(
     is_function: bool,
     tokens: &[Token],
 ) -> Result<(Node, &[Token]), ReadError>
-    ensures { Gives (λ x. (view_node x.0, x.1.now)) result (reading.node_at is_function tokens.now) }
+    ensures { Gives (λ x. (view_node x.0, x.1.now)) result
+        (reading.node_at is_function tokens.now) }
 {
     let (heading, rest) = heading_at(alloc, tokens)?;
     let (locals, rest) = locals(alloc, skip(Mark::Semicolon, rest))?;

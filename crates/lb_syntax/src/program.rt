@@ -1,6 +1,6 @@
 //! Programs: constants, nodes and functions.
 
-ghost use Rattle.std.specs.Prelude.{◌≡◌, Some, IfOk};
+ghost use Rattle.std.specs.Prelude.{◌≡◌, IfOk};
 ghost use Rattle.lb_syntax.specs.ListReading as lists;
 ghost use Rattle.lb_syntax.specs.Parts.{view_part, added};
 ghost use Rattle.lb_syntax.specs.Programs as reading;
@@ -101,7 +101,8 @@ fn part_at(alloc: Global, tokens: &[Token]) -> Result<(Part, &[Token]), ReadErro
 
 /// A part more at the end of a program.
 fn add(source: &mut Source, part: Part) -> Result<(), AllocError>
-    ensures { IfOk result (λ _. view_source source.new ≡ added (view_source source.old) (view_part part)) }
+    ensures { IfOk result (λ _.
+        view_source source.new ≡ added (view_source source.old) (view_part part)) }
 {
     match part {
         Part::Constants(mut constants) => source.constants.append(&mut constants)?,

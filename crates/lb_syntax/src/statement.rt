@@ -97,7 +97,8 @@ fn end(tokens: &[Token]) -> &[Token]
 /// `let`, any number of statements, and `tel` with the end of the node.
 #[tactic(auto, unfolding(crate::specs::Programs::body_at))]
 pub fn body(alloc: Global, tokens: &[Token]) -> Result<(Vec<Statement>, &[Token]), ReadError>
-    ensures { Gives (λ x. (map view_statement x.0.items, x.1.now)) result (reading.body_at tokens.now) }
+    ensures { Gives (λ x. (map view_statement x.0.items, x.1.now)) result
+        (reading.body_at tokens.now) }
 {
     let rest = expect(Mark::Let, tokens)?;
     let (body, rest) = any(alloc, &StatementItems { alloc }, rest)?;

@@ -155,7 +155,10 @@ fn static_tree(
     .level_at(least, tokens)
 }
 
-/// A static expression, and the tokens after it.
+/// The static expression at the front of the tokens, and the tokens after it: of `n + 1]` the sum
+/// of `n` and 1, and `]`.
+///
+/// Errors: `Syntax` where no static expression stands there, and `Memory`.
 #[tactic(auto, unfolding(crate::specs::Reading::static_at))]
 pub fn static_expression(alloc: Global, tokens: &[Token]) -> Result<(Static, &[Token]), ReadError>
     ensures { Gives (λ x. (view_static x.0, x.1.now)) result (reading.static_at tokens.now) }
@@ -204,7 +207,9 @@ pub fn separator(tokens: &[Token]) -> Option<&[Token]>
     }
 }
 
-/// One static expression or more with `,` or `;` between, and the tokens after them.
+/// One static expression or more with `,` or `;` between, as `1, n; 3`, and the tokens after them.
+///
+/// Errors: as of `static_expression`.
 #[tactic(auto, unfolding(crate::specs::Reading::statics_at))]
 pub fn statics(alloc: Global, tokens: &[Token]) -> Result<(Vec<Static>, &[Token]), ReadError>
     ensures { Gives (λ x. (view_statics x.0.items, x.1.now)) result
@@ -213,7 +218,10 @@ pub fn statics(alloc: Global, tokens: &[Token]) -> Result<(Vec<Static>, &[Token]
     list(alloc, &StaticItems { alloc }, tokens)
 }
 
-/// A size after `^`: a literal, a name or a static expression in parentheses.
+/// A size after `^`, a literal, a name or a static expression in parentheses, as `3`, `n` and
+/// `(n + 1)`, and the tokens after it.
+///
+/// Errors: as of `static_expression`.
 #[tactic(auto, unfolding(crate::specs::Reading::size_at))]
 pub fn size(alloc: Global, tokens: &[Token]) -> Result<(Static, &[Token]), ReadError>
     ensures { Gives (λ x. (view_static x.0, x.1.now)) result (reading.size_at tokens.now) }
@@ -245,7 +253,9 @@ fn clock_name(alloc: Global, tokens: &[Token]) -> Result<(Name, &[Token]), ReadE
     }
 }
 
-/// A clock after `when`, and the tokens after it.
+/// A clock after `when`, as `c`, `(c)`, `not c` and `not (c)`, and the tokens after it.
+///
+/// Errors: `Syntax` where no clock stands there, and `Memory`.
 #[tactic(auto, unfolding(crate::specs::Reading::clock_at))]
 pub fn clock(alloc: Global, tokens: &[Token]) -> Result<(Sampling, &[Token]), ReadError>
     ensures { Gives (λ x. (view_sampling x.0, x.1.now)) result (reading.clock_at tokens.now) }

@@ -188,3 +188,21 @@ fn text_over_its_limit(rt: HostRuntime) -> Result<(), Fail> {
     assert_eq!(rt; shown(rt.alloc(), text.split_at(1_000_000).0)?.as_str(), "");
     Ok(())
 }
+
+#[test]
+fn deepest_statement(rt: HostRuntime) -> Result<(), Fail> {
+    let mut text = Vec::from_slice(rt.alloc(), b"node n() returns (y: int) let y = ")?;
+    for _ in 0..499 {
+        text.extend_from_slice(b"f(")?;
+    }
+    text.push(b'1')?;
+    for _ in 0..499 {
+        text.push(b')')?;
+    }
+    text.extend_from_slice(b"; tel")?;
+    assert_eq!(rt;
+        shown(rt.alloc(), &text)?.as_str(),
+        "node n << >> ( ) returns ( y: int; ) var let y ..; tel "
+    );
+    Ok(())
+}
