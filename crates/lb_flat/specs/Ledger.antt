@@ -18,7 +18,8 @@ pub record IsLedger (ends : List ℕ) : Type 0 where
 
 -- what f makes of each two neighbours
 abbrev pub pieces : {A : Type 0} → (ℕ → ℕ → A) → List ℕ → List A
-pieces f ends = map (λ k. f (place ends k) (place ends (k + 1))) (range_with_len 0 (length ends - 1))
+pieces f ends =
+    map (λ k. f (place ends k) (place ends (k + 1))) (range_with_len 0 (length ends - 1))
 
 -- the pieces of a list
 abbrev pub cut : List ℕ → List ℕ → List (List ℕ)

@@ -25,19 +25,23 @@ rows_between width cells from to = map (row_of width cells) (range_with_len from
 -- the traces of some names, cells and the places that part the rows
 abbrev pub stored_traces : ℕ → List (List ℕ) → List ℤ → List ℕ → Traces
 stored_traces width names cells ends =
-    map (λ k. (get_or names k [], rows_between width cells (place ends k) (place ends (k + 1)))) (range_with_len 0 (length names))
+    map (λ k. (get_or names k [], rows_between width cells (place ends k) (place ends (k + 1))))
+    (range_with_len 0 (length names))
 
 -- what names, cells and places hold under a signature
 abbrev pub stored : Elements → List (List ℕ) → List ℤ → List ℕ → Recording
-stored elements names cells ends = record { signature = elements; traces = stored_traces (length elements) names cells ends }
+stored elements names cells ends =
+    record { signature = elements; traces = stored_traces (length elements) names cells ends }
 
 -- the places part all rows, a part for each name
-pub record AreRows (width : ℕ) (names : List (List ℕ)) (cells : List ℤ) (ends : List ℕ) : Type 0 where
+pub record AreRows (width : ℕ) (names : List (List ℕ)) (cells : List ℤ) (ends : List ℕ)
+    : Type 0 where
   pub ledger : IsLedger ends
   pub paired : length ends ≡ length names + 1
   pub all : last_place ends * width ≡ length cells
 
 -- the parts fit one another, and what they hold is lawful
-pub record IsStored (elements : Elements) (names : List (List ℕ)) (cells : List ℤ) (ends : List ℕ) : Type 0 where
+pub record IsStored (elements : Elements) (names : List (List ℕ)) (cells : List ℤ) (ends : List ℕ)
+    : Type 0 where
   pub rows : AreRows (length elements) names cells ends
   pub lawful : IsRecording (stored elements names cells ends)

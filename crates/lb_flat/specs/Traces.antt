@@ -74,8 +74,8 @@ pub record IsTrace (elements : Elements) (trace : Trace) : Type 0 where
   pub instants : length trace.1 ≤ 1000000
   pub rows : All (IsRow elements) trace.1
 
--- what always holds of the traces that are put together: each is lawful, no two have one name, there
--- are at most 1,000,000, and at most 67,108,864 cells
+-- what always holds of the traces that are put together: each is lawful, no two have one name,
+-- there are at most 1,000,000, and at most 67,108,864 cells
 pub record IsRecording (r : Recording) : Type 0 where
   pub each : All (IsTrace r.signature) r.traces
   pub distinct : AllPairs (λ a b. a ≢ b) (trace_names r.traces)

@@ -6,8 +6,8 @@ ghost use Rattle.lb_flat.specs.Traces.{IsTraceName, is_name_byte};
 use std::alloc::{AllocError, Global};
 use std::marker::Model;
 
-/// Whether this is a lawful name of a trace: 1 to 64 bytes, each an ASCII letter or digit, `_`, `-`,
-/// `.` or `/`.
+/// Whether this is a lawful name of a trace: 1 to 64 bytes, each an ASCII letter or digit, `_`,
+/// `-`, `.` or `/`.
 pub fn is_trace_name(name: &[u8]) -> bool
     ensures { IsTrue result ↔ IsTraceName name.now }
 {

@@ -125,7 +125,8 @@ impl TraceSet {
         requires row { IsRow self.old.signature row.now }
         requires count { length self.old.traces < 1000000 }
         requires room { HasRoom self.old }
-        ensures ok { OnOk result (self.new ≡ record self.old { traces = with_trace self.old.traces name.now row.now }) }
+        ensures ok { OnOk result
+            (self.new ≡ record self.old { traces = with_trace self.old.traces name.now row.now }) }
         ensures err { OnErr result (self.new ≡ self.old) }
     {
         self.cells.reserve(row.len())?;
@@ -143,7 +144,8 @@ impl TraceSet {
         requires row { IsRow self.old.signature row.now }
         requires instants { length (last_rows self.old.traces) < 1000000 }
         requires room { HasRoom self.old }
-        ensures ok { OnOk result (self.new ≡ record self.old { traces = with_row self.old.traces row.now }) }
+        ensures ok { OnOk result
+            (self.new ≡ record self.old { traces = with_row self.old.traces row.now }) }
         ensures err { OnErr result (self.new ≡ self.old) }
     {
         self.cells.extend_from_slice(row)?;
@@ -202,7 +204,8 @@ impl TraceRows {
         requires row { IsRow self.old.signature row.now }
         requires count { length self.old.traces < 1000000 }
         requires room { HasRoom self.old }
-        ensures ok { OnOk result (self.new ≡ record self.old { traces = with_trace self.old.traces name.now row.now }) }
+        ensures ok { OnOk result
+            (self.new ≡ record self.old { traces = with_trace self.old.traces name.now row.now }) }
         ensures err { OnErr result (self.new ≡ self.old) }
     {
         self.set.start(name, row)
@@ -214,7 +217,8 @@ impl TraceRows {
         requires row { IsRow self.old.signature row.now }
         requires instants { length (last_rows self.old.traces) < 1000000 }
         requires room { HasRoom self.old }
-        ensures ok { OnOk result (self.new ≡ record self.old { traces = with_row self.old.traces row.now }) }
+        ensures ok { OnOk result
+            (self.new ≡ record self.old { traces = with_row self.old.traces row.now }) }
         ensures err { OnErr result (self.new ≡ self.old) }
     {
         self.set.push(row)

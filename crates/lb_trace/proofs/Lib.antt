@@ -8,5 +8,4 @@ pub mod Outcomes
 pub mod Records
 pub mod Lasts
 pub mod Additions
-pub mod Clauses
 pub mod Readings

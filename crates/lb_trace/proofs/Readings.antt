@@ -186,12 +186,6 @@ pub only : (elements : Elements) (text : List ℕ) (traces : Traces) → outcome
     → (other : Traces) → Spells elements text other → other ≡ traces
 only elements text traces is other spells = cc (is, complete_text elements text other spells)
 
--- no recording has more instants than cells
-pub number_below : (elements : Elements) (text : List ℕ) (header : Record) (traces : Traces) (a : TextReader) (number : ℕ)
-    → Progress elements text header traces a number → number ≤ 67108865
-number_below elements text header traces a number at =
-    omega (arith, at.counted, few_instants record { signature = elements; traces = traces } at.lawful)
-
 -- what one read says
 pub goes : (text : List ℕ) (records : List Record) (a b : TextReader) (fields : Record) (found : Bool) → Reaches text records a
     → ReadRecord left a b found fields → b.first ≡ true → Goes text records b fields found
@@ -219,7 +213,7 @@ pub refused_record : (r : Recording) (elements : Elements) (text : List ℕ) (he
 refused_record r elements text header a b number fields table width e at short headed further same is wide bad =
     ⊎_elim (λ (h : error_number e ≡ 0). inl h)
     (λ (h : record_by r.signature table width r.traces fields ≡ Err (error_number e)).
-        refused elements text (error_number e)
-        (progress-bad elements text header r.traces a b number (error_number e) fields at short headed further
-            (added r elements (after_first header) table width fields (Err (error_number e)) same is wide h)))
+    refused elements text (error_number e)
+    (progress-bad elements text header r.traces a b number (error_number e) fields at short headed further
+    (added r elements (after_first header) table width fields (Err (error_number e)) same is wide h)))
     bad

@@ -15,7 +15,8 @@ decimal digits = fold (λ n digit. n * 10 + (digit - 48)) 0 digits
 -- the number that 1 to 20 ASCII digits spell
 abbrev pub natural_of : List ℕ → Option ℕ
 natural_of digits =
-    if nat_le 1 (length digits) && nat_le (length digits) 20 && list_all is_ascii_digit digits then Some (decimal digits) else None
+    if nat_le 1 (length digits) && nat_le (length digits) 20 && list_all is_ascii_digit digits
+    then Some (decimal digits) else None
 
 -- a number as an `int`, if it is in range
 abbrev pub signed : Truth → ℕ → Option ℤ
@@ -27,7 +28,8 @@ signed negative n =
 abbrev pub int_of : List ℕ → Option ℤ
 int_of [] = None
 int_of (b ∷ rest) =
-    if b == 45 then option_and_then (signed true) (natural_of rest) else option_and_then (signed false) (natural_of (b ∷ rest))
+    if b == 45 then option_and_then (signed true) (natural_of rest)
+    else option_and_then (signed false) (natural_of (b ∷ rest))
 
 -- the Boolean that a cell spells, as 0 or 1: `0`, `1`, `true` or `false`
 abbrev pub bool_of : List ℕ → Option ℤ

@@ -25,4 +25,6 @@ IsRefusal outcome e = (error_number e ≡ 0) ⊎ (outcome ≡ Err (error_number 
 -- nothing
 abbrev pub Refuses : Elements → List ℕ → TraceError → Type 0
 Refuses elements text e =
-    (error_number e ≡ 0) ⊎ ((outcome elements text ≡ Err (error_number e)) × ((traces : Traces) → ¬ (Spells elements text traces)))
+    (error_number e ≡ 0)
+    ⊎ ((outcome elements text ≡ Err (error_number e))
+    × ((traces : Traces) → ¬ (Spells elements text traces)))

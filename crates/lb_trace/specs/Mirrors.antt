@@ -20,7 +20,9 @@ column_of columns e = record { at = position_or_len (bytes_eq e.0) columns; kind
 -- the row that cells spell, by a table of columns
 abbrev pub row_by : List Column → Record → Option Row
 row_by [] cells = Some []
-row_by (c ∷ more) cells = option_and_then (λ v. option_map (λ row. v ∷ row) (row_by more cells)) (cell_value c.kind (get_or cells c.at []))
+row_by (c ∷ more) cells =
+    option_and_then (λ v. option_map (λ row. v ∷ row) (row_by more cells))
+    (cell_value c.kind (get_or cells c.at []))
 
 -- the set has the names of the traces
 abbrev pub knows : {S : Type 0} → HashSet (String Global) S → Traces → Type 0
@@ -38,20 +40,24 @@ record_by elements table width traces (name ∷ cells) =
 abbrev pub go_on_by : Elements → Traces → Option Row → Result Traces ℕ
 go_on_by elements traces None = Err 16
 go_on_by elements traces (Some row) =
-    if nat_lt (length (last_rows traces)) 1000000 && nat_le ((instants_of traces + 1) * cells_of_instant elements) 67108864
+    if nat_lt (length (last_rows traces)) 1000000
+    && nat_le ((instants_of traces + 1) * cells_of_instant elements) 67108864
     then Ok (with_row traces row) else Err 18
 
 -- what is left of a record of another trace, after its length
 abbrev pub start_cells : Elements → List ℕ → Traces → Option Row → Result Traces ℕ
 start_cells elements name traces None = Err 16
 start_cells elements name traces (Some row) =
-    if nat_lt (length traces) 1000000 && nat_le ((instants_of traces + 1) * cells_of_instant elements) 67108864
+    if nat_lt (length traces) 1000000
+    && nat_le ((instants_of traces + 1) * cells_of_instant elements) 67108864
     then Ok (with_trace traces name row) else Err 18
 
 abbrev pub start_by : Elements → List ℕ → Traces → Option Row → Result Traces ℕ
 start_by elements name traces row =
-    if not (is_trace_name name) || list_any (λ t. bytes_eq name t.0) traces then Err 17 else start_cells elements name traces row
+    if not (is_trace_name name) || list_any (λ t. bytes_eq name t.0) traces then Err 17
+    else start_cells elements name traces row
 
 -- a row that is read by a table follows a signature
 abbrev pub RowsFollow : List Column → Elements → Type 0
-RowsFollow table elements = (cells : Record) (row : Row) → row_by table cells ≡ Some row → IsRow elements row
+RowsFollow table elements =
+    (cells : Record) (row : Row) → row_by table cells ≡ Some row → IsRow elements row

@@ -24,17 +24,21 @@ comes_back name traces = list_any (λ t. bytes_eq name t.0) traces && not (is_la
 -- whether there is room for one more instant of the trace with this name
 abbrev pub has_room : Elements → List ℕ → Traces → Truth
 has_room elements name traces =
-    (if is_last name traces then nat_lt (length (last_rows traces)) 1000000 else nat_lt (length traces) 1000000)
+    (if is_last name traces then nat_lt (length (last_rows traces)) 1000000
+    else nat_lt (length traces) 1000000)
     && nat_le ((instants_of traces + 1) * cells_of_instant elements) 67108864
 
 -- the traces with one more instant: of the last trace, or of a new one
 abbrev pub with_instant : List ℕ → Row → Traces → Traces
-with_instant name row traces = if is_last name traces then with_row traces row else with_trace traces name row
+with_instant name row traces =
+    if is_last name traces then with_row traces row else with_trace traces name row
 
--- the traces with the row of one more record, or 16 where there is none, or 18 where there is no room
+-- the traces with the row of one more record, or 16 where there is none, or 18 where there is no
+-- room
 abbrev pub with_cells : Elements → List ℕ → Traces → Option Row → Result Traces ℕ
 with_cells elements name traces None = Err 16
-with_cells elements name traces (Some row) = if has_room elements name traces then Ok (with_instant name row traces) else Err 18
+with_cells elements name traces (Some row) =
+    if has_room elements name traces then Ok (with_instant name row traces) else Err 18
 
 -- the traces with one more record, or the number of what is wrong with it: its length, its name, a
 -- cell, the limits
@@ -54,14 +58,18 @@ then_read more (Err number) = Err number
 unfoldable pub with_records : Elements → Record → Traces → List Record → Result Traces ℕ
 with_records elements columns traces [] = Ok traces
 with_records elements columns traces (r ∷ more) =
-    then_read (λ further. with_records elements columns further more) (with_record elements columns traces r)
+    then_read (λ further. with_records elements columns further more)
+    (with_record elements columns traces r)
 
 -- the traces of all records, or the number of the first refusal
 unfoldable pub reading : Elements → List Record → Result Traces ℕ
 reading elements [] = Err 14
-reading elements (header ∷ rows) = if is_header elements header then with_records elements (after_first header) [] rows else Err 14
+reading elements (header ∷ rows) =
+    if is_header elements header then with_records elements (after_first header) [] rows else Err 14
 
--- the traces of a text, or the number of its first refusal: 18 for its length, 14 for the header, and
+-- the traces of a text, or the number of its first refusal: 18 for its length, 14 for the header,
+-- and
 -- then what is wrong with the first bad record
 unfoldable pub outcome : Elements → List ℕ → Result Traces ℕ
-outcome elements text = if nat_le (length text) 1073741824 then reading elements (records_of text) else Err 18
+outcome elements text =
+    if nat_le (length text) 1073741824 then reading elements (records_of text) else Err 18

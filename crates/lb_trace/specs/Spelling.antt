@@ -46,7 +46,8 @@ under columns cells name = get_or cells (position_or_len (bytes_eq name) columns
 abbrev pub row_of : Elements → Record → Record → Option Row
 row_of [] columns cells = Some []
 row_of (e ∷ more) columns cells =
-    option_and_then (λ v. option_map (λ row. v ∷ row) (row_of more columns cells)) (cell_value e.1 (under columns cells e.0))
+    option_and_then (λ v. option_map (λ row. v ∷ row) (row_of more columns cells))
+    (cell_value e.1 (under columns cells e.0))
 
 -- an instant of a trace: the trace's name, and its row
 abbrev pub Instant : Type 0
@@ -61,14 +62,16 @@ instants traces = flat_map (λ t. map (λ row. (t.0, row)) t.1) traces
 abbrev pub SpellsInstant : Elements → Record → Record → Instant → Type 0
 SpellsInstant elements columns [] instant = ⊥
 SpellsInstant elements columns (name ∷ cells) instant =
-    (length cells ≡ length columns) × (name ≡ instant.0) × IsTraceName name × (row_of elements columns cells ≡ Some instant.1)
+    (length cells ≡ length columns) × (name ≡ instant.0) × IsTraceName name
+    × (row_of elements columns cells ≡ Some instant.1)
 
 -- records spell traces: the first one is the header, and each later one spells an instant, in the
 -- order of the traces
 unfoldable pub SpelledBy : Elements → Traces → List Record → Type 0
 SpelledBy elements traces [] = ⊥
 SpelledBy elements traces (header ∷ rows) =
-    IsTrue (is_header elements header) × AllZip (SpellsInstant elements (after_first header)) rows (instants traces)
+    IsTrue (is_header elements header)
+    × AllZip (SpellsInstant elements (after_first header)) rows (instants traces)
 
 -- a text spells traces: they are lawful, so that no name comes back, and within the limits
 pub record Spells (elements : Elements) (text : List ℕ) (traces : Traces) : Type 0 where

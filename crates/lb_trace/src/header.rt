@@ -30,7 +30,8 @@ pub(crate) fn columns_of(
 ) -> Result<Option<Vec<Column>>, AllocError>
     ensures { IfOk result (λ columns. MatchOption columns
         (is_header signature.now (fields_of header.now) ≡ false)
-        (λ cs. (is_header signature.now (fields_of header.now) ≡ true) × (cs.items ≡ map (column_of (after_first (fields_of header.now))) signature.now))) }
+        (λ cs. (is_header signature.now (fields_of header.now) ≡ true)
+        × (cs.items ≡ map (column_of (after_first (fields_of header.now))) signature.now))) }
 {
     if !begins(header) || !has_no_other(signature, header) {
         return Ok(None);
@@ -61,7 +62,8 @@ fn begins(header: &ByteRecord) -> bool
 
 // Whether each column has the name of some scalar input.
 fn has_no_other(signature: &Signature, header: &ByteRecord) -> bool
-    ensures { result ≡ list_all (λ column. list_any (bytes_eq column) (names_of signature.now)) (after_first (fields_of header.now)) }
+    ensures { result ≡ list_all (λ column. list_any (bytes_eq column) (names_of signature.now))
+        (after_first (fields_of header.now)) }
 {
     for i in 0..width(header) {
         if !is_named(signature, cell(header, i)) {

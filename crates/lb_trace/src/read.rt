@@ -23,9 +23,9 @@ const MOST_BYTES: usize = 1_073_741_824;
 ///
 /// The first record is `trace` and the name of each scalar input, in any order. Each later one is
 /// an instant: the name of its trace, and a cell for each column. Adjacent records of one name are
-/// one trace. An error is the first refusal: of the text's length (E18), of the header (E14), or of
-/// the first record with a fault, in it of its length (E15), its name (E17), a cell (E16) or a limit
-/// (E18).
+/// one trace. An error is the first refusal: of the text's length (E18), of the header (E14), or
+/// of the first record with a fault, in it of its length (E15), its name (E17), a cell (E16) or a
+/// limit (E18).
 ///
 /// ```text
 /// trace,x
@@ -41,7 +41,8 @@ pub fn read_traces(
     // What is read is what the text spells, and it spells nothing else.
     ensures signature { IfOk result (λ set. set.signature ≡ signature.now) }
     ensures spelled { IfOk result (λ set. Spells signature.now text.now set.traces) }
-    ensures only { IfOk result (λ set. (other : Traces) → Spells signature.now text.now other → other ≡ set.traces) }
+    ensures only { IfOk result
+        (λ set. (other : Traces) → Spells signature.now text.now other → other ≡ set.traces) }
 
     // A refusal is the first one of a text that spells nothing, or a growth was refused.
     ensures refused { IfErr result (Refuses signature.now text.now) }
@@ -71,4 +72,117 @@ pub fn read_traces(
         recorder.add(alloc, &table, columns, &record, number)?;
     }
     unreachable!()
+}
+
+#[cfg(test)]
+mod tests {
+    use super::*;
+    use lb_static::signature::Kind;
+    use std::test::Fail;
+
+    // A signature of these elements, `int` by `i` and `bool` by `b`.
+    fn signature_of(alloc: Global, names: &[&str], kinds: &[u8]) -> Result<Signature, AllocError> {
+        let mut signature = Signature::new(alloc);
+        for (name, kind) in names.iter().zip(kinds) {
+            let kind = if *kind == b'i' { Kind::Int } else { Kind::Bool };
+            if signature.len() < Signature::MOST {
+                signature.push(String::from_str(alloc, name)?, kind)?;
+            }
+        }
+        Ok(signature)
+    }
+
+    // The number of the refusal of a text for one `int` column `x`, or 0 where it is read.
+    fn refusal(alloc: Global, text: &[u8]) -> Result<u8, AllocError> {
+        let signature = signature_of(alloc, &["x"], b"i")?;
+        Ok(match read_traces(alloc, &signature, text) {
+            Ok(_) => 0,
+            Err(e) => e.number(),
+        })
+    }
+
+    #[test]
+    fn cells_are_read(rt: HostRuntime) -> Result<(), Fail> {
+        let alloc = rt.alloc();
+        let signature = signature_of(alloc, &["x"], b"i")?;
+        let cells: [(&[u8], i32); 5] = [
+            (b"trace,x\na,-0", 0),
+            (b"trace,x\na,007", 7),
+            (b"trace,x\na,00000000000000000001", 1),
+            (b"trace,x\na,2147483647", 2147483647),
+            (b"trace,x\na,-2147483648", -2147483648),
+        ];
+        for (text, value) in cells {
+            let set = read_traces(alloc, &signature, text)?;
+            assert_eq!(rt; set.len(), 1);
+            assert_eq!(rt; set.signature().len(), 1);
+            assert_eq!(rt; set.signature().kind(0), Kind::Int);
+            assert_eq!(rt; set.length(0), 1);
+            assert_eq!(rt; set.int_at(0, 0, 0), value);
+        }
+        Ok(())
+    }
+
+    #[test]
+    fn faults_have_their_numbers(rt: HostRuntime) -> Result<(), Fail> {
+        let alloc = rt.alloc();
+        let texts: [(&[u8], u8); 19] = [
+            (b"", 14),
+            (b"trace", 14),
+            (b"trace,y\n", 14),
+            (b"trace,x,x\n", 14),
+            (b"trace,x\na,1,2", 15),
+            (b"trace,x\na", 15),
+            (b"trace,x\na,", 16),
+            (b"trace,x\na,+1", 16),
+            (b"trace,x\na, 1", 16),
+            (b"trace,x\na,000000000000000000001", 16),
+            (b"trace,x\na,2147483648", 16),
+            (b"trace,x\n,1", 17),
+            (b"trace,x\na b,zz", 17),
+            (
+                b"trace,x\naaaaaaaaaaaaaaaaaaaaaaaaaaaaaaaaaaaaaaaaaaaaaaaaaaaaaaaaaaaaaaaaa,1",
+                17,
+            ),
+            (b"trace,x\na,1\nb,1\na,1", 17),
+            (b"trace,x\na/b.c-1_2,1", 0),
+            (b"trace,x\na,1\na,5\nb,0", 0),
+            (b"trace,x", 0),
+            (b"\xef\xbb\xbf\"trace\",\"x\"\r\n\"a\",\"1\"\r\n", 0),
+        ];
+        for (text, number) in texts {
+            assert_eq!(rt; refusal(alloc, text)?, number);
+        }
+        Ok(())
+    }
+
+    #[test]
+    fn columns_stand_in_any_order(rt: HostRuntime) -> Result<(), Fail> {
+        let alloc = rt.alloc();
+        let signature = signature_of(alloc, &["x", "c", "y"], b"ibi")?;
+        let set = read_traces(alloc, &signature, b"trace,c,y,x\na,true,2,1\na,0,4,3\n")?;
+        assert_eq!(rt; set.len(), 1);
+        assert_eq!(rt; set.name(0), "a");
+        assert_eq!(rt; set.length(0), 2);
+        assert_eq!(rt; set.signature().len(), 3);
+        assert_eq!(rt; set.signature().kind(0), Kind::Int);
+        assert_eq!(rt; set.signature().kind(1), Kind::Bool);
+        assert_eq!(rt; set.signature().kind(2), Kind::Int);
+        assert_eq!(rt; set.int_at(0, 1, 0), 3);
+        assert_eq!(rt; set.int_at(0, 0, 2), 2);
+        assert!(rt; set.bool_at(0, 0, 1));
+        assert!(rt; !set.bool_at(0, 1, 1));
+        Ok(())
+    }
+
+    #[test]
+    fn a_program_without_inputs(rt: HostRuntime) -> Result<(), Fail> {
+        let alloc = rt.alloc();
+        let signature = Signature::new(alloc);
+        let set = read_traces(alloc, &signature, b"trace\na\na\nb\n")?;
+        assert_eq!(rt; set.len(), 2);
+        assert_eq!(rt; set.length(0), 2);
+        assert_eq!(rt; set.name(1), "b");
+        Ok(())
+    }
 }

@@ -22,7 +22,8 @@ pub(crate) fn reader_of(alloc: Global, text: &[u8]) -> Reader<&[u8]>
 
 /// The next record, and whether there was one.
 pub(crate) fn next(reader: &mut Reader<&[u8]>, record: &mut ByteRecord) -> Result<bool, TraceError>
-    ensures goes { IfOk result (λ found. (text : List ℕ) → (records : List Record) → Reaches text records reader.old
+    ensures goes { IfOk result (λ found. (text : List ℕ) → (records : List Record)
+        → Reaches text records reader.old
         → Goes text records reader.new (fields_of record.new) found) }
     ensures memory { IfErr result (λ e. error_number e ≡ 0) }
 {

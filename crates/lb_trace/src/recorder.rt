@@ -39,7 +39,8 @@ fn is_last(set: &TraceSet, name: &[u8]) -> bool
 
 // Whether the limit of cells has room for one more instant.
 fn has_cells(set: &TraceSet) -> bool
-    ensures { result ≡ nat_le ((instants_of set.now.traces + 1) * cells_of_instant set.now.signature) 67108864 }
+    ensures { result ≡ nat_le
+        ((instants_of set.now.traces + 1) * cells_of_instant set.now.signature) 67108864 }
 {
     let cells = u64::from(set.signature().len().max(1));
     (u64::from(set.instants()) + 1) * cells <= 67_108_864
@@ -61,8 +62,10 @@ fn new_name<'a>(
 ) -> Result<Option<&'a str>, TraceError>
     ensures found { IfOk result (λ found. MatchOption found
         ((lawful_name name.now && not (contains_text names.old name.now)) ≡ false)
-        (λ text. (text.now ≡ name.now) × IsTraceName name.now × (contains_text names.old name.now ≡ false)
-        × ((q : List ℕ) → contains_text names.new q ≡ (bytes_eq name.now q || contains_text names.old q)))) }
+        (λ text. (text.now ≡ name.now) × IsTraceName name.now
+        × (contains_text names.old name.now ≡ false)
+        × ((q : List ℕ) → contains_text names.new q
+        ≡ (bytes_eq name.now q || contains_text names.old q)))) }
     ensures memory { IfErr result (λ e. error_number e ≡ 0) }
 {
     if !is_trace_name(name) {
@@ -86,7 +89,8 @@ fn new_name<'a>(
 impl Recorder {
     /// No trace yet.
     pub(crate) fn new(alloc: Global, signature: &Signature) -> Result<Recorder, AllocError>
-        ensures rows { IfOk result (λ r. r.rows ≡ record { signature = signature.now; traces = [] }) }
+        ensures rows { IfOk result
+            (λ r. r.rows ≡ record { signature = signature.now; traces = [] }) }
         ensures names { IfOk result (λ r. knows r.names r.rows.traces) }
     {
         Ok(Recorder {
@@ -108,10 +112,14 @@ impl Recorder {
         requires names { knows self.old.names self.old.rows.traces }
         requires lawful { IsRecording self.old.rows }
         requires kinds { RowsFollow table.now self.old.rows.signature }
-        ensures ok { OnOk result (record_by self.old.rows.signature table.now columns self.old.rows.traces (fields_of record.now) ≡ Ok self.new.rows.traces) }
+        ensures ok { OnOk result
+            (record_by self.old.rows.signature table.now columns self.old.rows.traces
+            (fields_of record.now) ≡ Ok self.new.rows.traces) }
         ensures names { OnOk result (knows self.new.names self.new.rows.traces) }
         ensures signature { OnOk result (self.new.rows.signature ≡ self.old.rows.signature) }
-        ensures err { IfErr result (IsRefusal (record_by self.old.rows.signature table.now columns self.old.rows.traces (fields_of record.now))) }
+        ensures err { IfErr result (IsRefusal
+            (record_by self.old.rows.signature table.now columns self.old.rows.traces
+            (fields_of record.now))) }
     {
         let cells = width(record);
         let Some(name) = record.get(0) else {
@@ -144,10 +152,14 @@ impl Recorder {
     ) -> Result<(), TraceError>
         requires started { 0 < length self.old.rows.traces }
         requires kinds { RowsFollow table.now self.old.rows.signature }
-        ensures ok { OnOk result (go_on_by self.old.rows.signature self.old.rows.traces (row_by table.now (after_first (fields_of record.now))) ≡ Ok self.new.rows.traces) }
+        ensures ok { OnOk result
+            (go_on_by self.old.rows.signature self.old.rows.traces
+            (row_by table.now (after_first (fields_of record.now))) ≡ Ok self.new.rows.traces) }
         ensures names { self.new.names ≡ self.old.names }
         ensures signature { OnOk result (self.new.rows.signature ≡ self.old.rows.signature) }
-        ensures err { IfErr result (IsRefusal (go_on_by self.old.rows.signature self.old.rows.traces (row_by table.now (after_first (fields_of record.now))))) }
+        ensures err { IfErr result (IsRefusal
+            (go_on_by self.old.rows.signature self.old.rows.traces
+            (row_by table.now (after_first (fields_of record.now))))) }
     {
         let bad = read_row(table, record, &mut self.row).map_err(TraceError::Memory)?;
         if let Some(column) = bad {
@@ -176,10 +188,14 @@ impl Recorder {
     ) -> Result<(), TraceError>
         requires names { knows self.old.names self.old.rows.traces }
         requires kinds { RowsFollow table.now self.old.rows.signature }
-        ensures ok { OnOk result (start_by self.old.rows.signature name.now self.old.rows.traces (row_by table.now (after_first (fields_of record.now))) ≡ Ok self.new.rows.traces) }
+        ensures ok { OnOk result
+            (start_by self.old.rows.signature name.now self.old.rows.traces
+            (row_by table.now (after_first (fields_of record.now))) ≡ Ok self.new.rows.traces) }
         ensures names { OnOk result (knows self.new.names self.new.rows.traces) }
         ensures signature { OnOk result (self.new.rows.signature ≡ self.old.rows.signature) }
-        ensures err { IfErr result (IsRefusal (start_by self.old.rows.signature name.now self.old.rows.traces (row_by table.now (after_first (fields_of record.now))))) }
+        ensures err { IfErr result (IsRefusal
+            (start_by self.old.rows.signature name.now self.old.rows.traces
+            (row_by table.now (after_first (fields_of record.now))))) }
     {
         let Some(text) = new_name(alloc, &mut self.names, name)? else {
             return Err(TraceError::Trace { record: number });
@@ -198,10 +214,14 @@ impl Recorder {
         requires name { IsTraceName name.now }
         requires fresh { ¬ (Contains (trace_names self.old.rows.traces) name.now) }
         requires kinds { RowsFollow table.now self.old.rows.signature }
-        ensures ok { OnOk result (start_cells self.old.rows.signature name.now self.old.rows.traces (row_by table.now (after_first (fields_of record.now))) ≡ Ok self.new.rows.traces) }
+        ensures ok { OnOk result
+            (start_cells self.old.rows.signature name.now self.old.rows.traces
+            (row_by table.now (after_first (fields_of record.now))) ≡ Ok self.new.rows.traces) }
         ensures names { self.new.names ≡ self.old.names }
         ensures signature { OnOk result (self.new.rows.signature ≡ self.old.rows.signature) }
-        ensures err { IfErr result (IsRefusal (start_cells self.old.rows.signature name.now self.old.rows.traces (row_by table.now (after_first (fields_of record.now))))) }
+        ensures err { IfErr result (IsRefusal
+            (start_cells self.old.rows.signature name.now self.old.rows.traces
+            (row_by table.now (after_first (fields_of record.now))))) }
     {
         let bad = read_row(table, record, &mut self.row).map_err(TraceError::Memory)?;
         if let Some(column) = bad {

@@ -31,9 +31,9 @@ loop-number-init c =
     let at = rw c.if-not-branch.false at (c.in_ok-next.ensures.goes c.args.text.now [] c.reader_of-reader.ensures) in
     record {
       progress = progress-start c.args.signature.now c.args.text.now (fields_of c.next.new.record) c.in-Ok-new.recorder.rows.traces c.next.new.reader at
-        (ap (λ (r : Recording). r.traces) c.in-Ok-new.ensures.rows);
+          (ap (λ (r : Recording). r.traces) c.in-Ok-new.ensures.rows);
       follows = ap (λ (r : Recording). r.signature) c.in-Ok-new.ensures.rows;
-      known = c.in-Ok-new.ensures.names
+      known = c.in-Ok-new.ensures.names;
     }
 
 pub returns-then-not-branch-2-clause-spelled : goal.returns-then-not-branch-2-clause-spelled
@@ -41,8 +41,8 @@ returns-then-not-branch-2-clause-spelled c =
     let all = rw c.if-not-branch-2.true at (c.in_ok-next-2.ensures.goes c.args.text.now (fields_of c.next.new.record ∷ c.loop-number.invariant.progress.rows) c.loop-number.invariant.progress.reaches) in
     let headed = rw c.in-Some.is at c.in-Ok.ensures in
     let read : outcome c.args.signature.now c.args.text.now ≡ Ok c.loop-number.recorder.rows.traces =
-            progress-end c.args.signature.now c.args.text.now (fields_of c.next.new.record) c.loop-number.recorder.rows.traces c.loop-number.reader c.loop-number.number
-            c.loop-number.invariant.progress c.if-text-gt-MOST_BYTES.false headed.0 all in
+    progress-end c.args.signature.now c.args.text.now (fields_of c.next.new.record) c.loop-number.recorder.rows.traces c.loop-number.reader c.loop-number.number
+    c.loop-number.invariant.progress c.if-text-gt-MOST_BYTES.false headed.0 all in
     sound_text c.args.signature.now c.args.text.now c.into_set.result.traces (read ∙ ap (λ (r : Recording). Ok r.traces) (sym c.into_set.ensures))
 
 pub returns-then-not-branch-2-clause-only : goal.returns-then-not-branch-2-clause-only
@@ -50,8 +50,8 @@ returns-then-not-branch-2-clause-only c =
     let all = rw c.if-not-branch-2.true at (c.in_ok-next-2.ensures.goes c.args.text.now (fields_of c.next.new.record ∷ c.loop-number.invariant.progress.rows) c.loop-number.invariant.progress.reaches) in
     let headed = rw c.in-Some.is at c.in-Ok.ensures in
     let read : outcome c.args.signature.now c.args.text.now ≡ Ok c.loop-number.recorder.rows.traces =
-            progress-end c.args.signature.now c.args.text.now (fields_of c.next.new.record) c.loop-number.recorder.rows.traces c.loop-number.reader c.loop-number.number
-            c.loop-number.invariant.progress c.if-text-gt-MOST_BYTES.false headed.0 all in
+    progress-end c.args.signature.now c.args.text.now (fields_of c.next.new.record) c.loop-number.recorder.rows.traces c.loop-number.reader c.loop-number.number
+    c.loop-number.invariant.progress c.if-text-gt-MOST_BYTES.false headed.0 all in
     only c.args.signature.now c.args.text.now c.into_set.result.traces (read ∙ ap (λ (r : Recording). Ok r.traces) (sym c.into_set.ensures))
 
 pub add-requires-clause-lawful : goal.add-requires-clause-lawful
@@ -69,9 +69,9 @@ returns-in_err-add-clause-refused c =
     let further = rw c.if-not-branch-2.false at (c.in_ok-next-2.ensures.goes c.args.text.now (fields_of c.next.new.record ∷ c.loop-number.invariant.progress.rows) c.loop-number.invariant.progress.reaches) in
     let headed = rw c.in-Some.is at c.in-Ok.ensures in
     let bad = refused_record c.loop-number.recorder.rows c.args.signature.now c.args.text.now (fields_of c.next.new.record) c.loop-number.reader c.next-in-loop-number.new.reader c.loop-number.number
-            (fields_of c.next-in-loop-number.new.record) c.deref.result.now c.width-columns.result c.in_err-add.field-0.0
-            c.loop-number.invariant.progress c.if-text-gt-MOST_BYTES.false headed.0 further c.loop-number.invariant.follows
-            (c.deref.ensures.value ∙ headed.1) c.width-columns.ensures c.in_err-add.ensures.err in
+    (fields_of c.next-in-loop-number.new.record) c.deref.result.now c.width-columns.result c.in_err-add.field-0.0
+    c.loop-number.invariant.progress c.if-text-gt-MOST_BYTES.false headed.0 further c.loop-number.invariant.follows
+    (c.deref.ensures.value ∙ headed.1) c.width-columns.ensures c.in_err-add.ensures.err in
     let p = err_from_is_err_and c.from_residual-in_err-add.result c.from_residual-in_err-add.ensures.1 in
     rw (p.1, p.2) bad
 
@@ -81,10 +81,10 @@ loop-number-preserved c =
     let headed = rw c.in-Some.is at c.in-Ok.ensures in
     record {
       progress = progress-more c.args.signature.now c.args.text.now (fields_of c.next.new.record) c.loop-number.recorder.rows.traces c.add.new.self.rows.traces
-        c.loop-number.reader c.next-in-loop-number.new.reader c.loop-number.number (fields_of c.next-in-loop-number.new.record) c.loop-number.invariant.progress further
-        (added c.loop-number.recorder.rows c.args.signature.now (after_first (fields_of c.next.new.record)) c.deref.result.now c.width-columns.result
-            (fields_of c.next-in-loop-number.new.record) (Ok c.add.new.self.rows.traces) c.loop-number.invariant.follows (c.deref.ensures.value ∙ headed.1)
-            c.width-columns.ensures c.in_ok-add.ensures.ok);
+          c.loop-number.reader c.next-in-loop-number.new.reader c.loop-number.number (fields_of c.next-in-loop-number.new.record) c.loop-number.invariant.progress further
+          (added c.loop-number.recorder.rows c.args.signature.now (after_first (fields_of c.next.new.record)) c.deref.result.now c.width-columns.result
+          (fields_of c.next-in-loop-number.new.record) (Ok c.add.new.self.rows.traces) c.loop-number.invariant.follows (c.deref.ensures.value ∙ headed.1)
+          c.width-columns.ensures c.in_ok-add.ensures.ok);
       follows = c.in_ok-add.ensures.signature ∙ c.loop-number.invariant.follows;
-      known = c.in_ok-add.ensures.names
+      known = c.in_ok-add.ensures.names;
     }

@@ -1,5 +1,6 @@
 -- A record is one more instant of the last trace, or the first of another.
 use Rattle.std.proofs.Common.{◌≡◌, Ok, sym, ap, ◌∙◌, inr, ℕ, List}
+use Rattle.std.proofs.lemmas.Result.{on_ok_weaker}
 use Rattle.std.specs.HashSet.{contains_text}
 use Rattle.csv.specs.Records.{fields_of}
 use Rattle.lb_flat.specs.Traces.{Recording}
@@ -7,7 +8,6 @@ use Rattle.lb_trace.specs.Mirrors.{go_on_by, record_by, row_by, start_by}
 use Rattle.lb_trace.specs.Refusals.{is_last}
 use Rattle.lb_trace.specs.Spelling.{after_first}
 use Rattle.lb_trace.proofs.Additions.{go_on_by-names, record_by-last, record_by-none, record_by-other}
-use Rattle.lb_trace.proofs.Clauses.{on_ok}
 use Rattle.lb_trace.proofs.recorder.Recorder.add.Goals as goal
 
 pub returns-in_default-clause-err : goal.returns-in_default-clause-err
@@ -29,7 +29,7 @@ returns-then-is_last-clause-err c = rw (going c) c.go_on.ensures.err
 
 pub returns-then-is_last-clause-names : goal.returns-then-is_last-clause-names
 returns-then-is_last-clause-names c =
-    on_ok c.go_on.result
+    on_ok_weaker c.go_on.result
     (λ (gone : go_on_by c.args.self.now.rows.signature c.args.self.now.rows.traces (row_by c.args.table.now (after_first (fields_of c.args.record.now))) ≡ Ok c.go_on.new.self.rows.traces).
     λ (q : List ℕ).
     ap (λ names. contains_text names q) c.go_on.ensures.names ∙ c.requires.names q

@@ -1,5 +1,6 @@
 -- A name that is lawful and new begins a trace.
 use Rattle.std.proofs.Common.{◌≡◌, ◌||◌, false, Ok, sym, ap, ◌∙◌, ℕ, List}
+use Rattle.std.proofs.lemmas.Result.{on_ok_weaker}
 use Rattle.std.specs.HashSet.{contains_text}
 use Rattle.std.specs.List.{list_any}
 use Rattle.std.specs.Str.{bytes_eq}
@@ -8,7 +9,6 @@ use Rattle.lb_flat.specs.Traces.{Trace}
 use Rattle.lb_trace.specs.Mirrors.{row_by, start_by, start_cells}
 use Rattle.lb_trace.specs.Spelling.{after_first}
 use Rattle.lb_trace.proofs.Additions.{start_by-new, start_cells-names}
-use Rattle.lb_trace.proofs.Clauses.{on_ok}
 use Rattle.lb_trace.proofs.Soundness.{none_contains}
 use Rattle.lb_trace.proofs.recorder.Recorder.start.Goals as goal
 
@@ -37,7 +37,7 @@ returns-clause-err c = rw (new_start c) c.begin.ensures.err
 pub returns-clause-names : goal.returns-clause-names
 returns-clause-names c =
     let found = rw c.in-Some.is at c.in_ok-text.ensures.found in
-    on_ok c.begin.result
+    on_ok_weaker c.begin.result
     (λ (started : start_cells c.args.self.now.rows.signature c.in-Some.text.now c.args.self.now.rows.traces (row_by c.args.table.now (after_first (fields_of c.args.record.now))) ≡ Ok c.begin.new.self.rows.traces).
     λ (q : List ℕ).
     ap (λ names. contains_text names q) c.begin.ensures.names
