@@ -25,3 +25,4 @@ pub mod Nodes
 pub mod Sources
 pub mod PartTurns
 pub mod Parses
+mod NameTexts

@@ -16,7 +16,7 @@ use std::test::Fail;
 enum Word {
     Mark(Mark),
     Number(u32),
-    Name(u8),
+    Name(&'static str),
 }
 
 fn spelled(alloc: Global, words: &[Word]) -> Result<Vec<Token>, AllocError> {
@@ -25,7 +25,7 @@ fn spelled(alloc: Global, words: &[Word]) -> Result<Vec<Token>, AllocError> {
         let token = match *word {
             Word::Mark(mark) => Token::Mark(mark),
             Word::Number(n) => Token::Literal(n),
-            Word::Name(letter) => Token::Name(Name::new(alloc, &[letter])?),
+            Word::Name(letter) => Token::Name(Name::new(alloc, letter.as_bytes())?),
         };
         tokens.push(token)?;
     }
@@ -94,7 +94,7 @@ fn size_after_separator(rt: HostRuntime) -> Result<(), Fail> {
     let words = [
         Word::Mark(Mark::Semicolon),
         Word::Mark(Mark::Open),
-        Word::Name(b'n'),
+        Word::Name("n"),
         Word::Mark(Mark::Close),
         Word::Mark(Mark::Caret),
     ];
@@ -112,7 +112,7 @@ fn clock_with_not(rt: HostRuntime) -> Result<(), Fail> {
     let words = [
         Word::Mark(Mark::Not),
         Word::Mark(Mark::Open),
-        Word::Name(b'c'),
+        Word::Name("c"),
         Word::Mark(Mark::Close),
         Word::Mark(Mark::Semicolon),
     ];
@@ -131,7 +131,7 @@ fn choice_takes_the_rest(rt: HostRuntime) -> Result<(), Fail> {
         Word::Number(1),
         Word::Mark(Mark::Minus),
         Word::Mark(Mark::If),
-        Word::Name(b'c'),
+        Word::Name("c"),
         Word::Mark(Mark::Then),
         Word::Number(2),
         Word::Mark(Mark::Else),
@@ -155,9 +155,9 @@ fn choice_takes_the_rest(rt: HostRuntime) -> Result<(), Fail> {
 fn comparisons_do_not_chain(rt: HostRuntime) -> Result<(), Fail> {
     let less = Word::Mark(Mark::Less);
     let words = [
-        Word::Name(b'a'),
+        Word::Name("a"),
         less,
-        Word::Name(b'b'),
+        Word::Name("b"),
         less,
         Word::Number(3),
     ];
@@ -196,7 +196,7 @@ fn nested(
 
 #[test]
 fn calls_nest(rt: HostRuntime) -> Result<(), Fail> {
-    let open = [Word::Name(b'f'), Word::Mark(Mark::Open)];
+    let open = [Word::Name("f"), Word::Mark(Mark::Open)];
     let tokens = nested(rt.alloc(), 500, &open, &[Word::Mark(Mark::Close)])?;
     let (e, rest) = expression(rt.alloc(), &tokens)?;
     assert!(rt; matches!(e, Expr::Call(_, _, _)));
@@ -232,7 +232,7 @@ fn choices_nest(rt: HostRuntime) -> Result<(), Fail> {
 
 #[test]
 fn sizes_nest(rt: HostRuntime) -> Result<(), Fail> {
-    let mut tokens = spelled(rt.alloc(), &[Word::Name(b'a'), Word::Mark(Mark::Caret)])?;
+    let mut tokens = spelled(rt.alloc(), &[Word::Name("a"), Word::Mark(Mark::Caret)])?;
     let open = [Word::Mark(Mark::Open)];
     tokens.append(&mut nested(rt.alloc(), 499, &open, &[Word::Mark(Mark::Close)])?)?;
     let (e, rest) = expression(rt.alloc(), &tokens)?;
@@ -246,7 +246,7 @@ fn iterators_nest(rt: HostRuntime) -> Result<(), Fail> {
     let alloc = rt.alloc();
     let mut tokens = Vec::new(alloc);
     for _ in 0..166 {
-        tokens.push(Token::Name(Name::new(alloc, b"map")?))?;
+        tokens.push(Token::Name(Name::new(alloc, "map".as_bytes())?))?;
         tokens.push(Token::Mark(Mark::OpenStatic))?;
         tokens.push(Token::Mark(Mark::Plus))?;
         tokens.push(Token::Mark(Mark::Comma))?;

@@ -5,6 +5,7 @@
 //! the reserved words of its length alone. A new word or symbol has to be added here and in the
 //! tables of the definition.
 
+ghost use Rattle.std.specs.Str.{IsUtf8};
 ghost use Rattle.std.specs.Prelude.{◌≡◌, ◌<◌, ◌≤◌, ◌≢◌, ◌+◌, ◌^◌, ◌==◌, [], ◌∷◌, length, map, filter, slice_index, take_while, IfSome, IfOk, true, drop};
 ghost use Rattle.lb_syntax.specs.Tokens as spec;
 ghost use Rattle.lb_syntax.specs.Lexed.{passes, piece_of, IsWithin, Lexes};
@@ -217,6 +218,7 @@ fn lookup(mut table: &[(&[u8], Mark)], text: &[u8]) -> Option<Mark>
 
 /// The token of a whole word.
 fn word(alloc: Global, text: &[u8]) -> Result<Token, AllocError>
+    requires { IsUtf8 text.now }
     ensures { IfOk result (λ t. t ≡ spec.word text.now) }
 {
     match lookup(words_of(text.len()), text) {

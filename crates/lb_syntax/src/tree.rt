@@ -4,46 +4,55 @@
 //! fit. Each variant's line shows how it is spelled.
 
 ghost use Rattle.std.specs.Prelude.{◌≡◌, IfOk};
+ghost use Rattle.std.specs.Str.{IsUtf8};
 
 use std::alloc::{AllocError, Global};
 use std::marker::Model;
 
-/// A name of the source, by its bytes.
+/// A name of the source, by its bytes, which are text.
 #[derive(Drop)]
 pub struct Name {
-    bytes: Vec<u8>,
+    text: String,
 }
 
 impl Model for Name {
-    ghost use Rattle.std.specs.Prelude.{List, ℕ};
+    ghost use Rattle.std.specs.Prelude.{List, ℕ, string_bytes};
 
     ghost Value = { List ℕ };
 
-    ghost view = { λ n. n.bytes.items };
+    ghost view = { λ n. string_bytes n.text };
 }
 
 impl Name {
     /// The name with these bytes.
     pub fn new(alloc: Global, bytes: &[u8]) -> Result<Name, AllocError>
+        requires { IsUtf8 bytes.now }
         ensures { IfOk result (λ n. n ≡ bytes.now) }
     {
-        Ok(Name {
-            bytes: Vec::from_slice(alloc, bytes)?,
-        })
+        let text = String::from_utf8(Vec::from_slice(alloc, bytes)?).unwrap();
+        Ok(Name { text })
     }
 
     /// The same name again.
     pub fn copy(&self, alloc: Global) -> Result<Name, AllocError>
         ensures { IfOk result (λ n. n ≡ self.now) }
     {
-        Name::new(alloc, self.bytes.as_slice())
+        let text = String::from_str(alloc, self.text.as_str())?;
+        Ok(Name { text })
+    }
+
+    /// The name as text.
+    pub fn as_str(&self) -> &str
+        ensures { result.now ≡ self.now }
+    {
+        self.text.as_str()
     }
 
     /// The bytes of the name.
     pub fn as_bytes(&self) -> &[u8]
         ensures { result.now ≡ self.now }
     {
-        self.bytes.as_slice()
+        self.text.as_bytes()
     }
 }
 
