@@ -1,197 +1,148 @@
--- Rows that lie one after the other: what stands at a place, and all traces after one more row.
-use Rattle.std.proofs.Common.{ℕ, zero, suc, ◌≡◌, ◌+◌, ◌-◌, ◌*◌, ◌<◌, ◌≤◌, List, [], ◌∷◌, ◌++◌, length, map, get_or, set, take, drop, refl, sym, ap, ◌∙◌, ℤ, pos, arith, length-append, length-drop, length-set, get_or-set_same}
-use Rattle.std.proofs.lemmas.List.{get_or_append_left, get_or_push, length_push, drop_at, take_all, take-append-le, drop-append-le, get_or-take, get_or-drop, same_lists}
-use Rattle.std.proofs.lemmas.List.FromFn.{length-map-range_with_len, get_or-map-range_with_len, map-range_with_len_more, sum_by-map-range_with_len_more}
-use Rattle.std.proofs.Math.Nat.{mul-le-mul_right}
-use Rattle.std.specs.List.{range_with_len}
-use Rattle.lb_flat.specs.Traces.{Row, Trace, cell_at, trace_at, with_row, with_trace, instants_of}
-use Rattle.lb_flat.specs.Ledger.{IsLedger, place, last_place}
-use Rattle.lb_flat.specs.Stored.{row_of, rows_between, stored_traces, AreRows}
-use Rattle.lb_flat.proofs.Ledgers.{IsLedger-push, last_place-push, place-push_before, place-le-last, map-range-agree, place-set_before, last_place-set, IsLedger-set}
-use Rattle.lb_flat.proofs.Recordings.{with_row-push}
+-- The equations of a program in order have exactly one row at an instant: the one that is filled.
+use Rattle.std.proofs.Common.{◌≡◌, ℕ, suc, ◌<◌, ◌≤◌, true, false, ◌&&◌, inl, inr, None, List, [], ◌∷◌, length, set, replicate, refl, sym, ap, ap₂, ◌∙◌, subst, arith, length-set}
+use Rattle.std.proofs.lemmas.List.{get_or-set_same, get_or-set_other, length-replicate}
+use Rattle.lb_syntax.specs.Lists.{Every, In}
+use Rattle.lb_check.specs.Scalars.{Scalar, Cell, two_scalars, one_scalar}
+use Rattle.lb_check.specs.Streams.{held, one_cell, two_cells, kept, shows, newest}
+use Rattle.lb_flat.specs.Flat.{FlatClock, Always, Where, Operation, Input, Constant, Copy, ApplyUnary, ApplyBinary, Choose, FirstThen, Previous, Latest, Sample, FlatEquation}
+use Rattle.lb_flat.specs.Run.{Row, cell, is_now, chosen_cell, now, clock_reads, reads, IsNext, Ready, filled, row_of}
+use Rattle.lb_flat.proofs.Lists.{Every-first, Every-second}
+use Rattle.lb_flat.proofs.Stepping.{HoldsNow}
 
--- a row from a place on ends within a list that holds the rows after it
-row_within : (width r last : ℕ) → r < last → r * width + width ≤ last * width
-row_within width r last below = let h : (r + 1) * width ≤ last * width = mul-le-mul_right width (omega arith) in omega (arith, h)
+-- ## What an operation reads
 
--- a row is the same after the cells have grown
-pub row_of-append : (width : ℕ) (cells more : List ℤ) (r : ℕ) → r * width + width ≤ length cells
-    → row_of width (cells ++ more) r ≡ row_of width cells r
-row_of-append width cells more r within =
-    ap (take width) (drop-append-le (r * width) cells more (omega arith))
-    ∙ take-append-le width (drop (r * width) cells) more (omega (arith, length-drop (r * width) cells))
+chosen_same :
+    (c d x y z w : Cell) → c ≡ d → x ≡ y → z ≡ w → chosen_cell c x z ≡ chosen_cell d y w
+chosen_same c d x y z w p q r = cc
 
--- the row that was added
-pub row_of-grown : (width : ℕ) (cells row : List ℤ) (r : ℕ) → r * width ≡ length cells → length row ≡ width
-    → row_of width (cells ++ row) r ≡ row
-row_of-grown width cells row r is_end full =
-    ap (take width) (drop_at cells row (r * width) (sym is_end)) ∙ take_all width row (omega arith)
+-- two rows are the same on the elements that are done
+abbrev pub AreSame : List ℕ → Row → Row → Type 0
+AreSame done r s = (i : ℕ) → In i done → cell r i ≡ cell s i
 
-pub rows_between-append : (width : ℕ) (cells more : List ℤ) (from to : ℕ) → to * width ≤ length cells
-    → rows_between width (cells ++ more) from to ≡ rows_between width cells from to
-rows_between-append width cells more from to within =
-    same_lists (rows_between width (cells ++ more) from to) (rows_between width cells from to)
-    (length-map-range_with_len (row_of width (cells ++ more)) from (to - from) ∙ sym (length-map-range_with_len (row_of width cells) from (to - from)))
-    (λ k d below.
-    let count : length (rows_between width (cells ++ more) from to) ≡ to - from = length-map-range_with_len (row_of width (cells ++ more)) from (to - from) in
-    get_or-map-range_with_len (row_of width (cells ++ more)) from (to - from) k (from + k) d (omega arith) (omega arith)
-    ∙ row_of-append width cells more (from + k) (omega (arith, row_within width (from + k) to (omega arith)))
-    ∙ sym (get_or-map-range_with_len (row_of width cells) from (to - from) k (from + k) d (omega arith) (omega arith)))
+module _ (done : List ℕ) (r s : Row) (same : AreSame done r s) where
+  abbrev AreDone : List ℕ → Type 0
+  AreDone is = Every (λ i. In i done) is
 
--- one more row at the end
-pub rows_between-more : (width : ℕ) (cells row : List ℤ) (from to : ℕ) → from ≤ to → to * width ≡ length cells → length row ≡ width
-    → rows_between width (cells ++ row) from (to + 1) ≡ rows_between width cells from to ++ row ∷ []
-rows_between-more width cells row from to order is_end full =
-    let n : (to + 1) - from ≡ (to - from) + 1 = omega arith in
-    ap (λ m. map (row_of width (cells ++ row)) (range_with_len from m)) n
-    ∙ map-range_with_len_more (row_of width (cells ++ row)) from (to - from) to (omega arith)
-    ∙ ap (λ front. front ++ row_of width (cells ++ row) to ∷ []) (rows_between-append width cells row from to (omega arith))
-    ∙ ap (λ last. rows_between width cells from to ++ last ∷ []) (row_of-grown width cells row to is_end full)
+  is_now_same : (k : FlatClock) → AreDone (clock_reads k) → is_now r k ≡ is_now s k
+  is_now_same Always h = refl
+  is_now_same (Where k i sign) h =
+      ap₂ (λ b x. b && shows sign x) (is_now_same k h.1) (same i h.0)
 
-pub length-rows_between : (width : ℕ) (cells : List ℤ) (from to : ℕ) → length (rows_between width cells from to) ≡ to - from
-length-rows_between width cells from to = length-map-range_with_len (row_of width cells) from (to - from)
+  -- an operation reads no other element at an instant
+  now_same :
+      (given : List Scalar) (k : FlatClock) (o : Operation) → AreDone (clock_reads k) →
+      AreDone (reads o) → now given r k o ≡ now given s k o
+  now_same given k (Input j) c h = refl
+  now_same given k (Constant v) c h = ap (held v) (is_now_same k c)
+  now_same given k (Copy a) c h = same a h.0
+  now_same given k (ApplyUnary op a) c h = ap (one_cell (one_scalar op)) (same a h.0)
+  now_same given k (ApplyBinary op a b) c h =
+      ap₂ (two_cells (two_scalars op)) (same a h.0) (same b h.1.0)
+  now_same given k (Choose z a b) c h =
+      chosen_same _ _ _ _ _ _ (same z h.0) (same a h.1.0) (same b h.1.1.0)
+  now_same given k (FirstThen true a b) c h = same b h.1.0
+  now_same given k (FirstThen false a b) c h = same a h.0
+  now_same given k (Previous v a) c h = ap (held v) (is_now_same k c)
+  now_same given k (Latest v a) c h = ap₂ held (ap (newest v) (same a h.0)) (is_now_same k c)
+  now_same given k (Sample a) c h = ap₂ kept (is_now_same k c) (same a h.0)
 
--- the trace at a place
-pub trace_at-stored : (width : ℕ) (names : List (List ℕ)) (cells : List ℤ) (ends : List ℕ) (k : ℕ) → k < length names
-    → trace_at (stored_traces width names cells ends) k ≡ (get_or names k [], rows_between width cells (place ends k) (place ends (k + 1)))
-trace_at-stored width names cells ends k below =
-    get_or-map-range_with_len (λ k. (get_or names k [], rows_between width cells (place ends k) (place ends (k + 1)))) 0 (length names) k k ([], []) below (omega arith)
+  next_same :
+      (given : List Scalar) (size : ℕ) (q : FlatEquation) → IsNext size done q →
+      now given r q.clock q.operation ≡ now given s q.clock q.operation
+  next_same given size q n =
+      let in_done = λ (i : ℕ). In i done in
+      now_same given q.clock q.operation
+      (Every-second in_done (reads q.operation) (clock_reads q.clock) n.reads_done)
+      (Every-first in_done (reads q.operation) (clock_reads q.clock) n.reads_done)
 
-pub length-stored : (width : ℕ) (names : List (List ℕ)) (cells : List ℤ) (ends : List ℕ) → length (stored_traces width names cells ends) ≡ length names
-length-stored width names cells ends =
-    length-map-range_with_len (λ k. (get_or names k [], rows_between width cells (place ends k) (place ends (k + 1)))) 0 (length names)
+-- ## One row
 
--- the cell at a place
-pub cell_at-stored : (width : ℕ) (names : List (List ℕ)) (cells : List ℤ) (ends : List ℕ) (k t column : ℕ) → k < length names
-    → t < place ends (k + 1) - place ends k → column < width
-    → cell_at (stored_traces width names cells ends) k t column ≡ get_or cells ((place ends k + t) * width + column) (pos 0)
-cell_at-stored width names cells ends k t column below inside within =
-    ap (λ u. get_or (get_or u.1 t []) column (pos 0)) (trace_at-stored width names cells ends k below)
-    ∙ ap (λ row. get_or row column (pos 0)) (get_or-map-range_with_len (row_of width cells) (place ends k) (place ends (k + 1) - place ends k) t (place ends k + t) [] inside refl)
-    ∙ get_or-take width (drop ((place ends k + t) * width) cells) column (pos 0) within
-    ∙ get_or-drop ((place ends k + t) * width) cells column (pos 0)
+module _ (given : List Scalar) (size : ℕ) where
+  pub row_unique :
+      (done : List ℕ) (Q : List FlatEquation) (r s : Row) → AreSame done r s →
+      Ready size done Q → Every (HoldsNow given r) Q → Every (HoldsNow given s) Q →
+      (i : ℕ) → i < size → cell r i ≡ cell s i
+  row_unique done [] r s same all h g i lt = same i (all i lt)
+  row_unique done (q ∷ Q) r s same ready h g i lt =
+      row_unique (q.element ∷ done) Q r s wider ready.1 h.1 g.1 i lt
+    where
+      at_q : cell r q.element ≡ cell s q.element
+      at_q = h.0 ∙ next_same done r s same given size q ready.0 ∙ sym g.0
 
--- where that cell lies
-pub cell_within : (width : ℕ) (names : List (List ℕ)) (cells : List ℤ) (ends : List ℕ) (k t column : ℕ) → AreRows width names cells ends
-    → k < length names → t < place ends (k + 1) - place ends k → column < width → (place ends k + t) * width + column < length cells
-cell_within width names cells ends k t column rows below inside within =
-    let most : place ends (k + 1) ≤ last_place ends = place-le-last ends rows.ledger (k + 1) (omega (arith, rows.paired)) in
-    let fits : (place ends k + t) * width + width ≤ last_place ends * width = row_within width (place ends k + t) (last_place ends) (omega arith) in
-    omega (arith, rows.all, fits)
+      wider : (i : ℕ) → In i (q.element ∷ done) → cell r i ≡ cell s i
+      wider i (inl p) = subst (λ j. cell r j ≡ cell s j) p at_q
+      wider i (inr p) = same i p
 
--- how many instants the first traces have
-instants-front : (width : ℕ) (names : List (List ℕ)) (cells : List ℤ) (ends : List ℕ) → IsLedger ends → (n : ℕ) → n < length ends
-    → instants_of (map (λ k. (get_or names k [], rows_between width cells (place ends k) (place ends (k + 1)))) (range_with_len 0 n)) ≡ place ends n
-instants-front width names cells ends ledger zero below = sym ledger.first
-instants-front width names cells ends ledger (suc m) below =
-    let trace : ℕ → Trace = λ k. (get_or names k [], rows_between width cells (place ends k) (place ends (k + 1))) in
-    let next : suc m ≡ m + 1 = omega arith in
-    let before : instants_of (map trace (range_with_len 0 m)) ≡ place ends m = instants-front width names cells ends ledger m (omega arith) in
-    let long : length (rows_between width cells (place ends m) (place ends (m + 1))) ≡ place ends (m + 1) - place ends m =
-    length-rows_between width cells (place ends m) (place ends (m + 1)) in
-    let climb : place ends m < place ends (m + 1) = ledger.climbs m (m + 1) (omega arith) (omega arith) in
-    let instants_in : Trace → ℕ = λ t. length t.1 in
-    let more : instants_of (map trace (range_with_len 0 (m + 1))) ≡ instants_of (map trace (range_with_len 0 m)) + instants_in (trace m) =
-    sum_by-map-range_with_len_more instants_in trace 0 m m (omega arith) in
-    ap (λ j. instants_of (map trace (range_with_len 0 j))) next ∙ more ∙ (let sum : instants_of (map trace (range_with_len 0 m)) + instants_in (trace m) ≡ place ends (m + 1) = omega arith in sum) ∙ ap (place ends) (sym next)
+  filled_keeps :
+      (done : List ℕ) (Q : List FlatEquation) (row : Row) → Ready size done Q →
+      (i : ℕ) → In i done → cell (filled given row Q) i ≡ cell row i
+  filled_keeps done [] row ready i p = refl
+  filled_keeps done (q ∷ Q) row ready i p =
+      let v = now given row q.clock q.operation in
+      filled_keeps (q.element ∷ done) Q (set row q.element v) ready.1 i (inr p)
+      ∙ get_or-set_other row q.element i v None
+      (λ e. ready.0.is_new (subst (λ j. In j done) e p))
 
--- how many instants there are
-pub instants-stored : (width : ℕ) (names : List (List ℕ)) (cells : List ℤ) (ends : List ℕ) → AreRows width names cells ends
-    → instants_of (stored_traces width names cells ends) ≡ last_place ends
-instants-stored width names cells ends rows =
-    instants-front width names cells ends rows.ledger (length names) (omega (arith, rows.paired))
-    ∙ ap (place ends) (let n : length names ≡ length ends - 1 = omega (arith, rows.paired) in n)
+  pub length-filled :
+      (Q : List FlatEquation) (row : Row) → length (filled given row Q) ≡ length row
+  length-filled [] row = refl
+  length-filled (q ∷ Q) row =
+      let v = now given row q.clock q.operation in
+      length-filled Q (set row q.element v) ∙ length-set row q.element v
 
--- the rows before some place end within the cells
-ends_within : (width : ℕ) (names : List (List ℕ)) (cells : List ℤ) (ends : List ℕ) → AreRows width names cells ends
-    → (k : ℕ) → k < length ends → place ends k * width ≤ length cells
-ends_within width names cells ends rows k below =
-    let most : place ends k ≤ last_place ends = place-le-last ends rows.ledger k below in
-    let product : place ends k * width ≤ last_place ends * width = mul-le-mul_right width most in
-    omega (arith, rows.all, product)
+  filled_holds :
+      (done : List ℕ) (Q : List FlatEquation) (row : Row) → Ready size done Q →
+      size ≤ length row → Every (HoldsNow given (filled given row Q)) Q
+  filled_holds done [] row ready le = tt
+  filled_holds done (q ∷ Q) row ready le = (
+    filled_keeps (q.element ∷ done) Q row' ready.1 q.element (inl refl)
+        ∙ get_or-set_same row q.element v None (omega (arith, ready.0.is_element))
+        ∙ next_same done row (filled given row (q ∷ Q))
+        (λ i p. sym (filled_keeps done (q ∷ Q) row ready i p)) given size q ready.0,
+    filled_holds (q.element ∷ done) Q row' ready.1
+        (omega (arith, length-set row q.element v)),
+  )
+    where
+      v : Cell
+      v = now given row q.clock q.operation
 
--- one more trace
-pub stored-trace : (width : ℕ) (names : List (List ℕ)) (cells : List ℤ) (ends : List ℕ) (name : List ℕ) (row : Row)
-    → AreRows width names cells ends → length row ≡ width
-    → stored_traces width (names ++ name ∷ []) (cells ++ row) (ends ++ (last_place ends + 1) ∷ []) ≡ with_trace (stored_traces width names cells ends) name row
-stored-trace width names cells ends name row rows full =
-    let n : ℕ = length names in
-    let end : ℕ = last_place ends in
-    let more_names : List (List ℕ) = names ++ name ∷ [] in
-    let more_cells : List ℤ = cells ++ row in
-    let more_ends : List ℕ = ends ++ (last_place ends + 1) ∷ [] in
-    let paired : length ends ≡ length names + 1 = rows.paired in
-    let old : ℕ → Trace = λ k. (get_or names k [], rows_between width cells (place ends k) (place ends (k + 1))) in
-    let new : ℕ → Trace = λ k. (get_or more_names k [], rows_between width more_cells (place more_ends k) (place more_ends (k + 1))) in
-    let from_is : place more_ends n ≡ end = place-push_before ends (end + 1) n (omega arith) ∙ ap (place ends) (omega arith) in
-    let to_is : place more_ends (n + 1) ≡ end + 1 = get_or_push ends (end + 1) 0 (n + 1) paired in
-    let last_is : new n ≡ (name, row ∷ []) =
-    ap (λ x. (x, rows_between width more_cells (place more_ends n) (place more_ends (n + 1)))) (get_or_push names name [] n refl)
-    ∙ ap (λ a. (name, rows_between width more_cells a (place more_ends (n + 1)))) from_is
-    ∙ ap (λ b. (name, rows_between width more_cells end b)) to_is
-    ∙ ap (λ x. (name, x)) (rows_between-more width cells row end end (omega arith) rows.all full)
-    ∙ ap (λ m. (name, map (row_of width cells) (range_with_len end m) ++ row ∷ [])) (let none : end - end ≡ 0 = omega arith in none) in
-    ap (λ m. map new (range_with_len 0 m)) (length_push names name)
-    ∙ map-range_with_len_more new 0 n n (omega arith)
-    ∙ ap (λ front. front ++ new n ∷ []) (map-range-agree new old n ([], [])
-    (λ k below.
-    ap (λ x. (x, rows_between width more_cells (place more_ends k) (place more_ends (k + 1)))) (get_or_append_left names (name ∷ []) [] k below)
-    ∙ ap (λ a. (get_or names k [], rows_between width more_cells a (place more_ends (k + 1)))) (place-push_before ends (end + 1) k (omega arith))
-    ∙ ap (λ b. (get_or names k [], rows_between width more_cells (place ends k) b)) (place-push_before ends (end + 1) (k + 1) (omega arith))
-    ∙ ap (λ x. (get_or names k [], x)) (rows_between-append width cells row (place ends k) (place ends (k + 1))
-    (ends_within width names cells ends rows (k + 1) (omega arith)))))
-    ∙ ap (λ t. stored_traces width names cells ends ++ t ∷ []) last_is
+      row' : Row
+      row' = set row q.element v
 
--- one more row of the last trace
-pub stored-row : (width : ℕ) (names : List (List ℕ)) (cells : List ℤ) (ends : List ℕ) (row : Row) (n : ℕ)
-    → AreRows width names cells ends → length row ≡ width → length names ≡ n + 1
-    → stored_traces width names (cells ++ row) (set ends (n + 1) (last_place ends + 1)) ≡ with_row (stored_traces width names cells ends) row
-stored-row width names cells ends row n rows full some =
-    let end : ℕ = last_place ends in
-    let more_cells : List ℤ = cells ++ row in
-    let more_ends : List ℕ = set ends (n + 1) (last_place ends + 1) in
-    let paired : length ends ≡ length names + 1 = rows.paired in
-    let old : ℕ → Trace = λ k. (get_or names k [], rows_between width cells (place ends k) (place ends (k + 1))) in
-    let new : ℕ → Trace = λ k. (get_or names k [], rows_between width more_cells (place more_ends k) (place more_ends (k + 1))) in
-    let end_is : place ends (n + 1) ≡ end = ap (place ends) (omega arith) in
-    let climb : place ends n < place ends (n + 1) = rows.ledger.climbs n (n + 1) (omega arith) (omega arith) in
-    let from_is : place more_ends n ≡ place ends n = place-set_before ends (n + 1) (end + 1) n (omega arith) in
-    let to_is : place more_ends (n + 1) ≡ end + 1 = get_or-set_same ends (n + 1) (end + 1) 0 (omega arith) in
-    let last_is : new n ≡ ((old n).0, (old n).1 ++ row ∷ []) =
-    ap (λ a. (get_or names n [], rows_between width more_cells a (place more_ends (n + 1)))) from_is
-    ∙ ap (λ b. (get_or names n [], rows_between width more_cells (place ends n) b)) to_is
-    ∙ ap (λ x. (get_or names n [], x)) (rows_between-more width cells row (place ends n) end (omega arith) rows.all full)
-    ∙ ap (λ b. (get_or names n [], rows_between width cells (place ends n) b ++ row ∷ [])) (sym end_is) in
-    ap (λ m. map new (range_with_len 0 m)) some
-    ∙ map-range_with_len_more new 0 n n (omega arith)
-    ∙ ap (λ front. front ++ new n ∷ []) (map-range-agree new old n ([], [])
-    (λ k below.
-    ap (λ a. (get_or names k [], rows_between width more_cells a (place more_ends (k + 1)))) (place-set_before ends (n + 1) (end + 1) k (omega arith))
-    ∙ ap (λ b. (get_or names k [], rows_between width more_cells (place ends k) b)) (place-set_before ends (n + 1) (end + 1) (k + 1) (omega arith))
-    ∙ ap (λ x. (get_or names k [], x)) (rows_between-append width cells row (place ends k) (place ends (k + 1))
-    (ends_within width names cells ends rows (k + 1) (omega arith)))))
-    ∙ ap (λ t. map old (range_with_len 0 n) ++ t ∷ []) last_is
-    ∙ sym (with_row-push (map old (range_with_len 0 n)) (old n) row)
-    ∙ ap (λ ts. with_row ts row) (sym (map-range_with_len_more old 0 n n (omega arith)))
-    ∙ ap (λ m. with_row (map old (range_with_len 0 m)) row) (sym some)
+  pub length-row_of : (Q : List FlatEquation) → length (row_of size Q given) ≡ size
+  length-row_of Q = length-filled Q (replicate size None) ∙ length-replicate size None
 
--- the places and the cells after one more trace
-pub AreRows-trace : (width : ℕ) (names : List (List ℕ)) (cells : List ℤ) (ends : List ℕ) (name : List ℕ) (row : Row)
-    → AreRows width names cells ends → length row ≡ width → AreRows width (names ++ name ∷ []) (cells ++ row) (ends ++ (last_place ends + 1) ∷ [])
-AreRows-trace width names cells ends name row rows full = record {
-  ledger = IsLedger-push ends (last_place ends + 1) rows.ledger (omega arith);
-  paired = omega (arith, length_push ends (last_place ends + 1), length_push names name, rows.paired);
-  all = ap (λ n. n * width) (last_place-push ends (last_place ends + 1))
-      ∙ (let sum : (last_place ends + 1) * width ≡ length (cells ++ row) = omega (arith, length-append cells row, rows.all) in sum);
-}
+  -- the equations hold of the row of the instant
+  pub row_holds :
+      (Q : List FlatEquation) → Ready size [] Q →
+      Every (HoldsNow given (row_of size Q given)) Q
+  row_holds Q ready =
+      filled_holds [] Q (replicate size None) ready
+      (omega (arith, length-replicate {A = Cell} size None))
 
--- the same after one more row
-pub AreRows-row : (width : ℕ) (names : List (List ℕ)) (cells : List ℤ) (ends : List ℕ) (row : Row) (n : ℕ)
-    → AreRows width names cells ends → length row ≡ width → length names ≡ n + 1
-    → AreRows width names (cells ++ row) (set ends (n + 1) (last_place ends + 1))
-AreRows-row width names cells ends row n rows full some = record {
-  ledger = IsLedger-set ends (n + 1) (last_place ends + 1) rows.ledger (omega (arith, rows.paired)) (omega arith) (omega arith);
-  paired = length-set ends (n + 1) (last_place ends + 1) ∙ rows.paired;
-  all = ap (λ m. m * width) (last_place-set ends (n + 1) (last_place ends + 1) (omega (arith, rows.paired)))
-      ∙ (let sum : (last_place ends + 1) * width ≡ length (cells ++ row) = omega (arith, length-append cells row, rows.all) in sum);
-}
+rows_equal :
+    (r s : Row) → length r ≡ length s → ((i : ℕ) → i < length r → cell r i ≡ cell s i) →
+    r ≡ s
+rows_equal [] [] e h = refl
+rows_equal [] (y ∷ s) e h = absurd (omega arith)
+rows_equal (x ∷ r) [] e h = absurd (omega arith)
+rows_equal (x ∷ r) (y ∷ s) e h =
+    ap₂ (λ z zs. z ∷ zs) (h 0 (omega arith))
+    (rows_equal r s (omega arith) (λ i lt. h (suc i) (omega arith)))
+
+-- and of no other row
+pub row_is :
+    (given : List Scalar) (size : ℕ) (Q : List FlatEquation) (row : Row) → Ready size [] Q →
+    length row ≡ size → Every (HoldsNow given row) Q → row ≡ row_of size Q given
+row_is given size Q row ready e h =
+    rows_equal row (row_of size Q given) (e ∙ sym (length-row_of given size Q)) (λ i lt.
+    row_unique given size [] Q row (row_of size Q given) (λ j p. absurd p) ready h
+    (row_holds given size Q ready) i (omega arith))
+
+-- whatever the row held before
+pub filled_is :
+    (given : List Scalar) (size : ℕ) (Q : List FlatEquation) (row : Row) → Ready size [] Q →
+    length row ≡ size → filled given row Q ≡ row_of size Q given
+filled_is given size Q row ready e =
+    row_is given size Q (filled given row Q) ready (length-filled given size Q row ∙ e)
+    (filled_holds given size [] Q row ready (omega arith))

@@ -9,7 +9,7 @@ use Rattle.lb_flat.specs.Traces.{Row, Trace, Traces, Recording, IsRecording, IsT
 use Rattle.lb_flat.specs.Ledger.{place, last_place}
 use Rattle.lb_flat.specs.Stored.{stored, stored_traces, IsStored}
 use Rattle.lb_flat.proofs.Recordings.{IsRecording-trace, IsRecording-row}
-use Rattle.lb_flat.proofs.Rows.{stored-trace, stored-row, AreRows-trace, AreRows-row, instants-stored, length-stored, trace_at-stored, length-rows_between, cell_at-stored, cell_within}
+use Rattle.lb_flat.proofs.StoredRows.{stored-trace, stored-row, AreRows-trace, AreRows-row, instants-stored, length-stored, trace_at-stored, length-rows_between, cell_at-stored, cell_within}
 
 -- a row that follows a signature is as long as it
 pub length-row : (elements : Elements) (row : Row) → IsRow elements row → length row ≡ length elements

@@ -1,3 +1,12 @@
 pub mod Traces
 pub mod Ledger
 pub mod Stored
+pub mod Flat
+pub mod Run
+pub mod Layouts
+pub mod Emit
+pub mod Judging
+pub mod Flattening
+pub mod Values
+pub mod Within
+pub mod Programs

@@ -2,7 +2,7 @@
 use Rattle.std.proofs.Common.{arith, ◌≡◌, ◌+◌, ◌-◌, get_or, length, sym, subst, ◌∙◌, ap}
 use Rattle.lb_flat.specs.Traces.{Recording, IsRecording, instants_of}
 use Rattle.lb_flat.proofs.Ledgers.{read_last}
-use Rattle.lb_flat.proofs.Rows.{instants-stored}
+use Rattle.lb_flat.proofs.StoredRows.{instants-stored}
 use Rattle.lb_flat.proofs.Storing.{few_instants}
 use Rattle.lb_flat.proofs.traces.TraceSet.instants.Goals as goal
 

@@ -3,7 +3,7 @@ use Rattle.std.proofs.Common.{arith, rules, ◌≡◌, ◌<◌, ◌++◌, ◌∷
 use Rattle.lb_flat.specs.Traces.{Recording}
 use Rattle.lb_flat.specs.Ledger.{last_place}
 use Rattle.lb_flat.proofs.Ledgers.{read_last}
-use Rattle.lb_flat.proofs.Rows.{length-stored}
+use Rattle.lb_flat.proofs.StoredRows.{length-stored}
 use Rattle.lb_flat.proofs.Storing.{start_keeps, start_adds, rows_fit_of}
 use Rattle.lb_flat.proofs.traces.TraceSet.start.Goals as goal
 

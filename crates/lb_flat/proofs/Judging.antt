@@ -1,0 +1,116 @@
+-- A flat program in order gives the verdict of the program that it stands for.
+use Rattle.std.proofs.Common.{◌≡◌, ℕ, zero, suc, ◌+◌, ◌<◌, ◌≤◌, Bool, ◌||◌, Option, Some, List, [], ◌∷◌, map, length, drop, get_or, slice_get, refl, sym, ap, ap₂, ◌∙◌, subst, arith, if◌then◌else◌}
+use Rattle.std.proofs.Math.Seq.{drop-cons}
+use Rattle.std.proofs.Math.ListN.{drop_of_length-le}
+use Rattle.lb_static.specs.Instances.{Program}
+use Rattle.lb_check.specs.declared.verdict.Verdict.TheVariants.{Passed, Fault, Assertion, False}
+use Rattle.lb_check.specs.Scalars.{Cell, Stream}
+use Rattle.lb_check.specs.Streams.{History}
+use Rattle.lb_check.specs.Solutions.{Inputs, AreSame, HasOneHistory}
+use Rattle.lb_check.specs.Verdicts.{is_bad, is_false, some_at, judged, or_later, verdict_from, Ends, HasVerdict}
+use Rattle.lb_flat.specs.Flat.{FlatEquation, column, FlatSolves}
+use Rattle.lb_flat.specs.Run.{Row, cell, advanced, Ready, row_of, run, streams_of}
+use Rattle.lb_flat.specs.Judging.{FlatProgram, named_elements, some_in, row_judged, rows_judged, flat_verdict}
+use Rattle.lb_flat.specs.Flattening.{history_of, IsTrace, IsWatched, IsFlatOf}
+use Rattle.lb_flat.proofs.Stepping.{after_first, column_step}
+use Rattle.lb_flat.proofs.Running.{step_of, ready_advanced, exists, unique}
+use Rattle.lb_flat.proofs.Verdicts.{ends}
+
+-- ## The rows of a solution
+
+pub length-run : (size : ℕ) (Q : List FlatEquation) (X : Inputs) → length (run size Q X) ≡ length X
+length-run size Q [] = refl
+length-run size Q (given ∷ X) =
+    ap suc (length-run size (map (advanced (row_of size Q given)) Q) X)
+
+-- what an element's stream holds at an instant is its cell in the row of the instant
+cell_at :
+    (size : ℕ) (X : Inputs) (Q : List FlatEquation) (F : List Stream) → Ready size [] Q →
+    FlatSolves size Q X F → (t : ℕ) → t < length X → (i : ℕ) →
+    slice_get (column X F i) t ≡ Some (cell (get_or (run size Q X) t []) i)
+cell_at size [] Q F ready s t lt i = absurd (omega arith)
+cell_at size (given ∷ X) Q F ready s zero lt i =
+    let step = step_of size given X Q F ready s in
+    ap (λ xs. slice_get xs 0) (column_step given X F s.as_long i)
+    ∙ ap (λ row. Some (cell row i)) step.row
+cell_at size (given ∷ X) Q F ready s (suc t) lt i =
+    let step = step_of size given X Q F ready s in
+    ap (λ xs. slice_get xs (suc t)) (column_step given X F s.as_long i)
+    ∙ cell_at size X _ (after_first F) (ready_advanced size _ [] Q ready) step.rest t
+    (omega arith) i
+
+module _ (size : ℕ) (X : Inputs) (Q : List FlatEquation) (F : List Stream)
+    (ready : Ready size [] Q) (s : FlatSolves size Q X F) (t : ℕ) (lt : t < length X) where
+  some_same :
+      (test : Option Cell → Bool) (is : List ℕ) →
+      some_at test t (map (column X F) is) ≡ some_in test (get_or (run size Q X) t []) is
+  some_same test [] = refl
+  some_same test (i ∷ is) =
+      ap₂ (λ x b. test x || b) (cell_at size X Q F ready s t lt i) (some_same test is)
+
+-- ## The verdict of the rows
+
+verdict_same :
+    (a b c d e g : Bool) (t : ℕ) → a ≡ b → c ≡ d → e ≡ g →
+    (if a then Fault t else if c then Assertion t else if e then False t else Passed)
+    ≡ (if b then Fault t else if d then Assertion t else if g then False t else Passed)
+verdict_same a b c d e g t p q r = cc
+
+module _ (P : Program) (f : FlatProgram) (X : Inputs) (F : List Stream) (H : History)
+    (ready : Ready f.size [] f.equations) (s : FlatSolves f.size f.equations X F)
+    (watched : (t : ℕ) → t < length X → IsWatched P f X F H t) where
+  abbrev rows : List Row
+  rows = run f.size f.equations X
+
+  judged_same : (t : ℕ) → t < length X → judged P H t ≡ row_judged f t (get_or rows t [])
+  judged_same t lt =
+      let w = watched t lt in
+      let same = some_same f.size X f.equations F ready s t lt in
+      verdict_same _ _ _ _ _ _ t
+      (w.fault ∙ same is_bad (named_elements f)) (w.failed ∙ same is_false f.asserted)
+      (w.violated ∙ same is_false (f.property ∷ []))
+
+  verdict_from_rows :
+      (t n : ℕ) → t + n ≡ length X → verdict_from P H t n ≡ rows_judged f t (drop t rows)
+  verdict_from_rows t zero e =
+      let past : length rows ≤ t = omega (arith, e, length-run f.size f.equations X) in
+      let none : drop t rows ≡ [] = drop_of_length-le rows past in
+      sym (ap (rows_judged f t) none)
+  verdict_from_rows t (suc n) e =
+      let lt : t < length X = omega (arith, e) in
+      let within : t < length rows = omega (arith, lt, length-run f.size f.equations X) in
+      ap₂ or_later (judged_same t lt) (verdict_from_rows (suc t) n (omega (arith, e)))
+      ∙ sym (ap (rows_judged f t) (drop-cons rows t [] within))
+
+  pub flat_ends : Ends P H (length X) (flat_verdict f X)
+  flat_ends =
+      subst (Ends P H (length X)) (verdict_from_rows 0 (length X) (omega arith))
+      (ends P H (length X))
+
+-- ## The program that a flat program stands for
+
+module _ (P : Program) (f : FlatProgram) (flat : IsFlatOf P f)
+    (ready : Ready f.size [] f.equations) (X : Inputs) (trace : IsTrace P X) where
+  abbrev solution : List Stream
+  solution = streams_of f.size (run f.size f.equations X)
+
+  -- the verdict of the flat program is that of the program
+  pub has_verdict : HasVerdict P X (flat_verdict f X)
+  has_verdict =
+      let s = exists f.size X f.equations ready in (
+        history_of flat.layout X solution,
+        flat.solves X solution trace s,
+        flat_ends P f X solution (history_of flat.layout X solution) ready s
+            (flat.watched X solution trace s),
+      )
+
+  -- the program has exactly one history
+  pub has_one_history : HasOneHistory P X
+  has_one_history = record {
+    history = history_of flat.layout X solution;
+    solves = flat.solves X solution trace (exists f.size X f.equations ready);
+    only = λ H h.
+        let g = flat.solved X H h in
+        subst (λ F. AreSame P (history_of flat.layout X F) H)
+        (unique f.size X f.equations g.0 ready g.1) g.2;
+  }

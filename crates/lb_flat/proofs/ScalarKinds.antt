@@ -1,0 +1,191 @@
+-- The operators give scalars of their kinds.
+use Rattle.std.proofs.Common.{◌≡◌, ◌≢◌, ℕ, zero, suc, ◌/◌, ◌<◌, ◌≤◌, Bool, true, false, ℤ, pos, negsuc, neg_ℤ, ◌+ℤ◌, ◌-ℤ◌, ◌*ℤ◌, int_div, int_rem, Option, Some, None, refl, subst, arith}
+use Rattle.std.specs.Int.Signed.{mag, mag_rem}
+use Rattle.std.proofs.Math.Nat.{div-le_self, div-one, div-lt_iff_lt-mul, div-le_of_le-mul}
+use Rattle.lb_syntax.specs.declared.tree.UnaryOperator.{UnaryOperator}
+use Rattle.lb_syntax.specs.declared.tree.UnaryOperator.TheVariants.{Not, Negate}
+use Rattle.lb_syntax.specs.declared.tree.BinaryOperator.{BinaryOperator}
+use Rattle.lb_syntax.specs.declared.tree.BinaryOperator.TheVariants.{Or, Xor, And, Implies, Equal, Unequal, Less, AtMost, Greater, AtLeast, Plus, Minus, Times, Divide, Modulo}
+use Rattle.lb_syntax.specs.declared.tree.Kind.{Kind}
+use Rattle.lb_syntax.specs.declared.tree.Kind.TheVariants.{Int, Bool as Truth}
+use Rattle.lb_syntax.specs.Lists.{where_true}
+use Rattle.lb_static.specs.Arithmetic.{is_int, is_divisible}
+use Rattle.lb_check.specs.Scalars.{Scalar, Integer, Boolean, Bad, or_fault, two_scalars, one_scalar, chosen, is_of_kind}
+
+-- ## Results in the range of `int`
+
+small_is_int : (z : ℤ) → mag z ≤ 2147483647 → is_int z ≡ true
+small_is_int (pos n) h = grind arith
+small_is_int (negsuc n) h = grind arith
+
+int_is_small : (z : ℤ) → is_int z ≡ true → mag z ≤ 2147483647
+int_is_small (pos n) h = grind arith
+int_is_small (negsuc n) h = grind arith
+
+lawful_int : (z : ℤ) (b : Bool) → is_int z ≡ b → is_of_kind Int (or_fault (where_true b z)) ≡ true
+lawful_int z true e = e
+lawful_int z false e = refl
+
+neg_small : (n m : ℕ) → n ≤ suc m → mag (neg_ℤ (pos n)) ≤ m
+neg_small zero m h = omega arith
+neg_small (suc n) m h = omega arith
+
+half_less : (n k : ℕ) → suc n / suc (suc k) ≤ n
+half_less zero k =
+    let both = div-lt_iff_lt-mul {k = suc (suc k)} {x = 1} {y = 1} (omega arith) in
+    let lt : 1 / suc (suc k) < 1 = both.1 (omega arith) in
+    omega (arith, lt)
+half_less (suc n) k = div-le_of_le-mul (suc (suc k)) (omega arith)
+
+not_least : (a : ℕ) → is_divisible (negsuc a) (negsuc 0) ≡ true → a ≢ 2147483647
+not_least a d e =
+    let never : is_divisible (negsuc 2147483647) (negsuc 0) ≡ true =
+    subst (λ n. is_divisible (negsuc n) (negsuc 0) ≡ true) e d in
+    absurd cc
+
+quotient_small :
+    (a b : ℤ) → mag a ≤ 2147483647 → is_divisible a b ≡ true → mag (int_div a b) ≤ 2147483647
+quotient_small (pos a) (pos b) h d = omega (arith, h, div-le_self a b)
+quotient_small (pos a) (negsuc b) h d =
+    neg_small (a / suc b) 2147483647 (omega (arith, h, div-le_self a (suc b)))
+quotient_small (negsuc a) (pos b) h d =
+    neg_small (suc a / b) 2147483647 (omega (arith, h, div-le_self (suc a) b))
+quotient_small (negsuc a) (negsuc zero) h d =
+    let other : a ≢ 2147483647 = not_least a d in
+    omega (arith, h, other, div-one (suc a))
+quotient_small (negsuc a) (negsuc (suc b)) h d = omega (arith, h, half_less a b)
+
+quotient_int :
+    (a b : ℤ) (c : Bool) → is_int a ≡ true → is_divisible a b ≡ c →
+    is_of_kind Int (or_fault (where_true c (int_div a b))) ≡ true
+quotient_int a b true i d =
+    small_is_int (int_div a b) (quotient_small a b (int_is_small a i) d)
+quotient_int a b false i d = refl
+
+remainder_int :
+    (a b : ℤ) (c : Bool) → is_int a ≡ true →
+    is_of_kind Int (or_fault (where_true c (int_rem a b))) ≡ true
+remainder_int a b true i =
+    small_is_int (int_rem a b) (omega (arith, int_is_small a i, mag_rem a b))
+remainder_int a b false i = refl
+
+-- ## The kind of a result
+
+abbrev integers_kind : BinaryOperator → Option Kind
+integers_kind Plus = Some Int
+integers_kind Minus = Some Int
+integers_kind Times = Some Int
+integers_kind Divide = Some Int
+integers_kind Modulo = Some Int
+integers_kind Equal = Some Truth
+integers_kind Unequal = Some Truth
+integers_kind Less = Some Truth
+integers_kind AtMost = Some Truth
+integers_kind Greater = Some Truth
+integers_kind AtLeast = Some Truth
+integers_kind op = None
+
+abbrev truths_kind : BinaryOperator → Option Kind
+truths_kind Or = Some Truth
+truths_kind Xor = Some Truth
+truths_kind And = Some Truth
+truths_kind Implies = Some Truth
+truths_kind Equal = Some Truth
+truths_kind Unequal = Some Truth
+truths_kind op = None
+
+-- the kind that an operator gives of operands of two kinds, if it takes them
+abbrev pub binary_kind : BinaryOperator → Kind → Kind → Option Kind
+binary_kind op Int Int = integers_kind op
+binary_kind op Truth Truth = truths_kind op
+binary_kind op k l = None
+
+abbrev pub unary_kind : UnaryOperator → Kind → Option Kind
+unary_kind Negate Int = Some Int
+unary_kind Not Truth = Some Truth
+unary_kind op k = None
+
+-- ## Scalars of their kinds
+
+abbrev pub IsOf : Kind → Scalar → Type 0
+IsOf k v = is_of_kind k v ≡ true
+
+pub bad_of : (k : Kind) → IsOf k Bad
+bad_of Int = refl
+bad_of Truth = refl
+
+one_kind : (k l : Kind) (v : Scalar) → Some k ≡ Some l → IsOf k v → IsOf l v
+one_kind k l v e h = let same : k ≡ l = cc in subst (λ m. IsOf m v) same h
+
+of_integers :
+    (op : BinaryOperator) (r : Kind) (a b : ℤ) → integers_kind op ≡ Some r → is_int a ≡ true →
+    is_int b ≡ true → IsOf r (two_scalars op (Integer a) (Integer b))
+of_integers Plus r a b e i j = one_kind Int r _ e (lawful_int (a +ℤ b) _ refl)
+of_integers Minus r a b e i j = one_kind Int r _ e (lawful_int (a -ℤ b) _ refl)
+of_integers Times r a b e i j = one_kind Int r _ e (lawful_int (a *ℤ b) _ refl)
+of_integers Divide r a b e i j = one_kind Int r _ e (quotient_int a b _ i refl)
+of_integers Modulo r a b e i j = one_kind Int r _ e (remainder_int a b _ i)
+of_integers Equal r a b e i j = one_kind Truth r _ e refl
+of_integers Unequal r a b e i j = one_kind Truth r _ e refl
+of_integers Less r a b e i j = one_kind Truth r _ e refl
+of_integers AtMost r a b e i j = one_kind Truth r _ e refl
+of_integers Greater r a b e i j = one_kind Truth r _ e refl
+of_integers AtLeast r a b e i j = one_kind Truth r _ e refl
+of_integers Or r a b e i j = cc
+of_integers Xor r a b e i j = cc
+of_integers And r a b e i j = cc
+of_integers Implies r a b e i j = cc
+
+of_truths :
+    (op : BinaryOperator) (r : Kind) (a b : Bool) → truths_kind op ≡ Some r →
+    IsOf r (two_scalars op (Boolean a) (Boolean b))
+of_truths Or r a b e = one_kind Truth r _ e refl
+of_truths Xor r a b e = one_kind Truth r _ e refl
+of_truths And r a b e = one_kind Truth r _ e refl
+of_truths Implies r a b e = one_kind Truth r _ e refl
+of_truths Equal r a b e = one_kind Truth r _ e refl
+of_truths Unequal r a b e = one_kind Truth r _ e refl
+of_truths Less r a b e = cc
+of_truths AtMost r a b e = cc
+of_truths Greater r a b e = cc
+of_truths AtLeast r a b e = cc
+of_truths Plus r a b e = cc
+of_truths Minus r a b e = cc
+of_truths Times r a b e = cc
+of_truths Divide r a b e = cc
+of_truths Modulo r a b e = cc
+
+pub binary_of :
+    (op : BinaryOperator) (k l r : Kind) (v w : Scalar) → binary_kind op k l ≡ Some r →
+    IsOf k v → IsOf l w → IsOf r (two_scalars op v w)
+binary_of op Int Int r (Integer a) (Integer b) e i j = of_integers op r a b e i j
+binary_of op Int Int r (Integer a) Bad e i j = bad_of r
+binary_of op Int Int r Bad w e i j = bad_of r
+binary_of op Int Int r (Boolean a) w e i j = cc
+binary_of op Int Int r (Integer a) (Boolean b) e i j = cc
+binary_of op Truth Truth r (Boolean a) (Boolean b) e i j = of_truths op r a b e
+binary_of op Truth Truth r (Boolean a) Bad e i j = bad_of r
+binary_of op Truth Truth r Bad w e i j = bad_of r
+binary_of op Truth Truth r (Integer a) w e i j = cc
+binary_of op Truth Truth r (Boolean a) (Integer b) e i j = cc
+binary_of op Int Truth r v w e i j = cc
+binary_of op Truth Int r v w e i j = cc
+
+pub unary_of :
+    (op : UnaryOperator) (k r : Kind) (v : Scalar) → unary_kind op k ≡ Some r → IsOf k v →
+    IsOf r (one_scalar op v)
+unary_of Negate Int r (Integer a) e i = one_kind Int r _ e (lawful_int (neg_ℤ a) _ refl)
+unary_of Negate Int r Bad e i = bad_of r
+unary_of Negate Int r (Boolean a) e i = cc
+unary_of Negate Truth r v e i = cc
+unary_of Not Truth r (Boolean a) e i = one_kind Truth r _ e refl
+unary_of Not Truth r Bad e i = bad_of r
+unary_of Not Truth r (Integer a) e i = cc
+unary_of Not Int r v e i = cc
+
+pub chosen_of :
+    (k : Kind) (c v w : Scalar) → IsOf k v → IsOf k w → IsOf k (chosen c v w)
+chosen_of k (Boolean true) v w i j = i
+chosen_of k (Boolean false) v w i j = j
+chosen_of k (Integer z) v w i j = bad_of k
+chosen_of k Bad v w i j = bad_of k

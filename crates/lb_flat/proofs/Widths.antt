@@ -1,0 +1,806 @@
+-- An expression has as many streams as its types have scalar elements.
+use Rattle.std.proofs.Common.{◌≡◌, ℕ, zero, suc, ◌+◌, ◌-◌, ◌*◌, ◌<◌, ◌≤◌, Bool, true, false, ◌&&◌, if◌then◌else◌, ℤ, Option, Some, None, IfSome, option_map, List, [], ◌∷◌, ◌++◌, map, length, take, drop, flat_map, cond, find, refl, sym, ap, ap₂, ◌∙◌, subst, arith, length-append}
+use Rattle.std.specs.List.{range_with_len, list_all, zip}
+use Rattle.std.specs.Str.{bytes_eq}
+use Rattle.std.proofs.Math.Nat.{mul-le-mul_right}
+use Rattle.std.proofs.lemmas.List.{length-map, length-take-le, length-drop}
+use Rattle.lb_syntax.specs.declared.tree.BinaryOperator.{BinaryOperator}
+use Rattle.lb_syntax.specs.declared.tree.ArrayIterator.{ArrayIterator}
+use Rattle.lb_syntax.specs.declared.tree.ArrayIterator.TheVariants.{Map, Red, Fill}
+use Rattle.lb_syntax.specs.Lists.{◌>>=◌, Every, copies, joined, tail_of, all_some, either_or, where_true, listed}
+use Rattle.lb_syntax.specs.Tree.{Name, Static, Node_named, Symbol, Expr, Literal, Truth, Variable, Group, Unary, Binary, If, Arrow, Fby, Pre, Current, When, Copies, Index, Slice, Join, Array, AtMostOne, Nor, Call, Iterate, Exprs, Nil, Cons, Declaration, Node}
+use Rattle.lb_static.specs.Instances.{Program, Instance, Child, static_count, call_site, callee_of, node_named, name_value, static_value}
+use Rattle.lb_static.specs.Shapes.{Shape, int, truth, variables, width, shape_of, element_count, product, input_shapes, output_shapes, is_shape, are_shapes}
+use Rattle.lb_check.specs.Types.{shapes, all_shapes, only, singly, list_shape, from_one, from_truths, name_shape, array_of, operator_shapes, iterator_shapes, map_shapes, red_shapes, fill_shapes, unary_shape, binary_shape, same_shape, index_shape, slice_shape, join_shape, is_arithmetic}
+use Rattle.lb_check.specs.Scalars.{Stream, or_fault}
+use Rattle.lb_check.specs.Clocks.{Clock, clock_of, clock_or, declared_clock}
+use Rattle.lb_check.specs.Occurrences.{Occurrence, call_count, occurrences, occurrences_in}
+use Rattle.lb_check.specs.Streams.{History, presence, constantly, choice, choices, gathered, last_of, iterated, symbols, streams, all_streams, number, part_count, outputs_of, shape}
+use Rattle.lb_flat.proofs.Lists.{length-zips, Every-first, Every-second}
+use Rattle.lb_flat.proofs.ShapeFacts.{One, elements_in, bound, alone, one, two, from_true, unary_count, binary_count, alike, array_count, indexed, sliced, joined_count, truth_is, some_same, same_count, and_first, and_second, truly, single, are_counts}
+
+-- ## Lists
+
+length-copies : {A : Type 0} (n : ℕ) (xs : List A) → length (copies n xs) ≡ n * length xs
+length-copies zero xs = omega arith
+length-copies (suc n) xs = omega (arith, length-append xs (copies n xs), length-copies n xs)
+
+length-choices :
+    (cs xss yss : List Stream) (n : ℕ) → length cs ≡ 1 → length xss ≡ n → length yss ≡ n →
+    length (choices cs xss yss) ≡ n
+length-choices [] xss yss n c p q = absurd (omega arith)
+length-choices (z ∷ []) xss yss n c p q = length-zips (choice z) n xss yss p q
+length-choices (z ∷ (w ∷ cs)) xss yss n c p q = absurd (omega arith)
+
+-- a part of a list of parts of one length
+length-part :
+    {A : Type 0} (q i n m : ℕ) (xs : List A) → length xs ≡ m * q → i + n ≤ m →
+    length (take (q * n) (drop (q * i) xs)) ≡ q * n
+length-part q i n m xs e le =
+    let bound = mul-le-mul_right q le in
+    length-take-le (q * n) (drop (q * i) xs) (omega (arith, length-drop (q * i) xs, e, bound))
+
+pub length-index :
+    (q i m : ℕ) (xs : List Stream) → length xs ≡ m * q → i < m →
+    length (take q (drop (q * i) xs)) ≡ q
+length-index q i m xs e lt =
+    let one : q * 1 ≡ q = omega arith in
+    sym (ap (λ p. length (take p (drop (q * i) xs))) one)
+    ∙ length-part q i 1 m xs e (omega arith) ∙ one
+
+-- what a test finds is in the list
+chosen_one :
+    {A : Type 0} (P : A → Type 0) (b : Bool) (x : A) (o : Option A) → P x → IfSome o P →
+    IfSome (cond b (Some x) o) P
+chosen_one P true x o h g = h
+chosen_one P false x o h g = g
+
+pub found_in :
+    {A : Type 0} (P : A → Type 0) (test : A → Bool) (xs : List A) → Every P xs →
+    IfSome (find test xs) P
+found_in P test [] h = tt
+found_in P test (x ∷ xs) h =
+    chosen_one P (test x) x (find test xs) h.0 (found_in P test xs h.1)
+
+-- pieces of one length
+length-range :
+    {A : Type 0} (f : ℕ → List A) (w a n : ℕ) → ((i : ℕ) → i < n → length (f (a + i)) ≡ w) →
+    length (flat_map f (range_with_len a n)) ≡ n * w
+length-range f w a zero h = omega arith
+length-range f w a (suc n) h =
+    let here : length (f a) ≡ w = let e : a + 0 ≡ a = omega arith in
+    subst (λ i. length (f i) ≡ w) e (h 0 (omega arith)) in
+    let rest = length-range f w (a + 1) n (λ i lt.
+    let e : a + suc i ≡ (a + 1) + i = omega arith in
+    subst (λ j. length (f j) ≡ w) e (h (suc i) (omega arith))) in
+    omega (arith, length-append (f a) (flat_map f (range_with_len (a + 1) n)), here, rest)
+
+-- ## Lists of types
+
+pub record Each {A : Type 0} (o : Option A) (os : List (Option A)) (ys : List A) : Type 0 where
+  pub first : A
+  pub rest : List A
+  pub is : o ≡ Some first
+  pub others : all_some os ≡ Some rest
+  pub all : ys ≡ first ∷ rest
+
+pub each :
+    {A : Type 0} (o : Option A) (os : List (Option A)) (ys : List A) →
+    all_some (o ∷ os) ≡ Some ys → Each o os ys
+each None os ys e = cc
+each (Some x) os ys e = from (all_some os) refl e
+  where
+    from :
+        (r : Option _) → all_some os ≡ r → option_map (λ xs. x ∷ xs) r ≡ Some ys →
+        Each (Some x) os ys
+    from None q g = cc
+    from (Some xs) q g =
+        record { first = x; rest = xs; is = refl; others = q; all = sym (some_same _ _ g) }
+
+-- arrays of n of these types
+arrays_count :
+    (n : ℕ) (us ts : List Shape) → all_some (map (array_of n) us) ≡ Some ts →
+    elements_in ts ≡ n * elements_in us
+arrays_count n [] ts e = ap elements_in (sym (some_same _ _ e)) ∙ omega arith
+arrays_count n (u ∷ us) ts e =
+    let h = each (array_of n u) (map (array_of n) us) ts e in
+    let one = array_count n u h.first h.is in
+    let others = arrays_count n us h.rest h.others in
+    ap elements_in h.all ∙ omega (arith, one, others)
+
+-- ## The outputs of an instance that is called
+
+module _ (P : Program) (c : Instance) where
+  abbrev AreOutputs : (Declaration → List Stream) → List Declaration → Type 0
+  AreOutputs f ds = Every (λ d. length (f d) ≡ width P c d) ds
+
+  pub width_of :
+      (d : Declaration) (t : Shape) → shape_of P c d ≡ Some t →
+      width P c d ≡ element_count t
+  width_of d t e = ap (λ o. either_or (option_map element_count o) 0) e
+
+  outputs_wide :
+      (f : Declaration → List Stream) (ds : List Declaration) (ts : List Shape) →
+      AreOutputs f ds → all_some (map (shape_of P c) ds) ≡ Some ts →
+      length (flat_map f ds) ≡ elements_in ts
+  outputs_wide f [] ts w e = ap elements_in (some_same _ _ e)
+  outputs_wide f (d ∷ ds) ts w e =
+      let h = each (shape_of P c d) (map (shape_of P c) ds) ts e in
+      let first = w.0 ∙ width_of d h.first h.is in
+      let rest = outputs_wide f ds h.rest w.1 h.others in
+      omega (arith, length-append (f d) (flat_map f ds), first, rest)
+      ∙ sym (ap elements_in h.all)
+
+  module _ (outputs : ℕ → Name → List Stream) (n : ℕ) where
+    abbrev AllOutputs : List Declaration → Type 0
+    AllOutputs ds = (i : ℕ) → i < n → AreOutputs (λ d. outputs i d.name) ds
+
+    gathered_wide :
+        (ds : List Declaration) (us : List Shape) → AllOutputs ds →
+        all_some (map (shape_of P c) ds) ≡ Some us →
+        length (gathered outputs n ds) ≡ n * elements_in us
+    gathered_wide [] us w e = let none = some_same _ _ e in
+        omega arith ∙ ap (λ vs. n * elements_in vs) none
+    gathered_wide (d ∷ ds) us w e =
+        let h = each (shape_of P c d) (map (shape_of P c) ds) us e in
+        let inner = λ (i : ℕ). outputs i d.name in
+        let first = length-range inner (element_count h.first) 0 n (λ i lt.
+        let at : 0 + i ≡ i = omega arith in
+        ap (λ j. length (inner j)) at ∙ (w i lt).0 ∙ width_of d h.first h.is) in
+        let rest = gathered_wide ds h.rest (λ i lt. (w i lt).1) h.others in
+        omega (
+          arith,
+          length-append (flat_map inner (range_with_len 0 n)) (gathered outputs n ds),
+          first,
+          rest,
+        )
+        ∙ sym (ap (λ vs. n * elements_in vs) h.all)
+
+    last_wide :
+        0 < n → (ds : List Declaration) (u : Shape) (us : List Shape) → AllOutputs ds →
+        all_some (map (shape_of P c) ds) ≡ Some (u ∷ us) →
+        length (last_of outputs n ds) ≡ element_count u
+    last_wide positive [] u us w e = cc
+    last_wide positive (d ∷ ds) u us w e =
+        let h = each (shape_of P c d) (map (shape_of P c) ds) (u ∷ us) e in
+        let same : u ≡ h.first = first_same _ _ _ _ h.all in
+        (w (n - 1) (omega arith)).0 ∙ width_of d h.first h.is ∙ ap element_count (sym same)
+      where
+        first_same : (s t : Shape) (ss ts : List Shape) → s ∷ ss ≡ t ∷ ts → s ≡ t
+        first_same s t ss ts e = cc
+
+-- ## What is called
+
+-- the instance of a call, and the types of its inputs and outputs
+pub record Called (P : Program) (here : Instance) (f : Name) (statics : List Static)
+    (types : List Shape × List Shape) : Type 0 where
+  pub callee : Instance
+  pub is : callee_of P here (call_site f statics) 0 0 ≡ Some callee
+  pub inputs : input_shapes P callee ≡ Some types.0
+  pub outputs : output_shapes P callee ≡ Some types.1
+
+pub called :
+    (P : Program) (here : Instance) (f : Name) (statics : List Static)
+    (types : List Shape × List Shape) →
+    operator_shapes P here (Node_named f statics) ≡ Some types → Called P here f statics types
+called P here f statics types e =
+    let c = bound (callee_of P here (call_site f statics) 0 0) _ types e in
+    let ins = bound (input_shapes P c.value) _ types c.gives in
+    let outs = bound (output_shapes P c.value) _ types ins.gives in
+    let same : (ins.value, outs.value) ≡ types = some_same _ _ outs.gives in
+    record {
+      callee = c.value;
+      is = c.is;
+      inputs = ins.is ∙ ap (λ (t : List Shape × List Shape). Some t.0) same;
+      outputs = outs.is ∙ ap (λ (t : List Shape × List Shape). Some t.1) same;
+    }
+
+-- the same instance at another place
+pub record Placed (P : Program) (here : Instance) (f : Name) (statics : List Static)
+    (c : Instance) : Type 0 where
+  pub node : node_named P f ≡ Some c.node
+  pub at : (n i : ℕ) →
+      callee_of P here (call_site f statics) n i
+      ≡ Some (record c { path = Child here.path n i })
+
+pub placed :
+    (P : Program) (here : Instance) (f : Name) (statics : List Static) (c : Instance) →
+    callee_of P here (call_site f statics) 0 0 ≡ Some c → Placed P here f statics c
+placed P here f statics c e =
+    let n = bound (node_named P f) _ c e in
+    let values = all_some (map (static_value P here) statics) in
+    let v = bound values _ c n.gives in
+    let same = some_same _ _ v.gives in
+    record {
+      node = n.is ∙ ap (λ (d : Instance). Some d.node) same;
+      at = λ call index.
+          ap₂ (λ (o : Option Node) (vs : Option (List ℤ)).
+          o >>= λ node. vs >>= λ values.
+          Some (record {
+            path = Child here.path call index;
+            node = node;
+            values = zip node.parameters values;
+          })) n.is v.is
+          ∙ ap (λ (d : Instance). Some (record d { path = Child here.path call index })) same;
+    }
+
+module _ (P : Program) (H : History) (here : Instance) where
+  -- the variables of an instance are as wide as their types
+  abbrev pub AreVariablesWide : Instance → Type 0
+  AreVariablesWide c =
+      Every (λ d. length (H.columns c.path d.name) ≡ width P c d) (variables c.node)
+
+  abbrev pub IsCalleeWide : ℕ → Name → List Static → ℕ → Type 0
+  IsCalleeWide n f statics i =
+      (c : Instance) → callee_of P here (call_site f statics) n i ≡ Some c → AreVariablesWide c
+
+  -- and so are those of the instances of a call; an iterator has at least one
+  abbrev pub IsWideAt : ℕ → Expr → Type 0
+  IsWideAt n (Call f statics es) = IsCalleeWide n f statics 0
+  IsWideAt n (Iterate it (Node_named f statics) m es) =
+      (0 < number P here m)
+      × ((i : ℕ) → i < number P here m → IsCalleeWide n f statics i)
+  IsWideAt n e = Unit {0}
+
+  abbrev pub IsOccurrenceWide : Occurrence → Type 0
+  IsOccurrenceWide o = IsWideAt o.calls_before o.expr
+
+  abbrev AllWide : List Occurrence → Type 0
+  AllWide os = Every IsOccurrenceWide os
+
+  fore : (os os' : List Occurrence) → AllWide (os ++ os') → AllWide os
+  fore os os' w = Every-first IsOccurrenceWide os os' w
+
+  aft : (os os' : List Occurrence) → AllWide (os ++ os') → AllWide os'
+  aft os os' w = Every-second IsOccurrenceWide os os' w
+
+  -- the outputs of an instance at a place
+  pub outputs_at :
+      (f : Name) (statics : List Static) (c : Instance) → Placed P here f statics c → (n i : ℕ) →
+      IsCalleeWide n f statics i →
+      Every (λ d. length (H.columns (Child here.path n i) d.name) ≡ width P c d) c.node.outputs
+  outputs_at f statics c p n i w =
+      let all = w (record c { path = Child here.path n i }) (p.at n i) in
+      Every-first _ c.node.outputs c.node.locals
+      (Every-second _ c.node.inputs (c.node.outputs ++ c.node.locals) all)
+
+  outputs_are :
+      (f : Name) (o : Option Node) → node_named P f ≡ o →
+      outputs_of P here f ≡ listed (λ n. n.outputs) o
+  outputs_are f o e = ap (listed (λ n. n.outputs)) e
+
+  call_wide :
+      (n : ℕ) (f : Name) (statics : List Static) (types : List Shape × List Shape) →
+      operator_shapes P here (Node_named f statics) ≡ Some types → IsCalleeWide n f statics 0 →
+      length (flat_map (λ o. H.columns (Child here.path n 0) o.name) (outputs_of P here f))
+      ≡ elements_in types.1
+  call_wide n f statics types e w =
+      let c = called P here f statics types e in
+      let p = placed P here f statics c.callee c.is in
+      let output = λ (o : Declaration). H.columns (Child here.path n 0) o.name in
+      ap (λ ds. length (flat_map output ds)) (outputs_are f (Some c.callee.node) p.node)
+      ∙ outputs_wide P c.callee output c.callee.node.outputs types.1
+      (outputs_at f statics c.callee p n 0 w) c.outputs
+
+  -- ## Names
+
+  names_wide :
+      AreVariablesWide here → (k : Clock) (x : Name) (o : Option Declaration) →
+      IfSome o (λ d. length (H.columns here.path d.name) ≡ width P here d) → (ts : List Shape) →
+      singly (either_or (option_map (shape_of P here) o) (Some int)) ≡ Some ts →
+      length (either_or (option_map (λ d. H.columns here.path d.name) o)
+      (constantly (or_fault (name_value P here x)) (presence H here.path k) ∷ []))
+      ≡ elements_in ts
+  names_wide all k x None w ts e = ap elements_in (some_same _ _ e)
+  names_wide all k x (Some d) w ts e =
+      let a = alone (shape_of P here d) ts e in
+      let known : width P here d ≡ element_count a.shape = width_of P here d a.shape a.is in
+      omega (arith, w, known) ∙ sym (ap elements_in a.all)
+
+  -- ## Arrays
+
+  shape_is : (e : Expr) (t : Shape) → shapes P here e ≡ Some (t ∷ []) → shape P here e ≡ t
+  shape_is e t h = ap (λ o. either_or (o >>= only) int) h
+
+  sizes_product :
+      (t : Shape) (ns : List ℕ) → t.sizes ≡ ns → element_count t ≡ product ns
+  sizes_product t ns e = ap product e
+
+  pub number_is : (s : Static) (n : ℕ) → static_count P here s ≡ Some n → number P here s ≡ n
+  number_is s n h = ap (λ o. either_or o 0) h
+
+  part_is :
+      (e : Expr) (t : Shape) (n : ℕ) (ns : List ℕ) → shapes P here e ≡ Some (t ∷ []) →
+      t.sizes ≡ n ∷ ns → part_count P here e ≡ product ns
+  part_is e t n ns h sizes =
+      ap (λ (s : Shape). product (tail_of s.sizes)) (shape_is e t h)
+      ∙ ap (λ l. product (tail_of l)) sizes
+
+  just_one : (n : ℕ) (t : Shape) (ts : List Shape) → n ≡ element_count t → ts ≡ t ∷ [] →
+      n ≡ elements_in ts
+  just_one n t ts e h = let zero_more : element_count t ≡ element_count t + 0 = omega arith in
+      e ∙ zero_more ∙ sym (ap elements_in h)
+
+  pub only_one : (n : ℕ) (t : Shape) → n ≡ elements_in (t ∷ []) → n ≡ element_count t
+  only_one n t e = omega (arith, e)
+
+  -- the types and the widths of some operands
+  pub same_first : (n m : ℕ) (ns ms : List ℕ) → n ∷ ns ≡ m ∷ ms → n ≡ m
+  same_first n m ns ms e = cc
+
+  pub same_rest : (n m : ℕ) (ns ms : List ℕ) → n ∷ ns ≡ m ∷ ms → ns ≡ ms
+  same_rest n m ns ms e = cc
+
+  joined_wide :
+      (xsss : List (List Stream)) (ts : List Shape) →
+      map length xsss ≡ map element_count ts → length (joined xsss) ≡ elements_in ts
+  joined_wide [] [] e = refl
+  joined_wide [] (t ∷ ts) e = cc
+  joined_wide (xss ∷ xsss) [] e = cc
+  joined_wide (xss ∷ xsss) (t ∷ ts) e =
+      let rest = joined_wide xsss ts (same_rest _ _ _ _ e) in
+      let first = same_first _ _ _ _ e in
+      omega (arith, length-append xss (joined xsss), first, rest)
+
+  all_alike :
+      (t : Shape) (ts : List Shape) → list_all (is_shape t) ts ≡ true →
+      elements_in ts ≡ length ts * element_count t
+  all_alike t [] e = omega arith
+  all_alike t (u ∷ ts) e =
+      let same = same_count t u (and_first (is_shape t u) (list_all (is_shape t) ts) e) in
+      let rest = all_alike t ts (and_second (is_shape t u) (list_all (is_shape t) ts) e) in
+      omega (arith, same, rest)
+
+  list_count :
+      (ts : List Shape) (r : Shape) → list_shape ts ≡ Some r →
+      elements_in ts ≡ element_count r
+  list_count [] r e = cc
+  list_count (t ∷ ts) r e =
+      let b = bound (where_true (list_all (is_shape t) ts) t) _ r e in
+      let h = truly (list_all (is_shape t) ts) t b.value b.is in
+      let rest = all_alike t ts h.holds in
+      let all = array_count (suc (length ts)) b.value r b.gives in
+      let same : element_count t ≡ element_count b.value = ap element_count h.same in
+      omega (arith, rest, all, ap (λ c. length ts * c) same, same)
+
+  -- ## Iterated nodes
+
+  map_of :
+      (n : ℕ) (ins outs args ts : List Shape) → map_shapes n ins outs args ≡ Some ts →
+      elements_in ts ≡ n * elements_in outs
+  map_of n ins outs args ts e =
+      let w = bound (all_some (map (array_of n) ins)) _ ts e in
+      let b = bound (where_true (are_shapes w.value args) outs) _ ts w.gives in
+      let h = truly (are_shapes w.value args) outs b.value b.is in
+      arrays_count n b.value ts b.gives ∙ sym (ap (λ us. n * elements_in us) h.same)
+
+  record Reduced (outs ts : List Shape) : Type 0 where
+    out : Shape
+    outs_is : outs ≡ out ∷ []
+    ts_is : ts ≡ out ∷ []
+
+  red_of :
+      (n : ℕ) (ins outs args ts : List Shape) → red_shapes n ins outs args ≡ Some ts →
+      Reduced outs ts
+  red_of n [] outs args ts e = cc
+  red_of n (a ∷ ins) [] args ts e = cc
+  red_of n (a ∷ ins) (o ∷ (p ∷ outs)) args ts e = cc
+  red_of n (a ∷ ins) (o ∷ []) [] ts e = cc
+  red_of n (a ∷ ins) (o ∷ []) (i ∷ args) ts e =
+      let w = bound (all_some (map (array_of n) ins)) _ ts e in
+      let h = truly _ (o ∷ []) ts w.gives in
+      record { out = o; outs_is = refl; ts_is = sym h.same }
+
+  record Filled (n : ℕ) (outs ts : List Shape) : Type 0 where
+    out : Shape
+    others : List Shape
+    arrays : List Shape
+    outs_is : outs ≡ out ∷ others
+    ts_is : ts ≡ out ∷ arrays
+    count : elements_in arrays ≡ n * elements_in others
+
+  fill_of :
+      (n : ℕ) (ins outs args ts : List Shape) → fill_shapes n ins outs args ≡ Some ts →
+      Filled n outs ts
+  fill_of n [] outs args ts e = cc
+  fill_of n (a ∷ (b ∷ ins)) outs args ts e = cc
+  fill_of n (a ∷ []) [] args ts e = cc
+  fill_of n (a ∷ []) (o ∷ []) args ts e = cc
+  fill_of n (a ∷ []) (o ∷ (p ∷ outs)) [] ts e = cc
+  fill_of n (a ∷ []) (o ∷ (p ∷ outs)) (i ∷ (j ∷ args)) ts e = cc
+  fill_of n (a ∷ []) (o ∷ (p ∷ outs)) (i ∷ []) ts e =
+      let w = bound (all_some (map (array_of n) (p ∷ outs))) _ ts e in
+      let h = truly _ (o ∷ w.value) ts w.gives in
+      record {
+        out = o;
+        others = p ∷ outs;
+        arrays = w.value;
+        outs_is = refl;
+        ts_is = sym h.same;
+        count = arrays_count n (p ∷ outs) w.value w.is;
+      }
+
+  -- outputs of a node whose first output and the others have these types
+  iterated_by :
+      (c : Instance) (outputs : ℕ → Name → List Stream) (n : ℕ) → 0 < n →
+      (it : ArrayIterator) (ds : List Declaration) (ins outs args ts : List Shape) →
+      ((i : ℕ) → i < n → Every (λ d. length (outputs i d.name) ≡ width P c d) ds) →
+      all_some (map (shape_of P c) ds) ≡ Some outs →
+      iterator_shapes it n ins outs args ≡ Some ts →
+      length (iterated outputs n it ds) ≡ elements_in ts
+  iterated_by c outputs n positive Map ds ins outs args ts w o e =
+      gathered_wide P c outputs n ds outs w o ∙ sym (map_of n ins outs args ts e)
+  iterated_by c outputs n positive Red ds ins outs args ts w o e =
+      let r = red_of n ins outs args ts e in
+      just_one _ r.out ts
+      (last_wide P c outputs n positive ds r.out [] w (o ∙ ap Some r.outs_is)) r.ts_is
+  iterated_by c outputs n positive Fill [] ins outs args ts w o e =
+      let f = fill_of n ins outs args ts e in
+      let same : [] ≡ outs = some_same _ _ o in
+      let none : [] ≡ f.out ∷ f.others = same ∙ f.outs_is in
+      absurd cc
+  iterated_by c outputs n positive Fill (d ∷ ds) ins outs args ts w o e =
+      let f = fill_of n ins outs args ts e in
+      let all = o ∙ ap Some f.outs_is in
+      let h = each (shape_of P c d) (map (shape_of P c) ds) (f.out ∷ f.others) all in
+      let same : f.others ≡ h.rest = rest_same _ _ _ _ h.all in
+      let last = last_wide P c outputs n positive (d ∷ ds) f.out f.others w all in
+      let rest = gathered_wide P c outputs n ds f.others (λ i lt. (w i lt).1)
+      (h.others ∙ ap Some (sym same)) in
+      omega (
+        arith,
+        length-append (last_of outputs n (d ∷ ds)) (gathered outputs n ds),
+        last,
+        rest,
+        f.count,
+      )
+      ∙ sym (ap elements_in f.ts_is)
+    where
+      rest_same : (s t : Shape) (ss ts : List Shape) → s ∷ ss ≡ t ∷ ts → ss ≡ ts
+      rest_same s t ss ts e = cc
+
+  iterate_wide :
+      (n : ℕ) (it : ArrayIterator) (f : Name) (statics : List Static) (m : ℕ)
+      (types : List Shape × List Shape) (args ts : List Shape) → 0 < m →
+      operator_shapes P here (Node_named f statics) ≡ Some types →
+      ((i : ℕ) → i < m → IsCalleeWide n f statics i) →
+      iterator_shapes it m types.0 types.1 args ≡ Some ts →
+      length (iterated (λ i x. H.columns (Child here.path n i) x) m it (outputs_of P here f))
+      ≡ elements_in ts
+  iterate_wide n it f statics m types args ts positive o w e =
+      let c = called P here f statics types o in
+      let p = placed P here f statics c.callee c.is in
+      let outputs = λ (i : ℕ) (x : Name). H.columns (Child here.path n i) x in
+      ap (λ ds. length (iterated outputs m it ds)) (outputs_are f (Some c.callee.node) p.node)
+      ∙ iterated_by c.callee outputs m positive it c.callee.node.outputs types.0 types.1 args ts
+      (λ i lt. outputs_at f statics c.callee p n i (w i lt)) c.outputs e
+
+  -- ## Iterated symbols
+
+  -- a symbol takes two of a scalar type and gives one
+  record Symbolic (types : List Shape × List Shape) : Type 0 where
+    shape : Shape
+    ins : types.0 ≡ shape ∷ (shape ∷ [])
+    outs : types.1 ≡ shape ∷ []
+    scalar : element_count shape ≡ 1
+
+  symbol_types :
+      (b : Bool) (types : List Shape × List Shape) →
+      (if b then Some (int ∷ int ∷ [], int ∷ []) else Some (truth ∷ truth ∷ [], truth ∷ []))
+      ≡ Some types → Symbolic types
+  symbol_types true types e =
+      let same = some_same _ _ e in
+      record {
+        shape = int;
+        ins = ap (λ (t : List Shape × List Shape). t.0) (sym same);
+        outs = ap (λ (t : List Shape × List Shape). t.1) (sym same);
+        scalar = refl;
+      }
+  symbol_types false types e =
+      let same = some_same _ _ e in
+      record {
+        shape = truth;
+        ins = ap (λ (t : List Shape × List Shape). t.0) (sym same);
+        outs = ap (λ (t : List Shape × List Shape). t.1) (sym same);
+        scalar = refl;
+      }
+
+  -- two operands of equal width, element by element
+  zipped :
+      (op : BinaryOperator) (n : ℕ) (xsss : List (List Stream)) →
+      map length xsss ≡ n ∷ (n ∷ []) → length (symbols Map op xsss) ≡ n
+  zipped op n [] e = cc
+  zipped op n (xs ∷ []) e = cc
+  zipped op n (xs ∷ (ys ∷ [])) e =
+      length-zips _ n xs ys (same_first _ _ _ _ e) (same_first _ _ _ _ (same_rest _ _ _ _ e))
+  zipped op n (xs ∷ (ys ∷ (zs ∷ xsss))) e = cc
+
+  -- an initial value and one operand
+  folded :
+      (op : BinaryOperator) (n : ℕ) (xsss : List (List Stream)) →
+      map length xsss ≡ 1 ∷ (n ∷ []) → length (symbols Red op xsss) ≡ 1
+  folded op n [] e = cc
+  folded op n ([] ∷ xsss) e = cc
+  folded op n ((x ∷ []) ∷ []) e = cc
+  folded op n ((x ∷ []) ∷ (ys ∷ [])) e = refl
+  folded op n ((x ∷ []) ∷ (ys ∷ (zs ∷ xsss))) e = cc
+  folded op n ((x ∷ (y ∷ xs)) ∷ xsss) e = absurd (omega (arith, same_first _ _ _ _ e))
+
+  symbol_wide :
+      (op : BinaryOperator) (n : ℕ) (k : Shape) → element_count k ≡ 1 → (it : ArrayIterator)
+      (args ts : List Shape) (xsss : List (List Stream)) →
+      map length xsss ≡ map element_count args →
+      iterator_shapes it n (k ∷ (k ∷ [])) (k ∷ []) args ≡ Some ts →
+      length (symbols it op xsss) ≡ elements_in ts
+  symbol_wide op n k scalar Map args ts xsss h e =
+      let w = bound (all_some (map (array_of n) (k ∷ (k ∷ [])))) _ ts e in
+      let b = bound (where_true (are_shapes w.value args) (k ∷ [])) _ ts w.gives in
+      let t = truly (are_shapes w.value args) (k ∷ []) b.value b.is in
+      let first = each (array_of n k) (array_of n k ∷ []) w.value w.is in
+      let second = each (array_of n k) [] first.rest first.others in
+      let nothing : [] ≡ second.rest = some_same _ _ second.others in
+      let one : element_count first.first ≡ n =
+      omega (arith, array_count n k first.first first.is, ap (λ c. n * c) scalar) in
+      let two : element_count second.first ≡ n =
+      omega (arith, array_count n k second.first second.is, ap (λ c. n * c) scalar) in
+      let counts : map element_count w.value ≡ n ∷ (n ∷ []) =
+      ap (map element_count) (first.all ∙ ap (λ us. first.first ∷ us)
+      (second.all ∙ ap (λ us. second.first ∷ us) (sym nothing)))
+      ∙ ap₂ (λ a c. a ∷ (c ∷ [])) one two in
+      zipped op n xsss (h ∙ sym (are_counts w.value args t.holds) ∙ counts)
+      ∙ omega (
+        arith,
+        map_of n (k ∷ (k ∷ [])) (k ∷ []) args ts e,
+        scalar,
+        ap (λ c. n * c) scalar,
+      )
+  symbol_wide op n k scalar Fill args ts xsss h e = cc
+  symbol_wide op n k scalar Red [] ts xsss h e = cc
+  symbol_wide op n k scalar Red (i ∷ args) ts xsss h e =
+      let w = bound (all_some (map (array_of n) (k ∷ []))) _ ts e in
+      let both = is_shape k i && are_shapes w.value args in
+      let t = truly (is_shape k k && both) (k ∷ []) ts w.gives in
+      let inner = and_second (is_shape k k) (is_shape k i && are_shapes w.value args) t.holds in
+      let first = each (array_of n k) [] w.value w.is in
+      let nothing : [] ≡ first.rest = some_same _ _ first.others in
+      let initial : element_count i ≡ 1 =
+      sym (same_count k i (and_first (is_shape k i) (are_shapes w.value args) inner)) ∙ scalar in
+      let counts : map element_count args ≡ element_count first.first ∷ [] =
+      sym (are_counts w.value args (and_second (is_shape k i) (are_shapes w.value args) inner))
+      ∙ ap (map element_count) (first.all ∙ ap (λ us. first.first ∷ us) (sym nothing)) in
+      folded op (element_count first.first) xsss (h ∙ ap₂ (λ a rest. a ∷ rest) initial counts)
+      ∙ sym (sym (ap elements_in t.same) ∙ omega (arith, scalar))
+
+  -- ## Expressions
+
+  slice_numbers :
+      (xs : List Stream) (p q i c j d : ℕ) → p ≡ q → i ≡ c → j ≡ d →
+      length (take (p * (suc j - i)) (drop (p * i) xs))
+      ≡ length (take (q * (suc d - c)) (drop (q * c) xs))
+  slice_numbers xs p q i c j d e g h = cc
+
+  -- an element of an array, and a part of one
+  index_wide :
+      (a : Expr) (s : Static) (ts : List Shape) (c : ℕ) (xs : List Stream) →
+      static_count P here s ≡ Some c → (i : One (shapes P here a) (index_shape c) ts) →
+      length xs ≡ element_count i.shape →
+      length (take (part_count P here a) (drop (part_count P here a * number P here s) xs))
+      ≡ elements_in ts
+  index_wide a s ts c xs is_c i e =
+      let x = indexed c i.shape i.result i.gives in
+      let q = element_count i.result in
+      let all = e ∙ sizes_product i.shape (x.count ∷ i.result.sizes) x.sizes in
+      just_one _ i.result ts
+      (ap₂ (λ p j. length (take p (drop (p * j) xs)))
+      (part_is a i.shape x.count i.result.sizes i.is x.sizes) (number_is s c is_c)
+      ∙ length-index q c x.count xs all x.within) i.all
+
+  slice_wide :
+      (a : Expr) (s t : Static) (ts : List Shape) (c d : ℕ) (xs : List Stream) →
+      static_count P here s ≡ Some c → static_count P here t ≡ Some d →
+      (i : One (shapes P here a) (slice_shape c d) ts) → length xs ≡ element_count i.shape →
+      length
+      (take (part_count P here a * (suc (number P here t) - number P here s))
+      (drop (part_count P here a * number P here s) xs))
+      ≡ elements_in ts
+  slice_wide a s t ts c d xs is_c is_d i e =
+      let x = sliced c d i.shape i.result i.gives in
+      let q = element_count x.element in
+      let all = e ∙ sizes_product i.shape (x.count ∷ x.element.sizes) x.sizes in
+      let fits : c + (suc d - c) ≤ x.count = omega (arith, x.ordered, x.within) in
+      just_one _ i.result ts
+      (slice_numbers xs _ q _ c _ d (part_is a i.shape x.count x.element.sizes i.is x.sizes)
+      (number_is s c is_c) (number_is t d is_d)
+      ∙ length-part q c (suc d - c) x.count xs all fits
+      ∙ omega arith ∙ sym x.result) i.all
+
+  -- the types of some operands, and of the first one
+  pub record FirstOfAll (e : Expr) (es : Exprs) (ts : List Shape) : Type 0 where
+    pub first : Shape
+    pub rest : List Shape
+    pub is : shapes P here e ≡ Some (first ∷ [])
+    pub others : all_shapes P here es ≡ Some rest
+    pub all : ts ≡ first ∷ rest
+
+  pub first_of_all :
+      (e : Expr) (es : Exprs) (ts : List Shape) → all_shapes P here (Cons e es) ≡ Some ts →
+      FirstOfAll e es ts
+  first_of_all e es ts h =
+      let b = bound (shapes P here e >>= only) _ ts h in
+      let a = bound (shapes P here e) only b.value b.is in
+      let r = bound (all_shapes P here es) _ ts b.gives in
+      record {
+        first = b.value;
+        rest = r.value;
+        is = a.is ∙ ap Some (single a.value b.value a.gives);
+        others = r.is;
+        all = sym (some_same _ _ r.gives);
+      }
+
+  module _ (variables_wide : AreVariablesWide here) where
+    mutual
+      pub wide :
+          (k : Clock) (n : ℕ) (e : Expr) (ts : List Shape) → shapes P here e ≡ Some ts →
+          AllWide (occurrences P here.node k n e) →
+          length (streams P H here k n e) ≡ elements_in ts
+      wide k n (Literal m) ts e w = ap elements_in (some_same _ _ e)
+      wide k n (Truth b) ts e w = ap elements_in (some_same _ _ e)
+      wide k n (Variable x) ts e w =
+          names_wide variables_wide k x _
+          (found_in _ (λ d. bytes_eq d.name x) (variables here.node) variables_wide) ts e
+      wide k n (Group a) ts e w = wide k n a ts e w
+      wide k n (Unary op a) ts e w =
+          let i = one (shapes P here a) (unary_shape op) ts e in
+          just_one _ i.result ts
+          (length-map (streams P H here k n a) _
+          ∙ only_one _ i.shape (wide k n a (i.shape ∷ []) i.is w.1)
+          ∙ unary_count op i.shape i.result i.gives) i.all
+      wide k n (Binary op a b) ts e w =
+          let m = n + call_count a in
+          let i = two (shapes P here a) (shapes P here b) (binary_shape op) ts e in
+          let oa = occurrences P here.node k n a in let ob = occurrences P here.node k m b in
+          let s = binary_count op i.first i.second i.result i.gives in
+          just_one _ i.result ts
+          (length-zips _ 1 (streams P H here k n a) (streams P H here k m b)
+          (only_one _ i.first (wide k n a _ i.is_first (fore oa ob w.1)) ∙ s.first)
+          (only_one _ i.second (wide k m b _ i.is_second (aft oa ob w.1)) ∙ s.second)
+          ∙ sym s.result) i.all
+      wide k n (If c a b) ts e w =
+          let na = n + call_count c in let nb = na + call_count a in
+          let oc = occurrences P here.node k n c in
+          let oa = occurrences P here.node k na a in
+          let ob = occurrences P here.node k nb b in
+          let branches = aft oc (oa ++ ob) w.1 in
+          let t = bound (from_truths (from_one (shapes P here c) Some)) _ ts e in
+          let truths = from_true (from_one (shapes P here c) Some) t.value t.is in
+          let z = one (shapes P here c) Some truths.shapes truths.is in
+          let i = two (shapes P here a) (shapes P here b) same_shape ts t.gives in
+          let same = alike i.first i.second i.result i.gives in
+          let condition : is_shape truth z.shape ≡ true =
+          and_first (is_shape truth z.shape) true
+          (ap (λ us. list_all (is_shape truth) us)
+          (sym (z.all ∙ ap (λ u. u ∷ []) (sym (some_same _ _ z.gives)))) ∙ truths.truths) in
+          just_one _ i.result ts
+          (length-choices (streams P H here k n c) (streams P H here k na a)
+          (streams P H here k nb b) (element_count i.result)
+          (only_one _ z.shape (wide k n c _ z.is (fore oc (oa ++ ob) w.1))
+          ∙ truth_is z.shape condition)
+          (only_one _ i.first (wide k na a _ i.is_first (fore oa ob branches)) ∙ same.first)
+          (only_one _ i.second (wide k nb b _ i.is_second (aft oa ob branches))
+          ∙ same.second)) i.all
+      wide k n (Arrow a b) ts e w =
+          let m = n + call_count a in
+          let i = two (shapes P here a) (shapes P here b) same_shape ts e in
+          let oa = occurrences P here.node k n a in let ob = occurrences P here.node k m b in
+          let same = alike i.first i.second i.result i.gives in
+          just_one _ i.result ts
+          (length-zips _ (element_count i.result) (streams P H here k n a) (streams P H here k m b)
+          (only_one _ i.first (wide k n a _ i.is_first (fore oa ob w.1)) ∙ same.first)
+          (only_one _ i.second (wide k m b _ i.is_second (aft oa ob w.1)) ∙ same.second)) i.all
+      wide k n (Fby a b) ts e w =
+          let m = n + call_count a in
+          let i = two (shapes P here a) (shapes P here b) same_shape ts e in
+          let oa = occurrences P here.node k n a in let ob = occurrences P here.node k m b in
+          let same = alike i.first i.second i.result i.gives in
+          just_one _ i.result ts
+          (length-zips _ (element_count i.result) (streams P H here k n a) _
+          (only_one _ i.first (wide k n a _ i.is_first (fore oa ob w.1)) ∙ same.first)
+          (length-map (streams P H here k m b) _
+          ∙ only_one _ i.second (wide k m b _ i.is_second (aft oa ob w.1))
+          ∙ same.second)) i.all
+      wide k n (Pre a) ts e w =
+          let i = one (shapes P here a) Some ts e in
+          just_one _ i.result ts
+          (length-map (streams P H here k n a) _
+          ∙ only_one _ i.shape (wide k n a (i.shape ∷ []) i.is w.1)
+          ∙ ap element_count (some_same _ _ i.gives)) i.all
+      wide k n (When a x sign) ts e w =
+          let t = bound (from_truths (singly (name_shape P here x))) _ ts e in
+          let i = one (shapes P here a) Some ts t.gives in
+          just_one _ i.result ts
+          (length-map (streams P H here (declared_clock here.node x) n a) _
+          ∙ only_one _ i.shape (wide (declared_clock here.node x) n a (i.shape ∷ []) i.is w.1)
+          ∙ ap element_count (some_same _ _ i.gives)) i.all
+      wide k n (Current a) ts e w =
+          let own = clock_or (clock_of P here.node a) in
+          let i = one (shapes P here a) Some ts e in
+          just_one _ i.result ts
+          (length-map (streams P H here own n a) _
+          ∙ only_one _ i.shape (wide own n a (i.shape ∷ []) i.is w.1)
+          ∙ ap element_count (some_same _ _ i.gives)) i.all
+      wide k n (Copies a m) ts e w =
+          let c = bound (static_count P here m) _ ts e in
+          let i = one (shapes P here a) (array_of c.value) ts c.gives in
+          just_one _ i.result ts
+          (length-copies (number P here m) (streams P H here k n a)
+          ∙ ap₂ (λ p q. p * q) (number_is m c.value c.is)
+          (only_one _ i.shape (wide k n a (i.shape ∷ []) i.is w.1))
+          ∙ sym (array_count c.value i.shape i.result i.gives)) i.all
+      wide k n (Index a s) ts e w =
+          let c = bound (static_count P here s) _ ts e in
+          let i = one (shapes P here a) (index_shape c.value) ts c.gives in
+          index_wide a s ts c.value (streams P H here k n a) c.is i
+          (only_one _ i.shape (wide k n a (i.shape ∷ []) i.is w.1))
+      wide k n (Slice a s t) ts e w =
+          let c = bound (static_count P here s) _ ts e in
+          let d = bound (static_count P here t) _ ts c.gives in
+          let i = one (shapes P here a) (slice_shape c.value d.value) ts d.gives in
+          slice_wide a s t ts c.value d.value (streams P H here k n a) c.is d.is i
+          (only_one _ i.shape (wide k n a (i.shape ∷ []) i.is w.1))
+      wide k n (Join a b) ts e w =
+          let m = n + call_count a in
+          let i = two (shapes P here a) (shapes P here b) join_shape ts e in
+          let oa = occurrences P here.node k n a in let ob = occurrences P here.node k m b in
+          just_one _ i.result ts
+          (length-append (streams P H here k n a) (streams P H here k m b)
+          ∙ ap₂ (λ p q. p + q)
+          (only_one _ i.first (wide k n a _ i.is_first (fore oa ob w.1)))
+          (only_one _ i.second (wide k m b _ i.is_second (aft oa ob w.1)))
+          ∙ joined_count i.first i.second i.result i.gives) i.all
+      wide k n (Array es) ts e w =
+          let b = bound (all_shapes P here es) _ ts e in
+          let a = alone (list_shape b.value) ts b.gives in
+          just_one _ a.shape ts
+          (joined_wide (all_streams P H here k n es) b.value
+          (all_wide k n es b.value b.is w.1)
+          ∙ list_count b.value a.shape a.is) a.all
+      wide k n (AtMostOne es) ts e w =
+          let t = from_true (all_shapes P here es) ts e in sym (ap elements_in t.all)
+      wide k n (Nor es) ts e w =
+          let t = from_true (all_shapes P here es) ts e in sym (ap elements_in t.all)
+      wide k n (Call f statics es) ts e w =
+          let o = bound (operator_shapes P here (Node_named f statics)) _ ts e in
+          let a = bound (all_shapes P here es) _ ts o.gives in
+          let t = truly (are_shapes o.value.0 a.value) o.value.1 ts a.gives in
+          call_wide n f statics o.value o.is w.0 ∙ ap elements_in t.same
+      wide k n (Iterate it (Node_named f statics) m es) ts e w =
+          let c = bound (static_count P here m) _ ts e in
+          let o = bound (operator_shapes P here (Node_named f statics)) _ ts c.gives in
+          let a = bound (all_shapes P here es) _ ts o.gives in
+          let same = number_is m c.value c.is in
+          iterate_wide n it f statics (number P here m) o.value a.value ts w.0.0 o.is w.0.1
+          (ap (λ count. iterator_shapes it count o.value.0 o.value.1 a.value) same ∙ a.gives)
+      wide k n (Iterate it (Symbol op) m es) ts e w =
+          let c = bound (static_count P here m) _ ts e in
+          let o = bound (operator_shapes P here (Symbol op)) _ ts c.gives in
+          let a = bound (all_shapes P here es) _ ts o.gives in
+          let s = symbol_types (is_arithmetic op) o.value o.is in
+          symbol_wide op c.value s.shape s.scalar it a.value ts (all_streams P H here k n es)
+          (all_wide k n es a.value a.is w.1)
+          (ap₂ (λ ins outs. iterator_shapes it c.value ins outs a.value) (sym s.ins) (sym s.outs)
+          ∙ a.gives)
+
+      pub all_wide :
+          (k : Clock) (n : ℕ) (es : Exprs) (ts : List Shape) → all_shapes P here es ≡ Some ts →
+          AllWide (occurrences_in P here.node k n es) →
+          map length (all_streams P H here k n es) ≡ map element_count ts
+      all_wide k n Nil ts e w = ap (map element_count) (some_same _ _ e)
+      all_wide k n (Cons e es) ts h w =
+          let m = n + call_count e in
+          let oa = occurrences P here.node k n e in
+          let ob = occurrences_in P here.node k m es in
+          let i = first_of_all e es ts h in
+          ap₂ (λ x xs. x ∷ xs)
+          (only_one _ i.first (wide k n e (i.first ∷ []) i.is (fore oa ob w)))
+          (all_wide k m es i.rest i.others (aft oa ob w))
+          ∙ sym (ap (map element_count) i.all)

@@ -1,0 +1,53 @@
+-- What the scalars, clocks and equations of the code stand for.
+use Rattle.std.specs.Prelude.{ℕ, zero, suc, Option, Some, None, option_map, List, length, slice_get}
+use Rattle.lb_check.specs.Scalars as scalars
+use Rattle.lb_flat.specs.declared.scalar.Scalar.{Scalar}
+use Rattle.lb_flat.specs.declared.scalar.Scalar.TheVariants.{Integer, Boolean, Bad}
+use Rattle.lb_flat.specs.declared.equation.TickId.{TickId}
+use Rattle.lb_flat.specs.declared.equation.Tick.{Tick}
+use Rattle.lb_flat.specs.declared.equation.Operation.{Operation}
+use Rattle.lb_flat.specs.declared.equation.Operation.TheVariants.{Input, Constant, Copy, ApplyUnary, ApplyBinary, Choose, FirstThen, Previous, Latest, Sample}
+use Rattle.lb_flat.specs.declared.equation.Equation.{Equation}
+use Rattle.lb_flat.specs.Flat as flat
+
+abbrev pub scalar_of : Scalar → scalars.Scalar
+scalar_of (Integer z) = scalars.Integer z
+scalar_of (Boolean b) = scalars.Boolean b
+scalar_of Bad = scalars.Bad
+
+abbrev pub cell_of : Option Scalar → scalars.Cell
+cell_of x = option_map scalar_of x
+
+-- the clock at a place of a table, at most n clocks deep
+abbrev pub clock_from : (Option TickId → flat.FlatClock) → Option Tick → flat.FlatClock
+clock_from above None = flat.Always
+clock_from above (Some t) = flat.Where (above t.parent) t.element.0 t.sign
+
+abbrev pub clock_within : ℕ → List Tick → Option TickId → flat.FlatClock
+clock_within n ticks None = flat.Always
+clock_within zero ticks (Some i) = flat.Always
+clock_within (suc n) ticks (Some i) =
+    clock_from (clock_within n ticks) (slice_get ticks i.0)
+
+abbrev pub clock_of : List Tick → Option TickId → flat.FlatClock
+clock_of ticks k = clock_within (length ticks) ticks k
+
+abbrev pub operation_of : Operation → flat.Operation
+operation_of (Input j) = flat.Input j.0
+operation_of (Constant v) = flat.Constant (scalar_of v)
+operation_of (Copy a) = flat.Copy a.0
+operation_of (ApplyUnary op a) = flat.ApplyUnary op a.0
+operation_of (ApplyBinary op a b) = flat.ApplyBinary op a.0 b.0
+operation_of (Choose c a b) = flat.Choose c.0 a.0 b.0
+operation_of (FirstThen started a b) = flat.FirstThen started a.0 b.0
+operation_of (Previous v a) = flat.Previous (scalar_of v) a.0
+operation_of (Latest v a) = flat.Latest (scalar_of v) a.0
+operation_of (Sample a) = flat.Sample a.0
+
+-- an equation, under the table of its clocks
+abbrev pub equation_of : List Tick → Equation → flat.FlatEquation
+equation_of ticks q = record {
+  element = q.element.0;
+  clock = clock_of ticks q.clock;
+  operation = operation_of q.operation;
+}

@@ -1,0 +1,25 @@
+//! Flat programs.
+
+use crate::equation::{ElementId, Equation, Tick};
+
+/// A program expanded into equations on scalar elements.
+///
+/// The first elements are those of variables, instance by instance; the others hold what stands
+/// inside expressions.
+#[derive(Drop)]
+pub struct FlatProgram {
+    /// One equation for each element.
+    pub equations: Vec<Equation>,
+    /// The clocks that equations are on.
+    pub ticks: Vec<Tick>,
+    /// How many elements there are.
+    pub size: u32,
+    /// How many of them are elements of variables.
+    pub variables: u32,
+    /// The elements that hold operands of `pre`, `fby` and `current`.
+    pub kept: Vec<ElementId>,
+    /// The elements that hold assertions.
+    pub asserted: Vec<ElementId>,
+    /// The element that holds the property.
+    pub property: ElementId,
+}
