@@ -1,1 +1,3 @@
 pub mod Cases
+pub mod Reports
+pub mod Refusals

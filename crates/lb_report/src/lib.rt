@@ -2,3 +2,8 @@
 #![tactic(auto)]
 
 pub mod case;
+pub mod error;
+pub mod feed;
+pub mod options;
+pub mod refusal;
+pub mod text;

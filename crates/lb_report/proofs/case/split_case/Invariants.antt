@@ -4,5 +4,6 @@ use Rattle.lb_report.proofs.case.split_case.Given as goal
 
 abbrev pub invariant-loop-i : goal.invariant-loop-i
 invariant-loop-i l =
-    (take l.i l.text ++ (spec.parts_from l.at_start (drop l.i l.text)).source ≡ (spec.parts_of l.text).source)
-    × ((spec.parts_from l.at_start (drop l.i l.text)).traces ≡ (spec.parts_of l.text).traces)
+    let later = spec.parts_from l.at_start (drop l.i l.text) in
+    (take l.i l.text ++ later.source ≡ (spec.parts_of l.text).source)
+    × (later.traces ≡ (spec.parts_of l.text).traces)

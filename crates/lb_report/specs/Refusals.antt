@@ -1,0 +1,72 @@
+-- Refusals: their numbers, words and places.
+-- Source: this project's rule; the numbers and words are part of the product.
+use Rattle.std.specs.Prelude.{ℕ, Option, Some, None, List, [], ◌∷◌, codes, get_or}
+use Rattle.lb_syntax.specs.declared.error.SyntaxError.{SyntaxError}
+use Rattle.lb_syntax.specs.declared.error.SyntaxError.TheVariants as syntax
+use Rattle.lb_check.specs.declared.error.CheckError.{CheckError}
+use Rattle.lb_check.specs.declared.error.CheckError.TheVariants as check
+use Rattle.lb_trace.specs.Errors.{error_number}
+use Rattle.lb_report.specs.declared.error.BenchError.{BenchError}
+use Rattle.lb_report.specs.declared.error.BenchError.TheVariants as bench
+
+-- the words, E0 first
+abbrev pub words : List (List ℕ)
+words =
+    codes "memory"
+    ∷ codes "character"
+    ∷ codes "syntax"
+    ∷ codes "size"
+    ∷ codes "name"
+    ∷ codes "constant"
+    ∷ codes "range"
+    ∷ codes "recursion"
+    ∷ codes "root"
+    ∷ codes "type"
+    ∷ codes "clock"
+    ∷ codes "definition"
+    ∷ codes "large"
+    ∷ codes "cycle"
+    ∷ codes "header"
+    ∷ codes "record"
+    ∷ codes "cell"
+    ∷ codes "trace"
+    ∷ codes "limit"
+    ∷ codes "write"
+    ∷ codes "usage"
+    ∷ codes "read"
+    ∷ []
+
+-- the word of a number
+abbrev pub word_of : ℕ → List ℕ
+word_of number = get_or words number []
+
+abbrev pub syntax_number : SyntaxError → ℕ
+syntax_number syntax.Memory = 0
+syntax_number (syntax.Character line column) = 1
+syntax_number (syntax.Syntax line column) = 2
+syntax_number (syntax.Size line column) = 3
+
+abbrev pub check_number : CheckError → ℕ
+check_number check.Memory = 0
+check_number check.Type = 9
+check_number check.Definition = 11
+
+-- the number of a refusal
+abbrev pub number_of : BenchError → ℕ
+number_of bench.Memory = 0
+number_of (bench.Syntax e) = syntax_number e
+number_of (bench.Check e) = check_number e
+number_of (bench.Trace e) = error_number e
+
+abbrev pub syntax_position : SyntaxError → Option (ℕ × ℕ)
+syntax_position syntax.Memory = None
+syntax_position (syntax.Character line column) = Some (line, column)
+syntax_position (syntax.Syntax line column) = Some (line, column)
+syntax_position (syntax.Size line column) = Some (line, column)
+
+-- the line and the column of a refusal; E1, E2 and E3 alone have them
+abbrev pub position_of : BenchError → Option (ℕ × ℕ)
+position_of bench.Memory = None
+position_of (bench.Syntax e) = syntax_position e
+position_of (bench.Check e) = None
+position_of (bench.Trace e) = None

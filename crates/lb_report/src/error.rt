@@ -1,0 +1,161 @@
+//! Why there is no report.
+
+ghost use Rattle.std.specs.Prelude.{◌≡◌, ◌<◌};
+ghost use Rattle.lb_report.specs.Refusals as spec;
+
+use crate::refusal::word;
+use lb_check::error::CheckError;
+use lb_syntax::error::SyntaxError;
+use lb_trace::error::TraceError;
+use std::alloc::AllocError;
+use thiserror::Error;
+
+/// The number of a refusal of the text of the source.
+fn syntax_number(cause: &SyntaxError) -> u8
+    ensures { result ≡ spec.syntax_number cause.now }
+{
+    match cause {
+        SyntaxError::Memory => 0,
+        SyntaxError::Character { .. } => 1,
+        SyntaxError::Syntax { .. } => 2,
+        SyntaxError::Size { .. } => 3,
+    }
+}
+
+/// The number of a refusal by a rule of types, clocks or definitions.
+fn check_number(cause: &CheckError) -> u8
+    ensures { result ≡ spec.check_number cause.now }
+{
+    match cause {
+        CheckError::Memory => 0,
+        CheckError::Type => 9,
+        CheckError::Definition => 11,
+    }
+}
+
+/// Why there is no report: what the part that refused says.
+#[derive(Debug, Drop, Error)]
+pub enum BenchError {
+    /// E0: memory ran out outside the parts below.
+    #[error("out of memory")]
+    Memory,
+    /// E0 to E3: the text of the source.
+    #[error(transparent)]
+    Syntax(SyntaxError),
+    /// E0 and E9 to E11: types, clocks and definitions.
+    #[error(transparent)]
+    Check(CheckError),
+    /// E0 and E14 to E18: the text of the traces.
+    #[error(transparent)]
+    Trace(TraceError),
+}
+
+impl From<AllocError> for BenchError {
+    ghost use Rattle.lb_report.specs.declared.error.BenchError.TheVariants.{Memory};
+
+    ghost from_gives = { λ _ e. e ≡ Memory };
+
+    fn from(_e: AllocError) -> BenchError {
+        BenchError::Memory
+    }
+}
+
+impl From<SyntaxError> for BenchError {
+    ghost use Rattle.lb_report.specs.declared.error.BenchError.TheVariants.{Syntax};
+
+    ghost from_gives = { λ cause e. e ≡ Syntax cause };
+
+    fn from(cause: SyntaxError) -> BenchError {
+        BenchError::Syntax(cause)
+    }
+}
+
+impl From<CheckError> for BenchError {
+    ghost use Rattle.lb_report.specs.declared.error.BenchError.TheVariants.{Check};
+
+    ghost from_gives = { λ cause e. e ≡ Check cause };
+
+    fn from(cause: CheckError) -> BenchError {
+        BenchError::Check(cause)
+    }
+}
+
+impl From<TraceError> for BenchError {
+    ghost use Rattle.lb_report.specs.declared.error.BenchError.TheVariants.{Trace};
+
+    ghost from_gives = { λ cause e. e ≡ Trace cause };
+
+    fn from(cause: TraceError) -> BenchError {
+        BenchError::Trace(cause)
+    }
+}
+
+impl BenchError {
+    /// The number of the refusal, as 4 of E4.
+    pub fn number(&self) -> u8
+        ensures value { result ≡ spec.number_of self.now }
+        ensures within { result < 22 }
+    {
+        match self {
+            BenchError::Memory => 0,
+            BenchError::Syntax(cause) => syntax_number(cause),
+            BenchError::Check(cause) => check_number(cause),
+            BenchError::Trace(cause) => cause.number(),
+        }
+    }
+
+    /// The word of the refusal.
+    pub fn word(&self) -> &'static str
+        ensures { result.now ≡ spec.word_of (spec.number_of self.now) }
+    {
+        word(self.number())
+    }
+
+    /// The line and the column of E1, E2 and E3, in bytes and from 1.
+    pub fn position(&self) -> Option<(u32, u32)>
+        ensures { result ≡ spec.position_of self.now }
+    {
+        match self {
+            BenchError::Syntax(
+                SyntaxError::Character { line, column }
+                | SyntaxError::Syntax { line, column }
+                | SyntaxError::Size { line, column },
+            ) => Some((*line, *column)),
+            _ => None,
+        }
+    }
+}
+
+#[cfg(test)]
+mod tests {
+    use super::*;
+
+    #[test]
+    fn numbers_words_and_places(rt: HostRuntime) {
+        let place = SyntaxError::Syntax {
+            line: 3,
+            column: 14,
+        };
+        for (error, number, word, position) in [
+            (BenchError::Memory, 0, "memory", None),
+            (BenchError::Syntax(SyntaxError::Memory), 0, "memory", None),
+            (BenchError::Syntax(place), 2, "syntax", Some((3, 14))),
+            (
+                BenchError::Check(CheckError::Definition),
+                11,
+                "definition",
+                None,
+            ),
+            (
+                BenchError::Trace(TraceError::Limit { record: None }),
+                18,
+                "limit",
+                None,
+            ),
+        ] {
+            assert_eq!(rt; error.number(), number);
+            assert_eq!(rt; error.word(), word);
+            assert_eq!(rt; error.position(), position);
+        }
+    }
+}

@@ -1,0 +1,228 @@
+//! Where inputs come from, and reading them to their end.
+
+ghost use Rattle.std.specs.Prelude.{◌≡◌, ℕ, List, Option, None, ◌⊎◌, ◌+◌, ◌<◌, ◌≤◌, length, take, drop, vec_len, IfOk, OnOk, OnErr, IfSome, IsErrOf};
+ghost use Rattle.std.specs.Io.KnownBytes.{Consumes, IsAtEnd};
+
+use std::alloc::{AllocError, Global};
+use std::io::{ErrorKind, Read};
+use thiserror::Error;
+
+/// A read failed. Nobody knows how much of the input is left.
+#[derive(Clone, Copy, Debug, PartialEq, Eq, Error)]
+#[error("the input could not be read")]
+pub struct FeedFailed;
+
+/// Where an input comes from.
+pub trait Feed {
+    /// The bytes still to come, where the feed tells them.
+    ghost coming: { Self → Option (List ℕ) } = { λ _. None };
+
+    /// How often it has failed.
+    ghost failures: { Self → ℕ };
+
+    /// Reads the next bytes into the front of the buffer, and answers how many they are. 0 into a
+    /// buffer that is not empty is the end.
+    fn read(&mut self, buffer: &mut [u8]) -> Result<usize, FeedFailed>
+        requires { failures self.old < u64.MAX }
+
+        // What `Ok` holds.
+        ensures within { IfOk result (λ n. n ≤ length buffer.new) }
+        ensures next { IfOk result (λ n.
+            Consumes (coming self.old) (coming self.new) (take n buffer.new)) }
+        ensures end { IfOk result (λ n.
+            n ≡ 0 → 0 < length buffer.new → IsAtEnd (coming self.new)) }
+        ensures ok { OnOk result (failures self.new ≡ failures self.old) }
+
+        // Each failure is counted.
+        ensures err { OnErr result (failures self.new ≡ failures self.old + 1) };
+
+    /// How often it has failed.
+    fn failures(&self) -> u64
+        ensures { result ≡ failures self.now };
+}
+
+/// One of std's readers, as a feed.
+#[derive(Drop)]
+pub struct Reader<R> {
+    reader: R,
+    failures: u64,
+}
+
+impl<R: Read> Reader<R> {
+    /// A feed that has not failed yet.
+    pub fn new(reader: R) -> Reader<R>
+        ensures coming { ⟦<Reader<R> as Feed>⟧.coming result ≡ R.remaining reader }
+        ensures failures { ⟦<Reader<R> as Feed>⟧.failures result ≡ 0 }
+    {
+        Reader {
+            reader,
+            failures: 0,
+        }
+    }
+}
+
+impl<R: Read> Feed for Reader<R> {
+    ghost coming = { λ feed. R.remaining feed.reader };
+
+    ghost failures = { λ feed. feed.failures };
+
+    fn read(&mut self, buffer: &mut [u8]) -> Result<usize, FeedFailed> {
+        for _ in 0..u64::MAX {
+            match self.reader.read(buffer) {
+                Ok(count) => return Ok(count),
+                // A signal came first: nothing was read.
+                Err(cause) if cause.kind() == ErrorKind::Interrupted => {}
+                Err(_) => break,
+            }
+        }
+        self.failures += 1;
+        Err(FeedFailed)
+    }
+
+    fn failures(&self) -> u64 {
+        self.failures
+    }
+}
+
+/// Why an input is refused.
+#[derive(Debug, Drop, Error)]
+pub enum LoadError {
+    /// E0: memory ran out.
+    #[error("out of memory")]
+    Memory,
+    /// E21: a read failed, or there are more than 1,100,000,000 bytes.
+    #[error("the input could not be read, or it is too long")]
+    Read,
+}
+
+impl From<AllocError> for LoadError {
+    ghost use Rattle.lb_report.specs.declared.feed.LoadError.TheVariants.{Memory};
+
+    ghost from_gives = { λ _ e. e ≡ Memory };
+
+    fn from(_e: AllocError) -> LoadError {
+        LoadError::Memory
+    }
+}
+
+impl From<FeedFailed> for LoadError {
+    ghost use Rattle.lb_report.specs.declared.feed.LoadError.TheVariants.{Read};
+
+    ghost from_gives = { λ _ e. e ≡ Read };
+
+    fn from(_e: FeedFailed) -> LoadError {
+        LoadError::Read
+    }
+}
+
+/// The most bytes that an input may have.
+pub const INPUT_LIMIT: usize = 1_100_000_000;
+
+/// How much room is made at a time.
+const PIECE: usize = 1 << 20;
+
+/// Reads once, behind the bytes that are there already, and answers how many bytes came. Behind
+/// them the list is room to read into.
+fn read_piece<F: Feed>(feed: &mut F, bytes: &mut Vec<u8>, filled: usize) -> Result<usize, LoadError>
+    requires filled { filled ≤ vec_len bytes.old }
+    requires limit { filled ≤ INPUT_LIMIT }
+    requires failures { F.failures feed.old < u64.MAX }
+
+    // What `Ok` holds.
+    ensures within { IfOk result (λ n. filled + n ≤ vec_len bytes.new) }
+    ensures front { OnOk result (take filled bytes.new.items ≡ take filled bytes.old.items) }
+    ensures next { IfOk result (λ n.
+        Consumes (F.coming feed.old) (F.coming feed.new) (take n (drop filled bytes.new.items))) }
+    ensures end { IfOk result (λ n. n ≡ 0 → IsAtEnd (F.coming feed.new)) }
+    ensures ok { OnOk result (F.failures feed.new ≡ F.failures feed.old) }
+
+    // The feed failed.
+    ensures read { IsErrOf result LoadError.Read → F.failures feed.old < F.failures feed.new }
+{
+    if filled == bytes.len() {
+        bytes.resize(filled + PIECE, 0)?;
+    }
+    let count = feed.read(&mut bytes[filled..])?;
+    Ok(count)
+}
+
+/// Reads an input to its end.
+pub fn load<F: Feed>(alloc: Global, feed: &mut F) -> Result<Vec<u8>, LoadError>
+    requires { F.failures feed.old < u64.MAX }
+
+    // What `Ok` holds: all bytes.
+    ensures all { IfOk result (λ bytes.
+        IfSome (F.coming feed.old) (λ coming. bytes.items ≡ coming)) }
+    ensures end { OnOk result (IsAtEnd (F.coming feed.new)) }
+    ensures limit { IfOk result (λ bytes. vec_len bytes ≤ INPUT_LIMIT) }
+    ensures ok { OnOk result (F.failures feed.new ≡ F.failures feed.old) }
+
+    // When a read is refused: the feed failed, or it had too many bytes.
+    ensures read { IsErrOf result LoadError.Read → IfSome (F.coming feed.old) (λ coming.
+        (F.failures feed.old < F.failures feed.new) ⊎ (INPUT_LIMIT < length coming)) }
+{
+    let mut bytes = Vec::new(alloc);
+    let mut filled = 0;
+    loop {
+        let count = read_piece(feed, &mut bytes, filled)?;
+        if count == 0 {
+            bytes.truncate(filled);
+            return Ok(bytes);
+        }
+        filled += count;
+        if filled > INPUT_LIMIT {
+            return Err(LoadError::Read);
+        }
+    }
+}
+
+#[cfg(test)]
+mod tests {
+    use super::*;
+    use std::test::Fail;
+
+    /// Gives a few bytes at a time, and fails once it has given so many.
+    #[derive(Drop)]
+    struct Failing {
+        given: usize,
+        fails_at: usize,
+    }
+
+    impl Read for Failing {
+        fn read(&mut self, buffer: &mut [u8]) -> std::io::Result<usize> {
+            let count = buffer
+                .len()
+                .min(3)
+                .min(self.fails_at.saturating_sub(self.given));
+            if count == 0 {
+                return Err(ErrorKind::TimedOut.into());
+            }
+            for byte in &mut buffer[..count] {
+                *byte = b'x';
+            }
+            self.given = self.given.saturating_add(count);
+            Ok(count)
+        }
+    }
+
+    #[test]
+    fn loads_all_bytes(rt: HostRuntime) -> Result<(), Fail> {
+        let alloc = rt.alloc();
+        for n in [0, 1, 1_048_576, 2_500_000] {
+            let text = vec![in alloc; b'x'; n]?;
+            let bytes = load(alloc, &mut Reader::new(text.as_slice()))?;
+            assert!(rt; bytes.as_slice() == text.as_slice(), "{n} bytes");
+        }
+        Ok(())
+    }
+
+    #[test]
+    fn refuses_a_feed_that_fails(rt: HostRuntime) {
+        for fails_at in [0, 1, 10, 1_500_000] {
+            let mut feed = Reader::new(Failing { given: 0, fails_at });
+            let loaded = load(rt.alloc(), &mut feed);
+            assert!(rt; matches!(loaded, Err(LoadError::Read)), "at {fails_at}");
+            assert_eq!(rt; feed.failures(), 1);
+        }
+    }
+}

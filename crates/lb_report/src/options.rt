@@ -1,0 +1,69 @@
+//! What a run is asked for.
+
+ghost use Rattle.std.specs.Prelude.{◌≡◌, ◌≤◌};
+
+/// What a run is asked for. It says nothing of what the report holds but which node is under test
+/// and which one observes: the rest is how the work is spread.
+#[derive(Debug, Drop)]
+pub struct Options {
+    /// The node under test.
+    pub node: String,
+    /// The node that judges it. Without one the node under test judges itself.
+    pub observer: Option<String>,
+    /// How many workers run the batches, 0 to 64. With 0 the batches are spread over the
+    /// processors.
+    pub workers: u32,
+    /// How many traces are in a batch at most, 1 to 64.
+    pub batch: u32,
+    /// Whether traces of like length share a batch.
+    pub by_length: bool,
+    pub ghost few_workers: { workers ≤ 64 },
+    pub ghost some_lanes: { 1 ≤ batch },
+    pub ghost few_lanes: { batch ≤ 64 },
+}
+
+impl Options {
+    /// Options with these parts.
+    pub fn new(
+        node: String,
+        observer: Option<String>,
+        workers: u32,
+        batch: u32,
+        by_length: bool,
+    ) -> Options
+        requires workers { workers ≤ 64 }
+        requires some_lanes { 1 ≤ batch }
+        requires few_lanes { batch ≤ 64 }
+        ensures node { result.node ≡ node }
+        ensures observer { result.observer ≡ observer }
+        ensures workers { result.workers ≡ workers }
+        ensures batch { result.batch ≡ batch }
+        ensures by_length { result.by_length ≡ by_length }
+    {
+        Options {
+            node,
+            observer,
+            workers,
+            batch,
+            by_length,
+        }
+    }
+}
+
+#[cfg(test)]
+mod tests {
+    use super::*;
+    use std::test::Fail;
+
+    #[test]
+    fn keeps_its_parts(rt: HostRuntime) -> Result<(), Fail> {
+        let node = String::from_str(rt.alloc(), "main")?;
+        let options = Options::new(node, None, 1, 64, true);
+        assert_eq!(rt; options.node.as_str(), "main");
+        assert!(rt; options.observer.is_none());
+        assert_eq!(rt; options.workers, 1);
+        assert_eq!(rt; options.batch, 64);
+        assert!(rt; options.by_length);
+        Ok(())
+    }
+}
