@@ -32,9 +32,11 @@ pub mod ScalarKinds
 pub mod Fitting
 pub mod Solving
 pub mod ShapeFacts
+pub mod OutputWidths
 pub mod Widths
 pub mod TypedBodies
 pub mod TypedParts
 pub mod PlacedCalls
 pub mod SoundInstances
 pub mod Expanding
+pub mod RootWidths

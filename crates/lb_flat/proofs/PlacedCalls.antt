@@ -17,7 +17,8 @@ use Rattle.lb_check.specs.Solutions.{accumulated, iterator_inputs}
 use Rattle.lb_flat.proofs.Lists.{Every-first}
 use Rattle.lb_flat.proofs.Placing.{AreAsWide}
 use Rattle.lb_flat.proofs.ShapeFacts.{bound, truly, are_counts, same_count, array_count, and_first, and_second, some_same}
-use Rattle.lb_flat.proofs.Widths.{each, width_of, called, Placed, placed, AreVariablesWide, IsCalleeWide, IsOccurrenceWide, length-index, number_is, same_first, same_rest, all_wide, outputs_at}
+use Rattle.lb_flat.proofs.OutputWidths.{each, width_of, length-index}
+use Rattle.lb_flat.proofs.Widths.{called, Placed, placed, AreVariablesWide, IsCalleeWide, IsOccurrenceWide, number_is, same_first, same_rest, all_wide, outputs_at}
 use Rattle.lb_flat.proofs.TypedBodies.{arguments_wide, inputs_as_wide}
 
 length-all :

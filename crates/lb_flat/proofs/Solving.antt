@@ -24,6 +24,7 @@ use Rattle.lb_flat.proofs.Adding.{columns, IsMet, AllMet, HasTruths}
 use Rattle.lb_flat.proofs.Placing.{Agrees, presence_flat}
 use Rattle.lb_flat.proofs.Bodies.{IsSolvedAt, IsLaidOut}
 use Rattle.lb_flat.proofs.Whole.{IsProgramSound, from_flat}
+use Rattle.lb_flat.proofs.OnClock.{ClockFits}
 use Rattle.lb_flat.proofs.ScalarKinds.{binary_kind}
 use Rattle.lb_flat.proofs.Fitting.{OperandKinds, KindFits, IsFitting, compared, solution_fits}
 
@@ -42,6 +43,15 @@ pub Every-ordered :
     (P : FlatEquation → Type 0) (Q Q' : List FlatEquation) →
     ((q : FlatEquation) → In q Q → In q Q') → Every P Q' → Every P Q
 Every-ordered P Q Q' there h = Every-of_in P Q (λ q i. Every-in P q Q' h (there q i))
+
+-- clocks and kinds that fit do so in every order
+pub fitting_ordered :
+    (inputs : List Kind) (K : ℕ → FlatClock) (N : ℕ → Kind) (Q Q' : List FlatEquation) →
+    IsOrderingOf Q Q' → IsFitting inputs K N Q → IsFitting inputs K N Q'
+fitting_ordered inputs K N Q Q' o fit = record {
+  clocks = Every-ordered (ClockFits (length inputs) K) Q' Q o.back fit.clocks;
+  kinds = Every-ordered (KindFits inputs N) Q' Q o.back fit.kinds;
+}
 
 -- ## Truth values
 

@@ -19,7 +19,8 @@ use Rattle.lb_flat.proofs.Lists.{Every-first, Every-second}
 use Rattle.lb_flat.proofs.Placing.{AreAsWide}
 use Rattle.lb_flat.proofs.Bodies.{IsWide, occurrences_of}
 use Rattle.lb_flat.proofs.ShapeFacts.{elements_in, bound, are_counts, and_first, and_second}
-use Rattle.lb_flat.proofs.Widths.{found_in, each, width_of, AreVariablesWide, IsOccurrenceWide, first_of_all, only_one, wide}
+use Rattle.lb_flat.proofs.OutputWidths.{found_in, each, width_of}
+use Rattle.lb_flat.proofs.Widths.{AreVariablesWide, IsOccurrenceWide, first_of_all, only_one, wide}
 
 -- ## Names
 

@@ -11,6 +11,7 @@ use Rattle.lb_flat.specs.Run.{Ready}
 use Rattle.lb_flat.specs.Values.{equation_of}
 use Rattle.lb_flat.specs.Within.{AreTicks, IsWithin}
 
+-- the numbers of some elements
 abbrev pub numbers_of : List ElementId → List ℕ
 numbers_of ids = map (λ a. a.0) ids
 
@@ -18,6 +19,7 @@ numbers_of ids = map (λ a. a.0) ids
 abbrev pub flat_equations : List Tick → List Equation → List FlatEquation
 flat_equations ticks qs = map (equation_of ticks) qs
 
+-- a flat program
 abbrev pub program_of : FlatProgram → judging.FlatProgram
 program_of p = record {
   equations = flat_equations p.ticks.items p.equations.items;
@@ -41,6 +43,7 @@ pub record IsInRange (p : FlatProgram) : Type 0 where
 abbrev pub AreInOrder : FlatProgram → List Equation → Type 0
 AreInOrder p qs = Ready p.size [] (flat_equations p.ticks.items qs)
 
+-- a program can be run
 pub record IsRunnable (p : FlatProgram) : Type 0 where
   pub in_range : IsInRange p
   pub in_order : AreInOrder p p.equations.items

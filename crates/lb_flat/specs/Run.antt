@@ -55,6 +55,7 @@ started_by true x = true
 started_by false None = false
 started_by false (Some v) = true
 
+-- an operation with what its memory holds then, and an equation with it
 abbrev pub remembered : Row → Operation → Operation
 remembered row (Input j) = Input j
 remembered row (Constant v) = Constant v
@@ -89,6 +90,7 @@ reads (Previous v a) = []
 reads (Latest v a) = a ∷ []
 reads (Sample a) = a ∷ []
 
+-- both together
 abbrev pub equation_reads : FlatEquation → List ℕ
 equation_reads q = reads q.operation ++ clock_reads q.clock
 
@@ -116,6 +118,7 @@ Ready size done (q ∷ qs) = IsNext size done q × Ready size (q.element ∷ don
 abbrev pub row_of : ℕ → List FlatEquation → List Scalar → Row
 row_of size Q given = filled given (replicate size None) Q
 
+-- the rows of all instants, each from the memories that the ones before it left
 abbrev pub run : ℕ → List FlatEquation → Inputs → List Row
 run size Q [] = []
 run size Q (given ∷ X) =

@@ -1,4 +1,5 @@
 -- What the scalars, clocks and equations of the code stand for.
+-- Source: this project's rule.
 use Rattle.std.specs.Prelude.{ℕ, zero, suc, Option, Some, None, option_map, List, length, slice_get}
 use Rattle.lb_check.specs.Scalars as scalars
 use Rattle.lb_flat.specs.declared.scalar.Scalar.{Scalar}
@@ -10,28 +11,33 @@ use Rattle.lb_flat.specs.declared.equation.Operation.TheVariants.{Input, Constan
 use Rattle.lb_flat.specs.declared.equation.Equation.{Equation}
 use Rattle.lb_flat.specs.Flat as flat
 
+-- a scalar
 abbrev pub scalar_of : Scalar → scalars.Scalar
 scalar_of (Integer z) = scalars.Integer z
 scalar_of (Boolean b) = scalars.Boolean b
 scalar_of Bad = scalars.Bad
 
+-- a cell
 abbrev pub cell_of : Option Scalar → scalars.Cell
 cell_of x = option_map scalar_of x
 
--- the clock at a place of a table, at most n clocks deep
+-- a clock of the table, where the clock above it is known
 abbrev pub clock_from : (Option TickId → flat.FlatClock) → Option Tick → flat.FlatClock
 clock_from above None = flat.Always
 clock_from above (Some t) = flat.Where (above t.parent) t.element.0 t.sign
 
+-- the clock at a place of a table, at most n clocks deep
 abbrev pub clock_within : ℕ → List Tick → Option TickId → flat.FlatClock
 clock_within n ticks None = flat.Always
 clock_within zero ticks (Some i) = flat.Always
 clock_within (suc n) ticks (Some i) =
     clock_from (clock_within n ticks) (slice_get ticks i.0)
 
+-- the clock at a place of a table; none is the base clock
 abbrev pub clock_of : List Tick → Option TickId → flat.FlatClock
 clock_of ticks k = clock_within (length ticks) ticks k
 
+-- an operation, with what its memory holds
 abbrev pub operation_of : Operation → flat.Operation
 operation_of (Input j) = flat.Input j.0
 operation_of (Constant v) = flat.Constant (scalar_of v)

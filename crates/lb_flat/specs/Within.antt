@@ -17,6 +17,7 @@ pub record IsTick (size : ℕ) (ticks : List Tick) (t : Tick) : Type 0 where
   pub element : t.element.0 < size
   pub parent : IsClock ticks t.parent
 
+-- each clock of a table
 abbrev pub AreTicks : ℕ → List Tick → Type 0
 AreTicks size ticks = All (IsTick size ticks) ticks
 
