@@ -19,7 +19,7 @@ use Rattle.lb_check.specs.TypeRules.{is_typed}
 use Rattle.lb_check.specs.ClockRules.{is_clocked}
 use Rattle.lb_check.specs.DefinitionRules.{defines_once, is_memoryless, is_defined}
 use Rattle.lb_check.specs.Acceptance.{check_refusal}
-use Rattle.lb_check.specs.TermKinds.{is_step_typed}
+use Rattle.lb_check.specs.TermKinds.{are_typed, kinds_of}
 use Rattle.lb_check.specs.TermDefinitions.{DefinesEach, steps_memory}
 use Rattle.lb_check.proofs.PlainClocks.{plain_clocked}
 use Rattle.lb_check.proofs.PlainNames.{distinct_names}
@@ -44,9 +44,6 @@ all_parts i o xs = ap (λ zs. take i xs ++ zs) (three_parts i o xs) ∙ take-app
 second_of : (a b c : Bool) → (a && (b && c)) ≡ true → b ≡ true
 second_of a b c e = and_first b c (and_second a (b && c) e)
 
-abbrev kinds_of : Elab → List Kind
-kinds_of el = map (λ v. v.kind) el.variables.items
-
 module _ (el : Elab) (P : Program) (e : IsElaborated P (node_in el)) where
   abbrev node : Node
   node = node_in el
@@ -65,7 +62,7 @@ module _ (el : Elab) (P : Program) (e : IsElaborated P (node_in el)) where
       subst (λ xs. are_distinct xs ≡ true) (ap (map (λ d. d.name)) vars_are ∙ names_map el.variables.items) (distinct_names P node e)
 
   -- the three rules at the one instance
-  typed : is_typed P (start_of node) ≡ list_all (is_step_typed (kinds_of el)) el.body.items
+  typed : is_typed P (start_of node) ≡ are_typed (kinds_of el.variables.items) el.body.items
   typed = node_typed P node e el.variables.items vars_are el.body.items refl el.steps_fit plain
 
   clocked : is_clocked P node ≡ true
@@ -96,7 +93,7 @@ module _ (el : Elab) (P : Program) (e : IsElaborated P (node_in el)) where
   abbrev answer : Bool → Bool → Option Refusal
   answer t d = or_else (unless t E9) (unless d E11)
 
-  pub answered : (t d : Bool) → list_all (is_step_typed (kinds_of el)) el.body.items ≡ t → is_defined P node ≡ d → check_refusal P ≡ answer t d
+  pub answered : (t d : Bool) → are_typed (kinds_of el.variables.items) el.body.items ≡ t → is_defined P node ≡ d → check_refusal P ≡ answer t d
   answered t d is_t is_d = verdict_of t true d (typed ∙ is_t) clocked is_d
 
   -- ## Definitions

@@ -56,3 +56,5 @@ counts_next k ss i d lt = ap (count_steps k) (drop_more ss i d lt)
 pub typed_next : (kinds : List Kind) (ss : List Step) (i : ℕ) (d : Step) → i < length ss
     → list_all (is_step_typed kinds) (drop i ss) ≡ is_step_typed kinds (get_or ss i d) && list_all (is_step_typed kinds) (drop (i + 1) ss)
 typed_next kinds ss i d lt = ap (list_all (is_step_typed kinds)) (drop_more ss i d lt)
+
+pub ruleset memory = (memory_at_most_one, memory_nor, memory_next)

@@ -2,9 +2,7 @@
 -- This file says what data of the program mean; no definition of the language stands on it.
 use Rattle.std.specs.Prelude.{◌≡◌, Some, None, Result, Ok, Err}
 use Rattle.lb_syntax.specs.Refusals.{E9, E11}
-use Rattle.lb_syntax.specs.Tree.{Node}
 use Rattle.lb_static.specs.Instances.{Program}
-use Rattle.lb_static.specs.Elaborated.{IsElaborated}
 use Rattle.lb_check.specs.declared.checked.Checked.{Checked}
 use Rattle.lb_check.specs.declared.error.CheckError.{CheckError}
 use Rattle.lb_check.specs.declared.error.CheckError.TheVariants as error
@@ -17,8 +15,3 @@ IsAnswer P (Ok c) = check_refusal P ≡ None
 IsAnswer P (Err error.Memory) = Unit {0}
 IsAnswer P (Err error.Type) = check_refusal P ≡ Some E9
 IsAnswer P (Err error.Definition) = check_refusal P ≡ Some E11
-
--- an elaborated program that breaks none of them
-pub record IsChecked (P : Program) (n : Node) : Type 0 where
-  pub elaborated : IsElaborated P n
-  pub rules : check_refusal P ≡ None

@@ -1,7 +1,8 @@
 -- Which variables of a node its statements define, and whether a term has memory, as the code finds
 -- them.
 -- This file mirrors code (src/definition.rt); no definition of the language stands on it.
-use Rattle.std.specs.Prelude.{◌≡◌, ℕ, ◌+◌, ◌<◌, Bool, true, false, ◌||◌, nat_lt, List, [], ◌∷◌, if◌then◌else◌, ◌==◌}
+use Rattle.std.specs.Prelude.{◌≡◌, ℕ, ◌+◌, ◌<◌, Bool, true, false, ◌||◌, nat_lt, List, [], ◌∷◌, if◌then◌else◌, ◌==◌, EachIndex, min, slice_index}
+use Rattle.std.specs.List.{list_any}
 use Rattle.lb_static.specs.declared.term.VariableId.{VariableId}
 use Rattle.lb_static.specs.declared.term.Step.{Step}
 use Rattle.lb_static.specs.declared.term.Step.TheVariants as step
@@ -20,6 +21,11 @@ count_step i (step.Assertion e) = 0
 abbrev pub count_steps : ℕ → List Step → ℕ
 count_steps i [] = 0
 count_steps i (s ∷ ss) = count_step i s + count_steps i ss
+
+-- counts of these numbers, in which 2 stands for any more
+abbrev pub AreCounts : List ℕ → (ℕ → ℕ) → Type 0
+AreCounts counts number =
+    EachIndex counts (λ i. min 2 (slice_index counts i) ≡ min 2 (number i))
 
 -- of so many variables each input stands nowhere on the left, and each other variable once
 abbrev pub DefinesEach : (inputs count : ℕ) → List Step → Type 0
@@ -47,13 +53,11 @@ unfoldable mutual
   row_memory (more_of-Term e rest) = has_memory e || row_memory rest
 
 abbrev pub any_memory : List Term → Bool
-any_memory [] = false
-any_memory (e ∷ es) = has_memory e || any_memory es
+any_memory = list_any has_memory
 
 abbrev pub step_memory : Step → Bool
 step_memory (step.Equation lefts e) = has_memory e
 step_memory (step.Assertion e) = has_memory e
 
 abbrev pub steps_memory : List Step → Bool
-steps_memory [] = false
-steps_memory (s ∷ ss) = step_memory s || steps_memory ss
+steps_memory = list_any step_memory

@@ -1,6 +1,7 @@
 -- The kind of a term, as the code finds it.
 -- This file mirrors code (src/kind.rt); no definition of the language stands on it.
-use Rattle.std.specs.Prelude.{Bool, true, false, ◌&&◌, Option, Some, List, [], ◌∷◌, slice_get, if◌then◌else◌}
+use Rattle.std.specs.Prelude.{Bool, true, false, ◌&&◌, Option, Some, List, [], ◌∷◌, map, slice_get, if◌then◌else◌}
+use Rattle.std.specs.List.{list_all}
 use Rattle.lb_syntax.specs.declared.tree.UnaryOperator.{UnaryOperator}
 use Rattle.lb_syntax.specs.declared.tree.UnaryOperator.TheVariants.{Not, Negate}
 use Rattle.lb_syntax.specs.declared.tree.BinaryOperator.{BinaryOperator}
@@ -9,10 +10,15 @@ use Rattle.lb_syntax.specs.declared.tree.Kind.TheVariants.{Int as Int_kind, Bool
 use Rattle.lb_syntax.specs.Lists.{◌>>=◌, where_true}
 use Rattle.lb_static.specs.Shapes.{is_kind}
 use Rattle.lb_static.specs.declared.term.Term.{Term, Literal, Truth, Variable, Group', Unary', Binary', If', Arrow', Fby', Pre', AtMostOne', Nor', Row_of-Term, end_of-Term, more_of-Term}
+use Rattle.lb_static.specs.declared.term.Variable.{Variable as Declared}
 use Rattle.lb_static.specs.declared.term.VariableId.{VariableId}
 use Rattle.lb_static.specs.declared.term.Step.{Step}
 use Rattle.lb_static.specs.declared.term.Step.TheVariants as step
 use Rattle.lb_check.specs.Types.{is_arithmetic, is_logical, is_equality}
+
+-- the kinds of some variables
+abbrev pub kinds_of : List Declared → List Kind
+kinds_of variables = map (λ v. v.kind) variables
 
 abbrev pub unary_kind : UnaryOperator → Kind → Option Kind
 unary_kind Not k = where_true (is_kind k Bool_kind) Bool_kind
@@ -59,8 +65,7 @@ unfoldable mutual
 
 -- whether each of a list is a truth
 abbrev pub all_truths : List Kind → List Term → Bool
-all_truths kinds [] = true
-all_truths kinds (e ∷ es) = is_bool (term_kind kinds e) && all_truths kinds es
+all_truths kinds = list_all (λ e. is_bool (term_kind kinds e))
 
 -- ## Statements
 
@@ -76,3 +81,7 @@ fits_left kinds xs o = false
 abbrev pub is_step_typed : List Kind → Step → Bool
 is_step_typed kinds (step.Equation lefts e) = fits_left kinds lefts.items (term_kind kinds e)
 is_step_typed kinds (step.Assertion e) = is_bool (term_kind kinds e)
+
+-- whether each of some statements keeps the rules of types
+abbrev pub are_typed : List Kind → List Step → Bool
+are_typed kinds = list_all (is_step_typed kinds)

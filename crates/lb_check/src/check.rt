@@ -1,12 +1,12 @@
 //! Types and definitions of a program (E9, E11), which as yet has one node on one clock.
 
-ghost use Rattle.std.specs.Prelude.{◌≡◌, true, length, map, IfOk};
+ghost use Rattle.std.specs.Prelude.{◌≡◌, true, length, IfOk};
 ghost use Rattle.std.specs.List.{list_all};
 ghost use Rattle.lb_static.specs.Elaborated.{IsElaborated, is_step_within};
 ghost use Rattle.lb_static.specs.Instances.{Program};
 ghost use Rattle.lb_static.specs.Nodes.{node_in};
 ghost use Rattle.lb_check.specs.Checked.{IsAnswer};
-ghost use Rattle.lb_check.specs.TermKinds.{is_step_typed as is_typed_step};
+ghost use Rattle.lb_check.specs.TermKinds as mirror;
 
 use crate::checked::Checked;
 use crate::definition::{defines_each, have_memory};
@@ -16,11 +16,11 @@ use lb_static::elab::Elab;
 use lb_static::term::{Step, Variable};
 use std::alloc::Global;
 
-#[tactic(auto, using(crate::proofs::Steps::within_next, crate::proofs::Steps::typed_next))]
 /// Whether each statement keeps the rules of types.
+#[tactic(auto, using(crate::proofs::Steps::within_next, crate::proofs::Steps::typed_next))]
 fn are_typed(variables: &[Variable], body: &[Step]) -> bool
     requires { list_all (is_step_within (length variables.now)) body.now ≡ true }
-    ensures { result ≡ list_all (is_typed_step (map (λ v. v.kind) variables.now)) body.now }
+    ensures { result ≡ mirror.are_typed (mirror.kinds_of variables.now) body.now }
 {
     for step in body {
         if !is_step_typed(variables, step) {

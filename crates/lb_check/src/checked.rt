@@ -1,9 +1,8 @@
 //! A checked program: what the layer above reads of it.
 
-ghost use Rattle.std.specs.Prelude.{◌≡◌, true, length, map};
-ghost use Rattle.std.specs.List.{list_all};
+ghost use Rattle.std.specs.Prelude.{◌≡◌, true, length};
 ghost use Rattle.lb_check.specs.TermDefinitions.{DefinesEach};
-ghost use Rattle.lb_check.specs.TermKinds.{is_step_typed};
+ghost use Rattle.lb_check.specs.TermKinds.{are_typed, kinds_of};
 
 use lb_static::elab::Elab;
 
@@ -11,6 +10,6 @@ use lb_static::elab::Elab;
 #[derive(Drop)]
 pub struct Checked {
     pub elab: Elab,
-    pub ghost is_typed: { list_all (is_step_typed (map (λ v. v.kind) elab.variables.items)) elab.body.items ≡ true },
+    pub ghost is_typed: { are_typed (kinds_of elab.variables.items) elab.body.items ≡ true },
     pub ghost is_defined: { DefinesEach elab.inputs (length elab.variables.items) elab.body.items },
 }

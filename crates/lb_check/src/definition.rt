@@ -1,6 +1,6 @@
 //! Definitions, and functions without memory (E11).
 
-ghost use Rattle.std.specs.Prelude.{◌≡◌, ◌+◌, ◌<◌, ◌≤◌, ◌↔◌, ℕ, true, min, length, slice_index, EachIndex, IsTrue, IfOk};
+ghost use Rattle.std.specs.Prelude.{◌≡◌, ◌+◌, ◌↔◌, true, length, slice_index, IsTrue, IfOk};
 ghost use Rattle.std.specs.List.{list_all};
 ghost use Rattle.lb_static.specs.Elaborated.{is_place, is_step_within};
 ghost use Rattle.lb_check.specs.TermDefinitions as mirror;
@@ -8,12 +8,12 @@ ghost use Rattle.lb_check.specs.TermDefinitions as mirror;
 use lb_static::term::{Step, Term, VariableId};
 use std::alloc::{AllocError, Global};
 
-#[tactic(auto, using(crate::proofs::Steps::places_next, crate::proofs::Steps::count_next))]
 /// Counts the places of some left variables: 0, 1, and 2 for any more.
+#[tactic(auto, using(crate::proofs::Steps::places_next, crate::proofs::Steps::count_next))]
 fn count(counts: &mut [u8], lefts: &[VariableId])
     requires { list_all (is_place (length counts.old)) lefts.now ≡ true }
-    ensures { EachIndex counts.new (λ i.
-        min 2 (slice_index counts.new i) ≡ min 2 (slice_index counts.old i + mirror.count_left i lefts.now)) }
+    ensures { mirror.AreCounts counts.new (λ i.
+        slice_index counts.old i + mirror.count_left i lefts.now) }
 {
     for x in lefts {
         let seen = counts[x.0 as usize];
@@ -24,7 +24,7 @@ fn count(counts: &mut [u8], lefts: &[VariableId])
 }
 
 /// Whether a term holds `->`, `fby` or `pre`.
-#[tactic(auto, unfolding(crate::specs::TermDefinitions::has_memory), using(crate::proofs::Steps::memory_at_most_one, crate::proofs::Steps::memory_nor, crate::proofs::Steps::memory_next))]
+#[tactic(auto, using(crate::proofs::Steps::memory), unfolding(crate::specs::TermDefinitions::has_memory))]
 pub fn has_memory(term: &Term) -> bool
     ensures { result ≡ mirror.has_memory term.now }
 {
@@ -45,8 +45,8 @@ pub fn has_memory(term: &Term) -> bool
     }
 }
 
-#[tactic(auto, using(crate::proofs::Steps::steps_next))]
 /// Whether some statement holds `->`, `fby` or `pre`.
+#[tactic(auto, using(crate::proofs::Steps::steps_next))]
 pub fn have_memory(body: &[Step]) -> bool
     ensures { result ≡ mirror.steps_memory body.now }
 {
@@ -64,8 +64,8 @@ pub fn have_memory(body: &[Step]) -> bool
 fn left_counts(alloc: Global, variables: usize, body: &[Step]) -> Result<Vec<u8>, AllocError>
     requires { list_all (is_step_within variables) body.now ≡ true }
     ensures length_kept { IfOk result (λ counts. length counts.items ≡ variables) }
-    ensures counted { IfOk result (λ counts. EachIndex counts.items (λ i.
-        min 2 (slice_index counts.items i) ≡ min 2 (mirror.count_steps i body.now))) }
+    ensures counted { IfOk result (λ counts.
+        mirror.AreCounts counts.items (λ i. mirror.count_steps i body.now)) }
 {
     let mut counts = vec![in alloc; 0u8; variables]?;
     for step in body {

@@ -1,6 +1,6 @@
 //! The kinds of terms (E9).
 
-ghost use Rattle.std.specs.Prelude.{◌≡◌, ◌&&◌, true, length, map};
+ghost use Rattle.std.specs.Prelude.{◌≡◌, ◌&&◌, true, length};
 ghost use Rattle.lb_syntax.specs.Lists.{where_true};
 ghost use Rattle.lb_static.specs.Shapes.{is_kind};
 ghost use Rattle.lb_static.specs.Elaborated.{is_within, is_step_within};
@@ -54,17 +54,18 @@ fn binary_kind(op: BinaryOperator, first: Kind, second: Kind) -> Option<Kind>
     }
 }
 
+/// The kind of both operands, where they have one.
 fn same_kind(first: Kind, second: Kind) -> Option<Kind>
     ensures { result ≡ mirror.same_kind first second }
 {
-    if first == second { Some(second) } else { None }
+    given_where(first == second, second)
 }
 
 /// The kind of a term, or none where a rule of types is broken.
-#[tactic(auto, unfolding(crate::specs::TermKinds::term_kind), using(crate::proofs::Rows::within_at_most_one, crate::proofs::Rows::within_nor, crate::proofs::Rows::kind_at_most_one, crate::proofs::Rows::kind_nor, crate::proofs::Rows::within_next, crate::proofs::Rows::truths_next))]
+#[tactic(auto, unfolding(crate::specs::TermKinds::term_kind), using(crate::proofs::Rows::rows))]
 pub fn kind(variables: &[Variable], term: &Term) -> Option<Kind>
     requires { is_within (length variables.now) term.now ≡ true }
-    ensures { result ≡ mirror.term_kind (map (λ v. v.kind) variables.now) term.now }
+    ensures { result ≡ mirror.term_kind (mirror.kinds_of variables.now) term.now }
 {
     match term {
         Term::Literal(_) => Some(Kind::Int),
@@ -95,7 +96,7 @@ pub fn kind(variables: &[Variable], term: &Term) -> Option<Kind>
 /// side, and an assertion is a truth.
 pub fn is_step_typed(variables: &[Variable], step: &Step) -> bool
     requires { is_step_within (length variables.now) step.now ≡ true }
-    ensures { result ≡ mirror.is_step_typed (map (λ v. v.kind) variables.now) step.now }
+    ensures { result ≡ mirror.is_step_typed (mirror.kinds_of variables.now) step.now }
 {
     match step {
         Step::Equation(lefts, e) => match lefts.as_slice() {

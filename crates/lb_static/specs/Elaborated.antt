@@ -42,11 +42,6 @@ abbrev mutual
   are_within count end_of-Term = true
   are_within count (more_of-Term e rest) = is_within count e && are_within count rest
 
--- the same of a list of terms
-abbrev pub all_within : ℕ → List Term → Bool
-all_within count [] = true
-all_within count (e ∷ es) = is_within count e && all_within count es
-
 abbrev pub is_step_within : ℕ → Step → Bool
 is_step_within count (step.Equation lefts e) =
     list_all (is_place count) lefts.items && is_within count e
@@ -69,6 +64,11 @@ node_of name is_function vars inputs outputs steps =
       locals = drop (inputs + outputs) declared;
       body = map (statement_of names) steps;
     }
+
+-- the scalar inputs of such a node, from its variables
+abbrev pub input_elements : List Variable → (inputs : ℕ) → Elements
+input_elements vars inputs =
+    map (λ d. (d.name, d.kind)) (take inputs (map declaration_of vars))
 
 -- a scalar on the base clock
 abbrev pub is_scalar : Declaration → Bool

@@ -2,7 +2,7 @@
 
 ghost use Rattle.std.specs.Prelude.{◌≡◌, ◌+◌, ◌≤◌, ◌<◌, ◌^◌, true, length};
 ghost use Rattle.std.specs.List.{list_all};
-ghost use Rattle.lb_static.specs.Elaborated.{node_of, is_step_within, inputs_of};
+ghost use Rattle.lb_static.specs.Elaborated.{is_step_within, inputs_of, input_elements};
 
 use crate::signature::Signature;
 use crate::term::{Step, Variable};
@@ -29,7 +29,7 @@ pub struct Elab {
     pub ghost parts_fit: { inputs + outputs ≤ length variables.items },
     pub ghost places_fit: { length variables.items < 2 ^ 32 },
     pub ghost steps_fit: { list_all (is_step_within (length variables.items)) body.items ≡ true },
-    pub ghost signature_is: { signature ≡ inputs_of (node_of name is_function variables.items inputs outputs body.items) },
+    pub ghost signature_is: { signature ≡ input_elements variables.items inputs },
 }
 
 impl Elab {
