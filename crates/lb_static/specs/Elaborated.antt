@@ -1,6 +1,6 @@
 -- What an elaborated program promises to the layer above.
 -- This file says what data of the program mean; no definition of the language stands on it.
-use Rattle.std.specs.Prelude.{◌≡◌, ℕ, ◌+◌, Bool, true, false, ◌&&◌, nat_lt, Some, None, is_some, List, [], ◌∷◌, map, take, drop, not, nat_eq, length}
+use Rattle.std.specs.Prelude.{◌≡◌, ℕ, ◌+◌, Bool, true, false, ◌&&◌, nat_lt, pos, Some, None, is_some, List, [], ◌∷◌, map, take, drop, not, nat_eq, length}
 use Rattle.std.specs.List.{list_all}
 use Rattle.lb_syntax.specs.Tree as tree
 use Rattle.lb_syntax.specs.Tree.{Name, Node, Expr, Declaration}
@@ -9,6 +9,7 @@ use Rattle.lb_static.specs.declared.term.Variable.{Variable}
 use Rattle.lb_static.specs.declared.term.Step.{Step}
 use Rattle.lb_static.specs.declared.term.Step.TheVariants as step
 use Rattle.lb_static.specs.declared.term.Term.{Term, Literal, Truth, Variable as Named, Group', Unary', Binary', If', Arrow', Fby', Pre', AtMostOne', Nor', Row_of-Term, end_of-Term, more_of-Term}
+use Rattle.lb_static.specs.Arithmetic.{is_int}
 use Rattle.lb_static.specs.Signature.{Elements}
 use Rattle.lb_static.specs.Instances.{Program, Instance, Root, instance_at, instances}
 use Rattle.lb_static.specs.Parts.{among, node_parts, node_names, variable_names}
@@ -74,8 +75,10 @@ input_elements vars inputs =
 abbrev pub is_scalar : Declaration → Bool
 is_scalar d = nat_eq (length d.sizes) 0 && not (is_some d.clock)
 
--- the forms of scalars in one node, on one clock
+-- the forms of scalars in one node, on one clock; a literal is an `int`, as in every text that keeps
+-- its limits
 abbrev pub is_plain : Expr → Bool
+is_plain (tree.Literal n) = is_int (pos n)
 is_plain (tree.Current a) = false
 is_plain (tree.When a x sign) = false
 is_plain (tree.Copies a n) = false

@@ -11,3 +11,14 @@ pub mod Elaborated
 pub mod Nodes
 pub mod WorkedTrees
 pub mod WorkedStatics
+pub mod Scopes
+pub mod Faults
+pub mod Resolving
+pub mod Lookups
+pub mod Variables
+pub mod Judged
+pub mod Elaborates
+pub mod StaticRange
+pub mod ConstantValues
+pub mod HeldValues
+pub mod Tasks

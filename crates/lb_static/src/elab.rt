@@ -27,6 +27,7 @@ pub struct Elab {
     /// The statements, in text order.
     pub body: Vec<Step>,
     pub ghost parts_fit: { inputs + outputs ≤ length variables.items },
+    pub ghost has_output: { 0 < outputs },
     pub ghost places_fit: { length variables.items < 2 ^ 32 },
     pub ghost steps_fit: { list_all (is_step_within (length variables.items)) body.items ≡ true },
     pub ghost signature_is: { signature ≡ input_elements variables.items inputs },

@@ -1,0 +1,36 @@
+-- The tasks of the walk speak of constants, and each of these is visited once.
+use Rattle.std.proofs.Common.{◌<◌, ◌++◌, ◌∷◌, [], All, Some, ap, sym, subst, ◌∙◌, length, arith}
+use Rattle.std.proofs.lemmas.List.{length-append}
+use Rattle.std.proofs.lemmas.List.Elements.{All-pop, All-push, All-same}
+use Rattle.lb_static.specs.Tasks.{place_of}
+use Rattle.lb_static.specs.declared.constants.Task.TheVariants.{Settle}
+use Rattle.lb_static.proofs.ConstantSteps.{fewer, names_length}
+use Rattle.lb_static.proofs.constants.walk.Goals as goal
+
+pub settle-requires-clause-within : goal.settle-requires-clause-within
+settle-requires-clause-within c =
+    let n = length c.args.constants.now in
+    let taken = All-pop (λ t. place_of t < n) c.loop-task.tasks.items c.pop.new.self.items (Some c.in-Some.task) c.in-Some.ensures.items c.loop-task.invariant.within in
+    subst (λ t. place_of t < n) c.in-Settle.is taken.1
+
+pub visit_names-requires : goal.visit_names-requires
+visit_names-requires c =
+    let n = length c.args.constants.now in
+    let taken = All-pop (λ t. place_of t < n) c.loop-task.tasks.items c.pop.new.self.items (Some c.in-Some.task) c.in-Some.ensures.items c.loop-task.invariant.within in
+    let here = subst (λ t. place_of t < n) c.in-Visit.is taken.1 in
+    let more = All-push (λ t. place_of t < n) c.pop.new.self.items (Settle c.in-Visit.place) taken.0 here in
+    let all = All-same (λ t. place_of t < n) c.push-then-not-index.new.self.items (c.pop.new.self.items ++ Settle c.in-Visit.place ∷ []) c.in_ok-push-in-Visit.ensures.items more in
+    record { within = subst (λ m. All (λ t. place_of t < m) c.push-then-not-index.new.self.items) (sym (names_length c.args.names.now c.args.constants.now c.requires.same_names)) all }
+
+pub loop-task-smaller-in-Continue-branch-4 : goal.loop-task-smaller-in-Continue-branch-4
+loop-task-smaller-in-Continue-branch-4 c =
+    let n = length c.args.constants.now in
+    let taken = All-pop (λ t. place_of t < n) c.loop-task.tasks.items c.pop.new.self.items (Some c.in-Some.task) c.in-Some.ensures.items c.loop-task.invariant.within in
+    let here = subst (λ t. place_of t < n) c.in-Visit.is taken.1 in
+    let unseen = sym c.index.ensures ∙ c.if-not-index.true in
+    let left = ap length c.in-Some.ensures.items ∙ length-append c.pop.new.self.items (c.in-Some.task ∷ []) in
+    let pushed = ap length c.in_ok-push-in-Visit.ensures.items ∙ length-append c.pop.new.self.items (Settle c.in-Visit.place ∷ []) in
+    fewer c.loop-task.seen.items c.args.constants.now c.in-Visit.place c.index-constants-place.result c.index.result.now
+    (length c.pop.new.self.items) (length c.loop-task.tasks.items) (length c.visit_names.new.tasks.items)
+    c.loop-task.invariant.as_many here unseen left
+    (omega (arith, pushed, c.in_ok-visit_names-in-Visit.ensures.few))

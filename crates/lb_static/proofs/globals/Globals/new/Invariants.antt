@@ -1,0 +1,15 @@
+use Rattle.std.proofs.Common.{◌≡◌, ◌++◌, true, map, drop}
+use Rattle.lb_syntax.specs.SourceView.{view_source, view_constant, view_node}
+use Rattle.lb_static.specs.Faults.{names_in_source, constants_in}
+use Rattle.lb_static.specs.Names.{are_distinct}
+use Rattle.lb_static.proofs.globals.Globals.new.Given as goal
+
+abbrev pub invariant-loop-constant : goal.invariant-loop-constant
+invariant-loop-constant l =
+    (l.names ++ map (λ c. c.name) (map view_constant (drop l.constant-index l.constant-items)) ≡ constants_in (view_source l.source))
+    × (are_distinct l.names ≡ true)
+
+abbrev pub invariant-loop-node : goal.invariant-loop-node
+invariant-loop-node l =
+    (l.names ++ map (λ n. n.name) (map view_node (drop l.node-index l.node-items)) ≡ names_in_source (view_source l.source))
+    × (are_distinct l.names ≡ true)

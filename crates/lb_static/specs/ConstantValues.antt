@@ -1,0 +1,46 @@
+-- The values of constants as a table holds them while they are computed.
+-- This file says what data of the program mean; no definition of the language stands on it.
+use Rattle.std.specs.Prelude.{◌≡◌, ◌<◌, ℕ, ℤ, Option, None, Some, is_some, List, map, length, slice_get, position}
+use Rattle.std.specs.List.{count_by}
+use Rattle.std.specs.Str.{bytes_eq}
+use Rattle.std.specs.Borrow.{Bor}
+use Rattle.lb_syntax.specs.Lists.{◌>>=◌}
+use Rattle.lb_syntax.specs.SourceView.{view_constant}
+use Rattle.lb_syntax.specs.Tree.{Name, Constant}
+use Rattle.lb_syntax.specs.declared.tree.Constant as written
+use Rattle.lb_static.specs.StaticValues.{named, value_under, constant_value}
+
+-- the constants that some references lead to
+abbrev pub read_constants : List (Bor written.Constant) → List Constant
+read_constants = map (λ k. view_constant k.now)
+
+abbrev pub names_of : List Constant → List Name
+names_of = map (λ c. c.name)
+
+-- the value that is held for a name: what stands at its place
+abbrev pub value_held : List Name → List (Option ℤ) → Name → Option ℤ
+value_held names values x = position (bytes_eq x) names >>= λ i. slice_get values i >>= λ v. v
+
+-- how many values are held
+abbrev pub known : List (Option ℤ) → ℕ
+known = count_by is_some
+
+-- what is held is the value of each constant, or none as yet; so many values are had by naming no
+-- more constants, one behind another
+pub record IsSound (constants : List Constant) (values : List (Option ℤ)) : Type 0 where
+  pub as_many : length values ≡ length constants
+  pub is_value : (x : Name) (v : ℤ) → value_held (names_of constants) values x ≡ Some v
+      → constant_value constants (known values) x ≡ Some v
+
+-- the constant at a place has no value under those that are held, unless its own is held
+abbrev pub IsSettled : List Constant → List (Option ℤ) → ℕ → Type 0
+IsSettled constants values i =
+    (c : Constant) → slice_get constants i ≡ Some c → slice_get values i ≡ Some None
+    → value_under (value_held (names_of constants) values) c.value ≡ None
+
+abbrev pub AreSettled : List Constant → List (Option ℤ) → Type 0
+AreSettled constants values = (i : ℕ) → i < length constants → IsSettled constants values i
+
+-- these constants are the first of each name of those: they give each name the same one
+abbrev pub AreFirst : List Constant → List Constant → Type 0
+AreFirst firsts constants = (x : Name) → named (λ c. c.name) x firsts ≡ named (λ c. c.name) x constants

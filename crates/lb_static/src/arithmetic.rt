@@ -1,0 +1,59 @@
+//! The exact arithmetic of `int`.
+
+ghost use Rattle.std.specs.Prelude.{◌≡◌};
+ghost use Rattle.lb_static.specs.Arithmetic.{arithmetic, is_divisible, negated};
+
+use lb_syntax::tree::BinaryOperator;
+
+// Whether there is a quotient.
+fn is_divisible(a: i32, b: i32) -> bool
+    ensures { result ≡ is_divisible a b }
+{
+    b != 0 && !(a == i32::MIN && b == -1)
+}
+
+/// The exact result of an operator of arithmetic, where it is in the range of `int`; a quotient is
+/// cut off toward zero, and no other operator has a result.
+pub fn arithmetic(op: BinaryOperator, a: i32, b: i32) -> Option<i32>
+    ensures { result ≡ arithmetic op a b }
+{
+    match op {
+        BinaryOperator::Plus => a.checked_add(b),
+        BinaryOperator::Minus => a.checked_sub(b),
+        BinaryOperator::Times => a.checked_mul(b),
+        BinaryOperator::Divide if is_divisible(a, b) => Some(a / b),
+        BinaryOperator::Modulo if is_divisible(a, b) => Some(a % b),
+        _ => None,
+    }
+}
+
+/// The exact result of unary minus, where it is in the range of `int`.
+pub fn negated(a: i32) -> Option<i32>
+    ensures { result ≡ negated a }
+{
+    a.checked_neg()
+}
+
+#[cfg(test)]
+mod tests {
+    use super::*;
+
+    #[test]
+    fn worked_results(rt: HostRuntime) {
+        let rows = [
+            (BinaryOperator::Plus, 2147483647, 1, None),
+            (BinaryOperator::Minus, -2147483647, 1, Some(-2147483648)),
+            (BinaryOperator::Times, 65536, -32768, Some(-2147483648)),
+            (BinaryOperator::Divide, -7, 2, Some(-3)),
+            (BinaryOperator::Divide, -2147483648, -1, None),
+            (BinaryOperator::Modulo, -7, 2, Some(-1)),
+            (BinaryOperator::Modulo, 7, 0, None),
+            (BinaryOperator::Less, 1, 2, None),
+        ];
+        for (op, a, b, expected) in rows {
+            assert_eq!(rt; arithmetic(op, a, b), expected);
+        }
+        assert_eq!(rt; negated(7), Some(-7));
+        assert_eq!(rt; negated(-2147483648), None);
+    }
+}

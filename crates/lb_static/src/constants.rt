@@ -1,0 +1,262 @@
+//! The values of the named constants of a source.
+//!
+//! A constant may name others that stand before it or after it, in a chain as long as the source,
+//! so no call goes along a chain: a walk with its own stack settles each constant after those that
+//! it names. Of `const a = b + 1; b = 2;` it visits `a` and then `b`, and settles `b` and then `a`.
+//! A constant that needs itself is settled while a value that it needs is not known, and gets none.
+//!
+//! The order of the walk saves time, and no value depends on it: a value that is had from values
+//! that are known is right, and where no constant gets a value any more, all values are known. After
+//! the walk one pass over the constants finds that none does.
+
+ghost use Rattle.std.specs.Prelude.{◌≡◌, ◌<◌, ◌≤◌, ◌+◌, ℕ, true, false, map, length, IfOk, OnOk, All};
+ghost use Rattle.lb_syntax.specs.SourceView.{view_constant};
+ghost use Rattle.lb_syntax.specs.View.{view_static};
+ghost use Rattle.lb_static.specs.ConstantValues.{names_of, known, read_constants, AreFirst, AreSettled, IsSettled, IsSound};
+ghost use Rattle.lb_static.specs.Tasks.{place_of};
+ghost use Rattle.lb_static.specs.Parts.{static_names};
+ghost use Rattle.lb_static.specs.StaticValues.{constant_value};
+
+use crate::scope::Scope;
+use crate::static_value::{StaticInt, Values, static_value};
+use lb_syntax::tree::{Constant, Static};
+use std::alloc::{AllocError, Global};
+
+/// The values of the constants of a source.
+///
+/// In contracts `value_of` is the value that a name has, if it has one.
+#[derive(Drop)]
+pub struct Constants {
+    names: Scope,
+    values: Vec<Option<StaticInt>>,
+}
+
+impl Values for Constants {
+    ghost use Rattle.lb_static.specs.HeldValues.{value_of};
+
+    ghost given = { value_of };
+
+    fn get(&self, name: &str) -> Option<StaticInt> {
+        let known = Known {
+            names: &self.names,
+            values: self.values.as_slice(),
+        };
+        known.get(name)
+    }
+}
+
+/// The values that are known by now, each at the place of its name.
+#[derive(Clone, Copy)]
+struct Known<'a> {
+    names: &'a Scope,
+    values: &'a [Option<StaticInt>],
+}
+
+impl Values for Known<'_> {
+    ghost use Rattle.lb_static.specs.ConstantValues.{value_held};
+
+    ghost given = { λ k. value_held k.names.now k.values.now };
+
+    fn get(&self, name: &str) -> Option<StaticInt> {
+        let place = self.names.place(name)?;
+        *self.values.get(place)?
+    }
+}
+
+// Settles the constant at a place: its value is known from now on, if it was not and is had from
+// those that were. Answers whether it is known anew.
+fn settle(
+    constants: &[&Constant],
+    names: &Scope,
+    values: &mut [Option<StaticInt>],
+    place: usize,
+) -> bool
+    requires same_names { names.now ≡ names_of (read_constants constants.now) }
+    requires sound { IsSound (read_constants constants.now) values.old }
+    requires within { place < length constants.now }
+    ensures sound { IsSound (read_constants constants.now) values.new }
+    ensures more { result ≡ true → known values.old < known values.new }
+    ensures same { result ≡ false → values.new ≡ values.old }
+    ensures settled { result ≡ false →
+        IsSettled (read_constants constants.now) values.old place }
+{
+    if values[place].is_some() {
+        return false;
+    }
+    match static_value(&constants[place].value, &Known { names, values }) {
+        Some(value) => {
+            values[place] = Some(value);
+            true
+        }
+        None => false,
+    }
+}
+
+// Settles each constant in the order of the source. Answers whether a value is known anew; if none
+// is, each constant has a value that is known, or none.
+fn settle_all(constants: &[&Constant], names: &Scope, values: &mut [Option<StaticInt>]) -> bool
+    requires same_names { names.now ≡ names_of (read_constants constants.now) }
+    requires sound { IsSound (read_constants constants.now) values.old }
+    ensures sound { IsSound (read_constants constants.now) values.new }
+    ensures more { result ≡ true → known values.old < known values.new }
+    ensures settled { result ≡ false →
+        AreSettled (read_constants constants.now) values.new }
+{
+    let mut is_more = false;
+    for place in 0..constants.len() {
+        if settle(constants, names, values, place) {
+            is_more = true;
+        }
+    }
+    is_more
+}
+
+/// What is left to do in the walk.
+#[derive(Clone, Copy)]
+enum Task {
+    /// The constant at this place and those that it names, unless that began before.
+    Visit(usize),
+    /// The constant at this place, after those that it names.
+    Settle(usize),
+}
+
+// Puts a visit of each constant that an expression names onto the tasks.
+fn visit_names(expression: &Static, names: &Scope, tasks: &mut Vec<Task>) -> Result<(), AllocError>
+    requires within { All (λ t. place_of t < length names.now) tasks.old.items }
+    ensures within { OnOk result (All (λ t. place_of t < length names.now) tasks.new.items) }
+    ensures few { OnOk result (length tasks.new.items
+        ≤ length tasks.old.items + length (static_names (view_static expression.now))) }
+{
+    match expression {
+        Static::Whole(_) => Ok(()),
+        Static::Named(x) => {
+            if let Some(place) = names.place(x.as_str()) {
+                tasks.push(Task::Visit(place))?;
+            }
+            Ok(())
+        }
+        Static::Grouped(inner) | Static::Negated(inner) => visit_names(inner, names, tasks),
+        Static::Combined(_, left, right) => {
+            visit_names(left, names, tasks)?;
+            visit_names(right, names, tasks)
+        }
+    }
+}
+
+// Settles each constant after those that it names, as far as they do not need it.
+fn walk(
+    alloc: Global,
+    constants: &[&Constant],
+    names: &Scope,
+    values: &mut [Option<StaticInt>],
+) -> Result<(), AllocError>
+    requires same_names { names.now ≡ names_of (read_constants constants.now) }
+    requires sound { IsSound (read_constants constants.now) values.old }
+    ensures sound { IsSound (read_constants constants.now) values.new }
+{
+    let mut tasks = Vec::new(alloc);
+    for place in 0..constants.len() {
+        tasks.push(Task::Visit(place))?;
+    }
+    let mut seen = vec![in alloc; false; constants.len()]?;
+    while let Some(task) = tasks.pop() {
+        match task {
+            Task::Visit(place) => {
+                if !seen[place] {
+                    seen[place] = true;
+                    tasks.push(Task::Settle(place))?;
+                    visit_names(&constants[place].value, names, &mut tasks)?;
+                }
+            }
+            Task::Settle(place) => {
+                settle(constants, names, values, place);
+            }
+        }
+    }
+    Ok(())
+}
+
+// The first constant of each name, in the order of the source.
+fn first_of_each<'a>(
+    alloc: Global,
+    constants: &'a [Constant],
+) -> Result<(Scope, Vec<&'a Constant>), AllocError>
+    ensures same_names { IfOk result (λ r. r.0 ≡ names_of (read_constants r.1.items)) }
+    ensures first { IfOk result (λ r.
+        AreFirst (read_constants r.1.items) (map view_constant constants.now)) }
+    ensures few { IfOk result (λ r. length r.1.items ≤ length constants.now) }
+{
+    let mut names = Scope::new(alloc);
+    let mut firsts = Vec::new(alloc);
+    for constant in constants {
+        if names.declare(alloc, constant.name.as_str())? {
+            firsts.push(constant)?;
+        }
+    }
+    Ok((names, firsts))
+}
+
+// The value of each of these constants, where each name is that of one.
+fn values_of(
+    alloc: Global,
+    constants: &[&Constant],
+    names: &Scope,
+) -> Result<Vec<Option<StaticInt>>, AllocError>
+    requires { names.now ≡ names_of (read_constants constants.now) }
+    ensures sound { IfOk result (λ v. IsSound (read_constants constants.now) v.items) }
+    ensures settled { IfOk result (λ v. AreSettled (read_constants constants.now) v.items) }
+{
+    let mut values = vec![in alloc; None; constants.len()]?;
+    walk(alloc, constants, names, &mut values)?;
+    while settle_all(constants, names, &mut values) {}
+    Ok(values)
+}
+
+impl Constants {
+    ghost use Rattle.lb_static.specs.HeldValues.{value_of};
+
+    /// The values of the constants of a source; of two with one name the first counts.
+    pub fn new(alloc: Global, constants: &[Constant]) -> Result<Constants, AllocError>
+        ensures { IfOk result (λ c.
+            value_of c ≡ constant_value (map view_constant constants.now) (length constants.now)) }
+    {
+        let (names, firsts) = first_of_each(alloc, constants)?;
+        let values = values_of(alloc, &firsts, &names)?;
+        Ok(Constants { names, values })
+    }
+}
+
+#[cfg(test)]
+mod tests {
+    use super::*;
+    use lb_syntax::parse::parse;
+    use std::test::Fail;
+
+    #[test]
+    fn worked_values(rt: HostRuntime) -> Result<(), Fail> {
+        let alloc = rt.alloc();
+        let rows = [
+            ("const n = 3; m = n * 2 + 1;", "m", Some(7)),
+            ("const m = n * 2 + 1; n = 3;", "m", Some(7)),
+            ("const n = 3; m = n * 2 + 1;", "k", None),
+            ("const n = k;", "n", None),
+            ("const a = b + 1; b = a - 1; c = 2;", "a", None),
+            ("const a = b + 1; b = a - 1; c = 2;", "c", Some(2)),
+            ("const a = 1 div 0;", "a", None),
+            ("const a = -7 / 2;", "a", Some(-3)),
+            ("const a = -7 mod 2;", "a", Some(-1)),
+            ("const a = -2147483647 - 1;", "a", Some(-2147483648)),
+            ("const a = 2147483647 + 1;", "a", None),
+        ];
+        for (text, name, expected) in rows {
+            let source = parse(alloc, text.as_bytes())?;
+            let constants = Constants::new(alloc, &source.constants)?;
+            assert_eq!(rt;
+                constants.get(name).map(|value| value.get()),
+                expected,
+                "{text}"
+            );
+        }
+        Ok(())
+    }
+}

@@ -1,0 +1,133 @@
+use super::*;
+use lb_syntax::parse::parse;
+use lb_syntax::tree::Kind;
+use std::alloc::AllocError;
+use std::test::Fail;
+
+/// What is answered about the node `main` of a text, in a word.
+fn answer(alloc: Global, text: &[u8], observer: Option<&str>) -> &'static str {
+    let Ok(source) = parse(alloc, text) else {
+        return "syntax";
+    };
+    match elaborate(alloc, &source, "main", observer) {
+        Ok(_) => "elaborated",
+        Err(StaticError::Memory) => "memory",
+        Err(StaticError::Name(_)) => "name",
+        Err(StaticError::Root) => "root",
+        Err(StaticError::Large) => "large",
+    }
+}
+
+/// The scalar inputs and then the variables, as `x: int y: bool | x y z`.
+fn shown(alloc: Global, elab: &Elab) -> Result<String, AllocError> {
+    let mut line = String::new(alloc);
+    let signature = elab.signature();
+    for i in 0..signature.len() {
+        line.push_str(signature.name(i))?;
+        line.push_str(match signature.kind(i) {
+            Kind::Int => ": int ",
+            Kind::Bool => ": bool ",
+        })?;
+    }
+    line.push('|')?;
+    for variable in &elab.variables {
+        line.push(' ')?;
+        line.push_str(variable.name.as_str())?;
+    }
+    Ok(line)
+}
+
+#[test]
+fn names_and_shapes_of_programs(rt: HostRuntime) -> Result<(), Fail> {
+    let cases: [(&str, Option<&str>, &str); 13] = [
+        (
+            "node main(x: int) returns (ok: bool); let ok = x > 0; tel",
+            None,
+            "elaborated",
+        ),
+        (
+            "node main(x: int) returns (ok: bool); let ok = y > 0; tel",
+            None,
+            "name",
+        ),
+        (
+            "node main(x: int) returns (ok: bool); let y = true; tel",
+            None,
+            "name",
+        ),
+        (
+            "node main(x: int) returns (ok: bool); var x: int; let ok = x > 0; tel",
+            None,
+            "name",
+        ),
+        (
+            "const main = 1; node main() returns (ok: bool); let ok = true; tel",
+            None,
+            "name",
+        ),
+        (
+            "node other() returns (ok: bool); let ok = true; tel",
+            None,
+            "name",
+        ),
+        (
+            "node main(x: int) returns (y: int); let y = x; tel",
+            None,
+            "root",
+        ),
+        (
+            "node main() returns (a, b: bool); let a = true; b = true; tel",
+            None,
+            "root",
+        ),
+        (
+            "node main<<const n: int>>() returns (ok: bool); let ok = true; tel",
+            None,
+            "root",
+        ),
+        (
+            "node main(x: int) returns (ok: bool); let ok = f(x); tel",
+            None,
+            "large",
+        ),
+        (
+            "const n = 3; node main() returns (ok: bool); let ok = n > 0; tel",
+            None,
+            "large",
+        ),
+        (
+            "node main() returns (ok: bool); let ok = true; tel",
+            Some("main"),
+            "large",
+        ),
+        (
+            "node main() returns (ok: bool); let ok = true; tel",
+            Some("none"),
+            "name",
+        ),
+    ];
+    for (text, observer, wanted) in cases {
+        assert_eq!(rt; answer(rt.alloc(), text.as_bytes(), observer), wanted);
+    }
+    Ok(())
+}
+
+/// What `shown` says of the node `main` of a text.
+fn described(alloc: Global, text: &[u8]) -> Result<String, AllocError> {
+    let Ok(source) = parse(alloc, text) else {
+        return String::from_str(alloc, "syntax");
+    };
+    match elaborate(alloc, &source, "main", None) {
+        Ok(elab) => shown(alloc, &elab),
+        Err(_e) => String::from_str(alloc, "refused"),
+    }
+}
+
+#[test]
+fn variables_keep_their_order(rt: HostRuntime) -> Result<(), Fail> {
+    let text = b"node main(a, b: int; c: bool) returns (ok: bool); var z: int;
+        let z = a + b; ok = c and z > 0; tel";
+    let line = described(rt.alloc(), text)?;
+    assert_eq!(rt; line.as_str(), "a: int b: int c: bool | a b c ok z");
+    Ok(())
+}

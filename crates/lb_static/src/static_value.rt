@@ -1,0 +1,112 @@
+//! The value of a static expression under the values of names.
+//!
+//! A number token of a tree has 32 bits and no sign, so a value may be past the range of `int`: it
+//! is held in 64 bits. What an operator of arithmetic gives is an `int`, or a part of its operand.
+
+ghost use Rattle.std.specs.Prelude.{◌≡◌};
+ghost use Rattle.lb_syntax.specs.View.{view_static};
+ghost use Rattle.lb_static.specs.Arithmetic.{arithmetic, is_divisible, lawful};
+ghost use Rattle.lb_static.specs.StaticRange.{IsWithinWord};
+ghost use Rattle.lb_static.specs.StaticValues.{value_under};
+
+use lb_syntax::tree::{BinaryOperator, Static};
+use std::marker::Model;
+
+/// A whole number that a static expression stands for.
+///
+/// It is an `int`, or a number token that is past the range of `int`, or a quotient or remainder of
+/// one. Contracts see the number.
+#[derive(Clone, Copy)]
+pub struct StaticInt {
+    value: i64,
+}
+
+impl Model for StaticInt {
+    ghost use Rattle.std.specs.Prelude.{ℤ};
+    ghost use Rattle.lb_static.specs.StaticRange.{IsWithinWord};
+
+    ghost Value = { ℤ };
+
+    ghost view = { λ s. s.value };
+
+    ghost invariant = { λ s. IsWithinWord s.value };
+
+    ghost inverse = { λ z. record { value = z } };
+}
+
+impl StaticInt {
+    /// The number.
+    pub fn get(self) -> i64
+        ensures value { result ≡ self }
+        ensures within { IsWithinWord result }
+    {
+        self.value
+    }
+}
+
+/// What names stand for before the run.
+pub trait Values {
+    ghost use Rattle.std.specs.Prelude.{ℤ, Option};
+    ghost use Rattle.lb_syntax.specs.Tree.{Name};
+
+    /// The value of a name.
+    ghost given: { Self → Name → Option ℤ };
+
+    /// The value of a name, if it has one.
+    fn get(&self, name: &str) -> Option<StaticInt>
+        ensures { result ≡ given self.now name.now };
+}
+
+// An exact result, where it is in the range of `int`.
+fn lawful(exact: i64) -> Option<StaticInt>
+    ensures { result ≡ lawful exact }
+{
+    if i64::from(i32::MIN) <= exact && exact <= i64::from(i32::MAX) {
+        Some(StaticInt { value: exact })
+    } else {
+        None
+    }
+}
+
+// Whether there is a quotient.
+fn is_divisible(a: i64, b: i64) -> bool
+    ensures { result ≡ is_divisible a b }
+{
+    b != 0 && !(a == i64::from(i32::MIN) && b == -1)
+}
+
+// An operator of arithmetic.
+fn combined(op: BinaryOperator, a: StaticInt, b: StaticInt) -> Option<StaticInt>
+    ensures { result ≡ arithmetic op a b }
+{
+    let a = a.get();
+    let b = b.get();
+    match op {
+        BinaryOperator::Plus => lawful(a + b),
+        BinaryOperator::Minus => lawful(a - b),
+        BinaryOperator::Times => lawful(a.checked_mul(b)?),
+        BinaryOperator::Divide if is_divisible(a, b) => Some(StaticInt { value: a / b }),
+        BinaryOperator::Modulo if is_divisible(a, b) => Some(StaticInt { value: a % b }),
+        _ => None,
+    }
+}
+
+/// The value of a static expression under the values of names; none where a name has none, or an
+/// operator faults.
+pub fn static_value<V: Values>(expression: &Static, values: &V) -> Option<StaticInt>
+    ensures { result ≡ value_under (V.given values.now) (view_static expression.now) }
+{
+    match expression {
+        Static::Whole(n) => Some(StaticInt {
+            value: i64::from(*n),
+        }),
+        Static::Named(x) => values.get(x.as_str()),
+        Static::Grouped(inner) => static_value(inner, values),
+        Static::Negated(inner) => lawful(-static_value(inner, values)?.get()),
+        Static::Combined(op, left, right) => {
+            let a = static_value(left, values)?;
+            let b = static_value(right, values)?;
+            combined(*op, a, b)
+        }
+    }
+}
