@@ -12,6 +12,7 @@ use Rattle.lb_flat.specs.Run.{Ready, run, streams_of}
 use Rattle.lb_flat.specs.Judging.{FlatProgram, flat_verdict}
 use Rattle.lb_flat.specs.Layouts.{Layout}
 use Rattle.lb_flat.specs.Emit.{given_inputs, observed, before_instances, emit_instances, expanded}
+use Rattle.lb_flat.specs.Expanded.{IsOrderingOf}
 use Rattle.lb_flat.specs.Flattening.{history_of, IsTrace, IsWatched}
 use Rattle.lb_flat.proofs.Lists.{Every-second}
 use Rattle.lb_flat.proofs.Adding.{columns, IsMet, AllMet}
@@ -19,7 +20,7 @@ use Rattle.lb_flat.proofs.Running.{exists}
 use Rattle.lb_flat.proofs.Whole.{IsProgramSound}
 use Rattle.lb_flat.proofs.Fitting.{IsFitting}
 use Rattle.lb_flat.proofs.Observing.{IsInOrder, is_watched}
-use Rattle.lb_flat.proofs.Solving.{IsOrderingOf, IsPlacing, agrees, met, solves}
+use Rattle.lb_flat.proofs.Solving.{IsPlacing, agrees, met, solves}
 use Rattle.lb_flat.proofs.Judging.{flat_ends}
 
 -- the expansion of a program with its equations in this order
@@ -47,6 +48,7 @@ module _ (P : Program) (Y : Layout) (count : ℕ) (K : ℕ → FlatClock) (N : �
     (Q : List FlatEquation) (e : IsExpansion P Y count K N Q) (X : Inputs)
     (trace : IsTrace P X) where
   module _ (F : List Stream) (s : FlatSolves (expanded Y P count).size Q X F) where
+    -- the history that streams stand for solves the program
     pub history_solves : Solves P X (history_of Y X F)
     history_solves =
         solves P Y count K N Q e.ordering e.ready e.fitting e.placing X F trace s (e.signs X F s)
@@ -63,7 +65,8 @@ module _ (P : Program) (Y : Layout) (count : ℕ) (K : ℕ → FlatClock) (N : �
         (Every-second (IsMet X F) seen (t.copies ++ t.equations)
         (Every-second (IsMet X F) given (seen ++ (t.copies ++ t.equations)) all))
 
-    watched : (t : ℕ) → IsWatched P (ordered Y P count Q) X F (history_of Y X F) t
+    -- what decides the verdict is watched
+    pub watched : (t : ℕ) → IsWatched P (ordered Y P count Q) X F (history_of Y X F) t
     watched t =
         let w = is_watched Y P count X F s.as_long
         (agrees P Y count K N Q e.ordering e.ready e.fitting e.placing X F trace s

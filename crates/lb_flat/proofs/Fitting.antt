@@ -39,26 +39,26 @@ KindFits inputs N q = OperandKinds inputs N (N q.element) q.operation
 abbrev pub CellOf : Kind → Cell → Type 0
 CellOf kind x = IfSome x (IsOf kind)
 
-held_of : (kind : Kind) (v : Scalar) (b : Bool) → IsOf kind v → CellOf kind (held v b)
+pub held_of : (kind : Kind) (v : Scalar) (b : Bool) → IsOf kind v → CellOf kind (held v b)
 held_of kind v true h = h
 held_of kind v false h = tt
 
-kept_of : (kind : Kind) (x : Cell) (b : Bool) → CellOf kind x → CellOf kind (kept b x)
+pub kept_of : (kind : Kind) (x : Cell) (b : Bool) → CellOf kind x → CellOf kind (kept b x)
 kept_of kind x true h = h
 kept_of kind x false h = tt
 
-newest_of : (kind : Kind) (v : Scalar) (x : Cell) → IsOf kind v → CellOf kind x →
+pub newest_of : (kind : Kind) (v : Scalar) (x : Cell) → IsOf kind v → CellOf kind x →
     IsOf kind (newest v x)
 newest_of kind v None h g = h
 newest_of kind v (Some w) h g = g
 
-one_of :
+pub one_of :
     (kind r : Kind) (f : Scalar → Scalar) (x : Cell) →
     ((v : Scalar) → IsOf kind v → IsOf r (f v)) → CellOf kind x → CellOf r (one_cell f x)
 one_of kind r f None e h = tt
 one_of kind r f (Some v) e h = e v h
 
-two_of :
+pub two_of :
     (k l r : Kind) (f : Scalar → Scalar → Scalar) (x y : Cell) →
     ((v w : Scalar) → IsOf k v → IsOf l w → IsOf r (f v w)) → CellOf k x → CellOf l y →
     CellOf r (two_cells f x y)
@@ -66,7 +66,7 @@ two_of k l r f None y e h g = tt
 two_of k l r f (Some v) None e h g = tt
 two_of k l r f (Some v) (Some w) e h g = e v w h g
 
-chosen_cell_of :
+pub chosen_cell_of :
     (kind : Kind) (c x y : Cell) → CellOf kind x → CellOf kind y →
     CellOf kind (chosen_cell c x y)
 chosen_cell_of kind None x y h g = tt
@@ -94,7 +94,7 @@ all_given (k ∷ kinds) (v ∷ given) e zero lt = refl
 all_given (k ∷ kinds) (v ∷ given) e (suc j) lt =
     all_given kinds given (both (is_given k v) _ e).1 j (omega arith)
 
-given_kind :
+pub given_kind :
     (kinds : List Kind) (given : List Scalar) → is_row kinds given ≡ true → (j : ℕ)
     (kind : Kind) → slice_get kinds j ≡ Some kind → CellOf kind (slice_get given j)
 given_kind [] given e j kind at = cc

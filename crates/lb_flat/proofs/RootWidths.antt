@@ -37,7 +37,7 @@ scalars_count :
     length (scalar_elements P here d) ≡ width P here d
 scalars_count P here d = elements_count d.name (shape_of P here d)
 
-pieces_count :
+pub pieces_count :
     {A B C : Type 0} (f : A → List B) (g : A → List C) (xs : List A) →
     Every (λ x. length (f x) ≡ length (g x)) xs → length (flat_map f xs) ≡ length (flat_map g xs)
 pieces_count f g [] h = refl

@@ -17,6 +17,7 @@ use Rattle.lb_flat.specs.Flat.{FlatClock, Always, Operation, ApplyBinary, FlatEq
 use Rattle.lb_flat.specs.Run.{Ready}
 use Rattle.lb_flat.specs.Layouts.{Layout, flat_clock}
 use Rattle.lb_flat.specs.Emit.{expanded}
+use Rattle.lb_flat.specs.Expanded.{IsOrderingOf}
 use Rattle.lb_flat.specs.Flattening.{history_of, IsTrace}
 use Rattle.lb_flat.proofs.Lists.{Every-in}
 use Rattle.lb_flat.proofs.Counting.{IsTruth}
@@ -30,11 +31,7 @@ use Rattle.lb_flat.proofs.Fitting.{OperandKinds, KindFits, IsFitting, compared, 
 
 -- ## The same equations in another order
 
-pub record IsOrderingOf (Q Q' : List FlatEquation) : Type 0 where
-  pub there : (q : FlatEquation) → In q Q → In q Q'
-  pub back : (q : FlatEquation) → In q Q' → In q Q
-
-Every-of_in : {A : Type 0} (P : A → Type 0) (xs : List A) → ((x : A) → In x xs → P x) → Every P xs
+pub Every-of_in : {A : Type 0} (P : A → Type 0) (xs : List A) → ((x : A) → In x xs → P x) → Every P xs
 Every-of_in P [] f = tt
 Every-of_in P (x ∷ xs) f = (f x (inl refl), Every-of_in P xs (λ y i. f y (inr i)))
 
@@ -69,13 +66,13 @@ absent_truths : (n : ℕ) → Every IsTruth (replicate n None)
 absent_truths zero = tt
 absent_truths (suc n) = (tt, absent_truths n)
 
-second_of_or : (k l r : Kind) → binary_kind Or k l ≡ Some r → l ≡ Truth
+pub second_of_or : (k l r : Kind) → binary_kind Or k l ≡ Some r → l ≡ Truth
 second_of_or Int Int r e = cc
 second_of_or Int Truth r e = refl
 second_of_or Truth Int r e = cc
 second_of_or Truth Truth r e = refl
 
-second_of_and : (k l r : Kind) → binary_kind And k l ≡ Some r → l ≡ Truth
+pub second_of_and : (k l r : Kind) → binary_kind And k l ≡ Some r → l ≡ Truth
 second_of_and Int Int r e = cc
 second_of_and Int Truth r e = refl
 second_of_and Truth Int r e = cc

@@ -65,7 +65,7 @@ module _ (row : Row) (ticks : List Tick) (clock rest : Option TickId) (depth : �
   module _ (id : TickId) (d : Tick) (e : rest ≡ Some id) (in_table : IsClock ticks rest)
       (lt : depth < length ticks) where
     within : id.0 < length ticks
-    within = subst (IsClock ticks) e in_table
+    within = in_table id e
 
     above :
         (n : ℕ) → n + (depth + 1) ≡ length ticks →

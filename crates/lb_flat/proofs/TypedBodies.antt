@@ -27,7 +27,7 @@ use Rattle.lb_flat.proofs.Widths.{AreVariablesWide, IsOccurrenceWide, first_of_a
 number_same : (n m : ℕ) → nat_eq n m ≡ true → n ≡ m
 number_same n m e = grind arith
 
-name_same : (x y : Name) → bytes_eq x y ≡ true → x ≡ y
+pub name_same : (x y : Name) → bytes_eq x y ≡ true → x ≡ y
 name_same [] [] e = refl
 name_same [] (m ∷ y) e = cc
 name_same (n ∷ x) [] e = cc
@@ -42,7 +42,7 @@ tested test true x o e h = e
 tested test false x o e h = h
 
 -- what a test finds passes it
-found_passes :
+pub found_passes :
     {A : Type 0} (test : A → Bool) (xs : List A) → IfSome (find test xs) (λ x. test x ≡ true)
 found_passes test [] = tt
 found_passes test (x ∷ xs) = tested test (test x) x (find test xs) refl (found_passes test xs)

@@ -10,3 +10,13 @@ pub mod Flattening
 pub mod Values
 pub mod Within
 pub mod Programs
+pub mod InOrder
+pub mod Inputs
+pub mod Plain
+pub mod Stuck
+pub mod Expanded
+pub mod Prefixes
+pub mod Ordering
+pub mod Terms
+pub mod Emissions
+pub mod TermExpansion

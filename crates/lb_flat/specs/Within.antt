@@ -1,6 +1,7 @@
 -- What indexes of the code are in range.
 -- Source: this project's rule.
-use Rattle.std.specs.Prelude.{ℕ, ◌<◌, Option, Some, None, List, length, All}
+use Rattle.std.specs.Prelude.{ℕ, ◌<◌, Option, List, length, All}
+use Rattle.std.specs.Option.{ForSome}
 use Rattle.lb_flat.specs.declared.equation.TickId.{TickId}
 use Rattle.lb_flat.specs.declared.equation.Tick.{Tick}
 use Rattle.lb_flat.specs.declared.equation.Equation.{Equation}
@@ -9,8 +10,7 @@ use Rattle.lb_flat.specs.Values.{operation_of}
 
 -- the base clock, or a clock of the table
 abbrev pub IsClock : List Tick → Option TickId → Type 0
-IsClock ticks None = Unit {0}
-IsClock ticks (Some i) = i.0 < length ticks
+IsClock ticks k = ForSome k (λ i. i.0 < length ticks)
 
 -- a clock waits for one of so many elements, on a clock of the table
 pub record IsTick (size : ℕ) (ticks : List Tick) (t : Tick) : Type 0 where

@@ -3,12 +3,17 @@
 #![tactic(auto)]
 
 pub mod equation;
+pub mod error;
 pub mod evaluate;
+pub mod expand;
+pub mod flat;
 mod instant;
 mod judge;
 mod names;
+pub mod order;
 pub mod program;
 pub mod scalar;
 #[cfg(test)]
 mod tests;
+pub mod trace_run;
 pub mod traces;

@@ -5,10 +5,11 @@
 //! chosen branch alone.
 
 ghost use Rattle.std.specs.Prelude.{◌≡◌, IsTrue, ◌↔◌, true};
-ghost use Rattle.lb_static.specs.Arithmetic.{arithmetic, is_divisible, negated, lawful};
+ghost use Rattle.lb_static.specs.Arithmetic.{negated, lawful};
 ghost use Rattle.lb_check.specs.Scalars.{two_integers, two_booleans, two_values, two_scalars, one_value, one_scalar, chosen, or_fault};
 ghost use Rattle.lb_flat.specs.Values.{scalar_of};
 
+use lb_static::arithmetic::arithmetic;
 use lb_syntax::tree::{BinaryOperator, UnaryOperator};
 
 /// What a scalar element holds where it is present.
@@ -20,27 +21,6 @@ pub enum Scalar {
     Boolean(bool),
     /// The value of a fault.
     Bad,
-}
-
-// Whether there is a quotient.
-fn is_divisible(a: i32, b: i32) -> bool
-    ensures { result ≡ is_divisible a b }
-{
-    b != 0 && !(a == i32::MIN && b == -1)
-}
-
-/// The exact result of an operator of arithmetic, where it is in the range of `int`.
-pub fn arithmetic(op: BinaryOperator, a: i32, b: i32) -> Option<i32>
-    ensures { result ≡ arithmetic op a b }
-{
-    match op {
-        BinaryOperator::Plus => a.checked_add(b),
-        BinaryOperator::Minus => a.checked_sub(b),
-        BinaryOperator::Times => a.checked_mul(b),
-        BinaryOperator::Divide if is_divisible(a, b) => Some(a / b),
-        BinaryOperator::Modulo if is_divisible(a, b) => Some(a % b),
-        _ => None,
-    }
 }
 
 // The result, or the value of a fault where there is none.

@@ -8,7 +8,7 @@
 //!                              row ends  0 2 3
 //! ```
 
-ghost use Rattle.std.specs.Prelude.{◌≡◌, ◌<◌, ◌≤◌, ◌+◌, ◌↔◌, IsTrue, [], length, slice_get, Some, IfOk, OnOk, OnErr, pos};
+ghost use Rattle.std.specs.Prelude.{◌≡◌, ◌<◌, ◌≤◌, ◌+◌, ◌↔◌, IsTrue, [], length, get_or, slice_get, Some, IfOk, OnOk, OnErr, pos};
 ghost use Rattle.std.specs.List.{Contains};
 ghost use Rattle.lb_static.specs.Signature.{kinds_of};
 ghost use Rattle.lb_syntax.specs.declared.tree.Kind.TheVariants.{Int, Bool};
@@ -105,6 +105,18 @@ impl TraceSet {
         ensures { IsTrue result ↔ (cell_at self.now.traces k t column ≡ pos 1) }
     {
         self.cell(k, t, column) == 1
+    }
+
+    /// The cells of a trace at an instant, in the order of the signature; a Boolean is 0 or 1.
+    pub fn row(&self, k: u32, t: u32) -> &[i32]
+        requires trace { k < length self.now.traces }
+        requires instant { t < length (trace_at self.now.traces k).1 }
+        ensures cells { result.now ≡ get_or (trace_at self.now.traces k).1 t [] }
+        ensures width { length result.now ≡ length self.now.signature }
+    {
+        let width = self.signature.len() as usize;
+        let start = (self.row_ends[k as usize] as usize + t as usize) * width;
+        &self.cells.as_slice()[start..start + width]
     }
 
     // The cell of a trace at an instant.

@@ -1,0 +1,137 @@
+-- What solves a program on the beginning of a trace is the beginning of what solves it on the whole
+-- trace.
+use Rattle.std.proofs.Common.{◌≡◌, ℕ, zero, suc, true, ◌&&◌, None, List, [], ◌∷◌, ◌++◌, map, length, take, replicate, refl, sym, ap, ap₂, ◌∙◌}
+use Rattle.lb_syntax.specs.Lists.{Every, zip2}
+use Rattle.lb_syntax.specs.Tree.{Declaration}
+use Rattle.lb_static.specs.Instances.{Program, Instance, Path, instances}
+use Rattle.lb_static.specs.Shapes.{variables}
+use Rattle.lb_check.specs.Scalars.{Stream}
+use Rattle.lb_check.specs.Streams.{History, shows}
+use Rattle.lb_check.specs.Solutions.{Inputs, Solves, AgreeAt}
+use Rattle.lb_flat.specs.Flat.{FlatClock, Always, Where, FlatEquation, column, instants}
+use Rattle.lb_flat.specs.Run.{Row, advanced, Ready, row_of, run, streams_of}
+use Rattle.lb_flat.specs.Layouts.{Layout}
+use Rattle.lb_flat.specs.Judging.{FlatProgram}
+use Rattle.lb_flat.specs.Flattening.{history_of, IsFlatOf}
+use Rattle.lb_flat.specs.Prefixes.{IsPrefixAt, IsPrefix}
+use Rattle.lb_flat.proofs.Running.{ready_advanced, unique, exists}
+
+-- ## Lists
+
+none_taken : (F : List Stream) → map (take 0) F ≡ replicate (length F) []
+none_taken [] = refl
+none_taken (xs ∷ F) = ap (λ ys. [] ∷ ys) (none_taken F)
+
+before_taken :
+    (n : ℕ) (row : Row) (F : List Stream) →
+    map (take (suc n)) (zip2 (λ x xs. x ∷ xs) row F)
+    ≡ zip2 (λ x xs. x ∷ xs) row (map (take n) F)
+before_taken n [] F = refl
+before_taken n (x ∷ row) [] = refl
+before_taken n (x ∷ row) (xs ∷ F) = ap (λ ys. (x ∷ take n xs) ∷ ys) (before_taken n row F)
+
+zip_taken :
+    {A B C : Type 0} (f : A → B → C) (n : ℕ) (xs : List A) (ys : List B) →
+    take n (zip2 f xs ys) ≡ zip2 f (take n xs) (take n ys)
+zip_taken f zero xs ys = refl
+zip_taken f (suc n) [] ys = refl
+zip_taken f (suc n) (x ∷ xs) [] = refl
+zip_taken f (suc n) (x ∷ xs) (y ∷ ys) = ap (λ zs. f x y ∷ zs) (zip_taken f n xs ys)
+
+module _ (Z : Inputs) where
+  replicate_taken :
+      {A : Type 0} (x : A) (X : Inputs) →
+      take (length X) (replicate (length (X ++ Z)) x) ≡ replicate (length X) x
+  replicate_taken x [] = refl
+  replicate_taken x (given ∷ X) = ap (λ xs. x ∷ xs) (replicate_taken x X)
+
+  -- ## Streams
+
+  -- the streams of the run of a prefix are those of the whole run, as far as the prefix goes
+  streams_taken :
+      (size : ℕ) (Q : List FlatEquation) (X : Inputs) → Ready size [] Q →
+      streams_of size (run size Q X)
+      ≡ map (take (length X)) (streams_of size (run size Q (X ++ Z)))
+  streams_taken size Q [] ready =
+      let F = streams_of size (run size Q Z) in
+      ap (λ n. replicate n []) (sym (exists size Z Q ready).elements) ∙ sym (none_taken F)
+  streams_taken size Q (given ∷ X) ready =
+      let row = row_of size Q given in
+      let later = map (advanced row) Q in
+      ap (λ F. zip2 (λ x xs. x ∷ xs) row F)
+      (streams_taken size later X (ready_advanced size row [] Q ready))
+      ∙ sym (before_taken (length X) row (streams_of size (run size later (X ++ Z))))
+
+  module _ (X : Inputs) where
+    abbrev cut : Stream → Stream
+    cut xs = take (length X) xs
+
+    column_taken :
+        (F : List Stream) (i : ℕ) → column X (map cut F) i ≡ cut (column (X ++ Z) F i)
+    column_taken [] i = sym (replicate_taken None X)
+    column_taken (xs ∷ F) zero = refl
+    column_taken (xs ∷ F) (suc i) = column_taken F i
+
+    columns_taken :
+        (F : List Stream) (is : List ℕ) →
+        map (column X (map cut F)) is ≡ map cut (map (column (X ++ Z) F) is)
+    columns_taken F [] = refl
+    columns_taken F (i ∷ is) = ap₂ (λ x xs. x ∷ xs) (column_taken F i) (columns_taken F is)
+
+    instants_taken :
+        (F : List Stream) (k : FlatClock) →
+        instants X (map cut F) k ≡ take (length X) (instants (X ++ Z) F k)
+    instants_taken F Always = sym (replicate_taken true X)
+    instants_taken F (Where k i sign) =
+        ap₂ (zip2 (λ b x. b && shows sign x)) (instants_taken F k) (column_taken F i)
+        ∙ sym (zip_taken (λ b x. b && shows sign x) (length X) (instants (X ++ Z) F k)
+        (column (X ++ Z) F i))
+
+    -- ## Histories
+
+    module _ (Y : Layout) (F G : List Stream) (prefix : G ≡ map cut F) (H' H : History) where
+      abbrev Whole : History
+      Whole = history_of Y (X ++ Z) F
+
+      abbrev Part : History
+      Part = history_of Y X G
+
+      variables_prefix :
+          (p : Path) (ds : List Declaration) →
+          Every (λ d. Part.columns p d.name ≡ H'.columns p d.name) ds →
+          Every (λ d. Whole.columns p d.name ≡ H.columns p d.name) ds →
+          Every (λ d. H'.columns p d.name ≡ map cut (H.columns p d.name)) ds
+      variables_prefix p [] h g = tt
+      variables_prefix p (d ∷ ds) h g = (
+        sym h.0 ∙ ap (λ E. map (column X E) (Y.places p d.name)) prefix
+            ∙ columns_taken F (Y.places p d.name) ∙ ap (map cut) g.0,
+        variables_prefix p ds h.1 g.1,
+      )
+
+      instances_prefix :
+          (is : List Instance) → Every (AgreeAt Part H') is → Every (AgreeAt Whole H) is →
+          Every (IsPrefixAt H' H (length X)) is
+      instances_prefix [] h g = tt
+      instances_prefix (here ∷ is) h g = (
+        record {
+          ticks =
+              sym h.0.ticks ∙ ap (λ E. instants X E (Y.runs here.path)) prefix
+              ∙ instants_taken F (Y.runs here.path) ∙ ap (take (length X)) g.0.ticks;
+          columns =
+              variables_prefix here.path (variables here.node) h.0.columns g.0.columns;
+        },
+        instances_prefix is h.1 g.1,
+      )
+
+-- what happens up to an instant does not hang on what comes after it
+pub is_prefix :
+    (P : Program) (f : FlatProgram) → IsFlatOf P f → Ready f.size [] f.equations →
+    (X Z : Inputs) (H H' : History) → Solves P (X ++ Z) H → Solves P X H' →
+    IsPrefix P H' H (length X)
+is_prefix P f flat ready X Z H H' whole part =
+    let r = flat.solved (X ++ Z) H whole in
+    let s = flat.solved X H' part in
+    let same =
+    unique f.size X f.equations s.0 ready s.1 ∙ streams_taken Z f.size f.equations X ready
+    ∙ sym (ap (map (take (length X))) (unique f.size (X ++ Z) f.equations r.0 ready r.1)) in
+    instances_prefix Z X flat.layout r.0 s.0 same H' H (instances P) s.2 r.2

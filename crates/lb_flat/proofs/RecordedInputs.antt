@@ -1,0 +1,116 @@
+-- The rows of a recorded trace are a trace of a program with its signature, and a flat program in
+-- order gives its verdict.
+use Rattle.std.proofs.Common.{◌≡◌, ℕ, zero, suc, ◌+◌, ◌<◌, ◌≤◌, Bool as Truth, true, ◌&&◌, ℤ, pos, List, [], ◌∷◌, ◌++◌, map, length, take, get_or, set, refl, sym, ap, ap₂, subst, ◌∙◌, arith}
+use Rattle.std.specs.List.{All}
+use Rattle.std.proofs.lemmas.Int.{ints}
+use Rattle.std.proofs.lemmas.List.{map_push, take_all, take_more, take_more_set}
+use Rattle.std.proofs.lemmas.List.Elements.{All-head, All-tail}
+use Rattle.lb_syntax.specs.declared.tree.Kind.{Kind}
+use Rattle.lb_syntax.specs.declared.tree.Kind.TheVariants.{Int, Bool}
+use Rattle.lb_syntax.specs.Lists.{Every, zip2}
+use Rattle.lb_static.specs.Arithmetic.{is_int}
+use Rattle.lb_static.specs.Instances.{Program}
+use Rattle.lb_static.specs.Shapes.{signature}
+use Rattle.lb_static.specs.Signature.{Elements, kinds_of}
+use Rattle.lb_check.specs.declared.verdict.Verdict.{Verdict}
+use Rattle.lb_check.specs.Scalars as scalars
+use Rattle.lb_check.specs.Scalars.{is_given}
+use Rattle.lb_check.specs.Solutions.{is_row, HasOneHistory}
+use Rattle.lb_check.specs.Verdicts.{HasVerdict}
+use Rattle.lb_flat.specs.declared.scalar.Scalar.{Scalar}
+use Rattle.lb_flat.specs.Traces.{Row, Recording, trace_at, IsCell, IsInt, IsRow, IsRecording}
+use Rattle.lb_flat.specs.Inputs.{scalar_in, scalars_in, inputs_of}
+use Rattle.lb_flat.specs.Flattening.{IsTrace, IsFlatOf}
+use Rattle.lb_flat.specs.Judging.{FlatProgram, flat_verdict}
+use Rattle.lb_flat.specs.Run.{Ready}
+use Rattle.lb_flat.specs.Values.{scalar_of}
+use Rattle.lb_flat.proofs.Judging.{has_verdict, has_one_history}
+use Rattle.lb_flat.proofs.Lists.{length-zips}
+
+-- ## The scalars of a row, one after the other
+
+get_or-zips :
+    {A B C : Type 0} (f : A → B → C) (xs : List A) (ys : List B) (i : ℕ) (a : A) (b : B) (c : C) →
+    i < length xs → i < length ys → get_or (zip2 f xs ys) i c ≡ f (get_or xs i a) (get_or ys i b)
+get_or-zips f [] ys i a b c p q = absurd (omega arith)
+get_or-zips f (x ∷ xs) [] i a b c p q = absurd (omega arith)
+get_or-zips f (x ∷ xs) (y ∷ ys) zero a b c p q = refl
+get_or-zips f (x ∷ xs) (y ∷ ys) (suc i) a b c p q =
+    get_or-zips f xs ys i a b c (omega arith) (omega arith)
+
+module _ (kinds : List Kind) (row : List ℤ) (given : List Scalar) (i : ℕ) where
+  abbrev wanted : List scalars.Scalar
+  wanted = zip2 scalar_in kinds row
+
+  pub read_more :
+      (v : Scalar) → length row ≡ length kinds → length given ≡ length kinds →
+      i < length kinds → map scalar_of (take i given) ≡ take i wanted →
+      scalar_of v ≡ scalar_in (get_or kinds i Int) (get_or row i (pos 0)) →
+      map scalar_of (take (i + 1) (set given i v)) ≡ take (i + 1) wanted
+  read_more v cells scalars lt before is =
+      let long = length-zips scalar_in (length kinds) kinds row refl cells in
+      let next : get_or wanted i (scalar_of v) ≡ scalar_of v =
+      get_or-zips scalar_in kinds row i Int (pos 0) (scalar_of v) lt (omega (arith, cells))
+      ∙ sym is in
+      ap (map scalar_of) (take_more_set given i v (omega (arith, scalars)))
+      ∙ map_push scalar_of (take i given) v
+      ∙ ap₂ (λ xs x. xs ++ x ∷ []) before (sym next)
+      ∙ sym (take_more wanted i (scalar_of v) (omega (arith, long)))
+
+  pub read_all :
+      length row ≡ length kinds → length given ≡ length kinds → length kinds ≤ i →
+      map scalar_of (take i given) ≡ take i wanted → map scalar_of given ≡ wanted
+  read_all cells scalars le before =
+      let long = length-zips scalar_in (length kinds) kinds row refl cells in
+      ap (map scalar_of) (sym (take_all i given (omega (arith, scalars)))) ∙ before
+      ∙ take_all i wanted (omega (arith, long))
+
+-- ## Each row is one of the program's kinds
+
+both : (a b : Truth) → a ≡ true → b ≡ true → (a && b) ≡ true
+both a b p q = ap₂ (λ c d. c && d) p q
+
+in_range : (v : ℤ) → IsInt v → is_int v ≡ true
+in_range v h = grind (arith, ints)
+
+is_given_in : (kind : Kind) (v : ℤ) → IsCell kind v → is_given kind (scalar_in kind v) ≡ true
+is_given_in Int v h = in_range v h
+is_given_in Bool v h = refl
+
+row_given :
+    (elements : Elements) (row : Row) → IsRow elements row →
+    is_row (kinds_of elements) (scalars_in elements row) ≡ true
+row_given [] [] h = refl
+row_given [] (v ∷ row) h = absurd h
+row_given (e ∷ elements) [] h = absurd h
+row_given (e ∷ elements) (v ∷ row) h =
+    both _ _ (is_given_in e.1 v h.0) (row_given elements row h.1)
+
+pub rows_given :
+    (elements : Elements) (rows : List Row) → All (IsRow elements) rows →
+    Every (λ row. is_row (kinds_of elements) row ≡ true) (map (scalars_in elements) rows)
+rows_given elements [] h = tt
+rows_given elements (row ∷ rows) h = (
+  row_given elements row (All-head (IsRow elements) row rows h),
+  rows_given elements rows (All-tail (IsRow elements) row rows h),
+)
+
+-- ## The verdict of a recorded trace
+
+module _ (P : Program) (r : Recording) (k : ℕ) (same : signature P ≡ r.signature)
+    (lawful : IsRecording r) (below : k < length r.traces) where
+  trace_given : IsTrace P (inputs_of r k)
+  trace_given =
+      subst (λ (elements : Elements).
+      Every (λ row. is_row (kinds_of elements) row ≡ true) (inputs_of r k)) (sym same)
+      (rows_given r.signature (trace_at r.traces k).1 (lawful.each k ([], []) below).rows)
+
+  module _ (f : FlatProgram) (flat : IsFlatOf P f) (ready : Ready f.size [] f.equations) where
+    pub recorded_verdict :
+        (v : Verdict) → v ≡ flat_verdict f (inputs_of r k) → HasVerdict P (inputs_of r k) v
+    recorded_verdict v e =
+        subst (HasVerdict P (inputs_of r k)) (sym e)
+        (has_verdict P f flat ready (inputs_of r k) trace_given)
+
+    pub recorded_alone : HasOneHistory P (inputs_of r k)
+    recorded_alone = has_one_history P f flat ready (inputs_of r k) trace_given

@@ -1,0 +1,207 @@
+-- A row of terms in a tree is the list in the vector; terms and steps from a place on.
+use Rattle.std.proofs.Common.{◌≡◌, ℕ, ◌+◌, ◌*◌, ◌<◌, ◌≤◌, List, [], ◌∷◌, ◌++◌, length, drop, get_or, Vec, Box, Global, refl, sym, ap, ◌∙◌, zero, suc, MatchOption, Option, Some, None, arith}
+use Rattle.std.specs.Prelude.{true, false, ◌&&◌, nat_lt, slice_get}
+use Rattle.std.specs.List.{list_all}
+use Rattle.std.proofs.lemmas.Bool.Decides.{nat_tests}
+use Rattle.std.proofs.lemmas.List.{drop_more}
+use mathlib.Core.Former.{Count}
+use Rattle.lb_syntax.specs.declared.tree.Kind.{Kind}
+use Rattle.lb_syntax.specs.declared.tree.Kind.TheVariants.{Int as Int_kind}
+use Rattle.lb_syntax.specs.Lists.{either_or}
+use Rattle.lb_static.specs.declared.term.Variable.{Variable as Declared}
+use Rattle.lb_static.specs.declared.term.VariableId.{VariableId}
+use Rattle.lb_static.specs.declared.term.Step.{Step}
+use Rattle.lb_static.specs.declared.term.Term.{Term, Fby, AtMostOne, Nor, AtMostOne', Nor', Row_of-Term, end_of-Term, more_of-Term, items-the_row-Term, items_hidden-the_row-Term-0}
+use Rattle.lb_static.specs.Elaborated.{is_place, is_step_within, is_within, are_within}
+use Rattle.lb_check.specs.TermKinds.{kinds_of}
+use Rattle.lb_flat.specs.Flat.{Always, FirstThen}
+use Rattle.lb_flat.specs.Emit.{State, Emitted, emit_nor, emit_at_most_one}
+use Rattle.lb_flat.specs.Terms.{Found, pushed, previous, as_truth, emit_term, emit_row, emit_list, term_size, row_size, list_size, step_size, steps_size, emit_step, emit_steps}
+use Rattle.lb_flat.proofs.ShapeFacts.{and_first, and_second}
+
+abbrev pub row_of : Term → (n : Count) × Row_of-Term n
+row_of (AtMostOne' _ row) = (_, row)
+row_of (Nor' _ row) = (_, row)
+row_of _ = (_, end_of-Term)
+
+-- ## Size
+
+size_items : (n : _) (row : Row_of-Term n) → row_size row ≡ list_size (items-the_row-Term n row)
+unfolding term_size list_size
+size_items n end_of-Term = refl
+size_items n (more_of-Term e rest) = ap (λ m. term_size e + m) (size_items _ rest)
+
+pub size_at_most_one : (es : Vec Term Global) → term_size (AtMostOne es) ≡ 1 + list_size es.items
+unfolding term_size
+size_at_most_one es =
+    let row = row_of (AtMostOne es) in
+    ap (λ m. 1 + m) (size_items row.0 row.1 ∙ ap list_size (items_hidden-the_row-Term-0 es))
+
+pub size_nor : (es : Vec Term Global) → term_size (Nor es) ≡ 1 + list_size es.items
+unfolding term_size
+size_nor es =
+    let row = row_of (Nor es) in
+    ap (λ m. 1 + m) (size_items row.0 row.1 ∙ ap list_size (items_hidden-the_row-Term-0 es))
+
+pub size_next : (es : List Term) (i : ℕ) (d : Term) → i < length es →
+    list_size (drop i es) ≡ term_size (get_or es i d) + list_size (drop (i + 1) es)
+unfolding list_size
+size_next es i d lt = ap list_size (drop_more es i d lt)
+
+pub steps_size_next : (ss : List Step) (i : ℕ) (d : Step) → i < length ss →
+    steps_size (drop i ss) ≡ step_size (get_or ss i d) + steps_size (drop (i + 1) ss)
+unfolding steps_size
+steps_size_next ss i d lt = ap steps_size (drop_more ss i d lt)
+
+-- what is left after some, and then after more
+pub after_more :
+    (o : Option ℕ) (left all before used rest : ℕ) →
+    MatchOption o (before < rest) (λ r. r + rest ≡ before) → before + used ≡ left →
+    all ≡ used + rest → MatchOption o (left < all) (λ r. r + all ≡ left)
+after_more None left all before used rest h e a = omega arith
+after_more (Some r) left all before used rest h e a = omega arith
+
+-- ## Emission
+
+list_after_row :
+    (kinds : List Kind) (s : State) (found : List ℕ) (n : _) (row : Row_of-Term n) →
+    emit_row kinds s found row ≡ emit_list kinds s found (items-the_row-Term n row)
+unfolding emit_term emit_list
+list_after_row kinds s found n end_of-Term = refl
+list_after_row kinds s found n (more_of-Term e rest) =
+    let x = emit_term kinds s e in
+    list_after_row kinds x.state (found ++ x.element ∷ []) _ rest
+
+pub emit_at_most_one_is :
+    (kinds : List Kind) (s : State) (es : Vec Term Global) →
+    emit_term kinds s (AtMostOne es)
+    ≡ (let r = emit_list kinds s [] es.items in as_truth (emit_at_most_one Always r.state r.found))
+unfolding emit_term
+emit_at_most_one_is kinds s es =
+    let row = row_of (AtMostOne es) in
+    ap (λ (r : Emitted). as_truth (emit_at_most_one Always r.state r.found))
+    (list_after_row kinds s [] row.0 row.1
+    ∙ ap (emit_list kinds s []) (items_hidden-the_row-Term-0 es))
+
+pub emit_nor_is :
+    (kinds : List Kind) (s : State) (es : Vec Term Global) →
+    emit_term kinds s (Nor es)
+    ≡ (let r = emit_list kinds s [] es.items in as_truth (emit_nor Always r.state r.found))
+unfolding emit_term
+emit_nor_is kinds s es =
+    let row = row_of (Nor es) in
+    ap (λ (r : Emitted). as_truth (emit_nor Always r.state r.found))
+    (list_after_row kinds s [] row.0 row.1
+    ∙ ap (emit_list kinds s []) (items_hidden-the_row-Term-0 es))
+
+pub emit_next :
+    (kinds : List Kind) (s : State) (found : List ℕ) (es : List Term) (i : ℕ) (d : Term) →
+    i < length es →
+    emit_list kinds s found (drop i es)
+    ≡ (let x = emit_term kinds s (get_or es i d) in
+    emit_list kinds x.state (found ++ x.element ∷ []) (drop (i + 1) es))
+unfolding emit_list
+emit_next kinds s found es i d lt = ap (emit_list kinds s found) (drop_more es i d lt)
+
+pub emit_fby_is :
+    (kinds : List Kind) (s : State) (a b : Box Term Global) (x y z : Found) →
+    x ≡ emit_term kinds s a.value → y ≡ emit_term kinds x.state b.value → z ≡ previous y →
+    emit_term kinds s (Fby a b) ≡ pushed z.state (FirstThen false x.element z.element) y.kind
+unfolding emit_term
+emit_fby_is kinds s a b x y z ex ey ez =
+    let f : Found → Found → Found = λ x y.
+    pushed (previous y).state (FirstThen false x.element (previous y).element) y.kind in
+    sym (ap (λ (z : Found). pushed z.state (FirstThen false x.element z.element) y.kind) ez
+    ∙ ap (f x) ey ∙ ap (λ (x : Found). f x (emit_term kinds x.state b.value)) ex)
+
+pub variable_kind : (vars : List Declared) (x : VariableId) (d : Declared) →
+    is_place (length vars) x ≡ true →
+    (get_or vars x.0 d).kind ≡ either_or (slice_get (kinds_of vars) x.0) Int_kind
+variable_kind vars x d e = by vars x.0 e
+  where
+    by : (vars : List Declared) (i : ℕ) → nat_lt i (length vars) ≡ true →
+        (get_or vars i d).kind ≡ either_or (slice_get (kinds_of vars) i) Int_kind
+    by [] i e = absurd (grind (arith, nat_tests))
+    by (v ∷ vars) zero e = refl
+    by (v ∷ vars) (suc i) e = by vars i (grind (arith, nat_tests))
+
+within_items : (count : ℕ) (n : _) (row : Row_of-Term n) →
+    are_within count row ≡ list_all (is_within count) (items-the_row-Term n row)
+within_items count n end_of-Term = refl
+within_items count n (more_of-Term e rest) =
+    ap (λ b. is_within count e && b) (within_items count _ rest)
+
+pub within_at_most_one : (count : ℕ) (es : Vec Term Global) →
+    is_within count (AtMostOne es) ≡ list_all (is_within count) es.items
+within_at_most_one count es =
+    let row = row_of (AtMostOne es) in
+    within_items count row.0 row.1
+    ∙ ap (list_all (is_within count)) (items_hidden-the_row-Term-0 es)
+
+pub within_nor : (count : ℕ) (es : Vec Term Global) →
+    is_within count (Nor es) ≡ list_all (is_within count) es.items
+within_nor count es =
+    let row = row_of (Nor es) in
+    within_items count row.0 row.1
+    ∙ ap (list_all (is_within count)) (items_hidden-the_row-Term-0 es)
+
+-- the terms of a row, read from its vector
+pub within_of_truths :
+    (count : ℕ) (xs : List Term) (t : Term) (es : Vec Term Global) → t ≡ AtMostOne es →
+    xs ≡ es.items → is_within count t ≡ true → list_all (is_within count) xs ≡ true
+within_of_truths count xs t es is items e =
+    ap (list_all (is_within count)) items ∙ sym (within_at_most_one count es)
+    ∙ ap (is_within count) (sym is) ∙ e
+
+pub within_of_nor :
+    (count : ℕ) (xs : List Term) (t : Term) (es : Vec Term Global) → t ≡ Nor es →
+    xs ≡ es.items → is_within count t ≡ true → list_all (is_within count) xs ≡ true
+within_of_nor count xs t es is items e =
+    ap (list_all (is_within count)) items ∙ sym (within_nor count es)
+    ∙ ap (is_within count) (sym is) ∙ e
+
+pub room_of_truths :
+    (next : ℕ) (xs : List Term) (t : Term) (es : Vec Term Global) → t ≡ AtMostOne es →
+    xs ≡ es.items → next + 5 * term_size t < 4294967296 → next + 5 * list_size xs < 4294967296
+room_of_truths next xs t es is items e =
+    let a = ap term_size is ∙ size_at_most_one es in
+    let b = ap list_size items in
+    omega (arith, a, b, e)
+
+pub room_of_nor :
+    (next : ℕ) (xs : List Term) (t : Term) (es : Vec Term Global) → t ≡ Nor es →
+    xs ≡ es.items → next + 5 * term_size t < 4294967296 → next + 5 * list_size xs < 4294967296
+room_of_nor next xs t es is items e =
+    let a = ap term_size is ∙ size_nor es in
+    let b = ap list_size items in
+    omega (arith, a, b, e)
+
+pub within_next : (count : ℕ) (es : List Term) (i : ℕ) (d : Term) → i < length es →
+    list_all (is_within count) (drop i es)
+    ≡ is_within count (get_or es i d) && list_all (is_within count) (drop (i + 1) es)
+within_next count es i d lt = ap (list_all (is_within count)) (drop_more es i d lt)
+
+-- ## Steps
+
+pub step_within_next : (count : ℕ) (ss : List Step) (i : ℕ) (d : Step) → i < length ss →
+    list_all (is_step_within count) (drop i ss)
+    ≡ is_step_within count (get_or ss i d) && list_all (is_step_within count) (drop (i + 1) ss)
+step_within_next count ss i d lt = ap (list_all (is_step_within count)) (drop_more ss i d lt)
+
+pub steps_next :
+    (kinds : List Kind) (s : State) (ss : List Step) (i : ℕ) (d : Step) → i < length ss →
+    emit_steps kinds s (drop i ss)
+    ≡ emit_steps kinds (emit_step kinds s (get_or ss i d)) (drop (i + 1) ss)
+unfolding emit_steps
+steps_next kinds s ss i d lt = ap (emit_steps kinds s) (drop_more ss i d lt)
+
+-- places of some are places of more
+pub places_of_more : (m : ℕ) (xs : List VariableId) (n : ℕ) → n ≤ m →
+    list_all (is_place n) xs ≡ true → list_all (is_place m) xs ≡ true
+places_of_more m [] n le e = refl
+places_of_more m (x ∷ xs) n le e =
+    let first : is_place n x ≡ true = and_first (is_place n x) _ e in
+    let here : is_place m x ≡ true = grind (arith, nat_tests) in
+    rw here (places_of_more m xs n le (and_second (is_place n x) _ e))
+
+pub ruleset sizes = (size_at_most_one, size_nor, size_next, steps_size_next, after_more)

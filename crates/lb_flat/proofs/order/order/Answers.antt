@@ -1,0 +1,20 @@
+use Rattle.std.proofs.Common.{refl, rules}
+use Rattle.lb_flat.specs.Programs.{flat_equations}
+use Rattle.lb_flat.proofs.InOrder.{ready_of}
+use Rattle.lb_flat.proofs.order.order.Goals as goal
+
+pub returns-clause-order : goal.returns-clause-order
+returns-clause-order c =
+    let p = c.args.flat.program in
+    let ordered = c.in_ok-equations.ensures.order in
+    record {
+      same = refl;
+      ordering = ordered.ordering;
+      ready =
+          ready_of p.size (flat_equations p.ticks.items c.in_ok-equations.equations.items)
+          ordered.in_order;
+    }
+
+pub returns-in_err-equations-clause-cycle : goal.returns-in_err-equations-clause-cycle
+returns-in_err-equations-clause-cycle c e =
+    c.in_err-equations.ensures.cycle (search rules)

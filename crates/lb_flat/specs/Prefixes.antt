@@ -1,0 +1,19 @@
+-- When a history is the beginning of another.
+-- Source: this project's rule.
+use Rattle.std.specs.Prelude.{◌≡◌, ℕ, map, take}
+use Rattle.lb_syntax.specs.Lists.{Every}
+use Rattle.lb_static.specs.Instances.{Program, Instance, instances}
+use Rattle.lb_static.specs.Shapes.{variables}
+use Rattle.lb_check.specs.Streams.{History}
+
+-- at an instance, the clock and the streams of each variable are the first n instants of those of
+-- the other history
+pub record IsPrefixAt (H' H : History) (n : ℕ) (here : Instance) : Type 0 where
+  pub ticks : H'.ticks here.path ≡ take n (H.ticks here.path)
+  pub columns :
+      Every (λ d. H'.columns here.path d.name ≡ map (take n) (H.columns here.path d.name))
+      (variables here.node)
+
+-- a history is the first n instants of another, as far as a program's instances and variables go
+abbrev pub IsPrefix : Program → History → History → ℕ → Type 0
+IsPrefix P H' H n = Every (IsPrefixAt H' H n) (instances P)

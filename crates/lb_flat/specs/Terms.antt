@@ -1,0 +1,201 @@
+-- This file mirrors code (src/expand.rt and the files below it): the equations that `expand` emits
+-- for terms, whose names are places, and how many expressions it counts.
+-- All is scalar and on the base clock, so each term has one element.
+use Rattle.std.specs.Prelude.{ℕ, ◌+◌, false, nat_le, pos, List, [], ◌∷◌, ◌++◌, length, map, slice_get, get_or, if◌then◌else◌}
+use Rattle.std.specs.List.{range_with_len}
+use Rattle.lb_syntax.specs.declared.tree.UnaryOperator.{UnaryOperator}
+use Rattle.lb_syntax.specs.declared.tree.UnaryOperator.TheVariants.{Not, Negate}
+use Rattle.lb_syntax.specs.declared.tree.BinaryOperator.{BinaryOperator}
+use Rattle.lb_syntax.specs.declared.tree.Kind.{Kind}
+use Rattle.lb_syntax.specs.declared.tree.Kind.TheVariants.{Int as Int_kind, Bool as Bool_kind}
+use Rattle.lb_syntax.specs.Lists.{either_or}
+use Rattle.lb_static.specs.declared.elab.Elab.{Elab}
+use Rattle.lb_static.specs.declared.term.VariableId.{VariableId}
+use Rattle.lb_static.specs.declared.term.Step.{Step}
+use Rattle.lb_static.specs.declared.term.Step.TheVariants as step
+use Rattle.lb_static.specs.declared.term.Term.{Term, Literal, Truth, Variable, Group', Unary', Binary', If', Arrow', Fby', Pre', AtMostOne', Nor', Row_of-Term, end_of-Term, more_of-Term}
+use Rattle.lb_check.specs.Scalars.{Scalar, Integer, Boolean, Bad, first_value}
+use Rattle.lb_check.specs.Types.{is_arithmetic}
+use Rattle.lb_check.specs.TermKinds.{kinds_of}
+use Rattle.lb_flat.specs.Flat.{Always, Operation, Input, Constant, Copy, ApplyUnary, ApplyBinary, Choose, FirstThen, Previous, FlatEquation}
+use Rattle.lb_flat.specs.Judging.{FlatProgram}
+use Rattle.lb_flat.specs.Emit.{State, Emitted, push, emit_nor, emit_at_most_one, before_instances}
+
+-- ## Terms
+
+-- what was emitted, with the element that holds a term and its kind
+pub record Found : Type 0 where
+  pub state : State
+  pub element : ℕ
+  pub kind : Kind
+
+-- one equation more, whose element holds a term
+abbrev pub pushed : State → Operation → Kind → Found
+pushed s o k = record { state = push Always s o; element = s.next; kind = k }
+
+-- this element is an operand that a memory keeps
+abbrev pub kept : Found → Found
+kept x = record {
+  state = record x.state { kept = x.state.kept ++ x.element ∷ [] };
+  element = x.element;
+  kind = x.kind;
+}
+
+-- `pre` of this operand
+abbrev pub previous : Found → Found
+previous x = pushed (kept x).state (Previous (first_value x.kind) x.element) x.kind
+
+-- the one element of a truth
+abbrev pub as_truth : Emitted → Found
+as_truth x = record { state = x.state; element = get_or x.found 0 0; kind = Bool_kind }
+
+-- a literal; one that is no `int` has the value of a fault
+abbrev pub literal : ℕ → Scalar
+literal n = if nat_le n 2147483647 then Integer (pos n) else Bad
+
+-- what an operator gives
+abbrev pub unary_result : UnaryOperator → Kind
+unary_result Not = Bool_kind
+unary_result Negate = Int_kind
+
+abbrev pub binary_result : BinaryOperator → Kind
+binary_result op = if is_arithmetic op then Int_kind else Bool_kind
+
+unfoldable mutual
+  -- the equations of a term after those of s, where the variables have these kinds
+  pub emit_term : List Kind → State → Term → Found
+  emit_term kinds s (Literal n) = pushed s (Constant (literal n)) Int_kind
+  emit_term kinds s (Truth b) = pushed s (Constant (Boolean b)) Bool_kind
+  emit_term kinds s (Variable x) =
+      record { state = s; element = x.0; kind = either_or (slice_get kinds x.0) Int_kind }
+  emit_term kinds s (Group' p e) = emit_term kinds s e
+  emit_term kinds s (Unary' op p a) =
+      let x = emit_term kinds s a in
+      pushed x.state (ApplyUnary op x.element) (unary_result op)
+  emit_term kinds s (Binary' op p a q b) =
+      let x = emit_term kinds s a in
+      let y = emit_term kinds x.state b in
+      pushed y.state (ApplyBinary op x.element y.element) (binary_result op)
+  emit_term kinds s (If' p c q a r b) =
+      let z = emit_term kinds s c in
+      let x = emit_term kinds z.state a in
+      let y = emit_term kinds x.state b in
+      pushed y.state (Choose z.element x.element y.element) y.kind
+  emit_term kinds s (Arrow' p a q b) =
+      let x = emit_term kinds s a in
+      let y = emit_term kinds x.state b in
+      pushed y.state (FirstThen false x.element y.element) y.kind
+  emit_term kinds s (Fby' p a q b) =
+      let x = emit_term kinds s a in
+      let y = emit_term kinds x.state b in
+      let z = previous y in
+      pushed z.state (FirstThen false x.element z.element) y.kind
+  emit_term kinds s (Pre' p a) = previous (emit_term kinds s a)
+  emit_term kinds s (AtMostOne' shape all) =
+      let r = emit_row kinds s [] all in
+      as_truth (emit_at_most_one Always r.state r.found)
+  emit_term kinds s (Nor' shape all) =
+      let r = emit_row kinds s [] all in
+      as_truth (emit_nor Always r.state r.found)
+
+  -- those of a row of terms, where these elements were found before
+  pub emit_row : {m : _} → List Kind → State → List ℕ → Row_of-Term m → Emitted
+  emit_row kinds s found end_of-Term = record { state = s; found = found }
+  emit_row kinds s found (more_of-Term e rest) =
+      let x = emit_term kinds s e in
+      emit_row kinds x.state (found ++ x.element ∷ []) rest
+
+-- those of a list of terms
+unfoldable pub emit_list : List Kind → State → List ℕ → List Term → Emitted
+emit_list kinds s found [] = record { state = s; found = found }
+emit_list kinds s found (e ∷ es) =
+    let x = emit_term kinds s e in
+    emit_list kinds x.state (found ++ x.element ∷ []) es
+
+-- ## Steps
+
+-- the first left variable is a copy of an element
+abbrev pub copied_first : List VariableId → ℕ → List FlatEquation
+copied_first [] i = []
+copied_first (x ∷ xs) i =
+    record { element = x.0; clock = Always; operation = Copy i } ∷ []
+
+abbrev pub with_copies : State → List FlatEquation → State
+with_copies s qs = record s { copies = s.copies ++ qs }
+
+-- the equations of a step after those of s
+unfoldable pub emit_step : List Kind → State → Step → State
+emit_step kinds s (step.Equation lefts e) =
+    let x = emit_term kinds s e in
+    with_copies x.state (copied_first lefts.items x.element)
+emit_step kinds s (step.Assertion e) =
+    let x = emit_term kinds s e in
+    record x.state { asserted = x.state.asserted ++ x.element ∷ [] }
+
+unfoldable pub emit_steps : List Kind → State → List Step → State
+emit_steps kinds s [] = s
+emit_steps kinds s (x ∷ xs) = emit_steps kinds (emit_step kinds s x) xs
+
+-- ## The whole program
+
+-- the elements of the inputs are those of the trace
+abbrev pub given_elements : ℕ → List FlatEquation
+given_elements inputs =
+    map (λ i. record { element = i; clock = Always; operation = Input i })
+    (range_with_len 0 inputs)
+
+-- a program of so many inputs and variables, from all that was emitted; the property is the
+-- variable after the inputs
+abbrev pub whole : State → (inputs count : ℕ) → FlatProgram
+whole s inputs count = record {
+  equations = given_elements inputs ++ (s.copies ++ s.equations);
+  size = s.next;
+  variables = count;
+  kept = s.kept;
+  asserted = s.asserted;
+  property = inputs;
+}
+
+abbrev pub expanded_elab : Elab → FlatProgram
+expanded_elab e =
+    let count = length e.variables.items in
+    whole (emit_steps (kinds_of e.variables.items) (before_instances count) e.body.items)
+    e.inputs count
+
+-- ## Size
+
+unfoldable mutual
+  -- how many expressions a term and its parts are; parentheses are none
+  pub term_size : Term → ℕ
+  term_size (Literal n) = 1
+  term_size (Truth b) = 1
+  term_size (Variable x) = 1
+  term_size (Group' p e) = term_size e
+  term_size (Unary' op p a) = 1 + term_size a
+  term_size (Binary' op p a q b) = 1 + (term_size a + term_size b)
+  term_size (If' p c q a r b) = 1 + (term_size c + (term_size a + term_size b))
+  term_size (Arrow' p a q b) = 1 + (term_size a + term_size b)
+  term_size (Fby' p a q b) = 1 + (term_size a + term_size b)
+  term_size (Pre' p a) = 1 + term_size a
+  term_size (AtMostOne' shape all) = 1 + row_size all
+  term_size (Nor' shape all) = 1 + row_size all
+
+  pub row_size : {m : _} → Row_of-Term m → ℕ
+  row_size end_of-Term = 0
+  row_size (more_of-Term e rest) = term_size e + row_size rest
+
+unfoldable pub list_size : List Term → ℕ
+list_size [] = 0
+list_size (e ∷ es) = term_size e + list_size es
+
+abbrev pub step_size : Step → ℕ
+step_size (step.Equation lefts e) = term_size e
+step_size (step.Assertion e) = term_size e
+
+unfoldable pub steps_size : List Step → ℕ
+steps_size [] = 0
+steps_size (x ∷ xs) = step_size x + steps_size xs
+
+-- variables, and expressions with their parts
+abbrev pub elab_size : Elab → ℕ
+elab_size e = length e.variables.items + steps_size e.body.items

@@ -1,0 +1,413 @@
+//! The equations of terms and steps.
+
+ghost use Rattle.std.specs.Prelude.{◌≡◌, ◌<◌, All, [], IfOk};
+ghost use Rattle.lb_flat.specs.Programs.{flat_equations};
+ghost use Rattle.lb_check.specs.Scalars.{first_value};
+ghost use Rattle.lb_flat.specs.Terms as mirror;
+ghost use Rattle.lb_flat.specs.Values.{scalar_of};
+ghost use Rattle.lb_flat.specs.Within.{IsWithin};
+
+use crate::equation::{ElementId, Equation, InputId, Operation};
+use crate::program::FlatProgram;
+use crate::scalar::Scalar;
+use lb_static::term::{Step, Term, Variable, VariableId};
+use lb_syntax::tree::{BinaryOperator, Kind, UnaryOperator};
+use std::alloc::{AllocError, Global};
+
+/// What was emitted so far. All is on the base clock.
+#[derive(Drop)]
+pub(crate) struct Emission {
+    /// The equations of further elements.
+    pub(crate) equations: Vec<Equation>,
+    /// The equations of elements of variables.
+    pub(crate) copies: Vec<Equation>,
+    /// The next free element.
+    pub(crate) next: u32,
+    /// The elements that hold operands of memories.
+    pub(crate) kept: Vec<ElementId>,
+    /// The elements that hold assertions.
+    pub(crate) asserted: Vec<ElementId>,
+    pub ghost equations_within: { All (IsWithin next []) equations.items },
+    pub ghost copies_within: { All (IsWithin next []) copies.items },
+    pub ghost kept_within: { All (λ a. a.0 < next) kept.items },
+    pub ghost asserted_within: { All (λ a. a.0 < next) asserted.items },
+}
+
+/// The element that holds a term, and the kind of the term.
+#[derive(Clone, Copy)]
+pub(crate) struct Found {
+    pub(crate) element: ElementId,
+    pub(crate) kind: Kind,
+}
+
+/// What a memory holds before its first tick.
+fn first_value(kind: Kind) -> Scalar
+    ensures { scalar_of result ≡ first_value kind }
+{
+    match kind {
+        Kind::Int => Scalar::Integer(0),
+        Kind::Bool => Scalar::Boolean(false),
+    }
+}
+
+/// A literal; one that is no `int` has the value of a fault.
+fn literal(value: u32) -> Scalar
+    ensures { scalar_of result ≡ mirror.literal value }
+{
+    if value <= i32::MAX as u32 {
+        Scalar::Integer(value as i32)
+    } else {
+        Scalar::Bad
+    }
+}
+
+/// The kind of what an operator gives.
+fn unary_result(op: UnaryOperator) -> Kind
+    ensures { result ≡ mirror.unary_result op }
+{
+    match op {
+        UnaryOperator::Not => Kind::Bool,
+        UnaryOperator::Negate => Kind::Int,
+    }
+}
+
+/// The kind of what an operator gives.
+fn binary_result(op: BinaryOperator) -> Kind
+    ensures { result ≡ mirror.binary_result op }
+{
+    match op {
+        BinaryOperator::Plus
+        | BinaryOperator::Minus
+        | BinaryOperator::Times
+        | BinaryOperator::Divide
+        | BinaryOperator::Modulo => Kind::Int,
+        _ => Kind::Bool,
+    }
+}
+
+/// The elements of the inputs, which the trace gives.
+#[tactic(auto, using(crate::proofs::Emitting::given))]
+fn given_inputs(alloc: Global, inputs: u32) -> Result<Vec<Equation>, AllocError>
+    ensures equations { IfOk result (λ qs.
+        flat_equations [] qs.items ≡ mirror.given_elements inputs) }
+    ensures within { IfOk result (λ qs. All (IsWithin inputs []) qs.items) }
+{
+    let mut equations = Vec::new(alloc);
+    for i in 0..inputs {
+        equations.push(Equation {
+            element: ElementId(i),
+            clock: None,
+            operation: Operation::Input(InputId(i)),
+        })?;
+    }
+    Ok(equations)
+}
+
+impl Emission {
+    ghost use Rattle.std.specs.Prelude.{◌+◌, ◌*◌, ◌^◌, ◌≤◌, true, length, OnOk};
+    ghost use Rattle.std.specs.List.{list_all};
+    ghost use Rattle.lb_static.specs.Elaborated.{is_place, is_within, is_step_within};
+    ghost use Rattle.lb_check.specs.TermKinds.{kinds_of};
+    ghost use Rattle.lb_flat.specs.Flat.{Always};
+    ghost use Rattle.lb_flat.specs.Emit.{before_instances, emit_nor, emit_at_most_one};
+    ghost use Rattle.lb_flat.specs.Emissions.{state_of, found_of, emitted_of, AreBelow};
+    ghost use Rattle.lb_flat.specs.Programs.{numbers_of, program_of, IsInRange};
+    ghost use Rattle.lb_flat.specs.Terms.{term_size, list_size, step_size, steps_size};
+    ghost use Rattle.lb_flat.specs.Values.{operation_of};
+
+    /// Nothing yet, where the first so many elements are those of variables.
+    pub(crate) fn new(alloc: Global, variables: u32) -> Emission
+        ensures { state_of result ≡ before_instances variables }
+    {
+        Emission {
+            equations: Vec::new(alloc),
+            copies: Vec::new(alloc),
+            next: variables,
+            kept: Vec::new(alloc),
+            asserted: Vec::new(alloc),
+        }
+    }
+
+    /// A new element, which this operation gives.
+    fn push(&mut self, operation: Operation, kind: Kind) -> Result<Found, AllocError>
+        requires room { self.old.next + 1 < 2 ^ 32 }
+        requires operands { AreBelow self.old.next operation }
+        ensures found { IfOk result (λ f.
+            found_of self.new f ≡ mirror.pushed (state_of self.old) (operation_of operation) kind) }
+        ensures next { OnOk result (self.new.next ≡ self.old.next + 1) }
+        ensures element { IfOk result (λ f. f.element.0 ≡ self.old.next) }
+    {
+        let element = ElementId(self.next);
+        self.equations.push(Equation {
+            element,
+            clock: None,
+            operation,
+        })?;
+        self.next += 1;
+        Ok(Found { element, kind })
+    }
+
+    /// The operand is one that a memory keeps.
+    fn keep(&mut self, operand: Found) -> Result<(), AllocError>
+        requires { operand.element.0 < self.old.next }
+        ensures kept { OnOk result
+            (found_of self.new operand ≡ mirror.kept (found_of self.old operand)) }
+        ensures next { self.new.next ≡ self.old.next }
+    {
+        self.kept.push(operand.element)?;
+        Ok(())
+    }
+
+    /// `pre` of an operand.
+    fn previous(&mut self, operand: Found) -> Result<Found, AllocError>
+        requires room { self.old.next + 1 < 2 ^ 32 }
+        requires operand { operand.element.0 < self.old.next }
+        ensures found { IfOk result (λ f. found_of self.new f
+            ≡ mirror.previous (found_of self.old operand)) }
+        ensures next { OnOk result (self.new.next ≡ self.old.next + 1) }
+        ensures element { IfOk result (λ f. f.element.0 < self.new.next) }
+    {
+        self.keep(operand)?;
+        let previous = Operation::Previous(first_value(operand.kind), operand.element);
+        self.push(previous, operand.kind)
+    }
+
+    /// Whether none of these elements is true.
+    fn nor(&mut self, operands: &[ElementId]) -> Result<Found, AllocError>
+        requires room { self.old.next + length operands.now + 2 < 2 ^ 32 }
+        requires operands { All (λ a. a.0 < self.old.next) operands.now }
+        ensures found { IfOk result (λ f. found_of self.new f
+            ≡ mirror.as_truth (emit_nor Always (state_of self.old) (numbers_of operands.now))) }
+        ensures next { OnOk result (self.new.next ≡ self.old.next + length operands.now + 2) }
+        ensures element { IfOk result (λ f. f.element.0 < self.new.next) }
+    {
+        let no = Operation::Constant(Scalar::Boolean(false));
+        let mut any = self.push(no, Kind::Bool)?.element;
+        for operand in operands {
+            let or = Operation::ApplyBinary(BinaryOperator::Or, any, *operand);
+            any = self.push(or, Kind::Bool)?.element;
+        }
+        self.push(Operation::ApplyUnary(UnaryOperator::Not, any), Kind::Bool)
+    }
+
+    /// Whether at most one of these elements is true.
+    fn at_most_one(&mut self, operands: &[ElementId]) -> Result<Found, AllocError>
+        requires room { self.old.next + 3 * length operands.now + 2 < 2 ^ 32 }
+        requires operands { All (λ a. a.0 < self.old.next) operands.now }
+        ensures found { IfOk result (λ f. found_of self.new f
+            ≡ mirror.as_truth
+            (emit_at_most_one Always (state_of self.old) (numbers_of operands.now))) }
+        ensures next { OnOk result (self.new.next ≡ self.old.next + 3 * length operands.now + 2) }
+        ensures element { IfOk result (λ f. f.element.0 < self.new.next) }
+    {
+        let no = Operation::Constant(Scalar::Boolean(false));
+        let mut any = self.push(no, Kind::Bool)?.element;
+        let mut two = any;
+        for operand in operands {
+            let and = Operation::ApplyBinary(BinaryOperator::And, any, *operand);
+            let both = self.push(and, Kind::Bool)?.element;
+            let or = Operation::ApplyBinary(BinaryOperator::Or, two, both);
+            two = self.push(or, Kind::Bool)?.element;
+            let or = Operation::ApplyBinary(BinaryOperator::Or, any, *operand);
+            any = self.push(or, Kind::Bool)?.element;
+        }
+        self.push(Operation::ApplyUnary(UnaryOperator::Not, two), Kind::Bool)
+    }
+
+    /// Emits a term after what was emitted so far.
+    #[cycle(emission)]
+    #[tactic(auto, unfolding(crate::specs::Terms::emit_term, crate::specs::Terms::term_size), using(crate::proofs::Emitting::emits))]
+    fn emit(
+        &mut self,
+        alloc: Global,
+        variables: &[Variable],
+        term: &Term,
+    ) -> Result<Found, AllocError>
+        requires within { is_within (length variables.now) term.now ≡ true }
+        requires variables { length variables.now ≤ self.old.next }
+        requires room { self.old.next + 5 * term_size term.now < 2 ^ 32 }
+        ensures found { IfOk result (λ f. found_of self.new f
+            ≡ mirror.emit_term (kinds_of variables.now) (state_of self.old) term.now) }
+        ensures grows { OnOk result (self.old.next ≤ self.new.next) }
+        ensures room { OnOk result
+            (self.new.next + 3 ≤ self.old.next + 5 * term_size term.now) }
+        ensures element { IfOk result (λ f. f.element.0 < self.new.next) }
+    {
+        match term {
+            Term::Literal(n) => self.push(Operation::Constant(literal(*n)), Kind::Int),
+            Term::Truth(b) => self.push(Operation::Constant(Scalar::Boolean(*b)), Kind::Bool),
+            Term::Variable(x) => Ok(Found {
+                element: ElementId(x.0),
+                kind: variables[x.0 as usize].kind,
+            }),
+            Term::Group(e) => self.emit(alloc, variables, e),
+            Term::Unary(op, e) => {
+                let e = self.emit(alloc, variables, e)?;
+                self.push(Operation::ApplyUnary(*op, e.element), unary_result(*op))
+            }
+            Term::Binary(op, a, b) => {
+                let a = self.emit(alloc, variables, a)?;
+                let b = self.emit(alloc, variables, b)?;
+                let operation = Operation::ApplyBinary(*op, a.element, b.element);
+                self.push(operation, binary_result(*op))
+            }
+            Term::If(c, a, b) => {
+                let c = self.emit(alloc, variables, c)?;
+                let a = self.emit(alloc, variables, a)?;
+                let b = self.emit(alloc, variables, b)?;
+                self.push(Operation::Choose(c.element, a.element, b.element), b.kind)
+            }
+            Term::Arrow(a, b) => {
+                let a = self.emit(alloc, variables, a)?;
+                let b = self.emit(alloc, variables, b)?;
+                self.push(Operation::FirstThen(false, a.element, b.element), b.kind)
+            }
+            Term::Fby(a, b) => {
+                let a = self.emit(alloc, variables, a)?;
+                let b = self.emit(alloc, variables, b)?;
+                let before = self.previous(b)?;
+                self.push(
+                    Operation::FirstThen(false, a.element, before.element),
+                    b.kind,
+                )
+            }
+            Term::Pre(e) => {
+                let e = self.emit(alloc, variables, e)?;
+                self.previous(e)
+            }
+            Term::AtMostOne(terms) => {
+                let operands = self.emit_all(alloc, variables, terms)?;
+                self.at_most_one(&operands)
+            }
+            Term::Nor(terms) => {
+                let operands = self.emit_all(alloc, variables, terms)?;
+                self.nor(&operands)
+            }
+        }
+    }
+
+    /// Emits some terms, one after another.
+    #[cycle(emission)]
+    #[tactic(auto, unfolding(crate::specs::Terms::emit_list, crate::specs::Terms::list_size), using(crate::proofs::Emitting::emits))]
+    fn emit_all(
+        &mut self,
+        alloc: Global,
+        variables: &[Variable],
+        terms: &[Term],
+    ) -> Result<Vec<ElementId>, AllocError>
+        requires within { list_all (is_within (length variables.now)) terms.now ≡ true }
+        requires variables { length variables.now ≤ self.old.next }
+        requires room { self.old.next + 5 * list_size terms.now < 2 ^ 32 }
+        ensures found { IfOk result (λ found. emitted_of self.new found.items
+            ≡ mirror.emit_list (kinds_of variables.now) (state_of self.old) [] terms.now) }
+        ensures grows { OnOk result (self.old.next ≤ self.new.next) }
+        ensures room { IfOk result (λ found.
+            self.new.next + 3 * length found.items ≤ self.old.next + 5 * list_size terms.now) }
+        ensures elements { IfOk result (λ found. All (λ a. a.0 < self.new.next) found.items) }
+    {
+        let mut found = Vec::new(alloc);
+        for term in terms {
+            found.push(self.emit(alloc, variables, term)?.element)?;
+        }
+        Ok(found)
+    }
+
+    /// The element of the first left variable is a copy of this one.
+    #[tactic(auto, using(crate::proofs::Emitting::copies))]
+    fn copy(&mut self, lefts: &[VariableId], found: ElementId) -> Result<(), AllocError>
+        requires lefts { list_all (is_place self.old.next) lefts.now ≡ true }
+        requires found { found.0 < self.old.next }
+        ensures copies { OnOk result (state_of self.new ≡ mirror.with_copies (state_of self.old)
+            (mirror.copied_first lefts.now found.0)) }
+        ensures next { self.new.next ≡ self.old.next }
+    {
+        if let [x, ..] = lefts {
+            self.copies.push(Equation {
+                element: ElementId(x.0),
+                clock: None,
+                operation: Operation::Copy(found),
+            })?;
+        }
+        Ok(())
+    }
+
+    /// Emits a step after what was emitted so far.
+    #[tactic(auto, unfolding(crate::specs::Terms::emit_step), using(crate::proofs::Emitting::steps))]
+    fn step(&mut self, alloc: Global, variables: &[Variable], step: &Step) -> Result<(), AllocError>
+        requires within { is_step_within (length variables.now) step.now ≡ true }
+        requires variables { length variables.now ≤ self.old.next }
+        requires room { self.old.next + 5 * step_size step.now < 2 ^ 32 }
+        ensures state { OnOk result (state_of self.new
+            ≡ mirror.emit_step (kinds_of variables.now) (state_of self.old) step.now) }
+        ensures grows { OnOk result (self.old.next ≤ self.new.next) }
+        ensures room { OnOk result (self.new.next ≤ self.old.next + 5 * step_size step.now) }
+    {
+        match step {
+            Step::Equation(lefts, e) => {
+                let found = self.emit(alloc, variables, e)?;
+                self.copy(lefts, found.element)
+            }
+            Step::Assertion(e) => {
+                let found = self.emit(alloc, variables, e)?;
+                self.asserted.push(found.element)?;
+                Ok(())
+            }
+        }
+    }
+
+    /// Emits some steps, one after another.
+    #[tactic(auto, unfolding(crate::specs::Terms::emit_steps, crate::specs::Terms::steps_size), using(crate::proofs::Emitting::steps))]
+    pub(crate) fn steps(
+        &mut self,
+        alloc: Global,
+        variables: &[Variable],
+        steps: &[Step],
+    ) -> Result<(), AllocError>
+        requires within { list_all (is_step_within (length variables.now)) steps.now ≡ true }
+        requires variables { length variables.now ≤ self.old.next }
+        requires room { self.old.next + 5 * steps_size steps.now < 2 ^ 32 }
+        ensures state { OnOk result (state_of self.new
+            ≡ mirror.emit_steps (kinds_of variables.now) (state_of self.old) steps.now) }
+        ensures grows { OnOk result (self.old.next ≤ self.new.next) }
+    {
+        for step in steps {
+            self.step(alloc, variables, step)?;
+        }
+        Ok(())
+    }
+
+    /// The whole program, where the first so many elements are those of variables, and the first of
+    /// them inputs; the property is the one after these.
+    pub(crate) fn into_program(
+        self,
+        alloc: Global,
+        inputs: u32,
+        variables: u32,
+    ) -> Result<FlatProgram, AllocError>
+        requires inputs { inputs < variables }
+        requires variables { variables ≤ self.next }
+        ensures program { IfOk result (λ p.
+            program_of p ≡ mirror.whole (state_of self) inputs variables) }
+        ensures in_range { IfOk result (λ p. IsInRange p) }
+    {
+        let Emission {
+            equations,
+            copies,
+            next,
+            kept,
+            asserted,
+        } = self;
+        let mut all = given_inputs(alloc, inputs)?;
+        all.extend_from_slice(&copies)?;
+        all.extend_from_slice(&equations)?;
+        Ok(FlatProgram {
+            equations: all,
+            ticks: Vec::new(alloc),
+            size: next,
+            variables,
+            kept,
+            asserted,
+            property: ElementId(inputs),
+        })
+    }
+}

@@ -1,0 +1,23 @@
+//! The stages of a flat program: expanded, and put in order.
+
+ghost use Rattle.std.specs.Prelude.{◌≡◌, true, false, replicate};
+ghost use Rattle.lb_flat.specs.InOrder.{is_in_order};
+ghost use Rattle.lb_flat.specs.Programs.{IsInRange, flat_equations};
+
+use crate::program::FlatProgram;
+
+/// A flat program whose equations stand in no order yet.
+#[derive(Drop)]
+pub struct Flat {
+    pub program: FlatProgram,
+    pub ghost in_range: { IsInRange program },
+}
+
+/// A flat program whose equations can be computed one after the other.
+#[derive(Drop)]
+pub struct Ordered {
+    pub program: FlatProgram,
+    pub ghost in_range: { IsInRange program },
+    pub ghost in_order: { is_in_order (replicate program.size false)
+        (flat_equations program.ticks.items program.equations.items) ≡ true },
+}

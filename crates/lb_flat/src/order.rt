@@ -1,0 +1,54 @@
+//! Order: each equation after what it reads.
+//!
+//! The equations go into a table by their elements. A walk in depth suggests an order of the
+//! elements. Then each element is settled whose reads are settled: first in the suggested order,
+//! and then in passes over all elements until one settles none. The walk decides only how many
+//! passes there are: it suggests an order that leaves nothing to the first of them.
+
+ghost use Rattle.std.specs.Prelude.{◌≡◌, IfOk};
+ghost use Rattle.lb_flat.specs.Expanded.{IsOrderOf};
+ghost use Rattle.lb_flat.specs.Ordering.{AreOrdered};
+ghost use Rattle.lb_flat.specs.Programs.{flat_equations, program_of, IsInRange};
+ghost use Rattle.lb_flat.specs.Stuck.{CannotOrder};
+
+mod settle;
+mod table;
+#[cfg(test)]
+mod tests;
+mod walk;
+
+use crate::equation::Equation;
+use crate::error::OrderError;
+use crate::flat::{Flat, Ordered};
+use crate::program::FlatProgram;
+use settle::settled;
+use std::alloc::Global;
+use table::equation_table;
+
+// The equations of a program in order.
+fn ordered_equations(alloc: Global, program: &FlatProgram) -> Result<Vec<Equation>, OrderError>
+    requires { IsInRange program.now }
+    ensures order { IfOk result (λ qs. AreOrdered program.now qs.items) }
+    ensures cycle { result ≡ Err OrderError.Cycle → CannotOrder program.now.size
+        (flat_equations program.now.ticks.items program.now.equations.items) }
+{
+    let ticks = program.ticks.as_slice();
+    let table = equation_table(alloc, program.size, ticks, program.equations.as_slice())?;
+    settled(alloc, ticks, table.as_slice())
+}
+
+/// Puts the equations of a flat program in an order in which they can be computed.
+///
+/// Fails with `Cycle` (E13) only where there is no such order: an element has no equation, has two
+/// that differ, or some elements wait for one another at the same instant. An equation that stands
+/// twice is taken once.
+pub fn order(alloc: Global, flat: Flat) -> Result<Ordered, OrderError>
+    ensures order { IfOk result (λ o. IsOrderOf (program_of flat.program) (program_of o.program)) }
+    ensures cycle { result ≡ Err OrderError.Cycle →
+        CannotOrder flat.program.size (program_of flat.program).equations }
+{
+    let equations = ordered_equations(alloc, &flat.program)?;
+    let mut program = flat.program;
+    program.equations = equations;
+    Ok(Ordered { program })
+}

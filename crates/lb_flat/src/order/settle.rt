@@ -1,0 +1,212 @@
+//! Settling: an element is done once all that its equation reads is done.
+
+ghost use Rattle.std.specs.Prelude.{◌≡◌, ◌<◌, ℕ, All, IfOk, true, false, length, suc};
+ghost use Rattle.lb_flat.specs.InOrder.{is_done};
+ghost use Rattle.lb_flat.specs.Ordering.{IsTable, IsSettled, AreSettled, IsNotNext, NoneIsNext, all_done, is_ready, left};
+ghost use Rattle.lb_flat.specs.Run.{reads, clock_reads};
+ghost use Rattle.lb_flat.specs.Values.{clock_of, operation_of};
+ghost use Rattle.lb_flat.specs.Within.{AreTicks, IsClock, IsWithin};
+
+use super::walk::suggested_order;
+use crate::equation::{ElementId, Equation, Operation, Tick, TickId};
+use crate::error::OrderError;
+use std::alloc::{AllocError, Global};
+
+// ## What can be computed
+
+fn is_done(done: &[bool], a: ElementId) -> bool
+    requires { a.0 < length done.now }
+    ensures { result ≡ is_done done.now a.0 }
+{
+    done[a.0 as usize]
+}
+
+// Whether all that an operation reads at the same instant is done.
+fn are_operands_done(done: &[bool], operation: Operation) -> bool
+    requires { All (λ i. i < length done.now) (reads (operation_of operation)) }
+    ensures { result ≡ all_done done.now (reads (operation_of operation)) }
+{
+    match operation {
+        Operation::Input(_) => true,
+        Operation::Constant(_) => true,
+        Operation::Copy(a) => is_done(done, a),
+        Operation::ApplyUnary(_, a) => is_done(done, a),
+        Operation::ApplyBinary(_, a, b) => is_done(done, a) && is_done(done, b),
+        Operation::Choose(c, a, b) => is_done(done, c) && is_done(done, a) && is_done(done, b),
+        Operation::FirstThen(_, a, b) => is_done(done, a) && is_done(done, b),
+        Operation::Previous(_, _) => true,
+        Operation::Latest(_, a) => is_done(done, a),
+        Operation::Sample(a) => is_done(done, a),
+    }
+}
+
+// Whether all that a clock reads is done.
+fn is_clock_done(done: &[bool], ticks: &[Tick], clock: Option<TickId>) -> bool
+    requires table { AreTicks (length done.now) ticks.now }
+    requires clock { IsClock ticks.now clock }
+    ensures { result ≡ all_done done.now (clock_reads (clock_of ticks.now clock)) }
+{
+    let mut rest = clock;
+    for depth in 0..ticks.len() {
+        let Some(id) = rest else {
+            return true;
+        };
+        let tick = ticks[id.0 as usize];
+        if !is_done(done, tick.element) {
+            return false;
+        }
+        rest = tick.parent;
+    }
+    true
+}
+
+// Whether all that an equation reads is done.
+fn is_ready(done: &[bool], ticks: &[Tick], q: Equation) -> bool
+    requires table { AreTicks (length done.now) ticks.now }
+    requires within { IsWithin (length done.now) ticks.now q }
+    ensures { result ≡ is_ready ticks.now done.now q }
+{
+    are_operands_done(done, q.operation) && is_clock_done(done, ticks, q.clock)
+}
+
+// ## What is settled
+
+// Puts out the equation of an element, if it can be computed and is not out yet; and whether so.
+fn settle(
+    e: usize,
+    ticks: &[Tick],
+    table: &[Option<Equation>],
+    done: &mut [bool],
+    out: &mut Vec<Equation>,
+) -> Result<bool, AllocError>
+    requires table { IsTable ticks.now table.now }
+    requires element { e < length table.now }
+    requires state { IsSettled ticks.now table.now done.old out.old.items }
+    ensures state { IfOk result (λ _. IsSettled ticks.now table.now done.new out.new.items) }
+    ensures settled { result ≡ Ok true → suc (left done.new) ≡ left done.old }
+    ensures unchanged { result ≡ Ok false → done.new ≡ done.old }
+    ensures stuck { result ≡ Ok false → IsNotNext ticks.now table.now done.old e }
+{
+    let Some(q) = table[e] else {
+        return Ok(false);
+    };
+    if done[e] || !is_ready(done, ticks, q) {
+        return Ok(false);
+    }
+    out.push(q)?;
+    done[e] = true;
+    Ok(true)
+}
+
+// Settles elements in an order; those that cannot be settled in it are left.
+fn settle_in_order(
+    order: &[ElementId],
+    ticks: &[Tick],
+    table: &[Option<Equation>],
+    done: &mut [bool],
+    out: &mut Vec<Equation>,
+) -> Result<(), AllocError>
+    requires table { IsTable ticks.now table.now }
+    requires state { IsSettled ticks.now table.now done.old out.old.items }
+    ensures { IfOk result (λ _. IsSettled ticks.now table.now done.new out.new.items) }
+{
+    for i in 0..order.len() {
+        let e = order[i].0 as usize;
+        if e < table.len() {
+            settle(e, ticks, table, done, out)?;
+        }
+    }
+    Ok(())
+}
+
+// One pass over all elements, and whether it settled one.
+fn settle_some(
+    ticks: &[Tick],
+    table: &[Option<Equation>],
+    done: &mut [bool],
+    out: &mut Vec<Equation>,
+) -> Result<bool, AllocError>
+    requires table { IsTable ticks.now table.now }
+    requires state { IsSettled ticks.now table.now done.old out.old.items }
+    ensures state { IfOk result (λ _. IsSettled ticks.now table.now done.new out.new.items) }
+    ensures settled { result ≡ Ok true → left done.new < left done.old }
+    ensures unchanged { result ≡ Ok false → done.new ≡ done.old }
+    ensures stuck { result ≡ Ok false →
+        (e : ℕ) → e < length table.now → IsNotNext ticks.now table.now done.old e }
+{
+    let mut some = false;
+    for e in 0..table.len() {
+        if settle(e, ticks, table, done, out)? {
+            some = true;
+        }
+    }
+    Ok(some)
+}
+
+// Passes until nothing more can be settled.
+fn settle_all(
+    ticks: &[Tick],
+    table: &[Option<Equation>],
+    done: &mut [bool],
+    out: &mut Vec<Equation>,
+) -> Result<(), AllocError>
+    requires table { IsTable ticks.now table.now }
+    requires state { IsSettled ticks.now table.now done.old out.old.items }
+    ensures state { IfOk result (λ _. IsSettled ticks.now table.now done.new out.new.items) }
+    ensures stuck { IfOk result (λ _.
+        (e : ℕ) → e < length table.now → IsNotNext ticks.now table.now done.new e) }
+{
+    'passes: loop {
+        if !settle_some(ticks, table, done, out)? {
+            return Ok(());
+        }
+    }
+}
+
+// Settles every element, or finds that none is next while some are left.
+fn settle_table(
+    order: &[ElementId],
+    ticks: &[Tick],
+    table: &[Option<Equation>],
+    done: &mut [bool],
+    out: &mut Vec<Equation>,
+) -> Result<(), OrderError>
+    requires table { IsTable ticks.now table.now }
+    requires state { IsSettled ticks.now table.now done.old out.old.items }
+    ensures settled { IfOk result (λ _. AreSettled ticks.now table.now out.new.items) }
+    ensures cycle { result ≡ Err OrderError.Cycle → NoneIsNext ticks.now table.now }
+{
+    settle_in_order(order, ticks, table, done, out)?;
+    settle_all(ticks, table, done, out)?;
+    for e in 0..table.len() {
+        if !done[e] {
+            return Err(OrderError::Cycle);
+        }
+    }
+    Ok(())
+}
+
+/// The equations of a table, each after what it reads.
+///
+/// Fails with `Cycle` where an element has no equation or reads itself at the same instant.
+pub(crate) fn settled(
+    alloc: Global,
+    ticks: &[Tick],
+    table: &[Option<Equation>],
+) -> Result<Vec<Equation>, OrderError>
+    requires { IsTable ticks.now table.now }
+    ensures settled { IfOk result (λ out. AreSettled ticks.now table.now out.items) }
+    ensures cycle { result ≡ Err OrderError.Cycle → NoneIsNext ticks.now table.now }
+{
+    let order = suggested_order(alloc, ticks, table)?;
+    let mut done = vec![in alloc; false; table.len()]?;
+    let mut out = Vec::with_capacity(alloc, table.len())?;
+    settle_table(
+        order.as_slice(),
+        ticks,
+        table,
+        done.as_mut_slice(),
+        &mut out,
+    )?;
+    Ok(out)
+}
