@@ -1,2 +1,5 @@
 pub mod ReportLines
 pub mod FeedBytes
+pub mod SinkBytes
+pub mod VerdictLists
+pub mod Refusing

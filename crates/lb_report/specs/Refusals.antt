@@ -3,8 +3,14 @@
 use Rattle.std.specs.Prelude.{ℕ, Option, Some, None, List, [], ◌∷◌, codes, get_or}
 use Rattle.lb_syntax.specs.declared.error.SyntaxError.{SyntaxError}
 use Rattle.lb_syntax.specs.declared.error.SyntaxError.TheVariants as syntax
+use Rattle.lb_static.specs.declared.error.StaticError.{StaticError}
+use Rattle.lb_static.specs.declared.error.StaticError.TheVariants as static
 use Rattle.lb_check.specs.declared.error.CheckError.{CheckError}
 use Rattle.lb_check.specs.declared.error.CheckError.TheVariants as check
+use Rattle.lb_flat.specs.declared.error.FlatError.{FlatError}
+use Rattle.lb_flat.specs.declared.error.FlatError.TheVariants as flat
+use Rattle.lb_flat.specs.declared.error.OrderError.{OrderError}
+use Rattle.lb_flat.specs.declared.error.OrderError.TheVariants as order
 use Rattle.lb_trace.specs.Errors.{error_number}
 use Rattle.lb_report.specs.declared.error.BenchError.{BenchError}
 use Rattle.lb_report.specs.declared.error.BenchError.TheVariants as bench
@@ -46,16 +52,33 @@ syntax_number (syntax.Character line column) = 1
 syntax_number (syntax.Syntax line column) = 2
 syntax_number (syntax.Size line column) = 3
 
+abbrev pub static_number : StaticError → ℕ
+static_number static.Memory = 0
+static_number (static.Name name) = 4
+static_number static.Root = 8
+static_number static.Large = 12
+
 abbrev pub check_number : CheckError → ℕ
 check_number check.Memory = 0
 check_number check.Type = 9
 check_number check.Definition = 11
 
+abbrev pub flat_number : FlatError → ℕ
+flat_number flat.Memory = 0
+flat_number flat.Large = 12
+
+abbrev pub order_number : OrderError → ℕ
+order_number order.Memory = 0
+order_number order.Cycle = 13
+
 -- the number of a refusal
 abbrev pub number_of : BenchError → ℕ
 number_of bench.Memory = 0
 number_of (bench.Syntax e) = syntax_number e
+number_of (bench.Static e) = static_number e
 number_of (bench.Check e) = check_number e
+number_of (bench.Flat e) = flat_number e
+number_of (bench.Order e) = order_number e
 number_of (bench.Trace e) = error_number e
 
 abbrev pub syntax_position : SyntaxError → Option (ℕ × ℕ)
@@ -68,5 +91,8 @@ syntax_position (syntax.Size line column) = Some (line, column)
 abbrev pub position_of : BenchError → Option (ℕ × ℕ)
 position_of bench.Memory = None
 position_of (bench.Syntax e) = syntax_position e
+position_of (bench.Static e) = None
 position_of (bench.Check e) = None
+position_of (bench.Flat e) = None
+position_of (bench.Order e) = None
 position_of (bench.Trace e) = None

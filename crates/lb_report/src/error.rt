@@ -5,6 +5,8 @@ ghost use Rattle.lb_report.specs.Refusals as spec;
 
 use crate::refusal::word;
 use lb_check::error::CheckError;
+use lb_flat::error::{FlatError, OrderError};
+use lb_static::error::StaticError;
 use lb_syntax::error::SyntaxError;
 use lb_trace::error::TraceError;
 use std::alloc::AllocError;
@@ -22,6 +24,18 @@ fn syntax_number(cause: &SyntaxError) -> u8
     }
 }
 
+/// The number of a refusal by a rule of names, static values and instances.
+fn static_number(cause: &StaticError) -> u8
+    ensures { result ≡ spec.static_number cause.now }
+{
+    match cause {
+        StaticError::Memory => 0,
+        StaticError::Name(_) => 4,
+        StaticError::Root => 8,
+        StaticError::Large => 12,
+    }
+}
+
 /// The number of a refusal by a rule of types, clocks or definitions.
 fn check_number(cause: &CheckError) -> u8
     ensures { result ≡ spec.check_number cause.now }
@@ -30,6 +44,26 @@ fn check_number(cause: &CheckError) -> u8
         CheckError::Memory => 0,
         CheckError::Type => 9,
         CheckError::Definition => 11,
+    }
+}
+
+/// The number of a refusal of what a program expands to.
+fn flat_number(cause: &FlatError) -> u8
+    ensures { result ≡ spec.flat_number cause.now }
+{
+    match cause {
+        FlatError::Memory => 0,
+        FlatError::Large => 12,
+    }
+}
+
+/// The number of a refusal of equations that have no order.
+fn order_number(cause: &OrderError) -> u8
+    ensures { result ≡ spec.order_number cause.now }
+{
+    match cause {
+        OrderError::Memory => 0,
+        OrderError::Cycle => 13,
     }
 }
 
@@ -42,9 +76,18 @@ pub enum BenchError {
     /// E0 to E3: the text of the source.
     #[error(transparent)]
     Syntax(SyntaxError),
+    /// E0, E4 to E8 and E12: names, static values and instances.
+    #[error(transparent)]
+    Static(StaticError),
     /// E0 and E9 to E11: types, clocks and definitions.
     #[error(transparent)]
     Check(CheckError),
+    /// E0 and E12: the size of what the program expands to.
+    #[error(transparent)]
+    Flat(FlatError),
+    /// E0 and E13: an element that needs itself at the same instant.
+    #[error(transparent)]
+    Order(OrderError),
     /// E0 and E14 to E18: the text of the traces.
     #[error(transparent)]
     Trace(TraceError),
@@ -70,6 +113,16 @@ impl From<SyntaxError> for BenchError {
     }
 }
 
+impl From<StaticError> for BenchError {
+    ghost use Rattle.lb_report.specs.declared.error.BenchError.TheVariants.{Static};
+
+    ghost from_gives = { λ cause e. e ≡ Static cause };
+
+    fn from(cause: StaticError) -> BenchError {
+        BenchError::Static(cause)
+    }
+}
+
 impl From<CheckError> for BenchError {
     ghost use Rattle.lb_report.specs.declared.error.BenchError.TheVariants.{Check};
 
@@ -77,6 +130,26 @@ impl From<CheckError> for BenchError {
 
     fn from(cause: CheckError) -> BenchError {
         BenchError::Check(cause)
+    }
+}
+
+impl From<FlatError> for BenchError {
+    ghost use Rattle.lb_report.specs.declared.error.BenchError.TheVariants.{Flat};
+
+    ghost from_gives = { λ cause e. e ≡ Flat cause };
+
+    fn from(cause: FlatError) -> BenchError {
+        BenchError::Flat(cause)
+    }
+}
+
+impl From<OrderError> for BenchError {
+    ghost use Rattle.lb_report.specs.declared.error.BenchError.TheVariants.{Order};
+
+    ghost from_gives = { λ cause e. e ≡ Order cause };
+
+    fn from(cause: OrderError) -> BenchError {
+        BenchError::Order(cause)
     }
 }
 
@@ -99,7 +172,10 @@ impl BenchError {
         match self {
             BenchError::Memory => 0,
             BenchError::Syntax(cause) => syntax_number(cause),
+            BenchError::Static(cause) => static_number(cause),
             BenchError::Check(cause) => check_number(cause),
+            BenchError::Flat(cause) => flat_number(cause),
+            BenchError::Order(cause) => order_number(cause),
             BenchError::Trace(cause) => cause.number(),
         }
     }

@@ -1,6 +1,7 @@
 //! What a run is asked for.
 
-ghost use Rattle.std.specs.Prelude.{◌≡◌, ◌≤◌};
+ghost use Rattle.std.specs.Prelude.{◌≡◌, ◌≤◌, string_bytes};
+ghost use Rattle.std.specs.Option.{option_map};
 
 /// What a run is asked for. It says nothing of what the report holds but which node is under test
 /// and which one observes: the rest is how the work is spread.
@@ -46,6 +47,16 @@ impl Options {
             workers,
             batch,
             by_length,
+        }
+    }
+
+    /// The name of the observer, if there is one.
+    pub fn observer_name(&self) -> Option<&str>
+        ensures { option_map (λ o. o.now) result ≡ option_map string_bytes self.now.observer }
+    {
+        match &self.observer {
+            Some(name) => Some(name.as_str()),
+            None => None,
         }
     }
 }

@@ -1,0 +1,96 @@
+//! Why the program prints no report.
+
+ghost use Rattle.std.specs.Prelude.{◌≡◌, ◌<◌};
+
+use lb_report::error::BenchError;
+use lb_report::feed::LoadError;
+use lb_report::refusal::word;
+use lb_report::sink::Sent;
+use std::alloc::AllocError;
+use std::fmt;
+
+/// Why the program prints no report: the number of a refusal, 0 to 21, and for E1 to E3 the line
+/// and the column. It prints as its line on standard error.
+#[derive(Clone, Copy, Debug)]
+pub struct Refusal {
+    pub number: u8,
+    pub position: Option<(u32, u32)>,
+    pub ghost known: { number < 22 },
+}
+
+impl Refusal {
+    ghost use Rattle.lbench.specs.Outcomes.{refusal_status};
+
+    /// E0: memory ran out.
+    pub const MEMORY: Refusal = Refusal {
+        number: 0,
+        position: None,
+    };
+    /// E19: the output failed.
+    pub const WRITE: Refusal = Refusal {
+        number: 19,
+        position: None,
+    };
+    /// E20: the command line is not one that the program knows.
+    pub const USAGE: Refusal = Refusal {
+        number: 20,
+        position: None,
+    };
+    /// E21: an input could not be read, or is too long.
+    pub const READ: Refusal = Refusal {
+        number: 21,
+        position: None,
+    };
+
+    /// The exit status: 3 where memory, the output or an input failed, else 2.
+    pub fn status(&self) -> u8
+        ensures { result ≡ refusal_status self.now.number }
+    {
+        match self.number {
+            0 | 19 | 21 => 3,
+            _ => 2,
+        }
+    }
+}
+
+impl From<AllocError> for Refusal {
+    fn from(_e: AllocError) -> Refusal {
+        Refusal::MEMORY
+    }
+}
+
+impl From<LoadError> for Refusal {
+    fn from(cause: LoadError) -> Refusal {
+        match cause {
+            LoadError::Memory => Refusal::MEMORY,
+            LoadError::Read => Refusal::READ,
+        }
+    }
+}
+
+impl From<BenchError> for Refusal {
+    fn from(cause: BenchError) -> Refusal {
+        Refusal {
+            number: cause.number(),
+            position: cause.position(),
+        }
+    }
+}
+
+impl From<Sent> for Refusal {
+    ghost from_gives = { λ _ refusal. refusal.number ≡ 19 };
+
+    fn from(_cause: Sent) -> Refusal {
+        Refusal::WRITE
+    }
+}
+
+impl fmt::Display for Refusal {
+    fn fmt<W: fmt::Write>(&self, f: &mut fmt::Formatter<W>) -> fmt::Result {
+        write!(f, "refused: E{} {}", self.number, word(self.number))?;
+        match self.position {
+            Some((line, column)) => write!(f, " at {line}:{column}"),
+            None => Ok(()),
+        }
+    }
+}
