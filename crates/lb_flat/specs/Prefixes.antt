@@ -1,10 +1,12 @@
--- When a history is the beginning of another.
+-- When a history is the beginning of another, and when inputs determine histories instant by instant.
 -- Source: this project's rule.
-use Rattle.std.specs.Prelude.{◌≡◌, ℕ, map, take}
+use Rattle.std.specs.Prelude.{◌≡◌, ℕ, ◌++◌, length, map, take}
 use Rattle.lb_syntax.specs.Lists.{Every}
 use Rattle.lb_static.specs.Instances.{Program, Instance, instances}
 use Rattle.lb_static.specs.Shapes.{variables}
 use Rattle.lb_check.specs.Streams.{History}
+use Rattle.lb_check.specs.Solutions.{Inputs, Solves, HasOneHistory}
+use Rattle.lb_flat.specs.Flattening.{IsTrace}
 
 -- at an instance, the clock and the streams of each variable are the first n instants of those of
 -- the other history
@@ -17,3 +19,11 @@ pub record IsPrefixAt (H' H : History) (n : ℕ) (here : Instance) : Type 0 wher
 -- a history is the first n instants of another, as far as a program's instances and variables go
 abbrev pub IsPrefix : Program → History → History → ℕ → Type 0
 IsPrefix P H' H n = Every (IsPrefixAt H' H n) (instances P)
+
+-- a program has one history on each trace, and that on the beginning of a trace is the beginning of
+-- that on the whole trace
+pub record IsDetermined (P : Program) : Type 0 where
+  pub one : (X : Inputs) → IsTrace P X → HasOneHistory P X
+  pub prefix :
+      (X Z : Inputs) (H H' : History) → Solves P (X ++ Z) H → Solves P X H' →
+      IsPrefix P H' H (length X)

@@ -6,8 +6,11 @@
 //! passes there are: it suggests an order that leaves nothing to the first of them.
 
 ghost use Rattle.std.specs.Prelude.{◌≡◌, IfOk};
+ghost use Rattle.lb_static.specs.Instances.{Program};
 ghost use Rattle.lb_flat.specs.Expanded.{IsOrderOf};
+ghost use Rattle.lb_flat.specs.Flattening.{IsFlatOf};
 ghost use Rattle.lb_flat.specs.Ordering.{AreOrdered};
+ghost use Rattle.lb_flat.specs.Prefixes.{IsDetermined};
 ghost use Rattle.lb_flat.specs.Programs.{flat_equations, program_of, IsInRange};
 ghost use Rattle.lb_flat.specs.Stuck.{CannotOrder};
 
@@ -44,6 +47,8 @@ fn ordered_equations(alloc: Global, program: &FlatProgram) -> Result<Vec<Equatio
 /// twice is taken once.
 pub fn order(alloc: Global, flat: Flat) -> Result<Ordered, OrderError>
     ensures order { IfOk result (λ o. IsOrderOf (program_of flat.program) (program_of o.program)) }
+    ensures determined { IfOk result (λ o.
+        (P : Program) → IsFlatOf P (program_of o.program) → IsDetermined P) }
     ensures cycle { result ≡ Err OrderError.Cycle →
         CannotOrder flat.program.size (program_of flat.program).equations }
 {

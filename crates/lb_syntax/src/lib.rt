@@ -2,24 +2,24 @@
 //! spells.
 #![tactic(auto)]
 
-pub mod climb;
-pub mod declaration;
+mod climb;
+mod declaration;
 pub mod error;
-pub mod expression;
+mod expression;
 #[cfg(test)]
 mod expression_tests;
-pub mod level;
+mod level;
 pub mod lex;
 pub mod limits;
-pub mod list;
-pub mod lookahead;
-pub mod node;
+mod list;
+mod lookahead;
+mod node;
 pub mod parse;
 pub mod place;
-pub mod program;
+mod program;
 pub mod read;
-pub mod reader;
-pub mod statement;
-pub mod statics;
+mod reader;
+mod statement;
+mod statics;
 pub mod token;
 pub mod tree;

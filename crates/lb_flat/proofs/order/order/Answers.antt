@@ -1,7 +1,16 @@
 use Rattle.std.proofs.Common.{refl, rules}
 use Rattle.lb_flat.specs.Programs.{flat_equations}
 use Rattle.lb_flat.proofs.InOrder.{ready_of}
+use Rattle.lb_flat.proofs.Judging.{has_one_history}
+use Rattle.lb_flat.proofs.Prefixes.{is_prefix}
 use Rattle.lb_flat.proofs.order.order.Goals as goal
+
+pub returns-clause-determined : goal.returns-clause-determined
+returns-clause-determined c P flat =
+    let p = c.args.flat.program in
+    let qs = flat_equations p.ticks.items c.in_ok-equations.equations.items in
+    let ready = ready_of p.size qs c.in_ok-equations.ensures.order.in_order in
+    record { one = has_one_history P _ flat ready; prefix = is_prefix P _ flat ready }
 
 pub returns-clause-order : goal.returns-clause-order
 returns-clause-order c =
