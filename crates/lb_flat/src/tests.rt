@@ -6,8 +6,9 @@ ghost use Rattle.lb_check.specs.Scalars as scalars;
 use crate::equation::{ElementId, Equation, InputId, Operation};
 use crate::evaluate::{Instants, evaluate};
 use crate::program::FlatProgram;
-use crate::scalar::{Scalar, arithmetic, chosen, one_scalar, two_scalars};
+use crate::scalar::{Scalar, chosen, one_scalar, two_scalars};
 use lb_check::verdict::Verdict;
+use lb_static::arithmetic::arithmetic;
 use lb_syntax::tree::{BinaryOperator, UnaryOperator};
 use std::test::Fail;
 
