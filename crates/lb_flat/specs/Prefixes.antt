@@ -1,4 +1,5 @@
--- When a history is the beginning of another, and when inputs determine histories instant by instant.
+-- When a history is the beginning of another, and when inputs determine histories instant by
+-- instant.
 -- Source: this project's rule.
 use Rattle.std.specs.Prelude.{◌≡◌, ℕ, ◌++◌, length, map, take}
 use Rattle.lb_syntax.specs.Lists.{Every}

@@ -87,8 +87,8 @@ fn verdicts_of(alloc: Global, ordered: &Ordered, set: &TraceSet) -> Result<Vec<V
 /// Runs a node of a source over the traces of a text, and reports the verdict of each.
 ///
 /// The options name the node under test and the observer. As yet one trace runs after the other,
-/// whatever they say of workers and batches. An error is the refusal of the first part that refuses:
-/// E0 to E18.
+/// whatever they say of workers and batches. An error is the refusal of the first part that
+/// refuses: E0 to E18.
 pub fn bench<R: Runtime + AllocGlobal>(
     rt: &R,
     source: &[u8],

@@ -43,4 +43,5 @@ AreSettled constants values = (i : ℕ) → i < length constants → IsSettled c
 
 -- these constants are the first of each name of those: they give each name the same one
 abbrev pub AreFirst : List Constant → List Constant → Type 0
-AreFirst firsts constants = (x : Name) → named (λ c. c.name) x firsts ≡ named (λ c. c.name) x constants
+AreFirst firsts constants =
+    (x : Name) → named (λ c. c.name) x firsts ≡ named (λ c. c.name) x constants

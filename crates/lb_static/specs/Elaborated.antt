@@ -75,8 +75,8 @@ input_elements vars inputs =
 abbrev pub is_scalar : Declaration → Bool
 is_scalar d = nat_eq (length d.sizes) 0 && not (is_some d.clock)
 
--- the forms of scalars in one node, on one clock; a literal is an `int`, as in every text that keeps
--- its limits
+-- the forms of scalars in one node, on one clock; a literal is an `int`, as in every text that
+-- keeps its limits
 abbrev pub is_plain : Expr → Bool
 is_plain (tree.Literal n) = is_int (pos n)
 is_plain (tree.Current a) = false

@@ -24,7 +24,8 @@ is_variable_in n x = among x (variable_names n)
 abbrev pub keeps_node_names : List Name → Node → Bool
 keeps_node_names constants n =
     are_distinct (declared_names n)
-    && list_all (statement_passes (is_variable_in n) (λ x. is_variable_in n x || among x (n.parameters ++ constants))) n.body
+    && list_all (statement_passes (is_variable_in n) (λ x.
+    is_variable_in n x || among x (n.parameters ++ constants))) n.body
 
 -- its variables are scalars and its statements have forms that run so far, on variables alone
 abbrev pub has_running_forms : Node → Bool

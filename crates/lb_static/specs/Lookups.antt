@@ -24,10 +24,12 @@ is_known n x = among x n.variables.now || among x (static_names n)
 -- a term stands for an expression of forms that run so far, its variables within range
 abbrev pub Stands : List Name → Expr → Term → Type 0
 Stands names e t =
-    (expr_of names t ≡ e) × (is_within (length names) t ≡ true) × (is_simple (λ x. among x names) e ≡ true)
+    (expr_of names t ≡ e) × (is_within (length names) t ≡ true)
+    × (is_simple (λ x. among x names) e ≡ true)
 
 -- the term that stands for an expression, or why there is none
-abbrev pub Resolves : List Name → (Name → Bool) → Expr → Result (Box Term Global) StaticError → Type 0
+abbrev pub Resolves :
+    List Name → (Name → Bool) → Expr → Result (Box Term Global) StaticError → Type 0
 Resolves names known e (Ok t) = Stands names e t.value
 Resolves names known e (Err f) = IsFault f (passes known e) (is_simple (λ x. among x names) e)
 
@@ -37,12 +39,16 @@ ResolvesStep names known s (Ok step) =
     (statement_of names step ≡ s) × (is_step_within (length names) step ≡ true)
     × (is_simple_statement (λ x. among x names) s ≡ true)
 ResolvesStep names known s (Err f) =
-    IsFault f (statement_passes (λ x. among x names) known s) (is_simple_statement (λ x. among x names) s)
+    IsFault f (statement_passes (λ x. among x names) known s)
+    (is_simple_statement (λ x. among x names) s)
 
 -- the same of a body
-abbrev pub ResolvesBody : List Name → (Name → Bool) → List Statement → Result (Vec Step Global) StaticError → Type 0
+abbrev pub ResolvesBody :
+    List Name → (Name → Bool) → List Statement → Result (Vec Step Global) StaticError → Type 0
 ResolvesBody names known body (Ok steps) =
-    (map (statement_of names) steps.items ≡ body) × (list_all (is_step_within (length names)) steps.items ≡ true)
+    (map (statement_of names) steps.items ≡ body)
+    × (list_all (is_step_within (length names)) steps.items ≡ true)
     × (list_all (is_simple_statement (λ x. among x names)) body ≡ true)
 ResolvesBody names known body (Err f) =
-    IsFault f (list_all (statement_passes (λ x. among x names) known) body) (list_all (is_simple_statement (λ x. among x names)) body)
+    IsFault f (list_all (statement_passes (λ x. among x names) known) body)
+    (list_all (is_simple_statement (λ x. among x names)) body)

@@ -6,8 +6,8 @@
 //! A constant that needs itself is settled while a value that it needs is not known, and gets none.
 //!
 //! The order of the walk saves time, and no value depends on it: a value that is had from values
-//! that are known is right, and where no constant gets a value any more, all values are known. After
-//! the walk one pass over the constants finds that none does.
+//! that are known is right, and where no constant gets a value any more, all values are known.
+//! After the walk one pass over the constants finds that none does.
 
 ghost use Rattle.std.specs.Prelude.{◌≡◌, ◌<◌, ◌≤◌, ◌+◌, ℕ, true, false, map, length, IfOk, OnOk, All};
 ghost use Rattle.lb_syntax.specs.SourceView.{view_constant};
