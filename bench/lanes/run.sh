@@ -5,21 +5,13 @@
 set -euo pipefail
 here=$(cd "$(dirname "$0")" && pwd)
 crates=$(cd "$here/../../crates" && pwd)
-work=$(mktemp -d)
-trap 'rm -rf "$work"' EXIT
+. "$here/../workspace.sh"
 
-mkdir "$work/crates"
-cp -r "$crates/lb_lanes" "$here/lanes_bench" "$work/crates/"
-# The sources of the timing program end in .in, so that the gate takes no part in them.
-find "$work/crates/lanes_bench" -name '*.in' | while read -r file; do mv "$file" "${file%.in}"; done
-printf 'lb_lanes:\nlanes_bench: lb_lanes\n' > "$work/crates.txt"
-git -C "$work" init -q
+workspace "lb_lanes:
+lanes_bench: lb_lanes" "$crates/lb_lanes" "$here/lanes_bench"
 
 gcc -O2 -o "$work/plain" "$here/main.c" "$here/plain.c"
-(cd "$work/crates/lanes_bench" && rt run > "$work/first" 2> "$work/log") || {
-    cat "$work/log" "$work/first" >&2
-    exit 1
-}
+(cd "$work/crates/lanes_bench" && quietly rt run)
 # The two take turns, so that what else the machine does falls on both.
 for _ in 1 2 3 4 5; do
     "$work/crates/lanes_bench/out/lanes_bench" >> "$work/kernels"

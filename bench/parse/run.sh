@@ -5,15 +5,10 @@
 set -euo pipefail
 here=$(cd "$(dirname "$0")" && pwd)
 crates=$(cd "$here/../../crates" && pwd)
-work=$(mktemp -d)
-trap 'rm -rf "$work"' EXIT
+. "$here/../workspace.sh"
 
-mkdir "$work/crates"
-cp -r "$crates/lb_syntax" "$here/parse_bench" "$work/crates/"
-# The source of the timing program ends in .in, so that the gate takes no part in it.
-find "$work/crates/parse_bench" -name '*.in' | while read -r file; do mv "$file" "${file%.in}"; done
-printf 'lb_syntax: thiserror\nparse_bench: lb_syntax\n' > "$work/crates.txt"
-git -C "$work" init -q
+workspace "lb_syntax: thiserror
+parse_bench: lb_syntax" "$crates/lb_syntax" "$here/parse_bench"
 
 # One node after the other, each of these nine lines, as many as fit into this many bytes.
 nodes() {
@@ -33,10 +28,7 @@ nodes() {
 
 nodes 100000 > "$work/shorter.lus"
 nodes 1000000 > "$work/longer.lus"
-(cd "$work/crates/parse_bench" && rt run < "$work/shorter.lus" > "$work/first" 2> "$work/log") || {
-    cat "$work/log" "$work/first" >&2
-    exit 1
-}
+(cd "$work/crates/parse_bench" && quietly rt run < "$work/shorter.lus")
 # The two texts take turns, so that what else the machine does falls on both.
 for _ in $(seq 20); do
     for text in shorter longer; do

@@ -8,23 +8,9 @@ set -euo pipefail
 records=${1:-570000}
 here=$(cd "$(dirname "$0")" && pwd)
 lbench=$(cd "$here/../../crates/lbench" && pwd)
-work=$(mktemp -d)
-trap 'rm -rf "$work"' EXIT
+. "$here/../workspace.sh"
 
-# Runs a build, and shows what it wrote only where it failed.
-quietly() {
-    "$@" > "$work/log" 2>&1 || {
-        cat "$work/log" >&2
-        exit 1
-    }
-}
-
-# The sources of the counting program end in .in, so that the gate takes no part in them.
-mkdir "$work/crates"
-cp -r "$here/count_cells" "$work/crates/"
-find "$work/crates" -name '*.in' | while read -r file; do mv "$file" "${file%.in}"; done
-printf 'count_cells: csv anyhow\n' > "$work/crates.txt"
-git -C "$work" init -q
+workspace "count_cells: csv anyhow" "$here/count_cells"
 (cd "$work/crates/count_cells" && quietly rt run)
 (cd "$lbench" && quietly rt run -- --help)
 
