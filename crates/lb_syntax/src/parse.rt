@@ -48,4 +48,6 @@ pub fn parse(alloc: Global, text: &[u8]) -> Result<Source, SyntaxError>
 }
 
 #[cfg(test)]
+mod limit_tests;
+#[cfg(test)]
 mod tests;

@@ -79,7 +79,7 @@ fn push_node(line: &mut String, node: &Node) -> Result<(), AllocError> {
 }
 
 /// The constants and nodes of a text, or why it is refused. Expressions are left out.
-fn shown(alloc: Global, text: &[u8]) -> Result<String, Fail> {
+pub(super) fn shown(alloc: Global, text: &[u8]) -> Result<String, Fail> {
     let mut line = String::new(alloc);
     match parse(alloc, text) {
         Ok(source) => {
