@@ -14,7 +14,7 @@ ghost use Rattle.lb_syntax.specs.declared.token.Mark.TheVariants as mark;
 
 use crate::list::{Items, any, list};
 use crate::lookahead::{at_name, skip};
-use crate::reader::{ReadError, after, expect, name_at};
+use crate::reader::{ReadError, after, closed, name_at};
 use crate::statics::{clock, static_expression};
 use crate::token::{Mark, Token};
 use crate::tree::{Declarations, Kind, Name, Sampling, Static};
@@ -118,7 +118,7 @@ fn group(alloc: Global, tokens: &[Token]) -> Result<(Declarations, &[Token]), Re
     ensures { Gives (λ x. (view_group x.0, x.1.now)) result (reading.group_at tokens.now) }
 {
     let (names, rest) = names(alloc, tokens)?;
-    let rest = expect(Mark::Colon, rest)?;
+    let (names, rest) = closed(names, Mark::Colon, rest)?;
     let (kind, rest) = kind(rest)?;
     let (sizes, rest) = any(alloc, &SizeItems { alloc }, rest)?;
     let (clock, rest) = sampling(alloc, rest)?;
@@ -204,7 +204,8 @@ impl Items for LocalItems {
     #[tactic(auto, unfolding(crate::specs::Programs::closed_group_at))]
     fn item<'t>(&self, tokens: &'t [Token]) -> Result<(Declarations, &'t [Token]), ReadError> {
         let (found, rest) = group(self.alloc, tokens)?;
-        Ok((found, expect(Mark::Semicolon, rest)?))
+        let (found, rest) = closed(found, Mark::Semicolon, rest)?;
+        Ok((found, rest))
     }
 
     #[tactic(auto, unfolding(crate::specs::ListReading::at_next_local))]

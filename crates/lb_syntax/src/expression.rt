@@ -16,13 +16,14 @@ ghost use Rattle.lb_syntax.specs.Readers.{Gives, IfOkOrMemory};
 ghost use Rattle.lb_syntax.specs.Tree as tree;
 ghost use Rattle.lb_syntax.specs.View.{view, view_box, view_static, view_statics, view_operator};
 ghost use Rattle.lb_syntax.specs.declared.token.Mark.TheVariants as m;
+ghost use Rattle.lb_syntax.specs.declared.token.Token.{Token as AToken};
 
 use crate::climb::{Grower, Growth, climb};
 use crate::level::{
     ANY_LEVEL, ATOM_LEVEL, CHOICE_LEVEL, Form, MEMORY_LEVEL, Row, form_of, row_of, unary_level,
 };
 use crate::list::{Items, list};
-use crate::reader::{ReadError, after, expect};
+use crate::reader::{ReadError, after, closed, expect};
 use crate::statics::{clock, separator, size, static_expression, statics};
 use crate::token::{Mark, Token};
 use crate::tree::{ArrayIterator, BinaryOperator, Expr, Name, Operator, Static, UnaryOperator};
@@ -122,7 +123,7 @@ fn arguments(alloc: Global, tokens: &[Token]) -> Result<(Vec<Static>, &[Token]),
         None => Ok((Vec::new(alloc), tokens)),
         Some(next) => {
             let (found, rest) = statics(alloc, next)?;
-            let rest = expect(Mark::CloseStatic, rest)?;
+            let (found, rest) = closed(found, Mark::CloseStatic, rest)?;
             Ok((found, rest))
         }
     }
@@ -165,7 +166,7 @@ fn applied(alloc: Global, tokens: &[Token]) -> Result<(Operator, Static, &[Token
     let (f, rest) = operator(alloc, tokens)?;
     let rest = expect_separator(rest)?;
     let (n, rest) = static_expression(alloc, rest)?;
-    let rest = expect(Mark::CloseStatic, rest)?;
+    let (n, rest) = closed(n, Mark::CloseStatic, rest)?;
     Ok((f, n, rest))
 }
 
@@ -182,13 +183,13 @@ fn element(
     let (i, rest) = static_expression(alloc, tokens)?;
     match after(Mark::DotDot, rest) {
         None => {
-            let rest = expect(Mark::CloseBracket, rest)?;
-            Ok((boxed(alloc, Expr::Index(e, i))?, rest))
+            let (i, rest) = closed(i, Mark::CloseBracket, rest)?;
+            boxed_before(alloc, Expr::Index(e, i), rest)
         }
         Some(next) => {
             let (j, rest) = static_expression(alloc, next)?;
-            let rest = expect(Mark::CloseBracket, rest)?;
-            Ok((boxed(alloc, Expr::Slice(e, i, j))?, rest))
+            let (j, rest) = closed(j, Mark::CloseBracket, rest)?;
+            boxed_before(alloc, Expr::Slice(e, i, j), rest)
         }
     }
 }
@@ -198,6 +199,18 @@ fn boxed(alloc: Global, e: Expr) -> Result<Box<Expr>, ReadError>
     ensures { IfOkOrMemory result (λ b. view_box b ≡ view e) }
 {
     Ok(Box::new(alloc, e)?)
+}
+
+/// The tree in a box, and the tokens after it.
+fn boxed_before<'t>(
+    alloc: Global,
+    e: Expr,
+    rest: &'t [Token],
+) -> Result<(Box<Expr>, &'t [Token]), ReadError>
+    ensures { Gives {Y = tree.Expr × List AToken} (λ x. (view_box x.0, x.1.now)) result
+        (Some (view e, rest.now)) }
+{
+    Ok((boxed(alloc, e)?, rest))
 }
 
 /// The tree of an infix form and its two operands.
@@ -285,7 +298,7 @@ impl<F: Fn(Global, usize, u8, &[Token]) -> Result<(Box<Expr>, &[Token]), ReadErr
             (reading.first (reading.tree_at self.now.depth) tokens.now) }
     {
         match tokens {
-            [Token::Literal(n), rest @ ..] => Ok((boxed(self.alloc, Expr::Literal(*n))?, rest)),
+            [Token::Literal(n), rest @ ..] => boxed_before(self.alloc, Expr::Literal(*n), rest),
             [Token::Name(x), rest @ ..] => self.named(x.copy(self.alloc)?, rest),
             [Token::Mark(mark), rest @ ..] => self.marked(*mark, rest),
             _ => Err(ReadError::Syntax(tokens.len())),
@@ -304,34 +317,34 @@ impl<F: Fn(Global, usize, u8, &[Token]) -> Result<(Box<Expr>, &[Token]), ReadErr
             (reading.marked (reading.tree_at self.now.depth) mark tokens.now) }
     {
         match mark {
-            Mark::True => Ok((boxed(self.alloc, Expr::Truth(true))?, tokens)),
-            Mark::False => Ok((boxed(self.alloc, Expr::Truth(false))?, tokens)),
+            Mark::True => boxed_before(self.alloc, Expr::Truth(true), tokens),
+            Mark::False => boxed_before(self.alloc, Expr::Truth(false), tokens),
             Mark::Open => {
                 let (e, rest) = self.until(Mark::Close, tokens)?;
-                Ok((boxed(self.alloc, Expr::Group(e))?, rest))
+                boxed_before(self.alloc, Expr::Group(e), rest)
             }
             Mark::Not => self.unary(UnaryOperator::Not, tokens),
             Mark::Minus => self.unary(UnaryOperator::Negate, tokens),
             Mark::Pre => {
                 let (a, rest) = self.inner(MEMORY_LEVEL, tokens)?;
-                Ok((boxed(self.alloc, Expr::Pre(a))?, rest))
+                boxed_before(self.alloc, Expr::Pre(a), rest)
             }
             Mark::Current => {
                 let (a, rest) = self.inner(MEMORY_LEVEL, tokens)?;
-                Ok((boxed(self.alloc, Expr::Current(a))?, rest))
+                boxed_before(self.alloc, Expr::Current(a), rest)
             }
             Mark::If => self.choice(tokens),
             Mark::OpenBracket => {
                 let (es, rest) = self.list_until(Mark::CloseBracket, tokens)?;
-                Ok((boxed(self.alloc, Expr::Array(es))?, rest))
+                boxed_before(self.alloc, Expr::Array(es), rest)
             }
             Mark::Hash => {
                 let (es, rest) = self.items(tokens)?;
-                Ok((boxed(self.alloc, Expr::AtMostOne(es))?, rest))
+                boxed_before(self.alloc, Expr::AtMostOne(es), rest)
             }
             Mark::Nor => {
                 let (es, rest) = self.items(tokens)?;
-                Ok((boxed(self.alloc, Expr::Nor(es))?, rest))
+                boxed_before(self.alloc, Expr::Nor(es), rest)
             }
             _ => Err(ReadError::Syntax(tokens.len())),
         }
@@ -348,7 +361,7 @@ impl<F: Fn(Global, usize, u8, &[Token]) -> Result<(Box<Expr>, &[Token]), ReadErr
             (levels.unary_level op) tokens.now) }
     {
         let (a, rest) = self.inner(unary_level(op), tokens)?;
-        Ok((boxed(self.alloc, Expr::Unary(op, a))?, rest))
+        boxed_before(self.alloc, Expr::Unary(op, a), rest)
     }
 
     /// Any expression, and then a mark.
@@ -363,7 +376,7 @@ impl<F: Fn(Global, usize, u8, &[Token]) -> Result<(Box<Expr>, &[Token]), ReadErr
             (reading.until (reading.tree_at self.now.depth) mark tokens.now) }
     {
         let (e, rest) = self.inner(ANY_LEVEL, tokens)?;
-        let rest = expect(mark, rest)?;
+        let (e, rest) = closed(e, mark, rest)?;
         Ok((e, rest))
     }
 
@@ -376,7 +389,7 @@ impl<F: Fn(Global, usize, u8, &[Token]) -> Result<(Box<Expr>, &[Token]), ReadErr
         let (c, rest) = self.until(Mark::Then, tokens)?;
         let (a, rest) = self.until(Mark::Else, rest)?;
         let (b, rest) = self.inner(CHOICE_LEVEL, rest)?;
-        Ok((boxed(self.alloc, Expr::If(c, a, b))?, rest))
+        boxed_before(self.alloc, Expr::If(c, a, b), rest)
     }
 
     /// What a name begins.
@@ -411,7 +424,7 @@ impl<F: Fn(Global, usize, u8, &[Token]) -> Result<(Box<Expr>, &[Token]), ReadErr
             (readers.expect m.Open tokens.now) tokens.now) }
     {
         match after(Mark::Open, tokens) {
-            None => Ok((boxed(self.alloc, Expr::Variable(name))?, tokens)),
+            None => boxed_before(self.alloc, Expr::Variable(name), tokens),
             Some(next) => {
                 let (es, rest) = self.operands(next)?;
                 let none = Vec::new(self.alloc);
@@ -448,8 +461,8 @@ impl<F: Fn(Global, usize, u8, &[Token]) -> Result<(Box<Expr>, &[Token]), ReadErr
             (reading.static_call (reading.tree_at self.now.depth) name tokens.now) }
     {
         let (found, rest) = statics(self.alloc, tokens)?;
-        let rest = expect(Mark::CloseStatic, rest)?;
-        let rest = expect(Mark::Open, rest)?;
+        let (found, rest) = closed(found, Mark::CloseStatic, rest)?;
+        let (found, rest) = closed(found, Mark::Open, rest)?;
         let (es, rest) = self.operands(rest)?;
         Ok((call(self.alloc, name, found, es)?, rest))
     }
@@ -490,7 +503,7 @@ impl<F: Fn(Global, usize, u8, &[Token]) -> Result<(Box<Expr>, &[Token]), ReadErr
             (reading.list_until (reading.tree_at self.now.depth) mark tokens.now) }
     {
         let (es, rest) = list(self.alloc, self, tokens)?;
-        let rest = expect(mark, rest)?;
+        let (es, rest) = closed(es, mark, rest)?;
         Ok((es, rest))
     }
 
@@ -509,11 +522,11 @@ impl<F: Fn(Global, usize, u8, &[Token]) -> Result<(Box<Expr>, &[Token]), ReadErr
         match form {
             Form::When => {
                 let (c, rest) = clock(alloc, tokens)?;
-                Ok((boxed(alloc, Expr::When(left, c.variable, c.sign))?, rest))
+                boxed_before(alloc, Expr::When(left, c.variable, c.sign), rest)
             }
             Form::Copies => {
                 let (n, rest) = size(alloc, tokens)?;
-                Ok((boxed(alloc, Expr::Copies(left, n))?, rest))
+                boxed_before(alloc, Expr::Copies(left, n), rest)
             }
             Form::Element => element(alloc, left, tokens),
             _ => self.infix(left, form, tokens),

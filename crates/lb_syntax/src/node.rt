@@ -10,7 +10,7 @@ ghost use Rattle.lb_syntax.specs.SourceView.{view_node};
 use crate::declaration::{groups, inputs, locals};
 use crate::list::{Items, list};
 use crate::lookahead::skip;
-use crate::reader::{ReadError, after, expect, name_at};
+use crate::reader::{ReadError, after, closed, expect, name_at};
 use crate::statement::body;
 use crate::statics::separator;
 use crate::token::{Mark, Token};
@@ -24,8 +24,8 @@ fn parameter(alloc: Global, tokens: &[Token]) -> Result<(Name, &[Token]), ReadEr
 {
     let rest = expect(Mark::Const, tokens)?;
     let (name, rest) = name_at(alloc, rest)?;
-    let rest = expect(Mark::Colon, rest)?;
-    let rest = expect(Mark::Int, rest)?;
+    let (name, rest) = closed(name, Mark::Colon, rest)?;
+    let (name, rest) = closed(name, Mark::Int, rest)?;
     Ok((name, rest))
 }
 
@@ -66,7 +66,7 @@ fn parameters(alloc: Global, tokens: &[Token]) -> Result<(Vec<Name>, &[Token]), 
         None => Ok((Vec::new(alloc), tokens)),
         Some(inner) => {
             let (names, rest) = list(alloc, &ParameterItems { alloc }, inner)?;
-            let rest = expect(Mark::CloseStatic, rest)?;
+            let (names, rest) = closed(names, Mark::CloseStatic, rest)?;
             Ok((names, rest))
         }
     }

@@ -11,7 +11,7 @@ ghost use Rattle.lb_syntax.specs.Tree as tree;
 use crate::list::{Items, list};
 use crate::lookahead::at_name;
 use crate::node::node_at;
-use crate::reader::{ReadError, after, expect, name_at};
+use crate::reader::{ReadError, after, closed, expect, name_at};
 use crate::statics::static_expression;
 use crate::token::{Mark, Token};
 use crate::tree::{Constant, Node, Source};
@@ -36,7 +36,7 @@ fn constant_at(alloc: Global, tokens: &[Token]) -> Result<(Constant, &[Token]), 
     let rest = skip_type(rest)?;
     let rest = expect(Mark::Equal, rest)?;
     let (value, rest) = static_expression(alloc, rest)?;
-    let rest = expect(Mark::Semicolon, rest)?;
+    let (value, rest) = closed(value, Mark::Semicolon, rest)?;
     Ok((Constant { name, value }, rest))
 }
 

@@ -1,6 +1,6 @@
 //! Reading from the front of a slice of tokens: what all parts of the parser share.
 
-ghost use Rattle.std.specs.Prelude.{◌≡◌, Some, None, IfNone, IfSome};
+ghost use Rattle.std.specs.Prelude.{◌≡◌, Some, None, IfNone, IfSome, IfOk};
 ghost use Rattle.lb_syntax.specs.Readers as reading;
 ghost use Rattle.lb_syntax.specs.Readers.{Gives};
 
@@ -69,6 +69,19 @@ pub fn expect(mark: Mark, tokens: &[Token]) -> Result<&[Token], ReadError>
         Some(rest) => Ok(rest),
         None => Err(ReadError::Syntax(tokens.len())),
     }
+}
+
+/// A thing that was read, where this mark comes next, and the tokens after the mark.
+pub fn closed<'t, T: Drop>(
+    read: T,
+    mark: Mark,
+    tokens: &'t [Token],
+) -> Result<(T, &'t [Token]), ReadError>
+    ensures after { Gives (λ x. x.1.now) result (reading.expect mark tokens.now) }
+    ensures same { IfOk result (λ x. x.0 ≡ read) }
+{
+    let rest = expect(mark, tokens)?;
+    Ok((read, rest))
 }
 
 /// A name, and the tokens after it.

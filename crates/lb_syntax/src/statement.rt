@@ -1,6 +1,6 @@
 //! Statements of a node.
 
-ghost use Rattle.std.specs.Prelude.{◌≡◌, map};
+ghost use Rattle.std.specs.Prelude.{◌≡◌, map, Some, None};
 ghost use Rattle.lb_syntax.specs.ListReading as lists;
 ghost use Rattle.lb_syntax.specs.Programs as reading;
 ghost use Rattle.lb_syntax.specs.Readers.{Gives};
@@ -11,7 +11,7 @@ use crate::declaration::names;
 use crate::expression::expression;
 use crate::list::{Items, any};
 use crate::lookahead::skip;
-use crate::reader::{ReadError, after, expect};
+use crate::reader::{ReadError, after, closed, expect};
 use crate::token::{Mark, Token};
 use crate::tree::{Name, Statement};
 use std::alloc::Global;
@@ -25,10 +25,32 @@ fn left(alloc: Global, tokens: &[Token]) -> Result<(Vec<Name>, &[Token]), ReadEr
         None => names(alloc, tokens),
         Some(inner) => {
             let (names, rest) = names(alloc, inner)?;
-            let rest = expect(Mark::Close, rest)?;
+            let (names, rest) = closed(names, Mark::Close, rest)?;
             Ok((names, rest))
         }
     }
+}
+
+/// An assertion, after its first word.
+fn assertion(alloc: Global, tokens: &[Token]) -> Result<(Statement, &[Token]), ReadError>
+    ensures { Gives (λ x. (view_statement x.0, x.1.now)) result
+        (reading.statement_by (Some tokens.now) tokens.now) }
+{
+    let (e, rest) = expression(alloc, tokens)?;
+    let (e, rest) = closed(e, Mark::Semicolon, rest)?;
+    Ok((Statement::Assertion(e), rest))
+}
+
+/// An equation.
+fn equation(alloc: Global, tokens: &[Token]) -> Result<(Statement, &[Token]), ReadError>
+    ensures { Gives (λ x. (view_statement x.0, x.1.now)) result
+        (reading.statement_by None tokens.now) }
+{
+    let (names, rest) = left(alloc, tokens)?;
+    let (names, rest) = closed(names, Mark::Equal, rest)?;
+    let (e, rest) = expression(alloc, rest)?;
+    let (e, rest) = closed(e, Mark::Semicolon, rest)?;
+    Ok((Statement::Equation(names, e), rest))
 }
 
 /// An equation or an assertion.
@@ -37,18 +59,8 @@ fn statement(alloc: Global, tokens: &[Token]) -> Result<(Statement, &[Token]), R
     ensures { Gives (λ x. (view_statement x.0, x.1.now)) result (reading.statement_at tokens.now) }
 {
     match after(Mark::Assert, tokens) {
-        Some(claim) => {
-            let (e, rest) = expression(alloc, claim)?;
-            let rest = expect(Mark::Semicolon, rest)?;
-            Ok((Statement::Assertion(e), rest))
-        }
-        None => {
-            let (names, rest) = left(alloc, tokens)?;
-            let rest = expect(Mark::Equal, rest)?;
-            let (e, rest) = expression(alloc, rest)?;
-            let rest = expect(Mark::Semicolon, rest)?;
-            Ok((Statement::Equation(names, e), rest))
-        }
+        Some(claim) => assertion(alloc, claim),
+        None => equation(alloc, tokens),
     }
 }
 
@@ -102,6 +114,6 @@ pub fn body(alloc: Global, tokens: &[Token]) -> Result<(Vec<Statement>, &[Token]
 {
     let rest = expect(Mark::Let, tokens)?;
     let (body, rest) = any(alloc, &StatementItems { alloc }, rest)?;
-    let rest = expect(Mark::Tel, rest)?;
+    let (body, rest) = closed(body, Mark::Tel, rest)?;
     Ok((body, end(rest)))
 }

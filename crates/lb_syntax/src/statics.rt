@@ -11,7 +11,7 @@ ghost use Rattle.lb_syntax.specs.Levels as levels;
 use crate::climb::{Grower, Growth, climb};
 use crate::level::{ANY_LEVEL, ATOM_LEVEL, Form, Row, arithmetic_of, row_of, unary_level};
 use crate::list::{Items, list};
-use crate::reader::{ReadError, after, expect, name_at};
+use crate::reader::{ReadError, after, closed, name_at};
 use crate::token::{Mark, Token};
 use crate::tree::{BinaryOperator, Name, Sampling, Static, UnaryOperator};
 use std::alloc::Global;
@@ -87,7 +87,7 @@ impl<F: Fn(Global, usize, u8, &[Token]) -> Result<(Static, &[Token]), ReadError>
             [Token::Name(x), rest @ ..] => Ok((Static::Named(x.copy(self.alloc)?), rest)),
             [Token::Mark(Mark::Open), rest @ ..] => {
                 let (s, rest) = self.inner(ANY_LEVEL, rest)?;
-                let rest = expect(Mark::Close, rest)?;
+                let (s, rest) = closed(s, Mark::Close, rest)?;
                 Ok((Static::Grouped(Box::new(self.alloc, s)?), rest))
             }
             [Token::Mark(Mark::Minus), rest @ ..] => {
@@ -231,7 +231,7 @@ pub fn size(alloc: Global, tokens: &[Token]) -> Result<(Static, &[Token]), ReadE
         [Token::Name(x), rest @ ..] => Ok((Static::Named(x.copy(alloc)?), rest)),
         [Token::Mark(Mark::Open), rest @ ..] => {
             let (s, rest) = static_expression(alloc, rest)?;
-            let rest = expect(Mark::Close, rest)?;
+            let (s, rest) = closed(s, Mark::Close, rest)?;
             Ok((Static::Grouped(Box::new(alloc, s)?), rest))
         }
         _ => Err(ReadError::Syntax(tokens.len())),
@@ -247,7 +247,7 @@ fn clock_name(alloc: Global, tokens: &[Token]) -> Result<(Name, &[Token]), ReadE
         None => name_at(alloc, tokens),
         Some(inner) => {
             let (x, rest) = name_at(alloc, inner)?;
-            let rest = expect(Mark::Close, rest)?;
+            let (x, rest) = closed(x, Mark::Close, rest)?;
             Ok((x, rest))
         }
     }
