@@ -51,3 +51,5 @@ pub fn parse(alloc: Global, text: &[u8]) -> Result<Source, SyntaxError>
 mod limit_tests;
 #[cfg(test)]
 mod tests;
+#[cfg(test)]
+mod tree_tests;

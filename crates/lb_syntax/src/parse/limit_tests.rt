@@ -1,29 +1,32 @@
 //! Texts at their limits and one past them, and refusals with their places, worked out by hand.
 
-use super::tests::shown;
+ghost use Rattle.std.specs.Prelude.{◌<◌};
+
+use super::tests::{first_wrong, shown};
+use super::tree_tests::first_expression;
 use super::*;
-use crate::tree::{BinaryOperator, Expr, Statement, UnaryOperator};
+use crate::tree::Expr;
 use std::alloc::AllocError;
 use std::test::Fail;
 
 /// A node whose third line is a statement: `open` so many times, `x`, and `close` as many times.
 fn nested(
     alloc: Global,
-    front: &[u8],
-    open: &[u8],
+    front: &str,
+    open: &str,
     turns: usize,
-    close: &[u8],
-) -> Result<Vec<u8>, AllocError> {
-    let mut text = Vec::from_slice(alloc, b"node n() returns (y: int)\nlet\n")?;
-    text.extend_from_slice(front)?;
+    close: &str,
+) -> Result<String, AllocError> {
+    let mut text = String::from_str(alloc, "node n() returns (y: int)\nlet\n")?;
+    text.push_str(front)?;
     for _ in 0..turns {
-        text.extend_from_slice(open)?;
+        text.push_str(open)?;
     }
-    text.push(b'x')?;
+    text.push('x')?;
     for _ in 0..turns {
-        text.extend_from_slice(close)?;
+        text.push_str(close)?;
     }
-    text.extend_from_slice(b";\ntel")?;
+    text.push_str(";\ntel")?;
     Ok(text)
 }
 
@@ -60,161 +63,155 @@ fn form(e: &Expr) -> &'static str {
 }
 
 /// The form and the levels of the first statement's expression, or why the text is refused.
-fn shape(alloc: Global, text: &[u8]) -> Result<String, Fail> {
-    let source = match parse(alloc, text) {
-        Ok(source) => source,
-        Err(error) => return Ok(format!(in alloc; "{error}")?),
-    };
-    let node = source.nodes.first().ok_or("no node")?;
-    let (Statement::Equation(_, e) | Statement::Assertion(e)) = node
-        .body
-        .first()
-        .ok_or("no statement")?;
-    Ok(format!(in alloc; "{} {}", form(e), levels(e))?)
+fn shape(alloc: Global, text: &str) -> Result<String, Fail> {
+    Ok(match parse(alloc, text.as_bytes()) {
+        Err(error) => format!(in alloc; "{error}")?,
+        Ok(source) => match first_expression(&source) {
+            Some(e) => format!(in alloc; "{} {}", form(e), levels(e))?,
+            None => "no statement".to_string(alloc)?,
+        },
+    })
 }
 
-/// The `=` of an equation is counted, `assert` is not: 500 counted tokens are the most.
+/// The first row whose third word is not what is said of so many turns and of one turn more.
+fn first_wrong_nesting(
+    alloc: Global,
+    front: &str,
+    most: usize,
+    rows: &[(&str, &str, &str)],
+) -> Result<String, Fail>
+    requires { most < 1000 }
+{
+    for (open, close, want) in rows {
+        let last = shape(alloc, nested(alloc, front, open, most, close)?.as_str())?;
+        let over = shape(alloc, nested(alloc, front, open, most + 1, close)?.as_str())?;
+        let said = format!(in alloc; "{last}, {over}")?;
+        if said.as_str() != *want {
+            return Ok(said);
+        }
+    }
+    Ok(String::new(alloc))
+}
+
+/// 500 counted tokens are the most.
 #[test]
-fn nesting_ends_at_500(rt: HostRuntime) -> Result<(), Fail> {
-    let rows: [(&[u8], &[u8], usize, &[u8], &str); 15] = [
-        (b"y = ", b"(", 499, b")", "brackets 499"),
-        // the 500th bracket: 4 bytes and 499 brackets stand before it
-        (b"y = ", b"(", 500, b")", "over its limit at 3:504"),
-        (b"assert ", b"(", 500, b")", "brackets 500"),
-        (b"assert ", b"(", 501, b")", "over its limit at 3:508"),
-        (b"y = ", b"[", 499, b"]", "array 499"),
-        (b"y = ", b"[", 500, b"]", "over its limit at 3:504"),
-        (b"y = ", b"f(", 499, b")", "call 499"),
-        // 4 bytes, 499 times `f(`, and the `f` of the last
-        (b"y = ", b"f(", 500, b")", "over its limit at 3:1004"),
-        (b"assert ", b"f(", 500, b")", "call 500"),
-        (b"assert ", b"pre ", 500, b"", "pre 500"),
-        (b"assert ", b"if ", 500, b" then 1 else 2", "choice 500"),
-        (b"assert ", b"not ", 501, b"", "over its limit at 3:2008"),
-        // three counted tokens each: `=` and 166 times three are 499
-        (b"y = ", b"map<<f<<1>>;3>>(", 166, b")", "iterator 166"),
-        // 4 bytes, 166 times 16 bytes, and the six of `map<<f`
+fn assertions_nest(rt: HostRuntime) -> Result<(), Fail> {
+    // 7 bytes stand before the first turn
+    let rows = [
+        ("(", ")", "brackets 500, over its limit at 3:508"),
+        ("[", "]", "array 500, over its limit at 3:508"),
+        ("f(", ")", "call 500, over its limit at 3:1009"),
+        ("pre ", "", "pre 500, over its limit at 3:2008"),
+        ("not ", "", "operator 500, over its limit at 3:2008"),
         (
-            b"y = ",
-            b"map<<f<<1>>;3>>(",
-            167,
-            b")",
-            "over its limit at 3:2667",
-        ),
-        (
-            b"y = ",
-            b"map<<f<<1>>;3>>(",
-            200,
-            b")",
-            "over its limit at 3:2667",
+            "if ",
+            " then 1 else 2",
+            "choice 500, over its limit at 3:1508",
         ),
     ];
-    for (front, open, turns, close, want) in rows {
-        let text = nested(rt.alloc(), front, open, turns, close)?;
-        let got = shape(rt.alloc(), &text)?;
-        assert_eq!(rt; got.as_str(), want);
-    }
+    let said = first_wrong_nesting(rt.alloc(), "assert ", 500, &rows)?;
+    assert_eq!(rt; said.as_str(), "");
     Ok(())
 }
 
-/// The least `int` has no literal, and is spelled as a difference.
+/// The `=` of an equation is one of the counted tokens, and so is a `^`.
 #[test]
-fn least_int(rt: HostRuntime) -> Result<(), Fail> {
-    let over = nested(rt.alloc(), b"y = -2147483648 - ", b"", 0, b"")?;
-    assert_eq!(rt; shape(rt.alloc(), &over)?.as_str(), "over its limit at 3:6");
-    let text = b"node n() returns (y: int) let y = -2147483647 - 1; tel";
-    let Ok(source) = parse(rt.alloc(), text) else {
-        return Err("refused")?;
-    };
-    let node = source.nodes.first().ok_or("no node")?;
-    let Some(Statement::Equation(_, Expr::Binary(BinaryOperator::Minus, left, right))) = node
-        .body
-        .first()
-    else {
-        return Err("no difference")?;
-    };
-    let Expr::Unary(UnaryOperator::Negate, greatest) = &**left else {
-        return Err("no sign")?;
-    };
-    assert!(rt; matches!(**greatest, Expr::Literal(2_147_483_647)));
-    assert!(rt; matches!(**right, Expr::Literal(1)));
-    Ok(())
-}
-
-#[test]
-fn names_end_at_64(rt: HostRuntime) -> Result<(), Fail> {
-    let mut text = Vec::from_slice(rt.alloc(), b"const k = 1; const ")?;
-    for _ in 0..64 {
-        text.push(b'n')?;
-    }
-    let end = b" = 2; ";
-    let mut fits = Vec::from_slice(rt.alloc(), &text)?;
-    fits.extend_from_slice(end)?;
-    assert_eq!(rt; shown(rt.alloc(), &fits)?.as_bytes(), fits.as_slice());
-    text.push(b'n')?;
-    text.extend_from_slice(end)?;
+fn equations_nest(rt: HostRuntime) -> Result<(), Fail> {
+    // 4 bytes stand before the first turn
+    let rows = [
+        ("(", ")", "brackets 499, over its limit at 3:504"),
+        ("[", "]", "array 499, over its limit at 3:504"),
+        ("f(", ")", "call 499, over its limit at 3:1004"),
+    ];
     assert_eq!(rt;
-        shown(rt.alloc(), &text)?.as_str(),
-        "over its limit at 1:20"
+        first_wrong_nesting(rt.alloc(), "y = ", 499, &rows)?.as_str(),
+        ""
+    );
+    // 6 bytes stand before the first turn here
+    let sizes = [("(", ")", "other 0, over its limit at 3:505")];
+    assert_eq!(rt;
+        first_wrong_nesting(rt.alloc(), "y = a^", 498, &sizes)?.as_str(),
+        ""
     );
     Ok(())
 }
 
-/// A byte that is white space, part of a token or of a comment nowhere.
+/// Each turn has three counted tokens, and its `;` separates no statements.
+#[test]
+fn iterators_nest(rt: HostRuntime) -> Result<(), Fail> {
+    let open = "map<<f<<1>>;3>>(";
+    // 4 bytes, 166 times 16 bytes, and the six of `map<<f`
+    let rows = [(open, ")", "iterator 166, over its limit at 3:2667")];
+    assert_eq!(rt;
+        first_wrong_nesting(rt.alloc(), "y = ", 166, &rows)?.as_str(),
+        ""
+    );
+    let deep = nested(rt.alloc(), "y = ", open, 200, ")")?;
+    let said = shape(rt.alloc(), deep.as_str())?;
+    assert_eq!(rt; said.as_str(), "over its limit at 3:2667");
+    Ok(())
+}
+
+/// A text with a byte that is white space, part of a token or of a comment nowhere.
+fn with_byte(alloc: Global, byte: u8) -> Result<String, Fail> {
+    let mut text = Vec::from_slice(alloc, b"const n\n\t= ")?;
+    text.push(byte)?;
+    text.extend_from_slice(b" %")?;
+    shown(alloc, &text)
+}
+
 #[test]
 fn bytes_of_no_token(rt: HostRuntime) -> Result<(), Fail> {
-    for byte in *b"%@$&~!?\"'`{}\\\x00\x0b\x7f\x80\xc3\xff" {
-        let mut text = Vec::from_slice(rt.alloc(), b"const n\n\t= ")?;
-        text.push(byte)?;
-        text.extend_from_slice(b" %")?;
-        assert_eq!(rt;
-            shown(rt.alloc(), &text)?.as_str(),
-            "no token begins at 2:4",
-            "{byte}"
-        );
+    for byte in b"%@$&~!?\"'`{}\\\x00\x0b\x7f\x80\xc3\xff".as_slice() {
+        let said = with_byte(rt.alloc(), *byte)?;
+        assert_eq!(rt; said.as_str(), "no token begins at 2:4", "{byte}");
     }
-    let marked = b"\xef\xbb\xbfconst n = 1;";
-    assert_eq!(rt;
-        shown(rt.alloc(), marked)?.as_str(),
-        "no token begins at 1:1"
-    );
     Ok(())
 }
 
 #[test]
-fn comments_and_ends(rt: HostRuntime) -> Result<(), Fail> {
-    let rows: [(&[u8], &str); 9] = [
+fn texts_at_their_limits(rt: HostRuntime) -> Result<(), Fail> {
+    let rows = [
+        (" -- nothing", ""),
         // one comment, which the first end closes
-        (b"(* a (* b *) const n = 1;", "const n = 1; "),
+        ("(* a (* b *) const n = 1;", "const n = 1; "),
         (
-            b"(* a (* b *) const n = 1; *)",
+            "(* a (* b *) const n = 1; *)",
             "no tree fits the tokens up to 1:27",
         ),
-        (b"/* a /* (* b */ const n = 1;", "const n = 1; "),
-        (b"const n = 1;\n  /* no end\n", "no token begins at 2:3"),
-        (b"-- (* /*\nconst n = 1; (*)", "no token begins at 2:14"),
+        ("/* a /* (* b */ const n = 1;", "const n = 1; "),
+        ("const n = 1;\n  /* no end\n", "no token begins at 2:3"),
+        ("-- (* /*\nconst n = 1; (*)", "no token begins at 2:14"),
+        ("\u{feff}const n = 1;", "no token begins at 1:1"),
+        // a name of 64 bytes, and one of 65
+        (
+            "const n123456789n123456789n123456789n123456789n123456789n123456789n123 = 1; ",
+            "const n123456789n123456789n123456789n123456789n123456789n123456789n123 = 1; ",
+        ),
+        (
+            "const\nn123456789n123456789n123456789n123456789n123456789n123456789n1234 = 1;",
+            "over its limit at 2:1",
+        ),
         // a missing `tel`: the place after the last byte, or the next node
         (
-            b"node f() returns (y: int);\nlet\n  y = 1;",
+            "node f() returns (y: int);\nlet\n  y = 1;",
             "no tree fits the tokens up to 3:9",
         ),
         (
-            b"node f() returns (y: int);\nlet y = 1;\nnode g() returns (y: int); let tel",
+            "node f() returns (y: int);\nlet y = 1;\nnode g() returns (y: int); let tel",
             "no tree fits the tokens up to 3:1",
         ),
         // no statement comes after `tel`
         (
-            b"node f() returns (y: int);\nlet tel\n y = 1;",
+            "node f() returns (y: int);\nlet tel\n y = 1;",
             "no tree fits the tokens up to 3:2",
         ),
         // a literal over its limit comes before the missing `tel`
         (
-            b"node f() returns (y: int);\nlet y = 2147483648;",
+            "node f() returns (y: int);\nlet y = 2147483648;",
             "over its limit at 2:9",
         ),
     ];
-    for (text, want) in rows {
-        assert_eq!(rt; shown(rt.alloc(), text)?.as_str(), want);
-    }
+    assert_eq!(rt; first_wrong(rt.alloc(), &rows)?.as_str(), "");
     Ok(())
 }

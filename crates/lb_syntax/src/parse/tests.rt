@@ -95,6 +95,17 @@ pub(super) fn shown(alloc: Global, text: &[u8]) -> Result<String, Fail> {
     Ok(line)
 }
 
+/// What is said of the first text of which not this is said, or nothing.
+pub(super) fn first_wrong(alloc: Global, rows: &[(&str, &str)]) -> Result<String, Fail> {
+    for (text, want) in rows {
+        let said = shown(alloc, text.as_bytes())?;
+        if said.as_str() != *want {
+            return Ok(said);
+        }
+    }
+    Ok(String::new(alloc))
+}
+
 #[test]
 fn whole_program(rt: HostRuntime) -> Result<(), Fail> {
     let text = b"const n = 3; k: int = n;
@@ -122,62 +133,54 @@ fn whole_program(rt: HostRuntime) -> Result<(), Fail> {
 }
 
 #[test]
-fn empty_program(rt: HostRuntime) -> Result<(), Fail> {
-    assert_eq!(rt; shown(rt.alloc(), b" -- nothing")?.as_str(), "");
-    Ok(())
-}
-
-#[test]
 fn one_refusal_each(rt: HostRuntime) -> Result<(), Fail> {
-    let rows: [(&[u8], &str); 14] = [
+    let rows = [
         // a missing `tel`: the place after the last byte
         (
-            b"node f() returns (y: int);\nlet y = 1;\n",
+            "node f() returns (y: int);\nlet y = 1;\n",
             "no tree fits the tokens up to 3:1",
         ),
         (
-            b"node f() returns (y: int); let y = 1; tel;;",
+            "node f() returns (y: int); let y = 1; tel;;",
             "no tree fits the tokens up to 1:43",
         ),
         (
-            b"node f() returns (); let tel",
+            "node f() returns (); let tel",
             "no tree fits the tokens up to 1:19",
         ),
         (
-            b"node f(x: int;;) returns (y: int) let tel",
+            "node f(x: int;;) returns (y: int) let tel",
             "no tree fits the tokens up to 1:15",
         ),
         (
-            b"node f<<>>() returns (y: int) let tel",
+            "node f<<>>() returns (y: int) let tel",
             "no tree fits the tokens up to 1:9",
         ),
         (
-            b"node f() returns (y: int) var let tel",
+            "node f() returns (y: int) var let tel",
             "no tree fits the tokens up to 1:31",
         ),
         (
-            b"node f() returns (y: int) var a: int let tel",
+            "node f() returns (y: int) var a: int let tel",
             "no tree fits the tokens up to 1:38",
         ),
         (
-            b"node f() returns (y: int) let (y = 1; tel",
+            "node f() returns (y: int) let (y = 1; tel",
             "no tree fits the tokens up to 1:34",
         ),
         (
-            b"node f() returns (y: int) let y = 1 tel",
+            "node f() returns (y: int) let y = 1 tel",
             "no tree fits the tokens up to 1:37",
         ),
-        (b"const n: bool = 3;", "no tree fits the tokens up to 1:10"),
-        (b"const", "no tree fits the tokens up to 1:6"),
-        (b"x", "no tree fits the tokens up to 1:1"),
+        ("const n: bool = 3;", "no tree fits the tokens up to 1:10"),
+        ("const", "no tree fits the tokens up to 1:6"),
+        ("x", "no tree fits the tokens up to 1:1"),
         // a byte that begins no token comes before all that is judged on tokens
-        (b"node 2147483648 %", "no token begins at 1:17"),
+        ("node 2147483648 %", "no token begins at 1:17"),
         // and a literal over its limit before the syntax
-        (b"node 1 2147483648", "over its limit at 1:8"),
+        ("node 1 2147483648", "over its limit at 1:8"),
     ];
-    for (text, expected) in rows {
-        assert_eq!(rt; shown(rt.alloc(), text)?.as_str(), expected);
-    }
+    assert_eq!(rt; first_wrong(rt.alloc(), &rows)?.as_str(), "");
     Ok(())
 }
 
@@ -186,23 +189,5 @@ fn text_over_its_limit(rt: HostRuntime) -> Result<(), Fail> {
     let text = vec![in rt.alloc(); b' '; 1_000_001]?;
     assert_eq!(rt; shown(rt.alloc(), &text)?.as_str(), "over its limit at 1:1");
     assert_eq!(rt; shown(rt.alloc(), text.split_at(1_000_000).0)?.as_str(), "");
-    Ok(())
-}
-
-#[test]
-fn deepest_statement(rt: HostRuntime) -> Result<(), Fail> {
-    let mut text = Vec::from_slice(rt.alloc(), b"node n() returns (y: int) let y = ")?;
-    for _ in 0..499 {
-        text.extend_from_slice(b"f(")?;
-    }
-    text.push(b'1')?;
-    for _ in 0..499 {
-        text.push(b')')?;
-    }
-    text.extend_from_slice(b"; tel")?;
-    assert_eq!(rt;
-        shown(rt.alloc(), &text)?.as_str(),
-        "node n << >> ( ) returns ( y: int; ) var let y ..; tel "
-    );
     Ok(())
 }
