@@ -82,6 +82,12 @@ arithmetic_at _ = None
 unfoldable pub static_takes : ℕ → Row → Static → Bool
 static_takes least row s = nat_le least row.level && nat_le row.left (static_level s)
 
+-- the end of a static expression in parentheses
+abbrev pub grouped : Static → Reader Static
+grouped s ts = do
+  rest ← expect m.Close ts
+  Some (Grouped s, rest)
+
 -- inner reads a static expression of at least a level, to one depth less
 module _ (inner : ℕ → Reader Static) where
   abbrev pub static_group : Reader Static

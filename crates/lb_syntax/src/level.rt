@@ -24,7 +24,7 @@ pub const MEMORY_LEVEL: u8 = 12;
 pub const ATOM_LEVEL: u8 = 14;
 
 /// A form with an operand on its left, by the mark that follows the operand.
-#[derive(Clone, Copy, PartialEq, Eq, Debug)]
+#[derive(Clone, Copy)]
 pub enum Form {
     /// `a + b` and the other operators that are tables of values
     Data(BinaryOperator),
@@ -43,7 +43,7 @@ pub enum Form {
 }
 
 /// The level of a form, and the least levels of its operands.
-#[derive(Clone, Copy, PartialEq, Eq, Debug)]
+#[derive(Clone, Copy)]
 pub struct Row {
     /// The level of the form itself.
     pub level: u8,

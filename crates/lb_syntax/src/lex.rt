@@ -59,7 +59,7 @@ impl<T: Drop> From<AllocFailed<T>> for LexError {
 }
 
 /// What a run of bytes consists of.
-#[derive(Clone, Copy, Debug)]
+#[derive(Clone, Copy)]
 enum Class {
     /// All but the newline.
     Line,

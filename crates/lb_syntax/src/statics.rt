@@ -7,6 +7,7 @@ ghost use Rattle.lb_syntax.specs.Readers.{Gives};
 ghost use Rattle.lb_syntax.specs.Tree as tree;
 ghost use Rattle.lb_syntax.specs.View.{view_static, view_statics, view_sampling};
 ghost use Rattle.lb_syntax.specs.Levels as levels;
+ghost use Rattle.lb_syntax.specs.declared.token.Token.{Token as AToken};
 
 use crate::climb::{Grower, Growth, climb};
 use crate::level::{ANY_LEVEL, ATOM_LEVEL, Form, Row, arithmetic_of, row_of, unary_level};
@@ -41,6 +42,35 @@ fn takes(least: u8, row: Row, s: &Static) -> bool
     ensures { result ≡ reading.static_takes least row (view_static s.now) }
 {
     least <= row.level && row.left <= level(s)
+}
+
+/// A name as a static expression, and the tokens after it.
+fn named<'t>(alloc: Global, x: &Name, rest: &'t [Token]) -> Result<(Static, &'t [Token]), ReadError>
+    ensures { Gives {Y = tree.Static × List AToken} (λ x. (view_static x.0, x.1.now)) result
+        (Some (tree.Named x.now, rest.now)) }
+{
+    Ok((Static::Named(x.copy(alloc)?), rest))
+}
+
+/// A static expression before the `)` of its parentheses.
+fn grouped(alloc: Global, s: Static, tokens: &[Token]) -> Result<(Static, &[Token]), ReadError>
+    ensures { Gives (λ x. (view_static x.0, x.1.now)) result
+        (reading.grouped (view_static s) tokens.now) }
+{
+    let (s, rest) = closed(s, Mark::Close, tokens)?;
+    Ok((Static::Grouped(Box::new(alloc, s)?), rest))
+}
+
+/// The negation of a static expression, and the tokens after it.
+fn negated<'t>(
+    alloc: Global,
+    s: Static,
+    rest: &'t [Token],
+) -> Result<(Static, &'t [Token]), ReadError>
+    ensures { Gives {Y = tree.Static × List AToken} (λ x. (view_static x.0, x.1.now)) result
+        (Some (tree.Negated (view_static s), rest.now)) }
+{
+    Ok((Static::Negated(Box::new(alloc, s)?), rest))
 }
 
 /// The reader of what stands inside a static expression, to one depth less, is handed in, so that
@@ -84,15 +114,14 @@ impl<F: Fn(Global, usize, u8, &[Token]) -> Result<(Static, &[Token]), ReadError>
     {
         match tokens {
             [Token::Literal(n), rest @ ..] => Ok((Static::Whole(*n), rest)),
-            [Token::Name(x), rest @ ..] => Ok((Static::Named(x.copy(self.alloc)?), rest)),
+            [Token::Name(x), rest @ ..] => named(self.alloc, x, rest),
             [Token::Mark(Mark::Open), rest @ ..] => {
                 let (s, rest) = self.inner(ANY_LEVEL, rest)?;
-                let (s, rest) = closed(s, Mark::Close, rest)?;
-                Ok((Static::Grouped(Box::new(self.alloc, s)?), rest))
+                grouped(self.alloc, s, rest)
             }
             [Token::Mark(Mark::Minus), rest @ ..] => {
                 let (s, rest) = self.inner(unary_level(UnaryOperator::Negate), rest)?;
-                Ok((Static::Negated(Box::new(self.alloc, s)?), rest))
+                negated(self.alloc, s, rest)
             }
             _ => Err(ReadError::Syntax(tokens.len())),
         }
@@ -228,11 +257,10 @@ pub fn size(alloc: Global, tokens: &[Token]) -> Result<(Static, &[Token]), ReadE
 {
     match tokens {
         [Token::Literal(n), rest @ ..] => Ok((Static::Whole(*n), rest)),
-        [Token::Name(x), rest @ ..] => Ok((Static::Named(x.copy(alloc)?), rest)),
+        [Token::Name(x), rest @ ..] => named(alloc, x, rest),
         [Token::Mark(Mark::Open), rest @ ..] => {
             let (s, rest) = static_expression(alloc, rest)?;
-            let (s, rest) = closed(s, Mark::Close, rest)?;
-            Ok((Static::Grouped(Box::new(alloc, s)?), rest))
+            grouped(alloc, s, rest)
         }
         _ => Err(ReadError::Syntax(tokens.len())),
     }
