@@ -1,4 +1,6 @@
 //! Texts at their limits and one past them, and refusals with their places, worked out by hand.
+//!
+//! `no token begins at` is E1, `no tree fits the tokens up to` is E2, and `over its limit at` is E3.
 
 ghost use Rattle.std.specs.Prelude.{◌<◌};
 
