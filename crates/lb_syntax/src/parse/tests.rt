@@ -95,12 +95,12 @@ pub(super) fn shown(alloc: Global, text: &[u8]) -> Result<String, Fail> {
     Ok(line)
 }
 
-/// What is said of the first text of which not this is said, or nothing.
+/// What is said of the first text of which something else is wanted, and that; or nothing.
 pub(super) fn first_wrong(alloc: Global, rows: &[(&str, &str)]) -> Result<String, Fail> {
     for (text, want) in rows {
         let said = shown(alloc, text.as_bytes())?;
         if said.as_str() != *want {
-            return Ok(said);
+            return Ok(format!(in alloc; "{said} and not {want}")?);
         }
     }
     Ok(String::new(alloc))
