@@ -2,7 +2,7 @@
 //!
 //! A cell's bytes are read once, from the left, with no text made of them.
 
-ghost use Rattle.std.specs.Prelude.{◌≡◌, min, option_map};
+ghost use Rattle.std.specs.Prelude.{◌≡◌, ◌<◌, ◌≤◌, length, min, option_map, IfSome};
 ghost use Rattle.lb_trace.specs.Cells.{bool_of, cell_value, int_of, natural_of};
 
 use lb_static::signature::Kind;
@@ -28,6 +28,10 @@ fn int_of(cell: &[u8]) -> Option<i32>
         [b'-', digits @ ..] => (true, digits),
         _ => (false, cell),
     };
+    if !digits.is_empty() && digits.len() <= 3 {
+        let n = few_digits(digits)?.cast_signed();
+        return Some(if is_negative { 0 - n } else { n });
+    }
     let n = natural_of(digits)?;
     if is_negative && n <= 2147483648 {
         Some((0 - n as i64) as i32)
@@ -36,6 +40,28 @@ fn int_of(cell: &[u8]) -> Option<i32>
     } else {
         None
     }
+}
+
+// What the first, the middle and the last digit of so many count; the last one counts 1, and where
+// two of the three are one digit, only one of them counts.
+static WEIGHTS: [[u32; 2]; 4] = [[0, 0], [0, 0], [10, 0], [100, 10]];
+
+// The number that 1 to 3 digits spell. No branch depends on how many there are.
+fn few_digits(digits: &[u8]) -> Option<u32>
+    requires some { 0 < length digits.now }
+    requires few { length digits.now ≤ 3 }
+    ensures value { result ≡ natural_of digits.now }
+    ensures small { IfSome result (λ n. n < 1000) }
+{
+    let count = digits.len();
+    let (first, middle, last) = (digits[0], digits[count / 2], digits[count - 1]);
+    if !first.is_ascii_digit() || !middle.is_ascii_digit() || !last.is_ascii_digit() {
+        return None;
+    }
+    let [hundred, ten] = WEIGHTS[count];
+    Some(
+        u32::from(first - b'0') * hundred + u32::from(middle - b'0') * ten + u32::from(last - b'0'),
+    )
 }
 
 // The number that 1 to 20 digits spell, or `TOO_LARGE` where it is greater.
