@@ -71,6 +71,25 @@ fn natural_of(digits: &[u8]) -> Option<u64>
     if digits.is_empty() || digits.len() > 20 {
         return None;
     }
+    if digits.len() > 18 {
+        return many_digits(digits);
+    }
+    let mut n: u64 = 0;
+    for digit in digits {
+        if !digit.is_ascii_digit() {
+            return None;
+        }
+        n = n * 10 + u64::from(*digit - b'0');
+    }
+    Some(n.min(TOO_LARGE))
+}
+
+// The same for so many digits that the number could be too large for 64 bits.
+fn many_digits(digits: &[u8]) -> Option<u64>
+    requires some { 0 < length digits.now }
+    requires limit { length digits.now ≤ 20 }
+    ensures { result ≡ option_map (λ n. min n TOO_LARGE) (natural_of digits.now) }
+{
     let mut n: u64 = 0;
     for digit in digits {
         if !digit.is_ascii_digit() {
