@@ -42,8 +42,8 @@ fn int_of(cell: &[u8]) -> Option<i32>
     }
 }
 
-// What the first, the middle and the last digit of so many count; the last one counts 1, and where
-// two of the three are one digit, only one of them counts.
+// What the first and the middle digit count, for each number of digits; the last one counts 1.
+// Where two of the three are the same digit, one of the two counts 0.
 static WEIGHTS: [[u32; 2]; 4] = [[0, 0], [0, 0], [10, 0], [100, 10]];
 
 // The number that 1 to 3 digits spell. No branch depends on how many there are.

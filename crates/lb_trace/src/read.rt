@@ -105,9 +105,13 @@ mod tests {
     fn cells_are_read(rt: HostRuntime) -> Result<(), Fail> {
         let alloc = rt.alloc();
         let signature = signature_of(alloc, &["x"], b"i")?;
-        let cells: [(&[u8], i32); 5] = [
+        let cells: [(&[u8], i32); 9] = [
             (b"trace,x\na,-0", 0),
             (b"trace,x\na,007", 7),
+            (b"trace,x\na,-58", -58),
+            (b"trace,x\na,936", 936),
+            (b"trace,x\na,-20471", -20471),
+            (b"trace,x\na,000000000000004096", 4096),
             (b"trace,x\na,00000000000000000001", 1),
             (b"trace,x\na,2147483647", 2147483647),
             (b"trace,x\na,-2147483648", -2147483648),
