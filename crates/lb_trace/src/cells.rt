@@ -3,7 +3,8 @@
 //! A cell's bytes are read once, from the left, with no text made of them.
 
 ghost use Rattle.std.specs.Prelude.{◌≡◌, ◌<◌, ◌≤◌, length, min, option_map, IfSome};
-ghost use Rattle.lb_trace.specs.Cells.{bool_of, cell_value, int_of, natural_of};
+ghost use Rattle.std.specs.Option.{option_and_then};
+ghost use Rattle.lb_trace.specs.Cells.{bool_of, cell_value, int_of, natural_of, signed};
 
 use lb_static::signature::Kind;
 
@@ -32,6 +33,15 @@ fn int_of(cell: &[u8]) -> Option<i32>
         let n = few_digits(digits)?.cast_signed();
         return Some(if is_negative { 0 - n } else { n });
     }
+    signed(is_negative, digits)
+}
+
+// The integer that a sign and 1 to 20 digits spell. It stays a call, so that the loop over the
+// cells of a record keeps its registers for short ones.
+#[inline(never)]
+fn signed(is_negative: bool, digits: &[u8]) -> Option<i32>
+    ensures { result ≡ option_and_then (signed is_negative) (natural_of digits.now) }
+{
     let n = natural_of(digits)?;
     if is_negative && n <= 2147483648 {
         Some((0 - n as i64) as i32)
@@ -41,6 +51,9 @@ fn int_of(cell: &[u8]) -> Option<i32>
         None
     }
 }
+
+// The ASCII byte of the digit 0.
+const ZERO: u32 = 48;
 
 // What the first and the middle digit count, for each number of digits; the last one counts 1.
 // Where two of the three are the same digit, one of the two counts 0.
@@ -54,14 +67,14 @@ fn few_digits(digits: &[u8]) -> Option<u32>
     ensures small { IfSome result (λ n. n < 1000) }
 {
     let count = digits.len();
-    let (first, middle, last) = (digits[0], digits[count / 2], digits[count - 1]);
-    if !first.is_ascii_digit() || !middle.is_ascii_digit() || !last.is_ascii_digit() {
+    let first = u32::from(digits[0]).wrapping_sub(ZERO);
+    let middle = u32::from(digits[count / 2]).wrapping_sub(ZERO);
+    let last = u32::from(digits[count - 1]).wrapping_sub(ZERO);
+    if first > 9 || middle > 9 || last > 9 {
         return None;
     }
     let [hundred, ten] = WEIGHTS[count];
-    Some(
-        u32::from(first - b'0') * hundred + u32::from(middle - b'0') * ten + u32::from(last - b'0'),
-    )
+    Some(first * hundred + middle * ten + last)
 }
 
 // The number that 1 to 20 digits spell, or `TOO_LARGE` where it is greater.
