@@ -10,7 +10,6 @@ use Rattle.csv.proofs.ReadFacts.{rows-end, rows-more}
 use Rattle.lb_static.specs.Signature.{Elements}
 use Rattle.lb_flat.specs.Traces.{IsRecording, Recording, Row, Trace, Traces, instants_of, with_row, with_trace}
 use Rattle.lb_flat.proofs.Recordings.{IsRecording-none, Front, front_of, with_row-push}
-use Rattle.lb_flat.proofs.Storing.{few_instants}
 use Rattle.lb_trace.specs.declared.error.TraceError.{TraceError}
 use Rattle.lb_trace.specs.declared.header.Column.{Column}
 use Rattle.lb_trace.specs.Cells.{cell_value}

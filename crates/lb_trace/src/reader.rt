@@ -21,13 +21,13 @@ pub(crate) fn reader_of(alloc: Global, text: &[u8]) -> Reader<&[u8]>
 }
 
 /// The next record, and whether there was one.
-pub(crate) fn next(reader: &mut Reader<&[u8]>, record: &mut ByteRecord) -> Result<bool, TraceError>
+pub(crate) fn next(reader: &mut Reader<&[u8]>, entry: &mut ByteRecord) -> Result<bool, TraceError>
     ensures goes { IfOk result (λ found. (text : List ℕ) → (records : List Record)
         → Reaches text records reader.old
-        → Goes text records reader.new (fields_of record.new) found) }
+        → Goes text records reader.new (fields_of entry.new) found) }
     ensures memory { IfErr result (λ e. error_number e ≡ 0) }
 {
-    let Ok(found) = reader.read_byte_record(record) else {
+    let Ok(found) = reader.read_byte_record(entry) else {
         return Err(TraceError::Memory(AllocError));
     };
     Ok(found)

@@ -7,17 +7,17 @@ ghost use Rattle.lb_trace.specs.Spelling.{after_first};
 use csv::ByteRecord;
 
 /// How many cells follow the first one.
-pub(crate) fn width(record: &ByteRecord) -> usize
-    ensures { result ≡ length (after_first (fields_of record.now)) }
+pub(crate) fn width(entry: &ByteRecord) -> usize
+    ensures { result ≡ length (after_first (fields_of entry.now)) }
 {
-    record.len().saturating_sub(1)
+    entry.len().saturating_sub(1)
 }
 
 /// The cell at this place after the first one, or an empty one past the end.
-pub(crate) fn cell(record: &ByteRecord, i: usize) -> &[u8]
-    ensures { result.now ≡ get_or (after_first (fields_of record.now)) i [] }
+pub(crate) fn cell(entry: &ByteRecord, i: usize) -> &[u8]
+    ensures { result.now ≡ get_or (after_first (fields_of entry.now)) i [] }
 {
-    match record.get(i.saturating_add(1)) {
+    match entry.get(i.saturating_add(1)) {
         Some(cell) => cell,
         None => b"".as_slice(),
     }

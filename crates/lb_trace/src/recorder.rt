@@ -106,7 +106,7 @@ impl Recorder {
         alloc: Global,
         table: &[Column],
         columns: usize,
-        record: &ByteRecord,
+        entry: &ByteRecord,
         number: u64,
     ) -> Result<(), TraceError>
         requires names { knows self.old.names self.old.rows.traces }
@@ -114,15 +114,15 @@ impl Recorder {
         requires kinds { RowsFollow table.now self.old.rows.signature }
         ensures ok { OnOk result
             (record_by self.old.rows.signature table.now columns self.old.rows.traces
-            (fields_of record.now) ≡ Ok self.new.rows.traces) }
+            (fields_of entry.now) ≡ Ok self.new.rows.traces) }
         ensures names { OnOk result (knows self.new.names self.new.rows.traces) }
         ensures signature { OnOk result (self.new.rows.signature ≡ self.old.rows.signature) }
         ensures err { IfErr result (IsRefusal
             (record_by self.old.rows.signature table.now columns self.old.rows.traces
-            (fields_of record.now))) }
+            (fields_of entry.now))) }
     {
-        let cells = width(record);
-        let Some(name) = record.get(0) else {
+        let cells = width(entry);
+        let Some(name) = entry.get(0) else {
             return Err(TraceError::Record {
                 record: number,
                 cells,
@@ -137,31 +137,26 @@ impl Recorder {
             });
         }
         if is_last(self.rows.set(), name) {
-            self.go_on(table, record, number)
+            self.go_on(table, entry, number)
         } else {
-            self.start(alloc, name, table, record, number)
+            self.start(alloc, name, table, entry, number)
         }
     }
 
     // One more instant of the last trace.
-    fn go_on(
-        &mut self,
-        table: &[Column],
-        record: &ByteRecord,
-        number: u64,
-    ) -> Result<(), TraceError>
+    fn go_on(&mut self, table: &[Column], entry: &ByteRecord, number: u64) -> Result<(), TraceError>
         requires started { 0 < length self.old.rows.traces }
         requires kinds { RowsFollow table.now self.old.rows.signature }
         ensures ok { OnOk result
             (go_on_by self.old.rows.signature self.old.rows.traces
-            (row_by table.now (after_first (fields_of record.now))) ≡ Ok self.new.rows.traces) }
+            (row_by table.now (after_first (fields_of entry.now))) ≡ Ok self.new.rows.traces) }
         ensures names { self.new.names ≡ self.old.names }
         ensures signature { OnOk result (self.new.rows.signature ≡ self.old.rows.signature) }
         ensures err { IfErr result (IsRefusal
             (go_on_by self.old.rows.signature self.old.rows.traces
-            (row_by table.now (after_first (fields_of record.now))))) }
+            (row_by table.now (after_first (fields_of entry.now))))) }
     {
-        let bad = read_row(table, record, &mut self.row).map_err(TraceError::Memory)?;
+        let bad = read_row(table, entry, &mut self.row).map_err(TraceError::Memory)?;
         if let Some(column) = bad {
             return Err(TraceError::Cell {
                 record: number,
@@ -183,24 +178,24 @@ impl Recorder {
         alloc: Global,
         name: &[u8],
         table: &[Column],
-        record: &ByteRecord,
+        entry: &ByteRecord,
         number: u64,
     ) -> Result<(), TraceError>
         requires names { knows self.old.names self.old.rows.traces }
         requires kinds { RowsFollow table.now self.old.rows.signature }
         ensures ok { OnOk result
             (start_by self.old.rows.signature name.now self.old.rows.traces
-            (row_by table.now (after_first (fields_of record.now))) ≡ Ok self.new.rows.traces) }
+            (row_by table.now (after_first (fields_of entry.now))) ≡ Ok self.new.rows.traces) }
         ensures names { OnOk result (knows self.new.names self.new.rows.traces) }
         ensures signature { OnOk result (self.new.rows.signature ≡ self.old.rows.signature) }
         ensures err { IfErr result (IsRefusal
             (start_by self.old.rows.signature name.now self.old.rows.traces
-            (row_by table.now (after_first (fields_of record.now))))) }
+            (row_by table.now (after_first (fields_of entry.now))))) }
     {
         let Some(text) = new_name(alloc, &mut self.names, name)? else {
             return Err(TraceError::Trace { record: number });
         };
-        self.begin(text, table, record, number)
+        self.begin(text, table, entry, number)
     }
 
     // One more trace.
@@ -208,7 +203,7 @@ impl Recorder {
         &mut self,
         name: &str,
         table: &[Column],
-        record: &ByteRecord,
+        entry: &ByteRecord,
         number: u64,
     ) -> Result<(), TraceError>
         requires name { IsTraceName name.now }
@@ -216,14 +211,14 @@ impl Recorder {
         requires kinds { RowsFollow table.now self.old.rows.signature }
         ensures ok { OnOk result
             (start_cells self.old.rows.signature name.now self.old.rows.traces
-            (row_by table.now (after_first (fields_of record.now))) ≡ Ok self.new.rows.traces) }
+            (row_by table.now (after_first (fields_of entry.now))) ≡ Ok self.new.rows.traces) }
         ensures names { self.new.names ≡ self.old.names }
         ensures signature { OnOk result (self.new.rows.signature ≡ self.old.rows.signature) }
         ensures err { IfErr result (IsRefusal
             (start_cells self.old.rows.signature name.now self.old.rows.traces
-            (row_by table.now (after_first (fields_of record.now))))) }
+            (row_by table.now (after_first (fields_of entry.now))))) }
     {
-        let bad = read_row(table, record, &mut self.row).map_err(TraceError::Memory)?;
+        let bad = read_row(table, entry, &mut self.row).map_err(TraceError::Memory)?;
         if let Some(column) = bad {
             return Err(TraceError::Cell {
                 record: number,

@@ -15,16 +15,16 @@ use std::alloc::AllocError;
 /// first cell that is no value of it, counted from 0.
 pub(crate) fn read_row(
     columns: &[Column],
-    record: &ByteRecord,
+    entry: &ByteRecord,
     row: &mut Vec<i32>,
 ) -> Result<Option<usize>, AllocError>
     ensures { IfOk result (λ bad. MatchOption bad
-        (row_by columns.now (after_first (fields_of record.now)) ≡ Some row.new.items)
-        (λ _. row_by columns.now (after_first (fields_of record.now)) ≡ None)) }
+        (row_by columns.now (after_first (fields_of entry.now)) ≡ Some row.new.items)
+        (λ _. row_by columns.now (after_first (fields_of entry.now)) ≡ None)) }
 {
     row.clear();
     for column in columns {
-        let Some(value) = cell_value(column.kind, cell(record, column.at)) else {
+        let Some(value) = cell_value(column.kind, cell(entry, column.at)) else {
             return Ok(Some(column.at));
         };
         row.push(value)?;

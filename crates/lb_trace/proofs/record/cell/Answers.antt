@@ -6,9 +6,9 @@ use Rattle.lb_trace.proofs.record.cell.Goals as goal
 
 pub returns-in-Some : goal.returns-in-Some
 returns-in-Some c =
-    cell-some (fields_of c.args.record.now) c.args.i c.saturating_add.result c.in-Some.cell.now
+    cell-some (fields_of c.args.entry.now) c.args.i c.saturating_add.result c.in-Some.cell.now
     (omega (arith, c.saturating_add.ensures, c.in-Some.ensures.place)) (sym c.in-Some.ensures.value)
 
 pub returns-in-None : goal.returns-in-None
 returns-in-None c =
-    c.as_slice.ensures ∙ cell-none (fields_of c.args.record.now) c.args.i c.saturating_add.result (omega (arith, c.saturating_add.ensures)) (sym c.in-None.ensures.value)
+    c.as_slice.ensures ∙ cell-none (fields_of c.args.entry.now) c.args.i c.saturating_add.result (omega (arith, c.saturating_add.ensures)) (sym c.in-None.ensures.value)
