@@ -1,42 +1,39 @@
 -- What an instant of the evaluator keeps.
-use Rattle.std.proofs.Common.{◌≡◌, ◌≢◌, ℕ, suc, ◌+◌, ◌<◌, ◌≤◌, Option, List, [], length, map, drop, get_or, All, refl, sym, ap, ap₂, ◌∙◌, subst, add-one}
+use Rattle.std.proofs.Common.{◌≡◌, ◌≢◌, ℕ, suc, ◌+◌, ◌<◌, ◌≤◌, List, [], length, map, drop, get_or, All, refl, sym, ap, ap₂, ◌∙◌, subst, add-one}
 use Rattle.std.proofs.Math.Seq.{drop-cons}
 use Rattle.std.proofs.Math.ListN.{drop_of_length-le}
 use Rattle.std.proofs.lemmas.List.{length-map}
 use Rattle.lb_check.specs.declared.verdict.Verdict.{Verdict}
 use Rattle.lb_check.specs.declared.verdict.Verdict.TheVariants.{Passed, Fault, Assertion, False}
-use Rattle.lb_check.specs.Scalars as scalars
 use Rattle.lb_check.specs.Solutions.{Inputs}
 use Rattle.lb_check.specs.Verdicts.{or_later}
-use Rattle.lb_flat.specs.declared.scalar.Scalar.{Scalar}
+use Rattle.lb_flat.specs.declared.cell.Cell.{Cell}
 use Rattle.lb_flat.specs.declared.equation.Tick.{Tick}
 use Rattle.lb_flat.specs.declared.equation.Equation.{Equation}
+use Rattle.lb_flat.specs.declared.equation.InputPlace.{InputPlace}
 use Rattle.lb_flat.specs.Flat.{FlatEquation}
-use Rattle.lb_flat.specs.Run.{Row, filled, advanced, Ready, row_of, run}
+use Rattle.lb_flat.specs.Prepared.{inputs_in, steps_in, memory_places, place_equation, AreFixed}
+use Rattle.lb_flat.specs.Run.{filled, advanced, Ready, row_of, run}
 use Rattle.lb_flat.specs.Judging.{FlatProgram, row_judged, rows_judged, flat_verdict}
-use Rattle.lb_flat.specs.Values.{scalar_of, cell_of, equation_of}
+use Rattle.lb_flat.specs.Values.{cell_of, equation_of}
 use Rattle.lb_flat.specs.Within.{IsWithin}
-use Rattle.lb_flat.proofs.Rows.{filled_is}
+use Rattle.lb_flat.proofs.Settled.{instant_row, inputs_advanced, steps_advanced, places_advanced, fixed_stay}
 use Rattle.lb_flat.proofs.Running.{ready_advanced}
 
--- the row of an instant does not hang on what the row held before
-pub computed :
-    (given : List Scalar) (size : ℕ) (Q : List FlatEquation)
-    (old new : List (Option Scalar)) → Ready size [] Q → length old ≡ size →
-    map cell_of new ≡ filled (map scalar_of given) (map cell_of old) Q →
-    map cell_of new ≡ row_of size Q (map scalar_of given)
-computed given size Q old new ready e h =
-    h ∙ filled_is (map scalar_of given) size Q (map cell_of old) ready (length-map old cell_of ∙ e)
-
--- before instant t the equations are those of the program with their memories moved on, and the
--- rest of the trace decides
+-- before instant t the steps are those of the program with their memories moved on, the row holds
+-- the constants, and the rest of the trace decides
 pub record IsEvaluating (f : FlatProgram) (X : Inputs) (ticks : List Tick)
-    (equations : List Equation) (t : ℕ) : Type 0 where
-  pub within : All (IsWithin f.size ticks) equations
-  pub in_order : Ready f.size [] (map (equation_of ticks) equations)
-  pub rest :
-      rows_judged f t (run f.size (map (equation_of ticks) equations) (drop t X))
-      ≡ flat_verdict f X
+    (inputs : List InputPlace) (memories : List ℕ) (steps : List Equation) (row : List Cell)
+    (t : ℕ) : Type 0 where
+  pub equations : List FlatEquation
+  pub in_order : Ready f.size [] equations
+  pub inputs_are : map place_equation inputs ≡ inputs_in equations
+  pub steps_are : map (equation_of ticks) steps ≡ steps_in equations
+  pub places_are : memories ≡ memory_places 0 (map (equation_of ticks) steps)
+  pub within : All (IsWithin f.size ticks) steps
+  pub as_long : length row ≡ f.size
+  pub fixed : AreFixed (map cell_of row) equations
+  pub rest : rows_judged f t (run f.size equations (drop t X)) ≡ flat_verdict f X
 
 later_is : (v w : Verdict) → v ≢ Passed → or_later v w ≡ v
 later_is Passed w n = absurd (n refl)
@@ -44,48 +41,71 @@ later_is (Fault t) w n = refl
 later_is (Assertion t) w n = refl
 later_is (False t) w n = refl
 
-module _ (f : FlatProgram) (X : Inputs) (ticks : List Tick) (equations : List Equation) (t : ℕ)
-    (h : IsEvaluating f X ticks equations t) where
+module _ (f : FlatProgram) (X : Inputs) (ticks : List Tick) (inputs : List InputPlace)
+    (memories : List ℕ) (steps : List Equation) (before : List Cell) (t : ℕ)
+    (h : IsEvaluating f X ticks inputs memories steps before t) where
   -- at the end nothing was decided
   pub ends_passed : length X ≤ t → Passed ≡ flat_verdict f X
   ends_passed le =
       let none : drop t X ≡ [] = drop_of_length-le X le in
-      sym (ap (λ Z. rows_judged f t (run f.size (map (equation_of ticks) equations) Z)) none)
-      ∙ h.rest
+      sym (ap (λ Z. rows_judged f t (run f.size h.equations Z)) none) ∙ h.rest
 
-  module _ (row : Row) (lt : t < length X) (given : List scalars.Scalar)
-      (is_row : row ≡ row_of f.size (map (equation_of ticks) equations) given)
-      (read : given ≡ get_or X t []) where
+  module _ (lt : t < length X) (with_inputs row : List Cell)
+      (read : map cell_of with_inputs
+      ≡ filled (get_or X t []) (map cell_of before) (map place_equation inputs))
+      (computed : map cell_of row
+      ≡ filled [] (map cell_of with_inputs) (map (equation_of ticks) steps)) where
+    is_row : map cell_of row ≡ row_of f.size h.equations (get_or X t [])
+    is_row =
+        computed
+        ∙ ap₂ (filled []) (read ∙ ap (filled (get_or X t []) (map cell_of before)) h.inputs_are)
+        h.steps_are
+        ∙ instant_row (get_or X t []) f.size h.equations (map cell_of before) h.in_order
+        (length-map before cell_of ∙ h.as_long) h.fixed
+
     -- what the instants after this one decide
     abbrev later : Verdict
     later =
         rows_judged f (suc t)
-        (run f.size (map (advanced row) (map (equation_of ticks) equations)) (drop (suc t) X))
+        (run f.size (map (advanced (map cell_of row)) h.equations) (drop (suc t) X))
 
-    now_or_later : or_later (row_judged f t row) later ≡ flat_verdict f X
+    now_or_later : or_later (row_judged f t (map cell_of row)) later ≡ flat_verdict f X
     now_or_later =
-        let Q = map (equation_of ticks) equations in
         ap (λ r. or_later (row_judged f t r)
-        (rows_judged f (suc t) (run f.size (map (advanced r) Q) (drop (suc t) X))))
-        (is_row ∙ ap (row_of f.size Q) read)
-        ∙ sym (ap (λ Z. rows_judged f t (run f.size Q Z)) (drop-cons X t [] lt))
+        (rows_judged f (suc t) (run f.size (map (advanced r) h.equations) (drop (suc t) X))))
+        is_row
+        ∙ sym (ap (λ Z. rows_judged f t (run f.size h.equations Z)) (drop-cons X t [] lt))
         ∙ h.rest
 
-    pub ends_with : (v : Verdict) → v ≡ row_judged f t row → v ≢ Passed → v ≡ flat_verdict f X
+    pub ends_with :
+        (v : Verdict) → v ≡ row_judged f t (map cell_of row) → v ≢ Passed →
+        v ≡ flat_verdict f X
     ends_with v e n =
         sym (later_is v later n) ∙ ap (λ w. or_later w later) e ∙ now_or_later
 
     pub goes_on :
-        (after : List Equation) → All (IsWithin f.size ticks) after →
-        map (equation_of ticks) after ≡ map (advanced row) (map (equation_of ticks) equations) →
-        Passed ≡ row_judged f t row → IsEvaluating f X ticks after (t + 1)
-    goes_on after within e passed = record {
-      within = within;
-      in_order =
-          subst (Ready f.size []) (sym e)
-          (ready_advanced f.size row [] (map (equation_of ticks) equations) h.in_order);
-      rest =
-          let next : t + 1 ≡ suc t = add-one t in
-          ap₂ (λ n Q. rows_judged f n (run f.size Q (drop n X))) next e
-          ∙ ap (λ w. or_later w later) passed ∙ now_or_later;
-    }
+        (after : List Equation) → All (IsWithin f.size ticks) after → length row ≡ f.size →
+        map (equation_of ticks) after
+        ≡ map (advanced (map cell_of row)) (map (equation_of ticks) steps) →
+        Passed ≡ row_judged f t (map cell_of row) →
+        IsEvaluating f X ticks inputs memories after row (t + 1)
+    goes_on after within as_long e passed =
+        let r = map cell_of row in
+        record {
+          equations = map (advanced r) h.equations;
+          in_order = ready_advanced f.size r [] h.equations h.in_order;
+          inputs_are = h.inputs_are ∙ sym (inputs_advanced r h.equations);
+          steps_are = e ∙ ap (map (advanced r)) h.steps_are ∙ steps_advanced r h.equations;
+          places_are =
+              h.places_are ∙ sym (places_advanced r 0 (map (equation_of ticks) steps))
+              ∙ ap (memory_places 0) (sym e);
+          within = within;
+          as_long = as_long;
+          fixed =
+              subst (λ s. AreFixed s (map (advanced r) h.equations)) (sym is_row)
+              (fixed_stay (get_or X t []) f.size h.equations r h.in_order);
+          rest =
+              ap (λ n. rows_judged f n (run f.size (map (advanced r) h.equations) (drop n X)))
+              (add-one t)
+              ∙ ap (λ w. or_later w later) passed ∙ now_or_later;
+        }

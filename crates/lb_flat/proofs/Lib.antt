@@ -25,6 +25,10 @@ pub mod Asserting
 pub mod Watching
 pub mod Judging
 pub mod Steps
+pub mod Selecting
+pub mod Settled
+pub mod Memories
+pub mod Preparing
 pub mod Evaluating
 pub mod Observing
 pub mod Whole

@@ -1,9 +1,9 @@
 -- The rows of a recorded trace are a trace of a program with its signature, and a flat program in
 -- order gives its verdict.
-use Rattle.std.proofs.Common.{◌≡◌, ℕ, zero, suc, ◌+◌, ◌<◌, ◌≤◌, Bool as Truth, true, ◌&&◌, ℤ, pos, List, [], ◌∷◌, ◌++◌, map, length, take, get_or, set, refl, sym, ap, ap₂, subst, ◌∙◌, arith}
+use Rattle.std.proofs.Common.{◌≡◌, ℕ, zero, suc, ◌<◌, ◌≤◌, Bool as Truth, true, ◌&&◌, ℤ, pos, List, [], ◌∷◌, map, length, get_or, slice_get, Some, None, refl, sym, ap, ap₂, subst, ◌∙◌, arith}
 use Rattle.std.specs.List.{All}
 use Rattle.std.proofs.lemmas.Int.{ints}
-use Rattle.std.proofs.lemmas.List.{map_push, take_all, take_more, take_more_set}
+use Rattle.std.proofs.lemmas.Option.{slice_get-get_or, slice_get_past}
 use Rattle.std.proofs.lemmas.List.Elements.{All-head, All-tail}
 use Rattle.lb_syntax.specs.declared.tree.Kind.{Kind}
 use Rattle.lb_syntax.specs.declared.tree.Kind.TheVariants.{Int, Bool}
@@ -17,13 +17,11 @@ use Rattle.lb_check.specs.Scalars as scalars
 use Rattle.lb_check.specs.Scalars.{is_given}
 use Rattle.lb_check.specs.Solutions.{is_row, HasOneHistory}
 use Rattle.lb_check.specs.Verdicts.{HasVerdict}
-use Rattle.lb_flat.specs.declared.scalar.Scalar.{Scalar}
 use Rattle.lb_flat.specs.Traces.{Row, Recording, trace_at, IsCell, IsInt, IsRow, IsRecording}
 use Rattle.lb_flat.specs.Inputs.{scalar_in, scalars_in, inputs_of}
 use Rattle.lb_flat.specs.Flattening.{IsTrace, IsFlatOf}
 use Rattle.lb_flat.specs.Judging.{FlatProgram, flat_verdict}
 use Rattle.lb_flat.specs.Run.{Ready}
-use Rattle.lb_flat.specs.Values.{scalar_of}
 use Rattle.lb_flat.proofs.Judging.{has_verdict, has_one_history}
 use Rattle.lb_flat.proofs.Lists.{length-zips}
 
@@ -38,32 +36,22 @@ get_or-zips f (x ∷ xs) (y ∷ ys) zero a b c p q = refl
 get_or-zips f (x ∷ xs) (y ∷ ys) (suc i) a b c p q =
     get_or-zips f xs ys i a b c (omega arith) (omega arith)
 
-module _ (kinds : List Kind) (row : List ℤ) (given : List Scalar) (i : ℕ) where
+module _ (kinds : List Kind) (row : List ℤ) (i : ℕ) (same : length row ≡ length kinds) where
   abbrev wanted : List scalars.Scalar
   wanted = zip2 scalar_in kinds row
 
-  pub read_more :
-      (v : Scalar) → length row ≡ length kinds → length given ≡ length kinds →
-      i < length kinds → map scalar_of (take i given) ≡ take i wanted →
-      scalar_of v ≡ scalar_in (get_or kinds i Int) (get_or row i (pos 0)) →
-      map scalar_of (take (i + 1) (set given i v)) ≡ take (i + 1) wanted
-  read_more v cells scalars lt before is =
-      let long = length-zips scalar_in (length kinds) kinds row refl cells in
-      let next : get_or wanted i (scalar_of v) ≡ scalar_of v =
-      get_or-zips scalar_in kinds row i Int (pos 0) (scalar_of v) lt (omega (arith, cells))
-      ∙ sym is in
-      ap (map scalar_of) (take_more_set given i v (omega (arith, scalars)))
-      ∙ map_push scalar_of (take i given) v
-      ∙ ap₂ (λ xs x. xs ++ x ∷ []) before (sym next)
-      ∙ sym (take_more wanted i (scalar_of v) (omega (arith, long)))
+  long : length wanted ≡ length kinds
+  long = length-zips scalar_in (length kinds) kinds row refl same
 
-  pub read_all :
-      length row ≡ length kinds → length given ≡ length kinds → length kinds ≤ i →
-      map scalar_of (take i given) ≡ take i wanted → map scalar_of given ≡ wanted
-  read_all cells scalars le before =
-      let long = length-zips scalar_in (length kinds) kinds row refl cells in
-      ap (map scalar_of) (sym (take_all i given (omega (arith, scalars)))) ∙ before
-      ∙ take_all i wanted (omega (arith, long))
+  pub scalar_there :
+      i < length kinds →
+      slice_get wanted i ≡ Some (scalar_in (get_or kinds i Int) (get_or row i (pos 0)))
+  scalar_there lt =
+      slice_get-get_or wanted i scalars.Bad (omega (arith, long))
+      ∙ ap Some (get_or-zips scalar_in kinds row i Int (pos 0) scalars.Bad lt (omega (arith, same)))
+
+  pub no_scalar : length kinds ≤ i → None ≡ slice_get wanted i
+  no_scalar le = sym (slice_get_past wanted i (omega (arith, long)))
 
 -- ## Each row is one of the program's kinds
 

@@ -1,22 +1,28 @@
 -- What an iteration of the evaluator's loops keeps.
-use Rattle.std.proofs.Common.{◌≡◌, ◌<◌, ◌≤◌, ℕ, zero, suc, ◌+◌, ◌-◌, Bool, true, false, ◌&&◌, ◌||◌, Option, Some, None, List, [], ◌∷◌, length, map, drop, set, get_or, refl, sym, ap, ap₂, ◌∙◌, subst, arith, All, ◌≢◌, below_more, add-one, length-set}
+use Rattle.std.proofs.Common.{◌≡◌, ◌<◌, ◌≤◌, ℕ, zero, suc, ◌+◌, ◌-◌, Bool, true, false, ◌&&◌, ◌||◌, Option, Some, None, List, [], ◌∷◌, length, map, drop, set, get_or, refl, sym, ap, ◌∙◌, subst, arith, All, add-one, length-set}
 use Rattle.std.proofs.Math.Seq.{drop-cons}
 use Rattle.std.specs.List.{range_with_len}
 use Rattle.std.proofs.lemmas.Option.{slice_get-get_or}
-use Rattle.std.proofs.lemmas.List.{get_or-map, get_or-set_same, get_or-set_other, get_or_default}
+use Rattle.std.proofs.Math.ListN.{drop_of_length-le}
+use Rattle.std.proofs.lemmas.List.{get_or-map, length-map}
 use Rattle.std.proofs.lemmas.List.Elements.{All-set}
+use Rattle.lb_syntax.specs.Lists.{Every}
+use Rattle.lb_check.specs.Scalars as scalars
 use Rattle.lb_check.specs.Verdicts.{is_bad}
 use Rattle.lb_flat.specs.Judging.{some_in}
 use Rattle.lb_check.specs.Streams.{shows}
 use Rattle.lb_flat.specs.Run.{Row, cell, is_now, now, filled, remembered, advanced, reads, keeps}
-use Rattle.lb_flat.specs.declared.scalar.Scalar.{Scalar}
+use Rattle.lb_flat.specs.declared.cell.Cell.{Cell}
 use Rattle.lb_flat.specs.declared.equation.TickId.{TickId}
 use Rattle.lb_flat.specs.declared.equation.Tick.{Tick}
 use Rattle.lb_flat.specs.declared.equation.Operation.{Operation}
 use Rattle.lb_flat.specs.declared.equation.Equation.{Equation}
 use Rattle.lb_flat.specs.Within.{IsClock, AreTicks, IsWithin}
+use Rattle.lb_flat.specs.Flat.{FlatEquation}
+use Rattle.lb_flat.specs.Prepared.{memory_places}
+use Rattle.lb_flat.proofs.Memories.{moved, all_moved, moved_is, memories_moved, places_within, every_at}
 use Rattle.lb_flat.proofs.Running.{reads_same, keeps_same}
-use Rattle.lb_flat.specs.Values.{scalar_of, cell_of, clock_within, clock_from, clock_of, operation_of, equation_of}
+use Rattle.lb_flat.specs.Values.{cell_of, clock_within, clock_from, clock_of, operation_of, equation_of}
 
 -- ## Clocks
 
@@ -100,94 +106,73 @@ module _ (row : Row) (ticks : List Tick) (clock rest : Option TickId) (depth : �
 
 -- ## Computing
 
--- the rows so far give in the rest what the first row gives in all
-pub record IsFilling (ticks : List Tick) (given : List Scalar) (row first : List (Option Scalar))
-    (all : List Equation) (i : ℕ) : Type 0 where
+-- the rows so far give in the rest of some equations what the first row gives in all
+pub record IsFilling {A : Type 0} (f : A → FlatEquation) (given : List scalars.Scalar)
+    (row first : List Cell) (all : List A) (i : ℕ) : Type 0 where
   pub as_long : length row ≡ length first
   pub rest :
-      filled (map scalar_of given) (map cell_of row) (map (equation_of ticks) (drop i all))
-      ≡ filled (map scalar_of given) (map cell_of first) (map (equation_of ticks) all)
+      filled given (map cell_of row) (map f (drop i all))
+      ≡ filled given (map cell_of first) (map f all)
 
-map-set :
-    (row : List (Option Scalar)) (k : ℕ) (c : Option Scalar) →
+pub map-set :
+    (row : List Cell) (k : ℕ) (c : Cell) →
     map cell_of (set row k c) ≡ set (map cell_of row) k (cell_of c)
 map-set [] k c = refl
 map-set (x ∷ row) zero c = refl
 map-set (x ∷ row) (suc k) c = ap (λ xs. cell_of x ∷ xs) (map-set row k c)
 
 pub fill_step :
-    (ticks : List Tick) (given : List Scalar) (row first : List (Option Scalar))
-    (all : List Equation) (i : ℕ) (d : Equation) (c : Option Scalar) → i < length all →
-    IsFilling ticks given row first all i →
+    {A : Type 0} (f : A → FlatEquation) (given : List scalars.Scalar) (row first : List Cell)
+    (all : List A) (i : ℕ) (d : A) (c : Cell) → i < length all →
+    IsFilling f given row first all i →
     cell_of c
-    ≡ now (map scalar_of given) (map cell_of row) (clock_of ticks (get_or all i d).clock)
-    (operation_of (get_or all i d).operation) →
-    IsFilling ticks given (set row (get_or all i d).element.0 c) first all (i + 1)
-fill_step ticks given row first all i d c lt h is_c = record {
-  as_long = length-set row q.element.0 c ∙ h.as_long;
-  rest =
-      ap (λ r. filled (map scalar_of given) r (map (equation_of ticks) (drop (i + 1) all)))
-      (map-set row q.element.0 c ∙ ap (set (map cell_of row) q.element.0) is_c)
-      ∙ sym (ap (λ qs. filled (map scalar_of given) (map cell_of row) (map (equation_of ticks) qs))
-      here)
-      ∙ h.rest;
-}
-  where
-    q : Equation
-    q = get_or all i d
+    ≡ now given (map cell_of row) (f (get_or all i d)).clock (f (get_or all i d)).operation →
+    IsFilling f given (set row (f (get_or all i d)).element c) first all (i + 1)
+fill_step f given row first all i d c lt h is_c =
+    let q = f (get_or all i d) in
+    let here : drop i all ≡ get_or all i d ∷ drop (i + 1) all =
+    rw (add-one, drop-cons all i d) in
+    record {
+      as_long = length-set row q.element c ∙ h.as_long;
+      rest =
+          ap (λ r. filled given r (map f (drop (i + 1) all)))
+          (map-set row q.element c ∙ ap (set (map cell_of row) q.element) is_c)
+          ∙ sym (ap (λ qs. filled given (map cell_of row) (map f qs)) here)
+          ∙ h.rest;
+    }
 
-    here : drop i all ≡ get_or all i d ∷ drop (i + 1) all
-    here = rw (add-one, drop-cons all i d)
+pub all_filled :
+    {A : Type 0} (f : A → FlatEquation) (given : List scalars.Scalar) (row first : List Cell)
+    (all : List A) (i : ℕ) → length all ≤ i → IsFilling f given row first all i →
+    map cell_of row ≡ filled given (map cell_of first) (map f all)
+all_filled f given row first all i le h =
+    sym (ap (λ qs. filled given (map cell_of row) (map f qs)) (drop_of_length-le all le)) ∙ h.rest
 
 -- ## Committing
 
--- the equations before an index have moved on, and those from it on are as they were
-pub record IsCommitting (ticks : List Tick) (row : List (Option Scalar))
-    (program first : List Equation) (i : ℕ) : Type 0 where
-  pub done :
-      (k : ℕ) → k < i → (d : Equation) →
-      equation_of ticks (get_or program k d)
-      ≡ advanced (map cell_of row) (equation_of ticks (get_or first k d))
-  pub rest : (k : ℕ) (d : Equation) → i ≤ k → get_or program k d ≡ get_or first k d
+-- the memories at the rest of some places bring the steps where all bring the first ones
+pub record IsCommitting (ticks : List Tick) (row : List Cell) (steps first : List Equation)
+    (places : List ℕ) (i : ℕ) : Type 0 where
+  pub rest :
+      all_moved (map cell_of row) (drop i places) (map (equation_of ticks) steps)
+      ≡ all_moved (map cell_of row) places (map (equation_of ticks) first)
 
-module _ (ticks : List Tick) (row : List (Option Scalar)) (program first : List Equation) (i : ℕ)
-    (d : Equation) (o : Operation) (lt : i < length program)
+module _ (ticks : List Tick) (row : List Cell) (steps first : List Equation) (places : List ℕ)
+    (i n : ℕ) (d : Equation) (o : Operation) (lt : i < length places) (at : n ≡ get_or places i 0)
+    (there : n < length steps)
     (is_o : operation_of o
-    ≡ remembered (map cell_of row) (operation_of (get_or program i d).operation)) where
+    ≡ remembered (map cell_of row) (operation_of (get_or steps n d).operation)) where
   -- the equation with its memory moved on
-  abbrev moved : Equation
-  moved = record (get_or program i d) { operation = o }
-
-  pub commit_step :
-      IsCommitting ticks row program first i →
-      IsCommitting ticks row (set program i moved) first (i + 1)
-  commit_step h = record {
-    done = below_more _ _
-        (λ k less e.
-        let other : k ≢ i = omega arith in
-        ap (equation_of ticks) (get_or-set_other program i k moved e other)
-        ∙ h.done k less e)
-        (λ e.
-        ap (equation_of ticks) (get_or-set_same program i moved e lt)
-        ∙ ap (λ x. record {
-          element = (get_or program i d).element.0;
-          clock = clock_of ticks (get_or program i d).clock;
-          operation = x;
-        }) is_o
-        ∙ ap (λ q. advanced (map cell_of row) (equation_of ticks q))
-        (get_or_default program i d e lt ∙ h.rest i e (omega arith)));
-    rest = λ k e le.
-        let other : k ≢ i = omega arith in
-        get_or-set_other program i k moved e other ∙ h.rest k e (omega arith);
-  }
+  abbrev moved_on : Equation
+  moved_on = record (get_or steps n d) { operation = o }
 
   pub within_step :
-      (size : ℕ) → All (IsWithin size ticks) program →
-      All (IsWithin size ticks) (set program i moved)
+      (size : ℕ) → All (IsWithin size ticks) steps →
+      All (IsWithin size ticks) (set steps n moved_on)
   within_step size w =
-      let h = w i d lt in
-      let before = operation_of (get_or program i d).operation in
-      All-set (IsWithin size ticks) program i moved (record {
+      let h = w n d there in
+      let before = operation_of (get_or steps n d).operation in
+      All-set (IsWithin size ticks) steps n moved_on (record {
         element = h.element;
         clock = h.clock;
         operands =
@@ -200,35 +185,65 @@ module _ (ticks : List Tick) (row : List (Option Scalar)) (program first : List 
             h.kept;
       }) w
 
--- lists that are the same at each index
+  pub commit_step :
+      IsCommitting ticks row steps first places i →
+      IsCommitting ticks row (set steps n moved_on) first places (i + 1)
+  commit_step h = record {
+    rest =
+        ap (all_moved (map cell_of row) (drop (i + 1) places))
+        (moved_is (map cell_of row) (equation_of ticks) steps n d moved_on there
+        (ap (λ x. record {
+          element = (get_or steps n d).element.0;
+          clock = clock_of ticks (get_or steps n d).clock;
+          operation = x;
+        }) is_o)
+        ∙ ap (λ k. moved (map cell_of row) k (map (equation_of ticks) steps)) at)
+        ∙ sym (ap (λ ns. all_moved (map cell_of row) ns (map (equation_of ticks) steps)) here)
+        ∙ h.rest;
+  }
+    where
+      here : drop i places ≡ get_or places i 0 ∷ drop (i + 1) places
+      here = rw (add-one, drop-cons places i 0)
+
+-- a place of a memory is one of the steps
+pub places_there :
+    (ticks : List Tick) (steps : List Equation) (places : List ℕ) →
+    places ≡ memory_places 0 (map (equation_of ticks) steps) →
+    All (λ n. n < length steps) places
+places_there ticks steps places e i d lt =
+    let Q = map (equation_of ticks) steps in
+    let within =
+    every_at (λ k. k < 0 + length Q) places i d
+    (subst (Every (λ k. k < 0 + length Q)) (sym e) (places_within 0 Q)) lt in
+    omega (arith, within, length-map steps (equation_of ticks))
+
 pub all_committed :
-    (ticks : List Tick) (row : List (Option Scalar)) (program first : List Equation) →
-    length program ≡ length first →
-    ((k : ℕ) → k < length program → (d : Equation) →
-    equation_of ticks (get_or program k d)
-    ≡ advanced (map cell_of row) (equation_of ticks (get_or first k d))) →
-    map (equation_of ticks) program
+    (ticks : List Tick) (row : List Cell) (steps first : List Equation) (places : List ℕ)
+    (i : ℕ) → places ≡ memory_places 0 (map (equation_of ticks) first) → length places ≤ i →
+    IsCommitting ticks row steps first places i →
+    map (equation_of ticks) steps
     ≡ map (advanced (map cell_of row)) (map (equation_of ticks) first)
-all_committed ticks row [] [] e h = refl
-all_committed ticks row [] (q ∷ first) e h = absurd (omega arith)
-all_committed ticks row (p ∷ program) [] e h = absurd (omega arith)
-all_committed ticks row (p ∷ program) (q ∷ first) e h =
-    ap₂ (λ x xs. x ∷ xs) (h 0 (omega arith) p)
-    (all_committed ticks row program first (omega arith) (λ k lt. h (suc k) (omega arith)))
+all_committed ticks row steps first places i e le h =
+    let Q = map (equation_of ticks) first in
+    sym (ap (λ ns. all_moved (map cell_of row) ns (map (equation_of ticks) steps))
+    (drop_of_length-le places le))
+    ∙ h.rest
+    ∙ ap (λ ns. all_moved (map cell_of row) ns Q) e
+    ∙ memories_moved (map cell_of row) Q
 
 -- ## Judging
 
-module _ (row : List (Option Scalar)) (count i : ℕ) (in_row : count ≤ length row)
+module _ (row : List Cell) (count i : ℕ) (in_row : count ≤ length row)
     (same : (n : ℕ) → i + n ≡ count →
     some_in is_bad (map cell_of row) (range_with_len i n)
     ≡ some_in is_bad (map cell_of row) (range_with_len 0 count)) where
   cell_is :
-      (d : Option Scalar) → i < count → cell (map cell_of row) i ≡ cell_of (get_or row i d)
+      (d : Cell) → i < count → cell (map cell_of row) i ≡ cell_of (get_or row i d)
   cell_is d lt = get_or-map cell_of row i d None (omega arith)
 
   -- a fault is found, or the rest is looked at
   bad_or_rest :
-      (d : Option Scalar) → i < count → (n : ℕ) → i + 1 + n ≡ count →
+      (d : Cell) → i < count → (n : ℕ) → i + 1 + n ≡ count →
       (is_bad (Some (cell_of (get_or row i d)))
       || some_in is_bad (map cell_of row) (range_with_len (i + 1) n))
       ≡ some_in is_bad (map cell_of row) (range_with_len 0 count)
@@ -238,7 +253,7 @@ module _ (row : List (Option Scalar)) (count i : ℕ) (in_row : count ≤ length
       ∙ same (suc n) (omega arith)
 
   pub finds_bad :
-      (d : Option Scalar) → i < count → is_bad (Some (cell_of (get_or row i d))) ≡ true →
+      (d : Cell) → i < count → is_bad (Some (cell_of (get_or row i d))) ≡ true →
       true ≡ some_in is_bad (map cell_of row) (range_with_len 0 count)
   finds_bad d lt bad =
       let n = count - (i + 1) in
@@ -246,7 +261,7 @@ module _ (row : List (Option Scalar)) (count i : ℕ) (in_row : count ≤ length
       ∙ bad_or_rest d lt n (omega arith)
 
   pub looks_on :
-      (d : Option Scalar) → i < count → is_bad (Some (cell_of (get_or row i d))) ≡ false →
+      (d : Cell) → i < count → is_bad (Some (cell_of (get_or row i d))) ≡ false →
       (n : ℕ) → i + 1 + n ≡ count →
       some_in is_bad (map cell_of row) (range_with_len (i + 1) n)
       ≡ some_in is_bad (map cell_of row) (range_with_len 0 count)

@@ -10,6 +10,7 @@ pub mod Flattening
 pub mod Values
 pub mod Within
 pub mod Programs
+pub mod Prepared
 pub mod InOrder
 pub mod Inputs
 pub mod Plain

@@ -1,9 +1,11 @@
 -- What the scalars, clocks and equations of the code stand for.
 -- Source: this project's rule.
-use Rattle.std.specs.Prelude.{ℕ, zero, suc, Option, Some, None, option_map, List, length, slice_get}
+use Rattle.std.specs.Prelude.{ℕ, zero, suc, Option, Some, None, List, length, slice_get}
 use Rattle.lb_check.specs.Scalars as scalars
 use Rattle.lb_flat.specs.declared.scalar.Scalar.{Scalar}
 use Rattle.lb_flat.specs.declared.scalar.Scalar.TheVariants.{Integer, Boolean, Bad}
+use Rattle.lb_flat.specs.declared.cell.Cell as code
+use Rattle.lb_flat.specs.declared.cell.Cell.TheVariants as cells
 use Rattle.lb_flat.specs.declared.equation.TickId.{TickId}
 use Rattle.lb_flat.specs.declared.equation.Tick.{Tick}
 use Rattle.lb_flat.specs.declared.equation.Operation.{Operation}
@@ -18,8 +20,11 @@ scalar_of (Boolean b) = scalars.Boolean b
 scalar_of Bad = scalars.Bad
 
 -- a cell
-abbrev pub cell_of : Option Scalar → scalars.Cell
-cell_of x = option_map scalar_of x
+abbrev pub cell_of : code.Cell → scalars.Cell
+cell_of cells.Absent = None
+cell_of cells.Bad = Some scalars.Bad
+cell_of (cells.Integer z) = Some (scalars.Integer z)
+cell_of (cells.Boolean b) = Some (scalars.Boolean b)
 
 -- a clock of the table, where the clock above it is known
 abbrev pub clock_from : (Option TickId → flat.FlatClock) → Option Tick → flat.FlatClock

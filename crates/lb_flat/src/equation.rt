@@ -65,3 +65,10 @@ pub struct Equation {
     pub clock: Option<TickId>,
     pub operation: Operation,
 }
+
+/// An element that holds an input.
+#[derive(Clone, Copy, PartialEq, Eq, Debug)]
+pub struct InputPlace {
+    pub element: ElementId,
+    pub input: InputId,
+}

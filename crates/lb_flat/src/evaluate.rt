@@ -3,19 +3,21 @@
 //! An instant has four phases: its inputs are read, the row is computed, the row is judged, and the
 //! memories are committed. No phase takes memory.
 
-ghost use Rattle.std.specs.Prelude.{◌≡◌, ◌<◌, length, map, All, IfOk, get_or, [], ℕ};
+ghost use Rattle.std.specs.Prelude.{◌≡◌, ◌<◌, length, map, All, IfOk, get_or, []};
 ghost use Rattle.lb_check.specs.Solutions.{Inputs};
 ghost use Rattle.lb_flat.specs.Judging.{row_judged, flat_verdict};
-ghost use Rattle.lb_flat.specs.Run.{advanced, row_of};
-ghost use Rattle.lb_flat.specs.Values.{scalar_of, cell_of};
+ghost use Rattle.lb_flat.specs.Prepared.{inputs_in, steps_in, memory_places, place_equation, AreFixed};
+ghost use Rattle.lb_flat.specs.Run.{advanced, filled};
+ghost use Rattle.lb_flat.specs.Values.{cell_of};
 ghost use Rattle.lb_flat.specs.Within.{IsWithin};
-ghost use Rattle.lb_flat.specs.Programs.{flat_equations, program_of, AreInOrder, IsInRange, IsRunnable};
+ghost use Rattle.lb_flat.specs.Programs.{flat_equations, program_of, IsInRange, IsRunnable};
 
-use crate::equation::Equation;
+use crate::cell::Cell;
+use crate::equation::{Equation, InputPlace};
 use crate::instant::{commit, compute};
 use crate::judge::judge;
+use crate::prepare::{inputs_in, memories_in, set_constants, steps_in};
 use crate::program::FlatProgram;
-use crate::scalar::Scalar;
 use lb_check::verdict::Verdict;
 use std::alloc::{AllocError, Global};
 
@@ -24,72 +26,74 @@ pub trait Instants {
     /// The scalars of each instant, in the order of the signature.
     ghost rows: { Self → Inputs };
 
-    /// How many scalars an instant has.
-    ghost width: { Self → ℕ };
-
     /// How many instants there are.
     fn count(&self) -> u32
         ensures { result ≡ length (rows self.now) };
 
-    /// How many scalars an instant has.
-    fn inputs(&self) -> u32
-        ensures { result ≡ width self.now };
-
-    /// Reads the scalars of instant `t`.
-    fn read(&self, t: u32, given: &mut [Scalar])
+    /// Reads the scalars of instant `t` into the elements that hold inputs; an input past the end
+    /// of the signature is absent.
+    fn read(&self, t: u32, inputs: &[InputPlace], row: &mut [Cell])
         requires instant { t < length (rows self.now) }
-        requires inputs { length given.old ≡ width self.now }
-        ensures inputs { length given.new ≡ length given.old }
-        ensures read { map scalar_of given.new ≡ get_or (rows self.now) t [] };
+        requires elements { All (λ p. p.element.0 < length row.old) inputs.now }
+        ensures elements { length row.new ≡ length row.old }
+        ensures read { map cell_of row.new
+            ≡ filled (get_or (rows self.now) t []) (map cell_of row.old)
+            (map place_equation inputs.now) };
 }
 
-// Computes, judges and commits instant `t`, where `equations` are those of the program with what
-// their memories hold.
+// Computes, judges and commits an instant whose inputs were read.
 fn step(
     program: &FlatProgram,
-    equations: &mut [Equation],
-    row: &mut [Option<Scalar>],
-    given: &[Scalar],
+    memories: &[usize],
+    steps: &mut [Equation],
+    row: &mut [Cell],
     t: u32,
 ) -> Verdict
     requires in_range { IsInRange program.now }
-    requires within { All (IsWithin program.now.size program.now.ticks.items) equations.old }
-    requires in_order { AreInOrder program.now equations.old }
+    requires within { All (IsWithin program.now.size program.now.ticks.items) steps.old }
+    requires places { memories.now
+        ≡ memory_places 0 (flat_equations program.now.ticks.items steps.old) }
     requires elements { length row.old ≡ program.now.size }
-    ensures within { All (IsWithin program.now.size program.now.ticks.items) equations.new }
+    ensures within { All (IsWithin program.now.size program.now.ticks.items) steps.new }
     ensures elements { length row.new ≡ program.now.size }
     ensures row { map cell_of row.new
-        ≡ row_of program.now.size
-        (flat_equations program.now.ticks.items equations.old)
-        (map scalar_of given.now) }
+        ≡ filled [] (map cell_of row.old) (flat_equations program.now.ticks.items steps.old) }
     ensures verdict { result ≡ row_judged (program_of program.now) t (map cell_of row.new) }
-    ensures memories { flat_equations program.now.ticks.items equations.new
+    ensures memories { flat_equations program.now.ticks.items steps.new
         ≡ map (advanced (map cell_of row.new))
-        (flat_equations program.now.ticks.items equations.old) }
+        (flat_equations program.now.ticks.items steps.old) }
 {
-    compute(row, given, program.ticks.as_slice(), equations);
+    compute(row, program.ticks.as_slice(), steps);
     let verdict = judge(program, row, t);
-    commit(equations, row, program.ticks.as_slice());
+    commit(steps, memories, row, program.ticks.as_slice());
     verdict
 }
 
 // The verdict of a trace, instant by instant, in the room of the slices.
 fn run<I: Instants>(
     program: &FlatProgram,
-    equations: &mut [Equation],
-    row: &mut [Option<Scalar>],
-    given: &mut [Scalar],
+    inputs: &[InputPlace],
+    memories: &[usize],
+    steps: &mut [Equation],
+    row: &mut [Cell],
     trace: &I,
 ) -> Verdict
     requires runnable { IsRunnable program.now }
-    requires equations { equations.old ≡ program.now.equations.items }
+    requires inputs { map place_equation inputs.now
+        ≡ inputs_in (program_of program.now).equations }
+    requires places { All (λ p. p.element.0 < program.now.size) inputs.now }
+    requires steps { flat_equations program.now.ticks.items steps.old
+        ≡ steps_in (program_of program.now).equations }
+    requires within { All (IsWithin program.now.size program.now.ticks.items) steps.old }
+    requires memories { memories.now
+        ≡ memory_places 0 (flat_equations program.now.ticks.items steps.old) }
     requires elements { length row.old ≡ program.now.size }
-    requires inputs { length given.old ≡ I.width trace.now }
+    requires fixed { AreFixed (map cell_of row.old) (program_of program.now).equations }
     ensures { result ≡ flat_verdict (program_of program.now) (I.rows trace.now) }
 {
     for t in 0..trace.count() {
-        trace.read(t, given);
-        let verdict = step(program, equations, row, given, t);
+        trace.read(t, inputs, row);
+        let verdict = step(program, memories, steps, row, t);
         let Verdict::Passed = verdict else {
             return verdict;
         };
@@ -106,14 +110,19 @@ pub fn evaluate<I: Instants>(
     requires runnable { IsRunnable program.now }
     ensures { IfOk result (λ v. v ≡ flat_verdict (program_of program.now) (I.rows trace.now)) }
 {
-    let mut equations = Vec::from_slice(alloc, program.equations.as_slice())?;
-    let mut row: Vec<Option<Scalar>> = vec![in alloc; None; program.size as usize]?;
-    let mut given = vec![in alloc; Scalar::Bad; trace.inputs() as usize]?;
+    let equations = program.equations.as_slice();
+    let ticks = program.ticks.as_slice();
+    let inputs = inputs_in(alloc, equations, program.size, ticks)?;
+    let mut steps = steps_in(alloc, equations, program.size, ticks)?;
+    let memories = memories_in(alloc, steps.as_slice(), ticks)?;
+    let mut row = vec![in alloc; Cell::Absent; program.size as usize]?;
+    set_constants(row.as_mut_slice(), equations, ticks);
     Ok(run(
         program,
-        equations.as_mut_slice(),
+        inputs.as_slice(),
+        memories.as_slice(),
+        steps.as_mut_slice(),
         row.as_mut_slice(),
-        given.as_mut_slice(),
         trace,
     ))
 }

@@ -7,33 +7,33 @@ ghost use Rattle.lb_flat.specs.Judging.{some_in, row_judged};
 ghost use Rattle.lb_flat.specs.Values.{cell_of};
 ghost use Rattle.lb_flat.specs.Programs.{numbers_of, program_of, IsInRange};
 
+use crate::cell::Cell;
 use crate::equation::ElementId;
 use crate::program::FlatProgram;
-use crate::scalar::Scalar;
 use lb_check::verdict::Verdict;
 
 // A present fault.
-fn is_bad(x: Option<Scalar>) -> bool
+fn is_bad(x: Cell) -> bool
     ensures { result ≡ is_bad (Some (cell_of x)) }
 {
     match x {
-        Some(Scalar::Bad) => true,
+        Cell::Bad => true,
         _ => false,
     }
 }
 
 // Present and false.
-fn is_false(x: Option<Scalar>) -> bool
+fn is_false(x: Cell) -> bool
     ensures { result ≡ is_false (Some (cell_of x)) }
 {
     match x {
-        Some(Scalar::Boolean(b)) => !b,
+        Cell::Boolean(b) => !b,
         _ => false,
     }
 }
 
 // Whether one of the first elements holds a fault.
-fn first_bad(row: &[Option<Scalar>], count: u32) -> bool
+fn first_bad(row: &[Cell], count: u32) -> bool
     requires { count ≤ length row.now }
     ensures { result ≡ some_in is_bad (map cell_of row.now) (range_with_len 0 count) }
 {
@@ -46,7 +46,7 @@ fn first_bad(row: &[Option<Scalar>], count: u32) -> bool
 }
 
 // Whether one of these elements holds a fault.
-fn some_bad(row: &[Option<Scalar>], elements: &[ElementId]) -> bool
+fn some_bad(row: &[Cell], elements: &[ElementId]) -> bool
     requires { All (λ a. a.0 < length row.now) elements.now }
     ensures { result ≡ some_in is_bad (map cell_of row.now) (numbers_of elements.now) }
 {
@@ -59,7 +59,7 @@ fn some_bad(row: &[Option<Scalar>], elements: &[ElementId]) -> bool
 }
 
 // Whether one of these elements is false.
-fn some_false(row: &[Option<Scalar>], elements: &[ElementId]) -> bool
+fn some_false(row: &[Cell], elements: &[ElementId]) -> bool
     requires { All (λ a. a.0 < length row.now) elements.now }
     ensures { result ≡ some_in is_false (map cell_of row.now) (numbers_of elements.now) }
 {
@@ -74,7 +74,7 @@ fn some_false(row: &[Option<Scalar>], elements: &[ElementId]) -> bool
 /// What the row of instant `t` decides; `Passed` where it decides nothing.
 ///
 /// A fault comes before a failed assertion, and that before a false property.
-pub(crate) fn judge(program: &FlatProgram, row: &[Option<Scalar>], t: u32) -> Verdict
+pub(crate) fn judge(program: &FlatProgram, row: &[Cell], t: u32) -> Verdict
     requires elements { length row.now ≡ program.now.size }
     requires in_range { IsInRange program.now }
     ensures { result ≡ row_judged (program_of program.now) t (map cell_of row.now) }

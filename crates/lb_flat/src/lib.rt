@@ -2,6 +2,7 @@
 //! order, and evaluated on one trace; and the recorded traces that they run on.
 #![tactic(auto)]
 
+pub mod cell;
 pub mod equation;
 pub mod error;
 pub mod evaluate;
@@ -11,6 +12,7 @@ mod instant;
 mod judge;
 mod names;
 pub mod order;
+mod prepare;
 pub mod program;
 pub mod scalar;
 #[cfg(test)]

@@ -1,12 +1,14 @@
 //! Values from the tables of the language, and a small program run by hand.
 
-ghost use Rattle.std.specs.Prelude.{◌∷◌, [], map};
+ghost use Rattle.std.specs.Prelude.{◌≡◌, ◌∷◌, [], map, slice_get};
 ghost use Rattle.lb_check.specs.Scalars as scalars;
+ghost use Rattle.lb_flat.specs.Values.{cell_of};
 
-use crate::equation::{ElementId, Equation, InputId, Operation};
+use crate::cell::{Cell, chosen_cell, one_cell, two_cells};
+use crate::equation::{ElementId, Equation, InputId, InputPlace, Operation};
 use crate::evaluate::{Instants, evaluate};
 use crate::program::FlatProgram;
-use crate::scalar::{Scalar, chosen, one_scalar, two_scalars};
+use crate::scalar::Scalar;
 use lb_check::verdict::Verdict;
 use lb_static::arithmetic::arithmetic;
 use lb_syntax::tree::{BinaryOperator, UnaryOperator};
@@ -27,28 +29,40 @@ fn arithmetic_stays_in_range(rt: HostRuntime) {
 
 #[test]
 fn operators_are_strict(rt: HostRuntime) {
-    let yes = Scalar::Boolean(true);
-    let no = Scalar::Boolean(false);
-    assert_eq!(rt; two_scalars(BinaryOperator::Implies, yes, no), no);
-    assert_eq!(rt; two_scalars(BinaryOperator::Implies, no, no), yes);
+    let yes = Cell::Boolean(true);
+    let no = Cell::Boolean(false);
+    assert_eq!(rt; two_cells(BinaryOperator::Implies, yes, no), no);
+    assert_eq!(rt; two_cells(BinaryOperator::Implies, no, no), yes);
+    assert_eq!(rt; two_cells(BinaryOperator::Or, yes, Cell::Bad), Cell::Bad);
     assert_eq!(rt;
-        two_scalars(BinaryOperator::Or, yes, Scalar::Bad),
-        Scalar::Bad
+        two_cells(BinaryOperator::Or, Cell::Bad, Cell::Absent),
+        Cell::Absent
     );
     assert_eq!(rt;
-        one_scalar(UnaryOperator::Negate, Scalar::Integer(i32::MIN)),
-        Scalar::Bad
+        one_cell(UnaryOperator::Negate, Cell::Integer(i32::MIN)),
+        Cell::Bad
     );
 }
 
 #[test]
 fn division_in_a_branch_not_chosen(rt: HostRuntime) {
-    let one = Scalar::Integer(1);
-    assert_eq!(rt; chosen(Scalar::Boolean(true), one, Scalar::Bad), one);
+    let one = Cell::Integer(1);
+    assert_eq!(rt; chosen_cell(Cell::Boolean(true), one, Cell::Bad), one);
     assert_eq!(rt;
-        chosen(Scalar::Boolean(false), one, Scalar::Bad),
-        Scalar::Bad
+        chosen_cell(Cell::Boolean(false), one, Cell::Bad),
+        Cell::Bad
     );
+}
+
+// The first input is this one, and there is no other.
+fn only_input(value: bool, input: InputId) -> Cell
+    ensures { cell_of result ≡ slice_get (scalars.Boolean value ∷ []) input.0 }
+{
+    if input.0 == 0 {
+        Cell::Boolean(value)
+    } else {
+        Cell::Absent
+    }
 }
 
 // One Boolean input at three instants.
@@ -57,18 +71,15 @@ struct Recorded([bool; 3]);
 impl Instants for Recorded {
     ghost rows = { λ r. map (λ b. scalars.Boolean b ∷ []) r.0 };
 
-    ghost width = { λ r. 1 };
-
     fn count(&self) -> u32 {
         3
     }
 
-    fn inputs(&self) -> u32 {
-        1
-    }
-
-    fn read(&self, t: u32, given: &mut [Scalar]) {
-        given[0] = Scalar::Boolean(self.0[t as usize]);
+    fn read(&self, t: u32, inputs: &[InputPlace], row: &mut [Cell]) {
+        for i in 0..inputs.len() {
+            let place = inputs[i];
+            row[place.element.0 as usize] = only_input(self.0[t as usize], place.input);
+        }
     }
 }
 

@@ -1,6 +1,6 @@
 //! The verdict of a recorded trace.
 
-ghost use Rattle.std.specs.Prelude.{◌≡◌, ◌<◌, length, map, IfOk, OnOk};
+ghost use Rattle.std.specs.Prelude.{◌≡◌, ◌<◌, Some, length, map, slice_get, All, IfOk, OnOk};
 ghost use Rattle.lb_syntax.specs.Lists.{zip2};
 ghost use Rattle.lb_static.specs.Instances.{Program};
 ghost use Rattle.lb_static.specs.Shapes.{signature};
@@ -9,36 +9,55 @@ ghost use Rattle.lb_check.specs.Solutions.{HasOneHistory};
 ghost use Rattle.lb_check.specs.Verdicts.{HasVerdict};
 ghost use Rattle.lb_flat.specs.Flattening.{IsFlatOf};
 ghost use Rattle.lb_flat.specs.Inputs.{scalar_in, inputs_of};
+ghost use Rattle.lb_flat.specs.Prepared.{place_equation};
 ghost use Rattle.lb_flat.specs.Programs.{program_of};
-ghost use Rattle.lb_flat.specs.Values.{scalar_of};
+ghost use Rattle.lb_flat.specs.Run.{filled};
+ghost use Rattle.lb_flat.specs.Values.{cell_of};
 
+use crate::cell::Cell;
+use crate::equation::{InputId, InputPlace};
 use crate::evaluate::{Instants, evaluate};
 use crate::flat::Ordered;
-use crate::scalar::Scalar;
 use crate::traces::TraceSet;
 use lb_check::verdict::Verdict;
 use lb_static::signature::{Kind, Signature};
 use std::alloc::{AllocError, Global};
 
-// The scalar of a cell; a Boolean is 0 or 1.
-fn scalar_in(kind: Kind, cell: i32) -> Scalar
-    ensures { scalar_of result ≡ scalar_in kind cell }
+// What a cell of a recorded trace stands for; a Boolean is 0 or 1.
+fn cell_in(kind: Kind, cell: i32) -> Cell
+    ensures { cell_of result ≡ Some (scalar_in kind cell) }
 {
     match kind {
-        Kind::Int => Scalar::Integer(cell),
-        Kind::Bool => Scalar::Boolean(cell >= 1),
+        Kind::Int => Cell::Integer(cell),
+        Kind::Bool => Cell::Boolean(cell >= 1),
     }
 }
 
-// Reads the scalars of a row.
-fn read_row(kinds: &[Kind], row: &[i32], given: &mut [Scalar])
-    requires cells { length row.now ≡ length kinds.now }
-    requires scalars { length given.old ≡ length kinds.now }
-    ensures scalars { length given.new ≡ length given.old }
-    ensures read { map scalar_of given.new ≡ zip2 scalar_in kinds.now row.now }
+// The input at a place of the signature.
+fn input_at(kinds: &[Kind], cells: &[i32], input: InputId) -> Cell
+    requires { length cells.now ≡ length kinds.now }
+    ensures { cell_of result ≡ slice_get (zip2 scalar_in kinds.now cells.now) input.0 }
 {
-    for (i, kind) in kinds.iter().enumerate() {
-        given[i] = scalar_in(*kind, row[i]);
+    let j = input.0 as usize;
+    if j < kinds.len() {
+        cell_in(kinds[j], cells[j])
+    } else {
+        Cell::Absent
+    }
+}
+
+// Reads the cells of a row into the elements that hold inputs.
+fn read_row(kinds: &[Kind], cells: &[i32], inputs: &[InputPlace], row: &mut [Cell])
+    requires cells { length cells.now ≡ length kinds.now }
+    requires elements { All (λ p. p.element.0 < length row.old) inputs.now }
+    ensures elements { length row.new ≡ length row.old }
+    ensures read { map cell_of row.new
+        ≡ filled (zip2 scalar_in kinds.now cells.now) (map cell_of row.old)
+        (map place_equation inputs.now) }
+{
+    for i in 0..inputs.len() {
+        let place = inputs[i];
+        row[place.element.0 as usize] = input_at(kinds, cells, place.input);
     }
 }
 
@@ -67,18 +86,12 @@ struct RecordedTrace<'a> {
 impl Instants for RecordedTrace<'_> {
     ghost rows = { λ r. inputs_of r.set.now r.k };
 
-    ghost width = { λ r. length r.set.now.signature };
-
     fn count(&self) -> u32 {
         self.set.length(self.k)
     }
 
-    fn inputs(&self) -> u32 {
-        self.set.signature().len()
-    }
-
-    fn read(&self, t: u32, given: &mut [Scalar]) {
-        read_row(self.kinds.as_slice(), self.set.row(self.k, t), given);
+    fn read(&self, t: u32, inputs: &[InputPlace], row: &mut [Cell]) {
+        read_row(self.kinds.as_slice(), self.set.row(self.k, t), inputs, row);
     }
 }
 
@@ -110,7 +123,7 @@ pub fn eval_trace(
 #[cfg(test)]
 mod tests {
     use super::*;
-    use crate::equation::{ElementId, Equation, InputId, Operation};
+    use crate::equation::{ElementId, Equation, Operation};
     use crate::program::FlatProgram;
     use crate::traces::TraceRows;
     use lb_syntax::tree::UnaryOperator;

@@ -1,18 +1,36 @@
-use Rattle.std.proofs.Common.{◌<◌, length, sym, ◌∙◌, arith}
-use Rattle.lb_flat.specs.Programs.{program_of}
-use Rattle.lb_flat.proofs.Evaluating.{goes_on}
+use Rattle.std.proofs.Common.{◌<◌, length, refl, sym, ◌∙◌, arith}
+use Rattle.lb_flat.specs.Programs.{program_of, flat_equations}
+use Rattle.lb_flat.proofs.Evaluating.{goes_on, ends_with}
 use Rattle.lb_flat.proofs.evaluate.run.Goals as goal
+
+pub loop-t-init : goal.loop-t-init
+loop-t-init g c =
+    let p = c.args.program.now in
+    record {
+      equations = flat_equations p.ticks.items p.equations.items;
+      in_order = c.requires.runnable.in_order;
+      inputs_are = c.requires.inputs;
+      steps_are = c.requires.steps;
+      places_are = c.requires.memories;
+      within = c.requires.within;
+      as_long = c.requires.elements;
+      fixed = c.requires.fixed;
+      rest = refl;
+    }
 
 pub loop-t-preserved : goal.loop-t-preserved
 loop-t-preserved g c =
-    let lt : c.loop-t.t < length (g.I.Instants.rows c.args.trace.now) =
-    omega (arith, c.loop-t-test.true, c.count-t-end.ensures) in
-    record {
-      state =
-          goes_on (program_of c.args.program.now) (g.I.Instants.rows c.args.trace.now) _ _ _
-          c.loop-t.invariant.state _ lt _ c.step-verdict.ensures.row c.read.ensures.read _
-          c.step-verdict.ensures.within c.step-verdict.ensures.memories
-          (sym c.in-Passed.is ∙ c.step-verdict.ensures.verdict);
-      elements = c.step-verdict.ensures.elements;
-      inputs = c.read.ensures.inputs ∙ c.loop-t.invariant.inputs;
-    }
+    let X = g.I.Instants.rows c.args.trace.now in
+    let lt : c.loop-t.t < length X = omega (arith, c.loop-t-test.true, c.count-t-end.ensures) in
+    goes_on (program_of c.args.program.now) X _ _ _ _ _ _ c.loop-t.invariant lt _ _
+    c.read.ensures.read c.step-verdict.ensures.row _ c.step-verdict.ensures.within
+    c.step-verdict.ensures.elements c.step-verdict.ensures.memories
+    (sym c.in-Passed.is ∙ c.step-verdict.ensures.verdict)
+
+pub returns-in_default : goal.returns-in_default
+returns-in_default g c =
+    let X = g.I.Instants.rows c.args.trace.now in
+    let lt : c.loop-t.t < length X = omega (arith, c.loop-t-test.true, c.count-t-end.ensures) in
+    ends_with (program_of c.args.program.now) X _ _ _ _ _ _ c.loop-t.invariant lt _ _
+    c.read.ensures.read c.step-verdict.ensures.row _ c.step-verdict.ensures.verdict
+    c.in_default.not-Passed

@@ -1,13 +1,8 @@
-use Rattle.std.proofs.Common.{◌≡◌, length}
 use Rattle.lb_flat.specs.Programs.{program_of}
 use Rattle.lb_flat.proofs.Evaluating.{IsEvaluating}
 use Rattle.lb_flat.proofs.evaluate.run.Given as goal
 
 abbrev pub invariant-loop-t : goal.invariant-loop-t
-invariant-loop-t g l = record {
-  state :
-      IsEvaluating (program_of l.program) (g.I.Instants.rows l.trace) l.program.ticks.items
-      l.equations l.t;
-  elements : length l.row ≡ l.program.size;
-  inputs : length l.given ≡ g.I.Instants.width l.trace;
-}
+invariant-loop-t g l =
+    IsEvaluating (program_of l.program) (g.I.Instants.rows l.trace) l.program.ticks.items
+    l.inputs l.memories l.steps l.row l.t

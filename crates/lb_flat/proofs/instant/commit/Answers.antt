@@ -1,21 +1,31 @@
-use Rattle.std.proofs.Common.{◌<◌, length, arith}
-use Rattle.lb_flat.proofs.Steps.{commit_step, within_step, all_committed}
+use Rattle.std.proofs.Common.{◌<◌, refl, subst, sym, length-set, get_or}
+use Rattle.lb_flat.proofs.Steps.{places_there, commit_step, within_step, all_committed}
 use Rattle.lb_flat.proofs.instant.commit.Goals as goal
 
-pub loop-q-preserved : goal.loop-q-preserved
-loop-q-preserved c =
-    let lt : c.loop-q.q-index < length c.loop-q.program =
-    omega (arith, c.loop-q-test.true, c.loop-q.auto.program) in
+pub loop-i-init : goal.loop-i-init
+loop-i-init c = record {
+  there = places_there _ _ _ c.requires.places;
+  within = c.requires.within;
+  moved = record { rest = refl };
+}
+
+pub loop-i-preserved : goal.loop-i-preserved
+loop-i-preserved c =
+    let h = c.loop-i.invariant in
+    let there = h.there c.loop-i.i 0 c.loop-i-test.true in
+    let first = c.args.steps.now in
+    let places = c.args.memories.now in
     record {
-      moved =
-          commit_step _ _ c.loop-q.program _ _ _ _ lt c.remembered-q.ensures
-          c.loop-q.invariant.moved;
+      there = λ k d lt.
+          subst (λ n. get_or places k d < n) (sym (length-set c.loop-i.steps _ _)) (h.there k d lt);
       within =
-          within_step c.args.ticks.now c.args.row.now c.loop-q.program c.args.program.now _ _ _ lt
-          c.remembered-q.ensures _ c.loop-q.invariant.within;
+          within_step c.args.ticks.now c.args.row.now c.loop-i.steps first places c.loop-i.i _ _ _
+          c.loop-i-test.true refl there c.remembered.ensures _ h.within;
+      moved =
+          commit_step c.args.ticks.now c.args.row.now c.loop-i.steps first places c.loop-i.i _ _ _
+          c.loop-i-test.true refl there c.remembered.ensures h.moved;
     }
 
 pub returns-clause-memories : goal.returns-clause-memories
 returns-clause-memories c =
-    all_committed _ _ _ _ c.loop-q.auto.program
-    (λ k lt. c.loop-q.invariant.moved.done k (omega (arith, c.loop-q-test.false)))
+    all_committed _ _ _ _ _ _ c.requires.places c.loop-i-test.false c.loop-i.invariant.moved

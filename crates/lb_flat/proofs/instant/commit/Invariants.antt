@@ -1,10 +1,11 @@
-use Rattle.std.proofs.Common.{length, All}
+use Rattle.std.proofs.Common.{◌<◌, length, All}
 use Rattle.lb_flat.specs.Within.{IsWithin}
 use Rattle.lb_flat.proofs.Steps.{IsCommitting}
 use Rattle.lb_flat.proofs.instant.commit.Given as goal
 
-abbrev pub invariant-loop-q : goal.invariant-loop-q
-invariant-loop-q l = record {
-  moved : IsCommitting l.ticks l.row l.program l.fn.program l.q-index;
-  within : All (IsWithin (length l.row) l.ticks) l.program;
+abbrev pub invariant-loop-i : goal.invariant-loop-i
+invariant-loop-i l = record {
+  there : All (λ n. n < length l.steps) l.memories;
+  within : All (IsWithin (length l.row) l.ticks) l.steps;
+  moved : IsCommitting l.ticks l.row l.steps l.fn.steps l.memories l.i;
 }

@@ -1,5 +1,7 @@
+use Rattle.std.proofs.Common.{[]}
+use Rattle.lb_flat.specs.Values.{equation_of}
 use Rattle.lb_flat.proofs.instant.compute.Given as goal
 use Rattle.lb_flat.proofs.Steps.{IsFilling}
 
 abbrev pub invariant-loop-i : goal.invariant-loop-i
-invariant-loop-i l = IsFilling l.ticks l.given l.row l.fn.row l.fn.program l.i
+invariant-loop-i l = IsFilling (equation_of l.ticks) [] l.row l.fn.row l.steps l.i

@@ -1,0 +1,15 @@
+use Rattle.std.proofs.Common.{◌≡◌, [], length, map, drop}
+use Rattle.lb_flat.specs.Prepared.{fixed_in}
+use Rattle.lb_flat.specs.Programs.{flat_equations}
+use Rattle.lb_flat.specs.Run.{filled}
+use Rattle.lb_flat.specs.Values.{cell_of}
+use Rattle.lb_flat.proofs.prepare.set_constants.Given as goal
+
+-- the rest of the constants gives what all give
+abbrev pub invariant-loop-i : goal.invariant-loop-i
+invariant-loop-i l = record {
+  as_long : length l.row ≡ length l.fn.row;
+  rest :
+      filled [] (map cell_of l.row) (fixed_in (flat_equations l.ticks (drop l.i l.equations)))
+      ≡ filled [] (map cell_of l.fn.row) (fixed_in (flat_equations l.ticks l.equations));
+}

@@ -1,0 +1,131 @@
+//! What is known of a flat program before the instants of a trace, and what is left for each.
+//!
+//! A constant on the base clock holds the same cell at each instant, so its element is set once. An
+//! input is read. The other equations are steps, computed at each instant; few have a memory.
+
+ghost use Rattle.std.specs.Prelude.{◌≡◌, ◌<◌, [], Some, is_some, length, map, All, IfOk, IfSome};
+ghost use Rattle.lb_flat.specs.Prepared.{is_fixed, is_step, has_memory, inputs_in, steps_in, memory_places, place_equation, AreFixed};
+ghost use Rattle.lb_flat.specs.Programs.{flat_equations};
+ghost use Rattle.lb_flat.specs.Run.{Row, Ready, now};
+ghost use Rattle.lb_flat.specs.Values.{scalar_of, cell_of, clock_of, operation_of, equation_of};
+ghost use Rattle.lb_flat.specs.Within.{IsClock, IsWithin};
+
+use crate::cell::{Cell, present};
+use crate::equation::{Equation, InputPlace, Operation, Tick};
+use crate::scalar::Scalar;
+use std::alloc::{AllocError, Global};
+
+// The value of an equation that is a constant on the base clock.
+fn fixed_value(q: &Equation, ticks: &[Tick]) -> Option<Scalar>
+    requires { IsClock ticks.now q.now.clock }
+    ensures fixed { is_some result
+        ≡ is_fixed (clock_of ticks.now q.now.clock) (operation_of q.now.operation) }
+    ensures value { IfSome result (λ v. (row : Row) →
+        Some (scalar_of v)
+        ≡ now [] row (clock_of ticks.now q.now.clock) (operation_of q.now.operation)) }
+{
+    match (&q.operation, q.clock) {
+        (Operation::Constant(v), None) => Some(*v),
+        _ => None,
+    }
+}
+
+// Whether an equation is computed at each instant.
+fn is_step(q: &Equation, ticks: &[Tick]) -> bool
+    requires { IsClock ticks.now q.now.clock }
+    ensures { result ≡ is_step (equation_of ticks.now q.now) }
+{
+    match &q.operation {
+        Operation::Input(_) => false,
+        _ => fixed_value(q, ticks).is_none(),
+    }
+}
+
+fn has_memory(operation: &Operation) -> bool
+    ensures { result ≡ has_memory (operation_of operation.now) }
+{
+    match operation {
+        Operation::FirstThen(_, _, _) | Operation::Previous(_, _) | Operation::Latest(_, _) => true,
+        _ => false,
+    }
+}
+
+/// The elements that hold inputs.
+pub(crate) fn inputs_in(
+    alloc: Global,
+    equations: &[Equation],
+    size: u32,
+    ticks: &[Tick],
+) -> Result<Vec<InputPlace>, AllocError>
+    requires { All (IsWithin size ticks.now) equations.now }
+    ensures places { IfOk result (λ inputs. map place_equation inputs.items
+        ≡ inputs_in (flat_equations ticks.now equations.now)) }
+    ensures elements { IfOk result (λ inputs. All (λ p. p.element.0 < size) inputs.items) }
+{
+    let mut inputs = Vec::new(alloc);
+    for i in 0..equations.len() {
+        let q = &equations[i];
+        if let Operation::Input(input) = q.operation {
+            inputs.push(InputPlace {
+                element: q.element,
+                input,
+            })?;
+        }
+    }
+    Ok(inputs)
+}
+
+/// The equations that are computed at each instant.
+pub(crate) fn steps_in(
+    alloc: Global,
+    equations: &[Equation],
+    size: u32,
+    ticks: &[Tick],
+) -> Result<Vec<Equation>, AllocError>
+    requires { All (IsWithin size ticks.now) equations.now }
+    ensures steps { IfOk result (λ steps. flat_equations ticks.now steps.items
+        ≡ steps_in (flat_equations ticks.now equations.now)) }
+    ensures within { IfOk result (λ steps. All (IsWithin size ticks.now) steps.items) }
+{
+    let mut steps = Vec::new(alloc);
+    for i in 0..equations.len() {
+        let q = equations[i];
+        if is_step(&q, ticks) {
+            steps.push(q)?;
+        }
+    }
+    Ok(steps)
+}
+
+/// The places of the steps that have a memory.
+pub(crate) fn memories_in(
+    alloc: Global,
+    steps: &[Equation],
+    ticks: &[Tick],
+) -> Result<Vec<usize>, AllocError>
+    ensures { IfOk result (λ places. places.items
+        ≡ memory_places 0 (flat_equations ticks.now steps.now)) }
+{
+    let mut places = Vec::new(alloc);
+    for i in 0..steps.len() {
+        if has_memory(&steps[i].operation) {
+            places.push(i)?;
+        }
+    }
+    Ok(places)
+}
+
+/// Sets the elements of constants on the base clock.
+pub(crate) fn set_constants(row: &mut [Cell], equations: &[Equation], ticks: &[Tick])
+    requires in_order { Ready (length row.old) [] (flat_equations ticks.now equations.now) }
+    requires within { All (IsWithin (length row.old) ticks.now) equations.now }
+    ensures elements { length row.new ≡ length row.old }
+    ensures fixed { AreFixed (map cell_of row.new) (flat_equations ticks.now equations.now) }
+{
+    for i in 0..equations.len() {
+        let q = &equations[i];
+        if let Some(v) = fixed_value(q, ticks) {
+            row[q.element.0 as usize] = present(v);
+        }
+    }
+}
