@@ -60,6 +60,10 @@ fn two_integers(op: BinaryOperator, a: i32, b: i32) -> Cell
         BinaryOperator::AtMost => Cell::Boolean(a <= b),
         BinaryOperator::Greater => Cell::Boolean(a > b),
         BinaryOperator::AtLeast => Cell::Boolean(a >= b),
+        // An operator that is known here is looked at once.
+        BinaryOperator::Plus => or_fault(arithmetic(BinaryOperator::Plus, a, b)),
+        BinaryOperator::Minus => or_fault(arithmetic(BinaryOperator::Minus, a, b)),
+        BinaryOperator::Times => or_fault(arithmetic(BinaryOperator::Times, a, b)),
         _ => or_fault(arithmetic(op, a, b)),
     }
 }
@@ -81,9 +85,13 @@ fn two_booleans(op: BinaryOperator, a: bool, b: bool) -> Cell
 pub(crate) fn two_cells(op: BinaryOperator, x: Cell, y: Cell) -> Cell
     ensures { cell_of result ≡ two_cells (two_scalars op) (cell_of x) (cell_of y) }
 {
+    if let (Cell::Integer(a), Cell::Integer(b)) = (x, y) {
+        return two_integers(op, a, b);
+    }
+    if let (Cell::Boolean(a), Cell::Boolean(b)) = (x, y) {
+        return two_booleans(op, a, b);
+    }
     match (x, y) {
-        (Cell::Integer(a), Cell::Integer(b)) => two_integers(op, a, b),
-        (Cell::Boolean(a), Cell::Boolean(b)) => two_booleans(op, a, b),
         (Cell::Absent, _) | (_, Cell::Absent) => Cell::Absent,
         _ => Cell::Bad,
     }
