@@ -55,7 +55,11 @@ syntax_number (syntax.Size line column) = 3
 abbrev pub static_number : StaticError → ℕ
 static_number static.Memory = 0
 static_number (static.Name name) = 4
+static_number (static.Recursion name) = 7
 static_number static.Root = 8
+static_number (static.Value name) = 5
+static_number (static.Range name) = 6
+static_number static.Instances = 12
 static_number static.Large = 12
 
 abbrev pub check_number : CheckError → ℕ

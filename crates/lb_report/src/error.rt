@@ -31,7 +31,11 @@ fn static_number(cause: &StaticError) -> u8
     match cause {
         StaticError::Memory => 0,
         StaticError::Name(_) => 4,
+        StaticError::Recursion(_) => 7,
         StaticError::Root => 8,
+        StaticError::Value(_) => 5,
+        StaticError::Range(_) => 6,
+        StaticError::Instances => 12,
         StaticError::Large => 12,
     }
 }

@@ -1,7 +1,7 @@
 -- A fault of a part is one of the whole.
 use Rattle.std.proofs.Common.{◌≡◌, Bool, false}
 use Rattle.lb_static.specs.declared.error.StaticError.{StaticError}
-use Rattle.lb_static.specs.declared.error.StaticError.TheVariants.{Memory, Name, Root, Large}
+use Rattle.lb_static.specs.declared.error.StaticError.TheVariants.{Memory, Name, Recursion, Root, Value, Range, Instances, Large}
 use Rattle.lb_static.specs.Faults.{IsFault}
 use Rattle.std.specs.Prelude.{◌&&◌}
 use Rattle.lb_static.proofs.Lists.{false_second}
@@ -10,7 +10,11 @@ pub fault_within : (e : StaticError) (names forms all_names all_forms : Bool) �
     → (names ≡ false → all_names ≡ false) → (forms ≡ false → all_forms ≡ false) → IsFault e all_names all_forms
 fault_within Memory names forms all_names all_forms h f g = tt
 fault_within (Name x) names forms all_names all_forms h f g = f h
+fault_within (Recursion x) names forms all_names all_forms h f g = h
 fault_within Root names forms all_names all_forms h f g = h
+fault_within (Value x) names forms all_names all_forms h f g = h
+fault_within (Range x) names forms all_names all_forms h f g = h
+fault_within Instances names forms all_names all_forms h f g = h
 fault_within Large names forms all_names all_forms h f g = g h
 
 -- the last of three parts

@@ -104,7 +104,7 @@ pub finished : {A C : Type 0} (f : A → C) (before : List C) (xs : List A) (i :
 finished f before xs i all past e =
     sym (append-nil before) ∙ ap (λ l. before ++ map f l) (sym (drop_of_length-le xs past)) ∙ e
 
-any_is : {A : Type 0} (p : A → Bool) (xs : List A) → list_any p xs ≡ nat_lt (position_or_len p xs) (length xs)
+pub any_is : {A : Type 0} (p : A → Bool) (xs : List A) → list_any p xs ≡ nat_lt (position_or_len p xs) (length xs)
 any_is p [] = refl
 any_is p (x ∷ xs) = by (p x) (position_or_len p xs) (any_is p xs)
   where

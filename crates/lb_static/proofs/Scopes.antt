@@ -45,7 +45,7 @@ view_declared g ks after k e =
     ap (map g) e ∙ after_view g ks k (list_any (λ x. bytes_eq (g k) (g x)) ks)
     ∙ ap (λ b. if b then map g ks else map g ks ++ g k ∷ []) (any_map (bytes_eq (g k)) g ks)
 
-bytes_eq-symmetric : (x y : Name) → bytes_eq x y ≡ bytes_eq y x
+pub bytes_eq-symmetric : (x y : Name) → bytes_eq x y ≡ bytes_eq y x
 bytes_eq-symmetric x y = by (bytes_eq x y) (bytes_eq y x) refl refl
   where
     by : (a b : Bool) → bytes_eq x y ≡ a → bytes_eq y x ≡ b → a ≡ b

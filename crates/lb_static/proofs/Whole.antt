@@ -9,7 +9,7 @@ use Rattle.std.proofs.lemmas.Slice.Eq.{bytes_eq-Decides}
 use Rattle.lb_syntax.specs.Lists.{either_or}
 use Rattle.lb_syntax.specs.Tree.{Name, Declaration, Node}
 use Rattle.lb_static.specs.declared.error.StaticError.{StaticError}
-use Rattle.lb_static.specs.declared.error.StaticError.TheVariants.{Memory, Name as Name_fault, Root, Large}
+use Rattle.lb_static.specs.declared.error.StaticError.TheVariants.{Memory, Name as Name_fault, Recursion, Root, Value, Range, Instances, Large}
 use Rattle.lb_static.specs.declared.term.Step.{Step}
 use Rattle.lb_static.specs.declared.term.Step.TheVariants as step
 use Rattle.lb_static.specs.declared.term.Variable.{Variable}
@@ -133,7 +133,11 @@ module _ (n : Node) (vars : List Variable) (inputs outputs : ℕ) (declared : ma
 pub node_fault : (constants : List Name) (n : Node) (f : StaticError) → IsFault f (keeps_node_names constants n) (has_running_forms n) → ElaboratesNode constants n (Err f)
 node_fault constants n Memory h = h
 node_fault constants n (Name_fault x) h = h
+node_fault constants n (Recursion x) h = absurd h
 node_fault constants n Root h = absurd h
+node_fault constants n (Value x) h = absurd h
+node_fault constants n (Range x) h = absurd h
+node_fault constants n Instances h = absurd h
 node_fault constants n Large h = h
 
 pub declared_fault : (constants : List Name) (n : Node) (f : StaticError) → IsFault f (are_distinct (names_in (variables n))) (list_all is_scalar (variables n))

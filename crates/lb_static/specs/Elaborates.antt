@@ -1,8 +1,8 @@
 -- What `elaborate` promises of a source.
 -- This file says what data of the program mean; no definition of the language stands on it.
-use Rattle.std.specs.Prelude.{◌≡◌, Bool, true, ◌||◌, not, Option, Some, is_some, Result, Ok, Err}
+use Rattle.std.specs.Prelude.{◌≡◌, Bool, true, ◌||◌, not, Option, Some, None, is_some, Result, Ok, Err}
 use Rattle.lb_syntax.specs.Lists.{holds}
-use Rattle.lb_syntax.specs.Refusals.{E4, E8}
+use Rattle.lb_syntax.specs.Refusals.{E4, E5, E6, E7, E8, E12}
 use Rattle.lb_syntax.specs.SourceView.{view_source}
 use Rattle.lb_syntax.specs.Tree.{Name}
 use Rattle.lb_syntax.specs.declared.tree.Source.{Source}
@@ -24,11 +24,29 @@ abbrev pub uses_later_forms : Program → Bool
 uses_later_forms P =
     is_some P.observer || holds (λ here. not (is_plain_node here.node)) (instance_at P Root)
 
--- The elaborated program, or the first rule of names, static values and instances that is broken,
--- unless memory ran out. A program with forms that do not run yet may break a rule of names too.
+-- ## What is refused
+
+-- an error stands for the first rule of names, static values and instances that is broken, unless
+-- memory ran out
+abbrev pub IsStaticFault : Program → StaticError → Type 0
+IsStaticFault P error.Memory = Unit {0}
+IsStaticFault P (error.Name x) = static_refusal P ≡ Some E4
+IsStaticFault P (error.Recursion x) = static_refusal P ≡ Some E7
+IsStaticFault P error.Root = static_refusal P ≡ Some E8
+IsStaticFault P (error.Value x) = static_refusal P ≡ Some E5
+IsStaticFault P (error.Range x) = static_refusal P ≡ Some E6
+IsStaticFault P error.Instances = static_refusal P ≡ Some E12
+IsStaticFault P error.Large = ⊥
+
+-- The elaborated program; or the first rule that is broken; or, of a program that breaks none, that
+-- it has forms that do not run yet.
 abbrev pub Elaborates : Program → Result Elab StaticError → Type 0
 Elaborates P (Ok e) = IsElaborated P (node_in e)
-Elaborates P (Err error.Memory) = Unit {0}
-Elaborates P (Err (error.Name x)) = static_refusal P ≡ Some E4
-Elaborates P (Err error.Root) = static_refusal P ≡ Some E8
-Elaborates P (Err error.Large) = uses_later_forms P ≡ true
+Elaborates P (Err error.Large) = (static_refusal P ≡ None) × (uses_later_forms P ≡ true)
+Elaborates P (Err e) = IsStaticFault P e
+
+-- the same of a program that is taken for one plain node, where nothing is judged beside it
+abbrev pub ElaboratesPlain : Program → Result Elab StaticError → Type 0
+ElaboratesPlain P (Ok e) = IsElaborated P (node_in e)
+ElaboratesPlain P (Err error.Large) = uses_later_forms P ≡ true
+ElaboratesPlain P (Err e) = IsStaticFault P e

@@ -14,7 +14,11 @@ use Rattle.lb_static.specs.declared.error.StaticError.TheVariants as error
 abbrev pub IsFault : StaticError → (names forms : Bool) → Type 0
 IsFault error.Memory names forms = Unit {0}
 IsFault (error.Name x) names forms = names ≡ false
+IsFault (error.Recursion x) names forms = ⊥
 IsFault error.Root names forms = ⊥
+IsFault (error.Value x) names forms = ⊥
+IsFault (error.Range x) names forms = ⊥
+IsFault error.Instances names forms = ⊥
 IsFault error.Large names forms = forms ≡ false
 
 -- the names of some declarations

@@ -15,9 +15,22 @@ pub enum StaticError {
     /// has parameters (E4). It holds the name.
     #[error("the name {0} is unknown or doubled")]
     Name(String),
-    /// The node under test has another shape than it may (E8).
-    #[error("the node under test has another shape than it may")]
+    /// A node reaches itself by its calls (E7). It holds the name of the node.
+    #[error("the node {0} reaches itself by its calls")]
+    Recursion(String),
+    /// The node under test or the observer has another shape than it may (E8).
+    #[error("the node under test or the observer has another shape than it may")]
     Root,
+    /// A static expression has no value (E5). It holds the name of the node in which it stands.
+    #[error("a static expression of the node {0} has no value")]
+    Value(String),
+    /// A size, an index or a slice is out of its range (E6). It holds the name of the node in which
+    /// it stands.
+    #[error("a size, an index or a slice of the node {0} is out of its range")]
+    Range(String),
+    /// There are more than 4,096 instances or 64 levels of them (E12).
+    #[error("there are more than 4096 instances or 64 levels of them")]
+    Instances,
     /// The program has forms that do not run yet (E12).
     #[error("the program has forms that do not run yet")]
     Large,

@@ -1,10 +1,12 @@
 //! The global names of a source: constants, nodes and functions share one name space.
 
-ghost use Rattle.std.specs.Prelude.{◌≡◌, ◌++◌, ◌∷◌, [], not, true, false, length, take, OnOk, IfOk, IfErr};
+ghost use Rattle.std.specs.Prelude.{◌≡◌, ◌++◌, ◌∷◌, [], not, true, false, length, take, drop, position, ◌<◌, OnOk, IfOk, IfErr, IfSome};
+ghost use Rattle.std.specs.Str.{bytes_eq};
 ghost use Rattle.lb_syntax.specs.SourceView.{view_source};
 ghost use Rattle.lb_static.specs.Parts.{among};
 ghost use Rattle.lb_static.specs.Names.{are_distinct};
 ghost use Rattle.lb_static.specs.Faults.{IsFault, names_in_source};
+ghost use Rattle.lb_static.specs.NamedConstants.{constant_place};
 
 use crate::error::StaticError;
 use crate::scope::Scope;
@@ -68,6 +70,29 @@ impl Globals {
         match self.names.place(name) {
             Some(place) => place < self.constants,
             None => false,
+        }
+    }
+
+    /// The place of the constant of a name.
+    pub fn constant_place(&self, name: &str) -> Option<usize>
+        ensures value { result ≡ constant_place self.now.names self.now.constants name.now }
+        ensures within { IfSome result (λ place. place < self.now.constants) }
+    {
+        let place = self.names.place(name)?;
+        if place < self.constants {
+            Some(place)
+        } else {
+            None
+        }
+    }
+
+    /// The place of the node or function of a name among those of the source.
+    pub fn node_place(&self, name: &str) -> Option<usize>
+        ensures { result ≡ position (bytes_eq name.now) (drop self.now.constants self.now.names) }
+    {
+        match self.names.place(name) {
+            Some(place) if place >= self.constants => Some(place - self.constants),
+            _ => None,
         }
     }
 }

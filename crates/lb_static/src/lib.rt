@@ -2,18 +2,42 @@
 #![tactic(auto)]
 
 pub mod arithmetic;
+mod constant_names;
 pub mod constants;
+mod cycle;
 pub mod elab;
 pub mod elaborate;
+mod element_names;
 pub mod error;
+mod found;
 mod globals;
+mod instance_values;
+mod interface;
+pub mod judge_calls;
+pub mod judge_names;
+pub mod judge_root;
+mod naming;
 mod node;
+pub mod reach;
+mod reaching;
 mod resolve;
+pub mod resolved;
+mod resolving_nodes;
+mod resolving_parts;
+mod resolving_steps;
+mod resolving_terms;
+mod resolving_variables;
 mod scope;
+mod shape;
 pub mod signature;
+mod specialize;
+mod standing;
 mod statements;
 pub mod static_value;
+pub mod table;
 pub mod term;
 mod variables;
+mod visits;
+pub mod walk;
 #[cfg(test)]
 mod worked;

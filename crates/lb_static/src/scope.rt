@@ -55,6 +55,7 @@ impl Scope {
     pub fn place(&self, name: &str) -> Option<usize>
         ensures value { result ≡ position (bytes_eq name.now) self.now }
         ensures within { IfSome result (λ i. i < length self.now) }
+        ensures once { are_distinct self.now ≡ true }
     {
         self.names.get_index_of(name)
     }

@@ -3,7 +3,7 @@
 //! A number token of a tree has 32 bits and no sign, so a value may be past the range of `int`: it
 //! is held in 64 bits. What an operator of arithmetic gives is an `int`, or a part of its operand.
 
-ghost use Rattle.std.specs.Prelude.{◌≡◌};
+ghost use Rattle.std.specs.Prelude.{◌≡◌, pos};
 ghost use Rattle.lb_syntax.specs.View.{view_static};
 ghost use Rattle.lb_static.specs.Arithmetic.{arithmetic, is_divisible, lawful};
 ghost use Rattle.lb_static.specs.StaticRange.{IsWithinWord};
@@ -35,6 +35,13 @@ impl Model for StaticInt {
 }
 
 impl StaticInt {
+    /// Zero.
+    pub fn zero() -> StaticInt
+        ensures { result ≡ pos 0 }
+    {
+        StaticInt { value: 0 }
+    }
+
     /// The number.
     pub fn get(self) -> i64
         ensures value { result ≡ self }

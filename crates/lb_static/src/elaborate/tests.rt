@@ -13,7 +13,11 @@ fn answer(alloc: Global, text: &[u8], observer: Option<&str>) -> &'static str {
         Ok(_) => "elaborated",
         Err(StaticError::Memory) => "memory",
         Err(StaticError::Name(_)) => "name",
+        Err(StaticError::Recursion(_)) => "recursion",
         Err(StaticError::Root) => "root",
+        Err(StaticError::Value(_)) => "value",
+        Err(StaticError::Range(_)) => "range",
+        Err(StaticError::Instances) => "instances",
         Err(StaticError::Large) => "large",
     }
 }
@@ -39,7 +43,7 @@ fn shown(alloc: Global, elab: &Elab) -> Result<String, AllocError> {
 
 #[test]
 fn names_and_shapes_of_programs(rt: HostRuntime) -> Result<(), Fail> {
-    let cases: [(&str, Option<&str>, &str); 13] = [
+    let cases: [(&str, Option<&str>, &str); 19] = [
         (
             "node main(x: int) returns (ok: bool); let ok = x > 0; tel",
             None,
@@ -88,7 +92,36 @@ fn names_and_shapes_of_programs(rt: HostRuntime) -> Result<(), Fail> {
         (
             "node main(x: int) returns (ok: bool); let ok = f(x); tel",
             None,
+            "name",
+        ),
+        (
+            "node main(x: int) returns (ok: bool); let ok = f(x); tel \
+             node f(x: int) returns (y: bool); let y = x > 0; tel",
+            None,
             "large",
+        ),
+        (
+            "node main(x: bool) returns (ok: bool); let ok = f(x); tel \
+             node f(x: bool) returns (y: bool); let y = main(x); tel",
+            None,
+            "recursion",
+        ),
+        (
+            "const n = 1 div 0; node main(x: int) returns (ok: bool); let ok = x > n; tel",
+            None,
+            "value",
+        ),
+        (
+            "node main(x: int^0) returns (ok: bool); let ok = true; tel",
+            None,
+            "range",
+        ),
+        (
+            "node main(x: bool^4096) returns (ok: bool); var y: bool^4096; \
+             let y = map<<f; 4096>>(x); ok = y[0]; tel \
+             node f(x: bool) returns (y: bool); let y = x; tel",
+            None,
+            "instances",
         ),
         (
             "const n = 3; node main() returns (ok: bool); let ok = n > 0; tel",
@@ -98,6 +131,12 @@ fn names_and_shapes_of_programs(rt: HostRuntime) -> Result<(), Fail> {
         (
             "node main() returns (ok: bool); let ok = true; tel",
             Some("main"),
+            "root",
+        ),
+        (
+            "node main() returns (ok: bool); let ok = true; tel \
+             node o(ok: bool) returns (fine: bool); let fine = ok; tel",
+            Some("o"),
             "large",
         ),
         (

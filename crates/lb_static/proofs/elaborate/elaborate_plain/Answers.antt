@@ -7,7 +7,7 @@ use Rattle.lb_static.specs.Faults.{constants_in, names_in_source}
 use Rattle.lb_static.specs.Names.{are_distinct}
 use Rattle.lb_static.proofs.Elaborations.{elaborates}
 use Rattle.lb_static.proofs.Whole.{take_front}
-use Rattle.lb_static.proofs.elaborate.elaborate.Goals as goal
+use Rattle.lb_static.proofs.elaborate.elaborate_plain.Goals as goal
 
 pub returns-in-None : goal.returns-in-None
 returns-in-None c =

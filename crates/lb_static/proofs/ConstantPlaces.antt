@@ -1,0 +1,190 @@
+-- The places of the constants that names stand for.
+use Rattle.std.proofs.Common.{◌≡◌, ℕ, ◌+◌, ◌<◌, ◌≤◌, Bool, true, false, List, [], ◌∷◌, ◌++◌, length, drop, get_or, Option, Some, None, is_some, refl, ap, sym, subst, ◌∙◌, arith}
+use Rattle.std.specs.Prelude.{◌||◌, IfErr, OnOk, Result, Ok, Err, flat_map, nat_lt, position, slice_get, if◌then◌else◌}
+use Rattle.std.specs.List.{list_any}
+use Rattle.std.specs.Str.{bytes_eq}
+use Rattle.std.proofs.lemmas.Bool.Decides.{nat_tests}
+use Rattle.std.proofs.Math.ListN.{drop_of_length-le}
+use Rattle.std.proofs.lemmas.List.{drop_more}
+use Rattle.std.proofs.lemmas.Slice.Eq.{bytes_eq-Decides}
+use Rattle.lb_syntax.specs.Lists.{◌>>=◌, listed, where_true}
+use Rattle.lb_syntax.specs.Tree.{Name}
+use Rattle.lb_static.specs.Faults.{IsFault}
+use Rattle.lb_static.specs.NameFaults.{IsNameFault}
+use Rattle.lb_static.specs.declared.error.StaticError.{StaticError}
+use Rattle.lb_static.specs.declared.error.StaticError.TheVariants as error
+use Rattle.lb_static.specs.NamedConstants.{constant_place, part_constants, place_named, places_named}
+use Rattle.lb_static.specs.Names.{are_distinct}
+use Rattle.lb_static.specs.Parts.{among, static_names}
+use Rattle.lb_static.specs.ResolvedTerms.{static_of}
+use Rattle.lb_static.specs.declared.resolved.StaticPart.{StaticPart}
+use Rattle.lb_static.specs.Scopes.{declared_after}
+use Rattle.lb_static.specs.Visiting.{visited_after, visited_after_all}
+use Rattle.lb_static.specs.declared.globals.Globals.{Globals}
+use Rattle.lb_static.proofs.Lists.{append_assoc, none_passes, some_passes}
+use Rattle.lb_static.proofs.ReachedPlaces.{distinct_places}
+use Rattle.lb_static.proofs.Scopes.{among_append, name_at_place}
+use Rattle.lb_static.proofs.Visiting.{at_any, visit_append}
+
+-- ## Visits of names
+
+pub is_found : {A : Type 0} (p : A → Bool) (xs : List A) (o : Option ℕ) → o ≡ position p xs → is_some o ≡ list_any p xs
+is_found p xs None e = sym (none_passes p xs (sym e))
+is_found p xs (Some i) e = sym (some_passes p xs i (sym e))
+
+pub visit_hidden : (order : List ℕ) (g : Globals) (hidden : List Name) (x : Name) → among x hidden ≡ true
+    → order ≡ visited_after_all order (place_named g hidden x)
+unfolding visited_after_all
+visit_hidden order g hidden x e =
+    ap (λ b. visited_after_all order (if b then [] else listed (λ p. p ∷ []) (constant_place g.names g.constants x))) (sym e)
+
+pub visit_known : (order : List ℕ) (g : Globals) (hidden : List Name) (x : Name) (p : ℕ) → among x hidden ≡ false → constant_place g.names g.constants x ≡ Some p
+    → visited_after order p ≡ visited_after_all order (place_named g hidden x)
+unfolding visited_after_all
+visit_known order g hidden x p e at =
+    ap (λ o. visited_after_all order (listed (λ q. q ∷ []) o)) (sym at)
+    ∙ ap (λ b. visited_after_all order (if b then [] else listed (λ q. q ∷ []) (constant_place g.names g.constants x))) (sym e)
+
+pub visit_unknown : (order : List ℕ) (g : Globals) (hidden : List Name) (x : Name) → among x hidden ≡ false → constant_place g.names g.constants x ≡ None
+    → order ≡ visited_after_all order (place_named g hidden x)
+unfolding visited_after_all
+visit_unknown order g hidden x e at =
+    ap (λ o. visited_after_all order (listed (λ q. q ∷ []) o)) (sym at)
+    ∙ ap (λ b. visited_after_all order (if b then [] else listed (λ q. q ∷ []) (constant_place g.names g.constants x))) (sym e)
+
+pub flat_append : {A B : Type 0} (f : A → List B) (xs ys : List A) → flat_map f (xs ++ ys) ≡ flat_map f xs ++ flat_map f ys
+flat_append f [] ys = refl
+flat_append f (x ∷ xs) ys = ap (λ l. f x ++ l) (flat_append f xs ys) ∙ sym (append_assoc (f x) (flat_map f xs) (flat_map f ys))
+
+append_none : {A : Type 0} (xs : List A) → xs ++ [] ≡ xs
+append_none [] = refl
+append_none (x ∷ xs) = ap (λ l. x ∷ l) (append_none xs)
+
+pub visit_no_names : (order : List ℕ) (g : Globals) (hidden : List Name) → order ≡ visited_after_all order (places_named g hidden [])
+unfolding visited_after_all
+visit_no_names order g hidden = refl
+
+pub visit_one_name : (order : List ℕ) (g : Globals) (hidden : List Name) (x : Name) → visited_after_all order (place_named g hidden x) ≡ visited_after_all order (places_named g hidden (x ∷ []))
+visit_one_name order g hidden x = ap (visited_after_all order) (sym (append_none (place_named g hidden x)))
+
+pub visit_both_names : (order middle after : List ℕ) (g : Globals) (hidden xs ys : List Name) → middle ≡ visited_after_all order (places_named g hidden xs)
+    → after ≡ visited_after_all middle (places_named g hidden ys) → after ≡ visited_after_all order (places_named g hidden (xs ++ ys))
+visit_both_names order middle after g hidden xs ys e f =
+    f ∙ ap (λ o. visited_after_all o (places_named g hidden ys)) e
+    ∙ sym (visit_append order (places_named g hidden xs) (places_named g hidden ys))
+    ∙ ap (visited_after_all order) (sym (flat_append (place_named g hidden) xs ys))
+
+-- ## Visits of the items of a list
+
+pub visit_item : {A : Type 0} (f : A → List ℕ) (order after all : List ℕ) (xs : List A) (i : ℕ) (d : A) → i < length xs → after ≡ visited_after_all order (f (get_or xs i d))
+    → visited_after_all order (flat_map f (drop i xs)) ≡ all → visited_after_all after (flat_map f (drop (i + 1) xs)) ≡ all
+visit_item f order after all xs i d below e inv =
+    ap (λ o. visited_after_all o (flat_map f (drop (i + 1) xs))) e
+    ∙ sym (visit_append order (f (get_or xs i d)) (flat_map f (drop (i + 1) xs)))
+    ∙ ap (λ l. visited_after_all order (flat_map f l)) (sym (drop_more xs i d below)) ∙ inv
+
+pub visit_end : {A : Type 0} (f : A → List ℕ) (order all : List ℕ) (xs : List A) (i : ℕ) → length xs ≤ i → visited_after_all order (flat_map f (drop i xs)) ≡ all → order ≡ all
+unfolding visited_after_all
+visit_end f order all xs i past inv = ap (λ l. visited_after_all order (flat_map f l)) (sym (drop_of_length-le xs past)) ∙ inv
+
+-- ## Parameters
+
+or_false : (b : Bool) → (b || false) ≡ b
+or_false true = refl
+or_false false = refl
+
+or_assoc : (a b c : Bool) → ((a || b) || c) ≡ (a || (b || c))
+or_assoc true b c = refl
+or_assoc false b c = refl
+
+among_after : (x y : Name) (names : List Name) → among x (declared_after names y) ≡ (among x names || bytes_eq x y)
+among_after x y names = by (among y names) refl
+  where
+    seen : among y names ≡ true → bytes_eq x y ≡ true → among x names ≡ true
+    seen e same = ap (λ z. among z names) ((bytes_eq-Decides x y).0 same) ∙ e
+
+    absorbed : (a b : Bool) → (b ≡ true → a ≡ true) → a ≡ (a || b)
+    absorbed true b f = refl
+    absorbed false true f = let t = f refl in absurd cc
+    absorbed false false f = refl
+
+    by : (b : Bool) → among y names ≡ b → among x (if b then names else names ++ y ∷ []) ≡ (among x names || bytes_eq x y)
+    by true e = absorbed (among x names) (bytes_eq x y) (seen e)
+    by false e = among_append x names (y ∷ []) ∙ ap (λ b. among x names || b) (or_false (bytes_eq x y))
+
+pub parameter_more : (x : Name) (names after all : List Name) (ys : List Name) (i : ℕ) (d : Name) → i < length ys → after ≡ declared_after names (get_or ys i d)
+    → (among x names || among x (drop i ys)) ≡ among x all → (among x after || among x (drop (i + 1) ys)) ≡ among x all
+parameter_more x names after all ys i d below e inv =
+    ap (λ l. among x l || among x (drop (i + 1) ys)) e
+    ∙ ap (λ b. b || among x (drop (i + 1) ys)) (among_after x (get_or ys i d) names)
+    ∙ or_assoc (among x names) (bytes_eq x (get_or ys i d)) (among x (drop (i + 1) ys))
+    ∙ ap (λ l. among x names || among x l) (sym (drop_more ys i d below)) ∙ inv
+
+pub parameters_end : (x : Name) (names all : List Name) (ys : List Name) (i : ℕ) → length ys ≤ i → (among x names || among x (drop i ys)) ≡ among x all → among x names ≡ among x all
+parameters_end x names all ys i past inv =
+    sym (or_false (among x names)) ∙ ap (λ l. among x names || among x l) (sym (drop_of_length-le ys past)) ∙ inv
+
+-- what is hidden decides alone
+pub hidden_alike : (g : Globals) (xs ys : List Name) → ((x : Name) → among x xs ≡ among x ys) → (names : List Name) → places_named g xs names ≡ places_named g ys names
+hidden_alike g xs ys same [] = refl
+hidden_alike g xs ys same (x ∷ names) =
+    ap (λ b. (if b then [] else listed (λ p. p ∷ []) (constant_place g.names g.constants x)) ++ places_named g xs names) (same x)
+    ∙ ap (λ l. place_named g ys x ++ l) (hidden_alike g xs ys same names)
+
+pub ok_more : {A E : Type 0} (r : Result A E) (C D : Type 0) → OnOk r C → (C → D) → OnOk r D
+ok_more (Ok x) C D h f = f h
+ok_more (Err e) C D h f = tt
+
+pub parts_alike : (g : Globals) (xs ys : List Name) → ((x : Name) → among x xs ≡ among x ys) → (parts : List StaticPart) → flat_map (part_constants g xs) parts ≡ flat_map (part_constants g ys) parts
+parts_alike g xs ys same [] = refl
+parts_alike g xs ys same (p ∷ parts) =
+    ap (λ l. l ++ flat_map (part_constants g xs) parts) (hidden_alike g xs ys same (static_names (static_of p.text)))
+    ∙ ap (λ l. part_constants g ys p ++ l) (parts_alike g xs ys same parts)
+
+-- ## The constant at a place
+
+pub record Constant_at (names : List Name) (count : ℕ) (x : Name) (place : ℕ) : Type 0 where
+  pub below : place < count
+  pub at : slice_get names place ≡ Some x
+
+pub constant_found : (names : List Name) (count : ℕ) (x : Name) (place : ℕ) → constant_place names count x ≡ Some place → Constant_at names count x place
+constant_found names count x place e = by (position (bytes_eq x) names) refl e
+  where
+    test : (i : ℕ) (b : Bool) → nat_lt i count ≡ b → position (bytes_eq x) names ≡ Some i → where_true b i ≡ Some place → Constant_at names count x place
+    test i true lt at h =
+        let same : i ≡ place = cc in
+        let below : i < count = grind (arith, nat_tests) in
+        record { below = subst (λ j. j < count) same below; at = ap (slice_get names) (sym same) ∙ name_at_place x names i at }
+    test i false lt at h = absurd cc
+
+    by : (o : Option ℕ) → position (bytes_eq x) names ≡ o → (o >>= λ i. where_true (nat_lt i count) i) ≡ Some place → Constant_at names count x place
+    by None at h = absurd cc
+    by (Some i) at h = test i (nat_lt i count) refl at h
+
+pub constant_known : (names : List Name) (count : ℕ) (x : Name) (place : ℕ) → are_distinct names ≡ true → place < count → slice_get names place ≡ Some x → constant_place names count x ≡ Some place
+constant_known names count x place d below at = by (position (bytes_eq x) names) refl
+  where
+    by : (o : Option ℕ) → position (bytes_eq x) names ≡ o → constant_place names count x ≡ Some place
+    by None e =
+        let none = none_passes (bytes_eq x) names e in
+        let some = at_any (bytes_eq x) names place x at ((bytes_eq-Decides x x).1 refl) in
+        absurd cc
+    by (Some i) e =
+        let same = distinct_places names i place x d (name_at_place x names i e) at in
+        let lt : nat_lt place count ≡ true = grind (arith, nat_tests) in
+        ap (λ o. o >>= λ j. where_true (nat_lt j count) j) e ∙ ap (λ j. where_true (nat_lt j count) j) same ∙ ap (λ b. where_true b place) lt
+
+-- a name that is refused
+pub name_fault : (e : StaticError) → IsFault e false true → IsNameFault e false
+name_fault error.Memory h = tt
+name_fault (error.Name x) h = refl
+name_fault (error.Recursion x) h = h
+name_fault error.Root h = h
+name_fault (error.Value x) h = h
+name_fault (error.Range x) h = h
+name_fault error.Instances h = h
+name_fault error.Large h = absurd cc
+
+pub err_more : {A E : Type 0} (r : Result A E) (C D : E → Type 0) → IfErr r C → ((e : E) → C e → D e) → IfErr r D
+err_more (Ok x) C D h f = tt
+err_more (Err e) C D h f = f e h

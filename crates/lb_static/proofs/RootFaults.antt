@@ -1,0 +1,36 @@
+-- Why the node under test or the observer is refused.
+use Rattle.std.proofs.Common.{◌≡◌, Option, Some, None, Result, Ok, Err, false, option_map, refl, ap, sym, ◌∙◌, subst}
+use Rattle.std.specs.Prelude.{ok_or}
+use Rattle.lb_syntax.specs.Lists.{holds}
+use Rattle.lb_static.specs.Instances.{Program, Root, instance_at}
+use Rattle.lb_static.specs.Interfaces.{IsRootFault}
+use Rattle.lb_static.specs.RootAnswers.{IsRootAnswer}
+use Rattle.lb_static.specs.Walk.{is_root}
+use Rattle.lb_static.specs.declared.error.StaticError.{StaticError}
+use Rattle.lb_static.specs.declared.error.StaticError.TheVariants as error
+
+-- the refusal of a thing that is not there
+pub missing : {A P : Type 0} (o : Option A) (e : StaticError) (r : Result A StaticError) → r ≡ ok_or o error.Root → r ≡ Err e → (o ≡ None → P) → IsRootFault P e
+missing {A = A} {P = P} None e r is err reason =
+    let same : error.Root ≡ e = cc in subst (λ f. IsRootFault P f) same (reason refl)
+missing (Some x) e r is err reason = absurd cc
+
+-- a thing that is there
+pub there : {A E : Type 0} (o : Option A) (x : A) (e : E) → Ok x ≡ ok_or o e → o ≡ Some x
+there None x e is = absurd cc
+there (Some y) x e is = cc
+
+-- a thing that is there, seen as another
+pub seen_there : {A B E : Type 0} (f : A → B) (o : Option A) (a : A) (e : E) (seen : Option B) → option_map f o ≡ seen → Ok a ≡ ok_or o e → seen ≡ Some (f a)
+seen_there f o a e seen is found = sym is ∙ ap (option_map f) (there o a e found)
+
+-- a refusal of the shape
+pub root_fault : {Reason : Type 0} (P : Program) (e : StaticError) → IsRootFault Reason e → (Reason → holds (is_root P) (instance_at P Root) ≡ false) → IsRootAnswer P (Err e)
+root_fault P error.Memory h f = tt
+root_fault P error.Root h f = f h
+root_fault P (error.Name x) h f = h
+root_fault P (error.Recursion x) h f = h
+root_fault P (error.Value x) h f = h
+root_fault P (error.Range x) h f = h
+root_fault P error.Instances h f = h
+root_fault P error.Large h f = h

@@ -1,0 +1,149 @@
+-- Which refusal of a program the faults of its parts are.
+use Rattle.std.proofs.Common.{◌≡◌, Bool, true, false, Option, Some, None, Result, Ok, Err, refl}
+use Rattle.lb_syntax.specs.Lists.{or_else, holds}
+use Rattle.lb_syntax.specs.Refusals.{Refusal, E4, E5, E6, E7, E8, E12, unless}
+use Rattle.lb_static.specs.declared.elab.Elab.{Elab}
+use Rattle.lb_static.specs.declared.error.StaticError.{StaticError}
+use Rattle.lb_static.specs.declared.error.StaticError.TheVariants.{Memory, Name as Name_fault, Recursion, Root as Root_fault, Value, Range, Instances, Large}
+use Rattle.lb_static.specs.CallGraphs.{IsCallsAnswer}
+use Rattle.lb_static.specs.Elaborates.{IsStaticFault, Elaborates, ElaboratesPlain}
+use Rattle.lb_static.specs.Instances.{Program, Root, instance_at, instances}
+use Rattle.lb_static.specs.NameFaults.{IsNameFault}
+use Rattle.lb_static.specs.Names.{is_well_founded, keeps_names}
+use Rattle.lb_static.specs.RootAnswers.{IsRootAnswer}
+use Rattle.lb_static.specs.Walk.{has_no_parameters, is_root, static_refusal, walk_refusal}
+use Rattle.lb_static.specs.Walked.{IsRefusal}
+
+-- ## The first of five
+
+abbrev first_of_five : (a b c d : Bool) (o : Option Refusal) → Option Refusal
+first_of_five a b c d o =
+    or_else (unless a E4) (or_else (unless b E7) (or_else (unless c E8) (or_else o (unless d E8))))
+
+at_calls : (a b c d : Bool) (o : Option Refusal) → a ≡ true → b ≡ false → first_of_five a b c d o ≡ Some E7
+at_calls true false c d o e f = refl
+at_calls true true c d o e f = absurd cc
+at_calls false b c d o e f = absurd cc
+
+at_parameters : (a b c d : Bool) (o : Option Refusal) → a ≡ true → b ≡ true → c ≡ false → first_of_five a b c d o ≡ Some E8
+at_parameters true true false d o e f g = refl
+at_parameters true true true d o e f g = absurd cc
+at_parameters true false c d o e f g = absurd cc
+at_parameters false b c d o e f g = absurd cc
+
+at_walk : (a b c d : Bool) (o : Option Refusal) (r : Refusal) → a ≡ true → b ≡ true → c ≡ true → o ≡ Some r → first_of_five a b c d o ≡ Some r
+at_walk true true true d (Some s) r e f g h = h
+at_walk true true true d None r e f g h = absurd cc
+at_walk true true false d o r e f g h = absurd cc
+at_walk true false c d o r e f g h = absurd cc
+at_walk false b c d o r e f g h = absurd cc
+
+at_root : (a b c d : Bool) (o : Option Refusal) → a ≡ true → b ≡ true → c ≡ true → o ≡ None → d ≡ false → first_of_five a b c d o ≡ Some E8
+at_root true true true false None e f g h k = refl
+at_root true true true true None e f g h k = absurd cc
+at_root true true true d (Some s) e f g h k = absurd cc
+at_root true true false d o e f g h k = absurd cc
+at_root true false c d o e f g h k = absurd cc
+at_root false b c d o e f g h k = absurd cc
+
+at_none : (a b c d : Bool) (o : Option Refusal) → a ≡ true → b ≡ true → c ≡ true → o ≡ None → d ≡ true → first_of_five a b c d o ≡ None
+at_none true true true true None e f g h k = refl
+at_none true true true false None e f g h k = absurd cc
+at_none true true true d (Some s) e f g h k = absurd cc
+at_none true true false d o e f g h k = absurd cc
+at_none true false c d o e f g h k = absurd cc
+at_none false b c d o e f g h k = absurd cc
+
+at_names : (a b c d : Bool) (o : Option Refusal) → a ≡ false → first_of_five a b c d o ≡ Some E4
+at_names false b c d o e = refl
+at_names true b c d o e = absurd cc
+
+-- whether the node under test has its shape
+abbrev has_shape : Program → Bool
+has_shape P = holds (is_root P) (instance_at P Root)
+
+-- ## Faults of the parts
+
+pub names_fault : (P : Program) (e : StaticError) → IsNameFault e (keeps_names P) → IsStaticFault P e
+names_fault P Memory h = h
+names_fault P (Name_fault x) h =
+    at_names (keeps_names P) (is_well_founded P) (has_no_parameters P) (has_shape P) (walk_refusal P 0 (instances P)) h
+names_fault P (Recursion x) h = absurd h
+names_fault P Root_fault h = absurd h
+names_fault P (Value x) h = absurd h
+names_fault P (Range x) h = absurd h
+names_fault P Instances h = absurd h
+names_fault P Large h = absurd h
+
+pub calls_fault : (P : Program) (e : StaticError) → keeps_names P ≡ true → IsCallsAnswer P (Err e) → IsStaticFault P e
+calls_fault P Memory names h = h
+calls_fault P (Name_fault x) names h = absurd h
+calls_fault P (Recursion x) names h =
+    at_calls (keeps_names P) (is_well_founded P) (has_no_parameters P) (has_shape P) (walk_refusal P 0 (instances P)) names h
+calls_fault P Root_fault names h = absurd h
+calls_fault P (Value x) names h = absurd h
+calls_fault P (Range x) names h = absurd h
+calls_fault P Instances names h = absurd h
+calls_fault P Large names h = absurd h
+
+pub parameters_fault : (P : Program) → keeps_names P ≡ true → is_well_founded P ≡ true → has_no_parameters P ≡ false → static_refusal P ≡ Some E8
+parameters_fault P names calls h =
+    at_parameters (keeps_names P) (is_well_founded P) (has_no_parameters P) (has_shape P) (walk_refusal P 0 (instances P)) names calls h
+
+pub walk_fault : (P : Program) (e : StaticError) → keeps_names P ≡ true → is_well_founded P ≡ true → has_no_parameters P ≡ true
+    → IsRefusal (walk_refusal P 0 (instances P)) e → IsStaticFault P e
+walk_fault P e names calls parameters h = by e h
+  where
+    first : (r : Refusal) → walk_refusal P 0 (instances P) ≡ Some r → static_refusal P ≡ Some r
+    first r =
+        at_walk (keeps_names P) (is_well_founded P) (has_no_parameters P) (has_shape P) (walk_refusal P 0 (instances P)) r names calls parameters
+
+    by : (e : StaticError) → IsRefusal (walk_refusal P 0 (instances P)) e → IsStaticFault P e
+    by Memory h = tt
+    by (Name_fault x) h = absurd h
+    by (Recursion x) h = absurd h
+    by Root_fault h = absurd h
+    by (Value x) h = first E5 h
+    by (Range x) h = first E6 h
+    by Instances h = first E12 h
+    by Large h = absurd h
+
+pub root_fault : (P : Program) (e : StaticError) → keeps_names P ≡ true → is_well_founded P ≡ true → has_no_parameters P ≡ true
+    → walk_refusal P 0 (instances P) ≡ None → IsRootAnswer P (Err e) → IsStaticFault P e
+root_fault P Memory names calls parameters walked h = h
+root_fault P (Name_fault x) names calls parameters walked h = absurd h
+root_fault P (Recursion x) names calls parameters walked h = absurd h
+root_fault P Root_fault names calls parameters walked h =
+    at_root (keeps_names P) (is_well_founded P) (has_no_parameters P) (has_shape P) (walk_refusal P 0 (instances P)) names calls parameters walked h
+root_fault P (Value x) names calls parameters walked h = absurd h
+root_fault P (Range x) names calls parameters walked h = absurd h
+root_fault P Instances names calls parameters walked h = absurd h
+root_fault P Large names calls parameters walked h = absurd h
+
+pub no_fault : (P : Program) → keeps_names P ≡ true → is_well_founded P ≡ true → has_no_parameters P ≡ true
+    → walk_refusal P 0 (instances P) ≡ None → holds (is_root P) (instance_at P Root) ≡ true → static_refusal P ≡ None
+no_fault P names calls parameters walked h =
+    at_none (keeps_names P) (is_well_founded P) (has_no_parameters P) (has_shape P) (walk_refusal P 0 (instances P)) names calls parameters walked h
+
+-- ## The whole
+
+pub after_judging : (P : Program) (r : Result Elab StaticError) → static_refusal P ≡ None → ElaboratesPlain P r → Elaborates P r
+after_judging P (Ok e) judged h = h
+after_judging P (Err Memory) judged h = h
+after_judging P (Err (Name_fault x)) judged h = h
+after_judging P (Err (Recursion x)) judged h = h
+after_judging P (Err Root_fault) judged h = h
+after_judging P (Err (Value x)) judged h = h
+after_judging P (Err (Range x)) judged h = h
+after_judging P (Err Instances) judged h = h
+after_judging P (Err Large) judged h = (judged, h)
+
+pub broken : (P : Program) (e : StaticError) → IsStaticFault P e → Elaborates P (Err e)
+broken P Memory h = h
+broken P (Name_fault x) h = h
+broken P (Recursion x) h = h
+broken P Root_fault h = h
+broken P (Value x) h = h
+broken P (Range x) h = h
+broken P Instances h = h
+broken P Large h = absurd h

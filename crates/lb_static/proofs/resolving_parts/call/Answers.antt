@@ -1,0 +1,23 @@
+-- A call with its callee and its static arguments.
+use Rattle.std.proofs.Common.{length, sym, subst}
+use Rattle.std.proofs.lemmas.List.{length-map}
+use Rattle.lb_syntax.specs.View.{view_static, view_statics}
+use Rattle.lb_static.specs.NodeNames.{program_in, IsCallee}
+use Rattle.lb_static.specs.NodeProgress.{program_of}
+use Rattle.lb_static.specs.Progressed.{progress}
+use Rattle.lb_static.proofs.Resolutions.{call_resolved}
+use Rattle.lb_static.proofs.resolving_parts.call.Goals as goal
+
+pub returns : goal.returns
+returns c =
+    let before = progress c.args.here.now in
+    let mid = progress c.all_statics.new.here in
+    let args = view_statics c.args.arguments.now in
+    let f = c.args.name.now in
+    let callee = c.in_ok-callee.callee in
+    let long = sym (length-map c.args.arguments.now view_static) in
+    let called : IsCallee (program_of before) f (length args) callee =
+    subst (λ P. IsCallee P f (length args) callee) c.naming.ensures.source (subst (λ k. IsCallee (program_in c.naming.result.now) f k callee) long c.in_ok-callee.ensures.ok) in
+    let found = c.in_ok-first_argument.ensures in
+    call_resolved before (progress c.push_call.new.self) f args (c.in_ok-first_argument.first_argument, c.in_ok-first_argument.arguments) c.args.count callee called c.requires
+    mid c.push_call.result found.0 found.1 found.2 c.push_call.ensures.after c.push_call.ensures.id c.push_call.ensures.err

@@ -1,0 +1,19 @@
+-- A name that is no variable stands for a static expression.
+use Rattle.std.proofs.Common.{◌≡◌, false, true, ap, sym, ◌∙◌}
+use Rattle.std.specs.Prelude.{is_some}
+use Rattle.lb_static.specs.Names.{is_static_name, is_variable}
+use Rattle.lb_static.specs.NodeProgress.{is_variable_of, program_of}
+use Rattle.lb_static.specs.Progressed.{progress}
+use Rattle.lb_static.proofs.Growth.{same_two}
+use Rattle.lb_static.proofs.Resolutions.{named_done}
+use Rattle.lb_static.proofs.resolving_parts.named.Goals as goal
+
+pub returns : goal.returns
+returns c =
+    let s = progress c.args.here.now in
+    let x = c.args.name.now in
+    let other : is_variable_of s x ≡ false =
+    same_two (λ P n. is_variable P n x) _ _ _ _ (sym c.naming.ensures.source) (sym c.naming.ensures.node) ∙ sym c.place.ensures.is ∙ ap is_some c.in_default.is in
+    let known : is_static_name (program_of s) s.node x ≡ true =
+    same_two (λ P n. is_static_name P n x) _ _ _ _ (sym c.naming-2.ensures.source) (sym c.naming-2.ensures.node) ∙ sym c.is_static.ensures ∙ c.if-not-is_static.false in
+    named_done s (progress c.push_static.new.self) x c.in_ok-push_static.field-0 other known c.in_ok-push_static.ensures.after c.in_ok-push_static.ensures.id

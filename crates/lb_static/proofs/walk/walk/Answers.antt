@@ -1,0 +1,114 @@
+-- The instances below the node under test are entered first, then those below the observer.
+use Rattle.std.proofs.Common.{◌≡◌, ◌<◌, ◌≤◌, List, [], length, Some, None, refl, ap, sym, subst, ◌∙◌, arith}
+use Rattle.std.proofs.lemmas.Result.{err_from_is_err_and}
+use Rattle.std.proofs.lemmas.Option.{slice_get_past, slice_get-map}
+use Rattle.std.specs.Prelude.{slice_get, option_map}
+use Rattle.lb_syntax.specs.Lists.{◌>>=◌}
+use Rattle.lb_static.specs.Instances.{Program, Root, Observer, instances_from}
+use Rattle.lb_static.specs.InstanceTable.{instance_of}
+use Rattle.lb_static.specs.ReachedNodes.{tree_at}
+use Rattle.lb_static.specs.ResolvedNodes.{node_of}
+use Rattle.lb_static.specs.Walk.{walk_refusal}
+use Rattle.lb_static.specs.Walked.{IsWalkable, IsRefusal, AreEntered, AreJudged, IsKnown}
+use Rattle.lb_static.specs.declared.resolved.ResolvedNode.{ResolvedNode}
+use Rattle.lb_static.specs.declared.table.Specialization.{Specialization}
+use Rattle.lb_static.specs.declared.table.Table.{Table}
+use Rattle.lb_static.proofs.WalkSteps.{known_later}
+use Rattle.lb_static.proofs.WholeWalk.{walkable, none_judged, root_is, observer_is, no_observer, refused_first, refused_second, walked_alone, walked_both, there_is, has_starts, observer_stands, none_stands}
+use Rattle.lb_static.proofs.walk.walk.Goals as goal
+use Rattle.lb_static.proofs.walk.walk.Goals.{in-Some+in_ok-id-in-Some, in_default-2, in_default, In_ok-root}
+
+pub returns-in_err-root : goal.returns-in_err-root
+returns-in_err-root c =
+    let p = err_from_is_err_and c.from_residual.result c.from_residual.ensures.1 in
+    rw (p.1, p.2) (λ P names reached values.
+    let r = c.args.reached.now in
+    let found = there_is r.nodes.items r.root.0 reached.root_within in
+    let n = found.0 in
+    let e = c.in_err-root.field-0.0 in
+    let none = c.deref.ensures.value ∙ c.new-none.ensures.items in
+    let zero = ap length c.new-2.ensures.items in
+    let refused = c.in_err-root.ensures.err P Root n (walkable P r c.args.constants.now names reached values) found.1 refl (none_judged P r c.new.result.items c.new.ensures.items) in
+    refused_first P (instance_of Root (node_of n) []) (root_is P r reached n found.1) e
+    (subst (λ k. IsRefusal (walk_refusal P k (instances_from P 65 (instance_of Root (node_of n) []))) e) zero
+    (subst (λ vs. IsRefusal (walk_refusal P (length c.new-2.result.items) (instances_from P 65 (instance_of Root (node_of n) vs))) e) none refused)))
+
+-- the instances below the node under test are entered
+root_entered : (c : In_ok-root) (P : Program) (w : IsWalkable P c.args.reached.now c.args.constants.now) (n : ResolvedNode)
+    → slice_get c.args.reached.now.nodes.items c.args.reached.now.root.0 ≡ Some n
+    → AreJudged P c.args.reached.now c.enter.new.entered.specializations.items
+    × AreEntered P 0 (instances_from P 65 (instance_of Root (node_of n) [])) (length c.enter.new.entered.instances.items)
+root_entered c P w n at =
+    let r = c.args.reached.now in
+    let none = c.deref.ensures.value ∙ c.new-none.ensures.items in
+    let zero = ap length c.new-2.ensures.items in
+    let entered = c.in_ok-root.ensures.ok P Root n w at refl (none_judged P r c.new.result.items c.new.ensures.items) in (
+      entered.0,
+      subst (λ k. AreEntered P k (instances_from P 65 (instance_of Root (node_of n) [])) (length c.enter.new.entered.instances.items)) zero
+          (subst (λ vs. AreEntered P (length c.new-2.result.items) (instances_from P 65 (instance_of Root (node_of n) vs)) (length c.enter.new.entered.instances.items)) none entered.1),
+    )
+
+pub returns-in_err-id-in-Some : goal.returns-in_err-id-in-Some
+returns-in_err-id-in-Some c =
+    let p = err_from_is_err_and c.from_residual-in_err-id-in-Some.result c.from_residual-in_err-id-in-Some.ensures.1 in
+    rw (p.1, p.2) (λ P names reached values.
+    let r = c.args.reached.now in
+    let w = walkable P r c.args.constants.now names reached values in
+    let found = there_is r.nodes.items r.root.0 reached.root_within in
+    let n = found.0 in
+    let e = c.in_err-id-in-Some.field-0.0 in
+    let before = root_entered ((goal.at.returns-in_err-id-in-Some c).In_ok-root) P w n found.1 in
+    let within : c.in-Some.node.0 < length r.nodes.items = omega (arith, c.len.ensures, c.if-node-len.true) in
+    let seen = there_is r.nodes.items c.in-Some.node.0 within in
+    let m = seen.0 in
+    let none = c.deref-in-Some.ensures.value ∙ c.new-none.ensures.items in
+    let refused = c.in_err-id-in-Some.ensures.err P Observer m w seen.1 refl before.0 in
+    refused_second P (instance_of Root (node_of n) []) (root_is P r reached n found.1) (instance_of Observer (node_of m) [])
+    (observer_is P r reached c.in-Some.node m c.in-Some.is seen.1) (length c.enter.new.entered.instances.items) e before.1
+    (subst (λ vs. IsRefusal (walk_refusal P (length c.enter.new.entered.instances.items) (instances_from P 65 (instance_of Observer (node_of m) vs))) e) none refused))
+
+pub returns : goal.returns
+returns c = λ P names reached values.
+    let r = c.args.reached.now in
+    let w = walkable P r c.args.constants.now names reached values in
+    let found = there_is r.nodes.items r.root.0 reached.root_within in
+    let n = found.0 in
+    let before = root_entered ((goal.at.returns c).In_ok-root) P w n found.1 in
+    let root = instance_of Root (node_of n) [] in
+    let at_root = root_is P r reached n found.1 in
+    let alone = λ (h : (r.observer >>= tree_at r) ≡ None). walked_alone P root at_root (length c.enter.new.entered.instances.items) before.1 (no_observer P r reached h) in
+    let none = c.deref.ensures.value ∙ c.new-none.ensures.items in
+    let known : IsKnown c.enter.new.entered.specializations.items r.root [] c.in_ok-root.root =
+    subst (λ vs. IsKnown c.enter.new.entered.specializations.items r.root vs c.in_ok-root.root) none c.in_ok-root.ensures.known in
+    let after = c.match-reached.entered in
+    let table : Table = record {
+      specializations = after.specializations;
+      instances = after.instances;
+      root = c.in_ok-root.root;
+      observer = c.match-reached.observer;
+    } in
+    let first = c.enter.new.entered.specializations.items in
+    let starts = λ (l : List Specialization) (e : after.specializations.items ≡ l) (judged : AreJudged P r l) (k : IsKnown l r.root [] table.root).
+    has_starts P r reached table n found.1 (subst (AreJudged P r) (sym e) judged) (subst (λ m. IsKnown m r.root [] table.root) (sym e) k) in
+    elim c.match-reached.branch [
+      | in-Some+in_ok-id-in-Some b ↦
+          let within : b.in-Some.node.0 < length r.nodes.items = omega (arith, b.len.ensures, b.if-node-len.true) in
+          let seen = there_is r.nodes.items b.in-Some.node.0 within in
+          let m = seen.0 in
+          let none = b.deref-in-Some.ensures.value ∙ c.new-none.ensures.items in
+          let entered = b.in_ok-id-in-Some.ensures.ok P Observer m w seen.1 refl before.0 in (
+            walked_both P root at_root (instance_of Observer (node_of m) []) (observer_is P r reached b.in-Some.node m b.in-Some.is seen.1)
+                (length c.enter.new.entered.instances.items) (length b.enter-in-Some.new.entered.instances.items) before.1
+                (subst (λ vs. AreEntered P (length c.enter.new.entered.instances.items) (instances_from P 65 (instance_of Observer (node_of m) vs)) (length b.enter-in-Some.new.entered.instances.items)) none entered.1),
+            starts b.enter-in-Some.new.entered.specializations.items (ap (λ e. e.specializations.items) b.entered-is) entered.0
+                (known_later first b.enter-in-Some.new.entered.specializations.items r.root [] table.root b.in_ok-id-in-Some.ensures.grown known)
+                (observer_stands P r reached table b.in-Some.node m b.in_ok-id-in-Some.id b.in-Some.is seen.1 b.observer-is
+                (subst (λ l. IsKnown l b.in-Some.node [] b.in_ok-id-in-Some.id) (sym (ap (λ e. e.specializations.items) b.entered-is))
+                (subst (λ vs. IsKnown b.enter-in-Some.new.entered.specializations.items b.in-Some.node vs b.in_ok-id-in-Some.id) none b.in_ok-id-in-Some.ensures.known))),
+          )
+      | in_default-2 b ↦
+          let past : length r.nodes.items ≤ b.in-Some.node.0 = omega (arith, b.len.ensures, b.if-node-len.false) in
+          let h = ap (λ o. o >>= tree_at r) b.in-Some.is ∙ slice_get-map node_of r.nodes.items b.in-Some.node.0 ∙ ap (option_map node_of) (slice_get_past r.nodes.items b.in-Some.node.0 past) in
+          (alone h, starts first (ap (λ e. e.specializations.items) b.entered-is) before.0 known (none_stands P r reached table h b.observer-is))
+      | in_default b ↦ let h = ap (λ o. o >>= tree_at r) b.in_default.is in (alone h, starts first (ap (λ e. e.specializations.items) b.entered-is) before.0 known (none_stands P r reached table h b.observer-is))
+    ]

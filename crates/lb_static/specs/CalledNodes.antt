@@ -1,0 +1,80 @@
+-- The nodes that come up in the walk over what is reached by name.
+-- This file says what data of the program mean; no definition of the language stands on it.
+use Rattle.std.specs.Prelude.{◌≡◌, ◌<◌, ◌≤◌, ℕ, Bool, true, ◌&&◌, [], Option, None, Some, is_some, option_map, List, map, length, slice_get, All}
+use Rattle.std.specs.List.{list_all, list_any}
+use Rattle.std.specs.Str.{bytes_eq}
+use Rattle.lb_syntax.specs.Lists.{◌>>=◌}
+use Rattle.lb_syntax.specs.Tree.{Name, Node, Source}
+use Rattle.lb_static.specs.Instances.{Program, node_named, node_sites}
+use Rattle.lb_static.specs.Names.{is_named, reached_nodes, start_names, starts}
+use Rattle.lb_static.specs.Parts.{among}
+use Rattle.lb_static.specs.NameFaults.{named_in}
+use Rattle.lb_static.specs.ResolvedNodes.{IsResolved, node_of}
+use Rattle.lb_static.specs.Visiting.{AreHad, Grows, is_visited, visited_after}
+use Rattle.lb_static.specs.declared.reach.NodeId.{NodeId}
+use Rattle.lb_static.specs.declared.resolved.CallSite.{CallSite}
+use Rattle.lb_static.specs.declared.resolved.ResolvedNode.{ResolvedNode}
+
+-- the program of a source in which no node is under test
+abbrev pub program_in : Source → Program
+program_in s = record { source = s; root = []; observer = None }
+
+-- the first node calls or iterates the second
+abbrev pub called : Node → Node → Bool
+called n m = list_any (λ s. bytes_eq s.callee m.name) (node_sites n)
+
+-- the places of the nodes that some calls call
+abbrev pub callees : List CallSite → List ℕ
+callees sites = map (λ s. s.callee.0) sites
+
+-- each call of a node calls one that came up
+abbrev pub are_called : List ℕ → ResolvedNode → Bool
+are_called order r = list_all (λ s. is_visited order s.callee.0) r.calls.items
+
+-- These nodes, in the order in which they came up, have their names resolved, and what they call
+-- came up too. Whatever the walk began with, all is had from that by calls.
+pub record AreResolved (s : Source) (before after : List ℕ) (nodes : List ResolvedNode)
+    : Type 0 where
+  pub resolved : All (IsResolved (map (λ n. n.name) s.nodes)) nodes
+  pub named : list_all (λ r. named_in s (node_of r)) nodes ≡ true
+  pub few : length nodes ≤ length after
+  pub stands : (turn place : ℕ) → turn < length nodes → slice_get after turn ≡ Some place
+      → slice_get (map node_of nodes) turn ≡ slice_get s.nodes place
+  pub grows : Grows before after
+  pub linked : list_all (are_called after) nodes ≡ true
+  pub had : (start : Node → Bool) → AreHad s.nodes start called before
+      → AreHad s.nodes start called after
+
+-- ## What the walk begins with
+
+-- The node of a name came up at a turn.
+pub record IsStart (s : Source) (name : Name) (before after : List ℕ) (id : NodeId) : Type 0 where
+  pub place : ℕ
+  pub visited : after ≡ visited_after before place
+  pub at : slice_get after id.0 ≡ Some place
+  pub within : place < length s.nodes
+  pub found : slice_get s.nodes place ≡ node_named (program_in s) name
+
+-- what stands at the place that came up at a turn
+abbrev pub node_at : Source → List ℕ → NodeId → Option Node
+node_at s order id = slice_get order id.0 >>= slice_get s.nodes
+
+-- The node under test and the observer, if there is one, came up, and all that came up is had from
+-- them by calls.
+pub record AreStarts (P : Program) (order : List ℕ) (root : NodeId)
+    (observer : Option NodeId) : Type 0 where
+  pub there : list_all is_some (starts P) ≡ true
+  pub had : AreHad P.source.nodes (λ n. among n.name (start_names P)) called order
+  pub all : (place : ℕ) (n : Node) → slice_get P.source.nodes place ≡ Some n
+      → among n.name (start_names P) ≡ true → is_visited order place ≡ true
+  pub at_root : node_at P.source order root ≡ node_named P P.root
+  pub came : (id : NodeId) → observer ≡ Some id → is_some (node_at P.source order id) ≡ true
+  pub at_observer : (observer >>= node_at P.source order) ≡ (P.observer >>= node_named P)
+
+-- the starts are there, and each name of a node that is reached has a meaning
+abbrev pub are_named : Program → Bool
+are_named P = list_all is_some (starts P) && list_all (is_named P) (reached_nodes P)
+
+-- for each place the number of the node that came up
+abbrev pub ids_of : List (Option ℕ) → List (Option NodeId)
+ids_of turns = map (option_map (λ turn. record { 0 = turn })) turns

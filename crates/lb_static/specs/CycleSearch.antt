@@ -1,0 +1,81 @@
+-- What the search for a cycle knows while it runs.
+-- This file says what data of the program mean; no definition of the language stands on it.
+use Rattle.std.specs.Prelude.{◌≡◌, ◌<◌, ◌⊎◌, ◌+◌, ℕ, Option, Some, None, List, [], ◌∷◌, map, length, slice_get}
+use Rattle.std.specs.List.{sum_by}
+use Rattle.lb_syntax.specs.Lists.{In}
+use Rattle.lb_static.specs.CallGraphs.{IsOnCycle, IsOrder, called}
+use Rattle.lb_static.specs.declared.cycle.Frame.{Frame}
+use Rattle.lb_static.specs.declared.cycle.Progress.{Progress}
+use Rattle.lb_static.specs.declared.cycle.Progress.TheVariants.{Unseen, Open, Done}
+
+abbrev pub IsAt : List Progress → ℕ → Progress → Type 0
+IsAt progress i p = slice_get progress i ≡ Some p
+
+-- the nodes that are done stand in an order, each before those that it calls
+abbrev pub AreDone : List (List ℕ) → List Progress → Type 0
+AreDone graph progress =
+    (order : List ℕ) × IsOrder graph order × ((i : ℕ) → IsAt progress i Done → In i order)
+
+-- each node that was begun is done
+abbrev pub IsNoneOpen : List Progress → Type 0
+IsNoneOpen progress = (i : ℕ) → IsAt progress i Open → ⊥
+
+-- what was done is done
+abbrev pub Keeps : List Progress → List Progress → Type 0
+Keeps before after = (i : ℕ) → IsAt before i Done → IsAt after i Done
+
+-- between two walks: each node is unseen or done
+pub record IsBetween (graph : List (List ℕ)) (progress : List Progress) : Type 0 where
+  pub as_many : length progress ≡ length graph
+  pub done : AreDone graph progress
+  pub none_open : IsNoneOpen progress
+
+-- a node on the path: what it calls is left to be followed, done, or the next node on the path
+pub record IsFrame (graph : List (List ℕ)) (progress : List Progress) (next : Option ℕ)
+    (f : Frame) : Type 0 where
+  pub within : f.node < length graph
+  pub each : (j : ℕ) → In j (called graph f.node)
+      → In j f.left.now ⊎ (IsAt progress j Done ⊎ (next ≡ Some j))
+  pub left : (j : ℕ) → In j f.left.now → In j (called graph f.node)
+  pub calls_next : (j : ℕ) → next ≡ Some j → In j (called graph f.node)
+
+-- the path, its end first
+abbrev pub IsPath : List (List ℕ) → List Progress → Option ℕ → List Frame → Type 0
+IsPath graph progress next [] = Unit {0}
+IsPath graph progress next (f ∷ fs) =
+    IsFrame graph progress next f × IsPath graph progress (Some f.node) fs
+
+-- in a walk, with the path, its end first: the nodes that are begun and not done stand on it
+pub record IsWalk (graph : List (List ℕ)) (progress : List Progress) (path : List Frame)
+    : Type 0 where
+  pub as_many : length progress ≡ length graph
+  pub done : AreDone graph progress
+  pub open_on_path : (i : ℕ) → IsAt progress i Open → In i (map (λ f. f.node) path)
+  pub is_path : IsPath graph progress None path
+
+-- in a walk from a node: what was done before it is done, and this node was begun
+pub record IsWalkFrom (graph : List (List ℕ)) (before : List Progress) (start : ℕ)
+    (progress : List Progress) (path : List Frame) : Type 0 where
+  pub walk : IsWalk graph progress path
+  pub kept : Keeps before progress
+  pub begun : IsAt progress start Open ⊎ IsAt progress start Done
+
+-- how much may still come up at the nodes that are not seen yet
+abbrev pub unseen : List Progress → List (List ℕ) → ℕ
+unseen [] graph = 0
+unseen (p ∷ progress) [] = 0
+unseen (Unseen ∷ progress) (calls ∷ graph) = 1 + length calls + unseen progress graph
+unseen (Open ∷ progress) (calls ∷ graph) = unseen progress graph
+unseen (Done ∷ progress) (calls ∷ graph) = unseen progress graph
+
+-- how much is left on the path
+abbrev pub on_path : List Frame → ℕ
+on_path path = sum_by (λ f. 1 + length f.left.now) path
+
+-- what a walk from a node answers: a node that reaches itself; or none, and the node is done, with
+-- all that were done before
+abbrev pub IsWalkAnswer :
+    List (List ℕ) → List Progress → ℕ → List Progress → Option ℕ → Type 0
+IsWalkAnswer graph before start after (Some i) = (i < length graph) × IsOnCycle graph i
+IsWalkAnswer graph before start after None =
+    IsBetween graph after × Keeps before after × IsAt after start Done

@@ -1,0 +1,137 @@
+-- The types of the inputs and outputs of an instance, as the code finds them.
+-- This file says what data of the program mean; no definition of the language stands on it.
+use Rattle.std.specs.Prelude.{◌≡◌, ℕ, ◌+◌, ℤ, Bool, false, ◌&&◌, not, nat_le, Option, None, Some, is_some, option_map, List, [], ◌∷◌, ◌++◌, map, reverse, take, drop, length, slice_get, Result, Ok, Err}
+use Rattle.std.specs.List.{list_all}
+use Rattle.lb_syntax.specs.Lists.{◌>>=◌, all_some, where_true}
+use Rattle.lb_syntax.specs.SourceView.{view_node}
+use Rattle.lb_syntax.specs.Tree.{Name, Node}
+use Rattle.lb_static.specs.ResolvedNodes.{node_of}
+use Rattle.lb_static.specs.Shapes.{Shape, truth, element_count, element_names, is_shape, are_shapes}
+use Rattle.lb_static.specs.Signature.{Elements}
+use Rattle.lb_static.specs.StaticValues.{natural}
+use Rattle.lb_static.specs.declared.error.StaticError.{StaticError}
+use Rattle.lb_static.specs.declared.error.StaticError.TheVariants as error
+use Rattle.lb_static.specs.declared.interface.Interface.{Interface}
+use Rattle.lb_static.specs.declared.reach.Reached.{Reached}
+use Rattle.lb_static.specs.declared.resolved.ResolvedNode.{ResolvedNode}
+use Rattle.lb_static.specs.declared.resolved.Variable.{Variable}
+use Rattle.lb_static.specs.declared.shape.Shape as seen
+use Rattle.lb_static.specs.declared.table.SpecializationId.{SpecializationId}
+use Rattle.lb_static.specs.declared.table.Table.{Table}
+
+-- memory ran out, or the shape of the node under test or the observer is wrong, for this reason
+abbrev pub IsRootFault : Type 0 → StaticError → Type 0
+IsRootFault Reason error.Memory = Unit {0}
+IsRootFault Reason error.Root = Reason
+IsRootFault Reason _ = ⊥
+
+-- a value that stands for what there is, or a fault where there is none
+abbrev pub Answers : {A B : Type 0} → (A → B) → Option B → Result A StaticError → Type 0
+Answers seen_as o (Ok a) = o ≡ Some (seen_as a)
+Answers seen_as o (Err e) = IsRootFault (o ≡ None) e
+
+-- the type that a value of the code stands for
+abbrev pub shape_seen : seen.Shape → Shape
+shape_seen s = record { kind = s.kind; sizes = s.sizes.items }
+
+abbrev pub shapes_seen : List seen.Shape → List Shape
+shapes_seen = map shape_seen
+
+-- the values of a variable's sizes, the innermost first, by those of the static expressions
+abbrev pub sizes_in : List ℤ → Variable → Option (List ℤ)
+sizes_in statics v =
+    where_true (nat_le (v.first_size.0 + v.sizes) (length statics))
+    (take v.sizes (drop v.first_size.0 statics))
+
+-- the type of a variable
+abbrev pub shape_in : List ℤ → Variable → Option Shape
+shape_in statics v =
+    sizes_in statics v >>= λ values.
+    option_map (λ ns. record { kind = v.kind; sizes = ns })
+    (all_some (map natural (reverse values)))
+
+-- the types of some variables
+abbrev pub shapes_in : List ℤ → List Variable → Option (List Shape)
+shapes_in statics vs = all_some (map (shape_in statics) vs)
+
+-- how many scalar elements there are in all
+abbrev pub elements_in_all : List Shape → ℕ
+elements_in_all [] = 0
+elements_in_all (s ∷ ss) = element_count s + elements_in_all ss
+
+-- ## The inputs and outputs of an instance
+
+-- the inputs and outputs of a node with values: how many of the types are those of inputs, and
+-- whether all are on the base clock
+pub record Face : Type 0 where
+  pub node : Node
+  pub inputs : ℕ
+  pub shapes : List Shape
+  pub is_plain : Bool
+
+abbrev pub has_no_clock : Variable → Bool
+has_no_clock v = not (is_some v.clock)
+
+abbrev pub face_seen : Interface → Face
+face_seen i = record {
+  node = view_node i.tree.now;
+  inputs = i.inputs;
+  shapes = shapes_seen i.shapes.items;
+  is_plain = i.is_plain;
+}
+
+-- the inputs and outputs among the variables of a node
+abbrev pub interface_variables : ResolvedNode → Option (List Variable)
+interface_variables n =
+    where_true (nat_le (n.inputs + n.outputs) (length n.variables.items))
+    (take (n.inputs + n.outputs) n.variables.items)
+
+-- those of a node, by the values of its static expressions
+abbrev pub face_in : ResolvedNode → List ℤ → Option Face
+face_in n statics =
+    interface_variables n >>= λ vs.
+    option_map
+    (λ ss. record {
+      node = node_of n;
+      inputs = n.inputs;
+      shapes = ss;
+      is_plain = list_all has_no_clock vs;
+    })
+    (shapes_in statics vs)
+
+-- the types of the inputs, and those of the outputs
+abbrev pub inputs_of : Face → List Shape
+inputs_of f = take f.inputs f.shapes
+
+abbrev pub outputs_of : Face → List Shape
+outputs_of f = drop f.inputs f.shapes
+
+-- the node of a specialization, and the values of its static expressions
+abbrev pub standing_in : Reached → Table → SpecializationId → Option (ResolvedNode × List ℤ)
+standing_in r t id =
+    slice_get t.specializations.items id.0 >>= λ s.
+    option_map (λ n. (n, s.statics.items)) (slice_get r.nodes.items s.node.0)
+
+-- the property of one that observes another, and of one alone
+abbrev pub is_one_truth_in : List Shape → Bool
+is_one_truth_in (t ∷ []) = is_shape t truth
+is_one_truth_in _ = false
+
+abbrev pub observes : Face → Face → Bool
+observes observer root =
+    observer.is_plain
+    && (are_shapes (inputs_of observer) root.shapes && is_one_truth_in (outputs_of observer))
+
+abbrev pub property_by : Face → Option (ResolvedNode × List ℤ) → Option Bool
+property_by root None = Some (is_one_truth_in (outputs_of root))
+property_by root (Some s) = option_map (λ o. observes o root) (face_in s.0 s.1)
+
+-- the scalar elements of variables of these names and types
+abbrev pub elements_named : List Name → List Shape → Elements
+elements_named (x ∷ xs) (s ∷ ss) =
+    map (λ n. (n, s.kind)) (element_names x s.sizes) ++ elements_named xs ss
+elements_named _ _ = []
+
+-- the property of a program, where its node under test is seen so
+abbrev pub property_in : Reached → Table → Face → Option Bool
+property_in r t root = property_by root (t.observer >>= standing_in r t)

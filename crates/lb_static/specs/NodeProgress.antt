@@ -1,0 +1,295 @@
+-- What is resolved of a node so far, and what one more resolved part adds.
+-- This file says what data of the program mean; no definition of the language stands on it.
+use Rattle.std.specs.Prelude.{◌≡◌, ℕ, ◌<◌, ◌^◌, Bool, true, ◌&&◌, Option, None, Some, option_map, List, [], ◌∷◌, ◌++◌, map, flat_map, length, Result, Ok, Err, Box, Vec}
+use Rattle.std.specs.declared.alloc.Global.{Global}
+use Rattle.std.specs.List.{list_all}
+use Rattle.lb_syntax.specs.SourceView.{view_source}
+use Rattle.lb_syntax.specs.Tree.{Name, Static, Expr, Declaration, Sampling, Statement, Node, Source}
+use Rattle.lb_syntax.specs.Grammar.{Group, declarations, declared}
+use Rattle.lb_static.specs.Names.{is_variable}
+use Rattle.lb_static.specs.Instances.{Program, Site, sites, statement_sites}
+use Rattle.lb_static.specs.NameFaults.{IsNameFault, alone}
+use Rattle.lb_static.specs.NodeNames.{node_in, passes, statement_passes, call_passes, static_passes, statics_pass}
+use Rattle.lb_static.specs.Parts.{among, right_side, variable_names}
+use Rattle.lb_static.specs.ResolvedNodes.{part_of}
+use Rattle.lb_static.specs.ResolvedTerms.{Texts, Counts, sampling_of, is_sampling_within, static_of, expr_of, statement_of, is_step_within, declaration_of, site_of, site_at, static_at, statics_at, is_call, is_static, are_statics, is_within, is_declared_within, is_site_within}
+use Rattle.lb_static.specs.StaticParts.{Part, parts_of, arguments_of, group_parts}
+use Rattle.lb_static.specs.declared.error.StaticError.{StaticError}
+use Rattle.lb_static.specs.declared.naming.Naming.{Naming}
+use Rattle.lb_static.specs.declared.resolved.CallId.{CallId}
+use Rattle.lb_static.specs.declared.resolved.CallSite.{CallSite}
+use Rattle.lb_static.specs.declared.resolved.Role.{Role}
+use Rattle.lb_static.specs.declared.resolved.Sampling as resolved
+use Rattle.lb_static.specs.declared.resolved.StaticId.{StaticId}
+use Rattle.lb_static.specs.declared.resolved.StaticPart.{StaticPart}
+use Rattle.lb_static.specs.declared.resolved.Step.{Step}
+use Rattle.lb_static.specs.declared.resolved.Term.{Term}
+use Rattle.lb_static.specs.declared.resolved.Variable.{Variable}
+
+-- a node of a source, and what is found of it so far: its variables, without their names, its
+-- static expressions and its calls
+pub record Progress : Type 0 where
+  pub source : Source
+  pub node : Node
+  pub declared : List Declaration
+  pub parts : List Part
+  pub calls : List Site
+
+-- ## What the numbers stand for so far
+
+abbrev pub texts : Progress → Texts
+texts s = record {
+  variables = variable_names s.node;
+  statics = map (λ p. p.1) s.parts;
+  calls = s.calls;
+}
+
+abbrev pub counts_in : Texts → Counts
+counts_in t = record {
+  variables = length t.variables;
+  statics = length t.statics;
+  calls = length t.calls;
+}
+
+abbrev pub is_variable_of : Progress → Name → Bool
+is_variable_of s x = among x (variable_names s.node)
+
+abbrev pub program_of : Progress → Program
+program_of s = alone s.source
+
+-- the names of the nodes of the source
+abbrev pub callees : Progress → List Name
+callees s = map (λ n. n.name) s.source.nodes
+
+-- ## What is added
+
+-- with more static expressions and calls
+abbrev pub grown : Progress → List Part → List Site → Progress
+grown s parts calls = record {
+  source = s.source;
+  node = s.node;
+  declared = s.declared;
+  parts = s.parts ++ parts;
+  calls = s.calls ++ calls;
+}
+
+-- with one more variable
+abbrev pub with_variable : Progress → Declaration → Progress
+with_variable s d = record {
+  source = s.source;
+  node = s.node;
+  declared = s.declared ++ d ∷ [];
+  parts = s.parts;
+  calls = s.calls;
+}
+
+-- ## How it is kept
+
+abbrev pub texts_in : List StaticPart → List Static
+texts_in parts = map (λ p. static_of p.text) parts
+
+abbrev pub kept : Naming → List StaticPart → List CallSite → List Variable → Progress
+kept n parts calls variables = record {
+  source = view_source n.source.now;
+  node = node_in n;
+  declared =
+      map (declaration_of (variable_names (node_in n)) (texts_in parts) []) variables;
+  parts = map part_of parts;
+  calls =
+      map (site_of (map (λ m. m.name) (view_source n.source.now).nodes) (texts_in parts)) calls;
+}
+
+abbrev pub counts_kept : Naming → List StaticPart → List CallSite → Counts
+counts_kept n parts calls = record {
+  variables = length (variable_names (node_in n));
+  statics = length parts;
+  calls = length calls;
+}
+
+-- each number is within range, and 32 bits hold it
+pub record IsKept (n : Naming) (parts : List StaticPart) (calls : List CallSite)
+    (variables : List Variable) : Type 0 where
+  pub declared_within :
+      list_all (is_declared_within (counts_kept n parts calls)) variables ≡ true
+  pub calls_within :
+      list_all (is_site_within (length n.source.now.nodes.items) (counts_kept n parts calls)) calls
+      ≡ true
+  pub statics_fit : length parts < 2 ^ 32
+  pub calls_fit : length calls < 2 ^ 32
+
+-- ## Static expressions and calls
+
+-- a number stands for a static expression
+abbrev pub StaticStands : Progress → Static → StaticId → Type 0
+StaticStands s x id =
+    (static_at (texts s).statics id ≡ x) × (is_static (counts_in (texts s)) id ≡ true)
+
+abbrev pub static_fits : Progress → Static → Bool
+static_fits s x = static_passes (program_of s) s.node x
+
+-- the number that stands for a static expression, or why there is none
+abbrev pub ResolvesStatic :
+    (before after : Progress) → Role → Static → Result StaticId StaticError → Type 0
+ResolvesStatic before after role x (Ok id) =
+    (after ≡ grown before ((role, x) ∷ []) []) × StaticStands after x id
+    × (static_fits before x ≡ true)
+ResolvesStatic before after role x (Err f) = IsNameFault f (static_fits before x)
+
+abbrev pub statics_fit : Progress → List Static → Bool
+statics_fit s xs = statics_pass (program_of s) s.node xs
+
+-- static expressions that stand one after another: the first of them, and how many there are
+abbrev pub StaticsStand : Progress → List Static → StaticId × ℕ → Type 0
+StaticsStand s xs place =
+    (statics_at (texts s).statics place.0 place.1 ≡ xs)
+    × (are_statics (counts_in (texts s)) place.0 place.1 ≡ true)
+
+abbrev pub ResolvesStatics :
+    (before after : Progress) → Role → List Static → Result (StaticId × ℕ) StaticError → Type 0
+ResolvesStatics before after role xs (Ok place) =
+    (after ≡ grown before (map (λ x. (role, x)) xs) []) × StaticsStand after xs place
+    × (statics_fit before xs ≡ true)
+ResolvesStatics before after role xs (Err f) = IsNameFault f (statics_fit before xs)
+
+-- a number stands for a call
+abbrev pub CallStands : Progress → Site → CallId → Type 0
+CallStands s site id = (site_at s.calls id ≡ site) × (is_call (counts_in (texts s)) id ≡ true)
+
+abbrev pub call_fits : Progress → Site → Bool
+call_fits s site = call_passes (program_of s) s.node site
+
+-- the number of a call, or why there is none
+abbrev pub ResolvesCall :
+    (before after : Progress) → Site → Result CallId StaticError → Type 0
+ResolvesCall before after site (Ok id) =
+    (after ≡ grown before (arguments_of site.arguments) (site ∷ [])) × CallStands after site id
+    × (call_fits before site ≡ true)
+ResolvesCall before after site (Err f) = IsNameFault f (call_fits before site)
+
+-- ## Expressions
+
+-- with what is found in an expression
+abbrev pub after_expr : Progress → Expr → Progress
+after_expr s e = grown s (parts_of (is_variable_of s) e) (sites e)
+
+-- a term stands for an expression, with each number within range
+abbrev pub Stands : Progress → Expr → Term → Type 0
+Stands s e t = (expr_of (texts s) t ≡ e) × (is_within (counts_in (texts s)) t ≡ true)
+
+abbrev pub expr_passes : Progress → Expr → Bool
+expr_passes s e = passes (program_of s) s.node e
+
+-- the term that stands for an expression, or why there is none
+abbrev pub ResolvesTerm :
+    (before after : Progress) → Expr → Result Term StaticError → Type 0
+ResolvesTerm before after e (Ok t) =
+    (after ≡ after_expr before e) × Stands after e t × (expr_passes before e ≡ true)
+ResolvesTerm before after e (Err f) = IsNameFault f (expr_passes before e)
+
+-- the same in a box
+abbrev pub ResolvesBox :
+    (before after : Progress) → Expr → Result (Box Term Global) StaticError → Type 0
+ResolvesBox before after e (Ok t) = ResolvesTerm before after e (Ok t.value)
+ResolvesBox before after e (Err f) = ResolvesTerm before after e (Err f)
+
+-- terms that stand for some expressions
+abbrev pub StandAll : Progress → List Expr → List Term → Type 0
+StandAll s es ts =
+    (map (expr_of (texts s)) ts ≡ es)
+    × (list_all (is_within (counts_in (texts s))) ts ≡ true)
+
+abbrev pub exprs_pass : Progress → List Expr → Bool
+exprs_pass s es = list_all (expr_passes s) es
+
+-- with what is found in some expressions
+abbrev pub after_exprs : Progress → List Expr → Progress
+after_exprs s es = grown s (flat_map (parts_of (is_variable_of s)) es) (flat_map sites es)
+
+abbrev pub ResolvesTerms :
+    (before after : Progress) → List Expr → Result (Vec Term Global) StaticError → Type 0
+ResolvesTerms before after es (Ok ts) =
+    (after ≡ after_exprs before es) × StandAll after es ts.items × (exprs_pass before es ≡ true)
+ResolvesTerms before after es (Err f) = IsNameFault f (exprs_pass before es)
+
+-- ## Statements
+
+abbrev pub StepStands : Progress → Statement → Step → Type 0
+StepStands s x step =
+    (statement_of (texts s) step ≡ x) × (is_step_within (counts_in (texts s)) step ≡ true)
+
+abbrev pub statement_fits : Progress → Statement → Bool
+statement_fits s x = statement_passes (program_of s) s.node x
+
+abbrev pub after_statements : Progress → List Statement → Progress
+after_statements s xs =
+    grown s (flat_map (λ x. parts_of (is_variable_of s) (right_side x)) xs)
+    (flat_map statement_sites xs)
+
+-- the statement that a statement with resolved names stands for, or why there is none
+abbrev pub ResolvesStep :
+    (before after : Progress) → Statement → Result Step StaticError → Type 0
+ResolvesStep before after x (Ok step) =
+    (after ≡ after_expr before (right_side x)) × StepStands after x step
+    × (statement_fits before x ≡ true)
+ResolvesStep before after x (Err f) = IsNameFault f (statement_fits before x)
+
+-- statements that stand for some of a body
+abbrev pub StepsStand : Progress → List Statement → List Step → Type 0
+StepsStand s xs steps =
+    (map (statement_of (texts s)) steps ≡ xs)
+    × (list_all (is_step_within (counts_in (texts s))) steps ≡ true)
+
+abbrev pub ResolvesSteps :
+    (before after : Progress) → List Statement → Result (Vec Step Global) StaticError → Type 0
+ResolvesSteps before after xs (Ok steps) =
+    (after ≡ after_statements before xs) × StepsStand after xs steps.items
+    × (list_all (statement_fits before) xs ≡ true)
+ResolvesSteps before after xs (Err f) = IsNameFault f (list_all (statement_fits before) xs)
+
+-- ## Declarations
+
+-- a declaration without its name
+abbrev pub nameless : Declaration → Declaration
+nameless d = record { name = []; kind = d.kind; sizes = d.sizes; clock = d.clock }
+
+abbrev pub clock_fits : Progress → Option Sampling → Bool
+clock_fits s None = true
+clock_fits s (Some c) = is_variable (program_of s) s.node c.variable
+
+-- each name in the sizes and the clock of a declaration has a meaning
+abbrev pub declaration_fits : Progress → Declaration → Bool
+declaration_fits s d = statics_fit s d.sizes && clock_fits s d.clock
+
+-- with these declarations, whose sizes are these static expressions
+abbrev pub declared_more : Progress → List Declaration → List Part → Progress
+declared_more s ds parts = record {
+  source = s.source;
+  node = s.node;
+  declared = s.declared ++ map nameless ds;
+  parts = s.parts ++ parts;
+  calls = s.calls;
+}
+
+-- with as many variables as names, all of them alike
+abbrev pub with_alike : Progress → List Name → Variable → Progress
+with_alike s names v = record {
+  source = s.source;
+  node = s.node;
+  declared =
+      s.declared
+      ++ map (λ x. declaration_of (variable_names s.node) (texts s).statics [] v) names;
+  parts = s.parts;
+  calls = s.calls;
+}
+
+abbrev pub after_group : Progress → Group → Progress
+after_group s g = declared_more s (declarations g) (group_parts g)
+
+abbrev pub after_groups : Progress → List Group → Progress
+after_groups s gs = declared_more s (declared gs) (flat_map group_parts gs)
+
+-- a clock that stands for a clock of the text
+abbrev pub ClockStands : Progress → Option Sampling → Option resolved.Sampling → Type 0
+ClockStands s c clock =
+    (option_map (sampling_of (variable_names s.node)) clock ≡ c)
+    × (is_sampling_within (counts_in (texts s)) clock ≡ true)

@@ -1,0 +1,23 @@
+-- What is resolved of a node so far, as the code keeps it.
+-- This file says what data of the program mean; no definition of the language stands on it.
+use Rattle.std.specs.Prelude.{◌≡◌, ℕ, Vec}
+use Rattle.std.specs.declared.alloc.Global.{Global}
+use Rattle.lb_syntax.specs.declared.tree.Node.{Node}
+use Rattle.lb_static.specs.NodeProgress.{Progress, kept}
+use Rattle.lb_static.specs.declared.found.Found.{Found}
+use Rattle.lb_static.specs.declared.resolved.ResolvedNode.{ResolvedNode}
+use Rattle.lb_static.specs.declared.resolved.Step.{Step}
+
+abbrev pub progress : Found → Progress
+progress f = kept f.naming f.statics.items f.calls.items f.variables.items
+
+-- the node of a tree with what was found of it
+pub record IsFinished (f : Found) (tree : Node) (inputs outputs : ℕ) (body : Vec Step Global)
+    (r : ResolvedNode) : Type 0 where
+  pub tree_is : r.tree.now ≡ tree
+  pub variables : r.variables.items ≡ f.variables.items
+  pub inputs_are : r.inputs ≡ inputs
+  pub outputs_are : r.outputs ≡ outputs
+  pub body_is : r.body.items ≡ body.items
+  pub calls : r.calls.items ≡ f.calls.items
+  pub statics : r.statics.items ≡ f.statics.items

@@ -1,0 +1,62 @@
+-- When a node with resolved names stands for its tree.
+-- This file says what data of the program mean; no definition of the language stands on it.
+use Rattle.std.specs.Prelude.{◌≡◌, ◌<◌, ◌^◌, true, List, length, map}
+use Rattle.std.specs.List.{list_all}
+use Rattle.lb_syntax.specs.Lists.{zip2}
+use Rattle.lb_syntax.specs.SourceView.{view_node}
+use Rattle.lb_syntax.specs.Tree.{Name, Static, Node}
+use Rattle.lb_static.specs.Instances.{node_sites}
+use Rattle.lb_static.specs.Parts.{variable_names}
+use Rattle.lb_static.specs.Shapes.{variables}
+use Rattle.lb_static.specs.ResolvedTerms.{Texts, Counts, static_of, statement_of, declaration_of, site_of, is_step_within, is_declared_within, is_site_within}
+use Rattle.lb_static.specs.StaticParts.{Part, node_static_parts}
+use Rattle.lb_static.specs.declared.resolved.ResolvedNode.{ResolvedNode}
+use Rattle.lb_static.specs.declared.resolved.StaticPart.{StaticPart}
+
+-- the tree of a node
+abbrev pub node_of : ResolvedNode → Node
+node_of r = view_node r.tree.now
+
+abbrev pub part_of : StaticPart → Part
+part_of p = (p.role, static_of p.text)
+
+-- its static expressions
+abbrev pub statics_of : ResolvedNode → List Static
+statics_of r = map (λ p. static_of p.text) r.statics.items
+
+-- what its numbers stand for
+abbrev pub texts_of : ResolvedNode → Texts
+texts_of r = record {
+  variables = variable_names (node_of r);
+  statics = statics_of r;
+  calls = node_sites (node_of r);
+}
+
+-- how many there are of each
+abbrev pub counts_of : ResolvedNode → Counts
+counts_of r = record {
+  variables = length r.variables.items;
+  statics = length r.statics.items;
+  calls = length r.calls.items;
+}
+
+-- A node stands for its tree, where the nodes of the source have these names.
+pub record IsResolved (nodes : List Name) (r : ResolvedNode) : Type 0 where
+  pub inputs : r.inputs ≡ length (node_of r).inputs
+  pub outputs : r.outputs ≡ length (node_of r).outputs
+  pub declared :
+      zip2 (declaration_of (variable_names (node_of r)) (statics_of r))
+      (variable_names (node_of r)) r.variables.items
+      ≡ variables (node_of r)
+  pub as_many : length r.variables.items ≡ length (variables (node_of r))
+  pub body : map (statement_of (texts_of r)) r.body.items ≡ (node_of r).body
+  pub calls : map (site_of nodes (statics_of r)) r.calls.items ≡ node_sites (node_of r)
+  pub statics : map part_of r.statics.items ≡ node_static_parts r.tree.now
+  -- each number is within range, and 32 bits hold it
+  pub declared_within : list_all (is_declared_within (counts_of r)) r.variables.items ≡ true
+  pub body_within : list_all (is_step_within (counts_of r)) r.body.items ≡ true
+  pub calls_within :
+      list_all (is_site_within (length nodes) (counts_of r)) r.calls.items ≡ true
+  pub variables_fit : length r.variables.items < 2 ^ 32
+  pub statics_fit : length r.statics.items < 2 ^ 32
+  pub calls_fit : length r.calls.items < 2 ^ 32

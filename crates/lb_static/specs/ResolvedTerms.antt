@@ -1,0 +1,202 @@
+-- What a node with resolved names stands for: its tree with the names put back.
+-- This file says what data of the program mean; no definition of the language stands on it.
+use Rattle.std.specs.Prelude.{ℕ, ◌+◌, Bool, true, ◌&&◌, nat_le, nat_lt, Option, None, Some, option_map, List, [], ◌∷◌, map, take, drop, slice_get}
+use Rattle.std.specs.List.{list_all}
+use Rattle.lb_syntax.specs.Lists.{either_or}
+use Rattle.lb_syntax.specs.Tree as tree
+use Rattle.lb_syntax.specs.Tree.{Name, Static, Whole, Expr, Exprs, Nil, Cons, Declaration, Statement}
+use Rattle.lb_syntax.specs.View.{view_static}
+use Rattle.lb_syntax.specs.declared.tree.ArrayIterator.{ArrayIterator}
+use Rattle.lb_static.specs.Instances.{Site}
+use Rattle.lb_static.specs.declared.resolved.VariableId.{VariableId}
+use Rattle.lb_static.specs.declared.resolved.StaticId.{StaticId}
+use Rattle.lb_static.specs.declared.resolved.CallId.{CallId}
+use Rattle.lb_static.specs.declared.resolved.Sampling.{Sampling}
+use Rattle.lb_static.specs.declared.resolved.Variable.{Variable as Declared}
+use Rattle.lb_static.specs.declared.resolved.CallSite.{CallSite}
+use Rattle.lb_static.specs.declared.resolved.StaticText.{StaticText}
+use Rattle.lb_static.specs.declared.resolved.StaticText.TheVariants.{Written, Named as Named_text}
+use Rattle.lb_static.specs.declared.resolved.Step.{Step}
+use Rattle.lb_static.specs.declared.resolved.Step.TheVariants as step
+use Rattle.lb_static.specs.declared.resolved.Term.{Term, Literal, Truth, Variable, Value, Group', Unary', Binary', If', Arrow', Fby', Pre', Current', When', Copies', Index', Slice', Join', Array', AtMostOne', Nor', Call', IterateNode', IterateSymbol', Row_of-Term, end_of-Term, more_of-Term}
+
+-- ## What the numbers of a node stand for
+
+-- the names of its variables, its static expressions, and its calls
+pub record Texts : Type 0 where
+  pub variables : List Name
+  pub statics : List Static
+  pub calls : List Site
+
+abbrev pub static_of : StaticText → Static
+static_of (Written s) = view_static s.now
+static_of (Named_text x) = tree.Named x.now
+
+abbrev pub name_at : List Name → VariableId → Name
+name_at names x = either_or (slice_get names x.0) []
+
+abbrev pub static_at : List Static → StaticId → Static
+static_at statics i = either_or (slice_get statics i.0) (Whole 0)
+
+-- so many, from one on
+abbrev pub statics_at : List Static → StaticId → ℕ → List Static
+statics_at statics first count = take count (drop first.0 statics)
+
+-- a call that is not there
+abbrev pub no_site : Site
+no_site = record { callee = []; arguments = []; count = None }
+
+abbrev pub site_at : List Site → CallId → Site
+site_at calls c = either_or (slice_get calls c.0) no_site
+
+-- ## Expressions
+
+-- the expression that a static parameter or a constant is: its name
+abbrev pub named_value : Static → Expr
+named_value (tree.Named x) = tree.Variable x
+named_value s = tree.Literal 0
+
+abbrev pub call_expr : Site → Exprs → Expr
+call_expr s es = tree.Call s.callee s.arguments es
+
+abbrev pub iterate_expr : ArrayIterator → Site → Exprs → Expr
+iterate_expr it s es =
+    tree.Iterate it (tree.Node_named s.callee s.arguments) (either_or s.count (Whole 0)) es
+
+abbrev mutual
+  -- the expression that a term stands for
+  pub expr_of : Texts → Term → Expr
+  expr_of t (Literal n) = tree.Literal n
+  expr_of t (Truth b) = tree.Truth b
+  expr_of t (Variable x) = tree.Variable (name_at t.variables x)
+  expr_of t (Value i) = named_value (static_at t.statics i)
+  expr_of t (Group' p e) = tree.Group (expr_of t e)
+  expr_of t (Unary' op p a) = tree.Unary op (expr_of t a)
+  expr_of t (Binary' op p a q b) = tree.Binary op (expr_of t a) (expr_of t b)
+  expr_of t (If' p c q a r b) = tree.If (expr_of t c) (expr_of t a) (expr_of t b)
+  expr_of t (Arrow' p a q b) = tree.Arrow (expr_of t a) (expr_of t b)
+  expr_of t (Fby' p a q b) = tree.Fby (expr_of t a) (expr_of t b)
+  expr_of t (Pre' p e) = tree.Pre (expr_of t e)
+  expr_of t (Current' p e) = tree.Current (expr_of t e)
+  expr_of t (When' p e x sign) = tree.When (expr_of t e) (name_at t.variables x) sign
+  expr_of t (Copies' p e n) = tree.Copies (expr_of t e) (static_at t.statics n)
+  expr_of t (Index' p e i) = tree.Index (expr_of t e) (static_at t.statics i)
+  expr_of t (Slice' p e i j) =
+      tree.Slice (expr_of t e) (static_at t.statics i) (static_at t.statics j)
+  expr_of t (Join' p a q b) = tree.Join (expr_of t a) (expr_of t b)
+  expr_of t (Array' shape all) = tree.Array (row_of t all)
+  expr_of t (AtMostOne' shape all) = tree.AtMostOne (row_of t all)
+  expr_of t (Nor' shape all) = tree.Nor (row_of t all)
+  expr_of t (Call' c shape all) = call_expr (site_at t.calls c) (row_of t all)
+  expr_of t (IterateNode' it c shape all) = iterate_expr it (site_at t.calls c) (row_of t all)
+  expr_of t (IterateSymbol' it op n shape all) =
+      tree.Iterate it (tree.Symbol op) (static_at t.statics n) (row_of t all)
+
+  pub row_of : {m : _} → Texts → Row_of-Term m → Exprs
+  row_of t end_of-Term = Nil
+  row_of t (more_of-Term e rest) = Cons (expr_of t e) (row_of t rest)
+
+-- those that a list of terms stands for
+abbrev pub exprs_of : Texts → List Term → Exprs
+exprs_of t [] = Nil
+exprs_of t (e ∷ es) = Cons (expr_of t e) (exprs_of t es)
+
+abbrev pub statement_of : Texts → Step → Statement
+statement_of t (step.Equation lefts e) =
+    tree.Equation (map (name_at t.variables) lefts.items) (expr_of t e)
+statement_of t (step.Assertion e) = tree.Assertion (expr_of t e)
+
+-- ## Declarations and calls
+
+abbrev pub sampling_of : List Name → Sampling → tree.Sampling
+sampling_of names s = record { variable = name_at names s.variable; sign = s.sign }
+
+abbrev pub declaration_of : List Name → List Static → Name → Declared → Declaration
+declaration_of names statics x v = record {
+  name = x;
+  kind = v.kind;
+  sizes = statics_at statics v.first_size v.sizes;
+  clock = option_map (sampling_of names) v.clock;
+}
+
+-- the call that a call site stands for, where the nodes of the source have these names
+abbrev pub site_of : List Name → List Static → CallSite → Site
+site_of nodes statics s = record {
+  callee = either_or (slice_get nodes s.callee.0) [];
+  arguments = statics_at statics s.first_argument s.arguments;
+  count = option_map (static_at statics) s.count;
+}
+
+-- ## Numbers within range
+
+-- how many variables, static expressions and calls a node has
+pub record Counts : Type 0 where
+  pub variables : ℕ
+  pub statics : ℕ
+  pub calls : ℕ
+
+abbrev pub is_variable : Counts → VariableId → Bool
+is_variable n x = nat_lt x.0 n.variables
+
+abbrev pub is_static : Counts → StaticId → Bool
+is_static n i = nat_lt i.0 n.statics
+
+abbrev pub is_call : Counts → CallId → Bool
+is_call n c = nat_lt c.0 n.calls
+
+-- so many static expressions, from one on
+abbrev pub are_statics : Counts → StaticId → ℕ → Bool
+are_statics n first count = nat_le (first.0 + count) n.statics
+
+abbrev mutual
+  -- each number of a term is within range
+  pub is_within : Counts → Term → Bool
+  is_within n (Literal m) = true
+  is_within n (Truth b) = true
+  is_within n (Variable x) = is_variable n x
+  is_within n (Value i) = is_static n i
+  is_within n (Group' p e) = is_within n e
+  is_within n (Unary' op p a) = is_within n a
+  is_within n (Binary' op p a q b) = is_within n a && is_within n b
+  is_within n (If' p c q a r b) = is_within n c && (is_within n a && is_within n b)
+  is_within n (Arrow' p a q b) = is_within n a && is_within n b
+  is_within n (Fby' p a q b) = is_within n a && is_within n b
+  is_within n (Pre' p e) = is_within n e
+  is_within n (Current' p e) = is_within n e
+  is_within n (When' p e x sign) = is_variable n x && is_within n e
+  is_within n (Copies' p e i) = is_static n i && is_within n e
+  is_within n (Index' p e i) = is_static n i && is_within n e
+  is_within n (Slice' p e i j) = is_static n i && (is_static n j && is_within n e)
+  is_within n (Join' p a q b) = is_within n a && is_within n b
+  is_within n (Array' shape all) = are_within n all
+  is_within n (AtMostOne' shape all) = are_within n all
+  is_within n (Nor' shape all) = are_within n all
+  is_within n (Call' c shape all) = is_call n c && are_within n all
+  is_within n (IterateNode' it c shape all) = is_call n c && are_within n all
+  is_within n (IterateSymbol' it op i shape all) = is_static n i && are_within n all
+
+  pub are_within : {m : _} → Counts → Row_of-Term m → Bool
+  are_within n end_of-Term = true
+  are_within n (more_of-Term e rest) = is_within n e && are_within n rest
+
+abbrev pub is_step_within : Counts → Step → Bool
+is_step_within n (step.Equation lefts e) =
+    list_all (is_variable n) lefts.items && is_within n e
+is_step_within n (step.Assertion e) = is_within n e
+
+abbrev pub is_sampling_within : Counts → Option Sampling → Bool
+is_sampling_within n None = true
+is_sampling_within n (Some s) = is_variable n s.variable
+
+abbrev pub is_declared_within : Counts → Declared → Bool
+is_declared_within n v = are_statics n v.first_size v.sizes && is_sampling_within n v.clock
+
+abbrev pub is_count_within : Counts → Option StaticId → Bool
+is_count_within n None = true
+is_count_within n (Some i) = is_static n i
+
+-- a call site, where the source has so many nodes
+abbrev pub is_site_within : (nodes : ℕ) → Counts → CallSite → Bool
+is_site_within nodes n s =
+    nat_lt s.callee.0 nodes
+    && (are_statics n s.first_argument s.arguments && is_count_within n s.count)

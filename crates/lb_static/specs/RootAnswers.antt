@@ -1,0 +1,27 @@
+-- What is answered of the shape of the node under test and of the observer.
+-- This file says what data of the program mean; no definition of the language stands on it.
+use Rattle.std.specs.Prelude.{◌≡◌, Bool, true, false, nat_eq, [], ◌∷◌, length, Result, Ok, Err}
+use Rattle.std.specs.List.{list_all}
+use Rattle.lb_syntax.specs.Lists.{holds, some_of}
+use Rattle.lb_static.specs.Instances.{Program, Root, instance_at}
+use Rattle.lb_static.specs.ReachedNodes.{tree_at}
+use Rattle.lb_static.specs.Shapes.{signature}
+use Rattle.lb_static.specs.Signature.{Elements}
+use Rattle.lb_static.specs.Walk.{is_root}
+use Rattle.lb_static.specs.declared.error.StaticError.{StaticError}
+use Rattle.lb_static.specs.declared.error.StaticError.TheVariants as error
+use Rattle.lb_static.specs.declared.reach.NodeId.{NodeId}
+use Rattle.lb_static.specs.declared.reach.Reached.{Reached}
+
+-- whether a node that is reached has no static parameters
+abbrev pub has_no_parameters_at : Reached → NodeId → Bool
+has_no_parameters_at r id =
+    list_all (λ n. nat_eq (length n.parameters) 0) (some_of (tree_at r id ∷ []))
+
+-- the signature of a program whose node under test and observer have the shape that they may have,
+-- or that they have not, unless memory ran out
+abbrev pub IsRootAnswer : Program → Result Elements StaticError → Type 0
+IsRootAnswer P (Ok s) = (holds (is_root P) (instance_at P Root) ≡ true) × (s ≡ signature P)
+IsRootAnswer P (Err error.Memory) = Unit {0}
+IsRootAnswer P (Err error.Root) = holds (is_root P) (instance_at P Root) ≡ false
+IsRootAnswer P (Err _) = ⊥

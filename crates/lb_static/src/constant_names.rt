@@ -1,0 +1,214 @@
+//! The constants that are reached by name from the nodes that are: each name in the value of one
+//! of them is to be that of a constant.
+
+ghost use Rattle.std.specs.Prelude.{◌≡◌, ℕ, [], true, false, flat_map, length, map, List, OnOk, IfOk, IfErr, MatchOption, All};
+ghost use Rattle.std.specs.List.{list_all};
+ghost use Rattle.lb_syntax.specs.SourceView.{view_source};
+ghost use Rattle.lb_syntax.specs.Tree.{Name as TreeName};
+ghost use Rattle.lb_syntax.specs.View.{view_static};
+ghost use Rattle.lb_static.specs.CalledNodes.{program_in};
+ghost use Rattle.lb_static.specs.Faults.{names_in_source};
+ghost use Rattle.lb_static.specs.NamedConstants.{AreNamed, is_judged, keeps_constants, node_constants, part_constants, place_named, places_named};
+ghost use Rattle.lb_static.specs.NameFaults.{named_in, IsNameFault};
+ghost use Rattle.lb_static.specs.Names.{are_distinct, named_constants};
+ghost use Rattle.lb_static.specs.Parts.{among, static_names};
+ghost use Rattle.lb_static.specs.ResolvedNodes.{IsResolved, node_of};
+ghost use Rattle.lb_static.specs.Visiting.{visited_after_all};
+
+use crate::error::StaticError;
+use crate::globals::{Globals, refused_name};
+use crate::resolved::{ResolvedNode, StaticPart, StaticText};
+use crate::scope::Scope;
+use crate::visits::Visits;
+use lb_syntax::tree::{Name, Source, Static};
+use std::alloc::{AllocError, Global};
+
+// Visits the constant of a name, if it is one and is not hidden.
+fn visit_name(
+    name: &Name,
+    globals: &Globals,
+    hidden: &Scope,
+    visits: &mut Visits,
+) -> Result<(), AllocError>
+    requires { visits.old.count ≡ globals.now.constants }
+    ensures order { OnOk result (visits.new.order
+        ≡ visited_after_all visits.old.order (place_named globals.now hidden.now name.now)) }
+    ensures count { OnOk result (visits.new.count ≡ visits.old.count) }
+{
+    if hidden.place(name.as_str()).is_some() {
+        return Ok(());
+    }
+    if let Some(place) = globals.constant_place(name.as_str()) {
+        visits.visit(place)?;
+    }
+    Ok(())
+}
+
+// Visits the constants that a static expression names, beside those that are hidden.
+fn visit_names(
+    expression: &Static,
+    globals: &Globals,
+    hidden: &Scope,
+    visits: &mut Visits,
+) -> Result<(), AllocError>
+    requires { visits.old.count ≡ globals.now.constants }
+    ensures order { OnOk result (visits.new.order ≡ visited_after_all visits.old.order
+        (places_named globals.now hidden.now (static_names (view_static expression.now)))) }
+    ensures count { OnOk result (visits.new.count ≡ visits.old.count) }
+{
+    match expression {
+        Static::Whole(_) => Ok(()),
+        Static::Named(x) => visit_name(x, globals, hidden, visits),
+        Static::Grouped(inner) | Static::Negated(inner) => {
+            visit_names(inner, globals, hidden, visits)
+        }
+        Static::Combined(_, left, right) => {
+            visit_names(left, globals, hidden, visits)?;
+            visit_names(right, globals, hidden, visits)
+        }
+    }
+}
+
+// The first name in a static expression that is not that of a constant.
+fn unknown_name<'s>(expression: &'s Static, globals: &Globals) -> Option<&'s Name>
+    ensures { MatchOption result
+        (is_judged globals.now (static_names (view_static expression.now)) ≡ true)
+        (λ _. is_judged globals.now (static_names (view_static expression.now)) ≡ false) }
+{
+    match expression {
+        Static::Whole(_) => None,
+        Static::Named(x) => match globals.constant_place(x.as_str()) {
+            Some(_) => None,
+            None => Some(x),
+        },
+        Static::Grouped(inner) | Static::Negated(inner) => unknown_name(inner, globals),
+        Static::Combined(_, left, right) => match unknown_name(left, globals) {
+            Some(x) => Some(x),
+            None => unknown_name(right, globals),
+        },
+    }
+}
+
+// The static parameters of a node.
+fn parameters_of(alloc: Global, parameters: &[Name]) -> Result<Scope, AllocError>
+    ensures { IfOk result (λ names. (x : TreeName) → among x names ≡ among x parameters.now) }
+{
+    let mut names = Scope::new(alloc);
+    for parameter in parameters {
+        names.declare(alloc, parameter.as_str())?;
+    }
+    Ok(names)
+}
+
+// Visits the constants that some static expressions name, beside those that are hidden.
+fn visit_parts(
+    parts: &[StaticPart],
+    globals: &Globals,
+    hidden: &Scope,
+    visits: &mut Visits,
+) -> Result<(), AllocError>
+    requires { visits.old.count ≡ globals.now.constants }
+    ensures order { OnOk result (visits.new.order ≡ visited_after_all visits.old.order
+        (flat_map (part_constants globals.now hidden.now) parts.now)) }
+    ensures count { OnOk result (visits.new.count ≡ visits.old.count) }
+{
+    for part in parts {
+        match part.text {
+            StaticText::Written(expression) => visit_names(expression, globals, hidden, visits)?,
+            StaticText::Named(name) => visit_name(name, globals, hidden, visits)?,
+        }
+    }
+    Ok(())
+}
+
+// Visits the constants that a node names.
+fn visit_node(
+    alloc: Global,
+    node: &ResolvedNode,
+    globals: &Globals,
+    visits: &mut Visits,
+) -> Result<(), AllocError>
+    requires { visits.old.count ≡ globals.now.constants }
+    ensures order { OnOk result (visits.new.order
+        ≡ visited_after_all visits.old.order (node_constants globals.now node.now)) }
+    ensures count { OnOk result (visits.new.count ≡ visits.old.count) }
+{
+    let hidden = parameters_of(alloc, &node.tree.parameters)?;
+    visit_parts(&node.statics, globals, &hidden, visits)
+}
+
+// Visits the constants that some nodes name.
+fn visit_nodes(
+    alloc: Global,
+    nodes: &[ResolvedNode],
+    globals: &Globals,
+    visits: &mut Visits,
+) -> Result<(), AllocError>
+    requires { visits.old.count ≡ globals.now.constants }
+    ensures order { OnOk result (visits.new.order
+        ≡ visited_after_all visits.old.order (flat_map (node_constants globals.now) nodes.now)) }
+    ensures count { OnOk result (visits.new.count ≡ visits.old.count) }
+{
+    for node in nodes {
+        visit_node(alloc, node, globals, visits)?;
+    }
+    Ok(())
+}
+
+// Judges the names in the value of each constant that came up, and visits what they stand for.
+fn judge_visited(
+    alloc: Global,
+    globals: &Globals,
+    source: &Source,
+    nothing: &Scope,
+    visits: &mut Visits,
+) -> Result<(), StaticError>
+    requires nothing { nothing.now ≡ [] }
+    requires names { globals.now.names ≡ names_in_source (view_source source.now) }
+    requires constants { globals.now.constants ≡ length source.now.constants.items }
+    requires once { are_distinct (names_in_source (view_source source.now)) ≡ true }
+    requires count { visits.old.count ≡ globals.now.constants }
+    ensures ok { OnOk result ((xs : List TreeName)
+        → AreNamed (view_source source.now) xs visits.old.order
+        → keeps_constants (view_source source.now) xs ≡ true) }
+    ensures err { IfErr result (λ e. (xs : List TreeName)
+        → AreNamed (view_source source.now) xs visits.old.order
+        → IsNameFault e (keeps_constants (view_source source.now) xs)) }
+{
+    let mut done = 0;
+    while let Some(place) = visits.place(done) {
+        let value = &source.constants[place].value;
+        if let Some(name) = unknown_name(value, globals) {
+            return Err(refused_name(alloc, name.as_str()));
+        }
+        visit_names(value, globals, nothing, visits)?;
+        done += 1;
+    }
+    Ok(())
+}
+
+/// Judges the constants that reached nodes name, and those that these name in turn: an unknown
+/// name in the value of one of them is refused.
+pub fn judge_constants(
+    alloc: Global,
+    globals: &Globals,
+    source: &Source,
+    nodes: &[ResolvedNode],
+) -> Result<(), StaticError>
+    requires names { globals.now.names ≡ names_in_source (view_source source.now) }
+    requires constants { globals.now.constants ≡ length source.now.constants.items }
+    requires once { are_distinct (names_in_source (view_source source.now)) ≡ true }
+    requires resolved { All (IsResolved (map (λ n. n.name) (view_source source.now).nodes)) nodes.now }
+    requires named { list_all (λ r. named_in (view_source source.now) (node_of r)) nodes.now ≡ true }
+    ensures ok { OnOk result (keeps_constants (view_source source.now)
+        (flat_map (named_constants (program_in (view_source source.now)))
+        (map node_of nodes.now)) ≡ true) }
+    ensures err { IfErr result (λ e. IsNameFault e (keeps_constants (view_source source.now)
+        (flat_map (named_constants (program_in (view_source source.now)))
+        (map node_of nodes.now)))) }
+{
+    let mut visits = Visits::new(alloc, source.constants.len())?;
+    visit_nodes(alloc, nodes, globals, &mut visits)?;
+    let nothing = Scope::new(alloc);
+    judge_visited(alloc, globals, source, &nothing, &mut visits)
+}

@@ -1,0 +1,99 @@
+//! Cycles in a graph of calls.
+//!
+//! A chain of calls may be as long as the source, so no function calls itself along it: the walk
+//! holds its path in a vector. It follows each call once, so its time is linear in nodes and calls.
+
+ghost use Rattle.std.specs.Prelude.{◌≡◌, ◌<◌, map, length, Some, None, Ok, IfOk, OnOk};
+ghost use Rattle.lb_static.specs.CallGraphs.{AreWithin, IsCycleAnswer, IsOnCycle};
+ghost use Rattle.lb_static.specs.CycleSearch.{IsAt, IsBetween, IsWalkAnswer};
+ghost use Rattle.lb_static.specs.declared.cycle.Progress.TheVariants.{Unseen, Done};
+
+use std::alloc::{AllocError, Global};
+
+/// How far the search has come with a node.
+#[derive(Clone, Copy)]
+enum Progress {
+    /// It was not begun.
+    Unseen,
+    /// It is on the path.
+    Open,
+    /// All that it calls is done.
+    Done,
+}
+
+/// A node on the path.
+#[derive(Clone, Copy)]
+struct Frame<'g> {
+    node: usize,
+    /// Those of its calls that are still to be followed.
+    left: &'g [usize],
+}
+
+impl<'g> Frame<'g> {
+    ghost use Rattle.std.specs.Prelude.{◌≡◌, ◌<◌, map, length};
+    ghost use Rattle.lb_static.specs.CallGraphs.{called};
+
+    // A node none of whose calls is followed yet.
+    fn new(node: usize, graph: &'g [Vec<usize>]) -> Frame<'g>
+        requires { node < length graph.now }
+        ensures node { result.node ≡ node }
+        ensures left { result.left.now ≡ called (map (λ v. v.items) graph.now) node }
+    {
+        let left = graph[node].as_slice();
+        Frame { node, left }
+    }
+}
+
+// Follows the calls of a node that was not begun. Answers a node that reaches itself, if it meets
+// one; if not, the node is done, and all that it reaches.
+fn walk_from(
+    alloc: Global,
+    graph: &[Vec<usize>],
+    progress: &mut [Progress],
+    start: usize,
+) -> Result<Option<usize>, AllocError>
+    requires within { AreWithin (map (λ v. v.items) graph.now) }
+    requires between { IsBetween (map (λ v. v.items) graph.now) progress.old }
+    requires unseen { IsAt progress.old start Unseen }
+    ensures { IfOk result
+        (IsWalkAnswer (map (λ v. v.items) graph.now) progress.old start progress.new) }
+{
+    progress[start] = Progress::Open;
+    let mut path = Vec::new(alloc);
+    path.push(Frame::new(start, graph))?;
+    while let Some(frame) = path.pop() {
+        match frame.left.split_first() {
+            None => progress[frame.node] = Progress::Done,
+            Some((&callee, left)) => {
+                let node = frame.node;
+                path.push(Frame { node, left })?;
+                match progress[callee] {
+                    Progress::Unseen => {
+                        progress[callee] = Progress::Open;
+                        path.push(Frame::new(callee, graph))?;
+                    }
+                    Progress::Open => return Ok(Some(callee)),
+                    Progress::Done => {}
+                }
+            }
+        }
+    }
+    Ok(None)
+}
+
+/// A node that reaches itself by its calls, or none if there is none. The graph has, for each node,
+/// the nodes that it calls.
+pub fn find_cycle(alloc: Global, graph: &[Vec<usize>]) -> Result<Option<usize>, AllocError>
+    requires { AreWithin (map (λ v. v.items) graph.now) }
+    ensures { IfOk result (IsCycleAnswer (map (λ v. v.items) graph.now)) }
+{
+    let mut progress = vec![in alloc; Progress::Unseen; graph.len()]?;
+    for start in 0..graph.len() {
+        if matches!(progress[start], Progress::Unseen) {
+            if let Some(node) = walk_from(alloc, graph, &mut progress, start)? {
+                return Ok(Some(node));
+            }
+        }
+    }
+    Ok(None)
+}

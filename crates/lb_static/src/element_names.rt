@@ -1,0 +1,85 @@
+//! The names of the scalar elements of a variable.
+
+ghost use Rattle.std.specs.Prelude.{◌≡◌, ◌≤◌, ◌+◌, ◌++◌, map, length, string_bytes, OnOk, IfOk};
+ghost use Rattle.lb_static.specs.Interfaces.{elements_in_all, elements_named, shapes_seen};
+ghost use Rattle.lb_static.specs.Shapes.{element_names, index_text, product};
+
+use crate::shape::Shape;
+use crate::signature::Signature;
+use lb_syntax::tree::{Kind, Name};
+use std::alloc::{AllocError, Global};
+
+/// The name of the element at an index: `x[1]`.
+fn name_at(alloc: Global, name: &str, index: u32) -> Result<String, AllocError>
+    ensures { IfOk result (λ named. string_bytes named ≡ name.now ++ index_text index) }
+{
+    format!(in alloc; "{name}[{index}]")
+}
+
+/// Adds the scalar elements of a variable of this name, kind and sizes, the outermost first: `x`
+/// alone for a scalar, and else `x[0]`, `x[1]` ..., the first index slowest.
+pub fn push_elements(
+    alloc: Global,
+    signature: &mut Signature,
+    name: &str,
+    kind: Kind,
+    sizes: &[u32],
+) -> Result<(), AllocError>
+    requires { length signature.old + product sizes.now ≤ 1023 }
+    ensures { OnOk result (signature.new
+        ≡ signature.old ++ map (λ x. (x, kind)) (element_names name.now sizes.now)) }
+{
+    match sizes {
+        [] => signature.push(String::from_str(alloc, name)?, kind),
+        [size, inner @ ..] => {
+            for i in 0..*size {
+                let element = name_at(alloc, name, i)?;
+                push_elements(alloc, signature, element.as_str(), kind, inner)?;
+            }
+            Ok(())
+        }
+    }
+}
+
+/// The scalar elements of variables of these names and types.
+pub fn elements(alloc: Global, names: &[&Name], shapes: &[Shape]) -> Result<Signature, AllocError>
+    requires { elements_in_all (shapes_seen shapes.now) ≤ 1023 }
+    ensures { IfOk result (λ signature. signature
+        ≡ elements_named (map (λ x. x.now) names.now) (shapes_seen shapes.now)) }
+{
+    let mut signature = Signature::new(alloc);
+    for (name, shape) in names.iter().zip(shapes) {
+        push_elements(
+            alloc,
+            &mut signature,
+            name.as_str(),
+            shape.kind,
+            &shape.sizes,
+        )?;
+    }
+    Ok(signature)
+}
+
+#[cfg(test)]
+mod tests {
+    use super::*;
+    use std::test::Fail;
+
+    #[test]
+    fn the_first_index_is_slowest(rt: HostRuntime) -> Result<(), Fail> {
+        let alloc = rt.alloc();
+        let mut signature = Signature::new(alloc);
+        push_elements(alloc, &mut signature, "c", Kind::Bool, &[])?;
+        push_elements(alloc, &mut signature, "m", Kind::Int, &[2, 3])?;
+        let expected = [
+            "c", "m[0][0]", "m[0][1]", "m[0][2]", "m[1][0]", "m[1][1]", "m[1][2]",
+        ];
+        assert_eq!(rt; signature.len(), 7);
+        for i in 0..7 {
+            assert_eq!(rt; signature.name(i), expected[i as usize]);
+        }
+        assert_eq!(rt; signature.kind(0), Kind::Bool);
+        assert_eq!(rt; signature.kind(6), Kind::Int);
+        Ok(())
+    }
+}

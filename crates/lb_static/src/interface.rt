@@ -1,0 +1,124 @@
+//! The inputs and outputs of an instance.
+
+ghost use Rattle.std.specs.Prelude.{◌≡◌, ◌≤◌, map, min, not, length, is_some, IfOk};
+ghost use Rattle.std.specs.List.{list_all};
+ghost use Rattle.lb_syntax.specs.SourceView.{view_node};
+
+use crate::element_names::elements;
+use crate::error::StaticError;
+use crate::resolved::{ResolvedNode, Variable};
+use crate::shape::{Shape, are_same, element_count, is_one_truth, shapes};
+use crate::signature::Signature;
+use crate::standing::interface_variables;
+use crate::static_value::StaticInt;
+use lb_syntax::tree::{Name, Node};
+use std::alloc::{AllocError, Global};
+
+/// Whether none of these variables has a clock of its own.
+fn have_no_clocks(variables: &[Variable]) -> bool
+    ensures { result ≡ list_all (λ v. not (is_some v.clock)) variables.now }
+{
+    variables.iter().all(|variable| variable.clock.is_none())
+}
+
+/// The types of the inputs and outputs of an instance.
+#[derive(Drop)]
+pub struct Interface<'s> {
+    /// The node.
+    pub tree: &'s Node,
+    /// How many of the types are those of inputs.
+    pub inputs: usize,
+    /// The types of the inputs, then those of the outputs.
+    pub shapes: Vec<Shape>,
+    /// Whether all inputs and outputs are on the base clock.
+    pub is_plain: bool,
+    pub ghost inputs_fit: { inputs ≤ length shapes.items },
+}
+
+impl<'s> Interface<'s> {
+    ghost use Rattle.lb_static.specs.Interfaces.{
+      Answers,
+      face_in,
+      face_seen,
+      inputs_of,
+      outputs_of,
+      observes,
+      is_one_truth_in,
+      shapes_seen,
+      elements_in_all,
+      elements_named,
+    };
+
+    /// The inputs and outputs of a node. Where a size is no number there are no types: `Root`.
+    pub fn new(
+        alloc: Global,
+        node: &ResolvedNode<'s>,
+        statics: &[StaticInt],
+    ) -> Result<Interface<'s>, StaticError>
+        ensures { Answers face_seen (face_in node.now statics.now) result }
+    {
+        let variables = interface_variables(node).ok_or(StaticError::Root)?;
+        let shapes = shapes(alloc, variables, statics)?;
+        let tree = node.tree;
+        Ok(Interface {
+            tree,
+            inputs: node.inputs,
+            shapes,
+            is_plain: have_no_clocks(variables),
+        })
+    }
+
+    /// The types of the inputs.
+    pub fn inputs(&self) -> &[Shape]
+        ensures { shapes_seen result.now ≡ inputs_of (face_seen self.now) }
+    {
+        &self.shapes[..self.inputs]
+    }
+
+    /// Whether the one output is a scalar `bool`.
+    pub fn has_property(&self) -> bool
+        ensures { result ≡ is_one_truth_in (outputs_of (face_seen self.now)) }
+    {
+        is_one_truth(&self.shapes[self.inputs..])
+    }
+
+    /// Whether it may observe another node: its inputs have the types of that node's inputs and
+    /// outputs, its one output is a scalar `bool`, and all are on the base clock.
+    pub fn observes(&self, root: &Interface) -> bool
+        ensures { result ≡ observes (face_seen self.now) (face_seen root.now) }
+    {
+        self.is_plain && are_same(self.inputs(), &root.shapes) && self.has_property()
+    }
+
+    /// How many scalar inputs there are; of more than 32 bits hold, the most that they hold.
+    pub fn scalar_inputs(&self) -> u32
+        ensures { result ≡ min (elements_in_all (inputs_of (face_seen self.now))) 4294967295 }
+    {
+        element_count(self.inputs())
+    }
+
+    /// The scalar elements of the inputs, in order.
+    pub fn signature(&self, alloc: Global) -> Result<Signature, AllocError>
+        requires { elements_in_all (inputs_of (face_seen self.now)) ≤ 1023 }
+        ensures { IfOk result (λ signature. signature ≡ elements_named
+            (map (λ d. d.name) (face_seen self.now).node.inputs)
+            (inputs_of (face_seen self.now))) }
+    {
+        let names = input_names(alloc, self.tree)?;
+        elements(alloc, &names, self.inputs())
+    }
+}
+
+/// The names of the inputs of a node, in order.
+fn input_names<'t>(alloc: Global, node: &'t Node) -> Result<Vec<&'t Name>, AllocError>
+    ensures { IfOk result (λ names.
+        map (λ x. x.now) names.items ≡ map (λ d. d.name) (view_node node.now).inputs) }
+{
+    let mut names = Vec::new(alloc);
+    for group in &node.inputs {
+        for name in &group.names {
+            names.push(name)?;
+        }
+    }
+    Ok(names)
+}

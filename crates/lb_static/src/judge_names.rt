@@ -1,0 +1,43 @@
+//! The names of a program: what is reached from the node under test and the observer, and that
+//! each name there has a meaning.
+
+ghost use Rattle.std.specs.Prelude.{◌≡◌, true, option_map, OnOk, IfOk, IfErr};
+ghost use Rattle.lb_static.specs.Elaborates.{program_of};
+ghost use Rattle.lb_static.specs.NameFaults.{IsNameFault};
+ghost use Rattle.lb_static.specs.Names.{keeps_names};
+ghost use Rattle.lb_static.specs.ReachedNodes.{IsReached};
+
+use crate::constant_names::judge_constants;
+use crate::error::StaticError;
+use crate::globals::Globals;
+use crate::reach::Reached;
+use crate::reaching::reach;
+use lb_syntax::tree::Source;
+use std::alloc::Global;
+
+/// The nodes that are reached by name, with their names resolved.
+///
+/// A doubled name of a constant, node or function is refused wherever it stands. Of other names
+/// only those are judged that stand in a reached node, or in the value of a constant that is
+/// reached from one.
+pub fn judge_names<'s>(
+    alloc: Global,
+    source: &'s Source,
+    node: &str,
+    observer: Option<&str>,
+) -> Result<Reached<'s>, StaticError>
+    ensures names { OnOk result (keeps_names (program_of source.now node.now
+        (option_map (λ o. o.now) observer.entry)) ≡ true) }
+    ensures reached { IfOk result (IsReached (program_of source.now node.now
+        (option_map (λ o. o.now) observer.entry))) }
+    ensures err { IfErr result (λ e. IsNameFault e (keeps_names (program_of source.now node.now
+        (option_map (λ o. o.now) observer.entry)))) }
+{
+    let globals = Globals::new(alloc, source)?;
+    let reached = reach(alloc, &globals, source, node, observer)?;
+    judge_constants(alloc, &globals, source, &reached.nodes)?;
+    Ok(reached)
+}
+
+#[cfg(test)]
+mod tests;

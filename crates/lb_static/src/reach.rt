@@ -1,0 +1,19 @@
+//! The nodes that are reached by name from the node under test and the observer.
+
+use crate::resolved::ResolvedNode;
+
+/// The place of a node among those that are reached.
+#[derive(Clone, Copy, PartialEq, Eq, Debug)]
+pub struct NodeId(pub u32);
+
+/// The nodes that are reached, with their names resolved: the node under test, then the observer
+/// if there is one, then what they call, each of them once.
+#[derive(Drop)]
+pub struct Reached<'s> {
+    pub nodes: Vec<ResolvedNode<'s>>,
+    /// For each node of the source, its place among those that are reached.
+    pub ids: Vec<Option<NodeId>>,
+    /// The node under test.
+    pub root: NodeId,
+    pub observer: Option<NodeId>,
+}

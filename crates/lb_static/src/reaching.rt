@@ -1,0 +1,166 @@
+//! The nodes that are reached by name from the node under test and the observer.
+
+ghost use Rattle.std.specs.Prelude.{◌≡◌, ◌<◌, ◌≤◌, ℕ, [], Bool, true, is_some, length, map, nat_lt, option_map, slice_get, OnOk, IfOk, IfErr, MatchOption};
+ghost use Rattle.std.specs.List.{list_all};
+ghost use Rattle.lb_syntax.specs.SourceView.{view_source};
+ghost use Rattle.lb_syntax.specs.Tree.{Node as TreeNode};
+ghost use Rattle.lb_static.specs.Elaborates.{program_of};
+ghost use Rattle.lb_static.specs.Faults.{names_in_source, node_in_source};
+ghost use Rattle.lb_static.specs.NameFaults.{named_in, IsNameFault};
+ghost use Rattle.lb_static.specs.Names.{are_distinct, starts};
+ghost use Rattle.lb_static.specs.ReachedNodes.{IsReached};
+ghost use Rattle.lb_static.specs.CalledNodes.{AreResolved, AreStarts, IsStart, are_named, called, callees, ids_of};
+ghost use Rattle.lb_static.specs.Visiting.{AreHad, visited_after_all, within};
+
+use crate::error::StaticError;
+use crate::globals::{Globals, refused_name};
+use crate::reach::{NodeId, Reached};
+use crate::resolved::{CallSite, ResolvedNode};
+use crate::resolving_nodes::resolve_node;
+use crate::visits::Visits;
+use lb_syntax::tree::Source;
+use std::alloc::{AllocError, Global};
+
+// The place of the node of a name.
+fn place_named(source: &Source, name: &str) -> Option<usize>
+    ensures { MatchOption result (node_in_source source.now name.now ≡ None)
+        (λ place. (place < length source.now.nodes.items)
+        × (slice_get (view_source source.now).nodes place
+        ≡ node_in_source source.now name.now)) }
+{
+    for place in 0..source.nodes.len() {
+        if source.nodes[place].name.as_str() == name {
+            return Some(place);
+        }
+    }
+    None
+}
+
+// Visits the nodes that some calls call, in text order.
+fn visit_callees(calls: &[CallSite], visits: &mut Visits) -> Result<(), AllocError>
+    requires { list_all (λ s. nat_lt s.callee.0 visits.old.count) calls.now ≡ true }
+    ensures order { OnOk result
+        (visits.new.order ≡ visited_after_all visits.old.order (callees calls.now)) }
+    ensures count { OnOk result (visits.new.count ≡ visits.old.count) }
+{
+    for call in calls {
+        visits.visit(call.callee.0 as usize)?;
+    }
+    Ok(())
+}
+
+// Resolves the names of each node that came up, and visits what it calls.
+fn resolve_visited<'s>(
+    alloc: Global,
+    globals: &Globals,
+    source: &'s Source,
+    visits: &mut Visits,
+) -> Result<Vec<ResolvedNode<'s>>, StaticError>
+    requires names { globals.now.names ≡ names_in_source (view_source source.now) }
+    requires constants { globals.now.constants ≡ length source.now.constants.items }
+    requires count { visits.old.count ≡ length source.now.nodes.items }
+    ensures resolved { IfOk result (λ nodes.
+        AreResolved (view_source source.now) visits.old.order visits.new.order nodes.items) }
+    ensures all { IfOk result (λ nodes. length nodes.items ≡ length visits.new.order) }
+    ensures count { OnOk result (visits.new.count ≡ visits.old.count) }
+    ensures few { OnOk result (length visits.new.order ≤ visits.new.count) }
+    ensures err { IfErr result (λ e. (start : TreeNode → Bool)
+        → AreHad (view_source source.now).nodes start called visits.old.order
+        → IsNameFault e (list_all (named_in (view_source source.now))
+        (within (view_source source.now).nodes start called
+        (length (view_source source.now).nodes)))) }
+{
+    let mut nodes = Vec::new(alloc);
+    while let Some(place) = visits.place(nodes.len()) {
+        let node = resolve_node(alloc, globals, source, &source.nodes[place])?;
+        visit_callees(&node.calls, visits)?;
+        nodes.push(node)?;
+    }
+    Ok(nodes)
+}
+
+// Visits the node of a name; answers its turn.
+fn visit_named(
+    alloc: Global,
+    source: &Source,
+    name: &str,
+    visits: &mut Visits,
+) -> Result<NodeId, StaticError>
+    requires count { visits.old.count ≡ length source.now.nodes.items }
+    ensures start { IfOk result (λ id.
+        IsStart (view_source source.now) name.now visits.old.order visits.new.order id) }
+    ensures count { OnOk result (visits.new.count ≡ visits.old.count) }
+    ensures err { IfErr result (λ e.
+        IsNameFault e (is_some (node_in_source source.now name.now))) }
+{
+    match place_named(source, name) {
+        Some(place) => Ok(NodeId(visits.visit(place)?)),
+        None => Err(refused_name(alloc, name)),
+    }
+}
+
+// Visits the node under test and the observer, if there is one.
+fn visit_starts(
+    alloc: Global,
+    source: &Source,
+    node: &str,
+    observer: Option<&str>,
+    visits: &mut Visits,
+) -> Result<(NodeId, Option<NodeId>), StaticError>
+    requires once { are_distinct (names_in_source (view_source source.now)) ≡ true }
+    requires none { visits.old.order ≡ [] }
+    requires count { visits.old.count ≡ length source.now.nodes.items }
+    ensures starts { IfOk result (λ found.
+        AreStarts (program_of source.now node.now (option_map (λ o. o.now) observer.entry))
+        visits.new.order found.0 found.1) }
+    ensures count { OnOk result (visits.new.count ≡ visits.old.count) }
+    ensures err { IfErr result (λ e. IsNameFault e (list_all is_some (starts
+        (program_of source.now node.now (option_map (λ o. o.now) observer.entry))))) }
+{
+    let root = visit_named(alloc, source, node, visits)?;
+    match observer {
+        None => Ok((root, None)),
+        Some(name) => {
+            let observer = visit_named(alloc, source, name, visits)?;
+            Ok((root, Some(observer)))
+        }
+    }
+}
+
+// For each node of the source its place among those that came up.
+fn node_ids(alloc: Global, turns: &[Option<u32>]) -> Result<Vec<Option<NodeId>>, AllocError>
+    ensures { IfOk result (λ ids. ids.items ≡ ids_of turns.now) }
+{
+    turns.iter().map(|turn| turn.map(NodeId)).collect(alloc)
+}
+
+/// The nodes that are reached from the node under test and from the observer, if there is one,
+/// with their names resolved. An unknown name of a start or of a reached node is refused.
+pub fn reach<'s>(
+    alloc: Global,
+    globals: &Globals,
+    source: &'s Source,
+    node: &str,
+    observer: Option<&str>,
+) -> Result<Reached<'s>, StaticError>
+    requires names { globals.now.names ≡ names_in_source (view_source source.now) }
+    requires constants { globals.now.constants ≡ length source.now.constants.items }
+    requires once { are_distinct (names_in_source (view_source source.now)) ≡ true }
+    ensures named { OnOk result (are_named (program_of source.now node.now
+        (option_map (λ o. o.now) observer.entry)) ≡ true) }
+    ensures reached { IfOk result (IsReached (program_of source.now node.now
+        (option_map (λ o. o.now) observer.entry))) }
+    ensures err { IfErr result (λ e. IsNameFault e (are_named (program_of source.now node.now
+        (option_map (λ o. o.now) observer.entry)))) }
+{
+    let mut visits = Visits::new(alloc, source.nodes.len())?;
+    let (root, observer) = visit_starts(alloc, source, node, observer, &mut visits)?;
+    let nodes = resolve_visited(alloc, globals, source, &mut visits)?;
+    let ids = node_ids(alloc, &visits.into_turns())?;
+    Ok(Reached {
+        nodes,
+        ids,
+        root,
+        observer,
+    })
+}

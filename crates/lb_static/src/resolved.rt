@@ -1,0 +1,164 @@
+//! Nodes whose names are resolved.
+//!
+//! A variable, a call and a static expression are numbers here, so that no layer above compares
+//! names: a variable is its place among the inputs, outputs and locals of its node, a call its
+//! place among the calls and iterated nodes in the text of its node, and a static expression its
+//! place among those of its node. What the numbers stand for is kept beside the node's body, and
+//! its tree stays at hand.
+
+use lb_syntax::tree::{ArrayIterator, BinaryOperator, Kind, Name, Node, Static, UnaryOperator};
+
+/// The place of a variable among the inputs, outputs and locals of its node, in this order.
+#[derive(Clone, Copy, PartialEq, Eq, Debug)]
+pub struct VariableId(pub u32);
+
+/// The place of a static expression among those of its node.
+#[derive(Clone, Copy, PartialEq, Eq, Debug)]
+pub struct StaticId(pub u32);
+
+/// The number of a call or an iterated node: its place among those in the text of its node.
+#[derive(Clone, Copy, PartialEq, Eq, Debug)]
+pub struct CallId(pub u32);
+
+/// The place of a node among those of the source.
+#[derive(Clone, Copy, PartialEq, Eq, Debug)]
+pub struct NodePlace(pub u32);
+
+/// An expression whose names are resolved.
+#[derive(Drop)]
+pub enum Term {
+    /// `17`
+    Literal(u32),
+    /// `true`, `false`
+    Truth(bool),
+    /// `x`, a variable
+    Variable(VariableId),
+    /// `n`, a static parameter or a constant
+    Value(StaticId),
+    /// `(e)`
+    Group(Box<Term>),
+    /// `not e`, `- e`
+    Unary(UnaryOperator, Box<Term>),
+    /// `a + b` and the other infix forms of data
+    Binary(BinaryOperator, Box<Term>, Box<Term>),
+    /// `if c then a else b`
+    If(Box<Term>, Box<Term>, Box<Term>),
+    /// `a -> b`
+    Arrow(Box<Term>, Box<Term>),
+    /// `a fby b`
+    Fby(Box<Term>, Box<Term>),
+    /// `pre e`
+    Pre(Box<Term>),
+    /// `current e`
+    Current(Box<Term>),
+    /// `e when c` (true), `e when not c` (false)
+    When(Box<Term>, VariableId, bool),
+    /// `e ^ n`
+    Copies(Box<Term>, StaticId),
+    /// `e[i]`
+    Index(Box<Term>, StaticId),
+    /// `e[i..j]`
+    Slice(Box<Term>, StaticId, StaticId),
+    /// `a | b`
+    Join(Box<Term>, Box<Term>),
+    /// `[a, b, c]`
+    Array(Vec<Term>),
+    /// `#(a, b, c)`
+    AtMostOne(Vec<Term>),
+    /// `nor(a, b, c)`
+    Nor(Vec<Term>),
+    /// `f(a, b)`, `f<<s, t>>(a, b)`
+    Call(CallId, Vec<Term>),
+    /// `map<<f, n>>(a, b)`, and `red`, `fill`, over a node
+    IterateNode(ArrayIterator, CallId, Vec<Term>),
+    /// `map<<+, n>>(a, b)`, and `red`, `fill`, over an operator
+    IterateSymbol(ArrayIterator, BinaryOperator, StaticId, Vec<Term>),
+}
+
+/// A statement whose names are resolved.
+#[derive(Drop)]
+pub enum Step {
+    /// `x = e;`, `(x, y) = e;`
+    Equation(Vec<VariableId>, Term),
+    /// `assert e;`
+    Assertion(Term),
+}
+
+/// A clock as it is declared: the variable that is waited for, and whether for true or for false.
+#[derive(Clone, Copy)]
+pub struct Sampling {
+    pub variable: VariableId,
+    pub sign: bool,
+}
+
+/// A variable as it is declared. The variables of one group share the places of their sizes.
+#[derive(Clone, Copy)]
+pub struct Variable {
+    pub kind: Kind,
+    /// The first of its sizes, which stand one after another, the innermost first.
+    pub first_size: StaticId,
+    /// How many sizes it has.
+    pub sizes: u32,
+    pub clock: Option<Sampling>,
+}
+
+/// A call or an iterated node.
+#[derive(Clone, Copy)]
+pub struct CallSite {
+    pub callee: NodePlace,
+    /// The first of its static arguments, which stand one after another.
+    pub first_argument: StaticId,
+    /// How many static arguments it has.
+    pub arguments: u32,
+    /// How often an iterated node is called.
+    pub count: Option<StaticId>,
+}
+
+/// What a static expression stands for in the text.
+#[derive(Clone, Copy, PartialEq, Eq, Debug)]
+pub enum Role {
+    /// The size of a declared type, of `e ^ n` or of an iterator.
+    Size,
+    /// An index.
+    Index,
+    /// The first end of a slice; the other end comes next.
+    SliceStart,
+    /// The last end of a slice.
+    SliceEnd,
+    /// A static argument of a call or an iterated node.
+    Argument,
+    /// A static parameter or a constant that an expression names.
+    Value,
+}
+
+/// A static expression as it is written, or a name that stands in an expression.
+#[derive(Clone, Copy)]
+pub enum StaticText<'s> {
+    Written(&'s Static),
+    Named(&'s Name),
+}
+
+/// A static expression of a node, and what it is there for.
+#[derive(Clone, Copy)]
+pub struct StaticPart<'s> {
+    pub role: Role,
+    pub text: StaticText<'s>,
+}
+
+/// A node or function whose names are resolved.
+#[derive(Drop)]
+pub struct ResolvedNode<'s> {
+    pub tree: &'s Node,
+    /// The inputs, then the outputs, then the locals.
+    pub variables: Vec<Variable>,
+    /// How many of the variables are inputs.
+    pub inputs: usize,
+    /// How many of them, after the inputs, are outputs.
+    pub outputs: usize,
+    /// The statements, in text order.
+    pub body: Vec<Step>,
+    /// The calls and iterated nodes, in text order, each before those in its arguments.
+    pub calls: Vec<CallSite>,
+    /// The static expressions: those of declarations first, then those of the body in text order.
+    pub statics: Vec<StaticPart<'s>>,
+}

@@ -1,0 +1,112 @@
+//! Names, static expressions and calls of a node, resolved.
+
+ghost use Rattle.std.specs.Prelude.{◌≡◌, true, map, option_map, IfOk, IfErr};
+ghost use Rattle.lb_syntax.specs.Tree as tree;
+ghost use Rattle.lb_syntax.specs.View.{view_static, view_statics};
+ghost use Rattle.lb_static.specs.NameFaults.{IsNameFault};
+ghost use Rattle.lb_static.specs.Names.{is_variable};
+ghost use Rattle.lb_static.specs.NodeNames.{IsVariableAt};
+ghost use Rattle.lb_static.specs.NodeProgress.{ResolvesTerm, ResolvesStatic, ResolvesStatics, ResolvesCall, texts, counts_in, program_of};
+ghost use Rattle.lb_static.specs.Progressed.{progress};
+ghost use Rattle.lb_static.specs.ResolvedTerms.{static_at, is_count_within};
+
+use crate::error::StaticError;
+use crate::found::Found;
+use crate::globals::refused_name;
+use crate::resolved::{CallId, CallSite, Role, StaticId, StaticPart, StaticText, Term, VariableId};
+use lb_syntax::tree::{Name, Static};
+use std::alloc::Global;
+
+/// The place of the variable of a name.
+pub fn variable(alloc: Global, here: &Found, name: &Name) -> Result<VariableId, StaticError>
+    ensures found { IfOk result (IsVariableAt (progress here.now).node name.now) }
+    ensures is { IfOk result (λ _.
+        is_variable (program_of (progress here.now)) (progress here.now).node name.now ≡ true) }
+    ensures err { IfErr result (λ e. IsNameFault e
+        (is_variable (program_of (progress here.now)) (progress here.now).node name.now)) }
+{
+    match here.naming().place(name) {
+        Some(place) => Ok(place),
+        None => Err(refused_name(alloc, name.as_str())),
+    }
+}
+
+/// What a name in an expression stands for: a variable, a static parameter or a constant.
+pub fn named<'s>(
+    alloc: Global,
+    here: &mut Found<'_, 's>,
+    name: &'s Name,
+) -> Result<Term, StaticError>
+    ensures { ResolvesTerm (progress here.old) (progress here.new) (tree.Variable name.now) result }
+{
+    if let Some(place) = here.naming().place(name) {
+        return Ok(Term::Variable(place));
+    }
+    if !here.naming().is_static(name) {
+        return Err(refused_name(alloc, name.as_str()));
+    }
+    let part = StaticPart {
+        role: Role::Value,
+        text: StaticText::Named(name),
+    };
+    Ok(Term::Value(here.push_static(part)?))
+}
+
+/// The number of a static expression.
+pub fn one_static<'s>(
+    alloc: Global,
+    here: &mut Found<'_, 's>,
+    role: Role,
+    text: &'s Static,
+) -> Result<StaticId, StaticError>
+    ensures { ResolvesStatic (progress here.old) (progress here.new) role (view_static text.now)
+        result }
+{
+    here.naming().judge_static(alloc, text)?;
+    here.push_static(StaticPart {
+        role,
+        text: StaticText::Written(text),
+    })
+}
+
+/// The first of some static expressions that stand one after another, and how many there are.
+pub fn all_statics<'s>(
+    alloc: Global,
+    here: &mut Found<'_, 's>,
+    role: Role,
+    texts: &'s [Static],
+) -> Result<(StaticId, u32), StaticError>
+    ensures { ResolvesStatics (progress here.old) (progress here.new) role (view_statics texts.now)
+        result }
+{
+    let first = here.next_static();
+    for text in texts {
+        one_static(alloc, here, role, text)?;
+    }
+    Ok((first, here.next_static().0 - first.0))
+}
+
+/// The number of a call or of an iterated node, which is called so often.
+pub fn call<'s>(
+    alloc: Global,
+    here: &mut Found<'_, 's>,
+    name: &'s Name,
+    arguments: &'s [Static],
+    count: Option<StaticId>,
+) -> Result<CallId, StaticError>
+    requires { is_count_within (counts_in (texts (progress here.old))) count ≡ true }
+    ensures { ResolvesCall (progress here.old) (progress here.new) (record {
+      callee = name.now;
+      arguments = view_statics arguments.now;
+      count = option_map (static_at (texts (progress here.old)).statics) count;
+    }) result }
+{
+    let callee = here.naming().callee(alloc, name, arguments.len())?;
+    let (first_argument, arguments) = all_statics(alloc, here, Role::Argument, arguments)?;
+    here.push_call(CallSite {
+        callee,
+        first_argument,
+        arguments,
+        count,
+    })
+}

@@ -1,0 +1,71 @@
+//! Statements whose names are resolved.
+
+ghost use Rattle.std.specs.Prelude.{◌≡◌, true, map, IfErr, IfOk};
+ghost use Rattle.std.specs.List.{list_all};
+ghost use Rattle.lb_syntax.specs.SourceView.{view_statement};
+ghost use Rattle.lb_static.specs.NameFaults.{IsNameFault};
+ghost use Rattle.lb_static.specs.Names.{is_variable};
+ghost use Rattle.lb_static.specs.NodeProgress.{ResolvesStep, ResolvesSteps, texts, counts_in, program_of};
+ghost use Rattle.lb_static.specs.Parts.{variable_names};
+ghost use Rattle.lb_static.specs.Progressed.{progress};
+ghost use Rattle.lb_static.specs.ResolvedTerms.{name_at, is_variable as is_place};
+
+use crate::error::StaticError;
+use crate::found::Found;
+use crate::resolved::{Step, VariableId};
+use crate::resolving_parts::variable;
+use crate::resolving_terms::term;
+use lb_syntax::tree::{Name, Statement};
+use std::alloc::Global;
+
+/// The places of the variables on a left side.
+fn places(alloc: Global, here: &Found, lefts: &[Name]) -> Result<Vec<VariableId>, StaticError>
+    ensures named { IfOk result (λ places.
+        map (name_at (variable_names (progress here.now).node)) places.items ≡ lefts.now) }
+    ensures within { IfOk result (λ places.
+        list_all (is_place (counts_in (texts (progress here.now)))) places.items ≡ true) }
+    ensures fit { IfOk result (λ _. list_all
+        (is_variable (program_of (progress here.now)) (progress here.now).node) lefts.now ≡ true) }
+    ensures err { IfErr result (λ e. IsNameFault e (list_all
+        (is_variable (program_of (progress here.now)) (progress here.now).node) lefts.now)) }
+{
+    let mut places = Vec::new(alloc);
+    for left in lefts {
+        places.push(variable(alloc, here, left)?)?;
+    }
+    Ok(places)
+}
+
+/// A statement with its names resolved.
+fn step<'s>(
+    alloc: Global,
+    here: &mut Found<'_, 's>,
+    statement: &'s Statement,
+) -> Result<Step, StaticError>
+    ensures { ResolvesStep (progress here.old) (progress here.new) (view_statement statement.now)
+        result }
+{
+    match statement {
+        Statement::Equation(lefts, e) => {
+            let places = places(alloc, here, lefts)?;
+            Ok(Step::Equation(places, term(alloc, here, e)?))
+        }
+        Statement::Assertion(e) => Ok(Step::Assertion(term(alloc, here, e)?)),
+    }
+}
+
+/// The statements of a node with their names resolved, in text order.
+pub fn steps<'s>(
+    alloc: Global,
+    here: &mut Found<'_, 's>,
+    body: &'s [Statement],
+) -> Result<Vec<Step>, StaticError>
+    ensures { ResolvesSteps (progress here.old) (progress here.new) (map view_statement body.now)
+        result }
+{
+    let mut steps = Vec::new(alloc);
+    for statement in body {
+        steps.push(step(alloc, here, statement)?)?;
+    }
+    Ok(steps)
+}

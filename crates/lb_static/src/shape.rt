@@ -1,0 +1,203 @@
+//! The types of variables, as values.
+
+ghost use Rattle.std.specs.Prelude.{◌≡◌, option_map, min, map, reverse};
+ghost use Rattle.lb_syntax.specs.Lists.{all_some};
+ghost use Rattle.lb_static.specs.Interfaces.{
+  Answers,
+  shape_seen,
+  shapes_seen,
+  sizes_in,
+  shape_in,
+  shapes_in,
+  elements_in_all,
+  is_one_truth_in,
+};
+ghost use Rattle.lb_static.specs.Shapes.{element_count, is_shape, are_shapes, truth};
+ghost use Rattle.lb_static.specs.StaticValues.{natural};
+
+use crate::error::StaticError;
+use crate::resolved::Variable;
+use crate::static_value::StaticInt;
+use lb_syntax::tree::Kind;
+use std::alloc::Global;
+
+/// A type: a kind and the sizes of an array of it, the outermost first; a scalar has none.
+#[derive(PartialEq, Drop)]
+pub struct Shape {
+    pub kind: Kind,
+    pub sizes: Vec<u32>,
+}
+
+/// A size as a number, where it is one without a sign.
+fn size(value: StaticInt) -> Option<u32>
+    ensures { result ≡ natural value }
+{
+    u32::try_from(value.get()).ok()
+}
+
+/// The values of a variable's sizes, the innermost first.
+fn size_values<'t>(variable: &Variable, statics: &'t [StaticInt]) -> Option<&'t [StaticInt]>
+    ensures { option_map (λ values. values.now) result ≡ sizes_in statics.now variable.now }
+{
+    let first = variable.first_size.0 as usize;
+    statics.get(first..first + variable.sizes as usize)
+}
+
+/// Sizes as numbers, the outermost first, from their values, the innermost first.
+///
+/// A size that is no number without a sign is none: `Root`.
+fn outermost_first(alloc: Global, values: &[StaticInt]) -> Result<Vec<u32>, StaticError>
+    ensures { Answers (λ sizes. sizes.items) (all_some (map natural (reverse values.now))) result }
+{
+    let mut sizes = Vec::new(alloc);
+    for value in values {
+        sizes.push(size(*value).ok_or(StaticError::Root)?)?;
+    }
+    sizes.reverse();
+    Ok(sizes)
+}
+
+impl Shape {
+    /// The type of a variable, by the values of the static expressions of its node.
+    ///
+    /// Where a size is no number without a sign there is no type: `Root`.
+    pub fn of(
+        alloc: Global,
+        variable: &Variable,
+        statics: &[StaticInt],
+    ) -> Result<Shape, StaticError>
+        ensures { Answers shape_seen (shape_in statics.now variable.now) result }
+    {
+        let values = size_values(variable, statics).ok_or(StaticError::Root)?;
+        let sizes = outermost_first(alloc, values)?;
+        Ok(Shape {
+            kind: variable.kind,
+            sizes,
+        })
+    }
+
+    /// Whether it is a scalar `bool`.
+    pub fn is_truth(&self) -> bool
+        ensures { result ≡ is_shape (shape_seen self.now) truth }
+    {
+        self.kind == Kind::Bool && self.sizes.is_empty()
+    }
+
+    /// How many scalar elements it has; of more than 32 bits hold, the most that they hold.
+    pub fn element_count(&self) -> u32
+        ensures { result ≡ min (element_count (shape_seen self.now)) 4294967295 }
+    {
+        let mut count: u32 = 1;
+        for size in &self.sizes {
+            count = count.saturating_mul(*size);
+        }
+        count
+    }
+}
+
+/// The types of some variables of a node, by the values of its static expressions.
+pub fn shapes(
+    alloc: Global,
+    variables: &[Variable],
+    statics: &[StaticInt],
+) -> Result<Vec<Shape>, StaticError>
+    ensures { Answers (λ found. shapes_seen found.items)
+        (shapes_in statics.now variables.now) result }
+{
+    let mut found = Vec::new(alloc);
+    for variable in variables {
+        found.push(Shape::of(alloc, variable, statics)?)?;
+    }
+    Ok(found)
+}
+
+/// Whether these are the same types in the same order.
+pub fn are_same(shapes: &[Shape], others: &[Shape]) -> bool
+    ensures { result ≡ are_shapes (shapes_seen shapes.now) (shapes_seen others.now) }
+{
+    shapes == others
+}
+
+/// Whether there is one type, a scalar `bool`.
+pub fn is_one_truth(shapes: &[Shape]) -> bool
+    ensures { result ≡ is_one_truth_in (shapes_seen shapes.now) }
+{
+    match shapes {
+        [shape] => shape.is_truth(),
+        _ => false,
+    }
+}
+
+/// How many scalar elements some types have in all; of more than 32 bits hold, the most that they
+/// hold.
+pub fn element_count(shapes: &[Shape]) -> u32
+    ensures { result ≡ min (elements_in_all (shapes_seen shapes.now)) 4294967295 }
+{
+    let mut count: u32 = 0;
+    for shape in shapes {
+        count = count.saturating_add(shape.element_count());
+    }
+    count
+}
+
+#[cfg(test)]
+mod tests {
+    use super::*;
+    use crate::constants::Constants;
+    use crate::resolved::StaticId;
+    use crate::static_value::Values;
+    use lb_syntax::parse::parse;
+    use std::test::Fail;
+
+    #[test]
+    fn the_outermost_size_is_the_last(rt: HostRuntime) -> Result<(), Fail> {
+        let alloc = rt.alloc();
+        let source = parse(alloc, b"const other = 7; columns = 3; rows = 2; none = -1;")?;
+        let constants = Constants::new(alloc, &source.constants)?;
+        let mut statics = Vec::new(alloc);
+        for name in ["other", "columns", "rows", "none"] {
+            statics.push(constants.get(name).expect(&rt, "a value"))?;
+        }
+        let matrix = Variable {
+            kind: Kind::Int,
+            first_size: StaticId(1),
+            sizes: 2,
+            clock: None,
+        };
+        let found = shapes(alloc, &[matrix], &statics)?;
+        assert_eq!(rt; found.len(), 1);
+        assert_eq!(rt; found[0].sizes.as_slice(), [2, 3].as_slice());
+        assert_eq!(rt; element_count(&found), 6);
+        assert!(rt; are_same(&found, &found));
+        assert!(rt; !are_same(&found, &[]));
+        let negative = Variable {
+            first_size: StaticId(3),
+            sizes: 1,
+            ..matrix
+        };
+        assert!(rt; Shape::of(alloc, &negative, &statics).is_err());
+        Ok(())
+    }
+
+    #[test]
+    fn counts_stop_at_32_bits(rt: HostRuntime) -> Result<(), Fail> {
+        let alloc = rt.alloc();
+        let large = Shape {
+            kind: Kind::Bool,
+            sizes: Vec::from_slice(alloc, &[65536, 65536])?,
+        };
+        let scalar = Shape {
+            kind: Kind::Bool,
+            sizes: Vec::new(alloc),
+        };
+        assert_eq!(rt; large.element_count(), u32::MAX);
+        assert_eq!(rt; scalar.element_count(), 1);
+        assert!(rt; !large.is_truth());
+        assert!(rt; scalar.is_truth());
+        let both = Vec::from_array(alloc, [scalar, large])?;
+        assert_eq!(rt; element_count(&both), u32::MAX);
+        assert!(rt; !is_one_truth(&both));
+        assert!(rt; is_one_truth(&both[..1]));
+        Ok(())
+    }
+}

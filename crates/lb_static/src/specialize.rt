@@ -1,0 +1,147 @@
+//! A node with values of its static parameters: what its static expressions stand for.
+//!
+//! Each static expression of the node is evaluated once, and its value is held at its place. Sizes,
+//! indexes and slices are judged by what stands at their places alone.
+
+ghost use Rattle.std.specs.Prelude.{◌≡◌, ◌≤◌, ◌<◌, ◌+◌, ◌^◌, nat_le, true, IfOk, option_map, length, pos};
+ghost use Rattle.std.specs.List.{list_all};
+ghost use Rattle.lb_static.specs.ResolvedTerms.{static_of, is_declared_within, are_statics};
+ghost use Rattle.lb_static.specs.ResolvedNodes.{counts_of};
+ghost use Rattle.lb_static.specs.StaticValues.{value_under};
+ghost use Rattle.lb_static.specs.Specialized.{given_by, part_value, part_values, count_between, runs_forward, part_passes, in_range_after, size_of, times_sizes, is_narrow, node_in_range, IsEvaluated};
+
+use crate::error::StaticError;
+use crate::instance_values::InstanceValues;
+use crate::resolved::{ResolvedNode, Role, StaticPart, StaticText, Variable};
+use crate::static_value::{StaticInt, Values, static_value};
+use std::alloc::{AllocError, Global};
+
+// The value of a static expression, or of a name that stands in an expression.
+fn part_value(part: &StaticPart, values: &InstanceValues) -> Option<StaticInt>
+    ensures { result ≡ part_value (given_by values.now) part.now }
+{
+    match part.text {
+        StaticText::Written(expression) => static_value(expression, values),
+        StaticText::Named(name) => values.get(name.as_str()),
+    }
+}
+
+// The values of static expressions, if all have one.
+fn part_values(
+    alloc: Global,
+    parts: &[StaticPart],
+    values: &InstanceValues,
+) -> Result<Option<Vec<StaticInt>>, AllocError>
+    ensures { IfOk result (λ o.
+        option_map (λ v. v.items) o ≡ part_values (given_by values.now) parts.now) }
+{
+    let mut all = Vec::with_capacity(alloc, parts.len())?;
+    for part in parts {
+        match part_value(part, values) {
+            Some(value) => all.push(value)?,
+            None => return Ok(None),
+        }
+    }
+    Ok(Some(all))
+}
+
+// Whether a value is within bounds.
+fn is_between(value: StaticInt, low: u32, high: u32) -> bool
+    ensures { result ≡ count_between low high (Some value) }
+{
+    i64::from(low) <= value.get() && value.get() <= i64::from(high)
+}
+
+// Whether a slice between these ends does not run backwards.
+fn runs_forward(start: StaticInt, end: StaticInt) -> bool
+    ensures { result ≡ runs_forward (Some start) (Some end) }
+{
+    0 <= start.get() && start.get() <= end.get()
+}
+
+// Whether a value is within the range of what it is there for, after the value before it.
+fn part_passes(before: StaticInt, role: Role, value: StaticInt) -> bool
+    ensures { result ≡ part_passes (Some before) role (Some value) }
+{
+    match role {
+        Role::Size => is_between(value, 1, 4096),
+        Role::Index | Role::SliceStart => is_between(value, 0, 4095),
+        Role::SliceEnd => is_between(value, 0, 4095) && runs_forward(before, value),
+        Role::Argument | Role::Value => true,
+    }
+}
+
+// Whether the values of static expressions are within the ranges of what these are there for.
+fn are_in_range(parts: &[StaticPart], values: &[StaticInt]) -> bool
+    requires { length values.now ≡ length parts.now }
+    ensures { result ≡ in_range_after (pos 0) parts.now values.now }
+{
+    let mut before = StaticInt::zero();
+    for (place, value) in values.iter().enumerate() {
+        if !part_passes(before, parts[place].role, *value) {
+            return false;
+        }
+        before = *value;
+    }
+    true
+}
+
+/// A size as a number; one below 0 counts as 0.
+pub fn size_of(value: StaticInt) -> u64
+    ensures value { result ≡ size_of value }
+    ensures within { result < 2 ^ 32 }
+{
+    let number = value.get();
+    if number < 0 { 0 } else { number as u64 }
+}
+
+// So many elements as the sizes make, or 65,537 for all that are more than 65,536.
+fn elements(sizes: &[StaticInt]) -> u64
+    ensures { result ≡ times_sizes 1 sizes.now }
+{
+    let mut elements = 1;
+    for size in sizes {
+        elements = (elements * size_of(*size)).min(65537);
+    }
+    elements
+}
+
+// Whether no variable has more than 65,536 elements.
+fn are_narrow(variables: &[Variable], values: &[StaticInt]) -> bool
+    requires { list_all (λ v. nat_le (v.first_size.0 + v.sizes) (length values.now)) variables.now
+        ≡ true }
+    ensures { result ≡ list_all (is_narrow values.now) variables.now }
+{
+    for variable in variables {
+        let first = variable.first_size.0 as usize;
+        if elements(&values[first..first + variable.sizes as usize]) > 65536 {
+            return false;
+        }
+    }
+    true
+}
+
+// The name of a node again.
+fn name_of(alloc: Global, node: &ResolvedNode) -> Result<String, AllocError> {
+    String::from_str(alloc, node.tree.name.as_str())
+}
+
+/// The values of the static expressions of a node under values of names, in the order of the node;
+/// each has one, and each is within its range.
+pub fn specialize(
+    alloc: Global,
+    node: &ResolvedNode,
+    values: &InstanceValues,
+) -> Result<Vec<StaticInt>, StaticError>
+    requires { list_all (is_declared_within (counts_of node.now)) node.now.variables.items ≡ true }
+    ensures { IsEvaluated (given_by values.now) node.now result }
+{
+    let Some(statics) = part_values(alloc, &node.statics, values)? else {
+        return Err(StaticError::Value(name_of(alloc, node)?));
+    };
+    if are_in_range(&node.statics, &statics) && are_narrow(&node.variables, &statics) {
+        Ok(statics)
+    } else {
+        Err(StaticError::Range(name_of(alloc, node)?))
+    }
+}

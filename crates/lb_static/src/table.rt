@@ -1,0 +1,70 @@
+//! The instances of a program as a flat table.
+//!
+//! A node that is called with the same static values in many places is one specialization, judged
+//! once; the instances only point to it.
+//!
+//! ```text
+//! node two(x: int) ..            specializations   0: count   1: two, calls 0, 0   2: main, calls 1
+//! two calls count and count,     instances         0: main (2), under test
+//! main calls two                                   1: two (1), call 0 of 0
+//!                                                  2: count (0), call 0 of 1
+//!                                                  3: count (0), call 1 of 1
+//! ```
+
+use crate::reach::NodeId;
+use crate::resolved::CallId;
+use crate::static_value::StaticInt;
+
+/// The place of a specialization in the table.
+#[derive(Clone, Copy, PartialEq, Eq, Debug)]
+pub struct SpecializationId(pub u32);
+
+/// The place of an instance in the table.
+#[derive(Clone, Copy, PartialEq, Eq, Debug)]
+pub struct InstanceId(pub u32);
+
+/// A node with the values of its static parameters.
+#[derive(Drop)]
+pub struct Specialization {
+    pub node: NodeId,
+    /// The values of its static parameters, in their order.
+    pub values: Vec<StaticInt>,
+    /// The value of each static expression of the node.
+    pub statics: Vec<StaticInt>,
+    /// What each call and each iterated node of the node calls.
+    pub callees: Vec<SpecializationId>,
+}
+
+/// Where an instance stands.
+#[derive(Clone, Copy)]
+pub enum Origin {
+    /// The node under test.
+    UnderTest,
+    /// The observer.
+    Observer,
+    /// A call of another instance, at an index of its iterator (0 for a call).
+    Called {
+        caller: InstanceId,
+        call: CallId,
+        index: u32,
+    },
+}
+
+/// An instance: what it is an instance of, and where it stands.
+#[derive(Clone, Copy)]
+pub struct Instance {
+    pub specialization: SpecializationId,
+    pub origin: Origin,
+}
+
+/// The instances of a program, in the order of the walk: those of the node under test, then those
+/// of the observer, each before those that it calls.
+#[derive(Drop)]
+pub struct Table {
+    pub specializations: Vec<Specialization>,
+    pub instances: Vec<Instance>,
+    /// The specialization of the node under test.
+    pub root: SpecializationId,
+    /// The specialization of the observer, if there is one.
+    pub observer: Option<SpecializationId>,
+}

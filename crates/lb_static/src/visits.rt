@@ -1,0 +1,80 @@
+//! Places that come up in a walk, each of them once: a list of what is left to do that grows.
+
+ghost use Rattle.std.specs.Prelude.{◌≡◌, ◌<◌, ◌≤◌, ◌^◌, [], OnOk, IfOk, IfErr, IfSome, length, slice_get};
+ghost use Rattle.lb_static.specs.Visiting.{HasTurns, visited_after};
+ghost use Rattle.lb_static.specs.declared.error.StaticError.TheVariants.{Memory};
+
+use crate::error::StaticError;
+use std::alloc::{AllocError, Global};
+use std::marker::Model;
+
+/// Places of a list of so many, in the order in which they came up.
+#[derive(Drop)]
+pub struct Visits {
+    order: Vec<usize>,
+    /// For each place the turn at which it came up.
+    turns: Vec<Option<u32>>,
+}
+
+impl Model for Visits {
+    ghost use Rattle.std.specs.Prelude.{◌<◌, ◌^◌, length};
+    ghost use Rattle.lb_static.specs.Visiting.{Visited, HasTurns};
+
+    ghost Value = { Visited };
+
+    ghost view = { λ v. record { order = v.order.items; count = length v.turns.items } };
+
+    ghost invariant = { λ v. HasTurns v.order.items v.turns.items × (length v.turns.items < 2 ^ 32) };
+}
+
+impl Visits {
+    /// No place has come up yet, of so many. A list that 32 bits cannot count takes more memory
+    /// than there is.
+    pub fn new(alloc: Global, count: usize) -> Result<Visits, StaticError>
+        ensures order { IfOk result (λ v. v.order ≡ []) }
+        ensures count { IfOk result (λ v. v.count ≡ count) }
+        ensures err { IfErr result (λ e. e ≡ Memory) }
+    {
+        if count > u32::MAX as usize {
+            return Err(StaticError::Memory);
+        }
+        let turns = vec![in alloc; None; count]?;
+        let order = Vec::new(alloc);
+        Ok(Visits { order, turns })
+    }
+
+    /// Visits a place; answers the turn at which it came up first.
+    pub fn visit(&mut self, place: usize) -> Result<u32, AllocError>
+        requires { place < self.old.count }
+        ensures order { OnOk result (self.new.order ≡ visited_after self.old.order place) }
+        ensures count { OnOk result (self.new.count ≡ self.old.count) }
+        ensures turn { IfOk result (λ turn. slice_get self.new.order turn ≡ Some place) }
+    {
+        if let Some(turn) = self.turns[place] {
+            return Ok(turn);
+        }
+        let turn = self.order.len() as u32;
+        self.order.push(place)?;
+        self.turns[place] = Some(turn);
+        Ok(turn)
+    }
+
+    /// The place that came up at a turn.
+    pub fn place(&self, turn: usize) -> Option<usize>
+        ensures value { result ≡ slice_get self.now.order turn }
+        ensures within { IfSome result (λ place. place < self.now.count) }
+        ensures early { IfSome result (λ _. turn < self.now.count) }
+        ensures few { length self.now.order ≤ self.now.count }
+    {
+        self.order.get(turn).copied()
+    }
+
+    /// For each place the turn at which it came up.
+    pub fn into_turns(self) -> Vec<Option<u32>>
+        ensures turns { HasTurns self.order result.items }
+        ensures count { length result.items ≡ self.count }
+        ensures few { self.count < 2 ^ 32 }
+    {
+        self.turns
+    }
+}

@@ -1,0 +1,378 @@
+//! The walk over the instances of a program.
+//!
+//! The node under test comes first, then the observer, and each instance comes before those that it
+//! calls. An instance is refused where there are too many before it or above it, where a static
+//! expression has no value, and where a value is out of its range, in this order.
+//!
+//! A node with values of its parameters is evaluated once. Where it comes up again, its values are
+//! taken from the table; the instances below it are walked over again, since each has its row.
+
+ghost use Rattle.std.specs.Prelude.{◌≡◌, ◌≤◌, ◌<◌, ◌+◌, ◌-◌, ◌^◌, ◌++◌, ◌∷◌, [], ℕ, true, length, slice_get, IfSome, IfOk, IfErr, OnOk};
+ghost use Rattle.std.specs.List.{list_all};
+ghost use Rattle.lb_static.specs.Instances.{Program, Path, instances_from};
+ghost use Rattle.lb_static.specs.InstanceTable.{instance_of};
+ghost use Rattle.lb_static.specs.HeldValues.{value_of};
+ghost use Rattle.lb_static.specs.Names.{keeps_names};
+ghost use Rattle.lb_static.specs.ReachedNodes.{IsReached, is_linked, id_at};
+ghost use Rattle.lb_static.specs.StaticValues.{constant_value};
+ghost use Rattle.lb_static.specs.ResolvedNodes.{node_of};
+ghost use Rattle.lb_static.specs.ResolvedTerms.{is_site_within};
+ghost use Rattle.lb_static.specs.Walk.{level, walk_refusal, instance_refusal};
+ghost use Rattle.lb_static.specs.Walked.{AreSound, IsWalkable, IsBegun, IsKnownWith, IsJudgement, IsJudged, AreJudged, IsKnown, HasGrown, IsRefusal, AreEntered, values_at, times_of, IsWalkAnswer};
+ghost use Rattle.lb_static.specs.declared.resolved.ResolvedNode.{ResolvedNode};
+
+use crate::constants::Constants;
+use crate::error::StaticError;
+use crate::instance_values::InstanceValues;
+use crate::reach::{NodeId, Reached};
+use crate::resolved::{CallId, CallSite};
+use crate::specialize::{size_of, specialize};
+use crate::static_value::StaticInt;
+use crate::table::{Instance, InstanceId, Origin, Specialization, SpecializationId, Table};
+use std::alloc::Global;
+
+/// The most instances that a program may have.
+const MOST_INSTANCES: usize = 4096;
+
+/// The most levels that instances may stand on.
+const MOST_LEVELS: u32 = 64;
+
+// Whether these are the same values.
+fn are_same(left: &[StaticInt], right: &[StaticInt]) -> bool
+    ensures { result ≡ true → left.now ≡ right.now }
+{
+    if left.len() != right.len() {
+        return false;
+    }
+    for (place, value) in left.iter().enumerate() {
+        if value.get() != right[place].get() {
+            return false;
+        }
+    }
+    true
+}
+
+// The specialization of a node with these values, if it is there.
+fn known_as(
+    specializations: &[Specialization],
+    node: NodeId,
+    values: &[StaticInt],
+) -> Option<SpecializationId>
+    requires { length specializations.now < 2 ^ 32 }
+    ensures { IfSome result (IsKnown specializations.now node values.now) }
+{
+    for (place, specialization) in specializations.iter().enumerate() {
+        if specialization.node == node && are_same(&specialization.values, values) {
+            return Some(SpecializationId(place as u32));
+        }
+    }
+    None
+}
+
+// The values of the static expressions of a node with values of its static parameters. They are
+// taken from a specialization that is known.
+fn statics_of(
+    alloc: Global,
+    reached: &Reached,
+    constants: &Constants,
+    known: Option<&Specialization>,
+    node: NodeId,
+    values: &[StaticInt],
+) -> Result<Vec<StaticInt>, StaticError>
+    requires sound { AreSound reached.now }
+    requires within { node.0 < length reached.now.nodes.items }
+    ensures sized { IfOk result (λ v. (n : ResolvedNode)
+        → slice_get reached.now.nodes.items node.0 ≡ Some n
+        → length v.items ≡ length n.statics.items) }
+    ensures judged { (P : Program) (p : Path) (n : ResolvedNode) → IsWalkable P reached.now constants.now
+        → slice_get reached.now.nodes.items node.0 ≡ Some n
+        → IsKnownWith P reached.now known.entry node values.now
+        → IsJudgement P n (instance_of p (node_of n) values.now) result }
+{
+    let resolved = &reached.nodes[node.0 as usize];
+    if let Some(specialization) = known {
+        if specialization.statics.len() == resolved.statics.len() {
+            return Ok(Vec::from_slice(alloc, &specialization.statics)?);
+        }
+    }
+    let values = InstanceValues {
+        parameters: &resolved.tree.parameters,
+        values,
+        constants,
+    };
+    specialize(alloc, resolved, &values)
+}
+
+/// What a call site of an instance calls: a node, the values of its static parameters, and how
+/// often.
+#[derive(Clone, Copy)]
+struct Callee<'a> {
+    node: NodeId,
+    values: &'a [StaticInt],
+    count: u32,
+}
+
+// What a call site calls, where the static expressions of its node have these values.
+fn callee_of<'a>(reached: &Reached, site: &CallSite, statics: &'a [StaticInt]) -> Callee<'a>
+    requires linked { is_linked reached.now site.now ≡ true }
+    requires within { is_site_within (length reached.now.ids.items)
+        (record { variables = 0; statics = length statics.now; calls = 0 }) site.now ≡ true }
+    ensures node { id_at reached.now site.now.callee ≡ Some result.node }
+    ensures within { result.node.0 < length reached.now.nodes.items }
+    ensures values { result.values.now ≡ values_at statics.now site.now.first_argument site.now.arguments }
+    ensures count { result.count ≡ times_of statics.now site.now.count }
+{
+    let first = site.first_argument.0 as usize;
+    let count = match site.count {
+        Some(count) => size_of(statics[count.0 as usize]) as u32,
+        None => 1,
+    };
+    let node = reached.ids[site.callee.0 as usize].unwrap();
+    Callee {
+        node,
+        values: &statics[first..first + site.arguments as usize],
+        count,
+    }
+}
+
+/// What was entered so far.
+#[derive(Drop)]
+struct Entered {
+    specializations: Vec<Specialization>,
+    instances: Vec<Instance>,
+}
+
+/// Where an instance is entered: its node, where it stands, and its level.
+#[derive(Clone, Copy)]
+struct Entry {
+    node: NodeId,
+    origin: Origin,
+    level: u32,
+}
+
+/// An instance whose calls are not entered yet.
+#[derive(Drop)]
+struct Begun {
+    /// Its specialization, if it is there already.
+    known: Option<SpecializationId>,
+    /// The values of its static expressions.
+    statics: Vec<StaticInt>,
+}
+
+// Enters an instance, and leaves its calls and its specialization to be entered.
+fn begin(
+    alloc: Global,
+    reached: &Reached,
+    constants: &Constants,
+    entered: &mut Entered,
+    entry: Entry,
+    values: &[StaticInt],
+) -> Result<Begun, StaticError>
+    requires sound { AreSound reached.now }
+    requires within { entry.node.0 < length reached.now.nodes.items }
+    requires few { length entered.old.specializations.items ≤ length entered.old.instances.items }
+    requires room { length entered.old.instances.items ≤ 4096 }
+    ensures few { OnOk result (length entered.old.instances.items < 4096) }
+    ensures low { OnOk result (entry.level ≤ 64) }
+    ensures row { OnOk result (entered.new.instances.items ≡ entered.old.instances.items
+        ++ (record { specialization = record { 0 = 0 }; origin = entry.origin }) ∷ []) }
+    ensures same { OnOk result
+        (entered.new.specializations.items ≡ entered.old.specializations.items) }
+    ensures known { IfOk result (λ b. IfSome b.known
+        (IsKnown entered.old.specializations.items entry.node values.now)) }
+    ensures sized { IfOk result (λ b. (n : ResolvedNode)
+        → slice_get reached.now.nodes.items entry.node.0 ≡ Some n
+        → length b.statics.items ≡ length n.statics.items) }
+    ensures judged { (P : Program) (p : Path) (n : ResolvedNode)
+        → IsWalkable P reached.now constants.now
+        → slice_get reached.now.nodes.items entry.node.0 ≡ Some n → level P p ≡ entry.level
+        → AreJudged P reached.now entered.old.specializations.items
+        → IsBegun P (length entered.old.instances.items) n (instance_of p (node_of n) values.now)
+        result }
+{
+    if entered.instances.len() >= MOST_INSTANCES || entry.level > MOST_LEVELS {
+        return Err(StaticError::Instances);
+    }
+    let known = known_as(&entered.specializations, entry.node, values);
+    let specialization = match known {
+        Some(id) => Some(&entered.specializations[id.0 as usize]),
+        None => None,
+    };
+    let statics = statics_of(
+        alloc,
+        reached,
+        constants,
+        specialization,
+        entry.node,
+        values,
+    )?;
+    entered.instances.push(Instance {
+        specialization: SpecializationId(0),
+        origin: entry.origin,
+    })?;
+    Ok(Begun { known, statics })
+}
+
+// Gives an instance that was begun its specialization, which is added if it was not there.
+fn settle(
+    entered: &mut Entered,
+    row: usize,
+    node: NodeId,
+    values: Vec<StaticInt>,
+    begun: Begun,
+    callees: Vec<SpecializationId>,
+) -> Result<SpecializationId, StaticError>
+    requires within { row < length entered.old.instances.items }
+    requires few { length entered.old.specializations.items < 2 ^ 32 }
+    requires known { IfSome begun.known
+        (IsKnown entered.old.specializations.items node values.items) }
+    ensures err { IfErr result (λ e. e ≡ StaticError.Memory) }
+    ensures rows { OnOk result
+        (length entered.new.instances.items ≡ length entered.old.instances.items) }
+    ensures more { OnOk result (length entered.new.specializations.items
+        ≤ length entered.old.specializations.items + 1) }
+    ensures grown { OnOk result
+        (HasGrown entered.old.specializations.items entered.new.specializations.items) }
+    ensures known { IfOk result
+        (IsKnown entered.new.specializations.items node values.items) }
+    ensures judged { (P : Program) (r : Reached) → node.0 < length r.nodes.items
+        → AreJudged P r entered.old.specializations.items
+        → ((p : Path) (n : ResolvedNode) → slice_get r.nodes.items node.0 ≡ Some n
+        → IsJudged P n (instance_of p (node_of n) values.items) begun.statics.items)
+        → OnOk result (AreJudged P r entered.new.specializations.items) }
+{
+    let id = match begun.known {
+        Some(id) => id,
+        None => {
+            let id = SpecializationId(entered.specializations.len() as u32);
+            entered.specializations.push(Specialization {
+                node,
+                values,
+                statics: begun.statics,
+                callees,
+            })?;
+            id
+        }
+    };
+    entered.instances[row].specialization = id;
+    Ok(id)
+}
+
+// Enters an instance and all that it calls, and answers its specialization.
+fn enter(
+    alloc: Global,
+    reached: &Reached,
+    constants: &Constants,
+    entered: &mut Entered,
+    entry: Entry,
+    values: &[StaticInt],
+) -> Result<SpecializationId, StaticError>
+    requires sound { AreSound reached.now }
+    requires within { entry.node.0 < length reached.now.nodes.items }
+    requires few { length entered.old.specializations.items ≤ length entered.old.instances.items }
+    requires room { length entered.old.instances.items ≤ 4096 }
+    requires low { entry.level ≤ 65 }
+    ensures few { OnOk result
+        (length entered.new.specializations.items + length entered.old.instances.items
+        ≤ length entered.old.specializations.items + length entered.new.instances.items) }
+    ensures more { OnOk result
+        (length entered.old.instances.items < length entered.new.instances.items) }
+    ensures room { OnOk result (length entered.new.instances.items ≤ 4096) }
+    ensures grown { OnOk result
+        (HasGrown entered.old.specializations.items entered.new.specializations.items) }
+    ensures known { IfOk result
+        (IsKnown entered.new.specializations.items entry.node values.now) }
+    ensures ok { IfOk result (λ _. (P : Program) (p : Path) (n : ResolvedNode)
+        → IsWalkable P reached.now constants.now
+        → slice_get reached.now.nodes.items entry.node.0 ≡ Some n → level P p ≡ entry.level
+        → AreJudged P reached.now entered.old.specializations.items
+        → AreJudged P reached.now entered.new.specializations.items
+        × AreEntered P (length entered.old.instances.items)
+        (instances_from P (66 - entry.level) (instance_of p (node_of n) values.now))
+        (length entered.new.instances.items)) }
+    ensures err { IfErr result (λ e. (P : Program) (p : Path) (n : ResolvedNode)
+        → IsWalkable P reached.now constants.now
+        → slice_get reached.now.nodes.items entry.node.0 ≡ Some n → level P p ≡ entry.level
+        → AreJudged P reached.now entered.old.specializations.items
+        → IsRefusal (walk_refusal P (length entered.old.instances.items)
+        (instances_from P (66 - entry.level) (instance_of p (node_of n) values.now))) e) }
+{
+    let row = entered.instances.len();
+    let begun = begin(alloc, reached, constants, entered, entry, values)?;
+    let mut callees = Vec::new(alloc);
+    for (call, site) in reached.nodes[entry.node.0 as usize]
+        .calls
+        .iter()
+        .enumerate()
+    {
+        let callee = callee_of(reached, site, &begun.statics);
+        let mut called = None;
+        for index in 0..callee.count {
+            let below = Entry {
+                node: callee.node,
+                origin: Origin::Called {
+                    caller: InstanceId(row as u32),
+                    call: CallId(call as u32),
+                    index,
+                },
+                level: entry.level + 1,
+            };
+            let id = enter(alloc, reached, constants, entered, below, callee.values)?;
+            called = Some(id);
+        }
+        if let Some(id) = called {
+            callees.push(id)?;
+        }
+    }
+    settle(
+        entered,
+        row,
+        entry.node,
+        Vec::from_slice(alloc, values)?,
+        begun,
+        callees,
+    )
+}
+
+/// The table of the instances of a program: those of the node under test, then those of the
+/// observer. A refusal is that of the first instance with a fault.
+pub fn walk(alloc: Global, reached: &Reached, constants: &Constants) -> Result<Table, StaticError>
+    requires { (P : Program) × IsReached P reached.now }
+    ensures { (P : Program) → keeps_names P ≡ true → IsReached P reached.now
+        → value_of constants.now
+        ≡ constant_value P.source.constants (length P.source.constants)
+        → IsWalkAnswer P reached.now result }
+{
+    let mut entered = Entered {
+        specializations: Vec::new(alloc),
+        instances: Vec::new(alloc),
+    };
+    let under_test = Entry {
+        node: reached.root,
+        origin: Origin::UnderTest,
+        level: 1,
+    };
+    let none = Vec::new(alloc);
+    let root = enter(alloc, reached, constants, &mut entered, under_test, &none)?;
+    let observer = match reached.observer {
+        Some(node) if (node.0 as usize) < reached.nodes.len() => {
+            let entry = Entry {
+                node,
+                origin: Origin::Observer,
+                level: 1,
+            };
+            let id = enter(alloc, reached, constants, &mut entered, entry, &none)?;
+            Some(id)
+        }
+        _ => None,
+    };
+    Ok(Table {
+        specializations: entered.specializations,
+        instances: entered.instances,
+        root,
+        observer,
+    })
+}
+
+#[cfg(test)]
+mod tests;
