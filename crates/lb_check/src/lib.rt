@@ -5,6 +5,7 @@ pub mod check;
 pub mod checked;
 pub mod definition;
 pub mod error;
+pub mod judge_definitions;
 pub mod kind;
 pub mod verdict;
 #[cfg(test)]

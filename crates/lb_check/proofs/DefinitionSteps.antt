@@ -1,0 +1,109 @@
+-- The statements, terms and calls of a node from a place on.
+use Rattle.std.proofs.Common.{◌≡◌, ◌⊎◌, inl, inr, ℕ, zero, suc, ◌+◌, ◌<◌, ◌≤◌, Bool, true, false, List, [], ◌∷◌, length, drop, get_or, set, Vec, Global, refl, ap, sym, ◌∙◌, subst}
+use Rattle.std.specs.Prelude.{◌&&◌, ◌||◌, if◌then◌else◌, ◌==◌, slice_get}
+use Rattle.std.proofs.lemmas.List.{drop_more, length-map}
+use Rattle.std.proofs.lemmas.Option.{slice_get_past, slice_get_read, get_or_from_slice_get}
+use mathlib.Core.Former.{Count}
+use Rattle.lb_syntax.specs.declared.tree.ArrayIterator.{ArrayIterator}
+use Rattle.lb_syntax.specs.declared.tree.BinaryOperator.{BinaryOperator}
+use Rattle.lb_syntax.specs.Lists.{holds}
+use Rattle.lb_static.specs.ReachedNodes.{trees}
+use Rattle.lb_static.specs.ResolvedNodes.{node_of}
+use Rattle.lb_static.specs.declared.reach.NodeId.{NodeId}
+use Rattle.lb_static.specs.declared.reach.Reached.{Reached}
+use Rattle.lb_static.specs.declared.resolved.CallId.{CallId}
+use Rattle.lb_static.specs.declared.resolved.CallSite.{CallSite}
+use Rattle.lb_static.specs.declared.resolved.StaticId.{StaticId}
+use Rattle.lb_static.specs.declared.resolved.VariableId.{VariableId}
+use Rattle.lb_static.specs.declared.resolved.Step.{Step}
+use Rattle.lb_static.specs.declared.resolved.Term.{Term, Array, AtMostOne, Nor, Call, IterateNode, IterateSymbol, Array', AtMostOne', Nor', Call', IterateNode', IterateSymbol', Row_of-Term, end_of-Term, more_of-Term, items-the_row-Term, items_hidden-the_row-Term-0}
+use Rattle.lb_static.specs.declared.table.Specialization.{Specialization}
+use Rattle.lb_static.specs.Instances.{Program}
+use Rattle.lb_check.specs.DefinitionRules.{is_defined}
+use Rattle.lb_check.specs.NodeDefinitions.{count_left, count_step, count_steps, has_memory, row_memory, any_memory, step_memory, steps_memory, calls_function, call_functions, is_defined_at, are_defined_at}
+
+pub count_next : (k : ℕ) (xs : List VariableId) (i : ℕ) (d : VariableId) → i < length xs
+    → count_left k (drop i xs) ≡ (if (get_or xs i d).0 == k then 1 else 0) + count_left k (drop (i + 1) xs)
+count_next k xs i d lt = ap (count_left k) (drop_more xs i d lt)
+
+pub counts_next : (k : ℕ) (ss : List Step) (i : ℕ) (d : Step) → i < length ss
+    → count_steps k (drop i ss) ≡ count_step k (get_or ss i d) + count_steps k (drop (i + 1) ss)
+counts_next k ss i d lt = ap (count_steps k) (drop_more ss i d lt)
+
+pub steps_next : (ss : List Step) (i : ℕ) (d : Step) → i < length ss
+    → steps_memory (drop i ss) ≡ step_memory (get_or ss i d) || steps_memory (drop (i + 1) ss)
+steps_next ss i d lt = ap steps_memory (drop_more ss i d lt)
+
+pub calls_next : (r : Reached) (ss : List CallSite) (i : ℕ) (d : CallSite) → i < length ss
+    → call_functions r (drop i ss) ≡ calls_function r (get_or ss i d) && call_functions r (drop (i + 1) ss)
+calls_next r ss i d lt = ap (call_functions r) (drop_more ss i d lt)
+
+-- ## Nodes that are judged
+
+pub defined_next : (P : Program) (r : Reached) (ss : List Specialization) (i : ℕ) (s : Specialization) → i < length ss → s ≡ get_or ss i s
+    → are_defined_at P r (drop i ss) ≡ is_defined_at P r s.node && are_defined_at P r (drop (i + 1) ss)
+defined_next P r ss i s lt is =
+    ap (are_defined_at P r) (drop_more ss i s lt) ∙ ap (λ (x : Specialization). is_defined_at P r x.node && are_defined_at P r (drop (i + 1) ss)) (sym is)
+
+-- a node that is not there
+pub not_there : (P : Program) (r : Reached) (id : NodeId) → length r.nodes.items ≤ id.0 → is_defined_at P r id ≡ false
+not_there P r id le =
+    let many = length-map r.nodes.items node_of in
+    ap (holds (is_defined P)) (slice_get_past (trees r) id.0 (subst (λ n. n ≤ id.0) (sym many) le))
+
+pub same_place : (P : Program) (r : Reached) (id other : NodeId) → id.0 ≡ other.0 → is_defined_at P r id ≡ is_defined_at P r other
+same_place P r id other e = ap (λ k. holds (is_defined P) (slice_get (trees r) k)) e
+
+-- what is marked is what is marked now or was before
+pub marked : (xs : List Bool) (k i : ℕ) → get_or (set xs k true) i false ≡ true → (i ≡ k) ⊎ (get_or xs i false ≡ true)
+marked [] k i e = inr e
+marked (x ∷ xs) zero zero e = inl refl
+marked (x ∷ xs) zero (suc i) e = inr e
+marked (x ∷ xs) (suc k) zero e = inr e
+marked (x ∷ xs) (suc k) (suc i) e = by (marked xs k i e)
+  where
+    by : (i ≡ k) ⊎ (get_or xs i false ≡ true) → (suc i ≡ suc k) ⊎ (get_or (x ∷ xs) (suc i) false ≡ true)
+    by (inl is) = inl (ap suc is)
+    by (inr was) = inr was
+
+pub is_marked : (xs : List Bool) (k : ℕ) (b : Bool) → k < length xs → b ≡ get_or xs k b → b ≡ true → get_or xs k false ≡ true
+is_marked xs k b lt is e = get_or_from_slice_get xs k b false (slice_get_read xs (length xs) k b refl lt is) ∙ e
+
+-- ## The row of terms in a term is the list in its vector
+
+abbrev row_of : Term → (n : Count) × Row_of-Term n
+row_of (Array' _ row) = (_, row)
+row_of (AtMostOne' _ row) = (_, row)
+row_of (Nor' _ row) = (_, row)
+row_of (Call' _ _ row) = (_, row)
+row_of (IterateNode' _ _ _ row) = (_, row)
+row_of (IterateSymbol' _ _ _ _ row) = (_, row)
+row_of _ = (_, end_of-Term)
+
+memory_items : (n : _) (row : Row_of-Term n) → row_memory row ≡ any_memory (items-the_row-Term n row)
+unfolding has_memory
+memory_items n end_of-Term = refl
+memory_items n (more_of-Term e rest) = ap (λ b. has_memory e || b) (memory_items _ rest)
+
+memory_hidden : (t : Term) (es : Vec Term Global) → items-the_row-Term _ (row_of t).1 ≡ es.items → row_memory (row_of t).1 ≡ any_memory es.items
+memory_hidden t es e = memory_items _ (row_of t).1 ∙ ap any_memory e
+
+-- a term that has a row of terms
+abbrev pub HasRow : Term → Vec Term Global → Type 0
+HasRow t es =
+    (t ≡ Array es) ⊎ ((t ≡ AtMostOne es) ⊎ ((t ≡ Nor es) ⊎ (((c : CallId) × (t ≡ Call c es))
+    ⊎ (((it : ArrayIterator) × (c : CallId) × (t ≡ IterateNode it c es))
+    ⊎ ((it : ArrayIterator) × (op : BinaryOperator) × (n : StaticId) × (t ≡ IterateSymbol it op n es))))))
+
+pub memory_row : (t : Term) (es : Vec Term Global) → HasRow t es → has_memory t ≡ any_memory es.items
+unfolding has_memory
+memory_row t es (inl e) = ap has_memory e ∙ memory_hidden (Array es) es (items_hidden-the_row-Term-0 es)
+memory_row t es (inr (inl e)) = ap has_memory e ∙ memory_hidden (AtMostOne es) es (items_hidden-the_row-Term-0 es)
+memory_row t es (inr (inr (inl e))) = ap has_memory e ∙ memory_hidden (Nor es) es (items_hidden-the_row-Term-0 es)
+memory_row t es (inr (inr (inr (inl e)))) = ap has_memory e.1 ∙ memory_hidden (Call e.0 es) es (items_hidden-the_row-Term-0 es)
+memory_row t es (inr (inr (inr (inr (inl e))))) = ap has_memory e.2 ∙ memory_hidden (IterateNode e.0 e.1 es) es (items_hidden-the_row-Term-0 es)
+memory_row t es (inr (inr (inr (inr (inr e))))) = ap has_memory e.3 ∙ memory_hidden (IterateSymbol e.0 e.1 e.2 es) es (items_hidden-the_row-Term-0 es)
+
+pub memory_next : (es : List Term) (i : ℕ) (d : Term) → i < length es
+    → any_memory (drop i es) ≡ has_memory (get_or es i d) || any_memory (drop (i + 1) es)
+memory_next es i d lt = ap any_memory (drop_more es i d lt)

@@ -1,0 +1,8 @@
+use Rattle.std.proofs.Common.{refl, ap, sym, ◌∙◌}
+use Rattle.lb_check.specs.NodeDefinitions.{any_memory}
+use Rattle.lb_check.proofs.DefinitionSteps.{memory_row}
+use Rattle.lb_check.proofs.judge_definitions.+has_memory.Goals as goal
+
+pub loop-term-init : goal.loop-term-init
+loop-term-init t c =
+    (refl, memory_row c.args.term.now c.in-Array.terms c.in-Array.is ∙ ap any_memory (sym c.deref-term-items.ensures.value))
