@@ -1,5 +1,5 @@
 -- The rules of definitions of a node with resolved names are what the code finds.
-use Rattle.std.proofs.Common.{length-append, ◌≡◌, ℕ, zero, suc, ◌+◌, ◌-◌, ◌<◌, ◌≤◌, Bool, true, false, cond, List, [], ◌∷◌, ◌++◌, length, map, Option, Some, None, get_or, refl, ap, sym, ◌∙◌, subst, arith}
+use Rattle.std.proofs.Common.{length-append, ◌≡◌, ℕ, zero, suc, ◌+◌, ◌-◌, ◌<◌, ◌≤◌, Bool, true, false, cond, List, [], ◌∷◌, ◌++◌, length, map, Option, Some, None, refl, ap, sym, ◌∙◌, subst, arith}
 use Rattle.std.specs.Prelude.{◌&&◌, ◌||◌, not, nat_lt, nat_eq, option_map, slice_get, flat_map, ◌==◌, ◌↔◌, IfOk, IsTrue, Result, Ok, Err}
 use Rattle.std.specs.List.{list_all}
 use Rattle.std.specs.Str.{bytes_eq}
@@ -19,7 +19,7 @@ use Rattle.lb_static.specs.declared.resolved.VariableId.{VariableId}
 use Rattle.lb_static.specs.declared.resolved.Step.{Step}
 use Rattle.lb_static.specs.declared.resolved.Step.TheVariants as step
 use Rattle.lb_static.specs.declared.resolved.Term.{Term, Literal, Truth, Variable, Value, Group', Unary', Binary', If', Arrow', Fby', Pre', Current', When', Copies', Index', Slice', Join', Array', AtMostOne', Nor', Call', IterateNode', IterateSymbol', Row_of-Term, end_of-Term, more_of-Term}
-use Rattle.lb_static.specs.Instances.{Program, Site, node_named, node_sites, statement_sites, sites, sites_in}
+use Rattle.lb_static.specs.Instances.{Program, Site, node_named, statement_sites, sites, sites_in}
 use Rattle.lb_static.specs.Names.{are_distinct, keeps_names}
 use Rattle.lb_static.specs.Parts.{left_names, node_parts, parts, parts_in, right_side, variable_names}
 use Rattle.lb_static.specs.ReachedNodes.{IsReached, are_linked, id_at, is_linked, source_names, tree_at, trees}
@@ -260,6 +260,7 @@ module _ (P : Program) (r : Reached) (names : keeps_names P ≡ true) (reached :
           and_true : (b : Bool) → (b && true) ≡ b
           and_true true = refl
           and_true false = refl
+
       call_is : (c : CallSite) (o : Option NodeId) → id_at r c.callee ≡ o → holds (λ id. nat_lt id.0 (length r.nodes.items)) (id_at r c.callee) ≡ true
           → if_node P (λ n. n.is_function) (either_or (slice_get (source_names P) c.callee.0) []) ≡ calls_function r c
       call_is c None is l = absurd (let e = sym (ap (holds (λ id. nat_lt id.0 (length r.nodes.items))) is) ∙ l in cc)
@@ -270,7 +271,7 @@ module _ (P : Program) (r : Reached) (names : keeps_names P ≡ true) (reached :
           let tree_is : tree_at r id ≡ Some n = slice_get-map node_of r.nodes.items id.0 ∙ ap (option_map node_of) h.1 in
           let place : slice_get P.source.nodes c.callee.0 ≡ Some n = sym (reached.found c.callee id is) ∙ tree_is in
           let name : slice_get (source_names P) c.callee.0 ≡ Some n.name =
-              slice_get-map (λ m. m.name) P.source.nodes c.callee.0 ∙ ap (option_map (λ m. m.name)) place in
+          slice_get-map (λ m. m.name) P.source.nodes c.callee.0 ∙ ap (option_map (λ m. m.name)) place in
           ap (λ o. if_node P (λ n. n.is_function) (either_or o [])) name
           ∙ found_function n (named_at P names c.callee.0 n place)
           ∙ sym (ap (λ o. holds (λ n. n.is_function) (o >>= tree_at r)) is ∙ ap (holds (λ n. n.is_function)) tree_is)
@@ -344,6 +345,7 @@ module _ (P : Program) (r : Reached) (names : keeps_names P ≡ true) (reached :
         and_true : (b : Bool) → (b && true) ≡ b
         and_true true = refl
         and_true false = refl
+
         by : (b d : Bool) → (IsTrue b ↔ Defined) → defines_once here ≡ d → b ≡ defines_once here
         by true d all is = sym (once_from (all.0 refl))
         by false true all is = absurd (let e = all.1 (from_once is) in cc)

@@ -1,8 +1,8 @@
 -- What holds of the node of each specialization holds of the node of each instance, and the other
 -- way round.
-use Rattle.std.proofs.Common.{◌≡◌, ℕ, zero, suc, ◌+◌, ◌<◌, ◌≤◌, Bool, true, false, List, [], ◌∷◌, ◌++◌, length, map, get_or, Option, Some, None, refl, ap, sym, ◌∙◌, subst, arith, length-append}
-use Rattle.std.specs.Prelude.{◌&&◌, option_map, slice_get}
-use Rattle.std.specs.List.{list_all, Contains}
+use Rattle.std.proofs.Common.{◌≡◌, ℕ, zero, suc, ◌+◌, ◌<◌, ◌≤◌, Bool, true, false, List, [], ◌∷◌, ◌++◌, length, map, Option, Some, None, refl, ap, sym, ◌∙◌, subst, arith, length-append}
+use Rattle.std.specs.Prelude.{option_map, slice_get}
+use Rattle.std.specs.List.{list_all}
 use Rattle.std.proofs.lemmas.List.{length-map}
 use Rattle.std.proofs.lemmas.Option.{slice_get-map, slice_get_within, get_or_from_slice_get}
 use Rattle.lb_syntax.specs.Lists.{either_or, holds, zip2}
@@ -84,8 +84,8 @@ module _ (P : Program) (r : Reached) (t : Table) (table : IsTable P r t) (f : No
       let lt = subst (λ n. has.0 < n) (length-map rows (λ row. row.specialization.0)) has.1 in
       let h = held rows has.0 lt in
       let is : h.0.specialization.0 ≡ i =
-          sym (get_or_from_slice_get (map (λ row. row.specialization.0) rows) has.0 h.0.specialization.0 i
-          (slice_get-map (λ row. row.specialization.0) rows has.0 ∙ ap (option_map (λ row. row.specialization.0)) h.1)) ∙ has.2 in
+      sym (get_or_from_slice_get (map (λ row. row.specialization.0) rows) has.0 h.0.specialization.0 i
+      (slice_get-map (λ row. row.specialization.0) rows has.0 ∙ ap (option_map (λ row. row.specialization.0)) h.1)) ∙ has.2 in
       let many = paths_many [] rows in
       let one = row_holds (paths_of t) rows (instances P) has.0 h.0 table.instances (omega (arith, many)) h.1 all in
       ap (holds of_one) (sym (ap (slice_get t.specializations.items) is ∙ at)) ∙ one)

@@ -58,7 +58,7 @@ fn reached<'s>(
 /// Whether the node at a place is defined, where these variables stand on the left of a term.
 fn is_kept(
     alloc: Global,
-    place: usize,
+    place: u32,
     lefts: &[u32],
     term: Term,
     callee: u32,
@@ -77,7 +77,7 @@ fn is_kept(
     };
     let reached = reached(alloc, &source, bodies, callee)?;
     let specialization = Specialization {
-        node: NodeId(place as u32),
+        node: NodeId(place),
         values: Vec::new(alloc),
         statics: Vec::new(alloc),
         callees: Vec::new(alloc),
@@ -124,7 +124,12 @@ fn functions(rt: HostRuntime) -> Result<(), Fail> {
     for (place, expected) in [(0, true), (1, false), (2, false)] {
         let memory = Term::Pre(Box::new(alloc, Term::Truth(true))?);
         let arguments = vec![in alloc; memory]?;
-        let sum = Term::IterateSymbol(ArrayIterator::Red, BinaryOperator::And, StaticId(0), arguments);
+        let sum = Term::IterateSymbol(
+            ArrayIterator::Red,
+            BinaryOperator::And,
+            StaticId(0),
+            arguments,
+        );
         assert_eq!(rt; is_kept(alloc, place, &[2, 3], sum, 2)?, expected);
     }
     Ok(())

@@ -1,4 +1,4 @@
-use Rattle.std.proofs.Common.{ap, subst}
+use Rattle.std.proofs.Common.{subst}
 use Rattle.std.specs.Prelude.{◌≡◌, IfOk}
 use Rattle.lb_check.specs.DefinitionRules.{is_defined}
 use Rattle.lb_check.specs.NodeDefinitions.{are_defined_at}

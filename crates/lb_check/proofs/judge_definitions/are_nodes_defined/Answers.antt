@@ -1,4 +1,4 @@
-use Rattle.std.proofs.Common.{◌≡◌, ◌+◌, ◌<◌, ◌≤◌, ◌⊎◌, inl, inr, Bool, true, false, length, drop, get_or, set, length-set, refl, ap, sym, ◌∙◌, subst, arith}
+use Rattle.std.proofs.Common.{◌≡◌, ◌+◌, ◌<◌, ◌≤◌, inl, inr, true, false, length, drop, get_or, length-set, ap, sym, ◌∙◌, arith}
 use Rattle.std.specs.Prelude.{◌&&◌}
 use Rattle.lb_static.specs.Instances.{Program}
 use Rattle.lb_static.specs.Names.{keeps_names}
@@ -31,18 +31,24 @@ loop-specialization-preserved c =
     (inv.1 P names reached).0 ∙ defined_next P r ss i s c.loop-specialization-test.true c.specialization-item.is
     ∙ ap (λ b. b && are_defined_at P r (drop (i + 1) ss)) one in
     elim c.if-not-index.branch [
-      then-not-index+in_ok-is_node_defined+else-not-branch w ↦
-        (ap (λ v. length v.items) w.judged-is ∙ length-set old s.node.0 true ∙ inv.0
-        , λ P names reached.
-        let one = sym (w.in_ok-is_node_defined.ensures P names reached) ∙ w.if-not-branch.false in
-        (step P names reached one, λ id seen.
-        elim (marked old s.node.0 id.0 (sym (ap (λ v. get_or v.items id.0 false) w.judged-is) ∙ seen)) [
-          inl same ↦ same_place P r id s.node same ∙ one
-        | inr was ↦ (inv.1 P names reached).1 id was ]))
-    | else-not-index w ↦
-        (ap (λ v. length v.items) w.judged-is ∙ inv.0
-        , λ P names reached.
-        let lt : s.node.0 < length old = omega (arith, c.if-place-len.false, c.len-in-loop-specialization.ensures) in
-        let was = is_marked old s.node.0 c.index.result.now lt c.index.ensures w.if-not-index.false in
-        let one = (inv.1 P names reached).1 s.node was in
-        (step P names reached one, λ id seen. (inv.1 P names reached).1 id (sym (ap (λ v. get_or v.items id.0 false) w.judged-is) ∙ seen)))]
+      | then-not-index+in_ok-is_node_defined+else-not-branch w ↦ (
+        ap (λ v. length v.items) w.judged-is ∙ length-set old s.node.0 true ∙ inv.0,
+        λ P names reached.
+            let one = sym (w.in_ok-is_node_defined.ensures P names reached) ∙ w.if-not-branch.false in (
+              step P names reached one,
+              λ id seen.
+                  elim (marked old s.node.0 id.0 (sym (ap (λ v. get_or v.items id.0 false) w.judged-is) ∙ seen)) [
+                    | inl same ↦ same_place P r id s.node same ∙ one
+                    | inr was ↦ (inv.1 P names reached).1 id was
+                  ],
+            ),
+      )
+      | else-not-index w ↦ (
+        ap (λ v. length v.items) w.judged-is ∙ inv.0,
+        λ P names reached.
+            let lt : s.node.0 < length old = omega (arith, c.if-place-len.false, c.len-in-loop-specialization.ensures) in
+            let was = is_marked old s.node.0 c.index.result.now lt c.index.ensures w.if-not-index.false in
+            let one = (inv.1 P names reached).1 s.node was in
+            (step P names reached one, λ id seen. (inv.1 P names reached).1 id (sym (ap (λ v. get_or v.items id.0 false) w.judged-is) ∙ seen)),
+      )
+    ]

@@ -1,4 +1,4 @@
-use Rattle.std.proofs.Common.{◌≡◌, ℕ, true, false, length, drop, get_or}
+use Rattle.std.proofs.Common.{◌≡◌, true, false, length, drop, get_or}
 use Rattle.lb_check.specs.NodeDefinitions as mirror
 use Rattle.lb_static.specs.Instances.{Program}
 use Rattle.lb_static.specs.Names.{keeps_names}
