@@ -77,7 +77,7 @@ among_append x (y ∷ ys) zs e =
     let b = among_append x ys zs (or_second (bytes_eq x y) _ e) in
     rw a b
 
-distinct_first : (xs ys : List Name) → are_distinct (xs ++ ys) ≡ true → are_distinct xs ≡ true
+pub distinct_first : (xs ys : List Name) → are_distinct (xs ++ ys) ≡ true → are_distinct xs ≡ true
 distinct_first [] ys e = refl
 distinct_first (x ∷ xs) ys e =
     let a = among_append x xs ys (not_true _ (and_first _ (are_distinct (xs ++ ys)) e)) in

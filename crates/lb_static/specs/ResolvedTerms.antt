@@ -1,6 +1,6 @@
 -- What a node with resolved names stands for: its tree with the names put back.
 -- This file says what data of the program mean; no definition of the language stands on it.
-use Rattle.std.specs.Prelude.{ℕ, ◌+◌, Bool, true, ◌&&◌, nat_le, nat_lt, Option, None, Some, option_map, List, [], ◌∷◌, map, take, drop, slice_get}
+use Rattle.std.specs.Prelude.{ℕ, ◌+◌, Bool, true, ◌&&◌, not, nat_le, nat_lt, Option, None, Some, option_map, List, [], ◌∷◌, map, take, drop, slice_get}
 use Rattle.std.specs.List.{list_all}
 use Rattle.lb_syntax.specs.Lists.{either_or}
 use Rattle.lb_syntax.specs.Tree as tree
@@ -8,6 +8,7 @@ use Rattle.lb_syntax.specs.Tree.{Name, Static, Whole, Expr, Exprs, Nil, Cons, De
 use Rattle.lb_syntax.specs.View.{view_static}
 use Rattle.lb_syntax.specs.declared.tree.ArrayIterator.{ArrayIterator}
 use Rattle.lb_static.specs.Instances.{Site}
+use Rattle.lb_static.specs.Parts.{among}
 use Rattle.lb_static.specs.declared.resolved.VariableId.{VariableId}
 use Rattle.lb_static.specs.declared.resolved.StaticId.{StaticId}
 use Rattle.lb_static.specs.declared.resolved.CallId.{CallId}
@@ -194,6 +195,46 @@ is_declared_within n v = are_statics n v.first_size v.sizes && is_sampling_withi
 abbrev pub is_count_within : Counts → Option StaticId → Bool
 is_count_within n None = true
 is_count_within n (Some i) = is_static n i
+
+-- a static expression that stands for an expression is no variable
+abbrev pub is_no_variable : List Name → Static → Bool
+is_no_variable names (tree.Named x) = not (among x names)
+is_no_variable names s = true
+
+abbrev mutual
+  -- where a term has the name of a constant or a static parameter, no variable hides it
+  pub is_unhidden : Texts → Term → Bool
+  is_unhidden t (Literal m) = true
+  is_unhidden t (Truth b) = true
+  is_unhidden t (Variable x) = true
+  is_unhidden t (Value i) = is_no_variable t.variables (static_at t.statics i)
+  is_unhidden t (Group' p e) = is_unhidden t e
+  is_unhidden t (Unary' op p a) = is_unhidden t a
+  is_unhidden t (Binary' op p a q b) = is_unhidden t a && is_unhidden t b
+  is_unhidden t (If' p c q a r b) = is_unhidden t c && (is_unhidden t a && is_unhidden t b)
+  is_unhidden t (Arrow' p a q b) = is_unhidden t a && is_unhidden t b
+  is_unhidden t (Fby' p a q b) = is_unhidden t a && is_unhidden t b
+  is_unhidden t (Pre' p e) = is_unhidden t e
+  is_unhidden t (Current' p e) = is_unhidden t e
+  is_unhidden t (When' p e x sign) = is_unhidden t e
+  is_unhidden t (Copies' p e i) = is_unhidden t e
+  is_unhidden t (Index' p e i) = is_unhidden t e
+  is_unhidden t (Slice' p e i j) = is_unhidden t e
+  is_unhidden t (Join' p a q b) = is_unhidden t a && is_unhidden t b
+  is_unhidden t (Array' shape all) = are_unhidden t all
+  is_unhidden t (AtMostOne' shape all) = are_unhidden t all
+  is_unhidden t (Nor' shape all) = are_unhidden t all
+  is_unhidden t (Call' c shape all) = are_unhidden t all
+  is_unhidden t (IterateNode' it c shape all) = are_unhidden t all
+  is_unhidden t (IterateSymbol' it op i shape all) = are_unhidden t all
+
+  pub are_unhidden : {m : _} → Texts → Row_of-Term m → Bool
+  are_unhidden t end_of-Term = true
+  are_unhidden t (more_of-Term e rest) = is_unhidden t e && are_unhidden t rest
+
+abbrev pub is_step_unhidden : Texts → Step → Bool
+is_step_unhidden t (step.Equation lefts e) = is_unhidden t e
+is_step_unhidden t (step.Assertion e) = is_unhidden t e
 
 -- a call site, where the source has so many nodes
 abbrev pub is_site_within : (nodes : ℕ) → Counts → CallSite → Bool

@@ -1,0 +1,178 @@
+-- Types and lists of types, as the code holds them.
+use Rattle.std.proofs.Common.{◌≡◌, ℕ, suc, ◌+◌, ◌<◌, ◌≤◌, Bool, true, false, List, [], ◌∷◌, ◌++◌, length, map, drop, get_or, Option, Some, None, refl, ap, sym, ◌∙◌, subst, arith}
+use Rattle.std.specs.Prelude.{◌&&◌, option_map, reverse, nat_eq}
+use Rattle.std.specs.Bool.{◌==◌}
+use Rattle.std.specs.List.{list_all}
+use Rattle.std.specs.Cmp.Lexicographic.{same_text}
+use Rattle.std.proofs.Math.Dec.{eqb-suc-zero}
+use Rattle.std.proofs.lemmas.Bool.{eq-eqb}
+use lib.Pointwise.{pointwise}
+use denote.Enum.Bare.{sameb}
+use Rattle.lb_syntax.specs.contracts.tree.Kind.{the_type}
+use Rattle.lb_syntax.specs.declared.tree.Kind.{Kind}
+use Rattle.lb_syntax.specs.declared.tree.Kind.TheVariants.{Int as Int_kind, Bool as Bool_kind}
+use Rattle.std.proofs.lemmas.List.{drop_more, length-reverse, reverse-append, reverse-reverse}
+use Rattle.lb_syntax.specs.Lists.{all_some}
+use Rattle.lb_static.specs.Shapes.{Shape, is_kind, same_sizes, is_shape, are_shapes, truth}
+use Rattle.lb_check.specs.StoredShapes.{shape_in}
+use Rattle.lb_check.specs.declared.shape.Shape as stored
+
+-- ## The same types
+
+-- lists of types of other lengths are not the same
+pub longer : (ss ts : List Shape) → (length ss ≡ length ts → ⊥) → are_shapes ss ts ≡ false
+longer [] [] other = absurd (other refl)
+longer [] (t ∷ ts) other = refl
+longer (s ∷ ss) [] other = refl
+longer (s ∷ ss) (t ∷ ts) other =
+    rest (is_shape s t) (longer ss ts (λ e. other (ap suc e)))
+  where
+    rest : {b : Bool} → (a : Bool) → b ≡ false → (a && b) ≡ false
+    rest true e = e
+    rest false e = refl
+
+length_map : (xs : List stored.Shape) → length (map shape_in xs) ≡ length xs
+length_map [] = refl
+length_map (x ∷ xs) = ap suc (length_map xs)
+
+pub other_lengths : (xs ys : List stored.Shape) → (length xs ≡ length ys → ⊥)
+    → are_shapes (map shape_in xs) (map shape_in ys) ≡ false
+other_lengths xs ys other =
+    longer (map shape_in xs) (map shape_in ys) (λ e. other (sym (length_map xs) ∙ e ∙ length_map ys))
+
+pub same_next : (xs ys : List stored.Shape) (i : ℕ) (d e : stored.Shape) → i < length xs → i < length ys
+    → are_shapes (map shape_in (drop i xs)) (map shape_in (drop i ys))
+    ≡ (is_shape (shape_in (get_or xs i d)) (shape_in (get_or ys i e))
+    && are_shapes (map shape_in (drop (i + 1) xs)) (map shape_in (drop (i + 1) ys)))
+same_next xs ys i d e lx ly =
+    rw (drop_more xs i d lx) (rw (drop_more ys i e ly) refl)
+
+pub are_next : (f : Shape → Bool) (xs : List stored.Shape) (i : ℕ) (d : stored.Shape) → i < length xs
+    → list_all f (map shape_in (drop i xs)) ≡ (f (shape_in (get_or xs i d)) && list_all f (map shape_in (drop (i + 1) xs)))
+are_next f xs i d lt = rw (drop_more xs i d lt) refl
+
+-- what two lists of types say of their items and of their lengths
+pub ruleset same_lists = (same_next, other_lengths)
+
+-- a truth is a truth, whichever comes first
+pub truth_first : (t : Shape) → is_shape t truth ≡ is_shape truth t
+truth_first t = by t.kind t.sizes
+  where
+    by : (k : Kind) (ns : List ℕ) → (is_kind k Bool_kind && same_sizes ns []) ≡ (is_kind Bool_kind k && same_sizes [] ns)
+    by Int_kind ns = refl
+    by Bool_kind [] = refl
+    by Bool_kind (n ∷ ns) = refl
+
+-- a type is a scalar where it has its kind and no length
+pub no_more : (t : stored.Shape) (k : Kind) → is_kind t.kind k ≡ true
+    → (length t.lengths.items == 0) ≡ is_shape (shape_in t) (record { kind = k; sizes = [] })
+no_more t k e =
+    rw e (ap (λ n. n == 0) (sym (length-reverse t.lengths.items)) ∙ by (reverse t.lengths.items))
+  where
+    by : (ns : List ℕ) → (length ns == 0) ≡ same_sizes ns []
+    by [] = refl
+    by (n ∷ ns) = eqb-suc-zero (length ns)
+
+-- several types are not one
+pub several : (xs : List stored.Shape) (t : Shape) → 2 ≤ length xs → are_shapes (map shape_in xs) (t ∷ []) ≡ false
+several [] t many = absurd (omega arith)
+several (x ∷ []) t many = absurd (omega arith)
+several (x ∷ (y ∷ ys)) t many = by (is_shape (shape_in x) t)
+  where
+    by : (b : Bool) → (b && false) ≡ false
+    by true = refl
+    by false = refl
+
+-- ## A list gathered item by item
+
+-- the whole of a list is what there is, and then what is to come
+abbrev pub Gathered : {A : Type 0} → Option (List Shape) → (A → Option Shape) → List stored.Shape → List A → Type 0
+Gathered whole f done rest = whole ≡ option_map (λ ts. map shape_in done ++ ts) (all_some (map f rest))
+
+map_snoc : (done : List stored.Shape) (x : stored.Shape) (ts : List Shape)
+    → map shape_in (done ++ x ∷ []) ++ ts ≡ map shape_in done ++ (shape_in x ∷ ts)
+map_snoc [] x ts = refl
+map_snoc (d ∷ done) x ts = ap (λ (l : List Shape). shape_in d ∷ l) (map_snoc done x ts)
+
+pub gathers_start : {A : Type 0} → (f : A → Option Shape) (all : List A) → Gathered (all_some (map f all)) f [] all
+gathers_start f all = by (all_some (map f all))
+  where
+    by : (o : Option (List Shape)) → o ≡ option_map (λ ts. [] ++ ts) o
+    by None = refl
+    by (Some ts) = refl
+
+pub gathers_more : {A : Type 0} → (whole : Option (List Shape)) (f : A → Option Shape) (all : List A) (done : List stored.Shape) (i : ℕ) (d : A) (x : stored.Shape)
+    → Gathered whole f done (drop i all) → i < length all → Some (shape_in x) ≡ f (get_or all i d)
+    → Gathered whole f (done ++ x ∷ []) (drop (i + 1) all)
+gathers_more whole f all done i d x g lt is =
+    g ∙ ap (λ l. option_map (λ ts. map shape_in done ++ ts) (all_some (map f l))) (drop_more all i d lt)
+    ∙ ap (λ o. option_map (λ ts. map shape_in done ++ ts) (all_some (o ∷ map f (drop (i + 1) all)))) (sym is)
+    ∙ by (all_some (map f (drop (i + 1) all)))
+  where
+    by : (o : Option (List Shape)) → option_map (λ ts. map shape_in done ++ ts) (option_map (λ ts. shape_in x ∷ ts) o)
+        ≡ option_map (λ ts. map shape_in (done ++ x ∷ []) ++ ts) o
+    by None = refl
+    by (Some ts) = ap Some (sym (map_snoc done x ts))
+
+-- ## Lengths, the outermost last
+
+pub outermost : (ns : List ℕ) (n : ℕ) → reverse (ns ++ n ∷ []) ≡ n ∷ reverse ns
+outermost ns n = reverse-append ns (n ∷ [])
+
+-- ## The same lengths
+
+both_ways : (a b : Bool) → (a ≡ true → b ≡ true) → (b ≡ true → a ≡ true) → a ≡ b
+both_ways true b f g = sym (f refl)
+both_ways false true f g = g refl
+both_ways false false f g = refl
+
+itself : (ns : List ℕ) → pointwise nat_eq ns ns ≡ true
+itself [] = refl
+itself (n ∷ ns) = rw (eq-eqb n n refl) (itself ns)
+
+equal_lists : (ns ms : List ℕ) → ns ≡ ms → pointwise nat_eq ns ms ≡ true
+equal_lists ns ms e = subst (λ ks. pointwise nat_eq ns ks ≡ true) e (itself ns)
+
+sizes_pointwise : (ns ms : List ℕ) → same_sizes ns ms ≡ pointwise nat_eq ns ms
+sizes_pointwise [] [] = refl
+sizes_pointwise [] (m ∷ ms) = refl
+sizes_pointwise (n ∷ ns) [] = refl
+sizes_pointwise (n ∷ ns) (m ∷ ms) = ap (λ b. nat_eq n m && b) (sizes_pointwise ns ms)
+
+reversed : (ns ms : List ℕ) → pointwise nat_eq ns ms ≡ pointwise nat_eq (reverse ns) (reverse ms)
+reversed ns ms =
+    both_ways _ _
+    (λ e. equal_lists (reverse ns) (reverse ms) (ap (λ (ks : List ℕ). reverse ks) (same_text ns ms (sym e))))
+    (λ e. equal_lists ns ms
+    (sym (reverse-reverse ns) ∙ ap (λ (ks : List ℕ). reverse ks) (same_text (reverse ns) (reverse ms) (sym e)) ∙ reverse-reverse ms))
+
+-- types of one kind are the same where their lengths are
+pub same_lengths : (s t : stored.Shape) → is_kind s.kind t.kind ≡ true
+    → pointwise nat_eq s.lengths.items t.lengths.items ≡ is_shape (shape_in s) (shape_in t)
+same_lengths s t e =
+    reversed s.lengths.items t.lengths.items
+    ∙ sym (ap (λ b. b && same_sizes (reverse s.lengths.items) (reverse t.lengths.items)) e
+    ∙ sizes_pointwise (reverse s.lengths.items) (reverse t.lengths.items))
+
+pub kinds_decided : (k l : Kind) → sameb the_type k l ≡ is_kind k l
+kinds_decided Int_kind Int_kind = refl
+kinds_decided Int_kind Bool_kind = refl
+kinds_decided Bool_kind Int_kind = refl
+kinds_decided Bool_kind Bool_kind = refl
+
+-- ## Types made of types
+
+map_twice : (f : Shape → Option Shape) (xs : List stored.Shape) → map f (map shape_in xs) ≡ map (λ t. f (shape_in t)) xs
+map_twice f [] = refl
+map_twice f (x ∷ xs) = ap (λ (l : List (Option Shape)). f (shape_in x) ∷ l) (map_twice f xs)
+
+pub onto_start : (f : Shape → Option Shape) (before all : List stored.Shape)
+    → Gathered (option_map (λ ts. map shape_in before ++ ts) (all_some (map f (map shape_in all)))) (λ t. f (shape_in t)) before all
+onto_start f before all = ap (λ os. option_map (λ ts. map shape_in before ++ ts) (all_some os)) (map_twice f all)
+
+-- what a function of a type makes of a copy of an item
+pub made : (f : Shape → Option Shape) (all : List stored.Shape) (i : ℕ) (item copy : stored.Shape) (o : Option stored.Shape) (x : stored.Shape)
+    → item ≡ get_or all i item → shape_in copy ≡ shape_in item → option_map shape_in o ≡ f (shape_in copy) → o ≡ Some x
+    → Some (shape_in x) ≡ f (shape_in (get_or all i item))
+made f all i item copy o x is copied result some =
+    sym (ap (option_map shape_in) some) ∙ result ∙ ap f copied ∙ ap (λ t. f (shape_in t)) is

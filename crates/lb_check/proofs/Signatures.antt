@@ -1,0 +1,90 @@
+-- The types of the inputs and of the outputs of a callee.
+use Rattle.std.proofs.Common.{◌≡◌, ℕ, suc, List, [], ◌∷◌, ◌++◌, length, map, take, drop, Option, Some, None, refl, ap, sym, ◌∙◌}
+use Rattle.std.specs.Prelude.{ℤ}
+use Rattle.std.proofs.lemmas.List.{take-map, drop-map}
+use Rattle.lb_syntax.specs.Lists.{◌>>=◌, all_some, zip2}
+use Rattle.lb_syntax.specs.Tree.{Name, Node}
+use Rattle.lb_static.specs.declared.resolved.ResolvedNode.{ResolvedNode}
+use Rattle.lb_static.specs.declared.resolved.Variable.{Variable as Declared}
+use Rattle.lb_static.specs.InstanceTable.{instance_of}
+use Rattle.lb_static.specs.Instances.{Program, Instance, Path, Child, Site, static_value, callee_of, call_site, node_named}
+use Rattle.lb_static.specs.Parts.{variable_names}
+use Rattle.lb_static.specs.ResolvedNodes.{IsResolved, node_of, statics_of}
+use Rattle.lb_static.specs.ResolvedTerms.{declaration_of}
+use Rattle.lb_static.specs.Shapes.{Shape, variables, shape_of, input_shapes, output_shapes}
+use Rattle.lb_check.specs.TermTypes.{Signature, declared_type, declared_types, signature_of}
+use Rattle.lb_check.proofs.FittedTypes.{declared_is}
+
+take_first : {A B : Type 0} → (f : A → B) (xs ys : List A) → take (length xs) (map f (xs ++ ys)) ≡ map f xs
+take_first f [] ys = refl
+take_first f (x ∷ xs) ys = ap (λ (l : List _). f x ∷ l) (take_first f xs ys)
+
+drop_first : {A B : Type 0} → (f : A → B) (xs ys : List A) → drop (length xs) (map f (xs ++ ys)) ≡ map f ys
+drop_first f [] ys = refl
+drop_first f (x ∷ xs) ys = drop_first f xs ys
+
+-- the types of the inputs and of the outputs of an instance
+abbrev pub signature : Program → Option Instance → Option Signature
+signature P o = o >>= λ n. input_shapes P n >>= λ ins. output_shapes P n >>= λ outs. Some (ins, outs)
+
+module _ (P : Program) (names : List Name) (n : ResolvedNode) (resolved : IsResolved names n) (here : Instance) (values : List ℤ)
+    (valued : map Some values ≡ map (static_value P here) (statics_of n)) (same : here.node ≡ node_of n) where
+  abbrev types : List Declared → List (Option Shape)
+  types vs = map (declared_type values) vs
+
+  each_declared : (all xs : List Name) (vs : List Declared) → length vs ≡ length xs
+      → map (shape_of P here) (zip2 (declaration_of all (statics_of n)) xs vs) ≡ types vs
+  each_declared all [] [] e = refl
+  each_declared all [] (v ∷ vs) e = absurd cc
+  each_declared all (x ∷ xs) [] e = absurd cc
+  each_declared all (x ∷ xs) (v ∷ vs) e =
+      let rest : length vs ≡ length xs = cc in
+      rw (declared_is P here (statics_of n) values valued all x v) (ap (λ (l : List (Option Shape)). declared_type values v ∷ l) (each_declared all xs vs rest))
+
+  length_map : {A B : Type 0} → (f : A → B) (xs : List A) → length (map f xs) ≡ length xs
+  length_map f [] = refl
+  length_map f (x ∷ xs) = ap suc (length_map f xs)
+
+  all_declared : map (shape_of P here) (variables (node_of n)) ≡ types n.variables.items
+  all_declared =
+      ap (map (shape_of P here)) (sym resolved.declared)
+      ∙ each_declared (variable_names (node_of n)) (variable_names (node_of n)) n.variables.items
+      (resolved.as_many ∙ sym (length_map (λ d. d.name) (variables (node_of n))))
+
+  inputs_are : map (shape_of P here) (node_of n).inputs ≡ types (take n.inputs n.variables.items)
+  inputs_are =
+      let node = node_of n in
+      sym (take_first (shape_of P here) node.inputs (node.outputs ++ node.locals))
+      ∙ ap (λ k. take k (map (shape_of P here) (variables node))) (sym resolved.inputs)
+      ∙ ap (take n.inputs) all_declared ∙ take-map (declared_type values) n.inputs n.variables.items
+
+  outputs_are : map (shape_of P here) (node_of n).outputs ≡ types (take n.outputs (drop n.inputs n.variables.items))
+  outputs_are =
+      let node = node_of n in
+      sym (take_first (shape_of P here) node.outputs node.locals)
+      ∙ ap (take (length node.outputs)) (sym (drop_first (shape_of P here) node.inputs (node.outputs ++ node.locals)))
+      ∙ ap (λ k. take k (drop (length node.inputs) (map (shape_of P here) (variables node)))) (sym resolved.outputs)
+      ∙ ap (λ k. take n.outputs (drop k (map (shape_of P here) (variables node)))) (sym resolved.inputs)
+      ∙ ap (λ l. take n.outputs (drop n.inputs l)) all_declared
+      ∙ ap (take n.outputs) (drop-map (declared_type values) n.inputs n.variables.items)
+      ∙ take-map (declared_type values) n.outputs (drop n.inputs n.variables.items)
+
+  pub signature_is : signature P (Some here) ≡ signature_of values n
+  signature_is =
+      ap (λ m. all_some (map (shape_of P here) m.inputs) >>= λ ins. all_some (map (shape_of P here) m.outputs) >>= λ outs. Some (ins, outs)) same
+      ∙ ap (λ l. all_some l >>= λ ins. all_some (map (shape_of P here) (node_of n).outputs) >>= λ outs. Some (ins, outs)) inputs_are
+      ∙ ap (λ l. declared_types values (take n.inputs n.variables.items) >>= λ ins. all_some l >>= λ outs. Some (ins, outs)) outputs_are
+
+-- what a call calls has the same types wherever it stands
+pub same_callee : (P : Program) (p q : Path) (n : Node) (values : List ℤ) (site : Site) (call index : ℕ)
+    → signature P (callee_of P (instance_of p n values) (call_site site.callee site.arguments) 0 0)
+    ≡ signature P (callee_of P (instance_of q n values) site call index)
+same_callee P p q n values site call index =
+    by (node_named P site.callee) (all_some (map (static_value P (instance_of p n values)) site.arguments))
+  where
+    by : (o : Option Node) (vs : Option (List ℤ))
+        → signature P (o >>= λ m. vs >>= λ values. Some (instance_of (Child p 0 0) m values))
+        ≡ signature P (o >>= λ m. vs >>= λ values. Some (instance_of (Child q call index) m values))
+    by None vs = refl
+    by (Some m) None = refl
+    by (Some m) (Some values) = refl

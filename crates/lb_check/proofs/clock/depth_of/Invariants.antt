@@ -1,0 +1,7 @@
+use Rattle.std.proofs.Common.{◌<◌, length}
+use Rattle.lb_check.specs.ClockDepths.{LeadsTo}
+use Rattle.lb_check.proofs.clock.depth_of.Given as goal
+
+abbrev pub invariant-loop-steps : goal.invariant-loop-steps
+invariant-loop-steps l =
+    (l.variable < length l.variables) × LeadsTo l.variables l.steps l.fn.first l.variable

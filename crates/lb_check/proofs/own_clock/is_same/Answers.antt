@@ -1,0 +1,12 @@
+use Rattle.lb_check.proofs.OwnClocks.{same_signs, other_variable}
+use Rattle.lb_check.proofs.own_clock.is_same.Goals as goal
+
+pub returns-then-x-y : goal.returns-then-x-y
+returns-then-x-y c r h left right =
+    same_signs r h c.args.left c.args.right c.in-On-On.x c.in-On-On.y c.in-On-On.sign c.in-On-On.other
+    c.in-On-On.is-0 c.in-On-On.is-1 left right c.if-x-y.true
+
+pub returns-else-x-y : goal.returns-else-x-y
+returns-else-x-y c r h left right =
+    other_variable r h c.args.left c.args.right c.in-On-On.x c.in-On-On.y c.in-On-On.sign c.in-On-On.other
+    c.in-On-On.is-0 c.in-On-On.is-1 left right c.if-x-y.false

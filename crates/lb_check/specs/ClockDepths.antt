@@ -1,0 +1,65 @@
+-- How deep the declared clocks of a node stand, as the code finds it.
+-- This file mirrors code (src/clock.rt); no definition of the language stands on it.
+use Rattle.std.specs.Prelude.{◌≡◌, ◌+◌, ◌<◌, ◌≤◌, ℕ, zero, suc, nat_lt, Bool, true, Option, Some, None, option_map, List, map, length, slice_get}
+use Rattle.lb_syntax.specs.Lists.{◌>>=◌}
+use Rattle.lb_syntax.specs.Tree.{Node}
+use Rattle.lb_static.specs.Parts.{variable_names}
+use Rattle.lb_static.specs.declared.resolved.Sampling.{Sampling}
+use Rattle.lb_static.specs.declared.resolved.Variable.{Variable}
+use Rattle.lb_check.specs.Clocks.{depth, declared_clock}
+
+-- the variable that a variable waits for, if it is on a clock of its own
+abbrev pub awaited : List Variable → ℕ → Option ℕ
+awaited vs x = slice_get vs x >>= λ v. option_map (λ s. s.variable.0) v.clock
+
+-- each variable that is waited for is there
+abbrev pub AreAwaited : List Variable → Type 0
+AreAwaited vs = (x y : ℕ) → awaited vs x ≡ Some y → y < length vs
+
+-- from one variable to another in so many steps, each to the variable that is waited for
+unfoldable pub LeadsTo : List Variable → ℕ → (from to : ℕ) → Type 0
+LeadsTo vs zero x y = x ≡ y
+LeadsTo vs (suc k) x y = (z : ℕ) × (awaited vs x ≡ Some z) × LeadsTo vs k z y
+
+-- the declared clock of a variable stands so deep
+unfoldable pub StandsAt : List Variable → ℕ → ℕ → Type 0
+StandsAt vs zero x = awaited vs x ≡ None
+StandsAt vs (suc d) x = (z : ℕ) × (awaited vs x ≡ Some z) × StandsAt vs d z
+
+-- how deep it stands, where variables wait for others less than n deep
+unfoldable pub depth_within : ℕ → List Variable → ℕ → Option ℕ
+depth_within zero vs x = None
+depth_within (suc n) vs x = depth_from (depth_within n vs) (awaited vs x)
+  where
+    depth_from : (ℕ → Option ℕ) → Option ℕ → Option ℕ
+    depth_from depth None = Some 0
+    depth_from depth (Some y) = option_map suc (depth y)
+
+-- these depths are right, as far as they are known
+pub record AreDepths (vs : List Variable) (depths : List (Option ℕ)) : Type 0 where
+  pub as_many : length depths ≡ length vs
+  pub right : (x d : ℕ) → slice_get depths x ≡ Some (Some d) → StandsAt vs d x
+  pub small : (x d : ℕ) → slice_get depths x ≡ Some (Some d) → d ≤ length vs
+
+-- the depth of a variable is known
+abbrev pub IsKnown : List (Option ℕ) → ℕ → Type 0
+IsKnown depths x = (d : ℕ) × (slice_get depths x ≡ Some (Some d))
+
+-- the depth of each variable, or none where that of some variable has no end
+abbrev pub AreFound : List Variable → Option (List (Option ℕ)) → Type 0
+AreFound vs (Some depths) = AreDepths vs depths × ((x : ℕ) → x < length vs → IsKnown depths x)
+AreFound vs None = (x : ℕ) × (x < length vs) × (depth_within (length vs + 1) vs x ≡ None)
+
+-- a variable is on no clock of its own, or waits for one of so many first variables
+abbrev pub waits_below : ℕ → Variable → Bool
+waits_below count v = below v.clock
+  where
+    below : Option Sampling → Bool
+    below None = true
+    below (Some s) = nat_lt s.variable.0 count
+
+-- variable by variable, how deep the declared clocks of a node stand
+abbrev pub HasDepths : Node → Option (List (Option ℕ)) → Type 0
+HasDepths n None = Unit {0}
+HasDepths n (Some depths) =
+    depths ≡ map (λ x. Some (depth (declared_clock n x))) (variable_names n)

@@ -1,0 +1,204 @@
+-- The types of a term, as the code finds them.
+-- This file mirrors code (src/types.rt); no definition of the language stands on it.
+use Rattle.std.specs.Prelude.{ℕ, ℤ, Bool, true, ◌&&◌, Option, Some, None, option_map, List, [], ◌∷◌, map, take, drop, reverse, slice_get, if◌then◌else◌}
+use Rattle.std.specs.List.{list_all}
+use Rattle.lb_syntax.specs.declared.tree.BinaryOperator.{BinaryOperator}
+use Rattle.lb_syntax.specs.Lists.{◌>>=◌, where_true, all_some, either_or, holds}
+use Rattle.lb_static.specs.declared.reach.Reached.{Reached}
+use Rattle.lb_static.specs.declared.resolved.CallId.{CallId}
+use Rattle.lb_static.specs.declared.resolved.CallSite.{CallSite}
+use Rattle.lb_static.specs.declared.resolved.ResolvedNode.{ResolvedNode}
+use Rattle.lb_static.specs.declared.resolved.Sampling.{Sampling}
+use Rattle.lb_static.specs.declared.resolved.StaticId.{StaticId}
+use Rattle.lb_static.specs.declared.resolved.Step.{Step}
+use Rattle.lb_static.specs.declared.resolved.Step.TheVariants as step
+use Rattle.lb_static.specs.declared.resolved.Term.{Term, Literal, Truth, Variable, Value, Group', Unary', Binary', If', Arrow', Fby', Pre', Current', When', Copies', Index', Slice', Join', Array', AtMostOne', Nor', Call', IterateNode', IterateSymbol', Row_of-Term, end_of-Term, more_of-Term}
+use Rattle.lb_static.specs.declared.resolved.Variable.{Variable as Declared}
+use Rattle.lb_static.specs.declared.resolved.VariableId.{VariableId}
+use Rattle.lb_static.specs.declared.table.Specialization.{Specialization}
+use Rattle.lb_static.specs.declared.table.Table.{Table}
+use Rattle.lb_static.specs.Shapes.{Shape, int, truth, is_shape, are_shapes}
+use Rattle.lb_static.specs.StaticValues.{natural}
+use Rattle.lb_check.specs.Types.{is_arithmetic, unary_shape, binary_shape, same_shape, array_of, index_shape, slice_shape, join_shape, list_shape, iterator_shapes, only, singly}
+
+-- the types of the inputs and of the outputs of what is called
+abbrev pub Signature : Type 0
+Signature = List Shape × List Shape
+
+-- what stands for the numbers in a term
+pub record Context : Type 0 where
+  pub variable : VariableId → Option Shape
+  pub count : StaticId → Option ℕ
+  pub call : CallId → Option Signature
+  pub repeats : CallId → Option ℕ
+
+-- ## What stands for the numbers of a specialization
+
+-- a size or an index
+abbrev pub count_at : List ℤ → StaticId → Option ℕ
+count_at statics i = slice_get statics i.0 >>= natural
+
+abbrev pub wholes : List ℤ → Option (List ℕ)
+wholes values = all_some (map natural values)
+
+-- the sizes that stand from one on, so many
+abbrev pub sizes_at : List ℤ → StaticId → ℕ → Option (List ℕ)
+sizes_at statics first count = wholes (take count (drop first.0 statics))
+
+-- the type of a variable
+abbrev pub declared_type : List ℤ → Declared → Option Shape
+declared_type statics v =
+    option_map (λ ns. record { kind = v.kind; sizes = reverse ns })
+    (sizes_at statics v.first_size v.sizes)
+
+abbrev pub declared_types : List ℤ → List Declared → Option (List Shape)
+declared_types statics vs = all_some (map (declared_type statics) vs)
+
+abbrev pub variable_at : ResolvedNode → Specialization → VariableId → Option Shape
+variable_at n s x = slice_get n.variables.items x.0 >>= declared_type s.statics.items
+
+-- the types of the inputs and of the outputs of a node under these static values
+abbrev pub signature_of : List ℤ → ResolvedNode → Option Signature
+signature_of statics n =
+    declared_types statics (take n.inputs n.variables.items) >>= λ ins.
+    declared_types statics (take n.outputs (drop n.inputs n.variables.items)) >>= λ outs.
+    Some (ins, outs)
+
+abbrev pub callee_signature : Reached → Specialization → Option Signature
+callee_signature r s = slice_get r.nodes.items s.node.0 >>= signature_of s.statics.items
+
+abbrev pub signature_at : Reached → Table → Specialization → CallId → Option Signature
+signature_at r t s c =
+    slice_get s.callees.items c.0 >>= λ id.
+    slice_get t.specializations.items id.0 >>= callee_signature r
+
+abbrev pub repeats_of : List ℤ → CallSite → Option ℕ
+repeats_of statics site = either_or (option_map (count_at statics) site.count) (Some 0)
+
+abbrev pub repeats_at : ResolvedNode → Specialization → CallId → Option ℕ
+repeats_at n s c = slice_get n.calls.items c.0 >>= repeats_of s.statics.items
+
+unfoldable pub context_of : Reached → Table → ResolvedNode → Specialization → Context
+context_of r t n s = record {
+  variable = variable_at n s;
+  count = count_at s.statics.items;
+  call = signature_at r t s;
+  repeats = repeats_at n s;
+}
+
+-- ## Terms
+
+abbrev pub symbol_signature : BinaryOperator → Signature
+symbol_signature op =
+    if is_arithmetic op then (int ∷ int ∷ [], int ∷ [])
+    else (truth ∷ truth ∷ [], truth ∷ [])
+
+-- a truth gives this
+abbrev pub when_truth : Option Shape → Option Shape → Option Shape
+when_truth c o = c >>= λ c. where_true (is_shape truth c) c >>= λ _. o
+
+abbrev pub when_both : Option Shape → Option Shape → (Shape → Shape → Option Shape) → Option Shape
+when_both o p f = o >>= λ t. p >>= f t
+
+-- the types of the results of a term with a row of operands of these types
+abbrev pub row_results : Context → Term → List Shape → Option (List Shape)
+row_results ctx (Array' shape all) ts = singly (list_shape ts)
+row_results ctx (AtMostOne' shape all) ts = where_true (list_all (is_shape truth) ts) (truth ∷ [])
+row_results ctx (Nor' shape all) ts = where_true (list_all (is_shape truth) ts) (truth ∷ [])
+row_results ctx (Call' c shape all) ts =
+    ctx.call c >>= λ o. where_true (are_shapes o.0 ts) o.1
+row_results ctx (IterateNode' it c shape all) ts =
+    ctx.repeats c >>= λ n. ctx.call c >>= λ o. iterator_shapes it n o.0 o.1 ts
+row_results ctx (IterateSymbol' it op n shape all) ts =
+    ctx.count n >>= λ n. iterator_shapes it n (symbol_signature op).0 (symbol_signature op).1 ts
+row_results ctx t ts = None
+
+unfoldable mutual
+  -- the one type of a term
+  pub type_of : Context → Term → Option Shape
+  type_of ctx (Literal n) = Some int
+  type_of ctx (Truth b) = Some truth
+  type_of ctx (Variable x) = ctx.variable x
+  type_of ctx (Value i) = Some int
+  type_of ctx (Group' p e) = type_of ctx e
+  type_of ctx (Unary' op p a) = type_of ctx a >>= unary_shape op
+  type_of ctx (Binary' op p a q b) = when_both (type_of ctx a) (type_of ctx b) (binary_shape op)
+  type_of ctx (If' p c q a r b) =
+      when_truth (type_of ctx c) (when_both (type_of ctx a) (type_of ctx b) same_shape)
+  type_of ctx (Arrow' p a q b) = when_both (type_of ctx a) (type_of ctx b) same_shape
+  type_of ctx (Fby' p a q b) = when_both (type_of ctx a) (type_of ctx b) same_shape
+  type_of ctx (Pre' p e) = type_of ctx e
+  type_of ctx (Current' p e) = type_of ctx e
+  type_of ctx (When' p e x sign) = when_truth (ctx.variable x) (type_of ctx e)
+  type_of ctx (Copies' p e n) = ctx.count n >>= λ n. type_of ctx e >>= array_of n
+  type_of ctx (Index' p e i) = ctx.count i >>= λ i. type_of ctx e >>= index_shape i
+  type_of ctx (Slice' p e i j) =
+      ctx.count i >>= λ i. ctx.count j >>= λ j. type_of ctx e >>= slice_shape i j
+  type_of ctx (Join' p a q b) = when_both (type_of ctx a) (type_of ctx b) join_shape
+  type_of ctx (Array' shape all) =
+      types_in ctx all >>= row_results ctx (Array' shape all) >>= only
+  type_of ctx (AtMostOne' shape all) =
+      types_in ctx all >>= row_results ctx (AtMostOne' shape all) >>= only
+  type_of ctx (Nor' shape all) = types_in ctx all >>= row_results ctx (Nor' shape all) >>= only
+  type_of ctx (Call' c shape all) =
+      types_in ctx all >>= row_results ctx (Call' c shape all) >>= only
+  type_of ctx (IterateNode' it c shape all) =
+      types_in ctx all >>= row_results ctx (IterateNode' it c shape all) >>= only
+  type_of ctx (IterateSymbol' it op n shape all) =
+      types_in ctx all >>= row_results ctx (IterateSymbol' it op n shape all) >>= only
+
+  -- those of a row of terms
+  pub types_in : {m : _} → Context → Row_of-Term m → Option (List Shape)
+  types_in ctx end_of-Term = Some []
+  types_in ctx (more_of-Term e rest) =
+      type_of ctx e >>= λ t. types_in ctx rest >>= λ ts. Some (t ∷ ts)
+
+-- those of a list of terms
+abbrev pub types_of : Context → List Term → Option (List Shape)
+types_of ctx es = all_some (map (type_of ctx) es)
+
+-- the types of the results of a right side
+unfoldable pub results : Context → Term → Option (List Shape)
+results ctx (Group' p e) = results ctx e
+results ctx (Array' shape all) = types_in ctx all >>= row_results ctx (Array' shape all)
+results ctx (AtMostOne' shape all) = types_in ctx all >>= row_results ctx (AtMostOne' shape all)
+results ctx (Nor' shape all) = types_in ctx all >>= row_results ctx (Nor' shape all)
+results ctx (Call' c shape all) = types_in ctx all >>= row_results ctx (Call' c shape all)
+results ctx (IterateNode' it c shape all) =
+    types_in ctx all >>= row_results ctx (IterateNode' it c shape all)
+results ctx (IterateSymbol' it op n shape all) =
+    types_in ctx all >>= row_results ctx (IterateSymbol' it op n shape all)
+results ctx t = singly (type_of ctx t)
+
+-- ## Statements
+
+abbrev pub left_types : Context → List VariableId → Option (List Shape)
+left_types ctx xs = all_some (map ctx.variable xs)
+
+abbrev pub are_equal : Option (List Shape) → Option (List Shape) → Bool
+are_equal o p = holds (λ ss. holds (are_shapes ss) p) o
+
+abbrev pub is_step_typed : Context → Step → Bool
+is_step_typed ctx (step.Equation lefts e) = are_equal (results ctx e) (left_types ctx lefts.items)
+is_step_typed ctx (step.Assertion e) = are_equal (results ctx e) (Some (truth ∷ []))
+
+-- the variable of a declared clock is a truth
+abbrev pub is_clock_typed : Context → Option Sampling → Bool
+is_clock_typed ctx None = true
+is_clock_typed ctx (Some s) = holds (is_shape truth) (ctx.variable s.variable)
+
+abbrev pub is_variable_typed : Context → Declared → Bool
+is_variable_typed ctx v = is_clock_typed ctx v.clock
+
+abbrev pub is_node_typed : Context → ResolvedNode → Bool
+is_node_typed ctx n =
+    list_all (is_variable_typed ctx) n.variables.items
+    && list_all (is_step_typed ctx) n.body.items
+
+abbrev pub is_specialization_typed : Reached → Table → Specialization → Bool
+is_specialization_typed r t s =
+    holds (λ n. is_node_typed (context_of r t n s) n) (slice_get r.nodes.items s.node.0)
+
+-- whether each specialization keeps the rules of types
+abbrev pub are_typed : Reached → Table → Bool
+are_typed r t = list_all (is_specialization_typed r t) t.specializations.items

@@ -1,0 +1,165 @@
+//! Declared clocks: which variables wait for others, and how deep their clocks stand (E10).
+
+ghost use Rattle.std.specs.Prelude.{◌≡◌, ◌+◌, ◌<◌, ◌≤◌, ℕ, true, Some, None, List, length};
+ghost use Rattle.std.specs.Prelude.{option_map, is_some, IfOk};
+ghost use Rattle.std.specs.List.{list_all};
+ghost use Rattle.lb_syntax.specs.Tree.{Name};
+ghost use Rattle.lb_static.specs.Names.{are_distinct};
+ghost use Rattle.lb_static.specs.Parts.{variable_names};
+ghost use Rattle.lb_static.specs.ResolvedNodes.{IsResolved, node_of};
+ghost use Rattle.lb_check.specs.ClockRules.{are_declared_clocks};
+ghost use Rattle.lb_check.specs.ClockDepths.{AreAwaited, AreDepths, AreFound, HasDepths, IsKnown};
+ghost use Rattle.lb_check.specs.ClockDepths.{StandsAt, depth_within, waits_below};
+
+use lb_static::resolved::{ResolvedNode, Variable};
+use std::alloc::{AllocError, Global};
+
+/// How deep the declared clock of a variable stands: the steps to a variable without a clock, or
+/// to one whose depth is known. None where there are more steps than variables, in a circle.
+#[tactic(auto, using(crate::proofs::ClockDepths::steps))]
+fn depth_of(depths: &[Option<usize>], variables: &[Variable], first: usize) -> Option<usize>
+    requires awaited { AreAwaited variables.now }
+    requires known { AreDepths variables.now depths.now }
+    requires within { first < length variables.now }
+    ensures found { (d : ℕ) → result ≡ Some d →
+        StandsAt variables.now d first × d ≤ length variables.now }
+    ensures circle { result ≡ None →
+        depth_within (length variables.now + 1) variables.now first ≡ None }
+{
+    let mut variable = first;
+    for steps in 0..variables.len() + 1 {
+        if let Some(depth) = depths[variable] {
+            if depth > variables.len() - steps {
+                return None;
+            }
+            return Some(steps + depth);
+        }
+        let Some(clock) = variables[variable].clock else {
+            return Some(steps);
+        };
+        variable = clock.variable.0 as usize;
+    }
+    None
+}
+
+/// Notes how deep a variable and those that it leads to stand, up to one of which it is known.
+fn note_depths(depths: &mut [Option<usize>], variables: &[Variable], first: usize, depth: usize)
+    requires awaited { AreAwaited variables.now }
+    requires known { AreDepths variables.now depths.old }
+    requires within { first < length variables.now }
+    requires stands { StandsAt variables.now depth first }
+    requires small { depth ≤ length variables.now }
+    ensures known { AreDepths variables.now depths.new }
+    ensures noted { IsKnown depths.new first }
+    ensures kept { (x : ℕ) → IsKnown depths.old x → IsKnown depths.new x }
+{
+    let mut variable = first;
+    for above in 0..depth + 1 {
+        if depths[variable].is_some() {
+            return;
+        }
+        depths[variable] = Some(depth - above);
+        let Some(clock) = variables[variable].clock else {
+            return;
+        };
+        variable = clock.variable.0 as usize;
+    }
+}
+
+/// How deep the declared clock of each variable stands, or none where declared clocks run in a
+/// circle.
+fn clock_depths(
+    alloc: Global,
+    variables: &[Variable],
+) -> Result<Option<Vec<Option<usize>>>, AllocError>
+    requires awaited { AreAwaited variables.now }
+    ensures { IfOk result (λ found.
+        AreFound variables.now (option_map (λ depths. depths.items) found)) }
+{
+    let mut depths = vec![in alloc; None; variables.len()]?;
+    for variable in 0..variables.len() {
+        let Some(depth) = depth_of(&depths, variables, variable) else {
+            return Ok(None);
+        };
+        note_depths(&mut depths, variables, variable, depth);
+    }
+    Ok(Some(depths))
+}
+
+/// Whether each of some variables that is on a clock waits for one of so many first variables.
+#[tactic(auto, using(crate::proofs::ClockedNodes::waits_next))]
+fn wait_below(variables: &[Variable], count: usize) -> bool
+    ensures { result ≡ list_all (waits_below count) variables.now }
+{
+    for variable in variables {
+        if let Some(clock) = variable.clock {
+            if clock.variable.0 as usize >= count {
+                return false;
+            }
+        }
+    }
+    true
+}
+
+/// How deep the declared clock of each variable of a node stands, or none where a rule of declared
+/// clocks is broken: an input waits for an input, an output for an input or an output, and declared
+/// clocks do not run in a circle.
+pub fn declared_depths(
+    alloc: Global,
+    node: &ResolvedNode,
+) -> Result<Option<Vec<Option<usize>>>, AllocError>
+    requires resolved { (nodes : List Name) × IsResolved nodes node.now }
+    ensures kept { are_distinct (variable_names (node_of node.now)) ≡ true →
+        IfOk result (λ depths. is_some depths ≡ are_declared_clocks (node_of node.now)) }
+    ensures deep { are_distinct (variable_names (node_of node.now)) ≡ true →
+        IfOk result (λ found.
+        HasDepths (node_of node.now) (option_map (λ depths. depths.items) found)) }
+{
+    let interface = node.inputs + node.outputs;
+    if !wait_below(&node.variables[..node.inputs], node.inputs) {
+        return Ok(None);
+    }
+    if !wait_below(&node.variables[node.inputs..interface], interface) {
+        return Ok(None);
+    }
+    clock_depths(alloc, &node.variables)
+}
+
+#[cfg(test)]
+mod tests {
+    use super::*;
+    use lb_static::resolved::{Sampling, StaticId, VariableId};
+    use lb_syntax::tree::Kind;
+
+    fn waiting_for(variable: Option<u32>) -> Variable
+        ensures { option_map (λ s. s.variable.0) result.clock ≡ variable }
+    {
+        Variable {
+            kind: Kind::Bool,
+            first_size: StaticId(0),
+            sizes: 0,
+            clock: variable.map(|place| Sampling {
+                variable: VariableId(place),
+                sign: true,
+            }),
+        }
+    }
+
+    // c; x when b; b when c; y when x
+    #[test]
+    fn variables_that_wait_for_later_ones(rt: HostRuntime) {
+        let variables = [
+            waiting_for(None),
+            waiting_for(Some(2)),
+            waiting_for(Some(0)),
+            waiting_for(Some(1)),
+        ];
+        let depths = clock_depths(rt.alloc(), &variables)
+            .expect(&rt, "memory")
+            .expect(&rt, "no circle");
+        assert_eq!(rt;
+            depths.as_slice(),
+            [Some(0), Some(2), Some(1), Some(3)].as_slice()
+        );
+    }
+}

@@ -1,0 +1,160 @@
+//! The rules of types of a program (E9).
+
+ghost use Rattle.std.specs.Prelude.{◌≡◌, ◌∷◌, [], map, option_map, IfOk};
+ghost use Rattle.std.specs.List.{list_all};
+ghost use Rattle.lb_static.specs.Instances.{Program, instances};
+ghost use Rattle.lb_check.specs.JudgedPrograms.{IsJudged};
+ghost use Rattle.lb_check.specs.TypeRules.{is_typed};
+ghost use Rattle.lb_static.specs.Shapes.{are_shapes, truth};
+ghost use Rattle.lb_check.specs.StoredShapes.{shape_in, shapes_in, context_in};
+ghost use Rattle.lb_check.specs.TermTypes as mirror;
+
+use crate::shape::{Shape, are_same};
+use crate::type_scope::Scope;
+use crate::types::results;
+use lb_static::reach::Reached;
+use lb_static::resolved::{Step, Variable, VariableId};
+use lb_static::table::{Specialization, Table};
+use std::alloc::{AllocError, Global};
+
+/// The types of variables.
+fn left_types(
+    alloc: Global,
+    scope: &Scope,
+    lefts: &[VariableId],
+) -> Result<Option<Vec<Shape>>, AllocError>
+    ensures { IfOk result (λ o.
+        option_map shapes_in o ≡ mirror.left_types (context_in scope.now) lefts.now) }
+{
+    let mut types = Vec::new(alloc);
+    for left in lefts {
+        match scope.variable(alloc, *left)? {
+            Some(shape) => types.push(shape)?,
+            None => return Ok(None),
+        }
+    }
+    Ok(Some(types))
+}
+
+/// Whether the types of an assertion are one truth.
+fn is_assertion_typed(types: &[Shape]) -> bool
+    ensures { result ≡ are_shapes (map shape_in types.now) (truth ∷ []) }
+{
+    match types {
+        [only] => only.is_truth(),
+        _ => false,
+    }
+}
+
+/// Whether a statement keeps the rules of types: the left variables have the types of the results,
+/// and an assertion is a truth.
+fn is_step_typed(alloc: Global, scope: &Scope, step: &Step) -> Result<bool, AllocError>
+    ensures { IfOk result (λ kept. kept ≡ mirror.is_step_typed (context_in scope.now) step.now) }
+{
+    match step {
+        Step::Equation(lefts, right) => {
+            let rights = results(alloc, scope, right)?;
+            match (rights, left_types(alloc, scope, lefts)?) {
+                (Some(rights), Some(lefts)) => Ok(are_same(&rights, &lefts)),
+                _ => Ok(false),
+            }
+        }
+        Step::Assertion(term) => match results(alloc, scope, term)? {
+            Some(types) => Ok(is_assertion_typed(&types)),
+            None => Ok(false),
+        },
+    }
+}
+
+/// Whether the variable of a declared clock is a truth.
+fn is_variable_typed(alloc: Global, scope: &Scope, variable: &Variable) -> Result<bool, AllocError>
+    ensures { IfOk result (λ kept.
+        kept ≡ mirror.is_variable_typed (context_in scope.now) variable.now) }
+{
+    let Some(clock) = variable.clock else {
+        return Ok(true);
+    };
+    match scope.variable(alloc, clock.variable)? {
+        Some(shape) => Ok(shape.is_truth()),
+        None => Ok(false),
+    }
+}
+
+/// Whether each declared clock keeps the rules of types.
+fn are_variables_typed(
+    alloc: Global,
+    scope: &Scope,
+    variables: &[Variable],
+) -> Result<bool, AllocError>
+    ensures { IfOk result (λ kept.
+        kept ≡ list_all (mirror.is_variable_typed (context_in scope.now)) variables.now) }
+{
+    for variable in variables {
+        if !is_variable_typed(alloc, scope, variable)? {
+            return Ok(false);
+        }
+    }
+    Ok(true)
+}
+
+/// Whether each statement keeps the rules of types.
+fn are_steps_typed(alloc: Global, scope: &Scope, body: &[Step]) -> Result<bool, AllocError>
+    ensures { IfOk result (λ kept.
+        kept ≡ list_all (mirror.is_step_typed (context_in scope.now)) body.now) }
+{
+    for step in body {
+        if !is_step_typed(alloc, scope, step)? {
+            return Ok(false);
+        }
+    }
+    Ok(true)
+}
+
+/// Whether a specialization keeps the rules of types.
+fn is_specialization_typed(
+    alloc: Global,
+    reached: &Reached,
+    table: &Table,
+    specialization: &Specialization,
+) -> Result<bool, AllocError>
+    ensures { IfOk result (λ kept.
+        kept ≡ mirror.is_specialization_typed reached.now table.now specialization.now) }
+{
+    let Some(node) = reached.nodes.get(specialization.node.0 as usize) else {
+        return Ok(false);
+    };
+    let scope = Scope {
+        reached,
+        table,
+        node,
+        specialization,
+    };
+    Ok(
+        are_variables_typed(alloc, &scope, &node.variables)?
+            && are_steps_typed(alloc, &scope, &node.body)?,
+    )
+}
+
+/// Whether each specialization keeps the rules of types.
+fn are_specializations_typed(
+    alloc: Global,
+    reached: &Reached,
+    table: &Table,
+) -> Result<bool, AllocError>
+    ensures { IfOk result (λ kept. kept ≡ mirror.are_typed reached.now table.now) }
+{
+    for specialization in &table.specializations {
+        if !is_specialization_typed(alloc, reached, table, specialization)? {
+            return Ok(false);
+        }
+    }
+    Ok(true)
+}
+
+/// Whether each instance keeps the rules of types (E9): each specialization is judged once.
+pub fn are_typed(alloc: Global, reached: &Reached, table: &Table) -> Result<bool, AllocError>
+    ensures { (P : Program) → IsJudged P reached.now table.now →
+        IfOk result (λ kept. kept ≡ list_all (is_typed P) (instances P)) }
+{
+    are_specializations_typed(alloc, reached, table)
+}
