@@ -15,7 +15,7 @@ use lb_static::table::{Specialization, Table};
 use std::alloc::{AllocError, Global};
 
 /// Counts the places of some left variables: 0, 1, and 2 for any more.
-#[tactic(auto, using(crate::proofs::DefinitionSteps::count_next))]
+#[tactic(auto, using(crate::proofs::Defining::count_next))]
 fn count(counts: &mut [u8], lefts: &[VariableId])
     ensures { mirror.AreCounts counts.new (λ i.
         slice_index counts.old i + mirror.count_left i lefts.now) }
@@ -32,7 +32,7 @@ fn count(counts: &mut [u8], lefts: &[VariableId])
 }
 
 /// How often each of so many variables stands on the left: 0, 1, and 2 for any more.
-#[tactic(auto, using(crate::proofs::DefinitionSteps::counts_next))]
+#[tactic(auto, using(crate::proofs::Defining::counts_next))]
 fn left_counts(alloc: Global, variables: usize, body: &[Step]) -> Result<Vec<u8>, AllocError>
     ensures length_kept { IfOk result (λ counts. length counts.items ≡ variables) }
     ensures counted { IfOk result (λ counts.
@@ -68,7 +68,7 @@ fn defines_each(
 }
 
 /// Whether a term holds `->`, `fby`, `pre` or `current`.
-#[tactic(auto, using(crate::proofs::DefinitionSteps::memory_next), unfolding(crate::specs::NodeDefinitions::has_memory))]
+#[tactic(auto, using(crate::proofs::Defining::memory), unfolding(crate::specs::NodeDefinitions::has_memory))]
 fn has_memory(term: &Term) -> bool
     ensures { result ≡ mirror.has_memory term.now }
 {
@@ -97,7 +97,7 @@ fn has_memory(term: &Term) -> bool
 }
 
 /// Whether some statement holds `->`, `fby`, `pre` or `current`.
-#[tactic(auto, using(crate::proofs::DefinitionSteps::steps_next))]
+#[tactic(auto, using(crate::proofs::Defining::steps_next))]
 fn have_memory(body: &[Step]) -> bool
     ensures { result ≡ mirror.steps_memory body.now }
 {
@@ -124,7 +124,7 @@ fn calls_function(reached: &Reached, call: &CallSite) -> bool
 }
 
 /// Whether all calls are those of functions.
-#[tactic(auto, using(crate::proofs::DefinitionSteps::calls_next))]
+#[tactic(auto, using(crate::proofs::Defining::calls_next))]
 fn call_functions(reached: &Reached, calls: &[CallSite]) -> bool
     ensures { result ≡ mirror.call_functions reached.now calls.now }
 {

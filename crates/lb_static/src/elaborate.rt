@@ -47,7 +47,6 @@ fn elaborate_plain(
     };
     match observer {
         None => elaborate_node(alloc, &globals, root),
-        Some(name) if node_named(source, name).is_none() => Err(refused_name(alloc, name)),
         Some(_) => Err(StaticError::Large),
     }
 }

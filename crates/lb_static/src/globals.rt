@@ -67,10 +67,7 @@ impl Globals {
     pub fn is_constant(&self, name: &str) -> bool
         ensures { result ≡ among name.now (take self.now.constants self.now.names) }
     {
-        match self.names.place(name) {
-            Some(place) => place < self.constants,
-            None => false,
-        }
+        self.constant_place(name).is_some()
     }
 
     /// The place of the constant of a name.

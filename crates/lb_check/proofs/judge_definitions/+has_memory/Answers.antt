@@ -1,6 +1,6 @@
 use Rattle.std.proofs.Common.{refl, ap, sym, ◌∙◌}
 use Rattle.lb_check.specs.NodeDefinitions.{any_memory}
-use Rattle.lb_check.proofs.DefinitionSteps.{memory_row}
+use Rattle.lb_check.proofs.Defining.{memory_row}
 use Rattle.lb_check.proofs.judge_definitions.+has_memory.Goals as goal
 
 pub loop-term-init : goal.loop-term-init

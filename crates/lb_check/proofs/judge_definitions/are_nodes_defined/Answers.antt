@@ -4,7 +4,7 @@ use Rattle.lb_static.specs.Instances.{Program}
 use Rattle.lb_static.specs.Names.{keeps_names}
 use Rattle.lb_static.specs.ReachedNodes.{IsReached}
 use Rattle.lb_check.specs.NodeDefinitions.{are_defined_at, is_defined_at}
-use Rattle.lb_check.proofs.DefinitionSteps.{defined_next, not_there, same_place, marked, is_marked}
+use Rattle.lb_check.proofs.Defining.{defined_next, not_there, same_place, marked, is_marked}
 use Rattle.lb_check.proofs.judge_definitions.are_nodes_defined.Goals as goal
 use Rattle.lb_check.proofs.judge_definitions.are_nodes_defined.Goals.{then-not-index+in_ok-is_node_defined+else-not-branch, else-not-index}
 

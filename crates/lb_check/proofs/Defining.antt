@@ -104,6 +104,6 @@ memory_row t es (inr (inr (inr (inl e)))) = ap has_memory e.1 ∙ memory_hidden 
 memory_row t es (inr (inr (inr (inr (inl e))))) = ap has_memory e.2 ∙ memory_hidden (IterateNode e.0 e.1 es) es (items_hidden-the_row-Term-0 es)
 memory_row t es (inr (inr (inr (inr (inr e))))) = ap has_memory e.3 ∙ memory_hidden (IterateSymbol e.0 e.1 e.2 es) es (items_hidden-the_row-Term-0 es)
 
-pub memory_next : (es : List Term) (i : ℕ) (d : Term) → i < length es
+pub memory : (es : List Term) (i : ℕ) (d : Term) → i < length es
     → any_memory (drop i es) ≡ has_memory (get_or es i d) || any_memory (drop (i + 1) es)
-memory_next es i d lt = ap any_memory (drop_more es i d lt)
+memory es i d lt = ap any_memory (drop_more es i d lt)
