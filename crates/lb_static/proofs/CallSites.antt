@@ -92,7 +92,7 @@ module _ (P : Program) (r : Reached) (c : Constants) (w : IsWalkable P r c) (p :
   abbrev pub called_at : ℕ → ResolvedNode → List ℤ → ℕ → Instance
   called_at call m arguments index = instance_of (Child p call index) (node_of m) arguments
 
-  value_read : (i : StaticId) → static_value P here (static_at (statics_of n) i) ≡ Some (either_or (slice_get statics i.0) (pos 0))
+  pub value_read : (i : StaticId) → static_value P here (static_at (statics_of n) i) ≡ Some (either_or (slice_get statics i.0) (pos 0))
   value_read i =
       by (slice_get statics i.0) (slice_get (statics_of n) i.0)
       (sym (slice_get-map (λ v. Some v) statics i.0) ∙ ap (λ l. slice_get l i.0) had ∙ slice_get-map (static_value P here) (statics_of n) i.0)
@@ -130,6 +130,14 @@ module _ (P : Program) (r : Reached) (c : Constants) (w : IsWalkable P r c) (p :
       let distinct = distinct_back (map (λ k. k.name) P.source.constants) (source_names P) (and_first (are_distinct (global_names P)) _ w.names) in
       ap (node_named P) name ∙ found_by_name P.source.nodes s.callee.0 (node_of m) distinct source
 
+  -- what the definitions say that a call calls at an index
+  pub callee_read : (call : ℕ) (s : CallSite) (id : NodeId) (m : ResolvedNode) → id_at r s.callee ≡ Some id → slice_get r.nodes.items id.0 ≡ Some m → (index : ℕ)
+      → callee_of P here (sites s) call index ≡ Some (called_at call m (values_at statics s.first_argument s.arguments) index)
+  callee_read call s id m at is index =
+      ap₂ (λ (o : Option Node) (q : Option (List ℤ)).
+      o >>= λ k. q >>= λ vs. Some (record { path = Child p call index; node = k; values = zip k.parameters vs }))
+      (node_read s id m at is) (arguments_read s.first_argument s.arguments)
+
   pub site_read : (call : ℕ) (s : CallSite) (id : NodeId) (m : ResolvedNode) → id_at r s.callee ≡ Some id → slice_get r.nodes.items id.0 ≡ Some m
       → site_instances P here (call, sites s)
       ≡ map (called_at call m (values_at statics s.first_argument s.arguments)) (range_with_len 0 (times_of statics s.count))
@@ -137,9 +145,7 @@ module _ (P : Program) (r : Reached) (c : Constants) (w : IsWalkable P r c) (p :
       let arguments = values_at statics s.first_argument s.arguments in
       ap (λ l. some_of (map (callee_of P here (sites s) call) l)) (times_read s.count)
       ∙ some_map (called_at call m arguments) (callee_of P here (sites s) call) (range_with_len 0 (times_of statics s.count))
-      (λ index. ap₂ (λ (o : Option Node) (q : Option (List ℤ)).
-      o >>= λ k. q >>= λ vs. Some (record { path = Child p call index; node = k; values = zip k.parameters vs }))
-      (node_read s id m at is) (arguments_read s.first_argument s.arguments))
+      (callee_read call s id m at is)
 
   -- the site of a call of the node, where its calls stand in a list that is read at a place
   pub call_read : (items : List CallSite) (call : ℕ) (d : CallSite) (id : NodeId) (m : ResolvedNode) (arguments : List ℤ) (times : ℕ)

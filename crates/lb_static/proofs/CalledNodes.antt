@@ -25,7 +25,7 @@ use Rattle.lb_static.specs.declared.resolved.CallSite.{CallSite}
 use Rattle.lb_static.specs.declared.resolved.ResolvedNode.{ResolvedNode}
 use Rattle.lb_static.proofs.Had.{had_by, had_next, had_visits, within_is}
 use Rattle.lb_static.proofs.Lists.{all_append, and_first, and_second, both, map_next}
-use Rattle.lb_static.proofs.PlainForms.{all_weaker}
+use Rattle.lb_static.proofs.TestedItems.{all_weaker}
 use Rattle.lb_static.proofs.Visiting.{all_at, at_all, at_any, append_before, append_last, grows_all, grows_both, visited_all}
 
 -- ## Look-ups
@@ -154,7 +154,6 @@ fault_more error.Root a b h f = h
 fault_more (error.Value x) a b h f = h
 fault_more (error.Range x) a b h f = h
 fault_more error.Instances a b h f = h
-fault_more error.Large a b h f = h
 
 pub refuted : (a b : Bool) → (b ≡ true → a ≡ true) → a ≡ false → b ≡ false
 refuted a true f e = let t = f refl in absurd cc

@@ -183,7 +183,6 @@ name_fault error.Root h = h
 name_fault (error.Value x) h = h
 name_fault (error.Range x) h = h
 name_fault error.Instances h = h
-name_fault error.Large h = absurd cc
 
 pub err_more : {A E : Type 0} (r : Result A E) (C D : E → Type 0) → IfErr r C → ((e : E) → C e → D e) → IfErr r D
 err_more (Ok x) C D h f = tt

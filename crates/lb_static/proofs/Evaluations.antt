@@ -12,7 +12,7 @@ use Rattle.lb_static.specs.ResolvedTerms.{is_declared_within, is_sampling_within
 use Rattle.lb_static.specs.declared.resolved.ResolvedNode.{ResolvedNode}
 use Rattle.lb_static.specs.declared.resolved.StaticPart.{StaticPart}
 use Rattle.lb_static.proofs.Lists.{append_assoc, and_first}
-use Rattle.lb_static.proofs.PlainForms.{all_weaker}
+use Rattle.lb_static.proofs.TestedItems.{all_weaker}
 
 -- ## All values, one after another
 

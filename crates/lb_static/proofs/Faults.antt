@@ -1,7 +1,7 @@
 -- A fault of a part is one of the whole.
 use Rattle.std.proofs.Common.{◌≡◌, Bool, false}
 use Rattle.lb_static.specs.declared.error.StaticError.{StaticError}
-use Rattle.lb_static.specs.declared.error.StaticError.TheVariants.{Memory, Name, Recursion, Root, Value, Range, Instances, Large}
+use Rattle.lb_static.specs.declared.error.StaticError.TheVariants.{Memory, Name, Recursion, Root, Value, Range, Instances}
 use Rattle.lb_static.specs.Faults.{IsFault}
 use Rattle.std.specs.Prelude.{◌&&◌}
 use Rattle.lb_static.proofs.Lists.{false_second}
@@ -15,7 +15,6 @@ fault_within Root names forms all_names all_forms h f g = h
 fault_within (Value x) names forms all_names all_forms h f g = h
 fault_within (Range x) names forms all_names all_forms h f g = h
 fault_within Instances names forms all_names all_forms h f g = h
-fault_within Large names forms all_names all_forms h f g = g h
 
 -- the last of three parts
 pub fault_third : (e : StaticError) (a b c d f g : Bool) → IsFault e c g → IsFault e (a && (b && c)) (d && (f && g))

@@ -19,7 +19,7 @@ use Rattle.lb_static.specs.NodeProgress.{Progress, texts, texts_in, counts_in, c
 use Rattle.lb_static.specs.Parts.{among, right_side, variable_names}
 use Rattle.lb_static.specs.Progressed.{progress, IsFinished}
 use Rattle.lb_static.specs.ResolvedNodes.{part_of, texts_of, counts_of, statics_of, node_of, IsResolved}
-use Rattle.lb_static.specs.ResolvedTerms.{statement_of, declaration_of, site_of, is_step_within, is_declared_within, is_site_within}
+use Rattle.lb_static.specs.ResolvedTerms.{statement_of, declaration_of, site_of, is_step_within, is_step_unhidden, is_declared_within, is_site_within}
 use Rattle.lb_static.specs.Shapes.{variables}
 use Rattle.lb_static.specs.StaticParts.{Part, group_parts, node_static_parts, parts_of}
 use Rattle.lb_static.specs.declared.error.StaticError.{StaticError}
@@ -225,6 +225,7 @@ module _ (f : Found) (source : written_source.Source) (n : written.Node) (inputs
     body = (λ j. map (statement_of (sym same_texts j)) (done.body_is j)) ∙ stand.0 ∙ ap (λ m. (view_node m).body) (sym done.tree_is);
     calls = calls_are;
     statics = statics_are;
+    unhidden = (λ j. list_all (is_step_unhidden (sym same_texts j)) (done.body_is j)) ∙ stand.2;
     declared_within = declared_within;
     body_within = (λ j. list_all (is_step_within (sym same_counts_in j)) (done.body_is j)) ∙ stand.1;
     calls_within = calls_within;

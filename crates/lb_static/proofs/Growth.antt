@@ -10,7 +10,7 @@ use Rattle.lb_syntax.specs.Tree as tree
 use Rattle.lb_syntax.specs.Tree.{Name, Static, Whole, Declaration, Exprs}
 use Rattle.lb_static.specs.Instances.{Site}
 use Rattle.lb_static.specs.NodeProgress.{counts_in, counts_kept, texts_in, kept, grown, with_variable, IsKept}
-use Rattle.lb_static.specs.ResolvedTerms.{Texts, Counts, static_of, static_at, statics_at, site_at, no_site, named_value, call_expr, iterate_expr, name_at, sampling_of, declaration_of, site_of, expr_of, row_of, are_statics, is_within, are_within, is_declared_within, is_site_within, is_sampling_within, is_count_within}
+use Rattle.lb_static.specs.ResolvedTerms.{Texts, Counts, static_of, static_at, statics_at, site_at, no_site, named_value, call_expr, iterate_expr, name_at, sampling_of, declaration_of, site_of, expr_of, row_of, are_statics, is_within, are_within, is_declared_within, is_site_within, is_sampling_within, is_count_within, is_no_variable, is_unhidden, are_unhidden}
 use Rattle.lb_static.specs.NodeNames.{node_in}
 use Rattle.lb_static.specs.Parts.{variable_names}
 use Rattle.lb_static.specs.ResolvedNodes.{part_of}
@@ -50,6 +50,13 @@ same_on p f g (x ∷ xs) h e =
 pub all_on : {A : Type 0} (p q : A → Bool) (xs : List A) → ((x : A) → p x ≡ true → q x ≡ true) → list_all p xs ≡ true → list_all q xs ≡ true
 all_on p q [] h e = refl
 all_on p q (x ∷ xs) h e = both _ _ (h x (and_first _ (list_all p xs) e)) (all_on p q xs h (and_second (p x) _ e))
+
+-- the same, where a second test holds too
+pub both_on : {A : Type 0} (p u q : A → Bool) (xs : List A) → ((x : A) → p x ≡ true → u x ≡ true → q x ≡ true) → list_all p xs ≡ true → list_all u xs ≡ true
+    → list_all q xs ≡ true
+both_on p u q [] h e g = refl
+both_on p u q (x ∷ xs) h e g =
+    both _ _ (h x (and_first _ (list_all p xs) e) (and_first _ (list_all u xs) g)) (both_on p u q xs h (and_second (p x) _ e) (and_second (u x) _ g))
 
 -- ## Static expressions
 
@@ -204,6 +211,41 @@ module _ (t : Texts) (X : List Static) (Y : List Site) where
     row_stays : {s : _} (row : Row_of-Term s) → are_within (counts_in t) row ≡ true → row_of later row ≡ row_of t row
     row_stays end_of-Term e = refl
     row_stays (more_of-Term a rest) e = same_when tree.Cons _ _ _ _ _ _ (expr_stays a) (row_stays rest) e
+
+  -- after a number of a static expression that stands before a term
+  after_static : (i : StaticId) (a : Term) → (nat_lt i.0 (length t.statics) && is_within (counts_in t) a) ≡ true → is_within (counts_in t) a ≡ true
+  after_static i a e = and_second (nat_lt i.0 (length t.statics)) _ e
+
+  mutual
+    -- more static expressions and calls hide no name
+    pub unhidden_stays : (a : Term) → is_within (counts_in t) a ≡ true → is_unhidden later a ≡ is_unhidden t a
+    unhidden_stays (Literal x) e = refl
+    unhidden_stays (Truth b) e = refl
+    unhidden_stays (Variable x) e = refl
+    unhidden_stays (Value i) e = ap (is_no_variable t.variables) (static_stays t.statics X i e)
+    unhidden_stays (Group' p a) e = unhidden_stays a e
+    unhidden_stays (Unary' op p a) e = unhidden_stays a e
+    unhidden_stays (Binary' op p a q b) e = same_when (λ x y. x && y) _ _ _ _ _ _ (unhidden_stays a) (unhidden_stays b) e
+    unhidden_stays (If' p c q a r b) e = three_when (λ x y z. x && (y && z)) _ _ _ _ _ _ _ _ _ (unhidden_stays c) (unhidden_stays a) (unhidden_stays b) e
+    unhidden_stays (Arrow' p a q b) e = same_when (λ x y. x && y) _ _ _ _ _ _ (unhidden_stays a) (unhidden_stays b) e
+    unhidden_stays (Fby' p a q b) e = same_when (λ x y. x && y) _ _ _ _ _ _ (unhidden_stays a) (unhidden_stays b) e
+    unhidden_stays (Pre' p a) e = unhidden_stays a e
+    unhidden_stays (Current' p a) e = unhidden_stays a e
+    unhidden_stays (When' p a x sign) e = unhidden_stays a (and_second (nat_lt x.0 (length t.variables)) _ e)
+    unhidden_stays (Copies' p a i) e = unhidden_stays a (after_static i a e)
+    unhidden_stays (Index' p a i) e = unhidden_stays a (after_static i a e)
+    unhidden_stays (Slice' p a i j) e = unhidden_stays a (after_static j a (and_second (nat_lt i.0 (length t.statics)) _ e))
+    unhidden_stays (Join' p a q b) e = same_when (λ x y. x && y) _ _ _ _ _ _ (unhidden_stays a) (unhidden_stays b) e
+    unhidden_stays (Array' shape all) e = row_unhidden_stays all e
+    unhidden_stays (AtMostOne' shape all) e = row_unhidden_stays all e
+    unhidden_stays (Nor' shape all) e = row_unhidden_stays all e
+    unhidden_stays (Call' c shape all) e = row_unhidden_stays all (and_second (nat_lt c.0 (length t.calls)) _ e)
+    unhidden_stays (IterateNode' it c shape all) e = row_unhidden_stays all (and_second (nat_lt c.0 (length t.calls)) _ e)
+    unhidden_stays (IterateSymbol' it op i shape all) e = row_unhidden_stays all (and_second (nat_lt i.0 (length t.statics)) _ e)
+
+    row_unhidden_stays : {s : _} (row : Row_of-Term s) → are_within (counts_in t) row ≡ true → are_unhidden later row ≡ are_unhidden t row
+    row_unhidden_stays end_of-Term e = refl
+    row_unhidden_stays (more_of-Term a rest) e = same_when (λ x y. x && y) _ _ _ _ _ _ (unhidden_stays a) (row_unhidden_stays rest) e
 
 -- ## What is kept of a node
 

@@ -6,7 +6,7 @@ use Rattle.std.specs.List.{list_all, list_any}
 use Rattle.lb_syntax.specs.Lists.{holds}
 use Rattle.lb_static.specs.Visiting.{AreHad, is_had, is_visited, visited_after, visited_after_all, within}
 use Rattle.lb_static.proofs.Lists.{all_append, and_first, and_second, both}
-use Rattle.lb_static.proofs.PlainForms.{all_weaker}
+use Rattle.lb_static.proofs.TestedItems.{all_weaker}
 use Rattle.lb_static.proofs.Visiting.{any_at, at_any, grows_once, or_left, or_right}
 
 pub any_filter : {A : Type 0} (f p : A → Bool) (xs : List A) → list_any f (filter p xs) ≡ list_any (λ x. p x && f x) xs

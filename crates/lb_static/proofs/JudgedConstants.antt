@@ -22,7 +22,7 @@ use Rattle.lb_static.proofs.CalledNodes.{fault_more, grown_at, had_passes, refut
 use Rattle.lb_static.proofs.ConstantPlaces.{constant_found, constant_known}
 use Rattle.lb_static.proofs.Had.{closed_has, had_by, had_next, had_visits, within_is}
 use Rattle.lb_static.proofs.Lists.{and_first, both}
-use Rattle.lb_static.proofs.PlainForms.{all_flat, all_weaker}
+use Rattle.lb_static.proofs.TestedItems.{all_flat, all_weaker}
 use Rattle.lb_static.proofs.ReachedPlaces.{filtered_from, mapped_from}
 use Rattle.lb_static.proofs.Visiting.{all_at, any_at, append_before, at_all, at_any, at_visited, grows_all, grows_both, visited_all, visited_at}
 

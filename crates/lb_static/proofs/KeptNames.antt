@@ -18,7 +18,7 @@ use Rattle.lb_static.proofs.CalledNodes.{all_map, fault_more}
 use Rattle.lb_static.proofs.Lists.{and_first, and_second, both, false_second}
 use Rattle.lb_static.proofs.Mentions.{any_flat}
 use Rattle.lb_static.proofs.ReachedPlaces.{contained, place_of}
-use Rattle.lb_static.proofs.Reached.{filter_same}
+use Rattle.lb_static.proofs.TestedItems.{filter_same}
 use Rattle.lb_static.proofs.Visiting.{all_at, any_at, at_all, at_any, same_test}
 
 -- two lists with the same items have some item that passes alike

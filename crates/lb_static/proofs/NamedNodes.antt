@@ -15,7 +15,7 @@ use Rattle.lb_static.specs.declared.error.StaticError.{StaticError}
 use Rattle.lb_static.proofs.Lists.{all_append, and_assoc, and_first, and_second, both, false_first, false_second}
 use Rattle.lb_static.proofs.NodeJudging.{all_and, body_is, own}
 use Rattle.lb_static.proofs.NodeNaming.{name_fault_within}
-use Rattle.lb_static.proofs.PlainForms.{all_flat}
+use Rattle.lb_static.proofs.TestedItems.{all_flat}
 
 -- ## Tests
 

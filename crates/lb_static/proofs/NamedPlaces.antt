@@ -27,7 +27,7 @@ use Rattle.lb_static.proofs.Had.{any_filter}
 use Rattle.lb_static.proofs.JudgedConstants.{name_of_place, place_of_constant}
 use Rattle.lb_static.proofs.Lists.{all_append, and_first, and_second, both}
 use Rattle.lb_static.proofs.Mentions.{any_and, any_flat, any_map, any_stands, expression_stands, groups_stand, in_part, in_static, stands, variables_are}
-use Rattle.lb_static.proofs.PlainForms.{all_flat}
+use Rattle.lb_static.proofs.TestedItems.{all_flat}
 use Rattle.lb_static.proofs.ReachedPlaces.{all_item}
 use Rattle.lb_static.proofs.Scopes.{among_append}
 use Rattle.lb_static.proofs.Visiting.{all_at, any_at, at_all, or_left, same_test}

@@ -10,15 +10,15 @@ use Rattle.lb_static.specs.Instances.{Site, sites, statement_sites}
 use Rattle.lb_static.specs.NameFaults.{IsNameFault}
 use Rattle.lb_static.specs.NodeProgress.{Progress, texts, counts_in, grown, is_variable_of, after_statements, statement_fits, StepsStand, ResolvesStep}
 use Rattle.lb_static.specs.Parts.{right_side}
-use Rattle.lb_static.specs.ResolvedTerms.{name_at, statement_of, is_step_within, is_variable, is_within}
+use Rattle.lb_static.specs.ResolvedTerms.{name_at, statement_of, is_step_within, is_step_unhidden, is_variable, is_within}
 use Rattle.lb_static.specs.StaticParts.{Part, parts_of}
 use Rattle.lb_static.specs.declared.error.StaticError.{StaticError}
 use Rattle.lb_static.specs.declared.resolved.Step.{Step}
 use Rattle.lb_static.specs.declared.resolved.Step.TheVariants.{Equation, Assertion}
-use Rattle.lb_static.proofs.Growth.{same_on, all_on, same_two}
+use Rattle.lb_static.proofs.Growth.{same_on, all_on, both_on, same_two}
 use Rattle.lb_static.proofs.Lists.{all_append, and_first, and_second, both}
 use Rattle.lb_static.proofs.NodeNaming.{name_fault_within}
-use Rattle.lb_static.proofs.Resolutions.{and_true, expr_grown, within_grown, flat_more, grown_twice, one_fails}
+use Rattle.lb_static.proofs.Resolutions.{and_true, expr_grown, within_grown, unhidden_grown, flat_more, grown_twice, one_fails}
 
 module _ (s : Progress) (P : List Part) (C : List Site) where
   still : (step : Step) → is_step_within (counts_in (texts s)) step ≡ true → is_step_within (counts_in (texts (grown s P C))) step ≡ true
@@ -33,10 +33,16 @@ module _ (s : Progress) (P : List Part) (C : List Site) where
       (expr_grown s P C e (and_second (list_all (is_variable (counts_in (texts s))) lefts.items) _ h))
   stays (Assertion e) h = ap tree.Assertion (expr_grown s P C e h)
 
+  unhidden : (step : Step) → is_step_within (counts_in (texts s)) step ≡ true → is_step_unhidden (texts s) step ≡ true
+      → is_step_unhidden (texts (grown s P C)) step ≡ true
+  unhidden (Equation lefts e) h u = unhidden_grown s P C e (and_second (list_all (is_variable (counts_in (texts s))) lefts.items) _ h) u
+  unhidden (Assertion e) h u = unhidden_grown s P C e h u
+
   steps_grown : (xs : List tree.Statement) (steps : List Step) → StepsStand s xs steps → StepsStand (grown s P C) xs steps
   steps_grown xs steps h = (
     same_on (is_step_within (counts_in (texts s))) (statement_of (texts (grown s P C))) (statement_of (texts s)) steps stays h.1 ∙ h.0,
     all_on (is_step_within (counts_in (texts s))) (is_step_within (counts_in (texts (grown s P C)))) steps still h.1,
+    both_on (is_step_within (counts_in (texts s))) (is_step_unhidden (texts s)) (is_step_unhidden (texts (grown s P C))) steps unhidden h.1 h.2,
   )
 
 -- what a loop over statements keeps
@@ -57,6 +63,7 @@ one_more_step start before after xs steps x step d g =
         map-append (statement_of (texts after)) steps (step ∷ []) ∙ same_two (λ (l : List tree.Statement) y. l ++ y ∷ []) _ _ _ _ old.0 h.1.0,
         all_append (is_step_within (counts_in (texts after))) steps (step ∷ [])
             ∙ both _ _ old.1 (and_true (is_step_within (counts_in (texts after)) step) ∙ h.1.1),
+        all_append (is_step_unhidden (texts after)) steps (step ∷ []) ∙ both _ _ old.2 (and_true (is_step_unhidden (texts after) step) ∙ h.1.2),
       ),
       all_append (statement_fits start) xs (x ∷ []) ∙ both _ _ d.2 (and_true (statement_fits start x) ∙ h.2),
     )

@@ -26,7 +26,7 @@ use Rattle.lb_static.specs.Names.{are_distinct, is_constant, is_static_name, is_
 use Rattle.lb_static.specs.NodeNames.{node_in, program_in, takes, IsVariableAt, IsCallee}
 use Rattle.lb_static.specs.Parts.{among, declared_names, variable_names}
 use Rattle.lb_static.proofs.Groups.{groups_next}
-use Rattle.lb_static.proofs.Reached.{found_passes}
+use Rattle.lb_static.proofs.TestedItems.{found_passes}
 use Rattle.lb_static.proofs.Lists.{append_assoc, none_passes, some_passes, position_take}
 use Rattle.lb_static.proofs.Scopes.{among_append, bytes_eq-symmetric, position_map, doubled_before, name_at_place}
 
@@ -40,7 +40,6 @@ name_fault error.Root b h = h
 name_fault (error.Value x) b h = h
 name_fault (error.Range x) b h = h
 name_fault error.Instances b h = h
-name_fault error.Large b h = absurd cc
 
 -- a fault of a part is one of the whole
 pub name_fault_within : (e : StaticError) (b all : Bool) → IsNameFault e b → (b ≡ false → all ≡ false) → IsNameFault e all
@@ -51,7 +50,6 @@ name_fault_within error.Root b all h f = h
 name_fault_within (error.Value x) b all h f = h
 name_fault_within (error.Range x) b all h f = h
 name_fault_within error.Instances b all h f = h
-name_fault_within error.Large b all h f = h
 
 -- a name that is doubled in a front is so in all
 pub front_fault : (e : StaticError) (front rest all : List Name) → front ++ rest ≡ all → IsNameFault e (are_distinct front) → IsNameFault e (are_distinct all)

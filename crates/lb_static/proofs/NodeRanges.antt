@@ -16,7 +16,7 @@ use Rattle.lb_static.specs.declared.resolved.StaticPart.{StaticPart}
 use Rattle.lb_static.proofs.Lists.{all_append, and_assoc, append_assoc}
 use Rattle.lb_static.proofs.NodeValues.{all_and, groups_sizes, sizes_in}
 use Rattle.lb_static.proofs.OwnParts.{own_parts}
-use Rattle.lb_static.proofs.PlainForms.{all_flat}
+use Rattle.lb_static.proofs.TestedItems.{all_flat}
 
 module _ (given : Name → Option ℤ) where
   abbrev pub value : Static → Option ℤ

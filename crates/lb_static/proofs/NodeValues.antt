@@ -14,7 +14,7 @@ use Rattle.lb_static.specs.StaticValues.{value_under}
 use Rattle.lb_static.specs.declared.resolved.Role.TheVariants.{Size, Value, Argument}
 use Rattle.lb_static.proofs.Lists.{all_append}
 use Rattle.lb_static.proofs.OwnParts.{own_parts}
-use Rattle.lb_static.proofs.PlainForms.{all_flat}
+use Rattle.lb_static.proofs.TestedItems.{all_flat}
 
 -- ## Tests of lists
 

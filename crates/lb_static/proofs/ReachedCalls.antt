@@ -305,4 +305,3 @@ module _ (P : Program) (r : Reached) (is : IsReached P r) where
       by (error.Value x) t = absurd t
       by (error.Range x) t = absurd t
       by error.Instances t = absurd t
-      by error.Large t = absurd t

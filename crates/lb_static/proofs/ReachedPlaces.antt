@@ -26,8 +26,7 @@ use Rattle.lb_static.specs.declared.resolved.NodePlace.{NodePlace}
 use Rattle.lb_static.specs.declared.resolved.ResolvedNode.{ResolvedNode}
 use Rattle.lb_static.proofs.Had.{closed_has, had_by, had_visit, within_is}
 use Rattle.lb_static.proofs.Lists.{and_first, and_second, both}
-use Rattle.lb_static.proofs.PlainForms.{all_weaker}
-use Rattle.lb_static.proofs.Reached.{found_passes}
+use Rattle.lb_static.proofs.TestedItems.{all_weaker, found_passes}
 use Rattle.lb_static.proofs.Visiting.{all_at, any_at, as_few, at_all, at_any, at_visited, grows_once, or_left, or_right, visited_at}
 
 -- ## Distinct names

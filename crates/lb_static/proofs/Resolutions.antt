@@ -25,7 +25,7 @@ use Rattle.lb_static.specs.Names.{is_callable, is_constant, is_static_name}
 use Rattle.lb_static.specs.Parts.{among, variable_names}
 use Rattle.lb_static.specs.declared.resolved.NodePlace.{NodePlace}
 use Rattle.lb_static.specs.NodeProgress.{Progress, texts, counts_in, grown, callees, is_variable_of, program_of, after_expr, after_exprs, Stands, StandAll, StaticStands, CallStands, ResolvesTerm, ResolvesTerms, ResolvesStatic, ResolvesCall, StaticsStand, statics_fit, expr_passes, exprs_pass, static_fits, call_fits}
-use Rattle.lb_static.specs.ResolvedTerms.{Texts, Counts, expr_of, row_of, static_at, is_static, is_call, is_within, are_within, named_value, iterate_expr, no_site, site_of, is_count_within}
+use Rattle.lb_static.specs.ResolvedTerms.{Texts, Counts, expr_of, row_of, static_at, is_static, is_call, is_within, are_within, is_no_variable, is_unhidden, are_unhidden, named_value, iterate_expr, no_site, site_of, is_count_within}
 use Rattle.lb_static.specs.StaticParts.{Part, parts_of, parts_in, arguments_of}
 use Rattle.lb_static.specs.declared.error.StaticError.{StaticError}
 use Rattle.lb_static.specs.declared.resolved.CallId.{CallId}
@@ -34,7 +34,7 @@ use Rattle.lb_static.specs.declared.resolved.Role.TheVariants.{Size, Value as Va
 use Rattle.lb_static.specs.declared.resolved.StaticId.{StaticId}
 use Rattle.lb_static.specs.declared.resolved.Term as term
 use Rattle.lb_static.specs.declared.resolved.Term.{Term, Row_of-Term, end_of-Term, more_of-Term, items-the_row-Term, items_hidden-the_row-Term-0}
-use Rattle.lb_static.proofs.Growth.{expr_stays, still_within, static_stays, static_still, call_stays, call_still, count_stays, same_on, all_on, same_two}
+use Rattle.lb_static.proofs.Growth.{expr_stays, unhidden_stays, still_within, static_stays, static_still, call_stays, call_still, count_stays, same_on, all_on, both_on, same_two}
 use Rattle.lb_static.proofs.Lists.{append_assoc, both, false_first, false_second, all_append, map_map}
 use Rattle.lb_static.proofs.NodeNaming.{name_fault_within}
 use Rattle.lb_static.proofs.Scopes.{among_append}
@@ -69,13 +69,17 @@ module _ (s : Progress) (P : List Part) (C : List Site) where
   pub expr_grown : (t : Term) → is_within (counts_in (texts s)) t ≡ true → expr_of (texts (grown s P C)) t ≡ expr_of (texts s) t
   expr_grown t e = ap (λ T. expr_of T t) texts_grown ∙ expr_stays (texts s) X C t e
 
+  pub unhidden_grown : (t : Term) → is_within (counts_in (texts s)) t ≡ true → is_unhidden (texts s) t ≡ true → is_unhidden (texts (grown s P C)) t ≡ true
+  unhidden_grown t e u = ap (λ T. is_unhidden T t) texts_grown ∙ unhidden_stays (texts s) X C t e ∙ u
+
   pub stands_grown : (e : Expr) (t : Term) → Stands s e t → Stands (grown s P C) e t
-  stands_grown e t h = (expr_grown t h.1 ∙ h.0, within_grown t h.1)
+  stands_grown e t h = (expr_grown t h.1 ∙ h.0, within_grown t h.1, unhidden_grown t h.1 h.2)
 
   pub all_stand_grown : (es : List Expr) (ts : List Term) → StandAll s es ts → StandAll (grown s P C) es ts
   all_stand_grown es ts h = (
     same_on (is_within (counts_in (texts s))) (expr_of (texts (grown s P C))) (expr_of (texts s)) ts expr_grown h.1 ∙ h.0,
     all_on (is_within (counts_in (texts s))) (is_within (counts_in (texts (grown s P C)))) ts within_grown h.1,
+    both_on (is_within (counts_in (texts s))) (is_unhidden (texts s)) (is_unhidden (texts (grown s P C))) ts unhidden_grown h.1 h.2,
   )
 
   pub static_stands_grown : (x : Static) (id : StaticId) → StaticStands s x id → StaticStands (grown s P C) x id
@@ -262,6 +266,10 @@ within_row : (m : Counts) (n : _) (row : Row_of-Term n) → are_within m row ≡
 within_row m n end_of-Term = refl
 within_row m n (more_of-Term e rest) = ap (λ b. is_within m e && b) (within_row m _ rest)
 
+unhidden_row : (t : Texts) (n : _) (row : Row_of-Term n) → are_unhidden t row ≡ list_all (is_unhidden t) (items-the_row-Term n row)
+unhidden_row t n end_of-Term = refl
+unhidden_row t n (more_of-Term e rest) = ap (λ b. is_unhidden t e && b) (unhidden_row t _ rest)
+
 -- what is found in the expressions of a list
 pub parts_exprs : (variable : Name → Bool) (es : List Expr) → parts_in variable (exprs es) ≡ flat_map (parts_of variable) es
 parts_exprs variable [] = refl
@@ -279,11 +287,13 @@ pass_exprs s (e ∷ es) = ap (λ b. expr_passes s e && b) (pass_exprs s es)
 pub record RowStands (s : Progress) (es : List Expr) {n : Count} (row : Row_of-Term n) : Type 0 where
   pub stands : row_of (texts s) row ≡ exprs es
   pub within : are_within (counts_in (texts s)) row ≡ true
+  pub unhidden : are_unhidden (texts s) row ≡ true
 
 row_stands : (s : Progress) (es : List Expr) (ts : Vec Term Global) (n : Count) (row : Row_of-Term n) → items-the_row-Term n row ≡ ts.items → StandAll s es ts.items → RowStands s es row
 row_stands s es ts n row same h = record {
   stands = exprs_row (texts s) n row ∙ ap (λ l. exprs (map (expr_of (texts s)) l)) same ∙ ap exprs h.0;
   within = within_row (counts_in (texts s)) n row ∙ ap (list_all (is_within (counts_in (texts s)))) same ∙ h.1;
+  unhidden = unhidden_row (texts s) n row ∙ ap (list_all (is_unhidden (texts s))) same ∙ h.2;
 }
 
 grown_exprs : (before : Progress) (es : List Expr) → grown before (parts_in (is_variable_of before) (exprs es)) (sites_in (exprs es)) ≡ after_exprs before es
@@ -295,21 +305,21 @@ module _ (before after : Progress) (es : Vec source.Expr Global) (ts : Vec Term 
       let row = term_row (term.Array ts) in
       let r = row_stands after (map view es.items) ts row.0 row.1 (items_hidden-the_row-Term-0 ts) h.1 in
       subst (λ e. Done before after e (term.Array ts)) (sym (view_array es))
-      (h.0 ∙ sym (grown_exprs before (map view es.items)), (ap tree.Array r.stands, r.within), pass_exprs before (map view es.items) ∙ h.2)
+      (h.0 ∙ sym (grown_exprs before (map view es.items)), (ap tree.Array r.stands, r.within, r.unhidden), pass_exprs before (map view es.items) ∙ h.2)
 
   pub at_most_one_done : Done before after (view (source.AtMostOne es)) (term.AtMostOne ts)
   at_most_one_done =
       let row = term_row (term.AtMostOne ts) in
       let r = row_stands after (map view es.items) ts row.0 row.1 (items_hidden-the_row-Term-0 ts) h.1 in
       subst (λ e. Done before after e (term.AtMostOne ts)) (sym (view_at_most_one es))
-      (h.0 ∙ sym (grown_exprs before (map view es.items)), (ap tree.AtMostOne r.stands, r.within), pass_exprs before (map view es.items) ∙ h.2)
+      (h.0 ∙ sym (grown_exprs before (map view es.items)), (ap tree.AtMostOne r.stands, r.within, r.unhidden), pass_exprs before (map view es.items) ∙ h.2)
 
   pub nor_done : Done before after (view (source.Nor es)) (term.Nor ts)
   nor_done =
       let row = term_row (term.Nor ts) in
       let r = row_stands after (map view es.items) ts row.0 row.1 (items_hidden-the_row-Term-0 ts) h.1 in
       subst (λ e. Done before after e (term.Nor ts)) (sym (view_nor es))
-      (h.0 ∙ sym (grown_exprs before (map view es.items)), (ap tree.Nor r.stands, r.within), pass_exprs before (map view es.items) ∙ h.2)
+      (h.0 ∙ sym (grown_exprs before (map view es.items)), (ap tree.Nor r.stands, r.within, r.unhidden), pass_exprs before (map view es.items) ∙ h.2)
 
 -- an expression that is refused among those of a list
 module _ (s : Progress) (f : StaticError) (es : Vec source.Expr Global) (h : IsNameFault f (exprs_pass s (map view es.items))) where
@@ -340,7 +350,7 @@ module _ (before after : Progress) (es : Vec source.Expr Global) (ts : Vec Term 
       subst (λ e. Done before after e (term.Call id ts)) (sym (view_call f args es)) (
         h.0 ∙ same_two (grown before) _ _ _ _ (ap (λ l. arguments_of statics ++ l) (sym (parts_exprs (is_variable_of before) (map view es.items))))
             (ap (λ l. site_for f args.items None ∷ l) (sym (sites_exprs (map view es.items)))),
-        (same_two (λ (s : Site) z. tree.Call s.callee s.arguments z) _ _ _ _ h.1.0 r.stands, both _ _ h.1.1 r.within),
+        (same_two (λ (s : Site) z. tree.Call s.callee s.arguments z) _ _ _ _ h.1.0 r.stands, both _ _ h.1.1 r.within, r.unhidden),
         ap (λ b. call_fits before (site_for f args.items None) && b) (pass_exprs before (map view es.items)) ∙ h.3,
       )
 
@@ -355,7 +365,7 @@ module _ (before after : Progress) (es : Vec source.Expr Global) (ts : Vec Term 
       subst (λ e. Done before after e (term.IterateNode it id ts)) (sym (view_iterate it (Node_operator f args) n es)) (
         h.0 ∙ same_two (grown before) _ _ _ _ (ap (λ l. (Size, view_static n) ∷ (arguments_of statics ++ l)) (sym (parts_exprs (is_variable_of before) (map view es.items))))
             (ap (λ l. here ∷ l) (sym (sites_exprs (map view es.items)))),
-        (same_two (iterate_expr it) _ _ _ _ h.1.0 r.stands, both _ _ h.1.1 r.within),
+        (same_two (iterate_expr it) _ _ _ _ h.1.0 r.stands, both _ _ h.1.1 r.within, r.unhidden),
         ap (λ b. static_fits before (view_static n) && (call_fits before here && b)) (pass_exprs before (map view es.items)) ∙ h.3,
       )
 
@@ -368,7 +378,7 @@ module _ (before after : Progress) (es : Vec source.Expr Global) (ts : Vec Term 
       subst (λ e. Done before after e (term.IterateSymbol it op id ts)) (sym (view_iterate it (Symbol_operator op) n es)) (
         h.0 ∙ same_two (grown before) _ _ _ _ (ap (λ l. (Size, view_static n) ∷ l) (sym (parts_exprs (is_variable_of before) (map view es.items))))
             (sym (sites_exprs (map view es.items))),
-        (same_two (tree.Iterate it (tree.Symbol op)) _ _ _ _ h.1.0 r.stands, both _ _ h.1.1 r.within),
+        (same_two (tree.Iterate it (tree.Symbol op)) _ _ _ _ h.1.0 r.stands, both _ _ h.1.1 r.within, r.unhidden),
         ap (λ b. static_fits before (view_static n) && b) (pass_exprs before (map view es.items)) ∙ h.3,
       )
 
@@ -425,6 +435,7 @@ one_more_done start before after es ts e t d g =
         map-append (expr_of (texts after)) ts (t ∷ []) ∙ same_two (λ (l : List Expr) x. l ++ x ∷ []) _ _ _ _ old.0 h.1.0,
         all_append (is_within (counts_in (texts after))) ts (t ∷ [])
             ∙ both _ _ old.1 (and_true (is_within (counts_in (texts after)) t) ∙ h.1.1),
+        all_append (is_unhidden (texts after)) ts (t ∷ []) ∙ both _ _ old.2 (and_true (is_unhidden (texts after) t) ∙ h.1.2),
       ),
       all_append (expr_passes start) es (e ∷ []) ∙ both _ _ d.2 (and_true (expr_passes start e) ∙ h.2),
     )
@@ -508,9 +519,10 @@ static_placed s p C id e =
 pub named_done : (s after : Progress) (x : Name) (id : StaticId) → is_variable_of s x ≡ false → is_static_name (program_of s) s.node x ≡ true
     → after ≡ grown s ((Value_role, tree.Named x) ∷ []) [] → id.0 ≡ length s.parts → Done s after (tree.Variable x) (term.Value id)
 named_done s after x id other known is at =
-    let placed : StaticStands after (tree.Named x) id = subst (λ k. StaticStands k (tree.Named x) id) (sym is) (static_placed s (Value_role, tree.Named x) [] id at) in (
+    let placed : StaticStands after (tree.Named x) id = subst (λ k. StaticStands k (tree.Named x) id) (sym is) (static_placed s (Value_role, tree.Named x) [] id at) in
+    let hides : not (among x (variable_names after.node)) ≡ true = ap (λ k. not (among x (variable_names k.node))) is ∙ ap not other in (
       is ∙ ap (λ b. grown s (cond b [] ((Value_role, tree.Named x) ∷ [])) []) (sym other),
-      (ap named_value placed.0, placed.1),
+      (ap named_value placed.0, placed.1, ap (is_no_variable (variable_names after.node)) placed.0 ∙ hides),
       by (is_variable_of s x) (among x s.node.parameters) (is_constant (program_of s) x) (among_append x (variable_names s.node) s.node.parameters) known,
     )
   where

@@ -33,4 +33,3 @@ root_fault P (error.Recursion x) h f = h
 root_fault P (error.Value x) h f = h
 root_fault P (error.Range x) h f = h
 root_fault P error.Instances h f = h
-root_fault P error.Large h f = h

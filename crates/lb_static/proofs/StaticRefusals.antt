@@ -2,11 +2,15 @@
 use Rattle.std.proofs.Common.{◌≡◌, Bool, true, false, Option, Some, None, Result, Ok, Err, refl}
 use Rattle.lb_syntax.specs.Lists.{or_else, holds}
 use Rattle.lb_syntax.specs.Refusals.{Refusal, E4, E5, E6, E7, E8, E12, unless}
-use Rattle.lb_static.specs.declared.elab.Elab.{Elab}
 use Rattle.lb_static.specs.declared.error.StaticError.{StaticError}
-use Rattle.lb_static.specs.declared.error.StaticError.TheVariants.{Memory, Name as Name_fault, Recursion, Root as Root_fault, Value, Range, Instances, Large}
+use Rattle.lb_static.specs.declared.error.StaticError.TheVariants.{Memory, Name as Name_fault, Recursion, Root as Root_fault, Value, Range, Instances}
 use Rattle.lb_static.specs.CallGraphs.{IsCallsAnswer}
-use Rattle.lb_static.specs.Elaborates.{IsStaticFault, Elaborates, ElaboratesPlain}
+use Rattle.lb_static.specs.Elaborates.{IsStaticFault}
+use Rattle.lb_static.specs.InstanceTable.{HasStarts, IsTable}
+use Rattle.lb_static.specs.SettledSpecializations.{AreSpecialized}
+use Rattle.lb_static.specs.WalkedRows.{AreInstances}
+use Rattle.lb_static.specs.declared.reach.Reached.{Reached}
+use Rattle.lb_static.specs.declared.table.Table.{Table}
 use Rattle.lb_static.specs.Instances.{Program, Root, instance_at, instances}
 use Rattle.lb_static.specs.NameFaults.{IsNameFault}
 use Rattle.lb_static.specs.Names.{is_well_founded, keeps_names}
@@ -73,7 +77,6 @@ names_fault P Root_fault h = absurd h
 names_fault P (Value x) h = absurd h
 names_fault P (Range x) h = absurd h
 names_fault P Instances h = absurd h
-names_fault P Large h = absurd h
 
 pub calls_fault : (P : Program) (e : StaticError) → keeps_names P ≡ true → IsCallsAnswer P (Err e) → IsStaticFault P e
 calls_fault P Memory names h = h
@@ -84,7 +87,6 @@ calls_fault P Root_fault names h = absurd h
 calls_fault P (Value x) names h = absurd h
 calls_fault P (Range x) names h = absurd h
 calls_fault P Instances names h = absurd h
-calls_fault P Large names h = absurd h
 
 pub parameters_fault : (P : Program) → keeps_names P ≡ true → is_well_founded P ≡ true → has_no_parameters P ≡ false → static_refusal P ≡ Some E8
 parameters_fault P names calls h =
@@ -106,7 +108,6 @@ walk_fault P e names calls parameters h = by e h
     by (Value x) h = first E5 h
     by (Range x) h = first E6 h
     by Instances h = first E12 h
-    by Large h = absurd h
 
 pub root_fault : (P : Program) (e : StaticError) → keeps_names P ≡ true → is_well_founded P ≡ true → has_no_parameters P ≡ true
     → walk_refusal P 0 (instances P) ≡ None → IsRootAnswer P (Err e) → IsStaticFault P e
@@ -118,32 +119,20 @@ root_fault P Root_fault names calls parameters walked h =
 root_fault P (Value x) names calls parameters walked h = absurd h
 root_fault P (Range x) names calls parameters walked h = absurd h
 root_fault P Instances names calls parameters walked h = absurd h
-root_fault P Large names calls parameters walked h = absurd h
 
 pub no_fault : (P : Program) → keeps_names P ≡ true → is_well_founded P ≡ true → has_no_parameters P ≡ true
     → walk_refusal P 0 (instances P) ≡ None → holds (is_root P) (instance_at P Root) ≡ true → static_refusal P ≡ None
 no_fault P names calls parameters walked h =
     at_none (keeps_names P) (is_well_founded P) (has_no_parameters P) (has_shape P) (walk_refusal P 0 (instances P)) names calls parameters walked h
 
--- ## The whole
+-- ## The table
 
-pub after_judging : (P : Program) (r : Result Elab StaticError) → static_refusal P ≡ None → ElaboratesPlain P r → Elaborates P r
-after_judging P (Ok e) judged h = h
-after_judging P (Err Memory) judged h = h
-after_judging P (Err (Name_fault x)) judged h = h
-after_judging P (Err (Recursion x)) judged h = h
-after_judging P (Err Root_fault) judged h = h
-after_judging P (Err (Value x)) judged h = h
-after_judging P (Err (Range x)) judged h = h
-after_judging P (Err Instances) judged h = h
-after_judging P (Err Large) judged h = (judged, h)
-
-pub broken : (P : Program) (e : StaticError) → IsStaticFault P e → Elaborates P (Err e)
-broken P Memory h = h
-broken P (Name_fault x) h = h
-broken P (Recursion x) h = h
-broken P Root_fault h = h
-broken P (Value x) h = h
-broken P (Range x) h = h
-broken P Instances h = h
-broken P Large h = absurd h
+pub is_table : (P : Program) (r : Reached) (t : Table) → HasStarts P r t → AreSpecialized P r t → AreInstances P r t → IsTable P r t
+is_table P r t starts specialized rows = record {
+  specialized = specialized;
+  instances = rows.instances;
+  root = starts.root;
+  observer = starts.observer;
+  used = rows.used;
+  few = rows.few;
+}

@@ -27,7 +27,6 @@ refusal_first o q error.Root h = h
 refusal_first o q (error.Value x) h = ap (λ p. or_else p q) h
 refusal_first o q (error.Range x) h = ap (λ p. or_else p q) h
 refusal_first o q error.Instances h = ap (λ p. or_else p q) h
-refusal_first o q error.Large h = h
 
 pub refusal_second : (o q : Option Refusal) (e : StaticError) → o ≡ None → IsRefusal q e → IsRefusal (or_else o q) e
 refusal_second o q e n h = subst (λ p. IsRefusal (or_else p q) e) (sym n) h
@@ -164,7 +163,7 @@ module _ (P : Program) (p : Path) (n : ResolvedNode) (values : List ℤ) (level 
       ∙ ap below (flat_map-append (site_instances P entry) (take c ns) ((c, s) ∷ []) ∙ ap (λ l. flat_map (site_instances P entry) (take c ns) ++ l) (append-nil (site_instances P entry (c, s))))
       ∙ below_append (flat_map (site_instances P entry) (take c ns)) (site_instances P entry (c, s))
 
-  calls_all : (c : ℕ) → length ss ≤ c → of_calls c ≡ below (children P entry)
+  pub calls_all : (c : ℕ) → length ss ≤ c → of_calls c ≡ below (children P entry)
   calls_all c h =
       let ns = numbered_sites 0 ss in
       let past : length ns ≤ c = omega (arith, numbered_length 0 ss) in

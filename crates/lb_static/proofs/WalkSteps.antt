@@ -57,7 +57,6 @@ module _ (P : Program) (p : Path) (n : ResolvedNode) (values : List ℤ) where
       let pairs = zip (node_of n).parameters values in
       (values_had P p n pairs is.statics ∙ ap is_some e.1, sym (in_range_had P p n pairs names is e.0 e.1) ∙ e.2)
   judged names is (Err error.Instances) e = e
-  judged names is (Err error.Large) e = e
 
   pub judgement : (r : Reached) (c : Constants) → IsWalkable P r c → (i : ℕ) → slice_get r.nodes.items i ≡ Some n
       → (result : Result (Vec StaticInt Global) StaticError) → IsEvaluated (value_given (value_of c) (node_of n).parameters values) n result
@@ -103,7 +102,6 @@ module _ (P : Program) (k : ℕ) (here : Instance) where
   begun_ill n (error.Value x) few low j = by_tests true false (is_in_range P here) (may_be_entered few low) j refl
   begun_ill n (error.Range x) few low j = by_tests true true false (may_be_entered few low) j.0 j.1
   begun_ill n error.Instances few low j = absurd j
-  begun_ill n error.Large few low j = absurd j
 
 -- a specialization that is found is that of the node with these values
 pub known_with : (P : Program) (r : Reached) (specializations : List Specialization) (node : NodeId) (values : List ℤ) (id : SpecializationId) (s : Specialization)

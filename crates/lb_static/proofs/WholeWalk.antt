@@ -81,7 +81,7 @@ module _ (P : Program) (r : Reached) (w : IsReached P r) where
 
   -- ## The table
 
-  tree_is : (i : ℕ) (n : ResolvedNode) → slice_get r.nodes.items i ≡ Some n → slice_get (map node_of r.nodes.items) i ≡ Some (node_of n)
+  pub tree_is : (i : ℕ) (n : ResolvedNode) → slice_get r.nodes.items i ≡ Some n → slice_get (map node_of r.nodes.items) i ≡ Some (node_of n)
   tree_is i n at = slice_get-map node_of r.nodes.items i ∙ ap (option_map node_of) at
 
   stands : (p : Path) (t : Table) (node : NodeId) (n : ResolvedNode) (id : SpecializationId) → slice_get r.nodes.items node.0 ≡ Some n
@@ -91,7 +91,7 @@ module _ (P : Program) (r : Reached) (w : IsReached P r) where
       ∙ ap (option_map (λ m. instance_of p m k.0.values.items)) (ap (tree_at r) k.2 ∙ tree_is node.0 n at)
       ∙ ap (λ vs. Some (instance_of p (node_of n) vs)) k.3
 
-  statics_had : (s : Specialization) → IsJudgedAt P r s → HasStatics P r s
+  pub statics_had : (s : Specialization) → IsJudgedAt P r s → HasStatics P r s
   statics_had s judged here is n at =
       let e : Some here ≡ Some (instance_of Root (node_of n) s.values.items) =
       sym is ∙ ap (option_map (λ m. instance_of Root m s.values.items)) (tree_is s.node.0 n at) in
@@ -130,8 +130,11 @@ module _ (P : Program) (root : Instance) (at_root : instance_at P Root ≡ Some 
   walked_alone k a none =
       ap (walk_refusal P 0) (all_are ∙ ap (λ o. of_root ++ listed (instances_from P 65) o) none ∙ append-nil of_root) ∙ a.kept
 
+  pub alone_are : instance_at P Observer ≡ None → instances P ≡ of_root
+  alone_are none = all_are ∙ ap (λ o. of_root ++ listed (instances_from P 65) o) none ∙ append-nil of_root
+
   module _ (observer : Instance) (at_observer : instance_at P Observer ≡ Some observer) where
-    both_are : instances P ≡ of_root ++ instances_from P 65 observer
+    pub both_are : instances P ≡ of_root ++ instances_from P 65 observer
     both_are = all_are ∙ ap (λ o. of_root ++ listed (instances_from P 65) o) at_observer
 
     pub walked_both : (k m : ℕ) → AreEntered P 0 of_root k → AreEntered P k (instances_from P 65 observer) m → walk_refusal P 0 (instances P) ≡ None

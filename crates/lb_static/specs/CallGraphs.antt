@@ -71,7 +71,6 @@ IsCallsAnswer P (Err error.Root) = ⊥
 IsCallsAnswer P (Err (error.Value x)) = ⊥
 IsCallsAnswer P (Err (error.Range x)) = ⊥
 IsCallsAnswer P (Err error.Instances) = ⊥
-IsCallsAnswer P (Err error.Large) = ⊥
 
 -- that the node of this name reaches itself, unless memory ran out
 abbrev pub TellsRecursion : Name → StaticError → Type 0
@@ -82,7 +81,6 @@ TellsRecursion x error.Root = ⊥
 TellsRecursion x (error.Value y) = ⊥
 TellsRecursion x (error.Range y) = ⊥
 TellsRecursion x error.Instances = ⊥
-TellsRecursion x error.Large = ⊥
 
 -- a refusal for recursion tells the name of a node that is reached and that reaches itself
 abbrev pub IsCycleNamed : Program → Result (Unit {0}) StaticError → Type 0
@@ -95,4 +93,3 @@ IsCycleNamed P (Err error.Root) = Unit {0}
 IsCycleNamed P (Err (error.Value x)) = Unit {0}
 IsCycleNamed P (Err (error.Range x)) = Unit {0}
 IsCycleNamed P (Err error.Instances) = Unit {0}
-IsCycleNamed P (Err error.Large) = Unit {0}

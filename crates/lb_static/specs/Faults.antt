@@ -19,7 +19,6 @@ IsFault error.Root names forms = ⊥
 IsFault (error.Value x) names forms = ⊥
 IsFault (error.Range x) names forms = ⊥
 IsFault error.Instances names forms = ⊥
-IsFault error.Large names forms = forms ≡ false
 
 -- the names of some declarations
 abbrev pub names_in : List Declaration → List Name

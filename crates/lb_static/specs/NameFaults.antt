@@ -16,7 +16,6 @@ IsNameFault error.Root b = ⊥
 IsNameFault (error.Value x) b = ⊥
 IsNameFault (error.Range x) b = ⊥
 IsNameFault error.Instances b = ⊥
-IsNameFault error.Large b = ⊥
 
 -- a program of this source: the names of one node are judged by the source alone
 abbrev pub alone : Source → Program

@@ -12,7 +12,7 @@ use Rattle.lb_static.specs.NameFaults.{IsNameFault, alone}
 use Rattle.lb_static.specs.NodeNames.{node_in, passes, statement_passes, call_passes, static_passes, statics_pass}
 use Rattle.lb_static.specs.Parts.{among, right_side, variable_names}
 use Rattle.lb_static.specs.ResolvedNodes.{part_of}
-use Rattle.lb_static.specs.ResolvedTerms.{Texts, Counts, sampling_of, is_sampling_within, static_of, expr_of, statement_of, is_step_within, declaration_of, site_of, site_at, static_at, statics_at, is_call, is_static, are_statics, is_within, is_declared_within, is_site_within}
+use Rattle.lb_static.specs.ResolvedTerms.{Texts, Counts, sampling_of, is_sampling_within, static_of, expr_of, statement_of, is_step_within, is_step_unhidden, declaration_of, site_of, site_at, static_at, statics_at, is_call, is_static, are_statics, is_within, is_unhidden, is_declared_within, is_site_within}
 use Rattle.lb_static.specs.StaticParts.{Part, parts_of, arguments_of, group_parts}
 use Rattle.lb_static.specs.declared.error.StaticError.{StaticError}
 use Rattle.lb_static.specs.declared.naming.Naming.{Naming}
@@ -172,9 +172,11 @@ ResolvesCall before after site (Err f) = IsNameFault f (call_fits before site)
 abbrev pub after_expr : Progress → Expr → Progress
 after_expr s e = grown s (parts_of (is_variable_of s) e) (sites e)
 
--- a term stands for an expression, with each number within range
+-- a term stands for an expression, with each number within range and each name unhidden
 abbrev pub Stands : Progress → Expr → Term → Type 0
-Stands s e t = (expr_of (texts s) t ≡ e) × (is_within (counts_in (texts s)) t ≡ true)
+Stands s e t =
+    (expr_of (texts s) t ≡ e) × (is_within (counts_in (texts s)) t ≡ true)
+    × (is_unhidden (texts s) t ≡ true)
 
 abbrev pub expr_passes : Progress → Expr → Bool
 expr_passes s e = passes (program_of s) s.node e
@@ -197,6 +199,7 @@ abbrev pub StandAll : Progress → List Expr → List Term → Type 0
 StandAll s es ts =
     (map (expr_of (texts s)) ts ≡ es)
     × (list_all (is_within (counts_in (texts s))) ts ≡ true)
+    × (list_all (is_unhidden (texts s)) ts ≡ true)
 
 abbrev pub exprs_pass : Progress → List Expr → Bool
 exprs_pass s es = list_all (expr_passes s) es
@@ -216,6 +219,7 @@ ResolvesTerms before after es (Err f) = IsNameFault f (exprs_pass before es)
 abbrev pub StepStands : Progress → Statement → Step → Type 0
 StepStands s x step =
     (statement_of (texts s) step ≡ x) × (is_step_within (counts_in (texts s)) step ≡ true)
+    × (is_step_unhidden (texts s) step ≡ true)
 
 abbrev pub statement_fits : Progress → Statement → Bool
 statement_fits s x = statement_passes (program_of s) s.node x
@@ -238,6 +242,7 @@ abbrev pub StepsStand : Progress → List Statement → List Step → Type 0
 StepsStand s xs steps =
     (map (statement_of (texts s)) steps ≡ xs)
     × (list_all (is_step_within (counts_in (texts s))) steps ≡ true)
+    × (list_all (is_step_unhidden (texts s)) steps ≡ true)
 
 abbrev pub ResolvesSteps :
     (before after : Progress) → List Statement → Result (Vec Step Global) StaticError → Type 0

@@ -8,7 +8,7 @@ use Rattle.lb_syntax.specs.Tree.{Name, Static, Node}
 use Rattle.lb_static.specs.Instances.{node_sites}
 use Rattle.lb_static.specs.Parts.{variable_names}
 use Rattle.lb_static.specs.Shapes.{variables}
-use Rattle.lb_static.specs.ResolvedTerms.{Texts, Counts, static_of, statement_of, declaration_of, site_of, is_step_within, is_declared_within, is_site_within}
+use Rattle.lb_static.specs.ResolvedTerms.{Texts, Counts, static_of, statement_of, declaration_of, site_of, is_step_within, is_step_unhidden, is_declared_within, is_site_within}
 use Rattle.lb_static.specs.StaticParts.{Part, node_static_parts}
 use Rattle.lb_static.specs.declared.resolved.ResolvedNode.{ResolvedNode}
 use Rattle.lb_static.specs.declared.resolved.StaticPart.{StaticPart}
@@ -52,6 +52,8 @@ pub record IsResolved (nodes : List Name) (r : ResolvedNode) : Type 0 where
   pub body : map (statement_of (texts_of r)) r.body.items ≡ (node_of r).body
   pub calls : map (site_of nodes (statics_of r)) r.calls.items ≡ node_sites (node_of r)
   pub statics : map part_of r.statics.items ≡ node_static_parts r.tree.now
+  -- where it names a static parameter or a constant, no variable of its own hides it
+  pub unhidden : list_all (is_step_unhidden (texts_of r)) r.body.items ≡ true
   -- each number is within range, and 32 bits hold it
   pub declared_within : list_all (is_declared_within (counts_of r)) r.variables.items ≡ true
   pub body_within : list_all (is_step_within (counts_of r)) r.body.items ≡ true

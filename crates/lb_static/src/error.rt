@@ -31,9 +31,6 @@ pub enum StaticError {
     /// There are more than 4,096 instances or 64 levels of them (E12).
     #[error("there are more than 4096 instances or 64 levels of them")]
     Instances,
-    /// The program has forms that do not run yet (E12).
-    #[error("the program has forms that do not run yet")]
-    Large,
 }
 
 impl From<AllocError> for StaticError {

@@ -10,15 +10,17 @@
 ghost use Rattle.std.specs.Prelude.{◌≡◌, ◌≤◌, ◌<◌, ◌+◌, ◌-◌, ◌^◌, ◌++◌, ◌∷◌, [], ℕ, true, length, slice_get, IfSome, IfOk, IfErr, OnOk};
 ghost use Rattle.std.specs.List.{list_all};
 ghost use Rattle.lb_static.specs.Instances.{Program, Path, instances_from};
-ghost use Rattle.lb_static.specs.InstanceTable.{instance_of};
+ghost use Rattle.lb_static.specs.InstanceTable.{instance_of, path_from, paths_after};
 ghost use Rattle.lb_static.specs.HeldValues.{value_of};
 ghost use Rattle.lb_static.specs.Names.{keeps_names};
 ghost use Rattle.lb_static.specs.ReachedNodes.{IsReached, is_linked, id_at};
 ghost use Rattle.lb_static.specs.StaticValues.{constant_value};
 ghost use Rattle.lb_static.specs.ResolvedNodes.{node_of};
 ghost use Rattle.lb_static.specs.ResolvedTerms.{is_site_within};
+ghost use Rattle.lb_static.specs.SettledSpecializations.{AreCalled, AreSettled, AreSpecialized};
 ghost use Rattle.lb_static.specs.Walk.{level, walk_refusal, instance_refusal};
 ghost use Rattle.lb_static.specs.Walked.{AreSound, IsWalkable, IsBegun, IsKnownWith, IsJudgement, IsJudged, AreJudged, IsKnown, HasGrown, IsRefusal, AreEntered, values_at, times_of, IsWalkAnswer};
+ghost use Rattle.lb_static.specs.WalkedRows.{HasUsed, HasRows, IsSettledRow, IsOneMore, AreInstances};
 ghost use Rattle.lb_static.specs.declared.resolved.ResolvedNode.{ResolvedNode};
 
 use crate::constants::Constants;
@@ -240,6 +242,15 @@ fn settle(
         → ((p : Path) (n : ResolvedNode) → slice_get r.nodes.items node.0 ≡ Some n
         → IsJudged P n (instance_of p (node_of n) values.items) begun.statics.items)
         → OnOk result (AreJudged P r entered.new.specializations.items) }
+    ensures settled { (r : Reached) (n : ResolvedNode) → slice_get r.nodes.items node.0 ≡ Some n
+        → AreSettled r entered.old.specializations.items
+        → AreCalled r entered.old.specializations.items begun.statics.items n.calls.items
+        callees.items
+        → OnOk result (AreSettled r entered.new.specializations.items) }
+    ensures placed { IfOk result (λ id.
+        IsSettledRow row id entered.old.instances.items entered.new.instances.items) }
+    ensures one_more { IfOk result (λ id. IsOneMore id.0
+        entered.old.specializations.items entered.new.specializations.items) }
 {
     let id = match begun.known {
         Some(id) => id,
@@ -296,6 +307,23 @@ fn enter(
         → AreJudged P reached.now entered.old.specializations.items
         → IsRefusal (walk_refusal P (length entered.old.instances.items)
         (instances_from P (66 - entry.level) (instance_of p (node_of n) values.now))) e) }
+    ensures settled { IfOk result (λ _. (P : Program) (p : Path) (n : ResolvedNode)
+        → IsWalkable P reached.now constants.now
+        → slice_get reached.now.nodes.items entry.node.0 ≡ Some n → level P p ≡ entry.level
+        → AreJudged P reached.now entered.old.specializations.items
+        → AreSettled reached.now entered.old.specializations.items
+        → AreSettled reached.now entered.new.specializations.items) }
+    ensures used { OnOk result
+        (HasUsed entered.old.specializations.items entered.new.specializations.items
+        entered.old.instances.items entered.new.instances.items) }
+    ensures stand { IfOk result (λ _. (P : Program) (p : Path) (n : ResolvedNode)
+        → IsWalkable P reached.now constants.now
+        → slice_get reached.now.nodes.items entry.node.0 ≡ Some n → level P p ≡ entry.level
+        → AreJudged P reached.now entered.old.specializations.items
+        → path_from (paths_after [] entered.old.instances.items) entry.origin ≡ p
+        → HasRows reached.now entered.new.specializations.items
+        entered.old.instances.items entered.new.instances.items
+        (instances_from P (66 - entry.level) (instance_of p (node_of n) values.now))) }
 {
     let row = entered.instances.len();
     let begun = begin(alloc, reached, constants, entered, entry, values)?;
@@ -338,10 +366,18 @@ fn enter(
 /// observer. A refusal is that of the first instance with a fault.
 pub fn walk(alloc: Global, reached: &Reached, constants: &Constants) -> Result<Table, StaticError>
     requires { (P : Program) × IsReached P reached.now }
-    ensures { (P : Program) → keeps_names P ≡ true → IsReached P reached.now
+    ensures answer { (P : Program) → keeps_names P ≡ true → IsReached P reached.now
         → value_of constants.now
         ≡ constant_value P.source.constants (length P.source.constants)
         → IsWalkAnswer P reached.now result }
+    ensures specialized { (P : Program) → keeps_names P ≡ true → IsReached P reached.now
+        → value_of constants.now
+        ≡ constant_value P.source.constants (length P.source.constants)
+        → IfOk result (AreSpecialized P reached.now) }
+    ensures rows { (P : Program) → keeps_names P ≡ true → IsReached P reached.now
+        → value_of constants.now
+        ≡ constant_value P.source.constants (length P.source.constants)
+        → IfOk result (AreInstances P reached.now) }
 {
     let mut entered = Entered {
         specializations: Vec::new(alloc),

@@ -18,14 +18,13 @@ fn answer(alloc: Global, text: &[u8], observer: Option<&str>) -> &'static str {
         Err(StaticError::Value(_)) => "value",
         Err(StaticError::Range(_)) => "range",
         Err(StaticError::Instances) => "instances",
-        Err(StaticError::Large) => "large",
     }
 }
 
-/// The scalar inputs and then the variables, as `x: int y: bool | x y z`.
+/// The scalar inputs and then the nodes that are reached, as `x: int y: bool | main f`.
 fn shown(alloc: Global, elab: &Elab) -> Result<String, AllocError> {
     let mut line = String::new(alloc);
-    let signature = elab.signature();
+    let signature = &elab.signature;
     for i in 0..signature.len() {
         line.push_str(signature.name(i))?;
         line.push_str(match signature.kind(i) {
@@ -34,9 +33,9 @@ fn shown(alloc: Global, elab: &Elab) -> Result<String, AllocError> {
         })?;
     }
     line.push('|')?;
-    for variable in &elab.variables {
+    for node in &elab.reached.nodes {
         line.push(' ')?;
-        line.push_str(variable.name.as_str())?;
+        line.push_str(node.tree.name.as_str())?;
     }
     Ok(line)
 }
@@ -98,7 +97,7 @@ fn names_and_shapes_of_programs(rt: HostRuntime) -> Result<(), Fail> {
             "node main(x: int) returns (ok: bool); let ok = f(x); tel \
              node f(x: int) returns (y: bool); let y = x > 0; tel",
             None,
-            "large",
+            "elaborated",
         ),
         (
             "node main(x: bool) returns (ok: bool); let ok = f(x); tel \
@@ -126,7 +125,7 @@ fn names_and_shapes_of_programs(rt: HostRuntime) -> Result<(), Fail> {
         (
             "const n = 3; node main() returns (ok: bool); let ok = n > 0; tel",
             None,
-            "large",
+            "elaborated",
         ),
         (
             "node main() returns (ok: bool); let ok = true; tel",
@@ -137,7 +136,7 @@ fn names_and_shapes_of_programs(rt: HostRuntime) -> Result<(), Fail> {
             "node main() returns (ok: bool); let ok = true; tel \
              node o(ok: bool) returns (fine: bool); let fine = ok; tel",
             Some("o"),
-            "large",
+            "elaborated",
         ),
         (
             "node main() returns (ok: bool); let ok = true; tel",
@@ -163,10 +162,12 @@ fn described(alloc: Global, text: &[u8]) -> Result<String, AllocError> {
 }
 
 #[test]
-fn variables_keep_their_order(rt: HostRuntime) -> Result<(), Fail> {
-    let text = b"node main(a, b: int; c: bool) returns (ok: bool); var z: int;
-        let z = a + b; ok = c and z > 0; tel";
+fn the_signature_and_what_is_reached(rt: HostRuntime) -> Result<(), Fail> {
+    let text = b"node alone(x: bool) returns (y: bool); let y = x; tel
+        node main(a: int; m: int^2; c: bool) returns (ok: bool);
+        let ok = f(c) and m[0] > a; tel
+        node f(x: bool) returns (y: bool); let y = not x; tel";
     let line = described(rt.alloc(), text)?;
-    assert_eq!(rt; line.as_str(), "a: int b: int c: bool | a b c ok z");
+    assert_eq!(rt; line.as_str(), "a: int m[0]: int m[1]: int c: bool | main f");
     Ok(())
 }

@@ -38,7 +38,7 @@ term-returns-in_ok-boxed-in-Binary t c =
     let b = c.in-Binary.b.value in
     let r = two_done before mid after (view a) (view b) first second (in_box before mid _ a first c.deref-in-Binary.ensures c.in_ok-first-in-Binary.ensures)
     (in_box mid after _ b second c.deref-in-Binary-2.ensures c.in_ok-boxed-in-Binary.ensures) in
-    rw c.in-Binary.is (r.0, (same_two (tree.Binary c.in-Binary.op) _ _ _ _ r.1.0 r.2.0, both _ _ r.1.1 r.2.1), r.3)
+    rw c.in-Binary.is (r.0, (same_two (tree.Binary c.in-Binary.op) _ _ _ _ r.1.0 r.2.0, both _ _ r.1.1 r.2.1, both _ _ r.1.2 r.2.2), r.3)
 
 pub term-returns-in_ok-boxed-in-Arrow : goal.term-returns-in_ok-boxed-in-Arrow
 term-returns-in_ok-boxed-in-Arrow t c =
@@ -51,7 +51,7 @@ term-returns-in_ok-boxed-in-Arrow t c =
     let b = c.in-Arrow.b.value in
     let r = two_done before mid after (view a) (view b) first second (in_box before mid _ a first c.deref-in-Arrow.ensures c.in_ok-first-in-Arrow.ensures)
     (in_box mid after _ b second c.deref-in-Arrow-2.ensures c.in_ok-boxed-in-Arrow.ensures) in
-    rw c.in-Arrow.is (r.0, (same_two tree.Arrow _ _ _ _ r.1.0 r.2.0, both _ _ r.1.1 r.2.1), r.3)
+    rw c.in-Arrow.is (r.0, (same_two tree.Arrow _ _ _ _ r.1.0 r.2.0, both _ _ r.1.1 r.2.1, both _ _ r.1.2 r.2.2), r.3)
 
 pub term-returns-in_ok-boxed-in-Fby : goal.term-returns-in_ok-boxed-in-Fby
 term-returns-in_ok-boxed-in-Fby t c =
@@ -64,7 +64,7 @@ term-returns-in_ok-boxed-in-Fby t c =
     let b = c.in-Fby.b.value in
     let r = two_done before mid after (view a) (view b) first second (in_box before mid _ a first c.deref-in-Fby.ensures c.in_ok-first-in-Fby.ensures)
     (in_box mid after _ b second c.deref-in-Fby-2.ensures c.in_ok-boxed-in-Fby.ensures) in
-    rw c.in-Fby.is (r.0, (same_two tree.Fby _ _ _ _ r.1.0 r.2.0, both _ _ r.1.1 r.2.1), r.3)
+    rw c.in-Fby.is (r.0, (same_two tree.Fby _ _ _ _ r.1.0 r.2.0, both _ _ r.1.1 r.2.1, both _ _ r.1.2 r.2.2), r.3)
 
 pub term-returns-in_ok-boxed-in-Join : goal.term-returns-in_ok-boxed-in-Join
 term-returns-in_ok-boxed-in-Join t c =
@@ -77,7 +77,7 @@ term-returns-in_ok-boxed-in-Join t c =
     let b = c.in-Join.b.value in
     let r = two_done before mid after (view a) (view b) first second (in_box before mid _ a first c.deref-in-Join.ensures c.in_ok-first-in-Join.ensures)
     (in_box mid after _ b second c.deref-in-Join-2.ensures c.in_ok-boxed-in-Join.ensures) in
-    rw c.in-Join.is (r.0, (same_two tree.Join _ _ _ _ r.1.0 r.2.0, both _ _ r.1.1 r.2.1), r.3)
+    rw c.in-Join.is (r.0, (same_two tree.Join _ _ _ _ r.1.0 r.2.0, both _ _ r.1.1 r.2.1, both _ _ r.1.2 r.2.2), r.3)
 
 pub term-returns-in_ok-boxed-in-If : goal.term-returns-in_ok-boxed-in-If
 term-returns-in_ok-boxed-in-If t c =
@@ -100,6 +100,7 @@ term-returns-in_ok-boxed-in-If t c =
       (
         ap (λ z. tree.If z (expr_of (texts after) first) (expr_of (texts after) second)) r.1.0 ∙ same_two (tree.If (view test)) _ _ _ _ r.2.0 r.3.0,
         both _ _ r.1.1 (both _ _ r.2.1 r.3.1),
+        both _ _ r.1.2 (both _ _ r.2.2 r.3.2),
       ),
       r.4,
     )
@@ -114,7 +115,7 @@ term-returns-in_ok-boxed-in-Copies t c =
     let a = c.in-Copies.a.value in
     let r = static_done before mid after _ (view_static c.in-Copies.n) (view a) id inner c.in_ok-size-in-Copies.ensures
     (in_box mid after _ a inner c.deref-in-Copies.ensures c.in_ok-boxed-in-Copies.ensures) in
-    rw c.in-Copies.is (r.0, (same_two tree.Copies _ _ _ _ r.2.0 r.1.0, both _ _ r.1.1 r.2.1), r.3)
+    rw c.in-Copies.is (r.0, (same_two tree.Copies _ _ _ _ r.2.0 r.1.0, both _ _ r.1.1 r.2.1, r.2.2), r.3)
 
 pub term-returns-in_ok-boxed-in-Index : goal.term-returns-in_ok-boxed-in-Index
 term-returns-in_ok-boxed-in-Index t c =
@@ -126,7 +127,7 @@ term-returns-in_ok-boxed-in-Index t c =
     let a = c.in-Index.a.value in
     let r = static_done before mid after _ (view_static c.in-Index.i) (view a) id inner c.in_ok-index-in-Index.ensures
     (in_box mid after _ a inner c.deref-in-Index.ensures c.in_ok-boxed-in-Index.ensures) in
-    rw c.in-Index.is (r.0, (same_two tree.Index _ _ _ _ r.2.0 r.1.0, both _ _ r.1.1 r.2.1), r.3)
+    rw c.in-Index.is (r.0, (same_two tree.Index _ _ _ _ r.2.0 r.1.0, both _ _ r.1.1 r.2.1, r.2.2), r.3)
 
 pub term-returns-in_ok-terms-in-Array : goal.term-returns-in_ok-terms-in-Array
 term-returns-in_ok-terms-in-Array t c =
@@ -200,6 +201,7 @@ term-returns-in_ok-boxed-in-Slice t c =
         ap (λ z. tree.Slice (expr_of (texts after) inner) z (static_at (texts after).statics end)) r.1.0
             ∙ same_two (λ x z. tree.Slice z i x) _ _ _ _ r.2.0 r.3.0,
         both _ _ r.1.1 (both _ _ r.2.1 r.3.1),
+        r.3.2,
       ),
       r.4,
     )

@@ -1,26 +1,34 @@
 -- An instance is entered, then those that it calls, one after another.
-use Rattle.std.proofs.Common.{◌≡◌, ◌≤◌, ◌+◌, ◌-◌, ◌++◌, [], true, length, get_or, Some, None, ℕ, List, refl, ap, sym, subst, ◌∙◌, arith}
-use Rattle.std.specs.Prelude.{slice_get, IfSome}
+use Rattle.std.proofs.Common.{◌≡◌, ◌≤◌, ◌+◌, ◌-◌, ◌++◌, [], true, length, take, get_or, Some, None, Vec, ℕ, List, refl, ap, sym, subst, ◌∙◌, arith, ◌∷◌, suc}
+use Rattle.std.specs.Prelude.{slice_get, IfSome, option_map}
 use Rattle.std.specs.List.{list_all}
+use Rattle.std.specs.declared.alloc.Global.{Global}
 use Rattle.std.proofs.lemmas.List.{length-append, length-map, append-nil}
 use Rattle.std.proofs.lemmas.List.Elements.{All-get_or}
 use Rattle.std.proofs.lemmas.List.Sums.{AllPass-from_list_all}
-use Rattle.std.proofs.lemmas.Option.{get_or_from_slice_get, slice_get-get_or, slice_get_read}
+use Rattle.std.proofs.lemmas.Option.{get_or_from_slice_get, slice_get-get_or, slice_get-map, slice_get_read}
 use Rattle.std.proofs.lemmas.Result.{err_from_is_err_and, IfOk-at_ok}
-use Rattle.lb_static.specs.Instances.{Program, Path, Child, instances_from, node_sites}
+use Rattle.lb_static.specs.Instances.{Program, Path, Child, children, instances_from, node_sites}
 use Rattle.lb_static.specs.InstanceTable.{instance_of}
 use Rattle.lb_static.specs.ReachedNodes.{source_names}
 use Rattle.lb_static.specs.ResolvedNodes.{node_of, statics_of, counts_of, IsResolved}
 use Rattle.lb_static.specs.ResolvedTerms.{site_of, is_site_within, Counts}
+use Rattle.lb_static.specs.SettledSpecializations.{AreSettled}
 use Rattle.lb_static.specs.Walk.{level, walk_refusal}
 use Rattle.lb_static.specs.Walked.{AreJudged, AreEntered, IsWalkable, IsJudged, IsRefusal, IsSoundNode, values_at, times_of, IsKnown}
+use Rattle.lb_static.specs.WalkedRows.{begun_row, HasRows}
 use Rattle.lb_static.specs.declared.resolved.CallSite.{CallSite}
 use Rattle.lb_static.specs.declared.resolved.ResolvedNode.{ResolvedNode}
+use Rattle.lb_static.specs.declared.table.SpecializationId.{SpecializationId}
 use Rattle.lb_static.proofs.Lists.{append_assoc}
 use Rattle.lb_static.proofs.WalkSteps.{element_all, elsewhere, memory_alone, ok_when, some_known_later}
-use Rattle.lb_static.proofs.WalkCalls.{entered_none, entered_more, refused_here, refused_below, all_entered, of_calls, below, of_indexes, index_step, call_step}
+use Rattle.lb_static.proofs.WalkCalls.{entered_none, entered_more, refused_here, refused_below, all_entered, of_calls, below, of_indexes, index_step, call_step, calls_all}
+use Rattle.lb_static.proofs.WalkedRows.{rows_none, rows_grown, rows_more, rows_settled, known_stands, path_below, used_none, used_more, used_settled}
 use Rattle.lb_static.proofs.CallSites.{call_read}
+use Rattle.lb_static.proofs.SettledSpecializations.{called_known, called_later, none_called, called_next, all_called}
+use Rattle.lb_static.proofs.SiteCounts.{entered_once}
 use Rattle.lb_static.proofs.walk.+enter.Goals as goal
+use Rattle.lb_static.proofs.walk.+enter.Goals.{in-Some+in_ok-push, in_default}
 
 -- what stands past the calls
 abbrev no_call : CallSite
@@ -51,6 +59,16 @@ loop-call-init t c =
         subst (AreJudged P c.args.reached.now) (sym c.in_ok-begun.ensures.same) judged,
         subst (AreEntered P (c.len-row.result + 1) []) count (entered_none P (c.len-row.result + 1)),
       );
+      settled = λ P p n w at low judged settled. (
+        subst (AreSettled c.args.reached.now) (sym c.in_ok-begun.ensures.same) settled,
+        none_called c.args.reached.now c.in_ok-begun.begun.statics.items c.begin.new.entered.specializations.items n.calls.items c.new-callees.result.items c.new-callees.ensures.items,
+      );
+      used =
+          used_none c.args.entered.now.specializations.items c.begin.new.entered.specializations.items
+          (c.args.entered.now.instances.items ++ begun_row c.args.entry.origin ∷ []) c.begin.new.entered.instances.items c.in_ok-begun.ensures.same c.in_ok-begun.ensures.row;
+      stand = λ P p n w at low judged path.
+          rows_none c.args.reached.now c.begin.new.entered.specializations.items
+          (c.args.entered.now.instances.items ++ begun_row c.args.entry.origin ∷ []) c.begin.new.entered.instances.items c.in_ok-begun.ensures.row;
     }
 
 pub callee_of-callee-requires-clause-within : goal.callee_of-callee-requires-clause-within
@@ -82,6 +100,15 @@ loop-index-init t c =
             subst (λ l. AreEntered P (c.len-row.result + 1) l (length c.loop-call.entered.instances.items))
                 (sym (append-nil (of_calls P p n c.args.values.now c.args.entry.level c.loop-call.call))) before.1,
           );
+      since = λ i s at. at;
+      known = tt;
+      none = λ e. refl;
+      settled = λ P p n m w at am low judged settled. (inv.settled P p n w at low judged settled).0;
+      used = inv.used;
+      stand = λ P p n m w at am low judged path.
+          let rows = c.args.entered.now.instances.items ++ begun_row c.args.entry.origin ∷ [] in
+          subst (HasRows c.args.reached.now c.loop-call.entered.specializations.items rows c.loop-call.entered.instances.items)
+          (sym (append-nil (of_calls P p n c.args.values.now c.args.entry.level c.loop-call.call))) (inv.stand P p n w at low judged path);
     }
 
 pub loop-index-preserved : goal.loop-index-preserved
@@ -112,6 +139,38 @@ loop-index-preserved t c =
                 ∙ ap (λ l. calls ++ l) (sym (index_step P p n values level_here call m arguments index)))
                 (entered_more P (c.len-row.result + 1) (calls ++ indexes) (instances_from P (65 - level_here) (instance_of (Child p call index) (node_of m) arguments)) (length c.loop-index.entered.instances.items) (length c.enter.new.entered.instances.items) before.1 here),
           );
+      since = λ i s at. told.grown i s (inv.since i s at);
+      known = told.known;
+      none = λ e. absurd cc;
+      settled = λ P p n m w at am low judged settled.
+          let deeper : level P (Child p call index) ≡ level_here + 1 = omega arith in
+          told.settled P (Child p call index) m w am deeper (inv.judged P p n m w at am low judged).0 (inv.settled P p n m w at am low judged settled);
+      used =
+          used_more c.args.entered.now.specializations.items c.loop-index.entered.specializations.items c.enter.new.entered.specializations.items
+          (c.args.entered.now.instances.items ++ begun_row c.args.entry.origin ∷ []) c.loop-index.entered.instances.items c.enter.new.entered.instances.items
+          inv.used told.used;
+      stand = λ P p n m w at am low judged path.
+          let r = c.args.reached.now in
+          let old = c.args.entered.now.instances.items in
+          let from = c.args.entry.origin in
+          let so_far = c.loop-index.entered.specializations.items in
+          let now = c.enter.new.entered.specializations.items in
+          let rows = old ++ begun_row from ∷ [] in
+          let calls = of_calls P p n values level_here call in
+          let indexes = of_indexes P p n values level_here call m arguments index in
+          let child = instance_of (Child p call index) (node_of m) arguments in
+          let before = inv.judged P p n m w at am low judged in
+          let stood = inv.stand P p n m w at am low judged path in
+          let deeper : level P (Child p call index) ≡ level_here + 1 = omega arith in
+          let fuel : 66 - (level_here + 1) ≡ 65 - level_here = omega arith in
+          let place : c.len-row.result ≡ length old = omega (arith, c.len-row.ensures) in
+          let under = path_below r so_far old c.loop-index.entered.instances.items from p c.len-row.result (calls ++ indexes) (record { 0 = call }) index place path stood in
+          let after = told.stand P (Child p call index) m w am deeper before.0 under in
+          let here = subst (λ f. HasRows r now c.loop-index.entered.instances.items c.enter.new.entered.instances.items (instances_from P f child)) fuel after in
+          subst (HasRows r now rows c.enter.new.entered.instances.items)
+          (append_assoc calls indexes (instances_from P (65 - level_here) child) ∙ ap (λ l. calls ++ l) (sym (index_step P p n values level_here call m arguments index)))
+          (rows_more r now rows c.loop-index.entered.instances.items c.enter.new.entered.instances.items (calls ++ indexes) (instances_from P (65 - level_here) child)
+          (rows_grown r so_far now rows c.loop-index.entered.instances.items (calls ++ indexes) told.grown stood) here);
     }
 
 pub returns-in_err-id-clause-err : goal.returns-in_err-id-clause-err
@@ -155,6 +214,23 @@ loop-call-preserved t c =
     let call = c.loop-call.call in
     let items = c.deref-site-items.result.now in
     let callee = c.callee_of-callee.result in
+    let first = c.args.entered.now.specializations.items in
+    -- the instances of the calls so far are those of the calls before, and those of this one
+    let whole = λ (P : Program) (p : Path) (n m : ResolvedNode) (w : IsWalkable P r c.args.constants.now) (at : slice_get nodes c.args.entry.node.0 ≡ Some n)
+    (am : slice_get nodes callee.node.0 ≡ Some m) (low : level P p ≡ level_here) (judged : AreJudged P r first).
+    let begun = c.in_ok-begun.ensures.judged P p n w at low judged in
+    let is = element_all (IsResolved (source_names P)) nodes c.args.entry.node.0 n w.reached.resolved at in
+    let same = c.deref-site-items.ensures.value ∙ ap (λ (k : ResolvedNode). k.calls.items) (c.index.ensures ∙ get_or_from_slice_get nodes c.args.entry.node.0 n c.index.result.now at) in
+    let arguments = c.callee_of-callee.ensures.values ∙ ap (λ l. values_at l (get_or items call no_call).first_argument (get_or items call no_call).arguments) c.deref.ensures.value in
+    let times = c.callee_of-callee.ensures.count ∙ ap (λ l. times_of l (get_or items call no_call).count) c.deref.ensures.value in
+    let read = call_read P r c.args.constants.now w p n values c.in_ok-begun.begun.statics.items begun.0.had items call no_call callee.node m callee.values.now callee.count
+    is same c.loop-call-test.true c.callee_of-callee.ensures.node am arguments times in
+    let ended : c.loop-index.index ≡ callee.count = omega arith in
+    let s = site_of (source_names P) (statics_of n) (get_or items call no_call) in
+    let calls = of_calls P p n values level_here call in
+    call_step P p n values level_here call s read.0 read.1
+    ∙ ap (λ l. calls ++ below P p n values level_here l) read.2
+    ∙ ap (λ k. calls ++ of_indexes P p n values level_here call m callee.values.now k) (sym ended) in
     record {
       room = inv.room;
       few = inv.few;
@@ -163,21 +239,46 @@ loop-call-preserved t c =
       judged = λ P p n w at low judged.
           let m = get_or nodes callee.node.0 n in
           let am = slice_get-get_or nodes callee.node.0 n c.callee_of-callee.ensures.within in
+          let before = inv.judged P p n m w at am low judged in (
+            before.0,
+            subst (λ l. AreEntered P (c.len-row.result + 1) l (length c.loop-index.entered.instances.items)) (sym (whole P p n m w at am low judged)) before.1,
+          );
+      settled = λ P p n w at low judged settled.
+          let m = get_or nodes callee.node.0 n in
+          let am = slice_get-get_or nodes callee.node.0 n c.callee_of-callee.ensures.within in
+          let statics = c.in_ok-begun.begun.statics.items in
+          let first = c.loop-call.entered.specializations.items in
+          let now = c.loop-index.entered.specializations.items in
+          let site = get_or items call no_call in
           let begun = c.in_ok-begun.ensures.judged P p n w at low judged in
           let is = element_all (IsResolved (source_names P)) nodes c.args.entry.node.0 n w.reached.resolved at in
           let same = c.deref-site-items.ensures.value ∙ ap (λ (k : ResolvedNode). k.calls.items) (c.index.ensures ∙ get_or_from_slice_get nodes c.args.entry.node.0 n c.index.result.now at) in
-          let arguments = c.callee_of-callee.ensures.values ∙ ap (λ l. values_at l (get_or items call no_call).first_argument (get_or items call no_call).arguments) c.deref.ensures.value in
-          let times = c.callee_of-callee.ensures.count ∙ ap (λ l. times_of l (get_or items call no_call).count) c.deref.ensures.value in
-          let read = call_read P r c.args.constants.now w p n values c.in_ok-begun.begun.statics.items begun.0.had items call no_call callee.node m callee.values.now callee.count
-          is same c.loop-call-test.true c.callee_of-callee.ensures.node am arguments times in
-          let before = inv.judged P p n m w at am low judged in
-          let ended : c.loop-index.index ≡ callee.count = omega arith in
-          let s = site_of (source_names P) (statics_of n) (get_or items call no_call) in
-          let calls = of_calls P p n values level_here call in
-          let whole = call_step P p n values level_here call s read.0 read.1
-          ∙ ap (λ l. calls ++ below P p n values level_here l) read.2
-          ∙ ap (λ k. calls ++ of_indexes P p n values level_here call m callee.values.now k) (sym ended) in
-          (before.0, subst (λ l. AreEntered P (c.len-row.result + 1) l (length c.loop-index.entered.instances.items)) (sym whole) before.1);
+          let there : slice_get n.calls.items call ≡ Some site = subst (λ l. slice_get l call ≡ Some site) same (slice_get-get_or items call no_call c.loop-call-test.true) in
+          let arguments = c.callee_of-callee.ensures.values ∙ ap (λ l. values_at l site.first_argument site.arguments) c.deref.ensures.value in
+          let times = c.callee_of-callee.ensures.count ∙ ap (λ l. times_of l site.count) c.deref.ensures.value in
+          let before = c.loop-call.invariant.settled P p n w at low judged settled in
+          let later = called_later r statics first now (take call n.calls.items) c.loop-call.callees.items inv.since before.1 in (
+            inv.settled P p n m w at am low judged settled,
+            elim c.match-called.branch [
+              | in-Some+in_ok-push b ↦
+                  let id = b.in-Some.id in
+                  let known : IsKnown now callee.node callee.values.now id = subst (λ o. IfSome o (IsKnown now callee.node callee.values.now)) b.in-Some.is inv.known in
+                  called_next r statics now n.calls.items c.loop-call.callees.items c.match-called.callees.items call site id there later
+                  (called_known r now statics site callee.node callee.values.now id c.callee_of-callee.ensures.node arguments known)
+                  (ap (λ (v : Vec SpecializationId Global). v.items) b.callees-is ∙ b.in_ok-push.ensures.items)
+              | in_default b ↦
+                  let once = entered_once P r c.args.constants.now w p n values statics begun.0 call site is there in
+                  let none : c.loop-index.index ≡ 0 = inv.none b.in_default.is in
+                  absurd (omega (arith, once, none, times, c.loop-index-test.false))
+            ],
+          );
+      used = inv.used;
+      stand = λ P p n w at low judged path.
+          let m = get_or nodes callee.node.0 n in
+          let am = slice_get-get_or nodes callee.node.0 n c.callee_of-callee.ensures.within in
+          let rows = c.args.entered.now.instances.items ++ begun_row c.args.entry.origin ∷ [] in
+          subst (HasRows r c.loop-index.entered.specializations.items rows c.loop-index.entered.instances.items) (sym (whole P p n m w at am low judged))
+          (inv.stand P p n m w at am low judged path);
     }
 
 pub settle-requires-clause-known : goal.settle-requires-clause-known
@@ -226,3 +327,56 @@ returns-clause-err t c =
     → AreJudged P c.args.reached.now c.args.entered.now.specializations.items
     → IsRefusal (walk_refusal P (length c.args.entered.now.instances.items) (instances_from P (66 - c.args.entry.level) (instance_of p (node_of n) c.args.values.now))) e)
     (λ P p n w at low judged. tt) c.settle.ensures.err
+
+pub returns-clause-settled : goal.returns-clause-settled
+returns-clause-settled t c =
+    let r = c.args.reached.now in
+    let nodes = r.nodes.items in
+    let statics = c.in_ok-begun.begun.statics.items in
+    ok_when c.settle.result _ (λ x e. λ P p n w at low judged settled.
+    let so_far = c.loop-call.invariant.settled P p n w at low judged settled in
+    let same = c.deref-site-items.ensures.value ∙ ap (λ (k : ResolvedNode). k.calls.items) (c.index.ensures ∙ get_or_from_slice_get nodes c.args.entry.node.0 n c.index.result.now at) in
+    let items = ap length same in
+    let past : length n.calls.items ≤ c.loop-call.call = omega (arith, items, c.loop-call-test.false) in
+    IfOk-at_ok _ e (c.settle.ensures.settled r n at so_far.0
+    (all_called r statics c.loop-call.entered.specializations.items n.calls.items c.loop-call.callees.items c.loop-call.call past so_far.1)))
+pub returns-clause-used : goal.returns-clause-used
+returns-clause-used t c =
+    let place : c.len-row.result ≡ length c.args.entered.now.instances.items = omega (arith, c.len-row.ensures) in
+    ok_when c.settle.result _ (λ x e.
+    used_settled c.args.entered.now.specializations.items c.loop-call.entered.specializations.items c.settle.new.entered.specializations.items
+    c.args.entered.now.instances.items c.loop-call.entered.instances.items c.settle.new.entered.instances.items c.args.entry.origin c.len-row.result x
+    place c.loop-call.invariant.used (IfOk-at_ok _ e c.settle.ensures.placed) (IfOk-at_ok _ e c.settle.ensures.one_more))
+
+pub returns-clause-stand : goal.returns-clause-stand
+returns-clause-stand t c =
+    let r = c.args.reached.now in
+    let nodes = r.nodes.items in
+    let node = c.args.entry.node in
+    let from = c.args.entry.origin in
+    let values = c.args.values.now in
+    let level_here = c.args.entry.level in
+    let old = c.args.entered.now.instances.items in
+    let rows = old ++ begun_row from ∷ [] in
+    let so_far = c.loop-call.entered.specializations.items in
+    let now = c.settle.new.entered.specializations.items in
+    let middle = c.loop-call.entered.instances.items in
+    let place : c.len-row.result ≡ length old = omega (arith, c.len-row.ensures) in
+    ok_when c.settle.result _ (λ x e. λ P p n w at low judged path.
+    let is = element_all (IsResolved (source_names P)) nodes node.0 n w.reached.resolved at in
+    let same = c.deref-site-items.ensures.value ∙ ap (λ (k : ResolvedNode). k.calls.items) (c.index.ensures ∙ get_or_from_slice_get nodes node.0 n c.index.result.now at) in
+    let sites = ap length is.calls in
+    let as_many = length-map n.calls.items (site_of (source_names P) (statics_of n)) in
+    let items = ap length same in
+    let past : length (node_sites (node_of n)) ≤ c.loop-call.call = omega (arith, sites, as_many, items, c.loop-call-test.false) in
+    let here = instance_of p (node_of n) values in
+    let calls = of_calls P p n values level_here c.loop-call.call in
+    let grown = rows_grown r so_far now rows middle calls (IfOk-at_ok _ e c.settle.ensures.grown) (c.loop-call.invariant.stand P p n w at low judged path) in
+    let under = subst (HasRows r now rows middle) (calls_all P p n values level_here c.loop-call.call past) grown in
+    let known = subst (λ vs. IsKnown now node vs x) c.in_ok-from_slice.ensures.items (IfOk-at_ok _ e c.settle.ensures.known) in
+    let tree = slice_get-map node_of nodes node.0 ∙ ap (option_map node_of) at in
+    let stands = known_stands r now node n values x from p tree known in
+    let all = rows_settled r now old middle c.settle.new.entered.instances.items from p c.len-row.result x here (below P p n values level_here (children P here))
+    place path stands under (IfOk-at_ok _ e c.settle.ensures.placed) in
+    let fuel : 66 - level_here ≡ suc (65 - level_here) = omega (arith, c.requires.low) in
+    subst (λ f. HasRows r now old c.settle.new.entered.instances.items (instances_from P f here)) (sym fuel) all)

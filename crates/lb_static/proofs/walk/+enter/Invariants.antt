@@ -1,8 +1,11 @@
-use Rattle.std.proofs.Common.{◌≡◌, ◌+◌, ◌-◌, ◌<◌, ◌≤◌, ◌++◌, length, Some}
-use Rattle.std.specs.Prelude.{slice_get}
+use Rattle.std.proofs.Common.{◌≡◌, ◌+◌, ◌-◌, ◌<◌, ◌≤◌, ◌++◌, length, take, Some, None, ◌∷◌, []}
+use Rattle.std.specs.Prelude.{slice_get, IfSome}
 use Rattle.lb_static.specs.Instances.{Program, Path}
+use Rattle.lb_static.specs.SettledSpecializations.{AreCalled, AreSettled}
 use Rattle.lb_static.specs.Walk.{level}
-use Rattle.lb_static.specs.Walked.{IsWalkable, AreJudged, AreEntered, HasGrown}
+use Rattle.lb_static.specs.Walked.{IsWalkable, AreJudged, AreEntered, HasGrown, IsKnown}
+use Rattle.lb_static.specs.InstanceTable.{path_from, paths_after}
+use Rattle.lb_static.specs.WalkedRows.{begun_row, HasUsed, HasRows}
 use Rattle.lb_static.specs.declared.resolved.ResolvedNode.{ResolvedNode}
 use Rattle.lb_static.proofs.WalkCalls.{of_calls, of_indexes}
 use Rattle.lb_static.proofs.walk.+enter.Given as goal
@@ -22,6 +25,17 @@ invariant-loop-call l =
           → slice_get l.reached.nodes.items l.entry.node.0 ≡ Some n → level P p ≡ l.entry.level → AreJudged P l.reached first
           → AreJudged P l.reached l.entered.specializations.items
           × AreEntered P (l.row + 1) (of_calls P p n l.values l.entry.level l.call) (length l.entered.instances.items);
+      settled : (P : Program) (p : Path) (n : ResolvedNode) → IsWalkable P l.reached l.constants
+          → slice_get l.reached.nodes.items l.entry.node.0 ≡ Some n → level P p ≡ l.entry.level → AreJudged P l.reached first
+          → AreSettled l.reached first
+          → AreSettled l.reached l.entered.specializations.items
+          × AreCalled l.reached l.entered.specializations.items l.begun.statics.items (take l.call n.calls.items) l.callees.items;
+      used : HasUsed first l.entered.specializations.items (l.fn.entered.instances.items ++ begun_row l.entry.origin ∷ []) l.entered.instances.items;
+      stand : (P : Program) (p : Path) (n : ResolvedNode) → IsWalkable P l.reached l.constants
+          → slice_get l.reached.nodes.items l.entry.node.0 ≡ Some n → level P p ≡ l.entry.level → AreJudged P l.reached first
+          → path_from (paths_after [] l.fn.entered.instances.items) l.entry.origin ≡ p
+          → HasRows l.reached l.entered.specializations.items (l.fn.entered.instances.items ++ begun_row l.entry.origin ∷ []) l.entered.instances.items
+          (of_calls P p n l.values l.entry.level l.call);
     }
 
 abbrev pub invariant-loop-index : goal.invariant-loop-index
@@ -39,4 +53,17 @@ invariant-loop-index l =
           × AreEntered P (l.row + 1)
           (of_calls P p n l.values l.entry.level l.call ++ of_indexes P p n l.values l.entry.level l.call m l.callee.values.now l.index)
           (length l.entered.instances.items);
+      since : HasGrown l.initial.entered.specializations.items l.entered.specializations.items;
+      known : IfSome l.called (IsKnown l.entered.specializations.items l.callee.node l.callee.values.now);
+      none : l.called ≡ None → l.index ≡ 0;
+      settled : (P : Program) (p : Path) (n m : ResolvedNode) → IsWalkable P l.reached l.constants
+          → slice_get l.reached.nodes.items l.entry.node.0 ≡ Some n → slice_get l.reached.nodes.items l.callee.node.0 ≡ Some m
+          → level P p ≡ l.entry.level → AreJudged P l.reached first → AreSettled l.reached first
+          → AreSettled l.reached l.entered.specializations.items;
+      used : HasUsed first l.entered.specializations.items (l.fn.entered.instances.items ++ begun_row l.entry.origin ∷ []) l.entered.instances.items;
+      stand : (P : Program) (p : Path) (n m : ResolvedNode) → IsWalkable P l.reached l.constants
+          → slice_get l.reached.nodes.items l.entry.node.0 ≡ Some n → slice_get l.reached.nodes.items l.callee.node.0 ≡ Some m
+          → level P p ≡ l.entry.level → AreJudged P l.reached first → path_from (paths_after [] l.fn.entered.instances.items) l.entry.origin ≡ p
+          → HasRows l.reached l.entered.specializations.items (l.fn.entered.instances.items ++ begun_row l.entry.origin ∷ []) l.entered.instances.items
+          (of_calls P p n l.values l.entry.level l.call ++ of_indexes P p n l.values l.entry.level l.call m l.callee.values.now l.index);
     }

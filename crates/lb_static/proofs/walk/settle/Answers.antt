@@ -1,8 +1,11 @@
 -- A specialization that is added is judged, as those before it.
 use Rattle.std.proofs.Common.{◌≡◌, ◌∙◌, ap, sym, subst, length, arith}
 use Rattle.std.specs.Prelude.{IfSome}
+use Rattle.lb_static.specs.SettledSpecializations.{AreSettled}
 use Rattle.lb_static.specs.Walked.{AreJudged, IsKnown}
+use Rattle.lb_static.proofs.SettledSpecializations.{settled_more}
 use Rattle.lb_static.proofs.WalkSteps.{judged_more, added_known}
+use Rattle.lb_static.proofs.WalkedRows.{row_set}
 use Rattle.lb_static.proofs.walk.settle.Goals as goal
 use Rattle.lb_static.proofs.walk.settle.Goals.{in-Some, in-None+in_ok-push-in-None}
 
@@ -30,3 +33,23 @@ returns-clause-known c =
           added_known before c.match-begun.entered.specializations.items _ c.match-begun.id
           (ap (λ e. e.specializations.items) w.entered-is ∙ w.in_ok-push-in-None.ensures.items) id
     ]
+
+pub returns-clause-settled : goal.returns-clause-settled
+returns-clause-settled c = λ r n at settled called.
+    let before = c.args.entered.now.specializations.items in
+    let after = c.match-begun.entered.specializations.items in
+    elim c.match-begun.branch [
+      | in-Some w ↦ subst (λ e. AreSettled r e.specializations.items) (sym w.entered-is) settled
+      | in-None+in_ok-push-in-None w ↦
+          settled_more r before after _ n settled at called
+          (ap (λ e. e.specializations.items) w.entered-is ∙ w.in_ok-push-in-None.ensures.items)
+    ]
+pub returns-clause-placed : goal.returns-clause-placed
+returns-clause-placed c = λ front back i at is.
+    let before = c.args.entered.now.instances.items in
+    let same : c.match-begun.entered.instances.items ≡ before =
+    elim c.match-begun.branch [
+      | in-Some w ↦ ap (λ e. e.instances.items) w.entered-is
+      | in-None+in_ok-push-in-None w ↦ ap (λ e. e.instances.items) w.entered-is
+    ] in
+    row_set c.match-begun.entered.instances.items before front back i c.index_mut.result.now c.args.row c.match-begun.id same at is c.index_mut.ensures.value

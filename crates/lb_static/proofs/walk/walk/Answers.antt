@@ -1,5 +1,5 @@
 -- The instances below the node under test are entered first, then those below the observer.
-use Rattle.std.proofs.Common.{◌≡◌, ◌<◌, ◌≤◌, List, [], length, Some, None, refl, ap, sym, subst, ◌∙◌, arith}
+use Rattle.std.proofs.Common.{◌≡◌, ◌<◌, ◌≤◌, List, [], length, Some, None, refl, ap, sym, subst, ◌∙◌, arith, ◌++◌}
 use Rattle.std.proofs.lemmas.Result.{err_from_is_err_and}
 use Rattle.std.proofs.lemmas.Option.{slice_get_past, slice_get-map}
 use Rattle.std.specs.Prelude.{slice_get, option_map}
@@ -8,18 +8,22 @@ use Rattle.lb_static.specs.Instances.{Program, Root, Observer, instances_from}
 use Rattle.lb_static.specs.InstanceTable.{instance_of}
 use Rattle.lb_static.specs.ReachedNodes.{tree_at}
 use Rattle.lb_static.specs.ResolvedNodes.{node_of}
+use Rattle.lb_static.specs.SettledSpecializations.{AreSettled}
 use Rattle.lb_static.specs.Walk.{walk_refusal}
 use Rattle.lb_static.specs.Walked.{IsWalkable, IsRefusal, AreEntered, AreJudged, IsKnown}
 use Rattle.lb_static.specs.declared.resolved.ResolvedNode.{ResolvedNode}
 use Rattle.lb_static.specs.declared.table.Specialization.{Specialization}
 use Rattle.lb_static.specs.declared.table.Table.{Table}
+use Rattle.lb_static.proofs.SettledSpecializations.{none_settled, are_specialized}
 use Rattle.lb_static.proofs.WalkSteps.{known_later}
-use Rattle.lb_static.proofs.WholeWalk.{walkable, none_judged, root_is, observer_is, no_observer, refused_first, refused_second, walked_alone, walked_both, there_is, has_starts, observer_stands, none_stands}
+use Rattle.lb_static.proofs.WholeWalk.{walkable, none_judged, root_is, observer_is, no_observer, refused_first, refused_second, walked_alone, walked_both, there_is, has_starts, observer_stands, none_stands, alone_are, both_are}
 use Rattle.lb_static.proofs.walk.walk.Goals as goal
 use Rattle.lb_static.proofs.walk.walk.Goals.{in-Some+in_ok-id-in-Some, in_default-2, in_default, In_ok-root}
+use Rattle.lb_static.specs.WalkedRows.{HasUsed, HasRows}
+use Rattle.lb_static.proofs.WalkedRows.{rows_grown, rows_more, used_more, are_instances}
 
-pub returns-in_err-root : goal.returns-in_err-root
-returns-in_err-root c =
+pub returns-in_err-root-clause-answer : goal.returns-in_err-root-clause-answer
+returns-in_err-root-clause-answer c =
     let p = err_from_is_err_and c.from_residual.result c.from_residual.ensures.1 in
     rw (p.1, p.2) (λ P names reached values.
     let r = c.args.reached.now in
@@ -48,8 +52,8 @@ root_entered c P w n at =
           (subst (λ vs. AreEntered P (length c.new-2.result.items) (instances_from P 65 (instance_of Root (node_of n) vs)) (length c.enter.new.entered.instances.items)) none entered.1),
     )
 
-pub returns-in_err-id-in-Some : goal.returns-in_err-id-in-Some
-returns-in_err-id-in-Some c =
+pub returns-in_err-id-in-Some-clause-answer : goal.returns-in_err-id-in-Some-clause-answer
+returns-in_err-id-in-Some-clause-answer c =
     let p = err_from_is_err_and c.from_residual-in_err-id-in-Some.result c.from_residual-in_err-id-in-Some.ensures.1 in
     rw (p.1, p.2) (λ P names reached values.
     let r = c.args.reached.now in
@@ -57,7 +61,7 @@ returns-in_err-id-in-Some c =
     let found = there_is r.nodes.items r.root.0 reached.root_within in
     let n = found.0 in
     let e = c.in_err-id-in-Some.field-0.0 in
-    let before = root_entered ((goal.at.returns-in_err-id-in-Some c).In_ok-root) P w n found.1 in
+    let before = root_entered ((goal.at.returns-in_err-id-in-Some-clause-answer c).In_ok-root) P w n found.1 in
     let within : c.in-Some.node.0 < length r.nodes.items = omega (arith, c.len.ensures, c.if-node-len.true) in
     let seen = there_is r.nodes.items c.in-Some.node.0 within in
     let m = seen.0 in
@@ -67,13 +71,13 @@ returns-in_err-id-in-Some c =
     (observer_is P r reached c.in-Some.node m c.in-Some.is seen.1) (length c.enter.new.entered.instances.items) e before.1
     (subst (λ vs. IsRefusal (walk_refusal P (length c.enter.new.entered.instances.items) (instances_from P 65 (instance_of Observer (node_of m) vs))) e) none refused))
 
-pub returns : goal.returns
-returns c = λ P names reached values.
+pub returns-clause-answer : goal.returns-clause-answer
+returns-clause-answer c = λ P names reached values.
     let r = c.args.reached.now in
     let w = walkable P r c.args.constants.now names reached values in
     let found = there_is r.nodes.items r.root.0 reached.root_within in
     let n = found.0 in
-    let before = root_entered ((goal.at.returns c).In_ok-root) P w n found.1 in
+    let before = root_entered ((goal.at.returns-clause-answer c).In_ok-root) P w n found.1 in
     let root = instance_of Root (node_of n) [] in
     let at_root = root_is P r reached n found.1 in
     let alone = λ (h : (r.observer >>= tree_at r) ≡ None). walked_alone P root at_root (length c.enter.new.entered.instances.items) before.1 (no_observer P r reached h) in
@@ -111,4 +115,104 @@ returns c = λ P names reached values.
           let h = ap (λ o. o >>= tree_at r) b.in-Some.is ∙ slice_get-map node_of r.nodes.items b.in-Some.node.0 ∙ ap (option_map node_of) (slice_get_past r.nodes.items b.in-Some.node.0 past) in
           (alone h, starts first (ap (λ e. e.specializations.items) b.entered-is) before.0 known (none_stands P r reached table h b.observer-is))
       | in_default b ↦ let h = ap (λ o. o >>= tree_at r) b.in_default.is in (alone h, starts first (ap (λ e. e.specializations.items) b.entered-is) before.0 known (none_stands P r reached table h b.observer-is))
+    ]
+
+pub returns-clause-specialized : goal.returns-clause-specialized
+returns-clause-specialized c = λ P names reached values.
+    let r = c.args.reached.now in
+    let w = walkable P r c.args.constants.now names reached values in
+    let found = there_is r.nodes.items r.root.0 reached.root_within in
+    let n = found.0 in
+    let first = c.enter.new.entered.specializations.items in
+    let judged : AreJudged P r first = (root_entered ((goal.at.returns-clause-specialized c).In_ok-root) P w n found.1).0 in
+    let settled : AreSettled r first =
+    c.in_ok-root.ensures.settled P Root n w found.1 refl (none_judged P r c.new.result.items c.new.ensures.items) (none_settled r c.new.result.items c.new.ensures.items) in
+    let after = c.match-reached.entered in
+    let table : Table = record {
+      specializations = after.specializations;
+      instances = after.instances;
+      root = c.in_ok-root.root;
+      observer = c.match-reached.observer;
+    } in
+    let all = λ (l : List Specialization) (e : after.specializations.items ≡ l) (j : AreJudged P r l) (s : AreSettled r l).
+    are_specialized P r c.args.constants.now w table (subst (AreJudged P r) (sym e) j) (subst (AreSettled r) (sym e) s) in
+    elim c.match-reached.branch [
+      | in-Some+in_ok-id-in-Some b ↦
+          let within : b.in-Some.node.0 < length r.nodes.items = omega (arith, b.len.ensures, b.if-node-len.true) in
+          let seen = there_is r.nodes.items b.in-Some.node.0 within in
+          let told = b.in_ok-id-in-Some.ensures in
+          all b.enter-in-Some.new.entered.specializations.items (ap (λ e. e.specializations.items) b.entered-is)
+          (told.ok P Observer seen.0 w seen.1 refl judged).0 (told.settled P Observer seen.0 w seen.1 refl judged settled)
+      | in_default-2 b ↦ all first (ap (λ e. e.specializations.items) b.entered-is) judged settled
+      | in_default b ↦ all first (ap (λ e. e.specializations.items) b.entered-is) judged settled
+    ]
+
+-- ## Rows
+
+-- the rows of the instances below the node under test
+root_rows : (c : In_ok-root) (P : Program) (w : IsWalkable P c.args.reached.now c.args.constants.now) (n : ResolvedNode)
+    → slice_get c.args.reached.now.nodes.items c.args.reached.now.root.0 ≡ Some n
+    → HasRows c.args.reached.now c.enter.new.entered.specializations.items [] c.enter.new.entered.instances.items (instances_from P 65 (instance_of Root (node_of n) []))
+root_rows c P w n at =
+    let r = c.args.reached.now in
+    let s = c.enter.new.entered.specializations.items in
+    let rows = c.enter.new.entered.instances.items in
+    let none = c.deref.ensures.value ∙ c.new-none.ensures.items in
+    let stand = c.in_ok-root.ensures.stand P Root n w at refl (none_judged P r c.new.result.items c.new.ensures.items) refl in
+    subst (λ l. HasRows r s l rows (instances_from P 65 (instance_of Root (node_of n) []))) c.new-2.ensures.items
+    (subst (λ vs. HasRows r s c.new-2.result.items rows (instances_from P 65 (instance_of Root (node_of n) vs))) none stand)
+
+root_used : (c : In_ok-root) → HasUsed [] c.enter.new.entered.specializations.items [] c.enter.new.entered.instances.items
+root_used c =
+    let s = c.enter.new.entered.specializations.items in
+    let rows = c.enter.new.entered.instances.items in
+    subst (λ l. HasUsed [] s l rows) c.new-2.ensures.items (subst (λ l. HasUsed l s c.new-2.result.items rows) c.new.ensures.items c.in_ok-root.ensures.used)
+
+pub returns-clause-rows : goal.returns-clause-rows
+returns-clause-rows c = λ P names reached values.
+    let r = c.args.reached.now in
+    let w = walkable P r c.args.constants.now names reached values in
+    let found = there_is r.nodes.items r.root.0 reached.root_within in
+    let n = found.0 in
+    let here = (goal.at.returns-clause-rows c).In_ok-root in
+    let before = root_entered here P w n found.1 in
+    let stand = root_rows here P w n found.1 in
+    let used = root_used here in
+    let root = instance_of Root (node_of n) [] in
+    let of_root = instances_from P 65 root in
+    let at_root = root_is P r reached n found.1 in
+    let after = c.match-reached.entered in
+    let table : Table = record {
+      specializations = after.specializations;
+      instances = after.instances;
+      root = c.in_ok-root.root;
+      observer = c.match-reached.observer;
+    } in
+    let first = c.enter.new.entered.specializations.items in
+    let rows = c.enter.new.entered.instances.items in
+    let alone = λ (h : (r.observer >>= tree_at r) ≡ None) (e : after.specializations.items ≡ first) (f : after.instances.items ≡ rows).
+    are_instances P r table first rows of_root e f (alone_are P root at_root (no_observer P r reached h)) stand used c.in_ok-root.ensures.room in
+    elim c.match-reached.branch [
+      | in-Some+in_ok-id-in-Some b ↦
+          let within : b.in-Some.node.0 < length r.nodes.items = omega (arith, b.len.ensures, b.if-node-len.true) in
+          let seen = there_is r.nodes.items b.in-Some.node.0 within in
+          let m = seen.0 in
+          let observer = instance_of Observer (node_of m) [] in
+          let below = instances_from P 65 observer in
+          let none = b.deref-in-Some.ensures.value ∙ c.new-none.ensures.items in
+          let last = b.enter-in-Some.new.entered.specializations.items in
+          let all = b.enter-in-Some.new.entered.instances.items in
+          let later = subst (λ vs. HasRows r last rows all (instances_from P 65 (instance_of Observer (node_of m) vs))) none
+          (b.in_ok-id-in-Some.ensures.stand P Observer m w seen.1 refl before.0 refl) in
+          are_instances P r table last all (of_root ++ below) (ap (λ e. e.specializations.items) b.entered-is) (ap (λ e. e.instances.items) b.entered-is)
+          (both_are P root at_root observer (observer_is P r reached b.in-Some.node m b.in-Some.is seen.1))
+          (rows_more r last [] rows all of_root below (rows_grown r first last [] rows of_root b.in_ok-id-in-Some.ensures.grown stand) later)
+          (used_more [] first last [] rows all used b.in_ok-id-in-Some.ensures.used)
+          b.in_ok-id-in-Some.ensures.room
+      | in_default-2 b ↦
+          let past : length r.nodes.items ≤ b.in-Some.node.0 = omega (arith, b.len.ensures, b.if-node-len.false) in
+          let h = ap (λ o. o >>= tree_at r) b.in-Some.is ∙ slice_get-map node_of r.nodes.items b.in-Some.node.0 ∙ ap (option_map node_of) (slice_get_past r.nodes.items b.in-Some.node.0 past) in
+          alone h (ap (λ e. e.specializations.items) b.entered-is) (ap (λ e. e.instances.items) b.entered-is)
+      | in_default b ↦
+          alone (ap (λ o. o >>= tree_at r) b.in_default.is) (ap (λ e. e.specializations.items) b.entered-is) (ap (λ e. e.instances.items) b.entered-is)
     ]

@@ -1,9 +1,0 @@
-use Rattle.std.proofs.Common.{◌≡◌, map, drop}
-use Rattle.lb_syntax.specs.SourceView.{view_node}
-use Rattle.lb_static.specs.Faults.{node_in_source}
-use Rattle.lb_static.specs.StaticValues.{named}
-use Rattle.lb_static.proofs.elaborate.node_named.Given as goal
-
-abbrev pub invariant-loop-node : goal.invariant-loop-node
-invariant-loop-node l =
-    node_in_source l.source l.name ≡ named (λ n. n.name) l.name (map view_node (drop l.node-index l.node-items))
