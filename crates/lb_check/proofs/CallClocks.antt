@@ -108,12 +108,12 @@ module _ (texts : Texts) (n : Counts) (as_many : n.variables ≡ length texts.va
 
 -- ## What is given for an input
 
-skipped : (o : Option Name) (c x : Name) (rest : Given) → bytes_eq c x ≡ false
+pub skipped : (o : Option Name) (c x : Name) (rest : Given) → bytes_eq c x ≡ false
     → named (λ g. g.0) x (listed (λ y. (c, y) ∷ []) o ++ rest) ≡ named (λ g. g.0) x rest
 skipped None c x rest other = refl
 skipped (Some y) c x rest other = rw other refl
 
-none_given : (x : Name) (ds : List Declaration) (es : tree.Exprs) → among x (map (λ d. d.name) ds) ≡ false → named (λ g. g.0) x (given_inputs ds es) ≡ None
+pub none_given : (x : Name) (ds : List Declaration) (es : tree.Exprs) → among x (map (λ d. d.name) ds) ≡ false → named (λ g. g.0) x (given_inputs ds es) ≡ None
 none_given x [] es a = refl
 none_given x (c ∷ ds) tree.Nil a = refl
 none_given x (c ∷ ds) (tree.Cons e es) a =

@@ -247,7 +247,7 @@ within_one n v (Some s) is e =
     let here = and_second (are_statics n v.first_size v.sizes) _ e in
     rw is (rw is at here)
 
-within_all : (n : Counts) (vs : List Variable) → list_all (is_declared_within n) vs ≡ true → list_all (waits_below n.variables) vs ≡ true
+pub within_all : (n : Counts) (vs : List Variable) → list_all (is_declared_within n) vs ≡ true → list_all (waits_below n.variables) vs ≡ true
 within_all n [] e = refl
 within_all n (v ∷ vs) e =
     rw (within_one n v v.clock refl (and_first _ (list_all (is_declared_within n) vs) e)) (within_all n vs (and_second (is_declared_within n v) _ e))
@@ -332,7 +332,7 @@ module _ (nodes : List Name) (r : ResolvedNode) (e : IsResolved nodes r) (distin
       → is_some (variable_clock (node_of r) x) ≡ is_some (depth_within (length r.variables.items + 1) r.variables.items i)
   place_some i x lt h = is_some_map depth (variable_clock (node_of r) x) ∙ ap is_some (place_is i x lt h)
 
-  inputs_clocked : list_all (is_clocked_by (node_of r).inputs) (node_of r).inputs ≡ list_all (waits_below r.inputs) (take r.inputs r.variables.items)
+  pub inputs_clocked : list_all (is_clocked_by (node_of r).inputs) (node_of r).inputs ≡ list_all (waits_below r.inputs) (take r.inputs r.variables.items)
   inputs_clocked =
       let f = declaration_of names_here (statics_of r) in
       let k = length (node_of r).inputs in
@@ -343,7 +343,7 @@ module _ (nodes : List Name) (r : ResolvedNode) (e : IsResolved nodes r) (distin
       k (node_of r).inputs (take k names_here) (take k vs_here) (same_taken k names_here vs_here (sym as_many_names)) firsts (all_taken _ k vs_here within_names)
       ∙ ap (λ m. list_all (waits_below m) (take m vs_here)) (sym e.inputs)
 
-  outputs_clocked : list_all (is_clocked_by ((node_of r).inputs ++ (node_of r).outputs)) (node_of r).outputs
+  pub outputs_clocked : list_all (is_clocked_by ((node_of r).inputs ++ (node_of r).outputs)) (node_of r).outputs
       ≡ list_all (waits_below (r.inputs + r.outputs)) (take r.outputs (drop r.inputs r.variables.items))
   outputs_clocked =
       let f = declaration_of names_here (statics_of r) in

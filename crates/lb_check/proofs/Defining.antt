@@ -1,15 +1,10 @@
 -- The statements, terms and calls of a node from a place on.
-use Rattle.std.proofs.Common.{◌≡◌, ◌⊎◌, inl, inr, ℕ, zero, suc, ◌+◌, ◌<◌, ◌≤◌, Bool, true, false, List, [], ◌∷◌, length, drop, get_or, set, Vec, Global, refl, ap, sym, ◌∙◌, subst}
-use Rattle.std.specs.Prelude.{◌&&◌, ◌||◌, if◌then◌else◌, ◌==◌, slice_get}
-use Rattle.std.proofs.lemmas.List.{drop_more, length-map}
-use Rattle.std.proofs.lemmas.Option.{slice_get_past, slice_get_read, get_or_from_slice_get}
+use Rattle.std.proofs.Common.{◌≡◌, ◌⊎◌, inl, inr, ℕ, ◌+◌, ◌<◌, List, length, drop, get_or, Vec, Global, refl, ap, ◌∙◌}
+use Rattle.std.specs.Prelude.{◌&&◌, ◌||◌, if◌then◌else◌, ◌==◌}
+use Rattle.std.proofs.lemmas.List.{drop_more}
 use mathlib.Core.Former.{Count}
 use Rattle.lb_syntax.specs.declared.tree.ArrayIterator.{ArrayIterator}
 use Rattle.lb_syntax.specs.declared.tree.BinaryOperator.{BinaryOperator}
-use Rattle.lb_syntax.specs.Lists.{holds}
-use Rattle.lb_static.specs.ReachedNodes.{trees}
-use Rattle.lb_static.specs.ResolvedNodes.{node_of}
-use Rattle.lb_static.specs.declared.reach.NodeId.{NodeId}
 use Rattle.lb_static.specs.declared.reach.Reached.{Reached}
 use Rattle.lb_static.specs.declared.resolved.CallId.{CallId}
 use Rattle.lb_static.specs.declared.resolved.CallSite.{CallSite}
@@ -17,10 +12,7 @@ use Rattle.lb_static.specs.declared.resolved.StaticId.{StaticId}
 use Rattle.lb_static.specs.declared.resolved.VariableId.{VariableId}
 use Rattle.lb_static.specs.declared.resolved.Step.{Step}
 use Rattle.lb_static.specs.declared.resolved.Term.{Term, Array, AtMostOne, Nor, Call, IterateNode, IterateSymbol, Array', AtMostOne', Nor', Call', IterateNode', IterateSymbol', Row_of-Term, end_of-Term, more_of-Term, items-the_row-Term, items_hidden-the_row-Term-0}
-use Rattle.lb_static.specs.declared.table.Specialization.{Specialization}
-use Rattle.lb_static.specs.Instances.{Program}
-use Rattle.lb_check.specs.DefinitionRules.{is_defined}
-use Rattle.lb_check.specs.NodeDefinitions.{count_left, count_step, count_steps, has_memory, row_memory, any_memory, step_memory, steps_memory, calls_function, call_functions, is_defined_at, are_defined_at}
+use Rattle.lb_check.specs.NodeDefinitions.{count_left, count_step, count_steps, has_memory, row_memory, any_memory, step_memory, steps_memory, calls_function, call_functions}
 
 pub count_next : (k : ℕ) (xs : List VariableId) (i : ℕ) (d : VariableId) → i < length xs
     → count_left k (drop i xs) ≡ (if (get_or xs i d).0 == k then 1 else 0) + count_left k (drop (i + 1) xs)
@@ -37,37 +29,6 @@ steps_next ss i d lt = ap steps_memory (drop_more ss i d lt)
 pub calls_next : (r : Reached) (ss : List CallSite) (i : ℕ) (d : CallSite) → i < length ss
     → call_functions r (drop i ss) ≡ calls_function r (get_or ss i d) && call_functions r (drop (i + 1) ss)
 calls_next r ss i d lt = ap (call_functions r) (drop_more ss i d lt)
-
--- ## Nodes that are judged
-
-pub defined_next : (P : Program) (r : Reached) (ss : List Specialization) (i : ℕ) (s : Specialization) → i < length ss → s ≡ get_or ss i s
-    → are_defined_at P r (drop i ss) ≡ is_defined_at P r s.node && are_defined_at P r (drop (i + 1) ss)
-defined_next P r ss i s lt is =
-    ap (are_defined_at P r) (drop_more ss i s lt) ∙ ap (λ (x : Specialization). is_defined_at P r x.node && are_defined_at P r (drop (i + 1) ss)) (sym is)
-
--- a node that is not there
-pub not_there : (P : Program) (r : Reached) (id : NodeId) → length r.nodes.items ≤ id.0 → is_defined_at P r id ≡ false
-not_there P r id le =
-    let many = length-map r.nodes.items node_of in
-    ap (holds (is_defined P)) (slice_get_past (trees r) id.0 (subst (λ n. n ≤ id.0) (sym many) le))
-
-pub same_place : (P : Program) (r : Reached) (id other : NodeId) → id.0 ≡ other.0 → is_defined_at P r id ≡ is_defined_at P r other
-same_place P r id other e = ap (λ k. holds (is_defined P) (slice_get (trees r) k)) e
-
--- what is marked is what is marked now or was before
-pub marked : (xs : List Bool) (k i : ℕ) → get_or (set xs k true) i false ≡ true → (i ≡ k) ⊎ (get_or xs i false ≡ true)
-marked [] k i e = inr e
-marked (x ∷ xs) zero zero e = inl refl
-marked (x ∷ xs) zero (suc i) e = inr e
-marked (x ∷ xs) (suc k) zero e = inr e
-marked (x ∷ xs) (suc k) (suc i) e = by (marked xs k i e)
-  where
-    by : (i ≡ k) ⊎ (get_or xs i false ≡ true) → (suc i ≡ suc k) ⊎ (get_or (x ∷ xs) (suc i) false ≡ true)
-    by (inl is) = inl (ap suc is)
-    by (inr was) = inr was
-
-pub is_marked : (xs : List Bool) (k : ℕ) (b : Bool) → k < length xs → b ≡ get_or xs k b → b ≡ true → get_or xs k false ≡ true
-is_marked xs k b lt is e = get_or_from_slice_get xs k b false (slice_get_read xs (length xs) k b refl lt is) ∙ e
 
 -- ## The row of terms in a term is the list in its vector
 

@@ -26,7 +26,7 @@ use Rattle.lb_check.specs.TypeRules.{declared_shape}
 use Rattle.lb_check.specs.TermTypes.{count_at, declared_type, variable_at, repeats_of, repeats_at}
 use Rattle.lb_check.proofs.FittedTypes.{count_is, declared_is, declared_at, unfound}
 use Rattle.lb_check.proofs.TableRows.{all_at}
-use Rattle.lb_check.proofs.PlainNames.{held_at}
+use Rattle.lb_check.proofs.DistinctNames.{held_at}
 
 and_second : (a b : Bool) → (a && b) ≡ true → b ≡ true
 and_second true b e = e

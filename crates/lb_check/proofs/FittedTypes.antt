@@ -17,7 +17,7 @@ use Rattle.lb_static.specs.ResolvedTerms.{declaration_of, static_at, statics_at}
 use Rattle.lb_static.specs.Shapes.{Shape, shape_of}
 use Rattle.lb_static.specs.StaticValues.{named, natural}
 use Rattle.lb_check.specs.TermTypes.{wholes, count_at, declared_type}
-use Rattle.lb_check.proofs.PlainNames.{not_among}
+use Rattle.lb_check.proofs.DistinctNames.{not_among}
 
 and_first : (a b : Bool) → (a && b) ≡ true → a ≡ true
 and_first true b e = refl

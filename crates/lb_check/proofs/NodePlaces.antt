@@ -21,15 +21,15 @@ pub and_second : (a b : Bool) → (a && b) ≡ true → b ≡ true
 and_second true b e = e
 and_second false b e = absurd cc
 
-not_true : (b : Bool) → not b ≡ true → b ≡ false
+pub not_true : (b : Bool) → not b ≡ true → b ≡ false
 not_true true e = absurd cc
 not_true false e = refl
 
-or_first : (a b : Bool) → (a || b) ≡ false → a ≡ false
+pub or_first : (a b : Bool) → (a || b) ≡ false → a ≡ false
 or_first true b e = absurd cc
 or_first false b e = refl
 
-or_second : (a b : Bool) → (a || b) ≡ false → b ≡ false
+pub or_second : (a b : Bool) → (a || b) ≡ false → b ≡ false
 or_second true b e = absurd cc
 or_second false b e = e
 
@@ -63,13 +63,13 @@ among_first x (y ∷ ys) zs e =
     let b = among_first x ys zs (or_second (bytes_eq x y) _ e) in
     rw a b
 
-distinct_first : (xs ys : List Name) → are_distinct (xs ++ ys) ≡ true → are_distinct xs ≡ true
+pub distinct_first : (xs ys : List Name) → are_distinct (xs ++ ys) ≡ true → are_distinct xs ≡ true
 distinct_first [] ys e = refl
 distinct_first (x ∷ xs) ys e =
     let a = among_first x xs ys (not_true _ (and_first _ (are_distinct (xs ++ ys)) e)) in
     rw a (distinct_first xs ys (and_second (not (among x (xs ++ ys))) _ e))
 
-distinct_second : (xs ys : List Name) → are_distinct (xs ++ ys) ≡ true → are_distinct ys ≡ true
+pub distinct_second : (xs ys : List Name) → are_distinct (xs ++ ys) ≡ true → are_distinct ys ≡ true
 distinct_second [] ys e = e
 distinct_second (x ∷ xs) ys e = distinct_second xs ys (and_second (not (among x (xs ++ ys))) _ e)
 

@@ -25,7 +25,7 @@ use Rattle.lb_check.specs.ClockDepths.{awaited}
 use Rattle.lb_check.specs.OwnClocks.{HasClocks, name_in, clock_in, is_clock_within}
 use Rattle.lb_check.specs.declared.own_clock.Clock.{Clock as Compared}
 use Rattle.lb_check.specs.declared.own_clock.Clock.TheVariants as code
-use Rattle.lb_check.proofs.PlainDefinitions.{distinct_at}
+use Rattle.lb_check.proofs.DistinctNames.{distinct_at}
 use Rattle.lb_check.proofs.ClockedNodes.{held, at_place, at_name, as_many_names, are_awaited}
 
 and_second : (a b : Bool) → (a && b) ≡ true → b ≡ true
@@ -155,7 +155,7 @@ module _ (r : ResolvedNode) (h : HasClocks r) where
       distinct_at names x.0 y.0 (name_in r x) (name_in r y) h.distinct (name_of_place x v.0 v.1 lx).0 (name_of_place y w.0 w.1 ly).0
 
   -- a clock is the same as itself
-  clock_itself : (k : Clock) → is_clock k k ≡ true
+  pub clock_itself : (k : Clock) → is_clock k k ≡ true
   clock_itself Base = refl
   clock_itself (On k x true) = let e = (bytes_eq-Decides x x).1 refl in rw e (clock_itself k)
   clock_itself (On k x false) = let e = (bytes_eq-Decides x x).1 refl in rw e (clock_itself k)
@@ -170,7 +170,7 @@ module _ (r : ResolvedNode) (h : HasClocks r) where
       subst (λ z. is_clock k (declared_clock (node_of r) z) ≡ true) one (clock_itself k) in
       rw (e, itself) (sym (and_true (same sign other)))
 
-  same_clock : (x y : VariableId) (sign other : Bool) → is_variable (counts_of r) x ≡ true → is_variable (counts_of r) y ≡ true
+  pub same_clock : (x y : VariableId) (sign other : Bool) → is_variable (counts_of r) x ≡ true → is_variable (counts_of r) y ≡ true
       → ((y.0 == x.0) && same sign other) ≡ is_clock (clock_in r (code.On x sign)) (clock_in r (code.On y other))
   same_clock x y sign other wx wy = same_or_not x y sign other (y.0 == x.0) refl (same_variable x y wx wy)
 

@@ -30,7 +30,7 @@ use Rattle.lb_check.specs.TermTypes.{Context, context_of, results, variable_at, 
 use Rattle.lb_check.proofs.FittedCalls.{node_at, standing, values_at, call_is}
 use Rattle.lb_check.proofs.FittedScopes.{length_map, variable_is, left_is, value_is, static_is, repeats_is, call_at}
 use Rattle.lb_check.proofs.MirroredTypes.{Fits, term_results}
-use Rattle.lb_check.proofs.PlainNames.{distinct_first}
+use Rattle.lb_check.proofs.DistinctNames.{distinct_first}
 use Rattle.lb_check.proofs.TableRows.{each_judged}
 
 and_first : (a b : Bool) → (a && b) ≡ true → a ≡ true
@@ -151,7 +151,7 @@ module _ (P : Program) (r : Reached) (t : Table) (j : IsJudged P r t) (i : ℕ) 
       let node = node_of n in
       let clocks = ap (list_all (is_clock_typed P here)) (sym resolved.declared)
       ∙ clocks_are names n.variables.items (resolved.as_many ∙ sym (length_map (λ d. d.name) (variables node))) resolved.declared_within in
-      let steps = ap (list_all (is_statement_typed P here)) (sym resolved.body) ∙ steps_are n.body.items resolved.body_within (j.unhidden s.node.0 n at) in
+      let steps = ap (list_all (is_statement_typed P here)) (sym resolved.body) ∙ steps_are n.body.items resolved.body_within resolved.unhidden in
       ap (λ b. b && list_all (is_statement_typed P here) node.body) clocks ∙ ap (λ b. list_all (mirror.is_variable_typed ctx) n.variables.items && b) steps
 
 -- each specialization is typed where each instance is

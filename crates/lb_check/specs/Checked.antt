@@ -1,7 +1,7 @@
 -- What a check of a program promises to the layer above.
 -- This file says what data of the program mean; no definition of the language stands on it.
 use Rattle.std.specs.Prelude.{◌≡◌, Some, None, Result, Ok, Err}
-use Rattle.lb_syntax.specs.Refusals.{E9, E11}
+use Rattle.lb_syntax.specs.Refusals.{E9, E10, E11}
 use Rattle.lb_static.specs.Instances.{Program}
 use Rattle.lb_check.specs.declared.checked.Checked.{Checked}
 use Rattle.lb_check.specs.declared.error.CheckError.{CheckError}
@@ -13,5 +13,6 @@ use Rattle.lb_check.specs.Acceptance.{check_refusal}
 abbrev pub IsAnswer : Program → Result Checked CheckError → Type 0
 IsAnswer P (Ok c) = check_refusal P ≡ None
 IsAnswer P (Err error.Memory) = Unit {0}
-IsAnswer P (Err error.Type) = check_refusal P ≡ Some E9
-IsAnswer P (Err error.Definition) = check_refusal P ≡ Some E11
+IsAnswer P (Err (error.Type node)) = check_refusal P ≡ Some E9
+IsAnswer P (Err (error.Clock node)) = check_refusal P ≡ Some E10
+IsAnswer P (Err (error.Definition node)) = check_refusal P ≡ Some E11

@@ -1,16 +1,12 @@
 -- What is known of a program when its types, clocks and definitions are judged.
 -- This file says what data of the program mean; no definition of the language stands on it.
-use Rattle.std.specs.Prelude.{◌≡◌, ℕ, true, None, Some, slice_get}
-use Rattle.std.specs.List.{list_all}
+use Rattle.std.specs.Prelude.{◌≡◌, true, None}
 use Rattle.lb_static.specs.InstanceTable.{IsTable}
 use Rattle.lb_static.specs.Instances.{Program, instances}
 use Rattle.lb_static.specs.Names.{keeps_names}
 use Rattle.lb_static.specs.ReachedNodes.{IsReached}
-use Rattle.lb_static.specs.ResolvedNodes.{texts_of}
-use Rattle.lb_static.specs.ResolvedTerms.{is_step_unhidden}
 use Rattle.lb_static.specs.Walk.{walk_refusal}
 use Rattle.lb_static.specs.declared.reach.Reached.{Reached}
-use Rattle.lb_static.specs.declared.resolved.ResolvedNode.{ResolvedNode}
 use Rattle.lb_static.specs.declared.table.Table.{Table}
 
 -- its names are known, its instances stand in a table, and no static value is missing or out of
@@ -19,7 +15,4 @@ pub record IsJudged (P : Program) (r : Reached) (t : Table) : Type 0 where
   pub names : keeps_names P ≡ true
   pub reached : IsReached P r
   pub table : IsTable P r t
-  -- where a node names a static parameter or a constant, no variable of its own hides it
-  pub unhidden : (i : ℕ) (n : ResolvedNode) → slice_get r.nodes.items i ≡ Some n →
-      list_all (is_step_unhidden (texts_of n)) n.body.items ≡ true
   pub walked : walk_refusal P 0 (instances P) ≡ None

@@ -1,22 +1,22 @@
-//! What calls give for the clock variables of the nodes that they call.
+//! On which clocks calls stand (E10).
 
-ghost use Rattle.std.specs.Prelude.{◌≡◌, true, List, length};
+ghost use Rattle.std.specs.Prelude.{◌≡◌, ◌+◌, ◌∷◌, [], List, take, drop, IfOk};
 ghost use Rattle.std.specs.List.{list_all};
-ghost use Rattle.lb_syntax.specs.Tree.{Name};
-ghost use Rattle.lb_static.specs.Names.{are_distinct};
-ghost use Rattle.lb_static.specs.Parts.{variable_names};
-ghost use Rattle.lb_static.specs.ResolvedNodes.{IsResolved, counts_of, node_of, texts_of};
-ghost use Rattle.lb_static.specs.ResolvedTerms.{exprs_of, is_unhidden, is_within};
-ghost use Rattle.lb_static.specs.declared.resolved.ResolvedNode as resolved;
-ghost use Rattle.lb_check.specs.ClockRules.{are_given_variables};
-ghost use Rattle.lb_check.specs.CallClocks as mirror;
+ghost use Rattle.lb_static.specs.declared.resolved.VariableId as named;
+ghost use Rattle.lb_check.specs.CallClocks as variables;
+ghost use Rattle.lb_check.specs.StoredStandings.{clocks_of, context_in, given_in};
+ghost use Rattle.lb_check.specs.TermClocks as mirror;
 
-use lb_static::resolved::{ResolvedNode, Term, Variable, VariableId};
+use crate::own_clock::Clock;
+use crate::standing::{Operand, Standing};
+use crate::term_clock::ClockScope;
+use lb_static::resolved::{ResolvedNode, Sampling, Term, Variable, VariableId};
+use std::alloc::{AllocError, Global};
 
 /// The variable that a term is, in parentheses or not.
 #[tactic(auto, unfolding(crate::specs::CallClocks::variable_of))]
-fn variable_of(term: &Term) -> Option<VariableId>
-    ensures { result ≡ mirror.variable_of term.now }
+pub fn variable_of(term: &Term) -> Option<VariableId>
+    ensures { result ≡ variables.variable_of term.now }
 {
     match term {
         Term::Variable(x) => Some(*x),
@@ -25,68 +25,379 @@ fn variable_of(term: &Term) -> Option<VariableId>
     }
 }
 
-/// Whether a parameter that waits for one of so many inputs waits for a given variable.
-fn is_given(variable: &Variable, inputs: usize, arguments: &[Term]) -> bool
-    ensures { result ≡ mirror.is_given inputs arguments.now variable.now }
+/// The variables of the caller that stand for those of a callee.
+#[derive(Clone, Copy)]
+pub enum Given<'a> {
+    /// The operands of a call within a term.
+    Nested(&'a [Operand]),
+    /// Those of a call that is a whole right side, for so many inputs, and the left variables for
+    /// the outputs.
+    Whole(usize, &'a [Operand], &'a [VariableId]),
+}
+
+/// The variable that an operand is.
+fn given_at(operands: &[Operand], place: usize) -> Option<VariableId>
+    ensures { result ≡ mirror.given_at operands.now place }
 {
-    let Some(clock) = variable.clock else {
-        return true;
-    };
-    let place = clock.variable.0 as usize;
-    if place >= inputs {
-        return true;
+    operands.get(place)?.variable
+}
+
+impl Given<'_> {
+    /// What stands for the variable of the callee at a place.
+    fn at(&self, place: usize) -> Option<VariableId>
+        ensures { result ≡ given_in self.now place }
+    {
+        match *self {
+            Given::Nested(operands) => given_at(operands, place),
+            Given::Whole(inputs, operands, lefts) => {
+                if place < inputs {
+                    given_at(operands, place)
+                } else {
+                    lefts.get(place - inputs).copied()
+                }
+            }
+        }
     }
-    if place >= arguments.len() {
-        return false;
+}
+
+/// Some of the variables of a node: so many from a place on, or as many as there are.
+fn variables_from<'t>(node: &'t ResolvedNode, first: usize, count: usize) -> &'t [Variable]
+    ensures { result.now ≡ take count (drop first node.now.variables.items) }
+{
+    let variables = node.variables.as_slice();
+    if variables.len() <= first {
+        return &variables[..0];
     }
-    variable_of(&arguments[place]).is_some()
+    let rest = &variables[first..];
+    if rest.len() <= count {
+        rest
+    } else {
+        &rest[..count]
+    }
+}
+
+/// The inputs and outputs of a node.
+fn parameters<'t>(node: &'t ResolvedNode) -> &'t [Variable]
+    ensures { result.now ≡ take (node.now.inputs + node.now.outputs) node.now.variables.items }
+{
+    let variables = node.variables.as_slice();
+    if variables.len() <= node.inputs || variables.len() - node.inputs <= node.outputs {
+        variables
+    } else {
+        &variables[..node.inputs + node.outputs]
+    }
+}
+
+/// Whether the parameter that a clock waits for, if it is one of so many inputs, is given a
+/// variable.
+fn is_given(inputs: usize, operands: &[Operand], clock: Option<Sampling>) -> bool
+    ensures { result ≡ mirror.is_given inputs operands.now clock }
+{
+    match clock {
+        Some(clock) => {
+            let place = clock.variable.0 as usize;
+            place >= inputs || given_at(operands, place).is_some()
+        }
+        None => true,
+    }
 }
 
 /// Whether a call gives a variable for each input that is the clock variable of a parameter of the
 /// node that it calls.
-#[tactic(auto, using(crate::proofs::CallClocks::given_next))]
-pub fn are_given_variables(callee: &ResolvedNode, arguments: &[Term]) -> bool
-    requires resolved { (nodes : List Name) × IsResolved nodes callee.now }
-    ensures { (here : resolved.ResolvedNode) →
-        are_distinct (variable_names (node_of callee.now)) ≡ true →
-        length here.variables.items ≡ length (variable_names (node_of here)) →
-        list_all (is_within (counts_of here)) arguments.now ≡ true →
-        list_all (is_unhidden (texts_of here)) arguments.now ≡ true →
-        result ≡ are_given_variables (node_of here) (node_of callee.now)
-        (exprs_of (texts_of here) arguments.now) }
+pub fn are_given(callee: &ResolvedNode, operands: &[Operand]) -> bool
+    ensures { result ≡ mirror.are_given callee.now operands.now }
 {
-    for variable in &callee.variables[..callee.inputs + callee.outputs] {
-        if !is_given(variable, callee.inputs, arguments) {
+    for variable in parameters(callee) {
+        if !is_given(callee.inputs, operands, variable.clock) {
             return false;
         }
     }
     true
 }
 
+/// The base clock of a callee, if an operand determines it: its parameter is on the base clock, and
+/// it stands on one clock alone.
+fn determined(clock: Option<Sampling>, standing: Standing) -> Option<Clock>
+    ensures { result ≡ mirror.base_of (clock ∷ []) (standing ∷ []) }
+{
+    match (clock, standing) {
+        (None, Standing::Only(own)) => Some(own),
+        _ => None,
+    }
+}
+
+/// The base clock of a callee: that which the first operand determines that determines one.
+#[tactic(auto, using(crate::proofs::StandingRows::beside))]
+fn base_of(parameters: &[Variable], operands: &[Operand]) -> Option<Clock>
+    ensures { result ≡ mirror.base_of (clocks_of parameters.now) (mirror.standings operands.now) }
+{
+    for i in 0..parameters.len() {
+        if operands.len() <= i {
+            return None;
+        }
+        if let Some(base) = determined(parameters[i].clock, operands[i].standing) {
+            return Some(base);
+        }
+    }
+    None
+}
+
+/// The clock of a parameter as the caller sees it, if it sees one: that on which the callee runs,
+/// or one on which a variable that stands there for one of the callee has a sign.
+fn expected(base: Option<Clock>, given: &Given, clock: Option<Sampling>) -> Option<Clock>
+    ensures { result ≡ mirror.expected base (given_in given.now) clock }
+{
+    match clock {
+        Some(clock) => {
+            let variable = given.at(clock.variable.0 as usize)?;
+            Some(Clock::On(variable, clock.sign))
+        }
+        None => base,
+    }
+}
+
+/// Whether each operand may stand on the clock of its parameter.
+#[tactic(auto, using(crate::proofs::StandingRows::beside))]
+fn all_fit(
+    base: Option<Clock>,
+    given: &Given,
+    parameters: &[Variable],
+    operands: &[Operand],
+) -> bool
+    ensures { result ≡ mirror.all_fit base (given_in given.now) (clocks_of parameters.now)
+        (mirror.standings operands.now) }
+{
+    for i in 0..parameters.len() {
+        if operands.len() <= i {
+            return true;
+        }
+        let clock = expected(base, given, parameters[i].clock);
+        if !operands[i].standing.may_stand(clock) {
+            return false;
+        }
+    }
+    true
+}
+
+/// Where the first result of a callee stands.
+fn first_result(base: Option<Clock>, given: &Given, outputs: &[Variable]) -> Standing
+    ensures { result ≡ mirror.first_result base (given_in given.now) (clocks_of outputs.now) }
+{
+    let clock = match outputs {
+        [first, ..] => expected(base, given, first.clock),
+        [] => base,
+    };
+    match clock {
+        Some(clock) => Standing::Only(clock),
+        None => Standing::Anywhere,
+    }
+}
+
+/// Where a call with one result may stand.
+pub fn call_standing(callee: &ResolvedNode, operands: &[Operand]) -> Standing
+    ensures { result ≡ mirror.call_standing callee.now operands.now }
+{
+    let inputs = variables_from(callee, 0, callee.inputs);
+    let base = base_of(inputs, operands);
+    let given = &Given::Nested(operands);
+    if are_given(callee, operands) && all_fit(base, given, inputs, operands) {
+        let outputs = variables_from(callee, callee.inputs, callee.outputs);
+        first_result(base, given, outputs)
+    } else {
+        Standing::Nowhere
+    }
+}
+
+/// Whether no parameter of a node has a clock of its own.
+pub fn is_unclocked(node: &ResolvedNode) -> bool
+    ensures { result ≡ mirror.is_unclocked node.now }
+{
+    for variable in parameters(node) {
+        if variable.clock.is_some() {
+            return false;
+        }
+    }
+    true
+}
+
+/// Left variables as operands: each stands on its declared clock alone.
+fn left_operands(
+    alloc: Global,
+    scope: &ClockScope,
+    lefts: &[VariableId],
+) -> Result<Vec<Operand>, AllocError>
+    ensures { IfOk result (λ results.
+        mirror.standings results.items ≡ mirror.left_standings (context_in scope.now) lefts.now) }
+{
+    let mut results = Vec::new(alloc);
+    for left in lefts {
+        results.push(Operand {
+            standing: Standing::Only(scope.variable(*left)),
+            variable: Some(*left),
+        })?;
+    }
+    Ok(results)
+}
+
+/// The base clock of a callee whose results are those of an equation: the first that they, or else
+/// the operands, determine.
+fn result_base(callee: &ResolvedNode, operands: &[Operand], results: &[Operand]) -> Option<Clock>
+    ensures { (ctx : mirror.Context) (lefts : List named.VariableId) →
+        mirror.standings results.now ≡ mirror.left_standings ctx lefts →
+        result ≡ mirror.result_base ctx callee.now operands.now lefts }
+{
+    if results.is_empty() {
+        return Some(Clock::Base);
+    }
+    let outputs = variables_from(callee, callee.inputs, callee.outputs);
+    match base_of(outputs, results) {
+        Some(clock) => Some(clock),
+        None => base_of(variables_from(callee, 0, callee.inputs), operands),
+    }
+}
+
+/// Whether the operands of a call that is a whole right side, and the left variables as its
+/// results, stand on the clocks of the parameters.
+pub fn is_call_clocked(
+    alloc: Global,
+    scope: &ClockScope,
+    callee: &ResolvedNode,
+    operands: &[Operand],
+    lefts: &[VariableId],
+) -> Result<bool, AllocError>
+    ensures { IfOk result (λ kept.
+        kept ≡ mirror.is_call_clocked (context_in scope.now) callee.now operands.now lefts.now) }
+{
+    if lefts.len() != callee.outputs || !are_given(callee, operands) {
+        return Ok(false);
+    }
+    let results = left_operands(alloc, scope, lefts)?;
+    let base = result_base(callee, operands, &results);
+    let given = &Given::Whole(callee.inputs, operands, lefts);
+    let inputs = variables_from(callee, 0, callee.inputs);
+    let outputs = variables_from(callee, callee.inputs, callee.outputs);
+    Ok(all_fit(base, given, inputs, operands) && all_fit(base, given, outputs, &results))
+}
+
 #[cfg(test)]
 mod tests {
     use super::*;
-    use lb_static::resolved::{Sampling, StaticId};
-    use lb_syntax::tree::Kind;
+    use crate::own_clock::is_same;
+    use lb_static::judge_names::judge_names;
+    use lb_syntax::parse::parse;
+    use std::test::Fail;
 
-    // node f(c: bool; x: int when c), node g(x: int) returns (c: bool; y: int when c)
+    const BASE: Clock = Clock::Base;
+
+    const RISES: Clock = Clock::On(VariableId(5), true);
+
+    const FALLS: Clock = Clock::On(VariableId(5), false);
+
+    /// A variable on this clock.
+    fn variable(x: u32, clock: Clock) -> Operand {
+        Operand {
+            standing: Standing::Only(clock),
+            variable: Some(VariableId(x)),
+        }
+    }
+
+    /// An operand that is no variable.
+    fn other(standing: Standing) -> Operand {
+        Operand {
+            standing,
+            variable: None,
+        }
+    }
+
+    /// Whether two are the same.
+    fn is(left: Standing, right: Standing) -> bool {
+        match (left, right) {
+            (Standing::Nowhere, Standing::Nowhere) => true,
+            (Standing::Anywhere, Standing::Anywhere) => true,
+            (Standing::Only(left), Standing::Only(right)) => is_same(left, right),
+            _ => false,
+        }
+    }
+
+    /// Whether a call of the node `f` with these operands stands there.
+    fn stands(
+        alloc: Global,
+        text: &[u8],
+        operands: &[Operand],
+        expected: Standing,
+    ) -> Result<bool, Fail> {
+        let source = parse(alloc, text)?;
+        let reached = judge_names(alloc, &source, "f", None)?;
+        match reached.nodes.get(0) {
+            Some(node) => Ok(is(call_standing(node, operands), expected)),
+            None => Ok(false),
+        }
+    }
+
     #[test]
-    fn what_stands_for_a_clock_variable(rt: HostRuntime) {
-        let clocked = Variable {
-            kind: Kind::Int,
-            first_size: StaticId(0),
-            sizes: 0,
-            clock: Some(Sampling {
-                variable: VariableId(1),
-                sign: true,
-            }),
-        };
-        let variable = [Term::Truth(true), Term::Variable(VariableId(4))];
-        let literal = [Term::Variable(VariableId(4)), Term::Truth(true)];
-        let none = [Term::Variable(VariableId(4))];
-        assert!(rt; is_given(&clocked, 2, &variable));
-        assert!(rt; !is_given(&clocked, 2, &literal));
-        assert!(rt; !is_given(&clocked, 2, &none));
-        assert!(rt; is_given(&clocked, 1, &none));
+    fn clocked_parameters(rt: HostRuntime) -> Result<(), Fail> {
+        let alloc = rt.alloc();
+        let text = b"node f(c: bool; x: int when c) returns (y: int when c); let y = x; tel";
+        let rows = [
+            (
+                variable(5, BASE),
+                other(Standing::Only(RISES)),
+                Standing::Only(RISES),
+            ),
+            (
+                variable(5, BASE),
+                other(Standing::Anywhere),
+                Standing::Only(RISES),
+            ),
+            (
+                variable(6, RISES),
+                other(Standing::Anywhere),
+                Standing::Only(Clock::On(VariableId(6), true)),
+            ),
+            (
+                variable(5, BASE),
+                other(Standing::Only(FALLS)),
+                Standing::Nowhere,
+            ),
+            (
+                variable(6, BASE),
+                other(Standing::Only(RISES)),
+                Standing::Nowhere,
+            ),
+            (
+                variable(5, BASE),
+                other(Standing::Only(BASE)),
+                Standing::Nowhere,
+            ),
+            (
+                variable(5, BASE),
+                other(Standing::Nowhere),
+                Standing::Nowhere,
+            ),
+            (
+                other(Standing::Anywhere),
+                other(Standing::Only(RISES)),
+                Standing::Nowhere,
+            ),
+        ];
+        for (condition, sampled, expected) in rows {
+            assert!(rt; stands(alloc, text, &[condition, sampled], expected)?);
+        }
+        assert!(rt; stands(alloc, text, &[], Standing::Nowhere)?);
+        Ok(())
+    }
+
+    #[test]
+    fn parameters_on_the_base_clock(rt: HostRuntime) -> Result<(), Fail> {
+        let alloc = rt.alloc();
+        let text = b"node f(x, y: int) returns (z: int); let z = x + y; tel";
+        let anywhere = other(Standing::Anywhere);
+        let rises = other(Standing::Only(RISES));
+        let falls = other(Standing::Only(FALLS));
+        assert!(rt; stands(alloc, text, &[anywhere, anywhere], Standing::Anywhere)?);
+        assert!(rt; stands(alloc, text, &[anywhere, rises], Standing::Only(RISES))?);
+        assert!(rt; stands(alloc, text, &[rises, rises], Standing::Only(RISES))?);
+        assert!(rt; stands(alloc, text, &[rises, falls], Standing::Nowhere)?);
+        Ok(())
     }
 }

@@ -1,51 +1,45 @@
-//! Types and definitions of a program (E9, E11), which as yet has one node on one clock.
+//! Types, clocks and definitions of a program (E9, E10, E11).
 
-ghost use Rattle.std.specs.Prelude.{◌≡◌, true, length, IfOk};
-ghost use Rattle.std.specs.List.{list_all};
-ghost use Rattle.lb_static.specs.Elaborated.{IsElaborated, is_step_within};
+ghost use Rattle.std.specs.Prelude.{◌≡◌, IfOk};
+ghost use Rattle.lb_static.specs.Elaborated.{IsElaborated};
 ghost use Rattle.lb_static.specs.Instances.{Program};
-ghost use Rattle.lb_static.specs.Nodes.{node_in};
 ghost use Rattle.lb_check.specs.Checked.{IsAnswer};
-ghost use Rattle.lb_check.specs.TermKinds as mirror;
 
 use crate::checked::Checked;
-use crate::definition::{defines_each, have_memory};
 use crate::error::CheckError;
-use crate::kind::is_step_typed;
+use crate::judge_clocks::unclocked_node;
+use crate::judge_definitions::undefined_node;
+use crate::judge_types::untyped_node;
 use lb_static::elab::Elab;
-use lb_static::term::{Step, Variable};
-use std::alloc::Global;
+use lb_static::reach::{NodeId, Reached};
+use std::alloc::{AllocError, Global};
 
-/// Whether each statement keeps the rules of types.
-#[tactic(auto, using(crate::proofs::Steps::within_next, crate::proofs::Steps::typed_next))]
-fn are_typed(variables: &[Variable], body: &[Step]) -> bool
-    requires { list_all (is_step_within (length variables.now)) body.now ≡ true }
-    ensures { result ≡ mirror.are_typed (mirror.kinds_of variables.now) body.now }
-{
-    for step in body {
-        if !is_step_typed(variables, step) {
-            return false;
-        }
+/// The name of a node again, or an empty one where there is no such node.
+fn name_of(alloc: Global, reached: &Reached, id: NodeId) -> Result<String, AllocError> {
+    match reached.nodes.get(id.0 as usize) {
+        Some(node) => String::from_str(alloc, node.tree.name.as_str()),
+        None => Ok(String::new(alloc)),
     }
-    true
 }
 
-/// Checks an elaborated program: the first of E9 and E11 that it breaks, or the program again.
-///
-/// Rules of clocks (E10) cannot be broken on one clock.
-pub fn check(alloc: Global, elab: Elab) -> Result<Checked, CheckError>
-    ensures answer { (P : Program) → IsElaborated P (node_in elab) → IsAnswer P result }
-    ensures same { IfOk result (λ c. node_in c.elab ≡ node_in elab) }
+/// Checks an elaborated program: the first of the rules of types (E9), clocks (E10) and definitions
+/// (E11) that it breaks, each over all instances, with the name of a node that breaks it, or the
+/// program again.
+pub fn check<'s>(alloc: Global, elab: Elab<'s>) -> Result<Checked<'s>, CheckError>
+    ensures answer { (P : Program) → IsElaborated P elab.entry → IsAnswer P result }
+    ensures same { IfOk result (λ c. c.elab ≡ elab.entry) }
 {
-    if !are_typed(&elab.variables, &elab.body) {
-        return Err(CheckError::Type);
+    if let Some(id) = untyped_node(alloc, &elab.reached, &elab.table)? {
+        return Err(CheckError::Type(name_of(alloc, &elab.reached, id)?));
     }
-    if elab.is_function && have_memory(&elab.body) {
-        return Err(CheckError::Definition);
+    if let Some(id) = unclocked_node(alloc, &elab.reached, &elab.table)? {
+        return Err(CheckError::Clock(name_of(alloc, &elab.reached, id)?));
     }
-    let count = elab.variables.len();
-    if !defines_each(alloc, elab.inputs, count, &elab.body)? {
-        return Err(CheckError::Definition);
+    if let Some(id) = undefined_node(alloc, &elab.reached, &elab.table)? {
+        return Err(CheckError::Definition(name_of(alloc, &elab.reached, id)?));
     }
     Ok(Checked { elab })
 }
+
+#[cfg(test)]
+mod tests;

@@ -101,6 +101,19 @@ fn wait_below(variables: &[Variable], count: usize) -> bool
     true
 }
 
+/// Whether a node has as many variables as inputs and outputs, and each that is waited for.
+fn is_whole(node: &ResolvedNode) -> bool
+    ensures interface { result ≡ true →
+        node.now.inputs + node.now.outputs ≤ length node.now.variables.items }
+    ensures awaited { result ≡ true → AreAwaited node.now.variables.items }
+    ensures resolved { (nodes : List Name) → IsResolved nodes node.now → result ≡ true }
+{
+    let count = node.variables.len();
+    node.inputs <= count
+        && node.outputs <= count - node.inputs
+        && wait_below(&node.variables, count)
+}
+
 /// How deep the declared clock of each variable of a node stands, or none where a rule of declared
 /// clocks is broken: an input waits for an input, an output for an input or an output, and declared
 /// clocks do not run in a circle.
@@ -108,13 +121,17 @@ pub fn declared_depths(
     alloc: Global,
     node: &ResolvedNode,
 ) -> Result<Option<Vec<Option<usize>>>, AllocError>
-    requires resolved { (nodes : List Name) × IsResolved nodes node.now }
-    ensures kept { are_distinct (variable_names (node_of node.now)) ≡ true →
+    ensures kept { (nodes : List Name) → IsResolved nodes node.now →
+        are_distinct (variable_names (node_of node.now)) ≡ true →
         IfOk result (λ depths. is_some depths ≡ are_declared_clocks (node_of node.now)) }
-    ensures deep { are_distinct (variable_names (node_of node.now)) ≡ true →
+    ensures deep { (nodes : List Name) → IsResolved nodes node.now →
+        are_distinct (variable_names (node_of node.now)) ≡ true →
         IfOk result (λ found.
         HasDepths (node_of node.now) (option_map (λ depths. depths.items) found)) }
 {
+    if !is_whole(node) {
+        return Ok(None);
+    }
     let interface = node.inputs + node.outputs;
     if !wait_below(&node.variables[..node.inputs], node.inputs) {
         return Ok(None);

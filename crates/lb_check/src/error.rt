@@ -11,12 +11,16 @@ pub enum CheckError {
     /// Memory ran out (E0).
     #[error("memory ran out")]
     Memory,
-    /// A rule of types is broken (E9).
-    #[error("an expression, a left side or an assertion has the wrong type")]
-    Type,
-    /// A variable has not exactly one definition, or a function has memory (E11).
-    #[error("a variable has not exactly one definition, or a function has memory")]
-    Definition,
+    /// A rule of types is broken (E9). It holds the name of the node in which it is.
+    #[error("an expression, a left side or an assertion of the node {0} has the wrong type")]
+    Type(String),
+    /// A rule of clocks is broken (E10). It holds the name of the node in which it is.
+    #[error("an expression, a call or a declared clock of the node {0} breaks a rule of clocks")]
+    Clock(String),
+    /// A variable has not exactly one definition, or a function has memory (E11). It holds the name
+    /// of the node or function.
+    #[error("a variable of {0} has not exactly one definition, or the function {0} has memory")]
+    Definition(String),
 }
 
 impl From<AllocError> for CheckError {

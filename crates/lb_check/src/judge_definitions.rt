@@ -1,6 +1,6 @@
 //! Definitions, and functions without memory, in all forms of expressions (E11).
 
-ghost use Rattle.std.specs.Prelude.{◌≡◌, ◌+◌, ◌↔◌, true, length, slice_index, IsTrue, IfOk};
+ghost use Rattle.std.specs.Prelude.{◌≡◌, ◌+◌, ◌↔◌, true, length, slice_index, is_some, not, IsTrue, IfOk};
 ghost use Rattle.std.specs.List.{list_all};
 ghost use Rattle.lb_check.specs.DefinitionRules.{is_defined};
 ghost use Rattle.lb_check.specs.JudgedPrograms.{IsJudged};
@@ -9,9 +9,10 @@ ghost use Rattle.lb_static.specs.Instances.{Program, instances};
 ghost use Rattle.lb_static.specs.Names.{keeps_names};
 ghost use Rattle.lb_static.specs.ReachedNodes.{IsReached};
 
+use crate::used_nodes::used_nodes;
 use lb_static::reach::{NodeId, Reached};
 use lb_static::resolved::{CallSite, ResolvedNode, Step, Term, VariableId};
-use lb_static::table::{Specialization, Table};
+use lb_static::table::Table;
 use std::alloc::{AllocError, Global};
 
 /// Counts the places of some left variables: 0, 1, and 2 for any more.
@@ -157,40 +158,38 @@ fn is_node_defined(alloc: Global, reached: &Reached, id: NodeId) -> Result<bool,
     defines_each(alloc, node.inputs, node.variables.len(), &node.body)
 }
 
-/// Whether the node of each of some specializations keeps the rules of definitions. Each node is
-/// judged once.
-fn are_nodes_defined(
+/// The first of some nodes that breaks the rules of definitions.
+fn first_undefined(
     alloc: Global,
     reached: &Reached,
-    specializations: &[Specialization],
-) -> Result<bool, AllocError>
+    ids: &[NodeId],
+) -> Result<Option<NodeId>, AllocError>
     ensures { (P : Program) → keeps_names P ≡ true → IsReached P reached.now
-        → IfOk result (λ kept. kept ≡ mirror.are_defined_at P reached.now specializations.now) }
+        → IfOk result (λ found.
+        is_some found ≡ not (list_all (mirror.is_defined_at P reached.now) ids.now)) }
 {
-    let mut judged = vec![in alloc; false; reached.nodes.len()]?;
-    for specialization in specializations {
-        let place = specialization.node.0 as usize;
-        if place >= judged.len() {
-            return Ok(false);
-        }
-        if !judged[place] {
-            if !is_node_defined(alloc, reached, specialization.node)? {
-                return Ok(false);
-            }
-            judged[place] = true;
+    for id in ids {
+        if !is_node_defined(alloc, reached, *id)? {
+            return Ok(Some(*id));
         }
     }
-    Ok(true)
+    Ok(None)
 }
 
-/// Whether each instance keeps the rules of definitions and of functions (E11): over all left sides
-/// of a node together each output and local stands exactly once, and an input never; a function
-/// holds no `pre`, `->`, `fby` and `current`, and calls or iterates only functions and symbols.
-pub fn are_defined(alloc: Global, reached: &Reached, table: &Table) -> Result<bool, AllocError>
-    ensures { (P : Program) → IsJudged P reached.now table.now
-        → IfOk result (λ kept. kept ≡ list_all (λ here. is_defined P here.node) (instances P)) }
+/// The first node of an instance that breaks the rules of definitions and of functions (E11): over
+/// all left sides of a node together each output and local stands exactly once, and an input never;
+/// a function holds no `pre`, `->`, `fby` and `current`, and calls or iterates only functions and
+/// symbols.
+pub fn undefined_node(
+    alloc: Global,
+    reached: &Reached,
+    table: &Table,
+) -> Result<Option<NodeId>, AllocError>
+    ensures { (P : Program) → IsJudged P reached.now table.now → IfOk result (λ found.
+        is_some found ≡ not (list_all (λ here. is_defined P here.node) (instances P))) }
 {
-    are_nodes_defined(alloc, reached, &table.specializations)
+    let ids = used_nodes(alloc, reached.nodes.len(), &table.specializations)?;
+    first_undefined(alloc, reached, &ids)
 }
 
 #[cfg(test)]

@@ -1,6 +1,6 @@
 //! The rules of types of a program (E9).
 
-ghost use Rattle.std.specs.Prelude.{◌≡◌, ◌∷◌, [], map, option_map, IfOk};
+ghost use Rattle.std.specs.Prelude.{◌≡◌, ◌∷◌, [], is_some, map, not, option_map, IfOk};
 ghost use Rattle.std.specs.List.{list_all};
 ghost use Rattle.lb_static.specs.Instances.{Program, instances};
 ghost use Rattle.lb_check.specs.JudgedPrograms.{IsJudged};
@@ -12,7 +12,7 @@ ghost use Rattle.lb_check.specs.TermTypes as mirror;
 use crate::shape::{Shape, are_same};
 use crate::type_scope::Scope;
 use crate::types::results;
-use lb_static::reach::Reached;
+use lb_static::reach::{NodeId, Reached};
 use lb_static::resolved::{Step, Variable, VariableId};
 use lb_static::table::{Specialization, Table};
 use std::alloc::{AllocError, Global};
@@ -135,26 +135,32 @@ fn is_specialization_typed(
     )
 }
 
-/// Whether each specialization keeps the rules of types.
-fn are_specializations_typed(
+/// The node of the first specialization that breaks the rules of types.
+fn first_untyped(
     alloc: Global,
     reached: &Reached,
     table: &Table,
-) -> Result<bool, AllocError>
-    ensures { IfOk result (λ kept. kept ≡ mirror.are_typed reached.now table.now) }
+) -> Result<Option<NodeId>, AllocError>
+    ensures { IfOk result (λ found.
+        is_some found ≡ not (mirror.are_typed reached.now table.now)) }
 {
     for specialization in &table.specializations {
         if !is_specialization_typed(alloc, reached, table, specialization)? {
-            return Ok(false);
+            return Ok(Some(specialization.node));
         }
     }
-    Ok(true)
+    Ok(None)
 }
 
-/// Whether each instance keeps the rules of types (E9): each specialization is judged once.
-pub fn are_typed(alloc: Global, reached: &Reached, table: &Table) -> Result<bool, AllocError>
-    ensures { (P : Program) → IsJudged P reached.now table.now →
-        IfOk result (λ kept. kept ≡ list_all (is_typed P) (instances P)) }
+/// The first node of an instance that breaks the rules of types (E9): each specialization is judged
+/// once.
+pub fn untyped_node(
+    alloc: Global,
+    reached: &Reached,
+    table: &Table,
+) -> Result<Option<NodeId>, AllocError>
+    ensures { (P : Program) → IsJudged P reached.now table.now → IfOk result (λ found.
+        is_some found ≡ not (list_all (is_typed P) (instances P))) }
 {
-    are_specializations_typed(alloc, reached, table)
+    first_untyped(alloc, reached, table)
 }

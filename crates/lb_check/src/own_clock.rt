@@ -6,9 +6,11 @@ ghost use Rattle.lb_static.specs.ResolvedTerms.{is_variable};
 ghost use Rattle.lb_check.specs.ClockRules.{is_clock};
 ghost use Rattle.lb_check.specs.Clocks as tree;
 ghost use Rattle.lb_check.specs.OwnClocks.{HasClocks, clock_in, is_clock_within, name_in};
+ghost use Rattle.lb_check.specs.StoredStandings.{clock_above};
+ghost use Rattle.lb_check.specs.TermClocks as mirror;
 ghost use Rattle.lb_static.specs.declared.resolved.ResolvedNode as resolved;
 
-use lb_static::resolved::{ResolvedNode, VariableId};
+use lb_static::resolved::{ResolvedNode, Sampling, VariableId};
 
 /// A clock of a node. The clock above `On(x, _)` is always the declared clock of `x`, so that two
 /// clocks are the same if their variables and signs are.
@@ -20,25 +22,36 @@ pub enum Clock {
     On(VariableId, bool),
 }
 
-/// The declared clock of a variable.
-pub fn declared_clock(node: &ResolvedNode, variable: VariableId) -> Clock
-    requires clocks { HasClocks node.now }
-    requires within { is_variable (counts_of node.now) variable ≡ true }
-    ensures same { clock_in node.now result
-        ≡ tree.declared_clock (node_of node.now) (name_in node.now variable) }
-    ensures within { is_clock_within node.now result ≡ true }
+/// The clock of a variable that is declared with this clock.
+fn clock_with(clock: Option<Sampling>) -> Clock
+    ensures { result ≡ mirror.clock_with clock }
 {
-    match node.variables[variable.0 as usize].clock {
+    match clock {
         None => Clock::Base,
         Some(clock) => Clock::On(clock.variable, clock.sign),
     }
 }
 
+/// The declared clock of a variable.
+pub fn declared_clock(node: &ResolvedNode, variable: VariableId) -> Clock
+    ensures mirror { result ≡ mirror.declared_in node.now variable }
+    ensures same { HasClocks node.now → is_variable (counts_of node.now) variable ≡ true →
+        clock_in node.now result
+        ≡ tree.declared_clock (node_of node.now) (name_in node.now variable) }
+    ensures within { HasClocks node.now → is_variable (counts_of node.now) variable ≡ true →
+        is_clock_within node.now result ≡ true }
+{
+    match node.variables.get(variable.0 as usize) {
+        Some(declared) => clock_with(declared.clock),
+        None => Clock::Base,
+    }
+}
+
 /// The clock on which the variable of a clock stands; the base clock has none.
 pub fn parent(node: &ResolvedNode, clock: Clock) -> Option<Clock>
-    requires clocks { HasClocks node.now }
-    requires within { is_clock_within node.now clock ≡ true }
-    ensures { option_map (clock_in node.now) result ≡ tree.parent (clock_in node.now clock) }
+    ensures mirror { result ≡ clock_above node.now clock }
+    ensures same { HasClocks node.now → is_clock_within node.now clock ≡ true →
+        option_map (clock_in node.now) result ≡ tree.parent (clock_in node.now clock) }
 {
     match clock {
         Clock::Base => None,
@@ -48,7 +61,8 @@ pub fn parent(node: &ResolvedNode, clock: Clock) -> Option<Clock>
 
 /// Whether two clocks of a node are the same.
 pub fn is_same(left: Clock, right: Clock) -> bool
-    ensures { (r : resolved.ResolvedNode) → HasClocks r →
+    ensures mirror { result ≡ mirror.is_same left right }
+    ensures same { (r : resolved.ResolvedNode) → HasClocks r →
         is_clock_within r left ≡ true → is_clock_within r right ≡ true →
         result ≡ is_clock (clock_in r left) (clock_in r right) }
 {

@@ -1,7 +1,7 @@
 use super::*;
 use lb_static::reach::NodeId;
 use lb_static::resolved::{CallId, NodePlace, ResolvedNode, StaticId, Variable};
-use lb_static::table::SpecializationId;
+use lb_static::table::{Specialization, SpecializationId};
 use lb_syntax::parse::parse;
 use lb_syntax::tree::{ArrayIterator, BinaryOperator, Kind, Source};
 use std::test::Fail;
@@ -88,7 +88,7 @@ fn is_kept(
         root: SpecializationId(0),
         observer: None,
     };
-    Ok(are_defined(alloc, &reached, &table)?)
+    Ok(undefined_node(alloc, &reached, &table)?.is_none())
 }
 
 fn call(alloc: Global) -> Term {

@@ -1,21 +1,28 @@
-use Rattle.std.proofs.Common.{true, false, rules}
-use Rattle.lb_check.specs.DefinitionRules.{is_defined}
-use Rattle.lb_static.specs.Nodes.{node_in}
-use Rattle.lb_check.proofs.Checks.{answered, has_memory_is, not_each_is, defined_holds}
+-- The first of the rules that an elaborated program breaks.
+use Rattle.lb_check.proofs.Checks.{judged, broken, kept_by, not_typed, not_clocked, not_defined, all_kept}
 use Rattle.lb_check.proofs.check.check.Goals as goal
 
-pub returns-then-not-are_typed-clause-answer : goal.returns-then-not-are_typed-clause-answer
-returns-then-not-are_typed-clause-answer c P e =
-    answered c.args.elab P e false (is_defined P (node_in c.args.elab)) (search rules) (search rules)
+pub returns-in-Some-clause-answer : goal.returns-in-Some-clause-answer
+returns-in-Some-clause-answer c = λ P is.
+    let j = judged P c.args.elab is in
+    not_typed P (broken c.in_ok-id.field-0 c.in-Some.id _ (c.in_ok-id.ensures P j) c.in-Some.is)
 
-pub returns-then-have_memory-clause-answer : goal.returns-then-have_memory-clause-answer
-returns-then-have_memory-clause-answer c P e =
-    answered c.args.elab P e true false (search rules) (has_memory_is c.args.elab P e (search rules) (search rules))
+pub returns-in-Some-2-clause-answer : goal.returns-in-Some-2-clause-answer
+returns-in-Some-2-clause-answer c = λ P is.
+    let j = judged P c.args.elab is in
+    let typed = kept_by c.in_ok-id.field-0 _ (c.in_ok-id.ensures P j) c.in_default.not-Some in
+    not_clocked P typed (broken c.in_ok-id-2.field-0 c.in-Some-2.id _ (c.in_ok-id-2.ensures P j typed) c.in-Some-2.is)
 
-pub returns-then-not-branch-clause-answer : goal.returns-then-not-branch-clause-answer
-returns-then-not-branch-clause-answer c P e =
-    answered c.args.elab P e true false (search rules) (not_each_is c.args.elab P e (search rules))
+pub returns-in-Some-3-clause-answer : goal.returns-in-Some-3-clause-answer
+returns-in-Some-3-clause-answer c = λ P is.
+    let j = judged P c.args.elab is in
+    let typed = kept_by c.in_ok-id.field-0 _ (c.in_ok-id.ensures P j) c.in_default.not-Some in
+    let clocked = kept_by c.in_ok-id-2.field-0 _ (c.in_ok-id-2.ensures P j typed) c.in_default-2.not-Some in
+    not_defined P typed clocked (broken c.in_ok-id-3.field-0 c.in-Some-3.id _ (c.in_ok-id-3.ensures P j) c.in-Some-3.is)
 
 pub returns-clause-answer : goal.returns-clause-answer
-returns-clause-answer c P e =
-    answered c.args.elab P e true true (search rules) (defined_holds c.args.elab P e (search rules) (search rules))
+returns-clause-answer c = λ P is.
+    let j = judged P c.args.elab is in
+    let typed = kept_by c.in_ok-id.field-0 _ (c.in_ok-id.ensures P j) c.in_default.not-Some in
+    let clocked = kept_by c.in_ok-id-2.field-0 _ (c.in_ok-id-2.ensures P j typed) c.in_default-2.not-Some in
+    all_kept P typed clocked (kept_by c.in_ok-id-3.field-0 _ (c.in_ok-id-3.ensures P j) c.in_default-3.not-Some)

@@ -1,0 +1,82 @@
+-- The nodes of some specializations, each once.
+use Rattle.std.proofs.Common.{◌≡◌, ◌⊎◌, inl, inr, ℕ, ◌+◌, ◌<◌, Bool, true, false, List, [], ◌∷◌, length, drop, get_or, refl, ap, sym, ◌∙◌, subst}
+use Rattle.std.specs.Prelude.{◌&&◌, ◌++◌, not}
+use Rattle.std.specs.List.{list_all}
+use Rattle.std.proofs.lemmas.List.{drop_more}
+use Rattle.lb_static.specs.declared.reach.NodeId.{NodeId}
+use Rattle.lb_static.specs.declared.table.Specialization.{Specialization}
+
+and_first : (a b : Bool) → (a && b) ≡ true → a ≡ true
+and_first true b e = refl
+and_first false b e = absurd cc
+
+and_second : (a b : Bool) → (a && b) ≡ true → b ≡ true
+and_second true b e = e
+and_second false b e = absurd cc
+
+and_moved : (a b c : Bool) → ((a && b) && c) ≡ (a && (b && c))
+and_moved true b c = refl
+and_moved false b c = refl
+
+and_known : (a b c : Bool) → (a ≡ true → b ≡ true) → (a && c) ≡ (a && (b && c))
+and_known true b c e = ap (λ d. d && c) (sym (e refl))
+and_known false b c e = refl
+
+is_true : (b : Bool) → not b ≡ false → b ≡ true
+is_true true e = refl
+is_true false e = absurd cc
+
+and_end : (a : Bool) → (a && true) ≡ a
+and_end true = refl
+and_end false = refl
+
+with_last : (f : NodeId → Bool) (ids : List NodeId) (x : NodeId) → list_all f (ids ++ x ∷ []) ≡ (list_all f ids && f x)
+with_last f [] x = and_end (f x)
+with_last f (y ∷ ids) x = ap (λ b. f y && b) (with_last f ids x) ∙ sym (and_moved (f y) (list_all f ids) (f x))
+
+same_node : (k x : NodeId) → k.0 ≡ x.0 → x ≡ k
+same_node k x e = ap id_of (sym e)
+  where
+    id_of : ℕ → NodeId
+    id_of n = record { 0 = n }
+
+abbrev nodes_keep : (NodeId → Bool) → List Specialization → Bool
+nodes_keep f = list_all (λ s. f s.node)
+
+-- the nodes that are there, and those of the specializations from a place on, are all that are used
+abbrev pub AreUsed : List NodeId → ℕ → List Specialization → Type 0
+AreUsed ids i ss = (f : NodeId → Bool) → (list_all f ids && nodes_keep f (drop i ss)) ≡ nodes_keep f ss
+
+-- each node that is flagged is there
+abbrev pub AreThere : List NodeId → List Bool → Type 0
+AreThere ids seen = (k : NodeId) → get_or seen k.0 false ≡ true → (f : NodeId → Bool) → list_all f ids ≡ true → f k ≡ true
+
+module _ (ids : List NodeId) (old new : List Bool) (ss : List Specialization) (i : ℕ) (s : Specialization) (lt : i < length ss) (is : s ≡ get_or ss i s)
+    (used : AreUsed ids i ss) (there : AreThere ids old) (flagged : (k : ℕ) → get_or new k false ≡ true → (k ≡ s.node.0) ⊎ (get_or old k false ≡ true)) where
+  next : (f : NodeId → Bool) → nodes_keep f (drop i ss) ≡ (f s.node && nodes_keep f (drop (i + 1) ss))
+  next f = ap (nodes_keep f) (drop_more ss i s lt) ∙ ap (λ (x : Specialization). f x.node && nodes_keep f (drop (i + 1) ss)) (sym is)
+
+  -- a node that is added
+  pub added_used : AreUsed (ids ++ s.node ∷ []) (i + 1) ss
+  added_used f =
+      let rest = nodes_keep f (drop (i + 1) ss) in
+      ap (λ b. b && rest) (with_last f ids s.node) ∙ and_moved (list_all f ids) (f s.node) rest ∙ ap (λ b. list_all f ids && b) (sym (next f)) ∙ used f
+
+  pub added_there : AreThere (ids ++ s.node ∷ []) new
+  added_there k seen f all = elim (flagged k.0 seen) [
+    | inl same ↦ subst (λ x. f x ≡ true) (same_node k s.node same) (and_second (list_all f ids) (f s.node) (sym (with_last f ids s.node) ∙ all))
+    | inr was ↦ there k was f (and_first (list_all f ids) (f s.node) (sym (with_last f ids s.node) ∙ all))
+  ]
+
+  -- a node that is there
+  module _ (known : not (get_or old s.node.0 false) ≡ false) where
+    pub known_used : AreUsed ids (i + 1) ss
+    known_used f =
+        and_known (list_all f ids) (f s.node) (nodes_keep f (drop (i + 1) ss)) (there s.node (is_true (get_or old s.node.0 false) known) f)
+        ∙ ap (λ b. list_all f ids && b) (sym (next f)) ∙ used f
+
+    pub known_there : AreThere ids new
+    known_there k seen f all = elim (flagged k.0 seen) [
+      | inl same ↦ subst (λ x. f x ≡ true) (same_node k s.node same) (there s.node (is_true (get_or old s.node.0 false) known) f all)
+      | inr was ↦ there k was f all
+    ]

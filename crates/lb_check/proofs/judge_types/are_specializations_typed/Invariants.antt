@@ -1,9 +1,0 @@
-use Rattle.std.proofs.Common.{◌≡◌, drop}
-use Rattle.std.specs.List.{list_all}
-use Rattle.lb_check.specs.TermTypes.{is_specialization_typed}
-use Rattle.lb_check.proofs.judge_types.are_specializations_typed.Given as goal
-
-abbrev pub invariant-loop-specialization : goal.invariant-loop-specialization
-invariant-loop-specialization l =
-    let kept = is_specialization_typed l.reached l.table in
-    list_all kept l.specialization-items ≡ list_all kept (drop l.specialization-index l.specialization-items)

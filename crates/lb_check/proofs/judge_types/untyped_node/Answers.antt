@@ -1,0 +1,9 @@
+use Rattle.std.proofs.Common.{◌≡◌, IfOk, not, subst}
+use Rattle.std.specs.Prelude.{is_some}
+use Rattle.lb_check.proofs.TypedSpecializations.{instances_typed}
+use Rattle.lb_check.proofs.judge_types.untyped_node.Goals as goal
+
+pub returns : goal.returns
+returns c P j =
+    subst (λ b. IfOk c.first_untyped.result (λ found. is_some found ≡ not b)) (instances_typed P c.args.reached.now c.args.table.now j)
+    c.first_untyped.ensures

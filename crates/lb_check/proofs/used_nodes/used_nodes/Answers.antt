@@ -1,0 +1,35 @@
+use Rattle.std.proofs.Common.{◌+◌, rules, sym, ap, ◌∙◌, subst}
+use Rattle.std.proofs.lemmas.List.{with_items_is, places}
+use Rattle.lb_check.proofs.UsedNodes.{AreUsed, AreThere, added_used, added_there, known_used, known_there}
+use Rattle.lb_check.proofs.used_nodes.used_nodes.Goals as goal
+use Rattle.lb_check.proofs.used_nodes.used_nodes.Goals.{then-flag+in_ok-push, else-flag}
+
+pub loop-specialization-preserved : goal.loop-specialization-preserved
+loop-specialization-preserved c =
+    let s = c.specialization-item.result in
+    let i = c.loop-specialization.specialization-index in
+    let ss = c.args.specializations.now in
+    let ids = c.loop-specialization.ids.items in
+    let old = c.deref_mut.result.now in
+    let new = c.flag.new.seen in
+    let inv = c.loop-specialization.invariant in
+    let lt = c.loop-specialization-test.true in
+    let is = c.specialization-item.is in
+    let there = subst (AreThere ids) (sym c.deref_mut.ensures.value) inv.1 in
+    let flagged = c.flag.ensures.flagged in
+    let flags = sym (with_items_is c.loop-specialization.seen new (search (rules, places))) in
+    elim c.if-flag.branch [
+      | then-flag+in_ok-push w ↦ (
+          let items = ap (λ v. v.items) w.ids-is ∙ w.in_ok-push.ensures.items in (
+            subst (λ xs. AreUsed xs (i + 1) ss) (sym items) (added_used ids old new ss i s lt is inv.0 there flagged),
+            subst (λ fs. AreThere c.if-flag.ids.items fs) flags (subst (λ xs. AreThere xs new) (sym items) (added_there ids old new ss i s lt is inv.0 there flagged)),
+          )
+          )
+      | else-flag w ↦ (
+          let items = ap (λ v. v.items) w.ids-is in
+          let known = sym c.flag.ensures.fresh ∙ w.if-flag.false in (
+            subst (λ xs. AreUsed xs (i + 1) ss) (sym items) (known_used ids old new ss i s lt is inv.0 there flagged known),
+            subst (λ fs. AreThere c.if-flag.ids.items fs) flags (subst (λ xs. AreThere xs new) (sym items) (known_there ids old new ss i s lt is inv.0 there flagged known)),
+          )
+          )
+    ]

@@ -1,0 +1,44 @@
+//! The nodes of specializations, each once.
+
+ghost use Rattle.std.specs.Prelude.{◌≡◌, ◌⊎◌, ℕ, Bool, true, false, not, get_or, IfOk};
+ghost use Rattle.std.specs.List.{list_all};
+ghost use Rattle.lb_static.specs.declared.reach.NodeId as reach;
+
+use lb_static::reach::NodeId;
+use lb_static::table::Specialization;
+use std::alloc::{AllocError, Global};
+
+/// Flags a node, and tells whether it was not flagged before. A node past the flags never is.
+fn flag(seen: &mut [bool], id: NodeId) -> bool
+    ensures fresh { result ≡ not (get_or seen.old id.0 false) }
+    ensures flagged { (k : ℕ) → get_or seen.new k false ≡ true
+        → (k ≡ id.0) ⊎ (get_or seen.old k false ≡ true) }
+{
+    let place = id.0 as usize;
+    if place >= seen.len() {
+        return true;
+    }
+    let fresh = !seen[place];
+    seen[place] = true;
+    fresh
+}
+
+/// The nodes of some specializations, each once, in the order in which they come up first. There
+/// are so many flags; a node past them is simply added.
+pub fn used_nodes(
+    alloc: Global,
+    nodes: usize,
+    specializations: &[Specialization],
+) -> Result<Vec<NodeId>, AllocError>
+    ensures { (f : reach.NodeId → Bool) → IfOk result (λ ids.
+        list_all f ids.items ≡ list_all (λ s. f s.node) specializations.now) }
+{
+    let mut seen = vec![in alloc; false; nodes]?;
+    let mut ids = Vec::new(alloc);
+    for specialization in specializations {
+        if flag(&mut seen, specialization.node) {
+            ids.push(specialization.node)?;
+        }
+    }
+    Ok(ids)
+}
