@@ -6,8 +6,8 @@ use Rattle.std.proofs.lemmas.List.FromFn.{map-range_with_len_more}
 use Rattle.std.proofs.lemmas.Bool.Decides.{nat_tests}
 use Rattle.std.specs.Prelude.{true, nat_lt}
 use Rattle.std.specs.List.{list_all}
-use Rattle.lb_static.specs.declared.term.VariableId.{VariableId}
-use Rattle.lb_static.specs.Elaborated.{is_place}
+use Rattle.lb_static.specs.declared.resolved.VariableId.{VariableId}
+use Rattle.lb_flat.specs.PlainNodes.{is_place}
 use Rattle.lb_flat.specs.Flat as flat
 use Rattle.lb_flat.specs.Flat.{Always}
 use Rattle.lb_flat.specs.Terms.{given_elements}

@@ -44,6 +44,16 @@ pub mod PlacedCalls
 pub mod SoundInstances
 pub mod Expanding
 pub mod RootWidths
+pub mod ScalarGroups
+pub mod PlainForms
+pub mod PlainAlone
+pub mod PlainTranslation
+pub mod PlainRoots
+pub mod PlainStarts
+pub mod PlainNames
+pub mod PlainClocks
+pub mod TermShapes
+pub mod PlainTypes
 pub mod PlainPlacing
 pub mod PlainExpanding
 pub mod FilledKinds
@@ -56,7 +66,6 @@ pub mod PlainFittingTypes
 pub mod PlainFittingWords
 pub mod PlainFittingVariables
 pub mod PlainFittingExpressions
-pub mod PlainFittingFound
 pub mod PlainFittingBodies
 pub mod PlainFitting
 pub mod PlainAnswers

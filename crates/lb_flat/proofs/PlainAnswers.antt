@@ -1,7 +1,7 @@
 -- The flat program of a plain program, in any order in which it can be computed, stands for it.
 use Rattle.std.proofs.Common.{◌≡◌, None, List, [], length}
 use Rattle.lb_syntax.specs.Tree.{Node}
-use Rattle.lb_static.specs.Elaborated.{IsElaborated}
+use Rattle.lb_flat.specs.PlainNodes.{IsPlain}
 use Rattle.lb_static.specs.Instances.{Program}
 use Rattle.lb_static.specs.Shapes.{variables}
 use Rattle.lb_check.specs.Acceptance.{check_refusal}
@@ -9,7 +9,7 @@ use Rattle.lb_flat.specs.Flat.{Always, FlatEquation}
 use Rattle.lb_flat.specs.Run.{Ready}
 use Rattle.lb_flat.specs.Judging.{FlatProgram}
 use Rattle.lb_flat.specs.Flattening.{IsFlatOf}
-use Rattle.lb_flat.specs.Plain.{plain_layout}
+use Rattle.lb_flat.specs.PlainLayout.{plain_layout}
 use Rattle.lb_flat.specs.Emit.{expanded}
 use Rattle.lb_flat.specs.Expanded.{IsOrderingOf, IsExpansionOf}
 use Rattle.lb_flat.proofs.PlainExpanding.{plain_is_expansion, plain_flat_of}
@@ -18,7 +18,7 @@ use Rattle.lb_flat.proofs.PlainSolved.{plain_solved}
 use Rattle.lb_flat.proofs.PlainCausal.{plain_causal}
 use Rattle.lb_flat.proofs.PlainGivenCycles.{plain_no_order}
 
-module _ (P : Program) (n : Node) (e : IsElaborated P n) (c : check_refusal P ≡ None) where
+module _ (P : Program) (n : Node) (e : IsPlain P n) (c : check_refusal P ≡ None) where
   abbrev f : FlatProgram
   f = expanded (plain_layout n) P (length (variables n))
 

@@ -5,11 +5,11 @@ use Rattle.std.proofs.lemmas.Bool.Decides.{eqb_tells}
 use Rattle.lb_syntax.specs.Lists.{Every, In}
 use Rattle.lb_syntax.specs.Tree.{Node}
 use Rattle.lb_static.specs.Instances.{Program}
-use Rattle.lb_static.specs.Elaborated.{IsElaborated}
+use Rattle.lb_flat.specs.PlainNodes.{IsPlain}
 use Rattle.lb_check.specs.Needs.{Element, Definition, definitions, Needs, Reaches, at_once, through, IsCausal}
 use Rattle.lb_flat.specs.Flat.{FlatEquation}
 use Rattle.lb_flat.specs.Run.{equation_reads, Ready}
-use Rattle.lb_flat.specs.Plain.{plain_layout}
+use Rattle.lb_flat.specs.PlainLayout.{plain_layout}
 use Rattle.lb_flat.specs.Emit.{before_instances, expanded}
 use Rattle.lb_flat.specs.Expanded.{IsOrderingOf}
 use Rattle.lb_flat.proofs.Lists.{Every-map, Every-in}
@@ -105,7 +105,7 @@ module _ (size : ℕ) where
 
 -- ## A plain program in order
 
-module _ (P : Program) (n : Node) (elaborated : IsElaborated P n) (Q : List FlatEquation)
+module _ (P : Program) (n : Node) (elaborated : IsPlain P n) (Q : List FlatEquation)
     (ordering : IsOrderingOf (expanded (plain_layout n) P (count n)).equations Q)
     (ready : Ready (expanded (plain_layout n) P (count n)).size [] Q) where
   abbrev Before : ℕ → ℕ → Type 0

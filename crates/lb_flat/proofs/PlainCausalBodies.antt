@@ -10,15 +10,15 @@ use Rattle.lb_static.specs.StaticValues.{named}
 use Rattle.lb_static.specs.Instances.{Program, Instance, Root}
 use Rattle.lb_static.specs.Shapes.{variables}
 use Rattle.lb_static.specs.Parts.{parts, right_side}
-use Rattle.lb_static.specs.Elaborated.{IsElaborated, start_of}
+use Rattle.lb_flat.specs.PlainNodes.{IsPlain, start_of}
 use Rattle.lb_check.specs.Clocks.{Clock, Base, declared_clock}
 use Rattle.lb_check.specs.Occurrences.{call_count, statement_clock, right_sides}
 use Rattle.lb_check.specs.Needs.{Element, Definition, elements, elements_named, defined_as, equation_definitions, needs}
-use Rattle.lb_check.proofs.PlainClocks.{base_declared}
+use Rattle.lb_flat.proofs.PlainClocks.{base_declared}
 use Rattle.lb_flat.specs.Flat.{Always, FlatClock, FlatEquation}
 use Rattle.lb_flat.specs.Run.{clock_reads, equation_reads}
 use Rattle.lb_flat.specs.Layouts.{Layout, flat_clock}
-use Rattle.lb_flat.specs.Plain.{place_among, plain_layout}
+use Rattle.lb_flat.specs.PlainLayout.{place_among, plain_layout}
 use Rattle.lb_flat.specs.Emit.{State, Target, targets, copied, joins, assert, emit, emit_body}
 use Rattle.lb_flat.proofs.Emission.{joins_equations, joins_copies}
 use Rattle.lb_flat.proofs.Bodies.{assert_equations, assert_copies}
@@ -92,7 +92,7 @@ defined_by P n m body =
     flat_map (λ s. equation_definitions P (start_of n) s.0 s.1)
     (zip body (right_sides P n m body))
 
-module _ (P : Program) (n : Node) (elaborated : IsElaborated P n)
+module _ (P : Program) (n : Node) (elaborated : IsPlain P n)
     (Under : ℕ → ℕ → Type 0) (Left : ℕ → Type 0) where
   abbrev Y : Layout
   Y = plain_layout n

@@ -9,14 +9,14 @@ use Rattle.lb_syntax.specs.Lists.{Every, In}
 use Rattle.lb_syntax.specs.Tree.{Name, Declaration, Node}
 use Rattle.lb_static.specs.Instances.{Program, Root, instances}
 use Rattle.lb_static.specs.Parts.{variable_names}
-use Rattle.lb_static.specs.Elaborated.{IsElaborated, start_of}
+use Rattle.lb_flat.specs.PlainNodes.{IsPlain, start_of}
 use Rattle.lb_check.specs.Clocks.{declared_clock}
 use Rattle.lb_check.specs.Needs.{Element, Needs, Reaches, at_once, through, IsCyclic}
-use Rattle.lb_check.proofs.PlainClocks.{base_declared}
+use Rattle.lb_flat.proofs.PlainClocks.{base_declared}
 use Rattle.lb_flat.specs.Flat.{Always, FlatClock, FlatEquation}
 use Rattle.lb_flat.specs.Run.{clock_reads, reads, keeps, equation_reads}
 use Rattle.lb_flat.specs.Layouts.{flat_clock}
-use Rattle.lb_flat.specs.Plain.{place_among, plain_layout}
+use Rattle.lb_flat.specs.PlainLayout.{place_among, plain_layout}
 use Rattle.lb_flat.specs.Emit.{Target, targets, from_inputs, input_targets, before_instances, emit_instances, expanded}
 use Rattle.lb_flat.specs.Stuck.{IsStuck}
 use Rattle.lb_flat.proofs.Lists.{Every-append, Every-first, Every-second, Every-in, Every-pieces}
@@ -238,7 +238,7 @@ targets_on k e (i ∷ is) = (e, targets_on k e is)
 
 -- ## A plain program that is stuck
 
-module _ (P : Program) (n : Node) (elaborated : IsElaborated P n)
+module _ (P : Program) (n : Node) (elaborated : IsPlain P n)
     (stuck : IsStuck (expanded (plain_layout n) P (count n)).size
     (expanded (plain_layout n) P (count n)).equations) where
   abbrev Never : ℕ → ℕ → Type 0

@@ -6,14 +6,14 @@ use Rattle.lb_syntax.specs.Tree.{Expr, Call, Iterate, Node}
 use Rattle.lb_static.specs.Instances.{Program, Instance, Observer, instance_at, instances, start_at}
 use Rattle.lb_static.specs.Shapes.{variables}
 use Rattle.lb_static.specs.Parts.{parts, right_side, node_parts}
-use Rattle.lb_static.specs.Elaborated.{IsElaborated, is_plain, start_of}
+use Rattle.lb_flat.specs.PlainNodes.{IsPlain, is_plain, start_of}
 use Rattle.lb_check.specs.Clocks.{declared_clock}
 use Rattle.lb_check.specs.Occurrences.{Occurrence, node_occurrences}
 use Rattle.lb_check.specs.Needs.{Element, Definition, elements, waits_for, call_definitions, clock_definitions, definitions_at, observer_definitions, definitions}
-use Rattle.lb_check.proofs.PlainClocks.{base_declared}
+use Rattle.lb_flat.proofs.PlainClocks.{base_declared}
 use Rattle.lb_flat.specs.Flat.{FlatEquation}
 use Rattle.lb_flat.specs.Layouts.{Layout}
-use Rattle.lb_flat.specs.Plain.{plain_layout}
+use Rattle.lb_flat.specs.PlainLayout.{plain_layout}
 use Rattle.lb_flat.specs.Emit.{State, emit_body, emit_instances, before_instances, given_inputs, observed, expanded}
 use Rattle.lb_flat.proofs.Lists.{Every-map, Every-append, Every-piece, Every-pieces, Every-of_pieces}
 use Rattle.lb_flat.proofs.ShapeFacts.{and_first, and_second}
@@ -77,7 +77,7 @@ final P n =
 abbrev pub inputs : Node → List FlatEquation
 inputs n = given_inputs (plain_layout n) (Some (start_of n))
 
-module _ (P : Program) (n : Node) (elaborated : IsElaborated P n) where
+module _ (P : Program) (n : Node) (elaborated : IsPlain P n) where
   pub all_plain : AllPlain (node_parts n)
   all_plain =
       let plain = and_first _ _ (and_second _ _ (and_second _ _ elaborated.plain)) in

@@ -9,16 +9,16 @@ use Rattle.lb_static.specs.StaticValues.{named}
 use Rattle.lb_static.specs.Instances.{Program, Instance, Root, name_value}
 use Rattle.lb_static.specs.Shapes.{variables, width}
 use Rattle.lb_static.specs.Parts.{parts, parts_in}
-use Rattle.lb_static.specs.Elaborated.{IsElaborated, is_plain, is_scalar, start_of}
+use Rattle.lb_flat.specs.PlainNodes.{IsPlain, is_plain, is_scalar, start_of}
 use Rattle.lb_check.specs.Scalars.{Integer, Boolean, or_fault}
 use Rattle.lb_check.specs.Clocks.{Clock, Base, clock_of, clock_or, first_clock}
 use Rattle.lb_check.specs.Occurrences.{call_count}
 use Rattle.lb_check.specs.Streams.{first_of}
 use Rattle.lb_check.specs.Needs.{Element, elements, itself, needs, all_needs}
-use Rattle.lb_check.proofs.PlainClocks.{base_declared}
+use Rattle.lb_flat.proofs.PlainClocks.{base_declared}
 use Rattle.lb_flat.specs.Flat.{ApplyUnary, ApplyBinary, FirstThen}
 use Rattle.lb_flat.specs.Layouts.{Layout}
-use Rattle.lb_flat.specs.Plain.{plain_layout}
+use Rattle.lb_flat.specs.PlainLayout.{plain_layout}
 use Rattle.lb_flat.specs.Emit.{State, keep, emit_name, emit, emit_all}
 use Rattle.lb_flat.proofs.Lists.{Every-map, Every-both, Every-first, Every-second}
 use Rattle.lb_flat.proofs.ShapeFacts.{and_first, and_second}
@@ -103,7 +103,7 @@ pub record IsOne (P : Program) (n : Node) (d : Declaration) : Type 0 where
   pub is_place : (plain_layout n).places Root d.name ≡ place ∷ []
   pub width : width P (start_of n) d ≡ 1
 
-module _ (P : Program) (n : Node) (elaborated : IsElaborated P n) where
+module _ (P : Program) (n : Node) (elaborated : IsPlain P n) where
   pub scalars : list_all is_scalar (variables n) ≡ true
   scalars = and_first _ _ (and_second _ _ elaborated.plain)
 

@@ -14,30 +14,31 @@ use Rattle.lb_syntax.specs.declared.tree.Kind.TheVariants.{Int as Int_kind, Bool
 use Rattle.lb_syntax.specs.Lists.{◌>>=◌, either_or, where_true, joined, zip2}
 use Rattle.lb_syntax.specs.Tree as tree
 use Rattle.lb_syntax.specs.Tree.{Name, Node, Declaration, Expr}
-use Rattle.lb_static.specs.declared.term.VariableId.{VariableId}
-use Rattle.lb_static.specs.declared.term.Variable.{Variable as Declared}
-use Rattle.lb_static.specs.declared.term.Step.{Step}
-use Rattle.lb_static.specs.declared.term.Step.TheVariants as step
-use Rattle.lb_static.specs.declared.term.Term.{Term, Literal, Truth, Variable, Group', Unary', Binary', If', Arrow', Fby', Pre', AtMostOne', Nor', Row_of-Term, end_of-Term, more_of-Term}
+use Rattle.lb_static.specs.declared.resolved.VariableId.{VariableId}
+use Rattle.lb_flat.specs.declared.plain.term.Variable.{Variable as Declared}
+use Rattle.lb_flat.specs.declared.plain.term.Step.{Step}
+use Rattle.lb_flat.specs.declared.plain.term.Step.TheVariants as step
+use Rattle.lb_flat.specs.declared.plain.term.Term.{Term, Literal, Truth, Variable, Group', Unary', Binary', If', Arrow', Fby', Pre', AtMostOne', Nor', Row_of-Term, end_of-Term, more_of-Term}
 use Rattle.lb_static.specs.StaticValues.{named}
 use Rattle.lb_static.specs.Instances.{Program, Instance}
 use Rattle.lb_static.specs.Shapes.{int, variables, shape_of, is_kind}
 use Rattle.lb_static.specs.Parts.{among, variable_names, parts, parts_in, right_side}
 use Rattle.lb_static.specs.Names.{are_distinct}
-use Rattle.lb_static.specs.Elaborated.{is_plain, start_of, is_scalar, is_place, is_within, are_within}
-use Rattle.lb_static.specs.Terms.{declaration_of, name_of, expr_of, row_of, statement_of}
+use Rattle.lb_flat.specs.PlainNodes.{is_plain, start_of, is_scalar, is_place, is_within, are_within}
+use Rattle.lb_flat.specs.PlainTerms.{declaration_of, name_of, expr_of, row_of, statement_of}
 use Rattle.lb_check.specs.Scalars.{Scalar, Integer, first_value}
 use Rattle.lb_check.specs.Types.{name_shape, only, is_arithmetic, is_logical, is_equality}
 use Rattle.lb_check.specs.Clocks.{Base}
 use Rattle.lb_check.specs.Occurrences.{call_count}
 use Rattle.lb_check.specs.Streams.{first_of}
-use Rattle.lb_check.specs.TermKinds.{kinds_of, term_kind, row_truths, unary_kind, binary_kind, same_kind, is_bool, fits_left}
-use Rattle.lb_check.proofs.PlainNames.{found_at, get_name, held_at, not_among}
-use Rattle.lb_check.proofs.PlainTypes.{names_map}
-use Rattle.lb_check.proofs.TermShapes.{scalar, shape_list, term_shapes}
+use Rattle.lb_flat.specs.TermKinds.{kinds_of, term_kind, row_truths, unary_kind, binary_kind, same_kind, is_bool, fits_left}
+use Rattle.lb_check.proofs.DistinctNames.{held_at, not_among}
+use Rattle.lb_flat.proofs.PlainNames.{found_at, get_name}
+use Rattle.lb_flat.proofs.PlainTypes.{names_map}
+use Rattle.lb_flat.proofs.TermShapes.{scalar, shape_list, term_shapes}
 use Rattle.lb_flat.specs.Flat.{Always, Operation, Constant, ApplyUnary, ApplyBinary, FirstThen, Previous}
 use Rattle.lb_flat.specs.Layouts.{Layout}
-use Rattle.lb_flat.specs.Plain.{place_among, plain_layout}
+use Rattle.lb_flat.specs.PlainLayout.{place_among, plain_layout}
 use Rattle.lb_flat.specs.Emit.{State, Emitted, gives, add, keep, push, negated, chained, twice, emit_nor, emit_at_most_one, emit_name, emit, emit_all, numbers, chosen_by}
 use Rattle.lb_flat.specs.Terms.{Found, pushed, as_truth, literal, unary_result, binary_result, emit_term, emit_row}
 use Rattle.lb_flat.proofs.ShapeFacts.{bound, truly, some_same, and_first, and_second}

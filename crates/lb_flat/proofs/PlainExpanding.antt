@@ -9,7 +9,7 @@ use Rattle.lb_syntax.specs.Tree.{Expr, Call, Iterate, Node}
 use Rattle.lb_static.specs.Instances.{Program, Instance, Root, Observer, instance_at, instances, start_at}
 use Rattle.lb_static.specs.Shapes.{variables, width, input_kinds}
 use Rattle.lb_static.specs.Parts.{parts, right_side, node_parts}
-use Rattle.lb_static.specs.Elaborated.{IsElaborated, is_plain, start_of}
+use Rattle.lb_flat.specs.PlainNodes.{IsPlain, is_plain, start_of}
 use Rattle.lb_check.specs.Acceptance.{check_refusal}
 use Rattle.lb_check.specs.TypeRules.{is_typed}
 use Rattle.lb_check.specs.Scalars.{Stream}
@@ -19,7 +19,7 @@ use Rattle.lb_check.specs.Solutions.{Inputs, Solves, AreSame, columns_at}
 use Rattle.lb_flat.specs.Flat.{Always, FlatEquation, column, FlatSolves}
 use Rattle.lb_flat.specs.Run.{Ready}
 use Rattle.lb_flat.specs.Layouts.{Layout}
-use Rattle.lb_flat.specs.Plain.{plain_layout}
+use Rattle.lb_flat.specs.PlainLayout.{plain_layout}
 use Rattle.lb_flat.specs.Emit.{expanded}
 use Rattle.lb_flat.specs.Expanded.{IsOrderingOf}
 use Rattle.lb_flat.specs.Flattening.{history_of, IsTrace, IsWatched, IsFlatOf}
@@ -59,7 +59,7 @@ none_observed Q (Some root) p e = subst (λ p. IfSome p (Q root)) (sym e) tt
 
 -- ## A plain program
 
-module _ (P : Program) (n : Node) (elaborated : IsElaborated P n)
+module _ (P : Program) (n : Node) (elaborated : IsPlain P n)
     (checked : check_refusal P ≡ None) where
   abbrev Y : Layout
   Y = plain_layout n

@@ -1,4 +1,4 @@
--- What the code emits for an elaborated node is the expansion of its program.
+-- What the code emits for a plain program is the expansion of its program.
 use Rattle.std.proofs.Common.{◌≡◌, ◌<◌, ◌≤◌, ℕ, zero, suc, ◌+◌, Bool, true, false, List, [], ◌∷◌, ◌++◌, length, map, take, drop, get_or, Option, Some, None, Result, Ok, Err, refl, ap, sym, subst, ◌∙◌, arith, length-append}
 use Rattle.std.specs.Prelude.{◌&&◌, nat_le, nat_lt, nat_eq, flat_map}
 use Rattle.std.specs.List.{list_all, range_with_len}
@@ -8,41 +8,40 @@ use Rattle.lb_syntax.specs.declared.tree.Kind.{Kind}
 use Rattle.lb_syntax.specs.declared.tree.Kind.TheVariants.{Bool as Bool_kind}
 use Rattle.lb_syntax.specs.Lists.{◌>>=◌, listed}
 use Rattle.lb_syntax.specs.Tree.{Name, Node, Declaration}
-use Rattle.lb_static.specs.declared.elab.Elab.{Elab}
-use Rattle.lb_static.specs.declared.term.VariableId.{VariableId}
-use Rattle.lb_static.specs.declared.term.Variable.{Variable as Declared}
-use Rattle.lb_static.specs.declared.term.Step.{Step}
-use Rattle.lb_static.specs.declared.term.Step.TheVariants as step
-use Rattle.lb_static.specs.declared.term.Term.{Term, Literal, Truth, Variable, Group', Unary', Binary', If', Arrow', Fby', Pre', AtMostOne', Nor', Row_of-Term, end_of-Term, more_of-Term}
+use Rattle.lb_flat.specs.declared.plain.Plain.{Plain}
+use Rattle.lb_static.specs.declared.resolved.VariableId.{VariableId}
+use Rattle.lb_flat.specs.declared.plain.term.Variable.{Variable as Declared}
+use Rattle.lb_flat.specs.declared.plain.term.Step.{Step}
+use Rattle.lb_flat.specs.declared.plain.term.Step.TheVariants as step
+use Rattle.lb_flat.specs.declared.plain.term.Term.{Term, Literal, Truth, Variable, Group', Unary', Binary', If', Arrow', Fby', Pre', AtMostOne', Nor', Row_of-Term, end_of-Term, more_of-Term}
 use Rattle.lb_static.specs.Instances.{Program, Instance, Root, Observer, start_at, instance_at, instances}
 use Rattle.lb_static.specs.Shapes.{variables}
 use Rattle.lb_static.specs.Parts.{variable_names, parts, parts_in, right_side, node_parts}
 use Rattle.lb_static.specs.Names.{are_distinct}
-use Rattle.lb_static.specs.Elaborated.{IsElaborated, is_plain, start_of, is_scalar, is_place, is_step_within}
-use Rattle.lb_static.specs.Nodes.{node_in}
-use Rattle.lb_static.specs.Terms.{declaration_of, name_of, expr_of, row_of, statement_of}
+use Rattle.lb_flat.specs.PlainNodes.{IsPlain, is_plain, start_of, is_scalar, is_place, is_step_within}
+use Rattle.lb_flat.specs.PlainPrograms.{node_in, IsPlainFault}
+use Rattle.lb_flat.specs.PlainTerms.{declaration_of, name_of, expr_of, row_of, statement_of}
 use Rattle.lb_check.specs.Occurrences.{call_count}
-use Rattle.lb_check.specs.TermKinds.{kinds_of, term_kind, is_step_typed, are_typed}
+use Rattle.lb_flat.specs.TermKinds.{kinds_of, term_kind, is_step_typed, are_typed}
 use Rattle.lb_check.specs.Verdicts.{judge}
-use Rattle.lb_check.proofs.PlainNames.{distinct_names}
-use Rattle.lb_check.proofs.PlainTypes.{names_map}
-use Rattle.lb_check.proofs.PlainClocks.{base_declared, step_base}
-use Rattle.lb_check.specs.declared.checked.Checked.{Checked}
+use Rattle.lb_flat.proofs.PlainNames.{distinct_names}
+use Rattle.lb_flat.proofs.PlainTypes.{names_map, node_typed}
+use Rattle.lb_flat.proofs.PlainClocks.{base_declared, step_base}
 use Rattle.lb_flat.specs.declared.flat.Flat.{Flat}
 use Rattle.lb_flat.specs.declared.error.FlatError.{FlatError}
 use Rattle.lb_flat.specs.declared.error.FlatError.TheVariants as error
-use Rattle.lb_flat.specs.TermExpansion.{IsElabAnswer}
+use Rattle.lb_flat.specs.TermExpansion.{IsSizedAnswer}
 use Rattle.lb_flat.specs.Expanded.{IsExpansionOf, IsExpansionAnswer}
 use Rattle.lb_flat.proofs.PlainAnswers.{plain_expansion}
-use Rattle.lb_flat.proofs.PlainSize.{plain_size}
+use Rattle.lb_flat.proofs.PlainSize.{all_typed, plain_size}
 use Rattle.lb_check.specs.Acceptance.{check_refusal}
 use Rattle.lb_check.specs.TypeRules.{size, is_small}
 use Rattle.lb_flat.specs.Flat.{Always, Input, FlatEquation}
 use Rattle.lb_flat.specs.Judging.{FlatProgram}
 use Rattle.lb_flat.specs.Layouts.{Layout, flat_clock}
-use Rattle.lb_flat.specs.Plain.{place_among, plain_layout}
+use Rattle.lb_flat.specs.PlainLayout.{place_among, plain_layout}
 use Rattle.lb_flat.specs.Emit.{State, Emitted, Target, assert, joins, emit, emit_body, emit_instances, before_instances, targets, copied, from_inputs, given_inputs, observed, property_places, expanded}
-use Rattle.lb_flat.specs.Terms.{copied_first, with_copies, emit_term, emit_step, emit_steps, given_elements, expanded_elab, term_size, row_size, step_size, steps_size, elab_size}
+use Rattle.lb_flat.specs.Terms.{copied_first, with_copies, emit_term, emit_step, emit_steps, given_elements, expanded_plain, term_size, row_size, step_size, steps_size, plain_size_of}
 use Rattle.lb_flat.proofs.ShapeFacts.{and_first, and_second}
 use Rattle.lb_flat.proofs.PlainEmission.{step_has_ints, steps_ints, as_emitted, held, term_emits, one_left, bool_is, drop_at}
 
@@ -258,7 +257,7 @@ module _ (P : Program) (n : Node) (vars : List Declared)
       get_or (is ++ flat_map (λ d. Y.places Root d.name) (take c (drop (suc j) declared))) 0 0)
       p.is_place
 
--- ## The program of an elaborated node
+-- ## The program of a plain node
 
 at_most : (n : ℕ) → n ≤ 65536 → nat_le n 65536 ≡ true
 at_most n h = grind (arith, nat_tests)
@@ -275,7 +274,7 @@ all_parts i o xs =
 second_of : (a b c : Bool) → (a && (b && c)) ≡ true → b ≡ true
 second_of a b c e = and_first b c (and_second a (b && c) e)
 
-module _ (el : Elab) where
+module _ (el : Plain) where
   abbrev node : Node
   node = node_in el
 
@@ -286,12 +285,12 @@ module _ (el : Elab) where
   count_is = ap length vars_are ∙ length-map el.variables.items declaration_of
 
   -- the code counts the variables, and the expressions with their parts
-  pub size_is : elab_size el ≡ length (variables node) + length (node_parts node)
+  pub size_is : plain_size_of el ≡ length (variables node) + length (node_parts node)
   size_is =
       let parts = steps_parts (map (λ v. v.name) el.variables.items) el.body.items in
       omega (arith, count_is, parts)
 
-  module _ (P : Program) (e : IsElaborated P node)
+  module _ (P : Program) (e : IsPlain P node)
       (typed : are_typed (kinds_of el.variables.items) el.body.items ≡ true) where
     distinct : are_distinct (map (λ v. v.name) el.variables.items) ≡ true
     distinct =
@@ -362,7 +361,7 @@ module _ (el : Elab) where
         (omega arith)
 
     -- what the code emits is the expansion
-    pub expansion_is : expanded_elab el ≡ expanded layout P (length (variables node))
+    pub expansion_is : expanded_plain el ≡ expanded layout P (length (variables node))
     expansion_is =
         let given = given_inputs layout (instance_at P Root) in
         let seen = observed layout (instance_at P Root) (instance_at P Observer) in
@@ -374,23 +373,42 @@ module _ (el : Elab) where
         ∙ ap (λ qs. from last (given_elements el.inputs) qs elements property) is_observed
         ∙ ap (from last (given_elements el.inputs) [] elements) is_property)
 
+-- what is refused for no reason is typed as the code would find it
+typed_is : (el : Plain) (P : Program) → IsPlain P (node_in el) → check_refusal P ≡ None →
+    are_typed (kinds_of el.variables.items) el.body.items ≡ true
+typed_is el P e refusal =
+    let n = node_in el in
+    sym (node_typed P n e el.variables.items (vars_are el) el.body.items refl el.steps_fit
+    (plain_of n e))
+    ∙ all_typed P (start_of n) e.alone refusal
+  where
+    plain_of : (n : Node) → IsPlain P n → list_all is_scalar (variables n) ≡ true
+    plain_of n e = second_of (nat_eq (length n.parameters) 0) (list_all is_scalar (variables n)) _ e.plain
+
 -- the answer of the code about the terms is the one about the program
 pub answer_is :
-    (c : Checked) (P : Program) (r : Result Flat FlatError) → IsElaborated P (node_in c.elab) →
-    check_refusal P ≡ None → IsElabAnswer c.elab r → IsExpansionAnswer P r
-answer_is c P (Ok f) e refusal h =
-    let n = node_in c.elab in
+    (el : Plain) (P : Program) (r : Result Flat FlatError) → IsPlain P (node_in el) →
+    check_refusal P ≡ None → IsSizedAnswer el r → IsExpansionAnswer P r
+answer_is el P (Ok f) e refusal h =
+    let n = node_in el in
     let counted_by = plain_size P n e refusal in
-    let counted = size_is c.elab in
+    let counted = size_is el in
     let limit = h.0 in
     let small : is_small P ≡ true =
     at_most (size P) (omega (arith, counted_by, counted, limit)) in (
       small,
-      subst (IsExpansionOf P) (sym (h.1 ∙ expansion_is c.elab P e c.is_typed))
+      subst (IsExpansionOf P) (sym (h.1 ∙ expansion_is el P e (typed_is el P e refusal)))
           (plain_expansion P n e refusal),
     )
-answer_is c P (Err error.Memory) e refusal h = tt
-answer_is c P (Err error.Large) e refusal h =
-    let counted_by = plain_size P (node_in c.elab) e refusal in
-    let counted = size_is c.elab in
+answer_is el P (Err error.Memory) e refusal h = tt
+answer_is el P (Err error.Large) e refusal h =
+    let counted_by = plain_size P (node_in el) e refusal in
+    let counted = size_is el in
     above (size P) (omega (arith, counted_by, counted, h))
+answer_is el P (Err error.Later) e refusal h = absurd h
+
+-- what is refused before the terms are looked at
+pub plain_fault_is : (P : Program) (f : FlatError) → IsPlainFault P f → IsExpansionAnswer P (Err f)
+plain_fault_is P error.Memory h = tt
+plain_fault_is P error.Large h = absurd h
+plain_fault_is P error.Later h = h

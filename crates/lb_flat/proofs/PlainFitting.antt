@@ -11,24 +11,24 @@ use Rattle.lb_static.specs.Instances.{Program, Instance, Root, Observer, start_a
 use Rattle.lb_static.specs.Shapes.{variables, input_kinds}
 use Rattle.lb_static.specs.Signature.{kinds_of}
 use Rattle.lb_static.specs.Parts.{among, own_names, node_parts, node_names, variable_names}
-use Rattle.lb_static.specs.Elaborated.{IsElaborated, is_scalar, is_plain, start_of}
+use Rattle.lb_flat.specs.PlainNodes.{IsPlain, is_scalar, is_plain, start_of}
 use Rattle.lb_check.specs.TypeRules.{is_typed, is_clock_typed, is_statement_typed}
 use Rattle.lb_check.specs.Acceptance.{check_refusal}
-use Rattle.lb_check.proofs.PlainNames.{distinct_names}
+use Rattle.lb_flat.proofs.PlainNames.{distinct_names}
 use Rattle.lb_flat.specs.Flat.{FlatEquation}
-use Rattle.lb_flat.specs.Plain.{plain_layout}
+use Rattle.lb_flat.specs.PlainLayout.{plain_layout}
 use Rattle.lb_flat.specs.Emit.{emit_instances, before_instances, given_inputs, observed, expanded}
 use Rattle.lb_flat.proofs.Lists.{Every-append, Every-map, Every-both, Every-first, Every-piece, map-maps}
 use Rattle.lb_flat.proofs.ShapeFacts.{and_first, and_second}
 use Rattle.lb_flat.proofs.PlainFittingKinds.{IsKind, IsPlainEquation, kind_at, kind_is, plain_fits}
 use Rattle.lb_flat.proofs.PlainFittingVariables.{each_true, each_found, variable_kinds, found_placed}
-use Rattle.lb_flat.proofs.PlainFittingExpressions.{IsPlain, ArePlain}
+use Rattle.lb_flat.proofs.PlainFittingExpressions.{IsPlainExpression, ArePlain}
 use Rattle.lb_flat.proofs.PlainFittingBodies.{Grown, body_grown, inputs_given}
 use Rattle.lb_flat.proofs.PlainPlacing.{IsPlainFitting}
 
 -- ## What is known of the node
 
-module _ (P : Program) (n : Node) (e : IsElaborated P n) where
+module _ (P : Program) (n : Node) (e : IsPlain P n) where
   forms : (list_all is_scalar (variables n)
       && (list_all is_plain (node_parts n)
       && list_all (λ x. among x (variable_names n)) (node_names n))) ≡ true
@@ -53,7 +53,7 @@ module _ (P : Program) (n : Node) (e : IsElaborated P n) where
       let names = Every-piece among_names own_names (node_parts n)
       (each_true (λ x. among x (variable_names n)) (node_names n) all_named) in
       Every-map (λ (a : Expr). (is_plain a ≡ true) × Every among_names (own_names a))
-      (IsPlain (variable_names n)) (λ a h. record { form = h.0; named = h.1 }) (node_parts n)
+      (IsPlainExpression (variable_names n)) (λ a h. record { form = h.0; named = h.1 }) (node_parts n)
       (Every-both (λ (a : Expr). is_plain a ≡ true) _ (node_parts n)
       (each_true is_plain (node_parts n) all_plain) names)
 
@@ -63,7 +63,7 @@ unless_kept true r o e = refl
 unless_kept false r o e = cc
 
 pub all_typed :
-    (P : Program) (n : Node) → IsElaborated P n → check_refusal P ≡ None →
+    (P : Program) (n : Node) → IsPlain P n → check_refusal P ≡ None →
     list_all (is_statement_typed P (start_of n)) n.body ≡ true
 all_typed P n e c =
     let typed = unless_kept (list_all (is_typed P) (instances P)) E9 _ c in
@@ -74,13 +74,13 @@ all_typed P n e c =
 -- ## The whole program
 
 -- the kinds of the inputs are those of the signature
-inputs_kinds : (P : Program) (n : Node) → IsElaborated P n →
+inputs_kinds : (P : Program) (n : Node) → IsPlain P n →
     map (λ d. d.kind) n.inputs ≡ input_kinds P
 inputs_kinds P n e =
     sym (map-maps (λ (x : Name × Kind). x.1) (λ (d : Declaration). (d.name, d.kind)) n.inputs)
     ∙ ap kinds_of (sym e.inputs)
 
-module _ (P : Program) (n : Node) (e : IsElaborated P n) (c : check_refusal P ≡ None) where
+module _ (P : Program) (n : Node) (e : IsPlain P n) (c : check_refusal P ≡ None) where
   abbrev own : List Kind
   own = variable_kinds n
 

@@ -10,14 +10,14 @@ use Rattle.lb_static.specs.Instances.{Program, Instance, Root}
 use Rattle.lb_static.specs.Shapes.{Shape, is_kind, is_shape, are_shapes, same_sizes, variables, shape_of}
 use Rattle.lb_static.specs.Parts.{parts, parts_in, right_side}
 use Rattle.lb_static.specs.Walk.{are_same}
-use Rattle.lb_static.specs.Elaborated.{is_scalar, start_of}
+use Rattle.lb_flat.specs.PlainNodes.{is_scalar, start_of}
 use Rattle.lb_check.specs.Types.{shapes}
 use Rattle.lb_check.specs.TypeRules.{declared_shape, is_statement_typed}
 use Rattle.lb_check.specs.Clocks.{Clock, Base, clock_or, clock_of, first_clock}
 use Rattle.lb_check.specs.Occurrences.{call_count, statement_clock}
-use Rattle.lb_check.proofs.PlainClocks.{base_declared}
+use Rattle.lb_flat.proofs.PlainClocks.{base_declared}
 use Rattle.lb_flat.specs.Flat.{Copy, Input, FlatEquation}
-use Rattle.lb_flat.specs.Plain.{plain_layout}
+use Rattle.lb_flat.specs.PlainLayout.{plain_layout}
 use Rattle.lb_flat.specs.Emit.{State, Emitted, Target, targets, copied, from_inputs, joins, assert, emit, emit_body}
 use Rattle.lb_flat.proofs.Lists.{Every-append}
 use Rattle.lb_flat.proofs.ShapeFacts.{bound, some_same, and_first, and_second}

@@ -10,13 +10,13 @@ use Rattle.lb_static.specs.StaticValues.{named}
 use Rattle.lb_static.specs.Instances.{Program, Instance}
 use Rattle.lb_static.specs.Shapes.{Shape, int, truth, is_shape, variables, shape_of}
 use Rattle.lb_static.specs.Parts.{among, variable_names, parts, parts_in, own_names}
-use Rattle.lb_static.specs.Elaborated.{is_scalar, is_plain, start_of}
+use Rattle.lb_flat.specs.PlainNodes.{is_scalar, is_plain, start_of}
 use Rattle.lb_check.specs.Scalars.{Integer, Boolean, first_value}
 use Rattle.lb_check.specs.Types.{shapes, all_shapes, only, singly, name_shape, from_one, from_truths, unary_shape, binary_shape, same_shape}
 use Rattle.lb_check.specs.Clocks.{Base}
 use Rattle.lb_check.specs.Occurrences.{call_count}
 use Rattle.lb_flat.specs.Flat.{Constant, ApplyUnary, ApplyBinary}
-use Rattle.lb_flat.specs.Plain.{plain_layout}
+use Rattle.lb_flat.specs.PlainLayout.{plain_layout}
 use Rattle.lb_flat.specs.Emit.{State, Emitted, EmittedAll, emit_name, emit, emit_all}
 use Rattle.lb_flat.proofs.Lists.{Every-append, Every-first, Every-second}
 use Rattle.lb_flat.proofs.ScalarKinds.{IsOf}
@@ -29,18 +29,18 @@ use Rattle.lb_flat.proofs.PlainFittingVariables.{variable_kinds, IsPlaced, name_
 -- ## Plain expressions
 
 -- an expression of scalars in one node, on one clock, whose names are among these
-pub record IsPlain (names : List Name) (e : Expr) : Type 0 where
+pub record IsPlainExpression (names : List Name) (e : Expr) : Type 0 where
   pub form : is_plain e ≡ true
   pub named : Every (λ x. among x names ≡ true) (own_names e)
 
 abbrev pub ArePlain : Node → List Expr → Type 0
-ArePlain n es = Every (IsPlain (variable_names n)) es
+ArePlain n es = Every (IsPlainExpression (variable_names n)) es
 
 pub fore : (n : Node) (es es' : List Expr) → ArePlain n (es ++ es') → ArePlain n es
-fore n es es' h = Every-first (IsPlain (variable_names n)) es es' h
+fore n es es' h = Every-first (IsPlainExpression (variable_names n)) es es' h
 
 pub aft : (n : Node) (es es' : List Expr) → ArePlain n (es ++ es') → ArePlain n es'
-aft n es es' h = Every-second (IsPlain (variable_names n)) es es' h
+aft n es es' h = Every-second (IsPlainExpression (variable_names n)) es es' h
 
 pub not_plain : {A : Type 0} → false ≡ true → A
 not_plain e = absurd cc

@@ -11,12 +11,12 @@ use Rattle.lb_static.specs.Instances.{Program, Root}
 use Rattle.lb_static.specs.Shapes.{variables, shape_of}
 use Rattle.lb_static.specs.Names.{are_distinct}
 use Rattle.lb_static.specs.Parts.{among, variable_names}
-use Rattle.lb_static.specs.Elaborated.{is_scalar, start_of}
+use Rattle.lb_flat.specs.PlainNodes.{is_scalar, start_of}
 use Rattle.lb_check.specs.Clocks.{declared_clock}
-use Rattle.lb_check.proofs.PlainClocks.{base_declared}
+use Rattle.lb_flat.proofs.PlainClocks.{base_declared}
 use Rattle.lb_flat.specs.Flat.{Always}
 use Rattle.lb_flat.specs.Layouts.{flat_clock}
-use Rattle.lb_flat.specs.Plain.{place_among, plain_layout}
+use Rattle.lb_flat.specs.PlainLayout.{place_among, plain_layout}
 use Rattle.lb_flat.specs.Emit.{Target, targets}
 use Rattle.lb_flat.proofs.Lists.{Every-map, Every-both}
 use Rattle.lb_flat.proofs.ShapeFacts.{and_first, and_second, some_same}

@@ -15,7 +15,7 @@ use Rattle.lb_static.specs.StaticValues.{named}
 use Rattle.lb_static.specs.Instances.{Program, Instance, Root, instances}
 use Rattle.lb_static.specs.Parts.{left_names, parts, right_side, variable_names}
 use Rattle.lb_static.specs.Shapes.{Shape, is_shape, are_shapes, variables}
-use Rattle.lb_static.specs.Elaborated.{IsElaborated, start_of}
+use Rattle.lb_flat.specs.PlainNodes.{IsPlain, start_of}
 use Rattle.lb_static.specs.Walk.{are_same}
 use Rattle.lb_check.specs.Acceptance.{check_refusal}
 use Rattle.lb_check.specs.ClockRules.{is_clocked}
@@ -25,11 +25,11 @@ use Rattle.lb_check.specs.Needs.{Element, needs}
 use Rattle.lb_check.specs.Occurrences.{call_count, statement_clock}
 use Rattle.lb_check.specs.TypeRules.{declared_shape, is_statement_typed, is_typed}
 use Rattle.lb_check.specs.Types.{shapes}
-use Rattle.lb_check.proofs.PlainClocks.{base_declared}
-use Rattle.lb_check.proofs.PlainNames.{distinct_names}
+use Rattle.lb_flat.proofs.PlainClocks.{base_declared}
+use Rattle.lb_flat.proofs.PlainNames.{distinct_names}
 use Rattle.lb_flat.specs.Flat.{FlatClock, FlatEquation}
 use Rattle.lb_flat.specs.Layouts.{Layout, flat_clock}
-use Rattle.lb_flat.specs.Plain.{plain_layout}
+use Rattle.lb_flat.specs.PlainLayout.{plain_layout}
 use Rattle.lb_flat.specs.Emit.{State, Emitted, Target, targets, copied, joins, assert, from_inputs, before_instances, emit, emit_body, emit_instances, expanded}
 use Rattle.lb_flat.proofs.Lists.{map-pieces, Every-in}
 use Rattle.lb_flat.proofs.ShapeFacts.{and_first, and_second, bound, some_same}
@@ -127,7 +127,7 @@ module _ (P : Program) (n : Node) where
       (h.all ∙ ap (λ us. h.first ∷ us) g.all) same in
       not_plain (and_second (is_shape t h.first) false all)
 
-module _ (P : Program) (n : Node) (elaborated : IsElaborated P n) where
+module _ (P : Program) (n : Node) (elaborated : IsPlain P n) where
   abbrev Y : Layout
   Y = plain_layout n
 
@@ -255,7 +255,7 @@ module _ (P : Program) (n : Node) (elaborated : IsElaborated P n) where
 
 -- ## A plain program that breaks no rule
 
-module _ (P : Program) (n : Node) (elaborated : IsElaborated P n)
+module _ (P : Program) (n : Node) (elaborated : IsPlain P n)
     (accepted : check_refusal P ≡ None) where
   abbrev place : Name → List ℕ
   place x = (plain_layout n).places Root x

@@ -18,15 +18,15 @@ use Rattle.lb_static.specs.Shapes.{Shape, element_count, variables, shape_of, wi
 use Rattle.lb_static.specs.Parts.{among, variable_names}
 use Rattle.lb_static.specs.Names.{are_distinct, keeps_names, is_well_founded}
 use Rattle.lb_static.specs.Walk.{walk_refusal, has_no_parameters, is_one_truth, has_property, is_root}
-use Rattle.lb_static.specs.Elaborated.{IsElaborated, is_scalar, start_of}
+use Rattle.lb_flat.specs.PlainNodes.{IsPlain, is_scalar, start_of}
 use Rattle.lb_check.specs.Clocks.{Clock, Base, On, declared_clock}
 use Rattle.lb_check.specs.Verdicts.{judge}
-use Rattle.lb_check.proofs.PlainClocks.{base_declared}
-use Rattle.lb_check.proofs.PlainNames.{distinct_names}
+use Rattle.lb_flat.proofs.PlainClocks.{base_declared}
+use Rattle.lb_flat.proofs.PlainNames.{distinct_names}
 use Rattle.lb_flat.specs.Flat.{FlatClock, Always}
 use Rattle.lb_flat.specs.Run.{clock_reads}
 use Rattle.lb_flat.specs.Layouts.{Layout, where_signed, flat_clock}
-use Rattle.lb_flat.specs.Plain.{place_among, plain_layout}
+use Rattle.lb_flat.specs.PlainLayout.{place_among, plain_layout}
 use Rattle.lb_flat.specs.Emit.{before_instances, emit_instances, property_places, expanded}
 use Rattle.lb_flat.proofs.Lists.{Every-map, Every-both, Every-first, Every-second}
 use Rattle.lb_flat.proofs.ShapeFacts.{and_first, and_second}
@@ -233,7 +233,7 @@ module _ (n : Node) where
       (λ d i. one_place 0 (variable_names n) d.name i) (variables n)
       (all_named (variable_names n) (variables n) (λ x i. i))
 
-module _ (P : Program) (n : Node) (elaborated : IsElaborated P n) where
+module _ (P : Program) (n : Node) (elaborated : IsPlain P n) where
   abbrev Y : Layout
   Y = plain_layout n
 

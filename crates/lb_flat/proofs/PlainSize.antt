@@ -9,7 +9,7 @@ use Rattle.std.proofs.lemmas.List.Sums.{sum_by-cons}
 use Rattle.lb_syntax.specs.Lists.{◌>>=◌, Every, all_some, either_or, or_else}
 use Rattle.lb_syntax.specs.Refusals.{Refusal, E9, unless}
 use Rattle.lb_syntax.specs.Tree.{Static, Expr, Literal, Truth, Variable, Group, Unary, Binary, If, Arrow, Fby, Pre, Current, When, Copies, Index, Slice, Join, Array, AtMostOne, Nor, Call, Iterate, Exprs, Nil, Cons, Declaration, Node, Statement, Equation, Assertion}
-use Rattle.lb_static.specs.Elaborated.{IsElaborated, start_of, is_scalar, is_plain}
+use Rattle.lb_flat.specs.PlainNodes.{IsPlain, start_of, is_scalar, is_plain}
 use Rattle.lb_static.specs.Instances.{Program, Instance, instances, static_count}
 use Rattle.lb_static.specs.Parts.{parts, parts_in, node_parts, right_side}
 use Rattle.lb_static.specs.Shapes.{Shape, int, truth, element_count, variables, shape_of, width}
@@ -263,7 +263,7 @@ no_refusal : (b : Bool) (o : Option Refusal) → or_else (unless b E9) o ≡ Non
 no_refusal true o e = refl
 no_refusal false o e = cc
 
-all_typed :
+pub all_typed :
     (P : Program) (here : Instance) → instances P ≡ here ∷ [] → check_refusal P ≡ None →
     is_typed P here ≡ true
 all_typed P here alone e =
@@ -271,7 +271,7 @@ all_typed P here alone e =
     (ap (list_all (is_typed P)) (sym alone) ∙ no_refusal (list_all (is_typed P) (instances P)) _ e)
 
 pub plain_size :
-    (P : Program) (n : Node) → IsElaborated P n → check_refusal P ≡ None →
+    (P : Program) (n : Node) → IsPlain P n → check_refusal P ≡ None →
     size P ≡ length (variables n) + length (node_parts n)
 plain_size P n elaborated accepted =
     let here = start_of n in

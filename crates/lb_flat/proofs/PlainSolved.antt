@@ -10,17 +10,17 @@ use Rattle.lb_syntax.specs.Tree.{Name, Expr, Call, Iterate, Node, Declaration}
 use Rattle.lb_static.specs.Instances.{Program, Instance, Root, Observer, start_at, instance_at, instances}
 use Rattle.lb_static.specs.Shapes.{variables, input_kinds}
 use Rattle.lb_static.specs.Parts.{among, variable_names, parts, right_side, node_parts, node_names}
-use Rattle.lb_static.specs.Elaborated.{is_scalar, is_plain, start_of, IsElaborated}
+use Rattle.lb_flat.specs.PlainNodes.{is_scalar, is_plain, start_of, IsPlain}
 use Rattle.lb_check.specs.Acceptance.{check_refusal}
 use Rattle.lb_check.specs.Scalars.{Stream}
 use Rattle.lb_check.specs.TypeRules.{is_clock_typed, is_statement_typed, is_typed}
 use Rattle.lb_check.specs.Clocks.{Clock, declared_clock}
 use Rattle.lb_check.specs.Streams.{History, presence}
 use Rattle.lb_check.specs.Solutions.{Inputs, variable_presence, IsGiven, IsObserved, IsJoinedAt, IsJoined, SolvesAt, Solves, AreSame}
-use Rattle.lb_check.proofs.PlainClocks.{base_declared}
+use Rattle.lb_flat.proofs.PlainClocks.{base_declared}
 use Rattle.lb_flat.specs.Flat.{FlatClock, FlatEquation, Holds, FlatSolves}
 use Rattle.lb_flat.specs.Layouts.{Layout}
-use Rattle.lb_flat.specs.Plain.{plain_layout}
+use Rattle.lb_flat.specs.PlainLayout.{plain_layout}
 use Rattle.lb_flat.specs.Emit.{given_inputs, observed, before_instances, emit_instances, expanded}
 use Rattle.lb_flat.specs.Flattening.{history_of}
 use Rattle.lb_flat.proofs.Lists.{Every-first, Every-second, Every-piece}
@@ -73,7 +73,7 @@ first_rule :
 first_rule true r o e = refl
 first_rule false r o e = cc
 
-module _ (P : Program) (n : Node) (plain : IsElaborated P n) where
+module _ (P : Program) (n : Node) (plain : IsPlain P n) where
   abbrev here : Instance
   here = start_of n
 

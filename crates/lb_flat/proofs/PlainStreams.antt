@@ -10,7 +10,7 @@ use Rattle.lb_static.specs.Instances.{Program, Instance, name_value}
 use Rattle.lb_static.specs.Shapes.{Shape, variables}
 use Rattle.lb_static.specs.Parts.{parts, parts_in, right_side}
 use Rattle.lb_static.specs.Walk.{are_same}
-use Rattle.lb_static.specs.Elaborated.{is_plain}
+use Rattle.lb_flat.specs.PlainNodes.{is_plain}
 use Rattle.lb_check.specs.Scalars.{Scalar, Integer, Boolean, Stream, or_fault, two_scalars, one_scalar, at_most_one, none_true}
 use Rattle.lb_check.specs.Types.{shapes}
 use Rattle.lb_check.specs.TypeRules.{declared_shape, is_statement_typed}

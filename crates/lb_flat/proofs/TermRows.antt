@@ -8,12 +8,12 @@ use mathlib.Core.Former.{Count}
 use Rattle.lb_syntax.specs.declared.tree.Kind.{Kind}
 use Rattle.lb_syntax.specs.declared.tree.Kind.TheVariants.{Int as Int_kind}
 use Rattle.lb_syntax.specs.Lists.{either_or}
-use Rattle.lb_static.specs.declared.term.Variable.{Variable as Declared}
-use Rattle.lb_static.specs.declared.term.VariableId.{VariableId}
-use Rattle.lb_static.specs.declared.term.Step.{Step}
-use Rattle.lb_static.specs.declared.term.Term.{Term, Fby, AtMostOne, Nor, AtMostOne', Nor', Row_of-Term, end_of-Term, more_of-Term, items-the_row-Term, items_hidden-the_row-Term-0}
-use Rattle.lb_static.specs.Elaborated.{is_place, is_step_within, is_within, are_within}
-use Rattle.lb_check.specs.TermKinds.{kinds_of}
+use Rattle.lb_flat.specs.declared.plain.term.Variable.{Variable as Declared}
+use Rattle.lb_static.specs.declared.resolved.VariableId.{VariableId}
+use Rattle.lb_flat.specs.declared.plain.term.Step.{Step}
+use Rattle.lb_flat.specs.declared.plain.term.Term.{Term, Fby, AtMostOne, Nor, AtMostOne', Nor', Row_of-Term, end_of-Term, more_of-Term, items-the_row-Term, items_hidden-the_row-Term-0}
+use Rattle.lb_flat.specs.PlainNodes.{is_place, is_step_within, is_within, are_within}
+use Rattle.lb_flat.specs.TermKinds.{kinds_of}
 use Rattle.lb_flat.specs.Flat.{Always, FirstThen}
 use Rattle.lb_flat.specs.Emit.{State, Emitted, emit_nor, emit_at_most_one}
 use Rattle.lb_flat.specs.Terms.{Found, pushed, previous, as_truth, emit_term, emit_row, emit_list, term_size, row_size, list_size, step_size, steps_size, emit_step, emit_steps}

@@ -12,6 +12,7 @@ use Rattle.lb_flat.specs.Flat.{FlatEquation}
 use Rattle.lb_flat.specs.Run.{Ready}
 use Rattle.lb_flat.specs.Judging.{FlatProgram}
 use Rattle.lb_flat.specs.Flattening.{IsFlatOf}
+use Rattle.lb_flat.specs.PlainPrograms.{uses_later_forms}
 use Rattle.lb_flat.specs.Programs.{program_of}
 use Rattle.lb_flat.specs.Stuck.{CannotOrder}
 
@@ -31,11 +32,13 @@ pub record IsExpansionOf (P : Program) (f : FlatProgram) : Type 0 where
       (Q : List FlatEquation) → IsOrderingOf f.equations Q → Ready f.size [] Q → IsCausal P
   pub cyclic : CannotOrder f.size f.equations → IsCyclic P
 
--- the answer to an accepted program is its expansion, unless it is too large or memory ran out
+-- the answer to an accepted program is its expansion, unless it is too large, it has forms that do
+-- not run yet, or memory ran out
 abbrev pub IsExpansionAnswer : Program → Result Flat FlatError → Type 0
 IsExpansionAnswer P (Ok f) = (is_small P ≡ true) × IsExpansionOf P (program_of f.program)
 IsExpansionAnswer P (Err error.Memory) = Unit {0}
 IsExpansionAnswer P (Err error.Large) = is_small P ≡ false
+IsExpansionAnswer P (Err error.Later) = uses_later_forms P ≡ true
 
 -- the same flat program, with its equations in an order in which they can be computed
 pub record IsOrderOf (f g : FlatProgram) : Type 0 where

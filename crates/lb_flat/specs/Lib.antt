@@ -13,7 +13,12 @@ pub mod Programs
 pub mod Prepared
 pub mod InOrder
 pub mod Inputs
-pub mod Plain
+pub mod PlainLayout
+pub mod PlainTerms
+pub mod PlainNodes
+pub mod PlainPrograms
+pub mod LaterForms
+pub mod TermKinds
 pub mod Stuck
 pub mod Expanded
 pub mod Prefixes

@@ -9,14 +9,14 @@ use Rattle.lb_syntax.specs.declared.tree.BinaryOperator.{BinaryOperator}
 use Rattle.lb_syntax.specs.declared.tree.Kind.{Kind}
 use Rattle.lb_syntax.specs.declared.tree.Kind.TheVariants.{Int as Int_kind, Bool as Bool_kind}
 use Rattle.lb_syntax.specs.Lists.{either_or}
-use Rattle.lb_static.specs.declared.elab.Elab.{Elab}
-use Rattle.lb_static.specs.declared.term.VariableId.{VariableId}
-use Rattle.lb_static.specs.declared.term.Step.{Step}
-use Rattle.lb_static.specs.declared.term.Step.TheVariants as step
-use Rattle.lb_static.specs.declared.term.Term.{Term, Literal, Truth, Variable, Group', Unary', Binary', If', Arrow', Fby', Pre', AtMostOne', Nor', Row_of-Term, end_of-Term, more_of-Term}
+use Rattle.lb_flat.specs.declared.plain.Plain.{Plain}
+use Rattle.lb_static.specs.declared.resolved.VariableId.{VariableId}
+use Rattle.lb_flat.specs.declared.plain.term.Step.{Step}
+use Rattle.lb_flat.specs.declared.plain.term.Step.TheVariants as step
+use Rattle.lb_flat.specs.declared.plain.term.Term.{Term, Literal, Truth, Variable, Group', Unary', Binary', If', Arrow', Fby', Pre', AtMostOne', Nor', Row_of-Term, end_of-Term, more_of-Term}
 use Rattle.lb_check.specs.Scalars.{Scalar, Integer, Boolean, Bad, first_value}
 use Rattle.lb_check.specs.Types.{is_arithmetic}
-use Rattle.lb_check.specs.TermKinds.{kinds_of}
+use Rattle.lb_flat.specs.TermKinds.{kinds_of}
 use Rattle.lb_flat.specs.Flat.{Always, Operation, Input, Constant, Copy, ApplyUnary, ApplyBinary, Choose, FirstThen, Previous, FlatEquation}
 use Rattle.lb_flat.specs.Judging.{FlatProgram}
 use Rattle.lb_flat.specs.Emit.{State, Emitted, push, emit_nor, emit_at_most_one, before_instances}
@@ -156,8 +156,8 @@ whole s inputs count = record {
   property = inputs;
 }
 
-abbrev pub expanded_elab : Elab → FlatProgram
-expanded_elab e =
+abbrev pub expanded_plain : Plain → FlatProgram
+expanded_plain e =
     let count = length e.variables.items in
     whole (emit_steps (kinds_of e.variables.items) (before_instances count) e.body.items)
     e.inputs count
@@ -197,5 +197,5 @@ steps_size [] = 0
 steps_size (x ∷ xs) = step_size x + steps_size xs
 
 -- variables, and expressions with their parts
-abbrev pub elab_size : Elab → ℕ
-elab_size e = length e.variables.items + steps_size e.body.items
+abbrev pub plain_size_of : Plain → ℕ
+plain_size_of e = length e.variables.items + steps_size e.body.items

@@ -11,6 +11,9 @@ pub enum FlatError {
     /// The size of the expanded program is over 65,536 (E12).
     #[error("the expanded program is too large")]
     Large,
+    /// The program has an observer or a form that does not run yet (E12).
+    #[error("the program has a form that does not run yet")]
+    Later,
 }
 
 /// Why the equations of a program are not put in order.

@@ -12,6 +12,7 @@ mod instant;
 mod judge;
 mod names;
 pub mod order;
+pub mod plain;
 mod prepare;
 pub mod program;
 pub mod scalar;

@@ -8,9 +8,10 @@ ghost use Rattle.lb_flat.specs.Values.{scalar_of};
 ghost use Rattle.lb_flat.specs.Within.{IsWithin};
 
 use crate::equation::{ElementId, Equation, InputId, Operation};
+use crate::plain::term::{Step, Term, Variable};
 use crate::program::FlatProgram;
 use crate::scalar::Scalar;
-use lb_static::term::{Step, Term, Variable, VariableId};
+use lb_static::resolved::VariableId;
 use lb_syntax::tree::{BinaryOperator, Kind, UnaryOperator};
 use std::alloc::{AllocError, Global};
 
@@ -106,8 +107,8 @@ fn given_inputs(alloc: Global, inputs: u32) -> Result<Vec<Equation>, AllocError>
 impl Emission {
     ghost use Rattle.std.specs.Prelude.{◌+◌, ◌*◌, ◌^◌, ◌≤◌, true, length, OnOk};
     ghost use Rattle.std.specs.List.{list_all};
-    ghost use Rattle.lb_static.specs.Elaborated.{is_place, is_within, is_step_within};
-    ghost use Rattle.lb_check.specs.TermKinds.{kinds_of};
+    ghost use Rattle.lb_flat.specs.PlainNodes.{is_place, is_within, is_step_within};
+    ghost use Rattle.lb_flat.specs.TermKinds.{kinds_of};
     ghost use Rattle.lb_flat.specs.Flat.{Always};
     ghost use Rattle.lb_flat.specs.Emit.{before_instances, emit_nor, emit_at_most_one};
     ghost use Rattle.lb_flat.specs.Emissions.{state_of, found_of, emitted_of, AreBelow};

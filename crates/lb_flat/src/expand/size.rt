@@ -3,7 +3,7 @@
 ghost use Rattle.std.specs.Prelude.{◌≡◌, ◌+◌, ◌<◌, MatchOption};
 ghost use Rattle.lb_flat.specs.Terms.{term_size, list_size, steps_size};
 
-use lb_static::term::{Step, Term};
+use crate::plain::term::{Step, Term};
 
 /// What is left of so many expressions after a term and its parts, or none where they are too few.
 #[cycle(size)]

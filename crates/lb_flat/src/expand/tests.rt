@@ -1,24 +1,26 @@
 //! A small node, expanded.
 
-ghost use Rattle.std.specs.Prelude.{◌≡◌, ◌∷◌, [], true, codes, length, IfOk};
+ghost use Rattle.std.specs.Prelude.{◌≡◌, true, length, IfOk};
 ghost use Rattle.std.specs.List.{list_all};
-ghost use Rattle.lb_static.specs.Elaborated.{is_step_within, input_elements};
+ghost use Rattle.lb_flat.specs.PlainNodes.{is_step_within};
 
-use super::expand;
+use super::{expand, expand_plain};
 use crate::equation::{ElementId, Operation};
+use crate::error::FlatError;
+use crate::flat::Flat;
+use crate::plain::Plain;
+use crate::plain::term::{Step, Term, Variable};
 use lb_check::check::check;
-use lb_static::elab::Elab;
-use lb_static::signature::{Kind, Signature};
-use lb_static::term::{Step, Term, Variable, VariableId};
-use lb_syntax::tree::Name;
+use lb_static::elaborate::elaborate;
+use lb_static::resolved::VariableId;
+use lb_syntax::parse::parse;
+use lb_syntax::tree::{Kind, Name};
 use std::alloc::{AllocError, Global};
 use std::test::Fail;
 
 // x: bool, y: bool
 fn variables(alloc: Global) -> Result<Vec<Variable>, AllocError>
-    ensures count { IfOk result (λ xs. length xs.items ≡ 2) }
-    ensures inputs { IfOk result (λ xs.
-        input_elements xs.items 1 ≡ (codes "x", Kind.Bool) ∷ []) }
+    ensures { IfOk result (λ xs. length xs.items ≡ 2) }
 {
     let mut variables = Vec::new(alloc);
     variables.push(Variable {
@@ -46,14 +48,22 @@ fn body(alloc: Global) -> Result<Vec<Step>, AllocError>
     Ok(body)
 }
 
+// Whether this is the delay of an input:
 // 2 := false     3 := pre 0     4 := 2 -> 3     1 := 4
+fn is_delay(flat: &Flat) -> bool {
+    let program = &flat.program;
+    program.size == 5
+        && program.property == ElementId(1)
+        && program.kept.as_slice() == [ElementId(0)].as_slice()
+        && program.asserted.as_slice() == [ElementId(1)].as_slice()
+        && program.equations.len() == 5
+        && program.equations[4].operation == Operation::FirstThen(false, ElementId(2), ElementId(3))
+}
+
 #[test]
 fn a_delay(rt: HostRuntime) -> Result<(), Fail> {
     let alloc = rt.alloc();
-    let mut signature = Signature::new(alloc);
-    signature.push(String::from_str(alloc, "x")?, Kind::Bool)?;
-    let elab = Elab {
-        signature,
+    let plain = Plain {
         name: Name::new(alloc, b"f")?,
         is_function: false,
         variables: variables(alloc)?,
@@ -61,15 +71,62 @@ fn a_delay(rt: HostRuntime) -> Result<(), Fail> {
         outputs: 1,
         body: body(alloc)?,
     };
-    let flat = expand(alloc, &check(alloc, elab)?)?;
-    assert_eq!(rt; flat.program.size, 5);
-    assert_eq!(rt; flat.program.property, ElementId(1));
-    assert_eq!(rt; flat.program.kept.as_slice(), [ElementId(0)].as_slice());
-    assert_eq!(rt; flat.program.asserted.as_slice(), [ElementId(1)].as_slice());
-    assert_eq!(rt; flat.program.equations.len(), 5);
+    assert!(rt; is_delay(&expand_plain(alloc, &plain)?));
+    Ok(())
+}
+
+// What a text is expanded to, in a word.
+fn expanded(alloc: Global, text: &[u8], observer: Option<&str>) -> &'static str {
+    let Ok(source) = parse(alloc, text) else {
+        return "syntax";
+    };
+    let Ok(elab) = elaborate(alloc, &source, "f", observer) else {
+        return "static";
+    };
+    let Ok(checked) = check(alloc, elab) else {
+        return "check";
+    };
+    match expand(alloc, &checked) {
+        Ok(flat) => if is_delay(&flat) { "delay" } else { "other" },
+        Err(FlatError::Memory) => "memory",
+        Err(FlatError::Large) => "large",
+        Err(FlatError::Later) => "later",
+    }
+}
+
+#[test]
+fn texts(rt: HostRuntime) -> Result<(), Fail> {
+    for (text, answer) in [
+        (
+            "node f(x: bool) returns (y: bool); let y = false fby x; assert y; tel",
+            "delay",
+        ),
+        ("node f(x: bool) returns (y: bool); let y = x; tel", "other"),
+        (
+            "const n = 1; node f(x: int) returns (y: bool); let y = x > n; tel",
+            "later",
+        ),
+        (
+            "node f(x: bool^2) returns (y: bool); let y = x[0]; tel",
+            "later",
+        ),
+        (
+            "node f(x: bool) returns (y: bool); let y = g(x); tel
+node g(x: bool) returns (y: bool); let y = x; tel",
+            "later",
+        ),
+        (
+            "node f(x: bool) returns (y: bool); let y = current (x when x); tel",
+            "later",
+        ),
+    ] {
+        assert_eq!(rt; expanded(rt.alloc(), text.as_bytes(), None), answer);
+    }
+    let observed = "node f(x: bool) returns (y: bool); let y = x; tel
+node o(x, y: bool) returns (ok: bool); let ok = y; tel";
     assert_eq!(rt;
-        flat.program.equations[4].operation,
-        Operation::FirstThen(false, ElementId(2), ElementId(3))
+        expanded(rt.alloc(), observed.as_bytes(), Some("o")),
+        "later"
     );
     Ok(())
 }

@@ -1,7 +1,7 @@
-use Rattle.lb_check.specs.TermKinds.{kinds_of}
+use Rattle.lb_flat.specs.TermKinds.{kinds_of}
 use Rattle.lb_flat.specs.Emissions.{state_of, found_of}
 use Rattle.std.proofs.Common.{rules}
-use Rattle.lb_static.specs.declared.term.Term.TheViews.{sized-AtMostOne, sized-Nor}
+use Rattle.lb_flat.specs.declared.plain.term.Term.TheViews.{sized-AtMostOne, sized-Nor}
 use Rattle.lb_flat.proofs.TermRows.{emit_fby_is, within_of_truths, within_of_nor, room_of_truths, room_of_nor}
 use Rattle.lb_flat.proofs.expand.emission.Emission.+emission.Goals as goal
 

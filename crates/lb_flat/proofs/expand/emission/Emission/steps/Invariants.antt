@@ -1,7 +1,7 @@
 use Rattle.std.proofs.Common.{◌≡◌, ◌≤◌, ◌+◌, ◌*◌, true, length, drop}
 use Rattle.std.specs.List.{list_all}
-use Rattle.lb_static.specs.Elaborated.{is_step_within}
-use Rattle.lb_check.specs.TermKinds.{kinds_of}
+use Rattle.lb_flat.specs.PlainNodes.{is_step_within}
+use Rattle.lb_flat.specs.TermKinds.{kinds_of}
 use Rattle.lb_flat.specs.Emissions.{state_of}
 use Rattle.lb_flat.specs.Terms.{emit_steps, steps_size}
 use Rattle.lb_flat.proofs.expand.emission.Emission.steps.Given as goal

@@ -1,0 +1,67 @@
+//! From an elaborated program to a plain one.
+
+ghost use Rattle.std.specs.Prelude.{◌≡◌, ◌<◌, [], List, length, is_some, IfOk, IfErr};
+ghost use Rattle.lb_syntax.specs.Tree as tree;
+ghost use Rattle.lb_static.specs.Elaborated.{IsElaborated};
+ghost use Rattle.lb_static.specs.Instances.{Program};
+ghost use Rattle.lb_static.specs.ResolvedNodes.{IsResolved, node_of};
+ghost use Rattle.lb_flat.specs.PlainPrograms.{node_in, observer_of, IsPlainFault, TranslatesNode};
+ghost use Rattle.lb_flat.specs.PlainNodes.{IsPlain};
+
+use crate::error::FlatError;
+use crate::plain::Plain;
+use crate::plain::terms::plain_steps;
+use crate::plain::variables::declared_variables;
+use lb_static::elab::Elab;
+use lb_static::reach::Reached;
+use lb_static::resolved::ResolvedNode;
+use std::alloc::Global;
+
+/// Whether there is an observer.
+fn has_observer(reached: &Reached) -> bool
+    ensures { result ≡ is_some (observer_of reached.now) }
+{
+    match reached.observer {
+        Some(observer) => (observer.0 as usize) < reached.nodes.len(),
+        None => false,
+    }
+}
+
+/// The node under test as a plain one.
+///
+/// A static expression stands in an array, in a call, or for a constant in an expression, and none
+/// of these run yet.
+fn plain_node(alloc: Global, root: &ResolvedNode) -> Result<Plain, FlatError>
+    requires resolved { (nodes : List tree.Name) × IsResolved nodes root.now }
+    requires parameters { (node_of root.now).parameters ≡ [] }
+    requires output { 0 < length (node_of root.now).outputs }
+    ensures { TranslatesNode root.now result }
+{
+    if !root.statics.is_empty() {
+        return Err(FlatError::Later);
+    }
+    let variables = declared_variables(alloc, root.tree)?;
+    let body = plain_steps(alloc, &root.body)?;
+    Ok(Plain {
+        name: root.tree.name.copy(alloc)?,
+        is_function: root.tree.is_function,
+        variables,
+        inputs: root.inputs,
+        outputs: root.outputs,
+        body,
+    })
+}
+
+/// The plain program that an elaborated one is. One with forms that do not run yet is refused
+/// (E12).
+pub fn plain(alloc: Global, elab: &Elab) -> Result<Plain, FlatError>
+    requires { (P : Program) × IsElaborated P elab.now }
+    ensures ok { (P : Program) → IsElaborated P elab.now →
+        IfOk result (λ n. IsPlain P (node_in n)) }
+    ensures err { (P : Program) → IsElaborated P elab.now → IfErr result (IsPlainFault P) }
+{
+    if has_observer(&elab.reached) {
+        return Err(FlatError::Later);
+    }
+    plain_node(alloc, &elab.reached.nodes[elab.reached.root.0 as usize])
+}
