@@ -1,50 +1,69 @@
--- The program of a source whose equations cannot be put in order is refused for that first.
-use Rattle.std.proofs.Common.{◌≡◌, true, None, Result, Ok, Err, refl, sym, ap, subst, ◌∙◌}
+-- What a part of the bench refuses is the first refusal of the program; one that no part refuses is
+-- accepted.
+use Rattle.std.proofs.Common.{◌≡◌, true, Option, None, Err, [], refl, ap, sym, subst, ◌∙◌}
+use Rattle.std.specs.Prelude.{string_bytes}
+use Rattle.std.specs.Option.{option_map}
 use Rattle.lb_syntax.specs.Lists.{or_else}
 use Rattle.lb_syntax.specs.Refusals.{E12, unless}
-use Rattle.lb_syntax.specs.Tokens.{Text}
-use Rattle.lb_syntax.specs.Tree.{Node}
-use Rattle.lb_static.specs.Elaborated.{IsElaborated}
+use Rattle.lb_syntax.specs.Tree.{Name, Source}
 use Rattle.lb_static.specs.Instances.{Program}
 use Rattle.lb_static.specs.Walk.{static_refusal}
-use Rattle.lb_check.specs.Acceptance.{check_refusal, refusal}
+use Rattle.lb_check.specs.Acceptance.{check_refusal, refusal, IsAccepted}
 use Rattle.lb_check.specs.TypeRules.{is_small}
-use Rattle.lb_flat.specs.Expanded.{IsExpansionOf}
+use Rattle.lb_flat.specs.Expanded.{IsExpansionAnswer, IsExpansionOf, IsOrderOf}
+use Rattle.lb_flat.specs.Flattening.{IsFlatOf}
 use Rattle.lb_flat.specs.Judging.{FlatProgram}
+use Rattle.lb_flat.specs.Run.{Ready}
 use Rattle.lb_flat.specs.Stuck.{CannotOrder}
+use Rattle.lb_flat.specs.declared.error.FlatError.{FlatError}
+use Rattle.lb_flat.specs.declared.error.FlatError.TheVariants as flat
 use Rattle.lb_flat.specs.declared.error.OrderError.{OrderError}
 use Rattle.lb_flat.specs.declared.error.OrderError.TheVariants.{Memory, Cycle}
-use Rattle.lb_report.specs.Bench.{OnlyProgram, IsCycle, program_of}
+use Rattle.lb_report.specs.Bench.{IsCycle, IsTooLarge, program_of}
 use Rattle.lb_report.specs.declared.options.Options.{Options}
 
-keeps_rules :
-    (P : Program) → static_refusal P ≡ None → check_refusal P ≡ None → is_small P ≡ true →
-    refusal P ≡ None
-keeps_rules P s c z =
+-- the program is that of the options
+pub same_program :
+    (tree : Source) (options : Options) (root : Name) (observer : Option Name) →
+    root ≡ string_bytes options.node → observer ≡ option_map string_bytes options.observer →
+    record { source = tree; root = root; observer = observer } ≡ program_of tree options
+same_program tree options root observer e f =
+    λ i. record { source = tree; root = e i; observer = f i }
+
+size_decides :
+    (P : Program) → static_refusal P ≡ None → check_refusal P ≡ None →
+    refusal P ≡ unless (is_small P) E12
+size_decides P s c =
     ap (λ o. or_else o (or_else (check_refusal P) (unless (is_small P) E12))) s
-    ∙ ap (λ o. or_else o (unless (is_small P) E12)) c ∙ ap (λ b. unless b E12) z
+    ∙ ap (λ o. or_else o (unless (is_small P) E12)) c
 
--- what is known of a program before its equations are put in order
-pub record IsExpanded (P : Program) (n : Node) (f : FlatProgram) : Type 0 where
-  pub elaborated : IsElaborated P n
-  pub checked : check_refusal P ≡ None
-  pub small : is_small P ≡ true
-  pub expansion : IsExpansionOf P f
+-- a program that keeps the rules before is refused for its size, or for forms that do not run yet
+pub too_large :
+    (P : Program) (e : FlatError) → static_refusal P ≡ None → check_refusal P ≡ None →
+    IsExpansionAnswer P (Err e) → IsTooLarge P e
+too_large P flat.Memory s c h = tt
+too_large P flat.Large s c h = size_decides P s c ∙ ap (λ b. unless b E12) h
+too_large P flat.Later s c h = (s, c, h)
 
-pub cycle_refused :
-    (source : Text) (options : Options) (n : Node) (f : FlatProgram) (e : OrderError) →
-    OnlyProgram source options (λ P. IsExpanded P n f) →
-    (e ≡ Cycle → CannotOrder f.size f.equations) →
-    OnlyProgram source options (λ P. IsCycle P e)
-cycle_refused source options n f e found cannot =
-    record { tree = found.tree; spelled = found.spelled; holds = by e cannot }
-  where
-    P : Program
-    P = program_of found.tree options
+-- a small one whose equations cannot be put in order is refused for that first
+pub is_cycle :
+    (P : Program) (f : FlatProgram) (e : OrderError) → static_refusal P ≡ None →
+    check_refusal P ≡ None → is_small P ≡ true → IsExpansionOf P f →
+    (e ≡ Cycle → CannotOrder f.size f.equations) → IsCycle P e
+is_cycle P f Memory s c z expansion cannot = tt
+is_cycle P f Cycle s c z expansion cannot =
+    (size_decides P s c ∙ ap (λ b. unless b E12) z, expansion.cyclic (cannot refl))
 
-    by : (e : OrderError) → (e ≡ Cycle → CannotOrder f.size f.equations) → IsCycle P e
-    by Memory cannot = tt
-    by Cycle cannot = (
-      keeps_rules P found.holds.elaborated.accepted found.holds.checked found.holds.small,
-      found.holds.expansion.cyclic (cannot refl),
+-- a program whose equations are put in order is accepted, and these are its equations
+pub accepted_is :
+    (P : Program) (f g : FlatProgram) → static_refusal P ≡ None → check_refusal P ≡ None →
+    is_small P ≡ true → IsExpansionOf P f → IsOrderOf f g → IsAccepted P × IsFlatOf P g
+accepted_is P f g s c z expansion order =
+    let size : g.size ≡ f.size = ap (λ h. h.size) order.same in
+    let ready = subst (λ n. Ready n [] g.equations) size order.ready in (
+      record {
+        rules = size_decides P s c ∙ ap (λ b. unless b E12) z;
+        causal = expansion.causal g.equations order.ordering ready;
+      },
+      subst (IsFlatOf P) (sym order.same) (expansion.flat g.equations order.ordering ready),
     )

@@ -1,6 +1,6 @@
 -- What `bench` promises of a source text and a trace text.
 -- Source: this project's rule.
-use Rattle.std.specs.Prelude.{◌≡◌, ℕ, ◌<◌, Some, None, Err, List, length, get_or, string_bytes}
+use Rattle.std.specs.Prelude.{◌≡◌, ℕ, ◌<◌, true, Some, None, Err, List, length, get_or, string_bytes}
 use Rattle.std.specs.Option.{option_map}
 use Rattle.lb_syntax.specs.Tree.{Source}
 use Rattle.lb_syntax.specs.Tokens.{Text}
@@ -10,13 +10,14 @@ use Rattle.lb_static.specs.Elaborates.{Elaborates}
 use Rattle.lb_static.specs.Instances.{Program}
 use Rattle.lb_static.specs.Shapes.{signature}
 use Rattle.lb_static.specs.Walk.{static_refusal}
-use Rattle.lb_check.specs.Acceptance.{refusal, IsAccepted, IsFirst}
+use Rattle.lb_check.specs.Acceptance.{check_refusal, refusal, IsAccepted, IsFirst}
 use Rattle.lb_check.specs.Checked.{IsAnswer}
 use Rattle.lb_check.specs.Solutions.{HasOneHistory}
 use Rattle.lb_check.specs.Verdicts.{HasVerdict}
 use Rattle.lb_check.specs.declared.verdict.Verdict.{Verdict}
 use Rattle.lb_check.specs.declared.verdict.Verdict.TheVariants.{Passed}
 use Rattle.lb_flat.specs.Inputs.{inputs_of}
+use Rattle.lb_flat.specs.PlainPrograms.{uses_later_forms}
 use Rattle.lb_flat.specs.Traces.{Recording, Traces, trace_names}
 use Rattle.lb_flat.specs.declared.error.FlatError.{FlatError}
 use Rattle.lb_flat.specs.declared.error.FlatError.TheVariants as flat
@@ -81,10 +82,13 @@ IsBenchReport source traces options report =
 
 -- ## Refusals
 
--- the first refusal of a program is its size
+-- the first refusal of a program is its size; or it breaks no rule before that, but has forms that
+-- do not run yet
 abbrev pub IsTooLarge : Program → FlatError → Type 0
 IsTooLarge P flat.Memory = Unit {0}
 IsTooLarge P flat.Large = refusal P ≡ Some E12
+IsTooLarge P flat.Later =
+    (static_refusal P ≡ None) × (check_refusal P ≡ None) × (uses_later_forms P ≡ true)
 
 -- the first refusal of a program is that an element needs itself at the same instant
 abbrev pub IsCycle : Program → OrderError → Type 0

@@ -1,9 +1,7 @@
 -- What a prepared program of the code stands for.
 -- This file says what data of the program mean; no definition of the language stands on it.
 use Rattle.std.specs.Prelude.{◌≡◌}
-use Rattle.lb_static.specs.Elaborated.{inputs_of}
 use Rattle.lb_static.specs.Instances.{Program}
-use Rattle.lb_static.specs.Nodes.{node_in}
 use Rattle.lb_static.specs.Shapes.{signature}
 use Rattle.lb_check.specs.Acceptance.{IsAccepted}
 use Rattle.lb_flat.specs.Flattening.{IsFlatOf}
@@ -13,5 +11,5 @@ use Rattle.lb_report.specs.declared.bench.Prepared.{Prepared}
 -- it is ready to run this program, which is accepted
 pub record IsPrepared (p : Prepared) (P : Program) : Type 0 where
   pub accepted : IsAccepted P
-  pub inputs : signature P ≡ inputs_of (node_in p.checked.elab)
+  pub inputs : signature P ≡ p.signature
   pub equations : IsFlatOf P (flat.program_of p.ordered.program)

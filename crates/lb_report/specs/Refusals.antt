@@ -60,16 +60,17 @@ static_number static.Root = 8
 static_number (static.Value name) = 5
 static_number (static.Range name) = 6
 static_number static.Instances = 12
-static_number static.Large = 12
 
 abbrev pub check_number : CheckError → ℕ
 check_number check.Memory = 0
-check_number check.Type = 9
-check_number check.Definition = 11
+check_number (check.Type name) = 9
+check_number (check.Clock name) = 10
+check_number (check.Definition name) = 11
 
 abbrev pub flat_number : FlatError → ℕ
 flat_number flat.Memory = 0
 flat_number flat.Large = 12
+flat_number flat.Later = 12
 
 abbrev pub order_number : OrderError → ℕ
 order_number order.Memory = 0

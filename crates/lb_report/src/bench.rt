@@ -9,14 +9,14 @@
 //! ```
 
 ghost use Rattle.std.specs.Prelude.{◌≡◌, IfOk, IfErr, length, vec_len};
+ghost use Rattle.lb_syntax.specs.Correct.{IsOnlyProgram};
+ghost use Rattle.lb_syntax.specs.SourceView.{view_source};
 ghost use Rattle.lb_syntax.specs.Tokens.{Text};
-ghost use Rattle.lb_static.specs.Elaborated.{IsElaborated};
 ghost use Rattle.lb_static.specs.Instances.{Program};
-ghost use Rattle.lb_static.specs.Nodes.{node_in};
 ghost use Rattle.lb_static.specs.Shapes.{signature};
 ghost use Rattle.lb_flat.specs.Flattening.{IsFlatOf};
 ghost use Rattle.lb_flat.specs.Programs as flat;
-ghost use Rattle.lb_report.specs.Bench.{AreVerdicts, IsBenchReport, IsRefused, OnlyProgram};
+ghost use Rattle.lb_report.specs.Bench.{AreVerdicts, IsBenchReport, IsRefused, OnlyProgram, program_of};
 ghost use Rattle.lb_report.specs.Cases.{parts_of};
 ghost use Rattle.lb_report.specs.Prepared.{IsPrepared};
 
@@ -25,7 +25,6 @@ use crate::error::BenchError;
 use crate::options::Options;
 use crate::text::Report;
 use lb_check::check::check;
-use lb_check::checked::Checked;
 use lb_check::verdict::Verdict;
 use lb_flat::expand::expand;
 use lb_flat::flat::Ordered;
@@ -34,7 +33,9 @@ use lb_flat::trace_run::eval_trace;
 use lb_flat::traces::TraceSet;
 use lb_static::elab::Elab;
 use lb_static::elaborate::elaborate;
+use lb_static::signature::Signature;
 use lb_syntax::parse::parse;
+use lb_syntax::tree::Source;
 use lb_trace::read_traces;
 use std::alloc::{AllocError, Global};
 use std::rt::Runtime;
@@ -42,19 +43,26 @@ use std::rt::Runtime;
 /// A program that keeps all rules: its signature is that of its traces, its equations run.
 #[derive(Drop)]
 struct Prepared {
-    checked: Checked,
+    signature: Signature,
     ordered: Ordered,
 }
 
-/// The program that a source spells, with its names resolved.
-fn elaborate_source(alloc: Global, source: &[u8], options: &Options) -> Result<Elab, BenchError>
-    ensures ok { IfOk result (λ elab.
-        OnlyProgram source.now options.now (λ P. IsElaborated P (node_in elab))) }
-    ensures err { IfErr result (λ e.
-        (traces : Text) → IsRefused source.now traces options.now e) }
+/// The program of a tree, ready to run.
+fn prepare_tree(alloc: Global, tree: &Source, options: &Options) -> Result<Prepared, BenchError>
+    ensures ok { IfOk result (λ p. IsPrepared p (program_of (view_source tree.now) options.now)) }
+    ensures err { (source traces : Text) → IsOnlyProgram (view_source tree.now) source →
+        IfErr result (IsRefused source traces options.now) }
 {
-    let tree = parse(alloc, source)?;
-    Ok(elaborate(alloc, &tree, options.node.as_str(), options.observer_name())?)
+    let elab = elaborate(alloc, tree, options.node.as_str(), options.observer_name())?;
+    let checked = check(alloc, elab)?;
+    let flat = expand(alloc, &checked)?;
+    let ordered = order(alloc, flat)?;
+    let Elab {
+        reached: _,
+        table: _,
+        signature,
+    } = checked.elab;
+    Ok(Prepared { signature, ordered })
 }
 
 /// The program that a source spells, ready to run.
@@ -63,11 +71,8 @@ fn prepare(alloc: Global, source: &[u8], options: &Options) -> Result<Prepared, 
     ensures err { IfErr result (λ e.
         (traces : Text) → IsRefused source.now traces options.now e) }
 {
-    let elab = elaborate_source(alloc, source, options)?;
-    let checked = check(alloc, elab)?;
-    let flat = expand(alloc, &checked)?;
-    let ordered = order(alloc, flat)?;
-    Ok(Prepared { checked, ordered })
+    let tree = parse(alloc, source)?;
+    prepare_tree(alloc, &tree, options)
 }
 
 /// The verdict of each trace, in order.
@@ -100,7 +105,7 @@ pub fn bench<R: Runtime + AllocGlobal>(
 {
     let alloc = rt.alloc();
     let program = prepare(alloc, source, options)?;
-    let set = read_traces(alloc, program.checked.elab.signature(), traces)?;
+    let set = read_traces(alloc, &program.signature, traces)?;
     let verdicts = verdicts_of(alloc, &program.ordered, &set)?;
     Ok(Report::new(alloc, &set, verdicts.as_slice())?)
 }

@@ -36,7 +36,6 @@ fn static_number(cause: &StaticError) -> u8
         StaticError::Value(_) => 5,
         StaticError::Range(_) => 6,
         StaticError::Instances => 12,
-        StaticError::Large => 12,
     }
 }
 
@@ -46,8 +45,9 @@ fn check_number(cause: &CheckError) -> u8
 {
     match cause {
         CheckError::Memory => 0,
-        CheckError::Type => 9,
-        CheckError::Definition => 11,
+        CheckError::Type(_) => 9,
+        CheckError::Clock(_) => 10,
+        CheckError::Definition(_) => 11,
     }
 }
 
@@ -58,6 +58,7 @@ fn flat_number(cause: &FlatError) -> u8
     match cause {
         FlatError::Memory => 0,
         FlatError::Large => 12,
+        FlatError::Later => 12,
     }
 }
 
@@ -86,7 +87,7 @@ pub enum BenchError {
     /// E0 and E9 to E11: types, clocks and definitions.
     #[error(transparent)]
     Check(CheckError),
-    /// E0 and E12: the size of what the program expands to.
+    /// E0 and E12: forms that do not run yet, and the size of what the program expands to.
     #[error(transparent)]
     Flat(FlatError),
     /// E0 and E13: an element that needs itself at the same instant.
@@ -216,16 +217,25 @@ mod tests {
             line: 3,
             column: 14,
         };
+        let name = String::new(rt.alloc());
+        let other = String::new(rt.alloc());
         for (error, number, word, position) in [
             (BenchError::Memory, 0, "memory", None),
             (BenchError::Syntax(SyntaxError::Memory), 0, "memory", None),
             (BenchError::Syntax(place), 2, "syntax", Some((3, 14))),
             (
-                BenchError::Check(CheckError::Definition),
+                BenchError::Check(CheckError::Clock(name)),
+                10,
+                "clock",
+                None,
+            ),
+            (
+                BenchError::Check(CheckError::Definition(other)),
                 11,
                 "definition",
                 None,
             ),
+            (BenchError::Flat(FlatError::Later), 12, "large", None),
             (
                 BenchError::Trace(TraceError::Limit { record: None }),
                 18,

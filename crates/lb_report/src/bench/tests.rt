@@ -132,9 +132,24 @@ fn refuses_by_the_first_part(rt: HostRuntime) -> Result<(), Fail> {
             9,
         ),
         (
+            "node main(x: bool) returns (ok: bool); let ok = x when x; tel\n",
+            "",
+            10,
+        ),
+        (
             "node main(x: int) returns (ok: bool); var z: int; let ok = true; tel\n",
             "",
             11,
+        ),
+        (
+            "const n = 1;\nnode main(x: int) returns (ok: bool); let ok = x > n; tel\n",
+            "",
+            12,
+        ),
+        (
+            "node main(x: bool^2) returns (ok: bool); let ok = x[1]; tel\n",
+            "",
+            12,
         ),
         (PLAIN, "", 14),
         (PLAIN, "trace\n", 14),

@@ -11,8 +11,7 @@ returns-clause-report g c =
     let found = c.in_ok-program.ensures.ok in
     let read = c.in_ok-set.ensures in
     let P = program_of found.tree c.args.options.now in
-    let elements : c.signature.result.now ≡ signature P =
-    c.signature.ensures ∙ sym found.holds.inputs in
+    let elements : c.in_ok-program.program.signature ≡ signature P = sym found.holds.inputs in
     let same : c.in_ok-set.set.signature ≡ signature P = read.signature ∙ elements in
     let text = c.args.traces.now in
     let traces = c.in_ok-set.set.traces in

@@ -1,33 +1,17 @@
-use Rattle.std.proofs.Common.{◌≡◌, Err, ap, sym, subst}
-use Rattle.std.proofs.lemmas.Result.{err_from_is_err_and}
-use Rattle.lb_static.specs.Elaborated.{IsElaborated}
-use Rattle.lb_static.specs.Nodes.{node_in}
-use Rattle.lb_flat.specs.Programs as flat
-use Rattle.lb_report.specs.Bench.{program_of}
-use Rattle.lb_report.proofs.Refusing.{cycle_refused}
+-- What is refused of the tree is refused of the text that spells it.
+use Rattle.std.proofs.Common.{Result, Ok, Err}
+use Rattle.std.specs.Prelude.{IfErr}
+use Rattle.lb_syntax.specs.Tokens.{Text}
+use Rattle.lb_report.specs.Bench.{IsRefused}
+use Rattle.lb_report.specs.declared.error.BenchError.{BenchError}
 use Rattle.lb_report.proofs.bench.prepare.Goals as goal
 
-pub returns-in_err-ordered-clause-err : goal.returns-in_err-ordered-clause-err
-returns-in_err-ordered-clause-err c =
-    let residual = c.from_residual-in_err-ordered in
-    let p = err_from_is_err_and residual.result residual.ensures.1 in
-    let found = c.in_ok-elab.ensures.ok in
-    let P = program_of found.tree c.args.options.now in
-    let n = node_in c.in_ok-elab.elab in
-    let checked = c.in_ok-checked.ensures.answer P found.holds in
-    let same = sym c.in_ok-checked.ensures.same in
-    let answer = c.in_ok-flat.ensures P (subst (IsElaborated P) same found.holds) checked in
-    rw (p.1, p.2) (λ traces.
-    cycle_refused c.args.source.now c.args.options.now n
-    (flat.program_of c.in_ok-flat.flat.program) c.in_err-ordered.field-0.0
-    (record {
-      tree = found.tree;
-      spelled = found.spelled;
-      holds = record {
-        elaborated = found.holds;
-        checked = checked;
-        small = answer.0;
-        expansion = answer.1;
-      };
-    })
-    (λ e. c.in_err-ordered.ensures.cycle (ap Err e)))
+of_every : {A : Type 0} (r : Result A BenchError) (Q : Text → BenchError → Type 0) → ((t : Text) → IfErr r (Q t)) → IfErr r (λ e. (t : Text) → Q t e)
+of_every (Ok x) Q h = tt
+of_every (Err e) Q h = h
+
+pub returns-clause-err : goal.returns-clause-err
+returns-clause-err c =
+    let source = c.args.source.now in
+    of_every c.prepare_tree.result (λ traces e. IsRefused source traces c.args.options.now e)
+    (λ traces. c.prepare_tree.ensures.err source traces c.in_ok-tree.ensures)
