@@ -1,12 +1,12 @@
 -- The arguments that the code finds to be variables are those of the definition.
-use Rattle.std.proofs.Common.{◌≡◌, ℕ, zero, suc, ◌<◌, ◌≤◌, Bool, true, false, ◌+◌, List, [], ◌∷◌, ◌++◌, take, drop, map, length, get_or, Option, Some, None, refl, ap, sym, ◌∙◌, subst, arith}
+use Rattle.std.proofs.Common.{◌≡◌, ℕ, zero, suc, ◌<◌, ◌≤◌, Bool, true, false, ◌+◌, List, [], ◌∷◌, ◌++◌, take, map, length, get_or, Option, Some, None, refl, ap, sym, ◌∙◌, subst, arith}
 use Rattle.std.specs.Prelude.{◌&&◌, ◌||◌, not, nat_lt, is_some, slice_get}
 use Rattle.std.specs.Str.{bytes_eq}
 use Rattle.std.proofs.lemmas.Bool.Decides.{nat_tests}
 use Rattle.std.proofs.lemmas.Slice.Eq.{bytes_eq-Decides}
 use Rattle.std.proofs.lemmas.Option.{slice_get-get_or, slice_get_past}
 use Rattle.lb_syntax.specs.Lists.{holds, either_or, listed, zip2}
-use Rattle.std.proofs.lemmas.List.{append_assoc, length-append, map-append, drop_more}
+use Rattle.std.proofs.lemmas.List.{append_assoc, length-append, map-append}
 use Rattle.lb_static.specs.Parts.{variable_names}
 use Rattle.lb_static.specs.Shapes.{variables}
 use Rattle.lb_static.specs.ResolvedNodes.{IsResolved, node_of, statics_of, texts_of, counts_of}
@@ -36,15 +36,6 @@ none_past es i le = ap (holds (λ t. is_some (variable_of t))) (slice_get_past e
 
 below_true : (i n : ℕ) → i < n → nat_lt i n ≡ true
 below_true i n lt = grind (arith, nat_tests)
-
-pub given_short : (inputs : ℕ) (es : List Term) (v : Declared) (s : Sampling) → v.clock ≡ Some s → s.variable.0 < inputs → length es ≤ s.variable.0
-    → false ≡ is_given inputs es v
-given_short inputs es v s is lt le = rw (is, below_true s.variable.0 inputs lt) (sym (none_past es s.variable.0 le))
-
-pub given_there : (inputs : ℕ) (es : List Term) (v : Declared) (s : Sampling) (t : Term) → v.clock ≡ Some s → s.variable.0 < inputs → s.variable.0 < length es
-    → t ≡ get_or es s.variable.0 t → is_some (variable_of t) ≡ is_given inputs es v
-given_there inputs es v s t is lt le at =
-    rw (is, below_true s.variable.0 inputs lt) (ap (λ u. is_some (variable_of u)) at ∙ sym (here_at es s.variable.0 t le))
 
 and_first : (a b : Bool) → (a && b) ≡ true → a ≡ true
 and_first true b e = refl
@@ -251,24 +242,3 @@ module _ (here callee : ResolvedNode) (nodes : List Name) (ec : IsResolved nodes
       ∙ given_list (take k names) (take k vs) (same_taken k names vs (sym many)) (all_taken _ k vs (within_names nodes callee ec distinct))
       ∙ ap (λ m. list_all (is_given m es) (take k vs)) (sym ec.inputs)
       ∙ ap (λ m. list_all (is_given callee.inputs es) (take m vs)) size
-
-pub given_next : (k : ℕ) (es : List Term) (vs : List Declared) (i : ℕ) (d : Declared) → i < length vs
-    → list_all (is_given k es) (drop i vs) ≡ is_given k es (get_or vs i d) && list_all (is_given k es) (drop (i + 1) vs)
-given_next k es vs i d lt = ap (list_all (is_given k es)) (drop_more vs i d lt)
-
-all_past : {A : Type 0} (f : A → Bool) (xs : List A) (i : ℕ) → length xs ≤ i → list_all f (drop i xs) ≡ true
-all_past f xs zero le = by xs le
-  where
-    by : (ys : List _) → length ys ≤ 0 → list_all f ys ≡ true
-    by [] le = refl
-    by (y ∷ ys) le = absurd (omega arith)
-all_past f [] (suc i) le = refl
-all_past f (x ∷ xs) (suc i) le = all_past f xs i (omega arith)
-
-pub given_end : (b : Bool) (k : ℕ) (es : List Term) (vs : List Declared) (i : ℕ) → b ≡ list_all (is_given k es) (drop i vs) → length vs ≤ i → true ≡ b
-given_end b k es vs i e le = sym (e ∙ all_past (is_given k es) vs i le)
-
-pub given_stop : (b : Bool) (k : ℕ) (es : List Term) (vs : List Declared) (i : ℕ) (d : Declared) → b ≡ list_all (is_given k es) (drop i vs) → i < length vs
-    → is_given k es (get_or vs i d) ≡ false → false ≡ b
-given_stop b k es vs i d e lt broken =
-    sym (e ∙ given_next k es vs i d lt ∙ ap (λ a. a && list_all (is_given k es) (drop (i + 1) vs)) broken)

@@ -1,5 +1,5 @@
 -- The first of the rules of types, clocks and definitions that an elaborated program breaks.
-use Rattle.std.proofs.Common.{◌≡◌, Bool, true, false, Option, Some, None, refl, sym, ◌∙◌}
+use Rattle.std.proofs.Common.{◌≡◌, Bool, true, false, Option, Some, None, refl}
 use Rattle.std.specs.Prelude.{is_some, not}
 use Rattle.std.specs.List.{list_all}
 use Rattle.lb_syntax.specs.Lists.{or_else, holds}
@@ -7,7 +7,7 @@ use Rattle.lb_syntax.specs.Refusals.{Refusal, E4, E7, E8, E9, E10, E11, unless}
 use Rattle.lb_static.specs.Elaborated.{IsElaborated}
 use Rattle.lb_static.specs.Instances.{Program, Root, instance_at, instances}
 use Rattle.lb_static.specs.Names.{keeps_names, is_well_founded}
-use Rattle.lb_static.specs.Walk.{has_no_parameters, is_root, static_refusal, walk_refusal}
+use Rattle.lb_static.specs.Walk.{has_no_parameters, is_root, walk_refusal}
 use Rattle.lb_static.specs.declared.elab.Elab.{Elab}
 use Rattle.lb_check.specs.Acceptance.{check_refusal}
 use Rattle.lb_check.specs.ClockRules.{is_clocked}

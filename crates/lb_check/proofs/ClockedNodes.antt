@@ -1,13 +1,11 @@
 -- The declared clocks of a node are as deep as the numbers of its variables say.
-use Rattle.std.proofs.Common.{◌≡◌, ℕ, zero, suc, ◌+◌, ◌-◌, min, ◌<◌, Bool, true, false, List, [], ◌∷◌, ◌++◌, take, drop, get_or, map, length, Option, Some, None, Result, Ok, Err, Vec, Global, refl, ap, sym, ◌∙◌, subst, arith}
+use Rattle.std.proofs.Common.{◌≡◌, ℕ, zero, suc, ◌+◌, ◌-◌, min, ◌<◌, Bool, true, false, List, [], ◌∷◌, ◌++◌, take, drop, get_or, map, length, Option, Some, None, Vec, Global, refl, ap, sym, ◌∙◌, subst, arith}
 use Rattle.std.specs.Prelude.{◌&&◌, ◌||◌, not, is_some, option_map, slice_get, nat_lt}
 use Rattle.std.specs.List.{list_all}
-use Rattle.std.specs.Prelude.{IfOk}
-use Rattle.std.specs.declared.alloc.AllocError.{AllocError}
 use Rattle.std.specs.Str.{bytes_eq}
 use Rattle.std.proofs.lemmas.Bool.Decides.{nat_tests}
 use Rattle.std.proofs.lemmas.Slice.Eq.{bytes_eq-Decides}
-use Rattle.std.proofs.lemmas.Option.{slice_get_within, slice_get-map}
+use Rattle.std.proofs.lemmas.Option.{slice_get_within}
 use Rattle.std.proofs.lemmas.List.{length-take, length-drop, length-map, length-append, append_assoc, drop_more}
 use Rattle.lb_syntax.specs.Lists.{◌>>=◌, zip2, either_or}
 use Rattle.lb_syntax.specs.Tree.{Name, Static, Declaration, Node}
@@ -20,8 +18,8 @@ use Rattle.lb_static.specs.ResolvedNodes.{IsResolved, counts_of, node_of, static
 use Rattle.lb_static.specs.declared.resolved.ResolvedNode.{ResolvedNode}
 use Rattle.lb_static.specs.declared.resolved.Sampling.{Sampling}
 use Rattle.lb_static.specs.declared.resolved.Variable.{Variable}
-use Rattle.lb_check.specs.Clocks.{Clock, On, clock_within, sampled, depth, clock_or, variable_clock, declared_clock}
-use Rattle.lb_check.specs.ClockDepths.{awaited, AreAwaited, AreFound, HasDepths, depth_within, waits_below}
+use Rattle.lb_check.specs.Clocks.{Clock, On, clock_within, sampled, depth, variable_clock}
+use Rattle.lb_check.specs.ClockDepths.{awaited, AreAwaited, AreFound, depth_within, waits_below}
 use Rattle.lb_check.specs.ClockRules.{is_clocked_by, are_declared_clocks}
 use Rattle.lb_check.proofs.ClockDepths.{its_depth}
 
@@ -286,20 +284,6 @@ all_awaited vs w x y h = waits_there (length vs) vs x y w h
 pub are_awaited : (names : List Name) (r : ResolvedNode) → IsResolved names r → AreAwaited r.variables.items
 are_awaited names r e x y h = waits_there _ r.variables.items x y (within_all (counts_of r) r.variables.items e.declared_within) h
 
--- two lists with the same at each place
-same_lists : {A : Type 0} (xs ys : List A) → length xs ≡ length ys → ((i : ℕ) → i < length xs → slice_get xs i ≡ slice_get ys i) → xs ≡ ys
-same_lists [] [] len each = refl
-same_lists [] (y ∷ ys) len each = absurd (omega arith)
-same_lists (x ∷ xs) [] len each = absurd (omega arith)
-same_lists (x ∷ xs) (y ∷ ys) len each =
-    let head : Some x ≡ Some y = each 0 (omega arith) in
-    let first : x ≡ y = cc in
-    ap (λ z. z ∷ xs) first ∙ ap (λ l. y ∷ l) (same_lists xs ys (omega arith) (λ i lt. each (suc i) (omega arith)))
-
-depth_of_some : (o : Option Clock) (d : ℕ) → option_map depth o ≡ Some d → depth (clock_or o) ≡ d
-depth_of_some None d e = absurd cc
-depth_of_some (Some k) d e = let same : Some (depth k) ≡ Some d = e in cc
-
 is_some_map : {A B : Type 0} (f : A → B) (o : Option A) → is_some o ≡ is_some (option_map f o)
 is_some_map f None = refl
 is_some_map f (Some a) = refl
@@ -421,35 +405,12 @@ module _ (nodes : List Name) (r : ResolvedNode) (e : IsResolved nodes r) (distin
   clocks_answer (Some depths) ls ms a as_a b as_b found =
       sym (clocks_kept ∙ ap kept_by (each_ends depths found) ∙ rw (inputs_found true ls a as_a, outputs_found true ms b as_b) refl)
 
-  pub depths_answer : (res : Result (Option (Vec (Option ℕ) Global)) AllocError) (ls ms ns : List Variable)
+  pub depths_answer : (o : Option (Vec (Option ℕ) Global)) (ls ms ns : List Variable)
       → true ≡ list_all (waits_below r.inputs) (take r.inputs ls) → ls ≡ r.variables.items
       → true ≡ list_all (waits_below (r.inputs + r.outputs)) (take (r.inputs + r.outputs - r.inputs) (drop r.inputs ms)) → ms ≡ r.variables.items
-      → IfOk res (λ found. AreFound ns (option_map (λ depths. depths.items) found)) → ns ≡ r.variables.items
-      → IfOk res (λ depths. is_some depths ≡ are_declared_clocks (node_of r))
-  depths_answer (Err x) ls ms ns a as_a b as_b found same = tt
-  depths_answer (Ok None) ls ms ns a as_a b as_b found same =
+      → AreFound ns (option_map (λ depths. depths.items) o) → ns ≡ r.variables.items
+      → is_some o ≡ are_declared_clocks (node_of r)
+  depths_answer None ls ms ns a as_a b as_b found same =
       clocks_answer None ls ms a as_a b as_b (subst (λ l. AreFound l None) same found)
-  depths_answer (Ok (Some depths)) ls ms ns a as_a b as_b found same =
+  depths_answer (Some depths) ls ms ns a as_a b as_b found same =
       clocks_answer (Some depths.items) ls ms a as_a b as_b (subst (λ l. AreFound l (Some depths.items)) same found)
-
-  -- the depths that are found are those of the declared clocks
-  found_depths : (depths : List (Option ℕ)) → AreFound r.variables.items (Some depths) → HasDepths (node_of r) (Some depths)
-  found_depths depths found =
-      let f = λ (x : Name). Some (depth (declared_clock (node_of r) x)) in
-      let len : length depths ≡ length (map f names_here) = simp length-map (found.0.as_many ∙ e.as_many) in
-      same_lists depths (map f names_here) len (λ i less.
-      let lt : i < length r.variables.items = omega (arith, found.0.as_many) in
-      let below : i < length names_here = omega (arith, as_many_names) in
-      let x = held names_here i below in
-      let known = found.1 i lt in
-      let small = found.0.small i known.0 known.1 in
-      let deep = place_is i x.0 lt x.1 ∙ its_depth r.variables.items (length r.variables.items + 1) i known.0 (found.0.right i known.0 known.1) (omega arith) in
-      known.1 ∙ ap (λ d. Some (Some d)) (sym (depth_of_some (variable_clock (node_of r) x.0) known.0 deep))
-      ∙ sym (slice_get-map f names_here i ∙ ap (option_map f) x.1))
-
-  pub result_depths : (res : Result (Option (Vec (Option ℕ) Global)) AllocError) (ns : List Variable)
-      → IfOk res (λ found. AreFound ns (option_map (λ depths. depths.items) found)) → ns ≡ r.variables.items
-      → IfOk res (λ depths. HasDepths (node_of r) (option_map (λ depths. depths.items) depths))
-  result_depths (Err x) ns found same = tt
-  result_depths (Ok None) ns found same = tt
-  result_depths (Ok (Some depths)) ns found same = found_depths depths.items (subst (λ l. AreFound l (Some depths.items)) same found)

@@ -1,12 +1,10 @@
 -- How deep the declared clocks of a node stand, as the code finds it.
 -- This file mirrors code (src/clock.rt); no definition of the language stands on it.
-use Rattle.std.specs.Prelude.{◌≡◌, ◌+◌, ◌<◌, ◌≤◌, ℕ, zero, suc, nat_lt, Bool, true, Option, Some, None, option_map, List, map, length, slice_get}
+use Rattle.std.specs.Prelude.{◌≡◌, ◌+◌, ◌<◌, ◌≤◌, ℕ, zero, suc, nat_lt, Bool, true, Option, Some, None, option_map, List, length, slice_get}
 use Rattle.lb_syntax.specs.Lists.{◌>>=◌}
-use Rattle.lb_syntax.specs.Tree.{Node}
-use Rattle.lb_static.specs.Parts.{variable_names}
 use Rattle.lb_static.specs.declared.resolved.Sampling.{Sampling}
 use Rattle.lb_static.specs.declared.resolved.Variable.{Variable}
-use Rattle.lb_check.specs.Clocks.{depth, declared_clock}
+use Rattle.lb_check.specs.Clocks.{depth}
 
 -- the variable that a variable waits for, if it is on a clock of its own
 abbrev pub awaited : List Variable → ℕ → Option ℕ
@@ -57,9 +55,3 @@ waits_below count v = below v.clock
     below : Option Sampling → Bool
     below None = true
     below (Some s) = nat_lt s.variable.0 count
-
--- variable by variable, how deep the declared clocks of a node stand
-abbrev pub HasDepths : Node → Option (List (Option ℕ)) → Type 0
-HasDepths n None = Unit {0}
-HasDepths n (Some depths) =
-    depths ≡ map (λ x. Some (depth (declared_clock n x))) (variable_names n)

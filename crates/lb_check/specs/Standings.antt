@@ -7,7 +7,7 @@ use Rattle.lb_syntax.specs.Tree.{Expr}
 use Rattle.lb_static.specs.Instances.{Program}
 use Rattle.lb_static.specs.Names.{keeps_names}
 use Rattle.lb_static.specs.ReachedNodes.{IsReached}
-use Rattle.lb_static.specs.ResolvedNodes.{node_of, texts_of, counts_of}
+use Rattle.lb_static.specs.ResolvedNodes.{node_of, texts_of}
 use Rattle.lb_static.specs.ResolvedTerms.{expr_of}
 use Rattle.lb_static.specs.declared.reach.Reached.{Reached}
 use Rattle.lb_static.specs.declared.resolved.CallId.{CallId}

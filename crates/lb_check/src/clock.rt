@@ -8,7 +8,7 @@ ghost use Rattle.lb_static.specs.Names.{are_distinct};
 ghost use Rattle.lb_static.specs.Parts.{variable_names};
 ghost use Rattle.lb_static.specs.ResolvedNodes.{IsResolved, node_of};
 ghost use Rattle.lb_check.specs.ClockRules.{are_declared_clocks};
-ghost use Rattle.lb_check.specs.ClockDepths.{AreAwaited, AreDepths, AreFound, HasDepths, IsKnown};
+ghost use Rattle.lb_check.specs.ClockDepths.{AreAwaited, AreDepths, AreFound, IsKnown};
 ghost use Rattle.lb_check.specs.ClockDepths.{StandsAt, depth_within, waits_below};
 
 use lb_static::resolved::{ResolvedNode, Variable};
@@ -114,32 +114,24 @@ fn is_whole(node: &ResolvedNode) -> bool
         && wait_below(&node.variables, count)
 }
 
-/// How deep the declared clock of each variable of a node stands, or none where a rule of declared
-/// clocks is broken: an input waits for an input, an output for an input or an output, and declared
-/// clocks do not run in a circle.
-pub fn declared_depths(
-    alloc: Global,
-    node: &ResolvedNode,
-) -> Result<Option<Vec<Option<usize>>>, AllocError>
-    ensures kept { (nodes : List Name) → IsResolved nodes node.now →
+/// Whether a node keeps the rules of declared clocks: an input waits for an input, an output for an
+/// input or an output, and declared clocks do not run in a circle.
+pub fn keeps_declared_clocks(alloc: Global, node: &ResolvedNode) -> Result<bool, AllocError>
+    ensures { (nodes : List Name) → IsResolved nodes node.now →
         are_distinct (variable_names (node_of node.now)) ≡ true →
-        IfOk result (λ depths. is_some depths ≡ are_declared_clocks (node_of node.now)) }
-    ensures deep { (nodes : List Name) → IsResolved nodes node.now →
-        are_distinct (variable_names (node_of node.now)) ≡ true →
-        IfOk result (λ found.
-        HasDepths (node_of node.now) (option_map (λ depths. depths.items) found)) }
+        IfOk result (λ kept. kept ≡ are_declared_clocks (node_of node.now)) }
 {
     if !is_whole(node) {
-        return Ok(None);
+        return Ok(false);
     }
     let interface = node.inputs + node.outputs;
     if !wait_below(&node.variables[..node.inputs], node.inputs) {
-        return Ok(None);
+        return Ok(false);
     }
     if !wait_below(&node.variables[node.inputs..interface], interface) {
-        return Ok(None);
+        return Ok(false);
     }
-    clock_depths(alloc, &node.variables)
+    Ok(clock_depths(alloc, &node.variables)?.is_some())
 }
 
 #[cfg(test)]

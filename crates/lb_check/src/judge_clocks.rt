@@ -13,7 +13,7 @@ ghost use Rattle.std.specs.List.{list_all};
 ghost use Rattle.std.specs.Prelude.{◌≡◌, IfOk, is_some, not, true};
 
 use crate::call_clock::is_call_clocked;
-use crate::clock::declared_depths;
+use crate::clock::keeps_declared_clocks;
 use crate::own_clock::{Clock, is_same};
 use crate::standing::Standing;
 use crate::term_clock::{ClockScope, operands_of, standing_of};
@@ -112,7 +112,7 @@ fn is_node_clocked(alloc: Global, reached: &Reached, id: NodeId) -> Result<bool,
     let Some(node) = reached.nodes.get(id.0 as usize) else {
         return Ok(false);
     };
-    if declared_depths(alloc, node)?.is_none() {
+    if !keeps_declared_clocks(alloc, node)? {
         return Ok(false);
     }
     is_body_clocked(alloc, &ClockScope { reached, node })
