@@ -17,9 +17,9 @@ use std::alloc::Global;
 /// The program of a node under test, and of its observer if there is one: the nodes that are
 /// reached, the instances with their static values, and the signature.
 ///
-/// A refusal is by the first rule of names (E4), recursion (E7), static parameters of the node under
-/// test (E8), instances and static values (E12, E5, E6) and the shape of the node under test (E8)
-/// that is broken.
+/// A refusal is by the first rule that is broken: of names (E4), recursion (E7), static parameters of
+/// the node under test (E8), instances and static values (E12, E5, E6), and the shape of the node
+/// under test and of the observer (E8).
 pub fn elaborate<'s>(
     alloc: Global,
     source: &'s Source,

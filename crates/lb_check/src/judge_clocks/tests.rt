@@ -13,7 +13,7 @@ const CALLEES: &str = "
     node next(x: int) returns (y: int); let y = x + 1; tel
     node circle(x: int) returns (y: int); var p: bool when p; let p = true; y = x; tel";
 
-/// Whether the clocks of a program are kept, where the node under test has these local variables and
+/// Whether the rules of clocks are kept, where the node under test has these local variables and
 /// these statements.
 fn is_kept(alloc: Global, locals: &str, statements: &str) -> Result<bool, Fail> {
     let text = format!(in alloc;

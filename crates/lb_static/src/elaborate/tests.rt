@@ -168,6 +168,9 @@ fn the_signature_and_what_is_reached(rt: HostRuntime) -> Result<(), Fail> {
         let ok = f(c) and m[0] > a; tel
         node f(x: bool) returns (y: bool); let y = not x; tel";
     let line = described(rt.alloc(), text)?;
-    assert_eq!(rt; line.as_str(), "a: int m[0]: int m[1]: int c: bool | main f");
+    assert_eq!(rt;
+        line.as_str(),
+        "a: int m[0]: int m[1]: int c: bool | main f"
+    );
     Ok(())
 }

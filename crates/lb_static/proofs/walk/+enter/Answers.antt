@@ -340,6 +340,7 @@ returns-clause-settled t c =
     let past : length n.calls.items ≤ c.loop-call.call = omega (arith, items, c.loop-call-test.false) in
     IfOk-at_ok _ e (c.settle.ensures.settled r n at so_far.0
     (all_called r statics c.loop-call.entered.specializations.items n.calls.items c.loop-call.callees.items c.loop-call.call past so_far.1)))
+
 pub returns-clause-used : goal.returns-clause-used
 returns-clause-used t c =
     let place : c.len-row.result ≡ length c.args.entered.now.instances.items = omega (arith, c.len-row.ensures) in

@@ -44,6 +44,7 @@ returns-clause-settled c = λ r n at settled called.
           settled_more r before after _ n settled at called
           (ap (λ e. e.specializations.items) w.entered-is ∙ w.in_ok-push-in-None.ensures.items)
     ]
+
 pub returns-clause-placed : goal.returns-clause-placed
 returns-clause-placed c = λ front back i at is.
     let before = c.args.entered.now.instances.items in
