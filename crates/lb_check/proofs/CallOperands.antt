@@ -32,7 +32,8 @@ use Rattle.lb_check.proofs.FittingClocks.{IsGiven, IsWithin, fits_on}
 use Rattle.lb_check.proofs.GivenNames.{operand_at, standing_at, term_at, variable_stands, variable_within, input_held, input_at, variable_held, given_in}
 use Rattle.lb_check.proofs.NodePlaces.{and_first, and_second, all_at}
 use Rattle.lb_check.proofs.ListPairs.{taken, get_taken, get_mapped, mapped_from, each_pair, pair_at, pairs_from, both_ways, get_dropped}
-use Rattle.lb_check.proofs.OuterClocks.{stood, clock_same, place_name, variable_at, seen, expected_on, AreGiven, StandFor, HaveNames, outer_all}
+use Rattle.lb_check.proofs.ClockTests.{clock_same}
+use Rattle.lb_check.proofs.OuterClocks.{stood, place_name, variable_at, seen, expected_on, AreGiven, StandFor, HaveNames, outer_all}
 use Rattle.lb_check.proofs.OwnClocks.{clock_of_waiting}
 
 -- ## What the code finds of the operands

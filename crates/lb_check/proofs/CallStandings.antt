@@ -31,7 +31,8 @@ use Rattle.lb_check.proofs.FittingClocks.{IsGiven, IsWithin, base_found, fits_on
 use Rattle.lb_check.proofs.GivenNames.{term_at, standing_at, input_held, output_at, variable_held}
 use Rattle.lb_check.proofs.NodePlaces.{and_first, and_second}
 use Rattle.lb_check.proofs.ListPairs.{and_true, both_true, both_ways, never, get_mapped, mapped_from, get_taken, each_pair, pair_at}
-use Rattle.lb_check.proofs.OuterClocks.{stood, clock_same, clock_equal, above_outer, place_name, variable_at, seen, expected_on, AreGiven}
+use Rattle.lb_check.proofs.ClockTests.{clock_same}
+use Rattle.lb_check.proofs.OuterClocks.{stood, clock_equal, above_outer, place_name, variable_at, seen, expected_on, AreGiven}
 use Rattle.lb_check.proofs.OwnClocks.{clock_of_free}
 
 -- ## Lists with one item

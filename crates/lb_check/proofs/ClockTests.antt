@@ -38,35 +38,35 @@ same_itself : (a : Bool) → same a a ≡ true
 same_itself true = refl
 same_itself false = refl
 
-pub itself : (k : Clock) → is_clock k k ≡ true
-itself Base = refl
-itself (On k x sign) = let e = (bytes_eq-Decides x x).1 refl in rw (e, same_itself sign) (itself k)
+pub clock_itself : (k : Clock) → is_clock k k ≡ true
+clock_itself Base = refl
+clock_itself (On k x sign) = let e = (bytes_eq-Decides x x).1 refl in rw (e, same_itself sign) (clock_itself k)
 
-pub is_one : (k l : Clock) → is_clock k l ≡ true → k ≡ l
-is_one Base Base e = refl
-is_one Base (On l y other) e = absurd cc
-is_one (On k x sign) Base e = absurd cc
-is_one (On k x sign) (On l y other) e =
+pub clock_same : (k l : Clock) → is_clock k l ≡ true → k ≡ l
+clock_same Base Base e = refl
+clock_same Base (On l y other) e = absurd cc
+clock_same (On k x sign) Base e = absurd cc
+clock_same (On k x sign) (On l y other) e =
     let rest = and_second (bytes_eq x y) _ e in
     let names : x ≡ y = (bytes_eq-Decides x y).0 (and_first (bytes_eq x y) _ e) in
     let signs : sign ≡ other = same_one sign other (and_first (same sign other) _ rest) in
-    let clocks : k ≡ l = is_one k l (and_second (same sign other) _ rest) in
+    let clocks : k ≡ l = clock_same k l (and_second (same sign other) _ rest) in
     cc
 
 turned : (k l : Clock) → is_clock k l ≡ true → is_clock l k ≡ true
-turned k l e = subst (λ m. is_clock m k ≡ true) (is_one k l e) (itself k)
+turned k l e = subst (λ m. is_clock m k ≡ true) (clock_same k l e) (clock_itself k)
 
 both_ways : (a b : Bool) → (a ≡ true → b ≡ true) → (b ≡ true → a ≡ true) → a ≡ b
 both_ways true b f g = sym (f refl)
 both_ways false true f g = g refl
 both_ways false false f g = refl
 
-pub other_way : (k l : Clock) → is_clock k l ≡ is_clock l k
-other_way k l = both_ways (is_clock k l) (is_clock l k) (turned k l) (turned l k)
+pub clock_turned : (k l : Clock) → is_clock k l ≡ is_clock l k
+clock_turned k l = both_ways (is_clock k l) (is_clock l k) (turned k l) (turned l k)
 
 -- a clock that is each of two clocks is the first, where they are one
 pub on_one : (k c d : Clock) → is_clock c d ≡ true → (is_clock k c && is_clock k d) ≡ is_clock k c
-on_one k c d e = subst (λ m. (is_clock k c && is_clock k m) ≡ is_clock k c) (is_one c d e) (twice (is_clock k c))
+on_one k c d e = subst (λ m. (is_clock k c && is_clock k m) ≡ is_clock k c) (clock_same c d e) (twice (is_clock k c))
   where
     twice : (b : Bool) → (b && b) ≡ b
     twice true = refl
@@ -78,7 +78,7 @@ on_two k c d e = by (is_clock k c) refl
   where
     by : (b : Bool) → is_clock k c ≡ b → (b && is_clock k d) ≡ false
     by false is = refl
-    by true is = subst (λ m. is_clock m d ≡ false) (sym (is_one k c is)) e
+    by true is = subst (λ m. is_clock m d ≡ false) (sym (clock_same k c is)) e
 
 -- ## Clocks of a node
 

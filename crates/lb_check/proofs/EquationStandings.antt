@@ -32,7 +32,8 @@ use Rattle.lb_check.proofs.FittingClocks.{IsGiven, IsWithin, fits_on, fit_some, 
 use Rattle.lb_check.proofs.GivenNames.{given_in, given_out, found_before, output_at, output_held, variable_held}
 use Rattle.lb_check.proofs.NodePlaces.{and_first, and_second, held, all_at}
 use Rattle.lb_check.proofs.ListPairs.{and_true, both_true, both_ways, get_mapped, mapped_from, get_taken, taken, get_dropped, each_pair, pair_at, pairs_from}
-use Rattle.lb_check.proofs.OuterClocks.{stood, clock_same, clock_equal, clock_turned, above_outer, declared_is, place_name, variable_at, seen, expected_on, AreGiven, StandFor, HaveNames, outer_all}
+use Rattle.lb_check.proofs.ClockTests.{clock_same, clock_turned}
+use Rattle.lb_check.proofs.OuterClocks.{stood, clock_equal, above_outer, declared_is, place_name, variable_at, seen, expected_on, AreGiven, StandFor, HaveNames, outer_all}
 
 -- ## Clocks of two lists
 

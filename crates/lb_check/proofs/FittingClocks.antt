@@ -17,7 +17,8 @@ use Rattle.lb_check.specs.declared.own_clock.Clock.TheVariants.{On}
 use Rattle.lb_check.specs.declared.standing.Standing.{Standing}
 use Rattle.lb_check.specs.declared.standing.Standing.TheVariants.{Nowhere, Anywhere, Only}
 use Rattle.lb_check.proofs.ListPairs.{each_pair, pair_at, same_pairs}
-use Rattle.lb_check.proofs.OuterClocks.{stood, same_is, expected_on, clock_same}
+use Rattle.lb_check.proofs.ClockTests.{clock_same}
+use Rattle.lb_check.proofs.OuterClocks.{stood, same_is, expected_on}
 
 -- ## The base clock of a callee
 

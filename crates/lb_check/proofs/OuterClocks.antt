@@ -1,10 +1,8 @@
 -- The clocks of a callee, as its caller sees them, from the numbers of both.
 use Rattle.std.proofs.Common.{◌≡◌, ℕ, ◌<◌, ◌≤◌, ◌⊎◌, inl, inr, Bool, true, false, [], length, Option, Some, None, refl, ap, sym, ◌∙◌, subst, arith}
 use Rattle.std.specs.Prelude.{◌&&◌, ◌==◌, option_map, slice_get, nat_eq}
-use Rattle.std.specs.Str.{bytes_eq}
 use Rattle.std.proofs.lemmas.Bool.Decides.{nat_tests}
 use Rattle.std.proofs.lemmas.Option.{slice_get_within}
-use Rattle.std.proofs.lemmas.Slice.Eq.{bytes_eq-Decides}
 use Rattle.lb_syntax.specs.Lists.{either_or}
 use Rattle.lb_syntax.specs.Tree.{Name}
 use Rattle.lb_static.specs.Parts.{variable_names}
@@ -25,9 +23,9 @@ use Rattle.lb_check.specs.declared.own_clock.Clock.{Clock}
 use Rattle.lb_check.specs.declared.own_clock.Clock.TheVariants.{Base, On}
 use Rattle.lb_check.specs.declared.standing.Standing.{Standing}
 use Rattle.lb_check.specs.declared.standing.Standing.TheVariants.{Nowhere, Anywhere, Only}
+use Rattle.lb_check.proofs.ClockTests.{clock_itself, clock_same}
 use Rattle.lb_check.proofs.ClockedNodes.{are_awaited}
-use Rattle.lb_check.proofs.NodePlaces.{and_first, and_second, held}
-use Rattle.lb_check.proofs.ListPairs.{both_ways}
+use Rattle.lb_check.proofs.NodePlaces.{held}
 use Rattle.lb_check.proofs.OwnClocks.{clock_of_free, clock_of_waiting, same_clock}
 
 -- ## Clocks of the text
@@ -36,47 +34,14 @@ pub above_outer : (b : tree.Clock) (given : Given) (k : tree.Clock) → above (d
 above_outer b given tree.Base = refl
 above_outer b given (tree.On k x sign) = above_outer b given k
 
-signs_same : (a b : Bool) → same a b ≡ true → a ≡ b
-signs_same true true e = refl
-signs_same true false e = absurd cc
-signs_same false true e = absurd cc
-signs_same false false e = refl
-
 same_turned : (a b : Bool) → same a b ≡ same b a
 same_turned true true = refl
 same_turned true false = refl
 same_turned false true = refl
 same_turned false false = refl
 
-same_itself : (a : Bool) → same a a ≡ true
-same_itself true = refl
-same_itself false = refl
-
-pub clock_same : (k l : tree.Clock) → is_clock k l ≡ true → k ≡ l
-clock_same tree.Base tree.Base e = refl
-clock_same tree.Base (tree.On l y other) e = absurd cc
-clock_same (tree.On k x sign) tree.Base e = absurd cc
-clock_same (tree.On k x sign) (tree.On l y other) e =
-    let names : x ≡ y = (bytes_eq-Decides x y).0 (and_first (bytes_eq x y) _ e) in
-    let rest = and_second (bytes_eq x y) _ e in
-    let signs : sign ≡ other = signs_same sign other (and_first (same sign other) _ rest) in
-    let clocks : k ≡ l = clock_same k l (and_second (same sign other) _ rest) in
-    cc
-
-pub clock_itself : (k : tree.Clock) → is_clock k k ≡ true
-clock_itself tree.Base = refl
-clock_itself (tree.On k x sign) =
-    let e = (bytes_eq-Decides x x).1 refl in
-    rw (e, same_itself sign) (clock_itself k)
-
 pub clock_equal : (k l : tree.Clock) → k ≡ l → is_clock k l ≡ true
 clock_equal k l e = subst (λ z. is_clock k z ≡ true) e (clock_itself k)
-
-pub clock_turned : (k l : tree.Clock) → is_clock k l ≡ is_clock l k
-clock_turned k l =
-    both_ways (is_clock k l) (is_clock l k)
-    (λ e. clock_equal l k (sym (clock_same k l e)))
-    (λ e. clock_equal k l (sym (clock_same l k e)))
 
 -- ## Clocks of a node
 

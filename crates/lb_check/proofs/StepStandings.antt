@@ -1,22 +1,20 @@
 -- The statements of a node keep the rules of clocks where the code finds that they do.
 use Rattle.std.proofs.Common.{◌≡◌, ℕ, ◌<◌, Bool, true, false, ◌+◌, List, [], ◌∷◌, length, map, Option, Some, None, refl, ap, sym, ◌∙◌, subst, arith}
-use Rattle.std.specs.Prelude.{◌&&◌, ◌==◌, option_map, slice_get, flat_map, nat_eq, nat_lt}
+use Rattle.std.specs.Prelude.{◌&&◌, ◌==◌, slice_get, flat_map, nat_eq}
 use Rattle.std.specs.List.{list_all, zip}
 use Rattle.std.proofs.lemmas.Bool.Decides.{nat_tests}
 use Rattle.std.proofs.lemmas.List.Folds.{list_all-append}
-use Rattle.std.proofs.lemmas.Option.{slice_get-map, slice_get_within, get_or_from_slice_get}
-use Rattle.lb_syntax.specs.Lists.{◌>>=◌, either_or, holds}
+use Rattle.std.proofs.lemmas.Option.{slice_get_within, get_or_from_slice_get}
+use Rattle.lb_syntax.specs.Lists.{◌>>=◌, holds}
 use Rattle.lb_syntax.specs.Tree as tree
 use Rattle.lb_syntax.specs.Tree.{Name, Node, Expr, Exprs, Cons, Static, Statement}
 use Rattle.lb_static.specs.Instances.{Program, Site, node_named, node_sites, statement_sites}
 use Rattle.lb_static.specs.Parts.{right_side}
-use Rattle.lb_static.specs.ReachedNodes.{are_linked, id_at, is_linked, source_names, tree_at}
-use Rattle.lb_static.specs.ResolvedNodes.{IsResolved, node_of, texts_of, counts_of, statics_of}
-use Rattle.lb_static.specs.ResolvedTerms.{Texts, is_variable, is_call, is_within, are_within, is_unhidden, are_unhidden, is_declared_within, is_sampling_within, are_statics, is_step_within, is_step_unhidden, expr_of, exprs_of, row_of, named_value, static_at, statement_of, site_at, site_of, no_site}
-use Rattle.lb_static.specs.declared.reach.NodeId.{NodeId}
+use Rattle.lb_static.specs.ReachedNodes.{source_names}
+use Rattle.lb_static.specs.ResolvedNodes.{IsResolved, node_of, texts_of, counts_of}
+use Rattle.lb_static.specs.ResolvedTerms.{Texts, is_variable, is_call, is_within, are_within, is_unhidden, are_unhidden, is_declared_within, is_sampling_within, are_statics, is_step_within, is_step_unhidden, expr_of, exprs_of, row_of, named_value, static_at, statement_of, site_at}
 use Rattle.lb_static.specs.declared.reach.Reached.{Reached}
 use Rattle.lb_static.specs.declared.resolved.CallId.{CallId}
-use Rattle.lb_static.specs.declared.resolved.CallSite.{CallSite}
 use Rattle.lb_static.specs.declared.resolved.ResolvedNode.{ResolvedNode}
 use Rattle.lb_static.specs.declared.resolved.Sampling.{Sampling}
 use Rattle.lb_static.specs.declared.resolved.Step.{Step}
@@ -37,7 +35,8 @@ use Rattle.lb_check.specs.declared.standing.Operand.{Operand}
 use Rattle.lb_check.specs.declared.standing.Standing.{Standing}
 use Rattle.lb_check.specs.declared.standing.Standing.TheVariants.{Nowhere, Anywhere, Only}
 use Rattle.lb_check.proofs.DistinctNames.{held_at}
-use Rattle.lb_check.proofs.NodePlaces.{and_first, and_second, all_at, named_at}
+use Rattle.lb_check.proofs.NodePlaces.{and_first, and_second, all_at}
+use Rattle.lb_check.proofs.SiteCallees.{callee_found}
 use Rattle.lb_check.proofs.OwnClocks.{clock_of_free, clock_of_waiting, same_clock, clock_itself}
 
 and_true : (b : Bool) → (b && true) ≡ b
@@ -106,34 +105,11 @@ module _ (P : Program) (r : Reached) (here : ResolvedNode) (sees : SeesClocks P 
 
   -- ## What is called
 
-  linked_node : (s : CallSite) (o : Option NodeId) → id_at r s.callee ≡ o → is_linked r s ≡ true
-      → (id : NodeId) × (callee : ResolvedNode) × (id_at r s.callee ≡ Some id) × (slice_get r.nodes.items id.0 ≡ Some callee)
-  linked_node s None is l = absurd (let e = sym (ap (holds (λ id. nat_lt id.0 (length r.nodes.items))) is) ∙ l in cc)
-  linked_node s (Some id) is l =
-      let h = held_at r.nodes.items id.0 (sym (ap (holds (λ id. nat_lt id.0 (length r.nodes.items))) is) ∙ l) in
-      (id, h.0, is, h.1)
-
-  -- what a call calls is found by its name
   pub called : (c : CallId) → is_call (counts_of here) c ≡ true
       → (callee : ResolvedNode) × (callee_in r here c ≡ Some callee) × (node_named P (site_at (node_sites (node_of here)) c).callee ≡ Some (node_of callee))
   called c w =
-      let site = held_at here.calls.items c.0 w in
-      let links = all_at (are_linked r) r.nodes.items sees.place here sees.reached.linked sees.at in
-      let f = linked_node site.0 (id_at r site.0.callee) refl (all_at (is_linked r) here.calls.items c.0 site.0 links site.1) in
-      let n = node_of f.1 in
-      let tree_is : tree_at r f.0 ≡ Some n = slice_get-map node_of r.nodes.items f.0.0 ∙ ap (option_map node_of) f.3 in
-      let place : slice_get P.source.nodes site.0.callee.0 ≡ Some n = sym (sees.reached.found site.0.callee f.0 f.2) ∙ tree_is in
-      let name : slice_get (source_names P) site.0.callee.0 ≡ Some n.name =
-      slice_get-map (λ m. m.name) P.source.nodes site.0.callee.0 ∙ ap (option_map (λ m. m.name)) place in
-      let sited : slice_get (node_sites node) c.0 ≡ Some (site_of (source_names P) (statics_of here) site.0) =
-      ap (λ (ss : List Site). slice_get ss c.0) (sym resolved.calls) ∙ slice_get-map (site_of (source_names P) (statics_of here)) here.calls.items c.0
-      ∙ ap (option_map (site_of (source_names P) (statics_of here))) site.1 in (
-        f.1,
-        ap (λ o. o >>= λ site. id_at r site.callee >>= λ id. slice_get r.nodes.items id.0) site.1
-            ∙ ap (λ o. o >>= λ id. slice_get r.nodes.items id.0) f.2 ∙ f.3,
-        ap (λ o. node_named P (either_or o no_site).callee) sited ∙ ap (λ o. node_named P (either_or o [])) name
-            ∙ named_at P sees.names site.0.callee.0 n place,
-      )
+      let found = callee_found P r sees.names sees.reached sees.place here sees.at c w in
+      (found.0, found.1, found.2)
 
   -- ## Declared clocks
 

@@ -33,7 +33,7 @@ use Rattle.lb_check.specs.declared.own_clock.Clock.TheVariants.{Base, On}
 use Rattle.lb_check.specs.declared.standing.Operand.{Operand}
 use Rattle.lb_check.specs.declared.standing.Standing.{Standing}
 use Rattle.lb_check.specs.declared.standing.Standing.TheVariants.{Nowhere, Anywhere, Only}
-use Rattle.lb_check.proofs.ClockTests.{itself, other_way, on_one, on_two, same_is, name_among, declared_is, declared_within, has_declared}
+use Rattle.lb_check.proofs.ClockTests.{clock_itself, clock_turned, on_one, on_two, same_is, name_among, declared_is, declared_within, has_declared}
 use Rattle.lb_check.proofs.ClockedNodes.{as_many_names, same_taken, zip_split}
 use Rattle.lb_check.proofs.FittedTypes.{unfound}
 use Rattle.lb_check.proofs.NodePlaces.{and_first, and_second}
@@ -169,7 +169,7 @@ module _ (P : Program) (here : ResolvedNode) (own : HasClocks here) where
         operand : (n : ℕ) → accepts a (declared_clock node (name_in here x)) n ≡ is_same l (declared_in here x)
         operand n =
             let is = declared_is here own x w in
-            ha.2 (declared_clock node (name_in here x)) n ∙ other_way (declared_clock node (name_in here x)) (clock_in here l)
+            ha.2 (declared_clock node (name_in here x)) n ∙ clock_turned (declared_clock node (name_in here x)) (clock_in here l)
             ∙ ap (is_clock (clock_in here l)) (sym is)
             ∙ sym (same_is here own l (declared_in here x) ha.0 (declared_within here own x w))
 
@@ -197,7 +197,7 @@ module _ (P : Program) (here : ResolvedNode) (own : HasClocks here) where
           declared_within here own x ha.0,
           ap (λ o. o >>= parent) ha.1 ∙ ap Some (sym is),
           λ k n. ap (λ o. is_just_below k o && accepts a (clock_or o) n) ha.1
-              ∙ ap (λ b. is_clock k declared && b) (ha.2 sampled_clock n ∙ itself sampled_clock) ∙ and_true (is_clock k declared) ∙ ap (is_clock k) (sym is),
+              ∙ ap (λ b. is_clock k declared && b) (ha.2 sampled_clock n ∙ clock_itself sampled_clock) ∙ and_true (is_clock k declared) ∙ ap (is_clock k) (sym is),
         )
 
 -- ## Rows
