@@ -10,6 +10,7 @@ ghost use Rattle.lb_check.specs.TermClocks as mirror;
 use crate::own_clock::Clock;
 use crate::standing::{Operand, Standing};
 use crate::term_clock::ClockScope;
+use crate::type_scope::variables_at;
 use lb_static::resolved::{ResolvedNode, Sampling, Term, Variable, VariableId};
 use std::alloc::{AllocError, Global};
 
@@ -64,16 +65,7 @@ impl Given<'_> {
 fn variables_from<'t>(node: &'t ResolvedNode, first: usize, count: usize) -> &'t [Variable]
     ensures { result.now ≡ take count (drop first node.now.variables.items) }
 {
-    let variables = node.variables.as_slice();
-    if variables.len() <= first {
-        return &variables[..0];
-    }
-    let rest = &variables[first..];
-    if rest.len() <= count {
-        rest
-    } else {
-        &rest[..count]
-    }
+    variables_at(&node.variables, first, count)
 }
 
 /// The inputs and outputs of a node.

@@ -62,7 +62,7 @@ fn values_at(statics: &[StaticInt], first: usize, count: usize) -> &[StaticInt]
 }
 
 /// So many variables, from one on.
-fn variables_at(variables: &[Variable], first: usize, count: usize) -> &[Variable]
+pub(crate) fn variables_at(variables: &[Variable], first: usize, count: usize) -> &[Variable]
     ensures { result.now ≡ take count (drop first variables.now) }
 {
     if variables.len() <= first {
