@@ -214,7 +214,7 @@ find_none p xs e = by (nat_lt (position_or_len p xs) (length xs)) refl e
         let past : length xs ≤ position_or_len p xs = grind (arith, nat_tests) in
         sym (found_at p xs) ∙ slice_get_past xs (position_or_len p xs) past
 
-position_within : {A : Type 0} (p : A → Bool) (xs : List A) (i : ℕ) → position p xs ≡ Some i → i < length xs
+pub position_within : {A : Type 0} (p : A → Bool) (xs : List A) (i : ℕ) → position p xs ≡ Some i → i < length xs
 position_within p xs i e = by (nat_lt (position_or_len p xs) (length xs)) (position_or_len p xs) refl e
   where
     by : (b : Bool) (m : ℕ) → nat_lt m (length xs) ≡ b → cond b (Some m) None ≡ Some i → i < length xs

@@ -1,5 +1,5 @@
 -- Which refusal of a program the faults of its parts are.
-use Rattle.std.proofs.Common.{◌≡◌, Bool, true, false, Option, Some, None, Result, Ok, Err, refl}
+use Rattle.std.proofs.Common.{◌≡◌, Bool, true, false, Option, Some, None, Err, refl}
 use Rattle.lb_syntax.specs.Lists.{or_else, holds}
 use Rattle.lb_syntax.specs.Refusals.{Refusal, E4, E5, E6, E7, E8, E12, unless}
 use Rattle.lb_static.specs.declared.error.StaticError.{StaticError}

@@ -1,7 +1,8 @@
 -- The walk over the instances of a program, step by step.
 use Rattle.std.proofs.Common.{◌≡◌, ℕ, suc, zero, ◌<◌, ◌≤◌, ℤ, Bool, true, false, List, [], ◌∷◌, ◌++◌, length, get_or, Option, Some, None, Ok, Err, Result, Vec, All, refl, ap, sym, ◌∙◌, subst, inl, inr, ◌⊎◌, arith}
-use Rattle.std.specs.Prelude.{is_some, nat_lt, nat_le, slice_get, IfOk, IfErr, IfSome}
+use Rattle.std.specs.Prelude.{is_some, nat_lt, nat_le, option_copied, slice_get, IfOk, IfErr, IfSome}
 use Rattle.std.specs.List.{zip}
+use Rattle.std.specs.Borrow.{Bor}
 use Rattle.std.specs.declared.alloc.Global.{Global}
 use Rattle.std.proofs.lemmas.Option.{slice_get_within, get_or_from_slice_get}
 use Rattle.std.proofs.lemmas.List.Elements.{All-get_or}
@@ -16,7 +17,7 @@ use Rattle.lb_static.specs.ReachedNodes.{source_names}
 use Rattle.lb_static.specs.ResolvedNodes.{IsResolved, node_of}
 use Rattle.lb_static.specs.Specialized.{IsEvaluated, value_given}
 use Rattle.lb_static.specs.Walk.{has_values, is_in_range, may_enter, level, instance_refusal}
-use Rattle.lb_static.specs.Walked.{IsWalkable, IsJudgement, IsJudged, IsJudgedAt, AreJudged, IsKnown, HasGrown, IsRefusal}
+use Rattle.lb_static.specs.Walked.{IsWalkable, IsJudgement, IsJudged, IsJudgedAt, AreJudged, IsKnown, IsKnownWith, HasGrown, IsRefusal}
 use Rattle.lb_static.specs.declared.constants.Constants.{Constants}
 use Rattle.lb_static.specs.declared.error.StaticError.{StaticError}
 use Rattle.lb_static.specs.declared.error.StaticError.TheVariants as error
@@ -104,11 +105,13 @@ module _ (P : Program) (k : ℕ) (here : Instance) where
   begun_ill n error.Instances few low j = absurd j
 
 -- a specialization that is found is that of the node with these values
-pub known_with : (P : Program) (r : Reached) (specializations : List Specialization) (node : NodeId) (values : List ℤ) (id : SpecializationId) (s : Specialization)
-    → AreJudged P r specializations → IsKnown specializations node values id → s ≡ get_or specializations id.0 s
-    → IsJudgedAt P r s × (s.node ≡ node) × (s.values.items ≡ values)
-known_with P r specializations node values id s judged k e =
-    let same : k.0 ≡ s = sym (e ∙ get_or_from_slice_get specializations id.0 k.0 s k.1) in
+pub known_with : (P : Program) (r : Reached) (specializations : List Specialization) (node : NodeId) (values : List ℤ) (id : SpecializationId) (o : Option (Bor Specialization))
+    → AreJudged P r specializations → IsKnown specializations node values id → option_copied o ≡ slice_get specializations id.0
+    → IsKnownWith P r o node values
+known_with P r specializations node values id None judged k e = tt
+known_with P r specializations node values id (Some b) judged k e =
+    let there = e ∙ k.1 in
+    let same : k.0 ≡ b.now = cc in
     subst (λ t. IsJudgedAt P r t × (t.node ≡ node) × (t.values.items ≡ values)) same ((judged id.0 k.0 k.1).1, k.2, k.3)
 
 -- ## The specializations that are there

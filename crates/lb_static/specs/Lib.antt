@@ -24,6 +24,7 @@ pub mod InstanceTable
 pub mod WalkedRows
 pub mod Specialized
 pub mod Walked
+pub mod KeyedSpecializations
 pub mod SettledSpecializations
 pub mod CallGraphs
 pub mod CycleSearch

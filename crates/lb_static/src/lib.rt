@@ -28,6 +28,7 @@ mod resolving_variables;
 mod scope;
 mod shape;
 pub mod signature;
+mod specializations;
 mod specialize;
 mod standing;
 pub mod static_value;

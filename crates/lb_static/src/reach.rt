@@ -3,7 +3,7 @@
 use crate::resolved::ResolvedNode;
 
 /// The place of a node among those that are reached.
-#[derive(Clone, Copy, PartialEq, Eq, Debug)]
+#[derive(Clone, Copy, PartialEq, Eq, Hash, Debug)]
 pub struct NodeId(pub u32);
 
 /// The nodes that are reached, with their names resolved: the node under test, then the observer

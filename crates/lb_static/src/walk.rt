@@ -28,6 +28,7 @@ use crate::error::StaticError;
 use crate::instance_values::InstanceValues;
 use crate::reach::{NodeId, Reached};
 use crate::resolved::{CallId, CallSite};
+use crate::specializations::Specializations;
 use crate::specialize::{size_of, specialize};
 use crate::static_value::StaticInt;
 use crate::table::{Instance, InstanceId, Origin, Specialization, SpecializationId, Table};
@@ -38,38 +39,6 @@ const MOST_INSTANCES: usize = 4096;
 
 /// The most levels that instances may stand on.
 const MOST_LEVELS: u32 = 64;
-
-// Whether these are the same values.
-fn are_same(left: &[StaticInt], right: &[StaticInt]) -> bool
-    ensures { result ≡ true → left.now ≡ right.now }
-{
-    if left.len() != right.len() {
-        return false;
-    }
-    for (place, value) in left.iter().enumerate() {
-        if value.get() != right[place].get() {
-            return false;
-        }
-    }
-    true
-}
-
-// The specialization of a node with these values, if it is there.
-fn known_as(
-    specializations: &[Specialization],
-    node: NodeId,
-    values: &[StaticInt],
-) -> Option<SpecializationId>
-    requires { length specializations.now < 2 ^ 32 }
-    ensures { IfSome result (IsKnown specializations.now node values.now) }
-{
-    for (place, specialization) in specializations.iter().enumerate() {
-        if specialization.node == node && are_same(&specialization.values, values) {
-            return Some(SpecializationId(place as u32));
-        }
-    }
-    None
-}
 
 // The values of the static expressions of a node with values of its static parameters. They are
 // taken from a specialization that is known.
@@ -140,7 +109,7 @@ fn callee_of<'a>(reached: &Reached, site: &CallSite, statics: &'a [StaticInt]) -
 /// What was entered so far.
 #[derive(Drop)]
 struct Entered {
-    specializations: Vec<Specialization>,
+    specializations: Specializations,
     instances: Vec<Instance>,
 }
 
@@ -172,32 +141,32 @@ fn begin(
 ) -> Result<Begun, StaticError>
     requires sound { AreSound reached.now }
     requires within { entry.node.0 < length reached.now.nodes.items }
-    requires few { length entered.old.specializations.items ≤ length entered.old.instances.items }
+    requires few { length entered.old.specializations ≤ length entered.old.instances.items }
     requires room { length entered.old.instances.items ≤ 4096 }
     ensures few { OnOk result (length entered.old.instances.items < 4096) }
     ensures low { OnOk result (entry.level ≤ 64) }
     ensures row { OnOk result (entered.new.instances.items ≡ entered.old.instances.items
         ++ (record { specialization = record { 0 = 0 }; origin = entry.origin }) ∷ []) }
     ensures same { OnOk result
-        (entered.new.specializations.items ≡ entered.old.specializations.items) }
+        (entered.new.specializations ≡ entered.old.specializations) }
     ensures known { IfOk result (λ b. IfSome b.known
-        (IsKnown entered.old.specializations.items entry.node values.now)) }
+        (IsKnown entered.old.specializations entry.node values.now)) }
     ensures sized { IfOk result (λ b. (n : ResolvedNode)
         → slice_get reached.now.nodes.items entry.node.0 ≡ Some n
         → length b.statics.items ≡ length n.statics.items) }
     ensures judged { (P : Program) (p : Path) (n : ResolvedNode)
         → IsWalkable P reached.now constants.now
         → slice_get reached.now.nodes.items entry.node.0 ≡ Some n → level P p ≡ entry.level
-        → AreJudged P reached.now entered.old.specializations.items
+        → AreJudged P reached.now entered.old.specializations
         → IsBegun P (length entered.old.instances.items) n (instance_of p (node_of n) values.now)
         result }
 {
     if entered.instances.len() >= MOST_INSTANCES || entry.level > MOST_LEVELS {
         return Err(StaticError::Instances);
     }
-    let known = known_as(&entered.specializations, entry.node, values);
+    let known = entered.specializations.find(alloc, entry.node, values)?;
     let specialization = match known {
-        Some(id) => Some(&entered.specializations[id.0 as usize]),
+        Some(id) => entered.specializations.get(id),
         None => None,
     };
     let statics = statics_of(
@@ -217,6 +186,7 @@ fn begin(
 
 // Gives an instance that was begun its specialization, which is added if it was not there.
 fn settle(
+    alloc: Global,
     entered: &mut Entered,
     row: usize,
     node: NodeId,
@@ -225,44 +195,43 @@ fn settle(
     callees: Vec<SpecializationId>,
 ) -> Result<SpecializationId, StaticError>
     requires within { row < length entered.old.instances.items }
-    requires few { length entered.old.specializations.items < 2 ^ 32 }
+    requires few { length entered.old.specializations < 2 ^ 32 }
     requires known { IfSome begun.known
-        (IsKnown entered.old.specializations.items node values.items) }
+        (IsKnown entered.old.specializations node values.items) }
     ensures err { IfErr result (λ e. e ≡ StaticError.Memory) }
     ensures rows { OnOk result
         (length entered.new.instances.items ≡ length entered.old.instances.items) }
-    ensures more { OnOk result (length entered.new.specializations.items
-        ≤ length entered.old.specializations.items + 1) }
+    ensures more { OnOk result (length entered.new.specializations
+        ≤ length entered.old.specializations + 1) }
     ensures grown { OnOk result
-        (HasGrown entered.old.specializations.items entered.new.specializations.items) }
+        (HasGrown entered.old.specializations entered.new.specializations) }
     ensures known { IfOk result
-        (IsKnown entered.new.specializations.items node values.items) }
+        (IsKnown entered.new.specializations node values.items) }
     ensures judged { (P : Program) (r : Reached) → node.0 < length r.nodes.items
-        → AreJudged P r entered.old.specializations.items
+        → AreJudged P r entered.old.specializations
         → ((p : Path) (n : ResolvedNode) → slice_get r.nodes.items node.0 ≡ Some n
         → IsJudged P n (instance_of p (node_of n) values.items) begun.statics.items)
-        → OnOk result (AreJudged P r entered.new.specializations.items) }
+        → OnOk result (AreJudged P r entered.new.specializations) }
     ensures settled { (r : Reached) (n : ResolvedNode) → slice_get r.nodes.items node.0 ≡ Some n
-        → AreSettled r entered.old.specializations.items
-        → AreCalled r entered.old.specializations.items begun.statics.items n.calls.items
+        → AreSettled r entered.old.specializations
+        → AreCalled r entered.old.specializations begun.statics.items n.calls.items
         callees.items
-        → OnOk result (AreSettled r entered.new.specializations.items) }
+        → OnOk result (AreSettled r entered.new.specializations) }
     ensures placed { IfOk result (λ id.
         IsSettledRow row id entered.old.instances.items entered.new.instances.items) }
     ensures one_more { IfOk result (λ id. IsOneMore id.0
-        entered.old.specializations.items entered.new.specializations.items) }
+        entered.old.specializations entered.new.specializations) }
 {
     let id = match begun.known {
         Some(id) => id,
         None => {
-            let id = SpecializationId(entered.specializations.len() as u32);
-            entered.specializations.push(Specialization {
+            let specialization = Specialization {
                 node,
                 values,
                 statics: begun.statics,
                 callees,
-            })?;
-            id
+            };
+            entered.specializations.add(alloc, specialization)?
         }
     };
     entered.instances[row].specialization = id;
@@ -280,48 +249,48 @@ fn enter(
 ) -> Result<SpecializationId, StaticError>
     requires sound { AreSound reached.now }
     requires within { entry.node.0 < length reached.now.nodes.items }
-    requires few { length entered.old.specializations.items ≤ length entered.old.instances.items }
+    requires few { length entered.old.specializations ≤ length entered.old.instances.items }
     requires room { length entered.old.instances.items ≤ 4096 }
     requires low { entry.level ≤ 65 }
     ensures few { OnOk result
-        (length entered.new.specializations.items + length entered.old.instances.items
-        ≤ length entered.old.specializations.items + length entered.new.instances.items) }
+        (length entered.new.specializations + length entered.old.instances.items
+        ≤ length entered.old.specializations + length entered.new.instances.items) }
     ensures more { OnOk result
         (length entered.old.instances.items < length entered.new.instances.items) }
     ensures room { OnOk result (length entered.new.instances.items ≤ 4096) }
     ensures grown { OnOk result
-        (HasGrown entered.old.specializations.items entered.new.specializations.items) }
+        (HasGrown entered.old.specializations entered.new.specializations) }
     ensures known { IfOk result
-        (IsKnown entered.new.specializations.items entry.node values.now) }
+        (IsKnown entered.new.specializations entry.node values.now) }
     ensures ok { IfOk result (λ _. (P : Program) (p : Path) (n : ResolvedNode)
         → IsWalkable P reached.now constants.now
         → slice_get reached.now.nodes.items entry.node.0 ≡ Some n → level P p ≡ entry.level
-        → AreJudged P reached.now entered.old.specializations.items
-        → AreJudged P reached.now entered.new.specializations.items
+        → AreJudged P reached.now entered.old.specializations
+        → AreJudged P reached.now entered.new.specializations
         × AreEntered P (length entered.old.instances.items)
         (instances_from P (66 - entry.level) (instance_of p (node_of n) values.now))
         (length entered.new.instances.items)) }
     ensures err { IfErr result (λ e. (P : Program) (p : Path) (n : ResolvedNode)
         → IsWalkable P reached.now constants.now
         → slice_get reached.now.nodes.items entry.node.0 ≡ Some n → level P p ≡ entry.level
-        → AreJudged P reached.now entered.old.specializations.items
+        → AreJudged P reached.now entered.old.specializations
         → IsRefusal (walk_refusal P (length entered.old.instances.items)
         (instances_from P (66 - entry.level) (instance_of p (node_of n) values.now))) e) }
     ensures settled { IfOk result (λ _. (P : Program) (p : Path) (n : ResolvedNode)
         → IsWalkable P reached.now constants.now
         → slice_get reached.now.nodes.items entry.node.0 ≡ Some n → level P p ≡ entry.level
-        → AreJudged P reached.now entered.old.specializations.items
-        → AreSettled reached.now entered.old.specializations.items
-        → AreSettled reached.now entered.new.specializations.items) }
+        → AreJudged P reached.now entered.old.specializations
+        → AreSettled reached.now entered.old.specializations
+        → AreSettled reached.now entered.new.specializations) }
     ensures used { OnOk result
-        (HasUsed entered.old.specializations.items entered.new.specializations.items
+        (HasUsed entered.old.specializations entered.new.specializations
         entered.old.instances.items entered.new.instances.items) }
     ensures stand { IfOk result (λ _. (P : Program) (p : Path) (n : ResolvedNode)
         → IsWalkable P reached.now constants.now
         → slice_get reached.now.nodes.items entry.node.0 ≡ Some n → level P p ≡ entry.level
-        → AreJudged P reached.now entered.old.specializations.items
+        → AreJudged P reached.now entered.old.specializations
         → path_from (paths_after [] entered.old.instances.items) entry.origin ≡ p
-        → HasRows reached.now entered.new.specializations.items
+        → HasRows reached.now entered.new.specializations
         entered.old.instances.items entered.new.instances.items
         (instances_from P (66 - entry.level) (instance_of p (node_of n) values.now))) }
 {
@@ -353,6 +322,7 @@ fn enter(
         }
     }
     settle(
+        alloc,
         entered,
         row,
         entry.node,
@@ -380,7 +350,7 @@ pub fn walk(alloc: Global, reached: &Reached, constants: &Constants) -> Result<T
         → IfOk result (AreInstances P reached.now) }
 {
     let mut entered = Entered {
-        specializations: Vec::new(alloc),
+        specializations: Specializations::new(alloc),
         instances: Vec::new(alloc),
     };
     let under_test = Entry {
@@ -402,8 +372,9 @@ pub fn walk(alloc: Global, reached: &Reached, constants: &Constants) -> Result<T
         }
         _ => None,
     };
+    let specializations = entered.specializations.into_vec(alloc)?;
     Ok(Table {
-        specializations: entered.specializations,
+        specializations,
         instances: entered.instances,
         root,
         observer,

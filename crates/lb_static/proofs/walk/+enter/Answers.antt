@@ -61,13 +61,13 @@ loop-call-init t c =
       );
       settled = λ P p n w at low judged settled. (
         subst (AreSettled c.args.reached.now) (sym c.in_ok-begun.ensures.same) settled,
-        none_called c.args.reached.now c.in_ok-begun.begun.statics.items c.begin.new.entered.specializations.items n.calls.items c.new-callees.result.items c.new-callees.ensures.items,
+        none_called c.args.reached.now c.in_ok-begun.begun.statics.items c.begin.new.entered.specializations n.calls.items c.new-callees.result.items c.new-callees.ensures.items,
       );
       used =
-          used_none c.args.entered.now.specializations.items c.begin.new.entered.specializations.items
+          used_none c.args.entered.now.specializations c.begin.new.entered.specializations
           (c.args.entered.now.instances.items ++ begun_row c.args.entry.origin ∷ []) c.begin.new.entered.instances.items c.in_ok-begun.ensures.same c.in_ok-begun.ensures.row;
       stand = λ P p n w at low judged path.
-          rows_none c.args.reached.now c.begin.new.entered.specializations.items
+          rows_none c.args.reached.now c.begin.new.entered.specializations
           (c.args.entered.now.instances.items ++ begun_row c.args.entry.origin ∷ []) c.begin.new.entered.instances.items c.in_ok-begun.ensures.row;
     }
 
@@ -107,7 +107,7 @@ loop-index-init t c =
       used = inv.used;
       stand = λ P p n m w at am low judged path.
           let rows = c.args.entered.now.instances.items ++ begun_row c.args.entry.origin ∷ [] in
-          subst (HasRows c.args.reached.now c.loop-call.entered.specializations.items rows c.loop-call.entered.instances.items)
+          subst (HasRows c.args.reached.now c.loop-call.entered.specializations rows c.loop-call.entered.instances.items)
           (sym (append-nil (of_calls P p n c.args.values.now c.args.entry.level c.loop-call.call))) (inv.stand P p n w at low judged path);
     }
 
@@ -146,15 +146,15 @@ loop-index-preserved t c =
           let deeper : level P (Child p call index) ≡ level_here + 1 = omega arith in
           told.settled P (Child p call index) m w am deeper (inv.judged P p n m w at am low judged).0 (inv.settled P p n m w at am low judged settled);
       used =
-          used_more c.args.entered.now.specializations.items c.loop-index.entered.specializations.items c.enter.new.entered.specializations.items
+          used_more c.args.entered.now.specializations c.loop-index.entered.specializations c.enter.new.entered.specializations
           (c.args.entered.now.instances.items ++ begun_row c.args.entry.origin ∷ []) c.loop-index.entered.instances.items c.enter.new.entered.instances.items
           inv.used told.used;
       stand = λ P p n m w at am low judged path.
           let r = c.args.reached.now in
           let old = c.args.entered.now.instances.items in
           let from = c.args.entry.origin in
-          let so_far = c.loop-index.entered.specializations.items in
-          let now = c.enter.new.entered.specializations.items in
+          let so_far = c.loop-index.entered.specializations in
+          let now = c.enter.new.entered.specializations in
           let rows = old ++ begun_row from ∷ [] in
           let calls = of_calls P p n values level_here call in
           let indexes = of_indexes P p n values level_here call m arguments index in
@@ -214,7 +214,7 @@ loop-call-preserved t c =
     let call = c.loop-call.call in
     let items = c.deref-site-items.result.now in
     let callee = c.callee_of-callee.result in
-    let first = c.args.entered.now.specializations.items in
+    let first = c.args.entered.now.specializations in
     -- the instances of the calls so far are those of the calls before, and those of this one
     let whole = λ (P : Program) (p : Path) (n m : ResolvedNode) (w : IsWalkable P r c.args.constants.now) (at : slice_get nodes c.args.entry.node.0 ≡ Some n)
     (am : slice_get nodes callee.node.0 ≡ Some m) (low : level P p ≡ level_here) (judged : AreJudged P r first).
@@ -247,8 +247,8 @@ loop-call-preserved t c =
           let m = get_or nodes callee.node.0 n in
           let am = slice_get-get_or nodes callee.node.0 n c.callee_of-callee.ensures.within in
           let statics = c.in_ok-begun.begun.statics.items in
-          let first = c.loop-call.entered.specializations.items in
-          let now = c.loop-index.entered.specializations.items in
+          let first = c.loop-call.entered.specializations in
+          let now = c.loop-index.entered.specializations in
           let site = get_or items call no_call in
           let begun = c.in_ok-begun.ensures.judged P p n w at low judged in
           let is = element_all (IsResolved (source_names P)) nodes c.args.entry.node.0 n w.reached.resolved at in
@@ -277,17 +277,17 @@ loop-call-preserved t c =
           let m = get_or nodes callee.node.0 n in
           let am = slice_get-get_or nodes callee.node.0 n c.callee_of-callee.ensures.within in
           let rows = c.args.entered.now.instances.items ++ begun_row c.args.entry.origin ∷ [] in
-          subst (HasRows r c.loop-index.entered.specializations.items rows c.loop-index.entered.instances.items) (sym (whole P p n m w at am low judged))
+          subst (HasRows r c.loop-index.entered.specializations rows c.loop-index.entered.instances.items) (sym (whole P p n m w at am low judged))
           (inv.stand P p n m w at am low judged path);
     }
 
 pub settle-requires-clause-known : goal.settle-requires-clause-known
 settle-requires-clause-known t c =
     let node = c.args.entry.node in
-    let so_far = c.loop-call.entered.specializations.items in
+    let so_far = c.loop-call.entered.specializations in
     let known = c.in_ok-begun.begun.known in
     subst (λ vs. IfSome known (IsKnown so_far node vs)) (sym c.in_ok-from_slice.ensures.items)
-    (some_known_later c.args.entered.now.specializations.items so_far node c.args.values.now known c.loop-call.invariant.grown c.in_ok-begun.ensures.known)
+    (some_known_later c.args.entered.now.specializations so_far node c.args.values.now known c.loop-call.invariant.grown c.in_ok-begun.ensures.known)
 
 pub returns-clause-grown : goal.returns-clause-grown
 returns-clause-grown t c =
@@ -324,7 +324,7 @@ returns-clause-err t c =
     memory_alone c.settle.result
     (λ e. (P : Program) (p : Path) (n : ResolvedNode) → IsWalkable P c.args.reached.now c.args.constants.now
     → slice_get c.args.reached.now.nodes.items c.args.entry.node.0 ≡ Some n → level P p ≡ c.args.entry.level
-    → AreJudged P c.args.reached.now c.args.entered.now.specializations.items
+    → AreJudged P c.args.reached.now c.args.entered.now.specializations
     → IsRefusal (walk_refusal P (length c.args.entered.now.instances.items) (instances_from P (66 - c.args.entry.level) (instance_of p (node_of n) c.args.values.now))) e)
     (λ P p n w at low judged. tt) c.settle.ensures.err
 
@@ -339,13 +339,13 @@ returns-clause-settled t c =
     let items = ap length same in
     let past : length n.calls.items ≤ c.loop-call.call = omega (arith, items, c.loop-call-test.false) in
     IfOk-at_ok _ e (c.settle.ensures.settled r n at so_far.0
-    (all_called r statics c.loop-call.entered.specializations.items n.calls.items c.loop-call.callees.items c.loop-call.call past so_far.1)))
+    (all_called r statics c.loop-call.entered.specializations n.calls.items c.loop-call.callees.items c.loop-call.call past so_far.1)))
 
 pub returns-clause-used : goal.returns-clause-used
 returns-clause-used t c =
     let place : c.len-row.result ≡ length c.args.entered.now.instances.items = omega (arith, c.len-row.ensures) in
     ok_when c.settle.result _ (λ x e.
-    used_settled c.args.entered.now.specializations.items c.loop-call.entered.specializations.items c.settle.new.entered.specializations.items
+    used_settled c.args.entered.now.specializations c.loop-call.entered.specializations c.settle.new.entered.specializations
     c.args.entered.now.instances.items c.loop-call.entered.instances.items c.settle.new.entered.instances.items c.args.entry.origin c.len-row.result x
     place c.loop-call.invariant.used (IfOk-at_ok _ e c.settle.ensures.placed) (IfOk-at_ok _ e c.settle.ensures.one_more))
 
@@ -359,8 +359,8 @@ returns-clause-stand t c =
     let level_here = c.args.entry.level in
     let old = c.args.entered.now.instances.items in
     let rows = old ++ begun_row from ∷ [] in
-    let so_far = c.loop-call.entered.specializations.items in
-    let now = c.settle.new.entered.specializations.items in
+    let so_far = c.loop-call.entered.specializations in
+    let now = c.settle.new.entered.specializations in
     let middle = c.loop-call.entered.instances.items in
     let place : c.len-row.result ≡ length old = omega (arith, c.len-row.ensures) in
     ok_when c.settle.result _ (λ x e. λ P p n w at low judged path.

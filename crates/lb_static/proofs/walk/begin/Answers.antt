@@ -1,32 +1,53 @@
 -- An instance is judged by its own values, or by those of the specialization that is known.
-use Rattle.std.proofs.Common.{◌≤◌, arith, sym, subst, length}
+use Rattle.std.proofs.Common.{◌∙◌, ◌≤◌, arith, sym, subst, length}
+use Rattle.std.specs.Prelude.{IfSome}
 use Rattle.std.proofs.lemmas.Result.{err_from_is_err_and}
 use Rattle.lb_static.specs.Instances.{Program}
 use Rattle.lb_static.specs.InstanceTable.{instance_of}
 use Rattle.lb_static.specs.ResolvedNodes.{node_of}
+use Rattle.lb_static.specs.KeyedSpecializations.{IsFound}
 use Rattle.lb_static.specs.Walk.{level}
 use Rattle.lb_static.specs.Walked.{AreJudged, IsKnown, IsKnownWith}
 use Rattle.lb_static.proofs.WalkSteps.{known_with, begun_well, begun_ill}
 use Rattle.lb_static.proofs.walk.begin.Goals as goal
 use Rattle.lb_static.proofs.walk.begin.Goals.{After-statics_of, in-Some, in-None}
 
-found : (c : After-statics_of) (P : Program) → AreJudged P c.args.reached.now c.args.entered.now.specializations.items
+found : (c : After-statics_of) (P : Program) → AreJudged P c.args.reached.now c.args.entered.now.specializations
     → IsKnownWith P c.args.reached.now c.match-known.specialization c.args.entry.node c.args.values.now
 found c P judged =
+    let r = c.args.reached.now in
+    let node = c.args.entry.node in
+    let values = c.args.values.now in
+    let specializations = c.args.entered.now.specializations in
     elim c.match-known.branch [
       | in-Some w ↦
-          let node = c.args.entry.node in
-          let values = c.args.values.now in
-          let specializations = c.args.entered.now.specializations.items in
-          let known : IsKnown specializations node values w.in-Some.id = subst (λ l. IsKnown l node values w.in-Some.id) c.deref.ensures.value w.in-Some.ensures in
-          subst (λ o. IsKnownWith P c.args.reached.now o node values) (sym w.specialization-is)
-          (known_with P c.args.reached.now specializations node values w.in-Some.id w.index.result.now judged known w.index.ensures)
-      | in-None w ↦ subst (λ o. IsKnownWith P c.args.reached.now o c.args.entry.node c.args.values.now) (sym w.specialization-is) tt
+          let known : IsKnown specializations node values w.in-Some.id = subst (IsFound specializations node values) w.in-Some.is c.in_ok-known.ensures in
+          subst (λ o. IsKnownWith P r o node values) (sym w.specialization-is)
+          (known_with P r specializations node values w.in-Some.id w.get-specialization.result judged known w.get-specialization.ensures)
+      | in-None w ↦ subst (λ o. IsKnownWith P r o node values) (sym w.specialization-is) tt
+    ]
+
+-- where memory is refused, no instance is judged
+pub returns-in_err-known-clause-judged : goal.returns-in_err-known-clause-judged
+returns-in_err-known-clause-judged c =
+    let p = err_from_is_err_and c.from_residual.result c.from_residual.ensures.1 in
+    rw (p.1, p.2) (λ P q n w at low judged. tt)
+
+pub returns-clause-known : goal.returns-clause-known
+returns-clause-known c =
+    let node = c.args.entry.node in
+    let values = c.args.values.now in
+    let specializations = c.args.entered.now.specializations in
+    elim c.match-known.branch [
+      | in-Some w ↦
+          let known : IsKnown specializations node values w.in-Some.id = subst (IsFound specializations node values) w.in-Some.is c.in_ok-known.ensures in
+          subst (λ o. IfSome o (IsKnown specializations node values)) (sym w.known-is) known
+      | in-None w ↦ subst (λ o. IfSome o (IsKnown specializations node values)) (sym (w.known-is ∙ w.in-None.is)) tt
     ]
 
 pub returns-in_err-statics-clause-judged : goal.returns-in_err-statics-clause-judged
 returns-in_err-statics-clause-judged c =
-    let p = err_from_is_err_and c.from_residual.result c.from_residual.ensures.1 in
+    let p = err_from_is_err_and c.from_residual-in_err-statics.result c.from_residual-in_err-statics.ensures.1 in
     λ P q n w at low judged.
     let here = instance_of q (node_of n) c.args.values.now in
     let few : length c.args.entered.now.instances.items ≤ 4095 = omega arith in

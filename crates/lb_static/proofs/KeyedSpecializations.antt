@@ -1,0 +1,150 @@
+-- Specializations under keys: what is found at a key, and one more key.
+use Rattle.std.proofs.Common.{◌≡◌, ◌∙◌, ℕ, zero, suc, ◌≤◌, Bool, true, false, cond, ◌&&◌, ◌==◌, List, [], ◌∷◌, ◌++◌, map, length, Option, Some, None, refl, ap, sym, int_eq, arith}
+use Rattle.std.specs.Prelude.{slice_get, option_map, position, find, nat_lt, if◌then◌else◌}
+use Rattle.std.specs.List.{position_or_len}
+use Rattle.std.specs.Cmp.Lexicographic.{pointwise}
+use Rattle.std.proofs.lemmas.Bool.Decides.{nat_tests, Decides-eqb, Decides-int_eq}
+use Rattle.std.proofs.lemmas.Slice.Eq.{slice_eq-Decides}
+use Rattle.std.proofs.lemmas.Option.{slice_get-map, slice_get-get_or}
+use Rattle.std.proofs.lemmas.List.Elements.{All-push}
+use Rattle.indexmap.specs.IndexMap.{insert_entry}
+use Rattle.lb_static.specs.KeyedSpecializations.{AreKeyed, IsUnknown}
+use Rattle.lb_static.specs.Walked.{IsKnown}
+use Rattle.lb_static.specs.declared.reach.NodeId.{NodeId}
+use Rattle.lb_static.specs.declared.specializations.Key.{Key}
+use Rattle.lb_static.specs.declared.table.Specialization.{Specialization}
+use Rattle.lb_static.proofs.NodeNaming.{find_placed, find_none, position_within}
+use Rattle.lb_static.proofs.WalkSteps.{element_all}
+
+-- ## What is found
+
+found_passes : {A : Type 0} (p : A → Bool) (xs : List A) (x : A) → find p xs ≡ Some x → p x ≡ true
+found_passes p [] x e = absurd cc
+found_passes p (y ∷ xs) x e = by (p y) refl (found_passes p xs x) e
+  where
+    by : (b : Bool) → p y ≡ b → (find p xs ≡ Some x → p x ≡ true) → cond b (Some y) (find p xs) ≡ Some x → p x ≡ true
+    by true is next h = let same : y ≡ x = cc in ap p (sym same) ∙ is
+    by false is next h = next h
+
+others_fail : {A : Type 0} (p : A → Bool) (xs : List A) (i : ℕ) (x : A) → find p xs ≡ None → slice_get xs i ≡ Some x → p x ≡ false
+others_fail p [] i x e at = absurd cc
+others_fail p (y ∷ xs) zero x e at = by (p y) refl e
+  where
+    by : (b : Bool) → p y ≡ b → cond b (Some y) (find p xs) ≡ None → p x ≡ false
+    by true is h = absurd cc
+    by false is h = let same : y ≡ x = cc in ap p (sym same) ∙ is
+others_fail p (y ∷ xs) (suc i) x e at = by (p y) (λ h. others_fail p xs i x h at) e
+  where
+    by : (b : Bool) → (find p xs ≡ None → p x ≡ false) → cond b (Some y) (find p xs) ≡ None → p x ≡ false
+    by true next h = absurd cc
+    by false next h = next h
+
+-- ## Keys
+
+abbrev pub key_eq : Key → Key → Bool
+key_eq a b = (a.node.0 == b.node.0) && pointwise int_eq a.values.items b.values.items
+
+both_true : (a b : Bool) → (a && b) ≡ true → (a ≡ true) × (b ≡ true)
+both_true true b e = (refl, e)
+both_true false b e = absurd cc
+
+same_key : (a b : Key) → key_eq a b ≡ true → (a.node ≡ b.node) × (a.values.items ≡ b.values.items)
+same_key a b e =
+    let both = both_true (a.node.0 == b.node.0) (pointwise int_eq a.values.items b.values.items) e in (
+      ap (λ (n : ℕ). record { 0 = n }) ((Decides-eqb a.node.0 b.node.0).0 both.0),
+      (slice_eq-Decides Decides-int_eq a.values.items b.values.items (pointwise int_eq a.values.items b.values.items) refl).0 both.1,
+    )
+
+key_same : (a b : Key) → a.node ≡ b.node → a.values.items ≡ b.values.items → key_eq a b ≡ true
+key_same a b node values =
+    let left : (a.node.0 == b.node.0) ≡ true = (Decides-eqb a.node.0 b.node.0).1 (ap (λ (n : NodeId). n.0) node) in
+    let right : pointwise int_eq a.values.items b.values.items ≡ true = (slice_eq-Decides Decides-int_eq a.values.items b.values.items (pointwise int_eq a.values.items b.values.items) refl).1 values in
+    ap (λ x. x && pointwise int_eq a.values.items b.values.items) left ∙ right
+
+-- ## Entries
+
+module _ (es : List (Key × Specialization)) where
+  abbrev keys : List Key
+  keys = map (λ e. e.0) es
+
+  abbrev specializations : List Specialization
+  specializations = map (λ e. e.1) es
+
+  entry_of_key : (i : ℕ) (k : Key) → slice_get keys i ≡ Some k → (e : Key × Specialization) × (slice_get es i ≡ Some e) × (e.0 ≡ k)
+  entry_of_key i k at = by (slice_get es i) refl (sym (slice_get-map (λ (e : Key × Specialization). e.0) es i) ∙ at)
+    where
+      by : (o : Option (Key × Specialization)) → slice_get es i ≡ o → option_map (λ e. e.0) o ≡ Some k
+          → (e : Key × Specialization) × (slice_get es i ≡ Some e) × (e.0 ≡ k)
+      by (Some e) is h = (e, is, cc)
+      by None is h = absurd cc
+
+  entry_of : (i : ℕ) (s : Specialization) → slice_get specializations i ≡ Some s → (e : Key × Specialization) × (slice_get es i ≡ Some e) × (e.1 ≡ s)
+  entry_of i s at = by (slice_get es i) refl (sym (slice_get-map (λ (e : Key × Specialization). e.1) es i) ∙ at)
+    where
+      by : (o : Option (Key × Specialization)) → slice_get es i ≡ o → option_map (λ e. e.1) o ≡ Some s
+          → (e : Key × Specialization) × (slice_get es i ≡ Some e) × (e.1 ≡ s)
+      by (Some e) is h = (e, is, cc)
+      by None is h = absurd cc
+
+  -- the specialization at the place of a key is that of its node with its values
+  pub known_at : AreKeyed es → (k : Key) (i : ℕ) → position (key_eq k) keys ≡ Some i → IsKnown specializations k.node k.values.items (record { 0 = i })
+  known_at keyed k i e = by (find (key_eq k) keys) refl
+    where
+      by : (o : Option Key) → find (key_eq k) keys ≡ o → IsKnown specializations k.node k.values.items (record { 0 = i })
+      by None is =
+          let none = find_placed (key_eq k) keys i e ∙ is in
+          let there = slice_get-get_or keys i k (position_within (key_eq k) keys i e) in
+          absurd cc
+      by (Some f) is =
+          let entry = entry_of_key i f (find_placed (key_eq k) keys i e ∙ is) in
+          let own = element_all (λ (e : Key × Specialization). (e.0.node ≡ e.1.node) × (e.0.values.items ≡ e.1.values.items)) es i entry.0 keyed entry.1 in
+          let same = same_key k f (found_passes (key_eq k) keys f is) in (
+            entry.0.1,
+            slice_get-map (λ (e : Key × Specialization). e.1) es i ∙ ap (option_map (λ e. e.1)) entry.1,
+            sym (same.0 ∙ ap (λ (x : Key). x.node) (sym entry.2) ∙ own.0),
+            sym (same.1 ∙ ap (λ (x : Key). x.values.items) (sym entry.2) ∙ own.1),
+          )
+
+  -- where no key is found, no specialization is of its node with its values
+  pub unknown : AreKeyed es → (k : Key) → position (key_eq k) keys ≡ None → IsUnknown specializations k.node k.values.items
+  unknown keyed k e id known =
+      let entry = entry_of id.0 known.0 known.1 in
+      let own = element_all (λ (e : Key × Specialization). (e.0.node ≡ e.1.node) × (e.0.values.items ≡ e.1.values.items)) es id.0 entry.0 keyed entry.1 in
+      let there : slice_get keys id.0 ≡ Some entry.0.0 = slice_get-map (λ (e : Key × Specialization). e.0) es id.0 ∙ ap (option_map (λ e. e.0)) entry.1 in
+      let fails = others_fail (key_eq k) keys id.0 entry.0.0 (find_none (key_eq k) keys e) there in
+      let node = sym known.2 ∙ ap (λ (s : Specialization). s.node) (sym entry.2) ∙ sym own.0 in
+      let values = sym known.3 ∙ ap (λ (s : Specialization). s.values.items) (sym entry.2) ∙ sym own.1 in
+      let passes = key_same k entry.0.0 node values in
+      absurd cc
+
+-- ## One more entry
+
+pub past_all : {A : Type 0} (p : A → Bool) (xs : List A) → position p xs ≡ None → length xs ≤ position_or_len p xs
+past_all p xs e = by (nat_lt (position_or_len p xs) (length xs)) refl e
+  where
+    by : (b : Bool) → nat_lt (position_or_len p xs) (length xs) ≡ b → cond b (Some (position_or_len p xs)) None ≡ None → length xs ≤ position_or_len p xs
+    by true is h = absurd cc
+    by false is h = grind (arith, nat_tests)
+
+none_equal : (es : List (Key × Specialization)) (k : Key) (s : Specialization) → find (key_eq k) (map (λ e. e.0) es) ≡ None
+    → insert_entry key_eq es k s ≡ es ++ (k, s) ∷ []
+none_equal [] k s e = refl
+none_equal (x ∷ es) k s e = by (key_eq k x.0) (none_equal es k s) e
+  where
+    by : (b : Bool) → (find (key_eq k) (map (λ e. e.0) es) ≡ None → insert_entry key_eq es k s ≡ es ++ (k, s) ∷ [])
+        → cond b (Some x.0) (find (key_eq k) (map (λ e. e.0) es)) ≡ None
+        → (if b then (x.0, s) ∷ es else x ∷ insert_entry key_eq es k s) ≡ x ∷ es ++ (k, s) ∷ []
+    by true next h = absurd cc
+    by false next h = ap (λ l. x ∷ l) (next h)
+
+pub added : (es : List (Key × Specialization)) (k : Key) (s : Specialization) → position (key_eq k) (map (λ e. e.0) es) ≡ None
+    → insert_entry key_eq es k s ≡ es ++ (k, s) ∷ []
+added es k s e = none_equal es k s (find_none (key_eq k) (map (λ e. e.0) es) e)
+
+pub keyed_more : (es : List (Key × Specialization)) (k : Key) (s : Specialization) → AreKeyed es → k.node ≡ s.node → k.values.items ≡ s.values.items
+    → AreKeyed (es ++ (k, s) ∷ [])
+keyed_more es k s keyed node values = All-push (λ e. (e.0.node ≡ e.1.node) × (e.0.values.items ≡ e.1.values.items)) es (k, s) keyed (node, values)
+
+pub added_view : (es : List (Key × Specialization)) (k : Key) (s : Specialization) → map (λ e. e.1) (es ++ (k, s) ∷ []) ≡ map (λ e. e.1) es ++ s ∷ []
+added_view [] k s = refl
+added_view (x ∷ es) k s = ap (λ l. x.1 ∷ l) (added_view es k s)

@@ -1,0 +1,109 @@
+//! The specializations that a walk has entered.
+
+ghost use Rattle.std.specs.Prelude.{◌≡◌, ◌<◌, ◌^◌, [], length, option_copied, slice_get, IfOk, OnErr};
+ghost use Rattle.lb_static.specs.KeyedSpecializations.{IsFound, IsAdded};
+
+use crate::reach::NodeId;
+use crate::static_value::StaticInt;
+use crate::table::{Specialization, SpecializationId};
+use indexmap::IndexMap;
+use std::alloc::{AllocError, Global};
+use std::marker::Model;
+
+/// What tells a specialization from all others: a node and the values of its static parameters.
+#[derive(Drop, PartialEq, Eq, Hash)]
+struct Key {
+    node: NodeId,
+    values: Vec<i64>,
+}
+
+// The key of a node with these values.
+fn key_of(alloc: Global, node: NodeId, values: &[StaticInt]) -> Result<Key, AllocError>
+    ensures { IfOk result (λ k. (k.node ≡ node) × (k.values.items ≡ values.now)) }
+{
+    let values = values.iter().map(|value| value.get()).collect(alloc)?;
+    Ok(Key { node, values })
+}
+
+/// Specializations in the order in which they were entered, each of them once.
+///
+/// Contracts see a list of them.
+#[derive(Drop)]
+pub struct Specializations {
+    keyed: IndexMap<Key, Specialization>,
+}
+
+impl Model for Specializations {
+    ghost use Rattle.std.specs.Prelude.{List, map};
+    ghost use Rattle.lb_static.specs.KeyedSpecializations.{AreKeyed};
+    ghost use Rattle.lb_static.specs.declared.table.Specialization.{Specialization};
+
+    ghost Value = { List Specialization };
+
+    ghost view = { λ s. map (λ e. e.1) s.keyed.entries };
+
+    ghost invariant = { λ s. AreKeyed s.keyed.entries };
+}
+
+impl Specializations {
+    /// No specialization yet.
+    pub fn new(alloc: Global) -> Specializations
+        ensures { result ≡ [] }
+    {
+        Specializations {
+            keyed: IndexMap::new(alloc),
+        }
+    }
+
+    /// The place of the specialization of a node with these values of its static parameters, if it
+    /// was entered.
+    pub fn find(
+        &self,
+        alloc: Global,
+        node: NodeId,
+        values: &[StaticInt],
+    ) -> Result<Option<SpecializationId>, AllocError>
+        requires few { length self.now < 2 ^ 32 }
+        ensures { IfOk result (IsFound self.now node values.now) }
+    {
+        let key = key_of(alloc, node, values)?;
+        match self.keyed.get_index_of(&key) {
+            Some(place) => Ok(Some(SpecializationId(place as u32))),
+            None => Ok(None),
+        }
+    }
+
+    /// The specialization at a place.
+    pub fn get(&self, id: SpecializationId) -> Option<&Specialization>
+        ensures { option_copied result ≡ slice_get self.now id.0 }
+    {
+        let (_, specialization) = self.keyed.get_index(id.0 as usize)?;
+        Some(specialization)
+    }
+
+    /// Adds a specialization after the others, unless that of its node with its values is there,
+    /// which stays; answers its place. Where memory is refused nothing is added.
+    pub fn add(
+        &mut self,
+        alloc: Global,
+        specialization: Specialization,
+    ) -> Result<SpecializationId, AllocError>
+        requires few { length self.old < 2 ^ 32 }
+        ensures added { IfOk result (IsAdded self.old specialization self.new) }
+        ensures err { OnErr result (self.new ≡ self.old) }
+    {
+        let key = key_of(alloc, specialization.node, &specialization.values)?;
+        if let Some(place) = self.keyed.get_index_of(&key) {
+            return Ok(SpecializationId(place as u32));
+        }
+        let (place, _) = self.keyed.insert_full(key, specialization)?;
+        Ok(SpecializationId(place as u32))
+    }
+
+    /// The specializations, in their order.
+    pub fn into_vec(self, alloc: Global) -> Result<Vec<Specialization>, AllocError>
+        ensures { IfOk result (λ v. v.items ≡ self) }
+    {
+        self.keyed.into_values().collect(alloc)
+    }
+}
