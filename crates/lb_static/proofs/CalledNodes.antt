@@ -20,9 +20,9 @@ use Rattle.lb_static.specs.ResolvedTerms.{Counts, is_site_within, site_of}
 use Rattle.lb_static.specs.StaticValues.{named}
 use Rattle.lb_static.specs.Visiting.{AreHad, Grows, is_had, is_visited, visited_after, visited_after_all, within}
 use Rattle.lb_static.specs.declared.error.StaticError.{StaticError}
-use Rattle.lb_static.specs.declared.error.StaticError.TheVariants as error
 use Rattle.lb_static.specs.declared.resolved.CallSite.{CallSite}
 use Rattle.lb_static.specs.declared.resolved.ResolvedNode.{ResolvedNode}
+use Rattle.lb_static.proofs.Faults.{fault_within}
 use Rattle.lb_static.proofs.Had.{had_by, had_next, had_visits, within_is}
 use Rattle.lb_static.proofs.Lists.{all_append, and_first, and_second, both, map_next}
 use Rattle.lb_static.proofs.TestedItems.{all_weaker}
@@ -146,15 +146,6 @@ module _ (s : Source) (before order : List ℕ) (nodes : List ResolvedNode) (r :
 
 -- ## A fault
 
-pub fault_more : (e : StaticError) (a b : Bool) → IsNameFault e a → (a ≡ false → b ≡ false) → IsNameFault e b
-fault_more error.Memory a b h f = tt
-fault_more (error.Name x) a b h f = f h
-fault_more (error.Recursion x) a b h f = h
-fault_more error.Root a b h f = h
-fault_more (error.Value x) a b h f = h
-fault_more (error.Range x) a b h f = h
-fault_more error.Instances a b h f = h
-
 pub refuted : (a b : Bool) → (b ≡ true → a ≡ true) → a ≡ false → b ≡ false
 refuted a true f e = let t = f refl in absurd cc
 refuted a false f e = refl
@@ -188,4 +179,4 @@ fault_there e s before order nodes place n start h next at few begins fault =
     let had : is_had s.nodes start called (length order) n ≡ true =
     ap (holds (is_had s.nodes start called (length order))) (sym at)
     ∙ all_at (λ p. holds (is_had s.nodes start called (length order)) (slice_get s.nodes p)) order (length nodes) place (h.had start begins) next in
-    fault_more e _ _ fault (refuted _ _ (had_passes s.nodes start called (named_in s) (length order) (length s.nodes) place n at few had))
+    fault_within e _ _ fault (refuted _ _ (had_passes s.nodes start called (named_in s) (length order) (length s.nodes) place n at few had))

@@ -9,10 +9,6 @@ use Rattle.std.proofs.lemmas.List.{drop_more}
 use Rattle.std.proofs.lemmas.Slice.Eq.{bytes_eq-Decides}
 use Rattle.lb_syntax.specs.Lists.{◌>>=◌, listed, where_true}
 use Rattle.lb_syntax.specs.Tree.{Name}
-use Rattle.lb_static.specs.Faults.{IsFault}
-use Rattle.lb_static.specs.NameFaults.{IsNameFault}
-use Rattle.lb_static.specs.declared.error.StaticError.{StaticError}
-use Rattle.lb_static.specs.declared.error.StaticError.TheVariants as error
 use Rattle.lb_static.specs.NamedConstants.{constant_place, part_constants, place_named, places_named}
 use Rattle.lb_static.specs.Names.{are_distinct}
 use Rattle.lb_static.specs.Parts.{among, static_names}
@@ -173,16 +169,6 @@ constant_known names count x place d below at = by (position (bytes_eq x) names)
         let same = distinct_places names i place x d (name_at_place x names i e) at in
         let lt : nat_lt place count ≡ true = grind (arith, nat_tests) in
         ap (λ o. o >>= λ j. where_true (nat_lt j count) j) e ∙ ap (λ j. where_true (nat_lt j count) j) same ∙ ap (λ b. where_true b place) lt
-
--- a name that is refused
-pub name_fault : (e : StaticError) → IsFault e false true → IsNameFault e false
-name_fault error.Memory h = tt
-name_fault (error.Name x) h = refl
-name_fault (error.Recursion x) h = h
-name_fault error.Root h = h
-name_fault (error.Value x) h = h
-name_fault (error.Range x) h = h
-name_fault error.Instances h = h
 
 pub err_more : {A E : Type 0} (r : Result A E) (C D : E → Type 0) → IfErr r C → ((e : E) → C e → D e) → IfErr r D
 err_more (Ok x) C D h f = tt

@@ -10,7 +10,7 @@ use Rattle.std.proofs.lemmas.Slice.Eq.{bytes_eq-Decides}
 use Rattle.lb_syntax.specs.Lists.{either_or, holds, listed}
 use Rattle.lb_syntax.specs.Tree.{Name, Constant, Source}
 use Rattle.lb_static.specs.CalledNodes.{program_in}
-use Rattle.lb_static.specs.Faults.{constants_in, names_in_source}
+use Rattle.lb_static.specs.SourceNames.{constants_in, names_in_source}
 use Rattle.lb_static.specs.NameFaults.{IsNameFault}
 use Rattle.lb_static.specs.NamedConstants.{AreNamed, constant_place, is_judged, keeps_constants, place_named, places_named}
 use Rattle.lb_static.specs.Names.{are_distinct, constants_within, is_constant}
@@ -18,7 +18,8 @@ use Rattle.lb_static.specs.Parts.{among, static_names}
 use Rattle.lb_static.specs.Visiting.{AreHad, Grows, is_had, is_visited, visited_after_all, within}
 use Rattle.lb_static.specs.declared.error.StaticError.{StaticError}
 use Rattle.lb_static.specs.declared.globals.Globals.{Globals}
-use Rattle.lb_static.proofs.CalledNodes.{fault_more, grown_at, had_passes, refuted, there}
+use Rattle.lb_static.proofs.Faults.{fault_within}
+use Rattle.lb_static.proofs.CalledNodes.{grown_at, had_passes, refuted, there}
 use Rattle.lb_static.proofs.ConstantPlaces.{constant_found, constant_known}
 use Rattle.lb_static.proofs.Had.{closed_has, had_by, had_next, had_visits, within_is}
 use Rattle.lb_static.proofs.Lists.{and_first, both}
@@ -187,7 +188,7 @@ module _ (s : Source) (g : Globals) (names : g.names ≡ names_in_source s) (cou
       let had : is_had s.constants (begins xs) names_constant (length order) c ≡ true =
       ap (holds (is_had s.constants (begins xs) names_constant (length order))) (sym at)
       ∙ all_at (λ p. holds (is_had s.constants (begins xs) names_constant (length order)) (slice_get s.constants p)) order done place (h.had (begins xs) (starts_had xs before n)) next in
-      fault_more e false (keeps_constants s xs) fault
+      fault_within e false (keeps_constants s xs) fault
       (λ no. refuted (is_judged g (static_names c.value)) (keeps_constants s xs)
       (λ all. all_weaker (is_constant (program_in s)) (λ x. is_some (constant_place g.names g.constants x)) (static_names c.value) known_from
       (had_passes s.constants (begins xs) names_constant is_good (length order) (length s.constants) place c at few had (ap (list_all is_good) (sym (within_constants xs (length s.constants))) ∙ all))) bad)

@@ -14,7 +14,8 @@ use Rattle.lb_static.specs.ReachedNodes.{IsReached, trees}
 use Rattle.lb_static.specs.ResolvedNodes.{node_of}
 use Rattle.lb_static.specs.declared.error.StaticError.{StaticError}
 use Rattle.lb_static.specs.declared.reach.Reached.{Reached}
-use Rattle.lb_static.proofs.CalledNodes.{all_map, fault_more}
+use Rattle.lb_static.proofs.Faults.{fault_within}
+use Rattle.lb_static.proofs.CalledNodes.{all_map}
 use Rattle.lb_static.proofs.Lists.{and_first, and_second, both, false_second}
 use Rattle.lb_static.proofs.Mentions.{any_flat}
 use Rattle.lb_static.proofs.ReachedPlaces.{contained, place_of}
@@ -74,5 +75,5 @@ module _ (P : Program) (r : Reached) (reached : IsReached P r) where
 
   pub fault_constants : (e : StaticError) → IsNameFault e constants_kept → IsNameFault e (keeps_names P)
   fault_constants e h =
-      fault_more e constants_kept (keeps_names P) h (λ no.
+      fault_within e constants_kept (keeps_names P) h (λ no.
       false_second (are_distinct (global_names P)) _ (false_second (list_all is_some (starts P)) _ (false_second (list_all (is_named P) (reached_nodes P)) _ (sym constants_are ∙ no))))

@@ -1,9 +1,8 @@
 -- Specializations under keys: what is found at a key, and one more key.
-use Rattle.std.proofs.Common.{◌≡◌, ◌∙◌, ℕ, zero, suc, ◌≤◌, Bool, true, false, cond, ◌&&◌, ◌==◌, List, [], ◌∷◌, ◌++◌, map, length, Option, Some, None, refl, ap, sym, int_eq, arith}
-use Rattle.std.specs.Prelude.{slice_get, option_map, position, find, nat_lt, if◌then◌else◌}
-use Rattle.std.specs.List.{position_or_len}
+use Rattle.std.proofs.Common.{◌≡◌, ◌∙◌, ℕ, zero, suc, Bool, true, false, cond, ◌&&◌, ◌==◌, List, [], ◌∷◌, ◌++◌, map, Option, Some, None, refl, ap, sym, int_eq}
+use Rattle.std.specs.Prelude.{slice_get, option_map, position, find, if◌then◌else◌}
 use Rattle.std.specs.Cmp.Lexicographic.{pointwise}
-use Rattle.std.proofs.lemmas.Bool.Decides.{nat_tests, Decides-eqb, Decides-int_eq}
+use Rattle.std.proofs.lemmas.Bool.Decides.{Decides-eqb, Decides-int_eq}
 use Rattle.std.proofs.lemmas.Slice.Eq.{slice_eq-Decides}
 use Rattle.std.proofs.lemmas.Option.{slice_get-map, slice_get-get_or}
 use Rattle.std.proofs.lemmas.List.Elements.{All-push}
@@ -14,17 +13,10 @@ use Rattle.lb_static.specs.declared.reach.NodeId.{NodeId}
 use Rattle.lb_static.specs.declared.specializations.Key.{Key}
 use Rattle.lb_static.specs.declared.table.Specialization.{Specialization}
 use Rattle.lb_static.proofs.NodeNaming.{find_placed, find_none, position_within}
+use Rattle.lb_static.proofs.TestedItems.{found_passes}
 use Rattle.lb_static.proofs.WalkSteps.{element_all}
 
 -- ## What is found
-
-found_passes : {A : Type 0} (p : A → Bool) (xs : List A) (x : A) → find p xs ≡ Some x → p x ≡ true
-found_passes p [] x e = absurd cc
-found_passes p (y ∷ xs) x e = by (p y) refl (found_passes p xs x) e
-  where
-    by : (b : Bool) → p y ≡ b → (find p xs ≡ Some x → p x ≡ true) → cond b (Some y) (find p xs) ≡ Some x → p x ≡ true
-    by true is next h = let same : y ≡ x = cc in ap p (sym same) ∙ is
-    by false is next h = next h
 
 others_fail : {A : Type 0} (p : A → Bool) (xs : List A) (i : ℕ) (x : A) → find p xs ≡ None → slice_get xs i ≡ Some x → p x ≡ false
 others_fail p [] i x e at = absurd cc
@@ -118,13 +110,6 @@ module _ (es : List (Key × Specialization)) where
       absurd cc
 
 -- ## One more entry
-
-pub past_all : {A : Type 0} (p : A → Bool) (xs : List A) → position p xs ≡ None → length xs ≤ position_or_len p xs
-past_all p xs e = by (nat_lt (position_or_len p xs) (length xs)) refl e
-  where
-    by : (b : Bool) → nat_lt (position_or_len p xs) (length xs) ≡ b → cond b (Some (position_or_len p xs)) None ≡ None → length xs ≤ position_or_len p xs
-    by true is h = absurd cc
-    by false is h = grind (arith, nat_tests)
 
 none_equal : (es : List (Key × Specialization)) (k : Key) (s : Specialization) → find (key_eq k) (map (λ e. e.0) es) ≡ None
     → insert_entry key_eq es k s ≡ es ++ (k, s) ∷ []

@@ -12,9 +12,9 @@ use Rattle.lb_static.specs.NodeProgress.{Progress, program_of, clock_fits, decla
 use Rattle.lb_static.specs.Parts.{left_names, node_parts, own_names, own_sizes, own_indexes, own_arguments, own_clock_names, node_names, node_statics, node_static_names, declared_names, declared_sizes, static_names, clock_names}
 use Rattle.lb_static.specs.Shapes.{variables}
 use Rattle.lb_static.specs.declared.error.StaticError.{StaticError}
+use Rattle.lb_static.proofs.Faults.{fault_within}
 use Rattle.lb_static.proofs.Lists.{all_append, and_assoc, and_first, and_second, both, false_first, false_second}
 use Rattle.lb_static.proofs.NodeJudging.{all_and, body_is, own}
-use Rattle.lb_static.proofs.NodeNaming.{name_fault_within}
 use Rattle.lb_static.proofs.TestedItems.{all_flat}
 
 -- ## Tests
@@ -172,7 +172,7 @@ module _ (here : Progress) where
 
   declarations_fault : (f : StaticError) (b : Bool) → (b ≡ false → declarations_fit ≡ false) → IsNameFault f b → IsNameFault f (is_named P n)
   declarations_fault f b within h =
-      name_fault_within f _ _ h (λ e. named_is ∙ false_second (are_distinct (declared_names n)) _ (false_first _ body_fits (within e)))
+      fault_within f _ _ h (λ e. named_is ∙ false_second (are_distinct (declared_names n)) _ (false_first _ body_fits (within e)))
 
   pub inputs_fault : (f : StaticError) → IsNameFault f (list_all (declaration_fits here) n.inputs) → IsNameFault f (is_named P n)
   inputs_fault f h = declarations_fault f _ (λ e. declarations_are ∙ false_first _ _ e) h
@@ -189,4 +189,4 @@ module _ (here : Progress) where
 
   pub body_fault : (f : StaticError) → IsNameFault f body_fits → IsNameFault f (is_named P n)
   body_fault f h =
-      name_fault_within f _ _ h (λ e. named_is ∙ false_second (are_distinct (declared_names n)) _ (false_second declarations_fit _ e))
+      fault_within f _ _ h (λ e. named_is ∙ false_second (are_distinct (declared_names n)) _ (false_second declarations_fit _ e))

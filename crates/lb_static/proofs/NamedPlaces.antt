@@ -10,7 +10,7 @@ use Rattle.lb_syntax.specs.Lists.{listed}
 use Rattle.lb_syntax.specs.SourceView.{view_groups}
 use Rattle.lb_syntax.specs.Tree.{Name, Constant, Node, Source, Static}
 use Rattle.lb_static.specs.CalledNodes.{program_in}
-use Rattle.lb_static.specs.Faults.{names_in_source}
+use Rattle.lb_static.specs.SourceNames.{names_in_source}
 use Rattle.lb_static.specs.NamedConstants.{AreNamed, constant_place, node_constants, part_constants, place_named}
 use Rattle.lb_static.specs.NameFaults.{named_in}
 use Rattle.lb_static.specs.Names.{are_distinct, declares_once, is_callable, is_known, is_static_name, named_constants}

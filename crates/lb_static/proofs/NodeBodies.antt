@@ -15,9 +15,9 @@ use Rattle.lb_static.specs.StaticParts.{Part, parts_of}
 use Rattle.lb_static.specs.declared.error.StaticError.{StaticError}
 use Rattle.lb_static.specs.declared.resolved.Step.{Step}
 use Rattle.lb_static.specs.declared.resolved.Step.TheVariants.{Equation, Assertion}
+use Rattle.lb_static.proofs.Faults.{fault_within}
 use Rattle.lb_static.proofs.Growth.{same_on, all_on, both_on, same_two}
 use Rattle.lb_static.proofs.Lists.{all_append, and_first, and_second, both}
-use Rattle.lb_static.proofs.NodeNaming.{name_fault_within}
 use Rattle.lb_static.proofs.Resolutions.{and_true, expr_grown, within_grown, unhidden_grown, flat_more, grown_twice, one_fails}
 
 module _ (s : Progress) (P : List Part) (C : List Site) where
@@ -87,4 +87,4 @@ pub fault_of_statement : (start here : Progress) (f : StaticError) (xs : List St
     → IsNameFault f (list_all (statement_fits start) (map view_statement xs))
 fault_of_statement start here f xs i x below is at h =
     let g : IsNameFault f (statement_fits start (view_statement x)) = subst (λ k. IsNameFault f (statement_fits k (view_statement x))) at h in
-    name_fault_within f _ _ g (one_fails (statement_fits start) view_statement xs i x below is)
+    fault_within f _ _ g (one_fails (statement_fits start) view_statement xs i x below is)

@@ -19,12 +19,12 @@ use Rattle.lb_syntax.specs.declared.tree.Kind.{Kind}
 use Rattle.lb_syntax.specs.Tree.{Name, Node, Declaration, Static, Sampling}
 use Rattle.lb_static.specs.declared.naming.Naming.{Naming}
 use Rattle.lb_static.specs.declared.error.StaticError.{StaticError}
-use Rattle.lb_static.specs.declared.error.StaticError.TheVariants as error
-use Rattle.lb_static.specs.Faults.{IsFault, constants_in, names_in, names_in_source}
+use Rattle.lb_static.specs.SourceNames.{constants_in, names_in, names_in_source}
 use Rattle.lb_static.specs.NameFaults.{IsNameFault, alone}
 use Rattle.lb_static.specs.Names.{are_distinct, is_constant, is_static_name, is_variable}
 use Rattle.lb_static.specs.NodeNames.{node_in, program_in, takes, IsVariableAt, IsCallee}
 use Rattle.lb_static.specs.Parts.{among, declared_names, variable_names}
+use Rattle.lb_static.proofs.Faults.{fault_within}
 use Rattle.lb_static.proofs.Groups.{groups_next}
 use Rattle.lb_static.proofs.TestedItems.{found_passes}
 use Rattle.lb_static.proofs.Lists.{append_assoc, none_passes, some_passes, position_take}
@@ -32,28 +32,9 @@ use Rattle.lb_static.proofs.Scopes.{among_append, bytes_eq-symmetric, position_m
 
 -- ## Refused names
 
-pub name_fault : (e : StaticError) (b : Bool) → IsFault e b true → IsNameFault e b
-name_fault error.Memory b h = h
-name_fault (error.Name x) b h = h
-name_fault (error.Recursion x) b h = h
-name_fault error.Root b h = h
-name_fault (error.Value x) b h = h
-name_fault (error.Range x) b h = h
-name_fault error.Instances b h = h
-
--- a fault of a part is one of the whole
-pub name_fault_within : (e : StaticError) (b all : Bool) → IsNameFault e b → (b ≡ false → all ≡ false) → IsNameFault e all
-name_fault_within error.Memory b all h f = tt
-name_fault_within (error.Name x) b all h f = f h
-name_fault_within (error.Recursion x) b all h f = h
-name_fault_within error.Root b all h f = h
-name_fault_within (error.Value x) b all h f = h
-name_fault_within (error.Range x) b all h f = h
-name_fault_within error.Instances b all h f = h
-
 -- a name that is doubled in a front is so in all
 pub front_fault : (e : StaticError) (front rest all : List Name) → front ++ rest ≡ all → IsNameFault e (are_distinct front) → IsNameFault e (are_distinct all)
-front_fault e front rest all is h = name_fault_within e _ _ h (doubled_before front rest all is)
+front_fault e front rest all is h = fault_within e _ _ h (doubled_before front rest all is)
 
 -- ## Names of declarations
 
@@ -205,14 +186,15 @@ find_placed p xs i e = by (nat_lt (position_or_len p xs) (length xs)) (position_
     by true m is h = let same : m ≡ i = cc in ap (slice_get xs) (sym (is ∙ same)) ∙ found_at p xs
     by false m is h = absurd cc
 
-pub find_none : {A : Type 0} (p : A → Bool) (xs : List A) → position p xs ≡ None → find p xs ≡ None
-find_none p xs e = by (nat_lt (position_or_len p xs) (length xs)) refl e
+pub past_all : {A : Type 0} (p : A → Bool) (xs : List A) → position p xs ≡ None → length xs ≤ position_or_len p xs
+past_all p xs e = by (nat_lt (position_or_len p xs) (length xs)) refl e
   where
-    by : (b : Bool) → nat_lt (position_or_len p xs) (length xs) ≡ b → cond b (Some (position_or_len p xs)) None ≡ None → find p xs ≡ None
+    by : (b : Bool) → nat_lt (position_or_len p xs) (length xs) ≡ b → cond b (Some (position_or_len p xs)) None ≡ None → length xs ≤ position_or_len p xs
     by true is h = absurd cc
-    by false is h =
-        let past : length xs ≤ position_or_len p xs = grind (arith, nat_tests) in
-        sym (found_at p xs) ∙ slice_get_past xs (position_or_len p xs) past
+    by false is h = grind (arith, nat_tests)
+
+pub find_none : {A : Type 0} (p : A → Bool) (xs : List A) → position p xs ≡ None → find p xs ≡ None
+find_none p xs e = sym (found_at p xs) ∙ slice_get_past xs (position_or_len p xs) (past_all p xs e)
 
 pub position_within : {A : Type 0} (p : A → Bool) (xs : List A) (i : ℕ) → position p xs ≡ Some i → i < length xs
 position_within p xs i e = by (nat_lt (position_or_len p xs) (length xs)) (position_or_len p xs) refl e

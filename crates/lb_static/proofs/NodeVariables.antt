@@ -17,8 +17,8 @@ use Rattle.lb_static.specs.declared.resolved.Role.TheVariants.{Size}
 use Rattle.lb_static.specs.declared.resolved.Sampling as resolved
 use Rattle.lb_static.specs.declared.resolved.StaticId.{StaticId}
 use Rattle.lb_static.specs.declared.resolved.Variable.{Variable}
+use Rattle.lb_static.proofs.Faults.{fault_within}
 use Rattle.lb_static.proofs.Lists.{append_assoc, map_map, both, all_append, false_first, false_second}
-use Rattle.lb_static.proofs.NodeNaming.{name_fault_within}
 use Rattle.lb_static.proofs.Resolutions.{flat_more}
 
 -- ## Variables that are all alike
@@ -61,11 +61,11 @@ group_fails s g (x ∷ names) e h = false_first _ (list_all (declaration_fits s)
 
 pub clock_fault : (f : StaticError) (s : Progress) (g : Group) → nat_eq (length g.names) 0 ≡ false → IsNameFault f (clock_fits s g.clock)
     → IsNameFault f (list_all (declaration_fits s) (declarations g))
-clock_fault f s g some h = name_fault_within f _ _ h (λ e. group_fails s g g.names some (false_second (statics_fit s g.sizes) _ e))
+clock_fault f s g some h = fault_within f _ _ h (λ e. group_fails s g g.names some (false_second (statics_fit s g.sizes) _ e))
 
 pub sizes_fault : (f : StaticError) (s : Progress) (g : Group) → nat_eq (length g.names) 0 ≡ false → IsNameFault f (statics_fit s g.sizes)
     → IsNameFault f (list_all (declaration_fits s) (declarations g))
-sizes_fault f s g some h = name_fault_within f _ _ h (λ e. group_fails s g g.names some (false_first _ (clock_fits s g.clock) e))
+sizes_fault f s g some h = fault_within f _ _ h (λ e. group_fails s g g.names some (false_first _ (clock_fits s g.clock) e))
 
 pub group_done : (s mid after : Progress) (g : Group) (first : StaticId) (count : ℕ) (clock : Option resolved.Sampling) → nat_eq (length g.names) 0 ≡ false
     → mid ≡ grown s (map (λ x. (Size, x)) g.sizes) [] → StaticsStand mid g.sizes (first, count) → ClockStands s g.clock clock
@@ -145,4 +145,4 @@ pub group_fault : (f : StaticError) (start here : Progress) (gs : List Declarati
 group_fault f start here gs i g below is at h =
     let k : IsNameFault f (list_all (declaration_fits start) (declarations (view_group g))) =
     subst (λ m. IsNameFault f (list_all (declaration_fits m) (declarations (view_group g)))) at h in
-    name_fault_within f _ _ k (group_among (declaration_fits start) gs i g below is)
+    fault_within f _ _ k (group_among (declaration_fits start) gs i g below is)

@@ -10,7 +10,7 @@ use Rattle.std.proofs.lemmas.Slice.Eq.{bytes_eq-Decides}
 use Rattle.lb_syntax.specs.Lists.{◌>>=◌, holds, either_or}
 use Rattle.lb_syntax.specs.Tree.{Name, Node, Source}
 use Rattle.lb_static.specs.CalledNodes.{AreResolved, AreStarts, IsStart, are_called, are_named, called, ids_of, node_at, program_in}
-use Rattle.lb_static.specs.Faults.{constants_in, names_in_source}
+use Rattle.lb_static.specs.SourceNames.{constants_in, names_in_source}
 use Rattle.lb_static.specs.Instances.{Program, node_named, node_sites}
 use Rattle.lb_static.specs.NameFaults.{named_in}
 use Rattle.lb_static.specs.Names.{are_distinct, calls, is_named, reached_nodes, reached_within, start_names}

@@ -34,9 +34,9 @@ use Rattle.lb_static.specs.declared.resolved.Role.TheVariants.{Size, Value as Va
 use Rattle.lb_static.specs.declared.resolved.StaticId.{StaticId}
 use Rattle.lb_static.specs.declared.resolved.Term as term
 use Rattle.lb_static.specs.declared.resolved.Term.{Term, Row_of-Term, end_of-Term, more_of-Term, items-the_row-Term, items_hidden-the_row-Term-0}
+use Rattle.lb_static.proofs.Faults.{fault_within}
 use Rattle.lb_static.proofs.Growth.{expr_stays, unhidden_stays, still_within, static_stays, static_still, call_stays, call_still, count_stays, same_on, all_on, both_on, same_two}
 use Rattle.lb_static.proofs.Lists.{append_assoc, both, false_first, false_second, all_append, map_map}
-use Rattle.lb_static.proofs.NodeNaming.{name_fault_within}
 use Rattle.lb_static.proofs.Scopes.{among_append}
 
 -- ## More of a node
@@ -389,7 +389,7 @@ pub fault_after_call : (s m : Progress) (f : StaticError) (x : Name) (args : Vec
 fault_after_call s m f x args es P C is h =
     let g : IsNameFault f (exprs_pass s (map view es.items)) = subst (λ k. IsNameFault f (exprs_pass k (map view es.items))) is h in
     subst (λ e. IsNameFault f (expr_passes s e)) (sym (view_call x args es))
-    (name_fault_within f _ _ g (λ e. false_second (call_fits s (site_for x args.items None)) _ (pass_exprs s (map view es.items) ∙ e)))
+    (fault_within f _ _ g (λ e. false_second (call_fits s (site_for x args.items None)) _ (pass_exprs s (map view es.items) ∙ e)))
 
 pub fault_after_node : (s m : Progress) (f : StaticError) (it : ArrayIterator) (x : Name) (args : Vec Static' Global) (n : Static') (es : Vec source.Expr Global)
     (P : List Part) (C : List Site) → m ≡ grown s P C → IsNameFault f (exprs_pass m (map view es.items))
@@ -397,7 +397,7 @@ pub fault_after_node : (s m : Progress) (f : StaticError) (it : ArrayIterator) (
 fault_after_node s m f it x args n es P C is h =
     let g : IsNameFault f (exprs_pass s (map view es.items)) = subst (λ k. IsNameFault f (exprs_pass k (map view es.items))) is h in
     subst (λ e. IsNameFault f (expr_passes s e)) (sym (view_iterate it (Node_operator x args) n es))
-    (name_fault_within f _ _ g (λ e. false_second (static_fits s (view_static n)) _
+    (fault_within f _ _ g (λ e. false_second (static_fits s (view_static n)) _
     (false_second (call_fits s (site_for x args.items (Some (view_static n)))) _ (pass_exprs s (map view es.items) ∙ e))))
 
 pub fault_after_symbol : (s m : Progress) (f : StaticError) (it : ArrayIterator) (op : BinaryOperator) (n : Static') (es : Vec source.Expr Global)
@@ -406,7 +406,7 @@ pub fault_after_symbol : (s m : Progress) (f : StaticError) (it : ArrayIterator)
 fault_after_symbol s m f it op n es P C is h =
     let g : IsNameFault f (exprs_pass s (map view es.items)) = subst (λ k. IsNameFault f (exprs_pass k (map view es.items))) is h in
     subst (λ e. IsNameFault f (expr_passes s e)) (sym (view_iterate it (Symbol_operator op) n es))
-    (name_fault_within f _ _ g (λ e. false_second (static_fits s (view_static n)) _ (pass_exprs s (map view es.items) ∙ e)))
+    (fault_within f _ _ g (λ e. false_second (static_fits s (view_static n)) _ (pass_exprs s (map view es.items) ∙ e)))
 
 -- ## Loops
 
@@ -457,14 +457,14 @@ pub fault_of_item : (start here : Progress) (f : StaticError) (es : List source.
     → here ≡ after_exprs start (map view (take i es)) → IsNameFault f (expr_passes here (view e)) → IsNameFault f (exprs_pass start (map view es))
 fault_of_item start here f es i e below is at h =
     let g : IsNameFault f (expr_passes start (view e)) = subst (λ k. IsNameFault f (expr_passes k (view e))) at h in
-    name_fault_within f _ _ g (one_fails (expr_passes start) view es i e below is)
+    fault_within f _ _ g (one_fails (expr_passes start) view es i e below is)
 
 pub fault_of_static : (start here : Progress) (f : StaticError) (role : Role) (xs : List Static') (i : ℕ) (x : Static') → i < length xs → x ≡ get_or xs i x
     → here ≡ grown start (map (λ s. (role, s)) (view_statics (take i xs))) [] → IsNameFault f (static_fits here (view_static x))
     → IsNameFault f (statics_fit start (view_statics xs))
 fault_of_static start here f role xs i x below is at h =
     let g : IsNameFault f (static_fits start (view_static x)) = subst (λ k. IsNameFault f (static_fits k (view_static x))) at h in
-    name_fault_within f _ _ g (one_fails (static_fits start) view_static xs i x below is)
+    fault_within f _ _ g (one_fails (static_fits start) view_static xs i x below is)
 
 -- ## Static expressions that stand one after another
 
@@ -562,4 +562,4 @@ module _ (before after : Progress) (f : Name) (args : List Static) (place : Stat
         subst (λ m. CallStands m wanted id) (sym now) (call_placed after_arguments [] wanted id here),
         both (is_callable (program_of before) wanted) (statics_fit before args) called.2 fit,
       )
-  call_resolved mid (Err e) is h fit grew at err = name_fault_within e true _ err (λ n. absurd cc)
+  call_resolved mid (Err e) is h fit grew at err = fault_within e true _ err (λ n. absurd cc)

@@ -10,7 +10,7 @@ pub mod Elaborated
 pub mod WorkedTrees
 pub mod WorkedStatics
 pub mod Scopes
-pub mod Faults
+pub mod SourceNames
 pub mod Elaborates
 pub mod StaticRange
 pub mod ConstantValues

@@ -7,7 +7,7 @@ ghost use Rattle.lb_syntax.specs.SourceView.{view_source};
 ghost use Rattle.lb_syntax.specs.Tree.{Name as TreeName};
 ghost use Rattle.lb_syntax.specs.View.{view_static};
 ghost use Rattle.lb_static.specs.CalledNodes.{program_in};
-ghost use Rattle.lb_static.specs.Faults.{names_in_source};
+ghost use Rattle.lb_static.specs.SourceNames.{names_in_source};
 ghost use Rattle.lb_static.specs.NamedConstants.{AreNamed, is_judged, keeps_constants, node_constants, part_constants, place_named, places_named};
 ghost use Rattle.lb_static.specs.NameFaults.{named_in, IsNameFault};
 ghost use Rattle.lb_static.specs.Names.{are_distinct, named_constants};

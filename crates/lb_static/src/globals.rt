@@ -5,7 +5,8 @@ ghost use Rattle.std.specs.Str.{bytes_eq};
 ghost use Rattle.lb_syntax.specs.SourceView.{view_source};
 ghost use Rattle.lb_static.specs.Parts.{among};
 ghost use Rattle.lb_static.specs.Names.{are_distinct};
-ghost use Rattle.lb_static.specs.Faults.{IsFault, names_in_source};
+ghost use Rattle.lb_static.specs.NameFaults.{IsNameFault};
+ghost use Rattle.lb_static.specs.SourceNames.{names_in_source};
 ghost use Rattle.lb_static.specs.NamedConstants.{constant_place};
 
 use crate::error::StaticError;
@@ -22,7 +23,7 @@ pub struct Globals {
 
 /// That a name is unknown or doubled.
 pub fn refused_name(alloc: Global, name: &str) -> StaticError
-    ensures { IsFault result false true }
+    ensures { IsNameFault result false }
 {
     match String::from_str(alloc, name) {
         Ok(text) => StaticError::Name(text),
@@ -33,7 +34,7 @@ pub fn refused_name(alloc: Global, name: &str) -> StaticError
 /// Declares a name, which is to be new.
 pub fn declare_new(alloc: Global, names: &mut Scope, name: &Name) -> Result<(), StaticError>
     ensures ok { OnOk result (names.new ≡ names.old ++ name.now ∷ []) }
-    ensures err { IfErr result (λ e. IsFault e (not (among name.now names.old)) true) }
+    ensures err { IfErr result (λ e. IsNameFault e (not (among name.now names.old))) }
 {
     if names.declare(alloc, name.as_str())? {
         Ok(())
@@ -50,7 +51,7 @@ impl Globals {
         ensures once { IfOk result (λ _.
             are_distinct (names_in_source (view_source source.now)) ≡ true) }
         ensures err { IfErr result (λ e.
-            IsFault e (are_distinct (names_in_source (view_source source.now))) true) }
+            IsNameFault e (are_distinct (names_in_source (view_source source.now)))) }
     {
         let mut names = Scope::new(alloc);
         for constant in &source.constants {

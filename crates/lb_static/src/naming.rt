@@ -4,7 +4,7 @@ ghost use Rattle.std.specs.Prelude.{◌≡◌, ◌++◌, ◌<◌, ◌^◌, lengt
 ghost use Rattle.lb_syntax.specs.Grammar.{declared as declarations_in};
 ghost use Rattle.lb_syntax.specs.SourceView.{view_groups, view_node, view_source};
 ghost use Rattle.lb_syntax.specs.View.{view_static};
-ghost use Rattle.lb_static.specs.Faults.{names_in, names_in_source};
+ghost use Rattle.lb_static.specs.SourceNames.{names_in, names_in_source};
 ghost use Rattle.lb_static.specs.NameFaults.{IsNameFault};
 ghost use Rattle.lb_static.specs.Names.{are_distinct};
 ghost use Rattle.lb_static.specs.Parts.{declared_names, variable_names};

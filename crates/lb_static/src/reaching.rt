@@ -5,7 +5,7 @@ ghost use Rattle.std.specs.List.{list_all};
 ghost use Rattle.lb_syntax.specs.SourceView.{view_source};
 ghost use Rattle.lb_syntax.specs.Tree.{Node as TreeNode};
 ghost use Rattle.lb_static.specs.Elaborates.{program_of};
-ghost use Rattle.lb_static.specs.Faults.{names_in_source, node_in_source};
+ghost use Rattle.lb_static.specs.SourceNames.{names_in_source, node_in_source};
 ghost use Rattle.lb_static.specs.NameFaults.{named_in, IsNameFault};
 ghost use Rattle.lb_static.specs.Names.{are_distinct, starts};
 ghost use Rattle.lb_static.specs.ReachedNodes.{IsReached};

@@ -2,7 +2,7 @@
 
 ghost use Rattle.std.specs.Prelude.{◌≡◌, true, map, length, IfOk, IfErr};
 ghost use Rattle.lb_syntax.specs.SourceView.{view_node, view_source};
-ghost use Rattle.lb_static.specs.Faults.{names_in_source};
+ghost use Rattle.lb_static.specs.SourceNames.{names_in_source};
 ghost use Rattle.lb_static.specs.NameFaults.{IsNameFault, named_in};
 ghost use Rattle.lb_static.specs.ResolvedNodes.{IsResolved};
 

@@ -7,7 +7,6 @@ use Rattle.lb_syntax.specs.SourceView.{view_constant, view_source}
 use Rattle.lb_static.specs.NamedConstants.{places_named}
 use Rattle.lb_static.specs.Parts.{static_names}
 use Rattle.lb_static.specs.Visiting.{visited_after_all}
-use Rattle.lb_static.proofs.ConstantPlaces.{name_fault}
 use Rattle.lb_static.proofs.JudgedConstants.{AreJudged, all_judged, fault_judged, more_judged}
 use Rattle.lb_static.proofs.Visiting.{past_end}
 use Rattle.lb_static.proofs.constant_names.judge_visited.Goals as goal
@@ -47,7 +46,7 @@ returns-in-Some-unknown_name-clause-err c xs n =
     slice_get-map view_constant items place ∙ ap (option_map view_constant) (slice_get_read items (length items) place c.index.result.now refl below c.index.ensures) in
     let few : length c.loop-place.visits.order ≤ length s.constants = omega (arith, c.in-Some.ensures.few, c.loop-place.invariant.count, count) in
     fault_judged s g c.requires.names count c.requires.once c.refused_name.result c.args.visits.now.order c.loop-place.visits.order c.loop-place.done place k xs
-    c.loop-place.invariant.judged (sym c.in-Some.ensures.value) at few c.in-Some-unknown_name.ensures n (name_fault c.refused_name.result c.refused_name.ensures)
+    c.loop-place.invariant.judged (sym c.in-Some.ensures.value) at few c.in-Some-unknown_name.ensures n c.refused_name.ensures
 
 pub returns-clause-ok : goal.returns-clause-ok
 returns-clause-ok c xs n =

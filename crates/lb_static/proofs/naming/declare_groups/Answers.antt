@@ -3,7 +3,7 @@ use Rattle.std.proofs.Common.{◌∙◌, ◌++◌, ◌+◌, ap, drop}
 use Rattle.std.proofs.lemmas.Result.{err_from_is_err_and}
 use Rattle.lb_syntax.specs.Grammar.{declared as declarations_in}
 use Rattle.lb_syntax.specs.SourceView.{view_groups}
-use Rattle.lb_static.specs.Faults.{names_in}
+use Rattle.lb_static.specs.SourceNames.{names_in}
 use Rattle.lb_static.proofs.NodeNaming.{front_fault, group_names_join}
 use Rattle.lb_static.proofs.naming.declare_groups.Goals as goal
 

@@ -1,7 +1,7 @@
 use Rattle.std.proofs.Common.{◌≡◌, ◌++◌, drop}
 use Rattle.lb_syntax.specs.Grammar.{declared as declarations_in}
 use Rattle.lb_syntax.specs.SourceView.{view_groups}
-use Rattle.lb_static.specs.Faults.{names_in}
+use Rattle.lb_static.specs.SourceNames.{names_in}
 use Rattle.lb_static.proofs.naming.declare_groups.Given as goal
 
 abbrev pub invariant-loop-group : goal.invariant-loop-group

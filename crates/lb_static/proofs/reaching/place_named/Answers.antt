@@ -1,7 +1,7 @@
 -- The node that is found stands at the place.
 use Rattle.std.proofs.Common.{◌≡◌, ◌<◌, true, length, get_or, ap, sym, ◌∙◌, rules}
 use Rattle.std.specs.Str.{bytes_eq}
-use Rattle.lb_static.specs.Faults.{node_in_source}
+use Rattle.lb_static.specs.SourceNames.{node_in_source}
 use Rattle.lb_static.proofs.CalledNodes.{found_here}
 use Rattle.lb_static.proofs.reaching.place_named.Goals as goal
 

@@ -1,6 +1,6 @@
 use Rattle.std.proofs.Common.{◌≡◌, map, drop}
 use Rattle.lb_syntax.specs.SourceView.{view_node}
-use Rattle.lb_static.specs.Faults.{node_in_source}
+use Rattle.lb_static.specs.SourceNames.{node_in_source}
 use Rattle.lb_static.specs.StaticValues.{named}
 use Rattle.lb_static.proofs.reaching.place_named.Given as goal
 

@@ -2,7 +2,7 @@
 use Rattle.std.proofs.Common.{refl, ap, sym, ◌∙◌, ◌++◌, drop}
 use Rattle.std.proofs.lemmas.Result.{err_from_is_err_and}
 use Rattle.lb_syntax.specs.SourceView.{view_source, view_constant, view_node}
-use Rattle.lb_static.specs.Faults.{constants_in}
+use Rattle.lb_static.specs.SourceNames.{constants_in}
 use Rattle.lb_static.proofs.Lists.{at_place, map_map}
 use Rattle.lb_static.proofs.Scopes.{doubled_here, doubled_before}
 use Rattle.lb_static.proofs.Faults.{fault_within}
@@ -17,8 +17,8 @@ returns-in_err-declare_new-clause-err c =
     let i = c.loop-constant.constant-index in
     let before = ap (λ l. names ++ l) (sym (map_map view_constant (λ k. k.name) (drop i items))) ∙ c.loop-constant.invariant.0 in
     let all = at_place (λ k. (view_constant k).name) names items i x _ c.loop-constant-test.true c.constant-item.is before in
-    rw (p.1, p.2) (fault_within _ _ _ _ _ c.in_err-declare_new.ensures.err
-    (λ e. doubled_before (constants_in (view_source c.args.source.now)) _ _ refl (doubled_here names _ _ x.name all e)) (λ e. e))
+    rw (p.1, p.2) (fault_within _ _ _ c.in_err-declare_new.ensures.err
+    (λ e. doubled_before (constants_in (view_source c.args.source.now)) _ _ refl (doubled_here names _ _ x.name all e)))
 
 pub returns-in_err-declare_new-2-clause-err : goal.returns-in_err-declare_new-2-clause-err
 returns-in_err-declare_new-2-clause-err c =
@@ -29,4 +29,4 @@ returns-in_err-declare_new-2-clause-err c =
     let i = c.loop-node.node-index in
     let before = ap (λ l. names ++ l) (sym (map_map view_node (λ n. n.name) (drop i items))) ∙ c.loop-node.invariant.0 in
     let all = at_place (λ n. (view_node n).name) names items i x _ c.loop-node-test.true c.node-item.is before in
-    rw (p.1, p.2) (fault_within _ _ _ _ _ c.in_err-declare_new-2.ensures.err (λ e. doubled_here names _ _ x.name all e) (λ e. e))
+    rw (p.1, p.2) (fault_within _ _ _ c.in_err-declare_new-2.ensures.err (λ e. doubled_here names _ _ x.name all e))

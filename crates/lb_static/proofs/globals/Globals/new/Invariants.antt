@@ -1,6 +1,6 @@
 use Rattle.std.proofs.Common.{◌≡◌, ◌++◌, true, map, drop}
 use Rattle.lb_syntax.specs.SourceView.{view_source, view_constant, view_node}
-use Rattle.lb_static.specs.Faults.{names_in_source, constants_in}
+use Rattle.lb_static.specs.SourceNames.{names_in_source, constants_in}
 use Rattle.lb_static.specs.Names.{are_distinct}
 use Rattle.lb_static.proofs.globals.Globals.new.Given as goal
 

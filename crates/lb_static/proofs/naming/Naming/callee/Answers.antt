@@ -2,7 +2,8 @@
 use Rattle.std.proofs.Common.{◌≡◌, ◌∙◌, sym, arith, length, false}
 use Rattle.std.specs.Prelude.{nat_eq}
 use Rattle.std.proofs.lemmas.Bool.Decides.{nat_tests}
-use Rattle.lb_static.proofs.NodeNaming.{nodes_placed, no_callee, takes_so, callee_at, name_fault, name_fault_within}
+use Rattle.lb_static.proofs.Faults.{fault_within}
+use Rattle.lb_static.proofs.NodeNaming.{nodes_placed, no_callee, takes_so, callee_at}
 use Rattle.lb_static.proofs.naming.Naming.callee.Goals as goal
 
 pub returns-in_default-clause-err : goal.returns-in_default-clause-err
@@ -10,7 +11,7 @@ returns-in_default-clause-err c =
     let text = c.as_str-text.result.now in
     let source = c.args.self.now.source.now in
     let at = sym (nodes_placed c.args.self.now text) ∙ sym c.node_place.ensures ∙ c.in_default.is in
-    name_fault_within c.refused_name.result false _ (name_fault c.refused_name.result false c.refused_name.ensures)
+    fault_within c.refused_name.result false _ c.refused_name.ensures
     (λ e. no_callee source c.args.name.now text c.as_str-text.ensures c.args.arguments at)
 
 pub returns-then-len-arguments-clause-err : goal.returns-then-len-arguments-clause-err
@@ -21,7 +22,7 @@ returns-then-len-arguments-clause-err c =
     let x = c.index.result.now in
     let long : c.len.result ≡ length x.parameters.items = c.len.ensures ∙ x.parameters.ok.0 in
     let differ : nat_eq c.args.arguments (length x.parameters.items) ≡ false = grind (arith, nat_tests, long, c.if-len-arguments.true) in
-    name_fault_within c.refused_name-then-len-arguments.result false _ (name_fault c.refused_name-then-len-arguments.result false c.refused_name-then-len-arguments.ensures)
+    fault_within c.refused_name-then-len-arguments.result false _ c.refused_name-then-len-arguments.ensures
     (λ e. takes_so source c.args.name.now text c.as_str-text.ensures c.in-Some.place x at c.index.ensures c.args.arguments ∙ differ)
 
 pub returns-clause-ok : goal.returns-clause-ok

@@ -3,7 +3,7 @@ use Rattle.std.proofs.Common.{◌∙◌, ◌++◌, ap, subst}
 use Rattle.std.proofs.lemmas.Result.{err_from_is_err_and}
 use Rattle.lb_syntax.specs.Grammar.{declared as declarations_in}
 use Rattle.lb_syntax.specs.SourceView.{view_groups, view_node}
-use Rattle.lb_static.specs.Faults.{names_in}
+use Rattle.lb_static.specs.SourceNames.{names_in}
 use Rattle.lb_static.specs.NameFaults.{IsNameFault}
 use Rattle.lb_static.specs.Names.{are_distinct}
 use Rattle.lb_static.specs.Parts.{declared_names}

@@ -4,7 +4,8 @@ use Rattle.std.proofs.lemmas.List.{length-map, length-append}
 use Rattle.indexmap.specs.IndexMap.{keys}
 use Rattle.lb_static.specs.KeyedSpecializations.{AreKeyed, IsUnknown}
 use Rattle.lb_static.specs.Walked.{IsKnown}
-use Rattle.lb_static.proofs.KeyedSpecializations.{key_eq, known_at, unknown, past_all, added, added_view, keyed_more}
+use Rattle.lb_static.proofs.KeyedSpecializations.{key_eq, known_at, unknown, added, added_view, keyed_more}
+use Rattle.lb_static.proofs.NodeNaming.{past_all}
 use Rattle.lb_static.proofs.specializations.Specializations.add.Goals as goal
 
 pub returns-in-Some-clause-added : goal.returns-in-Some-clause-added
