@@ -1,10 +1,10 @@
 -- A rule that looks at a specialization alone holds of each instance where it holds of each
 -- specialization.
-use Rattle.std.proofs.Common.{◌≡◌, ℕ, zero, suc, ◌+◌, ◌<◌, Bool, true, false, List, [], ◌∷◌, ◌++◌, length, map, Option, Some, None, refl, sym, ◌∙◌, subst, arith, length-append}
+use Rattle.std.proofs.Common.{◌≡◌, ℕ, zero, suc, ◌+◌, ◌<◌, Bool, true, false, List, [], ◌∷◌, ◌++◌, length, map, Option, Some, None, refl, inl, inr, ap, sym, ◌∙◌, subst, arith, length-append}
 use Rattle.std.specs.Prelude.{◌&&◌, option_map, slice_get, slice_index_or}
 use Rattle.std.specs.List.{list_all}
 use Rattle.std.proofs.lemmas.Option.{slice_get_within}
-use Rattle.lb_syntax.specs.Lists.{◌>>=◌, either_or, zip2}
+use Rattle.lb_syntax.specs.Lists.{In, either_or, zip2}
 use Rattle.lb_static.specs.declared.reach.Reached.{Reached}
 use Rattle.lb_static.specs.declared.table.Instance as row
 use Rattle.lb_static.specs.declared.table.Specialization.{Specialization}
@@ -31,6 +31,11 @@ all_at good (y ∷ xs) zero x all e =
     let same : y ≡ x = cc in subst (λ z. good z ≡ true) same (and_first (good y) _ all)
 all_at good (y ∷ xs) (suc i) x all e = all_at good xs i x (and_second (good y) _ all) e
 
+pub all_in : {A : Type 0} → (good : A → Bool) (xs : List A) (x : A) → list_all good xs ≡ true → In x xs → good x ≡ true
+all_in good [] x all on = absurd on
+all_in good (y ∷ xs) x all (inl is) = subst (λ z. good z ≡ true) is (and_first (good y) _ all)
+all_in good (y ∷ xs) x all (inr on) = all_in good xs x (and_second (good y) _ all) on
+
 all_from : {A : Type 0} → (good : A → Bool) (xs : List A) → ((i : ℕ) (x : A) → slice_get xs i ≡ Some x → good x ≡ true) → list_all good xs ≡ true
 all_from good [] each = refl
 all_from good (x ∷ xs) each = rw (each 0 x refl) (all_from good xs (λ i y e. each (suc i) y e))
@@ -50,9 +55,9 @@ place_of f [] k i lt e = absurd (omega arith)
 place_of f (x ∷ rows) zero i lt e = (x, refl, e)
 place_of f (x ∷ rows) (suc k) i lt e = place_of f rows k i (omega arith) e
 
-module _ (P : Program) (r : Reached) (t : Table) (kept : Instance → Bool) (good : Specialization → Bool)
-    (judged : (i : ℕ) (s : Specialization) → slice_get t.specializations.items i ≡ Some s
-    → (p : Path) (here : Instance) → specialized_at r p s ≡ Some here → kept here ≡ good s) where
+-- ## The instance of a specialization
+
+module _ (P : Program) (r : Reached) (t : Table) where
   row_held : (p : Path) (i : row.Instance) (here : Instance) → row_at r t p i ≡ Some here
       → (s : Specialization) × (slice_get t.specializations.items i.specialization.0 ≡ Some s) × (specialized_at r p s ≡ Some here)
   row_held p i here e = by (slice_get t.specializations.items i.specialization.0) e
@@ -62,10 +67,47 @@ module _ (P : Program) (r : Reached) (t : Table) (kept : Instance → Bool) (goo
       by None e = absurd cc
       by (Some s) e = (s, refl, e)
 
+  -- a row stands for an instance
+  row_shown : (ps : List Path) (rows : List row.Instance) (heres : List Instance) (k : ℕ) (i : row.Instance) → length ps ≡ length rows
+      → zip2 (row_at r t) ps rows ≡ map Some heres → slice_get rows k ≡ Some i
+      → (p : Path) × (here : Instance) × In here heres × (row_at r t p i ≡ Some here)
+  row_shown ps [] heres k i long e at = absurd cc
+  row_shown [] (j ∷ rows) heres k i long e at = absurd cc
+  row_shown (p ∷ ps) (j ∷ rows) [] k i long e at = absurd cc
+  row_shown (p ∷ ps) (j ∷ rows) (h ∷ heres) zero i long e at =
+      let same : j ≡ i = cc in
+      let one : row_at r t p j ≡ Some h = cc in
+      (p, h, inl refl, subst (λ z. row_at r t p z ≡ Some h) same one)
+  row_shown (p ∷ ps) (j ∷ rows) (h ∷ heres) (suc k) i long e at =
+      let rest : zip2 (row_at r t) ps rows ≡ map Some heres = cc in
+      let shown = row_shown ps rows heres k i (omega (arith, long)) rest at in
+      (shown.0, shown.1, inr shown.2, shown.3)
+
+  row_is : (p : Path) (w : row.Instance) (here : Instance) (i : ℕ) (s : Specialization) → row_at r t p w ≡ Some here
+      → w.specialization.0 ≡ i → slice_get t.specializations.items i ≡ Some s → specialized_at r p s ≡ Some here
+  row_is p w here i s e same at =
+      sym (ap (λ o. either_or (option_map (specialized_at r p) o) None) (ap (slice_get t.specializations.items) same ∙ at)) ∙ e
+
+  -- each specialization has an instance
+  pub has_instance : IsTable P r t → (i : ℕ) (s : Specialization) → slice_get t.specializations.items i ≡ Some s
+      → (p : Path) × (here : Instance) × In here (instances P) × (specialized_at r p s ≡ Some here)
+  has_instance table i s at =
+      let used = table.used i (slice_get_within t.specializations.items i s at) in
+      let found = place_of (λ row. row.specialization.0) t.instances.items used.0 i used.1 used.2 in
+      let longer = paths_length [] t.instances.items in
+      let as_many : length (paths_of t) ≡ length t.instances.items = omega (arith, longer) in
+      let shown = row_shown (paths_of t) t.instances.items (instances P) used.0 found.0 as_many table.instances found.1 in
+      (shown.0, shown.1, shown.2, row_is shown.0 found.0 shown.1 i s shown.3 found.2 at)
+
+-- ## Each specialization and each instance
+
+module _ (P : Program) (r : Reached) (t : Table) (kept : Instance → Bool) (good : Specialization → Bool)
+    (judged : (i : ℕ) (s : Specialization) → slice_get t.specializations.items i ≡ Some s
+    → (p : Path) (here : Instance) → specialized_at r p s ≡ Some here → kept here ≡ good s) where
   row_judged : (p : Path) (i : row.Instance) (here : Instance) → row_at r t p i ≡ Some here → list_all good t.specializations.items ≡ true
       → kept here ≡ true
   row_judged p i here e all =
-      let s = row_held p i here e in
+      let s = row_held P r t p i here e in
       judged i.specialization.0 s.0 s.1 p here s.2 ∙ all_at good t.specializations.items i.specialization.0 s.0 all s.1
 
   all_instances : (ps : List Path) (rows : List row.Instance) (heres : List Instance) → zip2 (row_at r t) ps rows ≡ map Some heres
@@ -78,36 +120,9 @@ module _ (P : Program) (r : Reached) (t : Table) (kept : Instance → Bool) (goo
       let rest : zip2 (row_at r t) ps rows ≡ map Some heres = cc in
       rw (row_judged p i h one all) (all_instances ps rows heres rest all)
 
-  row_shown : (ps : List Path) (rows : List row.Instance) (heres : List Instance) (k : ℕ) (i : row.Instance) → length ps ≡ length rows
-      → zip2 (row_at r t) ps rows ≡ map Some heres → list_all kept heres ≡ true → slice_get rows k ≡ Some i
-      → (p : Path) × (here : Instance) × (row_at r t p i ≡ Some here) × (kept here ≡ true)
-  row_shown ps [] heres k i long e all at = absurd cc
-  row_shown [] (j ∷ rows) heres k i long e all at = absurd cc
-  row_shown (p ∷ ps) (j ∷ rows) [] k i long e all at = absurd cc
-  row_shown (p ∷ ps) (j ∷ rows) (h ∷ heres) zero i long e all at =
-      let same : j ≡ i = cc in
-      let one : row_at r t p j ≡ Some h = cc in
-      (p, h, subst (λ z. row_at r t p z ≡ Some h) same one, and_first (kept h) _ all)
-  row_shown (p ∷ ps) (j ∷ rows) (h ∷ heres) (suc k) i long e all at =
-      let rest : zip2 (row_at r t) ps rows ≡ map Some heres = cc in
-      row_shown ps rows heres k i (omega (arith, long)) rest (and_second (kept h) _ all) at
-
   pub each_judged : IsTable P r t → list_all good t.specializations.items ≡ list_all kept (instances P)
   each_judged table =
       both_ways _ _ (all_instances (paths_of t) t.instances.items (instances P) table.instances)
-      (λ all. all_from good t.specializations.items (λ i s at. one i s at all))
-    where
-      one : (i : ℕ) (s : Specialization) → slice_get t.specializations.items i ≡ Some s → list_all kept (instances P) ≡ true → good s ≡ true
-      one i s at all =
-          let used = table.used i (slice_get_within t.specializations.items i s at) in
-          let found = place_of (λ row. row.specialization.0) t.instances.items used.0 i used.1 used.2 in
-          let longer = paths_length [] t.instances.items in
-          let as_many : length (paths_of t) ≡ length t.instances.items = omega (arith, longer) in
-          let shown = row_shown (paths_of t) t.instances.items (instances P) used.0 found.0 as_many table.instances all found.1 in
-          let held = row_held shown.0 found.0 shown.1 shown.2 in
-          let again : slice_get t.specializations.items i ≡ Some held.0 =
-          subst (λ k. slice_get t.specializations.items k ≡ Some held.0) found.2 held.1 in
-          let same : Some held.0 ≡ Some s = sym again ∙ at in
-          let here_is : specialized_at r shown.0 s ≡ Some shown.1 =
-          subst (λ o. (o >>= specialized_at r shown.0) ≡ Some shown.1) same held.2 in
-          sym (judged i s at shown.0 shown.1 here_is) ∙ shown.3
+      (λ all. all_from good t.specializations.items (λ i s at.
+      let h = has_instance P r t table i s at in
+      sym (judged i s at h.0 h.1 h.3) ∙ all_in kept (instances P) h.1 all h.2))

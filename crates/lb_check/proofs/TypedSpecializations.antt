@@ -154,15 +154,18 @@ module _ (P : Program) (r : Reached) (t : Table) (j : IsJudged P r t) (i : ℕ) 
       let steps = ap (list_all (is_statement_typed P here)) (sym resolved.body) ∙ steps_are n.body.items resolved.body_within resolved.unhidden in
       ap (λ b. b && list_all (is_statement_typed P here) node.body) clocks ∙ ap (λ b. list_all (mirror.is_variable_typed ctx) n.variables.items && b) steps
 
+-- a specialization is typed where its instance at a path is
+pub specialization_typed : (P : Program) (r : Reached) (t : Table) → IsJudged P r t → (i : ℕ) (s : Specialization)
+    → slice_get t.specializations.items i ≡ Some s → (p : Path) (here : Instance) → specialized_at r p s ≡ Some here
+    → is_typed P here ≡ mirror.is_specialization_typed r t s
+specialization_typed P r t j i s is p here e =
+    let n = node_at P r t j.reached j.table s (j.table.specialized i s is).0 in
+    let same : Some (instance_of p (node_of n.0) s.values.items) ≡ Some here = sym (standing P r t j.reached j.table s n.0 p n.1) ∙ e in
+    let one : instance_of p (node_of n.0) s.values.items ≡ here = cc in
+    subst (λ h. is_typed P h ≡ mirror.is_specialization_typed r t s) one
+    (node_typed P r t j i s is n.0 n.1 n.2 p ∙ sym (ap (holds (λ m. mirror.is_node_typed (context_of r t m s) m)) n.1))
+
 -- each specialization is typed where each instance is
 pub instances_typed : (P : Program) (r : Reached) (t : Table) → IsJudged P r t → mirror.are_typed r t ≡ list_all (is_typed P) (instances P)
-instances_typed P r t j = each_judged P r t (is_typed P) (mirror.is_specialization_typed r t) judged j.table
-  where
-    judged : (i : ℕ) (s : Specialization) → slice_get t.specializations.items i ≡ Some s → (p : Path) (here : Instance) → specialized_at r p s ≡ Some here
-        → is_typed P here ≡ mirror.is_specialization_typed r t s
-    judged i s is p here e =
-        let n = node_at P r t j.reached j.table s (j.table.specialized i s is).0 in
-        let same : Some (instance_of p (node_of n.0) s.values.items) ≡ Some here = sym (standing P r t j.reached j.table s n.0 p n.1) ∙ e in
-        let one : instance_of p (node_of n.0) s.values.items ≡ here = cc in
-        subst (λ h. is_typed P h ≡ mirror.is_specialization_typed r t s) one
-        (node_typed P r t j i s is n.0 n.1 n.2 p ∙ sym (ap (holds (λ m. mirror.is_node_typed (context_of r t m s) m)) n.1))
+instances_typed P r t j =
+    each_judged P r t (is_typed P) (mirror.is_specialization_typed r t) (specialization_typed P r t j) j.table

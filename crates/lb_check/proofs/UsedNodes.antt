@@ -1,8 +1,8 @@
 -- The nodes of some specializations, each once.
 use Rattle.std.proofs.Common.{◌≡◌, ◌⊎◌, inl, inr, ℕ, ◌+◌, ◌<◌, Bool, true, false, List, [], ◌∷◌, length, drop, get_or, refl, ap, sym, ◌∙◌, subst}
-use Rattle.std.specs.Prelude.{◌&&◌, ◌++◌, not}
+use Rattle.std.specs.Prelude.{◌&&◌, ◌++◌, Some, cond, find, map, not}
 use Rattle.std.specs.List.{list_all}
-use Rattle.std.proofs.lemmas.List.{drop_more}
+use Rattle.std.proofs.lemmas.List.{append_assoc, drop_more}
 use Rattle.lb_static.specs.declared.reach.NodeId.{NodeId}
 use Rattle.lb_static.specs.declared.table.Specialization.{Specialization}
 
@@ -47,20 +47,49 @@ nodes_keep f = list_all (λ s. f s.node)
 abbrev pub AreUsed : List NodeId → ℕ → List Specialization → Type 0
 AreUsed ids i ss = (f : NodeId → Bool) → (list_all f ids && nodes_keep f (drop i ss)) ≡ nodes_keep f ss
 
+abbrev nodes_in : List Specialization → List NodeId
+nodes_in = map (λ s. s.node)
+
+-- the first that passes a test is the same
+abbrev pub AreFirst : List NodeId → ℕ → List Specialization → Type 0
+AreFirst ids i ss = (f : NodeId → Bool) → find f (ids ++ nodes_in (drop i ss)) ≡ find f (nodes_in ss)
+
 -- each node that is flagged is there
 abbrev pub AreThere : List NodeId → List Bool → Type 0
 AreThere ids seen = (k : NodeId) → get_or seen k.0 false ≡ true → (f : NodeId → Bool) → list_all f ids ≡ true → f k ≡ true
+
+-- what is there already is not found later
+not_found : (f : NodeId → Bool) (ids : List NodeId) (x : NodeId) (rest : List NodeId) → (list_all (λ k. not (f k)) ids ≡ true → not (f x) ≡ true)
+    → find f (ids ++ rest) ≡ find f (ids ++ x ∷ rest)
+not_found f [] x rest h = by (f x) (h refl)
+  where
+    by : (b : Bool) → not b ≡ true → find f rest ≡ cond b (Some x) (find f rest)
+    by true e = absurd cc
+    by false e = refl
+not_found f (y ∷ ids) x rest h =
+    by (f y) (λ e. not_found f ids x rest (λ all. h (ap (λ b. not b && list_all (λ k. not (f k)) ids) e ∙ all))) refl
+  where
+    by : (b : Bool) → (f y ≡ false → find f (ids ++ rest) ≡ find f (ids ++ x ∷ rest)) → f y ≡ b
+        → cond b (Some y) (find f (ids ++ rest)) ≡ cond b (Some y) (find f (ids ++ x ∷ rest))
+    by true later e = refl
+    by false later e = later e
 
 module _ (ids : List NodeId) (old new : List Bool) (ss : List Specialization) (i : ℕ) (s : Specialization) (lt : i < length ss) (is : s ≡ get_or ss i s)
     (used : AreUsed ids i ss) (there : AreThere ids old) (flagged : (k : ℕ) → get_or new k false ≡ true → (k ≡ s.node.0) ⊎ (get_or old k false ≡ true)) where
   next : (f : NodeId → Bool) → nodes_keep f (drop i ss) ≡ (f s.node && nodes_keep f (drop (i + 1) ss))
   next f = ap (nodes_keep f) (drop_more ss i s lt) ∙ ap (λ (x : Specialization). f x.node && nodes_keep f (drop (i + 1) ss)) (sym is)
 
+  next_node : nodes_in (drop i ss) ≡ (s.node ∷ nodes_in (drop (i + 1) ss))
+  next_node = ap nodes_in (drop_more ss i s lt) ∙ ap (λ (x : Specialization). x.node ∷ nodes_in (drop (i + 1) ss)) (sym is)
+
   -- a node that is added
   pub added_used : AreUsed (ids ++ s.node ∷ []) (i + 1) ss
   added_used f =
       let rest = nodes_keep f (drop (i + 1) ss) in
       ap (λ b. b && rest) (with_last f ids s.node) ∙ and_moved (list_all f ids) (f s.node) rest ∙ ap (λ b. list_all f ids && b) (sym (next f)) ∙ used f
+
+  pub added_first : AreFirst ids i ss → AreFirst (ids ++ s.node ∷ []) (i + 1) ss
+  added_first first f = ap (find f) (append_assoc ids (s.node ∷ []) (nodes_in (drop (i + 1) ss)) ∙ ap (λ ks. ids ++ ks) (sym next_node)) ∙ first f
 
   pub added_there : AreThere (ids ++ s.node ∷ []) new
   added_there k seen f all = elim (flagged k.0 seen) [
@@ -74,6 +103,11 @@ module _ (ids : List NodeId) (old new : List Bool) (ss : List Specialization) (i
     known_used f =
         and_known (list_all f ids) (f s.node) (nodes_keep f (drop (i + 1) ss)) (there s.node (is_true (get_or old s.node.0 false) known) f)
         ∙ ap (λ b. list_all f ids && b) (sym (next f)) ∙ used f
+
+    pub known_first : AreFirst ids i ss → AreFirst ids (i + 1) ss
+    known_first first f =
+        not_found f ids s.node (nodes_in (drop (i + 1) ss)) (there s.node (is_true (get_or old s.node.0 false) known) (λ k. not (f k)))
+        ∙ ap (λ ks. find f (ids ++ ks)) (sym next_node) ∙ first f
 
     pub known_there : AreThere ids new
     known_there k seen f all = elim (flagged k.0 seen) [

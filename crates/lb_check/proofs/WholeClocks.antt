@@ -15,7 +15,7 @@ use Rattle.lb_static.specs.declared.table.Table.{Table}
 use Rattle.lb_static.specs.InstanceTable.{instance_of}
 use Rattle.lb_static.specs.Instances.{Program, Instance, Root, Child, Site, callee_of, instances, node_named, node_sites, static_value}
 use Rattle.lb_static.specs.ReachedNodes.{id_at, source_names, tree_at}
-use Rattle.lb_static.specs.ResolvedNodes.{node_of, statics_of, texts_of}
+use Rattle.lb_static.specs.ResolvedNodes.{IsResolved, node_of, statics_of, texts_of}
 use Rattle.lb_static.specs.ResolvedTerms.{site_of, is_step_unhidden}
 use Rattle.lb_check.specs.ClockRules.{are_declared_clocks, is_clocked}
 use Rattle.lb_check.specs.JudgedPrograms.{IsJudged}
@@ -36,6 +36,10 @@ both_ways true b f g = f refl
 both_ways false true f g = g refl
 both_ways false false f g = refl
 
+and_false : (a b : Bool) → a ≡ false → (a && b) ≡ false
+and_false true b e = absurd cc
+and_false false b e = refl
+
 -- two tests that agree at each place of a list
 same_all : {A : Type 0} (f g : A → Bool) (xs : List A) → ((i : ℕ) (x : A) → slice_get xs i ≡ Some x → f x ≡ g x) → list_all f xs ≡ list_all g xs
 same_all f g [] each = refl
@@ -45,11 +49,16 @@ same_all f g (x ∷ xs) each =
 module _ (P : Program) (r : Reached) (t : Table) (j : IsJudged P r t) where
   -- ## What a node calls
 
-  -- the node of each specialization keeps the rules of declared clocks
+  -- the node of a specialization keeps the rules of declared clocks
+  abbrev IsDeclared : Specialization → Type 0
+  IsDeclared s = (n : ResolvedNode) → slice_get r.nodes.items s.node.0 ≡ Some n → are_declared_clocks (node_of n) ≡ true
+
+  -- so does that of each before a place
+  abbrev AreDeclared : ℕ → Type 0
+  AreDeclared m = (i : ℕ) (s : Specialization) → i < m → slice_get t.specializations.items i ≡ Some s → IsDeclared s
+
   abbrev AllDeclared : Type 0
-  AllDeclared =
-      (i : ℕ) (s : Specialization) → slice_get t.specializations.items i ≡ Some s → (n : ResolvedNode) → slice_get r.nodes.items s.node.0 ≡ Some n
-      → are_declared_clocks (node_of n) ≡ true
+  AllDeclared = (i : ℕ) (s : Specialization) → slice_get t.specializations.items i ≡ Some s → IsDeclared s
 
   -- the node of an instance that is called is the one with the name
   module _ (here : Instance) (site : Site) (c index : ℕ) (there : Instance) where
@@ -84,9 +93,9 @@ module _ (P : Program) (r : Reached) (t : Table) (j : IsJudged P r t) where
       by (Some site) e = let f = next site (id_at r site.callee) e in (site, f.0, refl, f.1, f.2)
 
   -- the tree of what stands at a call site is that of a specialization
-  callee_clocks : AllDeclared → (i : ℕ) (s : Specialization) → slice_get t.specializations.items i ≡ Some s
+  callee_clocks : (i : ℕ) → AreDeclared i → (s : Specialization) → slice_get t.specializations.items i ≡ Some s
       → (n : ResolvedNode) → slice_get r.nodes.items s.node.0 ≡ Some n → (c : CallId) (m : ResolvedNode) → callee_in r n c ≡ Some m → HasClocks m
-  callee_clocks all i s is n at c m e =
+  callee_clocks i all s is n at c m e =
       let found = found_callee n c m e in
       let site = site_of (source_names P) (statics_of n) found.0 in
       let resolved = resolved_at P r j.names j.reached s.node.0 n at in
@@ -113,7 +122,7 @@ module _ (P : Program) (r : Reached) (t : Table) (j : IsJudged P r t) where
       let by_name : node_named P site.callee ≡ Some (node_of m) = named_callee found.0 found.1 found.3 found.4 in
       let one : Some (node_of callee_n.0) ≡ Some (node_of m) = sym by_table ∙ by_name in
       let tree : node_of callee_n.0 ≡ node_of m = cc in
-      clocks_at P r j.names j.reached found.1.0 m found.4 (subst (λ k. are_declared_clocks k ≡ true) tree (all id.0.0 callee.0 callee.1 callee_n.0 callee_n.1))
+      clocks_at P r j.names j.reached found.1.0 m found.4 (subst (λ k. are_declared_clocks k ≡ true) tree (all id.0.0 callee.0 before callee.1 callee_n.0 callee_n.1))
     where
       named_callee : (site : CallSite) (id : NodeId) → id_at r site.callee ≡ Some id → slice_get r.nodes.items id.0 ≡ Some m
           → node_named P (either_or (slice_get (source_names P) site.callee.0) []) ≡ Some (node_of m)
@@ -126,15 +135,15 @@ module _ (P : Program) (r : Reached) (t : Table) (j : IsJudged P r t) where
 
   -- ## Each specialization
 
-  sees : AllDeclared → (i : ℕ) (s : Specialization) → slice_get t.specializations.items i ≡ Some s
-      → (n : ResolvedNode) → slice_get r.nodes.items s.node.0 ≡ Some n → SeesClocks P r n
-  sees all i s is n at = record {
+  sees : (i : ℕ) → AreDeclared i → (s : Specialization) → slice_get t.specializations.items i ≡ Some s
+      → (n : ResolvedNode) → slice_get r.nodes.items s.node.0 ≡ Some n → are_declared_clocks (node_of n) ≡ true → SeesClocks P r n
+  sees i all s is n at own = record {
     names = j.names;
     reached = j.reached;
     place = s.node.0;
     at = at;
-    own = clocks_at P r j.names j.reached s.node.0 n at (all i s is n at);
-    callees = callee_clocks all i s is n at;
+    own = clocks_at P r j.names j.reached s.node.0 n at own;
+    callees = callee_clocks i all s is n at;
   }
 
   abbrev by_tree : Specialization → Bool
@@ -144,10 +153,11 @@ module _ (P : Program) (r : Reached) (t : Table) (j : IsJudged P r t) where
   tree_of s n at = slice_get-map node_of r.nodes.items s.node.0 ∙ ap (option_map node_of) at
 
   -- where each node keeps the rules of clocks it keeps those of declared clocks
+  is_declared : (s : Specialization) → is_clocked_at r s.node ≡ true → IsDeclared s
+  is_declared s kept n at = and_first _ (is_body_clocked r n) (sym (ap (holds (is_node_clocked r)) at) ∙ kept)
+
   from_code : are_clocked_at r t.specializations.items ≡ true → AllDeclared
-  from_code all i s is n at =
-      and_first _ (is_body_clocked r n)
-      (sym (ap (holds (is_node_clocked r)) at) ∙ all_at (λ s. is_clocked_at r s.node) t.specializations.items i s all is)
+  from_code all i s is = is_declared s (all_at (λ s. is_clocked_at r s.node) t.specializations.items i s all is)
 
   from_trees : list_all by_tree t.specializations.items ≡ true → AllDeclared
   from_trees all i s is n at =
@@ -158,18 +168,39 @@ module _ (P : Program) (r : Reached) (t : Table) (j : IsJudged P r t) where
       (single_steps : are_typed r t ≡ true → (i : ℕ) (s : Specialization) (n : ResolvedNode) → slice_get t.specializations.items i ≡ Some s
       → slice_get r.nodes.items s.node.0 ≡ Some n → list_all (is_step_single r n) n.body.items ≡ true)
       (typed : list_all (is_typed P) (instances P) ≡ true) where
-    one_is : AllDeclared → (i : ℕ) (s : Specialization) → slice_get t.specializations.items i ≡ Some s → is_clocked_at r s.node ≡ by_tree s
-    one_is all i s is =
+    one_is : (i : ℕ) → AreDeclared i → (s : Specialization) → slice_get t.specializations.items i ≡ Some s → IsDeclared s
+        → is_clocked_at r s.node ≡ by_tree s
+    one_is i all s is own =
         let n = node_at P r t j.reached j.table s (j.table.specialized i s is).0 in
         let single = single_steps (instances_typed P r t j ∙ typed) i s n.0 is n.1 in
-        let body = node_clocked n.0 (sees all i s is n.0 n.1) n.2.unhidden single in
-        ap (holds (is_node_clocked r)) n.1 ∙ ap (λ b. b && is_body_clocked r n.0) (all i s is n.0 n.1) ∙ sym body
+        let body = node_clocked n.0 (sees i all s is n.0 n.1 (own n.0 n.1)) n.2.unhidden single in
+        ap (holds (is_node_clocked r)) n.1 ∙ ap (λ b. b && is_body_clocked r n.0) (own n.0 n.1) ∙ sym body
         ∙ sym (ap (holds (is_clocked P)) (tree_of s n.0 n.1))
 
     all_are : AllDeclared → are_clocked_at r t.specializations.items ≡ list_all by_tree t.specializations.items
-    all_are all = same_all (λ s. is_clocked_at r s.node) by_tree t.specializations.items (one_is all)
+    all_are all =
+        same_all (λ s. is_clocked_at r s.node) by_tree t.specializations.items (λ i s is. one_is i (λ k m lt. all k m) s is (all i s is))
 
     -- each instance keeps the rules of clocks where the code finds it of the node of each specialization
     pub instances_clocked : are_clocked_at r t.specializations.items ≡ list_all (λ here. is_clocked P here.node) (instances P)
     instances_clocked =
         both_ways _ _ (λ e. all_are (from_code e)) (λ e. all_are (from_trees e)) ∙ all_specializations P r t j.table (is_clocked P)
+
+    -- the first specialization whose node the code finds to break the rules of clocks breaks them
+    pub first_broken : (i : ℕ) (s : Specialization) → slice_get t.specializations.items i ≡ Some s → is_clocked_at r s.node ≡ false
+        → ((k : ℕ) (m : Specialization) → k < i → slice_get t.specializations.items k ≡ Some m → is_clocked_at r m.node ≡ true)
+        → by_tree s ≡ false
+    first_broken i s is broken earlier = by (are_declared_clocks (node_of n.0)) refl
+      where
+        n : (n : ResolvedNode) × (slice_get r.nodes.items s.node.0 ≡ Some n) × IsResolved (source_names P) n
+        n = node_at P r t j.reached j.table s (j.table.specialized i s is).0
+
+        declared : are_declared_clocks (node_of n.0) ≡ true → IsDeclared s
+        declared own m at =
+            let one : Some n.0 ≡ Some m = sym n.1 ∙ at in
+            let same : n.0 ≡ m = cc in
+            subst (λ (m : ResolvedNode). are_declared_clocks (node_of m) ≡ true) same own
+
+        by : (b : Bool) → are_declared_clocks (node_of n.0) ≡ b → by_tree s ≡ false
+        by false e = ap (holds (is_clocked P)) (tree_of s n.0 n.1) ∙ and_false (are_declared_clocks (node_of n.0)) _ e
+        by true e = sym (one_is i (λ k m lt at. is_declared m (earlier k m lt at)) s is (declared e)) ∙ broken

@@ -1,18 +1,27 @@
 -- What a check of a program promises to the layer above.
 -- This file says what data of the program mean; no definition of the language stands on it.
-use Rattle.std.specs.Prelude.{◌≡◌, Some, None, Result, Ok, Err}
+use Rattle.std.specs.Prelude.{◌≡◌, Some, None, Result, Ok, Err, string_bytes}
 use Rattle.lb_syntax.specs.Refusals.{E9, E10, E11}
 use Rattle.lb_static.specs.Instances.{Program}
 use Rattle.lb_check.specs.declared.checked.Checked.{Checked}
 use Rattle.lb_check.specs.declared.error.CheckError.{CheckError}
 use Rattle.lb_check.specs.declared.error.CheckError.TheVariants as error
 use Rattle.lb_check.specs.Acceptance.{check_refusal}
+use Rattle.lb_check.specs.BrokenRules.{IsBrokenIn}
+use Rattle.lb_check.specs.ClockRules.{is_clocked}
+use Rattle.lb_check.specs.DefinitionRules.{is_defined}
+use Rattle.lb_check.specs.TypeRules.{is_typed}
 
 -- the answer to an elaborated program is the first of the rules of types, clocks and definitions
--- that it breaks, unless memory ran out
+-- that it breaks, with the name of a node of which an instance breaks it, unless memory ran out
 abbrev pub IsAnswer : Program → Result Checked CheckError → Type 0
 IsAnswer P (Ok c) = check_refusal P ≡ None
 IsAnswer P (Err error.Memory) = Unit {0}
-IsAnswer P (Err (error.Type node)) = check_refusal P ≡ Some E9
-IsAnswer P (Err (error.Clock node)) = check_refusal P ≡ Some E10
-IsAnswer P (Err (error.Definition node)) = check_refusal P ≡ Some E11
+IsAnswer P (Err (error.Type node)) =
+    (check_refusal P ≡ Some E9) × IsBrokenIn (is_typed P) P (string_bytes node)
+IsAnswer P (Err (error.Clock node)) =
+    (check_refusal P ≡ Some E10)
+    × IsBrokenIn (λ here. is_clocked P here.node) P (string_bytes node)
+IsAnswer P (Err (error.Definition node)) =
+    (check_refusal P ≡ Some E11)
+    × IsBrokenIn (λ here. is_defined P here.node) P (string_bytes node)

@@ -1,8 +1,10 @@
 //! Types, clocks and definitions of a program (E9, E10, E11).
 
-ghost use Rattle.std.specs.Prelude.{◌≡◌, IfOk};
+ghost use Rattle.std.specs.Prelude.{◌≡◌, IfOk, string_bytes};
+ghost use Rattle.lb_syntax.specs.Lists.{listed};
 ghost use Rattle.lb_static.specs.Elaborated.{IsElaborated};
 ghost use Rattle.lb_static.specs.Instances.{Program};
+ghost use Rattle.lb_static.specs.ReachedNodes.{tree_at};
 ghost use Rattle.lb_check.specs.Checked.{IsAnswer};
 
 use crate::checked::Checked;
@@ -15,7 +17,10 @@ use lb_static::reach::{NodeId, Reached};
 use std::alloc::{AllocError, Global};
 
 /// The name of a node again, or an empty one where there is no such node.
-fn name_of(alloc: Global, reached: &Reached, id: NodeId) -> Result<String, AllocError> {
+fn name_of(alloc: Global, reached: &Reached, id: NodeId) -> Result<String, AllocError>
+    ensures { IfOk result (λ name.
+        string_bytes name ≡ listed (λ n. n.name) (tree_at reached.now id)) }
+{
     match reached.nodes.get(id.0 as usize) {
         Some(node) => String::from_str(alloc, node.tree.name.as_str()),
         None => Ok(String::new(alloc)),

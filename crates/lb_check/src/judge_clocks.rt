@@ -1,5 +1,6 @@
 //! The rules of clocks of a program (E10).
 
+ghost use Rattle.lb_check.specs.BrokenRules.{IsBroken};
 ghost use Rattle.lb_check.specs.ClockRules.{is_clocked};
 ghost use Rattle.lb_check.specs.JudgedPrograms.{IsJudged};
 ghost use Rattle.lb_check.specs.NodeClocks.{is_clocked_at};
@@ -10,7 +11,7 @@ ghost use Rattle.lb_static.specs.Instances.{Program, instances};
 ghost use Rattle.lb_static.specs.Names.{keeps_names};
 ghost use Rattle.lb_static.specs.ReachedNodes.{IsReached};
 ghost use Rattle.std.specs.List.{list_all};
-ghost use Rattle.std.specs.Prelude.{◌≡◌, IfOk, is_some, not, true};
+ghost use Rattle.std.specs.Prelude.{◌≡◌, find, IfOk, IfSome, is_some, not, true};
 
 use crate::call_clock::is_call_clocked;
 use crate::clock::keeps_declared_clocks;
@@ -124,9 +125,11 @@ fn first_unclocked(
     reached: &Reached,
     ids: &[NodeId],
 ) -> Result<Option<NodeId>, AllocError>
-    ensures { (P : Program) → keeps_names P ≡ true → IsReached P reached.now
+    ensures judged { (P : Program) → keeps_names P ≡ true → IsReached P reached.now
         → IfOk result (λ found.
         is_some found ≡ not (list_all (is_clocked_at reached.now) ids.now)) }
+    ensures named { (P : Program) → keeps_names P ≡ true → IsReached P reached.now
+        → IfOk result (λ found. found ≡ find (λ id. not (is_clocked_at reached.now id)) ids.now) }
 {
     for id in ids {
         if !is_node_clocked(alloc, reached, *id)? {
@@ -144,9 +147,12 @@ pub fn unclocked_node(
     reached: &Reached,
     table: &Table,
 ) -> Result<Option<NodeId>, AllocError>
-    ensures { (P : Program) → IsJudged P reached.now table.now
+    ensures judged { (P : Program) → IsJudged P reached.now table.now
         → list_all (is_typed P) (instances P) ≡ true → IfOk result (λ found.
         is_some found ≡ not (list_all (λ here. is_clocked P here.node) (instances P))) }
+    ensures named { (P : Program) → IsJudged P reached.now table.now
+        → list_all (is_typed P) (instances P) ≡ true → IfOk result (λ found.
+        IfSome found (IsBroken (λ here. is_clocked P here.node) P reached.now)) }
 {
     let ids = used_nodes(alloc, reached.nodes.len(), &table.specializations)?;
     first_unclocked(alloc, reached, &ids)

@@ -1,7 +1,9 @@
 //! Definitions, and functions without memory, in all forms of expressions (E11).
 
-ghost use Rattle.std.specs.Prelude.{◌≡◌, ◌+◌, ◌↔◌, true, length, slice_index, is_some, not, IsTrue, IfOk};
+ghost use Rattle.std.specs.Prelude.{◌≡◌, ◌+◌, ◌↔◌, true, length, slice_index, find, is_some, not};
+ghost use Rattle.std.specs.Prelude.{IsTrue, IfOk, IfSome};
 ghost use Rattle.std.specs.List.{list_all};
+ghost use Rattle.lb_check.specs.BrokenRules.{IsBroken};
 ghost use Rattle.lb_check.specs.DefinitionRules.{is_defined};
 ghost use Rattle.lb_check.specs.JudgedPrograms.{IsJudged};
 ghost use Rattle.lb_check.specs.NodeDefinitions as mirror;
@@ -164,9 +166,12 @@ fn first_undefined(
     reached: &Reached,
     ids: &[NodeId],
 ) -> Result<Option<NodeId>, AllocError>
-    ensures { (P : Program) → keeps_names P ≡ true → IsReached P reached.now
+    ensures judged { (P : Program) → keeps_names P ≡ true → IsReached P reached.now
         → IfOk result (λ found.
         is_some found ≡ not (list_all (mirror.is_defined_at P reached.now) ids.now)) }
+    ensures named { (P : Program) → keeps_names P ≡ true → IsReached P reached.now
+        → IfOk result (λ found.
+        found ≡ find (λ id. not (mirror.is_defined_at P reached.now id)) ids.now) }
 {
     for id in ids {
         if !is_node_defined(alloc, reached, *id)? {
@@ -185,8 +190,10 @@ pub fn undefined_node(
     reached: &Reached,
     table: &Table,
 ) -> Result<Option<NodeId>, AllocError>
-    ensures { (P : Program) → IsJudged P reached.now table.now → IfOk result (λ found.
+    ensures judged { (P : Program) → IsJudged P reached.now table.now → IfOk result (λ found.
         is_some found ≡ not (list_all (λ here. is_defined P here.node) (instances P))) }
+    ensures named { (P : Program) → IsJudged P reached.now table.now → IfOk result (λ found.
+        IfSome found (IsBroken (λ here. is_defined P here.node) P reached.now)) }
 {
     let ids = used_nodes(alloc, reached.nodes.len(), &table.specializations)?;
     first_undefined(alloc, reached, &ids)

@@ -1,8 +1,9 @@
 //! The rules of types of a program (E9).
 
-ghost use Rattle.std.specs.Prelude.{◌≡◌, ◌∷◌, [], is_some, map, not, option_map, IfOk};
+ghost use Rattle.std.specs.Prelude.{◌≡◌, ◌∷◌, [], find, is_some, map, not, option_map, IfOk, IfSome};
 ghost use Rattle.std.specs.List.{list_all};
 ghost use Rattle.lb_static.specs.Instances.{Program, instances};
+ghost use Rattle.lb_check.specs.BrokenRules.{IsBroken};
 ghost use Rattle.lb_check.specs.JudgedPrograms.{IsJudged};
 ghost use Rattle.lb_check.specs.TypeRules.{is_typed};
 ghost use Rattle.lb_static.specs.Shapes.{are_shapes, truth};
@@ -141,8 +142,11 @@ fn first_untyped(
     reached: &Reached,
     table: &Table,
 ) -> Result<Option<NodeId>, AllocError>
-    ensures { IfOk result (λ found.
+    ensures judged { IfOk result (λ found.
         is_some found ≡ not (mirror.are_typed reached.now table.now)) }
+    ensures named { IfOk result (λ found. found ≡ option_map (λ s. s.node)
+        (find (λ s. not (mirror.is_specialization_typed reached.now table.now s))
+        table.now.specializations.items)) }
 {
     for specialization in &table.specializations {
         if !is_specialization_typed(alloc, reached, table, specialization)? {
@@ -159,8 +163,10 @@ pub fn untyped_node(
     reached: &Reached,
     table: &Table,
 ) -> Result<Option<NodeId>, AllocError>
-    ensures { (P : Program) → IsJudged P reached.now table.now → IfOk result (λ found.
+    ensures judged { (P : Program) → IsJudged P reached.now table.now → IfOk result (λ found.
         is_some found ≡ not (list_all (is_typed P) (instances P))) }
+    ensures named { (P : Program) → IsJudged P reached.now table.now → IfOk result (λ found.
+        IfSome found (IsBroken (is_typed P) P reached.now)) }
 {
     first_untyped(alloc, reached, table)
 }
