@@ -150,14 +150,14 @@ fn names_and_shapes_of_programs(rt: HostRuntime) -> Result<(), Fail> {
     Ok(())
 }
 
-/// What `shown` says of the node `main` of a text.
+/// What `shown` says of the node `main` of a text, or why it is refused.
 fn described(alloc: Global, text: &[u8]) -> Result<String, AllocError> {
     let Ok(source) = parse(alloc, text) else {
         return String::from_str(alloc, "syntax");
     };
     match elaborate(alloc, &source, "main", None) {
         Ok(elab) => shown(alloc, &elab),
-        Err(_e) => String::from_str(alloc, "refused"),
+        Err(error) => format!(in alloc; "{error}"),
     }
 }
 
@@ -172,5 +172,30 @@ fn the_signature_and_what_is_reached(rt: HostRuntime) -> Result<(), Fail> {
         line.as_str(),
         "a: int m[0]: int m[1]: int c: bool | main f"
     );
+    Ok(())
+}
+
+#[test]
+fn refusals_name_what_is_refused(rt: HostRuntime) -> Result<(), Fail> {
+    let rows = [
+        ("y = z;", "the name z is unknown or doubled"),
+        ("y = g(x);", "the node g reaches itself by its calls"),
+        (
+            "y = (x^(1 div 0))[0];",
+            "a static expression of the node f has no value",
+        ),
+        (
+            "y = (x^0)[0];",
+            "a size, an index or a slice of the node f is out of its range",
+        ),
+    ];
+    for (equation, expected) in rows {
+        let text = format!(in rt.alloc();
+            "node f(x: int) returns (y: int); let {equation} tel
+            node g(x: int) returns (y: int); let y = g(x); tel
+            node main(x: int) returns (ok: bool); let ok = f(x) > 0; tel"
+        )?;
+        assert_eq!(rt; described(rt.alloc(), text.as_bytes())?.as_str(), expected);
+    }
     Ok(())
 }
