@@ -18,12 +18,9 @@ use Rattle.lb_check.specs.TypeRules.{is_typed}
 use Rattle.lb_check.proofs.NodePlaces.{not_true}
 use Rattle.lb_check.proofs.TableRows.{has_instance}
 use Rattle.lb_check.proofs.TypedSpecializations.{specialization_typed}
+use Rattle.lb_check.proofs.UsedNodes.{is_true}
 
 -- ## What is found in a list
-
-is_true : (b : Bool) → not b ≡ false → b ≡ true
-is_true true e = refl
-is_true false e = absurd cc
 
 -- the first item that passes a test: where it stands, and that none before it passes
 abbrev IsFound : {A : Type 0} → (A → Bool) → List A → A → Type 0

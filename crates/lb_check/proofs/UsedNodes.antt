@@ -22,7 +22,7 @@ and_known : (a b c : Bool) → (a ≡ true → b ≡ true) → (a && c) ≡ (a &
 and_known true b c e = ap (λ d. d && c) (sym (e refl))
 and_known false b c e = refl
 
-is_true : (b : Bool) → not b ≡ false → b ≡ true
+pub is_true : (b : Bool) → not b ≡ false → b ≡ true
 is_true true e = refl
 is_true false e = absurd cc
 

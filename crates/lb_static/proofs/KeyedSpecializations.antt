@@ -12,6 +12,7 @@ use Rattle.lb_static.specs.Walked.{IsKnown}
 use Rattle.lb_static.specs.declared.reach.NodeId.{NodeId}
 use Rattle.lb_static.specs.declared.specializations.Key.{Key}
 use Rattle.lb_static.specs.declared.table.Specialization.{Specialization}
+use Rattle.lb_static.proofs.Lists.{and_first, and_second}
 use Rattle.lb_static.proofs.NodeNaming.{find_placed, find_none, position_within}
 use Rattle.lb_static.proofs.TestedItems.{found_passes}
 use Rattle.lb_static.proofs.WalkSteps.{element_all}
@@ -36,15 +37,12 @@ others_fail p (y ∷ xs) (suc i) x e at = by (p y) (λ h. others_fail p xs i x h
 abbrev pub key_eq : Key → Key → Bool
 key_eq a b = (a.node.0 == b.node.0) && pointwise int_eq a.values.items b.values.items
 
-both_true : (a b : Bool) → (a && b) ≡ true → (a ≡ true) × (b ≡ true)
-both_true true b e = (refl, e)
-both_true false b e = absurd cc
-
 same_key : (a b : Key) → key_eq a b ≡ true → (a.node ≡ b.node) × (a.values.items ≡ b.values.items)
 same_key a b e =
-    let both = both_true (a.node.0 == b.node.0) (pointwise int_eq a.values.items b.values.items) e in (
-      ap (λ (n : ℕ). record { 0 = n }) ((Decides-eqb a.node.0 b.node.0).0 both.0),
-      (slice_eq-Decides Decides-int_eq a.values.items b.values.items (pointwise int_eq a.values.items b.values.items) refl).0 both.1,
+    let nodes = a.node.0 == b.node.0 in
+    let values = pointwise int_eq a.values.items b.values.items in (
+      ap (λ (n : ℕ). record { 0 = n }) ((Decides-eqb a.node.0 b.node.0).0 (and_first nodes values e)),
+      (slice_eq-Decides Decides-int_eq a.values.items b.values.items values refl).0 (and_second nodes values e),
     )
 
 key_same : (a b : Key) → a.node ≡ b.node → a.values.items ≡ b.values.items → key_eq a b ≡ true
@@ -55,28 +53,18 @@ key_same a b node values =
 
 -- ## Entries
 
+-- what stands at a place of a view is seen from an entry
+seen_from : {A B : Type 0} (f : A → B) (xs : List A) (i : ℕ) (y : B) → slice_get (map f xs) i ≡ Some y → (x : A) × (slice_get xs i ≡ Some x) × (f x ≡ y)
+seen_from f [] i y at = absurd cc
+seen_from f (x ∷ xs) zero y at = let same : f x ≡ y = cc in (x, refl, same)
+seen_from f (x ∷ xs) (suc i) y at = seen_from f xs i y at
+
 module _ (es : List (Key × Specialization)) where
   abbrev keys : List Key
   keys = map (λ e. e.0) es
 
   abbrev specializations : List Specialization
   specializations = map (λ e. e.1) es
-
-  entry_of_key : (i : ℕ) (k : Key) → slice_get keys i ≡ Some k → (e : Key × Specialization) × (slice_get es i ≡ Some e) × (e.0 ≡ k)
-  entry_of_key i k at = by (slice_get es i) refl (sym (slice_get-map (λ (e : Key × Specialization). e.0) es i) ∙ at)
-    where
-      by : (o : Option (Key × Specialization)) → slice_get es i ≡ o → option_map (λ e. e.0) o ≡ Some k
-          → (e : Key × Specialization) × (slice_get es i ≡ Some e) × (e.0 ≡ k)
-      by (Some e) is h = (e, is, cc)
-      by None is h = absurd cc
-
-  entry_of : (i : ℕ) (s : Specialization) → slice_get specializations i ≡ Some s → (e : Key × Specialization) × (slice_get es i ≡ Some e) × (e.1 ≡ s)
-  entry_of i s at = by (slice_get es i) refl (sym (slice_get-map (λ (e : Key × Specialization). e.1) es i) ∙ at)
-    where
-      by : (o : Option (Key × Specialization)) → slice_get es i ≡ o → option_map (λ e. e.1) o ≡ Some s
-          → (e : Key × Specialization) × (slice_get es i ≡ Some e) × (e.1 ≡ s)
-      by (Some e) is h = (e, is, cc)
-      by None is h = absurd cc
 
   -- the specialization at the place of a key is that of its node with its values
   pub known_at : AreKeyed es → (k : Key) (i : ℕ) → position (key_eq k) keys ≡ Some i → IsKnown specializations k.node k.values.items (record { 0 = i })
@@ -88,7 +76,7 @@ module _ (es : List (Key × Specialization)) where
           let there = slice_get-get_or keys i k (position_within (key_eq k) keys i e) in
           absurd cc
       by (Some f) is =
-          let entry = entry_of_key i f (find_placed (key_eq k) keys i e ∙ is) in
+          let entry = seen_from (λ (e : Key × Specialization). e.0) es i f (find_placed (key_eq k) keys i e ∙ is) in
           let own = element_all (λ (e : Key × Specialization). (e.0.node ≡ e.1.node) × (e.0.values.items ≡ e.1.values.items)) es i entry.0 keyed entry.1 in
           let same = same_key k f (found_passes (key_eq k) keys f is) in (
             entry.0.1,
@@ -100,7 +88,7 @@ module _ (es : List (Key × Specialization)) where
   -- where no key is found, no specialization is of its node with its values
   pub unknown : AreKeyed es → (k : Key) → position (key_eq k) keys ≡ None → IsUnknown specializations k.node k.values.items
   unknown keyed k e id known =
-      let entry = entry_of id.0 known.0 known.1 in
+      let entry = seen_from (λ (e : Key × Specialization). e.1) es id.0 known.0 known.1 in
       let own = element_all (λ (e : Key × Specialization). (e.0.node ≡ e.1.node) × (e.0.values.items ≡ e.1.values.items)) es id.0 entry.0 keyed entry.1 in
       let there : slice_get keys id.0 ≡ Some entry.0.0 = slice_get-map (λ (e : Key × Specialization). e.0) es id.0 ∙ ap (option_map (λ e. e.0)) entry.1 in
       let fails = others_fail (key_eq k) keys id.0 entry.0.0 (find_none (key_eq k) keys e) there in
