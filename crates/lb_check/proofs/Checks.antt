@@ -1,5 +1,5 @@
 -- The first of the rules of types, clocks and definitions that an elaborated program breaks.
-use Rattle.std.proofs.Common.{◌≡◌, Bool, true, false, Option, Some, None, refl}
+use Rattle.std.proofs.Common.{◌≡◌, Bool, true, false, Option, Some, None, Err, refl, subst}
 use Rattle.std.specs.Prelude.{is_some, not}
 use Rattle.std.specs.List.{list_all}
 use Rattle.lb_syntax.specs.Lists.{or_else, holds}
@@ -10,10 +10,12 @@ use Rattle.lb_static.specs.Names.{keeps_names, is_well_founded}
 use Rattle.lb_static.specs.Walk.{has_no_parameters, is_root, walk_refusal}
 use Rattle.lb_static.specs.declared.elab.Elab.{Elab}
 use Rattle.lb_check.specs.Acceptance.{check_refusal}
+use Rattle.lb_check.specs.Checked.{IsAnswer, IsRefusal}
 use Rattle.lb_check.specs.ClockRules.{is_clocked}
 use Rattle.lb_check.specs.DefinitionRules.{is_defined}
 use Rattle.lb_check.specs.JudgedPrograms.{IsJudged}
 use Rattle.lb_check.specs.TypeRules.{is_typed}
+use Rattle.lb_check.specs.declared.error.CheckError.{CheckError}
 
 -- ## What is known of an elaborated program
 
@@ -54,6 +56,12 @@ pub kept_by : {A : Type 0} (o : Option A) (b : Bool) → is_some o ≡ not b →
 kept_by None true e none = refl
 kept_by None false e none = absurd cc
 kept_by (Some x) b e none = absurd (none x refl)
+
+pub refused : (P : Program) (o : Option CheckError) (e : CheckError) → IsRefusal P o → o ≡ Some e → IsAnswer P (Err e)
+refused P o e told is = subst (IsRefusal P) is told
+
+pub accepted : (P : Program) (o : Option CheckError) → IsRefusal P o → o ≡ None → check_refusal P ≡ None
+accepted P o told is = subst (IsRefusal P) is told
 
 -- ## The first of three
 

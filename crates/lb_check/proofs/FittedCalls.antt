@@ -71,5 +71,5 @@ module _ (P : Program) (r : Reached) (t : Table) (reached : IsReached P r) (tabl
       ∙ same_callee P p Root (node_of n) s.values.items site c.0 0
       ∙ ap (signature P) same
       ∙ callee_is callee.0 callee_n.0 (Child Root c.0 0) callee_sp.0 callee_n.1 callee_n.2
-      ∙ sym (ap (λ o. o >>= λ id. slice_get t.specializations.items id.0 >>= callee_signature r) id.1
+      ∙ sym (ap (λ o. (o >>= λ id. slice_get t.specializations.items id.0) >>= callee_signature r) id.1
       ∙ ap (λ o. o >>= callee_signature r) callee.1)

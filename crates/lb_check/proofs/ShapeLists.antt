@@ -1,6 +1,6 @@
 -- Types and lists of types, as the code holds them.
-use Rattle.std.proofs.Common.{◌≡◌, ℕ, suc, ◌+◌, ◌<◌, ◌≤◌, Bool, true, false, List, [], ◌∷◌, ◌++◌, length, map, drop, get_or, Option, Some, None, refl, ap, sym, ◌∙◌, subst, arith}
-use Rattle.std.specs.Prelude.{◌&&◌, option_map, reverse, nat_eq}
+use Rattle.std.proofs.Common.{◌≡◌, ℕ, zero, suc, ◌+◌, ◌<◌, ◌≤◌, Bool, true, false, List, [], ◌∷◌, ◌++◌, length, map, drop, get_or, Option, Some, None, refl, ap, sym, ◌∙◌, subst, arith}
+use Rattle.std.specs.Prelude.{◌&&◌, ℤ, option_map, reverse, nat_eq}
 use Rattle.std.specs.Bool.{◌==◌}
 use Rattle.std.specs.List.{list_all}
 use Rattle.std.specs.Cmp.Lexicographic.{same_text}
@@ -14,7 +14,9 @@ use Rattle.lb_syntax.specs.declared.tree.Kind.TheVariants.{Int as Int_kind, Bool
 use Rattle.std.proofs.lemmas.List.{drop_more, length-reverse, reverse-append, reverse-reverse}
 use Rattle.lb_syntax.specs.Lists.{all_some}
 use Rattle.lb_static.specs.Shapes.{Shape, is_kind, same_sizes, is_shape, are_shapes, truth}
+use Rattle.lb_static.specs.StaticValues.{natural}
 use Rattle.lb_check.specs.StoredShapes.{shape_in}
+use Rattle.lb_check.specs.TermTypes.{wholes}
 use Rattle.lb_check.specs.declared.shape.Shape as stored
 
 -- ## The same types
@@ -46,6 +48,26 @@ pub same_next : (xs ys : List stored.Shape) (i : ℕ) (d e : stored.Shape) → i
     && are_shapes (map shape_in (drop (i + 1) xs)) (map shape_in (drop (i + 1) ys)))
 same_next xs ys i d e lx ly =
     rw (drop_more xs i d lx) (rw (drop_more ys i e ly) refl)
+
+-- one more of each that is the same
+pub same_more : (xs ys : List stored.Shape) (i : ℕ) (x y : stored.Shape) → length xs ≡ length ys → i < length xs
+    → x ≡ get_or xs i x → y ≡ get_or ys i y → is_shape (shape_in x) (shape_in y) ≡ true
+    → are_shapes (map shape_in (drop i xs)) (map shape_in (drop i ys))
+    ≡ are_shapes (map shape_in (drop (i + 1) xs)) (map shape_in (drop (i + 1) ys))
+same_more xs ys i x y as_many lt ex ey e =
+    let here : is_shape (shape_in (get_or xs i x)) (shape_in (get_or ys i y)) ≡ true =
+    sym (ap (λ (s : stored.Shape). is_shape (shape_in s) (shape_in (get_or ys i y))) ex)
+    ∙ sym (ap (λ (s : stored.Shape). is_shape (shape_in x) (shape_in s)) ey) ∙ e in
+    same_next xs ys i x y lt (omega arith) ∙ rw here refl
+
+pub same_end : (xs ys : List stored.Shape) (i : ℕ) → length xs ≡ length ys → length xs ≤ i
+    → are_shapes (map shape_in (drop i xs)) (map shape_in (drop i ys)) ≡ true
+same_end [] [] zero e le = refl
+same_end [] [] (suc i) e le = refl
+same_end [] (y ∷ ys) i e le = absurd (omega arith)
+same_end (x ∷ xs) [] i e le = absurd (omega arith)
+same_end (x ∷ xs) (y ∷ ys) zero e le = absurd (omega arith)
+same_end (x ∷ xs) (y ∷ ys) (suc i) e le = same_end xs ys i (omega arith) (omega arith)
 
 pub are_next : (f : Shape → Bool) (xs : List stored.Shape) (i : ℕ) (d : stored.Shape) → i < length xs
     → list_all f (map shape_in (drop i xs)) ≡ (f (shape_in (get_or xs i d)) && list_all f (map shape_in (drop (i + 1) xs)))
@@ -113,6 +135,24 @@ gathers_more whole f all done i d x g lt is =
         ≡ option_map (λ ts. map shape_in (done ++ x ∷ []) ++ ts) o
     by None = refl
     by (Some ts) = ap Some (sym (map_snoc done x ts))
+
+-- ## Lengths, gathered one by one
+
+append_one : (done : List ℕ) (n : ℕ) (ns : List ℕ) → (done ++ n ∷ []) ++ ns ≡ done ++ (n ∷ ns)
+append_one [] n ns = refl
+append_one (d ∷ done) n ns = ap (λ (l : List ℕ). d ∷ l) (append_one done n ns)
+
+pub lengths_more : (whole : Option (List ℕ)) (all : List ℤ) (done : List ℕ) (i : ℕ) (d : ℤ) (n : ℕ)
+    → whole ≡ option_map (λ ns. done ++ ns) (wholes (drop i all)) → i < length all → Some n ≡ natural (get_or all i d)
+    → whole ≡ option_map (λ ns. (done ++ n ∷ []) ++ ns) (wholes (drop (i + 1) all))
+lengths_more whole all done i d n g lt is =
+    g ∙ ap (λ l. option_map (λ ns. done ++ ns) (wholes l)) (drop_more all i d lt)
+    ∙ ap (λ o. option_map (λ ns. done ++ ns) (all_some (o ∷ map natural (drop (i + 1) all)))) (sym is)
+    ∙ by (wholes (drop (i + 1) all))
+  where
+    by : (o : Option (List ℕ)) → option_map (λ ns. done ++ ns) (option_map (λ ns. n ∷ ns) o) ≡ option_map (λ ns. (done ++ n ∷ []) ++ ns) o
+    by None = refl
+    by (Some ns) = ap Some (sym (append_one done n ns))
 
 -- ## Lengths, the outermost last
 

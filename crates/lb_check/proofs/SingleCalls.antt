@@ -22,7 +22,7 @@ use Rattle.lb_static.specs.ResolvedTerms.{is_call, is_static, is_variable, is_wi
 use Rattle.lb_static.specs.Shapes.{Shape, truth, is_shape, are_shapes}
 use Rattle.lb_check.specs.JudgedPrograms.{IsJudged}
 use Rattle.lb_check.specs.Standings.{is_single, are_single, calls_single, is_single_within, is_step_single}
-use Rattle.lb_check.specs.TermTypes.{Context, Signature, context_of, declared_type, declared_types, signature_of, callee_signature, signature_at, are_typed, is_specialization_typed, is_variable_typed, is_step_typed, is_node_typed, are_equal, results, type_of, types_in, when_truth}
+use Rattle.lb_check.specs.TermTypes.{Context, Signature, context_of, declared_type, declared_types, signature_of, callee_at, callee_signature, signature_at, are_typed, is_specialization_typed, is_variable_typed, is_step_typed, is_node_typed, are_equal, results, type_of, types_in, when_truth}
 use Rattle.lb_check.specs.Types.{only, singly}
 use Rattle.lb_check.proofs.FittedCalls.{standing}
 use Rattle.lb_check.proofs.MirroredTypes.{results_only}
@@ -143,18 +143,18 @@ module _ (P : Program) (r : Reached) (t : Table) (j : IsJudged P r t) (i : ℕ) 
   -- what a call with one type calls has one output
   call_single : (c : CallId) → is_call (counts_of n) c ≡ true → (g : Signature) → signature_at r t s c ≡ Some g → length g.1 ≡ 1 → calls_single r n c ≡ true
   call_single c w g typed one =
-      let id = bound (slice_get s.callees.items c.0) (λ id. slice_get t.specializations.items id.0 >>= callee_signature r) g typed in
-      let callee = bound (slice_get t.specializations.items id.0.0) (callee_signature r) g id.2 in
-      let m = bound (slice_get r.nodes.items callee.0.node.0) (signature_of callee.0.statics.items) g callee.2 in
-      let resolved = node_resolved P r j.names j.reached callee.0.node.0 m.0 m.1 in
-      let outs : m.0.outputs ≡ 1 = sym (signature_outputs callee.0.statics.items (source_names P) m.0 g resolved m.2) ∙ one in
+      let called = bound (callee_at t s c) (callee_signature r) g typed in
+      let id = bound (slice_get s.callees.items c.0) (λ id. slice_get t.specializations.items id.0) called.0 called.1 in
+      let m = bound (slice_get r.nodes.items called.0.node.0) (signature_of called.0.statics.items) g called.2 in
+      let resolved = node_resolved P r j.names j.reached called.0.node.0 m.0 m.1 in
+      let outs : m.0.outputs ≡ 1 = sym (signature_outputs called.0.statics.items (source_names P) m.0 g resolved m.2) ∙ one in
       let here = instance_of Root (node_of n) s.values.items in
       let here_is = standing P r t j.reached j.table s n Root at in
       let site = site_found P r j.names j.reached s.node.0 n at c w in
-      let there = standing P r t j.reached j.table callee.0 m.0 (Child Root c.0 0) m.1 in
-      let same = (j.table.specialized i s is).0.callees here here_is c.0 site.0 site.1 id.0 id.1 callee.0 callee.1 in
+      let there = standing P r t j.reached j.table called.0 m.0 (Child Root c.0 0) m.1 in
+      let same = (j.table.specialized i s is).0.callees here here_is c.0 site.0 site.1 id.0 id.1 called.0 id.2 in
       let named : node_named P site.0.callee ≡ Some (node_of m.0) =
-      callee_node P here site.0 c.0 (instance_of (Child Root c.0 0) (node_of m.0) callee.0.values.items) (same ∙ there) in
+      callee_node P here site.0 c.0 (instance_of (Child Root c.0 0) (node_of m.0) called.0.values.items) (same ∙ there) in
       let found = callee_found P r j.names j.reached s.node.0 n at c w in
       let both : Some (node_of found.0) ≡ Some (node_of m.0) = sym found.2 ∙ ap (λ (x : Site). node_named P x.callee) site.2 ∙ named in
       let node : node_of found.0 ≡ node_of m.0 = cc in

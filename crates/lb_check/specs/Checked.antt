@@ -1,6 +1,6 @@
 -- What a check of a program promises to the layer above.
 -- This file says what data of the program mean; no definition of the language stands on it.
-use Rattle.std.specs.Prelude.{◌≡◌, Some, None, Result, Ok, Err, string_bytes}
+use Rattle.std.specs.Prelude.{◌≡◌, Option, Some, None, Result, Ok, Err, string_bytes}
 use Rattle.lb_syntax.specs.Refusals.{E9, E10, E11}
 use Rattle.lb_static.specs.Instances.{Program}
 use Rattle.lb_check.specs.declared.checked.Checked.{Checked}
@@ -25,3 +25,8 @@ IsAnswer P (Err (error.Clock node)) =
 IsAnswer P (Err (error.Definition node)) =
     (check_refusal P ≡ Some E11)
     × IsBrokenIn (λ here. is_defined P here.node) P (string_bytes node)
+
+-- what is found is the first of these rules that the program breaks, and none where it keeps them
+abbrev pub IsRefusal : Program → Option CheckError → Type 0
+IsRefusal P None = check_refusal P ≡ None
+IsRefusal P (Some e) = IsAnswer P (Err e)

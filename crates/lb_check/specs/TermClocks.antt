@@ -164,6 +164,12 @@ row_standing ctx (IterateNode' it c shape all) os =
     if holds is_unclocked (ctx.callee c) then together os else Nowhere
 row_standing ctx t os = together os
 
+-- where a term with one operand may stand
+abbrev pub one_standing : Context → Term → Standing → Standing
+one_standing ctx (Current' p e) s = raised ctx s
+one_standing ctx (When' p e x sign) s = sampled ctx x sign s
+one_standing ctx t s = s
+
 unfoldable mutual
   -- where a term may stand
   pub standing_of : Context → Term → Standing
@@ -250,6 +256,11 @@ is_call_clocked ctx n os lefts =
     && (are_given n os
     && (all_fit base given (input_clocks n) (standings os)
     && all_fit base given (output_clocks n) (left_standings ctx lefts)))
+
+-- an equation whose right side is a call keeps the rules of clocks
+abbrev pub is_called_clocked : Context → List VariableId → CallId → List Term → Bool
+is_called_clocked ctx lefts c es =
+    holds (λ n. is_call_clocked ctx n (operands_of ctx es) lefts) (ctx.callee c)
 
 -- an equation with this right side keeps the rules of clocks
 unfoldable pub is_equation_clocked : Context → List VariableId → Term → Bool

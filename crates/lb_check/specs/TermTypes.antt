@@ -2,6 +2,7 @@
 -- This file mirrors code (src/types.rt); no definition of the language stands on it.
 use Rattle.std.specs.Prelude.{ℕ, ℤ, Bool, true, ◌&&◌, Option, Some, None, option_map, List, [], ◌∷◌, map, take, drop, reverse, slice_get, if◌then◌else◌}
 use Rattle.std.specs.List.{list_all}
+use Rattle.lb_syntax.specs.declared.tree.ArrayIterator.{ArrayIterator}
 use Rattle.lb_syntax.specs.declared.tree.BinaryOperator.{BinaryOperator}
 use Rattle.lb_syntax.specs.Lists.{◌>>=◌, where_true, all_some, either_or, holds}
 use Rattle.lb_static.specs.declared.reach.Reached.{Reached}
@@ -67,10 +68,12 @@ signature_of statics n =
 abbrev pub callee_signature : Reached → Specialization → Option Signature
 callee_signature r s = slice_get r.nodes.items s.node.0 >>= signature_of s.statics.items
 
+-- the specialization that a call calls
+abbrev pub callee_at : Table → Specialization → CallId → Option Specialization
+callee_at t s c = slice_get s.callees.items c.0 >>= λ id. slice_get t.specializations.items id.0
+
 abbrev pub signature_at : Reached → Table → Specialization → CallId → Option Signature
-signature_at r t s c =
-    slice_get s.callees.items c.0 >>= λ id.
-    slice_get t.specializations.items id.0 >>= callee_signature r
+signature_at r t s c = callee_at t s c >>= callee_signature r
 
 abbrev pub repeats_of : List ℤ → CallSite → Option ℕ
 repeats_of statics site = either_or (option_map (count_at statics) site.count) (Some 0)
@@ -100,18 +103,46 @@ when_truth c o = c >>= λ c. where_true (is_shape truth c) c >>= λ _. o
 abbrev pub when_both : Option Shape → Option Shape → (Shape → Shape → Option Shape) → Option Shape
 when_both o p f = o >>= λ t. p >>= f t
 
+-- the types of the results of a row of operands of these types
+abbrev pub truth_results : List Shape → Option (List Shape)
+truth_results ts = where_true (list_all (is_shape truth) ts) (truth ∷ [])
+
+abbrev pub call_results : Context → CallId → List Shape → Option (List Shape)
+call_results ctx c ts = ctx.call c >>= λ o. where_true (are_shapes o.0 ts) o.1
+
+abbrev pub node_results : Context → ArrayIterator → CallId → List Shape → Option (List Shape)
+node_results ctx it c ts =
+    ctx.repeats c >>= λ n. ctx.call c >>= λ o. iterator_shapes it n o.0 o.1 ts
+
+abbrev pub symbol_results :
+    ArrayIterator → BinaryOperator → Option ℕ → List Shape → Option (List Shape)
+symbol_results it op count ts =
+    count >>= λ n. iterator_shapes it n (symbol_signature op).0 (symbol_signature op).1 ts
+
 -- the types of the results of a term with a row of operands of these types
 abbrev pub row_results : Context → Term → List Shape → Option (List Shape)
 row_results ctx (Array' shape all) ts = singly (list_shape ts)
-row_results ctx (AtMostOne' shape all) ts = where_true (list_all (is_shape truth) ts) (truth ∷ [])
-row_results ctx (Nor' shape all) ts = where_true (list_all (is_shape truth) ts) (truth ∷ [])
-row_results ctx (Call' c shape all) ts =
-    ctx.call c >>= λ o. where_true (are_shapes o.0 ts) o.1
-row_results ctx (IterateNode' it c shape all) ts =
-    ctx.repeats c >>= λ n. ctx.call c >>= λ o. iterator_shapes it n o.0 o.1 ts
-row_results ctx (IterateSymbol' it op n shape all) ts =
-    ctx.count n >>= λ n. iterator_shapes it n (symbol_signature op).0 (symbol_signature op).1 ts
+row_results ctx (AtMostOne' shape all) ts = truth_results ts
+row_results ctx (Nor' shape all) ts = truth_results ts
+row_results ctx (Call' c shape all) ts = call_results ctx c ts
+row_results ctx (IterateNode' it c shape all) ts = node_results ctx it c ts
+row_results ctx (IterateSymbol' it op n shape all) ts = symbol_results it op (ctx.count n) ts
 row_results ctx t ts = None
+
+-- the type of a term with one operand of this type
+abbrev pub one_type : Context → Term → Shape → Option Shape
+one_type ctx (Unary' op p a) t = unary_shape op t
+one_type ctx (When' p e x sign) t = when_truth (ctx.variable x) (Some t)
+one_type ctx (Copies' p e n) t = ctx.count n >>= λ n. array_of n t
+one_type ctx (Index' p e i) t = ctx.count i >>= λ i. index_shape i t
+one_type ctx (Slice' p e i j) t = ctx.count i >>= λ i. ctx.count j >>= λ j. slice_shape i j t
+one_type ctx e t = Some t
+
+-- that of a term with two operands of these types
+abbrev pub two_types : Term → Option Shape → Option Shape → Option Shape
+two_types (Binary' op p a q b) l r = when_both l r (binary_shape op)
+two_types (Join' p a q b) l r = when_both l r join_shape
+two_types e l r = when_both l r same_shape
 
 unfoldable mutual
   -- the one type of a term
@@ -178,9 +209,15 @@ left_types ctx xs = all_some (map ctx.variable xs)
 abbrev pub are_equal : Option (List Shape) → Option (List Shape) → Bool
 are_equal o p = holds (λ ss. holds (are_shapes ss) p) o
 
+abbrev pub is_equation_typed : Context → List VariableId → Term → Bool
+is_equation_typed ctx lefts e = are_equal (results ctx e) (left_types ctx lefts)
+
+abbrev pub is_one_truth : Context → Term → Bool
+is_one_truth ctx e = are_equal (results ctx e) (Some (truth ∷ []))
+
 abbrev pub is_step_typed : Context → Step → Bool
-is_step_typed ctx (step.Equation lefts e) = are_equal (results ctx e) (left_types ctx lefts.items)
-is_step_typed ctx (step.Assertion e) = are_equal (results ctx e) (Some (truth ∷ []))
+is_step_typed ctx (step.Equation lefts e) = is_equation_typed ctx lefts.items e
+is_step_typed ctx (step.Assertion e) = is_one_truth ctx e
 
 -- the variable of a declared clock is a truth
 abbrev pub is_clock_typed : Context → Option Sampling → Bool

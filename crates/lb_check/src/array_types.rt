@@ -1,6 +1,7 @@
 //! The types of arrays, and of calls over arrays.
 
 ghost use Rattle.std.specs.Prelude.{◌≡◌, ◌++◌, map, option_map, IfOk};
+ghost use Rattle.lb_syntax.specs.Lists as lists;
 ghost use Rattle.lb_syntax.specs.Lists.{all_some};
 ghost use Rattle.lb_check.specs.StoredShapes.{shape_in, shapes_in};
 ghost use Rattle.lb_check.specs.Types as types;
@@ -67,6 +68,41 @@ pub fn join_shape(left: Shape, right: Shape) -> Result<Option<Shape>, AllocError
         return Ok(None);
     }
     array_of(m + n, second)
+}
+
+/// The type of an array of so many of these, if it is known how many.
+pub fn copies_shape(length: Option<u64>, element: Shape) -> Result<Option<Shape>, AllocError>
+    ensures { IfOk result (λ o.
+        option_map shape_in o ≡ lists.◌>>=◌ length (λ n. types.array_of n (shape_in element))) }
+{
+    match length {
+        Some(length) => array_of(length, element),
+        None => Ok(None),
+    }
+}
+
+/// The type of an element at this index, if that is known.
+pub fn element_shape(index: Option<u64>, array: Shape) -> Option<Shape>
+    ensures { option_map shape_in result
+        ≡ lists.◌>>=◌ index (λ i. types.index_shape i (shape_in array)) }
+{
+    index_shape(index?, array)
+}
+
+/// The type of a slice with these ends, if they are known.
+pub fn part_shape(
+    start: Option<u64>,
+    end: Option<u64>,
+    array: Shape,
+) -> Result<Option<Shape>, AllocError>
+    ensures { IfOk result (λ o. option_map shape_in o
+        ≡ lists.◌>>=◌ start (λ i. lists.◌>>=◌ end (λ j.
+        types.slice_shape i j (shape_in array)))) }
+{
+    match (start, end) {
+        (Some(start), Some(end)) => slice_shape(start, end, array),
+        _ => Ok(None),
+    }
 }
 
 /// These types, and then arrays of so many of each of those.
@@ -197,64 +233,5 @@ pub fn iterator_shapes(
         ArrayIterator::Map => map_shapes(alloc, length, inputs, outputs, given),
         ArrayIterator::Red => red_shapes(alloc, length, inputs, outputs, given),
         ArrayIterator::Fill => fill_shapes(alloc, length, inputs, outputs, given),
-    }
-}
-
-#[cfg(test)]
-mod tests {
-    use super::{array_of, index_shape, iterator_shapes, join_shape, list_shape, slice_shape};
-    use crate::shape::{Shape, Signature};
-    use lb_syntax::tree::{ArrayIterator, Kind};
-    use std::alloc::{AllocError, Global};
-
-    /// An array of `int` with these lengths, the outermost last.
-    fn ints(alloc: Global, lengths: &[u64]) -> Result<Shape, AllocError> {
-        let mut shape = Shape::scalar(alloc, Kind::Int);
-        for length in lengths {
-            shape.lengths.push(*length)?;
-        }
-        Ok(shape)
-    }
-
-    /// Whether there is a type, and it is an array of `int` with these lengths.
-    fn is_ints(alloc: Global, shape: Option<Shape>, lengths: &[u64]) -> Result<bool, AllocError> {
-        match shape {
-            Some(shape) => Ok(shape.is(&ints(alloc, lengths)?)),
-            None => Ok(false),
-        }
-    }
-
-    #[test]
-    fn arrays(rt: HostRuntime) -> Result<(), AllocError> {
-        let alloc = rt.alloc();
-        assert!(rt; is_ints(alloc, array_of(3, ints(alloc, &[2])?)?, &[2, 3])?);
-        assert!(rt; array_of(4097, ints(alloc, &[])?)?.is_none());
-        assert!(rt; is_ints(alloc, index_shape(2, ints(alloc, &[2, 3])?), &[2])?);
-        assert!(rt; index_shape(3, ints(alloc, &[2, 3])?).is_none());
-        assert!(rt; is_ints(alloc, slice_shape(1, 2, ints(alloc, &[3])?)?, &[2])?);
-        assert!(rt; slice_shape(1, 3, ints(alloc, &[3])?)?.is_none());
-        let joined = join_shape(ints(alloc, &[2, 3])?, ints(alloc, &[2, 4])?)?;
-        assert!(rt; is_ints(alloc, joined, &[2, 7])?);
-        let listed = list_shape(&[ints(alloc, &[5])?, ints(alloc, &[5])?])?;
-        assert!(rt; is_ints(alloc, listed, &[5, 2])?);
-        Ok(())
-    }
-
-    #[test]
-    fn iterators(rt: HostRuntime) -> Result<(), AllocError> {
-        let alloc = rt.alloc();
-        let mut callee = Signature {
-            inputs: Vec::new(alloc),
-            outputs: Vec::new(alloc),
-        };
-        callee.inputs.push(ints(alloc, &[])?)?;
-        callee.outputs.push(ints(alloc, &[])?)?;
-        let given = [ints(alloc, &[4])?];
-        let mut mapped = iterator_shapes(alloc, ArrayIterator::Map, 4, &callee, &given)?;
-        let last = mapped.as_mut().and_then(|types| types.pop());
-        assert!(rt; is_ints(alloc, last, &[4])?);
-        assert!(rt; iterator_shapes(alloc, ArrayIterator::Map, 5, &callee, &given)?.is_none());
-        assert!(rt; iterator_shapes(alloc, ArrayIterator::Fill, 4, &callee, &given)?.is_none());
-        Ok(())
     }
 }

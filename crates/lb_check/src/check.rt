@@ -5,7 +5,8 @@ ghost use Rattle.lb_syntax.specs.Lists.{listed};
 ghost use Rattle.lb_static.specs.Elaborated.{IsElaborated};
 ghost use Rattle.lb_static.specs.Instances.{Program};
 ghost use Rattle.lb_static.specs.ReachedNodes.{tree_at};
-ghost use Rattle.lb_check.specs.Checked.{IsAnswer};
+ghost use Rattle.lb_check.specs.Checked.{IsAnswer, IsRefusal};
+ghost use Rattle.lb_check.specs.JudgedPrograms.{IsJudged};
 
 use crate::checked::Checked;
 use crate::error::CheckError;
@@ -14,6 +15,7 @@ use crate::judge_definitions::undefined_node;
 use crate::judge_types::untyped_node;
 use lb_static::elab::Elab;
 use lb_static::reach::{NodeId, Reached};
+use lb_static::table::Table;
 use std::alloc::{AllocError, Global};
 
 /// The name of a node again, or an empty one where there is no such node.
@@ -27,6 +29,27 @@ fn name_of(alloc: Global, reached: &Reached, id: NodeId) -> Result<String, Alloc
     }
 }
 
+/// The first of the rules of types (E9), clocks (E10) and definitions (E11) that a program breaks,
+/// each over all instances, with the name of a node that breaks it, if there is one.
+fn broken_rule(
+    alloc: Global,
+    reached: &Reached,
+    table: &Table,
+) -> Result<Option<CheckError>, AllocError>
+    ensures { (P : Program) → IsJudged P reached.now table.now → IfOk result (IsRefusal P) }
+{
+    if let Some(id) = untyped_node(alloc, reached, table)? {
+        return Ok(Some(CheckError::Type(name_of(alloc, reached, id)?)));
+    }
+    if let Some(id) = unclocked_node(alloc, reached, table)? {
+        return Ok(Some(CheckError::Clock(name_of(alloc, reached, id)?)));
+    }
+    if let Some(id) = undefined_node(alloc, reached, table)? {
+        return Ok(Some(CheckError::Definition(name_of(alloc, reached, id)?)));
+    }
+    Ok(None)
+}
+
 /// Checks an elaborated program: the first of the rules of types (E9), clocks (E10) and definitions
 /// (E11) that it breaks, each over all instances, with the name of a node that breaks it, or the
 /// program again.
@@ -34,17 +57,8 @@ pub fn check<'s>(alloc: Global, elab: Elab<'s>) -> Result<Checked<'s>, CheckErro
     ensures answer { (P : Program) → IsElaborated P elab.entry → IsAnswer P result }
     ensures same { IfOk result (λ c. c.elab ≡ elab.entry) }
 {
-    if let Some(id) = untyped_node(alloc, &elab.reached, &elab.table)? {
-        return Err(CheckError::Type(name_of(alloc, &elab.reached, id)?));
+    match broken_rule(alloc, &elab.reached, &elab.table)? {
+        Some(error) => Err(error),
+        None => Ok(Checked { elab }),
     }
-    if let Some(id) = unclocked_node(alloc, &elab.reached, &elab.table)? {
-        return Err(CheckError::Clock(name_of(alloc, &elab.reached, id)?));
-    }
-    if let Some(id) = undefined_node(alloc, &elab.reached, &elab.table)? {
-        return Err(CheckError::Definition(name_of(alloc, &elab.reached, id)?));
-    }
-    Ok(Checked { elab })
 }
-
-#[cfg(test)]
-mod tests;

@@ -20,7 +20,7 @@ use crate::standing::Standing;
 use crate::term_clock::{ClockScope, operands_of, standing_of};
 use crate::used_nodes::used_nodes;
 use lb_static::reach::{NodeId, Reached};
-use lb_static::resolved::{Step, Term, VariableId};
+use lb_static::resolved::{CallId, Step, Term, VariableId};
 use lb_static::table::Table;
 use std::alloc::{AllocError, Global};
 
@@ -55,6 +55,26 @@ fn is_one_clocked(scope: &ClockScope, lefts: &[VariableId], standing: Standing) 
     standing.may_stand(Some(clock)) && are_on(scope, clock, lefts)
 }
 
+/// Whether an equation whose right side is this call keeps the rules of clocks.
+fn is_called_clocked(
+    alloc: Global,
+    scope: &ClockScope,
+    lefts: &[VariableId],
+    call: CallId,
+    terms: &[Term],
+) -> Result<bool, AllocError>
+    ensures { IfOk result (λ kept.
+        kept ≡ mirror.is_called_clocked (context_in scope.now) lefts.now call terms.now) }
+{
+    match scope.callee(call) {
+        Some(callee) => {
+            let operands = operands_of(alloc, scope, terms)?;
+            is_call_clocked(alloc, scope, callee, &operands, lefts)
+        }
+        None => Ok(false),
+    }
+}
+
 /// Whether an equation with this right side keeps the rules of clocks.
 #[tactic(auto, unfolding(crate::specs::TermClocks::is_equation_clocked))]
 fn is_equation_clocked(
@@ -68,13 +88,7 @@ fn is_equation_clocked(
 {
     match right {
         Term::Group(e) => is_equation_clocked(alloc, scope, lefts, e),
-        Term::Call(call, terms) => {
-            let Some(callee) = scope.callee(*call) else {
-                return Ok(false);
-            };
-            let operands = operands_of(alloc, scope, terms)?;
-            is_call_clocked(alloc, scope, callee, &operands, lefts)
-        }
+        Term::Call(call, terms) => is_called_clocked(alloc, scope, lefts, *call, terms),
         _ => Ok(is_one_clocked(scope, lefts, standing_of(alloc, scope, right)?)),
     }
 }
@@ -157,8 +171,3 @@ pub fn unclocked_node(
     let ids = used_nodes(alloc, reached.nodes.len(), &table.specializations)?;
     first_unclocked(alloc, reached, &ids)
 }
-
-#[cfg(test)]
-mod statement_tests;
-#[cfg(test)]
-mod tests;

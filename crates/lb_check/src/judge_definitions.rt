@@ -198,6 +198,3 @@ pub fn undefined_node(
     let ids = used_nodes(alloc, reached.nodes.len(), &table.specializations)?;
     first_undefined(alloc, reached, &ids)
 }
-
-#[cfg(test)]
-mod tests;

@@ -14,7 +14,7 @@ use crate::shape::{Shape, are_same};
 use crate::type_scope::Scope;
 use crate::types::results;
 use lb_static::reach::{NodeId, Reached};
-use lb_static::resolved::{Step, Variable, VariableId};
+use lb_static::resolved::{Step, Term, Variable, VariableId};
 use lb_static::table::{Specialization, Table};
 use std::alloc::{AllocError, Global};
 
@@ -47,23 +47,43 @@ fn is_assertion_typed(types: &[Shape]) -> bool
     }
 }
 
+/// Whether the left variables of an equation have the types of the results of its right side.
+fn is_equation_typed(
+    alloc: Global,
+    scope: &Scope,
+    lefts: &[VariableId],
+    right: &Term,
+) -> Result<bool, AllocError>
+    ensures { IfOk result (λ kept. kept
+        ≡ mirror.is_equation_typed (context_in scope.now) lefts.now right.now) }
+{
+    let Some(rights) = results(alloc, scope, right)? else {
+        return Ok(false);
+    };
+    match left_types(alloc, scope, lefts)? {
+        Some(lefts) => Ok(are_same(&rights, &lefts)),
+        None => Ok(false),
+    }
+}
+
+/// Whether a term is one truth.
+fn is_one_truth(alloc: Global, scope: &Scope, term: &Term) -> Result<bool, AllocError>
+    ensures { IfOk result (λ kept. kept ≡ mirror.is_one_truth (context_in scope.now) term.now) }
+{
+    match results(alloc, scope, term)? {
+        Some(types) => Ok(is_assertion_typed(&types)),
+        None => Ok(false),
+    }
+}
+
 /// Whether a statement keeps the rules of types: the left variables have the types of the results,
 /// and an assertion is a truth.
 fn is_step_typed(alloc: Global, scope: &Scope, step: &Step) -> Result<bool, AllocError>
     ensures { IfOk result (λ kept. kept ≡ mirror.is_step_typed (context_in scope.now) step.now) }
 {
     match step {
-        Step::Equation(lefts, right) => {
-            let rights = results(alloc, scope, right)?;
-            match (rights, left_types(alloc, scope, lefts)?) {
-                (Some(rights), Some(lefts)) => Ok(are_same(&rights, &lefts)),
-                _ => Ok(false),
-            }
-        }
-        Step::Assertion(term) => match results(alloc, scope, term)? {
-            Some(types) => Ok(is_assertion_typed(&types)),
-            None => Ok(false),
-        },
+        Step::Equation(lefts, right) => is_equation_typed(alloc, scope, lefts, right),
+        Step::Assertion(term) => is_one_truth(alloc, scope, term),
     }
 }
 

@@ -19,5 +19,3 @@ mod type_scope;
 mod types;
 mod used_nodes;
 pub mod verdict;
-#[cfg(test)]
-mod worked;

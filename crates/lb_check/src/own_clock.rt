@@ -14,7 +14,7 @@ use lb_static::resolved::{ResolvedNode, Sampling, VariableId};
 
 /// A clock of a node. The clock above `On(x, _)` is always the declared clock of `x`, so that two
 /// clocks are the same if their variables and signs are.
-#[derive(Clone, Copy, Debug)]
+#[derive(Clone, Copy)]
 pub enum Clock {
     /// The base clock of the node.
     Base,
@@ -70,22 +70,5 @@ pub fn is_same(left: Clock, right: Clock) -> bool
         (Clock::Base, Clock::Base) => true,
         (Clock::On(x, sign), Clock::On(y, other)) => x.0 == y.0 && sign == other,
         _ => false,
-    }
-}
-
-#[cfg(test)]
-mod tests {
-    use super::*;
-
-    #[test]
-    fn clocks_by_variable_and_sign(rt: HostRuntime) {
-        let rises = Clock::On(VariableId(3), true);
-        let falls = Clock::On(VariableId(3), false);
-        let other = Clock::On(VariableId(4), true);
-        assert!(rt; is_same(Clock::Base, Clock::Base));
-        assert!(rt; is_same(rises, rises));
-        assert!(rt; !is_same(rises, falls));
-        assert!(rt; !is_same(rises, other));
-        assert!(rt; !is_same(rises, Clock::Base));
     }
 }

@@ -7,7 +7,7 @@ use crate::own_clock::{Clock, is_same};
 use lb_static::resolved::VariableId;
 
 /// On which clocks a term may stand.
-#[derive(Clone, Copy, Debug)]
+#[derive(Clone, Copy)]
 pub enum Standing {
     /// On none: a rule of clocks is broken in it.
     Nowhere,
@@ -18,7 +18,7 @@ pub enum Standing {
 }
 
 /// An operand in a row: where it may stand, and the variable that it is, in parentheses or not.
-#[derive(Clone, Copy, Debug)]
+#[derive(Clone, Copy)]
 pub struct Operand {
     pub standing: Standing,
     pub variable: Option<VariableId>,
@@ -67,88 +67,4 @@ pub fn together(operands: &[Operand]) -> Standing
         standing = standing.both(operand.standing);
     }
     standing
-}
-
-#[cfg(test)]
-mod tests {
-    use super::*;
-
-    const BASE: Standing = Standing::Only(Clock::Base);
-
-    const RISES: Standing = Standing::Only(Clock::On(VariableId(3), true));
-
-    const FALLS: Standing = Standing::Only(Clock::On(VariableId(3), false));
-
-    #[test]
-    fn where_two_stand(rt: HostRuntime) {
-        assert!(rt;
-            matches!(
-                RISES.both(RISES),
-                Standing::Only(Clock::On(VariableId(3), true))
-            )
-        );
-        assert!(rt; matches!(RISES.both(FALLS), Standing::Nowhere));
-        assert!(rt; matches!(RISES.both(BASE), Standing::Nowhere));
-        assert!(rt; matches!(Standing::Anywhere.both(BASE), Standing::Only(Clock::Base)));
-        assert!(rt; matches!(BASE.both(Standing::Anywhere), Standing::Only(Clock::Base)));
-        assert!(rt;
-            matches!(
-                Standing::Anywhere.both(Standing::Nowhere),
-                Standing::Nowhere
-            )
-        );
-        assert!(rt;
-            matches!(
-                Standing::Nowhere.both(Standing::Anywhere),
-                Standing::Nowhere
-            )
-        );
-        assert!(rt;
-            matches!(
-                Standing::Anywhere.both(Standing::Anywhere),
-                Standing::Anywhere
-            )
-        );
-    }
-
-    /// An operand that is no variable.
-    fn standing(standing: Standing) -> Operand {
-        Operand {
-            standing,
-            variable: None,
-        }
-    }
-
-    #[test]
-    fn where_a_row_stands(rt: HostRuntime) {
-        let row = [
-            standing(Standing::Anywhere),
-            standing(RISES),
-            standing(RISES),
-        ];
-        assert!(rt;
-            matches!(
-                together(&row),
-                Standing::Only(Clock::On(VariableId(3), true))
-            )
-        );
-        assert!(rt; matches!(together(&row[..1]), Standing::Anywhere));
-        assert!(rt; matches!(together(&[]), Standing::Anywhere));
-        let mixed = [
-            standing(RISES),
-            standing(Standing::Anywhere),
-            standing(FALLS),
-        ];
-        assert!(rt; matches!(together(&mixed), Standing::Nowhere));
-    }
-
-    #[test]
-    fn where_one_may_stand(rt: HostRuntime) {
-        let rises = Some(Clock::On(VariableId(3), true));
-        assert!(rt; RISES.may_stand(rises));
-        assert!(rt; !FALLS.may_stand(rises));
-        assert!(rt; !RISES.may_stand(None));
-        assert!(rt; Standing::Anywhere.may_stand(None));
-        assert!(rt; !Standing::Nowhere.may_stand(rises));
-    }
 }

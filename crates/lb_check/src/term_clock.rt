@@ -81,17 +81,32 @@ fn row_standing(scope: &ClockScope, term: &Term, operands: &[Operand]) -> Standi
     }
 }
 
+/// Where a term may stand whose one operand stands there.
+fn one_standing(scope: &ClockScope, term: &Term, operand: Standing) -> Standing
+    ensures { result ≡ mirror.one_standing (context_in scope.now) term.now operand }
+{
+    match term {
+        Term::Current(_) => scope.raised(operand),
+        Term::When(_, x, sign) => scope.sampled(*x, *sign, operand),
+        _ => operand,
+    }
+}
+
 /// On which clocks a term may stand, such that it and its parts keep the rules of clocks there.
-#[tactic(auto, unfolding(crate::specs::TermClocks::standing_of))]
 pub fn standing_of(alloc: Global, scope: &ClockScope, term: &Term) -> Result<Standing, AllocError>
     ensures { IfOk result (λ s. s ≡ mirror.standing_of (context_in scope.now) term.now) }
 {
     match term {
         Term::Literal(_) | Term::Truth(_) | Term::Value(_) => Ok(Standing::Anywhere),
         Term::Variable(x) => Ok(Standing::Only(scope.variable(*x))),
-        Term::Group(e) | Term::Unary(_, e) | Term::Pre(e) => standing_of(alloc, scope, e),
-        Term::Copies(e, _) | Term::Index(e, _) => standing_of(alloc, scope, e),
-        Term::Slice(e, _, _) => standing_of(alloc, scope, e),
+        Term::Group(e)
+        | Term::Unary(_, e)
+        | Term::Pre(e)
+        | Term::Current(e)
+        | Term::When(e, _, _)
+        | Term::Copies(e, _)
+        | Term::Index(e, _)
+        | Term::Slice(e, _, _) => Ok(one_standing(scope, term, standing_of(alloc, scope, e)?)),
         Term::Binary(_, a, b) | Term::Arrow(a, b) | Term::Fby(a, b) | Term::Join(a, b) => {
             let left = standing_of(alloc, scope, a)?;
             Ok(left.both(standing_of(alloc, scope, b)?))
@@ -101,8 +116,6 @@ pub fn standing_of(alloc: Global, scope: &ClockScope, term: &Term) -> Result<Sta
             let left = standing_of(alloc, scope, a)?;
             Ok(condition.both(left.both(standing_of(alloc, scope, b)?)))
         }
-        Term::Current(e) => Ok(scope.raised(standing_of(alloc, scope, e)?)),
-        Term::When(e, x, sign) => Ok(scope.sampled(*x, *sign, standing_of(alloc, scope, e)?)),
         Term::Array(terms)
         | Term::AtMostOne(terms)
         | Term::Nor(terms)

@@ -150,6 +150,34 @@ fn signature_of(
     Ok(Some(Signature { inputs, outputs }))
 }
 
+/// The specialization that a call of a specialization calls.
+fn callee_at<'t>(
+    table: &'t Table,
+    specialization: &Specialization,
+    c: CallId,
+) -> Option<&'t Specialization>
+    ensures { option_map (λ s. s.now) result
+        ≡ mirror.callee_at table.now specialization.now c }
+{
+    let id = specialization.callees.get(c.0 as usize)?;
+    table.specializations.get(id.0 as usize)
+}
+
+/// The types of the inputs and of the outputs of a specialization.
+fn callee_signature(
+    alloc: Global,
+    reached: &Reached,
+    callee: &Specialization,
+) -> Result<Option<Signature>, AllocError>
+    ensures { IfOk result (λ o.
+        option_map signature_in o ≡ mirror.callee_signature reached.now callee.now) }
+{
+    match reached.nodes.get(callee.node.0 as usize) {
+        Some(node) => signature_of(alloc, &callee.statics, node),
+        None => Ok(None),
+    }
+}
+
 impl Scope<'_, '_> {
     /// The type of a variable.
     #[tactic(auto, unfolding(crate::specs::TermTypes::context_of))]
@@ -186,15 +214,9 @@ impl Scope<'_, '_> {
         ensures { IfOk result (λ o.
             option_map signature_in o ≡ (context_in self.now).call c) }
     {
-        let Some(id) = self.specialization.callees.get(c.0 as usize) else {
-            return Ok(None);
-        };
-        let Some(callee) = self.table.specializations.get(id.0 as usize) else {
-            return Ok(None);
-        };
-        let Some(node) = self.reached.nodes.get(callee.node.0 as usize) else {
-            return Ok(None);
-        };
-        signature_of(alloc, &callee.statics, node)
+        match callee_at(self.table, self.specialization, c) {
+            Some(callee) => callee_signature(alloc, self.reached, callee),
+            None => Ok(None),
+        }
     }
 }

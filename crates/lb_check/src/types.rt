@@ -3,16 +3,101 @@
 ghost use Rattle.std.specs.Prelude.{◌≡◌, map, option_map, IfOk};
 ghost use Rattle.lb_check.specs.StoredShapes.{shape_in, shapes_in, context_in};
 ghost use Rattle.lb_check.specs.TermTypes as mirror;
+ghost use Rattle.lb_check.specs.Types.{list_shape, singly};
 
-use crate::array_types::{array_of, index_shape, iterator_shapes, list_shape, slice_shape};
+use crate::array_types::{copies_shape, element_shape, iterator_shapes, list_shape, part_shape};
 use crate::operand_types::{
     joined, of_operands, one, only, same_type, symbol_signature, unary_shape, when_truth,
 };
 use crate::shape::{Shape, all_truths, are_same};
 use crate::type_scope::Scope;
-use lb_static::resolved::Term;
-use lb_syntax::tree::Kind;
+use lb_static::resolved::{CallId, Term};
+use lb_syntax::tree::{ArrayIterator, BinaryOperator, Kind};
 use std::alloc::{AllocError, Global};
+
+/// The type of an array of operands of these types, as what a row gives.
+fn list_results(alloc: Global, types: &[Shape]) -> Result<Option<Vec<Shape>>, AllocError>
+    ensures { IfOk result (λ o.
+        option_map shapes_in o ≡ singly (list_shape (map shape_in types.now))) }
+{
+    match list_shape(types)? {
+        Some(shape) => one(alloc, shape),
+        None => Ok(None),
+    }
+}
+
+/// The type of an operator on truths, where its operands are truths.
+fn truth_results(alloc: Global, types: &[Shape]) -> Result<Option<Vec<Shape>>, AllocError>
+    ensures { IfOk result (λ o.
+        option_map shapes_in o ≡ mirror.truth_results (map shape_in types.now)) }
+{
+    if all_truths(types) {
+        one(alloc, Shape::scalar(alloc, Kind::Bool))
+    } else {
+        Ok(None)
+    }
+}
+
+/// The types of the results of a call, where its operands have the types of the inputs.
+fn call_results(
+    alloc: Global,
+    scope: &Scope,
+    call: CallId,
+    types: &[Shape],
+) -> Result<Option<Vec<Shape>>, AllocError>
+    ensures { IfOk result (λ o. option_map shapes_in o
+        ≡ mirror.call_results (context_in scope.now) call (map shape_in types.now)) }
+{
+    match scope.call(alloc, call)? {
+        Some(callee) if are_same(&callee.inputs, types) => Ok(Some(callee.outputs)),
+        _ => Ok(None),
+    }
+}
+
+/// The types of the results of an iterated node.
+fn node_results(
+    alloc: Global,
+    scope: &Scope,
+    iterator: ArrayIterator,
+    call: CallId,
+    types: &[Shape],
+) -> Result<Option<Vec<Shape>>, AllocError>
+    ensures { IfOk result (λ o. option_map shapes_in o
+        ≡ mirror.node_results (context_in scope.now) iterator call (map shape_in types.now)) }
+{
+    let Some(length) = scope.repeats(call) else {
+        return Ok(None);
+    };
+    match scope.call(alloc, call)? {
+        Some(callee) => iterator_shapes(alloc, iterator, length, &callee, types),
+        None => Ok(None),
+    }
+}
+
+/// The types of the results of an iterated data operator.
+fn symbol_results(
+    alloc: Global,
+    iterator: ArrayIterator,
+    op: BinaryOperator,
+    count: Option<u64>,
+    types: &[Shape],
+) -> Result<Option<Vec<Shape>>, AllocError>
+    ensures { IfOk result (λ o. option_map shapes_in o
+        ≡ mirror.symbol_results iterator op count (map shape_in types.now)) }
+{
+    match count {
+        Some(length) => {
+            iterator_shapes(
+                alloc,
+                iterator,
+                length,
+                &symbol_signature(alloc, op)?,
+                types,
+            )
+        }
+        None => Ok(None),
+    }
+}
 
 /// The types of the results of a term whose operands, in a row, have these types.
 fn row_results(
@@ -25,37 +110,59 @@ fn row_results(
         ≡ mirror.row_results (context_in scope.now) term.now (map shape_in types.now)) }
 {
     match term {
-        Term::Array(_) => match list_shape(types)? {
-            Some(shape) => one(alloc, shape),
-            None => Ok(None),
-        },
-        Term::AtMostOne(_) | Term::Nor(_) if all_truths(types) => {
-            one(alloc, Shape::scalar(alloc, Kind::Bool))
-        }
-        Term::Call(call, _) => match scope.call(alloc, *call)? {
-            Some(callee) if are_same(&callee.inputs, types) => Ok(Some(callee.outputs)),
-            _ => Ok(None),
-        },
-        Term::IterateNode(iterator, call, _) => {
-            let (Some(length), Some(callee)) = (scope.repeats(*call), scope.call(alloc, *call)?)
-            else {
-                return Ok(None);
-            };
-            iterator_shapes(alloc, *iterator, length, &callee, types)
-        }
-        Term::IterateSymbol(iterator, op, count, _) => {
-            let Some(length) = scope.count(*count) else {
-                return Ok(None);
-            };
-            let callee = symbol_signature(alloc, *op)?;
-            iterator_shapes(alloc, *iterator, length, &callee, types)
-        }
+        Term::Array(_) => list_results(alloc, types),
+        Term::AtMostOne(_) | Term::Nor(_) => truth_results(alloc, types),
+        Term::Call(call, _) => call_results(alloc, scope, *call, types),
+        Term::IterateNode(iterator, call, _) => node_results(alloc, scope, *iterator, *call, types),
+        Term::IterateSymbol(iterator, op, count, _) => symbol_results(
+            alloc,
+            *iterator,
+            *op,
+            scope.count(*count),
+            types,
+        ),
         _ => Ok(None),
     }
 }
 
+/// The type of a term with one operand of this type.
+fn one_type(
+    alloc: Global,
+    scope: &Scope,
+    term: &Term,
+    operand: Shape,
+) -> Result<Option<Shape>, AllocError>
+    ensures { IfOk result (λ o. option_map shape_in o
+        ≡ mirror.one_type (context_in scope.now) term.now (shape_in operand)) }
+{
+    match term {
+        Term::Unary(op, _) => Ok(unary_shape(alloc, *op, operand)),
+        Term::When(_, x, _) => Ok(when_truth(scope.variable(alloc, *x)?, Some(operand))),
+        Term::Copies(_, n) => copies_shape(scope.count(*n), operand),
+        Term::Index(_, i) => Ok(element_shape(scope.count(*i), operand)),
+        Term::Slice(_, i, j) => part_shape(scope.count(*i), scope.count(*j), operand),
+        _ => Ok(Some(operand)),
+    }
+}
+
+/// The type of a term with two operands of these types.
+fn two_types(
+    alloc: Global,
+    term: &Term,
+    left: Option<Shape>,
+    right: Option<Shape>,
+) -> Result<Option<Shape>, AllocError>
+    ensures { IfOk result (λ o. option_map shape_in o
+        ≡ mirror.two_types term.now (option_map shape_in left) (option_map shape_in right)) }
+{
+    match term {
+        Term::Binary(op, _, _) => Ok(of_operands(alloc, *op, left, right)),
+        Term::Join(_, _) => joined(left, right),
+        _ => Ok(same_type(left, right)),
+    }
+}
+
 /// The one type of a term, or none where a rule of types is broken.
-#[tactic(auto, unfolding(crate::specs::TermTypes::type_of), using(crate::proofs::TypeRows::rows))]
 pub fn type_of(alloc: Global, scope: &Scope, term: &Term) -> Result<Option<Shape>, AllocError>
     ensures { IfOk result (λ o.
         option_map shape_in o ≡ mirror.type_of (context_in scope.now) term.now) }
@@ -64,46 +171,25 @@ pub fn type_of(alloc: Global, scope: &Scope, term: &Term) -> Result<Option<Shape
         Term::Literal(_) | Term::Value(_) => Ok(Some(Shape::scalar(alloc, Kind::Int))),
         Term::Truth(_) => Ok(Some(Shape::scalar(alloc, Kind::Bool))),
         Term::Variable(x) => scope.variable(alloc, *x),
-        Term::Group(e) | Term::Pre(e) | Term::Current(e) => type_of(alloc, scope, e),
-        Term::Unary(op, e) => match type_of(alloc, scope, e)? {
-            Some(operand) => Ok(unary_shape(alloc, *op, operand)),
+        Term::Group(e)
+        | Term::Unary(_, e)
+        | Term::Pre(e)
+        | Term::Current(e)
+        | Term::When(e, _, _)
+        | Term::Copies(e, _)
+        | Term::Index(e, _)
+        | Term::Slice(e, _, _) => match type_of(alloc, scope, e)? {
+            Some(operand) => one_type(alloc, scope, term, operand),
             None => Ok(None),
         },
-        Term::Binary(op, a, b) => {
+        Term::Binary(_, a, b) | Term::Arrow(a, b) | Term::Fby(a, b) | Term::Join(a, b) => {
             let left = type_of(alloc, scope, a)?;
-            Ok(of_operands(alloc, *op, left, type_of(alloc, scope, b)?))
+            two_types(alloc, term, left, type_of(alloc, scope, b)?)
         }
         Term::If(c, a, b) => {
             let condition = type_of(alloc, scope, c)?;
             let left = type_of(alloc, scope, a)?;
             Ok(when_truth(condition, same_type(left, type_of(alloc, scope, b)?)))
-        }
-        Term::Arrow(a, b) | Term::Fby(a, b) => {
-            let left = type_of(alloc, scope, a)?;
-            Ok(same_type(left, type_of(alloc, scope, b)?))
-        }
-        Term::When(e, x, _) => {
-            let condition = scope.variable(alloc, *x)?;
-            Ok(when_truth(condition, type_of(alloc, scope, e)?))
-        }
-        Term::Copies(e, n) => match (scope.count(*n), type_of(alloc, scope, e)?) {
-            (Some(length), Some(element)) => array_of(length, element),
-            _ => Ok(None),
-        },
-        Term::Index(e, i) => match (scope.count(*i), type_of(alloc, scope, e)?) {
-            (Some(index), Some(array)) => Ok(index_shape(index, array)),
-            _ => Ok(None),
-        },
-        Term::Slice(e, i, j) => {
-            let array = type_of(alloc, scope, e)?;
-            match (scope.count(*i), scope.count(*j), array) {
-                (Some(start), Some(end), Some(array)) => slice_shape(start, end, array),
-                _ => Ok(None),
-            }
-        }
-        Term::Join(a, b) => {
-            let left = type_of(alloc, scope, a)?;
-            joined(left, type_of(alloc, scope, b)?)
         }
         Term::Array(operands)
         | Term::AtMostOne(operands)

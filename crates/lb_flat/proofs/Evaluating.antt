@@ -1,7 +1,6 @@
 -- What an instant of the evaluator keeps.
-use Rattle.std.proofs.Common.{◌≡◌, ◌≢◌, ℕ, suc, ◌+◌, ◌<◌, ◌≤◌, List, [], length, map, drop, get_or, All, refl, sym, ap, ap₂, ◌∙◌, subst, add-one}
+use Rattle.std.proofs.Common.{◌≡◌, ◌≢◌, ℕ, suc, ◌+◌, ◌<◌, List, [], length, map, drop, get_or, All, refl, sym, ap, ap₂, ◌∙◌, subst, add-one}
 use Rattle.std.proofs.Math.Seq.{drop-cons}
-use Rattle.std.proofs.Math.ListN.{drop_of_length-le}
 use Rattle.std.proofs.lemmas.List.{length-map}
 use Rattle.lb_check.specs.declared.verdict.Verdict.{Verdict}
 use Rattle.lb_check.specs.declared.verdict.Verdict.TheVariants.{Passed, Fault, Assertion, False}
@@ -44,12 +43,6 @@ later_is (False t) w n = refl
 module _ (f : FlatProgram) (X : Inputs) (ticks : List Tick) (inputs : List InputPlace)
     (memories : List ℕ) (steps : List Equation) (before : List Cell) (t : ℕ)
     (h : IsEvaluating f X ticks inputs memories steps before t) where
-  -- at the end nothing was decided
-  pub ends_passed : length X ≤ t → Passed ≡ flat_verdict f X
-  ends_passed le =
-      let none : drop t X ≡ [] = drop_of_length-le X le in
-      sym (ap (λ Z. rows_judged f t (run f.size h.equations Z)) none) ∙ h.rest
-
   module _ (lt : t < length X) (with_inputs row : List Cell)
       (read : map cell_of with_inputs
       ≡ filled (get_or X t []) (map cell_of before) (map place_equation inputs))

@@ -219,10 +219,6 @@ module _ (IsAt : Element → ℕ → Type 0) (Under : ℕ → ℕ → Type 0) (L
 
   -- ## `pre` and `fby`
 
-  pub unkept : (x : Emitted) → AllMeet (keep x).state.equations → AllMeet x.state.equations
-  unfolding keep
-  unkept x h = h
-
   pub keep_traced :
       (s : State) (x : Emitted) (yss : List (List Element)) →
       (AllMeet x.state.equations → Traced s x yss) →

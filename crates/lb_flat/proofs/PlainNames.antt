@@ -30,14 +30,6 @@ not_true : (b : Bool) → not b ≡ true → b ≡ false
 not_true true e = absurd cc
 not_true false e = refl
 
-or_first : (a b : Bool) → (a || b) ≡ false → a ≡ false
-or_first true b e = absurd cc
-or_first false b e = refl
-
-or_second : (a b : Bool) → (a || b) ≡ false → b ≡ false
-or_second true b e = absurd cc
-or_second false b e = e
-
 true_or : (a b : Bool) → a ≡ true → (a || b) ≡ true
 true_or true b e = refl
 true_or false b e = absurd cc

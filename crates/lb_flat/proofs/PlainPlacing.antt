@@ -52,9 +52,6 @@ place_below n i (y ∷ ys) x le =
     below_step n i (bytes_eq y x) (place_among (suc i) ys x) (omega arith)
     (place_below n (suc i) ys x (omega arith))
 
-same_name : (x : Name) → bytes_eq x x ≡ true
-same_name x = (bytes_eq-Decides x x).1 refl
-
 found_first :
     (i : ℕ) (x y : Name) (is : List ℕ) → y ≡ x → (if bytes_eq y x then i ∷ [] else is) ≡ i ∷ []
 found_first i x y is e =

@@ -23,7 +23,7 @@ use Rattle.lb_flat.specs.declared.error.FlatError.{FlatError}
 use Rattle.lb_flat.specs.declared.error.FlatError.TheVariants as error
 use Rattle.lb_flat.specs.LaterForms.{IsLater}
 use Rattle.lb_flat.specs.PlainNodes.{IsPlain, is_plain_node, is_scalar, start_of}
-use Rattle.lb_flat.specs.PlainPrograms.{node_in, runs, uses_later_forms, IsPlainFault, TranslatesNode}
+use Rattle.lb_flat.specs.PlainPrograms.{node_in, runs, IsPlainFault, TranslatesNode}
 use Rattle.lb_flat.specs.declared.plain.Plain.{Plain}
 use Rattle.lb_flat.proofs.PlainAlone.{is_variable_in, is_plain_program, plain_node_is}
 use Rattle.lb_flat.proofs.PlainForms.{is_simple_statement}
@@ -87,10 +87,6 @@ module _ (P : Program) (e : Elab) (is : IsElaborated P e) (n : ResolvedNode) (at
 
 -- ## The observer
 
-or_first : (a b : Bool) → a ≡ true → (a || b) ≡ true
-or_first true b h = refl
-or_first false b h = absurd cc
-
 or_second : (a b : Bool) → b ≡ true → (a || b) ≡ true
 or_second true b h = refl
 or_second false b h = h
@@ -102,13 +98,6 @@ module _ (P : Program) (e : Elab) (is : IsElaborated P e) where
       by : (o : Option Name) → is_some (o >>= node_named P) ≡ false → list_all is_some (map (node_named P) (listed (λ x. x ∷ []) o)) ≡ true → o ≡ None
       by None f h = refl
       by (Some x) f h = let yes = and_first (is_some (node_named P x)) true h in absurd cc
-
-  pub observed_later : is_some (e.reached.observer >>= tree_at e.reached) ≡ true → uses_later_forms P ≡ true
-  observed_later some = or_first (is_some P.observer) _ (by P.observer (sym (ap is_some is.reached.observer) ∙ some))
-    where
-      by : (o : Option Name) → is_some (o >>= node_named P) ≡ true → is_some o ≡ true
-      by None f = absurd cc
-      by (Some x) f = refl
 
 -- ## The whole program
 

@@ -1,8 +1,8 @@
 -- A plain term stands for the same expression as the resolved term of its form.
-use Rattle.std.proofs.Common.{◌≡◌, ℕ, zero, suc, ◌+◌, ◌<◌, ◌≤◌, Bool, true, false, List, [], ◌∷◌, ◌++◌, length, map, take, get_or, Result, Ok, Err, Vec, Box, Global, MatchResult, refl, ap, sym, subst, ◌∙◌, arith}
+use Rattle.std.proofs.Common.{◌≡◌, ℕ, zero, suc, ◌+◌, ◌<◌, Bool, true, false, List, [], ◌∷◌, ◌++◌, length, map, take, get_or, Result, Ok, Err, Vec, Box, Global, MatchResult, refl, ap, sym, subst, ◌∙◌, arith}
 use Rattle.std.specs.Prelude.{◌&&◌}
 use Rattle.std.specs.List.{list_all}
-use Rattle.std.proofs.lemmas.List.{take_more, take_all}
+use Rattle.std.proofs.lemmas.List.{take_more}
 use mathlib.Core.Former.{Count}
 use Rattle.lb_syntax.specs.Tree as tree
 use Rattle.lb_static.specs.ResolvedTerms as resolved
@@ -138,17 +138,19 @@ rows_of k l (form.more_of-Term a rest) end_of-Term h = absurd h
 of_items : (ts ss : List form.Term) (us vs : List Term) → ts ≡ ss → us ≡ vs → ArePlainOf ss vs → ArePlainOf ts us
 of_items ts ss us vs e f h = subst (λ l. ArePlainOf l us) (sym e) (subst (ArePlainOf ss) (sym f) h)
 
-pub at_most_one_of : (ts : Vec form.Term Global) (us : Vec Term Global) → ArePlainOf ts.items us.items → IsPlainOf (form.AtMostOne ts) (AtMostOne us)
-at_most_one_of ts us h =
+pub at_most_one_of : (ts : Vec form.Term Global) (us : Vec Term Global) (items : List form.Term) → items ≡ ts.items → ArePlainOf items us.items
+    → IsPlainOf (form.AtMostOne ts) (AtMostOne us)
+at_most_one_of ts us items same h =
     let a = from_row (form.AtMostOne ts) in
     let b = to_row (AtMostOne us) in
-    rows_of a.0 b.0 a.1 b.1 (of_items _ _ _ _ (form.items_hidden-the_row-Term-0 ts) (items_hidden-the_row-Term-0 us) h)
+    rows_of a.0 b.0 a.1 b.1 (of_items _ _ _ _ (form.items_hidden-the_row-Term-0 ts ∙ sym same) (items_hidden-the_row-Term-0 us) h)
 
-pub nor_of : (ts : Vec form.Term Global) (us : Vec Term Global) → ArePlainOf ts.items us.items → IsPlainOf (form.Nor ts) (Nor us)
-nor_of ts us h =
+pub nor_of : (ts : Vec form.Term Global) (us : Vec Term Global) (items : List form.Term) → items ≡ ts.items → ArePlainOf items us.items
+    → IsPlainOf (form.Nor ts) (Nor us)
+nor_of ts us items same h =
     let a = from_row (form.Nor ts) in
     let b = to_row (Nor us) in
-    rows_of a.0 b.0 a.1 b.1 (of_items _ _ _ _ (form.items_hidden-the_row-Term-0 ts) (items_hidden-the_row-Term-0 us) h)
+    rows_of a.0 b.0 a.1 b.1 (of_items _ _ _ _ (form.items_hidden-the_row-Term-0 ts ∙ sym same) (items_hidden-the_row-Term-0 us) h)
 
 forms_row : (k : _) (row : form.Row_of-Term k) → have_plain_forms row ≡ list_all has_plain_forms (form.items-the_row-Term k row)
 forms_row k form.end_of-Term = refl
@@ -191,13 +193,6 @@ more_steps ts us i t u all below is one =
     subst (λ l. AreStepsOf l (us ++ u ∷ [])) (sym (take_more ts i t below))
     (steps_append (take i ts) (get_or ts i t ∷ []) us (u ∷ []) all (subst (λ z. IsStepOf z u) is one, tt))
 
--- what holds of all that a loop has gone over holds of all
-pub all_of : (ts items : List form.Term) (us : List Term) (i : ℕ) → ArePlainOf (take i items) us → length items ≤ i → items ≡ ts → ArePlainOf ts us
-all_of ts items us i h past same = subst (λ l. ArePlainOf l us) (take_all i items past ∙ same) h
-
-pub all_steps : (ss : List resolved_step.Step) (us : List Step) (i : ℕ) → AreStepsOf (take i ss) us → length ss ≤ i → AreStepsOf ss us
-all_steps ss us i h past = subst (λ l. AreStepsOf l us) (take_all i ss past) h
-
 -- ## What is refused
 
 pub later_within : (e : FlatError) (a b : Bool) → IsLater e a → (a ≡ false → b ≡ false) → IsLater e b
@@ -213,15 +208,15 @@ one_fails p xs i x below is e = by xs i below (ap p (sym is) ∙ e)
     by (y ∷ xs) zero lt h = false_first (p y) _ h
     by (y ∷ xs) (suc i) lt h = false_second (p y) _ (by xs i (omega arith) h)
 
-pub later_at_most_one : (e : FlatError) (ts : Vec form.Term Global) (items : List form.Term) (i : ℕ) (t : form.Term) → items ≡ ts.items → i < length items → t ≡ get_or items i t
-    → IsLater e (has_plain_forms t) → IsLater e (has_plain_forms (form.AtMostOne ts))
-later_at_most_one e ts items i t same below is h =
-    later_within e _ _ h (λ f. forms_at_most_one ts ∙ ap (list_all has_plain_forms) (sym same) ∙ one_fails has_plain_forms items i t below is f)
+pub later_at_most_one : (e : FlatError) (ts : Vec form.Term Global) (items : List form.Term) → items ≡ ts.items
+    → IsLater e (list_all has_plain_forms items) → IsLater e (has_plain_forms (form.AtMostOne ts))
+later_at_most_one e ts items same h =
+    later_within e _ _ h (λ f. forms_at_most_one ts ∙ ap (list_all has_plain_forms) (sym same) ∙ f)
 
-pub later_nor : (e : FlatError) (ts : Vec form.Term Global) (items : List form.Term) (i : ℕ) (t : form.Term) → items ≡ ts.items → i < length items → t ≡ get_or items i t
-    → IsLater e (has_plain_forms t) → IsLater e (has_plain_forms (form.Nor ts))
-later_nor e ts items i t same below is h =
-    later_within e _ _ h (λ f. forms_nor ts ∙ ap (list_all has_plain_forms) (sym same) ∙ one_fails has_plain_forms items i t below is f)
+pub later_nor : (e : FlatError) (ts : Vec form.Term Global) (items : List form.Term) → items ≡ ts.items
+    → IsLater e (list_all has_plain_forms items) → IsLater e (has_plain_forms (form.Nor ts))
+later_nor e ts items same h =
+    later_within e _ _ h (λ f. forms_nor ts ∙ ap (list_all has_plain_forms) (sym same) ∙ f)
 
 -- the last of three parts
 pub later_third : (e : FlatError) (a b c : Bool) → IsLater e c → IsLater e (a && (b && c))

@@ -62,9 +62,6 @@ and_false : (b : Bool) → (b && false) ≡ false
 and_false true = refl
 and_false false = refl
 
-several : Shape → Shape → Option (List Shape) → Option (List Shape)
-several s t o = option_map (λ ts. s ∷ ts) (option_map (λ ts. t ∷ ts) o)
-
 more_left : (o : Option Kind) (p q : Option Shape) (os : List (Option Shape)) (P : Program)
     → are_same P (shape_list o) (all_some (p ∷ q ∷ os)) ≡ false
 more_left o None q os P = no_shapes o

@@ -1,5 +1,5 @@
 -- The declarations of groups of scalars.
-use Rattle.std.proofs.Common.{◌≡◌, ℕ, zero, suc, ◌+◌, ◌<◌, Bool, true, false, List, [], ◌∷◌, ◌++◌, length, drop, get_or, map, Option, Some, None, refl, ap, sym, ◌∙◌, arith}
+use Rattle.std.proofs.Common.{◌≡◌, ℕ, zero, suc, ◌<◌, Bool, true, false, List, [], ◌∷◌, length, drop, get_or, map, Option, Some, None, refl, ap, sym, ◌∙◌, arith}
 use Rattle.std.specs.Prelude.{◌&&◌, ◌||◌, not, nat_eq, is_some}
 use Rattle.std.specs.List.{list_all}
 use Rattle.std.proofs.lemmas.Bool.Decides.{nat_tests}
@@ -13,7 +13,7 @@ use Rattle.lb_syntax.specs.View.{view_static, view_statics}
 use Rattle.lb_syntax.specs.Tree.{Name, Declaration, Sampling, Static}
 use Rattle.lb_flat.specs.PlainNodes.{is_scalar}
 use Rattle.lb_static.proofs.Groups.{groups_next}
-use Rattle.lb_static.proofs.Lists.{append_assoc, all_append, and_first, false_first, false_second}
+use Rattle.lb_static.proofs.Lists.{all_append, false_first, false_second}
 
 -- a scalar on the base clock
 abbrev pub bare : Name → Kind → Declaration
@@ -25,14 +25,6 @@ with_type k sizes clock x = record { name = x; kind = k; sizes = sizes; clock = 
 
 some_more : (n : ℕ) → nat_eq (suc n) 0 ≡ false
 some_more n = grind (arith, nat_tests)
-
-no_sizes : (k : Kind) (sizes : List Static) (clock : Option Sampling) (xs : List Name) → (nat_eq (length sizes) 0 && not (is_some clock)) ≡ true
-    → map (with_type k sizes clock) xs ≡ map (λ x. bare x k) xs
-no_sizes k [] None xs e = refl
-no_sizes k [] (Some c) xs e = absurd cc
-no_sizes k (s ∷ sizes) clock xs e =
-    let no = sym (ap (λ b. b && not (is_some clock)) (some_more (length sizes))) ∙ e in
-    absurd cc
 
 all_such : (k : Kind) (sizes : List Static) (clock : Option Sampling) (xs : List Name) → (nat_eq (length sizes) 0 && not (is_some clock)) ≡ true
     → list_all is_scalar (map (with_type k sizes clock) xs) ≡ true
@@ -62,23 +54,6 @@ scalar_group d =
     by (x ∷ xs) false e =
         ap (λ b. b || (nat_eq (length g.sizes) 0 && not (is_some g.clock))) (some_more (length xs)) ∙ e
         ∙ sym (false_first _ (list_all is_scalar (map (with_type g.kind g.sizes g.clock) xs)) e)
-
-pub are_scalars_in : (g : Group) → list_all is_scalar (declarations g) ≡ true → declarations g ≡ map (λ x. bare x g.kind) g.names
-are_scalars_in g e = by g.names e
-  where
-    by : (xs : List Name) → list_all is_scalar (map (with_type g.kind g.sizes g.clock) xs) ≡ true
-        → map (with_type g.kind g.sizes g.clock) xs ≡ map (λ x. bare x g.kind) xs
-    by [] e = refl
-    by (x ∷ xs) e = no_sizes g.kind g.sizes g.clock (x ∷ xs) (and_first _ _ e)
-
--- one more group of a loop
-pub group_joins : (before after all : List Declaration) (gs : List Declarations) (i : ℕ) (g : Declarations) → i < length gs → g ≡ get_or gs i g
-    → after ≡ before ++ declarations (view_group g) → before ++ declared (view_groups (drop i gs)) ≡ all
-    → after ++ declared (view_groups (drop (i + 1) gs)) ≡ all
-group_joins before after all gs i g below is e inv =
-    ap (λ l. l ++ declared (view_groups (drop (i + 1) gs))) e
-    ∙ append_assoc before (declarations (view_group g)) _
-    ∙ ap (λ l. before ++ l) (sym (groups_next gs i g below is)) ∙ inv
 
 -- a declaration of a group that is no scalar
 pub no_scalar_part : (gs : List Declarations) (i : ℕ) (g : Declarations) → i < length gs → g ≡ get_or gs i g

@@ -5,18 +5,20 @@ use Rattle.std.specs.List.{list_all}
 use Rattle.std.proofs.lemmas.Bool.Decides.{nat_tests}
 use Rattle.std.proofs.lemmas.List.{drop_more}
 use mathlib.Core.Former.{Count}
+use Rattle.lb_syntax.specs.declared.tree.BinaryOperator.{BinaryOperator}
 use Rattle.lb_syntax.specs.declared.tree.Kind.{Kind}
 use Rattle.lb_syntax.specs.declared.tree.Kind.TheVariants.{Int as Int_kind}
+use Rattle.lb_syntax.specs.declared.tree.UnaryOperator.{UnaryOperator}
 use Rattle.lb_syntax.specs.Lists.{either_or}
 use Rattle.lb_flat.specs.declared.plain.term.Variable.{Variable as Declared}
 use Rattle.lb_static.specs.declared.resolved.VariableId.{VariableId}
 use Rattle.lb_flat.specs.declared.plain.term.Step.{Step}
-use Rattle.lb_flat.specs.declared.plain.term.Term.{Term, Fby, AtMostOne, Nor, AtMostOne', Nor', Row_of-Term, end_of-Term, more_of-Term, items-the_row-Term, items_hidden-the_row-Term-0}
+use Rattle.lb_flat.specs.declared.plain.term.Term.{Term, Unary, Binary, If, Arrow, Fby, Pre, AtMostOne, Nor, AtMostOne', Nor', Row_of-Term, end_of-Term, more_of-Term, items-the_row-Term, items_hidden-the_row-Term-0}
 use Rattle.lb_flat.specs.PlainNodes.{is_place, is_step_within, is_within, are_within}
 use Rattle.lb_flat.specs.TermKinds.{kinds_of}
-use Rattle.lb_flat.specs.Flat.{Always, FirstThen}
+use Rattle.lb_flat.specs.Flat.{Always, ApplyUnary, ApplyBinary, Choose, FirstThen}
 use Rattle.lb_flat.specs.Emit.{State, Emitted, emit_nor, emit_at_most_one}
-use Rattle.lb_flat.specs.Terms.{Found, pushed, previous, as_truth, emit_term, emit_row, emit_list, term_size, row_size, list_size, step_size, steps_size, emit_step, emit_steps}
+use Rattle.lb_flat.specs.Terms.{Found, pushed, previous, unary_result, binary_result, as_truth, emit_term, emit_row, emit_list, term_size, row_size, list_size, step_size, steps_size, emit_step, emit_steps}
 use Rattle.lb_flat.proofs.ShapeFacts.{and_first, and_second}
 
 abbrev pub row_of : Term → (n : Count) × Row_of-Term n
@@ -113,6 +115,74 @@ emit_fby_is kinds s a b x y z ex ey ez =
     pushed (previous y).state (FirstThen false x.element (previous y).element) y.kind in
     sym (ap (λ (z : Found). pushed z.state (FirstThen false x.element z.element) y.kind) ez
     ∙ ap (f x) ey ∙ ap (λ (x : Found). f x (emit_term kinds x.state b.value)) ex)
+
+pub emit_unary_is :
+    (kinds : List Kind) (s : State) (op : UnaryOperator) (a : Box Term Global) (x : Found)
+    (k : Kind) → x ≡ emit_term kinds s a.value → k ≡ unary_result op →
+    emit_term kinds s (Unary op a) ≡ pushed x.state (ApplyUnary op x.element) k
+unfolding emit_term
+emit_unary_is kinds s op a x k ex ek =
+    sym (ap (pushed x.state (ApplyUnary op x.element)) ek
+    ∙ ap (λ (x : Found). pushed x.state (ApplyUnary op x.element) (unary_result op)) ex)
+
+pub emit_binary_is :
+    (kinds : List Kind) (s : State) (op : BinaryOperator) (a b : Box Term Global) (x y : Found)
+    (k : Kind) → x ≡ emit_term kinds s a.value → y ≡ emit_term kinds x.state b.value →
+    k ≡ binary_result op →
+    emit_term kinds s (Binary op a b) ≡ pushed y.state (ApplyBinary op x.element y.element) k
+unfolding emit_term
+emit_binary_is kinds s op a b x y k ex ey ek =
+    let f : Found → Found → Found = λ x y.
+    pushed y.state (ApplyBinary op x.element y.element) (binary_result op) in
+    sym (ap (pushed y.state (ApplyBinary op x.element y.element)) ek
+    ∙ ap (f x) ey ∙ ap (λ (x : Found). f x (emit_term kinds x.state b.value)) ex)
+
+pub emit_arrow_is :
+    (kinds : List Kind) (s : State) (a b : Box Term Global) (x y : Found) →
+    x ≡ emit_term kinds s a.value → y ≡ emit_term kinds x.state b.value →
+    emit_term kinds s (Arrow a b) ≡ pushed y.state (FirstThen false x.element y.element) y.kind
+unfolding emit_term
+emit_arrow_is kinds s a b x y ex ey =
+    let f : Found → Found → Found = λ x y.
+    pushed y.state (FirstThen false x.element y.element) y.kind in
+    sym (ap (f x) ey ∙ ap (λ (x : Found). f x (emit_term kinds x.state b.value)) ex)
+
+pub emit_if_is :
+    (kinds : List Kind) (s : State) (c a b : Box Term Global) (z x y : Found) →
+    z ≡ emit_term kinds s c.value → x ≡ emit_term kinds z.state a.value →
+    y ≡ emit_term kinds x.state b.value →
+    emit_term kinds s (If c a b) ≡ pushed y.state (Choose z.element x.element y.element) y.kind
+unfolding emit_term
+emit_if_is kinds s c a b z x y ez ex ey =
+    let f : Found → Found → Found → Found = λ z x y.
+    pushed y.state (Choose z.element x.element y.element) y.kind in
+    let g : Found → Found → Found = λ z x. f z x (emit_term kinds x.state b.value) in
+    sym (ap (f z x) ey ∙ ap (g z) ex ∙ ap (λ (z : Found). g z (emit_term kinds z.state a.value)) ez)
+
+pub emit_pre_is :
+    (kinds : List Kind) (s : State) (a : Box Term Global) (x : Found) →
+    x ≡ emit_term kinds s a.value → emit_term kinds s (Pre a) ≡ previous x
+unfolding emit_term
+emit_pre_is kinds s a x ex = sym (ap previous ex)
+
+-- `#` and `nor` of the elements that were found
+pub emit_truths_is :
+    (kinds : List Kind) (s : State) (es : Vec Term Global) (xs : List Term) (r : Emitted) →
+    xs ≡ es.items → r ≡ emit_list kinds s [] xs →
+    emit_term kinds s (AtMostOne es) ≡ as_truth (emit_at_most_one Always r.state r.found)
+emit_truths_is kinds s es xs r items er =
+    emit_at_most_one_is kinds s es
+    ∙ sym (ap (λ (r : Emitted). as_truth (emit_at_most_one Always r.state r.found))
+    (er ∙ ap (emit_list kinds s []) items))
+
+pub emit_none_is :
+    (kinds : List Kind) (s : State) (es : Vec Term Global) (xs : List Term) (r : Emitted) →
+    xs ≡ es.items → r ≡ emit_list kinds s [] xs →
+    emit_term kinds s (Nor es) ≡ as_truth (emit_nor Always r.state r.found)
+emit_none_is kinds s es xs r items er =
+    emit_nor_is kinds s es
+    ∙ sym (ap (λ (r : Emitted). as_truth (emit_nor Always r.state r.found))
+    (er ∙ ap (emit_list kinds s []) items))
 
 pub variable_kind : (vars : List Declared) (x : VariableId) (d : Declared) →
     is_place (length vars) x ≡ true →

@@ -1,10 +1,8 @@
--- A history has one verdict: that which is found by looking at one instant after another.
+-- A history ends with the verdict that is found by looking at one instant after another.
 use Rattle.std.proofs.Common.{◌≡◌, ℕ, zero, suc, ◌+◌, ◌<◌, ◌⊎◌, inl, inr, Bool, true, false, refl, sym, ap, subst, arith}
 use Rattle.lb_static.specs.Instances.{Program}
 use Rattle.lb_check.specs.Streams.{History}
-use Rattle.lb_check.specs.declared.verdict.Verdict.{Verdict}
-use Rattle.lb_check.specs.declared.verdict.Verdict.TheVariants.{Passed, Fault, Assertion, False}
-use Rattle.lb_check.specs.Verdicts.{is_fault, is_failed, is_violated, decides, IsLeast, Ends, judged, or_later, verdict_from}
+use Rattle.lb_check.specs.Verdicts.{is_fault, is_failed, is_violated, decides, Ends, judged, or_later, verdict_from}
 
 compared : (t u : ℕ) → (t < u) ⊎ (t ≡ u) ⊎ (u < t)
 compared zero zero = inr (inl refl)
@@ -16,50 +14,7 @@ compared (suc t) (suc u) =
       | inr r ↦ elim r [ inl e ↦ inr (inl (ap suc e)) | inr lt ↦ inr (inr (omega arith)) ]
     ]
 
-apart : {A : Type 0} (b : Bool) → b ≡ true → b ≡ false → A
-apart true p q = absurd cc
-apart false p q = absurd cc
-
 module _ (P : Program) (H : History) (count : ℕ) where
-  -- the least instant is one
-  least : (t u : ℕ) → IsLeast P H count t → IsLeast P H count u → t ≡ u
-  least t u a b =
-      elim (compared t u) [
-        | inl lt ↦ apart (decides P H t) a.happens (b.not_before t lt)
-        | inr r ↦ elim r [
-          | inl e ↦ e
-          | inr lt ↦ apart (decides P H u) b.happens (a.not_before u lt)
-        ]
-      ]
-
-  none : {A : Type 0} (t : ℕ) → Ends P H count Passed → IsLeast P H count t → A
-  none t p a = apart (decides P H t) a.happens (p t a.within)
-
-  -- at the one least instant a test is not both true and false
-  differ :
-      {A : Type 0} (test : ℕ → Bool) (t u : ℕ) → IsLeast P H count t → IsLeast P H count u →
-      test t ≡ true → test u ≡ false → A
-  differ test t u a b p q = apart (test u) (subst (λ s. test s ≡ true) (least t u a b) p) q
-
-  -- a history ends with one verdict
-  pub one_verdict : (v w : Verdict) → Ends P H count v → Ends P H count w → v ≡ w
-  one_verdict Passed Passed a b = refl
-  one_verdict Passed (Fault u) a b = none u a b.0
-  one_verdict Passed (Assertion u) a b = none u a b.0
-  one_verdict Passed (False u) a b = none u a b.0
-  one_verdict (Fault t) Passed a b = none t b a.0
-  one_verdict (Fault t) (Fault u) a b = ap Fault (least t u a.0 b.0)
-  one_verdict (Fault t) (Assertion u) a b = differ (is_fault P H) t u a.0 b.0 a.1 b.1
-  one_verdict (Fault t) (False u) a b = differ (is_fault P H) t u a.0 b.0 a.1 b.1
-  one_verdict (Assertion t) Passed a b = none t b a.0
-  one_verdict (Assertion t) (Fault u) a b = differ (is_fault P H) u t b.0 a.0 b.1 a.1
-  one_verdict (Assertion t) (Assertion u) a b = ap Assertion (least t u a.0 b.0)
-  one_verdict (Assertion t) (False u) a b = differ (is_failed P H) t u a.0 b.0 a.2 b.2
-  one_verdict (False t) Passed a b = none t b a.0
-  one_verdict (False t) (Fault u) a b = differ (is_fault P H) u t b.0 a.0 b.1 a.1
-  one_verdict (False t) (Assertion u) a b = differ (is_failed P H) u t b.0 a.0 b.2 a.2
-  one_verdict (False t) (False u) a b = ap False (least t u a.0 b.0)
-
   -- nothing happens before instant t
   abbrev IsQuiet : ℕ → Type 0
   IsQuiet t = (s : ℕ) → s < t → decides P H s ≡ false

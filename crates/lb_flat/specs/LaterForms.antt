@@ -95,6 +95,10 @@ abbrev pub TranslatesTerm : form.Term → Result (Box Term Global) FlatError →
 TranslatesTerm t (Ok u) = IsPlainOf t u.value
 TranslatesTerm t (Err e) = IsLater e (has_plain_forms t)
 
+abbrev pub TranslatesTerms : List form.Term → Result (Vec Term Global) FlatError → Type 0
+TranslatesTerms ts (Ok us) = ArePlainOf ts us.items
+TranslatesTerms ts (Err e) = IsLater e (list_all has_plain_forms ts)
+
 abbrev pub TranslatesStep : resolved.Step → Result Step FlatError → Type 0
 TranslatesStep s (Ok u) = IsStepOf s u
 TranslatesStep s (Err e) = IsLater e (is_plain_step s)

@@ -15,7 +15,7 @@ use lb_static::arithmetic::{arithmetic, negated};
 use lb_syntax::tree::{BinaryOperator, UnaryOperator};
 
 /// What an element holds at an instant: nothing, or a scalar.
-#[derive(Clone, Copy, PartialEq, Eq, Debug)]
+#[derive(Clone, Copy, PartialEq, Eq)]
 pub enum Cell {
     /// Nothing: the element is absent.
     Absent,

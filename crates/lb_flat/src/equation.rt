@@ -13,20 +13,20 @@ use crate::scalar::Scalar;
 use lb_syntax::tree::{BinaryOperator, UnaryOperator};
 
 /// An element of a flat program, by its number.
-#[derive(Clone, Copy, PartialEq, Eq, Debug)]
+#[derive(Clone, Copy, PartialEq, Eq)]
 pub struct ElementId(pub u32);
 
 /// A clock of a flat program, by its place in the table of its clocks.
-#[derive(Clone, Copy, PartialEq, Eq, Debug)]
+#[derive(Clone, Copy)]
 pub struct TickId(pub u32);
 
 /// An input of the node under test, by its place in the signature.
-#[derive(Clone, Copy, PartialEq, Eq, Debug)]
+#[derive(Clone, Copy, PartialEq, Eq)]
 pub struct InputId(pub u32);
 
 /// A clock: the instants of another one, or of the base clock where there is none, at which an
 /// element has this sign.
-#[derive(Clone, Copy, PartialEq, Eq, Debug)]
+#[derive(Clone, Copy)]
 pub struct Tick {
     pub parent: Option<TickId>,
     pub element: ElementId,
@@ -34,7 +34,7 @@ pub struct Tick {
 }
 
 /// How an element is had from others. What a memory holds is part of its operation.
-#[derive(Clone, Copy, PartialEq, Eq, Debug)]
+#[derive(Clone, Copy, PartialEq, Eq)]
 pub enum Operation {
     /// A scalar of the trace.
     Input(InputId),
@@ -59,7 +59,7 @@ pub enum Operation {
 }
 
 /// An element, the clock that it is on (none is the base clock), and how it is had.
-#[derive(Clone, Copy, PartialEq, Eq, Debug)]
+#[derive(Clone, Copy)]
 pub struct Equation {
     pub element: ElementId,
     pub clock: Option<TickId>,
@@ -67,7 +67,7 @@ pub struct Equation {
 }
 
 /// An element that holds an input.
-#[derive(Clone, Copy, PartialEq, Eq, Debug)]
+#[derive(Clone, Copy)]
 pub struct InputPlace {
     pub element: ElementId,
     pub input: InputId,

@@ -11,8 +11,6 @@ ghost use Rattle.lb_flat.specs.TermExpansion.{IsSizedAnswer};
 
 mod emission;
 mod size;
-#[cfg(test)]
-mod tests;
 
 use crate::error::FlatError;
 use crate::flat::Flat;

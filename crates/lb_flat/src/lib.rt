@@ -16,7 +16,5 @@ pub mod plain;
 mod prepare;
 pub mod program;
 pub mod scalar;
-#[cfg(test)]
-mod tests;
 pub mod trace_run;
 pub mod traces;

@@ -16,8 +16,6 @@ ghost use Rattle.lb_flat.specs.Stuck.{CannotOrder};
 
 mod settle;
 mod table;
-#[cfg(test)]
-mod tests;
 mod walk;
 
 use crate::equation::Equation;

@@ -1,7 +1,7 @@
 //! Scalars.
 
 /// What a scalar element holds where it is present.
-#[derive(Clone, Copy, PartialEq, Eq, Debug)]
+#[derive(Clone, Copy, PartialEq, Eq)]
 pub enum Scalar {
     /// An `int`.
     Integer(i32),

@@ -251,33 +251,3 @@ impl TraceRows {
         set
     }
 }
-
-#[cfg(test)]
-mod tests {
-    use super::*;
-    use lb_static::signature::Kind;
-    use std::test::Fail;
-
-    #[test]
-    fn rows_come_back(rt: HostRuntime) -> Result<(), Fail> {
-        let alloc = rt.alloc();
-        let mut signature = Signature::new(alloc);
-        signature.push(String::from_str(alloc, "x")?, Kind::Int)?;
-        signature.push(String::from_str(alloc, "c")?, Kind::Bool)?;
-        let mut rows = TraceRows::new(alloc, &signature)?;
-        assert!(rt; is_trace_name(b"a/b.c-1_2"));
-        assert!(rt; !is_trace_name(b""));
-        rows.start("a/b.c-1_2", &[-5, 1])?;
-        rows.push(&[2147483647, 0])?;
-        let set = rows.into_set();
-        assert_eq!(rt; set.signature().len(), 2);
-        assert_eq!(rt; set.len(), 1);
-        assert_eq!(rt; set.name(0), "a/b.c-1_2");
-        assert_eq!(rt; set.instants(), 2);
-        assert_eq!(rt; set.length(0), 2);
-        assert_eq!(rt; set.int_at(0, 1, 0), 2147483647);
-        assert!(rt; set.bool_at(0, 0, 1));
-        assert!(rt; !set.bool_at(0, 1, 1));
-        Ok(())
-    }
-}

@@ -15,6 +15,3 @@ mod slices;
 pub use lanes::IntLanes;
 pub use planes::Plane;
 pub use slices::{and_slices, any_outside, commit_ints, commit_planes, or_slices, xor_slices};
-
-#[cfg(test)]
-mod tests;

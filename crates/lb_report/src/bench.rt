@@ -19,6 +19,7 @@ ghost use Rattle.lb_flat.specs.Programs as flat;
 ghost use Rattle.lb_report.specs.Bench.{AreVerdicts, IsBenchReport, IsRefused, OnlyProgram, program_of};
 ghost use Rattle.lb_report.specs.Cases.{parts_of};
 ghost use Rattle.lb_report.specs.Prepared.{IsPrepared};
+ghost use Rattle.lb_report.specs.declared.options.Options.{Options as Asked};
 
 use crate::case::split_case;
 use crate::error::BenchError;
@@ -89,6 +90,20 @@ fn verdicts_of(alloc: Global, ordered: &Ordered, set: &TraceSet) -> Result<Vec<V
     Ok(verdicts)
 }
 
+/// The report of a program on the traces that a text spells, whatever source the program is of.
+fn report_on(alloc: Global, program: &Prepared, traces: &[u8]) -> Result<Report, BenchError>
+    ensures report { IfOk result (λ report. (source : Text) → (options : Asked) →
+        OnlyProgram source options (IsPrepared program.now) →
+        IsBenchReport source traces.now options report) }
+    ensures refused { IfErr result (λ e. (source : Text) → (options : Asked) →
+        OnlyProgram source options (IsPrepared program.now) →
+        IsRefused source traces.now options e) }
+{
+    let set = read_traces(alloc, &program.signature, traces)?;
+    let verdicts = verdicts_of(alloc, &program.ordered, &set)?;
+    Ok(Report::new(alloc, &set, verdicts.as_slice())?)
+}
+
 /// Runs a node of a source over the traces of a text, and reports the verdict of each.
 ///
 /// The options name the node under test and the observer. As yet one trace runs after the other,
@@ -105,9 +120,7 @@ pub fn bench<R: Runtime + AllocGlobal>(
 {
     let alloc = rt.alloc();
     let program = prepare(alloc, source, options)?;
-    let set = read_traces(alloc, &program.signature, traces)?;
-    let verdicts = verdicts_of(alloc, &program.ordered, &set)?;
-    Ok(Report::new(alloc, &set, verdicts.as_slice())?)
+    report_on(alloc, &program, traces)
 }
 
 /// Runs a case text: its first part is the source, its second part the traces.
@@ -131,6 +144,3 @@ pub fn run_case<R: Runtime + AllocGlobal>(
     let (source, traces) = split_case(case);
     bench(rt, source, traces, options)
 }
-
-#[cfg(test)]
-mod tests;

@@ -46,25 +46,3 @@ pub fn split_case(text: &[u8]) -> (&[u8], &[u8])
     }
     (text, &[])
 }
-
-#[cfg(test)]
-mod tests {
-    use super::*;
-
-    #[test]
-    fn parts_at_the_first_marker_line(rt: HostRuntime) {
-        for (text, source, traces) in [
-            ("a\n%traces\nb", "a\n", "b"),
-            ("a\n%traces\r\nb\n%traces\n", "a\n", "b\n%traces\n"),
-            ("%traces", "", ""),
-            ("a %traces\nb", "a %traces\nb", ""),
-            ("a\n%traces \nb", "a\n%traces \nb", ""),
-            ("a\n%traces\r", "a\n%traces\r", ""),
-            ("", "", ""),
-        ] {
-            let (first, second) = split_case(text.as_bytes());
-            assert_eq!(rt; first, source.as_bytes(), "source of {text}");
-            assert_eq!(rt; second, traces.as_bytes(), "traces of {text}");
-        }
-    }
-}

@@ -8,7 +8,7 @@ use std::io::{ErrorKind, Read};
 use thiserror::Error;
 
 /// A read failed. Nobody knows how much of the input is left.
-#[derive(Clone, Copy, Debug, PartialEq, Eq, Error)]
+#[derive(Clone, Copy, Debug, Error)]
 #[error("the input could not be read")]
 pub struct FeedFailed;
 
@@ -172,57 +172,6 @@ pub fn load<F: Feed>(alloc: Global, feed: &mut F) -> Result<Vec<u8>, LoadError>
         filled += count;
         if filled > INPUT_LIMIT {
             return Err(LoadError::Read);
-        }
-    }
-}
-
-#[cfg(test)]
-mod tests {
-    use super::*;
-    use std::test::Fail;
-
-    /// Gives a few bytes at a time, and fails once it has given so many.
-    #[derive(Drop)]
-    struct Failing {
-        given: usize,
-        fails_at: usize,
-    }
-
-    impl Read for Failing {
-        fn read(&mut self, buffer: &mut [u8]) -> std::io::Result<usize> {
-            let count = buffer
-                .len()
-                .min(3)
-                .min(self.fails_at.saturating_sub(self.given));
-            if count == 0 {
-                return Err(ErrorKind::TimedOut.into());
-            }
-            for byte in &mut buffer[..count] {
-                *byte = b'x';
-            }
-            self.given = self.given.saturating_add(count);
-            Ok(count)
-        }
-    }
-
-    #[test]
-    fn loads_all_bytes(rt: HostRuntime) -> Result<(), Fail> {
-        let alloc = rt.alloc();
-        for n in [0, 1, 1_048_576, 2_500_000] {
-            let text = vec![in alloc; b'x'; n]?;
-            let bytes = load(alloc, &mut Reader::new(text.as_slice()))?;
-            assert!(rt; bytes.as_slice() == text.as_slice(), "{n} bytes");
-        }
-        Ok(())
-    }
-
-    #[test]
-    fn refuses_a_feed_that_fails(rt: HostRuntime) {
-        for fails_at in [0, 1, 10, 1_500_000] {
-            let mut feed = Reader::new(Failing { given: 0, fails_at });
-            let loaded = load(rt.alloc(), &mut feed);
-            assert!(rt; matches!(loaded, Err(LoadError::Read)), "at {fails_at}");
-            assert_eq!(rt; feed.failures(), 1);
         }
     }
 }

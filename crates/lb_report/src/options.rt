@@ -5,7 +5,7 @@ ghost use Rattle.std.specs.Option.{option_map};
 
 /// What a run is asked for. It says nothing of what the report holds but which node is under test
 /// and which one observes: the rest is how the work is spread.
-#[derive(Debug, Drop)]
+#[derive(Drop)]
 pub struct Options {
     /// The node under test.
     pub node: String,
@@ -58,23 +58,5 @@ impl Options {
             Some(name) => Some(name.as_str()),
             None => None,
         }
-    }
-}
-
-#[cfg(test)]
-mod tests {
-    use super::*;
-    use std::test::Fail;
-
-    #[test]
-    fn keeps_its_parts(rt: HostRuntime) -> Result<(), Fail> {
-        let node = String::from_str(rt.alloc(), "main")?;
-        let options = Options::new(node, None, 1, 64, true);
-        assert_eq!(rt; options.node.as_str(), "main");
-        assert!(rt; options.observer.is_none());
-        assert_eq!(rt; options.workers, 1);
-        assert_eq!(rt; options.batch, 64);
-        assert!(rt; options.by_length);
-        Ok(())
     }
 }

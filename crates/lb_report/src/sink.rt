@@ -7,7 +7,7 @@ use std::io::{ErrorKind, Write};
 use thiserror::Error;
 
 /// A write failed. None of its bytes went out.
-#[derive(Clone, Copy, Debug, PartialEq, Eq, Error)]
+#[derive(Clone, Copy, Debug, Error)]
 #[error("the output could not be written")]
 pub struct SinkFailed;
 
@@ -91,7 +91,7 @@ impl<W: Write> Sink for Writer<W> {
 }
 
 /// The sink failed before all bytes went out (E19).
-#[derive(Clone, Copy, Debug, PartialEq, Eq, Error)]
+#[derive(Clone, Copy, Debug, Error)]
 #[error("the output failed after {count} bytes")]
 pub struct Sent {
     /// How many bytes went out.
@@ -120,57 +120,4 @@ pub fn send<S: Sink>(sink: &mut S, bytes: &[u8]) -> Result<(), Sent>
         }
     }
     Ok(())
-}
-
-#[cfg(test)]
-mod tests {
-    use super::*;
-    use std::test::Fail;
-
-    /// Takes one byte a write, and fails at its so manyth write.
-    #[derive(Drop)]
-    struct Failing {
-        writes: u32,
-        fails_at: u32,
-    }
-
-    impl Write for Failing {
-        fn write(&mut self, bytes: &[u8]) -> std::io::Result<usize> {
-            self.writes = self.writes.saturating_add(1);
-            if self.writes == self.fails_at {
-                return Err(ErrorKind::BrokenPipe.into());
-            }
-            Ok(bytes.len().min(1))
-        }
-
-        fn flush(&mut self) -> std::io::Result<()> {
-            Ok(())
-        }
-    }
-
-    const LINE: &[u8] = b"total 0 passed 0 fault 0 assertion 0 false 0\n";
-
-    #[test]
-    fn sends_all_bytes(rt: HostRuntime) -> Result<(), Fail> {
-        let mut bytes: Vec<u8> = Vec::new(rt.alloc());
-        assert!(rt; send(&mut Writer::new(&mut bytes), LINE).is_ok());
-        assert!(rt; bytes.as_slice() == LINE);
-        let mut sink = Writer::new(Failing {
-            writes: 0,
-            fails_at: 0,
-        });
-        assert!(rt; send(&mut sink, LINE).is_ok());
-        assert_eq!(rt; sink.failures(), 0);
-        Ok(())
-    }
-
-    #[test]
-    fn counts_what_went_out(rt: HostRuntime) {
-        let mut sink = Writer::new(Failing {
-            writes: 0,
-            fails_at: 3,
-        });
-        assert!(rt; matches!(send(&mut sink, LINE), Err(Sent { count: 2 })));
-        assert_eq!(rt; sink.failures(), 1);
-    }
 }

@@ -144,7 +144,7 @@ pub fn status(verdicts: &[Verdict]) -> u8
 }
 
 /// A report, and the status of its run.
-#[derive(Debug, Drop)]
+#[derive(Drop)]
 pub struct Report {
     /// A line for each trace, and a last line that counts.
     pub text: Vec<u8>,
@@ -164,33 +164,5 @@ impl Report {
             text: report_text(alloc, set, verdicts)?,
             status: status(verdicts),
         })
-    }
-}
-
-#[cfg(test)]
-mod tests {
-    use super::*;
-    use lb_flat::traces::TraceRows;
-    use lb_static::signature::Signature;
-    use std::test::Fail;
-
-    #[test]
-    fn reports(rt: HostRuntime) -> Result<(), Fail> {
-        let alloc = rt.alloc();
-        let mut rows = TraceRows::new(alloc, &Signature::new(alloc))?;
-        let text = report_text(alloc, rows.set(), &[])?;
-        let expected = "total 0 passed 0 fault 0 assertion 0 false 0\n";
-        assert_eq!(rt; text.as_slice(), expected.as_bytes());
-        assert_eq!(rt; status(&[]), 0);
-        rows.start("a", &[])?;
-        rows.start("b", &[])?;
-        let verdicts = [Verdict::False(2), Verdict::Passed];
-        let report = Report::new(alloc, rows.set(), &verdicts)?;
-        let expected = "a false 2\nb passed\ntotal 2 passed 1 fault 0 assertion 0 false 1\n";
-        assert_eq!(rt; report.text.as_slice(), expected.as_bytes());
-        assert_eq!(rt; report.status, 1);
-        assert_eq!(rt; status(&[Verdict::Assertion(0)]), 0);
-        assert_eq!(rt; status(&[Verdict::Fault(1999999999)]), 1);
-        Ok(())
     }
 }

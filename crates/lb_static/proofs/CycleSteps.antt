@@ -311,6 +311,13 @@ begun_before ps start i at_first (inl is_open) = by (nat_eq start i) refl
         let other : start ≢ i = grind (arith, nat_tests) in
         inl (elsewhere ps i start Open other ∙ is_open)
 
+-- the node at the end of the path is one of the graph
+pub last_within : (g : List (List ℕ)) (before ps : List Progress) (start : ℕ) (old new : List Frame) (f : Frame)
+    → IsWalkFrom g before start ps (reverse old) → old ≡ new ++ f ∷ [] → f.node < length ps
+last_within g before ps start old new f from popped =
+    let walk = subst (IsWalk g ps) (last_first old new f popped) from.walk in
+    omega (arith, walk.as_many, walk.is_path.0.within)
+
 pub finishes : (g : List (List ℕ)) (before ps : List Progress) (start : ℕ) (old new : List Frame) (f : Frame)
     → IsWalkFrom g before start ps (reverse old) → old ≡ new ++ f ∷ [] → f.left.now ≡ []
     → IsWalkFrom g before start (set ps f.node Done) (reverse new)
@@ -415,6 +422,10 @@ unseen_open (Done ∷ ps) (c ∷ g) (suc i) below at = unseen_open ps g i (omega
 
 on_path_more : (all front : List Frame) (f : Frame) → all ≡ front ++ f ∷ [] → on_path all ≡ on_path front + (1 + length f.left.now)
 on_path_more all front f e = ap on_path e ∙ sum_by_push (λ h. 1 + length h.left.now) front f
+
+pub less_passed : (ps : List Progress) (g : List (List ℕ)) (c : ℕ) (old front new : List Frame) (f h : Frame) → old ≡ front ++ f ∷ []
+    → new ≡ front ++ h ∷ [] → f.left.now ≡ c ∷ h.left.now → unseen ps g + on_path new < unseen ps g + on_path old
+less_passed ps g c old front new f h popped pushed left = omega (arith, on_path_more old front f popped, on_path_more new front h pushed, ap length left)
 
 pub less_finished : (ps : List Progress) (g : List (List ℕ)) (i : ℕ) (old new : List Frame) (f : Frame) → old ≡ new ++ f ∷ []
     → unseen (set ps i Done) g + on_path new < unseen ps g + on_path old

@@ -8,7 +8,6 @@ pub mod Walk
 pub mod Signature
 pub mod Elaborated
 pub mod WorkedTrees
-pub mod WorkedStatics
 pub mod Scopes
 pub mod SourceNames
 pub mod Elaborates

@@ -33,27 +33,3 @@ pub fn negated(a: i32) -> Option<i32>
 {
     a.checked_neg()
 }
-
-#[cfg(test)]
-mod tests {
-    use super::*;
-
-    #[test]
-    fn worked_results(rt: HostRuntime) {
-        let rows = [
-            (BinaryOperator::Plus, 2147483647, 1, None),
-            (BinaryOperator::Minus, -2147483647, 1, Some(-2147483648)),
-            (BinaryOperator::Times, 65536, -32768, Some(-2147483648)),
-            (BinaryOperator::Divide, -7, 2, Some(-3)),
-            (BinaryOperator::Divide, -2147483648, -1, None),
-            (BinaryOperator::Modulo, -7, 2, Some(-1)),
-            (BinaryOperator::Modulo, 7, 0, None),
-            (BinaryOperator::Less, 1, 2, None),
-        ];
-        for (op, a, b, expected) in rows {
-            assert_eq!(rt; arithmetic(op, a, b), expected);
-        }
-        assert_eq!(rt; negated(7), Some(-7));
-        assert_eq!(rt; negated(-2147483648), None);
-    }
-}

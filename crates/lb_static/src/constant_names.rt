@@ -187,6 +187,34 @@ fn judge_visited(
     Ok(())
 }
 
+// Judges the constants that some nodes name, and those that these name in turn; none of them came
+// up before.
+fn judge_named(
+    alloc: Global,
+    globals: &Globals,
+    source: &Source,
+    nodes: &[ResolvedNode],
+    visits: &mut Visits,
+) -> Result<(), StaticError>
+    requires names { globals.now.names ≡ names_in_source (view_source source.now) }
+    requires constants { globals.now.constants ≡ length source.now.constants.items }
+    requires once { are_distinct (names_in_source (view_source source.now)) ≡ true }
+    requires resolved { All (IsResolved (map (λ n. n.name) (view_source source.now).nodes)) nodes.now }
+    requires named { list_all (λ r. named_in (view_source source.now) (node_of r)) nodes.now ≡ true }
+    requires none { visits.old.order ≡ [] }
+    requires count { visits.old.count ≡ globals.now.constants }
+    ensures ok { OnOk result (keeps_constants (view_source source.now)
+        (flat_map (named_constants (program_in (view_source source.now)))
+        (map node_of nodes.now)) ≡ true) }
+    ensures err { IfErr result (λ e. IsNameFault e (keeps_constants (view_source source.now)
+        (flat_map (named_constants (program_in (view_source source.now)))
+        (map node_of nodes.now)))) }
+{
+    visit_nodes(alloc, nodes, globals, visits)?;
+    let nothing = Scope::new(alloc);
+    judge_visited(alloc, globals, source, &nothing, visits)
+}
+
 /// Judges the constants that reached nodes name, and those that these name in turn: an unknown
 /// name in the value of one of them is refused.
 pub fn judge_constants(
@@ -208,7 +236,5 @@ pub fn judge_constants(
         (map node_of nodes.now)))) }
 {
     let mut visits = Visits::new(alloc, source.constants.len())?;
-    visit_nodes(alloc, nodes, globals, &mut visits)?;
-    let nothing = Scope::new(alloc);
-    judge_visited(alloc, globals, source, &nothing, &mut visits)
+    judge_named(alloc, globals, source, nodes, &mut visits)
 }

@@ -9,10 +9,10 @@
 //! that are known is right, and where no constant gets a value any more, all values are known.
 //! After the walk one pass over the constants finds that none does.
 
-ghost use Rattle.std.specs.Prelude.{◌≡◌, ◌<◌, ◌≤◌, ◌+◌, ℕ, true, false, map, length, IfOk, OnOk, All};
+ghost use Rattle.std.specs.Prelude.{◌≡◌, ◌<◌, ◌≤◌, ◌+◌, ℕ, [], true, false, map, length, IfOk, OnOk, All};
 ghost use Rattle.lb_syntax.specs.SourceView.{view_constant};
 ghost use Rattle.lb_syntax.specs.View.{view_static};
-ghost use Rattle.lb_static.specs.ConstantValues.{names_of, known, read_constants, AreFirst, AreSettled, IsSettled, IsSound};
+ghost use Rattle.lb_static.specs.ConstantValues.{names_of, known, read_constants, value_held, AreFirst, AreSettled, IsSettled, IsSound};
 ghost use Rattle.lb_static.specs.Tasks.{place_of};
 ghost use Rattle.lb_static.specs.Parts.{static_names};
 ghost use Rattle.lb_static.specs.StaticValues.{constant_value};
@@ -176,24 +176,26 @@ fn walk(
     Ok(())
 }
 
-// The first constant of each name, in the order of the source.
+// Takes the first constant of each name, in the order of the source.
 fn first_of_each<'a>(
     alloc: Global,
     constants: &'a [Constant],
-) -> Result<(Scope, Vec<&'a Constant>), AllocError>
-    ensures same_names { IfOk result (λ r. r.0 ≡ names_of (read_constants r.1.items)) }
-    ensures first { IfOk result (λ r.
-        AreFirst (read_constants r.1.items) (map view_constant constants.now)) }
-    ensures few { IfOk result (λ r. length r.1.items ≤ length constants.now) }
+    names: &mut Scope,
+    firsts: &mut Vec<&'a Constant>,
+) -> Result<(), AllocError>
+    requires no_name { names.old ≡ [] }
+    requires none { firsts.old.items ≡ [] }
+    ensures same_names { OnOk result (names.new ≡ names_of (read_constants firsts.new.items)) }
+    ensures first { OnOk result
+        (AreFirst (read_constants firsts.new.items) (map view_constant constants.now)) }
+    ensures few { OnOk result (length firsts.new.items ≤ length constants.now) }
 {
-    let mut names = Scope::new(alloc);
-    let mut firsts = Vec::new(alloc);
     for constant in constants {
         if names.declare(alloc, constant.name.as_str())? {
             firsts.push(constant)?;
         }
     }
-    Ok((names, firsts))
+    Ok(())
 }
 
 // The value of each of these constants, where each name is that of one.
@@ -212,6 +214,21 @@ fn values_of(
     Ok(values)
 }
 
+// The value of each name of a source, where each name is taken once.
+fn known_values(
+    alloc: Global,
+    constants: &[Constant],
+    names: &mut Scope,
+) -> Result<Vec<Option<StaticInt>>, AllocError>
+    requires { names.old ≡ [] }
+    ensures { IfOk result (λ values. value_held names.new values.items
+        ≡ constant_value (map view_constant constants.now) (length constants.now)) }
+{
+    let mut firsts = Vec::new(alloc);
+    first_of_each(alloc, constants, names, &mut firsts)?;
+    values_of(alloc, &firsts, names)
+}
+
 impl Constants {
     ghost use Rattle.lb_static.specs.HeldValues.{value_of};
 
@@ -220,43 +237,8 @@ impl Constants {
         ensures { IfOk result (λ c.
             value_of c ≡ constant_value (map view_constant constants.now) (length constants.now)) }
     {
-        let (names, firsts) = first_of_each(alloc, constants)?;
-        let values = values_of(alloc, &firsts, &names)?;
+        let mut names = Scope::new(alloc);
+        let values = known_values(alloc, constants, &mut names)?;
         Ok(Constants { names, values })
-    }
-}
-
-#[cfg(test)]
-mod tests {
-    use super::*;
-    use lb_syntax::parse::parse;
-    use std::test::Fail;
-
-    #[test]
-    fn worked_values(rt: HostRuntime) -> Result<(), Fail> {
-        let alloc = rt.alloc();
-        let rows = [
-            ("const n = 3; m = n * 2 + 1;", "m", Some(7)),
-            ("const m = n * 2 + 1; n = 3;", "m", Some(7)),
-            ("const n = 3; m = n * 2 + 1;", "k", None),
-            ("const n = k;", "n", None),
-            ("const a = b + 1; b = a - 1; c = 2;", "a", None),
-            ("const a = b + 1; b = a - 1; c = 2;", "c", Some(2)),
-            ("const a = 1 div 0;", "a", None),
-            ("const a = -7 / 2;", "a", Some(-3)),
-            ("const a = -7 mod 2;", "a", Some(-1)),
-            ("const a = -2147483647 - 1;", "a", Some(-2147483648)),
-            ("const a = 2147483647 + 1;", "a", None),
-        ];
-        for (text, name, expected) in rows {
-            let source = parse(alloc, text.as_bytes())?;
-            let constants = Constants::new(alloc, &source.constants)?;
-            assert_eq!(rt;
-                constants.get(name).map(|value| value.get()),
-                expected,
-                "{text}"
-            );
-        }
-        Ok(())
     }
 }

@@ -43,6 +43,3 @@ pub fn elaborate<'s>(
         signature,
     })
 }
-
-#[cfg(test)]
-mod tests;

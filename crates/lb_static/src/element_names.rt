@@ -59,27 +59,3 @@ pub fn elements(alloc: Global, names: &[&Name], shapes: &[Shape]) -> Result<Sign
     }
     Ok(signature)
 }
-
-#[cfg(test)]
-mod tests {
-    use super::*;
-    use std::test::Fail;
-
-    #[test]
-    fn the_first_index_is_slowest(rt: HostRuntime) -> Result<(), Fail> {
-        let alloc = rt.alloc();
-        let mut signature = Signature::new(alloc);
-        push_elements(alloc, &mut signature, "c", Kind::Bool, &[])?;
-        push_elements(alloc, &mut signature, "m", Kind::Int, &[2, 3])?;
-        let expected = [
-            "c", "m[0][0]", "m[0][1]", "m[0][2]", "m[1][0]", "m[1][1]", "m[1][2]",
-        ];
-        assert_eq!(rt; signature.len(), 7);
-        for i in 0..7 {
-            assert_eq!(rt; signature.name(i), expected[i as usize]);
-        }
-        assert_eq!(rt; signature.kind(0), Kind::Bool);
-        assert_eq!(rt; signature.kind(6), Kind::Int);
-        Ok(())
-    }
-}

@@ -1,12 +1,13 @@
 //! Why a program is refused here.
 
 use std::alloc::{AllocError, AllocFailed};
+use std::fmt;
 
 /// Which rule of names, static values and instances a program breaks first.
 ///
 /// The text was judged before, by `lb_syntax`. Types, clocks and definitions are judged later, by
 /// `lb_check`.
-#[derive(Debug, Drop, thiserror::Error)]
+#[derive(Drop, thiserror::Error)]
 pub enum StaticError {
     /// Memory ran out (E0).
     #[error("memory ran out")]
@@ -19,7 +20,7 @@ pub enum StaticError {
     #[error("the node {0} reaches itself by its calls")]
     Recursion(String),
     /// The node under test or the observer has another shape than it may (E8).
-    #[error("the node under test or the observer has another shape than it may")]
+    #[error("the node that is run, or its observer, has another shape than it may")]
     Root,
     /// A static expression has no value (E5). It holds the name of the node in which it stands.
     #[error("a static expression of the node {0} has no value")]
@@ -31,6 +32,12 @@ pub enum StaticError {
     /// There are more than 4,096 instances or 64 levels of them (E12).
     #[error("there are more than 4096 instances or 64 levels of them")]
     Instances,
+}
+
+impl fmt::Debug for StaticError {
+    fn fmt<W: fmt::Write>(&self, f: &mut fmt::Formatter<W>) -> Result<(), fmt::Error> {
+        fmt::Display::fmt(self, f)
+    }
 }
 
 impl From<AllocError> for StaticError {

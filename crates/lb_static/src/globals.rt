@@ -43,6 +43,22 @@ pub fn declare_new(alloc: Global, names: &mut Scope, name: &Name) -> Result<(), 
     }
 }
 
+/// Declares the global names of a source, where no name is declared yet.
+fn declare_globals(alloc: Global, names: &mut Scope, source: &Source) -> Result<(), StaticError>
+    requires { names.old ≡ [] }
+    ensures ok { OnOk result (names.new ≡ names_in_source (view_source source.now)) }
+    ensures err { IfErr result (λ e.
+        IsNameFault e (are_distinct (names_in_source (view_source source.now)))) }
+{
+    for constant in &source.constants {
+        declare_new(alloc, names, &constant.name)?;
+    }
+    for node in &source.nodes {
+        declare_new(alloc, names, &node.name)?;
+    }
+    Ok(())
+}
+
 impl Globals {
     /// The global names of a source; a doubled one is refused.
     pub fn new(alloc: Global, source: &Source) -> Result<Globals, StaticError>
@@ -54,12 +70,7 @@ impl Globals {
             IsNameFault e (are_distinct (names_in_source (view_source source.now)))) }
     {
         let mut names = Scope::new(alloc);
-        for constant in &source.constants {
-            declare_new(alloc, &mut names, &constant.name)?;
-        }
-        for node in &source.nodes {
-            declare_new(alloc, &mut names, &node.name)?;
-        }
+        declare_globals(alloc, &mut names, source)?;
         let constants = source.constants.len();
         Ok(Globals { names, constants })
     }

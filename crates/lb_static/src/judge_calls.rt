@@ -72,6 +72,3 @@ pub fn judge_calls(alloc: Global, reached: &Reached) -> Result<(), StaticError>
         Some(place) => Err(recursion(alloc, reached.nodes[place].tree.name.as_str())),
     }
 }
-
-#[cfg(test)]
-mod tests;

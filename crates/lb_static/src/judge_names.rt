@@ -38,6 +38,3 @@ pub fn judge_names<'s>(
     judge_constants(alloc, &globals, source, &reached.nodes)?;
     Ok(reached)
 }
-
-#[cfg(test)]
-mod tests;

@@ -81,6 +81,3 @@ pub fn judge_root(alloc: Global, reached: &Reached, table: &Table) -> Result<Sig
     }
     Ok(root.signature(alloc)?)
 }
-
-#[cfg(test)]
-mod tests;

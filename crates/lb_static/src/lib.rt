@@ -35,5 +35,3 @@ pub mod static_value;
 pub mod table;
 mod visits;
 pub mod walk;
-#[cfg(test)]
-mod worked;

@@ -1,6 +1,6 @@
 //! What the names of a node stand for.
 
-ghost use Rattle.std.specs.Prelude.{◌≡◌, ◌++◌, ◌<◌, ◌^◌, length, OnOk, IfOk, IfErr};
+ghost use Rattle.std.specs.Prelude.{◌≡◌, ◌++◌, ◌<◌, ◌^◌, [], length, OnOk, IfOk, IfErr};
 ghost use Rattle.lb_syntax.specs.Grammar.{declared as declarations_in};
 ghost use Rattle.lb_syntax.specs.SourceView.{view_groups, view_node, view_source};
 ghost use Rattle.lb_syntax.specs.View.{view_static};
@@ -63,14 +63,35 @@ fn declare_groups(
     Ok(())
 }
 
+/// Declares the variables of a node, in their order, and then its static parameters. Answers how
+/// many variables there are.
+///
+/// More variables than have places are more than fit in memory.
+fn declare_all(alloc: Global, declared: &mut Scope, tree: &Node) -> Result<usize, StaticError>
+    requires { declared.old ≡ [] }
+    ensures ok { OnOk result (declared.new ≡ declared_names (view_node tree.now)) }
+    ensures variables { IfOk result (λ n. n ≡ length (variable_names (view_node tree.now))) }
+    ensures few { IfOk result (λ n. n < 2 ^ 32) }
+    ensures err { IfErr result (λ e.
+        IsNameFault e (are_distinct (declared_names (view_node tree.now)))) }
+{
+    declare_groups(alloc, declared, &tree.inputs)?;
+    declare_groups(alloc, declared, &tree.outputs)?;
+    declare_groups(alloc, declared, &tree.locals)?;
+    let variables = declared.len();
+    if variables > u32::MAX as usize {
+        return Err(StaticError::Memory);
+    }
+    declare_names(alloc, declared, &tree.parameters)?;
+    Ok(variables)
+}
+
 impl<'a, 's> Naming<'a, 's> {
     ghost use Rattle.std.specs.Prelude.{true, is_some, IfSome};
     ghost use Rattle.lb_static.specs.Names.{is_static_name, is_variable};
     ghost use Rattle.lb_static.specs.NodeNames.{node_in, program_in, static_passes, takes, IsVariableAt, IsCallee};
 
     /// The names of a node. A variable or a static parameter that is declared twice is refused.
-    ///
-    /// More variables than have places are more than fit in memory.
     pub fn new(
         alloc: Global,
         globals: &'a Globals,
@@ -87,14 +108,7 @@ impl<'a, 's> Naming<'a, 's> {
             IsNameFault e (are_distinct (declared_names (view_node tree.now)))) }
     {
         let mut declared = Scope::new(alloc);
-        declare_groups(alloc, &mut declared, &tree.inputs)?;
-        declare_groups(alloc, &mut declared, &tree.outputs)?;
-        declare_groups(alloc, &mut declared, &tree.locals)?;
-        let variables = declared.len();
-        if variables > u32::MAX as usize {
-            return Err(StaticError::Memory);
-        }
-        declare_names(alloc, &mut declared, &tree.parameters)?;
+        let variables = declare_all(alloc, &mut declared, tree)?;
         Ok(Naming {
             tree,
             source,

@@ -13,15 +13,15 @@ use lb_syntax::tree::{ArrayIterator, BinaryOperator, Kind, Name, Node, Static, U
 pub struct VariableId(pub u32);
 
 /// The place of a static expression among those of its node.
-#[derive(Clone, Copy, PartialEq, Eq, Debug)]
+#[derive(Clone, Copy)]
 pub struct StaticId(pub u32);
 
 /// The number of a call or an iterated node: its place among those in the text of its node.
-#[derive(Clone, Copy, PartialEq, Eq, Debug)]
+#[derive(Clone, Copy)]
 pub struct CallId(pub u32);
 
 /// The place of a node among those of the source.
-#[derive(Clone, Copy, PartialEq, Eq, Debug)]
+#[derive(Clone, Copy)]
 pub struct NodePlace(pub u32);
 
 /// An expression whose names are resolved.
@@ -115,7 +115,7 @@ pub struct CallSite {
 }
 
 /// What a static expression stands for in the text.
-#[derive(Clone, Copy, PartialEq, Eq, Debug)]
+#[derive(Clone, Copy)]
 pub enum Role {
     /// The size of a declared type, of `e ^ n` or of an iterator.
     Size,

@@ -43,6 +43,3 @@ pub fn resolve_node<'s>(
     let body = steps(alloc, &mut here, &node.body)?;
     Ok(here.finish(node, inputs, outputs, body))
 }
-
-#[cfg(test)]
-mod tests;

@@ -99,24 +99,3 @@ impl Signature {
         self.elements[i as usize].name.as_str()
     }
 }
-
-#[cfg(test)]
-mod tests {
-    use super::*;
-    use std::test::Fail;
-
-    #[test]
-    fn elements_keep_their_order(rt: HostRuntime) -> Result<(), Fail> {
-        let alloc = rt.alloc();
-        let mut signature = Signature::new(alloc);
-        assert!(rt; signature.is_empty());
-        signature.push(String::from_str(alloc, "m[1][2]")?, Kind::Int)?;
-        signature.push(String::from_str(alloc, "c")?, Kind::Bool)?;
-        assert_eq!(rt; signature.len(), 2);
-        assert_eq!(rt; signature.name(0), "m[1][2]");
-        assert_eq!(rt; signature.name(1), "c");
-        assert_eq!(rt; signature.kind(1), Kind::Bool);
-        assert_eq!(rt; signature.copy(alloc)?.len(), 2);
-        Ok(())
-    }
-}

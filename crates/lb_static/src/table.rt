@@ -16,11 +16,11 @@ use crate::resolved::CallId;
 use crate::static_value::StaticInt;
 
 /// The place of a specialization in the table.
-#[derive(Clone, Copy, PartialEq, Eq, Debug)]
+#[derive(Clone, Copy)]
 pub struct SpecializationId(pub u32);
 
 /// The place of an instance in the table.
-#[derive(Clone, Copy, PartialEq, Eq, Debug)]
+#[derive(Clone, Copy)]
 pub struct InstanceId(pub u32);
 
 /// A node with the values of its static parameters.

@@ -358,8 +358,7 @@ pub fn walk(alloc: Global, reached: &Reached, constants: &Constants) -> Result<T
         origin: Origin::UnderTest,
         level: 1,
     };
-    let none = Vec::new(alloc);
-    let root = enter(alloc, reached, constants, &mut entered, under_test, &none)?;
+    let root = enter(alloc, reached, constants, &mut entered, under_test, &[])?;
     let observer = match reached.observer {
         Some(node) if (node.0 as usize) < reached.nodes.len() => {
             let entry = Entry {
@@ -367,7 +366,7 @@ pub fn walk(alloc: Global, reached: &Reached, constants: &Constants) -> Result<T
                 origin: Origin::Observer,
                 level: 1,
             };
-            let id = enter(alloc, reached, constants, &mut entered, entry, &none)?;
+            let id = enter(alloc, reached, constants, &mut entered, entry, &[])?;
             Some(id)
         }
         _ => None,
@@ -380,6 +379,3 @@ pub fn walk(alloc: Global, reached: &Reached, constants: &Constants) -> Result<T
         observer,
     })
 }
-
-#[cfg(test)]
-mod tests;

@@ -12,7 +12,6 @@ pub mod StaticComplete
 pub mod Places
 pub mod Rooms
 pub mod Complete
-pub mod Worked
 pub mod Begins
 pub mod Words
 pub mod Pieces

@@ -1,11 +1,13 @@
--- Words that are looked up among those of their length, and the values of literals.
-use Rattle.std.proofs.Common.{◌≡◌, ℕ, ◌+◌, ◌-◌, ◌*◌, ◌<◌, ◌≤◌, min, ◌==◌, List, [], ◌∷◌, filter, fold, length, take, get_or, Option, bytes_eq, refl, ap, ◌∙◌, inl, inr, arith}
-use Rattle.std.proofs.lemmas.Bool.{eq-eqb, cases_Bool, both_ways}
+-- Words that are looked up among those of their length, symbols, and the values of literals.
+use Rattle.std.proofs.Common.{◌≡◌, ℕ, ◌+◌, ◌-◌, ◌*◌, ◌<◌, ◌≤◌, min, ◌==◌, Bool, true, false, ◌&&◌, List, [], ◌∷◌, ◌++◌, filter, fold, length, take, get_or, slice_index, Option, Some, None, bytes_eq, refl, ap, sym, ◌∙◌, inl, inr, arith}
+use Rattle.std.specs.List.{list_all}
+use Rattle.std.proofs.lemmas.Bool.{eq-eqb, eqb-true, and_parts, cases_Bool, both_ways}
 use Rattle.std.proofs.lemmas.List.Sums.{fold_more}
 use lib.Pointwise.{pointwise_long}
 use lib.Dec.{eqb}
 use Rattle.lb_syntax.specs.declared.token.Mark.{Mark}
-use Rattle.lb_syntax.specs.Tokens.{Text, words, lookup, word, word_by, value_of}
+use Rattle.lb_syntax.specs.declared.token.Token.TheVariants as token
+use Rattle.lb_syntax.specs.Tokens.{Text, Piece, Lexeme, Wrong, words, lookup, word, word_by, value_of, pairs, singles, symbols, symbol_of}
 
 lookup_of_length : (table : List (Text × Mark)) (text : Text) →
     lookup (filter (λ entry. length entry.0 == length text) table) text ≡ lookup table text
@@ -31,6 +33,67 @@ word_by_length text found mark e f =
     let found_is : mark ≡ lookup words text =
     f ∙ ap (λ table. lookup table text) e ∙ lookup_of_length words text in
     rw found_is refl
+
+-- ---- symbols
+
+abbrev found_or : ℕ → Option Mark → Piece → Piece
+found_or n (Some mark) other = Lexeme (token.Mark mark) n
+found_or n None other = other
+
+abbrev are_long : ℕ → List (Text × Mark) → Bool
+are_long n table = list_all (λ entry. length entry.0 == n) table
+
+-- in a table of symbols of one length, the symbol at the front is the one of the first bytes
+symbol_by_lookup : (n : ℕ) (table later : List (Text × Mark)) (text : Text) →
+    are_long n table ≡ true →
+    symbol_of (table ++ later) text ≡ found_or n (lookup table (take n text)) (symbol_of later text)
+symbol_by_lookup n [] later text all = refl
+symbol_by_lookup n (entry ∷ table) later text all =
+    let long : length entry.0 ≡ n = eqb-true _ _ (and_parts (length entry.0 == n) (are_long n table) all).0 in
+    elim (cases_Bool (bytes_eq entry.0 (take n text))) [
+      | inl same ↦ rw (long, same) refl
+      | inr other ↦ rw (long, other)
+          (symbol_by_lookup n table later text
+          (and_parts (length entry.0 == n) (are_long n table) all).1)
+    ]
+
+false_after : (b : Bool) → (b && false) ≡ false
+false_after true = refl
+false_after false = refl
+
+-- no symbol of two bytes ends in 0, and none has one byte
+no_pair : (b : ℕ) → lookup pairs (b ∷ []) ≡ lookup pairs (b ∷ 0 ∷ [])
+no_pair b = simp false_after
+
+first_two : (text : Text) → 0 < length text →
+    lookup pairs (take 2 text) ≡ lookup pairs (slice_index text 0 ∷ slice_index text 1 ∷ [])
+first_two [] some = absurd (omega arith)
+first_two (b ∷ []) some = no_pair b
+first_two (b ∷ c ∷ rest) some = refl
+
+first_one : (text : Text) → 0 < length text → take 1 text ≡ slice_index text 0 ∷ []
+first_one [] some = absurd (omega arith)
+first_one (b ∷ rest) some = refl
+
+-- a symbol of two bytes, or else one of one byte
+pub symbol_is : (text : Text) (first second : ℕ) (two one : Option Mark) → 0 < length text →
+    first ≡ slice_index text 0 → second ≡ slice_index text 1 →
+    two ≡ lookup pairs (first ∷ second ∷ []) → one ≡ lookup singles (first ∷ []) →
+    symbol_of symbols text ≡ found_or 2 two (found_or 1 one Wrong)
+symbol_is text first second two one some f s t o =
+    let pair : lookup pairs (take 2 text) ≡ two =
+    first_two text some ∙
+    sym (t ∙ ap (λ b. lookup pairs (b ∷ second ∷ [])) f ∙
+    ap (λ b. lookup pairs (slice_index text 0 ∷ b ∷ [])) s) in
+    let single : lookup singles (take 1 text) ≡ one =
+    ap (λ bytes. lookup singles bytes) (first_one text some) ∙
+    sym (o ∙ ap (λ b. lookup singles (b ∷ [])) f) in
+    symbol_by_lookup 2 pairs singles text refl ∙
+    ap (λ mark. found_or 2 mark (symbol_of singles text)) pair ∙
+    ap (λ later. found_or 2 two later)
+    (symbol_by_lookup 1 singles [] text refl ∙ ap (λ mark. found_or 1 mark Wrong) single)
+
+-- ---- literals
 
 pub value_of_none : value_of [] ≡ 0
 unfolding value_of

@@ -6,7 +6,6 @@ pub mod Levels
 pub mod Spelling
 pub mod Reading
 pub mod View
-pub mod Worked
 pub mod Nests
 pub mod Growths
 pub mod Tokens
@@ -15,7 +14,6 @@ pub mod Lexed
 pub mod Limits
 pub mod Walk
 pub mod Texts
-pub mod Examples
 pub mod ListReading
 pub mod Grammar
 pub mod Programs

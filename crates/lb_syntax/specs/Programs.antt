@@ -44,14 +44,19 @@ when_by (Some clock) ts = do
 unfoldable pub when_at : Reader (Option Sampling)
 when_at ts = when_by (expect m.When ts) ts
 
+-- the type and clock after some names and `:`
+abbrev pub with_type : List Name → Reader Group
+with_type names ts = do
+  kind ← kind_at ts
+  sizes ← any_at (expect m.Caret) static_at kind.1
+  clock ← when_at sizes.1
+  Some (record { names = names; kind = kind.0; sizes = sizes.0; clock = clock.0 }, clock.1)
+
 unfoldable pub group_at : Reader Group
 group_at ts = do
   names ← names_at ts
   ts ← expect m.Colon names.1
-  kind ← kind_at ts
-  sizes ← any_at (expect m.Caret) static_at kind.1
-  clock ← when_at sizes.1
-  Some (record { names = names.0; kind = kind.0; sizes = sizes.0; clock = clock.0 }, clock.1)
+  with_type names.0 ts
 
 -- groups and perhaps a last `;`
 unfoldable pub groups_at : Reader (List Group)
@@ -131,23 +136,33 @@ pub record Heading : Type 0 where
   pub inputs : List Group
   pub outputs : List Group
 
-unfoldable pub heading_at : Reader Heading
-heading_at ts = do
-  name ← name_at ts
-  parameters ← parameters_at name.1
-  ts ← expect m.Open parameters.1
-  inputs ← inputs_at ts
-  ts ← expect m.Close inputs.1
+-- a heading from `returns` on, after its name, parameters and inputs
+abbrev pub with_outputs : Name → List Name → List Group → Reader Heading
+with_outputs name parameters inputs ts = do
   ts ← expect m.Returns ts
   ts ← expect m.Open ts
   outputs ← groups_at ts
   rest ← expect m.Close outputs.1
   let h : Heading = record {
-    name = name.0;
-    parameters = parameters.0;
-    inputs = inputs.0;
+    name = name;
+    parameters = parameters;
+    inputs = inputs;
     outputs = outputs.0;
   } in Some (h, rest)
+
+-- a heading from its inputs on, after its name and parameters
+abbrev pub with_inputs : Name → List Name → Reader Heading
+with_inputs name parameters ts = do
+  ts ← expect m.Open ts
+  inputs ← inputs_at ts
+  ts ← expect m.Close inputs.1
+  with_outputs name parameters inputs.0 ts
+
+unfoldable pub heading_at : Reader Heading
+heading_at ts = do
+  name ← name_at ts
+  parameters ← parameters_at name.1
+  with_inputs name.0 parameters.0 parameters.1
 
 -- the statements between `let` and `tel`, and the end
 unfoldable pub body_at : Reader (List Statement)
@@ -186,14 +201,19 @@ type_by (Some type) ts = expect m.Int type
 abbrev pub type_at : List Token → Option (List Token)
 type_at ts = type_by (expect m.Colon ts) ts
 
+-- a constant from `=` on, after its name
+abbrev pub with_value : Name → Reader Constant
+with_value name ts = do
+  ts ← expect m.Equal ts
+  s ← static_at ts
+  rest ← expect m.Semicolon s.1
+  Some (record { name = name; value = s.0 }, rest)
+
 unfoldable pub constant_at : Reader Constant
 constant_at ts = do
   x ← name_at ts
   ts ← type_at x.1
-  ts ← expect m.Equal ts
-  s ← static_at ts
-  rest ← expect m.Semicolon s.1
-  Some (record { name = x.0; value = s.0 }, rest)
+  with_value x.0 ts
 
 -- constants after `const`
 abbrev pub constants_at : Reader (List Constant)

@@ -38,9 +38,3 @@ expect m (t ∷ ts) = if is_mark m t then Some ts else None
 unfoldable pub name_at : Reader Name
 name_at (token.Name x ∷ ts) = Some (x, ts)
 name_at _ = None
-
--- a fact of what is there, where only memory may have run out
-abbrev pub IfOkOrMemory : {X : Type 0} → Result X ReadError → (X → Type 0) → Type 0
-IfOkOrMemory (Ok x) P = P x
-IfOkOrMemory (Err error.Memory) P = Unit {0}
-IfOkOrMemory (Err (error.Syntax left)) P = ⊥

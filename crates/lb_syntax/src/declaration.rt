@@ -119,7 +119,19 @@ fn group(alloc: Global, tokens: &[Token]) -> Result<(Declarations, &[Token]), Re
 {
     let (names, rest) = names(alloc, tokens)?;
     let (names, rest) = closed(names, Mark::Colon, rest)?;
-    let (kind, rest) = kind(rest)?;
+    with_type(alloc, names, rest)
+}
+
+/// The type and clock of some names, after the `:`.
+fn with_type(
+    alloc: Global,
+    names: Vec<Name>,
+    tokens: &[Token],
+) -> Result<(Declarations, &[Token]), ReadError>
+    ensures { Gives (λ x. (view_group x.0, x.1.now)) result
+        (reading.with_type names.items tokens.now) }
+{
+    let (kind, rest) = kind(tokens)?;
     let (sizes, rest) = any(alloc, &SizeItems { alloc }, rest)?;
     let (clock, rest) = sampling(alloc, rest)?;
     Ok((
@@ -204,8 +216,7 @@ impl Items for LocalItems {
     #[tactic(auto, unfolding(crate::specs::Programs::closed_group_at))]
     fn item<'t>(&self, tokens: &'t [Token]) -> Result<(Declarations, &'t [Token]), ReadError> {
         let (found, rest) = group(self.alloc, tokens)?;
-        let (found, rest) = closed(found, Mark::Semicolon, rest)?;
-        Ok((found, rest))
+        closed(found, Mark::Semicolon, rest)
     }
 
     #[tactic(auto, unfolding(crate::specs::ListReading::at_next_local))]

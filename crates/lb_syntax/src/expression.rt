@@ -12,7 +12,7 @@ ghost use Rattle.lb_syntax.specs.Levels as levels;
 ghost use Rattle.lb_syntax.specs.Nests.{Nests};
 ghost use Rattle.lb_syntax.specs.Reading as reading;
 ghost use Rattle.lb_syntax.specs.Readers as readers;
-ghost use Rattle.lb_syntax.specs.Readers.{Gives, IfOkOrMemory};
+ghost use Rattle.lb_syntax.specs.Readers.{Gives};
 ghost use Rattle.lb_syntax.specs.Tree as tree;
 ghost use Rattle.lb_syntax.specs.View.{view, view_box, view_static, view_statics, view_operator};
 ghost use Rattle.lb_syntax.specs.declared.token.Mark.TheVariants as m;
@@ -123,8 +123,7 @@ fn arguments(alloc: Global, tokens: &[Token]) -> Result<(Vec<Static>, &[Token]),
         None => Ok((Vec::new(alloc), tokens)),
         Some(next) => {
             let (found, rest) = statics(alloc, next)?;
-            let (found, rest) = closed(found, Mark::CloseStatic, rest)?;
-            Ok((found, rest))
+            closed(found, Mark::CloseStatic, rest)
         }
     }
 }
@@ -134,17 +133,20 @@ fn arguments(alloc: Global, tokens: &[Token]) -> Result<(Vec<Static>, &[Token]),
 fn operator(alloc: Global, tokens: &[Token]) -> Result<(Operator, &[Token]), ReadError>
     ensures { Gives (λ x. (view_operator x.0, x.1.now)) result (reading.operator_at tokens.now) }
 {
-    match tokens {
-        [Token::Name(f), rest @ ..] => {
+    let [token, rest @ ..] = tokens else {
+        return Err(ReadError::Syntax(tokens.len()));
+    };
+    match token {
+        Token::Name(f) => {
             let name = f.copy(alloc)?;
             let (found, rest) = arguments(alloc, rest)?;
             Ok((Operator::Node(name, found), rest))
         }
-        [Token::Mark(mark), rest @ ..] => match symbol_of(*mark) {
+        Token::Mark(mark) => match symbol_of(*mark) {
             Some(op) => Ok((Operator::Symbol(op), rest)),
             None => Err(ReadError::Syntax(tokens.len())),
         },
-        _ => Err(ReadError::Syntax(tokens.len())),
+        Token::Literal(_) => Err(ReadError::Syntax(tokens.len())),
     }
 }
 
@@ -194,13 +196,6 @@ fn element(
     }
 }
 
-/// The tree in a box.
-fn boxed(alloc: Global, e: Expr) -> Result<Box<Expr>, ReadError>
-    ensures { IfOkOrMemory result (λ b. view_box b ≡ view e) }
-{
-    Ok(Box::new(alloc, e)?)
-}
-
 /// The tree in a box, and the tokens after it.
 fn boxed_before<'t>(
     alloc: Global,
@@ -210,48 +205,68 @@ fn boxed_before<'t>(
     ensures { Gives {Y = tree.Expr × List AToken} (λ x. (view_box x.0, x.1.now)) result
         (Some (view e, rest.now)) }
 {
-    Ok((boxed(alloc, e)?, rest))
+    Ok((Box::new(alloc, e)?, rest))
 }
 
-/// The tree of an infix form and its two operands.
-fn joined(alloc: Global, form: Form, a: Box<Expr>, b: Box<Expr>) -> Result<Box<Expr>, ReadError>
-    ensures { IfOkOrMemory result
-        (λ e. view_box e ≡ reading.joined form (view_box a) (view_box b)) }
+/// The tree of an infix form and its two operands, and the tokens after it.
+fn joined<'t>(
+    alloc: Global,
+    form: Form,
+    a: Box<Expr>,
+    b: Box<Expr>,
+    rest: &'t [Token],
+) -> Result<(Box<Expr>, &'t [Token]), ReadError>
+    ensures { Gives {Y = tree.Expr × List AToken} (λ x. (view_box x.0, x.1.now)) result
+        (Some (reading.joined form (view_box a) (view_box b), rest.now)) }
 {
-    match form {
-        Form::Data(op) => boxed(alloc, Expr::Binary(op, a, b)),
-        Form::Arrow => boxed(alloc, Expr::Arrow(a, b)),
-        Form::Fby => boxed(alloc, Expr::Fby(a, b)),
-        _ => boxed(alloc, Expr::Join(a, b)),
-    }
+    let e = match form {
+        Form::Data(op) => Expr::Binary(op, a, b),
+        Form::Arrow => Expr::Arrow(a, b),
+        Form::Fby => Expr::Fby(a, b),
+        _ => Expr::Join(a, b),
+    };
+    boxed_before(alloc, e, rest)
 }
 
-/// A call.
-fn call(
+/// A call, and the tokens after it.
+fn call<'t>(
     alloc: Global,
     name: Name,
     statics: Vec<Static>,
     operands: Vec<Expr>,
-) -> Result<Box<Expr>, ReadError>
-    ensures { IfOkOrMemory result (λ e. view_box e
-        ≡ tree.Call name (view_statics statics.items) (reading.exprs (map view operands.items))) }
+    rest: &'t [Token],
+) -> Result<(Box<Expr>, &'t [Token]), ReadError>
+    ensures { Gives {Y = tree.Expr × List AToken} (λ x. (view_box x.0, x.1.now)) result
+        (Some (
+          tree.Call name (view_statics statics.items)
+              (reading.exprs (map view operands.items)),
+          rest.now,
+        )) }
 {
-    boxed(alloc, Expr::Call(name, statics, operands))
+    boxed_before(alloc, Expr::Call(name, statics, operands), rest)
 }
 
-/// What an iterator makes of arrays.
-fn iterate(
+/// What an iterator makes of arrays, and the tokens after it.
+fn iterate<'t>(
     alloc: Global,
     iterator: ArrayIterator,
     operator: Operator,
     size: Static,
     operands: Vec<Expr>,
-) -> Result<Box<Expr>, ReadError>
-    ensures { IfOkOrMemory result (λ e. view_box e
-        ≡ tree.Iterate iterator (view_operator operator) (view_static size)
-        (reading.exprs (map view operands.items))) }
+    rest: &'t [Token],
+) -> Result<(Box<Expr>, &'t [Token]), ReadError>
+    ensures { Gives {Y = tree.Expr × List AToken} (λ x. (view_box x.0, x.1.now)) result
+        (Some (
+          tree.Iterate iterator (view_operator operator) (view_static size)
+              (reading.exprs (map view operands.items)),
+          rest.now,
+        )) }
 {
-    boxed(alloc, Expr::Iterate(iterator, operator, size, operands))
+    boxed_before(
+        alloc,
+        Expr::Iterate(iterator, operator, size, operands),
+        rest,
+    )
 }
 
 /// The reader of what stands inside an expression, to one depth less, is handed in, so that each
@@ -297,11 +312,13 @@ impl<F: Fn(Global, usize, u8, &[Token]) -> Result<(Box<Expr>, &[Token]), ReadErr
         ensures { Gives (λ x. (view_box x.0, x.1.now)) result
             (reading.first (reading.tree_at self.now.depth) tokens.now) }
     {
-        match tokens {
-            [Token::Literal(n), rest @ ..] => boxed_before(self.alloc, Expr::Literal(*n), rest),
-            [Token::Name(x), rest @ ..] => self.named(x.copy(self.alloc)?, rest),
-            [Token::Mark(mark), rest @ ..] => self.marked(*mark, rest),
-            _ => Err(ReadError::Syntax(tokens.len())),
+        let [token, rest @ ..] = tokens else {
+            return Err(ReadError::Syntax(tokens.len()));
+        };
+        match token {
+            Token::Literal(n) => boxed_before(self.alloc, Expr::Literal(*n), rest),
+            Token::Name(x) => self.named(x.copy(self.alloc)?, rest),
+            Token::Mark(mark) => self.marked(*mark, rest),
         }
     }
 
@@ -376,8 +393,7 @@ impl<F: Fn(Global, usize, u8, &[Token]) -> Result<(Box<Expr>, &[Token]), ReadErr
             (reading.until (reading.tree_at self.now.depth) mark tokens.now) }
     {
         let (e, rest) = self.inner(ANY_LEVEL, tokens)?;
-        let (e, rest) = closed(e, mark, rest)?;
-        Ok((e, rest))
+        closed(e, mark, rest)
     }
 
     #[tactic(auto, unfolding(crate::specs::Reading::choice))]
@@ -428,7 +444,7 @@ impl<F: Fn(Global, usize, u8, &[Token]) -> Result<(Box<Expr>, &[Token]), ReadErr
             Some(next) => {
                 let (es, rest) = self.operands(next)?;
                 let none = Vec::new(self.alloc);
-                Ok((call(self.alloc, name, none, es)?, rest))
+                call(self.alloc, name, none, es, rest)
             }
         }
     }
@@ -446,7 +462,7 @@ impl<F: Fn(Global, usize, u8, &[Token]) -> Result<(Box<Expr>, &[Token]), ReadErr
     {
         let (f, n, rest) = applied(self.alloc, tokens)?;
         let (es, rest) = self.items(rest)?;
-        Ok((iterate(self.alloc, i, f, n, es)?, rest))
+        iterate(self.alloc, i, f, n, es, rest)
     }
 
     /// After `f<<`.
@@ -464,7 +480,7 @@ impl<F: Fn(Global, usize, u8, &[Token]) -> Result<(Box<Expr>, &[Token]), ReadErr
         let (found, rest) = closed(found, Mark::CloseStatic, rest)?;
         let (found, rest) = closed(found, Mark::Open, rest)?;
         let (es, rest) = self.operands(rest)?;
-        Ok((call(self.alloc, name, found, es)?, rest))
+        call(self.alloc, name, found, es, rest)
     }
 
     /// After `f(`, operands of which there may be none.
@@ -503,8 +519,7 @@ impl<F: Fn(Global, usize, u8, &[Token]) -> Result<(Box<Expr>, &[Token]), ReadErr
             (reading.list_until (reading.tree_at self.now.depth) mark tokens.now) }
     {
         let (es, rest) = list(self.alloc, self, tokens)?;
-        let (es, rest) = closed(es, mark, rest)?;
-        Ok((es, rest))
+        closed(es, mark, rest)
     }
 
     /// The tree that a form makes of its left operand and what follows its mark.
@@ -546,7 +561,7 @@ impl<F: Fn(Global, usize, u8, &[Token]) -> Result<(Box<Expr>, &[Token]), ReadErr
             (reading.infix_at (reading.tree_at self.now.depth) (view_box left) form tokens.now) }
     {
         let (right, rest) = self.inner(row_of(form).right, tokens)?;
-        Ok((joined(self.alloc, form, left, right)?, rest))
+        joined(self.alloc, form, left, right, rest)
     }
 }
 

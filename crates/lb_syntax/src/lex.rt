@@ -362,6 +362,3 @@ pub fn lex(alloc: Global, text: &[u8]) -> Result<Tokens, LexError>
     }
     Ok(Tokens { tokens, starts })
 }
-
-#[cfg(test)]
-mod tests;

@@ -6,8 +6,6 @@ mod climb;
 mod declaration;
 pub mod error;
 mod expression;
-#[cfg(test)]
-mod expression_tests;
 mod level;
 pub mod lex;
 pub mod limits;

@@ -7,6 +7,7 @@ ghost use Rattle.std.specs.Prelude.{◌≡◌, ◌<◌, ◌≤◌, ◌+◌, ◌&
 ghost use Rattle.lb_syntax.specs.Limits as spec;
 ghost use Rattle.lb_syntax.specs.Walk as walk;
 
+use crate::level::form_of;
 use crate::token::{Mark, Token};
 
 /// The greatest number of bytes of a text.
@@ -56,44 +57,24 @@ fn is_separator(depth: usize, token: &Token) -> bool
     }
 }
 
+/// Whether a mark is a prefix operator, or a bracket that nests in front of an operand.
+fn opens(mark: Mark) -> bool
+    ensures { result ≡ walk.opens mark }
+{
+    match mark {
+        Mark::If | Mark::Not | Mark::Pre | Mark::Current | Mark::Hash | Mark::Nor => true,
+        Mark::Open | Mark::OpenStatic => true,
+        _ => false,
+    }
+}
+
 /// Whether a token is an operator, or a bracket that nests.
+#[tactic(auto, using(crate::proofs::LimitLaws::counted_mark))]
 fn is_counted(token: &Token) -> bool
     ensures { result ≡ spec.is_counted token.now }
 {
     match token {
-        Token::Mark(mark) => matches!(
-            mark,
-            Mark::Bar
-                | Mark::If
-                | Mark::Arrow
-                | Mark::Fby
-                | Mark::Implies
-                | Mark::Or
-                | Mark::Xor
-                | Mark::And
-                | Mark::Equal
-                | Mark::Unequal
-                | Mark::Less
-                | Mark::AtMost
-                | Mark::Greater
-                | Mark::AtLeast
-                | Mark::Not
-                | Mark::Plus
-                | Mark::Minus
-                | Mark::Star
-                | Mark::Slash
-                | Mark::Div
-                | Mark::Mod
-                | Mark::When
-                | Mark::Pre
-                | Mark::Current
-                | Mark::Caret
-                | Mark::Hash
-                | Mark::Nor
-                | Mark::Open
-                | Mark::OpenBracket
-                | Mark::OpenStatic
-        ),
+        Token::Mark(mark) => opens(*mark) || form_of(*mark).is_some(),
         _ => false,
     }
 }

@@ -5,7 +5,7 @@ ghost use Rattle.lb_syntax.specs.Programs as reading;
 ghost use Rattle.lb_syntax.specs.Reading as expressions;
 ghost use Rattle.lb_syntax.specs.Readers.{Gives};
 ghost use Rattle.lb_syntax.specs.Headings.{view_heading};
-ghost use Rattle.lb_syntax.specs.SourceView.{view_node};
+ghost use Rattle.lb_syntax.specs.SourceView.{view_groups, view_node};
 
 use crate::declaration::{groups, inputs, locals};
 use crate::list::{Items, list};
@@ -25,8 +25,7 @@ fn parameter(alloc: Global, tokens: &[Token]) -> Result<(Name, &[Token]), ReadEr
     let rest = expect(Mark::Const, tokens)?;
     let (name, rest) = name_at(alloc, rest)?;
     let (name, rest) = closed(name, Mark::Colon, rest)?;
-    let (name, rest) = closed(name, Mark::Int, rest)?;
-    Ok((name, rest))
+    closed(name, Mark::Int, rest)
 }
 
 /// A reader of static parameters with `,` or `;` between.
@@ -66,8 +65,7 @@ fn parameters(alloc: Global, tokens: &[Token]) -> Result<(Vec<Name>, &[Token]), 
         None => Ok((Vec::new(alloc), tokens)),
         Some(inner) => {
             let (names, rest) = list(alloc, &ParameterItems { alloc }, inner)?;
-            let (names, rest) = closed(names, Mark::CloseStatic, rest)?;
-            Ok((names, rest))
+            closed(names, Mark::CloseStatic, rest)
         }
     }
 }
@@ -88,22 +86,46 @@ fn heading_at(alloc: Global, tokens: &[Token]) -> Result<(Heading, &[Token]), Re
 {
     let (name, rest) = name_at(alloc, tokens)?;
     let (parameters, rest) = parameters(alloc, rest)?;
-    let rest = expect(Mark::Open, rest)?;
+    with_inputs(alloc, name, parameters, rest)
+}
+
+/// The rest of a heading, from its inputs on.
+fn with_inputs(
+    alloc: Global,
+    name: Name,
+    parameters: Vec<Name>,
+    tokens: &[Token],
+) -> Result<(Heading, &[Token]), ReadError>
+    ensures { Gives (λ x. (view_heading x.0, x.1.now)) result
+        (reading.with_inputs name parameters.items tokens.now) }
+{
+    let rest = expect(Mark::Open, tokens)?;
     let (inputs, rest) = inputs(alloc, rest)?;
-    let rest = expect(Mark::Close, rest)?;
-    let rest = expect(Mark::Returns, rest)?;
+    let (inputs, rest) = closed(inputs, Mark::Close, rest)?;
+    with_outputs(alloc, name, parameters, inputs, rest)
+}
+
+/// The rest of a heading, from the word `returns` on.
+fn with_outputs(
+    alloc: Global,
+    name: Name,
+    parameters: Vec<Name>,
+    inputs: Vec<Declarations>,
+    tokens: &[Token],
+) -> Result<(Heading, &[Token]), ReadError>
+    ensures { Gives (λ x. (view_heading x.0, x.1.now)) result
+        (reading.with_outputs name parameters.items (view_groups inputs.items) tokens.now) }
+{
+    let rest = expect(Mark::Returns, tokens)?;
     let rest = expect(Mark::Open, rest)?;
     let (outputs, rest) = groups(alloc, rest)?;
-    let rest = expect(Mark::Close, rest)?;
-    Ok((
-        Heading {
-            name,
-            parameters,
-            inputs,
-            outputs,
-        },
-        rest,
-    ))
+    let heading = Heading {
+        name,
+        parameters,
+        inputs,
+        outputs,
+    };
+    closed(heading, Mark::Close, rest)
 }
 
 /// A node after the word `node`, or a function after the word `function`.

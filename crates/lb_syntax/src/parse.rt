@@ -46,10 +46,3 @@ pub fn parse(alloc: Global, text: &[u8]) -> Result<Source, SyntaxError>
         }
     }
 }
-
-#[cfg(test)]
-mod limit_tests;
-#[cfg(test)]
-mod tests;
-#[cfg(test)]
-mod tree_tests;

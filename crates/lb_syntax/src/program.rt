@@ -14,7 +14,7 @@ use crate::node::node_at;
 use crate::reader::{ReadError, after, closed, expect, name_at};
 use crate::statics::static_expression;
 use crate::token::{Mark, Token};
-use crate::tree::{Constant, Node, Source};
+use crate::tree::{Constant, Name, Node, Source};
 use std::alloc::{AllocError, Global};
 
 /// The tokens after `: int`, or all of them if no `:` comes next.
@@ -34,10 +34,21 @@ fn constant_at(alloc: Global, tokens: &[Token]) -> Result<(Constant, &[Token]), 
 {
     let (name, rest) = name_at(alloc, tokens)?;
     let rest = skip_type(rest)?;
-    let rest = expect(Mark::Equal, rest)?;
+    with_value(alloc, name, rest)
+}
+
+/// The rest of a constant, from `=` on.
+fn with_value(
+    alloc: Global,
+    name: Name,
+    tokens: &[Token],
+) -> Result<(Constant, &[Token]), ReadError>
+    ensures { Gives (λ x. (view_constant x.0, x.1.now)) result
+        (reading.with_value name tokens.now) }
+{
+    let rest = expect(Mark::Equal, tokens)?;
     let (value, rest) = static_expression(alloc, rest)?;
-    let (value, rest) = closed(value, Mark::Semicolon, rest)?;
-    Ok((Constant { name, value }, rest))
+    closed(Constant { name, value }, Mark::Semicolon, rest)
 }
 
 /// A reader of constants, one after the other.
@@ -77,24 +88,40 @@ pub enum Part {
     Single(Node),
 }
 
+/// The constants after a `const`.
+fn constants_part(alloc: Global, tokens: &[Token]) -> Result<(Part, &[Token]), ReadError>
+    ensures { Gives (λ x. (view_part x.0, x.1.now)) result (reading.constants_part tokens.now) }
+{
+    let (constants, rest) = list(alloc, &ConstantItems { alloc }, tokens)?;
+    Ok((Part::Constants(constants), rest))
+}
+
+/// A node after the word `node`, or a function after the word `function`.
+fn node_part(
+    alloc: Global,
+    is_function: bool,
+    tokens: &[Token],
+) -> Result<(Part, &[Token]), ReadError>
+    ensures { Gives (λ x. (view_part x.0, x.1.now)) result
+        (reading.node_part is_function tokens.now) }
+{
+    let (node, rest) = node_at(alloc, is_function, tokens)?;
+    Ok((Part::Single(node), rest))
+}
+
 /// The constants after a `const`, or a node or a function.
 #[tactic(auto, unfolding(crate::specs::Programs::part_at))]
 fn part_at(alloc: Global, tokens: &[Token]) -> Result<(Part, &[Token]), ReadError>
     ensures { Gives (λ x. (view_part x.0, x.1.now)) result (reading.part_at tokens.now) }
 {
     if let Some(rest) = after(Mark::Const, tokens) {
-        let (constants, rest) = list(alloc, &ConstantItems { alloc }, rest)?;
-        return Ok((Part::Constants(constants), rest));
+        return constants_part(alloc, rest);
     }
     if let Some(rest) = after(Mark::Node, tokens) {
-        let (node, rest) = node_at(alloc, false, rest)?;
-        return Ok((Part::Single(node), rest));
+        return node_part(alloc, false, rest);
     }
     match after(Mark::Function, tokens) {
-        Some(rest) => {
-            let (node, rest) = node_at(alloc, true, rest)?;
-            Ok((Part::Single(node), rest))
-        }
+        Some(rest) => node_part(alloc, true, rest),
         None => Err(ReadError::Syntax(tokens.len())),
     }
 }

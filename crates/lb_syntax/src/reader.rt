@@ -9,7 +9,7 @@ use crate::tree::Name;
 use std::alloc::{AllocError, AllocFailed, Global};
 
 /// Why nothing was read.
-#[derive(Debug, Drop)]
+#[derive(Drop)]
 pub enum ReadError {
     /// Memory ran out.
     Memory,

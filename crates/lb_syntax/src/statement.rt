@@ -25,8 +25,7 @@ fn left(alloc: Global, tokens: &[Token]) -> Result<(Vec<Name>, &[Token]), ReadEr
         None => names(alloc, tokens),
         Some(inner) => {
             let (names, rest) = names(alloc, inner)?;
-            let (names, rest) = closed(names, Mark::Close, rest)?;
-            Ok((names, rest))
+            closed(names, Mark::Close, rest)
         }
     }
 }
@@ -37,8 +36,7 @@ fn assertion(alloc: Global, tokens: &[Token]) -> Result<(Statement, &[Token]), R
         (reading.statement_by (Some tokens.now) tokens.now) }
 {
     let (e, rest) = expression(alloc, tokens)?;
-    let (e, rest) = closed(e, Mark::Semicolon, rest)?;
-    Ok((Statement::Assertion(e), rest))
+    closed(Statement::Assertion(e), Mark::Semicolon, rest)
 }
 
 /// An equation.
@@ -49,8 +47,7 @@ fn equation(alloc: Global, tokens: &[Token]) -> Result<(Statement, &[Token]), Re
     let (names, rest) = left(alloc, tokens)?;
     let (names, rest) = closed(names, Mark::Equal, rest)?;
     let (e, rest) = expression(alloc, rest)?;
-    let (e, rest) = closed(e, Mark::Semicolon, rest)?;
-    Ok((Statement::Equation(names, e), rest))
+    closed(Statement::Equation(names, e), Mark::Semicolon, rest)
 }
 
 /// An equation or an assertion.

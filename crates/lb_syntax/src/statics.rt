@@ -1,13 +1,15 @@
 //! Static expressions, sizes, clocks and static arguments.
 
-ghost use Rattle.std.specs.Prelude.{◌≡◌, ℕ, Option, List, Some, None, IfNone, IfSome};
+ghost use Rattle.std.specs.Prelude.{◌≡◌, ℕ, Option, List, ◌∷◌, Some, None, IfNone, IfSome};
 ghost use Rattle.lb_syntax.specs.Nests.{NestsStatic};
 ghost use Rattle.lb_syntax.specs.Reading as reading;
 ghost use Rattle.lb_syntax.specs.Readers.{Gives};
 ghost use Rattle.lb_syntax.specs.Tree as tree;
 ghost use Rattle.lb_syntax.specs.View.{view_static, view_statics, view_sampling};
 ghost use Rattle.lb_syntax.specs.Levels as levels;
+ghost use Rattle.lb_syntax.specs.declared.token.Mark.TheVariants as m;
 ghost use Rattle.lb_syntax.specs.declared.token.Token.{Token as AToken};
+ghost use Rattle.lb_syntax.specs.declared.token.Token.TheVariants as token;
 
 use crate::climb::{Grower, Growth, climb};
 use crate::level::{ANY_LEVEL, ATOM_LEVEL, Form, Row, arithmetic_of, row_of, unary_level};
@@ -112,19 +114,38 @@ impl<F: Fn(Global, usize, u8, &[Token]) -> Result<(Static, &[Token]), ReadError>
         ensures { Gives (λ x. (view_static x.0, x.1.now)) result
             (reading.static_first (reading.static_tree self.now.depth) tokens.now) }
     {
-        match tokens {
-            [Token::Literal(n), rest @ ..] => Ok((Static::Whole(*n), rest)),
-            [Token::Name(x), rest @ ..] => named(self.alloc, x, rest),
-            [Token::Mark(Mark::Open), rest @ ..] => {
-                let (s, rest) = self.inner(ANY_LEVEL, rest)?;
-                grouped(self.alloc, s, rest)
-            }
-            [Token::Mark(Mark::Minus), rest @ ..] => {
-                let (s, rest) = self.inner(unary_level(UnaryOperator::Negate), rest)?;
-                negated(self.alloc, s, rest)
-            }
-            _ => Err(ReadError::Syntax(tokens.len())),
+        let [token, rest @ ..] = tokens else {
+            return Err(ReadError::Syntax(tokens.len()));
+        };
+        match token {
+            Token::Literal(n) => Ok((Static::Whole(*n), rest)),
+            Token::Name(x) => named(self.alloc, x, rest),
+            Token::Mark(Mark::Open) => self.group(rest),
+            Token::Mark(Mark::Minus) => self.negation(rest),
+            Token::Mark(_) => Err(ReadError::Syntax(tokens.len())),
         }
+    }
+
+    /// What `(` begins.
+    fn group<'t>(&self, tokens: &'t [Token]) -> Result<(Static, &'t [Token]), ReadError>
+        requires { NestsStatic self.now.depth (F.pre self.now.inner) (F.post self.now.inner) }
+        ensures { Gives (λ x. (view_static x.0, x.1.now)) result
+            (reading.static_group (reading.static_tree self.now.depth) tokens.now) }
+    {
+        let (s, rest) = self.inner(ANY_LEVEL, tokens)?;
+        grouped(self.alloc, s, rest)
+    }
+
+    /// What `-` begins.
+    #[tactic(auto, unfolding(crate::specs::Reading::static_first))]
+    fn negation<'t>(&self, tokens: &'t [Token]) -> Result<(Static, &'t [Token]), ReadError>
+        requires { NestsStatic self.now.depth (F.pre self.now.inner) (F.post self.now.inner) }
+        ensures { Gives (λ x. (view_static x.0, x.1.now)) result
+            (reading.static_first (reading.static_tree self.now.depth)
+            (token.Mark m.Minus ∷ tokens.now)) }
+    {
+        let (s, rest) = self.inner(unary_level(UnaryOperator::Negate), tokens)?;
+        negated(self.alloc, s, rest)
     }
 }
 
@@ -255,14 +276,17 @@ pub fn statics(alloc: Global, tokens: &[Token]) -> Result<(Vec<Static>, &[Token]
 pub fn size(alloc: Global, tokens: &[Token]) -> Result<(Static, &[Token]), ReadError>
     ensures { Gives (λ x. (view_static x.0, x.1.now)) result (reading.size_at tokens.now) }
 {
-    match tokens {
-        [Token::Literal(n), rest @ ..] => Ok((Static::Whole(*n), rest)),
-        [Token::Name(x), rest @ ..] => named(alloc, x, rest),
-        [Token::Mark(Mark::Open), rest @ ..] => {
+    let [token, rest @ ..] = tokens else {
+        return Err(ReadError::Syntax(tokens.len()));
+    };
+    match token {
+        Token::Literal(n) => Ok((Static::Whole(*n), rest)),
+        Token::Name(x) => named(alloc, x, rest),
+        Token::Mark(Mark::Open) => {
             let (s, rest) = static_expression(alloc, rest)?;
             grouped(alloc, s, rest)
         }
-        _ => Err(ReadError::Syntax(tokens.len())),
+        Token::Mark(_) => Err(ReadError::Syntax(tokens.len())),
     }
 }
 
@@ -275,8 +299,7 @@ fn clock_name(alloc: Global, tokens: &[Token]) -> Result<(Name, &[Token]), ReadE
         None => name_at(alloc, tokens),
         Some(inner) => {
             let (x, rest) = name_at(alloc, inner)?;
-            let (x, rest) = closed(x, Mark::Close, rest)?;
-            Ok((x, rest))
+            closed(x, Mark::Close, rest)
         }
     }
 }

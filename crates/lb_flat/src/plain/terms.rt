@@ -2,7 +2,7 @@
 
 ghost use Rattle.std.specs.Prelude.{◌≡◌, MatchResult};
 ghost use Rattle.std.specs.List.{list_all};
-ghost use Rattle.lb_flat.specs.LaterForms.{IsLater, TranslatesTerm, TranslatesStep, TranslatesSteps};
+ghost use Rattle.lb_flat.specs.LaterForms.{IsLater, TranslatesTerm, TranslatesTerms, TranslatesStep, TranslatesSteps};
 
 use crate::error::FlatError;
 use crate::plain::term::{Step, Term};
@@ -20,6 +20,7 @@ fn boxed(alloc: Global, term: Term) -> Result<Box<Term>, FlatError>
 }
 
 /// The term of the same form; a form that does not run yet has none.
+#[cycle(plain_term)]
 pub(crate) fn plain_term(alloc: Global, term: &resolved::Term) -> Result<Box<Term>, FlatError>
     ensures { TranslatesTerm term.now result }
 {
@@ -52,20 +53,11 @@ pub(crate) fn plain_term(alloc: Global, term: &resolved::Term) -> Result<Box<Ter
             boxed(alloc, Term::Fby(first, plain_term(alloc, b)?))
         }
         resolved::Term::Pre(a) => boxed(alloc, Term::Pre(plain_term(alloc, a)?)),
-        resolved::Term::AtMostOne(choices) => {
-            let mut all = Vec::new(alloc);
-            for choice in choices {
-                all.push(Box::into_inner(plain_term(alloc, choice)?))?;
-            }
-            boxed(alloc, Term::AtMostOne(all))
-        }
-        resolved::Term::Nor(operands) => {
-            let mut all = Vec::new(alloc);
-            for operand in operands {
-                all.push(Box::into_inner(plain_term(alloc, operand)?))?;
-            }
-            boxed(alloc, Term::Nor(all))
-        }
+        resolved::Term::AtMostOne(terms) => boxed(
+            alloc,
+            Term::AtMostOne(plain_terms(alloc, terms)?),
+        ),
+        resolved::Term::Nor(terms) => boxed(alloc, Term::Nor(plain_terms(alloc, terms)?)),
         resolved::Term::Value(_)
         | resolved::Term::Current(_)
         | resolved::Term::When(_, _, _)
@@ -78,6 +70,18 @@ pub(crate) fn plain_term(alloc: Global, term: &resolved::Term) -> Result<Box<Ter
         | resolved::Term::IterateNode(_, _, _)
         | resolved::Term::IterateSymbol(_, _, _, _) => Err(FlatError::Later),
     }
+}
+
+/// The terms of the same forms, one after another.
+#[cycle(plain_term)]
+fn plain_terms(alloc: Global, terms: &[resolved::Term]) -> Result<Vec<Term>, FlatError>
+    ensures { TranslatesTerms terms.now result }
+{
+    let mut all = Vec::new(alloc);
+    for term in terms {
+        all.push(Box::into_inner(plain_term(alloc, term)?))?;
+    }
+    Ok(all)
 }
 
 /// The statement of the same form.

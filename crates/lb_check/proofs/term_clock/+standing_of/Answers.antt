@@ -1,7 +1,49 @@
-use Rattle.std.proofs.Common.{refl}
+use Rattle.std.proofs.Common.{ap, refl, sym, ◌∙◌}
 use Rattle.lb_check.specs.StoredStandings.{context_in}
+use Rattle.lb_check.specs.TermClocks as mirror
+use Rattle.lb_check.specs.TermClocks.{standing_of}
+use Rattle.lb_check.specs.declared.standing.Standing.TheVariants.{Only}
+use Rattle.lb_check.proofs.ClockParts.{choice_stands, free_stands, pair_stands, single_stands}
 use Rattle.lb_check.proofs.ClockRows.{standing_of_row}
 use Rattle.lb_check.proofs.term_clock.+standing_of.Goals as goal
+
+pub returns-in-Literal : goal.returns-in-Literal
+returns-in-Literal t c = free_stands (context_in c.args.scope.now) c.args.term.now c.in-Literal.is
+
+pub returns-in-Literal-2 : goal.returns-in-Literal-2
+returns-in-Literal-2 t c = free_stands (context_in c.args.scope.now) c.args.term.now c.in-Literal.is
+
+pub returns-in-Literal-3 : goal.returns-in-Literal-3
+returns-in-Literal-3 t c = free_stands (context_in c.args.scope.now) c.args.term.now c.in-Literal.is
+
+pub returns-in-Variable : goal.returns-in-Variable
+unfolding standing_of
+returns-in-Variable t c =
+    ap Only c.variable.ensures ∙ sym (ap (standing_of (context_in c.args.scope.now)) c.in-Variable.is)
+
+pub returns-in_ok-standing_of-in-Group : goal.returns-in_ok-standing_of-in-Group
+returns-in_ok-standing_of-in-Group t c =
+    let ctx = context_in c.args.scope.now in
+    c.one_standing.ensures
+    ∙ single_stands ctx c.args.term.now c.in-Group.e _ c.in-Group.is
+    (c.in_ok-standing_of-in-Group.ensures ∙ ap (standing_of ctx) c.deref-in-Group.ensures)
+
+pub returns-in_ok-standing_of-in-Binary : goal.returns-in_ok-standing_of-in-Binary
+returns-in_ok-standing_of-in-Binary t c =
+    let ctx = context_in c.args.scope.now in
+    c.both-in-Binary.ensures
+    ∙ pair_stands ctx c.args.term.now c.in-Binary.a c.in-Binary.b _ _ c.in-Binary.is
+    (c.in_ok-left-in-Binary.ensures ∙ ap (standing_of ctx) c.deref-in-Binary.ensures)
+    (c.in_ok-standing_of-in-Binary.ensures ∙ ap (standing_of ctx) c.deref-in-Binary-2.ensures)
+
+pub returns-in_ok-standing_of-in-If : goal.returns-in_ok-standing_of-in-If
+returns-in_ok-standing_of-in-If t c =
+    let ctx = context_in c.args.scope.now in
+    c.both-in-If.ensures ∙ ap (mirror.both c.in_ok-condition-in-If.condition) c.both.ensures
+    ∙ choice_stands ctx c.args.term.now c.in-If.c c.in-If.a c.in-If.b _ _ _ c.in-If.is
+    (c.in_ok-condition-in-If.ensures ∙ ap (standing_of ctx) c.deref.ensures)
+    (c.in_ok-left-in-If.ensures ∙ ap (standing_of ctx) c.deref-in-If.ensures)
+    (c.in_ok-standing_of-in-If.ensures ∙ ap (standing_of ctx) c.deref-in-If-2.ensures)
 
 pub loop-e-init : goal.loop-e-init
 loop-e-init t c =

@@ -1,40 +1,5 @@
-use Rattle.std.proofs.Common.{◌≡◌, ◌∙◌, subst, sym, rules}
-use Rattle.lb_static.specs.Shapes.{signature}
-use Rattle.lb_flat.specs.Traces.{Traces, trace_names}
-use Rattle.lb_trace.specs.Spelling.{Spells}
-use Rattle.lb_report.specs.Bench.{program_of}
-use Rattle.lb_report.specs.Reports.{IsReport}
+use Rattle.std.proofs.Common.{rules}
 use Rattle.lb_report.proofs.bench.bench.Goals as goal
-
-pub returns-clause-report : goal.returns-clause-report
-returns-clause-report g c =
-    let found = c.in_ok-program.ensures.ok in
-    let read = c.in_ok-set.ensures in
-    let P = program_of found.tree c.args.options.now in
-    let elements : c.in_ok-program.program.signature ≡ signature P = sym found.holds.inputs in
-    let same : c.in_ok-set.set.signature ≡ signature P = read.signature ∙ elements in
-    let text = c.args.traces.now in
-    let traces = c.in_ok-set.set.traces in
-    record {
-      tree = found.tree;
-      spelled = found.spelled;
-      holds = record {
-        accepted = found.holds.accepted;
-        recording = c.in_ok-set.set;
-        recorded = record {
-          under_signature = same;
-          text_spells_it = subst (λ es. Spells es text traces) elements read.spelled;
-          no_other_is_spelled =
-              subst (λ es. (other : Traces) → Spells es text other → other ≡ traces) elements
-              read.only;
-        };
-        verdicts = c.in_ok-verdicts.verdicts.items;
-        judged = c.in_ok-verdicts.ensures.verdicts P found.holds.equations (sym same);
-        reported =
-            subst (λ vs. IsReport (trace_names traces) vs c.in_ok-new.field-0) c.as_slice.ensures.value
-            c.in_ok-new.ensures;
-      };
-    }
 
 pub returns-in_err-program-clause-refused : goal.returns-in_err-program-clause-refused
 returns-in_err-program-clause-refused g c =

@@ -1,5 +1,5 @@
 -- The tasks of the walk speak of constants, and each of these is visited once.
-use Rattle.std.proofs.Common.{◌<◌, ◌++◌, ◌∷◌, [], All, Some, ap, sym, subst, ◌∙◌, length, arith}
+use Rattle.std.proofs.Common.{rules, ◌<◌, ◌++◌, ◌∷◌, [], All, Some, ap, sym, subst, ◌∙◌, length, arith}
 use Rattle.std.proofs.lemmas.List.{length-append}
 use Rattle.std.proofs.lemmas.List.Elements.{All-pop, All-push, All-same}
 use Rattle.lb_static.specs.Tasks.{place_of}
@@ -34,3 +34,34 @@ loop-task-smaller-in-Continue-branch-4 c =
     (length c.pop.new.self.items) (length c.loop-task.tasks.items) (length c.visit_names.new.tasks.items)
     c.loop-task.invariant.as_many here unseen left
     (omega (arith, pushed, c.in_ok-visit_names-in-Visit.ensures.few))
+
+pub loop-task-preserved-in-Continue-branch-4 : goal.loop-task-preserved-in-Continue-branch-4
+loop-task-preserved-in-Continue-branch-4 c =
+    let same = names_length c.args.names.now c.args.constants.now c.requires.same_names in
+    record {
+      sound = c.loop-task.invariant.sound;
+      as_many = search rules;
+      within = subst (λ m. All (λ t. place_of t < m) c.visit_names.new.tasks.items) same c.in_ok-visit_names-in-Visit.ensures.within;
+    }
+
+pub loop-task-preserved-else-not-index : goal.loop-task-preserved-else-not-index
+loop-task-preserved-else-not-index c =
+    let n = length c.args.constants.now in
+    let taken = All-pop (λ t. place_of t < n) c.loop-task.tasks.items c.pop.new.self.items (Some c.in-Some.task) c.in-Some.ensures.items c.loop-task.invariant.within in
+    record { sound = c.loop-task.invariant.sound; as_many = c.loop-task.invariant.as_many; within = taken.0 }
+
+pub loop-task-preserved : goal.loop-task-preserved
+loop-task-preserved c =
+    let n = length c.args.constants.now in
+    let taken = All-pop (λ t. place_of t < n) c.loop-task.tasks.items c.pop.new.self.items (Some c.in-Some.task) c.in-Some.ensures.items c.loop-task.invariant.within in
+    record { sound = c.settle.ensures.sound; as_many = c.loop-task.invariant.as_many; within = taken.0 }
+
+pub loop-task-smaller-else-not-index : goal.loop-task-smaller-else-not-index
+loop-task-smaller-else-not-index c =
+    let left = ap length c.in-Some.ensures.items ∙ length-append c.pop.new.self.items (c.in-Some.task ∷ []) in
+    omega (arith, left)
+
+pub loop-task-smaller : goal.loop-task-smaller
+loop-task-smaller c =
+    let left = ap length c.in-Some.ensures.items ∙ length-append c.pop.new.self.items (c.in-Some.task ∷ []) in
+    omega (arith, left)

@@ -1,9 +1,28 @@
 -- Each step of the walk keeps what it knows, and leaves less to do.
-use Rattle.std.proofs.Common.{refl, rules, arith}
+use Rattle.std.proofs.Common.{refl, rules, arith, ap, ◌∙◌, ◌++◌, ◌∷◌, []}
 use Rattle.std.proofs.lemmas.List.{length-map, nil_from_length}
+use Rattle.std.proofs.lemmas.Option.{slice_get_within}
 use Rattle.lb_static.specs.declared.cycle.Progress.TheVariants.{Unseen, Open, Done}
-use Rattle.lb_static.proofs.CycleSteps.{finishes, passes, enters, calls_node, cycle_found, ends, less_finished, less_entered, read_at}
+use Rattle.lb_static.proofs.CycleSteps.{begins, last_within, finishes, passes, enters, calls_node, cycle_found, ends, less_passed, less_finished, less_entered, read_at}
 use Rattle.lb_static.proofs.cycle.walk_from.Goals as goal
+
+pub bounds-progress-start : goal.bounds-progress-start
+bounds-progress-start c = slice_get_within c.args.progress.now c.args.start Unseen c.requires.unseen
+
+pub new-requires : goal.new-requires
+new-requires c =
+    let within = slice_get_within c.args.progress.now c.args.start Unseen c.requires.unseen in
+    omega (arith, within, c.requires.between.as_many, length-map c.args.graph.now (λ v. v.items))
+
+pub loop-frame-init : goal.loop-frame-init
+loop-frame-init c =
+    begins _ c.args.progress.now c.args.start c.new.result c.push.new.self.items c.requires.between c.requires.unseen c.new.ensures.node c.new.ensures.left
+    (c.in_ok-push.ensures.items ∙ ap (λ l. l ++ c.new.result ∷ []) c.new-path.ensures.items)
+
+pub bounds-progress-frame : goal.bounds-progress-frame
+bounds-progress-frame c =
+    last_within _ c.args.progress.now c.loop-frame.progress c.args.start c.loop-frame.path.items c.pop.new.self.items c.in-Some.frame
+    c.loop-frame.invariant c.in-Some.ensures.items
 
 pub loop-frame-smaller-in-None : goal.loop-frame-smaller-in-None
 loop-frame-smaller-in-None c =
@@ -72,6 +91,12 @@ returns-in-Open c =
           c.pop.new.self.items c.in-Some.frame c.loop-frame.invariant c.in-Some.ensures.items c.in-Some-split_first.ensures.cases.0
           (read_at c.loop-frame.progress callee Open Unseen within.1 c.in-Open.is),
     )
+
+pub loop-frame-smaller : goal.loop-frame-smaller
+loop-frame-smaller c =
+    less_passed c.loop-frame.progress _ c.in-Some-split_first.field-0-0.now c.loop-frame.path.items c.pop.new.self.items
+    c.push-in-Some-split_first.new.self.items c.in-Some.frame _ c.in-Some.ensures.items c.in_ok-push-in-Some-split_first.ensures.items
+    c.in-Some-split_first.ensures.cases.0
 
 pub loop-frame-preserved : goal.loop-frame-preserved
 loop-frame-preserved c =

@@ -1,23 +1,31 @@
 -- What stands for an expression whose parts are resolved.
-use Rattle.std.proofs.Common.{◌≡◌, ◌+◌, Ok, Vec, Global, Option, None, Some, List, [], ◌∷◌, map, take, ap, sym, subst, refl, ◌∙◌}
+use Rattle.std.proofs.Common.{◌≡◌, ◌+◌, Bool, Ok, Vec, Global, Option, None, Some, List, [], ◌∷◌, map, take, ap, sym, subst, refl, ◌∙◌}
 use Rattle.std.proofs.lemmas.Result.{err_from_is_err_and}
+use Rattle.std.specs.Prelude.{◌&&◌}
 use Rattle.lb_syntax.specs.Tree as tree
 use Rattle.lb_syntax.specs.Tree.{Name}
-use Rattle.lb_syntax.specs.View.{view, view_static, view_statics}
+use Rattle.lb_syntax.specs.View.{view, view_operator, view_static, view_statics}
+use Rattle.lb_syntax.specs.declared.tree.Expr as source
 use Rattle.lb_syntax.specs.declared.tree.Expr.{Expr}
+use Rattle.lb_syntax.specs.declared.tree.ArrayIterator.{ArrayIterator}
+use Rattle.lb_syntax.specs.declared.tree.Operator.{Operator}
 use Rattle.lb_syntax.specs.declared.tree.Static.{Static}
-use Rattle.lb_static.specs.NodeProgress.{Progress, texts, ResolvesCall}
+use Rattle.lb_static.specs.NodeProgress.{Progress, texts, grown, expr_passes, static_fits, program_of, ResolvesCall}
 use Rattle.lb_static.specs.ResolvedTerms.{expr_of, static_at}
-use Rattle.lb_static.specs.StaticParts.{arguments_of}
+use Rattle.lb_static.specs.StaticParts.{Part, arguments_of}
 use Rattle.lb_static.specs.declared.resolved.CallId.{CallId}
 use Rattle.lb_static.specs.declared.resolved.Role.TheVariants.{Size, SliceStart, SliceEnd}
+use Rattle.lb_static.specs.Instances.{Site}
 use Rattle.lb_static.specs.NameFaults.{IsNameFault}
+use Rattle.lb_static.specs.Names.{is_variable}
+use Rattle.lb_static.specs.declared.error.StaticError.{StaticError}
 use Rattle.lb_static.specs.NodeProgress.{exprs_pass}
 use Rattle.lb_static.specs.Progressed.{progress}
 use Rattle.lb_static.specs.declared.resolved.Term.{Term}
+use Rattle.lb_static.proofs.Faults.{fault_within}
 use Rattle.lb_static.proofs.Growth.{same_two}
-use Rattle.lb_static.proofs.Lists.{both}
-use Rattle.lb_static.proofs.Resolutions.{Done, AllDone, SoFar, site_for, call_done, size_done, sized_call_done, call_term_done, iterate_node_done, iterate_symbol_done, fault_after_call, fault_after_node, fault_after_symbol, fault_of_item, next_done, two_done, three_done, static_done, statics_done, array_done, at_most_one_done, nor_done, array_fault, at_most_one_fault, nor_fault}
+use Rattle.lb_static.proofs.Lists.{both, false_first, false_second}
+use Rattle.lb_static.proofs.Resolutions.{Done, AllDone, SoFar, site_for, call_done, size_done, sized_call_done, call_term_done, iterate_node_done, iterate_symbol_done, fault_after_call, fault_after_node, fault_after_symbol, fault_of_item, next_done, two_done, three_done, view_iterate, static_done, statics_done, array_done, at_most_one_done, nor_done, array_fault, at_most_one_fault, nor_fault}
 use Rattle.lb_static.proofs.resolving_terms.+resolving.Goals as goal
 
 -- what is known of a box, of the expression in it
@@ -26,6 +34,285 @@ in_box before after e f t same h = subst (λ x. Done before after (view x) t) sa
 
 in_list : (before after : Progress) (es fs : List Expr) (ts : Vec Term Global) → es ≡ fs → AllDone before after (map view es) ts → AllDone before after (map view fs) ts
 in_list before after es fs ts same h = subst (λ l. AllDone before after (map view l) ts) same h
+
+-- ## What is refused
+
+-- a fault of a part of two is one of both
+first_refused : (f : StaticError) (p q : Bool) → IsNameFault f p → IsNameFault f (p && q)
+first_refused f p q h = fault_within f p (p && q) h (false_first p q)
+
+second_refused : (f : StaticError) (p q : Bool) → IsNameFault f q → IsNameFault f (p && q)
+second_refused f p q h = fault_within f q (p && q) h (false_second p q)
+
+-- a fault in a box
+box_refused : (s : Progress) (f : StaticError) (e g : Expr) → e ≡ g → IsNameFault f (expr_passes s (view e)) → IsNameFault f (expr_passes s (view g))
+box_refused s f e g same h = subst (λ x. IsNameFault f (expr_passes s (view x))) same h
+
+-- a fault that is found after more is resolved
+before_more : (before mid : Progress) (P : List Part) (C : List Site) (f : StaticError) (e : tree.Expr)
+    → mid ≡ grown before P C → IsNameFault f (expr_passes mid e) → IsNameFault f (expr_passes before e)
+before_more before mid P C f e is h = subst (λ s. IsNameFault f (expr_passes s e)) is h
+
+static_before : (before mid : Progress) (P : List Part) (C : List Site) (f : StaticError) (x : tree.Static)
+    → mid ≡ grown before P C → IsNameFault f (static_fits mid x) → IsNameFault f (static_fits before x)
+static_before before mid P C f x is h = subst (λ s. IsNameFault f (static_fits s x)) is h
+
+-- a fault in the size of an iteration
+sized_refused : (s : Progress) (f : StaticError) (it : ArrayIterator) (o : tree.Operator) (n : tree.Static) (es : tree.Exprs)
+    → IsNameFault f (static_fits s n) → IsNameFault f (expr_passes s (tree.Iterate it o n es))
+sized_refused s f it (tree.Node_named x args) n es h = first_refused f _ _ h
+sized_refused s f it (tree.Symbol op) n es h = first_refused f _ _ h
+
+size_refused : (s : Progress) (f : StaticError) (it : ArrayIterator) (o : Operator) (n : Static) (es : Vec Expr Global)
+    → IsNameFault f (static_fits s (view_static n)) → IsNameFault f (expr_passes s (view (source.Iterate it o n es)))
+size_refused s f it o n es h =
+    subst (λ e. IsNameFault f (expr_passes s e)) (sym (view_iterate it o n es)) (sized_refused s f it (view_operator o) (view_static n) _ h)
+
+pub term-returns-in_err-boxed-in-Group : goal.term-returns-in_err-boxed-in-Group
+term-returns-in_err-boxed-in-Group t c =
+    let p = err_from_is_err_and c.from_residual.result c.from_residual.ensures.1 in
+    let before = progress c.args.here.now in
+    let f = c.in_err-boxed-in-Group.field-0.0 in
+    rw (p.1, p.2) (rw c.in-Group.is (box_refused before f _ c.in-Group.a.value c.deref.ensures c.in_err-boxed-in-Group.ensures))
+
+pub term-returns-in_err-boxed-in-Unary : goal.term-returns-in_err-boxed-in-Unary
+term-returns-in_err-boxed-in-Unary t c =
+    let p = err_from_is_err_and c.from_residual-in_err-boxed-in-Unary.result c.from_residual-in_err-boxed-in-Unary.ensures.1 in
+    let before = progress c.args.here.now in
+    let f = c.in_err-boxed-in-Unary.field-0.0 in
+    rw (p.1, p.2) (rw c.in-Unary.is (box_refused before f _ c.in-Unary.a.value c.deref-in-Unary.ensures c.in_err-boxed-in-Unary.ensures))
+
+pub term-returns-in_err-boxed-in-Pre : goal.term-returns-in_err-boxed-in-Pre
+term-returns-in_err-boxed-in-Pre t c =
+    let p = err_from_is_err_and c.from_residual-in_err-boxed-in-Pre.result c.from_residual-in_err-boxed-in-Pre.ensures.1 in
+    let before = progress c.args.here.now in
+    let f = c.in_err-boxed-in-Pre.field-0.0 in
+    rw (p.1, p.2) (rw c.in-Pre.is (box_refused before f _ c.in-Pre.a.value c.deref-in-Pre.ensures c.in_err-boxed-in-Pre.ensures))
+
+pub term-returns-in_err-boxed-in-Current : goal.term-returns-in_err-boxed-in-Current
+term-returns-in_err-boxed-in-Current t c =
+    let p = err_from_is_err_and c.from_residual-in_err-boxed-in-Current.result c.from_residual-in_err-boxed-in-Current.ensures.1 in
+    let before = progress c.args.here.now in
+    let f = c.in_err-boxed-in-Current.field-0.0 in
+    rw (p.1, p.2) (rw c.in-Current.is (box_refused before f _ c.in-Current.a.value c.deref-in-Current.ensures c.in_err-boxed-in-Current.ensures))
+
+pub term-returns-in_err-first-in-Binary : goal.term-returns-in_err-first-in-Binary
+term-returns-in_err-first-in-Binary t c =
+    let p = err_from_is_err_and c.from_residual-in_err-first-in-Binary.result c.from_residual-in_err-first-in-Binary.ensures.1 in
+    let before = progress c.args.here.now in
+    let f = c.in_err-first-in-Binary.field-0.0 in
+    let refused = box_refused before f _ c.in-Binary.a.value c.deref-in-Binary.ensures c.in_err-first-in-Binary.ensures in
+    rw (p.1, p.2) (rw c.in-Binary.is (first_refused f _ (expr_passes before (view c.in-Binary.b.value)) refused))
+
+pub term-returns-in_err-boxed-in-Binary : goal.term-returns-in_err-boxed-in-Binary
+term-returns-in_err-boxed-in-Binary t c =
+    let p = err_from_is_err_and c.from_residual-in_err-boxed-in-Binary.result c.from_residual-in_err-boxed-in-Binary.ensures.1 in
+    let before = progress c.args.here.now in
+    let f = c.in_err-boxed-in-Binary.field-0.0 in
+    let mid = progress c.boxed-in-Binary.new.here in
+    let refused = box_refused mid f _ c.in-Binary.b.value c.deref-in-Binary-2.ensures c.in_err-boxed-in-Binary.ensures in
+    let earlier = before_more before mid _ _ f (view c.in-Binary.b.value) c.in_ok-first-in-Binary.ensures.0 refused in
+    rw (p.1, p.2) (rw c.in-Binary.is (second_refused f (expr_passes before (view c.in-Binary.a.value)) _ earlier))
+
+pub term-returns-in_err-first-in-Arrow : goal.term-returns-in_err-first-in-Arrow
+term-returns-in_err-first-in-Arrow t c =
+    let p = err_from_is_err_and c.from_residual-in_err-first-in-Arrow.result c.from_residual-in_err-first-in-Arrow.ensures.1 in
+    let before = progress c.args.here.now in
+    let f = c.in_err-first-in-Arrow.field-0.0 in
+    let refused = box_refused before f _ c.in-Arrow.a.value c.deref-in-Arrow.ensures c.in_err-first-in-Arrow.ensures in
+    rw (p.1, p.2) (rw c.in-Arrow.is (first_refused f _ (expr_passes before (view c.in-Arrow.b.value)) refused))
+
+pub term-returns-in_err-boxed-in-Arrow : goal.term-returns-in_err-boxed-in-Arrow
+term-returns-in_err-boxed-in-Arrow t c =
+    let p = err_from_is_err_and c.from_residual-in_err-boxed-in-Arrow.result c.from_residual-in_err-boxed-in-Arrow.ensures.1 in
+    let before = progress c.args.here.now in
+    let f = c.in_err-boxed-in-Arrow.field-0.0 in
+    let mid = progress c.boxed-in-Arrow.new.here in
+    let refused = box_refused mid f _ c.in-Arrow.b.value c.deref-in-Arrow-2.ensures c.in_err-boxed-in-Arrow.ensures in
+    let earlier = before_more before mid _ _ f (view c.in-Arrow.b.value) c.in_ok-first-in-Arrow.ensures.0 refused in
+    rw (p.1, p.2) (rw c.in-Arrow.is (second_refused f (expr_passes before (view c.in-Arrow.a.value)) _ earlier))
+
+pub term-returns-in_err-first-in-Fby : goal.term-returns-in_err-first-in-Fby
+term-returns-in_err-first-in-Fby t c =
+    let p = err_from_is_err_and c.from_residual-in_err-first-in-Fby.result c.from_residual-in_err-first-in-Fby.ensures.1 in
+    let before = progress c.args.here.now in
+    let f = c.in_err-first-in-Fby.field-0.0 in
+    let refused = box_refused before f _ c.in-Fby.a.value c.deref-in-Fby.ensures c.in_err-first-in-Fby.ensures in
+    rw (p.1, p.2) (rw c.in-Fby.is (first_refused f _ (expr_passes before (view c.in-Fby.b.value)) refused))
+
+pub term-returns-in_err-boxed-in-Fby : goal.term-returns-in_err-boxed-in-Fby
+term-returns-in_err-boxed-in-Fby t c =
+    let p = err_from_is_err_and c.from_residual-in_err-boxed-in-Fby.result c.from_residual-in_err-boxed-in-Fby.ensures.1 in
+    let before = progress c.args.here.now in
+    let f = c.in_err-boxed-in-Fby.field-0.0 in
+    let mid = progress c.boxed-in-Fby.new.here in
+    let refused = box_refused mid f _ c.in-Fby.b.value c.deref-in-Fby-2.ensures c.in_err-boxed-in-Fby.ensures in
+    let earlier = before_more before mid _ _ f (view c.in-Fby.b.value) c.in_ok-first-in-Fby.ensures.0 refused in
+    rw (p.1, p.2) (rw c.in-Fby.is (second_refused f (expr_passes before (view c.in-Fby.a.value)) _ earlier))
+
+pub term-returns-in_err-first-in-Join : goal.term-returns-in_err-first-in-Join
+term-returns-in_err-first-in-Join t c =
+    let p = err_from_is_err_and c.from_residual-in_err-first-in-Join.result c.from_residual-in_err-first-in-Join.ensures.1 in
+    let before = progress c.args.here.now in
+    let f = c.in_err-first-in-Join.field-0.0 in
+    let refused = box_refused before f _ c.in-Join.a.value c.deref-in-Join.ensures c.in_err-first-in-Join.ensures in
+    rw (p.1, p.2) (rw c.in-Join.is (first_refused f _ (expr_passes before (view c.in-Join.b.value)) refused))
+
+pub term-returns-in_err-boxed-in-Join : goal.term-returns-in_err-boxed-in-Join
+term-returns-in_err-boxed-in-Join t c =
+    let p = err_from_is_err_and c.from_residual-in_err-boxed-in-Join.result c.from_residual-in_err-boxed-in-Join.ensures.1 in
+    let before = progress c.args.here.now in
+    let f = c.in_err-boxed-in-Join.field-0.0 in
+    let mid = progress c.boxed-in-Join.new.here in
+    let refused = box_refused mid f _ c.in-Join.b.value c.deref-in-Join-2.ensures c.in_err-boxed-in-Join.ensures in
+    let earlier = before_more before mid _ _ f (view c.in-Join.b.value) c.in_ok-first-in-Join.ensures.0 refused in
+    rw (p.1, p.2) (rw c.in-Join.is (second_refused f (expr_passes before (view c.in-Join.a.value)) _ earlier))
+
+pub term-returns-in_err-condition-in-If : goal.term-returns-in_err-condition-in-If
+term-returns-in_err-condition-in-If t c =
+    let p = err_from_is_err_and c.from_residual-in_err-condition-in-If.result c.from_residual-in_err-condition-in-If.ensures.1 in
+    let before = progress c.args.here.now in
+    let f = c.in_err-condition-in-If.field-0.0 in
+    let refused = box_refused before f _ c.in-If.c.value c.deref-in-If.ensures c.in_err-condition-in-If.ensures in
+    rw (p.1, p.2) (rw c.in-If.is (first_refused f _ (expr_passes before (view c.in-If.a.value) && expr_passes before (view c.in-If.b.value)) refused))
+
+pub term-returns-in_err-first-in-If : goal.term-returns-in_err-first-in-If
+term-returns-in_err-first-in-If t c =
+    let p = err_from_is_err_and c.from_residual-in_err-first-in-If.result c.from_residual-in_err-first-in-If.ensures.1 in
+    let before = progress c.args.here.now in
+    let f = c.in_err-first-in-If.field-0.0 in
+    let mid = progress c.boxed-in-If.new.here in
+    let refused = box_refused mid f _ c.in-If.a.value c.deref-in-If-2.ensures c.in_err-first-in-If.ensures in
+    let earlier = before_more before mid _ _ f (view c.in-If.a.value) c.in_ok-condition-in-If.ensures.0 refused in
+    rw (p.1, p.2) (rw c.in-If.is (second_refused f (expr_passes before (view c.in-If.c.value)) _ (first_refused f _ (expr_passes before (view c.in-If.b.value)) earlier)))
+
+pub term-returns-in_err-boxed-in-If : goal.term-returns-in_err-boxed-in-If
+term-returns-in_err-boxed-in-If t c =
+    let p = err_from_is_err_and c.from_residual-in_err-boxed-in-If.result c.from_residual-in_err-boxed-in-If.ensures.1 in
+    let before = progress c.args.here.now in
+    let f = c.in_err-boxed-in-If.field-0.0 in
+    let mid = progress c.boxed-in-If.new.here in
+    let next = progress c.boxed-in-If-2.new.here in
+    let refused = box_refused next f _ c.in-If.b.value c.deref-in-If-3.ensures c.in_err-boxed-in-If.ensures in
+    let later = before_more mid next _ _ f (view c.in-If.b.value) c.in_ok-first-in-If.ensures.0 refused in
+    let earlier = before_more before mid _ _ f (view c.in-If.b.value) c.in_ok-condition-in-If.ensures.0 later in
+    rw (p.1, p.2) (rw c.in-If.is (second_refused f (expr_passes before (view c.in-If.c.value)) _ (second_refused f (expr_passes before (view c.in-If.a.value)) _ earlier)))
+
+pub term-returns-in_err-clock-in-When : goal.term-returns-in_err-clock-in-When
+term-returns-in_err-clock-in-When t c =
+    let p = err_from_is_err_and c.from_residual-in_err-clock-in-When.result c.from_residual-in_err-clock-in-When.ensures.1 in
+    let before = progress c.args.here.now in
+    let f = c.in_err-clock-in-When.field-0.0 in
+    rw (p.1, p.2) (rw c.in-When.is (first_refused f _ (expr_passes before (view c.in-When.a.value)) c.in_err-clock-in-When.ensures.err))
+
+pub term-returns-in_err-boxed-in-When : goal.term-returns-in_err-boxed-in-When
+term-returns-in_err-boxed-in-When t c =
+    let p = err_from_is_err_and c.from_residual-in_err-boxed-in-When.result c.from_residual-in_err-boxed-in-When.ensures.1 in
+    let before = progress c.args.here.now in
+    let f = c.in_err-boxed-in-When.field-0.0 in
+    let refused = box_refused before f _ c.in-When.a.value c.deref-in-When.ensures c.in_err-boxed-in-When.ensures in
+    rw (p.1, p.2) (rw c.in-When.is (second_refused f (is_variable (program_of before) before.node c.in-When.x) _ refused))
+
+pub term-returns-in_err-size-in-Copies : goal.term-returns-in_err-size-in-Copies
+term-returns-in_err-size-in-Copies t c =
+    let p = err_from_is_err_and c.from_residual-in_err-size-in-Copies.result c.from_residual-in_err-size-in-Copies.ensures.1 in
+    let before = progress c.args.here.now in
+    let f = c.in_err-size-in-Copies.field-0.0 in
+    rw (p.1, p.2) (rw c.in-Copies.is (first_refused f _ (expr_passes before (view c.in-Copies.a.value)) c.in_err-size-in-Copies.ensures))
+
+pub term-returns-in_err-boxed-in-Copies : goal.term-returns-in_err-boxed-in-Copies
+term-returns-in_err-boxed-in-Copies t c =
+    let p = err_from_is_err_and c.from_residual-in_err-boxed-in-Copies.result c.from_residual-in_err-boxed-in-Copies.ensures.1 in
+    let before = progress c.args.here.now in
+    let f = c.in_err-boxed-in-Copies.field-0.0 in
+    let mid = progress c.one_static.new.here in
+    let refused = box_refused mid f _ c.in-Copies.a.value c.deref-in-Copies.ensures c.in_err-boxed-in-Copies.ensures in
+    let earlier = before_more before mid _ _ f (view c.in-Copies.a.value) c.in_ok-size-in-Copies.ensures.0 refused in
+    rw (p.1, p.2) (rw c.in-Copies.is (second_refused f (static_fits before (view_static c.in-Copies.n)) _ earlier))
+
+pub term-returns-in_err-index-in-Index : goal.term-returns-in_err-index-in-Index
+term-returns-in_err-index-in-Index t c =
+    let p = err_from_is_err_and c.from_residual-in_err-index-in-Index.result c.from_residual-in_err-index-in-Index.ensures.1 in
+    let before = progress c.args.here.now in
+    let f = c.in_err-index-in-Index.field-0.0 in
+    rw (p.1, p.2) (rw c.in-Index.is (first_refused f _ (expr_passes before (view c.in-Index.a.value)) c.in_err-index-in-Index.ensures))
+
+pub term-returns-in_err-boxed-in-Index : goal.term-returns-in_err-boxed-in-Index
+term-returns-in_err-boxed-in-Index t c =
+    let p = err_from_is_err_and c.from_residual-in_err-boxed-in-Index.result c.from_residual-in_err-boxed-in-Index.ensures.1 in
+    let before = progress c.args.here.now in
+    let f = c.in_err-boxed-in-Index.field-0.0 in
+    let mid = progress c.one_static-in-Index.new.here in
+    let refused = box_refused mid f _ c.in-Index.a.value c.deref-in-Index.ensures c.in_err-boxed-in-Index.ensures in
+    let earlier = before_more before mid _ _ f (view c.in-Index.a.value) c.in_ok-index-in-Index.ensures.0 refused in
+    rw (p.1, p.2) (rw c.in-Index.is (second_refused f (static_fits before (view_static c.in-Index.i)) _ earlier))
+
+pub term-returns-in_err-start-in-Slice : goal.term-returns-in_err-start-in-Slice
+term-returns-in_err-start-in-Slice t c =
+    let p = err_from_is_err_and c.from_residual-in_err-start-in-Slice.result c.from_residual-in_err-start-in-Slice.ensures.1 in
+    let before = progress c.args.here.now in
+    let f = c.in_err-start-in-Slice.field-0.0 in
+    rw (p.1, p.2) (rw c.in-Slice.is (first_refused f _ (static_fits before (view_static c.in-Slice.j) && expr_passes before (view c.in-Slice.a.value)) c.in_err-start-in-Slice.ensures))
+
+pub term-returns-in_err-end-in-Slice : goal.term-returns-in_err-end-in-Slice
+term-returns-in_err-end-in-Slice t c =
+    let p = err_from_is_err_and c.from_residual-in_err-end-in-Slice.result c.from_residual-in_err-end-in-Slice.ensures.1 in
+    let before = progress c.args.here.now in
+    let f = c.in_err-end-in-Slice.field-0.0 in
+    let mid = progress c.one_static-in-Slice.new.here in
+    let earlier = static_before before mid _ _ f (view_static c.in-Slice.j) c.in_ok-start-in-Slice.ensures.0 c.in_err-end-in-Slice.ensures in
+    rw (p.1, p.2) (rw c.in-Slice.is (second_refused f (static_fits before (view_static c.in-Slice.i)) _ (first_refused f _ (expr_passes before (view c.in-Slice.a.value)) earlier)))
+
+pub term-returns-in_err-boxed-in-Slice : goal.term-returns-in_err-boxed-in-Slice
+term-returns-in_err-boxed-in-Slice t c =
+    let p = err_from_is_err_and c.from_residual-in_err-boxed-in-Slice.result c.from_residual-in_err-boxed-in-Slice.ensures.1 in
+    let before = progress c.args.here.now in
+    let f = c.in_err-boxed-in-Slice.field-0.0 in
+    let mid = progress c.one_static-in-Slice.new.here in
+    let next = progress c.one_static-in-Slice-2.new.here in
+    let refused = box_refused next f _ c.in-Slice.a.value c.deref-in-Slice.ensures c.in_err-boxed-in-Slice.ensures in
+    let later = before_more mid next _ _ f (view c.in-Slice.a.value) c.in_ok-end-in-Slice.ensures.0 refused in
+    let earlier = before_more before mid _ _ f (view c.in-Slice.a.value) c.in_ok-start-in-Slice.ensures.0 later in
+    rw (p.1, p.2) (rw c.in-Slice.is (second_refused f (static_fits before (view_static c.in-Slice.i)) _ (second_refused f (static_fits before (view_static c.in-Slice.j)) _ earlier)))
+
+pub term-returns-in_err-size-in-Iterate : goal.term-returns-in_err-size-in-Iterate
+term-returns-in_err-size-in-Iterate t c =
+    let p = err_from_is_err_and c.from_residual-in_err-size-in-Iterate.result c.from_residual-in_err-size-in-Iterate.ensures.1 in
+    let before = progress c.args.here.now in
+    let f = c.in_err-size-in-Iterate.field-0.0 in
+    rw (p.1, p.2) (rw c.in-Iterate.is (size_refused before f c.in-Iterate.iterator c.in-Iterate.operator c.in-Iterate.n c.in-Iterate.arguments c.in_err-size-in-Iterate.ensures))
+
+pub term-returns-in_ok-boxed-in-Group : goal.term-returns-in_ok-boxed-in-Group
+term-returns-in_ok-boxed-in-Group t c =
+    let before = progress c.args.here.now in
+    let after = progress c.boxed.new.here in
+    let a = c.in-Group.a.value in
+    let h = in_box before after _ a c.in_ok-boxed-in-Group.field-0.value c.deref.ensures c.in_ok-boxed-in-Group.ensures in
+    rw c.in-Group.is (h.0, (ap tree.Group h.1.0, h.1.1, h.1.2), h.2)
+
+pub term-returns-in_ok-boxed-in-Unary : goal.term-returns-in_ok-boxed-in-Unary
+term-returns-in_ok-boxed-in-Unary t c =
+    let before = progress c.args.here.now in
+    let after = progress c.boxed-in-Unary.new.here in
+    let a = c.in-Unary.a.value in
+    let h = in_box before after _ a c.in_ok-boxed-in-Unary.field-0.value c.deref-in-Unary.ensures c.in_ok-boxed-in-Unary.ensures in
+    rw c.in-Unary.is (h.0, (ap (tree.Unary c.in-Unary.op) h.1.0, h.1.1, h.1.2), h.2)
+
+pub term-returns-in_ok-boxed-in-Pre : goal.term-returns-in_ok-boxed-in-Pre
+term-returns-in_ok-boxed-in-Pre t c =
+    let before = progress c.args.here.now in
+    let after = progress c.boxed-in-Pre.new.here in
+    let a = c.in-Pre.a.value in
+    let h = in_box before after _ a c.in_ok-boxed-in-Pre.field-0.value c.deref-in-Pre.ensures c.in_ok-boxed-in-Pre.ensures in
+    rw c.in-Pre.is (h.0, (ap tree.Pre h.1.0, h.1.1, h.1.2), h.2)
+
+pub term-returns-in_ok-boxed-in-Current : goal.term-returns-in_ok-boxed-in-Current
+term-returns-in_ok-boxed-in-Current t c =
+    let before = progress c.args.here.now in
+    let after = progress c.boxed-in-Current.new.here in
+    let a = c.in-Current.a.value in
+    let h = in_box before after _ a c.in_ok-boxed-in-Current.field-0.value c.deref-in-Current.ensures c.in_ok-boxed-in-Current.ensures in
+    rw c.in-Current.is (h.0, (ap tree.Current h.1.0, h.1.1, h.1.2), h.2)
 
 pub term-returns-in_ok-boxed-in-Binary : goal.term-returns-in_ok-boxed-in-Binary
 term-returns-in_ok-boxed-in-Binary t c =

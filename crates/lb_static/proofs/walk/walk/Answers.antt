@@ -30,12 +30,10 @@ returns-in_err-root-clause-answer c =
     let found = there_is r.nodes.items r.root.0 reached.root_within in
     let n = found.0 in
     let e = c.in_err-root.field-0.0 in
-    let none = c.deref.ensures.value ∙ c.new-none.ensures.items in
     let zero = ap length c.new-2.ensures.items in
     let refused = c.in_err-root.ensures.err P Root n (walkable P r c.args.constants.now names reached values) found.1 refl (none_judged P r c.new.result c.new.ensures) in
     refused_first P (instance_of Root (node_of n) []) (root_is P r reached n found.1) e
-    (subst (λ k. IsRefusal (walk_refusal P k (instances_from P 65 (instance_of Root (node_of n) []))) e) zero
-    (subst (λ vs. IsRefusal (walk_refusal P (length c.new-2.result.items) (instances_from P 65 (instance_of Root (node_of n) vs))) e) none refused)))
+    (subst (λ k. IsRefusal (walk_refusal P k (instances_from P 65 (instance_of Root (node_of n) []))) e) zero refused))
 
 -- the instances below the node under test are entered
 root_entered : (c : In_ok-root) (P : Program) (w : IsWalkable P c.args.reached.now c.args.constants.now) (n : ResolvedNode)
@@ -44,12 +42,10 @@ root_entered : (c : In_ok-root) (P : Program) (w : IsWalkable P c.args.reached.n
     × AreEntered P 0 (instances_from P 65 (instance_of Root (node_of n) [])) (length c.enter.new.entered.instances.items)
 root_entered c P w n at =
     let r = c.args.reached.now in
-    let none = c.deref.ensures.value ∙ c.new-none.ensures.items in
     let zero = ap length c.new-2.ensures.items in
     let entered = c.in_ok-root.ensures.ok P Root n w at refl (none_judged P r c.new.result c.new.ensures) in (
       entered.0,
-      subst (λ k. AreEntered P k (instances_from P 65 (instance_of Root (node_of n) [])) (length c.enter.new.entered.instances.items)) zero
-          (subst (λ vs. AreEntered P (length c.new-2.result.items) (instances_from P 65 (instance_of Root (node_of n) vs)) (length c.enter.new.entered.instances.items)) none entered.1),
+      subst (λ k. AreEntered P k (instances_from P 65 (instance_of Root (node_of n) [])) (length c.enter.new.entered.instances.items)) zero entered.1,
     )
 
 pub returns-in_err-id-in-Some-clause-answer : goal.returns-in_err-id-in-Some-clause-answer
@@ -65,11 +61,9 @@ returns-in_err-id-in-Some-clause-answer c =
     let within : c.in-Some.node.0 < length r.nodes.items = omega (arith, c.len.ensures, c.if-node-len.true) in
     let seen = there_is r.nodes.items c.in-Some.node.0 within in
     let m = seen.0 in
-    let none = c.deref-in-Some.ensures.value ∙ c.new-none.ensures.items in
     let refused = c.in_err-id-in-Some.ensures.err P Observer m w seen.1 refl before.0 in
     refused_second P (instance_of Root (node_of n) []) (root_is P r reached n found.1) (instance_of Observer (node_of m) [])
-    (observer_is P r reached c.in-Some.node m c.in-Some.is seen.1) (length c.enter.new.entered.instances.items) e before.1
-    (subst (λ vs. IsRefusal (walk_refusal P (length c.enter.new.entered.instances.items) (instances_from P 65 (instance_of Observer (node_of m) vs))) e) none refused))
+    (observer_is P r reached c.in-Some.node m c.in-Some.is seen.1) (length c.enter.new.entered.instances.items) e before.1 refused)
 
 pub returns-clause-answer : goal.returns-clause-answer
 returns-clause-answer c = λ P names reached values.
@@ -81,9 +75,7 @@ returns-clause-answer c = λ P names reached values.
     let root = instance_of Root (node_of n) [] in
     let at_root = root_is P r reached n found.1 in
     let alone = λ (h : (r.observer >>= tree_at r) ≡ None). walked_alone P root at_root (length c.enter.new.entered.instances.items) before.1 (no_observer P r reached h) in
-    let none = c.deref.ensures.value ∙ c.new-none.ensures.items in
-    let known : IsKnown c.enter.new.entered.specializations r.root [] c.in_ok-root.root =
-    subst (λ vs. IsKnown c.enter.new.entered.specializations r.root vs c.in_ok-root.root) none c.in_ok-root.ensures.known in
+    let known : IsKnown c.enter.new.entered.specializations r.root [] c.in_ok-root.root = c.in_ok-root.ensures.known in
     let after = c.match-reached.entered in
     let specializations = c.in_ok-specializations.specializations in
     let listed : specializations.items ≡ after.specializations = c.in_ok-specializations.ensures in
@@ -101,16 +93,15 @@ returns-clause-answer c = λ P names reached values.
           let within : b.in-Some.node.0 < length r.nodes.items = omega (arith, b.len.ensures, b.if-node-len.true) in
           let seen = there_is r.nodes.items b.in-Some.node.0 within in
           let m = seen.0 in
-          let none = b.deref-in-Some.ensures.value ∙ c.new-none.ensures.items in
           let entered = b.in_ok-id-in-Some.ensures.ok P Observer m w seen.1 refl before.0 in (
             walked_both P root at_root (instance_of Observer (node_of m) []) (observer_is P r reached b.in-Some.node m b.in-Some.is seen.1)
                 (length c.enter.new.entered.instances.items) (length b.enter-in-Some.new.entered.instances.items) before.1
-                (subst (λ vs. AreEntered P (length c.enter.new.entered.instances.items) (instances_from P 65 (instance_of Observer (node_of m) vs)) (length b.enter-in-Some.new.entered.instances.items)) none entered.1),
+                entered.1,
             starts b.enter-in-Some.new.entered.specializations (listed ∙ ap (λ e. e.specializations) b.entered-is) entered.0
                 (known_later first b.enter-in-Some.new.entered.specializations r.root [] table.root b.in_ok-id-in-Some.ensures.grown known)
                 (observer_stands P r reached table b.in-Some.node m b.in_ok-id-in-Some.id b.in-Some.is seen.1 b.observer-is
                 (subst (λ l. IsKnown l b.in-Some.node [] b.in_ok-id-in-Some.id) (sym (listed ∙ ap (λ e. e.specializations) b.entered-is))
-                (subst (λ vs. IsKnown b.enter-in-Some.new.entered.specializations b.in-Some.node vs b.in_ok-id-in-Some.id) none b.in_ok-id-in-Some.ensures.known))),
+                b.in_ok-id-in-Some.ensures.known)),
           )
       | in_default-2 b ↦
           let past : length r.nodes.items ≤ b.in-Some.node.0 = omega (arith, b.len.ensures, b.if-node-len.false) in
@@ -161,10 +152,8 @@ root_rows c P w n at =
     let r = c.args.reached.now in
     let s = c.enter.new.entered.specializations in
     let rows = c.enter.new.entered.instances.items in
-    let none = c.deref.ensures.value ∙ c.new-none.ensures.items in
     let stand = c.in_ok-root.ensures.stand P Root n w at refl (none_judged P r c.new.result c.new.ensures) refl in
-    subst (λ l. HasRows r s l rows (instances_from P 65 (instance_of Root (node_of n) []))) c.new-2.ensures.items
-    (subst (λ vs. HasRows r s c.new-2.result.items rows (instances_from P 65 (instance_of Root (node_of n) vs))) none stand)
+    subst (λ l. HasRows r s l rows (instances_from P 65 (instance_of Root (node_of n) []))) c.new-2.ensures.items stand
 
 root_used : (c : In_ok-root) → HasUsed [] c.enter.new.entered.specializations [] c.enter.new.entered.instances.items
 root_used c =
@@ -205,11 +194,9 @@ returns-clause-rows c = λ P names reached values.
           let m = seen.0 in
           let observer = instance_of Observer (node_of m) [] in
           let below = instances_from P 65 observer in
-          let none = b.deref-in-Some.ensures.value ∙ c.new-none.ensures.items in
           let last = b.enter-in-Some.new.entered.specializations in
           let all = b.enter-in-Some.new.entered.instances.items in
-          let later = subst (λ vs. HasRows r last rows all (instances_from P 65 (instance_of Observer (node_of m) vs))) none
-          (b.in_ok-id-in-Some.ensures.stand P Observer m w seen.1 refl before.0 refl) in
+          let later = b.in_ok-id-in-Some.ensures.stand P Observer m w seen.1 refl before.0 refl in
           are_instances P r table last all (of_root ++ below) (listed ∙ ap (λ e. e.specializations) b.entered-is) (ap (λ e. e.instances.items) b.entered-is)
           (both_are P root at_root observer (observer_is P r reached b.in-Some.node m b.in-Some.is seen.1))
           (rows_more r last [] rows all of_root below (rows_grown r first last [] rows of_root b.in_ok-id-in-Some.ensures.grown stand) later)

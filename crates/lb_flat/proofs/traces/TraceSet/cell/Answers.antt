@@ -11,6 +11,13 @@ pub index-requires : goal.index-requires
 index-requires c =
     omega (arith, c.requires.trace, c.self.invariant.rows.paired, count_of c.args.self.now c.self.inside.signature c.self.inside.names c.self.inside.cells.items c.self.inside.row_ends.items c.self.view_is)
 
+-- a cell that lies within all cells stands below the greatest number
+pub overflow_mul-row : goal.overflow_mul-row
+overflow_mul-row c =
+    let found : _ = finds c.args.self.now c.self.inside.signature c.self.inside.names c.self.inside.cells.items c.self.inside.row_ends.items c.args.k c.args.t c.args.column c.index.result.now c.len.result
+    c.self.view_is c.self.invariant c.requires.trace c.requires.instant c.requires.column c.index.ensures c.len.ensures.count in
+    omega (arith, found.within, c.self.inside.cells.small)
+
 pub index-requires-2 : goal.index-requires-2
 index-requires-2 c =
     let found : _ = finds c.args.self.now c.self.inside.signature c.self.inside.names c.self.inside.cells.items c.self.inside.row_ends.items c.args.k c.args.t c.args.column c.index.result.now c.len.result

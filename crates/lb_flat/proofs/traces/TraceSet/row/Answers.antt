@@ -12,6 +12,15 @@ index-requires c =
     c.self.inside.cells.items c.self.inside.row_ends.items c.self.view_is in
     omega (arith, c.requires.trace, c.self.invariant.rows.paired, count)
 
+-- a row that lies within the cells begins and ends below the greatest number
+pub overflow_mul-start : goal.overflow_mul-start
+overflow_mul-start c =
+    let row = finds_row c.args.self.now c.self.inside.signature c.self.inside.names
+    c.self.inside.cells.items c.self.inside.row_ends.items c.args.k c.args.t c.index.result.now
+    c.len-width.result c.self.view_is c.self.invariant c.requires.trace c.requires.instant
+    c.index.ensures c.len-width.ensures.count in
+    omega (arith, row.within, c.self.inside.cells.small)
+
 found :
     (c : goal.After-as_slice) →
     FindsRow c.self.inside.cells.items ((c.index.result.now + c.args.t) * c.len-width.result)

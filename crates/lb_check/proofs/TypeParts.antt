@@ -1,0 +1,88 @@
+-- The type of a term from those of its one, two or three operands.
+use Rattle.std.proofs.Common.{◌≡◌, ℕ, ◌⊎◌, inl, inr, Bool, true, false, Option, Some, None, Box, Global, refl, ap, ◌∙◌}
+use Rattle.lb_syntax.specs.declared.tree.BinaryOperator.{BinaryOperator}
+use Rattle.lb_syntax.specs.declared.tree.UnaryOperator.{UnaryOperator}
+use Rattle.lb_syntax.specs.Lists.{◌>>=◌, where_true}
+use Rattle.lb_static.specs.declared.resolved.StaticId.{StaticId}
+use Rattle.lb_static.specs.declared.resolved.VariableId.{VariableId}
+use Rattle.lb_static.specs.declared.resolved.Term.{Term, Literal, Value, Group, Unary, Pre, Current, When, Copies, Index, Slice, Binary, Arrow, Fby, Join, If}
+use Rattle.lb_static.specs.Shapes.{Shape, int, truth, is_shape}
+use Rattle.lb_check.specs.Types.{array_of, index_shape, same_shape, slice_shape}
+use Rattle.lb_check.specs.TermTypes.{Context, one_type, two_types, type_of, when_both, when_truth}
+
+-- a number
+abbrev pub IsNumber : Term → Type 0
+IsNumber t = ((n : ℕ) × (t ≡ Literal n)) ⊎ ((i : StaticId) × (t ≡ Value i))
+
+pub number_type : (ctx : Context) (t : Term) → IsNumber t → type_of ctx t ≡ Some int
+unfolding type_of
+number_type ctx t (inl (n, e)) = rw e refl
+number_type ctx t (inr (i, e)) = rw e refl
+
+-- a term with this one operand
+abbrev pub IsSingle : Term → Box Term Global → Type 0
+IsSingle t e =
+    (t ≡ Group e) ⊎ (((op : UnaryOperator) × (t ≡ Unary op e)) ⊎ ((t ≡ Pre e) ⊎ ((t ≡ Current e)
+    ⊎ (((x : VariableId) × (sign : Bool) × (t ≡ When e x sign)) ⊎ (((n : StaticId) × (t ≡ Copies e n))
+    ⊎ (((i : StaticId) × (t ≡ Index e i)) ⊎ ((i : StaticId) × (j : StaticId) × (t ≡ Slice e i j))))))))
+
+pub single_type : (ctx : Context) (t : Term) (e : Box Term Global) (s : Shape) → IsSingle t e → type_of ctx e.value ≡ Some s
+    → one_type ctx t s ≡ type_of ctx t
+unfolding type_of
+single_type ctx t e s (inl is) h = rw (is, h) refl
+single_type ctx t e s (inr (inl (op, is))) h = rw (is, h) refl
+single_type ctx t e s (inr (inr (inl is))) h = rw (is, h) refl
+single_type ctx t e s (inr (inr (inr (inl is)))) h = rw (is, h) refl
+single_type ctx t e s (inr (inr (inr (inr (inl (x, sign, is)))))) h = rw (is, h) refl
+single_type ctx t e s (inr (inr (inr (inr (inr (inl (n, is))))))) h = rw (is, h) refl
+single_type ctx t e s (inr (inr (inr (inr (inr (inr (inl (i, is)))))))) h = rw (is, h) refl
+single_type ctx t e s (inr (inr (inr (inr (inr (inr (inr (i, j, is)))))))) h = rw (is, h) refl
+
+no_truth : (o : Option Shape) → when_truth o None ≡ None
+no_truth None = refl
+no_truth (Some t) = by (is_shape truth t) t
+  where
+    by : (b : Bool) (t : Shape) → (where_true b t >>= λ _. let none : Option Shape = None in none) ≡ None
+    by true t = refl
+    by false t = refl
+
+no_count : (o : Option ℕ) → (o >>= λ _. let none : Option Shape = None in none) ≡ None
+no_count None = refl
+no_count (Some n) = refl
+
+no_slice : (o p : Option ℕ) → (o >>= λ _. p >>= λ _. let none : Option Shape = None in none) ≡ None
+no_slice None p = refl
+no_slice (Some n) p = no_count p
+
+pub single_none : (ctx : Context) (t : Term) (e : Box Term Global) → IsSingle t e → type_of ctx e.value ≡ None → type_of ctx t ≡ None
+unfolding type_of
+single_none ctx t e (inl is) h = rw (is, h) refl
+single_none ctx t e (inr (inl (op, is))) h = rw (is, h) refl
+single_none ctx t e (inr (inr (inl is))) h = rw (is, h) refl
+single_none ctx t e (inr (inr (inr (inl is)))) h = rw (is, h) refl
+single_none ctx t e (inr (inr (inr (inr (inl (x, sign, is)))))) h =
+    ap (type_of ctx) is ∙ ap (when_truth (ctx.variable x)) h ∙ no_truth (ctx.variable x)
+single_none ctx t e (inr (inr (inr (inr (inr (inl (n, is))))))) h =
+    ap (type_of ctx) is ∙ ap (λ o. ctx.count n >>= λ n. o >>= array_of n) h ∙ no_count (ctx.count n)
+single_none ctx t e (inr (inr (inr (inr (inr (inr (inl (i, is)))))))) h =
+    ap (type_of ctx) is ∙ ap (λ o. ctx.count i >>= λ i. o >>= index_shape i) h ∙ no_count (ctx.count i)
+single_none ctx t e (inr (inr (inr (inr (inr (inr (inr (i, j, is)))))))) h =
+    ap (type_of ctx) is ∙ ap (λ o. ctx.count i >>= λ i. ctx.count j >>= λ j. o >>= slice_shape i j) h ∙ no_slice (ctx.count i) (ctx.count j)
+
+-- a term with these two operands
+abbrev pub IsPair : Term → Box Term Global → Box Term Global → Type 0
+IsPair t a b = ((op : BinaryOperator) × (t ≡ Binary op a b)) ⊎ ((t ≡ Arrow a b) ⊎ ((t ≡ Fby a b) ⊎ (t ≡ Join a b)))
+
+pub pair_type : (ctx : Context) (t : Term) (a b : Box Term Global) (o p : Option Shape) → IsPair t a b
+    → o ≡ type_of ctx a.value → p ≡ type_of ctx b.value → two_types t o p ≡ type_of ctx t
+unfolding type_of
+pair_type ctx t a b o p (inl (op, is)) e f = rw (is, e, f) refl
+pair_type ctx t a b o p (inr (inl is)) e f = rw (is, e, f) refl
+pair_type ctx t a b o p (inr (inr (inl is))) e f = rw (is, e, f) refl
+pair_type ctx t a b o p (inr (inr (inr is))) e f = rw (is, e, f) refl
+
+pub choice_type : (ctx : Context) (t : Term) (c a b : Box Term Global) (o p q : Option Shape) → t ≡ If c a b
+    → o ≡ type_of ctx c.value → p ≡ type_of ctx a.value → q ≡ type_of ctx b.value
+    → when_truth o (when_both p q same_shape) ≡ type_of ctx t
+unfolding type_of
+choice_type ctx t c a b o p q is e f g = rw (is, e, f, g) refl

@@ -1,8 +1,0 @@
-use Rattle.std.proofs.Common.{refl}
-use Rattle.lb_static.proofs.worked.static_values.what_is_reached_by_name.Goals as goal
-
-pub returns : goal.returns
-returns c = record {
-  nodes = refl;
-  constants = refl;
-}

@@ -1,0 +1,26 @@
+//! Tests of the libraries, as their callers meet them. There is nothing else here.
+//!
+//! Most go over a table of text: what is asked and what is wanted, taken apart when the test runs,
+//! so that a further case costs no proof. What is wanted was worked out by hand.
+#![tactic(auto)]
+
+#[cfg(test)]
+mod answers;
+#[cfg(test)]
+mod cases;
+#[cfg(test)]
+mod elaboration;
+#[cfg(test)]
+mod lanes;
+#[cfg(test)]
+mod programs;
+#[cfg(test)]
+mod reports;
+#[cfg(test)]
+mod runs;
+#[cfg(test)]
+mod source_texts;
+#[cfg(test)]
+mod streams;
+#[cfg(test)]
+mod traces;

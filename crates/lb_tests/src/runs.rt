@@ -1,0 +1,436 @@
+//! Case texts and what the program answers: the report and the status, or the refusal.
+
+use crate::answers::{answer, line_of};
+use lb_report::error::BenchError;
+use lb_syntax::error::SyntaxError;
+use lb_trace::error::TraceError;
+use std::alloc::AllocError;
+use std::process::Abort;
+use std::rt::Runtime;
+
+/// A case again, up to the line `%answer`, and what is answered on it. Its first line may name an
+/// observer.
+fn answered<R: Runtime + AllocGlobal>(rt: &R, case: &str) -> Result<String, AllocError> {
+    let (asked, _) = case.split_once("%answer").unwrap_or((case, ""));
+    let (observer, text) = asked.split_once('\n').unwrap_or(("", asked));
+    let answer = answer(rt, text, observer.trim())?;
+    format!(in rt.alloc(); "{asked}%answer\n{answer}")
+}
+
+/// The cases of a table, parted by `%case`, that say something else than what is answered.
+fn wrong_cases<R: Runtime + AllocGlobal>(rt: &R, table: &str) -> Result<String, AllocError> {
+    let mut wrong = String::new(rt.alloc());
+    for case in table.split("%case") {
+        let answered = answered(rt, case)?;
+        if answered.as_str() != case {
+            wrong.push_str(answered.as_str())?;
+        }
+    }
+    Ok(wrong)
+}
+
+fn check_cases<R: Runtime + AllocGlobal + Abort>(rt: &R, table: &str) -> Result<(), AllocError> {
+    assert_eq!(rt; wrong_cases(rt, table)?.as_str(), "");
+    Ok(())
+}
+
+/// What a refusal that no case has is answered with.
+fn check_line<R: Runtime + AllocGlobal + Abort>(
+    rt: &R,
+    error: &BenchError,
+    wanted: &str,
+) -> Result<(), AllocError> {
+    assert_eq!(rt; line_of(rt.alloc(), error)?.as_str(), wanted);
+    Ok(())
+}
+
+#[test]
+fn cases(rt: HostRuntime) -> Result<(), AllocError> {
+    check_cases(&rt, REPORTS)?;
+    check_cases(&rt, REFUSALS)?;
+    let limit = BenchError::Trace(TraceError::Limit { record: None });
+    check_line(&rt, &BenchError::Memory, "E0 memory\n")?;
+    check_line(&rt, &limit, "E18 limit\n")?;
+    let memory = BenchError::Syntax(SyntaxError::Memory);
+    check_line(&rt, &memory, "E0 memory\n")
+}
+
+/// The verdicts of traces. Among them: a counter, with an assumption and without; sums and
+/// quotients at the bounds; operators that are strict, and `if` that is not; memories at the first
+/// instant; equations in no order.
+const REPORTS: &str = "
+node main(x: int) returns (ok: bool);
+var n: int;
+let
+  n = 0 -> pre n + x;
+  ok = n < 10;
+tel
+%traces
+trace,x
+a,1
+a,5
+a,6
+b,0
+%answer
+a false 2
+b passed
+total 2 passed 1 fault 0 assertion 0 false 1
+status 1
+%case
+node main(x: int) returns (ok: bool); let ok = x < 10; tel
+%traces
+trace,x
+%answer
+total 0 passed 0 fault 0 assertion 0 false 0
+status 0
+%case
+node main(x: int) returns (ok: bool);
+var n: int;
+let
+  assert x < 6;
+  n = 0 -> pre n + x;
+  ok = n < 10;
+tel
+%traces
+trace,x
+a,1
+a,5
+a,6
+b,0
+%answer
+a assertion 2
+b passed
+total 2 passed 1 fault 0 assertion 1 false 0
+status 0
+%case
+node main(x: int) returns (ok: bool);
+var y: int;
+let y = x + 1; ok = true; tel
+%traces
+trace,x
+a,0
+a,2147483647
+b,2147483646
+%answer
+a fault 1
+b passed
+total 2 passed 1 fault 1 assertion 0 false 0
+status 1
+%case
+node main(p, q: bool) returns (ok: bool); let assert p; ok = q; tel
+%traces
+trace,p,q
+a,1,1
+a,0,1
+a,1,1
+a,1,0
+b,1,1
+b,1,0
+b,1,1
+b,0,1
+%answer
+a assertion 1
+b false 1
+total 2 passed 0 fault 0 assertion 1 false 1
+status 1
+%case
+node main(x: int) returns (ok: bool);
+var y: int;
+let assert x > 0; y = 10; ok = x > 0; tel
+%traces
+trace,x
+a,0
+%answer
+a assertion 0
+total 1 passed 0 fault 0 assertion 1 false 0
+status 0
+%case
+node main(x: int) returns (ok: bool);
+var y: int;
+let y = 10; assert true; ok = x > 0; tel
+%traces
+trace,x
+a,0
+%answer
+a false 0
+total 1 passed 0 fault 0 assertion 0 false 1
+status 1
+%case
+node main(x: int; c: bool) returns (ok: bool);
+var z: int;
+let z = -x; ok = c; tel
+%traces
+trace,c,x
+a,1,2147483647
+a,1,-2147483648
+b,0,0
+%answer
+a fault 1
+b false 0
+total 2 passed 0 fault 1 assertion 0 false 1
+status 1
+%case
+node main(x, y, z: int) returns (ok: bool); let ok = x + y = z; tel
+%traces
+trace,x,y,z
+a,2147483646,1,2147483647
+b,2147483647,1,0
+%answer
+a passed
+b fault 0
+total 2 passed 1 fault 1 assertion 0 false 0
+status 1
+%case
+node main(x, y, z: int) returns (ok: bool); let ok = x div y = z; tel
+%traces
+trace,x,y,z
+a,-7,2,-3
+b,-2147483648,-1,0
+%answer
+a passed
+b fault 0
+total 2 passed 1 fault 1 assertion 0 false 0
+status 1
+%case
+node main(x, y, z: int) returns (ok: bool); let ok = x mod y = z; tel
+%traces
+trace,x,y,z
+a,-7,2,-1
+b,1,0,0
+%answer
+a passed
+b fault 0
+total 2 passed 1 fault 1 assertion 0 false 0
+status 1
+%case
+node main(p, q: bool) returns (ok: bool); let ok = p => q; tel
+%traces
+trace,p,q
+a,1,0
+b,0,0
+%answer
+a false 0
+b passed
+total 2 passed 1 fault 0 assertion 0 false 1
+status 1
+%case
+node main(x: int; c: bool) returns (ok: bool); let ok = c or 1 div x = 1; tel
+%traces
+trace,x,c
+a,1,0
+b,0,1
+%answer
+a passed
+b fault 0
+total 2 passed 1 fault 1 assertion 0 false 0
+status 1
+%case
+node main(x: int; c: bool) returns (ok: bool); let ok = (if c then 1 else 1 div x) = 1; tel
+%traces
+trace,x,c
+a,0,1
+b,0,0
+%answer
+a passed
+b fault 0
+total 2 passed 1 fault 1 assertion 0 false 0
+status 1
+%case
+node main(x: bool) returns (ok: bool); let ok = x -> pre x; tel
+%traces
+trace,x
+a,1
+a,0
+a,1
+%answer
+a false 2
+total 1 passed 0 fault 0 assertion 0 false 1
+status 1
+%case
+node main(x: bool) returns (ok: bool); let ok = true fby x; assert ok; tel
+%traces
+trace,x
+a,1
+a,0
+a,1
+%answer
+a assertion 2
+total 1 passed 0 fault 0 assertion 1 false 0
+status 0
+%case
+node main(x: bool) returns (ok: bool);
+var a, b, c, z: bool;
+let ok = z and b; z = not x; a = true -> pre b; c = a; b = c; tel
+%traces
+trace,x
+a,0
+a,1
+%answer
+a false 1
+total 1 passed 0 fault 0 assertion 0 false 1
+status 1
+%case
+node main(x: int) returns (ok: bool);
+var n, y: int;
+let
+  n = 0 -> pre n + 1;
+  y = if n = 0 then 0 else if n = 1 then 7 else if n = 2 then -58 else if n = 3 then 936
+    else if n = 4 then -20471 else if n = 5 then 4096 else if n = 6 then 1
+    else if n = 7 then 2147483647 else -2147483647 - 1;
+  ok = x = y;
+tel
+%traces
+trace,x
+a,-0
+a,007
+a,-58
+a,936
+a,-20471
+a,000000000000004096
+a,00000000000000000001
+a,2147483647
+a,-2147483648
+%answer
+a passed
+total 1 passed 1 fault 0 assertion 0 false 0
+status 0
+%case
+node main(x: int; c: bool; y: int) returns (ok: bool);
+let ok = (c and y = 2 and x = 1) -> (not c and y = 4 and x = 3); tel
+%traces
+trace,c,y,x
+a,true,2,1
+a,0,4,3
+a/b.c-1_2,1,2,1
+%answer
+a passed
+a/b.c-1_2 passed
+total 2 passed 2 fault 0 assertion 0 false 0
+status 0
+%case
+node main(x: int) returns (ok: bool); let ok = x = 1; tel
+%traces
+\u{feff}\"trace\",\"x\"\r
+\"a\",\"1\"\r
+%answer
+a passed
+total 1 passed 1 fault 0 assertion 0 false 0
+status 0
+%case
+node main() returns (ok: bool); let ok = true -> false; tel
+%traces
+trace
+a
+a
+b
+%answer
+a false 1
+b passed
+total 2 passed 1 fault 0 assertion 0 false 1
+status 1
+";
+
+/// Refusals, by the first part that refuses. The last are of forms that do not run yet.
+const REFUSALS: &str = "
+%
+%answer
+E1 character at 1:1
+%case
+node main(x: int) returns (ok: bool);
+let
+  ok = x < 1 < 2; tel
+%answer
+E2 syntax at 3:14
+%case
+node main(x: int) returns (ok: bool); let ok = z; tel
+%answer
+E4 name
+%case
+node main(x: int) returns (ok: int); let ok = 1; tel
+%answer
+E8 root
+%case
+node main(x: int) returns (ok: bool); let ok = x; tel
+%answer
+E9 type in main
+%case
+node main(x: bool) returns (ok: bool); let ok = x when x; tel
+%answer
+E10 clock in main
+%case
+node main(x: int) returns (ok: bool); var z: int; let ok = true; tel
+%answer
+E11 definition in main
+%case
+node main(x: int) returns (ok: bool); var y, z: int; let y = z; z = y; ok = true; tel
+%answer
+E13 cycle
+%case
+node main(x: int) returns (ok: bool); let ok = true; tel
+%answer
+E14 header
+%case
+node main(x: int) returns (ok: bool); let ok = true; tel
+%traces
+trace
+%answer
+E14 header
+%case
+node main(x: int) returns (ok: bool); let ok = true; tel
+%traces
+trace,x
+a,1,2
+%answer
+E15 record
+%case
+node main(x: int) returns (ok: bool); let ok = true; tel
+%traces
+trace,x
+a,2147483648
+%answer
+E16 cell
+%case
+node main(x: int) returns (ok: bool); let ok = true; tel
+%traces
+trace,x
+a,1
+b,1
+a,1
+%answer
+E17 trace
+%case
+const n = 1;
+node main(x: int) returns (ok: bool); let ok = x > n; tel
+%answer
+E12 large
+%case
+node main(x: bool^2) returns (ok: bool); let ok = x[1]; tel
+%answer
+E12 large
+%case
+node main(x: bool) returns (ok: bool); let ok = g(x); tel
+node g(x: bool) returns (y: bool); let y = x; tel
+%answer
+E12 large
+%case
+node main(x: bool) returns (ok: bool); let ok = current (x when x); tel
+%answer
+E12 large
+%case o
+node main(x: bool) returns (y: bool); let y = x; tel
+node o(x, y: bool) returns (ok: bool); let ok = y; tel
+%answer
+E12 large
+%case
+node main(x: int) returns (ok: bool); let ok = true; tel
+%traces
+trace,y
+%answer
+E14 header
+%case
+node main(x: int) returns (ok: bool); let ok = true; tel
+%traces
+trace,x,x
+%answer
+E14 header
+";

@@ -1,0 +1,5 @@
+mod CausalTest
+mod SolvesTest
+mod Tests
+mod Verdicts
+mod WorkedLevels

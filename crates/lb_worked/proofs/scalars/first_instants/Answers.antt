@@ -1,0 +1,25 @@
+use Rattle.std.proofs.Common.{[], ◌∷◌, refl}
+use Rattle.lb_static.specs.Instances.{Root}
+use Rattle.lb_check.specs.Needs.{needs}
+use Rattle.lb_check.specs.declared.verdict.Verdict.TheVariants.{False, Fault, Passed}
+use Rattle.lb_worked.specs.WorkedSamples.{at, history}
+use Rattle.lb_worked.specs.WorkedScalars as worked
+use Rattle.lb_worked.proofs.CausalTest.{all_accepted}
+use Rattle.lb_worked.proofs.SolvesTest.{by_history}
+use Rattle.lb_worked.proofs.scalars.first_instants.Goals as goal
+
+pub returns : goal.returns
+unfolding needs
+returns c = record {
+  accepted =
+      (all_accepted (worked.first_then ∷ worked.followed ∷ worked.before_the_first
+      ∷ worked.truth_before_the_first ∷ [])).shows refl;
+  arrow = by_history _ _ Passed (history (
+      at Root "c f t f; e 7 1 5; ok t t t; r 7 1 5" ∷ [])) refl refl;
+  fby = by_history _ _ Passed (history (
+      at Root "x 1 2 3; e 5 1 2; ok t t t; r 5 1 2" ∷ [])) refl refl;
+  pre_of_an_int_is_zero = by_history _ _ (Fault 0) (history (
+      at Root "x 2 2; n 4 4; ok t t; px 0 2; q ! 2" ∷ [])) refl refl;
+  pre_of_a_bool_is_false = by_history _ _ (False 0) (history (
+      at Root "b t; ok f" ∷ [])) refl refl;
+}

@@ -1,0 +1,23 @@
+use Rattle.std.proofs.Common.{[], ◌∷◌, refl}
+use Rattle.lb_static.specs.Instances.{Root}
+use Rattle.lb_check.specs.Needs.{needs}
+use Rattle.lb_check.specs.declared.verdict.Verdict.TheVariants.{Assertion as Assertion_fails, False, Fault}
+use Rattle.lb_worked.specs.WorkedSamples.{at, history}
+use Rattle.lb_worked.specs.WorkedScalars as worked
+use Rattle.lb_worked.proofs.CausalTest.{all_accepted}
+use Rattle.lb_worked.proofs.SolvesTest.{by_history}
+use Rattle.lb_worked.proofs.scalars.the_order_at_one_instant.Goals as goal
+
+pub returns : goal.returns
+unfolding needs
+returns c = record {
+  accepted =
+      (all_accepted (worked.all_three ∷ worked.without_a_fault ∷ worked.property_alone ∷ [])).shows
+      refl;
+  fault_first = by_history _ _ (Fault 0) (history (
+      at Root "x 0; ok f; y !" ∷ [])) refl refl;
+  assertion_next = by_history _ _ (Assertion_fails 0) (history (
+      at Root "x 0; ok f; y 10" ∷ [])) refl refl;
+  property_last = by_history _ _ (False 0) (history (
+      at Root "x 0; ok f; y 10" ∷ [])) refl refl;
+}

@@ -1,0 +1,11 @@
+pub mod WorkedArrays
+pub mod WorkedCausality
+pub mod WorkedClocks
+pub mod WorkedLevels
+pub mod WorkedLimits
+pub mod WorkedPrograms
+pub mod WorkedRefusals
+pub mod WorkedSamples
+pub mod WorkedScalars
+pub mod WorkedStatics
+pub mod WorkedTexts

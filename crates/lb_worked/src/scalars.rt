@@ -1,0 +1,109 @@
+//! One node, without clocks or arrays.
+
+ghost use Rattle.std.specs.Prelude.{List, [], false, negsuc, pos, true, ◌∷◌, ◌≡◌};
+ghost use Rattle.lb_syntax.specs.Lists.{Every};
+ghost use Rattle.lb_check.specs.Scalars.{Integer, Boolean};
+ghost use Rattle.lb_check.specs.Acceptance.{IsAccepted};
+ghost use Rattle.lb_check.specs.Verdicts.{HasVerdict};
+ghost use Rattle.lb_check.specs.declared.verdict.Verdict.TheVariants.{Passed, Fault, Assertion as Assertion_fails, False};
+ghost use Rattle.lb_worked.specs.WorkedSamples.{trace};
+ghost use Rattle.lb_worked.specs.WorkedScalars.{counter, assuming_counter, increment, quotient_by_minus_one, remainder_by_minus_one, negation, quotients, literal_quotients, each_sign, chosen_branch, other_branch, strict_and, strict_or, strict_implies, strict_count, all_three, without_a_fault, property_alone, assumed, logic, equality_of_truths, comparisons, counting, logic_table, equality_table, comparison_table, first_then, followed, before_the_first, truth_before_the_first, unused_operand, unused_operand_of_fby, unused_operand_of_current, unused_side};
+
+/// The notation of traces below: instants parted by semicolons, cells by spaces.
+pub fn how_traces_are_written()
+    ensures two_instants { trace "1 t; -5 f" ≡
+        ((Integer (pos 1) ∷ Boolean true ∷ [])
+        ∷ (Integer (negsuc 4) ∷ Boolean false ∷ []) ∷ []) }
+    ensures two_instants_without_inputs { trace ";" ≡ ([] ∷ [] ∷ []) }
+{}
+
+/// A sum of inputs stays below ten.
+pub fn the_counter_of_the_first_run()
+    ensures accepted { Every IsAccepted (counter ∷ assuming_counter ∷ []) }
+    ensures false_where_the_sum_is_eleven { HasVerdict counter (trace "1; 5; 6") (False 2) }
+    ensures passes_on_one_instant { HasVerdict counter (trace "0") Passed }
+    ensures assertion_first { HasVerdict assuming_counter (trace "1; 5; 6") (Assertion_fails 2) }
+{}
+
+/// A result out of the range of `int` is a fault; one at the bound is none.
+pub fn overflow_at_the_bound()
+    ensures accepted { IsAccepted increment }
+    ensures fault_past_the_greatest { HasVerdict increment (trace "0; 2147483647") (Fault 1) }
+    ensures greatest_is_reached { HasVerdict increment (trace "2147483646") Passed }
+{}
+
+/// The least integer has no quotient, remainder or negation in range.
+pub fn the_least_integer_by_minus_one()
+    ensures accepted { Every IsAccepted (quotient_by_minus_one ∷ remainder_by_minus_one ∷ negation
+        ∷ []) }
+    ensures divided { HasVerdict quotient_by_minus_one (trace "-2147483648") (Fault 0) }
+    ensures remainder { HasVerdict remainder_by_minus_one (trace "-2147483648") (Fault 0) }
+    ensures negated { HasVerdict negation (trace "-2147483648") (Fault 0) }
+    ensures negation_of_the_greatest { HasVerdict negation (trace "2147483647") Passed }
+{}
+
+/// A quotient is cut off toward zero, and a remainder has the sign of the dividend.
+pub fn division_cuts_off_toward_zero()
+    ensures accepted { Every IsAccepted (quotients ∷ literal_quotients ∷ []) }
+    ensures each_sign { HasVerdict quotients each_sign Passed }
+    ensures of_literals { HasVerdict literal_quotients (trace "0") Passed }
+{}
+
+/// `if` gives the chosen branch alone; `and`, `or`, `=>` and `#` are strict.
+pub fn a_fault_in_what_is_not_needed()
+    ensures accepted { Every IsAccepted (chosen_branch ∷ other_branch ∷ strict_and ∷ strict_or
+        ∷ strict_implies ∷ strict_count ∷ []) }
+    ensures branch_not_chosen { HasVerdict chosen_branch (trace "5 0") Passed }
+    ensures other_branch_not_chosen { HasVerdict other_branch (trace "5 0") Passed }
+    ensures under_and { HasVerdict strict_and (trace "5 0") (Fault 0) }
+    ensures under_or { HasVerdict strict_or (trace "5 0") (Fault 0) }
+    ensures under_implies { HasVerdict strict_implies (trace "5 0") (Fault 0) }
+    ensures under_at_most_one { HasVerdict strict_count (trace "5 0") (Fault 0) }
+{}
+
+/// At one instant a fault comes before an assertion, and that before the property.
+pub fn the_order_at_one_instant()
+    ensures accepted { Every IsAccepted (all_three ∷ without_a_fault ∷ property_alone ∷ []) }
+    ensures fault_first { HasVerdict all_three (trace "0") (Fault 0) }
+    ensures assertion_next { HasVerdict without_a_fault (trace "0") (Assertion_fails 0) }
+    ensures property_last { HasVerdict property_alone (trace "0") (False 0) }
+{}
+
+/// An assertion that fails later does not excuse the property, nor the other way round.
+pub fn the_first_instant_decides()
+    ensures accepted { IsAccepted assumed }
+    ensures assertion_first { HasVerdict assumed (trace "t t; f t; t t; t f") (Assertion_fails 1) }
+    ensures property_first { HasVerdict assumed (trace "t t; t f; t t; f t") (False 1) }
+{}
+
+/// The tables of the operators of truths, of the comparisons, and of `#` and `nor`.
+pub fn operators_of_data()
+    ensures accepted { Every IsAccepted (logic ∷ equality_of_truths ∷ comparisons ∷ counting ∷ []) }
+    ensures tables_of_logic { HasVerdict logic logic_table Passed }
+    ensures equal_truths { HasVerdict equality_of_truths equality_table Passed }
+    ensures comparisons_of_integers { HasVerdict comparisons comparison_table Passed }
+    ensures one_of_three_but_not_two { HasVerdict counting (trace "t f f; t t f") (False 1) }
+    ensures none_is_at_most_one_too { HasVerdict counting (trace "f t f; f f f") (False 1) }
+    ensures three_are_too_many { HasVerdict counting (trace "f f t; t t t") (False 1) }
+{}
+
+/// `->` and `fby` give their first operand at the first instant; before it `pre` has 0 or false.
+pub fn first_instants()
+    ensures accepted { Every IsAccepted (first_then ∷ followed ∷ before_the_first
+        ∷ truth_before_the_first ∷ []) }
+    ensures arrow { HasVerdict first_then (trace "f 7; t 1; f 5") Passed }
+    ensures fby { HasVerdict followed (trace "1 5; 2 1; 3 2") Passed }
+    ensures pre_of_an_int_is_zero { HasVerdict before_the_first (trace "2 4; 2 4") (Fault 0) }
+    ensures pre_of_a_bool_is_false { HasVerdict truth_before_the_first (trace "t") (False 0) }
+{}
+
+/// A fault counts where `pre`, `fby` or `current` keeps it; in an unused side of `->` it does not.
+pub fn the_operand_of_a_memory_is_a_named_place()
+    ensures accepted { Every IsAccepted (unused_operand ∷ unused_operand_of_fby
+        ∷ unused_operand_of_current ∷ unused_side ∷ []) }
+    ensures operand_of_pre { HasVerdict unused_operand (trace "0") (Fault 0) }
+    ensures operand_of_fby { HasVerdict unused_operand_of_fby (trace "0") (Fault 0) }
+    ensures operand_of_current { HasVerdict unused_operand_of_current
+        (trace "t f 0; t t 1; t t 0") (Fault 2) }
+    ensures unused_side_of_arrow { HasVerdict unused_side (trace "0; 1") Passed }
+{}
