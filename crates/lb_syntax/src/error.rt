@@ -1,6 +1,5 @@
 //! Why a source text is refused.
 
-use std::alloc::{AllocError, AllocFailed};
 use thiserror::Error;
 
 /// Why a source text is refused.
@@ -41,26 +40,4 @@ pub enum SyntaxError {
         /// In bytes, from 1.
         column: u32,
     },
-}
-
-impl From<AllocError> for SyntaxError {
-    ghost use Rattle.std.specs.Prelude.{◌≡◌};
-    ghost use Rattle.lb_syntax.specs.declared.error.SyntaxError.TheVariants.{Memory};
-
-    ghost from_gives = { λ _ e. e ≡ Memory };
-
-    fn from(_e: AllocError) -> SyntaxError {
-        SyntaxError::Memory
-    }
-}
-
-impl<T: Drop> From<AllocFailed<T>> for SyntaxError {
-    ghost use Rattle.std.specs.Prelude.{◌≡◌};
-    ghost use Rattle.lb_syntax.specs.declared.error.SyntaxError.TheVariants.{Memory};
-
-    ghost from_gives = { λ _ e. e ≡ Memory };
-
-    fn from(_e: AllocFailed<T>) -> SyntaxError {
-        SyntaxError::Memory
-    }
 }

@@ -13,7 +13,6 @@ ghost use Rattle.lb_syntax.specs.Lexed.{passes, piece_of, IsWithin, Lexes};
 use crate::token::{Mark, Token};
 use crate::tree::Name;
 use std::alloc::{AllocError, AllocFailed, Global};
-use thiserror::Error;
 
 /// The tokens of a text, and where each begins.
 #[derive(Drop)]
@@ -26,13 +25,11 @@ pub struct Tokens {
 
 /// Why a text was not cut into tokens. Nothing else is judged here: a name or a literal of any
 /// length passes, and so do tokens in any order.
-#[derive(Debug, Drop, Error)]
+#[derive(Drop)]
 pub enum LexError {
     /// Memory ran out.
-    #[error("out of memory")]
     Memory,
     /// The byte at this offset begins no token, or a comment without an end.
-    #[error("no token begins at byte {0}")]
     Character(u32),
 }
 

@@ -3,7 +3,7 @@
 use crate::tree::Name;
 
 /// A reserved word or a symbol.
-#[derive(Clone, Copy, PartialEq, Eq, Debug)]
+#[derive(Clone, Copy, PartialEq, Eq)]
 pub enum Mark {
     /// `and`
     And,

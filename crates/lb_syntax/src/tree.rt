@@ -57,7 +57,7 @@ impl Name {
 }
 
 /// An operator with one operand.
-#[derive(Clone, Copy, PartialEq, Eq, Debug)]
+#[derive(Clone, Copy, PartialEq, Eq)]
 pub enum UnaryOperator {
     /// `not a`
     Not,
@@ -66,7 +66,7 @@ pub enum UnaryOperator {
 }
 
 /// An operator with two operands that is a table of values.
-#[derive(Clone, Copy, PartialEq, Eq, Debug)]
+#[derive(Clone, Copy, PartialEq, Eq)]
 pub enum BinaryOperator {
     /// `a or b`
     Or,
@@ -110,7 +110,7 @@ pub enum Kind {
 }
 
 /// An iterator over arrays.
-#[derive(Clone, Copy, PartialEq, Eq, Debug)]
+#[derive(Clone, Copy)]
 pub enum ArrayIterator {
     /// `map`
     Map,

@@ -1,4 +1,4 @@
-use Rattle.std.proofs.Common.{◌≡◌, ◌≢◌, List, ℤ, [], get_or, set, sym, ◌∙◌, subst, arith, below_more}
+use Rattle.std.proofs.Common.{◌≡◌, ◌≢◌, List, ℤ, [], get_or, set, sym, ◌∙◌, subst, arith, below_more, not-suc-le-zero, refl}
 use Rattle.std.proofs.lemmas.List.{get_or-set_same, get_or-set_other, get_or_default}
 use Rattle.lb_lanes.specs.Kernels.{IsBlend}
 use Rattle.lb_lanes.proofs.slices.commit_ints.Goals as goal
@@ -21,3 +21,6 @@ loop-k-preserved c =
           (subst (λ a. Blended a (get_or old k []) v) x (subst (λ b. Blended c.index-new-k.result b v) y c.commit.ensures)));
       rest = λ j le. let ne : j ≢ k = omega arith in get_or-set_other c.loop-k.old k j v [] ne ∙ c.loop-k.invariant.rest j (omega arith);
     }
+
+pub loop-k-init : goal.loop-k-init
+loop-k-init c = record { done = λ j h. absurd (not-suc-le-zero h); rest = λ j le. refl }

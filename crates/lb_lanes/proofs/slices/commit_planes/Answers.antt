@@ -1,4 +1,4 @@
-use Rattle.std.proofs.Common.{◌≡◌, ℕ, ◌*◌, ◌+◌, refl, sym, ◌∙◌, subst, arith, not-suc-le-zero, get_or}
+use Rattle.std.proofs.Common.{◌≡◌, ℕ, ◌*◌, ◌+◌, refl, sym, ◌∙◌, subst, arith, not-suc-le-zero, get_or, rules}
 use Rattle.lb_lanes.specs.Planes.{IsSelection}
 use Rattle.lb_lanes.proofs.Joined.{WrittenBelow, words_joined}
 use Rattle.lb_lanes.proofs.slices.commit_planes.Goals as goal
@@ -25,3 +25,6 @@ loop-c-preserved c =
           (subst (λ b. IsSelection m (get_or c.load8.result j 0) b (get_or c.selected8-kept.result j 0)) y
           (c.selected8-kept.ensures j h)))));
     }
+
+pub loop-k-preserved : goal.loop-k-preserved
+loop-k-preserved c = search rules

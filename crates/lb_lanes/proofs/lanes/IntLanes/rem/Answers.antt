@@ -1,0 +1,5 @@
+use Rattle.std.proofs.Common.{rules}
+use Rattle.lb_lanes.proofs.lanes.IntLanes.rem.Goals as goal
+
+pub returns-clause-lanes : goal.returns-clause-lanes
+returns-clause-lanes c = search rules
