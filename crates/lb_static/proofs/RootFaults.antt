@@ -1,10 +1,12 @@
 -- Why the node under test or the observer is refused.
-use Rattle.std.proofs.Common.{◌≡◌, Option, Some, None, Result, Ok, Err, false, option_map, refl, ap, sym, ◌∙◌, subst}
+use Rattle.std.proofs.Common.{◌≡◌, Bool, true, false, Option, Some, None, Result, Ok, Err, option_map, refl, ap, sym, ◌∙◌, subst}
 use Rattle.std.specs.Prelude.{ok_or}
-use Rattle.lb_syntax.specs.Lists.{holds}
+use Rattle.lb_syntax.specs.Lists.{holds, where_true}
 use Rattle.lb_static.specs.Instances.{Program, Root, instance_at}
-use Rattle.lb_static.specs.Interfaces.{IsRootFault}
+use Rattle.lb_static.specs.Interfaces.{Answers, IsRootFault}
 use Rattle.lb_static.specs.RootAnswers.{IsRootAnswer}
+use Rattle.lb_static.specs.Shapes.{signature}
+use Rattle.lb_static.specs.Signature.{Elements}
 use Rattle.lb_static.specs.Walk.{is_root}
 use Rattle.lb_static.specs.declared.error.StaticError.{StaticError}
 use Rattle.lb_static.specs.declared.error.StaticError.TheVariants as error
@@ -33,3 +35,21 @@ root_fault P (error.Recursion x) h f = h
 root_fault P (error.Value x) h f = h
 root_fault P (error.Range x) h f = h
 root_fault P error.Instances h f = h
+
+-- the same fault, for a reason that follows
+pub fault_for : {A B : Type 0} (e : StaticError) → IsRootFault A e → (A → B) → IsRootFault B e
+fault_for error.Memory h f = tt
+fault_for error.Root h f = f h
+fault_for (error.Name x) h f = h
+fault_for (error.Recursion x) h f = h
+fault_for (error.Value x) h f = h
+fault_for (error.Range x) h f = h
+fault_for error.Instances h f = h
+
+-- what is answered by what is seen of the node under test
+pub root_answer : (P : Program) (passes : Bool) (s : Elements) (r : Result Elements StaticError) → holds (is_root P) (instance_at P Root) ≡ passes → signature P ≡ s
+    → Answers (λ x. x) (where_true passes s) r → IsRootAnswer P r
+root_answer P true s (Ok x) e g h = (e, cc)
+root_answer P false s (Ok x) e g h = absurd cc
+root_answer P true s (Err err) e g h = root_fault P err h (λ none. absurd cc)
+root_answer P false s (Err err) e g h = root_fault P err h (λ none. e)

@@ -1,11 +1,12 @@
 -- Which refusal of a program the faults of its parts are.
-use Rattle.std.proofs.Common.{◌≡◌, Bool, true, false, Option, Some, None, Err, refl}
+use Rattle.std.proofs.Common.{◌≡◌, Bool, true, false, Option, Some, None, Result, Ok, Err, refl}
+use Rattle.std.specs.Prelude.{IfOk}
 use Rattle.lb_syntax.specs.Lists.{or_else, holds}
 use Rattle.lb_syntax.specs.Refusals.{Refusal, E4, E5, E6, E7, E8, E12, unless}
 use Rattle.lb_static.specs.declared.error.StaticError.{StaticError}
 use Rattle.lb_static.specs.declared.error.StaticError.TheVariants.{Memory, Name as Name_fault, Recursion, Root as Root_fault, Value, Range, Instances}
 use Rattle.lb_static.specs.CallGraphs.{IsCallsAnswer}
-use Rattle.lb_static.specs.Elaborates.{IsStaticFault}
+use Rattle.lb_static.specs.Elaborates.{IsStaticFault, IsTableAnswer}
 use Rattle.lb_static.specs.InstanceTable.{HasStarts, IsTable}
 use Rattle.lb_static.specs.SettledSpecializations.{AreSpecialized}
 use Rattle.lb_static.specs.WalkedRows.{AreInstances}
@@ -16,7 +17,7 @@ use Rattle.lb_static.specs.NameFaults.{IsNameFault}
 use Rattle.lb_static.specs.Names.{is_well_founded, keeps_names}
 use Rattle.lb_static.specs.RootAnswers.{IsRootAnswer}
 use Rattle.lb_static.specs.Walk.{has_no_parameters, is_root, static_refusal, walk_refusal}
-use Rattle.lb_static.specs.Walked.{IsRefusal}
+use Rattle.lb_static.specs.Walked.{IsRefusal, IsWalkAnswer}
 
 -- ## The first of five
 
@@ -136,3 +137,14 @@ is_table P r t starts specialized rows = record {
   used = rows.used;
   few = rows.few;
 }
+
+pub table_answer : (P : Program) (r : Reached) (result : Result Table StaticError) → keeps_names P ≡ true → is_well_founded P ≡ true → has_no_parameters P ≡ true
+    → IsWalkAnswer P r result → IfOk result (AreSpecialized P r) → IfOk result (AreInstances P r) → IsTableAnswer P r result
+table_answer P r (Ok t) names calls parameters walked specialized rows = record {
+  calls = calls;
+  parameters = parameters;
+  walked = walked.0;
+  starts = walked.1;
+  table = is_table P r t walked.1 specialized rows;
+}
+table_answer P r (Err e) names calls parameters walked specialized rows = walk_fault P e names calls parameters walked

@@ -1,16 +1,20 @@
 -- What `elaborate` promises of a source.
 -- This file says what data of the program mean; no definition of the language stands on it.
-use Rattle.std.specs.Prelude.{◌≡◌, Option, Some, Result, Ok, Err}
+use Rattle.std.specs.Prelude.{◌≡◌, true, Option, Some, None, Result, Ok, Err}
 use Rattle.lb_syntax.specs.Refusals.{E4, E5, E6, E7, E8, E12}
 use Rattle.lb_syntax.specs.SourceView.{view_source}
 use Rattle.lb_syntax.specs.Tree.{Name}
 use Rattle.lb_syntax.specs.declared.tree.Source.{Source}
-use Rattle.lb_static.specs.Instances.{Program}
+use Rattle.lb_static.specs.Instances.{Program, instances}
+use Rattle.lb_static.specs.InstanceTable.{HasStarts, IsTable}
 use Rattle.lb_static.specs.Elaborated.{IsElaborated}
-use Rattle.lb_static.specs.Walk.{static_refusal}
+use Rattle.lb_static.specs.Names.{is_well_founded}
+use Rattle.lb_static.specs.Walk.{has_no_parameters, static_refusal, walk_refusal}
 use Rattle.lb_static.specs.declared.elab.Elab.{Elab}
 use Rattle.lb_static.specs.declared.error.StaticError.{StaticError}
 use Rattle.lb_static.specs.declared.error.StaticError.TheVariants as error
+use Rattle.lb_static.specs.declared.reach.Reached.{Reached}
+use Rattle.lb_static.specs.declared.table.Table.{Table}
 
 -- the program of a source, with the names of the node under test and of the observer
 abbrev pub program_of : Source → Name → Option Name → Program
@@ -34,3 +38,18 @@ IsStaticFault P error.Instances = static_refusal P ≡ Some E12
 abbrev pub Elaborates : Program → Result Elab StaticError → Type 0
 Elaborates P (Ok e) = IsElaborated P e
 Elaborates P (Err e) = IsStaticFault P e
+
+-- ## The instances
+
+-- a program whose instances keep the rules, and their table
+pub record HasTable (P : Program) (r : Reached) (t : Table) : Type 0 where
+  pub calls : is_well_founded P ≡ true
+  pub parameters : has_no_parameters P ≡ true
+  pub walked : walk_refusal P 0 (instances P) ≡ None
+  pub starts : HasStarts P r t
+  pub table : IsTable P r t
+
+-- the table of the instances of a program whose names are judged, or the first rule that is broken
+abbrev pub IsTableAnswer : Program → Reached → Result Table StaticError → Type 0
+IsTableAnswer P r (Ok t) = HasTable P r t
+IsTableAnswer P r (Err e) = IsStaticFault P e

@@ -143,6 +143,41 @@ fn visit_names(expression: &Static, names: &Scope, tasks: &mut Vec<Task>) -> Res
     }
 }
 
+// Visits each constant that was not seen, and settles it after those that it names, as far as they
+// do not need it. There is no task yet.
+fn visit_each(
+    constants: &[&Constant],
+    names: &Scope,
+    values: &mut [Option<StaticInt>],
+    seen: &mut [bool],
+    tasks: &mut Vec<Task>,
+) -> Result<(), AllocError>
+    requires same_names { names.now ≡ names_of (read_constants constants.now) }
+    requires sound { IsSound (read_constants constants.now) values.old }
+    requires as_many { length seen.old ≡ length constants.now }
+    requires none { tasks.old.items ≡ [] }
+    ensures sound { IsSound (read_constants constants.now) values.new }
+{
+    for place in 0..constants.len() {
+        tasks.push(Task::Visit(place))?;
+    }
+    while let Some(task) = tasks.pop() {
+        match task {
+            Task::Visit(place) => {
+                if !seen[place] {
+                    seen[place] = true;
+                    tasks.push(Task::Settle(place))?;
+                    visit_names(&constants[place].value, names, tasks)?;
+                }
+            }
+            Task::Settle(place) => {
+                settle(constants, names, values, place);
+            }
+        }
+    }
+    Ok(())
+}
+
 // Settles each constant after those that it names, as far as they do not need it.
 fn walk(
     alloc: Global,
@@ -154,26 +189,9 @@ fn walk(
     requires sound { IsSound (read_constants constants.now) values.old }
     ensures sound { IsSound (read_constants constants.now) values.new }
 {
-    let mut tasks = Vec::new(alloc);
-    for place in 0..constants.len() {
-        tasks.push(Task::Visit(place))?;
-    }
     let mut seen = vec![in alloc; false; constants.len()]?;
-    while let Some(task) = tasks.pop() {
-        match task {
-            Task::Visit(place) => {
-                if !seen[place] {
-                    seen[place] = true;
-                    tasks.push(Task::Settle(place))?;
-                    visit_names(&constants[place].value, names, &mut tasks)?;
-                }
-            }
-            Task::Settle(place) => {
-                settle(constants, names, values, place);
-            }
-        }
-    }
-    Ok(())
+    let mut tasks = Vec::new(alloc);
+    visit_each(constants, names, values, &mut seen, &mut tasks)
 }
 
 // Takes the first constant of each name, in the order of the source.

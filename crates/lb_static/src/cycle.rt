@@ -3,10 +3,10 @@
 //! A chain of calls may be as long as the source, so no function calls itself along it: the walk
 //! holds its path in a vector. It follows each call once, so its time is linear in nodes and calls.
 
-ghost use Rattle.std.specs.Prelude.{◌≡◌, ◌<◌, map, length, Some, None, Ok, IfOk, OnOk};
-ghost use Rattle.lb_static.specs.CallGraphs.{AreWithin, IsCycleAnswer, IsOnCycle};
+ghost use Rattle.std.specs.Prelude.{◌≡◌, [], map, None, IfOk};
+ghost use Rattle.lb_static.specs.CallGraphs.{AreWithin, IsCycleAnswer};
 ghost use Rattle.lb_static.specs.CycleSearch.{IsAt, IsBetween, IsWalkAnswer};
-ghost use Rattle.lb_static.specs.declared.cycle.Progress.TheVariants.{Unseen, Done};
+ghost use Rattle.lb_static.specs.declared.cycle.Progress.TheVariants.{Unseen};
 
 use std::alloc::{AllocError, Global};
 
@@ -44,22 +44,24 @@ impl<'g> Frame<'g> {
     }
 }
 
-// Follows the calls of a node that was not begun. Answers a node that reaches itself, if it meets
-// one; if not, the node is done, and all that it reaches.
-fn walk_from(
-    alloc: Global,
-    graph: &[Vec<usize>],
+// Follows the calls of a node that was not begun; there is nothing on the path. Answers a node that
+// reaches itself, if it meets one; if not, the node is done, with all that it reaches, and there is
+// nothing on the path again.
+fn walk_from<'g>(
+    graph: &'g [Vec<usize>],
     progress: &mut [Progress],
+    path: &mut Vec<Frame<'g>>,
     start: usize,
 ) -> Result<Option<usize>, AllocError>
     requires within { AreWithin (map (λ v. v.items) graph.now) }
     requires between { IsBetween (map (λ v. v.items) graph.now) progress.old }
     requires unseen { IsAt progress.old start Unseen }
-    ensures { IfOk result
+    requires none { path.old.items ≡ [] }
+    ensures answer { IfOk result
         (IsWalkAnswer (map (λ v. v.items) graph.now) progress.old start progress.new) }
+    ensures none { IfOk result (λ found. found ≡ None → path.new.items ≡ []) }
 {
     progress[start] = Progress::Open;
-    let mut path = Vec::new(alloc);
     path.push(Frame::new(start, graph))?;
     while let Some(frame) = path.pop() {
         match frame.left.split_first() {
@@ -81,6 +83,28 @@ fn walk_from(
     Ok(None)
 }
 
+// Walks from each node that is not begun by then. Nothing is begun yet, and there is nothing on the
+// path.
+fn walk_from_each<'g>(
+    graph: &'g [Vec<usize>],
+    progress: &mut [Progress],
+    path: &mut Vec<Frame<'g>>,
+) -> Result<Option<usize>, AllocError>
+    requires within { AreWithin (map (λ v. v.items) graph.now) }
+    requires between { IsBetween (map (λ v. v.items) graph.now) progress.old }
+    requires none { path.old.items ≡ [] }
+    ensures { IfOk result (IsCycleAnswer (map (λ v. v.items) graph.now)) }
+{
+    for start in 0..graph.len() {
+        if matches!(progress[start], Progress::Unseen) {
+            if let Some(node) = walk_from(graph, progress, path, start)? {
+                return Ok(Some(node));
+            }
+        }
+    }
+    Ok(None)
+}
+
 /// A node that reaches itself by its calls, or none if there is none. The graph has, for each node,
 /// the nodes that it calls.
 pub fn find_cycle(alloc: Global, graph: &[Vec<usize>]) -> Result<Option<usize>, AllocError>
@@ -88,12 +112,6 @@ pub fn find_cycle(alloc: Global, graph: &[Vec<usize>]) -> Result<Option<usize>, 
     ensures { IfOk result (IsCycleAnswer (map (λ v. v.items) graph.now)) }
 {
     let mut progress = vec![in alloc; Progress::Unseen; graph.len()]?;
-    for start in 0..graph.len() {
-        if matches!(progress[start], Progress::Unseen) {
-            if let Some(node) = walk_from(alloc, graph, &mut progress, start)? {
-                return Ok(Some(node));
-            }
-        }
-    }
-    Ok(None)
+    let mut path = Vec::new(alloc);
+    walk_from_each(graph, &mut progress, &mut path)
 }

@@ -1,8 +1,12 @@
 //! Elaboration of a program: its names, its static values, its instances and the shape of the node
 //! under test.
 
-ghost use Rattle.std.specs.Prelude.{◌≡◌, option_map};
-ghost use Rattle.lb_static.specs.Elaborates.{Elaborates, program_of};
+ghost use Rattle.std.specs.Prelude.{◌≡◌, true, option_map};
+ghost use Rattle.lb_syntax.specs.SourceView.{view_source};
+ghost use Rattle.lb_static.specs.Elaborates.{Elaborates, IsTableAnswer, program_of};
+ghost use Rattle.lb_static.specs.Instances.{Program};
+ghost use Rattle.lb_static.specs.Names.{keeps_names};
+ghost use Rattle.lb_static.specs.ReachedNodes.{IsReached};
 
 use crate::constants::Constants;
 use crate::elab::Elab;
@@ -10,9 +14,25 @@ use crate::error::StaticError;
 use crate::judge_calls::judge_calls;
 use crate::judge_names::judge_names;
 use crate::judge_root::{have_no_parameters, judge_root};
+use crate::reach::Reached;
+use crate::table::Table;
 use crate::walk::walk;
 use lb_syntax::tree::Source;
 use std::alloc::Global;
+
+/// The instances of a program whose names are judged, with their static values.
+fn judge_instances(alloc: Global, source: &Source, reached: &Reached) -> Result<Table, StaticError>
+    requires { (P : Program) × IsReached P reached.now }
+    ensures { (P : Program) → keeps_names P ≡ true → IsReached P reached.now
+        → P.source ≡ view_source source.now → IsTableAnswer P reached.now result }
+{
+    judge_calls(alloc, reached)?;
+    if !have_no_parameters(reached) {
+        return Err(StaticError::Root);
+    }
+    let constants = Constants::new(alloc, &source.constants)?;
+    walk(alloc, reached, &constants)
+}
 
 /// The program of a node under test, and of its observer if there is one: the nodes that are
 /// reached, the instances with their static values, and the signature.
@@ -30,12 +50,7 @@ pub fn elaborate<'s>(
         (program_of source.now node.now (option_map (λ o. o.now) observer.entry)) result }
 {
     let reached = judge_names(alloc, source, node, observer)?;
-    judge_calls(alloc, &reached)?;
-    if !have_no_parameters(&reached) {
-        return Err(StaticError::Root);
-    }
-    let constants = Constants::new(alloc, &source.constants)?;
-    let table = walk(alloc, &reached, &constants)?;
+    let table = judge_instances(alloc, source, &reached)?;
     let signature = judge_root(alloc, &reached, &table)?;
     Ok(Elab {
         reached,

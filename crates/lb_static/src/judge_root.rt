@@ -7,7 +7,7 @@ ghost use Rattle.lb_static.specs.InstanceTable.{HasStarts};
 ghost use Rattle.lb_static.specs.Interfaces.{Answers, face_seen, property_in};
 ghost use Rattle.lb_static.specs.Names.{keeps_names};
 ghost use Rattle.lb_static.specs.ReachedNodes.{IsReached};
-ghost use Rattle.lb_static.specs.RootAnswers.{IsRootAnswer, has_no_parameters_at};
+ghost use Rattle.lb_static.specs.RootAnswers.{IsRootAnswer, has_no_parameters_at, signature_in};
 ghost use Rattle.lb_static.specs.Walk.{has_no_parameters, walk_refusal};
 
 use crate::error::StaticError;
@@ -59,6 +59,25 @@ fn has_property(
     }
 }
 
+/// The scalar inputs of the node under test, by its inputs and outputs, where these and the
+/// observer are as they may be.
+fn judge_interface(
+    alloc: Global,
+    reached: &Reached,
+    table: &Table,
+    root: &Interface,
+) -> Result<Signature, StaticError>
+    ensures { Answers (λ s. s) (signature_in reached.now table.now (face_seen root.now)) result }
+{
+    if !root.is_plain || root.scalar_inputs() > Signature::MOST {
+        return Err(StaticError::Root);
+    }
+    if !has_property(alloc, reached, table, root)? {
+        return Err(StaticError::Root);
+    }
+    Ok(root.signature(alloc)?)
+}
+
 /// The scalar inputs of the node under test, where it and the observer have the shape that they
 /// may have.
 ///
@@ -73,11 +92,5 @@ pub fn judge_root(alloc: Global, reached: &Reached, table: &Table) -> Result<Sig
 {
     let found = standing(reached, table, table.root).ok_or(StaticError::Root)?;
     let root = Interface::new(alloc, found.node, found.statics)?;
-    if !root.is_plain || root.scalar_inputs() > Signature::MOST {
-        return Err(StaticError::Root);
-    }
-    if !has_property(alloc, reached, table, &root)? {
-        return Err(StaticError::Root);
-    }
-    Ok(root.signature(alloc)?)
+    judge_interface(alloc, reached, table, &root)
 }

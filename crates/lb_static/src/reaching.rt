@@ -49,19 +49,21 @@ fn visit_callees(calls: &[CallSite], visits: &mut Visits) -> Result<(), AllocErr
     Ok(())
 }
 
-// Resolves the names of each node that came up, and visits what it calls.
+// Resolves the names of each node that came up, and visits what it calls. No node is resolved yet.
 fn resolve_visited<'s>(
     alloc: Global,
     globals: &Globals,
     source: &'s Source,
     visits: &mut Visits,
-) -> Result<Vec<ResolvedNode<'s>>, StaticError>
+    nodes: &mut Vec<ResolvedNode<'s>>,
+) -> Result<(), StaticError>
     requires names { globals.now.names ≡ names_in_source (view_source source.now) }
     requires constants { globals.now.constants ≡ length source.now.constants.items }
     requires count { visits.old.count ≡ length source.now.nodes.items }
-    ensures resolved { IfOk result (λ nodes.
-        AreResolved (view_source source.now) visits.old.order visits.new.order nodes.items) }
-    ensures all { IfOk result (λ nodes. length nodes.items ≡ length visits.new.order) }
+    requires none { nodes.old.items ≡ [] }
+    ensures resolved { OnOk result
+        (AreResolved (view_source source.now) visits.old.order visits.new.order nodes.new.items) }
+    ensures all { OnOk result (length nodes.new.items ≡ length visits.new.order) }
     ensures count { OnOk result (visits.new.count ≡ visits.old.count) }
     ensures few { OnOk result (length visits.new.order ≤ visits.new.count) }
     ensures err { IfErr result (λ e. (start : TreeNode → Bool)
@@ -70,13 +72,12 @@ fn resolve_visited<'s>(
         (within (view_source source.now).nodes start called
         (length (view_source source.now).nodes)))) }
 {
-    let mut nodes = Vec::new(alloc);
     while let Some(place) = visits.place(nodes.len()) {
         let node = resolve_node(alloc, globals, source, &source.nodes[place])?;
         visit_callees(&node.calls, visits)?;
         nodes.push(node)?;
     }
-    Ok(nodes)
+    Ok(())
 }
 
 // Visits the node of a name; answers its turn.
@@ -134,6 +135,40 @@ fn node_ids(alloc: Global, turns: &[Option<u32>]) -> Result<Vec<Option<NodeId>>,
     turns.iter().map(|turn| turn.map(NodeId)).collect(alloc)
 }
 
+// The nodes that are reached from the node under test and from the observer, if there is one.
+// Nothing came up yet.
+fn reach_all<'s>(
+    alloc: Global,
+    globals: &Globals,
+    source: &'s Source,
+    node: &str,
+    observer: Option<&str>,
+    visits: &mut Visits,
+) -> Result<Reached<'s>, StaticError>
+    requires names { globals.now.names ≡ names_in_source (view_source source.now) }
+    requires constants { globals.now.constants ≡ length source.now.constants.items }
+    requires once { are_distinct (names_in_source (view_source source.now)) ≡ true }
+    requires none { visits.old.order ≡ [] }
+    requires count { visits.old.count ≡ length source.now.nodes.items }
+    ensures named { OnOk result (are_named (program_of source.now node.now
+        (option_map (λ o. o.now) observer.entry)) ≡ true) }
+    ensures reached { IfOk result (IsReached (program_of source.now node.now
+        (option_map (λ o. o.now) observer.entry))) }
+    ensures err { IfErr result (λ e. IsNameFault e (are_named (program_of source.now node.now
+        (option_map (λ o. o.now) observer.entry)))) }
+{
+    let (root, observer) = visit_starts(alloc, source, node, observer, visits)?;
+    let mut nodes = Vec::new(alloc);
+    resolve_visited(alloc, globals, source, visits, &mut nodes)?;
+    let ids = node_ids(alloc, visits.turns())?;
+    Ok(Reached {
+        nodes,
+        ids,
+        root,
+        observer,
+    })
+}
+
 /// The nodes that are reached from the node under test and from the observer, if there is one,
 /// with their names resolved. An unknown name of a start or of a reached node is refused.
 pub fn reach<'s>(
@@ -154,13 +189,5 @@ pub fn reach<'s>(
         (option_map (λ o. o.now) observer.entry)))) }
 {
     let mut visits = Visits::new(alloc, source.nodes.len())?;
-    let (root, observer) = visit_starts(alloc, source, node, observer, &mut visits)?;
-    let nodes = resolve_visited(alloc, globals, source, &mut visits)?;
-    let ids = node_ids(alloc, &visits.into_turns())?;
-    Ok(Reached {
-        nodes,
-        ids,
-        root,
-        observer,
-    })
+    reach_all(alloc, globals, source, node, observer, &mut visits)
 }

@@ -70,11 +70,11 @@ impl Visits {
     }
 
     /// For each place the turn at which it came up.
-    pub fn into_turns(self) -> Vec<Option<u32>>
-        ensures turns { HasTurns self.order result.items }
-        ensures count { length result.items ≡ self.count }
-        ensures few { self.count < 2 ^ 32 }
+    pub fn turns(&self) -> &[Option<u32>]
+        ensures turns { HasTurns self.now.order result.now }
+        ensures count { length result.now ≡ self.now.count }
+        ensures few { self.now.count < 2 ^ 32 }
     {
-        self.turns
+        &self.turns
     }
 }

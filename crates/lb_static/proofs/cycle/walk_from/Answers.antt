@@ -17,7 +17,7 @@ new-requires c =
 pub loop-frame-init : goal.loop-frame-init
 loop-frame-init c =
     begins _ c.args.progress.now c.args.start c.new.result c.push.new.self.items c.requires.between c.requires.unseen c.new.ensures.node c.new.ensures.left
-    (c.in_ok-push.ensures.items ∙ ap (λ l. l ++ c.new.result ∷ []) c.new-path.ensures.items)
+    (c.in_ok-push.ensures.items ∙ ap (λ l. l ++ c.new.result ∷ []) c.requires.none)
 
 pub bounds-progress-frame : goal.bounds-progress-frame
 bounds-progress-frame c =
@@ -80,8 +80,8 @@ loop-frame-preserved-in-Continue-branch-3 c =
     c.new-in-Unseen.ensures.node c.in-Some-split_first.ensures.cases.0 within.0 c.new-in-Unseen.ensures.left
     (read_at c.loop-frame.progress callee Unseen Unseen within.1 c.in-Unseen.is)
 
-pub returns-in-Open : goal.returns-in-Open
-returns-in-Open c =
+pub returns-in-Open-clause-answer : goal.returns-in-Open-clause-answer
+returns-in-Open-clause-answer c =
     let callee = c.in-Some-split_first.field-0-0.now in
     let within =
     calls_node _ c.args.progress.now c.loop-frame.progress c.args.start callee c.in-Some-split_first.left.now c.loop-frame.path.items
@@ -91,6 +91,9 @@ returns-in-Open c =
           c.pop.new.self.items c.in-Some.frame c.loop-frame.invariant c.in-Some.ensures.items c.in-Some-split_first.ensures.cases.0
           (read_at c.loop-frame.progress callee Open Unseen within.1 c.in-Open.is),
     )
+
+pub returns-in-Open-clause-none : goal.returns-in-Open-clause-none
+returns-in-Open-clause-none c = λ none. absurd cc
 
 pub loop-frame-smaller : goal.loop-frame-smaller
 loop-frame-smaller c =
@@ -109,7 +112,7 @@ loop-frame-preserved c =
     c.in_ok-push-in-Some-split_first.ensures.items refl c.in-Some-split_first.ensures.cases.0
     (read_at c.loop-frame.progress callee Done Unseen within.1 c.in-Done.is)
 
-pub returns : goal.returns
-returns c =
+pub returns-clause-answer : goal.returns-clause-answer
+returns-clause-answer c =
     ends _ c.args.progress.now c.loop-frame.progress c.args.start c.loop-frame.path.items c.loop-frame.invariant
     (nil_from_length c.loop-frame.path.items (search rules))

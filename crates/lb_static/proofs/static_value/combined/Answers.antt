@@ -1,5 +1,42 @@
 use Rattle.std.proofs.Common.{rules}
+use Rattle.std.proofs.lemmas.Int.{rem_is}
 use Rattle.lb_static.proofs.static_value.combined.Goals as goal
+
+pub overflow_add-a : goal.overflow_add-a
+overflow_add-a c = search rules
+
+pub overflow_sub-a : goal.overflow_sub-a
+overflow_sub-a c = search rules
+
+pub returns-in_err-checked_mul-in-Times : goal.returns-in_err-checked_mul-in-Times
+returns-in_err-checked_mul-in-Times c = search rules
+
+pub nonzero_div-result : goal.nonzero_div-result
+nonzero_div-result c = search rules
+
+pub invariant_of-result : goal.invariant_of-result
+invariant_of-result c = search rules
+
+pub nonzero_rem-result : goal.nonzero_rem-result
+nonzero_rem-result c = search rules
+
+pub invariant_of-result-in-Modulo : goal.invariant_of-result-in-Modulo
+invariant_of-result-in-Modulo c = search (rules, rem_is)
+
+pub returns-in-Plus : goal.returns-in-Plus
+returns-in-Plus c = search rules
+
+pub returns-in-Minus : goal.returns-in-Minus
+returns-in-Minus c = search rules
+
+pub returns-in_ok-checked_mul-in-Times : goal.returns-in_ok-checked_mul-in-Times
+returns-in_ok-checked_mul-in-Times c = search rules
+
+pub returns-in-Divide : goal.returns-in-Divide
+returns-in-Divide c = search rules
+
+pub returns-in-Modulo : goal.returns-in-Modulo
+returns-in-Modulo c = search (rules, rem_is)
 
 pub returns-in_default : goal.returns-in_default
 returns-in_default c = search rules

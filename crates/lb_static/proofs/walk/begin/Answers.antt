@@ -1,5 +1,5 @@
 -- An instance is judged by its own values, or by those of the specialization that is known.
-use Rattle.std.proofs.Common.{◌∙◌, ◌≤◌, arith, sym, subst, length}
+use Rattle.std.proofs.Common.{◌∙◌, ◌≤◌, arith, rules, sym, subst, length}
 use Rattle.std.specs.Prelude.{IfSome}
 use Rattle.std.proofs.lemmas.Result.{err_from_is_err_and}
 use Rattle.lb_static.specs.Instances.{Program}
@@ -26,6 +26,9 @@ found c P judged =
           (known_with P r specializations node values w.in-Some.id w.get-specialization.result judged known w.get-specialization.ensures)
       | in-None w ↦ subst (λ o. IsKnownWith P r o node values) (sym w.specialization-is) tt
     ]
+
+pub returns-then-len-ge-MOST_INSTANCES-clause-judged : goal.returns-then-len-ge-MOST_INSTANCES-clause-judged
+returns-then-len-ge-MOST_INSTANCES-clause-judged c = search rules
 
 -- where memory is refused, no instance is judged
 pub returns-in_err-known-clause-judged : goal.returns-in_err-known-clause-judged

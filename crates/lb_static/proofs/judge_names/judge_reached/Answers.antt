@@ -11,7 +11,7 @@ use Rattle.lb_static.specs.NameFaults.{IsNameFault, named_in}
 use Rattle.lb_static.specs.Names.{named_constants}
 use Rattle.lb_static.specs.ResolvedNodes.{IsResolved, node_of}
 use Rattle.lb_static.proofs.KeptNames.{fault_constants, names_kept, nodes_named}
-use Rattle.lb_static.proofs.judge_names.judge_names.Goals as goal
+use Rattle.lb_static.proofs.judge_names.judge_reached.Goals as goal
 
 pub judge_constants-requires-clause-resolved : goal.judge_constants-requires-clause-resolved
 judge_constants-requires-clause-resolved c =
@@ -39,4 +39,4 @@ returns-clause-names c =
     let s = view_source c.args.source.now in
     let P = program_of c.args.source.now c.args.node.now (option_map (λ o. o.now) c.args.observer) in
     let kept = subst (λ l. keeps_constants s (flat_map (named_constants (program_in s)) (map node_of l)) ≡ true) c.deref.ensures.value c.in_ok-judge_constants.ensures.ok in
-    names_kept P c.in_ok-reached.reached c.in_ok-reached.ensures.reached c.in_ok-globals.ensures.once c.in_ok-reached.ensures.named kept
+    names_kept P c.in_ok-reached.reached c.in_ok-reached.ensures.reached c.requires.once c.in_ok-reached.ensures.named kept

@@ -5,7 +5,28 @@ use Rattle.std.proofs.lemmas.List.Elements.{All-pop, All-push, All-same}
 use Rattle.lb_static.specs.Tasks.{place_of}
 use Rattle.lb_static.specs.declared.constants.Task.TheVariants.{Settle}
 use Rattle.lb_static.proofs.ConstantSteps.{fewer, names_length}
-use Rattle.lb_static.proofs.constants.walk.Goals as goal
+use Rattle.lb_static.proofs.constants.visit_each.Goals as goal
+
+pub bounds-seen-place : goal.bounds-seen-place
+bounds-seen-place c =
+    let n = length c.args.constants.now in
+    let taken = All-pop (λ t. place_of t < n) c.loop-task.tasks.items c.pop.new.self.items (Some c.in-Some.task) c.in-Some.ensures.items c.loop-task.invariant.within in
+    let here : c.in-Visit.place < n = subst (λ t. place_of t < n) c.in-Visit.is taken.1 in
+    omega (arith, here, c.loop-task.invariant.as_many)
+
+pub bounds-seen-place-then-not-seen-place : goal.bounds-seen-place-then-not-seen-place
+bounds-seen-place-then-not-seen-place c =
+    let n = length c.args.constants.now in
+    let taken = All-pop (λ t. place_of t < n) c.loop-task.tasks.items c.pop.new.self.items (Some c.in-Some.task) c.in-Some.ensures.items c.loop-task.invariant.within in
+    let here : c.in-Visit.place < n = subst (λ t. place_of t < n) c.in-Visit.is taken.1 in
+    omega (arith, here, c.loop-task.invariant.as_many)
+
+pub bounds-constants-place : goal.bounds-constants-place
+bounds-constants-place c =
+    let n = length c.args.constants.now in
+    let taken = All-pop (λ t. place_of t < n) c.loop-task.tasks.items c.pop.new.self.items (Some c.in-Some.task) c.in-Some.ensures.items c.loop-task.invariant.within in
+    let here : c.in-Visit.place < n = subst (λ t. place_of t < n) c.in-Visit.is taken.1 in
+    omega (arith, here, c.loop-task.invariant.as_many)
 
 pub settle-requires-clause-within : goal.settle-requires-clause-within
 settle-requires-clause-within c =
@@ -19,24 +40,23 @@ visit_names-requires c =
     let taken = All-pop (λ t. place_of t < n) c.loop-task.tasks.items c.pop.new.self.items (Some c.in-Some.task) c.in-Some.ensures.items c.loop-task.invariant.within in
     let here = subst (λ t. place_of t < n) c.in-Visit.is taken.1 in
     let more = All-push (λ t. place_of t < n) c.pop.new.self.items (Settle c.in-Visit.place) taken.0 here in
-    let all = All-same (λ t. place_of t < n) c.push-then-not-index.new.self.items (c.pop.new.self.items ++ Settle c.in-Visit.place ∷ []) c.in_ok-push-in-Visit.ensures.items more in
-    record { within = subst (λ m. All (λ t. place_of t < m) c.push-then-not-index.new.self.items) (sym (names_length c.args.names.now c.args.constants.now c.requires.same_names)) all }
+    let all = All-same (λ t. place_of t < n) c.push-then-not-seen-place.new.self.items (c.pop.new.self.items ++ Settle c.in-Visit.place ∷ []) c.in_ok-push-in-Visit.ensures.items more in
+    record { within = subst (λ m. All (λ t. place_of t < m) c.push-then-not-seen-place.new.self.items) (sym (names_length c.args.names.now c.args.constants.now c.requires.same_names)) all }
 
-pub loop-task-smaller-in-Continue-branch-4 : goal.loop-task-smaller-in-Continue-branch-4
-loop-task-smaller-in-Continue-branch-4 c =
+pub loop-task-smaller-in-Continue-branch-3 : goal.loop-task-smaller-in-Continue-branch-3
+loop-task-smaller-in-Continue-branch-3 c =
     let n = length c.args.constants.now in
     let taken = All-pop (λ t. place_of t < n) c.loop-task.tasks.items c.pop.new.self.items (Some c.in-Some.task) c.in-Some.ensures.items c.loop-task.invariant.within in
     let here = subst (λ t. place_of t < n) c.in-Visit.is taken.1 in
-    let unseen = sym c.index.ensures ∙ c.if-not-index.true in
     let left = ap length c.in-Some.ensures.items ∙ length-append c.pop.new.self.items (c.in-Some.task ∷ []) in
     let pushed = ap length c.in_ok-push-in-Visit.ensures.items ∙ length-append c.pop.new.self.items (Settle c.in-Visit.place ∷ []) in
-    fewer c.loop-task.seen.items c.args.constants.now c.in-Visit.place c.index-constants-place.result c.index.result.now
+    fewer c.loop-task.seen c.args.constants.now c.in-Visit.place c.index-constants-place.result _
     (length c.pop.new.self.items) (length c.loop-task.tasks.items) (length c.visit_names.new.tasks.items)
-    c.loop-task.invariant.as_many here unseen left
+    c.loop-task.invariant.as_many here c.if-not-seen-place.true left
     (omega (arith, pushed, c.in_ok-visit_names-in-Visit.ensures.few))
 
-pub loop-task-preserved-in-Continue-branch-4 : goal.loop-task-preserved-in-Continue-branch-4
-loop-task-preserved-in-Continue-branch-4 c =
+pub loop-task-preserved-in-Continue-branch-3 : goal.loop-task-preserved-in-Continue-branch-3
+loop-task-preserved-in-Continue-branch-3 c =
     let same = names_length c.args.names.now c.args.constants.now c.requires.same_names in
     record {
       sound = c.loop-task.invariant.sound;
@@ -44,8 +64,8 @@ loop-task-preserved-in-Continue-branch-4 c =
       within = subst (λ m. All (λ t. place_of t < m) c.visit_names.new.tasks.items) same c.in_ok-visit_names-in-Visit.ensures.within;
     }
 
-pub loop-task-preserved-else-not-index : goal.loop-task-preserved-else-not-index
-loop-task-preserved-else-not-index c =
+pub loop-task-preserved-else-not-seen-place : goal.loop-task-preserved-else-not-seen-place
+loop-task-preserved-else-not-seen-place c =
     let n = length c.args.constants.now in
     let taken = All-pop (λ t. place_of t < n) c.loop-task.tasks.items c.pop.new.self.items (Some c.in-Some.task) c.in-Some.ensures.items c.loop-task.invariant.within in
     record { sound = c.loop-task.invariant.sound; as_many = c.loop-task.invariant.as_many; within = taken.0 }
@@ -56,8 +76,8 @@ loop-task-preserved c =
     let taken = All-pop (λ t. place_of t < n) c.loop-task.tasks.items c.pop.new.self.items (Some c.in-Some.task) c.in-Some.ensures.items c.loop-task.invariant.within in
     record { sound = c.settle.ensures.sound; as_many = c.loop-task.invariant.as_many; within = taken.0 }
 
-pub loop-task-smaller-else-not-index : goal.loop-task-smaller-else-not-index
-loop-task-smaller-else-not-index c =
+pub loop-task-smaller-else-not-seen-place : goal.loop-task-smaller-else-not-seen-place
+loop-task-smaller-else-not-seen-place c =
     let left = ap length c.in-Some.ensures.items ∙ length-append c.pop.new.self.items (c.in-Some.task ∷ []) in
     omega (arith, left)
 
