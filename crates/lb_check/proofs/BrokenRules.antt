@@ -1,6 +1,7 @@
 -- The node that is answered is one that breaks the rule.
 use Rattle.std.proofs.Common.{◌≡◌, ℕ, zero, suc, ◌<◌, Bool, true, false, cond, List, [], ◌∷◌, map, Option, Some, None, refl, ap, sym, ◌∙◌, subst, arith}
-use Rattle.std.specs.Prelude.{IfOk, IfSome, Result, Ok, Err, find, not, option_map, slice_get}
+use Rattle.std.specs.Prelude.{◌&&◌, IfOk, IfSome, Result, Ok, Err, find, is_some, not, option_map, slice_get}
+use Rattle.std.specs.List.{list_all}
 use Rattle.std.proofs.lemmas.Option.{slice_get-map}
 use Rattle.lb_syntax.specs.Lists.{holds, listed}
 use Rattle.lb_syntax.specs.Tree.{Name, Node}
@@ -48,6 +49,29 @@ found_at f (y ∷ xs) x e = by (f y) (found_at f xs x) refl e
 mapped : {A B : Type 0} (g : A → B) (o : Option A) (y : B) → option_map g o ≡ Some y → (x : A) × (o ≡ Some x) × (g x ≡ y)
 mapped g None y e = absurd cc
 mapped g (Some x) y e = let same : g x ≡ y = cc in (x, refl, same)
+
+pub find_mapped : {A B : Type 0} (g : A → B) (f : B → Bool) (xs : List A) → find f (map g xs) ≡ option_map g (find (λ x. f (g x)) xs)
+find_mapped g f [] = refl
+find_mapped g f (x ∷ xs) = by (f (g x)) (find_mapped g f xs)
+  where
+    by : (b : Bool) → find f (map g xs) ≡ option_map g (find (λ x. f (g x)) xs)
+        → cond b (Some (g x)) (find f (map g xs)) ≡ option_map g (cond b (Some x) (find (λ x. f (g x)) xs))
+    by true later = refl
+    by false later = later
+
+-- something is found where not all items pass the test
+all_or_some : {A B : Type 0} (g : A → B) (f : A → Bool) (xs : List A) → is_some (option_map g (find (λ x. not (f x)) xs)) ≡ not (list_all f xs)
+all_or_some g f [] = refl
+all_or_some g f (x ∷ xs) = by (f x) (all_or_some g f xs)
+  where
+    by : (b : Bool) → is_some (option_map g (find (λ x. not (f x)) xs)) ≡ not (list_all f xs)
+        → is_some (option_map g (cond (not b) (Some x) (find (λ x. not (f x)) xs))) ≡ not (b && list_all f xs)
+    by true later = later
+    by false later = refl
+
+pub not_all : {A B : Type 0} (g : A → B) (f : A → Bool) (xs : List A) (found : Option B)
+    → found ≡ option_map g (find (λ x. not (f x)) xs) → is_some found ≡ not (list_all f xs)
+not_all g f xs found e = ap is_some e ∙ all_or_some g f xs
 
 -- ## A node that is answered
 

@@ -11,7 +11,7 @@ use denote.Enum.Bare.{sameb}
 use Rattle.lb_syntax.specs.contracts.tree.Kind.{the_type}
 use Rattle.lb_syntax.specs.declared.tree.Kind.{Kind}
 use Rattle.lb_syntax.specs.declared.tree.Kind.TheVariants.{Int as Int_kind, Bool as Bool_kind}
-use Rattle.std.proofs.lemmas.List.{drop_more, length-reverse, reverse-append, reverse-reverse}
+use Rattle.std.proofs.lemmas.List.{drop_all, drop_more, length-reverse, reverse-append, reverse-reverse}
 use Rattle.lb_syntax.specs.Lists.{all_some}
 use Rattle.lb_static.specs.Shapes.{Shape, is_kind, same_sizes, is_shape, are_shapes, truth}
 use Rattle.lb_static.specs.StaticValues.{natural}
@@ -136,6 +136,24 @@ gathers_more whole f all done i d x g lt is =
     by None = refl
     by (Some ts) = ap Some (sym (map_snoc done x ts))
 
+nothing_more : {A : Type 0} (xs : List A) → xs ++ [] ≡ xs
+nothing_more [] = refl
+nothing_more (x ∷ xs) = ap (λ l. x ∷ l) (nothing_more xs)
+
+-- an item gives nothing
+pub gathers_none : {A : Type 0} → (whole : Option (List Shape)) (f : A → Option Shape) (all : List A) (done : List stored.Shape) (i : ℕ) (d : A)
+    → Gathered whole f done (drop i all) → i < length all → d ≡ get_or all i d → f d ≡ None → None ≡ whole
+gathers_none whole f all done i d g lt is none =
+    sym (g ∙ ap (λ l. option_map (λ ts. map shape_in done ++ ts) (all_some (map f l))) (drop_more all i d lt)
+    ∙ ap (λ o. option_map (λ ts. map shape_in done ++ ts) (all_some (o ∷ map f (drop (i + 1) all)))) (sym (ap f is) ∙ none))
+
+-- none is left
+pub gathers_end : {A : Type 0} → (whole : Option (List Shape)) (f : A → Option Shape) (all : List A) (done : List stored.Shape) (i : ℕ)
+    → Gathered whole f done (drop i all) → length all ≤ i → Some (map shape_in done) ≡ whole
+gathers_end whole f all done i g le =
+    sym (g ∙ ap (λ l. option_map (λ ts. map shape_in done ++ ts) (all_some (map f l))) (drop_all i all le)
+    ∙ ap Some (nothing_more (map shape_in done)))
+
 -- ## Lengths, gathered one by one
 
 append_one : (done : List ℕ) (n : ℕ) (ns : List ℕ) → (done ++ n ∷ []) ++ ns ≡ done ++ (n ∷ ns)
@@ -153,6 +171,17 @@ lengths_more whole all done i d n g lt is =
     by : (o : Option (List ℕ)) → option_map (λ ns. done ++ ns) (option_map (λ ns. n ∷ ns) o) ≡ option_map (λ ns. (done ++ n ∷ []) ++ ns) o
     by None = refl
     by (Some ns) = ap Some (sym (append_one done n ns))
+
+pub lengths_none : (whole : Option (List ℕ)) (all : List ℤ) (done : List ℕ) (i : ℕ) (d : ℤ)
+    → whole ≡ option_map (λ ns. done ++ ns) (wholes (drop i all)) → i < length all → natural (get_or all i d) ≡ None → None ≡ whole
+lengths_none whole all done i d g lt none =
+    sym (g ∙ ap (λ l. option_map (λ ns. done ++ ns) (wholes l)) (drop_more all i d lt)
+    ∙ ap (λ o. option_map (λ ns. done ++ ns) (all_some (o ∷ map natural (drop (i + 1) all)))) none)
+
+pub lengths_end : (whole : Option (List ℕ)) (all : List ℤ) (done : List ℕ) (i : ℕ)
+    → whole ≡ option_map (λ ns. done ++ ns) (wholes (drop i all)) → length all ≤ i → Some done ≡ whole
+lengths_end whole all done i g le =
+    sym (g ∙ ap (λ l. option_map (λ ns. done ++ ns) (wholes l)) (drop_all i all le) ∙ ap Some (nothing_more done))
 
 -- ## Lengths, the outermost last
 

@@ -18,10 +18,6 @@ and_moved : (a b c : Bool) → ((a && b) && c) ≡ (a && (b && c))
 and_moved true b c = refl
 and_moved false b c = refl
 
-and_known : (a b c : Bool) → (a ≡ true → b ≡ true) → (a && c) ≡ (a && (b && c))
-and_known true b c e = ap (λ d. d && c) (sym (e refl))
-and_known false b c e = refl
-
 pub is_true : (b : Bool) → not b ≡ false → b ≡ true
 is_true true e = refl
 is_true false e = absurd cc
@@ -39,13 +35,6 @@ same_node k x e = ap id_of (sym e)
   where
     id_of : ℕ → NodeId
     id_of n = record { 0 = n }
-
-abbrev nodes_keep : (NodeId → Bool) → List Specialization → Bool
-nodes_keep f = list_all (λ s. f s.node)
-
--- the nodes that are there, and those of the specializations from a place on, are all that are used
-abbrev pub AreUsed : List NodeId → ℕ → List Specialization → Type 0
-AreUsed ids i ss = (f : NodeId → Bool) → (list_all f ids && nodes_keep f (drop i ss)) ≡ nodes_keep f ss
 
 abbrev nodes_in : List Specialization → List NodeId
 nodes_in = map (λ s. s.node)
@@ -75,19 +64,11 @@ not_found f (y ∷ ids) x rest h =
     by false later e = later e
 
 module _ (ids : List NodeId) (old new : List Bool) (ss : List Specialization) (i : ℕ) (s : Specialization) (lt : i < length ss) (is : s ≡ get_or ss i s)
-    (used : AreUsed ids i ss) (there : AreThere ids old) (flagged : (k : ℕ) → get_or new k false ≡ true → (k ≡ s.node.0) ⊎ (get_or old k false ≡ true)) where
-  next : (f : NodeId → Bool) → nodes_keep f (drop i ss) ≡ (f s.node && nodes_keep f (drop (i + 1) ss))
-  next f = ap (nodes_keep f) (drop_more ss i s lt) ∙ ap (λ (x : Specialization). f x.node && nodes_keep f (drop (i + 1) ss)) (sym is)
-
+    (there : AreThere ids old) (flagged : (k : ℕ) → get_or new k false ≡ true → (k ≡ s.node.0) ⊎ (get_or old k false ≡ true)) where
   next_node : nodes_in (drop i ss) ≡ (s.node ∷ nodes_in (drop (i + 1) ss))
   next_node = ap nodes_in (drop_more ss i s lt) ∙ ap (λ (x : Specialization). x.node ∷ nodes_in (drop (i + 1) ss)) (sym is)
 
   -- a node that is added
-  pub added_used : AreUsed (ids ++ s.node ∷ []) (i + 1) ss
-  added_used f =
-      let rest = nodes_keep f (drop (i + 1) ss) in
-      ap (λ b. b && rest) (with_last f ids s.node) ∙ and_moved (list_all f ids) (f s.node) rest ∙ ap (λ b. list_all f ids && b) (sym (next f)) ∙ used f
-
   pub added_first : AreFirst ids i ss → AreFirst (ids ++ s.node ∷ []) (i + 1) ss
   added_first first f = ap (find f) (append_assoc ids (s.node ∷ []) (nodes_in (drop (i + 1) ss)) ∙ ap (λ ks. ids ++ ks) (sym next_node)) ∙ first f
 
@@ -99,11 +80,6 @@ module _ (ids : List NodeId) (old new : List Bool) (ss : List Specialization) (i
 
   -- a node that is there
   module _ (known : not (get_or old s.node.0 false) ≡ false) where
-    pub known_used : AreUsed ids (i + 1) ss
-    known_used f =
-        and_known (list_all f ids) (f s.node) (nodes_keep f (drop (i + 1) ss)) (there s.node (is_true (get_or old s.node.0 false) known) f)
-        ∙ ap (λ b. list_all f ids && b) (sym (next f)) ∙ used f
-
     pub known_first : AreFirst ids i ss → AreFirst ids (i + 1) ss
     known_first first f =
         not_found f ids s.node (nodes_in (drop (i + 1) ss)) (there s.node (is_true (get_or old s.node.0 false) known) (λ k. not (f k)))

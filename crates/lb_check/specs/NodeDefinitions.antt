@@ -14,7 +14,6 @@ use Rattle.lb_static.specs.declared.resolved.VariableId.{VariableId}
 use Rattle.lb_static.specs.declared.resolved.Step.{Step}
 use Rattle.lb_static.specs.declared.resolved.Step.TheVariants as step
 use Rattle.lb_static.specs.declared.resolved.Term.{Term, Literal, Truth, Variable, Value, Group', Unary', Binary', If', Arrow', Fby', Pre', Current', When', Copies', Index', Slice', Join', Array', AtMostOne', Nor', Call', IterateNode', IterateSymbol', Row_of-Term, end_of-Term, more_of-Term}
-use Rattle.lb_static.specs.declared.table.Specialization.{Specialization}
 use Rattle.lb_check.specs.DefinitionRules.{is_defined}
 
 -- ## Left variables
@@ -106,6 +105,3 @@ keeps_function_rules r n =
 -- a node that is reached keeps the rules of definitions
 abbrev pub is_defined_at : Program → Reached → NodeId → Bool
 is_defined_at P r id = holds (is_defined P) (tree_at r id)
-
-abbrev pub are_defined_at : Program → Reached → List Specialization → Bool
-are_defined_at P r ss = list_all (λ s. is_defined_at P r s.node) ss

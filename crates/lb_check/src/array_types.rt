@@ -1,11 +1,13 @@
 //! The types of arrays, and of calls over arrays.
 
-ghost use Rattle.std.specs.Prelude.{◌≡◌, ◌++◌, map, option_map, IfOk};
+ghost use Rattle.std.specs.Prelude.{◌≡◌, ◌∷◌, [], ◌++◌, ◌&&◌, map, option_map, IfOk};
 ghost use Rattle.lb_syntax.specs.Lists as lists;
 ghost use Rattle.lb_syntax.specs.Lists.{all_some};
+ghost use Rattle.lb_static.specs.Shapes.{is_shape, are_shapes};
 ghost use Rattle.lb_check.specs.StoredShapes.{shape_in, shapes_in};
 ghost use Rattle.lb_check.specs.Types as types;
 
+use crate::operand_types::one;
 use crate::shape::{Shape, Signature, all_are, are_same};
 use lb_syntax::tree::ArrayIterator;
 use std::alloc::{AllocError, Global};
@@ -160,6 +162,46 @@ fn map_shapes(
     arrays_onto(Vec::new(alloc), length, outputs)
 }
 
+/// Whether `red` takes these operands: its accumulator has the type of the output and of the first
+/// operand, and the others have the types that it wants.
+fn fits_red(
+    accumulator: &Shape,
+    output: &Shape,
+    start: &Shape,
+    wanted: &[Shape],
+    given: &[Shape],
+) -> bool
+    ensures { result ≡ (is_shape (shape_in accumulator.now) (shape_in output.now)
+        && (is_shape (shape_in accumulator.now) (shape_in start.now)
+        && are_shapes (map shape_in wanted.now) (map shape_in given.now))) }
+{
+    accumulator.is(output) && (accumulator.is(start) && are_same(wanted, given))
+}
+
+/// The types of what `red` gives, over a node with an accumulator, these other inputs and one
+/// output.
+fn red_results(
+    alloc: Global,
+    length: u64,
+    accumulator: &Shape,
+    inputs: &[Shape],
+    output: &Shape,
+    start: &Shape,
+    given: &[Shape],
+) -> Result<Option<Vec<Shape>>, AllocError>
+    ensures { IfOk result (λ o. option_map shapes_in o
+        ≡ types.red_shapes length (shape_in accumulator.now ∷ map shape_in inputs.now)
+        (shape_in output.now ∷ []) (shape_in start.now ∷ map shape_in given.now)) }
+{
+    let Some(wanted) = arrays_onto(Vec::new(alloc), length, inputs)? else {
+        return Ok(None);
+    };
+    if !fits_red(accumulator, output, start, &wanted, given) {
+        return Ok(None);
+    }
+    one(alloc, output.copy()?)
+}
+
 /// The types of what `red` gives: the first input is the accumulator, and the one output has its
 /// type.
 fn red_shapes(
@@ -173,19 +215,35 @@ fn red_shapes(
         ≡ types.red_shapes length (map shape_in inputs.now) (map shape_in outputs.now)
         (map shape_in given.now)) }
 {
-    let ([accumulator, inputs @ ..], [output], [start, given @ ..]) = (inputs, outputs, given)
-    else {
-        return Ok(None);
-    };
-    let Some(wanted) = arrays_onto(Vec::new(alloc), length, inputs)? else {
-        return Ok(None);
-    };
-    if !accumulator.is(output) || !accumulator.is(start) || !are_same(&wanted, given) {
+    match (inputs, outputs, given) {
+        ([accumulator, inputs @ ..], [output], [start, given @ ..]) => {
+            red_results(alloc, length, accumulator, inputs, output, start, given)
+        }
+        _ => Ok(None),
+    }
+}
+
+/// The types of what `fill` gives, over a node with an accumulator, this first output and others.
+fn fill_results(
+    alloc: Global,
+    length: u64,
+    accumulator: &Shape,
+    output: &Shape,
+    others: &[Shape],
+    start: &Shape,
+) -> Result<Option<Vec<Shape>>, AllocError>
+    ensures { IfOk result (λ o. option_map shapes_in o
+        ≡ lists.◌>>=◌ (all_some (map (types.array_of length) (map shape_in others.now)))
+        (λ arrays. lists.where_true (is_shape (shape_in accumulator.now) (shape_in output.now)
+        && is_shape (shape_in accumulator.now) (shape_in start.now))
+        (shape_in output.now ∷ arrays))) }
+{
+    if !accumulator.is(output) || !accumulator.is(start) {
         return Ok(None);
     }
     let mut results = Vec::new(alloc);
     results.push(output.copy()?)?;
-    Ok(Some(results))
+    arrays_onto(results, length, others)
 }
 
 /// The types of what `fill` gives: the one input is the accumulator, the first output has its
@@ -207,12 +265,7 @@ fn fill_shapes(
     if others.is_empty() {
         return Ok(None);
     }
-    if !accumulator.is(output) || !accumulator.is(start) {
-        return Ok(None);
-    }
-    let mut results = Vec::new(alloc);
-    results.push(output.copy()?)?;
-    arrays_onto(results, length, others)
+    fill_results(alloc, length, accumulator, output, others, start)
 }
 
 /// The types of what an iterator gives, over a node with these inputs and outputs.

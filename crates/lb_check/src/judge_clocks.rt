@@ -139,10 +139,7 @@ fn first_unclocked(
     reached: &Reached,
     ids: &[NodeId],
 ) -> Result<Option<NodeId>, AllocError>
-    ensures judged { (P : Program) → keeps_names P ≡ true → IsReached P reached.now
-        → IfOk result (λ found.
-        is_some found ≡ not (list_all (is_clocked_at reached.now) ids.now)) }
-    ensures named { (P : Program) → keeps_names P ≡ true → IsReached P reached.now
+    ensures { (P : Program) → keeps_names P ≡ true → IsReached P reached.now
         → IfOk result (λ found. found ≡ find (λ id. not (is_clocked_at reached.now id)) ids.now) }
 {
     for id in ids {

@@ -71,7 +71,7 @@ fn defines_each(
 }
 
 /// Whether a term holds `->`, `fby`, `pre` or `current`.
-#[tactic(auto, using(crate::proofs::Defining::memory), unfolding(crate::specs::NodeDefinitions::has_memory))]
+#[tactic(auto, unfolding(crate::specs::NodeDefinitions::has_memory))]
 fn has_memory(term: &Term) -> bool
     ensures { result ≡ mirror.has_memory term.now }
 {
@@ -166,10 +166,7 @@ fn first_undefined(
     reached: &Reached,
     ids: &[NodeId],
 ) -> Result<Option<NodeId>, AllocError>
-    ensures judged { (P : Program) → keeps_names P ≡ true → IsReached P reached.now
-        → IfOk result (λ found.
-        is_some found ≡ not (list_all (mirror.is_defined_at P reached.now) ids.now)) }
-    ensures named { (P : Program) → keeps_names P ≡ true → IsReached P reached.now
+    ensures { (P : Program) → keeps_names P ≡ true → IsReached P reached.now
         → IfOk result (λ found.
         found ≡ find (λ id. not (mirror.is_defined_at P reached.now id)) ids.now) }
 {

@@ -1,6 +1,7 @@
 //! The rules of types of a program (E9).
 
-ghost use Rattle.std.specs.Prelude.{◌≡◌, ◌∷◌, [], find, is_some, map, not, option_map, IfOk, IfSome};
+ghost use Rattle.std.specs.Prelude.{◌≡◌, ◌∷◌, [], find, is_some, map, not, option_map};
+ghost use Rattle.std.specs.Prelude.{IfOk, IfSome};
 ghost use Rattle.std.specs.List.{list_all};
 ghost use Rattle.lb_static.specs.Instances.{Program, instances};
 ghost use Rattle.lb_check.specs.BrokenRules.{IsBroken};
@@ -150,10 +151,10 @@ fn is_specialization_typed(
         node,
         specialization,
     };
-    Ok(
-        are_variables_typed(alloc, &scope, &node.variables)?
-            && are_steps_typed(alloc, &scope, &node.body)?,
-    )
+    if !are_variables_typed(alloc, &scope, &node.variables)? {
+        return Ok(false);
+    }
+    are_steps_typed(alloc, &scope, &node.body)
 }
 
 /// The node of the first specialization that breaks the rules of types.
@@ -162,9 +163,7 @@ fn first_untyped(
     reached: &Reached,
     table: &Table,
 ) -> Result<Option<NodeId>, AllocError>
-    ensures judged { IfOk result (λ found.
-        is_some found ≡ not (mirror.are_typed reached.now table.now)) }
-    ensures named { IfOk result (λ found. found ≡ option_map (λ s. s.node)
+    ensures { IfOk result (λ found. found ≡ option_map (λ s. s.node)
         (find (λ s. not (mirror.is_specialization_typed reached.now table.now s))
         table.now.specializations.items)) }
 {

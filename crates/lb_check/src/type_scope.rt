@@ -2,7 +2,8 @@
 
 ghost use Rattle.std.specs.Prelude.{◌≡◌, take, drop, option_map, IfOk};
 ghost use Rattle.lb_static.specs.StaticValues.{natural};
-ghost use Rattle.lb_check.specs.StoredShapes.{shape_in, shapes_in, signature_in, context_in, lengths_in};
+ghost use Rattle.lb_check.specs.StoredShapes.{shape_in, shapes_in, signature_in, context_in};
+ghost use Rattle.lb_check.specs.StoredShapes.{lengths_in};
 ghost use Rattle.lb_check.specs.TermTypes as mirror;
 
 use crate::shape::{Shape, Signature};

@@ -1,7 +1,6 @@
 //! The nodes of specializations, each once.
 
 ghost use Rattle.std.specs.Prelude.{◌≡◌, ◌⊎◌, ℕ, Bool, true, false, not, get_or, find, map, IfOk};
-ghost use Rattle.std.specs.List.{list_all};
 ghost use Rattle.lb_static.specs.declared.reach.NodeId as reach;
 
 use lb_static::reach::NodeId;
@@ -30,9 +29,7 @@ pub fn used_nodes(
     nodes: usize,
     specializations: &[Specialization],
 ) -> Result<Vec<NodeId>, AllocError>
-    ensures all { (f : reach.NodeId → Bool) → IfOk result (λ ids.
-        list_all f ids.items ≡ list_all (λ s. f s.node) specializations.now) }
-    ensures first { (f : reach.NodeId → Bool) → IfOk result (λ ids.
+    ensures { (f : reach.NodeId → Bool) → IfOk result (λ ids.
         find f ids.items ≡ find f (map (λ s. s.node) specializations.now)) }
 {
     let mut seen = vec![in alloc; false; nodes]?;

@@ -4,7 +4,7 @@
 ///
 /// The first instant at which something goes wrong decides; at one instant a fault comes before a
 /// failed assertion, and that before a false property. Instants count from 0.
-#[derive(Clone, Copy, PartialEq, Eq, Debug)]
+#[derive(Clone, Copy)]
 pub enum Verdict {
     /// Nothing went wrong at any instant.
     Passed,

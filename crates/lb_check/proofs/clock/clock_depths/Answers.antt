@@ -2,6 +2,9 @@ use Rattle.std.proofs.Common.{arith}
 use Rattle.lb_check.proofs.ClockDepths.{noted_step}
 use Rattle.lb_check.proofs.clock.clock_depths.Goals as goal
 
+pub returns-in_default : goal.returns-in_default
+returns-in_default c = (c.loop-variable.variable, omega arith, c.depth_of.ensures.circle c.in_default.is)
+
 pub note_depths-requires-clause-small : goal.note_depths-requires-clause-small
 note_depths-requires-clause-small c = (c.depth_of.ensures.found _ c.in-Some.is).1
 

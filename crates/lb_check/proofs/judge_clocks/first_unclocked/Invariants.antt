@@ -1,6 +1,5 @@
 use Rattle.std.proofs.Common.{◌≡◌, true, drop}
 use Rattle.std.specs.Prelude.{find, not}
-use Rattle.std.specs.List.{list_all}
 use Rattle.lb_check.specs.NodeClocks.{is_clocked_at}
 use Rattle.lb_static.specs.Instances.{Program}
 use Rattle.lb_static.specs.Names.{keeps_names}
@@ -10,8 +9,6 @@ use Rattle.lb_check.proofs.judge_clocks.first_unclocked.Given as goal
 
 abbrev pub invariant-loop-id : goal.invariant-loop-id
 invariant-loop-id l =
-    let kept = is_clocked_at l.reached in
-    let broken = λ (id : NodeId). not (kept id) in
+    let broken = λ (id : NodeId). not (is_clocked_at l.reached id) in
     (P : Program) → keeps_names P ≡ true → IsReached P l.reached
-    → (list_all kept l.ids ≡ list_all kept (drop l.id-index l.ids))
-    × (find broken l.ids ≡ find broken (drop l.id-index l.ids))
+    → find broken l.ids ≡ find broken (drop l.id-index l.ids)

@@ -1,6 +1,5 @@
 use Rattle.std.proofs.Common.{◌≡◌, true, drop}
 use Rattle.std.specs.Prelude.{find, not}
-use Rattle.std.specs.List.{list_all}
 use Rattle.lb_check.specs.NodeDefinitions.{is_defined_at}
 use Rattle.lb_static.specs.Instances.{Program}
 use Rattle.lb_static.specs.Names.{keeps_names}
@@ -11,7 +10,5 @@ use Rattle.lb_check.proofs.judge_definitions.first_undefined.Given as goal
 abbrev pub invariant-loop-id : goal.invariant-loop-id
 invariant-loop-id l =
     (P : Program) → keeps_names P ≡ true → IsReached P l.reached →
-    let kept = is_defined_at P l.reached in
-    let broken = λ (id : NodeId). not (kept id) in
-    (list_all kept l.ids ≡ list_all kept (drop l.id-index l.ids))
-    × (find broken l.ids ≡ find broken (drop l.id-index l.ids))
+    let broken = λ (id : NodeId). not (is_defined_at P l.reached id) in
+    find broken l.ids ≡ find broken (drop l.id-index l.ids)

@@ -1,14 +1,16 @@
-use Rattle.std.proofs.Common.{◌≡◌, IfOk, not, subst}
-use Rattle.std.specs.Prelude.{is_some}
-use Rattle.lb_check.proofs.BrokenRules.{if_found, types_named}
+use Rattle.std.proofs.Common.{not, ap, ◌∙◌}
+use Rattle.lb_check.specs.TermTypes.{is_specialization_typed}
+use Rattle.lb_check.proofs.BrokenRules.{if_found, not_all, types_named}
 use Rattle.lb_check.proofs.TypedSpecializations.{instances_typed}
 use Rattle.lb_check.proofs.judge_types.untyped_node.Goals as goal
 
 pub returns-clause-judged : goal.returns-clause-judged
 returns-clause-judged c P j =
-    subst (λ b. IfOk c.first_untyped.result (λ found. is_some found ≡ not b)) (instances_typed P c.args.reached.now c.args.table.now j)
-    c.first_untyped.ensures.judged
+    let r = c.args.reached.now in
+    let t = c.args.table.now in
+    if_found c.first_untyped.result _ _ c.first_untyped.ensures
+    (λ found e. not_all (λ s. s.node) (is_specialization_typed r t) t.specializations.items found e ∙ ap not (instances_typed P r t j))
 
 pub returns-clause-named : goal.returns-clause-named
 returns-clause-named c P j =
-    if_found c.first_untyped.result _ _ c.first_untyped.ensures.named (types_named P c.args.reached.now c.args.table.now j)
+    if_found c.first_untyped.result _ _ c.first_untyped.ensures (types_named P c.args.reached.now c.args.table.now j)

@@ -5,6 +5,7 @@ use Rattle.lb_check.specs.TermClocks.{standing_of}
 use Rattle.lb_check.specs.declared.standing.Standing.TheVariants.{Only}
 use Rattle.lb_check.proofs.ClockParts.{choice_stands, free_stands, pair_stands, single_stands}
 use Rattle.lb_check.proofs.ClockRows.{standing_of_row}
+use Rattle.lb_check.proofs.LoopRows.{operands_more, operands_end}
 use Rattle.lb_check.proofs.term_clock.+standing_of.Goals as goal
 
 pub returns-in-Literal : goal.returns-in-Literal
@@ -51,3 +52,23 @@ loop-e-init t c =
     let es = c.in-Array.terms in
     rw (c.deref-e-items.ensures.value, c.new-operands.ensures.items)
     (standing_of_row ctx c.args.term.now es c.in-Array.is, refl)
+
+pub loop-e-preserved : goal.loop-e-preserved
+loop-e-preserved t c =
+    let ctx = context_in c.args.scope.now in
+    let l = c.loop-e in
+    let all = c.deref-e-items.result.now in
+    rw c.in_ok-push-in-Array.ensures.items (
+      l.invariant.0,
+      operands_more ctx all l.operands.items l.e-index l.invariant.1 c.e-item.result c.in_ok-standing_of-in-Array.field-0 c.variable_of.result
+          c.loop-e-test.true c.e-item.is c.in_ok-standing_of-in-Array.ensures c.variable_of.ensures,
+    )
+
+pub returns-after-loop-e : goal.returns-after-loop-e
+returns-after-loop-e t c =
+    let ctx = context_in c.args.scope.now in
+    let l = c.loop-e in
+    let all = c.deref-e-items.result.now in
+    c.row_standing.ensures ∙ ap (mirror.row_standing ctx c.args.term.now)
+    (c.deref-in-Array.ensures.value ∙ sym (operands_end ctx all l.operands.items l.e-index l.invariant.1 c.loop-e-test.false))
+    ∙ sym l.invariant.0

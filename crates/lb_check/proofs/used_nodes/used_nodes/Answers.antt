@@ -1,6 +1,6 @@
 use Rattle.std.proofs.Common.{◌+◌, rules, sym, ap, ◌∙◌, subst}
 use Rattle.std.proofs.lemmas.List.{with_items_is, places}
-use Rattle.lb_check.proofs.UsedNodes.{AreUsed, AreFirst, AreThere, added_used, added_first, added_there, known_used, known_first, known_there}
+use Rattle.lb_check.proofs.UsedNodes.{AreFirst, AreThere, added_first, added_there, known_first, known_there}
 use Rattle.lb_check.proofs.used_nodes.used_nodes.Goals as goal
 use Rattle.lb_check.proofs.used_nodes.used_nodes.Goals.{then-flag+in_ok-push, else-flag}
 
@@ -15,23 +15,21 @@ loop-specialization-preserved c =
     let inv = c.loop-specialization.invariant in
     let lt = c.loop-specialization-test.true in
     let is = c.specialization-item.is in
-    let there = subst (AreThere ids) (sym c.deref_mut.ensures.value) inv.2 in
+    let there = subst (AreThere ids) (sym c.deref_mut.ensures.value) inv.1 in
     let flagged = c.flag.ensures.flagged in
     let flags = sym (with_items_is c.loop-specialization.seen new (search (rules, places))) in
     elim c.if-flag.branch [
       | then-flag+in_ok-push w ↦ (
           let items = ap (λ v. v.items) w.ids-is ∙ w.in_ok-push.ensures.items in (
-            subst (λ xs. AreUsed xs (i + 1) ss) (sym items) (added_used ids old new ss i s lt is inv.0 there flagged),
-            subst (λ xs. AreFirst xs (i + 1) ss) (sym items) (added_first ids old new ss i s lt is inv.0 there flagged inv.1),
-            subst (λ fs. AreThere c.if-flag.ids.items fs) flags (subst (λ xs. AreThere xs new) (sym items) (added_there ids old new ss i s lt is inv.0 there flagged)),
+            subst (λ xs. AreFirst xs (i + 1) ss) (sym items) (added_first ids old new ss i s lt is there flagged inv.0),
+            subst (λ fs. AreThere c.if-flag.ids.items fs) flags (subst (λ xs. AreThere xs new) (sym items) (added_there ids old new ss i s lt is there flagged)),
           )
           )
       | else-flag w ↦ (
           let items = ap (λ v. v.items) w.ids-is in
           let known = sym c.flag.ensures.fresh ∙ w.if-flag.false in (
-            subst (λ xs. AreUsed xs (i + 1) ss) (sym items) (known_used ids old new ss i s lt is inv.0 there flagged known),
-            subst (λ xs. AreFirst xs (i + 1) ss) (sym items) (known_first ids old new ss i s lt is inv.0 there flagged known inv.1),
-            subst (λ fs. AreThere c.if-flag.ids.items fs) flags (subst (λ xs. AreThere xs new) (sym items) (known_there ids old new ss i s lt is inv.0 there flagged known)),
+            subst (λ xs. AreFirst xs (i + 1) ss) (sym items) (known_first ids old new ss i s lt is there flagged known inv.0),
+            subst (λ fs. AreThere c.if-flag.ids.items fs) flags (subst (λ xs. AreThere xs new) (sym items) (known_there ids old new ss i s lt is there flagged known)),
           )
           )
     ]

@@ -1,0 +1,6 @@
+use Rattle.std.proofs.Common.{arith}
+use Rattle.lb_check.proofs.ShapeLists.{outermost}
+use Rattle.lb_check.proofs.array_types.array_of.Goals as goal
+
+pub returns : goal.returns
+returns c = grind (arith, outermost)
