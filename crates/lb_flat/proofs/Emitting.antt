@@ -126,6 +126,8 @@ first_place n (x ∷ xs) d lt e =
 
 pub ruleset copies = (first_place, within_push, equations_push)
 
+pub ruleset pushes = (within_later, within_push, elements_later, elements_push, equations_push, numbers_push)
+
 pub ruleset given = (given_next, within_push, equations_push)
 
 pub ruleset emits = (size_at_most_one, size_nor, size_next, emit_at_most_one_is, emit_nor_is, emit_next, variable_kind, within_at_most_one, within_nor, within_next, elements_later, elements_push)

@@ -1,6 +1,6 @@
 -- What the state of the code that expands stands for.
 -- This file says what data of the program mean; no definition of the language stands on it.
-use Rattle.std.specs.Prelude.{ℕ, ◌<◌, List, []}
+use Rattle.std.specs.Prelude.{ℕ, ◌+◌, ◌*◌, ◌<◌, ◌≤◌, List, [], All, length}
 use Rattle.lb_flat.specs.declared.equation.ElementId.{ElementId}
 use Rattle.lb_flat.specs.declared.equation.Operation.{Operation}
 use Rattle.lb_flat.specs.declared.equation.Operation.TheVariants.{Input, Constant, Copy, ApplyUnary, ApplyBinary, Choose, FirstThen, Previous, Latest, Sample}
@@ -40,3 +40,21 @@ AreBelow n (FirstThen started a b) = (a.0 < n) × (b.0 < n)
 AreBelow n (Previous v a) = a.0 < n
 AreBelow n (Latest v a) = a.0 < n
 AreBelow n (Sample a) = a.0 < n
+
+-- there is one more number for an element, and the operands of its operation are below it
+pub record CanPush (n : ℕ) (o : Operation) : Type 0 where
+  pub room : n + 1 < 4294967296
+  pub operands : AreBelow n o
+
+-- where the next free element was one and is another, a term of so many expressions took no more
+-- than its room, of which three are left, and its element is not free
+pub record IsTaken (before after size : ℕ) (found : ElementId) : Type 0 where
+  pub grows : before ≤ after
+  pub room : after + 3 ≤ before + 5 * size
+  pub element : found.0 < after
+
+-- the same of a list of terms, of whose room three are left for each
+pub record AreTaken (before after size : ℕ) (found : List ElementId) : Type 0 where
+  pub grows : before ≤ after
+  pub room : after + 3 * length found ≤ before + 5 * size
+  pub elements : All (λ a. a.0 < after) found

@@ -111,7 +111,7 @@ impl Emission {
     ghost use Rattle.lb_flat.specs.TermKinds.{kinds_of};
     ghost use Rattle.lb_flat.specs.Flat.{Always};
     ghost use Rattle.lb_flat.specs.Emit.{before_instances, emit_nor, emit_at_most_one};
-    ghost use Rattle.lb_flat.specs.Emissions.{state_of, found_of, emitted_of, AreBelow};
+    ghost use Rattle.lb_flat.specs.Emissions.{state_of, found_of, emitted_of, CanPush, IsTaken, AreTaken};
     ghost use Rattle.lb_flat.specs.Programs.{numbers_of, program_of, IsInRange};
     ghost use Rattle.lb_flat.specs.Terms.{term_size, list_size, step_size, steps_size};
     ghost use Rattle.lb_flat.specs.Values.{operation_of};
@@ -130,9 +130,9 @@ impl Emission {
     }
 
     /// A new element, which this operation gives.
+    #[tactic(auto, using(crate::proofs::Emitting::pushes))]
     fn push(&mut self, operation: Operation, kind: Kind) -> Result<Found, AllocError>
-        requires room { self.old.next + 1 < 2 ^ 32 }
-        requires operands { AreBelow self.old.next operation }
+        requires { CanPush self.old.next operation }
         ensures found { IfOk result (λ f.
             found_of self.new f ≡ mirror.pushed (state_of self.old) (operation_of operation) kind) }
         ensures next { OnOk result (self.new.next ≡ self.old.next + 1) }
@@ -149,6 +149,7 @@ impl Emission {
     }
 
     /// The operand is one that a memory keeps.
+    #[tactic(auto, using(crate::proofs::Emitting::pushes))]
     fn keep(&mut self, operand: Found) -> Result<(), AllocError>
         requires { operand.element.0 < self.old.next }
         ensures kept { OnOk result
@@ -229,10 +230,8 @@ impl Emission {
         requires room { self.old.next + 5 * term_size term.now < 2 ^ 32 }
         ensures found { IfOk result (λ f. found_of self.new f
             ≡ mirror.emit_term (kinds_of variables.now) (state_of self.old) term.now) }
-        ensures grows { OnOk result (self.old.next ≤ self.new.next) }
-        ensures room { OnOk result
-            (self.new.next + 3 ≤ self.old.next + 5 * term_size term.now) }
-        ensures element { IfOk result (λ f. f.element.0 < self.new.next) }
+        ensures taken { IfOk result (λ f.
+            IsTaken self.old.next self.new.next (term_size term.now) f.element) }
     {
         match term {
             Term::Literal(n) => self.push(Operation::Constant(literal(*n)), Kind::Int),
@@ -301,10 +300,8 @@ impl Emission {
         requires room { self.old.next + 5 * list_size terms.now < 2 ^ 32 }
         ensures found { IfOk result (λ found. emitted_of self.new found.items
             ≡ mirror.emit_list (kinds_of variables.now) (state_of self.old) [] terms.now) }
-        ensures grows { OnOk result (self.old.next ≤ self.new.next) }
-        ensures room { IfOk result (λ found.
-            self.new.next + 3 * length found.items ≤ self.old.next + 5 * list_size terms.now) }
-        ensures elements { IfOk result (λ found. All (λ a. a.0 < self.new.next) found.items) }
+        ensures taken { IfOk result (λ found.
+            AreTaken self.old.next self.new.next (list_size terms.now) found.items) }
     {
         let mut found = Vec::new(alloc);
         for term in terms {

@@ -27,3 +27,6 @@ returns-clause-order c =
 pub returns-in_err-equations-clause-cycle : goal.returns-in_err-equations-clause-cycle
 returns-in_err-equations-clause-cycle c e =
     c.in_err-equations.ensures.cycle (search rules)
+
+pub returns-clause-cycle : goal.returns-clause-cycle
+returns-clause-cycle c = search rules

@@ -1,5 +1,6 @@
 -- There is a piece for each place but the first.
 use Rattle.std.proofs.Common.{arith}
+use Rattle.std.proofs.lemmas.Grind.{common_steps}
 use Rattle.std.specs.List.{slice_range}
 use Rattle.std.specs.Prelude.{string_bytes}
 use Rattle.lb_flat.proofs.Ledgers.{length-pieces}
@@ -9,3 +10,6 @@ pub returns-clause-count : goal.returns-clause-count
 returns-clause-count c =
     let pieces : _ = length-pieces (slice_range (string_bytes c.self.inside.text)) c.self.inside.ends.items in
     rw (← c.self.view_is) (omega (arith, pieces, c.len.ensures))
+
+pub returns-clause-limit : goal.returns-clause-limit
+returns-clause-limit c = grind (arith, common_steps)
