@@ -46,6 +46,13 @@ fn has_cells(set: &TraceSet) -> bool
     (u64::from(set.instants()) + 1) * cells <= 67_108_864
 }
 
+// Whether the limit of traces has room for one more.
+fn has_traces(set: &TraceSet) -> bool
+    ensures { result ≡ nat_lt (length set.now.traces) 1000000 }
+{
+    set.len() < 1_000_000
+}
+
 // Whether the last trace has room for one more instant.
 fn has_instants(set: &TraceSet) -> bool
     requires { 0 < length set.now.traces }
@@ -226,7 +233,7 @@ impl Recorder {
             });
         }
         let set = self.rows.set();
-        if set.len() >= 1_000_000 || !has_cells(set) {
+        if !has_traces(set) || !has_cells(set) {
             return Err(TraceError::Limit {
                 record: Some(number),
             });
