@@ -1,4 +1,4 @@
-//! What is answered on a text: the report, or why there is none.
+//! What is answered on a case text: the report and the status, or why there is none.
 
 use lb_check::error::CheckError;
 use lb_report::bench::run_case;
@@ -8,51 +8,59 @@ use lb_report::text::Report;
 use std::alloc::{AllocError, Global};
 use std::rt::Runtime;
 
-/// A refusal in a line: its number and its word, and the place or the node that it names.
-pub fn line_of(alloc: Global, error: &BenchError) -> Result<String, AllocError> {
-    let (number, word) = (error.number(), error.word());
+/// A refusal: its number and its word, and the place or the node that it names.
+pub fn push_refusal(said: &mut String, error: &BenchError) -> Result<(), AllocError> {
+    write!(said, "E{} {}", error.number(), error.word())?;
     if let Some((line, column)) = error.position() {
-        return format!(in alloc; "E{number} {word} at {line}:{column}\n");
+        return write!(said, " at {line}:{column}");
     }
     match error {
         BenchError::Check(
             CheckError::Type(name) | CheckError::Clock(name) | CheckError::Definition(name),
-        ) => format!(in alloc; "E{number} {word} in {name}\n"),
-        _ => format!(in alloc; "E{number} {word}\n"),
+        ) => write!(said, " in {name}"),
+        _ => Ok(()),
     }
 }
 
-/// The report on a case text whose node under test is `main`. An empty name is no observer.
-fn report<R: Runtime + AllocGlobal>(
-    rt: &R,
-    case: &str,
-    observer: &str,
-) -> Result<Report, BenchError> {
-    let alloc = rt.alloc();
-    let node = String::from_str(alloc, "main")?;
+/// The node under test, `main`, and an observer. An empty name is none.
+fn options(alloc: Global, observer: &str) -> Result<Options, AllocError> {
     let observer = if observer.is_empty() {
         None
     } else {
         Some(String::from_str(alloc, observer)?)
     };
-    run_case(
-        rt,
-        case.as_bytes(),
-        &Options::new(node, observer, 1, 64, false),
-    )
+    let node = String::from_str(alloc, "main")?;
+    Ok(Options::new(node, observer, 1, 64, false))
 }
 
-/// The report and the status, or the refusal.
-pub fn answer<R: Runtime + AllocGlobal>(
+/// The lines of a report and the status, or the refusal.
+fn push_outcome(said: &mut String, outcome: &Result<Report, BenchError>) -> Result<(), AllocError> {
+    match outcome {
+        Ok(report) => {
+            let text = std::str::from_utf8(report.text.as_slice()).unwrap_or("no text");
+            write!(said, "{text}status {}", report.status)
+        }
+        Err(error) => push_refusal(said, error),
+    }
+}
+
+/// What is answered on a case text. An empty name is no observer.
+pub fn push_answer<R: Runtime + AllocGlobal>(
     rt: &R,
     case: &str,
     observer: &str,
-) -> Result<String, AllocError> {
-    match report(rt, case, observer) {
-        Ok(report) => {
-            let text = std::str::from_utf8(report.text.as_slice()).unwrap_or("no text");
-            format!(in rt.alloc(); "{text}status {}\n", report.status)
-        }
-        Err(error) => line_of(rt.alloc(), &error),
-    }
+    said: &mut String,
+) -> Result<(), AllocError> {
+    let options = options(rt.alloc(), observer)?;
+    push_outcome(said, &run_case(rt, case.as_bytes(), &options))
+}
+
+/// What is answered on a case text after its first line, which may name an observer.
+pub fn push_case<R: Runtime + AllocGlobal>(
+    rt: &R,
+    asked: &str,
+    said: &mut String,
+) -> Result<(), AllocError> {
+    let (observer, case) = asked.split_once('\n').unwrap_or(("", asked));
+    push_answer(rt, case, observer.trim(), said)
 }

@@ -3,11 +3,13 @@
 ghost use Rattle.std.specs.Prelude.{◌≡◌, length};
 ghost use Rattle.lb_lanes.specs.Kernels.{AreInts};
 
+use crate::tables::{Asks, Table, check};
 use lb_lanes::{
     IntLanes, Plane, and_slices, any_outside, commit_ints, commit_planes, or_slices, xor_slices,
 };
 use std::alloc::{AllocError, Global};
 use std::process::Abort;
+use std::rt::Runtime;
 
 // The two integers in lanes 0 and 1, and 0 elsewhere.
 fn pair(first: i32, second: i32) -> IntLanes
@@ -27,80 +29,107 @@ fn number(word: Option<&str>) -> i32 {
     }
 }
 
-// What a kernel makes of two rows of integers.
-fn applied(kernel: &str, a: &IntLanes, b: &IntLanes, active: Plane) -> (IntLanes, Plane)
+// What a kernel makes of two rows of integers, and where it faults or holds.
+fn applied(kernel: &[u8], a: &IntLanes, b: &IntLanes, active: Plane) -> (IntLanes, Plane)
     requires left { AreInts a.now }
     requires right { AreInts b.now }
 {
     match kernel {
-        "add" => a.add(b, active),
-        "sub" => a.sub(b, active),
-        "mul" => a.mul(b, active),
-        "div" => a.div(b, active),
-        "rem" => a.rem(b, active),
-        _ => a.neg(active),
+        [b'+', ..] => a.add(b, active),
+        [b'-', ..] => a.sub(b, active),
+        [b'*', ..] => a.mul(b, active),
+        [b'/', ..] => a.div(b, active),
+        [b'%', ..] => a.rem(b, active),
+        [b'n', ..] => a.neg(active),
+        [b'=', ..] => (IntLanes::splat(0), a.eq(b)),
+        [b'<', ..] => (IntLanes::splat(0), a.lt(b)),
+        [b'l', ..] => (IntLanes::splat(0), a.le(b)),
+        _ => (IntLanes::blend(active, a, b), Plane(0)),
     }
 }
 
-// A line of the table again, up to `=>`, and what the kernel makes of its numbers.
-fn answered(alloc: Global, line: &str) -> Result<String, AllocError> {
-    let (asked, _) = line.split_once(" => ").unwrap_or((line, ""));
+// What a kernel makes of its numbers.
+pub fn push_ints(asked: &str, said: &mut String) -> Result<(), AllocError> {
     let mut words = asked.split(' ');
     let kernel = words.next().unwrap_or("");
     let a = pair(number(words.next()), number(words.next()));
     let b = pair(number(words.next()), number(words.next()));
     let active = Plane(u64::from(number(words.next()).unsigned_abs()));
-    let (lanes, faults) = applied(kernel, &a, &b, active);
-    format!(in alloc; "{asked} => {} {} {}", lanes.get(0), lanes.get(1), faults.0)
+    let (lanes, faults) = applied(kernel.as_bytes(), &a, &b, active);
+    write!(said, "{} {} {}", lanes.get(0), lanes.get(1), faults.0)
 }
 
-// Kernels, lanes 0 and 1 of their operands, and the lanes that count; then lanes 0 and 1 of the
-// result, and the faults.
-const ARITHMETIC: &str = "\
-add 2147483647 2 1 3 3 => 0 5 1
-add 2147483647 2 1 3 2 => 0 5 0
-mul 65536 65536 32768 32767 3 => 0 2147418112 1
-sub -2147483648 7 1 9 3 => 0 -2 1
-neg -2147483648 7 0 0 3 => 0 -7 1
-div -7 5 2 0 3 => -3 0 2
-div -7 5 2 0 1 => -3 0 0
-rem -7 5 2 0 3 => -1 0 2
-div -2147483648 7 -1 -1 3 => 0 -7 1
-rem -2147483648 7 -1 -1 3 => 0 0 1
-";
-
-#[test]
-fn arithmetic(rt: HostRuntime) -> Result<(), AllocError> {
-    for line in ARITHMETIC.lines() {
-        assert_eq!(rt; answered(rt.alloc(), line)?.as_str(), line);
+// What a kernel makes of two planes.
+fn combined(kernel: &[u8], p: Plane, q: Plane) -> Plane {
+    match kernel {
+        [b'&', ..] => p.and(q),
+        [b'|', ..] => p.or(q),
+        [b'^', ..] => p.xor(q),
+        [b'!', ..] => p.not(),
+        _ => Plane::select(Plane(3), p, q),
     }
-    Ok(())
+}
+
+// What a kernel makes of its planes.
+pub fn push_plane(asked: &str, said: &mut String) -> Result<(), AllocError> {
+    let mut words = asked.split(' ');
+    let kernel = words.next().unwrap_or("");
+    let p = Plane(u64::from(number(words.next()).unsigned_abs()));
+    let q = Plane(u64::from(number(words.next()).unsigned_abs()));
+    write!(said, "{}", combined(kernel.as_bytes(), p, q).0)
+}
+
+// Kernels, lanes 0 and 1 of their operands, and the lanes that count or are taken; then lanes 0 and
+// 1 of the result, and the faults or where it holds.
+const INTEGERS: &str = "\
++ 2147483647 2 1 3 3 => 0 5 1
++ 2147483647 2 1 3 2 => 0 5 0
+* 65536 65536 32768 32767 3 => 0 2147418112 1
+- -2147483648 7 1 9 3 => 0 -2 1
+neg -2147483648 7 0 0 3 => 0 -7 1
+/ -7 5 2 0 3 => -3 0 2
+/ -7 5 2 0 1 => -3 0 0
+% -7 5 2 0 3 => -1 0 2
+/ -2147483648 7 -1 -1 3 => 0 -7 1
+% -2147483648 7 -1 -1 3 => 0 0 1
+= -1 5 1 5 0 => 0 0 18446744073709551614
+< -1 5 1 5 0 => 0 0 1
+le -1 5 1 5 0 => 0 0 18446744073709551615
+blend -1 5 1 5 2 => 1 5 0";
+
+// Kernels and their planes; the last takes lanes 0 and 1 of the first one.
+const PLANES: &str = "\
+& 12 10 => 8
+| 12 10 => 14
+^ 12 10 => 6
+! 1 0 => 18446744073709551614
+select 5 12 => 13";
+
+fn check_lines<R: Runtime + AllocGlobal + Abort>(
+    rt: &R,
+    asks: Asks<'_>,
+    rows: &str,
+) -> Result<(), AllocError> {
+    check(
+        rt,
+        &Table {
+            asks,
+            rows,
+            between: "\n",
+            mark: " => ",
+        },
+    )
 }
 
 #[test]
-fn planes(rt: HostRuntime) {
-    let (p, q) = (Plane(12), Plane(10));
-    assert_eq!(rt;
-        [p.and(q).0, p.or(q).0, p.xor(q).0, Plane(1).not().0],
-        [8, 14, 6, 0xffff_ffff_ffff_fffe]
-    );
-    assert_eq!(rt; Plane::select(Plane(3), Plane(5), p).0, 13);
-    assert_eq!(rt; [Plane(4).get(2), Plane(4).get(3)], [true, false]);
+fn integers(rt: HostRuntime) -> Result<(), AllocError> {
+    check_lines(&rt, Asks::Ints, INTEGERS)
 }
 
 #[test]
-fn comparisons(rt: HostRuntime) {
-    let a = pair(-1, 5);
-    let mut b = pair(1, 5);
-    assert_eq!(rt;
-        [a.eq(&b).0, a.lt(&b).0, a.le(&b).0],
-        [0xffff_ffff_ffff_fffe, 1, 0xffff_ffff_ffff_ffff]
-    );
-    let blended = IntLanes::blend(Plane(2), &a, &b);
-    assert_eq!(rt; [blended.get(0), blended.get(1)], [1, 5]);
-    b.set(0, 2147483648);
-    b.set(1, -2147483648);
-    assert_eq!(rt; b.outside().0, 1);
+fn planes(rt: HostRuntime) -> Result<(), AllocError> {
+    assert!(rt; Plane(4).get(2) && !Plane(4).get(3));
+    check_lines(&rt, Asks::Planes, PLANES)
 }
 
 const LENGTHS: [usize; 5] = [0, 1, 63, 64, 65];
@@ -161,13 +190,11 @@ fn words_of_each_length(rt: HostRuntime) {
     }
 }
 
-// Elements with `from`, and each next number, in every lane.
-fn counted(alloc: Global, n: usize, from: i64) -> Result<Vec<IntLanes>, AllocError> {
+// 65 elements with `from`, and each next number, in every lane.
+fn counted(alloc: Global, from: i64) -> Result<Vec<IntLanes>, AllocError> {
     let mut all = Vec::new(alloc);
-    let mut value = from;
-    for _ in 0..n {
-        all.push(IntLanes::splat(value))?;
-        value = value.wrapping_add(1);
+    for k in 0..65i64 {
+        all.push(IntLanes::splat(from.wrapping_add(k)))?;
     }
     Ok(all)
 }
@@ -182,29 +209,46 @@ fn check_ints(rt: &impl Abort, ints: &[IntLanes]) {
     }
 }
 
+// The commit of the first elements, for each length.
+fn check_commits(rt: &impl Abort, old: &mut [IntLanes], new: &[IntLanes]) {
+    for n in LENGTHS {
+        assert!(rt; n <= old.len() && n <= new.len());
+        commit_ints(&mut old[..n], &new[..n], Plane(5));
+        check_ints(rt, &old[..n]);
+    }
+}
+
 #[test]
 fn ints_of_each_length(rt: HostRuntime) -> Result<(), AllocError> {
-    for n in LENGTHS {
-        let mut old = counted(rt.alloc(), n, 0)?;
-        let new = counted(rt.alloc(), n, 1000)?;
-        assert_eq!(rt; old.len(), new.len());
-        commit_ints(&mut old, &new, Plane(5));
-        check_ints(&rt, old.as_slice());
-    }
+    let mut old = counted(rt.alloc(), 0)?;
+    let new = counted(rt.alloc(), 1000)?;
+    check_commits(&rt, &mut old, &new);
     Ok(())
+}
+
+// Whether a value is outside that stands at the end of so many.
+fn is_outside(n: usize, value: i64) -> bool {
+    let mut values = [0; 65];
+    let n = n.min(65);
+    if n > 0 {
+        values[n - 1] = value;
+    }
+    any_outside(&values[..n])
+}
+
+// The lanes that are outside, of two at the bounds.
+fn outside_lanes() -> Plane {
+    let mut lanes = IntLanes::splat(0);
+    lanes.set(0, 2147483648);
+    lanes.set(1, -2147483648);
+    lanes.outside()
 }
 
 #[test]
 fn outside_at_each_length(rt: HostRuntime) {
+    assert!(rt; outside_lanes().0 == 1);
     for n in LENGTHS {
-        assert!(rt; n <= 65);
-        let mut values = [0; 65];
-        assert!(rt; !any_outside(&values[..n]));
-        if n > 0 {
-            values[n - 1] = 2147483648;
-            assert!(rt; any_outside(&values[..n]));
-            values[n - 1] = -2147483648;
-            assert!(rt; !any_outside(&values[..n]));
-        }
+        assert!(rt; !is_outside(n, 0) && !is_outside(n, -2147483648), "{n}");
+        assert!(rt; is_outside(n, 2147483648) == (n > 0), "{n}");
     }
 }

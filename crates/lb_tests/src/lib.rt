@@ -7,8 +7,6 @@
 #[cfg(test)]
 mod answers;
 #[cfg(test)]
-mod cases;
-#[cfg(test)]
 mod elaboration;
 #[cfg(test)]
 mod lanes;
@@ -21,6 +19,10 @@ mod runs;
 #[cfg(test)]
 mod source_texts;
 #[cfg(test)]
+mod sources;
+#[cfg(test)]
 mod streams;
+#[cfg(test)]
+mod tables;
 #[cfg(test)]
 mod traces;

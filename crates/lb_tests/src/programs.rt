@@ -1,60 +1,54 @@
-//! The rules of types, clocks and definitions, and of traces, one program a line.
+//! The rules of types, clocks and definitions, and of traces, one program a row.
 
-use crate::answers::answer;
+use crate::answers;
+use crate::tables::{Asks, Table, check};
 use std::alloc::AllocError;
 use std::process::Abort;
 use std::rt::Runtime;
 
-/// A line of a table again, up to `=>`, and what is answered on the nodes, the front and the line.
-/// There `~` stands for the end of a line. A program that keeps the rules is refused later, since
-/// it has no traces or does not run yet.
-fn answered<R: Runtime + AllocGlobal>(
+/// What is answered on the nodes, the front and the end of a program. One that keeps the rules is
+/// refused later, since it has no traces or does not run yet.
+pub fn push_answer<R: Runtime + AllocGlobal>(
     rt: &R,
     front: &str,
-    line: &str,
-) -> Result<String, AllocError> {
-    let alloc = rt.alloc();
-    let (asked, _) = line.split_once(" => ").unwrap_or((line, ""));
-    let text = format!(in alloc; "{NODES}{front}{asked}")?;
-    let text = text.replace(alloc, "~", "\n")?;
-    let answer = answer(rt, text.as_str(), "")?;
-    if answer.starts_with("E12") || answer.starts_with("E14") {
-        format!(in alloc; "{asked} => accepted\n")
-    } else {
-        format!(in alloc; "{asked} => {answer}")
-    }
-}
-
-/// The lines of a table that say something else than what is answered, with what is answered.
-fn wrong_lines<R: Runtime + AllocGlobal>(
-    rt: &R,
-    front: &str,
-    table: &str,
-) -> Result<String, AllocError> {
-    let mut wrong = String::new(rt.alloc());
-    for line in table.split_inclusive('\n') {
-        let answered = answered(rt, front, line)?;
-        if answered.as_str() != line {
-            wrong.push_str(answered.as_str())?;
-        }
-    }
-    Ok(wrong)
-}
-
-fn check_lines<R: Runtime + AllocGlobal + Abort>(
-    rt: &R,
-    front: &str,
-    table: &str,
+    end: &str,
+    said: &mut String,
 ) -> Result<(), AllocError> {
-    assert_eq!(rt; wrong_lines(rt, front, table)?.as_str(), "");
+    let case = format!(in rt.alloc(); "{NODES}{front}{end}")?;
+    answers::push_answer(rt, case.as_str(), "", said)?;
+    if said.starts_with("E12") || said.starts_with("E14") {
+        said.clear();
+        return said.push_str("accepted");
+    }
     Ok(())
+}
+
+fn check_rows<R: Runtime + AllocGlobal + Abort>(
+    rt: &R,
+    front: &str,
+    rows: &str,
+    between: &str,
+) -> Result<(), AllocError> {
+    check(
+        rt,
+        &Table {
+            asks: Asks::Programs(front),
+            rows,
+            between,
+            mark: " => ",
+        },
+    )
+}
+
+fn check_tables<R: Runtime + AllocGlobal + Abort>(rt: &R) -> Result<(), AllocError> {
+    check_rows(rt, MAIN, RULES, "\n")?;
+    check_rows(rt, CLOCKED, STATEMENTS, "\n")?;
+    check_rows(rt, PLAIN, TRACES, "\n----\n")
 }
 
 #[test]
 fn programs(rt: HostRuntime) -> Result<(), AllocError> {
-    check_lines(&rt, MAIN, RULES)?;
-    check_lines(&rt, CLOCKED, STATEMENTS)?;
-    check_lines(&rt, PLAIN, TRACES)
+    check_tables(&rt)
 }
 
 /// What the nodes under test may call.
@@ -168,8 +162,7 @@ let ok = next(x); tel => E9 type in main
 let ok = next(current 1) > 0; tel => E10 clock in main
 let ok = next(x) > 0; ok = true; tel => E11 definition in main
 let ok = twice(x); tel => E9 type in main
-let ok = mistyped(true); tel => E9 type in mistyped
-";
+let ok = mistyped(true); tel => E9 type in mistyped";
 
 /// A node `n` whose inputs are on several clocks, and a node under test that calls it.
 const CLOCKED: &str = "node main(c, d: bool; x, y: int) returns (ok: bool);
@@ -265,23 +258,46 @@ x = red<<sum, 2>>(x, a); tel => E11 definition in n
 x = red<<sum, 2>>(v, a); tel => E10 clock in n
 a = map<<f, 2>>(b, a); tel => E10 clock in n
 a = map<<+, 2>>(a, a); tel => E11 definition in n
-a = map<<+, 2>>(a, t); tel => E10 clock in n
-";
+a = map<<+, 2>>(a, t); tel => E10 clock in n";
 
 /// A program and the line before its traces.
-const PLAIN: &str = "node main(x: int) returns (ok: bool); let ok = true; tel~%traces~";
+const PLAIN: &str = "node main(x: int) returns (ok: bool); let ok = true; tel
+%traces
+";
 
 /// Trace texts.
 const TRACES: &str = "\
-trace,x~a,1,2 => E15 record
-trace,x~a => E15 record
-trace,x~a, => E16 cell
-trace,x~a,+1 => E16 cell
-trace,x~a, 1 => E16 cell
-trace,x~a,000000000000000000001 => E16 cell
-trace,x~a,2147483648 => E16 cell
-trace,x~,1 => E17 trace
-trace,x~a b,zz => E17 trace
-trace,x~aaaaaaaaaaaaaaaaaaaaaaaaaaaaaaaaaaaaaaaaaaaaaaaaaaaaaaaaaaaaaaaaa,1 => E17 trace
-trace,x~a,1~b,1~a,1 => E17 trace
-";
+trace,x
+a,1,2 => E15 record
+----
+trace,x
+a => E15 record
+----
+trace,x
+a, => E16 cell
+----
+trace,x
+a,+1 => E16 cell
+----
+trace,x
+a, 1 => E16 cell
+----
+trace,x
+a,000000000000000000001 => E16 cell
+----
+trace,x
+a,2147483648 => E16 cell
+----
+trace,x
+,1 => E17 trace
+----
+trace,x
+a b,zz => E17 trace
+----
+trace,x
+aaaaaaaaaaaaaaaaaaaaaaaaaaaaaaaaaaaaaaaaaaaaaaaaaaaaaaaaaaaaaaaaa,1 => E17 trace
+----
+trace,x
+a,1
+b,1
+a,1 => E17 trace";

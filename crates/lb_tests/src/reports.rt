@@ -1,51 +1,84 @@
 //! Case texts in their two parts, statuses and options.
 
+use crate::tables::{Asks, Table, check};
 use lb_check::verdict::Verdict;
 use lb_report::case::split_case;
 use lb_report::options::Options;
 use lb_report::text::status;
 use std::alloc::AllocError;
-use std::test::Fail;
 
-/// Case texts, and after `=>` the source and the traces, each with a `|` at its end; `;` stands for
-/// the end of a line.
-const CASES: &str = "
-a;%traces;b => a;|b|
-a;%traces\r;b;%traces; => a;|b;%traces;|
+/// The source and the traces of a case text, each with a `|` at its end.
+pub fn push_parts(case: &str, said: &mut String) -> Result<(), AllocError> {
+    let (source, traces) = split_case(case.as_bytes());
+    let source = std::str::from_utf8(source).unwrap_or("no text");
+    let traces = std::str::from_utf8(traces).unwrap_or("no text");
+    write!(said, "{source}|{traces}|")
+}
+
+/// Case texts and their parts.
+const CASES: &str = "\
+a
+%traces
+b => a
+|b|
+----
+a
+%traces\r
+b
+%traces
+ => a
+|b
+%traces
+|
+----
 %traces => ||
-a %traces;b => a %traces;b||
-a;%traces ;b => a;%traces ;b||
-a;%traces\r => a;%traces\r||
- => ||
-";
+----
+a %traces
+b => a %traces
+b||
+----
+a
+%traces\x20
+b => a
+%traces\x20
+b||
+----
+a
+%traces\r => a
+%traces\r||
+----
+ => ||";
 
 #[test]
-fn parts_of_cases(rt: HostRuntime) -> Result<(), Fail> {
-    let alloc = rt.alloc();
-    for line in CASES.lines() {
-        let line = line.replace(alloc, ";", "\n")?;
-        let Some((case, wanted)) = line.split_once(" => ") else {
-            assert!(rt; line.is_empty(), "{line}");
-            continue;
-        };
-        let (source, traces) = split_case(case.as_bytes());
-        let source = std::str::from_utf8(source)?;
-        let traces = std::str::from_utf8(traces)?;
-        let parts = format!(in alloc; "{source}|{traces}|")?;
-        assert_eq!(rt; parts.as_str(), wanted);
-    }
-    Ok(())
+fn parts_of_cases(rt: HostRuntime) -> Result<(), AllocError> {
+    check(
+        &rt,
+        &Table {
+            asks: Asks::Parts,
+            rows: CASES,
+            between: "\n----\n",
+            mark: " => ",
+        },
+    )
+}
+
+fn is_as_given(options: &Options) -> bool {
+    options.node.as_str() == "main"
+        && options.observer_name().is_none()
+        && options.workers == 1
+        && options.batch == 64
+        && options.by_length
 }
 
 #[test]
 fn statuses_and_options(rt: HostRuntime) -> Result<(), AllocError> {
-    let fault = status(&[Verdict::Fault(1999999999)]);
-    assert_eq!(rt;
-        [status(&[]), status(&[Verdict::Assertion(0)]), fault],
-        [0, 0, 1]
-    );
+    let statuses = [
+        status(&[]),
+        status(&[Verdict::Assertion(0)]),
+        status(&[Verdict::Fault(1999999999)]),
+    ];
+    assert!(rt; statuses == [0, 0, 1]);
     let options = Options::new(String::from_str(rt.alloc(), "main")?, None, 1, 64, true);
-    assert!(rt; options.node.as_str() == "main" && options.observer_name().is_none());
-    assert!(rt; options.workers == 1 && options.batch == 64 && options.by_length);
+    assert!(rt; is_as_given(&options));
     Ok(())
 }

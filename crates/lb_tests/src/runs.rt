@@ -1,6 +1,7 @@
 //! Case texts and what the program answers: the report and the status, or the refusal.
 
-use crate::answers::{answer, line_of};
+use crate::answers::push_refusal;
+use crate::tables::{Asks, Table, check};
 use lb_report::error::BenchError;
 use lb_syntax::error::SyntaxError;
 use lb_trace::error::TraceError;
@@ -8,51 +9,36 @@ use std::alloc::AllocError;
 use std::process::Abort;
 use std::rt::Runtime;
 
-/// A case again, up to the line `%answer`, and what is answered on it. Its first line may name an
-/// observer.
-fn answered<R: Runtime + AllocGlobal>(rt: &R, case: &str) -> Result<String, AllocError> {
-    let (asked, _) = case.split_once("%answer").unwrap_or((case, ""));
-    let (observer, text) = asked.split_once('\n').unwrap_or(("", asked));
-    let answer = answer(rt, text, observer.trim())?;
-    format!(in rt.alloc(); "{asked}%answer\n{answer}")
-}
-
-/// The cases of a table, parted by `%case`, that say something else than what is answered.
-fn wrong_cases<R: Runtime + AllocGlobal>(rt: &R, table: &str) -> Result<String, AllocError> {
-    let mut wrong = String::new(rt.alloc());
-    for case in table.split("%case") {
-        let answered = answered(rt, case)?;
-        if answered.as_str() != case {
-            wrong.push_str(answered.as_str())?;
-        }
-    }
-    Ok(wrong)
-}
-
-fn check_cases<R: Runtime + AllocGlobal + Abort>(rt: &R, table: &str) -> Result<(), AllocError> {
-    assert_eq!(rt; wrong_cases(rt, table)?.as_str(), "");
-    Ok(())
-}
-
-/// What a refusal that no case has is answered with.
-fn check_line<R: Runtime + AllocGlobal + Abort>(
-    rt: &R,
-    error: &BenchError,
-    wanted: &str,
-) -> Result<(), AllocError> {
-    assert_eq!(rt; line_of(rt.alloc(), error)?.as_str(), wanted);
-    Ok(())
+fn check_cases<R: Runtime + AllocGlobal + Abort>(rt: &R, rows: &str) -> Result<(), AllocError> {
+    check(
+        rt,
+        &Table {
+            asks: Asks::Cases,
+            rows,
+            between: "\n%case",
+            mark: "%answer\n",
+        },
+    )
 }
 
 #[test]
 fn cases(rt: HostRuntime) -> Result<(), AllocError> {
     check_cases(&rt, REPORTS)?;
-    check_cases(&rt, REFUSALS)?;
-    let limit = BenchError::Trace(TraceError::Limit { record: None });
-    check_line(&rt, &BenchError::Memory, "E0 memory\n")?;
-    check_line(&rt, &limit, "E18 limit\n")?;
-    let memory = BenchError::Syntax(SyntaxError::Memory);
-    check_line(&rt, &memory, "E0 memory\n")
+    check_cases(&rt, REFUSALS)
+}
+
+/// Refusals that no case has.
+#[test]
+fn refusals(rt: HostRuntime) -> Result<(), AllocError> {
+    let mut said = String::new(rt.alloc());
+    push_refusal(&mut said, &BenchError::Memory)?;
+    push_refusal(
+        &mut said,
+        &BenchError::Trace(TraceError::Limit { record: None }),
+    )?;
+    push_refusal(&mut said, &BenchError::Syntax(SyntaxError::Memory))?;
+    assert_eq!(rt; said.as_str(), "E0 memoryE18 limitE0 memory");
+    Ok(())
 }
 
 /// The verdicts of traces. Among them: a counter, with an assumption and without; sums and
@@ -327,8 +313,7 @@ b
 a false 1
 b passed
 total 2 passed 1 fault 0 assertion 0 false 1
-status 1
-";
+status 1";
 
 /// Refusals, by the first part that refuses. The last are of forms that do not run yet.
 const REFUSALS: &str = "
@@ -432,5 +417,4 @@ node main(x: int) returns (ok: bool); let ok = true; tel
 %traces
 trace,x,x
 %answer
-E14 header
-";
+E14 header";

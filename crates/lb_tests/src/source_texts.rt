@@ -1,10 +1,10 @@
 //! Source texts at their limits and beyond: what is counted in them, or why they are refused.
 //!
-//! `no token begins at` is E1, `no tree fits the tokens up to` is E2, `over its limit at` is E3. The
-//! place of E2 stands in no contract.
+//! `no token begins at` is E1, `no tree fits the tokens up to` is E2, `over its limit at` is E3.
+//! The place of E2 stands in no contract.
 
-use crate::cases::first_wrong;
-use std::test::Fail;
+use crate::tables::{Asks, Table, check};
+use std::alloc::AllocError;
 
 const CASES: &str = "-- nothing
 text => 0 constants, 0 nodes
@@ -334,7 +334,14 @@ tel
 text => over its limit at 3:2667";
 
 #[test]
-fn texts_and_their_refusals(rt: HostRuntime) -> Result<(), Fail> {
-    assert_eq!(rt; first_wrong(rt.alloc(), CASES)?.as_str(), "");
-    Ok(())
+fn texts_and_their_refusals(rt: HostRuntime) -> Result<(), AllocError> {
+    check(
+        &rt,
+        &Table {
+            asks: Asks::Sources,
+            rows: CASES,
+            between: "\n----\n",
+            mark: " => ",
+        },
+    )
 }

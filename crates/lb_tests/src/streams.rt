@@ -2,8 +2,10 @@
 
 use lb_report::feed::{Feed, LoadError, Reader, load};
 use lb_report::sink::{Sent, Sink, Writer, send};
+use std::alloc::{AllocError, Global};
 use std::io::{ErrorKind, Read, Write};
-use std::test::Fail;
+use std::process::Abort;
+use std::rt::Runtime;
 
 /// Gives a few bytes at a time, and fails once it has given so many.
 #[derive(Drop)]
@@ -50,41 +52,59 @@ impl Write for FailingOutput {
 
 const LINE: &[u8] = b"total 0 passed 0 fault 0 assertion 0 false 0\n";
 
-#[test]
-fn inputs(rt: HostRuntime) -> Result<(), Fail> {
-    let alloc = rt.alloc();
-    for n in [0, 1, 1_048_576, 2_500_000] {
-        let text = vec![in alloc; b'x'; n]?;
-        let bytes = load(alloc, &mut Reader::new(text.as_slice()))?;
-        assert!(rt; bytes.as_slice() == text.as_slice(), "{n} bytes");
+/// How many bytes are read whole, and after how many an input fails.
+const WHOLE: &str = "0 1 1048576 2500000";
+
+const FAILING: &str = "0 1 10 1500000";
+
+/// Whether an input is read whole.
+fn is_whole(alloc: Global, text: &[u8]) -> bool {
+    match load(alloc, &mut Reader::new(text)) {
+        Ok(bytes) => bytes.as_slice() == text,
+        Err(_) => false,
     }
-    for fails_at in [0, 1, 10, 1_500_000] {
-        let mut feed = Reader::new(FailingInput { given: 0, fails_at });
-        let loaded = load(alloc, &mut feed);
-        assert!(rt; matches!(loaded, Err(LoadError::Read)), "at {fails_at}");
-        assert_eq!(rt; feed.failures(), 1);
+}
+
+/// Whether an input that fails is refused, and its failure counted.
+fn is_refused(alloc: Global, fails_at: usize) -> bool {
+    let mut feed = Reader::new(FailingInput { given: 0, fails_at });
+    let is_refused = matches!(load(alloc, &mut feed), Err(LoadError::Read));
+    is_refused && feed.failures() == 1
+}
+
+fn check_inputs<R: Runtime + AllocGlobal + Abort>(rt: &R) -> Result<(), AllocError> {
+    for word in WHOLE.split(' ') {
+        let text = vec![in rt.alloc(); b'x'; word.parse().unwrap_or(0)]?;
+        assert!(rt; is_whole(rt.alloc(), text.as_slice()), "{word}");
+    }
+    for word in FAILING.split(' ') {
+        assert!(rt; is_refused(rt.alloc(), word.parse().unwrap_or(0)), "{word}");
     }
     Ok(())
 }
 
 #[test]
-fn outputs(rt: HostRuntime) -> Result<(), Fail> {
+fn inputs(rt: HostRuntime) -> Result<(), AllocError> {
+    check_inputs(&rt)
+}
+
+/// How many bytes went out until the output failed, and how often it failed.
+fn sent(fails_at: u32) -> (usize, u64) {
+    let mut sink = Writer::new(FailingOutput {
+        writes: 0,
+        fails_at,
+    });
+    let count = match send(&mut sink, LINE) {
+        Ok(()) => LINE.len(),
+        Err(Sent { count }) => count,
+    };
+    (count, sink.failures())
+}
+
+#[test]
+fn outputs(rt: HostRuntime) {
     let mut bytes: Vec<u8> = Vec::new(rt.alloc());
-    assert!(rt; send(&mut Writer::new(&mut bytes), LINE).is_ok());
-    assert!(rt; bytes.as_slice() == LINE);
-    for fails_at in [0, 3] {
-        let mut sink = Writer::new(FailingOutput {
-            writes: 0,
-            fails_at,
-        });
-        let sent = send(&mut sink, LINE);
-        if fails_at == 0 {
-            assert!(rt; sent.is_ok());
-            assert_eq!(rt; sink.failures(), 0);
-        } else {
-            assert!(rt; matches!(sent, Err(Sent { count: 2 })));
-            assert_eq!(rt; sink.failures(), 1);
-        }
-    }
-    Ok(())
+    assert!(rt; send(&mut Writer::new(&mut bytes), LINE).is_ok() && bytes.as_slice() == LINE);
+    assert!(rt; sent(0) == (45, 0));
+    assert!(rt; sent(3) == (2, 1));
 }

@@ -5,9 +5,22 @@ ghost use Rattle.lb_syntax.specs.Lists.{Every};
 ghost use Rattle.lb_check.specs.Scalars.{Integer, Boolean};
 ghost use Rattle.lb_check.specs.Acceptance.{IsAccepted};
 ghost use Rattle.lb_check.specs.Verdicts.{HasVerdict};
-ghost use Rattle.lb_check.specs.declared.verdict.Verdict.TheVariants.{Passed, Fault, Assertion as Assertion_fails, False};
+ghost use Rattle.lb_check.specs.declared.verdict.Verdict.TheVariants.{Passed, Fault};
+ghost use Rattle.lb_check.specs.declared.verdict.Verdict.TheVariants.{Assertion as Assertion_fails};
+ghost use Rattle.lb_check.specs.declared.verdict.Verdict.TheVariants.{False};
 ghost use Rattle.lb_worked.specs.WorkedSamples.{trace};
-ghost use Rattle.lb_worked.specs.WorkedScalars.{counter, assuming_counter, increment, quotient_by_minus_one, remainder_by_minus_one, negation, quotients, literal_quotients, each_sign, chosen_branch, other_branch, strict_and, strict_or, strict_implies, strict_count, all_three, without_a_fault, property_alone, assumed, logic, equality_of_truths, comparisons, counting, logic_table, equality_table, comparison_table, first_then, followed, before_the_first, truth_before_the_first, unused_operand, unused_operand_of_fby, unused_operand_of_current, unused_side};
+ghost use Rattle.lb_worked.specs.WorkedScalars.{counter, assuming_counter, increment};
+ghost use Rattle.lb_worked.specs.WorkedScalars.{quotient_by_minus_one, remainder_by_minus_one};
+ghost use Rattle.lb_worked.specs.WorkedScalars.{negation, quotients, literal_quotients, each_sign};
+ghost use Rattle.lb_worked.specs.WorkedScalars.{chosen_branch, other_branch, strict_and, strict_or};
+ghost use Rattle.lb_worked.specs.WorkedScalars.{strict_implies, strict_count, all_three};
+ghost use Rattle.lb_worked.specs.WorkedScalars.{without_a_fault, property_alone, assumed, logic};
+ghost use Rattle.lb_worked.specs.WorkedScalars.{equality_of_truths, comparisons, counting};
+ghost use Rattle.lb_worked.specs.WorkedScalars.{logic_table, equality_table, comparison_table};
+ghost use Rattle.lb_worked.specs.WorkedScalars.{first_then, followed, before_the_first};
+ghost use Rattle.lb_worked.specs.WorkedScalars.{truth_before_the_first, unused_operand};
+ghost use Rattle.lb_worked.specs.WorkedScalars.{unused_operand_of_fby, unused_operand_of_current};
+ghost use Rattle.lb_worked.specs.WorkedScalars.{unused_side};
 
 /// The notation of traces below: instants parted by semicolons, cells by spaces.
 pub fn how_traces_are_written()

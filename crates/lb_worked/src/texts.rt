@@ -4,7 +4,10 @@ ghost use Rattle.std.specs.Prelude.{Some, None, [], map, ◌∷◌, ◌≡◌};
 ghost use Rattle.lb_syntax.specs.declared.token.Mark.TheVariants as m;
 ghost use Rattle.lb_syntax.specs.Places.{column_of, line_of, starts, wrong_at};
 ghost use Rattle.lb_syntax.specs.Tokens.{tokens};
-ghost use Rattle.lb_worked.specs.WorkedTexts.{tokens_of, starts_of, wrong_in, named, mark, counts, line_comment, bytes_in_comments, no_token, on_the_second_line, longest_symbols, literals, names, reserved_words, reserved, symbols};
+ghost use Rattle.lb_worked.specs.WorkedTexts.{tokens_of, starts_of, wrong_in, named, mark, counts};
+ghost use Rattle.lb_worked.specs.WorkedTexts.{line_comment, bytes_in_comments, no_token};
+ghost use Rattle.lb_worked.specs.WorkedTexts.{on_the_second_line, longest_symbols, literals, names};
+ghost use Rattle.lb_worked.specs.WorkedTexts.{reserved_words, reserved, symbols};
 
 /// Comments do not nest, and their ends are looked for after their openings.
 pub fn comments_and_white_space()
