@@ -1,5 +1,6 @@
 -- What a text begins with, from its first two bytes.
-use Rattle.std.proofs.Common.{◌≡◌, ℕ, ◌+◌, ◌<◌, false, [], ◌∷◌, length, drop, get_or, drop-cons, add-one, Option, Some, None, refl, ap, subst, ◌∙◌, arith}
+use Rattle.std.proofs.Common.{◌≡◌, ℕ, ◌+◌, ◌<◌, false, [], ◌∷◌, length, drop, get_or, drop-cons}
+use Rattle.std.proofs.Common.{add-one, Option, Some, None, refl, ap, subst, ◌∙◌, arith}
 use Rattle.std.specs.Option.{option_map}
 use Rattle.lb_syntax.specs.Tokens.{Text, begins, through}
 

@@ -1,5 +1,6 @@
 -- What is spelled of expressions is read.
-use Rattle.std.proofs.Common.{◌≡◌, ℕ, zero, suc, ◌+◌, ◌-◌, ◌≤◌, ◌<◌, max, true, false, List, [], ◌∷◌, length, Option, Some, None, refl, ap, sym, ◌∙◌, subst, arith}
+use Rattle.std.proofs.Common.{◌≡◌, ℕ, zero, suc, ◌+◌, ◌-◌, ◌≤◌, ◌<◌, max, true, false, List, []}
+use Rattle.std.proofs.Common.{◌∷◌, length, Option, Some, None, refl, ap, sym, ◌∙◌, subst, arith}
 use Rattle.std.specs.Prelude.{◌≢◌}
 use Rattle.lb_syntax.specs.declared.level.Form.TheVariants as form
 use Rattle.lb_syntax.specs.declared.token.Mark.{Mark}
@@ -7,29 +8,38 @@ use Rattle.lb_syntax.specs.declared.token.Mark.TheVariants as m
 use Rattle.lb_syntax.specs.declared.token.Token.{Token}
 use Rattle.lb_syntax.specs.declared.token.Token.TheVariants as token
 use Rattle.lb_syntax.specs.Tree.{Name, Not, Negate, ArrayIterator, Static, Operator}
-use Rattle.lb_syntax.specs.Tree.{Expr, Exprs, Literal, Truth, Variable, Group, Unary, Binary, If, Arrow, Fby, Pre, Current, When, Copies, Index, Slice, Join, Array, AtMostOne, Nor, Call, Iterate, Nil, Cons}
+use Rattle.lb_syntax.specs.Tree.{Expr, Exprs, Literal, Truth, Variable, Group, Unary, Binary, If}
+use Rattle.lb_syntax.specs.Tree.{Arrow, Fby, Pre, Current, When, Copies, Index, Slice, Join, Array}
+use Rattle.lb_syntax.specs.Tree.{AtMostOne, Nor, Call, Iterate, Nil, Cons}
 use Rattle.lb_syntax.specs.Levels.{Form, row_of, IsLeft, IsLast}
-use Rattle.lb_syntax.specs.Spelling.{◌▸◌, IsMark, IsName, IsList, IsStatic, AreArguments, iterator_name, MayBeCalled, IsApplied, IsForm, IsSpelled, AreSpelled, MayBeSpelled}
+use Rattle.lb_syntax.specs.Spelling.{◌▸◌, IsMark, IsName, IsList, IsStatic, AreArguments}
+use Rattle.lb_syntax.specs.Spelling.{iterator_name, MayBeCalled, IsApplied, IsForm, IsSpelled}
+use Rattle.lb_syntax.specs.Spelling.{AreSpelled, MayBeSpelled}
 use Rattle.lb_syntax.specs.Readers.{◌>>=◌, Reader, expect}
-use Rattle.lb_syntax.specs.Reading.{Stop, climb, form_at, joined, element_at, infix_at, longer, by_form, step, until, choice, prefixed, list_until, items, operands, iterate, static_call, named, marked, first, level_at, tree_at, expression_at}
+use Rattle.lb_syntax.specs.Reading.{Stop, climb, form_at, joined, element_at, infix_at, longer}
+use Rattle.lb_syntax.specs.Reading.{by_form, step, until, choice, prefixed, list_until, items}
+use Rattle.lb_syntax.specs.Reading.{operands, iterate, static_call, named, marked, first, level_at}
+use Rattle.lb_syntax.specs.Reading.{tree_at, expression_at}
 use Rattle.lb_syntax.proofs.Readers.{expect_same}
 use Rattle.lb_syntax.proofs.Steps.{takes-from, takes-not, iterator_reads, no_iterator_reads}
-use Rattle.lb_syntax.proofs.Lists.{Readable, list_reads, list_of, exprs_list, spelled_more, spelled_all}
+use Rattle.lb_syntax.proofs.Lists.{Readable, list_reads, list_of, exprs_list, spelled_more}
+use Rattle.lb_syntax.proofs.Lists.{spelled_all}
 use Rattle.lb_syntax.proofs.Rows.{is_row}
-use Rattle.lb_syntax.proofs.Ends.{form_level, next_level, IsClear, Ends, EndsStatic, expect_other, ends_mark, ends_close, ends_close_bracket, ends_comma, ends_then, ends_else, form_next, form_clear}
-pub use Rattle.lb_syntax.proofs.StaticComplete.{static_reads, statics_reads, size_reads, clock_reads, EndsStatics}
+use Rattle.lb_syntax.proofs.Ends.{form_level, next_level, IsClear, Ends, EndsStatic, expect_other}
+use Rattle.lb_syntax.proofs.Ends.{ends_mark, ends_close, ends_close_bracket, ends_comma, ends_then}
+use Rattle.lb_syntax.proofs.Ends.{ends_else, form_next, form_clear}
+pub use Rattle.lb_syntax.proofs.StaticComplete.{static_reads, statics_reads, size_reads}
+pub use Rattle.lb_syntax.proofs.StaticComplete.{clock_reads, EndsStatics}
 use Rattle.lb_syntax.proofs.StaticComplete.{len, bracketed_reads, applied_reads}
 use Rattle.lb_syntax.proofs.Places.{IsBelow, below_left, below_none, last_one, level_last}
-use Rattle.lb_syntax.proofs.Rooms.{depth, depth_all, depth_one, spine, room, expr_shorter, spine_room}
+use Rattle.lb_syntax.proofs.Rooms.{depth, depth_all, depth_one, spine, room, expr_shorter}
+use Rattle.lb_syntax.proofs.Rooms.{spine_room}
 
 abbrev Complete : ℕ → (ℕ → Reader Expr) → Type 0
 Complete n inner =
     (e : Expr) (least : ℕ) (ts rest : List Token) → depth e ≤ n → IsSpelled e ts rest →
     IsLast least e → IsBelow (next_level rest) e →
     next_level rest < least → IsClear rest → inner least ts ≡ Some (e, rest)
-
-Readables : ℕ → List Expr → Type 0
-Readables n = Readable (λ e. depth e ≤ n)
 
 module _ (n : ℕ) (inner : ℕ → Reader Expr) (complete : Complete n inner) where
   -- where every expression may stand, and nothing goes on with it

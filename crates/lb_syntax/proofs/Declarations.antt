@@ -1,18 +1,26 @@
 -- What is read of declarations is spelled, what is spelled is read.
-use Rattle.std.proofs.Common.{◌≡◌, ◌⊎◌, inl, inr, Bool, true, false, List, [], ◌∷◌, Option, Some, None, refl, ap, sym, ◌∙◌, subst, arith}
+use Rattle.std.proofs.Common.{◌≡◌, ◌⊎◌, inl, inr, Bool, true, false, List, [], ◌∷◌, Option, Some}
+use Rattle.std.proofs.Common.{None, refl, ap, sym, ◌∙◌, subst, arith}
 use Rattle.lb_syntax.specs.declared.token.Mark.{Mark}
 use Rattle.lb_syntax.specs.declared.token.Mark.TheVariants as m
 use Rattle.lb_syntax.specs.declared.token.Token.{Token}
 use Rattle.lb_syntax.specs.Levels.{arithmetic_of}
 use Rattle.lb_syntax.specs.Tree.{Name, Static, Kind, Int_kind, Bool_kind, Sampling, Declaration}
-use Rattle.lb_syntax.specs.Spelling.{Span, ◌▸◌, IsName, IsMark, IsList, IsStatic, IsClockName, IsClock}
-use Rattle.lb_syntax.specs.Grammar.{Group, MayBe, AreNames, IsKind, IsSampling, IsGroup, AreGroups, AreDeclared, AreInputs, IsClosedGroup, AreLocals, declared}
+use Rattle.lb_syntax.specs.Spelling.{Span, ◌▸◌, IsName, IsMark, IsList, IsStatic, IsClockName}
+use Rattle.lb_syntax.specs.Spelling.{IsClock}
+use Rattle.lb_syntax.specs.Grammar.{Group, MayBe, AreNames, IsKind, IsSampling, IsGroup, AreGroups}
+use Rattle.lb_syntax.specs.Grammar.{AreDeclared, AreInputs, IsClosedGroup, AreLocals, declared}
 use Rattle.lb_syntax.specs.Readers.{expect, name_at}
 use Rattle.lb_syntax.specs.Reading.{list_at, static_at, clock_at}
-use Rattle.lb_syntax.specs.ListReading.{at_name, skip, skip_by, at_next_group, at_next_local, any_at}
-use Rattle.lb_syntax.specs.Programs.{names_at, kind_by, kind_at, when_by, when_at, group_at, groups_at, inputs_by, inputs_at, closed_group_at, locals_by, locals_at}
+use Rattle.lb_syntax.specs.ListReading.{at_name, skip, skip_by, local_by, at_next_group}
+use Rattle.lb_syntax.specs.ListReading.{at_next_local, any_at}
+use Rattle.lb_syntax.specs.Programs.{names_at, kind_by, kind_at, when_by, when_at, group_at}
+use Rattle.lb_syntax.specs.Programs.{groups_at, inputs_by, inputs_at, closed_group_at, locals_by}
+use Rattle.lb_syntax.specs.Programs.{locals_at}
 use Rattle.lb_syntax.proofs.Readers.{some, bind_some, cond_some, expect_is, name_read}
-use Rattle.lb_syntax.proofs.Spans.{made_is, mark_reads, name_reads, Takes, takes_mark, takes_name, takes_nothing, takes_then, takes_either, takes_may, takes_tail, takes_list, takes_less, takes_any}
+use Rattle.lb_syntax.proofs.Spans.{made_is, mark_reads, name_reads, Takes, takes_mark, takes_name}
+use Rattle.lb_syntax.proofs.Spans.{takes_nothing, takes_then, takes_either, takes_may, takes_tail}
+use Rattle.lb_syntax.proofs.Spans.{takes_list, takes_less, takes_any}
 use Rattle.lb_syntax.proofs.ListLaws.{GoWith, any_read, list_read, any_reads, list_reads}
 use Rattle.lb_syntax.proofs.Sound.{static_read, clock_read}
 use Rattle.lb_syntax.proofs.Ends.{EndsStatic}
@@ -375,11 +383,17 @@ closed_reads g ts rest s =
     let b = mark_reads m.Semicolon s.0 rest s.2 in
     rw (a, b) refl
 
+local_is : (ts start : List Token) (o : Option (List Token)) → expect m.Var ts ≡ o →
+    local_by o ts ≡ Some start → MayBe (IsMark m.Var) ts start
+local_is ts start None is h = inl (at_name_is ts start h)
+local_is ts start (Some rest) is h = inr (expect_is m.Var ts start (is ∙ h))
+
 var_next : (ts start : List Token) → MayBe (IsMark m.Var) ts start → IsNamed start →
-    at_name (skip m.Var ts) ≡ Some start
-var_next ts start s is =
-    let a = skip_reads m.Var ts start s (named_no_mark m.Var start is) in
-    rw a (named_at start is)
+    local_by (expect m.Var ts) ts ≡ Some start
+var_next ts start (inl s) is =
+    let a = named_no_mark m.Var start is in
+    rw s (rw a (named_at start is))
+var_next ts start (inr s) is = let e = mark_reads m.Var ts start s in rw e refl
 
 takes_closed : (g : Group) → Takes 2 (IsClosedGroup g)
 takes_closed g = takes_then (takes_group g) (takes_mark m.Semicolon)
@@ -387,8 +401,7 @@ takes_closed g = takes_then (takes_group g) (takes_mark m.Semicolon)
 closed_laws : GoWith (MayBe (IsMark m.Var)) IsClosedGroup Anywhere at_next_local closed_group_at
 unfolding at_next_group at_next_local
 closed_laws = record {
-  next_is = λ ts start h.
-      subst (MayBe (IsMark m.Var) ts) (at_name_is (skip m.Var ts) start h) (skip_read m.Var ts);
+  next_is = λ ts start h. local_is ts start (expect m.Var ts) refl h;
   item_is = closed_read;
   goes_on = λ x ts start rest s i. var_next ts start s (group_begins x start i.0 i.1);
   closed = λ x ts start rest s i. tt;

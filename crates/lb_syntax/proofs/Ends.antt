@@ -1,5 +1,6 @@
 -- What may follow a tree, so that nothing goes on with it.
-use Rattle.std.proofs.Common.{◌≡◌, ℕ, Bool, true, false, List, [], ◌∷◌, Option, Some, None, inl, inr, refl, ap, sym, subst, ◌∙◌, rules}
+use Rattle.std.proofs.Common.{◌≡◌, ℕ, Bool, true, false, List, [], ◌∷◌, Option, Some, None, inl}
+use Rattle.std.proofs.Common.{inr, refl, ap, sym, subst, ◌∙◌, rules}
 use Rattle.std.specs.Prelude.{◌≢◌}
 use denote.Enum.Bare.{sameb, same_true}
 use Rattle.lb_syntax.specs.contracts.token.Mark.{the_type}

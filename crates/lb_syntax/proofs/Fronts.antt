@@ -37,6 +37,6 @@ tail_turn view separates item n front x rest next after p q =
     rw (p, q) (front_more view front x (tail_at separates item n after))
 
 -- a list after none
-pub front_none : {A : Type 0} (o : Option (List A × List Token)) → with_front [] o ≡ o
-front_none (Some r) = refl
-front_none None = refl
+pub nothing : {A : Type 0} (o : Option (List A × List Token)) → with_front [] o ≡ o
+nothing (Some r) = refl
+nothing None = refl

@@ -1,5 +1,8 @@
 -- The walk over the tokens finds where a limit is broken first.
-use Rattle.std.proofs.Common.{◌≡◌, ℕ, suc, ◌+◌, ◌<◌, ◌≤◌, Bool, true, false, not, ◌&&◌, List, [], ◌∷◌, length, take, drop, get_or, drop-cons, Option, Some, None, refl, ap, subst, sym, inl, inr, ◌∙◌, ◌↔◌, ◌⊎◌, zero-add, add-zero, add-one, add_assoc, arith, count_by, IsNone, IsTrue, IfSome, is_some, ◌||◌}
+use Rattle.std.proofs.Common.{◌≡◌, ℕ, suc, ◌+◌, ◌<◌, ◌≤◌, Bool, true, false, not, ◌&&◌, List, []}
+use Rattle.std.proofs.Common.{◌∷◌, length, take, drop, get_or, drop-cons, Option, Some, None, refl}
+use Rattle.std.proofs.Common.{ap, subst, sym, inl, inr, ◌∙◌, ◌↔◌, ◌⊎◌, zero-add, add-zero, add-one}
+use Rattle.std.proofs.Common.{add_assoc, arith, count_by, IsNone, IsTrue, IfSome, is_some, ◌||◌}
 use Rattle.std.specs.List.{list_all}
 use Rattle.std.specs.Option.{option_map}
 use Rattle.std.specs.Prelude.{nat_le}
@@ -11,13 +14,16 @@ use Rattle.lb_syntax.specs.declared.token.Mark.TheVariants as m
 use Rattle.lb_syntax.specs.declared.token.Token.{Token}
 use Rattle.lb_syntax.specs.declared.token.Token.TheVariants as token
 use Rattle.lb_syntax.specs.Levels.{form_of}
-use Rattle.lb_syntax.specs.Limits.{is_short_name, is_small_literal, is_separator, depth_after, is_counted, is_small_statement, in_first, runs, keeps_limits, IsFirstOver}
+use Rattle.lb_syntax.specs.Limits.{is_short_name, is_small_literal, is_separator, depth_after}
+use Rattle.lb_syntax.specs.Limits.{is_counted, is_small_statement, in_first, runs, keeps_limits}
+use Rattle.lb_syntax.specs.Limits.{IsFirstOver}
 use Rattle.lb_syntax.specs.Walk.{opens, weight_of, counted_after, here_or, over_from}
 
 -- ---- the marks that are counted
 
 -- those that open, and those that go on with an operand
-pub counted_mark : (mark : Mark) → is_counted (token.Mark mark) ≡ (opens mark || is_some (form_of mark))
+pub counted_mark : (mark : Mark)
+    → is_counted (token.Mark mark) ≡ (opens mark || is_some (form_of mark))
 counted_mark m.And = refl
 counted_mark _ = refl
 

@@ -1,8 +1,10 @@
 -- Lists: what is read is spelled, and what is spelled is read.
-use Rattle.std.proofs.Common.{◌≡◌, ℕ, suc, zero, ◌+◌, ◌≤◌, ◌<◌, List, [], ◌∷◌, length, Option, Some, None, refl, ap, sym, subst, ◌∙◌, arith}
+use Rattle.std.proofs.Common.{◌≡◌, ℕ, suc, zero, ◌+◌, ◌≤◌, ◌<◌, List, [], ◌∷◌, length, Option, Some}
+use Rattle.std.proofs.Common.{None, refl, ap, sym, subst, ◌∙◌, arith}
 use Rattle.lb_syntax.specs.declared.token.Mark.TheVariants as m
 use Rattle.lb_syntax.specs.declared.token.Token.{Token}
-use Rattle.lb_syntax.specs.Spelling.{Span, IsMark, IsTail, IsList, IsSpelled, AreSpelled, AreMore, MayBeSpelled}
+use Rattle.lb_syntax.specs.Spelling.{Span, IsMark, IsTail, IsList, IsSpelled, AreSpelled, AreMore}
+use Rattle.lb_syntax.specs.Spelling.{MayBeSpelled}
 use Rattle.lb_syntax.specs.Tree.{Expr, Exprs, Nil, Cons}
 use Rattle.lb_syntax.specs.Readers.{Reader}
 use Rattle.lb_syntax.specs.Reading.{next_item, tail_at, list_at, exprs}

@@ -1,5 +1,6 @@
 -- A name is text: its bytes are ASCII.
-use Rattle.std.proofs.Common.{◌≡◌, ◌<◌, ℕ, zero, suc, Bool, true, false, cond, List, [], ◌∷◌, ◌+◌, take, refl, subst, arith}
+use Rattle.std.proofs.Common.{◌≡◌, ◌<◌, ℕ, zero, suc, Bool, true, false, cond, List, [], ◌∷◌, ◌+◌}
+use Rattle.std.proofs.Common.{take, refl, subst, arith}
 use Rattle.std.specs.Prelude.{take_while}
 use Rattle.std.specs.List.{prefix_len}
 use Rattle.std.specs.Str.{IsAscii, IsUtf8}
@@ -19,9 +20,11 @@ none_ascii i = omega arith
 
 name_ascii : (bs : List ℕ) → IsAscii (take_while continues_name bs)
 name_ascii [] = none_ascii
-name_ascii (b ∷ bs) = by (continues_name b) (prefix_len continues_name bs) (name_ascii bs) (continues_ascii b)
+name_ascii (b ∷ bs) = by (continues_name b) (prefix_len continues_name bs) (name_ascii bs)
+    (continues_ascii b)
   where
-    by : (c : Bool) (n : ℕ) → IsAscii (take n bs) → (c ≡ true → b < 128) → IsAscii (take (cond c (1 + n) 0) (b ∷ bs))
+    by : (c : Bool) (n : ℕ) → IsAscii (take n bs) → (c ≡ true → b < 128)
+        → IsAscii (take (cond c (1 + n) 0) (b ∷ bs))
     by true n h lt =
         let e : suc n ≡ 1 + n = omega arith in
         subst (λ m. IsAscii (take m (b ∷ bs))) e (more_ascii b (take n bs) (lt refl) h)

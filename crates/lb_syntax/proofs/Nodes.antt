@@ -1,18 +1,29 @@
 -- What is read of a node is spelled, what is spelled is read.
-use Rattle.std.proofs.Common.{◌≡◌, ◌⊎◌, inl, inr, Bool, List, [], ◌∷◌, Option, Some, None, refl, ap, sym, ◌∙◌, arith}
+use Rattle.std.proofs.Common.{◌≡◌, ◌⊎◌, inl, inr, Bool, List, [], ◌∷◌, Option, Some, None, refl, ap}
+use Rattle.std.proofs.Common.{sym, ◌∙◌, arith}
 use Rattle.lb_syntax.specs.declared.token.Mark.TheVariants as m
 use Rattle.lb_syntax.specs.declared.token.Token.{Token}
 use Rattle.lb_syntax.specs.Tree.{Name, Expr, Declaration, Statement, Equation, Assertion, Node}
 use Rattle.lb_syntax.specs.Spelling.{Span, ◌▸◌, IsMark, IsSeparator, IsList, IsSpelled}
-use Rattle.lb_syntax.specs.Grammar.{Group, IsNothing, MayBe, AreLeft, AreLocals, IsParameter, AreParameters, IsStatement, IsEnd, IsBody, IsHeading, declared}
+use Rattle.lb_syntax.specs.Grammar.{Group, IsNothing, MayBe, AreLeft, AreLocals, IsParameter}
+use Rattle.lb_syntax.specs.Grammar.{AreParameters, IsStatement, IsEnd, IsBody, IsHeading, declared}
 use Rattle.lb_syntax.specs.Readers.{expect, name_at}
 use Rattle.lb_syntax.specs.Reading.{by_first, separator, list_at, expression_at}
 use Rattle.lb_syntax.specs.ListReading.{unless, skip, at_next_statement, any_at}
-use Rattle.lb_syntax.specs.Programs.{names_at, left_by, left_at, groups_at, inputs_at, locals_at, parameter_at, parameters_by, parameters_at, statement_by, statement_at, end_by, end_at, Heading, heading_at, body_at, node_of, node_at}
+use Rattle.lb_syntax.specs.Programs.{names_at, left_by, left_at, groups_at, inputs_at, locals_at}
+use Rattle.lb_syntax.specs.Programs.{parameter_at, parameters_by, parameters_at, statement_by}
+use Rattle.lb_syntax.specs.Programs.{statement_at, end_by, end_at, Heading, heading_at, body_at}
+use Rattle.lb_syntax.specs.Programs.{node_of, node_at}
 use Rattle.lb_syntax.proofs.Readers.{bind_some, some_is, expect_is, name_read}
-use Rattle.lb_syntax.proofs.Spans.{made_is, mark_reads, name_reads, Takes, takes_mark, takes_name, takes_nothing, takes_then, takes_either, takes_may, takes_separator, takes_tail, takes_list, takes_less, takes_any}
+use Rattle.lb_syntax.proofs.Spans.{made_is, mark_reads, name_reads, Takes, takes_mark, takes_name}
+use Rattle.lb_syntax.proofs.Spans.{takes_nothing, takes_then, takes_either, takes_may}
+use Rattle.lb_syntax.proofs.Spans.{takes_separator, takes_tail, takes_list, takes_less, takes_any}
 use Rattle.lb_syntax.proofs.ListLaws.{GoWith, any_read, list_read, any_reads, list_reads}
-use Rattle.lb_syntax.proofs.Declarations.{Anywhere, IsNamed, names_read, names_reads, takes_names, named_no_mark, skip_read, skip_reads, groups_read, groups_reads, inputs_read, inputs_reads, locals_read, locals_reads, takes_declared, takes_inputs, takes_locals, names_begin}
+use Rattle.lb_syntax.proofs.Declarations.{Anywhere, IsNamed, names_read, names_reads, takes_names}
+use Rattle.lb_syntax.proofs.Declarations.{named_no_mark, skip_read, skip_reads, groups_read}
+use Rattle.lb_syntax.proofs.Declarations.{groups_reads, inputs_read, inputs_reads, locals_read}
+use Rattle.lb_syntax.proofs.Declarations.{locals_reads, takes_declared, takes_inputs, takes_locals}
+use Rattle.lb_syntax.proofs.Declarations.{names_begin}
 use Rattle.lb_syntax.proofs.Sound.{expression_read}
 use Rattle.lb_syntax.proofs.Ends.{ends_mark, ends_semicolon}
 use Rattle.lb_syntax.proofs.Complete.{expression_reads}

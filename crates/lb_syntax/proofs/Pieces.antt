@@ -1,8 +1,11 @@
 -- The pieces of a text from a place on.
-use Rattle.std.proofs.Common.{◌≡◌, ℕ, zero, suc, ◌+◌, ◌-◌, ◌≤◌, ◌<◌, List, [], ◌∷◌, ◌++◌, length, length-append, drop, get_or, drop-cons, add-one, Option, Some, None, refl, ap, subst, sym, ◌∙◌, append_assoc, append-nil, arith}
+use Rattle.std.proofs.Common.{◌≡◌, ℕ, zero, suc, ◌+◌, ◌-◌, ◌≤◌, ◌<◌, List, [], ◌∷◌, ◌++◌, length}
+use Rattle.std.proofs.Common.{length-append, drop, get_or, drop-cons, add-one, Option, Some, None}
+use Rattle.std.proofs.Common.{refl, ap, subst, sym, ◌∙◌, append_assoc, append-nil, arith}
 use Rattle.std.specs.Option.{option_map}
 use Rattle.lb_syntax.specs.declared.token.Token.{Token}
-use Rattle.lb_syntax.specs.Tokens.{Text, tokens, Piece, Blank, Lexeme, Wrong, size, piece, pieces, pieces_after, tokens_of}
+use Rattle.lb_syntax.specs.Tokens.{Text, tokens, Piece, Blank, Lexeme, Wrong, size, piece, pieces}
+use Rattle.lb_syntax.specs.Tokens.{pieces_after, tokens_of}
 use Rattle.std.proofs.lemmas.List.{drop_all, drop-drop}
 use Rattle.std.proofs.lemmas.List.Elements.{All-nil, All-push, All-weaker}
 use Rattle.std.proofs.lemmas.List.Quantifiers.{all_pairs_push}

@@ -70,11 +70,10 @@ form_is_level f = let r =
 pub below_left : (f : Form) (e : Expr) (ts rest : List Token) → IsSpelled e ts rest →
     IsLeft (row_of f) e → IsBelow (row_of f).level e
 below_left f (Binary op a b) ts rest s is =
-    let lt = suits (row_of f) (row_of (form.Data op)) (is_row f) (is_row (form.Data op)) is.high in (
-      lt,
-      below_last (row_of (form.Data op)).right (row_of f).level b s.0.2.0 rest
-          (form_is_level f) s.0.2.2 s.2 lt is.clear,
-    )
+    let g = form.Data op in
+    let lt = suits (row_of f) (row_of g) (is_row f) (is_row g) is.high in
+    let last = form_is_level f in
+    (lt, below_last (row_of g).right (row_of f).level b s.0.2.0 rest last s.0.2.2 s.2 lt is.clear)
 below_left f (Arrow a b) ts rest s is =
     let lt = suits (row_of f) (row_of form.Arrow) (is_row f) (is_row form.Arrow) is.high in
     (lt, below_last 3 (row_of f).level b s.0.2.0 rest (form_is_level f) s.0.2.2 s.2 lt is.clear)

@@ -1,5 +1,6 @@
 -- What a reader that did not fail has read.
-use Rattle.std.proofs.Common.{◌≡◌, Bool, true, false, cond, List, [], ◌∷◌, Option, Some, None, refl, ap, rules}
+use Rattle.std.proofs.Common.{◌≡◌, Bool, true, false, cond, List, [], ◌∷◌, Option, Some, None, refl}
+use Rattle.std.proofs.Common.{ap, rules}
 use denote.Enum.Bare.{sameb, same_true, true_same}
 use Rattle.lb_syntax.specs.contracts.token.Mark.{the_type}
 use Rattle.lb_syntax.specs.declared.token.Mark.{Mark}
@@ -19,11 +20,13 @@ pub bind_some : {A B : Type 0} (o : Option A) (f : A → Option B) (y : B) →
 bind_some (Some x) f y e = (x, refl, e)
 bind_some None f y e = absurd cc
 
-pub cond_some : {A : Type 0} (b : Bool) (x y : A) → cond b (Some x) None ≡ Some y → (b ≡ true) × (x ≡ y)
+pub cond_some : {A : Type 0} (b : Bool) (x y : A) → cond b (Some x) None ≡ Some y
+    → (b ≡ true) × (x ≡ y)
 cond_some true x y h = (refl, cc)
 cond_some false x y h = absurd cc
 
-pub expect_is : (m : Mark) (ts rest : List Token) → expect m ts ≡ Some rest → ts ≡ token.Mark m ∷ rest
+pub expect_is : (m : Mark) (ts rest : List Token) → expect m ts ≡ Some rest
+    → ts ≡ token.Mark m ∷ rest
 unfolding expect
 expect_is m [] rest h = absurd cc
 expect_is m (token.Name x ∷ ts) rest h = absurd cc
@@ -38,7 +41,8 @@ pub expect_same : (k : Mark) (ts : List Token) → expect k (token.Mark k ∷ ts
 unfolding expect
 expect_same k ts = rw (true_same the_type k k refl) refl
 
-pub name_read : (ts : List Token) (r : Name × List Token) → name_at ts ≡ Some r → ts ≡ token.Name r.0 ∷ r.1
+pub name_read : (ts : List Token) (r : Name × List Token) → name_at ts ≡ Some r
+    → ts ≡ token.Name r.0 ∷ r.1
 unfolding name_at
 name_read (token.Name x ∷ ts) r h = ap (λ z. token.Name z.0 ∷ z.1) (some_is h)
 name_read _ r h = absurd cc

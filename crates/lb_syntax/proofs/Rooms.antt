@@ -1,11 +1,17 @@
 -- How much room an expression takes among the tokens.
-use Rattle.std.proofs.Common.{ℕ, suc, ◌+◌, ◌≤◌, ◌<◌, max, inl, inr, Bool, true, false, List, [], ◌∷◌, length, arith}
+use Rattle.std.proofs.Common.{ℕ, suc, ◌+◌, ◌≤◌, ◌<◌, max, inl, inr, Bool, true, false, List, []}
+use Rattle.std.proofs.Common.{◌∷◌, length, arith}
 use Rattle.lb_syntax.specs.declared.level.Form.TheVariants as form
 use Rattle.lb_syntax.specs.declared.token.Token.{Token}
-use Rattle.lb_syntax.specs.Tree.{Name, Or, Xor, And, Plus, Minus, Times, Not, Negate, Static, Whole, Named, Negated, Combined, Grouped, Operator, Node_named, Symbol}
-use Rattle.lb_syntax.specs.Tree.{Expr, Exprs, Literal, Truth, Variable, Group, Unary, Binary, If, Arrow, Fby, Pre, Current, When, Copies, Index, Slice, Join, Array, AtMostOne, Nor, Call, Iterate, Nil, Cons}
+use Rattle.lb_syntax.specs.Tree.{Name, Or, Xor, And, Plus, Minus, Times, Not, Negate, Static, Whole}
+use Rattle.lb_syntax.specs.Tree.{Named, Negated, Combined, Grouped, Operator, Node_named, Symbol}
+use Rattle.lb_syntax.specs.Tree.{Expr, Exprs, Literal, Truth, Variable, Group, Unary, Binary, If}
+use Rattle.lb_syntax.specs.Tree.{Arrow, Fby, Pre, Current, When, Copies, Index, Slice, Join, Array}
+use Rattle.lb_syntax.specs.Tree.{AtMostOne, Nor, Call, Iterate, Nil, Cons}
 use Rattle.lb_syntax.specs.Levels.{Form}
-use Rattle.lb_syntax.specs.Spelling.{IsSeparator, IsTail, IsStatic, AreArguments, IsSize, IsClockName, IsClock, IsOperator, IsForm, IsSpelled, AreSpelled, AreMore, MayBeSpelled}
+use Rattle.lb_syntax.specs.Spelling.{IsSeparator, IsTail, IsStatic, AreArguments, IsSize}
+use Rattle.lb_syntax.specs.Spelling.{IsClockName, IsClock, IsOperator, IsForm, IsSpelled}
+use Rattle.lb_syntax.specs.Spelling.{AreSpelled, AreMore, MayBeSpelled}
 use Rattle.lb_syntax.proofs.StaticComplete.{len, static_shorter, separator_room, Applied}
 
 -- how deep the reader goes for a tree
@@ -127,7 +133,8 @@ form_room : (f : Form) (ts rest : List Token) → IsForm f ts rest → length re
 form_room f ts rest is = omega (arith, len ts _ is.2)
 
 mutual
-  pub room : (e : Expr) (ts rest : List Token) → IsSpelled e ts rest → depth e + length rest ≤ length ts
+  pub room : (e : Expr) (ts rest : List Token) → IsSpelled e ts rest
+      → depth e + length rest ≤ length ts
   room (Literal n) ts rest s = omega (arith, len ts _ s)
   room (Truth true) ts rest s = omega (arith, len ts _ s)
   room (Truth false) ts rest s = omega (arith, len ts _ s)

@@ -2,7 +2,8 @@
 use Rattle.std.proofs.Common.{◌≡◌, ℕ, ◌≤◌, ◌<◌, arith}
 use Rattle.std.specs.Prelude.{◌≢◌}
 use Rattle.lb_syntax.specs.declared.level.Form.TheVariants as form
-use Rattle.lb_syntax.specs.Tree.{BinaryOperator, Or, Xor, And, Implies, Plus, Minus, Times, Divide, Modulo}
+use Rattle.lb_syntax.specs.Tree.{BinaryOperator, Or, Xor, And, Implies, Plus, Minus, Times, Divide}
+use Rattle.lb_syntax.specs.Tree.{Modulo}
 use Rattle.lb_syntax.specs.Levels.{Form, Row, to_left, to_right, to_none, row_of}
 
 -- Operands have the form's level at least; forms that group to the left and forms that group to the

@@ -1,5 +1,6 @@
 -- What is read of expressions is spelled.
-use Rattle.std.proofs.Common.{◌≡◌, ℕ, zero, suc, ◌≤◌, List, [], ◌∷◌, Option, Some, None, refl, ap, sym, subst, length, arith}
+use Rattle.std.proofs.Common.{◌≡◌, ℕ, zero, suc, ◌≤◌, List, [], ◌∷◌, Option, Some, None, refl, ap}
+use Rattle.std.proofs.Common.{sym, subst, length, arith}
 use Rattle.std.specs.Prelude.{◌≢◌}
 use Rattle.lb_syntax.specs.declared.level.Form.TheVariants as form
 use Rattle.lb_syntax.specs.declared.token.Mark.{Mark}
@@ -9,11 +10,18 @@ use Rattle.lb_syntax.specs.declared.token.Token.TheVariants as token
 use Rattle.lb_syntax.specs.Tree.{Name, ArrayIterator, Static}
 use Rattle.lb_syntax.specs.Tree.{Expr}
 use Rattle.lb_syntax.specs.Levels.{Form, row_of, IsLeft, IsLast}
-use Rattle.lb_syntax.specs.Spelling.{◌▸◌, IsMark, IsList, IsStatic, iterator_name, MayBeCalled, IsForm, IsSpelled, AreSpelled, MayBeSpelled}
+use Rattle.lb_syntax.specs.Spelling.{◌▸◌, IsMark, IsList, IsStatic, iterator_name, MayBeCalled}
+use Rattle.lb_syntax.specs.Spelling.{IsForm, IsSpelled, AreSpelled, MayBeSpelled}
 use Rattle.lb_syntax.specs.Readers.{Reader, expect}
-use Rattle.lb_syntax.specs.Reading.{More, list_at, static_at, statics_at, size_at, clock_at, iterator_of, applied_at, exprs, form_at, takes, joined, element_by, element_at, infix_at, longer, by_form, step, until, choice, list_until, items, operands_by, operands, plain_by, iterate, static_call, static_call_by, named_by, named, marked, first, level_at, tree_at, expression_at}
+use Rattle.lb_syntax.specs.Reading.{More, list_at, static_at, statics_at, size_at, clock_at}
+use Rattle.lb_syntax.specs.Reading.{iterator_of, applied_at, exprs, form_at, takes, joined}
+use Rattle.lb_syntax.specs.Reading.{element_by, element_at, infix_at, longer, by_form, step, until}
+use Rattle.lb_syntax.specs.Reading.{choice, list_until, items, operands_by, operands, plain_by}
+use Rattle.lb_syntax.specs.Reading.{iterate, static_call, static_call_by, named_by, named, marked}
+use Rattle.lb_syntax.specs.Reading.{first, level_at, tree_at, expression_at}
 use Rattle.lb_syntax.proofs.Readers.{some_is, bind_some, expect_is}
-use Rattle.lb_syntax.proofs.Steps.{grown_if, climb_keeps, takes-true, form_read, iterator_read, no_iterator_read}
+use Rattle.lb_syntax.proofs.Steps.{grown_if, climb_keeps, takes-true, form_read, iterator_read}
+use Rattle.lb_syntax.proofs.Steps.{no_iterator_read}
 use Rattle.lb_syntax.proofs.Lists.{list_read, all_spelled, may_be_spelled}
 pub use Rattle.lb_syntax.proofs.StaticSound.{static_read, statics_read, size_read, clock_read}
 use Rattle.lb_syntax.proofs.StaticSound.{data_right_small, brackets, applied_read}
@@ -243,8 +251,15 @@ module _ (inner : ℕ → Reader Expr) (sound : Sound inner) where
       let es = bind_some (items inner f.0.1) _ r f.2 in
       subst (Pair least (token.Name (iterator_name i) ∷ ts)) (some_is es.2)
       (record {
-        spelled =
-            (ts, refl, (f.0.1, applied_read ts next f.0 begins f.1, in_parentheses f.0.1 es.0 es.1));
+        spelled = (
+          ts,
+          refl,
+          (
+            f.0.1,
+            applied_read ts next f.0 begins f.1,
+            in_parentheses f.0.1 es.0 es.1,
+          ),
+        );
         last = le;
       })
 

@@ -1,16 +1,21 @@
 -- What is read of a program is spelled, what is spelled is read, and nothing else is.
-use Rattle.std.proofs.Common.{◌≡◌, ℕ, zero, suc, ◌≤◌, inl, inr, Bool, true, false, List, [], ◌∷◌, length, Option, Some, None, refl, ap, sym, ◌∙◌, subst, arith}
+use Rattle.std.proofs.Common.{◌≡◌, ℕ, zero, suc, ◌≤◌, inl, inr, Bool, true, false, List, [], ◌∷◌}
+use Rattle.std.proofs.Common.{length, Option, Some, None, refl, ap, sym, ◌∙◌, subst, arith}
 use Rattle.lb_syntax.specs.declared.token.Mark.TheVariants as m
 use Rattle.lb_syntax.specs.declared.token.Token.{Token}
 use Rattle.lb_syntax.specs.Tree.{Constant, Source}
 use Rattle.lb_syntax.specs.Spelling.{◌▸◌, IsMark}
-use Rattle.lb_syntax.specs.Grammar.{IsNothing, MayBe, AreAny, IsWord, IsConstant, Part, Constants, Single, IsPart, Spells}
+use Rattle.lb_syntax.specs.Grammar.{IsNothing, MayBe, AreAny, IsWord, IsConstant, Part, Constants}
+use Rattle.lb_syntax.specs.Grammar.{Single, IsPart, Spells}
 use Rattle.lb_syntax.specs.Readers.{expect, name_at}
 use Rattle.lb_syntax.specs.Reading.{static_at}
 use Rattle.lb_syntax.specs.ListReading.{at_name}
-use Rattle.lb_syntax.specs.Programs.{type_by, type_at, constant_at, constants_at, node_part, node_at, part_by, part_at, parts_at, source_at}
+use Rattle.lb_syntax.specs.Programs.{type_by, type_at, constant_at, constants_at, node_part}
+use Rattle.lb_syntax.specs.Programs.{node_at, part_by, part_at, parts_at, source_at}
 use Rattle.lb_syntax.proofs.Readers.{some, bind_some, some_is, expect_is, name_read}
-use Rattle.lb_syntax.proofs.Spans.{made_is, mark_reads, name_reads, Takes, takes_mark, takes_name, takes_nothing, takes_then, takes_may, takes_list, takes_less, takes_any}
+use Rattle.lb_syntax.proofs.Spans.{made_is, mark_reads, name_reads, Takes, takes_mark, takes_name}
+use Rattle.lb_syntax.proofs.Spans.{takes_nothing, takes_then, takes_may, takes_list, takes_less}
+use Rattle.lb_syntax.proofs.Spans.{takes_any}
 use Rattle.lb_syntax.proofs.ListLaws.{GoWith, list_read, list_reads}
 use Rattle.lb_syntax.proofs.Declarations.{mark_end, takes_static, Anywhere, named_at, at_name_is}
 use Rattle.lb_syntax.proofs.Nodes.{IsAfterNode, node_read, node_reads, takes_rest}

@@ -1,5 +1,6 @@
 -- Spans of tokens: how they are read, and that they take tokens away.
-use Rattle.std.proofs.Common.{◌≡◌, ℕ, ◌+◌, ◌≤◌, inl, inr, List, [], ◌∷◌, length, Some, refl, ap, sym, subst, arith}
+use Rattle.std.proofs.Common.{◌≡◌, ℕ, ◌+◌, ◌≤◌, inl, inr, List, [], ◌∷◌, length, Some, refl, ap}
+use Rattle.std.proofs.Common.{sym, subst, arith}
 use Rattle.lb_syntax.specs.declared.token.Mark.{Mark}
 use Rattle.lb_syntax.specs.declared.token.Token.{Token}
 use Rattle.lb_syntax.specs.Tree.{Name}

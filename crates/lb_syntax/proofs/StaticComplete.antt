@@ -1,19 +1,29 @@
 -- What is spelled of static expressions, clocks and static arguments is read.
-use Rattle.std.proofs.Common.{◌≡◌, ℕ, zero, suc, ◌+◌, ◌-◌, ◌≤◌, ◌<◌, max, inl, inr, Bool, true, false, List, [], ◌∷◌, length, Option, Some, None, refl, ap, sym, ◌∙◌, subst, arith}
+use Rattle.std.proofs.Common.{◌≡◌, ℕ, zero, suc, ◌+◌, ◌-◌, ◌≤◌, ◌<◌, max, inl, inr, Bool, true}
+use Rattle.std.proofs.Common.{false, List, [], ◌∷◌, length, Option, Some, None, refl, ap, sym, ◌∙◌}
+use Rattle.std.proofs.Common.{subst, arith}
 use Rattle.lb_syntax.specs.declared.level.Form.TheVariants as form
 use Rattle.lb_syntax.specs.declared.token.Mark.TheVariants as m
 use Rattle.lb_syntax.specs.declared.token.Token.{Token}
 use Rattle.lb_syntax.specs.declared.token.Token.TheVariants as token
-use Rattle.lb_syntax.specs.Tree.{Name, BinaryOperator, Or, Xor, And, Plus, Minus, Times, Static, Whole, Named, Negated, Combined, Grouped, Operator, Node_named, Symbol}
+use Rattle.lb_syntax.specs.Tree.{Name, BinaryOperator, Or, Xor, And, Plus, Minus, Times, Static}
+use Rattle.lb_syntax.specs.Tree.{Whole, Named, Negated, Combined, Grouped, Operator, Node_named}
+use Rattle.lb_syntax.specs.Tree.{Symbol}
 use Rattle.lb_syntax.specs.Levels.{row_of, static_level}
-use Rattle.lb_syntax.specs.Spelling.{◌▸◌, Span, IsMark, IsSeparator, IsArithmetic, IsStatic, AreStatics, AreArguments, IsSize, IsClockName, IsClock, IsOperator}
+use Rattle.lb_syntax.specs.Spelling.{◌▸◌, Span, IsMark, IsSeparator, IsArithmetic, IsStatic}
+use Rattle.lb_syntax.specs.Spelling.{AreStatics, AreArguments, IsSize, IsClockName, IsClock}
+use Rattle.lb_syntax.specs.Spelling.{IsOperator}
 use Rattle.lb_syntax.specs.Readers.{◌>>=◌, Reader, expect, name_at}
-use Rattle.lb_syntax.specs.Reading.{Stop, climb, separator, static_group, static_first, static_by, static_step, static_level_at, static_tree, static_at, statics_at, size_at, clock_name_at, clock_at, arguments_at, operator_at, applied_at, arithmetic_at}
+use Rattle.lb_syntax.specs.Reading.{Stop, climb, separator, static_group, static_first, static_by}
+use Rattle.lb_syntax.specs.Reading.{static_step, static_level_at, static_tree, static_at}
+use Rattle.lb_syntax.specs.Reading.{statics_at, size_at, clock_name_at, clock_at, arguments_at}
+use Rattle.lb_syntax.specs.Reading.{operator_at, applied_at, arithmetic_at}
 use Rattle.lb_syntax.proofs.Readers.{expect_same}
 use Rattle.lb_syntax.proofs.Steps.{static_takes-from, static_takes-not, separator_reads}
 use Rattle.lb_syntax.proofs.Lists.{Readable, list_reads}
 use Rattle.lb_syntax.proofs.Rows.{is_row, suits}
-use Rattle.lb_syntax.proofs.Ends.{arithmetic_level, static_next, EndsStatic, separator_ends, arithmetic_next}
+use Rattle.lb_syntax.proofs.Ends.{arithmetic_level, static_next, EndsStatic, separator_ends}
+use Rattle.lb_syntax.proofs.Ends.{arithmetic_next}
 
 pub len : (ts us : List Token) → ts ≡ us → length ts ≡ length us
 len ts us e = ap length e
@@ -114,17 +124,6 @@ StaticComplete n inner =
     (s : Static) (least : ℕ) (ts rest : List Token) → static_depth s ≤ n → IsStatic s ts rest →
     least ≤ static_level s →
     StaticBelow (static_next rest) s → static_next rest < least → inner least ts ≡ Some (s, rest)
-
-next_small : (rest : List Token) → static_next rest ≤ 11
-next_small rest = by_next rest
-  where
-    by_level : (o : Option BinaryOperator) → arithmetic_level o ≤ 11
-    by_level (Some op) = data_small op
-    by_level None = omega arith
-
-    by_next : (rest : List Token) → static_next rest ≤ 11
-    by_next [] = omega arith
-    by_next (t ∷ ts) = by_level (arithmetic_at t)
 
 module _ (n : ℕ) (inner : ℕ → Reader Static) (complete : StaticComplete n inner) where
   static_whole : (s : Static) (ts rest : List Token) → static_depth s ≤ n → IsStatic s ts rest →
@@ -237,7 +236,8 @@ pub record EndsStatics (rest : List Token) : Type 0 where
   pub none : EndsStatic rest
   pub last : separator rest ≡ None
 
-pub static_shorter : (s : Static) (ts rest : List Token) → IsStatic s ts rest → length rest < length ts
+pub static_shorter : (s : Static) (ts rest : List Token) → IsStatic s ts rest
+    → length rest < length ts
 static_shorter s ts rest is = omega (arith, static_room s ts rest is, static_depth_one s)
 
 pub separator_room : (ts rest : List Token) → IsSeparator ts rest → length rest < length ts

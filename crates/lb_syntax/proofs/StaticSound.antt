@@ -1,5 +1,6 @@
 -- What is read of static expressions, clocks and static arguments is spelled.
-use Rattle.std.proofs.Common.{◌≡◌, ℕ, zero, suc, ◌≤◌, Bool, inl, inr, List, [], ◌∷◌, Option, Some, None, refl, subst, length, arith}
+use Rattle.std.proofs.Common.{◌≡◌, ℕ, zero, suc, ◌≤◌, Bool, inl, inr, List, [], ◌∷◌, Option, Some}
+use Rattle.std.proofs.Common.{None, refl, subst, length, arith}
 use Rattle.lb_syntax.specs.declared.level.Form.TheVariants as form
 use Rattle.lb_syntax.specs.declared.token.Mark.{Mark}
 use Rattle.lb_syntax.specs.declared.token.Mark.TheVariants as m
@@ -7,11 +8,18 @@ use Rattle.lb_syntax.specs.declared.token.Token.{Token}
 use Rattle.lb_syntax.specs.declared.token.Token.TheVariants as token
 use Rattle.lb_syntax.specs.Tree.{Name, BinaryOperator, Or, Static, Operator}
 use Rattle.lb_syntax.specs.Levels.{row_of, static_level}
-use Rattle.lb_syntax.specs.Spelling.{IsMark, IsSeparator, IsStatic, AreStatics, AreArguments, IsSize, IsClockName, IsClock, IsSymbol, IsOperator, IsApplied}
+use Rattle.lb_syntax.specs.Spelling.{IsMark, IsSeparator, IsStatic, AreStatics, AreArguments}
+use Rattle.lb_syntax.specs.Spelling.{IsSize, IsClockName, IsClock, IsSymbol, IsOperator, IsApplied}
 use Rattle.lb_syntax.specs.Readers.{Reader, expect, name_at}
-use Rattle.lb_syntax.specs.Reading.{More, separator, static_takes, static_group, static_first, static_longer, static_by, static_step, static_level_at, static_tree, static_at, statics_at, size_at, clock_name_by, clock_name_at, clock_by, clock_at, symbol_of, arguments_by, arguments_at, symbol_by, operator_at, applied_at, arithmetic_at, longer}
+use Rattle.lb_syntax.specs.Reading.{More, separator, static_takes, static_group, static_first}
+use Rattle.lb_syntax.specs.Reading.{static_longer, static_by, static_step, static_level_at}
+use Rattle.lb_syntax.specs.Reading.{static_tree, static_at, statics_at, size_at, clock_name_by}
+use Rattle.lb_syntax.specs.Reading.{clock_name_at, clock_by, clock_at, symbol_of, arguments_by}
+use Rattle.lb_syntax.specs.Reading.{arguments_at, symbol_by, operator_at, applied_at, arithmetic_at}
+use Rattle.lb_syntax.specs.Reading.{longer}
 use Rattle.lb_syntax.proofs.Readers.{some_is, bind_some, expect_is, name_read}
-use Rattle.lb_syntax.proofs.Steps.{grown_if, climb_keeps, static_takes-true, arithmetic_read, separator_read}
+use Rattle.lb_syntax.proofs.Steps.{grown_if, climb_keeps, static_takes-true, arithmetic_read}
+use Rattle.lb_syntax.proofs.Steps.{separator_read}
 use Rattle.lb_syntax.proofs.Lists.{list_read}
 
 -- ---- static expressions

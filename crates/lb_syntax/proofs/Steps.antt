@@ -1,5 +1,6 @@
 -- Steps of a reading that did not fail.
-use Rattle.std.proofs.Common.{◌≡◌, ℕ, suc, zero, ◌≤◌, ◌<◌, Bool, true, false, cond, List, ◌∷◌, Option, Some, None, inl, inr, refl, ap, subst, ◌∙◌, arith}
+use Rattle.std.proofs.Common.{◌≡◌, ℕ, suc, zero, ◌≤◌, ◌<◌, Bool, true, false, cond, List, ◌∷◌}
+use Rattle.std.proofs.Common.{Option, Some, None, inl, inr, refl, ap, subst, ◌∙◌, arith}
 use Rattle.std.specs.Prelude.{◌≢◌, bytes_eq}
 use Rattle.std.proofs.lemmas.Bool.Decides.{nat_tests}
 use Rattle.std.proofs.lemmas.Slice.Eq.{bytes_eq-Decides}
@@ -10,7 +11,9 @@ use Rattle.lb_syntax.specs.Levels.{Row, Form, static_level, IsLeft}
 use Rattle.lb_syntax.specs.Spelling.{IsSeparator, IsForm, IsArithmetic, iterator_name}
 use Rattle.lb_syntax.specs.Tree.{Name, BinaryOperator, Static, Expr, ArrayIterator, Map, Red, Fill}
 use Rattle.lb_syntax.specs.Readers.{Reader, expect}
-use Rattle.lb_syntax.specs.Reading.{Step, Stop, More, Fault, grown, goes_on, climb, by_first, separator, static_takes, takes, arithmetic_at, form_at, iterator_of}
+use Rattle.lb_syntax.specs.Reading.{Step, Stop, More, Fault, grown, goes_on, climb, by_first}
+use Rattle.lb_syntax.specs.Reading.{separator, static_takes, takes, arithmetic_at, form_at}
+use Rattle.lb_syntax.specs.Reading.{iterator_of}
 use Rattle.lb_syntax.proofs.Readers.{some, some_is, expect_is, expect_same}
 
 -- ---- climbs

@@ -4,7 +4,10 @@ use mathlib.Core.Former.{Count}
 use Rattle.lb_syntax.specs.declared.tree.ArrayIterator.{ArrayIterator}
 use Rattle.lb_syntax.specs.declared.tree.Operator.{Operator}
 use Rattle.lb_syntax.specs.declared.tree.Static.{Static}
-use Rattle.lb_syntax.specs.declared.tree.Expr.{Expr, Array, Array', AtMostOne, AtMostOne', Nor, Nor', Call, Call', Iterate, Iterate', Row_of-Expr, end_of-Expr, more_of-Expr, items-the_row-Expr, items_hidden-the_row-Expr-0}
+use Rattle.lb_syntax.specs.declared.tree.Expr.{Expr, Array, Array', AtMostOne, AtMostOne', Nor}
+use Rattle.lb_syntax.specs.declared.tree.Expr.{Nor', Call, Call', Iterate, Iterate', Row_of-Expr}
+use Rattle.lb_syntax.specs.declared.tree.Expr.{end_of-Expr, more_of-Expr, items-the_row-Expr}
+use Rattle.lb_syntax.specs.declared.tree.Expr.{items_hidden-the_row-Expr-0}
 use Rattle.lb_syntax.specs.Tree as tree
 use Rattle.lb_syntax.specs.View.{view, view_row, view_static, view_statics, view_operator}
 use Rattle.lb_syntax.specs.Reading.{exprs}

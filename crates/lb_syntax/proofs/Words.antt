@@ -1,5 +1,7 @@
 -- Words that are looked up among those of their length, symbols, and the values of literals.
-use Rattle.std.proofs.Common.{◌≡◌, ℕ, ◌+◌, ◌-◌, ◌*◌, ◌<◌, ◌≤◌, min, ◌==◌, Bool, true, false, ◌&&◌, List, [], ◌∷◌, ◌++◌, filter, fold, length, take, get_or, slice_index, Option, Some, None, bytes_eq, refl, ap, sym, ◌∙◌, inl, inr, arith}
+use Rattle.std.proofs.Common.{◌≡◌, ℕ, ◌+◌, ◌-◌, ◌*◌, ◌<◌, ◌≤◌, min, ◌==◌, Bool, true, false, ◌&&◌}
+use Rattle.std.proofs.Common.{List, [], ◌∷◌, ◌++◌, filter, fold, length, take, get_or, slice_index}
+use Rattle.std.proofs.Common.{Option, Some, None, bytes_eq, refl, ap, sym, ◌∙◌, inl, inr, arith}
 use Rattle.std.specs.List.{list_all}
 use Rattle.std.proofs.lemmas.Bool.{eq-eqb, eqb-true, and_parts, cases_Bool, both_ways}
 use Rattle.std.proofs.lemmas.List.Sums.{fold_more}
@@ -7,7 +9,8 @@ use lib.Pointwise.{pointwise_long}
 use lib.Dec.{eqb}
 use Rattle.lb_syntax.specs.declared.token.Mark.{Mark}
 use Rattle.lb_syntax.specs.declared.token.Token.TheVariants as token
-use Rattle.lb_syntax.specs.Tokens.{Text, Piece, Lexeme, Wrong, words, lookup, word, word_by, value_of, pairs, singles, symbols, symbol_of}
+use Rattle.lb_syntax.specs.Tokens.{Text, Piece, Lexeme, Wrong, words, lookup, word, word_by}
+use Rattle.lb_syntax.specs.Tokens.{value_of, pairs, singles, symbols, symbol_of}
 
 lookup_of_length : (table : List (Text × Mark)) (text : Text) →
     lookup (filter (λ entry. length entry.0 == length text) table) text ≡ lookup table text
@@ -49,7 +52,8 @@ symbol_by_lookup : (n : ℕ) (table later : List (Text × Mark)) (text : Text) �
     symbol_of (table ++ later) text ≡ found_or n (lookup table (take n text)) (symbol_of later text)
 symbol_by_lookup n [] later text all = refl
 symbol_by_lookup n (entry ∷ table) later text all =
-    let long : length entry.0 ≡ n = eqb-true _ _ (and_parts (length entry.0 == n) (are_long n table) all).0 in
+    let long : length entry.0 ≡ n =
+    eqb-true _ _ (and_parts (length entry.0 == n) (are_long n table) all).0 in
     elim (cases_Bool (bytes_eq entry.0 (take n text))) [
       | inl same ↦ rw (long, same) refl
       | inr other ↦ rw (long, other)

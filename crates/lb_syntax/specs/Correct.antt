@@ -25,7 +25,8 @@ pub record IsOnlyProgram (s : tree.Source) (text : Text) : Type 0 where
   pub no_other_is_spelled : (other : tree.Source) → SpellsText other text → s ≡ other
   pub limits_hold : KeepsLimits text
 
--- refused as E2: all that is judged before holds, and the text spells no program
+-- refused as E2: all that is judged before holds, and the text spells no program; of the place,
+-- nothing is said
 pub record IsSyntaxFault (text : Text) : Type 0 where
   pub limits_hold : KeepsLimits text
   pub none_is_spelled : (s : tree.Source) → SpellsText s text → ⊥

@@ -1,11 +1,14 @@
 -- Which tokens spell a program, above its expressions.
 -- Source: the syntax of the Lustre V6 reference manual (constants, nodes and functions,
 -- declarations, equations and assertions, static parameters), narrowed to this project's profile.
-use Rattle.std.specs.Prelude.{◌≡◌, Bool, true, false, ◌⊎◌, List, [], ◌∷◌, ◌++◌, map, Option, Some, None}
+use Rattle.std.specs.Prelude.{◌≡◌, Bool, true, false, ◌⊎◌, List, [], ◌∷◌, ◌++◌, map, Option, Some}
+use Rattle.std.specs.Prelude.{None}
 use Rattle.lb_syntax.specs.declared.token.Mark.TheVariants as m
 use Rattle.lb_syntax.specs.declared.token.Token.{Token}
-use Rattle.lb_syntax.specs.Tree.{Name, Static, Kind, Int_kind, Bool_kind, Sampling, Declaration, Statement, Equation, Assertion, Node, Constant, Source}
-use Rattle.lb_syntax.specs.Spelling.{Span, ◌▸◌, IsName, IsMark, IsSeparator, IsTail, IsList, IsStatic, IsClock, IsSpelled}
+use Rattle.lb_syntax.specs.Tree.{Name, Static, Kind, Int_kind, Bool_kind, Sampling, Declaration}
+use Rattle.lb_syntax.specs.Tree.{Statement, Equation, Assertion, Node, Constant, Source}
+use Rattle.lb_syntax.specs.Spelling.{Span, ◌▸◌, IsName, IsMark, IsSeparator, IsTail, IsList}
+use Rattle.lb_syntax.specs.Spelling.{IsStatic, IsClock, IsSpelled}
 
 -- no tokens
 abbrev pub IsNothing : Span

@@ -7,8 +7,11 @@ use Rattle.lb_syntax.specs.declared.level.Form.TheVariants as form
 pub use Rattle.lb_syntax.specs.declared.level.Row.{Row}
 use Rattle.lb_syntax.specs.declared.token.Mark.{Mark}
 use Rattle.lb_syntax.specs.declared.token.Mark.TheVariants as m
-use Rattle.lb_syntax.specs.Tree.{BinaryOperator, Or, Xor, And, Implies, Equal, Unequal, Less, AtMost, Greater, AtLeast, Plus, Minus, Times, Divide, Modulo, UnaryOperator, Not, Negate, Static, Negated, Combined}
-use Rattle.lb_syntax.specs.Tree.{Expr, Unary, Binary, If, Arrow, Fby, Pre, Current, When, Copies, Index, Slice, Join}
+use Rattle.lb_syntax.specs.Tree.{BinaryOperator, Or, Xor, And, Implies, Equal, Unequal, Less}
+use Rattle.lb_syntax.specs.Tree.{AtMost, Greater, AtLeast, Plus, Minus, Times, Divide, Modulo}
+use Rattle.lb_syntax.specs.Tree.{UnaryOperator, Not, Negate, Static, Negated, Combined}
+use Rattle.lb_syntax.specs.Tree.{Expr, Unary, Binary, If, Arrow, Fby, Pre, Current, When, Copies}
+use Rattle.lb_syntax.specs.Tree.{Index, Slice, Join}
 
 -- ---- the table
 

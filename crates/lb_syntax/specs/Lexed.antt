@@ -1,5 +1,6 @@
 -- What the functions that cut a text into tokens ensure.
-use Rattle.std.specs.Prelude.{◌≡◌, ℕ, ◌<◌, ◌≤◌, All, AllPairs, Bool, not, length, Some, None, Result, Ok, Err}
+use Rattle.std.specs.Prelude.{◌≡◌, ℕ, ◌<◌, ◌≤◌, All, AllPairs, Bool, not, length, Some, None}
+use Rattle.std.specs.Prelude.{Result, Ok, Err}
 use Rattle.std.specs.Char.{is_ascii_digit}
 use Rattle.lb_syntax.specs.declared.lex.Class.{Class}
 use Rattle.lb_syntax.specs.declared.lex.Class.TheVariants as class
@@ -8,7 +9,8 @@ use Rattle.lb_syntax.specs.declared.lex.Front.TheVariants as front
 use Rattle.lb_syntax.specs.declared.lex.LexError.{LexError}
 use Rattle.lb_syntax.specs.declared.lex.LexError.TheVariants as error
 use Rattle.lb_syntax.specs.declared.lex.Tokens.{Tokens}
-use Rattle.lb_syntax.specs.Tokens.{Text, Piece, Blank, Lexeme, Wrong, is_newline, continues_name, tokens}
+use Rattle.lb_syntax.specs.Tokens.{Text, Piece, Blank, Lexeme, Wrong, is_newline, continues_name}
+use Rattle.lb_syntax.specs.Tokens.{tokens}
 use Rattle.lb_syntax.specs.Places.{starts, wrong_at}
 
 -- the text has these tokens, and each starts where it stands

@@ -1,7 +1,8 @@
 -- What comes next, and lists of any number of items.
 -- This file mirrors code (src/lookahead.rt, src/list.rt); no definition of the language stands on
 -- it.
-use Rattle.std.specs.Prelude.{Bool, false, true, if◌then◌else◌, List, ◌∷◌, length, Option, Some, None}
+use Rattle.std.specs.Prelude.{Bool, false, true, if◌then◌else◌, List, ◌∷◌, length, Option, Some}
+use Rattle.std.specs.Prelude.{None}
 use Rattle.lb_syntax.specs.declared.token.Mark.{Mark}
 use Rattle.lb_syntax.specs.declared.token.Mark.TheVariants as m
 use Rattle.lb_syntax.specs.declared.token.Token.{Token}
@@ -33,9 +34,13 @@ unless None ts = Some ts
 unfoldable pub at_next_group : List Token → Option (List Token)
 at_next_group ts = expect m.Semicolon ts >>= at_name
 
--- the tokens after nothing or `var`, if a name follows it
+abbrev pub local_by : Option (List Token) → List Token → Option (List Token)
+local_by (Some after) ts = Some after
+local_by None ts = at_name ts
+
+-- the tokens after `var`, or these if a name comes next
 unfoldable pub at_next_local : List Token → Option (List Token)
-at_next_local ts = at_name (skip m.Var ts)
+at_next_local ts = local_by (expect m.Var ts) ts
 
 -- these tokens, unless `tel` comes next
 unfoldable pub at_next_statement : List Token → Option (List Token)

@@ -1,6 +1,7 @@
 -- Words on lists and options that the definitions of all layers share.
 -- Source: this project's words.
-use Rattle.std.specs.Prelude.{◌≡◌, ℕ, zero, suc, ◌*◌, ◌/◌, Bool, true, false, Option, Some, None, option_map, List, [], ◌∷◌, ◌++◌, length, take, drop, ◌⊎◌}
+use Rattle.std.specs.Prelude.{◌≡◌, ℕ, zero, suc, ◌*◌, ◌/◌, Bool, true, false, Option, Some, None}
+use Rattle.std.specs.Prelude.{option_map, List, [], ◌∷◌, ◌++◌, length, take, drop, ◌⊎◌}
 
 -- each one of a list
 abbrev pub Every : {A : Type 0} → (A → Type 0) → List A → Type 0

@@ -1,14 +1,17 @@
 -- Reading a program from the front of the tokens, from left to right.
 -- This file mirrors code (src/declaration.rt, src/node.rt, src/program.rt); no definition of the
 -- language stands on it.
-use Rattle.std.specs.Prelude.{ℕ, zero, suc, Bool, false, true, List, [], ◌∷◌, length, Option, Some, None}
+use Rattle.std.specs.Prelude.{ℕ, zero, suc, Bool, false, true, List, [], ◌∷◌, length, Option, Some}
+use Rattle.std.specs.Prelude.{None}
 use Rattle.lb_syntax.specs.declared.token.Mark.TheVariants as m
 use Rattle.lb_syntax.specs.declared.token.Token.{Token}
 use Rattle.lb_syntax.specs.Grammar.{Group, declared, Part, Constants, Single, source_of}
-use Rattle.lb_syntax.specs.ListReading.{at_name, skip, at_next_group, at_next_local, at_next_statement, any_at}
+use Rattle.lb_syntax.specs.ListReading.{at_name, skip, at_next_group, at_next_local}
+use Rattle.lb_syntax.specs.ListReading.{at_next_statement, any_at}
 use Rattle.lb_syntax.specs.Readers.{◌>>=◌, Reader, expect, name_at}
 use Rattle.lb_syntax.specs.Reading.{separator, list_at, static_at, clock_at, expression_at}
-use Rattle.lb_syntax.specs.Tree.{Name, Kind, Int_kind, Bool_kind, Sampling, Statement, Equation, Assertion, Node, Constant, Source}
+use Rattle.lb_syntax.specs.Tree.{Name, Kind, Int_kind, Bool_kind, Sampling, Statement, Equation}
+use Rattle.lb_syntax.specs.Tree.{Assertion, Node, Constant, Source}
 
 -- ---- declarations
 
@@ -136,11 +139,9 @@ pub record Heading : Type 0 where
   pub inputs : List Group
   pub outputs : List Group
 
--- a heading from `returns` on, after its name, parameters and inputs
+-- a heading from its outputs on, after its name, parameters, inputs and `returns (`
 abbrev pub with_outputs : Name → List Name → List Group → Reader Heading
 with_outputs name parameters inputs ts = do
-  ts ← expect m.Returns ts
-  ts ← expect m.Open ts
   outputs ← groups_at ts
   rest ← expect m.Close outputs.1
   let h : Heading = record {
@@ -150,19 +151,21 @@ with_outputs name parameters inputs ts = do
     outputs = outputs.0;
   } in Some (h, rest)
 
--- a heading from its inputs on, after its name and parameters
+-- a heading from its inputs on, after its name, parameters and `(`
 abbrev pub with_inputs : Name → List Name → Reader Heading
 with_inputs name parameters ts = do
-  ts ← expect m.Open ts
   inputs ← inputs_at ts
   ts ← expect m.Close inputs.1
+  ts ← expect m.Returns ts
+  ts ← expect m.Open ts
   with_outputs name parameters inputs.0 ts
 
 unfoldable pub heading_at : Reader Heading
 heading_at ts = do
   name ← name_at ts
   parameters ← parameters_at name.1
-  with_inputs name.0 parameters.0 parameters.1
+  ts ← expect m.Open parameters.1
+  with_inputs name.0 parameters.0 ts
 
 -- the statements between `let` and `tel`, and the end
 unfoldable pub body_at : Reader (List Statement)

@@ -1,6 +1,7 @@
 -- Reading from the front of the tokens: words that the mirrors of the parser share.
 -- This file mirrors code (src/reader.rt); no definition of the language stands on it.
-use Rattle.std.specs.Prelude.{◌≡◌, Bool, false, if◌then◌else◌, List, [], ◌∷◌, Option, Some, None, Result, Ok, Err}
+use Rattle.std.specs.Prelude.{◌≡◌, Bool, false, if◌then◌else◌, List, [], ◌∷◌, Option, Some, None}
+use Rattle.std.specs.Prelude.{Result, Ok, Err}
 use denote.Enum.Bare.{sameb}
 use Rattle.lb_syntax.specs.contracts.token.Mark.{the_type}
 use Rattle.lb_syntax.specs.declared.reader.ReadError.{ReadError}
@@ -25,6 +26,12 @@ abbrev pub Gives : {X Y : Type 0} → (X → Y) → Result X ReadError → Optio
 Gives view (Ok x) read = read ≡ Some (view x)
 Gives view (Err e) read = Fails e read
 
+-- how a function went on with what was read, as its mirror does; what had failed has failed
+abbrev pub GoesOn : {X Y Z : Type 0} → (Z → Y) → Result X ReadError → (X → Option Y) →
+    Result Z ReadError → Type 0
+GoesOn view (Ok x) next result = Gives view result (next x)
+GoesOn view (Err e) next result = result ≡ Err e
+
 abbrev pub is_mark : Mark → Token → Bool
 is_mark m (token.Mark k) = sameb the_type k m
 is_mark m _ = false
@@ -33,6 +40,12 @@ is_mark m _ = false
 unfoldable pub expect : Mark → List Token → Option (List Token)
 expect m [] = None
 expect m (t ∷ ts) = if is_mark m t then Some ts else None
+
+-- a thing before this mark
+abbrev pub before : {A : Type 0} → Mark → A → Reader A
+before m x ts = do
+  rest ← expect m ts
+  Some (x, rest)
 
 -- a name
 unfoldable pub name_at : Reader Name

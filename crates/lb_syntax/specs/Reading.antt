@@ -1,15 +1,25 @@
 -- Reading expressions from the front of the tokens, from left to right.
 -- This file mirrors code (src/statics.rt, src/expression.rt); no definition of the language stands
 -- on it.
-use Rattle.std.specs.Prelude.{ℕ, zero, suc, Bool, true, false, ◌&&◌, if◌then◌else◌, nat_le, bytes_eq, List, [], ◌∷◌, ◌++◌, length, Option, Some, None}
+use Rattle.std.specs.Prelude.{ℕ, zero, suc, Bool, true, false, ◌&&◌, if◌then◌else◌, nat_le}
+use Rattle.std.specs.Prelude.{bytes_eq, List, [], ◌∷◌, ◌++◌, length, Option, Some, None}
+use Rattle.lb_syntax.specs.declared.expression.Listed.{Listed}
+use Rattle.lb_syntax.specs.declared.expression.Listed.TheVariants as many
+use Rattle.lb_syntax.specs.declared.expression.Single.{Single}
+use Rattle.lb_syntax.specs.declared.expression.Single.TheVariants as one
 use Rattle.lb_syntax.specs.declared.level.Form.TheVariants as form
 use Rattle.lb_syntax.specs.declared.token.Mark.{Mark}
 use Rattle.lb_syntax.specs.declared.token.Mark.TheVariants as m
 use Rattle.lb_syntax.specs.declared.token.Token.{Token}
 use Rattle.lb_syntax.specs.declared.token.Token.TheVariants as token
-use Rattle.lb_syntax.specs.Tree.{Name, BinaryOperator, Or, Xor, And, Plus, Minus, Times, Not, Negate, ArrayIterator, Map, Red, Fill, Static, Whole, Named, Negated, Combined, Grouped, Operator, Node_named, Symbol}
-use Rattle.lb_syntax.specs.Tree.{Expr, Exprs, Literal, Truth, Variable, Group, Unary, Binary, If, Arrow, Fby, Pre, Current, When, Copies, Index, Slice, Join, Array, AtMostOne, Nor, Call, Iterate, Nil, Cons}
-use Rattle.lb_syntax.specs.Levels.{Form, Row, row_of, choice_level, unary_level, memory_level, arithmetic_of, form_of, level, edge, static_level}
+use Rattle.lb_syntax.specs.Tree.{Name, BinaryOperator, Or, Xor, And, Plus, Minus, Times, Not}
+use Rattle.lb_syntax.specs.Tree.{Negate, ArrayIterator, Map, Red, Fill, Static, Whole, Named}
+use Rattle.lb_syntax.specs.Tree.{Negated, Combined, Grouped, Operator, Node_named, Symbol}
+use Rattle.lb_syntax.specs.Tree.{Expr, Exprs, Literal, Truth, Variable, Group, Unary, Binary, If}
+use Rattle.lb_syntax.specs.Tree.{Arrow, Fby, Pre, Current, When, Copies, Index, Slice, Join, Array}
+use Rattle.lb_syntax.specs.Tree.{AtMostOne, Nor, Call, Iterate, Nil, Cons}
+use Rattle.lb_syntax.specs.Levels.{Form, Row, row_of, choice_level, unary_level, memory_level}
+use Rattle.lb_syntax.specs.Levels.{arithmetic_of, form_of, level, edge, static_level}
 use Rattle.lb_syntax.specs.Spelling.{iterator_name}
 use Rattle.lb_syntax.specs.Readers.{◌>>=◌, Reader, expect, name_at}
 
@@ -252,6 +262,19 @@ joined (form.Data op) a b = Binary op a b
 joined form.Arrow a b = Arrow a b
 joined form.Fby a b = Fby a b
 joined _ a b = Join a b
+
+-- the tree of a form with one tree inside
+abbrev pub single : Single → Expr → Expr
+single one.Group e = Group e
+single (one.Unary op) e = Unary op e
+single one.Pre e = Pre e
+single one.Current e = Current e
+
+-- the tree of a form with a list inside
+abbrev pub listed : Listed → Exprs → Expr
+listed many.Array es = Array es
+listed many.AtMostOne es = AtMostOne es
+listed many.Nor es = Nor es
 
 -- inner reads a tree of at least a level, to one depth less
 module _ (inner : ℕ → Reader Expr) where

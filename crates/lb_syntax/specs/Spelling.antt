@@ -7,9 +7,14 @@ use Rattle.lb_syntax.specs.declared.token.Mark.{Mark}
 use Rattle.lb_syntax.specs.declared.token.Mark.TheVariants as m
 use Rattle.lb_syntax.specs.declared.token.Token.{Token}
 use Rattle.lb_syntax.specs.declared.token.Token.TheVariants as token
-use Rattle.lb_syntax.specs.Tree.{Name, BinaryOperator, Or, Xor, And, Plus, Minus, Times, Not, Negate, ArrayIterator, Map, Red, Fill, Static, Whole, Named, Negated, Combined, Grouped, Operator, Node_named, Symbol}
-use Rattle.lb_syntax.specs.Tree.{Expr, Exprs, Literal, Truth, Variable, Group, Unary, Binary, If, Arrow, Fby, Pre, Current, When, Copies, Index, Slice, Join, Array, AtMostOne, Nor, Call, Iterate, Nil, Cons}
-use Rattle.lb_syntax.specs.Levels.{Form, row_of, choice_level, unary_level, memory_level, arithmetic_of, form_of, IsLeft, IsLast, static_level}
+use Rattle.lb_syntax.specs.Tree.{Name, BinaryOperator, Or, Xor, And, Plus, Minus, Times, Not}
+use Rattle.lb_syntax.specs.Tree.{Negate, ArrayIterator, Map, Red, Fill, Static, Whole, Named}
+use Rattle.lb_syntax.specs.Tree.{Negated, Combined, Grouped, Operator, Node_named, Symbol}
+use Rattle.lb_syntax.specs.Tree.{Expr, Exprs, Literal, Truth, Variable, Group, Unary, Binary, If}
+use Rattle.lb_syntax.specs.Tree.{Arrow, Fby, Pre, Current, When, Copies, Index, Slice, Join, Array}
+use Rattle.lb_syntax.specs.Tree.{AtMostOne, Nor, Call, Iterate, Nil, Cons}
+use Rattle.lb_syntax.specs.Levels.{Form, row_of, choice_level, unary_level, memory_level}
+use Rattle.lb_syntax.specs.Levels.{arithmetic_of, form_of, IsLeft, IsLast, static_level}
 
 -- what the tokens are, from a place down to a later one
 abbrev pub Span : Type 1

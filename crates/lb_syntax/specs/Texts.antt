@@ -1,6 +1,7 @@
 -- Which texts are refused for their bytes and their size, before any tree is looked for, and where.
 -- Source: this project's rule.
-use Rattle.std.specs.Prelude.{◌≡◌, ℕ, ◌<◌, ◌≤◌, ◌⊎◌, List, length, slice_index, Some, None, Result, Ok, Err, IsTrue, IsFalse}
+use Rattle.std.specs.Prelude.{◌≡◌, ℕ, ◌<◌, ◌≤◌, ◌⊎◌, List, length, slice_index, Some, None, Result}
+use Rattle.std.specs.Prelude.{Ok, Err, IsTrue, IsFalse}
 use Rattle.lb_syntax.specs.declared.error.SyntaxError.{SyntaxError}
 use Rattle.lb_syntax.specs.declared.error.SyntaxError.TheVariants as error
 use Rattle.lb_syntax.specs.declared.lex.Tokens.{Tokens}

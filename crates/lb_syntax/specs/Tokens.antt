@@ -1,7 +1,9 @@
 -- The tokens of a text.
 -- Source: the lexical conventions of the Lustre V6 reference manual, narrowed to the words and
 -- symbols of this project's profile.
-use Rattle.std.specs.Prelude.{ℕ, zero, suc, ◌+◌, ◌-◌, ◌*◌, min, Bool, not, ◌||◌, if◌then◌else◌, ◌==◌, nat_eq, List, [], ◌∷◌, ◌++◌, drop, fold, length, slice_index, take_while, Option, Some, None, codes, bytes_eq}
+use Rattle.std.specs.Prelude.{ℕ, zero, suc, ◌+◌, ◌-◌, ◌*◌, min, Bool, not, ◌||◌, if◌then◌else◌}
+use Rattle.std.specs.Prelude.{◌==◌, nat_eq, List, [], ◌∷◌, ◌++◌, drop, fold, length, slice_index}
+use Rattle.std.specs.Prelude.{take_while, Option, Some, None, codes, bytes_eq}
 use Rattle.std.specs.Char.{is_ascii_digit, is_ascii_alphabetic, is_ascii_alphanumeric}
 use Rattle.std.specs.List.{prefix_len, starts_with}
 use Rattle.std.specs.Option.{option_map}

@@ -1,10 +1,15 @@
 -- The plain tree that a tree of the program stands for.
 use Rattle.std.specs.Prelude.{Bool, List, [], ◌∷◌, map, Box}
 use Rattle.std.specs.declared.alloc.Global.{Global}
-use Rattle.lb_syntax.specs.declared.tree.Static.{Static, Whole, Named, Negated', Combined', Grouped'}
+use Rattle.lb_syntax.specs.declared.tree.Static.{Static, Whole, Named, Negated', Combined'}
+use Rattle.lb_syntax.specs.declared.tree.Static.{Grouped'}
 use Rattle.lb_syntax.specs.declared.tree.Operator.{Operator}
 use Rattle.lb_syntax.specs.declared.tree.Operator.TheVariants.{Node, Symbol}
-use Rattle.lb_syntax.specs.declared.tree.Expr.{Expr, Literal, Truth, Variable, Group', Unary', Binary', If', Arrow', Fby', Pre', Current', When', Copies', Index', Slice', Join', Array', AtMostOne', Nor', Call', Iterate', Row_of-Expr, end_of-Expr, more_of-Expr}
+use Rattle.lb_syntax.specs.declared.tree.Expr.{Expr, Literal, Truth, Variable, Group', Unary'}
+use Rattle.lb_syntax.specs.declared.tree.Expr.{Binary', If', Arrow', Fby', Pre', Current', When'}
+use Rattle.lb_syntax.specs.declared.tree.Expr.{Copies', Index', Slice', Join', Array', AtMostOne'}
+use Rattle.lb_syntax.specs.declared.tree.Expr.{Nor', Call', Iterate', Row_of-Expr, end_of-Expr}
+use Rattle.lb_syntax.specs.declared.tree.Expr.{more_of-Expr}
 use Rattle.lb_syntax.specs.declared.tree.Sampling.{Sampling}
 use Rattle.lb_syntax.specs.Tree as tree
 

@@ -1,11 +1,13 @@
 -- Mirrors the code of `over_limit`: one walk over the tokens, with a depth and a count. The limits
 -- themselves are defined in Limits.
-use Rattle.std.specs.Prelude.{ℕ, suc, Bool, true, false, ◌+◌, ◌&&◌, if◌then◌else◌, nat_le, List, [], ◌∷◌, Option, Some, None}
+use Rattle.std.specs.Prelude.{ℕ, suc, Bool, true, false, ◌+◌, ◌&&◌, if◌then◌else◌, nat_le, List, []}
+use Rattle.std.specs.Prelude.{◌∷◌, Option, Some, None}
 use Rattle.std.specs.Option.{option_map}
 use Rattle.lb_syntax.specs.declared.token.Mark.{Mark}
 use Rattle.lb_syntax.specs.declared.token.Mark.TheVariants as m
 use Rattle.lb_syntax.specs.declared.token.Token.{Token}
-use Rattle.lb_syntax.specs.Limits.{is_short_name, is_small_literal, is_separator, depth_after, is_counted}
+use Rattle.lb_syntax.specs.Limits.{is_short_name, is_small_literal, is_separator, depth_after}
+use Rattle.lb_syntax.specs.Limits.{is_counted}
 
 -- a prefix operator, or a bracket that nests in front of an operand
 abbrev pub opens : Mark → Bool

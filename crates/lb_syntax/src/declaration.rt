@@ -117,8 +117,7 @@ fn sampling(alloc: Global, tokens: &[Token]) -> Result<(Option<Sampling>, &[Toke
 fn group(alloc: Global, tokens: &[Token]) -> Result<(Declarations, &[Token]), ReadError>
     ensures { Gives (λ x. (view_group x.0, x.1.now)) result (reading.group_at tokens.now) }
 {
-    let (names, rest) = names(alloc, tokens)?;
-    let (names, rest) = closed(names, Mark::Colon, rest)?;
+    let (names, rest) = closed(names(alloc, tokens), Mark::Colon)?;
     with_type(alloc, names, rest)
 }
 
@@ -215,13 +214,15 @@ impl Items for LocalItems {
 
     #[tactic(auto, unfolding(crate::specs::Programs::closed_group_at))]
     fn item<'t>(&self, tokens: &'t [Token]) -> Result<(Declarations, &'t [Token]), ReadError> {
-        let (found, rest) = group(self.alloc, tokens)?;
-        closed(found, Mark::Semicolon, rest)
+        closed(group(self.alloc, tokens), Mark::Semicolon)
     }
 
     #[tactic(auto, unfolding(crate::specs::ListReading::at_next_local))]
     fn separator<'t>(&self, tokens: &'t [Token]) -> Option<&'t [Token]> {
-        at_name(skip(Mark::Var, tokens))
+        match after(Mark::Var, tokens) {
+            Some(rest) => Some(rest),
+            None => at_name(tokens),
+        }
     }
 }
 

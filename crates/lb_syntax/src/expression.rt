@@ -7,12 +7,13 @@
 //!
 //! The functions hand on a `Box`, which keeps each level of nesting small on the stack.
 
-ghost use Rattle.std.specs.Prelude.{◌≡◌, ℕ, Option, List, Some, None, map, nat_le, ◌≤◌, IfNone, IfSome};
+ghost use Rattle.std.specs.Prelude.{◌≡◌, ℕ, Option, List, Some, None, map, nat_le, ◌≤◌, IfNone};
+ghost use Rattle.std.specs.Prelude.{IfSome};
 ghost use Rattle.lb_syntax.specs.Levels as levels;
 ghost use Rattle.lb_syntax.specs.Nests.{Nests};
 ghost use Rattle.lb_syntax.specs.Reading as reading;
 ghost use Rattle.lb_syntax.specs.Readers as readers;
-ghost use Rattle.lb_syntax.specs.Readers.{Gives};
+ghost use Rattle.lb_syntax.specs.Readers.{Gives, GoesOn};
 ghost use Rattle.lb_syntax.specs.Tree as tree;
 ghost use Rattle.lb_syntax.specs.View.{view, view_box, view_static, view_statics, view_operator};
 ghost use Rattle.lb_syntax.specs.declared.token.Mark.TheVariants as m;
@@ -27,7 +28,7 @@ use crate::reader::{ReadError, after, closed, expect};
 use crate::statics::{clock, separator, size, static_expression, statics};
 use crate::token::{Mark, Token};
 use crate::tree::{ArrayIterator, BinaryOperator, Expr, Name, Operator, Static, UnaryOperator};
-use std::alloc::Global;
+use std::alloc::{AllocError, Global};
 
 fn form_at(token: &Token) -> Option<Form>
     ensures { result ≡ reading.form_at token.now }
@@ -121,10 +122,7 @@ fn arguments(alloc: Global, tokens: &[Token]) -> Result<(Vec<Static>, &[Token]),
 {
     match after(Mark::OpenStatic, tokens) {
         None => Ok((Vec::new(alloc), tokens)),
-        Some(next) => {
-            let (found, rest) = statics(alloc, next)?;
-            closed(found, Mark::CloseStatic, rest)
-        }
+        Some(next) => closed(statics(alloc, next), Mark::CloseStatic),
     }
 }
 
@@ -167,8 +165,7 @@ fn applied(alloc: Global, tokens: &[Token]) -> Result<(Operator, Static, &[Token
 {
     let (f, rest) = operator(alloc, tokens)?;
     let rest = expect_separator(rest)?;
-    let (n, rest) = static_expression(alloc, rest)?;
-    let (n, rest) = closed(n, Mark::CloseStatic, rest)?;
+    let (n, rest) = closed(static_expression(alloc, rest), Mark::CloseStatic)?;
     Ok((f, n, rest))
 }
 
@@ -185,12 +182,11 @@ fn element(
     let (i, rest) = static_expression(alloc, tokens)?;
     match after(Mark::DotDot, rest) {
         None => {
-            let (i, rest) = closed(i, Mark::CloseBracket, rest)?;
+            let rest = expect(Mark::CloseBracket, rest)?;
             boxed_before(alloc, Expr::Index(e, i), rest)
         }
         Some(next) => {
-            let (j, rest) = static_expression(alloc, next)?;
-            let (j, rest) = closed(j, Mark::CloseBracket, rest)?;
+            let (j, rest) = closed(static_expression(alloc, next), Mark::CloseBracket)?;
             boxed_before(alloc, Expr::Slice(e, i, j), rest)
         }
     }
@@ -206,6 +202,67 @@ fn boxed_before<'t>(
         (Some (view e, rest.now)) }
 {
     Ok((Box::new(alloc, e)?, rest))
+}
+
+/// A form that begins with a mark and has one tree inside.
+#[derive(Clone, Copy)]
+enum Single {
+    /// `(e)`
+    Group,
+    /// `not a`, `- a`
+    Unary(UnaryOperator),
+    /// `pre a`
+    Pre,
+    /// `current a`
+    Current,
+}
+
+/// A form that begins with a mark and has a list of trees inside.
+#[derive(Clone, Copy)]
+enum Listed {
+    /// `[a, b]`
+    Array,
+    /// `#(a, b)`
+    AtMostOne,
+    /// `nor(a, b)`
+    Nor,
+}
+
+/// The tree of a form and of what was read inside, and the tokens after it.
+fn with_one<'t>(
+    alloc: Global,
+    form: Single,
+    read: Result<(Box<Expr>, &'t [Token]), ReadError>,
+) -> Result<(Box<Expr>, &'t [Token]), ReadError>
+    ensures { GoesOn {Y = tree.Expr × List AToken} (λ y. (view_box y.0, y.1.now)) read.entry
+        (λ x. Some (reading.single form (view_box x.0), x.1.now)) result }
+{
+    let (e, rest) = read?;
+    let tree = match form {
+        Single::Group => Expr::Group(e),
+        Single::Unary(op) => Expr::Unary(op, e),
+        Single::Pre => Expr::Pre(e),
+        Single::Current => Expr::Current(e),
+    };
+    boxed_before(alloc, tree, rest)
+}
+
+/// The tree of a form and of the list that was read inside, and the tokens after it.
+#[tactic(auto, using(crate::proofs::Views::lists))]
+fn with_list<'t>(
+    alloc: Global,
+    form: Listed,
+    read: Result<(Vec<Expr>, &'t [Token]), ReadError>,
+) -> Result<(Box<Expr>, &'t [Token]), ReadError>
+    ensures { GoesOn {Y = tree.Expr × List AToken} (λ y. (view_box y.0, y.1.now)) read.entry
+        (λ x. Some (reading.listed form (reading.exprs (map view x.0.items)), x.1.now)) result }
+{
+    let (es, rest) = read?;
+    match form {
+        Listed::Array => boxed_before(alloc, Expr::Array(es), rest),
+        Listed::AtMostOne => boxed_before(alloc, Expr::AtMostOne(es), rest),
+        Listed::Nor => boxed_before(alloc, Expr::Nor(es), rest),
+    }
 }
 
 /// The tree of an infix form and its two operands, and the tokens after it.
@@ -271,12 +328,18 @@ fn iterate<'t>(
 
 /// The reader of what stands inside an expression, to one depth less, is handed in, so that each
 /// function is proved by itself.
-#[derive(Clone, Copy)]
+#[derive(Copy)]
 pub struct Grammar<F> {
     alloc: Global,
     /// How deep trees may still nest.
     depth: usize,
     inner: F,
+}
+
+impl<F: Copy> Clone for Grammar<F> {
+    fn clone(&self) -> Result<Grammar<F>, AllocError> {
+        Ok(*self)
+    }
 }
 
 impl<F: Fn(Global, usize, u8, &[Token]) -> Result<(Box<Expr>, &[Token]), ReadError>> Grammar<F> {
@@ -318,52 +381,42 @@ impl<F: Fn(Global, usize, u8, &[Token]) -> Result<(Box<Expr>, &[Token]), ReadErr
         match token {
             Token::Literal(n) => boxed_before(self.alloc, Expr::Literal(*n), rest),
             Token::Name(x) => self.named(x.copy(self.alloc)?, rest),
-            Token::Mark(mark) => self.marked(*mark, rest),
+            Token::Mark(mark) => self.marked(*mark, tokens.len(), rest),
         }
     }
 
-    /// What a mark begins.
-    #[tactic(auto, using(crate::proofs::Views::lists), unfolding(crate::specs::Reading::marked))]
+    /// What a mark begins. From the mark on, `left` tokens are left.
+    #[tactic(auto, unfolding(crate::specs::Reading::marked))]
     fn marked<'t>(
         &self,
         mark: Mark,
+        left: usize,
         tokens: &'t [Token],
     ) -> Result<(Box<Expr>, &'t [Token]), ReadError>
         requires { Nests self.now.depth (F.pre self.now.inner) (F.post self.now.inner) }
         ensures { Gives (λ x. (view_box x.0, x.1.now)) result
             (reading.marked (reading.tree_at self.now.depth) mark tokens.now) }
     {
+        let alloc = self.alloc;
         match mark {
-            Mark::True => boxed_before(self.alloc, Expr::Truth(true), tokens),
-            Mark::False => boxed_before(self.alloc, Expr::Truth(false), tokens),
-            Mark::Open => {
-                let (e, rest) = self.until(Mark::Close, tokens)?;
-                boxed_before(self.alloc, Expr::Group(e), rest)
-            }
+            Mark::True => boxed_before(alloc, Expr::Truth(true), tokens),
+            Mark::False => boxed_before(alloc, Expr::Truth(false), tokens),
+            Mark::Open => with_one(alloc, Single::Group, self.until(Mark::Close, tokens)),
             Mark::Not => self.unary(UnaryOperator::Not, tokens),
             Mark::Minus => self.unary(UnaryOperator::Negate, tokens),
-            Mark::Pre => {
-                let (a, rest) = self.inner(MEMORY_LEVEL, tokens)?;
-                boxed_before(self.alloc, Expr::Pre(a), rest)
-            }
-            Mark::Current => {
-                let (a, rest) = self.inner(MEMORY_LEVEL, tokens)?;
-                boxed_before(self.alloc, Expr::Current(a), rest)
-            }
+            Mark::Pre => with_one(alloc, Single::Pre, self.inner(MEMORY_LEVEL, tokens)),
+            Mark::Current => with_one(alloc, Single::Current, self.inner(MEMORY_LEVEL, tokens)),
             Mark::If => self.choice(tokens),
             Mark::OpenBracket => {
-                let (es, rest) = self.list_until(Mark::CloseBracket, tokens)?;
-                boxed_before(self.alloc, Expr::Array(es), rest)
+                with_list(
+                    alloc,
+                    Listed::Array,
+                    self.list_until(Mark::CloseBracket, tokens),
+                )
             }
-            Mark::Hash => {
-                let (es, rest) = self.items(tokens)?;
-                boxed_before(self.alloc, Expr::AtMostOne(es), rest)
-            }
-            Mark::Nor => {
-                let (es, rest) = self.items(tokens)?;
-                boxed_before(self.alloc, Expr::Nor(es), rest)
-            }
-            _ => Err(ReadError::Syntax(tokens.len())),
+            Mark::Hash => with_list(alloc, Listed::AtMostOne, self.items(tokens)),
+            Mark::Nor => with_list(alloc, Listed::Nor, self.items(tokens)),
+            _ => Err(ReadError::Syntax(left)),
         }
     }
 
@@ -377,8 +430,11 @@ impl<F: Fn(Global, usize, u8, &[Token]) -> Result<(Box<Expr>, &[Token]), ReadErr
             (reading.prefixed (reading.tree_at self.now.depth) (tree.Unary op)
             (levels.unary_level op) tokens.now) }
     {
-        let (a, rest) = self.inner(unary_level(op), tokens)?;
-        boxed_before(self.alloc, Expr::Unary(op, a), rest)
+        with_one(
+            self.alloc,
+            Single::Unary(op),
+            self.inner(unary_level(op), tokens),
+        )
     }
 
     /// Any expression, and then a mark.
@@ -392,8 +448,7 @@ impl<F: Fn(Global, usize, u8, &[Token]) -> Result<(Box<Expr>, &[Token]), ReadErr
         ensures { Gives (λ x. (view_box x.0, x.1.now)) result
             (reading.until (reading.tree_at self.now.depth) mark tokens.now) }
     {
-        let (e, rest) = self.inner(ANY_LEVEL, tokens)?;
-        closed(e, mark, rest)
+        closed(self.inner(ANY_LEVEL, tokens), mark)
     }
 
     #[tactic(auto, unfolding(crate::specs::Reading::choice))]
@@ -476,9 +531,8 @@ impl<F: Fn(Global, usize, u8, &[Token]) -> Result<(Box<Expr>, &[Token]), ReadErr
         ensures { Gives (λ x. (view_box x.0, x.1.now)) result
             (reading.static_call (reading.tree_at self.now.depth) name tokens.now) }
     {
-        let (found, rest) = statics(self.alloc, tokens)?;
-        let (found, rest) = closed(found, Mark::CloseStatic, rest)?;
-        let (found, rest) = closed(found, Mark::Open, rest)?;
+        let found = closed(statics(self.alloc, tokens), Mark::CloseStatic);
+        let (found, rest) = closed(found, Mark::Open)?;
         let (es, rest) = self.operands(rest)?;
         call(self.alloc, name, found, es, rest)
     }
@@ -518,8 +572,7 @@ impl<F: Fn(Global, usize, u8, &[Token]) -> Result<(Box<Expr>, &[Token]), ReadErr
         ensures { Gives (λ x. (map view x.0.items, x.1.now)) result
             (reading.list_until (reading.tree_at self.now.depth) mark tokens.now) }
     {
-        let (es, rest) = list(self.alloc, self, tokens)?;
-        closed(es, mark, rest)
+        closed(list(self.alloc, self, tokens), mark)
     }
 
     /// The tree that a form makes of its left operand and what follows its mark.

@@ -6,7 +6,8 @@
 //! tables of the definition.
 
 ghost use Rattle.std.specs.Str.{IsUtf8};
-ghost use Rattle.std.specs.Prelude.{◌≡◌, ◌<◌, ◌≤◌, ◌≢◌, ◌+◌, ◌^◌, ◌==◌, [], ◌∷◌, length, map, filter, slice_index, take_while, IfSome, IfOk, true, drop};
+ghost use Rattle.std.specs.Prelude.{◌≡◌, ◌<◌, ◌≤◌, ◌≢◌, ◌+◌, ◌^◌, ◌==◌, [], ◌∷◌, length, map};
+ghost use Rattle.std.specs.Prelude.{filter, slice_index, take_while, IfSome, IfOk, true, drop};
 ghost use Rattle.lb_syntax.specs.Tokens as spec;
 ghost use Rattle.lb_syntax.specs.Lexed.{passes, piece_of, IsWithin, Lexes};
 

@@ -59,7 +59,9 @@ pub fn list<'t, I: Items>(
     tail(items, found, rest)
 }
 
-/// The items of a list with what follows them.
+/// The items of a list with what follows them. It stays out of line, so that its values take no
+/// stack while the first item is read.
+#[inline(never)]
 fn tail<'t, I: Items>(
     items: &I,
     front: Vec<I::Item>,
@@ -86,7 +88,7 @@ fn tail<'t, I: Items>(
 }
 
 /// Any number of items, each after a separator, and the tokens after them.
-#[tactic(auto, unfolding(crate::specs::ListReading::any_at), using(crate::proofs::Fronts::front_none))]
+#[tactic(auto, unfolding(crate::specs::ListReading::any_at), using(crate::proofs::Fronts::nothing))]
 pub fn any<'t, I: Items>(
     alloc: Global,
     items: &I,

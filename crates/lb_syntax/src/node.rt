@@ -23,9 +23,7 @@ fn parameter(alloc: Global, tokens: &[Token]) -> Result<(Name, &[Token]), ReadEr
     ensures { Gives (λ x. (x.0, x.1.now)) result (reading.parameter_at tokens.now) }
 {
     let rest = expect(Mark::Const, tokens)?;
-    let (name, rest) = name_at(alloc, rest)?;
-    let (name, rest) = closed(name, Mark::Colon, rest)?;
-    closed(name, Mark::Int, rest)
+    closed(closed(name_at(alloc, rest), Mark::Colon), Mark::Int)
 }
 
 /// A reader of static parameters with `,` or `;` between.
@@ -63,10 +61,10 @@ fn parameters(alloc: Global, tokens: &[Token]) -> Result<(Vec<Name>, &[Token]), 
 {
     match after(Mark::OpenStatic, tokens) {
         None => Ok((Vec::new(alloc), tokens)),
-        Some(inner) => {
-            let (names, rest) = list(alloc, &ParameterItems { alloc }, inner)?;
-            closed(names, Mark::CloseStatic, rest)
-        }
+        Some(inner) => closed(
+            list(alloc, &ParameterItems { alloc }, inner),
+            Mark::CloseStatic,
+        ),
     }
 }
 
@@ -85,11 +83,11 @@ fn heading_at(alloc: Global, tokens: &[Token]) -> Result<(Heading, &[Token]), Re
     ensures { Gives (λ x. (view_heading x.0, x.1.now)) result (reading.heading_at tokens.now) }
 {
     let (name, rest) = name_at(alloc, tokens)?;
-    let (parameters, rest) = parameters(alloc, rest)?;
+    let (parameters, rest) = closed(parameters(alloc, rest), Mark::Open)?;
     with_inputs(alloc, name, parameters, rest)
 }
 
-/// The rest of a heading, from its inputs on.
+/// The rest of a heading, from its inputs on, after the `(`.
 fn with_inputs(
     alloc: Global,
     name: Name,
@@ -99,13 +97,12 @@ fn with_inputs(
     ensures { Gives (λ x. (view_heading x.0, x.1.now)) result
         (reading.with_inputs name parameters.items tokens.now) }
 {
-    let rest = expect(Mark::Open, tokens)?;
-    let (inputs, rest) = inputs(alloc, rest)?;
-    let (inputs, rest) = closed(inputs, Mark::Close, rest)?;
+    let read = closed(inputs(alloc, tokens), Mark::Close);
+    let (inputs, rest) = closed(closed(read, Mark::Returns), Mark::Open)?;
     with_outputs(alloc, name, parameters, inputs, rest)
 }
 
-/// The rest of a heading, from the word `returns` on.
+/// The rest of a heading, from its outputs on, after `returns (`.
 fn with_outputs(
     alloc: Global,
     name: Name,
@@ -116,16 +113,16 @@ fn with_outputs(
     ensures { Gives (λ x. (view_heading x.0, x.1.now)) result
         (reading.with_outputs name parameters.items (view_groups inputs.items) tokens.now) }
 {
-    let rest = expect(Mark::Returns, tokens)?;
-    let rest = expect(Mark::Open, rest)?;
-    let (outputs, rest) = groups(alloc, rest)?;
-    let heading = Heading {
-        name,
-        parameters,
-        inputs,
-        outputs,
-    };
-    closed(heading, Mark::Close, rest)
+    let (outputs, rest) = closed(groups(alloc, tokens), Mark::Close)?;
+    Ok((
+        Heading {
+            name,
+            parameters,
+            inputs,
+            outputs,
+        },
+        rest,
+    ))
 }
 
 /// A node after the word `node`, or a function after the word `function`.

@@ -47,8 +47,8 @@ fn with_value(
         (reading.with_value name tokens.now) }
 {
     let rest = expect(Mark::Equal, tokens)?;
-    let (value, rest) = static_expression(alloc, rest)?;
-    closed(Constant { name, value }, Mark::Semicolon, rest)
+    let (value, rest) = closed(static_expression(alloc, rest), Mark::Semicolon)?;
+    Ok((Constant { name, value }, rest))
 }
 
 /// A reader of constants, one after the other.

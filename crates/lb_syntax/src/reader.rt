@@ -1,8 +1,8 @@
 //! Reading from the front of a slice of tokens: what all parts of the parser share.
 
-ghost use Rattle.std.specs.Prelude.{◌≡◌, Some, None, IfNone, IfSome, IfOk};
+ghost use Rattle.std.specs.Prelude.{◌≡◌, Some, None, IfNone, IfSome};
 ghost use Rattle.lb_syntax.specs.Readers as reading;
-ghost use Rattle.lb_syntax.specs.Readers.{Gives};
+ghost use Rattle.lb_syntax.specs.Readers.{Gives, GoesOn};
 
 use crate::token::{Mark, Token};
 use crate::tree::Name;
@@ -72,16 +72,18 @@ pub fn expect(mark: Mark, tokens: &[Token]) -> Result<&[Token], ReadError>
 }
 
 /// A thing that was read, where this mark comes next, and the tokens after the mark.
+///
+/// Errors: the one that was met when it was read, and `Syntax` where the mark does not come next.
 pub fn closed<'t, T: Drop>(
-    read: T,
+    read: Result<(T, &'t [Token]), ReadError>,
     mark: Mark,
-    tokens: &'t [Token],
 ) -> Result<(T, &'t [Token]), ReadError>
-    ensures after { Gives (λ x. x.1.now) result (reading.expect mark tokens.now) }
-    ensures same { IfOk result (λ x. x.0 ≡ read) }
+    ensures { GoesOn (λ y. (y.0, y.1.now)) read.entry
+        (λ x. reading.before mark x.0 x.1.now) result }
 {
-    let rest = expect(mark, tokens)?;
-    Ok((read, rest))
+    let (found, rest) = read?;
+    let rest = expect(mark, rest)?;
+    Ok((found, rest))
 }
 
 /// A name, and the tokens after it.

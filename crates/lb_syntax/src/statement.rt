@@ -23,10 +23,7 @@ fn left(alloc: Global, tokens: &[Token]) -> Result<(Vec<Name>, &[Token]), ReadEr
 {
     match after(Mark::Open, tokens) {
         None => names(alloc, tokens),
-        Some(inner) => {
-            let (names, rest) = names(alloc, inner)?;
-            closed(names, Mark::Close, rest)
-        }
+        Some(inner) => closed(names(alloc, inner), Mark::Close),
     }
 }
 
@@ -35,8 +32,8 @@ fn assertion(alloc: Global, tokens: &[Token]) -> Result<(Statement, &[Token]), R
     ensures { Gives (λ x. (view_statement x.0, x.1.now)) result
         (reading.statement_by (Some tokens.now) tokens.now) }
 {
-    let (e, rest) = expression(alloc, tokens)?;
-    closed(Statement::Assertion(e), Mark::Semicolon, rest)
+    let (e, rest) = closed(expression(alloc, tokens), Mark::Semicolon)?;
+    Ok((Statement::Assertion(e), rest))
 }
 
 /// An equation.
@@ -44,10 +41,9 @@ fn equation(alloc: Global, tokens: &[Token]) -> Result<(Statement, &[Token]), Re
     ensures { Gives (λ x. (view_statement x.0, x.1.now)) result
         (reading.statement_by None tokens.now) }
 {
-    let (names, rest) = left(alloc, tokens)?;
-    let (names, rest) = closed(names, Mark::Equal, rest)?;
-    let (e, rest) = expression(alloc, rest)?;
-    closed(Statement::Equation(names, e), Mark::Semicolon, rest)
+    let (names, rest) = closed(left(alloc, tokens), Mark::Equal)?;
+    let (e, rest) = closed(expression(alloc, rest), Mark::Semicolon)?;
+    Ok((Statement::Equation(names, e), rest))
 }
 
 /// An equation or an assertion.
@@ -110,7 +106,7 @@ pub fn body(alloc: Global, tokens: &[Token]) -> Result<(Vec<Statement>, &[Token]
         (reading.body_at tokens.now) }
 {
     let rest = expect(Mark::Let, tokens)?;
-    let (body, rest) = any(alloc, &StatementItems { alloc }, rest)?;
-    let (body, rest) = closed(body, Mark::Tel, rest)?;
+    let items = StatementItems { alloc };
+    let (body, rest) = closed(any(alloc, &items, rest), Mark::Tel)?;
     Ok((body, end(rest)))
 }

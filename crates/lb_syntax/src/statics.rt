@@ -3,7 +3,7 @@
 ghost use Rattle.std.specs.Prelude.{◌≡◌, ℕ, Option, List, ◌∷◌, Some, None, IfNone, IfSome};
 ghost use Rattle.lb_syntax.specs.Nests.{NestsStatic};
 ghost use Rattle.lb_syntax.specs.Reading as reading;
-ghost use Rattle.lb_syntax.specs.Readers.{Gives};
+ghost use Rattle.lb_syntax.specs.Readers.{Gives, GoesOn};
 ghost use Rattle.lb_syntax.specs.Tree as tree;
 ghost use Rattle.lb_syntax.specs.View.{view_static, view_statics, view_sampling};
 ghost use Rattle.lb_syntax.specs.Levels as levels;
@@ -17,7 +17,7 @@ use crate::list::{Items, list};
 use crate::reader::{ReadError, after, closed, name_at};
 use crate::token::{Mark, Token};
 use crate::tree::{BinaryOperator, Name, Sampling, Static, UnaryOperator};
-use std::alloc::Global;
+use std::alloc::{AllocError, Global};
 
 fn arithmetic_at(token: &Token) -> Option<BinaryOperator>
     ensures { result ≡ reading.arithmetic_at token.now }
@@ -54,35 +54,32 @@ fn named<'t>(alloc: Global, x: &Name, rest: &'t [Token]) -> Result<(Static, &'t 
     Ok((Static::Named(x.copy(alloc)?), rest))
 }
 
-/// A static expression before the `)` of its parentheses.
-fn grouped(alloc: Global, s: Static, tokens: &[Token]) -> Result<(Static, &[Token]), ReadError>
-    ensures { Gives (λ x. (view_static x.0, x.1.now)) result
-        (reading.grouped (view_static s) tokens.now) }
-{
-    let (s, rest) = closed(s, Mark::Close, tokens)?;
-    Ok((Static::Grouped(Box::new(alloc, s)?), rest))
-}
-
-/// The negation of a static expression, and the tokens after it.
-fn negated<'t>(
+/// A static expression that was read, before the `)` of its parentheses.
+fn grouped<'t>(
     alloc: Global,
-    s: Static,
-    rest: &'t [Token],
+    read: Result<(Static, &'t [Token]), ReadError>,
 ) -> Result<(Static, &'t [Token]), ReadError>
-    ensures { Gives {Y = tree.Static × List AToken} (λ x. (view_static x.0, x.1.now)) result
-        (Some (tree.Negated (view_static s), rest.now)) }
+    ensures { GoesOn (λ y. (view_static y.0, y.1.now)) read.entry
+        (λ x. reading.grouped (view_static x.0) x.1.now) result }
 {
-    Ok((Static::Negated(Box::new(alloc, s)?), rest))
+    let (s, rest) = closed(read, Mark::Close)?;
+    Ok((Static::Grouped(Box::new(alloc, s)?), rest))
 }
 
 /// The reader of what stands inside a static expression, to one depth less, is handed in, so that
 /// each function is proved by itself.
-#[derive(Clone, Copy)]
+#[derive(Copy)]
 pub struct StaticGrammar<F> {
     alloc: Global,
     /// How deep trees may still nest.
     depth: usize,
     inner: F,
+}
+
+impl<F: Copy> Clone for StaticGrammar<F> {
+    fn clone(&self) -> Result<StaticGrammar<F>, AllocError> {
+        Ok(*self)
+    }
 }
 
 impl<F: Fn(Global, usize, u8, &[Token]) -> Result<(Static, &[Token]), ReadError>> StaticGrammar<F> {
@@ -132,8 +129,7 @@ impl<F: Fn(Global, usize, u8, &[Token]) -> Result<(Static, &[Token]), ReadError>
         ensures { Gives (λ x. (view_static x.0, x.1.now)) result
             (reading.static_group (reading.static_tree self.now.depth) tokens.now) }
     {
-        let (s, rest) = self.inner(ANY_LEVEL, tokens)?;
-        grouped(self.alloc, s, rest)
+        grouped(self.alloc, self.inner(ANY_LEVEL, tokens))
     }
 
     /// What `-` begins.
@@ -145,7 +141,7 @@ impl<F: Fn(Global, usize, u8, &[Token]) -> Result<(Static, &[Token]), ReadError>
             (token.Mark m.Minus ∷ tokens.now)) }
     {
         let (s, rest) = self.inner(unary_level(UnaryOperator::Negate), tokens)?;
-        negated(self.alloc, s, rest)
+        Ok((Static::Negated(Box::new(self.alloc, s)?), rest))
     }
 }
 
@@ -282,10 +278,7 @@ pub fn size(alloc: Global, tokens: &[Token]) -> Result<(Static, &[Token]), ReadE
     match token {
         Token::Literal(n) => Ok((Static::Whole(*n), rest)),
         Token::Name(x) => named(alloc, x, rest),
-        Token::Mark(Mark::Open) => {
-            let (s, rest) = static_expression(alloc, rest)?;
-            grouped(alloc, s, rest)
-        }
+        Token::Mark(Mark::Open) => grouped(alloc, static_expression(alloc, rest)),
         Token::Mark(_) => Err(ReadError::Syntax(tokens.len())),
     }
 }
@@ -297,10 +290,7 @@ fn clock_name(alloc: Global, tokens: &[Token]) -> Result<(Name, &[Token]), ReadE
 {
     match after(Mark::Open, tokens) {
         None => name_at(alloc, tokens),
-        Some(inner) => {
-            let (x, rest) = name_at(alloc, inner)?;
-            closed(x, Mark::Close, rest)
-        }
+        Some(inner) => closed(name_at(alloc, inner), Mark::Close),
     }
 }
 

@@ -1,5 +1,6 @@
 use Rattle.std.proofs.Common.{rules}
-use Rattle.lb_syntax.proofs.Pieces.{found_none, found_blank, found_lexeme, found_wrong, found_all, starts_are_within}
+use Rattle.lb_syntax.proofs.Pieces.{found_none, found_blank, found_lexeme, found_wrong, found_all}
+use Rattle.lb_syntax.proofs.Pieces.{starts_are_within}
 use Rattle.lb_syntax.proofs.lex.lex.Goals as goal
 
 pub loop-at-init : goal.loop-at-init

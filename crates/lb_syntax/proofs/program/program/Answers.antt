@@ -4,7 +4,8 @@ use Rattle.std.proofs.lemmas.Grind.{common_steps}
 use Rattle.lb_syntax.specs.Parts.{view_part}
 use Rattle.lb_syntax.specs.SourceView.{view_source}
 use Rattle.lb_syntax.specs.Tree.{Source}
-use Rattle.lb_syntax.proofs.PartTurns.{left, source_begins, part_ends, part_grows, part_fails, part_stops}
+use Rattle.lb_syntax.proofs.PartTurns.{left, source_begins, part_ends, part_grows, part_fails}
+use Rattle.lb_syntax.proofs.PartTurns.{part_stops}
 use Rattle.lb_syntax.proofs.program.program.Goals as goal
 
 pub loop-turn-init : goal.loop-turn-init
