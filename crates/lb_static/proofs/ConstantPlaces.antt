@@ -24,47 +24,63 @@ use Rattle.lb_static.proofs.Visiting.{at_any, visit_append}
 
 -- ## Visits of names
 
-pub is_found : {A : Type 0} (p : A → Bool) (xs : List A) (o : Option ℕ) → o ≡ position p xs → is_some o ≡ list_any p xs
+pub is_found : {A : Type 0} (p : A → Bool) (xs : List A) (o : Option ℕ) → o ≡ position p xs
+    → is_some o ≡ list_any p xs
 is_found p xs None e = sym (none_passes p xs (sym e))
 is_found p xs (Some i) e = sym (some_passes p xs i (sym e))
 
-pub visit_hidden : (order : List ℕ) (g : Globals) (hidden : List Name) (x : Name) → among x hidden ≡ true
+pub visit_hidden : (order : List ℕ) (g : Globals) (hidden : List Name) (x : Name)
+    → among x hidden ≡ true
     → order ≡ visited_after_all order (place_named g hidden x)
 unfolding visited_after_all
 visit_hidden order g hidden x e =
-    ap (λ b. visited_after_all order (if b then [] else listed (λ p. p ∷ []) (constant_place g.names g.constants x))) (sym e)
+    ap (λ b. visited_after_all order
+    (if b then [] else listed (λ p. p ∷ []) (constant_place g.names g.constants x))) (sym e)
 
-pub visit_known : (order : List ℕ) (g : Globals) (hidden : List Name) (x : Name) (p : ℕ) → among x hidden ≡ false → constant_place g.names g.constants x ≡ Some p
+pub visit_known : (order : List ℕ) (g : Globals) (hidden : List Name) (x : Name) (p : ℕ)
+    → among x hidden ≡ false → constant_place g.names g.constants x ≡ Some p
     → visited_after order p ≡ visited_after_all order (place_named g hidden x)
 unfolding visited_after_all
 visit_known order g hidden x p e at =
     ap (λ o. visited_after_all order (listed (λ q. q ∷ []) o)) (sym at)
-    ∙ ap (λ b. visited_after_all order (if b then [] else listed (λ q. q ∷ []) (constant_place g.names g.constants x))) (sym e)
+    ∙ ap (λ b. visited_after_all order
+    (if b then [] else listed (λ q. q ∷ []) (constant_place g.names g.constants x))) (sym e)
 
-pub visit_unknown : (order : List ℕ) (g : Globals) (hidden : List Name) (x : Name) → among x hidden ≡ false → constant_place g.names g.constants x ≡ None
+pub visit_unknown : (order : List ℕ) (g : Globals) (hidden : List Name) (x : Name)
+    → among x hidden ≡ false → constant_place g.names g.constants x ≡ None
     → order ≡ visited_after_all order (place_named g hidden x)
 unfolding visited_after_all
 visit_unknown order g hidden x e at =
     ap (λ o. visited_after_all order (listed (λ q. q ∷ []) o)) (sym at)
-    ∙ ap (λ b. visited_after_all order (if b then [] else listed (λ q. q ∷ []) (constant_place g.names g.constants x))) (sym e)
+    ∙ ap (λ b. visited_after_all order
+    (if b then [] else listed (λ q. q ∷ []) (constant_place g.names g.constants x))) (sym e)
 
-pub flat_append : {A B : Type 0} (f : A → List B) (xs ys : List A) → flat_map f (xs ++ ys) ≡ flat_map f xs ++ flat_map f ys
+pub flat_append : {A B : Type 0} (f : A → List B) (xs ys : List A)
+    → flat_map f (xs ++ ys) ≡ flat_map f xs ++ flat_map f ys
 flat_append f [] ys = refl
-flat_append f (x ∷ xs) ys = ap (λ l. f x ++ l) (flat_append f xs ys) ∙ sym (append_assoc (f x) (flat_map f xs) (flat_map f ys))
+flat_append f (x ∷ xs) ys =
+    ap (λ l. f x ++ l) (flat_append f xs ys)
+    ∙ sym (append_assoc (f x) (flat_map f xs) (flat_map f ys))
 
 append_none : {A : Type 0} (xs : List A) → xs ++ [] ≡ xs
 append_none [] = refl
 append_none (x ∷ xs) = ap (λ l. x ∷ l) (append_none xs)
 
-pub visit_no_names : (order : List ℕ) (g : Globals) (hidden : List Name) → order ≡ visited_after_all order (places_named g hidden [])
+pub visit_no_names : (order : List ℕ) (g : Globals) (hidden : List Name)
+    → order ≡ visited_after_all order (places_named g hidden [])
 unfolding visited_after_all
 visit_no_names order g hidden = refl
 
-pub visit_one_name : (order : List ℕ) (g : Globals) (hidden : List Name) (x : Name) → visited_after_all order (place_named g hidden x) ≡ visited_after_all order (places_named g hidden (x ∷ []))
-visit_one_name order g hidden x = ap (visited_after_all order) (sym (append_none (place_named g hidden x)))
+pub visit_one_name : (order : List ℕ) (g : Globals) (hidden : List Name) (x : Name)
+    → visited_after_all order (place_named g hidden x)
+    ≡ visited_after_all order (places_named g hidden (x ∷ []))
+visit_one_name order g hidden x =
+    ap (visited_after_all order) (sym (append_none (place_named g hidden x)))
 
-pub visit_both_names : (order middle after : List ℕ) (g : Globals) (hidden xs ys : List Name) → middle ≡ visited_after_all order (places_named g hidden xs)
-    → after ≡ visited_after_all middle (places_named g hidden ys) → after ≡ visited_after_all order (places_named g hidden (xs ++ ys))
+pub visit_both_names : (order middle after : List ℕ) (g : Globals) (hidden xs ys : List Name)
+    → middle ≡ visited_after_all order (places_named g hidden xs)
+    → after ≡ visited_after_all middle (places_named g hidden ys)
+    → after ≡ visited_after_all order (places_named g hidden (xs ++ ys))
 visit_both_names order middle after g hidden xs ys e f =
     f ∙ ap (λ o. visited_after_all o (places_named g hidden ys)) e
     ∙ sym (visit_append order (places_named g hidden xs) (places_named g hidden ys))
@@ -72,16 +88,20 @@ visit_both_names order middle after g hidden xs ys e f =
 
 -- ## Visits of the items of a list
 
-pub visit_item : {A : Type 0} (f : A → List ℕ) (order after all : List ℕ) (xs : List A) (i : ℕ) (d : A) → i < length xs → after ≡ visited_after_all order (f (get_or xs i d))
-    → visited_after_all order (flat_map f (drop i xs)) ≡ all → visited_after_all after (flat_map f (drop (i + 1) xs)) ≡ all
+pub visit_item : {A : Type 0} (f : A → List ℕ) (order after all : List ℕ) (xs : List A) (i : ℕ)
+    (d : A) → i < length xs → after ≡ visited_after_all order (f (get_or xs i d))
+    → visited_after_all order (flat_map f (drop i xs)) ≡ all
+    → visited_after_all after (flat_map f (drop (i + 1) xs)) ≡ all
 visit_item f order after all xs i d below e inv =
     ap (λ o. visited_after_all o (flat_map f (drop (i + 1) xs))) e
     ∙ sym (visit_append order (f (get_or xs i d)) (flat_map f (drop (i + 1) xs)))
     ∙ ap (λ l. visited_after_all order (flat_map f l)) (sym (drop_more xs i d below)) ∙ inv
 
-pub visit_end : {A : Type 0} (f : A → List ℕ) (order all : List ℕ) (xs : List A) (i : ℕ) → length xs ≤ i → visited_after_all order (flat_map f (drop i xs)) ≡ all → order ≡ all
+pub visit_end : {A : Type 0} (f : A → List ℕ) (order all : List ℕ) (xs : List A) (i : ℕ)
+    → length xs ≤ i → visited_after_all order (flat_map f (drop i xs)) ≡ all → order ≡ all
 unfolding visited_after_all
-visit_end f order all xs i past inv = ap (λ l. visited_after_all order (flat_map f l)) (sym (drop_of_length-le xs past)) ∙ inv
+visit_end f order all xs i past inv =
+    ap (λ l. visited_after_all order (flat_map f l)) (sym (drop_of_length-le xs past)) ∙ inv
 
 -- ## Parameters
 
@@ -93,7 +113,8 @@ or_assoc : (a b c : Bool) → ((a || b) || c) ≡ (a || (b || c))
 or_assoc true b c = refl
 or_assoc false b c = refl
 
-among_after : (x y : Name) (names : List Name) → among x (declared_after names y) ≡ (among x names || bytes_eq x y)
+among_after : (x y : Name) (names : List Name)
+    → among x (declared_after names y) ≡ (among x names || bytes_eq x y)
 among_after x y names = by (among y names) refl
   where
     seen : among y names ≡ true → bytes_eq x y ≡ true → among x names ≡ true
@@ -104,37 +125,48 @@ among_after x y names = by (among y names) refl
     absorbed false true f = let t = f refl in absurd cc
     absorbed false false f = refl
 
-    by : (b : Bool) → among y names ≡ b → among x (if b then names else names ++ y ∷ []) ≡ (among x names || bytes_eq x y)
+    by : (b : Bool) → among y names ≡ b
+        → among x (if b then names else names ++ y ∷ []) ≡ (among x names || bytes_eq x y)
     by true e = absorbed (among x names) (bytes_eq x y) (seen e)
-    by false e = among_append x names (y ∷ []) ∙ ap (λ b. among x names || b) (or_false (bytes_eq x y))
+    by false e = among_append x names (y ∷ [])
+        ∙ ap (λ b. among x names || b) (or_false (bytes_eq x y))
 
-pub parameter_more : (x : Name) (names after all : List Name) (ys : List Name) (i : ℕ) (d : Name) → i < length ys → after ≡ declared_after names (get_or ys i d)
-    → (among x names || among x (drop i ys)) ≡ among x all → (among x after || among x (drop (i + 1) ys)) ≡ among x all
+pub parameter_more : (x : Name) (names after all : List Name) (ys : List Name) (i : ℕ) (d : Name)
+    → i < length ys → after ≡ declared_after names (get_or ys i d)
+    → (among x names || among x (drop i ys)) ≡ among x all
+    → (among x after || among x (drop (i + 1) ys)) ≡ among x all
 parameter_more x names after all ys i d below e inv =
     ap (λ l. among x l || among x (drop (i + 1) ys)) e
     ∙ ap (λ b. b || among x (drop (i + 1) ys)) (among_after x (get_or ys i d) names)
     ∙ or_assoc (among x names) (bytes_eq x (get_or ys i d)) (among x (drop (i + 1) ys))
     ∙ ap (λ l. among x names || among x l) (sym (drop_more ys i d below)) ∙ inv
 
-pub parameters_end : (x : Name) (names all : List Name) (ys : List Name) (i : ℕ) → length ys ≤ i → (among x names || among x (drop i ys)) ≡ among x all → among x names ≡ among x all
+pub parameters_end : (x : Name) (names all : List Name) (ys : List Name) (i : ℕ) → length ys ≤ i
+    → (among x names || among x (drop i ys)) ≡ among x all → among x names ≡ among x all
 parameters_end x names all ys i past inv =
-    sym (or_false (among x names)) ∙ ap (λ l. among x names || among x l) (sym (drop_of_length-le ys past)) ∙ inv
+    sym (or_false (among x names))
+    ∙ ap (λ l. among x names || among x l) (sym (drop_of_length-le ys past)) ∙ inv
 
 -- what is hidden decides alone
-pub hidden_alike : (g : Globals) (xs ys : List Name) → ((x : Name) → among x xs ≡ among x ys) → (names : List Name) → places_named g xs names ≡ places_named g ys names
+pub hidden_alike : (g : Globals) (xs ys : List Name) → ((x : Name) → among x xs ≡ among x ys)
+    → (names : List Name) → places_named g xs names ≡ places_named g ys names
 hidden_alike g xs ys same [] = refl
 hidden_alike g xs ys same (x ∷ names) =
-    ap (λ b. (if b then [] else listed (λ p. p ∷ []) (constant_place g.names g.constants x)) ++ places_named g xs names) (same x)
+    ap (λ b. (if b then [] else listed (λ p. p ∷ []) (constant_place g.names g.constants x))
+    ++ places_named g xs names) (same x)
     ∙ ap (λ l. place_named g ys x ++ l) (hidden_alike g xs ys same names)
 
 pub ok_more : {A E : Type 0} (r : Result A E) (C D : Type 0) → OnOk r C → (C → D) → OnOk r D
 ok_more (Ok x) C D h f = f h
 ok_more (Err e) C D h f = tt
 
-pub parts_alike : (g : Globals) (xs ys : List Name) → ((x : Name) → among x xs ≡ among x ys) → (parts : List StaticPart) → flat_map (part_constants g xs) parts ≡ flat_map (part_constants g ys) parts
+pub parts_alike : (g : Globals) (xs ys : List Name) → ((x : Name) → among x xs ≡ among x ys)
+    → (parts : List StaticPart)
+    → flat_map (part_constants g xs) parts ≡ flat_map (part_constants g ys) parts
 parts_alike g xs ys same [] = refl
 parts_alike g xs ys same (p ∷ parts) =
-    ap (λ l. l ++ flat_map (part_constants g xs) parts) (hidden_alike g xs ys same (static_names (static_of p.text)))
+    ap (λ l. l ++ flat_map (part_constants g xs) parts)
+    (hidden_alike g xs ys same (static_names (static_of p.text)))
     ∙ ap (λ l. part_constants g ys p ++ l) (parts_alike g xs ys same parts)
 
 -- ## The constant at a place
@@ -143,24 +175,34 @@ pub record Constant_at (names : List Name) (count : ℕ) (x : Name) (place : ℕ
   pub below : place < count
   pub at : slice_get names place ≡ Some x
 
-pub constant_found : (names : List Name) (count : ℕ) (x : Name) (place : ℕ) → constant_place names count x ≡ Some place → Constant_at names count x place
+pub constant_found : (names : List Name) (count : ℕ) (x : Name) (place : ℕ)
+    → constant_place names count x ≡ Some place → Constant_at names count x place
 constant_found names count x place e = by (position (bytes_eq x) names) refl e
   where
-    test : (i : ℕ) (b : Bool) → nat_lt i count ≡ b → position (bytes_eq x) names ≡ Some i → where_true b i ≡ Some place → Constant_at names count x place
+    test : (i : ℕ) (b : Bool) → nat_lt i count ≡ b → position (bytes_eq x) names ≡ Some i
+        → where_true b i ≡ Some place → Constant_at names count x place
     test i true lt at h =
         let same : i ≡ place = cc in
         let below : i < count = grind (arith, nat_tests) in
-        record { below = subst (λ j. j < count) same below; at = ap (slice_get names) (sym same) ∙ name_at_place x names i at }
+        record {
+          below = subst (λ j. j < count) same below;
+          at =
+              ap (slice_get names) (sym same) ∙ name_at_place x names i at;
+        }
     test i false lt at h = absurd cc
 
-    by : (o : Option ℕ) → position (bytes_eq x) names ≡ o → (o >>= λ i. where_true (nat_lt i count) i) ≡ Some place → Constant_at names count x place
+    by : (o : Option ℕ) → position (bytes_eq x) names ≡ o
+        → (o >>= λ i. where_true (nat_lt i count) i) ≡ Some place → Constant_at names count x place
     by None at h = absurd cc
     by (Some i) at h = test i (nat_lt i count) refl at h
 
-pub constant_known : (names : List Name) (count : ℕ) (x : Name) (place : ℕ) → are_distinct names ≡ true → place < count → slice_get names place ≡ Some x → constant_place names count x ≡ Some place
+pub constant_known : (names : List Name) (count : ℕ) (x : Name) (place : ℕ)
+    → are_distinct names ≡ true → place < count → slice_get names place ≡ Some x
+    → constant_place names count x ≡ Some place
 constant_known names count x place d below at = by (position (bytes_eq x) names) refl
   where
-    by : (o : Option ℕ) → position (bytes_eq x) names ≡ o → constant_place names count x ≡ Some place
+    by : (o : Option ℕ) → position (bytes_eq x) names ≡ o
+        → constant_place names count x ≡ Some place
     by None e =
         let none = none_passes (bytes_eq x) names e in
         let some = at_any (bytes_eq x) names place x at ((bytes_eq-Decides x x).1 refl) in
@@ -168,8 +210,10 @@ constant_known names count x place d below at = by (position (bytes_eq x) names)
     by (Some i) e =
         let same = distinct_places names i place x d (name_at_place x names i e) at in
         let lt : nat_lt place count ≡ true = grind (arith, nat_tests) in
-        ap (λ o. o >>= λ j. where_true (nat_lt j count) j) e ∙ ap (λ j. where_true (nat_lt j count) j) same ∙ ap (λ b. where_true b place) lt
+        ap (λ o. o >>= λ j. where_true (nat_lt j count) j) e
+        ∙ ap (λ j. where_true (nat_lt j count) j) same ∙ ap (λ b. where_true b place) lt
 
-pub err_more : {A E : Type 0} (r : Result A E) (C D : E → Type 0) → IfErr r C → ((e : E) → C e → D e) → IfErr r D
+pub err_more : {A E : Type 0} (r : Result A E) (C D : E → Type 0) → IfErr r C
+    → ((e : E) → C e → D e) → IfErr r D
 err_more (Ok x) C D h f = tt
 err_more (Err e) C D h f = f e h

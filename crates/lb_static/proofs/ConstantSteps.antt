@@ -28,24 +28,29 @@ use Rattle.lb_static.proofs.Lists.{append_assoc, map_next}
 abbrev pub Keeps : (Name → Option ℤ) → (Name → Option ℤ) → Type 0
 Keeps f g = (x : Name) (v : ℤ) → f x ≡ Some v → g x ≡ Some v
 
-then_more : {A : Type 0} (o p : Option A) (k : A → Option ℤ) (v : ℤ) → ((a : A) → o ≡ Some a → p ≡ Some a) → (o >>= k) ≡ Some v → (p >>= k) ≡ Some v
+then_more : {A : Type 0} (o p : Option A) (k : A → Option ℤ) (v : ℤ)
+    → ((a : A) → o ≡ Some a → p ≡ Some a) → (o >>= k) ≡ Some v → (p >>= k) ≡ Some v
 then_more None p k v more e = absurd cc
 then_more (Some a) p k v more e = ap (λ q. q >>= k) (more a refl) ∙ e
 
 -- two operands
-both_more : (o p o' p' : Option ℤ) (k : ℤ → ℤ → Option ℤ) (v : ℤ) → ((a : ℤ) → o ≡ Some a → p ≡ Some a) → ((a : ℤ) → o' ≡ Some a → p' ≡ Some a)
+both_more : (o p o' p' : Option ℤ) (k : ℤ → ℤ → Option ℤ) (v : ℤ)
+    → ((a : ℤ) → o ≡ Some a → p ≡ Some a) → ((a : ℤ) → o' ≡ Some a → p' ≡ Some a)
     → (o >>= λ a. o' >>= λ b. k a b) ≡ Some v → (p >>= λ a. p' >>= λ b. k a b) ≡ Some v
 both_more None p o' p' k v first second e = absurd cc
 both_more (Some a) p o' p' k v first second e =
     ap (λ q. q >>= λ x. p' >>= λ b. k x b) (first a refl) ∙ then_more o' p' (k a) v second e
 
-pub under_more : (f g : Name → Option ℤ) → Keeps f g → (s : Static) (v : ℤ) → value_under f s ≡ Some v → value_under g s ≡ Some v
+pub under_more : (f g : Name → Option ℤ) → Keeps f g → (s : Static) (v : ℤ)
+    → value_under f s ≡ Some v → value_under g s ≡ Some v
 under_more f g keeps (Whole n) v e = e
 under_more f g keeps (Named x) v e = keeps x v e
 under_more f g keeps (Grouped s) v e = under_more f g keeps s v e
-under_more f g keeps (Negated s) v e = then_more (value_under f s) (value_under g s) negated v (under_more f g keeps s) e
+under_more f g keeps (Negated s) v e =
+    then_more (value_under f s) (value_under g s) negated v (under_more f g keeps s) e
 under_more f g keeps (Combined op s t) v e =
-    both_more (value_under f s) (value_under g s) (value_under f t) (value_under g t) (arithmetic op) v
+    both_more (value_under f s) (value_under g s) (value_under f t) (value_under g t)
+    (arithmetic op) v
     (under_more f g keeps s) (under_more f g keeps t) e
 
 defined_more : (f g : Name → Option ℤ) → Keeps f g → (o : Option Constant) (v : ℤ)
@@ -56,9 +61,11 @@ defined_more f g keeps (Some c) v e = under_more f g keeps c.value v e
 -- one step more
 once_more : (cs : List Constant) (n : ℕ) → Keeps (constant_value cs n) (constant_value cs (suc n))
 once_more cs zero x v e = absurd cc
-once_more cs (suc n) x v e = defined_more (constant_value cs n) (constant_value cs (suc n)) (once_more cs n) (named (λ c. c.name) x cs) v e
+once_more cs (suc n) x v e = defined_more (constant_value cs n) (constant_value cs (suc n))
+    (once_more cs n) (named (λ c. c.name) x cs) v e
 
-more_steps : (cs : List Constant) (n k : ℕ) → Keeps (constant_value cs n) (constant_value cs (k + n))
+more_steps : (cs : List Constant) (n k : ℕ)
+    → Keeps (constant_value cs n) (constant_value cs (k + n))
 more_steps cs n zero x v e =
     let same : 0 + n ≡ n = omega arith in
     ap (λ m. constant_value cs m x) same ∙ e
@@ -66,7 +73,8 @@ more_steps cs n (suc k) x v e =
     let same : suc k + n ≡ suc (k + n) = omega arith in
     ap (λ m. constant_value cs m x) same ∙ once_more cs (k + n) x v (more_steps cs n k x v e)
 
-pub steps_keep : (cs : List Constant) (n m : ℕ) → n ≤ m → Keeps (constant_value cs n) (constant_value cs m)
+pub steps_keep : (cs : List Constant) (n m : ℕ) → n ≤ m
+    → Keeps (constant_value cs n) (constant_value cs m)
 steps_keep cs n m le x v e =
     let same : m - n + n ≡ m = omega arith in
     ap (λ k. constant_value cs k x) (sym same) ∙ more_steps cs n (m - n) x v e
@@ -79,22 +87,28 @@ symmetric x y = by (bytes_eq x y) (bytes_eq y x) refl refl
     by : (a b : Bool) → bytes_eq x y ≡ a → bytes_eq y x ≡ b → a ≡ b
     by true true p q = refl
     by false false p q = refl
-    by true false p q = let e = (bytes_eq-Decides y x).1 (sym ((bytes_eq-Decides x y).0 p)) in absurd cc
-    by false true p q = let e = (bytes_eq-Decides x y).1 (sym ((bytes_eq-Decides y x).0 q)) in absurd cc
+    by true false p q = let e =
+        (bytes_eq-Decides y x).1 (sym ((bytes_eq-Decides x y).0 p)) in absurd cc
+    by false true p q = let e =
+        (bytes_eq-Decides x y).1 (sym ((bytes_eq-Decides y x).0 q)) in absurd cc
 
-place_is : (x : Name) (cs : List Constant) → position_or_len (bytes_eq x) (names_of cs) ≡ position_or_len (λ c. bytes_eq c.name x) cs
+place_is : (x : Name) (cs : List Constant)
+    → position_or_len (bytes_eq x) (names_of cs) ≡ position_or_len (λ c. bytes_eq c.name x) cs
 place_is x [] = refl
 place_is x (c ∷ cs) =
     ap (λ b. cond (not b) (1 + position_or_len (bytes_eq x) (names_of cs)) 0) (symmetric x c.name)
     ∙ ap (λ n. cond (not (bytes_eq c.name x)) (1 + n) 0) (place_is x cs)
 
 -- the first constant of a name is the one at its place
-pub named_at : (x : Name) (cs : List Constant) → named (λ c. c.name) x cs ≡ (position (bytes_eq x) (names_of cs) >>= slice_get cs)
+pub named_at : (x : Name) (cs : List Constant)
+    → named (λ c. c.name) x cs ≡ (position (bytes_eq x) (names_of cs) >>= slice_get cs)
 named_at x cs =
     find_at (λ c. bytes_eq c.name x) cs ∙ ap (slice_get cs) (sym (place_is x cs))
-    ∙ by (position_or_len (bytes_eq x) (names_of cs)) (nat_lt (position_or_len (bytes_eq x) (names_of cs)) (length (names_of cs))) refl
+    ∙ by (position_or_len (bytes_eq x) (names_of cs))
+    (nat_lt (position_or_len (bytes_eq x) (names_of cs)) (length (names_of cs))) refl
   where
-    by : (n : ℕ) (b : Bool) → nat_lt n (length (names_of cs)) ≡ b → slice_get cs n ≡ (cond b (Some n) None >>= slice_get cs)
+    by : (n : ℕ) (b : Bool) → nat_lt n (length (names_of cs)) ≡ b
+        → slice_get cs n ≡ (cond b (Some n) None >>= slice_get cs)
     by n true e = refl
     by n false e =
         let as_many = length-map cs (λ c. c.name) in
@@ -102,19 +116,23 @@ named_at x cs =
         slice_get_past cs n past
 
 -- what a constant is worth that stands at the place of a name
-pub value_at : (cs : List Constant) (n : ℕ) (x : Name) (i : ℕ) (c : Constant) → position (bytes_eq x) (names_of cs) ≡ Some i → slice_get cs i ≡ Some c
+pub value_at : (cs : List Constant) (n : ℕ) (x : Name) (i : ℕ) (c : Constant)
+    → position (bytes_eq x) (names_of cs) ≡ Some i → slice_get cs i ≡ Some c
     → constant_value cs (suc n) x ≡ value_under (constant_value cs n) c.value
 value_at cs n x i c at is =
-    ap (λ o. o >>= λ d. value_under (constant_value cs n) d.value) (named_at x cs ∙ ap (λ o. o >>= slice_get cs) at ∙ is)
+    ap (λ o. o >>= λ d. value_under (constant_value cs n) d.value)
+    (named_at x cs ∙ ap (λ o. o >>= slice_get cs) at ∙ is)
 
 -- ## One more value
 
-set_at : (vs : List (Option ℤ)) (i : ℕ) (w : Option ℤ) → i < length vs → slice_get (set vs i w) i ≡ Some w
+set_at : (vs : List (Option ℤ)) (i : ℕ) (w : Option ℤ) → i < length vs
+    → slice_get (set vs i w) i ≡ Some w
 set_at vs i w below =
     let still : i < length (set vs i w) = omega (arith, length-set vs i w) in
     slice_get-get_or (set vs i w) i None still ∙ ap Some (get_or-set_same vs i w None below)
 
-set_elsewhere : (vs : List (Option ℤ)) (i j : ℕ) (w : Option ℤ) → j ≢ i → slice_get (set vs i w) j ≡ slice_get vs j
+set_elsewhere : (vs : List (Option ℤ)) (i j : ℕ) (w : Option ℤ) → j ≢ i
+    → slice_get (set vs i w) j ≡ slice_get vs j
 set_elsewhere [] i j w other = refl
 set_elsewhere (v ∷ vs) zero zero w other = absurd (other refl)
 set_elsewhere (v ∷ vs) zero (suc j) w other = refl
@@ -124,16 +142,20 @@ set_elsewhere (v ∷ vs) (suc i) (suc j) w other = set_elsewhere vs i j w (λ e.
 abbrev tally : Option ℤ → ℕ
 tally o = cond (is_some o) 1 0
 
-pub known-set : (vs : List (Option ℤ)) (i : ℕ) (v : ℤ) → slice_get vs i ≡ Some None → known (set vs i (Some v)) ≡ suc (known vs)
+pub known-set : (vs : List (Option ℤ)) (i : ℕ) (v : ℤ) → slice_get vs i ≡ Some None
+    → known (set vs i (Some v)) ≡ suc (known vs)
 known-set vs i v e =
     let below : i < length vs = slice_get_within vs i None e in
     let was : tally (get_or vs i None) ≡ 0 = ap tally (get_or_from_slice_get vs i None None e) in
-    let sums : known (set vs i (Some v)) + tally (get_or vs i None) ≡ known vs + 1 = sum_by-set tally vs i (Some v) None below in
+    let sums : known (set vs i (Some v)) + tally (get_or vs i None) ≡ known vs + 1 =
+    sum_by-set tally vs i (Some v) None below in
     omega arith
 
 -- a value that is had under those that are held is one
-pub sound_more : (cs : List Constant) (vs : List (Option ℤ)) (i : ℕ) (c : Constant) (v : ℤ) → IsSound cs vs
-    → slice_get cs i ≡ Some c → slice_get vs i ≡ Some None → value_under (value_held (names_of cs) vs) c.value ≡ Some v
+pub sound_more : (cs : List Constant) (vs : List (Option ℤ)) (i : ℕ) (c : Constant) (v : ℤ)
+    → IsSound cs vs
+    → slice_get cs i ≡ Some c → slice_get vs i ≡ Some None
+    → value_under (value_held (names_of cs) vs) c.value ≡ Some v
     → IsSound cs (set vs i (Some v))
 sound_more cs vs i c v sound is none has = record {
   as_many = length-set vs i (Some v) ∙ sound.as_many;
@@ -143,24 +165,31 @@ sound_more cs vs i c v sound is none has = record {
     grown : known (set vs i (Some v)) ≡ suc (known vs)
     grown = known-set vs i v none
 
-    at_more : (x : Name) (w : ℤ) → constant_value cs (suc (known vs)) x ≡ Some w → constant_value cs (known (set vs i (Some v))) x ≡ Some w
+    at_more : (x : Name) (w : ℤ) → constant_value cs (suc (known vs)) x ≡ Some w
+        → constant_value cs (known (set vs i (Some v))) x ≡ Some w
     at_more x w e = ap (λ n. constant_value cs n x) grown ∙ e
 
-    decided : (x : Name) (w : ℤ) (j : ℕ) (b : Bool) → nat_eq j i ≡ b → position (bytes_eq x) (names_of cs) ≡ Some j
-        → (slice_get (set vs i (Some v)) j >>= λ u. u) ≡ Some w → constant_value cs (known (set vs i (Some v))) x ≡ Some w
+    decided : (x : Name) (w : ℤ) (j : ℕ) (b : Bool) → nat_eq j i ≡ b
+        → position (bytes_eq x) (names_of cs) ≡ Some j
+        → (slice_get (set vs i (Some v)) j >>= λ u. u) ≡ Some w
+        → constant_value cs (known (set vs i (Some v))) x ≡ Some w
     decided x w j true same at held =
         let here : j ≡ i = grind (arith, nat_tests) in
         let below : i < length vs = slice_get_within vs i None none in
-        let worth : Some v ≡ Some w = ap (λ o. o >>= λ u. u) (sym (set_at vs i (Some v) below)) ∙ ap (λ k. slice_get (set vs i (Some v)) k >>= λ u. u) (sym here) ∙ held in
-        at_more x w (value_at cs (known vs) x i c (at ∙ ap Some here) is ∙ under_more _ _ sound.is_value c.value v has ∙ worth)
+        let worth : Some v ≡ Some w = ap (λ o. o >>= λ u. u) (sym (set_at vs i (Some v) below))
+        ∙ ap (λ k. slice_get (set vs i (Some v)) k >>= λ u. u) (sym here) ∙ held in
+        at_more x w (value_at cs (known vs) x i c (at ∙ ap Some here) is
+        ∙ under_more _ _ sound.is_value c.value v has ∙ worth)
     decided x w j false same at held =
         let elsewhere : j ≢ i = grind (arith, nat_tests) in
         let before : value_held (names_of cs) vs x ≡ Some w =
-        ap (λ o. o >>= λ k. slice_get vs k >>= λ u. u) at ∙ ap (λ o. o >>= λ u. u) (sym (set_elsewhere vs i j (Some v) elsewhere)) ∙ held in
+        ap (λ o. o >>= λ k. slice_get vs k >>= λ u. u) at
+        ∙ ap (λ o. o >>= λ u. u) (sym (set_elsewhere vs i j (Some v) elsewhere)) ∙ held in
         at_more x w (once_more cs (known vs) x w (sound.is_value x w before))
 
     by : (x : Name) (w : ℤ) (o : Option ℕ) → position (bytes_eq x) (names_of cs) ≡ o
-        → (o >>= λ k. slice_get (set vs i (Some v)) k >>= λ u. u) ≡ Some w → constant_value cs (known (set vs i (Some v))) x ≡ Some w
+        → (o >>= λ k. slice_get (set vs i (Some v)) k >>= λ u. u) ≡ Some w
+        → constant_value cs (known (set vs i (Some v))) x ≡ Some w
     by x w None at held = absurd cc
     by x w (Some j) at held = decided x w j (nat_eq j i) refl at held
 
@@ -170,39 +199,52 @@ held_none zero i = refl
 held_none (suc n) zero = refl
 held_none (suc n) (suc i) = held_none n i
 
-pub sound_first : (cs : List Constant) (vs : List (Option ℤ)) → vs ≡ replicate (length cs) None → IsSound cs vs
+pub sound_first : (cs : List Constant) (vs : List (Option ℤ)) → vs ≡ replicate (length cs) None
+    → IsSound cs vs
 sound_first cs vs e = record {
   as_many = ap length e ∙ length-replicate (length cs) None;
-  is_value = λ x w held. by x w (position (bytes_eq x) (names_of cs)) (ap (λ us. value_held (names_of cs) us x) (sym e) ∙ held);
+  is_value = λ x w held. by x w (position (bytes_eq x) (names_of cs))
+      (ap (λ us. value_held (names_of cs) us x) (sym e) ∙ held);
 }
   where
-    by : (x : Name) (w : ℤ) (o : Option ℕ) → (o >>= λ i. slice_get (replicate (length cs) None) i >>= λ u. u) ≡ Some w → constant_value cs (known vs) x ≡ Some w
+    by : (x : Name) (w : ℤ) (o : Option ℕ)
+        → (o >>= λ i. slice_get (replicate (length cs) None) i >>= λ u. u) ≡ Some w
+        → constant_value cs (known vs) x ≡ Some w
     by x w None held = absurd cc
     by x w (Some i) held = let none = held_none (length cs) i in absurd cc
 
 -- ## When all values are held
 
-complete_more : (cs : List Constant) (vs : List (Option ℤ)) (n : ℕ) → IsSound cs vs → AreSettled cs vs
-    → Keeps (constant_value cs n) (value_held (names_of cs) vs) → Keeps (constant_value cs (suc n)) (value_held (names_of cs) vs)
+complete_more : (cs : List Constant) (vs : List (Option ℤ)) (n : ℕ) → IsSound cs vs
+    → AreSettled cs vs
+    → Keeps (constant_value cs n) (value_held (names_of cs) vs)
+    → Keeps (constant_value cs (suc n)) (value_held (names_of cs) vs)
 complete_more cs vs n sound settled before x v e =
     by (position (bytes_eq x) (names_of cs)) refl
     (ap (λ o. o >>= λ d. value_under (constant_value cs n) d.value) (sym (named_at x cs)) ∙ e)
   where
-    held_at : (i : ℕ) (c : Constant) → position (bytes_eq x) (names_of cs) ≡ Some i → slice_get cs i ≡ Some c → value_under (constant_value cs n) c.value ≡ Some v
+    held_at : (i : ℕ) (c : Constant) → position (bytes_eq x) (names_of cs) ≡ Some i
+        → slice_get cs i ≡ Some c → value_under (constant_value cs n) c.value ≡ Some v
         → (o : Option ℤ) → slice_get vs i ≡ Some o → value_held (names_of cs) vs x ≡ Some v
     held_at i c at is has None stands =
         let below : i < length cs = slice_get_within cs i c is in
         let none = settled i below c is stands in
-        let some = under_more (constant_value cs n) (value_held (names_of cs) vs) before c.value v has in
+        let some = under_more (constant_value cs n) (value_held (names_of cs) vs) before c.value v
+        has in
         absurd cc
     held_at i c at is has (Some w) stands =
-        let held : value_held (names_of cs) vs x ≡ Some w = ap (λ o. o >>= λ k. slice_get vs k >>= λ u. u) at ∙ ap (λ o. o >>= λ u. u) stands in
-        let one = steps_keep cs (known vs) (known vs + suc n) (omega arith) x w (sound.is_value x w held) in
-        let other = steps_keep cs (suc n) (known vs + suc n) (omega arith) x v (value_at cs n x i c at is ∙ has) in
+        let held : value_held (names_of cs) vs x ≡ Some w =
+        ap (λ o. o >>= λ k. slice_get vs k >>= λ u. u) at ∙ ap (λ o. o >>= λ u. u) stands in
+        let one = steps_keep cs (known vs) (known vs + suc n) (omega arith) x w
+        (sound.is_value x w held) in
+        let other = steps_keep cs (suc n) (known vs + suc n) (omega arith) x v
+        (value_at cs n x i c at is ∙ has) in
         held ∙ sym one ∙ other
 
-    found : (i : ℕ) (o : Option Constant) → position (bytes_eq x) (names_of cs) ≡ Some i → slice_get cs i ≡ o
-        → (o >>= λ d. value_under (constant_value cs n) d.value) ≡ Some v → value_held (names_of cs) vs x ≡ Some v
+    found : (i : ℕ) (o : Option Constant) → position (bytes_eq x) (names_of cs) ≡ Some i
+        → slice_get cs i ≡ o
+        → (o >>= λ d. value_under (constant_value cs n) d.value) ≡ Some v
+        → value_held (names_of cs) vs x ≡ Some v
     found i None at is has = absurd cc
     found i (Some c) at is has =
         let below : i < length cs = slice_get_within cs i c is in
@@ -210,19 +252,23 @@ complete_more cs vs n sound settled before x v e =
         held_at i c at is has (get_or vs i None) (slice_get-get_or vs i None within)
 
     by : (o : Option ℕ) → position (bytes_eq x) (names_of cs) ≡ o
-        → (o >>= slice_get cs >>= λ d. value_under (constant_value cs n) d.value) ≡ Some v → value_held (names_of cs) vs x ≡ Some v
+        → (o >>= slice_get cs >>= λ d. value_under (constant_value cs n) d.value) ≡ Some v
+        → value_held (names_of cs) vs x ≡ Some v
     by None at has = absurd cc
     by (Some i) at has = found i (slice_get cs i) at refl has
 
 complete : (cs : List Constant) (vs : List (Option ℤ)) → IsSound cs vs → AreSettled cs vs
     → (n : ℕ) → Keeps (constant_value cs n) (value_held (names_of cs) vs)
 complete cs vs sound settled zero x v e = absurd cc
-complete cs vs sound settled (suc n) x v e = complete_more cs vs n sound settled (complete cs vs sound settled n) x v e
+complete cs vs sound settled (suc n) x v e =
+    complete_more cs vs n sound settled (complete cs vs sound settled n) x v e
 
 -- what is held is the value of each constant
-pub all_held : (cs : List Constant) (vs : List (Option ℤ)) (n : ℕ) → length cs ≤ n → IsSound cs vs → AreSettled cs vs
+pub all_held : (cs : List Constant) (vs : List (Option ℤ)) (n : ℕ) → length cs ≤ n → IsSound cs vs
+    → AreSettled cs vs
     → (x : Name) → value_held (names_of cs) vs x ≡ constant_value cs n x
-all_held cs vs n enough sound settled x = by (value_held (names_of cs) vs x) (constant_value cs n x) refl refl
+all_held cs vs n enough sound settled x =
+    by (value_held (names_of cs) vs x) (constant_value cs n x) refl refl
   where
     by : (o p : Option ℤ) → value_held (names_of cs) vs x ≡ o → constant_value cs n x ≡ p → o ≡ p
     by None None held is = refl
@@ -238,24 +284,29 @@ not_some None e = refl
 not_some (Some x) e = absurd cc
 
 -- the constant that stands at a place
-pub constant_at : (ks : List (Bor written.Constant)) (i : ℕ) (d : Bor written.Constant) → i < length ks
+pub constant_at : (ks : List (Bor written.Constant)) (i : ℕ) (d : Bor written.Constant)
+    → i < length ks
     → slice_get (read_constants ks) i ≡ Some (view_constant (get_or ks i d).now)
 constant_at ks i d below =
-    slice_get-map (λ k. view_constant k.now) ks i ∙ ap (option_map (λ k. view_constant k.now)) (slice_get-get_or ks i d below)
+    slice_get-map (λ k. view_constant k.now) ks i
+    ∙ ap (option_map (λ k. view_constant k.now)) (slice_get-get_or ks i d below)
 
 -- the value at a place that has none
-pub none_at : (vs : List (Option ℤ)) (n i : ℕ) (d : Option ℤ) → length vs ≡ n → i < n → is_some (get_or vs i d) ≡ false → slice_get vs i ≡ Some None
+pub none_at : (vs : List (Option ℤ)) (n i : ℕ) (d : Option ℤ) → length vs ≡ n → i < n
+    → is_some (get_or vs i d) ≡ false → slice_get vs i ≡ Some None
 none_at vs n i d as_many below none =
     let within : i < length vs = omega arith in
     slice_get-get_or vs i d within ∙ ap Some (not_some (get_or vs i d) none)
 
 -- what is had under the values of the names is had under those of the constants
-pub had : (names other : List Name) (vs : List (Option ℤ)) (s : Static) (o : Option ℤ) → names ≡ other
+pub had : (names other : List Name) (vs : List (Option ℤ)) (s : Static) (o : Option ℤ)
+    → names ≡ other
     → o ≡ value_under (value_held names vs) s → value_under (value_held other vs) s ≡ o
 had names other vs s o same e = ap (λ ns. value_under (value_held ns vs) s) (sym same) ∙ sym e
 
 -- a constant at a place is settled where it has no value
-pub settled_at : (cs : List Constant) (vs : List (Option ℤ)) (i : ℕ) (c : Constant) → slice_get cs i ≡ Some c
+pub settled_at : (cs : List Constant) (vs : List (Option ℤ)) (i : ℕ) (c : Constant)
+    → slice_get cs i ≡ Some c
     → value_under (value_held (names_of cs) vs) c.value ≡ None → IsSettled cs vs i
 settled_at cs vs i c is none d same stands =
     let one : Some c ≡ Some d = sym is ∙ same in
@@ -267,30 +318,37 @@ waiting-seen : (n : ℕ) (s : Bool) → s ≡ false → cond s 0 n ≡ n
 waiting-seen n true e = absurd cc
 waiting-seen n false e = refl
 
-pub waiting-set : (seen : List Bool) (cs : List Constant) (i : ℕ) (c : Constant) (d : Bool) → i < length seen → get_or seen i d ≡ false → slice_get cs i ≡ Some c
+pub waiting-set : (seen : List Bool) (cs : List Constant) (i : ℕ) (c : Constant) (d : Bool)
+    → i < length seen → get_or seen i d ≡ false → slice_get cs i ≡ Some c
     → waiting (set seen i true) cs + (2 + length (static_names c.value)) ≡ waiting seen cs
 waiting-set [] cs i c e below unseen is = absurd (omega arith)
 waiting-set (s ∷ seen) [] i c e below unseen is = absurd cc
 waiting-set (s ∷ seen) (d ∷ cs) zero c e below unseen is =
     let same : d ≡ c = cc in
-    let names : length (static_names d.value) ≡ length (static_names c.value) = ap (λ (k : Constant). length (static_names k.value)) same in
+    let names : length (static_names d.value) ≡ length (static_names c.value) =
+    ap (λ (k : Constant). length (static_names k.value)) same in
     let here = waiting-seen (2 + length (static_names d.value)) s unseen in
     omega arith
 waiting-set (s ∷ seen) (d ∷ cs) (suc i) c e below unseen is =
     let later = waiting-set seen cs i c e (omega arith) unseen is in
     omega arith
 
-pub names_length : (names : List Name) (ks : List (Bor written.Constant)) → names ≡ names_of (read_constants ks) → length names ≡ length ks
-names_length names ks e = ap length e ∙ length-map (read_constants ks) (λ c. c.name) ∙ length-map ks (λ k. view_constant k.now)
+pub names_length : (names : List Name) (ks : List (Bor written.Constant))
+    → names ≡ names_of (read_constants ks) → length names ≡ length ks
+names_length names ks e = ap length e ∙ length-map (read_constants ks) (λ c. c.name)
+    ∙ length-map ks (λ k. view_constant k.now)
 
 -- a visit takes one task away and puts no more than the seen constant had waiting
-pub fewer : (seen : List Bool) (ks : List (Bor written.Constant)) (i : ℕ) (d : Bor written.Constant) (e : Bool) (left before after : ℕ)
+pub fewer : (seen : List Bool) (ks : List (Bor written.Constant)) (i : ℕ) (d : Bor written.Constant)
+    (e : Bool) (left before after : ℕ)
     → length seen ≡ length ks → i < length ks → get_or seen i e ≡ false → before ≡ left + 1
     → after ≤ left + 1 + length (static_names (view_static (get_or ks i d).now.value))
-    → waiting (set seen i true) (read_constants ks) + after < waiting seen (read_constants ks) + before
+    → waiting (set seen i true) (read_constants ks) + after < waiting seen (read_constants ks)
+    + before
 fewer seen ks i d e left before after as_many below unseen taken put =
     let within : i < length seen = omega arith in
-    let sum = waiting-set seen (read_constants ks) i (view_constant (get_or ks i d).now) e within unseen (constant_at ks i d below) in
+    let sum = waiting-set seen (read_constants ks) i (view_constant (get_or ks i d).now) e within
+    unseen (constant_at ks i d below) in
     omega arith
 
 -- ## The first constant of each name
@@ -298,46 +356,57 @@ fewer seen ks i d e left before after as_many below unseen taken put =
 named_other : (x : Name) (before rest : List Constant) (c : Constant) → bytes_eq c.name x ≡ false
     → named (λ k. k.name) x (before ++ c ∷ rest) ≡ named (λ k. k.name) x (before ++ rest)
 named_other x [] rest c e = ap (λ b. cond b (Some c) (named (λ k. k.name) x rest)) e
-named_other x (b ∷ before) rest c e = ap (cond (bytes_eq b.name x) (Some b)) (named_other x before rest c e)
+named_other x (b ∷ before) rest c e =
+    ap (cond (bytes_eq b.name x) (Some b)) (named_other x before rest c e)
 
 -- a constant whose name stands before is that of no name
-pub named_again : (x : Name) (before rest : List Constant) (c : Constant) → among c.name (names_of before) ≡ true
+pub named_again : (x : Name) (before rest : List Constant) (c : Constant)
+    → among c.name (names_of before) ≡ true
     → named (λ k. k.name) x (before ++ c ∷ rest) ≡ named (λ k. k.name) x (before ++ rest)
 named_again x [] rest c e = absurd cc
 named_again x (b ∷ before) rest c e =
     by (bytes_eq b.name x) (bytes_eq c.name b.name) refl refl e (named_again x before rest c)
   where
-    by : (p q : Bool) → bytes_eq b.name x ≡ p → bytes_eq c.name b.name ≡ q → (q || among c.name (names_of before)) ≡ true
-        → (among c.name (names_of before) ≡ true → named (λ k. k.name) x (before ++ c ∷ rest) ≡ named (λ k. k.name) x (before ++ rest))
-        → cond p (Some b) (named (λ k. k.name) x (before ++ c ∷ rest)) ≡ cond p (Some b) (named (λ k. k.name) x (before ++ rest))
+    by : (p q : Bool) → bytes_eq b.name x ≡ p → bytes_eq c.name b.name ≡ q
+        → (q || among c.name (names_of before)) ≡ true
+        → (among c.name (names_of before) ≡ true
+        → named (λ k. k.name) x (before ++ c ∷ rest) ≡ named (λ k. k.name) x (before ++ rest))
+        → cond p (Some b) (named (λ k. k.name) x (before ++ c ∷ rest))
+        ≡ cond p (Some b) (named (λ k. k.name) x (before ++ rest))
     by true q other same e later = refl
     by false false other same e later = later e
     by false true other same e later =
         let name = (bytes_eq-Decides c.name b.name).0 same in
         named_other x before rest c (ap (λ y. bytes_eq y x) name ∙ other)
 
-same_step : (cs ds : List Constant) → AreFirst cs ds → (n : ℕ) → ((x : Name) → constant_value cs n x ≡ constant_value ds n x)
+same_step : (cs ds : List Constant) → AreFirst cs ds → (n : ℕ)
+    → ((x : Name) → constant_value cs n x ≡ constant_value ds n x)
     → (x : Name) → constant_value cs (suc n) x ≡ constant_value ds (suc n) x
 same_step cs ds first n before x =
     ap (λ o. o >>= λ c. value_under (constant_value cs n) c.value) (first x)
     ∙ ap (λ f. named (λ c. c.name) x ds >>= λ c. value_under f c.value) (λ i y. before y i)
 
-same_values : (cs ds : List Constant) → AreFirst cs ds → (n : ℕ) (x : Name) → constant_value cs n x ≡ constant_value ds n x
+same_values : (cs ds : List Constant) → AreFirst cs ds → (n : ℕ) (x : Name)
+    → constant_value cs n x ≡ constant_value ds n x
 same_values cs ds first zero x = refl
 same_values cs ds first (suc n) x = same_step cs ds first n (same_values cs ds first n) x
 
 -- ## The values of all names
 
-pub all_values : (ks : List (Bor written.Constant)) (ds : List written.Constant) (names : List Name) (vs : List (Option ℤ))
-    → names ≡ names_of (read_constants ks) → AreFirst (read_constants ks) (map view_constant ds) → length ks ≤ length ds
+pub all_values : (ks : List (Bor written.Constant)) (ds : List written.Constant) (names : List Name)
+    (vs : List (Option ℤ))
+    → names ≡ names_of (read_constants ks) → AreFirst (read_constants ks) (map view_constant ds)
+    → length ks ≤ length ds
     → IsSound (read_constants ks) vs → AreSettled (read_constants ks) vs
     → value_held names vs ≡ constant_value (map view_constant ds) (length ds)
-all_values ks ds names vs same first few sound settled = ap (λ ns. value_held ns vs) same ∙ (λ i x. all x i)
+all_values ks ds names vs same first few sound settled =
+    ap (λ ns. value_held ns vs) same ∙ (λ i x. all x i)
   where
     as_many : length (read_constants ks) ≡ length ks
     as_many = length-map ks (λ k. view_constant k.now)
 
-    all : (x : Name) → value_held (names_of (read_constants ks)) vs x ≡ constant_value (map view_constant ds) (length ds) x
+    all : (x : Name) → value_held (names_of (read_constants ks)) vs x
+        ≡ constant_value (map view_constant ds) (length ds) x
     all x =
         all_held (read_constants ks) vs (length ds) (omega (arith, as_many)) sound settled x
         ∙ same_values (read_constants ks) (map view_constant ds) first (length ds) x
@@ -348,24 +417,31 @@ map_append : {A B : Type 0} (f : A → B) (xs ys : List A) → map f (xs ++ ys) 
 map_append f [] ys = refl
 map_append f (x ∷ xs) ys = ap (λ zs. f x ∷ zs) (map_append f xs ys)
 
-next_are : (fs : List Constant) (ks : List written.Constant) (i : ℕ) (k : written.Constant) → i < length ks → k ≡ get_or ks i k
-    → fs ++ map view_constant (drop i ks) ≡ fs ++ view_constant k ∷ map view_constant (drop (i + 1) ks)
+next_are : (fs : List Constant) (ks : List written.Constant) (i : ℕ) (k : written.Constant)
+    → i < length ks → k ≡ get_or ks i k
+    → fs ++ map view_constant (drop i ks) ≡ fs ++ view_constant k
+    ∷ map view_constant (drop (i + 1) ks)
 next_are fs ks i k below is =
     ap (λ l. fs ++ l) (map_next view_constant ks i k below)
     ∙ ap (λ d. fs ++ view_constant d ∷ map view_constant (drop (i + 1) ks)) (sym is)
 
 -- a constant whose name is new
-pub first_taken : (fs gs : List (Bor written.Constant)) (r : Bor written.Constant) (ks : List written.Constant) (i : ℕ) (names after : List Name)
+pub first_taken : (fs gs : List (Bor written.Constant)) (r : Bor written.Constant)
+    (ks : List written.Constant) (i : ℕ) (names after : List Name)
     → i < length ks → r.now ≡ get_or ks i r.now → names ≡ names_of (read_constants fs)
     → AreFirst (read_constants fs ++ map view_constant (drop i ks)) (map view_constant ks)
-    → after ≡ declared_after names r.now.name → true ≡ not (among r.now.name names) → gs ≡ fs ++ r ∷ []
-    → (after ≡ names_of (read_constants gs)) × AreFirst (read_constants gs ++ map view_constant (drop (i + 1) ks)) (map view_constant ks)
+    → after ≡ declared_after names r.now.name → true ≡ not (among r.now.name names)
+    → gs ≡ fs ++ r ∷ []
+    → (after ≡ names_of (read_constants gs))
+    × AreFirst (read_constants gs ++ map view_constant (drop (i + 1) ks)) (map view_constant ks)
 first_taken fs gs r ks i names after below is same first declared fresh taken = (
-  declared ∙ appended (among r.now.name names) fresh ∙ ap (λ l. l ++ r.now.name ∷ []) same ∙ sym names_after,
+  declared ∙ appended (among r.now.name names) fresh ∙ ap (λ l. l ++ r.now.name ∷ []) same
+      ∙ sym names_after,
   λ x. ap (named (λ c. c.name) x) all_after ∙ first x,
 )
   where
-    appended : (b : Bool) → true ≡ not b → (if b then names else names ++ r.now.name ∷ []) ≡ names ++ r.now.name ∷ []
+    appended : (b : Bool) → true ≡ not b
+        → (if b then names else names ++ r.now.name ∷ []) ≡ names ++ r.now.name ∷ []
     appended true e = absurd cc
     appended false e = refl
 
@@ -373,24 +449,32 @@ first_taken fs gs r ks i names after below is same first declared fresh taken = 
     read_after = ap read_constants taken ∙ map_append (λ k. view_constant k.now) fs (r ∷ [])
 
     names_after : names_of (read_constants gs) ≡ names_of (read_constants fs) ++ r.now.name ∷ []
-    names_after = ap names_of read_after ∙ map_append (λ c. c.name) (read_constants fs) (view_constant r.now ∷ [])
+    names_after = ap names_of read_after
+        ∙ map_append (λ c. c.name) (read_constants fs) (view_constant r.now ∷ [])
 
-    all_after : read_constants gs ++ map view_constant (drop (i + 1) ks) ≡ read_constants fs ++ map view_constant (drop i ks)
+    all_after : read_constants gs ++ map view_constant (drop (i + 1) ks) ≡ read_constants fs
+        ++ map view_constant (drop i ks)
     all_after =
         ap (λ l. l ++ map view_constant (drop (i + 1) ks)) read_after
-        ∙ append_assoc (read_constants fs) (view_constant r.now ∷ []) (map view_constant (drop (i + 1) ks))
+        ∙ append_assoc (read_constants fs) (view_constant r.now ∷ [])
+        (map view_constant (drop (i + 1) ks))
         ∙ sym (next_are (read_constants fs) ks i r.now below is)
 
 -- one whose name is not
-pub first_left : (fs gs : List (Bor written.Constant)) (k : written.Constant) (ks : List written.Constant) (i : ℕ) (names after : List Name)
+pub first_left : (fs gs : List (Bor written.Constant)) (k : written.Constant)
+    (ks : List written.Constant) (i : ℕ) (names after : List Name)
     → i < length ks → k ≡ get_or ks i k → names ≡ names_of (read_constants fs)
     → AreFirst (read_constants fs ++ map view_constant (drop i ks)) (map view_constant ks)
     → after ≡ declared_after names k.name → false ≡ not (among k.name names) → gs ≡ fs
-    → (after ≡ names_of (read_constants gs)) × AreFirst (read_constants gs ++ map view_constant (drop (i + 1) ks)) (map view_constant ks)
+    → (after ≡ names_of (read_constants gs))
+    × AreFirst (read_constants gs ++ map view_constant (drop (i + 1) ks)) (map view_constant ks)
 first_left fs gs k ks i names after below is same first declared known left = (
-  declared ∙ unchanged (among k.name names) known ∙ same ∙ ap (λ l. names_of (read_constants l)) (sym left),
-  λ x. ap (λ l. named (λ c. c.name) x (read_constants l ++ map view_constant (drop (i + 1) ks))) left
-      ∙ sym (named_again x (read_constants fs) (map view_constant (drop (i + 1) ks)) (view_constant k) (ap (among k.name) (sym same) ∙ stands (among k.name names) known))
+  declared ∙ unchanged (among k.name names) known ∙ same
+      ∙ ap (λ l. names_of (read_constants l)) (sym left),
+  λ x. ap (λ l. named (λ c. c.name) x (read_constants l ++ map view_constant (drop (i + 1) ks)))
+      left
+      ∙ sym (named_again x (read_constants fs) (map view_constant (drop (i + 1) ks))
+      (view_constant k) (ap (among k.name) (sym same) ∙ stands (among k.name names) known))
       ∙ ap (named (λ c. c.name) x) (sym (next_are (read_constants fs) ks i k below is))
       ∙ first x,
 )

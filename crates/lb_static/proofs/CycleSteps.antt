@@ -19,7 +19,8 @@ at_set ps i p below =
     let still : i < length (set ps i p) = omega (arith, length-set ps i p) in
     slice_get-get_or (set ps i p) i p still ∙ ap Some (get_or-set_same ps i p p below)
 
-elsewhere : (ps : List Progress) (i j : ℕ) (p : Progress) → j ≢ i → slice_get (set ps i p) j ≡ slice_get ps j
+elsewhere : (ps : List Progress) (i j : ℕ) (p : Progress) → j ≢ i
+    → slice_get (set ps i p) j ≡ slice_get ps j
 elsewhere [] i j p other = refl
 elsewhere (q ∷ ps) zero zero p other = absurd (other refl)
 elsewhere (q ∷ ps) zero (suc j) p other = refl
@@ -34,14 +35,16 @@ after_set ps i j p q below at = by (nat_eq j i) refl
     by : (b : Bool) → nat_eq j i ≡ b → ((j ≡ i) × (q ≡ p)) ⊎ IsAt ps j q
     by true e =
         let same : j ≡ i = grind (arith, nat_tests) in
-        let both : Some q ≡ Some p = sym at ∙ ap (slice_get (set ps i p)) same ∙ at_set ps i p below in
+        let both : Some q ≡ Some p =
+        sym at ∙ ap (slice_get (set ps i p)) same ∙ at_set ps i p below in
         inl (same, cc)
     by false e =
         let other : j ≢ i = grind (arith, nat_tests) in
         inr (sym (elsewhere ps i j p other) ∙ at)
 
 -- a node that is not done goes on: those that are done stay so
-done_stays : (ps : List Progress) (i : ℕ) (p q : Progress) → IsAt ps i q → q ≢ Done → Keeps ps (set ps i p)
+done_stays : (ps : List Progress) (i : ℕ) (p q : Progress) → IsAt ps i q → q ≢ Done
+    → Keeps ps (set ps i p)
 done_stays ps i p q at not_done j done = by (nat_eq j i) refl
   where
     by : (b : Bool) → nat_eq j i ≡ b → IsAt (set ps i p) j Done
@@ -67,7 +70,8 @@ done_more ps i below j done = by (nat_eq j i) refl
 
 -- ## The path
 
-frame_kept : (g : List (List ℕ)) (before after : List Progress) (next : Option ℕ) (f : Frame) → Keeps before after
+frame_kept : (g : List (List ℕ)) (before after : List Progress) (next : Option ℕ) (f : Frame)
+    → Keeps before after
     → IsFrame g before next f → IsFrame g after next f
 frame_kept g before after next f keeps h = record {
   within = h.within;
@@ -76,19 +80,25 @@ frame_kept g before after next f keeps h = record {
   calls_next = h.calls_next;
 }
   where
-    by : (j : ℕ) → In j f.left.now ⊎ (IsAt before j Done ⊎ (next ≡ Some j)) → In j f.left.now ⊎ (IsAt after j Done ⊎ (next ≡ Some j))
+    by : (j : ℕ) → In j f.left.now ⊎ (IsAt before j Done ⊎ (next ≡ Some j))
+        → In j f.left.now ⊎ (IsAt after j Done ⊎ (next ≡ Some j))
     by j (inl left) = inl left
     by j (inr (inl done)) = inr (inl (keeps j done))
     by j (inr (inr is)) = inr (inr is)
 
-path_kept : (g : List (List ℕ)) (before after : List Progress) (next : Option ℕ) (fs : List Frame) → Keeps before after
+path_kept : (g : List (List ℕ)) (before after : List Progress) (next : Option ℕ) (fs : List Frame)
+    → Keeps before after
     → IsPath g before next fs → IsPath g after next fs
 path_kept g before after next [] keeps h = h
-path_kept g before after next (f ∷ fs) keeps h =
-    (frame_kept g before after next f keeps h.0, path_kept g before after (Some f.node) fs keeps h.1)
+path_kept g before after next (f ∷ fs) keeps h = (
+  frame_kept g before after next f keeps h.0,
+  path_kept g before after (Some f.node) fs keeps
+      h.1,
+)
 
 -- the next node on the path is done: the one before it is the end
-frame_ends : (g : List (List ℕ)) (ps : List Progress) (i : ℕ) (f : Frame) → IsAt ps i Done → IsFrame g ps (Some i) f → IsFrame g ps None f
+frame_ends : (g : List (List ℕ)) (ps : List Progress) (i : ℕ) (f : Frame) → IsAt ps i Done
+    → IsFrame g ps (Some i) f → IsFrame g ps None f
 frame_ends g ps i f done h = record {
   within = h.within;
   each = λ j called. by j (h.each j called);
@@ -96,17 +106,20 @@ frame_ends g ps i f done h = record {
   calls_next = λ j is. absurd cc;
 }
   where
-    by : (j : ℕ) → In j f.left.now ⊎ (IsAt ps j Done ⊎ (Some i ≡ Some j)) → In j f.left.now ⊎ (IsAt ps j Done ⊎ (None ≡ Some j))
+    by : (j : ℕ) → In j f.left.now ⊎ (IsAt ps j Done ⊎ (Some i ≡ Some j))
+        → In j f.left.now ⊎ (IsAt ps j Done ⊎ (None ≡ Some j))
     by j (inl left) = inl left
     by j (inr (inl is)) = inr (inl is)
     by j (inr (inr is)) = let same : i ≡ j = cc in inr (inl (subst (λ k. IsAt ps k Done) same done))
 
-path_ends : (g : List (List ℕ)) (ps : List Progress) (i : ℕ) (fs : List Frame) → IsAt ps i Done → IsPath g ps (Some i) fs → IsPath g ps None fs
+path_ends : (g : List (List ℕ)) (ps : List Progress) (i : ℕ) (fs : List Frame) → IsAt ps i Done
+    → IsPath g ps (Some i) fs → IsPath g ps None fs
 path_ends g ps i [] done h = h
 path_ends g ps i (f ∷ fs) done h = (frame_ends g ps i f done h.0, h.1)
 
 -- a call leads back onto the path: its callee is on a cycle
-comes_back : (g : List (List ℕ)) (ps : List Progress) (a c : ℕ) (ks : List ℕ) (fs : List Frame) → IsPath g ps (Some a) fs
+comes_back : (g : List (List ℕ)) (ps : List Progress) (a c : ℕ) (ks : List ℕ) (fs : List Frame)
+    → IsPath g ps (Some a) fs
     → In c (map (λ f. f.node) fs) → Leads g a ks c → IsOnCycle g c
 comes_back g ps a c ks [] path on leads = absurd on
 comes_back g ps a c ks (f ∷ fs) path (inl is) leads =
@@ -115,7 +128,8 @@ comes_back g ps a c ks (f ∷ fs) path (inr on) leads =
     comes_back g ps f.node c (a ∷ ks) fs path.1 on (path.0.calls_next a refl, leads)
 
 -- a call of the node at the end of the path leads onto the path
-pub closes : (g : List (List ℕ)) (ps : List Progress) (f : Frame) (fs : List Frame) (c : ℕ) → IsWalk g ps (f ∷ fs)
+pub closes : (g : List (List ℕ)) (ps : List Progress) (f : Frame) (fs : List Frame) (c : ℕ)
+    → IsWalk g ps (f ∷ fs)
     → In c f.left.now → IsAt ps c Open → IsOnCycle g c
 closes g ps f fs c walk left is_open = by (walk.open_on_path c is_open)
   where
@@ -129,13 +143,19 @@ closes g ps f fs c walk left is_open = by (walk.open_on_path c is_open)
 -- ## The steps of a walk
 
 -- a node whose calls are all followed is done
-finished : (g : List (List ℕ)) (ps : List Progress) (f : Frame) (fs : List Frame) → IsWalk g ps (f ∷ fs) → f.left.now ≡ []
+finished : (g : List (List ℕ)) (ps : List Progress) (f : Frame) (fs : List Frame)
+    → IsWalk g ps (f ∷ fs) → f.left.now ≡ []
     → IsWalk g (set ps f.node Done) fs
 finished g ps f fs walk ends = record {
   as_many = length-set ps f.node Done ∙ walk.as_many;
-  done = (f.node ∷ walk.done.0, (λ j calls. behind j (walk.is_path.0.each j calls), walk.done.1), λ i at. in_order i (after_set ps f.node i Done Done below at));
+  done = (
+    f.node ∷ walk.done.0,
+    (λ j calls. behind j (walk.is_path.0.each j calls), walk.done.1),
+    λ i at. in_order i (after_set ps f.node i Done Done below at),
+  );
   open_on_path = λ i at. on_path_still i at (after_set ps f.node i Done Open below at);
-  is_path = path_ends g after f.node fs (at_set ps f.node Done below) (path_kept g ps after (Some f.node) fs (done_more ps f.node below) walk.is_path.1);
+  is_path = path_ends g after f.node fs (at_set ps f.node Done below)
+      (path_kept g ps after (Some f.node) fs (done_more ps f.node below) walk.is_path.1);
 }
   where
     after : List Progress
@@ -149,55 +169,72 @@ finished g ps f fs walk ends = record {
     behind j (inr (inl done)) = walk.done.2 j done
     behind j (inr (inr is)) = absurd cc
 
-    in_order : (i : ℕ) → ((i ≡ f.node) × (Done ≡ Done)) ⊎ IsAt ps i Done → (f.node ≡ i) ⊎ In i walk.done.0
+    in_order : (i : ℕ) → ((i ≡ f.node) × (Done ≡ Done)) ⊎ IsAt ps i Done
+        → (f.node ≡ i) ⊎ In i walk.done.0
     in_order i (inl is) = inl (sym is.0)
     in_order i (inr at) = inr (walk.done.2 i at)
 
-    still : (i : ℕ) → IsAt after i Open → (f.node ≡ i) ⊎ In i (map (λ h. h.node) fs) → In i (map (λ h. h.node) fs)
+    still : (i : ℕ) → IsAt after i Open → (f.node ≡ i) ⊎ In i (map (λ h. h.node) fs)
+        → In i (map (λ h. h.node) fs)
     still i at (inl is) =
-        let both : Some Open ≡ Some Done = sym at ∙ ap (slice_get after) (sym is) ∙ at_set ps f.node Done below in
+        let both : Some Open ≡ Some Done =
+        sym at ∙ ap (slice_get after) (sym is) ∙ at_set ps f.node Done below in
         absurd cc
     still i at (inr on) = on
 
-    on_path_still : (i : ℕ) → IsAt after i Open → ((i ≡ f.node) × (Open ≡ Done)) ⊎ IsAt ps i Open → In i (map (λ h. h.node) fs)
+    on_path_still : (i : ℕ) → IsAt after i Open → ((i ≡ f.node) × (Open ≡ Done)) ⊎ IsAt ps i Open
+        → In i (map (λ h. h.node) fs)
     on_path_still i at (inl is) = absurd cc
     on_path_still i at (inr was) = still i at (walk.open_on_path i was)
 
 -- one call of a node is followed, to a node that is done or that is next on the path
-followed : (g : List (List ℕ)) (ps : List Progress) (f h : Frame) (next : Option ℕ) (c : ℕ) → h.node ≡ f.node → f.left.now ≡ c ∷ h.left.now
-    → (IsAt ps c Done ⊎ (next ≡ Some c)) → ((j : ℕ) → next ≡ Some j → c ≡ j) → IsFrame g ps None f → IsFrame g ps next h
+followed : (g : List (List ℕ)) (ps : List Progress) (f h : Frame) (next : Option ℕ) (c : ℕ)
+    → h.node ≡ f.node → f.left.now ≡ c ∷ h.left.now
+    → (IsAt ps c Done ⊎ (next ≡ Some c)) → ((j : ℕ) → next ≡ Some j → c ≡ j) → IsFrame g ps None f
+    → IsFrame g ps next h
 followed g ps f h next c same left meets only frame = record {
   within = subst (λ i. i < length g) (sym same) frame.within;
   each = λ j calls. by j (frame.each j (subst (λ i. In j (called g i)) same calls));
-  left = λ j on. subst (λ i. In j (called g i)) (sym same) (frame.left j (subst (λ l. In j l) (sym left) (inr on)));
-  calls_next = λ j is. subst (λ i. In j (called g i)) (sym same) (frame.left j (subst (λ l. In j l) (sym left) (inl (only j is))));
+  left = λ j on. subst (λ i. In j (called g i)) (sym same)
+      (frame.left j (subst (λ l. In j l) (sym left) (inr on)));
+  calls_next = λ j is. subst (λ i. In j (called g i)) (sym same)
+      (frame.left j (subst (λ l. In j l) (sym left) (inl (only j is))));
 }
   where
-    first : (j : ℕ) → (c ≡ j) ⊎ In j h.left.now → In j h.left.now ⊎ (IsAt ps j Done ⊎ (next ≡ Some j))
+    first : (j : ℕ) → (c ≡ j) ⊎ In j h.left.now
+        → In j h.left.now ⊎ (IsAt ps j Done ⊎ (next ≡ Some j))
     first j (inl is) = inr (subst (λ k. IsAt ps k Done ⊎ (next ≡ Some k)) is meets)
     first j (inr on) = inl on
 
-    by : (j : ℕ) → In j f.left.now ⊎ (IsAt ps j Done ⊎ (None ≡ Some j)) → In j h.left.now ⊎ (IsAt ps j Done ⊎ (next ≡ Some j))
+    by : (j : ℕ) → In j f.left.now ⊎ (IsAt ps j Done ⊎ (None ≡ Some j))
+        → In j h.left.now ⊎ (IsAt ps j Done ⊎ (next ≡ Some j))
     by j (inl on) = first j (subst (λ l. In j l) left on)
     by j (inr (inl done)) = inr (inl done)
     by j (inr (inr is)) = absurd cc
 
 -- a call leads to a node that is done
-passed : (g : List (List ℕ)) (ps : List Progress) (f h : Frame) (fs : List Frame) (c : ℕ) → IsWalk g ps (f ∷ fs)
+passed : (g : List (List ℕ)) (ps : List Progress) (f h : Frame) (fs : List Frame) (c : ℕ)
+    → IsWalk g ps (f ∷ fs)
     → h.node ≡ f.node → f.left.now ≡ c ∷ h.left.now → IsAt ps c Done → IsWalk g ps (h ∷ fs)
 passed g ps f h fs c walk same left done = record {
   as_many = walk.as_many;
   done = walk.done;
   open_on_path = λ i at. by i (walk.open_on_path i at);
-  is_path = (followed g ps f h None c same left (inl done) (λ j is. absurd cc) walk.is_path.0, subst (λ i. IsPath g ps (Some i) fs) (sym same) walk.is_path.1);
+  is_path = (
+    followed g ps f h None c same left (inl done) (λ j is. absurd cc) walk.is_path.0,
+    subst
+        (λ i. IsPath g ps (Some i) fs) (sym same) walk.is_path.1,
+  );
 }
   where
-    by : (i : ℕ) → (f.node ≡ i) ⊎ In i (map (λ k. k.node) fs) → (h.node ≡ i) ⊎ In i (map (λ k. k.node) fs)
+    by : (i : ℕ) → (f.node ≡ i) ⊎ In i (map (λ k. k.node) fs)
+        → (h.node ≡ i) ⊎ In i (map (λ k. k.node) fs)
     by i (inl is) = inl (same ∙ is)
     by i (inr on) = inr on
 
 -- nothing of a node's calls is followed yet
-fresh : (g : List (List ℕ)) (ps : List Progress) (h : Frame) → h.node < length g → h.left.now ≡ called g h.node → IsFrame g ps None h
+fresh : (g : List (List ℕ)) (ps : List Progress) (h : Frame) → h.node < length g
+    → h.left.now ≡ called g h.node → IsFrame g ps None h
 fresh g ps h within left = record {
   within = within;
   each = λ j calls. inl (subst (λ l. In j l) (sym left) calls);
@@ -206,8 +243,10 @@ fresh g ps h within left = record {
 }
 
 -- a call leads to a node that was not begun
-entered : (g : List (List ℕ)) (ps : List Progress) (f h k : Frame) (fs : List Frame) → IsWalk g ps (f ∷ fs)
-    → h.node ≡ f.node → f.left.now ≡ k.node ∷ h.left.now → k.node < length g → k.left.now ≡ called g k.node → IsAt ps k.node Unseen
+entered : (g : List (List ℕ)) (ps : List Progress) (f h k : Frame) (fs : List Frame)
+    → IsWalk g ps (f ∷ fs)
+    → h.node ≡ f.node → f.left.now ≡ k.node ∷ h.left.now → k.node < length g
+    → k.left.now ≡ called g k.node → IsAt ps k.node Unseen
     → IsWalk g (set ps k.node Open) (k ∷ (h ∷ fs))
 entered g ps f h k fs walk same left within all at_first = record {
   as_many = length-set ps k.node Open ∙ walk.as_many;
@@ -216,8 +255,10 @@ entered g ps f h k fs walk same left within all at_first = record {
   is_path = (
     fresh g after k within all,
     (
-      followed g after f h (Some k.node) k.node same left (inr refl) (λ j is. cc) (frame_kept g ps after None f kept walk.is_path.0),
-      subst (λ i. IsPath g after (Some i) fs) (sym same) (path_kept g ps after (Some f.node) fs kept walk.is_path.1),
+      followed g after f h (Some k.node) k.node same left (inr refl) (λ j is. cc)
+          (frame_kept g ps after None f kept walk.is_path.0),
+      subst (λ i. IsPath g after (Some i) fs) (sym same)
+          (path_kept g ps after (Some f.node) fs kept walk.is_path.1),
     ),
   );
 }
@@ -235,29 +276,40 @@ entered g ps f h k fs walk same left within all at_first = record {
     in_order i (inl is) = absurd cc
     in_order i (inr at) = walk.done.2 i at
 
-    before : (i : ℕ) → (f.node ≡ i) ⊎ In i (map (λ l. l.node) fs) → (h.node ≡ i) ⊎ In i (map (λ l. l.node) fs)
+    before : (i : ℕ) → (f.node ≡ i) ⊎ In i (map (λ l. l.node) fs)
+        → (h.node ≡ i) ⊎ In i (map (λ l. l.node) fs)
     before i (inl is) = inl (same ∙ is)
     before i (inr on) = inr on
 
-    on_path_now : (i : ℕ) → ((i ≡ k.node) × (Open ≡ Open)) ⊎ IsAt ps i Open → (k.node ≡ i) ⊎ ((h.node ≡ i) ⊎ In i (map (λ l. l.node) fs))
+    on_path_now : (i : ℕ) → ((i ≡ k.node) × (Open ≡ Open)) ⊎ IsAt ps i Open
+        → (k.node ≡ i) ⊎ ((h.node ≡ i) ⊎ In i (map (λ l. l.node) fs))
     on_path_now i (inl is) = inl (sym is.0)
     on_path_now i (inr was) = inr (before i (walk.open_on_path i was))
 
 -- ## The walk from a node, with its path as the program holds it
 
 -- the end of the path
-last_first : {A : Type 0} (all front : List A) (x : A) → all ≡ front ++ x ∷ [] → reverse all ≡ x ∷ reverse front
+last_first : {A : Type 0} (all front : List A) (x : A) → all ≡ front ++ x ∷ []
+    → reverse all ≡ x ∷ reverse front
 last_first all front x e = ap reverse e ∙ reverse-append front (x ∷ [])
 
-pub begins : (g : List (List ℕ)) (before : List Progress) (start : ℕ) (f : Frame) (path : List Frame) → IsBetween g before
+pub begins : (g : List (List ℕ)) (before : List Progress) (start : ℕ) (f : Frame)
+    (path : List Frame) → IsBetween g before
     → IsAt before start Unseen → f.node ≡ start → f.left.now ≡ called g start → path ≡ f ∷ []
     → IsWalkFrom g before start (set before start Open) (reverse path)
 begins g before start f path between at_first is left alone = record {
   walk = record {
     as_many = length-set before start Open ∙ between.as_many;
-    done = (between.done.0, between.done.1, λ i at. in_order i (after_set before start i Open Done below at));
-    open_on_path = λ i at. subst (λ l. In i (map (λ h. h.node) l)) (sym one) (inl (is ∙ sym (here i (after_set before start i Open Open below at))));
-    is_path = subst (IsPath g after None) (sym one) (fresh g after f within (left ∙ ap (called g) (sym is)), tt);
+    done = (
+      between.done.0,
+      between.done.1,
+      λ i at. in_order i
+          (after_set before start i Open Done below at),
+    );
+    open_on_path = λ i at. subst (λ l. In i (map (λ h. h.node) l)) (sym one)
+        (inl (is ∙ sym (here i (after_set before start i Open Open below at))));
+    is_path = subst (IsPath g after None) (sym one)
+        (fresh g after f within (left ∙ ap (called g) (sym is)), tt);
   };
   kept = done_stays before start Open Unseen at_first (λ e. absurd cc);
   begun = inl (at_set before start Open below);
@@ -284,12 +336,14 @@ begins g before start f path between at_first is left alone = record {
     here i (inr at) = absurd (between.none_open i at)
 
 -- a node that was begun is still so when one goes on
-begun_still : (ps : List Progress) (start i : ℕ) → i < length ps → IsAt ps start Open ⊎ IsAt ps start Done
+begun_still : (ps : List Progress) (start i : ℕ) → i < length ps
+    → IsAt ps start Open ⊎ IsAt ps start Done
     → IsAt (set ps i Done) start Open ⊎ IsAt (set ps i Done) start Done
 begun_still ps start i below (inr done) = inr (done_more ps i below start done)
 begun_still ps start i below (inl is_open) = by (nat_eq start i) refl
   where
-    by : (b : Bool) → nat_eq start i ≡ b → IsAt (set ps i Done) start Open ⊎ IsAt (set ps i Done) start Done
+    by : (b : Bool) → nat_eq start i ≡ b
+        → IsAt (set ps i Done) start Open ⊎ IsAt (set ps i Done) start Done
     by true e =
         let same : start ≡ i = grind (arith, nat_tests) in
         inr (ap (slice_get (set ps i Done)) same ∙ at_set ps i Done below)
@@ -297,12 +351,15 @@ begun_still ps start i below (inl is_open) = by (nat_eq start i) refl
         let other : start ≢ i = grind (arith, nat_tests) in
         inl (elsewhere ps i start Done other ∙ is_open)
 
-begun_before : (ps : List Progress) (start i : ℕ) → IsAt ps i Unseen → IsAt ps start Open ⊎ IsAt ps start Done
+begun_before : (ps : List Progress) (start i : ℕ) → IsAt ps i Unseen
+    → IsAt ps start Open ⊎ IsAt ps start Done
     → IsAt (set ps i Open) start Open ⊎ IsAt (set ps i Open) start Done
-begun_before ps start i at_first (inr done) = inr (done_stays ps i Open Unseen at_first (λ e. absurd cc) start done)
+begun_before ps start i at_first (inr done) =
+    inr (done_stays ps i Open Unseen at_first (λ e. absurd cc) start done)
 begun_before ps start i at_first (inl is_open) = by (nat_eq start i) refl
   where
-    by : (b : Bool) → nat_eq start i ≡ b → IsAt (set ps i Open) start Open ⊎ IsAt (set ps i Open) start Done
+    by : (b : Bool) → nat_eq start i ≡ b
+        → IsAt (set ps i Open) start Open ⊎ IsAt (set ps i Open) start Done
     by true e =
         let same : start ≡ i = grind (arith, nat_tests) in
         let both : Some Open ≡ Some Unseen = sym is_open ∙ ap (slice_get ps) same ∙ at_first in
@@ -312,13 +369,15 @@ begun_before ps start i at_first (inl is_open) = by (nat_eq start i) refl
         inl (elsewhere ps i start Open other ∙ is_open)
 
 -- the node at the end of the path is one of the graph
-pub last_within : (g : List (List ℕ)) (before ps : List Progress) (start : ℕ) (old new : List Frame) (f : Frame)
+pub last_within : (g : List (List ℕ)) (before ps : List Progress) (start : ℕ) (old new : List Frame)
+    (f : Frame)
     → IsWalkFrom g before start ps (reverse old) → old ≡ new ++ f ∷ [] → f.node < length ps
 last_within g before ps start old new f from popped =
     let walk = subst (IsWalk g ps) (last_first old new f popped) from.walk in
     omega (arith, walk.as_many, walk.is_path.0.within)
 
-pub finishes : (g : List (List ℕ)) (before ps : List Progress) (start : ℕ) (old new : List Frame) (f : Frame)
+pub finishes : (g : List (List ℕ)) (before ps : List Progress) (start : ℕ) (old new : List Frame)
+    (f : Frame)
     → IsWalkFrom g before start ps (reverse old) → old ≡ new ++ f ∷ [] → f.left.now ≡ []
     → IsWalkFrom g before start (set ps f.node Done) (reverse new)
 finishes g before ps start old new f from popped ends =
@@ -330,58 +389,78 @@ finishes g before ps start old new f from popped ends =
       begun = begun_still ps start f.node below from.begun;
     }
 
-pub passes : (g : List (List ℕ)) (before ps : List Progress) (start c : ℕ) (old front new : List Frame) (f h : Frame)
+pub passes : (g : List (List ℕ)) (before ps : List Progress) (start c : ℕ)
+    (old front new : List Frame) (f h : Frame)
     → IsWalkFrom g before start ps (reverse old) → old ≡ front ++ f ∷ [] → new ≡ front ++ h ∷ []
     → h.node ≡ f.node → f.left.now ≡ c ∷ h.left.now → IsAt ps c Done
     → IsWalkFrom g before start ps (reverse new)
 passes g before ps start c old front new f h from popped pushed same left done =
     let walk = subst (IsWalk g ps) (last_first old front f popped) from.walk in
     record {
-      walk = subst (IsWalk g ps) (sym (last_first new front h pushed)) (passed g ps f h (reverse front) c walk same left done);
+      walk = subst (IsWalk g ps) (sym (last_first new front h pushed))
+          (passed g ps f h (reverse front) c walk same left done);
       kept = from.kept;
       begun = from.begun;
     }
 
-enters_next : (g : List (List ℕ)) (before ps : List Progress) (start : ℕ) (old front mid new : List Frame) (f h k : Frame)
-    → IsWalkFrom g before start ps (reverse old) → old ≡ front ++ f ∷ [] → mid ≡ front ++ h ∷ [] → new ≡ mid ++ k ∷ []
-    → h.node ≡ f.node → f.left.now ≡ k.node ∷ h.left.now → k.node < length g → k.left.now ≡ called g k.node → IsAt ps k.node Unseen
+enters_next : (g : List (List ℕ)) (before ps : List Progress) (start : ℕ)
+    (old front mid new : List Frame) (f h k : Frame)
+    → IsWalkFrom g before start ps (reverse old) → old ≡ front ++ f ∷ [] → mid ≡ front ++ h ∷ []
+    → new ≡ mid ++ k ∷ []
+    → h.node ≡ f.node → f.left.now ≡ k.node ∷ h.left.now → k.node < length g
+    → k.left.now ≡ called g k.node → IsAt ps k.node Unseen
     → IsWalkFrom g before start (set ps k.node Open) (reverse new)
-enters_next g before ps start old front mid new f h k from popped pushed entered_last same left within all at_first =
+enters_next g before ps start old front mid new f h k from popped pushed entered_last same left
+    within all at_first =
     let walk = subst (IsWalk g ps) (last_first old front f popped) from.walk in
-    let path : reverse new ≡ k ∷ (h ∷ reverse front) = last_first new mid k entered_last ∙ ap (λ l. k ∷ l) (last_first mid front h pushed) in
+    let path : reverse new ≡ k ∷ (h ∷ reverse front) =
+    last_first new mid k entered_last ∙ ap (λ l. k ∷ l) (last_first mid front h pushed) in
     record {
-      walk = subst (IsWalk g (set ps k.node Open)) (sym path) (entered g ps f h k (reverse front) walk same left within all at_first);
-      kept = λ i done. done_stays ps k.node Open Unseen at_first (λ e. absurd cc) i (from.kept i done);
+      walk = subst (IsWalk g (set ps k.node Open)) (sym path)
+          (entered g ps f h k (reverse front) walk same left within all at_first);
+      kept = λ i done. done_stays ps k.node Open Unseen at_first (λ e. absurd cc) i
+          (from.kept i done);
       begun = begun_before ps start k.node at_first from.begun;
     }
 
-pub enters : (g : List (List ℕ)) (before ps : List Progress) (start c : ℕ) (old front mid new : List Frame) (f h k : Frame)
-    → IsWalkFrom g before start ps (reverse old) → old ≡ front ++ f ∷ [] → mid ≡ front ++ h ∷ [] → new ≡ mid ++ k ∷ [] → h.node ≡ f.node
-    → k.node ≡ c → f.left.now ≡ c ∷ h.left.now → c < length g → k.left.now ≡ called g c → IsAt ps c Unseen
+pub enters : (g : List (List ℕ)) (before ps : List Progress) (start c : ℕ)
+    (old front mid new : List Frame) (f h k : Frame)
+    → IsWalkFrom g before start ps (reverse old) → old ≡ front ++ f ∷ [] → mid ≡ front ++ h ∷ []
+    → new ≡ mid ++ k ∷ [] → h.node ≡ f.node
+    → k.node ≡ c → f.left.now ≡ c ∷ h.left.now → c < length g → k.left.now ≡ called g c
+    → IsAt ps c Unseen
     → IsWalkFrom g before start (set ps c Open) (reverse new)
 enters g before ps start c old front mid new f h k from popped pushed entered_last same is =
-    subst (λ i. f.left.now ≡ i ∷ h.left.now → i < length g → k.left.now ≡ called g i → IsAt ps i Unseen → IsWalkFrom g before start (set ps i Open) (reverse new)) is
+    subst (λ i. f.left.now ≡ i ∷ h.left.now → i < length g → k.left.now ≡ called g i
+    → IsAt ps i Unseen → IsWalkFrom g before start (set ps i Open) (reverse new)) is
     (enters_next g before ps start old front mid new f h k from popped pushed entered_last same)
 
 -- what a node on the path calls is a node
-pub calls_node : (g : List (List ℕ)) (before ps : List Progress) (start c : ℕ) (cs : List ℕ) (old front : List Frame) (f : Frame) → AreWithin g
-    → IsWalkFrom g before start ps (reverse old) → old ≡ front ++ f ∷ [] → f.left.now ≡ c ∷ cs → (c < length g) × (c < length ps)
+pub calls_node : (g : List (List ℕ)) (before ps : List Progress) (start c : ℕ) (cs : List ℕ)
+    (old front : List Frame) (f : Frame) → AreWithin g
+    → IsWalkFrom g before start ps (reverse old) → old ≡ front ++ f ∷ [] → f.left.now ≡ c ∷ cs
+    → (c < length g) × (c < length ps)
 calls_node g before ps start c cs old front f within from popped left =
     let walk = subst (IsWalk g ps) (last_first old front f popped) from.walk in
-    let node : c < length g = within f.node c (walk.is_path.0.left c (subst (λ l. In c l) (sym left) (inl refl))) in
+    let node : c < length g =
+    within f.node c (walk.is_path.0.left c (subst (λ l. In c l) (sym left) (inl refl))) in
     (node, omega (arith, walk.as_many))
 
 -- what is known of a node whose progress is read
-pub read_at : (ps : List Progress) (i : ℕ) (p d : Progress) → i < length ps → get_or ps i d ≡ p → IsAt ps i p
+pub read_at : (ps : List Progress) (i : ℕ) (p d : Progress) → i < length ps → get_or ps i d ≡ p
+    → IsAt ps i p
 read_at ps i p d below is = slice_get-get_or ps i d below ∙ ap Some is
 
-pub cycle_found : (g : List (List ℕ)) (before ps : List Progress) (start c : ℕ) (cs : List ℕ) (old front : List Frame) (f : Frame)
-    → IsWalkFrom g before start ps (reverse old) → old ≡ front ++ f ∷ [] → f.left.now ≡ c ∷ cs → IsAt ps c Open → IsOnCycle g c
+pub cycle_found : (g : List (List ℕ)) (before ps : List Progress) (start c : ℕ) (cs : List ℕ)
+    (old front : List Frame) (f : Frame)
+    → IsWalkFrom g before start ps (reverse old) → old ≡ front ++ f ∷ [] → f.left.now ≡ c ∷ cs
+    → IsAt ps c Open → IsOnCycle g c
 cycle_found g before ps start c cs old front f from popped left is_open =
     let walk = subst (IsWalk g ps) (last_first old front f popped) from.walk in
     closes g ps f (reverse front) c walk (subst (λ l. In c l) (sym left) (inl refl)) is_open
 
-pub ends : (g : List (List ℕ)) (before ps : List Progress) (start : ℕ) (path : List Frame) → IsWalkFrom g before start ps (reverse path) → path ≡ []
+pub ends : (g : List (List ℕ)) (before ps : List Progress) (start : ℕ) (path : List Frame)
+    → IsWalkFrom g before start ps (reverse path) → path ≡ []
     → IsBetween g ps × Keeps before ps × IsAt ps start Done
 ends g before ps start path from empty = (
   record { as_many = walk.as_many; done = walk.done; none_open = walk.open_on_path },
@@ -398,7 +477,8 @@ ends g before ps start path from empty = (
 
 -- ## The measure of the walk
 
-unseen_done : (ps : List Progress) (g : List (List ℕ)) (i : ℕ) → unseen (set ps i Done) g ≤ unseen ps g
+unseen_done : (ps : List Progress) (g : List (List ℕ)) (i : ℕ)
+    → unseen (set ps i Done) g ≤ unseen ps g
 unseen_done [] g i = omega arith
 unseen_done (p ∷ ps) [] zero = omega arith
 unseen_done (p ∷ ps) [] (suc i) = omega arith
@@ -416,23 +496,32 @@ unseen_open (p ∷ ps) [] i below at = absurd (omega arith)
 unseen_open (Unseen ∷ ps) (c ∷ g) zero below at = omega arith
 unseen_open (Open ∷ ps) (c ∷ g) zero below at = absurd cc
 unseen_open (Done ∷ ps) (c ∷ g) zero below at = absurd cc
-unseen_open (Unseen ∷ ps) (c ∷ g) (suc i) below at = omega (arith, unseen_open ps g i (omega arith) at)
+unseen_open (Unseen ∷ ps) (c ∷ g) (suc i) below at =
+    omega (arith, unseen_open ps g i (omega arith) at)
 unseen_open (Open ∷ ps) (c ∷ g) (suc i) below at = unseen_open ps g i (omega arith) at
 unseen_open (Done ∷ ps) (c ∷ g) (suc i) below at = unseen_open ps g i (omega arith) at
 
-on_path_more : (all front : List Frame) (f : Frame) → all ≡ front ++ f ∷ [] → on_path all ≡ on_path front + (1 + length f.left.now)
+on_path_more : (all front : List Frame) (f : Frame) → all ≡ front ++ f ∷ []
+    → on_path all ≡ on_path front + (1 + length f.left.now)
 on_path_more all front f e = ap on_path e ∙ sum_by_push (λ h. 1 + length h.left.now) front f
 
-pub less_passed : (ps : List Progress) (g : List (List ℕ)) (c : ℕ) (old front new : List Frame) (f h : Frame) → old ≡ front ++ f ∷ []
-    → new ≡ front ++ h ∷ [] → f.left.now ≡ c ∷ h.left.now → unseen ps g + on_path new < unseen ps g + on_path old
-less_passed ps g c old front new f h popped pushed left = omega (arith, on_path_more old front f popped, on_path_more new front h pushed, ap length left)
+pub less_passed : (ps : List Progress) (g : List (List ℕ)) (c : ℕ) (old front new : List Frame)
+    (f h : Frame) → old ≡ front ++ f ∷ []
+    → new ≡ front ++ h ∷ [] → f.left.now ≡ c ∷ h.left.now
+    → unseen ps g + on_path new < unseen ps g + on_path old
+less_passed ps g c old front new f h popped pushed left =
+    omega (arith, on_path_more old front f popped, on_path_more new front h pushed, ap length left)
 
-pub less_finished : (ps : List Progress) (g : List (List ℕ)) (i : ℕ) (old new : List Frame) (f : Frame) → old ≡ new ++ f ∷ []
+pub less_finished : (ps : List Progress) (g : List (List ℕ)) (i : ℕ) (old new : List Frame)
+    (f : Frame) → old ≡ new ++ f ∷ []
     → unseen (set ps i Done) g + on_path new < unseen ps g + on_path old
-less_finished ps g i old new f popped = omega (arith, unseen_done ps g i, on_path_more old new f popped)
+less_finished ps g i old new f popped =
+    omega (arith, unseen_done ps g i, on_path_more old new f popped)
 
-pub less_entered : (ps : List Progress) (g : List (List ℕ)) (c : ℕ) (old front mid new : List Frame) (f h k : Frame) → old ≡ front ++ f ∷ []
-    → mid ≡ front ++ h ∷ [] → new ≡ mid ++ k ∷ [] → f.left.now ≡ c ∷ h.left.now → c < length g → k.left.now ≡ called g c → IsAt ps c Unseen
+pub less_entered : (ps : List Progress) (g : List (List ℕ)) (c : ℕ) (old front mid new : List Frame)
+    (f h k : Frame) → old ≡ front ++ f ∷ []
+    → mid ≡ front ++ h ∷ [] → new ≡ mid ++ k ∷ [] → f.left.now ≡ c ∷ h.left.now → c < length g
+    → k.left.now ≡ called g c → IsAt ps c Unseen
     → unseen (set ps c Open) g + on_path new < unseen ps g + on_path old
 less_entered ps g c old front mid new f h k popped pushed entered_last left within all at_first =
     omega (

@@ -22,91 +22,128 @@ use Rattle.lb_static.specs.Shapes.{Shape, element_names, product, index_text}
 use Rattle.lb_static.specs.Signature.{Elements}
 
 -- parts of one length
-length-parts : {A B : Type 0} (f : A → List B) (n : ℕ) → ((a : A) → length (f a) ≡ n) → (xs : List A) → length (flat_map f xs) ≡ length xs * n
+length-parts : {A B : Type 0} (f : A → List B) (n : ℕ) → ((a : A) → length (f a) ≡ n)
+    → (xs : List A) → length (flat_map f xs) ≡ length xs * n
 length-parts f n each [] = sym (zero-mul n)
 length-parts f n each (x ∷ xs) =
-    length-append (f x) (flat_map f xs) ∙ ap (λ k. k + length (flat_map f xs)) (each x) ∙ ap (λ k. n + k) (length-parts f n each xs)
+    length-append (f x) (flat_map f xs) ∙ ap (λ k. k + length (flat_map f xs)) (each x)
+    ∙ ap (λ k. n + k) (length-parts f n each xs)
     ∙ add_comm n (length xs * n) ∙ sym (suc-mul (length xs) n)
 
 -- there are as many names as the product of the sizes
 pub length-element_names : (x : Name) (ns : List ℕ) → length (element_names x ns) ≡ product ns
 length-element_names x [] = refl
 length-element_names x (n ∷ ns) =
-    length-parts (λ i. element_names (x ++ index_text i) ns) (product ns) (λ i. length-element_names (x ++ index_text i) ns) (range_with_len 0 n)
+    length-parts (λ i. element_names (x ++ index_text i) ns) (product ns)
+    (λ i. length-element_names (x ++ index_text i) ns) (range_with_len 0 n)
     ∙ ap (λ k. k * product ns) (length-range_with_len 0 n)
 
 range_more : (a n : ℕ) → range_with_len a (suc n) ≡ range_with_len a n ++ (a + n) ∷ []
 range_more a zero = ap (λ k. k ∷ []) (omega arith)
-range_more a (suc n) = ap (λ l. a ∷ l) (range_more (a + 1) n ∙ ap (λ k. range_with_len (a + 1) n ++ k ∷ []) (omega arith))
+range_more a (suc n) = ap (λ l. a ∷ l)
+    (range_more (a + 1) n ∙ ap (λ k. range_with_len (a + 1) n ++ k ∷ []) (omega arith))
 
 -- the elements of these names
 abbrev pub all_of : Kind → List Name → Elements
 all_of kind = map (λ x. (x, kind))
 
 -- the elements of one index more
-pub one_index : (name : Name) (kind : Kind) (inner : List ℕ) (first before after : Elements) (i : ℕ) (element : Name)
-    → before ≡ first ++ all_of kind (flat_map (λ k. element_names (name ++ index_text k) inner) (range_with_len 0 i))
+pub one_index : (name : Name) (kind : Kind) (inner : List ℕ) (first before after : Elements) (i : ℕ)
+    (element : Name)
+    → before ≡ first ++ all_of kind
+    (flat_map (λ k. element_names (name ++ index_text k) inner) (range_with_len 0 i))
     → after ≡ before ++ all_of kind (element_names element inner) → element ≡ name ++ index_text i
-    → after ≡ first ++ all_of kind (flat_map (λ k. element_names (name ++ index_text k) inner) (range_with_len 0 (i + 1)))
+    → after ≡ first ++ all_of kind
+    (flat_map (λ k. element_names (name ++ index_text k) inner) (range_with_len 0 (i + 1)))
 one_index name kind inner first before after i element so_far pushed is =
     let named = λ (k : ℕ). element_names (name ++ index_text k) inner in
-    pushed ∙ ap (λ l. before ++ all_of kind (element_names l inner)) is ∙ ap (λ l. l ++ all_of kind (named i)) so_far
+    pushed ∙ ap (λ l. before ++ all_of kind (element_names l inner)) is
+    ∙ ap (λ l. l ++ all_of kind (named i)) so_far
     ∙ append_assoc first (all_of kind (flat_map named (range_with_len 0 i))) (all_of kind (named i))
-    ∙ ap (λ l. first ++ l) (sym (map-append (λ x. (x, kind)) (flat_map named (range_with_len 0 i)) (named i))
-    ∙ ap (all_of kind) (flat_map_more named [] (range_with_len 0 i) i ∙ ap (flat_map named) (ap (λ k. range_with_len 0 i ++ k ∷ []) (sym (zero-add i)) ∙ sym (range_more 0 i) ∙ ap (range_with_len 0) (suc-eq-add-one i))))
+    ∙ ap (λ l. first ++ l) (sym
+    (map-append (λ x. (x, kind)) (flat_map named (range_with_len 0 i)) (named i))
+    ∙ ap (all_of kind) (flat_map_more named [] (range_with_len 0 i) i
+    ∙ ap (flat_map named) (ap (λ k. range_with_len 0 i ++ k ∷ []) (sym (zero-add i))
+    ∙ sym (range_more 0 i) ∙ ap (range_with_len 0) (suc-eq-add-one i))))
 
-pub count_more : (kind : Kind) (inner : List ℕ) (first before after : Elements) (i : ℕ) (element : Name) → length before ≡ length first + i * product inner
-    → after ≡ before ++ all_of kind (element_names element inner) → length after ≡ length first + (i + 1) * product inner
+pub count_more : (kind : Kind) (inner : List ℕ) (first before after : Elements) (i : ℕ)
+    (element : Name) → length before ≡ length first + i * product inner
+    → after ≡ before ++ all_of kind (element_names element inner)
+    → length after ≡ length first + (i + 1) * product inner
 count_more kind inner first before after i element so_far pushed =
-    let a : length after ≡ length before + length (all_of kind (element_names element inner)) = ap length pushed ∙ length-append before (all_of kind (element_names element inner)) in
-    let b : length (all_of kind (element_names element inner)) ≡ product inner = length-map (element_names element inner) (λ x. (x, kind)) ∙ length-element_names element inner in
-    let d : (i + 1) * product inner ≡ i * product inner + product inner = ap (λ k. k * product inner) (sym (suc-eq-add-one i)) ∙ suc-mul i (product inner) in
+    let a : length after ≡ length before + length (all_of kind (element_names element inner)) =
+    ap length pushed ∙ length-append before (all_of kind (element_names element inner)) in
+    let b : length (all_of kind (element_names element inner))
+    ≡ product inner = length-map (element_names element inner) (λ x. (x, kind))
+    ∙ length-element_names element inner in
+    let d : (i + 1) * product inner ≡ i * product inner + product inner =
+    ap (λ k. k * product inner) (sym (suc-eq-add-one i)) ∙ suc-mul i (product inner) in
     omega arith
 
 -- ## Variables with names and types
 
 -- the variables from a place on
 abbrev pub named_from : List (Bor Name) → List seen.Shape → ℕ → Elements
-named_from names shapes k = elements_named (map (λ x. x.now) (drop k names)) (shapes_seen (drop k shapes))
+named_from names shapes k =
+    elements_named (map (λ x. x.now) (drop k names)) (shapes_seen (drop k shapes))
 
 abbrev pub elements_of : Name → Shape → Elements
 elements_of x s = map (λ n. (n, s.kind)) (element_names x s.sizes)
 
-first_of : (names : List (Bor Name)) (shapes : List seen.Shape) (k : ℕ) (name : Bor Name) (shape : seen.Shape) → k < length names → k < length shapes
-    → name ≡ get_or names k name → shape ≡ get_or shapes k shape → named_from names shapes k ≡ elements_of name.now (shape_seen shape) ++ named_from names shapes (k + 1)
+first_of : (names : List (Bor Name)) (shapes : List seen.Shape) (k : ℕ) (name : Bor Name)
+    (shape : seen.Shape) → k < length names → k < length shapes
+    → name ≡ get_or names k name → shape ≡ get_or shapes k shape
+    → named_from names shapes k ≡ elements_of name.now (shape_seen shape)
+    ++ named_from names shapes (k + 1)
 first_of names shapes k name shape below within is same =
-    ap (λ l. elements_named (map (λ x. x.now) l) (shapes_seen (drop k shapes))) (drop_more names k name below ∙ ap (λ x. x ∷ drop (k + 1) names) (sym is))
-    ∙ ap (λ l. elements_named (name.now ∷ map (λ x. x.now) (drop (k + 1) names)) (shapes_seen l)) (drop_more shapes k shape within ∙ ap (λ x. x ∷ drop (k + 1) shapes) (sym same))
+    ap (λ l. elements_named (map (λ x. x.now) l) (shapes_seen (drop k shapes)))
+    (drop_more names k name below ∙ ap (λ x. x ∷ drop (k + 1) names) (sym is))
+    ∙ ap (λ l. elements_named (name.now ∷ map (λ x. x.now) (drop (k + 1) names)) (shapes_seen l))
+    (drop_more shapes k shape within ∙ ap (λ x. x ∷ drop (k + 1) shapes) (sym same))
 
 -- one variable more
-pub one_variable : (names : List (Bor Name)) (shapes : List seen.Shape) (k : ℕ) (name : Bor Name) (shape : seen.Shape) (before after all : Elements)
-    → k < length names → k < length shapes → name ≡ get_or names k name → shape ≡ get_or shapes k shape → before ++ named_from names shapes k ≡ all
-    → after ≡ before ++ elements_of name.now (shape_seen shape) → after ++ named_from names shapes (k + 1) ≡ all
+pub one_variable : (names : List (Bor Name)) (shapes : List seen.Shape) (k : ℕ) (name : Bor Name)
+    (shape : seen.Shape) (before after all : Elements)
+    → k < length names → k < length shapes → name ≡ get_or names k name
+    → shape ≡ get_or shapes k shape → before ++ named_from names shapes k ≡ all
+    → after ≡ before ++ elements_of name.now (shape_seen shape)
+    → after ++ named_from names shapes (k + 1) ≡ all
 one_variable names shapes k name shape before after all below within is same so_far pushed =
     ap (λ l. l ++ named_from names shapes (k + 1)) pushed
-    ∙ append_assoc before (elements_of name.now (shape_seen shape)) (named_from names shapes (k + 1))
+    ∙ append_assoc before (elements_of name.now (shape_seen shape))
+    (named_from names shapes (k + 1))
     ∙ ap (λ l. before ++ l) (sym (first_of names shapes k name shape below within is same)) ∙ so_far
 
-count_from : (shapes : List seen.Shape) (k : ℕ) (shape : seen.Shape) → k < length shapes → shape ≡ get_or shapes k shape
-    → elements_in_all (shapes_seen (drop k shapes)) ≡ product shape.sizes.items + elements_in_all (shapes_seen (drop (k + 1) shapes))
+count_from : (shapes : List seen.Shape) (k : ℕ) (shape : seen.Shape) → k < length shapes
+    → shape ≡ get_or shapes k shape
+    → elements_in_all (shapes_seen (drop k shapes)) ≡ product shape.sizes.items
+    + elements_in_all (shapes_seen (drop (k + 1) shapes))
 count_from shapes k shape within same =
-    ap (λ l. elements_in_all (shapes_seen l)) (drop_more shapes k shape within ∙ ap (λ x. x ∷ drop (k + 1) shapes) (sym same))
+    ap (λ l. elements_in_all (shapes_seen l))
+    (drop_more shapes k shape within ∙ ap (λ x. x ∷ drop (k + 1) shapes) (sym same))
 
 -- there is room for the variables after one more
-pub has_room_after : (shapes : List seen.Shape) (k : ℕ) (name : Bor Name) (shape : seen.Shape) (before after : Elements) → k < length shapes → shape ≡ get_or shapes k shape
-    → length before + elements_in_all (shapes_seen (drop k shapes)) ≤ 1023 → after ≡ before ++ elements_of name.now (shape_seen shape)
+pub has_room_after : (shapes : List seen.Shape) (k : ℕ) (name : Bor Name) (shape : seen.Shape)
+    (before after : Elements) → k < length shapes → shape ≡ get_or shapes k shape
+    → length before + elements_in_all (shapes_seen (drop k shapes)) ≤ 1023
+    → after ≡ before ++ elements_of name.now (shape_seen shape)
     → length after + elements_in_all (shapes_seen (drop (k + 1) shapes)) ≤ 1023
 has_room_after shapes k name shape before after within same room pushed =
     let e = count_from shapes k shape within same in
-    let f : length after ≡ length before + length (elements_of name.now (shape_seen shape)) = ap length pushed ∙ length-append before (elements_of name.now (shape_seen shape)) in
-    let g : length (elements_of name.now (shape_seen shape)) ≡ product shape.sizes.items = length-map (element_names name.now shape.sizes.items) (λ x. (x, shape.kind)) ∙ length-element_names name.now shape.sizes.items in
+    let f : length after ≡ length before + length (elements_of name.now (shape_seen shape)) =
+    ap length pushed ∙ length-append before (elements_of name.now (shape_seen shape)) in
+    let g : length (elements_of name.now (shape_seen shape))
+    ≡ product shape.sizes.items = length-map (element_names name.now shape.sizes.items)
+    (λ x. (x, shape.kind)) ∙ length-element_names name.now shape.sizes.items in
     omega arith
 
 -- all variables
-pub all_variables : (names : List (Bor Name)) (shapes : List seen.Shape) (k : ℕ) (before all : Elements) → k ≡ min (length names) (length shapes)
+pub all_variables : (names : List (Bor Name)) (shapes : List seen.Shape) (k : ℕ)
+    (before all : Elements) → k ≡ min (length names) (length shapes)
     → before ++ named_from names shapes k ≡ all → before ≡ all
 all_variables names shapes k before all past so_far =
-    sym (append-nil before) ∙ ap (λ l. before ++ l) (sym (⊎_elim no_names no_shapes (cases_lt (length names) (length shapes)))) ∙ so_far
+    sym (append-nil before) ∙ ap (λ l. before ++ l)
+    (sym (⊎_elim no_names no_shapes (cases_lt (length names) (length shapes)))) ∙ so_far
   where
     ends : (xs : List Name) → elements_named xs [] ≡ []
     ends [] = refl
@@ -115,12 +152,14 @@ all_variables names shapes k before all past so_far =
     no_names : length names < length shapes → named_from names shapes k ≡ []
     no_names h =
         let e : length names ≤ k = omega arith in
-        ap (λ l. elements_named (map (λ x. x.now) l) (shapes_seen (drop k shapes))) (drop_all k names e)
+        ap (λ l. elements_named (map (λ x. x.now) l) (shapes_seen (drop k shapes)))
+        (drop_all k names e)
 
     no_shapes : length shapes ≤ length names → named_from names shapes k ≡ []
     no_shapes h =
         let e : length shapes ≤ k = omega arith in
-        ap (λ l. elements_named (map (λ x. x.now) (drop k names)) (shapes_seen l)) (drop_all k shapes e) ∙ ends (map (λ x. x.now) (drop k names))
+        ap (λ l. elements_named (map (λ x. x.now) (drop k names)) (shapes_seen l))
+        (drop_all k shapes e) ∙ ends (map (λ x. x.now) (drop k names))
 
 -- ## The names of a group
 
@@ -128,15 +167,24 @@ abbrev pub name_of : Declaration → Name
 name_of d = d.name
 
 names_of_group : (g : Declarations) → map name_of (declarations (view_group g)) ≡ g.names.items
-names_of_group g = map_map (λ x. record { name = x; kind = g.kind; sizes = view_statics g.sizes.items; clock = view_clock g.clock }) name_of g.names.items ∙ map-id g.names.items
+names_of_group g = map_map
+    (λ x. record {
+      name = x;
+      kind = g.kind;
+      sizes = view_statics g.sizes.items;
+      clock =
+          view_clock g.clock;
+    }) name_of g.names.items ∙ map-id g.names.items
 
 -- the names from a group on, its own first
-pub group_names : (before : List Name) (groups : List Declarations) (i : ℕ) (group : Declarations) (own all : List Name) → i < length groups → group ≡ get_or groups i group
+pub group_names : (before : List Name) (groups : List Declarations) (i : ℕ) (group : Declarations)
+    (own all : List Name) → i < length groups → group ≡ get_or groups i group
     → own ≡ group.names.items → before ++ map name_of (declared (view_groups (drop i groups))) ≡ all
     → before ++ (own ++ map name_of (declared (view_groups (drop (i + 1) groups)))) ≡ all
 group_names before groups i group own all below is same so_far =
     let rest = declared (view_groups (drop (i + 1) groups)) in
     ap (λ l. before ++ (l ++ map name_of rest)) (same ∙ sym (names_of_group group))
     ∙ ap (λ l. before ++ l) (sym (map-append name_of (declarations (view_group group)) rest)
-    ∙ ap (λ l. map name_of (declared (view_groups l))) (ap (λ x. x ∷ drop (i + 1) groups) is ∙ sym (drop_more groups i group below)))
+    ∙ ap (λ l. map name_of (declared (view_groups l)))
+    (ap (λ x. x ∷ drop (i + 1) groups) is ∙ sym (drop_more groups i group below)))
     ∙ so_far

@@ -16,60 +16,78 @@ use Rattle.lb_static.proofs.TestedItems.{all_weaker}
 
 -- ## All values, one after another
 
-next_values : (given : Name → Option ℤ) (ps : List StaticPart) (i : ℕ) (p : StaticPart) (o : Option ℤ) → i < length ps → p ≡ get_or ps i p
-    → o ≡ part_value given p → part_values given (drop i ps) ≡ all_some (o ∷ map (part_value given) (drop (i + 1) ps))
+next_values : (given : Name → Option ℤ) (ps : List StaticPart) (i : ℕ) (p : StaticPart)
+    (o : Option ℤ) → i < length ps → p ≡ get_or ps i p
+    → o ≡ part_value given p
+    → part_values given (drop i ps) ≡ all_some (o ∷ map (part_value given) (drop (i + 1) ps))
 next_values given ps i p o below is e =
     ap (part_values given) (drop_more ps i p below)
-    ∙ ap (λ (q : StaticPart). all_some (part_value given q ∷ map (part_value given) (drop (i + 1) ps))) (sym is)
+    ∙ ap (λ (q : StaticPart). all_some
+    (part_value given q ∷ map (part_value given) (drop (i + 1) ps))) (sym is)
     ∙ ap (λ (q : Option ℤ). all_some (q ∷ map (part_value given) (drop (i + 1) ps))) (sym e)
 
-moved : (before : List ℤ) (v : ℤ) (o : Option (List ℤ)) → option_map (λ vs. (before ++ v ∷ []) ++ vs) o ≡ option_map (λ vs. before ++ vs) (option_map (λ vs. v ∷ vs) o)
+moved : (before : List ℤ) (v : ℤ) (o : Option (List ℤ))
+    → option_map (λ vs. (before ++ v ∷ []) ++ vs) o
+    ≡ option_map (λ vs. before ++ vs) (option_map (λ vs. v ∷ vs) o)
 moved before v None = refl
 moved before v (Some vs) = ap (λ (l : List ℤ). Some l) (append_assoc before (v ∷ []) vs)
 
-pub values_more : (given : Name → Option ℤ) (ps : List StaticPart) (i : ℕ) (p : StaticPart) (v : ℤ) (before after : List ℤ) (all : Option (List ℤ))
+pub values_more : (given : Name → Option ℤ) (ps : List StaticPart) (i : ℕ) (p : StaticPart) (v : ℤ)
+    (before after : List ℤ) (all : Option (List ℤ))
     → i < length ps → p ≡ get_or ps i p → Some v ≡ part_value given p → after ≡ before ++ v ∷ []
-    → option_map (λ vs. before ++ vs) (part_values given (drop i ps)) ≡ all → option_map (λ vs. after ++ vs) (part_values given (drop (i + 1) ps)) ≡ all
+    → option_map (λ vs. before ++ vs) (part_values given (drop i ps)) ≡ all
+    → option_map (λ vs. after ++ vs) (part_values given (drop (i + 1) ps)) ≡ all
 values_more given ps i p v before after all below is e more h =
     ap (λ (l : List ℤ). option_map (λ vs. l ++ vs) (part_values given (drop (i + 1) ps))) more
     ∙ moved before v (part_values given (drop (i + 1) ps))
     ∙ ap (option_map (λ vs. before ++ vs)) (sym (next_values given ps i p (Some v) below is e)) ∙ h
 
-pub values_none : (given : Name → Option ℤ) (ps : List StaticPart) (i : ℕ) (p : StaticPart) (before : List ℤ) (all : Option (List ℤ))
+pub values_none : (given : Name → Option ℤ) (ps : List StaticPart) (i : ℕ) (p : StaticPart)
+    (before : List ℤ) (all : Option (List ℤ))
     → i < length ps → p ≡ get_or ps i p → None ≡ part_value given p
     → option_map (λ vs. before ++ vs) (part_values given (drop i ps)) ≡ all → None ≡ all
 values_none given ps i p before all below is e h =
     sym (ap (option_map (λ vs. before ++ vs)) (next_values given ps i p None below is e)) ∙ h
 
-pub values_all : (given : Name → Option ℤ) (ps : List StaticPart) (i : ℕ) (before : List ℤ) (all : Option (List ℤ)) → length ps ≤ i
+pub values_all : (given : Name → Option ℤ) (ps : List StaticPart) (i : ℕ) (before : List ℤ)
+    (all : Option (List ℤ)) → length ps ≤ i
     → option_map (λ vs. before ++ vs) (part_values given (drop i ps)) ≡ all → Some before ≡ all
 values_all given ps i before all past h =
     ap (λ (l : List ℤ). Some l) (sym (append-nil before))
-    ∙ ap (λ l. option_map (λ vs. before ++ vs) (part_values given l)) (sym (drop_of_length-le ps past)) ∙ h
+    ∙ ap (λ l. option_map (λ vs. before ++ vs) (part_values given l))
+    (sym (drop_of_length-le ps past)) ∙ h
 
 -- ## As many values as expressions
 
-pub some_each : {A : Type 0} (os : List (Option A)) (vs : List A) → all_some os ≡ Some vs → map (λ v. Some v) vs ≡ os
+pub some_each : {A : Type 0} (os : List (Option A)) (vs : List A) → all_some os ≡ Some vs
+    → map (λ v. Some v) vs ≡ os
 some_each [] [] e = refl
 some_each [] (v ∷ vs) e = absurd cc
 some_each (None ∷ os) vs e = absurd cc
 some_each {A = A} (Some x ∷ os) vs e = by (all_some os) (λ xs h. some_each os xs h) e
   where
-    by : (o : Option (List A)) → ((xs : List A) → o ≡ Some xs → map (λ v. Some v) xs ≡ os) → option_map (λ xs. x ∷ xs) o ≡ Some vs
+    by : (o : Option (List A)) → ((xs : List A) → o ≡ Some xs → map (λ v. Some v) xs ≡ os)
+        → option_map (λ xs. x ∷ xs) o ≡ Some vs
         → map (λ v. Some v) vs ≡ Some x ∷ os
     by None h g = absurd cc
     by (Some xs) h g =
         let same : x ∷ xs ≡ vs = cc in
         subst (λ l. map (λ v. Some v) l ≡ Some x ∷ os) same (ap (λ l. Some x ∷ l) (h xs refl))
 
-pub as_many_values : (given : Name → Option ℤ) (ps : List StaticPart) (vs : List ℤ) → part_values given ps ≡ Some vs → length vs ≡ length ps
+pub as_many_values : (given : Name → Option ℤ) (ps : List StaticPart) (vs : List ℤ)
+    → part_values given ps ≡ Some vs → length vs ≡ length ps
 as_many_values given ps vs e =
-    sym (length-map vs (λ v. Some v)) ∙ ap length (some_each (map (part_value given) ps) vs e) ∙ length-map ps (part_value given)
+    sym (length-map vs (λ v. Some v)) ∙ ap length (some_each (map (part_value given) ps) vs e)
+    ∙ length-map ps (part_value given)
 
 -- the sizes of each variable stand among the static expressions
-pub sizes_stand : (n : ResolvedNode) (count : ℕ) → count ≡ length n.statics.items → list_all (is_declared_within (counts_of n)) n.variables.items ≡ true
+pub sizes_stand : (n : ResolvedNode) (count : ℕ) → count ≡ length n.statics.items
+    → list_all (is_declared_within (counts_of n)) n.variables.items ≡ true
     → list_all (λ v. nat_le (v.first_size.0 + v.sizes) count) n.variables.items ≡ true
 sizes_stand n count e h =
-    subst (λ k. list_all (λ v. nat_le (v.first_size.0 + v.sizes) k) n.variables.items ≡ true) (sym e)
-    (all_weaker (is_declared_within (counts_of n)) (λ v. nat_le (v.first_size.0 + v.sizes) (length n.statics.items)) n.variables.items
-    (λ v g. and_first (nat_le (v.first_size.0 + v.sizes) (length n.statics.items)) (is_sampling_within (counts_of n) v.clock) g) h)
+    subst (λ k. list_all (λ v. nat_le (v.first_size.0 + v.sizes) k) n.variables.items ≡ true)
+    (sym e)
+    (all_weaker (is_declared_within (counts_of n))
+    (λ v. nat_le (v.first_size.0 + v.sizes) (length n.statics.items)) n.variables.items
+    (λ v g. and_first (nat_le (v.first_size.0 + v.sizes) (length n.statics.items))
+    (is_sampling_within (counts_of n) v.clock) g) h)

@@ -22,10 +22,13 @@ use Rattle.lb_static.proofs.OwnParts.{body_is}
 declared_append : (gs hs : List Group) → declared (gs ++ hs) ≡ declared gs ++ declared hs
 declared_append [] hs = refl
 declared_append (g ∷ gs) hs =
-    ap (λ l. declarations g ++ l) (declared_append gs hs) ∙ sym (append_assoc (declarations g) (declared gs) (declared hs))
+    ap (λ l. declarations g ++ l) (declared_append gs hs)
+    ∙ sym (append_assoc (declarations g) (declared gs) (declared hs))
 
-viewed_append : (xs ys : List Declarations) → declared (view_groups (xs ++ ys)) ≡ declared (view_groups xs) ++ declared (view_groups ys)
-viewed_append xs ys = ap declared (map-append view_group xs ys) ∙ declared_append (view_groups xs) (view_groups ys)
+viewed_append : (xs ys : List Declarations)
+    → declared (view_groups (xs ++ ys)) ≡ declared (view_groups xs) ++ declared (view_groups ys)
+viewed_append xs ys = ap declared (map-append view_group xs ys)
+    ∙ declared_append (view_groups xs) (view_groups ys)
 
 -- the groups of declarations of a node
 abbrev pub groups_of : written.Node → List Group
@@ -34,7 +37,8 @@ groups_of w = view_groups (w.inputs.items ++ (w.outputs.items ++ w.locals.items)
 pub variables_declared : (w : written.Node) → declared (groups_of w) ≡ variables (view_node w)
 variables_declared w =
     viewed_append w.inputs.items (w.outputs.items ++ w.locals.items)
-    ∙ ap (λ l. declared (view_groups w.inputs.items) ++ l) (viewed_append w.outputs.items w.locals.items)
+    ∙ ap (λ l. declared (view_groups w.inputs.items) ++ l)
+    (viewed_append w.outputs.items w.locals.items)
 
 -- an instance of a node
 abbrev pub standing : Path → written.Node → List (Name × ℤ) → Instance
@@ -60,12 +64,17 @@ module _ (P : Program) (p : Path) (w : written.Node) (values : List (Name × ℤ
       let es = node_parts node in
       let h = has is_variable given in
       ap₂ (λ a b. a && b)
-      (all_append h (declared_sizes node ++ flat_map own_sizes es) (flat_map own_indexes es ++ flat_map own_arguments es)
-      ∙ ap₂ (λ a b. a && b) (all_append h (declared_sizes node) (flat_map own_sizes es)) (all_append h (flat_map own_indexes es) (flat_map own_arguments es)))
+      (all_append h (declared_sizes node ++ flat_map own_sizes es)
+      (flat_map own_indexes es ++ flat_map own_arguments es)
+      ∙ ap₂ (λ a b. a && b) (all_append h (declared_sizes node) (flat_map own_sizes es))
+      (all_append h (flat_map own_indexes es) (flat_map own_arguments es)))
       refl
-      ∙ regroup (list_all h (declared_sizes node)) (list_all h (flat_map own_sizes es)) (list_all h (flat_map own_indexes es)) (list_all h (flat_map own_arguments es))
+      ∙ regroup (list_all h (declared_sizes node)) (list_all h (flat_map own_sizes es))
+      (list_all h (flat_map own_indexes es)) (list_all h (flat_map own_arguments es))
       (list_all (name_has is_variable given) (flat_map own_names es))
       ∙ ap₂ (λ a b. a && b)
-      (ap (λ ds. list_all h (sizes_in ds)) (sym (variables_declared w)) ∙ groups_sizes h (groups_of w))
-      (body_values is_variable given es ∙ ap (list_all part_has) (sym (body_is is_variable node.body)))
+      (ap (λ ds. list_all h (sizes_in ds)) (sym (variables_declared w))
+      ∙ groups_sizes h (groups_of w))
+      (body_values is_variable given es
+      ∙ ap (list_all part_has) (sym (body_is is_variable node.body)))
       ∙ sym (all_append part_has (flat_map group_parts (groups_of w)) _)

@@ -23,57 +23,82 @@ use Rattle.lb_static.proofs.TestedItems.{filter_same}
 use Rattle.lb_static.proofs.Visiting.{all_at, any_at, at_all, at_any, same_test}
 
 -- two lists with the same items have some item that passes alike
-any_alike : {A : Type 0} (p : A → Bool) (xs ys : List A) → ((x : A) → Contains xs x → Contains ys x) → list_any p xs ≡ true → list_any p ys ≡ true
+any_alike : {A : Type 0} (p : A → Bool) (xs ys : List A) → ((x : A) → Contains xs x → Contains ys x)
+    → list_any p xs ≡ true → list_any p ys ≡ true
 any_alike p xs ys same e =
     let f = any_at p xs e in
     let k = place_of ys f.item (same f.item (contained xs f.place f.item f.at)) in
     at_any p ys k.place f.item k.at f.passes
 
-constants_alike : (P : Program) (xs ys : List Name) → ((x : Name) → among x xs ≡ among x ys) → (k : ℕ) → constants_within P xs k ≡ constants_within P ys k
-constants_alike P xs ys same zero = filter_same (λ c. among c.name xs) (λ c. among c.name ys) P.source.constants (λ c. same c.name)
+constants_alike : (P : Program) (xs ys : List Name) → ((x : Name) → among x xs ≡ among x ys)
+    → (k : ℕ) → constants_within P xs k ≡ constants_within P ys k
+constants_alike P xs ys same zero =
+    filter_same (λ c. among c.name xs) (λ c. among c.name ys) P.source.constants (λ c. same c.name)
 constants_alike P xs ys same (suc k) =
-    ap (λ b. filter (λ c. among c.name xs || list_any (λ d. among c.name (static_names d.value)) b) P.source.constants) (constants_alike P xs ys same k)
-    ∙ filter_same (λ c. among c.name xs || list_any (λ d. among c.name (static_names d.value)) (constants_within P ys k))
-    (λ c. among c.name ys || list_any (λ d. among c.name (static_names d.value)) (constants_within P ys k)) P.source.constants
-    (λ c. ap (λ b. b || list_any (λ d. among c.name (static_names d.value)) (constants_within P ys k)) (same c.name))
+    ap (λ b. filter (λ c. among c.name xs || list_any (λ d. among c.name (static_names d.value)) b)
+    P.source.constants) (constants_alike P xs ys same k)
+    ∙ filter_same (λ c. among c.name xs
+    || list_any (λ d. among c.name (static_names d.value)) (constants_within P ys k))
+    (λ c. among c.name ys || list_any (λ d. among c.name (static_names d.value))
+    (constants_within P ys k)) P.source.constants
+    (λ c. ap (λ b. b || list_any (λ d. among c.name (static_names d.value))
+    (constants_within P ys k)) (same c.name))
 
-constants_of : (P : Program) (xs : List Name) (k : ℕ) → constants_within (program_in P.source) xs k ≡ constants_within P xs k
+constants_of : (P : Program) (xs : List Name) (k : ℕ)
+    → constants_within (program_in P.source) xs k ≡ constants_within P xs k
 constants_of P xs zero = refl
 constants_of P xs (suc k) =
-    ap (λ b. filter (λ c. among c.name xs || list_any (λ d. among c.name (static_names d.value)) b) P.source.constants) (constants_of P xs k)
+    ap (λ b. filter (λ c. among c.name xs || list_any (λ d. among c.name (static_names d.value)) b)
+    P.source.constants) (constants_of P xs k)
 
 module _ (P : Program) (r : Reached) (reached : IsReached P r) where
-  named_alike : (x : Name) → among x (flat_map (named_constants P) (trees r)) ≡ among x (flat_map (named_constants P) (reached_nodes P))
+  named_alike : (x : Name)
+      → among x (flat_map (named_constants P) (trees r))
+      ≡ among x (flat_map (named_constants P) (reached_nodes P))
   named_alike x =
       any_flat (bytes_eq x) (named_constants P) (trees r)
-      ∙ same_test _ _ (any_alike (λ n. among x (named_constants P n)) (trees r) (reached_nodes P) (λ n. (reached.same n).0))
-      (any_alike (λ n. among x (named_constants P n)) (reached_nodes P) (trees r) (λ n. (reached.same n).1))
+      ∙ same_test _ _ (any_alike (λ n. among x (named_constants P n)) (trees r) (reached_nodes P)
+      (λ n. (reached.same n).0))
+      (any_alike (λ n. among x (named_constants P n)) (reached_nodes P) (trees r)
+      (λ n. (reached.same n).1))
       ∙ sym (any_flat (bytes_eq x) (named_constants P) (reached_nodes P))
 
   abbrev constants_kept : Bool
-  constants_kept = keeps_constants P.source (flat_map (named_constants (program_in P.source)) (trees r))
+  constants_kept = keeps_constants P.source
+      (flat_map (named_constants (program_in P.source)) (trees r))
 
-  constants_are : constants_kept ≡ list_all (λ c. list_all (is_constant P) (static_names c.value)) (reached_constants P)
+  constants_are : constants_kept
+      ≡ list_all (λ c. list_all (is_constant P) (static_names c.value)) (reached_constants P)
   constants_are =
       ap (list_all (λ c. list_all (is_constant P) (static_names c.value)))
       (constants_of P (flat_map (named_constants P) (trees r)) (length P.source.constants)
-      ∙ constants_alike P (flat_map (named_constants P) (trees r)) (flat_map (named_constants P) (reached_nodes P)) named_alike (length P.source.constants))
+      ∙ constants_alike P (flat_map (named_constants P) (trees r))
+      (flat_map (named_constants P) (reached_nodes P)) named_alike (length P.source.constants))
 
-  pub nodes_named : are_named P ≡ true → list_all (λ n. named_in P.source (node_of n)) r.nodes.items ≡ true
+  pub nodes_named : are_named P ≡ true
+      → list_all (λ n. named_in P.source (node_of n)) r.nodes.items ≡ true
   nodes_named e =
-      let all = and_second (list_all is_some (starts P)) (list_all (is_named P) (reached_nodes P)) e in
+      let all = and_second (list_all is_some (starts P)) (list_all (is_named P) (reached_nodes P))
+      e in
       sym (all_map (named_in P.source) node_of r.nodes.items)
       ∙ at_all (named_in P.source) (trees r) (λ i n at.
       let k = place_of (reached_nodes P) n ((reached.same n).0 (contained (trees r) i n at)) in
       all_at (is_named P) (reached_nodes P) k.place n all k.at)
 
-  pub names_kept : are_distinct (global_names P) ≡ true → are_named P ≡ true → constants_kept ≡ true → keeps_names P ≡ true
+  pub names_kept : are_distinct (global_names P) ≡ true → are_named P ≡ true → constants_kept ≡ true
+      → keeps_names P ≡ true
   names_kept d e f =
       both (are_distinct (global_names P)) _ d
-      (both (list_all is_some (starts P)) _ (and_first (list_all is_some (starts P)) (list_all (is_named P) (reached_nodes P)) e)
-      (both (list_all (is_named P) (reached_nodes P)) _ (and_second (list_all is_some (starts P)) (list_all (is_named P) (reached_nodes P)) e) (sym constants_are ∙ f)))
+      (both (list_all is_some (starts P)) _
+      (and_first (list_all is_some (starts P)) (list_all (is_named P) (reached_nodes P)) e)
+      (both (list_all (is_named P) (reached_nodes P)) _
+      (and_second (list_all is_some (starts P)) (list_all (is_named P) (reached_nodes P)) e)
+      (sym constants_are ∙ f)))
 
-  pub fault_constants : (e : StaticError) → IsNameFault e constants_kept → IsNameFault e (keeps_names P)
+  pub fault_constants : (e : StaticError) → IsNameFault e constants_kept
+      → IsNameFault e (keeps_names P)
   fault_constants e h =
       fault_within e constants_kept (keeps_names P) h (λ no.
-      false_second (are_distinct (global_names P)) _ (false_second (list_all is_some (starts P)) _ (false_second (list_all (is_named P) (reached_nodes P)) _ (sym constants_are ∙ no))))
+      false_second (are_distinct (global_names P)) _
+      (false_second (list_all is_some (starts P)) _
+      (false_second (list_all (is_named P) (reached_nodes P)) _ (sym constants_are ∙ no))))

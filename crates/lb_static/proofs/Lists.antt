@@ -6,7 +6,8 @@ use Rattle.std.proofs.lemmas.Bool.Decides.{nat_tests}
 use Rattle.std.proofs.lemmas.List.{drop_more, append-nil}
 use Rattle.std.proofs.Math.ListN.{drop_of_length-le}
 
-pub map_next : {A B : Type 0} (f : A → B) (xs : List A) (i : ℕ) (d : A) → i < length xs → map f (drop i xs) ≡ f (get_or xs i d) ∷ map f (drop (i + 1) xs)
+pub map_next : {A B : Type 0} (f : A → B) (xs : List A) (i : ℕ) (d : A) → i < length xs
+    → map f (drop i xs) ≡ f (get_or xs i d) ∷ map f (drop (i + 1) xs)
 map_next f xs i d below = ap (map f) (drop_more xs i d below)
 
 pub append_assoc : {A : Type 0} (xs ys zs : List A) → (xs ++ ys) ++ zs ≡ xs ++ (ys ++ zs)
@@ -39,9 +40,11 @@ pub and_assoc : (a b c : Bool) → ((a && b) && c) ≡ (a && (b && c))
 and_assoc true b c = refl
 and_assoc false b c = refl
 
-pub all_append : {A : Type 0} (p : A → Bool) (xs ys : List A) → list_all p (xs ++ ys) ≡ (list_all p xs && list_all p ys)
+pub all_append : {A : Type 0} (p : A → Bool) (xs ys : List A)
+    → list_all p (xs ++ ys) ≡ (list_all p xs && list_all p ys)
 all_append p [] ys = refl
-all_append p (x ∷ xs) ys = ap (λ b. p x && b) (all_append p xs ys) ∙ sym (and_assoc (p x) (list_all p xs) (list_all p ys))
+all_append p (x ∷ xs) ys =
+    ap (λ b. p x && b) (all_append p xs ys) ∙ sym (and_assoc (p x) (list_all p xs) (list_all p ys))
 
 -- ## The first place
 
@@ -53,26 +56,34 @@ and_none true = refl
 and_none false = refl
 
 -- some item of a front passes where the first that passes stands in it
-any_take : {A : Type 0} (p : A → Bool) (k : ℕ) (xs : List A) → list_any p (take k xs) ≡ (nat_lt (position_or_len p xs) k && nat_lt (position_or_len p xs) (length xs))
+any_take : {A : Type 0} (p : A → Bool) (k : ℕ) (xs : List A)
+    → list_any p (take k xs)
+    ≡ (nat_lt (position_or_len p xs) k && nat_lt (position_or_len p xs) (length xs))
 any_take p zero [] = refl
 any_take p (suc k) [] = and_none (nat_lt 0 (suc k))
-any_take p zero (x ∷ xs) = none (position_or_len p (x ∷ xs)) (nat_lt (position_or_len p (x ∷ xs)) (length (x ∷ xs)))
+any_take p zero (x ∷ xs) =
+    none (position_or_len p (x ∷ xs)) (nat_lt (position_or_len p (x ∷ xs)) (length (x ∷ xs)))
   where
     none : (n : ℕ) (b : Bool) → false ≡ (nat_lt n 0 && b)
     none n b = let e : nat_lt n 0 ≡ false = grind (arith, nat_tests) in rw e refl
 any_take p (suc k) (x ∷ xs) = by (p x) (position_or_len p xs) (any_take p k xs)
   where
     by : (b : Bool) (n : ℕ) → list_any p (take k xs) ≡ (nat_lt n k && nat_lt n (length xs))
-        → (b || list_any p (take k xs)) ≡ (nat_lt (cond (not b) (1 + n) 0) (suc k) && nat_lt (cond (not b) (1 + n) 0) (length (x ∷ xs)))
+        → (b || list_any p (take k xs))
+        ≡ (nat_lt (cond (not b) (1 + n) 0) (suc k)
+        && nat_lt (cond (not b) (1 + n) 0) (length (x ∷ xs)))
     by true n h =
         let e : nat_lt 0 (suc k) ≡ true = grind (arith, nat_tests) in
         let f : nat_lt 0 (suc (length xs)) ≡ true = grind (arith, nat_tests) in
         rw (e, f) refl
     by false n h =
-        h ∙ ap (λ b. b && nat_lt n (length xs)) (first_in_front n k 0) ∙ ap (λ b. nat_lt (1 + n) (suc k) && b) (first_in_front n (length xs) 0)
+        h ∙ ap (λ b. b && nat_lt n (length xs)) (first_in_front n k 0)
+        ∙ ap (λ b. nat_lt (1 + n) (suc k) && b) (first_in_front n (length xs) 0)
 
-pub position_take : {A : Type 0} (p : A → Bool) (k : ℕ) (xs : List A) (i : ℕ) → position p xs ≡ Some i → nat_lt i k ≡ list_any p (take k xs)
-position_take p k xs i e = by (position_or_len p xs) (nat_lt (position_or_len p xs) (length xs)) e ∙ sym (any_take p k xs)
+pub position_take : {A : Type 0} (p : A → Bool) (k : ℕ) (xs : List A) (i : ℕ)
+    → position p xs ≡ Some i → nat_lt i k ≡ list_any p (take k xs)
+position_take p k xs i e =
+    by (position_or_len p xs) (nat_lt (position_or_len p xs) (length xs)) e ∙ sym (any_take p k xs)
   where
     by : (n : ℕ) (b : Bool) → cond b (Some n) None ≡ Some i → nat_lt i k ≡ (nat_lt n k && b)
     by n true h = let same : n ≡ i = cc in rw same (and_true (nat_lt i k))
@@ -82,47 +93,59 @@ position_take p k xs i e = by (position_or_len p xs) (nat_lt (position_or_len p 
         and_true false = refl
     by n false h = absurd cc
 
-pub position_none : {A : Type 0} (p : A → Bool) (k : ℕ) (xs : List A) → position p xs ≡ None → false ≡ list_any p (take k xs)
-position_none p k xs e = by (position_or_len p xs) (nat_lt (position_or_len p xs) (length xs)) e ∙ sym (any_take p k xs)
+pub position_none : {A : Type 0} (p : A → Bool) (k : ℕ) (xs : List A) → position p xs ≡ None
+    → false ≡ list_any p (take k xs)
+position_none p k xs e =
+    by (position_or_len p xs) (nat_lt (position_or_len p xs) (length xs)) e ∙ sym (any_take p k xs)
   where
     by : (n : ℕ) (b : Bool) → cond b (Some n) None ≡ None → false ≡ (nat_lt n k && b)
     by n true h = absurd cc
     by n false h = and_none (nat_lt n k)
 
 -- what stands before, the item at a place and what stands after are all
-pub at_place : {A C : Type 0} (f : A → C) (before : List C) (xs : List A) (i : ℕ) (x : A) (all : List C) → i < length xs → x ≡ get_or xs i x
+pub at_place : {A C : Type 0} (f : A → C) (before : List C) (xs : List A) (i : ℕ) (x : A)
+    (all : List C) → i < length xs → x ≡ get_or xs i x
     → before ++ map f (drop i xs) ≡ all → before ++ f x ∷ map f (drop (i + 1) xs) ≡ all
 at_place f before xs i x all below is e =
-    ap (λ y. before ++ f y ∷ map f (drop (i + 1) xs)) is ∙ ap (λ l. before ++ l) (sym (map_next f xs i x below)) ∙ e
+    ap (λ y. before ++ f y ∷ map f (drop (i + 1) xs)) is
+    ∙ ap (λ l. before ++ l) (sym (map_next f xs i x below)) ∙ e
 
-pub map_map : {A B C : Type 0} (f : A → B) (g : B → C) (xs : List A) → map g (map f xs) ≡ map (λ x. g (f x)) xs
+pub map_map : {A B C : Type 0} (f : A → B) (g : B → C) (xs : List A)
+    → map g (map f xs) ≡ map (λ x. g (f x)) xs
 map_map f g [] = refl
 map_map f g (x ∷ xs) = ap (λ l. g (f x) ∷ l) (map_map f g xs)
 
 -- a loop that has gone over all
-pub finished : {A C : Type 0} (f : A → C) (before : List C) (xs : List A) (i : ℕ) (all : List C) → length xs ≤ i → before ++ map f (drop i xs) ≡ all → before ≡ all
+pub finished : {A C : Type 0} (f : A → C) (before : List C) (xs : List A) (i : ℕ) (all : List C)
+    → length xs ≤ i → before ++ map f (drop i xs) ≡ all → before ≡ all
 finished f before xs i all past e =
     sym (append-nil before) ∙ ap (λ l. before ++ map f l) (sym (drop_of_length-le xs past)) ∙ e
 
-pub any_is : {A : Type 0} (p : A → Bool) (xs : List A) → list_any p xs ≡ nat_lt (position_or_len p xs) (length xs)
+pub any_is : {A : Type 0} (p : A → Bool) (xs : List A)
+    → list_any p xs ≡ nat_lt (position_or_len p xs) (length xs)
 any_is p [] = refl
 any_is p (x ∷ xs) = by (p x) (position_or_len p xs) (any_is p xs)
   where
-    by : (b : Bool) (n : ℕ) → list_any p xs ≡ nat_lt n (length xs) → (b || list_any p xs) ≡ nat_lt (cond (not b) (1 + n) 0) (length (x ∷ xs))
+    by : (b : Bool) (n : ℕ) → list_any p xs ≡ nat_lt n (length xs)
+        → (b || list_any p xs) ≡ nat_lt (cond (not b) (1 + n) 0) (length (x ∷ xs))
     by true n h = let f : nat_lt 0 (suc (length xs)) ≡ true = grind (arith, nat_tests) in sym f
     by false n h = h ∙ first_in_front n (length xs) 0
 
 -- where no place is found, no item passes
-pub none_passes : {A : Type 0} (p : A → Bool) (xs : List A) → position p xs ≡ None → list_any p xs ≡ false
-none_passes p xs e = any_is p xs ∙ by (nat_lt (position_or_len p xs) (length xs)) (position_or_len p xs) e
+pub none_passes : {A : Type 0} (p : A → Bool) (xs : List A) → position p xs ≡ None
+    → list_any p xs ≡ false
+none_passes p xs e = any_is p xs
+    ∙ by (nat_lt (position_or_len p xs) (length xs)) (position_or_len p xs) e
   where
     by : (b : Bool) (n : ℕ) → cond b (Some n) None ≡ None → b ≡ false
     by true n h = absurd cc
     by false n h = refl
 
 -- where a place is found, some item passes
-pub some_passes : {A : Type 0} (p : A → Bool) (xs : List A) (i : ℕ) → position p xs ≡ Some i → list_any p xs ≡ true
-some_passes p xs i e = any_is p xs ∙ by (nat_lt (position_or_len p xs) (length xs)) (position_or_len p xs) e
+pub some_passes : {A : Type 0} (p : A → Bool) (xs : List A) (i : ℕ) → position p xs ≡ Some i
+    → list_any p xs ≡ true
+some_passes p xs i e = any_is p xs
+    ∙ by (nat_lt (position_or_len p xs) (length xs)) (position_or_len p xs) e
   where
     by : (b : Bool) (n : ℕ) → cond b (Some n) None ≡ Some i → b ≡ true
     by true n h = refl

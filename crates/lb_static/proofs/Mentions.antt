@@ -20,11 +20,14 @@ use Rattle.lb_static.proofs.Lists.{append_assoc}
 
 -- ## Some item of a list
 
-pub any_flat : {A B : Type 0} (p : B → Bool) (f : A → List B) (xs : List A) → list_any p (flat_map f xs) ≡ list_any (λ x. list_any p (f x)) xs
+pub any_flat : {A B : Type 0} (p : B → Bool) (f : A → List B) (xs : List A)
+    → list_any p (flat_map f xs) ≡ list_any (λ x. list_any p (f x)) xs
 any_flat p f [] = refl
-any_flat p f (x ∷ xs) = list_any-append p (f x) (flat_map f xs) ∙ ap (λ b. list_any p (f x) || b) (any_flat p f xs)
+any_flat p f (x ∷ xs) = list_any-append p (f x) (flat_map f xs)
+    ∙ ap (λ b. list_any p (f x) || b) (any_flat p f xs)
 
-pub any_map : {A B : Type 0} (p : B → Bool) (f : A → B) (xs : List A) → list_any p (map f xs) ≡ list_any (λ x. p (f x)) xs
+pub any_map : {A B : Type 0} (p : B → Bool) (f : A → B) (xs : List A)
+    → list_any p (map f xs) ≡ list_any (λ x. p (f x)) xs
 any_map p f [] = refl
 any_map p f (x ∷ xs) = ap (λ b. p (f x) || b) (any_map p f xs)
 
@@ -37,9 +40,11 @@ or_shuffle false true c d = by c
     by false = refl
 or_shuffle false false c d = refl
 
-pub any_or : {A : Type 0} (p q : A → Bool) (xs : List A) → list_any (λ x. p x || q x) xs ≡ (list_any p xs || list_any q xs)
+pub any_or : {A : Type 0} (p q : A → Bool) (xs : List A)
+    → list_any (λ x. p x || q x) xs ≡ (list_any p xs || list_any q xs)
 any_or p q [] = refl
-any_or p q (x ∷ xs) = ap (λ b. (p x || q x) || b) (any_or p q xs) ∙ or_shuffle (p x) (q x) (list_any p xs) (list_any q xs)
+any_or p q (x ∷ xs) = ap (λ b. (p x || q x) || b) (any_or p q xs)
+    ∙ or_shuffle (p x) (q x) (list_any p xs) (list_any q xs)
 
 and_or : (a b k : Bool) → ((a && k) || (b && k)) ≡ ((a || b) && k)
 and_or true b true = refl
@@ -47,7 +52,8 @@ and_or true true false = refl
 and_or true false false = refl
 and_or false b k = refl
 
-pub any_and : {A : Type 0} (p : A → Bool) (k : Bool) (xs : List A) → list_any (λ x. p x && k) xs ≡ (list_any p xs && k)
+pub any_and : {A : Type 0} (p : A → Bool) (k : Bool) (xs : List A)
+    → list_any (λ x. p x && k) xs ≡ (list_any p xs && k)
 any_and p k [] = refl
 any_and p k (x ∷ xs) = ap (λ b. (p x && k) || b) (any_and p k xs) ∙ and_or (p x) (list_any p xs) k
 
@@ -71,13 +77,18 @@ module _ (x : Name) (variable : Name → Bool) where
   abbrev pub stands : Expr → Bool
   stands e =
       (among x (own_names e) && not (variable x))
-      || (list_any in_static (own_sizes e) || (list_any in_static (own_indexes e) || list_any in_static (own_arguments e)))
+      || (list_any in_static (own_sizes e)
+      || (list_any in_static (own_indexes e) || list_any in_static (own_arguments e)))
 
-  two : (ps qs : List Part) (es fs : List Expr) → list_any in_part ps ≡ list_any stands es → list_any in_part qs ≡ list_any stands fs → list_any in_part (ps ++ qs) ≡ list_any stands (es ++ fs)
+  two : (ps qs : List Part) (es fs : List Expr) → list_any in_part ps ≡ list_any stands es
+      → list_any in_part qs ≡ list_any stands fs
+      → list_any in_part (ps ++ qs) ≡ list_any stands (es ++ fs)
   two ps qs es fs e f =
-      list_any-append in_part ps qs ∙ ap (λ b. b || list_any in_part qs) e ∙ ap (λ b. list_any stands es || b) f ∙ sym (list_any-append stands es fs)
+      list_any-append in_part ps qs ∙ ap (λ b. b || list_any in_part qs) e
+      ∙ ap (λ b. list_any stands es || b) f ∙ sym (list_any-append stands es fs)
 
-  variable_part : (y : Name) → list_any in_part (parts_of variable (Variable y)) ≡ list_any stands (Variable y ∷ [])
+  variable_part : (y : Name)
+      → list_any in_part (parts_of variable (Variable y)) ≡ list_any stands (Variable y ∷ [])
   variable_part y = by (variable y) refl
     where
       no : variable y ≡ true → ((bytes_eq x y || false) && not (variable x)) ≡ false
@@ -87,16 +98,20 @@ module _ (x : Name) (variable : Name → Bool) where
           at true h = ap (λ z. not (variable z)) ((bytes_eq-Decides x y).0 h) ∙ ap not e
           at false h = refl
 
-      yes : variable y ≡ false → (bytes_eq x y || false) ≡ ((bytes_eq x y || false) && not (variable x))
+      yes : variable y ≡ false
+          → (bytes_eq x y || false) ≡ ((bytes_eq x y || false) && not (variable x))
       yes e = at (bytes_eq x y) refl
         where
           at : (b : Bool) → bytes_eq x y ≡ b → (b || false) ≡ ((b || false) && not (variable x))
           at true h = sym (ap (λ z. not (variable z)) ((bytes_eq-Decides x y).0 h) ∙ ap not e)
           at false h = refl
 
-      by : (b : Bool) → variable y ≡ b → list_any in_part (cond b [] ((Value, tree.Named y) ∷ [])) ≡ list_any stands (Variable y ∷ [])
+      by : (b : Bool) → variable y ≡ b
+          → list_any in_part (cond b [] ((Value, tree.Named y) ∷ []))
+          ≡ list_any stands (Variable y ∷ [])
       by true e = sym (ap (λ b. (b || false) || false) (no e))
-      by false e = ap (λ b. b || false) (yes e) ∙ sym (or_false (((bytes_eq x y || false) && not (variable x)) || false))
+      by false e = ap (λ b. b || false) (yes e)
+          ∙ sym (or_false (((bytes_eq x y || false) && not (variable x)) || false))
 
   alone : (s : Bool) → s ≡ ((s || false) || false)
   alone true = refl
@@ -112,59 +127,92 @@ module _ (x : Name) (variable : Name → Bool) where
   counted false t r = sym (or_assoc false t r)
 
   mutual
-    pub expression_stands : (e : Expr) → list_any in_part (parts_of variable e) ≡ list_any stands (parts e)
+    pub expression_stands : (e : Expr)
+        → list_any in_part (parts_of variable e) ≡ list_any stands (parts e)
     expression_stands (Literal n) = refl
     expression_stands (Truth b) = refl
     expression_stands (Variable y) = variable_part y
     expression_stands (tree.Group a) = expression_stands a
     expression_stands (Unary op a) = expression_stands a
-    expression_stands (Binary op a b) = two (parts_of variable a) (parts_of variable b) (parts a) (parts b) (expression_stands a) (expression_stands b)
+    expression_stands (Binary op a b) = two (parts_of variable a) (parts_of variable b) (parts a)
+        (parts b) (expression_stands a) (expression_stands b)
     expression_stands (If c a b) =
-        two (parts_of variable c) (parts_of variable a ++ parts_of variable b) (parts c) (parts a ++ parts b) (expression_stands c)
-        (two (parts_of variable a) (parts_of variable b) (parts a) (parts b) (expression_stands a) (expression_stands b))
-    expression_stands (Arrow a b) = two (parts_of variable a) (parts_of variable b) (parts a) (parts b) (expression_stands a) (expression_stands b)
-    expression_stands (Fby a b) = two (parts_of variable a) (parts_of variable b) (parts a) (parts b) (expression_stands a) (expression_stands b)
+        two (parts_of variable c) (parts_of variable a ++ parts_of variable b) (parts c)
+        (parts a ++ parts b) (expression_stands c)
+        (two (parts_of variable a) (parts_of variable b) (parts a) (parts b) (expression_stands a)
+        (expression_stands b))
+    expression_stands (Arrow a b) = two (parts_of variable a) (parts_of variable b) (parts a)
+        (parts b) (expression_stands a) (expression_stands b)
+    expression_stands (Fby a b) = two (parts_of variable a) (parts_of variable b) (parts a)
+        (parts b) (expression_stands a) (expression_stands b)
     expression_stands (Pre a) = expression_stands a
     expression_stands (Current a) = expression_stands a
     expression_stands (When a y sign) = expression_stands a
-    expression_stands (Copies a n) = ap (λ b. b || list_any in_part (parts_of variable a)) (alone (in_static n)) ∙ ap (λ b. ((in_static n || false) || false) || b) (expression_stands a)
-    expression_stands (tree.Index a i) = ap (λ b. b || list_any in_part (parts_of variable a)) (alone (in_static i)) ∙ ap (λ b. ((in_static i || false) || false) || b) (expression_stands a)
+    expression_stands (Copies a n) = ap (λ b. b || list_any in_part (parts_of variable a))
+        (alone (in_static n)) ∙ ap (λ b. ((in_static n || false) || false) || b)
+        (expression_stands a)
+    expression_stands (tree.Index a i) = ap (λ b. b || list_any in_part (parts_of variable a))
+        (alone (in_static i)) ∙ ap (λ b. ((in_static i || false) || false) || b)
+        (expression_stands a)
     expression_stands (Slice a i j) =
         both_alone (in_static i) (in_static j) (list_any in_part (parts_of variable a))
         ∙ ap (λ b. ((in_static i || (in_static j || false)) || false) || b) (expression_stands a)
-    expression_stands (Join a b) = two (parts_of variable a) (parts_of variable b) (parts a) (parts b) (expression_stands a) (expression_stands b)
+    expression_stands (Join a b) = two (parts_of variable a) (parts_of variable b) (parts a)
+        (parts b) (expression_stands a) (expression_stands b)
     expression_stands (Array es) = row_stands es
     expression_stands (AtMostOne es) = row_stands es
     expression_stands (Nor es) = row_stands es
     expression_stands (Call f statics es) =
-        list_any-append in_part (arguments_of statics) (parts_in variable es) ∙ ap (λ b. b || list_any in_part (parts_in variable es)) (any_map in_part (λ s. (Argument, s)) statics)
+        list_any-append in_part (arguments_of statics) (parts_in variable es)
+        ∙ ap (λ b. b || list_any in_part (parts_in variable es))
+        (any_map in_part (λ s. (Argument, s)) statics)
         ∙ ap (λ b. list_any in_static statics || b) (row_stands es)
     expression_stands (Iterate it (Node_named f statics) n es) =
         ap (λ b. in_static n || b)
-        (list_any-append in_part (arguments_of statics) (parts_in variable es) ∙ ap (λ b. b || list_any in_part (parts_in variable es)) (any_map in_part (λ s. (Argument, s)) statics))
-        ∙ counted (in_static n) (list_any in_static statics) (list_any in_part (parts_in variable es))
+        (list_any-append in_part (arguments_of statics) (parts_in variable es)
+        ∙ ap (λ b. b || list_any in_part (parts_in variable es))
+        (any_map in_part (λ s. (Argument, s)) statics))
+        ∙ counted (in_static n) (list_any in_static statics)
+        (list_any in_part (parts_in variable es))
         ∙ ap (λ b. ((in_static n || false) || list_any in_static statics) || b) (row_stands es)
     expression_stands (Iterate it (Symbol op) n es) =
-        ap (λ b. b || list_any in_part (parts_in variable es)) (alone (in_static n)) ∙ ap (λ b. ((in_static n || false) || false) || b) (row_stands es)
+        ap (λ b. b || list_any in_part (parts_in variable es)) (alone (in_static n))
+        ∙ ap (λ b. ((in_static n || false) || false) || b) (row_stands es)
 
-    row_stands : (es : Exprs) → list_any in_part (parts_in variable es) ≡ list_any stands (exprs_in es)
+    row_stands : (es : Exprs)
+        → list_any in_part (parts_in variable es) ≡ list_any stands (exprs_in es)
     row_stands Nil = refl
-    row_stands (Cons e es) = two (parts_of variable e) (parts_in variable es) (parts e) (exprs_in es) (expression_stands e) (row_stands es)
+    row_stands (Cons e es) = two (parts_of variable e) (parts_in variable es) (parts e)
+        (exprs_in es) (expression_stands e) (row_stands es)
 
   -- some part of a list of expressions has it
   pub any_stands : (es : List Expr) → list_any stands es
-      ≡ ((among x (flat_map own_names es) && not (variable x)) || (list_any in_static (flat_map own_sizes es) || (list_any in_static (flat_map own_indexes es) || list_any in_static (flat_map own_arguments es))))
+      ≡ ((among x (flat_map own_names es) && not (variable x))
+      || (list_any in_static (flat_map own_sizes es)
+      || (list_any in_static (flat_map own_indexes es)
+      || list_any in_static (flat_map own_arguments es))))
   any_stands es =
-      any_or (λ e. among x (own_names e) && not (variable x)) (λ e. list_any in_static (own_sizes e) || (list_any in_static (own_indexes e) || list_any in_static (own_arguments e))) es
-      ∙ ap (λ b. b || list_any (λ e. list_any in_static (own_sizes e) || (list_any in_static (own_indexes e) || list_any in_static (own_arguments e))) es)
-      (any_and (λ e. among x (own_names e)) (not (variable x)) es ∙ ap (λ b. b && not (variable x)) (sym (any_flat (bytes_eq x) own_names es)))
+      any_or (λ e. among x (own_names e) && not (variable x))
+      (λ e. list_any in_static (own_sizes e)
+      || (list_any in_static (own_indexes e) || list_any in_static (own_arguments e))) es
+      ∙ ap (λ b. b || list_any
+      (λ e. list_any in_static (own_sizes e)
+      || (list_any in_static (own_indexes e) || list_any in_static (own_arguments e))) es)
+      (any_and (λ e. among x (own_names e)) (not (variable x)) es
+      ∙ ap (λ b. b && not (variable x)) (sym (any_flat (bytes_eq x) own_names es)))
       ∙ ap (λ b. (among x (flat_map own_names es) && not (variable x)) || b)
-      (any_or (λ e. list_any in_static (own_sizes e)) (λ e. list_any in_static (own_indexes e) || list_any in_static (own_arguments e)) es
-      ∙ ap (λ b. b || list_any (λ e. list_any in_static (own_indexes e) || list_any in_static (own_arguments e)) es) (sym (any_flat in_static own_sizes es))
+      (any_or (λ e. list_any in_static (own_sizes e))
+      (λ e. list_any in_static (own_indexes e) || list_any in_static (own_arguments e)) es
+      ∙ ap (λ b. b || list_any
+      (λ e. list_any in_static (own_indexes e) || list_any in_static (own_arguments e)) es)
+      (sym (any_flat in_static own_sizes es))
       ∙ ap (λ b. list_any in_static (flat_map own_sizes es) || b)
-      (any_or (λ e. list_any in_static (own_indexes e)) (λ e. list_any in_static (own_arguments e)) es
-      ∙ ap (λ b. b || list_any (λ e. list_any in_static (own_arguments e)) es) (sym (any_flat in_static own_indexes es))
-      ∙ ap (λ b. list_any in_static (flat_map own_indexes es) || b) (sym (any_flat in_static own_arguments es))))
+      (any_or (λ e. list_any in_static (own_indexes e)) (λ e. list_any in_static (own_arguments e))
+      es
+      ∙ ap (λ b. b || list_any (λ e. list_any in_static (own_arguments e)) es)
+      (sym (any_flat in_static own_indexes es))
+      ∙ ap (λ b. list_any in_static (flat_map own_indexes es) || b)
+      (sym (any_flat in_static own_arguments es))))
 
   -- ## Declarations
 
@@ -173,42 +221,68 @@ module _ (x : Name) (variable : Name → Bool) where
   absorbed false true f = sym (f refl)
   absorbed false false f = refl
 
-  repeated : (g : Group) (ys : List Name) → list_any in_static (flat_map (λ (d : Declaration). d.sizes) (map (λ y. record { name = y; kind = g.kind; sizes = g.sizes; clock = g.clock }) ys)) ≡ true
+  repeated : (g : Group) (ys : List Name)
+      → list_any in_static (flat_map (λ (d : Declaration). d.sizes)
+      (map (λ y. record { name = y; kind = g.kind; sizes = g.sizes; clock = g.clock }) ys)) ≡ true
       → list_any in_static g.sizes ≡ true
   repeated g [] e = absurd cc
-  repeated g (y ∷ ys) e = sym (absorbed (list_any in_static g.sizes) (list_any in_static (flat_map (λ (d : Declaration). d.sizes) (map (λ y. record { name = y; kind = g.kind; sizes = g.sizes; clock = g.clock }) ys))) (repeated g ys))
-      ∙ sym (list_any-append in_static g.sizes (flat_map (λ (d : Declaration). d.sizes) (map (λ y. record { name = y; kind = g.kind; sizes = g.sizes; clock = g.clock }) ys))) ∙ e
+  repeated g (y ∷ ys) e = sym
+      (absorbed (list_any in_static g.sizes)
+      (list_any in_static (flat_map (λ (d : Declaration). d.sizes)
+      (map (λ y. record { name = y; kind = g.kind; sizes = g.sizes; clock = g.clock }) ys)))
+      (repeated g ys))
+      ∙ sym (list_any-append in_static g.sizes
+      (flat_map (λ (d : Declaration). d.sizes)
+      (map (λ y. record { name = y; kind = g.kind; sizes = g.sizes; clock = g.clock }) ys))) ∙ e
 
-  group_stands : (g : Group) → list_any in_part (group_parts g) ≡ list_any in_static (flat_map (λ d. d.sizes) (declarations g))
+  group_stands : (g : Group)
+      → list_any in_part (group_parts g)
+      ≡ list_any in_static (flat_map (λ d. d.sizes) (declarations g))
   group_stands g = by g.names
     where
-      by : (ys : List Name) → list_any in_part (if_named ys (map (λ s. (Size, s)) g.sizes)) ≡ list_any in_static (flat_map (λ (d : Declaration). d.sizes) (map (λ y. record { name = y; kind = g.kind; sizes = g.sizes; clock = g.clock }) ys))
+      by : (ys : List Name) → list_any in_part (if_named ys (map (λ s. (Size, s)) g.sizes))
+          ≡ list_any in_static (flat_map (λ (d : Declaration). d.sizes)
+          (map (λ y. record { name = y; kind = g.kind; sizes = g.sizes; clock = g.clock }) ys))
       by [] = refl
       by (y ∷ ys) =
           any_map in_part (λ s. (Size, s)) g.sizes
-          ∙ sym (absorbed (list_any in_static g.sizes) (list_any in_static (flat_map (λ (d : Declaration). d.sizes) (map (λ y. record { name = y; kind = g.kind; sizes = g.sizes; clock = g.clock }) ys))) (repeated g ys))
-          ∙ sym (list_any-append in_static g.sizes (flat_map (λ (d : Declaration). d.sizes) (map (λ y. record { name = y; kind = g.kind; sizes = g.sizes; clock = g.clock }) ys)))
+          ∙ sym (absorbed (list_any in_static g.sizes)
+          (list_any in_static (flat_map (λ (d : Declaration). d.sizes)
+          (map (λ y. record { name = y; kind = g.kind; sizes = g.sizes; clock = g.clock }) ys)))
+          (repeated g ys))
+          ∙ sym (list_any-append in_static g.sizes
+          (flat_map (λ (d : Declaration). d.sizes)
+          (map (λ y. record { name = y; kind = g.kind; sizes = g.sizes; clock = g.clock }) ys)))
 
-  pub groups_stand : (gs : List Group) → list_any in_part (flat_map group_parts gs) ≡ list_any in_static (flat_map (λ d. d.sizes) (declared gs))
+  pub groups_stand : (gs : List Group)
+      → list_any in_part (flat_map group_parts gs)
+      ≡ list_any in_static (flat_map (λ d. d.sizes) (declared gs))
   groups_stand [] = refl
   groups_stand (g ∷ gs) =
       list_any-append in_part (group_parts g) (flat_map group_parts gs)
       ∙ ap (λ b. b || list_any in_part (flat_map group_parts gs)) (group_stands g)
-      ∙ ap (λ b. list_any in_static (flat_map (λ d. d.sizes) (declarations g)) || b) (groups_stand gs)
-      ∙ sym (ap (list_any in_static) (flat_append (λ d. d.sizes) (declarations g) (declared gs)) ∙ list_any-append in_static (flat_map (λ d. d.sizes) (declarations g)) (flat_map (λ d. d.sizes) (declared gs)))
+      ∙ ap (λ b. list_any in_static (flat_map (λ d. d.sizes) (declarations g)) || b)
+      (groups_stand gs)
+      ∙ sym (ap (list_any in_static) (flat_append (λ d. d.sizes) (declarations g) (declared gs))
+      ∙ list_any-append in_static (flat_map (λ d. d.sizes) (declarations g))
+      (flat_map (λ d. d.sizes) (declared gs)))
 
 declared_append : (gs hs : List Group) → declared (gs ++ hs) ≡ declared gs ++ declared hs
 declared_append [] hs = refl
-declared_append (g ∷ gs) hs = ap (λ l. declarations g ++ l) (declared_append gs hs) ∙ sym (append_assoc (declarations g) (declared gs) (declared hs))
+declared_append (g ∷ gs) hs = ap (λ l. declarations g ++ l) (declared_append gs hs)
+    ∙ sym (append_assoc (declarations g) (declared gs) (declared hs))
 
 map_append : {A B : Type 0} (f : A → B) (xs ys : List A) → map f (xs ++ ys) ≡ map f xs ++ map f ys
 map_append f [] ys = refl
 map_append f (x ∷ xs) ys = ap (λ l. f x ∷ l) (map_append f xs ys)
 
 -- the declarations of a node, from its groups
-pub variables_are : (n : written.Node) → declared (view_groups (n.inputs.items ++ (n.outputs.items ++ n.locals.items))) ≡ variables (view_node n)
+pub variables_are : (n : written.Node)
+    → declared (view_groups (n.inputs.items ++ (n.outputs.items ++ n.locals.items)))
+    ≡ variables (view_node n)
 variables_are n =
     ap declared (map_append view_group n.inputs.items (n.outputs.items ++ n.locals.items))
     ∙ declared_append (view_groups n.inputs.items) (view_groups (n.outputs.items ++ n.locals.items))
     ∙ ap (λ l. declared (view_groups n.inputs.items) ++ l)
-    (ap declared (map_append view_group n.outputs.items n.locals.items) ∙ declared_append (view_groups n.outputs.items) (view_groups n.locals.items))
+    (ap declared (map_append view_group n.outputs.items n.locals.items)
+    ∙ declared_append (view_groups n.outputs.items) (view_groups n.locals.items))

@@ -8,7 +8,7 @@ use Rattle.lb_static.specs.Instances.{Program, node_sites}
 use Rattle.lb_static.specs.NameFaults.{IsNameFault}
 use Rattle.lb_static.specs.Names.{are_distinct, is_callable, is_known, is_static_name, is_variable, is_named}
 use Rattle.lb_static.specs.NodeNames.{static_passes, statics_pass}
-use Rattle.lb_static.specs.NodeProgress.{Progress, program_of, clock_fits, declaration_fits, statement_fits}
+use Rattle.lb_static.specs.NodeProgress.{Progress, program_of, clock_fits, declaration_fits, node_fits, statement_fits}
 use Rattle.lb_static.specs.Parts.{left_names, node_parts, own_names, own_sizes, own_indexes, own_arguments, own_clock_names, node_names, node_statics, node_static_names, declared_names, declared_sizes, static_names, clock_names}
 use Rattle.lb_static.specs.Shapes.{variables}
 use Rattle.lb_static.specs.declared.error.StaticError.{StaticError}
@@ -25,7 +25,8 @@ same_truth false true f g = g refl
 same_truth false false f g = refl
 
 -- the parts of the rule of names, as the rule has them and as the code finds them
-arranged : (c k s t d e l : Bool) → (c && (k && ((s && t) && ((d && e) && l)))) ≡ ((s && d) && (l && ((k && (e && t)) && c)))
+arranged : (c k s t d e l : Bool)
+    → (c && (k && ((s && t) && ((d && e) && l)))) ≡ ((s && d) && (l && ((k && (e && t)) && c)))
 arranged c k s t d e l =
     same_truth _ _
     (λ h.
@@ -38,7 +39,8 @@ arranged c k s t d e l =
     let de = and_first (d && e) l del in
     both (s && d) _ (both s d (and_first s t st) (and_first d e de))
     (both l _ (and_second (d && e) l del)
-    (both (k && (e && t)) c (both k (e && t) k' (both e t (and_second d e de) (and_second s t st))) c')))
+    (both (k && (e && t)) c (both k (e && t) k' (both e t (and_second d e de) (and_second s t st)))
+    c')))
     (λ h.
     let sd = and_first (s && d) _ h in
     let g = and_second (s && d) _ h in
@@ -51,6 +53,52 @@ arranged c k s t d e l =
     (both (s && t) _ (both s t (and_first s d sd) (and_second e t et))
     (both (d && e) l (both d e (and_second s d sd) (and_first e t et)) l'))))
 
+-- ## The parts of a node, one after the other
+
+module _ (here : Progress) (n : Node) where
+  abbrev fit : List Declaration → Bool
+  fit = list_all (declaration_fits here)
+
+  abbrev statements_fit : Bool
+  statements_fit = list_all (statement_fits here) n.body
+
+  declarations_are : fit (variables n) ≡ (fit n.inputs && (fit n.outputs && fit n.locals))
+  declarations_are =
+      all_append (declaration_fits here) n.inputs (n.outputs ++ n.locals)
+      ∙ ap (λ b. fit n.inputs && b) (all_append (declaration_fits here) n.outputs n.locals)
+
+  pub all_fit : fit n.inputs ≡ true → fit n.outputs ≡ true → fit n.locals ≡ true
+      → statements_fit ≡ true → node_fits here n ≡ true
+  all_fit ins outs locals body =
+      both _ _ (declarations_are ∙ both _ _ ins (both _ _ outs locals)) body
+
+  declarations_fault : (f : StaticError) (b : Bool) → (b ≡ false → fit (variables n) ≡ false)
+      → IsNameFault f b → IsNameFault f (node_fits here n)
+  declarations_fault f b within h =
+      fault_within f _ _ h (λ e. false_first _ statements_fit (within e))
+
+  pub inputs_fault : (f : StaticError) → IsNameFault f (fit n.inputs)
+      → IsNameFault f (node_fits here n)
+  inputs_fault f h = declarations_fault f _ (λ e. declarations_are ∙ false_first _ _ e) h
+
+  pub outputs_fault : (f : StaticError) → IsNameFault f (fit n.outputs)
+      → IsNameFault f (node_fits here n)
+  outputs_fault f h =
+      declarations_fault f _ (λ e. declarations_are
+      ∙ false_second (fit n.inputs) _ (false_first _ (fit n.locals) e)) h
+
+  pub locals_fault : (f : StaticError) → IsNameFault f (fit n.locals)
+      → IsNameFault f (node_fits here n)
+  locals_fault f h =
+      declarations_fault f _ (λ e. declarations_are
+      ∙ false_second (fit n.inputs) _ (false_second (fit n.outputs) _ e)) h
+
+  pub body_fault : (f : StaticError) → IsNameFault f statements_fit
+      → IsNameFault f (node_fits here n)
+  body_fault f h = fault_within f _ _ h (λ e. false_second (fit (variables n)) _ e)
+
+-- ## The rule of names
+
 module _ (here : Progress) where
   abbrev P : Program
   P = program_of here
@@ -62,13 +110,17 @@ module _ (here : Progress) where
   clock_name d = option_map (λ s. s.variable) d.clock
 
   one_more : (c : Option Sampling) (rest : List (Option Name))
-      → list_all (is_variable P n) (some_of (option_map (λ s. s.variable) c ∷ rest)) ≡ (clock_fits here c && list_all (is_variable P n) (some_of rest))
+      → list_all (is_variable P n) (some_of (option_map (λ s. s.variable) c ∷ rest))
+      ≡ (clock_fits here c && list_all (is_variable P n) (some_of rest))
   one_more None rest = refl
   one_more (Some c) rest = refl
 
-  clocks_fit : (ds : List Declaration) → list_all (is_variable P n) (some_of (map clock_name ds)) ≡ list_all (λ d. clock_fits here d.clock) ds
+  clocks_fit : (ds : List Declaration)
+      → list_all (is_variable P n) (some_of (map clock_name ds))
+      ≡ list_all (λ d. clock_fits here d.clock) ds
   clocks_fit [] = refl
-  clocks_fit (d ∷ ds) = one_more d.clock (map clock_name ds) ∙ ap (λ b. clock_fits here d.clock && b) (clocks_fit ds)
+  clocks_fit (d ∷ ds) = one_more d.clock (map clock_name ds)
+      ∙ ap (λ b. clock_fits here d.clock && b) (clocks_fit ds)
 
   abbrev in_parts : (Expr → Bool) → Bool
   in_parts p = list_all p (node_parts n)
@@ -83,20 +135,28 @@ module _ (here : Progress) where
   own_is : list_all (own P n) (node_parts n)
       ≡ (in_parts (λ e. list_all known (own_names e))
       && (in_parts (λ e. list_all (is_variable P n) (own_clock_names e))
-      && (in_parts (λ e. passing (own_sizes e)) && (in_parts (λ e. passing (own_indexes e)) && in_parts (λ e. passing (own_arguments e))))))
+      && (in_parts (λ e. passing (own_sizes e))
+      && (in_parts (λ e. passing (own_indexes e)) && in_parts (λ e. passing (own_arguments e))))))
   own_is =
-      all_and (λ e. list_all known (own_names e)) (λ e. list_all (is_variable P n) (own_clock_names e)
-      && (passing (own_sizes e) && (passing (own_indexes e) && passing (own_arguments e)))) (node_parts n)
+      all_and (λ e. list_all known (own_names e))
+      (λ e. list_all (is_variable P n) (own_clock_names e)
+      && (passing (own_sizes e) && (passing (own_indexes e) && passing (own_arguments e))))
+      (node_parts n)
       ∙ ap (λ b. in_parts (λ e. list_all known (own_names e)) && b)
-      (all_and (λ e. list_all (is_variable P n) (own_clock_names e)) (λ e. passing (own_sizes e) && (passing (own_indexes e) && passing (own_arguments e))) (node_parts n)
+      (all_and (λ e. list_all (is_variable P n) (own_clock_names e))
+      (λ e. passing (own_sizes e) && (passing (own_indexes e) && passing (own_arguments e)))
+      (node_parts n)
       ∙ ap (λ b. in_parts (λ e. list_all (is_variable P n) (own_clock_names e)) && b)
-      (all_and (λ e. passing (own_sizes e)) (λ e. passing (own_indexes e) && passing (own_arguments e)) (node_parts n)
-      ∙ ap (λ b. in_parts (λ e. passing (own_sizes e)) && b) (all_and (λ e. passing (own_indexes e)) (λ e. passing (own_arguments e)) (node_parts n))))
+      (all_and (λ e. passing (own_sizes e))
+      (λ e. passing (own_indexes e) && passing (own_arguments e)) (node_parts n)
+      ∙ ap (λ b. in_parts (λ e. passing (own_sizes e)) && b)
+      (all_and (λ e. passing (own_indexes e)) (λ e. passing (own_arguments e)) (node_parts n))))
 
   -- the static expressions
   statics_are : list_all (is_static_name P n) (node_static_names n)
       ≡ (list_all (λ d. passing d.sizes) (variables n)
-      && (in_parts (λ e. passing (own_sizes e)) && (in_parts (λ e. passing (own_indexes e)) && in_parts (λ e. passing (own_arguments e)))))
+      && (in_parts (λ e. passing (own_sizes e))
+      && (in_parts (λ e. passing (own_indexes e)) && in_parts (λ e. passing (own_arguments e)))))
   statics_are =
       let sizes = flat_map own_sizes (node_parts n) in
       let indexes = flat_map own_indexes (node_parts n) in
@@ -104,19 +164,27 @@ module _ (here : Progress) where
       let test = static_passes P n in
       all_flat (is_static_name P n) static_names (node_statics n)
       ∙ all_append test (declared_sizes n ++ sizes) (indexes ++ arguments)
-      ∙ ap (λ b. b && list_all test (indexes ++ arguments)) (all_append test (declared_sizes n) sizes)
-      ∙ ap (λ b. (list_all test (declared_sizes n) && list_all test sizes) && b) (all_append test indexes arguments)
+      ∙ ap (λ b. b && list_all test (indexes ++ arguments))
+      (all_append test (declared_sizes n) sizes)
+      ∙ ap (λ b. (list_all test (declared_sizes n) && list_all test sizes) && b)
+      (all_append test indexes arguments)
       ∙ and_assoc (list_all test (declared_sizes n)) (list_all test sizes) _
-      ∙ ap (λ b. b && (list_all test sizes && (list_all test indexes && list_all test arguments))) (all_flat test (λ (d : Declaration). d.sizes) (variables n))
-      ∙ ap (λ b. list_all (λ (d : Declaration). passing d.sizes) (variables n) && (b && (list_all test indexes && list_all test arguments))) (all_flat test own_sizes (node_parts n))
-      ∙ ap (λ b. list_all (λ (d : Declaration). passing d.sizes) (variables n) && (in_parts (λ e. passing (own_sizes e)) && (b && list_all test arguments)))
+      ∙ ap (λ b. b && (list_all test sizes && (list_all test indexes && list_all test arguments)))
+      (all_flat test (λ (d : Declaration). d.sizes) (variables n))
+      ∙ ap (λ b. list_all (λ (d : Declaration). passing d.sizes) (variables n)
+      && (b && (list_all test indexes && list_all test arguments)))
+      (all_flat test own_sizes (node_parts n))
+      ∙ ap (λ b. list_all (λ (d : Declaration). passing d.sizes) (variables n)
+      && (in_parts (λ e. passing (own_sizes e)) && (b && list_all test arguments)))
       (all_flat test own_indexes (node_parts n))
-      ∙ ap (λ b. list_all (λ (d : Declaration). passing d.sizes) (variables n) && (in_parts (λ e. passing (own_sizes e)) && (in_parts (λ e. passing (own_indexes e)) && b)))
+      ∙ ap (λ b. list_all (λ (d : Declaration). passing d.sizes) (variables n)
+      && (in_parts (λ e. passing (own_sizes e)) && (in_parts (λ e. passing (own_indexes e)) && b)))
       (all_flat test own_arguments (node_parts n))
 
   -- the names of clocks, and left names
   variables_are : list_all (is_variable P n) (clock_names n ++ flat_map left_names n.body)
-      ≡ ((list_all (λ d. clock_fits here d.clock) (variables n) && in_parts (λ e. list_all (is_variable P n) (own_clock_names e)))
+      ≡ ((list_all (λ d. clock_fits here d.clock) (variables n)
+      && in_parts (λ e. list_all (is_variable P n) (own_clock_names e)))
       && list_all (is_variable P n) (flat_map left_names n.body))
   variables_are =
       let test = is_variable P n in
@@ -126,7 +194,8 @@ module _ (here : Progress) where
       all_append test (clock_names n) lefts
       ∙ ap (λ b. b && list_all test lefts) (all_append test declared clocks)
       ∙ ap (λ b. (b && list_all test clocks) && list_all test lefts) (clocks_fit (variables n))
-      ∙ ap (λ b. (list_all (λ (d : Declaration). clock_fits here d.clock) (variables n) && b) && list_all test lefts) (all_flat test own_clock_names (node_parts n))
+      ∙ ap (λ b. (list_all (λ (d : Declaration). clock_fits here d.clock) (variables n) && b)
+      && list_all test lefts) (all_flat test own_clock_names (node_parts n))
 
   abbrev declarations_fit : Bool
   declarations_fit = list_all (declaration_fits here) (variables n)
@@ -139,7 +208,9 @@ module _ (here : Progress) where
       let c = list_all (is_callable P) (node_sites n) in
       let k = in_parts (λ e. list_all known (own_names e)) in
       let s = list_all (λ (d : Declaration). passing d.sizes) (variables n) in
-      let t = in_parts (λ e. passing (own_sizes e)) && (in_parts (λ e. passing (own_indexes e)) && in_parts (λ e. passing (own_arguments e))) in
+      let t = in_parts (λ e. passing (own_sizes e))
+      && (in_parts (λ e. passing (own_indexes e))
+      && in_parts (λ e. passing (own_arguments e))) in
       let d = list_all (λ (d : Declaration). clock_fits here d.clock) (variables n) in
       let e = in_parts (λ e. list_all (is_variable P n) (own_clock_names e)) in
       let l = list_all (is_variable P n) (flat_map left_names n.body) in
@@ -151,42 +222,19 @@ module _ (here : Progress) where
       ∙ ap (λ b. c && (k && (b && clocks))) statics_are
       ∙ ap (λ b. c && (k && ((s && t) && b))) variables_are
       ∙ arranged c k s t d e l
-      ∙ ap (λ b. b && (l && ((k && (e && t)) && c))) (sym (all_and (λ (d : Declaration). passing d.sizes) (λ (d : Declaration). clock_fits here d.clock) (variables n)))
+      ∙ ap (λ b. b && (l && ((k && (e && t)) && c)))
+      (sym (all_and (λ (d : Declaration). passing d.sizes)
+      (λ (d : Declaration). clock_fits here d.clock) (variables n)))
       ∙ ap (λ b. declarations_fit && (l && (b && c))) (sym own_is)
       ∙ ap (λ b. declarations_fit && b) (sym (body_is P n n.body)))
 
-  declarations_are : declarations_fit
-      ≡ (list_all (declaration_fits here) n.inputs && (list_all (declaration_fits here) n.outputs && list_all (declaration_fits here) n.locals))
-  declarations_are =
-      all_append (declaration_fits here) n.inputs (n.outputs ++ n.locals)
-      ∙ ap (λ b. list_all (declaration_fits here) n.inputs && b) (all_append (declaration_fits here) n.outputs n.locals)
-
   -- ## A node that is named
 
-  pub all_named : are_distinct (declared_names n) ≡ true → list_all (declaration_fits here) n.inputs ≡ true → list_all (declaration_fits here) n.outputs ≡ true
-      → list_all (declaration_fits here) n.locals ≡ true → body_fits ≡ true → is_named P n ≡ true
-  all_named once ins outs locals body =
-      named_is ∙ both _ _ once (both _ _ (declarations_are ∙ both _ _ ins (both _ _ outs locals)) body)
+  pub all_named : are_distinct (declared_names n) ≡ true → node_fits here n ≡ true
+      → is_named P n ≡ true
+  all_named once fit = named_is ∙ both _ _ once fit
 
-  -- ## Faults
-
-  declarations_fault : (f : StaticError) (b : Bool) → (b ≡ false → declarations_fit ≡ false) → IsNameFault f b → IsNameFault f (is_named P n)
-  declarations_fault f b within h =
-      fault_within f _ _ h (λ e. named_is ∙ false_second (are_distinct (declared_names n)) _ (false_first _ body_fits (within e)))
-
-  pub inputs_fault : (f : StaticError) → IsNameFault f (list_all (declaration_fits here) n.inputs) → IsNameFault f (is_named P n)
-  inputs_fault f h = declarations_fault f _ (λ e. declarations_are ∙ false_first _ _ e) h
-
-  pub outputs_fault : (f : StaticError) → IsNameFault f (list_all (declaration_fits here) n.outputs) → IsNameFault f (is_named P n)
-  outputs_fault f h =
-      declarations_fault f _
-      (λ e. declarations_are ∙ false_second (list_all (declaration_fits here) n.inputs) _ (false_first _ (list_all (declaration_fits here) n.locals) e)) h
-
-  pub locals_fault : (f : StaticError) → IsNameFault f (list_all (declaration_fits here) n.locals) → IsNameFault f (is_named P n)
-  locals_fault f h =
-      declarations_fault f _
-      (λ e. declarations_are ∙ false_second (list_all (declaration_fits here) n.inputs) _ (false_second (list_all (declaration_fits here) n.outputs) _ e)) h
-
-  pub body_fault : (f : StaticError) → IsNameFault f body_fits → IsNameFault f (is_named P n)
-  body_fault f h =
-      fault_within f _ _ h (λ e. named_is ∙ false_second (are_distinct (declared_names n)) _ (false_second declarations_fit _ e))
+  pub node_fault : (f : StaticError) → IsNameFault f (node_fits here n)
+      → IsNameFault f (is_named P n)
+  node_fault f h = fault_within f _ _ h
+      (λ e. named_is ∙ false_second (are_distinct (declared_names n)) _ e)

@@ -18,9 +18,11 @@ use Rattle.lb_static.proofs.TestedItems.{all_flat}
 
 -- ## Tests of lists
 
-pub all_and : {A : Type 0} (p q : A → Bool) (xs : List A) → (list_all p xs && list_all q xs) ≡ list_all (λ x. p x && q x) xs
+pub all_and : {A : Type 0} (p q : A → Bool) (xs : List A)
+    → (list_all p xs && list_all q xs) ≡ list_all (λ x. p x && q x) xs
 all_and p q [] = refl
-all_and p q (x ∷ xs) = by (p x) (q x) (list_all p xs) (list_all q xs) ∙ ap (λ b. (p x && q x) && b) (all_and p q xs)
+all_and p q (x ∷ xs) = by (p x) (q x) (list_all p xs) (list_all q xs)
+    ∙ ap (λ b. (p x && q x) && b) (all_and p q xs)
   where
     by : (a b c d : Bool) → ((a && c) && (b && d)) ≡ ((a && b) && (c && d))
     by true true c d = refl
@@ -28,7 +30,8 @@ all_and p q (x ∷ xs) = by (p x) (q x) (list_all p xs) (list_all q xs) ∙ ap (
     by true false false d = refl
     by false b c d = refl
 
-pub all_same : {A : Type 0} (p q : A → Bool) (xs : List A) → ((x : A) → p x ≡ q x) → list_all p xs ≡ list_all q xs
+pub all_same : {A : Type 0} (p q : A → Bool) (xs : List A) → ((x : A) → p x ≡ q x)
+    → list_all p xs ≡ list_all q xs
 all_same p q [] e = refl
 all_same p q (x ∷ xs) e = ap₂ (λ a b. a && b) (e x) (all_same p q xs e)
 
@@ -56,23 +59,29 @@ and_true : (b : Bool) → (b && true) ≡ b
 and_true true = refl
 and_true false = refl
 
-of_group : (p : Static → Bool) (g : Declarations) (x : Name) (xs : List Name) → list_all p (sizes_in (declarations (record g { names = x ∷ xs }))) ≡ list_all p g.sizes
+of_group : (p : Static → Bool) (g : Declarations) (x : Name) (xs : List Name)
+    → list_all p (sizes_in (declarations (record g { names = x ∷ xs }))) ≡ list_all p g.sizes
 of_group p g x [] = all_append p g.sizes [] ∙ and_true (list_all p g.sizes)
 of_group p g x (y ∷ xs) =
     all_append p g.sizes (sizes_in (declarations (record g { names = y ∷ xs })))
     ∙ twice (list_all p g.sizes) _ (of_group p g y xs)
 
-pub group_sizes : (p : Static → Bool) (g : Declarations) → list_all p (sizes_in (declarations g)) ≡ list_all (λ (q : Part). p q.1) (group_parts g)
+pub group_sizes : (p : Static → Bool) (g : Declarations)
+    → list_all p (sizes_in (declarations g)) ≡ list_all (λ (q : Part). p q.1) (group_parts g)
 group_sizes p g = by g.names
   where
-    by : (xs : List Name) → list_all p (sizes_in (declarations (record g { names = xs }))) ≡ list_all (λ (q : Part). p q.1) (if_named xs (map (λ s. (Size, s)) g.sizes))
+    by : (xs : List Name) → list_all p (sizes_in (declarations (record g { names = xs })))
+        ≡ list_all (λ (q : Part). p q.1) (if_named xs (map (λ s. (Size, s)) g.sizes))
     by [] = refl
-    by (x ∷ xs) = of_group p g x xs ∙ sym (list_all-map (λ (q : Part). p q.1) (λ s. (Size, s)) g.sizes)
+    by (x ∷ xs) = of_group p g x xs
+        ∙ sym (list_all-map (λ (q : Part). p q.1) (λ s. (Size, s)) g.sizes)
 
-pub groups_sizes : (p : Static → Bool) (gs : List Declarations) → list_all p (sizes_in (declared gs)) ≡ list_all (λ (q : Part). p q.1) (flat_map group_parts gs)
+pub groups_sizes : (p : Static → Bool) (gs : List Declarations)
+    → list_all p (sizes_in (declared gs)) ≡ list_all (λ (q : Part). p q.1) (flat_map group_parts gs)
 groups_sizes p [] = refl
 groups_sizes p (g ∷ gs) =
-    ap (list_all p) (flat_map-append (λ (d : tree.Declaration). d.sizes) (declarations g) (declared gs))
+    ap (list_all p) (flat_map-append (λ (d : tree.Declaration). d.sizes) (declarations g)
+    (declared gs))
     ∙ all_append p (sizes_in (declarations g)) (sizes_in (declared gs))
     ∙ ap₂ (λ a b. a && b) (group_sizes p g) (groups_sizes p gs)
     ∙ sym (all_append (λ (q : Part). p q.1) (group_parts g) (flat_map group_parts gs))
@@ -90,7 +99,9 @@ module _ (variable : Name → Bool) (given : Name → Option ℤ) where
   name_has x = variable x || is_some (given x)
 
   abbrev pub own_has : Expr → Bool
-  own_has e = (list_all has (own_sizes e) && (list_all has (own_indexes e) && list_all has (own_arguments e))) && list_all name_has (own_names e)
+  own_has e = (list_all has (own_sizes e)
+      && (list_all has (own_indexes e) && list_all has (own_arguments e)))
+      && list_all name_has (own_names e)
 
   first : (a : Bool) → (a && true) ≡ ((a && true) && true)
   first true = refl
@@ -115,7 +126,8 @@ module _ (variable : Name → Bool) (given : Name → Option ℤ) where
   own_is (Truth b) = refl
   own_is (Variable x) = by (variable x)
     where
-      by : (b : Bool) → list_all part_has (cond b [] ((Value, tree.Named x) ∷ [])) ≡ ((b || is_some (given x)) && true)
+      by : (b : Bool) → list_all part_has (cond b [] ((Value, tree.Named x) ∷ []))
+          ≡ ((b || is_some (given x)) && true)
       by true = refl
       by false = refl
   own_is (Group a) = refl
@@ -134,18 +146,22 @@ module _ (variable : Name → Bool) (given : Name → Option ℤ) where
   own_is (Array es) = refl
   own_is (AtMostOne es) = refl
   own_is (Nor es) = refl
-  own_is (Call f statics es) = list_all-map part_has (λ s. (Argument, s)) statics ∙ last (list_all has statics)
+  own_is (Call f statics es) =
+      list_all-map part_has (λ s. (Argument, s)) statics ∙ last (list_all has statics)
   own_is (Iterate it (Node_named f statics) n es) =
-      ap (λ b. has n && b) (list_all-map part_has (λ s. (Argument, s)) statics) ∙ size_and (has n) (list_all has statics)
+      ap (λ b. has n && b) (list_all-map part_has (λ s. (Argument, s)) statics)
+      ∙ size_and (has n) (list_all has statics)
   own_is (Iterate it (Symbol op) n es) = size_and (has n) true
 
   -- all the expressions of a node
   abbrev pub body_has : List Expr → Bool
   body_has es =
-      (list_all has (flat_map own_sizes es) && (list_all has (flat_map own_indexes es) && list_all has (flat_map own_arguments es)))
+      (list_all has (flat_map own_sizes es)
+      && (list_all has (flat_map own_indexes es) && list_all has (flat_map own_arguments es)))
       && list_all name_has (flat_map own_names es)
 
-  pub body_values : (es : List Expr) → body_has es ≡ list_all part_has (flat_map (own_parts variable) es)
+  pub body_values : (es : List Expr)
+      → body_has es ≡ list_all part_has (flat_map (own_parts variable) es)
   body_values es =
       let sizes = λ (e : Expr). list_all has (own_sizes e) in
       let indexes = λ (e : Expr). list_all has (own_indexes e) in
@@ -153,8 +169,10 @@ module _ (variable : Name → Bool) (given : Name → Option ℤ) where
       let names = λ (e : Expr). list_all name_has (own_names e) in
       ap₂ (λ a b. a && b)
       (ap₂ (λ a b. a && b) (all_flat has own_sizes es)
-      (ap₂ (λ a b. a && b) (all_flat has own_indexes es) (all_flat has own_arguments es) ∙ all_and indexes arguments es)
+      (ap₂ (λ a b. a && b) (all_flat has own_indexes es) (all_flat has own_arguments es)
+      ∙ all_and indexes arguments es)
       ∙ all_and sizes (λ e. indexes e && arguments e) es)
       (all_flat name_has own_names es)
       ∙ all_and (λ e. sizes e && (indexes e && arguments e)) names es
-      ∙ sym (all_flat part_has (own_parts variable) es ∙ all_same (λ e. list_all part_has (own_parts variable e)) own_has es own_is)
+      ∙ sym (all_flat part_has (own_parts variable) es
+      ∙ all_same (λ e. list_all part_has (own_parts variable e)) own_has es own_is)

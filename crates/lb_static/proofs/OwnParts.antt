@@ -29,7 +29,8 @@ module _ (variable : Name → Bool) where
   abbrev own_of : List Expr → List Part
   own_of es = flat_map (own_parts variable) es
 
-  two : (ps qs : List Part) (xs ys : List Expr) → ps ≡ own_of xs → qs ≡ own_of ys → ps ++ qs ≡ own_of (xs ++ ys)
+  two : (ps qs : List Part) (xs ys : List Expr) → ps ≡ own_of xs → qs ≡ own_of ys
+      → ps ++ qs ≡ own_of (xs ++ ys)
   two ps qs xs ys e f = ap₂ (λ a b. a ++ b) e f ∙ sym (flat_map-append (own_parts variable) xs ys)
 
   mutual
@@ -41,7 +42,8 @@ module _ (variable : Name → Bool) where
     parts_are (Unary op a) = parts_are a
     parts_are (Binary op a b) = two _ _ (parts a) (parts b) (parts_are a) (parts_are b)
     parts_are (If c a b) =
-        two _ _ (parts c) (parts a ++ parts b) (parts_are c) (two _ _ (parts a) (parts b) (parts_are a) (parts_are b))
+        two _ _ (parts c) (parts a ++ parts b) (parts_are c)
+        (two _ _ (parts a) (parts b) (parts_are a) (parts_are b))
     parts_are (Arrow a b) = two _ _ (parts a) (parts b) (parts_are a) (parts_are b)
     parts_are (Fby a b) = two _ _ (parts a) (parts b) (parts_are a) (parts_are b)
     parts_are (Pre a) = parts_are a
@@ -55,13 +57,17 @@ module _ (variable : Name → Bool) where
     parts_are (AtMostOne es) = row_is es
     parts_are (Nor es) = row_is es
     parts_are (Call f statics es) = ap (λ l. arguments_of statics ++ l) (row_is es)
-    parts_are (Iterate it (Node_named f statics) n es) = ap (λ l. (Size, n) ∷ (arguments_of statics ++ l)) (row_is es)
+    parts_are (Iterate it (Node_named f statics) n es) =
+        ap (λ l. (Size, n) ∷ (arguments_of statics ++ l)) (row_is es)
     parts_are (Iterate it (Symbol op) n es) = ap (λ l. (Size, n) ∷ l) (row_is es)
 
     row_is : (es : Exprs) → parts_in variable es ≡ own_of (of.parts_in es)
     row_is Nil = refl
     row_is (Cons e es) = two _ _ (parts e) (of.parts_in es) (parts_are e) (row_is es)
 
-  pub body_is : (ss : List Statement) → flat_map (λ s. parts_of variable (right_side s)) ss ≡ own_of (flat_map (λ s. parts (right_side s)) ss)
+  pub body_is : (ss : List Statement)
+      → flat_map (λ s. parts_of variable (right_side s)) ss
+      ≡ own_of (flat_map (λ s. parts (right_side s)) ss)
   body_is [] = refl
-  body_is (s ∷ ss) = two _ _ (parts (right_side s)) (flat_map (λ t. parts (right_side t)) ss) (parts_are (right_side s)) (body_is ss)
+  body_is (s ∷ ss) = two _ _ (parts (right_side s)) (flat_map (λ t. parts (right_side t)) ss)
+      (parts_are (right_side s)) (body_is ss)

@@ -14,32 +14,46 @@ none_left : (x : Name) (names : List Name) → value_among x names [] ≡ None
 none_left x [] = refl
 none_left x (n ∷ ns) = refl
 
-at_front : (x : Name) (names : List Name) (values : List ℤ) (i : ℕ) (d : Name) → i < length names → bytes_eq (get_or names i d) x ≡ true
+at_front : (x : Name) (names : List Name) (values : List ℤ) (i : ℕ) (d : Name) → i < length names
+    → bytes_eq (get_or names i d) x ≡ true
     → slice_get values i ≡ value_among x (drop i names) (drop i values)
 at_front x [] values i d below e = absurd (omega arith)
 at_front x (n ∷ ns) [] zero d below e = refl
-at_front x (n ∷ ns) (v ∷ vs) zero d below e = sym (ap (λ b. option_map (λ (w : Name × ℤ). w.1) (cond b (Some (n, v)) (find (λ w. bytes_eq w.0 x) (zip ns vs)))) e)
+at_front x (n ∷ ns) (v ∷ vs) zero d below e = sym
+    (ap (λ b. option_map (λ (w : Name × ℤ). w.1)
+    (cond b (Some (n, v)) (find (λ w. bytes_eq w.0 x) (zip ns vs)))) e)
 at_front x (n ∷ ns) [] (suc i) d below e = sym (none_left x (drop i ns))
 at_front x (n ∷ ns) (v ∷ vs) (suc i) d below e = at_front x ns vs i d (omega arith) e
 
-one_on : (x : Name) (names : List Name) (values : List ℤ) (i : ℕ) (d : Name) → i < length names → bytes_eq (get_or names i d) x ≡ false
-    → value_among x (drop (suc i) names) (drop (suc i) values) ≡ value_among x (drop i names) (drop i values)
+one_on : (x : Name) (names : List Name) (values : List ℤ) (i : ℕ) (d : Name) → i < length names
+    → bytes_eq (get_or names i d) x ≡ false
+    → value_among x (drop (suc i) names) (drop (suc i) values)
+    ≡ value_among x (drop i names) (drop i values)
 one_on x [] values i d below e = absurd (omega arith)
 one_on x (n ∷ ns) [] zero d below e = none_left x ns
-one_on x (n ∷ ns) (v ∷ vs) zero d below e = sym (ap (λ b. option_map (λ (w : Name × ℤ). w.1) (cond b (Some (n, v)) (find (λ w. bytes_eq w.0 x) (zip ns vs)))) e)
-one_on x (n ∷ ns) [] (suc i) d below e = none_left x (drop (suc i) ns) ∙ sym (none_left x (drop i ns))
+one_on x (n ∷ ns) (v ∷ vs) zero d below e = sym
+    (ap (λ b. option_map (λ (w : Name × ℤ). w.1)
+    (cond b (Some (n, v)) (find (λ w. bytes_eq w.0 x) (zip ns vs)))) e)
+one_on x (n ∷ ns) [] (suc i) d below e =
+    none_left x (drop (suc i) ns) ∙ sym (none_left x (drop i ns))
 one_on x (n ∷ ns) (v ∷ vs) (suc i) d below e = one_on x ns vs i d (omega arith) e
 
-pub value_seen : (x : Name) (names : List Name) (values : List ℤ) (i : ℕ) (n : Name) → i < length names → n ≡ get_or names i n → bytes_eq n x ≡ true
-    → value_among x (drop i names) (drop i values) ≡ value_among x names values → slice_get values i ≡ value_among x names values
-value_seen x names values i n below is e h = at_front x names values i n below (subst (λ m. bytes_eq m x ≡ true) is e) ∙ h
+pub value_seen : (x : Name) (names : List Name) (values : List ℤ) (i : ℕ) (n : Name)
+    → i < length names → n ≡ get_or names i n → bytes_eq n x ≡ true
+    → value_among x (drop i names) (drop i values) ≡ value_among x names values
+    → slice_get values i ≡ value_among x names values
+value_seen x names values i n below is e h =
+    at_front x names values i n below (subst (λ m. bytes_eq m x ≡ true) is e) ∙ h
 
-pub value_passed : (x : Name) (names : List Name) (values : List ℤ) (i : ℕ) (n : Name) → i < length names → n ≡ get_or names i n → bytes_eq n x ≡ false
-    → value_among x (drop i names) (drop i values) ≡ value_among x names values → value_among x (drop (i + 1) names) (drop (i + 1) values) ≡ value_among x names values
+pub value_passed : (x : Name) (names : List Name) (values : List ℤ) (i : ℕ) (n : Name)
+    → i < length names → n ≡ get_or names i n → bytes_eq n x ≡ false
+    → value_among x (drop i names) (drop i values) ≡ value_among x names values
+    → value_among x (drop (i + 1) names) (drop (i + 1) values) ≡ value_among x names values
 value_passed x names values i n below is e h =
     rw add-one (one_on x names values i n below (subst (λ m. bytes_eq m x ≡ false) is e) ∙ h)
 
 pub value_missed : (x : Name) (names : List Name) (values : List ℤ) (i : ℕ) → length names ≤ i
-    → value_among x (drop i names) (drop i values) ≡ value_among x names values → None ≡ value_among x names values
+    → value_among x (drop i names) (drop i values) ≡ value_among x names values
+    → None ≡ value_among x names values
 value_missed x names values i past h =
     sym (ap (λ (l : List Name). value_among x l (drop i values)) (drop_of_length-le names past)) ∙ h

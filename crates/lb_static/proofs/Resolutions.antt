@@ -41,7 +41,8 @@ use Rattle.lb_static.proofs.Scopes.{among_append}
 
 -- ## More of a node
 
-pub grown_twice : (s : Progress) (P Q : List Part) (C D : List Site) → grown (grown s P C) Q D ≡ grown s (P ++ Q) (C ++ D)
+pub grown_twice : (s : Progress) (P Q : List Part) (C D : List Site)
+    → grown (grown s P C) Q D ≡ grown s (P ++ Q) (C ++ D)
 grown_twice s P Q C D = λ i. record {
   source = s.source;
   node = s.node;
@@ -55,45 +56,65 @@ module _ (s : Progress) (P : List Part) (C : List Site) where
   X = map (λ p. p.1) P
 
   abbrev later_texts : Texts
-  later_texts = record { variables = (texts s).variables; statics = (texts s).statics ++ X; calls = s.calls ++ C }
+  later_texts = record {
+    variables =
+        (texts s).variables;
+    statics = (texts s).statics ++ X;
+    calls = s.calls ++ C;
+  }
 
   texts_grown : texts (grown s P C) ≡ later_texts
   texts_grown =
-      ap (λ (l : List Static). record { variables = (texts s).variables; statics = l; calls = s.calls ++ C }) (map-append (λ p. p.1) s.parts P)
+      ap (λ (l : List Static). record
+      { variables = (texts s).variables; statics = l; calls = s.calls ++ C })
+      (map-append (λ p. p.1) s.parts P)
 
-  pub within_grown : (t : Term) → is_within (counts_in (texts s)) t ≡ true → is_within (counts_in (texts (grown s P C))) t ≡ true
+  pub within_grown : (t : Term) → is_within (counts_in (texts s)) t ≡ true
+      → is_within (counts_in (texts (grown s P C))) t ≡ true
   within_grown t e =
       ap (λ T. is_within (counts_in T) t) texts_grown
-      ∙ still_within (counts_in (texts s)) (counts_in later_texts) (length X) (length C) refl (length-append _ X) (length-append s.calls C) t e
+      ∙ still_within (counts_in (texts s)) (counts_in later_texts) (length X) (length C) refl
+      (length-append _ X) (length-append s.calls C) t e
 
-  pub expr_grown : (t : Term) → is_within (counts_in (texts s)) t ≡ true → expr_of (texts (grown s P C)) t ≡ expr_of (texts s) t
+  pub expr_grown : (t : Term) → is_within (counts_in (texts s)) t ≡ true
+      → expr_of (texts (grown s P C)) t ≡ expr_of (texts s) t
   expr_grown t e = ap (λ T. expr_of T t) texts_grown ∙ expr_stays (texts s) X C t e
 
-  pub unhidden_grown : (t : Term) → is_within (counts_in (texts s)) t ≡ true → is_unhidden (texts s) t ≡ true → is_unhidden (texts (grown s P C)) t ≡ true
-  unhidden_grown t e u = ap (λ T. is_unhidden T t) texts_grown ∙ unhidden_stays (texts s) X C t e ∙ u
+  pub unhidden_grown : (t : Term) → is_within (counts_in (texts s)) t ≡ true
+      → is_unhidden (texts s) t ≡ true → is_unhidden (texts (grown s P C)) t ≡ true
+  unhidden_grown t e u = ap (λ T. is_unhidden T t) texts_grown ∙ unhidden_stays (texts s) X C t e
+      ∙ u
 
   pub stands_grown : (e : Expr) (t : Term) → Stands s e t → Stands (grown s P C) e t
   stands_grown e t h = (expr_grown t h.1 ∙ h.0, within_grown t h.1, unhidden_grown t h.1 h.2)
 
-  pub all_stand_grown : (es : List Expr) (ts : List Term) → StandAll s es ts → StandAll (grown s P C) es ts
+  pub all_stand_grown : (es : List Expr) (ts : List Term) → StandAll s es ts
+      → StandAll (grown s P C) es ts
   all_stand_grown es ts h = (
-    same_on (is_within (counts_in (texts s))) (expr_of (texts (grown s P C))) (expr_of (texts s)) ts expr_grown h.1 ∙ h.0,
-    all_on (is_within (counts_in (texts s))) (is_within (counts_in (texts (grown s P C)))) ts within_grown h.1,
-    both_on (is_within (counts_in (texts s))) (is_unhidden (texts s)) (is_unhidden (texts (grown s P C))) ts unhidden_grown h.1 h.2,
+    same_on (is_within (counts_in (texts s))) (expr_of (texts (grown s P C))) (expr_of (texts s)) ts
+        expr_grown h.1 ∙ h.0,
+    all_on (is_within (counts_in (texts s))) (is_within (counts_in (texts (grown s P C)))) ts
+        within_grown h.1,
+    both_on (is_within (counts_in (texts s))) (is_unhidden (texts s))
+        (is_unhidden (texts (grown s P C))) ts unhidden_grown h.1 h.2,
   )
 
-  pub static_stands_grown : (x : Static) (id : StaticId) → StaticStands s x id → StaticStands (grown s P C) x id
+  pub static_stands_grown : (x : Static) (id : StaticId) → StaticStands s x id
+      → StaticStands (grown s P C) x id
   static_stands_grown x id h = (
     ap (λ T. static_at T.statics id) texts_grown ∙ static_stays (texts s).statics X id h.1 ∙ h.0,
     ap (λ T. is_static (counts_in T) id) texts_grown
-        ∙ static_still (counts_in (texts s)) (counts_in later_texts) (length X) (length C) refl (length-append _ X) (length-append s.calls C) id.0 h.1,
+        ∙ static_still (counts_in (texts s)) (counts_in later_texts) (length X) (length C) refl
+        (length-append _ X) (length-append s.calls C) id.0 h.1,
   )
 
-  pub call_stands_grown : (x : Site) (id : CallId) → CallStands s x id → CallStands (grown s P C) x id
+  pub call_stands_grown : (x : Site) (id : CallId) → CallStands s x id
+      → CallStands (grown s P C) x id
   call_stands_grown x id h = (
     call_stays (texts s) X C id h.1 ∙ h.0,
     ap (λ T. is_call (counts_in T) id) texts_grown
-        ∙ call_still (counts_in (texts s)) (counts_in later_texts) (length X) (length C) refl (length-append _ X) (length-append s.calls C) id.0 h.1,
+        ∙ call_still (counts_in (texts s)) (counts_in later_texts) (length X) (length C) refl
+        (length-append _ X) (length-append s.calls C) id.0 h.1,
   )
 
 -- ## One part after another
@@ -104,51 +125,85 @@ Done before after e t = ResolvesTerm before after e (Ok t)
 -- two expressions, one after the other
 abbrev pub Two : (before after : Progress) (e f : Expr) (t u : Term) → Type 0
 Two before after e f t u =
-    (after ≡ grown before (parts_of (is_variable_of before) e ++ parts_of (is_variable_of before) f) (sites e ++ sites f))
+    (after ≡ grown before (parts_of (is_variable_of before) e ++ parts_of (is_variable_of before) f)
+    (sites e ++ sites f))
     × Stands after e t × Stands after f u × ((expr_passes before e && expr_passes before f) ≡ true)
 
-pub two_done : (before mid after : Progress) (e f : Expr) (t u : Term) → Done before mid e t → Done mid after f u → Two before after e f t u
+pub two_done : (before mid after : Progress) (e f : Expr) (t u : Term) → Done before mid e t
+    → Done mid after f u → Two before after e f t u
 two_done before mid after e f t u d g =
     let h : Done (after_expr before e) after f u = subst (λ m. Done m after f u) d.0 g in
-    let first : Stands after e t = subst (λ m. Stands m e t) (sym g.0) (stands_grown mid _ _ e t d.1) in
-    (h.0 ∙ grown_twice before _ _ _ _, first, h.1, both (expr_passes before e) (expr_passes before f) d.2 h.2)
+    let first : Stands after e t =
+    subst (λ m. Stands m e t) (sym g.0) (stands_grown mid _ _ e t d.1) in (
+      h.0 ∙ grown_twice before _ _ _ _,
+      first,
+      h.1,
+      both (expr_passes before e)
+          (expr_passes before f) d.2 h.2,
+    )
 
 abbrev pub Three : (before after : Progress) (c e f : Expr) (s t u : Term) → Type 0
 Three before after c e f s t u =
     (after ≡ grown before
-    (parts_of (is_variable_of before) c ++ (parts_of (is_variable_of before) e ++ parts_of (is_variable_of before) f)) (sites c ++ (sites e ++ sites f)))
-    × Stands after c s × Stands after e t × Stands after f u × ((expr_passes before c && (expr_passes before e && expr_passes before f)) ≡ true)
+    (parts_of (is_variable_of before) c
+    ++ (parts_of (is_variable_of before) e ++ parts_of (is_variable_of before) f))
+    (sites c ++ (sites e ++ sites f)))
+    × Stands after c s × Stands after e t × Stands after f u
+    × ((expr_passes before c && (expr_passes before e && expr_passes before f)) ≡ true)
 
-pub three_done : (before mid after : Progress) (c e f : Expr) (s t u : Term) → Done before mid c s → Two mid after e f t u → Three before after c e f s t u
+pub three_done : (before mid after : Progress) (c e f : Expr) (s t u : Term) → Done before mid c s
+    → Two mid after e f t u → Three before after c e f s t u
 three_done before mid after c e f s t u d g =
     let h : Two (after_expr before c) after e f t u = subst (λ m. Two m after e f t u) d.0 g in
-    let first : Stands after c s = subst (λ m. Stands m c s) (sym g.0) (stands_grown mid _ _ c s d.1) in
-    (h.0 ∙ grown_twice before _ _ _ _, first, h.1, h.2, both (expr_passes before c) (expr_passes before e && expr_passes before f) d.2 h.3)
+    let first : Stands after c s =
+    subst (λ m. Stands m c s) (sym g.0) (stands_grown mid _ _ c s d.1) in (
+      h.0 ∙ grown_twice before _ _ _ _,
+      first,
+      h.1,
+      h.2,
+      both (expr_passes before c)
+          (expr_passes before e && expr_passes before f) d.2 h.3,
+    )
 
 -- a static expression, and an expression after it
-abbrev pub WithStatic : (before after : Progress) (role : Role) (x : Static) (e : Expr) (id : StaticId) (t : Term) → Type 0
+abbrev pub WithStatic : (before after : Progress) (role : Role) (x : Static) (e : Expr)
+    (id : StaticId) (t : Term) → Type 0
 WithStatic before after role x e id t =
     (after ≡ grown before ((role, x) ∷ parts_of (is_variable_of before) e) (sites e))
-    × StaticStands after x id × Stands after e t × ((static_fits before x && expr_passes before e) ≡ true)
+    × StaticStands after x id × Stands after e t
+    × ((static_fits before x && expr_passes before e) ≡ true)
 
-pub static_done : (before mid after : Progress) (role : Role) (x : Static) (e : Expr) (id : StaticId) (t : Term) → ResolvesStatic before mid role x (Ok id)
+pub static_done : (before mid after : Progress) (role : Role) (x : Static) (e : Expr)
+    (id : StaticId) (t : Term) → ResolvesStatic before mid role x (Ok id)
     → Done mid after e t → WithStatic before after role x e id t
 static_done before mid after role x e id t d g =
-    let h : Done (grown before ((role, x) ∷ []) []) after e t = subst (λ m. Done m after e t) d.0 g in
-    let first : StaticStands after x id = subst (λ m. StaticStands m x id) (sym g.0) (static_stands_grown mid (parts_of (is_variable_of mid) e) (sites e) x id d.1) in
-    (h.0 ∙ grown_twice before ((role, x) ∷ []) (parts_of (is_variable_of before) e) [] (sites e), first, h.1, both (static_fits before x) (expr_passes before e) d.2 h.2)
+    let h : Done (grown before ((role, x) ∷ []) []) after e t =
+    subst (λ m. Done m after e t) d.0 g in
+    let first : StaticStands after x id = subst (λ m. StaticStands m x id) (sym g.0)
+    (static_stands_grown mid (parts_of (is_variable_of mid) e) (sites e) x id d.1) in (
+      h.0 ∙ grown_twice before ((role, x) ∷ []) (parts_of (is_variable_of before) e) [] (sites e),
+      first,
+      h.1,
+      both (static_fits before x) (expr_passes before e) d.2 h.2,
+    )
 
-abbrev pub WithStatics : (before after : Progress) (r q : Role) (x y : Static) (e : Expr) (i j : StaticId) (t : Term) → Type 0
+abbrev pub WithStatics : (before after : Progress) (r q : Role) (x y : Static) (e : Expr)
+    (i j : StaticId) (t : Term) → Type 0
 WithStatics before after r q x y e i j t =
     (after ≡ grown before ((r, x) ∷ ((q, y) ∷ parts_of (is_variable_of before) e)) (sites e))
-    × StaticStands after x i × StaticStands after y j × Stands after e t × ((static_fits before x && (static_fits before y && expr_passes before e)) ≡ true)
+    × StaticStands after x i × StaticStands after y j × Stands after e t
+    × ((static_fits before x && (static_fits before y && expr_passes before e)) ≡ true)
 
-pub statics_done : (before mid after : Progress) (r q : Role) (x y : Static) (e : Expr) (i j : StaticId) (t : Term) → ResolvesStatic before mid r x (Ok i)
+pub statics_done : (before mid after : Progress) (r q : Role) (x y : Static) (e : Expr)
+    (i j : StaticId) (t : Term) → ResolvesStatic before mid r x (Ok i)
     → WithStatic mid after q y e j t → WithStatics before after r q x y e i j t
 statics_done before mid after r q x y e i j t d g =
-    let h : WithStatic (grown before ((r, x) ∷ []) []) after q y e j t = subst (λ m. WithStatic m after q y e j t) d.0 g in
-    let first : StaticStands after x i = subst (λ m. StaticStands m x i) (sym g.0) (static_stands_grown mid ((q, y) ∷ parts_of (is_variable_of mid) e) (sites e) x i d.1) in (
-      h.0 ∙ grown_twice before ((r, x) ∷ []) ((q, y) ∷ parts_of (is_variable_of before) e) [] (sites e),
+    let h : WithStatic (grown before ((r, x) ∷ []) []) after q y e j t =
+    subst (λ m. WithStatic m after q y e j t) d.0 g in
+    let first : StaticStands after x i = subst (λ m. StaticStands m x i) (sym g.0)
+    (static_stands_grown mid ((q, y) ∷ parts_of (is_variable_of mid) e) (sites e) x i d.1) in (
+      h.0 ∙ grown_twice before ((r, x) ∷ []) ((q, y) ∷ parts_of (is_variable_of before) e) []
+          (sites e),
       first,
       h.1,
       h.2,
@@ -159,48 +214,73 @@ statics_done before mid after r q x y e i j t d g =
 abbrev pub AllDone : (before after : Progress) → List Expr → Vec Term Global → Type 0
 AllDone before after es ts = ResolvesTerms before after es (Ok ts)
 
-abbrev pub WithCall : (before after : Progress) (x : Site) (es : List Expr) (id : CallId) (ts : List Term) → Type 0
+abbrev pub WithCall : (before after : Progress) (x : Site) (es : List Expr) (id : CallId)
+    (ts : List Term) → Type 0
 WithCall before after x es id ts =
-    (after ≡ grown before (arguments_of x.arguments ++ flat_map (parts_of (is_variable_of before)) es) (x ∷ flat_map sites es))
-    × CallStands after x id × StandAll after es ts × ((call_fits before x && exprs_pass before es) ≡ true)
+    (after ≡ grown before (arguments_of x.arguments
+    ++ flat_map (parts_of (is_variable_of before)) es) (x ∷ flat_map sites es))
+    × CallStands after x id × StandAll after es ts
+    × ((call_fits before x && exprs_pass before es) ≡ true)
 
-pub call_done : (before mid after : Progress) (x : Site) (es : List Expr) (id : CallId) (ts : Vec Term Global) → ResolvesCall before mid x (Ok id)
+pub call_done : (before mid after : Progress) (x : Site) (es : List Expr) (id : CallId)
+    (ts : Vec Term Global) → ResolvesCall before mid x (Ok id)
     → AllDone mid after es ts → WithCall before after x es id ts.items
 call_done before mid after x es id ts d g =
-    let h : AllDone (grown before (arguments_of x.arguments) (x ∷ [])) after es ts = subst (λ m. AllDone m after es ts) d.0 g in
-    let first : CallStands after x id = subst (λ m. CallStands m x id) (sym g.0) (call_stands_grown mid (flat_map (parts_of (is_variable_of mid)) es) (flat_map sites es) x id d.1) in (
-      h.0 ∙ grown_twice before (arguments_of x.arguments) (flat_map (parts_of (is_variable_of before)) es) (x ∷ []) (flat_map sites es),
+    let h : AllDone (grown before (arguments_of x.arguments) (x ∷ [])) after es ts =
+    subst (λ m. AllDone m after es ts) d.0 g in
+    let first : CallStands after x id = subst (λ m. CallStands m x id) (sym g.0)
+    (call_stands_grown mid (flat_map (parts_of (is_variable_of mid)) es) (flat_map sites es) x
+    id d.1) in (
+      h.0 ∙ grown_twice before (arguments_of x.arguments)
+          (flat_map (parts_of (is_variable_of before)) es) (x ∷ []) (flat_map sites es),
       first,
       h.1,
       both (call_fits before x) (exprs_pass before es) d.2 h.2,
     )
 
-abbrev pub WithSize : (before after : Progress) (role : Role) (y : Static) (es : List Expr) (i : StaticId) (ts : List Term) → Type 0
+abbrev pub WithSize : (before after : Progress) (role : Role) (y : Static) (es : List Expr)
+    (i : StaticId) (ts : List Term) → Type 0
 WithSize before after role y es i ts =
-    (after ≡ grown before ((role, y) ∷ flat_map (parts_of (is_variable_of before)) es) (flat_map sites es))
-    × StaticStands after y i × StandAll after es ts × ((static_fits before y && exprs_pass before es) ≡ true)
+    (after ≡ grown before ((role, y) ∷ flat_map (parts_of (is_variable_of before)) es)
+    (flat_map sites es))
+    × StaticStands after y i × StandAll after es ts
+    × ((static_fits before y && exprs_pass before es) ≡ true)
 
-pub size_done : (before mid after : Progress) (role : Role) (y : Static) (es : List Expr) (i : StaticId) (ts : Vec Term Global) → ResolvesStatic before mid role y (Ok i)
+pub size_done : (before mid after : Progress) (role : Role) (y : Static) (es : List Expr)
+    (i : StaticId) (ts : Vec Term Global) → ResolvesStatic before mid role y (Ok i)
     → AllDone mid after es ts → WithSize before after role y es i ts.items
 size_done before mid after role y es i ts d g =
-    let h : AllDone (grown before ((role, y) ∷ []) []) after es ts = subst (λ m. AllDone m after es ts) d.0 g in
-    let first : StaticStands after y i = subst (λ m. StaticStands m y i) (sym g.0) (static_stands_grown mid (flat_map (parts_of (is_variable_of mid)) es) (flat_map sites es) y i d.1) in (
-      h.0 ∙ grown_twice before ((role, y) ∷ []) (flat_map (parts_of (is_variable_of before)) es) [] (flat_map sites es),
+    let h : AllDone (grown before ((role, y) ∷ []) []) after es ts =
+    subst (λ m. AllDone m after es ts) d.0 g in
+    let first : StaticStands after y i = subst (λ m. StaticStands m y i) (sym g.0)
+    (static_stands_grown mid (flat_map (parts_of (is_variable_of mid)) es) (flat_map sites es) y
+    i d.1) in (
+      h.0 ∙ grown_twice before ((role, y) ∷ []) (flat_map (parts_of (is_variable_of before)) es) []
+          (flat_map sites es),
       first,
       h.1,
       both (static_fits before y) (exprs_pass before es) d.2 h.2,
     )
 
-abbrev pub WithSizedCall : (before after : Progress) (role : Role) (y : Static) (x : Site) (es : List Expr) (id : CallId) (ts : List Term) → Type 0
+abbrev pub WithSizedCall : (before after : Progress) (role : Role) (y : Static) (x : Site)
+    (es : List Expr) (id : CallId) (ts : List Term) → Type 0
 WithSizedCall before after role y x es id ts =
-    (after ≡ grown before ((role, y) ∷ (arguments_of x.arguments ++ flat_map (parts_of (is_variable_of before)) es)) (x ∷ flat_map sites es))
-    × CallStands after x id × StandAll after es ts × ((static_fits before y && (call_fits before x && exprs_pass before es)) ≡ true)
+    (after ≡ grown before ((role, y)
+    ∷ (arguments_of x.arguments ++ flat_map (parts_of (is_variable_of before)) es))
+    (x ∷ flat_map sites es))
+    × CallStands after x id × StandAll after es ts
+    × ((static_fits before y && (call_fits before x && exprs_pass before es)) ≡ true)
 
-pub sized_call_done : (before mid after : Progress) (role : Role) (y : Static) (x : Site) (es : List Expr) (i : StaticId) (id : CallId) (ts : List Term)
-    → ResolvesStatic before mid role y (Ok i) → WithCall mid after x es id ts → WithSizedCall before after role y x es id ts
+pub sized_call_done : (before mid after : Progress) (role : Role) (y : Static) (x : Site)
+    (es : List Expr) (i : StaticId) (id : CallId) (ts : List Term)
+    → ResolvesStatic before mid role y (Ok i) → WithCall mid after x es id ts
+    → WithSizedCall before after role y x es id ts
 sized_call_done before mid after role y x es i id ts d g =
-    let h : WithCall (grown before ((role, y) ∷ []) []) after x es id ts = subst (λ m. WithCall m after x es id ts) d.0 g in (
-      h.0 ∙ grown_twice before ((role, y) ∷ []) (arguments_of x.arguments ++ flat_map (parts_of (is_variable_of before)) es) [] (x ∷ flat_map sites es),
+    let h : WithCall (grown before ((role, y) ∷ []) []) after x es id ts =
+    subst (λ m. WithCall m after x es id ts) d.0 g in (
+      h.0 ∙ grown_twice before ((role, y) ∷ [])
+          (arguments_of x.arguments ++ flat_map (parts_of (is_variable_of before)) es) []
+          (x ∷ flat_map sites es),
       h.1,
       h.2,
       both (static_fits before y) (call_fits before x && exprs_pass before es) d.2 h.3,
@@ -208,7 +288,8 @@ sized_call_done before mid after role y x es i id ts d g =
 
 -- ## The expressions of a vector
 
-views_row : (n : _) (row : Row_of-Expr n) → view_row row ≡ exprs (map view (items-the_row-Expr n row))
+views_row : (n : _) (row : Row_of-Expr n)
+    → view_row row ≡ exprs (map view (items-the_row-Expr n row))
 views_row n end_of-Expr = refl
 views_row n (more_of-Expr e rest) = ap (λ (es : Exprs). tree.Cons (view e) es) (views_row _ rest)
 
@@ -220,32 +301,42 @@ source_row (Call' _ _ _ row) = (_, row)
 source_row (Iterate' _ _ _ _ row) = (_, row)
 source_row _ = (_, end_of-Expr)
 
-pub view_array : (es : Vec source.Expr Global) → view (source.Array es) ≡ tree.Array (exprs (map view es.items))
+pub view_array : (es : Vec source.Expr Global)
+    → view (source.Array es) ≡ tree.Array (exprs (map view es.items))
 view_array es =
     let row = source_row (source.Array es) in
-    ap (λ (z : Exprs). tree.Array z) (views_row row.0 row.1 ∙ ap (λ z. exprs (map view z)) (items_hidden-the_row-Expr-0 es))
+    ap (λ (z : Exprs). tree.Array z)
+    (views_row row.0 row.1 ∙ ap (λ z. exprs (map view z)) (items_hidden-the_row-Expr-0 es))
 
-pub view_at_most_one : (es : Vec source.Expr Global) → view (source.AtMostOne es) ≡ tree.AtMostOne (exprs (map view es.items))
+pub view_at_most_one : (es : Vec source.Expr Global)
+    → view (source.AtMostOne es) ≡ tree.AtMostOne (exprs (map view es.items))
 view_at_most_one es =
     let row = source_row (source.AtMostOne es) in
-    ap (λ (z : Exprs). tree.AtMostOne z) (views_row row.0 row.1 ∙ ap (λ z. exprs (map view z)) (items_hidden-the_row-Expr-0 es))
+    ap (λ (z : Exprs). tree.AtMostOne z)
+    (views_row row.0 row.1 ∙ ap (λ z. exprs (map view z)) (items_hidden-the_row-Expr-0 es))
 
-pub view_nor : (es : Vec source.Expr Global) → view (source.Nor es) ≡ tree.Nor (exprs (map view es.items))
+pub view_nor : (es : Vec source.Expr Global)
+    → view (source.Nor es) ≡ tree.Nor (exprs (map view es.items))
 view_nor es =
     let row = source_row (source.Nor es) in
-    ap (λ (z : Exprs). tree.Nor z) (views_row row.0 row.1 ∙ ap (λ z. exprs (map view z)) (items_hidden-the_row-Expr-0 es))
+    ap (λ (z : Exprs). tree.Nor z)
+    (views_row row.0 row.1 ∙ ap (λ z. exprs (map view z)) (items_hidden-the_row-Expr-0 es))
 
 pub view_call : (f : Name) (args : Vec Static' Global) (es : Vec source.Expr Global)
-    → view (source.Call f args es) ≡ tree.Call f (view_statics args.items) (exprs (map view es.items))
+    → view (source.Call f args es)
+    ≡ tree.Call f (view_statics args.items) (exprs (map view es.items))
 view_call f args es =
     let row = source_row (source.Call f args es) in
-    ap (λ (z : Exprs). tree.Call f (view_statics args.items) z) (views_row row.0 row.1 ∙ ap (λ z. exprs (map view z)) (items_hidden-the_row-Expr-0 es))
+    ap (λ (z : Exprs). tree.Call f (view_statics args.items) z)
+    (views_row row.0 row.1 ∙ ap (λ z. exprs (map view z)) (items_hidden-the_row-Expr-0 es))
 
 pub view_iterate : (it : ArrayIterator) (o : Operator) (n : Static') (es : Vec source.Expr Global)
-    → view (source.Iterate it o n es) ≡ tree.Iterate it (view_operator o) (view_static n) (exprs (map view es.items))
+    → view (source.Iterate it o n es)
+    ≡ tree.Iterate it (view_operator o) (view_static n) (exprs (map view es.items))
 view_iterate it o n es =
     let row = source_row (source.Iterate it o n es) in
-    ap (λ (z : Exprs). tree.Iterate it (view_operator o) (view_static n) z) (views_row row.0 row.1 ∙ ap (λ z. exprs (map view z)) (items_hidden-the_row-Expr-0 es))
+    ap (λ (z : Exprs). tree.Iterate it (view_operator o) (view_static n) z)
+    (views_row row.0 row.1 ∙ ap (λ z. exprs (map view z)) (items_hidden-the_row-Expr-0 es))
 
 -- ## The terms of a vector
 
@@ -258,20 +349,25 @@ term_row (term.IterateNode' _ _ _ row) = (_, row)
 term_row (term.IterateSymbol' _ _ _ _ row) = (_, row)
 term_row _ = (_, end_of-Term)
 
-exprs_row : (t : Texts) (n : _) (row : Row_of-Term n) → row_of t row ≡ exprs (map (expr_of t) (items-the_row-Term n row))
+exprs_row : (t : Texts) (n : _) (row : Row_of-Term n)
+    → row_of t row ≡ exprs (map (expr_of t) (items-the_row-Term n row))
 exprs_row t n end_of-Term = refl
-exprs_row t n (more_of-Term e rest) = ap (λ (es : Exprs). tree.Cons (expr_of t e) es) (exprs_row t _ rest)
+exprs_row t n (more_of-Term e rest) =
+    ap (λ (es : Exprs). tree.Cons (expr_of t e) es) (exprs_row t _ rest)
 
-within_row : (m : Counts) (n : _) (row : Row_of-Term n) → are_within m row ≡ list_all (is_within m) (items-the_row-Term n row)
+within_row : (m : Counts) (n : _) (row : Row_of-Term n)
+    → are_within m row ≡ list_all (is_within m) (items-the_row-Term n row)
 within_row m n end_of-Term = refl
 within_row m n (more_of-Term e rest) = ap (λ b. is_within m e && b) (within_row m _ rest)
 
-unhidden_row : (t : Texts) (n : _) (row : Row_of-Term n) → are_unhidden t row ≡ list_all (is_unhidden t) (items-the_row-Term n row)
+unhidden_row : (t : Texts) (n : _) (row : Row_of-Term n)
+    → are_unhidden t row ≡ list_all (is_unhidden t) (items-the_row-Term n row)
 unhidden_row t n end_of-Term = refl
 unhidden_row t n (more_of-Term e rest) = ap (λ b. is_unhidden t e && b) (unhidden_row t _ rest)
 
 -- what is found in the expressions of a list
-pub parts_exprs : (variable : Name → Bool) (es : List Expr) → parts_in variable (exprs es) ≡ flat_map (parts_of variable) es
+pub parts_exprs : (variable : Name → Bool) (es : List Expr)
+    → parts_in variable (exprs es) ≡ flat_map (parts_of variable) es
 parts_exprs variable [] = refl
 parts_exprs variable (e ∷ es) = ap (λ l. parts_of variable e ++ l) (parts_exprs variable es)
 
@@ -279,61 +375,88 @@ pub sites_exprs : (es : List Expr) → sites_in (exprs es) ≡ flat_map sites es
 sites_exprs [] = refl
 sites_exprs (e ∷ es) = ap (λ l. sites e ++ l) (sites_exprs es)
 
-pub pass_exprs : (s : Progress) (es : List Expr) → all_pass (program_of s) s.node (exprs es) ≡ exprs_pass s es
+pub pass_exprs : (s : Progress) (es : List Expr)
+    → all_pass (program_of s) s.node (exprs es) ≡ exprs_pass s es
 pass_exprs s [] = refl
 pass_exprs s (e ∷ es) = ap (λ b. expr_passes s e && b) (pass_exprs s es)
 
 -- what holds of the rows of a term
-pub record RowStands (s : Progress) (es : List Expr) {n : Count} (row : Row_of-Term n) : Type 0 where
-  pub stands : row_of (texts s) row ≡ exprs es
-  pub within : are_within (counts_in (texts s)) row ≡ true
-  pub unhidden : are_unhidden (texts s) row ≡ true
+pub record RowStands (s : Progress) (es : List Expr) {n : Count} (row : Row_of-Term n) : Type 0
+  where
+    pub stands : row_of (texts s) row ≡ exprs es
+    pub within : are_within (counts_in (texts s)) row ≡ true
+    pub unhidden : are_unhidden (texts s) row ≡ true
 
-row_stands : (s : Progress) (es : List Expr) (ts : Vec Term Global) (n : Count) (row : Row_of-Term n) → items-the_row-Term n row ≡ ts.items → StandAll s es ts.items → RowStands s es row
+row_stands : (s : Progress) (es : List Expr) (ts : Vec Term Global) (n : Count)
+    (row : Row_of-Term n) → items-the_row-Term n row ≡ ts.items → StandAll s es ts.items
+    → RowStands s es row
 row_stands s es ts n row same h = record {
-  stands = exprs_row (texts s) n row ∙ ap (λ l. exprs (map (expr_of (texts s)) l)) same ∙ ap exprs h.0;
-  within = within_row (counts_in (texts s)) n row ∙ ap (list_all (is_within (counts_in (texts s)))) same ∙ h.1;
+  stands = exprs_row (texts s) n row ∙ ap (λ l. exprs (map (expr_of (texts s)) l)) same
+      ∙ ap exprs h.0;
+  within = within_row (counts_in (texts s)) n row
+      ∙ ap (list_all (is_within (counts_in (texts s)))) same ∙ h.1;
   unhidden = unhidden_row (texts s) n row ∙ ap (list_all (is_unhidden (texts s))) same ∙ h.2;
 }
 
-grown_exprs : (before : Progress) (es : List Expr) → grown before (parts_in (is_variable_of before) (exprs es)) (sites_in (exprs es)) ≡ after_exprs before es
-grown_exprs before es = same_two (grown before) _ _ _ _ (parts_exprs (is_variable_of before) es) (sites_exprs es)
+grown_exprs : (before : Progress) (es : List Expr)
+    → grown before (parts_in (is_variable_of before) (exprs es)) (sites_in (exprs es))
+    ≡ after_exprs before es
+grown_exprs before es = same_two (grown before) _ _ _ _ (parts_exprs (is_variable_of before) es)
+    (sites_exprs es)
 
-module _ (before after : Progress) (es : Vec source.Expr Global) (ts : Vec Term Global) (h : AllDone before after (map view es.items) ts) where
+module _ (before after : Progress) (es : Vec source.Expr Global) (ts : Vec Term Global)
+    (h : AllDone before after (map view es.items) ts) where
   pub array_done : Done before after (view (source.Array es)) (term.Array ts)
   array_done =
       let row = term_row (term.Array ts) in
-      let r = row_stands after (map view es.items) ts row.0 row.1 (items_hidden-the_row-Term-0 ts) h.1 in
-      subst (λ e. Done before after e (term.Array ts)) (sym (view_array es))
-      (h.0 ∙ sym (grown_exprs before (map view es.items)), (ap tree.Array r.stands, r.within, r.unhidden), pass_exprs before (map view es.items) ∙ h.2)
+      let r = row_stands after (map view es.items) ts row.0 row.1 (items_hidden-the_row-Term-0 ts)
+      h.1 in
+      subst (λ e. Done before after e (term.Array ts)) (sym (view_array es)) (
+        h.0 ∙ sym (grown_exprs before (map view es.items)),
+        (ap tree.Array r.stands, r.within, r.unhidden),
+        pass_exprs before (map view es.items) ∙ h.2,
+      )
 
   pub at_most_one_done : Done before after (view (source.AtMostOne es)) (term.AtMostOne ts)
   at_most_one_done =
       let row = term_row (term.AtMostOne ts) in
-      let r = row_stands after (map view es.items) ts row.0 row.1 (items_hidden-the_row-Term-0 ts) h.1 in
-      subst (λ e. Done before after e (term.AtMostOne ts)) (sym (view_at_most_one es))
-      (h.0 ∙ sym (grown_exprs before (map view es.items)), (ap tree.AtMostOne r.stands, r.within, r.unhidden), pass_exprs before (map view es.items) ∙ h.2)
+      let r = row_stands after (map view es.items) ts row.0 row.1 (items_hidden-the_row-Term-0 ts)
+      h.1 in
+      subst (λ e. Done before after e (term.AtMostOne ts)) (sym (view_at_most_one es)) (
+        h.0 ∙ sym (grown_exprs before (map view es.items)),
+        (ap tree.AtMostOne r.stands, r.within, r.unhidden),
+        pass_exprs before (map view es.items)
+            ∙ h.2,
+      )
 
   pub nor_done : Done before after (view (source.Nor es)) (term.Nor ts)
   nor_done =
       let row = term_row (term.Nor ts) in
-      let r = row_stands after (map view es.items) ts row.0 row.1 (items_hidden-the_row-Term-0 ts) h.1 in
-      subst (λ e. Done before after e (term.Nor ts)) (sym (view_nor es))
-      (h.0 ∙ sym (grown_exprs before (map view es.items)), (ap tree.Nor r.stands, r.within, r.unhidden), pass_exprs before (map view es.items) ∙ h.2)
+      let r = row_stands after (map view es.items) ts row.0 row.1 (items_hidden-the_row-Term-0 ts)
+      h.1 in
+      subst (λ e. Done before after e (term.Nor ts)) (sym (view_nor es)) (
+        h.0 ∙ sym (grown_exprs before (map view es.items)),
+        (ap tree.Nor r.stands, r.within, r.unhidden),
+        pass_exprs before (map view es.items) ∙ h.2,
+      )
 
 -- an expression that is refused among those of a list
-module _ (s : Progress) (f : StaticError) (es : Vec source.Expr Global) (h : IsNameFault f (exprs_pass s (map view es.items))) where
+module _ (s : Progress) (f : StaticError) (es : Vec source.Expr Global)
+    (h : IsNameFault f (exprs_pass s (map view es.items))) where
   abbrev Refuses : Expr → Type 0
   Refuses e = IsNameFault f (expr_passes s e)
 
   pub array_fault : Refuses (view (source.Array es))
-  array_fault = subst Refuses (sym (view_array es)) (subst (IsNameFault f) (sym (pass_exprs s (map view es.items))) h)
+  array_fault = subst Refuses (sym (view_array es))
+      (subst (IsNameFault f) (sym (pass_exprs s (map view es.items))) h)
 
   pub at_most_one_fault : Refuses (view (source.AtMostOne es))
-  at_most_one_fault = subst Refuses (sym (view_at_most_one es)) (subst (IsNameFault f) (sym (pass_exprs s (map view es.items))) h)
+  at_most_one_fault = subst Refuses (sym (view_at_most_one es))
+      (subst (IsNameFault f) (sym (pass_exprs s (map view es.items))) h)
 
   pub nor_fault : Refuses (view (source.Nor es))
-  nor_fault = subst Refuses (sym (view_nor es)) (subst (IsNameFault f) (sym (pass_exprs s (map view es.items))) h)
+  nor_fault = subst Refuses (sym (view_nor es))
+      (subst (IsNameFault f) (sym (pass_exprs s (map view es.items))) h)
 
 -- ## Calls
 
@@ -341,129 +464,194 @@ abbrev pub site_for : Name → List Static' → Option Static → Site
 site_for f args count = record { callee = f; arguments = view_statics args; count = count }
 
 module _ (before after : Progress) (es : Vec source.Expr Global) (ts : Vec Term Global) where
-  pub call_term_done : (f : Name) (args : Vec Static' Global) (id : CallId) → WithCall before after (site_for f args.items None) (map view es.items) id ts.items
+  pub call_term_done : (f : Name) (args : Vec Static' Global) (id : CallId)
+      → WithCall before after (site_for f args.items None) (map view es.items) id ts.items
       → Done before after (view (source.Call f args es)) (term.Call id ts)
   call_term_done f args id h =
       let row = term_row (term.Call id ts) in
-      let r = row_stands after (map view es.items) ts row.0 row.1 (items_hidden-the_row-Term-0 ts) h.2 in
+      let r = row_stands after (map view es.items) ts row.0 row.1 (items_hidden-the_row-Term-0 ts)
+      h.2 in
       let statics = view_statics args.items in
       subst (λ e. Done before after e (term.Call id ts)) (sym (view_call f args es)) (
-        h.0 ∙ same_two (grown before) _ _ _ _ (ap (λ l. arguments_of statics ++ l) (sym (parts_exprs (is_variable_of before) (map view es.items))))
+        h.0 ∙ same_two (grown before) _ _ _ _
+            (ap (λ l. arguments_of statics ++ l)
+            (sym (parts_exprs (is_variable_of before) (map view es.items))))
             (ap (λ l. site_for f args.items None ∷ l) (sym (sites_exprs (map view es.items)))),
-        (same_two (λ (s : Site) z. tree.Call s.callee s.arguments z) _ _ _ _ h.1.0 r.stands, both _ _ h.1.1 r.within, r.unhidden),
-        ap (λ b. call_fits before (site_for f args.items None) && b) (pass_exprs before (map view es.items)) ∙ h.3,
+        (
+          same_two (λ (s : Site) z. tree.Call s.callee s.arguments z) _ _ _ _ h.1.0 r.stands,
+          both _
+              _ h.1.1 r.within,
+          r.unhidden,
+        ),
+        ap (λ b. call_fits before (site_for f args.items None) && b)
+            (pass_exprs before (map view es.items)) ∙ h.3,
       )
 
-  pub iterate_node_done : (it : ArrayIterator) (f : Name) (args : Vec Static' Global) (n : Static') (id : CallId)
-      → WithSizedCall before after Size (view_static n) (site_for f args.items (Some (view_static n))) (map view es.items) id ts.items
-      → Done before after (view (source.Iterate it (Node_operator f args) n es)) (term.IterateNode it id ts)
+  pub iterate_node_done : (it : ArrayIterator) (f : Name) (args : Vec Static' Global) (n : Static')
+      (id : CallId)
+      → WithSizedCall before after Size (view_static n)
+      (site_for f args.items (Some (view_static n))) (map view es.items) id ts.items
+      → Done before after (view (source.Iterate it (Node_operator f args) n es))
+      (term.IterateNode it id ts)
   iterate_node_done it f args n id h =
       let row = term_row (term.IterateNode it id ts) in
-      let r = row_stands after (map view es.items) ts row.0 row.1 (items_hidden-the_row-Term-0 ts) h.2 in
+      let r = row_stands after (map view es.items) ts row.0 row.1 (items_hidden-the_row-Term-0 ts)
+      h.2 in
       let statics = view_statics args.items in
       let here = site_for f args.items (Some (view_static n)) in
-      subst (λ e. Done before after e (term.IterateNode it id ts)) (sym (view_iterate it (Node_operator f args) n es)) (
-        h.0 ∙ same_two (grown before) _ _ _ _ (ap (λ l. (Size, view_static n) ∷ (arguments_of statics ++ l)) (sym (parts_exprs (is_variable_of before) (map view es.items))))
+      subst (λ e. Done before after e (term.IterateNode it id ts))
+      (sym (view_iterate it (Node_operator f args) n es)) (
+        h.0 ∙ same_two (grown before) _ _ _ _
+            (ap (λ l. (Size, view_static n) ∷ (arguments_of statics ++ l))
+            (sym (parts_exprs (is_variable_of before) (map view es.items))))
             (ap (λ l. here ∷ l) (sym (sites_exprs (map view es.items)))),
         (same_two (iterate_expr it) _ _ _ _ h.1.0 r.stands, both _ _ h.1.1 r.within, r.unhidden),
-        ap (λ b. static_fits before (view_static n) && (call_fits before here && b)) (pass_exprs before (map view es.items)) ∙ h.3,
+        ap (λ b. static_fits before (view_static n) && (call_fits before here && b))
+            (pass_exprs before (map view es.items)) ∙ h.3,
       )
 
   pub iterate_symbol_done : (it : ArrayIterator) (op : BinaryOperator) (n : Static') (id : StaticId)
       → WithSize before after Size (view_static n) (map view es.items) id ts.items
-      → Done before after (view (source.Iterate it (Symbol_operator op) n es)) (term.IterateSymbol it op id ts)
+      → Done before after (view (source.Iterate it (Symbol_operator op) n es))
+      (term.IterateSymbol it op id ts)
   iterate_symbol_done it op n id h =
       let row = term_row (term.IterateSymbol it op id ts) in
-      let r = row_stands after (map view es.items) ts row.0 row.1 (items_hidden-the_row-Term-0 ts) h.2 in
-      subst (λ e. Done before after e (term.IterateSymbol it op id ts)) (sym (view_iterate it (Symbol_operator op) n es)) (
-        h.0 ∙ same_two (grown before) _ _ _ _ (ap (λ l. (Size, view_static n) ∷ l) (sym (parts_exprs (is_variable_of before) (map view es.items))))
+      let r = row_stands after (map view es.items) ts row.0 row.1 (items_hidden-the_row-Term-0 ts)
+      h.2 in
+      subst (λ e. Done before after e (term.IterateSymbol it op id ts))
+      (sym (view_iterate it (Symbol_operator op) n es)) (
+        h.0 ∙ same_two (grown before) _ _ _ _
+            (ap (λ l. (Size, view_static n) ∷ l)
+            (sym (parts_exprs (is_variable_of before) (map view es.items))))
             (sym (sites_exprs (map view es.items))),
-        (same_two (tree.Iterate it (tree.Symbol op)) _ _ _ _ h.1.0 r.stands, both _ _ h.1.1 r.within, r.unhidden),
-        ap (λ b. static_fits before (view_static n) && b) (pass_exprs before (map view es.items)) ∙ h.3,
+        (
+          same_two (tree.Iterate it (tree.Symbol op)) _ _ _ _ h.1.0 r.stands,
+          both _ _ h.1.1
+              r.within,
+          r.unhidden,
+        ),
+        ap (λ b. static_fits before (view_static n) && b) (pass_exprs before (map view es.items))
+            ∙ h.3,
       )
 
 -- ## An expression that is refused after other parts
 
-pub fault_after_call : (s m : Progress) (f : StaticError) (x : Name) (args : Vec Static' Global) (es : Vec source.Expr Global) (P : List Part) (C : List Site)
-    → m ≡ grown s P C → IsNameFault f (exprs_pass m (map view es.items)) → IsNameFault f (expr_passes s (view (source.Call x args es)))
+pub fault_after_call : (s m : Progress) (f : StaticError) (x : Name) (args : Vec Static' Global)
+    (es : Vec source.Expr Global) (P : List Part) (C : List Site)
+    → m ≡ grown s P C → IsNameFault f (exprs_pass m (map view es.items))
+    → IsNameFault f (expr_passes s (view (source.Call x args es)))
 fault_after_call s m f x args es P C is h =
-    let g : IsNameFault f (exprs_pass s (map view es.items)) = subst (λ k. IsNameFault f (exprs_pass k (map view es.items))) is h in
+    let g : IsNameFault f (exprs_pass s (map view es.items)) =
+    subst (λ k. IsNameFault f (exprs_pass k (map view es.items))) is h in
     subst (λ e. IsNameFault f (expr_passes s e)) (sym (view_call x args es))
-    (fault_within f _ _ g (λ e. false_second (call_fits s (site_for x args.items None)) _ (pass_exprs s (map view es.items) ∙ e)))
+    (fault_within f _ _ g (λ e. false_second (call_fits s (site_for x args.items None)) _
+    (pass_exprs s (map view es.items) ∙ e)))
 
-pub fault_after_node : (s m : Progress) (f : StaticError) (it : ArrayIterator) (x : Name) (args : Vec Static' Global) (n : Static') (es : Vec source.Expr Global)
-    (P : List Part) (C : List Site) → m ≡ grown s P C → IsNameFault f (exprs_pass m (map view es.items))
+pub fault_after_node : (s m : Progress) (f : StaticError) (it : ArrayIterator) (x : Name)
+    (args : Vec Static' Global) (n : Static') (es : Vec source.Expr Global)
+    (P : List Part) (C : List Site) → m ≡ grown s P C
+    → IsNameFault f (exprs_pass m (map view es.items))
     → IsNameFault f (expr_passes s (view (source.Iterate it (Node_operator x args) n es)))
 fault_after_node s m f it x args n es P C is h =
-    let g : IsNameFault f (exprs_pass s (map view es.items)) = subst (λ k. IsNameFault f (exprs_pass k (map view es.items))) is h in
+    let g : IsNameFault f (exprs_pass s (map view es.items)) =
+    subst (λ k. IsNameFault f (exprs_pass k (map view es.items))) is h in
     subst (λ e. IsNameFault f (expr_passes s e)) (sym (view_iterate it (Node_operator x args) n es))
     (fault_within f _ _ g (λ e. false_second (static_fits s (view_static n)) _
-    (false_second (call_fits s (site_for x args.items (Some (view_static n)))) _ (pass_exprs s (map view es.items) ∙ e))))
+    (false_second (call_fits s (site_for x args.items (Some (view_static n)))) _
+    (pass_exprs s (map view es.items) ∙ e))))
 
-pub fault_after_symbol : (s m : Progress) (f : StaticError) (it : ArrayIterator) (op : BinaryOperator) (n : Static') (es : Vec source.Expr Global)
-    (P : List Part) (C : List Site) → m ≡ grown s P C → IsNameFault f (exprs_pass m (map view es.items))
+pub fault_after_symbol : (s m : Progress) (f : StaticError) (it : ArrayIterator)
+    (op : BinaryOperator) (n : Static') (es : Vec source.Expr Global)
+    (P : List Part) (C : List Site) → m ≡ grown s P C
+    → IsNameFault f (exprs_pass m (map view es.items))
     → IsNameFault f (expr_passes s (view (source.Iterate it (Symbol_operator op) n es)))
 fault_after_symbol s m f it op n es P C is h =
-    let g : IsNameFault f (exprs_pass s (map view es.items)) = subst (λ k. IsNameFault f (exprs_pass k (map view es.items))) is h in
+    let g : IsNameFault f (exprs_pass s (map view es.items)) =
+    subst (λ k. IsNameFault f (exprs_pass k (map view es.items))) is h in
     subst (λ e. IsNameFault f (expr_passes s e)) (sym (view_iterate it (Symbol_operator op) n es))
-    (fault_within f _ _ g (λ e. false_second (static_fits s (view_static n)) _ (pass_exprs s (map view es.items) ∙ e)))
+    (fault_within f _ _ g (λ e. false_second (static_fits s (view_static n)) _
+    (pass_exprs s (map view es.items) ∙ e)))
 
 -- ## Loops
 
 -- what a loop over expressions keeps
 abbrev pub SoFar : (start here : Progress) → List Expr → List Term → Type 0
-SoFar start here es ts = (here ≡ after_exprs start es) × StandAll here es ts × (exprs_pass start es ≡ true)
+SoFar start here es ts =
+    (here ≡ after_exprs start es) × StandAll here es ts × (exprs_pass start es ≡ true)
 
-pub flat_more : {A B : Type 0} (f : A → List B) (xs : List A) (x : A) → flat_map f (xs ++ x ∷ []) ≡ flat_map f xs ++ f x
+pub flat_more : {A B : Type 0} (f : A → List B) (xs : List A) (x : A)
+    → flat_map f (xs ++ x ∷ []) ≡ flat_map f xs ++ f x
 flat_more f [] x = append-nil (f x)
-flat_more f (y ∷ xs) x = ap (λ l. f y ++ l) (flat_more f xs x) ∙ sym (append_assoc (f y) (flat_map f xs) (f x))
+flat_more f (y ∷ xs) x =
+    ap (λ l. f y ++ l) (flat_more f xs x) ∙ sym (append_assoc (f y) (flat_map f xs) (f x))
 
 pub and_true : (b : Bool) → (b && true) ≡ b
 and_true true = refl
 and_true false = refl
 
-pub one_more_done : (start before after : Progress) (es : List Expr) (ts : List Term) (e : Expr) (t : Term) → SoFar start before es ts → Done before after e t
+pub one_more_done : (start before after : Progress) (es : List Expr) (ts : List Term) (e : Expr)
+    (t : Term) → SoFar start before es ts → Done before after e t
     → SoFar start after (es ++ e ∷ []) (ts ++ t ∷ [])
 one_more_done start before after es ts e t d g =
     let h : Done (after_exprs start es) after e t = subst (λ m. Done m after e t) d.0 g in
-    let old : StandAll after es ts = subst (λ m. StandAll m es ts) (sym g.0) (all_stand_grown before (parts_of (is_variable_of before) e) (sites e) es ts d.1) in
+    let old : StandAll after es ts = subst (λ m. StandAll m es ts) (sym g.0)
+    (all_stand_grown before (parts_of (is_variable_of before) e) (sites e) es ts d.1) in
     let v = is_variable_of start in
-    let grew : after ≡ grown start (flat_map (parts_of v) es ++ parts_of v e) (flat_map sites es ++ sites e) =
-    h.0 ∙ grown_twice start (flat_map (parts_of v) es) (parts_of v e) (flat_map sites es) (sites e) in (
-      grew ∙ same_two (grown start) _ _ _ _ (sym (flat_more (parts_of v) es e)) (sym (flat_more sites es e)),
+    let grew : after ≡ grown start (flat_map (parts_of v) es ++ parts_of v e)
+    (flat_map sites es ++ sites e) =
+    h.0 ∙ grown_twice start (flat_map (parts_of v) es) (parts_of v e) (flat_map sites es)
+    (sites e) in (
+      grew ∙ same_two (grown start) _ _ _ _ (sym (flat_more (parts_of v) es e))
+          (sym (flat_more sites es e)),
       (
-        map-append (expr_of (texts after)) ts (t ∷ []) ∙ same_two (λ (l : List Expr) x. l ++ x ∷ []) _ _ _ _ old.0 h.1.0,
+        map-append (expr_of (texts after)) ts (t ∷ [])
+            ∙ same_two (λ (l : List Expr) x. l ++ x ∷ []) _ _ _ _ old.0 h.1.0,
         all_append (is_within (counts_in (texts after))) ts (t ∷ [])
             ∙ both _ _ old.1 (and_true (is_within (counts_in (texts after)) t) ∙ h.1.1),
-        all_append (is_unhidden (texts after)) ts (t ∷ []) ∙ both _ _ old.2 (and_true (is_unhidden (texts after) t) ∙ h.1.2),
+        all_append (is_unhidden (texts after)) ts (t ∷ [])
+            ∙ both _ _ old.2 (and_true (is_unhidden (texts after) t) ∙ h.1.2),
       ),
-      all_append (expr_passes start) es (e ∷ []) ∙ both _ _ d.2 (and_true (expr_passes start e) ∙ h.2),
+      all_append (expr_passes start) es (e ∷ [])
+          ∙ both _ _ d.2 (and_true (expr_passes start e) ∙ h.2),
     )
 
-pub next_done : (start before after : Progress) (ts : List Term) (es : List source.Expr) (i : ℕ) (e : source.Expr) (t : Term) → i < length es → e ≡ get_or es i e
-    → SoFar start before (map view (take i es)) ts → Done before after (view e) t → SoFar start after (map view (take (i + 1) es)) (ts ++ t ∷ [])
+pub next_done : (start before after : Progress) (ts : List Term) (es : List source.Expr) (i : ℕ)
+    (e : source.Expr) (t : Term) → i < length es → e ≡ get_or es i e
+    → SoFar start before (map view (take i es)) ts → Done before after (view e) t
+    → SoFar start after (map view (take (i + 1) es)) (ts ++ t ∷ [])
 next_done start before after ts es i e t below is d g =
     let same : map view (take i es) ++ view e ∷ [] ≡ map view (take (i + 1) es) =
-    ap (λ x. map view (take i es) ++ view x ∷ []) is ∙ sym (map-append view (take i es) (get_or es i e ∷ [])) ∙ ap (map view) (sym (take_more es i e below)) in
-    subst (λ l. SoFar start after l (ts ++ t ∷ [])) same (one_more_done start before after (map view (take i es)) ts (view e) t d g)
+    ap (λ x. map view (take i es) ++ view x ∷ []) is
+    ∙ sym (map-append view (take i es) (get_or es i e ∷ []))
+    ∙ ap (map view) (sym (take_more es i e below)) in
+    subst (λ l. SoFar start after l (ts ++ t ∷ [])) same
+    (one_more_done start before after (map view (take i es)) ts (view e) t d g)
 
 -- an item that fails is one of the list
-pub one_fails : {A B : Type 0} (p : B → Bool) (f : A → B) (xs : List A) (i : ℕ) (x : A) → i < length xs → x ≡ get_or xs i x → p (f x) ≡ false → list_all p (map f xs) ≡ false
+pub one_fails : {A B : Type 0} (p : B → Bool) (f : A → B) (xs : List A) (i : ℕ) (x : A)
+    → i < length xs → x ≡ get_or xs i x → p (f x) ≡ false → list_all p (map f xs) ≡ false
 one_fails p f [] i x below is e = absurd (omega arith)
 one_fails p f (y ∷ xs) zero x below is e = false_first (p (f y)) _ (ap (λ z. p (f z)) (sym is) ∙ e)
-one_fails p f (y ∷ xs) (suc i) x below is e = false_second (p (f y)) _ (one_fails p f xs i x (omega arith) is e)
+one_fails p f (y ∷ xs) (suc i) x below is e =
+    false_second (p (f y)) _ (one_fails p f xs i x (omega arith) is e)
 
-pub fault_of_item : (start here : Progress) (f : StaticError) (es : List source.Expr) (i : ℕ) (e : source.Expr) → i < length es → e ≡ get_or es i e
-    → here ≡ after_exprs start (map view (take i es)) → IsNameFault f (expr_passes here (view e)) → IsNameFault f (exprs_pass start (map view es))
+pub fault_of_item : (start here : Progress) (f : StaticError) (es : List source.Expr) (i : ℕ)
+    (e : source.Expr) → i < length es → e ≡ get_or es i e
+    → here ≡ after_exprs start (map view (take i es)) → IsNameFault f (expr_passes here (view e))
+    → IsNameFault f (exprs_pass start (map view es))
 fault_of_item start here f es i e below is at h =
-    let g : IsNameFault f (expr_passes start (view e)) = subst (λ k. IsNameFault f (expr_passes k (view e))) at h in
+    let g : IsNameFault f (expr_passes start (view e)) =
+    subst (λ k. IsNameFault f (expr_passes k (view e))) at h in
     fault_within f _ _ g (one_fails (expr_passes start) view es i e below is)
 
-pub fault_of_static : (start here : Progress) (f : StaticError) (role : Role) (xs : List Static') (i : ℕ) (x : Static') → i < length xs → x ≡ get_or xs i x
-    → here ≡ grown start (map (λ s. (role, s)) (view_statics (take i xs))) [] → IsNameFault f (static_fits here (view_static x))
+pub fault_of_static : (start here : Progress) (f : StaticError) (role : Role) (xs : List Static')
+    (i : ℕ) (x : Static') → i < length xs → x ≡ get_or xs i x
+    → here ≡ grown start (map (λ s. (role, s)) (view_statics (take i xs))) []
+    → IsNameFault f (static_fits here (view_static x))
     → IsNameFault f (statics_fit start (view_statics xs))
 fault_of_static start here f role xs i x below is at h =
-    let g : IsNameFault f (static_fits start (view_static x)) = subst (λ k. IsNameFault f (static_fits k (view_static x))) at h in
+    let g : IsNameFault f (static_fits start (view_static x)) =
+    subst (λ k. IsNameFault f (static_fits k (view_static x))) at h in
     fault_within f _ _ g (one_fails (static_fits start) view_static xs i x below is)
 
 -- ## Static expressions that stand one after another
@@ -472,23 +660,30 @@ map_same : {A : Type 0} (xs : List A) → map (λ x. x) xs ≡ xs
 map_same [] = refl
 map_same (x ∷ xs) = ap (λ l. x ∷ l) (map_same xs)
 
-pub statics_placed : (start here : Progress) (role : Role) (xs : List Static) (first : StaticId) (count : ℕ) → here ≡ grown start (map (λ x. (role, x)) xs) []
+pub statics_placed : (start here : Progress) (role : Role) (xs : List Static) (first : StaticId)
+    (count : ℕ) → here ≡ grown start (map (λ x. (role, x)) xs) []
     → first.0 ≡ length start.parts → count ≡ length xs → StaticsStand here xs (first, count)
-statics_placed start here role xs first count is at long = subst (λ k. StaticsStand k xs (first, count)) (sym is) placed
+statics_placed start here role xs first count is at long =
+    subst (λ k. StaticsStand k xs (first, count)) (sym is) placed
   where
     found : List Static
     found = map (λ p. p.1) start.parts
 
     all : map (λ p. p.1) (start.parts ++ map (λ x. (role, x)) xs) ≡ found ++ xs
-    all = map-append (λ p. p.1) start.parts (map (λ x. (role, x)) xs) ∙ ap (λ l. map (λ p. p.1) start.parts ++ l) (map_map (λ x. (role, x)) (λ p. p.1) xs ∙ map_same xs)
+    all = map-append (λ p. p.1) start.parts (map (λ x. (role, x)) xs)
+        ∙ ap (λ l. map (λ p. p.1) start.parts ++ l)
+        (map_map (λ x. (role, x)) (λ p. p.1) xs ∙ map_same xs)
 
     placed : StaticsStand (grown start (map (λ x. (role, x)) xs) []) xs (first, count)
     placed =
         let before : first.0 ≡ length found = at ∙ sym (length-map start.parts (λ p. p.1)) in
         let total : length (found ++ xs) ≡ length found + length xs = length-append found xs in
-        let within : nat_le (first.0 + count) (length (found ++ xs)) ≡ true = grind (arith, nat_tests) in (
-          ap (λ l. take count (drop first.0 l)) all ∙ ap (λ k. take count (drop k (found ++ xs))) before
-              ∙ ap (take count) (drop-append_seam found xs) ∙ ap (λ k. take k xs) long ∙ take_all (length xs) xs (omega arith),
+        let within : nat_le (first.0 + count) (length (found ++ xs)) ≡ true =
+        grind (arith, nat_tests) in (
+          ap (λ l. take count (drop first.0 l)) all
+              ∙ ap (λ k. take count (drop k (found ++ xs))) before
+              ∙ ap (take count) (drop-append_seam found xs) ∙ ap (λ k. take k xs) long
+              ∙ take_all (length xs) xs (omega arith),
           ap (λ l. nat_le (first.0 + count) (length l)) all ∙ within,
         )
 
@@ -498,32 +693,50 @@ at_end : {A : Type 0} (xs : List A) (y : A) → slice_get (xs ++ y ∷ []) (leng
 at_end [] y = refl
 at_end (x ∷ xs) y = at_end xs y
 
-pub call_placed : (s : Progress) (P : List Part) (x : Site) (id : CallId) → id.0 ≡ length s.calls → CallStands (grown s P (x ∷ [])) x id
+pub call_placed : (s : Progress) (P : List Part) (x : Site) (id : CallId) → id.0 ≡ length s.calls
+    → CallStands (grown s P (x ∷ [])) x id
 call_placed s P x id e =
-    let long : length (s.calls ++ x ∷ []) ≡ length s.calls + 1 = length-append s.calls (x ∷ []) in
-    (ap (λ k. either_or (slice_get (s.calls ++ x ∷ []) k) no_site) e ∙ ap (λ o. either_or o no_site) (at_end s.calls x), grind (arith, nat_tests))
+    let long : length (s.calls ++ x ∷ []) ≡ length s.calls + 1 = length-append s.calls (x ∷ []) in (
+      ap (λ k. either_or (slice_get (s.calls ++ x ∷ []) k) no_site) e
+          ∙ ap (λ o. either_or o no_site) (at_end s.calls x),
+      grind (arith, nat_tests),
+    )
 
-pub static_placed : (s : Progress) (p : Part) (C : List Site) (id : StaticId) → id.0 ≡ length s.parts → StaticStands (grown s (p ∷ []) C) p.1 id
+pub static_placed : (s : Progress) (p : Part) (C : List Site) (id : StaticId)
+    → id.0 ≡ length s.parts → StaticStands (grown s (p ∷ []) C) p.1 id
 static_placed s p C id e =
     let found = map (λ q. q.1) s.parts in
-    let all : map (λ q. q.1) (s.parts ++ p ∷ []) ≡ found ++ p.1 ∷ [] = map-append (λ q. q.1) s.parts (p ∷ []) in
+    let all : map (λ q. q.1) (s.parts ++ p ∷ []) ≡ found ++ p.1 ∷ [] =
+    map-append (λ q. q.1) s.parts (p ∷ []) in
     let at : id.0 ≡ length found = e ∙ sym (length-map s.parts (λ q. q.1)) in
     let long : length (found ++ p.1 ∷ []) ≡ length found + 1 = length-append found (p.1 ∷ []) in
     let within : nat_lt id.0 (length (found ++ p.1 ∷ [])) ≡ true = grind (arith, nat_tests) in (
-      ap (λ l. either_or (slice_get l id.0) (tree.Whole 0)) all ∙ ap (λ k. either_or (slice_get (found ++ p.1 ∷ []) k) (tree.Whole 0)) at
+      ap (λ l. either_or (slice_get l id.0) (tree.Whole 0)) all
+          ∙ ap (λ k. either_or (slice_get (found ++ p.1 ∷ []) k) (tree.Whole 0)) at
           ∙ ap (λ o. either_or o (tree.Whole 0)) (at_end found p.1),
       ap (λ l. nat_lt id.0 (length l)) all ∙ within,
     )
 
 -- a static parameter or a constant in an expression
-pub named_done : (s after : Progress) (x : Name) (id : StaticId) → is_variable_of s x ≡ false → is_static_name (program_of s) s.node x ≡ true
-    → after ≡ grown s ((Value_role, tree.Named x) ∷ []) [] → id.0 ≡ length s.parts → Done s after (tree.Variable x) (term.Value id)
+pub named_done : (s after : Progress) (x : Name) (id : StaticId) → is_variable_of s x ≡ false
+    → is_static_name (program_of s) s.node x ≡ true
+    → after ≡ grown s ((Value_role, tree.Named x) ∷ []) [] → id.0 ≡ length s.parts
+    → Done s after (tree.Variable x) (term.Value id)
 named_done s after x id other known is at =
-    let placed : StaticStands after (tree.Named x) id = subst (λ k. StaticStands k (tree.Named x) id) (sym is) (static_placed s (Value_role, tree.Named x) [] id at) in
-    let hides : not (among x (variable_names after.node)) ≡ true = ap (λ k. not (among x (variable_names k.node))) is ∙ ap not other in (
+    let placed : StaticStands after (tree.Named x) id = subst
+    (λ k. StaticStands k (tree.Named x) id) (sym is)
+    (static_placed s (Value_role, tree.Named x) [] id at) in
+    let hides : not (among x (variable_names after.node)) ≡ true =
+    ap (λ k. not (among x (variable_names k.node))) is ∙ ap not other in (
       is ∙ ap (λ b. grown s (cond b [] ((Value_role, tree.Named x) ∷ [])) []) (sym other),
-      (ap named_value placed.0, placed.1, ap (is_no_variable (variable_names after.node)) placed.0 ∙ hides),
-      by (is_variable_of s x) (among x s.node.parameters) (is_constant (program_of s) x) (among_append x (variable_names s.node) s.node.parameters) known,
+      (
+        ap named_value placed.0,
+        placed.1,
+        ap (is_no_variable (variable_names after.node)) placed.0
+            ∙ hides,
+      ),
+      by (is_variable_of s x) (among x s.node.parameters) (is_constant (program_of s) x)
+          (among_append x (variable_names s.node) s.node.parameters) known,
     )
   where
     by : (v p c : Bool) {d : Bool} → d ≡ (v || p) → (not v && (p || c)) ≡ true → (d || c) ≡ true
@@ -531,35 +744,53 @@ named_done s after x id other known is at =
     by false true c e h = ap (λ b. b || c) e
     by false false c e h = ap (λ b. b || c) e ∙ h
 
-module _ (before after : Progress) (f : Name) (args : List Static) (place : StaticId × ℕ) (count : Option StaticId) (callee : NodePlace)
-    (called : IsCallee (program_of before) f (length args) callee) (counted : is_count_within (counts_in (texts before)) count ≡ true) where
+module _ (before after : Progress) (f : Name) (args : List Static) (place : StaticId × ℕ)
+    (count : Option StaticId) (callee : NodePlace)
+    (called : IsCallee (program_of before) f (length args) callee)
+    (counted : is_count_within (counts_in (texts before)) count ≡ true) where
   abbrev after_arguments : Progress
   after_arguments = grown before (arguments_of args) []
 
   abbrev wanted : Site
-  wanted = record { callee = f; arguments = args; count = option_map (static_at (texts before).statics) count }
+  wanted = record {
+    callee =
+        f;
+    arguments = args;
+    count = option_map (static_at (texts before).statics) count;
+  }
 
   abbrev made : Progress → Site
-  made m = site_of (callees m) (texts m).statics (record { callee = callee; first_argument = place.0; arguments = place.1; count = count })
+  made m = site_of (callees m) (texts m).statics
+      (record { callee = callee; first_argument = place.0; arguments = place.1; count = count })
 
   made_is : StaticsStand after_arguments args place → made after_arguments ≡ wanted
   made_is h =
       let found = (texts before).statics in
-      let all : (texts after_arguments).statics ≡ found ++ map (λ p. p.1) (arguments_of args) = map-append (λ p. p.1) before.parts (arguments_of args) in
-      let same : option_map (static_at (texts after_arguments).statics) count ≡ option_map (static_at found) count =
-      ap (λ l. option_map (static_at l) count) all ∙ count_stays found (map (λ p. p.1) (arguments_of args)) count (counts_in (texts before)) refl counted in
+      let all : (texts after_arguments).statics ≡ found ++ map (λ p. p.1) (arguments_of args) =
+      map-append (λ p. p.1) before.parts (arguments_of args) in
+      let same : option_map (static_at (texts after_arguments).statics) count
+      ≡ option_map (static_at found) count =
+      ap (λ l. option_map (static_at l) count) all
+      ∙ count_stays found (map (λ p. p.1) (arguments_of args)) count (counts_in (texts before)) refl
+      counted in
       λ i. record { callee = called.0 i; arguments = h.0 i; count = same i }
 
-  pub call_resolved : (mid : Progress) (r : Result CallId StaticError) → (mid ≡ after_arguments) → StaticsStand mid args place → statics_fit before args ≡ true
-      → IfOk r (λ id. after ≡ grown mid [] (made mid ∷ [])) → IfOk r (λ id. id.0 ≡ length mid.calls) → IfErr r (λ e. IsNameFault e true)
+  pub call_resolved : (mid : Progress) (r : Result CallId StaticError) → (mid ≡ after_arguments)
+      → StaticsStand mid args place → statics_fit before args ≡ true
+      → IfOk r (λ id. after ≡ grown mid [] (made mid ∷ [])) → IfOk r (λ id. id.0 ≡ length mid.calls)
+      → IfErr r (λ e. IsNameFault e true)
       → ResolvesCall before after wanted r
   call_resolved mid (Ok id) is h fit grew at err =
-      let g : after ≡ grown after_arguments [] (made after_arguments ∷ []) = subst (λ m. after ≡ grown m [] (made m ∷ [])) is grew in
+      let g : after ≡ grown after_arguments [] (made after_arguments ∷ []) =
+      subst (λ m. after ≡ grown m [] (made m ∷ [])) is grew in
       let made_so = made_is (subst (λ m. StaticsStand m args place) is h) in
       let here : id.0 ≡ length after_arguments.calls = at ∙ ap (λ m. length m.calls) is in
-      let now : after ≡ grown after_arguments [] (wanted ∷ []) = g ∙ ap (λ x. grown after_arguments [] (x ∷ [])) made_so in (
-        now ∙ grown_twice before (arguments_of args) [] [] (wanted ∷ []) ∙ ap (λ l. grown before l (wanted ∷ [])) (append-nil (arguments_of args)),
-        subst (λ m. CallStands m wanted id) (sym now) (call_placed after_arguments [] wanted id here),
+      let now : after ≡ grown after_arguments [] (wanted ∷ []) =
+      g ∙ ap (λ x. grown after_arguments [] (x ∷ [])) made_so in (
+        now ∙ grown_twice before (arguments_of args) [] [] (wanted ∷ [])
+            ∙ ap (λ l. grown before l (wanted ∷ [])) (append-nil (arguments_of args)),
+        subst (λ m. CallStands m wanted id) (sym now)
+            (call_placed after_arguments [] wanted id here),
         both (is_callable (program_of before) wanted) (statics_fit before args) called.2 fit,
       )
   call_resolved mid (Err e) is h fit grew at err = fault_within e true _ err (λ n. absurd cc)

@@ -12,7 +12,8 @@ use Rattle.lb_static.specs.declared.error.StaticError.{StaticError}
 use Rattle.lb_static.specs.declared.error.StaticError.TheVariants as error
 
 -- the refusal of a thing that is not there
-pub missing : {A P : Type 0} (o : Option A) (e : StaticError) (r : Result A StaticError) → r ≡ ok_or o error.Root → r ≡ Err e → (o ≡ None → P) → IsRootFault P e
+pub missing : {A P : Type 0} (o : Option A) (e : StaticError) (r : Result A StaticError)
+    → r ≡ ok_or o error.Root → r ≡ Err e → (o ≡ None → P) → IsRootFault P e
 missing {A = A} {P = P} None e r is err reason =
     let same : error.Root ≡ e = cc in subst (λ f. IsRootFault P f) same (reason refl)
 missing (Some x) e r is err reason = absurd cc
@@ -23,11 +24,13 @@ there None x e is = absurd cc
 there (Some y) x e is = cc
 
 -- a thing that is there, seen as another
-pub seen_there : {A B E : Type 0} (f : A → B) (o : Option A) (a : A) (e : E) (seen : Option B) → option_map f o ≡ seen → Ok a ≡ ok_or o e → seen ≡ Some (f a)
+pub seen_there : {A B E : Type 0} (f : A → B) (o : Option A) (a : A) (e : E) (seen : Option B)
+    → option_map f o ≡ seen → Ok a ≡ ok_or o e → seen ≡ Some (f a)
 seen_there f o a e seen is found = sym is ∙ ap (option_map f) (there o a e found)
 
 -- a refusal of the shape
-pub root_fault : {Reason : Type 0} (P : Program) (e : StaticError) → IsRootFault Reason e → (Reason → holds (is_root P) (instance_at P Root) ≡ false) → IsRootAnswer P (Err e)
+pub root_fault : {Reason : Type 0} (P : Program) (e : StaticError) → IsRootFault Reason e
+    → (Reason → holds (is_root P) (instance_at P Root) ≡ false) → IsRootAnswer P (Err e)
 root_fault P error.Memory h f = tt
 root_fault P error.Root h f = f h
 root_fault P (error.Name x) h f = h
@@ -47,7 +50,8 @@ fault_for (error.Range x) h f = h
 fault_for error.Instances h f = h
 
 -- what is answered by what is seen of the node under test
-pub root_answer : (P : Program) (passes : Bool) (s : Elements) (r : Result Elements StaticError) → holds (is_root P) (instance_at P Root) ≡ passes → signature P ≡ s
+pub root_answer : (P : Program) (passes : Bool) (s : Elements) (r : Result Elements StaticError)
+    → holds (is_root P) (instance_at P Root) ≡ passes → signature P ≡ s
     → Answers (λ x. x) (where_true passes s) r → IsRootAnswer P r
 root_answer P true s (Ok x) e g h = (e, cc)
 root_answer P false s (Ok x) e g h = absurd cc

@@ -27,13 +27,17 @@ use Rattle.lb_static.proofs.SizesInRange.{root_has_types, all_or_none, all_some-
 
 -- ## Types of inputs and outputs
 
-joined : {A : Type 0} (o p : Option (List A)) (xs : List A) → (o >>= λ a. option_map (λ b. a ++ b) p) ≡ Some xs → (a : List A) × (b : List A) × (o ≡ Some a) × (p ≡ Some b) × ((a ++ b) ≡ xs)
+joined : {A : Type 0} (o p : Option (List A)) (xs : List A)
+    → (o >>= λ a. option_map (λ b. a ++ b) p) ≡ Some xs
+    → (a : List A) × (b : List A) × (o ≡ Some a) × (p ≡ Some b) × ((a ++ b) ≡ xs)
 joined None p xs e = absurd cc
 joined (Some a) None xs e = absurd cc
 joined (Some a) (Some b) xs e = let f : (a ++ b) ≡ xs = cc in (a, b, refl, refl, f)
 
 -- two lists of which each has all
-pub both_there : {A : Type 0} (os ps : List (Option A)) (xs : List A) → all_some (os ++ ps) ≡ Some xs → (all_some os ≡ Some (take (length os) xs)) × (all_some ps ≡ Some (drop (length os) xs))
+pub both_there : {A : Type 0} (os ps : List (Option A)) (xs : List A)
+    → all_some (os ++ ps) ≡ Some xs
+    → (all_some os ≡ Some (take (length os) xs)) × (all_some ps ≡ Some (drop (length os) xs))
 both_there os ps xs e =
     let j = joined (all_some os) (all_some ps) xs (sym (all_some-append os ps) ∙ e) in
     let long = length-all_some os j.0 j.2 in (
@@ -50,10 +54,18 @@ record Typed (P : Program) (here : Instance) (f : Face) : Type 0 where
   outputs : output_shapes P here ≡ Some (outputs_of f)
 
 -- from the parts of a face
-parts : (P : Program) (here : Instance) (ss : List Shape) → all_some (map (shape_of P here) (here.node.inputs ++ here.node.outputs)) ≡ Some ss
-    → Typed P here (record { node = here.node; inputs = length here.node.inputs; shapes = ss; is_plain = has_plain_clocks P here })
+parts : (P : Program) (here : Instance) (ss : List Shape)
+    → all_some (map (shape_of P here) (here.node.inputs ++ here.node.outputs)) ≡ Some ss
+    → Typed P here (record {
+      node =
+          here.node;
+      inputs = length here.node.inputs;
+      shapes = ss;
+      is_plain = has_plain_clocks P here;
+    })
 parts P here ss e =
-    let split = both_there (map (shape_of P here) here.node.inputs) (map (shape_of P here) here.node.outputs) ss
+    let split = both_there (map (shape_of P here) here.node.inputs)
+    (map (shape_of P here) here.node.outputs) ss
     (ap all_some (sym (map-append (shape_of P here) here.node.inputs here.node.outputs)) ∙ e) in
     let long = length-map here.node.inputs (shape_of P here) in record {
       node = refl;
@@ -64,58 +76,86 @@ parts P here ss e =
     }
 
 typed : (P : Program) (here : Instance) (f : Face) → face_of P here ≡ Some f → Typed P here f
-typed P here f e = by (all_some (map (shape_of P here) (here.node.inputs ++ here.node.outputs))) (parts P here) e
+typed P here f e = by (all_some (map (shape_of P here) (here.node.inputs ++ here.node.outputs)))
+    (parts P here) e
   where
     by : (o : Option (List Shape))
-        → ((ss : List Shape) → o ≡ Some ss → Typed P here (record { node = here.node; inputs = length here.node.inputs; shapes = ss; is_plain = has_plain_clocks P here }))
-        → option_map (λ ss. record { node = here.node; inputs = length here.node.inputs; shapes = ss; is_plain = has_plain_clocks P here }) o ≡ Some f → Typed P here f
+        → ((ss : List Shape) → o ≡ Some ss
+        → Typed P here (record {
+          node = here.node;
+          inputs =
+              length here.node.inputs;
+          shapes = ss;
+          is_plain = has_plain_clocks P here;
+        }))
+        → option_map (λ ss. record {
+          node = here.node;
+          inputs = length here.node.inputs;
+          shapes =
+              ss;
+          is_plain = has_plain_clocks P here;
+        }) o ≡ Some f → Typed P here f
     by None made g = absurd cc
     by (Some ss) made g = subst (Typed P here) (same_Some _ f g) (made ss refl)
 
 -- without types
-untyped : (P : Program) (here : Instance) → face_of P here ≡ None → all_some (map (shape_of P here) (here.node.inputs ++ here.node.outputs)) ≡ None
+untyped : (P : Program) (here : Instance) → face_of P here ≡ None
+    → all_some (map (shape_of P here) (here.node.inputs ++ here.node.outputs)) ≡ None
 untyped P here e = by (all_some (map (shape_of P here) (here.node.inputs ++ here.node.outputs))) e
   where
-    by : (o : Option (List Shape)) → face_by here.node (length here.node.inputs) (has_plain_clocks P here) o ≡ None → o ≡ None
+    by : (o : Option (List Shape))
+        → face_by here.node (length here.node.inputs) (has_plain_clocks P here) o ≡ None → o ≡ None
     by None g = refl
     by (Some ss) g = absurd cc
 
 -- ## The scalar inputs
 
-elements_are : (P : Program) (here : Instance) (ds : List Declaration) (ss : List Shape) → all_some (map (shape_of P here) ds) ≡ Some ss
+elements_are : (P : Program) (here : Instance) (ds : List Declaration) (ss : List Shape)
+    → all_some (map (shape_of P here) ds) ≡ Some ss
     → flat_map (scalar_elements P here) ds ≡ elements_named (map name_of ds) ss
 elements_are P here [] ss e = refl
-elements_are P here (d ∷ ds) ss e = by (shape_of P here d) (all_some (map (shape_of P here) ds)) (elements_are P here ds) (sym (all_some-cons (shape_of P here d) (map (shape_of P here) ds)) ∙ e)
+elements_are P here (d ∷ ds) ss e = by (shape_of P here d) (all_some (map (shape_of P here) ds))
+    (elements_are P here ds)
+    (sym (all_some-cons (shape_of P here d) (map (shape_of P here) ds)) ∙ e)
   where
-    by : (o : Option Shape) (p : Option (List Shape)) → ((xs : List Shape) → p ≡ Some xs → flat_map (scalar_elements P here) ds ≡ elements_named (map name_of ds) xs)
+    by : (o : Option Shape) (p : Option (List Shape))
+        → ((xs : List Shape) → p ≡ Some xs
+        → flat_map (scalar_elements P here) ds ≡ elements_named (map name_of ds) xs)
         → all_or_none o p ≡ Some ss
-        → listed (λ t. map (λ x. (x, t.kind)) (element_names d.name t.sizes)) o ++ flat_map (scalar_elements P here) ds ≡ elements_named (d.name ∷ map name_of ds) ss
+        → listed (λ t. map (λ x. (x, t.kind)) (element_names d.name t.sizes)) o
+        ++ flat_map (scalar_elements P here) ds ≡ elements_named (d.name ∷ map name_of ds) ss
     by None p rest g = absurd cc
     by (Some t) None rest g = absurd cc
     by (Some t) (Some xs) rest g =
         ap (λ l. map (λ x. (x, t.kind)) (element_names d.name t.sizes) ++ l) (rest xs refl)
         ∙ ap (elements_named (d.name ∷ map name_of ds)) (same_Some (t ∷ xs) ss g)
 
-length-elements : (xs : List Name) (ss : List Shape) → length xs ≡ length ss → length (elements_named xs ss) ≡ elements_in_all ss
+length-elements : (xs : List Name) (ss : List Shape) → length xs ≡ length ss
+    → length (elements_named xs ss) ≡ elements_in_all ss
 length-elements [] [] e = refl
 length-elements [] (s ∷ ss) e = absurd (omega (arith, e))
 length-elements (x ∷ xs) [] e = absurd (omega (arith, e))
 length-elements (x ∷ xs) (s ∷ ss) e =
     let others : length xs ≡ length ss = omega arith in
     length-append (map (λ n. (n, s.kind)) (element_names x s.sizes)) (elements_named xs ss)
-    ∙ ap (λ k. k + length (elements_named xs ss)) (length-map (element_names x s.sizes) (λ n. (n, s.kind)) ∙ length-element_names x s.sizes)
+    ∙ ap (λ k. k + length (elements_named xs ss))
+    (length-map (element_names x s.sizes) (λ n. (n, s.kind)) ∙ length-element_names x s.sizes)
     ∙ ap (λ k. element_count s + k) (length-elements xs ss others)
 
-signature_is : (P : Program) (here : Instance) (f : Face) → instance_at P Root ≡ Some here → Typed P here f → signature P ≡ elements_named (map name_of f.node.inputs) (inputs_of f)
+signature_is : (P : Program) (here : Instance) (f : Face) → instance_at P Root ≡ Some here
+    → Typed P here f → signature P ≡ elements_named (map name_of f.node.inputs) (inputs_of f)
 signature_is P here f is t =
     ap (listed (λ root. flat_map (scalar_elements P root) root.node.inputs)) is
-    ∙ elements_are P here here.node.inputs (inputs_of f) t.inputs ∙ ap (λ n. elements_named (map name_of n.inputs) (inputs_of f)) t.node
+    ∙ elements_are P here here.node.inputs (inputs_of f) t.inputs
+    ∙ ap (λ n. elements_named (map name_of n.inputs) (inputs_of f)) t.node
 
-count_is : (P : Program) (here : Instance) (f : Face) → instance_at P Root ≡ Some here → Typed P here f → length (signature P) ≡ elements_in_all (inputs_of f)
+count_is : (P : Program) (here : Instance) (f : Face) → instance_at P Root ≡ Some here
+    → Typed P here f → length (signature P) ≡ elements_in_all (inputs_of f)
 count_is P here f is t =
     ap length (signature_is P here f is t)
     ∙ length-elements (map name_of f.node.inputs) (inputs_of f)
-    (length-map f.node.inputs name_of ∙ ap (λ n. length n.inputs) (sym t.node) ∙ sym (length-map here.node.inputs (shape_of P here))
+    (length-map f.node.inputs name_of ∙ ap (λ n. length n.inputs) (sym t.node)
+    ∙ sym (length-map here.node.inputs (shape_of P here))
     ∙ sym (length-all_some (map (shape_of P here) here.node.inputs) (inputs_of f) t.inputs))
 
 -- ## The property
@@ -126,19 +166,27 @@ one_truth_is P (s ∷ []) = refl
 one_truth_is P (s ∷ (t ∷ ss)) = refl
 
 -- with an observer that has types
-observed : (P : Program) (here other : Instance) (f o : Face) → Typed P here f → Typed P other o → has_property P here (Some other) ≡ observes o f
+observed : (P : Program) (here other : Instance) (f o : Face) → Typed P here f → Typed P other o
+    → has_property P here (Some other) ≡ observes o f
 observed P here other f o t u =
     ap (λ b. b && (fits_observer P here other && is_one_truth P (output_shapes P other))) u.plain
-    ∙ ap (λ x. o.is_plain && (are_same P x (all_some (map (shape_of P here) (here.node.inputs ++ here.node.outputs))) && is_one_truth P (output_shapes P other))) u.inputs
-    ∙ ap (λ x. o.is_plain && (are_same P (Some (inputs_of o)) x && is_one_truth P (output_shapes P other))) t.all
+    ∙ ap (λ x. o.is_plain && (are_same P x
+    (all_some (map (shape_of P here) (here.node.inputs ++ here.node.outputs)))
+    && is_one_truth P (output_shapes P other))) u.inputs
+    ∙ ap (λ x. o.is_plain && (are_same P (Some (inputs_of o)) x
+    && is_one_truth P (output_shapes P other))) t.all
     ∙ ap (λ x. o.is_plain && (are_shapes (inputs_of o) f.shapes && is_one_truth P x)) u.outputs
-    ∙ ap (λ b. o.is_plain && (are_shapes (inputs_of o) f.shapes && b)) (one_truth_is P (outputs_of o))
+    ∙ ap (λ b. o.is_plain && (are_shapes (inputs_of o) f.shapes && b))
+    (one_truth_is P (outputs_of o))
 
 -- with an observer that has none
-unobserved : (P : Program) (here other : Instance) → all_some (map (shape_of P other) (other.node.inputs ++ other.node.outputs)) ≡ None → has_property P here (Some other) ≡ false
+unobserved : (P : Program) (here other : Instance)
+    → all_some (map (shape_of P other) (other.node.inputs ++ other.node.outputs)) ≡ None
+    → has_property P here (Some other) ≡ false
 unobserved P here other e =
     by (has_plain_clocks P other) (input_shapes P other) (output_shapes P other)
-    (sym (all_some-append (map (shape_of P other) other.node.inputs) (map (shape_of P other) other.node.outputs))
+    (sym (all_some-append (map (shape_of P other) other.node.inputs)
+    (map (shape_of P other) other.node.outputs))
     ∙ ap all_some (sym (map-append (shape_of P other) other.node.inputs other.node.outputs)) ∙ e)
   where
     nothing : (b : Bool) → (b && false) ≡ false
@@ -146,62 +194,82 @@ unobserved P here other e =
     nothing false = refl
 
     by : (b : Bool) (i o : Option (List Shape)) → (i >>= λ a. option_map (λ c. a ++ c) o) ≡ None
-        → (b && (are_same P i (all_some (map (shape_of P here) (here.node.inputs ++ here.node.outputs))) && is_one_truth P o)) ≡ false
+        → (b && (are_same P i (all_some
+        (map (shape_of P here) (here.node.inputs ++ here.node.outputs))) && is_one_truth P o))
+        ≡ false
     by b None o g = nothing b
-    by b (Some a) None g = ap (λ c. b && c) (nothing (are_same P (Some a) (all_some (map (shape_of P here) (here.node.inputs ++ here.node.outputs))))) ∙ nothing b
+    by b (Some a) None g = ap (λ c. b && c)
+        (nothing (are_same P (Some a)
+        (all_some (map (shape_of P here) (here.node.inputs ++ here.node.outputs))))) ∙ nothing b
     by b (Some a) (Some c) g = absurd cc
 
 -- a test that is known to pass
 abbrev pub is_so : Option Bool → Bool
 is_so o = either_or o false
 
-property_is : (P : Program) (r : Reached) (t : Table) (here : Instance) (f : Face) → IsReached P r → HasStarts P r t → Typed P here f
+property_is : (P : Program) (r : Reached) (t : Table) (here : Instance) (f : Face) → IsReached P r
+    → HasStarts P r t → Typed P here f
     → has_property P here (instance_at P Observer) ≡ is_so (property_in r t f)
 property_is P r t here f reached table root =
     ap (has_property P here) (sym table.observer) ∙ by t.observer
   where
-    with_types : (other : Instance) (n : ResolvedNode) (statics : List ℤ) (o : Option Face) → face_of P other ≡ o
+    with_types : (other : Instance) (n : ResolvedNode) (statics : List ℤ) (o : Option Face)
+        → face_of P other ≡ o
         → has_property P here (Some other) ≡ is_so (option_map (λ p. observes p f) o)
     with_types other n statics None e = unobserved P here other (untyped P other e)
     with_types other n statics (Some p) e = observed P here other f p root (typed P other p e)
 
-    found : (id : SpecializationId) (o : Option (ResolvedNode × List ℤ)) → standing_in r t id ≡ o → has_property P here (standing_at r t Observer id) ≡ is_so (property_by f o)
-    found id None e = ap (has_property P here) (nothing_stands r t Observer id e) ∙ ap (is_one_truth P) root.outputs ∙ one_truth_is P (outputs_of f)
+    found : (id : SpecializationId) (o : Option (ResolvedNode × List ℤ)) → standing_in r t id ≡ o
+        → has_property P here (standing_at r t Observer id) ≡ is_so (property_by f o)
+    found id None e = ap (has_property P here) (nothing_stands r t Observer id e)
+        ∙ ap (is_one_truth P) root.outputs ∙ one_truth_is P (outputs_of f)
     found id (Some s) e =
         let there = stands P r t Observer id s.0 s.1 reached table e in
-        ap (has_property P here) there.1 ∙ with_types there.0 s.0 s.1 (face_in s.0 s.1) (sym (face_is P (source_names P) there.0 s.0 s.1 there.2))
+        ap (has_property P here) there.1
+        ∙ with_types there.0 s.0 s.1 (face_in s.0 s.1)
+        (sym (face_is P (source_names P) there.0 s.0 s.1 there.2))
 
-    by : (o : Option SpecializationId) → has_property P here (o >>= standing_at r t Observer) ≡ is_so (property_by f (o >>= standing_in r t))
+    by : (o : Option SpecializationId)
+        → has_property P here (o >>= standing_at r t Observer)
+        ≡ is_so (property_by f (o >>= standing_in r t))
     by None = ap (is_one_truth P) root.outputs ∙ one_truth_is P (outputs_of f)
     by (Some id) = found id (standing_in r t id) refl
 
 -- ## The node under test
 
 -- the node under test has types
-pub root_has_face : (P : Program) (r : Reached) (t : Table) (n : ResolvedNode) (statics : List ℤ) → IsReached P r → HasStarts P r t → walk_refusal P 0 (instances P) ≡ None
+pub root_has_face : (P : Program) (r : Reached) (t : Table) (n : ResolvedNode) (statics : List ℤ)
+    → IsReached P r → HasStarts P r t → walk_refusal P 0 (instances P) ≡ None
     → standing_in r t t.root ≡ Some (n, statics) → face_in n statics ≡ None → ⊥
 root_has_face P r t n statics reached table walked found none =
     let there = stands P r t Root t.root n statics reached table found in
     let here = there.0 in
     let is : instance_at P Root ≡ Some here = sym table.root ∙ there.1 in
-    let no_types = untyped P here (sym (face_is P (source_names P) here n statics there.2) ∙ none) in
+    let no_types = untyped P here
+    (sym (face_is P (source_names P) here n statics there.2) ∙ none) in
     let types = root_has_types P here is walked in
     false≢true (sym (ap is_some no_types) ∙ types)
 
 -- what is judged, where it is seen so
-pub root_is : (P : Program) (r : Reached) (t : Table) (n : ResolvedNode) (statics : List ℤ) (f : Face) → IsReached P r → HasStarts P r t
+pub root_is : (P : Program) (r : Reached) (t : Table) (n : ResolvedNode) (statics : List ℤ)
+    (f : Face) → IsReached P r → HasStarts P r t
     → standing_in r t t.root ≡ Some (n, statics) → face_in n statics ≡ Some f
-    → (holds (is_root P) (instance_at P Root) ≡ (f.is_plain && (nat_le (elements_in_all (inputs_of f)) 1023 && is_so (property_in r t f))))
+    → (holds (is_root P) (instance_at P Root)
+    ≡ (f.is_plain && (nat_le (elements_in_all (inputs_of f)) 1023 && is_so (property_in r t f))))
     × (signature P ≡ elements_named (map name_of f.node.inputs) (inputs_of f))
 root_is P r t n statics f reached table found there_is =
     let there = stands P r t Root t.root n statics reached table found in
     let here = there.0 in
     let is : instance_at P Root ≡ Some here = sym table.root ∙ there.1 in
-    let root = typed P here f (sym (face_is P (source_names P) here n statics there.2) ∙ there_is) in (
+    let root = typed P here f
+    (sym (face_is P (source_names P) here n statics there.2) ∙ there_is) in (
       ap (holds (is_root P)) is
-          ∙ ap (λ b. b && (nat_le (length (signature P)) 1023 && has_property P here (instance_at P Observer))) root.plain
-          ∙ ap (λ k. f.is_plain && (nat_le k 1023 && has_property P here (instance_at P Observer))) (count_is P here f is root)
-          ∙ ap (λ b. f.is_plain && (nat_le (elements_in_all (inputs_of f)) 1023 && b)) (property_is P r t here f reached table root),
+          ∙ ap (λ b. b && (nat_le (length (signature P)) 1023
+          && has_property P here (instance_at P Observer))) root.plain
+          ∙ ap (λ k. f.is_plain && (nat_le k 1023 && has_property P here (instance_at P Observer)))
+          (count_is P here f is root)
+          ∙ ap (λ b. f.is_plain && (nat_le (elements_in_all (inputs_of f)) 1023 && b))
+          (property_is P r t here f reached table root),
       signature_is P here f is root,
     )
 
@@ -210,5 +278,7 @@ root_is P r t n statics f reached table found there_is =
 pub too_many : (n counted : ℕ) → counted ≡ min n 4294967295 → 1023 < counted → nat_le n 1023 ≡ false
 too_many n counted e over = let more : 1023 < n = omega arith in grind (arith, nat_tests)
 
-pub few_enough : (n counted : ℕ) → counted ≡ min n 4294967295 → counted ≤ 1023 → (n ≤ 1023) × (nat_le n 1023 ≡ true)
-few_enough n counted e within = let less : n ≤ 1023 = omega arith in (less, grind (arith, nat_tests))
+pub few_enough : (n counted : ℕ) → counted ≡ min n 4294967295 → counted ≤ 1023
+    → (n ≤ 1023) × (nat_le n 1023 ≡ true)
+few_enough n counted e within =
+    let less : n ≤ 1023 = omega arith in (less, grind (arith, nat_tests))

@@ -15,18 +15,22 @@ use Rattle.lb_static.proofs.Lists.{append_assoc, false_second}
 
 -- ## A list under a view
 
-pub any_map : {A B : Type 0} (p : B → Bool) (g : A → B) (xs : List A) → list_any (λ x. p (g x)) xs ≡ list_any p (map g xs)
+pub any_map : {A B : Type 0} (p : B → Bool) (g : A → B) (xs : List A)
+    → list_any (λ x. p (g x)) xs ≡ list_any p (map g xs)
 any_map p g [] = refl
 any_map p g (x ∷ xs) = ap (λ b. p (g x) || b) (any_map p g xs)
 
-prefix_map : {A B : Type 0} (p : B → Bool) (g : A → B) (xs : List A) → prefix_len (λ x. p (g x)) xs ≡ prefix_len p (map g xs)
+prefix_map : {A B : Type 0} (p : B → Bool) (g : A → B) (xs : List A)
+    → prefix_len (λ x. p (g x)) xs ≡ prefix_len p (map g xs)
 prefix_map p g [] = refl
 prefix_map p g (x ∷ xs) = ap (λ n. cond (p (g x)) (1 + n) 0) (prefix_map p g xs)
 
-pub position_map : {A B : Type 0} (p : B → Bool) (g : A → B) (xs : List A) → position (λ x. p (g x)) xs ≡ position p (map g xs)
+pub position_map : {A B : Type 0} (p : B → Bool) (g : A → B) (xs : List A)
+    → position (λ x. p (g x)) xs ≡ position p (map g xs)
 position_map p g xs =
     ap (λ n. cond (nat_lt n (length xs)) (Some n) None) (prefix_map (λ y. not (p y)) g xs)
-    ∙ ap (λ n. cond (nat_lt (position_or_len p (map g xs)) n) (Some (position_or_len p (map g xs))) None) (sym (length-map xs g))
+    ∙ ap (λ n. cond (nat_lt (position_or_len p (map g xs)) n) (Some (position_or_len p (map g xs)))
+    None) (sym (length-map xs g))
 
 -- ## One more name
 
@@ -34,12 +38,14 @@ map_append : {A B : Type 0} (g : A → B) (xs ys : List A) → map g (xs ++ ys) 
 map_append g [] ys = refl
 map_append g (x ∷ xs) ys = ap (λ zs. g x ∷ zs) (map_append g xs ys)
 
-after_view : {A : Type 0} (g : A → Name) (ks : List A) (k : A) (b : Bool) → map g (if b then ks else ks ++ k ∷ []) ≡ (if b then map g ks else map g ks ++ g k ∷ [])
+after_view : {A : Type 0} (g : A → Name) (ks : List A) (k : A) (b : Bool)
+    → map g (if b then ks else ks ++ k ∷ []) ≡ (if b then map g ks else map g ks ++ g k ∷ [])
 after_view g ks k true = refl
 after_view g ks k false = map_append g ks (k ∷ [])
 
 -- the view of the keys after one more insertion
-pub view_declared : {A : Type 0} (g : A → Name) (ks after : List A) (k : A) → after ≡ (if list_any (λ x. bytes_eq (g k) (g x)) ks then ks else ks ++ k ∷ [])
+pub view_declared : {A : Type 0} (g : A → Name) (ks after : List A) (k : A)
+    → after ≡ (if list_any (λ x. bytes_eq (g k) (g x)) ks then ks else ks ++ k ∷ [])
     → map g after ≡ declared_after (map g ks) (g k)
 view_declared g ks after k e =
     ap (map g) e ∙ after_view g ks k (list_any (λ x. bytes_eq (g k) (g x)) ks)
@@ -51,8 +57,10 @@ bytes_eq-symmetric x y = by (bytes_eq x y) (bytes_eq y x) refl refl
     by : (a b : Bool) → bytes_eq x y ≡ a → bytes_eq y x ≡ b → a ≡ b
     by true true p q = refl
     by false false p q = refl
-    by true false p q = let e = (bytes_eq-Decides y x).1 (sym ((bytes_eq-Decides x y).0 p)) in absurd cc
-    by false true p q = let e = (bytes_eq-Decides x y).1 (sym ((bytes_eq-Decides y x).0 q)) in absurd cc
+    by true false p q = let e =
+        (bytes_eq-Decides y x).1 (sym ((bytes_eq-Decides x y).0 p)) in absurd cc
+    by false true p q = let e =
+        (bytes_eq-Decides x y).1 (sym ((bytes_eq-Decides y x).0 q)) in absurd cc
 
 or_assoc : (a b c : Bool) → ((a || b) || c) ≡ (a || (b || c))
 or_assoc true b c = refl
@@ -64,7 +72,8 @@ or_false false = refl
 
 pub among_append : (x : Name) (ys zs : List Name) → among x (ys ++ zs) ≡ (among x ys || among x zs)
 among_append x [] zs = refl
-among_append x (y ∷ ys) zs = ap (λ b. bytes_eq x y || b) (among_append x ys zs) ∙ sym (or_assoc (bytes_eq x y) (among x ys) (among x zs))
+among_append x (y ∷ ys) zs = ap (λ b. bytes_eq x y || b) (among_append x ys zs)
+    ∙ sym (or_assoc (bytes_eq x y) (among x ys) (among x zs))
 
 distinct_step : (a b c d : Bool) → (not (a || c) && (d && not b)) ≡ ((not a && d) && not (c || b))
 distinct_step true b c d = refl
@@ -76,66 +85,84 @@ distinct_step false b true d = by d
 distinct_step false b false d = refl
 
 -- names are distinct with one more at the end, if they were and it is none of them
-pub distinct_more : (xs : List Name) (x : Name) → are_distinct (xs ++ x ∷ []) ≡ (are_distinct xs && not (among x xs))
+pub distinct_more : (xs : List Name) (x : Name)
+    → are_distinct (xs ++ x ∷ []) ≡ (are_distinct xs && not (among x xs))
 distinct_more [] x = refl
 distinct_more (y ∷ xs) x =
-    ap (λ b. not b && are_distinct (xs ++ x ∷ [])) (among_append y xs (x ∷ []) ∙ ap (λ b. among y xs || b) (or_false (bytes_eq y x) ∙ bytes_eq-symmetric y x))
+    ap (λ b. not b && are_distinct (xs ++ x ∷ []))
+    (among_append y xs (x ∷ [])
+    ∙ ap (λ b. among y xs || b) (or_false (bytes_eq y x) ∙ bytes_eq-symmetric y x))
     ∙ ap (λ b. not (among y xs || bytes_eq x y) && b) (distinct_more xs x)
     ∙ distinct_step (among y xs) (among x xs) (bytes_eq x y) (are_distinct xs)
 
-distinct_either : (xs : List Name) (x : Name) (b : Bool) → among x xs ≡ b → are_distinct xs ≡ true → are_distinct (if b then xs else xs ++ x ∷ []) ≡ true
+distinct_either : (xs : List Name) (x : Name) (b : Bool) → among x xs ≡ b → are_distinct xs ≡ true
+    → are_distinct (if b then xs else xs ++ x ∷ []) ≡ true
 distinct_either xs x true e d = d
 distinct_either xs x false e d = distinct_more xs x ∙ ap (λ c. c && not (among x xs)) d ∙ ap not e
 
-pub distinct_declared : (xs : List Name) (x : Name) → are_distinct xs ≡ true → are_distinct (declared_after xs x) ≡ true
+pub distinct_declared : (xs : List Name) (x : Name) → are_distinct xs ≡ true
+    → are_distinct (declared_after xs x) ≡ true
 distinct_declared xs x d = distinct_either xs x (among x xs) refl d
 
 distinct_false : (xs ys : List Name) → are_distinct xs ≡ false → are_distinct (xs ++ ys) ≡ false
 distinct_false [] ys e = absurd cc
 distinct_false (x ∷ xs) ys e =
     ap (λ b. not b && are_distinct (xs ++ ys)) (among_append x xs ys)
-    ∙ by (among x xs) (among x ys) (are_distinct xs) (are_distinct (xs ++ ys)) e (distinct_false xs ys)
+    ∙ by (among x xs) (among x ys) (are_distinct xs) (are_distinct (xs ++ ys)) e
+    (distinct_false xs ys)
   where
-    by : (a b c d : Bool) → (not a && c) ≡ false → (c ≡ false → d ≡ false) → (not (a || b) && d) ≡ false
+    by : (a b c d : Bool) → (not a && c) ≡ false → (c ≡ false → d ≡ false)
+        → (not (a || b) && d) ≡ false
     by true b c d e next = refl
     by false true c d e next = refl
     by false false c d e next = next e
 
 -- where some names are doubled, so are those of a longer list
-pub doubled_before : (xs ys all : List Name) → xs ++ ys ≡ all → are_distinct xs ≡ false → are_distinct all ≡ false
+pub doubled_before : (xs ys all : List Name) → xs ++ ys ≡ all → are_distinct xs ≡ false
+    → are_distinct all ≡ false
 doubled_before xs ys all e d = subst (λ l. are_distinct l ≡ false) e (distinct_false xs ys d)
 
 -- a name that stands before is doubled
-pub doubled_here : (xs ys all : List Name) (x : Name) → xs ++ x ∷ ys ≡ all → not (among x xs) ≡ false → are_distinct all ≡ false
+pub doubled_here : (xs ys all : List Name) (x : Name) → xs ++ x ∷ ys ≡ all
+    → not (among x xs) ≡ false → are_distinct all ≡ false
 doubled_here xs ys all x e d =
-    let first : are_distinct (xs ++ x ∷ []) ≡ false = distinct_more xs x ∙ ap (λ b. are_distinct xs && b) d ∙ false_second (are_distinct xs) false refl in
+    let first : are_distinct (xs ++ x ∷ []) ≡ false = distinct_more xs x
+    ∙ ap (λ b. are_distinct xs && b) d ∙ false_second (are_distinct xs) false refl in
     doubled_before (xs ++ x ∷ []) ys all (append_assoc xs (x ∷ []) ys ∙ e) first
 
 -- the names from a place on
-among_next : (name x : Name) (ns : List Name) (i : ℕ) (b : Bool) → i < length ns → x ≡ get_or ns i x → bytes_eq x name ≡ b
+among_next : (name x : Name) (ns : List Name) (i : ℕ) (b : Bool) → i < length ns → x ≡ get_or ns i x
+    → bytes_eq x name ≡ b
     → among name (drop i ns) ≡ (b || among name (drop (i + 1) ns))
 among_next name x ns i b below is e =
-    ap (among name) (drop_more ns i x below) ∙ ap (λ y. bytes_eq name y || among name (drop (i + 1) ns)) (sym is)
+    ap (among name) (drop_more ns i x below)
+    ∙ ap (λ y. bytes_eq name y || among name (drop (i + 1) ns)) (sym is)
     ∙ ap (λ c. c || among name (drop (i + 1) ns)) (bytes_eq-symmetric name x ∙ e)
 
-pub among_seen : (name x : Name) (ns : List Name) (i : ℕ) → i < length ns → x ≡ get_or ns i x → bytes_eq x name ≡ true
+pub among_seen : (name x : Name) (ns : List Name) (i : ℕ) → i < length ns → x ≡ get_or ns i x
+    → bytes_eq x name ≡ true
     → among name ns ≡ among name (drop i ns) → true ≡ among name ns
 among_seen name x ns i below is e before = sym (before ∙ among_next name x ns i true below is e)
 
-pub among_passed : (name x : Name) (ns : List Name) (i : ℕ) → i < length ns → x ≡ get_or ns i x → bytes_eq x name ≡ false
+pub among_passed : (name x : Name) (ns : List Name) (i : ℕ) → i < length ns → x ≡ get_or ns i x
+    → bytes_eq x name ≡ false
     → among name ns ≡ among name (drop i ns) → among name ns ≡ among name (drop (i + 1) ns)
 among_passed name x ns i below is e before = before ∙ among_next name x ns i false below is e
 
 -- the name at the place that is found
-pub name_at_place : (x : Name) (ns : List Name) (i : ℕ) → position (bytes_eq x) ns ≡ Some i → slice_get ns i ≡ Some x
+pub name_at_place : (x : Name) (ns : List Name) (i : ℕ) → position (bytes_eq x) ns ≡ Some i
+    → slice_get ns i ≡ Some x
 name_at_place x ns i e = by ns i e
   where
-    at_first : (ns : List Name) → nat_lt (position_or_len (bytes_eq x) ns) (length ns) ≡ true → slice_get ns (position_or_len (bytes_eq x) ns) ≡ Some x
+    at_first : (ns : List Name) → nat_lt (position_or_len (bytes_eq x) ns) (length ns) ≡ true
+        → slice_get ns (position_or_len (bytes_eq x) ns) ≡ Some x
     at_first [] e = absurd (grind (arith, nat_tests))
     at_first (y ∷ ns) e = step (bytes_eq x y) refl (position_or_len (bytes_eq x) ns) (at_first ns) e
       where
-        step : (b : Bool) → bytes_eq x y ≡ b → (n : ℕ) → (nat_lt n (length ns) ≡ true → slice_get ns n ≡ Some x)
-            → nat_lt (cond (not b) (1 + n) 0) (length (y ∷ ns)) ≡ true → slice_get (y ∷ ns) (cond (not b) (1 + n) 0) ≡ Some x
+        step : (b : Bool) → bytes_eq x y ≡ b → (n : ℕ)
+            → (nat_lt n (length ns) ≡ true → slice_get ns n ≡ Some x)
+            → nat_lt (cond (not b) (1 + n) 0) (length (y ∷ ns)) ≡ true
+            → slice_get (y ∷ ns) (cond (not b) (1 + n) 0) ≡ Some x
         step true p n next e = ap Some (sym ((bytes_eq-Decides x y).0 p))
         step false p n next e =
             let lt : nat_lt n (length ns) ≡ true = grind (arith, nat_tests) in
@@ -143,9 +170,12 @@ name_at_place x ns i e = by ns i e
             subst (λ k. slice_get (y ∷ ns) k ≡ Some x) one_more (next lt)
 
     by : (ns : List Name) (i : ℕ) → position (bytes_eq x) ns ≡ Some i → slice_get ns i ≡ Some x
-    by ns i e = on (nat_lt (position_or_len (bytes_eq x) ns) (length ns)) refl (position_or_len (bytes_eq x) ns) refl e
+    by ns i e = on (nat_lt (position_or_len (bytes_eq x) ns) (length ns)) refl
+        (position_or_len (bytes_eq x) ns) refl e
       where
-        on : (b : Bool) → nat_lt (position_or_len (bytes_eq x) ns) (length ns) ≡ b → (n : ℕ) → position_or_len (bytes_eq x) ns ≡ n
+        on : (b : Bool) → nat_lt (position_or_len (bytes_eq x) ns) (length ns) ≡ b → (n : ℕ)
+            → position_or_len (bytes_eq x) ns ≡ n
             → cond b (Some n) None ≡ Some i → slice_get ns i ≡ Some x
-        on true lt n is e = let same : n ≡ i = cc in subst (λ k. slice_get ns k ≡ Some x) (is ∙ same) (at_first ns lt)
+        on true lt n is e = let same : n ≡ i =
+            cc in subst (λ k. slice_get ns k ≡ Some x) (is ∙ same) (at_first ns lt)
         on false lt n is e = absurd cc

@@ -20,12 +20,14 @@ same_sizes_are [] (m ∷ ms) = refl
 same_sizes_are (n ∷ ns) [] = refl
 same_sizes_are (n ∷ ns) (m ∷ ms) = ap (λ b. eqb n m && b) (same_sizes_are ns ms)
 
-pub same_shapes_are : (E : seen.Shape → seen.Shape → Bool) → ((s t : seen.Shape) → E s t ≡ is_shape (shape_seen s) (shape_seen t))
+pub same_shapes_are : (E : seen.Shape → seen.Shape → Bool)
+    → ((s t : seen.Shape) → E s t ≡ is_shape (shape_seen s) (shape_seen t))
     → (ss ts : List seen.Shape) → pointwise E ss ts ≡ are_shapes (shapes_seen ss) (shapes_seen ts)
 same_shapes_are E each [] [] = refl
 same_shapes_are E each [] (t ∷ ts) = refl
 same_shapes_are E each (s ∷ ss) [] = refl
-same_shapes_are E each (s ∷ ss) (t ∷ ts) = ap (λ b. b && pointwise E ss ts) (each s t) ∙ ap (λ b. is_shape (shape_seen s) (shape_seen t) && b) (same_shapes_are E each ss ts)
+same_shapes_are E each (s ∷ ss) (t ∷ ts) = ap (λ b. b && pointwise E ss ts) (each s t)
+    ∙ ap (λ b. is_shape (shape_seen s) (shape_seen t) && b) (same_shapes_are E each ss ts)
 
 -- ## Counts that stop at a limit
 
@@ -47,9 +49,11 @@ capped limit a b = ⊎_elim within above (cases_lt a limit)
     above h = let e : min a limit ≡ limit = omega arith in rw e (over limit a b h)
 
 -- one factor more
-pub one_factor : (limit count next n : ℕ) (rest : List ℕ) → next ≡ min (count * n) limit → min (next * product rest) limit ≡ min (count * product (n ∷ rest)) limit
+pub one_factor : (limit count next n : ℕ) (rest : List ℕ) → next ≡ min (count * n) limit
+    → min (next * product rest) limit ≡ min (count * product (n ∷ rest)) limit
 one_factor limit count next n rest e =
-    ap (λ k. min (k * product rest) limit) e ∙ capped limit (count * n) (product rest) ∙ ap (λ k. min k limit) (mul_assoc count n (product rest))
+    ap (λ k. min (k * product rest) limit) e ∙ capped limit (count * n) (product rest)
+    ∙ ap (λ k. min k limit) (mul_assoc count n (product rest))
 
 -- ## Kinds and scalars
 
@@ -59,11 +63,15 @@ kinds_are Int_kind Bool_kind = refl
 kinds_are Bool_kind Int_kind = refl
 kinds_are Bool_kind Bool_kind = refl
 
-pub same_shape_is : (s t : seen.Shape) → (sameb the_type s.kind t.kind && pointwise eqb s.sizes.items t.sizes.items) ≡ is_shape (shape_seen s) (shape_seen t)
-same_shape_is s t = ap (λ b. b && pointwise eqb s.sizes.items t.sizes.items) (kinds_are s.kind t.kind)
+pub same_shape_is : (s t : seen.Shape)
+    → (sameb the_type s.kind t.kind && pointwise eqb s.sizes.items t.sizes.items)
+    ≡ is_shape (shape_seen s) (shape_seen t)
+same_shape_is s t = ap (λ b. b && pointwise eqb s.sizes.items t.sizes.items)
+    (kinds_are s.kind t.kind)
     ∙ ap (λ b. is_kind s.kind t.kind && b) (same_sizes_are s.sizes.items t.sizes.items)
 
-pub truth_is : (k : Kind) (ns : List ℕ) (n : ℕ) → n ≡ length ns → sameb the_type k Bool_kind ≡ true → (n == 0) ≡ is_shape (record { kind = k; sizes = ns }) truth
+pub truth_is : (k : Kind) (ns : List ℕ) (n : ℕ) → n ≡ length ns → sameb the_type k Bool_kind ≡ true
+    → (n == 0) ≡ is_shape (record { kind = k; sizes = ns }) truth
 truth_is Int_kind ns n len e = absurd cc
 truth_is Bool_kind [] n len e = rw len refl
 truth_is Bool_kind (m ∷ ms) n len e = rw len (grind (arith, nat_tests))

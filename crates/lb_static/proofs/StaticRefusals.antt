@@ -25,25 +25,29 @@ abbrev first_of_five : (a b c d : Bool) (o : Option Refusal) → Option Refusal
 first_of_five a b c d o =
     or_else (unless a E4) (or_else (unless b E7) (or_else (unless c E8) (or_else o (unless d E8))))
 
-at_calls : (a b c d : Bool) (o : Option Refusal) → a ≡ true → b ≡ false → first_of_five a b c d o ≡ Some E7
+at_calls : (a b c d : Bool) (o : Option Refusal) → a ≡ true → b ≡ false
+    → first_of_five a b c d o ≡ Some E7
 at_calls true false c d o e f = refl
 at_calls true true c d o e f = absurd cc
 at_calls false b c d o e f = absurd cc
 
-at_parameters : (a b c d : Bool) (o : Option Refusal) → a ≡ true → b ≡ true → c ≡ false → first_of_five a b c d o ≡ Some E8
+at_parameters : (a b c d : Bool) (o : Option Refusal) → a ≡ true → b ≡ true → c ≡ false
+    → first_of_five a b c d o ≡ Some E8
 at_parameters true true false d o e f g = refl
 at_parameters true true true d o e f g = absurd cc
 at_parameters true false c d o e f g = absurd cc
 at_parameters false b c d o e f g = absurd cc
 
-at_walk : (a b c d : Bool) (o : Option Refusal) (r : Refusal) → a ≡ true → b ≡ true → c ≡ true → o ≡ Some r → first_of_five a b c d o ≡ Some r
+at_walk : (a b c d : Bool) (o : Option Refusal) (r : Refusal) → a ≡ true → b ≡ true → c ≡ true
+    → o ≡ Some r → first_of_five a b c d o ≡ Some r
 at_walk true true true d (Some s) r e f g h = h
 at_walk true true true d None r e f g h = absurd cc
 at_walk true true false d o r e f g h = absurd cc
 at_walk true false c d o r e f g h = absurd cc
 at_walk false b c d o r e f g h = absurd cc
 
-at_root : (a b c d : Bool) (o : Option Refusal) → a ≡ true → b ≡ true → c ≡ true → o ≡ None → d ≡ false → first_of_five a b c d o ≡ Some E8
+at_root : (a b c d : Bool) (o : Option Refusal) → a ≡ true → b ≡ true → c ≡ true → o ≡ None
+    → d ≡ false → first_of_five a b c d o ≡ Some E8
 at_root true true true false None e f g h k = refl
 at_root true true true true None e f g h k = absurd cc
 at_root true true true d (Some s) e f g h k = absurd cc
@@ -51,7 +55,8 @@ at_root true true false d o e f g h k = absurd cc
 at_root true false c d o e f g h k = absurd cc
 at_root false b c d o e f g h k = absurd cc
 
-at_none : (a b c d : Bool) (o : Option Refusal) → a ≡ true → b ≡ true → c ≡ true → o ≡ None → d ≡ true → first_of_five a b c d o ≡ None
+at_none : (a b c d : Bool) (o : Option Refusal) → a ≡ true → b ≡ true → c ≡ true → o ≡ None
+    → d ≡ true → first_of_five a b c d o ≡ None
 at_none true true true true None e f g h k = refl
 at_none true true true false None e f g h k = absurd cc
 at_none true true true d (Some s) e f g h k = absurd cc
@@ -69,37 +74,45 @@ has_shape P = holds (is_root P) (instance_at P Root)
 
 -- ## Faults of the parts
 
-pub names_fault : (P : Program) (e : StaticError) → IsNameFault e (keeps_names P) → IsStaticFault P e
+pub names_fault : (P : Program) (e : StaticError) → IsNameFault e (keeps_names P)
+    → IsStaticFault P e
 names_fault P Memory h = h
 names_fault P (Name_fault x) h =
-    at_names (keeps_names P) (is_well_founded P) (has_no_parameters P) (has_shape P) (walk_refusal P 0 (instances P)) h
+    at_names (keeps_names P) (is_well_founded P) (has_no_parameters P) (has_shape P)
+    (walk_refusal P 0 (instances P)) h
 names_fault P (Recursion x) h = absurd h
 names_fault P Root_fault h = absurd h
 names_fault P (Value x) h = absurd h
 names_fault P (Range x) h = absurd h
 names_fault P Instances h = absurd h
 
-pub calls_fault : (P : Program) (e : StaticError) → keeps_names P ≡ true → IsCallsAnswer P (Err e) → IsStaticFault P e
+pub calls_fault : (P : Program) (e : StaticError) → keeps_names P ≡ true → IsCallsAnswer P (Err e)
+    → IsStaticFault P e
 calls_fault P Memory names h = h
 calls_fault P (Name_fault x) names h = absurd h
 calls_fault P (Recursion x) names h =
-    at_calls (keeps_names P) (is_well_founded P) (has_no_parameters P) (has_shape P) (walk_refusal P 0 (instances P)) names h
+    at_calls (keeps_names P) (is_well_founded P) (has_no_parameters P) (has_shape P)
+    (walk_refusal P 0 (instances P)) names h
 calls_fault P Root_fault names h = absurd h
 calls_fault P (Value x) names h = absurd h
 calls_fault P (Range x) names h = absurd h
 calls_fault P Instances names h = absurd h
 
-pub parameters_fault : (P : Program) → keeps_names P ≡ true → is_well_founded P ≡ true → has_no_parameters P ≡ false → static_refusal P ≡ Some E8
+pub parameters_fault : (P : Program) → keeps_names P ≡ true → is_well_founded P ≡ true
+    → has_no_parameters P ≡ false → static_refusal P ≡ Some E8
 parameters_fault P names calls h =
-    at_parameters (keeps_names P) (is_well_founded P) (has_no_parameters P) (has_shape P) (walk_refusal P 0 (instances P)) names calls h
+    at_parameters (keeps_names P) (is_well_founded P) (has_no_parameters P) (has_shape P)
+    (walk_refusal P 0 (instances P)) names calls h
 
-pub walk_fault : (P : Program) (e : StaticError) → keeps_names P ≡ true → is_well_founded P ≡ true → has_no_parameters P ≡ true
+pub walk_fault : (P : Program) (e : StaticError) → keeps_names P ≡ true → is_well_founded P ≡ true
+    → has_no_parameters P ≡ true
     → IsRefusal (walk_refusal P 0 (instances P)) e → IsStaticFault P e
 walk_fault P e names calls parameters h = by e h
   where
     first : (r : Refusal) → walk_refusal P 0 (instances P) ≡ Some r → static_refusal P ≡ Some r
     first r =
-        at_walk (keeps_names P) (is_well_founded P) (has_no_parameters P) (has_shape P) (walk_refusal P 0 (instances P)) r names calls parameters
+        at_walk (keeps_names P) (is_well_founded P) (has_no_parameters P) (has_shape P)
+        (walk_refusal P 0 (instances P)) r names calls parameters
 
     by : (e : StaticError) → IsRefusal (walk_refusal P 0 (instances P)) e → IsStaticFault P e
     by Memory h = tt
@@ -110,25 +123,31 @@ walk_fault P e names calls parameters h = by e h
     by (Range x) h = first E6 h
     by Instances h = first E12 h
 
-pub root_fault : (P : Program) (e : StaticError) → keeps_names P ≡ true → is_well_founded P ≡ true → has_no_parameters P ≡ true
+pub root_fault : (P : Program) (e : StaticError) → keeps_names P ≡ true → is_well_founded P ≡ true
+    → has_no_parameters P ≡ true
     → walk_refusal P 0 (instances P) ≡ None → IsRootAnswer P (Err e) → IsStaticFault P e
 root_fault P Memory names calls parameters walked h = h
 root_fault P (Name_fault x) names calls parameters walked h = absurd h
 root_fault P (Recursion x) names calls parameters walked h = absurd h
 root_fault P Root_fault names calls parameters walked h =
-    at_root (keeps_names P) (is_well_founded P) (has_no_parameters P) (has_shape P) (walk_refusal P 0 (instances P)) names calls parameters walked h
+    at_root (keeps_names P) (is_well_founded P) (has_no_parameters P) (has_shape P)
+    (walk_refusal P 0 (instances P)) names calls parameters walked h
 root_fault P (Value x) names calls parameters walked h = absurd h
 root_fault P (Range x) names calls parameters walked h = absurd h
 root_fault P Instances names calls parameters walked h = absurd h
 
-pub no_fault : (P : Program) → keeps_names P ≡ true → is_well_founded P ≡ true → has_no_parameters P ≡ true
-    → walk_refusal P 0 (instances P) ≡ None → holds (is_root P) (instance_at P Root) ≡ true → static_refusal P ≡ None
+pub no_fault : (P : Program) → keeps_names P ≡ true → is_well_founded P ≡ true
+    → has_no_parameters P ≡ true
+    → walk_refusal P 0 (instances P) ≡ None → holds (is_root P) (instance_at P Root) ≡ true
+    → static_refusal P ≡ None
 no_fault P names calls parameters walked h =
-    at_none (keeps_names P) (is_well_founded P) (has_no_parameters P) (has_shape P) (walk_refusal P 0 (instances P)) names calls parameters walked h
+    at_none (keeps_names P) (is_well_founded P) (has_no_parameters P) (has_shape P)
+    (walk_refusal P 0 (instances P)) names calls parameters walked h
 
 -- ## The table
 
-pub is_table : (P : Program) (r : Reached) (t : Table) → HasStarts P r t → AreSpecialized P r t → AreInstances P r t → IsTable P r t
+pub is_table : (P : Program) (r : Reached) (t : Table) → HasStarts P r t → AreSpecialized P r t
+    → AreInstances P r t → IsTable P r t
 is_table P r t starts specialized rows = record {
   specialized = specialized;
   instances = rows.instances;
@@ -138,8 +157,10 @@ is_table P r t starts specialized rows = record {
   few = rows.few;
 }
 
-pub table_answer : (P : Program) (r : Reached) (result : Result Table StaticError) → keeps_names P ≡ true → is_well_founded P ≡ true → has_no_parameters P ≡ true
-    → IsWalkAnswer P r result → IfOk result (AreSpecialized P r) → IfOk result (AreInstances P r) → IsTableAnswer P r result
+pub table_answer : (P : Program) (r : Reached) (result : Result Table StaticError)
+    → keeps_names P ≡ true → is_well_founded P ≡ true → has_no_parameters P ≡ true
+    → IsWalkAnswer P r result → IfOk result (AreSpecialized P r) → IfOk result (AreInstances P r)
+    → IsTableAnswer P r result
 table_answer P r (Ok t) names calls parameters walked specialized rows = record {
   calls = calls;
   parameters = parameters;
@@ -147,4 +168,5 @@ table_answer P r (Ok t) names calls parameters walked specialized rows = record 
   starts = walked.1;
   table = is_table P r t walked.1 specialized rows;
 }
-table_answer P r (Err e) names calls parameters walked specialized rows = walk_fault P e names calls parameters walked
+table_answer P r (Err e) names calls parameters walked specialized rows =
+    walk_fault P e names calls parameters walked

@@ -4,23 +4,31 @@ use Rattle.std.specs.Prelude.{◌&&◌, find, filter, flat_map}
 use Rattle.std.specs.List.{list_all}
 use Rattle.lb_static.proofs.Lists.{and_first, and_second, both, all_append}
 
-pub all_weaker : {A : Type 0} (p q : A → Bool) (xs : List A) → ((x : A) → p x ≡ true → q x ≡ true) → list_all p xs ≡ true → list_all q xs ≡ true
+pub all_weaker : {A : Type 0} (p q : A → Bool) (xs : List A) → ((x : A) → p x ≡ true → q x ≡ true)
+    → list_all p xs ≡ true → list_all q xs ≡ true
 all_weaker p q [] w e = refl
-all_weaker p q (x ∷ xs) w e = both _ _ (w x (and_first _ (list_all p xs) e)) (all_weaker p q xs w (and_second (p x) _ e))
+all_weaker p q (x ∷ xs) w e =
+    both _ _ (w x (and_first _ (list_all p xs) e)) (all_weaker p q xs w (and_second (p x) _ e))
 
-pub all_flat : {A B : Type 0} (p : B → Bool) (f : A → List B) (xs : List A) → list_all p (flat_map f xs) ≡ list_all (λ x. list_all p (f x)) xs
+pub all_flat : {A B : Type 0} (p : B → Bool) (f : A → List B) (xs : List A)
+    → list_all p (flat_map f xs) ≡ list_all (λ x. list_all p (f x)) xs
 all_flat p f [] = refl
-all_flat p f (x ∷ xs) = all_append p (f x) (flat_map f xs) ∙ ap (λ b. list_all p (f x) && b) (all_flat p f xs)
+all_flat p f (x ∷ xs) = all_append p (f x) (flat_map f xs)
+    ∙ ap (λ b. list_all p (f x) && b) (all_flat p f xs)
 
-found_step : {A : Type 0} (p : A → Bool) (b : Bool) (x y : A) (o : Option A) → p x ≡ b → cond b (Some x) o ≡ Some y
+found_step : {A : Type 0} (p : A → Bool) (b : Bool) (x y : A) (o : Option A) → p x ≡ b
+    → cond b (Some x) o ≡ Some y
     → (o ≡ Some y → p y ≡ true) → p y ≡ true
 found_step p true x y o is h next = let same : x ≡ y = cc in subst (λ z. p z ≡ true) same is
 found_step p false x y o is h next = next h
 
-pub found_passes : {A : Type 0} (p : A → Bool) (xs : List A) (y : A) → find p xs ≡ Some y → p y ≡ true
+pub found_passes : {A : Type 0} (p : A → Bool) (xs : List A) (y : A) → find p xs ≡ Some y
+    → p y ≡ true
 found_passes p [] y h = absurd cc
 found_passes p (x ∷ xs) y h = found_step p (p x) x y (find p xs) refl h (found_passes p xs y)
 
-pub filter_same : {A : Type 0} (p q : A → Bool) (xs : List A) → ((x : A) → p x ≡ q x) → filter p xs ≡ filter q xs
+pub filter_same : {A : Type 0} (p q : A → Bool) (xs : List A) → ((x : A) → p x ≡ q x)
+    → filter p xs ≡ filter q xs
 filter_same p q [] e = refl
-filter_same p q (x ∷ xs) e = ap (λ b. cond b (x ∷ filter p xs) (filter p xs)) (e x) ∙ ap (λ l. cond (q x) (x ∷ l) l) (filter_same p q xs e)
+filter_same p q (x ∷ xs) e = ap (λ b. cond b (x ∷ filter p xs) (filter p xs)) (e x)
+    ∙ ap (λ l. cond (q x) (x ∷ l) l) (filter_same p q xs e)

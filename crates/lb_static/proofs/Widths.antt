@@ -19,7 +19,8 @@ product_is [] = refl
 product_is (None ∷ os) = refl
 product_is (Some n ∷ os) = by (all_some os) (product_of os) (product_is os)
   where
-    by : (o : Option (List ℕ)) (q : ℕ) → either_or (option_map product o) 0 ≡ q → either_or (option_map product (option_map (λ ns. n ∷ ns) o)) 0 ≡ n * q
+    by : (o : Option (List ℕ)) (q : ℕ) → either_or (option_map product o) 0 ≡ q
+        → either_or (option_map product (option_map (λ ns. n ∷ ns) o)) 0 ≡ n * q
     by None q e = let z : q ≡ 0 = sym e in rw z (omega arith)
     by (Some ns) q e = ap (λ m. n * m) e
 
@@ -28,7 +29,8 @@ product_append [] ps = omega arith
 product_append (None ∷ os) ps = omega arith
 product_append (Some n ∷ os) ps = ap (λ m. n * m) (product_append os ps) ∙ grind arith
 
-product_front : (o : Option ℕ) (os : List (Option ℕ)) → product_of os * product_of (o ∷ []) ≡ product_of (o ∷ os)
+product_front : (o : Option ℕ) (os : List (Option ℕ))
+    → product_of os * product_of (o ∷ []) ≡ product_of (o ∷ os)
 product_front None os = omega arith
 product_front (Some n) os = grind arith
 
@@ -53,7 +55,8 @@ above : (m e k : ℕ) → m ≤ e → m ≤ e * suc k
 above m e k h = let f : e * suc k ≡ e * k + e = grind arith in omega arith
 
 bounded : (e s : ℕ) → min (min e 65537 * s) 65537 ≡ min (e * s) 65537
-bounded e zero = let f : min e 65537 * 0 ≡ 0 = grind arith in let g : e * 0 ≡ 0 = grind arith in rw (f, g) refl
+bounded e zero = let f : min e 65537 * 0 ≡ 0 =
+    grind arith in let g : e * 0 ≡ 0 = grind arith in rw (f, g) refl
 bounded e (suc k) = by (nat_le e 65537) refl
   where
     by : (b : Bool) → nat_le e 65537 ≡ b → min (min e 65537 * suc k) 65537 ≡ min (e * suc k) 65537
@@ -64,7 +67,8 @@ bounded e (suc k) = by (nat_le e 65537) refl
     by false h =
         let gt : 65537 ≤ e = grind (arith, nat_tests) in
         let same : min e 65537 ≡ 65537 = omega arith in
-        ap (λ n. min (n * suc k) 65537) same ∙ past (65537 * suc k) (e * suc k) (above 65537 65537 k (omega arith)) (above 65537 e k gt)
+        ap (λ n. min (n * suc k) 65537) same
+        ∙ past (65537 * suc k) (e * suc k) (above 65537 65537 k (omega arith)) (above 65537 e k gt)
       where
         past : (a b : ℕ) → 65537 ≤ a → 65537 ≤ b → min a 65537 ≡ min b 65537
         past a b g l = omega arith
@@ -78,10 +82,14 @@ times_are e (v ∷ vs) =
     regroup : (a b c : ℕ) → (a * b) * c ≡ a * (b * c)
     regroup a b c = grind arith
 
-pub narrow_is : (vs : List ℤ) → nat_le (times_sizes 1 vs) 65536 ≡ nat_le (either_or (option_map product (all_some (reverse (map natural vs)))) 0) 65536
+pub narrow_is : (vs : List ℤ)
+    → nat_le (times_sizes 1 vs) 65536
+    ≡ nat_le (either_or (option_map product (all_some (reverse (map natural vs)))) 0) 65536
 narrow_is vs =
     ap (λ n. nat_le n 65536) (times_are 1 vs) ∙ by (sizes_product vs)
-    ∙ ap (λ n. nat_le n 65536) (sym (product_is (reverse (map natural vs)) ∙ product_reverse (map natural vs) ∙ product_naturals vs))
+    ∙ ap (λ n. nat_le n 65536)
+    (sym (product_is (reverse (map natural vs)) ∙ product_reverse (map natural vs)
+    ∙ product_naturals vs))
   where
     by : (n : ℕ) → nat_le (min (1 * n) 65537) 65536 ≡ nat_le n 65536
     by n = grind (arith, nat_tests)

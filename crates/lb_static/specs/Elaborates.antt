@@ -1,13 +1,10 @@
 -- What `elaborate` promises of a source.
 -- This file says what data of the program mean; no definition of the language stands on it.
-use Rattle.std.specs.Prelude.{◌≡◌, true, Option, Some, None, Result, Ok, Err}
+use Rattle.std.specs.Prelude.{◌≡◌, true, Some, None, Result, Ok, Err}
 use Rattle.lb_syntax.specs.Refusals.{E4, E5, E6, E7, E8, E12}
-use Rattle.lb_syntax.specs.SourceView.{view_source}
-use Rattle.lb_syntax.specs.Tree.{Name}
-use Rattle.lb_syntax.specs.declared.tree.Source.{Source}
 use Rattle.lb_static.specs.Instances.{Program, instances}
 use Rattle.lb_static.specs.InstanceTable.{HasStarts, IsTable}
-use Rattle.lb_static.specs.Elaborated.{IsElaborated}
+use Rattle.lb_static.specs.Elaborated.{elaborated_program}
 use Rattle.lb_static.specs.Names.{is_well_founded}
 use Rattle.lb_static.specs.Walk.{has_no_parameters, static_refusal, walk_refusal}
 use Rattle.lb_static.specs.declared.elab.Elab.{Elab}
@@ -15,11 +12,6 @@ use Rattle.lb_static.specs.declared.error.StaticError.{StaticError}
 use Rattle.lb_static.specs.declared.error.StaticError.TheVariants as error
 use Rattle.lb_static.specs.declared.reach.Reached.{Reached}
 use Rattle.lb_static.specs.declared.table.Table.{Table}
-
--- the program of a source, with the names of the node under test and of the observer
-abbrev pub program_of : Source → Name → Option Name → Program
-program_of source node observer =
-    record { source = view_source source; root = node; observer = observer }
 
 -- ## What is refused
 
@@ -34,9 +26,9 @@ IsStaticFault P (error.Value x) = static_refusal P ≡ Some E5
 IsStaticFault P (error.Range x) = static_refusal P ≡ Some E6
 IsStaticFault P error.Instances = static_refusal P ≡ Some E12
 
--- the elaborated program, or the first rule that is broken
+-- the program itself, elaborated, or the first rule that it breaks
 abbrev pub Elaborates : Program → Result Elab StaticError → Type 0
-Elaborates P (Ok e) = IsElaborated P e
+Elaborates P (Ok e) = elaborated_program e ≡ P
 Elaborates P (Err e) = IsStaticFault P e
 
 -- ## The instances

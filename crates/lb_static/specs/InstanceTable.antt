@@ -76,7 +76,8 @@ paths_of t = paths_after [] t.instances.items
 -- the instance that a row of the table stands for at its path
 abbrev pub row_at : Reached → Table → Path → row.Instance → Option Instance
 row_at r t p i =
-    either_or (option_map (specialized_at r p) (slice_get t.specializations.items i.specialization.0))
+    either_or
+    (option_map (specialized_at r p) (slice_get t.specializations.items i.specialization.0))
     None
 
 -- the instances that a table stands for

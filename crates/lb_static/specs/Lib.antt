@@ -35,4 +35,5 @@ pub mod CalledNodes
 pub mod NamedConstants
 pub mod NodeNames
 pub mod NodeProgress
+pub mod Frames
 pub mod Progressed

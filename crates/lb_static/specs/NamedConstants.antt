@@ -1,12 +1,12 @@
 -- The constants that come up in the walk over what reached nodes name.
 -- This file says what data of the program mean; no definition of the language stands on it.
-use Rattle.std.specs.Prelude.{◌≡◌, ℕ, Bool, true, nat_lt, Option, Some, is_some, List, [], ◌∷◌, length, flat_map, position, slice_get, if◌then◌else◌}
+use Rattle.std.specs.Prelude.{◌≡◌, ℕ, Bool, true, nat_lt, Option, Some, is_some, List, [], ◌∷◌, length, map, flat_map, position, slice_get, if◌then◌else◌}
 use Rattle.std.specs.List.{list_all}
 use Rattle.std.specs.Str.{bytes_eq}
 use Rattle.lb_syntax.specs.Lists.{◌>>=◌, listed, where_true}
 use Rattle.lb_syntax.specs.Tree.{Name, Constant, Source}
 use Rattle.lb_static.specs.CalledNodes.{program_in}
-use Rattle.lb_static.specs.Names.{constants_within, is_constant}
+use Rattle.lb_static.specs.Names.{constants_within, is_constant, named_constants}
 use Rattle.lb_static.specs.Parts.{among, static_names}
 use Rattle.lb_static.specs.ResolvedNodes.{node_of}
 use Rattle.lb_static.specs.ResolvedTerms.{static_of}
@@ -52,3 +52,8 @@ keeps_constants s xs =
     let P = program_in s in
     list_all (λ c. list_all (is_constant P) (static_names c.value))
     (constants_within P xs (length s.constants))
+
+-- the same of the constants that some nodes name
+abbrev pub keeps_constants_of : Source → List ResolvedNode → Bool
+keeps_constants_of s nodes =
+    keeps_constants s (flat_map (named_constants (program_in s)) (map node_of nodes))

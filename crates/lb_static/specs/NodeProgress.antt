@@ -1,11 +1,12 @@
 -- What is resolved of a node so far, and what one more resolved part adds.
 -- This file says what data of the program mean; no definition of the language stands on it.
-use Rattle.std.specs.Prelude.{◌≡◌, ℕ, ◌<◌, ◌^◌, Bool, true, ◌&&◌, Option, None, Some, option_map, List, [], ◌∷◌, ◌++◌, map, flat_map, length, Result, Ok, Err, Box, Vec}
+use Rattle.std.specs.Prelude.{◌≡◌, ℕ, Bool, true, ◌&&◌, Option, None, Some, option_map, List, [], ◌∷◌, ◌++◌, map, flat_map, length, Result, Ok, Err, Box, Vec}
 use Rattle.std.specs.declared.alloc.Global.{Global}
 use Rattle.std.specs.List.{list_all}
-use Rattle.lb_syntax.specs.SourceView.{view_source}
+use Rattle.lb_syntax.specs.SourceView.{view_groups, view_source, view_statement}
 use Rattle.lb_syntax.specs.Tree.{Name, Static, Expr, Declaration, Sampling, Statement, Node, Source}
 use Rattle.lb_syntax.specs.Grammar.{Group, declarations, declared}
+use Rattle.lb_syntax.specs.declared.tree.Node as written
 use Rattle.lb_static.specs.Names.{is_variable}
 use Rattle.lb_static.specs.Instances.{Program, Site, sites, statement_sites}
 use Rattle.lb_static.specs.NameFaults.{IsNameFault, alone}
@@ -13,6 +14,7 @@ use Rattle.lb_static.specs.NodeNames.{node_in, passes, statement_passes, call_pa
 use Rattle.lb_static.specs.Parts.{among, right_side, variable_names}
 use Rattle.lb_static.specs.ResolvedNodes.{part_of}
 use Rattle.lb_static.specs.ResolvedTerms.{Texts, Counts, sampling_of, is_sampling_within, static_of, expr_of, statement_of, is_step_within, is_step_unhidden, declaration_of, site_of, site_at, static_at, statics_at, is_call, is_static, are_statics, is_within, is_unhidden, is_declared_within, is_site_within}
+use Rattle.lb_static.specs.Shapes.{variables}
 use Rattle.lb_static.specs.StaticParts.{Part, parts_of, arguments_of, group_parts}
 use Rattle.lb_static.specs.declared.error.StaticError.{StaticError}
 use Rattle.lb_static.specs.declared.naming.Naming.{Naming}
@@ -106,7 +108,7 @@ counts_kept n parts calls = record {
   calls = length calls;
 }
 
--- each number is within range, and 32 bits hold it
+-- each number is within range
 pub record IsKept (n : Naming) (parts : List StaticPart) (calls : List CallSite)
     (variables : List Variable) : Type 0 where
   pub declared_within :
@@ -114,8 +116,6 @@ pub record IsKept (n : Naming) (parts : List StaticPart) (calls : List CallSite)
   pub calls_within :
       list_all (is_site_within (length n.source.now.nodes.items) (counts_kept n parts calls)) calls
       ≡ true
-  pub statics_fit : length parts < 2 ^ 32
-  pub calls_fit : length calls < 2 ^ 32
 
 -- ## Static expressions and calls
 
@@ -298,3 +298,18 @@ abbrev pub ClockStands : Progress → Option Sampling → Option resolved.Sampli
 ClockStands s c clock =
     (option_map (sampling_of (variable_names s.node)) clock ≡ c)
     × (is_sampling_within (counts_in (texts s)) clock ≡ true)
+
+-- ## A node
+
+-- with all that is found in a node
+abbrev pub after_node : Progress → written.Node → Progress
+after_node s n =
+    let inputs = after_groups s (view_groups n.inputs.items) in
+    let outputs = after_groups inputs (view_groups n.outputs.items) in
+    let locals = after_groups outputs (view_groups n.locals.items) in
+    after_statements locals (map view_statement n.body.items)
+
+-- each name in the declarations and in the statements of a node has a meaning
+abbrev pub node_fits : Progress → Node → Bool
+node_fits s n =
+    list_all (declaration_fits s) (variables n) && list_all (statement_fits s) n.body

@@ -1,6 +1,6 @@
 -- What the reached nodes of a program promise to the steps above.
 -- This file says what data of the program mean; no definition of the language stands on it.
-use Rattle.std.specs.Prelude.{◌≡◌, ◌<◌, ◌^◌, ◌↔◌, Bool, true, Option, Some, List, map, length, slice_get, nat_lt, All}
+use Rattle.std.specs.Prelude.{◌≡◌, ◌<◌, ◌↔◌, Bool, true, Option, Some, List, map, length, slice_get, nat_lt, All}
 use Rattle.std.specs.List.{list_all, Contains}
 use Rattle.lb_syntax.specs.Lists.{◌>>=◌, holds}
 use Rattle.lb_syntax.specs.Tree.{Name, Node}
@@ -46,4 +46,3 @@ pub record IsReached (P : Program) (r : Reached) : Type 0 where
   pub found : (place : NodePlace) (id : NodeId) → id_at r place ≡ Some id →
       tree_at r id ≡ slice_get P.source.nodes place.0
   pub linked : list_all (are_linked r) r.nodes.items ≡ true
-  pub few : length r.nodes.items < 2 ^ 32

@@ -54,11 +54,9 @@ pub record IsResolved (nodes : List Name) (r : ResolvedNode) : Type 0 where
   pub statics : map part_of r.statics.items ≡ node_static_parts r.tree.now
   -- where it names a static parameter or a constant, no variable of its own hides it
   pub unhidden : list_all (is_step_unhidden (texts_of r)) r.body.items ≡ true
-  -- each number is within range, and 32 bits hold it
+  -- each number is within range, and 32 bits hold those of variables
   pub declared_within : list_all (is_declared_within (counts_of r)) r.variables.items ≡ true
   pub body_within : list_all (is_step_within (counts_of r)) r.body.items ≡ true
   pub calls_within :
       list_all (is_site_within (length nodes) (counts_of r)) r.calls.items ≡ true
   pub variables_fit : length r.variables.items < 2 ^ 32
-  pub statics_fit : length r.statics.items < 2 ^ 32
-  pub calls_fit : length r.calls.items < 2 ^ 32

@@ -1,6 +1,6 @@
 -- What a walk over the instances of a program promises.
 -- This file says what data of the program mean; no definition of the language stands on it.
-use Rattle.std.specs.Prelude.{◌≡◌, ◌<◌, ◌^◌, ◌+◌, ℕ, ℤ, pos, true, false, Option, Some, None, List, map, take, drop, length, slice_get, Result, Ok, Err, Vec, All}
+use Rattle.std.specs.Prelude.{◌≡◌, ◌<◌, ◌+◌, ℕ, ℤ, pos, true, false, Option, Some, None, List, map, take, drop, length, slice_get, Result, Ok, Err, Vec, All}
 use Rattle.std.specs.List.{list_all}
 use Rattle.std.specs.Borrow.{Bor}
 use Rattle.std.specs.declared.alloc.Global.{Global}
@@ -37,7 +37,6 @@ pub record IsSoundNode (r : Reached) (n : ResolvedNode) : Type 0 where
   pub calls :
       list_all (is_site_within (length r.ids.items) (counts_of n)) n.calls.items ≡ true
   pub linked : are_linked r n ≡ true
-  pub few : length n.calls.items < 2 ^ 32
 
 abbrev pub AreSound : Reached → Type 0
 AreSound r = All (IsSoundNode r) r.nodes.items
@@ -81,12 +80,12 @@ IsKnown specializations node values id =
     (s : Specialization) × (slice_get specializations id.0 ≡ Some s) × (s.node ≡ node)
     × (s.values.items ≡ values)
 
--- the values of a specialization that is taken for a node with these values, if one is
+-- a specialization that is taken for a node with these values, if one is: its values are judged
 abbrev pub IsKnownWith :
-    Program → Reached → Option (Bor Specialization) → NodeId → List ℤ → Type 0
+    Program → Reached → Option (SpecializationId × Bor Specialization) → NodeId → List ℤ → Type 0
 IsKnownWith P r None node values = Unit {0}
-IsKnownWith P r (Some s) node values =
-    IsJudgedAt P r s.now × (s.now.node ≡ node) × (s.now.values.items ≡ values)
+IsKnownWith P r (Some f) node values =
+    IsJudgedAt P r f.1.now × (f.1.now.node ≡ node) × (f.1.now.values.items ≡ values)
 
 -- ## Refusals
 

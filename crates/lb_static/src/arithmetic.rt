@@ -5,7 +5,7 @@ ghost use Rattle.lb_static.specs.Arithmetic.{arithmetic, is_divisible, negated};
 
 use lb_syntax::tree::BinaryOperator;
 
-// Whether there is a quotient.
+/// Whether there is a quotient.
 fn is_divisible(a: i32, b: i32) -> bool
     ensures { result ≡ is_divisible a b }
 {

@@ -6,11 +6,10 @@ ghost use Rattle.std.specs.List.{list_all};
 ghost use Rattle.lb_syntax.specs.SourceView.{view_source};
 ghost use Rattle.lb_syntax.specs.Tree.{Name as TreeName};
 ghost use Rattle.lb_syntax.specs.View.{view_static};
-ghost use Rattle.lb_static.specs.CalledNodes.{program_in};
 ghost use Rattle.lb_static.specs.SourceNames.{names_in_source};
-ghost use Rattle.lb_static.specs.NamedConstants.{AreNamed, is_judged, keeps_constants, node_constants, part_constants, place_named, places_named};
+ghost use Rattle.lb_static.specs.NamedConstants.{AreNamed, is_judged, keeps_constants, keeps_constants_of, node_constants, part_constants, place_named, places_named};
 ghost use Rattle.lb_static.specs.NameFaults.{named_in, IsNameFault};
-ghost use Rattle.lb_static.specs.Names.{are_distinct, named_constants};
+ghost use Rattle.lb_static.specs.Names.{are_distinct};
 ghost use Rattle.lb_static.specs.Parts.{among, static_names};
 ghost use Rattle.lb_static.specs.ResolvedNodes.{IsResolved, node_of};
 ghost use Rattle.lb_static.specs.Visiting.{visited_after_all};
@@ -23,7 +22,7 @@ use crate::visits::Visits;
 use lb_syntax::tree::{Name, Source, Static};
 use std::alloc::{AllocError, Global};
 
-// Visits the constant of a name, if it is one and is not hidden.
+/// Visits the constant of a name, if it is one and is not hidden.
 fn visit_name(
     name: &Name,
     globals: &Globals,
@@ -44,7 +43,7 @@ fn visit_name(
     Ok(())
 }
 
-// Visits the constants that a static expression names, beside those that are hidden.
+/// Visits the constants that a static expression names, beside those that are hidden.
 fn visit_names(
     expression: &Static,
     globals: &Globals,
@@ -69,7 +68,7 @@ fn visit_names(
     }
 }
 
-// The first name in a static expression that is not that of a constant.
+/// The first name in a static expression that is not that of a constant.
 fn unknown_name<'s>(expression: &'s Static, globals: &Globals) -> Option<&'s Name>
     ensures { MatchOption result
         (is_judged globals.now (static_names (view_static expression.now)) ≡ true)
@@ -89,7 +88,7 @@ fn unknown_name<'s>(expression: &'s Static, globals: &Globals) -> Option<&'s Nam
     }
 }
 
-// The static parameters of a node.
+/// The static parameters of a node.
 fn parameters_of(alloc: Global, parameters: &[Name]) -> Result<Scope, AllocError>
     ensures { IfOk result (λ names. (x : TreeName) → among x names ≡ among x parameters.now) }
 {
@@ -100,7 +99,7 @@ fn parameters_of(alloc: Global, parameters: &[Name]) -> Result<Scope, AllocError
     Ok(names)
 }
 
-// Visits the constants that some static expressions name, beside those that are hidden.
+/// Visits the constants that some static expressions name, beside those that are hidden.
 fn visit_parts(
     parts: &[StaticPart],
     globals: &Globals,
@@ -121,7 +120,7 @@ fn visit_parts(
     Ok(())
 }
 
-// Visits the constants that a node names.
+/// Visits the constants that a node names.
 fn visit_node(
     alloc: Global,
     node: &ResolvedNode,
@@ -137,7 +136,7 @@ fn visit_node(
     visit_parts(&node.statics, globals, &hidden, visits)
 }
 
-// Visits the constants that some nodes name.
+/// Visits the constants that some nodes name.
 fn visit_nodes(
     alloc: Global,
     nodes: &[ResolvedNode],
@@ -155,7 +154,7 @@ fn visit_nodes(
     Ok(())
 }
 
-// Judges the names in the value of each constant that came up, and visits what they stand for.
+/// Judges the names in the value of each constant that came up, and visits what they stand for.
 fn judge_visited(
     alloc: Global,
     globals: &Globals,
@@ -187,8 +186,8 @@ fn judge_visited(
     Ok(())
 }
 
-// Judges the constants that some nodes name, and those that these name in turn; none of them came
-// up before.
+/// Judges the constants that some nodes name, and those that these name in turn; none of them came
+/// up before.
 fn judge_named(
     alloc: Global,
     globals: &Globals,
@@ -199,16 +198,15 @@ fn judge_named(
     requires names { globals.now.names ≡ names_in_source (view_source source.now) }
     requires constants { globals.now.constants ≡ length source.now.constants.items }
     requires once { are_distinct (names_in_source (view_source source.now)) ≡ true }
-    requires resolved { All (IsResolved (map (λ n. n.name) (view_source source.now).nodes)) nodes.now }
-    requires named { list_all (λ r. named_in (view_source source.now) (node_of r)) nodes.now ≡ true }
+    requires resolved { All (IsResolved (map (λ n. n.name)
+        (view_source source.now).nodes)) nodes.now }
+    requires named { list_all (λ r. named_in (view_source source.now) (node_of r)) nodes.now
+        ≡ true }
     requires none { visits.old.order ≡ [] }
     requires count { visits.old.count ≡ globals.now.constants }
-    ensures ok { OnOk result (keeps_constants (view_source source.now)
-        (flat_map (named_constants (program_in (view_source source.now)))
-        (map node_of nodes.now)) ≡ true) }
-    ensures err { IfErr result (λ e. IsNameFault e (keeps_constants (view_source source.now)
-        (flat_map (named_constants (program_in (view_source source.now)))
-        (map node_of nodes.now)))) }
+    ensures ok { OnOk result (keeps_constants_of (view_source source.now) nodes.now ≡ true) }
+    ensures err { IfErr result (λ e.
+        IsNameFault e (keeps_constants_of (view_source source.now) nodes.now)) }
 {
     visit_nodes(alloc, nodes, globals, visits)?;
     let nothing = Scope::new(alloc);
@@ -226,14 +224,13 @@ pub fn judge_constants(
     requires names { globals.now.names ≡ names_in_source (view_source source.now) }
     requires constants { globals.now.constants ≡ length source.now.constants.items }
     requires once { are_distinct (names_in_source (view_source source.now)) ≡ true }
-    requires resolved { All (IsResolved (map (λ n. n.name) (view_source source.now).nodes)) nodes.now }
-    requires named { list_all (λ r. named_in (view_source source.now) (node_of r)) nodes.now ≡ true }
-    ensures ok { OnOk result (keeps_constants (view_source source.now)
-        (flat_map (named_constants (program_in (view_source source.now)))
-        (map node_of nodes.now)) ≡ true) }
-    ensures err { IfErr result (λ e. IsNameFault e (keeps_constants (view_source source.now)
-        (flat_map (named_constants (program_in (view_source source.now)))
-        (map node_of nodes.now)))) }
+    requires resolved { All (IsResolved (map (λ n. n.name)
+        (view_source source.now).nodes)) nodes.now }
+    requires named { list_all (λ r. named_in (view_source source.now) (node_of r)) nodes.now
+        ≡ true }
+    ensures ok { OnOk result (keeps_constants_of (view_source source.now) nodes.now ≡ true) }
+    ensures err { IfErr result (λ e.
+        IsNameFault e (keeps_constants_of (view_source source.now) nodes.now)) }
 {
     let mut visits = Visits::new(alloc, source.constants.len())?;
     judge_named(alloc, globals, source, nodes, &mut visits)

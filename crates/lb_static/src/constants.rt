@@ -63,8 +63,8 @@ impl Values for Known<'_> {
     }
 }
 
-// Settles the constant at a place: its value is known from now on, if it was not and is had from
-// those that were. Answers whether it is known anew.
+/// Settles the constant at a place: its value is known from now on, if it was not and is had from
+/// those that were. Answers whether it is known anew.
 fn settle(
     constants: &[&Constant],
     names: &Scope,
@@ -92,8 +92,8 @@ fn settle(
     }
 }
 
-// Settles each constant in the order of the source. Answers whether a value is known anew; if none
-// is, each constant has a value that is known, or none.
+/// Settles each constant in the order of the source. Answers whether a value is known anew; if none
+/// is, each constant has a value that is known, or none.
 fn settle_all(constants: &[&Constant], names: &Scope, values: &mut [Option<StaticInt>]) -> bool
     requires same_names { names.now ≡ names_of (read_constants constants.now) }
     requires sound { IsSound (read_constants constants.now) values.old }
@@ -120,7 +120,7 @@ enum Task {
     Settle(usize),
 }
 
-// Puts a visit of each constant that an expression names onto the tasks.
+/// Puts a visit of each constant that an expression names onto the tasks.
 fn visit_names(expression: &Static, names: &Scope, tasks: &mut Vec<Task>) -> Result<(), AllocError>
     requires within { All (λ t. place_of t < length names.now) tasks.old.items }
     ensures within { OnOk result (All (λ t. place_of t < length names.now) tasks.new.items) }
@@ -143,8 +143,8 @@ fn visit_names(expression: &Static, names: &Scope, tasks: &mut Vec<Task>) -> Res
     }
 }
 
-// Visits each constant that was not seen, and settles it after those that it names, as far as they
-// do not need it. There is no task yet.
+/// Visits each constant that was not seen, and settles it after those that it names, as far as they
+/// do not need it. There is no task yet.
 fn visit_each(
     constants: &[&Constant],
     names: &Scope,
@@ -178,7 +178,7 @@ fn visit_each(
     Ok(())
 }
 
-// Settles each constant after those that it names, as far as they do not need it.
+/// Settles each constant after those that it names, as far as they do not need it.
 fn walk(
     alloc: Global,
     constants: &[&Constant],
@@ -194,7 +194,7 @@ fn walk(
     visit_each(constants, names, values, &mut seen, &mut tasks)
 }
 
-// Takes the first constant of each name, in the order of the source.
+/// Takes the first constant of each name, in the order of the source.
 fn first_of_each<'a>(
     alloc: Global,
     constants: &'a [Constant],
@@ -216,7 +216,7 @@ fn first_of_each<'a>(
     Ok(())
 }
 
-// The value of each of these constants, where each name is that of one.
+/// The value of each of these constants, where each name is that of one.
 fn values_of(
     alloc: Global,
     constants: &[&Constant],
@@ -232,7 +232,7 @@ fn values_of(
     Ok(values)
 }
 
-// The value of each name of a source, where each name is taken once.
+/// The value of each name of a source, where each name is taken once.
 fn known_values(
     alloc: Global,
     constants: &[Constant],

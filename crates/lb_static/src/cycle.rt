@@ -33,7 +33,7 @@ impl<'g> Frame<'g> {
     ghost use Rattle.std.specs.Prelude.{◌≡◌, ◌<◌, map, length};
     ghost use Rattle.lb_static.specs.CallGraphs.{called};
 
-    // A node none of whose calls is followed yet.
+    /// A node none of whose calls is followed yet.
     fn new(node: usize, graph: &'g [Vec<usize>]) -> Frame<'g>
         requires { node < length graph.now }
         ensures node { result.node ≡ node }
@@ -44,9 +44,9 @@ impl<'g> Frame<'g> {
     }
 }
 
-// Follows the calls of a node that was not begun; there is nothing on the path. Answers a node that
-// reaches itself, if it meets one; if not, the node is done, with all that it reaches, and there is
-// nothing on the path again.
+/// Follows the calls of a node that was not begun; there is nothing on the path. Answers a node
+/// that reaches itself, if it meets one; if not, the node is done, with all that it reaches, and
+/// there is nothing on the path again.
 fn walk_from<'g>(
     graph: &'g [Vec<usize>],
     progress: &mut [Progress],
@@ -83,8 +83,8 @@ fn walk_from<'g>(
     Ok(None)
 }
 
-// Walks from each node that is not begun by then. Nothing is begun yet, and there is nothing on the
-// path.
+/// Walks from each node that is not begun by then. Nothing is begun yet, and there is nothing on
+/// the path.
 fn walk_from_each<'g>(
     graph: &'g [Vec<usize>],
     progress: &mut [Progress],

@@ -3,13 +3,14 @@
 
 ghost use Rattle.std.specs.Prelude.{◌≡◌, true, option_map};
 ghost use Rattle.lb_syntax.specs.SourceView.{view_source};
-ghost use Rattle.lb_static.specs.Elaborates.{Elaborates, IsTableAnswer, program_of};
+ghost use Rattle.lb_static.specs.Elaborated.{program_of};
+ghost use Rattle.lb_static.specs.Elaborates.{Elaborates, IsTableAnswer};
 ghost use Rattle.lb_static.specs.Instances.{Program};
 ghost use Rattle.lb_static.specs.Names.{keeps_names};
 ghost use Rattle.lb_static.specs.ReachedNodes.{IsReached};
 
 use crate::constants::Constants;
-use crate::elab::Elab;
+use crate::elab::{Elab, Elaboration};
 use crate::error::StaticError;
 use crate::judge_calls::judge_calls;
 use crate::judge_names::judge_names;
@@ -37,14 +38,14 @@ fn judge_instances(alloc: Global, source: &Source, reached: &Reached) -> Result<
 /// The program of a node under test, and of its observer if there is one: the nodes that are
 /// reached, the instances with their static values, and the signature.
 ///
-/// A refusal is by the first rule that is broken: of names (E4), recursion (E7), static parameters of
-/// the node under test (E8), instances and static values (E12, E5, E6), and the shape of the node
-/// under test and of the observer (E8).
+/// A refusal is by the first rule that is broken: of names (E4), recursion (E7), static parameters
+/// of the node under test (E8), instances and static values (E12, E5, E6), and the shape of the
+/// node under test and of the observer (E8).
 pub fn elaborate<'s>(
     alloc: Global,
     source: &'s Source,
-    node: &str,
-    observer: Option<&str>,
+    node: &'s str,
+    observer: Option<&'s str>,
 ) -> Result<Elab<'s>, StaticError>
     ensures { Elaborates
         (program_of source.now node.now (option_map (λ o. o.now) observer.entry)) result }
@@ -52,9 +53,12 @@ pub fn elaborate<'s>(
     let reached = judge_names(alloc, source, node, observer)?;
     let table = judge_instances(alloc, source, &reached)?;
     let signature = judge_root(alloc, &reached, &table)?;
-    Ok(Elab {
+    Ok(Elab::new(Elaboration {
+        source,
+        node,
+        observer,
         reached,
         table,
         signature,
-    })
+    }))
 }

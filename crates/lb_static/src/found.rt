@@ -61,29 +61,22 @@ impl<'a, 's> Found<'a, 's> {
     pub fn next_static(&self) -> StaticId
         ensures { result.0 ≡ length (progress self.now).parts }
     {
-        StaticId(self.statics.len() as u32)
+        StaticId(self.statics.len())
     }
 
     /// One more static expression, and its number.
-    ///
-    /// More of them than have numbers are more than fit in memory.
     pub fn push_static(&mut self, part: StaticPart<'s>) -> Result<StaticId, StaticError>
         ensures after { IfOk result (λ _.
             progress self.new ≡ grown (progress self.old) (part_of part.entry ∷ []) []) }
         ensures id { IfOk result (λ id. id.0 ≡ length (progress self.old).parts) }
         ensures err { IfErr result (λ e. IsNameFault e true) }
     {
-        let place = self.statics.len();
-        if place >= u32::MAX as usize {
-            return Err(StaticError::Memory);
-        }
+        let id = self.next_static();
         self.statics.push(part)?;
-        Ok(StaticId(place as u32))
+        Ok(id)
     }
 
     /// One more call, and its number.
-    ///
-    /// More of them than have numbers are more than fit in memory.
     pub fn push_call(&mut self, site: CallSite) -> Result<CallId, StaticError>
         requires { is_site_within (length (callees (progress self.old)))
             (counts_in (texts (progress self.old))) site ≡ true }
@@ -92,12 +85,9 @@ impl<'a, 's> Found<'a, 's> {
         ensures id { IfOk result (λ id. id.0 ≡ length (progress self.old).calls) }
         ensures err { IfErr result (λ e. IsNameFault e true) }
     {
-        let place = self.calls.len();
-        if place >= u32::MAX as usize {
-            return Err(StaticError::Memory);
-        }
+        let id = CallId(self.calls.len());
         self.calls.push(site)?;
-        Ok(CallId(place as u32))
+        Ok(id)
     }
 
     /// One more variable.

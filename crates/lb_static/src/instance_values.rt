@@ -18,7 +18,7 @@ pub struct InstanceValues<'a> {
     pub constants: &'a Constants,
 }
 
-// The value of the first static parameter of a name.
+/// The value of the first static parameter of a name.
 fn parameter_value(parameters: &[Name], values: &[StaticInt], name: &str) -> Option<StaticInt>
     ensures { result ≡ option_map (λ v. v.1)
         (find (λ v. bytes_eq v.0 name.now) (zip parameters.now values.now)) }

@@ -12,12 +12,12 @@ use crate::reach::Reached;
 use crate::resolved::CallSite;
 use std::alloc::{AllocError, Global};
 
-// The place of what a call calls among the nodes that are reached.
+/// The place of what a call calls among the nodes that are reached.
 fn callee(reached: &Reached, call: &CallSite) -> Option<usize>
     ensures { result ≡ callee_of reached.now call.now }
 {
-    let id = (*reached.ids.get(call.callee.0 as usize)?)?;
-    let place = id.0 as usize;
+    let id = (*reached.ids.get(call.callee.0)?)?;
+    let place = id.0;
     if place < reached.nodes.len() {
         Some(place)
     } else {
@@ -25,7 +25,7 @@ fn callee(reached: &Reached, call: &CallSite) -> Option<usize>
     }
 }
 
-// The places of what some calls call.
+/// The places of what some calls call.
 fn callees(alloc: Global, reached: &Reached, calls: &[CallSite]) -> Result<Vec<usize>, AllocError>
     ensures { IfOk result (λ v. v.items ≡ callees_of reached.now calls.now) }
 {
@@ -38,7 +38,7 @@ fn callees(alloc: Global, reached: &Reached, calls: &[CallSite]) -> Result<Vec<u
     Ok(places)
 }
 
-// For each node that is reached, the places of those that it calls.
+/// For each node that is reached, the places of those that it calls.
 fn call_graph(alloc: Global, reached: &Reached) -> Result<Vec<Vec<usize>>, AllocError>
     ensures { IfOk result (λ g. map (λ v. v.items) g.items ≡ graph_of reached.now) }
 {
@@ -49,7 +49,7 @@ fn call_graph(alloc: Global, reached: &Reached) -> Result<Vec<Vec<usize>>, Alloc
     Ok(graph)
 }
 
-// That a node reaches itself.
+/// That a node reaches itself.
 fn recursion(alloc: Global, name: &str) -> StaticError
     ensures { TellsRecursion name.now result }
 {

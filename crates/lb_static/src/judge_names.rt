@@ -3,7 +3,7 @@
 
 ghost use Rattle.std.specs.Prelude.{◌≡◌, true, length, option_map, OnOk, IfOk, IfErr};
 ghost use Rattle.lb_syntax.specs.SourceView.{view_source};
-ghost use Rattle.lb_static.specs.Elaborates.{program_of};
+ghost use Rattle.lb_static.specs.Elaborated.{program_of};
 ghost use Rattle.lb_static.specs.NameFaults.{IsNameFault};
 ghost use Rattle.lb_static.specs.Names.{are_distinct, keeps_names};
 ghost use Rattle.lb_static.specs.ReachedNodes.{IsReached};
@@ -17,8 +17,8 @@ use crate::reaching::reach;
 use lb_syntax::tree::Source;
 use std::alloc::Global;
 
-// The nodes that are reached by name, with their names resolved, where the names of the source are
-// known.
+/// The nodes that are reached by name, with their names resolved, where the names of the source are
+/// known.
 fn judge_reached<'s>(
     alloc: Global,
     globals: &Globals,

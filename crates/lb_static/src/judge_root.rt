@@ -22,7 +22,7 @@ use std::alloc::Global;
 fn has_no_parameters(reached: &Reached, id: NodeId) -> bool
     ensures { result ≡ has_no_parameters_at reached.now id }
 {
-    match reached.nodes.get(id.0 as usize) {
+    match reached.nodes.get(id.0) {
         Some(node) => node.tree.parameters.is_empty(),
         None => true,
     }

@@ -177,9 +177,6 @@ impl<'a, 's> Naming<'a, 's> {
         if self.source.nodes[place].parameters.len() != arguments {
             return Err(refused_name(alloc, text));
         }
-        if place > u32::MAX as usize {
-            return Err(StaticError::Memory);
-        }
-        Ok(NodePlace(place as u32))
+        Ok(NodePlace(place))
     }
 }

@@ -4,7 +4,7 @@ use crate::resolved::ResolvedNode;
 
 /// The place of a node among those that are reached.
 #[derive(Clone, Copy, PartialEq, Eq, Hash, Debug)]
-pub struct NodeId(pub u32);
+pub struct NodeId(pub usize);
 
 /// The nodes that are reached, with their names resolved: the node under test, then the observer
 /// if there is one, then what they call, each of them once.

@@ -4,7 +4,7 @@ ghost use Rattle.std.specs.Prelude.{◌≡◌, ◌<◌, ◌≤◌, ℕ, [], Bool
 ghost use Rattle.std.specs.List.{list_all};
 ghost use Rattle.lb_syntax.specs.SourceView.{view_source};
 ghost use Rattle.lb_syntax.specs.Tree.{Node as TreeNode};
-ghost use Rattle.lb_static.specs.Elaborates.{program_of};
+ghost use Rattle.lb_static.specs.Elaborated.{program_of};
 ghost use Rattle.lb_static.specs.SourceNames.{names_in_source, node_in_source};
 ghost use Rattle.lb_static.specs.NameFaults.{named_in, IsNameFault};
 ghost use Rattle.lb_static.specs.Names.{are_distinct, starts};
@@ -21,7 +21,7 @@ use crate::visits::Visits;
 use lb_syntax::tree::Source;
 use std::alloc::{AllocError, Global};
 
-// The place of the node of a name.
+/// The place of the node of a name.
 fn place_named(source: &Source, name: &str) -> Option<usize>
     ensures { MatchOption result (node_in_source source.now name.now ≡ None)
         (λ place. (place < length source.now.nodes.items)
@@ -36,7 +36,7 @@ fn place_named(source: &Source, name: &str) -> Option<usize>
     None
 }
 
-// Visits the nodes that some calls call, in text order.
+/// Visits the nodes that some calls call, in text order.
 fn visit_callees(calls: &[CallSite], visits: &mut Visits) -> Result<(), AllocError>
     requires { list_all (λ s. nat_lt s.callee.0 visits.old.count) calls.now ≡ true }
     ensures order { OnOk result
@@ -44,12 +44,12 @@ fn visit_callees(calls: &[CallSite], visits: &mut Visits) -> Result<(), AllocErr
     ensures count { OnOk result (visits.new.count ≡ visits.old.count) }
 {
     for call in calls {
-        visits.visit(call.callee.0 as usize)?;
+        visits.visit(call.callee.0)?;
     }
     Ok(())
 }
 
-// Resolves the names of each node that came up, and visits what it calls. No node is resolved yet.
+/// Resolves the names of each node that came up, and visits what it calls. No node is resolved yet.
 fn resolve_visited<'s>(
     alloc: Global,
     globals: &Globals,
@@ -80,7 +80,7 @@ fn resolve_visited<'s>(
     Ok(())
 }
 
-// Visits the node of a name; answers its turn.
+/// Visits the node of a name; answers its turn.
 fn visit_named(
     alloc: Global,
     source: &Source,
@@ -100,7 +100,7 @@ fn visit_named(
     }
 }
 
-// Visits the node under test and the observer, if there is one.
+/// Visits the node under test and the observer, if there is one.
 fn visit_starts(
     alloc: Global,
     source: &Source,
@@ -128,15 +128,15 @@ fn visit_starts(
     }
 }
 
-// For each node of the source its place among those that came up.
-fn node_ids(alloc: Global, turns: &[Option<u32>]) -> Result<Vec<Option<NodeId>>, AllocError>
+/// For each node of the source its place among those that came up.
+fn node_ids(alloc: Global, turns: &[Option<usize>]) -> Result<Vec<Option<NodeId>>, AllocError>
     ensures { IfOk result (λ ids. ids.items ≡ ids_of turns.now) }
 {
     turns.iter().map(|turn| turn.map(NodeId)).collect(alloc)
 }
 
-// The nodes that are reached from the node under test and from the observer, if there is one.
-// Nothing came up yet.
+/// The nodes that are reached from the node under test and from the observer, if there is one.
+/// Nothing came up yet.
 fn reach_all<'s>(
     alloc: Global,
     globals: &Globals,

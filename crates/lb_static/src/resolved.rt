@@ -14,15 +14,15 @@ pub struct VariableId(pub u32);
 
 /// The place of a static expression among those of its node.
 #[derive(Clone, Copy)]
-pub struct StaticId(pub u32);
+pub struct StaticId(pub usize);
 
 /// The number of a call or an iterated node: its place among those in the text of its node.
 #[derive(Clone, Copy)]
-pub struct CallId(pub u32);
+pub struct CallId(pub usize);
 
 /// The place of a node among those of the source.
 #[derive(Clone, Copy)]
-pub struct NodePlace(pub u32);
+pub struct NodePlace(pub usize);
 
 /// An expression whose names are resolved.
 #[derive(Drop)]
@@ -98,7 +98,7 @@ pub struct Variable {
     /// The first of its sizes, which stand one after another, the innermost first.
     pub first_size: StaticId,
     /// How many sizes it has.
-    pub sizes: u32,
+    pub sizes: usize,
     pub clock: Option<Sampling>,
 }
 
@@ -109,7 +109,7 @@ pub struct CallSite {
     /// The first of its static arguments, which stand one after another.
     pub first_argument: StaticId,
     /// How many static arguments it has.
-    pub arguments: u32,
+    pub arguments: usize,
     /// How often an iterated node is called.
     pub count: Option<StaticId>,
 }

@@ -1,20 +1,63 @@
 //! Nodes whose names are resolved.
 
-ghost use Rattle.std.specs.Prelude.{◌≡◌, true, map, length, IfOk, IfErr};
+ghost use Rattle.std.specs.Prelude.{◌≡◌, [], true, map, length, OnOk, IfOk, IfErr};
 ghost use Rattle.lb_syntax.specs.SourceView.{view_node, view_source};
 ghost use Rattle.lb_static.specs.SourceNames.{names_in_source};
 ghost use Rattle.lb_static.specs.NameFaults.{IsNameFault, named_in};
+ghost use Rattle.lb_static.specs.NodeProgress.{StepsStand, after_node, node_fits};
+ghost use Rattle.lb_static.specs.Progressed.{progress};
 ghost use Rattle.lb_static.specs.ResolvedNodes.{IsResolved};
 
 use crate::error::StaticError;
 use crate::found::Found;
 use crate::globals::Globals;
 use crate::naming::Naming;
-use crate::resolved::ResolvedNode;
+use crate::resolved::{ResolvedNode, Step};
 use crate::resolving_steps::steps;
 use crate::resolving_variables::resolve_groups;
 use lb_syntax::tree::{Node, Source};
 use std::alloc::Global;
+
+/// The parts of a node with their names resolved.
+#[derive(Drop)]
+struct NodeParts {
+    /// How many of the variables are inputs.
+    inputs: usize,
+    /// How many of them are outputs.
+    outputs: usize,
+    /// The statements, in text order.
+    body: Vec<Step>,
+}
+
+/// Resolves the parts of a node, of which nothing is resolved yet.
+fn resolve_parts<'s>(
+    alloc: Global,
+    here: &mut Found<'_, 's>,
+    node: &'s Node,
+) -> Result<NodeParts, StaticError>
+    requires { (progress here.old).declared ≡ [] }
+    ensures found { OnOk result
+        (progress here.new ≡ after_node (progress here.old) node.now) }
+    ensures stand { IfOk result (λ parts.
+        StepsStand (progress here.new) (view_node node.now).body parts.body.items) }
+    ensures fit { OnOk result (node_fits (progress here.old) (view_node node.now) ≡ true) }
+    ensures inputs { IfOk result (λ parts. parts.inputs ≡ length (view_node node.now).inputs) }
+    ensures outputs { IfOk result (λ parts. parts.outputs ≡ length (view_node node.now).outputs) }
+    ensures err { IfErr result (λ e.
+        IsNameFault e (node_fits (progress here.old) (view_node node.now))) }
+{
+    resolve_groups(alloc, here, &node.inputs)?;
+    let inputs = here.variable_count();
+    resolve_groups(alloc, here, &node.outputs)?;
+    let outputs = here.variable_count() - inputs;
+    resolve_groups(alloc, here, &node.locals)?;
+    let body = steps(alloc, here, &node.body)?;
+    Ok(NodeParts {
+        inputs,
+        outputs,
+        body,
+    })
+}
 
 /// A node with its names resolved; one with a name that has no meaning is refused.
 pub fn resolve_node<'s>(
@@ -35,11 +78,6 @@ pub fn resolve_node<'s>(
 {
     let naming = Naming::new(alloc, globals, source, node)?;
     let mut here = Found::new(alloc, naming);
-    resolve_groups(alloc, &mut here, &node.inputs)?;
-    let inputs = here.variable_count();
-    resolve_groups(alloc, &mut here, &node.outputs)?;
-    let outputs = here.variable_count() - inputs;
-    resolve_groups(alloc, &mut here, &node.locals)?;
-    let body = steps(alloc, &mut here, &node.body)?;
-    Ok(here.finish(node, inputs, outputs, body))
+    let parts = resolve_parts(alloc, &mut here, node)?;
+    Ok(here.finish(node, parts.inputs, parts.outputs, parts.body))
 }

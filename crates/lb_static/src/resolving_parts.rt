@@ -75,7 +75,7 @@ pub fn all_statics<'s>(
     here: &mut Found<'_, 's>,
     role: Role,
     texts: &'s [Static],
-) -> Result<(StaticId, u32), StaticError>
+) -> Result<(StaticId, usize), StaticError>
     ensures { ResolvesStatics (progress here.old) (progress here.new) role (view_statics texts.now)
         result }
 {

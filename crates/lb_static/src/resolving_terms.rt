@@ -3,14 +3,44 @@
 ghost use Rattle.std.specs.Prelude.{map};
 ghost use Rattle.lb_syntax.specs.View.{view};
 ghost use Rattle.lb_static.specs.NodeProgress.{ResolvesTerm, ResolvesTerms, ResolvesBox};
+ghost use Rattle.lb_static.specs.Frames.{ResolvesFramed, ResolvesRow};
 ghost use Rattle.lb_static.specs.Progressed.{progress};
 
 use crate::error::StaticError;
 use crate::found::Found;
-use crate::resolved::{Role, Term};
+use crate::resolved::{CallId, Role, StaticId, Term, VariableId};
 use crate::resolving_parts::{call, named, one_static, variable};
-use lb_syntax::tree::{Expr, Operator};
+use lb_syntax::tree::{ArrayIterator, BinaryOperator, Expr, Operator, UnaryOperator};
 use std::alloc::Global;
+
+/// What stands before the last operand of an expression, and after it.
+#[derive(Drop)]
+enum Frame {
+    Group,
+    Unary(UnaryOperator),
+    Binary(BinaryOperator, Box<Term>),
+    If(Box<Term>, Box<Term>),
+    Arrow(Box<Term>),
+    Fby(Box<Term>),
+    Pre,
+    Current,
+    When(VariableId, bool),
+    Copies(StaticId),
+    Index(StaticId),
+    Slice(StaticId, StaticId),
+    Join(Box<Term>),
+}
+
+/// What stands before a list of operands.
+#[derive(Clone, Copy)]
+enum Head {
+    Array,
+    AtMostOne,
+    Nor,
+    Call(CallId),
+    IterateNode(ArrayIterator, CallId),
+    IterateSymbol(ArrayIterator, BinaryOperator, StaticId),
+}
 
 /// The term of an expression, in a box.
 #[cycle(resolving)]
@@ -36,6 +66,57 @@ fn terms<'s>(
     Ok(all)
 }
 
+/// The term of an expression with what stands around it.
+#[cycle(resolving)]
+fn framed<'s>(
+    alloc: Global,
+    here: &mut Found<'_, 's>,
+    frame: Frame,
+    e: &'s Expr,
+) -> Result<Term, StaticError>
+    ensures { ResolvesFramed (progress here.old) (progress here.new) frame (view e.now) result }
+{
+    let operand = boxed(alloc, here, e)?;
+    match frame {
+        Frame::Group => Ok(Term::Group(operand)),
+        Frame::Unary(op) => Ok(Term::Unary(op, operand)),
+        Frame::Binary(op, first) => Ok(Term::Binary(op, first, operand)),
+        Frame::If(condition, first) => Ok(Term::If(condition, first, operand)),
+        Frame::Arrow(first) => Ok(Term::Arrow(first, operand)),
+        Frame::Fby(first) => Ok(Term::Fby(first, operand)),
+        Frame::Pre => Ok(Term::Pre(operand)),
+        Frame::Current => Ok(Term::Current(operand)),
+        Frame::When(clock, sign) => Ok(Term::When(operand, clock, sign)),
+        Frame::Copies(size) => Ok(Term::Copies(operand, size)),
+        Frame::Index(index) => Ok(Term::Index(operand, index)),
+        Frame::Slice(start, end) => Ok(Term::Slice(operand, start, end)),
+        Frame::Join(first) => Ok(Term::Join(first, operand)),
+    }
+}
+
+/// The term of a list of operands with what stands before it.
+#[cycle(resolving)]
+fn row<'s>(
+    alloc: Global,
+    here: &mut Found<'_, 's>,
+    head: Head,
+    es: &'s [Expr],
+) -> Result<Term, StaticError>
+    ensures { ResolvesRow (progress here.old) (progress here.new) head (map view es.now) result }
+{
+    let all = terms(alloc, here, es)?;
+    match head {
+        Head::Array => Ok(Term::Array(all)),
+        Head::AtMostOne => Ok(Term::AtMostOne(all)),
+        Head::Nor => Ok(Term::Nor(all)),
+        Head::Call(site) => Ok(Term::Call(site, all)),
+        Head::IterateNode(iterator, site) => Ok(Term::IterateNode(iterator, site, all)),
+        Head::IterateSymbol(iterator, op, size) => {
+            Ok(Term::IterateSymbol(iterator, op, size, all))
+        }
+    }
+}
+
 /// The term that stands for an expression.
 #[cycle(resolving)]
 pub fn term<'s>(alloc: Global, here: &mut Found<'_, 's>, e: &'s Expr) -> Result<Term, StaticError>
@@ -45,67 +126,68 @@ pub fn term<'s>(alloc: Global, here: &mut Found<'_, 's>, e: &'s Expr) -> Result<
         Expr::Literal(n) => Ok(Term::Literal(*n)),
         Expr::Truth(b) => Ok(Term::Truth(*b)),
         Expr::Variable(x) => named(alloc, here, x),
-        Expr::Group(a) => Ok(Term::Group(boxed(alloc, here, a)?)),
-        Expr::Unary(op, a) => Ok(Term::Unary(*op, boxed(alloc, here, a)?)),
+        Expr::Group(a) => framed(alloc, here, Frame::Group, a),
+        Expr::Unary(op, a) => framed(alloc, here, Frame::Unary(*op), a),
         Expr::Binary(op, a, b) => {
             let first = boxed(alloc, here, a)?;
-            Ok(Term::Binary(*op, first, boxed(alloc, here, b)?))
+            framed(alloc, here, Frame::Binary(*op, first), b)
         }
         Expr::If(c, a, b) => {
             let condition = boxed(alloc, here, c)?;
             let first = boxed(alloc, here, a)?;
-            Ok(Term::If(condition, first, boxed(alloc, here, b)?))
+            framed(alloc, here, Frame::If(condition, first), b)
         }
         Expr::Arrow(a, b) => {
             let first = boxed(alloc, here, a)?;
-            Ok(Term::Arrow(first, boxed(alloc, here, b)?))
+            framed(alloc, here, Frame::Arrow(first), b)
         }
         Expr::Fby(a, b) => {
             let first = boxed(alloc, here, a)?;
-            Ok(Term::Fby(first, boxed(alloc, here, b)?))
+            framed(alloc, here, Frame::Fby(first), b)
         }
-        Expr::Pre(a) => Ok(Term::Pre(boxed(alloc, here, a)?)),
-        Expr::Current(a) => Ok(Term::Current(boxed(alloc, here, a)?)),
+        Expr::Pre(a) => framed(alloc, here, Frame::Pre, a),
+        Expr::Current(a) => framed(alloc, here, Frame::Current, a),
         Expr::When(a, x, sign) => {
             let clock = variable(alloc, here, x)?;
-            Ok(Term::When(boxed(alloc, here, a)?, clock, *sign))
+            framed(alloc, here, Frame::When(clock, *sign), a)
         }
         Expr::Copies(a, n) => {
             let size = one_static(alloc, here, Role::Size, n)?;
-            Ok(Term::Copies(boxed(alloc, here, a)?, size))
+            framed(alloc, here, Frame::Copies(size), a)
         }
         Expr::Index(a, i) => {
             let index = one_static(alloc, here, Role::Index, i)?;
-            Ok(Term::Index(boxed(alloc, here, a)?, index))
+            framed(alloc, here, Frame::Index(index), a)
         }
         Expr::Slice(a, i, j) => {
             let start = one_static(alloc, here, Role::SliceStart, i)?;
             let end = one_static(alloc, here, Role::SliceEnd, j)?;
-            Ok(Term::Slice(boxed(alloc, here, a)?, start, end))
+            framed(alloc, here, Frame::Slice(start, end), a)
         }
         Expr::Join(a, b) => {
             let first = boxed(alloc, here, a)?;
-            Ok(Term::Join(first, boxed(alloc, here, b)?))
+            framed(alloc, here, Frame::Join(first), b)
         }
-        Expr::Array(items) => Ok(Term::Array(terms(alloc, here, items)?)),
-        Expr::AtMostOne(choices) => Ok(Term::AtMostOne(terms(alloc, here, choices)?)),
-        Expr::Nor(operands) => Ok(Term::Nor(terms(alloc, here, operands)?)),
+        Expr::Array(items) => row(alloc, here, Head::Array, items),
+        Expr::AtMostOne(choices) => row(alloc, here, Head::AtMostOne, choices),
+        Expr::Nor(operands) => row(alloc, here, Head::Nor, operands),
         Expr::Call(callee, statics, arguments) => {
             let site = call(alloc, here, callee, statics, None)?;
-            Ok(Term::Call(site, terms(alloc, here, arguments)?))
+            row(alloc, here, Head::Call(site), arguments)
         }
         Expr::Iterate(iterator, operator, n, arguments) => {
             let size = one_static(alloc, here, Role::Size, n)?;
             match operator {
                 Operator::Node(callee, statics) => {
                     let site = call(alloc, here, callee, statics, Some(size))?;
-                    let all = terms(alloc, here, arguments)?;
-                    Ok(Term::IterateNode(*iterator, site, all))
+                    row(alloc, here, Head::IterateNode(*iterator, site), arguments)
                 }
-                Operator::Symbol(op) => {
-                    let all = terms(alloc, here, arguments)?;
-                    Ok(Term::IterateSymbol(*iterator, *op, size, all))
-                }
+                Operator::Symbol(op) => row(
+                    alloc,
+                    here,
+                    Head::IterateSymbol(*iterator, *op, size),
+                    arguments,
+                ),
             }
         }
     }

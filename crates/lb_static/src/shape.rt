@@ -39,8 +39,8 @@ fn size(value: StaticInt) -> Option<u32>
 fn size_values<'t>(variable: &Variable, statics: &'t [StaticInt]) -> Option<&'t [StaticInt]>
     ensures { option_map (λ values. values.now) result ≡ sizes_in statics.now variable.now }
 {
-    let first = variable.first_size.0 as usize;
-    statics.get(first..first + variable.sizes as usize)
+    let first = variable.first_size.0;
+    statics.get(first..first.checked_add(variable.sizes)?)
 }
 
 /// Sizes as numbers, the outermost first, from their values, the innermost first.

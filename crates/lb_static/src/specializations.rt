@@ -1,6 +1,6 @@
 //! The specializations that a walk has entered.
 
-ghost use Rattle.std.specs.Prelude.{◌≡◌, ◌<◌, ◌^◌, [], length, option_copied, slice_get, IfOk, OnErr};
+ghost use Rattle.std.specs.Prelude.{◌≡◌, ◌<◌, ◌^◌, [], length, option_map, slice_get, Some, IfOk, IfSome, OnErr};
 ghost use Rattle.lb_static.specs.KeyedSpecializations.{IsFound, IsAdded};
 
 use crate::reach::NodeId;
@@ -17,7 +17,7 @@ struct Key {
     values: Vec<i64>,
 }
 
-// The key of a node with these values.
+/// The key of a node with these values.
 fn key_of(alloc: Global, node: NodeId, values: &[StaticInt]) -> Result<Key, AllocError>
     ensures { IfOk result (λ k. (k.node ≡ node) × (k.values.items ≡ values.now)) }
 {
@@ -55,30 +55,27 @@ impl Specializations {
         }
     }
 
-    /// The place of the specialization of a node with these values of its static parameters, if it
-    /// was entered.
+    /// The specialization of a node with these values of its static parameters, and its place, if
+    /// it was entered.
     pub fn find(
         &self,
         alloc: Global,
         node: NodeId,
         values: &[StaticInt],
-    ) -> Result<Option<SpecializationId>, AllocError>
+    ) -> Result<Option<(SpecializationId, &Specialization)>, AllocError>
         requires few { length self.now < 2 ^ 32 }
-        ensures { IfOk result (IsFound self.now node values.now) }
+        ensures found { IfOk result (λ found.
+            IsFound self.now node values.now (option_map (λ f. f.0) found)) }
+        ensures there { IfOk result (λ found. IfSome found (λ f.
+            slice_get self.now f.0.0 ≡ Some f.1.now)) }
     {
         let key = key_of(alloc, node, values)?;
-        match self.keyed.get_index_of(&key) {
-            Some(place) => Ok(Some(SpecializationId(place as u32))),
+        match self.keyed.get_full(&key) {
+            Some((place, _, specialization)) => {
+                Ok(Some((SpecializationId(place as u32), specialization)))
+            }
             None => Ok(None),
         }
-    }
-
-    /// The specialization at a place.
-    pub fn get(&self, id: SpecializationId) -> Option<&Specialization>
-        ensures { option_copied result ≡ slice_get self.now id.0 }
-    {
-        let (_, specialization) = self.keyed.get_index(id.0 as usize)?;
-        Some(specialization)
     }
 
     /// Adds a specialization after the others, unless that of its node with its values is there,

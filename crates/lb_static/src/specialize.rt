@@ -16,7 +16,13 @@ use crate::resolved::{ResolvedNode, Role, StaticPart, StaticText, Variable};
 use crate::static_value::{StaticInt, Values, static_value};
 use std::alloc::{AllocError, Global};
 
-// The value of a static expression, or of a name that stands in an expression.
+/// The most elements of an array.
+const LONGEST: u32 = 4096;
+
+/// The most scalar elements of a declared type.
+const WIDEST: u64 = 65536;
+
+/// The value of a static expression, or of a name that stands in an expression.
 fn part_value(part: &StaticPart, values: &InstanceValues) -> Option<StaticInt>
     ensures { result ≡ part_value (given_by values.now) part.now }
 {
@@ -26,7 +32,7 @@ fn part_value(part: &StaticPart, values: &InstanceValues) -> Option<StaticInt>
     }
 }
 
-// The values of static expressions, if all have one.
+/// The values of static expressions, if all have one.
 fn part_values(
     alloc: Global,
     parts: &[StaticPart],
@@ -45,33 +51,33 @@ fn part_values(
     Ok(Some(all))
 }
 
-// Whether a value is within bounds.
+/// Whether a value is within bounds.
 fn is_between(value: StaticInt, low: u32, high: u32) -> bool
     ensures { result ≡ count_between low high (Some value) }
 {
     i64::from(low) <= value.get() && value.get() <= i64::from(high)
 }
 
-// Whether a slice between these ends does not run backwards.
+/// Whether a slice between these ends does not run backwards.
 fn runs_forward(start: StaticInt, end: StaticInt) -> bool
     ensures { result ≡ runs_forward (Some start) (Some end) }
 {
     0 <= start.get() && start.get() <= end.get()
 }
 
-// Whether a value is within the range of what it is there for, after the value before it.
+/// Whether a value is within the range of what it is there for, after the value before it.
 fn part_passes(before: StaticInt, role: Role, value: StaticInt) -> bool
     ensures { result ≡ part_passes (Some before) role (Some value) }
 {
     match role {
-        Role::Size => is_between(value, 1, 4096),
-        Role::Index | Role::SliceStart => is_between(value, 0, 4095),
-        Role::SliceEnd => is_between(value, 0, 4095) && runs_forward(before, value),
+        Role::Size => is_between(value, 1, LONGEST),
+        Role::Index | Role::SliceStart => is_between(value, 0, LONGEST - 1),
+        Role::SliceEnd => is_between(value, 0, LONGEST - 1) && runs_forward(before, value),
         Role::Argument | Role::Value => true,
     }
 }
 
-// Whether the values of static expressions are within the ranges of what these are there for.
+/// Whether the values of static expressions are within the ranges of what these are there for.
 fn are_in_range(parts: &[StaticPart], values: &[StaticInt]) -> bool
     requires { length values.now ≡ length parts.now }
     ensures { result ≡ in_range_after (pos 0) parts.now values.now }
@@ -95,33 +101,33 @@ pub fn size_of(value: StaticInt) -> u64
     if number < 0 { 0 } else { number as u64 }
 }
 
-// So many elements as the sizes make, or 65,537 for all that are more than 65,536.
+/// So many elements as the sizes make, or 65,537 for all that are more than 65,536.
 fn elements(sizes: &[StaticInt]) -> u64
     ensures { result ≡ times_sizes 1 sizes.now }
 {
     let mut elements = 1;
     for size in sizes {
-        elements = (elements * size_of(*size)).min(65537);
+        elements = (elements * size_of(*size)).min(WIDEST + 1);
     }
     elements
 }
 
-// Whether no variable has more than 65,536 elements.
+/// Whether no variable has more than 65,536 elements.
 fn are_narrow(variables: &[Variable], values: &[StaticInt]) -> bool
     requires { list_all (λ v. nat_le (v.first_size.0 + v.sizes) (length values.now)) variables.now
         ≡ true }
     ensures { result ≡ list_all (is_narrow values.now) variables.now }
 {
     for variable in variables {
-        let first = variable.first_size.0 as usize;
-        if elements(&values[first..first + variable.sizes as usize]) > 65536 {
+        let first = variable.first_size.0;
+        if elements(&values[first..first + variable.sizes]) > WIDEST {
             return false;
         }
     }
     true
 }
 
-// The name of a node again.
+/// The name of a node again.
 fn name_of(alloc: Global, node: &ResolvedNode) -> Result<String, AllocError> {
     String::from_str(alloc, node.tree.name.as_str())
 }

@@ -25,7 +25,7 @@ pub fn standing<'t, 's>(
         ≡ standing_in reached.now table.now id }
 {
     let specialization = table.specializations.get(id.0 as usize)?;
-    let node = reached.nodes.get(specialization.node.0 as usize)?;
+    let node = reached.nodes.get(specialization.node.0)?;
     Some(ValuedNode {
         node,
         statics: specialization.statics.as_slice(),

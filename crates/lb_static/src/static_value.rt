@@ -64,7 +64,7 @@ pub trait Values {
         ensures { result ≡ given self.now name.now };
 }
 
-// An exact result, where it is in the range of `int`.
+/// An exact result, where it is in the range of `int`.
 fn lawful(exact: i64) -> Option<StaticInt>
     ensures { result ≡ lawful exact }
 {
@@ -75,14 +75,14 @@ fn lawful(exact: i64) -> Option<StaticInt>
     }
 }
 
-// Whether there is a quotient.
+/// Whether there is a quotient.
 fn is_divisible(a: i64, b: i64) -> bool
     ensures { result ≡ is_divisible a b }
 {
     b != 0 && !(a == i64::from(i32::MIN) && b == -1)
 }
 
-// An operator of arithmetic.
+/// An operator of arithmetic.
 fn combined(op: BinaryOperator, a: StaticInt, b: StaticInt) -> Option<StaticInt>
     ensures { result ≡ arithmetic op a b }
 {

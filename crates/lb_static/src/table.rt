@@ -4,11 +4,11 @@
 //! once; the instances only point to it.
 //!
 //! ```text
-//! node two(x: int) ..            specializations   0: count   1: two, calls 0, 0   2: main, calls 1
-//! two calls count and count,     instances         0: main (2), under test
-//! main calls two                                   1: two (1), call 0 of 0
-//!                                                  2: count (0), call 0 of 1
-//!                                                  3: count (0), call 1 of 1
+//! node two(x: int) ..          specializations   0: count   1: two, calls 0, 0   2: main, calls 1
+//! two calls count and count,   instances         0: main (2), under test
+//! main calls two                                 1: two (1), call 0 of 0
+//!                                                2: count (0), call 0 of 1
+//!                                                3: count (0), call 1 of 1
 //! ```
 
 use crate::reach::NodeId;

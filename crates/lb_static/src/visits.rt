@@ -1,10 +1,8 @@
 //! Places that come up in a walk, each of them once: a list of what is left to do that grows.
 
-ghost use Rattle.std.specs.Prelude.{◌≡◌, ◌<◌, ◌≤◌, ◌^◌, [], OnOk, IfOk, IfErr, IfSome, length, slice_get};
+ghost use Rattle.std.specs.Prelude.{◌≡◌, ◌<◌, ◌≤◌, [], OnOk, IfOk, IfSome, length, slice_get};
 ghost use Rattle.lb_static.specs.Visiting.{HasTurns, visited_after};
-ghost use Rattle.lb_static.specs.declared.error.StaticError.TheVariants.{Memory};
 
-use crate::error::StaticError;
 use std::alloc::{AllocError, Global};
 use std::marker::Model;
 
@@ -13,38 +11,33 @@ use std::marker::Model;
 pub struct Visits {
     order: Vec<usize>,
     /// For each place the turn at which it came up.
-    turns: Vec<Option<u32>>,
+    turns: Vec<Option<usize>>,
 }
 
 impl Model for Visits {
-    ghost use Rattle.std.specs.Prelude.{◌<◌, ◌^◌, length};
+    ghost use Rattle.std.specs.Prelude.{length};
     ghost use Rattle.lb_static.specs.Visiting.{Visited, HasTurns};
 
     ghost Value = { Visited };
 
     ghost view = { λ v. record { order = v.order.items; count = length v.turns.items } };
 
-    ghost invariant = { λ v. HasTurns v.order.items v.turns.items × (length v.turns.items < 2 ^ 32) };
+    ghost invariant = { λ v. HasTurns v.order.items v.turns.items };
 }
 
 impl Visits {
-    /// No place has come up yet, of so many. A list that 32 bits cannot count takes more memory
-    /// than there is.
-    pub fn new(alloc: Global, count: usize) -> Result<Visits, StaticError>
+    /// No place has come up yet, of so many.
+    pub fn new(alloc: Global, count: usize) -> Result<Visits, AllocError>
         ensures order { IfOk result (λ v. v.order ≡ []) }
         ensures count { IfOk result (λ v. v.count ≡ count) }
-        ensures err { IfErr result (λ e. e ≡ Memory) }
     {
-        if count > u32::MAX as usize {
-            return Err(StaticError::Memory);
-        }
         let turns = vec![in alloc; None; count]?;
         let order = Vec::new(alloc);
         Ok(Visits { order, turns })
     }
 
     /// Visits a place; answers the turn at which it came up first.
-    pub fn visit(&mut self, place: usize) -> Result<u32, AllocError>
+    pub fn visit(&mut self, place: usize) -> Result<usize, AllocError>
         requires { place < self.old.count }
         ensures order { OnOk result (self.new.order ≡ visited_after self.old.order place) }
         ensures count { OnOk result (self.new.count ≡ self.old.count) }
@@ -53,7 +46,7 @@ impl Visits {
         if let Some(turn) = self.turns[place] {
             return Ok(turn);
         }
-        let turn = self.order.len() as u32;
+        let turn = self.order.len();
         self.order.push(place)?;
         self.turns[place] = Some(turn);
         Ok(turn)
@@ -70,10 +63,9 @@ impl Visits {
     }
 
     /// For each place the turn at which it came up.
-    pub fn turns(&self) -> &[Option<u32>]
+    pub fn turns(&self) -> &[Option<usize>]
         ensures turns { HasTurns self.now.order result.now }
         ensures count { length result.now ≡ self.now.count }
-        ensures few { self.now.count < 2 ^ 32 }
     {
         &self.turns
     }

@@ -7,7 +7,7 @@
 //! A node with values of its parameters is evaluated once. Where it comes up again, its values are
 //! taken from the table; the instances below it are walked over again, since each has its row.
 
-ghost use Rattle.std.specs.Prelude.{◌≡◌, ◌≤◌, ◌<◌, ◌+◌, ◌-◌, ◌^◌, ◌++◌, ◌∷◌, [], ℕ, true, length, slice_get, IfSome, IfOk, IfErr, OnOk};
+ghost use Rattle.std.specs.Prelude.{◌≡◌, ◌≤◌, ◌<◌, ◌+◌, ◌-◌, ◌^◌, ◌++◌, ◌∷◌, [], ℕ, true, length, option_map, slice_get, IfSome, IfOk, IfErr, OnOk};
 ghost use Rattle.std.specs.List.{list_all};
 ghost use Rattle.lb_static.specs.Instances.{Program, Path, instances_from};
 ghost use Rattle.lb_static.specs.InstanceTable.{instance_of, path_from, paths_after};
@@ -19,7 +19,7 @@ ghost use Rattle.lb_static.specs.ResolvedNodes.{node_of};
 ghost use Rattle.lb_static.specs.ResolvedTerms.{is_site_within};
 ghost use Rattle.lb_static.specs.SettledSpecializations.{AreCalled, AreSettled, AreSpecialized};
 ghost use Rattle.lb_static.specs.Walk.{level, walk_refusal, instance_refusal};
-ghost use Rattle.lb_static.specs.Walked.{AreSound, IsWalkable, IsBegun, IsKnownWith, IsJudgement, IsJudged, AreJudged, IsKnown, HasGrown, IsRefusal, AreEntered, values_at, times_of, IsWalkAnswer};
+ghost use Rattle.lb_static.specs.Walked.{AreSound, IsWalkable, IsBegun, IsKnownWith, IsJudged, AreJudged, IsKnown, HasGrown, IsRefusal, AreEntered, values_at, times_of, IsWalkAnswer};
 ghost use Rattle.lb_static.specs.WalkedRows.{HasUsed, HasRows, IsSettledRow, IsOneMore, AreInstances};
 ghost use Rattle.lb_static.specs.declared.resolved.ResolvedNode.{ResolvedNode};
 
@@ -40,40 +40,6 @@ const MOST_INSTANCES: usize = 4096;
 /// The most levels that instances may stand on.
 const MOST_LEVELS: u32 = 64;
 
-// The values of the static expressions of a node with values of its static parameters. They are
-// taken from a specialization that is known.
-fn statics_of(
-    alloc: Global,
-    reached: &Reached,
-    constants: &Constants,
-    known: Option<&Specialization>,
-    node: NodeId,
-    values: &[StaticInt],
-) -> Result<Vec<StaticInt>, StaticError>
-    requires sound { AreSound reached.now }
-    requires within { node.0 < length reached.now.nodes.items }
-    ensures sized { IfOk result (λ v. (n : ResolvedNode)
-        → slice_get reached.now.nodes.items node.0 ≡ Some n
-        → length v.items ≡ length n.statics.items) }
-    ensures judged { (P : Program) (p : Path) (n : ResolvedNode) → IsWalkable P reached.now constants.now
-        → slice_get reached.now.nodes.items node.0 ≡ Some n
-        → IsKnownWith P reached.now known.entry node values.now
-        → IsJudgement P n (instance_of p (node_of n) values.now) result }
-{
-    let resolved = &reached.nodes[node.0 as usize];
-    if let Some(specialization) = known {
-        if specialization.statics.len() == resolved.statics.len() {
-            return Ok(Vec::from_slice(alloc, &specialization.statics)?);
-        }
-    }
-    let values = InstanceValues {
-        parameters: &resolved.tree.parameters,
-        values,
-        constants,
-    };
-    specialize(alloc, resolved, &values)
-}
-
 /// What a call site of an instance calls: a node, the values of its static parameters, and how
 /// often.
 #[derive(Clone, Copy)]
@@ -83,25 +49,26 @@ struct Callee<'a> {
     count: u32,
 }
 
-// What a call site calls, where the static expressions of its node have these values.
+/// What a call site calls, where the static expressions of its node have these values.
 fn callee_of<'a>(reached: &Reached, site: &CallSite, statics: &'a [StaticInt]) -> Callee<'a>
     requires linked { is_linked reached.now site.now ≡ true }
     requires within { is_site_within (length reached.now.ids.items)
         (record { variables = 0; statics = length statics.now; calls = 0 }) site.now ≡ true }
     ensures node { id_at reached.now site.now.callee ≡ Some result.node }
     ensures within { result.node.0 < length reached.now.nodes.items }
-    ensures values { result.values.now ≡ values_at statics.now site.now.first_argument site.now.arguments }
+    ensures values { result.values.now
+        ≡ values_at statics.now site.now.first_argument site.now.arguments }
     ensures count { result.count ≡ times_of statics.now site.now.count }
 {
-    let first = site.first_argument.0 as usize;
+    let first = site.first_argument.0;
     let count = match site.count {
-        Some(count) => size_of(statics[count.0 as usize]) as u32,
+        Some(count) => size_of(statics[count.0]) as u32,
         None => 1,
     };
-    let node = reached.ids[site.callee.0 as usize].unwrap();
+    let node = reached.ids[site.callee.0].unwrap();
     Callee {
         node,
-        values: &statics[first..first + site.arguments as usize],
+        values: &statics[first..first + site.arguments],
         count,
     }
 }
@@ -130,7 +97,53 @@ struct Begun {
     statics: Vec<StaticInt>,
 }
 
-// Enters an instance, and leaves its calls and its specialization to be entered.
+/// What an instance of a node with values of its static parameters begins with. Where its
+/// specialization was found, the values of its static expressions are taken from there.
+fn begun_from(
+    alloc: Global,
+    reached: &Reached,
+    constants: &Constants,
+    found: Option<(SpecializationId, &Specialization)>,
+    node: NodeId,
+    values: &[StaticInt],
+) -> Result<Begun, StaticError>
+    requires sound { AreSound reached.now }
+    requires within { node.0 < length reached.now.nodes.items }
+    ensures known { IfOk result (λ b. IfSome b.known (λ id.
+        option_map (λ f. f.0) found.entry ≡ Some id)) }
+    ensures sized { IfOk result (λ b. (n : ResolvedNode)
+        → slice_get reached.now.nodes.items node.0 ≡ Some n
+        → length b.statics.items ≡ length n.statics.items) }
+    ensures judged { (P : Program) (p : Path) (n : ResolvedNode) (before : ℕ)
+        → IsWalkable P reached.now constants.now
+        → slice_get reached.now.nodes.items node.0 ≡ Some n
+        → IsKnownWith P reached.now found.entry node values.now
+        → before < 4096 → level P p ≤ 64
+        → IsBegun P before n (instance_of p (node_of n) values.now) result }
+{
+    let resolved = &reached.nodes[node.0];
+    if let Some((id, specialization)) = found {
+        if specialization.statics.len() == resolved.statics.len() {
+            let held = Vec::from_slice(alloc, &specialization.statics)?;
+            return Ok(Begun {
+                known: Some(id),
+                statics: held,
+            });
+        }
+    }
+    let values = InstanceValues {
+        parameters: &resolved.tree.parameters,
+        values,
+        constants,
+    };
+    let statics = specialize(alloc, resolved, &values)?;
+    Ok(Begun {
+        known: None,
+        statics,
+    })
+}
+
+/// Enters an instance, and leaves its calls and its specialization to be entered.
 fn begin(
     alloc: Global,
     reached: &Reached,
@@ -164,40 +177,28 @@ fn begin(
     if entered.instances.len() >= MOST_INSTANCES || entry.level > MOST_LEVELS {
         return Err(StaticError::Instances);
     }
-    let known = entered.specializations.find(alloc, entry.node, values)?;
-    let specialization = match known {
-        Some(id) => entered.specializations.get(id),
-        None => None,
-    };
-    let statics = statics_of(
-        alloc,
-        reached,
-        constants,
-        specialization,
-        entry.node,
-        values,
-    )?;
     entered.instances.push(Instance {
         specialization: SpecializationId(0),
         origin: entry.origin,
     })?;
-    Ok(Begun { known, statics })
+    let found = entered.specializations.find(alloc, entry.node, values)?;
+    begun_from(alloc, reached, constants, found, entry.node, values)
 }
 
-// Gives an instance that was begun its specialization, which is added if it was not there.
+/// Gives an instance that was begun its specialization, which is added if it was not there.
 fn settle(
     alloc: Global,
     entered: &mut Entered,
     row: usize,
     node: NodeId,
-    values: Vec<StaticInt>,
+    values: &[StaticInt],
     begun: Begun,
     callees: Vec<SpecializationId>,
 ) -> Result<SpecializationId, StaticError>
     requires within { row < length entered.old.instances.items }
     requires few { length entered.old.specializations < 2 ^ 32 }
     requires known { IfSome begun.known
-        (IsKnown entered.old.specializations node values.items) }
+        (IsKnown entered.old.specializations node values.now) }
     ensures err { IfErr result (λ e. e ≡ StaticError.Memory) }
     ensures rows { OnOk result
         (length entered.new.instances.items ≡ length entered.old.instances.items) }
@@ -206,11 +207,11 @@ fn settle(
     ensures grown { OnOk result
         (HasGrown entered.old.specializations entered.new.specializations) }
     ensures known { IfOk result
-        (IsKnown entered.new.specializations node values.items) }
+        (IsKnown entered.new.specializations node values.now) }
     ensures judged { (P : Program) (r : Reached) → node.0 < length r.nodes.items
         → AreJudged P r entered.old.specializations
         → ((p : Path) (n : ResolvedNode) → slice_get r.nodes.items node.0 ≡ Some n
-        → IsJudged P n (instance_of p (node_of n) values.items) begun.statics.items)
+        → IsJudged P n (instance_of p (node_of n) values.now) begun.statics.items)
         → OnOk result (AreJudged P r entered.new.specializations) }
     ensures settled { (r : Reached) (n : ResolvedNode) → slice_get r.nodes.items node.0 ≡ Some n
         → AreSettled r entered.old.specializations
@@ -225,6 +226,7 @@ fn settle(
     let id = match begun.known {
         Some(id) => id,
         None => {
+            let values = Vec::from_slice(alloc, values)?;
             let specialization = Specialization {
                 node,
                 values,
@@ -238,7 +240,7 @@ fn settle(
     Ok(id)
 }
 
-// Enters an instance and all that it calls, and answers its specialization.
+/// Enters an instance and all that it calls, and answers its specialization.
 fn enter(
     alloc: Global,
     reached: &Reached,
@@ -297,11 +299,7 @@ fn enter(
     let row = entered.instances.len();
     let begun = begin(alloc, reached, constants, entered, entry, values)?;
     let mut callees = Vec::new(alloc);
-    for (call, site) in reached.nodes[entry.node.0 as usize]
-        .calls
-        .iter()
-        .enumerate()
-    {
+    for (call, site) in reached.nodes[entry.node.0].calls.iter().enumerate() {
         let callee = callee_of(reached, site, &begun.statics);
         let mut called = None;
         for index in 0..callee.count {
@@ -309,7 +307,7 @@ fn enter(
                 node: callee.node,
                 origin: Origin::Called {
                     caller: InstanceId(row as u32),
-                    call: CallId(call as u32),
+                    call: CallId(call),
                     index,
                 },
                 level: entry.level + 1,
@@ -321,15 +319,7 @@ fn enter(
             callees.push(id)?;
         }
     }
-    settle(
-        alloc,
-        entered,
-        row,
-        entry.node,
-        Vec::from_slice(alloc, values)?,
-        begun,
-        callees,
-    )
+    settle(alloc, entered, row, entry.node, values, begun, callees)
 }
 
 /// The table of the instances of a program: those of the node under test, then those of the
@@ -360,7 +350,7 @@ pub fn walk(alloc: Global, reached: &Reached, constants: &Constants) -> Result<T
     };
     let root = enter(alloc, reached, constants, &mut entered, under_test, &[])?;
     let observer = match reached.observer {
-        Some(node) if (node.0 as usize) < reached.nodes.len() => {
+        Some(node) if node.0 < reached.nodes.len() => {
             let entry = Entry {
                 node,
                 origin: Origin::Observer,

@@ -12,7 +12,9 @@ returns-in-Whole-clause-order t c =
     let order = c.args.visits.now.order in
     let g = c.args.globals.now in
     let hidden = c.args.hidden.now in
-    visit_no_names order g hidden ∙ ap (λ e. visited_after_all order (places_named g hidden (static_names (view_static e)))) (sym c.in-Whole.is)
+    visit_no_names order g hidden
+    ∙ ap (λ e. visited_after_all order (places_named g hidden (static_names (view_static e))))
+    (sym c.in-Whole.is)
 
 pub returns-in_ok-visit_names-in-Combined-clause-order :
     goal.returns-in_ok-visit_names-in-Combined-clause-order
@@ -20,9 +22,15 @@ returns-in_ok-visit_names-in-Combined-clause-order t c =
     let order = c.args.visits.now.order in
     let g = c.args.globals.now in
     let hidden = c.args.hidden.now in
-    let left = c.in_ok-visit_names-in-Combined.ensures.order ∙ ap (λ e. visited_after_all order (places_named g hidden (static_names (view_static e)))) c.deref.ensures in
+    let left = c.in_ok-visit_names-in-Combined.ensures.order
+    ∙ ap (λ e. visited_after_all order (places_named g hidden (static_names (view_static e))))
+    c.deref.ensures in
     ok_more c.visit_names-in-Combined.result _ _ c.visit_names-in-Combined.ensures.order (λ right.
-    visit_both_names order c.visit_names.new.visits.order c.visit_names-in-Combined.new.visits.order g hidden
-    (static_names (view_static c.in-Combined.left.value)) (static_names (view_static c.in-Combined.right.value)) left
-    (right ∙ ap (λ e. visited_after_all c.visit_names.new.visits.order (places_named g hidden (static_names (view_static e)))) c.deref-in-Combined.ensures)
-    ∙ ap (λ e. visited_after_all order (places_named g hidden (static_names (view_static e)))) (sym c.in-Combined.is))
+    visit_both_names order c.visit_names.new.visits.order c.visit_names-in-Combined.new.visits.order
+    g hidden
+    (static_names (view_static c.in-Combined.left.value))
+    (static_names (view_static c.in-Combined.right.value)) left
+    (right ∙ ap (λ e. visited_after_all c.visit_names.new.visits.order
+    (places_named g hidden (static_names (view_static e)))) c.deref-in-Combined.ensures)
+    ∙ ap (λ e. visited_after_all order (places_named g hidden (static_names (view_static e))))
+    (sym c.in-Combined.is))

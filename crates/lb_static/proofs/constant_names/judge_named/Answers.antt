@@ -20,10 +20,14 @@ returns-clause-ok c =
     let g = c.args.globals.now in
     let nodes = c.args.nodes.now in
     let xs = flat_map (named_constants (program_in s)) (map node_of nodes) in
-    let count : g.constants ≡ length s.constants = c.requires.constants ∙ sym (length-map c.args.source.now.constants.items view_constant) in
-    let places = named_places s g c.requires.names count c.requires.once nodes c.requires.resolved c.requires.named in
-    let order = c.in_ok-visit_nodes.ensures.order ∙ ap (λ o. visited_after_all o (flat_map (node_constants g) nodes)) c.requires.none in
-    ok_more c.judge_visited.result _ _ c.judge_visited.ensures.ok (λ h. h xs (subst (AreNamed s xs) (sym order) places))
+    let count : g.constants ≡ length s.constants =
+    c.requires.constants ∙ sym (length-map c.args.source.now.constants.items view_constant) in
+    let places = named_places s g c.requires.names count c.requires.once nodes c.requires.resolved
+    c.requires.named in
+    let order = c.in_ok-visit_nodes.ensures.order
+    ∙ ap (λ o. visited_after_all o (flat_map (node_constants g) nodes)) c.requires.none in
+    ok_more c.judge_visited.result _ _ c.judge_visited.ensures.ok
+    (λ h. h xs (subst (AreNamed s xs) (sym order) places))
 
 pub returns-clause-err : goal.returns-clause-err
 returns-clause-err c =
@@ -31,8 +35,14 @@ returns-clause-err c =
     let g = c.args.globals.now in
     let nodes = c.args.nodes.now in
     let xs = flat_map (named_constants (program_in s)) (map node_of nodes) in
-    let count : g.constants ≡ length s.constants = c.requires.constants ∙ sym (length-map c.args.source.now.constants.items view_constant) in
-    let places = named_places s g c.requires.names count c.requires.once nodes c.requires.resolved c.requires.named in
-    let order = c.in_ok-visit_nodes.ensures.order ∙ ap (λ o. visited_after_all o (flat_map (node_constants g) nodes)) c.requires.none in
-    let fault : IfErr c.judge_visited.result (λ e. (ys : List Name) → AreNamed s ys c.visit_nodes.new.visits.order → IsNameFault e (keeps_constants s ys)) = c.judge_visited.ensures.err in
-    err_more c.judge_visited.result _ _ fault (λ e h. h xs (subst (AreNamed s xs) (sym order) places))
+    let count : g.constants ≡ length s.constants =
+    c.requires.constants ∙ sym (length-map c.args.source.now.constants.items view_constant) in
+    let places = named_places s g c.requires.names count c.requires.once nodes c.requires.resolved
+    c.requires.named in
+    let order = c.in_ok-visit_nodes.ensures.order
+    ∙ ap (λ o. visited_after_all o (flat_map (node_constants g) nodes)) c.requires.none in
+    let fault : IfErr c.judge_visited.result
+    (λ e. (ys : List Name) → AreNamed s ys c.visit_nodes.new.visits.order
+    → IsNameFault e (keeps_constants s ys)) = c.judge_visited.ensures.err in
+    err_more c.judge_visited.result _ _ fault
+    (λ e h. h xs (subst (AreNamed s xs) (sym order) places))

@@ -10,21 +10,31 @@ pub returns-then-is_some-clause-order : goal.returns-then-is_some-clause-order
 returns-then-is_some-clause-order c =
     let x = c.args.name.now in
     let hidden : among x c.args.hidden.now ≡ true =
-    ap (λ y. among y c.args.hidden.now) (sym c.as_str.ensures) ∙ sym (is_found (bytes_eq c.as_str.result.now) c.args.hidden.now c.place.result c.place.ensures.value) ∙ sym c.is_some.ensures ∙ c.if-is_some.true in
+    ap (λ y. among y c.args.hidden.now) (sym c.as_str.ensures)
+    ∙ sym (is_found (bytes_eq c.as_str.result.now) c.args.hidden.now c.place.result
+    c.place.ensures.value) ∙ sym c.is_some.ensures ∙ c.if-is_some.true in
     visit_hidden c.args.visits.now.order c.args.globals.now c.args.hidden.now x hidden
 
 pub returns-in_ok-visit-clause-order : goal.returns-in_ok-visit-clause-order
 returns-in_ok-visit-clause-order c =
     let x = c.args.name.now in
     let hidden : among x c.args.hidden.now ≡ false =
-    ap (λ y. among y c.args.hidden.now) (sym c.as_str.ensures) ∙ sym (is_found (bytes_eq c.as_str.result.now) c.args.hidden.now c.place.result c.place.ensures.value) ∙ sym c.is_some.ensures ∙ c.if-is_some.false in
-    c.in_ok-visit.ensures.order ∙ visit_known c.args.visits.now.order c.args.globals.now c.args.hidden.now x c.in-Some.place hidden
-    (ap (constant_place c.args.globals.now.names c.args.globals.now.constants) (sym c.as_str-2.ensures) ∙ sym c.in-Some.ensures.value)
+    ap (λ y. among y c.args.hidden.now) (sym c.as_str.ensures)
+    ∙ sym (is_found (bytes_eq c.as_str.result.now) c.args.hidden.now c.place.result
+    c.place.ensures.value) ∙ sym c.is_some.ensures ∙ c.if-is_some.false in
+    c.in_ok-visit.ensures.order
+    ∙ visit_known c.args.visits.now.order c.args.globals.now c.args.hidden.now x c.in-Some.place
+    hidden
+    (ap (constant_place c.args.globals.now.names c.args.globals.now.constants)
+    (sym c.as_str-2.ensures) ∙ sym c.in-Some.ensures.value)
 
 pub returns-in_default-clause-order : goal.returns-in_default-clause-order
 returns-in_default-clause-order c =
     let x = c.args.name.now in
     let hidden : among x c.args.hidden.now ≡ false =
-    ap (λ y. among y c.args.hidden.now) (sym c.as_str.ensures) ∙ sym (is_found (bytes_eq c.as_str.result.now) c.args.hidden.now c.place.result c.place.ensures.value) ∙ sym c.is_some.ensures ∙ c.if-is_some.false in
+    ap (λ y. among y c.args.hidden.now) (sym c.as_str.ensures)
+    ∙ sym (is_found (bytes_eq c.as_str.result.now) c.args.hidden.now c.place.result
+    c.place.ensures.value) ∙ sym c.is_some.ensures ∙ c.if-is_some.false in
     visit_unknown c.args.visits.now.order c.args.globals.now c.args.hidden.now x hidden
-    (ap (constant_place c.args.globals.now.names c.args.globals.now.constants) (sym c.as_str-2.ensures) ∙ sym c.in_default.ensures.value)
+    (ap (constant_place c.args.globals.now.names c.args.globals.now.constants)
+    (sym c.as_str-2.ensures) ∙ sym c.in_default.ensures.value)

@@ -15,5 +15,8 @@ returns-clause-order c =
     let hidden = c.in_ok-hidden.hidden in
     let parameters = c.args.node.now.tree.now.parameters.items in
     ok_more c.visit_parts.result _ _ c.visit_parts.ensures.order (λ e.
-    e ∙ ap (λ l. visited_after_all order (flat_map (part_constants g hidden) l)) c.deref-2.ensures.value
-    ∙ ap (visited_after_all order) (parts_alike g hidden parameters (λ x. c.in_ok-hidden.ensures x ∙ ap (among x) c.deref.ensures.value) parts))
+    e ∙ ap (λ l. visited_after_all order (flat_map (part_constants g hidden) l))
+    c.deref-2.ensures.value
+    ∙ ap (visited_after_all order)
+    (parts_alike g hidden parameters
+    (λ x. c.in_ok-hidden.ensures x ∙ ap (among x) c.deref.ensures.value) parts))

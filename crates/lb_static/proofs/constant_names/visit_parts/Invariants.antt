@@ -7,6 +7,8 @@ use Rattle.lb_static.proofs.constant_names.visit_parts.Given as goal
 abbrev pub invariant-loop-part : goal.invariant-loop-part
 invariant-loop-part l = record {
   count : l.visits.count ≡ l.initial.visits.count;
-  order : visited_after_all l.visits.order (flat_map (part_constants l.globals l.hidden) (drop l.part-index l.parts))
-      ≡ visited_after_all l.initial.visits.order (flat_map (part_constants l.globals l.hidden) l.parts);
+  order : visited_after_all l.visits.order
+      (flat_map (part_constants l.globals l.hidden) (drop l.part-index l.parts))
+      ≡ visited_after_all l.initial.visits.order
+      (flat_map (part_constants l.globals l.hidden) l.parts);
 }

@@ -18,14 +18,19 @@ loop-constant-preserved c =
     elim c.if-branch.branch [
       | then-branch+in_ok-push w ↦
           let after = ap (λ v. v.items) w.firsts-is ∙ w.in_ok-push.ensures.items in
-          let longer : length c.if-branch.firsts.items ≡ length before + 1 = ap length after ∙ length-append before _ in
-          let kept = first_taken before c.if-branch.firsts.items _ ks i names c.declare.new.self c.loop-constant-test.true c.constant-item.is
-          c.loop-constant.invariant.same_names c.loop-constant.invariant.first declared (sym w.if-branch.true ∙ fresh) after in
+          let longer : length c.if-branch.firsts.items ≡ length before + 1 =
+          ap length after ∙ length-append before _ in
+          let kept = first_taken before c.if-branch.firsts.items _ ks i names c.declare.new.self
+          c.loop-constant-test.true c.constant-item.is
+          c.loop-constant.invariant.same_names c.loop-constant.invariant.first declared
+          (sym w.if-branch.true ∙ fresh) after in
           record { same_names = kept.0; first = kept.1; few = omega arith }
       | else-branch w ↦
           let same = ap (λ v. v.items) w.firsts-is in
           let as_long : length c.if-branch.firsts.items ≡ length before = ap length same in
-          let kept = first_left before c.if-branch.firsts.items c.constant-item.result ks i names c.declare.new.self c.loop-constant-test.true c.constant-item.is
-          c.loop-constant.invariant.same_names c.loop-constant.invariant.first declared (sym w.if-branch.false ∙ fresh) same in
+          let kept = first_left before c.if-branch.firsts.items c.constant-item.result ks i names
+          c.declare.new.self c.loop-constant-test.true c.constant-item.is
+          c.loop-constant.invariant.same_names c.loop-constant.invariant.first declared
+          (sym w.if-branch.false ∙ fresh) same in
           record { same_names = kept.0; first = kept.1; few = omega arith }
     ]

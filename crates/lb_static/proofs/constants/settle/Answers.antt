@@ -12,11 +12,13 @@ returns-in-Some-clause-sound c =
     let k = get_or ks c.args.place c.index-constants-place.result in
     let i = c.args.place in
     let as_many = c.requires.sound.as_many ∙ length-map ks (λ d. view_constant d.now) in
-    sound_more (read_constants ks) c.args.values.now i (view_constant k.now) c.in-Some.value c.requires.sound
+    sound_more (read_constants ks) c.args.values.now i (view_constant k.now) c.in-Some.value
+    c.requires.sound
     (constant_at ks i c.index-constants-place.result c.requires.within)
     (none_at c.args.values.now (length ks) i c.index-values-place.result as_many c.requires.within
     (sym c.is_some.ensures ∙ c.if-is_some.false))
-    (had c.args.names.now (names_of (read_constants ks)) c.args.values.now (view_constant k.now).value (Some c.in-Some.value) c.requires.same_names c.in-Some.ensures)
+    (had c.args.names.now (names_of (read_constants ks)) c.args.values.now
+    (view_constant k.now).value (Some c.in-Some.value) c.requires.same_names c.in-Some.ensures)
 
 pub returns-in-None-clause-settled : goal.returns-in-None-clause-settled
 returns-in-None-clause-settled c _ =
@@ -24,4 +26,5 @@ returns-in-None-clause-settled c _ =
     let k = get_or ks c.args.place c.index-constants-place.result in
     settled_at (read_constants ks) c.args.values.now c.args.place (view_constant k.now)
     (constant_at ks c.args.place c.index-constants-place.result c.requires.within)
-    (had c.args.names.now (names_of (read_constants ks)) c.args.values.now (view_constant k.now).value None c.requires.same_names c.in-None.ensures)
+    (had c.args.names.now (names_of (read_constants ks)) c.args.values.now
+    (view_constant k.now).value None c.requires.same_names c.in-None.ensures)

@@ -7,5 +7,6 @@ invariant-loop-place l = record {
   sound : IsSound (read_constants l.constants) l.values;
   kept : known l.initial.values ≤ known l.values;
   more : l.is_more ≡ true → known l.initial.values < known l.values;
-  settled : l.is_more ≡ false → (i : ℕ) → i < l.place → IsSettled (read_constants l.constants) l.values i;
+  settled : l.is_more ≡ false → (i : ℕ) → i < l.place
+      → IsSettled (read_constants l.constants) l.values i;
 }

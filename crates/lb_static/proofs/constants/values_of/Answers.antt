@@ -6,5 +6,6 @@ use Rattle.lb_static.proofs.constants.values_of.Goals as goal
 
 pub returns-clause-settled : goal.returns-clause-settled
 returns-clause-settled c =
-    subst (AreSettled (read_constants c.args.constants.now)) (sym (with_items_is c.loop.values c.settle_all.new.values (search (rules, places))))
+    subst (AreSettled (read_constants c.args.constants.now))
+    (sym (with_items_is c.loop.values c.settle_all.new.values (search (rules, places))))
     (c.loop-test.ensures.settled refl)

@@ -3,7 +3,9 @@ use Rattle.lb_static.specs.CycleSearch.{IsWalkFrom, unseen, on_path}
 use Rattle.lb_static.proofs.cycle.walk_from.Given as goal
 
 abbrev pub invariant-loop-frame : goal.invariant-loop-frame
-invariant-loop-frame l = IsWalkFrom (map (λ v. v.items) l.graph) l.fn.progress l.fn.start l.progress (reverse l.path.items)
+invariant-loop-frame l =
+    IsWalkFrom (map (λ v. v.items) l.graph) l.fn.progress l.fn.start l.progress
+    (reverse l.path.items)
 
 abbrev pub decreases-loop-frame : goal.decreases-loop-frame
 decreases-loop-frame l = unseen l.progress (map (λ v. v.items) l.graph) + on_path l.path.items

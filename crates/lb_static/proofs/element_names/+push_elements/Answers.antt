@@ -11,6 +11,8 @@ loop-i-preserved t c =
     let element = c.as_str.result.now in
     let pushed = c.in_ok-push_elements-in-len1-up.ensures in
     let is = c.as_str.ensures.value ∙ c.in_ok-element-in-len1-up.ensures in record {
-      names = one_index c.args.name.now c.args.kind inner first before after c.loop-i.i element c.loop-i.invariant.names pushed is;
-      count = count_more c.args.kind inner first before after c.loop-i.i element c.loop-i.invariant.count pushed;
+      names = one_index c.args.name.now c.args.kind inner first before after c.loop-i.i element
+          c.loop-i.invariant.names pushed is;
+      count = count_more c.args.kind inner first before after c.loop-i.i element
+          c.loop-i.invariant.count pushed;
     }

@@ -8,6 +8,8 @@ decreases-push_elements l = length l.sizes.now
 
 abbrev pub invariant-loop-i : goal.invariant-loop-i
 invariant-loop-i l = record {
-  names : l.signature ≡ l.fn.signature ++ map (λ x. (x, l.kind)) (flat_map (λ i. element_names (l.name ++ index_text i) l.inner) (range_with_len 0 l.i));
+  names : l.signature ≡ l.fn.signature
+      ++ map (λ x. (x, l.kind))
+      (flat_map (λ i. element_names (l.name ++ index_text i) l.inner) (range_with_len 0 l.i));
   count : length l.signature ≡ length l.fn.signature + l.i * product l.inner;
 }

@@ -15,18 +15,25 @@ returns-in_err-declare_new-clause-err c =
     let names = c.loop-constant.names in
     let items = c.deref-constant-items.result.now in
     let i = c.loop-constant.constant-index in
-    let before = ap (λ l. names ++ l) (sym (map_map view_constant (λ k. k.name) (drop i items))) ∙ c.loop-constant.invariant in
-    let all = at_place (λ k. (view_constant k).name) names items i x _ c.loop-constant-test.true c.constant-item.is before in
+    let before = ap (λ l. names ++ l) (sym (map_map view_constant (λ k. k.name) (drop i items)))
+    ∙ c.loop-constant.invariant in
+    let all = at_place (λ k. (view_constant k).name) names items i x _ c.loop-constant-test.true
+    c.constant-item.is before in
     rw (p.1, p.2) (fault_within _ _ _ c.in_err-declare_new.ensures.err
-    (λ e. doubled_before (constants_in (view_source c.args.source.now)) _ _ refl (doubled_here names _ _ x.name all e)))
+    (λ e. doubled_before (constants_in (view_source c.args.source.now)) _ _ refl
+    (doubled_here names _ _ x.name all e)))
 
 pub returns-in_err-declare_new-2-clause-err : goal.returns-in_err-declare_new-2-clause-err
 returns-in_err-declare_new-2-clause-err c =
-    let p = err_from_is_err_and c.from_residual-in_err-declare_new-2.result c.from_residual-in_err-declare_new-2.ensures.1 in
+    let p = err_from_is_err_and c.from_residual-in_err-declare_new-2.result
+    c.from_residual-in_err-declare_new-2.ensures.1 in
     let x = c.node-item.result in
     let names = c.loop-node.names in
     let items = c.deref-node-items.result.now in
     let i = c.loop-node.node-index in
-    let before = ap (λ l. names ++ l) (sym (map_map view_node (λ n. n.name) (drop i items))) ∙ c.loop-node.invariant in
-    let all = at_place (λ n. (view_node n).name) names items i x _ c.loop-node-test.true c.node-item.is before in
-    rw (p.1, p.2) (fault_within _ _ _ c.in_err-declare_new-2.ensures.err (λ e. doubled_here names _ _ x.name all e))
+    let before = ap (λ l. names ++ l) (sym (map_map view_node (λ n. n.name) (drop i items)))
+    ∙ c.loop-node.invariant in
+    let all = at_place (λ n. (view_node n).name) names items i x _ c.loop-node-test.true
+    c.node-item.is before in
+    rw (p.1, p.2) (fault_within _ _ _ c.in_err-declare_new-2.ensures.err
+    (λ e. doubled_here names _ _ x.name all e))

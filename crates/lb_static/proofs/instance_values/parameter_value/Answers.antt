@@ -6,8 +6,12 @@ use Rattle.lb_static.proofs.instance_values.parameter_value.Goals as goal
 
 pub loop-place-preserved : goal.loop-place-preserved
 loop-place-preserved c =
-    let tested = ap (λ x. bytes_eq x c.args.name.now) (sym c.as_str.ensures) ∙ sym c.eq.ensures ∙ c.if-eq.false in
-    value_passed c.args.name.now c.args.parameters.now c.args.values.now c.loop-place.place c.index-parameters-place.result c.loop-place-test.true c.index-parameters-place.is tested c.loop-place.invariant
+    let tested = ap (λ x. bytes_eq x c.args.name.now) (sym c.as_str.ensures) ∙ sym c.eq.ensures
+    ∙ c.if-eq.false in
+    value_passed c.args.name.now c.args.parameters.now c.args.values.now c.loop-place.place
+    c.index-parameters-place.result c.loop-place-test.true c.index-parameters-place.is tested
+    c.loop-place.invariant
 
 pub returns : goal.returns
-returns c = value_missed c.args.name.now c.args.parameters.now c.args.values.now c.loop-place.place c.loop-place-test.false c.loop-place.invariant
+returns c = value_missed c.args.name.now c.args.parameters.now c.args.values.now c.loop-place.place
+    c.loop-place-test.false c.loop-place.invariant

@@ -1,14 +1,12 @@
 -- The parts of the rules of names are judged one after the other.
 use Rattle.std.proofs.Common.{◌≡◌, All, true, map, sym, subst}
-use Rattle.std.specs.Prelude.{flat_map, option_map}
+use Rattle.std.specs.Prelude.{option_map}
 use Rattle.std.specs.List.{list_all}
 use Rattle.std.proofs.lemmas.Result.{err_from_is_err_and}
 use Rattle.lb_syntax.specs.SourceView.{view_source}
-use Rattle.lb_static.specs.CalledNodes.{program_in}
-use Rattle.lb_static.specs.Elaborates.{program_of}
-use Rattle.lb_static.specs.NamedConstants.{keeps_constants}
+use Rattle.lb_static.specs.Elaborated.{program_of}
+use Rattle.lb_static.specs.NamedConstants.{keeps_constants_of}
 use Rattle.lb_static.specs.NameFaults.{IsNameFault, named_in}
-use Rattle.lb_static.specs.Names.{named_constants}
 use Rattle.lb_static.specs.ResolvedNodes.{IsResolved, node_of}
 use Rattle.lb_static.proofs.KeptNames.{fault_constants, names_kept, nodes_named}
 use Rattle.lb_static.proofs.judge_names.judge_reached.Goals as goal
@@ -16,27 +14,37 @@ use Rattle.lb_static.proofs.judge_names.judge_reached.Goals as goal
 pub judge_constants-requires-clause-resolved : goal.judge_constants-requires-clause-resolved
 judge_constants-requires-clause-resolved c =
     let s = view_source c.args.source.now in
-    subst (All (IsResolved (map (λ n. n.name) s.nodes))) (sym c.deref.ensures.value) c.in_ok-reached.ensures.reached.resolved
+    subst (All (IsResolved (map (λ n. n.name) s.nodes))) (sym c.deref.ensures.value)
+    c.in_ok-reached.ensures.reached.resolved
 
 pub judge_constants-requires-clause-named : goal.judge_constants-requires-clause-named
 judge_constants-requires-clause-named c =
     let s = view_source c.args.source.now in
-    let P = program_of c.args.source.now c.args.node.now (option_map (λ o. o.now) c.args.observer) in
+    let P = program_of c.args.source.now c.args.node.now
+    (option_map (λ o. o.now) c.args.observer) in
     subst (λ l. list_all (λ r. named_in s (node_of r)) l ≡ true) (sym c.deref.ensures.value)
-    (nodes_named P c.in_ok-reached.reached c.in_ok-reached.ensures.reached c.in_ok-reached.ensures.named)
+    (nodes_named P c.in_ok-reached.reached c.in_ok-reached.ensures.reached
+    c.in_ok-reached.ensures.named)
 
 pub returns-in_err-judge_constants-clause-err : goal.returns-in_err-judge_constants-clause-err
 returns-in_err-judge_constants-clause-err c =
-    let p = err_from_is_err_and c.from_residual-in_err-judge_constants.result c.from_residual-in_err-judge_constants.ensures.1 in
+    let p = err_from_is_err_and c.from_residual-in_err-judge_constants.result
+    c.from_residual-in_err-judge_constants.ensures.1 in
     let s = view_source c.args.source.now in
-    let P = program_of c.args.source.now c.args.node.now (option_map (λ o. o.now) c.args.observer) in
+    let P = program_of c.args.source.now c.args.node.now
+    (option_map (λ o. o.now) c.args.observer) in
     let e = c.in_err-judge_constants.field-0.0 in
-    let fault = subst (λ l. IsNameFault e (keeps_constants s (flat_map (named_constants (program_in s)) (map node_of l)))) c.deref.ensures.value c.in_err-judge_constants.ensures.err in
-    rw (p.1, p.2) (fault_constants P c.in_ok-reached.reached c.in_ok-reached.ensures.reached e fault)
+    let fault = subst (λ l. IsNameFault e (keeps_constants_of s l)) c.deref.ensures.value
+    c.in_err-judge_constants.ensures.err in
+    rw (p.1, p.2) (fault_constants P c.in_ok-reached.reached c.in_ok-reached.ensures.reached e
+    fault)
 
 pub returns-clause-names : goal.returns-clause-names
 returns-clause-names c =
     let s = view_source c.args.source.now in
-    let P = program_of c.args.source.now c.args.node.now (option_map (λ o. o.now) c.args.observer) in
-    let kept = subst (λ l. keeps_constants s (flat_map (named_constants (program_in s)) (map node_of l)) ≡ true) c.deref.ensures.value c.in_ok-judge_constants.ensures.ok in
-    names_kept P c.in_ok-reached.reached c.in_ok-reached.ensures.reached c.requires.once c.in_ok-reached.ensures.named kept
+    let P = program_of c.args.source.now c.args.node.now
+    (option_map (λ o. o.now) c.args.observer) in
+    let kept = subst (λ l. keeps_constants_of s l ≡ true) c.deref.ensures.value
+    c.in_ok-judge_constants.ensures.ok in
+    names_kept P c.in_ok-reached.reached c.in_ok-reached.ensures.reached c.requires.once
+    c.in_ok-reached.ensures.named kept

@@ -13,15 +13,20 @@ returns-in_err-declare_names-clause-err c =
     let groups = c.args.groups.now in
     let before = c.loop-group.declared in
     let names = c.deref.result.now in
-    let rest = names_in (declarations_in (view_groups (drop (c.loop-group.group-index + 1) groups))) in
-    let all = group_names_join before _ groups c.loop-group.group-index c.group-item.result names c.loop-group-test.true c.group-item.is
+    let rest = names_in (declarations_in
+    (view_groups (drop (c.loop-group.group-index + 1) groups))) in
+    let all = group_names_join before _ groups c.loop-group.group-index c.group-item.result names
+    c.loop-group-test.true c.group-item.is
     c.deref.ensures.value c.loop-group.invariant in
-    rw (p.1, p.2) (front_fault c.in_err-declare_names.field-0.0 (before ++ names) rest _ all c.in_err-declare_names.ensures.err)
+    rw (p.1, p.2) (front_fault c.in_err-declare_names.field-0.0 (before ++ names) rest _ all
+    c.in_err-declare_names.ensures.err)
 
 pub loop-group-preserved : goal.loop-group-preserved
 loop-group-preserved c =
     let groups = c.args.groups.now in
-    let rest = names_in (declarations_in (view_groups (drop (c.loop-group.group-index + 1) groups))) in
+    let rest = names_in (declarations_in
+    (view_groups (drop (c.loop-group.group-index + 1) groups))) in
     ap (λ l. l ++ rest) c.in_ok-declare_names.ensures.ok
-    ∙ group_names_join c.loop-group.declared _ groups c.loop-group.group-index c.group-item.result c.deref.result.now c.loop-group-test.true c.group-item.is
+    ∙ group_names_join c.loop-group.declared _ groups c.loop-group.group-index c.group-item.result
+    c.deref.result.now c.loop-group-test.true c.group-item.is
     c.deref.ensures.value c.loop-group.invariant

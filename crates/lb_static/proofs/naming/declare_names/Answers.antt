@@ -14,5 +14,7 @@ returns-in_err-declare_new-clause-err c =
     let i = c.loop-name.name-index in
     let names = c.args.names.now in
     let all = ap (λ y. before ++ y ∷ drop (i + 1) names) c.name-item.is
-    ∙ ap (λ l. before ++ l) (sym (drop_more names i x c.loop-name-test.true)) ∙ c.loop-name.invariant in
-    rw (p.1, p.2) (fault_within c.in_err-declare_new.field-0.0 _ _ c.in_err-declare_new.ensures.err (λ e. doubled_here before _ _ x all e))
+    ∙ ap (λ l. before ++ l) (sym (drop_more names i x c.loop-name-test.true))
+    ∙ c.loop-name.invariant in
+    rw (p.1, p.2) (fault_within c.in_err-declare_new.field-0.0 _ _ c.in_err-declare_new.ensures.err
+    (λ e. doubled_here before _ _ x all e))

@@ -11,5 +11,9 @@ returns-then-eq c =
     let x = c.args.name.now in
     let below : c.loop-place.place < length items = search rules in
     let same : bytes_eq (get_or items c.loop-place.place c.index.result.now).name x ≡ true =
-    ap (λ n. bytes_eq n.name x) (sym c.index.ensures) ∙ ap (λ n. bytes_eq n x) (sym c.as_str.ensures) ∙ sym c.if-eq.ensures in
-    (below, found_here x items c.loop-place.place c.index.result.now (node_in_source c.args.source.now x) below c.loop-place.invariant same)
+    ap (λ n. bytes_eq n.name x) (sym c.index.ensures)
+    ∙ ap (λ n. bytes_eq n x) (sym c.as_str.ensures) ∙ sym c.if-eq.ensures in (
+      below,
+      found_here x items c.loop-place.place c.index.result.now
+          (node_in_source c.args.source.now x) below c.loop-place.invariant same,
+    )

@@ -6,4 +6,5 @@ use Rattle.lb_static.proofs.reaching.place_named.Given as goal
 
 abbrev pub invariant-loop-place : goal.invariant-loop-place
 invariant-loop-place l =
-    node_in_source l.source l.name ≡ named (λ n. n.name) l.name (map view_node (drop l.place l.source.nodes.items))
+    node_in_source l.source l.name
+    ≡ named (λ n. n.name) l.name (map view_node (drop l.place l.source.nodes.items))

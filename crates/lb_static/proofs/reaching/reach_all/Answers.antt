@@ -1,31 +1,54 @@
 -- What came up is what is reached.
-use Rattle.std.proofs.Common.{◌≡◌, ◌<◌, ◌≤◌, ◌^◌, length, ap, ◌∙◌, arith, rules}
+use Rattle.std.proofs.Common.{◌≡◌, ◌≤◌, length, arith}
 use Rattle.std.specs.Prelude.{option_map}
 use Rattle.std.proofs.lemmas.List.{length-map}
 use Rattle.lb_syntax.specs.SourceView.{view_node}
-use Rattle.lb_static.specs.CalledNodes.{ids_of}
-use Rattle.lb_static.specs.Elaborates.{program_of}
+use Rattle.lb_static.specs.Elaborated.{program_of}
 use Rattle.lb_static.proofs.ReachedPlaces.{is_reached, named}
 use Rattle.lb_static.proofs.reaching.reach_all.Goals as goal
 
 pub returns-clause-reached : goal.returns-clause-reached
 returns-clause-reached c =
     let items = c.args.source.now.nodes.items in
-    let P = program_of c.args.source.now c.args.node.now (option_map (λ o. o.now) c.args.observer) in
+    let P = program_of c.args.source.now c.args.node.now
+    (option_map (λ o. o.now) c.args.observer) in
     let turns = c.turns.result.now in
     let many : length turns ≡ length P.source.nodes =
-    omega (arith, c.turns.ensures.count, c.in_ok-resolve_visited.ensures.count, c.in_ok-root.ensures.count, c.requires.count, length-map items view_node) in
-    let few : length P.source.nodes < 2 ^ 32 = omega (arith, many, c.turns.ensures.count, c.turns.ensures.few) in
+    omega (
+      arith,
+      c.turns.ensures.count,
+      c.in_ok-resolve_visited.ensures.count,
+      c.in_ok-root.ensures.count,
+      c.requires.count,
+      length-map items view_node,
+    ) in
     is_reached P c.visit_starts.new.visits.order c.resolve_visited.new.visits.order
-    (record { nodes = c.resolve_visited.new.nodes; ids = c.in_ok-ids.ids; root = c.in_ok-root.root; observer = c.in_ok-root.observer }) turns
-    c.in_ok-root.ensures.starts c.in_ok-resolve_visited.ensures.resolved c.in_ok-resolve_visited.ensures.all c.turns.ensures.turns c.in_ok-ids.ensures
-    c.requires.once many few
+    (record {
+      nodes = c.resolve_visited.new.nodes;
+      ids =
+          c.in_ok-ids.ids;
+      root = c.in_ok-root.root;
+      observer = c.in_ok-root.observer;
+    }) turns
+    c.in_ok-root.ensures.starts c.in_ok-resolve_visited.ensures.resolved
+    c.in_ok-resolve_visited.ensures.all c.turns.ensures.turns c.in_ok-ids.ensures
+    c.requires.once many
 
 pub returns-clause-named : goal.returns-clause-named
 returns-clause-named c =
     let items = c.args.source.now.nodes.items in
-    let P = program_of c.args.source.now c.args.node.now (option_map (λ o. o.now) c.args.observer) in
+    let P = program_of c.args.source.now c.args.node.now
+    (option_map (λ o. o.now) c.args.observer) in
     let few : length c.resolve_visited.new.visits.order ≤ length P.source.nodes =
-    omega (arith, c.in_ok-resolve_visited.ensures.few, c.in_ok-resolve_visited.ensures.count, c.in_ok-root.ensures.count, c.requires.count, length-map items view_node) in
-    named P c.visit_starts.new.visits.order c.resolve_visited.new.visits.order c.resolve_visited.new.nodes.items c.in_ok-root.root c.in_ok-root.observer
-    c.requires.once c.in_ok-root.ensures.starts c.in_ok-resolve_visited.ensures.resolved c.in_ok-resolve_visited.ensures.all few
+    omega (
+      arith,
+      c.in_ok-resolve_visited.ensures.few,
+      c.in_ok-resolve_visited.ensures.count,
+      c.in_ok-root.ensures.count,
+      c.requires.count,
+      length-map items view_node,
+    ) in
+    named P c.visit_starts.new.visits.order c.resolve_visited.new.visits.order
+    c.resolve_visited.new.nodes.items c.in_ok-root.root c.in_ok-root.observer
+    c.requires.once c.in_ok-root.ensures.starts c.in_ok-resolve_visited.ensures.resolved
+    c.in_ok-resolve_visited.ensures.all few

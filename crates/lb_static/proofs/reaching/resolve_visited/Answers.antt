@@ -18,9 +18,12 @@ pub visit_callees-requires : goal.visit_callees-requires
 visit_callees-requires c =
     let items = c.args.source.now.nodes.items in
     let r = c.in_ok-node.node in
-    let many = length-map (map view_node items) (λ n. n.name) ∙ length-map items view_node ∙ sym c.loop-place.invariant.count in
-    subst (λ l. list_all (λ s. nat_lt s.callee.0 c.loop-place.visits.count) l ≡ true) (sym c.deref.ensures.value)
-    (subst (λ n. list_all (λ s. nat_lt s.callee.0 n) r.calls.items ≡ true) many (sites_within _ (counts_of r) r.calls.items c.in_ok-node.ensures.resolved.calls_within))
+    let many = length-map (map view_node items) (λ n. n.name) ∙ length-map items view_node
+    ∙ sym c.loop-place.invariant.count in
+    subst (λ l. list_all (λ s. nat_lt s.callee.0 c.loop-place.visits.count) l ≡ true)
+    (sym c.deref.ensures.value)
+    (subst (λ n. list_all (λ s. nat_lt s.callee.0 n) r.calls.items ≡ true) many
+    (sites_within _ (counts_of r) r.calls.items c.in_ok-node.ensures.resolved.calls_within))
 
 pub loop-place-preserved : goal.loop-place-preserved
 loop-place-preserved c =
@@ -31,19 +34,27 @@ loop-place-preserved c =
     let r = c.in_ok-node.node in
     let place = c.in-Some.place in
     let turn : c.len.result ≡ length nodes = search rules in
-    let next : slice_get order (length nodes) ≡ Some place = sym (c.in-Some.ensures.value ∙ ap (slice_get order) turn) in
-    let below : place < length items = subst (λ n. place < n) c.loop-place.invariant.count c.in-Some.ensures.within in
+    let next : slice_get order (length nodes) ≡ Some place =
+    sym (c.in-Some.ensures.value ∙ ap (slice_get order) turn) in
+    let below : place < length items =
+    subst (λ n. place < n) c.loop-place.invariant.count c.in-Some.ensures.within in
     let at : slice_get s.nodes place ≡ Some (view_node r.tree.now) =
-    slice_get-map view_node items place ∙ ap (option_map view_node) (slice_get_read items (length items) place c.index.result.now refl below c.index.ensures)
+    slice_get-map view_node items place
+    ∙ ap (option_map view_node)
+    (slice_get_read items (length items) place c.index.result.now refl below c.index.ensures)
     ∙ ap (λ n. Some (view_node n)) (sym c.in_ok-node.ensures.tree) in
-    let named = ap (λ n. named_in s (view_node n)) c.in_ok-node.ensures.tree ∙ c.in_ok-node.ensures.named in
-    let more = more_resolved s c.args.visits.now.order order nodes r place c.loop-place.invariant.resolved next at c.in_ok-node.ensures.resolved named in
-    let after = c.in_ok-visit_callees.ensures.order ∙ ap (λ l. visited_after_all order (callees l)) c.deref.ensures.value in
+    let named = ap (λ n. named_in s (view_node n)) c.in_ok-node.ensures.tree
+    ∙ c.in_ok-node.ensures.named in
+    let more = more_resolved s c.args.visits.now.order order nodes r place
+    c.loop-place.invariant.resolved next at c.in_ok-node.ensures.resolved named in
+    let after = c.in_ok-visit_callees.ensures.order
+    ∙ ap (λ l. visited_after_all order (callees l)) c.deref.ensures.value in
     record {
       count = c.in_ok-visit_callees.ensures.count ∙ c.loop-place.invariant.count;
       resolved =
           subst (λ o. AreResolved s c.args.visits.now.order o c.push.new.self.items) (sym after)
-          (subst (AreResolved s c.args.visits.now.order (visited_after_all order (callees r.calls.items))) (sym c.in_ok-push.ensures.items) more);
+          (subst (AreResolved s c.args.visits.now.order
+          (visited_after_all order (callees r.calls.items))) (sym c.in_ok-push.ensures.items) more);
     }
 
 pub returns-in_err-node-clause-err : goal.returns-in_err-node-clause-err
@@ -55,12 +66,18 @@ returns-in_err-node-clause-err c =
     let nodes = c.loop-place.nodes.items in
     let place = c.in-Some.place in
     let turn : c.len.result ≡ length nodes = search rules in
-    let next : slice_get order (length nodes) ≡ Some place = sym (c.in-Some.ensures.value ∙ ap (slice_get order) turn) in
-    let below : place < length items = subst (λ n. place < n) c.loop-place.invariant.count c.in-Some.ensures.within in
+    let next : slice_get order (length nodes) ≡ Some place =
+    sym (c.in-Some.ensures.value ∙ ap (slice_get order) turn) in
+    let below : place < length items =
+    subst (λ n. place < n) c.loop-place.invariant.count c.in-Some.ensures.within in
     let at : slice_get s.nodes place ≡ Some (view_node c.index.result.now) =
-    slice_get-map view_node items place ∙ ap (option_map view_node) (slice_get_read items (length items) place c.index.result.now refl below c.index.ensures) in
-    let few : length order ≤ length s.nodes = omega (arith, c.in-Some.ensures.few, c.loop-place.invariant.count, length-map items view_node) in
-    rw (p.1, p.2) (λ start begins. fault_there _ s c.args.visits.now.order order nodes place (view_node c.index.result.now) start
+    slice_get-map view_node items place
+    ∙ ap (option_map view_node)
+    (slice_get_read items (length items) place c.index.result.now refl below c.index.ensures) in
+    let few : length order ≤ length s.nodes = omega
+    (arith, c.in-Some.ensures.few, c.loop-place.invariant.count, length-map items view_node) in
+    rw (p.1, p.2) (λ start begins. fault_there _ s c.args.visits.now.order order nodes place
+    (view_node c.index.result.now) start
     c.loop-place.invariant.resolved next at few begins c.in_err-node.ensures.err)
 
 pub returns-clause-all : goal.returns-clause-all

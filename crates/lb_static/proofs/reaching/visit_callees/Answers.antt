@@ -12,10 +12,14 @@ loop-call-preserved c =
     let i = c.loop-call.call-index in
     record {
       count = c.in_ok-visit.ensures.count ∙ c.loop-call.invariant.count;
-      order = ap (λ o. visited_after_all o (callees (drop (i + 1) calls))) c.in_ok-visit.ensures.order ∙ visit_next c.loop-call.visits.order calls i _ c.loop-call-test.true ∙ c.loop-call.invariant.order;
+      order = ap (λ o. visited_after_all o (callees (drop (i + 1) calls)))
+          c.in_ok-visit.ensures.order
+          ∙ visit_next c.loop-call.visits.order calls i _ c.loop-call-test.true
+          ∙ c.loop-call.invariant.order;
     }
 
 pub returns-clause-order : goal.returns-clause-order
 unfolding visited_after_all
 returns-clause-order c =
-    ap (λ l. visited_after_all c.loop-call.visits.order (callees l)) (sym (drop_of_length-le c.args.calls.now c.loop-call-test.false)) ∙ c.loop-call.invariant.order
+    ap (λ l. visited_after_all c.loop-call.visits.order (callees l))
+    (sym (drop_of_length-le c.args.calls.now c.loop-call-test.false)) ∙ c.loop-call.invariant.order

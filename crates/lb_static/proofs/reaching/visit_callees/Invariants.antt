@@ -6,5 +6,6 @@ use Rattle.lb_static.proofs.reaching.visit_callees.Given as goal
 abbrev pub invariant-loop-call : goal.invariant-loop-call
 invariant-loop-call l = record {
   count : l.visits.count ≡ l.initial.visits.count;
-  order : visited_after_all l.visits.order (callees (drop l.call-index l.calls)) ≡ visited_after_all l.initial.visits.order (callees l.calls);
+  order : visited_after_all l.visits.order (callees (drop l.call-index l.calls))
+      ≡ visited_after_all l.initial.visits.order (callees l.calls);
 }

@@ -12,8 +12,10 @@ use Rattle.lb_static.proofs.resolving_parts.all_statics.Goals as goal
 pub returns-in_err-one_static : goal.returns-in_err-one_static
 returns-in_err-one_static c =
     let p = err_from_is_err_and c.from_residual.result c.from_residual.ensures.1 in
-    rw (p.1, p.2) (fault_of_static (progress c.args.here.now) (progress c.loop-text.here) c.in_err-one_static.field-0.0 c.args.role c.args.texts.now c.loop-text.text-index
-    c.text-item.result c.loop-text-test.true c.text-item.is c.loop-text.invariant.0 c.in_err-one_static.ensures)
+    rw (p.1, p.2) (fault_of_static (progress c.args.here.now) (progress c.loop-text.here)
+    c.in_err-one_static.field-0.0 c.args.role c.args.texts.now c.loop-text.text-index
+    c.text-item.result c.loop-text-test.true c.text-item.is c.loop-text.invariant.0
+    c.in_err-one_static.ensures)
 
 pub returns : goal.returns
 returns c =
@@ -22,13 +24,15 @@ returns c =
     let role = c.args.role in
     let xs = view_statics c.args.texts.now in
     let whole = take_all c.loop-text.text-index c.args.texts.now c.loop-text-test.false in
-    let is = c.loop-text.invariant.0 ∙ ap (λ l. grown start (map (λ x. (role, x)) (view_statics l)) []) whole in
+    let is = c.loop-text.invariant.0
+    ∙ ap (λ l. grown start (map (λ x. (role, x)) (view_statics l)) []) whole in
     let tagged : List Part = map (λ x. (role, x)) xs in
     let parts = ap (λ s. length s.parts) is ∙ length-append start.parts tagged in
     let same : length tagged ≡ length xs = length-map xs (λ x. (role, x)) in
     let first = c.next_static-first.ensures in
     let last = c.next_static.ensures in
-    let long : c.next_static.result.0 - c.next_static-first.result.0 ≡ length xs = omega (arith, parts, same, first, last) in (
+    let long : c.next_static.result.0 - c.next_static-first.result.0 ≡ length xs =
+    omega (arith, parts, same, first, last) in (
       is,
       statics_placed start here role xs c.next_static-first.result _ is first long,
       ap (λ l. statics_fit start (view_statics l)) (sym whole) ∙ c.loop-text.invariant.1,

@@ -17,7 +17,12 @@ returns c =
     let callee = c.in_ok-callee.callee in
     let long = sym (length-map c.args.arguments.now view_static) in
     let called : IsCallee (program_of before) f (length args) callee =
-    subst (λ P. IsCallee P f (length args) callee) c.naming.ensures.source (subst (λ k. IsCallee (program_in c.naming.result.now) f k callee) long c.in_ok-callee.ensures.ok) in
+    subst (λ P. IsCallee P f (length args) callee) c.naming.ensures.source
+    (subst (λ k. IsCallee (program_in c.naming.result.now) f k callee) long
+    c.in_ok-callee.ensures.ok) in
     let found = c.in_ok-first_argument.ensures in
-    call_resolved before (progress c.push_call.new.self) f args (c.in_ok-first_argument.first_argument, c.in_ok-first_argument.arguments) c.args.count callee called c.requires
-    mid c.push_call.result found.0 found.1 found.2 c.push_call.ensures.after c.push_call.ensures.id c.push_call.ensures.err
+    call_resolved before (progress c.push_call.new.self) f args
+    (c.in_ok-first_argument.first_argument, c.in_ok-first_argument.arguments) c.args.count callee
+    called c.requires
+    mid c.push_call.result found.0 found.1 found.2 c.push_call.ensures.after c.push_call.ensures.id
+    c.push_call.ensures.err

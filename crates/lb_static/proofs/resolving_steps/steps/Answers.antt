@@ -9,14 +9,20 @@ use Rattle.lb_static.proofs.resolving_steps.steps.Goals as goal
 pub returns-in_err-step : goal.returns-in_err-step
 returns-in_err-step c =
     let p = err_from_is_err_and c.from_residual.result c.from_residual.ensures.1 in
-    rw (p.1, p.2) (fault_of_statement (progress c.args.here.now) (progress c.loop-statement.here) c.in_err-step.field-0.0 c.args.body.now c.loop-statement.statement-index
-    c.statement-item.result c.loop-statement-test.true c.statement-item.is c.loop-statement.invariant.0 c.in_err-step.ensures)
+    rw (p.1, p.2) (fault_of_statement (progress c.args.here.now) (progress c.loop-statement.here)
+    c.in_err-step.field-0.0 c.args.body.now c.loop-statement.statement-index
+    c.statement-item.result c.loop-statement-test.true c.statement-item.is
+    c.loop-statement.invariant.0 c.in_err-step.ensures)
 
 pub loop-statement-preserved : goal.loop-statement-preserved
 loop-statement-preserved c =
     let start = progress c.args.here.now in
     let after = progress c.step.new.here in
     let body = c.args.body.now in
-    let r = next_step start (progress c.loop-statement.here) after c.loop-statement.steps.items body c.loop-statement.statement-index c.statement-item.result c.in_ok-step.field-0
-    c.loop-statement-test.true c.statement-item.is c.loop-statement.invariant c.in_ok-step.ensures in
-    subst (λ l. StepsSoFar start after (map view_statement (take (c.loop-statement.statement-index + 1) body)) l) (sym c.in_ok-push.ensures.items) r
+    let r = next_step start (progress c.loop-statement.here) after c.loop-statement.steps.items body
+    c.loop-statement.statement-index c.statement-item.result c.in_ok-step.field-0
+    c.loop-statement-test.true c.statement-item.is c.loop-statement.invariant
+    c.in_ok-step.ensures in
+    subst (λ l. StepsSoFar start after
+    (map view_statement (take (c.loop-statement.statement-index + 1) body)) l)
+    (sym c.in_ok-push.ensures.items) r

@@ -8,5 +8,6 @@ use Rattle.lb_static.proofs.resolving_steps.steps.Given as goal
 abbrev pub invariant-loop-statement : goal.invariant-loop-statement
 invariant-loop-statement l =
     let so_far = map view_statement (take l.statement-index l.body) in
-    (progress l.here ≡ after_statements (progress l.fn.here) so_far) × StepsStand (progress l.here) so_far l.steps.items
+    (progress l.here ≡ after_statements (progress l.fn.here) so_far)
+    × StepsStand (progress l.here) so_far l.steps.items
     × (list_all (statement_fits (progress l.fn.here)) so_far ≡ true)

@@ -17,18 +17,23 @@ returns-in_err-clock-clause-err c =
     let p = err_from_is_err_and c.from_residual.result c.from_residual.ensures.1 in
     let g = view_group c.args.group.now in
     let long = c.args.group.now.names.ok.0 in
-    let some : nat_eq (length g.names) 0 ≡ false = grind (arith, nat_tests, long, c.is_empty.ensures, c.if-is_empty.false) in
-    rw (p.1, p.2) (clock_fault c.in_err-clock.field-0.0 (progress c.args.here.now) g some c.in_err-clock.ensures.err)
+    let some : nat_eq (length g.names) 0 ≡ false =
+    grind (arith, nat_tests, long, c.is_empty.ensures, c.if-is_empty.false) in
+    rw (p.1, p.2) (clock_fault c.in_err-clock.field-0.0 (progress c.args.here.now) g some
+    c.in_err-clock.ensures.err)
 
 pub returns-in_err-first_size-clause-err : goal.returns-in_err-first_size-clause-err
 returns-in_err-first_size-clause-err c =
-    let p = err_from_is_err_and c.from_residual-in_err-first_size.result c.from_residual-in_err-first_size.ensures.1 in
+    let p = err_from_is_err_and c.from_residual-in_err-first_size.result
+    c.from_residual-in_err-first_size.ensures.1 in
     let s = progress c.args.here.now in
     let g = view_group c.args.group.now in
     let f = c.in_err-first_size.field-0.0 in
     let long = c.args.group.now.names.ok.0 in
-    let some : nat_eq (length g.names) 0 ≡ false = grind (arith, nat_tests, long, c.is_empty.ensures, c.if-is_empty.false) in
-    let refused = subst (λ l. IsNameFault f (statics_fit s (view_statics l))) c.deref.ensures.value c.in_err-first_size.ensures in
+    let some : nat_eq (length g.names) 0 ≡ false =
+    grind (arith, nat_tests, long, c.is_empty.ensures, c.if-is_empty.false) in
+    let refused = subst (λ l. IsNameFault f (statics_fit s (view_statics l))) c.deref.ensures.value
+    c.in_err-first_size.ensures in
     rw (p.1, p.2) (sizes_fault f s g some refused)
 
 pub returns-clause-ok : goal.returns-clause-ok
@@ -41,16 +46,23 @@ returns-clause-ok c =
     let count = c.in_ok-first_size.sizes in
     let clock = c.in_ok-clock.clock in
     let long = c.args.group.now.names.ok.0 in
-    let some : nat_eq (length g.names) 0 ≡ false = grind (arith, nat_tests, long, c.is_empty.ensures, c.if-is_empty.false) in
-    let found = subst (λ l. ResolvesStatics s mid Size (view_statics l) (Ok (first, count))) c.deref.ensures.value c.in_ok-first_size.ensures in
+    let some : nat_eq (length g.names) 0 ≡ false =
+    grind (arith, nat_tests, long, c.is_empty.ensures, c.if-is_empty.false) in
+    let found = subst (λ l. ResolvesStatics s mid Size (view_statics l) (Ok (first, count)))
+    c.deref.ensures.value c.in_ok-first_size.ensures in
     on_ok_weaker c.push_variables.result
-    (λ d. group_done s mid after g first count clock some found.0 found.1 c.in_ok-clock.ensures.stands
-    (subst (λ l. after ≡ with_alike mid l (record { kind = g.kind; first_size = first; sizes = count; clock = clock })) c.deref-2.ensures.value d))
+    (λ d. group_done s mid after g first count clock some found.0 found.1
+    c.in_ok-clock.ensures.stands
+    (subst (λ l. after ≡ with_alike mid l
+    (record { kind = g.kind; first_size = first; sizes = count; clock = clock }))
+    c.deref-2.ensures.value d))
     c.push_variables.ensures.ok
 
 pub returns-clause-fit : goal.returns-clause-fit
 returns-clause-fit c =
     let s = progress c.args.here.now in
     let g = view_group c.args.group.now in
-    let sizes = subst (λ l. statics_fit s (view_statics l) ≡ true) c.deref.ensures.value c.in_ok-first_size.ensures.2 in
-    on_ok_weaker c.push_variables.result (λ d. group_fits s g sizes c.in_ok-clock.ensures.fit) c.push_variables.ensures.ok
+    let sizes = subst (λ l. statics_fit s (view_statics l) ≡ true) c.deref.ensures.value
+    c.in_ok-first_size.ensures.2 in
+    on_ok_weaker c.push_variables.result (λ d. group_fits s g sizes c.in_ok-clock.ensures.fit)
+    c.push_variables.ensures.ok

@@ -11,8 +11,10 @@ loop-group-init c = (no_groups (progress c.args.here.now), refl)
 pub returns-in_err-resolve_group-clause-err : goal.returns-in_err-resolve_group-clause-err
 returns-in_err-resolve_group-clause-err c =
     let p = err_from_is_err_and c.from_residual.result c.from_residual.ensures.1 in
-    rw (p.1, p.2) (group_fault c.in_err-resolve_group.field-0.0 (progress c.args.here.now) (progress c.loop-group.here) c.args.groups.now c.loop-group.group-index c.group-item.result
-    c.loop-group-test.true c.group-item.is c.loop-group.invariant.0 c.in_err-resolve_group.ensures.err)
+    rw (p.1, p.2) (group_fault c.in_err-resolve_group.field-0.0 (progress c.args.here.now)
+    (progress c.loop-group.here) c.args.groups.now c.loop-group.group-index c.group-item.result
+    c.loop-group-test.true c.group-item.is c.loop-group.invariant.0
+    c.in_err-resolve_group.ensures.err)
 
 pub loop-group-preserved : goal.loop-group-preserved
 loop-group-preserved c =
@@ -21,6 +23,9 @@ loop-group-preserved c =
     let groups = c.args.groups.now in
     let i = c.loop-group.group-index in
     let group = c.group-item.result in (
-      next_group start here (progress c.resolve_group.new.here) groups i group c.loop-group-test.true c.group-item.is c.loop-group.invariant.0 c.in_ok-resolve_group.ensures.ok,
-      next_fits start here groups i group c.loop-group-test.true c.group-item.is c.loop-group.invariant.0 c.loop-group.invariant.1 c.in_ok-resolve_group.ensures.fit,
+      next_group start here (progress c.resolve_group.new.here) groups i group
+          c.loop-group-test.true c.group-item.is c.loop-group.invariant.0
+          c.in_ok-resolve_group.ensures.ok,
+      next_fits start here groups i group c.loop-group-test.true c.group-item.is
+          c.loop-group.invariant.0 c.loop-group.invariant.1 c.in_ok-resolve_group.ensures.fit,
     )

@@ -10,14 +10,21 @@ use Rattle.lb_static.proofs.specialize.specialize.Goals as goal
 pub are_in_range-requires : goal.are_in_range-requires
 are_in_range-requires c =
     let given = given_by c.args.values.now in
-    let all : part_values given c.args.node.now.statics.items ≡ Some c.in-Some.statics.items = search rules in
-    ap length c.deref-3.ensures.value ∙ as_many_values given c.args.node.now.statics.items c.in-Some.statics.items all ∙ sym (ap length c.deref-2.ensures.value)
+    let all : part_values given c.args.node.now.statics.items ≡ Some c.in-Some.statics.items =
+    search rules in
+    ap length c.deref-3.ensures.value
+    ∙ as_many_values given c.args.node.now.statics.items c.in-Some.statics.items all
+    ∙ sym (ap length c.deref-2.ensures.value)
 
 pub are_narrow-requires : goal.are_narrow-requires
 are_narrow-requires c =
     let given = given_by c.args.values.now in
     let node = c.args.node.now in
     let all : part_values given node.statics.items ≡ Some c.in-Some.statics.items = search rules in
-    let as_many = ap length c.deref-then-are_in_range-2.ensures.value ∙ as_many_values given node.statics.items c.in-Some.statics.items all in
-    let P : List Variable → Type 0 = λ vs. list_all (λ v. nat_le (v.first_size.0 + v.sizes) (length c.deref-then-are_in_range-2.result.now)) vs ≡ true in
-    subst P (sym c.deref-then-are_in_range.ensures.value) (sizes_stand node (length c.deref-then-are_in_range-2.result.now) as_many c.requires)
+    let as_many = ap length c.deref-then-are_in_range-2.ensures.value
+    ∙ as_many_values given node.statics.items c.in-Some.statics.items all in
+    let P : List Variable → Type 0 = λ vs. list_all
+    (λ v. nat_le (v.first_size.0 + v.sizes) (length c.deref-then-are_in_range-2.result.now)) vs
+    ≡ true in
+    subst P (sym c.deref-then-are_in_range.ensures.value)
+    (sizes_stand node (length c.deref-then-are_in_range-2.result.now) as_many c.requires)

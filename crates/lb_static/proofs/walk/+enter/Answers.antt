@@ -15,7 +15,7 @@ use Rattle.lb_static.specs.ResolvedNodes.{node_of, statics_of, counts_of, IsReso
 use Rattle.lb_static.specs.ResolvedTerms.{site_of, is_site_within, Counts}
 use Rattle.lb_static.specs.SettledSpecializations.{AreSettled}
 use Rattle.lb_static.specs.Walk.{level, walk_refusal}
-use Rattle.lb_static.specs.Walked.{AreJudged, AreEntered, IsWalkable, IsJudged, IsRefusal, IsSoundNode, values_at, times_of, IsKnown}
+use Rattle.lb_static.specs.Walked.{AreJudged, AreEntered, IsWalkable, IsRefusal, IsSoundNode, values_at, times_of, IsKnown}
 use Rattle.lb_static.specs.WalkedRows.{begun_row, HasRows}
 use Rattle.lb_static.specs.declared.resolved.CallSite.{CallSite}
 use Rattle.lb_static.specs.declared.resolved.ResolvedNode.{ResolvedNode}
@@ -32,7 +32,13 @@ use Rattle.lb_static.proofs.walk.+enter.Goals.{in-Some+in_ok-push, in_default}
 
 -- what stands past the calls
 abbrev no_call : CallSite
-no_call = record { callee = record { 0 = 0 }; first_argument = record { 0 = 0 }; arguments = 0; count = None }
+no_call = record {
+  callee =
+      record { 0 = 0 };
+  first_argument = record { 0 = 0 };
+  arguments = 0;
+  count = None;
+}
 
 abbrev counted : ℕ → Counts
 counted k = record { variables = 0; statics = k; calls = 0 }
@@ -41,13 +47,15 @@ pub returns-in_err-begun-clause-err : goal.returns-in_err-begun-clause-err
 returns-in_err-begun-clause-err t c =
     let p = err_from_is_err_and c.from_residual.result c.from_residual.ensures.1 in
     rw (p.1, p.2) (λ P q n w at low judged.
-    refused_here P q n c.args.values.now c.args.entry.level (length c.args.entered.now.instances.items) c.in_err-begun.field-0.0 c.requires.low
+    refused_here P q n c.args.values.now c.args.entry.level
+    (length c.args.entered.now.instances.items) c.in_err-begun.field-0.0 c.requires.low
     (c.in_err-begun.ensures.judged P q n w at low judged))
 
 pub loop-call-init : goal.loop-call-init
 loop-call-init t c =
     let row = c.len-row.ensures in
-    let more = ap length c.in_ok-begun.ensures.row ∙ length-append c.args.entered.now.instances.items _ in
+    let more = ap length c.in_ok-begun.ensures.row
+    ∙ length-append c.args.entered.now.instances.items _ in
     let same = ap length c.in_ok-begun.ensures.same in
     let count : c.len-row.result + 1 ≡ length c.begin.new.entered.instances.items = omega arith in
     record {
@@ -57,18 +65,23 @@ loop-call-init t c =
       grown = λ i s at. subst (λ l. slice_get l i ≡ Some s) (sym c.in_ok-begun.ensures.same) at;
       judged = λ P p n w at low judged. (
         subst (AreJudged P c.args.reached.now) (sym c.in_ok-begun.ensures.same) judged,
-        subst (AreEntered P (c.len-row.result + 1) []) count (entered_none P (c.len-row.result + 1)),
+        subst (AreEntered P (c.len-row.result + 1) []) count
+            (entered_none P (c.len-row.result + 1)),
       );
       settled = λ P p n w at low judged settled. (
         subst (AreSettled c.args.reached.now) (sym c.in_ok-begun.ensures.same) settled,
-        none_called c.args.reached.now c.in_ok-begun.begun.statics.items c.begin.new.entered.specializations n.calls.items c.new-callees.result.items c.new-callees.ensures.items,
+        none_called c.args.reached.now c.in_ok-begun.begun.statics.items
+            c.begin.new.entered.specializations n.calls.items c.new-callees.result.items
+            c.new-callees.ensures.items,
       );
       used =
           used_none c.args.entered.now.specializations c.begin.new.entered.specializations
-          (c.args.entered.now.instances.items ++ begun_row c.args.entry.origin ∷ []) c.begin.new.entered.instances.items c.in_ok-begun.ensures.same c.in_ok-begun.ensures.row;
+          (c.args.entered.now.instances.items ++ begun_row c.args.entry.origin ∷ [])
+          c.begin.new.entered.instances.items c.in_ok-begun.ensures.same c.in_ok-begun.ensures.row;
       stand = λ P p n w at low judged path.
           rows_none c.args.reached.now c.begin.new.entered.specializations
-          (c.args.entered.now.instances.items ++ begun_row c.args.entry.origin ∷ []) c.begin.new.entered.instances.items c.in_ok-begun.ensures.row;
+          (c.args.entered.now.instances.items ++ begun_row c.args.entry.origin ∷ [])
+          c.begin.new.entered.instances.items c.in_ok-begun.ensures.row;
     }
 
 pub callee_of-callee-requires-clause-within : goal.callee_of-callee-requires-clause-within
@@ -78,13 +91,19 @@ callee_of-callee-requires-clause-within t c =
     let id = c.args.entry.node.0 in
     let n = c.index.result.now in
     let items = c.deref-site-items.result.now in
-    let sound : IsSoundNode r n = subst (IsSoundNode r) (sym c.index.ensures) (All-get_or (IsSoundNode r) nodes id n c.requires.within c.requires.sound) in
-    let at : slice_get nodes id ≡ Some n = slice_get_read nodes (length nodes) id n refl c.requires.within c.index.ensures in
+    let sound : IsSoundNode r n = subst (IsSoundNode r) (sym c.index.ensures)
+    (All-get_or (IsSoundNode r) nodes id n c.requires.within c.requires.sound) in
+    let at : slice_get nodes id ≡ Some n =
+    slice_get_read nodes (length nodes) id n refl c.requires.within c.index.ensures in
     let sized = ap length c.deref.ensures.value ∙ c.in_ok-begun.ensures.sized n at in
-    let passes = subst (λ (l : List CallSite). list_all (is_site_within (length r.ids.items) (counts_of n)) l ≡ true) (sym c.deref-site-items.ensures.value) sound.calls in
-    let here = All-get_or (λ s. is_site_within (length r.ids.items) (counts_of n) s ≡ true) items c.loop-call.call no_call c.loop-call-test.true
+    let passes = subst (λ (l : List CallSite). list_all
+    (is_site_within (length r.ids.items) (counts_of n)) l ≡ true)
+    (sym c.deref-site-items.ensures.value) sound.calls in
+    let here = All-get_or (λ s. is_site_within (length r.ids.items) (counts_of n) s ≡ true) items
+    c.loop-call.call no_call c.loop-call-test.true
     (AllPass-from_list_all (is_site_within (length r.ids.items) (counts_of n)) items passes) in
-    subst (λ (k : ℕ). is_site_within (length r.ids.items) (counted k) (get_or items c.loop-call.call no_call) ≡ true) (sym sized) here
+    subst (λ (k : ℕ). is_site_within (length r.ids.items) (counted k)
+    (get_or items c.loop-call.call no_call) ≡ true) (sym sized) here
 
 pub loop-index-init : goal.loop-index-init
 loop-index-init t c =
@@ -97,8 +116,10 @@ loop-index-init t c =
       judged = λ P p n m w at am low judged.
           let before = inv.judged P p n w at low judged in (
             before.0,
-            subst (λ l. AreEntered P (c.len-row.result + 1) l (length c.loop-call.entered.instances.items))
-                (sym (append-nil (of_calls P p n c.args.values.now c.args.entry.level c.loop-call.call))) before.1,
+            subst (λ l. AreEntered P (c.len-row.result + 1) l
+                (length c.loop-call.entered.instances.items))
+                (sym (append-nil (of_calls P p n c.args.values.now c.args.entry.level
+                c.loop-call.call))) before.1,
           );
       since = λ i s at. at;
       known = tt;
@@ -107,8 +128,10 @@ loop-index-init t c =
       used = inv.used;
       stand = λ P p n m w at am low judged path.
           let rows = c.args.entered.now.instances.items ++ begun_row c.args.entry.origin ∷ [] in
-          subst (HasRows c.args.reached.now c.loop-call.entered.specializations rows c.loop-call.entered.instances.items)
-          (sym (append-nil (of_calls P p n c.args.values.now c.args.entry.level c.loop-call.call))) (inv.stand P p n w at low judged path);
+          subst (HasRows c.args.reached.now c.loop-call.entered.specializations rows
+          c.loop-call.entered.instances.items)
+          (sym (append-nil (of_calls P p n c.args.values.now c.args.entry.level c.loop-call.call)))
+          (inv.stand P p n w at low judged path);
     }
 
 pub loop-index-preserved : goal.loop-index-preserved
@@ -130,24 +153,38 @@ loop-index-preserved t c =
           let deeper : level P (Child p call index) ≡ level_here + 1 = omega arith in
           let after = told.ok P (Child p call index) m w am deeper before.0 in
           let fuel : 66 - (level_here + 1) ≡ 65 - level_here = omega arith in
-          let here = subst (λ f. AreEntered P (length c.loop-index.entered.instances.items) (instances_from P f (instance_of (Child p call index) (node_of m) arguments)) (length c.enter.new.entered.instances.items)) fuel after.1 in
+          let here = subst (λ f. AreEntered P (length c.loop-index.entered.instances.items)
+          (instances_from P f (instance_of (Child p call index) (node_of m) arguments))
+          (length c.enter.new.entered.instances.items)) fuel after.1 in
           let calls = of_calls P p n values level_here call in
           let indexes = of_indexes P p n values level_here call m arguments index in (
             after.0,
-            subst (λ l. AreEntered P (c.len-row.result + 1) l (length c.enter.new.entered.instances.items))
-                (append_assoc calls indexes (instances_from P (65 - level_here) (instance_of (Child p call index) (node_of m) arguments))
-                ∙ ap (λ l. calls ++ l) (sym (index_step P p n values level_here call m arguments index)))
-                (entered_more P (c.len-row.result + 1) (calls ++ indexes) (instances_from P (65 - level_here) (instance_of (Child p call index) (node_of m) arguments)) (length c.loop-index.entered.instances.items) (length c.enter.new.entered.instances.items) before.1 here),
+            subst (λ l. AreEntered P (c.len-row.result + 1) l
+                (length c.enter.new.entered.instances.items))
+                (append_assoc calls indexes
+                (instances_from P (65 - level_here)
+                (instance_of (Child p call index) (node_of m) arguments))
+                ∙ ap (λ l. calls ++ l) (sym
+                (index_step P p n values level_here call m arguments index)))
+                (entered_more P (c.len-row.result + 1) (calls ++ indexes)
+                (instances_from P (65 - level_here)
+                (instance_of (Child p call index) (node_of m) arguments))
+                (length c.loop-index.entered.instances.items)
+                (length c.enter.new.entered.instances.items) before.1 here),
           );
       since = λ i s at. told.grown i s (inv.since i s at);
       known = told.known;
       none = λ e. absurd cc;
       settled = λ P p n m w at am low judged settled.
           let deeper : level P (Child p call index) ≡ level_here + 1 = omega arith in
-          told.settled P (Child p call index) m w am deeper (inv.judged P p n m w at am low judged).0 (inv.settled P p n m w at am low judged settled);
+          told.settled P (Child p call index) m w am deeper
+          (inv.judged P p n m w at am low judged).0
+          (inv.settled P p n m w at am low judged settled);
       used =
-          used_more c.args.entered.now.specializations c.loop-index.entered.specializations c.enter.new.entered.specializations
-          (c.args.entered.now.instances.items ++ begun_row c.args.entry.origin ∷ []) c.loop-index.entered.instances.items c.enter.new.entered.instances.items
+          used_more c.args.entered.now.specializations c.loop-index.entered.specializations
+          c.enter.new.entered.specializations
+          (c.args.entered.now.instances.items ++ begun_row c.args.entry.origin ∷ [])
+          c.loop-index.entered.instances.items c.enter.new.entered.instances.items
           inv.used told.used;
       stand = λ P p n m w at am low judged path.
           let r = c.args.reached.now in
@@ -164,18 +201,25 @@ loop-index-preserved t c =
           let deeper : level P (Child p call index) ≡ level_here + 1 = omega arith in
           let fuel : 66 - (level_here + 1) ≡ 65 - level_here = omega arith in
           let place : c.len-row.result ≡ length old = omega (arith, c.len-row.ensures) in
-          let under = path_below r so_far old c.loop-index.entered.instances.items from p c.len-row.result (calls ++ indexes) (record { 0 = call }) index place path stood in
+          let under = path_below r so_far old c.loop-index.entered.instances.items from p
+          c.len-row.result (calls ++ indexes) (record { 0 = call }) index place path stood in
           let after = told.stand P (Child p call index) m w am deeper before.0 under in
-          let here = subst (λ f. HasRows r now c.loop-index.entered.instances.items c.enter.new.entered.instances.items (instances_from P f child)) fuel after in
+          let here = subst (λ f. HasRows r now c.loop-index.entered.instances.items
+          c.enter.new.entered.instances.items (instances_from P f child)) fuel after in
           subst (HasRows r now rows c.enter.new.entered.instances.items)
-          (append_assoc calls indexes (instances_from P (65 - level_here) child) ∙ ap (λ l. calls ++ l) (sym (index_step P p n values level_here call m arguments index)))
-          (rows_more r now rows c.loop-index.entered.instances.items c.enter.new.entered.instances.items (calls ++ indexes) (instances_from P (65 - level_here) child)
-          (rows_grown r so_far now rows c.loop-index.entered.instances.items (calls ++ indexes) told.grown stood) here);
+          (append_assoc calls indexes (instances_from P (65 - level_here) child)
+          ∙ ap (λ l. calls ++ l) (sym (index_step P p n values level_here call m arguments index)))
+          (rows_more r now rows c.loop-index.entered.instances.items
+          c.enter.new.entered.instances.items (calls ++ indexes)
+          (instances_from P (65 - level_here) child)
+          (rows_grown r so_far now rows c.loop-index.entered.instances.items (calls ++ indexes)
+          told.grown stood) here);
     }
 
 pub returns-in_err-id-clause-err : goal.returns-in_err-id-clause-err
 returns-in_err-id-clause-err t c =
-    let e = err_from_is_err_and c.from_residual-in_err-id.result c.from_residual-in_err-id.ensures.1 in
+    let e = err_from_is_err_and c.from_residual-in_err-id.result
+    c.from_residual-in_err-id.ensures.1 in
     let r = c.args.reached.now in
     let nodes = r.nodes.items in
     let values = c.args.values.now in
@@ -188,21 +232,36 @@ returns-in_err-id-clause-err t c =
     let m = get_or nodes callee.node.0 n in
     let am = slice_get-get_or nodes callee.node.0 n c.callee_of-callee.ensures.within in
     let begun = c.in_ok-begun.ensures.judged P p n w at low judged in
-    let is = element_all (IsResolved (source_names P)) nodes c.args.entry.node.0 n w.reached.resolved at in
-    let same = c.deref-site-items.ensures.value ∙ ap (λ (k : ResolvedNode). k.calls.items) (c.index.ensures ∙ get_or_from_slice_get nodes c.args.entry.node.0 n c.index.result.now at) in
-    let arguments = c.callee_of-callee.ensures.values ∙ ap (λ l. values_at l (get_or items call no_call).first_argument (get_or items call no_call).arguments) c.deref.ensures.value in
-    let times = c.callee_of-callee.ensures.count ∙ ap (λ l. times_of l (get_or items call no_call).count) c.deref.ensures.value in
-    let read = call_read P r c.args.constants.now w p n values c.in_ok-begun.begun.statics.items begun.0.had items call no_call callee.node m callee.values.now callee.count
+    let is = element_all (IsResolved (source_names P)) nodes c.args.entry.node.0 n
+    w.reached.resolved at in
+    let same = c.deref-site-items.ensures.value
+    ∙ ap (λ (k : ResolvedNode). k.calls.items)
+    (c.index.ensures ∙ get_or_from_slice_get nodes c.args.entry.node.0 n c.index.result.now
+    at) in
+    let arguments = c.callee_of-callee.ensures.values
+    ∙ ap (λ l. values_at l (get_or items call no_call).first_argument
+    (get_or items call no_call).arguments) c.deref.ensures.value in
+    let times = c.callee_of-callee.ensures.count
+    ∙ ap (λ l. times_of l (get_or items call no_call).count) c.deref.ensures.value in
+    let read = call_read P r c.args.constants.now w p n values c.in_ok-begun.begun.statics.items
+    begun.0.had items call no_call callee.node m callee.values.now callee.count
     is same c.loop-call-test.true c.callee_of-callee.ensures.node am arguments times in
     let before = c.loop-index.invariant.judged P p n m w at am low judged in
     let deeper : level P (Child p call index) ≡ level_here + 1 = omega arith in
     let fuel : 66 - (level_here + 1) ≡ 65 - level_here = omega arith in
     let entered = length c.loop-index.entered.instances.items in
-    let refused = subst (λ f. IsRefusal (walk_refusal P entered (instances_from P f (instance_of (Child p call index) (node_of m) callee.values.now))) c.in_err-id.field-0.0) fuel
+    let refused = subst (λ f. IsRefusal
+    (walk_refusal P entered (instances_from P f
+    (instance_of (Child p call index) (node_of m) callee.values.now))) c.in_err-id.field-0.0)
+    fuel
     (c.in_err-id.ensures.err P (Child p call index) m w am deeper before.0) in
-    let row : c.len-row.result + 1 ≡ length c.args.entered.now.instances.items + 1 = omega (arith, c.len-row.ensures) in
-    refused_below P p n values level_here (length c.args.entered.now.instances.items) (c.len-row.result + 1) call (site_of (source_names P) (statics_of n) (get_or items call no_call)) m callee.values.now
-    callee.count index entered c.in_err-id.field-0.0 c.requires.low row begun.1 read.0 read.1 c.loop-index-test.true read.2 before.1 refused)
+    let row : c.len-row.result + 1 ≡ length c.args.entered.now.instances.items + 1 =
+    omega (arith, c.len-row.ensures) in
+    refused_below P p n values level_here (length c.args.entered.now.instances.items)
+    (c.len-row.result + 1) call
+    (site_of (source_names P) (statics_of n) (get_or items call no_call)) m callee.values.now
+    callee.count index entered c.in_err-id.field-0.0 c.requires.low row begun.1 read.0 read.1
+    c.loop-index-test.true read.2 before.1 refused)
 
 pub loop-call-preserved : goal.loop-call-preserved
 loop-call-preserved t c =
@@ -216,21 +275,33 @@ loop-call-preserved t c =
     let callee = c.callee_of-callee.result in
     let first = c.args.entered.now.specializations in
     -- the instances of the calls so far are those of the calls before, and those of this one
-    let whole = λ (P : Program) (p : Path) (n m : ResolvedNode) (w : IsWalkable P r c.args.constants.now) (at : slice_get nodes c.args.entry.node.0 ≡ Some n)
-    (am : slice_get nodes callee.node.0 ≡ Some m) (low : level P p ≡ level_here) (judged : AreJudged P r first).
+    let whole = λ (P : Program) (p : Path) (n m : ResolvedNode)
+    (w : IsWalkable P r c.args.constants.now)
+    (at : slice_get nodes c.args.entry.node.0 ≡ Some n)
+    (am : slice_get nodes callee.node.0 ≡ Some m) (low : level P p ≡ level_here)
+    (judged : AreJudged P r first).
     let begun = c.in_ok-begun.ensures.judged P p n w at low judged in
-    let is = element_all (IsResolved (source_names P)) nodes c.args.entry.node.0 n w.reached.resolved at in
-    let same = c.deref-site-items.ensures.value ∙ ap (λ (k : ResolvedNode). k.calls.items) (c.index.ensures ∙ get_or_from_slice_get nodes c.args.entry.node.0 n c.index.result.now at) in
-    let arguments = c.callee_of-callee.ensures.values ∙ ap (λ l. values_at l (get_or items call no_call).first_argument (get_or items call no_call).arguments) c.deref.ensures.value in
-    let times = c.callee_of-callee.ensures.count ∙ ap (λ l. times_of l (get_or items call no_call).count) c.deref.ensures.value in
-    let read = call_read P r c.args.constants.now w p n values c.in_ok-begun.begun.statics.items begun.0.had items call no_call callee.node m callee.values.now callee.count
+    let is = element_all (IsResolved (source_names P)) nodes c.args.entry.node.0 n
+    w.reached.resolved at in
+    let same = c.deref-site-items.ensures.value
+    ∙ ap (λ (k : ResolvedNode). k.calls.items)
+    (c.index.ensures ∙ get_or_from_slice_get nodes c.args.entry.node.0 n c.index.result.now
+    at) in
+    let arguments = c.callee_of-callee.ensures.values
+    ∙ ap (λ l. values_at l (get_or items call no_call).first_argument
+    (get_or items call no_call).arguments) c.deref.ensures.value in
+    let times = c.callee_of-callee.ensures.count
+    ∙ ap (λ l. times_of l (get_or items call no_call).count) c.deref.ensures.value in
+    let read = call_read P r c.args.constants.now w p n values c.in_ok-begun.begun.statics.items
+    begun.0.had items call no_call callee.node m callee.values.now callee.count
     is same c.loop-call-test.true c.callee_of-callee.ensures.node am arguments times in
     let ended : c.loop-index.index ≡ callee.count = omega arith in
     let s = site_of (source_names P) (statics_of n) (get_or items call no_call) in
     let calls = of_calls P p n values level_here call in
     call_step P p n values level_here call s read.0 read.1
     ∙ ap (λ l. calls ++ below P p n values level_here l) read.2
-    ∙ ap (λ k. calls ++ of_indexes P p n values level_here call m callee.values.now k) (sym ended) in
+    ∙ ap (λ k. calls ++ of_indexes P p n values level_here call m callee.values.now k)
+    (sym ended) in
     record {
       room = inv.room;
       few = inv.few;
@@ -241,7 +312,10 @@ loop-call-preserved t c =
           let am = slice_get-get_or nodes callee.node.0 n c.callee_of-callee.ensures.within in
           let before = inv.judged P p n m w at am low judged in (
             before.0,
-            subst (λ l. AreEntered P (c.len-row.result + 1) l (length c.loop-index.entered.instances.items)) (sym (whole P p n m w at am low judged)) before.1,
+            subst (λ l. AreEntered P (c.len-row.result + 1) l
+                (length c.loop-index.entered.instances.items))
+                (sym (whole P p n m w at am low judged))
+                before.1,
           );
       settled = λ P p n w at low judged settled.
           let m = get_or nodes callee.node.0 n in
@@ -251,23 +325,38 @@ loop-call-preserved t c =
           let now = c.loop-index.entered.specializations in
           let site = get_or items call no_call in
           let begun = c.in_ok-begun.ensures.judged P p n w at low judged in
-          let is = element_all (IsResolved (source_names P)) nodes c.args.entry.node.0 n w.reached.resolved at in
-          let same = c.deref-site-items.ensures.value ∙ ap (λ (k : ResolvedNode). k.calls.items) (c.index.ensures ∙ get_or_from_slice_get nodes c.args.entry.node.0 n c.index.result.now at) in
-          let there : slice_get n.calls.items call ≡ Some site = subst (λ l. slice_get l call ≡ Some site) same (slice_get-get_or items call no_call c.loop-call-test.true) in
-          let arguments = c.callee_of-callee.ensures.values ∙ ap (λ l. values_at l site.first_argument site.arguments) c.deref.ensures.value in
-          let times = c.callee_of-callee.ensures.count ∙ ap (λ l. times_of l site.count) c.deref.ensures.value in
+          let is = element_all (IsResolved (source_names P)) nodes c.args.entry.node.0 n
+          w.reached.resolved at in
+          let same = c.deref-site-items.ensures.value
+          ∙ ap (λ (k : ResolvedNode). k.calls.items)
+          (c.index.ensures ∙ get_or_from_slice_get nodes c.args.entry.node.0 n
+          c.index.result.now at) in
+          let there : slice_get n.calls.items call
+          ≡ Some site = subst (λ l. slice_get l call ≡ Some site) same
+          (slice_get-get_or items call no_call c.loop-call-test.true) in
+          let arguments = c.callee_of-callee.ensures.values
+          ∙ ap (λ l. values_at l site.first_argument site.arguments) c.deref.ensures.value in
+          let times = c.callee_of-callee.ensures.count
+          ∙ ap (λ l. times_of l site.count) c.deref.ensures.value in
           let before = c.loop-call.invariant.settled P p n w at low judged settled in
-          let later = called_later r statics first now (take call n.calls.items) c.loop-call.callees.items inv.since before.1 in (
+          let later = called_later r statics first now (take call n.calls.items)
+          c.loop-call.callees.items inv.since before.1 in (
             inv.settled P p n m w at am low judged settled,
             elim c.match-called.branch [
               | in-Some+in_ok-push b ↦
                   let id = b.in-Some.id in
-                  let known : IsKnown now callee.node callee.values.now id = subst (λ o. IfSome o (IsKnown now callee.node callee.values.now)) b.in-Some.is inv.known in
-                  called_next r statics now n.calls.items c.loop-call.callees.items c.match-called.callees.items call site id there later
-                  (called_known r now statics site callee.node callee.values.now id c.callee_of-callee.ensures.node arguments known)
-                  (ap (λ (v : Vec SpecializationId Global). v.items) b.callees-is ∙ b.in_ok-push.ensures.items)
+                  let known : IsKnown now callee.node callee.values.now id = subst
+                  (λ o. IfSome o (IsKnown now callee.node callee.values.now)) b.in-Some.is
+                  inv.known in
+                  called_next r statics now n.calls.items c.loop-call.callees.items
+                  c.match-called.callees.items call site id there later
+                  (called_known r now statics site callee.node callee.values.now id
+                  c.callee_of-callee.ensures.node arguments known)
+                  (ap (λ (v : Vec SpecializationId Global). v.items) b.callees-is
+                  ∙ b.in_ok-push.ensures.items)
               | in_default b ↦
-                  let once = entered_once P r c.args.constants.now w p n values statics begun.0 call site is there in
+                  let once = entered_once P r c.args.constants.now w p n values statics begun.0 call
+                  site is there in
                   let none : c.loop-index.index ≡ 0 = inv.none b.in_default.is in
                   absurd (omega (arith, once, none, times, c.loop-index-test.false))
             ],
@@ -277,7 +366,8 @@ loop-call-preserved t c =
           let m = get_or nodes callee.node.0 n in
           let am = slice_get-get_or nodes callee.node.0 n c.callee_of-callee.ensures.within in
           let rows = c.args.entered.now.instances.items ++ begun_row c.args.entry.origin ∷ [] in
-          subst (HasRows r c.loop-index.entered.specializations rows c.loop-index.entered.instances.items) (sym (whole P p n m w at am low judged))
+          subst (HasRows r c.loop-index.entered.specializations rows
+          c.loop-index.entered.instances.items) (sym (whole P p n m w at am low judged))
           (inv.stand P p n m w at am low judged path);
     }
 
@@ -286,12 +376,14 @@ settle-requires-clause-known t c =
     let node = c.args.entry.node in
     let so_far = c.loop-call.entered.specializations in
     let known = c.in_ok-begun.begun.known in
-    subst (λ vs. IfSome known (IsKnown so_far node vs)) (sym c.in_ok-from_slice.ensures.items)
-    (some_known_later c.args.entered.now.specializations so_far node c.args.values.now known c.loop-call.invariant.grown c.in_ok-begun.ensures.known)
+    some_known_later c.args.entered.now.specializations so_far node c.args.values.now known
+    c.loop-call.invariant.grown c.in_ok-begun.ensures.known
 
 pub returns-clause-grown : goal.returns-clause-grown
 returns-clause-grown t c =
-    ok_when c.settle.result _ (λ x e. λ i s at. IfOk-at_ok _ e c.settle.ensures.grown i s (c.loop-call.invariant.grown i s at))
+    ok_when c.settle.result _
+    (λ x e. λ i s at. IfOk-at_ok _ e c.settle.ensures.grown i s
+    (c.loop-call.invariant.grown i s at))
 
 pub returns-clause-ok : goal.returns-clause-ok
 returns-clause-ok t c =
@@ -302,30 +394,41 @@ returns-clause-ok t c =
     let before = length c.args.entered.now.instances.items in
     let statics = c.in_ok-begun.begun.statics.items in
     ok_when c.settle.result _ (λ x e. λ P p n w at low judged.
-    let is = element_all (IsResolved (source_names P)) nodes c.args.entry.node.0 n w.reached.resolved at in
+    let is = element_all (IsResolved (source_names P)) nodes c.args.entry.node.0 n
+    w.reached.resolved at in
     let so_far = c.loop-call.invariant.judged P p n w at low judged in
     let begun = c.in_ok-begun.ensures.judged P p n w at low judged in
-    let same = c.deref-site-items.ensures.value ∙ ap (λ (k : ResolvedNode). k.calls.items) (c.index.ensures ∙ get_or_from_slice_get nodes c.args.entry.node.0 n c.index.result.now at) in
+    let same = c.deref-site-items.ensures.value
+    ∙ ap (λ (k : ResolvedNode). k.calls.items)
+    (c.index.ensures ∙ get_or_from_slice_get nodes c.args.entry.node.0 n c.index.result.now
+    at) in
     let sites = ap length is.calls in
     let as_many = length-map n.calls.items (site_of (source_names P) (statics_of n)) in
     let items = ap length same in
-    let past : length (node_sites (node_of n)) ≤ c.loop-call.call = omega (arith, sites, as_many, items, c.loop-call-test.false) in
+    let past : length (node_sites (node_of n)) ≤ c.loop-call.call =
+    omega (arith, sites, as_many, items, c.loop-call-test.false) in
     let row : c.len-row.result + 1 ≡ before + 1 = omega (arith, c.len-row.ensures) in
-    let entered = all_entered P p n values level_here before (c.len-row.result + 1) c.loop-call.call (length c.loop-call.entered.instances.items) c.requires.low row begun.1 past so_far.1 in
-    let here = λ (q : Path) (k : ResolvedNode) (found : slice_get nodes c.args.entry.node.0 ≡ Some k).
-    subst (λ vs. IsJudged P k (instance_of q (node_of k) vs) statics) (sym c.in_ok-from_slice.ensures.items)
-    (elsewhere P p q k values statics (c.in_ok-begun.ensures.judged P p k w found low judged).0) in (
+    let entered = all_entered P p n values level_here before (c.len-row.result + 1) c.loop-call.call
+    (length c.loop-call.entered.instances.items) c.requires.low row begun.1 past so_far.1 in
+    let here = λ (q : Path) (k : ResolvedNode) (found : slice_get nodes c.args.entry.node.0
+    ≡ Some k).
+    elsewhere P p q k values statics (c.in_ok-begun.ensures.judged P p k w found low judged).0 in (
       IfOk-at_ok _ e (c.settle.ensures.judged P r c.requires.within so_far.0 here),
-      subst (AreEntered P before (instances_from P (66 - level_here) (instance_of p (node_of n) values))) (sym (IfOk-at_ok _ e c.settle.ensures.rows)) entered,
+      subst (AreEntered P before
+          (instances_from P (66 - level_here) (instance_of p (node_of n) values)))
+          (sym (IfOk-at_ok _ e c.settle.ensures.rows)) entered,
     ))
 
 pub returns-clause-err : goal.returns-clause-err
 returns-clause-err t c =
     memory_alone c.settle.result
-    (λ e. (P : Program) (p : Path) (n : ResolvedNode) → IsWalkable P c.args.reached.now c.args.constants.now
-    → slice_get c.args.reached.now.nodes.items c.args.entry.node.0 ≡ Some n → level P p ≡ c.args.entry.level
+    (λ e. (P : Program) (p : Path) (n : ResolvedNode)
+    → IsWalkable P c.args.reached.now c.args.constants.now
+    → slice_get c.args.reached.now.nodes.items c.args.entry.node.0 ≡ Some n
+    → level P p ≡ c.args.entry.level
     → AreJudged P c.args.reached.now c.args.entered.now.specializations
-    → IsRefusal (walk_refusal P (length c.args.entered.now.instances.items) (instances_from P (66 - c.args.entry.level) (instance_of p (node_of n) c.args.values.now))) e)
+    → IsRefusal (walk_refusal P (length c.args.entered.now.instances.items)
+    (instances_from P (66 - c.args.entry.level) (instance_of p (node_of n) c.args.values.now))) e)
     (λ P p n w at low judged. tt) c.settle.ensures.err
 
 pub returns-clause-settled : goal.returns-clause-settled
@@ -335,19 +438,28 @@ returns-clause-settled t c =
     let statics = c.in_ok-begun.begun.statics.items in
     ok_when c.settle.result _ (λ x e. λ P p n w at low judged settled.
     let so_far = c.loop-call.invariant.settled P p n w at low judged settled in
-    let same = c.deref-site-items.ensures.value ∙ ap (λ (k : ResolvedNode). k.calls.items) (c.index.ensures ∙ get_or_from_slice_get nodes c.args.entry.node.0 n c.index.result.now at) in
+    let same = c.deref-site-items.ensures.value
+    ∙ ap (λ (k : ResolvedNode). k.calls.items)
+    (c.index.ensures ∙ get_or_from_slice_get nodes c.args.entry.node.0 n c.index.result.now
+    at) in
     let items = ap length same in
-    let past : length n.calls.items ≤ c.loop-call.call = omega (arith, items, c.loop-call-test.false) in
+    let past : length n.calls.items ≤ c.loop-call.call =
+    omega (arith, items, c.loop-call-test.false) in
     IfOk-at_ok _ e (c.settle.ensures.settled r n at so_far.0
-    (all_called r statics c.loop-call.entered.specializations n.calls.items c.loop-call.callees.items c.loop-call.call past so_far.1)))
+    (all_called r statics c.loop-call.entered.specializations n.calls.items
+    c.loop-call.callees.items c.loop-call.call past so_far.1)))
 
 pub returns-clause-used : goal.returns-clause-used
 returns-clause-used t c =
-    let place : c.len-row.result ≡ length c.args.entered.now.instances.items = omega (arith, c.len-row.ensures) in
+    let place : c.len-row.result ≡ length c.args.entered.now.instances.items =
+    omega (arith, c.len-row.ensures) in
     ok_when c.settle.result _ (λ x e.
-    used_settled c.args.entered.now.specializations c.loop-call.entered.specializations c.settle.new.entered.specializations
-    c.args.entered.now.instances.items c.loop-call.entered.instances.items c.settle.new.entered.instances.items c.args.entry.origin c.len-row.result x
-    place c.loop-call.invariant.used (IfOk-at_ok _ e c.settle.ensures.placed) (IfOk-at_ok _ e c.settle.ensures.one_more))
+    used_settled c.args.entered.now.specializations c.loop-call.entered.specializations
+    c.settle.new.entered.specializations
+    c.args.entered.now.instances.items c.loop-call.entered.instances.items
+    c.settle.new.entered.instances.items c.args.entry.origin c.len-row.result x
+    place c.loop-call.invariant.used (IfOk-at_ok _ e c.settle.ensures.placed)
+    (IfOk-at_ok _ e c.settle.ensures.one_more))
 
 pub returns-clause-stand : goal.returns-clause-stand
 returns-clause-stand t c =
@@ -365,19 +477,26 @@ returns-clause-stand t c =
     let place : c.len-row.result ≡ length old = omega (arith, c.len-row.ensures) in
     ok_when c.settle.result _ (λ x e. λ P p n w at low judged path.
     let is = element_all (IsResolved (source_names P)) nodes node.0 n w.reached.resolved at in
-    let same = c.deref-site-items.ensures.value ∙ ap (λ (k : ResolvedNode). k.calls.items) (c.index.ensures ∙ get_or_from_slice_get nodes node.0 n c.index.result.now at) in
+    let same = c.deref-site-items.ensures.value
+    ∙ ap (λ (k : ResolvedNode). k.calls.items)
+    (c.index.ensures ∙ get_or_from_slice_get nodes node.0 n c.index.result.now at) in
     let sites = ap length is.calls in
     let as_many = length-map n.calls.items (site_of (source_names P) (statics_of n)) in
     let items = ap length same in
-    let past : length (node_sites (node_of n)) ≤ c.loop-call.call = omega (arith, sites, as_many, items, c.loop-call-test.false) in
+    let past : length (node_sites (node_of n)) ≤ c.loop-call.call =
+    omega (arith, sites, as_many, items, c.loop-call-test.false) in
     let here = instance_of p (node_of n) values in
     let calls = of_calls P p n values level_here c.loop-call.call in
-    let grown = rows_grown r so_far now rows middle calls (IfOk-at_ok _ e c.settle.ensures.grown) (c.loop-call.invariant.stand P p n w at low judged path) in
-    let under = subst (HasRows r now rows middle) (calls_all P p n values level_here c.loop-call.call past) grown in
-    let known = subst (λ vs. IsKnown now node vs x) c.in_ok-from_slice.ensures.items (IfOk-at_ok _ e c.settle.ensures.known) in
+    let grown = rows_grown r so_far now rows middle calls (IfOk-at_ok _ e c.settle.ensures.grown)
+    (c.loop-call.invariant.stand P p n w at low judged path) in
+    let under = subst (HasRows r now rows middle)
+    (calls_all P p n values level_here c.loop-call.call past) grown in
+    let known = IfOk-at_ok _ e c.settle.ensures.known in
     let tree = slice_get-map node_of nodes node.0 ∙ ap (option_map node_of) at in
     let stands = known_stands r now node n values x from p tree known in
-    let all = rows_settled r now old middle c.settle.new.entered.instances.items from p c.len-row.result x here (below P p n values level_here (children P here))
+    let all = rows_settled r now old middle c.settle.new.entered.instances.items from p
+    c.len-row.result x here (below P p n values level_here (children P here))
     place path stands under (IfOk-at_ok _ e c.settle.ensures.placed) in
     let fuel : 66 - level_here ≡ suc (65 - level_here) = omega (arith, c.requires.low) in
-    subst (λ f. HasRows r now old c.settle.new.entered.instances.items (instances_from P f here)) (sym fuel) all)
+    subst (λ f. HasRows r now old c.settle.new.entered.instances.items (instances_from P f here))
+    (sym fuel) all)

@@ -18,23 +18,31 @@ invariant-loop-call l =
     let first = l.fn.entered.specializations in
     record {
       room : length l.entered.instances.items ≤ 4096;
-      few : length l.entered.specializations + (l.row + 1) ≤ length first + length l.entered.instances.items;
+      few : length l.entered.specializations + (l.row + 1) ≤ length first
+          + length l.entered.instances.items;
       above : l.row < length l.entered.instances.items;
       grown : HasGrown first l.entered.specializations;
       judged : (P : Program) (p : Path) (n : ResolvedNode) → IsWalkable P l.reached l.constants
-          → slice_get l.reached.nodes.items l.entry.node.0 ≡ Some n → level P p ≡ l.entry.level → AreJudged P l.reached first
+          → slice_get l.reached.nodes.items l.entry.node.0 ≡ Some n → level P p ≡ l.entry.level
+          → AreJudged P l.reached first
           → AreJudged P l.reached l.entered.specializations
-          × AreEntered P (l.row + 1) (of_calls P p n l.values l.entry.level l.call) (length l.entered.instances.items);
+          × AreEntered P (l.row + 1) (of_calls P p n l.values l.entry.level l.call)
+          (length l.entered.instances.items);
       settled : (P : Program) (p : Path) (n : ResolvedNode) → IsWalkable P l.reached l.constants
-          → slice_get l.reached.nodes.items l.entry.node.0 ≡ Some n → level P p ≡ l.entry.level → AreJudged P l.reached first
+          → slice_get l.reached.nodes.items l.entry.node.0 ≡ Some n → level P p ≡ l.entry.level
+          → AreJudged P l.reached first
           → AreSettled l.reached first
           → AreSettled l.reached l.entered.specializations
-          × AreCalled l.reached l.entered.specializations l.begun.statics.items (take l.call n.calls.items) l.callees.items;
-      used : HasUsed first l.entered.specializations (l.fn.entered.instances.items ++ begun_row l.entry.origin ∷ []) l.entered.instances.items;
+          × AreCalled l.reached l.entered.specializations l.begun.statics.items
+          (take l.call n.calls.items) l.callees.items;
+      used : HasUsed first l.entered.specializations
+          (l.fn.entered.instances.items ++ begun_row l.entry.origin ∷ []) l.entered.instances.items;
       stand : (P : Program) (p : Path) (n : ResolvedNode) → IsWalkable P l.reached l.constants
-          → slice_get l.reached.nodes.items l.entry.node.0 ≡ Some n → level P p ≡ l.entry.level → AreJudged P l.reached first
+          → slice_get l.reached.nodes.items l.entry.node.0 ≡ Some n → level P p ≡ l.entry.level
+          → AreJudged P l.reached first
           → path_from (paths_after [] l.fn.entered.instances.items) l.entry.origin ≡ p
-          → HasRows l.reached l.entered.specializations (l.fn.entered.instances.items ++ begun_row l.entry.origin ∷ []) l.entered.instances.items
+          → HasRows l.reached l.entered.specializations
+          (l.fn.entered.instances.items ++ begun_row l.entry.origin ∷ []) l.entered.instances.items
           (of_calls P p n l.values l.entry.level l.call);
     }
 
@@ -43,27 +51,36 @@ invariant-loop-index l =
     let first = l.fn.entered.specializations in
     record {
       room : length l.entered.instances.items ≤ 4096;
-      few : length l.entered.specializations + (l.row + 1) ≤ length first + length l.entered.instances.items;
+      few : length l.entered.specializations + (l.row + 1) ≤ length first
+          + length l.entered.instances.items;
       above : l.row < length l.entered.instances.items;
       grown : HasGrown first l.entered.specializations;
       judged : (P : Program) (p : Path) (n m : ResolvedNode) → IsWalkable P l.reached l.constants
-          → slice_get l.reached.nodes.items l.entry.node.0 ≡ Some n → slice_get l.reached.nodes.items l.callee.node.0 ≡ Some m
+          → slice_get l.reached.nodes.items l.entry.node.0 ≡ Some n
+          → slice_get l.reached.nodes.items l.callee.node.0 ≡ Some m
           → level P p ≡ l.entry.level → AreJudged P l.reached first
           → AreJudged P l.reached l.entered.specializations
           × AreEntered P (l.row + 1)
-          (of_calls P p n l.values l.entry.level l.call ++ of_indexes P p n l.values l.entry.level l.call m l.callee.values.now l.index)
+          (of_calls P p n l.values l.entry.level l.call
+          ++ of_indexes P p n l.values l.entry.level l.call m l.callee.values.now l.index)
           (length l.entered.instances.items);
       since : HasGrown l.initial.entered.specializations l.entered.specializations;
       known : IfSome l.called (IsKnown l.entered.specializations l.callee.node l.callee.values.now);
       none : l.called ≡ None → l.index ≡ 0;
       settled : (P : Program) (p : Path) (n m : ResolvedNode) → IsWalkable P l.reached l.constants
-          → slice_get l.reached.nodes.items l.entry.node.0 ≡ Some n → slice_get l.reached.nodes.items l.callee.node.0 ≡ Some m
+          → slice_get l.reached.nodes.items l.entry.node.0 ≡ Some n
+          → slice_get l.reached.nodes.items l.callee.node.0 ≡ Some m
           → level P p ≡ l.entry.level → AreJudged P l.reached first → AreSettled l.reached first
           → AreSettled l.reached l.entered.specializations;
-      used : HasUsed first l.entered.specializations (l.fn.entered.instances.items ++ begun_row l.entry.origin ∷ []) l.entered.instances.items;
+      used : HasUsed first l.entered.specializations
+          (l.fn.entered.instances.items ++ begun_row l.entry.origin ∷ []) l.entered.instances.items;
       stand : (P : Program) (p : Path) (n m : ResolvedNode) → IsWalkable P l.reached l.constants
-          → slice_get l.reached.nodes.items l.entry.node.0 ≡ Some n → slice_get l.reached.nodes.items l.callee.node.0 ≡ Some m
-          → level P p ≡ l.entry.level → AreJudged P l.reached first → path_from (paths_after [] l.fn.entered.instances.items) l.entry.origin ≡ p
-          → HasRows l.reached l.entered.specializations (l.fn.entered.instances.items ++ begun_row l.entry.origin ∷ []) l.entered.instances.items
-          (of_calls P p n l.values l.entry.level l.call ++ of_indexes P p n l.values l.entry.level l.call m l.callee.values.now l.index);
+          → slice_get l.reached.nodes.items l.entry.node.0 ≡ Some n
+          → slice_get l.reached.nodes.items l.callee.node.0 ≡ Some m
+          → level P p ≡ l.entry.level → AreJudged P l.reached first
+          → path_from (paths_after [] l.fn.entered.instances.items) l.entry.origin ≡ p
+          → HasRows l.reached l.entered.specializations
+          (l.fn.entered.instances.items ++ begun_row l.entry.origin ∷ []) l.entered.instances.items
+          (of_calls P p n l.values l.entry.level l.call
+          ++ of_indexes P p n l.values l.entry.level l.call m l.callee.values.now l.index);
     }

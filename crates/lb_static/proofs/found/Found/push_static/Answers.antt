@@ -1,5 +1,4 @@
 -- What is kept with one more static expression.
-use Rattle.std.proofs.Common.{◌≡◌, ◌<◌, ◌∙◌, length, arith}
 use Rattle.std.specs.Result.{is_ok}
 use Rattle.lb_static.proofs.Growth.{kept_pushed, grown_static}
 use Rattle.lb_static.proofs.found.Found.push_static.Goals as goal
@@ -7,13 +6,13 @@ use Rattle.lb_static.proofs.found.Found.push_static.Goals as goal
 pub invariant_of-self : goal.invariant_of-self
 invariant_of-self c =
     let here = c.args.self.now in
-    let long : c.len-place.result ≡ length here.statics.items = c.len-place.ensures ∙ here.statics.ok.0 in
-    let few : length here.statics.items < 4294967295 = omega (arith, long, c.if-place.false) in
     record {
-      sound = kept_pushed here.naming here.statics.items c.push.new.self.items here.calls.items here.variables.items c.args.part (is_ok c.push.result) here.sound c.push.ensures.items few;
+      sound = kept_pushed here.naming here.statics.items c.push.new.self.items here.calls.items
+          here.variables.items c.args.part (is_ok c.push.result) here.sound c.push.ensures.items;
     }
 
 pub returns-clause-after : goal.returns-clause-after
 returns-clause-after c =
     let here = c.args.self.now in
-    grown_static here.naming here.statics.items c.push.new.self.items here.calls.items here.variables.items c.args.part here.sound c.in_ok-push.ensures.items
+    grown_static here.naming here.statics.items c.push.new.self.items here.calls.items
+    here.variables.items c.args.part here.sound c.in_ok-push.ensures.items

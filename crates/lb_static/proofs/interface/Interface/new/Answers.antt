@@ -5,5 +5,10 @@ use Rattle.lb_static.proofs.interface.Interface.new.Goals as goal
 
 pub invariant_of-result : goal.invariant_of-result
 invariant_of-result c =
-    let found = seen_there (λ v. v.now) c.interface_variables.result c.in_ok-variables.variables _ _ c.interface_variables.ensures c.in_ok-variables.ensures.value in
-    record { inputs_fit = inputs_fit c.args.node.now c.args.statics.now c.in_ok-variables.variables.now c.in_ok-shapes.shapes.items (sym found) c.in_ok-shapes.ensures }
+    let found = seen_there (λ v. v.now) c.interface_variables.result c.in_ok-variables.variables _ _
+    c.interface_variables.ensures c.in_ok-variables.ensures.value in
+    record {
+      inputs_fit = inputs_fit c.args.node.now c.args.statics.now
+          c.in_ok-variables.variables.now c.in_ok-shapes.shapes.items (sym found)
+          c.in_ok-shapes.ensures;
+    }

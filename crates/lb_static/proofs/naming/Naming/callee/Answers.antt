@@ -21,9 +21,12 @@ returns-then-len-arguments-clause-err c =
     let at = sym (nodes_placed c.args.self.now text) ∙ sym c.node_place.ensures ∙ c.in-Some.is in
     let x = c.index.result.now in
     let long : c.len.result ≡ length x.parameters.items = c.len.ensures ∙ x.parameters.ok.0 in
-    let differ : nat_eq c.args.arguments (length x.parameters.items) ≡ false = grind (arith, nat_tests, long, c.if-len-arguments.true) in
-    fault_within c.refused_name-then-len-arguments.result false _ c.refused_name-then-len-arguments.ensures
-    (λ e. takes_so source c.args.name.now text c.as_str-text.ensures c.in-Some.place x at c.index.ensures c.args.arguments ∙ differ)
+    let differ : nat_eq c.args.arguments (length x.parameters.items) ≡ false =
+    grind (arith, nat_tests, long, c.if-len-arguments.true) in
+    fault_within c.refused_name-then-len-arguments.result false _
+    c.refused_name-then-len-arguments.ensures
+    (λ e. takes_so source c.args.name.now text c.as_str-text.ensures c.in-Some.place x at
+    c.index.ensures c.args.arguments ∙ differ)
 
 pub returns-clause-ok : goal.returns-clause-ok
 returns-clause-ok c =
@@ -32,4 +35,5 @@ returns-clause-ok c =
     let at = sym (nodes_placed c.args.self.now text) ∙ sym c.node_place.ensures ∙ c.in-Some.is in
     let x = c.index.result.now in
     let long : c.len.result ≡ length x.parameters.items = c.len.ensures ∙ x.parameters.ok.0 in
-    callee_at source c.args.name.now text c.as_str-text.ensures c.in-Some.place x at c.index.ensures c.args.arguments (sym c.if-len-arguments.false ∙ long)
+    callee_at source c.args.name.now text c.as_str-text.ensures c.in-Some.place x at c.index.ensures
+    c.args.arguments (sym c.if-len-arguments.false ∙ long)

@@ -7,17 +7,24 @@ use Rattle.lb_static.proofs.naming.Naming.place.Goals as goal
 
 pub returns-in-Some-clause-found : goal.returns-in-Some-clause-found
 returns-in-Some-clause-found c =
-    variable_found c.args.self.now c.args.name.now c.as_str.result.now c.in-Some.place c.in-Some.ensures.value c.as_str.ensures c.if-place-self.true
+    variable_found c.args.self.now c.args.name.now c.as_str.result.now c.in-Some.place
+    c.in-Some.ensures.value c.as_str.ensures c.if-place-self.true
 
 pub returns-in-Some-clause-is : goal.returns-in-Some-clause-is
 returns-in-Some-clause-is c =
-    let less : nat_lt c.in-Some.place c.args.self.now.variables ≡ true = grind (arith, nat_tests, c.if-place-self.true) in
-    sym less ∙ is_variable_at c.args.self.now c.args.name.now c.as_str.result.now c.in-Some.place c.in-Some.ensures.value c.as_str.ensures
+    let less : nat_lt c.in-Some.place c.args.self.now.variables ≡ true =
+    grind (arith, nat_tests, c.if-place-self.true) in
+    sym less ∙ is_variable_at c.args.self.now c.args.name.now c.as_str.result.now c.in-Some.place
+    c.in-Some.ensures.value c.as_str.ensures
 
 pub returns-in_default-clause-is : goal.returns-in_default-clause-is
 returns-in_default-clause-is c =
-    let less : nat_lt c.in-Some.place c.args.self.now.variables ≡ false = grind (arith, nat_tests, c.if-place-self.false) in
-    sym less ∙ is_variable_at c.args.self.now c.args.name.now c.as_str.result.now c.in-Some.place c.in-Some.ensures.value c.as_str.ensures
+    let less : nat_lt c.in-Some.place c.args.self.now.variables ≡ false =
+    grind (arith, nat_tests, c.if-place-self.false) in
+    sym less ∙ is_variable_at c.args.self.now c.args.name.now c.as_str.result.now c.in-Some.place
+    c.in-Some.ensures.value c.as_str.ensures
 
 pub returns-in_default-2-clause-is : goal.returns-in_default-2-clause-is
-returns-in_default-2-clause-is c = sym (no_variable c.args.self.now c.args.name.now c.as_str.result.now (sym c.in_default.is ∙ c.place.ensures.value) c.as_str.ensures)
+returns-in_default-2-clause-is c = sym
+    (no_variable c.args.self.now c.args.name.now c.as_str.result.now
+    (sym c.in_default.is ∙ c.place.ensures.value) c.as_str.ensures)

@@ -7,5 +7,6 @@ use Rattle.lb_static.proofs.scope.Scope.place.Goals as goal
 
 pub returns-clause-value : goal.returns-clause-value
 returns-clause-value c =
-    c.get_index_of.ensures.index ∙ position_map (bytes_eq c.args.name.now) string_bytes c.self.inside.names.keys
+    c.get_index_of.ensures.index
+    ∙ position_map (bytes_eq c.args.name.now) string_bytes c.self.inside.names.keys
     ∙ ap (position (bytes_eq c.args.name.now)) c.self.view_is

@@ -6,5 +6,7 @@ use Rattle.lb_static.proofs.signature.Signature.name.Goals as goal
 
 pub returns : goal.returns
 returns c =
-    let below : c.args.i < length c.self.inside.elements.items = simp length-map at (rw (← c.self.view_is) at c.requires) in
-    rw (← c.self.view_is, c.as_str.ensures.value) (slice_get-map-map _ _ _ _ _ below c.index.ensures)
+    let below : c.args.i < length c.self.inside.elements.items =
+    simp length-map at (rw (← c.self.view_is) at c.requires) in
+    rw (← c.self.view_is, c.as_str.ensures.value)
+    (slice_get-map-map _ _ _ _ _ below c.index.ensures)

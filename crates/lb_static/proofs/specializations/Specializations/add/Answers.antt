@@ -14,20 +14,30 @@ returns-in-Some-clause-added c =
     let s = c.args.specialization in
     let told = c.in_ok-key.ensures in
     let values = told.1 ∙ c.deref.ensures.value in
-    let known = known_at es c.self.invariant c.in_ok-key.key c.in-Some.place (sym c.get_index_of.ensures.index ∙ c.in-Some.is) in
-    inl (subst (λ l. IsKnown l s.node s.values.items (record { 0 = c.in-Some.place })) c.self.view_is (rw (← told.0, ← values) known), refl)
+    let known = known_at es c.self.invariant c.in_ok-key.key c.in-Some.place
+    (sym c.get_index_of.ensures.index ∙ c.in-Some.is) in
+    inl (
+      subst (λ l. IsKnown l s.node s.values.items (record { 0 = c.in-Some.place }))
+          c.self.view_is (rw (← told.0, ← values) known),
+      refl,
+    )
 
-after : (c : goal.Joined-branch-3) → c.insert_full.new.self.entries ≡ c.self.inside.keyed.entries ++ (c.in_ok-key.key, c.args.specialization) ∷ []
+after : (c : goal.Joined-branch-3)
+    → c.insert_full.new.self.entries ≡ c.self.inside.keyed.entries
+    ++ (c.in_ok-key.key, c.args.specialization) ∷ []
 after c =
     let none : c.get_index_of.result ≡ None = c.in_default.is in
-    c.in_ok-place.ensures.entries ∙ added c.self.inside.keyed.entries c.in_ok-key.key c.args.specialization (sym c.get_index_of.ensures.index ∙ none)
+    c.in_ok-place.ensures.entries
+    ∙ added c.self.inside.keyed.entries c.in_ok-key.key c.args.specialization
+    (sym c.get_index_of.ensures.index ∙ none)
 
 pub invariant_of-self-2 : goal.invariant_of-self-2
 invariant_of-self-2 c =
     let es = c.self.inside.keyed.entries in
     let told = c.in_ok-key.ensures in
     let values = told.1 ∙ c.deref.ensures.value in
-    subst AreKeyed (sym (after c)) (keyed_more es c.in_ok-key.key c.args.specialization c.self.invariant told.0 values)
+    subst AreKeyed (sym (after c))
+    (keyed_more es c.in_ok-key.key c.args.specialization c.self.invariant told.0 values)
 
 pub returns-clause-added : goal.returns-clause-added
 returns-clause-added c =
@@ -35,12 +45,18 @@ returns-clause-added c =
     let s = c.args.specialization in
     let told = c.in_ok-key.ensures in
     let values = told.1 ∙ c.deref.ensures.value in
-    let none = unknown es c.self.invariant c.in_ok-key.key (sym c.get_index_of.ensures.index ∙ c.in_default.is) in
-    let unknown_here = subst (λ l. IsUnknown l s.node s.values.items) c.self.view_is (rw (← told.0, ← values) none) in
-    let view = ap (map (λ e. e.1)) (after c) ∙ added_view es c.in_ok-key.key s ∙ ap (λ l. l ++ s ∷ []) c.self.view_is in
-    let more : length c.insert_full.new.self.entries ≡ length es + 1 = ap length (after c) ∙ length-append es ((c.in_ok-key.key, s) ∷ []) in
-    let below : c.in_ok-place.place < length c.insert_full.new.self.entries = c.in_ok-place.ensures.within in
-    let past = past_all (key_eq c.in_ok-key.key) (keys c.self.inside.keyed) (sym c.get_index_of.ensures.index ∙ c.in_default.is) in
+    let none = unknown es c.self.invariant c.in_ok-key.key
+    (sym c.get_index_of.ensures.index ∙ c.in_default.is) in
+    let unknown_here = subst (λ l. IsUnknown l s.node s.values.items) c.self.view_is
+    (rw (← told.0, ← values) none) in
+    let view = ap (map (λ e. e.1)) (after c) ∙ added_view es c.in_ok-key.key s
+    ∙ ap (λ l. l ++ s ∷ []) c.self.view_is in
+    let more : length c.insert_full.new.self.entries ≡ length es + 1 =
+    ap length (after c) ∙ length-append es ((c.in_ok-key.key, s) ∷ []) in
+    let below : c.in_ok-place.place < length c.insert_full.new.self.entries =
+    c.in_ok-place.ensures.within in
+    let past = past_all (key_eq c.in_ok-key.key) (keys c.self.inside.keyed)
+    (sym c.get_index_of.ensures.index ∙ c.in_default.is) in
     let index = c.in_ok-place.ensures.index in
     let as_many = length-map es (λ e. e.0) in
     let count = ap length (sym c.self.view_is) ∙ length-map es (λ e. e.1) in

@@ -1,5 +1,5 @@
 -- No place has a turn at first.
-use Rattle.std.proofs.Common.{◌≡◌, None, subst, sym, arith, rules, replicate}
+use Rattle.std.proofs.Common.{◌≡◌, None, subst, sym, rules, replicate}
 use Rattle.lb_static.specs.Visiting.{HasTurns}
 use Rattle.lb_static.proofs.Visiting.{turns_none}
 use Rattle.lb_static.proofs.visits.Visits.new.Goals as goal
@@ -7,5 +7,5 @@ use Rattle.lb_static.proofs.visits.Visits.new.Goals as goal
 pub invariant_of-result : goal.invariant_of-result
 invariant_of-result c =
     let none : c.in_ok-turns.turns.items ≡ replicate c.args.count None = search rules in
-    let as_many = c.in_ok-turns.ensures.len in
-    (subst (λ l. HasTurns l c.in_ok-turns.turns.items) (sym c.new-order.ensures.items) (turns_none c.args.count c.in_ok-turns.turns.items none), omega arith)
+    subst (λ l. HasTurns l c.in_ok-turns.turns.items) (sym c.new-order.ensures.items)
+    (turns_none c.args.count c.in_ok-turns.turns.items none)
