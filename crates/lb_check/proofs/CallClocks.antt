@@ -1,10 +1,9 @@
 -- The arguments that the code finds to be variables are those of the definition.
-use Rattle.std.proofs.Common.{◌≡◌, ℕ, zero, suc, ◌<◌, ◌≤◌, Bool, true, false, ◌+◌, List, [], ◌∷◌, ◌++◌, take, map, length, get_or, Option, Some, None, refl, ap, sym, ◌∙◌, subst, arith}
+use Rattle.std.proofs.Common.{◌≡◌, ℕ, zero, suc, ◌<◌, Bool, true, false, ◌+◌, List, [], ◌∷◌, ◌++◌, take, map, length, Option, Some, None, refl, ap, sym, ◌∙◌, subst, arith}
 use Rattle.std.specs.Prelude.{◌&&◌, ◌||◌, not, nat_lt, is_some, slice_get}
 use Rattle.std.specs.Str.{bytes_eq}
 use Rattle.std.proofs.lemmas.Bool.Decides.{nat_tests}
 use Rattle.std.proofs.lemmas.Slice.Eq.{bytes_eq-Decides}
-use Rattle.std.proofs.lemmas.Option.{slice_get-get_or, slice_get_past}
 use Rattle.lb_syntax.specs.Lists.{holds, either_or, listed, zip2}
 use Rattle.std.proofs.lemmas.List.{append_assoc, length-append, map-append}
 use Rattle.lb_static.specs.Parts.{variable_names}
@@ -24,73 +23,39 @@ use Rattle.lb_static.specs.declared.resolved.VariableId.{VariableId}
 use Rattle.lb_check.specs.Clocks.{Given, as_variable, given_inputs}
 use Rattle.lb_static.specs.declared.resolved.Term.{Term, Variable, Value, Group'}
 use Rattle.lb_check.specs.CallClocks.{variable_of, is_variable_at, is_given}
-use Rattle.lb_check.proofs.ClockedNodes.{held, same_bytes, not_among, get_name, among_first, zip_split, first_names, all_taken, same_taken, as_many_names, within_names}
+use Rattle.lb_check.proofs.ClockedNodes.{get_name, among_first, zip_split, first_names, all_taken, same_taken, as_many_names, within_names}
 use Rattle.lb_check.specs.ClockRules.{is_given_variable, are_given_variables}
 use Rattle.lb_check.specs.ClockDepths.{waits_below}
-
-here_at : (es : List Term) (i : ℕ) (d : Term) → i < length es → is_variable_at es i ≡ is_some (variable_of (get_or es i d))
-here_at es i d lt = ap (holds (λ t. is_some (variable_of t))) (slice_get-get_or es i d lt)
-
-none_past : (es : List Term) (i : ℕ) → length es ≤ i → is_variable_at es i ≡ false
-none_past es i le = ap (holds (λ t. is_some (variable_of t))) (slice_get_past es i le)
-
-below_true : (i n : ℕ) → i < n → nat_lt i n ≡ true
-below_true i n lt = grind (arith, nat_tests)
-
-and_first : (a b : Bool) → (a && b) ≡ true → a ≡ true
-and_first true b e = refl
-and_first false b e = absurd cc
-
-and_second : (a b : Bool) → (a && b) ≡ true → b ≡ true
-and_second true b e = e
-and_second false b e = absurd cc
-
-not_true : (b : Bool) → not b ≡ true → b ≡ false
-not_true true e = absurd cc
-not_true false e = refl
-
-or_first : (a b : Bool) → (a || b) ≡ false → a ≡ false
-or_first true b e = absurd cc
-or_first false b e = refl
-
-or_second : (a b : Bool) → (a || b) ≡ false → b ≡ false
-or_second true b e = absurd cc
-or_second false b e = e
+use Rattle.lb_check.proofs.TruthValues.{and_first, and_second, and_true, not_true, or_first, or_second}
+use Rattle.lb_check.proofs.DistinctNames.{not_among, unequal, distinct_first}
+use Rattle.lb_check.proofs.NodePlaces.{held}
+use Rattle.lb_check.proofs.ClockTests.{among_at}
 
 -- ## Names
-
-among_held : (names : List Name) (i : ℕ) (x : Name) → slice_get names i ≡ Some x → among x names ≡ true
-among_held [] i x e = absurd cc
-among_held (n ∷ names) zero x e =
-    let same : n ≡ x = cc in
-    let z : bytes_eq x n ≡ true = (bytes_eq-Decides x n).1 (sym same) in
-    rw z refl
-among_held (n ∷ names) (suc i) x e = rw (among_held names i x e) (or_true (bytes_eq x n))
-  where
-    or_true : (b : Bool) → (b || true) ≡ true
-    or_true true = refl
-    or_true false = refl
 
 -- whether an expression is a variable of a node with these names
 abbrev pub is_own : List Name → Expr → Bool
 is_own names e = holds (λ y. among y names) (as_variable e)
 
 module _ (texts : Texts) (n : Counts) (as_many : n.variables ≡ length texts.variables) where
-  own_value : (s : Static) → is_no_variable texts.variables s ≡ true → is_own texts.variables (named_value s) ≡ false
+  own_value : (s : Static) → is_no_variable texts.variables s ≡ true →
+      is_own texts.variables (named_value s) ≡ false
   own_value (tree.Named x) e = not_true (among x texts.variables) e
   own_value (tree.Whole m) e = refl
   own_value (tree.Negated s) e = refl
   own_value (tree.Combined op s t) e = refl
   own_value (tree.Grouped s) e = refl
 
-  own_variable : (x : VariableId) → is_variable n x ≡ true → is_own texts.variables (tree.Variable (name_at texts.variables x)) ≡ true
+  own_variable : (x : VariableId) → is_variable n x ≡ true →
+      is_own texts.variables (tree.Variable (name_at texts.variables x)) ≡ true
   own_variable x w =
       let lt : x.0 < length texts.variables = grind (arith, nat_tests) in
       let z = held texts.variables x.0 lt in
-      ap (λ o. among (either_or o []) texts.variables) z.1 ∙ among_held texts.variables x.0 z.0 z.1
+      ap (λ o. among (either_or o []) texts.variables) z.1 ∙ among_at texts.variables x.0 z.0 z.1
 
   -- what the code finds to be a variable is one of the node
-  pub own_term : (t : Term) → is_within n t ≡ true → is_unhidden texts t ≡ true → is_own texts.variables (expr_of texts t) ≡ is_some (variable_of t)
+  pub own_term : (t : Term) → is_within n t ≡ true → is_unhidden texts t ≡ true →
+      is_own texts.variables (expr_of texts t) ≡ is_some (variable_of t)
   unfolding variable_of
   own_term (Variable x) w u = own_variable x w
   own_term (Value i) w u = own_value (static_at texts.statics i) u
@@ -104,65 +69,63 @@ pub skipped : (o : Option Name) (c x : Name) (rest : Given) → bytes_eq c x ≡
 skipped None c x rest other = refl
 skipped (Some y) c x rest other = rw other refl
 
-pub none_given : (x : Name) (ds : List Declaration) (es : tree.Exprs) → among x (map (λ d. d.name) ds) ≡ false → named (λ g. g.0) x (given_inputs ds es) ≡ None
+pub none_given : (x : Name) (ds : List Declaration) (es : tree.Exprs) →
+    among x (map (λ d. d.name) ds) ≡ false → named (λ g. g.0) x (given_inputs ds es) ≡ None
 none_given x [] es a = refl
 none_given x (c ∷ ds) tree.Nil a = refl
 none_given x (c ∷ ds) (tree.Cons e es) a =
-    skipped (as_variable e) c.name x (given_inputs ds es) (same_bytes x c.name (or_first (bytes_eq x c.name) _ a))
+    skipped (as_variable e) c.name x (given_inputs ds es)
+    (unequal x c.name (or_first (bytes_eq x c.name) _ a))
     ∙ none_given x ds es (or_second (bytes_eq x c.name) _ a)
 
-first_given : (names : List Name) (o : Option Name) (c x : Name) (rest : Given) → bytes_eq c x ≡ true → named (λ g. g.0) x rest ≡ None
-    → holds (λ g. among g.1 names) (named (λ g. g.0) x (listed (λ y. (c, y) ∷ []) o ++ rest)) ≡ holds (λ y. among y names) o
+first_given : (names : List Name) (o : Option Name) (c x : Name) (rest : Given) →
+    bytes_eq c x ≡ true → named (λ g. g.0) x rest ≡ None
+    → holds (λ g. among g.1 names)
+    (named (λ g. g.0) x (listed (λ y. (c, y) ∷ []) o ++ rest)) ≡ holds (λ y. among y names) o
 first_given names None c x rest here no_more = ap (holds (λ g. among g.1 names)) no_more
 first_given names (Some y) c x rest here no_more = rw here refl
 
 module _ (texts : Texts) (n : Counts) (as_many : n.variables ≡ length texts.variables) where
-  given_at : (ds : List Declaration) (es : List Term) (y : ℕ) (d : Declaration) → are_distinct (map (λ d. d.name) ds) ≡ true → slice_get ds y ≡ Some d
+  given_at : (ds : List Declaration) (es : List Term) (y : ℕ) (d : Declaration) →
+      are_distinct (map (λ d. d.name) ds) ≡ true → slice_get ds y ≡ Some d
       → list_all (is_within n) es ≡ true → list_all (is_unhidden texts) es ≡ true
-      → holds (λ g. among g.1 texts.variables) (named (λ g. g.0) d.name (given_inputs ds (exprs_of texts es))) ≡ is_variable_at es y
+      → holds (λ g. among g.1 texts.variables)
+      (named (λ g. g.0) d.name (given_inputs ds (exprs_of texts es))) ≡ is_variable_at es y
   given_at [] es y d u e w v = absurd cc
   given_at (c ∷ ds) [] y d u e w v = refl
   given_at (c ∷ ds) (t ∷ es) zero d u e w v =
       let same : c ≡ d = cc in
       let a = not_true _ (and_first (not (among c.name (map (λ d. d.name) ds))) _ u) in
-      let here : bytes_eq c.name d.name ≡ true = (bytes_eq-Decides c.name d.name).1 (ap (λ z. z.name) same) in
-      let gone : among d.name (map (λ d. d.name) ds) ≡ false = subst (λ z. among z.name (map (λ d. d.name) ds) ≡ false) same a in
-      first_given texts.variables (as_variable (expr_of texts t)) c.name d.name (given_inputs ds (exprs_of texts es)) here (none_given d.name ds (exprs_of texts es) gone)
-      ∙ own_term texts n as_many t (and_first (is_within n t) _ w) (and_first (is_unhidden texts t) _ v)
+      let here : bytes_eq c.name d.name ≡ true =
+      (bytes_eq-Decides c.name d.name).1 (ap (λ z. z.name) same) in
+      let gone : among d.name (map (λ d. d.name) ds) ≡ false =
+      subst (λ z. among z.name (map (λ d. d.name) ds) ≡ false) same a in
+      first_given texts.variables (as_variable (expr_of texts t)) c.name d.name
+      (given_inputs ds (exprs_of texts es)) here (none_given d.name ds (exprs_of texts es) gone)
+      ∙ own_term texts n as_many t (and_first (is_within n t) _ w)
+      (and_first (is_unhidden texts t) _ v)
   given_at (c ∷ ds) (t ∷ es) (suc y) d u e w v =
       let a = not_true _ (and_first (not (among c.name (map (λ d. d.name) ds))) _ u) in
       let other = not_among c.name (map (λ d. d.name) ds) y d.name a (get_name ds y d e) in
-      ap (holds (λ g. among g.1 texts.variables)) (skipped (as_variable (expr_of texts t)) c.name d.name (given_inputs ds (exprs_of texts es)) other)
-      ∙ given_at ds es y d (and_second (not (among c.name (map (λ d. d.name) ds))) _ u) e (and_second (is_within n t) _ w) (and_second (is_unhidden texts t) _ v)
+      ap (holds (λ g. among g.1 texts.variables))
+      (skipped (as_variable (expr_of texts t)) c.name d.name
+      (given_inputs ds (exprs_of texts es)) other)
+      ∙ given_at ds es y d (and_second (not (among c.name (map (λ d. d.name) ds))) _ u) e
+      (and_second (is_within n t) _ w) (and_second (is_unhidden texts t) _ v)
 
 -- ## Parameters that wait for an input
 
-get_first : {A : Type 0} (xs ys : List A) (i : ℕ) (x : A) → slice_get xs i ≡ Some x → slice_get (xs ++ ys) i ≡ Some x
+get_first : {A : Type 0} (xs ys : List A) (i : ℕ) (x : A) → slice_get xs i ≡ Some x →
+    slice_get (xs ++ ys) i ≡ Some x
 get_first [] ys i x e = absurd cc
 get_first (z ∷ xs) ys zero x e = e
 get_first (z ∷ xs) ys (suc i) x e = get_first xs ys i x e
 
-and_true : (b : Bool) → (b && true) ≡ b
-and_true true = refl
-and_true false = refl
-
-distinct_first : (xs ys : List Name) → are_distinct (xs ++ ys) ≡ true → are_distinct xs ≡ true
-distinct_first [] ys e = refl
-distinct_first (x ∷ xs) ys e =
-    let a = among_append x xs ys (not_true _ (and_first _ (are_distinct (xs ++ ys)) e)) in
-    rw a (distinct_first xs ys (and_second (not (among x (xs ++ ys))) _ e))
-  where
-    among_append : (x : Name) (ys zs : List Name) → among x (ys ++ zs) ≡ false → among x ys ≡ false
-    among_append x [] zs e = refl
-    among_append x (y ∷ ys) zs e =
-        let a = or_first (bytes_eq x y) _ e in
-        let b = among_append x ys zs (or_second (bytes_eq x y) _ e) in
-        rw a b
-
 module _ (here callee : ResolvedNode) (nodes : List Name) (ec : IsResolved nodes callee)
     (distinct : are_distinct (variable_names (node_of callee)) ≡ true)
     (as_many : length here.variables.items ≡ length (variable_names (node_of here)))
-    (es : List Term) (w : list_all (is_within (counts_of here)) es ≡ true) (u : list_all (is_unhidden (texts_of here)) es ≡ true) where
+    (es : List Term) (w : list_all (is_within (counts_of here)) es ≡ true)
+    (u : list_all (is_unhidden (texts_of here)) es ≡ true) where
   abbrev given : Given
   given = given_inputs (node_of callee).inputs (exprs_of (texts_of here) es)
 
@@ -172,61 +135,81 @@ module _ (here callee : ResolvedNode) (nodes : List Name) (ec : IsResolved nodes
   abbrev others : List Declaration
   others = (node_of callee).outputs ++ (node_of callee).locals
 
-  input_names : take (length (node_of callee).inputs) names ≡ map (λ d. d.name) (node_of callee).inputs
+  input_names : take (length (node_of callee).inputs) names ≡ map (λ d. d.name)
+      (node_of callee).inputs
   input_names = first_names (node_of callee).inputs others
 
   inputs_distinct : are_distinct (map (λ d. d.name) (node_of callee).inputs) ≡ true
   inputs_distinct =
       distinct_first (map (λ d. d.name) (node_of callee).inputs) (map (λ d. d.name) others)
-      (subst (λ l. are_distinct l ≡ true) (map-append (λ d. d.name) (node_of callee).inputs others) distinct)
+      (subst (λ l. are_distinct l ≡ true)
+      (map-append (λ d. d.name) (node_of callee).inputs others) distinct)
 
   -- the clock variable of a parameter, where it is an input
   input_given : (y : VariableId) → y.0 < length (node_of callee).inputs
-      → holds (λ g. among g.1 (variable_names (node_of here))) (named (λ g. g.0) (name_at names y) given) ≡ is_variable_at es y.0
+      → holds (λ g. among g.1 (variable_names (node_of here)))
+      (named (λ g. g.0) (name_at names y) given) ≡ is_variable_at es y.0
   input_given y lt =
       let d = held (node_of callee).inputs y.0 lt in
       let whole = get_first (node_of callee).inputs others y.0 d.0 d.1 in
-      let name : name_at names y ≡ d.0.name = ap (λ o. either_or o []) (get_name (variables (node_of callee)) y.0 d.0 whole) in
-      ap (λ x. holds (λ g. among g.1 (variable_names (node_of here))) (named (λ g. g.0) x given)) name
-      ∙ given_at (texts_of here) (counts_of here) as_many (node_of callee).inputs es y.0 d.0 inputs_distinct d.1 w u
+      let name : name_at names y ≡ d.0.name =
+      ap (λ o. either_or o []) (get_name (variables (node_of callee)) y.0 d.0 whole) in
+      ap (λ x. holds (λ g. among g.1 (variable_names (node_of here))) (named (λ g. g.0) x given))
+      name
+      ∙ given_at (texts_of here) (counts_of here) as_many
+      (node_of callee).inputs es y.0 d.0 inputs_distinct d.1 w u
 
-  given_by : (y : VariableId) (b : Bool) → nat_lt y.0 (length (node_of callee).inputs) ≡ b → among (name_at names y) (map (λ i. i.name) (node_of callee).inputs) ≡ b
+  given_by : (y : VariableId) (b : Bool) → nat_lt y.0 (length (node_of callee).inputs) ≡ b →
+      among (name_at names y) (map (λ i. i.name) (node_of callee).inputs) ≡ b
       → (not (among (name_at names y) (map (λ i. i.name) (node_of callee).inputs))
-      || holds (λ g. among g.1 (variable_names (node_of here))) (named (λ g. g.0) (name_at names y) given))
+      || holds (λ g. among g.1 (variable_names (node_of here)))
+      (named (λ g. g.0) (name_at names y) given))
       ≡ (not (nat_lt y.0 (length (node_of callee).inputs)) || is_variable_at es y.0)
   given_by y false is e = rw (is, e) refl
   given_by y true is e =
       let lt : y.0 < length (node_of callee).inputs = grind (arith, nat_tests) in
       rw (is, e) (input_given y lt)
 
-  given_one : (x : Name) (v : Declared) (o : Option Sampling) → v.clock ≡ o → waits_below (length names) v ≡ true
-      → is_given_variable (node_of here) (node_of callee) given (declaration_of names (statics_of callee) x v) ≡ is_given (length (node_of callee).inputs) es v
+  given_one : (x : Name) (v : Declared) (o : Option Sampling) → v.clock ≡ o →
+      waits_below (length names) v ≡ true
+      → is_given_variable (node_of here) (node_of callee) given
+      (declaration_of names (statics_of callee) x v) ≡ is_given
+      (length (node_of callee).inputs) es v
   given_one x v None is b = rw is refl
   given_one x v (Some s) is b =
       let y = s.variable in
       let below : nat_lt y.0 (length names) ≡ true = rw is at b in
       let less : y.0 < length names = grind (arith, nat_tests) in
       let z = held names y.0 less in
-      let found : among (name_at names y) (map (λ i. i.name) (node_of callee).inputs) ≡ nat_lt y.0 (length (node_of callee).inputs) =
+      let found : among (name_at names y) (map (λ i. i.name) (node_of callee).inputs) ≡ nat_lt y.0
+      (length (node_of callee).inputs) =
       ap (λ o. among (either_or o []) (map (λ i. i.name) (node_of callee).inputs)) z.1
-      ∙ ap (among z.0) (sym input_names) ∙ among_first names (length (node_of callee).inputs) y.0 z.0 distinct z.1 in
-      rw is (ap (λ b. b && true) (given_by y (nat_lt y.0 (length (node_of callee).inputs)) refl found) ∙ and_true _)
+      ∙ ap (among z.0) (sym input_names)
+      ∙ among_first names (length (node_of callee).inputs) y.0 z.0 distinct z.1 in
+      rw is
+      (ap (λ b. b && true) (given_by y (nat_lt y.0 (length (node_of callee).inputs)) refl found)
+      ∙ and_true _)
 
-  given_list : (xs : List Name) (vs : List Declared) → length xs ≡ length vs → list_all (waits_below (length names)) vs ≡ true
-      → list_all (is_given_variable (node_of here) (node_of callee) given) (zip2 (declaration_of names (statics_of callee)) xs vs)
+  given_list : (xs : List Name) (vs : List Declared) → length xs ≡ length vs →
+      list_all (waits_below (length names)) vs ≡ true
+      → list_all (is_given_variable (node_of here) (node_of callee) given)
+      (zip2 (declaration_of names (statics_of callee)) xs vs)
       ≡ list_all (is_given (length (node_of callee).inputs) es) vs
   given_list [] [] len b = refl
   given_list (x ∷ xs) [] len b = absurd (omega arith)
   given_list [] (v ∷ vs) len b = absurd (omega arith)
   given_list (x ∷ xs) (v ∷ vs) len b =
-      let one = given_one x v v.clock refl (and_first _ (list_all (waits_below (length names)) vs) b) in
+      let one = given_one x v v.clock refl
+      (and_first _ (list_all (waits_below (length names)) vs) b) in
       let more = given_list xs vs (omega arith) (and_second (waits_below (length names) v) _ b) in
-      ap (λ b. b && list_all (is_given_variable (node_of here) (node_of callee) given) (zip2 (declaration_of names (statics_of callee)) xs vs)) one
+      ap (λ b. b && list_all (is_given_variable (node_of here) (node_of callee) given)
+      (zip2 (declaration_of names (statics_of callee)) xs vs)) one
       ∙ ap (λ b. is_given (length (node_of callee).inputs) es v && b) more
 
   -- what the code finds of all parameters is what the rule says
   pub all_given : are_given_variables (node_of here) (node_of callee) (exprs_of (texts_of here) es)
-      ≡ list_all (is_given callee.inputs es) (take (callee.inputs + callee.outputs) callee.variables.items)
+      ≡ list_all (is_given callee.inputs es)
+      (take (callee.inputs + callee.outputs) callee.variables.items)
   all_given =
       let f = declaration_of names (statics_of callee) in
       let allowed = (node_of callee).inputs ++ (node_of callee).outputs in
@@ -234,11 +217,14 @@ module _ (here callee : ResolvedNode) (nodes : List Name) (ec : IsResolved nodes
       let vs = callee.variables.items in
       let many = as_many_names nodes callee ec distinct in
       let split = zip_split f names vs allowed (node_of callee).locals
-      (ec.declared ∙ sym (append_assoc (node_of callee).inputs (node_of callee).outputs (node_of callee).locals)) in
+      (ec.declared ∙ sym (append_assoc (node_of callee).inputs (node_of callee).outputs
+      (node_of callee).locals)) in
       let size : k ≡ callee.inputs + callee.outputs =
       length-append (node_of callee).inputs (node_of callee).outputs
-      ∙ ap (λ m. m + length (node_of callee).outputs) (sym ec.inputs) ∙ ap (λ m. callee.inputs + m) (sym ec.outputs) in
+      ∙ ap (λ m. m + length (node_of callee).outputs) (sym ec.inputs)
+      ∙ ap (λ m. callee.inputs + m) (sym ec.outputs) in
       ap (list_all (is_given_variable (node_of here) (node_of callee) given)) split.0
-      ∙ given_list (take k names) (take k vs) (same_taken k names vs (sym many)) (all_taken _ k vs (within_names nodes callee ec distinct))
+      ∙ given_list (take k names) (take k vs) (same_taken k names vs (sym many))
+      (all_taken _ k vs (within_names nodes callee ec distinct))
       ∙ ap (λ m. list_all (is_given m es) (take k vs)) (sym ec.inputs)
       ∙ ap (λ m. list_all (is_given callee.inputs es) (take m vs)) size

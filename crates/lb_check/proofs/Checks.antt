@@ -1,14 +1,16 @@
 -- The first of the rules of types, clocks and definitions that an elaborated program breaks.
-use Rattle.std.proofs.Common.{◌≡◌, Bool, true, false, Option, Some, None, Err, refl, subst}
+use Rattle.std.proofs.Common.{◌≡◌, Bool, true, false, Option, Some, None, Err, refl, sym, subst}
 use Rattle.std.specs.Prelude.{is_some, not}
 use Rattle.std.specs.List.{list_all}
-use Rattle.lb_syntax.specs.Lists.{or_else, holds}
+use Rattle.lb_syntax.specs.Lists.{or_else}
 use Rattle.lb_syntax.specs.Refusals.{Refusal, E4, E7, E8, E9, E10, E11, unless}
-use Rattle.lb_static.specs.Elaborated.{IsElaborated}
-use Rattle.lb_static.specs.Instances.{Program, Root, instance_at, instances}
+use Rattle.lb_static.specs.Elaborated.{elaborated_program, IsElaborated, IsLawful}
+use Rattle.lb_static.specs.Instances.{Program, instances}
 use Rattle.lb_static.specs.Names.{keeps_names, is_well_founded}
-use Rattle.lb_static.specs.Walk.{has_no_parameters, is_root, walk_refusal}
-use Rattle.lb_static.specs.declared.elab.Elab.{Elab}
+use Rattle.lb_static.specs.Walk.{has_no_parameters, static_refusal, walk_refusal}
+use Rattle.lb_static.specs.declared.elab.Elaboration.{Elaboration}
+use Rattle.lb_static.specs.declared.reach.Reached.{Reached}
+use Rattle.lb_static.specs.declared.table.Table.{Table}
 use Rattle.lb_check.specs.Acceptance.{check_refusal}
 use Rattle.lb_check.specs.Checked.{IsAnswer, IsRefusal}
 use Rattle.lb_check.specs.ClockRules.{is_clocked}
@@ -17,51 +19,72 @@ use Rattle.lb_check.specs.JudgedPrograms.{IsJudged}
 use Rattle.lb_check.specs.TypeRules.{is_typed}
 use Rattle.lb_check.specs.declared.error.CheckError.{CheckError}
 
+-- ## Rules in a row
+
+pub first_none : {A : Type 0} (o p : Option A) → or_else o p ≡ None → o ≡ None
+first_none None p e = refl
+first_none (Some x) p e = absurd cc
+
+pub second_none : {A : Type 0} (o p : Option A) → or_else o p ≡ None → p ≡ None
+second_none None p e = e
+second_none (Some x) p e = absurd cc
+
+pub kept : (b : Bool) (r : Refusal) → unless b r ≡ None → b ≡ true
+kept true r e = refl
+kept false r e = absurd cc
+
 -- ## What is known of an elaborated program
 
-kept : (b : Bool) (r : Refusal) (o : Option Refusal) → or_else (unless b r) o ≡ None → b ≡ true
-kept true r o e = refl
-kept false r o e = absurd cc
+pub names_kept : (P : Program) → static_refusal P ≡ None → keeps_names P ≡ true
+names_kept P e = kept (keeps_names P) E4 (first_none (unless (keeps_names P) E4) _ e)
 
-later : (b : Bool) (r : Refusal) (o : Option Refusal) → or_else (unless b r) o ≡ None → o ≡ None
-later true r o e = e
-later false r o e = absurd cc
+pub walk_kept : (P : Program) → static_refusal P ≡ None → walk_refusal P 0 (instances P) ≡ None
+walk_kept P e =
+    let calls = second_none (unless (keeps_names P) E4) _ e in
+    let parameters = second_none (unless (is_well_founded P) E7) _ calls in
+    first_none (walk_refusal P 0 (instances P)) _
+    (second_none (unless (has_no_parameters P) E8) _ parameters)
 
-first : (o p : Option Refusal) → or_else o p ≡ None → o ≡ None
-first None p e = refl
-first (Some r) p e = absurd cc
-
-pub judged : (P : Program) (e : Elab) → IsElaborated P e → IsJudged P e.reached e.table
-judged P e is =
-    let shape = unless (holds (is_root P) (instance_at P Root)) E8 in
-    let walk = or_else (walk_refusal P 0 (instances P)) shape in
-    let parameters = or_else (unless (has_no_parameters P) E8) walk in
-    let calls = or_else (unless (is_well_founded P) E7) parameters in
-    record {
-      names = kept (keeps_names P) E4 calls is.accepted;
-      reached = is.reached;
-      table = is.table;
-      walked = first (walk_refusal P 0 (instances P)) shape
-          (later (has_no_parameters P) E8 walk (later (is_well_founded P) E7 parameters (later (keeps_names P) E4 calls is.accepted)));
-    }
+pub judged : (P : Program) (e : Elaboration) → IsElaborated P e → IsJudged P e.reached e.table
+judged P e is = record {
+  names = names_kept P is.accepted;
+  reached = is.reached;
+  table = is.table;
+  walked = walk_kept P is.accepted;
+}
 
 -- ## A node that breaks a rule
 
-pub broken : {A : Type 0} (o : Option A) (x : A) (b : Bool) → is_some o ≡ not b → o ≡ Some x → b ≡ false
+pub broken : {A : Type 0} (o : Option A) (x : A) (b : Bool) → is_some o ≡ not b → o ≡ Some x →
+    b ≡ false
 broken None x b e is = absurd cc
 broken (Some y) x true e is = absurd cc
 broken (Some y) x false e is = refl
 
-pub kept_by : {A : Type 0} (o : Option A) (b : Bool) → is_some o ≡ not b → ((x : A) → o ≡ Some x → ⊥) → b ≡ true
+pub kept_by : {A : Type 0} (o : Option A) (b : Bool) → is_some o ≡ not b →
+    ((x : A) → o ≡ Some x → ⊥) → b ≡ true
 kept_by None true e none = refl
 kept_by None false e none = absurd cc
 kept_by (Some x) b e none = absurd (none x refl)
 
-pub refused : (P : Program) (o : Option CheckError) (e : CheckError) → IsRefusal P o → o ≡ Some e → IsAnswer P (Err e)
+pub refused : (P : Program) (o : Option CheckError) (e : CheckError) → IsRefusal P o → o ≡ Some e →
+    IsAnswer P (Err e)
 refused P o e told is = subst (IsRefusal P) is told
 
-pub accepted : (P : Program) (o : Option CheckError) → IsRefusal P o → o ≡ None → check_refusal P ≡ None
+pub accepted : (P : Program) (o : Option CheckError) → IsRefusal P o → o ≡ None →
+    check_refusal P ≡ None
 accepted P o told is = subst (IsRefusal P) is told
+
+-- what is found of an elaboration is found of its program
+pub found :
+    (e : Elaboration) (r : Reached) (t : Table) (o : Option CheckError) → IsLawful e →
+    r ≡ e.reached → t ≡ e.table → ((P : Program) → IsJudged P r t → IsRefusal P o) →
+    IsRefusal (elaborated_program e) o
+found e r t o is same_nodes same_table told =
+    let P = elaborated_program e in
+    told P
+    (subst (λ r. IsJudged P r t) (sym same_nodes)
+    (subst (λ t. IsJudged P e.reached t) (sym same_table) (judged P e is)))
 
 -- ## The first of three
 
@@ -78,7 +101,8 @@ module _ (P : Program) where
   abbrev first_of_three : (a b c : Bool) → Option Refusal
   first_of_three a b c = or_else (unless a E9) (or_else (unless b E10) (unless c E11))
 
-  by_tests : (a b c : Bool) → typed ≡ a → clocked ≡ b → defined ≡ c → check_refusal P ≡ first_of_three a b c
+  by_tests : (a b c : Bool) → typed ≡ a → clocked ≡ b → defined ≡ c →
+      check_refusal P ≡ first_of_three a b c
   by_tests a b c e f g = rw (e, f, g) refl
 
   pub not_typed : typed ≡ false → check_refusal P ≡ Some E9

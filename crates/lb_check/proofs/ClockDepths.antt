@@ -15,15 +15,18 @@ awaited_at : (vs : List Variable) (x : ℕ) (v : Variable) → x < length vs
 awaited_at vs x v lt =
     ap (λ o. o >>= λ v. option_map (λ s. s.variable.0) v.clock) (slice_get-get_or vs x v lt)
 
-pub awaits : (vs : List Variable) (x : ℕ) (v : Variable) (s : Sampling) → x < length vs → (get_or vs x v).clock ≡ Some s
+pub awaits : (vs : List Variable) (x : ℕ) (v : Variable) (s : Sampling) → x < length vs →
+    (get_or vs x v).clock ≡ Some s
     → awaited vs x ≡ Some s.variable.0
 awaits vs x v s lt e = awaited_at vs x v lt ∙ ap (option_map (λ s. s.variable.0)) e
 
-pub awaits_none : (vs : List Variable) (x : ℕ) (v : Variable) → x < length vs → (get_or vs x v).clock ≡ None → awaited vs x ≡ None
+pub awaits_none : (vs : List Variable) (x : ℕ) (v : Variable) → x < length vs →
+    (get_or vs x v).clock ≡ None → awaited vs x ≡ None
 awaits_none vs x v lt e = awaited_at vs x v lt ∙ ap (option_map (λ s. s.variable.0)) e
 
 -- a depth that is known
-pub known_depth : (vs : List Variable) (depths : List (Option ℕ)) (x d : ℕ) (o : Option ℕ) → AreDepths vs depths → x < length vs
+pub known_depth : (vs : List Variable) (depths : List (Option ℕ)) (x d : ℕ) (o : Option ℕ) →
+    AreDepths vs depths → x < length vs
     → get_or depths x o ≡ Some d → StandsAt vs d x × d ≤ length vs
 known_depth vs depths x d o known lt e =
     let below : x < length depths = subst (λ n. x < n) (sym known.as_many) lt in
@@ -36,13 +39,16 @@ pub no_step : (vs : List Variable) (x : ℕ) → LeadsTo vs 0 x x
 unfolding LeadsTo
 no_step vs x = refl
 
-leads_more : (vs : List Variable) (k x y z : ℕ) → LeadsTo vs k x y → awaited vs y ≡ Some z → LeadsTo vs (suc k) x z
+leads_more : (vs : List Variable) (k x y z : ℕ) → LeadsTo vs k x y → awaited vs y ≡ Some z →
+    LeadsTo vs (suc k) x z
 unfolding LeadsTo
 leads_more vs zero x y z l e = (z, subst (λ w. awaited vs w ≡ Some z) (sym l) e, refl)
 leads_more vs (suc k) x y z l e = (l.0, l.1, leads_more vs k l.0 y z l.2 e)
 
-pub step_more : (vs : List Variable) (k x y z : ℕ) → LeadsTo vs k x y → awaited vs y ≡ Some z → LeadsTo vs (k + 1) x z
-step_more vs k x y z l e = let same : suc k ≡ k + 1 = omega arith in subst (λ m. LeadsTo vs m x z) same (leads_more vs k x y z l e)
+pub step_more : (vs : List Variable) (k x y z : ℕ) → LeadsTo vs k x y → awaited vs y ≡ Some z →
+    LeadsTo vs (k + 1) x z
+step_more vs k x y z l e = let same : suc k ≡ k + 1 = omega arith in
+    subst (λ m. LeadsTo vs m x z) same (leads_more vs k x y z l e)
 
 -- ## Depths
 
@@ -50,17 +56,21 @@ stands_top : (vs : List Variable) (x : ℕ) → awaited vs x ≡ None → Stands
 unfolding StandsAt
 stands_top vs x e = e
 
-leads_down : (vs : List Variable) (k x y d : ℕ) → LeadsTo vs k x y → StandsAt vs d y → StandsAt vs (k + d) x
+leads_down : (vs : List Variable) (k x y d : ℕ) → LeadsTo vs k x y → StandsAt vs d y →
+    StandsAt vs (k + d) x
 unfolding LeadsTo StandsAt
-leads_down vs zero x y d l s = let same : d ≡ 0 + d = omega arith in subst (λ m. StandsAt vs m x) same (subst (StandsAt vs d) (sym l) s)
+leads_down vs zero x y d l s = let same : d ≡ 0 + d = omega arith in
+    subst (λ m. StandsAt vs m x) same (subst (StandsAt vs d) (sym l) s)
 leads_down vs (suc k) x y d l s =
     let same : suc (k + d) ≡ suc k + d = omega arith in
     subst (λ m. StandsAt vs m x) same (l.0, l.1, leads_down vs k l.0 y d l.2 s)
 
-pub stands_below : (vs : List Variable) (k x y d : ℕ) → LeadsTo vs k x y → StandsAt vs d y → StandsAt vs (k + d) x
+pub stands_below : (vs : List Variable) (k x y d : ℕ) → LeadsTo vs k x y → StandsAt vs d y →
+    StandsAt vs (k + d) x
 stands_below vs k x y d l s = leads_down vs k x y d l s
 
-pub stands_here : (vs : List Variable) (k x y : ℕ) → LeadsTo vs k x y → awaited vs y ≡ None → StandsAt vs k x
+pub stands_here : (vs : List Variable) (k x y : ℕ) → LeadsTo vs k x y → awaited vs y ≡ None →
+    StandsAt vs k x
 stands_here vs k x y l e =
     let same : k + 0 ≡ k = omega arith in
     subst (λ m. StandsAt vs m x) same (leads_down vs k x y 0 l (stands_top vs y e))
@@ -73,17 +83,20 @@ too_deep vs (suc n) x zero s le = absurd (omega arith)
 too_deep vs (suc n) x (suc d) s le =
     rw (s.1) (ap (option_map suc) (too_deep vs n s.0 d s.2 (omega arith)))
 
-deep_enough : (vs : List Variable) (n x d : ℕ) → StandsAt vs d x → d < n → depth_within n vs x ≡ Some d
+deep_enough : (vs : List Variable) (n x d : ℕ) → StandsAt vs d x → d < n →
+    depth_within n vs x ≡ Some d
 unfolding StandsAt depth_within
 deep_enough vs zero x d s lt = absurd (omega arith)
 deep_enough vs (suc n) x zero s lt = rw s refl
 deep_enough vs (suc n) x (suc d) s lt =
     rw (s.1) (ap (option_map suc) (deep_enough vs n s.0 d s.2 (omega arith)))
 
-pub no_depth : (vs : List Variable) (n x d : ℕ) → StandsAt vs d x → n ≤ d → depth_within n vs x ≡ None
+pub no_depth : (vs : List Variable) (n x d : ℕ) → StandsAt vs d x → n ≤ d →
+    depth_within n vs x ≡ None
 no_depth vs n x d s le = too_deep vs n x d s le
 
-pub its_depth : (vs : List Variable) (n x d : ℕ) → StandsAt vs d x → d < n → depth_within n vs x ≡ Some d
+pub its_depth : (vs : List Variable) (n x d : ℕ) → StandsAt vs d x → d < n →
+    depth_within n vs x ≡ Some d
 its_depth vs n x d s lt = deep_enough vs n x d s lt
 
 -- a variable from which so many steps lead on has no depth within as many
@@ -94,7 +107,8 @@ no_end vs (suc k) x y l = rw (l.1) (ap (option_map suc) (no_end vs k l.0 y l.2))
 
 -- ## What is noted
 
-set_get : {A : Type 0} (xs : List A) (i j : ℕ) (a b : A) → slice_get (set xs i a) j ≡ Some b → ((i ≡ j) × (a ≡ b)) ⊎ (slice_get xs j ≡ Some b)
+set_get : {A : Type 0} (xs : List A) (i j : ℕ) (a b : A) → slice_get (set xs i a) j ≡ Some b →
+    ((i ≡ j) × (a ≡ b)) ⊎ (slice_get xs j ≡ Some b)
 set_get [] i j a b e = absurd cc
 set_get (x ∷ xs) zero zero a b e = inl (refl, cc)
 set_get (x ∷ xs) zero (suc j) a b e = inr e
@@ -102,12 +116,14 @@ set_get (x ∷ xs) (suc i) zero a b e = inr e
 set_get (x ∷ xs) (suc i) (suc j) a b e =
     elim (set_get xs i j a b e) [ inl s ↦ inl (ap suc s.0, s.1) | inr s ↦ inr s ]
 
-set_here : {A : Type 0} (xs : List A) (i : ℕ) (a : A) → i < length xs → slice_get (set xs i a) i ≡ Some a
+set_here : {A : Type 0} (xs : List A) (i : ℕ) (a : A) → i < length xs →
+    slice_get (set xs i a) i ≡ Some a
 set_here [] i a lt = absurd (omega arith)
 set_here (x ∷ xs) zero a lt = refl
 set_here (x ∷ xs) (suc i) a lt = set_here xs i a (omega arith)
 
-set_keeps : {A : Type 0} (xs : List A) (i j : ℕ) (a b : A) → slice_get xs j ≡ Some b → ((i ≡ j) × (slice_get (set xs i a) j ≡ Some a)) ⊎ (slice_get (set xs i a) j ≡ Some b)
+set_keeps : {A : Type 0} (xs : List A) (i j : ℕ) (a b : A) → slice_get xs j ≡ Some b →
+    ((i ≡ j) × (slice_get (set xs i a) j ≡ Some a)) ⊎ (slice_get (set xs i a) j ≡ Some b)
 set_keeps [] i j a b e = absurd cc
 set_keeps (x ∷ xs) zero zero a b e = inl (refl, refl)
 set_keeps (x ∷ xs) zero (suc j) a b e = inr e
@@ -115,24 +131,30 @@ set_keeps (x ∷ xs) (suc i) zero a b e = inr e
 set_keeps (x ∷ xs) (suc i) (suc j) a b e =
     elim (set_keeps xs i j a b e) [ inl s ↦ inl (ap suc s.0, s.1) | inr s ↦ inr s ]
 
-pub known_here : (depths : List (Option ℕ)) (x d : ℕ) → x < length depths → IsKnown (set depths x (Some d)) x
+pub known_here : (depths : List (Option ℕ)) (x d : ℕ) → x < length depths →
+    IsKnown (set depths x (Some d)) x
 known_here depths x d lt = (d, set_here depths x (Some d) lt)
 
-pub still_known : (depths : List (Option ℕ)) (x d y : ℕ) → IsKnown depths y → IsKnown (set depths x (Some d)) y
+pub still_known : (depths : List (Option ℕ)) (x d y : ℕ) → IsKnown depths y →
+    IsKnown (set depths x (Some d)) y
 still_known depths x d y k =
     elim (set_keeps depths x y (Some d) (Some k.0) k.1) [ inl s ↦ (d, s.1) | inr s ↦ (k.0, s) ]
 
-pub first_known : (depths : List (Option ℕ)) (x d first : ℕ) (A : Type 0) → x < length depths → (A × (x ≡ first)) ⊎ IsKnown depths first
+pub first_known : (depths : List (Option ℕ)) (x d first : ℕ) (A : Type 0) → x < length depths →
+    (A × (x ≡ first)) ⊎ IsKnown depths first
     → IsKnown (set depths x (Some d)) first
-first_known depths x d first A lt (inl e) = subst (IsKnown (set depths x (Some d))) e.1 (known_here depths x d lt)
+first_known depths x d first A lt (inl e) =
+    subst (IsKnown (set depths x (Some d))) e.1 (known_here depths x d lt)
 first_known depths x d first A lt (inr k) = still_known depths x d first k
 
-pub more_depths : (vs : List Variable) (depths : List (Option ℕ)) (x d : ℕ) → AreDepths vs depths → StandsAt vs d x → d ≤ length vs
+pub more_depths : (vs : List Variable) (depths : List (Option ℕ)) (x d : ℕ) → AreDepths vs depths →
+    StandsAt vs d x → d ≤ length vs
     → AreDepths vs (set depths x (Some d))
 more_depths vs depths x d known stands small = record {
   as_many = simp length-set known.as_many;
   right = λ y e h. elim (set_get depths x y (Some d) (Some e) h) [
-    | inl s ↦ let same : d ≡ e = cc in subst (λ z. StandsAt vs e z) s.0 (subst (λ m. StandsAt vs m x) same stands)
+    | inl s ↦ let same : d ≡ e = cc in
+        subst (λ z. StandsAt vs e z) s.0 (subst (λ m. StandsAt vs m x) same stands)
     | inr s ↦ known.right y e s
   ];
   small = λ y e h. elim (set_get depths x y (Some d) (Some e) h) [
@@ -142,18 +164,28 @@ more_depths vs depths x d known stands small = record {
 }
 
 -- the depths after those from one more variable on are noted
-pub noted_step : (vs : List Variable) (before was now : List (Option ℕ)) (k n : ℕ) → AreDepths vs before → was ≡ before → n ≡ length before
-    → AreDepths vs now → IsKnown now k → ((x : ℕ) → IsKnown was x → IsKnown now x) → ((x : ℕ) → x < k → IsKnown before x)
-    → AreDepths vs (take n (now ++ drop (length now) before)) × ((x : ℕ) → x < k + 1 → IsKnown (take n (now ++ drop (length now) before)) x)
+pub noted_step : (vs : List Variable) (before was now : List (Option ℕ)) (k n : ℕ) →
+    AreDepths vs before → was ≡ before → n ≡ length before
+    → AreDepths vs now → IsKnown now k → ((x : ℕ) → IsKnown was x → IsKnown now x) →
+    ((x : ℕ) → x < k → IsKnown before x)
+    → AreDepths vs (take n (now ++ drop (length now) before))
+    × ((x : ℕ) → x < k + 1 → IsKnown (take n (now ++ drop (length now) before)) x)
 noted_step vs before was now k n old same len known here kept all =
     let as_long : n ≡ length now = len ∙ old.as_many ∙ sym known.as_many in
     let whole : now ≡ take n (now ++ drop (length now) before) =
-    sym (ap (λ m. take m (now ++ drop (length now) before)) as_long ∙ take-append_seam now (drop (length now) before)) in
-    let P : List (Option ℕ) → Type 0 = λ all. AreDepths vs all × ((x : ℕ) → x < k + 1 → IsKnown all x) in
-    subst P whole (known, below_more (IsKnown now) k (λ x lt. kept x (subst (λ w. IsKnown w x) (sym same) (all x lt))) here)
+    sym (ap (λ m. take m (now ++ drop (length now) before)) as_long
+    ∙ take-append_seam now (drop (length now) before)) in
+    let P : List (Option ℕ) → Type 0 =
+    λ all. AreDepths vs all × ((x : ℕ) → x < k + 1 → IsKnown all x) in
+    subst P whole (
+      known,
+      below_more (IsKnown now) k
+          (λ x lt. kept x (subst (λ w. IsKnown w x) (sym same) (all x lt))) here,
+    )
 
 -- one step less deep stands what is waited for
-pub waits_deeper : (vs : List Variable) (depth above x y : ℕ) → StandsAt vs (depth - above) x → above < depth + 1 → awaited vs x ≡ Some y
+pub waits_deeper : (vs : List Variable) (depth above x y : ℕ) → StandsAt vs (depth - above) x →
+    above < depth + 1 → awaited vs x ≡ Some y
     → StandsAt vs (depth - (above + 1)) y
 unfolding StandsAt
 waits_deeper vs depth above x y s lt e = by (depth - above) refl s

@@ -12,10 +12,12 @@ use Rattle.lb_check.specs.TermClocks.{Context, is_call_clocked, is_equation_cloc
 use Rattle.lb_check.specs.declared.standing.Operand.{Operand}
 use Rattle.lb_check.proofs.TypeRows.{IsRow}
 
-operands_items : (ctx : Context) (n : _) (row : Row_of-Term n) → operands_in ctx row ≡ operands_of ctx (items-the_row-Term n row)
+operands_items : (ctx : Context) (n : _) (row : Row_of-Term n) →
+    operands_in ctx row ≡ operands_of ctx (items-the_row-Term n row)
 unfolding standing_of
 operands_items ctx n end_of-Term = refl
-operands_items ctx n (more_of-Term e rest) = ap (λ (os : List Operand). operand_of ctx e ∷ os) (operands_items ctx _ rest)
+operands_items ctx n (more_of-Term e rest) =
+    ap (λ (os : List Operand). operand_of ctx e ∷ os) (operands_items ctx _ rest)
 
 abbrev row_in : Term → (n : Count) × Row_of-Term n
 row_in (Array' _ row) = (_, row)
@@ -27,40 +29,52 @@ row_in (IterateSymbol' _ _ _ _ row) = (_, row)
 row_in _ = (_, end_of-Term)
 
 -- the operands in the row of a term are those that the list in its vector is
-same_operands : (ctx : Context) (t : Term) (es : Vec Term Global) → items-the_row-Term _ (row_in t).1 ≡ es.items
+same_operands : (ctx : Context) (t : Term) (es : Vec Term Global) →
+    items-the_row-Term _ (row_in t).1 ≡ es.items
     → operands_in ctx (row_in t).1 ≡ operands_of ctx es.items
 same_operands ctx t es e = operands_items ctx _ (row_in t).1 ∙ ap (operands_of ctx) e
 
-stands_array : (ctx : Context) (es : Vec Term Global) → standing_of ctx (Array es) ≡ row_standing ctx (Array es) (operands_of ctx es.items)
+stands_array : (ctx : Context) (es : Vec Term Global) →
+    standing_of ctx (Array es) ≡ row_standing ctx (Array es) (operands_of ctx es.items)
 unfolding standing_of
-stands_array ctx es = ap (row_standing ctx (Array es)) (same_operands ctx (Array es) es (items_hidden-the_row-Term-0 es))
+stands_array ctx es = ap (row_standing ctx (Array es))
+    (same_operands ctx (Array es) es (items_hidden-the_row-Term-0 es))
 
 stands_at_most_one : (ctx : Context) (es : Vec Term Global)
     → standing_of ctx (AtMostOne es) ≡ row_standing ctx (AtMostOne es) (operands_of ctx es.items)
 unfolding standing_of
 stands_at_most_one ctx es =
-    ap (row_standing ctx (AtMostOne es)) (same_operands ctx (AtMostOne es) es (items_hidden-the_row-Term-0 es))
+    ap (row_standing ctx (AtMostOne es))
+    (same_operands ctx (AtMostOne es) es (items_hidden-the_row-Term-0 es))
 
-stands_nor : (ctx : Context) (es : Vec Term Global) → standing_of ctx (Nor es) ≡ row_standing ctx (Nor es) (operands_of ctx es.items)
+stands_nor : (ctx : Context) (es : Vec Term Global) →
+    standing_of ctx (Nor es) ≡ row_standing ctx (Nor es) (operands_of ctx es.items)
 unfolding standing_of
-stands_nor ctx es = ap (row_standing ctx (Nor es)) (same_operands ctx (Nor es) es (items_hidden-the_row-Term-0 es))
+stands_nor ctx es = ap (row_standing ctx (Nor es))
+    (same_operands ctx (Nor es) es (items_hidden-the_row-Term-0 es))
 
 stands_call : (ctx : Context) (c : CallId) (es : Vec Term Global)
     → standing_of ctx (Call c es) ≡ row_standing ctx (Call c es) (operands_of ctx es.items)
 unfolding standing_of
-stands_call ctx c es = ap (row_standing ctx (Call c es)) (same_operands ctx (Call c es) es (items_hidden-the_row-Term-0 es))
+stands_call ctx c es = ap (row_standing ctx (Call c es))
+    (same_operands ctx (Call c es) es (items_hidden-the_row-Term-0 es))
 
 stands_node : (ctx : Context) (it : ArrayIterator) (c : CallId) (es : Vec Term Global)
-    → standing_of ctx (IterateNode it c es) ≡ row_standing ctx (IterateNode it c es) (operands_of ctx es.items)
+    → standing_of ctx (IterateNode it c es) ≡ row_standing ctx (IterateNode it c es)
+    (operands_of ctx es.items)
 unfolding standing_of
 stands_node ctx it c es =
-    ap (row_standing ctx (IterateNode it c es)) (same_operands ctx (IterateNode it c es) es (items_hidden-the_row-Term-0 es))
+    ap (row_standing ctx (IterateNode it c es))
+    (same_operands ctx (IterateNode it c es) es (items_hidden-the_row-Term-0 es))
 
-stands_symbol : (ctx : Context) (it : ArrayIterator) (op : BinaryOperator) (n : StaticId) (es : Vec Term Global)
-    → standing_of ctx (IterateSymbol it op n es) ≡ row_standing ctx (IterateSymbol it op n es) (operands_of ctx es.items)
+stands_symbol : (ctx : Context) (it : ArrayIterator) (op : BinaryOperator) (n : StaticId)
+    (es : Vec Term Global)
+    → standing_of ctx (IterateSymbol it op n es) ≡ row_standing ctx (IterateSymbol it op n es)
+    (operands_of ctx es.items)
 unfolding standing_of
 stands_symbol ctx it op n es =
-    ap (row_standing ctx (IterateSymbol it op n es)) (same_operands ctx (IterateSymbol it op n es) es (items_hidden-the_row-Term-0 es))
+    ap (row_standing ctx (IterateSymbol it op n es))
+    (same_operands ctx (IterateSymbol it op n es) es (items_hidden-the_row-Term-0 es))
 
 pub standing_of_row : (ctx : Context) (t : Term) (es : Vec Term Global) → IsRow t es
     → standing_of ctx t ≡ row_standing ctx t (operands_of ctx es.items)
@@ -69,7 +83,8 @@ standing_of_row ctx t es (inr (inl e)) = rw e (stands_at_most_one ctx es)
 standing_of_row ctx t es (inr (inr (inl e))) = rw e (stands_nor ctx es)
 standing_of_row ctx t es (inr (inr (inr (inl (c, e))))) = rw e (stands_call ctx c es)
 standing_of_row ctx t es (inr (inr (inr (inr (inl (it, c, e)))))) = rw e (stands_node ctx it c es)
-standing_of_row ctx t es (inr (inr (inr (inr (inr (it, op, n, e)))))) = rw e (stands_symbol ctx it op n es)
+standing_of_row ctx t es (inr (inr (inr (inr (inr (it, op, n, e)))))) =
+    rw e (stands_symbol ctx it op n es)
 
 -- an equation whose right side is a call
 pub equation_call : (ctx : Context) (lefts : List VariableId) (c : CallId) (es : Vec Term Global)
@@ -77,4 +92,5 @@ pub equation_call : (ctx : Context) (lefts : List VariableId) (c : CallId) (es :
     ≡ holds (λ n. is_call_clocked ctx n (operands_of ctx es.items) lefts) (ctx.callee c)
 unfolding is_equation_clocked
 equation_call ctx lefts c es =
-    ap (λ os. holds (λ n. is_call_clocked ctx n os lefts) (ctx.callee c)) (same_operands ctx (Call c es) es (items_hidden-the_row-Term-0 es))
+    ap (λ os. holds (λ n. is_call_clocked ctx n os lefts) (ctx.callee c))
+    (same_operands ctx (Call c es) es (items_hidden-the_row-Term-0 es))

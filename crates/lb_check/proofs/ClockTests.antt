@@ -22,9 +22,10 @@ use Rattle.lb_check.specs.OwnClocks.{HasClocks, name_in, clock_in, is_clock_with
 use Rattle.lb_check.specs.TermClocks.{clock_with, declared_in, is_same}
 use Rattle.lb_check.specs.declared.own_clock.Clock.{Clock as Compared}
 use Rattle.lb_check.specs.declared.own_clock.Clock.TheVariants as code
-use Rattle.lb_check.proofs.ClockedNodes.{held, as_many_names}
-use Rattle.lb_check.proofs.NodePlaces.{and_first, and_second, all_at}
+use Rattle.lb_check.proofs.ClockedNodes.{as_many_names}
+use Rattle.lb_check.proofs.NodePlaces.{all_at, held}
 use Rattle.lb_check.proofs.OwnClocks.{clock_of_free, clock_of_waiting, same_signs, other_variable}
+use Rattle.lb_check.proofs.TruthValues.{and_first, and_second, both_ways}
 
 -- ## Clocks of a text
 
@@ -40,7 +41,8 @@ same_itself false = refl
 
 pub clock_itself : (k : Clock) → is_clock k k ≡ true
 clock_itself Base = refl
-clock_itself (On k x sign) = let e = (bytes_eq-Decides x x).1 refl in rw (e, same_itself sign) (clock_itself k)
+clock_itself (On k x sign) = let e = (bytes_eq-Decides x x).1 refl in
+    rw (e, same_itself sign) (clock_itself k)
 
 pub clock_same : (k l : Clock) → is_clock k l ≡ true → k ≡ l
 clock_same Base Base e = refl
@@ -56,17 +58,13 @@ clock_same (On k x sign) (On l y other) e =
 turned : (k l : Clock) → is_clock k l ≡ true → is_clock l k ≡ true
 turned k l e = subst (λ m. is_clock m k ≡ true) (clock_same k l e) (clock_itself k)
 
-both_ways : (a b : Bool) → (a ≡ true → b ≡ true) → (b ≡ true → a ≡ true) → a ≡ b
-both_ways true b f g = sym (f refl)
-both_ways false true f g = g refl
-both_ways false false f g = refl
-
 pub clock_turned : (k l : Clock) → is_clock k l ≡ is_clock l k
 clock_turned k l = both_ways (is_clock k l) (is_clock l k) (turned k l) (turned l k)
 
 -- a clock that is each of two clocks is the first, where they are one
 pub on_one : (k c d : Clock) → is_clock c d ≡ true → (is_clock k c && is_clock k d) ≡ is_clock k c
-on_one k c d e = subst (λ m. (is_clock k c && is_clock k m) ≡ is_clock k c) (clock_same c d e) (twice (is_clock k c))
+on_one k c d e = subst (λ m. (is_clock k c && is_clock k m) ≡ is_clock k c) (clock_same c d e)
+    (twice (is_clock k c))
   where
     twice : (b : Bool) → (b && b) ≡ b
     twice true = refl
@@ -88,7 +86,7 @@ beq_same true false = refl
 beq_same false true = refl
 beq_same false false = refl
 
-among_at : (xs : List Name) (i : ℕ) (x : Name) → slice_get xs i ≡ Some x → among x xs ≡ true
+pub among_at : (xs : List Name) (i : ℕ) (x : Name) → slice_get xs i ≡ Some x → among x xs ≡ true
 among_at [] i x e = absurd cc
 among_at (n ∷ xs) zero x e =
     let one : n ≡ x = cc in
@@ -113,13 +111,16 @@ module _ (r : ResolvedNode) (h : HasClocks r) where
   same_is (code.On x sign) (code.On y other) wc wd = by (nat_eq x.0 y.0) refl
     where
       by : (b : Bool) → nat_eq x.0 y.0 ≡ b
-          → (b && same sign other) ≡ is_clock (clock_in r (code.On x sign)) (clock_in r (code.On y other))
+          → (b && same sign other) ≡ is_clock (clock_in r (code.On x sign))
+          (clock_in r (code.On y other))
       by true e =
           let one : x.0 ≡ y.0 = grind (arith, nat_tests) in
-          sym (beq_same sign other) ∙ same_signs r h (code.On x sign) (code.On y other) x y sign other refl refl wc wd one
+          sym (beq_same sign other) ∙ same_signs r h (code.On x sign)
+          (code.On y other) x y sign other refl refl wc wd one
       by false e =
           let two : x.0 ≢ y.0 = grind (arith, nat_tests) in
-          sym e ∙ other_variable r h (code.On x sign) (code.On y other) x y sign other refl refl wc wd two
+          sym e ∙ other_variable r h (code.On x sign)
+          (code.On y other) x y sign other refl refl wc wd two
 
   module _ (x : VariableId) (w : is_variable (counts_of r) x ≡ true) where
     below : x.0 < length r.variables.items
@@ -146,7 +147,8 @@ module _ (r : ResolvedNode) (h : HasClocks r) where
         let v = variable in
         ap (λ o. clock_in r (clock_with (o >>= λ v. v.clock))) v.1 ∙ by v.0 v.1 v.0.clock refl
       where
-        by : (v : Variable) → slice_get r.variables.items x.0 ≡ Some v → (o : Option Sampling) → v.clock ≡ o
+        by : (v : Variable) → slice_get r.variables.items x.0 ≡ Some v → (o : Option Sampling) →
+            v.clock ≡ o
             → clock_in r (clock_with o) ≡ declared_clock (node_of r) (name_in r x)
         by v at None is = clock_of_free r h x v at below is
         by v at (Some s) is = clock_of_waiting r h x v s at below is
@@ -154,17 +156,25 @@ module _ (r : ResolvedNode) (h : HasClocks r) where
     pub declared_within : is_clock_within r (declared_in r x) ≡ true
     declared_within =
         let v = variable in
-        ap (λ o. is_clock_within r (clock_with (o >>= λ v. v.clock))) v.1 ∙ by v.0 v.1 v.0.clock refl
+        ap (λ o. is_clock_within r (clock_with (o >>= λ v. v.clock))) v.1
+        ∙ by v.0 v.1 v.0.clock refl
       where
-        by : (v : Variable) → slice_get r.variables.items x.0 ≡ Some v → (o : Option Sampling) → v.clock ≡ o
+        by : (v : Variable) → slice_get r.variables.items x.0 ≡ Some v → (o : Option Sampling) →
+            v.clock ≡ o
             → is_clock_within r (clock_with o) ≡ true
         by v at None is = refl
         by v at (Some s) is =
-            let within = all_at (is_declared_within (counts_of r)) r.variables.items x.0 v h.resolved.declared_within at in
-            subst (λ o. is_sampling_within (counts_of r) o ≡ true) is (and_second (are_statics (counts_of r) v.first_size v.sizes) _ within)
+            let within = all_at (is_declared_within (counts_of r)) r.variables.items x.0 v
+            h.resolved.declared_within at in
+            subst (λ o. is_sampling_within (counts_of r) o ≡ true) is
+            (and_second (are_statics (counts_of r) v.first_size v.sizes) _ within)
 
-    pub has_declared : variable_clock (node_of r) (name_in r x) ≡ Some (declared_clock (node_of r) (name_in r x))
+    pub has_declared : variable_clock (node_of r) (name_in r x) ≡ Some
+        (declared_clock (node_of r) (name_in r x))
     has_declared =
         let n = node_of r in
-        let last = and_second (list_all (is_clocked_by (n.inputs ++ n.outputs)) n.outputs) _ (and_second (list_all (is_clocked_by n.inputs) n.inputs) _ h.declared) in
-        some_is (variable_clock n (name_in r x)) (all_at (λ x. is_some (variable_clock n x)) (variable_names n) x.0 (name_in r x) last name_there)
+        let last = and_second (list_all (is_clocked_by (n.inputs ++ n.outputs)) n.outputs) _
+        (and_second (list_all (is_clocked_by n.inputs) n.inputs) _ h.declared) in
+        some_is (variable_clock n (name_in r x))
+        (all_at (λ x. is_some (variable_clock n x)) (variable_names n) x.0
+        (name_in r x) last name_there)

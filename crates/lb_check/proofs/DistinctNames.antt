@@ -1,32 +1,13 @@
 -- Distinct names, and what stands at a place among them.
 use Rattle.std.proofs.Common.{◌≡◌, ℕ, zero, suc, Bool, true, false, List, [], ◌∷◌, ◌++◌, length, Some, refl, sym, subst, ◌∙◌, arith}
-use Rattle.std.specs.Prelude.{◌&&◌, ◌||◌, not, nat_lt, slice_get, ◌==◌}
+use Rattle.std.specs.Prelude.{not, nat_lt, slice_get, ◌==◌}
 use Rattle.std.specs.Str.{bytes_eq}
 use Rattle.std.proofs.lemmas.Bool.Decides.{nat_tests}
 use Rattle.std.proofs.lemmas.Slice.Eq.{bytes_eq-Decides}
 use Rattle.lb_syntax.specs.Tree.{Name}
 use Rattle.lb_static.specs.Parts.{among}
 use Rattle.lb_static.specs.Names.{are_distinct}
-
-and_first : (a b : Bool) → (a && b) ≡ true → a ≡ true
-and_first true b e = refl
-and_first false b e = absurd cc
-
-and_second : (a b : Bool) → (a && b) ≡ true → b ≡ true
-and_second true b e = e
-and_second false b e = absurd cc
-
-not_true : (b : Bool) → not b ≡ true → b ≡ false
-not_true true e = absurd cc
-not_true false e = refl
-
-or_first : (a b : Bool) → (a || b) ≡ false → a ≡ false
-or_first true b e = absurd cc
-or_first false b e = refl
-
-or_second : (a b : Bool) → (a || b) ≡ false → b ≡ false
-or_second true b e = absurd cc
-or_second false b e = e
+use Rattle.lb_check.proofs.TruthValues.{and_first, and_second, not_true, or_first, or_second}
 
 among_append : (x : Name) (ys zs : List Name) → among x (ys ++ zs) ≡ false → among x ys ≡ false
 among_append x [] zs e = refl
@@ -41,13 +22,15 @@ distinct_first (x ∷ xs) ys e =
     let a = among_append x xs ys (not_true _ (and_first _ (are_distinct (xs ++ ys)) e)) in
     rw a (distinct_first xs ys (and_second (not (among x (xs ++ ys))) _ e))
 
-pub not_among : (x : Name) (ys : List Name) (i : ℕ) (y : Name) → among x ys ≡ false → slice_get ys i ≡ Some y → bytes_eq x y ≡ false
+pub not_among : (x : Name) (ys : List Name) (i : ℕ) (y : Name) → among x ys ≡ false →
+    slice_get ys i ≡ Some y → bytes_eq x y ≡ false
 not_among x [] i y a e = absurd cc
 not_among x (z ∷ ys) zero y a e =
     let same : z ≡ y = cc in subst (λ w. bytes_eq x w ≡ false) same (or_first (bytes_eq x z) _ a)
 not_among x (z ∷ ys) (suc i) y a e = not_among x ys i y (or_second (bytes_eq x z) _ a) e
 
-pub held_at : {A : Type 0} (xs : List A) (i : ℕ) → nat_lt i (length xs) ≡ true → (x : A) × (slice_get xs i ≡ Some x)
+pub held_at : {A : Type 0} (xs : List A) (i : ℕ) → nat_lt i (length xs) ≡ true →
+    (x : A) × (slice_get xs i ≡ Some x)
 held_at [] i e = absurd (grind (arith, nat_tests))
 held_at (x ∷ xs) zero e = (x, refl)
 held_at (x ∷ xs) (suc i) e = held_at xs i (grind (arith, nat_tests))
@@ -61,7 +44,7 @@ zero_suc i = grind (arith, nat_tests)
 suc_zero : (i : ℕ) → (0 == suc i) ≡ false
 suc_zero i = grind (arith, nat_tests)
 
-unequal : (x y : Name) → bytes_eq x y ≡ false → bytes_eq y x ≡ false
+pub unequal : (x y : Name) → bytes_eq x y ≡ false → bytes_eq y x ≡ false
 unequal x y e = by (bytes_eq y x) refl
   where
     by : (b : Bool) → bytes_eq y x ≡ b → bytes_eq y x ≡ false
@@ -71,7 +54,8 @@ unequal x y e = by (bytes_eq y x) refl
         let again = (bytes_eq-Decides x y).1 (sym same) in
         absurd cc
 
-pub distinct_at : (xs : List Name) (i j : ℕ) (x y : Name) → are_distinct xs ≡ true → slice_get xs i ≡ Some x → slice_get xs j ≡ Some y
+pub distinct_at : (xs : List Name) (i j : ℕ) (x y : Name) → are_distinct xs ≡ true →
+    slice_get xs i ≡ Some x → slice_get xs j ≡ Some y
     → bytes_eq x y ≡ (j == i)
 distinct_at [] i j x y d p q = absurd cc
 distinct_at (z ∷ xs) zero zero x y d p q =

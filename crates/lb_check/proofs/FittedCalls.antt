@@ -18,39 +18,57 @@ use Rattle.lb_check.specs.Types.{operator_shapes}
 use Rattle.lb_check.specs.TermTypes.{callee_signature, signature_of, signature_at}
 use Rattle.lb_check.proofs.Signatures.{signature, signature_is, same_callee}
 
-pub at_place : {A : Type 0} → (xs : List A) (k : ℕ) → k < length xs → (x : A) × (slice_get xs k ≡ Some x)
+pub at_place : {A : Type 0} → (xs : List A) (k : ℕ) → k < length xs →
+    (x : A) × (slice_get xs k ≡ Some x)
 at_place [] k lt = absurd (omega arith)
 at_place (x ∷ xs) zero lt = (x, refl)
 at_place (x ∷ xs) (suc k) lt = at_place xs k (omega arith)
 
-module _ (P : Program) (r : Reached) (t : Table) (reached : IsReached P r) (table : IsTable P r t) where
+module _ (P : Program) (r : Reached) (t : Table) (reached : IsReached P r)
+    (table : IsTable P r t) where
   -- the node of a specialization
   pub node_at : (s : Specialization) → IsSpecialized P r t s
-      → (n : ResolvedNode) × (slice_get r.nodes.items s.node.0 ≡ Some n) × IsResolved (source_names P) n
+      → (n : ResolvedNode) × (slice_get r.nodes.items s.node.0 ≡ Some n)
+      × IsResolved (source_names P) n
   node_at s sp =
-      let n = at_place r.nodes.items s.node.0 sp.within in
-      (n.0, n.1, subst (IsResolved (source_names P)) (get_or_from_slice_get r.nodes.items s.node.0 n.0 n.0 n.1) (reached.resolved s.node.0 n.0 sp.within))
+      let n = at_place r.nodes.items s.node.0 sp.within in (
+        n.0,
+        n.1,
+        subst (IsResolved (source_names P))
+            (get_or_from_slice_get r.nodes.items s.node.0 n.0 n.0 n.1)
+            (reached.resolved s.node.0 n.0 sp.within),
+      )
 
-  pub standing : (s : Specialization) (n : ResolvedNode) (p : Path) → slice_get r.nodes.items s.node.0 ≡ Some n
+  pub standing : (s : Specialization) (n : ResolvedNode) (p : Path) →
+      slice_get r.nodes.items s.node.0 ≡ Some n
       → specialized_at r p s ≡ Some (instance_of p (node_of n) s.values.items)
   standing s n p at =
-      ap (option_map (λ m. instance_of p m s.values.items)) (slice_get-map node_of r.nodes.items s.node.0 ∙ ap (option_map node_of) at)
+      ap (option_map (λ m. instance_of p m s.values.items))
+      (slice_get-map node_of r.nodes.items s.node.0 ∙ ap (option_map node_of) at)
 
-  pub values_at : (s : Specialization) (sp : IsSpecialized P r t s) (n : ResolvedNode) (p : Path) → slice_get r.nodes.items s.node.0 ≡ Some n
-      → map Some s.statics.items ≡ map (static_value P (instance_of p (node_of n) s.values.items)) (statics_of n)
-  values_at s sp n p at = sp.statics (instance_of Root (node_of n) s.values.items) (standing s n Root at) n at
+  pub values_at : (s : Specialization) (sp : IsSpecialized P r t s) (n : ResolvedNode) (p : Path) →
+      slice_get r.nodes.items s.node.0 ≡ Some n
+      → map Some s.statics.items ≡ map (static_value P (instance_of p (node_of n) s.values.items))
+      (statics_of n)
+  values_at s sp n p at = sp.statics (instance_of Root (node_of n) s.values.items)
+      (standing s n Root at) n at
 
-  callee_is : (s : Specialization) (n : ResolvedNode) (p : Path) → IsSpecialized P r t s → slice_get r.nodes.items s.node.0 ≡ Some n → IsResolved (source_names P) n
+  callee_is : (s : Specialization) (n : ResolvedNode) (p : Path) → IsSpecialized P r t s →
+      slice_get r.nodes.items s.node.0 ≡ Some n → IsResolved (source_names P) n
       → signature P (specialized_at r p s) ≡ callee_signature r s
   callee_is s n p sp at resolved =
       ap (signature P) (standing s n p at)
-      ∙ signature_is P (source_names P) n resolved (instance_of p (node_of n) s.values.items) s.statics.items (values_at s sp n p at) refl
+      ∙ signature_is P (source_names P) n resolved
+      (instance_of p (node_of n) s.values.items) s.statics.items (values_at s sp n p at) refl
       ∙ sym (ap (λ o. o >>= signature_of s.statics.items) at)
 
-  pub call_is : (i : ℕ) (s : Specialization) → slice_get t.specializations.items i ≡ Some s → (n : ResolvedNode) (p : Path)
-      → slice_get r.nodes.items s.node.0 ≡ Some n → (c : CallId) (site : Site) → slice_get (node_sites (node_of n)) c.0 ≡ Some site
+  pub call_is : (i : ℕ) (s : Specialization) → slice_get t.specializations.items i ≡ Some s →
+      (n : ResolvedNode) (p : Path)
+      → slice_get r.nodes.items s.node.0 ≡ Some n → (c : CallId) (site : Site) →
+      slice_get (node_sites (node_of n)) c.0 ≡ Some site
       → operator_shapes P (instance_of p (node_of n) s.values.items)
-      (Node_named (site_at (node_sites (node_of n)) c).callee (site_at (node_sites (node_of n)) c).arguments)
+      (Node_named (site_at (node_sites (node_of n)) c).callee
+      (site_at (node_sites (node_of n)) c).arguments)
       ≡ signature_at r t s c
   call_is i s is n p at c site site_is =
       let sp = table.specialized i s is in
@@ -60,16 +78,19 @@ module _ (P : Program) (r : Reached) (t : Table) (reached : IsReached P r) (tabl
       let here_lt = slice_get_within (node_sites (node_of n)) c.0 site site_is in
       let called : c.0 < length s.callees.items = omega (arith, as_many, here_lt) in
       let id = at_place s.callees.items c.0 called in
-      let before = sp.1 id.0 (c.0, called, get_or_from_slice_get s.callees.items c.0 id.0 id.0 id.1) in
+      let before = sp.1 id.0 (c.0, called, get_or_from_slice_get s.callees.items c.0 id.0 id.0 id.1)
+      in
       let last = slice_get_within t.specializations.items i s is in
       let there : id.0.0 < length t.specializations.items = omega (arith, before, last) in
       let callee = at_place t.specializations.items id.0.0 there in
       let callee_sp = table.specialized id.0.0 callee.0 callee.1 in
       let callee_n = node_at callee.0 callee_sp.0 in
       let same = sp.0.callees root root_is c.0 site site_is id.0 id.1 callee.0 callee.1 in
-      ap (λ o. operator_shapes P (instance_of p (node_of n) s.values.items) (Node_named (either_or o no_site).callee (either_or o no_site).arguments)) site_is
+      ap (λ o. operator_shapes P (instance_of p (node_of n) s.values.items)
+      (Node_named (either_or o no_site).callee (either_or o no_site).arguments)) site_is
       ∙ same_callee P p Root (node_of n) s.values.items site c.0 0
       ∙ ap (signature P) same
       ∙ callee_is callee.0 callee_n.0 (Child Root c.0 0) callee_sp.0 callee_n.1 callee_n.2
-      ∙ sym (ap (λ o. (o >>= λ id. slice_get t.specializations.items id.0) >>= callee_signature r) id.1
+      ∙ sym (ap (λ o. (o >>= λ id. slice_get t.specializations.items id.0) >>= callee_signature r)
+      id.1
       ∙ ap (λ o. o >>= callee_signature r) callee.1)

@@ -1,24 +1,11 @@
 -- What two lists hold, place by place.
 use Rattle.std.proofs.Common.{◌≡◌, ℕ, zero, suc, ◌+◌, ◌<◌, Bool, true, false, List, [], ◌∷◌, ◌++◌, take, drop, length, map, Some, refl, ap, sym, ◌∙◌, arith}
 use Rattle.std.specs.Prelude.{◌&&◌, slice_get}
-use Rattle.lb_check.proofs.NodePlaces.{and_first, and_second}
+use Rattle.lb_check.proofs.TruthValues.{and_first, and_second, both_true}
 
 -- ## Truth values
 
-pub and_true : (b : Bool) → (b && true) ≡ b
-and_true true = refl
-and_true false = refl
-
-pub both_true : (a b : Bool) → a ≡ true → b ≡ true → (a && b) ≡ true
-both_true true b p q = q
-both_true false b p q = absurd cc
-
 -- two tests of which each follows from the other are one
-pub both_ways : (a b : Bool) → (a ≡ true → b ≡ true) → (b ≡ true → a ≡ true) → a ≡ b
-both_ways true b f g = sym (f refl)
-both_ways false true f g = g refl
-both_ways false false f g = refl
-
 -- what cannot be true is false
 pub never : (b : Bool) → (b ≡ true → ⊥) → b ≡ false
 never true f = absurd (f refl)
@@ -26,25 +13,29 @@ never false f = refl
 
 -- ## Lists
 
-pub get_first : {A : Type 0} (xs ys : List A) (i : ℕ) (x : A) → slice_get xs i ≡ Some x → slice_get (xs ++ ys) i ≡ Some x
+pub get_first : {A : Type 0} (xs ys : List A) (i : ℕ) (x : A) → slice_get xs i ≡ Some x →
+    slice_get (xs ++ ys) i ≡ Some x
 get_first [] ys i x e = absurd cc
 get_first (z ∷ xs) ys zero x e = e
 get_first (z ∷ xs) ys (suc i) x e = get_first xs ys i x e
 
-pub get_later : {A : Type 0} (xs ys : List A) (j : ℕ) → slice_get (xs ++ ys) (length xs + j) ≡ slice_get ys j
+pub get_later : {A : Type 0} (xs ys : List A) (j : ℕ) →
+    slice_get (xs ++ ys) (length xs + j) ≡ slice_get ys j
 get_later [] ys j = let e : 0 + j ≡ j = omega arith in ap (slice_get ys) e
 get_later (x ∷ xs) ys j =
     let e : suc (length xs) + j ≡ suc (length xs + j) = omega arith in
     ap (slice_get (x ∷ (xs ++ ys))) e ∙ get_later xs ys j
 
-pub get_dropped : {A : Type 0} (m : ℕ) (xs : List A) (j : ℕ) → slice_get (drop m xs) j ≡ slice_get xs (m + j)
+pub get_dropped : {A : Type 0} (m : ℕ) (xs : List A) (j : ℕ) →
+    slice_get (drop m xs) j ≡ slice_get xs (m + j)
 get_dropped zero xs j = let e : j ≡ 0 + j = omega arith in ap (slice_get xs) e
 get_dropped (suc m) [] j = refl
 get_dropped (suc m) (x ∷ xs) j =
     let e : suc (m + j) ≡ suc m + j = omega arith in
     get_dropped m xs j ∙ ap (slice_get (x ∷ xs)) e
 
-pub get_taken : {A : Type 0} (n : ℕ) (xs : List A) (i : ℕ) (x : A) → slice_get (take n xs) i ≡ Some x → (slice_get xs i ≡ Some x) × (i < n)
+pub get_taken : {A : Type 0} (n : ℕ) (xs : List A) (i : ℕ) (x : A) →
+    slice_get (take n xs) i ≡ Some x → (slice_get xs i ≡ Some x) × (i < n)
 get_taken zero xs i x e = absurd cc
 get_taken (suc n) [] i x e = absurd cc
 get_taken (suc n) (y ∷ xs) zero x e = (e, omega arith)
@@ -52,18 +43,21 @@ get_taken (suc n) (y ∷ xs) (suc i) x e =
     let z = get_taken n xs i x e in let lt = z.1 in
     (z.0, omega arith)
 
-pub taken : {A : Type 0} (n : ℕ) (xs : List A) (i : ℕ) (x : A) → slice_get xs i ≡ Some x → i < n → slice_get (take n xs) i ≡ Some x
+pub taken : {A : Type 0} (n : ℕ) (xs : List A) (i : ℕ) (x : A) → slice_get xs i ≡ Some x → i < n →
+    slice_get (take n xs) i ≡ Some x
 taken zero xs i x e lt = absurd (omega arith)
 taken (suc n) [] i x e lt = absurd cc
 taken (suc n) (y ∷ xs) zero x e lt = e
 taken (suc n) (y ∷ xs) (suc i) x e lt = taken n xs i x e (omega arith)
 
-pub get_mapped : {A B : Type 0} (f : A → B) (xs : List A) (i : ℕ) (x : A) → slice_get xs i ≡ Some x → slice_get (map f xs) i ≡ Some (f x)
+pub get_mapped : {A B : Type 0} (f : A → B) (xs : List A) (i : ℕ) (x : A) →
+    slice_get xs i ≡ Some x → slice_get (map f xs) i ≡ Some (f x)
 get_mapped f [] i x e = absurd cc
 get_mapped f (y ∷ xs) zero x e = let same : y ≡ x = cc in ap (λ z. Some (f z)) same
 get_mapped f (y ∷ xs) (suc i) x e = get_mapped f xs i x e
 
-pub mapped_from : {A B : Type 0} (f : A → B) (xs : List A) (i : ℕ) (y : B) → slice_get (map f xs) i ≡ Some y → (x : A) × (slice_get xs i ≡ Some x) × (f x ≡ y)
+pub mapped_from : {A B : Type 0} (f : A → B) (xs : List A) (i : ℕ) (y : B) →
+    slice_get (map f xs) i ≡ Some y → (x : A) × (slice_get xs i ≡ Some x) × (f x ≡ y)
 mapped_from f [] i y e = absurd cc
 mapped_from f (x ∷ xs) zero y e = (x, refl, cc)
 mapped_from f (x ∷ xs) (suc i) y e = mapped_from f xs i y e
@@ -76,7 +70,8 @@ each_pair f [] ys = true
 each_pair f (x ∷ xs) [] = true
 each_pair f (x ∷ xs) (y ∷ ys) = f x y && each_pair f xs ys
 
-pub pair_at : {A B : Type 0} (f : A → B → Bool) (xs : List A) (ys : List B) (i : ℕ) (x : A) (y : B) → each_pair f xs ys ≡ true
+pub pair_at : {A B : Type 0} (f : A → B → Bool) (xs : List A) (ys : List B) (i : ℕ) (x : A)
+    (y : B) → each_pair f xs ys ≡ true
     → slice_get xs i ≡ Some x → slice_get ys i ≡ Some y → f x y ≡ true
 pair_at f [] ys i x y e p q = absurd cc
 pair_at f (a ∷ xs) [] i x y e p q = absurd cc
@@ -87,16 +82,20 @@ pair_at f (a ∷ xs) (b ∷ ys) zero x y e p q =
 pair_at f (a ∷ xs) (b ∷ ys) (suc i) x y e p q = pair_at f xs ys i x y (and_second (f a b) _ e) p q
 
 pub pairs_from : {A B : Type 0} (f : A → B → Bool) (xs : List A) (ys : List B)
-    → ((i : ℕ) (x : A) (y : B) → slice_get xs i ≡ Some x → slice_get ys i ≡ Some y → f x y ≡ true) → each_pair f xs ys ≡ true
+    → ((i : ℕ) (x : A) (y : B) → slice_get xs i ≡ Some x → slice_get ys i ≡ Some y → f x y ≡ true) →
+    each_pair f xs ys ≡ true
 pairs_from f [] ys h = refl
 pairs_from f (x ∷ xs) [] h = refl
 pairs_from f (x ∷ xs) (y ∷ ys) h =
-    both_true (f x y) (each_pair f xs ys) (h 0 x y refl refl) (pairs_from f xs ys (λ i a b p q. h (suc i) a b p q))
+    both_true (f x y) (each_pair f xs ys) (h 0 x y refl refl)
+    (pairs_from f xs ys (λ i a b p q. h (suc i) a b p q))
 
 -- two tests that say the same of each place
 pub same_pairs : {A B : Type 0} (f g : A → B → Bool) (xs : List A) (ys : List B)
-    → ((i : ℕ) (x : A) (y : B) → slice_get xs i ≡ Some x → slice_get ys i ≡ Some y → f x y ≡ g x y) → each_pair f xs ys ≡ each_pair g xs ys
+    → ((i : ℕ) (x : A) (y : B) → slice_get xs i ≡ Some x → slice_get ys i ≡ Some y → f x y ≡ g x y)
+    → each_pair f xs ys ≡ each_pair g xs ys
 same_pairs f g [] ys h = refl
 same_pairs f g (x ∷ xs) [] h = refl
 same_pairs f g (x ∷ xs) (y ∷ ys) h =
-    ap (λ b. b && each_pair f xs ys) (h 0 x y refl refl) ∙ ap (λ b. g x y && b) (same_pairs f g xs ys (λ i a b p q. h (suc i) a b p q))
+    ap (λ b. b && each_pair f xs ys) (h 0 x y refl refl)
+    ∙ ap (λ b. g x y && b) (same_pairs f g xs ys (λ i a b p q. h (suc i) a b p q))

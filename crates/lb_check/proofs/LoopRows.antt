@@ -12,23 +12,28 @@ use Rattle.lb_check.specs.declared.standing.Standing.{Standing}
 
 -- ## A test of each item
 
-all_next : {A : Type 0} (f : A → Bool) (whole b : Bool) (all : List A) (i : ℕ) (x : A) → whole ≡ list_all f (drop i all) → i < length all
+all_next : {A : Type 0} (f : A → Bool) (whole b : Bool) (all : List A) (i : ℕ) (x : A) →
+    whole ≡ list_all f (drop i all) → i < length all
     → x ≡ get_or all i x → f x ≡ b → whole ≡ (b && list_all f (drop (i + 1) all))
 all_next f whole b all i x known lt is e =
-    known ∙ ap (list_all f) (drop_more all i x lt) ∙ ap (λ c. c && list_all f (drop (i + 1) all)) (sym (ap f is) ∙ e)
+    known ∙ ap (list_all f) (drop_more all i x lt)
+    ∙ ap (λ c. c && list_all f (drop (i + 1) all)) (sym (ap f is) ∙ e)
 
 -- one more item passes
-pub all_more : {A : Type 0} (f : A → Bool) (whole : Bool) (all : List A) (i : ℕ) (x : A) → whole ≡ list_all f (drop i all) → i < length all
+pub all_more : {A : Type 0} (f : A → Bool) (whole : Bool) (all : List A) (i : ℕ) (x : A) →
+    whole ≡ list_all f (drop i all) → i < length all
     → x ≡ get_or all i x → f x ≡ true → whole ≡ list_all f (drop (i + 1) all)
 all_more f whole all i x known lt is e = all_next f whole true all i x known lt is e
 
 -- an item does not pass
-pub all_broken : {A : Type 0} (f : A → Bool) (whole : Bool) (all : List A) (i : ℕ) (x : A) → whole ≡ list_all f (drop i all) → i < length all
+pub all_broken : {A : Type 0} (f : A → Bool) (whole : Bool) (all : List A) (i : ℕ) (x : A) →
+    whole ≡ list_all f (drop i all) → i < length all
     → x ≡ get_or all i x → f x ≡ false → false ≡ whole
 all_broken f whole all i x known lt is e = sym (all_next f whole false all i x known lt is e)
 
 -- none is left
-pub all_passed : {A : Type 0} (f : A → Bool) (whole : Bool) (all : List A) (i : ℕ) → whole ≡ list_all f (drop i all) → length all ≤ i
+pub all_passed : {A : Type 0} (f : A → Bool) (whole : Bool) (all : List A) (i : ℕ) →
+    whole ≡ list_all f (drop i all) → length all ≤ i
     → true ≡ whole
 all_passed f whole all i known le = sym (known ∙ ap (list_all f) (drop_all i all le))
 
@@ -41,17 +46,24 @@ nothing_more (o ∷ os) = ap (λ (l : List Operand). o ∷ l) (nothing_more os)
 abbrev operand : Standing → Option VariableId → Operand
 operand s x = record { standing = s; variable = x }
 
-module _ (ctx : Context) (all : List Term) (done : List Operand) (i : ℕ) (known : operands_of ctx all ≡ done ++ operands_of ctx (drop i all)) where
+module _ (ctx : Context) (all : List Term) (done : List Operand) (i : ℕ)
+    (known : operands_of ctx all ≡ done ++ operands_of ctx (drop i all)) where
   -- one more operand
-  pub operands_more : (e : Term) (s : Standing) (x : Option VariableId) → i < length all → e ≡ get_or all i e → s ≡ standing_of ctx e
-      → x ≡ variable_of e → operands_of ctx all ≡ (done ++ record { standing = s; variable = x } ∷ []) ++ operands_of ctx (drop (i + 1) all)
+  pub operands_more : (e : Term) (s : Standing) (x : Option VariableId) → i < length all →
+      e ≡ get_or all i e → s ≡ standing_of ctx e
+      → x ≡ variable_of e → operands_of ctx
+      all ≡ (done ++ record { standing = s; variable = x } ∷ [])
+      ++ operands_of ctx (drop (i + 1) all)
   operands_more e s x lt is stands names =
       let rest = operands_of ctx (drop (i + 1) all) in
-      let same : operand s x ≡ operand_of ctx e = ap (λ a. operand a x) stands ∙ ap (operand (standing_of ctx e)) names in
+      let same : operand s x ≡ operand_of ctx e = ap (λ a. operand a x) stands
+      ∙ ap (operand (standing_of ctx e)) names in
       known ∙ ap (λ l. done ++ operands_of ctx l) (drop_more all i e lt)
-      ∙ ap (λ (t : Term). done ++ (operand_of ctx t ∷ rest)) (sym is) ∙ ap (λ (o : Operand). done ++ (o ∷ rest)) (sym same)
+      ∙ ap (λ (t : Term). done ++ (operand_of ctx t ∷ rest)) (sym is)
+      ∙ ap (λ (o : Operand). done ++ (o ∷ rest)) (sym same)
       ∙ sym (append_assoc done (operand s x ∷ []) rest)
 
   -- none is left
   pub operands_end : length all ≤ i → operands_of ctx all ≡ done
-  operands_end le = known ∙ ap (λ l. done ++ operands_of ctx l) (drop_all i all le) ∙ nothing_more done
+  operands_end le = known ∙ ap (λ l. done ++ operands_of ctx l) (drop_all i all le)
+      ∙ nothing_more done

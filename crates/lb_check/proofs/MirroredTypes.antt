@@ -10,14 +10,7 @@ use Rattle.lb_static.specs.ResolvedTerms.{Texts, Counts, expr_of, row_of, named_
 use Rattle.lb_static.specs.Shapes.{Shape, int, truth, is_shape}
 use Rattle.lb_check.specs.Types.{shapes, all_shapes, name_shape, operator_shapes, is_arithmetic, unary_shape, binary_shape, same_shape, array_of, index_shape, slice_shape, join_shape, list_shape, iterator_shapes, from_one, from_two, from_truths, singly, only}
 use Rattle.lb_check.specs.TermTypes.{Context, Signature, type_of, types_in, results, when_both, when_truth, symbol_signature}
-
-and_first : (a b : Bool) → (a && b) ≡ true → a ≡ true
-and_first true b e = refl
-and_first false b e = absurd cc
-
-and_second : (a b : Bool) → (a && b) ≡ true → b ≡ true
-and_second true b e = e
-and_second false b e = absurd cc
+use Rattle.lb_check.proofs.TruthValues.{and_first, and_second}
 
 -- ## One type of several
 
@@ -53,7 +46,8 @@ results_only ctx (IterateSymbol' it op n shape all) = refl
 
 -- ## What operands give
 
-from_one_is : (ts : Option (List Shape)) (o : Option Shape) (f : Shape → Option Shape) → (ts >>= only) ≡ o
+from_one_is : (ts : Option (List Shape)) (o : Option Shape) (f : Shape → Option Shape) →
+    (ts >>= only) ≡ o
     → from_one ts f ≡ singly (o >>= f)
 from_one_is ts o f e = ap (λ p. p >>= λ t. singly (f t)) e ∙ by o
   where
@@ -61,7 +55,8 @@ from_one_is ts o f e = ap (λ p. p >>= λ t. singly (f t)) e ∙ by o
     by None = refl
     by (Some t) = refl
 
-same_again : (ts : Option (List Shape)) (o : Option Shape) → (ts >>= only) ≡ o → from_one ts Some ≡ singly o
+same_again : (ts : Option (List Shape)) (o : Option Shape) → (ts >>= only) ≡ o →
+    from_one ts Some ≡ singly o
 same_again ts o e = from_one_is ts o Some e ∙ ap singly (by o)
   where
     by : (o : Option Shape) → (o >>= Some) ≡ o
@@ -84,11 +79,13 @@ under_truth : (o p : Option Shape) (us : Option (List Shape)) → us ≡ singly 
 under_truth None p us e = refl
 under_truth (Some t) p us e = by (is_shape truth t)
   where
-    by : (b : Bool) → (where_true (b && true) (truth ∷ []) >>= λ _. us) ≡ singly (where_true b t >>= λ _. p)
+    by : (b : Bool) → (where_true (b && true) (truth ∷ []) >>= λ _. us) ≡ singly
+        (where_true b t >>= λ _. p)
     by true = e
     by false = refl
 
-counted : (c d : Option ℕ) (ts : Option (List Shape)) (o : Option Shape) (f : ℕ → Shape → Option Shape)
+counted : (c d : Option ℕ) (ts : Option (List Shape)) (o : Option Shape)
+    (f : ℕ → Shape → Option Shape)
     → c ≡ d → (ts >>= only) ≡ o → (c >>= λ n. from_one ts (f n)) ≡ singly (d >>= λ n. o >>= f n)
 counted c d ts o f e one = ap (λ c. c >>= λ n. from_one ts (f n)) e ∙ by d
   where
@@ -96,12 +93,15 @@ counted c d ts o f e one = ap (λ c. c >>= λ n. from_one ts (f n)) e ∙ by d
     by None = refl
     by (Some n) = from_one_is ts o (f n) one
 
-counted_twice : (c d e g : Option ℕ) (ts : Option (List Shape)) (o : Option Shape) (f : ℕ → ℕ → Shape → Option Shape)
+counted_twice : (c d e g : Option ℕ) (ts : Option (List Shape)) (o : Option Shape)
+    (f : ℕ → ℕ → Shape → Option Shape)
     → c ≡ d → e ≡ g → (ts >>= only) ≡ o
     → (c >>= λ i. e >>= λ j. from_one ts (f i j)) ≡ singly (d >>= λ i. g >>= λ j. o >>= f i j)
-counted_twice c d e g ts o f first second one = ap (λ c. c >>= λ i. e >>= λ j. from_one ts (f i j)) first ∙ by d
+counted_twice c d e g ts o f first second one =
+    ap (λ c. c >>= λ i. e >>= λ j. from_one ts (f i j)) first ∙ by d
   where
-    by : (d : Option ℕ) → (d >>= λ i. e >>= λ j. from_one ts (f i j)) ≡ singly (d >>= λ i. g >>= λ j. o >>= f i j)
+    by : (d : Option ℕ) → (d >>= λ i. e >>= λ j. from_one ts (f i j)) ≡ singly
+        (d >>= λ i. g >>= λ j. o >>= f i j)
     by None = refl
     by (Some i) = counted e g ts o (f i) second one
 
@@ -117,7 +117,8 @@ swapped (Some a) (Some b) f = refl
 called : {A B C : Type 0} → (o n : Option A) (p q : Option B) (f : A → B → Option C) → o ≡ n → p ≡ q
     → (o >>= λ a. p >>= λ b. f a b) ≡ (q >>= λ b. n >>= λ a. f a b)
 called o n p q f eo ep =
-    ap (λ o. o >>= λ a. p >>= λ b. f a b) eo ∙ ap (λ p. n >>= λ a. p >>= λ b. f a b) ep ∙ swapped n q f
+    ap (λ o. o >>= λ a. p >>= λ b. f a b) eo ∙ ap (λ p. n >>= λ a. p >>= λ b. f a b) ep
+    ∙ swapped n q f
 
 abbrev nowhere : {A B : Type 0} → A → Option B
 nowhere x = None
@@ -126,18 +127,22 @@ nothing : {A B : Type 0} → (q : Option A) → (q >>= nowhere {A = A} {B = B}) 
 nothing None = refl
 nothing (Some x) = refl
 
-iterated : {A B C D : Type 0} → (c d : Option A) (o n : Option B) (p q : Option C) (f : A → B → C → Option D)
+iterated : {A B C D : Type 0} →
+    (c d : Option A) (o n : Option B) (p q : Option C) (f : A → B → C → Option D)
     → c ≡ d → o ≡ n → p ≡ q
     → (c >>= λ a. o >>= λ b. p >>= λ x. f a b x) ≡ (q >>= λ x. d >>= λ a. n >>= λ b. f a b x)
 iterated c d o n p q f ec eo ep =
     ap (λ c. c >>= λ a. o >>= λ b. p >>= λ x. f a b x) ec ∙ by d
   where
-    by : (d : Option _) → (d >>= λ a. o >>= λ b. p >>= λ x. f a b x) ≡ (q >>= λ x. d >>= λ a. n >>= λ b. f a b x)
+    by : (d : Option _) → (d >>= λ a. o >>= λ b. p >>= λ x. f a b x) ≡
+        (q >>= λ x. d >>= λ a. n >>= λ b. f a b x)
     by None = sym (nothing q)
     by (Some a) = called o n p q (f a) eo ep
 
-symbol_is : (P : Program) (here : Instance) (op : BinaryOperator) → operator_shapes P here (Symbol op) ≡ Some (symbol_signature op)
-symbol_is P here op = by (is_arithmetic op) (int ∷ int ∷ [], int ∷ []) (truth ∷ truth ∷ [], truth ∷ [])
+symbol_is : (P : Program) (here : Instance) (op : BinaryOperator) →
+    operator_shapes P here (Symbol op) ≡ Some (symbol_signature op)
+symbol_is P here op = by (is_arithmetic op) (int ∷ int ∷ [], int ∷ [])
+    (truth ∷ truth ∷ [], truth ∷ [])
   where
     by : (b : Bool) (s t : Signature) → (if b then Some s else Some t) ≡ Some (if b then s else t)
     by true s t = refl
@@ -146,80 +151,124 @@ symbol_is P here op = by (is_arithmetic op) (int ∷ int ∷ [], int ∷ []) (tr
 -- ## Terms
 
 -- what stands for the numbers of a node is what the definitions say of an instance
-pub record Fits (P : Program) (here : Instance) (texts : Texts) (n : Counts) (ctx : Context) : Type 0 where
-  pub variable : (x : _) → is_variable n x ≡ true → name_shape P here (name_at texts.variables x) ≡ ctx.variable x
+pub record Fits (P : Program) (here : Instance) (texts : Texts) (n : Counts) (ctx : Context) :
+    Type 0 where
+  pub variable : (x : _) → is_variable n x ≡ true →
+      name_shape P here (name_at texts.variables x) ≡ ctx.variable x
   pub value : (i : _) → is_no_variable texts.variables (static_at texts.statics i) ≡ true
       → shapes P here (named_value (static_at texts.statics i)) ≡ Some (int ∷ [])
-  pub count : (i : _) → is_static n i ≡ true → static_count P here (static_at texts.statics i) ≡ ctx.count i
+  pub count : (i : _) → is_static n i ≡ true →
+      static_count P here (static_at texts.statics i) ≡ ctx.count i
   pub call : (c : _) → is_call n c ≡ true
-      → operator_shapes P here (Node_named (site_at texts.calls c).callee (site_at texts.calls c).arguments) ≡ ctx.call c
+      → operator_shapes P here (Node_named (site_at texts.calls c).callee
+      (site_at texts.calls c).arguments) ≡ ctx.call c
   pub repeats : (c : _) → is_call n c ≡ true
       → static_count P here (either_or (site_at texts.calls c).count (Whole 0)) ≡ ctx.repeats c
 
-module _ (P : Program) (here : Instance) (texts : Texts) (n : Counts) (ctx : Context) (fits : Fits P here texts n ctx) where
+module _ (P : Program) (here : Instance) (texts : Texts) (n : Counts) (ctx : Context)
+    (fits : Fits P here texts n ctx) where
   abbrev typed : Term → Option (List Shape)
   typed t = shapes P here (expr_of texts t)
 
   one : (t : Term) → typed t ≡ results ctx t → (typed t >>= only) ≡ type_of ctx t
   one t e = ap (λ o. o >>= only) e ∙ results_only ctx t
 
-  two : (a b : Term) (f : Shape → Shape → Option Shape) → typed a ≡ results ctx a → typed b ≡ results ctx b
+  two : (a b : Term) (f : Shape → Shape → Option Shape) → typed a ≡ results ctx a →
+      typed b ≡ results ctx b
       → from_two (typed a) (typed b) f ≡ singly (when_both (type_of ctx a) (type_of ctx b) f)
-  two a b f ea eb = from_two_is (typed a) (typed b) (type_of ctx a) (type_of ctx b) f (one a ea) (one b eb)
+  two a b f ea eb = from_two_is (typed a) (typed b) (type_of ctx a) (type_of ctx b) f (one a ea)
+      (one b eb)
 
   mutual
     unfolding type_of results
 
-    pub term_results : (t : Term) → is_within n t ≡ true → is_unhidden texts t ≡ true → typed t ≡ results ctx t
+    pub term_results : (t : Term) → is_within n t ≡ true → is_unhidden texts t ≡ true →
+        typed t ≡ results ctx t
     term_results (Literal m) w u = refl
     term_results (Truth b) w u = refl
     term_results (Variable x) w u = ap singly (fits.variable x w)
     term_results (Value i) w u = fits.value i u
     term_results (Group' p e) w u = term_results e w u
-    term_results (Unary' op p a) w u = from_one_is (typed a) (type_of ctx a) (unary_shape op) (one a (term_results a w u))
-    term_results (Binary' op p a q b) w u = two a b (binary_shape op) (term_results a (and_first _ (is_within n b) w) (and_first _ (is_unhidden texts b) u)) (term_results b (and_second (is_within n a) _ w) (and_second (is_unhidden texts a) _ u))
+    term_results (Unary' op p a) w u =
+        from_one_is (typed a) (type_of ctx a) (unary_shape op) (one a (term_results a w u))
+    term_results (Binary' op p a q b) w u =
+        two a b (binary_shape op) (term_results a (and_first _ (is_within n b) w)
+        (and_first _ (is_unhidden texts b) u))
+        (term_results b (and_second (is_within n a) _ w) (and_second (is_unhidden texts a) _ u))
     term_results (If' p c q a r b) w u =
         let wab = and_second (is_within n c) _ w in
         let uab = and_second (is_unhidden texts c) _ u in
-        let ec = one c (term_results c (and_first _ (is_within n a && is_within n b) w) (and_first _ (is_unhidden texts a && is_unhidden texts b) u)) in
-        ap (λ ts. from_truths ts >>= λ _. from_two (typed a) (typed b) same_shape) (same_again (typed c) (type_of ctx c) ec)
-        ∙ under_truth (type_of ctx c) (when_both (type_of ctx a) (type_of ctx b) same_shape) _ (two a b same_shape (term_results a (and_first _ (is_within n b) wab) (and_first _ (is_unhidden texts b) uab)) (term_results b (and_second (is_within n a) _ wab) (and_second (is_unhidden texts a) _ uab)))
-    term_results (Arrow' p a q b) w u = two a b same_shape (term_results a (and_first _ (is_within n b) w) (and_first _ (is_unhidden texts b) u)) (term_results b (and_second (is_within n a) _ w) (and_second (is_unhidden texts a) _ u))
-    term_results (Fby' p a q b) w u = two a b same_shape (term_results a (and_first _ (is_within n b) w) (and_first _ (is_unhidden texts b) u)) (term_results b (and_second (is_within n a) _ w) (and_second (is_unhidden texts a) _ u))
+        let ec = one c (term_results c (and_first _ (is_within n a && is_within n b) w)
+        (and_first _ (is_unhidden texts a && is_unhidden texts b) u)) in
+        ap (λ ts. from_truths ts >>= λ _. from_two (typed a) (typed b) same_shape)
+        (same_again (typed c) (type_of ctx c) ec)
+        ∙ under_truth (type_of ctx c) (when_both (type_of ctx a) (type_of ctx b) same_shape) _
+        (two a b same_shape (term_results a (and_first _ (is_within n b) wab)
+        (and_first _ (is_unhidden texts b) uab))
+        (term_results b (and_second (is_within n a) _ wab)
+        (and_second (is_unhidden texts a) _ uab)))
+    term_results (Arrow' p a q b) w u =
+        two a b same_shape (term_results a (and_first _ (is_within n b) w)
+        (and_first _ (is_unhidden texts b) u))
+        (term_results b (and_second (is_within n a) _ w) (and_second (is_unhidden texts a) _ u))
+    term_results (Fby' p a q b) w u =
+        two a b same_shape (term_results a (and_first _ (is_within n b) w)
+        (and_first _ (is_unhidden texts b) u))
+        (term_results b (and_second (is_within n a) _ w) (and_second (is_unhidden texts a) _ u))
     term_results (Pre' p e) w u = same_again (typed e) (type_of ctx e) (one e (term_results e w u))
-    term_results (Current' p e) w u = same_again (typed e) (type_of ctx e) (one e (term_results e w u))
+    term_results (Current' p e) w u =
+        same_again (typed e) (type_of ctx e) (one e (term_results e w u))
     term_results (When' p e x sign) w u =
         let ex = fits.variable x (and_first _ (is_within n e) w) in
         ap (λ o. from_truths (singly o) >>= λ _. from_one (typed e) Some) ex
-        ∙ under_truth (ctx.variable x) (type_of ctx e) _ (same_again (typed e) (type_of ctx e) (one e (term_results e (and_second (is_variable n x) _ w) u)))
+        ∙ under_truth (ctx.variable x) (type_of ctx e) _
+        (same_again (typed e) (type_of ctx e)
+        (one e (term_results e (and_second (is_variable n x) _ w) u)))
     term_results (Copies' p e i) w u =
-        counted _ (ctx.count i) (typed e) (type_of ctx e) array_of (fits.count i (and_first _ (is_within n e) w)) (one e (term_results e (and_second (is_static n i) _ w) u))
+        counted _ (ctx.count i) (typed e) (type_of ctx e) array_of
+        (fits.count i (and_first _ (is_within n e) w))
+        (one e (term_results e (and_second (is_static n i) _ w) u))
     term_results (Index' p e i) w u =
-        counted _ (ctx.count i) (typed e) (type_of ctx e) index_shape (fits.count i (and_first _ (is_within n e) w)) (one e (term_results e (and_second (is_static n i) _ w) u))
+        counted _ (ctx.count i) (typed e) (type_of ctx e) index_shape
+        (fits.count i (and_first _ (is_within n e) w))
+        (one e (term_results e (and_second (is_static n i) _ w) u))
     term_results (Slice' p e i j) w u =
         let rest = and_second (is_static n i) _ w in
         counted_twice _ (ctx.count i) _ (ctx.count j) (typed e) (type_of ctx e) slice_shape
-        (fits.count i (and_first _ (is_static n j && is_within n e) w)) (fits.count j (and_first _ (is_within n e) rest))
+        (fits.count i (and_first _ (is_static n j && is_within n e) w))
+        (fits.count j (and_first _ (is_within n e) rest))
         (one e (term_results e (and_second (is_static n j) _ rest) u))
-    term_results (Join' p a q b) w u = two a b join_shape (term_results a (and_first _ (is_within n b) w) (and_first _ (is_unhidden texts b) u)) (term_results b (and_second (is_within n a) _ w) (and_second (is_unhidden texts a) _ u))
-    term_results (Array' shape all) w u = ap (λ o. o >>= λ ts. singly (list_shape ts)) (row_types all w u)
+    term_results (Join' p a q b) w u =
+        two a b join_shape (term_results a (and_first _ (is_within n b) w)
+        (and_first _ (is_unhidden texts b) u))
+        (term_results b (and_second (is_within n a) _ w) (and_second (is_unhidden texts a) _ u))
+    term_results (Array' shape all) w u =
+        ap (λ o. o >>= λ ts. singly (list_shape ts)) (row_types all w u)
     term_results (AtMostOne' shape all) w u = ap from_truths (row_types all w u)
     term_results (Nor' shape all) w u = ap from_truths (row_types all w u)
     term_results (Call' c shape all) w u =
-        called _ (ctx.call c) _ (types_in ctx all) _ (fits.call c (and_first _ (are_within n all) w)) (row_types all (and_second (is_call n c) _ w) u)
+        called _ (ctx.call c) _ (types_in ctx all) _
+        (fits.call c (and_first _ (are_within n all) w))
+        (row_types all (and_second (is_call n c) _ w) u)
     term_results (IterateNode' it c shape all) w u =
         let wc = and_first _ (are_within n all) w in
-        iterated _ (ctx.repeats c) _ (ctx.call c) _ (types_in ctx all) (λ m o ts. iterator_shapes it m o.0 o.1 ts)
+        iterated _ (ctx.repeats c) _ (ctx.call c) _ (types_in ctx all)
+        (λ m o ts. iterator_shapes it m o.0 o.1 ts)
         (fits.repeats c wc) (fits.call c wc) (row_types all (and_second (is_call n c) _ w) u)
     term_results (IterateSymbol' it op i shape all) w u =
-        iterated _ (ctx.count i) _ (Some (symbol_signature op)) _ (types_in ctx all) (λ m o ts. iterator_shapes it m o.0 o.1 ts)
-        (fits.count i (and_first _ (are_within n all) w)) (symbol_is P here op) (row_types all (and_second (is_static n i) _ w) u)
+        iterated _ (ctx.count i) _ (Some (symbol_signature op)) _ (types_in ctx all)
+        (λ m o ts. iterator_shapes it m o.0 o.1 ts)
+        (fits.count i (and_first _ (are_within n all) w)) (symbol_is P here op)
+        (row_types all (and_second (is_static n i) _ w) u)
 
-    row_types : {m : _} (row : Row_of-Term m) → are_within n row ≡ true → are_unhidden texts row ≡ true
+    row_types : {m : _} (row : Row_of-Term m) → are_within n row ≡ true →
+        are_unhidden texts row ≡ true
         → all_shapes P here (row_of texts row) ≡ types_in ctx row
     row_types end_of-Term w u = refl
     row_types (more_of-Term e rest) w u =
-        let ee = one e (term_results e (and_first _ (are_within n rest) w) (and_first _ (are_unhidden texts rest) u)) in
-        let er = row_types rest (and_second (is_within n e) _ w) (and_second (is_unhidden texts e) _ u) in
+        let ee = one e (term_results e (and_first _ (are_within n rest) w)
+        (and_first _ (are_unhidden texts rest) u)) in
+        let er = row_types rest (and_second (is_within n e) _ w)
+        (and_second (is_unhidden texts e) _ u) in
         ap (λ o. o >>= λ t. all_shapes P here (row_of texts rest) >>= λ ts. Some (t ∷ ts)) ee
         ∙ ap (λ p. type_of ctx e >>= λ t. p >>= λ ts. Some (t ∷ ts)) er

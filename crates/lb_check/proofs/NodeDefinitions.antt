@@ -29,7 +29,9 @@ use Rattle.lb_static.specs.Shapes.{variables}
 use Rattle.lb_check.specs.ClockRules.{if_node}
 use Rattle.lb_check.specs.DefinitionRules.{definition_count, defines_once, is_memoryless, is_defined}
 use Rattle.lb_check.specs.NodeDefinitions.{count_left, count_step, count_steps, DefinesEach, has_memory, row_memory, step_memory, steps_memory, calls_function, call_functions, keeps_function_rules, is_defined_at}
-use Rattle.lb_check.proofs.NodePlaces.{and_first, and_second, held, all_at, all_from, distinct_at, named_at, distinct_variables}
+use Rattle.lb_check.proofs.NodePlaces.{held, all_at, all_from, named_at, distinct_variables}
+use Rattle.lb_check.proofs.TruthValues.{and_first, and_second}
+use Rattle.lb_check.proofs.DistinctNames.{distinct_at}
 
 -- ## Memory
 
@@ -45,11 +47,14 @@ module _ (P : Program) (t : Texts) where
   abbrev functions : List Site → Bool
   functions ss = list_all (λ s. if_node P (λ n. n.is_function) s.callee) ss
 
-  two_parts : (es fs : List Expr) (ss ts : List Site) (a b : Bool) → memoryless es ≡ (not a && functions ss) → memoryless fs ≡ (not b && functions ts)
+  two_parts : (es fs : List Expr) (ss ts : List Site) (a b : Bool) →
+      memoryless es ≡ (not a && functions ss) → memoryless fs ≡ (not b && functions ts)
       → memoryless (es ++ fs) ≡ (not (a || b) && functions (ss ++ ts))
   two_parts es fs ss ts a b p q =
-      list_all-append (is_memoryless P) es fs ∙ rw p (rw q (mixed a b (functions ss) (functions ts)))
-      ∙ ap (λ o. not (a || b) && o) (sym (list_all-append (λ s. if_node P (λ n. n.is_function) s.callee) ss ts))
+      list_all-append (is_memoryless P) es fs
+      ∙ rw p (rw q (mixed a b (functions ss) (functions ts)))
+      ∙ ap (λ o. not (a || b) && o)
+      (sym (list_all-append (λ s. if_node P (λ n. n.is_function) s.callee) ss ts))
     where
       mixed : (a b c d : Bool) → ((not a && c) && (not b && d)) ≡ (not (a || b) && (c && d))
       mixed true b c d = refl
@@ -58,7 +63,8 @@ module _ (P : Program) (t : Texts) where
       mixed false false true d = refl
       mixed false false false d = refl
 
-  value_memoryless : (s : Static) → memoryless (parts (named_value s)) ≡ functions (sites (named_value s))
+  value_memoryless : (s : Static) →
+      memoryless (parts (named_value s)) ≡ functions (sites (named_value s))
   value_memoryless (tree.Whole n) = refl
   value_memoryless (tree.Named x) = refl
   value_memoryless (tree.Negated s) = refl
@@ -74,7 +80,8 @@ module _ (P : Program) (t : Texts) where
   mutual
     unfolding has_memory
 
-    term_memoryless : (e : Term) → memoryless (parts_of e) ≡ (not (has_memory e) && functions (sites_of e))
+    term_memoryless : (e : Term) →
+        memoryless (parts_of e) ≡ (not (has_memory e) && functions (sites_of e))
     term_memoryless (Literal n) = refl
     term_memoryless (Truth b) = refl
     term_memoryless (Variable x) = refl
@@ -82,11 +89,14 @@ module _ (P : Program) (t : Texts) where
     term_memoryless (Group' p e) = term_memoryless e
     term_memoryless (Unary' op p a) = term_memoryless a
     term_memoryless (Binary' op p a q b) =
-        two_parts (parts_of a) (parts_of b) (sites_of a) (sites_of b) (has_memory a) (has_memory b) (term_memoryless a) (term_memoryless b)
+        two_parts (parts_of a) (parts_of b) (sites_of a) (sites_of b) (has_memory a) (has_memory b)
+        (term_memoryless a) (term_memoryless b)
     term_memoryless (If' p c q a r b) =
-        two_parts (parts_of c) (parts_of a ++ parts_of b) (sites_of c) (sites_of a ++ sites_of b) (has_memory c) (has_memory a || has_memory b)
+        two_parts (parts_of c) (parts_of a ++ parts_of b) (sites_of c) (sites_of a ++ sites_of b)
+        (has_memory c) (has_memory a || has_memory b)
         (term_memoryless c)
-        (two_parts (parts_of a) (parts_of b) (sites_of a) (sites_of b) (has_memory a) (has_memory b) (term_memoryless a) (term_memoryless b))
+        (two_parts (parts_of a) (parts_of b) (sites_of a) (sites_of b) (has_memory a) (has_memory b)
+        (term_memoryless a) (term_memoryless b))
     term_memoryless (Arrow' p a q b) = refl
     term_memoryless (Fby' p a q b) = refl
     term_memoryless (Pre' p e) = refl
@@ -96,30 +106,40 @@ module _ (P : Program) (t : Texts) where
     term_memoryless (Index' p e i) = term_memoryless e
     term_memoryless (Slice' p e i j) = term_memoryless e
     term_memoryless (Join' p a q b) =
-        two_parts (parts_of a) (parts_of b) (sites_of a) (sites_of b) (has_memory a) (has_memory b) (term_memoryless a) (term_memoryless b)
+        two_parts (parts_of a) (parts_of b) (sites_of a) (sites_of b) (has_memory a) (has_memory b)
+        (term_memoryless a) (term_memoryless b)
     term_memoryless (Array' shape all) = row_memoryless all
     term_memoryless (AtMostOne' shape all) = row_memoryless all
     term_memoryless (Nor' shape all) = row_memoryless all
     term_memoryless (Call' c shape all) = swapped _ (row_memory all) _ _ (row_memoryless all)
-    term_memoryless (IterateNode' it c shape all) = swapped _ (row_memory all) _ _ (row_memoryless all)
+    term_memoryless (IterateNode' it c shape all) =
+        swapped _ (row_memory all) _ _ (row_memoryless all)
     term_memoryless (IterateSymbol' it op n shape all) = row_memoryless all
 
-    row_memoryless : {m : _} (row : Row_of-Term m) → memoryless (parts_in (row_of t row)) ≡ (not (row_memory row) && functions (sites_in (row_of t row)))
+    row_memoryless : {m : _} (row : Row_of-Term m) →
+        memoryless (parts_in (row_of t row)) ≡
+        (not (row_memory row) && functions (sites_in (row_of t row)))
     row_memoryless end_of-Term = refl
     row_memoryless (more_of-Term e rest) =
-        two_parts (parts_of e) (parts_in (row_of t rest)) (sites_of e) (sites_in (row_of t rest)) (has_memory e) (row_memory rest)
+        two_parts (parts_of e) (parts_in (row_of t rest)) (sites_of e) (sites_in (row_of t rest))
+        (has_memory e) (row_memory rest)
         (term_memoryless e) (row_memoryless rest)
 
-  step_memoryless : (s : Step) → memoryless (parts (right_side (statement_of t s))) ≡ (not (step_memory s) && functions (statement_sites (statement_of t s)))
+  step_memoryless : (s : Step) →
+      memoryless (parts (right_side (statement_of t s))) ≡
+      (not (step_memory s) && functions (statement_sites (statement_of t s)))
   step_memoryless (step.Equation lefts e) = term_memoryless e
   step_memoryless (step.Assertion e) = term_memoryless e
 
-  steps_memoryless : (ss : List Step) → memoryless (flat_map (λ s. parts (right_side s)) (map (statement_of t) ss))
+  steps_memoryless : (ss : List Step) →
+      memoryless (flat_map (λ s. parts (right_side s)) (map (statement_of t) ss))
       ≡ (not (steps_memory ss) && functions (flat_map statement_sites (map (statement_of t) ss)))
   steps_memoryless [] = refl
   steps_memoryless (s ∷ ss) =
-      two_parts (parts (right_side (statement_of t s))) (flat_map (λ s. parts (right_side s)) (map (statement_of t) ss))
-      (statement_sites (statement_of t s)) (flat_map statement_sites (map (statement_of t) ss)) (step_memory s) (steps_memory ss)
+      two_parts (parts (right_side (statement_of t s)))
+      (flat_map (λ s. parts (right_side s)) (map (statement_of t) ss))
+      (statement_sites (statement_of t s)) (flat_map statement_sites (map (statement_of t) ss))
+      (step_memory s) (steps_memory ss)
       (step_memoryless s) (steps_memoryless ss)
 
 -- ## How often a name stands on the left
@@ -128,12 +148,14 @@ abbrev name_count : Name → List Name → ℕ
 name_count x [] = 0
 name_count x (y ∷ ys) = cond (bytes_eq x y) (1 + name_count x ys) (name_count x ys)
 
-count_append : (x : Name) (ys zs : List Name) → name_count x (ys ++ zs) ≡ name_count x ys + name_count x zs
+count_append : (x : Name) (ys zs : List Name) →
+    name_count x (ys ++ zs) ≡ name_count x ys + name_count x zs
 count_append x [] zs = omega arith
 count_append x (y ∷ ys) zs = by (bytes_eq x y) (count_append x ys zs)
   where
     by : (b : Bool) → name_count x (ys ++ zs) ≡ name_count x ys + name_count x zs
-        → cond b (1 + name_count x (ys ++ zs)) (name_count x (ys ++ zs)) ≡ cond b (1 + name_count x ys) (name_count x ys) + name_count x zs
+        → cond b (1 + name_count x (ys ++ zs)) (name_count x (ys ++ zs)) ≡ cond b
+        (1 + name_count x ys) (name_count x ys) + name_count x zs
     by true e = omega (arith, e)
     by false e = e
 
@@ -144,20 +166,25 @@ one_or_none false m n e = e ∙ omega arith
 is_below : (i n : ℕ) → nat_lt i n ≡ true → i < n
 is_below i n e = grind (arith, nat_tests)
 
-module _ (t : Texts) (k : Counts) (as_many : k.variables ≡ length t.variables) (distinct : are_distinct t.variables ≡ true)
+module _ (t : Texts) (k : Counts) (as_many : k.variables ≡ length t.variables)
+    (distinct : are_distinct t.variables ≡ true)
     (i : ℕ) (x : Name) (at : slice_get t.variables i ≡ Some x) where
-  lefts_counted : (xs : List VariableId) → list_all (is_variable k) xs ≡ true → name_count x (map (name_at t.variables) xs) ≡ count_left i xs
+  lefts_counted : (xs : List VariableId) → list_all (is_variable k) xs ≡ true →
+      name_count x (map (name_at t.variables) xs) ≡ count_left i xs
   lefts_counted [] w = refl
   lefts_counted (y ∷ xs) w =
       let below = is_below y.0 k.variables (and_first _ (list_all (is_variable k) xs) w) in
       let h = held t.variables y.0 (omega (arith, as_many, below)) in
       let same = distinct_at t.variables i y.0 x h.0 distinct at h.1 in
       let rest = lefts_counted xs (and_second (is_variable k y) _ w) in
-      ap (λ o. cond (bytes_eq x (either_or o [])) (1 + name_count x (map (name_at t.variables) xs)) (name_count x (map (name_at t.variables) xs))) h.1
-      ∙ ap (λ b. cond b (1 + name_count x (map (name_at t.variables) xs)) (name_count x (map (name_at t.variables) xs))) same
+      ap (λ o. cond (bytes_eq x (either_or o [])) (1 + name_count x (map (name_at t.variables) xs))
+      (name_count x (map (name_at t.variables) xs))) h.1
+      ∙ ap (λ b. cond b (1 + name_count x (map (name_at t.variables) xs))
+      (name_count x (map (name_at t.variables) xs))) same
       ∙ one_or_none (y.0 == i) _ _ rest
 
-  step_counted : (s : Step) → is_step_within k s ≡ true → name_count x (left_names (statement_of t s)) ≡ count_step i s
+  step_counted : (s : Step) → is_step_within k s ≡ true →
+      name_count x (left_names (statement_of t s)) ≡ count_step i s
   step_counted (step.Equation lefts e) w = lefts_counted lefts.items (and_first _ _ w)
   step_counted (step.Assertion e) w = refl
 
@@ -167,9 +194,11 @@ module _ (t : Texts) (k : Counts) (as_many : k.variables ≡ length t.variables)
   steps_counted (s ∷ ss) w =
       let a = step_counted s (and_first _ (list_all (is_step_within k) ss) w) in
       let b = steps_counted ss (and_second (is_step_within k s) _ w) in
-      count_append x (left_names (statement_of t s)) (flat_map left_names (map (statement_of t) ss)) ∙ rw a (rw b refl)
+      count_append x (left_names (statement_of t s)) (flat_map left_names (map (statement_of t) ss))
+      ∙ rw a (rw b refl)
 
-  counted : (n : Node) (ss : List Step) → map (statement_of t) ss ≡ n.body → list_all (is_step_within k) ss ≡ true
+  counted : (n : Node) (ss : List Step) → map (statement_of t) ss ≡ n.body →
+      list_all (is_step_within k) ss ≡ true
       → definition_count n x ≡ count_steps i ss
   counted n ss body w =
       sym (is_count_by (name_count x) (bytes_eq x) refl (λ y ys. refl) (flat_map left_names n.body))
@@ -177,12 +206,14 @@ module _ (t : Texts) (k : Counts) (as_many : k.variables ≡ length t.variables)
 
 -- ## Two lists place by place
 
-get_before : {A : Type 0} (xs ys : List A) (i : ℕ) (x : A) → slice_get xs i ≡ Some x → slice_get (xs ++ ys) i ≡ Some x
+get_before : {A : Type 0} (xs ys : List A) (i : ℕ) (x : A) → slice_get xs i ≡ Some x →
+    slice_get (xs ++ ys) i ≡ Some x
 get_before [] ys i x e = absurd cc
 get_before (z ∷ xs) ys zero x e = e
 get_before (z ∷ xs) ys (suc i) x e = get_before xs ys i x e
 
-get_after : {A : Type 0} (xs ys : List A) (i : ℕ) → slice_get (xs ++ ys) (length xs + i) ≡ slice_get ys i
+get_after : {A : Type 0} (xs ys : List A) (i : ℕ) →
+    slice_get (xs ++ ys) (length xs + i) ≡ slice_get ys i
 get_after [] ys i = ap (slice_get ys) (omega arith)
 get_after (x ∷ xs) ys i =
     let e : suc (length xs) + i ≡ suc (length xs + i) = omega arith in
@@ -201,7 +232,8 @@ above : (i a : ℕ) → a ≤ i → nat_lt i a ≡ false
 above i a le = grind (arith, nat_tests)
 
 -- a count is 0 of each of a list, and 1 of each of a second, where it is that of the place
-module _ {A : Type 0} (xs ys : List A) (c : A → ℕ) (k : ℕ → ℕ) (count : ℕ) (as_many : count ≡ length (xs ++ ys))
+module _ {A : Type 0} (xs ys : List A) (c : A → ℕ) (k : ℕ → ℕ) (count : ℕ)
+    (as_many : count ≡ length (xs ++ ys))
     (same : (i : ℕ) (d : A) → slice_get (xs ++ ys) i ≡ Some d → c d ≡ k i) where
   abbrev once : A → Bool
   once d = nat_eq (c d) 1
@@ -222,7 +254,8 @@ module _ {A : Type 0} (xs ys : List A) (c : A → ℕ) (k : ℕ → ℕ) (count 
       let ins = all_from never xs (λ i d e.
       let at = get_before xs ys i d e in
       let lt = slice_get_within (xs ++ ys) i d at in
-      equal_is _ 0 (same i d at ∙ each i (omega (arith, as_many, lt)) ∙ ap (λ b. cond b 0 1) (below i (length xs) (slice_get_within xs i d e)))) in
+      equal_is _ 0 (same i d at ∙ each i (omega (arith, as_many, lt))
+      ∙ ap (λ b. cond b 0 1) (below i (length xs) (slice_get_within xs i d e)))) in
       rw rest ins
 
   to_each : (list_all once ys && list_all never xs) ≡ true → Each
@@ -232,7 +265,8 @@ module _ {A : Type 0} (xs ys : List A) (c : A → ℕ) (k : ℕ → ℕ) (count 
       by true is =
           let h = held xs i (is_below i (length xs) is) in
           let zero = all_at never xs i h.0 (and_second (list_all once ys) _ all) h.1 in
-          sym (same i h.0 (get_before xs ys i h.0 h.1)) ∙ is_equal _ 0 zero ∙ sym (ap (λ b. cond b 0 1) is)
+          sym (same i h.0 (get_before xs ys i h.0 h.1)) ∙ is_equal _ 0 zero
+          ∙ sym (ap (λ b. cond b 0 1) is)
       by false is =
           let le : length xs ≤ i = grind (arith, nat_tests) in
           let sum : length xs + (i - length xs) ≡ i = omega arith in
@@ -247,34 +281,45 @@ module _ {A : Type 0} (xs ys : List A) (c : A → ℕ) (k : ℕ → ℕ) (count 
 module _ (P : Program) (r : Reached) (names : keeps_names P ≡ true) (reached : IsReached P r) where
   -- what a call calls is found by its name
   calls_are : (statics : List Static) (cs : List CallSite) → list_all (is_linked r) cs ≡ true
-      → list_all (λ s. if_node P (λ n. n.is_function) s.callee) (map (site_of (source_names P) statics) cs) ≡ call_functions r cs
+      → list_all (λ s. if_node P (λ n. n.is_function) s.callee)
+      (map (site_of (source_names P) statics) cs) ≡ call_functions r cs
   calls_are statics [] l = refl
   calls_are statics (c ∷ cs) l =
       let one = call_is c (id_at r c.callee) refl (and_first _ (list_all (is_linked r) cs) l) in
       let rest = calls_are statics cs (and_second (is_linked r c) _ l) in
       rw one (rw rest refl)
     where
-      found_function : (n : Node) → node_named P n.name ≡ Some n → if_node P (λ n. n.is_function) n.name ≡ n.is_function
-      found_function n e = ap (λ o. list_all (λ n. n.is_function) (listed (λ n. n ∷ []) o)) e ∙ and_true n.is_function
+      found_function : (n : Node) → node_named P n.name ≡ Some n →
+          if_node P (λ n. n.is_function) n.name ≡ n.is_function
+      found_function n e = ap (λ o. list_all (λ n. n.is_function) (listed (λ n. n ∷ []) o)) e
+          ∙ and_true n.is_function
         where
           and_true : (b : Bool) → (b && true) ≡ b
           and_true true = refl
           and_true false = refl
 
-      call_is : (c : CallSite) (o : Option NodeId) → id_at r c.callee ≡ o → holds (λ id. nat_lt id.0 (length r.nodes.items)) (id_at r c.callee) ≡ true
-          → if_node P (λ n. n.is_function) (either_or (slice_get (source_names P) c.callee.0) []) ≡ calls_function r c
-      call_is c None is l = absurd (let e = sym (ap (holds (λ id. nat_lt id.0 (length r.nodes.items))) is) ∙ l in cc)
+      call_is : (c : CallSite) (o : Option NodeId) → id_at r c.callee ≡ o →
+          holds (λ id. nat_lt id.0 (length r.nodes.items)) (id_at r c.callee) ≡ true
+          → if_node P (λ n. n.is_function)
+          (either_or (slice_get (source_names P) c.callee.0) []) ≡ calls_function r c
+      call_is c None is l = absurd
+          (let e = sym (ap (holds (λ id. nat_lt id.0 (length r.nodes.items))) is) ∙ l in cc)
       call_is c (Some id) is l =
-          let lt = is_below id.0 (length r.nodes.items) (sym (ap (holds (λ id. nat_lt id.0 (length r.nodes.items))) is) ∙ l) in
+          let lt = is_below id.0 (length r.nodes.items)
+          (sym (ap (holds (λ id. nat_lt id.0 (length r.nodes.items))) is) ∙ l) in
           let h = held r.nodes.items id.0 lt in
           let n = node_of h.0 in
-          let tree_is : tree_at r id ≡ Some n = slice_get-map node_of r.nodes.items id.0 ∙ ap (option_map node_of) h.1 in
-          let place : slice_get P.source.nodes c.callee.0 ≡ Some n = sym (reached.found c.callee id is) ∙ tree_is in
+          let tree_is : tree_at r id ≡ Some n = slice_get-map node_of r.nodes.items id.0
+          ∙ ap (option_map node_of) h.1 in
+          let place : slice_get P.source.nodes c.callee.0 ≡ Some n =
+          sym (reached.found c.callee id is) ∙ tree_is in
           let name : slice_get (source_names P) c.callee.0 ≡ Some n.name =
-          slice_get-map (λ m. m.name) P.source.nodes c.callee.0 ∙ ap (option_map (λ m. m.name)) place in
+          slice_get-map (λ m. m.name) P.source.nodes c.callee.0
+          ∙ ap (option_map (λ m. m.name)) place in
           ap (λ o. if_node P (λ n. n.is_function) (either_or o [])) name
           ∙ found_function n (named_at P names c.callee.0 n place)
-          ∙ sym (ap (λ o. holds (λ n. n.is_function) (o >>= tree_at r)) is ∙ ap (holds (λ n. n.is_function)) tree_is)
+          ∙ sym (ap (λ o. holds (λ n. n.is_function) (o >>= tree_at r)) is
+          ∙ ap (holds (λ n. n.is_function)) tree_is)
 
   module _ (id : NodeId) (n : ResolvedNode) (at : slice_get r.nodes.items id.0 ≡ Some n) where
     abbrev here : Node
@@ -295,23 +340,33 @@ module _ (P : Program) (r : Reached) (names : keeps_names P ≡ true) (reached :
         let is = get_or_from_slice_get (trees r) id.0 here here tree_is in
         distinct_variables P names here ((reached.same here).0 (id.0, lt, is))
 
-    memoryless_is : list_all (is_memoryless P) (node_parts here) ≡ (not (steps_memory n.body.items) && call_functions r n.calls.items)
+    memoryless_is : list_all (is_memoryless P)
+        (node_parts here) ≡ (not (steps_memory n.body.items) && call_functions r n.calls.items)
     memoryless_is =
-        ap (λ b. list_all (is_memoryless P) (flat_map (λ s. parts (right_side s)) b)) (sym resolved.body)
+        ap (λ b. list_all (is_memoryless P) (flat_map (λ s. parts (right_side s)) b))
+        (sym resolved.body)
         ∙ steps_memoryless P (texts_of n) n.body.items
-        ∙ ap (λ b. not (steps_memory n.body.items) && list_all (λ s. if_node P (λ m. m.is_function) s.callee) (flat_map statement_sites b)) resolved.body
-        ∙ ap (λ ss. not (steps_memory n.body.items) && list_all (λ s. if_node P (λ m. m.is_function) s.callee) ss) (sym resolved.calls)
-        ∙ ap (λ b. not (steps_memory n.body.items) && b) (calls_are (statics_of n) n.calls.items (all_at (are_linked r) r.nodes.items id.0 n reached.linked at))
+        ∙ ap (λ b. not (steps_memory n.body.items)
+        && list_all (λ s. if_node P (λ m. m.is_function) s.callee) (flat_map statement_sites b))
+        resolved.body
+        ∙ ap (λ ss. not (steps_memory n.body.items)
+        && list_all (λ s. if_node P (λ m. m.is_function) s.callee) ss) (sym resolved.calls)
+        ∙ ap (λ b. not (steps_memory n.body.items) && b)
+        (calls_are (statics_of n) n.calls.items
+        (all_at (are_linked r) r.nodes.items id.0 n reached.linked at))
 
     defined_is : is_defined_at P r id ≡ (defines_once here && keeps_function_rules r n)
-    defined_is = ap (holds (is_defined P)) tree_is ∙ ap (λ b. defines_once here && (not n.tree.now.is_function || b)) memoryless_is
+    defined_is = ap (holds (is_defined P)) tree_is
+        ∙ ap (λ b. defines_once here && (not n.tree.now.is_function || b)) memoryless_is
 
     names_many : length n.variables.items ≡ length (variable_names here)
     names_many = resolved.as_many ∙ sym (length-map (variables here) (λ d. d.name))
 
-    count_is : (i : ℕ) (d : Declaration) → slice_get (variables here) i ≡ Some d → definition_count here d.name ≡ count_steps i n.body.items
+    count_is : (i : ℕ) (d : Declaration) → slice_get (variables here) i ≡ Some d →
+        definition_count here d.name ≡ count_steps i n.body.items
     count_is i d e =
-        counted (texts_of n) (counts_of n) names_many distinct i d.name (slice_get-map (λ d. d.name) (variables here) i ∙ ap (option_map (λ d. d.name)) e)
+        counted (texts_of n) (counts_of n) names_many distinct i d.name
+        (slice_get-map (λ d. d.name) (variables here) i ∙ ap (option_map (λ d. d.name)) e)
         here n.body.items resolved.body resolved.body_within
 
     abbrev Defined : Type 0
@@ -319,28 +374,33 @@ module _ (P : Program) (r : Reached) (names : keeps_names P ≡ true) (reached :
 
     once_from : Defined → defines_once here ≡ true
     once_from each =
-        from_each here.inputs (here.outputs ++ here.locals) (λ d. definition_count here d.name) (λ i. count_steps i n.body.items)
+        from_each here.inputs (here.outputs ++ here.locals) (λ d. definition_count here d.name)
+        (λ i. count_steps i n.body.items)
         (length n.variables.items) resolved.as_many count_is
         (subst (λ k. DefinesEach k (length n.variables.items) n.body.items) resolved.inputs each)
 
     from_once : defines_once here ≡ true → Defined
     from_once all =
         subst (λ k. DefinesEach k (length n.variables.items) n.body.items) (sym resolved.inputs)
-        (to_each here.inputs (here.outputs ++ here.locals) (λ d. definition_count here d.name) (λ i. count_steps i n.body.items)
+        (to_each here.inputs (here.outputs ++ here.locals) (λ d. definition_count here d.name)
+        (λ i. count_steps i n.body.items)
         (length n.variables.items) resolved.as_many count_is all)
 
     -- what the code answers
     pub rules_broken : keeps_function_rules r n ≡ false → false ≡ is_defined_at P r id
-    rules_broken e = sym (defined_is ∙ ap (λ b. defines_once here && b) e ∙ and_false (defines_once here))
+    rules_broken e = sym (defined_is ∙ ap (λ b. defines_once here && b) e
+        ∙ and_false (defines_once here))
       where
         and_false : (b : Bool) → (b && false) ≡ false
         and_false true = refl
         and_false false = refl
 
-    pub rules_kept : {E : Type 0} → keeps_function_rules r n ≡ true → (result : Result Bool E) → IfOk result (λ b. IsTrue b ↔ Defined)
+    pub rules_kept : {E : Type 0} → keeps_function_rules r n ≡ true → (result : Result Bool E) →
+        IfOk result (λ b. IsTrue b ↔ Defined)
         → IfOk result (λ b. b ≡ is_defined_at P r id)
     rules_kept e (Err x) all = all
-    rules_kept e (Ok b) all = by b (defines_once here) all refl ∙ sym (defined_is ∙ ap (λ k. defines_once here && k) e ∙ and_true (defines_once here))
+    rules_kept e (Ok b) all = by b (defines_once here) all refl
+        ∙ sym (defined_is ∙ ap (λ k. defines_once here && k) e ∙ and_true (defines_once here))
       where
         and_true : (b : Bool) → (b && true) ≡ b
         and_true true = refl

@@ -18,6 +18,7 @@ use Rattle.lb_static.specs.StaticValues.{natural}
 use Rattle.lb_check.specs.StoredShapes.{shape_in}
 use Rattle.lb_check.specs.TermTypes.{wholes}
 use Rattle.lb_check.specs.declared.shape.Shape as stored
+use Rattle.lb_check.proofs.TruthValues.{both_ways}
 
 -- ## The same types
 
@@ -40,9 +41,11 @@ length_map (x ∷ xs) = ap suc (length_map xs)
 pub other_lengths : (xs ys : List stored.Shape) → (length xs ≡ length ys → ⊥)
     → are_shapes (map shape_in xs) (map shape_in ys) ≡ false
 other_lengths xs ys other =
-    longer (map shape_in xs) (map shape_in ys) (λ e. other (sym (length_map xs) ∙ e ∙ length_map ys))
+    longer (map shape_in xs) (map shape_in ys)
+    (λ e. other (sym (length_map xs) ∙ e ∙ length_map ys))
 
-pub same_next : (xs ys : List stored.Shape) (i : ℕ) (d e : stored.Shape) → i < length xs → i < length ys
+pub same_next : (xs ys : List stored.Shape) (i : ℕ) (d e : stored.Shape) → i < length xs →
+    i < length ys
     → are_shapes (map shape_in (drop i xs)) (map shape_in (drop i ys))
     ≡ (is_shape (shape_in (get_or xs i d)) (shape_in (get_or ys i e))
     && are_shapes (map shape_in (drop (i + 1) xs)) (map shape_in (drop (i + 1) ys)))
@@ -50,7 +53,8 @@ same_next xs ys i d e lx ly =
     rw (drop_more xs i d lx) (rw (drop_more ys i e ly) refl)
 
 -- one more of each that is the same
-pub same_more : (xs ys : List stored.Shape) (i : ℕ) (x y : stored.Shape) → length xs ≡ length ys → i < length xs
+pub same_more : (xs ys : List stored.Shape) (i : ℕ) (x y : stored.Shape) → length xs ≡ length ys →
+    i < length xs
     → x ≡ get_or xs i x → y ≡ get_or ys i y → is_shape (shape_in x) (shape_in y) ≡ true
     → are_shapes (map shape_in (drop i xs)) (map shape_in (drop i ys))
     ≡ are_shapes (map shape_in (drop (i + 1) xs)) (map shape_in (drop (i + 1) ys))
@@ -69,8 +73,10 @@ same_end (x ∷ xs) [] i e le = absurd (omega arith)
 same_end (x ∷ xs) (y ∷ ys) zero e le = absurd (omega arith)
 same_end (x ∷ xs) (y ∷ ys) (suc i) e le = same_end xs ys i (omega arith) (omega arith)
 
-pub are_next : (f : Shape → Bool) (xs : List stored.Shape) (i : ℕ) (d : stored.Shape) → i < length xs
-    → list_all f (map shape_in (drop i xs)) ≡ (f (shape_in (get_or xs i d)) && list_all f (map shape_in (drop (i + 1) xs)))
+pub are_next : (f : Shape → Bool) (xs : List stored.Shape) (i : ℕ) (d : stored.Shape) →
+    i < length xs
+    → list_all f (map shape_in (drop i xs)) ≡
+    (f (shape_in (get_or xs i d)) && list_all f (map shape_in (drop (i + 1) xs)))
 are_next f xs i d lt = rw (drop_more xs i d lt) refl
 
 -- what two lists of types say of their items and of their lengths
@@ -80,7 +86,8 @@ pub ruleset same_lists = (same_next, other_lengths)
 pub truth_first : (t : Shape) → is_shape t truth ≡ is_shape truth t
 truth_first t = by t.kind t.sizes
   where
-    by : (k : Kind) (ns : List ℕ) → (is_kind k Bool_kind && same_sizes ns []) ≡ (is_kind Bool_kind k && same_sizes [] ns)
+    by : (k : Kind) (ns : List ℕ) →
+        (is_kind k Bool_kind && same_sizes ns []) ≡ (is_kind Bool_kind k && same_sizes [] ns)
     by Int_kind ns = refl
     by Bool_kind [] = refl
     by Bool_kind (n ∷ ns) = refl
@@ -96,7 +103,8 @@ no_more t k e =
     by (n ∷ ns) = eqb-suc-zero (length ns)
 
 -- several types are not one
-pub several : (xs : List stored.Shape) (t : Shape) → 2 ≤ length xs → are_shapes (map shape_in xs) (t ∷ []) ≡ false
+pub several : (xs : List stored.Shape) (t : Shape) → 2 ≤ length xs →
+    are_shapes (map shape_in xs) (t ∷ []) ≡ false
 several [] t many = absurd (omega arith)
 several (x ∷ []) t many = absurd (omega arith)
 several (x ∷ (y ∷ ys)) t many = by (is_shape (shape_in x) t)
@@ -108,30 +116,30 @@ several (x ∷ (y ∷ ys)) t many = by (is_shape (shape_in x) t)
 -- ## A list gathered item by item
 
 -- the whole of a list is what there is, and then what is to come
-abbrev pub Gathered : {A : Type 0} → Option (List Shape) → (A → Option Shape) → List stored.Shape → List A → Type 0
-Gathered whole f done rest = whole ≡ option_map (λ ts. map shape_in done ++ ts) (all_some (map f rest))
+abbrev pub Gathered : {A : Type 0} → Option (List Shape) → (A → Option Shape) → List stored.Shape →
+    List A → Type 0
+Gathered whole f done rest =
+    whole ≡ option_map (λ ts. map shape_in done ++ ts) (all_some (map f rest))
 
 map_snoc : (done : List stored.Shape) (x : stored.Shape) (ts : List Shape)
     → map shape_in (done ++ x ∷ []) ++ ts ≡ map shape_in done ++ (shape_in x ∷ ts)
 map_snoc [] x ts = refl
 map_snoc (d ∷ done) x ts = ap (λ (l : List Shape). shape_in d ∷ l) (map_snoc done x ts)
 
-pub gathers_start : {A : Type 0} → (f : A → Option Shape) (all : List A) → Gathered (all_some (map f all)) f [] all
-gathers_start f all = by (all_some (map f all))
-  where
-    by : (o : Option (List Shape)) → o ≡ option_map (λ ts. [] ++ ts) o
-    by None = refl
-    by (Some ts) = refl
-
-pub gathers_more : {A : Type 0} → (whole : Option (List Shape)) (f : A → Option Shape) (all : List A) (done : List stored.Shape) (i : ℕ) (d : A) (x : stored.Shape)
+pub gathers_more : {A : Type 0} →
+    (whole : Option (List Shape)) (f : A → Option Shape) (all : List A) (done : List stored.Shape)
+    (i : ℕ) (d : A) (x : stored.Shape)
     → Gathered whole f done (drop i all) → i < length all → Some (shape_in x) ≡ f (get_or all i d)
     → Gathered whole f (done ++ x ∷ []) (drop (i + 1) all)
 gathers_more whole f all done i d x g lt is =
-    g ∙ ap (λ l. option_map (λ ts. map shape_in done ++ ts) (all_some (map f l))) (drop_more all i d lt)
-    ∙ ap (λ o. option_map (λ ts. map shape_in done ++ ts) (all_some (o ∷ map f (drop (i + 1) all)))) (sym is)
+    g ∙ ap (λ l. option_map (λ ts. map shape_in done ++ ts) (all_some (map f l)))
+    (drop_more all i d lt)
+    ∙ ap (λ o. option_map (λ ts. map shape_in done ++ ts) (all_some (o ∷ map f (drop (i + 1) all))))
+    (sym is)
     ∙ by (all_some (map f (drop (i + 1) all)))
   where
-    by : (o : Option (List Shape)) → option_map (λ ts. map shape_in done ++ ts) (option_map (λ ts. shape_in x ∷ ts) o)
+    by : (o : Option (List Shape)) →
+        option_map (λ ts. map shape_in done ++ ts) (option_map (λ ts. shape_in x ∷ ts) o)
         ≡ option_map (λ ts. map shape_in (done ++ x ∷ []) ++ ts) o
     by None = refl
     by (Some ts) = ap Some (sym (map_snoc done x ts))
@@ -141,17 +149,25 @@ nothing_more [] = refl
 nothing_more (x ∷ xs) = ap (λ l. x ∷ l) (nothing_more xs)
 
 -- an item gives nothing
-pub gathers_none : {A : Type 0} → (whole : Option (List Shape)) (f : A → Option Shape) (all : List A) (done : List stored.Shape) (i : ℕ) (d : A)
-    → Gathered whole f done (drop i all) → i < length all → d ≡ get_or all i d → f d ≡ None → None ≡ whole
+pub gathers_none : {A : Type 0} →
+    (whole : Option (List Shape)) (f : A → Option Shape) (all : List A) (done : List stored.Shape)
+    (i : ℕ) (d : A)
+    → Gathered whole f done (drop i all) → i < length all → d ≡ get_or all i d → f d ≡ None →
+    None ≡ whole
 gathers_none whole f all done i d g lt is none =
-    sym (g ∙ ap (λ l. option_map (λ ts. map shape_in done ++ ts) (all_some (map f l))) (drop_more all i d lt)
-    ∙ ap (λ o. option_map (λ ts. map shape_in done ++ ts) (all_some (o ∷ map f (drop (i + 1) all)))) (sym (ap f is) ∙ none))
+    sym (g ∙ ap (λ l. option_map (λ ts. map shape_in done ++ ts) (all_some (map f l)))
+    (drop_more all i d lt)
+    ∙ ap (λ o. option_map (λ ts. map shape_in done ++ ts) (all_some (o ∷ map f (drop (i + 1) all))))
+    (sym (ap f is) ∙ none))
 
 -- none is left
-pub gathers_end : {A : Type 0} → (whole : Option (List Shape)) (f : A → Option Shape) (all : List A) (done : List stored.Shape) (i : ℕ)
+pub gathers_end : {A : Type 0} →
+    (whole : Option (List Shape)) (f : A → Option Shape) (all : List A) (done : List stored.Shape)
+    (i : ℕ)
     → Gathered whole f done (drop i all) → length all ≤ i → Some (map shape_in done) ≡ whole
 gathers_end whole f all done i g le =
-    sym (g ∙ ap (λ l. option_map (λ ts. map shape_in done ++ ts) (all_some (map f l))) (drop_all i all le)
+    sym (g ∙ ap (λ l. option_map (λ ts. map shape_in done ++ ts) (all_some (map f l)))
+    (drop_all i all le)
     ∙ ap Some (nothing_more (map shape_in done)))
 
 -- ## Lengths, gathered one by one
@@ -161,27 +177,34 @@ append_one [] n ns = refl
 append_one (d ∷ done) n ns = ap (λ (l : List ℕ). d ∷ l) (append_one done n ns)
 
 pub lengths_more : (whole : Option (List ℕ)) (all : List ℤ) (done : List ℕ) (i : ℕ) (d : ℤ) (n : ℕ)
-    → whole ≡ option_map (λ ns. done ++ ns) (wholes (drop i all)) → i < length all → Some n ≡ natural (get_or all i d)
+    → whole ≡ option_map (λ ns. done ++ ns) (wholes (drop i all)) → i < length all →
+    Some n ≡ natural (get_or all i d)
     → whole ≡ option_map (λ ns. (done ++ n ∷ []) ++ ns) (wholes (drop (i + 1) all))
 lengths_more whole all done i d n g lt is =
     g ∙ ap (λ l. option_map (λ ns. done ++ ns) (wholes l)) (drop_more all i d lt)
-    ∙ ap (λ o. option_map (λ ns. done ++ ns) (all_some (o ∷ map natural (drop (i + 1) all)))) (sym is)
+    ∙ ap (λ o. option_map (λ ns. done ++ ns) (all_some (o ∷ map natural (drop (i + 1) all))))
+    (sym is)
     ∙ by (wholes (drop (i + 1) all))
   where
-    by : (o : Option (List ℕ)) → option_map (λ ns. done ++ ns) (option_map (λ ns. n ∷ ns) o) ≡ option_map (λ ns. (done ++ n ∷ []) ++ ns) o
+    by : (o : Option (List ℕ)) →
+        option_map (λ ns. done ++ ns) (option_map (λ ns. n ∷ ns) o) ≡ option_map
+        (λ ns. (done ++ n ∷ []) ++ ns) o
     by None = refl
     by (Some ns) = ap Some (sym (append_one done n ns))
 
 pub lengths_none : (whole : Option (List ℕ)) (all : List ℤ) (done : List ℕ) (i : ℕ) (d : ℤ)
-    → whole ≡ option_map (λ ns. done ++ ns) (wholes (drop i all)) → i < length all → natural (get_or all i d) ≡ None → None ≡ whole
+    → whole ≡ option_map (λ ns. done ++ ns) (wholes (drop i all)) → i < length all →
+    natural (get_or all i d) ≡ None → None ≡ whole
 lengths_none whole all done i d g lt none =
     sym (g ∙ ap (λ l. option_map (λ ns. done ++ ns) (wholes l)) (drop_more all i d lt)
     ∙ ap (λ o. option_map (λ ns. done ++ ns) (all_some (o ∷ map natural (drop (i + 1) all)))) none)
 
 pub lengths_end : (whole : Option (List ℕ)) (all : List ℤ) (done : List ℕ) (i : ℕ)
-    → whole ≡ option_map (λ ns. done ++ ns) (wholes (drop i all)) → length all ≤ i → Some done ≡ whole
+    → whole ≡ option_map (λ ns. done ++ ns) (wholes (drop i all)) → length all ≤ i →
+    Some done ≡ whole
 lengths_end whole all done i g le =
-    sym (g ∙ ap (λ l. option_map (λ ns. done ++ ns) (wholes l)) (drop_all i all le) ∙ ap Some (nothing_more done))
+    sym (g ∙ ap (λ l. option_map (λ ns. done ++ ns) (wholes l)) (drop_all i all le)
+    ∙ ap Some (nothing_more done))
 
 -- ## Lengths, the outermost last
 
@@ -189,11 +212,6 @@ pub outermost : (ns : List ℕ) (n : ℕ) → reverse (ns ++ n ∷ []) ≡ n ∷
 outermost ns n = reverse-append ns (n ∷ [])
 
 -- ## The same lengths
-
-both_ways : (a b : Bool) → (a ≡ true → b ≡ true) → (b ≡ true → a ≡ true) → a ≡ b
-both_ways true b f g = sym (f refl)
-both_ways false true f g = g refl
-both_ways false false f g = refl
 
 itself : (ns : List ℕ) → pointwise nat_eq ns ns ≡ true
 itself [] = refl
@@ -211,9 +229,11 @@ sizes_pointwise (n ∷ ns) (m ∷ ms) = ap (λ b. nat_eq n m && b) (sizes_pointw
 reversed : (ns ms : List ℕ) → pointwise nat_eq ns ms ≡ pointwise nat_eq (reverse ns) (reverse ms)
 reversed ns ms =
     both_ways _ _
-    (λ e. equal_lists (reverse ns) (reverse ms) (ap (λ (ks : List ℕ). reverse ks) (same_text ns ms (sym e))))
+    (λ e. equal_lists (reverse ns) (reverse ms)
+    (ap (λ (ks : List ℕ). reverse ks) (same_text ns ms (sym e))))
     (λ e. equal_lists ns ms
-    (sym (reverse-reverse ns) ∙ ap (λ (ks : List ℕ). reverse ks) (same_text (reverse ns) (reverse ms) (sym e)) ∙ reverse-reverse ms))
+    (sym (reverse-reverse ns) ∙ ap (λ (ks : List ℕ). reverse ks)
+    (same_text (reverse ns) (reverse ms) (sym e)) ∙ reverse-reverse ms))
 
 -- types of one kind are the same where their lengths are
 pub same_lengths : (s t : stored.Shape) → is_kind s.kind t.kind ≡ true
@@ -231,17 +251,22 @@ kinds_decided Bool_kind Bool_kind = refl
 
 -- ## Types made of types
 
-map_twice : (f : Shape → Option Shape) (xs : List stored.Shape) → map f (map shape_in xs) ≡ map (λ t. f (shape_in t)) xs
+map_twice : (f : Shape → Option Shape) (xs : List stored.Shape) →
+    map f (map shape_in xs) ≡ map (λ t. f (shape_in t)) xs
 map_twice f [] = refl
 map_twice f (x ∷ xs) = ap (λ (l : List (Option Shape)). f (shape_in x) ∷ l) (map_twice f xs)
 
 pub onto_start : (f : Shape → Option Shape) (before all : List stored.Shape)
-    → Gathered (option_map (λ ts. map shape_in before ++ ts) (all_some (map f (map shape_in all)))) (λ t. f (shape_in t)) before all
-onto_start f before all = ap (λ os. option_map (λ ts. map shape_in before ++ ts) (all_some os)) (map_twice f all)
+    → Gathered (option_map (λ ts. map shape_in before ++ ts) (all_some (map f (map shape_in all))))
+    (λ t. f (shape_in t)) before all
+onto_start f before all = ap (λ os. option_map (λ ts. map shape_in before ++ ts) (all_some os))
+    (map_twice f all)
 
 -- what a function of a type makes of a copy of an item
-pub made : (f : Shape → Option Shape) (all : List stored.Shape) (i : ℕ) (item copy : stored.Shape) (o : Option stored.Shape) (x : stored.Shape)
-    → item ≡ get_or all i item → shape_in copy ≡ shape_in item → option_map shape_in o ≡ f (shape_in copy) → o ≡ Some x
+pub made : (f : Shape → Option Shape) (all : List stored.Shape) (i : ℕ) (item copy : stored.Shape)
+    (o : Option stored.Shape) (x : stored.Shape)
+    → item ≡ get_or all i item → shape_in copy ≡ shape_in item →
+    option_map shape_in o ≡ f (shape_in copy) → o ≡ Some x
     → Some (shape_in x) ≡ f (shape_in (get_or all i item))
 made f all i item copy o x is copied result some =
     sym (ap (option_map shape_in) some) ∙ result ∙ ap f copied ∙ ap (λ t. f (shape_in t)) is

@@ -15,20 +15,25 @@ use Rattle.lb_static.specs.Shapes.{Shape, variables, shape_of, input_shapes, out
 use Rattle.lb_check.specs.TermTypes.{Signature, declared_type, declared_types, signature_of}
 use Rattle.lb_check.proofs.FittedTypes.{declared_is}
 
-take_first : {A B : Type 0} → (f : A → B) (xs ys : List A) → take (length xs) (map f (xs ++ ys)) ≡ map f xs
+take_first : {A B : Type 0} → (f : A → B) (xs ys : List A) →
+    take (length xs) (map f (xs ++ ys)) ≡ map f xs
 take_first f [] ys = refl
 take_first f (x ∷ xs) ys = ap (λ (l : List _). f x ∷ l) (take_first f xs ys)
 
-drop_first : {A B : Type 0} → (f : A → B) (xs ys : List A) → drop (length xs) (map f (xs ++ ys)) ≡ map f ys
+drop_first : {A B : Type 0} → (f : A → B) (xs ys : List A) →
+    drop (length xs) (map f (xs ++ ys)) ≡ map f ys
 drop_first f [] ys = refl
 drop_first f (x ∷ xs) ys = drop_first f xs ys
 
 -- the types of the inputs and of the outputs of an instance
 abbrev pub signature : Program → Option Instance → Option Signature
-signature P o = o >>= λ n. input_shapes P n >>= λ ins. output_shapes P n >>= λ outs. Some (ins, outs)
+signature P o = o >>= λ n. input_shapes P n >>= λ ins. output_shapes P n >>= λ outs. Some
+    (ins, outs)
 
-module _ (P : Program) (names : List Name) (n : ResolvedNode) (resolved : IsResolved names n) (here : Instance) (values : List ℤ)
-    (valued : map Some values ≡ map (static_value P here) (statics_of n)) (same : here.node ≡ node_of n) where
+module _ (P : Program) (names : List Name) (n : ResolvedNode) (resolved : IsResolved names n)
+    (here : Instance) (values : List ℤ)
+    (valued : map Some values ≡ map (static_value P here) (statics_of n))
+    (same : here.node ≡ node_of n) where
   abbrev types : List Declared → List (Option Shape)
   types vs = map (declared_type values) vs
 
@@ -39,7 +44,9 @@ module _ (P : Program) (names : List Name) (n : ResolvedNode) (resolved : IsReso
   each_declared all (x ∷ xs) [] e = absurd cc
   each_declared all (x ∷ xs) (v ∷ vs) e =
       let rest : length vs ≡ length xs = cc in
-      rw (declared_is P here (statics_of n) values valued all x v) (ap (λ (l : List (Option Shape)). declared_type values v ∷ l) (each_declared all xs vs rest))
+      rw (declared_is P here (statics_of n) values valued all x v)
+      (ap (λ (l : List (Option Shape)). declared_type values v ∷ l)
+      (each_declared all xs vs rest))
 
   length_map : {A B : Type 0} → (f : A → B) (xs : List A) → length (map f xs) ≡ length xs
   length_map f [] = refl
@@ -58,29 +65,39 @@ module _ (P : Program) (names : List Name) (n : ResolvedNode) (resolved : IsReso
       ∙ ap (λ k. take k (map (shape_of P here) (variables node))) (sym resolved.inputs)
       ∙ ap (take n.inputs) all_declared ∙ take-map (declared_type values) n.inputs n.variables.items
 
-  outputs_are : map (shape_of P here) (node_of n).outputs ≡ types (take n.outputs (drop n.inputs n.variables.items))
+  outputs_are : map (shape_of P here) (node_of n).outputs ≡ types
+      (take n.outputs (drop n.inputs n.variables.items))
   outputs_are =
       let node = node_of n in
       sym (take_first (shape_of P here) node.outputs node.locals)
-      ∙ ap (take (length node.outputs)) (sym (drop_first (shape_of P here) node.inputs (node.outputs ++ node.locals)))
-      ∙ ap (λ k. take k (drop (length node.inputs) (map (shape_of P here) (variables node)))) (sym resolved.outputs)
-      ∙ ap (λ k. take n.outputs (drop k (map (shape_of P here) (variables node)))) (sym resolved.inputs)
+      ∙ ap (take (length node.outputs))
+      (sym (drop_first (shape_of P here) node.inputs (node.outputs ++ node.locals)))
+      ∙ ap (λ k. take k (drop (length node.inputs) (map (shape_of P here) (variables node))))
+      (sym resolved.outputs)
+      ∙ ap (λ k. take n.outputs (drop k (map (shape_of P here) (variables node))))
+      (sym resolved.inputs)
       ∙ ap (λ l. take n.outputs (drop n.inputs l)) all_declared
       ∙ ap (take n.outputs) (drop-map (declared_type values) n.inputs n.variables.items)
       ∙ take-map (declared_type values) n.outputs (drop n.inputs n.variables.items)
 
   pub signature_is : signature P (Some here) ≡ signature_of values n
   signature_is =
-      ap (λ m. all_some (map (shape_of P here) m.inputs) >>= λ ins. all_some (map (shape_of P here) m.outputs) >>= λ outs. Some (ins, outs)) same
-      ∙ ap (λ l. all_some l >>= λ ins. all_some (map (shape_of P here) (node_of n).outputs) >>= λ outs. Some (ins, outs)) inputs_are
-      ∙ ap (λ l. declared_types values (take n.inputs n.variables.items) >>= λ ins. all_some l >>= λ outs. Some (ins, outs)) outputs_are
+      ap (λ m. all_some (map (shape_of P here) m.inputs) >>= λ ins. all_some
+      (map (shape_of P here) m.outputs) >>= λ outs. Some (ins, outs)) same
+      ∙ ap (λ l. all_some l >>= λ ins. all_some
+      (map (shape_of P here) (node_of n).outputs) >>= λ outs. Some (ins, outs)) inputs_are
+      ∙ ap (λ l. declared_types values
+      (take n.inputs n.variables.items) >>= λ ins. all_some l >>= λ outs. Some (ins, outs))
+      outputs_are
 
 -- what a call calls has the same types wherever it stands
-pub same_callee : (P : Program) (p q : Path) (n : Node) (values : List ℤ) (site : Site) (call index : ℕ)
+pub same_callee : (P : Program) (p q : Path) (n : Node) (values : List ℤ) (site : Site)
+    (call index : ℕ)
     → signature P (callee_of P (instance_of p n values) (call_site site.callee site.arguments) 0 0)
     ≡ signature P (callee_of P (instance_of q n values) site call index)
 same_callee P p q n values site call index =
-    by (node_named P site.callee) (all_some (map (static_value P (instance_of p n values)) site.arguments))
+    by (node_named P site.callee)
+    (all_some (map (static_value P (instance_of p n values)) site.arguments))
   where
     by : (o : Option Node) (vs : Option (List ℤ))
         → signature P (o >>= λ m. vs >>= λ values. Some (instance_of (Child p 0 0) m values))

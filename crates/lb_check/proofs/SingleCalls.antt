@@ -26,27 +26,25 @@ use Rattle.lb_check.specs.TermTypes.{Context, Signature, context_of, declared_ty
 use Rattle.lb_check.specs.Types.{only, singly}
 use Rattle.lb_check.proofs.FittedCalls.{standing}
 use Rattle.lb_check.proofs.MirroredTypes.{results_only}
-use Rattle.lb_check.proofs.NodePlaces.{and_first, and_second, all_at}
+use Rattle.lb_check.proofs.NamedClocks.{bound}
+use Rattle.lb_check.proofs.NodePlaces.{all_at}
 use Rattle.lb_check.proofs.SiteCallees.{callee_found, node_resolved, site_found}
+use Rattle.lb_check.proofs.TruthValues.{and_first, and_second, both_true}
 
 -- ## What is there
 
-both_true : (a b : Bool) → a ≡ true → b ≡ true → (a && b) ≡ true
-both_true a b e f = ap (λ x. x && b) e ∙ f
-
-bound : {A B : Type 0} (o : Option A) (f : A → Option B) (b : B) → (o >>= f) ≡ Some b → (a : A) × (o ≡ Some a) × (f a ≡ Some b)
-bound None f b e = absurd cc
-bound (Some a) f b e = (a, refl, e)
-
-first_some : {A B : Type 0} (o : Option A) (f : A → Option B) → is_some (o >>= f) ≡ true → is_some o ≡ true
+first_some : {A B : Type 0} (o : Option A) (f : A → Option B) → is_some (o >>= f) ≡ true →
+    is_some o ≡ true
 first_some None f e = absurd cc
 first_some (Some a) f e = refl
 
-second_some : {A B C : Type 0} (o : Option A) (p : Option B) (f : A → B → Option C) → is_some (o >>= λ a. p >>= f a) ≡ true → is_some p ≡ true
+second_some : {A B C : Type 0} (o : Option A) (p : Option B) (f : A → B → Option C) →
+    is_some (o >>= λ a. p >>= f a) ≡ true → is_some p ≡ true
 second_some None p f e = absurd cc
 second_some (Some a) p f e = first_some p (f a) e
 
-third_some : {A B C D : Type 0} (o : Option A) (p : Option B) (q : Option C) (f : A → B → C → Option D)
+third_some : {A B C D : Type 0} (o : Option A) (p : Option B) (q : Option C)
+    (f : A → B → C → Option D)
     → is_some (o >>= λ a. p >>= λ b. q >>= f a b) ≡ true → is_some q ≡ true
 third_some None p q f e = absurd cc
 third_some (Some a) p q f e = second_some p q (f a) e
@@ -81,7 +79,8 @@ one_result (Some ts) (Some g) e = (g, refl, only_one g.1 (by (are_shapes g.0 ts)
     by false e = absurd cc
 
 -- what is a truth has one type
-one_truth : (o : Option (List Shape)) → are_equal o (Some (truth ∷ [])) ≡ true → is_some (o >>= only) ≡ true
+one_truth : (o : Option (List Shape)) → are_equal o (Some (truth ∷ [])) ≡ true →
+    is_some (o >>= only) ≡ true
 one_truth None e = absurd cc
 one_truth (Some []) e = absurd cc
 one_truth (Some (t ∷ [])) e = refl
@@ -93,18 +92,21 @@ equal_some (Some ts) p e = refl
 
 -- ## As many outputs as their types
 
-as_many_there : {A : Type 0} (os : List (Option A)) (xs : List A) → all_some os ≡ Some xs → length xs ≡ length os
+as_many_there : {A : Type 0} (os : List (Option A)) (xs : List A) → all_some os ≡ Some xs →
+    length xs ≡ length os
 as_many_there [] xs e = let same : [] ≡ xs = cc in ap length (sym same)
 as_many_there (None ∷ os) xs e = absurd cc
 as_many_there (Some x ∷ os) xs e = by (all_some os) (as_many_there os) e
   where
-    by : (o : Option (List _)) → ((ys : List _) → o ≡ Some ys → length ys ≡ length os) → option_map (λ l. x ∷ l) o ≡ Some xs → length xs ≡ suc (length os)
+    by : (o : Option (List _)) → ((ys : List _) → o ≡ Some ys → length ys ≡ length os) →
+        option_map (λ l. x ∷ l) o ≡ Some xs → length xs ≡ suc (length os)
     by None each f = absurd cc
     by (Some ys) each f =
         let same : x ∷ ys ≡ xs = cc in
         ap length (sym same) ∙ ap suc (each ys refl)
 
-outputs_there : (names : _) (n : ResolvedNode) → IsResolved names n → length (take n.outputs (drop n.inputs n.variables.items)) ≡ n.outputs
+outputs_there : (names : _) (n : ResolvedNode) → IsResolved names n →
+    length (take n.outputs (drop n.inputs n.variables.items)) ≡ n.outputs
 outputs_there names n resolved =
     let node = node_of n in
     let all = resolved.as_many ∙ length-append node.inputs (node.outputs ++ node.locals) in
@@ -115,51 +117,74 @@ outputs_there names n resolved =
     let taken = length-take n.outputs (drop n.inputs n.variables.items) in
     omega (arith, all, others, ins, outs, rest, taken)
 
-signature_outputs : (statics : List ℤ) (names : _) (n : ResolvedNode) (g : Signature) → IsResolved names n → signature_of statics n ≡ Some g → length g.1 ≡ n.outputs
+signature_outputs : (statics : List ℤ) (names : _) (n : ResolvedNode) (g : Signature) →
+    IsResolved names n → signature_of statics n ≡ Some g → length g.1 ≡ n.outputs
 signature_outputs statics names n g resolved e =
     let ins = bound (declared_types statics (take n.inputs n.variables.items))
-    (λ ins. declared_types statics (take n.outputs (drop n.inputs n.variables.items)) >>= λ outs. Some (ins, outs)) g e in
-    let outs = bound (declared_types statics (take n.outputs (drop n.inputs n.variables.items))) (λ outs. Some (ins.0, outs)) g ins.2 in
+    (λ ins. declared_types statics
+    (take n.outputs (drop n.inputs n.variables.items)) >>= λ outs. Some (ins, outs)) g e in
+    let outs = bound (declared_types statics (take n.outputs (drop n.inputs n.variables.items)))
+    (λ outs. Some (ins.0, outs)) g ins.2 in
     let same : outs.0 ≡ g.1 = second_of ins.0 outs.0 g outs.2 in
-    ap length (sym same) ∙ as_many_there (map (declared_type statics) (take n.outputs (drop n.inputs n.variables.items))) outs.0 outs.1
-    ∙ length-map (take n.outputs (drop n.inputs n.variables.items)) (declared_type statics) ∙ outputs_there names n resolved
+    ap length (sym same) ∙ as_many_there
+    (map (declared_type statics) (take n.outputs (drop n.inputs n.variables.items))) outs.0
+    outs.1
+    ∙ length-map (take n.outputs (drop n.inputs n.variables.items)) (declared_type statics)
+    ∙ outputs_there names n resolved
   where
-    second_of : (a b : List Shape) (g : Signature) → ◌≡◌ {A = Option Signature} (Some (a, b)) (Some g) → b ≡ g.1
+    second_of : (a b : List Shape) (g : Signature) →
+        ◌≡◌ {A = Option Signature} (Some (a, b)) (Some g) → b ≡ g.1
     second_of a b g e = let same : ◌≡◌ {A = Signature} (a, b) g = cc in ap (λ p. p.1) same
 
 -- ## Calls
 
-callee_node : (P : Program) (here : Instance) (site : Site) (call : ℕ) (x : Instance) → callee_of P here site call 0 ≡ Some x → node_named P site.callee ≡ Some x.node
-callee_node P here site call x e = by (node_named P site.callee) (all_some (map (static_value P here) site.arguments)) e
+callee_node : (P : Program) (here : Instance) (site : Site) (call : ℕ) (x : Instance) →
+    callee_of P here site call 0 ≡ Some x → node_named P site.callee ≡ Some x.node
+callee_node P here site call x e =
+    by (node_named P site.callee) (all_some (map (static_value P here) site.arguments)) e
   where
-    by : (o : Option Node) (vs : Option (List ℤ)) → (o >>= λ m. vs >>= λ values. Some (instance_of (Child here.path call 0) m values)) ≡ Some x → o ≡ Some x.node
+    by : (o : Option Node) (vs : Option (List ℤ)) →
+        (o >>= λ m. vs >>= λ values. Some (instance_of (Child here.path call 0) m values)) ≡ Some
+        x → o ≡ Some x.node
     by None vs e = absurd cc
     by (Some m) None e = absurd cc
     by (Some m) (Some values) e =
-        let same : instance_of (Child here.path call 0) m values ≡ x = cc in ap (λ (i : Instance). Some i.node) same
+        let same : instance_of (Child here.path call 0) m values ≡ x = cc in
+        ap (λ (i : Instance). Some i.node) same
 
-module _ (P : Program) (r : Reached) (t : Table) (j : IsJudged P r t) (i : ℕ) (s : Specialization) (n : ResolvedNode)
-    (is : slice_get t.specializations.items i ≡ Some s) (at : slice_get r.nodes.items s.node.0 ≡ Some n) where
+module _ (P : Program) (r : Reached) (t : Table) (j : IsJudged P r t) (i : ℕ) (s : Specialization)
+    (n : ResolvedNode)
+    (is : slice_get t.specializations.items i ≡ Some s)
+    (at : slice_get r.nodes.items s.node.0 ≡ Some n) where
   -- what a call with one type calls has one output
-  call_single : (c : CallId) → is_call (counts_of n) c ≡ true → (g : Signature) → signature_at r t s c ≡ Some g → length g.1 ≡ 1 → calls_single r n c ≡ true
+  call_single : (c : CallId) → is_call (counts_of n) c ≡ true → (g : Signature) →
+      signature_at r t s c ≡ Some g → length g.1 ≡ 1 → calls_single r n c ≡ true
   call_single c w g typed one =
       let called = bound (callee_at t s c) (callee_signature r) g typed in
-      let id = bound (slice_get s.callees.items c.0) (λ id. slice_get t.specializations.items id.0) called.0 called.1 in
-      let m = bound (slice_get r.nodes.items called.0.node.0) (signature_of called.0.statics.items) g called.2 in
+      let id = bound (slice_get s.callees.items c.0)
+      (λ id. slice_get t.specializations.items id.0) called.0 called.1 in
+      let m = bound (slice_get r.nodes.items called.0.node.0)
+      (signature_of called.0.statics.items) g called.2 in
       let resolved = node_resolved P r j.names j.reached called.0.node.0 m.0 m.1 in
-      let outs : m.0.outputs ≡ 1 = sym (signature_outputs called.0.statics.items (source_names P) m.0 g resolved m.2) ∙ one in
+      let outs : m.0.outputs ≡ 1 =
+      sym (signature_outputs called.0.statics.items (source_names P) m.0 g resolved m.2)
+      ∙ one in
       let here = instance_of Root (node_of n) s.values.items in
       let here_is = standing P r t j.reached j.table s n Root at in
       let site = site_found P r j.names j.reached s.node.0 n at c w in
       let there = standing P r t j.reached j.table called.0 m.0 (Child Root c.0 0) m.1 in
-      let same = (j.table.specialized i s is).0.callees here here_is c.0 site.0 site.1 id.0 id.1 called.0 id.2 in
+      let same = (j.table.specialized i s is).0.callees here here_is c.0 site.0 site.1 id.0 id.1
+      called.0 id.2 in
       let named : node_named P site.0.callee ≡ Some (node_of m.0) =
-      callee_node P here site.0 c.0 (instance_of (Child Root c.0 0) (node_of m.0) called.0.values.items) (same ∙ there) in
+      callee_node P here site.0 c.0
+      (instance_of (Child Root c.0 0) (node_of m.0) called.0.values.items) (same ∙ there) in
       let found = callee_found P r j.names j.reached s.node.0 n at c w in
-      let both : Some (node_of found.0) ≡ Some (node_of m.0) = sym found.2 ∙ ap (λ (x : Site). node_named P x.callee) site.2 ∙ named in
+      let both : Some (node_of found.0) ≡ Some (node_of m.0) = sym found.2
+      ∙ ap (λ (x : Site). node_named P x.callee) site.2 ∙ named in
       let node : node_of found.0 ≡ node_of m.0 = cc in
       let there_resolved = found.3 in
-      let outputs : found.0.outputs ≡ 1 = there_resolved.outputs ∙ ap (λ (k : Node). length k.outputs) node ∙ sym resolved.outputs ∙ outs in
+      let outputs : found.0.outputs ≡ 1 = there_resolved.outputs
+      ∙ ap (λ (k : Node). length k.outputs) node ∙ sym resolved.outputs ∙ outs in
       let single : nat_eq found.0.outputs 1 ≡ true = grind (arith, nat_tests) in
       ap (holds (λ k. nat_eq k.outputs 1)) found.1 ∙ single
 
@@ -167,7 +192,8 @@ module _ (P : Program) (r : Reached) (t : Table) (j : IsJudged P r t) (i : ℕ) 
   ctx = context_of r t n s
 
   typed_call : (c : CallId) → is_call (counts_of n) c ≡ true → (ts : Option (List Shape))
-      → is_some (ts >>= (λ ts. ctx.call c >>= λ o. where_true (are_shapes o.0 ts) o.1) >>= only) ≡ true → calls_single r n c ≡ true
+      → is_some (ts >>= (λ ts. ctx.call c >>= λ o. where_true (are_shapes o.0 ts) o.1) >>= only) ≡
+      true → calls_single r n c ≡ true
   unfolding context_of
   typed_call c w ts e =
       let g = one_result ts (signature_at r t s c) e in
@@ -176,7 +202,8 @@ module _ (P : Program) (r : Reached) (t : Table) (j : IsJudged P r t) (i : ℕ) 
   mutual
     unfolding type_of is_single
 
-    term_single : (e : Term) → is_within (counts_of n) e ≡ true → is_some (type_of ctx e) ≡ true → is_single r n e ≡ true
+    term_single : (e : Term) → is_within (counts_of n) e ≡ true → is_some (type_of ctx e) ≡ true →
+        is_single r n e ≡ true
     term_single (Literal m) w h = refl
     term_single (Truth b) w h = refl
     term_single (Variable x) w h = refl
@@ -184,83 +211,124 @@ module _ (P : Program) (r : Reached) (t : Table) (j : IsJudged P r t) (i : ℕ) 
     term_single (Group' p e) w h = term_single e w h
     term_single (Unary' op p a) w h = term_single a w (first_some (type_of ctx a) _ h)
     term_single (Binary' op p a q b) w h =
-        both_true _ _ (term_single a (and_first _ (is_within (counts_of n) b) w) (first_some (type_of ctx a) _ h))
-        (term_single b (and_second (is_within (counts_of n) a) _ w) (second_some (type_of ctx a) (type_of ctx b) _ h))
+        both_true _ _ (term_single a (and_first _ (is_within (counts_of n) b) w)
+        (first_some (type_of ctx a) _ h))
+        (term_single b (and_second (is_within (counts_of n) a) _ w)
+        (second_some (type_of ctx a) (type_of ctx b) _ h))
     term_single (If' p c q a r' b) w h =
         let rest = under_truth (type_of ctx c) _ h in
         let wab = and_second (is_within (counts_of n) c) _ w in
-        both_true _ _ (term_single c (and_first _ (is_within (counts_of n) a && is_within (counts_of n) b) w) (first_some (type_of ctx c) _ h))
-        (both_true _ _ (term_single a (and_first _ (is_within (counts_of n) b) wab) (first_some (type_of ctx a) _ rest))
-        (term_single b (and_second (is_within (counts_of n) a) _ wab) (second_some (type_of ctx a) (type_of ctx b) _ rest)))
+        both_true _ _ (term_single c
+        (and_first _ (is_within (counts_of n) a && is_within (counts_of n) b) w)
+        (first_some (type_of ctx c) _ h))
+        (both_true _ _ (term_single a (and_first _ (is_within (counts_of n) b) wab)
+        (first_some (type_of ctx a) _ rest))
+        (term_single b (and_second (is_within (counts_of n) a) _ wab)
+        (second_some (type_of ctx a) (type_of ctx b) _ rest)))
     term_single (Arrow' p a q b) w h =
-        both_true _ _ (term_single a (and_first _ (is_within (counts_of n) b) w) (first_some (type_of ctx a) _ h))
-        (term_single b (and_second (is_within (counts_of n) a) _ w) (second_some (type_of ctx a) (type_of ctx b) _ h))
+        both_true _ _ (term_single a (and_first _ (is_within (counts_of n) b) w)
+        (first_some (type_of ctx a) _ h))
+        (term_single b (and_second (is_within (counts_of n) a) _ w)
+        (second_some (type_of ctx a) (type_of ctx b) _ h))
     term_single (Fby' p a q b) w h =
-        both_true _ _ (term_single a (and_first _ (is_within (counts_of n) b) w) (first_some (type_of ctx a) _ h))
-        (term_single b (and_second (is_within (counts_of n) a) _ w) (second_some (type_of ctx a) (type_of ctx b) _ h))
+        both_true _ _ (term_single a (and_first _ (is_within (counts_of n) b) w)
+        (first_some (type_of ctx a) _ h))
+        (term_single b (and_second (is_within (counts_of n) a) _ w)
+        (second_some (type_of ctx a) (type_of ctx b) _ h))
     term_single (Pre' p e) w h = term_single e w h
     term_single (Current' p e) w h = term_single e w h
-    term_single (When' p e x sign) w h = term_single e (and_second (is_variable (counts_of n) x) _ w) (under_truth (ctx.variable x) (type_of ctx e) h)
-    term_single (Copies' p e k) w h = term_single e (and_second (is_static (counts_of n) k) _ w) (second_some (ctx.count k) (type_of ctx e) _ h)
-    term_single (Index' p e k) w h = term_single e (and_second (is_static (counts_of n) k) _ w) (second_some (ctx.count k) (type_of ctx e) _ h)
+    term_single (When' p e x sign) w h =
+        term_single e (and_second (is_variable (counts_of n) x) _ w)
+        (under_truth (ctx.variable x) (type_of ctx e) h)
+    term_single (Copies' p e k) w h =
+        term_single e (and_second (is_static (counts_of n) k) _ w)
+        (second_some (ctx.count k) (type_of ctx e) _ h)
+    term_single (Index' p e k) w h =
+        term_single e (and_second (is_static (counts_of n) k) _ w)
+        (second_some (ctx.count k) (type_of ctx e) _ h)
     term_single (Slice' p e k l) w h =
-        term_single e (and_second (is_static (counts_of n) l) _ (and_second (is_static (counts_of n) k) _ w))
+        term_single e (and_second (is_static (counts_of n) l) _
+        (and_second (is_static (counts_of n) k) _ w))
         (third_some (ctx.count k) (ctx.count l) (type_of ctx e) _ h)
     term_single (Join' p a q b) w h =
-        both_true _ _ (term_single a (and_first _ (is_within (counts_of n) b) w) (first_some (type_of ctx a) _ h))
-        (term_single b (and_second (is_within (counts_of n) a) _ w) (second_some (type_of ctx a) (type_of ctx b) _ h))
-    term_single (Array' shape all) w h = row_single all w (first_some (types_in ctx all) _ (first_some _ only h))
-    term_single (AtMostOne' shape all) w h = row_single all w (first_some (types_in ctx all) _ (first_some _ only h))
-    term_single (Nor' shape all) w h = row_single all w (first_some (types_in ctx all) _ (first_some _ only h))
+        both_true _ _ (term_single a (and_first _ (is_within (counts_of n) b) w)
+        (first_some (type_of ctx a) _ h))
+        (term_single b (and_second (is_within (counts_of n) a) _ w)
+        (second_some (type_of ctx a) (type_of ctx b) _ h))
+    term_single (Array' shape all) w h =
+        row_single all w (first_some (types_in ctx all) _ (first_some _ only h))
+    term_single (AtMostOne' shape all) w h =
+        row_single all w (first_some (types_in ctx all) _ (first_some _ only h))
+    term_single (Nor' shape all) w h =
+        row_single all w (first_some (types_in ctx all) _ (first_some _ only h))
     term_single (Call' c shape all) w h =
-        both_true _ _ (typed_call c (and_first _ (are_within (counts_of n) all) w) (types_in ctx all) h)
-        (row_single all (and_second (is_call (counts_of n) c) _ w) (first_some (types_in ctx all) _ (first_some _ only h)))
+        both_true _ _ (typed_call c (and_first _ (are_within (counts_of n) all) w)
+        (types_in ctx all) h)
+        (row_single all (and_second (is_call (counts_of n) c) _ w)
+        (first_some (types_in ctx all) _ (first_some _ only h)))
     term_single (IterateNode' it c shape all) w h =
-        row_single all (and_second (is_call (counts_of n) c) _ w) (first_some (types_in ctx all) _ (first_some _ only h))
+        row_single all (and_second (is_call (counts_of n) c) _ w)
+        (first_some (types_in ctx all) _ (first_some _ only h))
     term_single (IterateSymbol' it op k shape all) w h =
-        row_single all (and_second (is_static (counts_of n) k) _ w) (first_some (types_in ctx all) _ (first_some _ only h))
+        row_single all (and_second (is_static (counts_of n) k) _ w)
+        (first_some (types_in ctx all) _ (first_some _ only h))
 
-    row_single : {m : _} (row : Row_of-Term m) → are_within (counts_of n) row ≡ true → is_some (types_in ctx row) ≡ true → are_single r n row ≡ true
+    row_single : {m : _} (row : Row_of-Term m) → are_within (counts_of n) row ≡ true →
+        is_some (types_in ctx row) ≡ true → are_single r n row ≡ true
     row_single end_of-Term w h = refl
     row_single (more_of-Term e rest) w h =
-        both_true _ _ (term_single e (and_first _ (are_within (counts_of n) rest) w) (first_some (type_of ctx e) _ h))
-        (row_single rest (and_second (is_within (counts_of n) e) _ w) (second_some (type_of ctx e) (types_in ctx rest) _ h))
+        both_true _ _ (term_single e (and_first _ (are_within (counts_of n) rest) w)
+        (first_some (type_of ctx e) _ h))
+        (row_single rest (and_second (is_within (counts_of n) e) _ w)
+        (second_some (type_of ctx e) (types_in ctx rest) _ h))
 
-  right_single : (e : Term) → is_within (counts_of n) e ≡ true → is_some (results ctx e) ≡ true → is_single_within r n e ≡ true
+  right_single : (e : Term) → is_within (counts_of n) e ≡ true → is_some (results ctx e) ≡ true →
+      is_single_within r n e ≡ true
   unfolding results is_single_within is_single
   right_single (Group' p e) w h = right_single e w h
   right_single (Array' shape all) w h = row_single all w (first_some (types_in ctx all) _ h)
   right_single (AtMostOne' shape all) w h = row_single all w (first_some (types_in ctx all) _ h)
   right_single (Nor' shape all) w h = row_single all w (first_some (types_in ctx all) _ h)
-  right_single (Call' c shape all) w h = row_single all (and_second (is_call (counts_of n) c) _ w) (first_some (types_in ctx all) _ h)
-  right_single (IterateNode' it c shape all) w h = row_single all (and_second (is_call (counts_of n) c) _ w) (first_some (types_in ctx all) _ h)
-  right_single (IterateSymbol' it op k shape all) w h = row_single all (and_second (is_static (counts_of n) k) _ w) (first_some (types_in ctx all) _ h)
+  right_single (Call' c shape all) w h =
+      row_single all (and_second (is_call (counts_of n) c) _ w) (first_some (types_in ctx all) _ h)
+  right_single (IterateNode' it c shape all) w h =
+      row_single all (and_second (is_call (counts_of n) c) _ w) (first_some (types_in ctx all) _ h)
+  right_single (IterateSymbol' it op k shape all) w h =
+      row_single all (and_second (is_static (counts_of n) k) _ w)
+      (first_some (types_in ctx all) _ h)
   right_single (Literal m) w h = refl
   right_single (Truth b) w h = refl
   right_single (Variable x) w h = refl
   right_single (Value k) w h = refl
   right_single e w h = term_single e w (one_some (type_of ctx e) h)
 
-  step_single : (st : Step) → is_step_within (counts_of n) st ≡ true → is_step_typed ctx st ≡ true → is_step_single r n st ≡ true
+  step_single : (st : Step) → is_step_within (counts_of n) st ≡ true → is_step_typed ctx st ≡ true →
+      is_step_single r n st ≡ true
   step_single (step.Equation lefts e) w h =
-      right_single e (and_second (list_all (is_variable (counts_of n)) lefts.items) _ w) (equal_some (results ctx e) _ h)
+      right_single e (and_second (list_all (is_variable (counts_of n)) lefts.items) _ w)
+      (equal_some (results ctx e) _ h)
   step_single (step.Assertion e) w h =
       term_single e w (sym (ap is_some (results_only ctx e)) ∙ one_truth (results ctx e) h)
 
-  steps_single : (ss : List Step) → list_all (is_step_within (counts_of n)) ss ≡ true → list_all (is_step_typed ctx) ss ≡ true → list_all (is_step_single r n) ss ≡ true
+  steps_single : (ss : List Step) → list_all (is_step_within (counts_of n)) ss ≡ true →
+      list_all (is_step_typed ctx) ss ≡ true → list_all (is_step_single r n) ss ≡ true
   steps_single [] w h = refl
   steps_single (st ∷ ss) w h =
-      both_true _ _ (step_single st (and_first _ (list_all (is_step_within (counts_of n)) ss) w) (and_first _ (list_all (is_step_typed ctx) ss) h))
-      (steps_single ss (and_second (is_step_within (counts_of n) st) _ w) (and_second (is_step_typed ctx st) _ h))
+      both_true _ _ (step_single st (and_first _ (list_all (is_step_within (counts_of n)) ss) w)
+      (and_first _ (list_all (is_step_typed ctx) ss) h))
+      (steps_single ss (and_second (is_step_within (counts_of n) st) _ w)
+      (and_second (is_step_typed ctx st) _ h))
 
 -- in the node of each specialization each call has one result, but for one that is a whole right
 -- side
 pub single_steps : (P : Program) (r : Reached) (t : Table) → IsJudged P r t → are_typed r t ≡ true
-    → (i : ℕ) (s : Specialization) (n : ResolvedNode) → slice_get t.specializations.items i ≡ Some s → slice_get r.nodes.items s.node.0 ≡ Some n
+    → (i : ℕ) (s : Specialization) (n : ResolvedNode) →
+    slice_get t.specializations.items i ≡ Some s → slice_get r.nodes.items s.node.0 ≡ Some n
     → list_all (is_step_single r n) n.body.items ≡ true
 single_steps P r t j typed i s n is at =
     let resolved = node_resolved P r j.names j.reached s.node.0 n at in
     let one = all_at (is_specialization_typed r t) t.specializations.items i s typed is in
-    let node : is_node_typed (context_of r t n s) n ≡ true = sym (ap (holds (λ m. is_node_typed (context_of r t m s) m)) at) ∙ one in
+    let node : is_node_typed (context_of r t n s) n ≡ true =
+    sym (ap (holds (λ m. is_node_typed (context_of r t m s) m)) at) ∙ one in
     steps_single P r t j i s n is at n.body.items resolved.body_within
     (and_second (list_all (is_variable_typed (context_of r t n s)) n.variables.items) _ node)

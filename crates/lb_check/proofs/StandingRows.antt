@@ -22,6 +22,7 @@ use Rattle.lb_check.specs.declared.standing.Operand.{Operand}
 use Rattle.lb_check.specs.declared.standing.Standing.{Standing}
 use Rattle.lb_check.specs.declared.standing.Standing.TheVariants.{Nowhere, Anywhere, Only}
 use Rattle.lb_check.proofs.OwnClocks.{clock_of_free, clock_of_waiting}
+use Rattle.lb_check.proofs.TruthValues.{and_first, and_second}
 
 -- ## Clocks
 
@@ -32,38 +33,36 @@ beq_same false true = refl
 beq_same false false = refl
 
 -- clocks on one variable are the same if their signs are
-pub same_variable : (left right : Clock) (x y : VariableId) (sign other : Bool) → left ≡ On x sign → right ≡ On y other
+pub same_variable : (left right : Clock) (x y : VariableId) (sign other : Bool) → left ≡ On x sign →
+    right ≡ On y other
     → x.0 ≡ y.0 → beq sign other ≡ is_same left right
 same_variable left right x y sign other is_left is_right e =
     let one : nat_eq x.0 y.0 ≡ true = grind (arith, nat_tests) in
     rw (is_left, is_right, one) (beq_same sign other)
 
 -- those on two variables are not
-pub two_variables : (left right : Clock) (x y : VariableId) (sign other : Bool) → left ≡ On x sign → right ≡ On y other
+pub two_variables : (left right : Clock) (x y : VariableId) (sign other : Bool) → left ≡ On x sign →
+    right ≡ On y other
     → x.0 ≢ y.0 → nat_eq x.0 y.0 ≡ is_same left right
 two_variables left right x y sign other is_left is_right e =
     let apart : nat_eq x.0 y.0 ≡ false = grind (arith, nat_tests) in
     rw (is_left, is_right, apart) refl
 
 -- the declared clock of a variable that is there, and of one that is not
-pub declared_there : (r : ResolvedNode) → HasClocks r → (x : VariableId) (v : Variable) → slice_get r.variables.items x.0 ≡ Some v
-    → x.0 < length r.variables.items → clock_in r (clock_with v.clock) ≡ tree.declared_clock (node_of r) (name_in r x)
+pub declared_there : (r : ResolvedNode) → HasClocks r → (x : VariableId) (v : Variable) →
+    slice_get r.variables.items x.0 ≡ Some v
+    → x.0 < length r.variables.items →
+    clock_in r (clock_with v.clock) ≡ tree.declared_clock (node_of r) (name_in r x)
 declared_there r h x v at lt = by v.clock refl
   where
-    by : (o : Option Sampling) → v.clock ≡ o → clock_in r (clock_with o) ≡ tree.declared_clock (node_of r) (name_in r x)
+    by : (o : Option Sampling) → v.clock ≡ o →
+        clock_in r (clock_with o) ≡ tree.declared_clock (node_of r) (name_in r x)
     by None e = clock_of_free r h x v at lt e
     by (Some s) e = clock_of_waiting r h x v s at lt e
 
-pub declared_nowhere : (r : ResolvedNode) (x : VariableId) → length r.variables.items ≤ x.0 → Base ≡ declared_in r x
+pub declared_nowhere : (r : ResolvedNode) (x : VariableId) → length r.variables.items ≤ x.0 →
+    Base ≡ declared_in r x
 declared_nowhere r x le = rw (slice_get_past r.variables.items x.0 le) refl
-
-and_first : (a b : Bool) → (a && b) ≡ true → a ≡ true
-and_first true b e = refl
-and_first false b e = absurd cc
-
-and_second : (a b : Bool) → (a && b) ≡ true → b ≡ true
-and_second true b e = e
-and_second false b e = absurd cc
 
 same_is : (a b : Bool) → same a b ≡ true → a ≡ b
 same_is true true e = refl
@@ -105,31 +104,36 @@ both_both (Only k) (Only l) Anywhere = sym (both_anywhere (if is_same k l then O
 both_both (Only k) (Only l) (Only m) = by (is_same k l) (is_same l m) refl refl
   where
     by : (a b : Bool) → is_same k l ≡ a → is_same l m ≡ b
-        → both (Only k) (if is_same l m then Only l else Nowhere) ≡ both (if is_same k l then Only k else Nowhere) (Only m)
+        → both (Only k) (if is_same l m then Only l else Nowhere) ≡ both
+        (if is_same k l then Only k else Nowhere) (Only m)
     by true b e f = let g = same_as k l m e in rw (e, g) (last b f)
       where
         last : (b : Bool) → is_same l m ≡ b
-            → both (Only k) (if is_same l m then Only l else Nowhere) ≡ (if is_same l m then Only k else Nowhere)
+            → both (Only k) (if is_same l m then Only l else Nowhere) ≡
+            (if is_same l m then Only k else Nowhere)
         last true f = rw (f, e) refl
         last false f = rw f refl
     by false true e f = rw (e, f, e) refl
     by false false e f = rw (e, f) refl
 
 pub together_next : (s : Standing) (os : List Operand) (i : ℕ) (d : Operand) → i < length os
-    → both s (together (drop i os)) ≡ both (both s (get_or os i d).standing) (together (drop (i + 1) os))
+    → both s (together (drop i os)) ≡ both (both s (get_or os i d).standing)
+    (together (drop (i + 1) os))
 together_next s os i d lt =
     ap (λ rest. both s (together rest)) (drop_more os i d lt)
     ∙ both_both s (get_or os i d).standing (together (drop (i + 1) os))
 
 -- ## Operands beside their parameters
 
-pub base_next : (vs : List Variable) (os : List Operand) (i : ℕ) (v : Variable) (o : Operand) → i < length vs → i < length os
+pub base_next : (vs : List Variable) (os : List Operand) (i : ℕ) (v : Variable) (o : Operand) →
+    i < length vs → i < length os
     → base_of (clocks_of (drop i vs)) (standings (drop i os))
     ≡ or_else (base_of ((get_or vs i v).clock ∷ []) ((get_or os i o).standing ∷ []))
     (base_of (clocks_of (drop (i + 1) vs)) (standings (drop (i + 1) os)))
 base_next vs os i v o lv lo =
     rw (drop_more vs i v lv) (rw (drop_more os i o lo)
-    (by (get_or vs i v).clock (get_or os i o).standing (clocks_of (drop (i + 1) vs)) (standings (drop (i + 1) os))))
+    (by (get_or vs i v).clock (get_or os i o).standing (clocks_of (drop (i + 1) vs))
+    (standings (drop (i + 1) os))))
   where
     by : (c : Option Sampling) (s : Standing) (cs : List (Option Sampling)) (ss : List Standing)
         → base_of (c ∷ cs) (s ∷ ss) ≡ or_else (base_of (c ∷ []) (s ∷ [])) (base_of cs ss)
@@ -148,7 +152,8 @@ base_short vs os i le = rw (drop_all i os le) (by (clocks_of (drop i vs)))
     by (None ∷ cs) = refl
     by (Some c ∷ cs) = refl
 
-pub fit_short : (base : Option Clock) (given : ℕ → Option VariableId) (vs : List Variable) (os : List Operand) (i : ℕ) → length os ≤ i
+pub fit_short : (base : Option Clock) (given : ℕ → Option VariableId) (vs : List Variable)
+    (os : List Operand) (i : ℕ) → length os ≤ i
     → all_fit base given (clocks_of (drop i vs)) (standings (drop i os)) ≡ true
 fit_short base given vs os i le = rw (drop_all i os le) (by (clocks_of (drop i vs)))
   where
@@ -156,7 +161,8 @@ fit_short base given vs os i le = rw (drop_all i os le) (by (clocks_of (drop i v
     by [] = refl
     by (c ∷ cs) = refl
 
-pub fit_next : (base : Option Clock) (given : ℕ → Option VariableId) (vs : List Variable) (os : List Operand) (i : ℕ) (v : Variable) (o : Operand)
+pub fit_next : (base : Option Clock) (given : ℕ → Option VariableId) (vs : List Variable)
+    (os : List Operand) (i : ℕ) (v : Variable) (o : Operand)
     → i < length vs → i < length os
     → all_fit base given (clocks_of (drop i vs)) (standings (drop i os))
     ≡ (may_stand (expected base given (get_or vs i v).clock) (get_or os i o).standing

@@ -35,13 +35,10 @@ use Rattle.lb_check.specs.declared.standing.Operand.{Operand}
 use Rattle.lb_check.specs.declared.standing.Standing.{Standing}
 use Rattle.lb_check.specs.declared.standing.Standing.TheVariants.{Nowhere, Anywhere, Only}
 use Rattle.lb_check.proofs.DistinctNames.{held_at}
-use Rattle.lb_check.proofs.NodePlaces.{and_first, and_second, all_at}
+use Rattle.lb_check.proofs.NodePlaces.{all_at}
 use Rattle.lb_check.proofs.SiteCallees.{callee_found}
 use Rattle.lb_check.proofs.OwnClocks.{clock_of_free, clock_of_waiting, same_clock, clock_itself}
-
-and_true : (b : Bool) → (b && true) ≡ b
-and_true true = refl
-and_true false = refl
+use Rattle.lb_check.proofs.TruthValues.{and_first, and_second, and_true}
 
 regrouped : (a b c d : Bool) → ((a && b) && (c && d)) ≡ ((a && c) && (b && d))
 regrouped true true c d = refl
@@ -68,7 +65,8 @@ same_swapped Base Base = refl
 same_swapped Base (On y other) = refl
 same_swapped (On x sign) Base = refl
 same_swapped (On x sign) (On y other) =
-    ap (λ b. b && same sign other) (nat_swapped x.0 y.0) ∙ ap (λ b. nat_eq y.0 x.0 && b) (sign_swapped sign other)
+    ap (λ b. b && same sign other) (nat_swapped x.0 y.0)
+    ∙ ap (λ b. nat_eq y.0 x.0 && b) (sign_swapped sign other)
 
 -- ## A row of terms
 
@@ -80,10 +78,12 @@ row_is : (t : Texts) {m : _} (row : Row_of-Term m) → row_of t row ≡ exprs_of
 row_is t end_of-Term = refl
 row_is t (more_of-Term e rest) = ap (λ (es : Exprs). Cons (expr_of t e) es) (row_is t rest)
 
-operands_are : (ctx : Context) {m : _} (row : Row_of-Term m) → operands_in ctx row ≡ operands_of ctx (terms_in row)
+operands_are : (ctx : Context) {m : _} (row : Row_of-Term m) →
+    operands_in ctx row ≡ operands_of ctx (terms_in row)
 unfolding standing_of
 operands_are ctx end_of-Term = refl
-operands_are ctx (more_of-Term e rest) = ap (λ (os : List Operand). operand_of ctx e ∷ os) (operands_are ctx rest)
+operands_are ctx (more_of-Term e rest) =
+    ap (λ (os : List Operand). operand_of ctx e ∷ os) (operands_are ctx rest)
 
 -- ## A node that is reached
 
@@ -106,7 +106,8 @@ module _ (P : Program) (r : Reached) (here : ResolvedNode) (sees : SeesClocks P 
   -- ## What is called
 
   pub called : (c : CallId) → is_call (counts_of here) c ≡ true
-      → (callee : ResolvedNode) × (callee_in r here c ≡ Some callee) × (node_named P (site_at (node_sites (node_of here)) c).callee ≡ Some (node_of callee))
+      → (callee : ResolvedNode) × (callee_in r here c ≡ Some callee)
+      × (node_named P (site_at (node_sites (node_of here)) c).callee ≡ Some (node_of callee))
   called c w =
       let found = callee_found P r sees.names sees.reached sees.place here sees.at c w in
       (found.0, found.1, found.2)
@@ -114,86 +115,115 @@ module _ (P : Program) (r : Reached) (here : ResolvedNode) (sees : SeesClocks P 
   -- ## Declared clocks
 
   -- the clock that is declared for a variable
-  declared_is : (x : VariableId) → is_variable (counts_of here) x ≡ true → clock_in here (declared_in here x) ≡ declared_clock node (name_in here x)
+  declared_is : (x : VariableId) → is_variable (counts_of here) x ≡ true →
+      clock_in here (declared_in here x) ≡ declared_clock node (name_in here x)
   declared_is x w =
       let v = held_at here.variables.items x.0 w in
       let lt : x.0 < length here.variables.items = grind (arith, nat_tests) in
       ap (λ o. clock_in here (clock_with (o >>= λ v. v.clock))) v.1 ∙ by v.0 v.1 lt v.0.clock refl
     where
-      by : (v : _) → slice_get here.variables.items x.0 ≡ Some v → x.0 < length here.variables.items → (o : Option Sampling) → v.clock ≡ o
+      by : (v : _) → slice_get here.variables.items x.0 ≡ Some v →
+          x.0 < length here.variables.items → (o : Option Sampling) → v.clock ≡ o
           → clock_in here (clock_with v.clock) ≡ declared_clock node (name_in here x)
-      by v e lt None is = ap (λ o. clock_in here (clock_with o)) is ∙ clock_of_free here sees.own x v e lt is
-      by v e lt (Some s) is = ap (λ o. clock_in here (clock_with o)) is ∙ clock_of_waiting here sees.own x v s e lt is
+      by v e lt None is = ap (λ o. clock_in here (clock_with o)) is
+          ∙ clock_of_free here sees.own x v e lt is
+      by v e lt (Some s) is = ap (λ o. clock_in here (clock_with o)) is
+          ∙ clock_of_waiting here sees.own x v s e lt is
 
-  declared_within : (x : VariableId) → is_variable (counts_of here) x ≡ true → is_clock_within here (declared_in here x) ≡ true
+  declared_within : (x : VariableId) → is_variable (counts_of here) x ≡ true →
+      is_clock_within here (declared_in here x) ≡ true
   declared_within x w =
       let v = held_at here.variables.items x.0 w in
-      let all = all_at (is_declared_within (counts_of here)) here.variables.items x.0 v.0 resolved.declared_within v.1 in
-      ap (λ o. is_clock_within here (clock_with (o >>= λ v. v.clock))) v.1 ∙ by v.0.clock (and_second (are_statics (counts_of here) v.0.first_size v.0.sizes) _ all)
+      let all = all_at (is_declared_within (counts_of here)) here.variables.items x.0 v.0
+      resolved.declared_within v.1 in
+      ap (λ o. is_clock_within here (clock_with (o >>= λ v. v.clock))) v.1
+      ∙ by v.0.clock (and_second (are_statics (counts_of here) v.0.first_size v.0.sizes) _ all)
     where
-      by : (o : Option Sampling) → is_sampling_within (counts_of here) o ≡ true → is_clock_within here (clock_with o) ≡ true
+      by : (o : Option Sampling) → is_sampling_within (counts_of here) o ≡ true →
+          is_clock_within here (clock_with o) ≡ true
       by None w = refl
       by (Some s) w = w
 
-  same_clocks : (k l : Clock) → is_clock_within here k ≡ true → is_clock_within here l ≡ true → is_same k l ≡ is_clock (clock_in here k) (clock_in here l)
+  same_clocks : (k l : Clock) → is_clock_within here k ≡ true → is_clock_within here l ≡ true →
+      is_same k l ≡ is_clock (clock_in here k) (clock_in here l)
   same_clocks Base Base wk wl = refl
   same_clocks Base (On y other) wk wl = refl
   same_clocks (On x sign) Base wk wl = refl
   same_clocks (On x sign) (On y other) wk wl =
-      ap (λ b. b && same sign other) (nat_other x.0 y.0) ∙ same_clock here sees.own x y sign other wk wl
+      ap (λ b. b && same sign other) (nat_other x.0 y.0)
+      ∙ same_clock here sees.own x y sign other wk wl
 
   -- ## Where an expression stands
 
-  may_stand_is : (k : Clock) → is_clock_within here k ≡ true → (s : Standing) (e : Expr) → IsStanding P here e s → (n : ℕ)
+  may_stand_is : (k : Clock) → is_clock_within here k ≡ true → (s : Standing) (e : Expr) →
+      IsStanding P here e s → (n : ℕ)
       → is_clocked_on P here (clock_in here k) n e ≡ may_stand (Some k) s
   may_stand_is k w Nowhere e st n = st (clock_in here k) n
   may_stand_is k w Anywhere e st n = st.1 (clock_in here k) n
-  may_stand_is k w (Only c) e st n = st.2 (clock_in here k) n ∙ sym (same_swapped c k ∙ same_clocks k c w st.0)
+  may_stand_is k w (Only c) e st n =
+      st.2 (clock_in here k) n ∙ sym (same_swapped c k ∙ same_clocks k c w st.0)
 
-  asserted : (s : Standing) (e : Expr) → IsStanding P here e s → (n : ℕ) → is_clocked_on P here (clock_or (clock_of P node e)) n e ≡ stands s
+  asserted : (s : Standing) (e : Expr) → IsStanding P here e s → (n : ℕ) →
+      is_clocked_on P here (clock_or (clock_of P node e)) n e ≡ stands s
   asserted Nowhere e st n = st _ n
   asserted Anywhere e st n = st.1 _ n
   asserted (Only c) e st n =
-      st.2 (clock_or (clock_of P node e)) n ∙ ap (λ o. is_clock (clock_or o) (clock_in here c)) st.1 ∙ clock_itself here sees.own (clock_in here c)
+      st.2 (clock_or (clock_of P node e)) n ∙ ap (λ o. is_clock (clock_or o) (clock_in here c)) st.1
+      ∙ clock_itself here sees.own (clock_in here c)
 
   -- ## Left variables
 
   abbrev left_k : List VariableId → clocks.Clock
   left_k lefts = clock_in here (left_clock ctx lefts)
 
-  left_is : (lefts : List VariableId) → list_all (is_variable (counts_of here)) lefts ≡ true → (e : Expr)
+  left_is : (lefts : List VariableId) → list_all (is_variable (counts_of here)) lefts ≡ true →
+      (e : Expr)
       → left_k lefts ≡ statement_clock P node (tree.Equation (map (name_in here) lefts) e)
   unfolding context_of
   left_is [] w e = refl
   left_is (x ∷ xs) w e = declared_is x (and_first _ (list_all (is_variable (counts_of here)) xs) w)
 
-  left_within : (lefts : List VariableId) → list_all (is_variable (counts_of here)) lefts ≡ true → is_clock_within here (left_clock ctx lefts) ≡ true
+  left_within : (lefts : List VariableId) → list_all (is_variable (counts_of here)) lefts ≡ true →
+      is_clock_within here (left_clock ctx lefts) ≡ true
   unfolding context_of
   left_within [] w = refl
-  left_within (x ∷ xs) w = declared_within x (and_first _ (list_all (is_variable (counts_of here)) xs) w)
+  left_within (x ∷ xs) w = declared_within x
+      (and_first _ (list_all (is_variable (counts_of here)) xs) w)
 
-  lefts_are : (k : Clock) → is_clock_within here k ≡ true → (lefts : List VariableId) → list_all (is_variable (counts_of here)) lefts ≡ true
-      → list_all (is_clock (clock_in here k)) (left_clocks node (map (name_in here) lefts)) ≡ list_all (λ x. is_same k (ctx.variable x)) lefts
+  lefts_are : (k : Clock) → is_clock_within here k ≡ true → (lefts : List VariableId) →
+      list_all (is_variable (counts_of here)) lefts ≡ true
+      → list_all (is_clock (clock_in here k))
+      (left_clocks node (map (name_in here) lefts)) ≡ list_all
+      (λ x. is_same k (ctx.variable x)) lefts
   unfolding context_of
   lefts_are k wk [] w = refl
   lefts_are k wk (x ∷ xs) w =
       let wx = and_first _ (list_all (is_variable (counts_of here)) xs) w in
-      let one : is_clock (clock_in here k) (declared_clock node (name_in here x)) ≡ is_same k (declared_in here x) =
-      ap (is_clock (clock_in here k)) (sym (declared_is x wx)) ∙ sym (same_clocks k (declared_in here x) wk (declared_within x wx)) in
-      ap (λ b. b && list_all (is_clock (clock_in here k)) (left_clocks node (map (name_in here) xs))) one
-      ∙ ap (λ b. is_same k (declared_in here x) && b) (lefts_are k wk xs (and_second (is_variable (counts_of here) x) _ w))
+      let one : is_clock (clock_in here k) (declared_clock node (name_in here x)) ≡ is_same k
+      (declared_in here x) =
+      ap (is_clock (clock_in here k)) (sym (declared_is x wx))
+      ∙ sym (same_clocks k (declared_in here x) wk (declared_within x wx)) in
+      ap (λ b. b && list_all (is_clock (clock_in here k))
+      (left_clocks node (map (name_in here) xs))) one
+      ∙ ap (λ b. is_same k (declared_in here x) && b)
+      (lefts_are k wk xs (and_second (is_variable (counts_of here) x) _ w))
 
-  one_clocked : (lefts : List VariableId) → list_all (is_variable (counts_of here)) lefts ≡ true → (s : Standing) (e : Expr) → IsStanding P here e s → (n : ℕ)
-      → (is_clocked_on P here (left_k lefts) n e && list_all (is_clock (left_k lefts)) (left_clocks node (map (name_in here) lefts))) ≡ is_one_clocked ctx lefts s
+  one_clocked : (lefts : List VariableId) → list_all (is_variable (counts_of here)) lefts ≡ true →
+      (s : Standing) (e : Expr) → IsStanding P here e s → (n : ℕ)
+      → (is_clocked_on P here (left_k lefts) n e
+      && list_all (is_clock (left_k lefts)) (left_clocks node (map (name_in here) lefts))) ≡
+      is_one_clocked ctx lefts s
   one_clocked lefts w s e st n =
       let k = left_clock ctx lefts in
       let wk = left_within lefts w in
-      ap (λ b. b && list_all (is_clock (left_k lefts)) (left_clocks node (map (name_in here) lefts))) (may_stand_is k wk s e st n)
+      ap (λ b. b && list_all (is_clock (left_k lefts))
+      (left_clocks node (map (name_in here) lefts))) (may_stand_is k wk s e st n)
       ∙ ap (λ b. may_stand (Some k) s && b) (lefts_are k wk lefts w)
 
   -- a constant or a parameter is no call
   value_side : (k : clocks.Clock) (xs : List Name) (s : Static)
-      → are_on_results P node k xs (ungrouped (named_value s)) ≡ list_all (is_clock k) (left_clocks node xs)
+      → are_on_results P node k xs (ungrouped (named_value s)) ≡ list_all (is_clock k)
+      (left_clocks node xs)
   value_side k xs (tree.Whole n) = refl
   value_side k xs (tree.Named x) = refl
   value_side k xs (tree.Negated s) = refl
@@ -202,29 +232,42 @@ module _ (P : Program) (r : Reached) (here : ResolvedNode) (sees : SeesClocks P 
 
   -- ## Right sides and statements
 
-  module _ (term_stands : (e : Term) → is_within (counts_of here) e ≡ true → is_unhidden (texts_of here) e ≡ true → is_single r here e ≡ true
+  module _ (term_stands : (e : Term) → is_within (counts_of here) e ≡ true →
+      is_unhidden (texts_of here) e ≡ true → is_single r here e ≡ true
       → IsStanding P here (expr_of (texts_of here) e) (standing_of (context_of r here) e))
-      (equation_stands : (callee : ResolvedNode) → HasClocks callee → (site : Site) → node_named P site.callee ≡ Some (node_of callee)
+      (equation_stands : (callee : ResolvedNode) → HasClocks callee → (site : Site) →
+      node_named P site.callee ≡ Some (node_of callee)
       → (ctx : Context) → ctx.variable ≡ declared_in here
-      → (es : List Term) → list_all (is_within (counts_of here)) es ≡ true → list_all (is_unhidden (texts_of here)) es ≡ true → AllStand P here ctx es
+      → (es : List Term) → list_all (is_within (counts_of here)) es ≡ true →
+      list_all (is_unhidden (texts_of here)) es ≡ true → AllStand P here ctx es
       → (lefts : List VariableId) → list_all (is_variable (counts_of here)) lefts ≡ true → (m : ℕ)
-      → let xs = map (name_in here) lefts in let e = tree.Call site.callee site.arguments (exprs_of (texts_of here) es) in
+      → let xs = map (name_in here) lefts in
+      let e = tree.Call site.callee site.arguments (exprs_of (texts_of here) es) in
       let k = statement_clock P (node_of here) (tree.Equation xs e) in
-      (is_clocked_on P here k m e && are_on_results P (node_of here) k xs e) ≡ is_call_clocked ctx callee (operands_of ctx es) lefts) where
+      (is_clocked_on P here k m e && are_on_results P (node_of here) k xs e) ≡ is_call_clocked ctx
+      callee (operands_of ctx es) lefts) where
     -- each term of a row stands where the code found
-    row_stands : {m : _} (row : Row_of-Term m) → are_within (counts_of here) row ≡ true → are_unhidden t row ≡ true → are_single r here row ≡ true
-        → (list_all (is_within (counts_of here)) (terms_in row) ≡ true) × (list_all (is_unhidden t) (terms_in row) ≡ true) × AllStand P here ctx (terms_in row)
+    row_stands : {m : _} (row : Row_of-Term m) → are_within (counts_of here) row ≡ true →
+        are_unhidden t row ≡ true → are_single r here row ≡ true
+        → (list_all (is_within (counts_of here)) (terms_in row) ≡ true)
+        × (list_all (is_unhidden t) (terms_in row) ≡ true) × AllStand P here ctx (terms_in row)
     unfolding is_single
     row_stands end_of-Term w u s = (refl, refl, tt)
     row_stands (more_of-Term e rest) w u s =
         let we = and_first _ (are_within (counts_of here) rest) w in
         let ue = and_first _ (are_unhidden t rest) u in
-        let more = row_stands rest (and_second (is_within (counts_of here) e) _ w) (and_second (is_unhidden t e) _ u) (and_second (is_single r here e) _ s) in
-        (rw we more.0, rw ue more.1, (term_stands e we ue (and_first _ (are_single r here rest) s), more.2))
+        let more = row_stands rest (and_second (is_within (counts_of here) e) _ w)
+        (and_second (is_unhidden t e) _ u) (and_second (is_single r here e) _ s) in (
+          rw we more.0,
+          rw ue more.1,
+          (term_stands e we ue (and_first _ (are_single r here rest) s), more.2),
+        )
 
     abbrev IsSide : List VariableId → ℕ → Term → Type 0
     IsSide lefts n e =
-        (is_clocked_on P here (left_k lefts) n (expr_of t e) && are_on_results P node (left_k lefts) (map (name_in here) lefts) (ungrouped (expr_of t e)))
+        (is_clocked_on P here (left_k lefts) n (expr_of t e)
+        && are_on_results P node (left_k lefts) (map (name_in here) lefts)
+        (ungrouped (expr_of t e)))
         ≡ is_equation_clocked ctx lefts e
 
     variables_are : (ctx).variable ≡ declared_in here
@@ -235,10 +278,14 @@ module _ (P : Program) (r : Reached) (here : ResolvedNode) (sees : SeesClocks P 
     unfolding context_of
     callees_are c = refl
 
-    call_side : (lefts : List VariableId) → list_all (is_variable (counts_of here)) lefts ≡ true → (n : ℕ) (c : CallId) {m : _} (row : Row_of-Term m)
-        → is_call (counts_of here) c ≡ true → are_within (counts_of here) row ≡ true → are_unhidden t row ≡ true → are_single r here row ≡ true
-        → let e = tree.Call (site_at t.calls c).callee (site_at t.calls c).arguments (row_of t row) in
-        (is_clocked_on P here (left_k lefts) n e && are_on_results P node (left_k lefts) (map (name_in here) lefts) e)
+    call_side : (lefts : List VariableId) → list_all (is_variable (counts_of here)) lefts ≡ true →
+        (n : ℕ) (c : CallId) {m : _} (row : Row_of-Term m)
+        → is_call (counts_of here) c ≡ true → are_within (counts_of here) row ≡ true →
+        are_unhidden t row ≡ true → are_single r here row ≡ true
+        → let e = tree.Call (site_at t.calls c).callee (site_at t.calls c).arguments
+        (row_of t row) in
+        (is_clocked_on P here (left_k lefts) n e
+        && are_on_results P node (left_k lefts) (map (name_in here) lefts) e)
         ≡ holds (λ callee. is_call_clocked ctx callee (operands_in ctx row) lefts) (ctx.callee c)
     call_side lefts wl n c row wc w u s =
         let site = site_at t.calls c in
@@ -247,32 +294,47 @@ module _ (P : Program) (r : Reached) (here : ResolvedNode) (sees : SeesClocks P 
         let e = tree.Call site.callee site.arguments (exprs_of t es) in
         let found = called c wc in
         let stand = row_stands row w u s in
-        let whole = equation_stands found.0 (sees.callees c found.0 found.1) site found.2 ctx variables_are es stand.0 stand.1 stand.2 lefts wl n in
-        let on_left = subst (λ k. (is_clocked_on P here k n e && are_on_results P node k xs e) ≡ is_call_clocked ctx found.0 (operands_of ctx es) lefts)
+        let whole = equation_stands found.0
+        (sees.callees c found.0 found.1) site found.2 ctx variables_are es stand.0 stand.1
+        stand.2 lefts wl n in
+        let on_left =
+        subst
+        (λ k. (is_clocked_on P here k n e && are_on_results P node k xs e) ≡ is_call_clocked ctx
+        found.0 (operands_of ctx es) lefts)
         (sym (left_is lefts wl e)) whole in
-        ap (λ (es : Exprs). is_clocked_on P here (left_k lefts) n (tree.Call site.callee site.arguments es)
-        && are_on_results P node (left_k lefts) xs (tree.Call site.callee site.arguments es)) (row_is t row)
+        ap (λ (es : Exprs). is_clocked_on P here (left_k lefts) n
+        (tree.Call site.callee site.arguments es)
+        && are_on_results P node (left_k lefts) xs (tree.Call site.callee site.arguments es))
+        (row_is t row)
         ∙ on_left ∙ ap (λ os. is_call_clocked ctx found.0 os lefts) (sym (operands_are ctx row))
-        ∙ sym (ap (holds (λ callee. is_call_clocked ctx callee (operands_in ctx row) lefts)) (callees_are c ∙ found.1))
+        ∙ sym (ap (holds (λ callee. is_call_clocked ctx callee (operands_in ctx row) lefts))
+        (callees_are c ∙ found.1))
 
-    term_side : (lefts : List VariableId) → list_all (is_variable (counts_of here)) lefts ≡ true → (n : ℕ) (e : Term)
+    term_side : (lefts : List VariableId) → list_all (is_variable (counts_of here)) lefts ≡ true →
+        (n : ℕ) (e : Term)
         → is_within (counts_of here) e ≡ true → is_unhidden t e ≡ true → is_single r here e ≡ true
-        → (is_clocked_on P here (left_k lefts) n (expr_of t e) && list_all (is_clock (left_k lefts)) (left_clocks node (map (name_in here) lefts)))
+        → (is_clocked_on P here (left_k lefts) n (expr_of t e)
+        && list_all (is_clock (left_k lefts)) (left_clocks node (map (name_in here) lefts)))
         ≡ is_one_clocked ctx lefts (standing_of ctx e)
-    term_side lefts wl n e w u s = one_clocked lefts wl (standing_of ctx e) (expr_of t e) (term_stands e w u s) n
+    term_side lefts wl n e w u s =
+        one_clocked lefts wl (standing_of ctx e) (expr_of t e) (term_stands e w u s) n
 
-    side_clocked : (lefts : List VariableId) → list_all (is_variable (counts_of here)) lefts ≡ true → (n : ℕ) (e : Term)
-        → is_within (counts_of here) e ≡ true → is_unhidden t e ≡ true → is_single_within r here e ≡ true → IsSide lefts n e
+    side_clocked : (lefts : List VariableId) →
+        list_all (is_variable (counts_of here)) lefts ≡ true → (n : ℕ) (e : Term)
+        → is_within (counts_of here) e ≡ true → is_unhidden t e ≡ true →
+        is_single_within r here e ≡ true → IsSide lefts n e
     unfolding is_equation_clocked is_single_within
     side_clocked lefts wl n (Literal m) w u s = term_side lefts wl n (Literal m) w u s
     side_clocked lefts wl n (Truth b) w u s = term_side lefts wl n (Truth b) w u s
     side_clocked lefts wl n (Variable x) w u s = term_side lefts wl n (Variable x) w u s
     side_clocked lefts wl n (Value i) w u s =
-        ap (λ b. is_clocked_on P here (left_k lefts) n (expr_of t (Value i)) && b) (value_side (left_k lefts) (map (name_in here) lefts) (static_at t.statics i))
+        ap (λ b. is_clocked_on P here (left_k lefts) n (expr_of t (Value i)) && b)
+        (value_side (left_k lefts) (map (name_in here) lefts) (static_at t.statics i))
         ∙ term_side lefts wl n (Value i) w u s
     side_clocked lefts wl n (Group' p e) w u s = side_clocked lefts wl n e w u s
     side_clocked lefts wl n (Unary' op p a) w u s = term_side lefts wl n (Unary' op p a) w u s
-    side_clocked lefts wl n (Binary' op p a q b) w u s = term_side lefts wl n (Binary' op p a q b) w u s
+    side_clocked lefts wl n (Binary' op p a q b) w u s =
+        term_side lefts wl n (Binary' op p a q b) w u s
     side_clocked lefts wl n (If' p c q a o b) w u s = term_side lefts wl n (If' p c q a o b) w u s
     side_clocked lefts wl n (Arrow' p a q b) w u s = term_side lefts wl n (Arrow' p a q b) w u s
     side_clocked lefts wl n (Fby' p a q b) w u s = term_side lefts wl n (Fby' p a q b) w u s
@@ -284,54 +346,86 @@ module _ (P : Program) (r : Reached) (here : ResolvedNode) (sees : SeesClocks P 
     side_clocked lefts wl n (Slice' p e i j) w u s = term_side lefts wl n (Slice' p e i j) w u s
     side_clocked lefts wl n (Join' p a q b) w u s = term_side lefts wl n (Join' p a q b) w u s
     side_clocked lefts wl n (Array' shape all) w u s = term_side lefts wl n (Array' shape all) w u s
-    side_clocked lefts wl n (AtMostOne' shape all) w u s = term_side lefts wl n (AtMostOne' shape all) w u s
+    side_clocked lefts wl n (AtMostOne' shape all) w u s =
+        term_side lefts wl n (AtMostOne' shape all) w u s
     side_clocked lefts wl n (Nor' shape all) w u s = term_side lefts wl n (Nor' shape all) w u s
     side_clocked lefts wl n (Call' c shape all) w u s =
-        call_side lefts wl n c all (and_first _ (are_within (counts_of here) all) w) (and_second (is_call (counts_of here) c) _ w) u s
-    side_clocked lefts wl n (IterateNode' it c shape all) w u s = term_side lefts wl n (IterateNode' it c shape all) w u s
-    side_clocked lefts wl n (IterateSymbol' it op i shape all) w u s = term_side lefts wl n (IterateSymbol' it op i shape all) w u s
+        call_side lefts wl n c all (and_first _ (are_within (counts_of here) all) w)
+        (and_second (is_call (counts_of here) c) _ w) u s
+    side_clocked lefts wl n (IterateNode' it c shape all) w u s =
+        term_side lefts wl n (IterateNode' it c shape all) w u s
+    side_clocked lefts wl n (IterateSymbol' it op i shape all) w u s =
+        term_side lefts wl n (IterateSymbol' it op i shape all) w u s
 
-    step_clocked : (n : ℕ) (s : Step) → is_step_within (counts_of here) s ≡ true → is_step_unhidden t s ≡ true → is_step_single r here s ≡ true
-        → let k = statement_clock P node (statement_of t s) in let e = right_side (statement_of t s) in
-        (is_clocked_on P here k n e && is_statement_clocked P node (statement_of t s) (at k n e)) ≡ is_step_clocked ctx s
+    step_clocked : (n : ℕ) (s : Step) → is_step_within (counts_of here) s ≡ true →
+        is_step_unhidden t s ≡ true → is_step_single r here s ≡ true
+        → let k = statement_clock P node (statement_of t s) in
+        let e = right_side (statement_of t s) in
+        (is_clocked_on P here k n e && is_statement_clocked P node (statement_of t s) (at k n e)) ≡
+        is_step_clocked ctx s
     step_clocked n (step.Equation lefts e) w u s =
         let wl = and_first _ (is_within (counts_of here) e) w in
-        subst (λ k. (is_clocked_on P here k n (expr_of t e) && are_on_results P node k (map (name_in here) lefts.items) (ungrouped (expr_of t e)))
+        subst
+        (λ k. (is_clocked_on P here k n (expr_of t e)
+        && are_on_results P node k (map (name_in here) lefts.items) (ungrouped (expr_of t e)))
         ≡ is_equation_clocked ctx lefts.items e) (left_is lefts.items wl (expr_of t e))
-        (side_clocked lefts.items wl n e (and_second (list_all (is_variable (counts_of here)) lefts.items) _ w) u s)
-    step_clocked n (step.Assertion e) w u s = and_true _ ∙ asserted (standing_of ctx e) (expr_of t e) (term_stands e w u s) n
+        (side_clocked lefts.items wl n e
+        (and_second (list_all (is_variable (counts_of here)) lefts.items) _ w) u s)
+    step_clocked n (step.Assertion e) w u s =
+        and_true _ ∙ asserted (standing_of ctx e) (expr_of t e) (term_stands e w u s) n
 
-    steps_clocked : (n : ℕ) (ss : List Step) → list_all (is_step_within (counts_of here)) ss ≡ true → list_all (is_step_unhidden t) ss ≡ true
+    steps_clocked : (n : ℕ) (ss : List Step) →
+        list_all (is_step_within (counts_of here)) ss ≡ true →
+        list_all (is_step_unhidden t) ss ≡ true
         → list_all (is_step_single r here) ss ≡ true
         → let body = map (statement_of t) ss in
-        (list_all (is_occurrence_clocked P node) (flat_map (λ r. occurrences P node r.clock r.calls_before r.expr) (right_sides P node n body))
-        && list_all (λ s. is_statement_clocked P node s.0 s.1) (zip body (right_sides P node n body)))
+        (list_all (is_occurrence_clocked P node)
+        (flat_map (λ r. occurrences P node r.clock r.calls_before r.expr)
+        (right_sides P node n body))
+        && list_all (λ s. is_statement_clocked P node s.0 s.1)
+        (zip body (right_sides P node n body)))
         ≡ list_all (is_step_clocked ctx) ss
     steps_clocked n [] w u s = refl
     steps_clocked n (st ∷ ss) w u s =
-        let one = step_clocked n st (and_first _ (list_all (is_step_within (counts_of here)) ss) w) (and_first _ (list_all (is_step_unhidden t) ss) u)
+        let one = step_clocked n st (and_first _ (list_all (is_step_within (counts_of here)) ss) w)
+        (and_first _ (list_all (is_step_unhidden t) ss) u)
         (and_first _ (list_all (is_step_single r here) ss) s) in
         let m = n + length (statement_sites (statement_of t st)) in
-        let more = steps_clocked m ss (and_second (is_step_within (counts_of here) st) _ w) (and_second (is_step_unhidden t st) _ u)
+        let more = steps_clocked m ss (and_second (is_step_within (counts_of here) st) _ w)
+        (and_second (is_step_unhidden t st) _ u)
         (and_second (is_step_single r here st) _ s) in
         let k = statement_clock P node (statement_of t st) in
         let e = right_side (statement_of t st) in
         let sides = right_sides P node m (map (statement_of t) ss) in
-        let rest = flat_map (λ (r : Occurrence). occurrences P node r.clock r.calls_before r.expr) sides in
+        let rest = flat_map (λ (r : Occurrence). occurrences P node r.clock r.calls_before r.expr)
+        sides in
         let kept = λ (s : Statement × Occurrence). is_statement_clocked P node s.0 s.1 in
-        ap (λ b. b && (is_statement_clocked P node (statement_of t st) (at k n e) && list_all kept (zip (map (statement_of t) ss) sides)))
+        ap
+        (λ b. b && (is_statement_clocked P node (statement_of t st) (at k n e)
+        && list_all kept (zip (map (statement_of t) ss) sides)))
         (list_all-append (is_occurrence_clocked P node) (occurrences P node k n e) rest)
         ∙ regrouped (is_clocked_on P here k n e) (list_all (is_occurrence_clocked P node) rest)
-        (is_statement_clocked P node (statement_of t st) (at k n e)) (list_all kept (zip (map (statement_of t) ss) sides))
-        ∙ ap (λ b. b && (list_all (is_occurrence_clocked P node) rest && list_all kept (zip (map (statement_of t) ss) sides))) one
+        (is_statement_clocked P node (statement_of t st) (at k n e))
+        (list_all kept (zip (map (statement_of t) ss) sides))
+        ∙ ap
+        (λ b. b && (list_all (is_occurrence_clocked P node) rest
+        && list_all kept (zip (map (statement_of t) ss) sides))) one
         ∙ ap (λ b. is_step_clocked ctx st && b) more
 
     -- a node keeps the rules of clocks where the code finds it of each statement
-    pub node_clocked : list_all (is_step_unhidden (texts_of here)) here.body.items ≡ true → list_all (is_step_single r here) here.body.items ≡ true
+    pub node_clocked : list_all (is_step_unhidden (texts_of here)) here.body.items ≡ true →
+        list_all (is_step_single r here) here.body.items ≡ true
         → is_clocked P (node_of here) ≡ is_body_clocked r here
     node_clocked u s =
-        ap (λ b. b && (list_all (is_occurrence_clocked P node) (flat_map (λ r. occurrences P node r.clock r.calls_before r.expr) (right_sides P node 0 node.body))
-        && list_all (λ s. is_statement_clocked P node s.0 s.1) (zip node.body (right_sides P node 0 node.body)))) sees.own.declared
-        ∙ ap (λ b. list_all (is_occurrence_clocked P node) (flat_map (λ r. occurrences P node r.clock r.calls_before r.expr) (right_sides P node 0 b))
-        && list_all (λ s. is_statement_clocked P node s.0 s.1) (zip b (right_sides P node 0 b))) (sym resolved.body)
+        ap
+        (λ b. b && (list_all (is_occurrence_clocked P node)
+        (flat_map (λ r. occurrences P node r.clock r.calls_before r.expr)
+        (right_sides P node 0 node.body))
+        && list_all (λ s. is_statement_clocked P node s.0 s.1)
+        (zip node.body (right_sides P node 0 node.body)))) sees.own.declared
+        ∙ ap (λ b. list_all (is_occurrence_clocked P node)
+        (flat_map (λ r. occurrences P node r.clock r.calls_before r.expr)
+        (right_sides P node 0 b))
+        && list_all (λ s. is_statement_clocked P node s.0 s.1) (zip b (right_sides P node 0 b)))
+        (sym resolved.body)
         ∙ steps_clocked 0 here.body.items resolved.body_within u s

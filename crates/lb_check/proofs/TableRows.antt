@@ -1,7 +1,7 @@
 -- A rule that looks at a specialization alone holds of each instance where it holds of each
 -- specialization.
-use Rattle.std.proofs.Common.{◌≡◌, ℕ, zero, suc, ◌+◌, ◌<◌, Bool, true, false, List, [], ◌∷◌, ◌++◌, length, map, Option, Some, None, refl, inl, inr, ap, sym, ◌∙◌, subst, arith, length-append}
-use Rattle.std.specs.Prelude.{◌&&◌, option_map, slice_get, slice_index_or}
+use Rattle.std.proofs.Common.{◌≡◌, ℕ, zero, suc, ◌+◌, ◌<◌, Bool, true, List, [], ◌∷◌, ◌++◌, length, map, Option, Some, None, refl, inl, inr, ap, sym, ◌∙◌, subst, arith, length-append}
+use Rattle.std.specs.Prelude.{option_map, slice_get, slice_index_or}
 use Rattle.std.specs.List.{list_all}
 use Rattle.std.proofs.lemmas.Option.{slice_get_within}
 use Rattle.lb_syntax.specs.Lists.{In, either_or, zip2}
@@ -11,37 +11,29 @@ use Rattle.lb_static.specs.declared.table.Specialization.{Specialization}
 use Rattle.lb_static.specs.declared.table.Table.{Table}
 use Rattle.lb_static.specs.InstanceTable.{IsTable, path_from, paths_after, paths_of, row_at, specialized_at}
 use Rattle.lb_static.specs.Instances.{Program, Instance, Path, instances}
+use Rattle.lb_check.proofs.TruthValues.{and_first, and_second, both_ways}
 
-and_first : (a b : Bool) → (a && b) ≡ true → a ≡ true
-and_first true b e = refl
-and_first false b e = absurd cc
-
-and_second : (a b : Bool) → (a && b) ≡ true → b ≡ true
-and_second true b e = e
-and_second false b e = absurd cc
-
-both_ways : (a b : Bool) → (a ≡ true → b ≡ true) → (b ≡ true → a ≡ true) → a ≡ b
-both_ways true b f g = sym (f refl)
-both_ways false true f g = g refl
-both_ways false false f g = refl
-
-pub all_at : {A : Type 0} → (good : A → Bool) (xs : List A) (i : ℕ) (x : A) → list_all good xs ≡ true → slice_get xs i ≡ Some x → good x ≡ true
+pub all_at : {A : Type 0} → (good : A → Bool) (xs : List A) (i : ℕ) (x : A) →
+    list_all good xs ≡ true → slice_get xs i ≡ Some x → good x ≡ true
 all_at good [] i x all e = absurd cc
 all_at good (y ∷ xs) zero x all e =
     let same : y ≡ x = cc in subst (λ z. good z ≡ true) same (and_first (good y) _ all)
 all_at good (y ∷ xs) (suc i) x all e = all_at good xs i x (and_second (good y) _ all) e
 
-pub all_in : {A : Type 0} → (good : A → Bool) (xs : List A) (x : A) → list_all good xs ≡ true → In x xs → good x ≡ true
+pub all_in : {A : Type 0} → (good : A → Bool) (xs : List A) (x : A) → list_all good xs ≡ true →
+    In x xs → good x ≡ true
 all_in good [] x all on = absurd on
 all_in good (y ∷ xs) x all (inl is) = subst (λ z. good z ≡ true) is (and_first (good y) _ all)
 all_in good (y ∷ xs) x all (inr on) = all_in good xs x (and_second (good y) _ all) on
 
-all_from : {A : Type 0} → (good : A → Bool) (xs : List A) → ((i : ℕ) (x : A) → slice_get xs i ≡ Some x → good x ≡ true) → list_all good xs ≡ true
+all_from : {A : Type 0} → (good : A → Bool) (xs : List A) →
+    ((i : ℕ) (x : A) → slice_get xs i ≡ Some x → good x ≡ true) → list_all good xs ≡ true
 all_from good [] each = refl
 all_from good (x ∷ xs) each = rw (each 0 x refl) (all_from good xs (λ i y e. each (suc i) y e))
 
 -- there are as many paths as rows
-paths_length : (before : List Path) (rows : List row.Instance) → length (paths_after before rows) ≡ length before + length rows
+paths_length : (before : List Path) (rows : List row.Instance) →
+    length (paths_after before rows) ≡ length before + length rows
 paths_length before [] = omega arith
 paths_length before (i ∷ rows) =
     let more = paths_length (before ++ path_from before i.origin ∷ []) rows in
@@ -49,7 +41,8 @@ paths_length before (i ∷ rows) =
     omega (arith, more, longer)
 
 -- where a number stands among those that rows give
-place_of : (f : row.Instance → ℕ) (rows : List row.Instance) (k i : ℕ) → k < length (map f rows) → slice_index_or (map f rows) k i ≡ i
+place_of : (f : row.Instance → ℕ) (rows : List row.Instance) (k i : ℕ) → k < length (map f rows) →
+    slice_index_or (map f rows) k i ≡ i
     → (found : row.Instance) × (slice_get rows k ≡ Some found) × (f found ≡ i)
 place_of f [] k i lt e = absurd (omega arith)
 place_of f (x ∷ rows) zero i lt e = (x, refl, e)
@@ -59,16 +52,19 @@ place_of f (x ∷ rows) (suc k) i lt e = place_of f rows k i (omega arith) e
 
 module _ (P : Program) (r : Reached) (t : Table) where
   row_held : (p : Path) (i : row.Instance) (here : Instance) → row_at r t p i ≡ Some here
-      → (s : Specialization) × (slice_get t.specializations.items i.specialization.0 ≡ Some s) × (specialized_at r p s ≡ Some here)
+      → (s : Specialization) × (slice_get t.specializations.items i.specialization.0 ≡ Some s)
+      × (specialized_at r p s ≡ Some here)
   row_held p i here e = by (slice_get t.specializations.items i.specialization.0) e
     where
-      by : (o : Option Specialization) → either_or (option_map (specialized_at r p) o) None ≡ Some here
+      by : (o : Option Specialization) →
+          either_or (option_map (specialized_at r p) o) None ≡ Some here
           → (s : Specialization) × (o ≡ Some s) × (specialized_at r p s ≡ Some here)
       by None e = absurd cc
       by (Some s) e = (s, refl, e)
 
   -- a row stands for an instance
-  row_shown : (ps : List Path) (rows : List row.Instance) (heres : List Instance) (k : ℕ) (i : row.Instance) → length ps ≡ length rows
+  row_shown : (ps : List Path) (rows : List row.Instance) (heres : List Instance) (k : ℕ)
+      (i : row.Instance) → length ps ≡ length rows
       → zip2 (row_at r t) ps rows ≡ map Some heres → slice_get rows k ≡ Some i
       → (p : Path) × (here : Instance) × In here heres × (row_at r t p i ≡ Some here)
   row_shown ps [] heres k i long e at = absurd cc
@@ -83,34 +79,43 @@ module _ (P : Program) (r : Reached) (t : Table) where
       let shown = row_shown ps rows heres k i (omega (arith, long)) rest at in
       (shown.0, shown.1, inr shown.2, shown.3)
 
-  row_is : (p : Path) (w : row.Instance) (here : Instance) (i : ℕ) (s : Specialization) → row_at r t p w ≡ Some here
-      → w.specialization.0 ≡ i → slice_get t.specializations.items i ≡ Some s → specialized_at r p s ≡ Some here
+  row_is : (p : Path) (w : row.Instance) (here : Instance) (i : ℕ) (s : Specialization) →
+      row_at r t p w ≡ Some here
+      → w.specialization.0 ≡ i → slice_get t.specializations.items i ≡ Some s →
+      specialized_at r p s ≡ Some here
   row_is p w here i s e same at =
-      sym (ap (λ o. either_or (option_map (specialized_at r p) o) None) (ap (slice_get t.specializations.items) same ∙ at)) ∙ e
+      sym (ap (λ o. either_or (option_map (specialized_at r p) o) None)
+      (ap (slice_get t.specializations.items) same ∙ at)) ∙ e
 
   -- each specialization has an instance
-  pub has_instance : IsTable P r t → (i : ℕ) (s : Specialization) → slice_get t.specializations.items i ≡ Some s
+  pub has_instance : IsTable P r t → (i : ℕ) (s : Specialization) →
+      slice_get t.specializations.items i ≡ Some s
       → (p : Path) × (here : Instance) × In here (instances P) × (specialized_at r p s ≡ Some here)
   has_instance table i s at =
       let used = table.used i (slice_get_within t.specializations.items i s at) in
       let found = place_of (λ row. row.specialization.0) t.instances.items used.0 i used.1 used.2 in
       let longer = paths_length [] t.instances.items in
       let as_many : length (paths_of t) ≡ length t.instances.items = omega (arith, longer) in
-      let shown = row_shown (paths_of t) t.instances.items (instances P) used.0 found.0 as_many table.instances found.1 in
+      let shown = row_shown (paths_of t) t.instances.items
+      (instances P) used.0 found.0 as_many table.instances found.1 in
       (shown.0, shown.1, shown.2, row_is shown.0 found.0 shown.1 i s shown.3 found.2 at)
 
 -- ## Each specialization and each instance
 
-module _ (P : Program) (r : Reached) (t : Table) (kept : Instance → Bool) (good : Specialization → Bool)
+module _ (P : Program) (r : Reached) (t : Table) (kept : Instance → Bool)
+    (good : Specialization → Bool)
     (judged : (i : ℕ) (s : Specialization) → slice_get t.specializations.items i ≡ Some s
     → (p : Path) (here : Instance) → specialized_at r p s ≡ Some here → kept here ≡ good s) where
-  row_judged : (p : Path) (i : row.Instance) (here : Instance) → row_at r t p i ≡ Some here → list_all good t.specializations.items ≡ true
+  row_judged : (p : Path) (i : row.Instance) (here : Instance) → row_at r t p i ≡ Some here →
+      list_all good t.specializations.items ≡ true
       → kept here ≡ true
   row_judged p i here e all =
       let s = row_held P r t p i here e in
-      judged i.specialization.0 s.0 s.1 p here s.2 ∙ all_at good t.specializations.items i.specialization.0 s.0 all s.1
+      judged i.specialization.0 s.0 s.1 p here s.2
+      ∙ all_at good t.specializations.items i.specialization.0 s.0 all s.1
 
-  all_instances : (ps : List Path) (rows : List row.Instance) (heres : List Instance) → zip2 (row_at r t) ps rows ≡ map Some heres
+  all_instances : (ps : List Path) (rows : List row.Instance) (heres : List Instance) →
+      zip2 (row_at r t) ps rows ≡ map Some heres
       → list_all good t.specializations.items ≡ true → list_all kept heres ≡ true
   all_instances ps rows [] e all = refl
   all_instances [] rows (h ∷ heres) e all = absurd cc
@@ -120,7 +125,8 @@ module _ (P : Program) (r : Reached) (t : Table) (kept : Instance → Bool) (goo
       let rest : zip2 (row_at r t) ps rows ≡ map Some heres = cc in
       rw (row_judged p i h one all) (all_instances ps rows heres rest all)
 
-  pub each_judged : IsTable P r t → list_all good t.specializations.items ≡ list_all kept (instances P)
+  pub each_judged : IsTable P r t →
+      list_all good t.specializations.items ≡ list_all kept (instances P)
   each_judged table =
       both_ways _ _ (all_instances (paths_of t) t.instances.items (instances P) table.instances)
       (λ all. all_from good t.specializations.items (λ i s at.

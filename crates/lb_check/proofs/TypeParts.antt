@@ -7,8 +7,8 @@ use Rattle.lb_static.specs.declared.resolved.StaticId.{StaticId}
 use Rattle.lb_static.specs.declared.resolved.VariableId.{VariableId}
 use Rattle.lb_static.specs.declared.resolved.Term.{Term, Literal, Value, Group, Unary, Pre, Current, When, Copies, Index, Slice, Binary, Arrow, Fby, Join, If}
 use Rattle.lb_static.specs.Shapes.{Shape, int, truth, is_shape}
-use Rattle.lb_check.specs.Types.{array_of, index_shape, same_shape, slice_shape}
-use Rattle.lb_check.specs.TermTypes.{Context, one_type, two_types, type_of, when_both, when_truth}
+use Rattle.lb_check.specs.Types.{array_of, index_shape, slice_shape}
+use Rattle.lb_check.specs.TermTypes.{Context, one_type, two_types, type_of, when_truth}
 
 -- a number
 abbrev pub IsNumber : Term → Type 0
@@ -23,10 +23,13 @@ number_type ctx t (inr (i, e)) = rw e refl
 abbrev pub IsSingle : Term → Box Term Global → Type 0
 IsSingle t e =
     (t ≡ Group e) ⊎ (((op : UnaryOperator) × (t ≡ Unary op e)) ⊎ ((t ≡ Pre e) ⊎ ((t ≡ Current e)
-    ⊎ (((x : VariableId) × (sign : Bool) × (t ≡ When e x sign)) ⊎ (((n : StaticId) × (t ≡ Copies e n))
-    ⊎ (((i : StaticId) × (t ≡ Index e i)) ⊎ ((i : StaticId) × (j : StaticId) × (t ≡ Slice e i j))))))))
+    ⊎ (((x : VariableId) × (sign : Bool) × (t ≡ When e x sign))
+    ⊎ (((n : StaticId) × (t ≡ Copies e n))
+    ⊎ (((i : StaticId) × (t ≡ Index e i))
+    ⊎ ((i : StaticId) × (j : StaticId) × (t ≡ Slice e i j))))))))
 
-pub single_type : (ctx : Context) (t : Term) (e : Box Term Global) (s : Shape) → IsSingle t e → type_of ctx e.value ≡ Some s
+pub single_type : (ctx : Context) (t : Term) (e : Box Term Global) (s : Shape) → IsSingle t e →
+    type_of ctx e.value ≡ Some s
     → one_type ctx t s ≡ type_of ctx t
 unfolding type_of
 single_type ctx t e s (inl is) h = rw (is, h) refl
@@ -42,7 +45,8 @@ no_truth : (o : Option Shape) → when_truth o None ≡ None
 no_truth None = refl
 no_truth (Some t) = by (is_shape truth t) t
   where
-    by : (b : Bool) (t : Shape) → (where_true b t >>= λ _. let none : Option Shape = None in none) ≡ None
+    by : (b : Bool) (t : Shape) →
+        (where_true b t >>= λ _. let none : Option Shape = None in none) ≡ None
     by true t = refl
     by false t = refl
 
@@ -54,7 +58,8 @@ no_slice : (o p : Option ℕ) → (o >>= λ _. p >>= λ _. let none : Option Sha
 no_slice None p = refl
 no_slice (Some n) p = no_count p
 
-pub single_none : (ctx : Context) (t : Term) (e : Box Term Global) → IsSingle t e → type_of ctx e.value ≡ None → type_of ctx t ≡ None
+pub single_none : (ctx : Context) (t : Term) (e : Box Term Global) → IsSingle t e →
+    type_of ctx e.value ≡ None → type_of ctx t ≡ None
 unfolding type_of
 single_none ctx t e (inl is) h = rw (is, h) refl
 single_none ctx t e (inr (inl (op, is))) h = rw (is, h) refl
@@ -65,24 +70,24 @@ single_none ctx t e (inr (inr (inr (inr (inl (x, sign, is)))))) h =
 single_none ctx t e (inr (inr (inr (inr (inr (inl (n, is))))))) h =
     ap (type_of ctx) is ∙ ap (λ o. ctx.count n >>= λ n. o >>= array_of n) h ∙ no_count (ctx.count n)
 single_none ctx t e (inr (inr (inr (inr (inr (inr (inl (i, is)))))))) h =
-    ap (type_of ctx) is ∙ ap (λ o. ctx.count i >>= λ i. o >>= index_shape i) h ∙ no_count (ctx.count i)
+    ap (type_of ctx) is ∙ ap (λ o. ctx.count i >>= λ i. o >>= index_shape i) h
+    ∙ no_count (ctx.count i)
 single_none ctx t e (inr (inr (inr (inr (inr (inr (inr (i, j, is)))))))) h =
-    ap (type_of ctx) is ∙ ap (λ o. ctx.count i >>= λ i. ctx.count j >>= λ j. o >>= slice_shape i j) h ∙ no_slice (ctx.count i) (ctx.count j)
+    ap (type_of ctx) is ∙ ap (λ o. ctx.count i >>= λ i. ctx.count j >>= λ j. o >>= slice_shape i j)
+    h ∙ no_slice (ctx.count i) (ctx.count j)
 
--- a term with these two operands
+-- a term with these two operands, or with these branches of a choice
 abbrev pub IsPair : Term → Box Term Global → Box Term Global → Type 0
-IsPair t a b = ((op : BinaryOperator) × (t ≡ Binary op a b)) ⊎ ((t ≡ Arrow a b) ⊎ ((t ≡ Fby a b) ⊎ (t ≡ Join a b)))
+IsPair t a b =
+    ((op : BinaryOperator) × (t ≡ Binary op a b)) ⊎ ((t ≡ Arrow a b) ⊎ ((t ≡ Fby a b)
+    ⊎ ((t ≡ Join a b) ⊎ ((c : Box Term Global) × (t ≡ If c a b)))))
 
-pub pair_type : (ctx : Context) (t : Term) (a b : Box Term Global) (o p : Option Shape) → IsPair t a b
-    → o ≡ type_of ctx a.value → p ≡ type_of ctx b.value → two_types t o p ≡ type_of ctx t
+pub pair_type : (ctx : Context) (t : Term) (a b : Box Term Global) (o p : Option Shape) →
+    IsPair t a b
+    → o ≡ type_of ctx a.value → p ≡ type_of ctx b.value → two_types ctx t o p ≡ type_of ctx t
 unfolding type_of
 pair_type ctx t a b o p (inl (op, is)) e f = rw (is, e, f) refl
 pair_type ctx t a b o p (inr (inl is)) e f = rw (is, e, f) refl
 pair_type ctx t a b o p (inr (inr (inl is))) e f = rw (is, e, f) refl
-pair_type ctx t a b o p (inr (inr (inr is))) e f = rw (is, e, f) refl
-
-pub choice_type : (ctx : Context) (t : Term) (c a b : Box Term Global) (o p q : Option Shape) → t ≡ If c a b
-    → o ≡ type_of ctx c.value → p ≡ type_of ctx a.value → q ≡ type_of ctx b.value
-    → when_truth o (when_both p q same_shape) ≡ type_of ctx t
-unfolding type_of
-choice_type ctx t c a b o p q is e f g = rw (is, e, f, g) refl
+pair_type ctx t a b o p (inr (inr (inr (inl is)))) e f = rw (is, e, f) refl
+pair_type ctx t a b o p (inr (inr (inr (inr (c, is))))) e f = rw (is, e, f) refl

@@ -12,14 +12,16 @@ use Rattle.lb_static.specs.Shapes.{Shape}
 use Rattle.lb_check.specs.Types.{only}
 use Rattle.lb_check.specs.TermTypes.{Context, type_of, types_in, types_of, results, row_results}
 
-pub types_items : (ctx : Context) (n : _) (row : Row_of-Term n) → types_in ctx row ≡ types_of ctx (items-the_row-Term n row)
+pub types_items : (ctx : Context) (n : _) (row : Row_of-Term n) →
+    types_in ctx row ≡ types_of ctx (items-the_row-Term n row)
 unfolding type_of
 types_items ctx n end_of-Term = refl
 types_items ctx n (more_of-Term e rest) =
     ap (λ p. type_of ctx e >>= λ t. p >>= λ ts. Some (t ∷ ts)) (types_items ctx _ rest)
     ∙ by (type_of ctx e) (map (type_of ctx) (items-the_row-Term _ rest))
   where
-    by : (o : Option Shape) (os : List (Option Shape)) → (o >>= λ t. all_some os >>= λ ts. Some (t ∷ ts)) ≡ all_some (o ∷ os)
+    by : (o : Option Shape) (os : List (Option Shape)) →
+        (o >>= λ t. all_some os >>= λ ts. Some (t ∷ ts)) ≡ all_some (o ∷ os)
     by None os = refl
     by (Some t) os = last (all_some os)
       where
@@ -53,7 +55,8 @@ results_array ctx es =
     (types_items ctx row.0 row.1 ∙ ap (types_of ctx) (items_hidden-the_row-Term-0 es))
 
 pub type_at_most_one : (ctx : Context) (es : Vec Term Global)
-    → type_of ctx (AtMostOne es) ≡ (types_of ctx es.items >>= row_results ctx (AtMostOne es) >>= only)
+    → type_of ctx (AtMostOne es) ≡
+    (types_of ctx es.items >>= row_results ctx (AtMostOne es) >>= only)
 unfolding type_of results
 type_at_most_one ctx es =
     let row = row_in (AtMostOne es) in
@@ -101,7 +104,8 @@ results_call ctx c es =
     (types_items ctx row.0 row.1 ∙ ap (types_of ctx) (items_hidden-the_row-Term-0 es))
 
 pub type_node : (ctx : Context) (it : ArrayIterator) (c : CallId) (es : Vec Term Global)
-    → type_of ctx (IterateNode it c es) ≡ (types_of ctx es.items >>= row_results ctx (IterateNode it c es) >>= only)
+    → type_of ctx (IterateNode it c es) ≡
+    (types_of ctx es.items >>= row_results ctx (IterateNode it c es) >>= only)
 unfolding type_of results
 type_node ctx it c es =
     let row = row_in (IterateNode it c es) in
@@ -109,23 +113,28 @@ type_node ctx it c es =
     (types_items ctx row.0 row.1 ∙ ap (types_of ctx) (items_hidden-the_row-Term-0 es))
 
 pub results_node : (ctx : Context) (it : ArrayIterator) (c : CallId) (es : Vec Term Global)
-    → results ctx (IterateNode it c es) ≡ (types_of ctx es.items >>= row_results ctx (IterateNode it c es))
+    → results ctx (IterateNode it c es) ≡
+    (types_of ctx es.items >>= row_results ctx (IterateNode it c es))
 unfolding type_of results
 results_node ctx it c es =
     let row = row_in (IterateNode it c es) in
     ap (λ o. o >>= row_results ctx (IterateNode it c es))
     (types_items ctx row.0 row.1 ∙ ap (types_of ctx) (items_hidden-the_row-Term-0 es))
 
-pub type_symbol : (ctx : Context) (it : ArrayIterator) (op : BinaryOperator) (n : StaticId) (es : Vec Term Global)
-    → type_of ctx (IterateSymbol it op n es) ≡ (types_of ctx es.items >>= row_results ctx (IterateSymbol it op n es) >>= only)
+pub type_symbol : (ctx : Context) (it : ArrayIterator) (op : BinaryOperator) (n : StaticId)
+    (es : Vec Term Global)
+    → type_of ctx (IterateSymbol it op n es) ≡
+    (types_of ctx es.items >>= row_results ctx (IterateSymbol it op n es) >>= only)
 unfolding type_of results
 type_symbol ctx it op n es =
     let row = row_in (IterateSymbol it op n es) in
     ap (λ o. o >>= row_results ctx (IterateSymbol it op n es) >>= only)
     (types_items ctx row.0 row.1 ∙ ap (types_of ctx) (items_hidden-the_row-Term-0 es))
 
-pub results_symbol : (ctx : Context) (it : ArrayIterator) (op : BinaryOperator) (n : StaticId) (es : Vec Term Global)
-    → results ctx (IterateSymbol it op n es) ≡ (types_of ctx es.items >>= row_results ctx (IterateSymbol it op n es))
+pub results_symbol : (ctx : Context) (it : ArrayIterator) (op : BinaryOperator) (n : StaticId)
+    (es : Vec Term Global)
+    → results ctx (IterateSymbol it op n es) ≡
+    (types_of ctx es.items >>= row_results ctx (IterateSymbol it op n es))
 unfolding type_of results
 results_symbol ctx it op n es =
     let row = row_in (IterateSymbol it op n es) in
@@ -140,7 +149,8 @@ abbrev pub IsRow : Term → Vec Term Global → Type 0
 IsRow t es =
     (t ≡ Array es) ⊎ ((t ≡ AtMostOne es) ⊎ ((t ≡ Nor es) ⊎ (((c : CallId) × (t ≡ Call c es))
     ⊎ (((it : ArrayIterator) × (c : CallId) × (t ≡ IterateNode it c es))
-    ⊎ ((it : ArrayIterator) × (op : BinaryOperator) × (n : StaticId) × (t ≡ IterateSymbol it op n es))))))
+    ⊎ ((it : ArrayIterator) × (op : BinaryOperator) × (n : StaticId)
+    × (t ≡ IterateSymbol it op n es))))))
 
 pub type_of_row : (ctx : Context) (t : Term) (es : Vec Term Global) → IsRow t es
     → type_of ctx t ≡ (types_of ctx es.items >>= row_results ctx t >>= only)
@@ -149,7 +159,8 @@ type_of_row ctx t es (inr (inl e)) = rw e (type_at_most_one ctx es)
 type_of_row ctx t es (inr (inr (inl e))) = rw e (type_nor ctx es)
 type_of_row ctx t es (inr (inr (inr (inl (c, e))))) = rw e (type_call ctx c es)
 type_of_row ctx t es (inr (inr (inr (inr (inl (it, c, e)))))) = rw e (type_node ctx it c es)
-type_of_row ctx t es (inr (inr (inr (inr (inr (it, op, n, e)))))) = rw e (type_symbol ctx it op n es)
+type_of_row ctx t es (inr (inr (inr (inr (inr (it, op, n, e)))))) =
+    rw e (type_symbol ctx it op n es)
 
 pub results_of_row : (ctx : Context) (t : Term) (es : Vec Term Global) → IsRow t es
     → results ctx t ≡ (types_of ctx es.items >>= row_results ctx t)
@@ -158,4 +169,5 @@ results_of_row ctx t es (inr (inl e)) = rw e (results_at_most_one ctx es)
 results_of_row ctx t es (inr (inr (inl e))) = rw e (results_nor ctx es)
 results_of_row ctx t es (inr (inr (inr (inl (c, e))))) = rw e (results_call ctx c es)
 results_of_row ctx t es (inr (inr (inr (inr (inl (it, c, e)))))) = rw e (results_node ctx it c es)
-results_of_row ctx t es (inr (inr (inr (inr (inr (it, op, n, e)))))) = rw e (results_symbol ctx it op n es)
+results_of_row ctx t es (inr (inr (inr (inr (inr (it, op, n, e)))))) =
+    rw e (results_symbol ctx it op n es)

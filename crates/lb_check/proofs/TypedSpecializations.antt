@@ -1,5 +1,5 @@
 -- The rules of types of a specialization are those of each of its instances.
-use Rattle.std.proofs.Common.{◌≡◌, ℕ, zero, suc, ◌<◌, Bool, true, false, List, [], ◌∷◌, length, map, Option, Some, None, refl, ap, sym, ◌∙◌, subst, arith}
+use Rattle.std.proofs.Common.{◌≡◌, ℕ, zero, suc, ◌<◌, Bool, true, List, [], ◌∷◌, length, map, Option, Some, None, refl, ap, sym, ◌∙◌, subst, arith}
 use Rattle.std.specs.Prelude.{◌&&◌, option_map, slice_get, slice_index_or}
 use Rattle.std.specs.List.{list_all}
 use Rattle.std.proofs.lemmas.Option.{slice_get-map, slice_get_within, get_or_from_slice_get}
@@ -32,35 +32,31 @@ use Rattle.lb_check.proofs.FittedScopes.{length_map, variable_is, left_is, value
 use Rattle.lb_check.proofs.MirroredTypes.{Fits, term_results}
 use Rattle.lb_check.proofs.DistinctNames.{distinct_first}
 use Rattle.lb_check.proofs.TableRows.{each_judged}
-
-and_first : (a b : Bool) → (a && b) ≡ true → a ≡ true
-and_first true b e = refl
-and_first false b e = absurd cc
-
-and_second : (a b : Bool) → (a && b) ≡ true → b ≡ true
-and_second true b e = e
-and_second false b e = absurd cc
-
-and_true : (b : Bool) → (b && true) ≡ b
-and_true true = refl
-and_true false = refl
+use Rattle.lb_check.proofs.TruthValues.{and_first, and_second, and_true}
 
 -- ## Distinct names
 
-held_by_all : (f : Node → Bool) (xs : List Node) (k : ℕ) (x : Node) → list_all f xs ≡ true → k < length xs → slice_index_or xs k x ≡ x → f x ≡ true
+held_by_all : (f : Node → Bool) (xs : List Node) (k : ℕ) (x : Node) → list_all f xs ≡ true →
+    k < length xs → slice_index_or xs k x ≡ x → f x ≡ true
 held_by_all f [] k x all lt e = absurd (omega arith)
 held_by_all f (y ∷ xs) zero x all lt e = subst (λ z. f z ≡ true) e (and_first (f y) _ all)
-held_by_all f (y ∷ xs) (suc k) x all lt e = held_by_all f xs k x (and_second (f y) _ all) (omega arith) e
+held_by_all f (y ∷ xs) (suc k) x all lt e =
+    held_by_all f xs k x (and_second (f y) _ all) (omega arith) e
 
-distinct : (P : Program) (r : Reached) (t : Table) → IsJudged P r t → (k : ℕ) (n : ResolvedNode) → slice_get r.nodes.items k ≡ Some n
+distinct : (P : Program) (r : Reached) (t : Table) → IsJudged P r t → (k : ℕ) (n : ResolvedNode) →
+    slice_get r.nodes.items k ≡ Some n
     → are_distinct (variable_names (node_of n)) ≡ true
 distinct P r t j k n at =
-    let tree : slice_get (trees r) k ≡ Some (node_of n) = slice_get-map node_of r.nodes.items k ∙ ap (option_map node_of) at in
+    let tree : slice_get (trees r) k ≡ Some (node_of n) = slice_get-map node_of r.nodes.items k
+    ∙ ap (option_map node_of) at in
     let lt = slice_get_within (trees r) k (node_of n) tree in
-    let reached = (j.reached.same (node_of n)).0 (k, lt, get_or_from_slice_get (trees r) k (node_of n) (node_of n) tree) in
+    let reached = (j.reached.same (node_of n)).0
+    (k, lt, get_or_from_slice_get (trees r) k (node_of n) (node_of n) tree) in
     let named_all = and_first _ _ (and_second _ _ (and_second _ _ j.names)) in
-    let passes = held_by_all (is_named P) (reached_nodes P) reached.0 (node_of n) named_all reached.1 reached.2 in
-    distinct_first (variable_names (node_of n)) (node_of n).parameters (and_first (declares_once P (node_of n)) _ passes)
+    let passes = held_by_all (is_named P) (reached_nodes P) reached.0
+    (node_of n) named_all reached.1 reached.2 in
+    distinct_first (variable_names (node_of n)) (node_of n).parameters
+    (and_first (declares_once P (node_of n)) _ passes)
 
 -- ## Statements
 
@@ -70,8 +66,10 @@ same_is P None (Some ts) = refl
 same_is P (Some ss) None = refl
 same_is P (Some ss) (Some ts) = refl
 
-module _ (P : Program) (r : Reached) (t : Table) (j : IsJudged P r t) (i : ℕ) (s : Specialization) (is : slice_get t.specializations.items i ≡ Some s)
-    (n : ResolvedNode) (at : slice_get r.nodes.items s.node.0 ≡ Some n) (resolved : IsResolved (source_names P) n) (p : Path) where
+module _ (P : Program) (r : Reached) (t : Table) (j : IsJudged P r t) (i : ℕ) (s : Specialization)
+    (is : slice_get t.specializations.items i ≡ Some s)
+    (n : ResolvedNode) (at : slice_get r.nodes.items s.node.0 ≡ Some n)
+    (resolved : IsResolved (source_names P) n) (p : Path) where
   abbrev here : Instance
   here = instance_of p (node_of n) s.values.items
 
@@ -93,11 +91,13 @@ module _ (P : Program) (r : Reached) (t : Table) (j : IsJudged P r t) (i : ℕ) 
     variable = variable_is P r t s n p resolved distinct_here valued;
     value = value_is P r t s n p resolved distinct_here valued;
     count = static_is P r t s n p resolved distinct_here valued;
-    call = λ c w. call_is P r t j.reached j.table i s is n p at c _ (call_at P r t s n p resolved distinct_here valued c w).2;
+    call = λ c w. call_is P r t j.reached j.table i s is n p at c _
+        (call_at P r t s n p resolved distinct_here valued c w).2;
     repeats = repeats_is P r t s n p resolved distinct_here valued;
   }
 
-  left : (x : VariableId) → is_variable (counts_of n) x ≡ true → declared_shape P here (name_at names x) ≡ ctx.variable x
+  left : (x : VariableId) → is_variable (counts_of n) x ≡ true →
+      declared_shape P here (name_at names x) ≡ ctx.variable x
   unfolding context_of
   left x w = left_is P r t s n p resolved distinct_here valued x w
 
@@ -106,43 +106,60 @@ module _ (P : Program) (r : Reached) (t : Table) (j : IsJudged P r t) (i : ℕ) 
   lefts [] w = refl
   lefts (x ∷ xs) w =
       rw (left x (and_first _ (list_all (is_variable (counts_of n)) xs) w))
-      (ap (λ (os : List (Option Shape)). ctx.variable x ∷ os) (lefts xs (and_second (is_variable (counts_of n) x) _ w)))
+      (ap (λ (os : List (Option Shape)). ctx.variable x ∷ os)
+      (lefts xs (and_second (is_variable (counts_of n) x) _ w)))
 
-  step_is : (st : Step) → is_step_within (counts_of n) st ≡ true → is_step_unhidden (texts_of n) st ≡ true
+  step_is : (st : Step) → is_step_within (counts_of n) st ≡ true →
+      is_step_unhidden (texts_of n) st ≡ true
       → is_statement_typed P here (statement_of (texts_of n) st) ≡ mirror.is_step_typed ctx st
   step_is (step.Equation xs e) w u =
       let wx = and_first _ (is_within (counts_of n) e) w in
       let we = and_second (list_all (is_variable (counts_of n)) xs.items) _ w in
-      ap (λ o. are_same P o (all_some (map (declared_shape P here) (map (name_at names) xs.items)))) (term_results P here (texts_of n) (counts_of n) ctx fits e we u)
-      ∙ ap (λ os. are_same P (results ctx e) (all_some os)) (lefts xs.items wx) ∙ same_is P (results ctx e) _
+      ap (λ o. are_same P o (all_some (map (declared_shape P here) (map (name_at names) xs.items))))
+      (term_results P here (texts_of n) (counts_of n) ctx fits e we u)
+      ∙ ap (λ os. are_same P (results ctx e) (all_some os)) (lefts xs.items wx)
+      ∙ same_is P (results ctx e) _
   step_is (step.Assertion e) w u =
-      ap (λ o. are_same P o (Some (truth ∷ []))) (term_results P here (texts_of n) (counts_of n) ctx fits e w u) ∙ same_is P (results ctx e) _
+      ap (λ o. are_same P o (Some (truth ∷ [])))
+      (term_results P here (texts_of n) (counts_of n) ctx fits e w u)
+      ∙ same_is P (results ctx e) _
 
-  steps_are : (ss : List Step) → list_all (is_step_within (counts_of n)) ss ≡ true → list_all (is_step_unhidden (texts_of n)) ss ≡ true
-      → list_all (is_statement_typed P here) (map (statement_of (texts_of n)) ss) ≡ list_all (mirror.is_step_typed ctx) ss
+  steps_are : (ss : List Step) → list_all (is_step_within (counts_of n)) ss ≡ true →
+      list_all (is_step_unhidden (texts_of n)) ss ≡ true
+      → list_all (is_statement_typed P here) (map (statement_of (texts_of n)) ss) ≡ list_all
+      (mirror.is_step_typed ctx) ss
   steps_are [] w u = refl
   steps_are (st ∷ ss) w u =
-      let a = step_is st (and_first _ (list_all (is_step_within (counts_of n)) ss) w) (and_first _ (list_all (is_step_unhidden (texts_of n)) ss) u) in
-      let b = steps_are ss (and_second (is_step_within (counts_of n) st) _ w) (and_second (is_step_unhidden (texts_of n) st) _ u) in
+      let a = step_is st (and_first _ (list_all (is_step_within (counts_of n)) ss) w)
+      (and_first _ (list_all (is_step_unhidden (texts_of n)) ss) u) in
+      let b = steps_are ss (and_second (is_step_within (counts_of n) st) _ w)
+      (and_second (is_step_unhidden (texts_of n) st) _ u) in
       rw a (ap (λ z. mirror.is_step_typed ctx st && z) b)
 
   -- ## Clocks
 
   clock_is : (o : Option Sampling) → is_sampling_within (counts_of n) o ≡ true
-      → list_all (λ c. holds (is_shape truth) (declared_shape P here c.variable)) (listed (λ c. c ∷ []) (option_map (sampling_of names) o))
+      → list_all (λ c. holds (is_shape truth) (declared_shape P here c.variable))
+      (listed (λ c. c ∷ []) (option_map (sampling_of names) o))
       ≡ mirror.is_clock_typed ctx o
   clock_is None w = refl
-  clock_is (Some c) w = and_true (holds (is_shape truth) (declared_shape P here (name_at names c.variable))) ∙ ap (holds (is_shape truth)) (left c.variable w)
+  clock_is (Some c) w = and_true
+      (holds (is_shape truth) (declared_shape P here (name_at names c.variable)))
+      ∙ ap (holds (is_shape truth)) (left c.variable w)
 
-  clocks_are : (xs : List Name) (vs : List Declared) → length vs ≡ length xs → list_all (is_declared_within (counts_of n)) vs ≡ true
-      → list_all (is_clock_typed P here) (zip2 (declaration_of names (statics_of n)) xs vs) ≡ list_all (mirror.is_variable_typed ctx) vs
+  clocks_are : (xs : List Name) (vs : List Declared) → length vs ≡ length xs →
+      list_all (is_declared_within (counts_of n)) vs ≡ true
+      → list_all (is_clock_typed P here)
+      (zip2 (declaration_of names (statics_of n)) xs vs) ≡ list_all
+      (mirror.is_variable_typed ctx) vs
   clocks_are [] [] e w = refl
   clocks_are [] (v ∷ vs) e w = absurd cc
   clocks_are (x ∷ xs) [] e w = absurd cc
   clocks_are (x ∷ xs) (v ∷ vs) e w =
       let rest : length vs ≡ length xs = cc in
       let one = and_first _ (list_all (is_declared_within (counts_of n)) vs) w in
-      let a = clock_is v.clock (and_second (are_statics (counts_of n) v.first_size v.sizes) _ one) in
+      let a = clock_is v.clock (and_second (are_statics (counts_of n) v.first_size v.sizes) _ one)
+      in
       let b = clocks_are xs vs rest (and_second (is_declared_within (counts_of n) v) _ w) in
       rw a (ap (λ z. mirror.is_variable_typed ctx v && z) b)
 
@@ -150,22 +167,32 @@ module _ (P : Program) (r : Reached) (t : Table) (j : IsJudged P r t) (i : ℕ) 
   node_typed =
       let node = node_of n in
       let clocks = ap (list_all (is_clock_typed P here)) (sym resolved.declared)
-      ∙ clocks_are names n.variables.items (resolved.as_many ∙ sym (length_map (λ d. d.name) (variables node))) resolved.declared_within in
-      let steps = ap (list_all (is_statement_typed P here)) (sym resolved.body) ∙ steps_are n.body.items resolved.body_within resolved.unhidden in
-      ap (λ b. b && list_all (is_statement_typed P here) node.body) clocks ∙ ap (λ b. list_all (mirror.is_variable_typed ctx) n.variables.items && b) steps
+      ∙ clocks_are names n.variables.items
+      (resolved.as_many ∙ sym (length_map (λ d. d.name) (variables node)))
+      resolved.declared_within in
+      let steps = ap (list_all (is_statement_typed P here)) (sym resolved.body)
+      ∙ steps_are n.body.items resolved.body_within resolved.unhidden in
+      ap (λ b. b && list_all (is_statement_typed P here) node.body) clocks
+      ∙ ap (λ b. list_all (mirror.is_variable_typed ctx) n.variables.items && b) steps
 
 -- a specialization is typed where its instance at a path is
-pub specialization_typed : (P : Program) (r : Reached) (t : Table) → IsJudged P r t → (i : ℕ) (s : Specialization)
-    → slice_get t.specializations.items i ≡ Some s → (p : Path) (here : Instance) → specialized_at r p s ≡ Some here
+pub specialization_typed : (P : Program) (r : Reached) (t : Table) → IsJudged P r t →
+    (i : ℕ) (s : Specialization)
+    → slice_get t.specializations.items i ≡ Some s → (p : Path) (here : Instance) →
+    specialized_at r p s ≡ Some here
     → is_typed P here ≡ mirror.is_specialization_typed r t s
 specialization_typed P r t j i s is p here e =
     let n = node_at P r t j.reached j.table s (j.table.specialized i s is).0 in
-    let same : Some (instance_of p (node_of n.0) s.values.items) ≡ Some here = sym (standing P r t j.reached j.table s n.0 p n.1) ∙ e in
+    let same : Some (instance_of p (node_of n.0) s.values.items) ≡ Some here =
+    sym (standing P r t j.reached j.table s n.0 p n.1) ∙ e in
     let one : instance_of p (node_of n.0) s.values.items ≡ here = cc in
     subst (λ h. is_typed P h ≡ mirror.is_specialization_typed r t s) one
-    (node_typed P r t j i s is n.0 n.1 n.2 p ∙ sym (ap (holds (λ m. mirror.is_node_typed (context_of r t m s) m)) n.1))
+    (node_typed P r t j i s is n.0 n.1 n.2 p
+    ∙ sym (ap (holds (λ m. mirror.is_node_typed (context_of r t m s) m)) n.1))
 
 -- each specialization is typed where each instance is
-pub instances_typed : (P : Program) (r : Reached) (t : Table) → IsJudged P r t → mirror.are_typed r t ≡ list_all (is_typed P) (instances P)
+pub instances_typed : (P : Program) (r : Reached) (t : Table) → IsJudged P r t →
+    mirror.are_typed r t ≡ list_all (is_typed P) (instances P)
 instances_typed P r t j =
-    each_judged P r t (is_typed P) (mirror.is_specialization_typed r t) (specialization_typed P r t j) j.table
+    each_judged P r t (is_typed P) (mirror.is_specialization_typed r t)
+    (specialization_typed P r t j) j.table

@@ -5,14 +5,7 @@ use Rattle.std.specs.List.{list_all}
 use Rattle.std.proofs.lemmas.List.{append_assoc, drop_more}
 use Rattle.lb_static.specs.declared.reach.NodeId.{NodeId}
 use Rattle.lb_static.specs.declared.table.Specialization.{Specialization}
-
-and_first : (a b : Bool) → (a && b) ≡ true → a ≡ true
-and_first true b e = refl
-and_first false b e = absurd cc
-
-and_second : (a b : Bool) → (a && b) ≡ true → b ≡ true
-and_second true b e = e
-and_second false b e = absurd cc
+use Rattle.lb_check.proofs.TruthValues.{and_first, and_second}
 
 and_moved : (a b c : Bool) → ((a && b) && c) ≡ (a && (b && c))
 and_moved true b c = refl
@@ -26,9 +19,11 @@ and_end : (a : Bool) → (a && true) ≡ a
 and_end true = refl
 and_end false = refl
 
-with_last : (f : NodeId → Bool) (ids : List NodeId) (x : NodeId) → list_all f (ids ++ x ∷ []) ≡ (list_all f ids && f x)
+with_last : (f : NodeId → Bool) (ids : List NodeId) (x : NodeId) →
+    list_all f (ids ++ x ∷ []) ≡ (list_all f ids && f x)
 with_last f [] x = and_end (f x)
-with_last f (y ∷ ids) x = ap (λ b. f y && b) (with_last f ids x) ∙ sym (and_moved (f y) (list_all f ids) (f x))
+with_last f (y ∷ ids) x = ap (λ b. f y && b) (with_last f ids x)
+    ∙ sym (and_moved (f y) (list_all f ids) (f x))
 
 same_node : (k x : NodeId) → k.0 ≡ x.0 → x ≡ k
 same_node k x e = ap id_of (sym e)
@@ -41,14 +36,17 @@ nodes_in = map (λ s. s.node)
 
 -- the first that passes a test is the same
 abbrev pub AreFirst : List NodeId → ℕ → List Specialization → Type 0
-AreFirst ids i ss = (f : NodeId → Bool) → find f (ids ++ nodes_in (drop i ss)) ≡ find f (nodes_in ss)
+AreFirst ids i ss = (f : NodeId → Bool) →
+    find f (ids ++ nodes_in (drop i ss)) ≡ find f (nodes_in ss)
 
 -- each node that is flagged is there
 abbrev pub AreThere : List NodeId → List Bool → Type 0
-AreThere ids seen = (k : NodeId) → get_or seen k.0 false ≡ true → (f : NodeId → Bool) → list_all f ids ≡ true → f k ≡ true
+AreThere ids seen = (k : NodeId) → get_or seen k.0 false ≡ true → (f : NodeId → Bool) →
+    list_all f ids ≡ true → f k ≡ true
 
 -- what is there already is not found later
-not_found : (f : NodeId → Bool) (ids : List NodeId) (x : NodeId) (rest : List NodeId) → (list_all (λ k. not (f k)) ids ≡ true → not (f x) ≡ true)
+not_found : (f : NodeId → Bool) (ids : List NodeId) (x : NodeId) (rest : List NodeId) →
+    (list_all (λ k. not (f k)) ids ≡ true → not (f x) ≡ true)
     → find f (ids ++ rest) ≡ find f (ids ++ x ∷ rest)
 not_found f [] x rest h = by (f x) (h refl)
   where
@@ -56,37 +54,47 @@ not_found f [] x rest h = by (f x) (h refl)
     by true e = absurd cc
     by false e = refl
 not_found f (y ∷ ids) x rest h =
-    by (f y) (λ e. not_found f ids x rest (λ all. h (ap (λ b. not b && list_all (λ k. not (f k)) ids) e ∙ all))) refl
+    by (f y) (λ e. not_found f ids x rest
+    (λ all. h (ap (λ b. not b && list_all (λ k. not (f k)) ids) e ∙ all))) refl
   where
     by : (b : Bool) → (f y ≡ false → find f (ids ++ rest) ≡ find f (ids ++ x ∷ rest)) → f y ≡ b
         → cond b (Some y) (find f (ids ++ rest)) ≡ cond b (Some y) (find f (ids ++ x ∷ rest))
     by true later e = refl
     by false later e = later e
 
-module _ (ids : List NodeId) (old new : List Bool) (ss : List Specialization) (i : ℕ) (s : Specialization) (lt : i < length ss) (is : s ≡ get_or ss i s)
-    (there : AreThere ids old) (flagged : (k : ℕ) → get_or new k false ≡ true → (k ≡ s.node.0) ⊎ (get_or old k false ≡ true)) where
+module _ (ids : List NodeId) (old new : List Bool) (ss : List Specialization) (i : ℕ)
+    (s : Specialization) (lt : i < length ss) (is : s ≡ get_or ss i s)
+    (there : AreThere ids old) (flagged : (k : ℕ) → get_or new k false ≡ true →
+    (k ≡ s.node.0) ⊎ (get_or old k false ≡ true)) where
   next_node : nodes_in (drop i ss) ≡ (s.node ∷ nodes_in (drop (i + 1) ss))
-  next_node = ap nodes_in (drop_more ss i s lt) ∙ ap (λ (x : Specialization). x.node ∷ nodes_in (drop (i + 1) ss)) (sym is)
+  next_node = ap nodes_in (drop_more ss i s lt)
+      ∙ ap (λ (x : Specialization). x.node ∷ nodes_in (drop (i + 1) ss)) (sym is)
 
   -- a node that is added
   pub added_first : AreFirst ids i ss → AreFirst (ids ++ s.node ∷ []) (i + 1) ss
-  added_first first f = ap (find f) (append_assoc ids (s.node ∷ []) (nodes_in (drop (i + 1) ss)) ∙ ap (λ ks. ids ++ ks) (sym next_node)) ∙ first f
+  added_first first f = ap (find f)
+      (append_assoc ids (s.node ∷ []) (nodes_in (drop (i + 1) ss))
+      ∙ ap (λ ks. ids ++ ks) (sym next_node)) ∙ first f
 
   pub added_there : AreThere (ids ++ s.node ∷ []) new
   added_there k seen f all = elim (flagged k.0 seen) [
-    | inl same ↦ subst (λ x. f x ≡ true) (same_node k s.node same) (and_second (list_all f ids) (f s.node) (sym (with_last f ids s.node) ∙ all))
-    | inr was ↦ there k was f (and_first (list_all f ids) (f s.node) (sym (with_last f ids s.node) ∙ all))
+    | inl same ↦ subst (λ x. f x ≡ true) (same_node k s.node same)
+        (and_second (list_all f ids) (f s.node) (sym (with_last f ids s.node) ∙ all))
+    | inr was ↦ there k was f (and_first (list_all f ids) (f s.node)
+        (sym (with_last f ids s.node) ∙ all))
   ]
 
   -- a node that is there
   module _ (known : not (get_or old s.node.0 false) ≡ false) where
     pub known_first : AreFirst ids i ss → AreFirst ids (i + 1) ss
     known_first first f =
-        not_found f ids s.node (nodes_in (drop (i + 1) ss)) (there s.node (is_true (get_or old s.node.0 false) known) (λ k. not (f k)))
+        not_found f ids s.node (nodes_in (drop (i + 1) ss))
+        (there s.node (is_true (get_or old s.node.0 false) known) (λ k. not (f k)))
         ∙ ap (λ ks. find f (ids ++ ks)) (sym next_node) ∙ first f
 
     pub known_there : AreThere ids new
     known_there k seen f all = elim (flagged k.0 seen) [
-      | inl same ↦ subst (λ x. f x ≡ true) (same_node k s.node same) (there s.node (is_true (get_or old s.node.0 false) known) f all)
+      | inl same ↦ subst (λ x. f x ≡ true) (same_node k s.node same)
+          (there s.node (is_true (get_or old s.node.0 false) known) f all)
       | inr was ↦ there k was f all
     ]

@@ -208,6 +208,11 @@ unfoldable mutual
   operands_in ctx (more_of-Term e rest) =
       record { standing = standing_of ctx e; variable = variable_of e } ∷ operands_in ctx rest
 
+-- where a term may stand whose two operands, or the branches of whose choice, may stand together
+abbrev pub pair_standing : Context → Term → Standing → Standing
+pair_standing ctx (If' p c q a r b) s = both (standing_of ctx c) s
+pair_standing ctx t s = s
+
 -- an operand that a term is
 abbrev pub operand_of : Context → Term → Operand
 operand_of ctx e = record { standing = standing_of ctx e; variable = variable_of e }

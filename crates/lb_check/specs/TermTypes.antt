@@ -138,12 +138,6 @@ one_type ctx (Index' p e i) t = ctx.count i >>= λ i. index_shape i t
 one_type ctx (Slice' p e i j) t = ctx.count i >>= λ i. ctx.count j >>= λ j. slice_shape i j t
 one_type ctx e t = Some t
 
--- that of a term with two operands of these types
-abbrev pub two_types : Term → Option Shape → Option Shape → Option Shape
-two_types (Binary' op p a q b) l r = when_both l r (binary_shape op)
-two_types (Join' p a q b) l r = when_both l r join_shape
-two_types e l r = when_both l r same_shape
-
 unfoldable mutual
   -- the one type of a term
   pub type_of : Context → Term → Option Shape
@@ -184,9 +178,20 @@ unfoldable mutual
   types_in ctx (more_of-Term e rest) =
       type_of ctx e >>= λ t. types_in ctx rest >>= λ ts. Some (t ∷ ts)
 
+-- the type of a term whose two operands, or the branches of whose choice, have these types
+abbrev pub two_types : Context → Term → Option Shape → Option Shape → Option Shape
+two_types ctx (Binary' op p a q b) l r = when_both l r (binary_shape op)
+two_types ctx (Join' p a q b) l r = when_both l r join_shape
+two_types ctx (If' p c q a r b) l s = when_truth (type_of ctx c) (when_both l s same_shape)
+two_types ctx e l r = when_both l r same_shape
+
 -- those of a list of terms
 abbrev pub types_of : Context → List Term → Option (List Shape)
 types_of ctx es = all_some (map (type_of ctx) es)
+
+-- the types of the results of a term with these operands in a row
+abbrev pub operand_results : Context → Term → List Term → Option (List Shape)
+operand_results ctx e es = types_of ctx es >>= row_results ctx e
 
 -- the types of the results of a right side
 unfoldable pub results : Context → Term → Option (List Shape)

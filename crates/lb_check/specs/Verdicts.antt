@@ -119,6 +119,11 @@ Ends P H count (False t) =
 abbrev pub HasVerdict : Program → Inputs → Verdict → Type 0
 HasVerdict P X v = (H : History) × Solves P X H × Ends P H (length X) v
 
+-- a trace has this verdict, and no other
+pub record IsOnlyVerdict (P : Program) (X : Inputs) (v : Verdict) : Type 0 where
+  pub has : HasVerdict P X v
+  pub only : (w : Verdict) → HasVerdict P X w → v ≡ w
+
 -- ## The same by looking at one instant after another
 
 -- what an instant decides; `Passed` where it decides nothing

@@ -2,7 +2,7 @@
 
 ghost use Rattle.std.specs.Prelude.{◌≡◌, IfOk, string_bytes};
 ghost use Rattle.lb_syntax.specs.Lists.{listed};
-ghost use Rattle.lb_static.specs.Elaborated.{IsElaborated};
+ghost use Rattle.lb_static.specs.Elaborated.{elaborated_program};
 ghost use Rattle.lb_static.specs.Instances.{Program};
 ghost use Rattle.lb_static.specs.ReachedNodes.{tree_at};
 ghost use Rattle.lb_check.specs.Checked.{IsAnswer, IsRefusal};
@@ -54,11 +54,11 @@ fn broken_rule(
 /// (E11) that it breaks, each over all instances, with the name of a node that breaks it, or the
 /// program again.
 pub fn check<'s>(alloc: Global, elab: Elab<'s>) -> Result<Checked<'s>, CheckError>
-    ensures answer { (P : Program) → IsElaborated P elab.entry → IsAnswer P result }
-    ensures same { IfOk result (λ c. c.elab ≡ elab.entry) }
+    ensures answer { IsAnswer (elaborated_program elab.entry) result }
+    ensures same { IfOk result (λ c. c ≡ elab.entry) }
 {
-    match broken_rule(alloc, &elab.reached, &elab.table)? {
+    match broken_rule(alloc, elab.reached(), elab.table())? {
         Some(error) => Err(error),
-        None => Ok(Checked { elab }),
+        None => Ok(Checked::new(elab)),
     }
 }

@@ -70,16 +70,34 @@ fn defines_each(
     Ok(true)
 }
 
+/// Whether some of these terms hold `->`, `fby`, `pre` or `current`.
+#[cycle(memory)]
+#[tactic(auto, using(crate::proofs::Defining::memory))]
+fn any_memory(terms: &[Term]) -> bool
+    ensures { result ≡ mirror.any_memory terms.now }
+{
+    for term in terms {
+        if has_memory(term) {
+            return true;
+        }
+    }
+    false
+}
+
 /// Whether a term holds `->`, `fby`, `pre` or `current`.
+#[cycle(memory)]
 #[tactic(auto, unfolding(crate::specs::NodeDefinitions::has_memory))]
 fn has_memory(term: &Term) -> bool
     ensures { result ≡ mirror.has_memory term.now }
 {
     match term {
         Term::Literal(_) | Term::Truth(_) | Term::Variable(_) | Term::Value(_) => false,
-        Term::Group(e) | Term::Unary(_, e) => has_memory(e),
-        Term::When(e, _, _) => has_memory(e),
-        Term::Copies(e, _) | Term::Index(e, _) | Term::Slice(e, _, _) => has_memory(e),
+        Term::Group(e)
+        | Term::Unary(_, e)
+        | Term::When(e, _, _)
+        | Term::Copies(e, _)
+        | Term::Index(e, _)
+        | Term::Slice(e, _, _) => has_memory(e),
         Term::Binary(_, a, b) | Term::Join(a, b) => has_memory(a) || has_memory(b),
         Term::If(c, a, b) => has_memory(c) || has_memory(a) || has_memory(b),
         Term::Arrow(_, _) | Term::Fby(_, _) | Term::Pre(_) | Term::Current(_) => true,
@@ -88,14 +106,7 @@ fn has_memory(term: &Term) -> bool
         | Term::Nor(terms)
         | Term::Call(_, terms)
         | Term::IterateNode(_, _, terms)
-        | Term::IterateSymbol(_, _, _, terms) => {
-            for term in terms {
-                if has_memory(term) {
-                    return true;
-                }
-            }
-            false
-        }
+        | Term::IterateSymbol(_, _, _, terms) => any_memory(terms),
     }
 }
 

@@ -79,7 +79,10 @@ pub fn of_operands(
         ≡ mirror.when_both (option_map shape_in left) (option_map shape_in right)
         (types.binary_shape op) }
 {
-    binary_shape(alloc, op, &left?, &right?)
+    match (left, right) {
+        (Some(left), Some(right)) => binary_shape(alloc, op, &left, &right),
+        _ => None,
+    }
 }
 
 /// The type of both, if they have one.

@@ -33,7 +33,9 @@ impl<'a, 's> ClockScope<'a, 's> {
         ensures { option_map (λ n. n.now) result ≡ (context_in self.now).callee c }
     {
         let site = self.node.calls.get(c.0 as usize)?;
-        let id = (*self.reached.ids.get(site.callee.0 as usize)?)?;
+        let Some(Some(id)) = self.reached.ids.get(site.callee.0 as usize) else {
+            return None;
+        };
         self.reached.nodes.get(id.0 as usize)
     }
 
@@ -92,49 +94,8 @@ fn one_standing(scope: &ClockScope, term: &Term, operand: Standing) -> Standing
     }
 }
 
-/// On which clocks a term may stand, such that it and its parts keep the rules of clocks there.
-pub fn standing_of(alloc: Global, scope: &ClockScope, term: &Term) -> Result<Standing, AllocError>
-    ensures { IfOk result (λ s. s ≡ mirror.standing_of (context_in scope.now) term.now) }
-{
-    match term {
-        Term::Literal(_) | Term::Truth(_) | Term::Value(_) => Ok(Standing::Anywhere),
-        Term::Variable(x) => Ok(Standing::Only(scope.variable(*x))),
-        Term::Group(e)
-        | Term::Unary(_, e)
-        | Term::Pre(e)
-        | Term::Current(e)
-        | Term::When(e, _, _)
-        | Term::Copies(e, _)
-        | Term::Index(e, _)
-        | Term::Slice(e, _, _) => Ok(one_standing(scope, term, standing_of(alloc, scope, e)?)),
-        Term::Binary(_, a, b) | Term::Arrow(a, b) | Term::Fby(a, b) | Term::Join(a, b) => {
-            let left = standing_of(alloc, scope, a)?;
-            Ok(left.both(standing_of(alloc, scope, b)?))
-        }
-        Term::If(c, a, b) => {
-            let condition = standing_of(alloc, scope, c)?;
-            let left = standing_of(alloc, scope, a)?;
-            Ok(condition.both(left.both(standing_of(alloc, scope, b)?)))
-        }
-        Term::Array(terms)
-        | Term::AtMostOne(terms)
-        | Term::Nor(terms)
-        | Term::Call(_, terms)
-        | Term::IterateNode(_, _, terms)
-        | Term::IterateSymbol(_, _, _, terms) => {
-            let mut operands = Vec::new(alloc);
-            for e in terms {
-                operands.push(Operand {
-                    standing: standing_of(alloc, scope, e)?,
-                    variable: variable_of(e),
-                })?;
-            }
-            Ok(row_standing(scope, term, &operands))
-        }
-    }
-}
-
 /// The operands that some terms are.
+#[cycle(standings)]
 pub fn operands_of(
     alloc: Global,
     scope: &ClockScope,
@@ -151,4 +112,57 @@ pub fn operands_of(
         })?;
     }
     Ok(operands)
+}
+
+/// Where a term may stand whose two operands, or the branches of whose choice, may stand there
+/// together.
+#[cycle(standings)]
+fn pair_standing(
+    alloc: Global,
+    scope: &ClockScope,
+    term: &Term,
+    pair: Standing,
+) -> Result<Standing, AllocError>
+    ensures { IfOk result (λ s. s ≡ mirror.pair_standing (context_in scope.now) term.now pair) }
+{
+    match term {
+        Term::If(c, _, _) => Ok(standing_of(alloc, scope, c)?.both(pair)),
+        _ => Ok(pair),
+    }
+}
+
+/// On which clocks a term may stand, such that it and its parts keep the rules of clocks there.
+#[cycle(standings)]
+pub fn standing_of(alloc: Global, scope: &ClockScope, term: &Term) -> Result<Standing, AllocError>
+    ensures { IfOk result (λ s. s ≡ mirror.standing_of (context_in scope.now) term.now) }
+{
+    match term {
+        Term::Literal(_) | Term::Truth(_) | Term::Value(_) => Ok(Standing::Anywhere),
+        Term::Variable(x) => Ok(Standing::Only(scope.variable(*x))),
+        Term::Group(e)
+        | Term::Unary(_, e)
+        | Term::Pre(e)
+        | Term::Current(e)
+        | Term::When(e, _, _)
+        | Term::Copies(e, _)
+        | Term::Index(e, _)
+        | Term::Slice(e, _, _) => Ok(one_standing(scope, term, standing_of(alloc, scope, e)?)),
+        Term::Binary(_, a, b)
+        | Term::Arrow(a, b)
+        | Term::Fby(a, b)
+        | Term::Join(a, b)
+        | Term::If(_, a, b) => {
+            let left = standing_of(alloc, scope, a)?;
+            let pair = left.both(standing_of(alloc, scope, b)?);
+            pair_standing(alloc, scope, term, pair)
+        }
+        Term::Array(terms)
+        | Term::AtMostOne(terms)
+        | Term::Nor(terms)
+        | Term::Call(_, terms)
+        | Term::IterateNode(_, _, terms)
+        | Term::IterateSymbol(_, _, _, terms) => {
+            Ok(row_standing(scope, term, &operands_of(alloc, scope, terms)?))
+        }
+    }
 }

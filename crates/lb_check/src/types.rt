@@ -145,24 +145,65 @@ fn one_type(
     }
 }
 
-/// The type of a term with two operands of these types.
+/// The types of terms.
+#[cycle(typing)]
+fn types_of(alloc: Global, scope: &Scope, terms: &[Term]) -> Result<Option<Vec<Shape>>, AllocError>
+    ensures { IfOk result (λ o.
+        option_map shapes_in o ≡ mirror.types_of (context_in scope.now) terms.now) }
+{
+    let mut types = Vec::new(alloc);
+    for term in terms {
+        match type_of(alloc, scope, term)? {
+            Some(shape) => types.push(shape)?,
+            None => return Ok(None),
+        }
+    }
+    Ok(Some(types))
+}
+
+/// The types of the results of a term with these operands in a row.
+#[cycle(typing)]
+fn operand_results(
+    alloc: Global,
+    scope: &Scope,
+    operands: &[Term],
+    term: &Term,
+) -> Result<Option<Vec<Shape>>, AllocError>
+    ensures { IfOk result (λ o. option_map shapes_in o
+        ≡ mirror.operand_results (context_in scope.now) term.now operands.now) }
+{
+    match types_of(alloc, scope, operands)? {
+        Some(types) => row_results(alloc, scope, term, &types),
+        None => Ok(None),
+    }
+}
+
+/// The type of a term whose two operands, or the branches of whose choice, have these types.
+#[cycle(typing)]
 fn two_types(
     alloc: Global,
+    scope: &Scope,
     term: &Term,
     left: Option<Shape>,
     right: Option<Shape>,
 ) -> Result<Option<Shape>, AllocError>
     ensures { IfOk result (λ o. option_map shape_in o
-        ≡ mirror.two_types term.now (option_map shape_in left) (option_map shape_in right)) }
+        ≡ mirror.two_types (context_in scope.now) term.now (option_map shape_in left)
+        (option_map shape_in right)) }
 {
     match term {
         Term::Binary(op, _, _) => Ok(of_operands(alloc, *op, left, right)),
         Term::Join(_, _) => joined(left, right),
+        Term::If(c, _, _) => {
+            let chosen = same_type(left, right);
+            Ok(when_truth(type_of(alloc, scope, c)?, chosen))
+        }
         _ => Ok(same_type(left, right)),
     }
 }
 
 /// The one type of a term, or none where a rule of types is broken.
+#[cycle(typing)]
 pub fn type_of(alloc: Global, scope: &Scope, term: &Term) -> Result<Option<Shape>, AllocError>
     ensures { IfOk result (λ o.
         option_map shape_in o ≡ mirror.type_of (context_in scope.now) term.now) }
@@ -182,14 +223,14 @@ pub fn type_of(alloc: Global, scope: &Scope, term: &Term) -> Result<Option<Shape
             Some(operand) => one_type(alloc, scope, term, operand),
             None => Ok(None),
         },
-        Term::Binary(_, a, b) | Term::Arrow(a, b) | Term::Fby(a, b) | Term::Join(a, b) => {
+        Term::Binary(_, a, b)
+        | Term::Arrow(a, b)
+        | Term::Fby(a, b)
+        | Term::Join(a, b)
+        | Term::If(_, a, b) => {
             let left = type_of(alloc, scope, a)?;
-            two_types(alloc, term, left, type_of(alloc, scope, b)?)
-        }
-        Term::If(c, a, b) => {
-            let condition = type_of(alloc, scope, c)?;
-            let left = type_of(alloc, scope, a)?;
-            Ok(when_truth(condition, same_type(left, type_of(alloc, scope, b)?)))
+            let right = type_of(alloc, scope, b)?;
+            two_types(alloc, scope, term, left, right)
         }
         Term::Array(operands)
         | Term::AtMostOne(operands)
@@ -197,31 +238,9 @@ pub fn type_of(alloc: Global, scope: &Scope, term: &Term) -> Result<Option<Shape
         | Term::Call(_, operands)
         | Term::IterateNode(_, _, operands)
         | Term::IterateSymbol(_, _, _, operands) => {
-            let mut types = Vec::new(alloc);
-            for operand in operands {
-                match type_of(alloc, scope, operand)? {
-                    Some(shape) => types.push(shape)?,
-                    None => return Ok(None),
-                }
-            }
-            Ok(only(row_results(alloc, scope, term, &types)?))
+            Ok(only(operand_results(alloc, scope, operands, term)?))
         }
     }
-}
-
-/// The types of terms.
-fn types_of(alloc: Global, scope: &Scope, terms: &[Term]) -> Result<Option<Vec<Shape>>, AllocError>
-    ensures { IfOk result (λ o.
-        option_map shapes_in o ≡ mirror.types_of (context_in scope.now) terms.now) }
-{
-    let mut types = Vec::new(alloc);
-    for term in terms {
-        match type_of(alloc, scope, term)? {
-            Some(shape) => types.push(shape)?,
-            None => return Ok(None),
-        }
-    }
-    Ok(Some(types))
 }
 
 /// The types of the results of a right side, or none where a rule of types is broken: a call or an
@@ -238,10 +257,7 @@ pub fn results(alloc: Global, scope: &Scope, term: &Term) -> Result<Option<Vec<S
         | Term::Nor(operands)
         | Term::Call(_, operands)
         | Term::IterateNode(_, _, operands)
-        | Term::IterateSymbol(_, _, _, operands) => match types_of(alloc, scope, operands)? {
-            Some(types) => row_results(alloc, scope, term, &types),
-            None => Ok(None),
-        },
+        | Term::IterateSymbol(_, _, _, operands) => operand_results(alloc, scope, operands, term),
         _ => match type_of(alloc, scope, term)? {
             Some(shape) => one(alloc, shape),
             None => Ok(None),

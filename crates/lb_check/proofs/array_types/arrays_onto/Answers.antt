@@ -12,7 +12,9 @@ loop-element-preserved c =
     let all = c.args.elements.now in
     let item = c.element-item in
     let f = array_of c.args.length in
-    let one = made f all l.element-index item.result c.in_ok-copy.field-0 c.in_ok-array.field-0 c.in-Some.array
+    let one = made f all l.element-index item.result c.in_ok-copy.field-0 c.in_ok-array.field-0
+    c.in-Some.array
     item.is c.in_ok-copy.ensures c.in_ok-array.ensures c.in-Some.is in
     rw c.in_ok-push-in-Some.ensures.items
-    (gathers_more _ (λ t. f (shape_in t)) all l.arrays.items l.element-index item.result c.in-Some.array l.invariant c.loop-element-test.true one)
+    (gathers_more _ (λ t. f (shape_in t)) all l.arrays.items l.element-index item.result
+    c.in-Some.array l.invariant c.loop-element-test.true one)

@@ -9,5 +9,6 @@ use Rattle.lb_check.proofs.array_types.arrays_onto.Given as goal
 abbrev pub invariant-loop-element : goal.invariant-loop-element
 invariant-loop-element l =
     Gathered
-    (option_map (λ ts. shapes_in l.fn.before ++ ts) (all_some (map (array_of l.length) (map shape_in l.elements))))
+    (option_map (λ ts. shapes_in l.fn.before ++ ts)
+    (all_some (map (array_of l.length) (map shape_in l.elements))))
     (λ t. array_of l.length (shape_in t)) l.arrays.items (drop l.element-index l.elements)

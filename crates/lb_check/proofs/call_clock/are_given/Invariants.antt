@@ -6,4 +6,5 @@ use Rattle.lb_check.proofs.call_clock.are_given.Given as goal
 abbrev pub invariant-loop-variable : goal.invariant-loop-variable
 invariant-loop-variable l =
     mirror.are_given l.callee l.operands
-    ≡ list_all (λ v. mirror.is_given l.callee.inputs l.operands v.clock) (drop l.variable-index l.variable-items)
+    ≡ list_all (λ v. mirror.is_given l.callee.inputs l.operands v.clock)
+    (drop l.variable-index l.variable-items)

@@ -6,4 +6,5 @@ use Rattle.lb_check.proofs.call_clock.is_unclocked.Given as goal
 
 abbrev pub invariant-loop-variable : goal.invariant-loop-variable
 invariant-loop-variable l =
-    mirror.is_unclocked l.node ≡ list_all (λ v. not (is_some v.clock)) (drop l.variable-index l.variable-items)
+    mirror.is_unclocked l.node ≡ list_all (λ v. not (is_some v.clock))
+    (drop l.variable-index l.variable-items)

@@ -1,11 +1,25 @@
 -- What is answered is what is found of the rules.
-use Rattle.lb_check.proofs.Checks.{accepted, judged, refused}
+use Rattle.lb_static.specs.Elaborated.{elaborated_program}
+use Rattle.lb_check.proofs.Checks.{accepted, found, refused}
 use Rattle.lb_check.proofs.check.check.Goals as goal
 
 pub returns-in-Some-clause-answer : goal.returns-in-Some-clause-answer
-returns-in-Some-clause-answer c = λ P is.
-    refused P c.in_ok-error.field-0 c.in-Some.error (c.in_ok-error.ensures P (judged P c.args.elab is)) c.in-Some.is
+returns-in-Some-clause-answer c =
+    let told = found c.args.elab c.reached.result.now c.table.result.now c.in_ok-error.field-0
+    c.reached.ensures.lawful c.reached.ensures.value c.table.ensures.value c.in_ok-error.ensures in
+    refused (elaborated_program c.args.elab) c.in_ok-error.field-0 c.in-Some.error told c.in-Some.is
+
+pub new-requires : goal.new-requires
+new-requires c =
+    let told = found c.args.elab c.reached.result.now c.table.result.now c.in_ok-error.field-0
+    c.reached.ensures.lawful c.reached.ensures.value c.table.ensures.value c.in_ok-error.ensures in
+    record {
+      elaborated = c.reached.ensures.lawful;
+      accepted = accepted (elaborated_program c.args.elab) c.in_ok-error.field-0 told c.in-None.is;
+    }
 
 pub returns-clause-answer : goal.returns-clause-answer
-returns-clause-answer c = λ P is.
-    accepted P c.in_ok-error.field-0 (c.in_ok-error.ensures P (judged P c.args.elab is)) c.in-None.is
+returns-clause-answer c =
+    let told = found c.args.elab c.reached.result.now c.table.result.now c.in_ok-error.field-0
+    c.reached.ensures.lawful c.reached.ensures.value c.table.ensures.value c.in_ok-error.ensures in
+    accepted (elaborated_program c.args.elab) c.in_ok-error.field-0 told c.in-None.is

@@ -3,12 +3,18 @@ use Rattle.lb_check.proofs.ClockDepths.{noted_step}
 use Rattle.lb_check.proofs.clock.clock_depths.Goals as goal
 
 pub returns-in_default : goal.returns-in_default
-returns-in_default c = (c.loop-variable.variable, omega arith, c.depth_of.ensures.circle c.in_default.is)
+returns-in_default c = (
+  c.loop-variable.variable,
+  omega arith,
+  c.depth_of.ensures.circle c.in_default.is,
+)
 
 pub note_depths-requires-clause-small : goal.note_depths-requires-clause-small
 note_depths-requires-clause-small c = (c.depth_of.ensures.found _ c.in-Some.is).1
 
 pub loop-variable-preserved : goal.loop-variable-preserved
 loop-variable-preserved c =
-    noted_step _ _ _ c.note_depths.new.depths c.loop-variable.variable c.loop-variable.depths.len c.loop-variable.invariant.0 c.deref_mut.ensures.value (omega arith)
-    c.note_depths.ensures.known c.note_depths.ensures.noted c.note_depths.ensures.kept c.loop-variable.invariant.1
+    noted_step _ _ _ c.note_depths.new.depths c.loop-variable.variable c.loop-variable.depths.len
+    c.loop-variable.invariant.0 c.deref_mut.ensures.value (omega arith)
+    c.note_depths.ensures.known c.note_depths.ensures.noted c.note_depths.ensures.kept
+    c.loop-variable.invariant.1

@@ -18,7 +18,8 @@ returns-in-Some-clause-found c d e =
 pub returns-in_default-clock-clause-found : goal.returns-in_default-clock-clause-found
 returns-in_default-clock-clause-found c d e =
     let same : c.loop-steps.steps ≡ d = cc in
-    let stands = stands_here _ _ _ _ c.loop-steps.invariant.1 (awaits_none _ _ _ c.loop-steps.invariant.0 c.in_default-clock.is) in
+    let stands = stands_here _ _ _ _ c.loop-steps.invariant.1
+    (awaits_none _ _ _ c.loop-steps.invariant.0 c.in_default-clock.is) in
     (subst (λ m. StandsAt c.args.variables.now m c.args.first) same stands, omega arith)
 
 pub loop-steps-preserved : goal.loop-steps-preserved

@@ -4,12 +4,15 @@ use Rattle.lb_check.proofs.clock.note_depths.Goals as goal
 
 pub returns-in_default-clause-noted : goal.returns-in_default-clause-noted
 returns-in_default-clause-noted c =
-    let here : c.loop-above.variable < length c.loop-above.depths = omega (arith, c.loop-above.invariant.known.as_many) in
-    first_known c.loop-above.depths c.loop-above.variable (c.args.depth - c.loop-above.above) c.args.first _ here c.loop-above.invariant.noted
+    let here : c.loop-above.variable < length c.loop-above.depths =
+    omega (arith, c.loop-above.invariant.known.as_many) in
+    first_known c.loop-above.depths c.loop-above.variable
+    (c.args.depth - c.loop-above.above) c.args.first _ here c.loop-above.invariant.noted
 
 pub returns-in_default-clause-kept : goal.returns-in_default-clause-kept
 returns-in_default-clause-kept c x known =
-    still_known c.loop-above.depths c.loop-above.variable (c.args.depth - c.loop-above.above) x (c.loop-above.invariant.kept x known)
+    still_known c.loop-above.depths c.loop-above.variable (c.args.depth - c.loop-above.above) x
+    (c.loop-above.invariant.kept x known)
 
 pub loop-above-preserved : goal.loop-above-preserved
 loop-above-preserved c =
@@ -18,14 +21,17 @@ loop-above-preserved c =
     let d = c.args.depth - c.loop-above.above in
     let next = awaits _ _ _ _ c.loop-above.invariant.within c.in-Some.is in
     let below : c.loop-above.above < c.args.depth + 1 = omega arith in
-    let here : c.loop-above.variable < length c.loop-above.depths = omega (arith, c.loop-above.invariant.known.as_many) in
+    let here : c.loop-above.variable < length c.loop-above.depths =
+    omega (arith, c.loop-above.invariant.known.as_many) in
     record {
       within = c.requires.awaited _ _ next;
       stands = waits_deeper _ _ _ _ _ c.loop-above.invariant.stands below next;
-      known = more_depths _ depths x d c.loop-above.invariant.known c.loop-above.invariant.stands (omega arith);
+      known = more_depths _ depths x d c.loop-above.invariant.known c.loop-above.invariant.stands
+          (omega arith);
       noted = inr (first_known depths x d c.args.first _ here c.loop-above.invariant.noted);
       kept = λ y known. still_known depths x d y (c.loop-above.invariant.kept y known);
     }
 
 pub returns-clause-noted : goal.returns-clause-noted
-returns-clause-noted c = elim c.loop-above.invariant.noted [ inl e ↦ absurd (omega arith) | inr k ↦ k ]
+returns-clause-noted c = elim c.loop-above.invariant.noted
+    [ inl e ↦ absurd (omega arith) | inr k ↦ k ]

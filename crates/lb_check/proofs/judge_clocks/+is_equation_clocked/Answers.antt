@@ -11,5 +11,6 @@ returns-in-Call t c =
     let es = c.in-Call.terms in
     subst (λ b. IfOk c.is_called_clocked.result (λ kept. kept ≡ b))
     (ap (mirror.is_called_clocked ctx lefts c.in-Call.call) c.deref-in-Call.ensures.value
-    ∙ sym (ap (mirror.is_equation_clocked ctx lefts) c.in-Call.is ∙ equation_call ctx lefts c.in-Call.call es))
+    ∙ sym (ap (mirror.is_equation_clocked ctx lefts) c.in-Call.is
+    ∙ equation_call ctx lefts c.in-Call.call es))
     c.is_called_clocked.ensures

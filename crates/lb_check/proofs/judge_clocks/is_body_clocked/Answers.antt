@@ -9,7 +9,8 @@ loop-step-preserved c =
     let kept = is_step_clocked (context_in c.args.scope.now) in
     let l = c.loop-step in
     let all = c.deref-step-items.result.now in
-    all_more kept (is_body_clocked c.args.scope.now.reached.now c.args.scope.now.node.now) all l.step-index c.step-item.result l.invariant c.loop-step-test.true c.step-item.is
+    all_more kept (is_body_clocked c.args.scope.now.reached.now c.args.scope.now.node.now) all
+    l.step-index c.step-item.result l.invariant c.loop-step-test.true c.step-item.is
     (sym c.in_ok-is_step_clocked.ensures ∙ c.if-not-branch.false)
 
 pub returns-then-not-branch : goal.returns-then-not-branch
@@ -17,7 +18,8 @@ returns-then-not-branch c =
     let kept = is_step_clocked (context_in c.args.scope.now) in
     let l = c.loop-step in
     let all = c.deref-step-items.result.now in
-    all_broken kept (is_body_clocked c.args.scope.now.reached.now c.args.scope.now.node.now) all l.step-index c.step-item.result l.invariant c.loop-step-test.true c.step-item.is
+    all_broken kept (is_body_clocked c.args.scope.now.reached.now c.args.scope.now.node.now) all
+    l.step-index c.step-item.result l.invariant c.loop-step-test.true c.step-item.is
     (sym c.in_ok-is_step_clocked.ensures ∙ c.if-not-branch.true)
 
 pub returns : goal.returns
@@ -25,4 +27,5 @@ returns c =
     let kept = is_step_clocked (context_in c.args.scope.now) in
     let l = c.loop-step in
     let all = c.deref-step-items.result.now in
-    all_passed kept (is_body_clocked c.args.scope.now.reached.now c.args.scope.now.node.now) all l.step-index l.invariant c.loop-step-test.false
+    all_passed kept (is_body_clocked c.args.scope.now.reached.now c.args.scope.now.node.now) all
+    l.step-index l.invariant c.loop-step-test.false

@@ -11,9 +11,12 @@ returns-then-not-branch c P names reached =
     let nodes = c.deref.result.now in
     let r = c.args.reached.now in
     let n = c.in-Some.node.now in
-    let at = ap (λ ns. slice_get ns c.args.id.0) (sym c.deref.ensures.value) ∙ slice_get_read nodes (length nodes) c.args.id.0 n refl found.3.0 found.1 in
+    let at = ap (λ ns. slice_get ns c.args.id.0) (sym c.deref.ensures.value)
+    ∙ slice_get_read nodes (length nodes) c.args.id.0 n refl found.3.0 found.1 in
     clocks_broken r c.args.id n at
-    (sym (c.in_ok-keeps_declared_clocks.ensures (source_names P) (resolved_at P r names reached c.args.id.0 n at) (distinct_at P r names reached c.args.id.0 n at)) ∙ c.if-not-branch.true)
+    (sym (c.in_ok-keeps_declared_clocks.ensures (source_names P)
+    (resolved_at P r names reached c.args.id.0 n at)
+    (distinct_at P r names reached c.args.id.0 n at)) ∙ c.if-not-branch.true)
 
 pub returns : goal.returns
 returns c P names reached =
@@ -21,7 +24,10 @@ returns c P names reached =
     let nodes = c.deref.result.now in
     let r = c.args.reached.now in
     let n = c.in-Some.node.now in
-    let at = ap (λ ns. slice_get ns c.args.id.0) (sym c.deref.ensures.value) ∙ slice_get_read nodes (length nodes) c.args.id.0 n refl found.3.0 found.1 in
+    let at = ap (λ ns. slice_get ns c.args.id.0) (sym c.deref.ensures.value)
+    ∙ slice_get_read nodes (length nodes) c.args.id.0 n refl found.3.0 found.1 in
     clocks_kept r c.args.id n at
-    (sym (c.in_ok-keeps_declared_clocks.ensures (source_names P) (resolved_at P r names reached c.args.id.0 n at) (distinct_at P r names reached c.args.id.0 n at)) ∙ c.if-not-branch.false)
+    (sym (c.in_ok-keeps_declared_clocks.ensures (source_names P)
+    (resolved_at P r names reached c.args.id.0 n at)
+    (distinct_at P r names reached c.args.id.0 n at)) ∙ c.if-not-branch.false)
     c.is_body_clocked.result c.is_body_clocked.ensures

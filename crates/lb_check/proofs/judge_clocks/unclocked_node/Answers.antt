@@ -22,10 +22,12 @@ returns-clause-judged c P j typed =
     let broken = λ (id : NodeId). not (is_clocked_at r id) in
     let same =
     ap (find broken) c.deref-2.ensures.value ∙ c.in_ok-ids.ensures broken
-    ∙ ap (λ (ss : List Specialization). find broken (map node ss)) c.deref.ensures.value ∙ find_mapped node broken ss in
+    ∙ ap (λ (ss : List Specialization). find broken (map node ss)) c.deref.ensures.value
+    ∙ find_mapped node broken ss in
     let all =
     instances_clocked P r t j
-    (λ n sees. node_clocked P r n sees (term_stands P r n sees (λ callee has. call_stands P n callee sees.own has))
+    (λ n sees. node_clocked P r n sees
+    (term_stands P r n sees (λ callee has. call_stands P n callee sees.own has))
     (λ callee has. equation_stands P n callee sees.own has))
     (single_steps P r t j) typed in
     if_found c.first_unclocked.result _ _ (c.first_unclocked.ensures P j.names j.reached)
@@ -41,7 +43,8 @@ returns-clause-named c P j typed =
     ∙ ap (λ (ss : List Specialization). find broken (map (λ s. s.node) ss)) c.deref.ensures.value in
     let first =
     first_broken P r t j
-    (λ n sees. node_clocked P r n sees (term_stands P r n sees (λ callee has. call_stands P n callee sees.own has))
+    (λ n sees. node_clocked P r n sees
+    (term_stands P r n sees (λ callee has. call_stands P n callee sees.own has))
     (λ callee has. equation_stands P n callee sees.own has))
     (single_steps P r t j) typed in
     if_found c.first_unclocked.result _ _ (c.first_unclocked.ensures P j.names j.reached)

@@ -16,7 +16,8 @@ returns-clause-judged c P j =
     let broken = λ (id : NodeId). not (is_defined_at P r id) in
     let same =
     ap (find broken) c.deref-2.ensures.value ∙ c.in_ok-ids.ensures broken
-    ∙ ap (λ (ss : List Specialization). find broken (map node ss)) c.deref.ensures.value ∙ find_mapped node broken ss in
+    ∙ ap (λ (ss : List Specialization). find broken (map node ss)) c.deref.ensures.value
+    ∙ find_mapped node broken ss in
     if_found c.first_undefined.result _ _ (c.first_undefined.ensures P j.names j.reached)
     (λ found e. not_all node (λ s. is_defined_at P r s.node) ss found (e ∙ same)
     ∙ ap not (all_specializations P r c.args.table.now j.table (is_defined P)))
@@ -29,4 +30,5 @@ returns-clause-named c P j =
     ap (find broken) c.deref-2.ensures.value ∙ c.in_ok-ids.ensures broken
     ∙ ap (λ (ss : List Specialization). find broken (map (λ s. s.node) ss)) c.deref.ensures.value in
     if_found c.first_undefined.result _ _ (c.first_undefined.ensures P j.names j.reached)
-    (λ found e. node_named P r c.args.table.now j (is_defined P) (is_defined_at P r) (λ i s at fails earlier. fails) found (e ∙ same))
+    (λ found e. node_named P r c.args.table.now j (is_defined P) (is_defined_at P r)
+    (λ i s at fails earlier. fails) found (e ∙ same))

@@ -10,7 +10,8 @@ loop-step-preserved c =
     let kept = is_step_typed (context_in c.args.scope.now) in
     let l = c.loop-step in
     let all = c.args.body.now in
-    all_more kept (list_all kept all) all l.step-index c.step-item.result l.invariant c.loop-step-test.true c.step-item.is
+    all_more kept (list_all kept all) all l.step-index c.step-item.result l.invariant
+    c.loop-step-test.true c.step-item.is
     (sym c.in_ok-is_step_typed.ensures ∙ c.if-not-branch.false)
 
 pub returns-then-not-branch : goal.returns-then-not-branch
@@ -18,7 +19,8 @@ returns-then-not-branch c =
     let kept = is_step_typed (context_in c.args.scope.now) in
     let l = c.loop-step in
     let all = c.args.body.now in
-    all_broken kept (list_all kept all) all l.step-index c.step-item.result l.invariant c.loop-step-test.true c.step-item.is
+    all_broken kept (list_all kept all) all l.step-index c.step-item.result l.invariant
+    c.loop-step-test.true c.step-item.is
     (sym c.in_ok-is_step_typed.ensures ∙ c.if-not-branch.true)
 
 pub returns : goal.returns

@@ -7,4 +7,5 @@ use Rattle.lb_check.proofs.judge_types.first_untyped.Given as goal
 abbrev pub invariant-loop-specialization : goal.invariant-loop-specialization
 invariant-loop-specialization l =
     let broken = λ (s : Specialization). not (is_specialization_typed l.reached l.table s) in
-    find broken l.specialization-items ≡ find broken (drop l.specialization-index l.specialization-items)
+    find broken l.specialization-items ≡ find broken
+    (drop l.specialization-index l.specialization-items)

@@ -14,7 +14,8 @@ returns-then-not-branch c =
     let t = c.args.table.now in
     let s = c.args.specialization.now in
     let n = c.in-Some.node.now in
-    let at = ap (λ ns. slice_get ns s.node.0) (sym c.deref.ensures.value) ∙ slice_get_read nodes (length nodes) s.node.0 n refl found.3.0 found.1 in
+    let at = ap (λ ns. slice_get ns s.node.0) (sym c.deref.ensures.value)
+    ∙ slice_get_read nodes (length nodes) s.node.0 n refl found.3.0 found.1 in
     variables_untyped r t s n at
     (sym (ap (list_all (is_variable_typed (context_of r t n s))) c.deref-2.ensures.value)
     ∙ sym c.in_ok-are_variables_typed.ensures ∙ c.if-not-branch.true)
@@ -28,9 +29,11 @@ returns c =
     let s = c.args.specialization.now in
     let n = c.in-Some.node.now in
     let ctx = context_of r t n s in
-    let at = ap (λ ns. slice_get ns s.node.0) (sym c.deref.ensures.value) ∙ slice_get_read nodes (length nodes) s.node.0 n refl found.3.0 found.1 in
+    let at = ap (λ ns. slice_get ns s.node.0) (sym c.deref.ensures.value)
+    ∙ slice_get_read nodes (length nodes) s.node.0 n refl found.3.0 found.1 in
     steps_typed r t s n at
     (sym (ap (list_all (is_variable_typed ctx)) c.deref-2.ensures.value)
     ∙ sym c.in_ok-are_variables_typed.ensures ∙ c.if-not-branch.false)
     c.are_steps_typed.result
-    (subst (λ b. IfOk c.are_steps_typed.result (λ kept. kept ≡ b)) (ap (list_all (is_step_typed ctx)) c.deref-3.ensures.value) c.are_steps_typed.ensures)
+    (subst (λ b. IfOk c.are_steps_typed.result (λ kept. kept ≡ b))
+    (ap (list_all (is_step_typed ctx)) c.deref-3.ensures.value) c.are_steps_typed.ensures)

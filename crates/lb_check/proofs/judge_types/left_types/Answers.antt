@@ -11,5 +11,6 @@ loop-left-preserved c =
     let l = c.loop-left in
     let all = c.args.lefts.now in
     rw c.in_ok-push-in-Some.ensures.items
-    (gathers_more (left_types ctx all) ctx.variable all l.types.items l.left-index _ c.in-Some.shape l.invariant c.loop-left-test.true
+    (gathers_more (left_types ctx all) ctx.variable all l.types.items l.left-index _ c.in-Some.shape
+    l.invariant c.loop-left-test.true
     (sym (ap (option_map shape_in) c.in-Some.is) ∙ c.in_ok-shape.ensures))

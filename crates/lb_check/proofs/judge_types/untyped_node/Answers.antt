@@ -9,8 +9,10 @@ returns-clause-judged c P j =
     let r = c.args.reached.now in
     let t = c.args.table.now in
     if_found c.first_untyped.result _ _ c.first_untyped.ensures
-    (λ found e. not_all (λ s. s.node) (is_specialization_typed r t) t.specializations.items found e ∙ ap not (instances_typed P r t j))
+    (λ found e. not_all (λ s. s.node) (is_specialization_typed r t) t.specializations.items found e
+    ∙ ap not (instances_typed P r t j))
 
 pub returns-clause-named : goal.returns-clause-named
 returns-clause-named c P j =
-    if_found c.first_untyped.result _ _ c.first_untyped.ensures (types_named P c.args.reached.now c.args.table.now j)
+    if_found c.first_untyped.result _ _ c.first_untyped.ensures
+    (types_named P c.args.reached.now c.args.table.now j)

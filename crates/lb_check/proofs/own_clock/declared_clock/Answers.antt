@@ -10,11 +10,15 @@ pub returns-in-Some-clause-same : goal.returns-in-Some-clause-same
 returns-in-Some-clause-same c h within =
     let r = c.args.node.now in
     let vs = c.deref.result.now in
-    let lt : c.args.variable.0 < length c.args.node.now.variables.items = grind (arith, nat_tests) in
+    let lt : c.args.variable.0 < length c.args.node.now.variables.items =
+    grind (arith, nat_tests) in
     let found = c.in-Some.ensures.lookup in
-    let at = subst (λ us. slice_get us c.args.variable.0 ≡ Some c.in-Some.declared.now) c.deref.ensures.value
-    (slice_get_read vs (length vs) c.args.variable.0 c.in-Some.declared.now refl found.3.0 found.1) in
-    ap (clock_in r) c.clock_with.ensures ∙ declared_there r h c.args.variable c.in-Some.declared.now at lt
+    let at = subst (λ us. slice_get us c.args.variable.0 ≡ Some c.in-Some.declared.now)
+    c.deref.ensures.value
+    (slice_get_read vs (length vs) c.args.variable.0 c.in-Some.declared.now refl found.3.0 found.1)
+    in
+    ap (clock_in r) c.clock_with.ensures
+    ∙ declared_there r h c.args.variable c.in-Some.declared.now at lt
 
 pub returns-in-None-clause-mirror : goal.returns-in-None-clause-mirror
 returns-in-None-clause-mirror c =

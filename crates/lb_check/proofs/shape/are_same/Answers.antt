@@ -6,10 +6,12 @@ pub loop-i-preserved : goal.loop-i-preserved
 loop-i-preserved c = (
   c.loop-i.invariant.0,
   c.loop-i.invariant.1
-      ∙ same_more c.args.left.now c.args.right.now c.loop-i.i c.index-left-i.result c.index-right-i.result c.loop-i.invariant.0 c.loop-i-test.true
+      ∙ same_more c.args.left.now c.args.right.now c.loop-i.i c.index-left-i.result
+      c.index-right-i.result c.loop-i.invariant.0 c.loop-i-test.true
       c.index-left-i.is c.index-right-i.is (sym c.is.ensures ∙ c.if-not-is.false),
 )
 
 pub returns : goal.returns
 returns c =
-    sym (c.loop-i.invariant.1 ∙ same_end c.args.left.now c.args.right.now c.loop-i.i c.loop-i.invariant.0 c.loop-i-test.false)
+    sym (c.loop-i.invariant.1 ∙ same_end c.args.left.now c.args.right.now c.loop-i.i
+    c.loop-i.invariant.0 c.loop-i-test.false)

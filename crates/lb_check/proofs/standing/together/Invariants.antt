@@ -4,4 +4,5 @@ use Rattle.lb_check.proofs.standing.together.Given as goal
 
 abbrev pub invariant-loop-operand : goal.invariant-loop-operand
 invariant-loop-operand l =
-    mirror.together l.operands ≡ mirror.both l.standing (mirror.together (drop l.operand-index l.operands))
+    mirror.together l.operands ≡ mirror.both l.standing
+    (mirror.together (drop l.operand-index l.operands))

@@ -11,5 +11,6 @@ loop-variable-preserved c =
     let all = c.args.variables.now in
     let f = declared_type c.args.statics.now in
     rw c.in_ok-push-in-Some.ensures.items
-    (gathers_more (declared_types c.args.statics.now all) f all l.types.items l.variable-index _ c.in-Some.shape l.invariant c.loop-variable-test.true
+    (gathers_more (declared_types c.args.statics.now all) f all l.types.items l.variable-index _
+    c.in-Some.shape l.invariant c.loop-variable-test.true
     (sym (ap (option_map shape_in) c.in-Some.is) ∙ c.in_ok-shape.ensures))

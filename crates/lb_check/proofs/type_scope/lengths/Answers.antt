@@ -9,14 +9,16 @@ loop-value-preserved c =
     let l = c.loop-value in
     let all = c.args.values.now in
     rw c.in_ok-push-in-Some.ensures.items
-    (lengths_more (wholes all) all l.lengths.items l.value-index c.value-item.result c.in-Some.length l.invariant c.loop-value-test.true
+    (lengths_more (wholes all) all l.lengths.items l.value-index c.value-item.result
+    c.in-Some.length l.invariant c.loop-value-test.true
     (sym c.in-Some.is ∙ c.whole.ensures ∙ ap natural c.value-item.is))
 
 pub returns-in-None : goal.returns-in-None
 returns-in-None c =
     let l = c.loop-value in
     let all = c.args.values.now in
-    lengths_none (wholes all) all l.lengths.items l.value-index c.value-item.result l.invariant c.loop-value-test.true
+    lengths_none (wholes all) all l.lengths.items l.value-index c.value-item.result l.invariant
+    c.loop-value-test.true
     (sym (c.whole.ensures ∙ ap natural c.value-item.is) ∙ c.in-None.is)
 
 pub returns : goal.returns

@@ -5,4 +5,5 @@ use Rattle.lb_check.proofs.type_scope.lengths.Given as goal
 
 abbrev pub invariant-loop-value : goal.invariant-loop-value
 invariant-loop-value l =
-    wholes l.values ≡ option_map (λ ns. l.lengths.items ++ ns) (wholes (drop l.value-index l.values))
+    wholes l.values ≡ option_map (λ ns. l.lengths.items ++ ns)
+    (wholes (drop l.value-index l.values))

@@ -21,15 +21,21 @@ loop-specialization-preserved c =
     elim c.if-flag.branch [
       | then-flag+in_ok-push w ↦ (
           let items = ap (λ v. v.items) w.ids-is ∙ w.in_ok-push.ensures.items in (
-            subst (λ xs. AreFirst xs (i + 1) ss) (sym items) (added_first ids old new ss i s lt is there flagged inv.0),
-            subst (λ fs. AreThere c.if-flag.ids.items fs) flags (subst (λ xs. AreThere xs new) (sym items) (added_there ids old new ss i s lt is there flagged)),
+            subst (λ xs. AreFirst xs (i + 1) ss) (sym items)
+                (added_first ids old new ss i s lt is there flagged inv.0),
+            subst (λ fs. AreThere c.if-flag.ids.items fs) flags
+                (subst (λ xs. AreThere xs new) (sym items)
+                (added_there ids old new ss i s lt is there flagged)),
           )
           )
       | else-flag w ↦ (
           let items = ap (λ v. v.items) w.ids-is in
           let known = sym c.flag.ensures.fresh ∙ w.if-flag.false in (
-            subst (λ xs. AreFirst xs (i + 1) ss) (sym items) (known_first ids old new ss i s lt is there flagged known inv.0),
-            subst (λ fs. AreThere c.if-flag.ids.items fs) flags (subst (λ xs. AreThere xs new) (sym items) (known_there ids old new ss i s lt is there flagged known)),
+            subst (λ xs. AreFirst xs (i + 1) ss) (sym items)
+                (known_first ids old new ss i s lt is there flagged known inv.0),
+            subst (λ fs. AreThere c.if-flag.ids.items fs) flags
+                (subst (λ xs. AreThere xs new) (sym items)
+                (known_there ids old new ss i s lt is there flagged known)),
           )
           )
     ]

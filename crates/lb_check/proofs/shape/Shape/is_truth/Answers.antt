@@ -8,4 +8,5 @@ pub returns-then-eq : goal.returns-then-eq
 returns-then-eq c =
     let t = c.args.self.now in
     let e : vec_len t.lengths ≡ length t.lengths.items = omega (arith, t.lengths.ok.0) in
-    c.is_empty.ensures ∙ ap (λ n. n == 0) e ∙ no_more t Bool (sym (kinds_decided t.kind Bool) ∙ sym c.eq.ensures ∙ c.if-eq.true)
+    c.is_empty.ensures ∙ ap (λ n. n == 0) e
+    ∙ no_more t Bool (sym (kinds_decided t.kind Bool) ∙ sym c.eq.ensures ∙ c.if-eq.true)

@@ -1,0 +1,452 @@
+-- The clocks in the text of a node that keeps the rules of clocks wait for its variables alone.
+use Rattle.std.proofs.Common.{◌≡◌, ℕ, zero, suc, Bool, true, false, cond, List, [], ◌∷◌, ◌++◌, length, map, Option, Some, None, refl, ap, sym, ◌∙◌, subst}
+use Rattle.std.specs.Prelude.{◌&&◌, ◌||◌, not, IfSome, option_map}
+use Rattle.std.specs.List.{list_all}
+use Rattle.std.specs.Str.{bytes_eq}
+use Rattle.std.proofs.lemmas.Slice.Eq.{bytes_eq-Decides}
+use Rattle.lb_syntax.specs.Lists.{◌>>=◌, Every, either_or, holds, listed, or_else}
+use Rattle.lb_syntax.specs.Tree.{Name, Exprs, Declaration, Sampling, Node}
+use Rattle.lb_static.specs.Parts.{among, variable_names}
+use Rattle.lb_static.specs.Shapes.{variables}
+use Rattle.lb_static.specs.StaticValues.{named}
+use Rattle.lb_check.specs.Clocks.{Clock, Base, On, Given, sampled, clock_within, variable_clock, clock_or, declared_clock, parent, above, own_depth, given_name, outer, given_inputs, base_from, base_clock, base_from_arguments, first_result_clock, argument_clocks}
+use Rattle.lb_check.specs.ClockRules.{if_clocked, is_clocked_by, are_declared_clocks, is_given_variable, are_given_variables}
+use Rattle.lb_check.proofs.Every.{Every-tested, Every-both, Every-first, Every-second}
+use Rattle.lb_check.proofs.TruthValues.{and_first, and_second}
+
+-- ## Options
+
+pub bound :
+    {A B : Type 0} (o : Option A) (f : A → Option B) (b : B) → (o >>= f) ≡ Some b →
+    (a : A) × (o ≡ Some a) × (f a ≡ Some b)
+bound None f b e = absurd cc
+bound (Some a) f b e = (a, refl, e)
+
+pub either :
+    {A : Type 0} (Q : A → Type 0) (o p : Option A) → IfSome o Q → IfSome p Q →
+    IfSome (or_else o p) Q
+either Q (Some a) p h g = h
+either Q None p h g = g
+
+pub if_some :
+    {A : Type 0} (Q : A → Type 0) (o : Option A) → ((a : A) → o ≡ Some a → Q a) → IfSome o Q
+if_some Q None h = tt
+if_some Q (Some a) h = h a refl
+
+-- ## What is found by its name
+
+name_is : (x y : Name) → bytes_eq x y ≡ true → x ≡ y
+name_is x y e = (bytes_eq-Decides x y).0 e
+
+-- what is found by its name has this, where all have it
+pub named_every :
+    (E : Declaration → Type 0) (x : Name) (ds : List Declaration) (v : Declaration) →
+    Every E ds → named (λ d. d.name) x ds ≡ Some v → E v × (bytes_eq v.name x ≡ true)
+named_every E x [] v all e = absurd cc
+named_every E x (d ∷ ds) v all e = by (named_every E x ds v all.1) (bytes_eq d.name x) refl e
+  where
+    by : (named (λ d. d.name) x ds ≡ Some v → E v × (bytes_eq v.name x ≡ true)) → (b : Bool) →
+        bytes_eq d.name x ≡ b → cond b (Some d) (named (λ d. d.name) x ds) ≡ Some v →
+        E v × (bytes_eq v.name x ≡ true)
+    by rest true same h =
+        let one : d ≡ v = cc in
+        subst (λ w. E w × (bytes_eq w.name x ≡ true)) one (all.0, same)
+    by rest false other h = rest h
+
+module _ (V : Name → Type 0) where
+  -- a name of some declarations is one of which holds what holds of theirs
+  pub among_has :
+      (x : Name) (ds : List Declaration) → Every (λ d. V d.name) ds →
+      among x (map (λ d. d.name) ds) ≡ true → V x
+  among_has x [] all e = absurd cc
+  among_has x (d ∷ ds) all e = by (among_has x ds all.1) (bytes_eq x d.name) refl e
+    where
+      by : (among x (map (λ d. d.name) ds) ≡ true → V x) → (b : Bool) → bytes_eq x d.name ≡ b →
+          (b || among x (map (λ d. d.name) ds)) ≡ true → V x
+      by rest true same h = subst V (sym (name_is x d.name same)) all.0
+      by rest false other h = rest h
+
+  pub named_has :
+      (x : Name) (ds : List Declaration) (v : Declaration) → Every (λ d. V d.name) ds →
+      named (λ d. d.name) x ds ≡ Some v → V x
+  named_has x ds v all e =
+      let found = named_every (λ d. V d.name) x ds v all e in
+      subst V (name_is v.name x found.1) found.0
+
+turned : (x y : Name) → bytes_eq x y ≡ false → bytes_eq y x ≡ true → ⊥
+turned x y e f =
+    let same = (bytes_eq-Decides x y).1 (sym (name_is y x f)) in
+    absurd cc
+
+-- a name among the first of some declarations is that of one of these
+found_first :
+    (E : Declaration → Type 0) (x : Name) (ds rest : List Declaration) (v : Declaration) →
+    Every E ds → among x (map (λ d. d.name) ds) ≡ true →
+    named (λ d. d.name) x (ds ++ rest) ≡ Some v → E v
+found_first E x [] rest v all e is = absurd cc
+found_first E x (d ∷ ds) rest v all e is =
+    by (found_first E x ds rest v all.1) (bytes_eq d.name x) refl is
+  where
+    later : (b : Bool) → bytes_eq x d.name ≡ b → bytes_eq d.name x ≡ false →
+        (b || among x (map (λ d. d.name) ds)) ≡ true → among x (map (λ d. d.name) ds) ≡ true
+    later true same other h = absurd (turned d.name x other same)
+    later false same other h = h
+
+    by : (among x (map (λ d. d.name) ds) ≡ true →
+        named (λ d. d.name) x (ds ++ rest) ≡ Some v → E v) → (b : Bool) → bytes_eq d.name x ≡ b →
+        cond b (Some d) (named (λ d. d.name) x (ds ++ rest)) ≡ Some v → E v
+    by next true same h = let one : d ≡ v = cc in subst E one all.0
+    by next false other h = next (later (bytes_eq x d.name) refl other e) h
+
+-- one among none of the first is the next, where it has the name of that
+found_next :
+    (x : Name) (ds : List Declaration) (d : Declaration) (rest : List Declaration) →
+    among x (map (λ d. d.name) ds) ≡ false → bytes_eq d.name x ≡ true →
+    named (λ d. d.name) x (ds ++ (d ∷ rest)) ≡ Some d
+found_next x [] d rest e is = ap (λ b. cond b (Some d) (named (λ d. d.name) x rest)) is
+found_next x (c ∷ ds) d rest e is =
+    by (λ h. found_next x ds d rest h is) (bytes_eq x c.name) refl e
+  where
+    other : (b : Bool) → bytes_eq c.name x ≡ b → bytes_eq x c.name ≡ false → b ≡ false
+    other true same differs = absurd (turned x c.name differs same)
+    other false same differs = refl
+
+    by : (among x (map (λ d. d.name) ds) ≡ false →
+        named (λ d. d.name) x (ds ++ (d ∷ rest)) ≡ Some d) → (b : Bool) → bytes_eq x c.name ≡ b →
+        (b || among x (map (λ d. d.name) ds)) ≡ false →
+        named (λ d. d.name) x (c ∷ (ds ++ (d ∷ rest))) ≡ Some d
+    by next true same h = absurd cc
+    by next false differs h =
+        ap (λ b. cond b (Some c) (named (λ d. d.name) x (ds ++ (d ∷ rest))))
+        (other (bytes_eq c.name x) refl differs)
+        ∙ next h
+
+same_turned : (x y : Name) → bytes_eq x y ≡ true → bytes_eq y x ≡ true
+same_turned x y e = (bytes_eq-Decides y x).1 (sym (name_is x y e))
+
+-- a name among some declarations and one more, and among none of the first, is that of the last
+last_name :
+    (x : Name) (ds : List Declaration) (d : Declaration) →
+    among x (map (λ d. d.name) ds) ≡ false →
+    among x (map (λ d. d.name) (ds ++ (d ∷ []))) ≡ true → bytes_eq x d.name ≡ true
+last_name x [] d none e = by (bytes_eq x d.name) e
+  where
+    by : (b : Bool) → (b || false) ≡ true → b ≡ true
+    by true e = refl
+    by false e = absurd cc
+last_name x (c ∷ ds) d none e = by (last_name x ds d) (bytes_eq x c.name) none e
+  where
+    by : (among x (map (λ d. d.name) ds) ≡ false →
+        among x (map (λ d. d.name) (ds ++ (d ∷ []))) ≡ true → bytes_eq x d.name ≡ true) →
+        (b : Bool) → (b || among x (map (λ d. d.name) ds)) ≡ false →
+        (b || among x (map (λ d. d.name) (ds ++ (d ∷ [])))) ≡ true → bytes_eq x d.name ≡ true
+    by rest true none e = absurd cc
+    by rest false none e = rest none e
+
+-- each of some declarations has one of their names
+own_names : (ds : List Declaration) → Every (λ d. among d.name (map (λ d. d.name) ds) ≡ true) ds
+own_names ds = from ds (λ x e. e)
+  where
+    or_true : (b c : Bool) → c ≡ true → (b || c) ≡ true
+    or_true true c e = refl
+    or_true false c e = e
+
+    from : (cs : List Declaration) →
+        ((x : Name) → among x (map (λ d. d.name) cs) ≡ true →
+        among x (map (λ d. d.name) ds) ≡ true) →
+        Every (λ d. among d.name (map (λ d. d.name) ds) ≡ true) cs
+    from [] h = tt
+    from (c ∷ cs) h = (
+      h c.name (ap (λ b. b || among c.name (map (λ d. d.name) cs))
+          ((bytes_eq-Decides c.name c.name).1 refl)),
+      from cs (λ x e. h x (or_true (bytes_eq x c.name) _ e)),
+    )
+
+-- a declaration that waits for one of these
+only_clock :
+    (ds : List Declaration) (d : Declaration) (s : Sampling) → d.clock ≡ Some s →
+    among s.variable (map (λ v. v.name) ds) ≡ true → is_clocked_by ds d ≡ true
+only_clock ds d s is e =
+    subst
+    (λ o. list_all (λ s. among s.variable (map (λ v. v.name) ds)) (listed (λ s. s ∷ []) o) ≡ true)
+    (sym is) (ap (λ b. b && true) e)
+
+-- ## Clocks over some names
+
+-- each variable of a clock has this
+abbrev pub IsOver : (Name → Type 0) → Clock → Type 0
+IsOver V Base = Unit {0}
+IsOver V (On k x sign) = IsOver V k × V x
+
+module _ (V : Name → Type 0) where
+  pub above_over : (n : ℕ) (k : Clock) → IsOver V k → IsOver V (above n k)
+  above_over zero k h = h
+  above_over (suc n) Base h = tt
+  above_over (suc n) (On k x sign) h = above_over n k h.0
+
+  pub parent_over : (o : Option Clock) → IfSome o (IsOver V) → IfSome (o >>= parent) (IsOver V)
+  parent_over None h = tt
+  parent_over (Some Base) h = tt
+  parent_over (Some (On k x sign)) h = h.0
+
+  pub clock_or_over : (o : Option Clock) → IfSome o (IsOver V) → IsOver V (clock_or o)
+  clock_or_over None h = tt
+  clock_or_over (Some k) h = h
+
+  pub outer_over :
+      (k : Clock) (given : Given) (own : Clock) → IsOver V k →
+      IsOver (λ x. V (given_name given x)) own → IsOver V (outer k given own)
+  outer_over k given Base h own = h
+  outer_over k given (On b x sign) h own = (outer_over k given b h own.0, own.1)
+
+  pub base_over : (k : Clock) (n : Node) → IsOver V k → IsOver V (base_clock k n)
+  base_over k n h = by n.outputs
+    where
+      by : (ds : List Declaration) → IsOver V (base_from k n ds)
+      by [] = h
+      by (d ∷ ds) = above_over (own_depth n d) k h
+
+  pub base_arguments_over :
+      (n : Node) (ds : List Declaration) (ks : List (Option Clock)) →
+      Every (λ o. IfSome o (IsOver V)) ks → IfSome (base_from_arguments n ds ks) (IsOver V)
+  base_arguments_over n [] ks h = tt
+  base_arguments_over n (d ∷ ds) [] h = tt
+  base_arguments_over n (d ∷ ds) (Some k ∷ ks) h = above_over (own_depth n d) k h.0
+  base_arguments_over n (d ∷ ds) (None ∷ ks) h = base_arguments_over n ds ks h.1
+
+-- ## Declared clocks
+
+-- where this holds of what a variable waits for, it does so of all that its clock waits for
+module _ (V : Name → Type 0) (vars : List Declaration) (E : Declaration → Type 0)
+    (waits : (d : Declaration) (s : Sampling) (v : Declaration) → E d → d.clock ≡ Some s →
+    named (λ v. v.name) s.variable vars ≡ Some v → V s.variable × E v) where
+  pub within_over :
+      (n : ℕ) (d : Declaration) (k : Clock) → E d → clock_within n vars d ≡ Some k → IsOver V k
+  within_over zero d k h e = absurd cc
+  within_over (suc n) d k h e = by (within_over n) d.clock refl e
+    where
+      by : ((v : Declaration) (k : Clock) → E v → clock_within n vars v ≡ Some k → IsOver V k) →
+          (o : Option Sampling) → d.clock ≡ o →
+          sampled (clock_within n vars) vars o ≡ Some k → IsOver V k
+      by next None is g = let base : Base ≡ k = cc in subst (IsOver V) base tt
+      by next (Some s) is g =
+          let v = bound (named (λ v. v.name) s.variable vars)
+          (λ v. clock_within n vars v >>= λ k. Some (On k s.variable s.sign)) k g in
+          let up = bound (clock_within n vars v.0) (λ k. Some (On k s.variable s.sign)) k v.2 in
+          let w = waits d s v.0 h is v.1 in
+          let on : On up.0 s.variable s.sign ≡ k = cc in
+          subst (IsOver V) on (next v.0 up.0 w.1 up.1, w.0)
+
+  pub named_over :
+      (n : ℕ) (x : Name) → ((v : Declaration) → named (λ v. v.name) x vars ≡ Some v → E v) →
+      IfSome (named (λ v. v.name) x vars >>= clock_within n vars) (IsOver V)
+  named_over n x h =
+      if_some (IsOver V) (named (λ v. v.name) x vars >>= clock_within n vars) (λ k e.
+      let v = bound (named (λ v. v.name) x vars) (clock_within n vars) k e in
+      within_over n v.0 k (h v.0 v.1) v.2)
+
+module _ (V : Name → Type 0) (n : Node) (all : Every (λ d. V d.name) (variables n)) where
+  -- the clock of a variable is over the variables of its node
+  pub variable_over : (x : Name) → IfSome (variable_clock n x) (IsOver V)
+  variable_over x =
+      named_over V (variables n) (λ d. Unit {0})
+      (λ d s v h is found. (named_has V s.variable (variables n) v all found, tt))
+      (suc (length (variables n))) x (λ v found. tt)
+
+  pub declared_over : (x : Name) → IsOver V (declared_clock n x)
+  declared_over x = clock_or_over V (variable_clock n x) (variable_over x)
+
+  -- the clock of `when`
+  pub when_over : (x : Name) (sign : Bool) →
+      IfSome (option_map (λ k. On k x sign) (variable_clock n x)) (IsOver V)
+  when_over x sign = by (variable_clock n x) refl (variable_over x)
+    where
+      by : (o : Option Clock) → variable_clock n x ≡ o → IfSome o (IsOver V) →
+          IfSome (option_map (λ k. On k x sign) o) (IsOver V)
+      by None is h = tt
+      by (Some k) is h =
+          let v = bound (named (λ d. d.name) x (variables n))
+          (clock_within (suc (length (variables n))) (variables n)) k is in
+          (h, named_has V x (variables n) v.0 all v.1)
+
+-- ## What a call is given
+
+module _ (V : Name → Type 0) (here callee : Node) (es : Exprs)
+    (all : Every (λ d. V d.name) (variables here))
+    (declared : are_declared_clocks callee ≡ true)
+    (is_given : are_given_variables here callee es ≡ true) where
+  abbrev given : Given
+  given = given_inputs callee.inputs es
+
+  -- the variable of the caller that stands for one of the callee
+  abbrev Seen : Name → Type 0
+  Seen x = V (given_name given x)
+
+  -- a parameter that waits for an input alone, and is given a variable for it
+  abbrev Waits : Declaration → Type 0
+  Waits d =
+      (is_clocked_by callee.inputs d ≡ true) × (is_given_variable here callee given d ≡ true)
+
+  inputs_wait : Every Waits callee.inputs
+  inputs_wait =
+      Every-both (λ d. is_clocked_by callee.inputs d ≡ true)
+      (λ d. is_given_variable here callee given d ≡ true) callee.inputs
+      (Every-tested (is_clocked_by callee.inputs) callee.inputs (and_first _ _ declared))
+      (Every-first (λ d. is_given_variable here callee given d ≡ true) callee.inputs
+      callee.outputs
+      (Every-tested (is_given_variable here callee given) (callee.inputs ++ callee.outputs)
+      is_given))
+
+  one_clock :
+      (test : Sampling → Bool) (d : Declaration) (s : Sampling) → if_clocked test d ≡ true →
+      d.clock ≡ Some s → test s ≡ true
+  one_clock test d s e is =
+      and_first (test s) true
+      (subst (λ o. list_all test (listed (λ s. s ∷ []) o) ≡ true) is e)
+
+  -- what stands for an input that is waited for
+  given_there :
+      (x : Name) (o : Option (Name × Name)) → named (λ g. g.0) x given ≡ o →
+      holds (λ g. among g.1 (variable_names here)) o ≡ true → Seen x
+  given_there x None is e = absurd cc
+  given_there x (Some g) is e =
+      subst V (sym (ap (λ o. either_or (option_map (λ g. g.1) o) x) is))
+      (among_has V g.1 (variables here) all e)
+
+  implied : (a b : Bool) → a ≡ true → (not a || b) ≡ true → b ≡ true
+  implied true b e f = f
+  implied false b e f = absurd cc
+
+  abbrev input_names : List Name
+  input_names = map (λ d. d.name) callee.inputs
+
+  waited_given : (d : Declaration) (s : Sampling) → is_given_variable here callee given d ≡ true →
+      d.clock ≡ Some s → among s.variable input_names ≡ true → Seen s.variable
+  waited_given d s w is e =
+      let test = one_clock (λ s.
+      not (among s.variable (map (λ i. i.name) callee.inputs))
+      || holds (λ g. among g.1 (variable_names here)) (named (λ g. g.0) s.variable given))
+      d s w is in
+      given_there s.variable (named (λ g. g.0) s.variable given) refl (implied _ _ e test)
+
+  waits :
+      (d : Declaration) (s : Sampling) (v : Declaration) → Waits d → d.clock ≡ Some s →
+      named (λ v. v.name) s.variable (variables callee) ≡ Some v → Seen s.variable × Waits v
+  waits d s v w is found =
+      let e = one_clock (λ s. among s.variable (map (λ v. v.name) callee.inputs)) d s w.0 is in (
+        waited_given d s w.1 is e,
+        found_first Waits s.variable callee.inputs (callee.outputs ++ callee.locals) v inputs_wait
+            e found,
+      )
+
+  -- the clock of one of the inputs, as the caller sees it
+  input_over : (x : Name) → among x input_names ≡ true → IsOver Seen (declared_clock callee x)
+  input_over x e =
+      clock_or_over Seen (variable_clock callee x)
+      (named_over Seen (variables callee) Waits waits (suc (length (variables callee))) x
+      (λ v found. found_first Waits x callee.inputs (callee.outputs ++ callee.locals) v inputs_wait
+      e found))
+
+  -- the clocks of the arguments
+  pub arguments_over :
+      (k : Clock) → IsOver V k → Every (IsOver V) (argument_clocks k callee es)
+  arguments_over k h = by callee.inputs (own_names callee.inputs)
+    where
+      by : (ds : List Declaration) → Every (λ d. among d.name input_names ≡ true) ds →
+          Every (IsOver V)
+          (map (λ d. outer (base_clock k callee) given (declared_clock callee d.name)) ds)
+      by [] own = tt
+      by (d ∷ ds) own = (
+        outer_over V (base_clock k callee) given (declared_clock callee d.name)
+            (base_over V k callee h) (input_over d.name own.0),
+        by ds own.1,
+      )
+
+  -- ## The clock of the one result
+
+  module _ (d : Declaration) (one : callee.outputs ≡ d ∷ []) where
+    abbrev vars : List Declaration
+    vars = variables callee
+
+    all_are : vars ≡ callee.inputs ++ (d ∷ callee.locals)
+    all_are = ap (λ outs. callee.inputs ++ (outs ++ callee.locals)) one
+
+    output_found : (x : Name) → among x input_names ≡ false → bytes_eq d.name x ≡ true →
+        named (λ d. d.name) x vars ≡ Some d
+    output_found x none is =
+        ap (named (λ d. d.name) x) all_are ∙ found_next x callee.inputs d callee.locals none is
+
+    -- nothing waits for itself
+    circle : (s : Sampling) → d.clock ≡ Some s →
+        named (λ v. v.name) s.variable vars ≡ Some d → (m : ℕ) → clock_within m vars d ≡ None
+    circle s is found zero = refl
+    circle s is found (suc m) =
+        ap (sampled (clock_within m vars) vars) is
+        ∙ ap (λ o. o >>= λ v. clock_within m vars v >>= λ k. Some (On k s.variable s.sign)) found
+        ∙ ap (λ o. o >>= λ k. Some (On k s.variable s.sign)) (circle s is found m)
+
+    clocked : is_clocked_by (callee.inputs ++ callee.outputs) d ≡ true
+    clocked =
+        let outs = and_first (list_all (is_clocked_by (callee.inputs ++ callee.outputs))
+        callee.outputs) _ (and_second _ _ declared) in
+        and_first (is_clocked_by (callee.inputs ++ callee.outputs) d) true
+        (subst (λ ds. list_all (is_clocked_by (callee.inputs ++ callee.outputs)) ds ≡ true) one
+        outs)
+
+    is_given_output : is_given_variable here callee given d ≡ true
+    is_given_output =
+        let all_given = Every-second (λ d. is_given_variable here callee given d ≡ true)
+        callee.inputs callee.outputs
+        (Every-tested (is_given_variable here callee given) (callee.inputs ++ callee.outputs)
+        is_given) in
+        (subst (Every (λ d. is_given_variable here callee given d ≡ true)) one all_given).0
+
+    itself : (x : Name) → among x input_names ≡ false →
+        among x (map (λ v. v.name) (callee.inputs ++ (d ∷ []))) ≡ true → bytes_eq d.name x ≡ true
+    itself x none e = same_turned x d.name (last_name x callee.inputs d none e)
+
+    output_within : (m : ℕ) → IfSome (clock_within m vars d) (IsOver Seen)
+    output_within m = by d.clock refl
+      where
+        waiting : (s : Sampling) → d.clock ≡ Some s → (b : Bool) →
+            among s.variable input_names ≡ b → IfSome (clock_within m vars d) (IsOver Seen)
+        waiting s is true e =
+            let own : is_clocked_by callee.inputs d ≡ true = only_clock callee.inputs d s is e in
+            if_some (IsOver Seen) (clock_within m vars d)
+            (λ k. within_over Seen vars Waits waits m d k (own, is_given_output))
+        waiting s is false e =
+            let some = one_clock (λ s. among s.variable
+            (map (λ v. v.name) (callee.inputs ++ callee.outputs))) d s clocked is in
+            let there = subst (λ outs. among s.variable (map (λ v. v.name)
+            (callee.inputs ++ outs)) ≡ true) one some in
+            let found = output_found s.variable e (itself s.variable e there) in
+            subst (λ o. IfSome o (IsOver Seen)) (sym (circle s is found m)) tt
+
+        by : (o : Option Sampling) → d.clock ≡ o → IfSome (clock_within m vars d) (IsOver Seen)
+        by None is = free m
+          where
+            free : (m : ℕ) → IfSome (clock_within m vars d) (IsOver Seen)
+            free zero = tt
+            free (suc m) =
+                subst (λ o. IfSome (sampled (clock_within m vars) vars o) (IsOver Seen)) (sym is)
+                tt
+        by (Some s) is = waiting s is (among s.variable input_names) refl
+
+    output_over : IsOver Seen (declared_clock callee d.name)
+    output_over = by (among d.name input_names) refl
+      where
+        by : (b : Bool) → among d.name input_names ≡ b → IsOver Seen (declared_clock callee d.name)
+        by true e = input_over d.name e
+        by false e =
+            let n = suc (length vars) in
+            let found = output_found d.name e ((bytes_eq-Decides d.name d.name).1 refl) in
+            let same : variable_clock callee d.name ≡ clock_within n vars d =
+            ap (λ o. o >>= clock_within n vars) found in
+            clock_or_over Seen (variable_clock callee d.name)
+            (subst (λ o. IfSome o (IsOver Seen)) (sym same) (output_within n))
+
+    pub result_over :
+        (k : Clock) → IsOver V k → IsOver V (first_result_clock k callee given callee.outputs)
+    result_over k h =
+        subst (λ outs. IsOver V (first_result_clock k callee given outs)) (sym one)
+        (outer_over V k given (declared_clock callee d.name) h output_over)

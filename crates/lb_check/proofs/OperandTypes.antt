@@ -1,0 +1,230 @@
+-- What the types of an expression say of its operands, and of what it calls.
+use Rattle.std.proofs.Common.{◌≡◌, ℕ, Bool, true, false, ℤ, Option, Some, None, option_map, List, [], ◌∷◌, map, refl, sym, ap, ap₂, ◌∙◌}
+use Rattle.std.specs.List.{list_all, zip}
+use Rattle.lb_syntax.specs.Lists.{◌>>=◌, all_some, where_true}
+use Rattle.lb_syntax.specs.Tree.{Name, Static, Node_named, Expr, Exprs, Call, Cons, Declaration, Node}
+use Rattle.lb_static.specs.Instances.{Program, Instance, Child, call_site, callee_of, node_named, static_value}
+use Rattle.lb_static.specs.Shapes.{Shape, truth, is_shape, are_shapes, input_shapes, output_shapes, shape_of}
+use Rattle.lb_check.specs.Types.{shapes, all_shapes, only, singly, from_one, from_two, from_truths, operator_shapes}
+
+-- ## Inversions
+
+pub record Bound {A B : Type 0} (o : Option A) (f : A → Option B) (y : B) : Type 0 where
+  pub value : A
+  pub is : o ≡ Some value
+  pub gives : f value ≡ Some y
+
+pub bound :
+    {A B : Type 0} (o : Option A) (f : A → Option B) (y : B) → (o >>= f) ≡ Some y → Bound o f y
+bound None f y e = absurd cc
+bound (Some x) f y e = record { value = x; is = refl; gives = e }
+
+pub some_same : {A : Type 0} (x y : A) → Some x ≡ Some y → x ≡ y
+some_same x y e = cc
+
+pub single : (ts : List Shape) (t : Shape) → only ts ≡ Some t → ts ≡ t ∷ []
+single [] t e = absurd cc
+single (s ∷ []) t e = cc
+single (s ∷ (u ∷ ts)) t e = absurd cc
+
+pub record Single (o : Option Shape) (ts : List Shape) : Type 0 where
+  pub shape : Shape
+  pub is : o ≡ Some shape
+  pub all : ts ≡ shape ∷ []
+
+pub alone : (o : Option Shape) (ts : List Shape) → singly o ≡ Some ts → Single o ts
+alone None ts e = absurd cc
+alone (Some t) ts e = record { shape = t; is = refl; all = sym (some_same _ _ e) }
+
+pub record Truly {A : Type 0} (b : Bool) (x y : A) : Type 0 where
+  pub holds : b ≡ true
+  pub same : x ≡ y
+
+pub truly : {A : Type 0} (b : Bool) (x y : A) → where_true b x ≡ Some y → Truly b x y
+truly true x y e = record { holds = refl; same = some_same x y e }
+truly false x y e = absurd cc
+
+-- a result from an operand with one result
+pub record One (operand : Option (List Shape)) (f : Shape → Option Shape) (ts : List Shape) :
+    Type 0 where
+  pub shape : Shape
+  pub result : Shape
+  pub is : operand ≡ Some (shape ∷ [])
+  pub gives : f shape ≡ Some result
+  pub all : ts ≡ result ∷ []
+
+pub one :
+    (o : Option (List Shape)) (f : Shape → Option Shape) (ts : List Shape) →
+    from_one o f ≡ Some ts → One o f ts
+one o f ts e =
+    let b = bound (o >>= only) _ ts e in
+    let a = bound o only b.value b.is in
+    let r = alone (f b.value) ts b.gives in
+    record {
+      shape = b.value;
+      result = r.shape;
+      is = a.is ∙ ap Some (single a.value b.value a.gives);
+      gives = r.is;
+      all = r.all;
+    }
+
+-- and from two
+pub record Two (left right : Option (List Shape)) (f : Shape → Shape → Option Shape)
+    (ts : List Shape) : Type 0 where
+  pub first : Shape
+  pub second : Shape
+  pub result : Shape
+  pub is_first : left ≡ Some (first ∷ [])
+  pub is_second : right ≡ Some (second ∷ [])
+  pub gives : f first second ≡ Some result
+  pub all : ts ≡ result ∷ []
+
+pub two :
+    (o p : Option (List Shape)) (f : Shape → Shape → Option Shape) (ts : List Shape) →
+    from_two o p f ≡ Some ts → Two o p f ts
+two o p f ts e =
+    let b = bound (o >>= only) _ ts e in
+    let a = bound o only b.value b.is in
+    let d = bound (p >>= only) _ ts b.gives in
+    let c = bound p only d.value d.is in
+    let r = alone (f b.value d.value) ts d.gives in
+    record {
+      first = b.value;
+      second = d.value;
+      result = r.shape;
+      is_first = a.is ∙ ap Some (single a.value b.value a.gives);
+      is_second = c.is ∙ ap Some (single c.value d.value c.gives);
+      gives = r.is;
+      all = r.all;
+    }
+
+pub record Truths (o : Option (List Shape)) (ts : List Shape) : Type 0 where
+  pub shapes : List Shape
+  pub is : o ≡ Some shapes
+  pub truths : list_all (is_shape truth) shapes ≡ true
+  pub all : ts ≡ truth ∷ []
+
+pub from_true :
+    (o : Option (List Shape)) (ts : List Shape) → from_truths o ≡ Some ts → Truths o ts
+from_true o ts e =
+    let b = bound o _ ts e in
+    let t = truly (list_all (is_shape truth) b.value) (truth ∷ []) ts b.gives in
+    record { shapes = b.value; is = b.is; truths = t.holds; all = sym t.same }
+
+-- ## What is called
+
+-- the instance of a call, and the types of its inputs and outputs
+pub record Called (P : Program) (here : Instance) (f : Name) (statics : List Static)
+    (types : List Shape × List Shape) : Type 0 where
+  pub callee : Instance
+  pub is : callee_of P here (call_site f statics) 0 0 ≡ Some callee
+  pub inputs : input_shapes P callee ≡ Some types.0
+  pub outputs : output_shapes P callee ≡ Some types.1
+
+pub called :
+    (P : Program) (here : Instance) (f : Name) (statics : List Static)
+    (types : List Shape × List Shape) →
+    operator_shapes P here (Node_named f statics) ≡ Some types → Called P here f statics types
+called P here f statics types e =
+    let c = bound (callee_of P here (call_site f statics) 0 0) _ types e in
+    let ins = bound (input_shapes P c.value) _ types c.gives in
+    let outs = bound (output_shapes P c.value) _ types ins.gives in
+    let same : (ins.value, outs.value) ≡ types = some_same _ _ outs.gives in
+    record {
+      callee = c.value;
+      is = c.is;
+      inputs = ins.is ∙ ap (λ (t : List Shape × List Shape). Some t.0) same;
+      outputs = outs.is ∙ ap (λ (t : List Shape × List Shape). Some t.1) same;
+    }
+
+-- the same instance at another place
+pub record Placed (P : Program) (here : Instance) (f : Name) (statics : List Static)
+    (c : Instance) : Type 0 where
+  pub node : node_named P f ≡ Some c.node
+  pub at : (n i : ℕ) →
+      callee_of P here (call_site f statics) n i
+      ≡ Some (record c { path = Child here.path n i })
+
+pub placed :
+    (P : Program) (here : Instance) (f : Name) (statics : List Static) (c : Instance) →
+    callee_of P here (call_site f statics) 0 0 ≡ Some c → Placed P here f statics c
+placed P here f statics c e =
+    let n = bound (node_named P f) _ c e in
+    let values = all_some (map (static_value P here) statics) in
+    let v = bound values _ c n.gives in
+    let same = some_same _ _ v.gives in
+    record {
+      node = n.is ∙ ap (λ (d : Instance). Some d.node) same;
+      at = λ call index.
+          ap₂ (λ (o : Option Node) (vs : Option (List ℤ)).
+          o >>= λ node. vs >>= λ values.
+          Some (record {
+            path = Child here.path call index;
+            node = node;
+            values = zip node.parameters values;
+          })) n.is v.is
+          ∙ ap (λ (d : Instance). Some (record d { path = Child here.path call index })) same;
+    }
+
+module _ (P : Program) (here : Instance) where
+  -- the types of some operands, and of the first one
+  pub record FirstOfAll (e : Expr) (es : Exprs) (ts : List Shape) : Type 0 where
+    pub first : Shape
+    pub rest : List Shape
+    pub is : shapes P here e ≡ Some (first ∷ [])
+    pub others : all_shapes P here es ≡ Some rest
+    pub all : ts ≡ first ∷ rest
+
+  pub first_of_all :
+      (e : Expr) (es : Exprs) (ts : List Shape) → all_shapes P here (Cons e es) ≡ Some ts →
+      FirstOfAll e es ts
+  first_of_all e es ts h =
+      let b = bound (shapes P here e >>= only) _ ts h in
+      let a = bound (shapes P here e) only b.value b.is in
+      let r = bound (all_shapes P here es) _ ts b.gives in
+      record {
+        first = b.value;
+        rest = r.value;
+        is = a.is ∙ ap Some (single a.value b.value a.gives);
+        others = r.is;
+        all = sym (some_same _ _ r.gives);
+      }
+
+-- ## One result
+
+one_of :
+    {A B : Type 0} (f : A → Option B) (xs : List A) (y : B) →
+    all_some (map f xs) ≡ Some (y ∷ []) → (x : A) × (xs ≡ x ∷ [])
+one_of f [] y e = absurd cc
+one_of f (x ∷ []) y e = (x, refl)
+one_of {B = B} f (x ∷ (z ∷ xs)) y e = absurd (by (f x) (f z) (map f xs) e)
+  where
+    more : (a b : B) (o : Option (List B)) →
+        option_map (λ l. a ∷ l) (option_map (λ l. b ∷ l) o) ≡ Some (y ∷ []) → ⊥
+    more a b None e = cc
+    more a b (Some l) e = cc
+
+    by : (o p : Option B) (rest : List (Option B)) → all_some (o ∷ (p ∷ rest)) ≡ Some (y ∷ []) → ⊥
+    by None p rest e = cc
+    by (Some a) None rest e = cc
+    by (Some a) (Some b) rest e = more a b (all_some rest) e
+
+-- a call with one result calls a node with one output
+pub record OneOutput (P : Program) (here : Instance) (f : Name) (statics : List Static) : Type 0
+  where
+    pub callee : Instance
+    pub is : callee_of P here (call_site f statics) 0 0 ≡ Some callee
+    pub output : Declaration
+    pub one : callee.node.outputs ≡ output ∷ []
+
+pub one_output :
+    (P : Program) (here : Instance) (f : Name) (statics : List Static) (es : Exprs) (t : Shape) →
+    shapes P here (Call f statics es) ≡ Some (t ∷ []) → OneOutput P here f statics
+one_output P here f statics es t e =
+    let o = bound (operator_shapes P here (Node_named f statics)) _ (t ∷ []) e in
+    let a = bound (all_shapes P here es) _ (t ∷ []) o.gives in
+    let r = truly (are_shapes o.value.0 a.value) o.value.1 (t ∷ []) a.gives in
+    let c = called P here f statics o.value o.is in
+    let d = one_of (shape_of P c.callee) c.callee.node.outputs t
+    (c.outputs ∙ ap (λ (ts : List Shape). Some ts) r.same) in
+    record { callee = c.callee; is = c.is; output = d.0; one = d.1 }

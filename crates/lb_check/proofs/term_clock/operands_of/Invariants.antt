@@ -1,9 +1,0 @@
-use Rattle.std.proofs.Common.{◌≡◌, ◌++◌, drop}
-use Rattle.lb_check.specs.StoredStandings.{context_in}
-use Rattle.lb_check.specs.TermClocks as mirror
-use Rattle.lb_check.proofs.term_clock.operands_of.Given as goal
-
-abbrev pub invariant-loop-term : goal.invariant-loop-term
-invariant-loop-term l =
-    let ctx = context_in l.scope in
-    mirror.operands_of ctx l.terms ≡ l.operands.items ++ mirror.operands_of ctx (drop l.term-index l.terms)

@@ -1,0 +1,12 @@
+-- What is known of every checked program.
+-- This file says what data of the program mean; no definition of the language stands on it.
+use Rattle.std.specs.Prelude.{◌≡◌, None}
+use Rattle.lb_static.specs.Elaborated.{elaborated_program, IsLawful}
+use Rattle.lb_static.specs.declared.elab.Elaboration.{Elaboration}
+use Rattle.lb_check.specs.Acceptance.{check_refusal}
+
+-- what is found is true of the program that is elaborated, and this breaks no rule of types, clocks
+-- and definitions
+pub record IsChecked (e : Elaboration) : Type 0 where
+  pub elaborated : IsLawful e
+  pub accepted : check_refusal (elaborated_program e) ≡ None
