@@ -1,5 +1,8 @@
--- A step of a loop over chunks of eight: the lanes before it are done, and those after it are as they were.
-use Rattle.std.proofs.Common.{◌≡◌, ℕ, ◌<◌, ◌≤◌, ◌+◌, ◌-◌, ◌⊎◌, inl, inr, ◌||◌, Bool, true, false, List, get_or, refl, sym, ap, ap₂, ◌∙◌, subst, arith, ◌≢◌, length, set, below_more}
+-- A step of a loop over chunks of eight: the lanes before it are done, and those after it are as
+-- they were.
+use Rattle.std.proofs.Common.{◌≡◌, ℕ, ◌<◌, ◌≤◌, ◌+◌, ◌-◌, ◌⊎◌, inl, inr, ◌||◌, Bool, true, false}
+use Rattle.std.proofs.Common.{List, get_or, refl, sym, ap, ap₂, ◌∙◌, subst, arith, ◌≢◌, length, set}
+use Rattle.std.proofs.Common.{below_more}
 use Rattle.std.proofs.lemmas.Bool.{cases_lt}
 use Rattle.std.proofs.lemmas.List.{get_or-set_same, get_or-set_other}
 use lib.Bits.{bit_or}
@@ -12,17 +15,22 @@ or_false false = refl
 
 -- the three places of a lane, at a plane to which the chunk x at k is joined
 on-below : (f x k i : ℕ) → i < k → i < 64 → on (bit_or f (shl k x)) i ≡ on f i
-on-below f x k i h w = on-or f (shl k x) i ∙ ap (λ b. on f i || b) (on-shl_low k i x h w) ∙ or_false (on f i)
+on-below f x k i h w = on-or f (shl k x) i ∙ ap (λ b. on f i || b) (on-shl_low k i x h w)
+    ∙ or_false (on f i)
 
-on-inside : (f x k j : ℕ) → k + j < 64 → on f (k + j) ≡ false → on (bit_or f (shl k x)) (k + j) ≡ on x j
-on-inside f x k j h none = on-or f (shl k x) (k + j) ∙ ap₂ (λ a b. a || b) none (on-shl_high k j x h)
+on-inside : (f x k j : ℕ) → k + j < 64 → on f (k + j) ≡ false
+    → on (bit_or f (shl k x)) (k + j) ≡ on x j
+on-inside f x k j h none = on-or f (shl k x) (k + j)
+    ∙ ap₂ (λ a b. a || b) none (on-shl_high k j x h)
 
-on-after : (f x k i : ℕ) → x < 256 → k + 8 ≤ i → i < 64 → on f i ≡ false → on (bit_or f (shl k x)) i ≡ false
+on-after : (f x k i : ℕ) → x < 256 → k + 8 ≤ i → i < 64 → on f i ≡ false
+    → on (bit_or f (shl k x)) i ≡ false
 on-after f x k i small le h none =
     let j = i - k in
     let e : k + j ≡ i = omega arith in
     subst (λ n. on (bit_or f (shl k x)) n ≡ false) e
-    (on-inside f x k j (omega (arith, e)) (subst (λ n. on f n ≡ false) (sym e) none) ∙ on-above x 8 j small (omega arith))
+    (on-inside f x k j (omega (arith, e)) (subst (λ n. on f n ≡ false) (sym e) none)
+    ∙ on-above x 8 j small (omega arith))
 
 -- the lanes of a plane below k pass the test, and no later one is set
 pub record DoneBelow (test : ℕ → Bool) (k plane : ℕ) : Type 0 where
@@ -42,15 +50,18 @@ plane_joined test f x k room small before new = record {
         let j = i - k in
         let e : k + j ≡ i = omega arith in
         subst (λ n. on (bit_or f (shl k x)) n ≡ test n) e
-        (on-inside f x k j (omega (arith, e)) (before.rest (k + j) (omega arith) (omega (arith, e))) ∙ new j (omega arith))
+        (on-inside f x k j (omega (arith, e)) (before.rest (k + j) (omega arith) (omega (arith, e)))
+        ∙ new j (omega arith))
 
 -- the words below k are as P says, and each later one is as at first
 pub record WrittenBelow (P : ℕ → ℕ → Type 0) (k : ℕ) (first words : List ℕ) : Type 0 where
   pub done : (i : ℕ) → i < k → P i (get_or words i 0)
   pub rest : (i : ℕ) → k ≤ i → get_or words i 0 ≡ get_or first i 0
 
-pub words_joined : (P : ℕ → ℕ → Type 0) (first words words' : List ℕ) (k : ℕ) → WrittenBelow P k first words
-    → ((i : ℕ) → i < k → get_or words' i 0 ≡ get_or words i 0) → ((i : ℕ) → k + 8 ≤ i → get_or words' i 0 ≡ get_or words i 0)
+pub words_joined : (P : ℕ → ℕ → Type 0) (first words words' : List ℕ) (k : ℕ)
+    → WrittenBelow P k first words
+    → ((i : ℕ) → i < k → get_or words' i 0 ≡ get_or words i 0)
+    → ((i : ℕ) → k + 8 ≤ i → get_or words' i 0 ≡ get_or words i 0)
     → ((j : ℕ) → j < 8 → P (k + j) (get_or words' (k + j) 0))
     → WrittenBelow P (k + 8) first words'
 words_joined P first words words' k before below above new = record {
@@ -66,11 +77,14 @@ words_joined P first words words' k before below above new = record {
         subst (λ n. P n (get_or words' n 0)) e (new j (omega arith))
 
 -- a step of the loop over the rest: the word at k is new
-pub word_joined : (P : ℕ → ℕ → Type 0) (first words : List ℕ) (k v : ℕ) → k < length words → WrittenBelow P k first words → P k v
+pub word_joined : (P : ℕ → ℕ → Type 0) (first words : List ℕ) (k v : ℕ) → k < length words
+    → WrittenBelow P k first words → P k v
     → WrittenBelow P (k + 1) first (set words k v)
 word_joined P first words k v h before new = record {
   done = below_more (λ i. P i (get_or (set words k v) i 0)) k
-      (λ i l. let ne : i ≢ k = omega arith in subst (P i) (sym (get_or-set_other words k i v 0 ne)) (before.done i l))
+      (λ i l. let ne : i ≢ k = omega arith in
+      subst (P i) (sym (get_or-set_other words k i v 0 ne)) (before.done i l))
       (subst (P k) (sym (get_or-set_same words k v 0 h)) new);
-  rest = λ i le. let ne : i ≢ k = omega arith in get_or-set_other words k i v 0 ne ∙ before.rest i (omega arith);
+  rest = λ i le. let ne : i ≢ k = omega arith in get_or-set_other words k i v 0 ne
+      ∙ before.rest i (omega arith);
 }

@@ -1,8 +1,13 @@
 -- One lane of a plane, through each operation on words.
-use Rattle.std.proofs.Common.{◌≡◌, ℕ, zero, suc, ◌+◌, ◌-◌, ◌*◌, ◌/◌, ◌%◌, ◌^◌, ◌<◌, ◌≤◌, min, max, Bool, true, false, not, ◌&&◌, ◌||◌, ◌==◌, List, get_or, cond, refl, sym, ap, ap₂, ◌∙◌, subst, arith, nat_eq, zero-add, w64, mod-lt, zero-lt-suc, le_of_suc-le-suc, not-suc-le-zero, mul_assoc, map, ◌⊎◌, inl, inr}
+use Rattle.std.proofs.Common.{◌≡◌, ℕ, zero, suc, ◌+◌, ◌-◌, ◌*◌, ◌/◌, ◌%◌, ◌^◌, ◌<◌, ◌≤◌, min, max}
+use Rattle.std.proofs.Common.{Bool, true, false, not, ◌&&◌, ◌||◌, ◌==◌, List, get_or, cond, refl}
+use Rattle.std.proofs.Common.{sym, ap, ap₂, ◌∙◌, subst, arith, nat_eq, zero-add, w64, mod-lt}
+use Rattle.std.proofs.Common.{zero-lt-suc, le_of_suc-le-suc, not-suc-le-zero, mul_assoc, map, ◌⊎◌}
+use Rattle.std.proofs.Common.{inl, inr}
 use Rattle.std.specs.Int.{bit_at, trailing_zeros}
 use Rattle.std.specs.List.{range_with_len}
-use Rattle.std.proofs.lemmas.Nat.Bits.{and_pow, bit_at_and, bit_at_or, bit_at_xor, bit_at_not, bit_at-zero, bit_at_above, bit_at-trailing_zeros}
+use Rattle.std.proofs.lemmas.Nat.Bits.{and_pow, bit_at_and, bit_at_or, bit_at_xor, bit_at_not}
+use Rattle.std.proofs.lemmas.Nat.Bits.{bit_at-zero, bit_at_above, bit_at-trailing_zeros}
 use Rattle.std.proofs.lemmas.Nat.{pow_pos}
 use Rattle.std.proofs.lemmas.Simd.{bit_mask_l}
 use Rattle.std.proofs.lemmas.List.FromFn.{get_or-map-range_with_len}
@@ -20,7 +25,8 @@ bit_cases P p q (suc (suc r)) h = absurd (not-suc-le-zero (le_of_suc-le-suc (le_
 bit_lt : (n i : ℕ) → bit_at n i < 2
 bit_lt n i = mod-lt (n / 2 ^ i) (zero-lt-suc 1)
 
-two_bits : (P : ℕ → ℕ → Type 0) → P 0 0 → P 0 1 → P 1 0 → P 1 1 → (a b i : ℕ) → P (bit_at a i) (bit_at b i)
+two_bits : (P : ℕ → ℕ → Type 0) → P 0 0 → P 0 1 → P 1 0 → P 1 1 → (a b i : ℕ)
+    → P (bit_at a i) (bit_at b i)
 two_bits P p q r s a b i =
     bit_cases (λ x. P x (bit_at b i))
     (bit_cases (P 0) p q (bit_at b i) (bit_lt b i))
@@ -69,7 +75,8 @@ on-mod n i h =
     let m = 63 - i in
     let e : m + 1 + i ≡ 64 = omega arith in
     ap (λ x. x == 1)
-    (subst (λ w. bit_at (n % 2 ^ w) i ≡ bit_at n i) e (ap (λ x. x % 2) (field n (m + 1) i) ∙ mod-mod-pow (n / 2 ^ i) m 1))
+    (subst (λ w. bit_at (n % 2 ^ w) i ≡ bit_at n i) e (ap (λ x. x % 2) (field n (m + 1) i)
+    ∙ mod-mod-pow (n / 2 ^ i) m 1))
 
 pub on-shr : (x k j : ℕ) → on (x / 2 ^ k) j ≡ on x (k + j)
 unfolding on
@@ -91,10 +98,12 @@ on-shl_low k i y lt h =
     let m = k - i - 1 in
     let e : suc m + i ≡ k = omega arith in
     let moved : y * 2 ^ (suc m + i) / 2 ^ i ≡ y * 2 ^ suc m
-    = ap (λ x. x / 2 ^ i) (ap (λ x. y * x) (pow-add 2 (suc m) i) ∙ sym (mul_assoc y (2 ^ suc m) (2 ^ i)))
+    = ap (λ x. x / 2 ^ i) (ap (λ x. y * x) (pow-add 2 (suc m) i)
+    ∙ sym (mul_assoc y (2 ^ suc m) (2 ^ i)))
     ∙ shl-shr (y * 2 ^ suc m) i in
     on-mod (y * 2 ^ k) i h
-    ∙ ap (λ x. x == 1) (subst (λ w. bit_at (y * 2 ^ w) i ≡ 0) e (ap (λ x. x % 2) moved ∙ shifted_even y m))
+    ∙ ap (λ x. x == 1) (subst (λ w. bit_at (y * 2 ^ w) i ≡ 0) e (ap (λ x. x % 2) moved
+    ∙ shifted_even y m))
 
 -- a mask made of lanes
 pub on-mask_l : (ms : List Bool) (i : ℕ) → on (mask_l ms) i ≡ get_or ms i false
@@ -109,7 +118,8 @@ on-mask_l ms i = ap (λ x. x == 1) (bit_mask_l ms i) ∙ back (get_or ms i false
 abbrev pub lane_mask : ℕ → ℕ → Bool
 lane_mask keep k = top 63 (cond (nat_eq (bit_and keep (2 ^ k)) (2 ^ k)) 18446744073709551615 0)
 
-lane_mask_by : (p : ℕ) → 0 < p → (b : ℕ) → b < 2 → top 63 (cond (nat_eq (b * p) p) 18446744073709551615 0) ≡ (b == 1)
+lane_mask_by : (p : ℕ) → 0 < p → (b : ℕ) → b < 2
+    → top 63 (cond (nat_eq (b * p) p) 18446744073709551615 0) ≡ (b == 1)
 lane_mask_by p h b l =
     bit_cases (λ n. top 63 (cond (nat_eq (n * p) p) 18446744073709551615 0) ≡ (n == 1))
     (ap (λ t. top 63 (cond t 18446744073709551615 0)) (not_same (0 * p) p (omega (arith, h))))
@@ -128,8 +138,10 @@ lane_mask-on keep k =
     ap (λ n. top 63 (cond (nat_eq n (2 ^ k)) 18446744073709551615 0)) (and_pow keep k)
     ∙ lane_mask_by (2 ^ k) (pow_pos k) (bit_at keep k) (bit_lt keep k)
 
-pub lane_masks-on : (keep i : ℕ) → i < 8 → get_or (map (lane_mask keep) (range_with_len 0 8)) i false ≡ on keep i
-lane_masks-on keep i h = get_or-map-range_with_len (lane_mask keep) 0 8 i i false h (zero-add i) ∙ lane_mask-on keep i
+pub lane_masks-on : (keep i : ℕ) → i < 8
+    → get_or (map (lane_mask keep) (range_with_len 0 8)) i false ≡ on keep i
+lane_masks-on keep i h = get_or-map-range_with_len (lane_mask keep) 0 8 i i false h (zero-add i)
+    ∙ lane_mask-on keep i
 
 by_mask : (m x y : Bool) → ((m && x) || (not m && y)) ≡ cond m x y
 by_mask true true y = refl
@@ -137,10 +149,12 @@ by_mask true false y = refl
 by_mask false x y = refl
 
 -- the word of a selection
-pub selection_on : (m a b : ℕ) → m < 2 ^ 64 → IsSelection m a b (bit_or (bit_and m a) (bit_and (flip m) b))
+pub selection_on : (m a b : ℕ) → m < 2 ^ 64
+    → IsSelection m a b (bit_or (bit_and m a) (bit_and (flip m) b))
 selection_on m a b h i l =
     on-or (bit_and m a) (bit_and (flip m) b) i
-    ∙ ap₂ (λ x y. x || y) (on-and m a i) (on-and (flip m) b i ∙ ap (λ x. x && on b i) (on-flip m i h l))
+    ∙ ap₂ (λ x y. x || y) (on-and m a i) (on-and (flip m) b i
+    ∙ ap (λ x. x && on b i) (on-flip m i h l))
     ∙ by_mask (on m i) (on a i) (on b i)
 
 -- a bit that is set, below k
@@ -158,6 +172,7 @@ some_on n k h l p = record {
   is_set = ap (λ x. x == 1) ((bit_at-trailing_zeros w64 n p h).1);
 }
   where
-    below : (trailing_zeros w64 n < k) ⊎ (k ≤ trailing_zeros w64 n) → bit_at n (trailing_zeros w64 n) ≡ 1 → trailing_zeros w64 n < k
+    below : (trailing_zeros w64 n < k) ⊎ (k ≤ trailing_zeros w64 n)
+        → bit_at n (trailing_zeros w64 n) ≡ 1 → trailing_zeros w64 n < k
     below (inl lt) e = lt
     below (inr le) e = absurd (omega (arith, bit_at_above n k (trailing_zeros w64 n) l le, e))

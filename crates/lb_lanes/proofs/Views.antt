@@ -1,5 +1,7 @@
 -- Lanes of the integers that words stand for.
-use Rattle.std.proofs.Common.{◌≡◌, ◌≢◌, ℕ, zero, suc, ◌<◌, ◌==◌, Bool, true, false, List, [], ◌∷◌, ℤ, cond, map, set, replicate, length, refl, sym, ap, ◌∙◌, subst, arith, w64, SFits, to_z, of_z}
+use Rattle.std.proofs.Common.{◌≡◌, ◌≢◌, ℕ, zero, suc, ◌<◌, ◌==◌, Bool, true, false, List, [], ◌∷◌}
+use Rattle.std.proofs.Common.{ℤ, cond, map, set, replicate, length, refl, sym, ap, ◌∙◌, subst}
+use Rattle.std.proofs.Common.{arith, w64, SFits, to_z, of_z}
 use Rattle.std.proofs.lemmas.List.{get_or-set_same, get_or-set_other}
 use Rattle.std.proofs.lemmas.Simd.{get_or-replicate}
 use Rattle.std.proofs.lemmas.Int.{to_z-of_z}
@@ -12,7 +14,8 @@ lane-view (n ∷ bits) zero = refl
 lane-view (n ∷ bits) (suc i) = lane-view bits i
 
 -- the same, where the integers are known by another name
-pub view_lane : (bits : List ℕ) (now : List ℤ) (i : ℕ) → map (to_z w64) bits ≡ now → word_lane bits i ≡ lane_of now i
+pub view_lane : (bits : List ℕ) (now : List ℤ) (i : ℕ) → map (to_z w64) bits ≡ now
+    → word_lane bits i ≡ lane_of now i
 view_lane bits now i is = sym (lane-view bits i) ∙ ap (λ l. lane_of l i) is
 
 same : (a b : ℕ) → (a == b) ≡ true → a ≡ b
@@ -22,11 +25,13 @@ other : (a b : ℕ) → (a == b) ≡ false → a ≢ b
 other a b e = grind arith
 
 pub lane-set : (bits : List ℕ) (k i n : ℕ) → length bits ≡ 64 → k < 64
-    → lane_of (map (to_z w64) (set bits k n)) i ≡ cond (i == k) (to_z w64 n) (lane_of (map (to_z w64) bits) i)
+    → lane_of (map (to_z w64) (set bits k n)) i
+    ≡ cond (i == k) (to_z w64 n) (lane_of (map (to_z w64) bits) i)
 lane-set bits k i n long hk =
     lane-view (set bits k n) i ∙ by (i == k) refl
   where
-    by : (b : Bool) → (i == k) ≡ b → word_lane (set bits k n) i ≡ cond b (to_z w64 n) (lane_of (map (to_z w64) bits) i)
+    by : (b : Bool) → (i == k) ≡ b
+        → word_lane (set bits k n) i ≡ cond b (to_z w64 n) (lane_of (map (to_z w64) bits) i)
     by true e =
         let is = same i k e in
         subst (λ j. word_lane (set bits k n) j ≡ to_z w64 n) (sym is)
@@ -44,7 +49,8 @@ pub word_of : (n : ℕ) (v : ℤ) → SFits w64 v → n ≡ of_z w64 (to_z w64 (
 word_of n v f e = ap (to_z w64) (e ∙ ap (of_z w64) (to_z-of_z w64 v f)) ∙ to_z-of_z w64 v f
 
 -- what holds of the first eight numbers
-pub below8 : (P : ℕ → Type 0) → P 0 → P 1 → P 2 → P 3 → P 4 → P 5 → P 6 → P 7 → (i : ℕ) → i < 8 → P i
+pub below8 : (P : ℕ → Type 0) → P 0 → P 1 → P 2 → P 3 → P 4 → P 5 → P 6 → P 7 → (i : ℕ) → i < 8
+    → P i
 below8 P a b c d e f g h zero l = a
 below8 P a b c d e f g h (suc zero) l = b
 below8 P a b c d e f g h (suc (suc zero)) l = c
@@ -53,4 +59,5 @@ below8 P a b c d e f g h (suc (suc (suc (suc zero)))) l = e
 below8 P a b c d e f g h (suc (suc (suc (suc (suc zero))))) l = f
 below8 P a b c d e f g h (suc (suc (suc (suc (suc (suc zero)))))) l = g
 below8 P a b c d e f g h (suc (suc (suc (suc (suc (suc (suc zero))))))) l = h
-below8 P a b c d e f g h (suc (suc (suc (suc (suc (suc (suc (suc n)))))))) l = absurd (omega (arith, l))
+below8 P a b c d e f g h (suc (suc (suc (suc (suc (suc (suc (suc n)))))))) l =
+    absurd (omega (arith, l))

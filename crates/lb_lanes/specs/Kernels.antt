@@ -1,5 +1,6 @@
 -- What the kernels on 64 integer lanes do, lane by lane. All of it is this project's rule.
-use Rattle.std.specs.Prelude.{◌≡◌, ℕ, ◌<◌, Bool, true, false, Option, Some, None, List, [], ℤ, pos, IsTrue, EachIndex, slice_index_or, if◌then◌else◌}
+use Rattle.std.specs.Prelude.{◌≡◌, ℕ, ◌<◌, Bool, true, false, Option, Some, None, List, [], ℤ, pos}
+use Rattle.std.specs.Prelude.{IsTrue, EachIndex, slice_index_or, if◌then◌else◌}
 use Rattle.std.specs.Int.{cast_signed, w64}
 use Rattle.lb_lanes.specs.Operators.{is_int}
 use Rattle.lb_lanes.specs.Planes.{on}

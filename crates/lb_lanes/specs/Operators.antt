@@ -1,7 +1,8 @@
 -- The operators on integers as tables: none where the operator has a fault.
 -- Which operators there are, and that `div` truncates toward zero: the Lustre V6 reference manual,
 -- on data operators. The range of `int`, and what is a fault: this project's rule.
-use Rattle.std.specs.Prelude.{Bool, not, ◌&&◌, Option, Some, None, ℤ, pos, negsuc, ◌+ℤ◌, ◌-ℤ◌, ◌*ℤ◌, neg_ℤ, int_le, int_div, int_rem, if◌then◌else◌}
+use Rattle.std.specs.Prelude.{Bool, not, ◌&&◌, Option, Some, None, ℤ, pos, negsuc, ◌+ℤ◌, ◌-ℤ◌, ◌*ℤ◌}
+use Rattle.std.specs.Prelude.{neg_ℤ, int_le, int_div, int_rem, if◌then◌else◌}
 use Rattle.std.specs.Ordering.{int_eq}
 
 -- the range of `int`: -2147483648 to 2147483647

@@ -1,10 +1,12 @@
 //! Integer lanes: 64 integers side by side.
 
-ghost use Rattle.std.specs.Prelude.{◌≡◌, ℕ, ◌<◌, ◌==◌, not, List, ℤ, map, int_lt, int_le, if◌then◌else◌};
+ghost use Rattle.std.specs.Prelude.{◌≡◌, ℕ, ◌<◌, ◌==◌, not, List, ℤ, map, int_lt, int_le};
+ghost use Rattle.std.specs.Prelude.{if◌then◌else◌};
 ghost use Rattle.std.specs.Int.{cast_signed, w64};
 ghost use Rattle.std.specs.Ordering.{int_eq};
 ghost use Rattle.lb_lanes.specs.Kernels.{AreInts, IsBlend, IsKernel, lane_of};
-ghost use Rattle.lb_lanes.specs.Operators.{difference_of, divided_by, is_int, lawful, negation_of, product_of, quotient_of, remainder_of, sum_of};
+ghost use Rattle.lb_lanes.specs.Operators.{difference_of, divided_by, is_int, lawful, negation_of};
+ghost use Rattle.lb_lanes.specs.Operators.{product_of, quotient_of, remainder_of, sum_of};
 ghost use Rattle.lb_lanes.specs.Planes.{IsPlaneOf};
 
 use crate::comparisons::{AtMost, Below, Equal, Outside, tested};

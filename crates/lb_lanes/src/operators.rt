@@ -4,7 +4,8 @@
 //! formed in 64 bits, where two integers of 32 bits never wrap, and then tested for the range of
 //! `int`. Quotients are formed one by one, over divisors that were made harmless first.
 
-ghost use Rattle.std.specs.Prelude.{◌≡◌, ℕ, ◌+◌, ◌<◌, ◌≤◌, ℤ, pos, ◌+ℤ◌, ◌-ℤ◌, ◌*ℤ◌, neg_ℤ, int_div, int_rem, IsTrue, length, slice_index, if◌then◌else◌};
+ghost use Rattle.std.specs.Prelude.{◌≡◌, ℕ, ◌+◌, ◌<◌, ◌≤◌, ℤ, pos, ◌+ℤ◌, ◌-ℤ◌, ◌*ℤ◌, neg_ℤ};
+ghost use Rattle.std.specs.Prelude.{int_div, int_rem, IsTrue, length, slice_index, if◌then◌else◌};
 ghost use Rattle.std.specs.Int.{cast_signed, w64};
 ghost use Rattle.lb_lanes.specs.Kernels.{AreIntsBelow, IsBlendBelow, IsKernelBelow, word_lane};
 ghost use Rattle.lb_lanes.specs.Operators.{can_divide, divided_by, is_int, lawful};

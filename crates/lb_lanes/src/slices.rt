@@ -1,6 +1,7 @@
 //! Kernels on slices of any length: chunks of eight words, and a plain loop for the rest.
 
-ghost use Rattle.std.specs.Prelude.{◌≡◌, ℕ, ◌+◌, ◌<◌, ◌≤◌, not, ℤ, pos, length, slice_index, slice_index_or, bit_and, bit_or, bit_xor};
+ghost use Rattle.std.specs.Prelude.{◌≡◌, ℕ, ◌+◌, ◌<◌, ◌≤◌, not, ℤ, pos, length, slice_index};
+ghost use Rattle.std.specs.Prelude.{slice_index_or, bit_and, bit_or, bit_xor};
 ghost use Rattle.std.specs.List.{list_any};
 ghost use Rattle.lb_lanes.specs.Kernels.{CommitsInts, word_lane};
 ghost use Rattle.lb_lanes.specs.Operators.{is_int};

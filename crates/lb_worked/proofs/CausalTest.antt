@@ -1,14 +1,18 @@
 -- Tests of causality: an order in which each element comes after all that it needs, and a cycle of
 -- elements that each need the next.
-use Rattle.std.proofs.Common.{◌≡◌, ℕ, zero, suc, ◌<◌, inl, inr, Bool, true, ◌&&◌, ◌||◌, not, nat_lt, if◌then◌else◌, List, [], ◌∷◌, length, map, Some, refl, subst, arith}
+use Rattle.std.proofs.Common.{◌≡◌, ℕ, zero, suc, ◌<◌, inl, inr, Bool, true, ◌&&◌, ◌||◌, not, nat_lt}
+use Rattle.std.proofs.Common.{if◌then◌else◌, List, [], ◌∷◌, length, map, Some, refl, subst, arith}
 use Rattle.std.specs.List.{list_all, list_any}
+use Rattle.std.proofs.lemmas.Bool.{and_parts}
 use Rattle.lb_syntax.specs.Lists.{Every, In}
 use Rattle.lb_syntax.specs.Refusals.{E13}
 use Rattle.lb_syntax.specs.Tree.{Name}
 use Rattle.lb_static.specs.Instances.{Program, Path, Root, Observer, Child}
-use Rattle.lb_check.specs.Needs.{Element, Definition, definitions, Needs, Reaches, at_once, through, IsCausal, IsCyclic}
+use Rattle.lb_check.specs.Needs.{Element, Definition, definitions, Needs, Reaches, at_once, through}
+use Rattle.lb_check.specs.Needs.{IsCausal, IsCyclic}
 use Rattle.lb_check.specs.Acceptance.{refusal, IsAccepted, IsFirst}
-use Rattle.lb_worked.proofs.Tests.{Test, holds, fails, so, both, each, one_or_other, is_none, and_first, and_second, equal_nats, equal_names}
+use Rattle.lb_worked.proofs.Tests.{Test, holds, fails, so, both, each, one_or_other, is_none}
+use Rattle.lb_worked.proofs.Tests.{equal_nats, equal_names}
 
 -- ## The same element
 
@@ -52,8 +56,8 @@ one_of :
     {A : Type 0} (f : A → Bool) (x : A) (xs : List A) → list_all f xs ≡ true → In x xs →
     f x ≡ true
 one_of f x [] h i = absurd i
-one_of f x (y ∷ ys) h (inl e) = subst (λ z. f z ≡ true) e (and_first (f y) (list_all f ys) h)
-one_of f x (y ∷ ys) h (inr i) = one_of f x ys (and_second (f y) (list_all f ys) h) i
+one_of f x (y ∷ ys) h (inl e) = subst (λ z. f z ≡ true) e (and_parts (f y) (list_all f ys) h).0
+one_of f x (y ∷ ys) h (inr i) = one_of f x ys (and_parts (f y) (list_all f ys) h).1 i
 
 is_less : (n m : ℕ) → nat_lt n m ≡ true → n < m
 is_less n m e = grind arith

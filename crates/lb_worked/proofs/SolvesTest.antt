@@ -1,19 +1,26 @@
 -- A test of whether a history solves a program on a trace, and with it the verdict of the trace.
-use Rattle.std.proofs.Common.{◌≡◌, ℕ, ◌+◌, Bool, true, Option, Some, None, IfSome, List, [], ◌∷◌, ◌++◌, length, replicate, flat_map, subst}
+use Rattle.std.proofs.Common.{◌≡◌, ℕ, ◌+◌, Bool, true, Option, Some, None, IfSome, List, [], ◌∷◌}
+use Rattle.std.proofs.Common.{◌++◌, length, replicate, flat_map, subst}
 use Rattle.std.specs.List.{range_with_len}
 use Rattle.lb_syntax.specs.declared.tree.ArrayIterator.{ArrayIterator}
 use Rattle.lb_syntax.specs.Lists.{Every}
-use Rattle.lb_syntax.specs.Tree.{Name, Node_named, Expr, Call, Iterate, Exprs, Declaration, Node, Statement, Equation, Assertion}
-use Rattle.lb_static.specs.Instances.{Program, Instance, Path, Root, Observer, Child, instance_at, node_named, instances}
+use Rattle.lb_syntax.specs.Tree.{Name, Node_named, Expr, Call, Iterate, Exprs, Declaration, Node}
+use Rattle.lb_syntax.specs.Tree.{Statement, Equation, Assertion}
+use Rattle.lb_static.specs.Instances.{Program, Instance, Path, Root, Observer, Child, instance_at}
+use Rattle.lb_static.specs.Instances.{node_named, instances}
 use Rattle.lb_static.specs.Shapes.{variables, width, input_kinds}
 use Rattle.lb_check.specs.Scalars.{Stream}
 use Rattle.lb_check.specs.Clocks.{Clock, base_clock, argument_clocks}
 use Rattle.lb_check.specs.Occurrences.{Occurrence, node_occurrences, statements}
 use Rattle.lb_check.specs.Streams.{History, presence, all_streams, argument_streams, number}
-use Rattle.lb_check.specs.Solutions.{Inputs, Receives, iterator_inputs, IsCallJoined, IsIteratorJoined, IsJoinedAt, IsJoined, AreEqual, streams_at, fits, variable_presence, Fits, is_row, columns_of, columns_at, IsObserved, IsGiven, SolvesAt, Solves}
+use Rattle.lb_check.specs.Solutions.{Inputs, Receives, iterator_inputs, IsCallJoined}
+use Rattle.lb_check.specs.Solutions.{IsIteratorJoined, IsJoinedAt, IsJoined, AreEqual, streams_at}
+use Rattle.lb_check.specs.Solutions.{fits, variable_presence, Fits, is_row, columns_of, columns_at}
+use Rattle.lb_check.specs.Solutions.{IsObserved, IsGiven, SolvesAt, Solves}
 use Rattle.lb_check.specs.Verdicts.{HasVerdict, Ends, verdict_from}
 use Rattle.lb_check.specs.declared.verdict.Verdict.{Verdict}
-use Rattle.lb_worked.proofs.Tests.{Test, holds, fails, is_so, so, both, each, if_some, equal_nats, equal_columns, equal_ticks}
+use Rattle.lb_worked.proofs.Tests.{Test, holds, fails, is_so, so, both, each, if_some, equal_nats}
+use Rattle.lb_worked.proofs.Tests.{equal_columns, equal_ticks}
 use Rattle.lb_worked.proofs.Verdicts.{ends}
 
 module _ (H : History) where

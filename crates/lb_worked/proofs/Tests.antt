@@ -1,9 +1,10 @@
 -- Facts with tests: where the test is passed, the fact holds.
-use Rattle.std.proofs.Common.{◌≡◌, ℕ, Bool, true, false, ◌&&◌, ◌||◌, nat_eq, Option, Some, None, IfSome, List, [], ◌∷◌, refl, ap}
+use Rattle.std.proofs.Common.{◌≡◌, ℕ, Bool, true, false, ◌&&◌, ◌||◌, nat_eq, Option, Some, None}
+use Rattle.std.proofs.Common.{IfSome, List, [], ◌∷◌, refl, ap}
 use Rattle.std.specs.Ordering.{int_eq}
 use Rattle.std.specs.Prelude.{ℤ}
 use Rattle.std.specs.Str.{bytes_eq}
-use Rattle.std.proofs.lemmas.Bool.{eqb-true}
+use Rattle.std.proofs.lemmas.Bool.{eqb-true, and_parts}
 use Rattle.std.proofs.lemmas.Bool.Decides.{Decides-int_eq}
 use Rattle.std.proofs.lemmas.Slice.Eq.{bytes_eq-Decides}
 use Rattle.lb_syntax.specs.Lists.{Every}
@@ -16,14 +17,6 @@ pub record Test (A : Type 0) : Type 0 where
   pub shows : passed ≡ true → A
 
 -- ## Tests of tests
-
-pub and_first : (a b : Bool) → (a && b) ≡ true → a ≡ true
-and_first true b e = refl
-and_first false b e = cc
-
-pub and_second : (a b : Bool) → (a && b) ≡ true → b ≡ true
-and_second true b e = e
-and_second false b e = cc
 
 pub or_shows :
     {C : Type 0} (a b : Bool) → (a ≡ true → C) → (b ≡ true → C) → (a || b) ≡ true → C
@@ -50,7 +43,8 @@ abbrev pub both : {A B : Type 0} → Test A → Test B → Test (A × B)
 both s t = record {
   passed = s.passed && t.passed;
   shows = λ e.
-      (s.shows (and_first s.passed t.passed e), t.shows (and_second s.passed t.passed e));
+      let p = and_parts s.passed t.passed e in
+      (s.shows p.0, t.shows p.1);
 }
 
 -- a fact that follows from either of two

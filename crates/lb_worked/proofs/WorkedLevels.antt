@@ -6,7 +6,12 @@ use Rattle.lb_syntax.specs.declared.token.Token.TheVariants.{Literal as number, 
 use Rattle.lb_syntax.specs.Tokens.{word, value_of, piece, pieces_after}
 use Rattle.lb_syntax.specs.Tree.{Expr}
 use Rattle.lb_syntax.specs.Readers.{expect, name_at}
-use Rattle.lb_syntax.specs.Reading.{expression_at, static_at, tree_at, level_at, first, named, marked, climb, takes, choice, until, infix_at, list_until, list_at, tail_at, clock_at, clock_name_at, operands, items, iterate, iterator_of, applied_at, operator_at, separator, static_tree, static_level_at, static_first, static_takes, arguments_at, size_at, static_call, statics_at}
+use Rattle.lb_syntax.specs.Reading.{expression_at, static_at, tree_at, level_at, first, named}
+use Rattle.lb_syntax.specs.Reading.{marked, climb, takes, choice, until, infix_at, list_until}
+use Rattle.lb_syntax.specs.Reading.{list_at, tail_at, clock_at, clock_name_at, operands, items}
+use Rattle.lb_syntax.specs.Reading.{iterate, iterator_of, applied_at, operator_at, separator}
+use Rattle.lb_syntax.specs.Reading.{static_tree, static_level_at, static_first, static_takes}
+use Rattle.lb_syntax.specs.Reading.{arguments_at, size_at, static_call, statics_at}
 use Rattle.lb_worked.specs.WorkedLevels as worked
 use Rattle.lb_worked.specs.WorkedLevels.{SpellsOnly, SpellsNone, AreLevels, tokens_of}
 use Rattle.lb_syntax.proofs.Readers.{some_is}
@@ -32,7 +37,10 @@ partly e t rest ts h other s =
     absurd cc
 
 pub are_levels : AreLevels
-unfolding expression_at static_at tree_at level_at first named marked climb takes choice until infix_at list_until list_at tail_at clock_at clock_name_at operands items iterate iterator_of applied_at operator_at separator static_tree static_level_at static_first static_takes arguments_at size_at static_call statics_at expect name_at word value_of piece pieces_after
+unfolding expression_at static_at tree_at level_at first named marked climb takes choice until
+    infix_at list_until list_at tail_at clock_at clock_name_at operands items iterate iterator_of
+    applied_at operator_at separator static_tree static_level_at static_first static_takes
+    arguments_at size_at static_call statics_at expect name_at word value_of piece pieces_after
 are_levels = record {
   choice_takes_the_rest =
       only worked.choice_takes_the_rest_tree worked.choice_takes_the_rest_tokens refl;

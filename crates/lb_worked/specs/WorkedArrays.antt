@@ -1,11 +1,17 @@
 -- Programs with arrays, iterators and an observer.
 -- Source: this project's rule.
 use Rattle.std.specs.Prelude.{true, [], ◌∷◌}
-use Rattle.lb_syntax.specs.declared.tree.BinaryOperator.TheVariants.{And, Equal, Unequal, Less, Greater, AtLeast, Plus, Minus, Times, Divide}
+use Rattle.lb_syntax.specs.declared.tree.BinaryOperator.TheVariants.{And, Equal, Unequal, Less}
+use Rattle.lb_syntax.specs.declared.tree.BinaryOperator.TheVariants.{Greater, AtLeast, Plus, Minus}
+use Rattle.lb_syntax.specs.declared.tree.BinaryOperator.TheVariants.{Times, Divide}
 use Rattle.lb_syntax.specs.declared.tree.ArrayIterator.TheVariants.{Map, Red, Fill}
-use Rattle.lb_syntax.specs.Tree.{Whole, Combined, Literal, Truth, Group, Binary, If, Arrow, Fby, Pre, Copies, Index, Slice, Join, Array, Assertion, Node}
+use Rattle.lb_syntax.specs.Tree.{Whole, Combined, Literal, Truth, Group, Binary, If, Arrow, Fby}
+use Rattle.lb_syntax.specs.Tree.{Pre, Copies, Index, Slice, Join, Array, Assertion, Node}
 use Rattle.lb_static.specs.Instances.{Program}
-use Rattle.lb_static.specs.WorkedTrees.{static, v, exprs, call, call_with, when_true, iterate, iterate_symbol, int_var, bool_var, int_array, on_true, equation, equations, node, with_parameters, main, constant, program, alone, bench}
+use Rattle.lb_static.specs.WorkedTrees.{static, v, exprs, call, call_with, when_true, iterate}
+use Rattle.lb_static.specs.WorkedTrees.{iterate_symbol, int_var, bool_var, int_array, on_true}
+use Rattle.lb_static.specs.WorkedTrees.{equation, equations, node, with_parameters, main, constant}
+use Rattle.lb_static.specs.WorkedTrees.{program, alone, bench}
 use Rattle.lb_check.specs.Solutions.{Inputs}
 use Rattle.lb_worked.specs.WorkedSamples.{trace}
 

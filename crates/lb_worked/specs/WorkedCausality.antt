@@ -1,11 +1,15 @@
 -- Programs with and without an element that needs itself.
 -- Source: this project's rule.
 use Rattle.std.specs.Prelude.{true, [], ◌∷◌}
-use Rattle.lb_syntax.specs.declared.tree.BinaryOperator.TheVariants.{Equal, Less, Plus, Minus, Times}
+use Rattle.lb_syntax.specs.declared.tree.BinaryOperator.TheVariants.{Equal, Less, Plus, Minus}
+use Rattle.lb_syntax.specs.declared.tree.BinaryOperator.TheVariants.{Times}
 use Rattle.lb_syntax.specs.declared.tree.ArrayIterator.TheVariants.{Map, Fill}
-use Rattle.lb_syntax.specs.Tree.{Whole, Literal, Truth, Group, Binary, If, Arrow, Fby, Pre, Current, Index, Slice, Join, Array, Node}
+use Rattle.lb_syntax.specs.Tree.{Whole, Literal, Truth, Group, Binary, If, Arrow, Fby, Pre, Current}
+use Rattle.lb_syntax.specs.Tree.{Index, Slice, Join, Array, Node}
 use Rattle.lb_static.specs.Instances.{Program}
-use Rattle.lb_static.specs.WorkedTrees.{v, exprs, call, when_true, iterate, int_var, bool_var, int_array, on_true, equation, equations, node, main, program, alone, bench}
+use Rattle.lb_static.specs.WorkedTrees.{v, exprs, call, when_true, iterate, int_var, bool_var}
+use Rattle.lb_static.specs.WorkedTrees.{int_array, on_true, equation, equations, node, main}
+use Rattle.lb_static.specs.WorkedTrees.{program, alone, bench}
 
 -- ## Cycles
 

@@ -1,11 +1,15 @@
 -- Programs with slower clocks.
 -- Source: this project's rule.
 use Rattle.std.specs.Prelude.{true, [], ◌∷◌}
-use Rattle.lb_syntax.specs.declared.tree.BinaryOperator.TheVariants.{Equal, Less, Greater, Plus, Times, Divide}
+use Rattle.lb_syntax.specs.declared.tree.BinaryOperator.TheVariants.{Equal, Less, Greater, Plus}
+use Rattle.lb_syntax.specs.declared.tree.BinaryOperator.TheVariants.{Times, Divide}
 use Rattle.lb_syntax.specs.declared.tree.ArrayIterator.TheVariants.{Map}
-use Rattle.lb_syntax.specs.Tree.{Whole, Literal, Truth, Group, Binary, Arrow, Pre, Current, Index, Array, Assertion, Node}
+use Rattle.lb_syntax.specs.Tree.{Whole, Literal, Truth, Group, Binary, Arrow, Pre, Current, Index}
+use Rattle.lb_syntax.specs.Tree.{Array, Assertion, Node}
 use Rattle.lb_static.specs.Instances.{Program}
-use Rattle.lb_static.specs.WorkedTrees.{v, exprs, call, when_true, when_false, iterate, int_var, bool_var, int_array, bool_array, on_true, on_false, equation, equations, node, main, constant, program, alone}
+use Rattle.lb_static.specs.WorkedTrees.{v, exprs, call, when_true, when_false, iterate, int_var}
+use Rattle.lb_static.specs.WorkedTrees.{bool_var, int_array, bool_array, on_true, on_false}
+use Rattle.lb_static.specs.WorkedTrees.{equation, equations, node, main, constant, program, alone}
 
 -- ## Memories on a slower clock
 

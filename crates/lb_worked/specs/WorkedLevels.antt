@@ -4,12 +4,16 @@ use Rattle.std.specs.Prelude.{◌≡◌, true, false, List, [], ◌∷◌, Some,
 use Prim.Native.String.{String}
 use Rattle.lb_syntax.specs.declared.token.Mark.TheVariants as m
 use Rattle.lb_syntax.specs.declared.token.Token.{Token}
-use Rattle.lb_syntax.specs.declared.token.Token.TheVariants.{Name as name, Literal as number, Mark as mark}
+use Rattle.lb_syntax.specs.declared.token.Token.TheVariants.{Name as name, Literal as number}
+use Rattle.lb_syntax.specs.declared.token.Token.TheVariants.{Mark as mark}
 use Rattle.lb_syntax.specs.declared.tree.UnaryOperator.TheVariants.{Not, Negate}
-use Rattle.lb_syntax.specs.declared.tree.BinaryOperator.TheVariants.{Or, Xor, And, Implies, Equal, Less, Plus, Minus, Times, Divide, Modulo}
+use Rattle.lb_syntax.specs.declared.tree.BinaryOperator.TheVariants.{Or, Xor, And, Implies, Equal}
+use Rattle.lb_syntax.specs.declared.tree.BinaryOperator.TheVariants.{Less, Plus, Minus, Times}
+use Rattle.lb_syntax.specs.declared.tree.BinaryOperator.TheVariants.{Divide, Modulo}
 use Rattle.lb_syntax.specs.declared.tree.ArrayIterator.TheVariants.{Map}
 use Rattle.lb_syntax.specs.Tree.{Name, Static, Whole, Named, Negated, Combined, Grouped, Symbol}
-use Rattle.lb_syntax.specs.Tree.{Expr, Literal, Truth, Variable, Unary, Binary, If, Arrow, Pre, When, Copies, Join, Array, Call, Iterate, Nil, Cons}
+use Rattle.lb_syntax.specs.Tree.{Expr, Literal, Truth, Variable, Unary, Binary, If, Arrow, Pre}
+use Rattle.lb_syntax.specs.Tree.{When, Copies, Join, Array, Call, Iterate, Nil, Cons}
 use Rattle.lb_syntax.specs.Spelling.{Spells, IsStatic}
 use Rattle.lb_syntax.specs.Tokens.{tokens}
 

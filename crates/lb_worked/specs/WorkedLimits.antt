@@ -5,7 +5,8 @@ use Rattle.lb_syntax.specs.declared.tree.BinaryOperator.TheVariants.{And, Equal}
 use Rattle.lb_syntax.specs.declared.tree.ArrayIterator.TheVariants.{Map}
 use Rattle.lb_syntax.specs.Tree.{Whole, Truth, Binary, Copies, Index, Node, Call, Name, Expr}
 use Rattle.lb_static.specs.Instances.{Program}
-use Rattle.lb_static.specs.WorkedTrees.{v, exprs, iterate, int_var, int_array, equation, node, main, program, alone}
+use Rattle.lb_static.specs.WorkedTrees.{v, exprs, iterate, int_var, int_array, equation, node, main}
+use Rattle.lb_static.specs.WorkedTrees.{program, alone}
 
 -- ## Levels
 

@@ -3,7 +3,9 @@
 use Rattle.std.specs.Prelude.{[], ◌∷◌, ◌++◌, codes}
 use Rattle.lb_syntax.specs.Tokens.{Text}
 use Rattle.lb_syntax.specs.Tree.{Whole, Literal, Assertion, Source}
-use Rattle.lb_static.specs.WorkedTrees.{static, int_var, bool_var, int_array, on_true, on_false, equation, equations, node, function, with_parameters, constant}
+use Rattle.lb_static.specs.WorkedTrees.{static, int_var, bool_var, int_array, on_true, on_false}
+use Rattle.lb_static.specs.WorkedTrees.{equation, equations, node, function, with_parameters}
+use Rattle.lb_static.specs.WorkedTrees.{constant}
 
 abbrev pub whole_text : Text
 whole_text =

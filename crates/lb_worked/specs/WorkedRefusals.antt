@@ -1,11 +1,17 @@
 -- Programs that are refused, and near ones that are not.
 -- Source: this project's rule.
 use Rattle.std.specs.Prelude.{true, List, [], ◌∷◌}
-use Rattle.lb_syntax.specs.declared.tree.BinaryOperator.TheVariants.{Equal, Less, Plus, Times, Divide}
+use Rattle.lb_syntax.specs.declared.tree.BinaryOperator.TheVariants.{Equal, Less, Plus, Times}
+use Rattle.lb_syntax.specs.declared.tree.BinaryOperator.TheVariants.{Divide}
 use Rattle.lb_syntax.specs.declared.tree.ArrayIterator.TheVariants.{Map, Red, Fill}
-use Rattle.lb_syntax.specs.Tree.{Whole, Negated, Combined, Grouped, Literal, Truth, Group, Binary, If, Pre, Current, Copies, Index, Slice, Join, Array, Assertion, Node, Declaration, Statement}
+use Rattle.lb_syntax.specs.Tree.{Whole, Negated, Combined, Grouped, Literal, Truth, Group, Binary}
+use Rattle.lb_syntax.specs.Tree.{If, Pre, Current, Copies, Index, Slice, Join, Array, Assertion}
+use Rattle.lb_syntax.specs.Tree.{Node, Declaration, Statement}
 use Rattle.lb_static.specs.Instances.{Program}
-use Rattle.lb_static.specs.WorkedTrees.{static, v, exprs, call, call_with, when_true, iterate, iterate_symbol, int_var, bool_var, int_array, equation, equations, node, function, with_parameters, main, constant, program, alone, bench}
+use Rattle.lb_static.specs.WorkedTrees.{static, v, exprs, call, call_with, when_true, iterate}
+use Rattle.lb_static.specs.WorkedTrees.{iterate_symbol, int_var, bool_var, int_array, equation}
+use Rattle.lb_static.specs.WorkedTrees.{equations, node, function, with_parameters, main, constant}
+use Rattle.lb_static.specs.WorkedTrees.{program, alone, bench}
 
 -- node main(x, y: int; c: bool) returns (ok: bool); with these locals and statements
 abbrev changed : List Declaration → List Statement → Node

@@ -1,6 +1,7 @@
 -- Short ways to write the traces of worked examples, and the histories that solve them.
 -- Source: this project's words.
-use Rattle.std.specs.Prelude.{ℕ, Bool, true, false, ◌&&◌, nat_eq, Option, Some, None, List, map, filter, length, slice_get, replicate, codes, find, if◌then◌else◌}
+use Rattle.std.specs.Prelude.{ℕ, Bool, true, false, ◌&&◌, nat_eq, Option, Some, None, List, map}
+use Rattle.std.specs.Prelude.{filter, length, slice_get, replicate, codes, find, if◌then◌else◌}
 use Rattle.std.specs.Str.{bytes_eq}
 use Rattle.std.specs.Str.Parse.{signed_digits_value}
 use Prim.Native.String.{String}

@@ -2,10 +2,14 @@
 -- Source: this project's rule.
 use Rattle.std.specs.Prelude.{true, [], ◌∷◌}
 use Rattle.lb_syntax.specs.declared.tree.UnaryOperator.TheVariants.{Not, Negate}
-use Rattle.lb_syntax.specs.declared.tree.BinaryOperator.TheVariants.{Or, Xor, And, Implies, Equal, Unequal, Less, AtMost, Greater, AtLeast, Plus, Divide, Modulo}
-use Rattle.lb_syntax.specs.Tree.{Literal, Truth, Group, Unary, Binary, If, Arrow, Fby, Pre, Current, AtMostOne, Nor, Assertion}
+use Rattle.lb_syntax.specs.declared.tree.BinaryOperator.TheVariants.{Or, Xor, And, Implies, Equal}
+use Rattle.lb_syntax.specs.declared.tree.BinaryOperator.TheVariants.{Unequal, Less, AtMost, Greater}
+use Rattle.lb_syntax.specs.declared.tree.BinaryOperator.TheVariants.{AtLeast, Plus, Divide, Modulo}
+use Rattle.lb_syntax.specs.Tree.{Literal, Truth, Group, Unary, Binary, If, Arrow, Fby, Pre, Current}
+use Rattle.lb_syntax.specs.Tree.{AtMostOne, Nor, Assertion}
 use Rattle.lb_static.specs.Instances.{Program}
-use Rattle.lb_static.specs.WorkedTrees.{v, exprs, when_true, int_var, bool_var, equation, main, alone}
+use Rattle.lb_static.specs.WorkedTrees.{v, exprs, when_true, int_var, bool_var, equation, main}
+use Rattle.lb_static.specs.WorkedTrees.{alone}
 use Rattle.lb_check.specs.Solutions.{Inputs}
 use Rattle.lb_worked.specs.WorkedSamples.{trace}
 

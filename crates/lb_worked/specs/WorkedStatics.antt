@@ -2,11 +2,15 @@
 -- Source: this project's rule.
 use Rattle.std.specs.Prelude.{true, List, [], ◌∷◌, None, ℕ, ℤ, pos, Option, length, codes, map}
 use Prim.Native.String.{String}
-use Rattle.lb_syntax.specs.declared.tree.BinaryOperator.TheVariants.{Equal, Plus, Minus, Times, Divide, Modulo}
+use Rattle.lb_syntax.specs.declared.tree.BinaryOperator.TheVariants.{Equal, Plus, Minus, Times}
+use Rattle.lb_syntax.specs.declared.tree.BinaryOperator.TheVariants.{Divide, Modulo}
 use Rattle.lb_syntax.specs.declared.tree.ArrayIterator.TheVariants.{Map, Red}
-use Rattle.lb_syntax.specs.Tree.{Static, Whole, Negated, Combined, Grouped, Literal, Truth, Binary, Copies, Index, Array, Name}
+use Rattle.lb_syntax.specs.Tree.{Static, Whole, Negated, Combined, Grouped, Literal, Truth, Binary}
+use Rattle.lb_syntax.specs.Tree.{Copies, Index, Array, Name}
 use Rattle.lb_static.specs.Instances.{Program, Path, instances}
-use Rattle.lb_static.specs.WorkedTrees.{static, v, exprs, call, call_with, iterate, int_var, bool_var, int_array, equation, node, with_parameters, main, constant, program, alone, bench}
+use Rattle.lb_static.specs.WorkedTrees.{static, v, exprs, call, call_with, iterate, int_var}
+use Rattle.lb_static.specs.WorkedTrees.{bool_var, int_array, equation, node, with_parameters, main}
+use Rattle.lb_static.specs.WorkedTrees.{constant, program, alone, bench}
 use Rattle.lb_static.specs.StaticValues.{value_under, constant_value}
 use Rattle.lb_static.specs.Shapes.{signature}
 use Rattle.lb_static.specs.Names.{reached_nodes, reached_constants}

@@ -4,9 +4,18 @@ ghost use Rattle.std.specs.Prelude.{List, [], ◌∷◌, ◌≡◌};
 ghost use Rattle.lb_syntax.specs.Lists.{Every};
 ghost use Rattle.lb_check.specs.Acceptance.{IsAccepted};
 ghost use Rattle.lb_check.specs.Verdicts.{HasVerdict};
-ghost use Rattle.lb_check.specs.declared.verdict.Verdict.TheVariants.{Passed, Fault, Assertion as Assertion_fails, False};
+ghost use Rattle.lb_check.specs.declared.verdict.Verdict.TheVariants.{Passed, Fault};
+ghost use Rattle.lb_check.specs.declared.verdict.Verdict.TheVariants.{Assertion as Assertion_fails};
+ghost use Rattle.lb_check.specs.declared.verdict.Verdict.TheVariants.{False};
 ghost use Rattle.lb_worked.specs.WorkedSamples.{trace};
-ghost use Rattle.lb_worked.specs.WorkedArrays.{counters, digits, differences, pairs, unrolled, two_maps, far_steps, sliced, matrix, matrix_row, chosen_array, whole_choice_faults, array_memory, copied, size_by_a_constant, static_parameter, unused_input, assertion_with_a_fault, element_not_taken, value_not_sampled, call_not_chosen, symbol_not_chosen, two_results, loop_through_pre, exchanged, observed};
+ghost use Rattle.lb_worked.specs.WorkedArrays.{counters, digits, differences, pairs, unrolled};
+ghost use Rattle.lb_worked.specs.WorkedArrays.{two_maps, far_steps, sliced, matrix, matrix_row};
+ghost use Rattle.lb_worked.specs.WorkedArrays.{chosen_array, whole_choice_faults, array_memory};
+ghost use Rattle.lb_worked.specs.WorkedArrays.{copied, size_by_a_constant, static_parameter};
+ghost use Rattle.lb_worked.specs.WorkedArrays.{unused_input, assertion_with_a_fault};
+ghost use Rattle.lb_worked.specs.WorkedArrays.{element_not_taken, value_not_sampled};
+ghost use Rattle.lb_worked.specs.WorkedArrays.{call_not_chosen, symbol_not_chosen, two_results};
+ghost use Rattle.lb_worked.specs.WorkedArrays.{loop_through_pre, exchanged, observed};
 
 /// `map` runs an instance an element, `red` and `fill` go from the first element on.
 pub fn iterators()

@@ -7,7 +7,14 @@ ghost use Rattle.lb_check.specs.Acceptance.{IsAccepted};
 ghost use Rattle.lb_check.specs.Verdicts.{HasVerdict};
 ghost use Rattle.lb_check.specs.declared.verdict.Verdict.TheVariants.{Passed};
 ghost use Rattle.lb_worked.specs.WorkedSamples.{trace};
-ghost use Rattle.lb_worked.specs.WorkedCausality.{each_other, itself, clock_of_itself, clock_of_a_memory, both_branches, both_sides, first_side_of_fby, unused_by_product, crossed_results, through_the_observer, one_after_the_other, through_pre, through_fby, elements_of_one_array, running_sums, one_array_in_a_circle, iterated_array, slower_loop};
+ghost use Rattle.lb_worked.specs.WorkedCausality.{each_other, itself, clock_of_itself};
+ghost use Rattle.lb_worked.specs.WorkedCausality.{clock_of_a_memory, both_branches, both_sides};
+ghost use Rattle.lb_worked.specs.WorkedCausality.{first_side_of_fby, unused_by_product};
+ghost use Rattle.lb_worked.specs.WorkedCausality.{crossed_results, through_the_observer};
+ghost use Rattle.lb_worked.specs.WorkedCausality.{one_after_the_other, through_pre, through_fby};
+ghost use Rattle.lb_worked.specs.WorkedCausality.{elements_of_one_array, running_sums};
+ghost use Rattle.lb_worked.specs.WorkedCausality.{one_array_in_a_circle, iterated_array};
+ghost use Rattle.lb_worked.specs.WorkedCausality.{slower_loop};
 
 /// E13: the elements listed in the proof each need the next, and the last needs the first.
 pub fn an_element_that_needs_itself()

@@ -5,9 +5,27 @@ ghost use Rattle.lb_syntax.specs.Lists.{Every};
 ghost use Rattle.lb_syntax.specs.Refusals.{E8, E9, E10};
 ghost use Rattle.lb_check.specs.Acceptance.{refusal, IsAccepted};
 ghost use Rattle.lb_check.specs.Verdicts.{HasVerdict};
-ghost use Rattle.lb_check.specs.declared.verdict.Verdict.TheVariants.{Passed, Fault, Assertion as Assertion_fails, False};
+ghost use Rattle.lb_check.specs.declared.verdict.Verdict.TheVariants.{Passed, Fault};
+ghost use Rattle.lb_check.specs.declared.verdict.Verdict.TheVariants.{Assertion as Assertion_fails};
+ghost use Rattle.lb_check.specs.declared.verdict.Verdict.TheVariants.{False};
 ghost use Rattle.lb_worked.specs.WorkedSamples.{trace};
-ghost use Rattle.lb_worked.specs.WorkedClocks.{slower_counter, slow_memory, absent_clock, faulty_clock, both_signs_absent, clocked_result, current_of_a_result, truth_for_a_clock, expression_for_a_clock, other_clock_for_an_argument, clock_among_results, result_on_another_clock, one_variable_for_two, two_parameters_are_two_clocks, literal_for_a_clocked_input, any_expression_for_an_inner_clock, slower_call_without_arguments, current_of_a_call_without_arguments, slower_results_of_literals, slower_literals, slower_arrays, current_of_a_literal, current_on_the_base_clock, two_clocks, two_signs, equal_variables_are_two_clocks, when_of_an_int, clocks_in_a_circle, circle_of_literals, input_clocked_by_a_local, iterated_clocked_node, clocked_root, slow_assertion, asserted_call};
+ghost use Rattle.lb_worked.specs.WorkedClocks.{slower_counter, slow_memory, absent_clock};
+ghost use Rattle.lb_worked.specs.WorkedClocks.{faulty_clock, both_signs_absent, clocked_result};
+ghost use Rattle.lb_worked.specs.WorkedClocks.{current_of_a_result, truth_for_a_clock};
+ghost use Rattle.lb_worked.specs.WorkedClocks.{expression_for_a_clock, other_clock_for_an_argument};
+ghost use Rattle.lb_worked.specs.WorkedClocks.{clock_among_results, result_on_another_clock};
+ghost use Rattle.lb_worked.specs.WorkedClocks.{one_variable_for_two, two_parameters_are_two_clocks};
+ghost use Rattle.lb_worked.specs.WorkedClocks.{literal_for_a_clocked_input};
+ghost use Rattle.lb_worked.specs.WorkedClocks.{any_expression_for_an_inner_clock};
+ghost use Rattle.lb_worked.specs.WorkedClocks.{slower_call_without_arguments};
+ghost use Rattle.lb_worked.specs.WorkedClocks.{current_of_a_call_without_arguments};
+ghost use Rattle.lb_worked.specs.WorkedClocks.{slower_results_of_literals, slower_literals};
+ghost use Rattle.lb_worked.specs.WorkedClocks.{slower_arrays, current_of_a_literal};
+ghost use Rattle.lb_worked.specs.WorkedClocks.{current_on_the_base_clock, two_clocks, two_signs};
+ghost use Rattle.lb_worked.specs.WorkedClocks.{equal_variables_are_two_clocks, when_of_an_int};
+ghost use Rattle.lb_worked.specs.WorkedClocks.{clocks_in_a_circle, circle_of_literals};
+ghost use Rattle.lb_worked.specs.WorkedClocks.{input_clocked_by_a_local, iterated_clocked_node};
+ghost use Rattle.lb_worked.specs.WorkedClocks.{clocked_root, slow_assertion, asserted_call};
 
 /// The counter runs where `c` is true, keeps its memory elsewhere, and `current` brings it back.
 pub fn a_counter_on_a_slower_clock()

@@ -3,7 +3,43 @@
 ghost use Rattle.std.specs.Prelude.{Some, ◌≡◌};
 ghost use Rattle.lb_syntax.specs.Refusals.{E4, E5, E6, E7, E8, E9, E10, E11};
 ghost use Rattle.lb_check.specs.Acceptance.{refusal, IsAccepted};
-ghost use Rattle.lb_worked.specs.WorkedRefusals.{nothing_wrong, unknown_name, unknown_node, unknown_left_name, unknown_clock_name, constant_for_a_clock_name, unknown_static_name, variable_in_a_static_expression, variable_hides_a_constant, doubled_variable, doubled_unreached_nodes, constant_named_as_a_node, static_argument_too_many, static_argument_missing, unknown_name_unreached, no_node_under_test, no_observer, constant_without_a_value, constants_in_a_circle, constant_out_of_range, constant_in_an_expression, unreached_constant, size_of_zero, negative_size, size_above_4096, index_above_4095, slice_backwards, type_of_65792_elements, calls_itself, calls_in_a_circle, unreached_recursion, output_is_an_int, two_outputs, parameter_of_the_start, observer_of_other_types, observer_of_an_int, functions_under_test, int_for_a_truth, truths_in_order, branches_of_two_types, index_past_the_end, slice_past_the_end, equal_arrays, joined_past_4096, two_results_inside, two_results_in_parentheses, assertion_of_an_int, map_of_other_length, red_without_arrays, fill_of_one_output, local_without_a_definition, two_equations, two_left_sides_of_one_name, input_on_the_left, function_with_a_memory, function_that_calls_a_node, function_that_iterates_a_node, unreached_function_with_a_memory, call_before_its_arguments, arguments_after_their_call, value_before_range, one_value_of_a_parameter, name_before_recursion, recursion_before_parameters, parameters_before_the_walk, walk_before_the_shape, shape_before_types, types_before_clocks, clocks_before_definitions};
+ghost use Rattle.lb_worked.specs.WorkedRefusals.{nothing_wrong, unknown_name, unknown_node};
+ghost use Rattle.lb_worked.specs.WorkedRefusals.{unknown_left_name, unknown_clock_name};
+ghost use Rattle.lb_worked.specs.WorkedRefusals.{constant_for_a_clock_name, unknown_static_name};
+ghost use Rattle.lb_worked.specs.WorkedRefusals.{variable_in_a_static_expression};
+ghost use Rattle.lb_worked.specs.WorkedRefusals.{variable_hides_a_constant, doubled_variable};
+ghost use Rattle.lb_worked.specs.WorkedRefusals.{doubled_unreached_nodes, constant_named_as_a_node};
+ghost use Rattle.lb_worked.specs.WorkedRefusals.{static_argument_too_many, static_argument_missing};
+ghost use Rattle.lb_worked.specs.WorkedRefusals.{unknown_name_unreached, no_node_under_test};
+ghost use Rattle.lb_worked.specs.WorkedRefusals.{no_observer, constant_without_a_value};
+ghost use Rattle.lb_worked.specs.WorkedRefusals.{constants_in_a_circle, constant_out_of_range};
+ghost use Rattle.lb_worked.specs.WorkedRefusals.{constant_in_an_expression, unreached_constant};
+ghost use Rattle.lb_worked.specs.WorkedRefusals.{size_of_zero, negative_size, size_above_4096};
+ghost use Rattle.lb_worked.specs.WorkedRefusals.{index_above_4095, slice_backwards};
+ghost use Rattle.lb_worked.specs.WorkedRefusals.{type_of_65792_elements, calls_itself};
+ghost use Rattle.lb_worked.specs.WorkedRefusals.{calls_in_a_circle, unreached_recursion};
+ghost use Rattle.lb_worked.specs.WorkedRefusals.{output_is_an_int, two_outputs};
+ghost use Rattle.lb_worked.specs.WorkedRefusals.{parameter_of_the_start, observer_of_other_types};
+ghost use Rattle.lb_worked.specs.WorkedRefusals.{observer_of_an_int, functions_under_test};
+ghost use Rattle.lb_worked.specs.WorkedRefusals.{int_for_a_truth, truths_in_order};
+ghost use Rattle.lb_worked.specs.WorkedRefusals.{branches_of_two_types, index_past_the_end};
+ghost use Rattle.lb_worked.specs.WorkedRefusals.{slice_past_the_end, equal_arrays};
+ghost use Rattle.lb_worked.specs.WorkedRefusals.{joined_past_4096, two_results_inside};
+ghost use Rattle.lb_worked.specs.WorkedRefusals.{two_results_in_parentheses, assertion_of_an_int};
+ghost use Rattle.lb_worked.specs.WorkedRefusals.{map_of_other_length, red_without_arrays};
+ghost use Rattle.lb_worked.specs.WorkedRefusals.{fill_of_one_output, local_without_a_definition};
+ghost use Rattle.lb_worked.specs.WorkedRefusals.{two_equations, two_left_sides_of_one_name};
+ghost use Rattle.lb_worked.specs.WorkedRefusals.{input_on_the_left, function_with_a_memory};
+ghost use Rattle.lb_worked.specs.WorkedRefusals.{function_that_calls_a_node};
+ghost use Rattle.lb_worked.specs.WorkedRefusals.{function_that_iterates_a_node};
+ghost use Rattle.lb_worked.specs.WorkedRefusals.{unreached_function_with_a_memory};
+ghost use Rattle.lb_worked.specs.WorkedRefusals.{call_before_its_arguments};
+ghost use Rattle.lb_worked.specs.WorkedRefusals.{arguments_after_their_call, value_before_range};
+ghost use Rattle.lb_worked.specs.WorkedRefusals.{one_value_of_a_parameter, name_before_recursion};
+ghost use Rattle.lb_worked.specs.WorkedRefusals.{recursion_before_parameters};
+ghost use Rattle.lb_worked.specs.WorkedRefusals.{parameters_before_the_walk, walk_before_the_shape};
+ghost use Rattle.lb_worked.specs.WorkedRefusals.{shape_before_types, types_before_clocks};
+ghost use Rattle.lb_worked.specs.WorkedRefusals.{clocks_before_definitions};
 
 /// E4: every name has one meaning; only what is reached is looked at, but for doubled names.
 pub fn names()

@@ -1,12 +1,21 @@
 //! Static values, signatures, instances and what is reached.
 
-ghost use Rattle.std.specs.Prelude.{List, None, Some, [], codes, length, negsuc, pos, slice_get, ◌∷◌, ◌≡◌};
+ghost use Rattle.std.specs.Prelude.{List, None, Some, [], codes, length, negsuc, pos, slice_get};
+ghost use Rattle.std.specs.Prelude.{◌∷◌, ◌≡◌};
 ghost use Rattle.lb_static.specs.Instances.{Root, Observer, Child};
 ghost use Rattle.lb_static.specs.Shapes.{input_kinds, signature};
 ghost use Rattle.lb_static.specs.StaticValues.{value_under};
 ghost use Rattle.lb_static.specs.WorkedTrees.{names};
 ghost use Rattle.lb_syntax.specs.declared.tree.Kind.TheVariants.{Int, Bool};
-ghost use Rattle.lb_worked.specs.WorkedStatics.{given, reached_names, values, value_of, callees, reached_constant_names, input_names, paths, plain_value, five_by_two, seven_modulo_two, seven_by_two, past_the_greatest, the_least, minus_the_least, the_least_by_minus_one, by_zero, left_to_right, half_of_a_name, constants, matrix_and_scalar, size_by_a_constant, nested_calls, parameters, with_an_observer, partly_reached};
+ghost use Rattle.lb_worked.specs.WorkedStatics.{given, reached_names, values, value_of, callees};
+ghost use Rattle.lb_worked.specs.WorkedStatics.{reached_constant_names, input_names, paths};
+ghost use Rattle.lb_worked.specs.WorkedStatics.{plain_value, five_by_two, seven_modulo_two};
+ghost use Rattle.lb_worked.specs.WorkedStatics.{seven_by_two, past_the_greatest, the_least};
+ghost use Rattle.lb_worked.specs.WorkedStatics.{minus_the_least, the_least_by_minus_one, by_zero};
+ghost use Rattle.lb_worked.specs.WorkedStatics.{left_to_right, half_of_a_name, constants};
+ghost use Rattle.lb_worked.specs.WorkedStatics.{matrix_and_scalar, size_by_a_constant};
+ghost use Rattle.lb_worked.specs.WorkedStatics.{nested_calls, parameters, with_an_observer};
+ghost use Rattle.lb_worked.specs.WorkedStatics.{partly_reached};
 
 /// The value of a static expression; none where an operator faults.
 pub fn static_expressions()

@@ -1,13 +1,17 @@
 use Rattle.std.proofs.Common.{arith}
-use Rattle.std.proofs.lemmas.Simd.{get_or-put_chunk_at, get_or-put_chunk_below, get_or-put_chunk_above}
+use Rattle.std.proofs.lemmas.Simd.{get_or-put_chunk_at, get_or-put_chunk_below}
+use Rattle.std.proofs.lemmas.Simd.{get_or-put_chunk_above}
 use Rattle.lb_lanes.proofs.chunks.store8.Goals as goal
 
 pub returns-clause-inside : goal.returns-clause-inside
 returns-clause-inside c i h =
-    get_or-put_chunk_at c.args.at c.args.words.now c.args.eight i 0 (omega (arith, c.fits-eight.0)) (omega (arith, c.fits-eight.0))
+    get_or-put_chunk_at c.args.at c.args.words.now c.args.eight i 0 (omega (arith, c.fits-eight.0))
+    (omega (arith, c.fits-eight.0))
 
 pub returns-clause-below : goal.returns-clause-below
 returns-clause-below c k h = get_or-put_chunk_below c.args.at c.args.words.now c.args.eight k 0 h
 
 pub returns-clause-above : goal.returns-clause-above
-returns-clause-above c k h = get_or-put_chunk_above c.args.at c.args.words.now c.args.eight k 0 (omega (arith, c.fits-eight.0))
+returns-clause-above c k h =
+    get_or-put_chunk_above c.args.at c.args.words.now c.args.eight k 0
+    (omega (arith, c.fits-eight.0))

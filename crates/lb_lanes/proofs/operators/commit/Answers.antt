@@ -1,4 +1,5 @@
-use Rattle.std.proofs.Common.{◌≡◌, ℕ, ◌*◌, ◌+◌, refl, ap, ap₂, ◌∙◌, subst, arith, not-suc-le-zero, w64, to_z, get_or, cond}
+use Rattle.std.proofs.Common.{◌≡◌, ℕ, ◌*◌, ◌+◌, refl, ap, ap₂, ◌∙◌, subst, arith, not-suc-le-zero}
+use Rattle.std.proofs.Common.{w64, to_z, get_or, cond}
 use Rattle.lb_lanes.specs.Planes.{on}
 use Rattle.lb_lanes.proofs.OnPlanes.{on-shr}
 use Rattle.lb_lanes.proofs.Words.{word_by}
@@ -17,10 +18,14 @@ loop-c-preserved c =
     let e : k + 8 ≡ 8 * (c.loop-c.c + 1) = omega arith in
     let P : ℕ → ℕ → Type 0 = λ i n. n ≡ cond (on m i) (get_or new i 0) (get_or old i 0) in
     subst (λ n. WrittenBelow P n old c.store8.new.words) e
-    (words_joined P old c.loop-c.old c.store8.new.words k c.loop-c.invariant c.store8.ensures.below c.store8.ensures.above
+    (words_joined P old c.loop-c.old c.store8.new.words k c.loop-c.invariant c.store8.ensures.below
+    c.store8.ensures.above
     (λ j h. c.store8.ensures.inside j h ∙ c.blended8-kept.ensures j h
-    ∙ ap₂ (λ b n. cond b n (get_or c.load8-in-loop-c.result j 0)) (on-shr m k j) (c.load8.ensures j h)
-    ∙ ap (cond (on m (k + j)) (get_or new (k + j) 0)) (c.load8-in-loop-c.ensures j h ∙ c.loop-c.invariant.rest (k + j) (omega arith))))
+    ∙ ap₂ (λ b n. cond b n (get_or c.load8-in-loop-c.result j 0)) (on-shr m k j)
+    (c.load8.ensures j h)
+    ∙ ap (cond (on m (k + j)) (get_or new (k + j) 0)) (c.load8-in-loop-c.ensures j h
+    ∙ c.loop-c.invariant.rest (k + j) (omega arith))))
 
 pub returns : goal.returns
-returns c i h = ap (to_z w64) (c.loop-c.invariant.done i (omega arith)) ∙ word_by (on c.args.mask i) _ _
+returns c i h = ap (to_z w64) (c.loop-c.invariant.done i (omega arith))
+    ∙ word_by (on c.args.mask i) _ _

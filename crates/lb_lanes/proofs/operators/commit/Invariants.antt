@@ -5,4 +5,5 @@ use Rattle.lb_lanes.proofs.operators.commit.Given as goal
 
 abbrev pub invariant-loop-c : goal.invariant-loop-c
 invariant-loop-c l =
-    WrittenBelow (λ i n. n ≡ cond (on l.mask i) (get_or l.new i 0) (get_or l.initial.old i 0)) (8 * l.c) l.initial.old l.old
+    WrittenBelow (λ i n. n ≡ cond (on l.mask i) (get_or l.new i 0) (get_or l.initial.old i 0))
+    (8 * l.c) l.initial.old l.old

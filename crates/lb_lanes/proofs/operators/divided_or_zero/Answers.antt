@@ -6,13 +6,15 @@ use Rattle.lb_lanes.proofs.Views.{word_of}
 use Rattle.lb_lanes.proofs.operators.divided_or_zero.Goals as goal
 
 pub divide-requires : goal.divide-requires
-divide-requires g c = ap₂ can_divide (to_z-of_z w32 c.args.x c.ranges.x) (to_z-of_z w32 c.args.y c.ranges.y) ∙ c.requires
+divide-requires g c = ap₂ can_divide (to_z-of_z w32 c.args.x c.ranges.x)
+    (to_z-of_z w32 c.args.y c.ranges.y) ∙ c.requires
 
 pub returns-then-divides-clause-in_range : goal.returns-then-divides-clause-in_range
 returns-then-divides-clause-in_range g c =
     let small : SFits w32 c.divide.result = record { sfits = c.divide.type_inv } in
     ap is_int
-    (word_of c.cast_unsigned-divided.result c.from.result (record { sfits = c.from.type_inv }) c.cast_unsigned-divided.ensures
+    (word_of c.cast_unsigned-divided.result c.from.result
+    (record { sfits = c.from.type_inv }) c.cast_unsigned-divided.ensures
     ∙ c.from.ensures ∙ to_z-of_z w32 c.divide.result small)
     ∙ int_fits c.divide.result small
 

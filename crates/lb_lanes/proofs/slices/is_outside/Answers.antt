@@ -5,7 +5,8 @@ use Rattle.lb_lanes.specs.Operators.{is_int}
 use Rattle.lb_lanes.proofs.slices.is_outside.Goals as goal
 
 -- an integer that is not too small
-not_small : (v : ℤ) → int_lt v (negsuc 2147483647) ≡ false → int_lt (pos 2147483647) v ≡ not (is_int v)
+not_small : (v : ℤ) → int_lt v (negsuc 2147483647) ≡ false
+    → int_lt (pos 2147483647) v ≡ not (is_int v)
 unfolding is_int
 not_small (pos n) e = grind arith
 not_small (negsuc n) e = grind arith
@@ -19,4 +20,5 @@ returns-else-value-ltminus2147483648 c =
     let v = c.args.value in
     let same = to_z-of_z w64 v c.ranges.value in
     ap (int_lt (pos 2147483647)) same
-    ∙ not_small v (ap (λ z. int_lt z (negsuc 2147483647)) (sym same) ∙ c.if-value-ltminus2147483648.false)
+    ∙ not_small v (ap (λ z. int_lt z (negsuc 2147483647)) (sym same)
+    ∙ c.if-value-ltminus2147483648.false)

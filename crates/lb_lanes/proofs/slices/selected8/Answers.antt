@@ -12,7 +12,8 @@ at : (m n : ℕ) (a b : List ℕ) (k : ℕ) → length a ≡ 8 → length b ≡ 
     ≡ bit_or (bit_and m (get_or a k 0)) (bit_and n (get_or b k 0))
 at m n a b k p q h =
     lane-op bit_or (zip2 bit_and (replicate 8 m) a) (zip2 bit_and (replicate 8 n) b) k
-    (length-op bit_and (replicate 8 m) a (splat_long m) p) (length-op bit_and (replicate 8 n) b (splat_long n) q) h
+    (length-op bit_and (replicate 8 m) a (splat_long m) p)
+    (length-op bit_and (replicate 8 n) b (splat_long n) q) h
     ∙ ap₂ bit_or (lane-splat_op bit_and m a k p h) (lane-splat_op bit_and n b k q h)
 
 pub returns : goal.returns
@@ -20,4 +21,5 @@ returns c k h =
     let m = c.args.mask in
     let x = get_or c.args.a k 0 in
     let y = get_or c.args.b k 0 in
-    subst (IsSelection m x y) (sym (at m (flip m) c.args.a c.args.b k c.fits-a.0 c.fits-b.0 h)) (selection_on m x y c.ranges.mask.fits)
+    subst (IsSelection m x y) (sym (at m (flip m) c.args.a c.args.b k c.fits-a.0 c.fits-b.0 h))
+    (selection_on m x y c.ranges.mask.fits)

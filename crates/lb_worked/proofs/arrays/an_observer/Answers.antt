@@ -1,7 +1,8 @@
 use Rattle.std.proofs.Common.{[], ◌∷◌, refl}
 use Rattle.lb_static.specs.Instances.{Root, Observer}
 use Rattle.lb_check.specs.Needs.{needs}
-use Rattle.lb_check.specs.declared.verdict.Verdict.TheVariants.{Assertion as Assertion_fails, False, Passed}
+use Rattle.lb_check.specs.declared.verdict.Verdict.TheVariants.{Assertion as Assertion_fails, False}
+use Rattle.lb_check.specs.declared.verdict.Verdict.TheVariants.{Passed}
 use Rattle.lb_worked.specs.WorkedSamples.{at, history}
 use Rattle.lb_worked.specs.WorkedArrays as worked
 use Rattle.lb_worked.proofs.CausalTest.{accepted}

@@ -12,7 +12,8 @@ pub returns : goal.returns
 unfolding needs
 returns c = record {
   accepted =
-      (all_accepted (worked.chosen_branch ∷ worked.other_branch ∷ worked.strict_and ∷ worked.strict_or
+      (all_accepted
+      (worked.chosen_branch ∷ worked.other_branch ∷ worked.strict_and ∷ worked.strict_or
       ∷ worked.strict_implies ∷ worked.strict_count ∷ [])).shows refl;
   branch_not_chosen = by_history _ _ Passed (history (
       at Root "n 5; d 0; ok t; q 0" ∷ [])) refl refl;

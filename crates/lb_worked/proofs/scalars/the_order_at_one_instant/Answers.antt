@@ -1,7 +1,8 @@
 use Rattle.std.proofs.Common.{[], ◌∷◌, refl}
 use Rattle.lb_static.specs.Instances.{Root}
 use Rattle.lb_check.specs.Needs.{needs}
-use Rattle.lb_check.specs.declared.verdict.Verdict.TheVariants.{Assertion as Assertion_fails, False, Fault}
+use Rattle.lb_check.specs.declared.verdict.Verdict.TheVariants.{Assertion as Assertion_fails, False}
+use Rattle.lb_check.specs.declared.verdict.Verdict.TheVariants.{Fault}
 use Rattle.lb_worked.specs.WorkedSamples.{at, history}
 use Rattle.lb_worked.specs.WorkedScalars as worked
 use Rattle.lb_worked.proofs.CausalTest.{all_accepted}

@@ -1,5 +1,6 @@
 use Rattle.std.proofs.Common.{ap₂, ◌∙◌, ltb}
-use Rattle.lb_lanes.proofs.Vectors.{lane_fits, raised8, raised_long, raised_at, on-bitmask, bitmask_bound}
+use Rattle.lb_lanes.proofs.Vectors.{lane_fits, raised8, raised_long, raised_at, on-bitmask}
+use Rattle.lb_lanes.proofs.Vectors.{bitmask_bound}
 use Rattle.lb_lanes.proofs.Words.{below_is}
 use Rattle.lb_lanes.proofs.comparisons.BelowLaneTest.test8.Goals as goal
 
@@ -13,4 +14,5 @@ returns-clause-lanes c i h =
 
 pub returns-clause-within : goal.returns-clause-within
 returns-clause-within c =
-    bitmask_bound ltb (raised8 c.args.x) (raised8 c.args.y) (raised_long c.args.x c.fits-x.0) (raised_long c.args.y c.fits-y.0)
+    bitmask_bound ltb (raised8 c.args.x) (raised8 c.args.y) (raised_long c.args.x c.fits-x.0)
+    (raised_long c.args.y c.fits-y.0)

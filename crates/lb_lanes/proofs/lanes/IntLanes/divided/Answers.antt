@@ -9,8 +9,10 @@ run_division-faults-requires-clause-left g c i h =
 
 pub run_division-faults-requires-clause-right : goal.run_division-faults-requires-clause-right
 run_division-faults-requires-clause-right g c i h =
-    ap is_int (view_lane c.other.inside.bits c.args.other.now i c.other.view_is) ∙ c.requires.right i h
+    ap is_int (view_lane c.other.inside.bits c.args.other.now i c.other.view_is)
+    ∙ c.requires.right i h
 
 pub returns-clause-in_range : goal.returns-clause-in_range
 returns-clause-in_range g c i h =
-    ap is_int (lane-view c.run_division-faults.new.out i) ∙ c.run_division-faults.ensures.in_range i h
+    ap is_int (lane-view c.run_division-faults.new.out i)
+    ∙ c.run_division-faults.ensures.in_range i h

@@ -9,7 +9,8 @@ run-requires-clause-left g c i h =
 
 pub run-requires-clause-right : goal.run-requires-clause-right
 run-requires-clause-right g c i h =
-    ap is_int (view_lane c.other.inside.bits c.args.other.now i c.other.view_is) ∙ c.requires.right i h
+    ap is_int (view_lane c.other.inside.bits c.args.other.now i c.other.view_is)
+    ∙ c.requires.right i h
 
 pub returns-clause-in_range : goal.returns-clause-in_range
 returns-clause-in_range g c i h =

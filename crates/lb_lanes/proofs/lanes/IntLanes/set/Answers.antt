@@ -6,5 +6,6 @@ use Rattle.lb_lanes.proofs.lanes.IntLanes.set.Goals as goal
 pub returns : goal.returns
 returns c i h =
     lane-set c.self.inside.bits c.args.lane i c.cast_unsigned.result c.self.told c.requires
-    ∙ ap₂ (cond (i == c.args.lane)) (word_of c.cast_unsigned.result c.args.value c.ranges.value c.cast_unsigned.ensures)
+    ∙ ap₂ (cond (i == c.args.lane))
+    (word_of c.cast_unsigned.result c.args.value c.ranges.value c.cast_unsigned.ensures)
     (ap (λ l. lane_of l i) c.self.view_is)
