@@ -21,7 +21,7 @@ use Rattle.lb_flat.specs.Programs.{numbers_of, flat_equations}
 use Rattle.lb_flat.specs.Run.{reads, keeps}
 use Rattle.lb_flat.specs.Values.{operation_of, equation_of}
 use Rattle.lb_flat.specs.Within.{IsWithin}
-use Rattle.lb_flat.proofs.TermRows.{size_at_most_one, size_nor, size_next, emit_at_most_one_is, emit_nor_is, emit_next, variable_kind, within_at_most_one, within_nor, within_next, steps_size_next, step_within_next, steps_next, places_of_more}
+use Rattle.lb_flat.proofs.TermRows.{single_size, pair_size, row_size_is, size_next, emit_next, variable_kind, single_within, pair_within, within_of_row, within_next, steps_size_next, step_within_next, steps_next, places_of_more}
 
 -- ## Elements below a number
 
@@ -126,10 +126,38 @@ first_place n (x ∷ xs) d lt e =
 
 pub ruleset copies = (first_place, within_push, equations_push)
 
-pub ruleset pushes = (within_later, within_push, elements_later, elements_push, equations_push, numbers_push)
+pub ruleset pushes = (
+  within_later,
+  within_push,
+  elements_later,
+  elements_push,
+  equations_push,
+  numbers_push,
+)
 
 pub ruleset given = (given_next, within_push, equations_push)
 
-pub ruleset emits = (size_at_most_one, size_nor, size_next, emit_at_most_one_is, emit_nor_is, emit_next, variable_kind, within_at_most_one, within_nor, within_next, elements_later, elements_push)
+pub ruleset emits = (
+  single_size,
+  pair_size,
+  row_size_is,
+  size_next,
+  emit_next,
+  variable_kind,
+  single_within,
+  pair_within,
+  within_of_row,
+  within_next,
+  elements_later,
+  elements_push,
+)
 
-pub ruleset steps = (steps_size_next, step_within_next, steps_next, places_of_more, elements_push, equations_push, numbers_push)
+pub ruleset steps = (
+  steps_size_next,
+  step_within_next,
+  steps_next,
+  places_of_more,
+  elements_push,
+  equations_push,
+  numbers_push,
+)

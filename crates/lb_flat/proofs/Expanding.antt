@@ -6,22 +6,19 @@ use Rattle.lb_static.specs.Instances.{Program, Path, Root, Observer, instance_at
 use Rattle.lb_static.specs.Shapes.{input_kinds}
 use Rattle.lb_check.specs.Scalars.{Stream}
 use Rattle.lb_check.specs.Solutions.{Inputs, Solves}
-use Rattle.lb_check.specs.Verdicts.{HasVerdict}
 use Rattle.lb_flat.specs.Flat.{FlatClock, FlatEquation, FlatSolves}
-use Rattle.lb_flat.specs.Run.{Ready, run, streams_of}
-use Rattle.lb_flat.specs.Judging.{FlatProgram, flat_verdict}
+use Rattle.lb_flat.specs.Run.{Ready}
+use Rattle.lb_flat.specs.Judging.{FlatProgram}
 use Rattle.lb_flat.specs.Layouts.{Layout}
 use Rattle.lb_flat.specs.Emit.{given_inputs, observed, before_instances, emit_instances, expanded}
 use Rattle.lb_flat.specs.Expanded.{IsOrderingOf}
 use Rattle.lb_flat.specs.Flattening.{history_of, IsTrace, IsWatched}
 use Rattle.lb_flat.proofs.Lists.{Every-second}
 use Rattle.lb_flat.proofs.Adding.{columns, IsMet, AllMet}
-use Rattle.lb_flat.proofs.Running.{exists}
 use Rattle.lb_flat.proofs.Whole.{IsProgramSound}
 use Rattle.lb_flat.proofs.Fitting.{IsFitting}
 use Rattle.lb_flat.proofs.Observing.{IsInOrder, is_watched}
 use Rattle.lb_flat.proofs.Solving.{IsPlacing, agrees, met, solves}
-use Rattle.lb_flat.proofs.Judging.{flat_ends}
 
 -- the expansion of a program with its equations in this order
 abbrev pub ordered : Layout → Program → ℕ → List FlatEquation → FlatProgram
@@ -73,15 +70,3 @@ module _ (P : Program) (Y : Layout) (count : ℕ) (K : ℕ → FlatClock) (N : �
         (e.signs X F s))
         (e.sound X F s).instances further_met e.walk t in
         record { fault = w.fault; failed = w.failed; violated = w.violated }
-
-  -- the verdict of the flat program is that of the program
-  pub expansion_verdict : HasVerdict P X (flat_verdict (ordered Y P count Q) X)
-  expansion_verdict =
-      let size = (expanded Y P count).size in
-      let F = streams_of size (run size Q X) in
-      let s = exists size X Q e.ready in (
-        history_of Y X F,
-        history_solves F s,
-        flat_ends P (ordered Y P count Q) X F (history_of Y X F) e.ready s
-            (λ t lt. watched F s t),
-      )

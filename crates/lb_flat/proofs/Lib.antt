@@ -19,7 +19,6 @@ pub mod Bodies
 pub mod Keeping
 pub mod OnClock
 pub mod Verdicts
-pub mod Layouts
 pub mod Asserting
 pub mod Watching
 pub mod Judging

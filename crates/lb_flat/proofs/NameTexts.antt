@@ -16,9 +16,11 @@ name_byte-below b h = grind (arith, nat_tests)
 
 pub IsAscii-name : (name : List ℕ) → IsTraceName name → IsAscii name
 IsAscii-name name lawful =
-    IsAscii-from_all name (All-weaker (λ b. IsTrue (is_name_byte b)) (λ b. b < 128) name_byte-below name lawful.bytes)
+    IsAscii-from_all name (All-weaker (λ b. IsTrue (is_name_byte b)) (λ b. b < 128) name_byte-below
+    name lawful.bytes)
 
-pub AreNames-push : (text ends name : List ℕ) (e : ℕ) → AreNames text ends → IsTraceName name → length ends ≤ 1000000
+pub AreNames-push : (text ends name : List ℕ) (e : ℕ) → AreNames text ends → IsTraceName name →
+    length ends ≤ 1000000
     → e ≡ length text + length name → AreNames (text ++ name) (ends ++ e ∷ [])
 AreNames-push text ends name e names lawful room grown =
     let is_long : length (text ++ name) ≡ length text + length name = length-append text name in
@@ -37,4 +39,8 @@ AreNames-push text ends name e names lawful room grown =
 
 -- an ASCII text may be cut anywhere
 pub boundary : (text : List ℕ) (i : ℕ) → IsAscii text → i ≤ length text → IsCharBoundary text i
-boundary text i ascii within = (within, λ _ high. let low : get_or text i 0 < 128 = ascii i in omega arith)
+boundary text i ascii within = (
+  within,
+  λ _ high. let low : get_or text i 0 < 128 = ascii i in
+      omega arith,
+)

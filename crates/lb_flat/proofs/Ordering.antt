@@ -1,20 +1,19 @@
 -- What settling and the table of equations keep, and why there is no order where none is found.
 use Rattle.std.proofs.Common.{◌≡◌, ℕ, zero, suc, ◌+◌, ◌<◌, ◌≤◌, Bool, true, false, not, ◌&&◌, ◌||◌, Option, Some, None, List, [], ◌∷◌, ◌++◌, length, map, replicate, get_or, set, All, refl, sym, ap, subst, ◌∙◌, arith, inl, inr, ◌⊎◌, ⊎_elim, below_more, length-set, append_assoc}
 use Rattle.std.specs.List.{list_all, list_any}
-use Rattle.std.proofs.lemmas.Bool.{cases_eq, not-true, not_from_false, false_from_ne_true}
+use Rattle.std.proofs.lemmas.Bool.{cases_eq, not-true, not_from_false}
 use Rattle.std.proofs.lemmas.List.{get_or-set_other, map-append, append-nil}
 use Rattle.lb_syntax.specs.Lists.{Every, In}
 use Rattle.lb_flat.specs.declared.equation.Tick.{Tick}
 use Rattle.lb_flat.specs.declared.equation.Equation.{Equation}
 use Rattle.lb_flat.specs.Flat.{FlatEquation}
 use Rattle.lb_flat.specs.InOrder.{is_done, is_next, is_in_order}
-use Rattle.lb_flat.specs.Ordering.{HasNoOrder, IsTable, IsTableOf, IsSettled, AreSettled, IsNotNext, NoneIsNext, is_ready, left}
+use Rattle.lb_flat.specs.Ordering.{IsTable, IsTableOf, IsSettled, AreSettled, IsNotNext, NoneIsNext, is_ready, left}
 use Rattle.lb_flat.specs.Programs.{flat_equations}
-use Rattle.lb_flat.specs.Run.{Ready, IsNext, equation_reads, keeps}
-use Rattle.lb_flat.specs.Stuck.{IsStuck, CannotOrder, NotGiven, GivenTwice, Waiting}
+use Rattle.lb_flat.specs.Run.{equation_reads, keeps}
+use Rattle.lb_flat.specs.Stuck.{CannotOrder, NotGiven, Waiting}
 use Rattle.lb_flat.specs.Values.{equation_of}
-use Rattle.lb_flat.proofs.Lists.{Every-in, Every-map}
-use Rattle.lb_flat.proofs.InOrder.{true_false, Every-of_All, passes, ends_order, goes_before}
+use Rattle.lb_flat.proofs.InOrder.{Every-of_All, passes, ends_order, goes_before}
 
 -- ## Lists
 
@@ -186,100 +185,6 @@ all_settled ticks table done out n h le all = record {
   entries = h.entries;
   holds = λ e q lt. h.holds e q (all e (omega arith));
 }
-
--- ## Why there is no order
-
--- in an order, an element that was given is not given again
-not_again :
-    (size : ℕ) (R : List FlatEquation) (before : List ℕ) (q : FlatEquation) →
-    Ready size before R → In q R → In q.element before → ⊥
-not_again size [] before q ready i old = i
-not_again size (p ∷ R) before q ready (inl e) old =
-    ready.0.is_new (subst (λ x. In x.element before) (sym e) old)
-not_again size (p ∷ R) before q ready (inr i) old =
-    not_again size R (p.element ∷ before) q ready.1 i (inr old)
-
-given_once :
-    (size : ℕ) (R : List FlatEquation) (before : List ℕ) (p q : FlatEquation) →
-    Ready size before R → In p R → In q R → p.element ≡ q.element → p ≡ q
-given_once size [] before p q ready i j same = absurd i
-given_once size (r ∷ R) before p q ready (inl a) (inl b) same = sym a ∙ b
-given_once size (r ∷ R) before p q ready (inl a) (inr j) same =
-    absurd (not_again size R (r.element ∷ before) q ready.1 j
-    (inl (ap (λ x. x.element) a ∙ same)))
-given_once size (r ∷ R) before p q ready (inr i) (inl b) same =
-    absurd (not_again size R (r.element ∷ before) p ready.1 i
-    (inl (ap (λ x. x.element) b ∙ sym same)))
-given_once size (r ∷ R) before p q ready (inr i) (inr j) same =
-    given_once size R (r.element ∷ before) p q ready.1 i j same
-
--- in an order each element is given
-each_given :
-    (size : ℕ) (R : List FlatEquation) (before : List ℕ) (i : ℕ) → i < size →
-    Ready size before R → In i before ⊎ In i (map (λ q. q.element) R)
-each_given size [] before i lt ready = inl (ready i lt)
-each_given size (q ∷ R) before i lt ready =
-    by (each_given size R (q.element ∷ before) i lt ready.1)
-  where
-    by :
-        In i (q.element ∷ before) ⊎ In i (map (λ q. q.element) R) →
-        In i before ⊎ In i (q.element ∷ map (λ q. q.element) R)
-    by (inl (inl e)) = inr (inl e)
-    by (inl (inr j)) = inl j
-    by (inr j) = inr (inr j)
-
-none_passes :
-    (test : ℕ → Bool) (is : List ℕ) → Every (λ i. test i ≡ false) is →
-    list_any test is ≡ false
-none_passes test [] h = refl
-none_passes test (i ∷ is) h = rw h.0 (none_passes test is h.1)
-
--- in an order, no element is computed that waits for another
-module _ (size : ℕ) (Q : List FlatEquation) (stuck : IsStuck size Q) where
-  next_not_left :
-      (before : List ℕ) (q : FlatEquation) → In q Q →
-      ((i : ℕ) → In i before → stuck.left i ≡ false) → IsNext size before q →
-      stuck.left q.element ≡ false
-  next_not_left before q is done next =
-      false_from_ne_true (stuck.left q.element)
-      (λ left.
-      true_false (list_any stuck.left (equation_reads q))
-      (Every-in (λ q. stuck.left q.element ≡ true →
-      list_any stuck.left (equation_reads q) ≡ true) q Q stuck.waits is left)
-      (none_passes stuck.left (equation_reads q)
-      (Every-map (λ i. In i before) (λ i. stuck.left i ≡ false) done (equation_reads q)
-      next.reads_done)))
-
-  none_goes_on :
-      (R : List FlatEquation) (before : List ℕ) →
-      ((i : ℕ) → In i before → stuck.left i ≡ false) →
-      ((q : FlatEquation) → In q R → In q Q) → Ready size before R → ⊥
-  none_goes_on [] before done from ready =
-      true_false (stuck.left stuck.one) stuck.is_left
-      (done stuck.one (ready stuck.one stuck.is_element))
-  none_goes_on (q ∷ R) before done from ready =
-      none_goes_on R (q.element ∷ before)
-      (λ i is.
-      ⊎_elim
-      (λ (e : q.element ≡ i).
-      subst (λ j. stuck.left j ≡ false) e
-      (next_not_left before q (from q (inl refl)) done ready.0))
-      (done i) is)
-      (λ p i. from p (inr i)) ready.1
-
--- where the equations cannot be put in order, there is no order in which they can be computed
-pub has_no_order : (size : ℕ) (Q : List FlatEquation) → CannotOrder size Q → HasNoOrder size Q
-has_no_order size Q (NotGiven e lt not_given) R ordering ready =
-    ⊎_elim (λ (none : In e []). none)
-    (λ (given : In e (map (λ q. q.element) R)).
-    let s = from_map (λ (q : FlatEquation). q.element) e R given in
-    not_given (subst (λ i. In i (map (λ q. q.element) Q)) s.is
-    (In-map (λ q. q.element) s.source Q (ordering.back s.source s.is_in))))
-    (each_given size R [] e lt ready)
-has_no_order size Q (GivenTwice p q i j same differ) R ordering ready =
-    differ (given_once size R [] p q ready (ordering.there p i) (ordering.there q j) same)
-has_no_order size Q (Waiting stuck) R ordering ready =
-    none_goes_on size Q stuck R [] (λ i is. absurd is) ordering.back ready
 
 -- ## What settling finds where none is next
 

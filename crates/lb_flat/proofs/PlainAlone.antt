@@ -17,21 +17,28 @@ use Rattle.lb_flat.proofs.ScalarGroups.{bare}
 
 -- ## Scalars
 
-is_bare : (k : Kind) (x : Name) (sizes : List Static) (clock : Option Sampling) → (nat_eq (length sizes) 0 && not (is_some clock)) ≡ true
+is_bare : (k : Kind) (x : Name) (sizes : List Static) (clock : Option Sampling) →
+    (nat_eq (length sizes) 0 && not (is_some clock)) ≡ true
     → record { name = x; kind = k; sizes = sizes; clock = clock } ≡ bare x k
 is_bare k x [] None e = refl
 is_bare k x [] (Some c) e = absurd cc
-is_bare k x (s ∷ sizes) clock e = let no : nat_eq (suc (length sizes)) 0 ≡ false = grind (arith, nat_tests) in let h = sym (ap (λ b. b && not (is_some clock)) no) ∙ e in absurd cc
+is_bare k x (s ∷ sizes) clock e =
+    let no : nat_eq (suc (length sizes)) 0 ≡ false = grind (arith, nat_tests) in
+    let h = sym (ap (λ b. b && not (is_some clock)) no) ∙ e in
+    absurd cc
 
 scalar_is : (d : Declaration) → is_scalar d ≡ true → d ≡ bare d.name d.kind
 scalar_is d e = is_bare d.kind d.name d.sizes d.clock e
 
-flat_scalars : {B : Type 0} (f : Declaration → List B) (g : Declaration → B) (ds : List Declaration) → ((x : Name) (k : Kind) → f (bare x k) ≡ g (bare x k) ∷ [])
+flat_scalars : {B : Type 0} (f : Declaration → List B) (g : Declaration → B) (ds : List Declaration)
+    → ((x : Name) (k : Kind) → f (bare x k) ≡ g (bare x k) ∷ [])
     → list_all is_scalar ds ≡ true → flat_map f ds ≡ map g ds
 flat_scalars f g [] every e = refl
 flat_scalars f g (d ∷ ds) every e =
-    let same = subst (λ d. f d ≡ g d ∷ []) (sym (scalar_is d (and_first _ (list_all is_scalar ds) e))) (every d.name d.kind) in
-    ap (λ l. l ++ flat_map f ds) same ∙ ap (λ l. g d ∷ l) (flat_scalars f g ds every (and_second (is_scalar d) _ e))
+    let same = subst (λ d. f d ≡ g d ∷ []) (sym (scalar_is d
+    (and_first _ (list_all is_scalar ds) e))) (every d.name d.kind) in
+    ap (λ l. l ++ flat_map f ds) same ∙ ap (λ l. g d ∷ l)
+    (flat_scalars f g ds every (and_second (is_scalar d) _ e))
 
 -- ## Plain nodes
 
@@ -45,24 +52,33 @@ same_truth false false f g = refl
 
 -- a node without static parameters is plain where its variables are scalars and its statements
 -- have running forms
-pub plain_node_is : (n : Node) → n.parameters ≡ [] → is_plain_node n ≡ (list_all is_scalar (variables n) && list_all (is_simple_statement (is_variable_in n)) n.body)
+pub plain_node_is : (n : Node) → n.parameters ≡ [] →
+    is_plain_node n ≡ (list_all is_scalar (variables n) && list_all
+    (is_simple_statement (is_variable_in n)) n.body)
 plain_node_is n none =
-    ap (λ l. nat_eq (length l) 0 && (list_all is_scalar (variables n) && (list_all is_plain (node_parts n) && list_all (is_variable_in n) (node_names n)))) none
+    ap (λ l. nat_eq (length l) 0 && (list_all is_scalar (variables n) &&
+    (list_all is_plain (node_parts n) && list_all (is_variable_in n) (node_names n)))) none
     ∙ ap (λ b. list_all is_scalar (variables n) && b)
-    (same_truth _ _ there (λ e. both _ _ (plain_parts (is_variable_in n) n e) (known_names (is_variable_in n) n e)))
+    (same_truth _ _ there (λ e. both _ _ (plain_parts (is_variable_in n) n e)
+    (known_names (is_variable_in n) n e)))
   where
-    there : (list_all is_plain (node_parts n) && list_all (is_variable_in n) (node_names n)) ≡ true → list_all (is_simple_statement (is_variable_in n)) n.body ≡ true
+    there : (list_all is_plain (node_parts n) && list_all (is_variable_in n) (node_names n))
+        ≡ true → list_all (is_simple_statement (is_variable_in n)) n.body ≡ true
     there e =
-        simple_from_parts (is_variable_in n) n (and_first _ (list_all (is_variable_in n) (node_names n)) e)
+        simple_from_parts (is_variable_in n) n (and_first _
+        (list_all (is_variable_in n) (node_names n)) e)
         (and_second (list_all is_plain (node_parts n)) _ e)
 
-module _ (P : Program) (n : Node) (found : node_named P P.root ≡ Some n) (unobserved : P.observer ≡ None)
-    (scalars : list_all is_scalar (variables n) ≡ true) (simple : list_all (is_simple_statement (is_variable_in n)) n.body ≡ true) where
+module _ (P : Program) (n : Node) (found : node_named P P.root ≡ Some n)
+    (unobserved : P.observer ≡ None)
+    (scalars : list_all is_scalar (variables n) ≡ true)
+    (simple : list_all (is_simple_statement (is_variable_in n)) n.body ≡ true) where
   silent : node_sites n ≡ []
   silent = no_node_sites (is_variable_in n) n simple
 
   below : (k : ℕ) → instances_from P (suc k) (start_of n) ≡ start_of n ∷ []
-  below k = ap (λ l. start_of n ∷ flat_map (instances_from P k) (flat_map (site_instances P (start_of n)) (numbered_sites 0 l))) silent
+  below k = ap (λ l. start_of n ∷ flat_map (instances_from P k)
+      (flat_map (site_instances P (start_of n)) (numbered_sites 0 l))) silent
 
   at_root : instance_at P Root ≡ Some (start_of n)
   at_root = ap (option_map start_of) found
@@ -72,7 +88,8 @@ module _ (P : Program) (n : Node) (found : node_named P P.root ≡ Some n) (unob
 
   instances_are : instances P ≡ start_of n ∷ []
   instances_are =
-      ap (λ o. listed (instances_from P 65) o ++ listed (instances_from P 65) (instance_at P Observer)) at_root
+      ap (λ o. listed (instances_from P 65) o ++ listed (instances_from P 65)
+      (instance_at P Observer)) at_root
       ∙ ap (λ o. instances_from P 65 (start_of n) ++ listed (instances_from P 65) o) no_observer
       ∙ ap (λ l. l ++ []) (below 64)
 
@@ -82,7 +99,8 @@ module _ (P : Program) (n : Node) (found : node_named P P.root ≡ Some n) (unob
   signature_are : signature P ≡ plain_inputs n
   signature_are =
       ap (listed (λ root. flat_map (scalar_elements P root) root.node.inputs)) at_root
-      ∙ flat_scalars (scalar_elements P (start_of n)) (λ d. (d.name, d.kind)) n.inputs (λ y k. refl) ins_scalar
+      ∙ flat_scalars (scalar_elements P (start_of n)) (λ d. (d.name, d.kind)) n.inputs (λ y k. refl)
+      ins_scalar
 
   pub is_plain_program : static_refusal P ≡ None → n.parameters ≡ [] → IsPlain P n
   is_plain_program accepted none = record {

@@ -34,7 +34,8 @@ pub scalar_clock : (d : Declaration) → is_scalar d ≡ true → d.clock ≡ No
 scalar_clock d e = no_clock d.clock (and_second (nat_eq (length d.sizes) 0) _ e)
 
 -- the clock of a declaration that has none
-base_within : (m : ℕ) (vars : List Declaration) (d : Declaration) → is_scalar d ≡ true → clock_within (suc m) vars d ≡ Some Base
+base_within : (m : ℕ) (vars : List Declaration) (d : Declaration) → is_scalar d ≡ true →
+    clock_within (suc m) vars d ≡ Some Base
 base_within m vars d e = ap (sampled (clock_within m vars) vars) (scalar_clock d e)
 
 abbrev or_base : {A : Type 0} → Option A → Option Clock
@@ -59,9 +60,11 @@ or_base_base : {A : Type 0} (o : Option A) → clock_or (or_base o) ≡ Base
 or_base_base None = refl
 or_base_base (Some d) = refl
 
-pub base_declared : (n : Node) (x : Name) → list_all is_scalar (variables n) ≡ true → declared_clock n x ≡ Base
+pub base_declared : (n : Node) (x : Name) → list_all is_scalar (variables n) ≡ true →
+    declared_clock n x ≡ Base
 base_declared n x e =
-    ap clock_or (found_base (length (variables n)) (variables n) (variables n) x e) ∙ or_base_base (named (λ d. d.name) x (variables n))
+    ap clock_or (found_base (length (variables n)) (variables n) (variables n) x e)
+    ∙ or_base_base (named (λ d. d.name) x (variables n))
 
 -- ## Expressions and statements
 
@@ -74,7 +77,8 @@ module _ (P : Program) (n : Node) (plain : list_all is_scalar (variables n) ≡ 
   IsBase o = (o ≡ None) ⊎ (o ≡ Some Base)
 
   either_base : (o p : Option Clock) → IsBase o → IsBase p → IsBase (or_else o p)
-  either_base o p (inl e) q = let P : Option Clock → Type 0 = λ z. IsBase (or_else z p) in subst P (sym e) q
+  either_base o p (inl e) q = let P : Option Clock → Type 0 = λ z. IsBase (or_else z p) in
+      subst P (sym e) q
   either_base o p (inr e) q = inr (ap (λ z. or_else z p) e)
 
   or_base_is : {A : Type 0} (o : Option A) → IsBase (or_base o)
@@ -96,26 +100,32 @@ module _ (P : Program) (n : Node) (plain : list_all is_scalar (variables n) ≡ 
     term_base names (Variable x) = named_base _
     term_base names (Group' p e) = term_base names e
     term_base names (Unary' op p a) = term_base names a
-    term_base names (Binary' op p a q b) = either_base (own names a) (own names b) (term_base names a) (term_base names b)
+    term_base names (Binary' op p a q b) = either_base (own names a) (own names b)
+        (term_base names a) (term_base names b)
     term_base names (If' p c q a r b) =
         either_base (own names c) (or_else (own names a) (own names b)) (term_base names c)
         (either_base (own names a) (own names b) (term_base names a) (term_base names b))
-    term_base names (Arrow' p a q b) = either_base (own names a) (own names b) (term_base names a) (term_base names b)
-    term_base names (Fby' p a q b) = either_base (own names a) (own names b) (term_base names a) (term_base names b)
+    term_base names (Arrow' p a q b) = either_base (own names a) (own names b) (term_base names a)
+        (term_base names b)
+    term_base names (Fby' p a q b) = either_base (own names a) (own names b) (term_base names a)
+        (term_base names b)
     term_base names (Pre' p a) = term_base names a
     term_base names (AtMostOne' shape all) = row_base names all
     term_base names (Nor' shape all) = row_base names all
 
-    row_base : {m : _} (names : List Name) (row : Row_of-Term m) → IsBase (first_clock P n (row_of names row))
+    row_base : {m : _} (names : List Name) (row : Row_of-Term m) →
+        IsBase (first_clock P n (row_of names row))
     row_base names end_of-Term = inl refl
     row_base names (more_of-Term e rest) =
-        either_base (own names e) (first_clock P n (row_of names rest)) (term_base names e) (row_base names rest)
+        either_base (own names e) (first_clock P n (row_of names rest)) (term_base names e)
+        (row_base names rest)
 
   base_of : (o : Option Clock) → IsBase o → clock_or o ≡ Base
   base_of o (inl e) = ap clock_or e
   base_of o (inr e) = ap clock_or e
 
-  lefts_base : (names : List Name) (xs : List VariableId) (e : Term) → statement_clock P n (Equation (map (name_of names) xs) (expr_of names e)) ≡ Base
+  lefts_base : (names : List Name) (xs : List VariableId) (e : Term) →
+      statement_clock P n (Equation (map (name_of names) xs) (expr_of names e)) ≡ Base
   lefts_base names [] e = refl
   lefts_base names (x ∷ xs) e = base _
 

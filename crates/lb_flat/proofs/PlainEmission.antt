@@ -13,7 +13,7 @@ use Rattle.lb_syntax.specs.declared.tree.Kind.{Kind}
 use Rattle.lb_syntax.specs.declared.tree.Kind.TheVariants.{Int as Int_kind, Bool as Bool_kind}
 use Rattle.lb_syntax.specs.Lists.{◌>>=◌, either_or, where_true, joined, zip2}
 use Rattle.lb_syntax.specs.Tree as tree
-use Rattle.lb_syntax.specs.Tree.{Name, Node, Declaration, Expr}
+use Rattle.lb_syntax.specs.Tree.{Name, Node, Expr}
 use Rattle.lb_static.specs.declared.resolved.VariableId.{VariableId}
 use Rattle.lb_flat.specs.declared.plain.term.Variable.{Variable as Declared}
 use Rattle.lb_flat.specs.declared.plain.term.Step.{Step}

@@ -160,4 +160,11 @@ module _ (P : Program) (n : Node) (elaborated : IsPlain P n)
         × AreSame P (history_of Y X F) H) →
         IsFlatOf P (ordered Y P count Q)
     plain_flat_of solved =
-        record { layout = Y; solves = plain_solves; solved = solved; watched = plain_watched }
+        record {
+          accepted = elaborated.accepted;
+          checked = checked;
+          layout = Y;
+          solves = plain_solves;
+          solved = solved;
+          watched = plain_watched;
+        }

@@ -383,7 +383,8 @@ typed_is el P e refusal =
     ∙ all_typed P (start_of n) e.alone refusal
   where
     plain_of : (n : Node) → IsPlain P n → list_all is_scalar (variables n) ≡ true
-    plain_of n e = second_of (nat_eq (length n.parameters) 0) (list_all is_scalar (variables n)) _ e.plain
+    plain_of n e = second_of (nat_eq (length n.parameters) 0) (list_all is_scalar (variables n)) _
+        e.plain
 
 -- the answer of the code about the terms is the one about the program
 pub answer_is :

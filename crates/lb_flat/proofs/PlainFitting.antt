@@ -53,7 +53,8 @@ module _ (P : Program) (n : Node) (e : IsPlain P n) where
       let names = Every-piece among_names own_names (node_parts n)
       (each_true (λ x. among x (variable_names n)) (node_names n) all_named) in
       Every-map (λ (a : Expr). (is_plain a ≡ true) × Every among_names (own_names a))
-      (IsPlainExpression (variable_names n)) (λ a h. record { form = h.0; named = h.1 }) (node_parts n)
+      (IsPlainExpression (variable_names n)) (λ a h. record { form = h.0; named = h.1 })
+      (node_parts n)
       (Every-both (λ (a : Expr). is_plain a ≡ true) _ (node_parts n)
       (each_true is_plain (node_parts n) all_plain) names)
 

@@ -14,16 +14,19 @@ use Rattle.lb_static.proofs.Lists.{and_first, and_second, both, all_append}
 
 -- ## Tests of the items of a list
 
-all_both : {A : Type 0} (p q : A → Bool) (xs : List A) → list_all p xs ≡ true → list_all q xs ≡ true → list_all (λ x. p x && q x) xs ≡ true
+all_both : {A : Type 0} (p q : A → Bool) (xs : List A) → list_all p xs ≡ true →
+    list_all q xs ≡ true → list_all (λ x. p x && q x) xs ≡ true
 all_both p q [] e f = refl
 all_both p q (x ∷ xs) e f =
     both _ _ (both (p x) (q x) (and_first _ (list_all p xs) e) (and_first _ (list_all q xs) f))
     (all_both p q xs (and_second (p x) _ e) (and_second (q x) _ f))
 
-pub flat_none : {A B : Type 0} (p : A → Bool) (f : A → List B) (xs : List A) → ((x : A) → p x ≡ true → f x ≡ []) → list_all p xs ≡ true → flat_map f xs ≡ []
+pub flat_none : {A B : Type 0} (p : A → Bool) (f : A → List B) (xs : List A) →
+    ((x : A) → p x ≡ true → f x ≡ []) → list_all p xs ≡ true → flat_map f xs ≡ []
 flat_none p f [] w e = refl
 flat_none p f (x ∷ xs) w e =
-    ap (λ l. l ++ flat_map f xs) (w x (and_first _ (list_all p xs) e)) ∙ flat_none p f xs w (and_second (p x) _ e)
+    ap (λ l. l ++ flat_map f xs) (w x (and_first _ (list_all p xs) e))
+    ∙ flat_none p f xs w (and_second (p x) _ e)
 
 pub none_append : {A : Type 0} (xs ys : List A) → xs ≡ [] → ys ≡ [] → xs ++ ys ≡ []
 none_append xs ys e f = ap (λ l. l ++ ys) e ∙ f
@@ -65,9 +68,11 @@ module _ (known : Name → Bool) where
   abbrev good : Expr → Bool
   good e = is_plain e && names_known e
 
-  two : (a b : Expr) → is_simple known a ≡ list_all good (parts a) → is_simple known b ≡ list_all good (parts b)
+  two : (a b : Expr) → is_simple known a ≡ list_all good (parts a) →
+      is_simple known b ≡ list_all good (parts b)
       → (is_simple known a && is_simple known b) ≡ list_all good (parts a ++ parts b)
-  two a b e f = ap (λ c. c && is_simple known b) e ∙ ap (λ c. list_all good (parts a) && c) f ∙ sym (all_append good (parts a) (parts b))
+  two a b e f = ap (λ c. c && is_simple known b) e ∙ ap (λ c. list_all good (parts a) && c) f
+      ∙ sym (all_append good (parts a) (parts b))
 
   mutual
     simple_is : (e : Expr) → is_simple known e ≡ list_all good (parts e)
@@ -99,11 +104,15 @@ module _ (known : Name → Bool) where
     simple_are : (es : Exprs) → are_simple known es ≡ list_all good (parts_in es)
     simple_are Nil = refl
     simple_are (Cons e es) =
-        ap (λ c. c && are_simple known es) (simple_is e) ∙ ap (λ c. list_all good (parts e) && c) (simple_are es) ∙ sym (all_append good (parts e) (parts_in es))
+        ap (λ c. c && are_simple known es) (simple_is e)
+        ∙ ap (λ c. list_all good (parts e) && c) (simple_are es)
+        ∙ sym (all_append good (parts e) (parts_in es))
 
-  no_two : (a b : Expr) → (is_simple known a && is_simple known b) ≡ true → (is_simple known a ≡ true → sites a ≡ []) → (is_simple known b ≡ true → sites b ≡ [])
+  no_two : (a b : Expr) → (is_simple known a && is_simple known b) ≡ true →
+      (is_simple known a ≡ true → sites a ≡ []) → (is_simple known b ≡ true → sites b ≡ [])
       → sites a ++ sites b ≡ []
-  no_two a b h f g = none_append (sites a) (sites b) (f (and_first _ (is_simple known b) h)) (g (and_second (is_simple known a) _ h))
+  no_two a b h f g = none_append (sites a) (sites b) (f (and_first _ (is_simple known b) h))
+      (g (and_second (is_simple known a) _ h))
 
   -- a simple expression calls nothing
   mutual
@@ -115,7 +124,8 @@ module _ (known : Name → Bool) where
     no_sites (Unary op a) h = no_sites a h
     no_sites (Binary op a b) h = no_two a b h (no_sites a) (no_sites b)
     no_sites (If c a b) h =
-        none_append (sites c) (sites a ++ sites b) (no_sites c (and_first _ (is_simple known a && is_simple known b) h))
+        none_append (sites c) (sites a ++ sites b)
+        (no_sites c (and_first _ (is_simple known a && is_simple known b) h))
         (no_two a b (and_second (is_simple known c) _ h) (no_sites a) (no_sites b))
     no_sites (Arrow a b) h = no_two a b h (no_sites a) (no_sites b)
     no_sites (Fby a b) h = no_two a b h (no_sites a) (no_sites b)
@@ -135,11 +145,13 @@ module _ (known : Name → Bool) where
     no_sites_in : (es : Exprs) → are_simple known es ≡ true → sites_in es ≡ []
     no_sites_in Nil h = refl
     no_sites_in (Cons e es) h =
-        none_append (sites e) (sites_in es) (no_sites e (and_first _ (are_simple known es) h)) (no_sites_in es (and_second (is_simple known e) _ h))
+        none_append (sites e) (sites_in es) (no_sites e (and_first _ (are_simple known es) h))
+        (no_sites_in es (and_second (is_simple known e) _ h))
 
   -- ## Statements
 
-  simple_statement : (s : Statement) → is_simple_statement known s ≡ list_all good (parts (right_side s))
+  simple_statement : (s : Statement) → is_simple_statement known s
+      ≡ list_all good (parts (right_side s))
   simple_statement (Equation lefts e) = simple_is e
   simple_statement (Assertion e) = simple_is e
 
@@ -149,27 +161,38 @@ module _ (known : Name → Bool) where
 
   -- ## Nodes
 
-  pub simple_parts : (n : Node) → list_all (is_simple_statement known) n.body ≡ true → list_all good (node_parts n) ≡ true
+  pub simple_parts : (n : Node) → list_all (is_simple_statement known) n.body ≡ true →
+      list_all good (node_parts n) ≡ true
   simple_parts n h =
       all_flat good (λ s. parts (right_side s)) n.body
-      ∙ all_weaker (is_simple_statement known) (λ s. list_all good (parts (right_side s))) n.body (λ s e. sym (simple_statement s) ∙ e) h
+      ∙ all_weaker (is_simple_statement known) (λ s. list_all good (parts (right_side s))) n.body
+      (λ s e. sym (simple_statement s) ∙ e) h
 
-  pub plain_parts : (n : Node) → list_all (is_simple_statement known) n.body ≡ true → list_all is_plain (node_parts n) ≡ true
-  plain_parts n h = all_weaker good is_plain (node_parts n) (λ e g. and_first _ (names_known e) g) (simple_parts n h)
+  pub plain_parts : (n : Node) → list_all (is_simple_statement known) n.body ≡ true →
+      list_all is_plain (node_parts n) ≡ true
+  plain_parts n h = all_weaker good is_plain (node_parts n) (λ e g. and_first _ (names_known e) g)
+      (simple_parts n h)
 
-  pub known_names : (n : Node) → list_all (is_simple_statement known) n.body ≡ true → list_all known (flat_map own_names (node_parts n)) ≡ true
+  pub known_names : (n : Node) → list_all (is_simple_statement known) n.body ≡ true →
+      list_all known (flat_map own_names (node_parts n)) ≡ true
   known_names n h =
-      all_flat known own_names (node_parts n) ∙ all_weaker good names_known (node_parts n) (λ e g. and_second (is_plain e) _ g) (simple_parts n h)
+      all_flat known own_names (node_parts n) ∙ all_weaker good names_known (node_parts n)
+      (λ e g. and_second (is_plain e) _ g) (simple_parts n h)
 
-  pub simple_from_parts : (n : Node) → list_all is_plain (node_parts n) ≡ true → list_all known (flat_map own_names (node_parts n)) ≡ true
+  pub simple_from_parts : (n : Node) → list_all is_plain (node_parts n) ≡ true →
+      list_all known (flat_map own_names (node_parts n)) ≡ true
       → list_all (is_simple_statement known) n.body ≡ true
   simple_from_parts n p k =
-      let g = all_both is_plain names_known (node_parts n) p (sym (all_flat known own_names (node_parts n)) ∙ k) in
-      all_weaker (λ s. list_all good (parts (right_side s))) (is_simple_statement known) n.body (λ s e. simple_statement s ∙ e)
+      let g = all_both is_plain names_known (node_parts n) p
+      (sym (all_flat known own_names (node_parts n)) ∙ k) in
+      all_weaker (λ s. list_all good (parts (right_side s))) (is_simple_statement known) n.body
+      (λ s e. simple_statement s ∙ e)
       (sym (all_flat good (λ s. parts (right_side s)) n.body) ∙ g)
 
-  pub no_node_sites : (n : Node) → list_all (is_simple_statement known) n.body ≡ true → node_sites n ≡ []
-  no_node_sites n h = flat_none (is_simple_statement known) statement_sites n.body no_statement_sites h
+  pub no_node_sites : (n : Node) → list_all (is_simple_statement known) n.body ≡ true →
+      node_sites n ≡ []
+  no_node_sites n h = flat_none (is_simple_statement known) statement_sites n.body
+      no_statement_sites h
 
 -- ## Static expressions
 
@@ -178,9 +201,12 @@ module _ (known : Name → Bool) where
   cond_true true xs ys e = refl
   cond_true false xs ys e = absurd cc
 
-  none_two : (a b : Expr) → (is_simple known a && is_simple known b) ≡ true → (is_simple known a ≡ true → parts_of known a ≡ [])
-      → (is_simple known b ≡ true → parts_of known b ≡ []) → parts_of known a ++ parts_of known b ≡ []
-  none_two a b h f g = none_append (parts_of known a) (parts_of known b) (f (and_first _ (is_simple known b) h)) (g (and_second (is_simple known a) _ h))
+  none_two : (a b : Expr) → (is_simple known a && is_simple known b) ≡ true →
+      (is_simple known a ≡ true → parts_of known a ≡ [])
+      → (is_simple known b ≡ true → parts_of known b ≡ []) →
+      parts_of known a ++ parts_of known b ≡ []
+  none_two a b h f g = none_append (parts_of known a) (parts_of known b)
+      (f (and_first _ (is_simple known b) h)) (g (and_second (is_simple known a) _ h))
 
   mutual
     no_statics : (e : Expr) → is_simple known e ≡ true → parts_of known e ≡ []
@@ -191,7 +217,8 @@ module _ (known : Name → Bool) where
     no_statics (Unary op a) h = no_statics a h
     no_statics (Binary op a b) h = none_two a b h (no_statics a) (no_statics b)
     no_statics (If c a b) h =
-        none_append (parts_of known c) (parts_of known a ++ parts_of known b) (no_statics c (and_first _ (is_simple known a && is_simple known b) h))
+        none_append (parts_of known c) (parts_of known a ++ parts_of known b)
+        (no_statics c (and_first _ (is_simple known a && is_simple known b) h))
         (none_two a b (and_second (is_simple known c) _ h) (no_statics a) (no_statics b))
     no_statics (Arrow a b) h = none_two a b h (no_statics a) (no_statics b)
     no_statics (Fby a b) h = none_two a b h (no_statics a) (no_statics b)
@@ -211,9 +238,11 @@ module _ (known : Name → Bool) where
     no_statics_in : (es : Exprs) → are_simple known es ≡ true → parts_in_exprs known es ≡ []
     no_statics_in Nil h = refl
     no_statics_in (Cons e es) h =
-        none_append (parts_of known e) (parts_in_exprs known es) (no_statics e (and_first _ (are_simple known es) h))
+        none_append (parts_of known e) (parts_in_exprs known es)
+        (no_statics e (and_first _ (are_simple known es) h))
         (no_statics_in es (and_second (is_simple known e) _ h))
 
   pub no_body_statics : (body : List Statement) → list_all (is_simple_statement known) body ≡ true
       → flat_map (λ s. parts_of known (right_side s)) body ≡ []
-  no_body_statics body h = flat_none (is_simple_statement known) (λ s. parts_of known (right_side s)) body (λ s e. no_statics (right_side s) e) h
+  no_body_statics body h = flat_none (is_simple_statement known)
+      (λ s. parts_of known (right_side s)) body (λ s e. no_statics (right_side s) e) h

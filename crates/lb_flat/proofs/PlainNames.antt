@@ -38,7 +38,8 @@ true_or false b e = absurd cc
 
 -- what all that pass one test pass
 kept_step : {A : Type 0} (f g p : A → Bool) (b c : Bool) (x y : A) (xs : List A) → g x ≡ b → p x ≡ c
-    → list_all f (cond b (x ∷ filter g xs) (filter g xs)) ≡ true → cond c (Some x) (find p xs) ≡ Some y → g y ≡ true
+    → list_all f (cond b (x ∷ filter g xs) (filter g xs)) ≡ true →
+    cond c (Some x) (find p xs) ≡ Some y → g y ≡ true
     → (list_all f (filter g xs) ≡ true → find p xs ≡ Some y → f y ≡ true) → f y ≡ true
 kept_step f g p true true x y xs gx px all h gy next =
     let same : x ≡ y = cc in subst (λ z. f z ≡ true) same (and_first (f x) _ all)
@@ -47,17 +48,20 @@ kept_step f g p false true x y xs gx px all h gy next =
     let same : x ≡ y = cc in let gx' : g y ≡ false = subst (λ z. g z ≡ false) same gx in absurd cc
 kept_step f g p false false x y xs gx px all h gy next = next all h
 
-all_kept : {A : Type 0} (f g p : A → Bool) (xs : List A) (y : A) → list_all f (filter g xs) ≡ true → find p xs ≡ Some y → g y ≡ true → f y ≡ true
+all_kept : {A : Type 0} (f g p : A → Bool) (xs : List A) (y : A) → list_all f (filter g xs) ≡ true →
+    find p xs ≡ Some y → g y ≡ true → f y ≡ true
 all_kept f g p [] y all h gy = absurd cc
 all_kept f g p (x ∷ xs) y all h gy =
     kept_step f g p (g x) (p x) x y xs refl refl all h gy (λ a h. all_kept f g p xs y a h gy)
 
 -- what reaches the nodes of a start has the start among it
-reached_start : (P : Program) (f start : Node → Bool) (k : ℕ) (x : Name) (n : Node) → list_all f (reached_within P start k) ≡ true
+reached_start : (P : Program) (f start : Node → Bool) (k : ℕ) (x : Name) (n : Node) →
+    list_all f (reached_within P start k) ≡ true
     → node_named P x ≡ Some n → start n ≡ true → f n ≡ true
 reached_start P f start zero x n all h s = all_kept f start _ P.source.nodes n all h s
 reached_start P f start (suc k) x n all h s =
-    all_kept f (λ m. start m || list_any (λ l. calls P l m) (reached_within P start k)) _ P.source.nodes n all h
+    all_kept f (λ m. start m || list_any (λ l. calls P l m) (reached_within P start k)) _
+    P.source.nodes n all h
     (true_or (start n) _ s)
 
 started : (o : Option Node) (n : Node) → option_map start_of o ≡ Some (start_of n) → o ≡ Some n
@@ -74,25 +78,30 @@ distinct_names P n e =
     let kept = kept_rule (keeps_names P) _ e.accepted in
     let named_all = and_first _ _ (and_second _ _ (and_second _ _ kept)) in
     let found = started (node_named P P.root) n e.root in
-    let begins = true_or (bytes_eq n.name P.root) _ (found_passes (λ m. bytes_eq m.name P.root) P.source.nodes n found) in
-    let passes = reached_start P (is_named P) (λ m. among m.name (start_names P)) (length P.source.nodes) P.root n named_all found begins in
+    let begins = true_or (bytes_eq n.name P.root) _
+    (found_passes (λ m. bytes_eq m.name P.root) P.source.nodes n found) in
+    let passes = reached_start P (is_named P) (λ m. among m.name (start_names P))
+    (length P.source.nodes) P.root n named_all found begins in
     distinct_first (variable_names n) n.parameters (and_first (declares_once P n) _ passes)
 
 -- ## A place and its name
 
-pub get_name : (vars : List Variable) (i : ℕ) (v : Variable) → slice_get vars i ≡ Some v → slice_get (map (λ v. v.name) vars) i ≡ Some v.name
+pub get_name : (vars : List Variable) (i : ℕ) (v : Variable) → slice_get vars i ≡ Some v →
+    slice_get (map (λ v. v.name) vars) i ≡ Some v.name
 get_name [] i v e = absurd cc
 get_name (w ∷ vars) zero v e = let same : w ≡ v = cc in ap (λ z. Some z.name) same
 get_name (w ∷ vars) (suc i) v e = get_name vars i v e
 
 -- the variable at a place is the one found by its name
-pub found_at : (vars : List Variable) (i : ℕ) (v : Variable) → are_distinct (map (λ v. v.name) vars) ≡ true → slice_get vars i ≡ Some v
+pub found_at : (vars : List Variable) (i : ℕ) (v : Variable) →
+    are_distinct (map (λ v. v.name) vars) ≡ true → slice_get vars i ≡ Some v
     → named (λ d. d.name) v.name (map declaration_of vars) ≡ Some (declaration_of v)
 found_at [] i v d e = absurd cc
 found_at (w ∷ vars) zero v d e =
     let same : w ≡ v = cc in
     let z = (bytes_eq-Decides v.name v.name).1 refl in
-    subst (λ (u : Variable). named (λ d. d.name) v.name (map declaration_of (u ∷ vars)) ≡ Some (declaration_of v)) (sym same) (rw z refl)
+    subst (λ (u : Variable). named (λ d. d.name) v.name (map declaration_of (u ∷ vars))
+    ≡ Some (declaration_of v)) (sym same) (rw z refl)
 found_at (w ∷ vars) (suc i) v d e =
     let a = not_true _ (and_first (not (among w.name (map (λ v. v.name) vars))) _ d) in
     let no = not_among w.name (map (λ v. v.name) vars) i v.name a (get_name vars i v e) in

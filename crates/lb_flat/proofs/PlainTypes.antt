@@ -34,18 +34,21 @@ and_second : (a b : Bool) → (a && b) ≡ true → b ≡ true
 and_second true b e = e
 and_second false b e = absurd cc
 
-pub names_map : (vars : List Variable) → map (λ d. d.name) (map declaration_of vars) ≡ map (λ v. v.name) vars
+pub names_map : (vars : List Variable) → map (λ d. d.name) (map declaration_of vars)
+    ≡ map (λ v. v.name) vars
 names_map [] = refl
 names_map (v ∷ vars) = ap (λ (xs : List Name). v.name ∷ xs) (names_map vars)
 
-get_kind : (vars : List Variable) (i : ℕ) (v : Variable) → slice_get vars i ≡ Some v → slice_get (map (λ v. v.kind) vars) i ≡ Some v.kind
+get_kind : (vars : List Variable) (i : ℕ) (v : Variable) → slice_get vars i ≡ Some v →
+    slice_get (map (λ v. v.kind) vars) i ≡ Some v.kind
 get_kind [] i v e = absurd cc
 get_kind (w ∷ vars) zero v e = let same : w ≡ v = cc in ap (λ (z : Variable). Some z.kind) same
 get_kind (w ∷ vars) (suc i) v e = get_kind vars i v e
 
 -- ## One left variable
 
-one_left : (o l : Option Kind) (P : Program) → are_same P (shape_list o) (all_some (option_map scalar l ∷ [])) ≡ is_same o l
+one_left : (o l : Option Kind) (P : Program) → are_same P (shape_list o)
+    (all_some (option_map scalar l ∷ [])) ≡ is_same o l
 one_left None None P = refl
 one_left None (Some l) P = refl
 one_left (Some k) None P = refl
@@ -76,18 +79,21 @@ more_left o (Some s) None os P = no_shapes o
     no_shapes (Some k) = refl
 more_left o (Some s) (Some t) os P = by o (all_some os)
   where
-    by : (o : Option Kind) (r : Option (List Shape)) → are_same P (shape_list o) (option_map (λ ts. s ∷ ts) (option_map (λ ts. t ∷ ts) r)) ≡ false
+    by : (o : Option Kind) (r : Option (List Shape)) →
+        are_same P (shape_list o) (option_map (λ ts. s ∷ ts) (option_map (λ ts. t ∷ ts) r)) ≡ false
     by None None = refl
     by None (Some ts) = refl
     by (Some k) None = refl
     by (Some k) (Some ts) = and_false (is_shape (scalar k) s)
 
-an_assertion : (o : Option Kind) (P : Program) → are_same P (shape_list o) (Some (truth ∷ [])) ≡ is_bool o
+an_assertion : (o : Option Kind) (P : Program) → are_same P (shape_list o) (Some (truth ∷ []))
+    ≡ is_bool o
 an_assertion None P = refl
 an_assertion (Some Int_kind) P = refl
 an_assertion (Some Bool_kind) P = refl
 
-module _ (P : Program) (n : Node) (e : IsPlain P n) (vars : List Variable) (vars_is : variables n ≡ map declaration_of vars) where
+module _ (P : Program) (n : Node) (e : IsPlain P n) (vars : List Variable)
+    (vars_is : variables n ≡ map declaration_of vars) where
   abbrev names : List Name
   names = map (λ v. v.name) vars
 
@@ -96,11 +102,13 @@ module _ (P : Program) (n : Node) (e : IsPlain P n) (vars : List Variable) (vars
 
   distinct : are_distinct names ≡ true
   distinct =
-      subst (λ xs. are_distinct xs ≡ true) (ap (map (λ d. d.name)) vars_is ∙ names_map vars) (distinct_names P n e)
+      subst (λ xs. are_distinct xs ≡ true) (ap (map (λ d. d.name)) vars_is ∙ names_map vars)
+      (distinct_names P n e)
 
   -- the declaration found by the name of a place
   found : (x : VariableId) → is_place (length vars) x ≡ true
-      → (v : Variable) × (named (λ d. d.name) (name_of names x) (variables n) ≡ Some (declaration_of v)) × (slice_get kinds x.0 ≡ Some v.kind)
+      → (v : Variable) × (named (λ d. d.name) (name_of names x) (variables n)
+      ≡ Some (declaration_of v)) × (slice_get kinds x.0 ≡ Some v.kind)
   found x within =
       let v = held_at vars x.0 within in
       let name = ap (λ o. either_or o []) (get_name vars x.0 v.0 v.1) in
@@ -112,7 +120,8 @@ module _ (P : Program) (n : Node) (e : IsPlain P n) (vars : List Variable) (vars
       → name_shape P (start_of n) (name_of names x) ≡ option_map scalar (slice_get kinds x.0)
   named_shape x within =
       let f = found x within in
-      ap (λ o. either_or (option_map (shape_of P (start_of n)) o) (Some int)) f.1 ∙ ap (option_map scalar) (sym f.2)
+      ap (λ o. either_or (option_map (shape_of P (start_of n)) o) (Some int)) f.1
+      ∙ ap (option_map scalar) (sym f.2)
 
   left_shape : (x : VariableId) → is_place (length vars) x ≡ true
       → declared_shape P (start_of n) (name_of names x) ≡ option_map scalar (slice_get kinds x.0)
@@ -120,16 +129,21 @@ module _ (P : Program) (n : Node) (e : IsPlain P n) (vars : List Variable) (vars
       let f = found x within in
       ap (λ o. o >>= shape_of P (start_of n)) f.1 ∙ ap (option_map scalar) (sym f.2)
 
-  right_shape : (t : Term) → is_within (length vars) t ≡ true → shapes P (start_of n) (expr_of names t) ≡ shape_list (term_kind kinds t)
+  right_shape : (t : Term) → is_within (length vars) t ≡ true →
+      shapes P (start_of n) (expr_of names t) ≡ shape_list (term_kind kinds t)
   right_shape t within = term_shapes P (start_of n) names kinds (length vars) named_shape t within
 
-  lefts_typed : (o : Option Kind) (xs : List VariableId) → list_all (is_place (length vars)) xs ≡ true
-      → are_same P (shape_list o) (all_some (map (declared_shape P (start_of n)) (map (name_of names) xs))) ≡ fits_left kinds xs o
+  lefts_typed : (o : Option Kind) (xs : List VariableId) →
+      list_all (is_place (length vars)) xs ≡ true
+      → are_same P (shape_list o) (all_some (map (declared_shape P (start_of n))
+      (map (name_of names) xs))) ≡ fits_left kinds xs o
   lefts_typed o [] w = no_left o P
   lefts_typed o (x ∷ []) w =
-      ap (λ s. are_same P (shape_list o) (all_some (s ∷ []))) (left_shape x (and_first _ true w)) ∙ one_left o (slice_get kinds x.0) P
+      ap (λ s. are_same P (shape_list o) (all_some (s ∷ []))) (left_shape x (and_first _ true w))
+      ∙ one_left o (slice_get kinds x.0) P
   lefts_typed o (x ∷ y ∷ xs) w =
-      more_left o (declared_shape P (start_of n) (name_of names x)) (declared_shape P (start_of n) (name_of names y))
+      more_left o (declared_shape P (start_of n) (name_of names x))
+      (declared_shape P (start_of n) (name_of names y))
       (map (declared_shape P (start_of n)) (map (name_of names) xs)) P
 
   pub step_typed : (s : Step) → is_step_within (length vars) s ≡ true
@@ -137,30 +151,37 @@ module _ (P : Program) (n : Node) (e : IsPlain P n) (vars : List Variable) (vars
   step_typed (step.Equation lefts t) w =
       let lw = and_first _ (is_within (length vars) t) w in
       let tw = and_second (list_all (is_place (length vars)) lefts.items) _ w in
-      ap (λ ts. are_same P ts (all_some (map (declared_shape P (start_of n)) (map (name_of names) lefts.items)))) (right_shape t tw)
+      ap (λ ts. are_same P ts (all_some (map (declared_shape P (start_of n))
+      (map (name_of names) lefts.items)))) (right_shape t tw)
       ∙ lefts_typed (term_kind kinds t) lefts.items lw
   step_typed (step.Assertion t) w =
-      ap (λ ts. are_same P ts (Some (truth ∷ []))) (right_shape t w) ∙ an_assertion (term_kind kinds t) P
+      ap (λ ts. are_same P ts (Some (truth ∷ []))) (right_shape t w)
+      ∙ an_assertion (term_kind kinds t) P
 
   steps_typed : (ss : List Step) → list_all (is_step_within (length vars)) ss ≡ true
-      → list_all (is_statement_typed P (start_of n)) (map (statement_of names) ss) ≡ list_all (is_step_typed kinds) ss
+      → list_all (is_statement_typed P (start_of n)) (map (statement_of names) ss)
+      ≡ list_all (is_step_typed kinds) ss
   steps_typed [] w = refl
   steps_typed (s ∷ ss) w =
       let a = step_typed s (and_first _ (list_all (is_step_within (length vars)) ss) w) in
       let b = steps_typed ss (and_second (is_step_within (length vars) s) _ w) in
       rw a (rw b refl)
 
-  clocks_typed : (ds : List Declaration) → list_all is_scalar ds ≡ true → list_all (is_clock_typed P (start_of n)) ds ≡ true
+  clocks_typed : (ds : List Declaration) → list_all is_scalar ds ≡ true →
+      list_all (is_clock_typed P (start_of n)) ds ≡ true
   clocks_typed [] w = refl
   clocks_typed (d ∷ ds) w =
       let c = scalar_clock d (and_first _ (list_all is_scalar ds) w) in
       let one : is_clock_typed P (start_of n) d ≡ true =
-      ap (λ o. list_all (λ s. holds (is_shape truth) (declared_shape P (start_of n) s.variable)) (listed (λ s. s ∷ []) o)) c in
+      ap (λ o. list_all (λ s. holds (is_shape truth) (declared_shape P (start_of n) s.variable))
+      (listed (λ s. s ∷ []) o)) c in
       rw one (clocks_typed ds (and_second (is_scalar d) _ w))
 
   -- the rules of types are those of the statements alone
-  pub node_typed : (ss : List Step) → n.body ≡ map (statement_of names) ss → list_all (is_step_within (length vars)) ss ≡ true
-      → list_all is_scalar (variables n) ≡ true → is_typed P (start_of n) ≡ list_all (is_step_typed kinds) ss
+  pub node_typed : (ss : List Step) → n.body ≡ map (statement_of names) ss →
+      list_all (is_step_within (length vars)) ss ≡ true
+      → list_all is_scalar (variables n) ≡ true → is_typed P (start_of n)
+      ≡ list_all (is_step_typed kinds) ss
   node_typed ss body w plain =
       let c = clocks_typed (variables n) plain in
       rw c (ap (list_all (is_statement_typed P (start_of n))) body ∙ steps_typed ss w)

@@ -1,16 +1,23 @@
 -- One more equation of a program is put among its inputs, its steps or its constants.
-use Rattle.std.proofs.Common.{◌≡◌, ℕ, ◌+◌, ◌<◌, Bool, true, false, cond, List, [], ◌∷◌, ◌++◌, map, length, drop, set, get_or, sym, ap, ◌∙◌, add-one, append_assoc, All}
+use Rattle.std.proofs.Common.{◌≡◌, ℕ, suc, ◌+◌, ◌<◌, Bool, true, false, cond, refl, arith, List, [], ◌∷◌, ◌++◌, map, length, drop, set, get_or, sym, ap, ◌∙◌, add-one, append_assoc, All}
 use Rattle.std.proofs.Math.Seq.{drop-cons}
-use Rattle.std.proofs.lemmas.List.{map_push}
+use Rattle.std.proofs.lemmas.List.{map_push, length-map, append-nil}
+use Rattle.std.specs.Prelude.{not, ◌||◌}
+use Rattle.std.specs.List.{filter}
 use Rattle.std.proofs.lemmas.List.Elements.{All-push}
 use Rattle.lb_flat.specs.declared.equation.Equation.{Equation}
+use Rattle.lb_flat.specs.declared.equation.InputId.{InputId}
+use Rattle.lb_flat.specs.declared.equation.InputPlace.{InputPlace}
+use Rattle.lb_flat.specs.declared.equation.Operation.{Operation}
+use Rattle.lb_flat.specs.declared.equation.Operation.TheVariants.{Input, Constant, Copy, ApplyUnary, ApplyBinary, Choose, FirstThen, Previous, Latest, Sample}
 use Rattle.lb_flat.specs.declared.equation.Tick.{Tick}
 use Rattle.lb_flat.specs.declared.cell.Cell.{Cell}
 use Rattle.lb_flat.specs.Flat.{FlatEquation}
-use Rattle.lb_flat.specs.Prepared.{is_fixed, is_step, steps_in, fixed_in}
+use Rattle.lb_flat.specs.Prepared.{is_input, is_fixed, is_step, has_memory, on_base, inputs_in, steps_in, fixed_in, memory_places, place_equation}
 use Rattle.lb_flat.specs.Run.{Row, now, filled}
 use Rattle.lb_flat.specs.Values.{cell_of, clock_of, operation_of, equation_of}
 use Rattle.lb_flat.specs.Within.{IsWithin}
+use Rattle.lb_flat.proofs.Selecting.{by_test}
 use Rattle.lb_flat.proofs.Steps.{map-set}
 
 -- ## Selecting
@@ -20,13 +27,73 @@ here_is :
     drop i qs ≡ get_or qs i d ∷ drop (i + 1) qs
 here_is i d qs lt = rw (add-one, drop-cons qs i d)
 
--- the steps before an index, and those in the rest, are all
-pub record AreSteps (size : ℕ) (ticks : List Tick) (qs : List Equation) (i : ℕ)
-    (steps : List Equation) : Type 0 where
-  pub as_selected :
+-- what of the equations before an index is put apart, and what of the rest will be, is all
+pub record AreApart (size : ℕ) (ticks : List Tick) (qs : List Equation) (i : ℕ)
+    (inputs : List InputPlace) (steps : List Equation) (memories : List ℕ) : Type 0 where
+  pub inputs_are :
+      map place_equation inputs ++ inputs_in (map (equation_of ticks) (drop i qs))
+      ≡ inputs_in (map (equation_of ticks) qs)
+  pub places : All (λ p. p.element.0 < size) inputs
+  pub steps_are :
       map (equation_of ticks) steps ++ steps_in (map (equation_of ticks) (drop i qs))
       ≡ steps_in (map (equation_of ticks) qs)
   pub within : All (IsWithin size ticks) steps
+  pub memories_are : memories ≡ memory_places 0 (map (equation_of ticks) steps)
+
+-- the place of one equation more, if it has a memory
+abbrev place_of_memory : Bool → ℕ → List ℕ
+place_of_memory b n = cond b (n ∷ []) []
+
+memory_places_more : (n : ℕ) (Q : List FlatEquation) (q : FlatEquation) →
+    memory_places n (Q ++ q ∷ [])
+    ≡ memory_places n Q ++ place_of_memory (has_memory q.operation) (n + length Q)
+memory_places_more n [] q = ap (place_of_memory (has_memory q.operation)) (omega arith)
+memory_places_more n (p ∷ Q) q =
+    let place : suc n + length Q ≡ n + suc (length Q) = omega arith in
+    let rest = memory_places_more (suc n) Q q
+    ∙ ap (λ k. memory_places (suc n) Q ++ place_of_memory (has_memory q.operation) k) place in
+    by_test (has_memory p.operation)
+    (λ yes.
+    ap (λ b. cond b (n ∷ memory_places (suc n) (Q ++ q ∷ [])) (memory_places (suc n) (Q ++ q ∷ [])))
+    yes
+    ∙ ap (λ ks. n ∷ ks) rest
+    ∙ sym (ap (λ b. cond b (n ∷ memory_places (suc n) Q) (memory_places (suc n) Q)
+    ++ place_of_memory (has_memory q.operation) (n + suc (length Q))) yes))
+    (λ no.
+    ap (λ b. cond b (n ∷ memory_places (suc n) (Q ++ q ∷ [])) (memory_places (suc n) (Q ++ q ∷ [])))
+    no
+    ∙ rest
+    ∙ sym (ap (λ b. cond b (n ∷ memory_places (suc n) Q) (memory_places (suc n) Q)
+    ++ place_of_memory (has_memory q.operation) (n + suc (length Q))) no))
+
+pub one_memory_more : (memories more : List ℕ) (b : Bool) (n k : ℕ) → b ≡ true → k ≡ n →
+    more ≡ memories ++ k ∷ [] → more ≡ memories ++ place_of_memory b n
+one_memory_more memories more b n k e f g =
+    g ∙ ap (λ k. memories ++ k ∷ []) f ∙ sym (ap (λ b. memories ++ place_of_memory b n) e)
+
+pub no_memory_more : (memories more : List ℕ) (b : Bool) (n : ℕ) → b ≡ false →
+    more ≡ memories → more ≡ memories ++ place_of_memory b n
+no_memory_more memories more b n e g =
+    g ∙ sym (append-nil memories) ∙ sym (ap (λ b. memories ++ place_of_memory b n) e)
+
+-- the same lists are put apart
+pub apart_same :
+    (size : ℕ) (ticks : List Tick) (qs : List Equation) (i : ℕ) (is js : List InputPlace)
+    (ss ts : List Equation) (ms ns : List ℕ) → js ≡ is → ts ≡ ss → ns ≡ ms →
+    AreApart size ticks qs i is ss ms → AreApart size ticks qs i js ts ns
+apart_same size ticks qs i is js ss ts ms ns e f g h = rw (e, f, g) h
+
+not_input : (o : Operation) → ((j : InputId) → o ≡ Input j → ⊥) → is_input (operation_of o) ≡ false
+not_input (Input j) never = absurd (never j refl)
+not_input (Constant v) never = refl
+not_input (Copy a) never = refl
+not_input (ApplyUnary op a) never = refl
+not_input (ApplyBinary op a b) never = refl
+not_input (Choose c a b) never = refl
+not_input (FirstThen started a b) never = refl
+not_input (Previous v a) never = refl
+not_input (Latest v a) never = refl
+not_input (Sample a) never = refl
 
 module _ (ticks : List Tick) (qs : List Equation) (i : ℕ) (d : Equation) (lt : i < length qs) where
   abbrev flat : List Equation → List FlatEquation
@@ -37,6 +104,9 @@ module _ (ticks : List Tick) (qs : List Equation) (i : ℕ) (d : Equation) (lt :
 
   abbrev later : List Equation
   later = drop (i + 1) qs
+
+  abbrev inputs_of : List Equation → List FlatEquation
+  inputs_of rs = filter (λ q. is_input q.operation) (flat rs)
 
   -- what is selected of the rest, where the next one is and where it is not
   abbrev one_more : Bool → FlatEquation → List FlatEquation → List FlatEquation
@@ -49,25 +119,92 @@ module _ (ticks : List Tick) (qs : List Equation) (i : ℕ) (d : Equation) (lt :
       ap (λ rs. steps_in (flat rs)) (here_is i d qs lt)
       ∙ ap (λ x. one_more x (equation_of ticks next) (steps_in (flat later))) e
 
-  pub step_pushed :
-      (size : ℕ) (steps : List Equation) → is_step (equation_of ticks next) ≡ true →
-      IsWithin size ticks next → AreSteps size ticks qs i steps →
-      AreSteps size ticks qs (i + 1) (steps ++ next ∷ [])
-  step_pushed size steps e within h = record {
-    as_selected =
-        ap (λ xs. xs ++ steps_in (flat later)) (map_push (equation_of ticks) steps next)
-        ∙ append_assoc (flat steps) (equation_of ticks next ∷ []) (steps_in (flat later))
-        ∙ ap (λ xs. flat steps ++ xs) (sym (steps_here true e)) ∙ h.as_selected;
-    within = All-push (IsWithin size ticks) steps next h.within within;
-  }
+  inputs_here :
+      (b : Bool) → is_input (operation_of next.operation) ≡ b →
+      inputs_in (flat (drop i qs))
+      ≡ one_more b (on_base (equation_of ticks next)) (inputs_in (flat later))
+  inputs_here true e =
+      ap (λ rs. inputs_in (flat rs)) (here_is i d qs lt)
+      ∙ ap (λ x. map on_base (one_more x (equation_of ticks next) (inputs_of later))) e
+  inputs_here false e =
+      ap (λ rs. inputs_in (flat rs)) (here_is i d qs lt)
+      ∙ ap (λ x. map on_base (one_more x (equation_of ticks next) (inputs_of later))) e
 
-  pub step_passed :
-      (size : ℕ) (steps : List Equation) → is_step (equation_of ticks next) ≡ false →
-      AreSteps size ticks qs i steps → AreSteps size ticks qs (i + 1) steps
-  step_passed size steps e h = record {
-    as_selected = ap (λ xs. flat steps ++ xs) (sym (steps_here false e)) ∙ h.as_selected;
-    within = h.within;
-  }
+  later_place : (steps : List Equation) → length steps ≡ 0 + length (flat steps)
+  later_place steps = omega (arith, length-map steps (equation_of ticks))
+
+  module _ (size : ℕ) (inputs : List InputPlace) (steps : List Equation) (memories : List ℕ)
+      (h : AreApart size ticks qs i inputs steps memories) where
+    pub input_put :
+        (j : InputId) → next.operation ≡ Input j → IsWithin size ticks next →
+        AreApart size ticks qs (i + 1) (inputs ++ record { element = next.element; input = j } ∷ [])
+        steps memories
+    input_put j is within =
+        let p : InputPlace = record { element = next.element; input = j } in
+        let yes = ap (λ o. is_input (operation_of o)) is in
+        let same : place_equation p ≡ on_base (equation_of ticks next) =
+        sym (ap (λ o. on_base (equation_of ticks
+        (record { element = next.element; clock = next.clock; operation = o }))) is) in
+        record {
+          inputs_are =
+              ap (λ xs. xs ++ inputs_in (flat later)) (map_push place_equation inputs p)
+              ∙ append_assoc (map place_equation inputs) (place_equation p ∷ [])
+              (inputs_in (flat later))
+              ∙ ap (λ x. map place_equation inputs ++ x ∷ inputs_in (flat later)) same
+              ∙ ap (λ xs. map place_equation inputs ++ xs) (sym (inputs_here true yes))
+              ∙ h.inputs_are;
+          places = All-push (λ (p : InputPlace). p.element.0 < size) inputs p h.places
+              within.element;
+          steps_are =
+              ap (λ xs. flat steps ++ xs) (sym (steps_here false
+              (ap (λ b. not (b || is_fixed (clock_of ticks next.clock)
+              (operation_of next.operation))) yes)))
+              ∙ h.steps_are;
+          within = h.within;
+          memories_are = h.memories_are;
+        }
+
+    pub step_put :
+        (more : List ℕ) → ((j : InputId) → next.operation ≡ Input j → ⊥) →
+        is_step (equation_of ticks next) ≡ true → IsWithin size ticks next →
+        more ≡ memories ++ place_of_memory (has_memory (operation_of next.operation)) (length steps)
+        →
+        AreApart size ticks qs (i + 1) inputs (steps ++ next ∷ []) more
+    step_put more never e within grown = record {
+      inputs_are =
+          ap (λ xs. map place_equation inputs ++ xs)
+          (sym (inputs_here false (not_input next.operation never))) ∙ h.inputs_are;
+      places = h.places;
+      steps_are =
+          ap (λ xs. xs ++ steps_in (flat later)) (map_push (equation_of ticks) steps next)
+          ∙ append_assoc (flat steps) (equation_of ticks next ∷ []) (steps_in (flat later))
+          ∙ ap (λ xs. flat steps ++ xs) (sym (steps_here true e)) ∙ h.steps_are;
+      within = All-push (IsWithin size ticks) steps next h.within within;
+      memories_are =
+          grown
+          ∙ ap (λ ks. ks ++ place_of_memory (has_memory (operation_of next.operation))
+          (length steps))
+          h.memories_are
+          ∙ ap (λ k. memory_places 0 (flat steps)
+          ++ place_of_memory (has_memory (operation_of next.operation)) k)
+          (later_place steps)
+          ∙ sym (memory_places_more 0 (flat steps) (equation_of ticks next))
+          ∙ ap (memory_places 0) (sym (map_push (equation_of ticks) steps next));
+    }
+
+    pub constant_passed_over :
+        ((j : InputId) → next.operation ≡ Input j → ⊥) →
+        is_step (equation_of ticks next) ≡ false →
+        AreApart size ticks qs (i + 1) inputs steps memories
+    constant_passed_over never e = record {
+      inputs_are =
+          ap (λ xs. map place_equation inputs ++ xs)
+          (sym (inputs_here false (not_input next.operation never))) ∙ h.inputs_are;
+      places = h.places;
+      steps_are = ap (λ xs. flat steps ++ xs) (sym (steps_here false e)) ∙ h.steps_are;
+      within = h.within;
+      memories_are = h.memories_are;
+    }
 
   fixed_here :
       (b : Bool) → is_fixed (clock_of ticks next.clock) (operation_of next.operation) ≡ b →

@@ -16,7 +16,8 @@ use Rattle.lb_check.specs.declared.verdict.Verdict.{Verdict}
 use Rattle.lb_check.specs.Scalars as scalars
 use Rattle.lb_check.specs.Scalars.{is_given}
 use Rattle.lb_check.specs.Solutions.{is_row, HasOneHistory}
-use Rattle.lb_check.specs.Verdicts.{HasVerdict}
+use Rattle.lb_check.specs.Verdicts.{HasVerdict, IsOnlyVerdict}
+use Rattle.lb_check.proofs.OnlyVerdict.{only_verdict}
 use Rattle.lb_flat.specs.Traces.{Row, Recording, trace_at, IsCell, IsInt, IsRow, IsRecording}
 use Rattle.lb_flat.specs.Inputs.{scalar_in, scalars_in, inputs_of}
 use Rattle.lb_flat.specs.Flattening.{IsTrace, IsFlatOf}
@@ -94,11 +95,12 @@ module _ (P : Program) (r : Recording) (k : ℕ) (same : signature P ≡ r.signa
       (rows_given r.signature (trace_at r.traces k).1 (lawful.each k ([], []) below).rows)
 
   module _ (f : FlatProgram) (flat : IsFlatOf P f) (ready : Ready f.size [] f.equations) where
-    pub recorded_verdict :
-        (v : Verdict) → v ≡ flat_verdict f (inputs_of r k) → HasVerdict P (inputs_of r k) v
-    recorded_verdict v e =
-        subst (HasVerdict P (inputs_of r k)) (sym e)
-        (has_verdict P f flat ready (inputs_of r k) trace_given)
-
     pub recorded_alone : HasOneHistory P (inputs_of r k)
     recorded_alone = has_one_history P f flat ready (inputs_of r k) trace_given
+
+    pub recorded_verdict :
+        (v : Verdict) → v ≡ flat_verdict f (inputs_of r k) → IsOnlyVerdict P (inputs_of r k) v
+    recorded_verdict v e =
+        only_verdict P flat.accepted flat.checked (inputs_of r k) recorded_alone v
+        (subst (HasVerdict P (inputs_of r k)) (sym e)
+        (has_verdict P f flat ready (inputs_of r k) trace_given))

@@ -1,5 +1,5 @@
 -- A flat program in order has exactly one solution on each trace: what the run gives.
-use Rattle.std.proofs.Common.{◌≡◌, ℕ, zero, suc, ◌<◌, List, [], ◌∷◌, ◌++◌, map, length, take, replicate, refl, sym, ap, ap₂, ◌∙◌, subst, arith}
+use Rattle.std.proofs.Common.{◌≡◌, ℕ, zero, suc, ◌<◌, List, [], ◌∷◌, ◌++◌, map, length, replicate, refl, sym, ap, ap₂, ◌∙◌, subst, arith}
 use Rattle.std.proofs.lemmas.List.{length-map, length-replicate}
 use Rattle.lb_syntax.specs.Lists.{Every, In, zip2, tail_of}
 use Rattle.lb_check.specs.Scalars.{Scalar, Stream}
@@ -214,10 +214,3 @@ module _ (size : ℕ) where
   }
   exists (given ∷ X) Q ready =
       joined_solves given X Q _ ready (exists X _ (ready_advanced size _ [] Q ready))
-
-  -- the run of a prefix is the prefix of the run
-  pub run_prefix :
-      (X Z : Inputs) (Q : List FlatEquation) →
-      take (length X) (run size Q (X ++ Z)) ≡ run size Q X
-  run_prefix [] Z Q = refl
-  run_prefix (given ∷ X) Z Q = ap (λ rows. row_of size Q given ∷ rows) (run_prefix X Z _)

@@ -121,11 +121,13 @@ module _ (given : List Scalar) where
       ∙ inputs_fill Q (set row q.element (now given row Always q.operation))
       ∙ ap (λ v. filled given (set row q.element v) (filter reads_input Q))
       (input_now given Always q.operation e row row q.clock)
-      ∙ ap (λ b. filled given row (cond b (q ∷ filter reads_input Q) (filter reads_input Q))) (sym e))
+      ∙ ap (λ b. filled given row (cond b (q ∷ filter reads_input Q) (filter reads_input Q)))
+      (sym e))
       (λ e. ap (λ b. filled given row
       (map on_base (cond b (q ∷ filter reads_input Q) (filter reads_input Q)))) e
       ∙ inputs_fill Q row
-      ∙ ap (λ b. filled given row (cond b (q ∷ filter reads_input Q) (filter reads_input Q))) (sym e))
+      ∙ ap (λ b. filled given row (cond b (q ∷ filter reads_input Q) (filter reads_input Q)))
+      (sym e))
 
   -- the steps read no input
   steps_alone :

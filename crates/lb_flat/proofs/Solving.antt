@@ -31,7 +31,8 @@ use Rattle.lb_flat.proofs.Fitting.{OperandKinds, KindFits, IsFitting, compared, 
 
 -- ## The same equations in another order
 
-pub Every-of_in : {A : Type 0} (P : A → Type 0) (xs : List A) → ((x : A) → In x xs → P x) → Every P xs
+pub Every-of_in : {A : Type 0} (P : A → Type 0) (xs : List A) → ((x : A) → In x xs → P x) →
+    Every P xs
 Every-of_in P [] f = tt
 Every-of_in P (x ∷ xs) f = (f x (inl refl), Every-of_in P xs (λ y i. f y (inr i)))
 

@@ -1,6 +1,6 @@
 -- A row of terms in a tree is the list in the vector; terms and steps from a place on.
-use Rattle.std.proofs.Common.{◌≡◌, ℕ, ◌+◌, ◌*◌, ◌<◌, ◌≤◌, List, [], ◌∷◌, ◌++◌, length, drop, get_or, Vec, Box, Global, refl, sym, ap, ◌∙◌, zero, suc, MatchOption, Option, Some, None, arith}
-use Rattle.std.specs.Prelude.{true, false, ◌&&◌, nat_lt, slice_get}
+use Rattle.std.proofs.Common.{◌≡◌, ℕ, ◌+◌, ◌*◌, ◌<◌, ◌≤◌, List, [], ◌∷◌, ◌++◌, length, drop, get_or, Vec, Box, Global, refl, sym, ap, ◌∙◌, zero, suc, ◌⊎◌, inl, inr, arith}
+use Rattle.std.specs.Prelude.{true, ◌&&◌, nat_lt, slice_get}
 use Rattle.std.specs.List.{list_all}
 use Rattle.std.proofs.lemmas.Bool.Decides.{nat_tests}
 use Rattle.std.proofs.lemmas.List.{drop_more}
@@ -16,9 +16,9 @@ use Rattle.lb_flat.specs.declared.plain.term.Step.{Step}
 use Rattle.lb_flat.specs.declared.plain.term.Term.{Term, Unary, Binary, If, Arrow, Fby, Pre, AtMostOne, Nor, AtMostOne', Nor', Row_of-Term, end_of-Term, more_of-Term, items-the_row-Term, items_hidden-the_row-Term-0}
 use Rattle.lb_flat.specs.PlainNodes.{is_place, is_step_within, is_within, are_within}
 use Rattle.lb_flat.specs.TermKinds.{kinds_of}
-use Rattle.lb_flat.specs.Flat.{Always, ApplyUnary, ApplyBinary, Choose, FirstThen}
+use Rattle.lb_flat.specs.Flat.{Always, Choose}
 use Rattle.lb_flat.specs.Emit.{State, Emitted, emit_nor, emit_at_most_one}
-use Rattle.lb_flat.specs.Terms.{Found, pushed, previous, unary_result, binary_result, as_truth, emit_term, emit_row, emit_list, term_size, row_size, list_size, step_size, steps_size, emit_step, emit_steps}
+use Rattle.lb_flat.specs.Terms.{Found, pushed, with_one, with_two, with_all, as_truth, emit_term, emit_row, emit_list, term_size, row_size, list_size, step_size, steps_size, emit_step, emit_steps}
 use Rattle.lb_flat.proofs.ShapeFacts.{and_first, and_second}
 
 abbrev pub row_of : Term → (n : Count) × Row_of-Term n
@@ -55,13 +55,35 @@ pub steps_size_next : (ss : List Step) (i : ℕ) (d : Step) → i < length ss �
 unfolding steps_size
 steps_size_next ss i d lt = ap steps_size (drop_more ss i d lt)
 
--- what is left after some, and then after more
-pub after_more :
-    (o : Option ℕ) (left all before used rest : ℕ) →
-    MatchOption o (before < rest) (λ r. r + rest ≡ before) → before + used ≡ left →
-    all ≡ used + rest → MatchOption o (left < all) (λ r. r + all ≡ left)
-after_more None left all before used rest h e a = omega arith
-after_more (Some r) left all before used rest h e a = omega arith
+-- a term with this one operand
+abbrev pub IsSingle : Term → Box Term Global → Type 0
+IsSingle t e = ((op : UnaryOperator) × (t ≡ Unary op e)) ⊎ (t ≡ Pre e)
+
+-- a term with these two operands
+abbrev pub IsPair : Term → Box Term Global → Box Term Global → Type 0
+IsPair t a b = ((op : BinaryOperator) × (t ≡ Binary op a b)) ⊎ ((t ≡ Arrow a b) ⊎ (t ≡ Fby a b))
+
+-- a term with the operands of this row
+abbrev pub IsRow : Term → Vec Term Global → Type 0
+IsRow t es = (t ≡ AtMostOne es) ⊎ (t ≡ Nor es)
+
+pub single_size : (t : Term) (e : Box Term Global) → IsSingle t e →
+    term_size t ≡ 1 + term_size e.value
+unfolding term_size
+single_size t e (inl (op, is)) = ap term_size is
+single_size t e (inr is) = ap term_size is
+
+pub pair_size : (t : Term) (a b : Box Term Global) → IsPair t a b →
+    term_size t ≡ 1 + (term_size a.value + term_size b.value)
+unfolding term_size
+pair_size t a b (inl (op, is)) = ap term_size is
+pair_size t a b (inr (inl is)) = ap term_size is
+pair_size t a b (inr (inr is)) = ap term_size is
+
+pub row_size_is : (t : Term) (es : Vec Term Global) → IsRow t es →
+    term_size t ≡ 1 + list_size es.items
+row_size_is t es (inl is) = ap term_size is ∙ size_at_most_one es
+row_size_is t es (inr is) = ap term_size is ∙ size_nor es
 
 -- ## Emission
 
@@ -105,48 +127,6 @@ pub emit_next :
 unfolding emit_list
 emit_next kinds s found es i d lt = ap (emit_list kinds s found) (drop_more es i d lt)
 
-pub emit_fby_is :
-    (kinds : List Kind) (s : State) (a b : Box Term Global) (x y z : Found) →
-    x ≡ emit_term kinds s a.value → y ≡ emit_term kinds x.state b.value → z ≡ previous y →
-    emit_term kinds s (Fby a b) ≡ pushed z.state (FirstThen false x.element z.element) y.kind
-unfolding emit_term
-emit_fby_is kinds s a b x y z ex ey ez =
-    let f : Found → Found → Found = λ x y.
-    pushed (previous y).state (FirstThen false x.element (previous y).element) y.kind in
-    sym (ap (λ (z : Found). pushed z.state (FirstThen false x.element z.element) y.kind) ez
-    ∙ ap (f x) ey ∙ ap (λ (x : Found). f x (emit_term kinds x.state b.value)) ex)
-
-pub emit_unary_is :
-    (kinds : List Kind) (s : State) (op : UnaryOperator) (a : Box Term Global) (x : Found)
-    (k : Kind) → x ≡ emit_term kinds s a.value → k ≡ unary_result op →
-    emit_term kinds s (Unary op a) ≡ pushed x.state (ApplyUnary op x.element) k
-unfolding emit_term
-emit_unary_is kinds s op a x k ex ek =
-    sym (ap (pushed x.state (ApplyUnary op x.element)) ek
-    ∙ ap (λ (x : Found). pushed x.state (ApplyUnary op x.element) (unary_result op)) ex)
-
-pub emit_binary_is :
-    (kinds : List Kind) (s : State) (op : BinaryOperator) (a b : Box Term Global) (x y : Found)
-    (k : Kind) → x ≡ emit_term kinds s a.value → y ≡ emit_term kinds x.state b.value →
-    k ≡ binary_result op →
-    emit_term kinds s (Binary op a b) ≡ pushed y.state (ApplyBinary op x.element y.element) k
-unfolding emit_term
-emit_binary_is kinds s op a b x y k ex ey ek =
-    let f : Found → Found → Found = λ x y.
-    pushed y.state (ApplyBinary op x.element y.element) (binary_result op) in
-    sym (ap (pushed y.state (ApplyBinary op x.element y.element)) ek
-    ∙ ap (f x) ey ∙ ap (λ (x : Found). f x (emit_term kinds x.state b.value)) ex)
-
-pub emit_arrow_is :
-    (kinds : List Kind) (s : State) (a b : Box Term Global) (x y : Found) →
-    x ≡ emit_term kinds s a.value → y ≡ emit_term kinds x.state b.value →
-    emit_term kinds s (Arrow a b) ≡ pushed y.state (FirstThen false x.element y.element) y.kind
-unfolding emit_term
-emit_arrow_is kinds s a b x y ex ey =
-    let f : Found → Found → Found = λ x y.
-    pushed y.state (FirstThen false x.element y.element) y.kind in
-    sym (ap (f x) ey ∙ ap (λ (x : Found). f x (emit_term kinds x.state b.value)) ex)
-
 pub emit_if_is :
     (kinds : List Kind) (s : State) (c a b : Box Term Global) (z x y : Found) →
     z ≡ emit_term kinds s c.value → x ≡ emit_term kinds z.state a.value →
@@ -159,11 +139,22 @@ emit_if_is kinds s c a b z x y ez ex ey =
     let g : Found → Found → Found = λ z x. f z x (emit_term kinds x.state b.value) in
     sym (ap (f z x) ey ∙ ap (g z) ex ∙ ap (λ (z : Found). g z (emit_term kinds z.state a.value)) ez)
 
-pub emit_pre_is :
-    (kinds : List Kind) (s : State) (a : Box Term Global) (x : Found) →
-    x ≡ emit_term kinds s a.value → emit_term kinds s (Pre a) ≡ previous x
+-- what a term emits from what its one operand and its two operands do
+pub emit_single_is :
+    (kinds : List Kind) (s : State) (t : Term) (e : Box Term Global) (x : Found) →
+    IsSingle t e → x ≡ emit_term kinds s e.value → emit_term kinds s t ≡ with_one t x
 unfolding emit_term
-emit_pre_is kinds s a x ex = sym (ap previous ex)
+emit_single_is kinds s t e x (inl (op, is)) ex = rw (is, ex) refl
+emit_single_is kinds s t e x (inr is) ex = rw (is, ex) refl
+
+pub emit_pair_is :
+    (kinds : List Kind) (s : State) (t : Term) (a b : Box Term Global) (x y : Found) →
+    IsPair t a b → x ≡ emit_term kinds s a.value → y ≡ emit_term kinds x.state b.value →
+    emit_term kinds s t ≡ with_two t x.element y
+unfolding emit_term
+emit_pair_is kinds s t a b x y (inl (op, is)) ex ey = rw (is, ey, ex) refl
+emit_pair_is kinds s t a b x y (inr (inl is)) ex ey = rw (is, ey, ex) refl
+emit_pair_is kinds s t a b x y (inr (inr is)) ex ey = rw (is, ey, ex) refl
 
 -- `#` and `nor` of the elements that were found
 pub emit_truths_is :
@@ -183,6 +174,17 @@ emit_none_is kinds s es xs r items er =
     emit_nor_is kinds s es
     ∙ sym (ap (λ (r : Emitted). as_truth (emit_nor Always r.state r.found))
     (er ∙ ap (emit_list kinds s []) items))
+
+pub emit_all_is :
+    (kinds : List Kind) (s : State) (t : Term) (es : Vec Term Global) (xs : List Term)
+    (r : Emitted) → IsRow t es → xs ≡ es.items → r ≡ emit_list kinds s [] xs →
+    emit_term kinds s t ≡ with_all t r
+emit_all_is kinds s t es xs r (inl is) items er =
+    ap (emit_term kinds s) is ∙ emit_truths_is kinds s es xs r items er
+    ∙ sym (ap (λ (t : Term). with_all t r) is)
+emit_all_is kinds s t es xs r (inr is) items er =
+    ap (emit_term kinds s) is ∙ emit_none_is kinds s es xs r items er
+    ∙ sym (ap (λ (t : Term). with_all t r) is)
 
 pub variable_kind : (vars : List Declared) (x : VariableId) (d : Declared) →
     is_place (length vars) x ≡ true →
@@ -215,34 +217,33 @@ within_nor count es =
     within_items count row.0 row.1
     ∙ ap (list_all (is_within count)) (items_hidden-the_row-Term-0 es)
 
+pub single_within : (count : ℕ) (t : Term) (e : Box Term Global) → IsSingle t e →
+    is_within count t ≡ is_within count e.value
+single_within count t e (inl (op, is)) = ap (is_within count) is
+single_within count t e (inr is) = ap (is_within count) is
+
+pub pair_within : (count : ℕ) (t : Term) (a b : Box Term Global) → IsPair t a b →
+    is_within count t ≡ is_within count a.value && is_within count b.value
+pair_within count t a b (inl (op, is)) = ap (is_within count) is
+pair_within count t a b (inr (inl is)) = ap (is_within count) is
+pair_within count t a b (inr (inr is)) = ap (is_within count) is
+
 -- the terms of a row, read from its vector
-pub within_of_truths :
-    (count : ℕ) (xs : List Term) (t : Term) (es : Vec Term Global) → t ≡ AtMostOne es →
+pub within_of_row :
+    (count : ℕ) (xs : List Term) (t : Term) (es : Vec Term Global) → IsRow t es →
     xs ≡ es.items → is_within count t ≡ true → list_all (is_within count) xs ≡ true
-within_of_truths count xs t es is items e =
+within_of_row count xs t es (inl is) items e =
     ap (list_all (is_within count)) items ∙ sym (within_at_most_one count es)
     ∙ ap (is_within count) (sym is) ∙ e
-
-pub within_of_nor :
-    (count : ℕ) (xs : List Term) (t : Term) (es : Vec Term Global) → t ≡ Nor es →
-    xs ≡ es.items → is_within count t ≡ true → list_all (is_within count) xs ≡ true
-within_of_nor count xs t es is items e =
+within_of_row count xs t es (inr is) items e =
     ap (list_all (is_within count)) items ∙ sym (within_nor count es)
     ∙ ap (is_within count) (sym is) ∙ e
 
-pub room_of_truths :
-    (next : ℕ) (xs : List Term) (t : Term) (es : Vec Term Global) → t ≡ AtMostOne es →
+pub room_of_row :
+    (next : ℕ) (xs : List Term) (t : Term) (es : Vec Term Global) → IsRow t es →
     xs ≡ es.items → next + 5 * term_size t < 4294967296 → next + 5 * list_size xs < 4294967296
-room_of_truths next xs t es is items e =
-    let a = ap term_size is ∙ size_at_most_one es in
-    let b = ap list_size items in
-    omega (arith, a, b, e)
-
-pub room_of_nor :
-    (next : ℕ) (xs : List Term) (t : Term) (es : Vec Term Global) → t ≡ Nor es →
-    xs ≡ es.items → next + 5 * term_size t < 4294967296 → next + 5 * list_size xs < 4294967296
-room_of_nor next xs t es is items e =
-    let a = ap term_size is ∙ size_nor es in
+room_of_row next xs t es is items e =
+    let a = row_size_is t es is in
     let b = ap list_size items in
     omega (arith, a, b, e)
 
@@ -274,4 +275,4 @@ places_of_more m (x ∷ xs) n le e =
     let here : is_place m x ≡ true = grind (arith, nat_tests) in
     rw here (places_of_more m xs n le (and_second (is_place n x) _ e))
 
-pub ruleset sizes = (size_at_most_one, size_nor, size_next, steps_size_next, after_more)
+pub ruleset sizes = (size_at_most_one, size_nor, size_next, steps_size_next)

@@ -1,9 +1,11 @@
 -- When a flat program stands for a program.
 -- Source: this project's rule.
-use Rattle.std.specs.Prelude.{◌≡◌, ℕ, ◌<◌, List, [], ◌∷◌, map, length, true}
+use Rattle.std.specs.Prelude.{◌≡◌, ℕ, ◌<◌, None, List, [], ◌∷◌, map, length, true}
 use Rattle.lb_syntax.specs.Lists.{Every}
 use Rattle.lb_static.specs.Instances.{Program}
 use Rattle.lb_static.specs.Shapes.{input_kinds}
+use Rattle.lb_static.specs.Walk.{static_refusal}
+use Rattle.lb_check.specs.Acceptance.{check_refusal}
 use Rattle.lb_check.specs.Scalars.{Stream}
 use Rattle.lb_check.specs.Streams.{History}
 use Rattle.lb_check.specs.Solutions.{Inputs, is_row, Solves, AreSame}
@@ -31,9 +33,12 @@ pub record IsWatched (P : Program) (f : FlatProgram) (X : Inputs) (F : List Stre
   pub failed : is_failed P H t ≡ some_at is_false t (map (column X F) f.asserted)
   pub violated : is_violated P H t ≡ some_at is_false t (map (column X F) (f.property ∷ []))
 
--- the histories that solve a program on a trace, and the streams that solve the flat program, are
--- the same, and what decides a verdict is watched
+-- the program breaks no rule of names, static values, instances, types, clocks and definitions; the
+-- histories that solve it on a trace, and the streams that solve the flat program, are the same;
+-- and what decides a verdict is watched
 pub record IsFlatOf (P : Program) (f : FlatProgram) : Type 0 where
+  pub accepted : static_refusal P ≡ None
+  pub checked : check_refusal P ≡ None
   pub layout : Layout
   pub solves :
       (X : Inputs) (F : List Stream) → IsTrace P X → FlatSolves f.size f.equations X F →

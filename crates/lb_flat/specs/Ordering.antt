@@ -11,13 +11,9 @@ use Rattle.lb_flat.specs.Expanded.{IsOrderingOf}
 use Rattle.lb_flat.specs.Flat.{FlatEquation}
 use Rattle.lb_flat.specs.InOrder.{is_done, is_in_order}
 use Rattle.lb_flat.specs.Programs.{flat_equations}
-use Rattle.lb_flat.specs.Run.{Ready, equation_reads}
+use Rattle.lb_flat.specs.Run.{equation_reads}
 use Rattle.lb_flat.specs.Values.{equation_of}
 use Rattle.lb_flat.specs.Within.{AreTicks, IsWithin}
-
--- there is no order in which equations on so many elements can be computed
-abbrev pub HasNoOrder : ℕ → List FlatEquation → Type 0
-HasNoOrder size Q = (R : List FlatEquation) → IsOrderingOf Q R → Ready size [] R → ⊥
 
 -- the equations of a program in an order in which they can be computed
 pub record AreOrdered (p : FlatProgram) (qs : List Equation) : Type 0 where

@@ -61,6 +61,24 @@ unary_result Negate = Int_kind
 abbrev pub binary_result : BinaryOperator → Kind
 binary_result op = if is_arithmetic op then Int_kind else Bool_kind
 
+-- a term with this operand
+abbrev pub with_one : Term → Found → Found
+with_one (Unary' op p a) x = pushed x.state (ApplyUnary op x.element) (unary_result op)
+with_one e x = previous x
+
+-- a term with two operands, where the first one has this element
+abbrev pub with_two : Term → ℕ → Found → Found
+with_two (Binary' op p a q b) i y =
+    pushed y.state (ApplyBinary op i y.element) (binary_result op)
+with_two (Fby' p a q b) i y =
+    let z = previous y in pushed z.state (FirstThen false i z.element) y.kind
+with_two e i y = pushed y.state (FirstThen false i y.element) y.kind
+
+-- a term with these operands in a row
+abbrev pub with_all : Term → Emitted → Found
+with_all (Nor' shape all) r = as_truth (emit_nor Always r.state r.found)
+with_all e r = as_truth (emit_at_most_one Always r.state r.found)
+
 unfoldable mutual
   -- the equations of a term after those of s, where the variables have these kinds
   pub emit_term : List Kind → State → Term → Found

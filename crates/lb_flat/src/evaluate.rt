@@ -16,7 +16,7 @@ use crate::cell::Cell;
 use crate::equation::{Equation, InputPlace};
 use crate::instant::{commit, compute};
 use crate::judge::judge;
-use crate::prepare::{inputs_in, memories_in, set_constants, steps_in};
+use crate::prepare::{put_apart, set_constants};
 use crate::program::FlatProgram;
 use lb_check::verdict::Verdict;
 use std::alloc::{AllocError, Global};
@@ -112,9 +112,17 @@ pub fn evaluate<I: Instants>(
 {
     let equations = program.equations.as_slice();
     let ticks = program.ticks.as_slice();
-    let inputs = inputs_in(alloc, equations, program.size, ticks)?;
-    let mut steps = steps_in(alloc, equations, program.size, ticks)?;
-    let memories = memories_in(alloc, steps.as_slice(), ticks)?;
+    let mut inputs = Vec::new(alloc);
+    let mut steps = Vec::new(alloc);
+    let mut memories = Vec::new(alloc);
+    put_apart(
+        equations,
+        program.size,
+        ticks,
+        &mut inputs,
+        &mut steps,
+        &mut memories,
+    )?;
     let mut row = vec![in alloc; Cell::Absent; program.size as usize]?;
     set_constants(row.as_mut_slice(), equations, ticks);
     Ok(run(

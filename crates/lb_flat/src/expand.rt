@@ -1,9 +1,7 @@
 //! Expansion: from a checked program to equations on scalar elements.
 
-ghost use Rattle.std.specs.Prelude.{◌≡◌, ◌≤◌, ◌<◌, nat_le, None};
-ghost use Rattle.lb_static.specs.Elaborated.{IsElaborated};
-ghost use Rattle.lb_static.specs.Instances.{Program};
-ghost use Rattle.lb_check.specs.Acceptance.{check_refusal};
+ghost use Rattle.std.specs.Prelude.{◌≡◌, ◌≤◌, ◌<◌, nat_le};
+ghost use Rattle.lb_static.specs.Elaborated.{elaborated_program};
 ghost use Rattle.lb_flat.specs.Expanded.{IsExpansionAnswer};
 ghost use Rattle.lb_flat.specs.Programs.{program_of};
 ghost use Rattle.lb_flat.specs.Terms as mirror;
@@ -30,10 +28,7 @@ fn is_small(plain: &Plain) -> bool
     ensures { result ≡ nat_le (mirror.plain_size_of plain.now) 65536 }
 {
     let variables = plain.variables.len() as u32;
-    match MOST.checked_sub(variables) {
-        Some(left) => after_steps(left, &plain.body).is_some(),
-        None => false,
-    }
+    after_steps((MOST + 1).saturating_sub(variables), &plain.body) > 0
 }
 
 /// Expands a plain program that is small enough.
@@ -53,10 +48,8 @@ fn expand_plain(alloc: Global, plain: &Plain) -> Result<Flat, FlatError>
 /// Expands a checked program, or refuses it where it has forms that do not run yet or its size is
 /// over 65,536 (E12).
 pub fn expand(alloc: Global, checked: &Checked) -> Result<Flat, FlatError>
-    requires { (P : Program) × IsElaborated P checked.now.elab }
-    ensures { (P : Program) → IsElaborated P checked.now.elab → check_refusal P ≡ None →
-        IsExpansionAnswer P result }
+    ensures { IsExpansionAnswer (elaborated_program checked.now) result }
 {
-    let plain = plain(alloc, &checked.elab)?;
+    let plain = plain(alloc, checked.elab())?;
     expand_plain(alloc, &plain)
 }

@@ -46,8 +46,7 @@ impl Names {
     pub(crate) fn new(alloc: Global) -> Result<Names, AllocError>
         ensures { IfOk result (λ names. names ≡ []) }
     {
-        let mut ends = Vec::new(alloc);
-        ends.push(0)?;
+        let ends = Vec::from_slice(alloc, &[0])?;
         Ok(Names {
             text: String::new(alloc),
             ends,

@@ -1,9 +1,8 @@
 //! Order: each equation after what it reads.
 //!
-//! The equations go into a table by their elements. A walk in depth suggests an order of the
-//! elements. Then each element is settled whose reads are settled: first in the suggested order,
-//! and then in passes over all elements until one settles none. The walk decides only how many
-//! passes there are: it suggests an order that leaves nothing to the first of them.
+//! The equations go into a table by their elements. Then each element is settled whose reads are
+//! settled: first in a walk in depth, and then in passes over all elements until one settles none.
+//! The walk decides only how many passes there are: it leaves nothing to the first of them.
 
 ghost use Rattle.std.specs.Prelude.{◌≡◌, IfOk};
 ghost use Rattle.lb_static.specs.Instances.{Program};

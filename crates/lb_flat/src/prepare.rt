@@ -3,7 +3,7 @@
 //! A constant on the base clock holds the same cell at each instant, so its element is set once. An
 //! input is read. The other equations are steps, computed at each instant; few have a memory.
 
-ghost use Rattle.std.specs.Prelude.{◌≡◌, ◌<◌, [], Some, is_some, length, map, All, IfOk, IfSome};
+ghost use Rattle.std.specs.Prelude.{◌≡◌, ◌<◌, [], Some, is_some, length, map, All, OnOk, IfSome};
 ghost use Rattle.lb_flat.specs.Prepared.{is_fixed, is_step, has_memory, inputs_in, steps_in, memory_places, place_equation, AreFixed};
 ghost use Rattle.lb_flat.specs.Programs.{flat_equations};
 ghost use Rattle.lb_flat.specs.Run.{Row, Ready, now};
@@ -13,7 +13,7 @@ ghost use Rattle.lb_flat.specs.Within.{IsClock, IsWithin};
 use crate::cell::{Cell, present};
 use crate::equation::{Equation, InputPlace, Operation, Tick};
 use crate::scalar::Scalar;
-use std::alloc::{AllocError, Global};
+use std::alloc::AllocError;
 
 // The value of an equation that is a constant on the base clock.
 fn fixed_value(q: &Equation, ticks: &[Tick]) -> Option<Scalar>
@@ -50,69 +50,44 @@ fn has_memory(operation: &Operation) -> bool
     }
 }
 
-/// The elements that hold inputs.
-pub(crate) fn inputs_in(
-    alloc: Global,
+/// Puts the equations of a program apart: the elements that hold inputs, the equations that are
+/// computed at each instant, and the places of those that have a memory.
+pub(crate) fn put_apart(
     equations: &[Equation],
     size: u32,
     ticks: &[Tick],
-) -> Result<Vec<InputPlace>, AllocError>
-    requires { All (IsWithin size ticks.now) equations.now }
-    ensures places { IfOk result (λ inputs. map place_equation inputs.items
+    inputs: &mut Vec<InputPlace>,
+    steps: &mut Vec<Equation>,
+    memories: &mut Vec<usize>,
+) -> Result<(), AllocError>
+    requires within { All (IsWithin size ticks.now) equations.now }
+    requires no_input { inputs.old.items ≡ [] }
+    requires no_step { steps.old.items ≡ [] }
+    requires no_memory { memories.old.items ≡ [] }
+    ensures inputs { OnOk result (map place_equation inputs.new.items
         ≡ inputs_in (flat_equations ticks.now equations.now)) }
-    ensures elements { IfOk result (λ inputs. All (λ p. p.element.0 < size) inputs.items) }
+    ensures places { OnOk result (All (λ p. p.element.0 < size) inputs.new.items) }
+    ensures steps { OnOk result (flat_equations ticks.now steps.new.items
+        ≡ steps_in (flat_equations ticks.now equations.now)) }
+    ensures within { OnOk result (All (IsWithin size ticks.now) steps.new.items) }
+    ensures memories { OnOk result (memories.new.items
+        ≡ memory_places 0 (flat_equations ticks.now steps.new.items)) }
 {
-    let mut inputs = Vec::new(alloc);
     for i in 0..equations.len() {
-        let q = &equations[i];
+        let q = equations[i];
         if let Operation::Input(input) = q.operation {
             inputs.push(InputPlace {
                 element: q.element,
                 input,
             })?;
-        }
-    }
-    Ok(inputs)
-}
-
-/// The equations that are computed at each instant.
-pub(crate) fn steps_in(
-    alloc: Global,
-    equations: &[Equation],
-    size: u32,
-    ticks: &[Tick],
-) -> Result<Vec<Equation>, AllocError>
-    requires { All (IsWithin size ticks.now) equations.now }
-    ensures steps { IfOk result (λ steps. flat_equations ticks.now steps.items
-        ≡ steps_in (flat_equations ticks.now equations.now)) }
-    ensures within { IfOk result (λ steps. All (IsWithin size ticks.now) steps.items) }
-{
-    let mut steps = Vec::new(alloc);
-    for i in 0..equations.len() {
-        let q = equations[i];
-        if is_step(&q, ticks) {
+        } else if is_step(&q, ticks) {
+            if has_memory(&q.operation) {
+                memories.push(steps.len())?;
+            }
             steps.push(q)?;
         }
     }
-    Ok(steps)
-}
-
-/// The places of the steps that have a memory.
-pub(crate) fn memories_in(
-    alloc: Global,
-    steps: &[Equation],
-    ticks: &[Tick],
-) -> Result<Vec<usize>, AllocError>
-    ensures { IfOk result (λ places. places.items
-        ≡ memory_places 0 (flat_equations ticks.now steps.now)) }
-{
-    let mut places = Vec::new(alloc);
-    for i in 0..steps.len() {
-        if has_memory(&steps[i].operation) {
-            places.push(i)?;
-        }
-    }
-    Ok(places)
+    Ok(())
 }
 
 /// Sets the elements of constants on the base clock.

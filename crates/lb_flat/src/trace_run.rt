@@ -6,7 +6,7 @@ ghost use Rattle.lb_static.specs.Instances.{Program};
 ghost use Rattle.lb_static.specs.Shapes.{signature};
 ghost use Rattle.lb_static.specs.Signature.{kinds_of};
 ghost use Rattle.lb_check.specs.Solutions.{HasOneHistory};
-ghost use Rattle.lb_check.specs.Verdicts.{HasVerdict};
+ghost use Rattle.lb_check.specs.Verdicts.{IsOnlyVerdict};
 ghost use Rattle.lb_flat.specs.Flattening.{IsFlatOf};
 ghost use Rattle.lb_flat.specs.Inputs.{scalar_in, inputs_of};
 ghost use Rattle.lb_flat.specs.Prepared.{place_equation};
@@ -95,8 +95,8 @@ impl Instants for RecordedTrace<'_> {
     }
 }
 
-/// The verdict of a trace, computed instant by instant. It takes memory once for a trace, and none
-/// for an instant; it fails only where memory was refused (E0).
+/// The one verdict that a program has on a trace, computed instant by instant. It takes memory once
+/// for a trace, and none for an instant; it fails only where memory was refused (E0).
 ///
 /// ```text
 /// let verdict = eval_trace(alloc, &ordered, &set, 0)?;
@@ -110,7 +110,7 @@ pub fn eval_trace(
     requires { k < length set.now.traces }
     ensures verdict { IfOk result (λ v.
         (P : Program) → IsFlatOf P (program_of ordered.now.program) →
-        signature P ≡ set.now.signature → HasVerdict P (inputs_of set.now k) v) }
+        signature P ≡ set.now.signature → IsOnlyVerdict P (inputs_of set.now k) v) }
     ensures alone { OnOk result (
         (P : Program) → IsFlatOf P (program_of ordered.now.program) →
         signature P ≡ set.now.signature → HasOneHistory P (inputs_of set.now k)) }

@@ -1,6 +1,6 @@
 //! The equations of terms and steps.
 
-ghost use Rattle.std.specs.Prelude.{◌≡◌, ◌<◌, All, [], IfOk};
+ghost use Rattle.std.specs.Prelude.{◌≡◌, ◌<◌, ◌≤◌, ◌++◌, All, [], IfOk};
 ghost use Rattle.lb_flat.specs.Programs.{flat_equations};
 ghost use Rattle.lb_check.specs.Scalars.{first_value};
 ghost use Rattle.lb_flat.specs.Terms as mirror;
@@ -86,22 +86,35 @@ fn binary_result(op: BinaryOperator) -> Kind
     }
 }
 
-/// The elements of the inputs, which the trace gives.
+/// The equations of the whole program: those of the inputs, which the trace gives, those of
+/// variables, and the others.
 #[tactic(auto, using(crate::proofs::Emitting::given))]
-fn given_inputs(alloc: Global, inputs: u32) -> Result<Vec<Equation>, AllocError>
-    ensures equations { IfOk result (λ qs.
-        flat_equations [] qs.items ≡ mirror.given_elements inputs) }
-    ensures within { IfOk result (λ qs. All (IsWithin inputs []) qs.items) }
+fn whole_equations(
+    alloc: Global,
+    inputs: u32,
+    size: u32,
+    copies: &[Equation],
+    equations: &[Equation],
+) -> Result<Vec<Equation>, AllocError>
+    requires inputs { inputs ≤ size }
+    requires copies { All (IsWithin size []) copies.now }
+    requires equations { All (IsWithin size []) equations.now }
+    ensures equations { IfOk result (λ qs. flat_equations [] qs.items
+        ≡ mirror.given_elements inputs
+        ++ (flat_equations [] copies.now ++ flat_equations [] equations.now)) }
+    ensures within { IfOk result (λ qs. All (IsWithin size []) qs.items) }
 {
-    let mut equations = Vec::new(alloc);
+    let mut all = Vec::new(alloc);
     for i in 0..inputs {
-        equations.push(Equation {
+        all.push(Equation {
             element: ElementId(i),
             clock: None,
             operation: Operation::Input(InputId(i)),
         })?;
     }
-    Ok(equations)
+    all.extend_from_slice(copies)?;
+    all.extend_from_slice(equations)?;
+    Ok(all)
 }
 
 impl Emission {
@@ -148,19 +161,8 @@ impl Emission {
         Ok(Found { element, kind })
     }
 
-    /// The operand is one that a memory keeps.
+    /// `pre` of an operand, which a memory keeps.
     #[tactic(auto, using(crate::proofs::Emitting::pushes))]
-    fn keep(&mut self, operand: Found) -> Result<(), AllocError>
-        requires { operand.element.0 < self.old.next }
-        ensures kept { OnOk result
-            (found_of self.new operand ≡ mirror.kept (found_of self.old operand)) }
-        ensures next { self.new.next ≡ self.old.next }
-    {
-        self.kept.push(operand.element)?;
-        Ok(())
-    }
-
-    /// `pre` of an operand.
     fn previous(&mut self, operand: Found) -> Result<Found, AllocError>
         requires room { self.old.next + 1 < 2 ^ 32 }
         requires operand { operand.element.0 < self.old.next }
@@ -169,7 +171,7 @@ impl Emission {
         ensures next { OnOk result (self.new.next ≡ self.old.next + 1) }
         ensures element { IfOk result (λ f. f.element.0 < self.new.next) }
     {
-        self.keep(operand)?;
+        self.kept.push(operand.element)?;
         let previous = Operation::Previous(first_value(operand.kind), operand.element);
         self.push(previous, operand.kind)
     }
@@ -216,6 +218,65 @@ impl Emission {
         self.push(Operation::ApplyUnary(UnaryOperator::Not, two), Kind::Bool)
     }
 
+    /// A term with this operand: a data operator or `pre`.
+    fn with_one(&mut self, term: &Term, operand: Found) -> Result<Found, AllocError>
+        requires room { self.old.next + 1 < 2 ^ 32 }
+        requires operand { operand.element.0 < self.old.next }
+        ensures found { IfOk result (λ f. found_of self.new f
+            ≡ mirror.with_one term.now (found_of self.old operand)) }
+        ensures next { OnOk result (self.new.next ≡ self.old.next + 1) }
+        ensures element { IfOk result (λ f. f.element.0 < self.new.next) }
+    {
+        match term {
+            Term::Unary(op, _) => self.push(
+                Operation::ApplyUnary(*op, operand.element),
+                unary_result(*op),
+            ),
+            _ => self.previous(operand),
+        }
+    }
+
+    /// A term with these two operands: a data operator, `fby` or `->`.
+    fn with_two(&mut self, term: &Term, a: ElementId, b: Found) -> Result<Found, AllocError>
+        requires room { self.old.next + 2 < 2 ^ 32 }
+        requires first { a.0 < self.old.next }
+        requires second { b.element.0 < self.old.next }
+        ensures found { IfOk result (λ f. found_of self.new f
+            ≡ mirror.with_two term.now a.0 (found_of self.old b)) }
+        ensures grows { OnOk result (self.old.next ≤ self.new.next) }
+        ensures room { OnOk result (self.new.next ≤ self.old.next + 2) }
+        ensures element { IfOk result (λ f. f.element.0 < self.new.next) }
+    {
+        match term {
+            Term::Binary(op, _, _) => self.push(
+                Operation::ApplyBinary(*op, a, b.element),
+                binary_result(*op),
+            ),
+            Term::Fby(_, _) => {
+                let before = self.previous(b)?;
+                self.push(Operation::FirstThen(false, a, before.element), b.kind)
+            }
+            _ => self.push(Operation::FirstThen(false, a, b.element), b.kind),
+        }
+    }
+
+    /// A term with these operands in a row: `nor` or `#`.
+    fn with_all(&mut self, term: &Term, operands: &[ElementId]) -> Result<Found, AllocError>
+        requires room { self.old.next + 3 * length operands.now + 2 < 2 ^ 32 }
+        requires operands { All (λ a. a.0 < self.old.next) operands.now }
+        ensures found { IfOk result (λ f. found_of self.new f
+            ≡ mirror.with_all term.now (emitted_of self.old operands.now)) }
+        ensures grows { OnOk result (self.old.next ≤ self.new.next) }
+        ensures room { OnOk result
+            (self.new.next ≤ self.old.next + 3 * length operands.now + 2) }
+        ensures element { IfOk result (λ f. f.element.0 < self.new.next) }
+    {
+        match term {
+            Term::Nor(_) => self.nor(operands),
+            _ => self.at_most_one(operands),
+        }
+    }
+
     /// Emits a term after what was emitted so far.
     #[cycle(emission)]
     #[tactic(auto, unfolding(crate::specs::Terms::emit_term, crate::specs::Terms::term_size), using(crate::proofs::Emitting::emits))]
@@ -241,15 +302,14 @@ impl Emission {
                 kind: variables[x.0 as usize].kind,
             }),
             Term::Group(e) => self.emit(alloc, variables, e),
-            Term::Unary(op, e) => {
-                let e = self.emit(alloc, variables, e)?;
-                self.push(Operation::ApplyUnary(*op, e.element), unary_result(*op))
+            Term::Unary(_, e) | Term::Pre(e) => {
+                let operand = self.emit(alloc, variables, e)?;
+                self.with_one(term, operand)
             }
-            Term::Binary(op, a, b) => {
+            Term::Binary(_, a, b) | Term::Arrow(a, b) | Term::Fby(a, b) => {
                 let a = self.emit(alloc, variables, a)?;
                 let b = self.emit(alloc, variables, b)?;
-                let operation = Operation::ApplyBinary(*op, a.element, b.element);
-                self.push(operation, binary_result(*op))
+                self.with_two(term, a.element, b)
             }
             Term::If(c, a, b) => {
                 let c = self.emit(alloc, variables, c)?;
@@ -257,31 +317,9 @@ impl Emission {
                 let b = self.emit(alloc, variables, b)?;
                 self.push(Operation::Choose(c.element, a.element, b.element), b.kind)
             }
-            Term::Arrow(a, b) => {
-                let a = self.emit(alloc, variables, a)?;
-                let b = self.emit(alloc, variables, b)?;
-                self.push(Operation::FirstThen(false, a.element, b.element), b.kind)
-            }
-            Term::Fby(a, b) => {
-                let a = self.emit(alloc, variables, a)?;
-                let b = self.emit(alloc, variables, b)?;
-                let before = self.previous(b)?;
-                self.push(
-                    Operation::FirstThen(false, a.element, before.element),
-                    b.kind,
-                )
-            }
-            Term::Pre(e) => {
-                let e = self.emit(alloc, variables, e)?;
-                self.previous(e)
-            }
-            Term::AtMostOne(terms) => {
+            Term::AtMostOne(terms) | Term::Nor(terms) => {
                 let operands = self.emit_all(alloc, variables, terms)?;
-                self.at_most_one(&operands)
-            }
-            Term::Nor(terms) => {
-                let operands = self.emit_all(alloc, variables, terms)?;
-                self.nor(&operands)
+                self.with_all(term, &operands)
             }
         }
     }
@@ -388,16 +426,14 @@ impl Emission {
             program_of p ≡ mirror.whole (state_of self) inputs variables) }
         ensures in_range { IfOk result (λ p. IsInRange p) }
     {
+        let all = whole_equations(alloc, inputs, self.next, &self.copies, &self.equations)?;
         let Emission {
-            equations,
-            copies,
+            equations: _equations,
+            copies: _copies,
             next,
             kept,
             asserted,
         } = self;
-        let mut all = given_inputs(alloc, inputs)?;
-        all.extend_from_slice(&copies)?;
-        all.extend_from_slice(&equations)?;
         Ok(FlatProgram {
             equations: all,
             ticks: Vec::new(alloc),

@@ -1,57 +1,50 @@
 //! The size of a program: its variables, and its expressions with their parts.
 
-ghost use Rattle.std.specs.Prelude.{◌≡◌, ◌+◌, ◌<◌, MatchOption};
+ghost use Rattle.std.specs.Prelude.{◌≡◌, ◌-◌};
 ghost use Rattle.lb_flat.specs.Terms.{term_size, list_size, steps_size};
 
 use crate::plain::term::{Step, Term};
 
-/// What is left of so many expressions after a term and its parts, or none where they are too few.
+/// What is left of so many expressions after a term and its parts; nothing where they are too few.
 #[cycle(size)]
 #[tactic(auto, unfolding(crate::specs::Terms::term_size), using(crate::proofs::TermRows::sizes))]
-fn after_term(left: u32, term: &Term) -> Option<u32>
-    ensures { MatchOption result (left < term_size term.now) (λ r. r + term_size term.now ≡ left) }
+fn after_term(left: u32, term: &Term) -> u32
+    ensures { result ≡ left - term_size term.now }
 {
     match term {
-        Term::Literal(_) | Term::Truth(_) | Term::Variable(_) => left.checked_sub(1),
+        Term::Literal(_) | Term::Truth(_) | Term::Variable(_) => left.saturating_sub(1),
         Term::Group(e) => after_term(left, e),
-        Term::Unary(_, e) | Term::Pre(e) => after_term(left.checked_sub(1)?, e),
+        Term::Unary(_, e) | Term::Pre(e) => after_term(left.saturating_sub(1), e),
         Term::Binary(_, a, b) | Term::Arrow(a, b) | Term::Fby(a, b) => {
-            let left = after_term(left.checked_sub(1)?, a)?;
-            after_term(left, b)
+            after_term(after_term(left.saturating_sub(1), a), b)
         }
-        Term::If(c, a, b) => {
-            let left = after_term(left.checked_sub(1)?, c)?;
-            let left = after_term(left, a)?;
-            after_term(left, b)
-        }
-        Term::AtMostOne(terms) | Term::Nor(terms) => after_terms(left.checked_sub(1)?, terms),
+        Term::If(c, a, b) => { after_term(after_term(after_term(left.saturating_sub(1), c), a), b) }
+        Term::AtMostOne(terms) | Term::Nor(terms) => after_terms(left.saturating_sub(1), terms),
     }
 }
 
 /// What is left after some terms and their parts.
 #[cycle(size)]
 #[tactic(auto, unfolding(crate::specs::Terms::list_size), using(crate::proofs::TermRows::sizes))]
-fn after_terms(left: u32, terms: &[Term]) -> Option<u32>
-    ensures { MatchOption result (left < list_size terms.now)
-        (λ r. r + list_size terms.now ≡ left) }
+fn after_terms(left: u32, terms: &[Term]) -> u32
+    ensures { result ≡ left - list_size terms.now }
 {
     let mut left = left;
     for term in terms {
-        left = after_term(left, term)?;
+        left = after_term(left, term);
     }
-    Some(left)
+    left
 }
 
 /// What is left after the right sides of some steps.
 #[tactic(auto, unfolding(crate::specs::Terms::steps_size), using(crate::proofs::TermRows::sizes))]
-pub(crate) fn after_steps(left: u32, steps: &[Step]) -> Option<u32>
-    ensures { MatchOption result (left < steps_size steps.now)
-        (λ r. r + steps_size steps.now ≡ left) }
+pub(crate) fn after_steps(left: u32, steps: &[Step]) -> u32
+    ensures { result ≡ left - steps_size steps.now }
 {
     let mut left = left;
     for step in steps {
         let (Step::Equation(_, e) | Step::Assertion(e)) = step;
-        left = after_term(left, e)?;
+        left = after_term(left, e);
     }
-    Some(left)
+    left
 }

@@ -7,7 +7,7 @@ ghost use Rattle.lb_flat.specs.Run.{reads, clock_reads};
 ghost use Rattle.lb_flat.specs.Values.{clock_of, operation_of};
 ghost use Rattle.lb_flat.specs.Within.{AreTicks, IsClock, IsWithin};
 
-use super::walk::suggested_order;
+use super::walk::settle_in_depth;
 use crate::equation::{ElementId, Equation, Operation, Tick, TickId};
 use crate::error::OrderError;
 use std::alloc::{AllocError, Global};
@@ -71,8 +71,8 @@ fn is_ready(done: &[bool], ticks: &[Tick], q: Equation) -> bool
 
 // ## What is settled
 
-// Puts out the equation of an element, if it can be computed and is not out yet; and whether so.
-fn settle(
+/// Puts out the equation of an element, if it can be computed and is not out yet; and whether so.
+pub(super) fn settle(
     e: usize,
     ticks: &[Tick],
     table: &[Option<Equation>],
@@ -96,27 +96,6 @@ fn settle(
     out.push(q)?;
     done[e] = true;
     Ok(true)
-}
-
-// Settles elements in an order; those that cannot be settled in it are left.
-fn settle_in_order(
-    order: &[ElementId],
-    ticks: &[Tick],
-    table: &[Option<Equation>],
-    done: &mut [bool],
-    out: &mut Vec<Equation>,
-) -> Result<(), AllocError>
-    requires table { IsTable ticks.now table.now }
-    requires state { IsSettled ticks.now table.now done.old out.old.items }
-    ensures { IfOk result (λ _. IsSettled ticks.now table.now done.new out.new.items) }
-{
-    for i in 0..order.len() {
-        let e = order[i].0 as usize;
-        if e < table.len() {
-            settle(e, ticks, table, done, out)?;
-        }
-    }
-    Ok(())
 }
 
 // One pass over all elements, and whether it settled one.
@@ -165,7 +144,7 @@ fn settle_all(
 
 // Settles every element, or finds that none is next while some are left.
 fn settle_table(
-    order: &[ElementId],
+    alloc: Global,
     ticks: &[Tick],
     table: &[Option<Equation>],
     done: &mut [bool],
@@ -176,7 +155,7 @@ fn settle_table(
     ensures settled { IfOk result (λ _. AreSettled ticks.now table.now out.new.items) }
     ensures cycle { result ≡ Err OrderError.Cycle → NoneIsNext ticks.now table.now }
 {
-    settle_in_order(order, ticks, table, done, out)?;
+    settle_in_depth(alloc, ticks, table, done, out)?;
     settle_all(ticks, table, done, out)?;
     for e in 0..table.len() {
         if !done[e] {
@@ -198,15 +177,8 @@ pub(crate) fn settled(
     ensures settled { IfOk result (λ out. AreSettled ticks.now table.now out.items) }
     ensures cycle { result ≡ Err OrderError.Cycle → NoneIsNext ticks.now table.now }
 {
-    let order = suggested_order(alloc, ticks, table)?;
     let mut done = vec![in alloc; false; table.len()]?;
     let mut out = Vec::with_capacity(alloc, table.len())?;
-    settle_table(
-        order.as_slice(),
-        ticks,
-        table,
-        done.as_mut_slice(),
-        &mut out,
-    )?;
+    settle_table(alloc, ticks, table, done.as_mut_slice(), &mut out)?;
     Ok(out)
 }

@@ -13,8 +13,8 @@ use std::alloc::Global;
 
 // ## Equations that stand twice
 
-// The clock of the table at a place; none is the base clock.
-fn tick_at(ticks: &[Tick], clock: Option<TickId>) -> Option<Tick>
+/// The clock of the table at a place; none is the base clock.
+pub(super) fn tick_at(ticks: &[Tick], clock: Option<TickId>) -> Option<Tick>
     ensures { result ≡ tick_at ticks.now clock }
 {
     let id = clock?;

@@ -1,49 +1,40 @@
-//! A walk of the elements in depth, which suggests an order of them.
+//! A walk of the elements in depth, which settles each after what it reads.
 //!
-//! Nothing is promised of what it suggests: `settle` decides by itself which equations can be
-//! computed, and takes more time where an element comes before what it reads. The walk leaves an
-//! element after all that it reads, so this is so only on a cycle.
+//! The walk leaves an element after all that it reads, but for those on a cycle. It is `settle`
+//! that decides which equations can be computed.
 
-use crate::equation::{ElementId, Equation, Operation, Tick};
+ghost use Rattle.std.specs.Prelude.{IfOk};
+ghost use Rattle.lb_flat.specs.Ordering.{IsTable, IsSettled};
+
+use super::settle::settle;
+use super::table::tick_at;
+use crate::equation::{ElementId, Equation, Operation, Tick, TickId};
 use std::alloc::{AllocError, Global};
 
-// How far the walk is with an element.
-#[derive(Clone, Copy)]
-enum Mark {
-    New,
-    Entered,
-    Left,
-}
-
-// The elements that an operation reads at the same instant.
-fn operands(operation: Operation) -> [Option<ElementId>; 3] {
+// Pushes the elements that an operation reads at the same instant.
+fn push_operands(stack: &mut Vec<ElementId>, operation: Operation) -> Result<(), AllocError> {
     match operation {
-        Operation::Input(_) | Operation::Constant(_) | Operation::Previous(_, _) => {
-            [None, None, None]
+        Operation::Input(_) | Operation::Constant(_) | Operation::Previous(_, _) => Ok(()),
+        Operation::Copy(a)
+        | Operation::ApplyUnary(_, a)
+        | Operation::Latest(_, a)
+        | Operation::Sample(a) => stack.extend_from_slice(&[a]),
+        Operation::ApplyBinary(_, a, b) | Operation::FirstThen(_, a, b) => {
+            stack.extend_from_slice(&[a, b])
         }
-        Operation::Copy(a) => [Some(a), None, None],
-        Operation::ApplyUnary(_, a) => [Some(a), None, None],
-        Operation::ApplyBinary(_, a, b) => [Some(a), Some(b), None],
-        Operation::Choose(c, a, b) => [Some(c), Some(a), Some(b)],
-        Operation::FirstThen(_, a, b) => [Some(a), Some(b), None],
-        Operation::Latest(_, a) => [Some(a), None, None],
-        Operation::Sample(a) => [Some(a), None, None],
+        Operation::Choose(c, a, b) => stack.extend_from_slice(&[c, a, b]),
     }
 }
 
-// Pushes what an equation reads, and what its clock reads.
-fn push_reads(stack: &mut Vec<ElementId>, ticks: &[Tick], q: Equation) -> Result<(), AllocError> {
-    for operand in operands(q.operation) {
-        if let Some(a) = operand {
-            stack.push(a)?;
-        }
-    }
-    let mut rest = q.clock;
+// Pushes the elements that a clock reads.
+fn push_clock(
+    stack: &mut Vec<ElementId>,
+    ticks: &[Tick],
+    clock: Option<TickId>,
+) -> Result<(), AllocError> {
+    let mut rest = clock;
     for _depth in 0..ticks.len() {
-        let Some(id) = rest else {
-            return Ok(());
-        };
-        let Some(tick) = ticks.get(id.0 as usize) else {
+        let Some(tick) = tick_at(ticks, rest) else {
             return Ok(());
         };
         stack.push(tick.element)?;
@@ -52,55 +43,71 @@ fn push_reads(stack: &mut Vec<ElementId>, ticks: &[Tick], q: Equation) -> Result
     Ok(())
 }
 
-// Enters an element, above which then lies what it reads; or leaves it, once all that is left.
-fn visit(
+// Enters an element that was not entered before, above which then lies what it reads; and whether
+// so.
+fn enter(
     a: ElementId,
     ticks: &[Tick],
     table: &[Option<Equation>],
-    marks: &mut [Mark],
+    entered: &mut [bool],
     stack: &mut Vec<ElementId>,
-    order: &mut Vec<ElementId>,
-) -> Result<(), AllocError> {
-    let i = a.0 as usize;
-    if i >= table.len() || i >= marks.len() {
-        return Ok(());
+) -> Result<bool, AllocError> {
+    let e = a.0 as usize;
+    if e >= entered.len() || entered[e] {
+        return Ok(false);
     }
-    match marks[i] {
-        Mark::New => {
-            marks[i] = Mark::Entered;
-            stack.push(a)?;
-            if let Some(q) = table[i] {
-                push_reads(stack, ticks, q)?;
-            }
+    entered[e] = true;
+    stack.push(a)?;
+    if let Some(Some(q)) = table.get(e) {
+        push_operands(stack, q.operation)?;
+        push_clock(stack, ticks, q.clock)?;
+    }
+    Ok(true)
+}
+
+// Settles what lies on the stack, each element after what it reads.
+fn settle_stack(
+    ticks: &[Tick],
+    table: &[Option<Equation>],
+    entered: &mut [bool],
+    stack: &mut Vec<ElementId>,
+    done: &mut [bool],
+    out: &mut Vec<Equation>,
+) -> Result<(), AllocError>
+    requires table { IsTable ticks.now table.now }
+    requires state { IsSettled ticks.now table.now done.old out.old.items }
+    ensures { IfOk result (λ _. IsSettled ticks.now table.now done.new out.new.items) }
+{
+    'visits: for _ in 0..u64::MAX {
+        let Some(a) = stack.pop() else {
+            return Ok(());
+        };
+        if !enter(a, ticks, table, entered, stack)? && (a.0 as usize) < table.len() {
+            settle(a.0 as usize, ticks, table, done, out)?;
         }
-        Mark::Entered => {
-            marks[i] = Mark::Left;
-            order.push(a)?;
-        }
-        Mark::Left => {}
     }
     Ok(())
 }
 
-/// The elements that have equations, each after what it reads but for those on a cycle.
-pub(crate) fn suggested_order(
+/// Settles the elements of a table, each after what it reads but for those on a cycle.
+pub(super) fn settle_in_depth(
     alloc: Global,
     ticks: &[Tick],
     table: &[Option<Equation>],
-) -> Result<Vec<ElementId>, AllocError> {
-    let mut order = Vec::with_capacity(alloc, table.len())?;
-    let mut marks = vec![in alloc; Mark::New; table.len()]?;
+    done: &mut [bool],
+    out: &mut Vec<Equation>,
+) -> Result<(), AllocError>
+    requires table { IsTable ticks.now table.now }
+    requires state { IsSettled ticks.now table.now done.old out.old.items }
+    ensures { IfOk result (λ _. IsSettled ticks.now table.now done.new out.new.items) }
+{
+    let mut entered = vec![in alloc; false; table.len()]?;
     let mut stack = Vec::new(alloc);
     for entry in table {
         if let Some(q) = entry {
             stack.push(q.element)?;
-        }
-        for _ in 0..u64::MAX {
-            let Some(a) = stack.pop() else {
-                break;
-            };
-            visit(a, ticks, table, &mut marks, &mut stack, &mut order)?;
+            settle_stack(ticks, table, &mut entered, &mut stack, done, out)?;
         }
     }
-    Ok(order)
+    Ok(())
 }

@@ -2,8 +2,7 @@
 
 ghost use Rattle.std.specs.Prelude.{◌≡◌, ◌<◌, [], List, length, is_some, IfOk, IfErr};
 ghost use Rattle.lb_syntax.specs.Tree as tree;
-ghost use Rattle.lb_static.specs.Elaborated.{IsElaborated};
-ghost use Rattle.lb_static.specs.Instances.{Program};
+ghost use Rattle.lb_static.specs.Elaborated.{elaborated_program};
 ghost use Rattle.lb_static.specs.ResolvedNodes.{IsResolved, node_of};
 ghost use Rattle.lb_flat.specs.PlainPrograms.{node_in, observer_of, IsPlainFault, TranslatesNode};
 ghost use Rattle.lb_flat.specs.PlainNodes.{IsPlain};
@@ -55,13 +54,12 @@ fn plain_node(alloc: Global, root: &ResolvedNode) -> Result<Plain, FlatError>
 /// The plain program that an elaborated one is. One with forms that do not run yet is refused
 /// (E12).
 pub fn plain(alloc: Global, elab: &Elab) -> Result<Plain, FlatError>
-    requires { (P : Program) × IsElaborated P elab.now }
-    ensures ok { (P : Program) → IsElaborated P elab.now →
-        IfOk result (λ n. IsPlain P (node_in n)) }
-    ensures err { (P : Program) → IsElaborated P elab.now → IfErr result (IsPlainFault P) }
+    ensures ok { IfOk result (λ n. IsPlain (elaborated_program elab.now) (node_in n)) }
+    ensures err { IfErr result (IsPlainFault (elaborated_program elab.now)) }
 {
-    if has_observer(&elab.reached) {
+    let reached = elab.reached();
+    if has_observer(reached) {
         return Err(FlatError::Later);
     }
-    plain_node(alloc, &elab.reached.nodes[elab.reached.root.0 as usize])
+    plain_node(alloc, &reached.nodes[reached.root.0 as usize])
 }

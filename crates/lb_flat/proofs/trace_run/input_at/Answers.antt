@@ -14,7 +14,8 @@ returns-then-j-kinds c =
     let j = c.args.input.0 in
     let fits : SFits w32 (get_or cells j (pos 0)) = search rules in
     c.cell_in.ensures
-    ∙ ap (λ z. Some (scalar_in (get_or kinds j Int) z)) (to_z-of_z w32 (get_or cells j (pos 0)) fits)
+    ∙ ap (λ z. Some (scalar_in (get_or kinds j Int) z))
+    (to_z-of_z w32 (get_or cells j (pos 0)) fits)
     ∙ sym (scalar_there kinds cells j c.requires c.if-j-kinds.true)
 
 pub returns-else-j-kinds : goal.returns-else-j-kinds

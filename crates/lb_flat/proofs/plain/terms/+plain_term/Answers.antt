@@ -9,10 +9,13 @@ use Rattle.lb_flat.proofs.plain.terms.+plain_term.Goals as goal
 
 pub plain_term-returns-in_err-plain_term-in-If : goal.plain_term-returns-in_err-plain_term-in-If
 plain_term-returns-in_err-plain_term-in-If t c =
-    let p = err_from_is_err_and c.from_residual-in_err-plain_term-in-If.result c.from_residual-in_err-plain_term-in-If.ensures.1 in
-    let later : IsLater c.in_err-plain_term-in-If.field-0.0 (has_plain_forms c.in-If.b.value) = search rules in
+    let p = err_from_is_err_and c.from_residual-in_err-plain_term-in-If.result
+    c.from_residual-in_err-plain_term-in-If.ensures.1 in
+    let later : IsLater c.in_err-plain_term-in-If.field-0.0 (has_plain_forms c.in-If.b.value) =
+    search rules in
     rw (p.1, p.2) (rw c.in-If.is
-    (later_third c.in_err-plain_term-in-If.field-0.0 (has_plain_forms c.in-If.c.value) (has_plain_forms c.in-If.a.value) (has_plain_forms c.in-If.b.value) later))
+    (later_third c.in_err-plain_term-in-If.field-0.0 (has_plain_forms c.in-If.c.value)
+    (has_plain_forms c.in-If.a.value) (has_plain_forms c.in-If.b.value) later))
 
 pub plain_term-returns-in_err-plain_terms-in-AtMostOne :
     goal.plain_term-returns-in_err-plain_terms-in-AtMostOne

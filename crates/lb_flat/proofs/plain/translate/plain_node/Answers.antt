@@ -17,9 +17,11 @@ invariant_of-result c =
     let steps = c.in_ok-body.body.items in
     let of = subst (λ l. AreStepsOf l steps) c.deref.ensures.value c.in_ok-body.ensures in
     record {
-      parts_fit = parts_fit (resolved_node.node_of r) vars r.inputs r.outputs declared is.inputs is.outputs;
+      parts_fit = parts_fit (resolved_node.node_of r) vars r.inputs r.outputs declared is.inputs
+          is.outputs;
       has_output = subst (λ k. 0 < k) (sym is.outputs) c.requires.output;
-      places_fit = subst (λ k. k < 2 ^ 32) (sym (as_many_variables c.requires.resolved.0 r is vars declared steps of)) is.variables_fit;
+      places_fit = subst (λ k. k < 2 ^ 32) (sym (as_many_variables c.requires.resolved.0 r is vars
+          declared steps of)) is.variables_fit;
       steps_fit = steps_fit c.requires.resolved.0 r is vars declared steps of;
     }
 

@@ -8,7 +8,8 @@ use Rattle.lb_flat.proofs.plain.variables.has_later_form.Goals.{then-is_empty, e
 pub returns : goal.returns
 returns c =
     let d = c.args.group.now in
-    let tested : c.if-is_empty.result ≡ (nat_eq (length d.names.items) 0 || (nat_eq (length d.sizes.items) 0 && not (is_some d.clock))) =
+    let tested : c.if-is_empty.result ≡ (nat_eq (length d.names.items) 0 ||
+    (nat_eq (length d.sizes.items) 0 && not (is_some d.clock))) =
     elim c.if-is_empty.branch [
       | then-is_empty w ↦ grind arith
       | else-is_empty+then-is_empty-2 w ↦ grind arith

@@ -5,4 +5,9 @@ use Rattle.lb_flat.proofs.traces.TraceSet.len.Goals as goal
 
 pub returns-clause-count : goal.returns-clause-count
 returns-clause-count c =
-    omega (arith, c.len.ensures.count, count_of c.args.self.now c.self.inside.signature c.self.inside.names c.self.inside.cells.items c.self.inside.row_ends.items c.self.view_is)
+    omega (
+      arith,
+      c.len.ensures.count,
+      count_of c.args.self.now c.self.inside.signature
+          c.self.inside.names c.self.inside.cells.items c.self.inside.row_ends.items c.self.view_is,
+    )

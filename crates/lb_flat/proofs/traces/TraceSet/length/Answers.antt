@@ -6,14 +6,29 @@ use Rattle.lb_flat.proofs.traces.TraceSet.length.Goals as goal
 
 pub index-requires : goal.index-requires
 index-requires c =
-    omega (arith, c.requires, c.self.invariant.rows.paired, count_of c.args.self.now c.self.inside.signature c.self.inside.names c.self.inside.cells.items c.self.inside.row_ends.items c.self.view_is)
+    omega (
+      arith,
+      c.requires,
+      c.self.invariant.rows.paired,
+      count_of c.args.self.now c.self.inside.signature c.self.inside.names c.self.inside.cells.items
+          c.self.inside.row_ends.items c.self.view_is,
+    )
 
 pub index-requires-2 : goal.index-requires-2
 index-requires-2 c =
-    omega (arith, c.requires, c.self.invariant.rows.paired, count_of c.args.self.now c.self.inside.signature c.self.inside.names c.self.inside.cells.items c.self.inside.row_ends.items c.self.view_is)
+    omega (
+      arith,
+      c.requires,
+      c.self.invariant.rows.paired,
+      count_of c.args.self.now c.self.inside.signature c.self.inside.names c.self.inside.cells.items
+          c.self.inside.row_ends.items c.self.view_is,
+    )
 
-parted : (c : goal.After-row_known-2-1) → PartsTrace (length (trace_at c.args.self.now.traces c.args.k).1) c.index-2.result.now c.index.result.now
-parted c = parts c.args.self.now c.self.inside.signature c.self.inside.names c.self.inside.cells.items c.self.inside.row_ends.items c.args.k c.index-2.result.now c.index.result.now
+parted : (c : goal.After-row_known-2-1) → PartsTrace
+    (length (trace_at c.args.self.now.traces c.args.k).1) c.index-2.result.now c.index.result.now
+parted c = parts c.args.self.now c.self.inside.signature c.self.inside.names
+    c.self.inside.cells.items c.self.inside.row_ends.items c.args.k c.index-2.result.now
+    c.index.result.now
     c.self.view_is c.self.invariant c.requires c.index-2.ensures c.index.ensures
 
 pub overflow_sub-result : goal.overflow_sub-result

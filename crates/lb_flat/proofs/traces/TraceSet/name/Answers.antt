@@ -5,10 +5,21 @@ use Rattle.lb_flat.proofs.traces.TraceSet.name.Goals as goal
 
 pub get-requires : goal.get-requires
 get-requires c =
-    omega (arith, c.requires, count_of c.args.self.now c.self.inside.signature c.self.inside.names c.self.inside.cells.items c.self.inside.row_ends.items c.self.view_is)
+    omega (
+      arith,
+      c.requires,
+      count_of c.args.self.now c.self.inside.signature c.self.inside.names
+          c.self.inside.cells.items c.self.inside.row_ends.items c.self.view_is,
+    )
 
 pub returns : goal.returns
 returns c =
     let below : c.args.k < length c.self.inside.names =
-    omega (arith, c.requires, count_of c.args.self.now c.self.inside.signature c.self.inside.names c.self.inside.cells.items c.self.inside.row_ends.items c.self.view_is) in
-    c.get.ensures ∙ sym (name_of c.args.self.now c.self.inside.signature c.self.inside.names c.self.inside.cells.items c.self.inside.row_ends.items c.args.k c.self.view_is below)
+    omega (
+      arith,
+      c.requires,
+      count_of c.args.self.now c.self.inside.signature c.self.inside.names
+          c.self.inside.cells.items c.self.inside.row_ends.items c.self.view_is,
+    ) in
+    c.get.ensures ∙ sym (name_of c.args.self.now c.self.inside.signature c.self.inside.names
+    c.self.inside.cells.items c.self.inside.row_ends.items c.args.k c.self.view_is below)

@@ -9,34 +9,55 @@ use Rattle.lb_flat.proofs.traces.TraceSet.start.Goals as goal
 
 pub push-requires-clause-room : goal.push-requires-clause-room
 push-requires-clause-room c =
-    let count : _ = subst (λ (r : Recording). length r.traces < 1000000) (sym c.self.view_is) c.requires.count in
-    omega (arith, count, length-stored (length c.self.inside.signature) c.self.inside.names c.self.inside.cells.items c.self.inside.row_ends.items)
+    let count : _ = subst (λ (r : Recording). length r.traces < 1000000) (sym c.self.view_is)
+    c.requires.count in
+    omega (
+      arith,
+      count,
+      length-stored (length c.self.inside.signature) c.self.inside.names
+          c.self.inside.cells.items c.self.inside.row_ends.items,
+    )
 
-rows_are : (c : goal.After-push-arg-2-1) → c.index-rows.result.now ≡ last_place c.self.inside.row_ends.items
+rows_are : (c : goal.After-push-arg-2-1) → c.index-rows.result.now
+    ≡ last_place c.self.inside.row_ends.items
 rows_are c =
-    let items : c.reserve-2.new.self.items ≡ c.self.inside.row_ends.items = c.in_ok-reserve-2.ensures.items in
+    let items : c.reserve-2.new.self.items ≡ c.self.inside.row_ends.items =
+    c.in_ok-reserve-2.ensures.items in
     let count : c.len.result ≡ length c.reserve-2.new.self.items = search rules in
-    read_last c.self.inside.row_ends.items c.len.result c.index-rows.result.now c.self.invariant.rows.ledger (count ∙ ap length items) (rw items at c.index-rows.ensures)
+    read_last c.self.inside.row_ends.items c.len.result c.index-rows.result.now
+    c.self.invariant.rows.ledger (count ∙ ap length items) (rw items at c.index-rows.ensures)
 
 pub overflow_add-rows : goal.overflow_add-rows
 overflow_add-rows c =
-    omega (arith, rows_are c, rows_fit_of c.args.self.now c.self.inside.signature c.self.inside.names c.self.inside.cells.items c.self.inside.row_ends.items c.self.view_is c.self.invariant c.requires.room)
+    omega (
+      arith,
+      rows_are c,
+      rows_fit_of c.args.self.now c.self.inside.signature
+          c.self.inside.names c.self.inside.cells.items c.self.inside.row_ends.items c.self.view_is
+          c.self.invariant c.requires.room,
+    )
 
 names_are : (c : goal.After-push-2) → c.push.new.self ≡ c.self.inside.names ++ c.args.name.now ∷ []
 names_are c = c.in_ok-push.ensures.ok
 
-cells_are : (c : goal.After-push-2) → c.extend_from_slice.new.self.items ≡ c.self.inside.cells.items ++ c.args.row.now
+cells_are : (c : goal.After-push-2) → c.extend_from_slice.new.self.items ≡ c.self.inside.cells.items
+    ++ c.args.row.now
 cells_are c =
-    let room : is_ok c.extend_from_slice.result ≡ true = c.extend_from_slice.ensures.succeeds (omega (arith, c.in_ok-reserve.ensures.ok)) in
+    let room : is_ok c.extend_from_slice.result ≡ true =
+    c.extend_from_slice.ensures.succeeds (omega (arith, c.in_ok-reserve.ensures.ok)) in
     rw (← c.in_ok-reserve.ensures.items) (rw room at c.extend_from_slice.ensures.items)
 
-ends_are : (c : goal.After-push-2) → c.push-2.new.self.items ≡ c.self.inside.row_ends.items ++ (last_place c.self.inside.row_ends.items + 1) ∷ []
+ends_are : (c : goal.After-push-2) → c.push-2.new.self.items ≡ c.self.inside.row_ends.items
+    ++ (last_place c.self.inside.row_ends.items + 1) ∷ []
 ends_are c =
-    let items : c.reserve-2.new.self.items ≡ c.self.inside.row_ends.items = c.in_ok-reserve-2.ensures.items in
-    let room : is_ok c.push-2.result ≡ true = c.push-2.ensures.succeeds (omega (arith, c.in_ok-reserve-2.ensures.ok)) in
+    let items : c.reserve-2.new.self.items ≡ c.self.inside.row_ends.items =
+    c.in_ok-reserve-2.ensures.items in
+    let room : is_ok c.push-2.result ≡ true = c.push-2.ensures.succeeds
+    (omega (arith, c.in_ok-reserve-2.ensures.ok)) in
     let count : c.len.result ≡ length c.reserve-2.new.self.items = search rules in
     let rows : c.index-rows.result.now ≡ last_place c.self.inside.row_ends.items =
-    read_last c.self.inside.row_ends.items c.len.result c.index-rows.result.now c.self.invariant.rows.ledger (count ∙ ap length items) (rw items at c.index-rows.ensures) in
+    read_last c.self.inside.row_ends.items c.len.result c.index-rows.result.now
+    c.self.invariant.rows.ledger (count ∙ ap length items) (rw items at c.index-rows.ensures) in
     (rw room at c.push-2.ensures.items)
     ∙ ap (λ ends. ends ++ (c.index-rows.result.now + 1) ∷ []) items
     ∙ ap (λ n. c.self.inside.row_ends.items ++ (n + 1) ∷ []) rows
@@ -44,11 +65,14 @@ ends_are c =
 pub invariant_of-self-2 : goal.invariant_of-self-2
 invariant_of-self-2 c =
     rw (names_are c, cells_are c, ends_are c)
-    (start_keeps c.args.self.now c.self.inside.signature c.self.inside.names c.self.inside.cells.items c.self.inside.row_ends.items c.args.name.now c.args.row.now
-    c.self.view_is c.self.invariant c.requires.name c.requires.fresh c.requires.row c.requires.count c.requires.room)
+    (start_keeps c.args.self.now c.self.inside.signature c.self.inside.names
+    c.self.inside.cells.items c.self.inside.row_ends.items c.args.name.now c.args.row.now
+    c.self.view_is c.self.invariant c.requires.name c.requires.fresh c.requires.row c.requires.count
+    c.requires.room)
 
 pub returns-clause-ok : goal.returns-clause-ok
 returns-clause-ok c =
     rw (names_are c, cells_are c, ends_are c)
-    (start_adds c.args.self.now c.self.inside.signature c.self.inside.names c.self.inside.cells.items c.self.inside.row_ends.items c.args.name.now c.args.row.now
+    (start_adds c.args.self.now c.self.inside.signature c.self.inside.names
+    c.self.inside.cells.items c.self.inside.row_ends.items c.args.name.now c.args.row.now
     c.self.view_is c.self.invariant c.requires.row)
