@@ -3,3 +3,5 @@ pub mod FeedBytes
 pub mod SinkBytes
 pub mod VerdictLists
 pub mod Refusing
+pub mod FirstRefusals
+pub mod Answering

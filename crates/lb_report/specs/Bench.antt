@@ -13,7 +13,7 @@ use Rattle.lb_static.specs.Walk.{static_refusal}
 use Rattle.lb_check.specs.Acceptance.{check_refusal, refusal, IsAccepted, IsFirst}
 use Rattle.lb_check.specs.Checked.{IsAnswer}
 use Rattle.lb_check.specs.Solutions.{HasOneHistory}
-use Rattle.lb_check.specs.Verdicts.{HasVerdict}
+use Rattle.lb_check.specs.Verdicts.{IsOnlyVerdict}
 use Rattle.lb_check.specs.declared.verdict.Verdict.{Verdict}
 use Rattle.lb_check.specs.declared.verdict.Verdict.TheVariants.{Passed}
 use Rattle.lb_flat.specs.Inputs.{inputs_of}
@@ -55,9 +55,9 @@ pub record IsOnlyRecording (P : Program) (text : Text) (r : Recording) : Type 0 
   pub text_spells_it : Spells (signature P) text r.traces
   pub no_other_is_spelled : (other : Traces) → Spells (signature P) text other → other ≡ r.traces
 
--- the verdict that the equations give on trace k alone, by the one history that solves them
+-- the one verdict that the equations give on trace k alone, by the one history that solves them
 pub record IsVerdict (P : Program) (r : Recording) (k : ℕ) (v : Verdict) : Type 0 where
-  pub has_verdict : HasVerdict P (inputs_of r k) v
+  pub is_only_verdict : IsOnlyVerdict P (inputs_of r k) v
   pub has_one_history : HasOneHistory P (inputs_of r k)
 
 -- a verdict for each trace, in order

@@ -18,6 +18,7 @@ ghost use Rattle.lb_flat.specs.Flattening.{IsFlatOf};
 ghost use Rattle.lb_flat.specs.Programs as flat;
 ghost use Rattle.lb_report.specs.Bench.{AreVerdicts, IsBenchReport, IsRefused, OnlyProgram, program_of};
 ghost use Rattle.lb_report.specs.Cases.{parts_of};
+ghost use Rattle.lb_report.specs.Correct.{IsBenchAnswer};
 ghost use Rattle.lb_report.specs.Prepared.{IsPrepared};
 ghost use Rattle.lb_report.specs.declared.options.Options.{Options as Asked};
 
@@ -32,7 +33,6 @@ use lb_flat::flat::Ordered;
 use lb_flat::order::order;
 use lb_flat::trace_run::eval_trace;
 use lb_flat::traces::TraceSet;
-use lb_static::elab::Elab;
 use lb_static::elaborate::elaborate;
 use lb_static::signature::Signature;
 use lb_syntax::parse::parse;
@@ -55,14 +55,11 @@ fn prepare_tree(alloc: Global, tree: &Source, options: &Options) -> Result<Prepa
         IfErr result (IsRefused source traces options.now) }
 {
     let elab = elaborate(alloc, tree, options.node.as_str(), options.observer_name())?;
+    let _ = elab.signature();
     let checked = check(alloc, elab)?;
-    let flat = expand(alloc, &checked)?;
-    let ordered = order(alloc, flat)?;
-    let Elab {
-        reached: _,
-        table: _,
-        signature,
-    } = checked.elab;
+    let flat = expand(alloc, &checked);
+    let signature = checked.into_signature();
+    let ordered = order(alloc, flat?)?;
     Ok(Prepared { signature, ordered })
 }
 
@@ -104,13 +101,9 @@ fn report_on(alloc: Global, program: &Prepared, traces: &[u8]) -> Result<Report,
     Ok(Report::new(alloc, &set, verdicts.as_slice())?)
 }
 
-/// Runs a node of a source over the traces of a text, and reports the verdict of each.
-///
-/// The options name the node under test and the observer. As yet one trace runs after the other,
-/// whatever they say of workers and batches. An error is the refusal of the first part that
-/// refuses: E0 to E18.
-pub fn bench<R: Runtime + AllocGlobal>(
-    rt: &R,
+/// The report of a source on the traces that a text spells.
+fn bench_in(
+    alloc: Global,
     source: &[u8],
     traces: &[u8],
     options: &Options,
@@ -118,9 +111,24 @@ pub fn bench<R: Runtime + AllocGlobal>(
     ensures report { IfOk result (IsBenchReport source.now traces.now options.now) }
     ensures refused { IfErr result (IsRefused source.now traces.now options.now) }
 {
-    let alloc = rt.alloc();
     let program = prepare(alloc, source, options)?;
     report_on(alloc, &program, traces)
+}
+
+/// Runs a node of a source over the traces of a text, and reports the verdict of each.
+///
+/// The options name the node under test and the observer. As yet one trace runs after the other,
+/// whatever they say of workers and batches. An error is the refusal of the first part that
+/// refuses: E1 to E18, or E0 where memory ran out.
+pub fn bench<R: Runtime + AllocGlobal>(
+    rt: &R,
+    source: &[u8],
+    traces: &[u8],
+    options: &Options,
+) -> Result<Report, BenchError>
+    ensures { IsBenchAnswer source.now traces.now options.now result }
+{
+    bench_in(rt.alloc(), source, traces, options)
 }
 
 /// Runs a case text: its first part is the source, its second part the traces.
@@ -136,10 +144,8 @@ pub fn run_case<R: Runtime + AllocGlobal>(
     case: &[u8],
     options: &Options,
 ) -> Result<Report, BenchError>
-    ensures report { let parts = parts_of case.now in
-        IfOk result (IsBenchReport parts.source parts.traces options.now) }
-    ensures refused { let parts = parts_of case.now in
-        IfErr result (IsRefused parts.source parts.traces options.now) }
+    ensures { let parts = parts_of case.now in
+        IsBenchAnswer parts.source parts.traces options.now result }
 {
     let (source, traces) = split_case(case);
     bench(rt, source, traces, options)

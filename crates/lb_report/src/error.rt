@@ -10,6 +10,7 @@ use lb_static::error::StaticError;
 use lb_syntax::error::SyntaxError;
 use lb_trace::error::TraceError;
 use std::alloc::AllocError;
+use std::fmt;
 use thiserror::Error;
 
 /// The number of a refusal of the text of the source.
@@ -73,7 +74,7 @@ fn order_number(cause: &OrderError) -> u8
 }
 
 /// Why there is no report: what the part that refused says.
-#[derive(Debug, Drop, Error)]
+#[derive(Drop, Error)]
 pub enum BenchError {
     /// E0: memory ran out outside the parts below.
     #[error("out of memory")]
@@ -96,6 +97,12 @@ pub enum BenchError {
     /// E0 and E14 to E18: the text of the traces.
     #[error(transparent)]
     Trace(TraceError),
+}
+
+impl fmt::Debug for BenchError {
+    fn fmt<W: fmt::Write>(&self, f: &mut fmt::Formatter<W>) -> fmt::Result {
+        fmt::Display::fmt(self, f)
+    }
 }
 
 impl From<AllocError> for BenchError {

@@ -4,7 +4,7 @@ ghost use Rattle.std.specs.Prelude.{◌≡◌, ℕ, List, Option, None, ◌⊎�
 ghost use Rattle.std.specs.Io.KnownBytes.{Consumes, IsAtEnd};
 
 use std::alloc::{AllocError, Global};
-use std::io::{ErrorKind, Read};
+use std::io::Read;
 use thiserror::Error;
 
 /// A read failed. Nobody knows how much of the input is left.
@@ -67,16 +67,13 @@ impl<R: Read> Feed for Reader<R> {
     ghost failures = { λ feed. feed.failures };
 
     fn read(&mut self, buffer: &mut [u8]) -> Result<usize, FeedFailed> {
-        for _ in 0..u64::MAX {
-            match self.reader.read(buffer) {
-                Ok(count) => return Ok(count),
-                // A signal came first: nothing was read.
-                Err(cause) if cause.kind() == ErrorKind::Interrupted => {}
-                Err(_) => break,
+        match self.reader.read(buffer) {
+            Ok(count) => Ok(count),
+            Err(_) => {
+                self.failures += 1;
+                Err(FeedFailed)
             }
         }
-        self.failures += 1;
-        Err(FeedFailed)
     }
 
     fn failures(&self) -> u64 {

@@ -3,7 +3,7 @@
 ghost use Rattle.std.specs.Prelude.{◌≡◌, ℕ, List, [], Option, None, ◌+◌, ◌<◌, ◌≤◌, length, take, IfOk, IfErr, OnOk, OnErr};
 ghost use Rattle.std.specs.Io.KnownBytes.{Appends, Keeps};
 
-use std::io::{ErrorKind, Write};
+use std::io::Write;
 use thiserror::Error;
 
 /// A write failed. None of its bytes went out.
@@ -68,21 +68,18 @@ impl<W: Write> Sink for Writer<W> {
     ghost failures = { λ sink. sink.failures };
 
     fn write(&mut self, bytes: &[u8]) -> Result<usize, SinkFailed> {
-        for _ in 0..u64::MAX {
-            match self.writer.write(bytes) {
-                Ok(count) => {
-                    if count == 0 && !bytes.is_empty() {
-                        self.failures += 1;
-                    }
-                    return Ok(count);
+        match self.writer.write(bytes) {
+            Ok(count) => {
+                if count == 0 && !bytes.is_empty() {
+                    self.failures += 1;
                 }
-                // A signal came first: nothing was written.
-                Err(cause) if cause.kind() == ErrorKind::Interrupted => {}
-                Err(_) => break,
+                Ok(count)
+            }
+            Err(_) => {
+                self.failures += 1;
+                Err(SinkFailed)
             }
         }
-        self.failures += 1;
-        Err(SinkFailed)
     }
 
     fn failures(&self) -> u64 {

@@ -80,8 +80,7 @@ fn push_line(text: &mut Vec<u8>, name: &str, verdict: Verdict) -> Result<(), All
     if let Some(t) = instant_of(verdict) {
         push_number(text, t as usize)?;
     }
-    text.push(b'\n')?;
-    Ok(())
+    text.extend_from_slice(b"\n")
 }
 
 /// How many verdicts have a word.
@@ -101,8 +100,7 @@ fn push_total(text: &mut Vec<u8>, verdicts: &[Verdict]) -> Result<(), AllocError
         push_word(text, place)?;
         push_number(text, count_of(verdicts, place))?;
     }
-    text.push(b'\n')?;
-    Ok(())
+    text.extend_from_slice(b"\n")
 }
 
 /// The report on a set of traces with these verdicts, one for each trace in order: a line for each

@@ -4,11 +4,12 @@ ghost use Rattle.std.specs.Prelude.{◌≡◌};
 ghost use Rattle.lb_trace.specs.Errors.{error_number};
 
 use std::alloc::AllocError;
+use std::fmt;
 use thiserror::Error;
 
 /// Why a trace text is refused. Records are counted from 0, the header, and
 /// columns from 0, the one after `trace`.
-#[derive(Debug, Drop, Error)]
+#[derive(Drop, Error)]
 pub enum TraceError {
     /// E0: a growth was refused.
     #[error(transparent)]
@@ -40,6 +41,12 @@ pub enum TraceError {
     Limit {
         record: Option<u64>,
     },
+}
+
+impl fmt::Debug for TraceError {
+    fn fmt<W: fmt::Write>(&self, f: &mut fmt::Formatter<W>) -> fmt::Result {
+        fmt::Display::fmt(self, f)
+    }
 }
 
 impl TraceError {

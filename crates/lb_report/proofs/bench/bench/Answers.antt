@@ -1,6 +1,6 @@
-use Rattle.std.proofs.Common.{rules}
+use Rattle.lb_report.proofs.Answering.{answered}
 use Rattle.lb_report.proofs.bench.bench.Goals as goal
 
-pub returns-in_err-program-clause-refused : goal.returns-in_err-program-clause-refused
-returns-in_err-program-clause-refused g c =
-    let refused = c.in_err-program.ensures.err c.args.traces.now in search rules
+pub returns : goal.returns
+returns g c =
+    answered _ _ _ c.bench_in.result c.bench_in.ensures.report c.bench_in.ensures.refused

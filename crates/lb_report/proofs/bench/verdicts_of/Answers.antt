@@ -15,7 +15,7 @@ loop-k-preserved c =
           subst (AreFirst P c.args.set.now (c.loop-k.k + 1)) (sym {A = List Verdict} pushed)
           (next P c.args.set.now _ _ _ (before.1 P flat same)
           record {
-            has_verdict = verdict.verdict P flat same;
+            is_only_verdict = verdict.verdict P flat same;
             has_one_history = verdict.alone P flat same;
           }),
     )

@@ -1,0 +1,154 @@
+-- A report is given where nothing refuses first, and an error has the number of the first refusal.
+use Rattle.std.proofs.Common.{◌≡◌, ℕ, ◌<◌, inl, inr, Option, Some, None, Result, Ok, Err, refl, ap, ◌∙◌, arith}
+use Rattle.std.specs.Prelude.{IfOk, IfErr, string_bytes}
+use Rattle.std.specs.Option.{option_map}
+use Rattle.lb_syntax.specs.Lists.{or_else}
+use Rattle.lb_syntax.specs.Tokens.{Text}
+use Rattle.lb_syntax.specs.Correct.{Parses}
+use Rattle.lb_syntax.specs.Refusals.{Refusal, E1, E2, E3, E4, E5, E6, E7, E8, E9, E10, E11, E12, E13, refusal_number, unless}
+use Rattle.lb_syntax.specs.declared.error.SyntaxError.{SyntaxError}
+use Rattle.lb_syntax.specs.declared.error.SyntaxError.TheVariants as syntax
+use Rattle.lb_static.specs.Elaborates.{IsStaticFault}
+use Rattle.lb_static.specs.Instances.{Program}
+use Rattle.lb_static.specs.Walk.{static_refusal}
+use Rattle.lb_static.specs.declared.error.StaticError.{StaticError}
+use Rattle.lb_static.specs.declared.error.StaticError.TheVariants as static
+use Rattle.lb_check.specs.Acceptance.{check_refusal, refusal, IsFirst}
+use Rattle.lb_check.specs.Checked.{IsAnswer}
+use Rattle.lb_check.specs.TypeRules.{is_small}
+use Rattle.lb_check.specs.declared.error.CheckError.{CheckError}
+use Rattle.lb_check.specs.declared.error.CheckError.TheVariants as check
+use Rattle.lb_flat.specs.declared.error.FlatError.TheVariants as flat
+use Rattle.lb_flat.specs.declared.error.OrderError.{OrderError}
+use Rattle.lb_flat.specs.declared.error.OrderError.TheVariants as order
+use Rattle.lb_report.specs.Bench.{IsBenchReport, IsCycle, IsRefused, program_of}
+use Rattle.lb_report.specs.Correct.{HasFirstNumber, IsBenchAnswer, IsFirstOf}
+use Rattle.lb_report.specs.FirstRefusals.{IsFirstRefusal, IsTextRefusal, too_long, no_tokens, over_limit, no_tree, of_text, of_program, of_traces}
+use Rattle.lb_report.specs.Refusals.{syntax_number, static_number, check_number, order_number}
+use Rattle.lb_report.specs.declared.error.BenchError.{BenchError}
+use Rattle.lb_report.specs.declared.error.BenchError.TheVariants as part
+use Rattle.lb_report.specs.declared.options.Options.{Options}
+use Rattle.lb_report.specs.declared.text.Report.{Report}
+use Rattle.lb_report.proofs.FirstRefusals.{only_first}
+
+-- a refusal with this number
+record IsNumbered (Refuses : Refusal → Type 0) (number : ℕ) : Type 0 where
+  refusal : Refusal
+  refuses : Refuses refusal
+  same : number ≡ refusal_number refusal
+
+-- ## What each part refuses
+
+by_text :
+    (source : Text) (e : SyntaxError) → 0 < syntax_number e → Parses source (Err e) →
+    IsNumbered (IsTextRefusal source) (syntax_number e)
+by_text source syntax.Memory some h = absurd (omega (arith, some))
+by_text source (syntax.Character line column) some h =
+    record { refusal = E1; refuses = no_tokens h.short h.has_none; same = refl }
+by_text source (syntax.Syntax line column) some h =
+    record { refusal = E2; refuses = no_tree h; same = refl }
+by_text source (syntax.Size line column) some (inl h) =
+    record { refusal = E3; refuses = too_long h.too_long; same = refl }
+by_text source (syntax.Size line column) some (inr (ts, index, h)) = record {
+  refusal = E3;
+  refuses = over_limit h.short (ts, h.tokens_are, h.limit_broken);
+  same = refl;
+}
+
+-- what is refused of names, static values and instances is refused of the program
+static_first : (P : Program) (r : Refusal) → static_refusal P ≡ Some r → refusal P ≡ Some r
+static_first P r e = ap (λ o. or_else o (or_else (check_refusal P) (unless (is_small P) E12))) e
+
+by_static :
+    (P : Program) (e : StaticError) → 0 < static_number e → IsStaticFault P e →
+    IsNumbered (λ r. IsFirst P (Some r)) (static_number e)
+by_static P static.Memory some h = absurd (omega (arith, some))
+by_static P (static.Name x) some h =
+    record { refusal = E4; refuses = static_first P E4 h; same = refl }
+by_static P (static.Recursion x) some h =
+    record { refusal = E7; refuses = static_first P E7 h; same = refl }
+by_static P static.Root some h =
+    record { refusal = E8; refuses = static_first P E8 h; same = refl }
+by_static P (static.Value x) some h =
+    record { refusal = E5; refuses = static_first P E5 h; same = refl }
+by_static P (static.Range x) some h =
+    record { refusal = E6; refuses = static_first P E6 h; same = refl }
+by_static P static.Instances some h =
+    record { refusal = E12; refuses = static_first P E12 h; same = refl }
+
+-- so is what is refused of types, clocks and definitions, where there is nothing before
+check_first :
+    (P : Program) (r : Refusal) → static_refusal P ≡ None → check_refusal P ≡ Some r →
+    refusal P ≡ Some r
+check_first P r none e =
+    ap (λ o. or_else o (or_else (check_refusal P) (unless (is_small P) E12))) none
+    ∙ ap (λ o. or_else o (unless (is_small P) E12)) e
+
+by_check :
+    (P : Program) (e : CheckError) → 0 < check_number e → static_refusal P ≡ None →
+    IsAnswer P (Err e) → IsNumbered (λ r. IsFirst P (Some r)) (check_number e)
+by_check P check.Memory some none h = absurd (omega (arith, some))
+by_check P (check.Type node) some none h =
+    record { refusal = E9; refuses = check_first P E9 none h.0; same = refl }
+by_check P (check.Clock node) some none h =
+    record { refusal = E10; refuses = check_first P E10 none h.0; same = refl }
+by_check P (check.Definition node) some none h =
+    record { refusal = E11; refuses = check_first P E11 none h.0; same = refl }
+
+by_order :
+    (P : Program) (e : OrderError) → 0 < order_number e → IsCycle P e →
+    IsNumbered (λ r. IsFirst P (Some r)) (order_number e)
+by_order P order.Memory some h = absurd (omega (arith, some))
+by_order P order.Cycle some h = record { refusal = E13; refuses = h; same = refl }
+
+-- ## What the bench answers
+
+module _ (source traces : Text) (options : Options) where
+  first_of :
+      (first : Option ℕ) →
+      IsFirstRefusal source traces (string_bytes options.node)
+      (option_map string_bytes options.observer) first →
+      IsFirstOf source traces options first
+  first_of first h = only_first source traces _ _ first h
+
+  numbered :
+      (e : BenchError) → IsRefused source traces options e →
+      HasFirstNumber source traces options e
+  numbered part.Memory h = λ some. absurd (omega (arith, some))
+  numbered (part.Syntax e) h = λ some.
+      let by = by_text source e some h in
+      inr (first_of _ (of_text by.refusal by.refuses (ap Some by.same)))
+  numbered (part.Static e) h = λ some.
+      let by = by_static (program_of h.tree options) e some h.holds in
+      inr (first_of _ (of_program h.tree by.refusal h.spelled by.refuses (ap Some by.same)))
+  numbered (part.Check e) h = λ some.
+      let by = by_check (program_of h.tree options) e some h.holds.0 h.holds.1 in
+      inr (first_of _ (of_program h.tree by.refusal h.spelled by.refuses (ap Some by.same)))
+  numbered (part.Flat flat.Memory) h = λ some. absurd (omega (arith, some))
+  numbered (part.Flat flat.Large) h = λ some.
+      inr (first_of _ (of_program h.tree E12 h.spelled h.holds refl))
+  numbered (part.Flat flat.Later) h = λ some. inl refl
+  numbered (part.Order e) h = λ some.
+      let by = by_order (program_of h.tree options) e some h.holds in
+      inr (first_of _ (of_program h.tree by.refusal h.spelled by.refuses (ap Some by.same)))
+  numbered (part.Trace e) h = λ some.
+      elim h.holds.1 [
+        | inl zero ↦ absurd (omega (arith, some, zero))
+        | inr refused ↦
+            inr (first_of _ (of_traces h.tree h.spelled h.holds.0 refused))
+      ]
+
+  reported : (report : Report) → IsBenchReport source traces options report → IsFirstOf source traces options None
+  reported report h =
+      let recorded = h.holds.recorded in
+      first_of None
+      (of_traces h.tree h.spelled h.holds.accepted (h.holds.recording.traces, recorded.text_spells_it))
+
+  pub answered :
+      (answer : Result Report BenchError) → IfOk answer (IsBenchReport source traces options) →
+      IfErr answer (IsRefused source traces options) →
+      IsBenchAnswer source traces options answer
+  answered (Ok report) h k =
+      record { report = h; refused = tt; nothing_refuses = reported report h; first_refuses = tt }
+  answered (Err e) h k =
+      record { report = tt; refused = k; nothing_refuses = tt; first_refuses = numbered e k }

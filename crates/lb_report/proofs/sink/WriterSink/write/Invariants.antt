@@ -1,8 +1,0 @@
-use Rattle.std.proofs.Common.{◌≡◌}
-use Rattle.std.specs.Io.KnownBytes.{Keeps}
-use Rattle.lb_report.proofs.sink.WriterSink.write.Given as goal
-
-abbrev pub invariant-loop : goal.invariant-loop
-invariant-loop g l =
-    Keeps (g.W.Write.contents l.fn.self.writer) (g.W.Write.contents l.self.writer)
-    × (l.self.failures ≡ l.fn.self.failures)
