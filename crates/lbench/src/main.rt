@@ -1,12 +1,8 @@
 //! The program: one node over many recorded traces, one verdict for each.
 #![tactic(auto)]
 
-mod command;
-mod refusal;
-mod request;
-
-use command::{command, refuse};
-use refusal::Refusal;
+use lb_command::command::{command, refuse};
+use lb_command::refusal::Refusal;
 use std::alloc::Global;
 use std::env;
 use std::io::{self, ErrorKind};

@@ -11,7 +11,7 @@ use std::fmt;
 
 /// Why the program prints no report: the number of a refusal, 0 to 21, and for E1 to E3 the line
 /// and the column. It prints as its line on standard error.
-#[derive(Clone, Copy, Debug)]
+#[derive(Clone, Copy)]
 pub struct Refusal {
     pub number: u8,
     pub position: Option<(u32, u32)>,
@@ -19,7 +19,7 @@ pub struct Refusal {
 }
 
 impl Refusal {
-    ghost use Rattle.lbench.specs.Outcomes.{refusal_status};
+    ghost use Rattle.lb_command.specs.Outcomes.{refusal_status};
 
     /// E0: memory ran out.
     pub const MEMORY: Refusal = Refusal {
