@@ -1,0 +1,7 @@
+pub mod Cutting
+pub mod ByLength
+pub mod Claiming
+pub mod Covering
+pub mod Placed
+pub mod Gathering
+pub mod Spreading

@@ -1,0 +1,14 @@
+-- One fetch_add keeps the law.
+use Rattle.std.proofs.Common.{arith, ◌∙◌}
+use Rattle.lb_pool.proofs.Claiming.{claims}
+use Rattle.lb_pool.proofs.board.ClaimBoard.claim.Goals as goal
+
+pub fetch_add-found-requires : goal.fetch_add-found-requires
+fetch_add-found-requires c =
+    let shared = c.args.self.now.table.shared in
+    let seat = c.args.seat.now in (
+      c.requires.seat.0,
+      omega (arith, c.args.self.now.word),
+      claims shared.key shared.table_id.slots seat.seat.id seat.seat.me
+          (omega (arith, seat.view.0, seat.part.0)) (seat.view.1 ∙ c.if-seat.false),
+    )

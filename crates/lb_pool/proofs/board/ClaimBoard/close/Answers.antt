@@ -1,0 +1,15 @@
+-- The seat with all shares has all draws.
+use Rattle.std.proofs.Common.{◌∙◌, subst}
+use Rattle.lb_pool.specs.Draws.{AreAllBelow}
+use Rattle.lb_pool.specs.Seats.{drawn_of}
+use Rattle.lb_pool.proofs.Claiming.{settled}
+use Rattle.lb_pool.proofs.board.ClaimBoard.close.Goals as goal
+
+pub returns-clause-drawn : goal.returns-clause-drawn
+returns-clause-drawn c told =
+    let board = c.args.self in
+    let seat = c.args.seat in
+    let last = c.close_with-closed.ensures.values.2 in
+    subst (λ n. AreAllBelow n (drawn_of seat)) board.limit
+    (settled board.table.shared.key seat.seat.id seat.seat.me.0 last.0 last.1.0 last.1.1
+    c.requires.shares (seat.view.1 ∙ told))

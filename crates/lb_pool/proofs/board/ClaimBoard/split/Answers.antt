@@ -1,0 +1,12 @@
+-- A split keeps the law.
+use Rattle.std.proofs.Common.{arith}
+use Rattle.lb_pool.proofs.Claiming.{splits}
+use Rattle.lb_pool.proofs.board.ClaimBoard.split.Goals as goal
+
+pub split_seat-other-requires : goal.split_seat-other-requires
+split_seat-other-requires c =
+    let seat = c.args.seat.seat in (
+      c.requires.seat.0,
+      omega (arith, c.args.self.now.word),
+      splits c.args.self.now.table.shared.key seat.id seat.me.0 c.requires.shares,
+    )

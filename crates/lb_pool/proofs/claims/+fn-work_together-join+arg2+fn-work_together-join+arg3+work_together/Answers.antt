@@ -1,0 +1,36 @@
+-- What two halves have done, put together.
+use Rattle.std.proofs.Common.{◌≡◌, ◌+◌, min, arith}
+use Rattle.std.proofs.lemmas.Result.{IfOk-at_ok, IfOk-weaker}
+use Rattle.lb_pool.specs.Seats.{shares_of}
+use Rattle.lb_pool.specs.Workers.{HasDone, IsBoth}
+use Rattle.lb_pool.proofs.Gathering.{gathered}
+use Rattle.lb_pool.proofs.claims.+fn-work_together-join+arg2+fn-work_together-join+arg3+work_together.Goals as goal
+
+pub returns : goal.returns
+returns g t c =
+    let board = c.args.board.now in
+    let p = c.args.ordered.now.program in
+    let r = c.args.set.now in
+    let batches = c.args.plan.now in
+    let all = shares_of c.args.seat in
+    let a = shares_of c.split-left.result.0 in
+    let b = shares_of c.split-left.result.1 in
+    let one = c.in_ok-one.field-0 in
+    let other = c.in_ok-other.field-0 in
+    let first : HasDone board a p r batches one =
+    IfOk-at_ok (HasDone board a p r batches) {r = c.join-one.result.0} c.in_ok-one.was
+    c.join-one.ensures.first in
+    let second : HasDone board b p r batches other =
+    IfOk-at_ok (HasDone board b p r batches) {r = c.join-one.result.1} c.in_ok-other.was
+    c.join-one.ensures.second in
+    let sum : min 64 (a + b) ≡ all =
+    omega (
+      arith,
+      c.split-left.ensures.shares.0,
+      c.split-left.ensures.shares.1,
+      c.args.seat.view.0,
+      c.args.seat.part.1,
+    ) in
+    IfOk-weaker c.both_done.result (IsBoth board one other) (HasDone board all p r batches)
+    (λ d both. gathered board a b all p r batches one other d first second sum both)
+    c.both_done.ensures

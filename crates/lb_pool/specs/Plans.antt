@@ -1,0 +1,37 @@
+-- Plans: how the traces of a set are cut into batches. A trace is named by its number.
+-- Source: this project's rule.
+use Rattle.std.specs.Prelude.{◌≡◌, ℕ, ◌+◌, ◌<◌, ◌≤◌, ◌⊎◌, List, [], length, get_or, flat_map}
+use Rattle.std.specs.List.{range_with_len, AllPairs}
+use Rattle.std.specs.List.Sorted.{IsPermutation}
+use Rattle.lb_flat.specs.Traces.{Traces, trace_at}
+
+-- the numbers of all batches, batch after batch
+abbrev pub numbers_in : List (List ℕ) → List ℕ
+numbers_in batches = flat_map (λ batch. batch) batches
+
+-- the numbers below n in batches of a width: each number stands in one batch, once; no batch is
+-- empty; each has as many numbers as the width says, but the last may have fewer
+pub record IsPlan (n width : ℕ) (batches : List (List ℕ)) : Type 0 where
+  pub each_once : IsPermutation (range_with_len 0 n) (numbers_in batches)
+  pub not_empty : (i : ℕ) → i < length batches → 0 < length (get_or batches i [])
+  pub not_wider : (i : ℕ) → i < length batches → length (get_or batches i []) ≤ width
+  pub full : (i : ℕ) → i + 1 < length batches → length (get_or batches i []) ≡ width
+
+-- what always holds of a plan: it has a width of at most 64, and is one over all its numbers
+pub record IsLawful (batches : List (List ℕ)) : Type 0 where
+  pub width : ℕ
+  pub at_most_64 : width ≤ 64
+  pub plan : IsPlan (length (numbers_in batches)) width batches
+
+-- how many instants a trace has
+abbrev pub length_of : Traces → ℕ → ℕ
+length_of traces k = length (trace_at traces k).1
+
+-- by these lengths, trace j is shorter than trace k, or as long and its number is no greater
+abbrev pub Precedes : (ℕ → ℕ) → ℕ → ℕ → Type 0
+Precedes length_at j k =
+    (length_at j < length_at k) ⊎ ((length_at j ≡ length_at k) × (j ≤ k))
+
+-- the numbers of traces, by length and then by number
+abbrev pub IsByLength : Traces → List ℕ → Type 0
+IsByLength traces numbers = AllPairs (Precedes (length_of traces)) numbers

@@ -1,0 +1,61 @@
+-- What a run of a plan answers.
+-- Source: this project's rule.
+use Rattle.std.specs.Prelude.{◌≡◌, ℕ, ◌<◌, List, [], ◌∷◌, length, map, get_or, flat_map, slice_set, All}
+use Rattle.lb_static.specs.Instances.{Program}
+use Rattle.lb_static.specs.Shapes.{signature}
+use Rattle.lb_check.specs.Solutions.{HasOneHistory}
+use Rattle.lb_check.specs.Verdicts.{IsOnlyVerdict}
+use Rattle.lb_check.specs.declared.verdict.Verdict.{Verdict}
+use Rattle.lb_check.specs.declared.verdict.Verdict.TheVariants.{Passed}
+use Rattle.lb_flat.specs.Flattening.{IsFlatOf}
+use Rattle.lb_flat.specs.Inputs.{inputs_of}
+use Rattle.lb_flat.specs.Programs.{program_of}
+use Rattle.lb_flat.specs.Traces.{Recording}
+use Rattle.lb_flat.specs.declared.program.FlatProgram.{FlatProgram}
+use Rattle.lb_pool.specs.declared.batch.Judged.{Judged}
+
+-- ## Verdicts
+
+-- v is the verdict of trace k: that of each program that the flat one stands for, where the traces
+-- have its signature, by the one history that solves it
+pub record IsVerdict (p : FlatProgram) (r : Recording) (k : ℕ) (v : Verdict) : Type 0 where
+  pub only_verdict :
+      (P : Program) → IsFlatOf P (program_of p) → signature P ≡ r.signature →
+      IsOnlyVerdict P (inputs_of r k) v
+  pub has_one_history :
+      (P : Program) → IsFlatOf P (program_of p) → signature P ≡ r.signature →
+      HasOneHistory P (inputs_of r k)
+
+-- a verdict for each trace, in the traces' order
+pub record AreVerdicts (p : FlatProgram) (r : Recording) (verdicts : List Verdict) : Type 0 where
+  pub count : length verdicts ≡ length r.traces
+  pub each : (k : ℕ) → k < length r.traces → IsVerdict p r k (get_or verdicts k Passed)
+
+-- ## In any order
+
+-- traces and their verdicts
+pub record IsJudged (p : FlatProgram) (r : Recording) (j : Judged) : Type 0 where
+  pub is_trace : j.trace < length r.traces
+  pub is_verdict : IsVerdict p r j.trace j.verdict
+
+abbrev pub AreJudged : FlatProgram → Recording → List Judged → Type 0
+AreJudged p r js = All (IsJudged p r) js
+
+-- the numbers of the traces
+abbrev pub numbers_of : List Judged → List ℕ
+numbers_of js = map (λ j. j.trace) js
+
+-- the verdicts of the traces of a batch
+pub record IsBatchOf (p : FlatProgram) (r : Recording) (batches : List (List ℕ)) (i : ℕ)
+    (js : List Judged) : Type 0 where
+  pub numbers : numbers_of js ≡ get_or batches i []
+  pub judged : AreJudged p r js
+
+-- the numbers in the batches that were drawn
+abbrev pub numbers_drawn : List (List ℕ) → List ℕ → List ℕ
+numbers_drawn batches drawn = flat_map (λ i. get_or batches i []) drawn
+
+-- verdicts after some were written to the places of their traces
+abbrev pub placed : List Verdict → List Judged → List Verdict
+placed verdicts [] = verdicts
+placed verdicts (j ∷ js) = placed (slice_set verdicts j.trace j.verdict) js
