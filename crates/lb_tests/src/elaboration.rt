@@ -328,13 +328,5 @@ main => the node that is run, or its observer, has another shape than it may";
 
 #[test]
 fn programs_and_their_refusals(rt: HostRuntime) -> Result<(), AllocError> {
-    check(
-        &rt,
-        &Table {
-            asks: Asks::Sources,
-            rows: CASES,
-            between: "\n----\n",
-            mark: " => ",
-        },
-    )
+    check(&rt, &Table::of_texts(Asks::Sources, CASES))
 }

@@ -9,7 +9,6 @@ use lb_lanes::{
 };
 use std::alloc::{AllocError, Global};
 use std::process::Abort;
-use std::rt::Runtime;
 
 // The two integers in lanes 0 and 1, and 0 elsewhere.
 fn pair(first: i32, second: i32) -> IntLanes
@@ -21,12 +20,14 @@ fn pair(first: i32, second: i32) -> IntLanes
     lanes
 }
 
-// The number of a word; 0 where there is none.
-fn number(word: Option<&str>) -> i32 {
-    match word {
-        Some(word) => word.parse().unwrap_or(0),
-        None => 0,
-    }
+// The number that a word spells, if it spells one.
+fn number(word: Option<&str>) -> Option<i32> {
+    word?.parse().ok()
+}
+
+// The plane that a word spells, if it spells one.
+fn plane(word: Option<&str>) -> Option<Plane> {
+    Some(Plane(u64::from(number(word)?.unsigned_abs())))
 }
 
 // What a kernel makes of two rows of integers, and where it faults or holds.
@@ -48,15 +49,22 @@ fn applied(kernel: &[u8], a: &IntLanes, b: &IntLanes, active: Plane) -> (IntLane
     }
 }
 
+// What the kernel of a row makes of its numbers, if they are five.
+fn applied_row(asked: &str) -> Option<(IntLanes, Plane)> {
+    let mut words = asked.split(' ');
+    let kernel = words.next()?;
+    let a = pair(number(words.next())?, number(words.next())?);
+    let b = pair(number(words.next())?, number(words.next())?);
+    let active = plane(words.next())?;
+    Some(applied(kernel.as_bytes(), &a, &b, active))
+}
+
 // What a kernel makes of its numbers.
 pub fn push_ints(asked: &str, said: &mut String) -> Result<(), AllocError> {
-    let mut words = asked.split(' ');
-    let kernel = words.next().unwrap_or("");
-    let a = pair(number(words.next()), number(words.next()));
-    let b = pair(number(words.next()), number(words.next()));
-    let active = Plane(u64::from(number(words.next()).unsigned_abs()));
-    let (lanes, faults) = applied(kernel.as_bytes(), &a, &b, active);
-    write!(said, "{} {} {}", lanes.get(0), lanes.get(1), faults.0)
+    match applied_row(asked) {
+        Some((lanes, faults)) => { write!(said, "{} {} {}", lanes.get(0), lanes.get(1), faults.0) }
+        None => said.push_str("no numbers"),
+    }
 }
 
 // What a kernel makes of two planes.
@@ -70,13 +78,21 @@ fn combined(kernel: &[u8], p: Plane, q: Plane) -> Plane {
     }
 }
 
+// What the kernel of a row makes of its planes, if they are two.
+fn combined_row(asked: &str) -> Option<Plane> {
+    let mut words = asked.split(' ');
+    let kernel = words.next()?;
+    let p = plane(words.next())?;
+    let q = plane(words.next())?;
+    Some(combined(kernel.as_bytes(), p, q))
+}
+
 // What a kernel makes of its planes.
 pub fn push_plane(asked: &str, said: &mut String) -> Result<(), AllocError> {
-    let mut words = asked.split(' ');
-    let kernel = words.next().unwrap_or("");
-    let p = Plane(u64::from(number(words.next()).unsigned_abs()));
-    let q = Plane(u64::from(number(words.next()).unsigned_abs()));
-    write!(said, "{}", combined(kernel.as_bytes(), p, q).0)
+    match combined_row(asked) {
+        Some(plane) => write!(said, "{}", plane.0),
+        None => said.push_str("no numbers"),
+    }
 }
 
 // Kernels, lanes 0 and 1 of their operands, and the lanes that count or are taken; then lanes 0 and
@@ -105,31 +121,15 @@ const PLANES: &str = "\
 ! 1 0 => 18446744073709551614
 select 5 12 => 13";
 
-fn check_lines<R: Runtime + AllocGlobal + Abort>(
-    rt: &R,
-    asks: Asks<'_>,
-    rows: &str,
-) -> Result<(), AllocError> {
-    check(
-        rt,
-        &Table {
-            asks,
-            rows,
-            between: "\n",
-            mark: " => ",
-        },
-    )
-}
-
 #[test]
 fn integers(rt: HostRuntime) -> Result<(), AllocError> {
-    check_lines(&rt, Asks::Ints, INTEGERS)
+    check(&rt, &Table::of_lines(Asks::Ints, INTEGERS))
 }
 
 #[test]
 fn planes(rt: HostRuntime) -> Result<(), AllocError> {
     assert!(rt; Plane(4).get(2) && !Plane(4).get(3));
-    check_lines(&rt, Asks::Planes, PLANES)
+    check(&rt, &Table::of_lines(Asks::Planes, PLANES))
 }
 
 const LENGTHS: [usize; 5] = [0, 1, 63, 64, 65];

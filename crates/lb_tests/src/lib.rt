@@ -7,6 +7,8 @@
 #[cfg(test)]
 mod answers;
 #[cfg(test)]
+mod commands;
+#[cfg(test)]
 mod elaboration;
 #[cfg(test)]
 mod lanes;
@@ -16,6 +18,8 @@ mod programs;
 mod reports;
 #[cfg(test)]
 mod runs;
+#[cfg(test)]
+mod source_places;
 #[cfg(test)]
 mod source_texts;
 #[cfg(test)]

@@ -23,27 +23,10 @@ pub fn push_answer<R: Runtime + AllocGlobal>(
     Ok(())
 }
 
-fn check_rows<R: Runtime + AllocGlobal + Abort>(
-    rt: &R,
-    front: &str,
-    rows: &str,
-    between: &str,
-) -> Result<(), AllocError> {
-    check(
-        rt,
-        &Table {
-            asks: Asks::Programs(front),
-            rows,
-            between,
-            mark: " => ",
-        },
-    )
-}
-
 fn check_tables<R: Runtime + AllocGlobal + Abort>(rt: &R) -> Result<(), AllocError> {
-    check_rows(rt, MAIN, RULES, "\n")?;
-    check_rows(rt, CLOCKED, STATEMENTS, "\n")?;
-    check_rows(rt, PLAIN, TRACES, "\n----\n")
+    check(rt, &Table::of_lines(Asks::Programs(MAIN), RULES))?;
+    check(rt, &Table::of_lines(Asks::Programs(CLOCKED), STATEMENTS))?;
+    check(rt, &Table::of_texts(Asks::Programs(PLAIN), TRACES))
 }
 
 #[test]

@@ -51,15 +51,7 @@ a
 
 #[test]
 fn parts_of_cases(rt: HostRuntime) -> Result<(), AllocError> {
-    check(
-        &rt,
-        &Table {
-            asks: Asks::Parts,
-            rows: CASES,
-            between: "\n----\n",
-            mark: " => ",
-        },
-    )
+    check(&rt, &Table::of_texts(Asks::Parts, CASES))
 }
 
 fn is_as_given(options: &Options) -> bool {

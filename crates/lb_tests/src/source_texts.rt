@@ -335,13 +335,5 @@ text => over its limit at 3:2667";
 
 #[test]
 fn texts_and_their_refusals(rt: HostRuntime) -> Result<(), AllocError> {
-    check(
-        &rt,
-        &Table {
-            asks: Asks::Sources,
-            rows: CASES,
-            between: "\n----\n",
-            mark: " => ",
-        },
-    )
+    check(&rt, &Table::of_texts(Asks::Sources, CASES))
 }

@@ -7,20 +7,21 @@
 use lb_static::elab::Elab;
 use lb_static::elaborate::elaborate;
 use lb_static::error::StaticError;
+use lb_syntax::error::SyntaxError;
 use lb_syntax::parse::parse;
 use lb_syntax::tree::Source;
 use std::alloc::{AllocError, Global};
 
 /// `7 of 4: main f g | x: Int`
 fn push_program(elab: &Elab, said: &mut String) -> Result<(), AllocError> {
-    let instances = elab.table.instances.len();
-    let specializations = elab.table.specializations.len();
+    let instances = elab.table().instances.len();
+    let specializations = elab.table().specializations.len();
     write!(said, "{instances} of {specializations}:")?;
-    for node in &elab.reached.nodes {
+    for node in &elab.reached().nodes {
         write!(said, " {}", node.tree.name.as_str())?;
     }
     said.push_str(" |")?;
-    let inputs = &elab.signature;
+    let inputs = elab.signature();
     for i in 0..inputs.len() {
         write!(said, " {}: {:?}", inputs.name(i), inputs.kind(i))?;
     }
@@ -54,6 +55,20 @@ fn push_about(
         None => (word, None),
     };
     push_elaborated(said, &elaborate(alloc, source, node, observer))
+}
+
+/// The place at which the text of a front and an end is refused as E2, as `2:9`.
+pub fn push_place(
+    alloc: Global,
+    front: &str,
+    end: &str,
+    said: &mut String,
+) -> Result<(), AllocError> {
+    let text = format!(in alloc; "{front}{end}")?;
+    match &parse(alloc, text.as_str().as_bytes()) {
+        Err(SyntaxError::Syntax { line, column }) => write!(said, "{line}:{column}"),
+        _ => said.push_str("no place"),
+    }
 }
 
 /// What is answered about a text, by its last line.

@@ -12,7 +12,7 @@
 //!
 //! `{2 x@, }` stands for `x0, x1, `, and `{3 a}` for `aaa`.
 
-use crate::{answers, lanes, programs, reports, sources};
+use crate::{answers, commands, lanes, programs, reports, sources};
 use std::alloc::AllocError;
 use std::process::Abort;
 use std::rt::Runtime;
@@ -22,12 +22,16 @@ use std::rt::Runtime;
 pub enum Asks<'a> {
     /// A source: its text, or its node under test.
     Sources,
+    /// What stands behind this front: the place at which the text is refused as E2.
+    Places(&'a str),
     /// A case text.
     Cases,
     /// What stands behind some nodes and this front.
     Programs(&'a str),
     /// The two parts of a case text.
     Parts,
+    /// A run of the program: its words, and its standard input.
+    Runs,
     /// A kernel on integers, and its operands.
     Ints,
     /// A kernel on planes, and its operands.
@@ -47,12 +51,33 @@ pub struct Table<'a> {
     pub mark: &'a str,
 }
 
-/// The turns of `3 a@`, one after the other. Without a number there are none.
-fn push_turns(row: &mut String, repeated: &str) -> Result<(), AllocError> {
-    let (turns, turn) = repeated.split_once(' ').unwrap_or((repeated, ""));
+impl<'a> Table<'a> {
+    /// A table with a row in each line.
+    pub fn of_lines(asks: Asks<'a>, rows: &'a str) -> Table<'a> {
+        Table {
+            asks,
+            rows,
+            between: "\n",
+            mark: " => ",
+        }
+    }
+
+    /// A table with a line of dashes between two rows.
+    pub fn of_texts(asks: Asks<'a>, rows: &'a str) -> Table<'a> {
+        Table {
+            asks,
+            rows,
+            between: "\n----\n",
+            mark: " => ",
+        }
+    }
+}
+
+/// So many turns of `a@`, one after the other.
+fn push_turns(row: &mut String, turns: u32, turn: &str) -> Result<(), AllocError> {
     let (front, back) = turn.split_once('@').unwrap_or((turn, ""));
     let is_numbered = front.len() < turn.len();
-    for number in 0..turns.parse::<u32>().unwrap_or(0) {
+    for number in 0..turns {
         row.push_str(front)?;
         if is_numbered {
             write!(row, "{number}{back}")?;
@@ -61,15 +86,26 @@ fn push_turns(row: &mut String, repeated: &str) -> Result<(), AllocError> {
     Ok(())
 }
 
-/// The row in which all turns are written out.
-fn write_out(row: &mut String, short: &str) -> Result<(), AllocError> {
+/// Of `3 a@}` and what follows it, the number of turns, the turn and what follows.
+fn repeated(piece: &str) -> Option<(u32, &str, &str)> {
+    let (repeated, rest) = piece.split_once('}')?;
+    let (turns, turn) = repeated.split_once(' ')?;
+    Some((turns.parse().ok()?, turn, rest))
+}
+
+/// The row in which all turns are written out, and whether each brace has a number of turns.
+fn write_out(row: &mut String, short: &str) -> Result<bool, AllocError> {
+    let mut pieces = short.split('{');
     row.clear();
-    for piece in short.split('{') {
-        let (repeated, rest) = piece.split_once('}').unwrap_or(("", piece));
-        push_turns(row, repeated)?;
+    row.push_str(pieces.next().unwrap_or(""))?;
+    for piece in pieces {
+        let Some((turns, turn, rest)) = repeated(piece) else {
+            return Ok(false);
+        };
+        push_turns(row, turns, turn)?;
         row.push_str(rest)?;
     }
-    Ok(())
+    Ok(true)
 }
 
 /// What is answered on what a row asks.
@@ -81,23 +117,27 @@ fn push_answer<R: Runtime + AllocGlobal>(
 ) -> Result<(), AllocError> {
     match asks {
         Asks::Sources => sources::push_answer(rt.alloc(), asked, said),
+        Asks::Places(front) => sources::push_place(rt.alloc(), front, asked, said),
         Asks::Cases => answers::push_case(rt, asked, said),
         Asks::Programs(front) => programs::push_answer(rt, front, asked, said),
         Asks::Parts => reports::push_parts(asked, said),
+        Asks::Runs => commands::push_answer(rt, asked, said),
         Asks::Ints => lanes::push_ints(asked, said),
         Asks::Planes => lanes::push_plane(asked, said),
     }
 }
 
-/// Whether a row is answered as it wants, with the answer.
+/// Whether a row is answered as it wants, with the answer. A row without the mark is not.
 fn is_right<R: Runtime + AllocGlobal>(
     rt: &R,
     table: &Table<'_>,
     row: &str,
     said: &mut String,
 ) -> Result<bool, AllocError> {
-    let (asked, wanted) = row.rsplit_once(table.mark).unwrap_or((row, ""));
     said.clear();
+    let Some((asked, wanted)) = row.rsplit_once(table.mark) else {
+        return Ok(false);
+    };
     push_answer(rt, &table.asks, asked, said)?;
     Ok(said.as_str() == wanted)
 }
@@ -110,7 +150,8 @@ fn check_rows<R: Runtime + AllocGlobal + Abort>(
     said: &mut String,
 ) -> Result<(), AllocError> {
     for short in table.rows.split(table.between) {
-        write_out(row, short)?;
+        let is_whole = write_out(row, short)?;
+        assert!(rt; is_whole, "{short}: a brace without a number of turns");
         let is_right = is_right(rt, table, row.as_str(), said)?;
         assert!(rt; is_right, "{row}, and not: {said}");
     }

@@ -1,0 +1,92 @@
+//! Runs of the program: what they print, and their exit statuses.
+
+use crate::tables::{Asks, Table, check};
+use lb_command::command::command;
+use std::alloc::{AllocError, Global};
+use std::rt::Runtime;
+use std::test::Fail;
+
+/// The words of a command line, as the program gets them.
+fn words_of(alloc: Global, line: &str) -> Result<Vec<String>, AllocError> {
+    let mut words = Vec::new(alloc);
+    for word in line.split(' ') {
+        words.push(String::from_str(alloc, word)?)?;
+    }
+    Ok(words)
+}
+
+/// What is printed as an error, the status, and whether there is output, where the first line has
+/// the words and the others are the input.
+pub fn push_answer<R: Runtime + AllocGlobal>(
+    rt: &R,
+    asked: &str,
+    said: &mut String,
+) -> Result<(), AllocError> {
+    let (line, input) = asked.split_once('\n').unwrap_or((asked, ""));
+    let words = words_of(rt.alloc(), line)?;
+    let mut output: Vec<u8> = Vec::new(rt.alloc());
+    let mut errors: Vec<u8> = Vec::new(rt.alloc());
+    let mut reader = input.as_bytes();
+    let status = command(rt, words.as_slice(), &mut reader, &mut output, &mut errors);
+    let printed = std::str::from_utf8(errors.as_slice()).unwrap_or("no text");
+    let output = if output.is_empty() {
+        ""
+    } else {
+        " with output"
+    };
+    write!(said, "{printed}status {status}{output}")
+}
+
+/// Words and inputs, and what is printed.
+const RUNS: &str = "\
+lbench --batch 65 => refused: E20 usage
+status 2
+----
+lbench --batch 0 => refused: E20 usage
+status 2
+----
+lbench --workers +7 => refused: E20 usage
+status 2
+----
+lbench a b c => refused: E20 usage
+status 2
+----
+lbench no/such/source => refused: E21 read
+status 3
+----
+lbench
+% => refused: E1 character at 1:1
+status 2
+----
+lbench
+node
+  ; => refused: E2 syntax at 2:3
+status 2
+----
+lbench --help => status 0 with output";
+
+#[test]
+fn runs(rt: HostRuntime) -> Result<(), AllocError> {
+    check(
+        &rt,
+        &Table {
+            asks: Asks::Runs,
+            rows: RUNS,
+            between: "\n----\n",
+            mark: " => ",
+        },
+    )
+}
+
+#[test]
+fn failing_output(rt: HostRuntime) -> Result<(), Fail> {
+    let words = words_of(rt.alloc(), "lbench --help")?;
+    let mut errors: Vec<u8> = Vec::new(rt.alloc());
+    let mut reader: &[u8] = b"";
+    let mut room = [0u8; 9];
+    let mut full = room.as_mut_slice();
+    let status = command(&rt, words.as_slice(), &mut reader, &mut full, &mut errors);
+    assert_eq!(rt; status, 3);
+    assert_eq!(rt; errors.as_slice(), b"refused: E19 write\n".as_slice());
+    Ok(())
+}
