@@ -8,6 +8,7 @@ use std::env;
 use std::io::{self, ErrorKind};
 use std::process::ExitCode;
 use std::rt::Runtime;
+use std::thread::Builder;
 
 /// The words of the command line, the program's name first.
 fn words<R: Runtime + AllocGlobal>(rt: &R) -> Result<Vec<String>, Refusal> {
@@ -18,10 +19,14 @@ fn words<R: Runtime + AllocGlobal>(rt: &R) -> Result<Vec<String>, Refusal> {
     }
 }
 
-fn main(rt: HostRuntime) -> ExitCode {
+/// How much stack a run has, in bytes: more than the deepest texts need that are accepted.
+const STACK: usize = 2 << 20;
+
+/// Runs the program, and answers its exit status.
+fn run(rt: HostRuntime) -> u8 {
     let stderr = rt.stderr();
     let mut errors = io::writer(&stderr);
-    let status = match words(&rt) {
+    match words(&rt) {
         Ok(words) => command(
             &rt,
             words.as_slice(),
@@ -30,6 +35,13 @@ fn main(rt: HostRuntime) -> ExitCode {
             &mut errors,
         ),
         Err(refusal) => refuse(&refusal, &mut errors),
+    }
+}
+
+fn main(rt: HostRuntime) -> ExitCode {
+    let status = match Builder::new().stack_size(STACK).spawn(&rt, move || run(rt)) {
+        Ok(thread) => thread.join(&rt),
+        Err(_) => refuse(&Refusal::MEMORY, &mut io::writer(&rt.stderr())),
     };
     ExitCode::from(status)
 }
