@@ -7,7 +7,7 @@ use std::io::{ErrorKind, Read, Write};
 use std::process::Abort;
 use std::rt::Runtime;
 
-/// Gives a few bytes at a time, and fails once it has given so many.
+/// Gives a few bytes at a time, and is interrupted once it has given so many.
 #[derive(Drop)]
 struct FailingInput {
     given: usize,
@@ -21,7 +21,7 @@ impl Read for FailingInput {
             .min(3)
             .min(self.fails_at.saturating_sub(self.given));
         if count == 0 {
-            return Err(ErrorKind::TimedOut.into());
+            return Err(ErrorKind::Interrupted.into());
         }
         buffer[..count].fill(b'x');
         self.given = self.given.saturating_add(count);
@@ -29,7 +29,7 @@ impl Read for FailingInput {
     }
 }
 
-/// Takes one byte a write, and fails at its so manyth write.
+/// Takes one byte a write, and is interrupted at its so manyth write.
 #[derive(Drop)]
 struct FailingOutput {
     writes: u32,
@@ -40,7 +40,7 @@ impl Write for FailingOutput {
     fn write(&mut self, bytes: &[u8]) -> std::io::Result<usize> {
         self.writes = self.writes.saturating_add(1);
         if self.writes == self.fails_at {
-            return Err(ErrorKind::BrokenPipe.into());
+            return Err(ErrorKind::Interrupted.into());
         }
         Ok(bytes.len().min(1))
     }
