@@ -7,7 +7,7 @@ use Rattle.std.proofs.lemmas.Slice.Eq.{bytes_eq-Decides}
 use Rattle.lb_syntax.specs.Lists.{holds, either_or, listed, zip2}
 use Rattle.std.proofs.lemmas.List.{append_assoc, length-append, map-append}
 use Rattle.lb_static.specs.Parts.{variable_names}
-use Rattle.lb_static.specs.Shapes.{variables}
+use Rattle.lb_static.specs.DataTypes.{variables}
 use Rattle.lb_static.specs.ResolvedNodes.{IsResolved, node_of, statics_of, texts_of, counts_of}
 use Rattle.lb_static.specs.declared.resolved.ResolvedNode.{ResolvedNode}
 use Rattle.lb_syntax.specs.Tree as tree

@@ -22,15 +22,15 @@ use Rattle.lb_check.specs.Clocks as tree
 use Rattle.lb_check.specs.Clocks.{clock_of, each_clock, given_inputs, given_name, outer, declared_clock, depth}
 use Rattle.lb_check.specs.Occurrences.{call_count, occurrences, occurrences_each}
 use Rattle.lb_check.specs.OwnClocks.{HasClocks, clock_in}
-use Rattle.lb_check.specs.Standings.{IsStanding, AllStand, is_clocked_on}
-use Rattle.lb_check.specs.TermClocks.{Context, declared_in, standing_of, operands_of, given_at, standings, is_given, are_given, input_clocks}
-use Rattle.lb_check.specs.declared.standing.Standing.{Standing}
-use Rattle.lb_check.specs.declared.standing.Standing.TheVariants.{Nowhere, Anywhere, Only}
+use Rattle.lb_check.specs.ClockSets.{IsClockSet, AreClockSets, is_clocked_on}
+use Rattle.lb_check.specs.TermClocks.{Context, declared_in, infer_clock, operands_of, given_at, clock_sets, is_given, are_given, input_clocks}
+use Rattle.lb_check.specs.declared.clock_set.ClockSet.{ClockSet}
+use Rattle.lb_check.specs.declared.clock_set.ClockSet.TheVariants.{NoClock, AnyClock, OneClock}
 use Rattle.lb_check.proofs.CallClocks.{all_given}
 use Rattle.lb_check.proofs.ClockedNodes.{as_many_names, inputs_clocked, outputs_clocked}
 use Rattle.lb_check.proofs.FittingClocks.{IsGiven, IsWithin, fits_on}
 use Rattle.lb_check.proofs.TruthValues.{and_first, and_second, both_ways}
-use Rattle.lb_check.proofs.GivenNames.{operand_at, standing_at, term_at, variable_stands, variable_within, input_held, input_at, variable_held, given_in}
+use Rattle.lb_check.proofs.GivenNames.{operand_at, clock_set_at, term_at, variable_stands, variable_within, input_held, input_at, variable_held, given_in}
 use Rattle.lb_check.proofs.NodePlaces.{all_at}
 use Rattle.lb_check.proofs.ListPairs.{taken, get_taken, get_mapped, mapped_from, each_pair, pair_at, pairs_from, get_dropped}
 use Rattle.lb_check.proofs.ClockTests.{clock_same}
@@ -120,37 +120,37 @@ module _ (callee : ResolvedNode) (hc : HasClocks callee) where
 -- ## Operands that stand where the code found
 
 module _ (P : Program) (here : ResolvedNode) where
-  pub stood_is : (e : Expr) (s : Standing) → IsStanding P here e s → (k : tree.Clock) (n : ℕ) →
+  pub stood_is : (e : Expr) (s : ClockSet) → IsClockSet P here e s → (k : tree.Clock) (n : ℕ) →
       is_clocked_on P here k n e ≡ stood here k s
-  stood_is e Nowhere p k n = p k n
-  stood_is e Anywhere p k n = p.1 k n
-  stood_is e (Only c) p k n = p.2 k n
+  stood_is e NoClock p k n = p k n
+  stood_is e AnyClock p k n = p.1 k n
+  stood_is e (OneClock c) p k n = p.2 k n
 
   -- what may stand on a clock stands on it
-  pub stood_clock : (e : Expr) (s : Standing) → IsStanding P here e s → (z k : tree.Clock) →
+  pub stood_clock : (e : Expr) (s : ClockSet) → IsClockSet P here e s → (z k : tree.Clock) →
       stood here z s ≡ true → clock_of P (node_of here) e ≡ Some k → k ≡ z
-  stood_clock e Nowhere p z k t is = absurd cc
-  stood_clock e Anywhere p z k t is = let none : clock_of P (node_of here) e ≡ None = p.0 in
+  stood_clock e NoClock p z k t is = absurd cc
+  stood_clock e AnyClock p z k t is = let none : clock_of P (node_of here) e ≡ None = p.0 in
       absurd cc
-  stood_clock e (Only c) p z k t is =
+  stood_clock e (OneClock c) p z k t is =
       let only : clock_of P (node_of here) e ≡ Some (clock_in here c) = p.1 in
       let same : k ≡ clock_in here c = cc in
       same ∙ sym (clock_same z (clock_in here c) t)
 
-  pub stands_at : (ctx : Context) (es : List Term) (i : ℕ) (t : Term) → AllStand P here ctx es →
+  pub stands_at : (ctx : Context) (es : List Term) (i : ℕ) (t : Term) → AreClockSets P here ctx es →
       slice_get es i ≡ Some t
-      → IsStanding P here (expr_of (texts_of here) t) (standing_of ctx t)
+      → IsClockSet P here (expr_of (texts_of here) t) (infer_clock ctx t)
   stands_at ctx [] i t all e = absurd cc
   stands_at ctx (u ∷ es) zero t all e =
       let same : u ≡ t = cc in subst
-      (λ z. IsStanding P here (expr_of (texts_of here) z) (standing_of ctx z)) same all.0
+      (λ z. IsClockSet P here (expr_of (texts_of here) z) (infer_clock ctx z)) same all.0
   stands_at ctx (u ∷ es) (suc i) t all e = stands_at ctx es i t all.1 e
 
-  pub each_stood : (ctx : Context) (es : List Term) → AllStand P here ctx es →
+  pub each_stood : (ctx : Context) (es : List Term) → AreClockSets P here ctx es →
       (ks : List tree.Clock) (n : ℕ)
       → list_all (is_occurrence_clocked P (node_of here))
       (occurrences_each P (node_of here) ks n (exprs_of (texts_of here) es))
-      ≡ each_pair (stood here) ks (standings (operands_of ctx es))
+      ≡ each_pair (stood here) ks (clock_sets (operands_of ctx es))
   each_stood ctx [] all [] n = refl
   each_stood ctx [] all (k ∷ ks) n = refl
   each_stood ctx (t ∷ es) all [] n = refl
@@ -161,8 +161,8 @@ module _ (P : Program) (here : ResolvedNode) where
       list_all-append (is_occurrence_clocked P (node_of here))
       (occurrences P (node_of here) k n e) more
       ∙ ap (λ b. b && list_all (is_occurrence_clocked P (node_of here)) more)
-      (stood_is e (standing_of ctx t) all.0 k n)
-      ∙ ap (λ b. stood here k (standing_of ctx t) && b)
+      (stood_is e (infer_clock ctx t) all.0 k n)
+      ∙ ap (λ b. stood here k (infer_clock ctx t) && b)
       (each_stood ctx es all.1 ks (n + call_count e))
 
   -- the clock that each operand determines
@@ -186,7 +186,7 @@ module _ (P : Program) (here callee : ResolvedNode) (h : HasClocks here) (hc : H
     (ctx : Context) (declares : ctx.variable ≡ declared_in here)
     (es : List Term) (w : list_all (is_within (counts_of here)) es ≡ true)
     (u : list_all (is_unhidden (texts_of here)) es ≡ true)
-    (stand : AllStand P here ctx es) where
+    (stand : AreClockSets P here ctx es) where
   -- whether each waited input is given a variable
   pub are_given_is : are_given_variables (node_of here) (node_of callee)
       (exprs_of (texts_of here) es) ≡ are_given callee (operands_of ctx es)
@@ -204,19 +204,19 @@ module _ (P : Program) (here callee : ResolvedNode) (h : HasClocks here) (hc : H
       (all_at (is_within (counts_of here)) es i t.0 w t.1)
 
   pub operand_stands : (i : ℕ) (y : VariableId) → given_at (operands_of ctx es) i ≡ Some y →
-      slice_get (standings (operands_of ctx es)) i ≡ Some (Only (declared_in here y))
+      slice_get (clock_sets (operands_of ctx es)) i ≡ Some (OneClock (declared_in here y))
   operand_stands i y e =
       let t = operand_at ctx es i y e in
-      standing_at ctx es i t.0 t.1 ∙ ap Some (variable_stands ctx t.0 y t.2)
-      ∙ ap (λ f. Some (Only (f y))) declares
+      clock_set_at ctx es i t.0 t.1 ∙ ap Some (variable_stands ctx t.0 y t.2)
+      ∙ ap (λ f. Some (OneClock (f y))) declares
 
-  pub standing_within : (i : ℕ) (s : Standing) →
-      slice_get (standings (operands_of ctx es)) i ≡ Some s → IsWithin here s
-  standing_within i s e l only =
+  pub clock_set_within : (i : ℕ) (s : ClockSet) →
+      slice_get (clock_sets (operands_of ctx es)) i ≡ Some s → IsWithin here s
+  clock_set_within i s e l only =
       let t = term_at ctx es i s e in
       let there = stands_at P here ctx es i t.0 stand t.1 in
-      let stands : IsStanding P here (expr_of (texts_of here) t.0) (Only l) =
-      subst (IsStanding P here (expr_of (texts_of here) t.0)) (t.2 ∙ only) there in
+      let stands : IsClockSet P here (expr_of (texts_of here) t.0) (OneClock l) =
+      subst (IsClockSet P here (expr_of (texts_of here) t.0)) (t.2 ∙ only) there in
       stands.0
 
   module _ (all : are_given callee (operands_of ctx es) ≡ true) where
@@ -248,7 +248,7 @@ module _ (P : Program) (here callee : ResolvedNode) (h : HasClocks here) (hc : H
   module _ (Y : ℕ → Option VariableId)
       (Y_is : (i : ℕ) → i < callee.inputs → Y i ≡ given_at (operands_of ctx es) i) where
     pub own_inputs : StandFor here callee Y
-        (λ i. slice_get (standings (operands_of ctx es)) i) callee.inputs
+        (λ i. slice_get (clock_sets (operands_of ctx es)) i) callee.inputs
     own_inputs i y lt e = let there = sym (Y_is i lt) ∙ e in
         (operand_stands i y there, operand_within i y there)
 
@@ -268,12 +268,12 @@ module _ (P : Program) (here callee : ResolvedNode) (h : HasClocks here) (hc : H
           let small = z.0 in
           (z.1.0, z.1.1, (own_inputs s.variable.0 z.1.0 small z.1.1).1)
 
-      abbrev S : ℕ → Option Standing
-      S = λ i. slice_get (standings (operands_of ctx es)) i
+      abbrev S : ℕ → Option ClockSet
+      S = λ i. slice_get (clock_sets (operands_of ctx es)) i
 
       pub outer_stand : (b : tree.Clock) →
-          each_pair (stood here) (inputs_seen b) (standings (operands_of ctx es)) ≡ true
-          → (i : ℕ) (s : Standing) → i < callee.inputs → S i ≡ Some s →
+          each_pair (stood here) (inputs_seen b) (clock_sets (operands_of ctx es)) ≡ true
+          → (i : ℕ) (s : ClockSet) → i < callee.inputs → S i ≡ Some s →
           stood here (seen callee inputs_given b i) s ≡ true
       outer_stand b fits i s lt e =
           let d = input_held callee hc i lt in
@@ -282,23 +282,23 @@ module _ (P : Program) (here callee : ResolvedNode) (h : HasClocks here) (hc : H
           let k = outer b inputs_given (declared_clock (node_of callee) d.0.name) in
           let stands : stood here k s ≡ true =
           pair_at (stood here) (inputs_seen b)
-          (standings (operands_of ctx es)) i k s fits here_seen e in
+          (clock_sets (operands_of ctx es)) i k s fits here_seen e in
           subst (λ n. stood here (outer b inputs_given (declared_clock (node_of callee) n))
           s ≡ true) (input_at callee hc i d.0 d.1).0 stands
 
       pub code_stand : (b : tree.Clock) →
-          fits_on here h Y b (input_clocks callee) (standings (operands_of ctx es)) ≡ true
-          → (i : ℕ) (v : Declared) (s : Standing) → i < callee.inputs →
+          fits_on here h Y b (input_clocks callee) (clock_sets (operands_of ctx es)) ≡ true
+          → (i : ℕ) (v : Declared) (s : ClockSet) → i < callee.inputs →
           slice_get callee.variables.items i ≡ Some v → S i ≡ Some s
           → stood here (expected_on here Y b v.clock) s ≡ true
       code_stand b fits i v s lt at e =
           let c = get_mapped (λ v. v.clock) (take callee.inputs callee.variables.items) i v
           (taken callee.inputs callee.variables.items i v at lt) in
           pair_at (λ c s. stood here (expected_on here Y b c) s) (input_clocks callee)
-          (standings (operands_of ctx es)) i v.clock s fits c e
+          (clock_sets (operands_of ctx es)) i v.clock s fits c e
 
       pub outer_known : (b : tree.Clock) →
-          each_pair (stood here) (inputs_seen b) (standings (operands_of ctx es)) ≡ true
+          each_pair (stood here) (inputs_seen b) (clock_sets (operands_of ctx es)) ≡ true
           → (x : VariableId) (v : Declared) → x.0 < m →
           slice_get callee.variables.items x.0 ≡ Some v →
           expected_on here Y b v.clock ≡ seen callee inputs_given b x.0
@@ -308,7 +308,7 @@ module _ (P : Program) (here callee : ResolvedNode) (h : HasClocks here) (hc : H
           (λ i v s lt at e. inl (outer_stand b fits i s lt e))
 
       pub code_known : (b : tree.Clock) →
-          fits_on here h Y b (input_clocks callee) (standings (operands_of ctx es)) ≡ true
+          fits_on here h Y b (input_clocks callee) (clock_sets (operands_of ctx es)) ≡ true
           → (x : VariableId) (v : Declared) → x.0 < m →
           slice_get callee.variables.items x.0 ≡ Some v →
           expected_on here Y b v.clock ≡ seen callee inputs_given b x.0
@@ -318,11 +318,11 @@ module _ (P : Program) (here callee : ResolvedNode) (h : HasClocks here) (hc : H
           (λ i v s lt at e. inr (code_stand b fits i v s lt at e))
 
       pub to_code : (b : tree.Clock) →
-          each_pair (stood here) (inputs_seen b) (standings (operands_of ctx es)) ≡ true
-          → fits_on here h Y b (input_clocks callee) (standings (operands_of ctx es)) ≡ true
+          each_pair (stood here) (inputs_seen b) (clock_sets (operands_of ctx es)) ≡ true
+          → fits_on here h Y b (input_clocks callee) (clock_sets (operands_of ctx es)) ≡ true
       to_code b fits =
           pairs_from (λ c s. stood here (expected_on here Y b c) s) (input_clocks callee)
-          (standings (operands_of ctx es)) (λ i c s p q.
+          (clock_sets (operands_of ctx es)) (λ i c s p q.
           let v = mapped_from (λ v. v.clock) (take callee.inputs callee.variables.items) i c p in
           let t = get_taken callee.inputs callee.variables.items i v.0 v.1 in
           let less = t.1 in
@@ -331,10 +331,10 @@ module _ (P : Program) (here callee : ResolvedNode) (h : HasClocks here) (hc : H
           ∙ outer_stand b fits i s less q)
 
       pub to_outer : (b : tree.Clock) →
-          fits_on here h Y b (input_clocks callee) (standings (operands_of ctx es)) ≡ true
-          → each_pair (stood here) (inputs_seen b) (standings (operands_of ctx es)) ≡ true
+          fits_on here h Y b (input_clocks callee) (clock_sets (operands_of ctx es)) ≡ true
+          → each_pair (stood here) (inputs_seen b) (clock_sets (operands_of ctx es)) ≡ true
       to_outer b fits =
-          pairs_from (stood here) (inputs_seen b) (standings (operands_of ctx es)) (λ i k s p q.
+          pairs_from (stood here) (inputs_seen b) (clock_sets (operands_of ctx es)) (λ i k s p q.
           let d = mapped_from (λ (d : Declaration). outer b inputs_given
           (declared_clock (node_of callee) d.name)) (node_of callee).inputs i k p in
           let place = input_at callee hc i d.0 d.1 in
@@ -348,6 +348,6 @@ module _ (P : Program) (here callee : ResolvedNode) (h : HasClocks here) (hc : H
       -- operands stand on the clocks that the caller sees exactly where they do on those that the
       -- code expects
       pub same_fits : (b : tree.Clock) →
-          each_pair (stood here) (inputs_seen b) (standings (operands_of ctx es))
-          ≡ fits_on here h Y b (input_clocks callee) (standings (operands_of ctx es))
+          each_pair (stood here) (inputs_seen b) (clock_sets (operands_of ctx es))
+          ≡ fits_on here h Y b (input_clocks callee) (clock_sets (operands_of ctx es))
       same_fits b = both_ways _ _ (to_code b) (to_outer b)

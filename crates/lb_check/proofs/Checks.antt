@@ -7,7 +7,7 @@ use Rattle.lb_syntax.specs.Refusals.{Refusal, E4, E7, E8, E9, E10, E11, unless}
 use Rattle.lb_static.specs.Elaborated.{elaborated_program, IsElaborated, IsLawful}
 use Rattle.lb_static.specs.Instances.{Program, instances}
 use Rattle.lb_static.specs.Names.{keeps_names, is_well_founded}
-use Rattle.lb_static.specs.Walk.{has_no_parameters, static_refusal, walk_refusal}
+use Rattle.lb_static.specs.Instantiation.{has_no_parameters, static_refusal, instantiation_refusal}
 use Rattle.lb_static.specs.declared.elab.Elaboration.{Elaboration}
 use Rattle.lb_static.specs.declared.reach.Reached.{Reached}
 use Rattle.lb_static.specs.declared.table.Table.{Table}
@@ -38,11 +38,12 @@ kept false r e = absurd cc
 pub names_kept : (P : Program) → static_refusal P ≡ None → keeps_names P ≡ true
 names_kept P e = kept (keeps_names P) E4 (first_none (unless (keeps_names P) E4) _ e)
 
-pub walk_kept : (P : Program) → static_refusal P ≡ None → walk_refusal P 0 (instances P) ≡ None
-walk_kept P e =
+pub instantiation_kept : (P : Program) → static_refusal P ≡ None
+    → instantiation_refusal P 0 (instances P) ≡ None
+instantiation_kept P e =
     let calls = second_none (unless (keeps_names P) E4) _ e in
     let parameters = second_none (unless (is_well_founded P) E7) _ calls in
-    first_none (walk_refusal P 0 (instances P)) _
+    first_none (instantiation_refusal P 0 (instances P)) _
     (second_none (unless (has_no_parameters P) E8) _ parameters)
 
 pub judged : (P : Program) (e : Elaboration) → IsElaborated P e → IsJudged P e.reached e.table
@@ -50,7 +51,7 @@ judged P e is = record {
   names = names_kept P is.accepted;
   reached = is.reached;
   table = is.table;
-  walked = walk_kept P is.accepted;
+  instantiated = instantiation_kept P is.accepted;
 }
 
 -- ## A node that breaks a rule

@@ -7,7 +7,7 @@ use Rattle.std.proofs.lemmas.Option.{slice_get-get_or}
 use Rattle.lb_syntax.specs.Lists.{◌>>=◌}
 use Rattle.lb_static.specs.declared.resolved.Variable.{Variable}
 use Rattle.lb_static.specs.declared.resolved.Sampling.{Sampling}
-use Rattle.lb_check.specs.ClockDepths.{awaited, LeadsTo, StandsAt, depth_within, AreDepths, IsKnown}
+use Rattle.lb_check.specs.ClockDepths.{awaited, LeadsTo, HasDepth, depth_within, AreDepths, IsKnown}
 
 -- the variable at a place
 awaited_at : (vs : List Variable) (x : ℕ) (v : Variable) → x < length vs
@@ -27,7 +27,7 @@ awaits_none vs x v lt e = awaited_at vs x v lt ∙ ap (option_map (λ s. s.varia
 -- a depth that is known
 pub known_depth : (vs : List Variable) (depths : List (Option ℕ)) (x d : ℕ) (o : Option ℕ) →
     AreDepths vs depths → x < length vs
-    → get_or depths x o ≡ Some d → StandsAt vs d x × d ≤ length vs
+    → get_or depths x o ≡ Some d → HasDepth vs d x × d ≤ length vs
 known_depth vs depths x d o known lt e =
     let below : x < length depths = subst (λ n. x < n) (sym known.as_many) lt in
     let at = slice_get-get_or depths x o below ∙ ap Some e in
@@ -52,50 +52,50 @@ step_more vs k x y z l e = let same : suc k ≡ k + 1 = omega arith in
 
 -- ## Depths
 
-stands_top : (vs : List Variable) (x : ℕ) → awaited vs x ≡ None → StandsAt vs 0 x
-unfolding StandsAt
+stands_top : (vs : List Variable) (x : ℕ) → awaited vs x ≡ None → HasDepth vs 0 x
+unfolding HasDepth
 stands_top vs x e = e
 
-leads_down : (vs : List Variable) (k x y d : ℕ) → LeadsTo vs k x y → StandsAt vs d y →
-    StandsAt vs (k + d) x
-unfolding LeadsTo StandsAt
+leads_down : (vs : List Variable) (k x y d : ℕ) → LeadsTo vs k x y → HasDepth vs d y →
+    HasDepth vs (k + d) x
+unfolding LeadsTo HasDepth
 leads_down vs zero x y d l s = let same : d ≡ 0 + d = omega arith in
-    subst (λ m. StandsAt vs m x) same (subst (StandsAt vs d) (sym l) s)
+    subst (λ m. HasDepth vs m x) same (subst (HasDepth vs d) (sym l) s)
 leads_down vs (suc k) x y d l s =
     let same : suc (k + d) ≡ suc k + d = omega arith in
-    subst (λ m. StandsAt vs m x) same (l.0, l.1, leads_down vs k l.0 y d l.2 s)
+    subst (λ m. HasDepth vs m x) same (l.0, l.1, leads_down vs k l.0 y d l.2 s)
 
-pub stands_below : (vs : List Variable) (k x y d : ℕ) → LeadsTo vs k x y → StandsAt vs d y →
-    StandsAt vs (k + d) x
+pub stands_below : (vs : List Variable) (k x y d : ℕ) → LeadsTo vs k x y → HasDepth vs d y →
+    HasDepth vs (k + d) x
 stands_below vs k x y d l s = leads_down vs k x y d l s
 
 pub stands_here : (vs : List Variable) (k x y : ℕ) → LeadsTo vs k x y → awaited vs y ≡ None →
-    StandsAt vs k x
+    HasDepth vs k x
 stands_here vs k x y l e =
     let same : k + 0 ≡ k = omega arith in
-    subst (λ m. StandsAt vs m x) same (leads_down vs k x y 0 l (stands_top vs y e))
+    subst (λ m. HasDepth vs m x) same (leads_down vs k x y 0 l (stands_top vs y e))
 
 -- what stands so deep has no depth within less
-too_deep : (vs : List Variable) (n x d : ℕ) → StandsAt vs d x → n ≤ d → depth_within n vs x ≡ None
-unfolding StandsAt depth_within
+too_deep : (vs : List Variable) (n x d : ℕ) → HasDepth vs d x → n ≤ d → depth_within n vs x ≡ None
+unfolding HasDepth depth_within
 too_deep vs zero x d s le = refl
 too_deep vs (suc n) x zero s le = absurd (omega arith)
 too_deep vs (suc n) x (suc d) s le =
     rw (s.1) (ap (option_map suc) (too_deep vs n s.0 d s.2 (omega arith)))
 
-deep_enough : (vs : List Variable) (n x d : ℕ) → StandsAt vs d x → d < n →
+deep_enough : (vs : List Variable) (n x d : ℕ) → HasDepth vs d x → d < n →
     depth_within n vs x ≡ Some d
-unfolding StandsAt depth_within
+unfolding HasDepth depth_within
 deep_enough vs zero x d s lt = absurd (omega arith)
 deep_enough vs (suc n) x zero s lt = rw s refl
 deep_enough vs (suc n) x (suc d) s lt =
     rw (s.1) (ap (option_map suc) (deep_enough vs n s.0 d s.2 (omega arith)))
 
-pub no_depth : (vs : List Variable) (n x d : ℕ) → StandsAt vs d x → n ≤ d →
+pub no_depth : (vs : List Variable) (n x d : ℕ) → HasDepth vs d x → n ≤ d →
     depth_within n vs x ≡ None
 no_depth vs n x d s le = too_deep vs n x d s le
 
-pub its_depth : (vs : List Variable) (n x d : ℕ) → StandsAt vs d x → d < n →
+pub its_depth : (vs : List Variable) (n x d : ℕ) → HasDepth vs d x → d < n →
     depth_within n vs x ≡ Some d
 its_depth vs n x d s lt = deep_enough vs n x d s lt
 
@@ -148,13 +148,13 @@ first_known depths x d first A lt (inl e) =
 first_known depths x d first A lt (inr k) = still_known depths x d first k
 
 pub more_depths : (vs : List Variable) (depths : List (Option ℕ)) (x d : ℕ) → AreDepths vs depths →
-    StandsAt vs d x → d ≤ length vs
+    HasDepth vs d x → d ≤ length vs
     → AreDepths vs (set depths x (Some d))
 more_depths vs depths x d known stands small = record {
   as_many = simp length-set known.as_many;
   right = λ y e h. elim (set_get depths x y (Some d) (Some e) h) [
     | inl s ↦ let same : d ≡ e = cc in
-        subst (λ z. StandsAt vs e z) s.0 (subst (λ m. StandsAt vs m x) same stands)
+        subst (λ z. HasDepth vs e z) s.0 (subst (λ m. HasDepth vs m x) same stands)
     | inr s ↦ known.right y e s
   ];
   small = λ y e h. elim (set_get depths x y (Some d) (Some e) h) [
@@ -184,17 +184,17 @@ noted_step vs before was now k n old same len known here kept all =
     )
 
 -- one step less deep stands what is waited for
-pub waits_deeper : (vs : List Variable) (depth above x y : ℕ) → StandsAt vs (depth - above) x →
+pub waits_deeper : (vs : List Variable) (depth above x y : ℕ) → HasDepth vs (depth - above) x →
     above < depth + 1 → awaited vs x ≡ Some y
-    → StandsAt vs (depth - (above + 1)) y
-unfolding StandsAt
+    → HasDepth vs (depth - (above + 1)) y
+unfolding HasDepth
 waits_deeper vs depth above x y s lt e = by (depth - above) refl s
   where
-    by : (d : ℕ) → d ≡ depth - above → StandsAt vs d x → StandsAt vs (depth - (above + 1)) y
+    by : (d : ℕ) → d ≡ depth - above → HasDepth vs d x → HasDepth vs (depth - (above + 1)) y
     by zero is s = absurd cc
     by (suc d) is s =
         let same : s.0 ≡ y = cc in
         let less : d ≡ depth - (above + 1) = omega arith in
-        subst (λ m. StandsAt vs m y) less (subst (StandsAt vs d) same s.2)
+        subst (λ m. HasDepth vs m y) less (subst (HasDepth vs d) same s.2)
 
 pub ruleset steps = (no_step, no_end)

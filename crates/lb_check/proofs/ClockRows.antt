@@ -8,13 +8,13 @@ use Rattle.lb_static.specs.declared.resolved.CallId.{CallId}
 use Rattle.lb_static.specs.declared.resolved.StaticId.{StaticId}
 use Rattle.lb_static.specs.declared.resolved.VariableId.{VariableId}
 use Rattle.lb_static.specs.declared.resolved.Term.{Term, Array, AtMostOne, Nor, Call, IterateNode, IterateSymbol, Array', AtMostOne', Nor', Call', IterateNode', IterateSymbol', Row_of-Term, end_of-Term, more_of-Term, items-the_row-Term, items_hidden-the_row-Term-0}
-use Rattle.lb_check.specs.TermClocks.{Context, is_call_clocked, is_equation_clocked, operand_of, operands_in, operands_of, row_standing, standing_of}
-use Rattle.lb_check.specs.declared.standing.Operand.{Operand}
+use Rattle.lb_check.specs.TermClocks.{Context, is_call_clocked, is_equation_clocked, operand_of, operands_in, operands_of, row_clock_set, infer_clock}
+use Rattle.lb_check.specs.declared.clock_set.Operand.{Operand}
 use Rattle.lb_check.proofs.TypeRows.{IsRow}
 
 operands_items : (ctx : Context) (n : _) (row : Row_of-Term n) →
     operands_in ctx row ≡ operands_of ctx (items-the_row-Term n row)
-unfolding standing_of
+unfolding infer_clock
 operands_items ctx n end_of-Term = refl
 operands_items ctx n (more_of-Term e rest) =
     ap (λ (os : List Operand). operand_of ctx e ∷ os) (operands_items ctx _ rest)
@@ -35,55 +35,56 @@ same_operands : (ctx : Context) (t : Term) (es : Vec Term Global) →
 same_operands ctx t es e = operands_items ctx _ (row_in t).1 ∙ ap (operands_of ctx) e
 
 stands_array : (ctx : Context) (es : Vec Term Global) →
-    standing_of ctx (Array es) ≡ row_standing ctx (Array es) (operands_of ctx es.items)
-unfolding standing_of
-stands_array ctx es = ap (row_standing ctx (Array es))
+    infer_clock ctx (Array es) ≡ row_clock_set ctx (Array es) (operands_of ctx es.items)
+unfolding infer_clock
+stands_array ctx es = ap (row_clock_set ctx (Array es))
     (same_operands ctx (Array es) es (items_hidden-the_row-Term-0 es))
 
 stands_at_most_one : (ctx : Context) (es : Vec Term Global)
-    → standing_of ctx (AtMostOne es) ≡ row_standing ctx (AtMostOne es) (operands_of ctx es.items)
-unfolding standing_of
+    → infer_clock ctx (AtMostOne es) ≡ row_clock_set ctx (AtMostOne es) (operands_of ctx es.items)
+unfolding infer_clock
 stands_at_most_one ctx es =
-    ap (row_standing ctx (AtMostOne es))
+    ap (row_clock_set ctx (AtMostOne es))
     (same_operands ctx (AtMostOne es) es (items_hidden-the_row-Term-0 es))
 
 stands_nor : (ctx : Context) (es : Vec Term Global) →
-    standing_of ctx (Nor es) ≡ row_standing ctx (Nor es) (operands_of ctx es.items)
-unfolding standing_of
-stands_nor ctx es = ap (row_standing ctx (Nor es))
+    infer_clock ctx (Nor es) ≡ row_clock_set ctx (Nor es) (operands_of ctx es.items)
+unfolding infer_clock
+stands_nor ctx es = ap (row_clock_set ctx (Nor es))
     (same_operands ctx (Nor es) es (items_hidden-the_row-Term-0 es))
 
 stands_call : (ctx : Context) (c : CallId) (es : Vec Term Global)
-    → standing_of ctx (Call c es) ≡ row_standing ctx (Call c es) (operands_of ctx es.items)
-unfolding standing_of
-stands_call ctx c es = ap (row_standing ctx (Call c es))
+    → infer_clock ctx (Call c es) ≡ row_clock_set ctx (Call c es) (operands_of ctx es.items)
+unfolding infer_clock
+stands_call ctx c es = ap (row_clock_set ctx (Call c es))
     (same_operands ctx (Call c es) es (items_hidden-the_row-Term-0 es))
 
 stands_node : (ctx : Context) (it : ArrayIterator) (c : CallId) (es : Vec Term Global)
-    → standing_of ctx (IterateNode it c es) ≡ row_standing ctx (IterateNode it c es)
+    → infer_clock ctx (IterateNode it c es) ≡ row_clock_set ctx (IterateNode it c es)
     (operands_of ctx es.items)
-unfolding standing_of
+unfolding infer_clock
 stands_node ctx it c es =
-    ap (row_standing ctx (IterateNode it c es))
+    ap (row_clock_set ctx (IterateNode it c es))
     (same_operands ctx (IterateNode it c es) es (items_hidden-the_row-Term-0 es))
 
 stands_symbol : (ctx : Context) (it : ArrayIterator) (op : BinaryOperator) (n : StaticId)
     (es : Vec Term Global)
-    → standing_of ctx (IterateSymbol it op n es) ≡ row_standing ctx (IterateSymbol it op n es)
+    → infer_clock ctx (IterateSymbol it op n es) ≡ row_clock_set ctx (IterateSymbol it op n es)
     (operands_of ctx es.items)
-unfolding standing_of
+unfolding infer_clock
 stands_symbol ctx it op n es =
-    ap (row_standing ctx (IterateSymbol it op n es))
+    ap (row_clock_set ctx (IterateSymbol it op n es))
     (same_operands ctx (IterateSymbol it op n es) es (items_hidden-the_row-Term-0 es))
 
-pub standing_of_row : (ctx : Context) (t : Term) (es : Vec Term Global) → IsRow t es
-    → standing_of ctx t ≡ row_standing ctx t (operands_of ctx es.items)
-standing_of_row ctx t es (inl e) = rw e (stands_array ctx es)
-standing_of_row ctx t es (inr (inl e)) = rw e (stands_at_most_one ctx es)
-standing_of_row ctx t es (inr (inr (inl e))) = rw e (stands_nor ctx es)
-standing_of_row ctx t es (inr (inr (inr (inl (c, e))))) = rw e (stands_call ctx c es)
-standing_of_row ctx t es (inr (inr (inr (inr (inl (it, c, e)))))) = rw e (stands_node ctx it c es)
-standing_of_row ctx t es (inr (inr (inr (inr (inr (it, op, n, e)))))) =
+pub infer_clock_of_row : (ctx : Context) (t : Term) (es : Vec Term Global) → IsRow t es
+    → infer_clock ctx t ≡ row_clock_set ctx t (operands_of ctx es.items)
+infer_clock_of_row ctx t es (inl e) = rw e (stands_array ctx es)
+infer_clock_of_row ctx t es (inr (inl e)) = rw e (stands_at_most_one ctx es)
+infer_clock_of_row ctx t es (inr (inr (inl e))) = rw e (stands_nor ctx es)
+infer_clock_of_row ctx t es (inr (inr (inr (inl (c, e))))) = rw e (stands_call ctx c es)
+infer_clock_of_row ctx t es (inr (inr (inr (inr (inl (it, c, e)))))) =
+    rw e (stands_node ctx it c es)
+infer_clock_of_row ctx t es (inr (inr (inr (inr (inr (it, op, n, e)))))) =
     rw e (stands_symbol ctx it op n es)
 
 -- an equation whose right side is a call

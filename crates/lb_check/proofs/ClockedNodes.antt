@@ -12,7 +12,7 @@ use Rattle.lb_syntax.specs.Tree.{Name, Static, Declaration, Node}
 use Rattle.lb_static.specs.StaticValues.{named}
 use Rattle.lb_static.specs.Names.{are_distinct}
 use Rattle.lb_static.specs.Parts.{among, variable_names}
-use Rattle.lb_static.specs.Shapes.{variables}
+use Rattle.lb_static.specs.DataTypes.{variables}
 use Rattle.lb_static.specs.ResolvedTerms.{Counts, declaration_of, sampling_of, name_at, is_declared_within, are_statics}
 use Rattle.lb_static.specs.ResolvedNodes.{IsResolved, counts_of, node_of, statics_of}
 use Rattle.lb_static.specs.declared.resolved.ResolvedNode.{ResolvedNode}

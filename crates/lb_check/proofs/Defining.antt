@@ -11,22 +11,25 @@ use Rattle.lb_static.specs.declared.resolved.CallId.{CallId}
 use Rattle.lb_static.specs.declared.resolved.CallSite.{CallSite}
 use Rattle.lb_static.specs.declared.resolved.StaticId.{StaticId}
 use Rattle.lb_static.specs.declared.resolved.VariableId.{VariableId}
-use Rattle.lb_static.specs.declared.resolved.Step.{Step}
-use Rattle.lb_static.specs.declared.resolved.Term.{Term, Group, Unary, When, Copies, Index, Slice, Array, AtMostOne, Nor, Call, IterateNode, IterateSymbol, Array', AtMostOne', Nor', Call', IterateNode', IterateSymbol', Row_of-Term, end_of-Term, more_of-Term, items-the_row-Term, items_hidden-the_row-Term-0}
-use Rattle.lb_check.specs.NodeDefinitions.{count_left, count_step, count_steps, has_memory, row_memory, any_memory, step_memory, steps_memory, calls_function, call_functions}
+use Rattle.lb_static.specs.declared.resolved.ResolvedStatement.{ResolvedStatement}
+use Rattle.lb_static.specs.declared.resolved.Term.{Term, Group, Unary, When, Replicate, Index, Slice, Array, AtMostOne, Nor, Call, IterateNode, IterateSymbol, Array', AtMostOne', Nor', Call', IterateNode', IterateSymbol', Row_of-Term, end_of-Term, more_of-Term, items-the_row-Term, items_hidden-the_row-Term-0}
+use Rattle.lb_check.specs.NodeDefinitions.{count_left, count_statement, count_statements, has_memory, row_memory, any_memory, statement_memory, statements_memory, calls_function, call_functions}
 
 pub count_next : (k : ℕ) (xs : List VariableId) (i : ℕ) (d : VariableId) → i < length xs
     → count_left k (drop i xs) ≡ (if (get_or xs i d).0 == k then 1 else 0) + count_left k
     (drop (i + 1) xs)
 count_next k xs i d lt = ap (count_left k) (drop_more xs i d lt)
 
-pub counts_next : (k : ℕ) (ss : List Step) (i : ℕ) (d : Step) → i < length ss
-    → count_steps k (drop i ss) ≡ count_step k (get_or ss i d) + count_steps k (drop (i + 1) ss)
-counts_next k ss i d lt = ap (count_steps k) (drop_more ss i d lt)
+pub counts_next : (k : ℕ) (ss : List ResolvedStatement) (i : ℕ) (d : ResolvedStatement)
+    → i < length ss
+    → count_statements k (drop i ss) ≡ count_statement k (get_or ss i d)
+    + count_statements k (drop (i + 1) ss)
+counts_next k ss i d lt = ap (count_statements k) (drop_more ss i d lt)
 
-pub steps_next : (ss : List Step) (i : ℕ) (d : Step) → i < length ss
-    → steps_memory (drop i ss) ≡ step_memory (get_or ss i d) || steps_memory (drop (i + 1) ss)
-steps_next ss i d lt = ap steps_memory (drop_more ss i d lt)
+pub steps_next : (ss : List ResolvedStatement) (i : ℕ) (d : ResolvedStatement) → i < length ss
+    → statements_memory (drop i ss) ≡ statement_memory (get_or ss i d)
+    || statements_memory (drop (i + 1) ss)
+steps_next ss i d lt = ap statements_memory (drop_more ss i d lt)
 
 pub calls_next : (r : Reached) (ss : List CallSite) (i : ℕ) (d : CallSite) → i < length ss
     → call_functions r (drop i ss) ≡ calls_function r (get_or ss i d)
@@ -59,7 +62,7 @@ abbrev pub IsAround : Term → Box Term Global → Type 0
 IsAround t e =
     (t ≡ Group e) ⊎ (((op : UnaryOperator) × (t ≡ Unary op e))
     ⊎ (((x : VariableId) × (sign : Bool) × (t ≡ When e x sign))
-    ⊎ (((n : StaticId) × (t ≡ Copies e n)) ⊎ (((i : StaticId) × (t ≡ Index e i))
+    ⊎ (((n : StaticId) × (t ≡ Replicate e n)) ⊎ (((i : StaticId) × (t ≡ Index e i))
     ⊎ ((i : StaticId) × (j : StaticId) × (t ≡ Slice e i j))))))
 
 pub memory_part : (t : Term) (e : Box Term Global) → IsAround t e →

@@ -3,13 +3,13 @@ use Rattle.std.proofs.Common.{◌≡◌, ℕ, suc, ◌+◌, ◌<◌, Bool, true,
 use Rattle.std.specs.Prelude.{IfSome, option_map}
 use Rattle.std.specs.List.{list_all}
 use Rattle.lb_syntax.specs.Lists.{◌>>=◌, Every, either_or, listed, or_else}
-use Rattle.lb_syntax.specs.Tree.{Name, Node_named, Symbol, Expr, Literal, Truth, Variable, Group, Unary, Binary, If, Arrow, Fby, Pre, Current, When, Copies, Index, Slice, Join, Array, AtMostOne, Nor, Call, Iterate, Exprs, Nil, Cons, Declaration, Node}
+use Rattle.lb_syntax.specs.Tree.{Name, Node_named, Symbol, Expr, Literal, Truth, Variable, Group, Unary, Binary, If, Arrow, Fby, Pre, Current, When, Replicate, Index, Slice, Join, Array, AtMostOne, Nor, Call, Iterate, Exprs, Nil, Cons, Declaration, Node}
 use Rattle.lb_static.specs.Instances.{Program, Instance, Site, sites, sites_in, numbered_sites, node_named, instance_count, callee_of, static_count}
-use Rattle.lb_static.specs.Shapes.{Shape, variables}
+use Rattle.lb_static.specs.DataTypes.{DataType, variables}
 use Rattle.lb_check.specs.ClockRules.{are_declared_clocks, are_given_variables, is_call_clocked, if_node, is_occurrence_clocked}
 use Rattle.lb_check.specs.Clocks.{Clock, clock_of, first_clock, each_clock, called_clock, clock_or, declared_clock, base_from_arguments, first_result_clock, given_inputs, outer, base_clock, own_depth}
 use Rattle.lb_check.specs.Occurrences.{Occurrence, call_count, call_clocks, occurrences, occurrences_in, occurrences_each}
-use Rattle.lb_check.specs.Types.{shapes, all_shapes, from_one, from_truths, unary_shape, binary_shape, same_shape, array_of, index_shape, slice_shape, join_shape, operator_shapes}
+use Rattle.lb_check.specs.Types.{data_types, all_types, from_one, from_truths, unary_type, binary_type, common_type, array_of, index_type, slice_type, join_type, operator_types}
 use Rattle.lb_check.proofs.Every.{Every-first, Every-second}
 use Rattle.lb_check.proofs.NamedClocks.{either, IsOver, above_over, parent_over, variable_over, when_over, result_over}
 use Rattle.lb_check.proofs.OperandTypes.{bound, one, two, from_true, first_of_all, placed, one_output}
@@ -121,7 +121,7 @@ module _ (P : Program) (here : Instance) (V : Name → Type 0)
 
   mutual
     pub determined :
-        (k : Clock) (n : ℕ) (e : Expr) (t : Shape) → shapes P here e ≡ Some (t ∷ []) →
+        (k : Clock) (n : ℕ) (e : Expr) (t : DataType) → data_types P here e ≡ Some (t ∷ []) →
         AreLawful (occurrences P here.node k n e) → SitesHold n (sites e) →
         Over (clock_of P here.node e)
     determined k n (Literal m) t e h s = tt
@@ -129,20 +129,20 @@ module _ (P : Program) (here : Instance) (V : Name → Type 0)
     determined k n (Variable x) t e h s = variable_over V here.node all x
     determined k n (Group a) t e h s = determined k n a t e h s
     determined k n (Unary op a) t e h s =
-        let i = one (shapes P here a) (unary_shape op) (t ∷ []) e in
-        determined k n a i.shape i.is h.1 s
+        let i = one (data_types P here a) (unary_type op) (t ∷ []) e in
+        determined k n a i.data_type i.is h.1 s
     determined k n (Binary op a b) t e h s =
-        let i = two (shapes P here a) (shapes P here b) (binary_shape op) (t ∷ []) e in
+        let i = two (data_types P here a) (data_types P here b) (binary_type op) (t ∷ []) e in
         let l = left P here Q k n a b h.1 s in
         let r = right P here Q k n a b h.1 s in
         either_over _ _ (determined k n a i.first i.is_first l.0 l.1)
         (determined k (n + call_count a) b i.second i.is_second r.0 r.1)
     determined k n (If c a b) t e h s =
         let na = n + call_count c in
-        let c_is = bound (from_truths (from_one (shapes P here c) Some)) _ (t ∷ []) e in
-        let truths = from_true (from_one (shapes P here c) Some) c_is.value c_is.is in
-        let z = one (shapes P here c) Some truths.shapes truths.is in
-        let i = two (shapes P here a) (shapes P here b) same_shape (t ∷ []) c_is.gives in
+        let c_is = bound (from_truths (from_one (data_types P here c) Some)) _ (t ∷ []) e in
+        let truths = from_true (from_one (data_types P here c) Some) c_is.value c_is.is in
+        let z = one (data_types P here c) Some truths.data_types truths.is in
+        let i = two (data_types P here a) (data_types P here b) common_type (t ∷ []) c_is.gives in
         let oc = occurrences P here.node k n c in
         let oa = occurrences P here.node k na a in
         let ob = occurrences P here.node k (na + call_count a) b in
@@ -151,64 +151,64 @@ module _ (P : Program) (here : Instance) (V : Name → Type 0)
         let l = left P here Q k na a b branches rest in
         let r = right P here Q k na a b branches rest in
         either_over _ _
-        (determined k n c z.shape z.is (fore P here Q oc (oa ++ ob) h.1)
+        (determined k n c z.data_type z.is (fore P here Q oc (oa ++ ob) h.1)
         (sited_first (OfCalled P here Q) n (sites c) (sites a ++ sites b) s))
         (either_over _ _ (determined k na a i.first i.is_first l.0 l.1)
         (determined k (na + call_count a) b i.second i.is_second r.0 r.1))
     determined k n (Arrow a b) t e h s =
-        let i = two (shapes P here a) (shapes P here b) same_shape (t ∷ []) e in
+        let i = two (data_types P here a) (data_types P here b) common_type (t ∷ []) e in
         let l = left P here Q k n a b h.1 s in
         let r = right P here Q k n a b h.1 s in
         either_over _ _ (determined k n a i.first i.is_first l.0 l.1)
         (determined k (n + call_count a) b i.second i.is_second r.0 r.1)
     determined k n (Fby a b) t e h s =
-        let i = two (shapes P here a) (shapes P here b) same_shape (t ∷ []) e in
+        let i = two (data_types P here a) (data_types P here b) common_type (t ∷ []) e in
         let l = left P here Q k n a b h.1 s in
         let r = right P here Q k n a b h.1 s in
         either_over _ _ (determined k n a i.first i.is_first l.0 l.1)
         (determined k (n + call_count a) b i.second i.is_second r.0 r.1)
     determined k n (Pre a) t e h s =
-        let i = one (shapes P here a) Some (t ∷ []) e in
-        determined k n a i.shape i.is h.1 s
+        let i = one (data_types P here a) Some (t ∷ []) e in
+        determined k n a i.data_type i.is h.1 s
     determined k n (Current a) t e h s =
-        let i = one (shapes P here a) Some (t ∷ []) e in
+        let i = one (data_types P here a) Some (t ∷ []) e in
         parent_over V (clock_of P here.node a)
-        (determined (clock_or (clock_of P here.node a)) n a i.shape i.is h.1 s)
+        (determined (clock_or (clock_of P here.node a)) n a i.data_type i.is h.1 s)
     determined k n (When a x sign) t e h s = when_over V here.node all x sign
-    determined k n (Copies a m) t e h s =
+    determined k n (Replicate a m) t e h s =
         let c = bound (static_count P here m) _ (t ∷ []) e in
-        let i = one (shapes P here a) (array_of c.value) (t ∷ []) c.gives in
-        determined k n a i.shape i.is h.1 s
+        let i = one (data_types P here a) (array_of c.value) (t ∷ []) c.gives in
+        determined k n a i.data_type i.is h.1 s
     determined k n (Index a m) t e h s =
         let c = bound (static_count P here m) _ (t ∷ []) e in
-        let i = one (shapes P here a) (index_shape c.value) (t ∷ []) c.gives in
-        determined k n a i.shape i.is h.1 s
+        let i = one (data_types P here a) (index_type c.value) (t ∷ []) c.gives in
+        determined k n a i.data_type i.is h.1 s
     determined k n (Slice a m l) t e h s =
         let c = bound (static_count P here m) _ (t ∷ []) e in
         let d = bound (static_count P here l) _ (t ∷ []) c.gives in
-        let i = one (shapes P here a) (slice_shape c.value d.value) (t ∷ []) d.gives in
-        determined k n a i.shape i.is h.1 s
+        let i = one (data_types P here a) (slice_type c.value d.value) (t ∷ []) d.gives in
+        determined k n a i.data_type i.is h.1 s
     determined k n (Join a b) t e h s =
-        let i = two (shapes P here a) (shapes P here b) join_shape (t ∷ []) e in
+        let i = two (data_types P here a) (data_types P here b) join_type (t ∷ []) e in
         let l = left P here Q k n a b h.1 s in
         let r = right P here Q k n a b h.1 s in
         either_over _ _ (determined k n a i.first i.is_first l.0 l.1)
         (determined k (n + call_count a) b i.second i.is_second r.0 r.1)
     determined k n (Array es) t e h s =
-        let b = bound (all_shapes P here es) _ (t ∷ []) e in
+        let b = bound (all_types P here es) _ (t ∷ []) e in
         first_determined k n es b.value b.is h.1 s
     determined k n (AtMostOne es) t e h s =
-        let b = from_true (all_shapes P here es) (t ∷ []) e in
-        first_determined k n es b.shapes b.is h.1 s
+        let b = from_true (all_types P here es) (t ∷ []) e in
+        first_determined k n es b.data_types b.is h.1 s
     determined k n (Nor es) t e h s =
-        let b = from_true (all_shapes P here es) (t ∷ []) e in
-        first_determined k n es b.shapes b.is h.1 s
+        let b = from_true (all_types P here es) (t ∷ []) e in
+        first_determined k n es b.data_types b.is h.1 s
     determined k n (Call f statics es) t e h s =
         let c = one_output P here f statics es t e in
         let p = placed P here f statics c.callee c.is in
         let callee = c.callee.node in
-        let o = bound (operator_shapes P here (Node_named f statics)) _ (t ∷ []) e in
-        let a = bound (all_shapes P here es) _ (t ∷ []) o.gives in
+        let o = bound (operator_types P here (Node_named f statics)) _ (t ∷ []) e in
+        let a = bound (all_types P here es) _ (t ∷ []) o.gives in
         let call = called_passes P (is_call_clocked here.node k es) f callee h.0 p.node in
         let given = and_first (are_given_variables here.node callee es) _ call in
         let known = declared _ (s.0.1 0 (omega arith) _ (p.at n 0)) in
@@ -226,18 +226,18 @@ module _ (P : Program) (here : Instance) (V : Name → Type 0)
         (result_over V here.node callee es all known given c.output c.one) bases)
     determined k n (Iterate it (Node_named f statics) m es) t e h s =
         let c = bound (static_count P here m) _ (t ∷ []) e in
-        let o = bound (operator_shapes P here (Node_named f statics)) _ (t ∷ []) c.gives in
-        let a = bound (all_shapes P here es) _ (t ∷ []) o.gives in
+        let o = bound (operator_types P here (Node_named f statics)) _ (t ∷ []) c.gives in
+        let a = bound (all_types P here es) _ (t ∷ []) o.gives in
         first_determined k (n + 1) es a.value a.is h.1
         (sited_after (OfCalled P here Q) n (sites_in es) s.1)
     determined k n (Iterate it (Symbol op) m es) t e h s =
         let c = bound (static_count P here m) _ (t ∷ []) e in
-        let o = bound (operator_shapes P here (Symbol op)) _ (t ∷ []) c.gives in
-        let a = bound (all_shapes P here es) _ (t ∷ []) o.gives in
+        let o = bound (operator_types P here (Symbol op)) _ (t ∷ []) c.gives in
+        let a = bound (all_types P here es) _ (t ∷ []) o.gives in
         first_determined k n es a.value a.is h.1 s
 
     first_determined :
-        (k : Clock) (n : ℕ) (es : Exprs) (ts : List Shape) → all_shapes P here es ≡ Some ts →
+        (k : Clock) (n : ℕ) (es : Exprs) (ts : List DataType) → all_types P here es ≡ Some ts →
         AreLawful (occurrences_in P here.node k n es) → SitesHold n (sites_in es) →
         Over (first_clock P here.node es)
     first_determined k n Nil ts e h s = tt
@@ -254,7 +254,7 @@ module _ (P : Program) (here : Instance) (V : Name → Type 0)
     -- the base clock of a callee
     base_determined :
         (callee : Node) (f : Declaration → Clock) (ds : List Declaration) (n : ℕ) (es : Exprs)
-        (ts : List Shape) → all_shapes P here es ≡ Some ts →
+        (ts : List DataType) → all_types P here es ≡ Some ts →
         AreLawful (occurrences_each P here.node (map f ds) n es) → SitesHold n (sites_in es) →
         Over (base_from_arguments callee ds (each_clock P here.node es))
     base_determined callee f [] n es ts e h s = tt

@@ -14,7 +14,7 @@ use Rattle.lb_static.specs.Instances.{Program, Path, Root, Child, Site, static_v
 use Rattle.lb_static.specs.ReachedNodes.{IsReached, source_names}
 use Rattle.lb_static.specs.ResolvedNodes.{IsResolved, node_of, statics_of}
 use Rattle.lb_static.specs.ResolvedTerms.{site_at, no_site}
-use Rattle.lb_check.specs.Types.{operator_shapes}
+use Rattle.lb_check.specs.Types.{operator_types}
 use Rattle.lb_check.specs.TermTypes.{callee_signature, signature_of, signature_at}
 use Rattle.lb_check.proofs.Signatures.{signature, signature_is, same_callee}
 
@@ -39,10 +39,10 @@ module _ (P : Program) (r : Reached) (t : Table) (reached : IsReached P r)
             (reached.resolved s.node.0 n.0 sp.within),
       )
 
-  pub standing : (s : Specialization) (n : ResolvedNode) (p : Path) →
+  pub specialized_instance : (s : Specialization) (n : ResolvedNode) (p : Path) →
       slice_get r.nodes.items s.node.0 ≡ Some n
       → specialized_at r p s ≡ Some (instance_of p (node_of n) s.values.items)
-  standing s n p at =
+  specialized_instance s n p at =
       ap (option_map (λ m. instance_of p m s.values.items))
       (slice_get-map node_of r.nodes.items s.node.0 ∙ ap (option_map node_of) at)
 
@@ -51,13 +51,13 @@ module _ (P : Program) (r : Reached) (t : Table) (reached : IsReached P r)
       → map Some s.statics.items ≡ map (static_value P (instance_of p (node_of n) s.values.items))
       (statics_of n)
   values_at s sp n p at = sp.statics (instance_of Root (node_of n) s.values.items)
-      (standing s n Root at) n at
+      (specialized_instance s n Root at) n at
 
   callee_is : (s : Specialization) (n : ResolvedNode) (p : Path) → IsSpecialized P r t s →
       slice_get r.nodes.items s.node.0 ≡ Some n → IsResolved (source_names P) n
       → signature P (specialized_at r p s) ≡ callee_signature r s
   callee_is s n p sp at resolved =
-      ap (signature P) (standing s n p at)
+      ap (signature P) (specialized_instance s n p at)
       ∙ signature_is P (source_names P) n resolved
       (instance_of p (node_of n) s.values.items) s.statics.items (values_at s sp n p at) refl
       ∙ sym (ap (λ o. o >>= signature_of s.statics.items) at)
@@ -66,14 +66,14 @@ module _ (P : Program) (r : Reached) (t : Table) (reached : IsReached P r)
       (n : ResolvedNode) (p : Path)
       → slice_get r.nodes.items s.node.0 ≡ Some n → (c : CallId) (site : Site) →
       slice_get (node_sites (node_of n)) c.0 ≡ Some site
-      → operator_shapes P (instance_of p (node_of n) s.values.items)
+      → operator_types P (instance_of p (node_of n) s.values.items)
       (Node_named (site_at (node_sites (node_of n)) c).callee
       (site_at (node_sites (node_of n)) c).arguments)
       ≡ signature_at r t s c
   call_is i s is n p at c site site_is =
       let sp = table.specialized i s is in
       let root = instance_of Root (node_of n) s.values.items in
-      let root_is = standing s n Root at in
+      let root_is = specialized_instance s n Root at in
       let as_many = sp.0.as_many root root_is in
       let here_lt = slice_get_within (node_sites (node_of n)) c.0 site site_is in
       let called : c.0 < length s.callees.items = omega (arith, as_many, here_lt) in
@@ -86,7 +86,7 @@ module _ (P : Program) (r : Reached) (t : Table) (reached : IsReached P r)
       let callee_sp = table.specialized id.0.0 callee.0 callee.1 in
       let callee_n = node_at callee.0 callee_sp.0 in
       let same = sp.0.callees root root_is c.0 site site_is id.0 id.1 callee.0 callee.1 in
-      ap (λ o. operator_shapes P (instance_of p (node_of n) s.values.items)
+      ap (λ o. operator_types P (instance_of p (node_of n) s.values.items)
       (Node_named (either_or o no_site).callee (either_or o no_site).arguments)) site_is
       ∙ same_callee P p Root (node_of n) s.values.items site c.0 0
       ∙ ap (signature P) same

@@ -14,7 +14,7 @@ use Rattle.lb_static.specs.Instances.{Program, Instance, static_value, static_co
 use Rattle.lb_static.specs.Names.{are_distinct}
 use Rattle.lb_static.specs.Parts.{among}
 use Rattle.lb_static.specs.ResolvedTerms.{declaration_of, static_at, statics_at}
-use Rattle.lb_static.specs.Shapes.{Shape, shape_of}
+use Rattle.lb_static.specs.DataTypes.{DataType, variable_type}
 use Rattle.lb_static.specs.StaticValues.{named, natural}
 use Rattle.lb_check.specs.TermTypes.{wholes, count_at, declared_type}
 use Rattle.lb_check.proofs.DistinctNames.{not_among}
@@ -64,8 +64,8 @@ all_reversed (o ∷ os) =
 
 -- ## Static values
 
-abbrev shape_with : Kind → List ℕ → Shape
-shape_with k ns = record { kind = k; sizes = ns }
+abbrev type_with : Kind → List ℕ → DataType
+type_with k ns = record { kind = k; sizes = ns }
 
 module _ (P : Program) (here : Instance) (statics : List Static) (values : List ℤ)
     (valued : map Some values ≡ map (static_value P here) statics) where
@@ -119,7 +119,7 @@ module _ (P : Program) (here : Instance) (statics : List Static) (values : List 
 
   -- the type of a variable
   pub declared_is : (names : List Name) (x : Name) (v : Declared) →
-      shape_of P here (declaration_of names statics x v) ≡ declared_type values v
+      variable_type P here (declaration_of names statics x v) ≡ declared_type values v
   declared_is names x v =
       let ss = statics_at statics v.first_size v.sizes in
       let vs = take v.sizes (drop v.first_size.0 values) in
@@ -128,11 +128,11 @@ module _ (P : Program) (here : Instance) (statics : List Static) (values : List 
       ap all_some (map_reversed ss
       ∙ ap (λ (os : List (Option ℕ)). reverse os)
       (counts ss vs (part_valued v.first_size v.sizes))) ∙ all_reversed (map natural vs) in
-      ap (option_map (shape_with v.kind)) sizes ∙ by (wholes vs)
+      ap (option_map (type_with v.kind)) sizes ∙ by (wholes vs)
     where
       by : (o : Option (List ℕ)) →
-          option_map (shape_with v.kind) (option_map (λ (ns : List ℕ). reverse ns) o)
-          ≡ option_map (λ (ns : List ℕ). shape_with v.kind (reverse ns)) o
+          option_map (type_with v.kind) (option_map (λ (ns : List ℕ). reverse ns) o)
+          ≡ option_map (λ (ns : List ℕ). type_with v.kind (reverse ns)) o
       by None = refl
       by (Some ns) = refl
 

@@ -13,7 +13,7 @@ use Rattle.lb_static.specs.Names.{are_distinct}
 use Rattle.lb_static.specs.Parts.{among, variable_names}
 use Rattle.lb_static.specs.ResolvedNodes.{node_of, texts_of}
 use Rattle.lb_static.specs.ResolvedTerms.{Texts, Counts, expr_of, exprs_of, name_at, is_within, is_variable}
-use Rattle.lb_static.specs.Shapes.{variables}
+use Rattle.lb_static.specs.DataTypes.{variables}
 use Rattle.lb_static.specs.StaticValues.{named}
 use Rattle.lb_static.specs.declared.resolved.ResolvedNode.{ResolvedNode}
 use Rattle.lb_static.specs.declared.resolved.Term.{Term, Variable, Group'}
@@ -22,9 +22,9 @@ use Rattle.lb_static.specs.declared.resolved.VariableId.{VariableId}
 use Rattle.lb_check.specs.CallClocks.{variable_of}
 use Rattle.lb_check.specs.Clocks.{Given, as_variable, given_inputs, given_outputs}
 use Rattle.lb_check.specs.OwnClocks.{HasClocks, name_in}
-use Rattle.lb_check.specs.TermClocks.{Context, standing_of, operands_of, given_at, standings}
-use Rattle.lb_check.specs.declared.standing.Standing.{Standing}
-use Rattle.lb_check.specs.declared.standing.Standing.TheVariants.{Only}
+use Rattle.lb_check.specs.TermClocks.{Context, infer_clock, operands_of, given_at, clock_sets}
+use Rattle.lb_check.specs.declared.clock_set.ClockSet.{ClockSet}
+use Rattle.lb_check.specs.declared.clock_set.ClockSet.TheVariants.{OneClock}
 use Rattle.lb_check.proofs.CallClocks.{skipped, none_given}
 use Rattle.lb_check.proofs.ClockedNodes.{get_name, among_first, first_names}
 use Rattle.lb_check.proofs.NodePlaces.{held, distinct_second}
@@ -53,9 +53,10 @@ variable_within n _ y e w = absurd cc
 
 -- such an operand stands on the clock of the variable alone
 pub variable_stands : (ctx : Context) (t : Term) (y : VariableId) → variable_of t ≡ Some y →
-    standing_of ctx t ≡ Only (ctx.variable y)
-unfolding variable_of standing_of
-variable_stands ctx (Variable x) y e = let same : x ≡ y = cc in ap (λ z. Only (ctx.variable z)) same
+    infer_clock ctx t ≡ OneClock (ctx.variable y)
+unfolding variable_of infer_clock
+variable_stands ctx (Variable x) y e =
+    let same : x ≡ y = cc in ap (λ z. OneClock (ctx.variable z)) same
 variable_stands ctx (Group' p e) y h = variable_stands ctx e y h
 variable_stands ctx _ y e = absurd cc
 
@@ -66,15 +67,16 @@ operand_at ctx [] i y e = absurd cc
 operand_at ctx (t ∷ es) zero y e = (t, refl, e)
 operand_at ctx (t ∷ es) (suc i) y e = operand_at ctx es i y e
 
-pub standing_at : (ctx : Context) (es : List Term) (i : ℕ) (t : Term) → slice_get es i ≡ Some t →
-    slice_get (standings (operands_of ctx es)) i ≡ Some (standing_of ctx t)
-standing_at ctx [] i t e = absurd cc
-standing_at ctx (u ∷ es) zero t e = let same : u ≡ t = cc in ap (λ z. Some (standing_of ctx z)) same
-standing_at ctx (u ∷ es) (suc i) t e = standing_at ctx es i t e
+pub clock_set_at : (ctx : Context) (es : List Term) (i : ℕ) (t : Term) → slice_get es i ≡ Some t →
+    slice_get (clock_sets (operands_of ctx es)) i ≡ Some (infer_clock ctx t)
+clock_set_at ctx [] i t e = absurd cc
+clock_set_at ctx (u ∷ es) zero t e =
+    let same : u ≡ t = cc in ap (λ z. Some (infer_clock ctx z)) same
+clock_set_at ctx (u ∷ es) (suc i) t e = clock_set_at ctx es i t e
 
-pub term_at : (ctx : Context) (es : List Term) (i : ℕ) (s : Standing) →
-    slice_get (standings (operands_of ctx es)) i ≡ Some s
-    → (t : Term) × (slice_get es i ≡ Some t) × (standing_of ctx t ≡ s)
+pub term_at : (ctx : Context) (es : List Term) (i : ℕ) (s : ClockSet) →
+    slice_get (clock_sets (operands_of ctx es)) i ≡ Some s
+    → (t : Term) × (slice_get es i ≡ Some t) × (infer_clock ctx t ≡ s)
 term_at ctx [] i s e = absurd cc
 term_at ctx (u ∷ es) zero s e = (u, refl, cc)
 term_at ctx (u ∷ es) (suc i) s e = term_at ctx es i s e

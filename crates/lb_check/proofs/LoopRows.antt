@@ -6,9 +6,9 @@ use Rattle.std.proofs.lemmas.List.{append_assoc, drop_all, drop_more}
 use Rattle.lb_static.specs.declared.resolved.Term.{Term}
 use Rattle.lb_static.specs.declared.resolved.VariableId.{VariableId}
 use Rattle.lb_check.specs.CallClocks.{variable_of}
-use Rattle.lb_check.specs.TermClocks.{Context, operand_of, operands_of, standing_of}
-use Rattle.lb_check.specs.declared.standing.Operand.{Operand}
-use Rattle.lb_check.specs.declared.standing.Standing.{Standing}
+use Rattle.lb_check.specs.TermClocks.{Context, operand_of, operands_of, infer_clock}
+use Rattle.lb_check.specs.declared.clock_set.Operand.{Operand}
+use Rattle.lb_check.specs.declared.clock_set.ClockSet.{ClockSet}
 
 -- ## A test of each item
 
@@ -43,21 +43,21 @@ nothing_more : (os : List Operand) → os ++ [] ≡ os
 nothing_more [] = refl
 nothing_more (o ∷ os) = ap (λ (l : List Operand). o ∷ l) (nothing_more os)
 
-abbrev operand : Standing → Option VariableId → Operand
-operand s x = record { standing = s; variable = x }
+abbrev operand : ClockSet → Option VariableId → Operand
+operand s x = record { clock_set = s; variable = x }
 
 module _ (ctx : Context) (all : List Term) (done : List Operand) (i : ℕ)
     (known : operands_of ctx all ≡ done ++ operands_of ctx (drop i all)) where
   -- one more operand
-  pub operands_more : (e : Term) (s : Standing) (x : Option VariableId) → i < length all →
-      e ≡ get_or all i e → s ≡ standing_of ctx e
+  pub operands_more : (e : Term) (s : ClockSet) (x : Option VariableId) → i < length all →
+      e ≡ get_or all i e → s ≡ infer_clock ctx e
       → x ≡ variable_of e → operands_of ctx
-      all ≡ (done ++ record { standing = s; variable = x } ∷ [])
+      all ≡ (done ++ record { clock_set = s; variable = x } ∷ [])
       ++ operands_of ctx (drop (i + 1) all)
   operands_more e s x lt is stands names =
       let rest = operands_of ctx (drop (i + 1) all) in
       let same : operand s x ≡ operand_of ctx e = ap (λ a. operand a x) stands
-      ∙ ap (operand (standing_of ctx e)) names in
+      ∙ ap (operand (infer_clock ctx e)) names in
       known ∙ ap (λ l. done ++ operands_of ctx l) (drop_more all i e lt)
       ∙ ap (λ (t : Term). done ++ (operand_of ctx t ∷ rest)) (sym is)
       ∙ ap (λ (o : Operand). done ++ (o ∷ rest)) (sym same)

@@ -4,17 +4,17 @@ use Rattle.std.specs.Prelude.{◌&&◌, if◌then◌else◌}
 use Rattle.lb_syntax.specs.declared.tree.BinaryOperator.{BinaryOperator}
 use Rattle.lb_syntax.specs.Lists.{◌>>=◌, where_true, either_or}
 use Rattle.lb_syntax.specs.Tree.{Whole, Node_named, Symbol}
-use Rattle.lb_static.specs.declared.resolved.Term.{Term, Literal, Truth, Variable, Value, Group', Unary', Binary', If', Arrow', Fby', Pre', Current', When', Copies', Index', Slice', Join', Array', AtMostOne', Nor', Call', IterateNode', IterateSymbol', Row_of-Term, end_of-Term, more_of-Term}
+use Rattle.lb_static.specs.declared.resolved.Term.{Term, Literal, Truth, Variable, Value, Group', Unary', Binary', If', Arrow', Fby', Pre', Current', When', Replicate', Index', Slice', Join', Array', AtMostOne', Nor', Call', IterateNode', IterateSymbol', Row_of-Term, end_of-Term, more_of-Term}
 use Rattle.lb_static.specs.Instances.{Program, Instance, static_count}
 use Rattle.lb_static.specs.ResolvedTerms.{Texts, Counts, expr_of, row_of, named_value, name_at, static_at, site_at, is_variable, is_static, is_call, is_no_variable, is_within, are_within, is_unhidden, are_unhidden}
-use Rattle.lb_static.specs.Shapes.{Shape, int, truth, is_shape}
-use Rattle.lb_check.specs.Types.{shapes, all_shapes, name_shape, operator_shapes, is_arithmetic, unary_shape, binary_shape, same_shape, array_of, index_shape, slice_shape, join_shape, list_shape, iterator_shapes, from_one, from_two, from_truths, singly, only}
+use Rattle.lb_static.specs.DataTypes.{DataType, int, truth, is_type}
+use Rattle.lb_check.specs.Types.{data_types, all_types, name_data_type, operator_types, is_arithmetic, unary_type, binary_type, common_type, array_of, index_type, slice_type, join_type, list_type, iterator_types, from_one, from_two, from_truths, singly, only}
 use Rattle.lb_check.specs.TermTypes.{Context, Signature, type_of, types_in, results, when_both, when_truth, symbol_signature}
 use Rattle.lb_check.proofs.TruthValues.{and_first, and_second}
 
 -- ## One type of several
 
-one_of : (o : Option Shape) → (singly o >>= only) ≡ o
+one_of : (o : Option DataType) → (singly o >>= only) ≡ o
 one_of None = refl
 one_of (Some t) = refl
 
@@ -33,59 +33,60 @@ results_only ctx (Fby' p a q b) = one_of (type_of ctx (Fby' p a q b))
 results_only ctx (Pre' p e) = one_of (type_of ctx (Pre' p e))
 results_only ctx (Current' p e) = one_of (type_of ctx (Current' p e))
 results_only ctx (When' p e x sign) = one_of (type_of ctx (When' p e x sign))
-results_only ctx (Copies' p e n) = one_of (type_of ctx (Copies' p e n))
+results_only ctx (Replicate' p e n) = one_of (type_of ctx (Replicate' p e n))
 results_only ctx (Index' p e i) = one_of (type_of ctx (Index' p e i))
 results_only ctx (Slice' p e i j) = one_of (type_of ctx (Slice' p e i j))
 results_only ctx (Join' p a q b) = one_of (type_of ctx (Join' p a q b))
-results_only ctx (Array' shape all) = refl
-results_only ctx (AtMostOne' shape all) = refl
-results_only ctx (Nor' shape all) = refl
-results_only ctx (Call' c shape all) = refl
-results_only ctx (IterateNode' it c shape all) = refl
-results_only ctx (IterateSymbol' it op n shape all) = refl
+results_only ctx (Array' arity all) = refl
+results_only ctx (AtMostOne' arity all) = refl
+results_only ctx (Nor' arity all) = refl
+results_only ctx (Call' c arity all) = refl
+results_only ctx (IterateNode' it c arity all) = refl
+results_only ctx (IterateSymbol' it op n arity all) = refl
 
 -- ## What operands give
 
-from_one_is : (ts : Option (List Shape)) (o : Option Shape) (f : Shape → Option Shape) →
+from_one_is : (ts : Option (List DataType)) (o : Option DataType) (f : DataType → Option DataType) →
     (ts >>= only) ≡ o
     → from_one ts f ≡ singly (o >>= f)
 from_one_is ts o f e = ap (λ p. p >>= λ t. singly (f t)) e ∙ by o
   where
-    by : (o : Option Shape) → (o >>= λ t. singly (f t)) ≡ singly (o >>= f)
+    by : (o : Option DataType) → (o >>= λ t. singly (f t)) ≡ singly (o >>= f)
     by None = refl
     by (Some t) = refl
 
-same_again : (ts : Option (List Shape)) (o : Option Shape) → (ts >>= only) ≡ o →
+same_again : (ts : Option (List DataType)) (o : Option DataType) → (ts >>= only) ≡ o →
     from_one ts Some ≡ singly o
 same_again ts o e = from_one_is ts o Some e ∙ ap singly (by o)
   where
-    by : (o : Option Shape) → (o >>= Some) ≡ o
+    by : (o : Option DataType) → (o >>= Some) ≡ o
     by None = refl
     by (Some t) = refl
 
-from_two_is : (ts us : Option (List Shape)) (o p : Option Shape) (f : Shape → Shape → Option Shape)
+from_two_is : (ts us : Option (List DataType)) (o p : Option DataType)
+    (f : DataType → DataType → Option DataType)
     → (ts >>= only) ≡ o → (us >>= only) ≡ p → from_two ts us f ≡ singly (when_both o p f)
 from_two_is ts us o p f eo ep =
     ap (λ o. o >>= λ t. us >>= only >>= λ u. singly (f t u)) eo
     ∙ ap (λ p. o >>= λ t. p >>= λ u. singly (f t u)) ep ∙ by o p
   where
-    by : (o p : Option Shape) → (o >>= λ t. p >>= λ u. singly (f t u)) ≡ singly (when_both o p f)
+    by : (o p : Option DataType) → (o >>= λ t. p >>= λ u. singly (f t u)) ≡ singly (when_both o p f)
     by None p = refl
     by (Some t) None = refl
     by (Some t) (Some u) = refl
 
-under_truth : (o p : Option Shape) (us : Option (List Shape)) → us ≡ singly p
+under_truth : (o p : Option DataType) (us : Option (List DataType)) → us ≡ singly p
     → (from_truths (singly o) >>= λ _. us) ≡ singly (when_truth o p)
 under_truth None p us e = refl
-under_truth (Some t) p us e = by (is_shape truth t)
+under_truth (Some t) p us e = by (is_type truth t)
   where
     by : (b : Bool) → (where_true (b && true) (truth ∷ []) >>= λ _. us) ≡ singly
         (where_true b t >>= λ _. p)
     by true = e
     by false = refl
 
-counted : (c d : Option ℕ) (ts : Option (List Shape)) (o : Option Shape)
-    (f : ℕ → Shape → Option Shape)
+counted : (c d : Option ℕ) (ts : Option (List DataType)) (o : Option DataType)
+    (f : ℕ → DataType → Option DataType)
     → c ≡ d → (ts >>= only) ≡ o → (c >>= λ n. from_one ts (f n)) ≡ singly (d >>= λ n. o >>= f n)
 counted c d ts o f e one = ap (λ c. c >>= λ n. from_one ts (f n)) e ∙ by d
   where
@@ -93,8 +94,8 @@ counted c d ts o f e one = ap (λ c. c >>= λ n. from_one ts (f n)) e ∙ by d
     by None = refl
     by (Some n) = from_one_is ts o (f n) one
 
-counted_twice : (c d e g : Option ℕ) (ts : Option (List Shape)) (o : Option Shape)
-    (f : ℕ → ℕ → Shape → Option Shape)
+counted_twice : (c d e g : Option ℕ) (ts : Option (List DataType)) (o : Option DataType)
+    (f : ℕ → ℕ → DataType → Option DataType)
     → c ≡ d → e ≡ g → (ts >>= only) ≡ o
     → (c >>= λ i. e >>= λ j. from_one ts (f i j)) ≡ singly (d >>= λ i. g >>= λ j. o >>= f i j)
 counted_twice c d e g ts o f first second one =
@@ -140,7 +141,7 @@ iterated c d o n p q f ec eo ep =
     by (Some a) = called o n p q (f a) eo ep
 
 symbol_is : (P : Program) (here : Instance) (op : BinaryOperator) →
-    operator_shapes P here (Symbol op) ≡ Some (symbol_signature op)
+    operator_types P here (Symbol op) ≡ Some (symbol_signature op)
 symbol_is P here op = by (is_arithmetic op) (int ∷ int ∷ [], int ∷ [])
     (truth ∷ truth ∷ [], truth ∷ [])
   where
@@ -154,26 +155,26 @@ symbol_is P here op = by (is_arithmetic op) (int ∷ int ∷ [], int ∷ [])
 pub record Fits (P : Program) (here : Instance) (texts : Texts) (n : Counts) (ctx : Context) :
     Type 0 where
   pub variable : (x : _) → is_variable n x ≡ true →
-      name_shape P here (name_at texts.variables x) ≡ ctx.variable x
+      name_data_type P here (name_at texts.variables x) ≡ ctx.variable x
   pub value : (i : _) → is_no_variable texts.variables (static_at texts.statics i) ≡ true
-      → shapes P here (named_value (static_at texts.statics i)) ≡ Some (int ∷ [])
+      → data_types P here (named_value (static_at texts.statics i)) ≡ Some (int ∷ [])
   pub count : (i : _) → is_static n i ≡ true →
       static_count P here (static_at texts.statics i) ≡ ctx.count i
   pub call : (c : _) → is_call n c ≡ true
-      → operator_shapes P here (Node_named (site_at texts.calls c).callee
+      → operator_types P here (Node_named (site_at texts.calls c).callee
       (site_at texts.calls c).arguments) ≡ ctx.call c
   pub repeats : (c : _) → is_call n c ≡ true
       → static_count P here (either_or (site_at texts.calls c).count (Whole 0)) ≡ ctx.repeats c
 
 module _ (P : Program) (here : Instance) (texts : Texts) (n : Counts) (ctx : Context)
     (fits : Fits P here texts n ctx) where
-  abbrev typed : Term → Option (List Shape)
-  typed t = shapes P here (expr_of texts t)
+  abbrev typed : Term → Option (List DataType)
+  typed t = data_types P here (expr_of texts t)
 
   one : (t : Term) → typed t ≡ results ctx t → (typed t >>= only) ≡ type_of ctx t
   one t e = ap (λ o. o >>= only) e ∙ results_only ctx t
 
-  two : (a b : Term) (f : Shape → Shape → Option Shape) → typed a ≡ results ctx a →
+  two : (a b : Term) (f : DataType → DataType → Option DataType) → typed a ≡ results ctx a →
       typed b ≡ results ctx b
       → from_two (typed a) (typed b) f ≡ singly (when_both (type_of ctx a) (type_of ctx b) f)
   two a b f ea eb = from_two_is (typed a) (typed b) (type_of ctx a) (type_of ctx b) f (one a ea)
@@ -190,9 +191,9 @@ module _ (P : Program) (here : Instance) (texts : Texts) (n : Counts) (ctx : Con
     term_results (Value i) w u = fits.value i u
     term_results (Group' p e) w u = term_results e w u
     term_results (Unary' op p a) w u =
-        from_one_is (typed a) (type_of ctx a) (unary_shape op) (one a (term_results a w u))
+        from_one_is (typed a) (type_of ctx a) (unary_type op) (one a (term_results a w u))
     term_results (Binary' op p a q b) w u =
-        two a b (binary_shape op) (term_results a (and_first _ (is_within n b) w)
+        two a b (binary_type op) (term_results a (and_first _ (is_within n b) w)
         (and_first _ (is_unhidden texts b) u))
         (term_results b (and_second (is_within n a) _ w) (and_second (is_unhidden texts a) _ u))
     term_results (If' p c q a r b) w u =
@@ -200,19 +201,19 @@ module _ (P : Program) (here : Instance) (texts : Texts) (n : Counts) (ctx : Con
         let uab = and_second (is_unhidden texts c) _ u in
         let ec = one c (term_results c (and_first _ (is_within n a && is_within n b) w)
         (and_first _ (is_unhidden texts a && is_unhidden texts b) u)) in
-        ap (λ ts. from_truths ts >>= λ _. from_two (typed a) (typed b) same_shape)
+        ap (λ ts. from_truths ts >>= λ _. from_two (typed a) (typed b) common_type)
         (same_again (typed c) (type_of ctx c) ec)
-        ∙ under_truth (type_of ctx c) (when_both (type_of ctx a) (type_of ctx b) same_shape) _
-        (two a b same_shape (term_results a (and_first _ (is_within n b) wab)
+        ∙ under_truth (type_of ctx c) (when_both (type_of ctx a) (type_of ctx b) common_type) _
+        (two a b common_type (term_results a (and_first _ (is_within n b) wab)
         (and_first _ (is_unhidden texts b) uab))
         (term_results b (and_second (is_within n a) _ wab)
         (and_second (is_unhidden texts a) _ uab)))
     term_results (Arrow' p a q b) w u =
-        two a b same_shape (term_results a (and_first _ (is_within n b) w)
+        two a b common_type (term_results a (and_first _ (is_within n b) w)
         (and_first _ (is_unhidden texts b) u))
         (term_results b (and_second (is_within n a) _ w) (and_second (is_unhidden texts a) _ u))
     term_results (Fby' p a q b) w u =
-        two a b same_shape (term_results a (and_first _ (is_within n b) w)
+        two a b common_type (term_results a (and_first _ (is_within n b) w)
         (and_first _ (is_unhidden texts b) u))
         (term_results b (and_second (is_within n a) _ w) (and_second (is_unhidden texts a) _ u))
     term_results (Pre' p e) w u = same_again (typed e) (type_of ctx e) (one e (term_results e w u))
@@ -224,51 +225,51 @@ module _ (P : Program) (here : Instance) (texts : Texts) (n : Counts) (ctx : Con
         ∙ under_truth (ctx.variable x) (type_of ctx e) _
         (same_again (typed e) (type_of ctx e)
         (one e (term_results e (and_second (is_variable n x) _ w) u)))
-    term_results (Copies' p e i) w u =
+    term_results (Replicate' p e i) w u =
         counted _ (ctx.count i) (typed e) (type_of ctx e) array_of
         (fits.count i (and_first _ (is_within n e) w))
         (one e (term_results e (and_second (is_static n i) _ w) u))
     term_results (Index' p e i) w u =
-        counted _ (ctx.count i) (typed e) (type_of ctx e) index_shape
+        counted _ (ctx.count i) (typed e) (type_of ctx e) index_type
         (fits.count i (and_first _ (is_within n e) w))
         (one e (term_results e (and_second (is_static n i) _ w) u))
     term_results (Slice' p e i j) w u =
         let rest = and_second (is_static n i) _ w in
-        counted_twice _ (ctx.count i) _ (ctx.count j) (typed e) (type_of ctx e) slice_shape
+        counted_twice _ (ctx.count i) _ (ctx.count j) (typed e) (type_of ctx e) slice_type
         (fits.count i (and_first _ (is_static n j && is_within n e) w))
         (fits.count j (and_first _ (is_within n e) rest))
         (one e (term_results e (and_second (is_static n j) _ rest) u))
     term_results (Join' p a q b) w u =
-        two a b join_shape (term_results a (and_first _ (is_within n b) w)
+        two a b join_type (term_results a (and_first _ (is_within n b) w)
         (and_first _ (is_unhidden texts b) u))
         (term_results b (and_second (is_within n a) _ w) (and_second (is_unhidden texts a) _ u))
-    term_results (Array' shape all) w u =
-        ap (λ o. o >>= λ ts. singly (list_shape ts)) (row_types all w u)
-    term_results (AtMostOne' shape all) w u = ap from_truths (row_types all w u)
-    term_results (Nor' shape all) w u = ap from_truths (row_types all w u)
-    term_results (Call' c shape all) w u =
+    term_results (Array' arity all) w u =
+        ap (λ o. o >>= λ ts. singly (list_type ts)) (row_types all w u)
+    term_results (AtMostOne' arity all) w u = ap from_truths (row_types all w u)
+    term_results (Nor' arity all) w u = ap from_truths (row_types all w u)
+    term_results (Call' c arity all) w u =
         called _ (ctx.call c) _ (types_in ctx all) _
         (fits.call c (and_first _ (are_within n all) w))
         (row_types all (and_second (is_call n c) _ w) u)
-    term_results (IterateNode' it c shape all) w u =
+    term_results (IterateNode' it c arity all) w u =
         let wc = and_first _ (are_within n all) w in
         iterated _ (ctx.repeats c) _ (ctx.call c) _ (types_in ctx all)
-        (λ m o ts. iterator_shapes it m o.0 o.1 ts)
+        (λ m o ts. iterator_types it m o.0 o.1 ts)
         (fits.repeats c wc) (fits.call c wc) (row_types all (and_second (is_call n c) _ w) u)
-    term_results (IterateSymbol' it op i shape all) w u =
+    term_results (IterateSymbol' it op i arity all) w u =
         iterated _ (ctx.count i) _ (Some (symbol_signature op)) _ (types_in ctx all)
-        (λ m o ts. iterator_shapes it m o.0 o.1 ts)
+        (λ m o ts. iterator_types it m o.0 o.1 ts)
         (fits.count i (and_first _ (are_within n all) w)) (symbol_is P here op)
         (row_types all (and_second (is_static n i) _ w) u)
 
     row_types : {m : _} (row : Row_of-Term m) → are_within n row ≡ true →
         are_unhidden texts row ≡ true
-        → all_shapes P here (row_of texts row) ≡ types_in ctx row
+        → all_types P here (row_of texts row) ≡ types_in ctx row
     row_types end_of-Term w u = refl
     row_types (more_of-Term e rest) w u =
         let ee = one e (term_results e (and_first _ (are_within n rest) w)
         (and_first _ (are_unhidden texts rest) u)) in
         let er = row_types rest (and_second (is_within n e) _ w)
         (and_second (is_unhidden texts e) _ u) in
-        ap (λ o. o >>= λ t. all_shapes P here (row_of texts rest) >>= λ ts. Some (t ∷ ts)) ee
+        ap (λ o. o >>= λ t. all_types P here (row_of texts rest) >>= λ ts. Some (t ∷ ts)) ee
         ∙ ap (λ p. type_of ctx e >>= λ t. p >>= λ ts. Some (t ∷ ts)) er

@@ -7,7 +7,7 @@ use Rattle.std.proofs.lemmas.Slice.Eq.{bytes_eq-Decides}
 use Rattle.lb_syntax.specs.Lists.{◌>>=◌, Every, either_or, holds, listed, or_else}
 use Rattle.lb_syntax.specs.Tree.{Name, Exprs, Declaration, Sampling, Node}
 use Rattle.lb_static.specs.Parts.{among, variable_names}
-use Rattle.lb_static.specs.Shapes.{variables}
+use Rattle.lb_static.specs.DataTypes.{variables}
 use Rattle.lb_static.specs.StaticValues.{named}
 use Rattle.lb_check.specs.Clocks.{Clock, Base, On, Given, sampled, clock_within, variable_clock, clock_or, declared_clock, parent, above, own_depth, given_name, outer, given_inputs, base_from, base_clock, base_from_arguments, first_result_clock, argument_clocks}
 use Rattle.lb_check.specs.ClockRules.{if_clocked, is_clocked_by, are_declared_clocks, is_given_variable, are_given_variables}

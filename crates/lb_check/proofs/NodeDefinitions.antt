@@ -16,19 +16,19 @@ use Rattle.lb_static.specs.declared.reach.Reached.{Reached}
 use Rattle.lb_static.specs.declared.resolved.CallSite.{CallSite}
 use Rattle.lb_static.specs.declared.resolved.ResolvedNode.{ResolvedNode}
 use Rattle.lb_static.specs.declared.resolved.VariableId.{VariableId}
-use Rattle.lb_static.specs.declared.resolved.Step.{Step}
-use Rattle.lb_static.specs.declared.resolved.Step.TheVariants as step
-use Rattle.lb_static.specs.declared.resolved.Term.{Term, Literal, Truth, Variable, Value, Group', Unary', Binary', If', Arrow', Fby', Pre', Current', When', Copies', Index', Slice', Join', Array', AtMostOne', Nor', Call', IterateNode', IterateSymbol', Row_of-Term, end_of-Term, more_of-Term}
+use Rattle.lb_static.specs.declared.resolved.ResolvedStatement.{ResolvedStatement}
+use Rattle.lb_static.specs.declared.resolved.ResolvedStatement.TheVariants as statement
+use Rattle.lb_static.specs.declared.resolved.Term.{Term, Literal, Truth, Variable, Value, Group', Unary', Binary', If', Arrow', Fby', Pre', Current', When', Replicate', Index', Slice', Join', Array', AtMostOne', Nor', Call', IterateNode', IterateSymbol', Row_of-Term, end_of-Term, more_of-Term}
 use Rattle.lb_static.specs.Instances.{Program, Site, node_named, statement_sites, sites, sites_in}
 use Rattle.lb_static.specs.Names.{are_distinct, keeps_names}
 use Rattle.lb_static.specs.Parts.{left_names, node_parts, parts, parts_in, right_side, variable_names}
 use Rattle.lb_static.specs.ReachedNodes.{IsReached, are_linked, id_at, is_linked, source_names, tree_at, trees}
 use Rattle.lb_static.specs.ResolvedNodes.{IsResolved, node_of, texts_of, counts_of, statics_of}
-use Rattle.lb_static.specs.ResolvedTerms.{Texts, Counts, is_variable, is_step_within, name_at, static_at, named_value, expr_of, row_of, statement_of, site_of}
-use Rattle.lb_static.specs.Shapes.{variables}
+use Rattle.lb_static.specs.ResolvedTerms.{Texts, Counts, is_variable, is_statement_within, name_at, static_at, named_value, expr_of, row_of, statement_of, site_of}
+use Rattle.lb_static.specs.DataTypes.{variables}
 use Rattle.lb_check.specs.ClockRules.{if_node}
 use Rattle.lb_check.specs.DefinitionRules.{definition_count, defines_once, is_memoryless, is_defined}
-use Rattle.lb_check.specs.NodeDefinitions.{count_left, count_step, count_steps, DefinesEach, has_memory, row_memory, step_memory, steps_memory, calls_function, call_functions, keeps_function_rules, is_defined_at}
+use Rattle.lb_check.specs.NodeDefinitions.{count_left, count_statement, count_statements, DefinesEach, has_memory, row_memory, statement_memory, statements_memory, calls_function, call_functions, keeps_function_rules, is_defined_at}
 use Rattle.lb_check.proofs.NodePlaces.{held, all_at, all_from, named_at, distinct_variables}
 use Rattle.lb_check.proofs.TruthValues.{and_first, and_second}
 use Rattle.lb_check.proofs.DistinctNames.{distinct_at}
@@ -102,19 +102,19 @@ module _ (P : Program) (t : Texts) where
     term_memoryless (Pre' p e) = refl
     term_memoryless (Current' p e) = refl
     term_memoryless (When' p e x sign) = term_memoryless e
-    term_memoryless (Copies' p e n) = term_memoryless e
+    term_memoryless (Replicate' p e n) = term_memoryless e
     term_memoryless (Index' p e i) = term_memoryless e
     term_memoryless (Slice' p e i j) = term_memoryless e
     term_memoryless (Join' p a q b) =
         two_parts (parts_of a) (parts_of b) (sites_of a) (sites_of b) (has_memory a) (has_memory b)
         (term_memoryless a) (term_memoryless b)
-    term_memoryless (Array' shape all) = row_memoryless all
-    term_memoryless (AtMostOne' shape all) = row_memoryless all
-    term_memoryless (Nor' shape all) = row_memoryless all
-    term_memoryless (Call' c shape all) = swapped _ (row_memory all) _ _ (row_memoryless all)
-    term_memoryless (IterateNode' it c shape all) =
+    term_memoryless (Array' arity all) = row_memoryless all
+    term_memoryless (AtMostOne' arity all) = row_memoryless all
+    term_memoryless (Nor' arity all) = row_memoryless all
+    term_memoryless (Call' c arity all) = swapped _ (row_memory all) _ _ (row_memoryless all)
+    term_memoryless (IterateNode' it c arity all) =
         swapped _ (row_memory all) _ _ (row_memoryless all)
-    term_memoryless (IterateSymbol' it op n shape all) = row_memoryless all
+    term_memoryless (IterateSymbol' it op n arity all) = row_memoryless all
 
     row_memoryless : {m : _} (row : Row_of-Term m) →
         memoryless (parts_in (row_of t row)) ≡
@@ -125,22 +125,23 @@ module _ (P : Program) (t : Texts) where
         (has_memory e) (row_memory rest)
         (term_memoryless e) (row_memoryless rest)
 
-  step_memoryless : (s : Step) →
+  statement_memoryless : (s : ResolvedStatement) →
       memoryless (parts (right_side (statement_of t s))) ≡
-      (not (step_memory s) && functions (statement_sites (statement_of t s)))
-  step_memoryless (step.Equation lefts e) = term_memoryless e
-  step_memoryless (step.Assertion e) = term_memoryless e
+      (not (statement_memory s) && functions (statement_sites (statement_of t s)))
+  statement_memoryless (statement.Equation lefts e) = term_memoryless e
+  statement_memoryless (statement.Assertion e) = term_memoryless e
 
-  steps_memoryless : (ss : List Step) →
+  statements_memoryless : (ss : List ResolvedStatement) →
       memoryless (flat_map (λ s. parts (right_side s)) (map (statement_of t) ss))
-      ≡ (not (steps_memory ss) && functions (flat_map statement_sites (map (statement_of t) ss)))
-  steps_memoryless [] = refl
-  steps_memoryless (s ∷ ss) =
+      ≡ (not (statements_memory ss)
+      && functions (flat_map statement_sites (map (statement_of t) ss)))
+  statements_memoryless [] = refl
+  statements_memoryless (s ∷ ss) =
       two_parts (parts (right_side (statement_of t s)))
       (flat_map (λ s. parts (right_side s)) (map (statement_of t) ss))
       (statement_sites (statement_of t s)) (flat_map statement_sites (map (statement_of t) ss))
-      (step_memory s) (steps_memory ss)
-      (step_memoryless s) (steps_memoryless ss)
+      (statement_memory s) (statements_memory ss)
+      (statement_memoryless s) (statements_memoryless ss)
 
 -- ## How often a name stands on the left
 
@@ -183,26 +184,26 @@ module _ (t : Texts) (k : Counts) (as_many : k.variables ≡ length t.variables)
       (name_count x (map (name_at t.variables) xs))) same
       ∙ one_or_none (y.0 == i) _ _ rest
 
-  step_counted : (s : Step) → is_step_within k s ≡ true →
-      name_count x (left_names (statement_of t s)) ≡ count_step i s
-  step_counted (step.Equation lefts e) w = lefts_counted lefts.items (and_first _ _ w)
-  step_counted (step.Assertion e) w = refl
+  statement_counted : (s : ResolvedStatement) → is_statement_within k s ≡ true →
+      name_count x (left_names (statement_of t s)) ≡ count_statement i s
+  statement_counted (statement.Equation lefts e) w = lefts_counted lefts.items (and_first _ _ w)
+  statement_counted (statement.Assertion e) w = refl
 
-  steps_counted : (ss : List Step) → list_all (is_step_within k) ss ≡ true
-      → name_count x (flat_map left_names (map (statement_of t) ss)) ≡ count_steps i ss
-  steps_counted [] w = refl
-  steps_counted (s ∷ ss) w =
-      let a = step_counted s (and_first _ (list_all (is_step_within k) ss) w) in
-      let b = steps_counted ss (and_second (is_step_within k s) _ w) in
+  statements_counted : (ss : List ResolvedStatement) → list_all (is_statement_within k) ss ≡ true
+      → name_count x (flat_map left_names (map (statement_of t) ss)) ≡ count_statements i ss
+  statements_counted [] w = refl
+  statements_counted (s ∷ ss) w =
+      let a = statement_counted s (and_first _ (list_all (is_statement_within k) ss) w) in
+      let b = statements_counted ss (and_second (is_statement_within k s) _ w) in
       count_append x (left_names (statement_of t s)) (flat_map left_names (map (statement_of t) ss))
       ∙ rw a (rw b refl)
 
-  counted : (n : Node) (ss : List Step) → map (statement_of t) ss ≡ n.body →
-      list_all (is_step_within k) ss ≡ true
-      → definition_count n x ≡ count_steps i ss
+  counted : (n : Node) (ss : List ResolvedStatement) → map (statement_of t) ss ≡ n.body →
+      list_all (is_statement_within k) ss ≡ true
+      → definition_count n x ≡ count_statements i ss
   counted n ss body w =
       sym (is_count_by (name_count x) (bytes_eq x) refl (λ y ys. refl) (flat_map left_names n.body))
-      ∙ ap (λ b. name_count x (flat_map left_names b)) (sym body) ∙ steps_counted ss w
+      ∙ ap (λ b. name_count x (flat_map left_names b)) (sym body) ∙ statements_counted ss w
 
 -- ## Two lists place by place
 
@@ -341,17 +342,17 @@ module _ (P : Program) (r : Reached) (names : keeps_names P ≡ true) (reached :
         distinct_variables P names here ((reached.same here).0 (id.0, lt, is))
 
     memoryless_is : list_all (is_memoryless P)
-        (node_parts here) ≡ (not (steps_memory n.body.items) && call_functions r n.calls.items)
+        (node_parts here) ≡ (not (statements_memory n.body.items) && call_functions r n.calls.items)
     memoryless_is =
         ap (λ b. list_all (is_memoryless P) (flat_map (λ s. parts (right_side s)) b))
         (sym resolved.body)
-        ∙ steps_memoryless P (texts_of n) n.body.items
-        ∙ ap (λ b. not (steps_memory n.body.items)
+        ∙ statements_memoryless P (texts_of n) n.body.items
+        ∙ ap (λ b. not (statements_memory n.body.items)
         && list_all (λ s. if_node P (λ m. m.is_function) s.callee) (flat_map statement_sites b))
         resolved.body
-        ∙ ap (λ ss. not (steps_memory n.body.items)
+        ∙ ap (λ ss. not (statements_memory n.body.items)
         && list_all (λ s. if_node P (λ m. m.is_function) s.callee) ss) (sym resolved.calls)
-        ∙ ap (λ b. not (steps_memory n.body.items) && b)
+        ∙ ap (λ b. not (statements_memory n.body.items) && b)
         (calls_are (statics_of n) n.calls.items
         (all_at (are_linked r) r.nodes.items id.0 n reached.linked at))
 
@@ -363,7 +364,7 @@ module _ (P : Program) (r : Reached) (names : keeps_names P ≡ true) (reached :
     names_many = resolved.as_many ∙ sym (length-map (variables here) (λ d. d.name))
 
     count_is : (i : ℕ) (d : Declaration) → slice_get (variables here) i ≡ Some d →
-        definition_count here d.name ≡ count_steps i n.body.items
+        definition_count here d.name ≡ count_statements i n.body.items
     count_is i d e =
         counted (texts_of n) (counts_of n) names_many distinct i d.name
         (slice_get-map (λ d. d.name) (variables here) i ∙ ap (option_map (λ d. d.name)) e)
@@ -375,7 +376,7 @@ module _ (P : Program) (r : Reached) (names : keeps_names P ≡ true) (reached :
     once_from : Defined → defines_once here ≡ true
     once_from each =
         from_each here.inputs (here.outputs ++ here.locals) (λ d. definition_count here d.name)
-        (λ i. count_steps i n.body.items)
+        (λ i. count_statements i n.body.items)
         (length n.variables.items) resolved.as_many count_is
         (subst (λ k. DefinesEach k (length n.variables.items) n.body.items) resolved.inputs each)
 
@@ -383,7 +384,7 @@ module _ (P : Program) (r : Reached) (names : keeps_names P ≡ true) (reached :
     from_once all =
         subst (λ k. DefinesEach k (length n.variables.items) n.body.items) (sym resolved.inputs)
         (to_each here.inputs (here.outputs ++ here.locals) (λ d. definition_count here d.name)
-        (λ i. count_steps i n.body.items)
+        (λ i. count_statements i n.body.items)
         (length n.variables.items) resolved.as_many count_is all)
 
     -- what the code answers

@@ -4,13 +4,13 @@ use Rattle.std.specs.Prelude.{◌||◌, IfSome}
 use Rattle.lb_syntax.specs.Lists.{listed}
 use Rattle.lb_syntax.specs.Tree.{Name}
 use Rattle.lb_static.specs.Instances.{Program, Instance, Root, Observer, instance_at, instances}
-use Rattle.lb_static.specs.Shapes.{variables}
-use Rattle.lb_static.specs.Walk.{static_refusal, walk_refusal}
+use Rattle.lb_static.specs.DataTypes.{variables}
+use Rattle.lb_static.specs.Instantiation.{static_refusal, instantiation_refusal}
 use Rattle.lb_check.specs.Acceptance.{check_refusal}
 use Rattle.lb_check.specs.Solutions.{Inputs, Solves, AgreeAt, AreSame, HasOneHistory}
 use Rattle.lb_check.specs.Streams.{History}
-use Rattle.lb_check.specs.Verdicts.{Verdict, Passed, Fault, Assertion_fails, False, is_bad, is_false, some_at, is_fault, is_failed, judge, property_columns, is_violated, decides, IsLeast, Ends, HasVerdict, IsOnlyVerdict}
-use Rattle.lb_check.proofs.Checks.{walk_kept}
+use Rattle.lb_check.specs.Verdicts.{Verdict, Passed, Fault, Assertion_fails, False, is_bad, is_false, some_at, is_fault, is_failed, property_path, property_columns, is_violated, decides, IsLeast, Ends, HasVerdict, IsOnlyVerdict}
+use Rattle.lb_check.proofs.Checks.{instantiation_kept}
 use Rattle.lb_check.proofs.Every.{Every-map, Every-both, Every-first, Every-second, any_same, flat_same}
 use Rattle.lb_check.proofs.SameInstances.{all_same_places, starts_agree}
 
@@ -50,20 +50,21 @@ outputs_same H G (Some here) a =
 module _ (P : Program) (H G : History) (same : AreSame P H G) where
   property_same : property_columns P H ≡ property_columns P G
   property_same =
-      outputs_same H G (instance_at P (judge P.observer)) (by P.observer (starts_agree P H G same))
+      outputs_same H G (instance_at P (property_path P.observer))
+      (by P.observer (starts_agree P H G same))
     where
       by : (o : Option Name) →
           IfSome (instance_at P Root) (AgreeAt H G)
           × IfSome (instance_at P Observer) (AgreeAt H G) →
-          IfSome (instance_at P (judge o)) (AgreeAt H G)
+          IfSome (instance_at P (property_path o)) (AgreeAt H G)
       by None a = a.0
       by (Some x) a = a.1
 
-  module _ (walked : walk_refusal P 0 (instances P) ≡ None)
+  module _ (instantiated : instantiation_refusal P 0 (instances P) ≡ None)
       (accepted : check_refusal P ≡ None) where
     decide_alike : DecideAlike P H G
     decide_alike =
-        let places = all_same_places P walked accepted H G same in
+        let places = all_same_places P instantiated accepted H G same in
         record {
           fault = λ t.
               any_same _ _ (instances P)
@@ -159,6 +160,7 @@ module _ (P : Program) (elaborated : static_refusal P ≡ None)
     has = h;
     only = λ w g.
         same_end P h.0 g.0 (length X)
-        (decide_alike P h.0 g.0 (histories_same h.0 g.0 h.1 g.1) (walk_kept P elaborated) accepted)
+        (decide_alike P h.0 g.0 (histories_same h.0 g.0 h.1 g.1) (instantiation_kept P elaborated)
+        accepted)
         v w h.2 g.2;
   }

@@ -4,8 +4,8 @@ use Rattle.std.specs.List.{list_all, zip}
 use Rattle.lb_syntax.specs.Lists.{◌>>=◌, all_some, where_true}
 use Rattle.lb_syntax.specs.Tree.{Name, Static, Node_named, Expr, Exprs, Call, Cons, Declaration, Node}
 use Rattle.lb_static.specs.Instances.{Program, Instance, Child, call_site, callee_of, node_named, static_value}
-use Rattle.lb_static.specs.Shapes.{Shape, truth, is_shape, are_shapes, input_shapes, output_shapes, shape_of}
-use Rattle.lb_check.specs.Types.{shapes, all_shapes, only, singly, from_one, from_two, from_truths, operator_shapes}
+use Rattle.lb_static.specs.DataTypes.{DataType, truth, is_type, are_types, input_types, output_types, variable_type}
+use Rattle.lb_check.specs.Types.{data_types, all_types, only, singly, from_one, from_two, from_truths, operator_types}
 
 -- ## Inversions
 
@@ -22,19 +22,19 @@ bound (Some x) f y e = record { value = x; is = refl; gives = e }
 pub some_same : {A : Type 0} (x y : A) → Some x ≡ Some y → x ≡ y
 some_same x y e = cc
 
-pub single : (ts : List Shape) (t : Shape) → only ts ≡ Some t → ts ≡ t ∷ []
+pub single : (ts : List DataType) (t : DataType) → only ts ≡ Some t → ts ≡ t ∷ []
 single [] t e = absurd cc
 single (s ∷ []) t e = cc
 single (s ∷ (u ∷ ts)) t e = absurd cc
 
-pub record Single (o : Option Shape) (ts : List Shape) : Type 0 where
-  pub shape : Shape
-  pub is : o ≡ Some shape
-  pub all : ts ≡ shape ∷ []
+pub record Single (o : Option DataType) (ts : List DataType) : Type 0 where
+  pub data_type : DataType
+  pub is : o ≡ Some data_type
+  pub all : ts ≡ data_type ∷ []
 
-pub alone : (o : Option Shape) (ts : List Shape) → singly o ≡ Some ts → Single o ts
+pub alone : (o : Option DataType) (ts : List DataType) → singly o ≡ Some ts → Single o ts
 alone None ts e = absurd cc
-alone (Some t) ts e = record { shape = t; is = refl; all = sym (some_same _ _ e) }
+alone (Some t) ts e = record { data_type = t; is = refl; all = sym (some_same _ _ e) }
 
 pub record Truly {A : Type 0} (b : Bool) (x y : A) : Type 0 where
   pub holds : b ≡ true
@@ -45,42 +45,44 @@ truly true x y e = record { holds = refl; same = some_same x y e }
 truly false x y e = absurd cc
 
 -- a result from an operand with one result
-pub record One (operand : Option (List Shape)) (f : Shape → Option Shape) (ts : List Shape) :
+pub record One (operand : Option (List DataType)) (f : DataType → Option DataType)
+    (ts : List DataType) :
     Type 0 where
-  pub shape : Shape
-  pub result : Shape
-  pub is : operand ≡ Some (shape ∷ [])
-  pub gives : f shape ≡ Some result
+  pub data_type : DataType
+  pub result : DataType
+  pub is : operand ≡ Some (data_type ∷ [])
+  pub gives : f data_type ≡ Some result
   pub all : ts ≡ result ∷ []
 
 pub one :
-    (o : Option (List Shape)) (f : Shape → Option Shape) (ts : List Shape) →
+    (o : Option (List DataType)) (f : DataType → Option DataType) (ts : List DataType) →
     from_one o f ≡ Some ts → One o f ts
 one o f ts e =
     let b = bound (o >>= only) _ ts e in
     let a = bound o only b.value b.is in
     let r = alone (f b.value) ts b.gives in
     record {
-      shape = b.value;
-      result = r.shape;
+      data_type = b.value;
+      result = r.data_type;
       is = a.is ∙ ap Some (single a.value b.value a.gives);
       gives = r.is;
       all = r.all;
     }
 
 -- and from two
-pub record Two (left right : Option (List Shape)) (f : Shape → Shape → Option Shape)
-    (ts : List Shape) : Type 0 where
-  pub first : Shape
-  pub second : Shape
-  pub result : Shape
+pub record Two (left right : Option (List DataType)) (f : DataType → DataType → Option DataType)
+    (ts : List DataType) : Type 0 where
+  pub first : DataType
+  pub second : DataType
+  pub result : DataType
   pub is_first : left ≡ Some (first ∷ [])
   pub is_second : right ≡ Some (second ∷ [])
   pub gives : f first second ≡ Some result
   pub all : ts ≡ result ∷ []
 
 pub two :
-    (o p : Option (List Shape)) (f : Shape → Shape → Option Shape) (ts : List Shape) →
+    (o p : Option (List DataType)) (f : DataType → DataType → Option DataType) (ts : List DataType)
+    →
     from_two o p f ≡ Some ts → Two o p f ts
 two o p f ts e =
     let b = bound (o >>= only) _ ts e in
@@ -91,50 +93,50 @@ two o p f ts e =
     record {
       first = b.value;
       second = d.value;
-      result = r.shape;
+      result = r.data_type;
       is_first = a.is ∙ ap Some (single a.value b.value a.gives);
       is_second = c.is ∙ ap Some (single c.value d.value c.gives);
       gives = r.is;
       all = r.all;
     }
 
-pub record Truths (o : Option (List Shape)) (ts : List Shape) : Type 0 where
-  pub shapes : List Shape
-  pub is : o ≡ Some shapes
-  pub truths : list_all (is_shape truth) shapes ≡ true
+pub record Truths (o : Option (List DataType)) (ts : List DataType) : Type 0 where
+  pub data_types : List DataType
+  pub is : o ≡ Some data_types
+  pub truths : list_all (is_type truth) data_types ≡ true
   pub all : ts ≡ truth ∷ []
 
 pub from_true :
-    (o : Option (List Shape)) (ts : List Shape) → from_truths o ≡ Some ts → Truths o ts
+    (o : Option (List DataType)) (ts : List DataType) → from_truths o ≡ Some ts → Truths o ts
 from_true o ts e =
     let b = bound o _ ts e in
-    let t = truly (list_all (is_shape truth) b.value) (truth ∷ []) ts b.gives in
-    record { shapes = b.value; is = b.is; truths = t.holds; all = sym t.same }
+    let t = truly (list_all (is_type truth) b.value) (truth ∷ []) ts b.gives in
+    record { data_types = b.value; is = b.is; truths = t.holds; all = sym t.same }
 
 -- ## What is called
 
 -- the instance of a call, and the types of its inputs and outputs
 pub record Called (P : Program) (here : Instance) (f : Name) (statics : List Static)
-    (types : List Shape × List Shape) : Type 0 where
+    (types : List DataType × List DataType) : Type 0 where
   pub callee : Instance
   pub is : callee_of P here (call_site f statics) 0 0 ≡ Some callee
-  pub inputs : input_shapes P callee ≡ Some types.0
-  pub outputs : output_shapes P callee ≡ Some types.1
+  pub inputs : input_types P callee ≡ Some types.0
+  pub outputs : output_types P callee ≡ Some types.1
 
 pub called :
     (P : Program) (here : Instance) (f : Name) (statics : List Static)
-    (types : List Shape × List Shape) →
-    operator_shapes P here (Node_named f statics) ≡ Some types → Called P here f statics types
+    (types : List DataType × List DataType) →
+    operator_types P here (Node_named f statics) ≡ Some types → Called P here f statics types
 called P here f statics types e =
     let c = bound (callee_of P here (call_site f statics) 0 0) _ types e in
-    let ins = bound (input_shapes P c.value) _ types c.gives in
-    let outs = bound (output_shapes P c.value) _ types ins.gives in
+    let ins = bound (input_types P c.value) _ types c.gives in
+    let outs = bound (output_types P c.value) _ types ins.gives in
     let same : (ins.value, outs.value) ≡ types = some_same _ _ outs.gives in
     record {
       callee = c.value;
       is = c.is;
-      inputs = ins.is ∙ ap (λ (t : List Shape × List Shape). Some t.0) same;
-      outputs = outs.is ∙ ap (λ (t : List Shape × List Shape). Some t.1) same;
+      inputs = ins.is ∙ ap (λ (t : List DataType × List DataType). Some t.0) same;
+      outputs = outs.is ∙ ap (λ (t : List DataType × List DataType). Some t.1) same;
     }
 
 -- the same instance at another place
@@ -168,20 +170,20 @@ placed P here f statics c e =
 
 module _ (P : Program) (here : Instance) where
   -- the types of some operands, and of the first one
-  pub record FirstOfAll (e : Expr) (es : Exprs) (ts : List Shape) : Type 0 where
-    pub first : Shape
-    pub rest : List Shape
-    pub is : shapes P here e ≡ Some (first ∷ [])
-    pub others : all_shapes P here es ≡ Some rest
+  pub record FirstOfAll (e : Expr) (es : Exprs) (ts : List DataType) : Type 0 where
+    pub first : DataType
+    pub rest : List DataType
+    pub is : data_types P here e ≡ Some (first ∷ [])
+    pub others : all_types P here es ≡ Some rest
     pub all : ts ≡ first ∷ rest
 
   pub first_of_all :
-      (e : Expr) (es : Exprs) (ts : List Shape) → all_shapes P here (Cons e es) ≡ Some ts →
+      (e : Expr) (es : Exprs) (ts : List DataType) → all_types P here (Cons e es) ≡ Some ts →
       FirstOfAll e es ts
   first_of_all e es ts h =
-      let b = bound (shapes P here e >>= only) _ ts h in
-      let a = bound (shapes P here e) only b.value b.is in
-      let r = bound (all_shapes P here es) _ ts b.gives in
+      let b = bound (data_types P here e >>= only) _ ts h in
+      let a = bound (data_types P here e) only b.value b.is in
+      let r = bound (all_types P here es) _ ts b.gives in
       record {
         first = b.value;
         rest = r.value;
@@ -218,13 +220,13 @@ pub record OneOutput (P : Program) (here : Instance) (f : Name) (statics : List 
     pub one : callee.node.outputs ≡ output ∷ []
 
 pub one_output :
-    (P : Program) (here : Instance) (f : Name) (statics : List Static) (es : Exprs) (t : Shape) →
-    shapes P here (Call f statics es) ≡ Some (t ∷ []) → OneOutput P here f statics
+    (P : Program) (here : Instance) (f : Name) (statics : List Static) (es : Exprs) (t : DataType) →
+    data_types P here (Call f statics es) ≡ Some (t ∷ []) → OneOutput P here f statics
 one_output P here f statics es t e =
-    let o = bound (operator_shapes P here (Node_named f statics)) _ (t ∷ []) e in
-    let a = bound (all_shapes P here es) _ (t ∷ []) o.gives in
-    let r = truly (are_shapes o.value.0 a.value) o.value.1 (t ∷ []) a.gives in
+    let o = bound (operator_types P here (Node_named f statics)) _ (t ∷ []) e in
+    let a = bound (all_types P here es) _ (t ∷ []) o.gives in
+    let r = truly (are_types o.value.0 a.value) o.value.1 (t ∷ []) a.gives in
     let c = called P here f statics o.value o.is in
-    let d = one_of (shape_of P c.callee) c.callee.node.outputs t
-    (c.outputs ∙ ap (λ (ts : List Shape). Some ts) r.same) in
+    let d = one_of (variable_type P c.callee) c.callee.node.outputs t
+    (c.outputs ∙ ap (λ (ts : List DataType). Some ts) r.same) in
     record { callee = c.callee; is = c.is; output = d.0; one = d.1 }

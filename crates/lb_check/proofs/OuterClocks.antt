@@ -21,8 +21,8 @@ use Rattle.lb_check.specs.Scalars.{same}
 use Rattle.lb_check.specs.TermClocks.{declared_in, is_same}
 use Rattle.lb_check.specs.declared.own_clock.Clock.{Clock}
 use Rattle.lb_check.specs.declared.own_clock.Clock.TheVariants.{Base, On}
-use Rattle.lb_check.specs.declared.standing.Standing.{Standing}
-use Rattle.lb_check.specs.declared.standing.Standing.TheVariants.{Nowhere, Anywhere, Only}
+use Rattle.lb_check.specs.declared.clock_set.ClockSet.{ClockSet}
+use Rattle.lb_check.specs.declared.clock_set.ClockSet.TheVariants.{NoClock, AnyClock, OneClock}
 use Rattle.lb_check.proofs.ClockTests.{clock_itself, clock_same}
 use Rattle.lb_check.proofs.ClockedNodes.{are_awaited}
 use Rattle.lb_check.proofs.NodePlaces.{held}
@@ -55,10 +55,10 @@ abbrev pub variable_at : ℕ → VariableId
 variable_at i = record { 0 = i }
 
 -- where something may stand that the code found so
-abbrev pub stood : ResolvedNode → tree.Clock → Standing → Bool
-stood here k Nowhere = false
-stood here k Anywhere = true
-stood here k (Only c) = is_clock k (clock_in here c)
+abbrev pub stood : ResolvedNode → tree.Clock → ClockSet → Bool
+stood here k NoClock = false
+stood here k AnyClock = true
+stood here k (OneClock c) = is_clock k (clock_in here c)
 
 module _ (here : ResolvedNode) (h : HasClocks here) where
   waited_within : (y : VariableId) (v : Variable) (s : Sampling) →
@@ -153,10 +153,10 @@ AreGiven callee Y n m =
 -- what stands for one of the first n is a variable of the caller, has its name, and stands on its
 -- declared clock alone
 abbrev pub StandFor : ResolvedNode → ResolvedNode → (ℕ → Option VariableId) →
-    (ℕ → Option Standing) → ℕ → Type 0
+    (ℕ → Option ClockSet) → ℕ → Type 0
 StandFor here callee Y S n =
     (i : ℕ) (y : VariableId) → i < n → Y i ≡ Some y →
-    (S i ≡ Some (Only (declared_in here y))) × (is_variable (counts_of here) y ≡ true)
+    (S i ≡ Some (OneClock (declared_in here y))) × (is_variable (counts_of here) y ≡ true)
 
 abbrev pub HaveNames : ResolvedNode → ResolvedNode → (ℕ → Option VariableId) → Given → ℕ → Type 0
 HaveNames here callee Y given n =
@@ -164,22 +164,22 @@ HaveNames here callee Y given n =
     given_name given (place_name callee i) ≡ name_in here y
 
 -- what stands for one of the first n may stand on its clock, in one form or the other
-abbrev pub MayStand : ResolvedNode → ResolvedNode → (ℕ → Option VariableId) →
-    (ℕ → Option Standing) → Given → tree.Clock → ℕ → Type 0
-MayStand here callee Y S given b n =
-    (i : ℕ) (v : Variable) (s : Standing) → i < n → slice_get callee.variables.items i ≡ Some v →
+abbrev pub AcceptsClock : ResolvedNode → ResolvedNode → (ℕ → Option VariableId) →
+    (ℕ → Option ClockSet) → Given → tree.Clock → ℕ → Type 0
+AcceptsClock here callee Y S given b n =
+    (i : ℕ) (v : Variable) (s : ClockSet) → i < n → slice_get callee.variables.items i ≡ Some v →
     S i ≡ Some s
     → (stood here (seen callee given b i) s ≡ true)
     ⊎ (stood here (expected_on here Y b v.clock) s ≡ true)
 
 module _ (here callee : ResolvedNode) (h : HasClocks here) (hc : HasClocks callee)
-    (Y : ℕ → Option VariableId) (S : ℕ → Option Standing) (n m : ℕ)
+    (Y : ℕ → Option VariableId) (S : ℕ → Option ClockSet) (n m : ℕ)
     (few : n ≤ m) (waits : AreGiven callee Y n m) (own : StandFor here callee Y S n) (given : Given)
     (names : HaveNames here callee Y given n)
-    (b : tree.Clock) (stands : MayStand here callee Y S given b n) where
+    (b : tree.Clock) (stands : AcceptsClock here callee Y S given b n) where
   -- what may stand on the clock that the caller sees is on it
   on_clock : (y : VariableId) (k l : tree.Clock) → is_variable (counts_of here) y ≡ true → k ≡ l →
-      stood here k (Only (declared_in here y)) ≡ true
+      stood here k (OneClock (declared_in here y)) ≡ true
       → declared_clock (node_of here) (name_in here y) ≡ l
   on_clock y k l w e p = sym (declared_is here h y w).0
       ∙ sym (clock_same k (clock_in here (declared_in here y)) p) ∙ e
@@ -204,7 +204,7 @@ module _ (here callee : ResolvedNode) (h : HasClocks here) (hc : HasClocks calle
       let o = own s.variable.0 y lt e in
       let l = seen callee given b s.variable.0 in
       let on : declared_clock (node_of here) (name_in here y) ≡ l =
-      elim (stands s.variable.0 w (Only (declared_in here y)) lt at o.0) [
+      elim (stands s.variable.0 w (OneClock (declared_in here y)) lt at o.0) [
         | inl p ↦ on_clock y l l o.1 refl p
         | inr p ↦ on_clock y (expected_on here Y b w.clock) l o.1 known p
       ] in

@@ -11,7 +11,7 @@ use Rattle.lb_syntax.specs.Tree as tree
 use Rattle.lb_syntax.specs.Tree.{Name, Declaration, Node}
 use Rattle.lb_static.specs.StaticValues.{named}
 use Rattle.lb_static.specs.Parts.{variable_names}
-use Rattle.lb_static.specs.Shapes.{variables}
+use Rattle.lb_static.specs.DataTypes.{variables}
 use Rattle.lb_static.specs.ResolvedTerms.{declaration_of, sampling_of, is_variable}
 use Rattle.lb_static.specs.ResolvedNodes.{node_of, statics_of, counts_of}
 use Rattle.lb_static.specs.declared.resolved.ResolvedNode.{ResolvedNode}

@@ -9,7 +9,7 @@ use Rattle.lb_syntax.specs.Refusals.{E5, E6, E9, E10, E12, unless}
 use Rattle.lb_syntax.specs.Tree.{Name, Static, Node}
 use Rattle.lb_static.specs.Instances.{Program, Instance, Path, Root, Observer, Child, Site, node_sites, numbered_sites, node_named, static_value, static_count, instance_count, callee_of, start_at, instance_at, site_instances, children, instances_from, instances}
 use Rattle.lb_static.specs.Parts.{node_sizes}
-use Rattle.lb_static.specs.Walk.{is_between, is_in_range, has_values, level, may_enter, instance_refusal, walk_refusal}
+use Rattle.lb_static.specs.Instantiation.{is_between, is_in_range, has_values, level, may_enter, instance_refusal, instantiation_refusal}
 use Rattle.lb_static.proofs.SiteCounts.{passes, counted, node_counts}
 use Rattle.lb_check.specs.Acceptance.{check_refusal}
 use Rattle.lb_check.specs.ClockRules.{are_declared_clocks, is_clocked}
@@ -36,7 +36,7 @@ low : (n : ℕ) → nat_le n 64 ≡ true → n ≤ 64
 low n e = grind (arith, nat_tests)
 
 all_entered :
-    (P : Program) (n : ℕ) (is : List Instance) → walk_refusal P n is ≡ None →
+    (P : Program) (n : ℕ) (is : List Instance) → instantiation_refusal P n is ≡ None →
     Every (IsEntered P) is
 all_entered P n [] e = tt
 all_entered P n (c ∷ is) e =
@@ -196,7 +196,7 @@ module _ (P : Program) where
 
 -- ## Two histories
 
-module _ (P : Program) (walked : walk_refusal P 0 (instances P) ≡ None)
+module _ (P : Program) (instantiated : instantiation_refusal P 0 (instances P) ≡ None)
     (accepted : check_refusal P ≡ None) (H G : History) (same : AreSame P H G) where
   typed : Every (λ here. is_typed P here ≡ true) (instances P)
   typed =
@@ -210,7 +210,7 @@ module _ (P : Program) (walked : walk_refusal P 0 (instances P) ≡ None)
       (kept (list_all (λ here. is_clocked P here.node) (instances P)) E10 (first_none _ _ later))
 
   entered : Every (IsEntered P) (instances P)
-  entered = all_entered P 0 (instances P) walked
+  entered = all_entered P 0 (instances P) instantiated
 
   called_same : Every (λ i. Every (IsSame H G) (children P i)) (instances P)
   called_same =

@@ -6,16 +6,16 @@ use Rattle.std.specs.List.{list_all}
 use Rattle.lb_syntax.specs.Lists.{Every}
 use Rattle.lb_syntax.specs.Tree.{Name, Expr, Statement, Equation, Assertion}
 use Rattle.lb_static.specs.Instances.{Program, Instance, sites, statement_sites, node_sites}
-use Rattle.lb_static.specs.Shapes.{Shape, truth, is_shape, variables}
-use Rattle.lb_static.specs.Walk.{are_same}
+use Rattle.lb_static.specs.DataTypes.{DataType, truth, is_type, variables}
+use Rattle.lb_static.specs.Instantiation.{are_same}
 use Rattle.lb_check.specs.ClockRules.{is_clocked, is_occurrence_clocked, are_declared_clocks}
 use Rattle.lb_check.specs.Clocks.{clock_of}
 use Rattle.lb_check.specs.Occurrences.{Occurrence, call_count, occurrences, statement_clock, right_sides, statements, node_occurrences}
 use Rattle.lb_check.specs.Solutions.{AgreeAt, streams_at}
 use Rattle.lb_check.specs.Streams.{History}
 use Rattle.lb_check.specs.TypeRules.{is_statement_typed, is_clock_typed, is_typed}
-use Rattle.lb_check.specs.Types.{shapes}
-use Rattle.lb_check.specs.Verdicts.{assertion_of, assertions, kept_operand, kept_operands, variable_columns, kept_columns, assertion_columns, named_places}
+use Rattle.lb_check.specs.Types.{data_types}
+use Rattle.lb_check.specs.Verdicts.{assertion_of, assertions, memory_operand, memory_operands, variable_columns, memory_columns, assertion_columns, named_places}
 use Rattle.lb_check.proofs.DeterminedClocks.{OfCalled, fore, aft, sited_first, sited_second, determined}
 use Rattle.lb_check.proofs.Every.{Every-append, Every-found, Every-tested, flat_same}
 use Rattle.lb_check.proofs.NamedClocks.{IsOver, clock_or_over, declared_over}
@@ -25,18 +25,18 @@ use Rattle.lb_check.proofs.TruthValues.{and_first, and_second}
 -- ## The types of right sides
 
 typed_some :
-    (P : Program) (o p : Option (List Shape)) → are_same P o p ≡ true →
-    (ts : List Shape) × (o ≡ Some ts)
+    (P : Program) (o p : Option (List DataType)) → are_same P o p ≡ true →
+    (ts : List DataType) × (o ≡ Some ts)
 typed_some P None p e = absurd cc
 typed_some P (Some ts) p e = (ts, refl)
 
 typed_truth :
-    (P : Program) (o : Option (List Shape)) → are_same P o (Some (truth ∷ [])) ≡ true →
-    (t : Shape) × (o ≡ Some (t ∷ []))
+    (P : Program) (o : Option (List DataType)) → are_same P o (Some (truth ∷ [])) ≡ true →
+    (t : DataType) × (o ≡ Some (t ∷ []))
 typed_truth P None e = absurd cc
 typed_truth P (Some []) e = absurd cc
 typed_truth P (Some (t ∷ [])) e = (t, refl)
-typed_truth P (Some (t ∷ (u ∷ ts))) e = let end = and_second (is_shape t truth) false e in absurd cc
+typed_truth P (Some (t ∷ (u ∷ ts))) e = let end = and_second (is_type t truth) false e in absurd cc
 
 -- the named places of an instance have the same streams
 pub record SamePlaces (P : Program) (H G : History) (here : Instance) : Type 0 where
@@ -84,7 +84,7 @@ module _ (P : Program) (H G : History) (here : Instance) (agree : AgreeAt H G he
       let ob = parts_of (right_sides P here.node m rest) in
       let S = OfCalled P here (IsSame H G) in
       let first = and_first (is_statement_typed P here (Equation lefts e)) _ typed in
-      let t = typed_some P (shapes P here e) _ first in
+      let t = typed_some P (data_types P here e) _ first in
       let z = same_streams P H G here agree k n e t.0 t.1 (equation_over lefts e)
       (fore P here (IsSame H G) oa ob h)
       (sited_first S n (sites e) (flat_map statement_sites rest) s) in
@@ -100,7 +100,7 @@ module _ (P : Program) (H G : History) (here : Instance) (agree : AgreeAt H G he
       let ob = parts_of (right_sides P here.node m rest) in
       let S = OfCalled P here (IsSame H G) in
       let first = and_first (is_statement_typed P here (Assertion e)) _ typed in
-      let t = typed_truth P (shapes P here e) first in
+      let t = typed_truth P (data_types P here e) first in
       let legal = fore P here (IsSame H G) oa ob h in
       let called = sited_first S n (sites e) (flat_map statement_sites rest) s in
       let over = clock_or_over Own (clock_of P here.node e)
@@ -127,9 +127,9 @@ module _ (P : Program) (H G : History) (here : Instance) (agree : AgreeAt H G he
       let own : variable_columns H here ≡ variable_columns G here =
       flat_same (λ d. H.columns here.path d.name) (λ d. G.columns here.path d.name)
       (variables here.node) agree.columns in
-      let kept : kept_columns P H here ≡ kept_columns P G here =
-      flat_same (streams_at P H here) (streams_at P G here) (kept_operands P here)
-      (Every-found Equal (kept_operand P here) (node_occurrences P here.node) body.0) in
+      let kept : memory_columns P H here ≡ memory_columns P G here =
+      flat_same (streams_at P H here) (streams_at P G here) (memory_operands P here)
+      (Every-found Equal (memory_operand P here) (node_occurrences P here.node) body.0) in
       let asserted : assertion_columns P H here ≡ assertion_columns P G here =
       flat_same (streams_at P H here) (streams_at P G here) (assertions P here.node)
       (Every-found Equal (λ s. assertion_of s.0 s.1) (statements P here.node) body.1) in

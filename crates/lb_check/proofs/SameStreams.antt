@@ -6,18 +6,18 @@ use Rattle.std.specs.List.{range_with_len}
 use Rattle.lb_syntax.specs.declared.tree.ArrayIterator.{ArrayIterator}
 use Rattle.lb_syntax.specs.declared.tree.ArrayIterator.TheVariants.{Map, Red, Fill}
 use Rattle.lb_syntax.specs.Lists.{Every, zip2, copies, joined, either_or, listed}
-use Rattle.lb_syntax.specs.Tree.{Name, Static, Node_named, Symbol, Expr, Literal, Truth, Variable, Group, Unary, Binary, If, Arrow, Fby, Pre, Current, When, Copies, Index, Slice, Join, Array, AtMostOne, Nor, Call, Iterate, Exprs, Nil, Cons, Declaration, Node}
+use Rattle.lb_syntax.specs.Tree.{Name, Static, Node_named, Symbol, Expr, Literal, Truth, Variable, Group, Unary, Binary, If, Arrow, Fby, Pre, Current, When, Replicate, Index, Slice, Join, Array, AtMostOne, Nor, Call, Iterate, Exprs, Nil, Cons, Declaration, Node}
 use Rattle.lb_static.specs.Instances.{Program, Instance, Child, Site, call_site, sites, sites_in, node_named, name_value, static_count}
-use Rattle.lb_static.specs.Shapes.{Shape, variables}
+use Rattle.lb_static.specs.DataTypes.{DataType, variables}
 use Rattle.lb_static.specs.StaticValues.{named}
 use Rattle.lb_check.specs.ClockRules.{are_declared_clocks, are_given_variables, is_call_clocked, is_on_clock}
 use Rattle.lb_check.specs.Clocks.{Clock, Base, On, clock_of, clock_or, declared_clock}
 use Rattle.lb_check.specs.Occurrences.{Occurrence, call_count, call_clocks, occurrences, occurrences_in, occurrences_each}
 use Rattle.lb_check.specs.Scalars.{or_fault, Integer, Boolean, two_scalars, one_scalar, at_most_one, none_true}
 use Rattle.lb_check.specs.Solutions.{AgreeAt, streams_at}
-use Rattle.lb_check.specs.Streams.{History, presence, signed, constantly, along, along_two, choices, across, first_then, previous, kept, latest, gathered, last_of, iterated, symbols, streams, all_streams, number, part_count, first_of, outputs_of, name_streams}
-use Rattle.lb_check.specs.Types.{shapes, all_shapes, singly, name_shape, from_one, from_truths, unary_shape, binary_shape, same_shape, array_of, index_shape, slice_shape, join_shape, operator_shapes}
-use Rattle.lb_check.specs.Verdicts.{kept_operand}
+use Rattle.lb_check.specs.Streams.{History, presence, signed, constantly, along, along_two, choices, across, first_then, previous, sample, latest, gathered, last_of, iterated, symbols, streams, all_streams, number, part_count, first_of, outputs_of, name_streams}
+use Rattle.lb_check.specs.Types.{data_types, all_types, singly, name_data_type, from_one, from_truths, unary_type, binary_type, common_type, array_of, index_type, slice_type, join_type, operator_types}
+use Rattle.lb_check.specs.Verdicts.{memory_operand}
 use Rattle.lb_check.proofs.ClockTests.{clock_same}
 use Rattle.lb_check.proofs.DeterminedClocks.{count_of, AllLawful, AreSited, OfCalled, fore, aft, sited_first, sited_second, sited_after, called_passes, left, right, determined}
 use Rattle.lb_check.proofs.Every.{Every-first, Every-second, Every-append, Every-of_range, flat_same}
@@ -87,7 +87,7 @@ module _ (P : Program) (H G : History) (here : Instance) (agree : AgreeAt H G he
   -- the operand that an occurrence keeps, if it keeps one, has the same streams
   abbrev pub KeepsSame : Occurrence → Type 0
   KeepsSame o =
-      IfSome (kept_operand P here o) (λ a. streams_at P H here a ≡ streams_at P G here a)
+      IfSome (memory_operand P here o) (λ a. streams_at P H here a ≡ streams_at P G here a)
 
   abbrev AllKeep : List Occurrence → Type 0
   AllKeep os = Every KeepsSame os
@@ -147,7 +147,7 @@ module _ (P : Program) (H G : History) (here : Instance) (agree : AgreeAt H G he
 
   mutual
     pub same_streams :
-        (k : Clock) (n : ℕ) (e : Expr) (ts : List Shape) → shapes P here e ≡ Some ts →
+        (k : Clock) (n : ℕ) (e : Expr) (ts : List DataType) → data_types P here e ≡ Some ts →
         IsOver Same k → AreLawful (occurrences P here.node k n e) → SitesHold n (sites e) →
         SameStreams k n e × AllKeep (occurrences P here.node k n e)
     same_streams k n (Literal m) ts e o h s =
@@ -157,11 +157,11 @@ module _ (P : Program) (H G : History) (here : Instance) (agree : AgreeAt H G he
     same_streams k n (Variable x) ts e o h s = (name_same k x (on k o), (tt, tt))
     same_streams k n (Group a) ts e o h s = same_streams k n a ts e o h s
     same_streams k n (Unary op a) ts e o h s =
-        let i = one (shapes P here a) (unary_shape op) ts e in
-        let z = same_streams k n a (i.shape ∷ []) i.is o h.1 s in
+        let i = one (data_types P here a) (unary_type op) ts e in
+        let z = same_streams k n a (i.data_type ∷ []) i.is o h.1 s in
         (ap (map (along (one_scalar op))) z.0, (tt, z.1))
     same_streams k n (Binary op a b) ts e o h s =
-        let i = two (shapes P here a) (shapes P here b) (binary_shape op) ts e in
+        let i = two (data_types P here a) (data_types P here b) (binary_type op) ts e in
         let l = left P here (IsSame H G) k n a b h.1 s in
         let r = right P here (IsSame H G) k n a b h.1 s in
         let y = same_streams k n a (i.first ∷ []) i.is_first o l.0 l.1 in
@@ -170,10 +170,10 @@ module _ (P : Program) (H G : History) (here : Instance) (agree : AgreeAt H G he
     same_streams k n (If c a b) ts e o h s =
         let na = n + call_count c in
         let nb = na + call_count a in
-        let t = bound (from_truths (from_one (shapes P here c) Some)) _ ts e in
-        let truths = from_true (from_one (shapes P here c) Some) t.value t.is in
-        let x = one (shapes P here c) Some truths.shapes truths.is in
-        let i = two (shapes P here a) (shapes P here b) same_shape ts t.gives in
+        let t = bound (from_truths (from_one (data_types P here c) Some)) _ ts e in
+        let truths = from_true (from_one (data_types P here c) Some) t.value t.is in
+        let x = one (data_types P here c) Some truths.data_types truths.is in
+        let i = two (data_types P here a) (data_types P here b) common_type ts t.gives in
         let oc = occurrences P here.node k n c in
         let oa = occurrences P here.node k na a in
         let ob = occurrences P here.node k nb b in
@@ -181,7 +181,7 @@ module _ (P : Program) (H G : History) (here : Instance) (agree : AgreeAt H G he
         let rest = sited_second (OfCalled P here (IsSame H G)) n (sites c) (sites a ++ sites b) s in
         let l = left P here (IsSame H G) k na a b branches rest in
         let r = right P here (IsSame H G) k na a b branches rest in
-        let w = same_streams k n c (x.shape ∷ []) x.is o
+        let w = same_streams k n c (x.data_type ∷ []) x.is o
         (fore P here (IsSame H G) oc (oa ++ ob) h.1)
         (sited_first (OfCalled P here (IsSame H G)) n (sites c) (sites a ++ sites b) s) in
         let y = same_streams k na a (i.first ∷ []) i.is_first o l.0 l.1 in
@@ -191,14 +191,14 @@ module _ (P : Program) (H G : History) (here : Instance) (agree : AgreeAt H G he
           (tt, Every-append KeepsSame oc (oa ++ ob) w.1 (Every-append KeepsSame oa ob y.1 z.1)),
         )
     same_streams k n (Arrow a b) ts e o h s =
-        let i = two (shapes P here a) (shapes P here b) same_shape ts e in
+        let i = two (data_types P here a) (data_types P here b) common_type ts e in
         let l = left P here (IsSame H G) k n a b h.1 s in
         let r = right P here (IsSame H G) k n a b h.1 s in
         let y = same_streams k n a (i.first ∷ []) i.is_first o l.0 l.1 in
         let z = same_streams k (n + call_count a) b (i.second ∷ []) i.is_second o r.0 r.1 in
         (ap₂ (zip2 first_then) y.0 z.0, (tt, Every-append KeepsSame _ _ y.1 z.1))
     same_streams k n (Fby a b) ts e o h s =
-        let i = two (shapes P here a) (shapes P here b) same_shape ts e in
+        let i = two (data_types P here a) (data_types P here b) common_type ts e in
         let l = left P here (IsSame H G) k n a b h.1 s in
         let r = right P here (IsSame H G) k n a b h.1 s in
         let y = same_streams k n a (i.first ∷ []) i.is_first o l.0 l.1 in
@@ -208,34 +208,34 @@ module _ (P : Program) (H G : History) (here : Instance) (agree : AgreeAt H G he
           (z.0, Every-append KeepsSame _ _ y.1 z.1),
         )
     same_streams k n (Pre a) ts e o h s =
-        let i = one (shapes P here a) Some ts e in
-        let z = same_streams k n a (i.shape ∷ []) i.is o h.1 s in
+        let i = one (data_types P here a) Some ts e in
+        let z = same_streams k n a (i.data_type ∷ []) i.is o h.1 s in
         (ap₂ (λ bs xss. map (previous (first_of P here a) bs) xss) (on k o) z.0, (z.0, z.1))
     same_streams k n (When a x sign) ts e o h s =
         let own = declared_clock here.node x in
-        let t = bound (from_truths (singly (name_shape P here x))) _ ts e in
-        let i = one (shapes P here a) Some ts t.gives in
+        let t = bound (from_truths (singly (name_data_type P here x))) _ ts e in
+        let i = one (data_types P here a) Some ts t.gives in
         let over = subst (IsOver Same) (clock_same k (On own x sign) h.0) o in
-        let z = same_streams own n a (i.shape ∷ []) i.is over.0 h.1 s in
-        (ap₂ (λ bs xss. map (zip2 kept bs) xss) (on (On own x sign) over) z.0, (tt, z.1))
+        let z = same_streams own n a (i.data_type ∷ []) i.is over.0 h.1 s in
+        (ap₂ (λ bs xss. map (zip2 sample bs) xss) (on (On own x sign) over) z.0, (tt, z.1))
     same_streams k n (Current a) ts e o h s =
         let own = clock_or (clock_of P here.node a) in
-        let i = one (shapes P here a) Some ts e in
+        let i = one (data_types P here a) Some ts e in
         let over = clock_or_over Same (clock_of P here.node a)
         (determined P here Same agree.columns (IsSame H G)
-        (λ c same. same.declared) own n a i.shape i.is
+        (λ c same. same.declared) own n a i.data_type i.is
         h.1 s) in
-        let z = same_streams own n a (i.shape ∷ []) i.is over h.1 s in
+        let z = same_streams own n a (i.data_type ∷ []) i.is over h.1 s in
         (ap₂ (λ bs xss. map (latest (first_of P here a) bs) xss) (on k o) z.0, (z.0, z.1))
-    same_streams k n (Copies a m) ts e o h s =
+    same_streams k n (Replicate a m) ts e o h s =
         let c = bound (static_count P here m) _ ts e in
-        let i = one (shapes P here a) (array_of c.value) ts c.gives in
-        let z = same_streams k n a (i.shape ∷ []) i.is o h.1 s in
+        let i = one (data_types P here a) (array_of c.value) ts c.gives in
+        let z = same_streams k n a (i.data_type ∷ []) i.is o h.1 s in
         (ap (copies (number P here m)) z.0, (tt, z.1))
     same_streams k n (Index a m) ts e o h s =
         let c = bound (static_count P here m) _ ts e in
-        let i = one (shapes P here a) (index_shape c.value) ts c.gives in
-        let z = same_streams k n a (i.shape ∷ []) i.is o h.1 s in (
+        let i = one (data_types P here a) (index_type c.value) ts c.gives in
+        let z = same_streams k n a (i.data_type ∷ []) i.is o h.1 s in (
           ap (λ xss. take (part_count P here a) (drop (part_count P here a * number P here m) xss))
               z.0,
           (tt, z.1),
@@ -243,34 +243,34 @@ module _ (P : Program) (H G : History) (here : Instance) (agree : AgreeAt H G he
     same_streams k n (Slice a m l) ts e o h s =
         let c = bound (static_count P here m) _ ts e in
         let d = bound (static_count P here l) _ ts c.gives in
-        let i = one (shapes P here a) (slice_shape c.value d.value) ts d.gives in
-        let z = same_streams k n a (i.shape ∷ []) i.is o h.1 s in (
+        let i = one (data_types P here a) (slice_type c.value d.value) ts d.gives in
+        let z = same_streams k n a (i.data_type ∷ []) i.is o h.1 s in (
           ap (λ xss. take (part_count P here a * (suc (number P here l) - number P here m))
               (drop (part_count P here a * number P here m) xss)) z.0,
           (tt, z.1),
         )
     same_streams k n (Join a b) ts e o h s =
-        let i = two (shapes P here a) (shapes P here b) join_shape ts e in
+        let i = two (data_types P here a) (data_types P here b) join_type ts e in
         let l = left P here (IsSame H G) k n a b h.1 s in
         let r = right P here (IsSame H G) k n a b h.1 s in
         let y = same_streams k n a (i.first ∷ []) i.is_first o l.0 l.1 in
         let z = same_streams k (n + call_count a) b (i.second ∷ []) i.is_second o r.0 r.1 in
         (ap₂ (λ xs ys. xs ++ ys) y.0 z.0, (tt, Every-append KeepsSame _ _ y.1 z.1))
     same_streams k n (Array es) ts e o h s =
-        let b = bound (all_shapes P here es) _ ts e in
+        let b = bound (all_types P here es) _ ts e in
         let z = all_same k n es b.value b.is o h.1 s in
         (ap joined z.0, (tt, z.1))
     same_streams k n (AtMostOne es) ts e o h s =
-        let t = from_true (all_shapes P here es) ts e in
-        let z = all_same k n es t.shapes t.is o h.1 s in
+        let t = from_true (all_types P here es) ts e in
+        let z = all_same k n es t.data_types t.is o h.1 s in
         (ap₂ (λ bs xsss. across at_most_one bs (joined xsss) ∷ []) (on k o) z.0, (tt, z.1))
     same_streams k n (Nor es) ts e o h s =
-        let t = from_true (all_shapes P here es) ts e in
-        let z = all_same k n es t.shapes t.is o h.1 s in
+        let t = from_true (all_types P here es) ts e in
+        let z = all_same k n es t.data_types t.is o h.1 s in
         (ap₂ (λ bs xsss. across none_true bs (joined xsss) ∷ []) (on k o) z.0, (tt, z.1))
     same_streams k n (Call f statics es) ts e o h s =
-        let t = bound (operator_shapes P here (Node_named f statics)) _ ts e in
-        let a = bound (all_shapes P here es) _ ts t.gives in
+        let t = bound (operator_types P here (Node_named f statics)) _ ts e in
+        let a = bound (all_types P here es) _ ts t.gives in
         let c = called P here f statics t.value t.is in
         let p = placed P here f statics c.callee c.is in (
           flat_same _ _ (outputs_of P here f)
@@ -284,8 +284,8 @@ module _ (P : Program) (H G : History) (here : Instance) (agree : AgreeAt H G he
         )
     same_streams k n (Iterate it (Node_named f statics) m es) ts e o h s =
         let c = bound (static_count P here m) _ ts e in
-        let t = bound (operator_shapes P here (Node_named f statics)) _ ts c.gives in
-        let a = bound (all_shapes P here es) _ ts t.gives in
+        let t = bound (operator_types P here (Node_named f statics)) _ ts c.gives in
+        let a = bound (all_types P here es) _ ts t.gives in
         let d = called P here f statics t.value t.is in
         let p = placed P here f statics d.callee d.is in
         let z = all_same k (n + 1) es a.value a.is o h.1
@@ -297,13 +297,13 @@ module _ (P : Program) (H G : History) (here : Instance) (agree : AgreeAt H G he
         )
     same_streams k n (Iterate it (Symbol op) m es) ts e o h s =
         let c = bound (static_count P here m) _ ts e in
-        let t = bound (operator_shapes P here (Symbol op)) _ ts c.gives in
-        let a = bound (all_shapes P here es) _ ts t.gives in
+        let t = bound (operator_types P here (Symbol op)) _ ts c.gives in
+        let a = bound (all_types P here es) _ ts t.gives in
         let z = all_same k n es a.value a.is o h.1 s in
         (ap (symbols it op) z.0, (tt, z.1))
 
     all_same :
-        (k : Clock) (n : ℕ) (es : Exprs) (ts : List Shape) → all_shapes P here es ≡ Some ts →
+        (k : Clock) (n : ℕ) (es : Exprs) (ts : List DataType) → all_types P here es ≡ Some ts →
         IsOver Same k → AreLawful (occurrences_in P here.node k n es) → SitesHold n (sites_in es) →
         (all_streams P H here k n es ≡ all_streams P G here k n es)
         × AllKeep (occurrences_in P here.node k n es)
@@ -319,8 +319,8 @@ module _ (P : Program) (H G : History) (here : Instance) (agree : AgreeAt H G he
         (ap₂ (λ xs xss. xs ∷ xss) y.0 z.0, Every-append KeepsSame oa ob y.1 z.1)
 
     each_keep :
-        (ks : List Clock) (n : ℕ) (es : Exprs) (ts : List Shape) →
-        all_shapes P here es ≡ Some ts → Every (IsOver Same) ks →
+        (ks : List Clock) (n : ℕ) (es : Exprs) (ts : List DataType) →
+        all_types P here es ≡ Some ts → Every (IsOver Same) ks →
         AreLawful (occurrences_each P here.node ks n es) → SitesHold n (sites_in es) →
         AllKeep (occurrences_each P here.node ks n es)
     each_keep ks n Nil ts e o h s = tt

@@ -11,7 +11,7 @@ use Rattle.lb_static.specs.Instances.{Program, Instance, Path, Child, Site, stat
 use Rattle.lb_static.specs.Parts.{variable_names}
 use Rattle.lb_static.specs.ResolvedNodes.{IsResolved, node_of, statics_of}
 use Rattle.lb_static.specs.ResolvedTerms.{declaration_of}
-use Rattle.lb_static.specs.Shapes.{Shape, variables, shape_of, input_shapes, output_shapes}
+use Rattle.lb_static.specs.DataTypes.{DataType, variables, variable_type, input_types, output_types}
 use Rattle.lb_check.specs.TermTypes.{Signature, declared_type, declared_types, signature_of}
 use Rattle.lb_check.proofs.FittedTypes.{declared_is}
 
@@ -27,54 +27,55 @@ drop_first f (x ∷ xs) ys = drop_first f xs ys
 
 -- the types of the inputs and of the outputs of an instance
 abbrev pub signature : Program → Option Instance → Option Signature
-signature P o = o >>= λ n. input_shapes P n >>= λ ins. output_shapes P n >>= λ outs. Some
+signature P o = o >>= λ n. input_types P n >>= λ ins. output_types P n >>= λ outs. Some
     (ins, outs)
 
 module _ (P : Program) (names : List Name) (n : ResolvedNode) (resolved : IsResolved names n)
     (here : Instance) (values : List ℤ)
     (valued : map Some values ≡ map (static_value P here) (statics_of n))
     (same : here.node ≡ node_of n) where
-  abbrev types : List Declared → List (Option Shape)
+  abbrev types : List Declared → List (Option DataType)
   types vs = map (declared_type values) vs
 
   each_declared : (all xs : List Name) (vs : List Declared) → length vs ≡ length xs
-      → map (shape_of P here) (zip2 (declaration_of all (statics_of n)) xs vs) ≡ types vs
+      → map (variable_type P here) (zip2 (declaration_of all (statics_of n)) xs vs) ≡ types vs
   each_declared all [] [] e = refl
   each_declared all [] (v ∷ vs) e = absurd cc
   each_declared all (x ∷ xs) [] e = absurd cc
   each_declared all (x ∷ xs) (v ∷ vs) e =
       let rest : length vs ≡ length xs = cc in
       rw (declared_is P here (statics_of n) values valued all x v)
-      (ap (λ (l : List (Option Shape)). declared_type values v ∷ l)
+      (ap (λ (l : List (Option DataType)). declared_type values v ∷ l)
       (each_declared all xs vs rest))
 
   length_map : {A B : Type 0} → (f : A → B) (xs : List A) → length (map f xs) ≡ length xs
   length_map f [] = refl
   length_map f (x ∷ xs) = ap suc (length_map f xs)
 
-  all_declared : map (shape_of P here) (variables (node_of n)) ≡ types n.variables.items
+  all_declared : map (variable_type P here) (variables (node_of n)) ≡ types n.variables.items
   all_declared =
-      ap (map (shape_of P here)) (sym resolved.declared)
+      ap (map (variable_type P here)) (sym resolved.declared)
       ∙ each_declared (variable_names (node_of n)) (variable_names (node_of n)) n.variables.items
       (resolved.as_many ∙ sym (length_map (λ d. d.name) (variables (node_of n))))
 
-  inputs_are : map (shape_of P here) (node_of n).inputs ≡ types (take n.inputs n.variables.items)
+  inputs_are : map (variable_type P here) (node_of n).inputs
+      ≡ types (take n.inputs n.variables.items)
   inputs_are =
       let node = node_of n in
-      sym (take_first (shape_of P here) node.inputs (node.outputs ++ node.locals))
-      ∙ ap (λ k. take k (map (shape_of P here) (variables node))) (sym resolved.inputs)
+      sym (take_first (variable_type P here) node.inputs (node.outputs ++ node.locals))
+      ∙ ap (λ k. take k (map (variable_type P here) (variables node))) (sym resolved.inputs)
       ∙ ap (take n.inputs) all_declared ∙ take-map (declared_type values) n.inputs n.variables.items
 
-  outputs_are : map (shape_of P here) (node_of n).outputs ≡ types
+  outputs_are : map (variable_type P here) (node_of n).outputs ≡ types
       (take n.outputs (drop n.inputs n.variables.items))
   outputs_are =
       let node = node_of n in
-      sym (take_first (shape_of P here) node.outputs node.locals)
+      sym (take_first (variable_type P here) node.outputs node.locals)
       ∙ ap (take (length node.outputs))
-      (sym (drop_first (shape_of P here) node.inputs (node.outputs ++ node.locals)))
-      ∙ ap (λ k. take k (drop (length node.inputs) (map (shape_of P here) (variables node))))
+      (sym (drop_first (variable_type P here) node.inputs (node.outputs ++ node.locals)))
+      ∙ ap (λ k. take k (drop (length node.inputs) (map (variable_type P here) (variables node))))
       (sym resolved.outputs)
-      ∙ ap (λ k. take n.outputs (drop k (map (shape_of P here) (variables node))))
+      ∙ ap (λ k. take n.outputs (drop k (map (variable_type P here) (variables node))))
       (sym resolved.inputs)
       ∙ ap (λ l. take n.outputs (drop n.inputs l)) all_declared
       ∙ ap (take n.outputs) (drop-map (declared_type values) n.inputs n.variables.items)
@@ -82,10 +83,10 @@ module _ (P : Program) (names : List Name) (n : ResolvedNode) (resolved : IsReso
 
   pub signature_is : signature P (Some here) ≡ signature_of values n
   signature_is =
-      ap (λ m. all_some (map (shape_of P here) m.inputs) >>= λ ins. all_some
-      (map (shape_of P here) m.outputs) >>= λ outs. Some (ins, outs)) same
+      ap (λ m. all_some (map (variable_type P here) m.inputs) >>= λ ins. all_some
+      (map (variable_type P here) m.outputs) >>= λ outs. Some (ins, outs)) same
       ∙ ap (λ l. all_some l >>= λ ins. all_some
-      (map (shape_of P here) (node_of n).outputs) >>= λ outs. Some (ins, outs)) inputs_are
+      (map (variable_type P here) (node_of n).outputs) >>= λ outs. Some (ins, outs)) inputs_are
       ∙ ap (λ l. declared_types values
       (take n.inputs n.variables.items) >>= λ ins. all_some l >>= λ outs. Some (ins, outs))
       outputs_are

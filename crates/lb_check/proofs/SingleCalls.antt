@@ -9,22 +9,22 @@ use Rattle.lb_syntax.specs.Tree.{Node}
 use Rattle.lb_static.specs.declared.reach.Reached.{Reached}
 use Rattle.lb_static.specs.declared.resolved.CallId.{CallId}
 use Rattle.lb_static.specs.declared.resolved.ResolvedNode.{ResolvedNode}
-use Rattle.lb_static.specs.declared.resolved.Step.{Step}
-use Rattle.lb_static.specs.declared.resolved.Step.TheVariants as step
-use Rattle.lb_static.specs.declared.resolved.Term.{Term, Literal, Truth, Variable, Value, Group', Unary', Binary', If', Arrow', Fby', Pre', Current', When', Copies', Index', Slice', Join', Array', AtMostOne', Nor', Call', IterateNode', IterateSymbol', Row_of-Term, end_of-Term, more_of-Term}
+use Rattle.lb_static.specs.declared.resolved.ResolvedStatement.{ResolvedStatement}
+use Rattle.lb_static.specs.declared.resolved.ResolvedStatement.TheVariants as statement
+use Rattle.lb_static.specs.declared.resolved.Term.{Term, Literal, Truth, Variable, Value, Group', Unary', Binary', If', Arrow', Fby', Pre', Current', When', Replicate', Index', Slice', Join', Array', AtMostOne', Nor', Call', IterateNode', IterateSymbol', Row_of-Term, end_of-Term, more_of-Term}
 use Rattle.lb_static.specs.declared.table.Specialization.{Specialization}
 use Rattle.lb_static.specs.declared.table.Table.{Table}
 use Rattle.lb_static.specs.InstanceTable.{instance_of}
 use Rattle.lb_static.specs.Instances.{Program, Instance, Root, Child, Site, callee_of, node_named, static_value}
 use Rattle.lb_static.specs.ReachedNodes.{source_names}
 use Rattle.lb_static.specs.ResolvedNodes.{IsResolved, node_of, counts_of}
-use Rattle.lb_static.specs.ResolvedTerms.{is_call, is_static, is_variable, is_within, are_within, is_step_within}
-use Rattle.lb_static.specs.Shapes.{Shape, truth, is_shape, are_shapes}
+use Rattle.lb_static.specs.ResolvedTerms.{is_call, is_static, is_variable, is_within, are_within, is_statement_within}
+use Rattle.lb_static.specs.DataTypes.{DataType, truth, is_type, are_types}
 use Rattle.lb_check.specs.JudgedPrograms.{IsJudged}
-use Rattle.lb_check.specs.Standings.{is_single, are_single, calls_single, is_single_within, is_step_single}
-use Rattle.lb_check.specs.TermTypes.{Context, Signature, context_of, declared_type, declared_types, signature_of, callee_at, callee_signature, signature_at, are_typed, is_specialization_typed, is_variable_typed, is_step_typed, is_node_typed, are_equal, results, type_of, types_in, when_truth}
+use Rattle.lb_check.specs.ClockSets.{is_single, are_single, calls_single, is_single_within, is_statement_single}
+use Rattle.lb_check.specs.TermTypes.{Context, Signature, context_of, declared_type, declared_types, signature_of, callee_at, callee_signature, signature_at, are_typed, is_specialization_typed, is_variable_typed, is_resolved_statement_typed, is_node_typed, are_equal, results, type_of, types_in, when_truth}
 use Rattle.lb_check.specs.Types.{only, singly}
-use Rattle.lb_check.proofs.FittedCalls.{standing}
+use Rattle.lb_check.proofs.FittedCalls.{specialized_instance}
 use Rattle.lb_check.proofs.MirroredTypes.{results_only}
 use Rattle.lb_check.proofs.NamedClocks.{bound}
 use Rattle.lb_check.proofs.NodePlaces.{all_at}
@@ -49,44 +49,44 @@ third_some : {A B C D : Type 0} (o : Option A) (p : Option B) (q : Option C)
 third_some None p q f e = absurd cc
 third_some (Some a) p q f e = second_some p q (f a) e
 
-under_truth : (c o : Option Shape) → is_some (when_truth c o) ≡ true → is_some o ≡ true
+under_truth : (c o : Option DataType) → is_some (when_truth c o) ≡ true → is_some o ≡ true
 under_truth None o e = absurd cc
-under_truth (Some c) o e = by (is_shape truth c) e
+under_truth (Some c) o e = by (is_type truth c) e
   where
     by : (b : Bool) → is_some (where_true b c >>= λ _. o) ≡ true → is_some o ≡ true
     by true e = e
     by false e = absurd cc
 
-one_some : (o : Option Shape) → is_some (singly o) ≡ true → is_some o ≡ true
+one_some : (o : Option DataType) → is_some (singly o) ≡ true → is_some o ≡ true
 one_some None e = absurd cc
 one_some (Some t) e = refl
 
-only_one : (ts : List Shape) → is_some (only ts) ≡ true → length ts ≡ 1
+only_one : (ts : List DataType) → is_some (only ts) ≡ true → length ts ≡ 1
 only_one [] e = absurd cc
 only_one (t ∷ []) e = refl
 only_one (t ∷ u ∷ ts) e = absurd cc
 
 -- a call with one type has one result
-one_result : (ts : Option (List Shape)) (o : Option Signature)
-    → is_some (ts >>= (λ ts. o >>= λ o. where_true (are_shapes o.0 ts) o.1) >>= only) ≡ true
+one_result : (ts : Option (List DataType)) (o : Option Signature)
+    → is_some (ts >>= (λ ts. o >>= λ o. where_true (are_types o.0 ts) o.1) >>= only) ≡ true
     → (g : Signature) × (o ≡ Some g) × (length g.1 ≡ 1)
 one_result None o e = absurd cc
 one_result (Some ts) None e = absurd cc
-one_result (Some ts) (Some g) e = (g, refl, only_one g.1 (by (are_shapes g.0 ts) e))
+one_result (Some ts) (Some g) e = (g, refl, only_one g.1 (by (are_types g.0 ts) e))
   where
     by : (b : Bool) → is_some (where_true b g.1 >>= only) ≡ true → is_some (only g.1) ≡ true
     by true e = e
     by false e = absurd cc
 
 -- what is a truth has one type
-one_truth : (o : Option (List Shape)) → are_equal o (Some (truth ∷ [])) ≡ true →
+one_truth : (o : Option (List DataType)) → are_equal o (Some (truth ∷ [])) ≡ true →
     is_some (o >>= only) ≡ true
 one_truth None e = absurd cc
 one_truth (Some []) e = absurd cc
 one_truth (Some (t ∷ [])) e = refl
-one_truth (Some (t ∷ u ∷ ts)) e = let no = and_second (is_shape t truth) false e in absurd cc
+one_truth (Some (t ∷ u ∷ ts)) e = let no = and_second (is_type t truth) false e in absurd cc
 
-equal_some : (o p : Option (List Shape)) → are_equal o p ≡ true → is_some o ≡ true
+equal_some : (o p : Option (List DataType)) → are_equal o p ≡ true → is_some o ≡ true
 equal_some None p e = absurd cc
 equal_some (Some ts) p e = refl
 
@@ -132,7 +132,7 @@ signature_outputs statics names n g resolved e =
     ∙ length-map (take n.outputs (drop n.inputs n.variables.items)) (declared_type statics)
     ∙ outputs_there names n resolved
   where
-    second_of : (a b : List Shape) (g : Signature) →
+    second_of : (a b : List DataType) (g : Signature) →
         ◌≡◌ {A = Option Signature} (Some (a, b)) (Some g) → b ≡ g.1
     second_of a b g e = let same : ◌≡◌ {A = Signature} (a, b) g = cc in ap (λ p. p.1) same
 
@@ -170,9 +170,10 @@ module _ (P : Program) (r : Reached) (t : Table) (j : IsJudged P r t) (i : ℕ) 
       sym (signature_outputs called.0.statics.items (source_names P) m.0 g resolved m.2)
       ∙ one in
       let here = instance_of Root (node_of n) s.values.items in
-      let here_is = standing P r t j.reached j.table s n Root at in
+      let here_is = specialized_instance P r t j.reached j.table s n Root at in
       let site = site_found P r j.names j.reached s.node.0 n at c w in
-      let there = standing P r t j.reached j.table called.0 m.0 (Child Root c.0 0) m.1 in
+      let there = specialized_instance P r t j.reached j.table called.0 m.0 (Child Root c.0 0)
+      m.1 in
       let same = (j.table.specialized i s is).0.callees here here_is c.0 site.0 site.1 id.0 id.1
       called.0 id.2 in
       let named : node_named P site.0.callee ≡ Some (node_of m.0) =
@@ -191,8 +192,8 @@ module _ (P : Program) (r : Reached) (t : Table) (j : IsJudged P r t) (i : ℕ) 
   abbrev ctx : Context
   ctx = context_of r t n s
 
-  typed_call : (c : CallId) → is_call (counts_of n) c ≡ true → (ts : Option (List Shape))
-      → is_some (ts >>= (λ ts. ctx.call c >>= λ o. where_true (are_shapes o.0 ts) o.1) >>= only) ≡
+  typed_call : (c : CallId) → is_call (counts_of n) c ≡ true → (ts : Option (List DataType))
+      → is_some (ts >>= (λ ts. ctx.call c >>= λ o. where_true (are_types o.0 ts) o.1) >>= only) ≡
       true → calls_single r n c ≡ true
   unfolding context_of
   typed_call c w ts e =
@@ -240,7 +241,7 @@ module _ (P : Program) (r : Reached) (t : Table) (j : IsJudged P r t) (i : ℕ) 
     term_single (When' p e x sign) w h =
         term_single e (and_second (is_variable (counts_of n) x) _ w)
         (under_truth (ctx.variable x) (type_of ctx e) h)
-    term_single (Copies' p e k) w h =
+    term_single (Replicate' p e k) w h =
         term_single e (and_second (is_static (counts_of n) k) _ w)
         (second_some (ctx.count k) (type_of ctx e) _ h)
     term_single (Index' p e k) w h =
@@ -255,21 +256,21 @@ module _ (P : Program) (r : Reached) (t : Table) (j : IsJudged P r t) (i : ℕ) 
         (first_some (type_of ctx a) _ h))
         (term_single b (and_second (is_within (counts_of n) a) _ w)
         (second_some (type_of ctx a) (type_of ctx b) _ h))
-    term_single (Array' shape all) w h =
+    term_single (Array' arity all) w h =
         row_single all w (first_some (types_in ctx all) _ (first_some _ only h))
-    term_single (AtMostOne' shape all) w h =
+    term_single (AtMostOne' arity all) w h =
         row_single all w (first_some (types_in ctx all) _ (first_some _ only h))
-    term_single (Nor' shape all) w h =
+    term_single (Nor' arity all) w h =
         row_single all w (first_some (types_in ctx all) _ (first_some _ only h))
-    term_single (Call' c shape all) w h =
+    term_single (Call' c arity all) w h =
         both_true _ _ (typed_call c (and_first _ (are_within (counts_of n) all) w)
         (types_in ctx all) h)
         (row_single all (and_second (is_call (counts_of n) c) _ w)
         (first_some (types_in ctx all) _ (first_some _ only h)))
-    term_single (IterateNode' it c shape all) w h =
+    term_single (IterateNode' it c arity all) w h =
         row_single all (and_second (is_call (counts_of n) c) _ w)
         (first_some (types_in ctx all) _ (first_some _ only h))
-    term_single (IterateSymbol' it op k shape all) w h =
+    term_single (IterateSymbol' it op k arity all) w h =
         row_single all (and_second (is_static (counts_of n) k) _ w)
         (first_some (types_in ctx all) _ (first_some _ only h))
 
@@ -286,14 +287,14 @@ module _ (P : Program) (r : Reached) (t : Table) (j : IsJudged P r t) (i : ℕ) 
       is_single_within r n e ≡ true
   unfolding results is_single_within is_single
   right_single (Group' p e) w h = right_single e w h
-  right_single (Array' shape all) w h = row_single all w (first_some (types_in ctx all) _ h)
-  right_single (AtMostOne' shape all) w h = row_single all w (first_some (types_in ctx all) _ h)
-  right_single (Nor' shape all) w h = row_single all w (first_some (types_in ctx all) _ h)
-  right_single (Call' c shape all) w h =
+  right_single (Array' arity all) w h = row_single all w (first_some (types_in ctx all) _ h)
+  right_single (AtMostOne' arity all) w h = row_single all w (first_some (types_in ctx all) _ h)
+  right_single (Nor' arity all) w h = row_single all w (first_some (types_in ctx all) _ h)
+  right_single (Call' c arity all) w h =
       row_single all (and_second (is_call (counts_of n) c) _ w) (first_some (types_in ctx all) _ h)
-  right_single (IterateNode' it c shape all) w h =
+  right_single (IterateNode' it c arity all) w h =
       row_single all (and_second (is_call (counts_of n) c) _ w) (first_some (types_in ctx all) _ h)
-  right_single (IterateSymbol' it op k shape all) w h =
+  right_single (IterateSymbol' it op k arity all) w h =
       row_single all (and_second (is_static (counts_of n) k) _ w)
       (first_some (types_in ctx all) _ h)
   right_single (Literal m) w h = refl
@@ -302,33 +303,38 @@ module _ (P : Program) (r : Reached) (t : Table) (j : IsJudged P r t) (i : ℕ) 
   right_single (Value k) w h = refl
   right_single e w h = term_single e w (one_some (type_of ctx e) h)
 
-  step_single : (st : Step) → is_step_within (counts_of n) st ≡ true → is_step_typed ctx st ≡ true →
-      is_step_single r n st ≡ true
-  step_single (step.Equation lefts e) w h =
+  statement_single : (st : ResolvedStatement) → is_statement_within (counts_of n) st ≡ true
+      → is_resolved_statement_typed ctx st ≡ true →
+      is_statement_single r n st ≡ true
+  statement_single (statement.Equation lefts e) w h =
       right_single e (and_second (list_all (is_variable (counts_of n)) lefts.items) _ w)
       (equal_some (results ctx e) _ h)
-  step_single (step.Assertion e) w h =
+  statement_single (statement.Assertion e) w h =
       term_single e w (sym (ap is_some (results_only ctx e)) ∙ one_truth (results ctx e) h)
 
-  steps_single : (ss : List Step) → list_all (is_step_within (counts_of n)) ss ≡ true →
-      list_all (is_step_typed ctx) ss ≡ true → list_all (is_step_single r n) ss ≡ true
-  steps_single [] w h = refl
-  steps_single (st ∷ ss) w h =
-      both_true _ _ (step_single st (and_first _ (list_all (is_step_within (counts_of n)) ss) w)
-      (and_first _ (list_all (is_step_typed ctx) ss) h))
-      (steps_single ss (and_second (is_step_within (counts_of n) st) _ w)
-      (and_second (is_step_typed ctx st) _ h))
+  statements_single : (ss : List ResolvedStatement)
+      → list_all (is_statement_within (counts_of n)) ss ≡ true →
+      list_all (is_resolved_statement_typed ctx) ss ≡ true
+      → list_all (is_statement_single r n) ss ≡ true
+  statements_single [] w h = refl
+  statements_single (st ∷ ss) w h =
+      both_true _ _ (statement_single st
+      (and_first _ (list_all (is_statement_within (counts_of n)) ss) w)
+      (and_first _ (list_all (is_resolved_statement_typed ctx) ss) h))
+      (statements_single ss (and_second (is_statement_within (counts_of n) st) _ w)
+      (and_second (is_resolved_statement_typed ctx st) _ h))
 
 -- in the node of each specialization each call has one result, but for one that is a whole right
 -- side
-pub single_steps : (P : Program) (r : Reached) (t : Table) → IsJudged P r t → are_typed r t ≡ true
+pub single_statements : (P : Program) (r : Reached) (t : Table) → IsJudged P r t
+    → are_typed r t ≡ true
     → (i : ℕ) (s : Specialization) (n : ResolvedNode) →
     slice_get t.specializations.items i ≡ Some s → slice_get r.nodes.items s.node.0 ≡ Some n
-    → list_all (is_step_single r n) n.body.items ≡ true
-single_steps P r t j typed i s n is at =
+    → list_all (is_statement_single r n) n.body.items ≡ true
+single_statements P r t j typed i s n is at =
     let resolved = node_resolved P r j.names j.reached s.node.0 n at in
     let one = all_at (is_specialization_typed r t) t.specializations.items i s typed is in
     let node : is_node_typed (context_of r t n s) n ≡ true =
     sym (ap (holds (λ m. is_node_typed (context_of r t m s) m)) at) ∙ one in
-    steps_single P r t j i s n is at n.body.items resolved.body_within
+    statements_single P r t j i s n is at n.body.items resolved.body_within
     (and_second (list_all (is_variable_typed (context_of r t n s)) n.variables.items) _ node)

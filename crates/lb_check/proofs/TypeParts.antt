@@ -5,9 +5,9 @@ use Rattle.lb_syntax.specs.declared.tree.UnaryOperator.{UnaryOperator}
 use Rattle.lb_syntax.specs.Lists.{◌>>=◌, where_true}
 use Rattle.lb_static.specs.declared.resolved.StaticId.{StaticId}
 use Rattle.lb_static.specs.declared.resolved.VariableId.{VariableId}
-use Rattle.lb_static.specs.declared.resolved.Term.{Term, Literal, Value, Group, Unary, Pre, Current, When, Copies, Index, Slice, Binary, Arrow, Fby, Join, If}
-use Rattle.lb_static.specs.Shapes.{Shape, int, truth, is_shape}
-use Rattle.lb_check.specs.Types.{array_of, index_shape, slice_shape}
+use Rattle.lb_static.specs.declared.resolved.Term.{Term, Literal, Value, Group, Unary, Pre, Current, When, Replicate, Index, Slice, Binary, Arrow, Fby, Join, If}
+use Rattle.lb_static.specs.DataTypes.{DataType, int, truth, is_type}
+use Rattle.lb_check.specs.Types.{array_of, index_type, slice_type}
 use Rattle.lb_check.specs.TermTypes.{Context, one_type, two_types, type_of, when_truth}
 
 -- a number
@@ -24,11 +24,11 @@ abbrev pub IsSingle : Term → Box Term Global → Type 0
 IsSingle t e =
     (t ≡ Group e) ⊎ (((op : UnaryOperator) × (t ≡ Unary op e)) ⊎ ((t ≡ Pre e) ⊎ ((t ≡ Current e)
     ⊎ (((x : VariableId) × (sign : Bool) × (t ≡ When e x sign))
-    ⊎ (((n : StaticId) × (t ≡ Copies e n))
+    ⊎ (((n : StaticId) × (t ≡ Replicate e n))
     ⊎ (((i : StaticId) × (t ≡ Index e i))
     ⊎ ((i : StaticId) × (j : StaticId) × (t ≡ Slice e i j))))))))
 
-pub single_type : (ctx : Context) (t : Term) (e : Box Term Global) (s : Shape) → IsSingle t e →
+pub single_type : (ctx : Context) (t : Term) (e : Box Term Global) (s : DataType) → IsSingle t e →
     type_of ctx e.value ≡ Some s
     → one_type ctx t s ≡ type_of ctx t
 unfolding type_of
@@ -41,20 +41,21 @@ single_type ctx t e s (inr (inr (inr (inr (inr (inl (n, is))))))) h = rw (is, h)
 single_type ctx t e s (inr (inr (inr (inr (inr (inr (inl (i, is)))))))) h = rw (is, h) refl
 single_type ctx t e s (inr (inr (inr (inr (inr (inr (inr (i, j, is)))))))) h = rw (is, h) refl
 
-no_truth : (o : Option Shape) → when_truth o None ≡ None
+no_truth : (o : Option DataType) → when_truth o None ≡ None
 no_truth None = refl
-no_truth (Some t) = by (is_shape truth t) t
+no_truth (Some t) = by (is_type truth t) t
   where
-    by : (b : Bool) (t : Shape) →
-        (where_true b t >>= λ _. let none : Option Shape = None in none) ≡ None
+    by : (b : Bool) (t : DataType) →
+        (where_true b t >>= λ _. let none : Option DataType = None in none) ≡ None
     by true t = refl
     by false t = refl
 
-no_count : (o : Option ℕ) → (o >>= λ _. let none : Option Shape = None in none) ≡ None
+no_count : (o : Option ℕ) → (o >>= λ _. let none : Option DataType = None in none) ≡ None
 no_count None = refl
 no_count (Some n) = refl
 
-no_slice : (o p : Option ℕ) → (o >>= λ _. p >>= λ _. let none : Option Shape = None in none) ≡ None
+no_slice : (o p : Option ℕ)
+    → (o >>= λ _. p >>= λ _. let none : Option DataType = None in none) ≡ None
 no_slice None p = refl
 no_slice (Some n) p = no_count p
 
@@ -70,10 +71,10 @@ single_none ctx t e (inr (inr (inr (inr (inl (x, sign, is)))))) h =
 single_none ctx t e (inr (inr (inr (inr (inr (inl (n, is))))))) h =
     ap (type_of ctx) is ∙ ap (λ o. ctx.count n >>= λ n. o >>= array_of n) h ∙ no_count (ctx.count n)
 single_none ctx t e (inr (inr (inr (inr (inr (inr (inl (i, is)))))))) h =
-    ap (type_of ctx) is ∙ ap (λ o. ctx.count i >>= λ i. o >>= index_shape i) h
+    ap (type_of ctx) is ∙ ap (λ o. ctx.count i >>= λ i. o >>= index_type i) h
     ∙ no_count (ctx.count i)
 single_none ctx t e (inr (inr (inr (inr (inr (inr (inr (i, j, is)))))))) h =
-    ap (type_of ctx) is ∙ ap (λ o. ctx.count i >>= λ i. ctx.count j >>= λ j. o >>= slice_shape i j)
+    ap (type_of ctx) is ∙ ap (λ o. ctx.count i >>= λ i. ctx.count j >>= λ j. o >>= slice_type i j)
     h ∙ no_slice (ctx.count i) (ctx.count j)
 
 -- a term with these two operands, or with these branches of a choice
@@ -82,7 +83,7 @@ IsPair t a b =
     ((op : BinaryOperator) × (t ≡ Binary op a b)) ⊎ ((t ≡ Arrow a b) ⊎ ((t ≡ Fby a b)
     ⊎ ((t ≡ Join a b) ⊎ ((c : Box Term Global) × (t ≡ If c a b)))))
 
-pub pair_type : (ctx : Context) (t : Term) (a b : Box Term Global) (o p : Option Shape) →
+pub pair_type : (ctx : Context) (t : Term) (a b : Box Term Global) (o p : Option DataType) →
     IsPair t a b
     → o ≡ type_of ctx a.value → p ≡ type_of ctx b.value → two_types ctx t o p ≡ type_of ctx t
 unfolding type_of

@@ -8,7 +8,7 @@ use Rattle.lb_syntax.specs.Lists.{◌>>=◌, all_some}
 use Rattle.lb_static.specs.declared.resolved.CallId.{CallId}
 use Rattle.lb_static.specs.declared.resolved.StaticId.{StaticId}
 use Rattle.lb_static.specs.declared.resolved.Term.{Term, Array, AtMostOne, Nor, Call, IterateNode, IterateSymbol, Array', AtMostOne', Nor', Call', IterateNode', IterateSymbol', Row_of-Term, end_of-Term, more_of-Term, items-the_row-Term, items_hidden-the_row-Term-0}
-use Rattle.lb_static.specs.Shapes.{Shape}
+use Rattle.lb_static.specs.DataTypes.{DataType}
 use Rattle.lb_check.specs.Types.{only}
 use Rattle.lb_check.specs.TermTypes.{Context, type_of, types_in, types_of, results, row_results}
 
@@ -20,12 +20,13 @@ types_items ctx n (more_of-Term e rest) =
     ap (λ p. type_of ctx e >>= λ t. p >>= λ ts. Some (t ∷ ts)) (types_items ctx _ rest)
     ∙ by (type_of ctx e) (map (type_of ctx) (items-the_row-Term _ rest))
   where
-    by : (o : Option Shape) (os : List (Option Shape)) →
+    by : (o : Option DataType) (os : List (Option DataType)) →
         (o >>= λ t. all_some os >>= λ ts. Some (t ∷ ts)) ≡ all_some (o ∷ os)
     by None os = refl
     by (Some t) os = last (all_some os)
       where
-        last : (p : Option (List Shape)) → (p >>= λ ts. Some (t ∷ ts)) ≡ option_map (λ ts. t ∷ ts) p
+        last : (p : Option (List DataType))
+            → (p >>= λ ts. Some (t ∷ ts)) ≡ option_map (λ ts. t ∷ ts) p
         last None = refl
         last (Some ts) = refl
 

@@ -8,8 +8,8 @@ use Rattle.lb_syntax.specs.Tree.{Name, Node}
 use Rattle.lb_static.specs.declared.reach.Reached.{Reached}
 use Rattle.lb_static.specs.declared.resolved.ResolvedNode.{ResolvedNode}
 use Rattle.lb_static.specs.declared.resolved.Sampling.{Sampling}
-use Rattle.lb_static.specs.declared.resolved.Step.{Step}
-use Rattle.lb_static.specs.declared.resolved.Step.TheVariants as step
+use Rattle.lb_static.specs.declared.resolved.ResolvedStatement.{ResolvedStatement}
+use Rattle.lb_static.specs.declared.resolved.ResolvedStatement.TheVariants as statement
 use Rattle.lb_static.specs.declared.resolved.Variable.{Variable as Declared}
 use Rattle.lb_static.specs.declared.resolved.VariableId.{VariableId}
 use Rattle.lb_static.specs.declared.table.Specialization.{Specialization}
@@ -20,15 +20,15 @@ use Rattle.lb_static.specs.Names.{are_distinct, is_named, declares_once, reached
 use Rattle.lb_static.specs.Parts.{variable_names}
 use Rattle.lb_static.specs.ReachedNodes.{source_names, trees}
 use Rattle.lb_static.specs.ResolvedNodes.{IsResolved, node_of, statics_of, texts_of, counts_of}
-use Rattle.lb_static.specs.ResolvedTerms.{name_at, declaration_of, sampling_of, statement_of, is_variable, is_within, is_step_within, is_step_unhidden, are_statics, is_sampling_within, is_declared_within}
-use Rattle.lb_static.specs.Shapes.{Shape, truth, is_shape, variables}
-use Rattle.lb_static.specs.Walk.{are_same}
+use Rattle.lb_static.specs.ResolvedTerms.{name_at, declaration_of, sampling_of, statement_of, is_variable, is_within, is_statement_within, is_statement_unhidden, are_statics, is_sampling_within, is_declared_within}
+use Rattle.lb_static.specs.DataTypes.{DataType, truth, is_type, variables}
+use Rattle.lb_static.specs.Instantiation.{are_same}
 use Rattle.lb_check.specs.JudgedPrograms.{IsJudged}
-use Rattle.lb_check.specs.TypeRules.{declared_shape, is_statement_typed, is_clock_typed, is_typed}
+use Rattle.lb_check.specs.TypeRules.{type_of_name, is_statement_typed, is_clock_typed, is_typed}
 use Rattle.lb_check.specs.TermTypes as mirror
 use Rattle.lb_check.specs.TermTypes.{Context, context_of, results, variable_at, are_equal}
-use Rattle.lb_check.proofs.FittedCalls.{node_at, standing, values_at, call_is}
-use Rattle.lb_check.proofs.FittedScopes.{length_map, variable_is, left_is, value_is, static_is, repeats_is, call_at}
+use Rattle.lb_check.proofs.FittedCalls.{node_at, specialized_instance, values_at, call_is}
+use Rattle.lb_check.proofs.FittedEnvs.{length_map, variable_is, left_is, value_is, static_is, repeats_is, call_at}
 use Rattle.lb_check.proofs.MirroredTypes.{Fits, term_results}
 use Rattle.lb_check.proofs.DistinctNames.{distinct_first}
 use Rattle.lb_check.proofs.TableRows.{each_judged}
@@ -60,7 +60,7 @@ distinct P r t j k n at =
 
 -- ## Statements
 
-same_is : (P : Program) (o p : Option (List Shape)) → are_same P o p ≡ are_equal o p
+same_is : (P : Program) (o p : Option (List DataType)) → are_same P o p ≡ are_equal o p
 same_is P None None = refl
 same_is P None (Some ts) = refl
 same_is P (Some ss) None = refl
@@ -97,55 +97,58 @@ module _ (P : Program) (r : Reached) (t : Table) (j : IsJudged P r t) (i : ℕ) 
   }
 
   left : (x : VariableId) → is_variable (counts_of n) x ≡ true →
-      declared_shape P here (name_at names x) ≡ ctx.variable x
+      type_of_name P here (name_at names x) ≡ ctx.variable x
   unfolding context_of
   left x w = left_is P r t s n p resolved distinct_here valued x w
 
   lefts : (xs : List VariableId) → list_all (is_variable (counts_of n)) xs ≡ true
-      → map (declared_shape P here) (map (name_at names) xs) ≡ map ctx.variable xs
+      → map (type_of_name P here) (map (name_at names) xs) ≡ map ctx.variable xs
   lefts [] w = refl
   lefts (x ∷ xs) w =
       rw (left x (and_first _ (list_all (is_variable (counts_of n)) xs) w))
-      (ap (λ (os : List (Option Shape)). ctx.variable x ∷ os)
+      (ap (λ (os : List (Option DataType)). ctx.variable x ∷ os)
       (lefts xs (and_second (is_variable (counts_of n) x) _ w)))
 
-  step_is : (st : Step) → is_step_within (counts_of n) st ≡ true →
-      is_step_unhidden (texts_of n) st ≡ true
-      → is_statement_typed P here (statement_of (texts_of n) st) ≡ mirror.is_step_typed ctx st
-  step_is (step.Equation xs e) w u =
+  resolved_statement_is : (st : ResolvedStatement) → is_statement_within (counts_of n) st ≡ true →
+      is_statement_unhidden (texts_of n) st ≡ true
+      → is_statement_typed P here (statement_of (texts_of n) st)
+      ≡ mirror.is_resolved_statement_typed ctx st
+  resolved_statement_is (statement.Equation xs e) w u =
       let wx = and_first _ (is_within (counts_of n) e) w in
       let we = and_second (list_all (is_variable (counts_of n)) xs.items) _ w in
-      ap (λ o. are_same P o (all_some (map (declared_shape P here) (map (name_at names) xs.items))))
+      ap (λ o. are_same P o (all_some (map (type_of_name P here) (map (name_at names) xs.items))))
       (term_results P here (texts_of n) (counts_of n) ctx fits e we u)
       ∙ ap (λ os. are_same P (results ctx e) (all_some os)) (lefts xs.items wx)
       ∙ same_is P (results ctx e) _
-  step_is (step.Assertion e) w u =
+  resolved_statement_is (statement.Assertion e) w u =
       ap (λ o. are_same P o (Some (truth ∷ [])))
       (term_results P here (texts_of n) (counts_of n) ctx fits e w u)
       ∙ same_is P (results ctx e) _
 
-  steps_are : (ss : List Step) → list_all (is_step_within (counts_of n)) ss ≡ true →
-      list_all (is_step_unhidden (texts_of n)) ss ≡ true
+  resolved_statements_are : (ss : List ResolvedStatement)
+      → list_all (is_statement_within (counts_of n)) ss ≡ true →
+      list_all (is_statement_unhidden (texts_of n)) ss ≡ true
       → list_all (is_statement_typed P here) (map (statement_of (texts_of n)) ss) ≡ list_all
-      (mirror.is_step_typed ctx) ss
-  steps_are [] w u = refl
-  steps_are (st ∷ ss) w u =
-      let a = step_is st (and_first _ (list_all (is_step_within (counts_of n)) ss) w)
-      (and_first _ (list_all (is_step_unhidden (texts_of n)) ss) u) in
-      let b = steps_are ss (and_second (is_step_within (counts_of n) st) _ w)
-      (and_second (is_step_unhidden (texts_of n) st) _ u) in
-      rw a (ap (λ z. mirror.is_step_typed ctx st && z) b)
+      (mirror.is_resolved_statement_typed ctx) ss
+  resolved_statements_are [] w u = refl
+  resolved_statements_are (st ∷ ss) w u =
+      let a = resolved_statement_is st
+      (and_first _ (list_all (is_statement_within (counts_of n)) ss) w)
+      (and_first _ (list_all (is_statement_unhidden (texts_of n)) ss) u) in
+      let b = resolved_statements_are ss (and_second (is_statement_within (counts_of n) st) _ w)
+      (and_second (is_statement_unhidden (texts_of n) st) _ u) in
+      rw a (ap (λ z. mirror.is_resolved_statement_typed ctx st && z) b)
 
   -- ## Clocks
 
   clock_is : (o : Option Sampling) → is_sampling_within (counts_of n) o ≡ true
-      → list_all (λ c. holds (is_shape truth) (declared_shape P here c.variable))
+      → list_all (λ c. holds (is_type truth) (type_of_name P here c.variable))
       (listed (λ c. c ∷ []) (option_map (sampling_of names) o))
       ≡ mirror.is_clock_typed ctx o
   clock_is None w = refl
   clock_is (Some c) w = and_true
-      (holds (is_shape truth) (declared_shape P here (name_at names c.variable)))
-      ∙ ap (holds (is_shape truth)) (left c.variable w)
+      (holds (is_type truth) (type_of_name P here (name_at names c.variable)))
+      ∙ ap (holds (is_type truth)) (left c.variable w)
 
   clocks_are : (xs : List Name) (vs : List Declared) → length vs ≡ length xs →
       list_all (is_declared_within (counts_of n)) vs ≡ true
@@ -170,10 +173,10 @@ module _ (P : Program) (r : Reached) (t : Table) (j : IsJudged P r t) (i : ℕ) 
       ∙ clocks_are names n.variables.items
       (resolved.as_many ∙ sym (length_map (λ d. d.name) (variables node)))
       resolved.declared_within in
-      let steps = ap (list_all (is_statement_typed P here)) (sym resolved.body)
-      ∙ steps_are n.body.items resolved.body_within resolved.unhidden in
+      let statements = ap (list_all (is_statement_typed P here)) (sym resolved.body)
+      ∙ resolved_statements_are n.body.items resolved.body_within resolved.unhidden in
       ap (λ b. b && list_all (is_statement_typed P here) node.body) clocks
-      ∙ ap (λ b. list_all (mirror.is_variable_typed ctx) n.variables.items && b) steps
+      ∙ ap (λ b. list_all (mirror.is_variable_typed ctx) n.variables.items && b) statements
 
 -- a specialization is typed where its instance at a path is
 pub specialization_typed : (P : Program) (r : Reached) (t : Table) → IsJudged P r t →
@@ -184,7 +187,7 @@ pub specialization_typed : (P : Program) (r : Reached) (t : Table) → IsJudged 
 specialization_typed P r t j i s is p here e =
     let n = node_at P r t j.reached j.table s (j.table.specialized i s is).0 in
     let same : Some (instance_of p (node_of n.0) s.values.items) ≡ Some here =
-    sym (standing P r t j.reached j.table s n.0 p n.1) ∙ e in
+    sym (specialized_instance P r t j.reached j.table s n.0 p n.1) ∙ e in
     let one : instance_of p (node_of n.0) s.values.items ≡ here = cc in
     subst (λ h. is_typed P h ≡ mirror.is_specialization_typed r t s) one
     (node_typed P r t j i s is n.0 n.1 n.2 p

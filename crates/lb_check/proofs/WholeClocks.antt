@@ -16,16 +16,16 @@ use Rattle.lb_static.specs.InstanceTable.{instance_of}
 use Rattle.lb_static.specs.Instances.{Program, Instance, Root, Child, Site, callee_of, instances, node_named, node_sites, static_value}
 use Rattle.lb_static.specs.ReachedNodes.{id_at, source_names, tree_at}
 use Rattle.lb_static.specs.ResolvedNodes.{IsResolved, node_of, statics_of, texts_of}
-use Rattle.lb_static.specs.ResolvedTerms.{site_of, is_step_unhidden}
+use Rattle.lb_static.specs.ResolvedTerms.{site_of, is_statement_unhidden}
 use Rattle.lb_check.specs.ClockRules.{are_declared_clocks, is_clocked}
 use Rattle.lb_check.specs.JudgedPrograms.{IsJudged}
 use Rattle.lb_check.specs.NodeClocks.{is_node_clocked, is_clocked_at, are_clocked_at}
 use Rattle.lb_check.specs.OwnClocks.{HasClocks}
-use Rattle.lb_check.specs.Standings.{SeesClocks, is_step_single}
+use Rattle.lb_check.specs.ClockSets.{SeesClocks, is_statement_single}
 use Rattle.lb_check.specs.TermClocks.{callee_in, is_body_clocked}
 use Rattle.lb_check.specs.TermTypes.{are_typed}
 use Rattle.lb_check.specs.TypeRules.{is_typed}
-use Rattle.lb_check.proofs.FittedCalls.{at_place, node_at, standing}
+use Rattle.lb_check.proofs.FittedCalls.{at_place, node_at, specialized_instance}
 use Rattle.lb_check.proofs.NodeClocks.{resolved_at, clocks_at}
 use Rattle.lb_check.proofs.NodePlaces.{all_at, named_at}
 use Rattle.lb_check.proofs.Specializations.{all_specializations}
@@ -126,7 +126,7 @@ module _ (P : Program) (r : Reached) (t : Table) (j : IsJudged P r t) where
       ∙ ap (option_map (site_of (source_names P) (statics_of n))) found.2 in
       let sp = j.table.specialized i s is in
       let root = instance_of Root (node_of n) s.values.items in
-      let root_is = standing P r t j.reached j.table s n Root at in
+      let root_is = specialized_instance P r t j.reached j.table s n Root at in
       let as_many = sp.0.as_many root root_is in
       let here_lt = slice_get_within (node_sites (node_of n)) c.0 site site_is in
       let called : c.0 < length s.callees.items = omega (arith, as_many, here_lt) in
@@ -140,7 +140,7 @@ module _ (P : Program) (r : Reached) (t : Table) (j : IsJudged P r t) where
       let callee_n = node_at P r t j.reached j.table callee.0 callee_sp.0 in
       let below = Child Root c.0 0 in
       let same = sp.0.callees root root_is c.0 site site_is id.0 id.1 callee.0 callee.1
-      ∙ standing P r t j.reached j.table callee.0 callee_n.0 below callee_n.1 in
+      ∙ specialized_instance P r t j.reached j.table callee.0 callee_n.0 below callee_n.1 in
       let by_table : node_named P site.callee ≡ Some (node_of callee_n.0) =
       called_node root site c.0 0 (instance_of below (node_of callee_n.0) callee.0.values.items)
       same in
@@ -205,20 +205,20 @@ module _ (P : Program) (r : Reached) (t : Table) (j : IsJudged P r t) where
       ∙ all_at by_tree t.specializations.items i s all is)
 
   module _ (node_clocked : (n : ResolvedNode) → SeesClocks P r n →
-      list_all (is_step_unhidden (texts_of n)) n.body.items ≡ true
-      → list_all (is_step_single r n) n.body.items ≡ true →
+      list_all (is_statement_unhidden (texts_of n)) n.body.items ≡ true
+      → list_all (is_statement_single r n) n.body.items ≡ true →
       is_clocked P (node_of n) ≡ is_body_clocked r n)
-      (single_steps : are_typed r t ≡ true → (i : ℕ) (s : Specialization) (n : ResolvedNode) →
+      (single_statements : are_typed r t ≡ true → (i : ℕ) (s : Specialization) (n : ResolvedNode) →
       slice_get t.specializations.items i ≡ Some s
       → slice_get r.nodes.items s.node.0 ≡ Some n →
-      list_all (is_step_single r n) n.body.items ≡ true)
+      list_all (is_statement_single r n) n.body.items ≡ true)
       (typed : list_all (is_typed P) (instances P) ≡ true) where
     one_is : (i : ℕ) → AreDeclared i → (s : Specialization) →
         slice_get t.specializations.items i ≡ Some s → IsDeclared s
         → is_clocked_at r s.node ≡ by_tree s
     one_is i all s is own =
         let n = node_at P r t j.reached j.table s (j.table.specialized i s is).0 in
-        let single = single_steps (instances_typed P r t j ∙ typed) i s n.0 is n.1 in
+        let single = single_statements (instances_typed P r t j ∙ typed) i s n.0 is n.1 in
         let body = node_clocked n.0 (sees i all s is n.0 n.1 (own n.0 n.1)) n.2.unhidden single in
         ap (holds (is_node_clocked r)) n.1 ∙ ap (λ b. b && is_body_clocked r n.0) (own n.0 n.1)
         ∙ sym body

@@ -5,7 +5,7 @@ use Rattle.std.specs.List.{list_all}
 use Rattle.lb_syntax.specs.Lists.{or_else}
 use Rattle.lb_syntax.specs.Refusals.{Refusal, E9, E10, E11, E12, E13, unless}
 use Rattle.lb_static.specs.Instances.{Program, instances}
-use Rattle.lb_static.specs.Walk.{static_refusal}
+use Rattle.lb_static.specs.Instantiation.{static_refusal}
 use Rattle.lb_check.specs.TypeRules.{is_typed, is_small}
 use Rattle.lb_check.specs.ClockRules.{is_clocked}
 use Rattle.lb_check.specs.DefinitionRules.{is_defined}

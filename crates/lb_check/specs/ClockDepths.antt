@@ -20,9 +20,9 @@ LeadsTo vs zero x y = x ≡ y
 LeadsTo vs (suc k) x y = (z : ℕ) × (awaited vs x ≡ Some z) × LeadsTo vs k z y
 
 -- the declared clock of a variable stands so deep
-unfoldable pub StandsAt : List Variable → ℕ → ℕ → Type 0
-StandsAt vs zero x = awaited vs x ≡ None
-StandsAt vs (suc d) x = (z : ℕ) × (awaited vs x ≡ Some z) × StandsAt vs d z
+unfoldable pub HasDepth : List Variable → ℕ → ℕ → Type 0
+HasDepth vs zero x = awaited vs x ≡ None
+HasDepth vs (suc d) x = (z : ℕ) × (awaited vs x ≡ Some z) × HasDepth vs d z
 
 -- how deep it stands, where variables wait for others less than n deep
 unfoldable pub depth_within : ℕ → List Variable → ℕ → Option ℕ
@@ -36,7 +36,7 @@ depth_within (suc n) vs x = depth_from (depth_within n vs) (awaited vs x)
 -- these depths are right, as far as they are known
 pub record AreDepths (vs : List Variable) (depths : List (Option ℕ)) : Type 0 where
   pub as_many : length depths ≡ length vs
-  pub right : (x d : ℕ) → slice_get depths x ≡ Some (Some d) → StandsAt vs d x
+  pub right : (x d : ℕ) → slice_get depths x ≡ Some (Some d) → HasDepth vs d x
   pub small : (x d : ℕ) → slice_get depths x ≡ Some (Some d) → d ≤ length vs
 
 -- the depth of a variable is known

@@ -68,8 +68,8 @@ is_call_clocked here k es callee =
     || are_clocks (result_clocks k callee es []) (k ∷ []))
 
 -- iterated nodes have no clocked parameters
-abbrev pub is_unclocked_node : Node → Bool
-is_unclocked_node callee =
+abbrev pub is_base_clocked_node : Node → Bool
+is_base_clocked_node callee =
     list_all (λ d. not (is_some d.clock)) (callee.inputs ++ callee.outputs)
 
 -- a node that is named, if it is one, passes a test
@@ -91,7 +91,7 @@ is_on_clock P here k (Variable x) =
 is_on_clock P here k (When a x sign) = is_clock k (On (declared_clock here x) x sign)
 is_on_clock P here k (Current a) = is_just_below k (clock_of P here a)
 is_on_clock P here k (Call f statics es) = if_node P (is_call_clocked here k es) f
-is_on_clock P here k (Iterate it (Node_named f statics) m es) = if_node P is_unclocked_node f
+is_on_clock P here k (Iterate it (Node_named f statics) m es) = if_node P is_base_clocked_node f
 is_on_clock P here k e = true
 
 abbrev pub is_occurrence_clocked : Program → Node → Occurrence → Bool

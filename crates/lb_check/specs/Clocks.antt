@@ -3,10 +3,10 @@
 -- rule.
 use Rattle.std.specs.Prelude.{ℕ, zero, suc, Bool, Option, Some, None, option_map, List, [], ◌∷◌, ◌++◌, map, length}
 use Rattle.lb_syntax.specs.Lists.{◌>>=◌, or_else, either_or, listed}
-use Rattle.lb_syntax.specs.Tree.{Name, Expr, Literal, Truth, Variable, Group, Unary, Binary, If, Arrow, Fby, Pre, Current, When, Copies, Index, Slice, Join, Array, AtMostOne, Nor, Call, Iterate, Exprs, Nil, Cons, Declaration, Sampling, Node}
+use Rattle.lb_syntax.specs.Tree.{Name, Expr, Literal, Truth, Variable, Group, Unary, Binary, If, Arrow, Fby, Pre, Current, When, Replicate, Index, Slice, Join, Array, AtMostOne, Nor, Call, Iterate, Exprs, Nil, Cons, Declaration, Sampling, Node}
 use Rattle.lb_static.specs.StaticValues.{named}
 use Rattle.lb_static.specs.Instances.{Program, node_named}
-use Rattle.lb_static.specs.Shapes.{variables}
+use Rattle.lb_static.specs.DataTypes.{variables}
 
 -- the instants of the base clock, or those of a clock at which a variable has this sign
 pub data Clock : Type 0 where
@@ -158,7 +158,7 @@ abbrev mutual
   clock_of P n (Pre a) = clock_of P n a
   clock_of P n (Current a) = clock_of P n a >>= parent
   clock_of P n (When a x sign) = option_map (λ k. On k x sign) (variable_clock n x)
-  clock_of P n (Copies a m) = clock_of P n a
+  clock_of P n (Replicate a m) = clock_of P n a
   clock_of P n (Index a i) = clock_of P n a
   clock_of P n (Slice a i j) = clock_of P n a
   clock_of P n (Join a b) = or_else (clock_of P n a) (clock_of P n b)

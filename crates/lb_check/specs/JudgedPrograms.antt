@@ -5,7 +5,7 @@ use Rattle.lb_static.specs.InstanceTable.{IsTable}
 use Rattle.lb_static.specs.Instances.{Program, instances}
 use Rattle.lb_static.specs.Names.{keeps_names}
 use Rattle.lb_static.specs.ReachedNodes.{IsReached}
-use Rattle.lb_static.specs.Walk.{walk_refusal}
+use Rattle.lb_static.specs.Instantiation.{instantiation_refusal}
 use Rattle.lb_static.specs.declared.reach.Reached.{Reached}
 use Rattle.lb_static.specs.declared.table.Table.{Table}
 
@@ -15,4 +15,4 @@ pub record IsJudged (P : Program) (r : Reached) (t : Table) : Type 0 where
   pub names : keeps_names P ≡ true
   pub reached : IsReached P r
   pub table : IsTable P r t
-  pub walked : walk_refusal P 0 (instances P) ≡ None
+  pub instantiated : instantiation_refusal P 0 (instances P) ≡ None

@@ -7,10 +7,10 @@ use Rattle.std.specs.List.{range_with_len, list_any}
 use Rattle.lb_syntax.specs.declared.tree.ArrayIterator.{ArrayIterator}
 use Rattle.lb_syntax.specs.declared.tree.ArrayIterator.TheVariants.{Map, Red}
 use Rattle.lb_syntax.specs.Lists.{◌>>=◌, In, zip2, copies, heads, joined, holds, either_or, listed}
-use Rattle.lb_syntax.specs.Tree.{Name, Node_named, Symbol, Expr, Literal, Truth, Variable, Group, Unary, Binary, If, Arrow, Fby, Pre, Current, When, Copies, Index, Slice, Join, Array, AtMostOne, Nor, Call, Iterate, Exprs, Nil, Cons, Declaration, Node, Static, Statement, Equation, Assertion}
+use Rattle.lb_syntax.specs.Tree.{Name, Node_named, Symbol, Expr, Literal, Truth, Variable, Group, Unary, Binary, If, Arrow, Fby, Pre, Current, When, Replicate, Index, Slice, Join, Array, AtMostOne, Nor, Call, Iterate, Exprs, Nil, Cons, Declaration, Node, Static, Statement, Equation, Assertion}
 use Rattle.lb_static.specs.StaticValues.{named}
 use Rattle.lb_static.specs.Instances.{Program, Instance, Path, Root, Observer, Child, node_named, call_site, callee_of, instance_at, instances}
-use Rattle.lb_static.specs.Shapes.{variables, width}
+use Rattle.lb_static.specs.DataTypes.{variables, width}
 use Rattle.lb_static.specs.Parts.{left_names}
 use Rattle.lb_check.specs.Clocks.{Clock, Base, On, Given, clock_of, clock_or, declared_clock, base_clock, given_inputs, given_outputs, ungrouped}
 use Rattle.lb_check.specs.Occurrences.{Occurrence, call_count, node_occurrences, statements}
@@ -177,7 +177,7 @@ unfoldable mutual
   needs P here n (Current a) =
       let passed = waits_for P here (clock_or (clock_of P here.node a)) in
       map (λ xs. passed ++ xs) (needs P here n a)
-  needs P here n (Copies a m) = copies (number P here m) (needs P here n a)
+  needs P here n (Replicate a m) = copies (number P here m) (needs P here n a)
   needs P here n (Index a i) =
       take (part_count P here a) (drop (part_count P here a * number P here i) (needs P here n a))
   needs P here n (Slice a i j) =

@@ -1,5 +1,5 @@
 -- Which reached nodes keep the rules of clocks, as the code finds it.
--- This file mirrors code (src/judge_clocks.rt); no definition of the language stands on it.
+-- This file mirrors code (src/clock_rules.rt); no definition of the language stands on it.
 use Rattle.std.specs.Prelude.{Bool, ◌&&◌, List, slice_get}
 use Rattle.std.specs.List.{list_all}
 use Rattle.lb_syntax.specs.Lists.{holds}

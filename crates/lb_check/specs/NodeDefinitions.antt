@@ -1,6 +1,6 @@
 -- Which variables a node with resolved names defines, whether its terms have memory, and whether
 -- it calls functions alone, as the code finds them.
--- This file mirrors code (src/judge_definitions.rt); no definition of the language stands on it.
+-- This file mirrors code (src/definition_rules.rt); no definition of the language stands on it.
 use Rattle.std.specs.Prelude.{◌≡◌, ℕ, ◌+◌, ◌<◌, Bool, true, false, ◌&&◌, ◌||◌, not, nat_lt, List, [], ◌∷◌, if◌then◌else◌, ◌==◌, EachIndex, min, slice_index}
 use Rattle.std.specs.List.{list_all, list_any}
 use Rattle.lb_syntax.specs.Lists.{◌>>=◌, holds}
@@ -11,9 +11,9 @@ use Rattle.lb_static.specs.declared.reach.Reached.{Reached}
 use Rattle.lb_static.specs.declared.resolved.CallSite.{CallSite}
 use Rattle.lb_static.specs.declared.resolved.ResolvedNode.{ResolvedNode}
 use Rattle.lb_static.specs.declared.resolved.VariableId.{VariableId}
-use Rattle.lb_static.specs.declared.resolved.Step.{Step}
-use Rattle.lb_static.specs.declared.resolved.Step.TheVariants as step
-use Rattle.lb_static.specs.declared.resolved.Term.{Term, Literal, Truth, Variable, Value, Group', Unary', Binary', If', Arrow', Fby', Pre', Current', When', Copies', Index', Slice', Join', Array', AtMostOne', Nor', Call', IterateNode', IterateSymbol', Row_of-Term, end_of-Term, more_of-Term}
+use Rattle.lb_static.specs.declared.resolved.ResolvedStatement.{ResolvedStatement}
+use Rattle.lb_static.specs.declared.resolved.ResolvedStatement.TheVariants as statement
+use Rattle.lb_static.specs.declared.resolved.Term.{Term, Literal, Truth, Variable, Value, Group', Unary', Binary', If', Arrow', Fby', Pre', Current', When', Replicate', Index', Slice', Join', Array', AtMostOne', Nor', Call', IterateNode', IterateSymbol', Row_of-Term, end_of-Term, more_of-Term}
 use Rattle.lb_check.specs.DefinitionRules.{is_defined}
 
 -- ## Left variables
@@ -23,14 +23,14 @@ abbrev pub count_left : ℕ → List VariableId → ℕ
 count_left i [] = 0
 count_left i (x ∷ xs) = (if x.0 == i then 1 else 0) + count_left i xs
 
-abbrev pub count_step : ℕ → Step → ℕ
-count_step i (step.Equation lefts e) = count_left i lefts.items
-count_step i (step.Assertion e) = 0
+abbrev pub count_statement : ℕ → ResolvedStatement → ℕ
+count_statement i (statement.Equation lefts e) = count_left i lefts.items
+count_statement i (statement.Assertion e) = 0
 
 -- how often it stands on the left of some statements
-abbrev pub count_steps : ℕ → List Step → ℕ
-count_steps i [] = 0
-count_steps i (s ∷ ss) = count_step i s + count_steps i ss
+abbrev pub count_statements : ℕ → List ResolvedStatement → ℕ
+count_statements i [] = 0
+count_statements i (s ∷ ss) = count_statement i s + count_statements i ss
 
 -- counts of these numbers, in which 2 stands for any more
 abbrev pub AreCounts : List ℕ → (ℕ → ℕ) → Type 0
@@ -38,9 +38,9 @@ AreCounts counts number =
     EachIndex counts (λ i. min 2 (slice_index counts i) ≡ min 2 (number i))
 
 -- of so many variables each input stands nowhere on the left, and each other variable once
-abbrev pub DefinesEach : (inputs count : ℕ) → List Step → Type 0
+abbrev pub DefinesEach : (inputs count : ℕ) → List ResolvedStatement → Type 0
 DefinesEach inputs count ss =
-    (i : ℕ) → i < count → count_steps i ss ≡ (if nat_lt i inputs then 0 else 1)
+    (i : ℕ) → i < count → count_statements i ss ≡ (if nat_lt i inputs then 0 else 1)
 
 -- ## Memory
 
@@ -60,16 +60,16 @@ unfoldable mutual
   has_memory (Pre' p e) = true
   has_memory (Current' p e) = true
   has_memory (When' p e x sign) = has_memory e
-  has_memory (Copies' p e n) = has_memory e
+  has_memory (Replicate' p e n) = has_memory e
   has_memory (Index' p e i) = has_memory e
   has_memory (Slice' p e i j) = has_memory e
   has_memory (Join' p a q b) = has_memory a || has_memory b
-  has_memory (Array' shape all) = row_memory all
-  has_memory (AtMostOne' shape all) = row_memory all
-  has_memory (Nor' shape all) = row_memory all
-  has_memory (Call' c shape all) = row_memory all
-  has_memory (IterateNode' it c shape all) = row_memory all
-  has_memory (IterateSymbol' it op n shape all) = row_memory all
+  has_memory (Array' arity all) = row_memory all
+  has_memory (AtMostOne' arity all) = row_memory all
+  has_memory (Nor' arity all) = row_memory all
+  has_memory (Call' c arity all) = row_memory all
+  has_memory (IterateNode' it c arity all) = row_memory all
+  has_memory (IterateSymbol' it op n arity all) = row_memory all
 
   pub row_memory : {m : _} → Row_of-Term m → Bool
   row_memory end_of-Term = false
@@ -78,12 +78,12 @@ unfoldable mutual
 abbrev pub any_memory : List Term → Bool
 any_memory = list_any has_memory
 
-abbrev pub step_memory : Step → Bool
-step_memory (step.Equation lefts e) = has_memory e
-step_memory (step.Assertion e) = has_memory e
+abbrev pub statement_memory : ResolvedStatement → Bool
+statement_memory (statement.Equation lefts e) = has_memory e
+statement_memory (statement.Assertion e) = has_memory e
 
-abbrev pub steps_memory : List Step → Bool
-steps_memory = list_any step_memory
+abbrev pub statements_memory : List ResolvedStatement → Bool
+statements_memory = list_any statement_memory
 
 -- ## Calls
 
@@ -100,7 +100,7 @@ call_functions r = list_all (calls_function r)
 abbrev pub keeps_function_rules : Reached → ResolvedNode → Bool
 keeps_function_rules r n =
     not n.tree.now.is_function
-    || (not (steps_memory n.body.items) && call_functions r n.calls.items)
+    || (not (statements_memory n.body.items) && call_functions r n.calls.items)
 
 -- a node that is reached keeps the rules of definitions
 abbrev pub is_defined_at : Program → Reached → NodeId → Bool

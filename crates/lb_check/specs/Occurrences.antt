@@ -4,7 +4,7 @@
 -- project's rule.
 use Rattle.std.specs.Prelude.{ℕ, ◌+◌, Option, Some, None, List, [], ◌∷◌, ◌++◌, length, flat_map}
 use Rattle.std.specs.List.{zip}
-use Rattle.lb_syntax.specs.Tree.{Node_named, Symbol, Expr, Literal, Truth, Variable, Group, Unary, Binary, If, Arrow, Fby, Pre, Current, When, Copies, Index, Slice, Join, Array, AtMostOne, Nor, Call, Iterate, Exprs, Nil, Cons, Node, Statement, Equation, Assertion}
+use Rattle.lb_syntax.specs.Tree.{Node_named, Symbol, Expr, Literal, Truth, Variable, Group, Unary, Binary, If, Arrow, Fby, Pre, Current, When, Replicate, Index, Slice, Join, Array, AtMostOne, Nor, Call, Iterate, Exprs, Nil, Cons, Node, Statement, Equation, Assertion}
 use Rattle.lb_static.specs.Instances.{Program, sites, node_named, statement_sites}
 use Rattle.lb_static.specs.Parts.{right_side}
 use Rattle.lb_check.specs.Clocks.{Clock, Base, clock_of, clock_or, declared_clock, argument_clocks}
@@ -56,7 +56,7 @@ abbrev mutual
       at k n (When a x sign) ∷ occurrences P here (declared_clock here x) n a
   occurrences P here k n (Current a) =
       at k n (Current a) ∷ occurrences P here (clock_or (clock_of P here a)) n a
-  occurrences P here k n (Copies a m) = at k n (Copies a m) ∷ occurrences P here k n a
+  occurrences P here k n (Replicate a m) = at k n (Replicate a m) ∷ occurrences P here k n a
   occurrences P here k n (Index a i) = at k n (Index a i) ∷ occurrences P here k n a
   occurrences P here k n (Slice a i j) = at k n (Slice a i j) ∷ occurrences P here k n a
   occurrences P here k n (Join a b) =

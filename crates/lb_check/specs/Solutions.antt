@@ -9,7 +9,7 @@ use Rattle.lb_syntax.specs.declared.tree.ArrayIterator.TheVariants.{Map, Red, Fi
 use Rattle.lb_syntax.specs.Lists.{Every, part}
 use Rattle.lb_syntax.specs.Tree.{Name, Node_named, Expr, Call, Iterate, Exprs, Declaration, Node, Statement, Equation, Assertion}
 use Rattle.lb_static.specs.Instances.{Program, Instance, Path, Root, Observer, Child, instance_at, node_named, instances}
-use Rattle.lb_static.specs.Shapes.{variables, width, input_kinds}
+use Rattle.lb_static.specs.DataTypes.{variables, width, input_kinds}
 use Rattle.lb_check.specs.Scalars.{Scalar, Stream, is_of_kind, is_given}
 use Rattle.lb_check.specs.Clocks.{Clock, declared_clock, base_clock, argument_clocks}
 use Rattle.lb_check.specs.Occurrences.{Occurrence, node_occurrences, statements}

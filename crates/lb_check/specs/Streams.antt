@@ -7,12 +7,12 @@ use Rattle.lb_syntax.specs.declared.tree.BinaryOperator.{BinaryOperator}
 use Rattle.lb_syntax.specs.declared.tree.ArrayIterator.{ArrayIterator}
 use Rattle.lb_syntax.specs.declared.tree.ArrayIterator.TheVariants.{Map, Red, Fill}
 use Rattle.lb_syntax.specs.Lists.{◌>>=◌, zip2, copies, tail_of, joined, all_some, either_or, listed}
-use Rattle.lb_syntax.specs.Tree.{Name, Static, Node_named, Symbol, Expr, Literal, Truth, Variable, Group, Unary, Binary, If, Arrow, Fby, Pre, Current, When, Copies, Index, Slice, Join, Array, AtMostOne, Nor, Call, Iterate, Exprs, Nil, Cons, Declaration}
+use Rattle.lb_syntax.specs.Tree.{Name, Static, Node_named, Symbol, Expr, Literal, Truth, Variable, Group, Unary, Binary, If, Arrow, Fby, Pre, Current, When, Replicate, Index, Slice, Join, Array, AtMostOne, Nor, Call, Iterate, Exprs, Nil, Cons, Declaration}
 use Rattle.lb_static.specs.StaticValues.{named}
 use Rattle.lb_static.specs.Instances.{Program, Instance, Path, Child, static_count, name_value, node_named}
-use Rattle.lb_static.specs.Shapes.{Shape, int, variables, product}
+use Rattle.lb_static.specs.DataTypes.{DataType, int, variables, product}
 use Rattle.lb_check.specs.Scalars.{Scalar, Integer, Boolean, Cell, Stream, or_fault, same, two_scalars, one_scalar, chosen, at_most_one, none_true, first_value}
-use Rattle.lb_check.specs.Types.{shapes, only}
+use Rattle.lb_check.specs.Types.{data_types, only}
 use Rattle.lb_check.specs.Clocks.{Clock, Base, On, clock_of, clock_or, declared_clock}
 use Rattle.lb_check.specs.Occurrences.{call_count}
 
@@ -83,9 +83,9 @@ first_then (Some v ∷ xs) (y ∷ ys) = Some v ∷ ys
 first_then xs ys = []
 
 -- `when`: the cell, at an instant of the clock
-abbrev pub kept : Bool → Cell → Cell
-kept true x = x
-kept false x = None
+abbrev pub sample : Bool → Cell → Cell
+sample true x = x
+sample false x = None
 
 -- `current`: at the instants of a clock the latest value so far, before any the given one
 abbrev pub latest : Scalar → List Bool → Stream → Stream
@@ -149,16 +149,16 @@ symbols it op xsss = []
 
 module _ (P : Program) (here : Instance) where
   -- the one type of an expression, of which an accepted program has one
-  abbrev pub shape : Expr → Shape
-  shape e = either_or (shapes P here e >>= only) int
+  abbrev pub data_type : Expr → DataType
+  data_type e = either_or (data_types P here e >>= only) int
 
   -- the first value of a memory for an expression
   abbrev pub first_of : Expr → Scalar
-  first_of e = first_value (shape e).kind
+  first_of e = first_value (data_type e).kind
 
   -- the scalar elements of one element of an array
   abbrev pub part_count : Expr → ℕ
-  part_count e = product (tail_of (shape e).sizes)
+  part_count e = product (tail_of (data_type e).sizes)
 
   abbrev pub number : Static → ℕ
   number s = either_or (static_count P here s) 0
@@ -199,11 +199,11 @@ abbrev mutual
       map (previous (first_of P here a) (presence H here.path k)) (streams P H here k n a)
   streams P H here k n (When a x sign) =
       let own = declared_clock here.node x in
-      map (zip2 kept (presence H here.path (On own x sign))) (streams P H here own n a)
+      map (zip2 sample (presence H here.path (On own x sign))) (streams P H here own n a)
   streams P H here k n (Current a) =
       let own = clock_or (clock_of P here.node a) in
       map (latest (first_of P here a) (presence H here.path k)) (streams P H here own n a)
-  streams P H here k n (Copies a m) = copies (number P here m) (streams P H here k n a)
+  streams P H here k n (Replicate a m) = copies (number P here m) (streams P H here k n a)
   streams P H here k n (Index a i) =
       take (part_count P here a)
       (drop (part_count P here a * number P here i) (streams P H here k n a))

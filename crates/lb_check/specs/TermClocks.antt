@@ -1,5 +1,5 @@
--- On which clocks a term may stand, as the code finds it.
--- This file mirrors code (src/term_clock.rt, src/call_clock.rt, src/judge_clocks.rt); no definition
+-- The clocks that a term accepts, as the code finds it.
+-- This file mirrors code (src/term_clock.rt, src/call_clock.rt, src/clock_rules.rt); no definition
 -- of the language stands on it.
 use Rattle.std.specs.Prelude.{ℕ, ◌+◌, ◌-◌, nat_lt, nat_eq, Bool, true, false, ◌&&◌, ◌||◌, not, Option, Some, None, is_some, option_map, List, [], ◌∷◌, map, take, drop, length, slice_get, if◌then◌else◌}
 use Rattle.std.specs.List.{list_all}
@@ -9,17 +9,17 @@ use Rattle.lb_static.specs.declared.reach.Reached.{Reached}
 use Rattle.lb_static.specs.declared.resolved.CallId.{CallId}
 use Rattle.lb_static.specs.declared.resolved.ResolvedNode.{ResolvedNode}
 use Rattle.lb_static.specs.declared.resolved.Sampling.{Sampling}
-use Rattle.lb_static.specs.declared.resolved.Step.{Step}
-use Rattle.lb_static.specs.declared.resolved.Step.TheVariants as step
-use Rattle.lb_static.specs.declared.resolved.Term.{Term, Literal, Truth, Variable, Value, Group', Unary', Binary', If', Arrow', Fby', Pre', Current', When', Copies', Index', Slice', Join', Array', AtMostOne', Nor', Call', IterateNode', IterateSymbol', Row_of-Term, end_of-Term, more_of-Term}
+use Rattle.lb_static.specs.declared.resolved.ResolvedStatement.{ResolvedStatement}
+use Rattle.lb_static.specs.declared.resolved.ResolvedStatement.TheVariants as statement
+use Rattle.lb_static.specs.declared.resolved.Term.{Term, Literal, Truth, Variable, Value, Group', Unary', Binary', If', Arrow', Fby', Pre', Current', When', Replicate', Index', Slice', Join', Array', AtMostOne', Nor', Call', IterateNode', IterateSymbol', Row_of-Term, end_of-Term, more_of-Term}
 use Rattle.lb_static.specs.declared.resolved.VariableId.{VariableId}
 use Rattle.lb_check.specs.CallClocks.{variable_of}
 use Rattle.lb_check.specs.Scalars.{same}
 use Rattle.lb_check.specs.declared.own_clock.Clock.{Clock}
 use Rattle.lb_check.specs.declared.own_clock.Clock.TheVariants.{Base, On}
-use Rattle.lb_check.specs.declared.standing.Operand.{Operand}
-use Rattle.lb_check.specs.declared.standing.Standing.{Standing}
-use Rattle.lb_check.specs.declared.standing.Standing.TheVariants.{Nowhere, Anywhere, Only}
+use Rattle.lb_check.specs.declared.clock_set.Operand.{Operand}
+use Rattle.lb_check.specs.declared.clock_set.ClockSet.{ClockSet}
+use Rattle.lb_check.specs.declared.clock_set.ClockSet.TheVariants.{NoClock, AnyClock, OneClock}
 
 -- ## What stands for the numbers of a node
 
@@ -55,32 +55,33 @@ is_same k l = false
 -- ## Where a term may stand
 
 -- where two may stand together
-abbrev pub both : Standing → Standing → Standing
-both Nowhere s = Nowhere
-both Anywhere s = s
-both (Only k) Nowhere = Nowhere
-both (Only k) Anywhere = Only k
-both (Only k) (Only l) = if is_same k l then Only k else Nowhere
+abbrev pub both : ClockSet → ClockSet → ClockSet
+both NoClock s = NoClock
+both AnyClock s = s
+both (OneClock k) NoClock = NoClock
+both (OneClock k) AnyClock = OneClock k
+both (OneClock k) (OneClock l) = if is_same k l then OneClock k else NoClock
 
 -- where these may stand together
-abbrev pub together : List Operand → Standing
-together [] = Anywhere
-together (o ∷ os) = both o.standing (together os)
+abbrev pub together : List Operand → ClockSet
+together [] = AnyClock
+together (o ∷ os) = both o.clock_set (together os)
 
 -- on this clock, if there is one
-abbrev pub may_stand : Option Clock → Standing → Bool
-may_stand k Nowhere = false
-may_stand k Anywhere = true
-may_stand k (Only l) = holds (λ k. is_same l k) k
+abbrev pub accepts_clock : Option Clock → ClockSet → Bool
+accepts_clock k NoClock = false
+accepts_clock k AnyClock = true
+accepts_clock k (OneClock l) = holds (λ k. is_same l k) k
 
 -- on the clock of a variable at this sign, where its operand may stand on the variable's own
-abbrev pub sampled : Context → VariableId → Bool → Standing → Standing
-sampled ctx x sign s = if may_stand (Some (ctx.variable x)) s then Only (On x sign) else Nowhere
+abbrev pub sampled : Context → VariableId → Bool → ClockSet → ClockSet
+sampled ctx x sign s = if accepts_clock (Some (ctx.variable x)) s then OneClock (On x sign) else
+    NoClock
 
 -- one clock further up
-abbrev pub raised : Context → Standing → Standing
-raised ctx (Only (On x sign)) = Only (ctx.variable x)
-raised ctx s = Nowhere
+abbrev pub raised : Context → ClockSet → ClockSet
+raised ctx (OneClock (On x sign)) = OneClock (ctx.variable x)
+raised ctx s = NoClock
 
 -- ## Calls
 
@@ -108,10 +109,10 @@ are_given n os =
 
 -- the base clock of a callee: that of the first operand whose parameter is on the base clock, and
 -- which stands on one clock alone
-abbrev pub base_of : List (Option Sampling) → List Standing → Option Clock
+abbrev pub base_of : List (Option Sampling) → List ClockSet → Option Clock
 base_of [] ss = None
 base_of (c ∷ cs) [] = None
-base_of (None ∷ cs) (Only k ∷ ss) = Some k
+base_of (None ∷ cs) (OneClock k ∷ ss) = Some k
 base_of (c ∷ cs) (s ∷ ss) = base_of cs ss
 
 -- the clock of a parameter as the caller sees it, where the callee runs on this clock and these
@@ -122,100 +123,100 @@ expected base given (Some s) = option_map (λ y. On y s.sign) (given s.variable.
 
 -- each may stand on the clock of its parameter
 abbrev pub all_fit :
-    Option Clock → (ℕ → Option VariableId) → List (Option Sampling) → List Standing → Bool
+    Option Clock → (ℕ → Option VariableId) → List (Option Sampling) → List ClockSet → Bool
 all_fit base given [] ss = true
 all_fit base given (c ∷ cs) [] = true
 all_fit base given (c ∷ cs) (s ∷ ss) =
-    may_stand (expected base given c) s && all_fit base given cs ss
+    accepts_clock (expected base given c) s && all_fit base given cs ss
 
-abbrev pub standings : List Operand → List Standing
-standings os = map (λ o. o.standing) os
+abbrev pub clock_sets : List Operand → List ClockSet
+clock_sets os = map (λ o. o.clock_set) os
 
-abbrev pub standing_on : Option Clock → Standing
-standing_on None = Anywhere
-standing_on (Some k) = Only k
+abbrev pub clock_set_on : Option Clock → ClockSet
+clock_set_on None = AnyClock
+clock_set_on (Some k) = OneClock k
 
 -- where the first result stands
 abbrev pub first_result :
-    Option Clock → (ℕ → Option VariableId) → List (Option Sampling) → Standing
-first_result base given [] = standing_on base
-first_result base given (c ∷ cs) = standing_on (expected base given c)
+    Option Clock → (ℕ → Option VariableId) → List (Option Sampling) → ClockSet
+first_result base given [] = clock_set_on base
+first_result base given (c ∷ cs) = clock_set_on (expected base given c)
 
 -- where a call with one result may stand
-abbrev pub call_standing : ResolvedNode → List Operand → Standing
-call_standing n os =
-    let base = base_of (input_clocks n) (standings os) in
-    if are_given n os && all_fit base (given_at os) (input_clocks n) (standings os)
+abbrev pub call_clock_set : ResolvedNode → List Operand → ClockSet
+call_clock_set n os =
+    let base = base_of (input_clocks n) (clock_sets os) in
+    if are_given n os && all_fit base (given_at os) (input_clocks n) (clock_sets os)
     then first_result base (given_at os) (output_clocks n)
-    else Nowhere
+    else NoClock
 
 -- iterated nodes have no clocked parameters
-abbrev pub is_unclocked : ResolvedNode → Bool
-is_unclocked n =
+abbrev pub is_base_clocked : ResolvedNode → Bool
+is_base_clocked n =
     list_all (λ v. not (is_some v.clock)) (take (n.inputs + n.outputs) n.variables.items)
 
 -- ## Terms
 
 -- where a term with a row of operands may stand
-abbrev pub row_standing : Context → Term → List Operand → Standing
-row_standing ctx (Call' c shape all) os =
-    either_or (option_map (λ n. call_standing n os) (ctx.callee c)) Nowhere
-row_standing ctx (IterateNode' it c shape all) os =
-    if holds is_unclocked (ctx.callee c) then together os else Nowhere
-row_standing ctx t os = together os
+abbrev pub row_clock_set : Context → Term → List Operand → ClockSet
+row_clock_set ctx (Call' c arity all) os =
+    either_or (option_map (λ n. call_clock_set n os) (ctx.callee c)) NoClock
+row_clock_set ctx (IterateNode' it c arity all) os =
+    if holds is_base_clocked (ctx.callee c) then together os else NoClock
+row_clock_set ctx t os = together os
 
 -- where a term with one operand may stand
-abbrev pub one_standing : Context → Term → Standing → Standing
-one_standing ctx (Current' p e) s = raised ctx s
-one_standing ctx (When' p e x sign) s = sampled ctx x sign s
-one_standing ctx t s = s
+abbrev pub unary_clock_set : Context → Term → ClockSet → ClockSet
+unary_clock_set ctx (Current' p e) s = raised ctx s
+unary_clock_set ctx (When' p e x sign) s = sampled ctx x sign s
+unary_clock_set ctx t s = s
 
 unfoldable mutual
   -- where a term may stand
-  pub standing_of : Context → Term → Standing
-  standing_of ctx (Literal n) = Anywhere
-  standing_of ctx (Truth b) = Anywhere
-  standing_of ctx (Variable x) = Only (ctx.variable x)
-  standing_of ctx (Value i) = Anywhere
-  standing_of ctx (Group' p e) = standing_of ctx e
-  standing_of ctx (Unary' op p a) = standing_of ctx a
-  standing_of ctx (Binary' op p a q b) = both (standing_of ctx a) (standing_of ctx b)
-  standing_of ctx (If' p c q a r b) =
-      both (standing_of ctx c) (both (standing_of ctx a) (standing_of ctx b))
-  standing_of ctx (Arrow' p a q b) = both (standing_of ctx a) (standing_of ctx b)
-  standing_of ctx (Fby' p a q b) = both (standing_of ctx a) (standing_of ctx b)
-  standing_of ctx (Pre' p e) = standing_of ctx e
-  standing_of ctx (Current' p e) = raised ctx (standing_of ctx e)
-  standing_of ctx (When' p e x sign) = sampled ctx x sign (standing_of ctx e)
-  standing_of ctx (Copies' p e n) = standing_of ctx e
-  standing_of ctx (Index' p e i) = standing_of ctx e
-  standing_of ctx (Slice' p e i j) = standing_of ctx e
-  standing_of ctx (Join' p a q b) = both (standing_of ctx a) (standing_of ctx b)
-  standing_of ctx (Array' shape all) = row_standing ctx (Array' shape all) (operands_in ctx all)
-  standing_of ctx (AtMostOne' shape all) =
-      row_standing ctx (AtMostOne' shape all) (operands_in ctx all)
-  standing_of ctx (Nor' shape all) = row_standing ctx (Nor' shape all) (operands_in ctx all)
-  standing_of ctx (Call' c shape all) =
-      row_standing ctx (Call' c shape all) (operands_in ctx all)
-  standing_of ctx (IterateNode' it c shape all) =
-      row_standing ctx (IterateNode' it c shape all) (operands_in ctx all)
-  standing_of ctx (IterateSymbol' it op n shape all) =
-      row_standing ctx (IterateSymbol' it op n shape all) (operands_in ctx all)
+  pub infer_clock : Context → Term → ClockSet
+  infer_clock ctx (Literal n) = AnyClock
+  infer_clock ctx (Truth b) = AnyClock
+  infer_clock ctx (Variable x) = OneClock (ctx.variable x)
+  infer_clock ctx (Value i) = AnyClock
+  infer_clock ctx (Group' p e) = infer_clock ctx e
+  infer_clock ctx (Unary' op p a) = infer_clock ctx a
+  infer_clock ctx (Binary' op p a q b) = both (infer_clock ctx a) (infer_clock ctx b)
+  infer_clock ctx (If' p c q a r b) =
+      both (infer_clock ctx c) (both (infer_clock ctx a) (infer_clock ctx b))
+  infer_clock ctx (Arrow' p a q b) = both (infer_clock ctx a) (infer_clock ctx b)
+  infer_clock ctx (Fby' p a q b) = both (infer_clock ctx a) (infer_clock ctx b)
+  infer_clock ctx (Pre' p e) = infer_clock ctx e
+  infer_clock ctx (Current' p e) = raised ctx (infer_clock ctx e)
+  infer_clock ctx (When' p e x sign) = sampled ctx x sign (infer_clock ctx e)
+  infer_clock ctx (Replicate' p e n) = infer_clock ctx e
+  infer_clock ctx (Index' p e i) = infer_clock ctx e
+  infer_clock ctx (Slice' p e i j) = infer_clock ctx e
+  infer_clock ctx (Join' p a q b) = both (infer_clock ctx a) (infer_clock ctx b)
+  infer_clock ctx (Array' arity all) = row_clock_set ctx (Array' arity all) (operands_in ctx all)
+  infer_clock ctx (AtMostOne' arity all) =
+      row_clock_set ctx (AtMostOne' arity all) (operands_in ctx all)
+  infer_clock ctx (Nor' arity all) = row_clock_set ctx (Nor' arity all) (operands_in ctx all)
+  infer_clock ctx (Call' c arity all) =
+      row_clock_set ctx (Call' c arity all) (operands_in ctx all)
+  infer_clock ctx (IterateNode' it c arity all) =
+      row_clock_set ctx (IterateNode' it c arity all) (operands_in ctx all)
+  infer_clock ctx (IterateSymbol' it op n arity all) =
+      row_clock_set ctx (IterateSymbol' it op n arity all) (operands_in ctx all)
 
   -- the operands that a row of terms is
   pub operands_in : {m : _} → Context → Row_of-Term m → List Operand
   operands_in ctx end_of-Term = []
   operands_in ctx (more_of-Term e rest) =
-      record { standing = standing_of ctx e; variable = variable_of e } ∷ operands_in ctx rest
+      record { clock_set = infer_clock ctx e; variable = variable_of e } ∷ operands_in ctx rest
 
 -- where a term may stand whose two operands, or the branches of whose choice, may stand together
-abbrev pub pair_standing : Context → Term → Standing → Standing
-pair_standing ctx (If' p c q a r b) s = both (standing_of ctx c) s
-pair_standing ctx t s = s
+abbrev pub pair_clock_set : Context → Term → ClockSet → ClockSet
+pair_clock_set ctx (If' p c q a r b) s = both (infer_clock ctx c) s
+pair_clock_set ctx t s = s
 
 -- an operand that a term is
 abbrev pub operand_of : Context → Term → Operand
-operand_of ctx e = record { standing = standing_of ctx e; variable = variable_of e }
+operand_of ctx e = record { clock_set = infer_clock ctx e; variable = variable_of e }
 
 -- those that a list of terms is
 abbrev pub operands_of : Context → List Term → List Operand
@@ -229,26 +230,26 @@ left_clock ctx [] = Base
 left_clock ctx (x ∷ xs) = ctx.variable x
 
 -- the left variables stand on the clock of the right side
-abbrev pub is_one_clocked : Context → List VariableId → Standing → Bool
+abbrev pub is_one_clocked : Context → List VariableId → ClockSet → Bool
 is_one_clocked ctx lefts s =
     let k = left_clock ctx lefts in
-    may_stand (Some k) s && list_all (λ x. is_same k (ctx.variable x)) lefts
+    accepts_clock (Some k) s && list_all (λ x. is_same k (ctx.variable x)) lefts
 
 -- the variable of the caller that stands for one of a callee: an operand or a left variable
 abbrev pub stands_for : ℕ → List Operand → List VariableId → ℕ → Option VariableId
 stands_for inputs os lefts i =
     if nat_lt i inputs then given_at os i else slice_get lefts (i - inputs)
 
-abbrev pub left_standings : Context → List VariableId → List Standing
-left_standings ctx lefts = map (λ x. Only (ctx.variable x)) lefts
+abbrev pub left_clock_sets : Context → List VariableId → List ClockSet
+left_clock_sets ctx lefts = map (λ x. OneClock (ctx.variable x)) lefts
 
 -- the base clock of a callee whose results are those of an equation
 abbrev pub result_base :
     Context → ResolvedNode → List Operand → List VariableId → Option Clock
 result_base ctx n os [] = Some Base
 result_base ctx n os (x ∷ xs) =
-    or_else (base_of (output_clocks n) (left_standings ctx (x ∷ xs)))
-    (base_of (input_clocks n) (standings os))
+    or_else (base_of (output_clocks n) (left_clock_sets ctx (x ∷ xs)))
+    (base_of (input_clocks n) (clock_sets os))
 
 -- the operands of a call, and the left variables as its results, stand on the clocks of its
 -- parameters
@@ -259,8 +260,8 @@ is_call_clocked ctx n os lefts =
     let given = stands_for n.inputs os lefts in
     nat_eq (length lefts) n.outputs
     && (are_given n os
-    && (all_fit base given (input_clocks n) (standings os)
-    && all_fit base given (output_clocks n) (left_standings ctx lefts)))
+    && (all_fit base given (input_clocks n) (clock_sets os)
+    && all_fit base given (output_clocks n) (left_clock_sets ctx lefts)))
 
 -- an equation whose right side is a call keeps the rules of clocks
 abbrev pub is_called_clocked : Context → List VariableId → CallId → List Term → Bool
@@ -270,19 +271,20 @@ is_called_clocked ctx lefts c es =
 -- an equation with this right side keeps the rules of clocks
 unfoldable pub is_equation_clocked : Context → List VariableId → Term → Bool
 is_equation_clocked ctx lefts (Group' p e) = is_equation_clocked ctx lefts e
-is_equation_clocked ctx lefts (Call' c shape all) =
+is_equation_clocked ctx lefts (Call' c arity all) =
     holds (λ n. is_call_clocked ctx n (operands_in ctx all) lefts) (ctx.callee c)
-is_equation_clocked ctx lefts e = is_one_clocked ctx lefts (standing_of ctx e)
+is_equation_clocked ctx lefts e = is_one_clocked ctx lefts (infer_clock ctx e)
 
-abbrev pub stands : Standing → Bool
-stands Nowhere = false
-stands Anywhere = true
-stands (Only k) = true
+abbrev pub stands : ClockSet → Bool
+stands NoClock = false
+stands AnyClock = true
+stands (OneClock k) = true
 
-abbrev pub is_step_clocked : Context → Step → Bool
-is_step_clocked ctx (step.Equation lefts e) = is_equation_clocked ctx lefts.items e
-is_step_clocked ctx (step.Assertion e) = stands (standing_of ctx e)
+abbrev pub is_resolved_statement_clocked : Context → ResolvedStatement → Bool
+is_resolved_statement_clocked ctx (statement.Equation lefts e) =
+    is_equation_clocked ctx lefts.items e
+is_resolved_statement_clocked ctx (statement.Assertion e) = stands (infer_clock ctx e)
 
 -- each statement of a node keeps the rules of clocks
 abbrev pub is_body_clocked : Reached → ResolvedNode → Bool
-is_body_clocked r n = list_all (is_step_clocked (context_of r n)) n.body.items
+is_body_clocked r n = list_all (is_resolved_statement_clocked (context_of r n)) n.body.items

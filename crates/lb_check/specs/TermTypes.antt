@@ -11,24 +11,24 @@ use Rattle.lb_static.specs.declared.resolved.CallSite.{CallSite}
 use Rattle.lb_static.specs.declared.resolved.ResolvedNode.{ResolvedNode}
 use Rattle.lb_static.specs.declared.resolved.Sampling.{Sampling}
 use Rattle.lb_static.specs.declared.resolved.StaticId.{StaticId}
-use Rattle.lb_static.specs.declared.resolved.Step.{Step}
-use Rattle.lb_static.specs.declared.resolved.Step.TheVariants as step
-use Rattle.lb_static.specs.declared.resolved.Term.{Term, Literal, Truth, Variable, Value, Group', Unary', Binary', If', Arrow', Fby', Pre', Current', When', Copies', Index', Slice', Join', Array', AtMostOne', Nor', Call', IterateNode', IterateSymbol', Row_of-Term, end_of-Term, more_of-Term}
+use Rattle.lb_static.specs.declared.resolved.ResolvedStatement.{ResolvedStatement}
+use Rattle.lb_static.specs.declared.resolved.ResolvedStatement.TheVariants as statement
+use Rattle.lb_static.specs.declared.resolved.Term.{Term, Literal, Truth, Variable, Value, Group', Unary', Binary', If', Arrow', Fby', Pre', Current', When', Replicate', Index', Slice', Join', Array', AtMostOne', Nor', Call', IterateNode', IterateSymbol', Row_of-Term, end_of-Term, more_of-Term}
 use Rattle.lb_static.specs.declared.resolved.Variable.{Variable as Declared}
 use Rattle.lb_static.specs.declared.resolved.VariableId.{VariableId}
 use Rattle.lb_static.specs.declared.table.Specialization.{Specialization}
 use Rattle.lb_static.specs.declared.table.Table.{Table}
-use Rattle.lb_static.specs.Shapes.{Shape, int, truth, is_shape, are_shapes}
+use Rattle.lb_static.specs.DataTypes.{DataType, int, truth, is_type, are_types}
 use Rattle.lb_static.specs.StaticValues.{natural}
-use Rattle.lb_check.specs.Types.{is_arithmetic, unary_shape, binary_shape, same_shape, array_of, index_shape, slice_shape, join_shape, list_shape, iterator_shapes, only, singly}
+use Rattle.lb_check.specs.Types.{is_arithmetic, unary_type, binary_type, common_type, array_of, index_type, slice_type, join_type, list_type, iterator_types, only, singly}
 
 -- the types of the inputs and of the outputs of what is called
 abbrev pub Signature : Type 0
-Signature = List Shape × List Shape
+Signature = List DataType × List DataType
 
 -- what stands for the numbers in a term
 pub record Context : Type 0 where
-  pub variable : VariableId → Option Shape
+  pub variable : VariableId → Option DataType
   pub count : StaticId → Option ℕ
   pub call : CallId → Option Signature
   pub repeats : CallId → Option ℕ
@@ -47,15 +47,15 @@ abbrev pub sizes_at : List ℤ → StaticId → ℕ → Option (List ℕ)
 sizes_at statics first count = wholes (take count (drop first.0 statics))
 
 -- the type of a variable
-abbrev pub declared_type : List ℤ → Declared → Option Shape
+abbrev pub declared_type : List ℤ → Declared → Option DataType
 declared_type statics v =
     option_map (λ ns. record { kind = v.kind; sizes = reverse ns })
     (sizes_at statics v.first_size v.sizes)
 
-abbrev pub declared_types : List ℤ → List Declared → Option (List Shape)
+abbrev pub declared_types : List ℤ → List Declared → Option (List DataType)
 declared_types statics vs = all_some (map (declared_type statics) vs)
 
-abbrev pub variable_at : ResolvedNode → Specialization → VariableId → Option Shape
+abbrev pub variable_at : ResolvedNode → Specialization → VariableId → Option DataType
 variable_at n s x = slice_get n.variables.items x.0 >>= declared_type s.statics.items
 
 -- the types of the inputs and of the outputs of a node under these static values
@@ -97,122 +97,123 @@ symbol_signature op =
     else (truth ∷ truth ∷ [], truth ∷ [])
 
 -- a truth gives this
-abbrev pub when_truth : Option Shape → Option Shape → Option Shape
-when_truth c o = c >>= λ c. where_true (is_shape truth c) c >>= λ _. o
+abbrev pub when_truth : Option DataType → Option DataType → Option DataType
+when_truth c o = c >>= λ c. where_true (is_type truth c) c >>= λ _. o
 
-abbrev pub when_both : Option Shape → Option Shape → (Shape → Shape → Option Shape) → Option Shape
+abbrev pub when_both : Option DataType → Option DataType → (DataType → DataType → Option DataType)
+    → Option DataType
 when_both o p f = o >>= λ t. p >>= f t
 
 -- the types of the results of a row of operands of these types
-abbrev pub truth_results : List Shape → Option (List Shape)
-truth_results ts = where_true (list_all (is_shape truth) ts) (truth ∷ [])
+abbrev pub truth_results : List DataType → Option (List DataType)
+truth_results ts = where_true (list_all (is_type truth) ts) (truth ∷ [])
 
-abbrev pub call_results : Context → CallId → List Shape → Option (List Shape)
-call_results ctx c ts = ctx.call c >>= λ o. where_true (are_shapes o.0 ts) o.1
+abbrev pub call_results : Context → CallId → List DataType → Option (List DataType)
+call_results ctx c ts = ctx.call c >>= λ o. where_true (are_types o.0 ts) o.1
 
-abbrev pub node_results : Context → ArrayIterator → CallId → List Shape → Option (List Shape)
+abbrev pub node_results : Context → ArrayIterator → CallId → List DataType → Option (List DataType)
 node_results ctx it c ts =
-    ctx.repeats c >>= λ n. ctx.call c >>= λ o. iterator_shapes it n o.0 o.1 ts
+    ctx.repeats c >>= λ n. ctx.call c >>= λ o. iterator_types it n o.0 o.1 ts
 
 abbrev pub symbol_results :
-    ArrayIterator → BinaryOperator → Option ℕ → List Shape → Option (List Shape)
+    ArrayIterator → BinaryOperator → Option ℕ → List DataType → Option (List DataType)
 symbol_results it op count ts =
-    count >>= λ n. iterator_shapes it n (symbol_signature op).0 (symbol_signature op).1 ts
+    count >>= λ n. iterator_types it n (symbol_signature op).0 (symbol_signature op).1 ts
 
 -- the types of the results of a term with a row of operands of these types
-abbrev pub row_results : Context → Term → List Shape → Option (List Shape)
-row_results ctx (Array' shape all) ts = singly (list_shape ts)
-row_results ctx (AtMostOne' shape all) ts = truth_results ts
-row_results ctx (Nor' shape all) ts = truth_results ts
-row_results ctx (Call' c shape all) ts = call_results ctx c ts
-row_results ctx (IterateNode' it c shape all) ts = node_results ctx it c ts
-row_results ctx (IterateSymbol' it op n shape all) ts = symbol_results it op (ctx.count n) ts
+abbrev pub row_results : Context → Term → List DataType → Option (List DataType)
+row_results ctx (Array' arity all) ts = singly (list_type ts)
+row_results ctx (AtMostOne' arity all) ts = truth_results ts
+row_results ctx (Nor' arity all) ts = truth_results ts
+row_results ctx (Call' c arity all) ts = call_results ctx c ts
+row_results ctx (IterateNode' it c arity all) ts = node_results ctx it c ts
+row_results ctx (IterateSymbol' it op n arity all) ts = symbol_results it op (ctx.count n) ts
 row_results ctx t ts = None
 
 -- the type of a term with one operand of this type
-abbrev pub one_type : Context → Term → Shape → Option Shape
-one_type ctx (Unary' op p a) t = unary_shape op t
+abbrev pub one_type : Context → Term → DataType → Option DataType
+one_type ctx (Unary' op p a) t = unary_type op t
 one_type ctx (When' p e x sign) t = when_truth (ctx.variable x) (Some t)
-one_type ctx (Copies' p e n) t = ctx.count n >>= λ n. array_of n t
-one_type ctx (Index' p e i) t = ctx.count i >>= λ i. index_shape i t
-one_type ctx (Slice' p e i j) t = ctx.count i >>= λ i. ctx.count j >>= λ j. slice_shape i j t
+one_type ctx (Replicate' p e n) t = ctx.count n >>= λ n. array_of n t
+one_type ctx (Index' p e i) t = ctx.count i >>= λ i. index_type i t
+one_type ctx (Slice' p e i j) t = ctx.count i >>= λ i. ctx.count j >>= λ j. slice_type i j t
 one_type ctx e t = Some t
 
 unfoldable mutual
   -- the one type of a term
-  pub type_of : Context → Term → Option Shape
+  pub type_of : Context → Term → Option DataType
   type_of ctx (Literal n) = Some int
   type_of ctx (Truth b) = Some truth
   type_of ctx (Variable x) = ctx.variable x
   type_of ctx (Value i) = Some int
   type_of ctx (Group' p e) = type_of ctx e
-  type_of ctx (Unary' op p a) = type_of ctx a >>= unary_shape op
-  type_of ctx (Binary' op p a q b) = when_both (type_of ctx a) (type_of ctx b) (binary_shape op)
+  type_of ctx (Unary' op p a) = type_of ctx a >>= unary_type op
+  type_of ctx (Binary' op p a q b) = when_both (type_of ctx a) (type_of ctx b) (binary_type op)
   type_of ctx (If' p c q a r b) =
-      when_truth (type_of ctx c) (when_both (type_of ctx a) (type_of ctx b) same_shape)
-  type_of ctx (Arrow' p a q b) = when_both (type_of ctx a) (type_of ctx b) same_shape
-  type_of ctx (Fby' p a q b) = when_both (type_of ctx a) (type_of ctx b) same_shape
+      when_truth (type_of ctx c) (when_both (type_of ctx a) (type_of ctx b) common_type)
+  type_of ctx (Arrow' p a q b) = when_both (type_of ctx a) (type_of ctx b) common_type
+  type_of ctx (Fby' p a q b) = when_both (type_of ctx a) (type_of ctx b) common_type
   type_of ctx (Pre' p e) = type_of ctx e
   type_of ctx (Current' p e) = type_of ctx e
   type_of ctx (When' p e x sign) = when_truth (ctx.variable x) (type_of ctx e)
-  type_of ctx (Copies' p e n) = ctx.count n >>= λ n. type_of ctx e >>= array_of n
-  type_of ctx (Index' p e i) = ctx.count i >>= λ i. type_of ctx e >>= index_shape i
+  type_of ctx (Replicate' p e n) = ctx.count n >>= λ n. type_of ctx e >>= array_of n
+  type_of ctx (Index' p e i) = ctx.count i >>= λ i. type_of ctx e >>= index_type i
   type_of ctx (Slice' p e i j) =
-      ctx.count i >>= λ i. ctx.count j >>= λ j. type_of ctx e >>= slice_shape i j
-  type_of ctx (Join' p a q b) = when_both (type_of ctx a) (type_of ctx b) join_shape
-  type_of ctx (Array' shape all) =
-      types_in ctx all >>= row_results ctx (Array' shape all) >>= only
-  type_of ctx (AtMostOne' shape all) =
-      types_in ctx all >>= row_results ctx (AtMostOne' shape all) >>= only
-  type_of ctx (Nor' shape all) = types_in ctx all >>= row_results ctx (Nor' shape all) >>= only
-  type_of ctx (Call' c shape all) =
-      types_in ctx all >>= row_results ctx (Call' c shape all) >>= only
-  type_of ctx (IterateNode' it c shape all) =
-      types_in ctx all >>= row_results ctx (IterateNode' it c shape all) >>= only
-  type_of ctx (IterateSymbol' it op n shape all) =
-      types_in ctx all >>= row_results ctx (IterateSymbol' it op n shape all) >>= only
+      ctx.count i >>= λ i. ctx.count j >>= λ j. type_of ctx e >>= slice_type i j
+  type_of ctx (Join' p a q b) = when_both (type_of ctx a) (type_of ctx b) join_type
+  type_of ctx (Array' arity all) =
+      types_in ctx all >>= row_results ctx (Array' arity all) >>= only
+  type_of ctx (AtMostOne' arity all) =
+      types_in ctx all >>= row_results ctx (AtMostOne' arity all) >>= only
+  type_of ctx (Nor' arity all) = types_in ctx all >>= row_results ctx (Nor' arity all) >>= only
+  type_of ctx (Call' c arity all) =
+      types_in ctx all >>= row_results ctx (Call' c arity all) >>= only
+  type_of ctx (IterateNode' it c arity all) =
+      types_in ctx all >>= row_results ctx (IterateNode' it c arity all) >>= only
+  type_of ctx (IterateSymbol' it op n arity all) =
+      types_in ctx all >>= row_results ctx (IterateSymbol' it op n arity all) >>= only
 
   -- those of a row of terms
-  pub types_in : {m : _} → Context → Row_of-Term m → Option (List Shape)
+  pub types_in : {m : _} → Context → Row_of-Term m → Option (List DataType)
   types_in ctx end_of-Term = Some []
   types_in ctx (more_of-Term e rest) =
       type_of ctx e >>= λ t. types_in ctx rest >>= λ ts. Some (t ∷ ts)
 
 -- the type of a term whose two operands, or the branches of whose choice, have these types
-abbrev pub two_types : Context → Term → Option Shape → Option Shape → Option Shape
-two_types ctx (Binary' op p a q b) l r = when_both l r (binary_shape op)
-two_types ctx (Join' p a q b) l r = when_both l r join_shape
-two_types ctx (If' p c q a r b) l s = when_truth (type_of ctx c) (when_both l s same_shape)
-two_types ctx e l r = when_both l r same_shape
+abbrev pub two_types : Context → Term → Option DataType → Option DataType → Option DataType
+two_types ctx (Binary' op p a q b) l r = when_both l r (binary_type op)
+two_types ctx (Join' p a q b) l r = when_both l r join_type
+two_types ctx (If' p c q a r b) l s = when_truth (type_of ctx c) (when_both l s common_type)
+two_types ctx e l r = when_both l r common_type
 
 -- those of a list of terms
-abbrev pub types_of : Context → List Term → Option (List Shape)
+abbrev pub types_of : Context → List Term → Option (List DataType)
 types_of ctx es = all_some (map (type_of ctx) es)
 
 -- the types of the results of a term with these operands in a row
-abbrev pub operand_results : Context → Term → List Term → Option (List Shape)
+abbrev pub operand_results : Context → Term → List Term → Option (List DataType)
 operand_results ctx e es = types_of ctx es >>= row_results ctx e
 
 -- the types of the results of a right side
-unfoldable pub results : Context → Term → Option (List Shape)
+unfoldable pub results : Context → Term → Option (List DataType)
 results ctx (Group' p e) = results ctx e
-results ctx (Array' shape all) = types_in ctx all >>= row_results ctx (Array' shape all)
-results ctx (AtMostOne' shape all) = types_in ctx all >>= row_results ctx (AtMostOne' shape all)
-results ctx (Nor' shape all) = types_in ctx all >>= row_results ctx (Nor' shape all)
-results ctx (Call' c shape all) = types_in ctx all >>= row_results ctx (Call' c shape all)
-results ctx (IterateNode' it c shape all) =
-    types_in ctx all >>= row_results ctx (IterateNode' it c shape all)
-results ctx (IterateSymbol' it op n shape all) =
-    types_in ctx all >>= row_results ctx (IterateSymbol' it op n shape all)
+results ctx (Array' arity all) = types_in ctx all >>= row_results ctx (Array' arity all)
+results ctx (AtMostOne' arity all) = types_in ctx all >>= row_results ctx (AtMostOne' arity all)
+results ctx (Nor' arity all) = types_in ctx all >>= row_results ctx (Nor' arity all)
+results ctx (Call' c arity all) = types_in ctx all >>= row_results ctx (Call' c arity all)
+results ctx (IterateNode' it c arity all) =
+    types_in ctx all >>= row_results ctx (IterateNode' it c arity all)
+results ctx (IterateSymbol' it op n arity all) =
+    types_in ctx all >>= row_results ctx (IterateSymbol' it op n arity all)
 results ctx t = singly (type_of ctx t)
 
 -- ## Statements
 
-abbrev pub left_types : Context → List VariableId → Option (List Shape)
+abbrev pub left_types : Context → List VariableId → Option (List DataType)
 left_types ctx xs = all_some (map ctx.variable xs)
 
-abbrev pub are_equal : Option (List Shape) → Option (List Shape) → Bool
-are_equal o p = holds (λ ss. holds (are_shapes ss) p) o
+abbrev pub are_equal : Option (List DataType) → Option (List DataType) → Bool
+are_equal o p = holds (λ ss. holds (are_types ss) p) o
 
 abbrev pub is_equation_typed : Context → List VariableId → Term → Bool
 is_equation_typed ctx lefts e = are_equal (results ctx e) (left_types ctx lefts)
@@ -220,14 +221,14 @@ is_equation_typed ctx lefts e = are_equal (results ctx e) (left_types ctx lefts)
 abbrev pub is_one_truth : Context → Term → Bool
 is_one_truth ctx e = are_equal (results ctx e) (Some (truth ∷ []))
 
-abbrev pub is_step_typed : Context → Step → Bool
-is_step_typed ctx (step.Equation lefts e) = is_equation_typed ctx lefts.items e
-is_step_typed ctx (step.Assertion e) = is_one_truth ctx e
+abbrev pub is_resolved_statement_typed : Context → ResolvedStatement → Bool
+is_resolved_statement_typed ctx (statement.Equation lefts e) = is_equation_typed ctx lefts.items e
+is_resolved_statement_typed ctx (statement.Assertion e) = is_one_truth ctx e
 
 -- the variable of a declared clock is a truth
 abbrev pub is_clock_typed : Context → Option Sampling → Bool
 is_clock_typed ctx None = true
-is_clock_typed ctx (Some s) = holds (is_shape truth) (ctx.variable s.variable)
+is_clock_typed ctx (Some s) = holds (is_type truth) (ctx.variable s.variable)
 
 abbrev pub is_variable_typed : Context → Declared → Bool
 is_variable_typed ctx v = is_clock_typed ctx v.clock
@@ -235,7 +236,7 @@ is_variable_typed ctx v = is_clock_typed ctx v.clock
 abbrev pub is_node_typed : Context → ResolvedNode → Bool
 is_node_typed ctx n =
     list_all (is_variable_typed ctx) n.variables.items
-    && list_all (is_step_typed ctx) n.body.items
+    && list_all (is_resolved_statement_typed ctx) n.body.items
 
 abbrev pub is_specialization_typed : Reached → Table → Specialization → Bool
 is_specialization_typed r t s =

@@ -7,27 +7,27 @@ use Rattle.lb_syntax.specs.Lists.{◌>>=◌, either_or, holds, listed, all_some}
 use Rattle.lb_syntax.specs.Tree.{Name, Expr, Declaration, Statement, Equation, Assertion}
 use Rattle.lb_static.specs.StaticValues.{named}
 use Rattle.lb_static.specs.Instances.{Program, Instance, instances}
-use Rattle.lb_static.specs.Shapes.{Shape, truth, is_shape, element_count, variables, shape_of, width}
+use Rattle.lb_static.specs.DataTypes.{DataType, truth, is_type, element_count, variables, variable_type, width}
 use Rattle.lb_static.specs.Parts.{node_parts}
-use Rattle.lb_static.specs.Walk.{are_same}
-use Rattle.lb_check.specs.Types.{shapes}
+use Rattle.lb_static.specs.Instantiation.{are_same}
+use Rattle.lb_check.specs.Types.{data_types}
 
 -- ## E9
 
 -- the type of a variable
-abbrev pub declared_shape : Program → Instance → Name → Option Shape
-declared_shape P here x = named (λ d. d.name) x (variables here.node) >>= shape_of P here
+abbrev pub type_of_name : Program → Instance → Name → Option DataType
+type_of_name P here x = named (λ d. d.name) x (variables here.node) >>= variable_type P here
 
 -- the left variables have the types of the results; an assertion is a truth
 abbrev pub is_statement_typed : Program → Instance → Statement → Bool
 is_statement_typed P here (Equation lefts e) =
-    are_same P (shapes P here e) (all_some (map (declared_shape P here) lefts))
-is_statement_typed P here (Assertion e) = are_same P (shapes P here e) (Some (truth ∷ []))
+    are_same P (data_types P here e) (all_some (map (type_of_name P here) lefts))
+is_statement_typed P here (Assertion e) = are_same P (data_types P here e) (Some (truth ∷ []))
 
 -- the variable of a declared clock is a truth
 abbrev pub is_clock_typed : Program → Instance → Declaration → Bool
 is_clock_typed P here d =
-    list_all (λ s. holds (is_shape truth) (declared_shape P here s.variable))
+    list_all (λ s. holds (is_type truth) (type_of_name P here s.variable))
     (listed (λ s. s ∷ []) d.clock)
 
 abbrev pub is_typed : Program → Instance → Bool
@@ -37,12 +37,12 @@ is_typed P here =
 
 -- ## Size
 
-abbrev pub total : List Shape → ℕ
+abbrev pub total : List DataType → ℕ
 total ts = sum_by element_count ts
 
 -- the scalar elements of an expression itself, its parts apart; a call counts all its results
 abbrev pub expression_size : Program → Instance → Expr → ℕ
-expression_size P here e = total (either_or (shapes P here e) [])
+expression_size P here e = total (either_or (data_types P here e) [])
 
 -- those of every variable, and of every expression and part of one
 abbrev pub instance_size : Program → Instance → ℕ

@@ -11,10 +11,10 @@ use Rattle.lb_syntax.specs.declared.tree.Kind.{Kind}
 use Rattle.lb_syntax.specs.declared.tree.ArrayIterator.{ArrayIterator}
 use Rattle.lb_syntax.specs.declared.tree.ArrayIterator.TheVariants.{Map, Red, Fill}
 use Rattle.lb_syntax.specs.Lists.{◌>>=◌, all_some, either_or, where_true}
-use Rattle.lb_syntax.specs.Tree.{Name, Operator, Node_named, Symbol, Expr, Literal, Truth, Variable, Group, Unary, Binary, If, Arrow, Fby, Pre, Current, When, Copies, Index, Slice, Join, Array, AtMostOne, Nor, Call, Iterate, Exprs, Nil, Cons}
+use Rattle.lb_syntax.specs.Tree.{Name, Operator, Node_named, Symbol, Expr, Literal, Truth, Variable, Group, Unary, Binary, If, Arrow, Fby, Pre, Current, When, Replicate, Index, Slice, Join, Array, AtMostOne, Nor, Call, Iterate, Exprs, Nil, Cons}
 use Rattle.lb_static.specs.StaticValues.{named}
 use Rattle.lb_static.specs.Instances.{Program, Instance, static_count, call_site, callee_of}
-use Rattle.lb_static.specs.Shapes.{Shape, int, truth, is_shape, are_shapes, variables, shape_of, input_shapes, output_shapes}
+use Rattle.lb_static.specs.DataTypes.{DataType, int, truth, is_type, are_types, variables, variable_type, input_types, output_types}
 
 -- ## Data operators
 
@@ -38,162 +38,163 @@ is_equality Equal = true
 is_equality Unequal = true
 is_equality op = false
 
-abbrev pub are_ints : Shape → Shape → Bool
-are_ints s t = is_shape s int && is_shape t int
+abbrev pub are_ints : DataType → DataType → Bool
+are_ints s t = is_type s int && is_type t int
 
-abbrev pub are_truths : Shape → Shape → Bool
-are_truths s t = is_shape s truth && is_shape t truth
+abbrev pub are_truths : DataType → DataType → Bool
+are_truths s t = is_type s truth && is_type t truth
 
 -- what an operator gives, where its operands have the types that it takes
-abbrev pub unary_shape : UnaryOperator → Shape → Option Shape
-unary_shape Not t = where_true (is_shape t truth) truth
-unary_shape Negate t = where_true (is_shape t int) int
+abbrev pub unary_type : UnaryOperator → DataType → Option DataType
+unary_type Not t = where_true (is_type t truth) truth
+unary_type Negate t = where_true (is_type t int) int
 
-abbrev pub binary_shape : BinaryOperator → Shape → Shape → Option Shape
-binary_shape op s t =
+abbrev pub binary_type : BinaryOperator → DataType → DataType → Option DataType
+binary_type op s t =
     if is_arithmetic op then where_true (are_ints s t) int else
     if is_logical op then where_true (are_truths s t) truth else
     if is_equality op then where_true (are_ints s t || are_truths s t) truth else
     where_true (are_ints s t) truth
 
-abbrev pub same_shape : Shape → Shape → Option Shape
-same_shape s t = where_true (is_shape s t) t
+abbrev pub common_type : DataType → DataType → Option DataType
+common_type s t = where_true (is_type s t) t
 
 -- ## Arrays
 
 -- an array of n of these; no array is longer than 4,096
-abbrev pub array_of : ℕ → Shape → Option Shape
+abbrev pub array_of : ℕ → DataType → Option DataType
 array_of n t =
     where_true (nat_le 1 n && nat_le n 4096) (record { kind = t.kind; sizes = n ∷ t.sizes })
 
 -- the length of an array and the type of its elements
-abbrev pub element_with : Kind → List ℕ → Option (ℕ × Shape)
+abbrev pub element_with : Kind → List ℕ → Option (ℕ × DataType)
 element_with kind [] = None
 element_with kind (n ∷ ns) = Some (n, record { kind = kind; sizes = ns })
 
-abbrev pub element_of : Shape → Option (ℕ × Shape)
+abbrev pub element_of : DataType → Option (ℕ × DataType)
 element_of t = element_with t.kind t.sizes
 
-abbrev pub index_shape : ℕ → Shape → Option Shape
-index_shape i t = element_of t >>= λ a. where_true (nat_lt i a.0) a.1
+abbrev pub index_type : ℕ → DataType → Option DataType
+index_type i t = element_of t >>= λ a. where_true (nat_lt i a.0) a.1
 
-abbrev pub slice_shape : ℕ → ℕ → Shape → Option Shape
-slice_shape i j t =
+abbrev pub slice_type : ℕ → ℕ → DataType → Option DataType
+slice_type i j t =
     element_of t >>= λ a.
     where_true (nat_le i j && nat_lt j a.0) a.1 >>= array_of (suc j - i)
 
-abbrev pub join_shape : Shape → Shape → Option Shape
-join_shape s t =
-    element_of s >>= λ a. element_of t >>= λ b. same_shape a.1 b.1 >>= array_of (a.0 + b.0)
+abbrev pub join_type : DataType → DataType → Option DataType
+join_type s t =
+    element_of s >>= λ a. element_of t >>= λ b. common_type a.1 b.1 >>= array_of (a.0 + b.0)
 
-abbrev pub list_shape : List Shape → Option Shape
-list_shape [] = None
-list_shape (t ∷ ts) = where_true (list_all (is_shape t) ts) t >>= array_of (suc (length ts))
+abbrev pub list_type : List DataType → Option DataType
+list_type [] = None
+list_type (t ∷ ts) = where_true (list_all (is_type t) ts) t >>= array_of (suc (length ts))
 
 -- ## Iterators
 
 -- `map`: arrays of the inputs' types give arrays of the outputs' types
-abbrev pub map_shapes : ℕ → (ins outs args : List Shape) → Option (List Shape)
-map_shapes n ins outs args =
+abbrev pub map_types : ℕ → (ins outs args : List DataType) → Option (List DataType)
+map_types n ins outs args =
     all_some (map (array_of n) ins) >>= λ wanted.
-    where_true (are_shapes wanted args) outs >>= λ outs. all_some (map (array_of n) outs)
+    where_true (are_types wanted args) outs >>= λ outs. all_some (map (array_of n) outs)
 
 -- `red`: the first input is the accumulator, and the one output has its type
-abbrev pub red_shapes : ℕ → (ins outs args : List Shape) → Option (List Shape)
-red_shapes n (acc ∷ ins) (out ∷ []) (init ∷ args) =
+abbrev pub red_types : ℕ → (ins outs args : List DataType) → Option (List DataType)
+red_types n (acc ∷ ins) (out ∷ []) (init ∷ args) =
     all_some (map (array_of n) ins) >>= λ wanted.
-    where_true (is_shape acc out && (is_shape acc init && are_shapes wanted args)) (out ∷ [])
-red_shapes n ins outs args = None
+    where_true (is_type acc out && (is_type acc init && are_types wanted args)) (out ∷ [])
+red_types n ins outs args = None
 
 -- `fill`: the one input is the accumulator, the first output has its type, and there are more
-abbrev pub fill_shapes : ℕ → (ins outs args : List Shape) → Option (List Shape)
-fill_shapes n (acc ∷ []) (out ∷ (o ∷ outs)) (init ∷ []) =
+abbrev pub fill_types : ℕ → (ins outs args : List DataType) → Option (List DataType)
+fill_types n (acc ∷ []) (out ∷ (o ∷ outs)) (init ∷ []) =
     all_some (map (array_of n) (o ∷ outs)) >>= λ arrays.
-    where_true (is_shape acc out && is_shape acc init) (out ∷ arrays)
-fill_shapes n ins outs args = None
+    where_true (is_type acc out && is_type acc init) (out ∷ arrays)
+fill_types n ins outs args = None
 
-abbrev pub iterator_shapes :
-    ArrayIterator → ℕ → (ins outs args : List Shape) → Option (List Shape)
-iterator_shapes Map n ins outs args = map_shapes n ins outs args
-iterator_shapes Red n ins outs args = red_shapes n ins outs args
-iterator_shapes Fill n ins outs args = fill_shapes n ins outs args
+abbrev pub iterator_types :
+    ArrayIterator → ℕ → (ins outs args : List DataType) → Option (List DataType)
+iterator_types Map n ins outs args = map_types n ins outs args
+iterator_types Red n ins outs args = red_types n ins outs args
+iterator_types Fill n ins outs args = fill_types n ins outs args
 
 -- the types of the inputs and of the outputs of what is called or iterated
-abbrev pub operator_shapes : Program → Instance → Operator → Option (List Shape × List Shape)
-operator_shapes P here (Node_named f statics) =
+abbrev pub operator_types : Program → Instance → Operator → Option (List DataType × List DataType)
+operator_types P here (Node_named f statics) =
     callee_of P here (call_site f statics) 0 0 >>= λ n.
-    input_shapes P n >>= λ ins. output_shapes P n >>= λ outs. Some (ins, outs)
-operator_shapes P here (Symbol op) =
+    input_types P n >>= λ ins. output_types P n >>= λ outs. Some (ins, outs)
+operator_types P here (Symbol op) =
     if is_arithmetic op then Some (int ∷ int ∷ [], int ∷ [])
     else Some (truth ∷ truth ∷ [], truth ∷ [])
 
 -- ## Expressions
 
 -- the type of a name: of a variable, or `int` of a static parameter or a constant
-abbrev pub name_shape : Program → Instance → Name → Option Shape
-name_shape P here x =
-    either_or (option_map (shape_of P here) (named (λ d. d.name) x (variables here.node)))
+abbrev pub name_data_type : Program → Instance → Name → Option DataType
+name_data_type P here x =
+    either_or (option_map (variable_type P here) (named (λ d. d.name) x (variables here.node)))
     (Some int)
 
 -- the one type of an expression with one result
-abbrev pub only : List Shape → Option Shape
+abbrev pub only : List DataType → Option DataType
 only (t ∷ []) = Some t
 only ts = None
 
-abbrev pub singly : Option Shape → Option (List Shape)
+abbrev pub singly : Option DataType → Option (List DataType)
 singly o = option_map (λ t. t ∷ []) o
 
 -- one result from an operand with one result, and from two
-abbrev pub from_one : Option (List Shape) → (Shape → Option Shape) → Option (List Shape)
+abbrev pub from_one : Option (List DataType) → (DataType → Option DataType) → Option (List DataType)
 from_one ts f = ts >>= only >>= λ t. singly (f t)
 
 abbrev pub from_two :
-    Option (List Shape) → Option (List Shape) → (Shape → Shape → Option Shape) →
-    Option (List Shape)
+    Option (List DataType) → Option (List DataType) → (DataType → DataType → Option DataType) →
+    Option (List DataType)
 from_two ts us f = ts >>= only >>= λ t. us >>= only >>= λ u. singly (f t u)
 
 -- one truth from truths
-abbrev pub from_truths : Option (List Shape) → Option (List Shape)
-from_truths ts = ts >>= λ ts. where_true (list_all (is_shape truth) ts) (truth ∷ [])
+abbrev pub from_truths : Option (List DataType) → Option (List DataType)
+from_truths ts = ts >>= λ ts. where_true (list_all (is_type truth) ts) (truth ∷ [])
 
 abbrev mutual
   -- the types of the results of an expression, or none where a rule of types is broken
-  pub shapes : Program → Instance → Expr → Option (List Shape)
-  shapes P here (Literal n) = Some (int ∷ [])
-  shapes P here (Truth b) = Some (truth ∷ [])
-  shapes P here (Variable x) = singly (name_shape P here x)
-  shapes P here (Group a) = shapes P here a
-  shapes P here (Unary op a) = from_one (shapes P here a) (unary_shape op)
-  shapes P here (Binary op a b) = from_two (shapes P here a) (shapes P here b) (binary_shape op)
-  shapes P here (If c a b) =
-      from_truths (from_one (shapes P here c) Some) >>= λ _.
-      from_two (shapes P here a) (shapes P here b) same_shape
-  shapes P here (Arrow a b) = from_two (shapes P here a) (shapes P here b) same_shape
-  shapes P here (Fby a b) = from_two (shapes P here a) (shapes P here b) same_shape
-  shapes P here (Pre a) = from_one (shapes P here a) Some
-  shapes P here (Current a) = from_one (shapes P here a) Some
-  shapes P here (When a x sign) =
-      from_truths (singly (name_shape P here x)) >>= λ _. from_one (shapes P here a) Some
-  shapes P here (Copies a n) =
-      static_count P here n >>= λ n. from_one (shapes P here a) (array_of n)
-  shapes P here (Index a i) =
-      static_count P here i >>= λ i. from_one (shapes P here a) (index_shape i)
-  shapes P here (Slice a i j) =
+  pub data_types : Program → Instance → Expr → Option (List DataType)
+  data_types P here (Literal n) = Some (int ∷ [])
+  data_types P here (Truth b) = Some (truth ∷ [])
+  data_types P here (Variable x) = singly (name_data_type P here x)
+  data_types P here (Group a) = data_types P here a
+  data_types P here (Unary op a) = from_one (data_types P here a) (unary_type op)
+  data_types P here (Binary op a b) =
+      from_two (data_types P here a) (data_types P here b) (binary_type op)
+  data_types P here (If c a b) =
+      from_truths (from_one (data_types P here c) Some) >>= λ _.
+      from_two (data_types P here a) (data_types P here b) common_type
+  data_types P here (Arrow a b) = from_two (data_types P here a) (data_types P here b) common_type
+  data_types P here (Fby a b) = from_two (data_types P here a) (data_types P here b) common_type
+  data_types P here (Pre a) = from_one (data_types P here a) Some
+  data_types P here (Current a) = from_one (data_types P here a) Some
+  data_types P here (When a x sign) =
+      from_truths (singly (name_data_type P here x)) >>= λ _. from_one (data_types P here a) Some
+  data_types P here (Replicate a n) =
+      static_count P here n >>= λ n. from_one (data_types P here a) (array_of n)
+  data_types P here (Index a i) =
+      static_count P here i >>= λ i. from_one (data_types P here a) (index_type i)
+  data_types P here (Slice a i j) =
       static_count P here i >>= λ i. static_count P here j >>= λ j.
-      from_one (shapes P here a) (slice_shape i j)
-  shapes P here (Join a b) = from_two (shapes P here a) (shapes P here b) join_shape
-  shapes P here (Array es) = all_shapes P here es >>= λ ts. singly (list_shape ts)
-  shapes P here (AtMostOne es) = from_truths (all_shapes P here es)
-  shapes P here (Nor es) = from_truths (all_shapes P here es)
-  shapes P here (Call f statics es) =
-      operator_shapes P here (Node_named f statics) >>= λ n.
-      all_shapes P here es >>= λ args. where_true (are_shapes n.0 args) n.1
-  shapes P here (Iterate it op n es) =
-      static_count P here n >>= λ n. operator_shapes P here op >>= λ o.
-      all_shapes P here es >>= λ args. iterator_shapes it n o.0 o.1 args
+      from_one (data_types P here a) (slice_type i j)
+  data_types P here (Join a b) = from_two (data_types P here a) (data_types P here b) join_type
+  data_types P here (Array es) = all_types P here es >>= λ ts. singly (list_type ts)
+  data_types P here (AtMostOne es) = from_truths (all_types P here es)
+  data_types P here (Nor es) = from_truths (all_types P here es)
+  data_types P here (Call f statics es) =
+      operator_types P here (Node_named f statics) >>= λ n.
+      all_types P here es >>= λ args. where_true (are_types n.0 args) n.1
+  data_types P here (Iterate it op n es) =
+      static_count P here n >>= λ n. operator_types P here op >>= λ o.
+      all_types P here es >>= λ args. iterator_types it n o.0 o.1 args
 
   -- the types of expressions with one result each
-  pub all_shapes : Program → Instance → Exprs → Option (List Shape)
-  all_shapes P here Nil = Some []
-  all_shapes P here (Cons e es) =
-      shapes P here e >>= only >>= λ t. all_shapes P here es >>= λ ts. Some (t ∷ ts)
+  pub all_types : Program → Instance → Exprs → Option (List DataType)
+  all_types P here Nil = Some []
+  all_types P here (Cons e es) =
+      data_types P here e >>= only >>= λ t. all_types P here es >>= λ ts. Some (t ∷ ts)

@@ -6,7 +6,7 @@ use Rattle.std.specs.List.{list_any}
 use Rattle.lb_syntax.specs.Lists.{some_of, listed}
 use Rattle.lb_syntax.specs.Tree.{Name, Expr, Fby, Pre, Current, Node, Statement, Equation, Assertion}
 use Rattle.lb_static.specs.Instances.{Program, Instance, Path, Root, Observer, instance_at, instances}
-use Rattle.lb_static.specs.Shapes.{variables}
+use Rattle.lb_static.specs.DataTypes.{variables}
 use Rattle.lb_check.specs.Scalars.{Boolean, Bad, Cell, Stream}
 use Rattle.lb_check.specs.Clocks.{Clock, clock_of, clock_or}
 use Rattle.lb_check.specs.Occurrences.{Occurrence, at, call_count, node_occurrences, statements}
@@ -24,11 +24,11 @@ operand_of P here k n (Fby a b) = Some (at k (n + call_count a) b)
 operand_of P here k n (Current a) = Some (at (clock_or (clock_of P here.node a)) n a)
 operand_of P here k n e = None
 
-abbrev pub kept_operand : Program → Instance → Occurrence → Option Occurrence
-kept_operand P here o = operand_of P here o.clock o.calls_before o.expr
+abbrev pub memory_operand : Program → Instance → Occurrence → Option Occurrence
+memory_operand P here o = operand_of P here o.clock o.calls_before o.expr
 
-abbrev pub kept_operands : Program → Instance → List Occurrence
-kept_operands P here = some_of (map (kept_operand P here) (node_occurrences P here.node))
+abbrev pub memory_operands : Program → Instance → List Occurrence
+memory_operands P here = some_of (map (memory_operand P here) (node_occurrences P here.node))
 
 -- the right side of an assertion
 abbrev pub assertion_of : Statement → Occurrence → Option Occurrence
@@ -43,8 +43,8 @@ abbrev pub variable_columns : History → Instance → List Stream
 variable_columns H here = flat_map (λ d. H.columns here.path d.name) (variables here.node)
 
 -- those of the operands that it keeps
-abbrev pub kept_columns : Program → History → Instance → List Stream
-kept_columns P H here = flat_map (streams_at P H here) (kept_operands P here)
+abbrev pub memory_columns : Program → History → Instance → List Stream
+memory_columns P H here = flat_map (streams_at P H here) (memory_operands P here)
 
 -- those of its assertions
 abbrev pub assertion_columns : Program → History → Instance → List Stream
@@ -53,7 +53,7 @@ assertion_columns P H here = flat_map (streams_at P H here) (assertions P here.n
 -- the places at which a fault counts
 abbrev pub named_places : Program → History → Instance → List Stream
 named_places P H here =
-    variable_columns H here ++ (kept_columns P H here ++ assertion_columns P H here)
+    variable_columns H here ++ (memory_columns P H here ++ assertion_columns P H here)
 
 -- ## What happens at an instant
 
@@ -80,14 +80,14 @@ abbrev pub is_failed : Program → History → ℕ → Bool
 is_failed P H t = list_any (λ here. some_at is_false t (assertion_columns P H here)) (instances P)
 
 -- where the node stands whose one output is the property: the observer, or else the node under test
-abbrev pub judge : Option Name → Path
-judge None = Root
-judge (Some o) = Observer
+abbrev pub property_path : Option Name → Path
+property_path None = Root
+property_path (Some o) = Observer
 
 abbrev pub property_columns : Program → History → List Stream
 property_columns P H =
     listed (λ here. flat_map (λ d. H.columns here.path d.name) here.node.outputs)
-    (instance_at P (judge P.observer))
+    (instance_at P (property_path P.observer))
 
 -- the property is false
 abbrev pub is_violated : Program → History → ℕ → Bool

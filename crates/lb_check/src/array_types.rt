@@ -3,12 +3,12 @@
 ghost use Rattle.std.specs.Prelude.{◌≡◌, ◌∷◌, [], ◌++◌, ◌&&◌, map, option_map, IfOk};
 ghost use Rattle.lb_syntax.specs.Lists as lists;
 ghost use Rattle.lb_syntax.specs.Lists.{all_some};
-ghost use Rattle.lb_static.specs.Shapes.{is_shape, are_shapes};
-ghost use Rattle.lb_check.specs.StoredShapes.{shape_in, shapes_in};
+ghost use Rattle.lb_static.specs.DataTypes.{is_type, are_types};
+ghost use Rattle.lb_check.specs.StoredTypes.{view_type, view_types};
 ghost use Rattle.lb_check.specs.Types as types;
 
+use crate::data_type::{DataType, Signature, all_are, are_same};
 use crate::operand_types::one;
-use crate::shape::{Shape, Signature, all_are, are_same};
 use lb_syntax::tree::ArrayIterator;
 use std::alloc::{AllocError, Global};
 
@@ -16,9 +16,9 @@ use std::alloc::{AllocError, Global};
 const LONGEST: u64 = 4096;
 
 /// An array of so many of these, where it is not too long.
-#[tactic(auto, using(crate::proofs::ShapeLists::outermost))]
-pub fn array_of(length: u64, element: Shape) -> Result<Option<Shape>, AllocError>
-    ensures { IfOk result (λ o. option_map shape_in o ≡ types.array_of length (shape_in element)) }
+#[tactic(auto, using(crate::proofs::TypeLists::outermost))]
+pub fn array_of(length: u64, element: DataType) -> Result<Option<DataType>, AllocError>
+    ensures { IfOk result (λ o. option_map view_type o ≡ types.array_of length (view_type element)) }
 {
     if length < 1 || LONGEST < length {
         return Ok(None);
@@ -29,9 +29,9 @@ pub fn array_of(length: u64, element: Shape) -> Result<Option<Shape>, AllocError
 }
 
 /// The type of an element at this index.
-#[tactic(auto, using(crate::proofs::ShapeLists::outermost))]
-pub fn index_shape(index: u64, array: Shape) -> Option<Shape>
-    ensures { option_map shape_in result ≡ types.index_shape index (shape_in array) }
+#[tactic(auto, using(crate::proofs::TypeLists::outermost))]
+pub fn index_type(index: u64, array: DataType) -> Option<DataType>
+    ensures { option_map view_type result ≡ types.index_type index (view_type array) }
 {
     let mut element = array;
     let length = element.lengths.pop()?;
@@ -39,10 +39,10 @@ pub fn index_shape(index: u64, array: Shape) -> Option<Shape>
 }
 
 /// The type of a slice with these ends.
-#[tactic(auto, using(crate::proofs::ShapeLists::outermost))]
-pub fn slice_shape(start: u64, end: u64, array: Shape) -> Result<Option<Shape>, AllocError>
+#[tactic(auto, using(crate::proofs::TypeLists::outermost))]
+pub fn slice_type(start: u64, end: u64, array: DataType) -> Result<Option<DataType>, AllocError>
     ensures { IfOk result (λ o.
-        option_map shape_in o ≡ types.slice_shape start end (shape_in array)) }
+        option_map view_type o ≡ types.slice_type start end (view_type array)) }
 {
     let mut element = array;
     let Some(length) = element.lengths.pop() else {
@@ -56,26 +56,29 @@ pub fn slice_shape(start: u64, end: u64, array: Shape) -> Result<Option<Shape>, 
 }
 
 /// The type of one array and then another.
-#[tactic(auto, using(crate::proofs::ShapeLists::outermost))]
-pub fn join_shape(left: Shape, right: Shape) -> Result<Option<Shape>, AllocError>
+#[tactic(auto, using(crate::proofs::TypeLists::outermost))]
+pub fn join_type(left: DataType, right: DataType) -> Result<Option<DataType>, AllocError>
     ensures { IfOk result (λ o.
-        option_map shape_in o ≡ types.join_shape (shape_in left) (shape_in right)) }
+        option_map view_type o ≡ types.join_type (view_type left) (view_type right)) }
 {
     let mut first = left;
     let mut second = right;
     let (Some(m), Some(n)) = (first.lengths.pop(), second.lengths.pop()) else {
         return Ok(None);
     };
-    if !first.is(&second) || LONGEST < m || LONGEST < n {
+    if !first.equals(&second) || LONGEST < m || LONGEST < n {
         return Ok(None);
     }
     array_of(m + n, second)
 }
 
 /// The type of an array of so many of these, if it is known how many.
-pub fn copies_shape(length: Option<u64>, element: Shape) -> Result<Option<Shape>, AllocError>
+pub fn replicate_type(
+    length: Option<u64>,
+    element: DataType,
+) -> Result<Option<DataType>, AllocError>
     ensures { IfOk result (λ o.
-        option_map shape_in o ≡ lists.◌>>=◌ length (λ n. types.array_of n (shape_in element))) }
+        option_map view_type o ≡ lists.◌>>=◌ length (λ n. types.array_of n (view_type element))) }
 {
     match length {
         Some(length) => array_of(length, element),
@@ -84,38 +87,38 @@ pub fn copies_shape(length: Option<u64>, element: Shape) -> Result<Option<Shape>
 }
 
 /// The type of an element at this index, if that is known.
-pub fn element_shape(index: Option<u64>, array: Shape) -> Option<Shape>
-    ensures { option_map shape_in result
-        ≡ lists.◌>>=◌ index (λ i. types.index_shape i (shape_in array)) }
+pub fn element_type(index: Option<u64>, array: DataType) -> Option<DataType>
+    ensures { option_map view_type result
+        ≡ lists.◌>>=◌ index (λ i. types.index_type i (view_type array)) }
 {
-    index_shape(index?, array)
+    index_type(index?, array)
 }
 
 /// The type of a slice with these ends, if they are known.
-pub fn part_shape(
+pub fn part_type(
     start: Option<u64>,
     end: Option<u64>,
-    array: Shape,
-) -> Result<Option<Shape>, AllocError>
-    ensures { IfOk result (λ o. option_map shape_in o
+    array: DataType,
+) -> Result<Option<DataType>, AllocError>
+    ensures { IfOk result (λ o. option_map view_type o
         ≡ lists.◌>>=◌ start (λ i. lists.◌>>=◌ end (λ j.
-        types.slice_shape i j (shape_in array)))) }
+        types.slice_type i j (view_type array)))) }
 {
     match (start, end) {
-        (Some(start), Some(end)) => slice_shape(start, end, array),
+        (Some(start), Some(end)) => slice_type(start, end, array),
         _ => Ok(None),
     }
 }
 
 /// These types, and then arrays of so many of each of those.
 fn arrays_onto(
-    before: Vec<Shape>,
+    before: Vec<DataType>,
     length: u64,
-    elements: &[Shape],
-) -> Result<Option<Vec<Shape>>, AllocError>
-    ensures { IfOk result (λ o. option_map shapes_in o
-        ≡ option_map (λ ts. shapes_in before ++ ts)
-        (all_some (map (types.array_of length) (map shape_in elements.now)))) }
+    elements: &[DataType],
+) -> Result<Option<Vec<DataType>>, AllocError>
+    ensures { IfOk result (λ o. option_map view_types o
+        ≡ option_map (λ ts. view_types before ++ ts)
+        (all_some (map (types.array_of length) (map view_type elements.now)))) }
 {
     let mut arrays = before;
     for element in elements {
@@ -128,9 +131,9 @@ fn arrays_onto(
 }
 
 /// The type of a list of elements of these types.
-pub fn list_shape(elements: &[Shape]) -> Result<Option<Shape>, AllocError>
+pub fn list_type(elements: &[DataType]) -> Result<Option<DataType>, AllocError>
     ensures { IfOk result (λ o.
-        option_map shape_in o ≡ types.list_shape (map shape_in elements.now)) }
+        option_map view_type o ≡ types.list_type (map view_type elements.now)) }
 {
     let [first, rest @ ..] = elements else {
         return Ok(None);
@@ -142,16 +145,16 @@ pub fn list_shape(elements: &[Shape]) -> Result<Option<Shape>, AllocError>
 }
 
 /// The types of what `map` gives, over a node with these inputs and outputs.
-fn map_shapes(
+fn map_types(
     alloc: Global,
     length: u64,
-    inputs: &[Shape],
-    outputs: &[Shape],
-    given: &[Shape],
-) -> Result<Option<Vec<Shape>>, AllocError>
-    ensures { IfOk result (λ o. option_map shapes_in o
-        ≡ types.map_shapes length (map shape_in inputs.now) (map shape_in outputs.now)
-        (map shape_in given.now)) }
+    inputs: &[DataType],
+    outputs: &[DataType],
+    given: &[DataType],
+) -> Result<Option<Vec<DataType>>, AllocError>
+    ensures { IfOk result (λ o. option_map view_types o
+        ≡ types.map_types length (map view_type inputs.now) (map view_type outputs.now)
+        (map view_type given.now)) }
 {
     let Some(wanted) = arrays_onto(Vec::new(alloc), length, inputs)? else {
         return Ok(None);
@@ -165,17 +168,17 @@ fn map_shapes(
 /// Whether `red` takes these operands: its accumulator has the type of the output and of the first
 /// operand, and the others have the types that it wants.
 fn fits_red(
-    accumulator: &Shape,
-    output: &Shape,
-    start: &Shape,
-    wanted: &[Shape],
-    given: &[Shape],
+    accumulator: &DataType,
+    output: &DataType,
+    start: &DataType,
+    wanted: &[DataType],
+    given: &[DataType],
 ) -> bool
-    ensures { result ≡ (is_shape (shape_in accumulator.now) (shape_in output.now)
-        && (is_shape (shape_in accumulator.now) (shape_in start.now)
-        && are_shapes (map shape_in wanted.now) (map shape_in given.now))) }
+    ensures { result ≡ (is_type (view_type accumulator.now) (view_type output.now)
+        && (is_type (view_type accumulator.now) (view_type start.now)
+        && are_types (map view_type wanted.now) (map view_type given.now))) }
 {
-    accumulator.is(output) && (accumulator.is(start) && are_same(wanted, given))
+    accumulator.equals(output) && (accumulator.equals(start) && are_same(wanted, given))
 }
 
 /// The types of what `red` gives, over a node with an accumulator, these other inputs and one
@@ -183,15 +186,15 @@ fn fits_red(
 fn red_results(
     alloc: Global,
     length: u64,
-    accumulator: &Shape,
-    inputs: &[Shape],
-    output: &Shape,
-    start: &Shape,
-    given: &[Shape],
-) -> Result<Option<Vec<Shape>>, AllocError>
-    ensures { IfOk result (λ o. option_map shapes_in o
-        ≡ types.red_shapes length (shape_in accumulator.now ∷ map shape_in inputs.now)
-        (shape_in output.now ∷ []) (shape_in start.now ∷ map shape_in given.now)) }
+    accumulator: &DataType,
+    inputs: &[DataType],
+    output: &DataType,
+    start: &DataType,
+    given: &[DataType],
+) -> Result<Option<Vec<DataType>>, AllocError>
+    ensures { IfOk result (λ o. option_map view_types o
+        ≡ types.red_types length (view_type accumulator.now ∷ map view_type inputs.now)
+        (view_type output.now ∷ []) (view_type start.now ∷ map view_type given.now)) }
 {
     let Some(wanted) = arrays_onto(Vec::new(alloc), length, inputs)? else {
         return Ok(None);
@@ -204,16 +207,16 @@ fn red_results(
 
 /// The types of what `red` gives: the first input is the accumulator, and the one output has its
 /// type.
-fn red_shapes(
+fn red_types(
     alloc: Global,
     length: u64,
-    inputs: &[Shape],
-    outputs: &[Shape],
-    given: &[Shape],
-) -> Result<Option<Vec<Shape>>, AllocError>
-    ensures { IfOk result (λ o. option_map shapes_in o
-        ≡ types.red_shapes length (map shape_in inputs.now) (map shape_in outputs.now)
-        (map shape_in given.now)) }
+    inputs: &[DataType],
+    outputs: &[DataType],
+    given: &[DataType],
+) -> Result<Option<Vec<DataType>>, AllocError>
+    ensures { IfOk result (λ o. option_map view_types o
+        ≡ types.red_types length (map view_type inputs.now) (map view_type outputs.now)
+        (map view_type given.now)) }
 {
     match (inputs, outputs, given) {
         ([accumulator, inputs @ ..], [output], [start, given @ ..]) => {
@@ -227,18 +230,18 @@ fn red_shapes(
 fn fill_results(
     alloc: Global,
     length: u64,
-    accumulator: &Shape,
-    output: &Shape,
-    others: &[Shape],
-    start: &Shape,
-) -> Result<Option<Vec<Shape>>, AllocError>
-    ensures { IfOk result (λ o. option_map shapes_in o
-        ≡ lists.◌>>=◌ (all_some (map (types.array_of length) (map shape_in others.now)))
-        (λ arrays. lists.where_true (is_shape (shape_in accumulator.now) (shape_in output.now)
-        && is_shape (shape_in accumulator.now) (shape_in start.now))
-        (shape_in output.now ∷ arrays))) }
+    accumulator: &DataType,
+    output: &DataType,
+    others: &[DataType],
+    start: &DataType,
+) -> Result<Option<Vec<DataType>>, AllocError>
+    ensures { IfOk result (λ o. option_map view_types o
+        ≡ lists.◌>>=◌ (all_some (map (types.array_of length) (map view_type others.now)))
+        (λ arrays. lists.where_true (is_type (view_type accumulator.now) (view_type output.now)
+        && is_type (view_type accumulator.now) (view_type start.now))
+        (view_type output.now ∷ arrays))) }
 {
-    if !accumulator.is(output) || !accumulator.is(start) {
+    if !accumulator.equals(output) || !accumulator.equals(start) {
         return Ok(None);
     }
     let mut results = Vec::new(alloc);
@@ -248,16 +251,16 @@ fn fill_results(
 
 /// The types of what `fill` gives: the one input is the accumulator, the first output has its
 /// type, and there are more.
-fn fill_shapes(
+fn fill_types(
     alloc: Global,
     length: u64,
-    inputs: &[Shape],
-    outputs: &[Shape],
-    given: &[Shape],
-) -> Result<Option<Vec<Shape>>, AllocError>
-    ensures { IfOk result (λ o. option_map shapes_in o
-        ≡ types.fill_shapes length (map shape_in inputs.now) (map shape_in outputs.now)
-        (map shape_in given.now)) }
+    inputs: &[DataType],
+    outputs: &[DataType],
+    given: &[DataType],
+) -> Result<Option<Vec<DataType>>, AllocError>
+    ensures { IfOk result (λ o. option_map view_types o
+        ≡ types.fill_types length (map view_type inputs.now) (map view_type outputs.now)
+        (map view_type given.now)) }
 {
     let ([accumulator], [output, others @ ..], [start]) = (inputs, outputs, given) else {
         return Ok(None);
@@ -269,22 +272,22 @@ fn fill_shapes(
 }
 
 /// The types of what an iterator gives, over a node with these inputs and outputs.
-pub fn iterator_shapes(
+pub fn iterator_types(
     alloc: Global,
     iterator: ArrayIterator,
     length: u64,
     callee: &Signature,
-    given: &[Shape],
-) -> Result<Option<Vec<Shape>>, AllocError>
-    ensures { IfOk result (λ o. option_map shapes_in o
-        ≡ types.iterator_shapes iterator length (shapes_in callee.now.inputs)
-        (shapes_in callee.now.outputs) (map shape_in given.now)) }
+    given: &[DataType],
+) -> Result<Option<Vec<DataType>>, AllocError>
+    ensures { IfOk result (λ o. option_map view_types o
+        ≡ types.iterator_types iterator length (view_types callee.now.inputs)
+        (view_types callee.now.outputs) (map view_type given.now)) }
 {
     let inputs = &callee.inputs;
     let outputs = &callee.outputs;
     match iterator {
-        ArrayIterator::Map => map_shapes(alloc, length, inputs, outputs, given),
-        ArrayIterator::Red => red_shapes(alloc, length, inputs, outputs, given),
-        ArrayIterator::Fill => fill_shapes(alloc, length, inputs, outputs, given),
+        ArrayIterator::Map => map_types(alloc, length, inputs, outputs, given),
+        ArrayIterator::Red => red_types(alloc, length, inputs, outputs, given),
+        ArrayIterator::Fill => fill_types(alloc, length, inputs, outputs, given),
     }
 }

@@ -4,13 +4,13 @@ ghost use Rattle.std.specs.Prelude.{◌≡◌, ◌+◌, ◌∷◌, [], List, tak
 ghost use Rattle.std.specs.List.{list_all};
 ghost use Rattle.lb_static.specs.declared.resolved.VariableId as named;
 ghost use Rattle.lb_check.specs.CallClocks as variables;
-ghost use Rattle.lb_check.specs.StoredStandings.{clocks_of, context_in, given_in};
+ghost use Rattle.lb_check.specs.StoredClocks.{clocks_of, context_in, given_in};
 ghost use Rattle.lb_check.specs.TermClocks as mirror;
 
+use crate::clock_set::{ClockSet, Operand};
 use crate::own_clock::Clock;
-use crate::standing::{Operand, Standing};
-use crate::term_clock::ClockScope;
-use crate::type_scope::variables_at;
+use crate::term_clock::ClockEnv;
+use crate::type_env::variables_at;
 use lb_static::resolved::{ResolvedNode, Sampling, Term, Variable, VariableId};
 use std::alloc::{AllocError, Global};
 
@@ -109,25 +109,25 @@ pub fn are_given(callee: &ResolvedNode, operands: &[Operand]) -> bool
 
 /// The base clock of a callee, if an operand determines it: its parameter is on the base clock, and
 /// it stands on one clock alone.
-fn determined(clock: Option<Sampling>, standing: Standing) -> Option<Clock>
-    ensures { result ≡ mirror.base_of (clock ∷ []) (standing ∷ []) }
+fn determined(clock: Option<Sampling>, clock_set: ClockSet) -> Option<Clock>
+    ensures { result ≡ mirror.base_of (clock ∷ []) (clock_set ∷ []) }
 {
-    match (clock, standing) {
-        (None, Standing::Only(own)) => Some(own),
+    match (clock, clock_set) {
+        (None, ClockSet::OneClock(own)) => Some(own),
         _ => None,
     }
 }
 
 /// The base clock of a callee: that which the first operand determines that determines one.
-#[tactic(auto, using(crate::proofs::StandingRows::beside))]
+#[tactic(auto, using(crate::proofs::ClockSetRows::beside))]
 fn base_of(parameters: &[Variable], operands: &[Operand]) -> Option<Clock>
-    ensures { result ≡ mirror.base_of (clocks_of parameters.now) (mirror.standings operands.now) }
+    ensures { result ≡ mirror.base_of (clocks_of parameters.now) (mirror.clock_sets operands.now) }
 {
     for i in 0..parameters.len() {
         if operands.len() <= i {
             return None;
         }
-        if let Some(base) = determined(parameters[i].clock, operands[i].standing) {
+        if let Some(base) = determined(parameters[i].clock, operands[i].clock_set) {
             return Some(base);
         }
     }
@@ -149,7 +149,7 @@ fn expected(base: Option<Clock>, given: &Given, clock: Option<Sampling>) -> Opti
 }
 
 /// Whether each operand may stand on the clock of its parameter.
-#[tactic(auto, using(crate::proofs::StandingRows::beside))]
+#[tactic(auto, using(crate::proofs::ClockSetRows::beside))]
 fn all_fit(
     base: Option<Clock>,
     given: &Given,
@@ -157,14 +157,14 @@ fn all_fit(
     operands: &[Operand],
 ) -> bool
     ensures { result ≡ mirror.all_fit base (given_in given.now) (clocks_of parameters.now)
-        (mirror.standings operands.now) }
+        (mirror.clock_sets operands.now) }
 {
     for i in 0..parameters.len() {
         if operands.len() <= i {
             return true;
         }
         let clock = expected(base, given, parameters[i].clock);
-        if !operands[i].standing.may_stand(clock) {
+        if !operands[i].clock_set.accepts_clock(clock) {
             return false;
         }
     }
@@ -172,7 +172,7 @@ fn all_fit(
 }
 
 /// Where the first result of a callee stands.
-fn first_result(base: Option<Clock>, given: &Given, outputs: &[Variable]) -> Standing
+fn first_result(base: Option<Clock>, given: &Given, outputs: &[Variable]) -> ClockSet
     ensures { result ≡ mirror.first_result base (given_in given.now) (clocks_of outputs.now) }
 {
     let clock = match outputs {
@@ -180,14 +180,14 @@ fn first_result(base: Option<Clock>, given: &Given, outputs: &[Variable]) -> Sta
         [] => base,
     };
     match clock {
-        Some(clock) => Standing::Only(clock),
-        None => Standing::Anywhere,
+        Some(clock) => ClockSet::OneClock(clock),
+        None => ClockSet::AnyClock,
     }
 }
 
-/// Where a call with one result may stand.
-pub fn call_standing(callee: &ResolvedNode, operands: &[Operand]) -> Standing
-    ensures { result ≡ mirror.call_standing callee.now operands.now }
+/// The clocks that a call with one result accepts.
+pub fn call_clock_set(callee: &ResolvedNode, operands: &[Operand]) -> ClockSet
+    ensures { result ≡ mirror.call_clock_set callee.now operands.now }
 {
     let inputs = variables_from(callee, 0, callee.inputs);
     let base = base_of(inputs, operands);
@@ -196,13 +196,13 @@ pub fn call_standing(callee: &ResolvedNode, operands: &[Operand]) -> Standing
         let outputs = variables_from(callee, callee.inputs, callee.outputs);
         first_result(base, given, outputs)
     } else {
-        Standing::Nowhere
+        ClockSet::NoClock
     }
 }
 
 /// Whether no parameter of a node has a clock of its own.
-pub fn is_unclocked(node: &ResolvedNode) -> bool
-    ensures { result ≡ mirror.is_unclocked node.now }
+pub fn is_base_clocked(node: &ResolvedNode) -> bool
+    ensures { result ≡ mirror.is_base_clocked node.now }
 {
     for variable in parameters(node) {
         if variable.clock.is_some() {
@@ -215,16 +215,16 @@ pub fn is_unclocked(node: &ResolvedNode) -> bool
 /// Left variables as operands: each stands on its declared clock alone.
 fn left_operands(
     alloc: Global,
-    scope: &ClockScope,
+    env: &ClockEnv,
     lefts: &[VariableId],
 ) -> Result<Vec<Operand>, AllocError>
     ensures { IfOk result (λ results.
-        mirror.standings results.items ≡ mirror.left_standings (context_in scope.now) lefts.now) }
+        mirror.clock_sets results.items ≡ mirror.left_clock_sets (context_in env.now) lefts.now) }
 {
     let mut results = Vec::new(alloc);
     for left in lefts {
         results.push(Operand {
-            standing: Standing::Only(scope.variable(*left)),
+            clock_set: ClockSet::OneClock(env.variable(*left)),
             variable: Some(*left),
         })?;
     }
@@ -235,7 +235,7 @@ fn left_operands(
 /// the operands, determine.
 fn result_base(callee: &ResolvedNode, operands: &[Operand], results: &[Operand]) -> Option<Clock>
     ensures { (ctx : mirror.Context) (lefts : List named.VariableId) →
-        mirror.standings results.now ≡ mirror.left_standings ctx lefts →
+        mirror.clock_sets results.now ≡ mirror.left_clock_sets ctx lefts →
         result ≡ mirror.result_base ctx callee.now operands.now lefts }
 {
     if results.is_empty() {
@@ -252,18 +252,18 @@ fn result_base(callee: &ResolvedNode, operands: &[Operand], results: &[Operand])
 /// results, stand on the clocks of the parameters.
 pub fn is_call_clocked(
     alloc: Global,
-    scope: &ClockScope,
+    env: &ClockEnv,
     callee: &ResolvedNode,
     operands: &[Operand],
     lefts: &[VariableId],
 ) -> Result<bool, AllocError>
     ensures { IfOk result (λ kept.
-        kept ≡ mirror.is_call_clocked (context_in scope.now) callee.now operands.now lefts.now) }
+        kept ≡ mirror.is_call_clocked (context_in env.now) callee.now operands.now lefts.now) }
 {
     if lefts.len() != callee.outputs || !are_given(callee, operands) {
         return Ok(false);
     }
-    let results = left_operands(alloc, scope, lefts)?;
+    let results = left_operands(alloc, env, lefts)?;
     let base = result_base(callee, operands, &results);
     let given = &Given::Whole(callee.inputs, operands, lefts);
     let inputs = variables_from(callee, 0, callee.inputs);

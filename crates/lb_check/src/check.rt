@@ -9,10 +9,10 @@ ghost use Rattle.lb_check.specs.Checked.{IsAnswer, IsRefusal};
 ghost use Rattle.lb_check.specs.JudgedPrograms.{IsJudged};
 
 use crate::checked::Checked;
+use crate::clock_rules::ill_clocked_node;
+use crate::definition_rules::ill_defined_node;
 use crate::error::CheckError;
-use crate::judge_clocks::unclocked_node;
-use crate::judge_definitions::undefined_node;
-use crate::judge_types::untyped_node;
+use crate::type_rules::ill_typed_node;
 use lb_static::elab::Elab;
 use lb_static::reach::{NodeId, Reached};
 use lb_static::table::Table;
@@ -38,13 +38,13 @@ fn broken_rule(
 ) -> Result<Option<CheckError>, AllocError>
     ensures { (P : Program) → IsJudged P reached.now table.now → IfOk result (IsRefusal P) }
 {
-    if let Some(id) = untyped_node(alloc, reached, table)? {
+    if let Some(id) = ill_typed_node(alloc, reached, table)? {
         return Ok(Some(CheckError::Type(name_of(alloc, reached, id)?)));
     }
-    if let Some(id) = unclocked_node(alloc, reached, table)? {
+    if let Some(id) = ill_clocked_node(alloc, reached, table)? {
         return Ok(Some(CheckError::Clock(name_of(alloc, reached, id)?)));
     }
-    if let Some(id) = undefined_node(alloc, reached, table)? {
+    if let Some(id) = ill_defined_node(alloc, reached, table)? {
         return Ok(Some(CheckError::Definition(name_of(alloc, reached, id)?)));
     }
     Ok(None)

@@ -9,7 +9,7 @@ ghost use Rattle.lb_static.specs.Parts.{variable_names};
 ghost use Rattle.lb_static.specs.ResolvedNodes.{IsResolved, node_of};
 ghost use Rattle.lb_check.specs.ClockRules.{are_declared_clocks};
 ghost use Rattle.lb_check.specs.ClockDepths.{AreAwaited, AreDepths, AreFound, IsKnown};
-ghost use Rattle.lb_check.specs.ClockDepths.{StandsAt, depth_within, waits_below};
+ghost use Rattle.lb_check.specs.ClockDepths.{HasDepth, depth_within, waits_below};
 
 use lb_static::resolved::{ResolvedNode, Variable};
 use std::alloc::{AllocError, Global};
@@ -22,7 +22,7 @@ fn depth_of(depths: &[Option<usize>], variables: &[Variable], first: usize) -> O
     requires known { AreDepths variables.now depths.now }
     requires within { first < length variables.now }
     ensures found { (d : ℕ) → result ≡ Some d →
-        StandsAt variables.now d first × d ≤ length variables.now }
+        HasDepth variables.now d first × d ≤ length variables.now }
     ensures circle { result ≡ None →
         depth_within (length variables.now + 1) variables.now first ≡ None }
 {
@@ -47,7 +47,7 @@ fn note_depths(depths: &mut [Option<usize>], variables: &[Variable], first: usiz
     requires awaited { AreAwaited variables.now }
     requires known { AreDepths variables.now depths.old }
     requires within { first < length variables.now }
-    requires stands { StandsAt variables.now depth first }
+    requires stands { HasDepth variables.now depth first }
     requires small { depth ≤ length variables.now }
     ensures known { AreDepths variables.now depths.new }
     ensures noted { IsKnown depths.new first }

@@ -2,53 +2,58 @@
 
 ghost use Rattle.std.specs.Prelude.{◌≡◌, map, option_map, IfOk};
 ghost use Rattle.lb_syntax.specs.Lists as lists;
-ghost use Rattle.lb_check.specs.StoredShapes.{shape_in, shapes_in, signature_in};
+ghost use Rattle.lb_check.specs.StoredTypes.{view_type, view_types, signature_in};
 ghost use Rattle.lb_check.specs.TermTypes as mirror;
 ghost use Rattle.lb_check.specs.Types as types;
 
 use crate::array_types;
-use crate::shape::{Shape, Signature};
+use crate::data_type::{DataType, Signature};
 use lb_syntax::tree::{BinaryOperator, Kind, UnaryOperator};
 use std::alloc::{AllocError, Global};
 
 /// What is given, where the operands fit.
-fn given_where(fits: bool, given: Shape) -> Option<Shape>
-    ensures { option_map shape_in result ≡ lists.where_true fits (shape_in given) }
+fn given_where(fits: bool, given: DataType) -> Option<DataType>
+    ensures { option_map view_type result ≡ lists.where_true fits (view_type given) }
 {
     if fits { Some(given) } else { None }
 }
 
 /// What an operator gives, where its operand has the type that it takes.
-pub fn unary_shape(alloc: Global, op: UnaryOperator, operand: Shape) -> Option<Shape>
-    ensures { option_map shape_in result ≡ types.unary_shape op (shape_in operand) }
+pub fn unary_type(alloc: Global, op: UnaryOperator, operand: DataType) -> Option<DataType>
+    ensures { option_map view_type result ≡ types.unary_type op (view_type operand) }
 {
     match op {
-        UnaryOperator::Not => given_where(operand.is_truth(), Shape::scalar(alloc, Kind::Bool)),
-        UnaryOperator::Negate => given_where(operand.is_int(), Shape::scalar(alloc, Kind::Int)),
+        UnaryOperator::Not => given_where(operand.is_truth(), DataType::scalar(alloc, Kind::Bool)),
+        UnaryOperator::Negate => given_where(operand.is_int(), DataType::scalar(alloc, Kind::Int)),
     }
 }
 
 /// Whether both are `int`.
-fn are_ints(left: &Shape, right: &Shape) -> bool
-    ensures { result ≡ types.are_ints (shape_in left.now) (shape_in right.now) }
+fn are_ints(left: &DataType, right: &DataType) -> bool
+    ensures { result ≡ types.are_ints (view_type left.now) (view_type right.now) }
 {
     left.is_int() && right.is_int()
 }
 
 /// Whether both are `bool`.
-fn are_truths(left: &Shape, right: &Shape) -> bool
-    ensures { result ≡ types.are_truths (shape_in left.now) (shape_in right.now) }
+fn are_truths(left: &DataType, right: &DataType) -> bool
+    ensures { result ≡ types.are_truths (view_type left.now) (view_type right.now) }
 {
     left.is_truth() && right.is_truth()
 }
 
 /// What an operator gives, where its operands have the types that it takes.
-fn binary_shape(alloc: Global, op: BinaryOperator, left: &Shape, right: &Shape) -> Option<Shape>
-    ensures { option_map shape_in result
-        ≡ types.binary_shape op (shape_in left.now) (shape_in right.now) }
+fn binary_type(
+    alloc: Global,
+    op: BinaryOperator,
+    left: &DataType,
+    right: &DataType,
+) -> Option<DataType>
+    ensures { option_map view_type result
+        ≡ types.binary_type op (view_type left.now) (view_type right.now) }
 {
-    let int = Shape::scalar(alloc, Kind::Int);
-    let truth = Shape::scalar(alloc, Kind::Bool);
+    let int = DataType::scalar(alloc, Kind::Int);
+    let truth = DataType::scalar(alloc, Kind::Bool);
     match op {
         BinaryOperator::Plus
         | BinaryOperator::Minus
@@ -72,45 +77,52 @@ fn binary_shape(alloc: Global, op: BinaryOperator, left: &Shape, right: &Shape) 
 pub fn of_operands(
     alloc: Global,
     op: BinaryOperator,
-    left: Option<Shape>,
-    right: Option<Shape>,
-) -> Option<Shape>
-    ensures { option_map shape_in result
-        ≡ mirror.when_both (option_map shape_in left) (option_map shape_in right)
-        (types.binary_shape op) }
+    left: Option<DataType>,
+    right: Option<DataType>,
+) -> Option<DataType>
+    ensures { option_map view_type result
+        ≡ mirror.when_both (option_map view_type left) (option_map view_type right)
+        (types.binary_type op) }
 {
     match (left, right) {
-        (Some(left), Some(right)) => binary_shape(alloc, op, &left, &right),
+        (Some(left), Some(right)) => binary_type(alloc, op, &left, &right),
         _ => None,
     }
 }
 
 /// The type of both, if they have one.
-pub fn same_type(left: Option<Shape>, right: Option<Shape>) -> Option<Shape>
-    ensures { option_map shape_in result
-        ≡ mirror.when_both (option_map shape_in left) (option_map shape_in right)
-        types.same_shape }
+pub fn common_type(left: Option<DataType>, right: Option<DataType>) -> Option<DataType>
+    ensures { option_map view_type result
+        ≡ mirror.when_both (option_map view_type left) (option_map view_type right)
+        types.common_type }
 {
     let right = right?;
-    if left?.is(&right) { Some(right) } else { None }
+    if left?.equals(&right) {
+        Some(right)
+    } else {
+        None
+    }
 }
 
 /// The type of one array and then another.
-pub fn joined(left: Option<Shape>, right: Option<Shape>) -> Result<Option<Shape>, AllocError>
-    ensures { IfOk result (λ o. option_map shape_in o
-        ≡ mirror.when_both (option_map shape_in left) (option_map shape_in right)
-        types.join_shape) }
+pub fn joined(
+    left: Option<DataType>,
+    right: Option<DataType>,
+) -> Result<Option<DataType>, AllocError>
+    ensures { IfOk result (λ o. option_map view_type o
+        ≡ mirror.when_both (option_map view_type left) (option_map view_type right)
+        types.join_type) }
 {
     match (left, right) {
-        (Some(left), Some(right)) => array_types::join_shape(left, right),
+        (Some(left), Some(right)) => array_types::join_type(left, right),
         _ => Ok(None),
     }
 }
 
 /// What is given under a condition, if that is a truth.
-pub fn when_truth(condition: Option<Shape>, given: Option<Shape>) -> Option<Shape>
-    ensures { option_map shape_in result
-        ≡ mirror.when_truth (option_map shape_in condition) (option_map shape_in given) }
+pub fn when_truth(condition: Option<DataType>, given: Option<DataType>) -> Option<DataType>
+    ensures { option_map view_type result
+        ≡ mirror.when_truth (option_map view_type condition) (option_map view_type given) }
 {
     if condition?.is_truth() { given } else { None }
 }
@@ -128,26 +140,26 @@ pub fn symbol_signature(alloc: Global, op: BinaryOperator) -> Result<Signature, 
         _ => Kind::Bool,
     };
     let mut inputs = Vec::new(alloc);
-    inputs.push(Shape::scalar(alloc, kind))?;
-    inputs.push(Shape::scalar(alloc, kind))?;
+    inputs.push(DataType::scalar(alloc, kind))?;
+    inputs.push(DataType::scalar(alloc, kind))?;
     let mut outputs = Vec::new(alloc);
-    outputs.push(Shape::scalar(alloc, kind))?;
+    outputs.push(DataType::scalar(alloc, kind))?;
     Ok(Signature { inputs, outputs })
 }
 
 /// One type.
-pub fn one(alloc: Global, shape: Shape) -> Result<Option<Vec<Shape>>, AllocError>
+pub fn one(alloc: Global, data_type: DataType) -> Result<Option<Vec<DataType>>, AllocError>
     ensures { IfOk result (λ o.
-        option_map shapes_in o ≡ types.singly (option_map shape_in (Some shape))) }
+        option_map view_types o ≡ types.singly (option_map view_type (Some data_type))) }
 {
     let mut results = Vec::new(alloc);
-    results.push(shape)?;
+    results.push(data_type)?;
     Ok(Some(results))
 }
 
 /// The type, where there is one and no more.
-pub fn only(results: Option<Vec<Shape>>) -> Option<Shape>
-    ensures { option_map shape_in result ≡ lists.◌>>=◌ (option_map shapes_in results) types.only }
+pub fn only(results: Option<Vec<DataType>>) -> Option<DataType>
+    ensures { option_map view_type result ≡ lists.◌>>=◌ (option_map view_types results) types.only }
 {
     let mut all = results?;
     let last = all.pop()?;

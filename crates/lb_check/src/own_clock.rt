@@ -6,7 +6,7 @@ ghost use Rattle.lb_static.specs.ResolvedTerms.{is_variable};
 ghost use Rattle.lb_check.specs.ClockRules.{is_clock};
 ghost use Rattle.lb_check.specs.Clocks as tree;
 ghost use Rattle.lb_check.specs.OwnClocks.{HasClocks, clock_in, is_clock_within, name_in};
-ghost use Rattle.lb_check.specs.StoredStandings.{clock_above};
+ghost use Rattle.lb_check.specs.StoredClocks.{clock_above};
 ghost use Rattle.lb_check.specs.TermClocks as mirror;
 ghost use Rattle.lb_static.specs.declared.resolved.ResolvedNode as resolved;
 

@@ -1,24 +1,24 @@
-//! On which clocks terms may stand (E10).
+//! The clocks that terms accept (E10).
 
 ghost use Rattle.std.specs.Prelude.{◌≡◌, option_map, IfOk};
-ghost use Rattle.lb_check.specs.StoredStandings.{context_in};
+ghost use Rattle.lb_check.specs.StoredClocks.{context_in};
 ghost use Rattle.lb_check.specs.TermClocks as mirror;
 
-use crate::call_clock::{call_standing, is_unclocked, variable_of};
+use crate::call_clock::{call_clock_set, is_base_clocked, variable_of};
+use crate::clock_set::{ClockSet, Operand, together};
 use crate::own_clock::{Clock, declared_clock, parent};
-use crate::standing::{Operand, Standing, together};
 use lb_static::reach::Reached;
 use lb_static::resolved::{CallId, ResolvedNode, Term, VariableId};
 use std::alloc::{AllocError, Global};
 
 /// A node whose clocks are judged, among the reached nodes.
 #[derive(Clone, Copy)]
-pub struct ClockScope<'a, 's> {
+pub struct ClockEnv<'a, 's> {
     pub reached: &'a Reached<'s>,
     pub node: &'a ResolvedNode<'s>,
 }
 
-impl<'a, 's> ClockScope<'a, 's> {
+impl<'a, 's> ClockEnv<'a, 's> {
     /// The declared clock of a variable.
     #[tactic(auto, unfolding(crate::specs::TermClocks::context_of))]
     pub fn variable(&self, x: VariableId) -> Clock
@@ -41,73 +41,73 @@ impl<'a, 's> ClockScope<'a, 's> {
 
     /// Where `current` of a term that stands there may stand: one clock further up.
     #[tactic(auto, unfolding(crate::specs::TermClocks::context_of))]
-    fn raised(&self, standing: Standing) -> Standing
-        ensures { result ≡ mirror.raised (context_in self.now) standing }
+    fn raised(&self, clock_set: ClockSet) -> ClockSet
+        ensures { result ≡ mirror.raised (context_in self.now) clock_set }
     {
-        let Standing::Only(clock) = standing else {
-            return Standing::Nowhere;
+        let ClockSet::OneClock(clock) = clock_set else {
+            return ClockSet::NoClock;
         };
         match parent(self.node, clock) {
-            Some(above) => Standing::Only(above),
-            None => Standing::Nowhere,
+            Some(above) => ClockSet::OneClock(above),
+            None => ClockSet::NoClock,
         }
     }
 
     /// Where a term may stand that is a term that stands there `when` a variable has this sign: on
     /// that clock, where the term may stand on the clock of the variable.
-    fn sampled(&self, x: VariableId, sign: bool, standing: Standing) -> Standing
-        ensures { result ≡ mirror.sampled (context_in self.now) x sign standing }
+    fn sampled(&self, x: VariableId, sign: bool, clock_set: ClockSet) -> ClockSet
+        ensures { result ≡ mirror.sampled (context_in self.now) x sign clock_set }
     {
-        if standing.may_stand(Some(self.variable(x))) {
-            Standing::Only(Clock::On(x, sign))
+        if clock_set.accepts_clock(Some(self.variable(x))) {
+            ClockSet::OneClock(Clock::On(x, sign))
         } else {
-            Standing::Nowhere
+            ClockSet::NoClock
         }
     }
 }
 
-/// Where a term with these operands in a row may stand.
-fn row_standing(scope: &ClockScope, term: &Term, operands: &[Operand]) -> Standing
-    ensures { result ≡ mirror.row_standing (context_in scope.now) term.now operands.now }
+/// The clocks that a term with these operands in a row accepts.
+fn row_clock_set(env: &ClockEnv, term: &Term, operands: &[Operand]) -> ClockSet
+    ensures { result ≡ mirror.row_clock_set (context_in env.now) term.now operands.now }
 {
     match term {
-        Term::Call(call, _) => match scope.callee(*call) {
-            Some(callee) => call_standing(callee, operands),
-            None => Standing::Nowhere,
+        Term::Call(call, _) => match env.callee(*call) {
+            Some(callee) => call_clock_set(callee, operands),
+            None => ClockSet::NoClock,
         },
-        Term::IterateNode(_, call, _) => match scope.callee(*call) {
-            Some(callee) if is_unclocked(callee) => together(operands),
-            _ => Standing::Nowhere,
+        Term::IterateNode(_, call, _) => match env.callee(*call) {
+            Some(callee) if is_base_clocked(callee) => together(operands),
+            _ => ClockSet::NoClock,
         },
         _ => together(operands),
     }
 }
 
-/// Where a term may stand whose one operand stands there.
-fn one_standing(scope: &ClockScope, term: &Term, operand: Standing) -> Standing
-    ensures { result ≡ mirror.one_standing (context_in scope.now) term.now operand }
+/// The clocks that a term accepts whose one operand accepts these.
+fn unary_clock_set(env: &ClockEnv, term: &Term, operand: ClockSet) -> ClockSet
+    ensures { result ≡ mirror.unary_clock_set (context_in env.now) term.now operand }
 {
     match term {
-        Term::Current(_) => scope.raised(operand),
-        Term::When(_, x, sign) => scope.sampled(*x, *sign, operand),
+        Term::Current(_) => env.raised(operand),
+        Term::When(_, x, sign) => env.sampled(*x, *sign, operand),
         _ => operand,
     }
 }
 
 /// The operands that some terms are.
-#[cycle(standings)]
+#[cycle(clock_sets)]
 pub fn operands_of(
     alloc: Global,
-    scope: &ClockScope,
+    env: &ClockEnv,
     terms: &[Term],
 ) -> Result<Vec<Operand>, AllocError>
     ensures { IfOk result (λ operands.
-        operands.items ≡ mirror.operands_of (context_in scope.now) terms.now) }
+        operands.items ≡ mirror.operands_of (context_in env.now) terms.now) }
 {
     let mut operands = Vec::new(alloc);
     for term in terms {
         operands.push(Operand {
-            standing: standing_of(alloc, scope, term)?,
+            clock_set: infer_clock(alloc, env, term)?,
             variable: variable_of(term),
         })?;
     }
@@ -116,45 +116,45 @@ pub fn operands_of(
 
 /// Where a term may stand whose two operands, or the branches of whose choice, may stand there
 /// together.
-#[cycle(standings)]
-fn pair_standing(
+#[cycle(clock_sets)]
+fn pair_clock_set(
     alloc: Global,
-    scope: &ClockScope,
+    env: &ClockEnv,
     term: &Term,
-    pair: Standing,
-) -> Result<Standing, AllocError>
-    ensures { IfOk result (λ s. s ≡ mirror.pair_standing (context_in scope.now) term.now pair) }
+    pair: ClockSet,
+) -> Result<ClockSet, AllocError>
+    ensures { IfOk result (λ s. s ≡ mirror.pair_clock_set (context_in env.now) term.now pair) }
 {
     match term {
-        Term::If(c, _, _) => Ok(standing_of(alloc, scope, c)?.both(pair)),
+        Term::If(c, _, _) => Ok(infer_clock(alloc, env, c)?.both(pair)),
         _ => Ok(pair),
     }
 }
 
-/// On which clocks a term may stand, such that it and its parts keep the rules of clocks there.
-#[cycle(standings)]
-pub fn standing_of(alloc: Global, scope: &ClockScope, term: &Term) -> Result<Standing, AllocError>
-    ensures { IfOk result (λ s. s ≡ mirror.standing_of (context_in scope.now) term.now) }
+/// The clocks that a term accepts, such that it and its parts keep the rules of clocks there.
+#[cycle(clock_sets)]
+pub fn infer_clock(alloc: Global, env: &ClockEnv, term: &Term) -> Result<ClockSet, AllocError>
+    ensures { IfOk result (λ s. s ≡ mirror.infer_clock (context_in env.now) term.now) }
 {
     match term {
-        Term::Literal(_) | Term::Truth(_) | Term::Value(_) => Ok(Standing::Anywhere),
-        Term::Variable(x) => Ok(Standing::Only(scope.variable(*x))),
+        Term::Literal(_) | Term::Truth(_) | Term::Value(_) => Ok(ClockSet::AnyClock),
+        Term::Variable(x) => Ok(ClockSet::OneClock(env.variable(*x))),
         Term::Group(e)
         | Term::Unary(_, e)
         | Term::Pre(e)
         | Term::Current(e)
         | Term::When(e, _, _)
-        | Term::Copies(e, _)
+        | Term::Replicate(e, _)
         | Term::Index(e, _)
-        | Term::Slice(e, _, _) => Ok(one_standing(scope, term, standing_of(alloc, scope, e)?)),
+        | Term::Slice(e, _, _) => Ok(unary_clock_set(env, term, infer_clock(alloc, env, e)?)),
         Term::Binary(_, a, b)
         | Term::Arrow(a, b)
         | Term::Fby(a, b)
         | Term::Join(a, b)
         | Term::If(_, a, b) => {
-            let left = standing_of(alloc, scope, a)?;
-            let pair = left.both(standing_of(alloc, scope, b)?);
-            pair_standing(alloc, scope, term, pair)
+            let left = infer_clock(alloc, env, a)?;
+            let pair = left.both(infer_clock(alloc, env, b)?);
+            pair_clock_set(alloc, env, term, pair)
         }
         Term::Array(terms)
         | Term::AtMostOne(terms)
@@ -162,7 +162,7 @@ pub fn standing_of(alloc: Global, scope: &ClockScope, term: &Term) -> Result<Sta
         | Term::Call(_, terms)
         | Term::IterateNode(_, _, terms)
         | Term::IterateSymbol(_, _, _, terms) => {
-            Ok(row_standing(scope, term, &operands_of(alloc, scope, terms)?))
+            Ok(row_clock_set(env, term, &operands_of(alloc, env, terms)?))
         }
     }
 }

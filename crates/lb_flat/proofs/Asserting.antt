@@ -6,7 +6,7 @@ use Rattle.lb_syntax.specs.declared.tree.BinaryOperator.TheVariants.{Or, And}
 use Rattle.lb_syntax.specs.declared.tree.ArrayIterator.{ArrayIterator}
 use Rattle.lb_syntax.specs.declared.tree.ArrayIterator.TheVariants.{Map, Red}
 use Rattle.lb_syntax.specs.Lists.{zip2}
-use Rattle.lb_syntax.specs.Tree.{Name, Node_named, Symbol, Expr, Literal, Truth, Variable, Group, Unary, Binary, If, Arrow, Fby, Pre, Current, When, Copies, Index, Slice, Join, Array, AtMostOne, Nor, Call, Iterate, Exprs, Nil, Cons, Declaration}
+use Rattle.lb_syntax.specs.Tree.{Name, Node_named, Symbol, Expr, Literal, Truth, Variable, Group, Unary, Binary, If, Arrow, Fby, Pre, Current, When, Replicate, Index, Slice, Join, Array, AtMostOne, Nor, Call, Iterate, Exprs, Nil, Cons, Declaration}
 use Rattle.lb_static.specs.Instances.{Program, Instance, node_named}
 use Rattle.lb_check.specs.Scalars.{Boolean}
 use Rattle.lb_check.specs.Clocks.{Clock}
@@ -34,7 +34,7 @@ pub assert_asserted : (x : Emitted) → (assert x).asserted ≡ x.state.asserted
 unfolding assert
 assert_asserted x = refl
 
-pub assert_kept : (x : Emitted) → (assert x).kept ≡ x.state.kept
+pub assert_kept : (x : Emitted) → (assert x).memory_operands ≡ x.state.memory_operands
 unfolding assert
 assert_kept x = refl
 
@@ -106,7 +106,7 @@ module _ (Y : Layout) (P : Program) (here : Instance) where
     asserts k n s (Pre a) = add_asserted _ _ _ ∙ keep_asserted _ ∙ asserts k n s a
     asserts k n s (Current a) = add_asserted _ _ _ ∙ keep_asserted _ ∙ asserts _ n s a
     asserts k n s (When a x sign) = add_asserted _ _ _ ∙ asserts _ n s a
-    asserts k n s (Copies a m) = asserts k n s a
+    asserts k n s (Replicate a m) = asserts k n s a
     asserts k n s (Index a i) = asserts k n s a
     asserts k n s (Slice a i j) = asserts k n s a
     asserts k n s (Join a b) = asserts k _ _ b ∙ asserts k n s a

@@ -32,7 +32,7 @@ pub record IsSound (Y : Layout) (P : Program) (H : History) (here : Instance) : 
   pub wide : Every (λ s. IsWide P H here s.0 s.1) (statements P here.node)
   pub placed : Every (IsPlaced Y P H here) (node_occurrences P here.node)
 
--- what a solution keeps of an instance besides the shapes of its variables
+-- what a solution keeps of an instance besides the types of its variables
 pub record IsSolvedAt (P : Program) (H : History) (here : Instance) : Type 0 where
   pub equations : Every (λ s. AreEqual P H here s.0 s.1) (statements P here.node)
   pub calls : Every (IsJoined P H here) (node_occurrences P here.node)

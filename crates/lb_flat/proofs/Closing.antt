@@ -7,7 +7,7 @@ use Rattle.lb_syntax.specs.declared.tree.BinaryOperator.TheVariants.{Or, And}
 use Rattle.lb_syntax.specs.declared.tree.ArrayIterator.{ArrayIterator}
 use Rattle.lb_syntax.specs.declared.tree.ArrayIterator.TheVariants.{Map, Red, Fill}
 use Rattle.lb_syntax.specs.Lists.{Every, zip2, tail_of}
-use Rattle.lb_syntax.specs.Tree.{Name, Node_named, Symbol, Expr, Literal, Truth, Variable, Group, Unary, Binary, If, Arrow, Fby, Pre, Current, When, Copies, Index, Slice, Join, Array, AtMostOne, Nor, Call, Iterate, Exprs, Nil, Cons, Declaration}
+use Rattle.lb_syntax.specs.Tree.{Name, Node_named, Symbol, Expr, Literal, Truth, Variable, Group, Unary, Binary, If, Arrow, Fby, Pre, Current, When, Replicate, Index, Slice, Join, Array, AtMostOne, Nor, Call, Iterate, Exprs, Nil, Cons, Declaration}
 use Rattle.lb_static.specs.Instances.{Program, Instance, Path, Child, node_named}
 use Rattle.lb_check.specs.Scalars.{Boolean}
 use Rattle.lb_check.specs.Clocks.{Clock, On, declared_clock}
@@ -346,7 +346,7 @@ module _ (V : ℕ) where
       tight k n s (When a x sign) c =
           one_tight _ (clocks_below (On (declared_clock here.node x) x sign)) s _ Sample
           (λ n i p. (p, tt)) (tight _ n s a c)
-      tight k n s (Copies a m) c =
+      tight k n s (Replicate a m) c =
           let x = tight k n s a c in
           record { state = x.state; grows = x.grows; found = Every-copies _ _ _ x.found }
       tight k n s (Index a i) c =

@@ -9,7 +9,7 @@ use Rattle.lb_flat.specs.declared.equation.ElementId.{ElementId}
 use Rattle.lb_flat.specs.Flat.{Always, Constant, ApplyUnary, ApplyBinary}
 use Rattle.lb_flat.specs.Emit.{State, push, add, chained, twice, negated, emit_nor, emit_at_most_one}
 use Rattle.lb_flat.specs.Programs.{numbers_of}
-use Rattle.lb_flat.specs.Terms.{Found, pushed, as_truth}
+use Rattle.lb_flat.specs.Terms.{TypedElement, pushed, as_truth}
 
 -- the state after the first element, which is false
 abbrev pub begun : State → State
@@ -75,12 +75,12 @@ at_most_one_ends first s any two all i le h =
 
 -- one operand more
 pub nor_step :
-    (first s : State) (any : ℕ) (all : List ElementId) (i : ℕ) (d : ElementId) (f : Found) →
+    (first s : State) (any : ℕ) (all : List ElementId) (i : ℕ) (d : ElementId) (f : TypedElement) →
     i < length all → IsNor first s any all i →
     f ≡ pushed s (ApplyBinary Or any (get_or all i d).0) Bool_kind →
     IsNor first f.state f.element all (i + 1)
 nor_step first s any all i d f lt h e =
-    subst (λ (f : Found). IsNor first f.state f.element all (i + 1)) (sym e) (record {
+    subst (λ (f : TypedElement). IsNor first f.state f.element all (i + 1)) (sym e) (record {
       rest = sym (chained_next s any all i d lt) ∙ h.rest;
       next = omega (arith, h.next);
       any_below = omega arith;
@@ -88,7 +88,7 @@ nor_step first s any all i d f lt h e =
 
 pub at_most_one_step :
     (first s : State) (any two : ℕ) (all : List ElementId) (i : ℕ) (d : ElementId)
-    (f g h : Found) → i < length all → IsAtMostOne first s any two all i →
+    (f g h : TypedElement) → i < length all → IsAtMostOne first s any two all i →
     f ≡ pushed s (ApplyBinary And any (get_or all i d).0) Bool_kind →
     g ≡ pushed f.state (ApplyBinary Or two f.element) Bool_kind →
     h ≡ pushed g.state (ApplyBinary Or any (get_or all i d).0) Bool_kind →
@@ -97,9 +97,9 @@ at_most_one_step first s any two all i d f g h lt before ef eg eh =
     let f' = pushed s (ApplyBinary And any (get_or all i d).0) Bool_kind in
     let g' = pushed f'.state (ApplyBinary Or two f'.element) Bool_kind in
     let h' = pushed g'.state (ApplyBinary Or any (get_or all i d).0) Bool_kind in
-    let second : Found → Found = λ f.
+    let second : TypedElement → TypedElement = λ f.
     pushed f.state (ApplyBinary Or two f.element) Bool_kind in
-    let third : Found → Found = λ g.
+    let third : TypedElement → TypedElement = λ g.
     pushed g.state (ApplyBinary Or any (get_or all i d).0) Bool_kind in
     let is_g : g ≡ g' = eg ∙ ap second ef in
     let is_h : h ≡ h' = eh ∙ ap third is_g in
@@ -109,6 +109,8 @@ at_most_one_step first s any two all i d f g h lt before ef eg eh =
       any_below = omega arith;
       two_below = omega arith;
     } in
-    subst (λ (h : Found). IsAtMostOne first h.state h.element g.element all (i + 1)) (sym is_h)
-    (subst (λ (g : Found). IsAtMostOne first h'.state h'.element g.element all (i + 1)) (sym is_g)
+    subst (λ (h : TypedElement). IsAtMostOne first h.state h.element g.element all (i + 1))
+    (sym is_h)
+    (subst (λ (g : TypedElement). IsAtMostOne first h'.state h'.element g.element all (i + 1))
+    (sym is_g)
     all_is)

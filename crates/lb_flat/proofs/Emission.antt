@@ -3,12 +3,12 @@
 use Rattle.std.proofs.Common.{◌≡◌, ℕ, ◌+◌, false, Option, Some, None, option_map, pos, List, [], ◌∷◌, ◌++◌, map, take, drop, flat_map, refl, sym, ap, ap₂, ◌∙◌, subst}
 use Rattle.std.proofs.lemmas.List.{map-append}
 use Rattle.lb_syntax.specs.Lists.{Every, zip2, copies, joined, either_or}
-use Rattle.lb_syntax.specs.Tree.{Name, Node_named, Symbol, Expr, Literal, Truth, Variable, Group, Unary, Binary, If, Arrow, Fby, Pre, Current, When, Copies, Index, Slice, Join, Array, AtMostOne, Nor, Call, Iterate, Exprs, Nil, Cons, Declaration}
+use Rattle.lb_syntax.specs.Tree.{Name, Node_named, Symbol, Expr, Literal, Truth, Variable, Group, Unary, Binary, If, Arrow, Fby, Pre, Current, When, Replicate, Index, Slice, Join, Array, AtMostOne, Nor, Call, Iterate, Exprs, Nil, Cons, Declaration}
 use Rattle.lb_static.specs.Instances.{Program, Instance, Child, name_value, node_named}
 use Rattle.lb_check.specs.Scalars.{Scalar, Integer, Boolean, Stream, or_fault, two_scalars, one_scalar, none_true, at_most_one}
 use Rattle.lb_check.specs.Clocks.{Clock, On, declared_clock}
 use Rattle.lb_check.specs.Occurrences.{Occurrence, at, call_count, call_clocks, occurrences, occurrences_in, occurrences_each}
-use Rattle.lb_check.specs.Streams.{History, presence, constantly, along, along_two, choices, previous, first_then, kept, latest, across, symbols, streams, all_streams, argument_streams, first_of, number, outputs_of, iterated}
+use Rattle.lb_check.specs.Streams.{History, presence, constantly, along, along_two, choices, previous, first_then, sample, latest, across, symbols, streams, all_streams, argument_streams, first_of, number, outputs_of, iterated}
 use Rattle.lb_check.specs.Solutions.{Inputs, IsJoined}
 use Rattle.lb_flat.specs.Flat.{FlatClock, Operation, Constant, ApplyUnary, ApplyBinary, FirstThen, Previous, Latest, Sample, FlatEquation, column, instants, operate, AreLong}
 use Rattle.lb_flat.specs.Layouts.{Layout, flat_clock}
@@ -329,9 +329,9 @@ module _ (Y : Layout) (P : Program) (X : Inputs) (H : History) (F : List Stream)
         (keep_sound _ _ _ _ (sound _ n s a w.1)) h
     sound k n s (When a x sign) w h =
         let own = On (declared_clock here.node x) x sign in
-        one_sound _ s _ _ Sample _ (λ i. ap (λ bs. zip2 kept bs (column X F i)) (flat own))
+        one_sound _ s _ _ Sample _ (λ i. ap (λ bs. zip2 sample bs (column X F i)) (flat own))
         _ _ tt (sound _ n s a w.1) h
-    sound k n s (Copies a m) w h =
+    sound k n s (Replicate a m) w h =
         let r = sound k n s a w.1 h in
         picked_sound s _ _ _ _ _ _ tt r
         (map-copies (column X F) (number P here m) _ ∙ ap (copies (number P here m)) r.found)

@@ -11,7 +11,7 @@ use Rattle.lb_flat.specs.PlainNodes.{is_place}
 use Rattle.lb_flat.specs.Flat as flat
 use Rattle.lb_flat.specs.Flat.{Always}
 use Rattle.lb_flat.specs.Terms.{given_elements}
-use Rattle.lb_flat.proofs.ShapeFacts.{and_first}
+use Rattle.lb_flat.proofs.TypeFacts.{and_first}
 use Rattle.lb_flat.specs.declared.equation.ElementId.{ElementId}
 use Rattle.lb_flat.specs.declared.equation.Operation.{Operation}
 use Rattle.lb_flat.specs.declared.equation.Operation.TheVariants.{Input, Constant, Copy, ApplyUnary, ApplyBinary, Choose, FirstThen, Previous, Latest, Sample}
@@ -21,7 +21,7 @@ use Rattle.lb_flat.specs.Programs.{numbers_of, flat_equations}
 use Rattle.lb_flat.specs.Run.{reads, keeps}
 use Rattle.lb_flat.specs.Values.{operation_of, equation_of}
 use Rattle.lb_flat.specs.Within.{IsWithin}
-use Rattle.lb_flat.proofs.TermRows.{single_size, pair_size, row_size_is, size_next, emit_next, variable_kind, single_within, pair_within, within_of_row, within_next, steps_size_next, step_within_next, steps_next, places_of_more}
+use Rattle.lb_flat.proofs.TermRows.{single_size, pair_size, row_size_is, size_next, emit_next, variable_kind, single_within, pair_within, within_of_row, within_next, statements_size_next, step_within_next, steps_next, places_of_more}
 
 -- ## Elements below a number
 
@@ -88,7 +88,7 @@ within_later n m qs h le =
       element = omega (arith, w.element);
       clock = w.clock;
       operands = below_later n m _ w.operands le;
-      kept = below_later n m _ w.kept le;
+      memory_operands = below_later n m _ w.memory_operands le;
     }) qs h
 
 pub within_push :
@@ -100,7 +100,7 @@ within_push n m qs a o h le lt below =
       element = lt;
       clock = search rules;
       operands = reads_below n m o below le;
-      kept = keeps_below n m o below le;
+      memory_operands = keeps_below n m o below le;
     })
 
 pub equations_push : (qs : List Equation) (q : Equation) →
@@ -152,8 +152,8 @@ pub ruleset emits = (
   elements_push,
 )
 
-pub ruleset steps = (
-  steps_size_next,
+pub ruleset statements = (
+  statements_size_next,
   step_within_next,
   steps_next,
   places_of_more,

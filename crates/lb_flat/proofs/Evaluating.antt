@@ -7,7 +7,7 @@ use Rattle.lb_check.specs.declared.verdict.Verdict.TheVariants.{Passed, Fault, A
 use Rattle.lb_check.specs.Solutions.{Inputs}
 use Rattle.lb_check.specs.Verdicts.{or_later}
 use Rattle.lb_flat.specs.declared.cell.Cell.{Cell}
-use Rattle.lb_flat.specs.declared.equation.Tick.{Tick}
+use Rattle.lb_flat.specs.declared.equation.Clock.{Clock}
 use Rattle.lb_flat.specs.declared.equation.Equation.{Equation}
 use Rattle.lb_flat.specs.declared.equation.InputPlace.{InputPlace}
 use Rattle.lb_flat.specs.Flat.{FlatEquation}
@@ -16,20 +16,20 @@ use Rattle.lb_flat.specs.Run.{filled, advanced, Ready, row_of, run}
 use Rattle.lb_flat.specs.Judging.{FlatProgram, row_judged, rows_judged, flat_verdict}
 use Rattle.lb_flat.specs.Values.{cell_of, equation_of}
 use Rattle.lb_flat.specs.Within.{IsWithin}
-use Rattle.lb_flat.proofs.Settled.{instant_row, inputs_advanced, steps_advanced, places_advanced, fixed_stay}
+use Rattle.lb_flat.proofs.FixedCells.{instant_row, inputs_advanced, steps_advanced, places_advanced, fixed_stay}
 use Rattle.lb_flat.proofs.Running.{ready_advanced}
 
 -- before instant t the steps are those of the program with their memories moved on, the row holds
 -- the constants, and the rest of the trace decides
-pub record IsEvaluating (f : FlatProgram) (X : Inputs) (ticks : List Tick)
+pub record IsEvaluating (f : FlatProgram) (X : Inputs) (clocks : List Clock)
     (inputs : List InputPlace) (memories : List ℕ) (steps : List Equation) (row : List Cell)
     (t : ℕ) : Type 0 where
   pub equations : List FlatEquation
   pub in_order : Ready f.size [] equations
   pub inputs_are : map place_equation inputs ≡ inputs_in equations
-  pub steps_are : map (equation_of ticks) steps ≡ steps_in equations
-  pub places_are : memories ≡ memory_places 0 (map (equation_of ticks) steps)
-  pub within : All (IsWithin f.size ticks) steps
+  pub steps_are : map (equation_of clocks) steps ≡ steps_in equations
+  pub places_are : memories ≡ memory_places 0 (map (equation_of clocks) steps)
+  pub within : All (IsWithin f.size clocks) steps
   pub as_long : length row ≡ f.size
   pub fixed : AreFixed (map cell_of row) equations
   pub rest : rows_judged f t (run f.size equations (drop t X)) ≡ flat_verdict f X
@@ -40,14 +40,14 @@ later_is (Fault t) w n = refl
 later_is (Assertion t) w n = refl
 later_is (False t) w n = refl
 
-module _ (f : FlatProgram) (X : Inputs) (ticks : List Tick) (inputs : List InputPlace)
+module _ (f : FlatProgram) (X : Inputs) (clocks : List Clock) (inputs : List InputPlace)
     (memories : List ℕ) (steps : List Equation) (before : List Cell) (t : ℕ)
-    (h : IsEvaluating f X ticks inputs memories steps before t) where
+    (h : IsEvaluating f X clocks inputs memories steps before t) where
   module _ (lt : t < length X) (with_inputs row : List Cell)
       (read : map cell_of with_inputs
       ≡ filled (get_or X t []) (map cell_of before) (map place_equation inputs))
       (computed : map cell_of row
-      ≡ filled [] (map cell_of with_inputs) (map (equation_of ticks) steps)) where
+      ≡ filled [] (map cell_of with_inputs) (map (equation_of clocks) steps)) where
     is_row : map cell_of row ≡ row_of f.size h.equations (get_or X t [])
     is_row =
         computed
@@ -77,11 +77,11 @@ module _ (f : FlatProgram) (X : Inputs) (ticks : List Tick) (inputs : List Input
         sym (later_is v later n) ∙ ap (λ w. or_later w later) e ∙ now_or_later
 
     pub goes_on :
-        (after : List Equation) → All (IsWithin f.size ticks) after → length row ≡ f.size →
-        map (equation_of ticks) after
-        ≡ map (advanced (map cell_of row)) (map (equation_of ticks) steps) →
+        (after : List Equation) → All (IsWithin f.size clocks) after → length row ≡ f.size →
+        map (equation_of clocks) after
+        ≡ map (advanced (map cell_of row)) (map (equation_of clocks) steps) →
         Passed ≡ row_judged f t (map cell_of row) →
-        IsEvaluating f X ticks inputs memories after row (t + 1)
+        IsEvaluating f X clocks inputs memories after row (t + 1)
     goes_on after within as_long e passed =
         let r = map cell_of row in
         record {
@@ -90,7 +90,7 @@ module _ (f : FlatProgram) (X : Inputs) (ticks : List Tick) (inputs : List Input
           inputs_are = h.inputs_are ∙ sym (inputs_advanced r h.equations);
           steps_are = e ∙ ap (map (advanced r)) h.steps_are ∙ steps_advanced r h.equations;
           places_are =
-              h.places_are ∙ sym (places_advanced r 0 (map (equation_of ticks) steps))
+              h.places_are ∙ sym (places_advanced r 0 (map (equation_of clocks) steps))
               ∙ ap (memory_places 0) (sym e);
           within = within;
           as_long = as_long;

@@ -3,7 +3,7 @@ use Rattle.std.proofs.Common.{◌≡◌, ℕ, List, [], ◌++◌}
 use Rattle.lb_syntax.specs.Tree.{Name}
 use Rattle.lb_syntax.specs.declared.tree.Kind.{Kind}
 use Rattle.lb_static.specs.Instances.{Program, Path, Root, Observer, instance_at, instances}
-use Rattle.lb_static.specs.Shapes.{input_kinds}
+use Rattle.lb_static.specs.DataTypes.{input_kinds}
 use Rattle.lb_check.specs.Scalars.{Stream}
 use Rattle.lb_check.specs.Solutions.{Inputs, Solves}
 use Rattle.lb_flat.specs.Flat.{FlatClock, FlatEquation, FlatSolves}
@@ -31,7 +31,7 @@ pub record IsExpansion (P : Program) (Y : Layout) (count : ℕ) (K : ℕ → Fla
   pub ready : Ready (expanded Y P count).size [] Q
   pub fitting : IsFitting (input_kinds P) K N Q
   pub placing : IsPlacing Y P count K N (expanded Y P count).size
-  pub walk : IsInOrder Y P count
+  pub instance_order : IsInOrder Y P count
   -- a variable that serves for another in a clock has its streams
   pub signs :
       (X : Inputs) (F : List Stream) → FlatSolves (expanded Y P count).size Q X F →
@@ -68,5 +68,5 @@ module _ (P : Program) (Y : Layout) (count : ℕ) (K : ℕ → FlatClock) (N : �
         let w = is_watched Y P count X F s.as_long
         (agrees P Y count K N Q e.ordering e.ready e.fitting e.placing X F trace s
         (e.signs X F s))
-        (e.sound X F s).instances further_met e.walk t in
+        (e.sound X F s).instances further_met e.instance_order t in
         record { fault = w.fault; failed = w.failed; violated = w.violated }

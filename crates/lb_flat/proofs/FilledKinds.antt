@@ -6,7 +6,7 @@ use Rattle.lb_syntax.specs.declared.tree.Kind.TheVariants.{Bool as Truth}
 use Rattle.lb_syntax.specs.declared.tree.BinaryOperator.TheVariants.{Or, And}
 use Rattle.lb_syntax.specs.Lists.{Every, zip2, tail_of}
 use Rattle.lb_check.specs.Scalars.{Scalar, Integer, Boolean, Bad, Stream, two_scalars, one_scalar, is_of_kind}
-use Rattle.lb_check.specs.Streams.{constantly, along, along_two, choice, previous, first_then, kept, latest, newest, first_cell}
+use Rattle.lb_check.specs.Streams.{constantly, along, along_two, choice, previous, first_then, sample, latest, newest, first_cell}
 use Rattle.lb_check.specs.Solutions.{Inputs, column_of, fits, is_row}
 use Rattle.lb_flat.specs.Flat.{FlatClock, Operation, Input, Constant, Copy, ApplyUnary, ApplyBinary, Choose, FirstThen, Previous, Latest, Sample, FlatEquation, column, instants, operate, Holds}
 use Rattle.lb_flat.specs.Run.{clock_reads, reads, keeps}
@@ -15,7 +15,7 @@ use Rattle.lb_flat.proofs.Counting.{IsTruth}
 use Rattle.lb_flat.proofs.Adding.{HasTruths}
 use Rattle.lb_flat.proofs.Columns.{choice_step, latest_step}
 use Rattle.lb_flat.proofs.Filling.{Fresh}
-use Rattle.lb_flat.proofs.ShapeFacts.{and_first, and_second}
+use Rattle.lb_flat.proofs.TypeFacts.{and_first, and_second}
 use Rattle.lb_flat.proofs.ScalarKinds.{IsOf, unary_of, binary_of}
 use Rattle.lb_flat.proofs.Fitting.{OperandKinds, KindFits, CellOf, compared, held_of, kept_of, newest_of, one_of, two_of, chosen_cell_of, given_kind}
 use Rattle.lb_flat.proofs.Solving.{second_of_or, second_of_and}
@@ -82,7 +82,7 @@ module _ (kind : Kind) where
       (held_of kind (newest v x) b next, latest_of (newest v x) bs xs next g.1)
 
   kept_stream :
-      (bs : List Bool) (xs : Stream) → StreamOf kind xs → StreamOf kind (zip2 kept bs xs)
+      (bs : List Bool) (xs : Stream) → StreamOf kind xs → StreamOf kind (zip2 sample bs xs)
   kept_stream [] xs h = tt
   kept_stream (b ∷ bs) [] h = tt
   kept_stream (b ∷ bs) (x ∷ xs) h = (kept_of kind x b h.0, kept_stream bs xs h.1)

@@ -2,7 +2,7 @@
 use Rattle.std.proofs.Common.{◌≡◌, ℕ, zero, suc, ◌+◌, ◌<◌, true, false, ◌&&◌, List, [], ◌∷◌, ◌++◌, length, refl, sym, ap, ap₂, ◌∙◌, arith, length-append}
 use Rattle.lb_syntax.specs.Lists.{Every, zip2}
 use Rattle.lb_check.specs.Scalars.{Stream, two_scalars, one_scalar}
-use Rattle.lb_check.specs.Streams.{constantly, along, along_two, choice, previous, first_then, kept, latest, shows}
+use Rattle.lb_check.specs.Streams.{constantly, along, along_two, choice, previous, first_then, sample, latest, shows}
 use Rattle.lb_check.specs.Solutions.{Inputs}
 use Rattle.lb_flat.specs.Flat.{FlatClock, Always, Where, Operation, Input, Constant, Copy, ApplyUnary, ApplyBinary, Choose, FirstThen, Previous, Latest, Sample, FlatEquation, column, instants, operate, Holds, AreLong}
 use Rattle.lb_flat.specs.Run.{clock_reads, reads, keeps}
@@ -61,7 +61,7 @@ module _ (X : Inputs) (F G : List Stream) (n : ℕ)
     operate_same (FirstThen false a b) h m = ap₂ first_then (same a h.0) (same b h.1.0)
     operate_same (Previous v a) h m = ap₂ (previous v) (instants_same k c) (same a m.0)
     operate_same (Latest v a) h m = ap₂ (latest v) (instants_same k c) (same a h.0)
-    operate_same (Sample a) h m = ap₂ (zip2 kept) (instants_same k c) (same a h.0)
+    operate_same (Sample a) h m = ap₂ (zip2 sample) (instants_same k c) (same a h.0)
 
   fresh_same :
       (q : FlatEquation) → IsFresh n q →

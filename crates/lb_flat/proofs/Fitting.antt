@@ -6,7 +6,7 @@ use Rattle.std.proofs.lemmas.List.{length-map}
 use Rattle.lb_syntax.specs.declared.tree.Kind.{Kind}
 use Rattle.lb_syntax.specs.Lists.{Every, In}
 use Rattle.lb_check.specs.Scalars.{Scalar, Integer, Boolean, Bad, Cell, Stream, two_scalars, one_scalar, is_given}
-use Rattle.lb_check.specs.Streams.{held, one_cell, two_cells, kept, newest, first_cell}
+use Rattle.lb_check.specs.Streams.{held, one_cell, two_cells, sample, newest, first_cell}
 use Rattle.lb_check.specs.Solutions.{Inputs, fits, is_row}
 use Rattle.lb_flat.specs.Flat.{FlatClock, Operation, Input, Constant, Copy, ApplyUnary, ApplyBinary, Choose, FirstThen, Previous, Latest, Sample, FlatEquation, column, instants, FlatSolves}
 use Rattle.lb_flat.specs.Run.{Row, cell, is_now, chosen_cell, now, remembered, advanced, clock_reads, reads, Ready}
@@ -43,7 +43,7 @@ pub held_of : (kind : Kind) (v : Scalar) (b : Bool) → IsOf kind v → CellOf k
 held_of kind v true h = h
 held_of kind v false h = tt
 
-pub kept_of : (kind : Kind) (x : Cell) (b : Bool) → CellOf kind x → CellOf kind (kept b x)
+pub kept_of : (kind : Kind) (x : Cell) (b : Bool) → CellOf kind x → CellOf kind (sample b x)
 kept_of kind x true h = h
 kept_of kind x false h = tt
 

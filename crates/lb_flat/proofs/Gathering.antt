@@ -1,4 +1,5 @@
--- The streams of a program's variables in walk order, from a history that solves the program, and
+-- The streams of a program's variables in the order of instantiation, from a history that solves
+-- the program, and
 -- those that the further equations fill in from them.
 use Rattle.std.proofs.Common.{◌≡◌, ℕ, zero, suc, ◌+◌, ◌<◌, Bool, true, false, Some, None, List, [], ◌∷◌, ◌++◌, length, flat_map, refl, sym, ap, ap₂, ◌∙◌, subst, arith}
 use Rattle.std.specs.List.{range_with_len}
@@ -7,7 +8,7 @@ use Rattle.lb_syntax.specs.declared.tree.Kind.{Kind}
 use Rattle.lb_syntax.specs.Lists.{Every}
 use Rattle.lb_syntax.specs.Tree.{Declaration}
 use Rattle.lb_static.specs.Instances.{Program, Instance, instances}
-use Rattle.lb_static.specs.Shapes.{variables, input_kinds}
+use Rattle.lb_static.specs.DataTypes.{variables, input_kinds}
 use Rattle.lb_check.specs.Scalars.{Stream, is_of_kind}
 use Rattle.lb_check.specs.Streams.{History}
 use Rattle.lb_check.specs.Verdicts.{variable_columns}
@@ -23,7 +24,7 @@ use Rattle.lb_flat.proofs.Bodies.{all_closed}
 use Rattle.lb_flat.proofs.Whole.{all_streams_of}
 use Rattle.lb_flat.proofs.Fitting.{KindFits}
 use Rattle.lb_flat.proofs.Observing.{all_places}
-use Rattle.lb_flat.proofs.ShapeFacts.{and_second}
+use Rattle.lb_flat.proofs.TypeFacts.{and_second}
 use Rattle.lb_flat.proofs.RootWidths.{pieces_count}
 use Rattle.lb_flat.proofs.Solving.{IsElement, IsVariablePlaced, IsPlacing}
 use Rattle.lb_flat.proofs.FilledKinds.{StreamOf, ElementOf, fits_of, fresh_truths}
@@ -113,12 +114,13 @@ length-range a (suc n) = ap suc (length-range (a + 1) n)
 
 -- ## The streams of all variables
 
--- in walk order
+-- in the order of instantiation
 abbrev pub gathered_streams : Program → History → List Stream
 gathered_streams P H = flat_map (variable_columns H) (instances P)
 
 module _ (P : Program) (Y : Layout) (count : ℕ) (K : ℕ → FlatClock) (N : ℕ → Kind) (size : ℕ)
-    (placing : IsPlacing Y P count K N size) (walk : all_places Y P ≡ range_with_len 0 count)
+    (placing : IsPlacing Y P count K N size)
+    (instance_order : all_places Y P ≡ range_with_len 0 count)
     (X : Inputs) (H : History) (s : Solves P X H) where
   abbrev F : List Stream
   F = gathered_streams P H
@@ -177,13 +179,13 @@ module _ (P : Program) (Y : Layout) (count : ℕ) (K : ℕ → FlatClock) (N : �
       sym (pieces_count (of_instance F) (variable_columns H) (instances P)
       (widths_same F (instances P) placing.variables s.instances))
       ∙ ap length (places_flat F) ∙ length-map (all_places Y P) (column X F)
-      ∙ ap length walk ∙ length-range 0 count
+      ∙ ap length instance_order ∙ length-range 0 count
 
   -- ## Columns of variables
 
   gathered_flat : flat_map (of_instance F) (instances P) ≡ F
   gathered_flat =
-      places_flat F ∙ ap (columns X F) walk
+      places_flat F ∙ ap (columns X F) instance_order
       ∙ ap (λ n. columns X F (range_with_len 0 n)) (sym gathered_count) ∙ all_columns X F
 
   each_instance :
@@ -320,7 +322,7 @@ module _ (P : Program) (Y : Layout) (count : ℕ) (K : ℕ → FlatClock) (N : �
       let e : 0 + i ≡ i = omega arith in
       subst IsOfKind e
       (Every-range IsOfKind 0 count i
-      (subst (Every IsOfKind) walk
+      (subst (Every IsOfKind) instance_order
       (Every-of_pieces IsOfKind
       (λ here. flat_map (λ d. Y.places here.path d.name) (variables here.node)) (instances P)
       (instance_elements (instances P) placing.variables s.instances filled_columns))) lt)

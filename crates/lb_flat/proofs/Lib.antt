@@ -16,7 +16,7 @@ pub mod Running
 pub mod Filling
 pub mod Closing
 pub mod Bodies
-pub mod Keeping
+pub mod MemoryOperands
 pub mod OnClock
 pub mod Verdicts
 pub mod Asserting
@@ -24,7 +24,7 @@ pub mod Watching
 pub mod Judging
 pub mod Steps
 pub mod Selecting
-pub mod Settled
+pub mod FixedCells
 pub mod Memories
 pub mod Preparing
 pub mod Evaluating
@@ -33,7 +33,7 @@ pub mod Whole
 pub mod ScalarKinds
 pub mod Fitting
 pub mod Solving
-pub mod ShapeFacts
+pub mod TypeFacts
 pub mod OutputWidths
 pub mod Widths
 pub mod TypedBodies
@@ -50,7 +50,7 @@ pub mod PlainRoots
 pub mod PlainStarts
 pub mod PlainNames
 pub mod PlainClocks
-pub mod TermShapes
+pub mod TermDataTypes
 pub mod PlainTypes
 pub mod PlainPlacing
 pub mod PlainExpanding

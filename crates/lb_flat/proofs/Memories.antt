@@ -6,7 +6,7 @@ use Rattle.lb_flat.specs.Prepared.{has_memory, memory_places}
 use Rattle.lb_flat.specs.Run.{Row, advanced}
 use Rattle.lb_flat.proofs.Lists.{Every-map}
 use Rattle.lb_flat.proofs.Selecting.{by_test}
-use Rattle.lb_flat.proofs.Settled.{no_memory}
+use Rattle.lb_flat.proofs.FixedCells.{no_memory}
 
 module _ (row : Row) where
   -- the equation at a place moves on

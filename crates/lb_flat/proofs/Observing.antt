@@ -6,10 +6,10 @@ use Rattle.std.proofs.lemmas.List.{map-append}
 use Rattle.std.proofs.lemmas.List.Folds.{list_any-append}
 use Rattle.lb_syntax.specs.Lists.{Every, listed}
 use Rattle.lb_static.specs.Instances.{Program, instance_at, instances}
-use Rattle.lb_static.specs.Shapes.{variables}
+use Rattle.lb_static.specs.DataTypes.{variables}
 use Rattle.lb_check.specs.Scalars.{Stream}
 use Rattle.lb_check.specs.Solutions.{Inputs}
-use Rattle.lb_check.specs.Verdicts.{is_bad, is_false, judge, variable_columns, kept_columns, assertion_columns, property_columns}
+use Rattle.lb_check.specs.Verdicts.{is_bad, is_false, property_path, variable_columns, memory_columns, assertion_columns, property_columns}
 use Rattle.lb_flat.specs.Flat.{column, AreLong}
 use Rattle.lb_flat.specs.Layouts.{Layout}
 use Rattle.lb_flat.specs.Flattening.{history_of, IsWatched}
@@ -54,13 +54,14 @@ any_pieces test f (x ∷ xs) =
     ap (λ a. list_any test (f x) || a) (any_pieces test f xs)
     ∙ sym (list_any-append test (f x) (flat_map f xs))
 
--- the elements of all variables, in walk order
+-- the elements of all variables, in the order of instantiation
 abbrev pub all_places : Layout → Program → List ℕ
 all_places Y P =
     flat_map (λ here. flat_map (λ d. Y.places here.path d.name) (variables here.node))
     (instances P)
 
--- the elements of variables are the first ones, in walk order, and the property has one
+-- the elements of variables are the first ones, in the order of instantiation, and the property has
+-- one
 pub record IsInOrder (Y : Layout) (P : Program) (count : ℕ) : Type 0 where
   pub variables : all_places Y P ≡ range_with_len 0 count
   pub property : property_places Y P ≡ (expanded Y P count).property ∷ []
@@ -120,7 +121,7 @@ module _ (Y : Layout) (P : Program) (count : ℕ) (X : Inputs) (F : List Stream)
       (λ here. flat_map (λ d. columns X F (Y.places here.path d.name)) here.node.outputs)
       (λ here. map-pieces (column X F) (λ d. Y.places here.path d.name)
       (λ d. columns X F (Y.places here.path d.name)) (λ d. refl) here.node.outputs)
-      (instance_at P (judge P.observer))
+      (instance_at P (property_path P.observer))
 
   -- what decides a verdict is watched
   pub is_watched :
@@ -132,11 +133,12 @@ module _ (Y : Layout) (P : Program) (count : ℕ) (X : Inputs) (F : List Stream)
       let untrue : Stream → Bool = λ xs. is_false (slice_get xs t) in
       record {
         fault =
-            any_three bad (variable_columns H) (kept_columns P H) (assertion_columns P H)
+            any_three bad (variable_columns H) (memory_columns P H) (assertion_columns P H)
             (instances P)
             ∙ ap₂ (λ a b. a || b) (variables_flat order.variables bad)
-            (ap₂ (λ a b. a || b) (sym (watched_here.kept bad)) (sym (watched_here.asserted bad)))
-            ∙ sym (named_flat (range_with_len 0 count) s.kept s.asserted bad);
+            (ap₂ (λ a b. a || b) (sym (watched_here.memory_operands bad))
+            (sym (watched_here.asserted bad)))
+            ∙ sym (named_flat (range_with_len 0 count) s.memory_operands s.asserted bad);
         failed = sym (watched_here.asserted untrue);
         violated = ap (list_any untrue) (property_flat ∙ ap (columns X F) order.property);
       }

@@ -3,7 +3,7 @@
 use Rattle.std.proofs.Common.{◌≡◌, ℕ, ◌<◌, Bool, true, false, ◌&&◌, inl, inr, Some, None, is_some, List, [], ◌∷◌, slice_get, refl, sym, ap, ◌∙◌, subst}
 use Rattle.lb_syntax.specs.Lists.{Every, In}
 use Rattle.lb_check.specs.Scalars.{Scalar, Cell}
-use Rattle.lb_check.specs.Streams.{held, one_cell, two_cells, kept, shows}
+use Rattle.lb_check.specs.Streams.{held, one_cell, two_cells, sample, shows}
 use Rattle.lb_flat.specs.Flat.{FlatClock, Always, Where, Operation, Input, Constant, Copy, ApplyUnary, ApplyBinary, Choose, FirstThen, Previous, Latest, Sample, FlatEquation}
 use Rattle.lb_flat.specs.Run.{Row, cell, is_now, chosen_cell, now, clock_reads, reads, Ready}
 use Rattle.lb_flat.proofs.Lists.{Every-first}
@@ -51,7 +51,7 @@ choice_present (Some c) None y b p q r = q
 choice_present (Some c) (Some v) None b p q r = r
 choice_present (Some c) (Some v) (Some w) b p q r = p
 
-kept_present : (b c : Bool) (x : Cell) → is_some x ≡ b → is_some (kept (b && c) x) ≡ (b && c)
+kept_present : (b c : Bool) (x : Cell) → is_some x ≡ b → is_some (sample (b && c) x) ≡ (b && c)
 kept_present true true x e = e
 kept_present true false x e = refl
 kept_present false c x e = refl
@@ -80,7 +80,7 @@ module _ (inputs : ℕ) (K : ℕ → FlatClock) (given : List Scalar) (row : Row
   now_on k (Previous v a) f h = held_present v (is_now row k)
   now_on k (Latest v a) f h = held_present _ (is_now row k)
   now_on k (Sample a) f h =
-      subst (λ c. is_some (kept (is_now row c) (cell row a)) ≡ is_now row c) (sym f.2)
+      subst (λ c. is_some (sample (is_now row c) (cell row a)) ≡ is_now row c) (sym f.2)
       (kept_present (is_now row (K a)) (shows f.1 (cell row f.0)) (cell row a) h.0)
 
   each_on :

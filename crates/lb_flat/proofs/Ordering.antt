@@ -4,11 +4,11 @@ use Rattle.std.specs.List.{list_all, list_any}
 use Rattle.std.proofs.lemmas.Bool.{cases_eq, not-true, not_from_false}
 use Rattle.std.proofs.lemmas.List.{get_or-set_other, map-append, append-nil}
 use Rattle.lb_syntax.specs.Lists.{Every, In}
-use Rattle.lb_flat.specs.declared.equation.Tick.{Tick}
+use Rattle.lb_flat.specs.declared.equation.Clock.{Clock}
 use Rattle.lb_flat.specs.declared.equation.Equation.{Equation}
 use Rattle.lb_flat.specs.Flat.{FlatEquation}
 use Rattle.lb_flat.specs.InOrder.{is_done, is_next, is_in_order}
-use Rattle.lb_flat.specs.Ordering.{IsTable, IsTableOf, IsSettled, AreSettled, IsNotNext, NoneIsNext, is_ready, left}
+use Rattle.lb_flat.specs.Ordering.{IsTable, IsTableOf, IsScheduled, AreScheduled, IsNotNext, NoneIsNext, is_ready, left}
 use Rattle.lb_flat.specs.Programs.{flat_equations}
 use Rattle.lb_flat.specs.Run.{equation_reads, keeps}
 use Rattle.lb_flat.specs.Stuck.{CannotOrder, NotGiven, Waiting}
@@ -68,7 +68,7 @@ module _ {A B : Type 0} (f : A → B) where
   from_map b (x ∷ xs) (inl e) = record { source = x; is_in = inl refl; is = e }
   from_map b (x ∷ xs) (inr h) = later b x xs (from_map b xs h)
 
--- ## Settling
+-- ## Scheduling
 
 -- one mark more is one less to do
 pub left-set :
@@ -80,35 +80,36 @@ left-set (false ∷ done) zero lt h = refl
 left-set (true ∷ done) (suc e) lt h = left-set done e (omega arith) h
 left-set (false ∷ done) (suc e) lt h = ap suc (left-set done e (omega arith) h)
 
-module _ (ticks : List Tick) (table : List (Option Equation)) (done : List Bool)
-    (out : List Equation) (e : ℕ) (q : Equation) (is_table : IsTable ticks table)
-    (h : IsSettled ticks table done out) (at : get_or table e None ≡ Some q)
+module _ (clocks : List Clock) (table : List (Option Equation)) (done : List Bool)
+    (out : List Equation) (e : ℕ) (q : Equation) (is_table : IsTable clocks table)
+    (h : IsScheduled clocks table done out) (at : get_or table e None ≡ Some q)
     (lt : e < length table) (new : is_done done e ≡ false)
-    (ready : is_ready ticks done q ≡ true) where
+    (ready : is_ready clocks done q ≡ true) where
   element : q.element.0 ≡ e
   element = is_table.own e q at
 
-  next : is_next done (equation_of ticks q) ≡ true
+  next : is_next done (equation_of clocks q) ≡ true
   next =
       let w = is_table.within e q at in
-      passes done (equation_of ticks q) ready
-      (subst (λ n. Every (λ i. i < n) (keeps (equation_of ticks q).operation)) (sym h.marks)
-      (Every-of_All (λ i. i < length table) (keeps (equation_of ticks q).operation) w.kept))
+      passes done (equation_of clocks q) ready
+      (subst (λ n. Every (λ i. i < n) (keeps (equation_of clocks q).operation)) (sym h.marks)
+      (Every-of_All (λ i. i < length table) (keeps (equation_of clocks q).operation)
+      w.memory_operands))
       (omega (arith, h.marks, element))
       (ap (is_done done) element ∙ new)
 
-  pub settles : IsSettled ticks table (set done e true) (out ++ q ∷ [])
-  settles = record {
+  pub schedules : IsScheduled clocks table (set done e true) (out ++ q ∷ [])
+  schedules = record {
     marks = length-set done e true ∙ h.marks;
     begins = λ Q rest.
         let all = replicate (length table) false in
-        let grown : flat_equations ticks out ++ (equation_of ticks q ∷ Q)
-        ≡ flat_equations ticks (out ++ q ∷ []) ++ Q =
-        sym (ap (λ qs. qs ++ Q) (map-append (equation_of ticks) out (q ∷ []))
-        ∙ append_assoc (flat_equations ticks out) (equation_of ticks q ∷ []) Q) in
+        let grown : flat_equations clocks out ++ (equation_of clocks q ∷ Q)
+        ≡ flat_equations clocks (out ++ q ∷ []) ++ Q =
+        sym (ap (λ qs. qs ++ Q) (map-append (equation_of clocks) out (q ∷ []))
+        ∙ append_assoc (flat_equations clocks out) (equation_of clocks q ∷ []) Q) in
         subst (λ qs. is_in_order all qs ≡ true) grown
-        (h.begins (equation_of ticks q ∷ Q)
-        (goes_before done (equation_of ticks q) Q next
+        (h.begins (equation_of clocks q ∷ Q)
+        (goes_before done (equation_of clocks q) Q next
         (subst (λ i. is_in_order (set done i true) Q ≡ true) (sym element) rest)));
     entries = λ p is.
         ⊎_elim (h.entries p)
@@ -131,56 +132,56 @@ module _ (ticks : List Tick) (table : List (Option Equation)) (done : List Bool)
 
 -- ## A pass
 
--- what a pass over the elements before one keeps: it has settled some, or all is as it was
-pub record IsPassing (ticks : List Tick) (table : List (Option Equation))
+-- what a pass over the elements before one keeps: it has scheduled some, or all is as it was
+pub record IsPassing (clocks : List Clock) (table : List (Option Equation))
     (first done : List Bool) (some : Bool) (e : ℕ) : Type 0 where
-  pub settled : some ≡ true → left done < left first
+  pub scheduled : some ≡ true → left done < left first
   pub unchanged : some ≡ false → done ≡ first
-  pub stuck : some ≡ false → (k : ℕ) → k < e → IsNotNext ticks table first k
+  pub stuck : some ≡ false → (k : ℕ) → k < e → IsNotNext clocks table first k
 
 true_or_false : (b : Bool) → (b ≡ true) ⊎ (b ≡ false)
 true_or_false true = inl refl
 true_or_false false = inr refl
 
-module _ (ticks : List Tick) (table : List (Option Equation)) (first done : List Bool)
-    (some : Bool) (e : ℕ) (h : IsPassing ticks table first done some e) (after : List Bool) where
+module _ (clocks : List Clock) (table : List (Option Equation)) (first done : List Bool)
+    (some : Bool) (e : ℕ) (h : IsPassing clocks table first done some e) (after : List Bool) where
   at_most : left done ≤ left first
   at_most =
       ⊎_elim
-      (λ (is : some ≡ true). let less : left done < left first = h.settled is in omega arith)
+      (λ (is : some ≡ true). let less : left done < left first = h.scheduled is in omega arith)
       (λ (is : some ≡ false).
       let same : left done ≡ left first = ap left (h.unchanged is) in omega arith)
       (true_or_false some)
 
   pub one_settled :
-      suc (left after) ≡ left done → IsPassing ticks table first after true (e + 1)
+      suc (left after) ≡ left done → IsPassing clocks table first after true (e + 1)
   one_settled less = record {
-    settled = λ is. omega (arith, at_most);
+    scheduled = λ is. omega (arith, at_most);
     unchanged = λ is. absurd (cc);
     stuck = λ is. absurd (cc);
   }
 
   pub none_settled :
-      after ≡ done → IsNotNext ticks table done e →
-      IsPassing ticks table first after some (e + 1)
+      after ≡ done → IsNotNext clocks table done e →
+      IsPassing clocks table first after some (e + 1)
   none_settled same here = record {
-    settled = λ is. subst (λ d. left d < left first) (sym same) (h.settled is);
+    scheduled = λ is. subst (λ d. left d < left first) (sym same) (h.scheduled is);
     unchanged = λ is. same ∙ h.unchanged is;
     stuck = λ is.
-        below_more (IsNotNext ticks table first) e (h.stuck is)
-        (subst (λ d. IsNotNext ticks table d e) (h.unchanged is) here);
+        below_more (IsNotNext clocks table first) e (h.stuck is)
+        (subst (λ d. IsNotNext clocks table d e) (h.unchanged is) here);
   }
 
--- ## All settled
+-- ## All scheduled
 
 pub all_settled :
-    (ticks : List Tick) (table : List (Option Equation)) (done : List Bool) (out : List Equation)
-    (n : ℕ) → IsSettled ticks table done out → length table ≤ n →
-    ((i : ℕ) → i < n → is_done done i ≡ true) → AreSettled ticks table out
-all_settled ticks table done out n h le all = record {
+    (clocks : List Clock) (table : List (Option Equation)) (done : List Bool) (out : List Equation)
+    (n : ℕ) → IsScheduled clocks table done out → length table ≤ n →
+    ((i : ℕ) → i < n → is_done done i ≡ true) → AreScheduled clocks table out
+all_settled clocks table done out n h le all = record {
   in_order =
       subst (λ qs. is_in_order (replicate (length table) false) qs ≡ true)
-      (append-nil (flat_equations ticks out))
+      (append-nil (flat_equations clocks out))
       (h.begins [] (ends_order done (λ i lt. all i (omega (arith, h.marks)))));
   entries = h.entries;
   holds = λ e q lt. h.holds e q (all e (omega arith));
@@ -229,10 +230,10 @@ in_table [] e q h = cc
 in_table (o ∷ table) zero q h = omega arith
 in_table (o ∷ table) (suc e) q h = omega (arith, in_table table e q h)
 
-module _ (size : ℕ) (ticks : List Tick) (qs : List Equation) (table : List (Option Equation))
-    (t : IsTableOf size ticks qs table) (n : NoneIsNext ticks table) where
+module _ (size : ℕ) (clocks : List Clock) (qs : List Equation) (table : List (Option Equation))
+    (t : IsTableOf size clocks qs table) (n : NoneIsNext clocks table) where
   abbrev Q : List FlatEquation
-  Q = flat_equations ticks qs
+  Q = flat_equations clocks qs
 
   abbrev IsGiven : ℕ → Type 0
   IsGiven i = In i (map (λ q. q.element) Q)
@@ -244,11 +245,11 @@ module _ (size : ℕ) (ticks : List Tick) (qs : List Equation) (table : List (Op
       by : (o : Option Equation) → get_or table i None ≡ o → IsGiven i ⊎ (IsGiven i → ⊥)
       by (Some q) e =
           inl (subst IsGiven (t.own i q e)
-          (In-map (λ q. q.element) (equation_of ticks q) Q
-          (In-map (equation_of ticks) q qs (t.listed i q e))))
+          (In-map (λ q. q.element) (equation_of clocks q) Q
+          (In-map (equation_of clocks) q qs (t.listed i q e))))
       by None e = inr (λ given.
           let s = from_map (λ (q : FlatEquation). q.element) i Q given in
-          let r = from_map (equation_of ticks) s.source qs s.is_in in
+          let r = from_map (equation_of clocks) s.source qs s.is_in in
           let entered = t.each r.source r.is_in in
           let element : r.source.element.0 ≡ i = ap (λ x. x.element) r.is ∙ s.is in
           no_entry (get_or table i None) entered.entry e
@@ -259,16 +260,16 @@ module _ (size : ℕ) (ticks : List Tick) (qs : List Equation) (table : List (Op
       (q : FlatEquation) → In q Q → not (is_done n.done q.element) ≡ true →
       list_any (λ i. not (is_done n.done i)) (equation_reads q) ≡ true
   waits q is left =
-      let s = from_map (equation_of ticks) q qs is in
+      let s = from_map (equation_of clocks) q qs is in
       let e = t.each s.source s.is_in in
       let element : s.source.element.0 ≡ q.element = ap (λ x. x.element) s.is in
       let not_done = not-true (is_done n.done q.element) left in
-      let not_ready : is_ready ticks n.done e.entry ≡ false =
+      let not_ready : is_ready clocks n.done e.entry ≡ false =
       n.stuck s.source.element.0 (in_table table s.source.element.0 e.entry e.stands)
       (ap (is_done n.done) element ∙ not_done) e.entry e.stands in
       subst (λ x. list_any (λ i. not (is_done n.done i)) (equation_reads x) ≡ true)
       (e.same ∙ s.is)
-      (some_not (is_done n.done) (equation_reads (equation_of ticks e.entry)) not_ready)
+      (some_not (is_done n.done) (equation_reads (equation_of clocks e.entry)) not_ready)
 
   pub none_next : CannotOrder size Q
   none_next = by (all_or_one IsGiven given_or_not size)

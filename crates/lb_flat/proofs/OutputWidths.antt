@@ -6,12 +6,12 @@ use Rattle.std.proofs.lemmas.List.{length-take-le, length-drop}
 use Rattle.lb_syntax.specs.Lists.{Every, copies, all_some, either_or}
 use Rattle.lb_syntax.specs.Tree.{Name, Declaration}
 use Rattle.lb_static.specs.Instances.{Program, Instance}
-use Rattle.lb_static.specs.Shapes.{Shape, width, shape_of, element_count}
+use Rattle.lb_static.specs.DataTypes.{DataType, width, variable_type, element_count}
 use Rattle.lb_check.specs.Types.{array_of}
 use Rattle.lb_check.specs.Scalars.{Stream}
 use Rattle.lb_check.specs.Streams.{choice, choices, gathered, last_of}
 use Rattle.lb_flat.proofs.Lists.{length-zips}
-use Rattle.lb_flat.proofs.ShapeFacts.{elements_in, array_count, some_same}
+use Rattle.lb_flat.proofs.TypeFacts.{elements_in, array_count, some_same}
 
 -- ## Lists
 
@@ -93,7 +93,7 @@ each (Some x) os ys e = from (all_some os) refl e
 
 -- arrays of n of these types
 pub arrays_count :
-    (n : ℕ) (us ts : List Shape) → all_some (map (array_of n) us) ≡ Some ts →
+    (n : ℕ) (us ts : List DataType) → all_some (map (array_of n) us) ≡ Some ts →
     elements_in ts ≡ n * elements_in us
 arrays_count n [] ts e = ap elements_in (sym (some_same _ _ e)) ∙ omega arith
 arrays_count n (u ∷ us) ts e =
@@ -109,17 +109,17 @@ module _ (P : Program) (c : Instance) where
   AreOutputs f ds = Every (λ d. length (f d) ≡ width P c d) ds
 
   pub width_of :
-      (d : Declaration) (t : Shape) → shape_of P c d ≡ Some t →
+      (d : Declaration) (t : DataType) → variable_type P c d ≡ Some t →
       width P c d ≡ element_count t
   width_of d t e = ap (λ o. either_or (option_map element_count o) 0) e
 
   pub outputs_wide :
-      (f : Declaration → List Stream) (ds : List Declaration) (ts : List Shape) →
-      AreOutputs f ds → all_some (map (shape_of P c) ds) ≡ Some ts →
+      (f : Declaration → List Stream) (ds : List Declaration) (ts : List DataType) →
+      AreOutputs f ds → all_some (map (variable_type P c) ds) ≡ Some ts →
       length (flat_map f ds) ≡ elements_in ts
   outputs_wide f [] ts w e = ap elements_in (some_same _ _ e)
   outputs_wide f (d ∷ ds) ts w e =
-      let h = each (shape_of P c d) (map (shape_of P c) ds) ts e in
+      let h = each (variable_type P c d) (map (variable_type P c) ds) ts e in
       let first = w.0 ∙ width_of d h.first h.is in
       let rest = outputs_wide f ds h.rest w.1 h.others in
       omega (arith, length-append (f d) (flat_map f ds), first, rest)
@@ -130,13 +130,13 @@ module _ (P : Program) (c : Instance) where
     AllOutputs ds = (i : ℕ) → i < n → AreOutputs (λ d. outputs i d.name) ds
 
     pub gathered_wide :
-        (ds : List Declaration) (us : List Shape) → AllOutputs ds →
-        all_some (map (shape_of P c) ds) ≡ Some us →
+        (ds : List Declaration) (us : List DataType) → AllOutputs ds →
+        all_some (map (variable_type P c) ds) ≡ Some us →
         length (gathered outputs n ds) ≡ n * elements_in us
     gathered_wide [] us w e = let none = some_same _ _ e in
         omega arith ∙ ap (λ vs. n * elements_in vs) none
     gathered_wide (d ∷ ds) us w e =
-        let h = each (shape_of P c d) (map (shape_of P c) ds) us e in
+        let h = each (variable_type P c d) (map (variable_type P c) ds) us e in
         let inner = λ (i : ℕ). outputs i d.name in
         let first = length-range inner (element_count h.first) 0 n (λ i lt.
         let at : 0 + i ≡ i = omega arith in
@@ -151,14 +151,14 @@ module _ (P : Program) (c : Instance) where
         ∙ sym (ap (λ vs. n * elements_in vs) h.all)
 
     pub last_wide :
-        0 < n → (ds : List Declaration) (u : Shape) (us : List Shape) → AllOutputs ds →
-        all_some (map (shape_of P c) ds) ≡ Some (u ∷ us) →
+        0 < n → (ds : List Declaration) (u : DataType) (us : List DataType) → AllOutputs ds →
+        all_some (map (variable_type P c) ds) ≡ Some (u ∷ us) →
         length (last_of outputs n ds) ≡ element_count u
     last_wide positive [] u us w e = cc
     last_wide positive (d ∷ ds) u us w e =
-        let h = each (shape_of P c d) (map (shape_of P c) ds) (u ∷ us) e in
+        let h = each (variable_type P c d) (map (variable_type P c) ds) (u ∷ us) e in
         let same : u ≡ h.first = first_same _ _ _ _ h.all in
         (w (n - 1) (omega arith)).0 ∙ width_of d h.first h.is ∙ ap element_count (sym same)
       where
-        first_same : (s t : Shape) (ss ts : List Shape) → s ∷ ss ≡ t ∷ ts → s ≡ t
+        first_same : (s t : DataType) (ss ts : List DataType) → s ∷ ss ≡ t ∷ ts → s ≡ t
         first_same s t ss ts e = cc

@@ -7,8 +7,8 @@ use Rattle.lb_syntax.specs.declared.tree.ArrayIterator.TheVariants.{Map, Red, Fi
 use Rattle.lb_syntax.specs.Lists.{Every, part, all_some, where_true}
 use Rattle.lb_syntax.specs.Tree.{Name, Static, Node_named, Call, Iterate, Exprs, Declaration, Node}
 use Rattle.lb_static.specs.Instances.{Program, Instance, Child, static_count, node_named}
-use Rattle.lb_static.specs.Shapes.{Shape, width, shape_of, element_count, is_shape, are_shapes}
-use Rattle.lb_check.specs.Types.{shapes, all_shapes, array_of, operator_shapes, iterator_shapes}
+use Rattle.lb_static.specs.DataTypes.{DataType, width, variable_type, element_count, is_type, are_types}
+use Rattle.lb_check.specs.Types.{data_types, all_types, array_of, operator_types, iterator_types}
 use Rattle.lb_check.specs.Scalars.{Stream}
 use Rattle.lb_check.specs.Clocks.{Clock, argument_clocks}
 use Rattle.lb_check.specs.Occurrences.{occurrences_in, occurrences_each}
@@ -16,7 +16,7 @@ use Rattle.lb_check.specs.Streams.{History, all_streams, argument_streams, numbe
 use Rattle.lb_check.specs.Solutions.{accumulated, iterator_inputs}
 use Rattle.lb_flat.proofs.Lists.{Every-first}
 use Rattle.lb_flat.proofs.Placing.{AreAsWide}
-use Rattle.lb_flat.proofs.ShapeFacts.{bound, truly, are_counts, same_count, array_count, and_first, and_second, some_same}
+use Rattle.lb_flat.proofs.TypeFacts.{bound, truly, are_counts, same_count, array_count, and_first, and_second, some_same}
 use Rattle.lb_flat.proofs.OutputWidths.{each, width_of, length-index}
 use Rattle.lb_flat.proofs.Widths.{called, Placed, placed, AreVariablesWide, IsCalleeWide, IsOccurrenceWide, number_is, same_first, same_rest, all_wide, outputs_at}
 use Rattle.lb_flat.proofs.TypedBodies.{arguments_wide, inputs_as_wide}
@@ -30,33 +30,33 @@ length-all (o ∷ os) ys e =
     ap length h.all ∙ ap suc (length-all os h.rest h.others)
 
 lengths_same :
-    (ss ts : List Shape) → map element_count ss ≡ map element_count ts → length ss ≡ length ts
+    (ss ts : List DataType) → map element_count ss ≡ map element_count ts → length ss ≡ length ts
 lengths_same ss ts e =
     sym (length-map ss element_count) ∙ ap length e ∙ length-map ts element_count
 
 -- the type of the first output
 first_output :
     (P : Program) (c : Instance) (outputs : ℕ → Name → List Stream) (n j : ℕ) → j < n →
-    (ds : List Declaration) (u : Shape) (us : List Shape) (init : List Stream) →
+    (ds : List Declaration) (u : DataType) (us : List DataType) (init : List Stream) →
     ((i : ℕ) → i < n → Every (λ d. length (outputs i d.name) ≡ width P c d) ds) →
-    all_some (map (shape_of P c) ds) ≡ Some (u ∷ us) →
+    all_some (map (variable_type P c) ds) ≡ Some (u ∷ us) →
     length (accumulated outputs ds init (suc j)) ≡ element_count u
 first_output P c outputs n j lt [] u us init w o = cc
 first_output P c outputs n j lt (d ∷ ds) u us init w o =
-    let h = each (shape_of P c d) (map (shape_of P c) ds) (u ∷ us) o in
+    let h = each (variable_type P c d) (map (variable_type P c) ds) (u ∷ us) o in
     let same : u ≡ h.first = first_is _ _ _ _ h.all in
     (w j lt).0 ∙ width_of P c d h.first h.is ∙ ap element_count (sym same)
   where
-    first_is : (s t : Shape) (ss ts : List Shape) → s ∷ ss ≡ t ∷ ts → s ≡ t
+    first_is : (s t : DataType) (ss ts : List DataType) → s ∷ ss ≡ t ∷ ts → s ≡ t
     first_is s t ss ts e = cc
 
 -- the accumulator of instance i
 accumulator_wide :
     (P : Program) (c : Instance) (outputs : ℕ → Name → List Stream) (n i : ℕ) → i < n →
-    (ds : List Declaration) (u : Shape) (us : List Shape) (init : List Stream) →
+    (ds : List Declaration) (u : DataType) (us : List DataType) (init : List Stream) →
     length init ≡ element_count u →
     ((i : ℕ) → i < n → Every (λ d. length (outputs i d.name) ≡ width P c d) ds) →
-    all_some (map (shape_of P c) ds) ≡ Some (u ∷ us) →
+    all_some (map (variable_type P c) ds) ≡ Some (u ∷ us) →
     length (accumulated outputs ds init i) ≡ element_count u
 accumulator_wide P c outputs n zero lt [] u us init e w o = e
 accumulator_wide P c outputs n zero lt (d ∷ ds) u us init e w o = e
@@ -74,7 +74,7 @@ part_wide n i lt w xs e =
 
 -- the parts of arrays of these types
 parts_wide :
-    (n i : ℕ) → i < n → (us ts : List Shape) (xsss : List (List Stream)) →
+    (n i : ℕ) → i < n → (us ts : List DataType) (xsss : List (List Stream)) →
     all_some (map (array_of n) us) ≡ Some ts → map length xsss ≡ map element_count ts →
     map length (map (part n i) xsss) ≡ map element_count us
 parts_wide n i lt [] ts xsss o e =
@@ -123,25 +123,25 @@ module _ (P : Program) (H : History) (here : Instance)
       Every-first _ c.node.inputs (c.node.outputs ++ c.node.locals) all
 
   pub call_as_wide :
-      (k : Clock) (n : ℕ) (f : Name) (statics : List Static) (es : Exprs) (ts : List Shape) →
-      shapes P here (Call f statics es) ≡ Some ts → IsCalleeWide P H here n f statics 0 →
+      (k : Clock) (n : ℕ) (f : Name) (statics : List Static) (es : Exprs) (ts : List DataType) →
+      data_types P here (Call f statics es) ≡ Some ts → IsCalleeWide P H here n f statics 0 →
       (callee : Node) → node_named P f ≡ Some callee →
       Every (IsOccurrenceWide P H here)
       (occurrences_each P here.node (argument_clocks k callee es) (n + 1) es) →
       AreAsWide H (Child here.path n 0) callee.inputs
       (argument_streams P H here (argument_clocks k callee es) (n + 1) es)
   call_as_wide k n f statics es ts e w callee named parts =
-      let o = bound (operator_shapes P here (Node_named f statics)) _ ts e in
-      let a = bound (all_shapes P here es) _ ts o.gives in
-      let t = truly (are_shapes o.value.0 a.value) o.value.1 ts a.gives in
+      let o = bound (operator_types P here (Node_named f statics)) _ ts e in
+      let a = bound (all_types P here es) _ ts o.gives in
+      let t = truly (are_types o.value.0 a.value) o.value.1 ts a.gives in
       let c = called P here f statics o.value o.is in
       let p = placed P here f statics c.callee c.is in
       let same : callee ≡ c.callee.node = some_same _ _ (sym named ∙ p.node) in
       let counts = are_counts o.value.0 a.value t.holds in
       let as_many : length a.value ≡ length callee.inputs =
       sym (lengths_same o.value.0 a.value counts)
-      ∙ length-all (map (shape_of P c.callee) c.callee.node.inputs) o.value.0 c.inputs
-      ∙ length-map c.callee.node.inputs (shape_of P c.callee)
+      ∙ length-all (map (variable_type P c.callee) c.callee.node.inputs) o.value.0 c.inputs
+      ∙ length-map c.callee.node.inputs (variable_type P c.callee)
       ∙ ap (λ (n : Node). length n.inputs) (sym same) in
       let ks = argument_clocks k callee es in
       let clocks : length ks ≡ length callee.inputs = length-map callee.inputs _ in
@@ -158,16 +158,17 @@ module _ (P : Program) (H : History) (here : Instance)
   -- what goes into instance i has the types of its inputs
   inputs_of_instance :
       (c : Instance) (outputs : ℕ → Name → List Stream) (n i : ℕ) → i < n →
-      (it : ArrayIterator) (ds : List Declaration) (ins outs args ts : List Shape)
+      (it : ArrayIterator) (ds : List Declaration) (ins outs args ts : List DataType)
       (xsss : List (List Stream)) →
       ((j : ℕ) → j < n → Every (λ d. length (outputs j d.name) ≡ width P c d) ds) →
-      all_some (map (shape_of P c) ds) ≡ Some outs → iterator_shapes it n ins outs args ≡ Some ts →
+      all_some (map (variable_type P c) ds) ≡ Some outs
+      → iterator_types it n ins outs args ≡ Some ts →
       map length xsss ≡ map element_count args →
       map length (iterator_inputs outputs n it ds xsss i) ≡ map element_count ins
   inputs_of_instance c outputs n i lt Map ds ins outs args ts xsss w o e h =
       let wanted = bound (all_some (map (array_of n) ins)) _ ts e in
-      let b = bound (where_true (are_shapes wanted.value args) outs) _ ts wanted.gives in
-      let t = truly (are_shapes wanted.value args) outs b.value b.is in
+      let b = bound (where_true (are_types wanted.value args) outs) _ ts wanted.gives in
+      let t = truly (are_types wanted.value args) outs b.value b.is in
       parts_wide n i lt ins wanted.value xsss wanted.is
       (h ∙ sym (are_counts wanted.value args t.holds))
   inputs_of_instance c outputs n i lt Red ds [] outs args ts xsss w o e h = cc
@@ -177,12 +178,12 @@ module _ (P : Program) (H : History) (here : Instance)
   inputs_of_instance c outputs n i lt Red ds (a ∷ ins) (u ∷ []) (t ∷ args) ts [] w o e h = cc
   inputs_of_instance c outputs n i lt Red ds (a ∷ ins) (u ∷ []) (t ∷ args) ts (x ∷ xsss) w o e h =
       let wanted = bound (all_some (map (array_of n) ins)) _ ts e in
-      let arrays = are_shapes wanted.value args in
-      let fit = truly (is_shape a u && (is_shape a t && arrays)) (u ∷ []) ts wanted.gives in
-      let inner = and_second (is_shape a u) (is_shape a t && arrays) fit.holds in
-      let out = same_count a u (and_first (is_shape a u) (is_shape a t && arrays) fit.holds) in
-      let initial = same_count a t (and_first (is_shape a t) arrays inner) in
-      let counts = are_counts wanted.value args (and_second (is_shape a t) arrays inner) in
+      let arrays = are_types wanted.value args in
+      let fit = truly (is_type a u && (is_type a t && arrays)) (u ∷ []) ts wanted.gives in
+      let inner = and_second (is_type a u) (is_type a t && arrays) fit.holds in
+      let out = same_count a u (and_first (is_type a u) (is_type a t && arrays) fit.holds) in
+      let initial = same_count a t (and_first (is_type a t) arrays inner) in
+      let counts = are_counts wanted.value args (and_second (is_type a t) arrays inner) in
       let first : length x ≡ element_count t = same_first P H here _ _ _ _ h in
       ap₂ (λ l ls. l ∷ ls)
       (accumulator_wide P c outputs n i lt ds u [] x (first ∙ sym initial ∙ out) w o ∙ sym out)
@@ -201,9 +202,9 @@ module _ (P : Program) (H : History) (here : Instance)
   inputs_of_instance c outputs n i lt Fill ds (a ∷ []) (u ∷ (v ∷ us))
       (t ∷ []) ts (x ∷ xsss) w o e h =
       let arrays = bound (all_some (map (array_of n) (v ∷ us))) _ ts e in
-      let fit = truly (is_shape a u && is_shape a t) (u ∷ arrays.value) ts arrays.gives in
-      let out = same_count a u (and_first (is_shape a u) (is_shape a t) fit.holds) in
-      let initial = same_count a t (and_second (is_shape a u) (is_shape a t) fit.holds) in
+      let fit = truly (is_type a u && is_type a t) (u ∷ arrays.value) ts arrays.gives in
+      let out = same_count a u (and_first (is_type a u) (is_type a t) fit.holds) in
+      let initial = same_count a t (and_second (is_type a u) (is_type a t) fit.holds) in
       let first : length x ≡ element_count t = same_first P H here _ _ _ _ h in
       ap (λ l. l ∷ [])
       (accumulator_wide P c outputs n i lt ds u (v ∷ us) x (first ∙ sym initial ∙ out) w o
@@ -211,8 +212,8 @@ module _ (P : Program) (H : History) (here : Instance)
 
   pub iterator_as_wide :
       (k : Clock) (n : ℕ) (it : ArrayIterator) (f : Name) (statics : List Static) (m : Static)
-      (es : Exprs) (ts : List Shape) →
-      shapes P here (Iterate it (Node_named f statics) m es) ≡ Some ts →
+      (es : Exprs) (ts : List DataType) →
+      data_types P here (Iterate it (Node_named f statics) m es) ≡ Some ts →
       ((i : ℕ) → i < number P here m → IsCalleeWide P H here n f statics i) →
       (callee : Node) → node_named P f ≡ Some callee →
       Every (IsOccurrenceWide P H here) (occurrences_in P here.node k (n + 1) es) →
@@ -222,10 +223,10 @@ module _ (P : Program) (H : History) (here : Instance)
       callee.outputs (all_streams P H here k (n + 1) es) i)
   iterator_as_wide k n it f statics m es ts e w callee named parts i lt =
       let size = bound (static_count P here m) _ ts e in
-      let o = bound (operator_shapes P here (Node_named f statics)) _ ts size.gives in
-      let a = bound (all_shapes P here es) _ ts o.gives in
+      let o = bound (operator_types P here (Node_named f statics)) _ ts size.gives in
+      let a = bound (all_types P here es) _ ts o.gives in
       let types =
-      ap (λ count. iterator_shapes it count o.value.0 o.value.1 a.value)
+      ap (λ count. iterator_types it count o.value.0 o.value.1 a.value)
       (number_is P H here m size.value size.is) ∙ a.gives in
       let c = called P here f statics o.value o.is in
       let p = placed P here f statics c.callee c.is in

@@ -8,8 +8,8 @@ use Rattle.lb_syntax.specs.Lists.{◌>>=◌, listed}
 use Rattle.lb_syntax.specs.Tree.{Name, Node, Declaration, Static, Sampling}
 use Rattle.lb_static.specs.Instances.{Program, Root, Observer, start_at, node_named, node_sites, numbered_sites, site_instances, instances_from, instances, instance_at}
 use Rattle.lb_static.specs.Parts.{among, variable_names, node_parts, node_names}
-use Rattle.lb_static.specs.Shapes.{variables, scalar_elements, signature}
-use Rattle.lb_static.specs.Walk.{static_refusal}
+use Rattle.lb_static.specs.DataTypes.{variables, scalar_elements, signature}
+use Rattle.lb_static.specs.Instantiation.{static_refusal}
 use Rattle.lb_static.proofs.Lists.{and_first, and_second, both, all_append}
 use Rattle.lb_flat.specs.PlainNodes.{IsPlain, is_plain, is_plain_node, is_scalar, plain_inputs, start_of}
 use Rattle.lb_flat.proofs.PlainForms.{is_simple_statement, plain_parts, known_names, no_node_sites, simple_from_parts}

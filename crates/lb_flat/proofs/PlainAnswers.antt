@@ -3,7 +3,7 @@ use Rattle.std.proofs.Common.{◌≡◌, None, List, [], length}
 use Rattle.lb_syntax.specs.Tree.{Node}
 use Rattle.lb_flat.specs.PlainNodes.{IsPlain}
 use Rattle.lb_static.specs.Instances.{Program}
-use Rattle.lb_static.specs.Shapes.{variables}
+use Rattle.lb_static.specs.DataTypes.{variables}
 use Rattle.lb_check.specs.Acceptance.{check_refusal}
 use Rattle.lb_flat.specs.Flat.{Always, FlatEquation}
 use Rattle.lb_flat.specs.Run.{Ready}

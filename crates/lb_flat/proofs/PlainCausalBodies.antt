@@ -8,7 +8,7 @@ use Rattle.lb_syntax.specs.Lists.{Every, In, listed}
 use Rattle.lb_syntax.specs.Tree.{Name, Expr, Declaration, Node, Statement, Equation, Assertion}
 use Rattle.lb_static.specs.StaticValues.{named}
 use Rattle.lb_static.specs.Instances.{Program, Instance, Root}
-use Rattle.lb_static.specs.Shapes.{variables}
+use Rattle.lb_static.specs.DataTypes.{variables}
 use Rattle.lb_static.specs.Parts.{parts, right_side}
 use Rattle.lb_flat.specs.PlainNodes.{IsPlain, start_of}
 use Rattle.lb_check.specs.Clocks.{Clock, Base, declared_clock}

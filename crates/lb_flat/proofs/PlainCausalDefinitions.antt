@@ -4,7 +4,7 @@ use Rattle.std.proofs.Common.{◌≡◌, ℕ, true, ◌⊎◌, inl, inr, Some, N
 use Rattle.lb_syntax.specs.Lists.{◌>>=◌, Every, In}
 use Rattle.lb_syntax.specs.Tree.{Expr, Call, Iterate, Node}
 use Rattle.lb_static.specs.Instances.{Program, Instance, Observer, instance_at, instances, start_at}
-use Rattle.lb_static.specs.Shapes.{variables}
+use Rattle.lb_static.specs.DataTypes.{variables}
 use Rattle.lb_static.specs.Parts.{parts, right_side, node_parts}
 use Rattle.lb_flat.specs.PlainNodes.{IsPlain, is_plain, start_of}
 use Rattle.lb_check.specs.Clocks.{declared_clock}
@@ -16,7 +16,7 @@ use Rattle.lb_flat.specs.Layouts.{Layout}
 use Rattle.lb_flat.specs.PlainLayout.{plain_layout}
 use Rattle.lb_flat.specs.Emit.{State, emit_body, emit_instances, before_instances, given_inputs, observed, expanded}
 use Rattle.lb_flat.proofs.Lists.{Every-map, Every-append, Every-piece, Every-pieces, Every-of_pieces}
-use Rattle.lb_flat.proofs.ShapeFacts.{and_first, and_second}
+use Rattle.lb_flat.proofs.TypeFacts.{and_first, and_second}
 use Rattle.lb_flat.proofs.PlainPlacing.{every_passes}
 use Rattle.lb_flat.proofs.PlainStreams.{not_plain, plain_body}
 use Rattle.lb_flat.proofs.PlainCausalExpressions.{AllPlain, scalars}

@@ -7,7 +7,7 @@ use Rattle.lb_syntax.specs.Lists.{◌>>=◌, Every, either_or, joined, or_else}
 use Rattle.lb_syntax.specs.Tree.{Name, Expr, Literal, Truth, Variable, Group, Unary, Binary, If, Arrow, Fby, Pre, AtMostOne, Nor, Exprs, Nil, Cons, Declaration, Node}
 use Rattle.lb_static.specs.StaticValues.{named}
 use Rattle.lb_static.specs.Instances.{Program, Instance, Root, name_value}
-use Rattle.lb_static.specs.Shapes.{variables, width}
+use Rattle.lb_static.specs.DataTypes.{variables, width}
 use Rattle.lb_static.specs.Parts.{parts, parts_in}
 use Rattle.lb_flat.specs.PlainNodes.{IsPlain, is_plain, is_scalar, start_of}
 use Rattle.lb_check.specs.Scalars.{Integer, Boolean, or_fault}
@@ -21,7 +21,7 @@ use Rattle.lb_flat.specs.Layouts.{Layout}
 use Rattle.lb_flat.specs.PlainLayout.{plain_layout}
 use Rattle.lb_flat.specs.Emit.{State, keep, emit_name, emit, emit_all}
 use Rattle.lb_flat.proofs.Lists.{Every-map, Every-both, Every-first, Every-second}
-use Rattle.lb_flat.proofs.ShapeFacts.{and_first, and_second}
+use Rattle.lb_flat.proofs.TypeFacts.{and_first, and_second}
 use Rattle.lb_flat.proofs.OutputWidths.{found_in}
 use Rattle.lb_flat.proofs.PlainPlacing.{plain_places, plain_widths}
 use Rattle.lb_flat.proofs.PlainCausalLinks.{SomeOf, Has, AllMeet, Link, Traced, TracedAll, constant_traced, one_traced, two_traced, three_traced, keep_traced, pre_traced, fby_traced, nor_gives, at_most_one_gives, all_traced, none_traced, more_traced}

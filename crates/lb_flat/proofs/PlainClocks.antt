@@ -6,11 +6,11 @@ use Rattle.std.specs.Str.{bytes_eq}
 use Rattle.lb_syntax.specs.Lists.{◌>>=◌, or_else}
 use Rattle.lb_syntax.specs.Tree.{Name, Declaration, Node, Sampling, Equation}
 use Rattle.lb_flat.specs.declared.plain.term.Term.{Term, Literal, Truth, Variable, Group', Unary', Binary', If', Arrow', Fby', Pre', AtMostOne', Nor', Row_of-Term, end_of-Term, more_of-Term}
-use Rattle.lb_flat.specs.declared.plain.term.Step.{Step}
-use Rattle.lb_flat.specs.declared.plain.term.Step.TheVariants as step
+use Rattle.lb_flat.specs.declared.plain.term.PlainStatement.{PlainStatement}
+use Rattle.lb_flat.specs.declared.plain.term.PlainStatement.TheVariants as statement
 use Rattle.lb_static.specs.StaticValues.{named}
 use Rattle.lb_static.specs.Instances.{Program}
-use Rattle.lb_static.specs.Shapes.{variables}
+use Rattle.lb_static.specs.DataTypes.{variables}
 use Rattle.lb_flat.specs.PlainNodes.{is_scalar}
 use Rattle.lb_flat.specs.PlainTerms.{expr_of, row_of, statement_of, name_of}
 use Rattle.lb_static.specs.declared.resolved.VariableId.{VariableId}
@@ -110,8 +110,8 @@ module _ (P : Program) (n : Node) (plain : list_all is_scalar (variables n) ≡ 
     term_base names (Fby' p a q b) = either_base (own names a) (own names b) (term_base names a)
         (term_base names b)
     term_base names (Pre' p a) = term_base names a
-    term_base names (AtMostOne' shape all) = row_base names all
-    term_base names (Nor' shape all) = row_base names all
+    term_base names (AtMostOne' arity all) = row_base names all
+    term_base names (Nor' arity all) = row_base names all
 
     row_base : {m : _} (names : List Name) (row : Row_of-Term m) →
         IsBase (first_clock P n (row_of names row))
@@ -129,6 +129,7 @@ module _ (P : Program) (n : Node) (plain : list_all is_scalar (variables n) ≡ 
   lefts_base names [] e = refl
   lefts_base names (x ∷ xs) e = base _
 
-  pub step_base : (names : List Name) (s : Step) → statement_clock P n (statement_of names s) ≡ Base
-  step_base names (step.Equation lefts e) = lefts_base names lefts.items e
-  step_base names (step.Assertion e) = base_of (own names e) (term_base names e)
+  pub step_base : (names : List Name) (s : PlainStatement)
+      → statement_clock P n (statement_of names s) ≡ Base
+  step_base names (statement.Equation lefts e) = lefts_base names lefts.items e
+  step_base names (statement.Assertion e) = base_of (own names e) (term_base names e)

@@ -16,18 +16,18 @@ use Rattle.lb_syntax.specs.Tree as tree
 use Rattle.lb_syntax.specs.Tree.{Name, Node, Expr}
 use Rattle.lb_static.specs.declared.resolved.VariableId.{VariableId}
 use Rattle.lb_flat.specs.declared.plain.term.Variable.{Variable as Declared}
-use Rattle.lb_flat.specs.declared.plain.term.Step.{Step}
-use Rattle.lb_flat.specs.declared.plain.term.Step.TheVariants as step
+use Rattle.lb_flat.specs.declared.plain.term.PlainStatement.{PlainStatement}
+use Rattle.lb_flat.specs.declared.plain.term.PlainStatement.TheVariants as statement
 use Rattle.lb_flat.specs.declared.plain.term.Term.{Term, Literal, Truth, Variable, Group', Unary', Binary', If', Arrow', Fby', Pre', AtMostOne', Nor', Row_of-Term, end_of-Term, more_of-Term}
 use Rattle.lb_static.specs.StaticValues.{named}
 use Rattle.lb_static.specs.Instances.{Program, Instance}
-use Rattle.lb_static.specs.Shapes.{int, variables, shape_of, is_kind}
+use Rattle.lb_static.specs.DataTypes.{int, variables, variable_type, is_kind}
 use Rattle.lb_static.specs.Parts.{among, variable_names, parts, parts_in, right_side}
 use Rattle.lb_static.specs.Names.{are_distinct}
 use Rattle.lb_flat.specs.PlainNodes.{is_plain, start_of, is_scalar, is_place, is_within, are_within}
 use Rattle.lb_flat.specs.PlainTerms.{declaration_of, name_of, expr_of, row_of, statement_of}
 use Rattle.lb_check.specs.Scalars.{Scalar, Integer, first_value}
-use Rattle.lb_check.specs.Types.{name_shape, only, is_arithmetic, is_logical, is_equality}
+use Rattle.lb_check.specs.Types.{name_data_type, only, is_arithmetic, is_logical, is_equality}
 use Rattle.lb_check.specs.Clocks.{Base}
 use Rattle.lb_check.specs.Occurrences.{call_count}
 use Rattle.lb_check.specs.Streams.{first_of}
@@ -35,13 +35,13 @@ use Rattle.lb_flat.specs.TermKinds.{kinds_of, term_kind, row_truths, unary_kind,
 use Rattle.lb_check.proofs.DistinctNames.{held_at, not_among}
 use Rattle.lb_flat.proofs.PlainNames.{found_at, get_name}
 use Rattle.lb_flat.proofs.PlainTypes.{names_map}
-use Rattle.lb_flat.proofs.TermShapes.{scalar, shape_list, term_shapes}
+use Rattle.lb_flat.proofs.TermDataTypes.{scalar, type_list, term_types}
 use Rattle.lb_flat.specs.Flat.{Always, Operation, Constant, ApplyUnary, ApplyBinary, FirstThen, Previous}
 use Rattle.lb_flat.specs.Layouts.{Layout}
 use Rattle.lb_flat.specs.PlainLayout.{place_among, plain_layout}
 use Rattle.lb_flat.specs.Emit.{State, Emitted, gives, add, keep, push, negated, chained, twice, emit_nor, emit_at_most_one, emit_name, emit, emit_all, numbers, chosen_by}
-use Rattle.lb_flat.specs.Terms.{Found, pushed, as_truth, literal, unary_result, binary_result, emit_term, emit_row}
-use Rattle.lb_flat.proofs.ShapeFacts.{bound, truly, some_same, and_first, and_second}
+use Rattle.lb_flat.specs.Terms.{TypedElement, pushed, as_truth, literal, unary_result, binary_result, emit_term, emit_row}
+use Rattle.lb_flat.proofs.TypeFacts.{bound, truly, some_same, and_first, and_second}
 
 -- ## Literals
 
@@ -58,16 +58,16 @@ abbrev mutual
   has_ints (Arrow' p a q b) = has_ints a && has_ints b
   has_ints (Fby' p a q b) = has_ints a && has_ints b
   has_ints (Pre' p a) = has_ints a
-  has_ints (AtMostOne' shape all) = row_has_ints all
-  has_ints (Nor' shape all) = row_has_ints all
+  has_ints (AtMostOne' arity all) = row_has_ints all
+  has_ints (Nor' arity all) = row_has_ints all
 
   pub row_has_ints : {m : _} → Row_of-Term m → Bool
   row_has_ints end_of-Term = true
   row_has_ints (more_of-Term e rest) = has_ints e && row_has_ints rest
 
-abbrev pub step_has_ints : Step → Bool
-step_has_ints (step.Equation lefts e) = has_ints e
-step_has_ints (step.Assertion e) = has_ints e
+abbrev pub step_has_ints : PlainStatement → Bool
+step_has_ints (statement.Equation lefts e) = has_ints e
+step_has_ints (statement.Assertion e) = has_ints e
 
 all_first : (es fs : List Expr) → list_all is_plain (es ++ fs) ≡ true → list_all is_plain es ≡ true
 all_first es fs e = and_first _ (list_all is_plain fs) (sym (list_all-append is_plain es fs) ∙ e)
@@ -121,8 +121,8 @@ mutual
       two_plain (parts (expr_of names a)) (parts (expr_of names b)) (has_ints a) (has_ints b)
       (λ e. plain_ints names a e) (λ e. plain_ints names b e) e
   plain_ints names (Pre' p a) e = plain_ints names a e
-  plain_ints names (AtMostOne' shape all) e = row_ints names all e
-  plain_ints names (Nor' shape all) e = row_ints names all e
+  plain_ints names (AtMostOne' arity all) e = row_ints names all e
+  plain_ints names (Nor' arity all) e = row_ints names all e
 
   row_ints : {m : _} (names : List Name) (row : Row_of-Term m) →
       ArePlain (parts_in (row_of names row)) → row_has_ints row ≡ true
@@ -131,12 +131,12 @@ mutual
       two_plain (parts (expr_of names t)) (parts_in (row_of names rest)) (has_ints t)
       (row_has_ints rest) (λ e. plain_ints names t e) (λ e. row_ints names rest e) e
 
-step_ints : (names : List Name) (s : Step) →
+step_ints : (names : List Name) (s : PlainStatement) →
     ArePlain (parts (right_side (statement_of names s))) → step_has_ints s ≡ true
-step_ints names (step.Equation lefts t) e = plain_ints names t e
-step_ints names (step.Assertion t) e = plain_ints names t e
+step_ints names (statement.Equation lefts t) e = plain_ints names t e
+step_ints names (statement.Assertion t) e = plain_ints names t e
 
-pub steps_ints : (names : List Name) (ss : List Step) →
+pub steps_ints : (names : List Name) (ss : List PlainStatement) →
     ArePlain (flat_map (λ s. parts (right_side s)) (map (statement_of names) ss)) →
     list_all step_has_ints ss ≡ true
 steps_ints names [] e = refl
@@ -148,7 +148,7 @@ steps_ints names (s ∷ ss) e =
 -- ## One element
 
 -- what is found, as a list of one element
-abbrev pub as_emitted : Found → Emitted
+abbrev pub as_emitted : TypedElement → Emitted
 as_emitted f = gives f.state (f.element ∷ [])
 
 abbrev IsSingle : Emitted → Type 0
@@ -335,18 +335,18 @@ module _ (P : Program) (n : Node) (vars : List Declared)
             ∙ place_found 0 names x.0 v.0.name distinct got ∙ ap (λ (i : ℕ). i ∷ []) sum;
       }
 
-  named_shape : (x : VariableId) → is_place count x ≡ true →
-      name_shape P here (name_of names x) ≡ option_map scalar (slice_get kinds x.0)
-  named_shape x within =
+  named_type : (x : VariableId) → is_place count x ≡ true →
+      name_data_type P here (name_of names x) ≡ option_map scalar (slice_get kinds x.0)
+  named_type x within =
       let h = held x within in
-      ap (λ o. either_or (option_map (shape_of P here) o) (Some int)) h.declared
+      ap (λ o. either_or (option_map (variable_type P here) o) (Some int)) h.declared
       ∙ ap (option_map scalar) (sym h.kind)
 
   -- the first value of a memory for a term
   first_is : (t : Term) (k : Kind) → is_within count t ≡ true → term_kind kinds t ≡ Some k →
       first_of P here (expr_of names t) ≡ first_value k
   first_is t k w e =
-      let s = term_shapes P here names kinds count named_shape t w ∙ ap shape_list e in
+      let s = term_types P here names kinds count named_type t w ∙ ap type_list e in
       ap (λ ts. first_value (either_or (ts >>= only) int).kind) s
 
   -- a term of this kind gives one element, as the code has it
@@ -488,7 +488,7 @@ module _ (P : Program) (n : Node) (vars : List Declared)
               ∙ ap (after_pre (as_emitted fx)) is_first;
           kind = x.kind;
         }
-    term_emits (AtMostOne' shape all) m s k w i e =
+    term_emits (AtMostOne' arity all) m s k w i e =
         let t = truly (row_truths kinds all) Bool_kind k e in
         let r = row_emits all m s [] w i t.holds in
         let q = emit_row kinds s [] all in
@@ -498,7 +498,7 @@ module _ (P : Program) (n : Node) (vars : List Declared)
               ∙ at_most_one_single q.state q.found;
           kind = t.same;
         }
-    term_emits (Nor' shape all) m s k w i e =
+    term_emits (Nor' arity all) m s k w i e =
         let t = truly (row_truths kinds all) Bool_kind k e in
         let r = row_emits all m s [] w i t.holds in
         let q = emit_row kinds s [] all in

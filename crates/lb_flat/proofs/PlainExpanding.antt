@@ -7,7 +7,7 @@ use Rattle.lb_syntax.specs.declared.tree.Kind.{Kind}
 use Rattle.lb_syntax.specs.Lists.{◌>>=◌, Every}
 use Rattle.lb_syntax.specs.Tree.{Expr, Call, Iterate, Node}
 use Rattle.lb_static.specs.Instances.{Program, Instance, Root, Observer, instance_at, instances, start_at}
-use Rattle.lb_static.specs.Shapes.{variables, width, input_kinds}
+use Rattle.lb_static.specs.DataTypes.{variables, width, input_kinds}
 use Rattle.lb_static.specs.Parts.{parts, right_side, node_parts}
 use Rattle.lb_flat.specs.PlainNodes.{IsPlain, is_plain, start_of}
 use Rattle.lb_check.specs.Acceptance.{check_refusal}
@@ -24,7 +24,7 @@ use Rattle.lb_flat.specs.Emit.{expanded}
 use Rattle.lb_flat.specs.Expanded.{IsOrderingOf}
 use Rattle.lb_flat.specs.Flattening.{history_of, IsTrace, IsWatched, IsFlatOf}
 use Rattle.lb_flat.proofs.Lists.{Every-map, Every-first, Every-piece}
-use Rattle.lb_flat.proofs.ShapeFacts.{and_first, and_second}
+use Rattle.lb_flat.proofs.TypeFacts.{and_first, and_second}
 use Rattle.lb_flat.proofs.Placing.{AreAsWide}
 use Rattle.lb_flat.proofs.Bodies.{IsSound}
 use Rattle.lb_flat.proofs.Whole.{IsProgramSound}
@@ -34,7 +34,7 @@ use Rattle.lb_flat.proofs.SoundInstances.{RunAt, RunsAt, instance_sound}
 use Rattle.lb_flat.proofs.Solving.{fitting_ordered}
 use Rattle.lb_flat.proofs.Expanding.{IsExpansion, ordered, history_solves, watched}
 use Rattle.lb_flat.proofs.PlainStreams.{IsBodyPlain, not_plain, plain_body}
-use Rattle.lb_flat.proofs.PlainPlacing.{IsPlainFitting, every_passes, unless_none, or_none_first, plain_placing, plain_widths, plain_walk}
+use Rattle.lb_flat.proofs.PlainPlacing.{IsPlainFitting, every_passes, unless_none, or_none_first, plain_placing, plain_widths, plain_instances}
 
 -- ## Plain occurrences
 
@@ -132,7 +132,7 @@ module _ (P : Program) (n : Node) (elaborated : IsPlain P n)
       fitting = fitting_ordered (input_kinds P) (λ i. Always) N (expanded Y P count).equations Q
           ordering kinds.fitting;
       placing = plain_placing P n elaborated N kinds;
-      walk = plain_walk P n elaborated;
+      instance_order = plain_instances P n elaborated;
       signs = λ X F s p x. refl;
       sound = λ X F s. plain_sound X F;
     }

@@ -11,19 +11,19 @@ use Rattle.lb_syntax.specs.Tree.{Name, Node, Declaration}
 use Rattle.lb_flat.specs.declared.plain.Plain.{Plain}
 use Rattle.lb_static.specs.declared.resolved.VariableId.{VariableId}
 use Rattle.lb_flat.specs.declared.plain.term.Variable.{Variable as Declared}
-use Rattle.lb_flat.specs.declared.plain.term.Step.{Step}
-use Rattle.lb_flat.specs.declared.plain.term.Step.TheVariants as step
+use Rattle.lb_flat.specs.declared.plain.term.PlainStatement.{PlainStatement}
+use Rattle.lb_flat.specs.declared.plain.term.PlainStatement.TheVariants as statement
 use Rattle.lb_flat.specs.declared.plain.term.Term.{Term, Literal, Truth, Variable, Group', Unary', Binary', If', Arrow', Fby', Pre', AtMostOne', Nor', Row_of-Term, end_of-Term, more_of-Term}
 use Rattle.lb_static.specs.Instances.{Program, Instance, Root, Observer, start_at, instance_at, instances}
-use Rattle.lb_static.specs.Shapes.{variables}
+use Rattle.lb_static.specs.DataTypes.{variables}
 use Rattle.lb_static.specs.Parts.{variable_names, parts, parts_in, right_side, node_parts}
 use Rattle.lb_static.specs.Names.{are_distinct}
-use Rattle.lb_flat.specs.PlainNodes.{IsPlain, is_plain, start_of, is_scalar, is_place, is_step_within}
+use Rattle.lb_flat.specs.PlainNodes.{IsPlain, is_plain, start_of, is_scalar, is_place, is_statement_within}
 use Rattle.lb_flat.specs.PlainPrograms.{node_in, IsPlainFault}
 use Rattle.lb_flat.specs.PlainTerms.{declaration_of, name_of, expr_of, row_of, statement_of}
 use Rattle.lb_check.specs.Occurrences.{call_count}
-use Rattle.lb_flat.specs.TermKinds.{kinds_of, term_kind, is_step_typed, are_typed}
-use Rattle.lb_check.specs.Verdicts.{judge}
+use Rattle.lb_flat.specs.TermKinds.{kinds_of, term_kind, is_plain_statement_typed, are_typed}
+use Rattle.lb_check.specs.Verdicts.{property_path}
 use Rattle.lb_flat.proofs.PlainNames.{distinct_names}
 use Rattle.lb_flat.proofs.PlainTypes.{names_map, node_typed}
 use Rattle.lb_flat.proofs.PlainClocks.{base_declared, step_base}
@@ -41,8 +41,8 @@ use Rattle.lb_flat.specs.Judging.{FlatProgram}
 use Rattle.lb_flat.specs.Layouts.{Layout, flat_clock}
 use Rattle.lb_flat.specs.PlainLayout.{place_among, plain_layout}
 use Rattle.lb_flat.specs.Emit.{State, Emitted, Target, assert, joins, emit, emit_body, emit_instances, before_instances, targets, copied, from_inputs, given_inputs, observed, property_places, expanded}
-use Rattle.lb_flat.specs.Terms.{copied_first, with_copies, emit_term, emit_step, emit_steps, given_elements, expanded_plain, term_size, row_size, step_size, steps_size, plain_size_of}
-use Rattle.lb_flat.proofs.ShapeFacts.{and_first, and_second}
+use Rattle.lb_flat.specs.Terms.{copied_first, with_copies, emit_term, emit_statement, emit_statements, given_elements, expanded_plain, term_size, row_size, statement_size, statements_size, plain_size_of}
+use Rattle.lb_flat.proofs.TypeFacts.{and_first, and_second}
 use Rattle.lb_flat.proofs.PlainEmission.{step_has_ints, steps_ints, as_emitted, held, term_emits, one_left, bool_is, drop_at}
 
 -- ## Size
@@ -88,8 +88,8 @@ mutual
         length-append (parts (expr_of names a)) (parts (expr_of names b)),
       )
   term_parts names (Pre' p a) = omega (arith, term_parts names a)
-  term_parts names (AtMostOne' shape all) = omega (arith, row_parts names all)
-  term_parts names (Nor' shape all) = omega (arith, row_parts names all)
+  term_parts names (AtMostOne' arity all) = omega (arith, row_parts names all)
+  term_parts names (Nor' arity all) = omega (arith, row_parts names all)
 
   row_parts : {m : _} (names : List Name) (row : Row_of-Term m) →
       length (parts_in (row_of names row)) ≡ row_size row
@@ -102,14 +102,14 @@ mutual
         length-append (parts (expr_of names e)) (parts_in (row_of names rest)),
       )
 
-step_parts : (names : List Name) (s : Step) →
-    length (parts (right_side (statement_of names s))) ≡ step_size s
-step_parts names (step.Equation lefts e) = term_parts names e
-step_parts names (step.Assertion e) = term_parts names e
+step_parts : (names : List Name) (s : PlainStatement) →
+    length (parts (right_side (statement_of names s))) ≡ statement_size s
+step_parts names (statement.Equation lefts e) = term_parts names e
+step_parts names (statement.Assertion e) = term_parts names e
 
-steps_parts : (names : List Name) (ss : List Step) →
-    length (flat_map (λ s. parts (right_side s)) (map (statement_of names) ss)) ≡ steps_size ss
-unfolding steps_size
+steps_parts : (names : List Name) (ss : List PlainStatement) →
+    length (flat_map (λ s. parts (right_side s)) (map (statement_of names) ss)) ≡ statements_size ss
+unfolding statements_size
 steps_parts names [] = refl
 steps_parts names (s ∷ ss) =
     omega (
@@ -154,16 +154,16 @@ module _ (P : Program) (n : Node) (vars : List Declared)
       (base_declared n y plain)
       ∙ ap (map target) (ap (Y.places Root) h.name ∙ h.place)
 
-  abbrev rest_after : ℕ → List Step → State → State
+  abbrev rest_after : ℕ → List PlainStatement → State → State
   rest_after m ss s = emit_body Y P here m s (map (statement_of names) ss)
 
-  pub body_emits : (ss : List Step) (m : ℕ) (s : State) →
-      list_all (is_step_within count) ss ≡ true → list_all step_has_ints ss ≡ true →
-      are_typed kinds ss ≡ true → rest_after m ss s ≡ emit_steps kinds s ss
-  unfolding emit_body emit_steps emit_step joins assert
+  pub body_emits : (ss : List PlainStatement) (m : ℕ) (s : State) →
+      list_all (is_statement_within count) ss ≡ true → list_all step_has_ints ss ≡ true →
+      are_typed kinds ss ≡ true → rest_after m ss s ≡ emit_statements kinds s ss
+  unfolding emit_body emit_statements emit_statement joins assert
   body_emits [] m s w i e = refl
-  body_emits (step.Equation lefts t ∷ ss) m s w i e =
-      let here_within = and_first _ (list_all (is_step_within count) ss) w in
+  body_emits (statement.Equation lefts t ∷ ss) m s w i e =
+      let here_within = and_first _ (list_all (is_statement_within count) ss) w in
       let m' = m + call_count (expr_of names t) in
       let left = one_left kinds lefts.items (term_kind kinds t)
       (and_first _ (are_typed kinds ss) e) in
@@ -179,31 +179,31 @@ module _ (P : Program) (n : Node) (vars : List Declared)
       let next : Emitted → List Target → State = λ x ts.
       rest_after m' ss (with_copies x.state (copied ts x.found)) in
       let ih = body_emits ss m' (with_copies fx.state (copied_first lefts.items fx.element))
-      (and_second (is_step_within count (step.Equation lefts t)) _ w)
-      (and_second (step_has_ints (step.Equation lefts t)) _ i)
-      (and_second (is_step_typed kinds (step.Equation lefts t)) _ e) in
+      (and_second (is_statement_within count (statement.Equation lefts t)) _ w)
+      (and_second (step_has_ints (statement.Equation lefts t)) _ i)
+      (and_second (is_plain_statement_typed kinds (statement.Equation lefts t)) _ e) in
       ap (λ k. next (emit Y P here k m s (expr_of names t)) (lefts_of lefts.items))
-      (step_base P n plain names (step.Equation lefts t))
+      (step_base P n plain names (statement.Equation lefts t))
       ∙ ap (λ (x : Emitted). next x (lefts_of lefts.items)) x.emitted
       ∙ ap (λ xs. next (as_emitted fx) (lefts_of xs)) left.all
       ∙ ap (λ ts. next (as_emitted fx) (ts ++ [])) is_target
       ∙ ap (λ xs. rest_after m' ss (with_copies fx.state (copied_first xs fx.element)))
       (sym left.all)
       ∙ ih
-  body_emits (step.Assertion t ∷ ss) m s w i e =
+  body_emits (statement.Assertion t ∷ ss) m s w i e =
       let m' = m + call_count (expr_of names t) in
       let is_truth = bool_is (term_kind kinds t) (and_first _ (are_typed kinds ss) e) in
       let x = term_emits P n vars vars_is distinct plain t m s Bool_kind
-      (and_first _ (list_all (is_step_within count) ss) w)
+      (and_first _ (list_all (is_statement_within count) ss) w)
       (and_first _ (list_all step_has_ints ss) i) is_truth in
       let fx = emit_term kinds s t in
       let next : Emitted → State = λ x. rest_after m' ss (assert x) in
       let ih = body_emits ss m' (assert (as_emitted fx))
-      (and_second (is_step_within count (step.Assertion t)) _ w)
-      (and_second (step_has_ints (step.Assertion t)) _ i)
-      (and_second (is_step_typed kinds (step.Assertion t)) _ e) in
+      (and_second (is_statement_within count (statement.Assertion t)) _ w)
+      (and_second (step_has_ints (statement.Assertion t)) _ i)
+      (and_second (is_plain_statement_typed kinds (statement.Assertion t)) _ e) in
       ap (λ k. next (emit Y P here k m s (expr_of names t)))
-      (step_base P n plain names (step.Assertion t))
+      (step_base P n plain names (statement.Assertion t))
       ∙ ap next x.emitted ∙ ih
 
   -- ## Inputs and the property
@@ -316,7 +316,7 @@ module _ (el : Plain) where
     elements = length el.variables.items
 
     abbrev last : State
-    last = emit_steps (kinds_of el.variables.items) (before_instances elements) el.body.items
+    last = emit_statements (kinds_of el.variables.items) (before_instances elements) el.body.items
 
     emitted : emit_instances layout P (before_instances elements) (instances P) ≡ last
     unfolding emit_instances
@@ -330,7 +330,7 @@ module _ (el : Plain) where
       equations = given ++ (seen ++ (s.copies ++ s.equations));
       size = s.next;
       variables = count;
-      kept = s.kept;
+      memory_operands = s.memory_operands;
       asserted = s.asserted;
       property = property;
     }
@@ -354,7 +354,7 @@ module _ (el : Plain) where
         let fits = el.parts_fit in
         let at : Option Instance → List ℕ =
         listed (λ here. flat_map (λ d. layout.places here.path d.name) here.node.outputs) in
-        ap (λ o. get_or (at (instance_at P (judge o))) 0 0) e.no_observer
+        ap (λ o. get_or (at (instance_at P (property_path o))) 0 0) e.no_observer
         ∙ ap (λ o. get_or (at o) 0 0) e.root
         ∙ property_is P node el.variables.items vars_are distinct plain el.outputs el.inputs
         el.has_output
@@ -406,10 +406,10 @@ answer_is el P (Err error.Large) e refusal h =
     let counted_by = plain_size P (node_in el) e refusal in
     let counted = size_is el in
     above (size P) (omega (arith, counted_by, counted, h))
-answer_is el P (Err error.Later) e refusal h = absurd h
+answer_is el P (Err error.Unsupported) e refusal h = absurd h
 
 -- what is refused before the terms are looked at
 pub plain_fault_is : (P : Program) (f : FlatError) → IsPlainFault P f → IsExpansionAnswer P (Err f)
 plain_fault_is P error.Memory h = tt
 plain_fault_is P error.Large h = absurd h
-plain_fault_is P error.Later h = h
+plain_fault_is P error.Unsupported h = h

@@ -8,7 +8,7 @@ use Rattle.lb_syntax.specs.Refusals.{Refusal, E9, unless}
 use Rattle.lb_syntax.specs.Tree.{Name, Node, Declaration, Expr}
 use Rattle.lb_static.specs.StaticValues.{named}
 use Rattle.lb_static.specs.Instances.{Program, Instance, Root, Observer, start_at, instance_at, instances}
-use Rattle.lb_static.specs.Shapes.{variables, input_kinds}
+use Rattle.lb_static.specs.DataTypes.{variables, input_kinds}
 use Rattle.lb_static.specs.Signature.{kinds_of}
 use Rattle.lb_static.specs.Parts.{among, own_names, node_parts, node_names, variable_names}
 use Rattle.lb_flat.specs.PlainNodes.{IsPlain, is_scalar, is_plain, start_of}
@@ -19,7 +19,7 @@ use Rattle.lb_flat.specs.Flat.{FlatEquation}
 use Rattle.lb_flat.specs.PlainLayout.{plain_layout}
 use Rattle.lb_flat.specs.Emit.{emit_instances, before_instances, given_inputs, observed, expanded}
 use Rattle.lb_flat.proofs.Lists.{Every-append, Every-map, Every-both, Every-first, Every-piece, map-maps}
-use Rattle.lb_flat.proofs.ShapeFacts.{and_first, and_second}
+use Rattle.lb_flat.proofs.TypeFacts.{and_first, and_second}
 use Rattle.lb_flat.proofs.PlainFittingKinds.{IsKind, IsPlainEquation, kind_at, kind_is, plain_fits}
 use Rattle.lb_flat.proofs.PlainFittingVariables.{each_true, each_found, variable_kinds, found_placed}
 use Rattle.lb_flat.proofs.PlainFittingExpressions.{IsPlainExpression, ArePlain}

@@ -4,15 +4,15 @@ use Rattle.std.specs.List.{list_all}
 use Rattle.lb_syntax.specs.declared.tree.Kind.{Kind}
 use Rattle.lb_syntax.specs.Lists.{Every, or_else, all_some}
 use Rattle.lb_syntax.specs.Tree as tree
-use Rattle.lb_syntax.specs.Tree.{Name, Node, Declaration, Expr, Literal, Variable, Group, Unary, Binary, If, Arrow, Fby, Pre, Current, When, Copies, Index, Slice, Join, Array, AtMostOne, Nor, Call, Iterate, Exprs, Nil, Cons, Statement, Equation, Assertion}
+use Rattle.lb_syntax.specs.Tree.{Name, Node, Declaration, Expr, Literal, Variable, Group, Unary, Binary, If, Arrow, Fby, Pre, Current, When, Replicate, Index, Slice, Join, Array, AtMostOne, Nor, Call, Iterate, Exprs, Nil, Cons, Statement, Equation, Assertion}
 use Rattle.lb_static.specs.StaticValues.{named}
 use Rattle.lb_static.specs.Instances.{Program, Instance, Root}
-use Rattle.lb_static.specs.Shapes.{Shape, is_kind, is_shape, are_shapes, same_sizes, variables, shape_of}
+use Rattle.lb_static.specs.DataTypes.{DataType, is_kind, is_type, are_types, same_sizes, variables, variable_type}
 use Rattle.lb_static.specs.Parts.{parts, parts_in, right_side}
-use Rattle.lb_static.specs.Walk.{are_same}
+use Rattle.lb_static.specs.Instantiation.{are_same}
 use Rattle.lb_flat.specs.PlainNodes.{is_scalar, start_of}
-use Rattle.lb_check.specs.Types.{shapes}
-use Rattle.lb_check.specs.TypeRules.{declared_shape, is_statement_typed}
+use Rattle.lb_check.specs.Types.{data_types}
+use Rattle.lb_check.specs.TypeRules.{type_of_name, is_statement_typed}
 use Rattle.lb_check.specs.Clocks.{Clock, Base, clock_or, clock_of, first_clock}
 use Rattle.lb_check.specs.Occurrences.{call_count, statement_clock}
 use Rattle.lb_flat.proofs.PlainClocks.{base_declared}
@@ -20,7 +20,7 @@ use Rattle.lb_flat.specs.Flat.{Copy, Input, FlatEquation}
 use Rattle.lb_flat.specs.PlainLayout.{plain_layout}
 use Rattle.lb_flat.specs.Emit.{State, Emitted, Target, targets, copied, from_inputs, joins, assert, emit, emit_body}
 use Rattle.lb_flat.proofs.Lists.{Every-append}
-use Rattle.lb_flat.proofs.ShapeFacts.{bound, some_same, and_first, and_second}
+use Rattle.lb_flat.proofs.TypeFacts.{bound, some_same, and_first, and_second}
 use Rattle.lb_flat.proofs.OutputWidths.{each}
 use Rattle.lb_flat.proofs.PlainFittingKinds.{IsKind, Keeps, IsPlainEquation}
 use Rattle.lb_flat.proofs.PlainFittingTypes.{scalar, same_kind}
@@ -67,7 +67,7 @@ module _ (P : Program) (n : Node) (scalars : list_all is_scalar (variables n) �
     base_clock (Nor es) p = base_first es p.1
     base_clock (Current a) p = not_plain p.0.form
     base_clock (When a x sign) p = not_plain p.0.form
-    base_clock (Copies a c) p = not_plain p.0.form
+    base_clock (Replicate a c) p = not_plain p.0.form
     base_clock (Index a i) p = not_plain p.0.form
     base_clock (Slice a i j) p = not_plain p.0.form
     base_clock (Join a b) p = not_plain p.0.form
@@ -91,30 +91,30 @@ module _ (P : Program) (n : Node) (scalars : list_all is_scalar (variables n) �
 -- ## Left sides
 
 -- both types are there and the same
-record AreSame (o p : Option (List Shape)) : Type 0 where
-  pub right : List Shape
-  pub left : List Shape
+record AreSame (o p : Option (List DataType)) : Type 0 where
+  pub right : List DataType
+  pub left : List DataType
   pub is_right : o ≡ Some right
   pub is_left : p ≡ Some left
-  pub same : are_shapes right left ≡ true
+  pub same : are_types right left ≡ true
 
 both_there :
-    (P : Program) (o p : Option (List Shape)) → are_same P o p ≡ true → AreSame o p
+    (P : Program) (o p : Option (List DataType)) → are_same P o p ≡ true → AreSame o p
 both_there P None p e = cc
 both_there P (Some ts) None e = cc
 both_there P (Some ts) (Some us) e =
     record { right = ts; left = us; is_right = refl; is_left = refl; same = e }
 
-shape_kind :
-    (P : Program) (here : Instance) (d : Declaration) (t : Shape) →
-    shape_of P here d ≡ Some t → t.kind ≡ d.kind
-shape_kind P here d t e = by _ e
+type_kind :
+    (P : Program) (here : Instance) (d : Declaration) (t : DataType) →
+    variable_type P here d ≡ Some t → t.kind ≡ d.kind
+type_kind P here d t e = by _ e
   where
     by :
         (o : Option (List ℕ)) →
         option_map (λ ns. record { kind = d.kind; sizes = ns }) o ≡ Some t → t.kind ≡ d.kind
     by None e = cc
-    by (Some ns) e = ap (λ (s : Shape). s.kind) (sym (some_same _ _ e))
+    by (Some ns) e = ap (λ (s : DataType). s.kind) (sym (some_same _ _ e))
 
 module _ (P : Program) (n : Node) where
   -- the one left variable of a result of this kind
@@ -126,19 +126,19 @@ module _ (P : Program) (n : Node) where
     pub kind : declaration.kind ≡ k
 
   one_left :
-      (k : Kind) (lefts : List Name) (ts : List Shape) →
-      all_some (map (declared_shape P (start_of n)) lefts) ≡ Some ts →
-      are_shapes (scalar k ∷ []) ts ≡ true → IsLeft k lefts
+      (k : Kind) (lefts : List Name) (ts : List DataType) →
+      all_some (map (type_of_name P (start_of n)) lefts) ≡ Some ts →
+      are_types (scalar k ∷ []) ts ≡ true → IsLeft k lefts
   one_left k [] ts e same =
       let none : [] ≡ ts = some_same _ _ e in
       let no : false ≡ true =
-      subst (λ us. are_shapes (scalar k ∷ []) us ≡ true) (sym none) same in
+      subst (λ us. are_types (scalar k ∷ []) us ≡ true) (sym none) same in
       not_plain no
   one_left k (x ∷ []) ts e same =
-      let h = each (declared_shape P (start_of n) x) [] ts e in
+      let h = each (type_of_name P (start_of n) x) [] ts e in
       let b = bound (named (λ d. d.name) x (variables n)) _ h.first h.is in
-      let t = subst (λ us. are_shapes (scalar k ∷ []) us ≡ true) h.all same in
-      let like = and_first (is_shape (scalar k) h.first) _ t in
+      let t = subst (λ us. are_types (scalar k ∷ []) us ≡ true) h.all same in
+      let like = and_first (is_type (scalar k) h.first) _ t in
       let kinds_same = same_kind k h.first.kind
       (and_first (is_kind k h.first.kind) (same_sizes [] h.first.sizes) like) in
       record {
@@ -146,16 +146,16 @@ module _ (P : Program) (n : Node) where
         is = refl;
         declaration = b.value;
         found = b.is;
-        kind = sym (shape_kind P (start_of n) b.value h.first b.gives) ∙ sym kinds_same;
+        kind = sym (type_kind P (start_of n) b.value h.first b.gives) ∙ sym kinds_same;
       }
   one_left k (x ∷ (y ∷ lefts)) ts e same =
-      let os = map (declared_shape P (start_of n)) lefts in
-      let o = declared_shape P (start_of n) y in
-      let h = each (declared_shape P (start_of n) x) (o ∷ os) ts e in
+      let os = map (type_of_name P (start_of n)) lefts in
+      let o = type_of_name P (start_of n) y in
+      let h = each (type_of_name P (start_of n) x) (o ∷ os) ts e in
       let g = each o os h.rest h.others in
-      let t = subst (λ us. are_shapes (scalar k ∷ []) us ≡ true)
+      let t = subst (λ us. are_types (scalar k ∷ []) us ≡ true)
       (h.all ∙ ap (λ us. h.first ∷ us) g.all) same in
-      not_plain (and_second (is_shape (scalar k) h.first) false t)
+      not_plain (and_second (is_type (scalar k) h.first) false t)
 
 module _ (P : Program) (n : Node) (scalars : list_all is_scalar (variables n) ≡ true)
     (inputs : List Kind) where
@@ -187,7 +187,7 @@ module _ (P : Program) (n : Node) (scalars : list_all is_scalar (variables n) �
       record { count = h.count; equations = h.equations; copies = h.copies }
 
   left_copies :
-      (ks : List Kind) (lefts : List Name) (ts : List Shape) (x : Emitted)
+      (ks : List Kind) (lefts : List Name) (ts : List DataType) (x : Emitted)
       (g : Fits P n scalars inputs ks ts x) → Keeps (variable_kinds n) ks →
       IsLeft P n g.kind lefts →
       Every (IsPlainEquation inputs g.gives.kinds)
@@ -224,13 +224,13 @@ module _ (P : Program) (n : Node) (scalars : list_all is_scalar (variables n) �
   body_grown m s (Equation lefts e ∷ rest) ks p t w h =
       let others = list_all (is_statement_typed P (start_of n)) rest in
       let own = fore n (parts e) (flat_map (λ s. parts (right_side s)) rest) p in
-      let same = both_there P (shapes P (start_of n) e) _
+      let same = both_there P (data_types P (start_of n) e) _
       (and_first (is_statement_typed P (start_of n) (Equation lefts e)) others t) in
       let base = statement_base P n scalars (Equation lefts e) own in
       let g = subst (λ k. Fits P n scalars inputs ks same.right
       (emit (plain_layout n) P (start_of n) k m s e)) (sym base)
       (fits P n scalars inputs m s e same.right ks own same.is_right w h) in
-      let like = subst (λ ts. are_shapes ts same.left ≡ true) g.all same.same in
+      let like = subst (λ ts. are_types ts same.left ≡ true) g.all same.same in
       let l = one_left P n g.kind lefts same.left same.is_left like in
       let state = joined_kinded g.gives.kinds _ _ g.gives.state
       (left_copies ks lefts same.right _ g w l) in
@@ -242,7 +242,7 @@ module _ (P : Program) (n : Node) (scalars : list_all is_scalar (variables n) �
   body_grown m s (Assertion e ∷ rest) ks p t w h =
       let others = list_all (is_statement_typed P (start_of n)) rest in
       let own = fore n (parts e) (flat_map (λ s. parts (right_side s)) rest) p in
-      let same = both_there P (shapes P (start_of n) e) _
+      let same = both_there P (data_types P (start_of n) e) _
       (and_first (is_statement_typed P (start_of n) (Assertion e)) others t) in
       let base = statement_base P n scalars (Assertion e) own in
       let g = subst (λ k. Fits P n scalars inputs ks same.right

@@ -6,23 +6,23 @@ use Rattle.lb_syntax.specs.declared.tree.BinaryOperator.{BinaryOperator}
 use Rattle.lb_syntax.specs.declared.tree.BinaryOperator.TheVariants.{Or, Xor, And, Implies, Equal, Unequal, Less, AtMost, Greater, AtLeast, Plus, Minus, Times, Divide, Modulo}
 use Rattle.lb_syntax.specs.declared.tree.Kind.{Kind}
 use Rattle.lb_syntax.specs.declared.tree.Kind.TheVariants.{Int, Bool as Truth}
-use Rattle.lb_static.specs.Shapes.{Shape, truth, is_kind, is_shape}
-use Rattle.lb_check.specs.Types.{unary_shape, binary_shape, same_shape}
+use Rattle.lb_static.specs.DataTypes.{DataType, truth, is_kind, is_type}
+use Rattle.lb_check.specs.Types.{unary_type, binary_type, common_type}
 use Rattle.lb_flat.proofs.ScalarKinds.{binary_kind, unary_kind}
-use Rattle.lb_flat.proofs.ShapeFacts.{truly, some_same}
+use Rattle.lb_flat.proofs.TypeFacts.{truly, some_same}
 
 -- the type of a scalar of a kind
-abbrev pub scalar : Kind → Shape
+abbrev pub scalar : Kind → DataType
 scalar k = record { kind = k; sizes = [] }
 
 -- a result is a scalar of a kind that the operator gives
-pub record ScalarOf (given : Option Kind) (r : Shape) : Type 0 where
+pub record ScalarOf (given : Option Kind) (r : DataType) : Type 0 where
   pub kind : Kind
   pub is : r ≡ scalar kind
   pub gives : given ≡ Some kind
 
 scalar_of :
-    (given : Option Kind) (r : Shape) → option_map scalar given ≡ Some r → ScalarOf given r
+    (given : Option Kind) (r : DataType) → option_map scalar given ≡ Some r → ScalarOf given r
 scalar_of None r e = cc
 scalar_of (Some k) r e = record { kind = k; is = sym (some_same _ _ e); gives = refl }
 
@@ -38,7 +38,7 @@ each_two P a b c d Truth Truth = d
 
 -- an operator takes scalars of the kinds that its types say
 abbrev AgreesAt : BinaryOperator → Kind → Kind → Type 0
-AgreesAt op k l = binary_shape op (scalar k) (scalar l) ≡ option_map scalar (binary_kind op k l)
+AgreesAt op k l = binary_type op (scalar k) (scalar l) ≡ option_map scalar (binary_kind op k l)
 
 binary_agrees : (op : BinaryOperator) (k l : Kind) → AgreesAt op k l
 binary_agrees Or k l = each_two (AgreesAt Or) refl refl refl refl k l
@@ -58,20 +58,20 @@ binary_agrees Divide k l = each_two (AgreesAt Divide) refl refl refl refl k l
 binary_agrees Modulo k l = each_two (AgreesAt Modulo) refl refl refl refl k l
 
 pub binary_scalar :
-    (op : BinaryOperator) (k l : Kind) (r : Shape) →
-    binary_shape op (scalar k) (scalar l) ≡ Some r → ScalarOf (binary_kind op k l) r
+    (op : BinaryOperator) (k l : Kind) (r : DataType) →
+    binary_type op (scalar k) (scalar l) ≡ Some r → ScalarOf (binary_kind op k l) r
 binary_scalar op k l r e = scalar_of (binary_kind op k l) r (sym (binary_agrees op k l) ∙ e)
 
 unary_agrees :
     (op : UnaryOperator) (k : Kind) →
-    unary_shape op (scalar k) ≡ option_map scalar (unary_kind op k)
+    unary_type op (scalar k) ≡ option_map scalar (unary_kind op k)
 unary_agrees Not Int = refl
 unary_agrees Not Truth = refl
 unary_agrees Negate Int = refl
 unary_agrees Negate Truth = refl
 
 pub unary_scalar :
-    (op : UnaryOperator) (k : Kind) (r : Shape) → unary_shape op (scalar k) ≡ Some r →
+    (op : UnaryOperator) (k : Kind) (r : DataType) → unary_type op (scalar k) ≡ Some r →
     ScalarOf (unary_kind op k) r
 unary_scalar op k r e = scalar_of (unary_kind op k) r (sym (unary_agrees op k) ∙ e)
 
@@ -84,24 +84,24 @@ same_kind Truth Int e = cc
 same_kind Truth Truth e = refl
 
 -- two scalars of one kind
-pub record SameScalars (k l : Kind) (r : Shape) : Type 0 where
+pub record SameScalars (k l : Kind) (r : DataType) : Type 0 where
   pub kinds : k ≡ l
   pub is : r ≡ scalar k
 
 pub same_scalars :
-    (k l : Kind) (r : Shape) → same_shape (scalar k) (scalar l) ≡ Some r → SameScalars k l r
+    (k l : Kind) (r : DataType) → common_type (scalar k) (scalar l) ≡ Some r → SameScalars k l r
 same_scalars k l r e =
-    let t = truly (is_shape (scalar k) (scalar l)) (scalar l) r e in
+    let t = truly (is_type (scalar k) (scalar l)) (scalar l) r e in
     let kinds = kinds_of k l t.holds in
     record { kinds = kinds; is = sym t.same ∙ ap scalar (sym kinds) }
   where
-    kinds_of : (k l : Kind) → is_shape (scalar k) (scalar l) ≡ true → k ≡ l
+    kinds_of : (k l : Kind) → is_type (scalar k) (scalar l) ≡ true → k ≡ l
     kinds_of Int Int e = refl
     kinds_of Int Truth e = cc
     kinds_of Truth Int e = cc
     kinds_of Truth Truth e = refl
 
 -- the types of truths
-pub truth_kind : (k : Kind) → is_shape truth (scalar k) ≡ true → k ≡ Truth
+pub truth_kind : (k : Kind) → is_type truth (scalar k) ≡ true → k ≡ Truth
 truth_kind Int e = cc
 truth_kind Truth e = refl

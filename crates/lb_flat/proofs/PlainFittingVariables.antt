@@ -8,7 +8,7 @@ use Rattle.lb_syntax.specs.Lists.{Every}
 use Rattle.lb_syntax.specs.Tree.{Name, Declaration, Node}
 use Rattle.lb_static.specs.StaticValues.{named}
 use Rattle.lb_static.specs.Instances.{Program, Root}
-use Rattle.lb_static.specs.Shapes.{variables, shape_of}
+use Rattle.lb_static.specs.DataTypes.{variables, variable_type}
 use Rattle.lb_static.specs.Names.{are_distinct}
 use Rattle.lb_static.specs.Parts.{among, variable_names}
 use Rattle.lb_flat.specs.PlainNodes.{is_scalar, start_of}
@@ -19,7 +19,7 @@ use Rattle.lb_flat.specs.Layouts.{flat_clock}
 use Rattle.lb_flat.specs.PlainLayout.{place_among, plain_layout}
 use Rattle.lb_flat.specs.Emit.{Target, targets}
 use Rattle.lb_flat.proofs.Lists.{Every-map, Every-both}
-use Rattle.lb_flat.proofs.ShapeFacts.{and_first, and_second, some_same}
+use Rattle.lb_flat.proofs.TypeFacts.{and_first, and_second, some_same}
 use Rattle.lb_flat.proofs.OutputWidths.{found_in}
 use Rattle.lb_flat.proofs.PlainFittingKinds.{IsKind}
 use Rattle.lb_flat.proofs.PlainFittingTypes.{scalar}
@@ -169,15 +169,15 @@ module _ (P : Program) (n : Node) (scalars : list_all is_scalar (variables n) �
     pub declaration : Declaration
     pub is : named (λ d. d.name) x (variables n) ≡ Some declaration
     pub name : declaration.name ≡ x
-    pub shape : shape_of P (start_of n) declaration ≡ Some (scalar declaration.kind)
+    pub data_type : variable_type P (start_of n) declaration ≡ Some (scalar declaration.kind)
     pub place : ℕ
     pub places : (plain_layout n).places Root x ≡ place ∷ []
     pub kind : IsKind (variable_kinds n) place declaration.kind
 
-  scalar_shape :
+  scalar_type :
       (d : Declaration) → is_scalar d ≡ true →
-      shape_of P (start_of n) d ≡ Some (scalar d.kind)
-  scalar_shape d e =
+      variable_type P (start_of n) d ≡ Some (scalar d.kind)
+  scalar_type d e =
       let none = no_sizes d.sizes (and_first (nat_eq (length d.sizes) 0) _ e) in
       rw none refl
 
@@ -191,7 +191,7 @@ module _ (P : Program) (n : Node) (scalars : list_all is_scalar (variables n) �
         declaration = v.declaration;
         is = v.is;
         name = v.name;
-        shape = scalar_shape v.declaration known;
+        data_type = scalar_type v.declaration known;
         place = v.number;
         places = v.place ∙ ap (λ j. j ∷ []) at;
         kind = v.kind;

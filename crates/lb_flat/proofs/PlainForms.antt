@@ -3,7 +3,7 @@
 use Rattle.std.proofs.Common.{◌≡◌, Bool, true, false, cond, List, [], ◌∷◌, ◌++◌, refl, ap, sym, ◌∙◌}
 use Rattle.std.specs.Prelude.{◌&&◌, pos, flat_map}
 use Rattle.std.specs.List.{list_all}
-use Rattle.lb_syntax.specs.Tree.{Name, Node, Statement, Equation, Assertion, Expr, Literal, Truth, Variable, Group, Unary, Binary, If, Arrow, Fby, Pre, Current, When, Copies, Index, Slice, Join, Array, AtMostOne, Nor, Call, Iterate, Exprs, Nil, Cons}
+use Rattle.lb_syntax.specs.Tree.{Name, Node, Statement, Equation, Assertion, Expr, Literal, Truth, Variable, Group, Unary, Binary, If, Arrow, Fby, Pre, Current, When, Replicate, Index, Slice, Join, Array, AtMostOne, Nor, Call, Iterate, Exprs, Nil, Cons}
 use Rattle.lb_static.specs.Arithmetic.{is_int}
 use Rattle.lb_flat.specs.PlainNodes.{is_plain}
 use Rattle.lb_static.specs.Instances.{sites, sites_in, statement_sites, node_sites}
@@ -91,7 +91,7 @@ module _ (known : Name → Bool) where
     simple_is (Pre a) = simple_is a
     simple_is (Current a) = refl
     simple_is (When a x sign) = refl
-    simple_is (Copies a n) = refl
+    simple_is (Replicate a n) = refl
     simple_is (Index a i) = refl
     simple_is (Slice a i j) = refl
     simple_is (Join a b) = refl
@@ -132,7 +132,7 @@ module _ (known : Name → Bool) where
     no_sites (Pre a) h = no_sites a h
     no_sites (Current a) h = absurd cc
     no_sites (When a x sign) h = absurd cc
-    no_sites (Copies a n) h = absurd cc
+    no_sites (Replicate a n) h = absurd cc
     no_sites (Index a i) h = absurd cc
     no_sites (Slice a i j) h = absurd cc
     no_sites (Join a b) h = absurd cc
@@ -225,7 +225,7 @@ module _ (known : Name → Bool) where
     no_statics (Pre a) h = no_statics a h
     no_statics (Current a) h = absurd cc
     no_statics (When a x sign) h = absurd cc
-    no_statics (Copies a n) h = absurd cc
+    no_statics (Replicate a n) h = absurd cc
     no_statics (Index a i) h = absurd cc
     no_statics (Slice a i j) h = absurd cc
     no_statics (Join a b) h = absurd cc

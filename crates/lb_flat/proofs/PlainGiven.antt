@@ -14,17 +14,17 @@ use Rattle.lb_syntax.specs.Tree.{Name, Expr, Declaration, Node, Statement, Equat
 use Rattle.lb_static.specs.StaticValues.{named}
 use Rattle.lb_static.specs.Instances.{Program, Instance, Root, instances}
 use Rattle.lb_static.specs.Parts.{left_names, parts, right_side, variable_names}
-use Rattle.lb_static.specs.Shapes.{Shape, is_shape, are_shapes, variables}
+use Rattle.lb_static.specs.DataTypes.{DataType, is_type, are_types, variables}
 use Rattle.lb_flat.specs.PlainNodes.{IsPlain, start_of}
-use Rattle.lb_static.specs.Walk.{are_same}
+use Rattle.lb_static.specs.Instantiation.{are_same}
 use Rattle.lb_check.specs.Acceptance.{check_refusal}
 use Rattle.lb_check.specs.ClockRules.{is_clocked}
 use Rattle.lb_check.specs.Clocks.{Clock, Base, declared_clock}
 use Rattle.lb_check.specs.DefinitionRules.{definition_count, defines_once, is_defined}
 use Rattle.lb_check.specs.Needs.{Element, needs}
 use Rattle.lb_check.specs.Occurrences.{call_count, statement_clock}
-use Rattle.lb_check.specs.TypeRules.{declared_shape, is_statement_typed, is_typed}
-use Rattle.lb_check.specs.Types.{shapes}
+use Rattle.lb_check.specs.TypeRules.{type_of_name, is_statement_typed, is_typed}
+use Rattle.lb_check.specs.Types.{data_types}
 use Rattle.lb_flat.proofs.PlainClocks.{base_declared}
 use Rattle.lb_flat.proofs.PlainNames.{distinct_names}
 use Rattle.lb_flat.specs.Flat.{FlatClock, FlatEquation}
@@ -32,14 +32,14 @@ use Rattle.lb_flat.specs.Layouts.{Layout, flat_clock}
 use Rattle.lb_flat.specs.PlainLayout.{plain_layout}
 use Rattle.lb_flat.specs.Emit.{State, Emitted, Target, targets, copied, joins, assert, from_inputs, before_instances, emit, emit_body, emit_instances, expanded}
 use Rattle.lb_flat.proofs.Lists.{map-pieces, Every-in}
-use Rattle.lb_flat.proofs.ShapeFacts.{and_first, and_second, bound, some_same}
+use Rattle.lb_flat.proofs.TypeFacts.{and_first, and_second, bound, some_same}
 use Rattle.lb_flat.proofs.OutputWidths.{each}
 use Rattle.lb_flat.proofs.Emission.{joins_copies}
 use Rattle.lb_flat.proofs.Closing.{Closed}
 use Rattle.lb_flat.proofs.Bodies.{all_closed, assert_copies}
 use Rattle.lb_flat.proofs.Ordering.{In-map}
 use Rattle.lb_flat.proofs.PlainGivenLists.{AreApart, apart-append, apart_first, apart_single, apart_sources, apart_pieces, of_pieces, to_pieces, range_apart, in_range, element_numbers, fresh_above, fresh_apart, fresh_given, times, is_equal, stands, is_there, once_apart, distinct_apart, IsFound, found, of_names, later_none}
-use Rattle.lb_flat.proofs.PlainPlacing.{every_passes, unless_none, plain_laid, plain_walk}
+use Rattle.lb_flat.proofs.PlainPlacing.{every_passes, unless_none, plain_laid, plain_instances}
 use Rattle.lb_flat.proofs.PlainFittingTypes.{scalar}
 use Rattle.lb_flat.proofs.PlainFittingVariables.{variable_kinds}
 use Rattle.lb_flat.proofs.PlainFittingExpressions.{ArePlain, not_plain, fits}
@@ -86,15 +86,15 @@ HasOneLeft n (Equation lefts e) = IsOneLeft n lefts
 HasOneLeft n (Assertion e) = Unit {0}
 
 -- both types are there and the same
-record AreSame (o p : Option (List Shape)) : Type 0 where
-  right : List Shape
-  left : List Shape
+record AreSame (o p : Option (List DataType)) : Type 0 where
+  right : List DataType
+  left : List DataType
   is_right : o ≡ Some right
   is_left : p ≡ Some left
-  same : are_shapes right left ≡ true
+  same : are_types right left ≡ true
 
 both_there :
-    (P : Program) (o p : Option (List Shape)) → are_same P o p ≡ true → AreSame o p
+    (P : Program) (o p : Option (List DataType)) → are_same P o p ≡ true → AreSame o p
 both_there P None p e = cc
 both_there P (Some ts) None e = cc
 both_there P (Some ts) (Some us) e =
@@ -102,14 +102,14 @@ both_there P (Some ts) (Some us) e =
 
 module _ (P : Program) (n : Node) where
   one_left :
-      (t : Shape) (lefts : List Name) (ts : List Shape) →
-      all_some (map (declared_shape P (start_of n)) lefts) ≡ Some ts →
-      are_shapes (t ∷ []) ts ≡ true → IsOneLeft n lefts
+      (t : DataType) (lefts : List Name) (ts : List DataType) →
+      all_some (map (type_of_name P (start_of n)) lefts) ≡ Some ts →
+      are_types (t ∷ []) ts ≡ true → IsOneLeft n lefts
   one_left t [] ts e same =
       let none : [] ≡ ts = some_same _ _ e in
-      not_plain (subst (λ us. are_shapes (t ∷ []) us ≡ true) (sym none) same)
+      not_plain (subst (λ us. are_types (t ∷ []) us ≡ true) (sym none) same)
   one_left t (x ∷ []) ts e same =
-      let h = each (declared_shape P (start_of n) x) [] ts e in
+      let h = each (type_of_name P (start_of n) x) [] ts e in
       let b = bound (named (λ d. d.name) x (variables n)) _ h.first h.is in
       let f = found x b.value (variables n) b.is in
       record {
@@ -119,13 +119,13 @@ module _ (P : Program) (n : Node) where
             (In-map (λ d. d.name) f.declaration (variables n) f.is_in);
       }
   one_left t (x ∷ (y ∷ lefts)) ts e same =
-      let os = map (declared_shape P (start_of n)) lefts in
-      let o = declared_shape P (start_of n) y in
-      let h = each (declared_shape P (start_of n) x) (o ∷ os) ts e in
+      let os = map (type_of_name P (start_of n)) lefts in
+      let o = type_of_name P (start_of n) y in
+      let h = each (type_of_name P (start_of n) x) (o ∷ os) ts e in
       let g = each o os h.rest h.others in
-      let all = subst (λ us. are_shapes (t ∷ []) us ≡ true)
+      let all = subst (λ us. are_types (t ∷ []) us ≡ true)
       (h.all ∙ ap (λ us. h.first ∷ us) g.all) same in
-      not_plain (and_second (is_shape t h.first) false all)
+      not_plain (and_second (is_type t h.first) false all)
 
 module _ (P : Program) (n : Node) (elaborated : IsPlain P n) where
   abbrev Y : Layout
@@ -151,12 +151,12 @@ module _ (P : Program) (n : Node) (elaborated : IsPlain P n) where
   )
   statements_one (Equation lefts e ∷ rest) p t =
       let later = flat_map (λ s. parts (right_side s)) rest in
-      let s = both_there P (shapes P here e) _
+      let s = both_there P (data_types P here e) _
       (and_first (is_statement_typed P here (Equation lefts e)) _ t) in
       let f = fits P n (scalars P n elaborated) [] 0 (before_instances (count n)) e s.right
       (variable_kinds n) (fitting.fore n (parts e) later p) s.is_right (λ i k q. q)
       (record { count = length-map (variables n) _; equations = tt; copies = tt }) in
-      let like = subst (λ ts. are_shapes ts s.left ≡ true) f.all s.same in (
+      let like = subst (λ ts. are_types ts s.left ≡ true) f.all s.same in (
         one_left P n (scalar f.kind) lefts s.left s.is_left like,
         statements_one rest (fitting.aft n (parts e) later p)
             (and_second (is_statement_typed P here (Equation lefts e)) _ t),
@@ -397,7 +397,7 @@ module _ (P : Program) (n : Node) (elaborated : IsPlain P n)
       ∙ sym (ap (flat_map (λ here.
       flat_map (λ d. (plain_layout n).places here.path d.name) (variables here.node)))
       elaborated.alone)
-      ∙ (plain_walk P n elaborated).variables
+      ∙ (plain_instances P n elaborated).variables
 
   one_name :
       (i : ℕ) (x y : Name) → In x given_names → In y given_names → In i (place x) →

@@ -14,7 +14,7 @@ use Rattle.lb_static.specs.Parts.{among}
 use Rattle.lb_flat.specs.Flat.{FlatEquation}
 use Rattle.lb_flat.proofs.Filling.{Fresh}
 use Rattle.lb_flat.proofs.Ordering.{In-map}
-use Rattle.lb_flat.proofs.ShapeFacts.{and_first, and_second}
+use Rattle.lb_flat.proofs.TypeFacts.{and_first, and_second}
 use Rattle.lb_flat.proofs.PlainCausalDefinitions.{in_first, in_second, in_either}
 
 -- ## Lists in which nothing stands twice

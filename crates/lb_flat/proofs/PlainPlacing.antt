@@ -14,13 +14,13 @@ use Rattle.lb_syntax.specs.Lists.{◌>>=◌, Every, In, all_some, either_or, hol
 use Rattle.lb_syntax.specs.Refusals.{Refusal, E4, E7, E8, unless}
 use Rattle.lb_syntax.specs.Tree.{Name, Static, Declaration, Node}
 use Rattle.lb_static.specs.Instances.{Program, Instance, Path, Root, Observer, instance_at, instances, start_at, static_count}
-use Rattle.lb_static.specs.Shapes.{Shape, element_count, variables, shape_of, width, input_kinds}
+use Rattle.lb_static.specs.DataTypes.{DataType, element_count, variables, variable_type, width, input_kinds}
 use Rattle.lb_static.specs.Parts.{among, variable_names}
 use Rattle.lb_static.specs.Names.{are_distinct, keeps_names, is_well_founded}
-use Rattle.lb_static.specs.Walk.{walk_refusal, has_no_parameters, is_one_truth, has_property, is_root}
+use Rattle.lb_static.specs.Instantiation.{instantiation_refusal, has_no_parameters, is_one_truth, has_property, is_root}
 use Rattle.lb_flat.specs.PlainNodes.{IsPlain, is_scalar, start_of}
 use Rattle.lb_check.specs.Clocks.{Clock, Base, On, declared_clock}
-use Rattle.lb_check.specs.Verdicts.{judge}
+use Rattle.lb_check.specs.Verdicts.{property_path}
 use Rattle.lb_flat.proofs.PlainClocks.{base_declared}
 use Rattle.lb_flat.proofs.PlainNames.{distinct_names}
 use Rattle.lb_flat.specs.Flat.{FlatClock, Always}
@@ -29,7 +29,7 @@ use Rattle.lb_flat.specs.Layouts.{Layout, where_signed, flat_clock}
 use Rattle.lb_flat.specs.PlainLayout.{place_among, plain_layout}
 use Rattle.lb_flat.specs.Emit.{before_instances, emit_instances, property_places, expanded}
 use Rattle.lb_flat.proofs.Lists.{Every-map, Every-both, Every-first, Every-second}
-use Rattle.lb_flat.proofs.ShapeFacts.{and_first, and_second}
+use Rattle.lb_flat.proofs.TypeFacts.{and_first, and_second}
 use Rattle.lb_flat.proofs.Closing.{Below, Closed}
 use Rattle.lb_flat.proofs.Bodies.{IsLaidOut, all_closed}
 use Rattle.lb_flat.proofs.Fitting.{IsFitting}
@@ -140,25 +140,26 @@ or_none_second (Some r) p e = cc
 
 module _ (P : Program) (here : Instance) where
   no_two :
-      (o p : Option Shape) (os : List (Option Shape)) →
+      (o p : Option DataType) (os : List (Option DataType)) →
       is_one_truth P (all_some (o ∷ p ∷ os)) ≡ true → ⊥
   no_two None p os e = cc
   no_two (Some s) None os e = cc
   no_two (Some s) (Some t) os e = by (all_some os) e
     where
       by :
-          (r : Option (List Shape)) →
+          (r : Option (List DataType)) →
           is_one_truth P (option_map (λ ts. s ∷ ts) (option_map (λ ts. t ∷ ts) r)) ≡ true → ⊥
       by None e = cc
       by (Some ts) e = cc
 
   one_declared :
-      (ds : List Declaration) → is_one_truth P (all_some (map (shape_of P here) ds)) ≡ true →
+      (ds : List Declaration) → is_one_truth P (all_some (map (variable_type P here) ds)) ≡ true →
       length ds ≡ 1
   one_declared [] e = cc
   one_declared (d ∷ []) e = refl
   one_declared (d ∷ c ∷ ds) e =
-      absurd (no_two (shape_of P here d) (shape_of P here c) (map (shape_of P here) ds) e)
+      absurd (no_two (variable_type P here d) (variable_type P here c)
+      (map (variable_type P here) ds) e)
 
 one_piece :
     {A : Type 0} (f : A → List ℕ) (xs : List A) → length xs ≡ 1 →
@@ -243,7 +244,7 @@ module _ (P : Program) (n : Node) (elaborated : IsPlain P n) where
   width_one : (d : Declaration) → is_scalar d ≡ true → width P (start_of n) d ≡ 1
   width_one d h =
       ap (λ ss. either_or (option_map element_count (option_map (λ ns.
-      let t : Shape = record { kind = d.kind; sizes = ns } in t)
+      let t : DataType = record { kind = d.kind; sizes = ns } in t)
       (all_some (map (static_count P (start_of n)) (reverse ss))))) 0)
       (no_sizes d.sizes (and_first (nat_eq (length d.sizes) 0) _ h))
 
@@ -324,15 +325,16 @@ module _ (P : Program) (n : Node) (elaborated : IsPlain P n) where
       let names = unless (keeps_names P) E4 in
       let founded = unless (is_well_founded P) E7 in
       let starting = unless (has_no_parameters P) E8 in
-      let walked = walk_refusal P 0 (instances P) in
-      let shaped = unless (holds (is_root P) (instance_at P Root)) E8 in
-      let later = or_none_second names (or_else founded (or_else starting (or_else walked shaped)))
+      let instantiated = instantiation_refusal P 0 (instances P) in
+      let interface_right = unless (holds (is_root P) (instance_at P Root)) E8 in
+      let later = or_none_second names
+      (or_else founded (or_else starting (or_else instantiated interface_right)))
       elaborated.accepted in
-      let last = or_none_second starting (or_else walked shaped)
-      (or_none_second founded (or_else starting (or_else walked shaped)) later) in
+      let last = or_none_second starting (or_else instantiated interface_right)
+      (or_none_second founded (or_else starting (or_else instantiated interface_right)) later) in
       sym (ap (holds (is_root P)) elaborated.root)
       ∙ unless_none (holds (is_root P) (instance_at P Root)) E8
-      (or_none_second walked shaped last)
+      (or_none_second instantiated interface_right last)
 
   one_output : length n.outputs ≡ 1
   one_output =
@@ -341,8 +343,8 @@ module _ (P : Program) (n : Node) (elaborated : IsPlain P n) where
       (sym (ap (λ o. has_property P (start_of n) (o >>= start_at P Observer))
       elaborated.no_observer) ∙ property)
 
-  judged : instance_at P (judge P.observer) ≡ Some (start_of n)
-  judged = ap (λ o. instance_at P (judge o)) elaborated.no_observer ∙ elaborated.root
+  judged : instance_at P (property_path P.observer) ≡ Some (start_of n)
+  judged = ap (λ o. instance_at P (property_path o)) elaborated.no_observer ∙ elaborated.root
 
   one_property : length (property_places Y P) ≡ 1
   one_property =
@@ -353,8 +355,8 @@ module _ (P : Program) (n : Node) (elaborated : IsPlain P n) where
       (Every-second _ n.inputs (n.outputs ++ n.locals) (plain_places n)))
 
   -- the elements are in order, and the property is that of the one output
-  pub plain_walk : IsInOrder Y P count
-  plain_walk = record {
+  pub plain_instances : IsInOrder Y P count
+  plain_instances = record {
     variables = in_order;
     property = only_one (property_places Y P) one_property;
   }

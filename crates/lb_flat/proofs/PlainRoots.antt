@@ -17,18 +17,18 @@ use Rattle.lb_static.specs.ResolvedNodes.{IsResolved, texts_of, counts_of}
 use Rattle.lb_static.specs.ResolvedNodes as resolved_node
 use Rattle.lb_static.specs.ResolvedTerms as resolved
 use Rattle.lb_static.specs.ResolvedTerms.{Texts, Counts}
-use Rattle.lb_static.specs.Shapes.{variables}
+use Rattle.lb_static.specs.DataTypes.{variables}
 use Rattle.lb_static.specs.StaticParts.{node_static_parts, group_parts}
 use Rattle.lb_static.specs.declared.resolved.ResolvedNode.{ResolvedNode}
-use Rattle.lb_static.specs.declared.resolved.Step as resolved_step
-use Rattle.lb_static.specs.declared.resolved.Step.TheVariants as from
+use Rattle.lb_static.specs.declared.resolved.ResolvedStatement as resolved_statement
+use Rattle.lb_static.specs.declared.resolved.ResolvedStatement.TheVariants as from
 use Rattle.lb_static.specs.declared.resolved.Term as form
 use Rattle.lb_static.proofs.Lists.{and_first, and_second, both, false_first, all_append, append_assoc, map_map}
-use Rattle.lb_flat.specs.LaterForms.{has_plain_forms, have_plain_forms, is_plain_step, AreStepsOf}
-use Rattle.lb_flat.specs.PlainNodes.{is_scalar, is_step_within, is_plain_node, node_of}
+use Rattle.lb_flat.specs.UnsupportedForms.{has_plain_forms, have_plain_forms, is_plain_statement, AreStatementsOf}
+use Rattle.lb_flat.specs.PlainNodes.{is_scalar, is_statement_within, is_plain_node, node_of}
 use Rattle.lb_flat.specs.PlainPrograms.{runs}
 use Rattle.lb_flat.specs.PlainTerms.{declaration_of, statement_of}
-use Rattle.lb_flat.specs.declared.plain.term.Step.{Step}
+use Rattle.lb_flat.specs.declared.plain.term.PlainStatement.{PlainStatement}
 use Rattle.lb_flat.specs.declared.plain.term.Variable.{Variable}
 use Rattle.lb_flat.proofs.PlainAlone.{is_variable_in, plain_node_is}
 use Rattle.lb_flat.proofs.PlainForms.{is_simple, are_simple, is_simple_statement, none_append, no_body_statics}
@@ -90,16 +90,16 @@ module _ (x : Texts) (n : Counts) (as_many : n.variables ≡ length x.variables)
     forms_simple (form.Pre' p a) w = forms_simple a w
     forms_simple (form.Current' p a) w = refl
     forms_simple (form.When' p a y sign) w = refl
-    forms_simple (form.Copies' p a i) w = refl
+    forms_simple (form.Replicate' p a i) w = refl
     forms_simple (form.Index' p a i) w = refl
     forms_simple (form.Slice' p a i j) w = refl
     forms_simple (form.Join' p a q b) w = refl
-    forms_simple (form.Array' shape all) w = refl
-    forms_simple (form.AtMostOne' shape all) w = row_simple all w
-    forms_simple (form.Nor' shape all) w = row_simple all w
-    forms_simple (form.Call' c shape all) w = refl
-    forms_simple (form.IterateNode' it c shape all) w = refl
-    forms_simple (form.IterateSymbol' it op i shape all) w = refl
+    forms_simple (form.Array' arity all) w = refl
+    forms_simple (form.AtMostOne' arity all) w = row_simple all w
+    forms_simple (form.Nor' arity all) w = row_simple all w
+    forms_simple (form.Call' c arity all) w = refl
+    forms_simple (form.IterateNode' it c arity all) w = refl
+    forms_simple (form.IterateSymbol' it op i arity all) w = refl
 
     row_simple : {m : _} (row : form.Row_of-Term m) → resolved.are_within n row ≡ true →
         are_simple known (resolved.row_of x row) ≡ have_plain_forms row
@@ -110,21 +110,23 @@ module _ (x : Texts) (n : Counts) (as_many : n.variables ≡ length x.variables)
         ∙ ap (λ c. has_plain_forms a && c) (row_simple rest
         (and_second (resolved.is_within n a) _ w))
 
-  step_simple : (s : resolved_step.Step) → resolved.is_step_within n s ≡ true →
-      is_simple_statement known (resolved.statement_of x s) ≡ is_plain_step s
+  step_simple : (s : resolved_statement.ResolvedStatement) → resolved.is_statement_within n s ≡ true
+      →
+      is_simple_statement known (resolved.statement_of x s) ≡ is_plain_statement s
   step_simple (from.Equation lefts e) w = forms_simple e
       (and_second (list_all (resolved.is_variable n) lefts.items) _ w)
   step_simple (from.Assertion e) w = forms_simple e w
 
-  pub steps_simple : (ss : List resolved_step.Step) → list_all (resolved.is_step_within n) ss ≡ true
+  pub steps_simple : (ss : List resolved_statement.ResolvedStatement)
+      → list_all (resolved.is_statement_within n) ss ≡ true
       → list_all (is_simple_statement known) (map (resolved.statement_of x) ss)
-      ≡ list_all is_plain_step ss
+      ≡ list_all is_plain_statement ss
   steps_simple [] w = refl
   steps_simple (s ∷ ss) w =
       ap (λ b. b && list_all (is_simple_statement known) (map (resolved.statement_of x) ss))
-      (step_simple s (and_first _ (list_all (resolved.is_step_within n) ss) w))
-      ∙ ap (λ b. is_plain_step s && b) (steps_simple ss
-      (and_second (resolved.is_step_within n s) _ w))
+      (step_simple s (and_first _ (list_all (resolved.is_statement_within n) ss) w))
+      ∙ ap (λ b. is_plain_statement s && b) (steps_simple ss
+      (and_second (resolved.is_statement_within n s) _ w))
 
 -- ## Plain nodes have no static expressions
 
@@ -182,7 +184,7 @@ module _ (nodes : List Name) (r : ResolvedNode) (resolved_is : IsResolved nodes 
   as_many = resolved_is.as_many ∙ sym (length-map (variables tree) (λ d. d.name))
 
   simple_is : length r.statics.items ≡ 0 → list_all (is_simple_statement (is_variable_in tree))
-      tree.body ≡ list_all is_plain_step r.body.items
+      tree.body ≡ list_all is_plain_statement r.body.items
   simple_is none =
       ap (list_all (is_simple_statement (is_variable_in tree))) (sym resolved_is.body)
       ∙ steps_simple (texts_of r) (counts_of r) as_many none r.body.items resolved_is.body_within
@@ -217,10 +219,10 @@ module _ (nodes : List Name) (r : ResolvedNode) (resolved_is : IsResolved nodes 
   both_are : (b : Bool) → nat_eq (length r.statics.items) 0 ≡ b → (scalars && simple_body) ≡ runs r
   both_are true e =
       ap (λ c. scalars && c) (simple_is (same_none (length r.statics.items) e))
-      ∙ sym (ap (λ c. c && (scalars && list_all is_plain_step r.body.items)) e)
+      ∙ sym (ap (λ c. c && (scalars && list_all is_plain_statement r.body.items)) e)
   both_are false e =
       not_both _ refl e ∙ sym (false_first (nat_eq (length r.statics.items) 0)
-      (scalars && list_all is_plain_step r.body.items) e)
+      (scalars && list_all is_plain_statement r.body.items) e)
 
   pub runs_is : tree.parameters ≡ [] → is_plain_node tree ≡ runs r
   runs_is none = plain_node_is tree none ∙ both_are (nat_eq (length r.statics.items) 0) refl
@@ -274,17 +276,17 @@ module _ (n : Node) (vars : List Variable) (inputs outputs : ℕ)
   pub count_is : length vars ≡ length (variables n)
   count_is = sym (length-map vars declaration_of) ∙ ap length declared_is
 
-  pub node_is : (steps : List Step) → n.parameters ≡ [] →
-      map (statement_of (variable_names n)) steps ≡ n.body
-      → node_of n.name n.is_function vars inputs outputs steps ≡ n
-  node_is steps none body = λ i. record {
+  pub node_is : (statements : List PlainStatement) → n.parameters ≡ [] →
+      map (statement_of (variable_names n)) statements ≡ n.body
+      → node_of n.name n.is_function vars inputs outputs statements ≡ n
+  node_is statements none body = λ i. record {
     name = n.name;
     is_function = n.is_function;
     parameters = sym none i;
     inputs = inputs_are i;
     outputs = outputs_are i;
     locals = locals_are i;
-    body = (ap (λ ns. map (statement_of ns) steps) names_are ∙ body) i;
+    body = (ap (λ ns. map (statement_of ns) statements) names_are ∙ body) i;
   }
 
   pub parts_fit : inputs + outputs ≤ length vars
@@ -297,31 +299,32 @@ module _ (n : Node) (vars : List Variable) (inputs outputs : ℕ)
 module _ (nodes : List Name) (r : ResolvedNode) (resolved_is : IsResolved nodes r)
     (vars : List Variable)
     (declared_is : map declaration_of vars ≡ variables (resolved_node.node_of r))
-    (steps : List Step) (of : AreStepsOf r.body.items steps) where
+    (statements : List PlainStatement) (of : AreStatementsOf r.body.items statements) where
   pub as_many_variables : length vars ≡ length r.variables.items
   as_many_variables =
       count_is (resolved_node.node_of r) vars r.inputs r.outputs declared_is resolved_is.inputs
       resolved_is.outputs ∙ sym resolved_is.as_many
 
-  pub steps_fit : list_all (is_step_within (length vars)) steps ≡ true
+  pub steps_fit : list_all (is_statement_within (length vars)) statements ≡ true
   steps_fit =
-      ap (λ k. list_all (is_step_within k) steps) as_many_variables
-      ∙ (steps_stand (texts_of r) (counts_of r) r.body.items steps of).1 ∙ resolved_is.body_within
+      ap (λ k. list_all (is_statement_within k) statements) as_many_variables
+      ∙ (steps_stand (texts_of r) (counts_of r) r.body.items statements of).1
+      ∙ resolved_is.body_within
 
   pub plain_is : (resolved_node.node_of r).parameters ≡ [] →
-      node_of r.tree.now.name r.tree.now.is_function vars r.inputs r.outputs steps
+      node_of r.tree.now.name r.tree.now.is_function vars r.inputs r.outputs statements
       ≡ resolved_node.node_of r
   plain_is none =
       node_is (resolved_node.node_of r) vars r.inputs r.outputs declared_is resolved_is.inputs
-      resolved_is.outputs steps none
-      ((steps_stand (texts_of r) (counts_of r) r.body.items steps of).0 ∙ resolved_is.body)
+      resolved_is.outputs statements none
+      ((steps_stand (texts_of r) (counts_of r) r.body.items statements of).0 ∙ resolved_is.body)
 
   pub running : nat_eq (length r.statics.items) 0 ≡ true → runs r ≡ true
   running none =
       both (nat_eq (length r.statics.items) 0) _ none
       (both (list_all is_scalar (variables (resolved_node.node_of r))) _
       (ap (list_all is_scalar) (sym declared_is) ∙ scalar_variables vars)
-      (steps_stand (texts_of r) (counts_of r) r.body.items steps of).2)
+      (steps_stand (texts_of r) (counts_of r) r.body.items statements of).2)
     where
       scalar_variables : (vs : List Variable) → list_all is_scalar (map declaration_of vs) ≡ true
       scalar_variables [] = refl

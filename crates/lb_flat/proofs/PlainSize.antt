@@ -8,18 +8,18 @@ use Rattle.std.proofs.lemmas.List.Folds.{list_all-append}
 use Rattle.std.proofs.lemmas.List.Sums.{sum_by-cons}
 use Rattle.lb_syntax.specs.Lists.{◌>>=◌, Every, all_some, either_or, or_else}
 use Rattle.lb_syntax.specs.Refusals.{Refusal, E9, unless}
-use Rattle.lb_syntax.specs.Tree.{Static, Expr, Literal, Truth, Variable, Group, Unary, Binary, If, Arrow, Fby, Pre, Current, When, Copies, Index, Slice, Join, Array, AtMostOne, Nor, Call, Iterate, Exprs, Nil, Cons, Declaration, Node, Statement, Equation, Assertion}
+use Rattle.lb_syntax.specs.Tree.{Static, Expr, Literal, Truth, Variable, Group, Unary, Binary, If, Arrow, Fby, Pre, Current, When, Replicate, Index, Slice, Join, Array, AtMostOne, Nor, Call, Iterate, Exprs, Nil, Cons, Declaration, Node, Statement, Equation, Assertion}
 use Rattle.lb_flat.specs.PlainNodes.{IsPlain, start_of, is_scalar, is_plain}
 use Rattle.lb_static.specs.Instances.{Program, Instance, instances, static_count}
 use Rattle.lb_static.specs.Parts.{parts, parts_in, node_parts, right_side}
-use Rattle.lb_static.specs.Shapes.{Shape, int, truth, element_count, variables, shape_of, width}
-use Rattle.lb_static.specs.Walk.{are_same}
+use Rattle.lb_static.specs.DataTypes.{DataType, int, truth, element_count, variables, variable_type, width}
+use Rattle.lb_static.specs.Instantiation.{are_same}
 use Rattle.lb_check.specs.Acceptance.{check_refusal}
-use Rattle.lb_check.specs.TypeRules.{is_typed, is_statement_typed, is_clock_typed, declared_shape, total, expression_size, instance_size, size}
-use Rattle.lb_check.specs.Types.{shapes, all_shapes, only, singly, from_one, from_truths, unary_shape, binary_shape, same_shape}
+use Rattle.lb_check.specs.TypeRules.{is_typed, is_statement_typed, is_clock_typed, type_of_name, total, expression_size, instance_size, size}
+use Rattle.lb_check.specs.Types.{data_types, all_types, only, singly, from_one, from_truths, unary_type, binary_type, common_type}
 use Rattle.lb_flat.proofs.Lists.{Every-append}
 use Rattle.lb_flat.proofs.OutputWidths.{found_in}
-use Rattle.lb_flat.proofs.ShapeFacts.{Two, bound, one, two, from_true, unary_count, binary_count, alike, some_same, and_first, and_second}
+use Rattle.lb_flat.proofs.TypeFacts.{Two, bound, one, two, from_true, unary_count, binary_count, alike, some_same, and_first, and_second}
 
 -- as many ones as there are items
 ones :
@@ -28,7 +28,7 @@ ones f [] h = refl
 ones f (x ∷ xs) h = let first = h.0 in omega (arith, sum_by-cons f x xs, ones f xs h.1, first)
 
 -- the scalar elements of one result
-total_one : (t : Shape) → total (t ∷ []) ≡ element_count t
+total_one : (t : DataType) → total (t ∷ []) ≡ element_count t
 total_one t = omega (arith, sum_by-cons element_count t [])
 
 none : (n : ℕ) → nat_eq n 0 ≡ true → n ≡ 0
@@ -40,37 +40,37 @@ module _ (P : Program) (here : Instance) where
   no_sizes :
       (d : Declaration) (sizes : List Static) → d.sizes ≡ sizes →
       nat_eq (length sizes) 0 ≡ true →
-      shape_of P here d ≡ Some (record { kind = d.kind; sizes = [] })
+      variable_type P here d ≡ Some (record { kind = d.kind; sizes = [] })
   no_sizes d [] e h =
       ap (λ ss. option_map (λ (ns : List ℕ). record { kind = d.kind; sizes = ns })
       (all_some (map (static_count P here) (reverse ss)))) e
   no_sizes d (s ∷ sizes) e h = absurd (omega (arith, none (length (s ∷ sizes)) h))
 
-  scalar_shape :
+  scalar_type :
       (d : Declaration) → is_scalar d ≡ true →
-      shape_of P here d ≡ Some (record { kind = d.kind; sizes = [] })
-  scalar_shape d h = no_sizes d d.sizes refl (and_first _ _ h)
+      variable_type P here d ≡ Some (record { kind = d.kind; sizes = [] })
+  scalar_type d h = no_sizes d d.sizes refl (and_first _ _ h)
 
   -- a scalar has one scalar element
-  abbrev IsScalarShape : Declaration → Type 0
-  IsScalarShape d = shape_of P here d ≡ Some (record { kind = d.kind; sizes = [] })
+  abbrev IsScalarType : Declaration → Type 0
+  IsScalarType d = variable_type P here d ≡ Some (record { kind = d.kind; sizes = [] })
 
-  scalar_shapes : (ds : List Declaration) → list_all is_scalar ds ≡ true → Every IsScalarShape ds
-  scalar_shapes [] h = tt
-  scalar_shapes (d ∷ ds) h = (
-    scalar_shape d (and_first (is_scalar d) (list_all is_scalar ds) h),
-    scalar_shapes ds (and_second (is_scalar d) (list_all is_scalar ds) h),
+  scalar_types : (ds : List Declaration) → list_all is_scalar ds ≡ true → Every IsScalarType ds
+  scalar_types [] h = tt
+  scalar_types (d ∷ ds) h = (
+    scalar_type d (and_first (is_scalar d) (list_all is_scalar ds) h),
+    scalar_types ds (and_second (is_scalar d) (list_all is_scalar ds) h),
   )
 
-  widths : (ds : List Declaration) → Every IsScalarShape ds → Every (λ d. width P here d ≡ 1) ds
+  widths : (ds : List Declaration) → Every IsScalarType ds → Every (λ d. width P here d ≡ 1) ds
   widths [] h = tt
   widths (d ∷ ds) h =
       (ap (λ o. either_or (option_map element_count o) 0) h.0, widths ds h.1)
 
   -- the type of a name that stands for a variable, or for nothing
   name_one :
-      (o : Option Declaration) → IfSome o IsScalarShape → (ts : List Shape) →
-      singly (either_or (option_map (shape_of P here) o) (Some int)) ≡ Some ts → total ts ≡ 1
+      (o : Option Declaration) → IfSome o IsScalarType → (ts : List DataType) →
+      singly (either_or (option_map (variable_type P here) o) (Some int)) ≡ Some ts → total ts ≡ 1
   name_one None h ts e = ap total (sym (some_same _ _ e))
   name_one (Some d) h ts e =
       ap total (sym (some_same _ _ (ap singly (sym h) ∙ e)))
@@ -84,18 +84,18 @@ module _ (P : Program) (here : Instance) where
   ArePlain es = list_all is_plain es ≡ true
 
   -- an expression has one scalar element, and so has each of its parts
-  record IsMeasured (e : Expr) (ts : List Shape) : Type 0 where
+  record IsMeasured (e : Expr) (ts : List DataType) : Type 0 where
     result : total ts ≡ 1
     all : Every IsOne (parts e)
 
   own :
-      (e : Expr) (ts : List Shape) → shapes P here e ≡ Some ts → total ts ≡ 1 → IsOne e
+      (e : Expr) (ts : List DataType) → data_types P here e ≡ Some ts → total ts ≡ 1 → IsOne e
   own e ts h one = ap (λ o. total (either_or o [])) h ∙ one
 
-  one_of : (ts : List Shape) (t : Shape) → ts ≡ t ∷ [] → element_count t ≡ 1 → total ts ≡ 1
+  one_of : (ts : List DataType) (t : DataType) → ts ≡ t ∷ [] → element_count t ≡ 1 → total ts ≡ 1
   one_of ts t all h = ap total all ∙ total_one t ∙ h
 
-  count_of : (t : Shape) → total (t ∷ []) ≡ 1 → element_count t ≡ 1
+  count_of : (t : DataType) → total (t ∷ []) ≡ 1 → element_count t ≡ 1
   count_of t h = sym (total_one t) ∙ h
 
   fore : (es es' : List Expr) → ArePlain (es ++ es') → ArePlain es
@@ -113,16 +113,16 @@ module _ (P : Program) (here : Instance) where
 
   -- the result of two operands of one type
   same_one :
-      (o p : Option (List Shape)) (ts : List Shape) (i : Two o p same_shape ts) →
+      (o p : Option (List DataType)) (ts : List DataType) (i : Two o p common_type ts) →
       total (i.first ∷ []) ≡ 1 → total ts ≡ 1
   same_one o p ts i h =
       one_of ts i.result i.all
       (sym (alike i.first i.second i.result i.gives).first ∙ count_of i.first h)
 
-  module _ (scalars : Every IsScalarShape (variables here.node)) where
+  module _ (scalars : Every IsScalarType (variables here.node)) where
     mutual
       measured :
-          (e : Expr) (ts : List Shape) → shapes P here e ≡ Some ts → ArePlain (parts e) →
+          (e : Expr) (ts : List DataType) → data_types P here e ≡ Some ts → ArePlain (parts e) →
           IsMeasured e ts
       measured (Literal m) ts e w =
           let r = ap total (sym (some_same _ _ e)) in
@@ -138,13 +138,13 @@ module _ (P : Program) (here : Instance) where
       measured (Group a) ts e w =
           let m = measured a ts e w in record { result = m.result; all = m.all }
       measured (Unary op a) ts e w =
-          let i = one (shapes P here a) (unary_shape op) ts e in
-          let m = measured a (i.shape ∷ []) i.is w in
+          let i = one (data_types P here a) (unary_type op) ts e in
+          let m = measured a (i.data_type ∷ []) i.is w in
           let r = one_of ts i.result i.all
-          (sym (unary_count op i.shape i.result i.gives) ∙ count_of i.shape m.result) in
+          (sym (unary_count op i.data_type i.result i.gives) ∙ count_of i.data_type m.result) in
           record { result = r; all = (own (Unary op a) ts e r, m.all) }
       measured (Binary op a b) ts e w =
-          let i = two (shapes P here a) (shapes P here b) (binary_shape op) ts e in
+          let i = two (data_types P here a) (data_types P here b) (binary_type op) ts e in
           let left = measured a (i.first ∷ []) i.is_first (fore (parts a) (parts b) w) in
           let right = measured b (i.second ∷ []) i.is_second (aft (parts a) (parts b) w) in
           let r = one_of ts i.result i.all
@@ -154,15 +154,15 @@ module _ (P : Program) (here : Instance) where
             all = (own (Binary op a b) ts e r, join (parts a) (parts b) left.all right.all);
           }
       measured (If c a b) ts e w =
-          let t = bound (from_truths (from_one (shapes P here c) Some)) _ ts e in
-          let truths = from_true (from_one (shapes P here c) Some) t.value t.is in
-          let z = one (shapes P here c) Some truths.shapes truths.is in
-          let i = two (shapes P here a) (shapes P here b) same_shape ts t.gives in
+          let t = bound (from_truths (from_one (data_types P here c) Some)) _ ts e in
+          let truths = from_true (from_one (data_types P here c) Some) t.value t.is in
+          let z = one (data_types P here c) Some truths.data_types truths.is in
+          let i = two (data_types P here a) (data_types P here b) common_type ts t.gives in
           let branches = aft (parts c) (parts a ++ parts b) w in
-          let test = measured c (z.shape ∷ []) z.is (fore (parts c) (parts a ++ parts b) w) in
+          let test = measured c (z.data_type ∷ []) z.is (fore (parts c) (parts a ++ parts b) w) in
           let left = measured a (i.first ∷ []) i.is_first (fore (parts a) (parts b) branches) in
           let right = measured b (i.second ∷ []) i.is_second (aft (parts a) (parts b) branches) in
-          let r = same_one (shapes P here a) (shapes P here b) ts i left.result in
+          let r = same_one (data_types P here a) (data_types P here b) ts i left.result in
           record {
             result = r;
             all = (
@@ -172,40 +172,44 @@ module _ (P : Program) (here : Instance) where
             );
           }
       measured (Arrow a b) ts e w =
-          let i = two (shapes P here a) (shapes P here b) same_shape ts e in
+          let i = two (data_types P here a) (data_types P here b) common_type ts e in
           let left = measured a (i.first ∷ []) i.is_first (fore (parts a) (parts b) w) in
           let right = measured b (i.second ∷ []) i.is_second (aft (parts a) (parts b) w) in
-          let r = same_one (shapes P here a) (shapes P here b) ts i left.result in
+          let r = same_one (data_types P here a) (data_types P here b) ts i left.result in
           record {
             result = r;
             all = (own (Arrow a b) ts e r, join (parts a) (parts b) left.all right.all);
           }
       measured (Fby a b) ts e w =
-          let i = two (shapes P here a) (shapes P here b) same_shape ts e in
+          let i = two (data_types P here a) (data_types P here b) common_type ts e in
           let left = measured a (i.first ∷ []) i.is_first (fore (parts a) (parts b) w) in
           let right = measured b (i.second ∷ []) i.is_second (aft (parts a) (parts b) w) in
-          let r = same_one (shapes P here a) (shapes P here b) ts i left.result in
+          let r = same_one (data_types P here a) (data_types P here b) ts i left.result in
           record {
             result = r;
             all = (own (Fby a b) ts e r, join (parts a) (parts b) left.all right.all);
           }
       measured (Pre a) ts e w =
-          let i = one (shapes P here a) Some ts e in
-          let m = measured a (i.shape ∷ []) i.is w in
+          let i = one (data_types P here a) Some ts e in
+          let m = measured a (i.data_type ∷ []) i.is w in
           let r = one_of ts i.result i.all
-          (ap element_count (sym (some_same _ _ i.gives)) ∙ count_of i.shape m.result) in
+          (ap element_count (sym (some_same _ _ i.gives)) ∙ count_of i.data_type m.result) in
           record { result = r; all = (own (Pre a) ts e r, m.all) }
       measured (AtMostOne es) ts e w =
-          let t = from_true (all_shapes P here es) ts e in
+          let t = from_true (all_types P here es) ts e in
           let r = one_of ts truth t.all refl in
-          record { result = r; all = (own (AtMostOne es) ts e r, all_measured es t.shapes t.is w) }
+          record {
+            result = r;
+            all =
+                (own (AtMostOne es) ts e r, all_measured es t.data_types t.is w);
+          }
       measured (Nor es) ts e w =
-          let t = from_true (all_shapes P here es) ts e in
+          let t = from_true (all_types P here es) ts e in
           let r = one_of ts truth t.all refl in
-          record { result = r; all = (own (Nor es) ts e r, all_measured es t.shapes t.is w) }
+          record { result = r; all = (own (Nor es) ts e r, all_measured es t.data_types t.is w) }
       measured (Current a) ts e w = cc
       measured (When a x sign) ts e w = cc
-      measured (Copies a n) ts e w = cc
+      measured (Replicate a n) ts e w = cc
       measured (Index a i) ts e w = cc
       measured (Slice a i j) ts e w = cc
       measured (Join a b) ts e w = cc
@@ -214,30 +218,31 @@ module _ (P : Program) (here : Instance) where
       measured (Iterate it op n es) ts e w = cc
 
       all_measured :
-          (es : Exprs) (ts : List Shape) → all_shapes P here es ≡ Some ts →
+          (es : Exprs) (ts : List DataType) → all_types P here es ≡ Some ts →
           ArePlain (parts_in es) → Every IsOne (parts_in es)
       all_measured Nil ts h w = tt
       all_measured (Cons e es) ts h w =
-          let b = bound (shapes P here e >>= only) _ ts h in
-          let a = bound (shapes P here e) only b.value b.is in
-          let r = bound (all_shapes P here es) _ ts b.gives in
+          let b = bound (data_types P here e >>= only) _ ts h in
+          let a = bound (data_types P here e) only b.value b.is in
+          let r = bound (all_types P here es) _ ts b.gives in
           join (parts e) (parts_in es)
           (measured e a.value a.is (fore (parts e) (parts_in es) w)).all
           (all_measured es r.value r.is (aft (parts e) (parts_in es) w))
 
     -- ## Statements
 
-    typed : (o p : Option (List Shape)) → are_same P o p ≡ true → (ts : List Shape) × (o ≡ Some ts)
+    typed : (o p : Option (List DataType)) → are_same P o p ≡ true
+        → (ts : List DataType) × (o ≡ Some ts)
     typed None None h = cc
     typed None (Some us) h = cc
     typed (Some ts) p h = (ts, refl)
 
     right_side_typed :
         (s : Statement) → is_statement_typed P here s ≡ true →
-        (ts : List Shape) × (shapes P here (right_side s) ≡ Some ts)
+        (ts : List DataType) × (data_types P here (right_side s) ≡ Some ts)
     right_side_typed (Equation lefts e) h =
-        typed (shapes P here e) (all_some (map (declared_shape P here) lefts)) h
-    right_side_typed (Assertion e) h = typed (shapes P here e) (Some (truth ∷ [])) h
+        typed (data_types P here e) (all_some (map (type_of_name P here) lefts)) h
+    right_side_typed (Assertion e) h = typed (data_types P here e) (Some (truth ∷ [])) h
 
     abbrev own_parts : Statement → List Expr
     own_parts s = parts (right_side s)
@@ -282,7 +287,7 @@ plain_size P n elaborated accepted =
     let declared = and_first (list_all is_scalar (variables n)) _ rest in
     let forms = and_first (list_all is_plain (node_parts n)) _
     (and_second (list_all is_scalar (variables n)) _ rest) in
-    let scalars = scalar_shapes P here (variables n) declared in
+    let scalars = scalar_types P here (variables n) declared in
     let left : sum_by (width P here) (variables n) ≡ length (variables n) =
     ones (width P here) (variables n) (widths P here (variables n) scalars) in
     let right : sum_by (expression_size P here) (node_parts n) ≡ length (node_parts n) =

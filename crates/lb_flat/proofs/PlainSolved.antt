@@ -8,7 +8,7 @@ use Rattle.lb_syntax.specs.Refusals.{Refusal, E9, unless}
 use Rattle.lb_syntax.specs.declared.tree.Kind.{Kind}
 use Rattle.lb_syntax.specs.Tree.{Name, Expr, Call, Iterate, Node, Declaration}
 use Rattle.lb_static.specs.Instances.{Program, Instance, Root, Observer, start_at, instance_at, instances}
-use Rattle.lb_static.specs.Shapes.{variables, input_kinds}
+use Rattle.lb_static.specs.DataTypes.{variables, input_kinds}
 use Rattle.lb_static.specs.Parts.{among, variable_names, parts, right_side, node_parts, node_names}
 use Rattle.lb_flat.specs.PlainNodes.{is_scalar, is_plain, start_of, IsPlain}
 use Rattle.lb_check.specs.Acceptance.{check_refusal}
@@ -26,7 +26,7 @@ use Rattle.lb_flat.specs.Flattening.{history_of}
 use Rattle.lb_flat.proofs.Lists.{Every-first, Every-second, Every-piece}
 use Rattle.lb_flat.proofs.Bodies.{IsSolvedAt}
 use Rattle.lb_flat.proofs.Whole.{IsTied, to_flat}
-use Rattle.lb_flat.proofs.ShapeFacts.{and_first, and_second}
+use Rattle.lb_flat.proofs.TypeFacts.{and_first, and_second}
 use Rattle.lb_flat.proofs.Fitting.{KindFits}
 use Rattle.lb_flat.proofs.Solving.{Every-ordered}
 use Rattle.lb_flat.proofs.Expanding.{ordered, IsExpansion}
@@ -155,7 +155,7 @@ module _ (P : Program) (n : Node) (plain : IsPlain P n) where
 
       module _ (X : Inputs) (H : History) (solved : Solves P X H) where
         abbrev G : List Stream
-        G = all_gathered P Y count K N size e.placing e.walk.variables X H solved
+        G = all_gathered P Y count K N size e.placing e.instance_order.variables X H solved
 
         abbrev H' : History
         H' = history_of Y X G
@@ -165,7 +165,7 @@ module _ (P : Program) (n : Node) (plain : IsPlain P n) where
             of_instance
             (λ i. Every (λ d. H'.columns i.path d.name ≡ H.columns i.path d.name)
             (variables i.node))
-            (filled_columns P Y count K N size e.placing e.walk.variables X H solved)
+            (filled_columns P Y count K N size e.placing e.instance_order.variables X H solved)
 
         same : AreSame P H' H
         same =
@@ -207,10 +207,10 @@ module _ (P : Program) (n : Node) (plain : IsPlain P n) where
         flat_solves =
             let F = gathered_streams P H in
             to_flat count Y e.placing.laid P X H' F
-            (gathered_count P Y count K N size e.placing e.walk.variables X H solved)
-            (gathered_long P Y count K N size e.placing e.walk.variables X H solved
+            (gathered_count P Y count K N size e.placing e.instance_order.variables X H solved)
+            (gathered_long P Y count K N size e.placing e.instance_order.variables X H solved
             (of_instances _ (each_long (variables n))))
-            (gathered_truths P Y count K N size e.placing e.walk.variables X H solved
+            (gathered_truths P Y count K N size e.placing e.instance_order.variables X H solved
             further_kinds)
             (record { columns = λ p x. refl; signs = λ p x. refl; ticks = λ p. refl })
             (plain_sound P n plain accepted X G) tied

@@ -13,15 +13,15 @@ use Rattle.lb_static.specs.Names.{keeps_names, starts, is_well_founded}
 use Rattle.lb_static.specs.ReachedNodes.{source_names, tree_at}
 use Rattle.lb_static.specs.ResolvedNodes as resolved_node
 use Rattle.lb_static.specs.ResolvedNodes.{IsResolved}
-use Rattle.lb_static.specs.Shapes.{shape_of, variables}
-use Rattle.lb_static.specs.Walk.{static_refusal, walk_refusal, has_no_parameters, has_plain_clocks, has_property, is_one_truth, is_root}
+use Rattle.lb_static.specs.DataTypes.{variable_type, variables}
+use Rattle.lb_static.specs.Instantiation.{static_refusal, instantiation_refusal, has_no_parameters, has_plain_clocks, has_property, is_one_truth, is_root}
 use Rattle.lb_static.specs.declared.elab.Elab.{Elab}
 use Rattle.lb_static.specs.declared.reach.Reached.{Reached}
 use Rattle.lb_static.specs.declared.resolved.ResolvedNode.{ResolvedNode}
 use Rattle.lb_static.proofs.Lists.{and_first, and_second}
 use Rattle.lb_flat.specs.declared.error.FlatError.{FlatError}
 use Rattle.lb_flat.specs.declared.error.FlatError.TheVariants as error
-use Rattle.lb_flat.specs.LaterForms.{IsLater}
+use Rattle.lb_flat.specs.UnsupportedForms.{IsUnsupported}
 use Rattle.lb_flat.specs.PlainNodes.{IsPlain, is_plain_node, is_scalar, start_of}
 use Rattle.lb_flat.specs.PlainPrograms.{node_in, runs, IsPlainFault, TranslatesNode}
 use Rattle.lb_flat.specs.declared.plain.Plain.{Plain}
@@ -31,21 +31,21 @@ use Rattle.lb_flat.proofs.PlainRoots.{runs_is}
 
 -- ## What no refusal says
 
-rules_kept : (names founded parameters rooted : Bool) (walked : Option Refusal)
+rules_kept : (names founded parameters rooted : Bool) (instantiated : Option Refusal)
     → or_else (unless names E4) (or_else (unless founded E7)
-    (or_else (unless parameters E8) (or_else walked (unless rooted E8)))) ≡ None
+    (or_else (unless parameters E8) (or_else instantiated (unless rooted E8)))) ≡ None
     → (names ≡ true) × (parameters ≡ true) × (rooted ≡ true)
 rules_kept true true true true None e = (refl, refl, refl)
 rules_kept true true true false None e = absurd cc
 rules_kept true true true rooted (Some r) e = absurd cc
-rules_kept true true false rooted walked e = absurd cc
-rules_kept true false parameters rooted walked e = absurd cc
-rules_kept false founded parameters rooted walked e = absurd cc
+rules_kept true true false rooted instantiated e = absurd cc
+rules_kept true false parameters rooted instantiated e = absurd cc
+rules_kept false founded parameters rooted instantiated e = absurd cc
 
 kept : (P : Program) → static_refusal P ≡ None → (keeps_names P ≡ true)
     × (has_no_parameters P ≡ true) × (holds (is_root P) (instance_at P Root) ≡ true)
 kept P e = rules_kept (keeps_names P) (is_well_founded P) (has_no_parameters P)
-    (holds (is_root P) (instance_at P Root)) (walk_refusal P 0 (instances P)) e
+    (holds (is_root P) (instance_at P Root)) (instantiation_refusal P 0 (instances P)) e
 
 are_there : (P : Program) → static_refusal P ≡ None → list_all is_some (starts P) ≡ true
 are_there P e = and_first _ _ (and_second _ _ (kept P e).0)
@@ -58,7 +58,7 @@ empty_of (x ∷ xs) e = let no : nat_eq (suc (length xs)) 0 ≡ false = grind (a
     absurd cc
 
 some_output : (P : Program) (here : Instance) (ds : List Declaration) →
-    is_one_truth P (all_some (map (shape_of P here) ds)) ≡ true → 0 < length ds
+    is_one_truth P (all_some (map (variable_type P here) ds)) ≡ true → 0 < length ds
 some_output P here [] e = absurd cc
 some_output P here (d ∷ ds) e = omega arith
 
@@ -133,10 +133,10 @@ module _ (P : Program) (e : Elab) (is : IsElaborated P e) (n : ResolvedNode)
       (and_first _ (list_all (is_simple_statement (is_variable_in root)) root.body) both)
       (and_second (list_all is_scalar (variables root)) _ both) is.accepted none
 
-  pub is_fault : (f : FlatError) → IsLater f (runs n) → IsPlainFault P f
+  pub is_fault : (f : FlatError) → IsUnsupported f (runs n) → IsPlainFault P f
   is_fault error.Memory h = tt
   is_fault error.Large h = absurd h
-  is_fault error.Later h =
+  is_fault error.Unsupported h =
       or_second (is_some P.observer) _
       (ap (λ o. holds (λ (here : Instance). not (is_plain_node here.node)) (option_map start_of o))
       (found P e is n at) ∙ ap not (forms ∙ h))

@@ -4,23 +4,23 @@ use Rattle.std.proofs.Common.{◌≡◌, ℕ, ◌+◌, true, false, Option, Some
 use Rattle.std.specs.List.{list_all}
 use Rattle.std.specs.Str.{bytes_eq}
 use Rattle.lb_syntax.specs.Lists.{Every, zip2, joined, all_some, either_or}
-use Rattle.lb_syntax.specs.Tree.{Name, Expr, Literal, Truth, Variable, Group, Unary, Binary, If, Arrow, Fby, Pre, Current, When, Copies, Index, Slice, Join, Array, AtMostOne, Nor, Call, Iterate, Exprs, Nil, Cons, Declaration, Node, Statement, Equation, Assertion}
+use Rattle.lb_syntax.specs.Tree.{Name, Expr, Literal, Truth, Variable, Group, Unary, Binary, If, Arrow, Fby, Pre, Current, When, Replicate, Index, Slice, Join, Array, AtMostOne, Nor, Call, Iterate, Exprs, Nil, Cons, Declaration, Node, Statement, Equation, Assertion}
 use Rattle.lb_static.specs.StaticValues.{named}
 use Rattle.lb_static.specs.Instances.{Program, Instance, name_value}
-use Rattle.lb_static.specs.Shapes.{Shape, variables}
+use Rattle.lb_static.specs.DataTypes.{DataType, variables}
 use Rattle.lb_static.specs.Parts.{parts, parts_in, right_side}
-use Rattle.lb_static.specs.Walk.{are_same}
+use Rattle.lb_static.specs.Instantiation.{are_same}
 use Rattle.lb_flat.specs.PlainNodes.{is_plain}
 use Rattle.lb_check.specs.Scalars.{Scalar, Integer, Boolean, Stream, or_fault, two_scalars, one_scalar, at_most_one, none_true}
-use Rattle.lb_check.specs.Types.{shapes}
-use Rattle.lb_check.specs.TypeRules.{declared_shape, is_statement_typed}
+use Rattle.lb_check.specs.Types.{data_types}
+use Rattle.lb_check.specs.TypeRules.{type_of_name, is_statement_typed}
 use Rattle.lb_check.specs.Clocks.{Clock, declared_clock}
 use Rattle.lb_check.specs.Occurrences.{Occurrence, at, call_count, occurrences, occurrences_in, statement_clock, right_sides}
 use Rattle.lb_check.specs.Streams.{History, presence, constantly, along, along_two, choices, previous, first_then, across, first_of, streams, all_streams}
 use Rattle.lb_check.specs.Solutions.{AreEqual}
 use Rattle.lb_flat.proofs.Lists.{Every-append, Every-first, Every-second}
 use Rattle.lb_flat.proofs.Bodies.{occurrences_of}
-use Rattle.lb_flat.proofs.ShapeFacts.{bound, and_first, and_second}
+use Rattle.lb_flat.proofs.TypeFacts.{bound, and_first, and_second}
 use Rattle.lb_flat.proofs.OutputWidths.{found_in, each}
 use Rattle.lb_flat.proofs.TypedBodies.{name_same, found_passes}
 
@@ -91,7 +91,7 @@ module _ (P : Program) (here : Node) (Q : Occurrence → Type 0)
     each_plain n (Nor es) p = (q (at k n (Nor es)) p.0, each_plain_in n es p.1)
     each_plain n (Current a) p = not_plain p.0
     each_plain n (When a x sign) p = not_plain p.0
-    each_plain n (Copies a m) p = not_plain p.0
+    each_plain n (Replicate a m) p = not_plain p.0
     each_plain n (Index a i) p = not_plain p.0
     each_plain n (Slice a i j) p = not_plain p.0
     each_plain n (Join a b) p = not_plain p.0
@@ -191,7 +191,7 @@ module _ (P : Program) (H G : History) (here : Instance)
           ap₂ (λ bs xsss. across none_true bs (joined xsss) ∷ []) clock (all_same n es p.1)
       plain_same n (Current a) p = not_plain p.0
       plain_same n (When a x sign) p = not_plain p.0
-      plain_same n (Copies a m) p = not_plain p.0
+      plain_same n (Replicate a m) p = not_plain p.0
       plain_same n (Index a i) p = not_plain p.0
       plain_same n (Slice a i j) p = not_plain p.0
       plain_same n (Join a b) p = not_plain p.0
@@ -210,7 +210,7 @@ module _ (P : Program) (H G : History) (here : Instance)
   -- ## Equations
 
   declared_same :
-      (x : Name) (t : Shape) → declared_shape P here x ≡ Some t →
+      (x : Name) (t : DataType) → type_of_name P here x ≡ Some t →
       H.columns here.path x ≡ G.columns here.path x
   declared_same x t e =
       let test = λ (d : Declaration). bytes_eq d.name x in
@@ -224,18 +224,18 @@ module _ (P : Program) (H G : History) (here : Instance)
       (name_same b.value.name x passes) known
 
   lefts_same :
-      (lefts : List Name) (ts : List Shape) →
-      all_some (map (declared_shape P here) lefts) ≡ Some ts →
+      (lefts : List Name) (ts : List DataType) →
+      all_some (map (type_of_name P here) lefts) ≡ Some ts →
       flat_map (H.columns here.path) lefts ≡ flat_map (G.columns here.path) lefts
   lefts_same [] ts e = refl
   lefts_same (x ∷ lefts) ts e =
-      let h = each (declared_shape P here x) (map (declared_shape P here) lefts) ts e in
+      let h = each (type_of_name P here x) (map (type_of_name P here) lefts) ts e in
       ap₂ (λ xss yss. xss ++ yss) (declared_same x h.first h.is)
       (lefts_same lefts h.rest h.others)
 
   typed_lefts_same :
-      (lefts : List Name) (o p : Option (List Shape)) → are_same P o p ≡ true →
-      all_some (map (declared_shape P here) lefts) ≡ p →
+      (lefts : List Name) (o p : Option (List DataType)) → are_same P o p ≡ true →
+      all_some (map (type_of_name P here) lefts) ≡ p →
       flat_map (H.columns here.path) lefts ≡ flat_map (G.columns here.path) lefts
   typed_lefts_same lefts None None h e = cc
   typed_lefts_same lefts None (Some ts) h e = cc
@@ -265,7 +265,7 @@ module _ (P : Program) (H G : History) (here : Instance)
         let k = statement_clock P here.node (Equation lefts e) in
         let first = is_statement_typed P here (Equation lefts e) in
         let others = list_all (is_statement_typed P here) rest in (
-          sym (typed_lefts_same lefts (shapes P here e) _ (and_first first others typed) refl)
+          sym (typed_lefts_same lefts (data_types P here e) _ (and_first first others typed) refl)
               ∙ h.0 ∙ plain_same k (left_clock lefts e) n e p.0,
           body_equal (n + call_count e) rest (and_second first others typed) p.1 h.1,
         )

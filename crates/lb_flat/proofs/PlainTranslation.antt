@@ -7,18 +7,18 @@ use mathlib.Core.Former.{Count}
 use Rattle.lb_syntax.specs.Tree as tree
 use Rattle.lb_static.specs.ResolvedTerms as resolved
 use Rattle.lb_static.specs.ResolvedTerms.{Texts, Counts}
-use Rattle.lb_static.specs.declared.resolved.Step as resolved_step
-use Rattle.lb_static.specs.declared.resolved.Step.TheVariants as from
+use Rattle.lb_static.specs.declared.resolved.ResolvedStatement as resolved_statement
+use Rattle.lb_static.specs.declared.resolved.ResolvedStatement.TheVariants as from
 use Rattle.lb_static.specs.declared.resolved.Term as form
 use Rattle.lb_static.specs.declared.resolved.VariableId.{VariableId}
 use Rattle.lb_static.proofs.Lists.{both, false_second}
 use Rattle.lb_flat.specs.declared.error.FlatError.{FlatError}
 use Rattle.lb_flat.specs.declared.error.FlatError.TheVariants as error
-use Rattle.lb_flat.specs.declared.plain.term.Step.{Step}
-use Rattle.lb_flat.specs.declared.plain.term.Step.TheVariants as step
+use Rattle.lb_flat.specs.declared.plain.term.PlainStatement.{PlainStatement}
+use Rattle.lb_flat.specs.declared.plain.term.PlainStatement.TheVariants as statement
 use Rattle.lb_flat.specs.declared.plain.term.Term.{Term, Literal, Truth, Variable, AtMostOne, Nor, Group', Unary', Binary', If', Arrow', Fby', Pre', AtMostOne', Nor', Row_of-Term, end_of-Term, more_of-Term, items-the_row-Term, items_hidden-the_row-Term-0}
-use Rattle.lb_flat.specs.LaterForms.{has_plain_forms, have_plain_forms, is_plain_step, IsPlainOf, IsRowOf, ArePlainOf, IsStepOf, AreStepsOf, IsLater, TranslatesTerm}
-use Rattle.lb_flat.specs.PlainNodes.{is_place, is_within, are_within, is_step_within}
+use Rattle.lb_flat.specs.UnsupportedForms.{has_plain_forms, have_plain_forms, is_plain_statement, IsPlainOf, IsRowOf, ArePlainOf, IsStatementOf, AreStatementsOf, IsUnsupported, TranslatesTerm}
+use Rattle.lb_flat.specs.PlainNodes.{is_place, is_within, are_within, is_statement_within}
 use Rattle.lb_flat.specs.PlainTerms.{name_of, expr_of, row_of, statement_of}
 
 -- ## Terms of the same form
@@ -81,9 +81,9 @@ module _ (x : Texts) (n : Counts) where
         (stands b d h.1)
     stands (form.Pre' p a) (Pre' q b) h =
         let s = stands a b h in (ap (λ e. tree.Pre e) s.0, s.1, s.2)
-    stands (form.AtMostOne' shape all) (AtMostOne' other row) h =
+    stands (form.AtMostOne' arity all) (AtMostOne' other row) h =
         let s = stands_row all row h in (ap (λ es. tree.AtMostOne es) s.0, s.1, s.2)
-    stands (form.Nor' shape all) (Nor' other row) h =
+    stands (form.Nor' arity all) (Nor' other row) h =
         let s = stands_row all row h in (ap (λ es. tree.Nor es) s.0, s.1, s.2)
     stands _ _ h = absurd h
 
@@ -102,13 +102,15 @@ module _ (x : Texts) (n : Counts) where
 
   -- ## Statements of the same form
 
-  abbrev StepStandsFor : resolved_step.Step → Step → Type 0
+  abbrev StepStandsFor : resolved_statement.ResolvedStatement → PlainStatement → Type 0
   StepStandsFor s u =
       (statement_of names u ≡ resolved.statement_of x s)
-      × (is_step_within n.variables u ≡ resolved.is_step_within n s) × (is_plain_step s ≡ true)
+      × (is_statement_within n.variables u ≡ resolved.is_statement_within n s)
+      × (is_plain_statement s ≡ true)
 
-  step_stands : (s : resolved_step.Step) (u : Step) → IsStepOf s u → StepStandsFor s u
-  step_stands (from.Equation lefts e) (step.Equation places u) h =
+  step_stands : (s : resolved_statement.ResolvedStatement) (u : PlainStatement) → IsStatementOf s u
+      → StepStandsFor s u
+  step_stands (from.Equation lefts e) (statement.Equation places u) h =
       let w = stands e u h.1 in (
         ap (λ xs. tree.Equation (map (name_of names) xs) (expr_of names u)) h.0
             ∙ ap (λ z. tree.Equation (map (name_of names) lefts.items) z) w.0,
@@ -116,22 +118,24 @@ module _ (x : Texts) (n : Counts) where
             ∙ ap (λ z. list_all (is_place n.variables) lefts.items && z) w.1,
         w.2,
       )
-  step_stands (from.Assertion e) (step.Assertion u) h =
+  step_stands (from.Assertion e) (statement.Assertion u) h =
       let w = stands e u h in (ap (λ z. tree.Assertion z) w.0, w.1, w.2)
   step_stands _ _ h = absurd h
 
-  pub steps_stand : (ss : List resolved_step.Step) (us : List Step) → AreStepsOf ss us
+  pub steps_stand : (ss : List resolved_statement.ResolvedStatement) (us : List PlainStatement)
+      → AreStatementsOf ss us
       → (map (statement_of names) us ≡ map (resolved.statement_of x) ss)
-      × (list_all (is_step_within n.variables) us ≡ list_all (resolved.is_step_within n) ss)
-      × (list_all is_plain_step ss ≡ true)
+      × (list_all (is_statement_within n.variables) us
+      ≡ list_all (resolved.is_statement_within n) ss)
+      × (list_all is_plain_statement ss ≡ true)
   steps_stand [] [] h = (refl, refl, refl)
   steps_stand (s ∷ ss) (u ∷ us) h =
       let a = step_stands s u h.0 in
       let b = steps_stand ss us h.1 in (
         ap (λ z. z ∷ map (statement_of names) us) a.0 ∙ ap (λ l. resolved.statement_of x s ∷ l) b.0,
-        ap (λ w. w && list_all (is_step_within n.variables) us) a.1
-            ∙ ap (λ w. resolved.is_step_within n s && w) b.1,
-        both (is_plain_step s) (list_all is_plain_step ss) a.2 b.2,
+        ap (λ w. w && list_all (is_statement_within n.variables) us) a.1
+            ∙ ap (λ w. resolved.is_statement_within n s && w) b.1,
+        both (is_plain_statement s) (list_all is_plain_statement ss) a.2 b.2,
       )
   steps_stand _ _ h = absurd h
 
@@ -211,46 +215,52 @@ more_of ts us i t u all below is one =
     (append_of (take i ts) (get_or ts i t ∷ []) us (u ∷ []) all
     (subst (λ z. IsPlainOf z u) is one, tt))
 
-steps_append : (ss ts : List resolved_step.Step) (us vs : List Step) → AreStepsOf ss us →
-    AreStepsOf ts vs → AreStepsOf (ss ++ ts) (us ++ vs)
+steps_append : (ss ts : List resolved_statement.ResolvedStatement) (us vs : List PlainStatement)
+    → AreStatementsOf ss us
+    →
+    AreStatementsOf ts vs → AreStatementsOf (ss ++ ts) (us ++ vs)
 steps_append [] ts [] vs h g = g
 steps_append (s ∷ ss) ts (u ∷ us) vs h g = (h.0, steps_append ss ts us vs h.1 g)
 steps_append [] ts (u ∷ us) vs h g = absurd h
 steps_append (s ∷ ss) ts [] vs h g = absurd h
 
-pub more_steps : (ts : List resolved_step.Step) (us : List Step) (i : ℕ) (t : resolved_step.Step)
-    (u : Step) → AreStepsOf (take i ts) us → i < length ts → t ≡ get_or ts i t
-    → IsStepOf t u → AreStepsOf (take (i + 1) ts) (us ++ u ∷ [])
+pub more_steps : (ts : List resolved_statement.ResolvedStatement) (us : List PlainStatement) (i : ℕ)
+    (t : resolved_statement.ResolvedStatement)
+    (u : PlainStatement) → AreStatementsOf (take i ts) us → i < length ts → t ≡ get_or ts i t
+    → IsStatementOf t u → AreStatementsOf (take (i + 1) ts) (us ++ u ∷ [])
 more_steps ts us i t u all below is one =
-    subst (λ l. AreStepsOf l (us ++ u ∷ [])) (sym (take_more ts i t below))
+    subst (λ l. AreStatementsOf l (us ++ u ∷ [])) (sym (take_more ts i t below))
     (steps_append (take i ts) (get_or ts i t ∷ []) us (u ∷ []) all
-    (subst (λ z. IsStepOf z u) is one, tt))
+    (subst (λ z. IsStatementOf z u) is one, tt))
 
 -- ## What is refused
 
-pub later_within : (e : FlatError) (a b : Bool) → IsLater e a → (a ≡ false → b ≡ false) →
-    IsLater e b
+pub later_within : (e : FlatError) (a b : Bool) → IsUnsupported e a → (a ≡ false → b ≡ false) →
+    IsUnsupported e b
 later_within error.Memory a b h f = tt
-later_within error.Later a b h f = f h
+later_within error.Unsupported a b h f = f h
 later_within error.Large a b h f = absurd h
 
 pub later_at_most_one : (e : FlatError) (ts : Vec form.Term Global) (items : List form.Term) →
     items ≡ ts.items
-    → IsLater e (list_all has_plain_forms items) → IsLater e (has_plain_forms (form.AtMostOne ts))
+    → IsUnsupported e (list_all has_plain_forms items)
+    → IsUnsupported e (has_plain_forms (form.AtMostOne ts))
 later_at_most_one e ts items same h =
     later_within e _ _ h (λ f. forms_at_most_one ts ∙ ap (list_all has_plain_forms) (sym same) ∙ f)
 
 pub later_nor : (e : FlatError) (ts : Vec form.Term Global) (items : List form.Term) →
     items ≡ ts.items
-    → IsLater e (list_all has_plain_forms items) → IsLater e (has_plain_forms (form.Nor ts))
+    → IsUnsupported e (list_all has_plain_forms items)
+    → IsUnsupported e (has_plain_forms (form.Nor ts))
 later_nor e ts items same h =
     later_within e _ _ h (λ f. forms_nor ts ∙ ap (list_all has_plain_forms) (sym same) ∙ f)
 
 -- the last of three parts
-pub later_third : (e : FlatError) (a b c : Bool) → IsLater e c → IsLater e (a && (b && c))
+pub later_third : (e : FlatError) (a b c : Bool) → IsUnsupported e c
+    → IsUnsupported e (a && (b && c))
 later_third e a b c h = later_within e c _ h (λ n. false_second a _ (false_second b c n))
 
 pub boxed_translates : (r : Result (Box Term Global) FlatError) (t : form.Term) (u : Term)
     → MatchResult r (λ b. b.value ≡ u) (λ f. f ≡ error.Memory) → IsPlainOf t u → TranslatesTerm t r
 boxed_translates (Ok b) t u h s = subst (IsPlainOf t) (sym h) s
-boxed_translates (Err f) t u h s = subst (λ g. IsLater g (has_plain_forms t)) (sym h) tt
+boxed_translates (Err f) t u h s = subst (λ g. IsUnsupported g (has_plain_forms t)) (sym h) tt

@@ -4,7 +4,7 @@ use Rattle.std.proofs.Common.{◌≡◌, ℕ, zero, suc, true, ◌&&◌, None, L
 use Rattle.lb_syntax.specs.Lists.{Every, zip2}
 use Rattle.lb_syntax.specs.Tree.{Declaration}
 use Rattle.lb_static.specs.Instances.{Program, Instance, Path, instances}
-use Rattle.lb_static.specs.Shapes.{variables}
+use Rattle.lb_static.specs.DataTypes.{variables}
 use Rattle.lb_check.specs.Scalars.{Stream}
 use Rattle.lb_check.specs.Streams.{History, shows}
 use Rattle.lb_check.specs.Solutions.{Inputs, Solves, AgreeAt}

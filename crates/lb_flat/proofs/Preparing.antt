@@ -10,7 +10,7 @@ use Rattle.lb_flat.specs.declared.equation.InputId.{InputId}
 use Rattle.lb_flat.specs.declared.equation.InputPlace.{InputPlace}
 use Rattle.lb_flat.specs.declared.equation.Operation.{Operation}
 use Rattle.lb_flat.specs.declared.equation.Operation.TheVariants.{Input, Constant, Copy, ApplyUnary, ApplyBinary, Choose, FirstThen, Previous, Latest, Sample}
-use Rattle.lb_flat.specs.declared.equation.Tick.{Tick}
+use Rattle.lb_flat.specs.declared.equation.Clock.{Clock}
 use Rattle.lb_flat.specs.declared.cell.Cell.{Cell}
 use Rattle.lb_flat.specs.Flat.{FlatEquation}
 use Rattle.lb_flat.specs.Prepared.{is_input, is_fixed, is_step, has_memory, on_base, inputs_in, steps_in, fixed_in, memory_places, place_equation}
@@ -28,17 +28,17 @@ here_is :
 here_is i d qs lt = rw (add-one, drop-cons qs i d)
 
 -- what of the equations before an index is put apart, and what of the rest will be, is all
-pub record AreApart (size : ℕ) (ticks : List Tick) (qs : List Equation) (i : ℕ)
+pub record AreApart (size : ℕ) (clocks : List Clock) (qs : List Equation) (i : ℕ)
     (inputs : List InputPlace) (steps : List Equation) (memories : List ℕ) : Type 0 where
   pub inputs_are :
-      map place_equation inputs ++ inputs_in (map (equation_of ticks) (drop i qs))
-      ≡ inputs_in (map (equation_of ticks) qs)
+      map place_equation inputs ++ inputs_in (map (equation_of clocks) (drop i qs))
+      ≡ inputs_in (map (equation_of clocks) qs)
   pub places : All (λ p. p.element.0 < size) inputs
   pub steps_are :
-      map (equation_of ticks) steps ++ steps_in (map (equation_of ticks) (drop i qs))
-      ≡ steps_in (map (equation_of ticks) qs)
-  pub within : All (IsWithin size ticks) steps
-  pub memories_are : memories ≡ memory_places 0 (map (equation_of ticks) steps)
+      map (equation_of clocks) steps ++ steps_in (map (equation_of clocks) (drop i qs))
+      ≡ steps_in (map (equation_of clocks) qs)
+  pub within : All (IsWithin size clocks) steps
+  pub memories_are : memories ≡ memory_places 0 (map (equation_of clocks) steps)
 
 -- the place of one equation more, if it has a memory
 abbrev place_of_memory : Bool → ℕ → List ℕ
@@ -78,10 +78,10 @@ no_memory_more memories more b n e g =
 
 -- the same lists are put apart
 pub apart_same :
-    (size : ℕ) (ticks : List Tick) (qs : List Equation) (i : ℕ) (is js : List InputPlace)
+    (size : ℕ) (clocks : List Clock) (qs : List Equation) (i : ℕ) (is js : List InputPlace)
     (ss ts : List Equation) (ms ns : List ℕ) → js ≡ is → ts ≡ ss → ns ≡ ms →
-    AreApart size ticks qs i is ss ms → AreApart size ticks qs i js ts ns
-apart_same size ticks qs i is js ss ts ms ns e f g h = rw (e, f, g) h
+    AreApart size clocks qs i is ss ms → AreApart size clocks qs i js ts ns
+apart_same size clocks qs i is js ss ts ms ns e f g h = rw (e, f, g) h
 
 not_input : (o : Operation) → ((j : InputId) → o ≡ Input j → ⊥) → is_input (operation_of o) ≡ false
 not_input (Input j) never = absurd (never j refl)
@@ -95,140 +95,142 @@ not_input (Previous v a) never = refl
 not_input (Latest v a) never = refl
 not_input (Sample a) never = refl
 
-module _ (ticks : List Tick) (qs : List Equation) (i : ℕ) (d : Equation) (lt : i < length qs) where
-  abbrev flat : List Equation → List FlatEquation
-  flat rs = map (equation_of ticks) rs
+module _ (clocks : List Clock) (qs : List Equation) (i : ℕ) (d : Equation) (lt : i < length qs)
+  where
+    abbrev flat : List Equation → List FlatEquation
+    flat rs = map (equation_of clocks) rs
 
-  abbrev next : Equation
-  next = get_or qs i d
+    abbrev next : Equation
+    next = get_or qs i d
 
-  abbrev later : List Equation
-  later = drop (i + 1) qs
+    abbrev later : List Equation
+    later = drop (i + 1) qs
 
-  abbrev inputs_of : List Equation → List FlatEquation
-  inputs_of rs = filter (λ q. is_input q.operation) (flat rs)
+    abbrev inputs_of : List Equation → List FlatEquation
+    inputs_of rs = filter (λ q. is_input q.operation) (flat rs)
 
-  -- what is selected of the rest, where the next one is and where it is not
-  abbrev one_more : Bool → FlatEquation → List FlatEquation → List FlatEquation
-  one_more b q Q = cond b (q ∷ Q) Q
+    -- what is selected of the rest, where the next one is and where it is not
+    abbrev one_more : Bool → FlatEquation → List FlatEquation → List FlatEquation
+    one_more b q Q = cond b (q ∷ Q) Q
 
-  steps_here :
-      (b : Bool) → is_step (equation_of ticks next) ≡ b →
-      steps_in (flat (drop i qs)) ≡ one_more b (equation_of ticks next) (steps_in (flat later))
-  steps_here b e =
-      ap (λ rs. steps_in (flat rs)) (here_is i d qs lt)
-      ∙ ap (λ x. one_more x (equation_of ticks next) (steps_in (flat later))) e
+    steps_here :
+        (b : Bool) → is_step (equation_of clocks next) ≡ b →
+        steps_in (flat (drop i qs)) ≡ one_more b (equation_of clocks next) (steps_in (flat later))
+    steps_here b e =
+        ap (λ rs. steps_in (flat rs)) (here_is i d qs lt)
+        ∙ ap (λ x. one_more x (equation_of clocks next) (steps_in (flat later))) e
 
-  inputs_here :
-      (b : Bool) → is_input (operation_of next.operation) ≡ b →
-      inputs_in (flat (drop i qs))
-      ≡ one_more b (on_base (equation_of ticks next)) (inputs_in (flat later))
-  inputs_here true e =
-      ap (λ rs. inputs_in (flat rs)) (here_is i d qs lt)
-      ∙ ap (λ x. map on_base (one_more x (equation_of ticks next) (inputs_of later))) e
-  inputs_here false e =
-      ap (λ rs. inputs_in (flat rs)) (here_is i d qs lt)
-      ∙ ap (λ x. map on_base (one_more x (equation_of ticks next) (inputs_of later))) e
+    inputs_here :
+        (b : Bool) → is_input (operation_of next.operation) ≡ b →
+        inputs_in (flat (drop i qs))
+        ≡ one_more b (on_base (equation_of clocks next)) (inputs_in (flat later))
+    inputs_here true e =
+        ap (λ rs. inputs_in (flat rs)) (here_is i d qs lt)
+        ∙ ap (λ x. map on_base (one_more x (equation_of clocks next) (inputs_of later))) e
+    inputs_here false e =
+        ap (λ rs. inputs_in (flat rs)) (here_is i d qs lt)
+        ∙ ap (λ x. map on_base (one_more x (equation_of clocks next) (inputs_of later))) e
 
-  later_place : (steps : List Equation) → length steps ≡ 0 + length (flat steps)
-  later_place steps = omega (arith, length-map steps (equation_of ticks))
+    later_place : (steps : List Equation) → length steps ≡ 0 + length (flat steps)
+    later_place steps = omega (arith, length-map steps (equation_of clocks))
 
-  module _ (size : ℕ) (inputs : List InputPlace) (steps : List Equation) (memories : List ℕ)
-      (h : AreApart size ticks qs i inputs steps memories) where
-    pub input_put :
-        (j : InputId) → next.operation ≡ Input j → IsWithin size ticks next →
-        AreApart size ticks qs (i + 1) (inputs ++ record { element = next.element; input = j } ∷ [])
-        steps memories
-    input_put j is within =
-        let p : InputPlace = record { element = next.element; input = j } in
-        let yes = ap (λ o. is_input (operation_of o)) is in
-        let same : place_equation p ≡ on_base (equation_of ticks next) =
-        sym (ap (λ o. on_base (equation_of ticks
-        (record { element = next.element; clock = next.clock; operation = o }))) is) in
-        record {
-          inputs_are =
-              ap (λ xs. xs ++ inputs_in (flat later)) (map_push place_equation inputs p)
-              ∙ append_assoc (map place_equation inputs) (place_equation p ∷ [])
-              (inputs_in (flat later))
-              ∙ ap (λ x. map place_equation inputs ++ x ∷ inputs_in (flat later)) same
-              ∙ ap (λ xs. map place_equation inputs ++ xs) (sym (inputs_here true yes))
-              ∙ h.inputs_are;
-          places = All-push (λ (p : InputPlace). p.element.0 < size) inputs p h.places
-              within.element;
-          steps_are =
-              ap (λ xs. flat steps ++ xs) (sym (steps_here false
-              (ap (λ b. not (b || is_fixed (clock_of ticks next.clock)
-              (operation_of next.operation))) yes)))
-              ∙ h.steps_are;
-          within = h.within;
-          memories_are = h.memories_are;
-        }
+    module _ (size : ℕ) (inputs : List InputPlace) (steps : List Equation) (memories : List ℕ)
+        (h : AreApart size clocks qs i inputs steps memories) where
+      pub input_put :
+          (j : InputId) → next.operation ≡ Input j → IsWithin size clocks next →
+          AreApart size clocks qs (i + 1)
+          (inputs ++ record { element = next.element; input = j } ∷ [])
+          steps memories
+      input_put j is within =
+          let p : InputPlace = record { element = next.element; input = j } in
+          let yes = ap (λ o. is_input (operation_of o)) is in
+          let same : place_equation p ≡ on_base (equation_of clocks next) =
+          sym (ap (λ o. on_base (equation_of clocks
+          (record { element = next.element; clock = next.clock; operation = o }))) is) in
+          record {
+            inputs_are =
+                ap (λ xs. xs ++ inputs_in (flat later)) (map_push place_equation inputs p)
+                ∙ append_assoc (map place_equation inputs) (place_equation p ∷ [])
+                (inputs_in (flat later))
+                ∙ ap (λ x. map place_equation inputs ++ x ∷ inputs_in (flat later)) same
+                ∙ ap (λ xs. map place_equation inputs ++ xs) (sym (inputs_here true yes))
+                ∙ h.inputs_are;
+            places = All-push (λ (p : InputPlace). p.element.0 < size) inputs p h.places
+                within.element;
+            steps_are =
+                ap (λ xs. flat steps ++ xs) (sym (steps_here false
+                (ap (λ b. not (b || is_fixed (clock_of clocks next.clock)
+                (operation_of next.operation))) yes)))
+                ∙ h.steps_are;
+            within = h.within;
+            memories_are = h.memories_are;
+          }
 
-    pub step_put :
-        (more : List ℕ) → ((j : InputId) → next.operation ≡ Input j → ⊥) →
-        is_step (equation_of ticks next) ≡ true → IsWithin size ticks next →
-        more ≡ memories ++ place_of_memory (has_memory (operation_of next.operation)) (length steps)
-        →
-        AreApart size ticks qs (i + 1) inputs (steps ++ next ∷ []) more
-    step_put more never e within grown = record {
-      inputs_are =
-          ap (λ xs. map place_equation inputs ++ xs)
-          (sym (inputs_here false (not_input next.operation never))) ∙ h.inputs_are;
-      places = h.places;
-      steps_are =
-          ap (λ xs. xs ++ steps_in (flat later)) (map_push (equation_of ticks) steps next)
-          ∙ append_assoc (flat steps) (equation_of ticks next ∷ []) (steps_in (flat later))
-          ∙ ap (λ xs. flat steps ++ xs) (sym (steps_here true e)) ∙ h.steps_are;
-      within = All-push (IsWithin size ticks) steps next h.within within;
-      memories_are =
-          grown
-          ∙ ap (λ ks. ks ++ place_of_memory (has_memory (operation_of next.operation))
-          (length steps))
-          h.memories_are
-          ∙ ap (λ k. memory_places 0 (flat steps)
-          ++ place_of_memory (has_memory (operation_of next.operation)) k)
-          (later_place steps)
-          ∙ sym (memory_places_more 0 (flat steps) (equation_of ticks next))
-          ∙ ap (memory_places 0) (sym (map_push (equation_of ticks) steps next));
-    }
+      pub step_put :
+          (more : List ℕ) → ((j : InputId) → next.operation ≡ Input j → ⊥) →
+          is_step (equation_of clocks next) ≡ true → IsWithin size clocks next →
+          more ≡ memories ++ place_of_memory (has_memory (operation_of next.operation)) (length steps)
+          →
+          AreApart size clocks qs (i + 1) inputs (steps ++ next ∷ []) more
+      step_put more never e within grown = record {
+        inputs_are =
+            ap (λ xs. map place_equation inputs ++ xs)
+            (sym (inputs_here false (not_input next.operation never))) ∙ h.inputs_are;
+        places = h.places;
+        steps_are =
+            ap (λ xs. xs ++ steps_in (flat later)) (map_push (equation_of clocks) steps next)
+            ∙ append_assoc (flat steps) (equation_of clocks next ∷ []) (steps_in (flat later))
+            ∙ ap (λ xs. flat steps ++ xs) (sym (steps_here true e)) ∙ h.steps_are;
+        within = All-push (IsWithin size clocks) steps next h.within within;
+        memories_are =
+            grown
+            ∙ ap (λ ks. ks ++ place_of_memory (has_memory (operation_of next.operation))
+            (length steps))
+            h.memories_are
+            ∙ ap (λ k. memory_places 0 (flat steps)
+            ++ place_of_memory (has_memory (operation_of next.operation)) k)
+            (later_place steps)
+            ∙ sym (memory_places_more 0 (flat steps) (equation_of clocks next))
+            ∙ ap (memory_places 0) (sym (map_push (equation_of clocks) steps next));
+      }
 
-    pub constant_passed_over :
-        ((j : InputId) → next.operation ≡ Input j → ⊥) →
-        is_step (equation_of ticks next) ≡ false →
-        AreApart size ticks qs (i + 1) inputs steps memories
-    constant_passed_over never e = record {
-      inputs_are =
-          ap (λ xs. map place_equation inputs ++ xs)
-          (sym (inputs_here false (not_input next.operation never))) ∙ h.inputs_are;
-      places = h.places;
-      steps_are = ap (λ xs. flat steps ++ xs) (sym (steps_here false e)) ∙ h.steps_are;
-      within = h.within;
-      memories_are = h.memories_are;
-    }
+      pub constant_passed_over :
+          ((j : InputId) → next.operation ≡ Input j → ⊥) →
+          is_step (equation_of clocks next) ≡ false →
+          AreApart size clocks qs (i + 1) inputs steps memories
+      constant_passed_over never e = record {
+        inputs_are =
+            ap (λ xs. map place_equation inputs ++ xs)
+            (sym (inputs_here false (not_input next.operation never))) ∙ h.inputs_are;
+        places = h.places;
+        steps_are = ap (λ xs. flat steps ++ xs) (sym (steps_here false e)) ∙ h.steps_are;
+        within = h.within;
+        memories_are = h.memories_are;
+      }
 
-  fixed_here :
-      (b : Bool) → is_fixed (clock_of ticks next.clock) (operation_of next.operation) ≡ b →
-      fixed_in (flat (drop i qs)) ≡ one_more b (equation_of ticks next) (fixed_in (flat later))
-  fixed_here b e =
-      ap (λ rs. fixed_in (flat rs)) (here_is i d qs lt)
-      ∙ ap (λ x. one_more x (equation_of ticks next) (fixed_in (flat later))) e
+    fixed_here :
+        (b : Bool) → is_fixed (clock_of clocks next.clock) (operation_of next.operation) ≡ b →
+        fixed_in (flat (drop i qs)) ≡ one_more b (equation_of clocks next) (fixed_in (flat later))
+    fixed_here b e =
+        ap (λ rs. fixed_in (flat rs)) (here_is i d qs lt)
+        ∙ ap (λ x. one_more x (equation_of clocks next) (fixed_in (flat later))) e
 
-  pub constant_set :
-      (row : List Cell) (c : Cell) (all : Row) →
-      is_fixed (clock_of ticks next.clock) (operation_of next.operation) ≡ true →
-      cell_of c
-      ≡ now [] (map cell_of row) (clock_of ticks next.clock) (operation_of next.operation) →
-      filled [] (map cell_of row) (fixed_in (flat (drop i qs))) ≡ all →
-      filled [] (map cell_of (set row next.element.0 c)) (fixed_in (flat later)) ≡ all
-  constant_set row c all e is h =
-      ap (λ r. filled [] r (fixed_in (flat later)))
-      (map-set row next.element.0 c ∙ ap (set (map cell_of row) next.element.0) is)
-      ∙ ap (filled [] (map cell_of row)) (sym (fixed_here true e)) ∙ h
+    pub constant_set :
+        (row : List Cell) (c : Cell) (all : Row) →
+        is_fixed (clock_of clocks next.clock) (operation_of next.operation) ≡ true →
+        cell_of c
+        ≡ now [] (map cell_of row) (clock_of clocks next.clock) (operation_of next.operation) →
+        filled [] (map cell_of row) (fixed_in (flat (drop i qs))) ≡ all →
+        filled [] (map cell_of (set row next.element.0 c)) (fixed_in (flat later)) ≡ all
+    constant_set row c all e is h =
+        ap (λ r. filled [] r (fixed_in (flat later)))
+        (map-set row next.element.0 c ∙ ap (set (map cell_of row) next.element.0) is)
+        ∙ ap (filled [] (map cell_of row)) (sym (fixed_here true e)) ∙ h
 
-  pub constant_passed :
-      (row : List Cell) (all : Row) →
-      is_fixed (clock_of ticks next.clock) (operation_of next.operation) ≡ false →
-      filled [] (map cell_of row) (fixed_in (flat (drop i qs))) ≡ all →
-      filled [] (map cell_of row) (fixed_in (flat later)) ≡ all
-  constant_passed row all e h =
-      ap (filled [] (map cell_of row)) (sym (fixed_here false e)) ∙ h
+    pub constant_passed :
+        (row : List Cell) (all : Row) →
+        is_fixed (clock_of clocks next.clock) (operation_of next.operation) ≡ false →
+        filled [] (map cell_of row) (fixed_in (flat (drop i qs))) ≡ all →
+        filled [] (map cell_of row) (fixed_in (flat later)) ≡ all
+    constant_passed row all e h =
+        ap (filled [] (map cell_of row)) (sym (fixed_here false e)) ∙ h

@@ -10,7 +10,7 @@ use Rattle.lb_syntax.specs.declared.tree.Kind.TheVariants.{Int, Bool}
 use Rattle.lb_syntax.specs.Lists.{Every, zip2}
 use Rattle.lb_static.specs.Arithmetic.{is_int}
 use Rattle.lb_static.specs.Instances.{Program}
-use Rattle.lb_static.specs.Shapes.{signature}
+use Rattle.lb_static.specs.DataTypes.{signature}
 use Rattle.lb_static.specs.Signature.{Elements, kinds_of}
 use Rattle.lb_check.specs.declared.verdict.Verdict.{Verdict}
 use Rattle.lb_check.specs.Scalars as scalars

@@ -6,7 +6,7 @@ use Rattle.lb_syntax.specs.declared.tree.Kind.{Kind}
 use Rattle.lb_syntax.specs.Lists.{Every, either_or, listed}
 use Rattle.lb_syntax.specs.Tree.{Name, Declaration}
 use Rattle.lb_static.specs.Instances.{Program, Instance, Root, instance_at}
-use Rattle.lb_static.specs.Shapes.{Shape, width, shape_of, element_count, product, element_names, index_text, scalar_elements, signature, input_kinds}
+use Rattle.lb_static.specs.DataTypes.{DataType, width, variable_type, element_count, product, element_names, index_text, scalar_elements, signature, input_kinds}
 use Rattle.lb_flat.specs.Layouts.{Layout}
 use Rattle.lb_flat.specs.Emit.{targets, input_targets}
 use Rattle.lb_flat.proofs.OutputWidths.{length-range}
@@ -20,7 +20,7 @@ names_count x (n ∷ ns) =
     (λ i lt. names_count (x ++ index_text (0 + i)) ns)
 
 elements_count :
-    (x : Name) (o : Option Shape) →
+    (x : Name) (o : Option DataType) →
     length {A = Name × Kind} (listed (λ t. map (λ y. (y, t.kind)) (element_names x t.sizes)) o)
     ≡ either_or (option_map element_count o) 0
 elements_count x None = refl
@@ -29,7 +29,7 @@ elements_count x (Some t) = length-map (element_names x t.sizes) _ ∙ names_cou
 scalars_count :
     (P : Program) (here : Instance) (d : Declaration) →
     length (scalar_elements P here d) ≡ width P here d
-scalars_count P here d = elements_count d.name (shape_of P here d)
+scalars_count P here d = elements_count d.name (variable_type P here d)
 
 pub pieces_count :
     {A B C : Type 0} (f : A → List B) (g : A → List C) (xs : List A) →

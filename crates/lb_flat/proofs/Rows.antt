@@ -3,7 +3,7 @@ use Rattle.std.proofs.Common.{◌≡◌, ℕ, suc, ◌<◌, ◌≤◌, true, fal
 use Rattle.std.proofs.lemmas.List.{get_or-set_same, get_or-set_other, length-replicate}
 use Rattle.lb_syntax.specs.Lists.{Every, In}
 use Rattle.lb_check.specs.Scalars.{Scalar, Cell, two_scalars, one_scalar}
-use Rattle.lb_check.specs.Streams.{held, one_cell, two_cells, kept, shows, newest}
+use Rattle.lb_check.specs.Streams.{held, one_cell, two_cells, sample, shows, newest}
 use Rattle.lb_flat.specs.Flat.{FlatClock, Always, Where, Operation, Input, Constant, Copy, ApplyUnary, ApplyBinary, Choose, FirstThen, Previous, Latest, Sample, FlatEquation}
 use Rattle.lb_flat.specs.Run.{Row, cell, is_now, chosen_cell, now, clock_reads, reads, IsNext, Ready, filled, row_of}
 use Rattle.lb_flat.proofs.Lists.{Every-first, Every-second}
@@ -44,7 +44,7 @@ module _ (done : List ℕ) (r s : Row) (same : AreSame done r s) where
   now_same given k (FirstThen false a b) c h = same a h.0
   now_same given k (Previous v a) c h = ap (held v) (is_now_same k c)
   now_same given k (Latest v a) c h = ap₂ held (ap (newest v) (same a h.0)) (is_now_same k c)
-  now_same given k (Sample a) c h = ap₂ kept (is_now_same k c) (same a h.0)
+  now_same given k (Sample a) c h = ap₂ sample (is_now_same k c) (same a h.0)
 
   next_same :
       (given : List Scalar) (size : ℕ) (q : FlatEquation) → IsNext size done q →

@@ -1,25 +1,25 @@
--- What the walk up two clocks says of them.
+-- What the climb up two clocks says of them.
 use Rattle.std.proofs.Common.{◌≡◌, ◌<◌, ◌≤◌, ℕ, suc, ◌+◌, ◌-◌, Bool, true, false, not, Option, Some, None, List, length, refl, sym, ap, ◌∙◌, arith}
 use mathlib.Core.Bool.{beq, true≢false}
-use Rattle.lb_flat.specs.declared.equation.TickId.{TickId}
-use Rattle.lb_flat.specs.declared.equation.Tick.{Tick}
+use Rattle.lb_flat.specs.declared.equation.ClockId.{ClockId}
+use Rattle.lb_flat.specs.declared.equation.Clock.{Clock}
 use Rattle.lb_flat.specs.Flat.{FlatClock, Always, Where}
-use Rattle.lb_flat.specs.Ordering.{tick_at}
+use Rattle.lb_flat.specs.Ordering.{clock_at}
 use Rattle.lb_flat.specs.Values.{clock_within, clock_from, clock_of}
 
 clock_step :
-    (ticks : List Tick) (n : ℕ) (k : Option TickId) →
-    clock_within (suc n) ticks k ≡ clock_from (clock_within n ticks) (tick_at ticks k)
-clock_step ticks n None = refl
-clock_step ticks n (Some id) = refl
+    (clocks : List Clock) (n : ℕ) (k : Option ClockId) →
+    clock_within (suc n) clocks k ≡ clock_from (clock_within n clocks) (clock_at clocks k)
+clock_step clocks n None = refl
+clock_step clocks n (Some id) = refl
 
-none_deep : (ticks : List Tick) (k : Option TickId) → clock_within 0 ticks k ≡ Always
-none_deep ticks None = refl
-none_deep ticks (Some id) = refl
+none_deep : (clocks : List Clock) (k : Option ClockId) → clock_within 0 clocks k ≡ Always
+none_deep clocks None = refl
+none_deep clocks (Some id) = refl
 
 -- ## Clocks of one tick more
 
-module _ (k l : FlatClock) (x y : Tick) where
+module _ (k l : FlatClock) (x y : Clock) where
   same_above :
       k ≡ l → x.element.0 ≡ y.element.0 → x.sign ≡ y.sign →
       Where k x.element.0 x.sign ≡ Where l y.element.0 y.sign
@@ -35,7 +35,7 @@ module _ (k l : FlatClock) (x y : Tick) where
   signs_alike : Where k x.element.0 x.sign ≡ Where l y.element.0 y.sign → x.sign ≡ y.sign
   signs_alike same = cc
 
-always_where : (k : FlatClock) (x : Tick) → Always ≡ Where k x.element.0 x.sign → ⊥
+always_where : (k : FlatClock) (x : Clock) → Always ≡ Where k x.element.0 x.sign → ⊥
 always_where k x same = cc
 
 -- ## The test of signs
@@ -55,96 +55,96 @@ signs_apart false false h e = true≢false (sym h)
 -- ## Two clocks
 
 -- the rests of two clocks are the same exactly where the clocks are
-pub record IsWalk (ticks : List Tick) (one other rest_one rest_other : Option TickId)
+pub record IsClimb (clocks : List Clock) (one other rest_one rest_other : Option ClockId)
     (depth : ℕ) : Type 0 where
   pub up :
-      (n : ℕ) → n + depth ≡ length ticks →
-      clock_within n ticks rest_one ≡ clock_within n ticks rest_other →
-      clock_of ticks one ≡ clock_of ticks other
+      (n : ℕ) → n + depth ≡ length clocks →
+      clock_within n clocks rest_one ≡ clock_within n clocks rest_other →
+      clock_of clocks one ≡ clock_of clocks other
   pub down :
-      (n : ℕ) → n + depth ≡ length ticks → clock_of ticks one ≡ clock_of ticks other →
-      clock_within n ticks rest_one ≡ clock_within n ticks rest_other
+      (n : ℕ) → n + depth ≡ length clocks → clock_of clocks one ≡ clock_of clocks other →
+      clock_within n clocks rest_one ≡ clock_within n clocks rest_other
 
-module _ (ticks : List Tick) (one other rest_one rest_other : Option TickId) (depth : ℕ)
-    (h : IsWalk ticks one other rest_one rest_other depth) where
+module _ (clocks : List Clock) (one other rest_one rest_other : Option ClockId) (depth : ℕ)
+    (h : IsClimb clocks one other rest_one rest_other depth) where
   pub ends_past :
-      length ticks ≤ depth → depth ≤ length ticks → clock_of ticks one ≡ clock_of ticks other
+      length clocks ≤ depth → depth ≤ length clocks → clock_of clocks one ≡ clock_of clocks other
   ends_past le ge =
-      h.up 0 (omega arith) (none_deep ticks rest_one ∙ sym (none_deep ticks rest_other))
+      h.up 0 (omega arith) (none_deep clocks rest_one ∙ sym (none_deep clocks rest_other))
 
   -- the rests, one clock further up
-  module _ (lt : depth < length ticks) (x y : Option Tick) (at_one : tick_at ticks rest_one ≡ x)
-      (at_other : tick_at ticks rest_other ≡ y) where
+  module _ (lt : depth < length clocks) (x y : Option Clock) (at_one : clock_at clocks rest_one ≡ x)
+      (at_other : clock_at clocks rest_other ≡ y) where
     step_one : (n : ℕ) →
-        clock_within (suc n) ticks rest_one ≡ clock_from (clock_within n ticks) x
-    step_one n = clock_step ticks n rest_one ∙ ap (clock_from (clock_within n ticks)) at_one
+        clock_within (suc n) clocks rest_one ≡ clock_from (clock_within n clocks) x
+    step_one n = clock_step clocks n rest_one ∙ ap (clock_from (clock_within n clocks)) at_one
 
     step_other : (n : ℕ) →
-        clock_within (suc n) ticks rest_other ≡ clock_from (clock_within n ticks) y
-    step_other n = clock_step ticks n rest_other ∙ ap (clock_from (clock_within n ticks)) at_other
+        clock_within (suc n) clocks rest_other ≡ clock_from (clock_within n clocks) y
+    step_other n = clock_step clocks n rest_other ∙ ap (clock_from (clock_within n clocks)) at_other
 
     pub above :
-        (n : ℕ) → n + (depth + 1) ≡ length ticks → clock_of ticks one ≡ clock_of ticks other →
-        clock_from (clock_within n ticks) x ≡ clock_from (clock_within n ticks) y
+        (n : ℕ) → n + (depth + 1) ≡ length clocks → clock_of clocks one ≡ clock_of clocks other →
+        clock_from (clock_within n clocks) x ≡ clock_from (clock_within n clocks) y
     above n count same = sym (step_one n) ∙ h.down (suc n) (omega arith) same ∙ step_other n
 
     pub below :
-        (n : ℕ) → n + (depth + 1) ≡ length ticks →
-        clock_from (clock_within n ticks) x ≡ clock_from (clock_within n ticks) y →
-        clock_of ticks one ≡ clock_of ticks other
+        (n : ℕ) → n + (depth + 1) ≡ length clocks →
+        clock_from (clock_within n clocks) x ≡ clock_from (clock_within n clocks) y →
+        clock_of clocks one ≡ clock_of clocks other
     below n count same =
         h.up (suc n) (omega arith) (step_one n ∙ same ∙ sym (step_other n))
 
-  module _ (lt : depth < length ticks) (x y : Tick) (at_one : tick_at ticks rest_one ≡ Some x)
-      (at_other : tick_at ticks rest_other ≡ Some y) where
+  module _ (lt : depth < length clocks) (x y : Clock) (at_one : clock_at clocks rest_one ≡ Some x)
+      (at_other : clock_at clocks rest_other ≡ Some y) where
     pub goes_on :
         x.element.0 ≡ y.element.0 → x.sign ≡ y.sign →
-        IsWalk ticks one other x.parent y.parent (depth + 1)
+        IsClimb clocks one other x.parent y.parent (depth + 1)
     goes_on element sign = record {
       up = λ n count same.
           below lt (Some x) (Some y) at_one at_other n count
-          (same_above (clock_within n ticks x.parent) (clock_within n ticks y.parent) x y same
+          (same_above (clock_within n clocks x.parent) (clock_within n clocks y.parent) x y same
           element sign);
       down = λ n count same.
-          rests_alike (clock_within n ticks x.parent) (clock_within n ticks y.parent) x y
+          rests_alike (clock_within n clocks x.parent) (clock_within n clocks y.parent) x y
           (above lt (Some x) (Some y) at_one at_other n count same);
     }
 
     pub elements_differ :
-        (x.element.0 ≡ y.element.0 → ⊥) → clock_of ticks one ≡ clock_of ticks other → ⊥
+        (x.element.0 ≡ y.element.0 → ⊥) → clock_of clocks one ≡ clock_of clocks other → ⊥
     elements_differ differ same =
-        let n = length ticks - (depth + 1) in
+        let n = length clocks - (depth + 1) in
         differ
-        (elements_alike (clock_within n ticks x.parent) (clock_within n ticks y.parent) x y
+        (elements_alike (clock_within n clocks x.parent) (clock_within n clocks y.parent) x y
         (above lt (Some x) (Some y) at_one at_other n (omega arith) same))
 
     pub signs_differ :
-        (x.sign ≡ y.sign → ⊥) → clock_of ticks one ≡ clock_of ticks other → ⊥
+        (x.sign ≡ y.sign → ⊥) → clock_of clocks one ≡ clock_of clocks other → ⊥
     signs_differ differ same =
-        let n = length ticks - (depth + 1) in
+        let n = length clocks - (depth + 1) in
         differ
-        (signs_alike (clock_within n ticks x.parent) (clock_within n ticks y.parent) x y
+        (signs_alike (clock_within n clocks x.parent) (clock_within n clocks y.parent) x y
         (above lt (Some x) (Some y) at_one at_other n (omega arith) same))
 
-  module _ (lt : depth < length ticks) where
+  module _ (lt : depth < length clocks) where
     pub ends_both :
-        tick_at ticks rest_one ≡ None → tick_at ticks rest_other ≡ None →
-        clock_of ticks one ≡ clock_of ticks other
+        clock_at clocks rest_one ≡ None → clock_at clocks rest_other ≡ None →
+        clock_of clocks one ≡ clock_of clocks other
     ends_both at_one at_other =
-        below lt None None at_one at_other (length ticks - (depth + 1)) (omega arith) refl
+        below lt None None at_one at_other (length clocks - (depth + 1)) (omega arith) refl
 
     pub one_ends :
-        (y : Tick) → tick_at ticks rest_one ≡ None → tick_at ticks rest_other ≡ Some y →
-        clock_of ticks one ≡ clock_of ticks other → ⊥
+        (y : Clock) → clock_at clocks rest_one ≡ None → clock_at clocks rest_other ≡ Some y →
+        clock_of clocks one ≡ clock_of clocks other → ⊥
     one_ends y at_one at_other same =
-        let n = length ticks - (depth + 1) in
-        always_where (clock_within n ticks y.parent) y
+        let n = length clocks - (depth + 1) in
+        always_where (clock_within n clocks y.parent) y
         (above lt None (Some y) at_one at_other n (omega arith) same)
 
     pub other_ends :
-        (x : Tick) → tick_at ticks rest_one ≡ Some x → tick_at ticks rest_other ≡ None →
-        clock_of ticks one ≡ clock_of ticks other → ⊥
+        (x : Clock) → clock_at clocks rest_one ≡ Some x → clock_at clocks rest_other ≡ None →
+        clock_of clocks one ≡ clock_of clocks other → ⊥
     other_ends x at_one at_other same =
-        let n = length ticks - (depth + 1) in
-        always_where (clock_within n ticks x.parent) x
+        let n = length clocks - (depth + 1) in
+        always_where (clock_within n clocks x.parent) x
         (sym (above lt (Some x) None at_one at_other n (omega arith) same))

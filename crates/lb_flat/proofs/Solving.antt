@@ -9,7 +9,7 @@ use Rattle.lb_syntax.specs.declared.tree.Kind.TheVariants.{Int, Bool as Truth}
 use Rattle.lb_syntax.specs.Lists.{Every, In}
 use Rattle.lb_syntax.specs.Tree.{Name, Declaration}
 use Rattle.lb_static.specs.Instances.{Program, Instance, Path, Root, Observer, instances}
-use Rattle.lb_static.specs.Shapes.{variables, width, input_kinds}
+use Rattle.lb_static.specs.DataTypes.{variables, width, input_kinds}
 use Rattle.lb_check.specs.Scalars.{Integer, Boolean, Bad, Stream}
 use Rattle.lb_check.specs.Clocks.{declared_clock}
 use Rattle.lb_check.specs.Solutions.{Inputs, fits, is_row, Fits, SolvesAt, Solves}
@@ -162,7 +162,7 @@ module _ (P : Program) (Y : Layout) (count : ℕ) (K : ℕ → FlatClock) (N : �
       elements_fit k kind bs e is h.1,
     )
 
-    -- each variable has its shape, and is present on its clock with scalars of its kind
+    -- each variable has its type, and is present on its clock with scalars of its kind
     pub variable_fits :
         (here : Instance) (d : Declaration) →
         IsVariablePlaced Y P K N (expanded Y P count).size here d →

@@ -4,9 +4,9 @@ use Rattle.std.specs.List.{list_all}
 use Rattle.lb_syntax.specs.Lists.{Every, all_some}
 use Rattle.lb_syntax.specs.Tree.{Node_named, Expr, Call, Iterate, Node, Statement, Equation, Assertion}
 use Rattle.lb_static.specs.Instances.{Program, Instance, Child, node_named}
-use Rattle.lb_static.specs.Shapes.{Shape, truth, variables}
-use Rattle.lb_check.specs.Types.{shapes}
-use Rattle.lb_check.specs.TypeRules.{declared_shape, is_clock_typed, is_statement_typed, is_typed}
+use Rattle.lb_static.specs.DataTypes.{DataType, truth, variables}
+use Rattle.lb_check.specs.Types.{data_types}
+use Rattle.lb_check.specs.TypeRules.{type_of_name, is_clock_typed, is_statement_typed, is_typed}
 use Rattle.lb_check.specs.Clocks.{Clock, base_clock}
 use Rattle.lb_check.specs.Occurrences.{Occurrence, call_count, call_clocks, occurrences, occurrences_each, statement_clock, right_sides, node_occurrences}
 use Rattle.lb_check.specs.Streams.{History, number}
@@ -14,7 +14,7 @@ use Rattle.lb_flat.specs.Layouts.{Layout, flat_clock}
 use Rattle.lb_flat.proofs.Lists.{Every-map, Every-both, Every-append, Every-first, Every-second}
 use Rattle.lb_flat.proofs.Placing.{IsCallPlaced, IsIteratorPlaced, IsPlacedAt, IsPlaced}
 use Rattle.lb_flat.proofs.Bodies.{IsSound, occurrences_of}
-use Rattle.lb_flat.proofs.ShapeFacts.{and_first, and_second}
+use Rattle.lb_flat.proofs.TypeFacts.{and_first, and_second}
 use Rattle.lb_flat.proofs.Widths.{AreVariablesWide, IsOccurrenceWide}
 use Rattle.lb_flat.proofs.TypedBodies.{Typed, typed_same, body_wide}
 use Rattle.lb_flat.proofs.TypedParts.{IsTypedAt, typed}
@@ -39,7 +39,7 @@ module _ (Y : Layout) (P : Program) (H : History) (here : Instance) where
 
   module _ (variables_wide : AreVariablesWide P H here here) where
     call_placed :
-        (k : Clock) (n : ℕ) (e : Expr) (ts : List Shape) → shapes P here e ≡ Some ts →
+        (k : Clock) (n : ℕ) (e : Expr) (ts : List DataType) → data_types P here e ≡ Some ts →
         RunAt k n e → AllWide (occurrences P here.node k n e) → IsPlacedAt Y P H here k n e
     call_placed k n (Call f statics es) ts e runs w = by (node_named P f) refl
       where
@@ -73,7 +73,7 @@ module _ (Y : Layout) (P : Program) (H : History) (here : Instance) where
     -- ## Statements
 
     statement_typed :
-        (e : Expr) (lefts : Option (List Shape)) (k : Clock) (n : ℕ) →
+        (e : Expr) (lefts : Option (List DataType)) (k : Clock) (n : ℕ) →
         Typed P H here variables_wide e lefts → AllWide (occurrences P here.node k n e) →
         Every (IsTypedAt P H here) (occurrences P here.node k n e)
     statement_typed e lefts k n t w = typed P H here k n e t.right t.is_right w
@@ -90,8 +90,8 @@ module _ (Y : Layout) (P : Program) (H : History) (here : Instance) where
         let ob = occurrences_of P here.node (right_sides P here.node m rest) in
         let first = is_statement_typed P here (Equation lefts e) in
         let others = list_all (is_statement_typed P here) rest in
-        let left = all_some (map (declared_shape P here) lefts) in
-        let t = typed_same P H here variables_wide e left (shapes P here e) refl
+        let left = all_some (map (type_of_name P here) lefts) in
+        let t = typed_same P H here variables_wide e left (data_types P here e) refl
         (and_first first others h) in
         Every-append (IsTypedAt P H here) oa ob
         (statement_typed e left k n t (Every-first (IsOccurrenceWide P H here) oa ob w))
@@ -104,7 +104,7 @@ module _ (Y : Layout) (P : Program) (H : History) (here : Instance) where
         let ob = occurrences_of P here.node (right_sides P here.node m rest) in
         let first = is_statement_typed P here (Assertion e) in
         let others = list_all (is_statement_typed P here) rest in
-        let t = typed_same P H here variables_wide e (Some (truth ∷ [])) (shapes P here e) refl
+        let t = typed_same P H here variables_wide e (Some (truth ∷ [])) (data_types P here e) refl
         (and_first first others h) in
         Every-append (IsTypedAt P H here) oa ob
         (statement_typed e (Some (truth ∷ [])) k n t

@@ -3,7 +3,7 @@
 use Rattle.std.proofs.Common.{◌≡◌, ℕ, zero, suc, true, false, ◌&&◌, Some, None, List, [], ◌∷◌, map, length, refl, sym, ap, ap₂, ◌∙◌, arith}
 use Rattle.lb_syntax.specs.Lists.{Every, zip2, tail_of}
 use Rattle.lb_check.specs.Scalars.{Scalar, Cell, Stream, two_scalars, one_scalar}
-use Rattle.lb_check.specs.Streams.{constantly, along, along_two, choice, previous, first_then, kept, latest, shows, first_cell}
+use Rattle.lb_check.specs.Streams.{constantly, along, along_two, choice, previous, first_then, sample, latest, shows, first_cell}
 use Rattle.lb_check.specs.Solutions.{Inputs}
 use Rattle.lb_flat.specs.Flat.{FlatClock, Always, Where, Operation, Input, Constant, Copy, ApplyUnary, ApplyBinary, Choose, FirstThen, Previous, Latest, Sample, FlatEquation, column, instants, operate, Holds, AreLong}
 use Rattle.lb_flat.specs.Run.{Row, cell, is_now, now, started_by, remembered, advanced}
@@ -80,7 +80,7 @@ module _ (given : List Scalar) (X : Inputs) where
     operate_step k (Latest v a) =
         ap₂ (latest v) (instants_step k) (at a)
         ∙ latest_step v _ _ (cell (first_row F) a) _
-    operate_step k (Sample a) = ap₂ (zip2 kept) (instants_step k) (at a)
+    operate_step k (Sample a) = ap₂ (zip2 sample) (instants_step k) (at a)
 
     -- the equations hold now, and later
     pub record NowAndLater (Q : List FlatEquation) : Type 0 where

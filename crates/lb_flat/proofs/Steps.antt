@@ -13,11 +13,11 @@ use Rattle.lb_flat.specs.Judging.{some_in}
 use Rattle.lb_check.specs.Streams.{shows}
 use Rattle.lb_flat.specs.Run.{Row, cell, is_now, now, filled, remembered, advanced, reads, keeps}
 use Rattle.lb_flat.specs.declared.cell.Cell.{Cell}
-use Rattle.lb_flat.specs.declared.equation.TickId.{TickId}
-use Rattle.lb_flat.specs.declared.equation.Tick.{Tick}
+use Rattle.lb_flat.specs.declared.equation.ClockId.{ClockId}
+use Rattle.lb_flat.specs.declared.equation.Clock.{Clock}
 use Rattle.lb_flat.specs.declared.equation.Operation.{Operation}
 use Rattle.lb_flat.specs.declared.equation.Equation.{Equation}
-use Rattle.lb_flat.specs.Within.{IsClock, AreTicks, IsWithin}
+use Rattle.lb_flat.specs.Within.{IsClock, AreClocks, IsWithin}
 use Rattle.lb_flat.specs.Flat.{FlatEquation}
 use Rattle.lb_flat.specs.Prepared.{memory_places}
 use Rattle.lb_flat.proofs.Memories.{moved, all_moved, moved_is, memories_moved, places_within, every_at}
@@ -36,72 +36,72 @@ and_true false = refl
 
 -- one clock further up
 pub is_now_step :
-    (row : Row) (ticks : List Tick) (n : ℕ) (id : TickId) (d : Tick) → id.0 < length ticks →
-    is_now row (clock_within (suc n) ticks (Some id))
-    ≡ (is_now row (clock_within n ticks (get_or ticks id.0 d).parent)
-    && shows (get_or ticks id.0 d).sign (cell row (get_or ticks id.0 d).element.0))
-is_now_step row ticks n id d lt =
-    ap (λ t. is_now row (clock_from (clock_within n ticks) t)) (slice_get-get_or ticks id.0 d lt)
+    (row : Row) (clocks : List Clock) (n : ℕ) (id : ClockId) (d : Clock) → id.0 < length clocks →
+    is_now row (clock_within (suc n) clocks (Some id))
+    ≡ (is_now row (clock_within n clocks (get_or clocks id.0 d).parent)
+    && shows (get_or clocks id.0 d).sign (cell row (get_or clocks id.0 d).element.0))
+is_now_step row clocks n id d lt =
+    ap (λ t. is_now row (clock_from (clock_within n clocks) t)) (slice_get-get_or clocks id.0 d lt)
 
 base_is_now :
-    (row : Row) (ticks : List Tick) (n : ℕ) → is_now row (clock_within n ticks None) ≡ true
-base_is_now row ticks zero = refl
-base_is_now row ticks (suc n) = refl
+    (row : Row) (clocks : List Clock) (n : ℕ) → is_now row (clock_within n clocks None) ≡ true
+base_is_now row clocks zero = refl
+base_is_now row clocks (suc n) = refl
 
 all_is_now :
-    (row : Row) (ticks : List Tick) (rest : Option TickId) →
-    is_now row (clock_within 0 ticks rest) ≡ true
-all_is_now row ticks None = refl
-all_is_now row ticks (Some id) = refl
+    (row : Row) (clocks : List Clock) (rest : Option ClockId) →
+    is_now row (clock_within 0 clocks rest) ≡ true
+all_is_now row clocks None = refl
+all_is_now row clocks (Some id) = refl
 
-module _ (row : Row) (ticks : List Tick) (clock rest : Option TickId) (depth : ℕ)
-    (same : (n : ℕ) → n + depth ≡ length ticks →
-    is_now row (clock_within n ticks rest) ≡ is_now row (clock_of ticks clock)) where
+module _ (row : Row) (clocks : List Clock) (clock rest : Option ClockId) (depth : ℕ)
+    (same : (n : ℕ) → n + depth ≡ length clocks →
+    is_now row (clock_within n clocks rest) ≡ is_now row (clock_of clocks clock)) where
   pub ends_base :
-      depth < length ticks → rest ≡ None → true ≡ is_now row (clock_of ticks clock)
+      depth < length clocks → rest ≡ None → true ≡ is_now row (clock_of clocks clock)
   ends_base lt e =
-      let n = length ticks - depth in
-      sym (base_is_now row ticks n) ∙ ap (λ k. is_now row (clock_within n ticks k)) (sym e)
+      let n = length clocks - depth in
+      sym (base_is_now row clocks n) ∙ ap (λ k. is_now row (clock_within n clocks k)) (sym e)
       ∙ same n (omega arith)
 
-  pub ends_past : length ticks ≤ depth → depth ≤ length ticks →
-      true ≡ is_now row (clock_of ticks clock)
-  ends_past le ge = sym (all_is_now row ticks rest) ∙ same 0 (omega arith)
+  pub ends_past : length clocks ≤ depth → depth ≤ length clocks →
+      true ≡ is_now row (clock_of clocks clock)
+  ends_past le ge = sym (all_is_now row clocks rest) ∙ same 0 (omega arith)
 
-  module _ (id : TickId) (d : Tick) (e : rest ≡ Some id) (in_table : IsClock ticks rest)
-      (lt : depth < length ticks) where
-    within : id.0 < length ticks
+  module _ (id : ClockId) (d : Clock) (e : rest ≡ Some id) (in_table : IsClock clocks rest)
+      (lt : depth < length clocks) where
+    within : id.0 < length clocks
     within = in_table id e
 
     above :
-        (n : ℕ) → n + (depth + 1) ≡ length ticks →
-        (is_now row (clock_within n ticks (get_or ticks id.0 d).parent)
-        && shows (get_or ticks id.0 d).sign (cell row (get_or ticks id.0 d).element.0))
-        ≡ is_now row (clock_of ticks clock)
+        (n : ℕ) → n + (depth + 1) ≡ length clocks →
+        (is_now row (clock_within n clocks (get_or clocks id.0 d).parent)
+        && shows (get_or clocks id.0 d).sign (cell row (get_or clocks id.0 d).element.0))
+        ≡ is_now row (clock_of clocks clock)
     above n count =
-        sym (is_now_step row ticks n id d within)
-        ∙ ap (λ k. is_now row (clock_within (suc n) ticks k)) (sym e)
+        sym (is_now_step row clocks n id d within)
+        ∙ ap (λ k. is_now row (clock_within (suc n) clocks k)) (sym e)
         ∙ same (suc n) (omega arith)
 
     pub ends_hidden :
-        shows (get_or ticks id.0 d).sign (cell row (get_or ticks id.0 d).element.0) ≡ false →
-        false ≡ is_now row (clock_of ticks clock)
+        shows (get_or clocks id.0 d).sign (cell row (get_or clocks id.0 d).element.0) ≡ false →
+        false ≡ is_now row (clock_of clocks clock)
     ends_hidden hidden =
-        let n = length ticks - (depth + 1) in
-        let b = is_now row (clock_within n ticks (get_or ticks id.0 d).parent) in
+        let n = length clocks - (depth + 1) in
+        let b = is_now row (clock_within n clocks (get_or clocks id.0 d).parent) in
         sym (ap (λ c. b && c) hidden ∙ and_false b) ∙ above n (omega arith)
 
     pub parent_in_table :
-        (size : ℕ) → AreTicks size ticks → IsClock ticks (get_or ticks id.0 d).parent
+        (size : ℕ) → AreClocks size clocks → IsClock clocks (get_or clocks id.0 d).parent
     parent_in_table size table = (table id.0 d within).parent
 
     pub goes_on :
-        shows (get_or ticks id.0 d).sign (cell row (get_or ticks id.0 d).element.0) ≡ true →
-        (n : ℕ) → n + (depth + 1) ≡ length ticks →
-        is_now row (clock_within n ticks (get_or ticks id.0 d).parent)
-        ≡ is_now row (clock_of ticks clock)
+        shows (get_or clocks id.0 d).sign (cell row (get_or clocks id.0 d).element.0) ≡ true →
+        (n : ℕ) → n + (depth + 1) ≡ length clocks →
+        is_now row (clock_within n clocks (get_or clocks id.0 d).parent)
+        ≡ is_now row (clock_of clocks clock)
     goes_on shown n count =
-        let b = is_now row (clock_within n ticks (get_or ticks id.0 d).parent) in
+        let b = is_now row (clock_within n clocks (get_or clocks id.0 d).parent) in
         sym (ap (λ c. b && c) shown ∙ and_true b) ∙ above n count
 
 -- ## Computing
@@ -151,13 +151,13 @@ all_filled f given row first all i le h =
 -- ## Committing
 
 -- the memories at the rest of some places bring the steps where all bring the first ones
-pub record IsCommitting (ticks : List Tick) (row : List Cell) (steps first : List Equation)
+pub record IsCommitting (clocks : List Clock) (row : List Cell) (steps first : List Equation)
     (places : List ℕ) (i : ℕ) : Type 0 where
   pub rest :
-      all_moved (map cell_of row) (drop i places) (map (equation_of ticks) steps)
-      ≡ all_moved (map cell_of row) places (map (equation_of ticks) first)
+      all_moved (map cell_of row) (drop i places) (map (equation_of clocks) steps)
+      ≡ all_moved (map cell_of row) places (map (equation_of clocks) first)
 
-module _ (ticks : List Tick) (row : List Cell) (steps first : List Equation) (places : List ℕ)
+module _ (clocks : List Clock) (row : List Cell) (steps first : List Equation) (places : List ℕ)
     (i n : ℕ) (d : Equation) (o : Operation) (lt : i < length places) (at : n ≡ get_or places i 0)
     (there : n < length steps)
     (is_o : operation_of o
@@ -167,38 +167,38 @@ module _ (ticks : List Tick) (row : List Cell) (steps first : List Equation) (pl
   moved_on = record (get_or steps n d) { operation = o }
 
   pub within_step :
-      (size : ℕ) → All (IsWithin size ticks) steps →
-      All (IsWithin size ticks) (set steps n moved_on)
+      (size : ℕ) → All (IsWithin size clocks) steps →
+      All (IsWithin size clocks) (set steps n moved_on)
   within_step size w =
       let h = w n d there in
       let before = operation_of (get_or steps n d).operation in
-      All-set (IsWithin size ticks) steps n moved_on (record {
+      All-set (IsWithin size clocks) steps n moved_on (record {
         element = h.element;
         clock = h.clock;
         operands =
             subst (λ is. All (λ j. j < size) is)
             (sym (ap reads is_o ∙ reads_same (map cell_of row) before))
             h.operands;
-        kept =
+        memory_operands =
             subst (λ is. All (λ j. j < size) is)
             (sym (ap keeps is_o ∙ keeps_same (map cell_of row) before))
-            h.kept;
+            h.memory_operands;
       }) w
 
   pub commit_step :
-      IsCommitting ticks row steps first places i →
-      IsCommitting ticks row (set steps n moved_on) first places (i + 1)
+      IsCommitting clocks row steps first places i →
+      IsCommitting clocks row (set steps n moved_on) first places (i + 1)
   commit_step h = record {
     rest =
         ap (all_moved (map cell_of row) (drop (i + 1) places))
-        (moved_is (map cell_of row) (equation_of ticks) steps n d moved_on there
+        (moved_is (map cell_of row) (equation_of clocks) steps n d moved_on there
         (ap (λ x. record {
           element = (get_or steps n d).element.0;
-          clock = clock_of ticks (get_or steps n d).clock;
+          clock = clock_of clocks (get_or steps n d).clock;
           operation = x;
         }) is_o)
-        ∙ ap (λ k. moved (map cell_of row) k (map (equation_of ticks) steps)) at)
-        ∙ sym (ap (λ ns. all_moved (map cell_of row) ns (map (equation_of ticks) steps)) here)
+        ∙ ap (λ k. moved (map cell_of row) k (map (equation_of clocks) steps)) at)
+        ∙ sym (ap (λ ns. all_moved (map cell_of row) ns (map (equation_of clocks) steps)) here)
         ∙ h.rest;
   }
     where
@@ -207,25 +207,25 @@ module _ (ticks : List Tick) (row : List Cell) (steps first : List Equation) (pl
 
 -- a place of a memory is one of the steps
 pub places_there :
-    (ticks : List Tick) (steps : List Equation) (places : List ℕ) →
-    places ≡ memory_places 0 (map (equation_of ticks) steps) →
+    (clocks : List Clock) (steps : List Equation) (places : List ℕ) →
+    places ≡ memory_places 0 (map (equation_of clocks) steps) →
     All (λ n. n < length steps) places
-places_there ticks steps places e i d lt =
-    let Q = map (equation_of ticks) steps in
+places_there clocks steps places e i d lt =
+    let Q = map (equation_of clocks) steps in
     let within =
     every_at (λ k. k < 0 + length Q) places i d
     (subst (Every (λ k. k < 0 + length Q)) (sym e) (places_within 0 Q)) lt in
-    omega (arith, within, length-map steps (equation_of ticks))
+    omega (arith, within, length-map steps (equation_of clocks))
 
 pub all_committed :
-    (ticks : List Tick) (row : List Cell) (steps first : List Equation) (places : List ℕ)
-    (i : ℕ) → places ≡ memory_places 0 (map (equation_of ticks) first) → length places ≤ i →
-    IsCommitting ticks row steps first places i →
-    map (equation_of ticks) steps
-    ≡ map (advanced (map cell_of row)) (map (equation_of ticks) first)
-all_committed ticks row steps first places i e le h =
-    let Q = map (equation_of ticks) first in
-    sym (ap (λ ns. all_moved (map cell_of row) ns (map (equation_of ticks) steps))
+    (clocks : List Clock) (row : List Cell) (steps first : List Equation) (places : List ℕ)
+    (i : ℕ) → places ≡ memory_places 0 (map (equation_of clocks) first) → length places ≤ i →
+    IsCommitting clocks row steps first places i →
+    map (equation_of clocks) steps
+    ≡ map (advanced (map cell_of row)) (map (equation_of clocks) first)
+all_committed clocks row steps first places i e le h =
+    let Q = map (equation_of clocks) first in
+    sym (ap (λ ns. all_moved (map cell_of row) ns (map (equation_of clocks) steps))
     (drop_of_length-le places le))
     ∙ h.rest
     ∙ ap (λ ns. all_moved (map cell_of row) ns Q) e

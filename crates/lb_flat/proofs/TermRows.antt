@@ -12,14 +12,14 @@ use Rattle.lb_syntax.specs.declared.tree.UnaryOperator.{UnaryOperator}
 use Rattle.lb_syntax.specs.Lists.{either_or}
 use Rattle.lb_flat.specs.declared.plain.term.Variable.{Variable as Declared}
 use Rattle.lb_static.specs.declared.resolved.VariableId.{VariableId}
-use Rattle.lb_flat.specs.declared.plain.term.Step.{Step}
+use Rattle.lb_flat.specs.declared.plain.term.PlainStatement.{PlainStatement}
 use Rattle.lb_flat.specs.declared.plain.term.Term.{Term, Unary, Binary, If, Arrow, Fby, Pre, AtMostOne, Nor, AtMostOne', Nor', Row_of-Term, end_of-Term, more_of-Term, items-the_row-Term, items_hidden-the_row-Term-0}
-use Rattle.lb_flat.specs.PlainNodes.{is_place, is_step_within, is_within, are_within}
+use Rattle.lb_flat.specs.PlainNodes.{is_place, is_statement_within, is_within, are_within}
 use Rattle.lb_flat.specs.TermKinds.{kinds_of}
 use Rattle.lb_flat.specs.Flat.{Always, Choose}
 use Rattle.lb_flat.specs.Emit.{State, Emitted, emit_nor, emit_at_most_one}
-use Rattle.lb_flat.specs.Terms.{Found, pushed, with_one, with_two, with_all, as_truth, emit_term, emit_row, emit_list, term_size, row_size, list_size, step_size, steps_size, emit_step, emit_steps}
-use Rattle.lb_flat.proofs.ShapeFacts.{and_first, and_second}
+use Rattle.lb_flat.specs.Terms.{TypedElement, pushed, with_one, with_two, with_all, as_truth, emit_term, emit_row, emit_list, term_size, row_size, list_size, statement_size, statements_size, emit_statement, emit_statements}
+use Rattle.lb_flat.proofs.TypeFacts.{and_first, and_second}
 
 abbrev pub row_of : Term → (n : Count) × Row_of-Term n
 row_of (AtMostOne' _ row) = (_, row)
@@ -50,10 +50,10 @@ pub size_next : (es : List Term) (i : ℕ) (d : Term) → i < length es →
 unfolding list_size
 size_next es i d lt = ap list_size (drop_more es i d lt)
 
-pub steps_size_next : (ss : List Step) (i : ℕ) (d : Step) → i < length ss →
-    steps_size (drop i ss) ≡ step_size (get_or ss i d) + steps_size (drop (i + 1) ss)
-unfolding steps_size
-steps_size_next ss i d lt = ap steps_size (drop_more ss i d lt)
+pub statements_size_next : (ss : List PlainStatement) (i : ℕ) (d : PlainStatement) → i < length ss →
+    statements_size (drop i ss) ≡ statement_size (get_or ss i d) + statements_size (drop (i + 1) ss)
+unfolding statements_size
+statements_size_next ss i d lt = ap statements_size (drop_more ss i d lt)
 
 -- a term with this one operand
 abbrev pub IsSingle : Term → Box Term Global → Type 0
@@ -128,27 +128,29 @@ unfolding emit_list
 emit_next kinds s found es i d lt = ap (emit_list kinds s found) (drop_more es i d lt)
 
 pub emit_if_is :
-    (kinds : List Kind) (s : State) (c a b : Box Term Global) (z x y : Found) →
+    (kinds : List Kind) (s : State) (c a b : Box Term Global) (z x y : TypedElement) →
     z ≡ emit_term kinds s c.value → x ≡ emit_term kinds z.state a.value →
     y ≡ emit_term kinds x.state b.value →
     emit_term kinds s (If c a b) ≡ pushed y.state (Choose z.element x.element y.element) y.kind
 unfolding emit_term
 emit_if_is kinds s c a b z x y ez ex ey =
-    let f : Found → Found → Found → Found = λ z x y.
+    let f : TypedElement → TypedElement → TypedElement → TypedElement = λ z x y.
     pushed y.state (Choose z.element x.element y.element) y.kind in
-    let g : Found → Found → Found = λ z x. f z x (emit_term kinds x.state b.value) in
-    sym (ap (f z x) ey ∙ ap (g z) ex ∙ ap (λ (z : Found). g z (emit_term kinds z.state a.value)) ez)
+    let g : TypedElement → TypedElement → TypedElement =
+    λ z x. f z x (emit_term kinds x.state b.value) in
+    sym (ap (f z x) ey ∙ ap (g z) ex
+    ∙ ap (λ (z : TypedElement). g z (emit_term kinds z.state a.value)) ez)
 
 -- what a term emits from what its one operand and its two operands do
 pub emit_single_is :
-    (kinds : List Kind) (s : State) (t : Term) (e : Box Term Global) (x : Found) →
+    (kinds : List Kind) (s : State) (t : Term) (e : Box Term Global) (x : TypedElement) →
     IsSingle t e → x ≡ emit_term kinds s e.value → emit_term kinds s t ≡ with_one t x
 unfolding emit_term
 emit_single_is kinds s t e x (inl (op, is)) ex = rw (is, ex) refl
 emit_single_is kinds s t e x (inr is) ex = rw (is, ex) refl
 
 pub emit_pair_is :
-    (kinds : List Kind) (s : State) (t : Term) (a b : Box Term Global) (x y : Found) →
+    (kinds : List Kind) (s : State) (t : Term) (a b : Box Term Global) (x y : TypedElement) →
     IsPair t a b → x ≡ emit_term kinds s a.value → y ≡ emit_term kinds x.state b.value →
     emit_term kinds s t ≡ with_two t x.element y
 unfolding emit_term
@@ -254,17 +256,20 @@ within_next count es i d lt = ap (list_all (is_within count)) (drop_more es i d 
 
 -- ## Steps
 
-pub step_within_next : (count : ℕ) (ss : List Step) (i : ℕ) (d : Step) → i < length ss →
-    list_all (is_step_within count) (drop i ss)
-    ≡ is_step_within count (get_or ss i d) && list_all (is_step_within count) (drop (i + 1) ss)
-step_within_next count ss i d lt = ap (list_all (is_step_within count)) (drop_more ss i d lt)
+pub step_within_next : (count : ℕ) (ss : List PlainStatement) (i : ℕ) (d : PlainStatement)
+    → i < length ss →
+    list_all (is_statement_within count) (drop i ss)
+    ≡ is_statement_within count (get_or ss i d)
+    && list_all (is_statement_within count) (drop (i + 1) ss)
+step_within_next count ss i d lt = ap (list_all (is_statement_within count)) (drop_more ss i d lt)
 
 pub steps_next :
-    (kinds : List Kind) (s : State) (ss : List Step) (i : ℕ) (d : Step) → i < length ss →
-    emit_steps kinds s (drop i ss)
-    ≡ emit_steps kinds (emit_step kinds s (get_or ss i d)) (drop (i + 1) ss)
-unfolding emit_steps
-steps_next kinds s ss i d lt = ap (emit_steps kinds s) (drop_more ss i d lt)
+    (kinds : List Kind) (s : State) (ss : List PlainStatement) (i : ℕ) (d : PlainStatement)
+    → i < length ss →
+    emit_statements kinds s (drop i ss)
+    ≡ emit_statements kinds (emit_statement kinds s (get_or ss i d)) (drop (i + 1) ss)
+unfolding emit_statements
+steps_next kinds s ss i d lt = ap (emit_statements kinds s) (drop_more ss i d lt)
 
 -- places of some are places of more
 pub places_of_more : (m : ℕ) (xs : List VariableId) (n : ℕ) → n ≤ m →
@@ -275,4 +280,4 @@ places_of_more m (x ∷ xs) n le e =
     let here : is_place m x ≡ true = grind (arith, nat_tests) in
     rw here (places_of_more m xs n le (and_second (is_place n x) _ e))
 
-pub ruleset sizes = (size_at_most_one, size_nor, size_next, steps_size_next)
+pub ruleset sizes = (size_at_most_one, size_nor, size_next, statements_size_next)

@@ -7,10 +7,10 @@ use Rattle.lb_syntax.specs.Lists.{Every, all_some}
 use Rattle.lb_syntax.specs.Tree.{Name, Expr, Exprs, Nil, Cons, Declaration, Statement, Equation, Assertion}
 use Rattle.lb_static.specs.StaticValues.{named}
 use Rattle.lb_static.specs.Instances.{Program, Instance, Path}
-use Rattle.lb_static.specs.Shapes.{Shape, variables, width, shape_of, element_count}
-use Rattle.lb_static.specs.Walk.{are_same}
-use Rattle.lb_check.specs.Types.{shapes, all_shapes}
-use Rattle.lb_check.specs.TypeRules.{declared_shape, is_statement_typed}
+use Rattle.lb_static.specs.DataTypes.{DataType, variables, width, variable_type, element_count}
+use Rattle.lb_static.specs.Instantiation.{are_same}
+use Rattle.lb_check.specs.Types.{data_types, all_types}
+use Rattle.lb_check.specs.TypeRules.{type_of_name, is_statement_typed}
 use Rattle.lb_check.specs.Clocks.{Clock}
 use Rattle.lb_check.specs.Occurrences.{at, call_count, occurrences, occurrences_each, statement_clock, right_sides}
 use Rattle.lb_check.specs.Scalars.{Stream}
@@ -18,7 +18,7 @@ use Rattle.lb_check.specs.Streams.{History, argument_streams}
 use Rattle.lb_flat.proofs.Lists.{Every-first, Every-second}
 use Rattle.lb_flat.proofs.Placing.{AreAsWide}
 use Rattle.lb_flat.proofs.Bodies.{IsWide, occurrences_of}
-use Rattle.lb_flat.proofs.ShapeFacts.{elements_in, bound, are_counts, and_first, and_second}
+use Rattle.lb_flat.proofs.TypeFacts.{elements_in, bound, are_counts, and_first, and_second}
 use Rattle.lb_flat.proofs.OutputWidths.{found_in, each, width_of}
 use Rattle.lb_flat.proofs.Widths.{AreVariablesWide, IsOccurrenceWide, first_of_all, only_one, wide}
 
@@ -48,7 +48,7 @@ found_passes test [] = tt
 found_passes test (x ∷ xs) = tested test (test x) x (find test xs) refl (found_passes test xs)
 
 counts_same :
-    (ss ts : List Shape) → map element_count ss ≡ map element_count ts →
+    (ss ts : List DataType) → map element_count ss ≡ map element_count ts →
     elements_in ss ≡ elements_in ts
 counts_same [] [] e = refl
 counts_same [] (t ∷ ts) e = cc
@@ -67,7 +67,7 @@ module _ (P : Program) (H : History) (here : Instance)
   -- ## Left variables
 
   declared_wide :
-      (x : Name) (t : Shape) → declared_shape P here x ≡ Some t →
+      (x : Name) (t : DataType) → type_of_name P here x ≡ Some t →
       length (H.columns here.path x) ≡ element_count t
   declared_wide x t e =
       let test = λ (d : Declaration). bytes_eq d.name x in
@@ -81,12 +81,12 @@ module _ (P : Program) (H : History) (here : Instance)
       ∙ known ∙ width_of P here b.value t b.gives
 
   lefts_wide :
-      (lefts : List Name) (ts : List Shape) →
-      all_some (map (declared_shape P here) lefts) ≡ Some ts →
+      (lefts : List Name) (ts : List DataType) →
+      all_some (map (type_of_name P here) lefts) ≡ Some ts →
       length (flat_map (H.columns here.path) lefts) ≡ elements_in ts
   lefts_wide [] ts e = let none : [] ≡ ts = cc in ap elements_in none
   lefts_wide (x ∷ lefts) ts e =
-      let h = each (declared_shape P here x) (map (declared_shape P here) lefts) ts e in
+      let h = each (type_of_name P here x) (map (type_of_name P here) lefts) ts e in
       let first = declared_wide x h.first h.is in
       let rest = lefts_wide lefts h.rest h.others in
       omega (
@@ -99,15 +99,15 @@ module _ (P : Program) (H : History) (here : Instance)
 
   -- ## Statements
 
-  pub record Typed (e : Expr) (o : Option (List Shape)) : Type 0 where
-    pub right : List Shape
-    pub left : List Shape
-    pub is_right : shapes P here e ≡ Some right
+  pub record Typed (e : Expr) (o : Option (List DataType)) : Type 0 where
+    pub right : List DataType
+    pub left : List DataType
+    pub is_right : data_types P here e ≡ Some right
     pub is_left : o ≡ Some left
     pub same : elements_in right ≡ elements_in left
 
   pub typed_same :
-      (e : Expr) (o p : Option (List Shape)) → shapes P here e ≡ p → are_same P p o ≡ true →
+      (e : Expr) (o p : Option (List DataType)) → data_types P here e ≡ p → are_same P p o ≡ true →
       Typed e o
   typed_same e None None q h = cc
   typed_same e None (Some ts) q h = cc
@@ -126,7 +126,7 @@ module _ (P : Program) (H : History) (here : Instance)
       Every (IsOccurrenceWide P H here) (occurrences P here.node k n e) →
       IsWide P H here (Equation lefts e) (at k n e)
   statement_wide k n lefts e typed w =
-      let t = typed_same e (all_some (map (declared_shape P here) lefts)) (shapes P here e) refl
+      let t = typed_same e (all_some (map (type_of_name P here) lefts)) (data_types P here e) refl
       typed in
       lefts_wide lefts t.left t.is_left ∙ sym t.same
       ∙ sym (wide P H here variables_wide k n e t.right t.is_right w)
@@ -166,8 +166,8 @@ module _ (P : Program) (H : History) (here : Instance)
 
   -- arguments each on a clock of its own
   pub arguments_wide :
-      (ks : List Clock) (n : ℕ) (es : Exprs) (ts : List Shape) →
-      all_shapes P here es ≡ Some ts → length ts ≤ length ks →
+      (ks : List Clock) (n : ℕ) (es : Exprs) (ts : List DataType) →
+      all_types P here es ≡ Some ts → length ts ≤ length ks →
       Every (IsOccurrenceWide P H here) (occurrences_each P here.node ks n es) →
       map length (argument_streams P H here ks n es) ≡ map element_count ts
   arguments_wide ks n Nil ts h le w = let none : [] ≡ ts = cc in ap (map element_count) none
@@ -190,9 +190,9 @@ module _ (P : Program) (H : History) (here : Instance)
 -- inputs of these types receive streams of these widths
 pub inputs_as_wide :
     (P : Program) (H : History) (c : Instance) (p : Path) (ds : List Declaration)
-    (us : List Shape) (xsss : List (List Stream)) →
+    (us : List DataType) (xsss : List (List Stream)) →
     Every (λ d. length (H.columns p d.name) ≡ width P c d) ds →
-    all_some (map (shape_of P c) ds) ≡ Some us →
+    all_some (map (variable_type P c) ds) ≡ Some us →
     map length xsss ≡ map element_count us → AreAsWide H p ds xsss
 inputs_as_wide P H c p [] us [] w o e = tt
 inputs_as_wide P H c p [] us (xs ∷ xsss) w o e =
@@ -203,14 +203,14 @@ inputs_as_wide P H c p [] us (xs ∷ xsss) w o e =
     not_empty : (n : ℕ) (ns : List ℕ) → n ∷ ns ≡ [] → ⊥
     not_empty n ns e = cc
 inputs_as_wide P H c p (d ∷ ds) us [] w o e =
-    let h = each (shape_of P c d) (map (shape_of P c) ds) us o in
+    let h = each (variable_type P c d) (map (variable_type P c) ds) us o in
     let lengths = e ∙ ap (map element_count) h.all in
     absurd (not_empty _ _ lengths)
   where
     not_empty : (n : ℕ) (ns : List ℕ) → [] ≡ n ∷ ns → ⊥
     not_empty n ns e = cc
 inputs_as_wide P H c p (d ∷ ds) us (xs ∷ xsss) w o e =
-    let h = each (shape_of P c d) (map (shape_of P c) ds) us o in
+    let h = each (variable_type P c d) (map (variable_type P c) ds) us o in
     let lengths = e ∙ ap (map element_count) h.all in (
       w.0 ∙ width_of P c d h.first h.is ∙ sym (first_is _ _ _ _ lengths),
       inputs_as_wide P H c p ds h.rest xsss w.1 h.others (rest_is _ _ _ _ lengths),

@@ -11,7 +11,7 @@ use Rattle.lb_check.specs.Scalars.{Stream}
 use Rattle.lb_check.specs.Occurrences.{Occurrence, call_count, occurrences, statement_clock, right_sides}
 use Rattle.lb_check.specs.Streams.{History}
 use Rattle.lb_check.specs.Solutions.{Inputs, streams_at}
-use Rattle.lb_check.specs.Verdicts.{assertion_of, kept_columns, assertion_columns}
+use Rattle.lb_check.specs.Verdicts.{assertion_of, memory_columns, assertion_columns}
 use Rattle.lb_flat.specs.Flat.{column, AreLong}
 use Rattle.lb_flat.specs.Layouts.{Layout}
 use Rattle.lb_flat.specs.Emit.{State, joins, copied, targets, assert, emit, emit_body, emit_instances}
@@ -20,7 +20,7 @@ use Rattle.lb_flat.proofs.Adding.{columns, AllMet}
 use Rattle.lb_flat.proofs.Placing.{Agrees, IsPlaced}
 use Rattle.lb_flat.proofs.Emission.{joins_equations, sound}
 use Rattle.lb_flat.proofs.Bodies.{IsWide, IsSound, occurrences_of, assert_equations, body_sound, all_sound}
-use Rattle.lb_flat.proofs.Keeping.{or_assoc, or_false, joins_kept, append_assoc, Keeps, keeps, keeps_two}
+use Rattle.lb_flat.proofs.MemoryOperands.{or_assoc, or_false, joins_kept, append_assoc, Keeps, keeps, keeps_two}
 use Rattle.lb_flat.proofs.Asserting.{joins_asserted, assert_asserted, assert_kept, asserts}
 
 -- an element of a list that has none
@@ -38,12 +38,12 @@ module _ (Y : Layout) (P : Program) (X : Inputs) (H : History) (F : List Stream)
 
     record BodyWatched (s t : State) (ss : List (Statement × Occurrence))
         (os : List Occurrence) : Type 0 where
-      kept : Keeps Y P X H F long agrees here s t os
+      memory_operands : Keeps Y P X H F long agrees here s t os
       asserted : columns X F t.asserted ≡ columns X F s.asserted ++ asserted_in ss
 
     keeps_by :
         (s t u : State) (os : List Occurrence) → Keeps Y P X H F long agrees here s t os →
-        u.kept ≡ t.kept → Keeps Y P X H F long agrees here s u os
+        u.memory_operands ≡ t.memory_operands → Keeps Y P X H F long agrees here s u os
     keeps_by s t u os h e = record {
       same = λ test.
           ap (λ is. list_any test (columns X F is)) e ∙ h.same test;
@@ -58,7 +58,8 @@ module _ (Y : Layout) (P : Program) (X : Inputs) (H : History) (F : List Stream)
         (occurrences_of P here.node (right_sides P here.node n body))
     unfolding emit_body
     body_watched n s [] wide w h = record {
-      kept = record { same = λ test. or_false (list_any test (columns X F s.kept)) };
+      memory_operands = record
+          { same = λ test. or_false (list_any test (columns X F s.memory_operands)) };
       asserted = append_nothing (columns X F s.asserted);
     }
     body_watched n s (Assertion e ∷ rest) wide w h =
@@ -76,7 +77,8 @@ module _ (Y : Layout) (P : Program) (X : Inputs) (H : History) (F : List Stream)
         let q = keeps_by s x.state (assert x) oa
         (keeps Y P X H F long agrees here k n s e wa hx) (assert_kept x) in
         record {
-          kept = keeps_two Y P X H F long agrees here s (assert x) _ oa ob q r.kept;
+          memory_operands = keeps_two Y P X H F long agrees here s (assert x) _ oa ob q
+              r.memory_operands;
           asserted = r.asserted
               ∙ ap (λ xs. xs ++ asserted_in (zip rest (right_sides P here.node m rest)))
               (ap (columns X F) (assert_asserted x)
@@ -101,7 +103,7 @@ module _ (Y : Layout) (P : Program) (X : Inputs) (H : History) (F : List Stream)
         let q = keeps_by s x.state t oa (keeps Y P X H F long agrees here k n s e wa hx)
         (joins_kept x.state qs []) in
         record {
-          kept = keeps_two Y P X H F long agrees here s t _ oa ob q r.kept;
+          memory_operands = keeps_two Y P X H F long agrees here s t _ oa ob q r.memory_operands;
           asserted = r.asserted
               ∙ ap (λ is. columns X F is ++ asserted_in (zip rest (right_sides P here.node m rest)))
               (joins_asserted x.state qs [] ∙ asserts Y P here k n s e);
@@ -110,11 +112,11 @@ module _ (Y : Layout) (P : Program) (X : Inputs) (H : History) (F : List Stream)
   -- a test passes at a kept or asserted element of t where it does at one of s, or at a kept
   -- operand or an assertion of these instances
   pub record Watched (s t : State) (instances : List Instance) : Type 0 where
-    pub kept :
+    pub memory_operands :
         (test : Stream → Bool) →
-        list_any test (columns X F t.kept)
-        ≡ (list_any test (columns X F s.kept)
-        || list_any (λ here. list_any test (kept_columns P H here)) instances)
+        list_any test (columns X F t.memory_operands)
+        ≡ (list_any test (columns X F s.memory_operands)
+        || list_any (λ here. list_any test (memory_columns P H here)) instances)
     pub asserted :
         (test : Stream → Bool) →
         list_any test (columns X F t.asserted)
@@ -127,7 +129,7 @@ module _ (Y : Layout) (P : Program) (X : Inputs) (H : History) (F : List Stream)
       Watched s (emit_instances Y P s instances) instances
   unfolding emit_instances
   all_watched s [] ok h = record {
-    kept = λ test. or_false (list_any test (columns X F s.kept));
+    memory_operands = λ test. or_false (list_any test (columns X F s.memory_operands));
     asserted = λ test. or_false (list_any test (columns X F s.asserted));
   }
   all_watched s (here ∷ rest) ok h =
@@ -136,11 +138,11 @@ module _ (Y : Layout) (P : Program) (X : Inputs) (H : History) (F : List Stream)
       let a = body_watched here 0 s here.node.body ok.0.wide ok.0.placed after.before in
       let r = all_watched t rest ok.1 h in
       record {
-        kept = λ test.
-            r.kept test
-            ∙ ap (λ b. b || list_any (λ here. list_any test (kept_columns P H here)) rest)
-            (a.kept.same test)
-            ∙ or_assoc (list_any test (columns X F s.kept)) _ _;
+        memory_operands = λ test.
+            r.memory_operands test
+            ∙ ap (λ b. b || list_any (λ here. list_any test (memory_columns P H here)) rest)
+            (a.memory_operands.same test)
+            ∙ or_assoc (list_any test (columns X F s.memory_operands)) _ _;
         asserted = λ test.
             r.asserted test
             ∙ ap (λ b. b || list_any (λ here. list_any test (assertion_columns P H here)) rest)

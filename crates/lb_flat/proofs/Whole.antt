@@ -6,7 +6,7 @@ use Rattle.std.proofs.Math.Numerals.{add-one}
 use Rattle.lb_syntax.specs.Lists.{Every}
 use Rattle.lb_syntax.specs.Tree.{Declaration}
 use Rattle.lb_static.specs.Instances.{Program, Instance, Root, Observer, instance_at, instances}
-use Rattle.lb_static.specs.Shapes.{input_kinds}
+use Rattle.lb_static.specs.DataTypes.{input_kinds}
 use Rattle.lb_check.specs.Scalars.{Stream}
 use Rattle.lb_check.specs.Streams.{History}
 use Rattle.lb_check.specs.Solutions.{Inputs, column_of, columns_of, columns_at, IsGiven, IsObserved, Receives}
@@ -32,7 +32,7 @@ pub record IsProgramSound (Y : Layout) (P : Program) (H : History) : Type 0 wher
       AreAsWide H Observer observer.node.inputs
       (columns_at H Root (root.node.inputs ++ root.node.outputs))))
 
--- what a solution keeps of a program besides the shapes of its variables
+-- what a solution keeps of a program besides the types of its variables
 pub record IsTied (P : Program) (X : Inputs) (H : History) : Type 0 where
   pub inputs : IfSome (instance_at P Root) (IsGiven P X H)
   pub observed :

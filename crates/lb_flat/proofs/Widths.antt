@@ -7,42 +7,42 @@ use Rattle.lb_syntax.specs.declared.tree.BinaryOperator.{BinaryOperator}
 use Rattle.lb_syntax.specs.declared.tree.ArrayIterator.{ArrayIterator}
 use Rattle.lb_syntax.specs.declared.tree.ArrayIterator.TheVariants.{Map, Red, Fill}
 use Rattle.lb_syntax.specs.Lists.{◌>>=◌, Every, joined, tail_of, all_some, either_or, where_true, listed}
-use Rattle.lb_syntax.specs.Tree.{Name, Static, Node_named, Symbol, Expr, Literal, Truth, Variable, Group, Unary, Binary, If, Arrow, Fby, Pre, Current, When, Copies, Index, Slice, Join, Array, AtMostOne, Nor, Call, Iterate, Exprs, Nil, Cons, Declaration, Node}
+use Rattle.lb_syntax.specs.Tree.{Name, Static, Node_named, Symbol, Expr, Literal, Truth, Variable, Group, Unary, Binary, If, Arrow, Fby, Pre, Current, When, Replicate, Index, Slice, Join, Array, AtMostOne, Nor, Call, Iterate, Exprs, Nil, Cons, Declaration, Node}
 use Rattle.lb_static.specs.Instances.{Program, Instance, Child, static_count, call_site, callee_of, node_named, name_value, static_value}
-use Rattle.lb_static.specs.Shapes.{Shape, int, truth, variables, width, shape_of, element_count, product, input_shapes, output_shapes, is_shape, are_shapes}
-use Rattle.lb_check.specs.Types.{shapes, all_shapes, only, singly, list_shape, from_one, from_truths, name_shape, array_of, operator_shapes, iterator_shapes, map_shapes, red_shapes, fill_shapes, unary_shape, binary_shape, same_shape, index_shape, slice_shape, join_shape, is_arithmetic}
+use Rattle.lb_static.specs.DataTypes.{DataType, int, truth, variables, width, variable_type, element_count, product, input_types, output_types, is_type, are_types}
+use Rattle.lb_check.specs.Types.{data_types, all_types, only, singly, list_type, from_one, from_truths, name_data_type, array_of, operator_types, iterator_types, map_types, red_types, fill_types, unary_type, binary_type, common_type, index_type, slice_type, join_type, is_arithmetic}
 use Rattle.lb_check.specs.Scalars.{Stream, or_fault}
 use Rattle.lb_check.specs.Clocks.{Clock, clock_of, clock_or, declared_clock}
 use Rattle.lb_check.specs.Occurrences.{Occurrence, call_count, occurrences, occurrences_in}
-use Rattle.lb_check.specs.Streams.{History, presence, constantly, gathered, last_of, iterated, symbols, streams, all_streams, number, part_count, outputs_of, shape}
+use Rattle.lb_check.specs.Streams.{History, presence, constantly, gathered, last_of, iterated, symbols, streams, all_streams, number, part_count, outputs_of, data_type}
 use Rattle.lb_flat.proofs.Lists.{length-zips, Every-first, Every-second}
-use Rattle.lb_flat.proofs.ShapeFacts.{One, elements_in, bound, alone, one, two, from_true, unary_count, binary_count, alike, array_count, indexed, sliced, joined_count, truth_is, some_same, same_count, and_first, and_second, truly, single, are_counts}
+use Rattle.lb_flat.proofs.TypeFacts.{One, elements_in, bound, alone, one, two, from_true, unary_count, binary_count, alike, array_count, indexed, sliced, joined_count, truth_is, some_same, same_count, and_first, and_second, truly, single, are_counts}
 use Rattle.lb_flat.proofs.OutputWidths.{length-copies, length-choices, length-part, length-index, found_in, each, arrays_count, width_of, outputs_wide, gathered_wide, last_wide}
 
 -- ## What is called
 
 -- the instance of a call, and the types of its inputs and outputs
 pub record Called (P : Program) (here : Instance) (f : Name) (statics : List Static)
-    (types : List Shape × List Shape) : Type 0 where
+    (types : List DataType × List DataType) : Type 0 where
   pub callee : Instance
   pub is : callee_of P here (call_site f statics) 0 0 ≡ Some callee
-  pub inputs : input_shapes P callee ≡ Some types.0
-  pub outputs : output_shapes P callee ≡ Some types.1
+  pub inputs : input_types P callee ≡ Some types.0
+  pub outputs : output_types P callee ≡ Some types.1
 
 pub called :
     (P : Program) (here : Instance) (f : Name) (statics : List Static)
-    (types : List Shape × List Shape) →
-    operator_shapes P here (Node_named f statics) ≡ Some types → Called P here f statics types
+    (types : List DataType × List DataType) →
+    operator_types P here (Node_named f statics) ≡ Some types → Called P here f statics types
 called P here f statics types e =
     let c = bound (callee_of P here (call_site f statics) 0 0) _ types e in
-    let ins = bound (input_shapes P c.value) _ types c.gives in
-    let outs = bound (output_shapes P c.value) _ types ins.gives in
+    let ins = bound (input_types P c.value) _ types c.gives in
+    let outs = bound (output_types P c.value) _ types ins.gives in
     let same : (ins.value, outs.value) ≡ types = some_same _ _ outs.gives in
     record {
       callee = c.value;
       is = c.is;
-      inputs = ins.is ∙ ap (λ (t : List Shape × List Shape). Some t.0) same;
-      outputs = outs.is ∙ ap (λ (t : List Shape × List Shape). Some t.1) same;
+      inputs = ins.is ∙ ap (λ (t : List DataType × List DataType). Some t.0) same;
+      outputs = outs.is ∙ ap (λ (t : List DataType × List DataType). Some t.1) same;
     }
 
 -- the same instance at another place
@@ -120,8 +120,8 @@ module _ (P : Program) (H : History) (here : Instance) where
   outputs_are f o e = ap (listed (λ n. n.outputs)) e
 
   call_wide :
-      (n : ℕ) (f : Name) (statics : List Static) (types : List Shape × List Shape) →
-      operator_shapes P here (Node_named f statics) ≡ Some types → IsCalleeWide n f statics 0 →
+      (n : ℕ) (f : Name) (statics : List Static) (types : List DataType × List DataType) →
+      operator_types P here (Node_named f statics) ≡ Some types → IsCalleeWide n f statics 0 →
       length (flat_map (λ o. H.columns (Child here.path n 0) o.name) (outputs_of P here f))
       ≡ elements_in types.1
   call_wide n f statics types e w =
@@ -136,42 +136,42 @@ module _ (P : Program) (H : History) (here : Instance) where
 
   names_wide :
       AreVariablesWide here → (k : Clock) (x : Name) (o : Option Declaration) →
-      IfSome o (λ d. length (H.columns here.path d.name) ≡ width P here d) → (ts : List Shape) →
-      singly (either_or (option_map (shape_of P here) o) (Some int)) ≡ Some ts →
+      IfSome o (λ d. length (H.columns here.path d.name) ≡ width P here d) → (ts : List DataType) →
+      singly (either_or (option_map (variable_type P here) o) (Some int)) ≡ Some ts →
       length (either_or (option_map (λ d. H.columns here.path d.name) o)
       (constantly (or_fault (name_value P here x)) (presence H here.path k) ∷ []))
       ≡ elements_in ts
   names_wide all k x None w ts e = ap elements_in (some_same _ _ e)
   names_wide all k x (Some d) w ts e =
-      let a = alone (shape_of P here d) ts e in
-      let known : width P here d ≡ element_count a.shape = width_of P here d a.shape a.is in
+      let a = alone (variable_type P here d) ts e in
+      let known : width P here d ≡ element_count a.data_type = width_of P here d a.data_type a.is in
       omega (arith, w, known) ∙ sym (ap elements_in a.all)
 
   -- ## Arrays
 
-  shape_is : (e : Expr) (t : Shape) → shapes P here e ≡ Some (t ∷ []) → shape P here e ≡ t
-  shape_is e t h = ap (λ o. either_or (o >>= only) int) h
+  type_is : (e : Expr) (t : DataType) → data_types P here e ≡ Some (t ∷ []) → data_type P here e ≡ t
+  type_is e t h = ap (λ o. either_or (o >>= only) int) h
 
   sizes_product :
-      (t : Shape) (ns : List ℕ) → t.sizes ≡ ns → element_count t ≡ product ns
+      (t : DataType) (ns : List ℕ) → t.sizes ≡ ns → element_count t ≡ product ns
   sizes_product t ns e = ap product e
 
   pub number_is : (s : Static) (n : ℕ) → static_count P here s ≡ Some n → number P here s ≡ n
   number_is s n h = ap (λ o. either_or o 0) h
 
   part_is :
-      (e : Expr) (t : Shape) (n : ℕ) (ns : List ℕ) → shapes P here e ≡ Some (t ∷ []) →
+      (e : Expr) (t : DataType) (n : ℕ) (ns : List ℕ) → data_types P here e ≡ Some (t ∷ []) →
       t.sizes ≡ n ∷ ns → part_count P here e ≡ product ns
   part_is e t n ns h sizes =
-      ap (λ (s : Shape). product (tail_of s.sizes)) (shape_is e t h)
+      ap (λ (s : DataType). product (tail_of s.sizes)) (type_is e t h)
       ∙ ap (λ l. product (tail_of l)) sizes
 
-  just_one : (n : ℕ) (t : Shape) (ts : List Shape) → n ≡ element_count t → ts ≡ t ∷ [] →
+  just_one : (n : ℕ) (t : DataType) (ts : List DataType) → n ≡ element_count t → ts ≡ t ∷ [] →
       n ≡ elements_in ts
   just_one n t ts e h = let zero_more : element_count t ≡ element_count t + 0 = omega arith in
       e ∙ zero_more ∙ sym (ap elements_in h)
 
-  pub only_one : (n : ℕ) (t : Shape) → n ≡ elements_in (t ∷ []) → n ≡ element_count t
+  pub only_one : (n : ℕ) (t : DataType) → n ≡ elements_in (t ∷ []) → n ≡ element_count t
   only_one n t e = omega (arith, e)
 
   -- the types and the widths of some operands
@@ -182,7 +182,7 @@ module _ (P : Program) (H : History) (here : Instance) where
   same_rest n m ns ms e = cc
 
   joined_wide :
-      (xsss : List (List Stream)) (ts : List Shape) →
+      (xsss : List (List Stream)) (ts : List DataType) →
       map length xsss ≡ map element_count ts → length (joined xsss) ≡ elements_in ts
   joined_wide [] [] e = refl
   joined_wide [] (t ∷ ts) e = cc
@@ -193,21 +193,21 @@ module _ (P : Program) (H : History) (here : Instance) where
       omega (arith, length-append xss (joined xsss), first, rest)
 
   all_alike :
-      (t : Shape) (ts : List Shape) → list_all (is_shape t) ts ≡ true →
+      (t : DataType) (ts : List DataType) → list_all (is_type t) ts ≡ true →
       elements_in ts ≡ length ts * element_count t
   all_alike t [] e = omega arith
   all_alike t (u ∷ ts) e =
-      let same = same_count t u (and_first (is_shape t u) (list_all (is_shape t) ts) e) in
-      let rest = all_alike t ts (and_second (is_shape t u) (list_all (is_shape t) ts) e) in
+      let same = same_count t u (and_first (is_type t u) (list_all (is_type t) ts) e) in
+      let rest = all_alike t ts (and_second (is_type t u) (list_all (is_type t) ts) e) in
       omega (arith, same, rest)
 
   list_count :
-      (ts : List Shape) (r : Shape) → list_shape ts ≡ Some r →
+      (ts : List DataType) (r : DataType) → list_type ts ≡ Some r →
       elements_in ts ≡ element_count r
   list_count [] r e = cc
   list_count (t ∷ ts) r e =
-      let b = bound (where_true (list_all (is_shape t) ts) t) _ r e in
-      let h = truly (list_all (is_shape t) ts) t b.value b.is in
+      let b = bound (where_true (list_all (is_type t) ts) t) _ r e in
+      let h = truly (list_all (is_type t) ts) t b.value b.is in
       let rest = all_alike t ts h.holds in
       let all = array_count (suc (length ts)) b.value r b.gives in
       let same : element_count t ≡ element_count b.value = ap element_count h.same in
@@ -216,21 +216,21 @@ module _ (P : Program) (H : History) (here : Instance) where
   -- ## Iterated nodes
 
   map_of :
-      (n : ℕ) (ins outs args ts : List Shape) → map_shapes n ins outs args ≡ Some ts →
+      (n : ℕ) (ins outs args ts : List DataType) → map_types n ins outs args ≡ Some ts →
       elements_in ts ≡ n * elements_in outs
   map_of n ins outs args ts e =
       let w = bound (all_some (map (array_of n) ins)) _ ts e in
-      let b = bound (where_true (are_shapes w.value args) outs) _ ts w.gives in
-      let h = truly (are_shapes w.value args) outs b.value b.is in
+      let b = bound (where_true (are_types w.value args) outs) _ ts w.gives in
+      let h = truly (are_types w.value args) outs b.value b.is in
       arrays_count n b.value ts b.gives ∙ sym (ap (λ us. n * elements_in us) h.same)
 
-  record Reduced (outs ts : List Shape) : Type 0 where
-    out : Shape
+  record Reduced (outs ts : List DataType) : Type 0 where
+    out : DataType
     outs_is : outs ≡ out ∷ []
     ts_is : ts ≡ out ∷ []
 
   red_of :
-      (n : ℕ) (ins outs args ts : List Shape) → red_shapes n ins outs args ≡ Some ts →
+      (n : ℕ) (ins outs args ts : List DataType) → red_types n ins outs args ≡ Some ts →
       Reduced outs ts
   red_of n [] outs args ts e = cc
   red_of n (a ∷ ins) [] args ts e = cc
@@ -241,16 +241,16 @@ module _ (P : Program) (H : History) (here : Instance) where
       let h = truly _ (o ∷ []) ts w.gives in
       record { out = o; outs_is = refl; ts_is = sym h.same }
 
-  record Filled (n : ℕ) (outs ts : List Shape) : Type 0 where
-    out : Shape
-    others : List Shape
-    arrays : List Shape
+  record Filled (n : ℕ) (outs ts : List DataType) : Type 0 where
+    out : DataType
+    others : List DataType
+    arrays : List DataType
     outs_is : outs ≡ out ∷ others
     ts_is : ts ≡ out ∷ arrays
     count : elements_in arrays ≡ n * elements_in others
 
   fill_of :
-      (n : ℕ) (ins outs args ts : List Shape) → fill_shapes n ins outs args ≡ Some ts →
+      (n : ℕ) (ins outs args ts : List DataType) → fill_types n ins outs args ≡ Some ts →
       Filled n outs ts
   fill_of n [] outs args ts e = cc
   fill_of n (a ∷ (b ∷ ins)) outs args ts e = cc
@@ -273,10 +273,10 @@ module _ (P : Program) (H : History) (here : Instance) where
   -- outputs of a node whose first output and the others have these types
   iterated_by :
       (c : Instance) (outputs : ℕ → Name → List Stream) (n : ℕ) → 0 < n →
-      (it : ArrayIterator) (ds : List Declaration) (ins outs args ts : List Shape) →
+      (it : ArrayIterator) (ds : List Declaration) (ins outs args ts : List DataType) →
       ((i : ℕ) → i < n → Every (λ d. length (outputs i d.name) ≡ width P c d) ds) →
-      all_some (map (shape_of P c) ds) ≡ Some outs →
-      iterator_shapes it n ins outs args ≡ Some ts →
+      all_some (map (variable_type P c) ds) ≡ Some outs →
+      iterator_types it n ins outs args ≡ Some ts →
       length (iterated outputs n it ds) ≡ elements_in ts
   iterated_by c outputs n positive Map ds ins outs args ts w o e =
       gathered_wide P c outputs n ds outs w o ∙ sym (map_of n ins outs args ts e)
@@ -292,7 +292,7 @@ module _ (P : Program) (H : History) (here : Instance) where
   iterated_by c outputs n positive Fill (d ∷ ds) ins outs args ts w o e =
       let f = fill_of n ins outs args ts e in
       let all = o ∙ ap Some f.outs_is in
-      let h = each (shape_of P c d) (map (shape_of P c) ds) (f.out ∷ f.others) all in
+      let h = each (variable_type P c d) (map (variable_type P c) ds) (f.out ∷ f.others) all in
       let same : f.others ≡ h.rest = rest_same _ _ _ _ h.all in
       let last = last_wide P c outputs n positive (d ∷ ds) f.out f.others w all in
       let rest = gathered_wide P c outputs n ds f.others (λ i lt. (w i lt).1)
@@ -306,15 +306,15 @@ module _ (P : Program) (H : History) (here : Instance) where
       )
       ∙ sym (ap elements_in f.ts_is)
     where
-      rest_same : (s t : Shape) (ss ts : List Shape) → s ∷ ss ≡ t ∷ ts → ss ≡ ts
+      rest_same : (s t : DataType) (ss ts : List DataType) → s ∷ ss ≡ t ∷ ts → ss ≡ ts
       rest_same s t ss ts e = cc
 
   iterate_wide :
       (n : ℕ) (it : ArrayIterator) (f : Name) (statics : List Static) (m : ℕ)
-      (types : List Shape × List Shape) (args ts : List Shape) → 0 < m →
-      operator_shapes P here (Node_named f statics) ≡ Some types →
+      (types : List DataType × List DataType) (args ts : List DataType) → 0 < m →
+      operator_types P here (Node_named f statics) ≡ Some types →
       ((i : ℕ) → i < m → IsCalleeWide n f statics i) →
-      iterator_shapes it m types.0 types.1 args ≡ Some ts →
+      iterator_types it m types.0 types.1 args ≡ Some ts →
       length (iterated (λ i x. H.columns (Child here.path n i) x) m it (outputs_of P here f))
       ≡ elements_in ts
   iterate_wide n it f statics m types args ts positive o w e =
@@ -328,30 +328,30 @@ module _ (P : Program) (H : History) (here : Instance) where
   -- ## Iterated symbols
 
   -- a symbol takes two of a scalar type and gives one
-  record Symbolic (types : List Shape × List Shape) : Type 0 where
-    shape : Shape
-    ins : types.0 ≡ shape ∷ (shape ∷ [])
-    outs : types.1 ≡ shape ∷ []
-    scalar : element_count shape ≡ 1
+  record Symbolic (types : List DataType × List DataType) : Type 0 where
+    data_type : DataType
+    ins : types.0 ≡ data_type ∷ (data_type ∷ [])
+    outs : types.1 ≡ data_type ∷ []
+    scalar : element_count data_type ≡ 1
 
   symbol_types :
-      (b : Bool) (types : List Shape × List Shape) →
+      (b : Bool) (types : List DataType × List DataType) →
       (if b then Some (int ∷ int ∷ [], int ∷ []) else Some (truth ∷ truth ∷ [], truth ∷ []))
       ≡ Some types → Symbolic types
   symbol_types true types e =
       let same = some_same _ _ e in
       record {
-        shape = int;
-        ins = ap (λ (t : List Shape × List Shape). t.0) (sym same);
-        outs = ap (λ (t : List Shape × List Shape). t.1) (sym same);
+        data_type = int;
+        ins = ap (λ (t : List DataType × List DataType). t.0) (sym same);
+        outs = ap (λ (t : List DataType × List DataType). t.1) (sym same);
         scalar = refl;
       }
   symbol_types false types e =
       let same = some_same _ _ e in
       record {
-        shape = truth;
-        ins = ap (λ (t : List Shape × List Shape). t.0) (sym same);
-        outs = ap (λ (t : List Shape × List Shape). t.1) (sym same);
+        data_type = truth;
+        ins = ap (λ (t : List DataType × List DataType). t.0) (sym same);
+        outs = ap (λ (t : List DataType × List DataType). t.1) (sym same);
         scalar = refl;
       }
 
@@ -377,15 +377,15 @@ module _ (P : Program) (H : History) (here : Instance) where
   folded op n ((x ∷ (y ∷ xs)) ∷ xsss) e = absurd (omega (arith, same_first _ _ _ _ e))
 
   symbol_wide :
-      (op : BinaryOperator) (n : ℕ) (k : Shape) → element_count k ≡ 1 → (it : ArrayIterator)
-      (args ts : List Shape) (xsss : List (List Stream)) →
+      (op : BinaryOperator) (n : ℕ) (k : DataType) → element_count k ≡ 1 → (it : ArrayIterator)
+      (args ts : List DataType) (xsss : List (List Stream)) →
       map length xsss ≡ map element_count args →
-      iterator_shapes it n (k ∷ (k ∷ [])) (k ∷ []) args ≡ Some ts →
+      iterator_types it n (k ∷ (k ∷ [])) (k ∷ []) args ≡ Some ts →
       length (symbols it op xsss) ≡ elements_in ts
   symbol_wide op n k scalar Map args ts xsss h e =
       let w = bound (all_some (map (array_of n) (k ∷ (k ∷ [])))) _ ts e in
-      let b = bound (where_true (are_shapes w.value args) (k ∷ [])) _ ts w.gives in
-      let t = truly (are_shapes w.value args) (k ∷ []) b.value b.is in
+      let b = bound (where_true (are_types w.value args) (k ∷ [])) _ ts w.gives in
+      let t = truly (are_types w.value args) (k ∷ []) b.value b.is in
       let first = each (array_of n k) (array_of n k ∷ []) w.value w.is in
       let second = each (array_of n k) [] first.rest first.others in
       let nothing : [] ≡ second.rest = some_same _ _ second.others in
@@ -408,15 +408,15 @@ module _ (P : Program) (H : History) (here : Instance) where
   symbol_wide op n k scalar Red [] ts xsss h e = cc
   symbol_wide op n k scalar Red (i ∷ args) ts xsss h e =
       let w = bound (all_some (map (array_of n) (k ∷ []))) _ ts e in
-      let both = is_shape k i && are_shapes w.value args in
-      let t = truly (is_shape k k && both) (k ∷ []) ts w.gives in
-      let inner = and_second (is_shape k k) (is_shape k i && are_shapes w.value args) t.holds in
+      let both = is_type k i && are_types w.value args in
+      let t = truly (is_type k k && both) (k ∷ []) ts w.gives in
+      let inner = and_second (is_type k k) (is_type k i && are_types w.value args) t.holds in
       let first = each (array_of n k) [] w.value w.is in
       let nothing : [] ≡ first.rest = some_same _ _ first.others in
       let initial : element_count i ≡ 1 =
-      sym (same_count k i (and_first (is_shape k i) (are_shapes w.value args) inner)) ∙ scalar in
+      sym (same_count k i (and_first (is_type k i) (are_types w.value args) inner)) ∙ scalar in
       let counts : map element_count args ≡ element_count first.first ∷ [] =
-      sym (are_counts w.value args (and_second (is_shape k i) (are_shapes w.value args) inner))
+      sym (are_counts w.value args (and_second (is_type k i) (are_types w.value args) inner))
       ∙ ap (map element_count) (first.all ∙ ap (λ us. first.first ∷ us) (sym nothing)) in
       folded op (element_count first.first) xsss (h ∙ ap₂ (λ a rest. a ∷ rest) initial counts)
       ∙ sym (sym (ap elements_in t.same) ∙ omega (arith, scalar))
@@ -431,54 +431,54 @@ module _ (P : Program) (H : History) (here : Instance) where
 
   -- an element of an array, and a part of one
   index_wide :
-      (a : Expr) (s : Static) (ts : List Shape) (c : ℕ) (xs : List Stream) →
-      static_count P here s ≡ Some c → (i : One (shapes P here a) (index_shape c) ts) →
-      length xs ≡ element_count i.shape →
+      (a : Expr) (s : Static) (ts : List DataType) (c : ℕ) (xs : List Stream) →
+      static_count P here s ≡ Some c → (i : One (data_types P here a) (index_type c) ts) →
+      length xs ≡ element_count i.data_type →
       length (take (part_count P here a) (drop (part_count P here a * number P here s) xs))
       ≡ elements_in ts
   index_wide a s ts c xs is_c i e =
-      let x = indexed c i.shape i.result i.gives in
+      let x = indexed c i.data_type i.result i.gives in
       let q = element_count i.result in
-      let all = e ∙ sizes_product i.shape (x.count ∷ i.result.sizes) x.sizes in
+      let all = e ∙ sizes_product i.data_type (x.count ∷ i.result.sizes) x.sizes in
       just_one _ i.result ts
       (ap₂ (λ p j. length (take p (drop (p * j) xs)))
-      (part_is a i.shape x.count i.result.sizes i.is x.sizes) (number_is s c is_c)
+      (part_is a i.data_type x.count i.result.sizes i.is x.sizes) (number_is s c is_c)
       ∙ length-index q c x.count xs all x.within) i.all
 
   slice_wide :
-      (a : Expr) (s t : Static) (ts : List Shape) (c d : ℕ) (xs : List Stream) →
+      (a : Expr) (s t : Static) (ts : List DataType) (c d : ℕ) (xs : List Stream) →
       static_count P here s ≡ Some c → static_count P here t ≡ Some d →
-      (i : One (shapes P here a) (slice_shape c d) ts) → length xs ≡ element_count i.shape →
+      (i : One (data_types P here a) (slice_type c d) ts) → length xs ≡ element_count i.data_type →
       length
       (take (part_count P here a * (suc (number P here t) - number P here s))
       (drop (part_count P here a * number P here s) xs))
       ≡ elements_in ts
   slice_wide a s t ts c d xs is_c is_d i e =
-      let x = sliced c d i.shape i.result i.gives in
+      let x = sliced c d i.data_type i.result i.gives in
       let q = element_count x.element in
-      let all = e ∙ sizes_product i.shape (x.count ∷ x.element.sizes) x.sizes in
+      let all = e ∙ sizes_product i.data_type (x.count ∷ x.element.sizes) x.sizes in
       let fits : c + (suc d - c) ≤ x.count = omega (arith, x.ordered, x.within) in
       just_one _ i.result ts
-      (slice_numbers xs _ q _ c _ d (part_is a i.shape x.count x.element.sizes i.is x.sizes)
+      (slice_numbers xs _ q _ c _ d (part_is a i.data_type x.count x.element.sizes i.is x.sizes)
       (number_is s c is_c) (number_is t d is_d)
       ∙ length-part q c (suc d - c) x.count xs all fits
       ∙ omega arith ∙ sym x.result) i.all
 
   -- the types of some operands, and of the first one
-  pub record FirstOfAll (e : Expr) (es : Exprs) (ts : List Shape) : Type 0 where
-    pub first : Shape
-    pub rest : List Shape
-    pub is : shapes P here e ≡ Some (first ∷ [])
-    pub others : all_shapes P here es ≡ Some rest
+  pub record FirstOfAll (e : Expr) (es : Exprs) (ts : List DataType) : Type 0 where
+    pub first : DataType
+    pub rest : List DataType
+    pub is : data_types P here e ≡ Some (first ∷ [])
+    pub others : all_types P here es ≡ Some rest
     pub all : ts ≡ first ∷ rest
 
   pub first_of_all :
-      (e : Expr) (es : Exprs) (ts : List Shape) → all_shapes P here (Cons e es) ≡ Some ts →
+      (e : Expr) (es : Exprs) (ts : List DataType) → all_types P here (Cons e es) ≡ Some ts →
       FirstOfAll e es ts
   first_of_all e es ts h =
-      let b = bound (shapes P here e >>= only) _ ts h in
-      let a = bound (shapes P here e) only b.value b.is in
-      let r = bound (all_shapes P here es) _ ts b.gives in
+      let b = bound (data_types P here e >>= only) _ ts h in
+      let a = bound (data_types P here e) only b.value b.is in
+      let r = bound (all_types P here es) _ ts b.gives in
       record {
         first = b.value;
         rest = r.value;
@@ -490,7 +490,7 @@ module _ (P : Program) (H : History) (here : Instance) where
   module _ (variables_wide : AreVariablesWide here) where
     mutual
       pub wide :
-          (k : Clock) (n : ℕ) (e : Expr) (ts : List Shape) → shapes P here e ≡ Some ts →
+          (k : Clock) (n : ℕ) (e : Expr) (ts : List DataType) → data_types P here e ≡ Some ts →
           AllWide (occurrences P here.node k n e) →
           length (streams P H here k n e) ≡ elements_in ts
       wide k n (Literal m) ts e w = ap elements_in (some_same _ _ e)
@@ -500,14 +500,14 @@ module _ (P : Program) (H : History) (here : Instance) where
           (found_in _ (λ d. bytes_eq d.name x) (variables here.node) variables_wide) ts e
       wide k n (Group a) ts e w = wide k n a ts e w
       wide k n (Unary op a) ts e w =
-          let i = one (shapes P here a) (unary_shape op) ts e in
+          let i = one (data_types P here a) (unary_type op) ts e in
           just_one _ i.result ts
           (length-map (streams P H here k n a) _
-          ∙ only_one _ i.shape (wide k n a (i.shape ∷ []) i.is w.1)
-          ∙ unary_count op i.shape i.result i.gives) i.all
+          ∙ only_one _ i.data_type (wide k n a (i.data_type ∷ []) i.is w.1)
+          ∙ unary_count op i.data_type i.result i.gives) i.all
       wide k n (Binary op a b) ts e w =
           let m = n + call_count a in
-          let i = two (shapes P here a) (shapes P here b) (binary_shape op) ts e in
+          let i = two (data_types P here a) (data_types P here b) (binary_type op) ts e in
           let oa = occurrences P here.node k n a in let ob = occurrences P here.node k m b in
           let s = binary_count op i.first i.second i.result i.gives in
           just_one _ i.result ts
@@ -521,26 +521,26 @@ module _ (P : Program) (H : History) (here : Instance) where
           let oa = occurrences P here.node k na a in
           let ob = occurrences P here.node k nb b in
           let branches = aft oc (oa ++ ob) w.1 in
-          let t = bound (from_truths (from_one (shapes P here c) Some)) _ ts e in
-          let truths = from_true (from_one (shapes P here c) Some) t.value t.is in
-          let z = one (shapes P here c) Some truths.shapes truths.is in
-          let i = two (shapes P here a) (shapes P here b) same_shape ts t.gives in
+          let t = bound (from_truths (from_one (data_types P here c) Some)) _ ts e in
+          let truths = from_true (from_one (data_types P here c) Some) t.value t.is in
+          let z = one (data_types P here c) Some truths.data_types truths.is in
+          let i = two (data_types P here a) (data_types P here b) common_type ts t.gives in
           let same = alike i.first i.second i.result i.gives in
-          let condition : is_shape truth z.shape ≡ true =
-          and_first (is_shape truth z.shape) true
-          (ap (λ us. list_all (is_shape truth) us)
+          let condition : is_type truth z.data_type ≡ true =
+          and_first (is_type truth z.data_type) true
+          (ap (λ us. list_all (is_type truth) us)
           (sym (z.all ∙ ap (λ u. u ∷ []) (sym (some_same _ _ z.gives)))) ∙ truths.truths) in
           just_one _ i.result ts
           (length-choices (streams P H here k n c) (streams P H here k na a)
           (streams P H here k nb b) (element_count i.result)
-          (only_one _ z.shape (wide k n c _ z.is (fore oc (oa ++ ob) w.1))
-          ∙ truth_is z.shape condition)
+          (only_one _ z.data_type (wide k n c _ z.is (fore oc (oa ++ ob) w.1))
+          ∙ truth_is z.data_type condition)
           (only_one _ i.first (wide k na a _ i.is_first (fore oa ob branches)) ∙ same.first)
           (only_one _ i.second (wide k nb b _ i.is_second (aft oa ob branches))
           ∙ same.second)) i.all
       wide k n (Arrow a b) ts e w =
           let m = n + call_count a in
-          let i = two (shapes P here a) (shapes P here b) same_shape ts e in
+          let i = two (data_types P here a) (data_types P here b) common_type ts e in
           let oa = occurrences P here.node k n a in let ob = occurrences P here.node k m b in
           let same = alike i.first i.second i.result i.gives in
           just_one _ i.result ts
@@ -549,7 +549,7 @@ module _ (P : Program) (H : History) (here : Instance) where
           (only_one _ i.second (wide k m b _ i.is_second (aft oa ob w.1)) ∙ same.second)) i.all
       wide k n (Fby a b) ts e w =
           let m = n + call_count a in
-          let i = two (shapes P here a) (shapes P here b) same_shape ts e in
+          let i = two (data_types P here a) (data_types P here b) common_type ts e in
           let oa = occurrences P here.node k n a in let ob = occurrences P here.node k m b in
           let same = alike i.first i.second i.result i.gives in
           just_one _ i.result ts
@@ -559,47 +559,48 @@ module _ (P : Program) (H : History) (here : Instance) where
           ∙ only_one _ i.second (wide k m b _ i.is_second (aft oa ob w.1))
           ∙ same.second)) i.all
       wide k n (Pre a) ts e w =
-          let i = one (shapes P here a) Some ts e in
+          let i = one (data_types P here a) Some ts e in
           just_one _ i.result ts
           (length-map (streams P H here k n a) _
-          ∙ only_one _ i.shape (wide k n a (i.shape ∷ []) i.is w.1)
+          ∙ only_one _ i.data_type (wide k n a (i.data_type ∷ []) i.is w.1)
           ∙ ap element_count (some_same _ _ i.gives)) i.all
       wide k n (When a x sign) ts e w =
-          let t = bound (from_truths (singly (name_shape P here x))) _ ts e in
-          let i = one (shapes P here a) Some ts t.gives in
+          let t = bound (from_truths (singly (name_data_type P here x))) _ ts e in
+          let i = one (data_types P here a) Some ts t.gives in
           just_one _ i.result ts
           (length-map (streams P H here (declared_clock here.node x) n a) _
-          ∙ only_one _ i.shape (wide (declared_clock here.node x) n a (i.shape ∷ []) i.is w.1)
+          ∙ only_one _ i.data_type
+          (wide (declared_clock here.node x) n a (i.data_type ∷ []) i.is w.1)
           ∙ ap element_count (some_same _ _ i.gives)) i.all
       wide k n (Current a) ts e w =
           let own = clock_or (clock_of P here.node a) in
-          let i = one (shapes P here a) Some ts e in
+          let i = one (data_types P here a) Some ts e in
           just_one _ i.result ts
           (length-map (streams P H here own n a) _
-          ∙ only_one _ i.shape (wide own n a (i.shape ∷ []) i.is w.1)
+          ∙ only_one _ i.data_type (wide own n a (i.data_type ∷ []) i.is w.1)
           ∙ ap element_count (some_same _ _ i.gives)) i.all
-      wide k n (Copies a m) ts e w =
+      wide k n (Replicate a m) ts e w =
           let c = bound (static_count P here m) _ ts e in
-          let i = one (shapes P here a) (array_of c.value) ts c.gives in
+          let i = one (data_types P here a) (array_of c.value) ts c.gives in
           just_one _ i.result ts
           (length-copies (number P here m) (streams P H here k n a)
           ∙ ap₂ (λ p q. p * q) (number_is m c.value c.is)
-          (only_one _ i.shape (wide k n a (i.shape ∷ []) i.is w.1))
-          ∙ sym (array_count c.value i.shape i.result i.gives)) i.all
+          (only_one _ i.data_type (wide k n a (i.data_type ∷ []) i.is w.1))
+          ∙ sym (array_count c.value i.data_type i.result i.gives)) i.all
       wide k n (Index a s) ts e w =
           let c = bound (static_count P here s) _ ts e in
-          let i = one (shapes P here a) (index_shape c.value) ts c.gives in
+          let i = one (data_types P here a) (index_type c.value) ts c.gives in
           index_wide a s ts c.value (streams P H here k n a) c.is i
-          (only_one _ i.shape (wide k n a (i.shape ∷ []) i.is w.1))
+          (only_one _ i.data_type (wide k n a (i.data_type ∷ []) i.is w.1))
       wide k n (Slice a s t) ts e w =
           let c = bound (static_count P here s) _ ts e in
           let d = bound (static_count P here t) _ ts c.gives in
-          let i = one (shapes P here a) (slice_shape c.value d.value) ts d.gives in
+          let i = one (data_types P here a) (slice_type c.value d.value) ts d.gives in
           slice_wide a s t ts c.value d.value (streams P H here k n a) c.is d.is i
-          (only_one _ i.shape (wide k n a (i.shape ∷ []) i.is w.1))
+          (only_one _ i.data_type (wide k n a (i.data_type ∷ []) i.is w.1))
       wide k n (Join a b) ts e w =
           let m = n + call_count a in
-          let i = two (shapes P here a) (shapes P here b) join_shape ts e in
+          let i = two (data_types P here a) (data_types P here b) join_type ts e in
           let oa = occurrences P here.node k n a in let ob = occurrences P here.node k m b in
           just_one _ i.result ts
           (length-append (streams P H here k n a) (streams P H here k m b)
@@ -608,40 +609,40 @@ module _ (P : Program) (H : History) (here : Instance) where
           (only_one _ i.second (wide k m b _ i.is_second (aft oa ob w.1)))
           ∙ joined_count i.first i.second i.result i.gives) i.all
       wide k n (Array es) ts e w =
-          let b = bound (all_shapes P here es) _ ts e in
-          let a = alone (list_shape b.value) ts b.gives in
-          just_one _ a.shape ts
+          let b = bound (all_types P here es) _ ts e in
+          let a = alone (list_type b.value) ts b.gives in
+          just_one _ a.data_type ts
           (joined_wide (all_streams P H here k n es) b.value
           (all_wide k n es b.value b.is w.1)
-          ∙ list_count b.value a.shape a.is) a.all
+          ∙ list_count b.value a.data_type a.is) a.all
       wide k n (AtMostOne es) ts e w =
-          let t = from_true (all_shapes P here es) ts e in sym (ap elements_in t.all)
+          let t = from_true (all_types P here es) ts e in sym (ap elements_in t.all)
       wide k n (Nor es) ts e w =
-          let t = from_true (all_shapes P here es) ts e in sym (ap elements_in t.all)
+          let t = from_true (all_types P here es) ts e in sym (ap elements_in t.all)
       wide k n (Call f statics es) ts e w =
-          let o = bound (operator_shapes P here (Node_named f statics)) _ ts e in
-          let a = bound (all_shapes P here es) _ ts o.gives in
-          let t = truly (are_shapes o.value.0 a.value) o.value.1 ts a.gives in
+          let o = bound (operator_types P here (Node_named f statics)) _ ts e in
+          let a = bound (all_types P here es) _ ts o.gives in
+          let t = truly (are_types o.value.0 a.value) o.value.1 ts a.gives in
           call_wide n f statics o.value o.is w.0 ∙ ap elements_in t.same
       wide k n (Iterate it (Node_named f statics) m es) ts e w =
           let c = bound (static_count P here m) _ ts e in
-          let o = bound (operator_shapes P here (Node_named f statics)) _ ts c.gives in
-          let a = bound (all_shapes P here es) _ ts o.gives in
+          let o = bound (operator_types P here (Node_named f statics)) _ ts c.gives in
+          let a = bound (all_types P here es) _ ts o.gives in
           let same = number_is m c.value c.is in
           iterate_wide n it f statics (number P here m) o.value a.value ts w.0.0 o.is w.0.1
-          (ap (λ count. iterator_shapes it count o.value.0 o.value.1 a.value) same ∙ a.gives)
+          (ap (λ count. iterator_types it count o.value.0 o.value.1 a.value) same ∙ a.gives)
       wide k n (Iterate it (Symbol op) m es) ts e w =
           let c = bound (static_count P here m) _ ts e in
-          let o = bound (operator_shapes P here (Symbol op)) _ ts c.gives in
-          let a = bound (all_shapes P here es) _ ts o.gives in
+          let o = bound (operator_types P here (Symbol op)) _ ts c.gives in
+          let a = bound (all_types P here es) _ ts o.gives in
           let s = symbol_types (is_arithmetic op) o.value o.is in
-          symbol_wide op c.value s.shape s.scalar it a.value ts (all_streams P H here k n es)
+          symbol_wide op c.value s.data_type s.scalar it a.value ts (all_streams P H here k n es)
           (all_wide k n es a.value a.is w.1)
-          (ap₂ (λ ins outs. iterator_shapes it c.value ins outs a.value) (sym s.ins) (sym s.outs)
+          (ap₂ (λ ins outs. iterator_types it c.value ins outs a.value) (sym s.ins) (sym s.outs)
           ∙ a.gives)
 
       pub all_wide :
-          (k : Clock) (n : ℕ) (es : Exprs) (ts : List Shape) → all_shapes P here es ≡ Some ts →
+          (k : Clock) (n : ℕ) (es : Exprs) (ts : List DataType) → all_types P here es ≡ Some ts →
           AllWide (occurrences_in P here.node k n es) →
           map length (all_streams P H here k n es) ≡ map element_count ts
       all_wide k n Nil ts e w = ap (map element_count) (some_same _ _ e)

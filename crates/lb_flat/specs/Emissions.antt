@@ -5,7 +5,7 @@ use Rattle.lb_flat.specs.declared.equation.ElementId.{ElementId}
 use Rattle.lb_flat.specs.declared.equation.Operation.{Operation}
 use Rattle.lb_flat.specs.declared.equation.Operation.TheVariants.{Input, Constant, Copy, ApplyUnary, ApplyBinary, Choose, FirstThen, Previous, Latest, Sample}
 use Rattle.lb_flat.specs.declared.expand.emission.Emission.{Emission}
-use Rattle.lb_flat.specs.declared.expand.emission.Found.{Found}
+use Rattle.lb_flat.specs.declared.expand.emission.TypedElement.{TypedElement}
 use Rattle.lb_flat.specs.Emit.{State, Emitted}
 use Rattle.lb_flat.specs.Programs.{numbers_of, flat_equations}
 use Rattle.lb_flat.specs.Terms as terms
@@ -16,12 +16,12 @@ state_of s = record {
   equations = flat_equations [] s.equations.items;
   copies = flat_equations [] s.copies.items;
   next = s.next;
-  kept = numbers_of s.kept.items;
+  memory_operands = numbers_of s.memory_operands.items;
   asserted = numbers_of s.asserted.items;
 }
 
 -- the same with the element that holds a term
-abbrev pub found_of : Emission → Found → terms.Found
+abbrev pub found_of : Emission → TypedElement → terms.TypedElement
 found_of s f = record { state = state_of s; element = f.element.0; kind = f.kind }
 
 -- the same with the elements that hold some terms

@@ -10,16 +10,16 @@ use Rattle.lb_syntax.specs.declared.tree.BinaryOperator.TheVariants.{Or, And}
 use Rattle.lb_syntax.specs.declared.tree.ArrayIterator.{ArrayIterator}
 use Rattle.lb_syntax.specs.declared.tree.ArrayIterator.TheVariants.{Map, Red}
 use Rattle.lb_syntax.specs.Lists.{zip2, copies, joined, listed}
-use Rattle.lb_syntax.specs.Tree.{Name, Node_named, Symbol, Expr, Literal, Truth, Variable, Group, Unary, Binary, If, Arrow, Fby, Pre, Current, When, Copies, Index, Slice, Join, Array, AtMostOne, Nor, Call, Iterate, Exprs, Nil, Cons, Declaration, Node, Statement, Equation, Assertion}
+use Rattle.lb_syntax.specs.Tree.{Name, Node_named, Symbol, Expr, Literal, Truth, Variable, Group, Unary, Binary, If, Arrow, Fby, Pre, Current, When, Replicate, Index, Slice, Join, Array, AtMostOne, Nor, Call, Iterate, Exprs, Nil, Cons, Declaration, Node, Statement, Equation, Assertion}
 use Rattle.lb_static.specs.StaticValues.{named}
 use Rattle.lb_static.specs.Instances.{Program, Instance, Path, Root, Observer, Child, name_value, node_named, instance_at, instances}
-use Rattle.lb_static.specs.Shapes.{variables}
+use Rattle.lb_static.specs.DataTypes.{variables}
 use Rattle.lb_check.specs.Scalars.{Integer, Boolean, or_fault}
 use Rattle.lb_check.specs.Clocks.{Clock, On, clock_of, clock_or, declared_clock}
 use Rattle.lb_check.specs.Occurrences.{call_count, call_clocks, statement_clock}
 use Rattle.lb_check.specs.Streams.{first_of, part_count, number, outputs_of, iterated}
 use Rattle.lb_check.specs.Solutions.{iterator_inputs}
-use Rattle.lb_check.specs.Verdicts.{judge}
+use Rattle.lb_check.specs.Verdicts.{property_path}
 use Rattle.lb_flat.specs.Flat.{FlatClock, Operation, Input, Constant, Copy, ApplyUnary, ApplyBinary, Choose, FirstThen, Previous, Latest, Sample, FlatEquation}
 use Rattle.lb_flat.specs.Judging.{FlatProgram}
 use Rattle.lb_flat.specs.Layouts.{Layout, flat_clock}
@@ -32,7 +32,7 @@ pub record State : Type 0 where
   pub equations : List FlatEquation
   pub copies : List FlatEquation
   pub next : ℕ
-  pub kept : List ℕ
+  pub memory_operands : List ℕ
   pub asserted : List ℕ
 
 -- and the elements that hold a result
@@ -83,7 +83,7 @@ add k s os = record {
 -- these elements are operands that memories keep
 unfoldable pub keep : Emitted → Emitted
 keep x = record {
-  state = record x.state { kept = x.state.kept ++ x.found };
+  state = record x.state { memory_operands = x.state.memory_operands ++ x.found };
   found = x.found;
 }
 
@@ -235,7 +235,7 @@ unfoldable mutual
   emit Y P here k n s (Current a) =
       let x = keep (emit Y P here (clock_or (clock_of P here.node a)) n s a) in
       add (flat_clock Y here.path k) x.state (map (Latest (first_of P here a)) x.found)
-  emit Y P here k n s (Copies a m) =
+  emit Y P here k n s (Replicate a m) =
       let x = emit Y P here k n s a in
       gives x.state (copies (number P here m) x.found)
   emit Y P here k n s (Index a i) =
@@ -313,7 +313,7 @@ emit_instances Y P s (here ∷ rest) =
 -- before any instance, where so many elements are those of variables
 abbrev pub before_instances : ℕ → State
 before_instances elements =
-    record { equations = []; copies = []; next = elements; kept = []; asserted = [] }
+    record { equations = []; copies = []; next = elements; memory_operands = []; asserted = [] }
 
 -- ## The whole program
 
@@ -345,7 +345,7 @@ observed Y root observer = []
 abbrev pub property_places : Layout → Program → List ℕ
 property_places Y P =
     listed (λ here. flat_map (λ d. Y.places here.path d.name) here.node.outputs)
-    (instance_at P (judge P.observer))
+    (instance_at P (property_path P.observer))
 
 -- the whole program, where so many elements are those of variables
 abbrev pub expanded : Layout → Program → ℕ → FlatProgram
@@ -358,7 +358,7 @@ expanded Y P count =
           given_inputs Y root ++ (observed Y root observer ++ (s.copies ++ s.equations));
       size = s.next;
       variables = count;
-      kept = s.kept;
+      memory_operands = s.memory_operands;
       asserted = s.asserted;
       property = get_or (property_places Y P) 0 0;
     }

@@ -12,7 +12,7 @@ use Rattle.lb_flat.specs.Flat.{FlatEquation}
 use Rattle.lb_flat.specs.Run.{Ready}
 use Rattle.lb_flat.specs.Judging.{FlatProgram}
 use Rattle.lb_flat.specs.Flattening.{IsFlatOf}
-use Rattle.lb_flat.specs.PlainPrograms.{uses_later_forms}
+use Rattle.lb_flat.specs.PlainPrograms.{uses_unsupported_forms}
 use Rattle.lb_flat.specs.Programs.{program_of}
 use Rattle.lb_flat.specs.Stuck.{CannotOrder}
 
@@ -38,7 +38,7 @@ abbrev pub IsExpansionAnswer : Program → Result Flat FlatError → Type 0
 IsExpansionAnswer P (Ok f) = (is_small P ≡ true) × IsExpansionOf P (program_of f.program)
 IsExpansionAnswer P (Err error.Memory) = Unit {0}
 IsExpansionAnswer P (Err error.Large) = is_small P ≡ false
-IsExpansionAnswer P (Err error.Later) = uses_later_forms P ≡ true
+IsExpansionAnswer P (Err error.Unsupported) = uses_unsupported_forms P ≡ true
 
 -- the same flat program, with its equations in an order in which they can be computed
 pub record IsOrderOf (f g : FlatProgram) : Type 0 where

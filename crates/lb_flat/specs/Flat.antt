@@ -6,7 +6,7 @@ use Rattle.lb_syntax.specs.declared.tree.UnaryOperator.{UnaryOperator}
 use Rattle.lb_syntax.specs.declared.tree.BinaryOperator.{BinaryOperator}
 use Rattle.lb_syntax.specs.Lists.{Every, zip2}
 use Rattle.lb_check.specs.Scalars.{Scalar, Stream, two_scalars, one_scalar}
-use Rattle.lb_check.specs.Streams.{constantly, along, along_two, choice, previous, first_then, kept, latest, sampled_at}
+use Rattle.lb_check.specs.Streams.{constantly, along, along_two, choice, previous, first_then, sample, latest, sampled_at}
 use Rattle.lb_check.specs.Solutions.{Inputs, column_of}
 
 -- ## What a flat program is
@@ -59,7 +59,7 @@ operate X F k (FirstThen false a b) = first_then (column X F a) (column X F b)
 operate X F k (FirstThen true a b) = column X F b
 operate X F k (Previous v a) = previous v (instants X F k) (column X F a)
 operate X F k (Latest v a) = latest v (instants X F k) (column X F a)
-operate X F k (Sample a) = zip2 kept (instants X F k) (column X F a)
+operate X F k (Sample a) = zip2 sample (instants X F k) (column X F a)
 
 -- a flat equation holds of streams
 abbrev pub Holds : Inputs → List Stream → FlatEquation → Type 0

@@ -16,13 +16,13 @@ pub record FlatProgram : Type 0 where
   pub equations : List FlatEquation
   pub size : ℕ
   pub variables : ℕ
-  pub kept : List ℕ
+  pub memory_operands : List ℕ
   pub asserted : List ℕ
   pub property : ℕ
 
 -- the elements at which a fault counts
 abbrev pub named_elements : FlatProgram → List ℕ
-named_elements f = range_with_len 0 f.variables ++ (f.kept ++ f.asserted)
+named_elements f = range_with_len 0 f.variables ++ (f.memory_operands ++ f.asserted)
 
 -- one of these elements passes a test in a row
 abbrev pub some_in : (Option Cell → Bool) → Row → List ℕ → Bool

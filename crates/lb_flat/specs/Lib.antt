@@ -17,7 +17,7 @@ pub mod PlainLayout
 pub mod PlainTerms
 pub mod PlainNodes
 pub mod PlainPrograms
-pub mod LaterForms
+pub mod UnsupportedForms
 pub mod TermKinds
 pub mod Stuck
 pub mod Expanded

@@ -6,16 +6,16 @@ use Rattle.lb_syntax.specs.Tree as tree
 use Rattle.lb_syntax.specs.Tree.{Name, Node, Expr, Declaration}
 use Rattle.lb_static.specs.declared.resolved.VariableId.{VariableId}
 use Rattle.lb_flat.specs.declared.plain.term.Variable.{Variable}
-use Rattle.lb_flat.specs.declared.plain.term.Step.{Step}
-use Rattle.lb_flat.specs.declared.plain.term.Step.TheVariants as step
+use Rattle.lb_flat.specs.declared.plain.term.PlainStatement.{PlainStatement}
+use Rattle.lb_flat.specs.declared.plain.term.PlainStatement.TheVariants as statement
 use Rattle.lb_flat.specs.declared.plain.term.Term.{Term, Literal, Truth, Variable as Named, Group', Unary', Binary', If', Arrow', Fby', Pre', AtMostOne', Nor', Row_of-Term, end_of-Term, more_of-Term}
 use Rattle.lb_static.specs.Arithmetic.{is_int}
 use Rattle.lb_static.specs.Signature.{Elements}
 use Rattle.lb_static.specs.Instances.{Program, Instance, Root, instance_at, instances}
 use Rattle.lb_static.specs.Parts.{among, node_parts, node_names, variable_names}
-use Rattle.lb_static.specs.Shapes.{variables, signature}
+use Rattle.lb_static.specs.DataTypes.{variables, signature}
 use Rattle.lb_flat.specs.PlainTerms.{declaration_of, statement_of}
-use Rattle.lb_static.specs.Walk.{static_refusal}
+use Rattle.lb_static.specs.Instantiation.{static_refusal}
 
 -- ## Places of variables
 
@@ -36,24 +36,24 @@ abbrev mutual
   is_within count (Arrow' p a q b) = is_within count a && is_within count b
   is_within count (Fby' p a q b) = is_within count a && is_within count b
   is_within count (Pre' p e) = is_within count e
-  is_within count (AtMostOne' shape all) = are_within count all
-  is_within count (Nor' shape all) = are_within count all
+  is_within count (AtMostOne' arity all) = are_within count all
+  is_within count (Nor' arity all) = are_within count all
 
   pub are_within : {m : _} → ℕ → Row_of-Term m → Bool
   are_within count end_of-Term = true
   are_within count (more_of-Term e rest) = is_within count e && are_within count rest
 
-abbrev pub is_step_within : ℕ → Step → Bool
-is_step_within count (step.Equation lefts e) =
+abbrev pub is_statement_within : ℕ → PlainStatement → Bool
+is_statement_within count (statement.Equation lefts e) =
     list_all (is_place count) lefts.items && is_within count e
-is_step_within count (step.Assertion e) = is_within count e
+is_statement_within count (statement.Assertion e) = is_within count e
 
 -- ## The node that a plain program has
 
 -- a node from its variables, of which the first are inputs and the next outputs, and its steps
 abbrev pub node_of :
-    Name → Bool → List Variable → (inputs outputs : ℕ) → List Step → Node
-node_of name is_function vars inputs outputs steps =
+    Name → Bool → List Variable → (inputs outputs : ℕ) → List PlainStatement → Node
+node_of name is_function vars inputs outputs statements =
     let declared = map declaration_of vars in
     let names = map (λ x. x.name) vars in
     record {
@@ -63,7 +63,7 @@ node_of name is_function vars inputs outputs steps =
       inputs = take inputs declared;
       outputs = take outputs (drop inputs declared);
       locals = drop (inputs + outputs) declared;
-      body = map (statement_of names) steps;
+      body = map (statement_of names) statements;
     }
 
 -- a scalar on the base clock
@@ -76,7 +76,7 @@ abbrev pub is_plain : Expr → Bool
 is_plain (tree.Literal n) = is_int (pos n)
 is_plain (tree.Current a) = false
 is_plain (tree.When a x sign) = false
-is_plain (tree.Copies a n) = false
+is_plain (tree.Replicate a n) = false
 is_plain (tree.Index a i) = false
 is_plain (tree.Slice a i j) = false
 is_plain (tree.Join a b) = false

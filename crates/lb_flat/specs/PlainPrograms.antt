@@ -7,10 +7,10 @@ use Rattle.lb_syntax.specs.Tree.{Node}
 use Rattle.lb_static.specs.Instances.{Program, Root, instance_at}
 use Rattle.lb_static.specs.ReachedNodes.{tree_at}
 use Rattle.lb_static.specs.ResolvedNodes as resolved
-use Rattle.lb_static.specs.Shapes.{variables}
+use Rattle.lb_static.specs.DataTypes.{variables}
 use Rattle.lb_static.specs.declared.reach.Reached.{Reached}
 use Rattle.lb_static.specs.declared.resolved.ResolvedNode.{ResolvedNode}
-use Rattle.lb_flat.specs.LaterForms.{is_plain_step, IsLater}
+use Rattle.lb_flat.specs.UnsupportedForms.{is_plain_statement, IsUnsupported}
 use Rattle.lb_flat.specs.PlainNodes.{is_scalar, is_plain_node, node_of}
 use Rattle.lb_flat.specs.declared.error.FlatError.{FlatError}
 use Rattle.lb_flat.specs.declared.error.FlatError.TheVariants as error
@@ -21,14 +21,14 @@ abbrev pub node_in : Plain → Node
 node_in n = node_of n.name n.is_function n.variables.items n.inputs n.outputs n.body.items
 
 -- as yet: it has an observer, or a form in the node under test, that does not run
-abbrev pub uses_later_forms : Program → Bool
-uses_later_forms P =
+abbrev pub uses_unsupported_forms : Program → Bool
+uses_unsupported_forms P =
     is_some P.observer || holds (λ here. not (is_plain_node here.node)) (instance_at P Root)
 
 -- a program that is no plain one has forms that do not run yet, unless memory ran out
 abbrev pub IsPlainFault : Program → FlatError → Type 0
 IsPlainFault P error.Memory = Unit {0}
-IsPlainFault P error.Later = uses_later_forms P ≡ true
+IsPlainFault P error.Unsupported = uses_unsupported_forms P ≡ true
 IsPlainFault P error.Large = ⊥
 
 -- ## The starts
@@ -43,8 +43,8 @@ abbrev pub runs : ResolvedNode → Bool
 runs r =
     nat_eq (length r.statics.items) 0
     && (list_all is_scalar (variables (resolved.node_of r))
-    && list_all is_plain_step r.body.items)
+    && list_all is_plain_statement r.body.items)
 
 abbrev pub TranslatesNode : ResolvedNode → Result Plain FlatError → Type 0
 TranslatesNode r (Ok n) = (node_in n ≡ resolved.node_of r) × (runs r ≡ true)
-TranslatesNode r (Err e) = IsLater e (runs r)
+TranslatesNode r (Err e) = IsUnsupported e (runs r)

@@ -6,8 +6,8 @@ use Rattle.lb_syntax.specs.Tree as tree
 use Rattle.lb_syntax.specs.Tree.{Name, Expr, Exprs, Nil, Cons, Declaration, Statement}
 use Rattle.lb_static.specs.declared.resolved.VariableId.{VariableId}
 use Rattle.lb_flat.specs.declared.plain.term.Variable.{Variable}
-use Rattle.lb_flat.specs.declared.plain.term.Step.{Step}
-use Rattle.lb_flat.specs.declared.plain.term.Step.TheVariants as step
+use Rattle.lb_flat.specs.declared.plain.term.PlainStatement.{PlainStatement}
+use Rattle.lb_flat.specs.declared.plain.term.PlainStatement.TheVariants as statement
 use Rattle.lb_flat.specs.declared.plain.term.Term.{Term, Literal, Truth, Variable as Named, Group', Unary', Binary', If', Arrow', Fby', Pre', AtMostOne', Nor', Row_of-Term, end_of-Term, more_of-Term}
 
 -- the name of a variable among these
@@ -28,17 +28,17 @@ abbrev mutual
   expr_of names (Arrow' p a q b) = tree.Arrow (expr_of names a) (expr_of names b)
   expr_of names (Fby' p a q b) = tree.Fby (expr_of names a) (expr_of names b)
   expr_of names (Pre' p e) = tree.Pre (expr_of names e)
-  expr_of names (AtMostOne' shape all) = tree.AtMostOne (row_of names all)
-  expr_of names (Nor' shape all) = tree.Nor (row_of names all)
+  expr_of names (AtMostOne' arity all) = tree.AtMostOne (row_of names all)
+  expr_of names (Nor' arity all) = tree.Nor (row_of names all)
 
   pub row_of : {m : _} → List Name → Row_of-Term m → Exprs
   row_of names end_of-Term = Nil
   row_of names (more_of-Term e rest) = Cons (expr_of names e) (row_of names rest)
 
-abbrev pub statement_of : List Name → Step → Statement
-statement_of names (step.Equation lefts e) =
+abbrev pub statement_of : List Name → PlainStatement → Statement
+statement_of names (statement.Equation lefts e) =
     tree.Equation (map (name_of names) lefts.items) (expr_of names e)
-statement_of names (step.Assertion e) = tree.Assertion (expr_of names e)
+statement_of names (statement.Assertion e) = tree.Assertion (expr_of names e)
 
 -- a scalar variable on the base clock, as it is declared
 abbrev pub declaration_of : Variable → Declaration

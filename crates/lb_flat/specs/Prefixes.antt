@@ -4,7 +4,7 @@
 use Rattle.std.specs.Prelude.{◌≡◌, ℕ, ◌++◌, length, map, take}
 use Rattle.lb_syntax.specs.Lists.{Every}
 use Rattle.lb_static.specs.Instances.{Program, Instance, instances}
-use Rattle.lb_static.specs.Shapes.{variables}
+use Rattle.lb_static.specs.DataTypes.{variables}
 use Rattle.lb_check.specs.Streams.{History}
 use Rattle.lb_check.specs.Solutions.{Inputs, Solves, HasOneHistory}
 use Rattle.lb_flat.specs.Flattening.{IsTrace}

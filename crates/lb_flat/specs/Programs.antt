@@ -2,46 +2,46 @@
 -- Source: this project's rule.
 use Rattle.std.specs.Prelude.{ℕ, ◌<◌, ◌≤◌, List, [], map, All}
 use Rattle.lb_flat.specs.declared.equation.ElementId.{ElementId}
-use Rattle.lb_flat.specs.declared.equation.Tick.{Tick}
+use Rattle.lb_flat.specs.declared.equation.Clock.{Clock}
 use Rattle.lb_flat.specs.declared.equation.Equation.{Equation}
 use Rattle.lb_flat.specs.declared.program.FlatProgram.{FlatProgram}
 use Rattle.lb_flat.specs.Flat.{FlatEquation}
 use Rattle.lb_flat.specs.Judging as judging
 use Rattle.lb_flat.specs.Run.{Ready}
 use Rattle.lb_flat.specs.Values.{equation_of}
-use Rattle.lb_flat.specs.Within.{AreTicks, IsWithin}
+use Rattle.lb_flat.specs.Within.{AreClocks, IsWithin}
 
 -- the numbers of some elements
 abbrev pub numbers_of : List ElementId → List ℕ
 numbers_of ids = map (λ a. a.0) ids
 
 -- some equations, under the table of their clocks
-abbrev pub flat_equations : List Tick → List Equation → List FlatEquation
-flat_equations ticks qs = map (equation_of ticks) qs
+abbrev pub flat_equations : List Clock → List Equation → List FlatEquation
+flat_equations clocks qs = map (equation_of clocks) qs
 
 -- a flat program
 abbrev pub program_of : FlatProgram → judging.FlatProgram
 program_of p = record {
-  equations = flat_equations p.ticks.items p.equations.items;
+  equations = flat_equations p.clocks.items p.equations.items;
   size = p.size;
   variables = p.variables;
-  kept = numbers_of p.kept.items;
+  memory_operands = numbers_of p.memory_operands.items;
   asserted = numbers_of p.asserted.items;
   property = p.property.0;
 }
 
 -- all numbers are those of elements, and of clocks of the table
 pub record IsInRange (p : FlatProgram) : Type 0 where
-  pub ticks : AreTicks p.size p.ticks.items
-  pub equations : All (IsWithin p.size p.ticks.items) p.equations.items
+  pub clocks : AreClocks p.size p.clocks.items
+  pub equations : All (IsWithin p.size p.clocks.items) p.equations.items
   pub variables : p.variables ≤ p.size
-  pub kept : All (λ a. a.0 < p.size) p.kept.items
+  pub memory_operands : All (λ a. a.0 < p.size) p.memory_operands.items
   pub asserted : All (λ a. a.0 < p.size) p.asserted.items
   pub property : p.property.0 < p.size
 
 -- equations of a program stand in an order in which they can be computed
 abbrev pub AreInOrder : FlatProgram → List Equation → Type 0
-AreInOrder p qs = Ready p.size [] (flat_equations p.ticks.items qs)
+AreInOrder p qs = Ready p.size [] (flat_equations p.clocks.items qs)
 
 -- a program can be run
 pub record IsRunnable (p : FlatProgram) : Type 0 where

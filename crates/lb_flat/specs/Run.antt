@@ -3,7 +3,7 @@
 use Rattle.std.specs.Prelude.{ℕ, ◌<◌, Bool, true, false, ◌&&◌, Some, None, List, [], ◌∷◌, ◌++◌, map, get_or, set, replicate, slice_get}
 use Rattle.lb_syntax.specs.Lists.{Every, In, zip2}
 use Rattle.lb_check.specs.Scalars.{Scalar, Cell, Stream, chosen, two_scalars, one_scalar}
-use Rattle.lb_check.specs.Streams.{held, one_cell, two_cells, kept, shows, newest}
+use Rattle.lb_check.specs.Streams.{held, one_cell, two_cells, sample, shows, newest}
 use Rattle.lb_check.specs.Solutions.{Inputs}
 use Rattle.lb_flat.specs.Flat.{FlatClock, Always, Where, Operation, Input, Constant, Copy, ApplyUnary, ApplyBinary, Choose, FirstThen, Previous, Latest, Sample, FlatEquation}
 
@@ -39,7 +39,7 @@ now given row k (FirstThen false a b) = cell row a
 now given row k (FirstThen true a b) = cell row b
 now given row k (Previous v a) = held v (is_now row k)
 now given row k (Latest v a) = held (newest v (cell row a)) (is_now row k)
-now given row k (Sample a) = kept (is_now row k) (cell row a)
+now given row k (Sample a) = sample (is_now row k) (cell row a)
 
 -- an instant fills a row, equation by equation
 abbrev pub filled : List Scalar → Row → List FlatEquation → Row

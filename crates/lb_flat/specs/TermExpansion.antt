@@ -15,4 +15,4 @@ IsSizedAnswer e (Ok f) =
     (plain_size_of e ≤ 65536) × (program_of f.program ≡ expanded_plain e)
 IsSizedAnswer e (Err error.Memory) = Unit {0}
 IsSizedAnswer e (Err error.Large) = 65536 < plain_size_of e
-IsSizedAnswer e (Err error.Later) = ⊥
+IsSizedAnswer e (Err error.Unsupported) = ⊥

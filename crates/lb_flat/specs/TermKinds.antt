@@ -8,12 +8,12 @@ use Rattle.lb_syntax.specs.declared.tree.BinaryOperator.{BinaryOperator}
 use Rattle.lb_syntax.specs.declared.tree.Kind.{Kind}
 use Rattle.lb_syntax.specs.declared.tree.Kind.TheVariants.{Int as Int_kind, Bool as Bool_kind}
 use Rattle.lb_syntax.specs.Lists.{◌>>=◌, where_true}
-use Rattle.lb_static.specs.Shapes.{is_kind}
+use Rattle.lb_static.specs.DataTypes.{is_kind}
 use Rattle.lb_flat.specs.declared.plain.term.Term.{Term, Literal, Truth, Variable, Group', Unary', Binary', If', Arrow', Fby', Pre', AtMostOne', Nor', Row_of-Term, end_of-Term, more_of-Term}
 use Rattle.lb_flat.specs.declared.plain.term.Variable.{Variable as Declared}
 use Rattle.lb_static.specs.declared.resolved.VariableId.{VariableId}
-use Rattle.lb_flat.specs.declared.plain.term.Step.{Step}
-use Rattle.lb_flat.specs.declared.plain.term.Step.TheVariants as step
+use Rattle.lb_flat.specs.declared.plain.term.PlainStatement.{PlainStatement}
+use Rattle.lb_flat.specs.declared.plain.term.PlainStatement.TheVariants as statement
 use Rattle.lb_check.specs.Types.{is_arithmetic, is_logical, is_equality}
 
 -- the kinds of some variables
@@ -54,8 +54,8 @@ unfoldable mutual
   term_kind kinds (Arrow' p a q b) = term_kind kinds a >>= λ k. term_kind kinds b >>= same_kind k
   term_kind kinds (Fby' p a q b) = term_kind kinds a >>= λ k. term_kind kinds b >>= same_kind k
   term_kind kinds (Pre' p e) = term_kind kinds e
-  term_kind kinds (AtMostOne' shape all) = where_true (row_truths kinds all) Bool_kind
-  term_kind kinds (Nor' shape all) = where_true (row_truths kinds all) Bool_kind
+  term_kind kinds (AtMostOne' arity all) = where_true (row_truths kinds all) Bool_kind
+  term_kind kinds (Nor' arity all) = where_true (row_truths kinds all) Bool_kind
 
   -- whether each of a row is a truth
   pub row_truths : {m : _} → List Kind → Row_of-Term m → Bool
@@ -74,10 +74,11 @@ abbrev pub fits_left : List Kind → List VariableId → Option Kind → Bool
 fits_left kinds (x ∷ []) o = is_same o (slice_get kinds x.0)
 fits_left kinds xs o = false
 
-abbrev pub is_step_typed : List Kind → Step → Bool
-is_step_typed kinds (step.Equation lefts e) = fits_left kinds lefts.items (term_kind kinds e)
-is_step_typed kinds (step.Assertion e) = is_bool (term_kind kinds e)
+abbrev pub is_plain_statement_typed : List Kind → PlainStatement → Bool
+is_plain_statement_typed kinds (statement.Equation lefts e) =
+    fits_left kinds lefts.items (term_kind kinds e)
+is_plain_statement_typed kinds (statement.Assertion e) = is_bool (term_kind kinds e)
 
 -- whether each of some statements keeps the rules of types
-abbrev pub are_typed : List Kind → List Step → Bool
-are_typed kinds = list_all (is_step_typed kinds)
+abbrev pub are_typed : List Kind → List PlainStatement → Bool
+are_typed kinds = list_all (is_plain_statement_typed kinds)

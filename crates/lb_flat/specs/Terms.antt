@@ -11,8 +11,8 @@ use Rattle.lb_syntax.specs.declared.tree.Kind.TheVariants.{Int as Int_kind, Bool
 use Rattle.lb_syntax.specs.Lists.{either_or}
 use Rattle.lb_flat.specs.declared.plain.Plain.{Plain}
 use Rattle.lb_static.specs.declared.resolved.VariableId.{VariableId}
-use Rattle.lb_flat.specs.declared.plain.term.Step.{Step}
-use Rattle.lb_flat.specs.declared.plain.term.Step.TheVariants as step
+use Rattle.lb_flat.specs.declared.plain.term.PlainStatement.{PlainStatement}
+use Rattle.lb_flat.specs.declared.plain.term.PlainStatement.TheVariants as statement
 use Rattle.lb_flat.specs.declared.plain.term.Term.{Term, Literal, Truth, Variable, Group', Unary', Binary', If', Arrow', Fby', Pre', AtMostOne', Nor', Row_of-Term, end_of-Term, more_of-Term}
 use Rattle.lb_check.specs.Scalars.{Scalar, Integer, Boolean, Bad, first_value}
 use Rattle.lb_check.specs.Types.{is_arithmetic}
@@ -24,29 +24,29 @@ use Rattle.lb_flat.specs.Emit.{State, Emitted, push, emit_nor, emit_at_most_one,
 -- ## Terms
 
 -- what was emitted, with the element that holds a term and its kind
-pub record Found : Type 0 where
+pub record TypedElement : Type 0 where
   pub state : State
   pub element : ℕ
   pub kind : Kind
 
 -- one equation more, whose element holds a term
-abbrev pub pushed : State → Operation → Kind → Found
+abbrev pub pushed : State → Operation → Kind → TypedElement
 pushed s o k = record { state = push Always s o; element = s.next; kind = k }
 
 -- this element is an operand that a memory keeps
-abbrev pub kept : Found → Found
-kept x = record {
-  state = record x.state { kept = x.state.kept ++ x.element ∷ [] };
+abbrev pub keep_operand : TypedElement → TypedElement
+keep_operand x = record {
+  state = record x.state { memory_operands = x.state.memory_operands ++ x.element ∷ [] };
   element = x.element;
   kind = x.kind;
 }
 
 -- `pre` of this operand
-abbrev pub previous : Found → Found
-previous x = pushed (kept x).state (Previous (first_value x.kind) x.element) x.kind
+abbrev pub previous : TypedElement → TypedElement
+previous x = pushed (keep_operand x).state (Previous (first_value x.kind) x.element) x.kind
 
 -- the one element of a truth
-abbrev pub as_truth : Emitted → Found
+abbrev pub as_truth : Emitted → TypedElement
 as_truth x = record { state = x.state; element = get_or x.found 0 0; kind = Bool_kind }
 
 -- a literal; one that is no `int` has the value of a fault
@@ -62,12 +62,12 @@ abbrev pub binary_result : BinaryOperator → Kind
 binary_result op = if is_arithmetic op then Int_kind else Bool_kind
 
 -- a term with this operand
-abbrev pub with_one : Term → Found → Found
+abbrev pub with_one : Term → TypedElement → TypedElement
 with_one (Unary' op p a) x = pushed x.state (ApplyUnary op x.element) (unary_result op)
 with_one e x = previous x
 
 -- a term with two operands, where the first one has this element
-abbrev pub with_two : Term → ℕ → Found → Found
+abbrev pub with_two : Term → ℕ → TypedElement → TypedElement
 with_two (Binary' op p a q b) i y =
     pushed y.state (ApplyBinary op i y.element) (binary_result op)
 with_two (Fby' p a q b) i y =
@@ -75,13 +75,13 @@ with_two (Fby' p a q b) i y =
 with_two e i y = pushed y.state (FirstThen false i y.element) y.kind
 
 -- a term with these operands in a row
-abbrev pub with_all : Term → Emitted → Found
-with_all (Nor' shape all) r = as_truth (emit_nor Always r.state r.found)
+abbrev pub with_all : Term → Emitted → TypedElement
+with_all (Nor' arity all) r = as_truth (emit_nor Always r.state r.found)
 with_all e r = as_truth (emit_at_most_one Always r.state r.found)
 
 unfoldable mutual
   -- the equations of a term after those of s, where the variables have these kinds
-  pub emit_term : List Kind → State → Term → Found
+  pub emit_term : List Kind → State → Term → TypedElement
   emit_term kinds s (Literal n) = pushed s (Constant (literal n)) Int_kind
   emit_term kinds s (Truth b) = pushed s (Constant (Boolean b)) Bool_kind
   emit_term kinds s (Variable x) =
@@ -109,10 +109,10 @@ unfoldable mutual
       let z = previous y in
       pushed z.state (FirstThen false x.element z.element) y.kind
   emit_term kinds s (Pre' p a) = previous (emit_term kinds s a)
-  emit_term kinds s (AtMostOne' shape all) =
+  emit_term kinds s (AtMostOne' arity all) =
       let r = emit_row kinds s [] all in
       as_truth (emit_at_most_one Always r.state r.found)
-  emit_term kinds s (Nor' shape all) =
+  emit_term kinds s (Nor' arity all) =
       let r = emit_row kinds s [] all in
       as_truth (emit_nor Always r.state r.found)
 
@@ -142,17 +142,17 @@ abbrev pub with_copies : State → List FlatEquation → State
 with_copies s qs = record s { copies = s.copies ++ qs }
 
 -- the equations of a step after those of s
-unfoldable pub emit_step : List Kind → State → Step → State
-emit_step kinds s (step.Equation lefts e) =
+unfoldable pub emit_statement : List Kind → State → PlainStatement → State
+emit_statement kinds s (statement.Equation lefts e) =
     let x = emit_term kinds s e in
     with_copies x.state (copied_first lefts.items x.element)
-emit_step kinds s (step.Assertion e) =
+emit_statement kinds s (statement.Assertion e) =
     let x = emit_term kinds s e in
     record x.state { asserted = x.state.asserted ++ x.element ∷ [] }
 
-unfoldable pub emit_steps : List Kind → State → List Step → State
-emit_steps kinds s [] = s
-emit_steps kinds s (x ∷ xs) = emit_steps kinds (emit_step kinds s x) xs
+unfoldable pub emit_statements : List Kind → State → List PlainStatement → State
+emit_statements kinds s [] = s
+emit_statements kinds s (x ∷ xs) = emit_statements kinds (emit_statement kinds s x) xs
 
 -- ## The whole program
 
@@ -169,7 +169,7 @@ whole s inputs count = record {
   equations = given_elements inputs ++ (s.copies ++ s.equations);
   size = s.next;
   variables = count;
-  kept = s.kept;
+  memory_operands = s.memory_operands;
   asserted = s.asserted;
   property = inputs;
 }
@@ -177,7 +177,7 @@ whole s inputs count = record {
 abbrev pub expanded_plain : Plain → FlatProgram
 expanded_plain e =
     let count = length e.variables.items in
-    whole (emit_steps (kinds_of e.variables.items) (before_instances count) e.body.items)
+    whole (emit_statements (kinds_of e.variables.items) (before_instances count) e.body.items)
     e.inputs count
 
 -- ## Size
@@ -195,8 +195,8 @@ unfoldable mutual
   term_size (Arrow' p a q b) = 1 + (term_size a + term_size b)
   term_size (Fby' p a q b) = 1 + (term_size a + term_size b)
   term_size (Pre' p a) = 1 + term_size a
-  term_size (AtMostOne' shape all) = 1 + row_size all
-  term_size (Nor' shape all) = 1 + row_size all
+  term_size (AtMostOne' arity all) = 1 + row_size all
+  term_size (Nor' arity all) = 1 + row_size all
 
   pub row_size : {m : _} → Row_of-Term m → ℕ
   row_size end_of-Term = 0
@@ -206,14 +206,14 @@ unfoldable pub list_size : List Term → ℕ
 list_size [] = 0
 list_size (e ∷ es) = term_size e + list_size es
 
-abbrev pub step_size : Step → ℕ
-step_size (step.Equation lefts e) = term_size e
-step_size (step.Assertion e) = term_size e
+abbrev pub statement_size : PlainStatement → ℕ
+statement_size (statement.Equation lefts e) = term_size e
+statement_size (statement.Assertion e) = term_size e
 
-unfoldable pub steps_size : List Step → ℕ
-steps_size [] = 0
-steps_size (x ∷ xs) = step_size x + steps_size xs
+unfoldable pub statements_size : List PlainStatement → ℕ
+statements_size [] = 0
+statements_size (x ∷ xs) = statement_size x + statements_size xs
 
 -- variables, and expressions with their parts
 abbrev pub plain_size_of : Plain → ℕ
-plain_size_of e = length e.variables.items + steps_size e.body.items
+plain_size_of e = length e.variables.items + statements_size e.body.items

@@ -6,8 +6,8 @@ use Rattle.lb_flat.specs.declared.scalar.Scalar.{Scalar}
 use Rattle.lb_flat.specs.declared.scalar.Scalar.TheVariants.{Integer, Boolean, Bad}
 use Rattle.lb_flat.specs.declared.cell.Cell as code
 use Rattle.lb_flat.specs.declared.cell.Cell.TheVariants as cells
-use Rattle.lb_flat.specs.declared.equation.TickId.{TickId}
-use Rattle.lb_flat.specs.declared.equation.Tick.{Tick}
+use Rattle.lb_flat.specs.declared.equation.ClockId.{ClockId}
+use Rattle.lb_flat.specs.declared.equation.Clock.{Clock}
 use Rattle.lb_flat.specs.declared.equation.Operation.{Operation}
 use Rattle.lb_flat.specs.declared.equation.Operation.TheVariants.{Input, Constant, Copy, ApplyUnary, ApplyBinary, Choose, FirstThen, Previous, Latest, Sample}
 use Rattle.lb_flat.specs.declared.equation.Equation.{Equation}
@@ -27,20 +27,20 @@ cell_of (cells.Integer z) = Some (scalars.Integer z)
 cell_of (cells.Boolean b) = Some (scalars.Boolean b)
 
 -- a clock of the table, where the clock above it is known
-abbrev pub clock_from : (Option TickId → flat.FlatClock) → Option Tick → flat.FlatClock
+abbrev pub clock_from : (Option ClockId → flat.FlatClock) → Option Clock → flat.FlatClock
 clock_from above None = flat.Always
 clock_from above (Some t) = flat.Where (above t.parent) t.element.0 t.sign
 
 -- the clock at a place of a table, at most n clocks deep
-abbrev pub clock_within : ℕ → List Tick → Option TickId → flat.FlatClock
-clock_within n ticks None = flat.Always
-clock_within zero ticks (Some i) = flat.Always
-clock_within (suc n) ticks (Some i) =
-    clock_from (clock_within n ticks) (slice_get ticks i.0)
+abbrev pub clock_within : ℕ → List Clock → Option ClockId → flat.FlatClock
+clock_within n clocks None = flat.Always
+clock_within zero clocks (Some i) = flat.Always
+clock_within (suc n) clocks (Some i) =
+    clock_from (clock_within n clocks) (slice_get clocks i.0)
 
 -- the clock at a place of a table; none is the base clock
-abbrev pub clock_of : List Tick → Option TickId → flat.FlatClock
-clock_of ticks k = clock_within (length ticks) ticks k
+abbrev pub clock_of : List Clock → Option ClockId → flat.FlatClock
+clock_of clocks k = clock_within (length clocks) clocks k
 
 -- an operation, with what its memory holds
 abbrev pub operation_of : Operation → flat.Operation
@@ -56,9 +56,9 @@ operation_of (Latest v a) = flat.Latest (scalar_of v) a.0
 operation_of (Sample a) = flat.Sample a.0
 
 -- an equation, under the table of its clocks
-abbrev pub equation_of : List Tick → Equation → flat.FlatEquation
-equation_of ticks q = record {
+abbrev pub equation_of : List Clock → Equation → flat.FlatEquation
+equation_of clocks q = record {
   element = q.element.0;
-  clock = clock_of ticks q.clock;
+  clock = clock_of clocks q.clock;
   operation = operation_of q.operation;
 }

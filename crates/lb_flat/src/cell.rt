@@ -6,7 +6,7 @@
 
 ghost use Rattle.std.specs.Prelude.{◌≡◌, Some};
 ghost use Rattle.lb_check.specs.Scalars.{two_integers, two_booleans, two_scalars, one_scalar, or_fault};
-ghost use Rattle.lb_check.specs.Streams.{held, one_cell, two_cells, kept, shows, newest};
+ghost use Rattle.lb_check.specs.Streams.{held, one_cell, two_cells, sample, shows, newest};
 ghost use Rattle.lb_flat.specs.Run.{chosen_cell};
 ghost use Rattle.lb_flat.specs.Values.{scalar_of, cell_of};
 
@@ -131,8 +131,8 @@ pub(crate) fn held(v: Scalar, is_now: bool) -> Cell
 }
 
 /// A cell at the instants of a clock.
-pub(crate) fn kept(is_now: bool, x: Cell) -> Cell
-    ensures { cell_of result ≡ kept is_now (cell_of x) }
+pub(crate) fn sample(is_now: bool, x: Cell) -> Cell
+    ensures { cell_of result ≡ sample is_now (cell_of x) }
 {
     if is_now { x } else { Cell::Absent }
 }

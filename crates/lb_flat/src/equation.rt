@@ -18,7 +18,7 @@ pub struct ElementId(pub u32);
 
 /// A clock of a flat program, by its place in the table of its clocks.
 #[derive(Clone, Copy)]
-pub struct TickId(pub u32);
+pub struct ClockId(pub u32);
 
 /// An input of the node under test, by its place in the signature.
 #[derive(Clone, Copy, PartialEq, Eq)]
@@ -27,8 +27,8 @@ pub struct InputId(pub u32);
 /// A clock: the instants of another one, or of the base clock where there is none, at which an
 /// element has this sign.
 #[derive(Clone, Copy)]
-pub struct Tick {
-    pub parent: Option<TickId>,
+pub struct Clock {
+    pub parent: Option<ClockId>,
     pub element: ElementId,
     pub sign: bool,
 }
@@ -62,7 +62,7 @@ pub enum Operation {
 #[derive(Clone, Copy)]
 pub struct Equation {
     pub element: ElementId,
-    pub clock: Option<TickId>,
+    pub clock: Option<ClockId>,
     pub operation: Operation,
 }
 

@@ -13,7 +13,7 @@ pub enum FlatError {
     Large,
     /// The program has an observer or a form that does not run yet (E12).
     #[error("the program has a form that does not run yet")]
-    Later,
+    Unsupported,
 }
 
 /// Why the equations of a program are not put in order.

@@ -15,7 +15,7 @@ ghost use Rattle.lb_flat.specs.Programs.{flat_equations, program_of, IsInRange, 
 use crate::cell::Cell;
 use crate::equation::{Equation, InputPlace};
 use crate::instant::{commit, compute};
-use crate::judge::judge;
+use crate::instant_verdict::instant_verdict;
 use crate::prepare::{put_apart, set_constants};
 use crate::program::FlatProgram;
 use lb_check::verdict::Verdict;
@@ -50,22 +50,22 @@ fn step(
     t: u32,
 ) -> Verdict
     requires in_range { IsInRange program.now }
-    requires within { All (IsWithin program.now.size program.now.ticks.items) steps.old }
+    requires within { All (IsWithin program.now.size program.now.clocks.items) steps.old }
     requires places { memories.now
-        ≡ memory_places 0 (flat_equations program.now.ticks.items steps.old) }
+        ≡ memory_places 0 (flat_equations program.now.clocks.items steps.old) }
     requires elements { length row.old ≡ program.now.size }
-    ensures within { All (IsWithin program.now.size program.now.ticks.items) steps.new }
+    ensures within { All (IsWithin program.now.size program.now.clocks.items) steps.new }
     ensures elements { length row.new ≡ program.now.size }
     ensures row { map cell_of row.new
-        ≡ filled [] (map cell_of row.old) (flat_equations program.now.ticks.items steps.old) }
+        ≡ filled [] (map cell_of row.old) (flat_equations program.now.clocks.items steps.old) }
     ensures verdict { result ≡ row_judged (program_of program.now) t (map cell_of row.new) }
-    ensures memories { flat_equations program.now.ticks.items steps.new
+    ensures memories { flat_equations program.now.clocks.items steps.new
         ≡ map (advanced (map cell_of row.new))
-        (flat_equations program.now.ticks.items steps.old) }
+        (flat_equations program.now.clocks.items steps.old) }
 {
-    compute(row, program.ticks.as_slice(), steps);
-    let verdict = judge(program, row, t);
-    commit(steps, memories, row, program.ticks.as_slice());
+    compute(row, program.clocks.as_slice(), steps);
+    let verdict = instant_verdict(program, row, t);
+    commit(steps, memories, row, program.clocks.as_slice());
     verdict
 }
 
@@ -82,11 +82,11 @@ fn run<I: Instants>(
     requires inputs { map place_equation inputs.now
         ≡ inputs_in (program_of program.now).equations }
     requires places { All (λ p. p.element.0 < program.now.size) inputs.now }
-    requires steps { flat_equations program.now.ticks.items steps.old
+    requires steps { flat_equations program.now.clocks.items steps.old
         ≡ steps_in (program_of program.now).equations }
-    requires within { All (IsWithin program.now.size program.now.ticks.items) steps.old }
+    requires within { All (IsWithin program.now.size program.now.clocks.items) steps.old }
     requires memories { memories.now
-        ≡ memory_places 0 (flat_equations program.now.ticks.items steps.old) }
+        ≡ memory_places 0 (flat_equations program.now.clocks.items steps.old) }
     requires elements { length row.old ≡ program.now.size }
     requires fixed { AreFixed (map cell_of row.old) (program_of program.now).equations }
     ensures { result ≡ flat_verdict (program_of program.now) (I.rows trace.now) }
@@ -111,20 +111,20 @@ pub fn evaluate<I: Instants>(
     ensures { IfOk result (λ v. v ≡ flat_verdict (program_of program.now) (I.rows trace.now)) }
 {
     let equations = program.equations.as_slice();
-    let ticks = program.ticks.as_slice();
+    let clocks = program.clocks.as_slice();
     let mut inputs = Vec::new(alloc);
     let mut steps = Vec::new(alloc);
     let mut memories = Vec::new(alloc);
     put_apart(
         equations,
         program.size,
-        ticks,
+        clocks,
         &mut inputs,
         &mut steps,
         &mut memories,
     )?;
     let mut row = vec![in alloc; Cell::Absent; program.size as usize]?;
-    set_constants(row.as_mut_slice(), equations, ticks);
+    set_constants(row.as_mut_slice(), equations, clocks);
     Ok(run(
         program,
         inputs.as_slice(),

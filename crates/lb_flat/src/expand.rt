@@ -16,7 +16,7 @@ use crate::plain::Plain;
 use crate::plain::translate::plain;
 use emission::Emission;
 use lb_check::checked::Checked;
-use size::after_steps;
+use size::after_statements;
 use std::alloc::Global;
 
 /// The greatest size of a program.
@@ -28,7 +28,7 @@ fn is_small(plain: &Plain) -> bool
     ensures { result ≡ nat_le (mirror.plain_size_of plain.now) 65536 }
 {
     let variables = plain.variables.len() as u32;
-    after_steps((MOST + 1).saturating_sub(variables), &plain.body) > 0
+    after_statements((MOST + 1).saturating_sub(variables), &plain.body) > 0
 }
 
 /// Expands a plain program that is small enough.
@@ -40,7 +40,7 @@ fn expand_plain(alloc: Global, plain: &Plain) -> Result<Flat, FlatError>
     }
     let variables = plain.variables.len() as u32;
     let mut emission = Emission::new(alloc, variables);
-    emission.steps(alloc, &plain.variables, &plain.body)?;
+    emission.statements(alloc, &plain.variables, &plain.body)?;
     let program = emission.into_program(alloc, plain.inputs as u32, variables)?;
     Ok(Flat { program })
 }

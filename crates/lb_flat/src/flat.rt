@@ -19,5 +19,5 @@ pub struct Ordered {
     pub program: FlatProgram,
     pub ghost in_range: { IsInRange program },
     pub ghost in_order: { is_in_order (replicate program.size false)
-        (flat_equations program.ticks.items program.equations.items) ≡ true },
+        (flat_equations program.clocks.items program.equations.items) ≡ true },
 }

@@ -6,10 +6,10 @@ ghost use Rattle.lb_flat.specs.Run.{cell, is_now, now, filled, remembered, advan
 ghost use Rattle.lb_flat.specs.Prepared.{memory_places};
 ghost use Rattle.lb_flat.specs.Programs.{flat_equations};
 ghost use Rattle.lb_flat.specs.Values.{cell_of, clock_of, operation_of, equation_of};
-ghost use Rattle.lb_flat.specs.Within.{IsClock, AreTicks, IsWithin};
+ghost use Rattle.lb_flat.specs.Within.{IsClock, AreClocks, IsWithin};
 
-use crate::cell::{Cell, chosen_cell, held, kept, newest, one_cell, shows, two_cells};
-use crate::equation::{ElementId, Equation, Operation, Tick, TickId};
+use crate::cell::{Cell, chosen_cell, held, newest, one_cell, sample, shows, two_cells};
+use crate::equation::{Clock, ClockId, ElementId, Equation, Operation};
 
 // ## Clocks
 
@@ -22,17 +22,17 @@ fn cell(row: &[Cell], a: ElementId) -> Cell
 }
 
 // Whether a clock has an instant now.
-fn is_now(ticks: &[Tick], row: &[Cell], clock: Option<TickId>) -> bool
-    requires table { AreTicks (length row.now) ticks.now }
-    requires clock { IsClock ticks.now clock }
-    ensures { result ≡ is_now (map cell_of row.now) (clock_of ticks.now clock) }
+fn is_now(clocks: &[Clock], row: &[Cell], clock: Option<ClockId>) -> bool
+    requires table { AreClocks (length row.now) clocks.now }
+    requires clock { IsClock clocks.now clock }
+    ensures { result ≡ is_now (map cell_of row.now) (clock_of clocks.now clock) }
 {
     let mut rest = clock;
-    for depth in 0..ticks.len() {
+    for depth in 0..clocks.len() {
         let Some(id) = rest else {
             return true;
         };
-        let tick = ticks[id.0 as usize];
+        let tick = clocks[id.0 as usize];
         if !shows(tick.sign, cell(row, tick.element)) {
             return false;
         }
@@ -44,38 +44,38 @@ fn is_now(ticks: &[Tick], row: &[Cell], clock: Option<TickId>) -> bool
 // ## One instant
 
 // What an equation gives, where the cells that it reads are computed. The inputs are read before.
-fn now(ticks: &[Tick], row: &[Cell], q: &Equation) -> Cell
-    requires table { AreTicks (length row.now) ticks.now }
-    requires within { IsWithin (length row.now) ticks.now q.now }
+fn now(clocks: &[Clock], row: &[Cell], q: &Equation) -> Cell
+    requires table { AreClocks (length row.now) clocks.now }
+    requires within { IsWithin (length row.now) clocks.now q.now }
     ensures { cell_of result
-        ≡ now [] (map cell_of row.now) (clock_of ticks.now q.now.clock)
+        ≡ now [] (map cell_of row.now) (clock_of clocks.now q.now.clock)
         (operation_of q.now.operation) }
 {
     match &q.operation {
         Operation::Input(_) => Cell::Absent,
-        Operation::Constant(v) => held(*v, is_now(ticks, row, q.clock)),
+        Operation::Constant(v) => held(*v, is_now(clocks, row, q.clock)),
         Operation::Copy(a) => cell(row, *a),
         Operation::ApplyUnary(op, a) => one_cell(*op, cell(row, *a)),
         Operation::ApplyBinary(op, a, b) => two_cells(*op, cell(row, *a), cell(row, *b)),
         Operation::Choose(c, a, b) => chosen_cell(cell(row, *c), cell(row, *a), cell(row, *b)),
         Operation::FirstThen(started, a, b) => cell(row, if *started { *b } else { *a }),
-        Operation::Previous(v, _) => held(*v, is_now(ticks, row, q.clock)),
-        Operation::Latest(v, a) => held(newest(*v, cell(row, *a)), is_now(ticks, row, q.clock)),
-        Operation::Sample(a) => kept(is_now(ticks, row, q.clock), cell(row, *a)),
+        Operation::Previous(v, _) => held(*v, is_now(clocks, row, q.clock)),
+        Operation::Latest(v, a) => held(newest(*v, cell(row, *a)), is_now(clocks, row, q.clock)),
+        Operation::Sample(a) => sample(is_now(clocks, row, q.clock), cell(row, *a)),
     }
 }
 
 /// Computes the row of an instant, whose inputs were read: each step in order gives its element.
-pub(crate) fn compute(row: &mut [Cell], ticks: &[Tick], steps: &[Equation])
-    requires table { AreTicks (length row.old) ticks.now }
-    requires within { All (IsWithin (length row.old) ticks.now) steps.now }
+pub(crate) fn compute(row: &mut [Cell], clocks: &[Clock], steps: &[Equation])
+    requires table { AreClocks (length row.old) clocks.now }
+    requires within { All (IsWithin (length row.old) clocks.now) steps.now }
     ensures elements { length row.new ≡ length row.old }
     ensures row { map cell_of row.new
-        ≡ filled [] (map cell_of row.old) (flat_equations ticks.now steps.now) }
+        ≡ filled [] (map cell_of row.old) (flat_equations clocks.now steps.now) }
 {
     for i in 0..steps.len() {
         let q = &steps[i];
-        let cell = now(ticks, row, q);
+        let cell = now(clocks, row, q);
         row[q.element.0 as usize] = cell;
     }
 }
@@ -85,7 +85,7 @@ pub(crate) fn compute(row: &mut [Cell], ticks: &[Tick], steps: &[Equation])
 // The operation with what its memory holds after the instant of a row.
 fn remembered(row: &[Cell], operation: Operation) -> Operation
     requires operands { All (λ i. i < length row.now) (reads (operation_of operation)) }
-    requires kept { All (λ i. i < length row.now) (keeps (operation_of operation)) }
+    requires memory_operands { All (λ i. i < length row.now) (keeps (operation_of operation)) }
     ensures { operation_of result ≡ remembered (map cell_of row.now) (operation_of operation) }
 {
     match operation {
@@ -100,12 +100,12 @@ fn remembered(row: &[Cell], operation: Operation) -> Operation
 
 /// Moves every memory on, after the row of an instant. The memories are those of the steps at
 /// these places.
-pub(crate) fn commit(steps: &mut [Equation], memories: &[usize], row: &[Cell], ticks: &[Tick])
-    requires within { All (IsWithin (length row.now) ticks.now) steps.old }
-    requires places { memories.now ≡ memory_places 0 (flat_equations ticks.now steps.old) }
-    ensures within { All (IsWithin (length row.now) ticks.now) steps.new }
-    ensures memories { flat_equations ticks.now steps.new
-        ≡ map (advanced (map cell_of row.now)) (flat_equations ticks.now steps.old) }
+pub(crate) fn commit(steps: &mut [Equation], memories: &[usize], row: &[Cell], clocks: &[Clock])
+    requires within { All (IsWithin (length row.now) clocks.now) steps.old }
+    requires places { memories.now ≡ memory_places 0 (flat_equations clocks.now steps.old) }
+    ensures within { All (IsWithin (length row.now) clocks.now) steps.new }
+    ensures memories { flat_equations clocks.now steps.new
+        ≡ map (advanced (map cell_of row.now)) (flat_equations clocks.now steps.old) }
 {
     for i in 0..memories.len() {
         let place = memories[i];

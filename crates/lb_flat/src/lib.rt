@@ -9,7 +9,7 @@ pub mod evaluate;
 pub mod expand;
 pub mod flat;
 mod instant;
-mod judge;
+mod instant_verdict;
 mod names;
 pub mod order;
 pub mod plain;

@@ -1,8 +1,8 @@
 //! Order: each equation after what it reads.
 //!
-//! The equations go into a table by their elements. Then each element is settled whose reads are
-//! settled: first in a walk in depth, and then in passes over all elements until one settles none.
-//! The walk decides only how many passes there are: it leaves nothing to the first of them.
+//! The equations go into a table by their elements. Then each element is scheduled whose reads are
+//! scheduled: first by a topological sort, and then in passes over all elements until one schedules
+//! none. The sort decides only how many passes there are: it leaves nothing to the first of them.
 
 ghost use Rattle.std.specs.Prelude.{◌≡◌, IfOk};
 ghost use Rattle.lb_static.specs.Instances.{Program};
@@ -13,15 +13,15 @@ ghost use Rattle.lb_flat.specs.Prefixes.{IsDetermined};
 ghost use Rattle.lb_flat.specs.Programs.{flat_equations, program_of, IsInRange};
 ghost use Rattle.lb_flat.specs.Stuck.{CannotOrder};
 
-mod settle;
+mod schedule;
 mod table;
-mod walk;
+mod topological_sort;
 
 use crate::equation::Equation;
 use crate::error::OrderError;
 use crate::flat::{Flat, Ordered};
 use crate::program::FlatProgram;
-use settle::settled;
+use schedule::scheduled;
 use std::alloc::Global;
 use table::equation_table;
 
@@ -30,11 +30,11 @@ fn ordered_equations(alloc: Global, program: &FlatProgram) -> Result<Vec<Equatio
     requires { IsInRange program.now }
     ensures order { IfOk result (λ qs. AreOrdered program.now qs.items) }
     ensures cycle { result ≡ Err OrderError.Cycle → CannotOrder program.now.size
-        (flat_equations program.now.ticks.items program.now.equations.items) }
+        (flat_equations program.now.clocks.items program.now.equations.items) }
 {
-    let ticks = program.ticks.as_slice();
-    let table = equation_table(alloc, program.size, ticks, program.equations.as_slice())?;
-    settled(alloc, ticks, table.as_slice())
+    let clocks = program.clocks.as_slice();
+    let table = equation_table(alloc, program.size, clocks, program.equations.as_slice())?;
+    scheduled(alloc, clocks, table.as_slice())
 }
 
 /// Puts the equations of a flat program in an order in which they can be computed.

@@ -3,14 +3,14 @@
 
 ghost use Rattle.std.specs.Prelude.{◌≡◌, ◌+◌, ◌≤◌, ◌<◌, ◌^◌, true, length};
 ghost use Rattle.std.specs.List.{list_all};
-ghost use Rattle.lb_flat.specs.PlainNodes.{is_step_within};
+ghost use Rattle.lb_flat.specs.PlainNodes.{is_statement_within};
 
 pub mod term;
 mod terms;
 pub mod translate;
 mod variables;
 
-use crate::plain::term::{Step, Variable};
+use crate::plain::term::{PlainStatement, Variable};
 use lb_syntax::tree::Name;
 
 /// The one node of a plain program.
@@ -29,9 +29,9 @@ pub struct Plain {
     /// How many of them, after the inputs, are outputs.
     pub outputs: usize,
     /// The statements, in text order.
-    pub body: Vec<Step>,
+    pub body: Vec<PlainStatement>,
     pub ghost parts_fit: { inputs + outputs ≤ length variables.items },
     pub ghost has_output: { 0 < outputs },
     pub ghost places_fit: { length variables.items < 2 ^ 32 },
-    pub ghost steps_fit: { list_all (is_step_within (length variables.items)) body.items ≡ true },
+    pub ghost steps_fit: { list_all (is_statement_within (length variables.items)) body.items ≡ true },
 }

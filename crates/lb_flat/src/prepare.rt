@@ -11,18 +11,18 @@ ghost use Rattle.lb_flat.specs.Values.{scalar_of, cell_of, clock_of, operation_o
 ghost use Rattle.lb_flat.specs.Within.{IsClock, IsWithin};
 
 use crate::cell::{Cell, present};
-use crate::equation::{Equation, InputPlace, Operation, Tick};
+use crate::equation::{Clock, Equation, InputPlace, Operation};
 use crate::scalar::Scalar;
 use std::alloc::AllocError;
 
 // The value of an equation that is a constant on the base clock.
-fn fixed_value(q: &Equation, ticks: &[Tick]) -> Option<Scalar>
-    requires { IsClock ticks.now q.now.clock }
+fn fixed_value(q: &Equation, clocks: &[Clock]) -> Option<Scalar>
+    requires { IsClock clocks.now q.now.clock }
     ensures fixed { is_some result
-        ≡ is_fixed (clock_of ticks.now q.now.clock) (operation_of q.now.operation) }
+        ≡ is_fixed (clock_of clocks.now q.now.clock) (operation_of q.now.operation) }
     ensures value { IfSome result (λ v. (row : Row) →
         Some (scalar_of v)
-        ≡ now [] row (clock_of ticks.now q.now.clock) (operation_of q.now.operation)) }
+        ≡ now [] row (clock_of clocks.now q.now.clock) (operation_of q.now.operation)) }
 {
     match (&q.operation, q.clock) {
         (Operation::Constant(v), None) => Some(*v),
@@ -31,13 +31,13 @@ fn fixed_value(q: &Equation, ticks: &[Tick]) -> Option<Scalar>
 }
 
 // Whether an equation is computed at each instant.
-fn is_step(q: &Equation, ticks: &[Tick]) -> bool
-    requires { IsClock ticks.now q.now.clock }
-    ensures { result ≡ is_step (equation_of ticks.now q.now) }
+fn is_step(q: &Equation, clocks: &[Clock]) -> bool
+    requires { IsClock clocks.now q.now.clock }
+    ensures { result ≡ is_step (equation_of clocks.now q.now) }
 {
     match &q.operation {
         Operation::Input(_) => false,
-        _ => fixed_value(q, ticks).is_none(),
+        _ => fixed_value(q, clocks).is_none(),
     }
 }
 
@@ -55,23 +55,23 @@ fn has_memory(operation: &Operation) -> bool
 pub(crate) fn put_apart(
     equations: &[Equation],
     size: u32,
-    ticks: &[Tick],
+    clocks: &[Clock],
     inputs: &mut Vec<InputPlace>,
     steps: &mut Vec<Equation>,
     memories: &mut Vec<usize>,
 ) -> Result<(), AllocError>
-    requires within { All (IsWithin size ticks.now) equations.now }
+    requires within { All (IsWithin size clocks.now) equations.now }
     requires no_input { inputs.old.items ≡ [] }
     requires no_step { steps.old.items ≡ [] }
     requires no_memory { memories.old.items ≡ [] }
     ensures inputs { OnOk result (map place_equation inputs.new.items
-        ≡ inputs_in (flat_equations ticks.now equations.now)) }
+        ≡ inputs_in (flat_equations clocks.now equations.now)) }
     ensures places { OnOk result (All (λ p. p.element.0 < size) inputs.new.items) }
-    ensures steps { OnOk result (flat_equations ticks.now steps.new.items
-        ≡ steps_in (flat_equations ticks.now equations.now)) }
-    ensures within { OnOk result (All (IsWithin size ticks.now) steps.new.items) }
+    ensures steps { OnOk result (flat_equations clocks.now steps.new.items
+        ≡ steps_in (flat_equations clocks.now equations.now)) }
+    ensures within { OnOk result (All (IsWithin size clocks.now) steps.new.items) }
     ensures memories { OnOk result (memories.new.items
-        ≡ memory_places 0 (flat_equations ticks.now steps.new.items)) }
+        ≡ memory_places 0 (flat_equations clocks.now steps.new.items)) }
 {
     for i in 0..equations.len() {
         let q = equations[i];
@@ -80,7 +80,7 @@ pub(crate) fn put_apart(
                 element: q.element,
                 input,
             })?;
-        } else if is_step(&q, ticks) {
+        } else if is_step(&q, clocks) {
             if has_memory(&q.operation) {
                 memories.push(steps.len())?;
             }
@@ -91,15 +91,15 @@ pub(crate) fn put_apart(
 }
 
 /// Sets the elements of constants on the base clock.
-pub(crate) fn set_constants(row: &mut [Cell], equations: &[Equation], ticks: &[Tick])
-    requires in_order { Ready (length row.old) [] (flat_equations ticks.now equations.now) }
-    requires within { All (IsWithin (length row.old) ticks.now) equations.now }
+pub(crate) fn set_constants(row: &mut [Cell], equations: &[Equation], clocks: &[Clock])
+    requires in_order { Ready (length row.old) [] (flat_equations clocks.now equations.now) }
+    requires within { All (IsWithin (length row.old) clocks.now) equations.now }
     ensures elements { length row.new ≡ length row.old }
-    ensures fixed { AreFixed (map cell_of row.new) (flat_equations ticks.now equations.now) }
+    ensures fixed { AreFixed (map cell_of row.new) (flat_equations clocks.now equations.now) }
 {
     for i in 0..equations.len() {
         let q = &equations[i];
-        if let Some(v) = fixed_value(q, ticks) {
+        if let Some(v) = fixed_value(q, clocks) {
             row[q.element.0 as usize] = present(v);
         }
     }

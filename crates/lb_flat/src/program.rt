@@ -1,6 +1,6 @@
 //! Flat programs.
 
-use crate::equation::{ElementId, Equation, Tick};
+use crate::equation::{Clock, ElementId, Equation};
 
 /// A program expanded into equations on scalar elements.
 ///
@@ -11,13 +11,13 @@ pub struct FlatProgram {
     /// One equation for each element.
     pub equations: Vec<Equation>,
     /// The clocks that equations are on.
-    pub ticks: Vec<Tick>,
+    pub clocks: Vec<Clock>,
     /// How many elements there are.
     pub size: u32,
     /// How many of them are elements of variables.
     pub variables: u32,
     /// The elements that hold operands of `pre`, `fby` and `current`.
-    pub kept: Vec<ElementId>,
+    pub memory_operands: Vec<ElementId>,
     /// The elements that hold assertions.
     pub asserted: Vec<ElementId>,
     /// The element that holds the property.

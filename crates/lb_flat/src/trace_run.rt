@@ -3,7 +3,7 @@
 ghost use Rattle.std.specs.Prelude.{◌≡◌, ◌<◌, Some, length, map, slice_get, All, IfOk, OnOk};
 ghost use Rattle.lb_syntax.specs.Lists.{zip2};
 ghost use Rattle.lb_static.specs.Instances.{Program};
-ghost use Rattle.lb_static.specs.Shapes.{signature};
+ghost use Rattle.lb_static.specs.DataTypes.{signature};
 ghost use Rattle.lb_static.specs.Signature.{kinds_of};
 ghost use Rattle.lb_check.specs.Solutions.{HasOneHistory};
 ghost use Rattle.lb_check.specs.Verdicts.{IsOnlyVerdict};

@@ -2,7 +2,7 @@
 -- Source: this project's rule.
 use Rattle.std.specs.Prelude.{◌≡◌, ℕ, ◌<◌, List, [], ◌∷◌, length, map, get_or, flat_map, slice_set, All}
 use Rattle.lb_static.specs.Instances.{Program}
-use Rattle.lb_static.specs.Shapes.{signature}
+use Rattle.lb_static.specs.DataTypes.{signature}
 use Rattle.lb_check.specs.Solutions.{HasOneHistory}
 use Rattle.lb_check.specs.Verdicts.{IsOnlyVerdict}
 use Rattle.lb_check.specs.declared.verdict.Verdict.{Verdict}

@@ -10,7 +10,7 @@ use Rattle.lb_syntax.specs.declared.error.SyntaxError.{SyntaxError}
 use Rattle.lb_syntax.specs.declared.error.SyntaxError.TheVariants as syntax
 use Rattle.lb_static.specs.Elaborates.{IsStaticFault}
 use Rattle.lb_static.specs.Instances.{Program}
-use Rattle.lb_static.specs.Walk.{static_refusal}
+use Rattle.lb_static.specs.Instantiation.{static_refusal}
 use Rattle.lb_static.specs.declared.error.StaticError.{StaticError}
 use Rattle.lb_static.specs.declared.error.StaticError.TheVariants as static
 use Rattle.lb_check.specs.Acceptance.{check_refusal, refusal, IsFirst}
@@ -127,7 +127,7 @@ module _ (source traces : Text) (options : Options) where
   numbered (part.Flat flat.Memory) h = λ some. absurd (omega (arith, some))
   numbered (part.Flat flat.Large) h = λ some.
       inr (first_of _ (of_program h.tree E12 h.spelled h.holds refl))
-  numbered (part.Flat flat.Later) h = λ some. inl refl
+  numbered (part.Flat flat.Unsupported) h = λ some. inl refl
   numbered (part.Order e) h = λ some.
       let by = by_order (program_of h.tree options) e some h.holds in
       inr (first_of _ (of_program h.tree by.refusal h.spelled by.refuses (ap Some by.same)))

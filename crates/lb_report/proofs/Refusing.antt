@@ -7,7 +7,7 @@ use Rattle.lb_syntax.specs.Lists.{or_else}
 use Rattle.lb_syntax.specs.Refusals.{E12, unless}
 use Rattle.lb_syntax.specs.Tree.{Name, Source}
 use Rattle.lb_static.specs.Instances.{Program}
-use Rattle.lb_static.specs.Walk.{static_refusal}
+use Rattle.lb_static.specs.Instantiation.{static_refusal}
 use Rattle.lb_check.specs.Acceptance.{check_refusal, refusal, IsAccepted}
 use Rattle.lb_check.specs.TypeRules.{is_small}
 use Rattle.lb_flat.specs.Expanded.{IsExpansionAnswer, IsExpansionOf, IsOrderOf}
@@ -43,7 +43,7 @@ pub too_large :
     IsExpansionAnswer P (Err e) → IsTooLarge P e
 too_large P flat.Memory s c h = tt
 too_large P flat.Large s c h = size_decides P s c ∙ ap (λ b. unless b E12) h
-too_large P flat.Later s c h = (s, c, h)
+too_large P flat.Unsupported s c h = (s, c, h)
 
 -- a small one whose equations cannot be put in order is refused for that first
 pub is_cycle :

@@ -8,8 +8,8 @@ use Rattle.lb_syntax.specs.Correct.{IsOnlyProgram, Parses}
 use Rattle.lb_syntax.specs.Refusals.{E12, E13}
 use Rattle.lb_static.specs.Elaborates.{Elaborates}
 use Rattle.lb_static.specs.Instances.{Program}
-use Rattle.lb_static.specs.Shapes.{signature}
-use Rattle.lb_static.specs.Walk.{static_refusal}
+use Rattle.lb_static.specs.DataTypes.{signature}
+use Rattle.lb_static.specs.Instantiation.{static_refusal}
 use Rattle.lb_check.specs.Acceptance.{check_refusal, refusal, IsAccepted, IsFirst}
 use Rattle.lb_check.specs.Checked.{IsAnswer}
 use Rattle.lb_check.specs.Solutions.{HasOneHistory}
@@ -17,7 +17,7 @@ use Rattle.lb_check.specs.Verdicts.{IsOnlyVerdict}
 use Rattle.lb_check.specs.declared.verdict.Verdict.{Verdict}
 use Rattle.lb_check.specs.declared.verdict.Verdict.TheVariants.{Passed}
 use Rattle.lb_flat.specs.Inputs.{inputs_of}
-use Rattle.lb_flat.specs.PlainPrograms.{uses_later_forms}
+use Rattle.lb_flat.specs.PlainPrograms.{uses_unsupported_forms}
 use Rattle.lb_flat.specs.Traces.{Recording, Traces, trace_names}
 use Rattle.lb_flat.specs.declared.error.FlatError.{FlatError}
 use Rattle.lb_flat.specs.declared.error.FlatError.TheVariants as flat
@@ -87,8 +87,8 @@ IsBenchReport source traces options report =
 abbrev pub IsTooLarge : Program → FlatError → Type 0
 IsTooLarge P flat.Memory = Unit {0}
 IsTooLarge P flat.Large = refusal P ≡ Some E12
-IsTooLarge P flat.Later =
-    (static_refusal P ≡ None) × (check_refusal P ≡ None) × (uses_later_forms P ≡ true)
+IsTooLarge P flat.Unsupported =
+    (static_refusal P ≡ None) × (check_refusal P ≡ None) × (uses_unsupported_forms P ≡ true)
 
 -- the first refusal of a program is that an element needs itself at the same instant
 abbrev pub IsCycle : Program → OrderError → Type 0

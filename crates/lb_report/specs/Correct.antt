@@ -23,7 +23,7 @@ IsFirstOf source traces options first =
 abbrev pub HasFirstNumber : (source traces : Text) → Options → BenchError → Type 0
 HasFirstNumber source traces options e =
     0 < number_of e →
-    (e ≡ part.Flat flat.Later) ⊎ IsFirstOf source traces options (Some (number_of e))
+    (e ≡ part.Flat flat.Unsupported) ⊎ IsFirstOf source traces options (Some (number_of e))
 
 -- where there is a report, the source spells exactly one accepted program, the trace text exactly
 -- one list of traces, and the report lists, in its order, the verdict that the program's equations

@@ -8,7 +8,7 @@ use Rattle.lb_syntax.specs.Correct.{IsOnlyProgram, IsSyntaxFault}
 use Rattle.lb_syntax.specs.Refusals.{Refusal, E1, E2, E3, refusal_number}
 use Rattle.lb_syntax.specs.Texts.{BreaksLimit, HasNoTokens, IsTooLong}
 use Rattle.lb_static.specs.Instances.{Program}
-use Rattle.lb_static.specs.Shapes.{signature}
+use Rattle.lb_static.specs.DataTypes.{signature}
 use Rattle.lb_check.specs.Acceptance.{IsAccepted, IsFirst}
 use Rattle.lb_flat.specs.Traces.{Traces}
 use Rattle.lb_trace.specs.Refusals.{outcome}

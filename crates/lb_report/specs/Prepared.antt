@@ -2,7 +2,7 @@
 -- This file says what data of the program mean; no definition of the language stands on it.
 use Rattle.std.specs.Prelude.{◌≡◌}
 use Rattle.lb_static.specs.Instances.{Program}
-use Rattle.lb_static.specs.Shapes.{signature}
+use Rattle.lb_static.specs.DataTypes.{signature}
 use Rattle.lb_check.specs.Acceptance.{IsAccepted}
 use Rattle.lb_flat.specs.Flattening.{IsFlatOf}
 use Rattle.lb_flat.specs.Programs as flat

@@ -13,7 +13,7 @@ ghost use Rattle.lb_syntax.specs.Correct.{IsOnlyProgram};
 ghost use Rattle.lb_syntax.specs.SourceView.{view_source};
 ghost use Rattle.lb_syntax.specs.Tokens.{Text};
 ghost use Rattle.lb_static.specs.Instances.{Program};
-ghost use Rattle.lb_static.specs.Shapes.{signature};
+ghost use Rattle.lb_static.specs.DataTypes.{signature};
 ghost use Rattle.lb_flat.specs.Flattening.{IsFlatOf};
 ghost use Rattle.lb_flat.specs.Programs as flat;
 ghost use Rattle.lb_report.specs.Bench.{AreVerdicts, IsBenchReport, IsRefused, OnlyProgram, program_of};

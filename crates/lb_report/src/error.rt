@@ -59,7 +59,7 @@ fn flat_number(cause: &FlatError) -> u8
     match cause {
         FlatError::Memory => 0,
         FlatError::Large => 12,
-        FlatError::Later => 12,
+        FlatError::Unsupported => 12,
     }
 }
 

@@ -17,7 +17,7 @@ use Rattle.lb_static.specs.ResolvedNodes.{IsResolved, node_of, statics_of}
 use Rattle.lb_static.specs.ResolvedTerms.{site_of, static_at, statics_at}
 use Rattle.lb_static.specs.Specialized.{size_of}
 use Rattle.lb_static.specs.StaticValues.{natural}
-use Rattle.lb_static.specs.Walked.{IsWalkable, values_at, times_of}
+use Rattle.lb_static.specs.Instantiated.{IsInstantiable, values_at, times_of}
 use Rattle.lb_static.specs.declared.constants.Constants.{Constants}
 use Rattle.lb_static.specs.declared.reach.NodeId.{NodeId}
 use Rattle.lb_static.specs.declared.reach.Reached.{Reached}
@@ -88,7 +88,7 @@ mapped_at f (y ∷ ys) (suc i) x h e = mapped_at f ys i x (omega arith) e
 
 -- ## A call site
 
-module _ (P : Program) (r : Reached) (c : Constants) (w : IsWalkable P r c) (p : Path)
+module _ (P : Program) (r : Reached) (c : Constants) (w : IsInstantiable P r c) (p : Path)
     (n : ResolvedNode) (values : List ℤ) (statics : List ℤ)
     (had : map (λ v. Some v) statics
     ≡ map (static_value P (instance_of p (node_of n) values)) (statics_of n)) where

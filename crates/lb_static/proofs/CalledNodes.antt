@@ -18,15 +18,15 @@ use Rattle.lb_static.specs.NameFaults.{IsNameFault, named_in}
 use Rattle.lb_static.specs.ResolvedNodes.{IsResolved, counts_of, node_of, statics_of}
 use Rattle.lb_static.specs.ResolvedTerms.{Counts, is_site_within, site_of}
 use Rattle.lb_static.specs.StaticValues.{named}
-use Rattle.lb_static.specs.Visiting.{AreHad, Grows, is_had, is_visited, visited_after, visited_after_all, within}
+use Rattle.lb_static.specs.WorkLists.{AreReachable, Grows, is_reachable, is_visited, visited_after, visited_after_all, within}
 use Rattle.lb_static.specs.declared.error.StaticError.{StaticError}
 use Rattle.lb_static.specs.declared.resolved.CallSite.{CallSite}
 use Rattle.lb_static.specs.declared.resolved.ResolvedNode.{ResolvedNode}
 use Rattle.lb_static.proofs.Faults.{fault_within}
-use Rattle.lb_static.proofs.Had.{had_by, had_next, had_visits, within_is}
+use Rattle.lb_static.proofs.Reachability.{reachable_by, reachable_next, reachable_visits, within_is}
 use Rattle.lb_static.proofs.Lists.{all_append, and_first, and_second, both, map_next}
 use Rattle.lb_static.proofs.TestedItems.{all_weaker}
-use Rattle.lb_static.proofs.Visiting.{all_at, at_all, at_any, append_before, append_last, grows_all, grows_both, visited_all}
+use Rattle.lb_static.proofs.WorkLists.{all_at, at_all, at_any, append_before, append_last, grows_all, grows_both, visited_all}
 
 -- ## Look-ups
 
@@ -138,25 +138,28 @@ module _ (s : Source) (before order : List ℕ) (nodes : List ResolvedNode) (r :
           ∙ ap (slice_get s.nodes) (sym here)
 
   -- what stands at the place is had
-  pub is_had_there : (start : Node → Bool) → AreHad s.nodes start called before
-      → is_had s.nodes start called (length order) (node_of r) ≡ true
-  is_had_there start e =
-      ap (holds (is_had s.nodes start called (length order))) (sym at)
-      ∙ all_at (λ p. holds (is_had s.nodes start called (length order)) (slice_get s.nodes p)) order
-      (length nodes) place (h.had start e) next
+  pub is_reachable_there : (start : Node → Bool) → AreReachable s.nodes start called before
+      → is_reachable s.nodes start called (length order) (node_of r) ≡ true
+  is_reachable_there start e =
+      ap (holds (is_reachable s.nodes start called (length order))) (sym at)
+      ∙ all_at (λ p. holds (is_reachable s.nodes start called (length order)) (slice_get s.nodes p))
+      order
+      (length nodes) place (h.reachable start e) next
 
-  callee_had : (start : Node → Bool) → AreHad s.nodes start called before → (j : ℕ) (c : CallSite)
+  callee_reachable : (start : Node → Bool) → AreReachable s.nodes start called before
+      → (j : ℕ) (c : CallSite)
       → slice_get r.calls.items j ≡ Some c
-      → holds (is_had s.nodes start called (suc (length order))) (slice_get s.nodes c.callee.0)
+      → holds (is_reachable s.nodes start called (suc (length order)))
+      (slice_get s.nodes c.callee.0)
       ≡ true
-  callee_had start e j c call =
+  callee_reachable start e j c call =
       let site = all_at (is_site_within (length (map (λ n. n.name) s.nodes)) (counts_of r))
       r.calls.items j c is.calls_within call in
       let lt : nat_lt c.callee.0 (length s.nodes) ≡ true =
       ap (nat_lt c.callee.0) (sym (length-map s.nodes (λ n. n.name))) ∙ and_first _ _ site in
-      there s.nodes c.callee.0 (is_had s.nodes start called (suc (length order))) lt
-      (λ a found. had_next s.nodes start called (length order) place a (node_of r) at
-      (is_had_there start e) (called_there s r is j c a call found))
+      there s.nodes c.callee.0 (is_reachable s.nodes start called (suc (length order))) lt
+      (λ a found. reachable_next s.nodes start called (length order) place a (node_of r) at
+      (is_reachable_there start e) (called_there s r is j c a call found))
 
   pub more_resolved : named_in s (node_of r) ≡ true → AreResolved s before after (nodes ++ r ∷ [])
   more_resolved named = record {
@@ -172,12 +175,13 @@ module _ (s : Source) (before order : List ℕ) (nodes : List ResolvedNode) (r :
         (λ n. all_weaker _ _ n.calls.items (λ c. grown.still c.callee.0)) h.linked)
         (both _ _ (sym (all_map (is_visited after) (λ c. c.callee.0) r.calls.items)
         ∙ visited_all order places) refl);
-    had = λ start e.
-        had_visits s.nodes start called (length order) order places (omega arith) (h.had start e)
-        (all_map (λ p. holds (is_had s.nodes start called (suc (length order)))
+    reachable = λ start e.
+        reachable_visits s.nodes start called (length order) order places (omega arith)
+        (h.reachable start e)
+        (all_map (λ p. holds (is_reachable s.nodes start called (suc (length order)))
         (slice_get s.nodes p)) (λ c. c.callee.0) r.calls.items
-        ∙ at_all (λ c. holds (is_had s.nodes start called (suc (length order)))
-        (slice_get s.nodes c.callee.0)) r.calls.items (callee_had start e));
+        ∙ at_all (λ c. holds (is_reachable s.nodes start called (suc (length order)))
+        (slice_get s.nodes c.callee.0)) r.calls.items (callee_reachable start e));
   }
 
 -- ## A fault
@@ -206,25 +210,29 @@ kept_passes f p (y ∷ ys) (suc i) x at is all = kept_passes f p ys i x at is (b
     by false all = all
 
 -- what is had in so many steps is one of those that are had in more
-pub had_passes : {A : Type 0} (items : List A) (start : A → Bool) (step : A → A → Bool)
+pub reachable_passes : {A : Type 0} (items : List A) (start : A → Bool) (step : A → A → Bool)
     (f : A → Bool) (k m p : ℕ) (a : A) → slice_get items p ≡ Some a
-    → k ≤ m → is_had items start step k a ≡ true → list_all f (within items start step m) ≡ true
+    → k ≤ m → is_reachable items start step k a ≡ true
+    → list_all f (within items start step m) ≡ true
     → f a ≡ true
-had_passes items start step f k m p a at le had all =
-    kept_passes f (is_had items start step m) items p a at (had_by items start step k m a le had)
+reachable_passes items start step f k m p a at le reachable all =
+    kept_passes f (is_reachable items start step m) items p a at
+    (reachable_by items start step k m a le reachable)
     (ap (list_all f) (sym (within_is items start step m)) ∙ all)
 
 pub fault_there : (e : StaticError) (s : Source) (before order : List ℕ) (nodes : List ResolvedNode)
     (place : ℕ) (n : Node) (start : Node → Bool) → AreResolved s before order nodes
     → slice_get order (length nodes) ≡ Some place → slice_get s.nodes place ≡ Some n
-    → length order ≤ length s.nodes → AreHad s.nodes start called before
+    → length order ≤ length s.nodes → AreReachable s.nodes start called before
     → IsNameFault e (named_in s n)
     → IsNameFault e (list_all (named_in s) (within s.nodes start called (length s.nodes)))
 fault_there e s before order nodes place n start h next at few begins fault =
-    let had : is_had s.nodes start called (length order) n ≡ true =
-    ap (holds (is_had s.nodes start called (length order))) (sym at)
-    ∙ all_at (λ p. holds (is_had s.nodes start called (length order)) (slice_get s.nodes p)) order
-    (length nodes) place (h.had start begins) next in
+    let reachable : is_reachable s.nodes start called (length order) n ≡ true =
+    ap (holds (is_reachable s.nodes start called (length order))) (sym at)
+    ∙ all_at (λ p. holds (is_reachable s.nodes start called (length order)) (slice_get s.nodes p))
+    order
+    (length nodes) place (h.reachable start begins) next in
     fault_within e _ _ fault
-    (refuted _ _ (had_passes s.nodes start called (named_in s) (length order) (length s.nodes) place
-    n at few had))
+    (refuted _ _ (reachable_passes s.nodes start called (named_in s) (length order) (length s.nodes)
+    place
+    n at few reachable))

@@ -15,12 +15,12 @@ use Rattle.lb_static.specs.Parts.{among, static_names}
 use Rattle.lb_static.specs.ResolvedTerms.{static_of}
 use Rattle.lb_static.specs.declared.resolved.StaticPart.{StaticPart}
 use Rattle.lb_static.specs.Scopes.{declared_after}
-use Rattle.lb_static.specs.Visiting.{visited_after, visited_after_all}
+use Rattle.lb_static.specs.WorkLists.{visited_after, visited_after_all}
 use Rattle.lb_static.specs.declared.globals.Globals.{Globals}
 use Rattle.lb_static.proofs.Lists.{append_assoc, none_passes, some_passes}
 use Rattle.lb_static.proofs.ReachedPlaces.{distinct_places}
 use Rattle.lb_static.proofs.Scopes.{among_append, name_at_place}
-use Rattle.lb_static.proofs.Visiting.{at_any, visit_append}
+use Rattle.lb_static.proofs.WorkLists.{at_any, visit_append}
 
 -- ## Visits of names
 

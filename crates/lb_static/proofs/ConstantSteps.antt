@@ -16,7 +16,7 @@ use Rattle.lb_syntax.specs.SourceView.{view_constant}
 use Rattle.lb_syntax.specs.View.{view_static}
 use Rattle.lb_syntax.specs.declared.tree.Constant as written
 use Rattle.lb_static.specs.Arithmetic.{arithmetic, negated}
-use Rattle.lb_static.specs.ConstantValues.{names_of, read_constants, value_held, known, AreFirst, AreSettled, IsSettled, IsSound}
+use Rattle.lb_static.specs.ConstantValues.{names_of, read_constants, value_held, known, AreFirst, AreStable, IsStable, IsSound}
 use Rattle.lb_static.specs.Parts.{among, static_names}
 use Rattle.lb_static.specs.Scopes.{declared_after}
 use Rattle.lb_static.specs.StaticValues.{named, value_under, constant_value}
@@ -216,10 +216,10 @@ sound_first cs vs e = record {
 -- ## When all values are held
 
 complete_more : (cs : List Constant) (vs : List (Option ℤ)) (n : ℕ) → IsSound cs vs
-    → AreSettled cs vs
+    → AreStable cs vs
     → Keeps (constant_value cs n) (value_held (names_of cs) vs)
     → Keeps (constant_value cs (suc n)) (value_held (names_of cs) vs)
-complete_more cs vs n sound settled before x v e =
+complete_more cs vs n sound stable before x v e =
     by (position (bytes_eq x) (names_of cs)) refl
     (ap (λ o. o >>= λ d. value_under (constant_value cs n) d.value) (sym (named_at x cs)) ∙ e)
   where
@@ -228,7 +228,7 @@ complete_more cs vs n sound settled before x v e =
         → (o : Option ℤ) → slice_get vs i ≡ Some o → value_held (names_of cs) vs x ≡ Some v
     held_at i c at is has None stands =
         let below : i < length cs = slice_get_within cs i c is in
-        let none = settled i below c is stands in
+        let none = stable i below c is stands in
         let some = under_more (constant_value cs n) (value_held (names_of cs) vs) before c.value v
         has in
         absurd cc
@@ -257,22 +257,22 @@ complete_more cs vs n sound settled before x v e =
     by None at has = absurd cc
     by (Some i) at has = found i (slice_get cs i) at refl has
 
-complete : (cs : List Constant) (vs : List (Option ℤ)) → IsSound cs vs → AreSettled cs vs
+complete : (cs : List Constant) (vs : List (Option ℤ)) → IsSound cs vs → AreStable cs vs
     → (n : ℕ) → Keeps (constant_value cs n) (value_held (names_of cs) vs)
-complete cs vs sound settled zero x v e = absurd cc
-complete cs vs sound settled (suc n) x v e =
-    complete_more cs vs n sound settled (complete cs vs sound settled n) x v e
+complete cs vs sound stable zero x v e = absurd cc
+complete cs vs sound stable (suc n) x v e =
+    complete_more cs vs n sound stable (complete cs vs sound stable n) x v e
 
 -- what is held is the value of each constant
 pub all_held : (cs : List Constant) (vs : List (Option ℤ)) (n : ℕ) → length cs ≤ n → IsSound cs vs
-    → AreSettled cs vs
+    → AreStable cs vs
     → (x : Name) → value_held (names_of cs) vs x ≡ constant_value cs n x
-all_held cs vs n enough sound settled x =
+all_held cs vs n enough sound stable x =
     by (value_held (names_of cs) vs x) (constant_value cs n x) refl refl
   where
     by : (o p : Option ℤ) → value_held (names_of cs) vs x ≡ o → constant_value cs n x ≡ p → o ≡ p
     by None None held is = refl
-    by None (Some v) held is = let e = complete cs vs sound settled n x v is in absurd cc
+    by None (Some v) held is = let e = complete cs vs sound stable n x v is in absurd cc
     by (Some v) p held is =
         let few : known vs ≤ n = omega (arith, count_by-le-length is_some vs, sound.as_many) in
         sym (steps_keep cs (known vs) n few x v (sound.is_value x v held)) ∙ is
@@ -299,16 +299,16 @@ none_at vs n i d as_many below none =
     slice_get-get_or vs i d within ∙ ap Some (not_some (get_or vs i d) none)
 
 -- what is had under the values of the names is had under those of the constants
-pub had : (names other : List Name) (vs : List (Option ℤ)) (s : Static) (o : Option ℤ)
+pub value_had : (names other : List Name) (vs : List (Option ℤ)) (s : Static) (o : Option ℤ)
     → names ≡ other
     → o ≡ value_under (value_held names vs) s → value_under (value_held other vs) s ≡ o
-had names other vs s o same e = ap (λ ns. value_under (value_held ns vs) s) (sym same) ∙ sym e
+value_had names other vs s o same e = ap (λ ns. value_under (value_held ns vs) s) (sym same) ∙ sym e
 
--- a constant at a place is settled where it has no value
-pub settled_at : (cs : List Constant) (vs : List (Option ℤ)) (i : ℕ) (c : Constant)
+-- a constant at a place is evaluated where it has no value
+pub stable_at : (cs : List Constant) (vs : List (Option ℤ)) (i : ℕ) (c : Constant)
     → slice_get cs i ≡ Some c
-    → value_under (value_held (names_of cs) vs) c.value ≡ None → IsSettled cs vs i
-settled_at cs vs i c is none d same stands =
+    → value_under (value_held (names_of cs) vs) c.value ≡ None → IsStable cs vs i
+stable_at cs vs i c is none d same stands =
     let one : Some c ≡ Some d = sym is ∙ same in
     ap (λ o. o >>= λ a. value_under (value_held (names_of cs) vs) a.value) (sym one) ∙ none
 
@@ -397,9 +397,9 @@ pub all_values : (ks : List (Bor written.Constant)) (ds : List written.Constant)
     (vs : List (Option ℤ))
     → names ≡ names_of (read_constants ks) → AreFirst (read_constants ks) (map view_constant ds)
     → length ks ≤ length ds
-    → IsSound (read_constants ks) vs → AreSettled (read_constants ks) vs
+    → IsSound (read_constants ks) vs → AreStable (read_constants ks) vs
     → value_held names vs ≡ constant_value (map view_constant ds) (length ds)
-all_values ks ds names vs same first few sound settled =
+all_values ks ds names vs same first few sound stable =
     ap (λ ns. value_held ns vs) same ∙ (λ i x. all x i)
   where
     as_many : length (read_constants ks) ≡ length ks
@@ -408,7 +408,7 @@ all_values ks ds names vs same first few sound settled =
     all : (x : Name) → value_held (names_of (read_constants ks)) vs x
         ≡ constant_value (map view_constant ds) (length ds) x
     all x =
-        all_held (read_constants ks) vs (length ds) (omega (arith, as_many)) sound settled x
+        all_held (read_constants ks) vs (length ds) (omega (arith, as_many)) sound stable x
         ∙ same_values (read_constants ks) (map view_constant ds) first (length ds) x
 
 -- ## The first constants one by one

@@ -7,7 +7,7 @@ use Rattle.std.proofs.lemmas.List.Sums.{sum_by_push}
 use Rattle.std.proofs.lemmas.Option.{slice_get-get_or, slice_get_within}
 use Rattle.lb_syntax.specs.Lists.{In}
 use Rattle.lb_static.specs.CallGraphs.{AreWithin, IsOnCycle, Leads, called}
-use Rattle.lb_static.specs.CycleSearch.{IsAt, IsBetween, IsFrame, IsPath, IsWalk, IsWalkFrom, Keeps, unseen, on_path}
+use Rattle.lb_static.specs.CycleSearch.{IsAt, IsBetween, IsFrame, IsPath, IsSearch, IsSearchFrom, Keeps, unseen, on_path}
 use Rattle.lb_static.specs.declared.cycle.Frame.{Frame}
 use Rattle.lb_static.specs.declared.cycle.Progress.{Progress}
 use Rattle.lb_static.specs.declared.cycle.Progress.TheVariants.{Unseen, Open, Done}
@@ -129,50 +129,50 @@ comes_back g ps a c ks (f ∷ fs) path (inr on) leads =
 
 -- a call of the node at the end of the path leads onto the path
 pub closes : (g : List (List ℕ)) (ps : List Progress) (f : Frame) (fs : List Frame) (c : ℕ)
-    → IsWalk g ps (f ∷ fs)
+    → IsSearch g ps (f ∷ fs)
     → In c f.left.now → IsAt ps c Open → IsOnCycle g c
-closes g ps f fs c walk left is_open = by (walk.open_on_path c is_open)
+closes g ps f fs c searched left is_open = by (searched.open_on_path c is_open)
   where
     calls : In c (called g f.node)
-    calls = walk.is_path.0.left c left
+    calls = searched.is_path.0.left c left
 
     by : (f.node ≡ c) ⊎ In c (map (λ h. h.node) fs) → IsOnCycle g c
     by (inl is) = ([], subst (λ k. In c (called g k)) is calls)
-    by (inr on) = comes_back g ps f.node c [] fs walk.is_path.1 on calls
+    by (inr on) = comes_back g ps f.node c [] fs searched.is_path.1 on calls
 
--- ## The steps of a walk
+-- ## The steps of a search
 
 -- a node whose calls are all followed is done
 finished : (g : List (List ℕ)) (ps : List Progress) (f : Frame) (fs : List Frame)
-    → IsWalk g ps (f ∷ fs) → f.left.now ≡ []
-    → IsWalk g (set ps f.node Done) fs
-finished g ps f fs walk ends = record {
-  as_many = length-set ps f.node Done ∙ walk.as_many;
+    → IsSearch g ps (f ∷ fs) → f.left.now ≡ []
+    → IsSearch g (set ps f.node Done) fs
+finished g ps f fs searched ends = record {
+  as_many = length-set ps f.node Done ∙ searched.as_many;
   done = (
-    f.node ∷ walk.done.0,
-    (λ j calls. behind j (walk.is_path.0.each j calls), walk.done.1),
+    f.node ∷ searched.done.0,
+    (λ j calls. behind j (searched.is_path.0.each j calls), searched.done.1),
     λ i at. in_order i (after_set ps f.node i Done Done below at),
   );
   open_on_path = λ i at. on_path_still i at (after_set ps f.node i Done Open below at);
   is_path = path_ends g after f.node fs (at_set ps f.node Done below)
-      (path_kept g ps after (Some f.node) fs (done_more ps f.node below) walk.is_path.1);
+      (path_kept g ps after (Some f.node) fs (done_more ps f.node below) searched.is_path.1);
 }
   where
     after : List Progress
     after = set ps f.node Done
 
     below : f.node < length ps
-    below = omega (arith, walk.as_many, walk.is_path.0.within)
+    below = omega (arith, searched.as_many, searched.is_path.0.within)
 
-    behind : (j : ℕ) → In j f.left.now ⊎ (IsAt ps j Done ⊎ (None ≡ Some j)) → In j walk.done.0
+    behind : (j : ℕ) → In j f.left.now ⊎ (IsAt ps j Done ⊎ (None ≡ Some j)) → In j searched.done.0
     behind j (inl left) = absurd (subst (λ l. In j l) ends left)
-    behind j (inr (inl done)) = walk.done.2 j done
+    behind j (inr (inl done)) = searched.done.2 j done
     behind j (inr (inr is)) = absurd cc
 
     in_order : (i : ℕ) → ((i ≡ f.node) × (Done ≡ Done)) ⊎ IsAt ps i Done
-        → (f.node ≡ i) ⊎ In i walk.done.0
+        → (f.node ≡ i) ⊎ In i searched.done.0
     in_order i (inl is) = inl (sym is.0)
-    in_order i (inr at) = inr (walk.done.2 i at)
+    in_order i (inr at) = inr (searched.done.2 i at)
 
     still : (i : ℕ) → IsAt after i Open → (f.node ≡ i) ⊎ In i (map (λ h. h.node) fs)
         → In i (map (λ h. h.node) fs)
@@ -185,7 +185,7 @@ finished g ps f fs walk ends = record {
     on_path_still : (i : ℕ) → IsAt after i Open → ((i ≡ f.node) × (Open ≡ Done)) ⊎ IsAt ps i Open
         → In i (map (λ h. h.node) fs)
     on_path_still i at (inl is) = absurd cc
-    on_path_still i at (inr was) = still i at (walk.open_on_path i was)
+    on_path_still i at (inr was) = still i at (searched.open_on_path i was)
 
 -- one call of a node is followed, to a node that is done or that is next on the path
 followed : (g : List (List ℕ)) (ps : List Progress) (f h : Frame) (next : Option ℕ) (c : ℕ)
@@ -214,16 +214,16 @@ followed g ps f h next c same left meets only frame = record {
 
 -- a call leads to a node that is done
 passed : (g : List (List ℕ)) (ps : List Progress) (f h : Frame) (fs : List Frame) (c : ℕ)
-    → IsWalk g ps (f ∷ fs)
-    → h.node ≡ f.node → f.left.now ≡ c ∷ h.left.now → IsAt ps c Done → IsWalk g ps (h ∷ fs)
-passed g ps f h fs c walk same left done = record {
-  as_many = walk.as_many;
-  done = walk.done;
-  open_on_path = λ i at. by i (walk.open_on_path i at);
+    → IsSearch g ps (f ∷ fs)
+    → h.node ≡ f.node → f.left.now ≡ c ∷ h.left.now → IsAt ps c Done → IsSearch g ps (h ∷ fs)
+passed g ps f h fs c searched same left done = record {
+  as_many = searched.as_many;
+  done = searched.done;
+  open_on_path = λ i at. by i (searched.open_on_path i at);
   is_path = (
-    followed g ps f h None c same left (inl done) (λ j is. absurd cc) walk.is_path.0,
+    followed g ps f h None c same left (inl done) (λ j is. absurd cc) searched.is_path.0,
     subst
-        (λ i. IsPath g ps (Some i) fs) (sym same) walk.is_path.1,
+        (λ i. IsPath g ps (Some i) fs) (sym same) searched.is_path.1,
   );
 }
   where
@@ -244,21 +244,26 @@ fresh g ps h within left = record {
 
 -- a call leads to a node that was not begun
 entered : (g : List (List ℕ)) (ps : List Progress) (f h k : Frame) (fs : List Frame)
-    → IsWalk g ps (f ∷ fs)
+    → IsSearch g ps (f ∷ fs)
     → h.node ≡ f.node → f.left.now ≡ k.node ∷ h.left.now → k.node < length g
     → k.left.now ≡ called g k.node → IsAt ps k.node Unseen
-    → IsWalk g (set ps k.node Open) (k ∷ (h ∷ fs))
-entered g ps f h k fs walk same left within all at_first = record {
-  as_many = length-set ps k.node Open ∙ walk.as_many;
-  done = (walk.done.0, walk.done.1, λ i at. in_order i (after_set ps k.node i Open Done below at));
+    → IsSearch g (set ps k.node Open) (k ∷ (h ∷ fs))
+entered g ps f h k fs searched same left within all at_first = record {
+  as_many = length-set ps k.node Open ∙ searched.as_many;
+  done = (
+    searched.done.0,
+    searched.done.1,
+    λ i at. in_order i
+        (after_set ps k.node i Open Done below at),
+  );
   open_on_path = λ i at. on_path_now i (after_set ps k.node i Open Open below at);
   is_path = (
     fresh g after k within all,
     (
       followed g after f h (Some k.node) k.node same left (inr refl) (λ j is. cc)
-          (frame_kept g ps after None f kept walk.is_path.0),
+          (frame_kept g ps after None f kept searched.is_path.0),
       subst (λ i. IsPath g after (Some i) fs) (sym same)
-          (path_kept g ps after (Some f.node) fs kept walk.is_path.1),
+          (path_kept g ps after (Some f.node) fs kept searched.is_path.1),
     ),
   );
 }
@@ -267,14 +272,14 @@ entered g ps f h k fs walk same left within all at_first = record {
     after = set ps k.node Open
 
     below : k.node < length ps
-    below = omega (arith, walk.as_many)
+    below = omega (arith, searched.as_many)
 
     kept : Keeps ps after
     kept = done_stays ps k.node Open Unseen at_first (λ e. absurd cc)
 
-    in_order : (i : ℕ) → ((i ≡ k.node) × (Done ≡ Open)) ⊎ IsAt ps i Done → In i walk.done.0
+    in_order : (i : ℕ) → ((i ≡ k.node) × (Done ≡ Open)) ⊎ IsAt ps i Done → In i searched.done.0
     in_order i (inl is) = absurd cc
-    in_order i (inr at) = walk.done.2 i at
+    in_order i (inr at) = searched.done.2 i at
 
     before : (i : ℕ) → (f.node ≡ i) ⊎ In i (map (λ l. l.node) fs)
         → (h.node ≡ i) ⊎ In i (map (λ l. l.node) fs)
@@ -284,9 +289,9 @@ entered g ps f h k fs walk same left within all at_first = record {
     on_path_now : (i : ℕ) → ((i ≡ k.node) × (Open ≡ Open)) ⊎ IsAt ps i Open
         → (k.node ≡ i) ⊎ ((h.node ≡ i) ⊎ In i (map (λ l. l.node) fs))
     on_path_now i (inl is) = inl (sym is.0)
-    on_path_now i (inr was) = inr (before i (walk.open_on_path i was))
+    on_path_now i (inr was) = inr (before i (searched.open_on_path i was))
 
--- ## The walk from a node, with its path as the program holds it
+-- ## The search from a node, with its path as the program holds it
 
 -- the end of the path
 last_first : {A : Type 0} (all front : List A) (x : A) → all ≡ front ++ x ∷ []
@@ -296,9 +301,9 @@ last_first all front x e = ap reverse e ∙ reverse-append front (x ∷ [])
 pub begins : (g : List (List ℕ)) (before : List Progress) (start : ℕ) (f : Frame)
     (path : List Frame) → IsBetween g before
     → IsAt before start Unseen → f.node ≡ start → f.left.now ≡ called g start → path ≡ f ∷ []
-    → IsWalkFrom g before start (set before start Open) (reverse path)
+    → IsSearchFrom g before start (set before start Open) (reverse path)
 begins g before start f path between at_first is left alone = record {
-  walk = record {
+  searched = record {
     as_many = length-set before start Open ∙ between.as_many;
     done = (
       between.done.0,
@@ -371,53 +376,53 @@ begun_before ps start i at_first (inl is_open) = by (nat_eq start i) refl
 -- the node at the end of the path is one of the graph
 pub last_within : (g : List (List ℕ)) (before ps : List Progress) (start : ℕ) (old new : List Frame)
     (f : Frame)
-    → IsWalkFrom g before start ps (reverse old) → old ≡ new ++ f ∷ [] → f.node < length ps
+    → IsSearchFrom g before start ps (reverse old) → old ≡ new ++ f ∷ [] → f.node < length ps
 last_within g before ps start old new f from popped =
-    let walk = subst (IsWalk g ps) (last_first old new f popped) from.walk in
-    omega (arith, walk.as_many, walk.is_path.0.within)
+    let searched = subst (IsSearch g ps) (last_first old new f popped) from.searched in
+    omega (arith, searched.as_many, searched.is_path.0.within)
 
 pub finishes : (g : List (List ℕ)) (before ps : List Progress) (start : ℕ) (old new : List Frame)
     (f : Frame)
-    → IsWalkFrom g before start ps (reverse old) → old ≡ new ++ f ∷ [] → f.left.now ≡ []
-    → IsWalkFrom g before start (set ps f.node Done) (reverse new)
+    → IsSearchFrom g before start ps (reverse old) → old ≡ new ++ f ∷ [] → f.left.now ≡ []
+    → IsSearchFrom g before start (set ps f.node Done) (reverse new)
 finishes g before ps start old new f from popped ends =
-    let walk = subst (IsWalk g ps) (last_first old new f popped) from.walk in
-    let below : f.node < length ps = omega (arith, walk.as_many, walk.is_path.0.within) in
+    let searched = subst (IsSearch g ps) (last_first old new f popped) from.searched in
+    let below : f.node < length ps = omega (arith, searched.as_many, searched.is_path.0.within) in
     record {
-      walk = finished g ps f (reverse new) walk ends;
+      searched = finished g ps f (reverse new) searched ends;
       kept = λ i done. done_more ps f.node below i (from.kept i done);
       begun = begun_still ps start f.node below from.begun;
     }
 
 pub passes : (g : List (List ℕ)) (before ps : List Progress) (start c : ℕ)
     (old front new : List Frame) (f h : Frame)
-    → IsWalkFrom g before start ps (reverse old) → old ≡ front ++ f ∷ [] → new ≡ front ++ h ∷ []
+    → IsSearchFrom g before start ps (reverse old) → old ≡ front ++ f ∷ [] → new ≡ front ++ h ∷ []
     → h.node ≡ f.node → f.left.now ≡ c ∷ h.left.now → IsAt ps c Done
-    → IsWalkFrom g before start ps (reverse new)
+    → IsSearchFrom g before start ps (reverse new)
 passes g before ps start c old front new f h from popped pushed same left done =
-    let walk = subst (IsWalk g ps) (last_first old front f popped) from.walk in
+    let searched = subst (IsSearch g ps) (last_first old front f popped) from.searched in
     record {
-      walk = subst (IsWalk g ps) (sym (last_first new front h pushed))
-          (passed g ps f h (reverse front) c walk same left done);
+      searched = subst (IsSearch g ps) (sym (last_first new front h pushed))
+          (passed g ps f h (reverse front) c searched same left done);
       kept = from.kept;
       begun = from.begun;
     }
 
 enters_next : (g : List (List ℕ)) (before ps : List Progress) (start : ℕ)
     (old front mid new : List Frame) (f h k : Frame)
-    → IsWalkFrom g before start ps (reverse old) → old ≡ front ++ f ∷ [] → mid ≡ front ++ h ∷ []
+    → IsSearchFrom g before start ps (reverse old) → old ≡ front ++ f ∷ [] → mid ≡ front ++ h ∷ []
     → new ≡ mid ++ k ∷ []
     → h.node ≡ f.node → f.left.now ≡ k.node ∷ h.left.now → k.node < length g
     → k.left.now ≡ called g k.node → IsAt ps k.node Unseen
-    → IsWalkFrom g before start (set ps k.node Open) (reverse new)
+    → IsSearchFrom g before start (set ps k.node Open) (reverse new)
 enters_next g before ps start old front mid new f h k from popped pushed entered_last same left
     within all at_first =
-    let walk = subst (IsWalk g ps) (last_first old front f popped) from.walk in
+    let searched = subst (IsSearch g ps) (last_first old front f popped) from.searched in
     let path : reverse new ≡ k ∷ (h ∷ reverse front) =
     last_first new mid k entered_last ∙ ap (λ l. k ∷ l) (last_first mid front h pushed) in
     record {
-      walk = subst (IsWalk g (set ps k.node Open)) (sym path)
-          (entered g ps f h k (reverse front) walk same left within all at_first);
+      searched = subst (IsSearch g (set ps k.node Open)) (sym path)
+          (entered g ps f h k (reverse front) searched same left within all at_first);
       kept = λ i done. done_stays ps k.node Open Unseen at_first (λ e. absurd cc) i
           (from.kept i done);
       begun = begun_before ps start k.node at_first from.begun;
@@ -425,26 +430,26 @@ enters_next g before ps start old front mid new f h k from popped pushed entered
 
 pub enters : (g : List (List ℕ)) (before ps : List Progress) (start c : ℕ)
     (old front mid new : List Frame) (f h k : Frame)
-    → IsWalkFrom g before start ps (reverse old) → old ≡ front ++ f ∷ [] → mid ≡ front ++ h ∷ []
+    → IsSearchFrom g before start ps (reverse old) → old ≡ front ++ f ∷ [] → mid ≡ front ++ h ∷ []
     → new ≡ mid ++ k ∷ [] → h.node ≡ f.node
     → k.node ≡ c → f.left.now ≡ c ∷ h.left.now → c < length g → k.left.now ≡ called g c
     → IsAt ps c Unseen
-    → IsWalkFrom g before start (set ps c Open) (reverse new)
+    → IsSearchFrom g before start (set ps c Open) (reverse new)
 enters g before ps start c old front mid new f h k from popped pushed entered_last same is =
     subst (λ i. f.left.now ≡ i ∷ h.left.now → i < length g → k.left.now ≡ called g i
-    → IsAt ps i Unseen → IsWalkFrom g before start (set ps i Open) (reverse new)) is
+    → IsAt ps i Unseen → IsSearchFrom g before start (set ps i Open) (reverse new)) is
     (enters_next g before ps start old front mid new f h k from popped pushed entered_last same)
 
 -- what a node on the path calls is a node
 pub calls_node : (g : List (List ℕ)) (before ps : List Progress) (start c : ℕ) (cs : List ℕ)
     (old front : List Frame) (f : Frame) → AreWithin g
-    → IsWalkFrom g before start ps (reverse old) → old ≡ front ++ f ∷ [] → f.left.now ≡ c ∷ cs
+    → IsSearchFrom g before start ps (reverse old) → old ≡ front ++ f ∷ [] → f.left.now ≡ c ∷ cs
     → (c < length g) × (c < length ps)
 calls_node g before ps start c cs old front f within from popped left =
-    let walk = subst (IsWalk g ps) (last_first old front f popped) from.walk in
+    let searched = subst (IsSearch g ps) (last_first old front f popped) from.searched in
     let node : c < length g =
-    within f.node c (walk.is_path.0.left c (subst (λ l. In c l) (sym left) (inl refl))) in
-    (node, omega (arith, walk.as_many))
+    within f.node c (searched.is_path.0.left c (subst (λ l. In c l) (sym left) (inl refl))) in
+    (node, omega (arith, searched.as_many))
 
 -- what is known of a node whose progress is read
 pub read_at : (ps : List Progress) (i : ℕ) (p d : Progress) → i < length ps → get_or ps i d ≡ p
@@ -453,29 +458,29 @@ read_at ps i p d below is = slice_get-get_or ps i d below ∙ ap Some is
 
 pub cycle_found : (g : List (List ℕ)) (before ps : List Progress) (start c : ℕ) (cs : List ℕ)
     (old front : List Frame) (f : Frame)
-    → IsWalkFrom g before start ps (reverse old) → old ≡ front ++ f ∷ [] → f.left.now ≡ c ∷ cs
+    → IsSearchFrom g before start ps (reverse old) → old ≡ front ++ f ∷ [] → f.left.now ≡ c ∷ cs
     → IsAt ps c Open → IsOnCycle g c
 cycle_found g before ps start c cs old front f from popped left is_open =
-    let walk = subst (IsWalk g ps) (last_first old front f popped) from.walk in
-    closes g ps f (reverse front) c walk (subst (λ l. In c l) (sym left) (inl refl)) is_open
+    let searched = subst (IsSearch g ps) (last_first old front f popped) from.searched in
+    closes g ps f (reverse front) c searched (subst (λ l. In c l) (sym left) (inl refl)) is_open
 
 pub ends : (g : List (List ℕ)) (before ps : List Progress) (start : ℕ) (path : List Frame)
-    → IsWalkFrom g before start ps (reverse path) → path ≡ []
+    → IsSearchFrom g before start ps (reverse path) → path ≡ []
     → IsBetween g ps × Keeps before ps × IsAt ps start Done
 ends g before ps start path from empty = (
-  record { as_many = walk.as_many; done = walk.done; none_open = walk.open_on_path },
+  record { as_many = searched.as_many; done = searched.done; none_open = searched.open_on_path },
   from.kept,
   by from.begun,
 )
   where
-    walk : IsWalk g ps []
-    walk = subst (λ l. IsWalk g ps (reverse l)) empty from.walk
+    searched : IsSearch g ps []
+    searched = subst (λ l. IsSearch g ps (reverse l)) empty from.searched
 
     by : IsAt ps start Open ⊎ IsAt ps start Done → IsAt ps start Done
-    by (inl is_open) = absurd (walk.open_on_path start is_open)
+    by (inl is_open) = absurd (searched.open_on_path start is_open)
     by (inr done) = done
 
--- ## The measure of the walk
+-- ## The measure of the search
 
 unseen_done : (ps : List Progress) (g : List (List ℕ)) (i : ℕ)
     → unseen (set ps i Done) g ≤ unseen ps g

@@ -11,16 +11,16 @@ use Rattle.lb_static.specs.Instances.{Program, Instance, Path, name_value, stati
 use Rattle.lb_static.specs.Parts.{among, declared_sizes, node_parts, own_sizes, own_indexes, own_slices, variable_names}
 use Rattle.lb_static.specs.ResolvedNodes.{IsResolved, part_of, statics_of}
 use Rattle.lb_static.specs.ResolvedTerms.{declaration_of, static_of}
-use Rattle.lb_static.specs.Shapes.{variables, width, product, element_count}
+use Rattle.lb_static.specs.DataTypes.{variables, width, product, element_count}
 use Rattle.lb_static.specs.Specialized.{part_value, part_values, in_range_after, is_narrow, node_in_range}
 use Rattle.lb_static.specs.StaticParts.{Part, group_parts, node_static_parts}
 use Rattle.lb_static.specs.StaticValues.{natural, value_under}
-use Rattle.lb_static.specs.Walk.{has_values, is_in_range}
+use Rattle.lb_static.specs.Instantiation.{has_values, is_in_range}
 use Rattle.lb_static.specs.declared.resolved.ResolvedNode.{ResolvedNode}
 use Rattle.lb_static.specs.declared.resolved.StaticPart.{StaticPart}
 use Rattle.lb_static.specs.declared.resolved.Variable.{Variable as Declared}
 use Rattle.lb_static.proofs.Evaluations.{some_each}
-use Rattle.lb_static.proofs.JudgedInstances.{standing, values_judged, variables_declared, groups_of}
+use Rattle.lb_static.proofs.ValuedInstances.{instance_with, values_judged, variables_declared, groups_of}
 use Rattle.lb_static.proofs.Lists.{all_append, map_map}
 use Rattle.lb_static.proofs.NodeRanges.{pass_after, ranges_are, node_ranges, body_passes, is_size, is_index, is_slice}
 use Rattle.lb_static.proofs.NodeValues.{some_all, sizes_in}
@@ -45,7 +45,7 @@ all_zipped f q p (x ∷ xs) (y ∷ ys) e h =
 
 module _ (P : Program) (p : Path) (r : ResolvedNode) (values : List (Name × ℤ)) where
   abbrev pub here : Instance
-  here = standing p r.tree.now values
+  here = instance_with p r.tree.now values
 
   abbrev pub given : Name → Option ℤ
   given = name_value P here

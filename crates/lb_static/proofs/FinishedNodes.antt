@@ -15,18 +15,18 @@ use Rattle.lb_syntax.specs.declared.tree.Source as written_source
 use Rattle.lb_static.specs.Instances.{node_sites}
 use Rattle.lb_static.specs.NameFaults.{IsNameFault}
 use Rattle.lb_static.specs.NodeNames.{node_in}
-use Rattle.lb_static.specs.NodeProgress.{Progress, texts, texts_in, counts_in, counts_kept, nameless, after_groups, after_node, declaration_fits, statement_fits, StepsStand}
+use Rattle.lb_static.specs.NodeProgress.{Progress, texts, texts_in, counts_in, counts_kept, nameless, after_groups, after_node, declaration_fits, statement_fits, StatementsStand}
 use Rattle.lb_static.specs.Parts.{among, right_side, variable_names}
 use Rattle.lb_static.specs.Progressed.{progress, IsFinished}
 use Rattle.lb_static.specs.ResolvedNodes.{part_of, texts_of, counts_of, statics_of, node_of, IsResolved}
-use Rattle.lb_static.specs.ResolvedTerms.{statement_of, declaration_of, site_of, is_step_within, is_step_unhidden, is_declared_within, is_site_within}
-use Rattle.lb_static.specs.Shapes.{variables}
+use Rattle.lb_static.specs.ResolvedTerms.{statement_of, declaration_of, site_of, is_statement_within, is_statement_unhidden, is_declared_within, is_site_within}
+use Rattle.lb_static.specs.DataTypes.{variables}
 use Rattle.lb_static.specs.StaticParts.{Part, group_parts, node_static_parts, parts_of}
 use Rattle.lb_static.specs.declared.error.StaticError.{StaticError}
-use Rattle.lb_static.specs.declared.found.Found.{Found}
-use Rattle.lb_static.specs.declared.naming.Naming.{Naming}
+use Rattle.lb_static.specs.declared.node_builder.NodeBuilder.{NodeBuilder}
+use Rattle.lb_static.specs.declared.node_scope.NodeScope.{NodeScope}
 use Rattle.lb_static.specs.declared.resolved.ResolvedNode.{ResolvedNode}
-use Rattle.lb_static.specs.declared.resolved.Step.{Step}
+use Rattle.lb_static.specs.declared.resolved.ResolvedStatement.{ResolvedStatement}
 use Rattle.lb_static.specs.declared.resolved.Variable.{Variable}
 use Rattle.lb_static.proofs.Lists.{append_assoc, map_map}
 
@@ -48,17 +48,18 @@ at_end source n = record {
 }
 
 -- a step from what is known to be so far, over groups that are known
-pub started : (naming : Naming) (s : Progress) (source : written_source.Source) (n : written.Node)
+pub started : (node_scope : NodeScope) (s : Progress) (source : written_source.Source)
+    (n : written.Node)
     → s ≡ record {
-      source = view_source naming.source.now;
-      node = node_in naming;
+      source = view_source node_scope.source.now;
+      node = node_in node_scope;
       declared =
           [];
       parts = [];
       calls = [];
-    } → naming.source.now ≡ source → naming.tree.now ≡ n
+    } → node_scope.source.now ≡ source → node_scope.tree.now ≡ n
     → s ≡ at_start (view_source source) n
-started naming s source n e a b = e
+started node_scope s source n e a b = e
     ∙ (λ j. record {
       source =
           view_source (a j);
@@ -194,8 +195,8 @@ with_names names statics (v ∷ vs) (d ∷ ds) e =
     ap (λ x. x ∷ zip2 (declaration_of names statics) (map (λ y. y.name) ds) vs) one
     ∙ ap (λ l. d ∷ l) (with_names names statics vs ds g)
 
-module _ (f : Found) (source : written_source.Source) (n : written.Node) (inputs outputs : ℕ)
-    (body : Vec Step Global) (r : ResolvedNode)
+module _ (f : NodeBuilder) (source : written_source.Source) (n : written.Node) (inputs outputs : ℕ)
+    (body : Vec ResolvedStatement Global) (r : ResolvedNode)
     (all : progress f ≡ at_end (view_source source) n) (done : IsFinished f n inputs outputs body r)
   where
     abbrev N : Node
@@ -204,7 +205,7 @@ module _ (f : Found) (source : written_source.Source) (n : written.Node) (inputs
     abbrev names : List Name
     names = map (λ m. m.name) (view_source source).nodes
 
-    same_node : node_in f.naming ≡ node_of r
+    same_node : node_in f.node_scope ≡ node_of r
     same_node = ap (λ s. s.node) all ∙ ap view_node (sym done.tree_is)
 
     same_statics : texts_in f.statics.items ≡ statics_of r
@@ -214,7 +215,7 @@ module _ (f : Found) (source : written_source.Source) (n : written.Node) (inputs
     as_many =
         ap length done.variables
         ∙ sym (length-map f.variables.items
-        (declaration_of (variable_names (node_in f.naming)) (texts_in f.statics.items) []))
+        (declaration_of (variable_names (node_in f.node_scope)) (texts_in f.statics.items) []))
         ∙ ap (λ s. length s.declared) all ∙ length-map (variables N) nameless
         ∙ ap (λ m. length (variables (view_node m))) (sym done.tree_is)
 
@@ -251,12 +252,12 @@ module _ (f : Found) (source : written_source.Source) (n : written.Node) (inputs
           calls = calls j;
         }
 
-    same_variables : length (variable_names (node_in f.naming)) ≡ length r.variables.items
+    same_variables : length (variable_names (node_in f.node_scope)) ≡ length r.variables.items
     same_variables =
         ap (λ m. length (variable_names m)) same_node
         ∙ length-map (variables (node_of r)) (λ d. d.name) ∙ sym as_many
 
-    same_counts : counts_kept f.naming f.statics.items f.calls.items ≡ counts_of r
+    same_counts : counts_kept f.node_scope f.statics.items f.calls.items ≡ counts_of r
     same_counts =
         λ j. record {
           variables = same_variables j;
@@ -271,18 +272,18 @@ module _ (f : Found) (source : written_source.Source) (n : written.Node) (inputs
         ∙ length-map f.statics.items part_of in
         let calls =
         length-map f.calls.items
-        (site_of (map (λ (m : Node). m.name) (view_source f.naming.source.now).nodes)
+        (site_of (map (λ (m : Node). m.name) (view_source f.node_scope.source.now).nodes)
         (texts_in f.statics.items)) in
         (λ j. record {
-          variables = length (variable_names (node_in f.naming));
+          variables = length (variable_names (node_in f.node_scope));
           statics =
               statics j;
           calls = calls j;
         }) ∙ same_counts
 
-    nodes_are : length f.naming.source.now.nodes.items ≡ length names
+    nodes_are : length f.node_scope.source.now.nodes.items ≡ length names
     nodes_are =
-        sym (length-map f.naming.source.now.nodes.items view_node)
+        sym (length-map f.node_scope.source.now.nodes.items view_node)
         ∙ ap (λ s. length s.source.nodes) all
         ∙ sym (length-map (view_source source).nodes (λ m. m.name))
 
@@ -296,10 +297,10 @@ module _ (f : Found) (source : written_source.Source) (n : written.Node) (inputs
         ∙ f.sound.declared_within
 
     fits : length r.variables.items < 2 ^ 32
-    fits = let few = f.naming.places_fit in let many =
-        f.naming.variables_are in let same = same_variables in omega (arith, few, many, same)
+    fits = let few = f.node_scope.places_fit in let many =
+        f.node_scope.variables_are in let same = same_variables in omega (arith, few, many, same)
 
-    pub resolved : StepsStand (progress f) N.body body.items → inputs ≡ length N.inputs
+    pub resolved : StatementsStand (progress f) N.body body.items → inputs ≡ length N.inputs
         → outputs ≡ length N.outputs → IsResolved names r
     resolved stand ins outs = record {
       inputs = done.inputs_are ∙ ins ∙ ap (λ m. length (view_node m).inputs) (sym done.tree_is);
@@ -310,9 +311,10 @@ module _ (f : Found) (source : written_source.Source) (n : written.Node) (inputs
           ∙ ap (λ m. (view_node m).body) (sym done.tree_is);
       calls = calls_are;
       statics = statics_are;
-      unhidden = (λ j. list_all (is_step_unhidden (sym same_texts j)) (done.body_is j)) ∙ stand.2;
+      unhidden = (λ j. list_all (is_statement_unhidden (sym same_texts j)) (done.body_is j))
+          ∙ stand.2;
       declared_within = declared_within;
-      body_within = (λ j. list_all (is_step_within (sym same_counts_in j)) (done.body_is j))
+      body_within = (λ j. list_all (is_statement_within (sym same_counts_in j)) (done.body_is j))
           ∙ stand.1;
       calls_within = calls_within;
       variables_fit = fits;

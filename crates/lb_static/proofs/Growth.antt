@@ -14,13 +14,13 @@ use Rattle.lb_static.specs.ResolvedTerms.{Texts, Counts, static_of, static_at, s
 use Rattle.lb_static.specs.NodeNames.{node_in}
 use Rattle.lb_static.specs.Parts.{variable_names}
 use Rattle.lb_static.specs.ResolvedNodes.{part_of}
-use Rattle.lb_static.specs.declared.naming.Naming.{Naming}
+use Rattle.lb_static.specs.declared.node_scope.NodeScope.{NodeScope}
 use Rattle.lb_static.specs.declared.resolved.CallId.{CallId}
 use Rattle.lb_static.specs.declared.resolved.StaticPart.{StaticPart}
 use Rattle.lb_static.specs.declared.resolved.CallSite.{CallSite}
 use Rattle.lb_static.specs.declared.resolved.StaticId.{StaticId}
 use Rattle.lb_static.specs.declared.resolved.Variable.{Variable as Declared}
-use Rattle.lb_static.specs.declared.resolved.Term.{Term, Literal, Truth, Variable, Value, Group', Unary', Binary', If', Arrow', Fby', Pre', Current', When', Copies', Index', Slice', Join', Array', AtMostOne', Nor', Call', IterateNode', IterateSymbol', Row_of-Term, end_of-Term, more_of-Term}
+use Rattle.lb_static.specs.declared.resolved.Term.{Term, Literal, Truth, Variable, Value, Group', Unary', Binary', If', Arrow', Fby', Pre', Current', When', Replicate', Index', Slice', Join', Array', AtMostOne', Nor', Call', IterateNode', IterateSymbol', Row_of-Term, end_of-Term, more_of-Term}
 use Rattle.lb_static.proofs.Lists.{and_first, and_second, both, map_map}
 
 -- ## Lists with more at the end
@@ -172,19 +172,19 @@ module _ (n m : Counts) (k l : ℕ) (variables : m.variables ≡ n.variables)
     still_within (Pre' p a) e = still_within a e
     still_within (Current' p a) e = still_within a e
     still_within (When' p a x sign) e = two_still _ _ _ _ (variable_still x.0) (still_within a) e
-    still_within (Copies' p a i) e = two_still _ _ _ _ (static_still i.0) (still_within a) e
+    still_within (Replicate' p a i) e = two_still _ _ _ _ (static_still i.0) (still_within a) e
     still_within (Index' p a i) e = two_still _ _ _ _ (static_still i.0) (still_within a) e
     still_within (Slice' p a i j) e =
         two_still _ _ _ _ (static_still i.0) (two_still _ _ _ _ (static_still j.0) (still_within a))
         e
     still_within (Join' p a q b) e = two_still _ _ _ _ (still_within a) (still_within b) e
-    still_within (Array' shape all) e = are_still_within all e
-    still_within (AtMostOne' shape all) e = are_still_within all e
-    still_within (Nor' shape all) e = are_still_within all e
-    still_within (Call' c shape all) e = two_still _ _ _ _ (call_still c.0) (are_still_within all) e
-    still_within (IterateNode' it c shape all) e =
+    still_within (Array' arity all) e = are_still_within all e
+    still_within (AtMostOne' arity all) e = are_still_within all e
+    still_within (Nor' arity all) e = are_still_within all e
+    still_within (Call' c arity all) e = two_still _ _ _ _ (call_still c.0) (are_still_within all) e
+    still_within (IterateNode' it c arity all) e =
         two_still _ _ _ _ (call_still c.0) (are_still_within all) e
-    still_within (IterateSymbol' it op i shape all) e =
+    still_within (IterateSymbol' it op i arity all) e =
         two_still _ _ _ _ (static_still i.0) (are_still_within all) e
 
     are_still_within : {s : _} (row : Row_of-Term s) → are_within n row ≡ true
@@ -235,22 +235,23 @@ module _ (t : Texts) (X : List Static) (Y : List Site) where
     expr_stays (Current' p a) e = ap tree.Current (expr_stays a e)
     expr_stays (When' p a x sign) e = ap (λ z. tree.When z (name_at t.variables x) sign)
         (expr_stays a (and_second (nat_lt x.0 (length t.variables)) _ e))
-    expr_stays (Copies' p a i) e =
-        same_when (λ n z. tree.Copies z n) _ _ _ _ _ _ (static_stays t.statics X i) (expr_stays a) e
+    expr_stays (Replicate' p a i) e =
+        same_when (λ n z. tree.Replicate z n) _ _ _ _ _ _ (static_stays t.statics X i)
+        (expr_stays a) e
     expr_stays (Index' p a i) e =
         same_when (λ n z. tree.Index z n) _ _ _ _ _ _ (static_stays t.statics X i) (expr_stays a) e
     expr_stays (Slice' p a i j) e =
         three_when (λ x y z. tree.Slice z x y) _ _ _ _ _ _ _ _ _ (static_stays t.statics X i)
         (static_stays t.statics X j) (expr_stays a) e
     expr_stays (Join' p a q b) e = same_when tree.Join _ _ _ _ _ _ (expr_stays a) (expr_stays b) e
-    expr_stays (Array' shape all) e = ap tree.Array (row_stays all e)
-    expr_stays (AtMostOne' shape all) e = ap tree.AtMostOne (row_stays all e)
-    expr_stays (Nor' shape all) e = ap tree.Nor (row_stays all e)
-    expr_stays (Call' c shape all) e =
+    expr_stays (Array' arity all) e = ap tree.Array (row_stays all e)
+    expr_stays (AtMostOne' arity all) e = ap tree.AtMostOne (row_stays all e)
+    expr_stays (Nor' arity all) e = ap tree.Nor (row_stays all e)
+    expr_stays (Call' c arity all) e =
         same_when call_expr _ _ _ _ _ _ (call_stays c) (row_stays all) e
-    expr_stays (IterateNode' it c shape all) e =
+    expr_stays (IterateNode' it c arity all) e =
         same_when (iterate_expr it) _ _ _ _ _ _ (call_stays c) (row_stays all) e
-    expr_stays (IterateSymbol' it op i shape all) e =
+    expr_stays (IterateSymbol' it op i arity all) e =
         same_when (tree.Iterate it (tree.Symbol op)) _ _ _ _ _ _ (static_stays t.statics X i)
         (row_stays all) e
 
@@ -288,20 +289,20 @@ module _ (t : Texts) (X : List Static) (Y : List Site) where
     unhidden_stays (Current' p a) e = unhidden_stays a e
     unhidden_stays (When' p a x sign) e =
         unhidden_stays a (and_second (nat_lt x.0 (length t.variables)) _ e)
-    unhidden_stays (Copies' p a i) e = unhidden_stays a (after_static i a e)
+    unhidden_stays (Replicate' p a i) e = unhidden_stays a (after_static i a e)
     unhidden_stays (Index' p a i) e = unhidden_stays a (after_static i a e)
     unhidden_stays (Slice' p a i j) e =
         unhidden_stays a (after_static j a (and_second (nat_lt i.0 (length t.statics)) _ e))
     unhidden_stays (Join' p a q b) e =
         same_when (λ x y. x && y) _ _ _ _ _ _ (unhidden_stays a) (unhidden_stays b) e
-    unhidden_stays (Array' shape all) e = row_unhidden_stays all e
-    unhidden_stays (AtMostOne' shape all) e = row_unhidden_stays all e
-    unhidden_stays (Nor' shape all) e = row_unhidden_stays all e
-    unhidden_stays (Call' c shape all) e =
+    unhidden_stays (Array' arity all) e = row_unhidden_stays all e
+    unhidden_stays (AtMostOne' arity all) e = row_unhidden_stays all e
+    unhidden_stays (Nor' arity all) e = row_unhidden_stays all e
+    unhidden_stays (Call' c arity all) e =
         row_unhidden_stays all (and_second (nat_lt c.0 (length t.calls)) _ e)
-    unhidden_stays (IterateNode' it c shape all) e =
+    unhidden_stays (IterateNode' it c arity all) e =
         row_unhidden_stays all (and_second (nat_lt c.0 (length t.calls)) _ e)
-    unhidden_stays (IterateSymbol' it op i shape all) e =
+    unhidden_stays (IterateSymbol' it op i arity all) e =
         row_unhidden_stays all (and_second (nat_lt i.0 (length t.statics)) _ e)
 
     row_unhidden_stays : {s : _} (row : Row_of-Term s) → are_within (counts_in t) row ≡ true
@@ -313,7 +314,7 @@ module _ (t : Texts) (X : List Static) (Y : List Site) where
 -- ## What is kept of a node
 
 -- what is kept with one more static expression
-module _ (n : Naming) (parts more : List StaticPart) (calls : List CallSite)
+module _ (n : NodeScope) (parts more : List StaticPart) (calls : List CallSite)
     (variables : List Declared) (x : StaticPart)
     (kept_now : IsKept n parts calls variables) (added : more ≡ parts ++ x ∷ []) where
   longer : length more ≡ length parts + 1
@@ -372,7 +373,7 @@ module _ (n : Naming) (parts more : List StaticPart) (calls : List CallSite)
 pub texts_are : (parts : List StaticPart) → map (λ p. p.1) (map part_of parts) ≡ texts_in parts
 texts_are parts = map_map part_of (λ p. p.1) parts
 
-pub grown_call : (n : Naming) (parts : List StaticPart) (calls more : List CallSite)
+pub grown_call : (n : NodeScope) (parts : List StaticPart) (calls more : List CallSite)
     (variables : List Declared) (x : CallSite) → more ≡ calls ++ x ∷ []
     → kept n parts more variables
     ≡ grown (kept n parts calls variables) []
@@ -396,7 +397,7 @@ grown_call n parts calls more variables x added =
       calls = called i;
     }
 
-pub one_more_variable : (n : Naming) (parts : List StaticPart) (calls : List CallSite)
+pub one_more_variable : (n : NodeScope) (parts : List StaticPart) (calls : List CallSite)
     (variables more : List Declared) (x : Declared) → more ≡ variables ++ x ∷ []
     → kept n parts calls more
     ≡ with_variable (kept n parts calls variables)
@@ -418,7 +419,7 @@ one_more_variable n parts calls variables more x added =
     }
 
 -- what is kept after a push that may fail
-pub kept_pushed : (n : Naming) (parts more : List StaticPart) (calls : List CallSite)
+pub kept_pushed : (n : NodeScope) (parts more : List StaticPart) (calls : List CallSite)
     (variables : List Declared) (x : StaticPart) (added : Bool)
     → IsKept n parts calls variables → more ≡ cond added (parts ++ x ∷ []) parts
     → IsKept n more calls variables

@@ -20,7 +20,7 @@ use Rattle.lb_static.proofs.Lists.{and_first, and_second, both, false_second}
 use Rattle.lb_static.proofs.Mentions.{any_flat}
 use Rattle.lb_static.proofs.ReachedPlaces.{contained, place_of}
 use Rattle.lb_static.proofs.TestedItems.{filter_same}
-use Rattle.lb_static.proofs.Visiting.{all_at, any_at, at_all, at_any, same_test}
+use Rattle.lb_static.proofs.WorkLists.{all_at, any_at, at_all, at_any, same_test}
 
 -- two lists with the same items have some item that passes alike
 any_alike : {A : Type 0} (p : A → Bool) (xs ys : List A) → ((x : A) → Contains xs x → Contains ys x)

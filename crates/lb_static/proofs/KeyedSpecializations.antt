@@ -8,14 +8,14 @@ use Rattle.std.proofs.lemmas.Option.{slice_get-map, slice_get-get_or}
 use Rattle.std.proofs.lemmas.List.Elements.{All-push}
 use Rattle.indexmap.specs.IndexMap.{insert_entry}
 use Rattle.lb_static.specs.KeyedSpecializations.{AreKeyed, IsUnknown}
-use Rattle.lb_static.specs.Walked.{IsKnown}
+use Rattle.lb_static.specs.Instantiated.{IsKnown}
 use Rattle.lb_static.specs.declared.reach.NodeId.{NodeId}
 use Rattle.lb_static.specs.declared.specializations.Key.{Key}
 use Rattle.lb_static.specs.declared.table.Specialization.{Specialization}
 use Rattle.lb_static.proofs.Lists.{and_first, and_second}
-use Rattle.lb_static.proofs.NodeNaming.{find_placed, find_none, position_within}
+use Rattle.lb_static.proofs.NodeScopes.{find_placed, find_none, position_within}
 use Rattle.lb_static.proofs.TestedItems.{found_passes}
-use Rattle.lb_static.proofs.WalkSteps.{element_all}
+use Rattle.lb_static.proofs.InstanceSteps.{element_all}
 
 -- ## What is found
 

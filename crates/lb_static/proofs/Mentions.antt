@@ -9,10 +9,10 @@ use Rattle.std.proofs.lemmas.Slice.Eq.{bytes_eq-Decides}
 use Rattle.lb_syntax.specs.Grammar.{Group, declarations, declared}
 use Rattle.lb_syntax.specs.SourceView.{view_group, view_groups, view_node}
 use Rattle.lb_syntax.specs.Tree as tree
-use Rattle.lb_syntax.specs.Tree.{Name, Static, Operator, Node_named, Symbol, Declaration, Expr, Literal, Truth, Variable, Unary, Binary, If, Arrow, Fby, Pre, Current, When, Copies, Slice, Join, Array, AtMostOne, Nor, Call, Iterate, Exprs, Nil, Cons, Node}
+use Rattle.lb_syntax.specs.Tree.{Name, Static, Operator, Node_named, Symbol, Declaration, Expr, Literal, Truth, Variable, Unary, Binary, If, Arrow, Fby, Pre, Current, When, Replicate, Slice, Join, Array, AtMostOne, Nor, Call, Iterate, Exprs, Nil, Cons, Node}
 use Rattle.lb_syntax.specs.declared.tree.Node as written
 use Rattle.lb_static.specs.Parts.{among, own_arguments, own_indexes, own_names, own_sizes, parts, parts_in as exprs_in, static_names}
-use Rattle.lb_static.specs.Shapes.{variables}
+use Rattle.lb_static.specs.DataTypes.{variables}
 use Rattle.lb_static.specs.StaticParts.{Part, arguments_of, group_parts, if_named, parts_of, parts_in}
 use Rattle.lb_static.specs.declared.resolved.Role.TheVariants.{Argument, Size, Value}
 use Rattle.lb_static.proofs.ConstantPlaces.{flat_append}
@@ -148,7 +148,7 @@ module _ (x : Name) (variable : Name → Bool) where
     expression_stands (Pre a) = expression_stands a
     expression_stands (Current a) = expression_stands a
     expression_stands (When a y sign) = expression_stands a
-    expression_stands (Copies a n) = ap (λ b. b || list_any in_part (parts_of variable a))
+    expression_stands (Replicate a n) = ap (λ b. b || list_any in_part (parts_of variable a))
         (alone (in_static n)) ∙ ap (λ b. ((in_static n || false) || false) || b)
         (expression_stands a)
     expression_stands (tree.Index a i) = ap (λ b. b || list_any in_part (parts_of variable a))

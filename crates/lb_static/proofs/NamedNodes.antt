@@ -10,11 +10,11 @@ use Rattle.lb_static.specs.Names.{are_distinct, is_callable, is_known, is_static
 use Rattle.lb_static.specs.NodeNames.{static_passes, statics_pass}
 use Rattle.lb_static.specs.NodeProgress.{Progress, program_of, clock_fits, declaration_fits, node_fits, statement_fits}
 use Rattle.lb_static.specs.Parts.{left_names, node_parts, own_names, own_sizes, own_indexes, own_arguments, own_clock_names, node_names, node_statics, node_static_names, declared_names, declared_sizes, static_names, clock_names}
-use Rattle.lb_static.specs.Shapes.{variables}
+use Rattle.lb_static.specs.DataTypes.{variables}
 use Rattle.lb_static.specs.declared.error.StaticError.{StaticError}
 use Rattle.lb_static.proofs.Faults.{fault_within}
 use Rattle.lb_static.proofs.Lists.{all_append, and_assoc, and_first, and_second, both, false_first, false_second}
-use Rattle.lb_static.proofs.NodeJudging.{all_and, body_is, own}
+use Rattle.lb_static.proofs.NodeNameRules.{all_and, body_is, own}
 use Rattle.lb_static.proofs.TestedItems.{all_flat}
 
 -- ## Tests

@@ -19,18 +19,18 @@ use Rattle.lb_static.specs.Instances.{node_sites}
 use Rattle.lb_static.specs.ResolvedNodes.{IsResolved, node_of, part_of}
 use Rattle.lb_static.specs.ResolvedTerms.{static_of}
 use Rattle.lb_static.specs.StaticParts.{group_parts, node_static_parts, parts_of}
-use Rattle.lb_static.specs.Visiting.{is_visited, visited_after, visited_after_all}
+use Rattle.lb_static.specs.WorkLists.{is_visited, visited_after, visited_after_all}
 use Rattle.lb_static.specs.declared.globals.Globals.{Globals}
 use Rattle.lb_static.specs.declared.resolved.ResolvedNode.{ResolvedNode}
 use Rattle.lb_static.proofs.ConstantPlaces.{constant_found}
-use Rattle.lb_static.proofs.Had.{any_filter}
-use Rattle.lb_static.proofs.JudgedConstants.{name_of_place, place_of_constant}
+use Rattle.lb_static.proofs.Reachability.{any_filter}
+use Rattle.lb_static.proofs.CheckedConstants.{name_of_place, place_of_constant}
 use Rattle.lb_static.proofs.Lists.{all_append, and_first, and_second, both}
 use Rattle.lb_static.proofs.Mentions.{any_and, any_flat, any_map, any_stands, expression_stands, groups_stand, in_part, in_static, stands, variables_are}
 use Rattle.lb_static.proofs.TestedItems.{all_flat}
 use Rattle.lb_static.proofs.ReachedPlaces.{all_item}
 use Rattle.lb_static.proofs.Scopes.{among_append}
-use Rattle.lb_static.proofs.Visiting.{all_at, any_at, at_all, or_left, same_test}
+use Rattle.lb_static.proofs.WorkLists.{all_at, any_at, at_all, or_left, same_test}
 
 -- ## The names in the static expressions of a node
 

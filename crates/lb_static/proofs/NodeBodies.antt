@@ -8,21 +8,22 @@ use Rattle.lb_syntax.specs.Tree as tree
 use Rattle.lb_syntax.specs.declared.tree.Statement.{Statement}
 use Rattle.lb_static.specs.Instances.{Site, sites, statement_sites}
 use Rattle.lb_static.specs.NameFaults.{IsNameFault}
-use Rattle.lb_static.specs.NodeProgress.{Progress, texts, counts_in, grown, is_variable_of, after_statements, statement_fits, StepsStand, ResolvesStep}
+use Rattle.lb_static.specs.NodeProgress.{Progress, texts, counts_in, grown, is_variable_of, after_statements, statement_fits, StatementsStand, ResolvesStatement}
 use Rattle.lb_static.specs.Parts.{right_side}
-use Rattle.lb_static.specs.ResolvedTerms.{name_at, statement_of, is_step_within, is_step_unhidden, is_variable, is_within}
+use Rattle.lb_static.specs.ResolvedTerms.{name_at, statement_of, is_statement_within, is_statement_unhidden, is_variable, is_within}
 use Rattle.lb_static.specs.StaticParts.{Part, parts_of}
 use Rattle.lb_static.specs.declared.error.StaticError.{StaticError}
-use Rattle.lb_static.specs.declared.resolved.Step.{Step}
-use Rattle.lb_static.specs.declared.resolved.Step.TheVariants.{Equation, Assertion}
+use Rattle.lb_static.specs.declared.resolved.ResolvedStatement.{ResolvedStatement}
+use Rattle.lb_static.specs.declared.resolved.ResolvedStatement.TheVariants.{Equation, Assertion}
 use Rattle.lb_static.proofs.Faults.{fault_within}
 use Rattle.lb_static.proofs.Growth.{same_on, all_on, both_on, same_two}
 use Rattle.lb_static.proofs.Lists.{all_append, and_first, and_second, both}
 use Rattle.lb_static.proofs.Resolutions.{and_true, expr_grown, within_grown, unhidden_grown, flat_more, grown_twice, one_fails}
 
 module _ (s : Progress) (P : List Part) (C : List Site) where
-  still : (step : Step) → is_step_within (counts_in (texts s)) step ≡ true
-      → is_step_within (counts_in (texts (grown s P C))) step ≡ true
+  still : (statement : ResolvedStatement)
+      → is_statement_within (counts_in (texts s)) statement ≡ true
+      → is_statement_within (counts_in (texts (grown s P C))) statement ≡ true
   still (Equation lefts e) h =
       both _ _ (and_first (list_all (is_variable (counts_in (texts s))) lefts.items)
       (is_within (counts_in (texts s)) e) h)
@@ -30,48 +31,57 @@ module _ (s : Progress) (P : List Part) (C : List Site) where
       h))
   still (Assertion e) h = within_grown s P C e h
 
-  stays : (step : Step) → is_step_within (counts_in (texts s)) step ≡ true
-      → statement_of (texts (grown s P C)) step ≡ statement_of (texts s) step
+  stays : (statement : ResolvedStatement)
+      → is_statement_within (counts_in (texts s)) statement ≡ true
+      → statement_of (texts (grown s P C)) statement ≡ statement_of (texts s) statement
   stays (Equation lefts e) h =
       ap (λ z. tree.Equation (map (name_at (texts s).variables) lefts.items) z)
       (expr_grown s P C e (and_second (list_all (is_variable (counts_in (texts s))) lefts.items) _
       h))
   stays (Assertion e) h = ap tree.Assertion (expr_grown s P C e h)
 
-  unhidden : (step : Step) → is_step_within (counts_in (texts s)) step ≡ true
-      → is_step_unhidden (texts s) step ≡ true
-      → is_step_unhidden (texts (grown s P C)) step ≡ true
+  unhidden : (statement : ResolvedStatement)
+      → is_statement_within (counts_in (texts s)) statement ≡ true
+      → is_statement_unhidden (texts s) statement ≡ true
+      → is_statement_unhidden (texts (grown s P C)) statement ≡ true
   unhidden (Equation lefts e) h u = unhidden_grown s P C e
       (and_second (list_all (is_variable (counts_in (texts s))) lefts.items) _ h) u
   unhidden (Assertion e) h u = unhidden_grown s P C e h u
 
-  steps_grown : (xs : List tree.Statement) (steps : List Step) → StepsStand s xs steps
-      → StepsStand (grown s P C) xs steps
-  steps_grown xs steps h = (
-    same_on (is_step_within (counts_in (texts s))) (statement_of (texts (grown s P C)))
-        (statement_of (texts s)) steps stays h.1 ∙ h.0,
-    all_on (is_step_within (counts_in (texts s))) (is_step_within (counts_in (texts (grown s P C))))
-        steps still h.1,
-    both_on (is_step_within (counts_in (texts s))) (is_step_unhidden (texts s))
-        (is_step_unhidden (texts (grown s P C))) steps unhidden h.1 h.2,
+  statements_grown : (xs : List tree.Statement) (statements : List ResolvedStatement)
+      → StatementsStand s xs statements
+      → StatementsStand (grown s P C) xs statements
+  statements_grown xs statements h = (
+    same_on (is_statement_within (counts_in (texts s))) (statement_of (texts (grown s P C)))
+        (statement_of (texts s)) statements stays h.1 ∙ h.0,
+    all_on (is_statement_within (counts_in (texts s)))
+        (is_statement_within (counts_in (texts (grown s P C))))
+        statements still h.1,
+    both_on (is_statement_within (counts_in (texts s))) (is_statement_unhidden (texts s))
+        (is_statement_unhidden (texts (grown s P C))) statements unhidden h.1 h.2,
   )
 
 -- what a loop over statements keeps
-abbrev pub StepsSoFar : (start here : Progress) → List tree.Statement → List Step → Type 0
-StepsSoFar start here xs steps = (here ≡ after_statements start xs) × StepsStand here xs steps
+abbrev pub StatementsSoFar : (start here : Progress) → List tree.Statement → List ResolvedStatement
+    → Type 0
+StatementsSoFar start here xs statements =
+    (here ≡ after_statements start xs) × StatementsStand here xs statements
     × (list_all (statement_fits start) xs ≡ true)
 
-one_more_step : (start before after : Progress) (xs : List tree.Statement) (steps : List Step)
-    (x : tree.Statement) (step : Step) → StepsSoFar start before xs steps
-    → ResolvesStep before after x (Ok step)
-    → StepsSoFar start after (xs ++ x ∷ []) (steps ++ step ∷ [])
-one_more_step start before after xs steps x step d g =
-    let h : ResolvesStep (after_statements start xs) after x (Ok step) =
-    subst (λ m. ResolvesStep m after x (Ok step)) d.0 g in
-    let old : StepsStand after xs steps =
-    subst (λ m. StepsStand m xs steps) (sym g.0)
-    (steps_grown before (parts_of (is_variable_of before) (right_side x)) (sites (right_side x)) xs
-    steps d.1) in
+one_more_step : (start before after : Progress) (xs : List tree.Statement)
+    (statements : List ResolvedStatement)
+    (x : tree.Statement) (statement : ResolvedStatement)
+    → StatementsSoFar start before xs statements
+    → ResolvesStatement before after x (Ok statement)
+    → StatementsSoFar start after (xs ++ x ∷ []) (statements ++ statement ∷ [])
+one_more_step start before after xs statements x statement d g =
+    let h : ResolvesStatement (after_statements start xs) after x (Ok statement) =
+    subst (λ m. ResolvesStatement m after x (Ok statement)) d.0 g in
+    let old : StatementsStand after xs statements =
+    subst (λ m. StatementsStand m xs statements) (sym g.0)
+    (statements_grown before (parts_of (is_variable_of before) (right_side x))
+    (sites (right_side x)) xs
+    statements d.1) in
     let parts = λ (y : tree.Statement). parts_of (is_variable_of start) (right_side y) in
     let grew : after ≡ grown start (flat_map parts xs ++ parts x)
     (flat_map statement_sites xs ++ sites (right_side x)) =
@@ -81,12 +91,13 @@ one_more_step start before after xs steps x step d g =
           (ap (λ l. flat_map statement_sites xs ++ l) (sym (sites_of x))
           ∙ sym (flat_more statement_sites xs x)),
       (
-        map-append (statement_of (texts after)) steps (step ∷ [])
+        map-append (statement_of (texts after)) statements (statement ∷ [])
             ∙ same_two (λ (l : List tree.Statement) y. l ++ y ∷ []) _ _ _ _ old.0 h.1.0,
-        all_append (is_step_within (counts_in (texts after))) steps (step ∷ [])
-            ∙ both _ _ old.1 (and_true (is_step_within (counts_in (texts after)) step) ∙ h.1.1),
-        all_append (is_step_unhidden (texts after)) steps (step ∷ [])
-            ∙ both _ _ old.2 (and_true (is_step_unhidden (texts after) step) ∙ h.1.2),
+        all_append (is_statement_within (counts_in (texts after))) statements (statement ∷ [])
+            ∙ both _ _ old.1 (and_true (is_statement_within (counts_in (texts after)) statement)
+            ∙ h.1.1),
+        all_append (is_statement_unhidden (texts after)) statements (statement ∷ [])
+            ∙ both _ _ old.2 (and_true (is_statement_unhidden (texts after) statement) ∙ h.1.2),
       ),
       all_append (statement_fits start) xs (x ∷ [])
           ∙ both _ _ d.2 (and_true (statement_fits start x) ∙ h.2),
@@ -96,19 +107,22 @@ one_more_step start before after xs steps x step d g =
     sites_of (tree.Equation lefts e) = refl
     sites_of (tree.Assertion e) = refl
 
-pub next_step : (start before after : Progress) (steps : List Step) (xs : List Statement) (i : ℕ)
-    (x : Statement) (step : Step) → i < length xs → x ≡ get_or xs i x
-    → StepsSoFar start before (map view_statement (take i xs)) steps
-    → ResolvesStep before after (view_statement x) (Ok step)
-    → StepsSoFar start after (map view_statement (take (i + 1) xs)) (steps ++ step ∷ [])
-next_step start before after steps xs i x step below is d g =
+pub next_step : (start before after : Progress) (statements : List ResolvedStatement)
+    (xs : List Statement) (i : ℕ)
+    (x : Statement) (statement : ResolvedStatement) → i < length xs → x ≡ get_or xs i x
+    → StatementsSoFar start before (map view_statement (take i xs)) statements
+    → ResolvesStatement before after (view_statement x) (Ok statement)
+    → StatementsSoFar start after (map view_statement (take (i + 1) xs))
+    (statements ++ statement ∷ [])
+next_step start before after statements xs i x statement below is d g =
     let same : map view_statement (take i xs) ++ view_statement x ∷ []
     ≡ map view_statement (take (i + 1) xs) =
     ap (λ y. map view_statement (take i xs) ++ view_statement y ∷ []) is
     ∙ sym (map-append view_statement (take i xs) (get_or xs i x ∷ []))
     ∙ ap (map view_statement) (sym (take_more xs i x below)) in
-    subst (λ l. StepsSoFar start after l (steps ++ step ∷ [])) same
-    (one_more_step start before after (map view_statement (take i xs)) steps (view_statement x) step
+    subst (λ l. StatementsSoFar start after l (statements ++ statement ∷ [])) same
+    (one_more_step start before after (map view_statement (take i xs)) statements (view_statement x)
+    statement
     d g)
 
 -- a statement that is refused

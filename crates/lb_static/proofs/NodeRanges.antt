@@ -5,7 +5,7 @@ use Rattle.std.specs.List.{list_all}
 use Rattle.std.proofs.lemmas.List.Folds.{list_all-map}
 use Rattle.lb_syntax.specs.Grammar.{Group as Declarations, declared}
 use Rattle.lb_syntax.specs.Tree as tree
-use Rattle.lb_syntax.specs.Tree.{Name, Static, Node_named, Symbol, Expr, Literal, Truth, Variable, Group, Unary, Binary, If, Arrow, Fby, Pre, Current, When, Copies, Slice, Join, Array, AtMostOne, Nor, Call, Iterate}
+use Rattle.lb_syntax.specs.Tree.{Name, Static, Node_named, Symbol, Expr, Literal, Truth, Variable, Group, Unary, Binary, If, Arrow, Fby, Pre, Current, When, Replicate, Slice, Join, Array, AtMostOne, Nor, Call, Iterate}
 use Rattle.lb_static.specs.Parts.{own_sizes, own_indexes, own_slices}
 use Rattle.lb_static.specs.Specialized.{part_value, part_passes, count_between, runs_forward, in_range_after}
 use Rattle.lb_static.specs.StaticParts.{Part, arguments_of, group_parts, if_named}
@@ -129,7 +129,7 @@ module _ (given : Name → Option ℤ) where
     after_own (Pre a) ps b h before = h before
     after_own (Current a) ps b h before = h before
     after_own (When a x sign) ps b h before = h before
-    after_own (Copies a n) ps b h before =
+    after_own (Replicate a n) ps b h before =
         ap (λ c. is_size n && c) (h (value n)) ∙ one (is_size n) b
     after_own (tree.Index a i) ps b h before =
         ap (λ c. is_index i && c) (h (value i)) ∙ index (is_index i) b

@@ -7,7 +7,7 @@ use Rattle.std.proofs.lemmas.List.Folds.{list_all-map}
 use Rattle.lb_syntax.specs.Grammar.{Group as Declarations, declarations, declared}
 use Rattle.lb_syntax.specs.Lists.{all_some}
 use Rattle.lb_syntax.specs.Tree as tree
-use Rattle.lb_syntax.specs.Tree.{Name, Static, Node_named, Symbol, Expr, Literal, Truth, Variable, Group, Unary, Binary, If, Arrow, Fby, Pre, Current, When, Copies, Index, Slice, Join, Array, AtMostOne, Nor, Call, Iterate}
+use Rattle.lb_syntax.specs.Tree.{Name, Static, Node_named, Symbol, Expr, Literal, Truth, Variable, Group, Unary, Binary, If, Arrow, Fby, Pre, Current, When, Replicate, Index, Slice, Join, Array, AtMostOne, Nor, Call, Iterate}
 use Rattle.lb_static.specs.Parts.{own_sizes, own_indexes, own_arguments, own_names}
 use Rattle.lb_static.specs.StaticParts.{Part, group_parts, if_named}
 use Rattle.lb_static.specs.StaticValues.{value_under}
@@ -139,7 +139,7 @@ module _ (variable : Name → Bool) (given : Name → Option ℤ) where
   own_is (Pre a) = refl
   own_is (Current a) = refl
   own_is (When a x sign) = refl
-  own_is (Copies a n) = size_and (has n) true
+  own_is (Replicate a n) = size_and (has n) true
   own_is (Index a i) = both_ends (has i) true
   own_is (Slice a i j) = both_ends (has i) (has j)
   own_is (Join a b) = refl

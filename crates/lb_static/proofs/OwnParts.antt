@@ -4,7 +4,7 @@ use Rattle.std.proofs.Common.{◌≡◌, Bool, cond, List, [], ◌∷◌, ◌++�
 use Rattle.std.specs.Prelude.{flat_map}
 use Rattle.std.proofs.lemmas.Grind.{flat_map-append}
 use Rattle.lb_syntax.specs.Tree as tree
-use Rattle.lb_syntax.specs.Tree.{Name, Node_named, Symbol, Expr, Literal, Truth, Variable, Group, Unary, Binary, If, Arrow, Fby, Pre, Current, When, Copies, Slice, Join, Array, AtMostOne, Nor, Call, Iterate, Exprs, Nil, Cons, Statement}
+use Rattle.lb_syntax.specs.Tree.{Name, Node_named, Symbol, Expr, Literal, Truth, Variable, Group, Unary, Binary, If, Arrow, Fby, Pre, Current, When, Replicate, Slice, Join, Array, AtMostOne, Nor, Call, Iterate, Exprs, Nil, Cons, Statement}
 use Rattle.lb_static.specs.Parts as of
 use Rattle.lb_static.specs.Parts.{parts, right_side}
 use Rattle.lb_static.specs.StaticParts.{Part, arguments_of, parts_of, parts_in}
@@ -13,7 +13,7 @@ use Rattle.lb_static.specs.declared.resolved.Role.TheVariants.{Size, Index, Slic
 -- those that stand in an expression itself
 abbrev pub own_parts : (Name → Bool) → Expr → List Part
 own_parts variable (Variable x) = cond (variable x) [] ((Value, tree.Named x) ∷ [])
-own_parts variable (Copies a n) = (Size, n) ∷ []
+own_parts variable (Replicate a n) = (Size, n) ∷ []
 own_parts variable (tree.Index a i) = (Index, i) ∷ []
 own_parts variable (Slice a i j) = (SliceStart, i) ∷ ((SliceEnd, j) ∷ [])
 own_parts variable (Call f statics es) = arguments_of statics
@@ -49,7 +49,7 @@ module _ (variable : Name → Bool) where
     parts_are (Pre a) = parts_are a
     parts_are (Current a) = parts_are a
     parts_are (When a x sign) = parts_are a
-    parts_are (Copies a n) = ap (λ l. (Size, n) ∷ l) (parts_are a)
+    parts_are (Replicate a n) = ap (λ l. (Size, n) ∷ l) (parts_are a)
     parts_are (tree.Index a i) = ap (λ l. (Index, i) ∷ l) (parts_are a)
     parts_are (Slice a i j) = ap (λ l. (SliceStart, i) ∷ ((SliceEnd, j) ∷ l)) (parts_are a)
     parts_are (Join a b) = two _ _ (parts a) (parts b) (parts_are a) (parts_are b)

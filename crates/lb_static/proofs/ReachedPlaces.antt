@@ -18,16 +18,16 @@ use Rattle.lb_static.specs.Parts.{among}
 use Rattle.lb_static.specs.ReachedNodes.{IsReached, are_linked, id_at, is_linked, tree_at, trees}
 use Rattle.lb_static.specs.ResolvedNodes.{IsResolved, counts_of, node_of, statics_of}
 use Rattle.lb_static.specs.ResolvedTerms.{is_site_within, site_of}
-use Rattle.lb_static.specs.Visiting.{AreHad, HasTurns, is_had, is_visited, within}
+use Rattle.lb_static.specs.WorkLists.{AreReachable, HasTurns, is_reachable, is_visited, within}
 use Rattle.lb_static.specs.declared.reach.NodeId.{NodeId}
 use Rattle.lb_static.specs.declared.reach.Reached.{Reached}
 use Rattle.lb_static.specs.declared.resolved.CallSite.{CallSite}
 use Rattle.lb_static.specs.declared.resolved.NodePlace.{NodePlace}
 use Rattle.lb_static.specs.declared.resolved.ResolvedNode.{ResolvedNode}
-use Rattle.lb_static.proofs.Had.{closed_has, had_by, had_visit, within_is}
+use Rattle.lb_static.proofs.Reachability.{closed_has, reachable_by, reachable_visit, within_is}
 use Rattle.lb_static.proofs.Lists.{and_first, and_second, both}
 use Rattle.lb_static.proofs.TestedItems.{all_weaker, found_passes}
-use Rattle.lb_static.proofs.Visiting.{all_at, any_at, as_few, at_all, at_any, at_visited, grows_once, or_left, or_right, visited_at}
+use Rattle.lb_static.proofs.WorkLists.{all_at, any_at, as_few, at_all, at_any, at_visited, grows_once, or_left, or_right, visited_at}
 
 -- ## Distinct names
 
@@ -103,16 +103,17 @@ begun s x before after id h = by (slice_get s.nodes h.place) refl
         ∙ e in record { node = n; at = e; found = found; name = is_name (program_in s) x n found }
 
 -- one more start is had, if its name is one of the starts
-start_had : (P : Program) (x : Name) (before after : List ℕ) (id : NodeId)
+start_reachable : (P : Program) (x : Name) (before after : List ℕ) (id : NodeId)
     → IsStart P.source x before after id → among x (start_names P) ≡ true
-    → AreHad P.source.nodes (begins P) called before → AreHad P.source.nodes (begins P) called after
-start_had P x before after id h is had =
+    → AreReachable P.source.nodes (begins P) called before
+    → AreReachable P.source.nodes (begins P) called after
+start_reachable P x before after id h is reachable =
     let b = begun P.source x before after id h in
     let first : begins P b.node ≡ true = ap (λ y. among y (start_names P)) b.name ∙ is in
-    subst (AreHad P.source.nodes (begins P) called) (sym h.visited)
-    (had_visit P.source.nodes (begins P) called 0 h.place before (omega arith) had
-    (ap (holds (is_had P.source.nodes (begins P) called 1)) b.at
-    ∙ had_by P.source.nodes (begins P) called 0 1 b.node (omega arith) first))
+    subst (AreReachable P.source.nodes (begins P) called) (sym h.visited)
+    (reachable_visit P.source.nodes (begins P) called 0 h.place before (omega arith) reachable
+    (ap (holds (is_reachable P.source.nodes (begins P) called 1)) b.at
+    ∙ reachable_by P.source.nodes (begins P) called 0 1 b.node (omega arith) first))
 
 -- each node of the name came up
 start_visited : (P : Program) (x : Name) (before after : List ℕ) (id : NodeId)
@@ -140,8 +141,9 @@ one_start s x o none after id alone empty d h =
     subst (λ p. AreStarts (record { source = s; root = x; observer = p }) after id None) (sym alone)
     (record {
       there = ap (λ p. is_some p && true) (begun s x none after id h).found;
-      had = start_had P x none after id h (or_left (bytes_eq x x) _ ((bytes_eq-Decides x x).1 refl))
-          (subst (AreHad s.nodes (begins P) called) (sym empty) refl);
+      reachable = start_reachable P x none after id h
+          (or_left (bytes_eq x x) _ ((bytes_eq-Decides x x).1 refl))
+          (subst (AreReachable s.nodes (begins P) called) (sym empty) refl);
       all = λ place n at is. or_cases (bytes_eq n.name x) _ is
           (start_visited P x none after id h d place n at) (λ no. absurd cc);
       at_root = start_at s x none after id h;
@@ -163,12 +165,12 @@ two_starts s x y o none middle after root observer there empty d h k =
       there = ap (λ p. is_some p && (is_some (node_named P y) && true))
           (begun s x none middle root h).found
           ∙ ap (λ p. is_some p && true) (begun s y middle after observer k).found;
-      had =
-          start_had P y middle after observer k
+      reachable =
+          start_reachable P y middle after observer k
           (or_right (bytes_eq y x) _ (or_left (bytes_eq y y) _ ((bytes_eq-Decides y y).1 refl)))
-          (start_had P x none middle root h
+          (start_reachable P x none middle root h
           (or_left (bytes_eq x x) _ ((bytes_eq-Decides x x).1 refl))
-          (subst (AreHad s.nodes (begins P) called) (sym empty) refl));
+          (subst (AreReachable s.nodes (begins P) called) (sym empty) refl));
       all = λ place n at is. or_cases (bytes_eq n.name x) _ is
           (λ same. still place (start_visited P x none middle root h d place n at same))
           (λ rest. or_cases (bytes_eq n.name y) _ rest
@@ -297,8 +299,8 @@ module _ (P : Program) (before order : List ℕ) (nodes : List ResolvedNode) (ro
       let below : turn < length nodes = omega (arith, slice_get_within order turn place at, all) in
       h.stands turn place below at
 
-  had : AreHad P.source.nodes (begins P) called order
-  had = h.had (begins P) begun.had
+  reachable : AreReachable P.source.nodes (begins P) called order
+  reachable = h.reachable (begins P) begun.reachable
 
   -- a node that is called came up
   closed : (p q : ℕ) (a b : Node) → slice_get P.source.nodes q ≡ Some b
@@ -329,7 +331,8 @@ module _ (P : Program) (before order : List ℕ) (nodes : List ResolvedNode) (ro
   starts_visited p a at is = h.grows.still p (begun.all p a at is)
 
   same_nodes : reached_nodes P
-      ≡ filter (is_had P.source.nodes (begins P) called (length P.source.nodes)) P.source.nodes
+      ≡ filter (is_reachable P.source.nodes (begins P) called (length P.source.nodes))
+      P.source.nodes
   same_nodes = reached_is P (begins P) (length P.source.nodes)
       ∙ within_is P.source.nodes (begins P) called (length P.source.nodes)
 
@@ -345,18 +348,19 @@ module _ (P : Program) (before order : List ℕ) (nodes : List ResolvedNode) (ro
       let turn = slice_get-get_or order k.place 0 below in
       let place = get_or order k.place 0 in
       let at = sym (stands k.place place turn) ∙ k.at in
-      let is = ap (holds (is_had P.source.nodes (begins P) called (length order))) (sym at)
-      ∙ all_at (λ p. holds (is_had P.source.nodes (begins P) called (length order))
-      (slice_get P.source.nodes p)) order k.place place had turn in
-      let f = filtered_at (is_had P.source.nodes (begins P) called (length P.source.nodes))
+      let is = ap (holds (is_reachable P.source.nodes (begins P) called (length order))) (sym at)
+      ∙ all_at (λ p. holds (is_reachable P.source.nodes (begins P) called (length order))
+      (slice_get P.source.nodes p)) order k.place place reachable turn in
+      let f = filtered_at (is_reachable P.source.nodes (begins P) called (length P.source.nodes))
       P.source.nodes place n at
-      (had_by P.source.nodes (begins P) called (length order) (length P.source.nodes) n few is) in
+      (reachable_by P.source.nodes (begins P) called (length order) (length P.source.nodes) n few
+      is) in
       contained (reached_nodes P) f.place n (ap (λ l. slice_get l f.place) same_nodes ∙ f.at)
 
   from_reached : (n : Node) → Contains (reached_nodes P) n → Contains (map node_of nodes) n
   from_reached n c =
       let k = place_of (reached_nodes P) n c in
-      let f = filtered_from (is_had P.source.nodes (begins P) called (length P.source.nodes))
+      let f = filtered_from (is_reachable P.source.nodes (begins P) called (length P.source.nodes))
       P.source.nodes k.place n (ap (λ l. slice_get l k.place) (sym same_nodes) ∙ k.at) in
       let came = closed_has P.source.nodes (begins P) called order starts_visited closed
       (length P.source.nodes) f.place n f.at f.passes in

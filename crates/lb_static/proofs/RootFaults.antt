@@ -5,9 +5,9 @@ use Rattle.lb_syntax.specs.Lists.{holds, where_true}
 use Rattle.lb_static.specs.Instances.{Program, Root, instance_at}
 use Rattle.lb_static.specs.Interfaces.{Answers, IsRootFault}
 use Rattle.lb_static.specs.RootAnswers.{IsRootAnswer}
-use Rattle.lb_static.specs.Shapes.{signature}
+use Rattle.lb_static.specs.DataTypes.{signature}
 use Rattle.lb_static.specs.Signature.{Elements}
-use Rattle.lb_static.specs.Walk.{is_root}
+use Rattle.lb_static.specs.Instantiation.{is_root}
 use Rattle.lb_static.specs.declared.error.StaticError.{StaticError}
 use Rattle.lb_static.specs.declared.error.StaticError.TheVariants as error
 
@@ -28,7 +28,7 @@ pub seen_there : {A B E : Type 0} (f : A → B) (o : Option A) (a : A) (e : E) (
     → option_map f o ≡ seen → Ok a ≡ ok_or o e → seen ≡ Some (f a)
 seen_there f o a e seen is found = sym is ∙ ap (option_map f) (there o a e found)
 
--- a refusal of the shape
+-- a refusal of the interface
 pub root_fault : {Reason : Type 0} (P : Program) (e : StaticError) → IsRootFault Reason e
     → (Reason → holds (is_root P) (instance_at P Root) ≡ false) → IsRootAnswer P (Err e)
 root_fault P error.Memory h f = tt

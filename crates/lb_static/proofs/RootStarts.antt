@@ -3,8 +3,8 @@ use Rattle.std.proofs.Common.{◌≡◌, ℕ, ℤ, List, map, Option, Some, None
 use Rattle.std.proofs.lemmas.Option.{slice_get-map, slice_get_within, get_or_from_slice_get, some_pair_parts}
 use Rattle.lb_syntax.specs.Lists.{◌>>=◌}
 use Rattle.lb_static.specs.Instances.{Program, Path, Instance, Root, static_value}
-use Rattle.lb_static.specs.Interfaces.{standing_in}
-use Rattle.lb_static.specs.InstanceTable.{HasStarts, instance_of, specialized_at, standing_at}
+use Rattle.lb_static.specs.Interfaces.{valued_node_in}
+use Rattle.lb_static.specs.InstanceTable.{HasStarts, instance_of, specialized_at, specialized_instance_at}
 use Rattle.lb_static.specs.ReachedNodes.{IsReached, source_names}
 use Rattle.lb_static.specs.ResolvedNodes.{IsResolved, node_of, statics_of}
 use Rattle.lb_static.specs.declared.reach.Reached.{Reached}
@@ -12,7 +12,7 @@ use Rattle.lb_static.specs.declared.resolved.ResolvedNode.{ResolvedNode}
 use Rattle.lb_static.specs.declared.table.Specialization.{Specialization}
 use Rattle.lb_static.specs.declared.table.SpecializationId.{SpecializationId}
 use Rattle.lb_static.specs.declared.table.Table.{Table}
-use Rattle.lb_static.proofs.RootShapes.{Stands}
+use Rattle.lb_static.proofs.InterfaceTypes.{Stands}
 
 -- the node of a specialization with its values, where there is one
 abbrev with_values : Specialization → Option ResolvedNode → Option (ResolvedNode × List ℤ)
@@ -29,7 +29,7 @@ specialized_is r path s = ap (option_map (λ n. instance_of path n s.values.item
 
 -- where nothing is found nothing stands
 pub nothing_stands : (r : Reached) (t : Table) (path : Path) (id : SpecializationId)
-    → standing_in r t id ≡ None → standing_at r t path id ≡ None
+    → valued_node_in r t id ≡ None → specialized_instance_at r t path id ≡ None
 nothing_stands r t path id e = by (slice_get t.specializations.items id.0) e
   where
     absent : (s : Specialization) (o : Option ResolvedNode) → with_values s o ≡ None
@@ -55,18 +55,18 @@ Values P r s = (here : Instance) → specialized_at r Root s ≡ Some here → (
     → slice_get r.nodes.items s.node.0 ≡ Some m
     → map Some s.statics.items ≡ map (static_value P here) (statics_of m)
 
-abbrev Standing : Program → Option Instance → ResolvedNode → List ℤ → Type 0
-Standing P o n statics =
+abbrev IsValuedNode : Program → Option Instance → ResolvedNode → List ℤ → Type 0
+IsValuedNode P o n statics =
     (here : Instance) × (o ≡ Some here) × Stands P (source_names P) here n statics
 
 node_stands : (P : Program) (r : Reached) (path : Path) (s : Specialization) (n : ResolvedNode)
     (statics : List ℤ) → IsReached P r → Values P r s
     → with_values s (slice_get r.nodes.items s.node.0) ≡ Some (n, statics)
-    → Standing P (specialized_at r path s) n statics
+    → IsValuedNode P (specialized_at r path s) n statics
 node_stands P r path s n statics reached values e = by (slice_get r.nodes.items s.node.0) refl e
   where
     by : (o : Option ResolvedNode) → slice_get r.nodes.items s.node.0 ≡ o
-        → with_values s o ≡ Some (n, statics) → Standing P (specialized_at r path s) n statics
+        → with_values s o ≡ Some (n, statics) → IsValuedNode P (specialized_at r path s) n statics
     by None g f = absurd cc
     by (Some m) g f =
         let parts = some_pair_parts m n s.statics.items statics f in
@@ -88,12 +88,13 @@ node_stands P r path s n statics reached values e = by (slice_get r.nodes.items 
 -- what is found stands
 pub stands : (P : Program) (r : Reached) (t : Table) (path : Path) (id : SpecializationId)
     (n : ResolvedNode) (statics : List ℤ) → IsReached P r → HasStarts P r t
-    → standing_in r t id ≡ Some (n, statics) → Standing P (standing_at r t path id) n statics
+    → valued_node_in r t id ≡ Some (n, statics)
+    → IsValuedNode P (specialized_instance_at r t path id) n statics
 stands P r t path id n statics reached table e =
     by (slice_get t.specializations.items id.0) (λ s f. (table.statics id.0 s f).1) e
   where
     by : (o : Option Specialization) → ((s : Specialization) → o ≡ Some s → Values P r s)
         → (o >>= λ s. with_values s (slice_get r.nodes.items s.node.0)) ≡ Some (n, statics)
-        → Standing P (o >>= specialized_at r path) n statics
+        → IsValuedNode P (o >>= specialized_at r path) n statics
     by None values f = absurd cc
     by (Some s) values f = node_stands P r path s n statics reached (values s refl) f

@@ -6,7 +6,7 @@ use Rattle.std.proofs.lemmas.Grind.{flat_map-append}
 use Rattle.std.proofs.lemmas.Option.{slice_get-map}
 use Rattle.std.proofs.lemmas.Bool.Decides.{nat_tests}
 use Rattle.lb_syntax.specs.Lists.{◌>>=◌, holds, either_or}
-use Rattle.lb_syntax.specs.Tree.{Static, Node_named, Symbol, Expr, Literal, Truth, Variable, Group, Unary, Binary, If, Arrow, Fby, Pre, Current, When, Copies, Index, Slice, Join, Array, AtMostOne, Nor, Call, Iterate, Exprs, Nil, Cons, Node, Statement, Equation, Assertion}
+use Rattle.lb_syntax.specs.Tree.{Static, Node_named, Symbol, Expr, Literal, Truth, Variable, Group, Unary, Binary, If, Arrow, Fby, Pre, Current, When, Replicate, Index, Slice, Join, Array, AtMostOne, Nor, Call, Iterate, Exprs, Nil, Cons, Node, Statement, Equation, Assertion}
 use Rattle.lb_static.specs.Instances.{Program, Path, Site, sites, sites_in, statement_sites, node_sites}
 use Rattle.lb_static.specs.InstanceTable.{instance_of}
 use Rattle.lb_static.specs.Parts.{parts, parts_in, right_side, declared_sizes, node_parts, node_sizes, own_sizes}
@@ -15,8 +15,8 @@ use Rattle.lb_static.specs.ResolvedNodes.{IsResolved, node_of, statics_of}
 use Rattle.lb_static.specs.ResolvedTerms.{site_of, static_at}
 use Rattle.lb_static.specs.Specialized.{size_of}
 use Rattle.lb_static.specs.StaticValues.{natural}
-use Rattle.lb_static.specs.Walk.{is_between}
-use Rattle.lb_static.specs.Walked.{IsWalkable, IsJudged, times_of}
+use Rattle.lb_static.specs.Instantiation.{is_between}
+use Rattle.lb_static.specs.Instantiated.{IsInstantiable, IsJudged, times_of}
 use Rattle.lb_static.specs.declared.constants.Constants.{Constants}
 use Rattle.lb_static.specs.declared.reach.Reached.{Reached}
 use Rattle.lb_static.specs.declared.resolved.CallSite.{CallSite}
@@ -75,7 +75,7 @@ module _ (q : Static → Bool) where
     sites_count (Pre a) h = sites_count a h
     sites_count (Current a) h = sites_count a h
     sites_count (When a x sign) h = sites_count a h
-    sites_count (Copies a n) h = sites_count a (and_second (q n) _ h)
+    sites_count (Replicate a n) h = sites_count a (and_second (q n) _ h)
     sites_count (Index a i) h = sites_count a h
     sites_count (Slice a i j) h = sites_count a h
     sites_count (Join a b) h =
@@ -126,7 +126,7 @@ positive (pos k) h = let e : nat_le 1 k ≡ true =
     and_first (nat_le 1 k) (nat_le k 4096) h in grind (arith, nat_tests)
 positive (negsuc k) h = absurd cc
 
-module _ (P : Program) (r : Reached) (c : Constants) (w : IsWalkable P r c) (p : Path)
+module _ (P : Program) (r : Reached) (c : Constants) (w : IsInstantiable P r c) (p : Path)
     (n : ResolvedNode) (values : List ℤ) (statics : List ℤ)
     (judged : IsJudged P n (instance_of p (node_of n) values) statics) where
   entered_by : (o : Option StaticId)
@@ -136,7 +136,7 @@ module _ (P : Program) (r : Reached) (c : Constants) (w : IsWalkable P r c) (p :
   entered_by (Some i) h =
       positive (either_or (slice_get statics i.0) (pos 0))
       (subst (λ (o : Option ℤ). holds (λ n. nat_le 1 n && nat_le n 4096) (o >>= natural) ≡ true)
-      (value_read P r c w p n values statics judged.had i) h)
+      (value_read P r c w p n values statics judged.evaluated_as i) h)
 
   pub entered_once : (call : ℕ) (s : CallSite) → IsResolved (source_names P) n
       → slice_get n.calls.items call ≡ Some s → 0 < times_of statics s.count

@@ -1,4 +1,4 @@
--- The types of the inputs and outputs of the node under test, where the walk refuses nothing.
+-- The types of the inputs and outputs of the node under test, where instantiation refuses nothing.
 use Rattle.std.proofs.Common.{◌≡◌, ℕ, Bool, true, false, List, [], ◌∷◌, ◌++◌, map, Option, Some, None, option_map, refl, ap, sym, ◌∙◌}
 use Rattle.std.specs.Prelude.{◌&&◌, nat_le, is_some, reverse}
 use Rattle.std.specs.List.{list_all, flat_map}
@@ -7,8 +7,8 @@ use Rattle.lb_syntax.specs.Refusals.{Refusal, E5, E6, E12, unless}
 use Rattle.lb_syntax.specs.Tree.{Static, Declaration}
 use Rattle.lb_static.specs.Instances.{Program, Instance, Root, Observer, children, instances, instances_from, instance_at, static_count}
 use Rattle.lb_static.specs.Parts.{declared_sizes, node_sizes}
-use Rattle.lb_static.specs.Shapes.{variables, shape_of}
-use Rattle.lb_static.specs.Walk.{has_values, is_between, is_in_range, may_enter, walk_refusal}
+use Rattle.lb_static.specs.DataTypes.{variables, variable_type}
+use Rattle.lb_static.specs.Instantiation.{has_values, is_between, is_in_range, may_enter, instantiation_refusal}
 use Rattle.lb_static.proofs.Lists.{and_first, and_second, all_append, append_assoc}
 use Rattle.lb_static.proofs.Options.{all_some-map-reverse}
 
@@ -22,14 +22,14 @@ unrefused true false d o e = absurd cc
 unrefused false b d o e = absurd cc
 
 root_in_range : (P : Program) (here : Instance) → instance_at P Root ≡ Some here
-    → walk_refusal P 0 (instances P) ≡ None → is_in_range P here ≡ true
-root_in_range P here is walked =
+    → instantiation_refusal P 0 (instances P) ≡ None → is_in_range P here ≡ true
+root_in_range P here is instantiated =
     unrefused (may_enter P 0 here) (has_values P here) (is_in_range P here)
-    (walk_refusal P 1 (flat_map (instances_from P 64) (children P here)
+    (instantiation_refusal P 1 (flat_map (instances_from P 64) (children P here)
     ++ listed (instances_from P 65) (instance_at P Observer)))
-    (ap (λ o. walk_refusal P 0
+    (ap (λ o. instantiation_refusal P 0
     (listed (instances_from P 65) o ++ listed (instances_from P 65) (instance_at P Observer)))
-    (sym is) ∙ walked)
+    (sym is) ∙ instantiated)
 
 -- ## Types
 
@@ -77,7 +77,7 @@ abbrev is_sized : Program → Instance → Declaration → Bool
 is_sized P here d = list_all (is_between P here 1 4096) d.sizes
 
 has_type : (P : Program) (here : Instance) (d : Declaration) → is_sized P here d ≡ true
-    → is_some (shape_of P here d) ≡ true
+    → is_some (variable_type P here d) ≡ true
 has_type P here d e =
     mapped_some (λ ns. record { kind = d.kind; sizes = ns })
     (all_some (map (static_count P here) (reverse d.sizes)))
@@ -94,17 +94,18 @@ sized P here (d ∷ ds) =
 
 -- the inputs and outputs of the node under test have types
 pub root_has_types : (P : Program) (here : Instance) → instance_at P Root ≡ Some here
-    → walk_refusal P 0 (instances P) ≡ None
-    → is_some (all_some (map (shape_of P here) (here.node.inputs ++ here.node.outputs))) ≡ true
-root_has_types P here is walked =
+    → instantiation_refusal P 0 (instances P) ≡ None
+    → is_some (all_some (map (variable_type P here) (here.node.inputs ++ here.node.outputs))) ≡ true
+root_has_types P here is instantiated =
     let n = here.node in
     let between = is_between P here 1 4096 in
-    let all = and_first (list_all between (node_sizes n)) _ (root_in_range P here is walked) in
+    let all = and_first (list_all between (node_sizes n)) _
+    (root_in_range P here is instantiated) in
     let declared = and_first (list_all between (declared_sizes n)) _
     (sym (all_append between (declared_sizes n) _) ∙ all) in
     let of_variables = sym (sized P here (variables n)) ∙ declared in
     let of_interface = and_first (list_all (is_sized P here) (n.inputs ++ n.outputs)) _
     (sym (all_append (is_sized P here) (n.inputs ++ n.outputs) n.locals)
     ∙ ap (list_all (is_sized P here)) (append_assoc n.inputs n.outputs n.locals) ∙ of_variables) in
-    all_present (shape_of P here) (is_sized P here) (has_type P here) (n.inputs ++ n.outputs)
+    all_present (variable_type P here) (is_sized P here) (has_type P here) (n.inputs ++ n.outputs)
     of_interface

@@ -8,16 +8,16 @@ use Rattle.lb_static.specs.declared.error.StaticError.TheVariants.{Memory, Name 
 use Rattle.lb_static.specs.CallGraphs.{IsCallsAnswer}
 use Rattle.lb_static.specs.Elaborates.{IsStaticFault, IsTableAnswer}
 use Rattle.lb_static.specs.InstanceTable.{HasStarts, IsTable}
-use Rattle.lb_static.specs.SettledSpecializations.{AreSpecialized}
-use Rattle.lb_static.specs.WalkedRows.{AreInstances}
+use Rattle.lb_static.specs.LinkedSpecializations.{AreSpecialized}
+use Rattle.lb_static.specs.InstanceRows.{AreInstances}
 use Rattle.lb_static.specs.declared.reach.Reached.{Reached}
 use Rattle.lb_static.specs.declared.table.Table.{Table}
 use Rattle.lb_static.specs.Instances.{Program, Root, instance_at, instances}
 use Rattle.lb_static.specs.NameFaults.{IsNameFault}
 use Rattle.lb_static.specs.Names.{is_well_founded, keeps_names}
 use Rattle.lb_static.specs.RootAnswers.{IsRootAnswer}
-use Rattle.lb_static.specs.Walk.{has_no_parameters, is_root, static_refusal, walk_refusal}
-use Rattle.lb_static.specs.Walked.{IsRefusal, IsWalkAnswer}
+use Rattle.lb_static.specs.Instantiation.{has_no_parameters, is_root, static_refusal, instantiation_refusal}
+use Rattle.lb_static.specs.Instantiated.{IsRefusal, IsInstantiationAnswer}
 
 -- ## The first of five
 
@@ -38,13 +38,14 @@ at_parameters true true true d o e f g = absurd cc
 at_parameters true false c d o e f g = absurd cc
 at_parameters false b c d o e f g = absurd cc
 
-at_walk : (a b c d : Bool) (o : Option Refusal) (r : Refusal) → a ≡ true → b ≡ true → c ≡ true
+at_instantiation : (a b c d : Bool) (o : Option Refusal) (r : Refusal) → a ≡ true → b ≡ true
+    → c ≡ true
     → o ≡ Some r → first_of_five a b c d o ≡ Some r
-at_walk true true true d (Some s) r e f g h = h
-at_walk true true true d None r e f g h = absurd cc
-at_walk true true false d o r e f g h = absurd cc
-at_walk true false c d o r e f g h = absurd cc
-at_walk false b c d o r e f g h = absurd cc
+at_instantiation true true true d (Some s) r e f g h = h
+at_instantiation true true true d None r e f g h = absurd cc
+at_instantiation true true false d o r e f g h = absurd cc
+at_instantiation true false c d o r e f g h = absurd cc
+at_instantiation false b c d o r e f g h = absurd cc
 
 at_root : (a b c d : Bool) (o : Option Refusal) → a ≡ true → b ≡ true → c ≡ true → o ≡ None
     → d ≡ false → first_of_five a b c d o ≡ Some E8
@@ -68,9 +69,9 @@ at_names : (a b c d : Bool) (o : Option Refusal) → a ≡ false → first_of_fi
 at_names false b c d o e = refl
 at_names true b c d o e = absurd cc
 
--- whether the node under test has its shape
-abbrev has_shape : Program → Bool
-has_shape P = holds (is_root P) (instance_at P Root)
+-- whether the node under test has its interface
+abbrev has_data_type : Program → Bool
+has_data_type P = holds (is_root P) (instance_at P Root)
 
 -- ## Faults of the parts
 
@@ -78,8 +79,8 @@ pub names_fault : (P : Program) (e : StaticError) → IsNameFault e (keeps_names
     → IsStaticFault P e
 names_fault P Memory h = h
 names_fault P (Name_fault x) h =
-    at_names (keeps_names P) (is_well_founded P) (has_no_parameters P) (has_shape P)
-    (walk_refusal P 0 (instances P)) h
+    at_names (keeps_names P) (is_well_founded P) (has_no_parameters P) (has_data_type P)
+    (instantiation_refusal P 0 (instances P)) h
 names_fault P (Recursion x) h = absurd h
 names_fault P Root_fault h = absurd h
 names_fault P (Value x) h = absurd h
@@ -91,8 +92,8 @@ pub calls_fault : (P : Program) (e : StaticError) → keeps_names P ≡ true →
 calls_fault P Memory names h = h
 calls_fault P (Name_fault x) names h = absurd h
 calls_fault P (Recursion x) names h =
-    at_calls (keeps_names P) (is_well_founded P) (has_no_parameters P) (has_shape P)
-    (walk_refusal P 0 (instances P)) names h
+    at_calls (keeps_names P) (is_well_founded P) (has_no_parameters P) (has_data_type P)
+    (instantiation_refusal P 0 (instances P)) names h
 calls_fault P Root_fault names h = absurd h
 calls_fault P (Value x) names h = absurd h
 calls_fault P (Range x) names h = absurd h
@@ -101,20 +102,23 @@ calls_fault P Instances names h = absurd h
 pub parameters_fault : (P : Program) → keeps_names P ≡ true → is_well_founded P ≡ true
     → has_no_parameters P ≡ false → static_refusal P ≡ Some E8
 parameters_fault P names calls h =
-    at_parameters (keeps_names P) (is_well_founded P) (has_no_parameters P) (has_shape P)
-    (walk_refusal P 0 (instances P)) names calls h
+    at_parameters (keeps_names P) (is_well_founded P) (has_no_parameters P) (has_data_type P)
+    (instantiation_refusal P 0 (instances P)) names calls h
 
-pub walk_fault : (P : Program) (e : StaticError) → keeps_names P ≡ true → is_well_founded P ≡ true
+pub instantiation_fault : (P : Program) (e : StaticError) → keeps_names P ≡ true
+    → is_well_founded P ≡ true
     → has_no_parameters P ≡ true
-    → IsRefusal (walk_refusal P 0 (instances P)) e → IsStaticFault P e
-walk_fault P e names calls parameters h = by e h
+    → IsRefusal (instantiation_refusal P 0 (instances P)) e → IsStaticFault P e
+instantiation_fault P e names calls parameters h = by e h
   where
-    first : (r : Refusal) → walk_refusal P 0 (instances P) ≡ Some r → static_refusal P ≡ Some r
+    first : (r : Refusal) → instantiation_refusal P 0 (instances P) ≡ Some r
+        → static_refusal P ≡ Some r
     first r =
-        at_walk (keeps_names P) (is_well_founded P) (has_no_parameters P) (has_shape P)
-        (walk_refusal P 0 (instances P)) r names calls parameters
+        at_instantiation (keeps_names P) (is_well_founded P) (has_no_parameters P) (has_data_type P)
+        (instantiation_refusal P 0 (instances P)) r names calls parameters
 
-    by : (e : StaticError) → IsRefusal (walk_refusal P 0 (instances P)) e → IsStaticFault P e
+    by : (e : StaticError) → IsRefusal (instantiation_refusal P 0 (instances P)) e
+        → IsStaticFault P e
     by Memory h = tt
     by (Name_fault x) h = absurd h
     by (Recursion x) h = absurd h
@@ -125,24 +129,24 @@ walk_fault P e names calls parameters h = by e h
 
 pub root_fault : (P : Program) (e : StaticError) → keeps_names P ≡ true → is_well_founded P ≡ true
     → has_no_parameters P ≡ true
-    → walk_refusal P 0 (instances P) ≡ None → IsRootAnswer P (Err e) → IsStaticFault P e
-root_fault P Memory names calls parameters walked h = h
-root_fault P (Name_fault x) names calls parameters walked h = absurd h
-root_fault P (Recursion x) names calls parameters walked h = absurd h
-root_fault P Root_fault names calls parameters walked h =
-    at_root (keeps_names P) (is_well_founded P) (has_no_parameters P) (has_shape P)
-    (walk_refusal P 0 (instances P)) names calls parameters walked h
-root_fault P (Value x) names calls parameters walked h = absurd h
-root_fault P (Range x) names calls parameters walked h = absurd h
-root_fault P Instances names calls parameters walked h = absurd h
+    → instantiation_refusal P 0 (instances P) ≡ None → IsRootAnswer P (Err e) → IsStaticFault P e
+root_fault P Memory names calls parameters instantiated h = h
+root_fault P (Name_fault x) names calls parameters instantiated h = absurd h
+root_fault P (Recursion x) names calls parameters instantiated h = absurd h
+root_fault P Root_fault names calls parameters instantiated h =
+    at_root (keeps_names P) (is_well_founded P) (has_no_parameters P) (has_data_type P)
+    (instantiation_refusal P 0 (instances P)) names calls parameters instantiated h
+root_fault P (Value x) names calls parameters instantiated h = absurd h
+root_fault P (Range x) names calls parameters instantiated h = absurd h
+root_fault P Instances names calls parameters instantiated h = absurd h
 
 pub no_fault : (P : Program) → keeps_names P ≡ true → is_well_founded P ≡ true
     → has_no_parameters P ≡ true
-    → walk_refusal P 0 (instances P) ≡ None → holds (is_root P) (instance_at P Root) ≡ true
+    → instantiation_refusal P 0 (instances P) ≡ None → holds (is_root P) (instance_at P Root) ≡ true
     → static_refusal P ≡ None
-no_fault P names calls parameters walked h =
-    at_none (keeps_names P) (is_well_founded P) (has_no_parameters P) (has_shape P)
-    (walk_refusal P 0 (instances P)) names calls parameters walked h
+no_fault P names calls parameters instantiated h =
+    at_none (keeps_names P) (is_well_founded P) (has_no_parameters P) (has_data_type P)
+    (instantiation_refusal P 0 (instances P)) names calls parameters instantiated h
 
 -- ## The table
 
@@ -159,14 +163,15 @@ is_table P r t starts specialized rows = record {
 
 pub table_answer : (P : Program) (r : Reached) (result : Result Table StaticError)
     → keeps_names P ≡ true → is_well_founded P ≡ true → has_no_parameters P ≡ true
-    → IsWalkAnswer P r result → IfOk result (AreSpecialized P r) → IfOk result (AreInstances P r)
+    → IsInstantiationAnswer P r result → IfOk result (AreSpecialized P r)
+    → IfOk result (AreInstances P r)
     → IsTableAnswer P r result
-table_answer P r (Ok t) names calls parameters walked specialized rows = record {
+table_answer P r (Ok t) names calls parameters instantiated specialized rows = record {
   calls = calls;
   parameters = parameters;
-  walked = walked.0;
-  starts = walked.1;
-  table = is_table P r t walked.1 specialized rows;
+  instantiated = instantiated.0;
+  starts = instantiated.1;
+  table = is_table P r t instantiated.1 specialized rows;
 }
-table_answer P r (Err e) names calls parameters walked specialized rows =
-    walk_fault P e names calls parameters walked
+table_answer P r (Err e) names calls parameters instantiated specialized rows =
+    instantiation_fault P e names calls parameters instantiated

@@ -4,7 +4,7 @@ use Rattle.std.specs.Prelude.{nat_le}
 use Rattle.std.proofs.lemmas.Bool.Decides.{nat_tests}
 use Rattle.std.proofs.lemmas.List.{reverse-append}
 use Rattle.lb_syntax.specs.Lists.{all_some, either_or}
-use Rattle.lb_static.specs.Shapes.{product}
+use Rattle.lb_static.specs.DataTypes.{product}
 use Rattle.lb_static.specs.Specialized.{size_of, times_sizes}
 use Rattle.lb_static.specs.StaticValues.{natural}
 

@@ -10,7 +10,7 @@ use Rattle.lb_static.specs.Names.{is_named, reached_nodes, start_names, starts}
 use Rattle.lb_static.specs.Parts.{among}
 use Rattle.lb_static.specs.NameFaults.{named_in}
 use Rattle.lb_static.specs.ResolvedNodes.{IsResolved, node_of}
-use Rattle.lb_static.specs.Visiting.{AreHad, Grows, is_visited, visited_after}
+use Rattle.lb_static.specs.WorkLists.{AreReachable, Grows, is_visited, visited_after}
 use Rattle.lb_static.specs.declared.reach.NodeId.{NodeId}
 use Rattle.lb_static.specs.declared.resolved.CallSite.{CallSite}
 use Rattle.lb_static.specs.declared.resolved.ResolvedNode.{ResolvedNode}
@@ -42,8 +42,8 @@ pub record AreResolved (s : Source) (before after : List ℕ) (nodes : List Reso
       → slice_get (map node_of nodes) turn ≡ slice_get s.nodes place
   pub grows : Grows before after
   pub linked : list_all (are_called after) nodes ≡ true
-  pub had : (start : Node → Bool) → AreHad s.nodes start called before
-      → AreHad s.nodes start called after
+  pub reachable : (start : Node → Bool) → AreReachable s.nodes start called before
+      → AreReachable s.nodes start called after
 
 -- ## What the walk begins with
 
@@ -64,7 +64,7 @@ node_at s order id = slice_get order id.0 >>= slice_get s.nodes
 pub record AreStarts (P : Program) (order : List ℕ) (root : NodeId)
     (observer : Option NodeId) : Type 0 where
   pub there : list_all is_some (starts P) ≡ true
-  pub had : AreHad P.source.nodes (λ n. among n.name (start_names P)) called order
+  pub reachable : AreReachable P.source.nodes (λ n. among n.name (start_names P)) called order
   pub all : (place : ℕ) (n : Node) → slice_get P.source.nodes place ≡ Some n
       → among n.name (start_names P) ≡ true → is_visited order place ≡ true
   pub at_root : node_at P.source order root ≡ node_named P P.root

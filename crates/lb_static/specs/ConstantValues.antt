@@ -33,13 +33,13 @@ pub record IsSound (constants : List Constant) (values : List (Option ℤ)) : Ty
       → constant_value constants (known values) x ≡ Some v
 
 -- the constant at a place has no value under those that are held, unless its own is held
-abbrev pub IsSettled : List Constant → List (Option ℤ) → ℕ → Type 0
-IsSettled constants values i =
+abbrev pub IsStable : List Constant → List (Option ℤ) → ℕ → Type 0
+IsStable constants values i =
     (c : Constant) → slice_get constants i ≡ Some c → slice_get values i ≡ Some None
     → value_under (value_held (names_of constants) values) c.value ≡ None
 
-abbrev pub AreSettled : List Constant → List (Option ℤ) → Type 0
-AreSettled constants values = (i : ℕ) → i < length constants → IsSettled constants values i
+abbrev pub AreStable : List Constant → List (Option ℤ) → Type 0
+AreStable constants values = (i : ℕ) → i < length constants → IsStable constants values i
 
 -- these constants are the first of each name of those: they give each name the same one
 abbrev pub AreFirst : List Constant → List Constant → Type 0

@@ -24,7 +24,7 @@ IsNoneOpen progress = (i : ℕ) → IsAt progress i Open → ⊥
 abbrev pub Keeps : List Progress → List Progress → Type 0
 Keeps before after = (i : ℕ) → IsAt before i Done → IsAt after i Done
 
--- between two walks: each node is unseen or done
+-- between two searches: each node is unseen or done
 pub record IsBetween (graph : List (List ℕ)) (progress : List Progress) : Type 0 where
   pub as_many : length progress ≡ length graph
   pub done : AreDone graph progress
@@ -45,18 +45,18 @@ IsPath graph progress next [] = Unit {0}
 IsPath graph progress next (f ∷ fs) =
     IsFrame graph progress next f × IsPath graph progress (Some f.node) fs
 
--- in a walk, with the path, its end first: the nodes that are begun and not done stand on it
-pub record IsWalk (graph : List (List ℕ)) (progress : List Progress) (path : List Frame)
+-- in a search, with the path, its end first: the nodes that are begun and not done stand on it
+pub record IsSearch (graph : List (List ℕ)) (progress : List Progress) (path : List Frame)
     : Type 0 where
   pub as_many : length progress ≡ length graph
   pub done : AreDone graph progress
   pub open_on_path : (i : ℕ) → IsAt progress i Open → In i (map (λ f. f.node) path)
   pub is_path : IsPath graph progress None path
 
--- in a walk from a node: what was done before it is done, and this node was begun
-pub record IsWalkFrom (graph : List (List ℕ)) (before : List Progress) (start : ℕ)
+-- in a search from a node: what was done before it is done, and this node was begun
+pub record IsSearchFrom (graph : List (List ℕ)) (before : List Progress) (start : ℕ)
     (progress : List Progress) (path : List Frame) : Type 0 where
-  pub walk : IsWalk graph progress path
+  pub searched : IsSearch graph progress path
   pub kept : Keeps before progress
   pub begun : IsAt progress start Open ⊎ IsAt progress start Done
 
@@ -72,10 +72,11 @@ unseen (Done ∷ progress) (calls ∷ graph) = unseen progress graph
 abbrev pub on_path : List Frame → ℕ
 on_path path = sum_by (λ f. 1 + length f.left.now) path
 
--- what a walk from a node answers: a node that reaches itself; or none, and the node is done, with
+-- what a search from a node answers: a node that reaches itself; or none, and the node is done,
+-- with
 -- all that were done before
-abbrev pub IsWalkAnswer :
+abbrev pub IsSearchAnswer :
     List (List ℕ) → List Progress → ℕ → List Progress → Option ℕ → Type 0
-IsWalkAnswer graph before start after (Some i) = (i < length graph) × IsOnCycle graph i
-IsWalkAnswer graph before start after None =
+IsSearchAnswer graph before start after (Some i) = (i < length graph) × IsOnCycle graph i
+IsSearchAnswer graph before start after None =
     IsBetween graph after × Keeps before after × IsAt after start Done

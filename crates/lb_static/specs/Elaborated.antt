@@ -7,8 +7,8 @@ use Rattle.lb_syntax.specs.declared.tree.Source.{Source}
 use Rattle.lb_static.specs.Instances.{Program}
 use Rattle.lb_static.specs.InstanceTable.{IsTable}
 use Rattle.lb_static.specs.ReachedNodes.{IsReached}
-use Rattle.lb_static.specs.Shapes.{signature}
-use Rattle.lb_static.specs.Walk.{static_refusal}
+use Rattle.lb_static.specs.DataTypes.{signature}
+use Rattle.lb_static.specs.Instantiation.{static_refusal}
 use Rattle.lb_static.specs.declared.elab.Elaboration.{Elaboration}
 
 -- the program of a source, with the names of the node under test and of the observer

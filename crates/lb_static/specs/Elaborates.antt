@@ -6,7 +6,7 @@ use Rattle.lb_static.specs.Instances.{Program, instances}
 use Rattle.lb_static.specs.InstanceTable.{HasStarts, IsTable}
 use Rattle.lb_static.specs.Elaborated.{elaborated_program}
 use Rattle.lb_static.specs.Names.{is_well_founded}
-use Rattle.lb_static.specs.Walk.{has_no_parameters, static_refusal, walk_refusal}
+use Rattle.lb_static.specs.Instantiation.{has_no_parameters, static_refusal, instantiation_refusal}
 use Rattle.lb_static.specs.declared.elab.Elab.{Elab}
 use Rattle.lb_static.specs.declared.error.StaticError.{StaticError}
 use Rattle.lb_static.specs.declared.error.StaticError.TheVariants as error
@@ -37,7 +37,7 @@ Elaborates P (Err e) = IsStaticFault P e
 pub record HasTable (P : Program) (r : Reached) (t : Table) : Type 0 where
   pub calls : is_well_founded P ≡ true
   pub parameters : has_no_parameters P ≡ true
-  pub walked : walk_refusal P 0 (instances P) ≡ None
+  pub instantiated : instantiation_refusal P 0 (instances P) ≡ None
   pub starts : HasStarts P r t
   pub table : IsTable P r t
 

@@ -9,7 +9,7 @@ use Rattle.lb_static.specs.declared.error.StaticError.{StaticError}
 use Rattle.lb_static.specs.declared.resolved.Term as term
 use Rattle.lb_static.specs.declared.resolved.Term.{Term}
 use Rattle.lb_static.specs.declared.resolving_terms.Frame.{Frame}
-use Rattle.lb_static.specs.declared.resolving_terms.Frame.TheVariants.{Group, Unary, Binary, If, Arrow, Fby, Pre, Current, When, Copies, Index, Slice, Join}
+use Rattle.lb_static.specs.declared.resolving_terms.Frame.TheVariants.{Group, Unary, Binary, If, Arrow, Fby, Pre, Current, When, Replicate, Index, Slice, Join}
 use Rattle.lb_static.specs.declared.resolving_terms.Head.{Head}
 use Rattle.lb_static.specs.declared.resolving_terms.Head.TheVariants.{Array, AtMostOne, Nor, Call, IterateNode, IterateSymbol}
 
@@ -24,7 +24,7 @@ around (Fby first) a = term.Fby first a
 around Pre a = term.Pre a
 around Current a = term.Current a
 around (When clock sign) a = term.When a clock sign
-around (Copies size) a = term.Copies a size
+around (Replicate size) a = term.Replicate a size
 around (Index index) a = term.Index a index
 around (Slice start end) a = term.Slice a start end
 around (Join first) a = term.Join first a

@@ -26,8 +26,8 @@ abbrev pub specialized_at : Reached → Path → Specialization → Option Insta
 specialized_at r p s = option_map (λ n. instance_of p n s.values.items) (tree_at r s.node)
 
 -- the instance at a path that a specialization of the table is
-abbrev pub standing_at : Reached → Table → Path → SpecializationId → Option Instance
-standing_at r t p id = slice_get t.specializations.items id.0 >>= specialized_at r p
+abbrev pub specialized_instance_at : Reached → Table → Path → SpecializationId → Option Instance
+specialized_instance_at r t p id = slice_get t.specializations.items id.0 >>= specialized_at r p
 
 -- the values of its static expressions are those of the definitions
 abbrev pub HasStatics : Program → Reached → Specialization → Type 0
@@ -84,20 +84,20 @@ row_at r t p i =
 abbrev pub rows_of : Reached → Table → List (Option Instance)
 rows_of r t = zip2 (row_at r t) (paths_of t) t.instances.items
 
--- what is known of the specializations of a table, and which of them the walk starts with
+-- what is known of the specializations of a table, and which of them instantiation starts with
 pub record HasStarts (P : Program) (r : Reached) (t : Table) : Type 0 where
   pub statics : (i : ℕ) (s : Specialization) →
       slice_get t.specializations.items i ≡ Some s →
       (s.node.0 < length r.nodes.items) × HasStatics P r s
-  pub root : standing_at r t Root t.root ≡ instance_at P Root
-  pub observer : (t.observer >>= standing_at r t Observer) ≡ instance_at P Observer
+  pub root : specialized_instance_at r t Root t.root ≡ instance_at P Root
+  pub observer : (t.observer >>= specialized_instance_at r t Observer) ≡ instance_at P Observer
 
 pub record IsTable (P : Program) (r : Reached) (t : Table) : Type 0 where
   pub specialized : (i : ℕ) (s : Specialization) →
       slice_get t.specializations.items i ≡ Some s → IsSpecialized P r t s × CallsBefore i s
   pub instances : rows_of r t ≡ map Some (instances P)
-  pub root : standing_at r t Root t.root ≡ instance_at P Root
-  pub observer : (t.observer >>= standing_at r t Observer) ≡ instance_at P Observer
+  pub root : specialized_instance_at r t Root t.root ≡ instance_at P Root
+  pub observer : (t.observer >>= specialized_instance_at r t Observer) ≡ instance_at P Observer
   -- each specialization has an instance
   pub used : (i : ℕ) → i < length t.specializations.items →
       Contains (map (λ row. row.specialization.0) t.instances.items) i

@@ -5,7 +5,7 @@
 use Rattle.std.specs.Prelude.{ℕ, zero, suc, nat_lt, ℤ, Option, Some, None, option_map, List, [], ◌∷◌, ◌++◌, map, length, slice_get, flat_map, if◌then◌else◌}
 use Rattle.std.specs.List.{range_with_len, zip}
 use Rattle.lb_syntax.specs.Lists.{◌>>=◌, all_some, some_of, listed}
-use Rattle.lb_syntax.specs.Tree.{Name, Static, Node_named, Symbol, Expr, Literal, Truth, Variable, Group, Unary, Binary, If, Arrow, Fby, Pre, Current, When, Copies, Index, Slice, Join, Array, AtMostOne, Nor, Call, Iterate, Exprs, Nil, Cons, Node, Source, Statement, Equation, Assertion}
+use Rattle.lb_syntax.specs.Tree.{Name, Static, Node_named, Symbol, Expr, Literal, Truth, Variable, Group, Unary, Binary, If, Arrow, Fby, Pre, Current, When, Replicate, Index, Slice, Join, Array, AtMostOne, Nor, Call, Iterate, Exprs, Nil, Cons, Node, Source, Statement, Equation, Assertion}
 use Rattle.lb_static.specs.StaticValues.{named, value_under, constant_value, natural}
 
 -- ## Where an instance stands
@@ -50,7 +50,7 @@ abbrev mutual
   sites (Pre a) = sites a
   sites (Current a) = sites a
   sites (When a x sign) = sites a
-  sites (Copies a n) = sites a
+  sites (Replicate a n) = sites a
   sites (Index a i) = sites a
   sites (Slice a i j) = sites a
   sites (Join a b) = sites a ++ sites b
@@ -122,7 +122,7 @@ module _ (P : Program) where
       let at = Child here.path call index in
       Some (record { path = at; node = n; values = zip n.parameters values })
 
-  -- the instance at which a walk starts
+  -- the instance at which instantiation starts
   abbrev pub start_at : Path → Name → Option Instance
   start_at p f = option_map (λ n. record { path = p; node = n; values = [] }) (node_named f)
 
@@ -152,7 +152,7 @@ module _ (P : Program) where
   instances_from zero here = []
   instances_from (suc n) here = here ∷ flat_map (instances_from n) (children here)
 
-  -- the instances in the order of the walk: those of the node under test, then those of the
+  -- the instances in the order of instantiation: those of the node under test, then those of the
   -- observer. An accepted program has none below level 64; level 65 is there to be refused.
   abbrev pub instances : List Instance
   instances =

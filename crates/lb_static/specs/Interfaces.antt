@@ -6,7 +6,7 @@ use Rattle.lb_syntax.specs.Lists.{◌>>=◌, all_some, where_true}
 use Rattle.lb_syntax.specs.SourceView.{view_node}
 use Rattle.lb_syntax.specs.Tree.{Name, Node}
 use Rattle.lb_static.specs.ResolvedNodes.{node_of}
-use Rattle.lb_static.specs.Shapes.{Shape, truth, element_count, element_names, is_shape, are_shapes}
+use Rattle.lb_static.specs.DataTypes.{DataType, truth, element_count, element_names, is_type, are_types}
 use Rattle.lb_static.specs.Signature.{Elements}
 use Rattle.lb_static.specs.StaticValues.{natural}
 use Rattle.lb_static.specs.declared.error.StaticError.{StaticError}
@@ -15,11 +15,11 @@ use Rattle.lb_static.specs.declared.interface.Interface.{Interface}
 use Rattle.lb_static.specs.declared.reach.Reached.{Reached}
 use Rattle.lb_static.specs.declared.resolved.ResolvedNode.{ResolvedNode}
 use Rattle.lb_static.specs.declared.resolved.Variable.{Variable}
-use Rattle.lb_static.specs.declared.shape.Shape as seen
+use Rattle.lb_static.specs.declared.data_type.DataType as seen
 use Rattle.lb_static.specs.declared.table.SpecializationId.{SpecializationId}
 use Rattle.lb_static.specs.declared.table.Table.{Table}
 
--- memory ran out, or the shape of the node under test or the observer is wrong, for this reason
+-- memory ran out, or the interface of the node under test or the observer is wrong, for this reason
 abbrev pub IsRootFault : Type 0 → StaticError → Type 0
 IsRootFault Reason error.Memory = Unit {0}
 IsRootFault Reason error.Root = Reason
@@ -31,11 +31,11 @@ Answers seen_as o (Ok a) = o ≡ Some (seen_as a)
 Answers seen_as o (Err e) = IsRootFault (o ≡ None) e
 
 -- the type that a value of the code stands for
-abbrev pub shape_seen : seen.Shape → Shape
-shape_seen s = record { kind = s.kind; sizes = s.sizes.items }
+abbrev pub view_type : seen.DataType → DataType
+view_type s = record { kind = s.kind; sizes = s.sizes.items }
 
-abbrev pub shapes_seen : List seen.Shape → List Shape
-shapes_seen = map shape_seen
+abbrev pub view_types : List seen.DataType → List DataType
+view_types = map view_type
 
 -- the values of a variable's sizes, the innermost first, by those of the static expressions
 abbrev pub sizes_in : List ℤ → Variable → Option (List ℤ)
@@ -44,18 +44,18 @@ sizes_in statics v =
     (take v.sizes (drop v.first_size.0 statics))
 
 -- the type of a variable
-abbrev pub shape_in : List ℤ → Variable → Option Shape
-shape_in statics v =
+abbrev pub type_under : List ℤ → Variable → Option DataType
+type_under statics v =
     sizes_in statics v >>= λ values.
     option_map (λ ns. record { kind = v.kind; sizes = ns })
     (all_some (map natural (reverse values)))
 
 -- the types of some variables
-abbrev pub shapes_in : List ℤ → List Variable → Option (List Shape)
-shapes_in statics vs = all_some (map (shape_in statics) vs)
+abbrev pub types_under : List ℤ → List Variable → Option (List DataType)
+types_under statics vs = all_some (map (type_under statics) vs)
 
 -- how many scalar elements there are in all
-abbrev pub elements_in_all : List Shape → ℕ
+abbrev pub elements_in_all : List DataType → ℕ
 elements_in_all [] = 0
 elements_in_all (s ∷ ss) = element_count s + elements_in_all ss
 
@@ -63,20 +63,20 @@ elements_in_all (s ∷ ss) = element_count s + elements_in_all ss
 
 -- the inputs and outputs of a node with values: how many of the types are those of inputs, and
 -- whether all are on the base clock
-pub record Face : Type 0 where
+pub record InterfaceView : Type 0 where
   pub node : Node
   pub inputs : ℕ
-  pub shapes : List Shape
+  pub data_types : List DataType
   pub is_plain : Bool
 
 abbrev pub has_no_clock : Variable → Bool
 has_no_clock v = not (is_some v.clock)
 
-abbrev pub face_seen : Interface → Face
-face_seen i = record {
+abbrev pub view_interface : Interface → InterfaceView
+view_interface i = record {
   node = view_node i.tree.now;
   inputs = i.inputs;
-  shapes = shapes_seen i.shapes.items;
+  data_types = view_types i.data_types.items;
   is_plain = i.is_plain;
 }
 
@@ -87,51 +87,51 @@ interface_variables n =
     (take (n.inputs + n.outputs) n.variables.items)
 
 -- those of a node, by the values of its static expressions
-abbrev pub face_in : ResolvedNode → List ℤ → Option Face
-face_in n statics =
+abbrev pub interface_under : ResolvedNode → List ℤ → Option InterfaceView
+interface_under n statics =
     interface_variables n >>= λ vs.
     option_map
     (λ ss. record {
       node = node_of n;
       inputs = n.inputs;
-      shapes = ss;
+      data_types = ss;
       is_plain = list_all has_no_clock vs;
     })
-    (shapes_in statics vs)
+    (types_under statics vs)
 
 -- the types of the inputs, and those of the outputs
-abbrev pub inputs_of : Face → List Shape
-inputs_of f = take f.inputs f.shapes
+abbrev pub inputs_of : InterfaceView → List DataType
+inputs_of f = take f.inputs f.data_types
 
-abbrev pub outputs_of : Face → List Shape
-outputs_of f = drop f.inputs f.shapes
+abbrev pub outputs_of : InterfaceView → List DataType
+outputs_of f = drop f.inputs f.data_types
 
 -- the node of a specialization, and the values of its static expressions
-abbrev pub standing_in : Reached → Table → SpecializationId → Option (ResolvedNode × List ℤ)
-standing_in r t id =
+abbrev pub valued_node_in : Reached → Table → SpecializationId → Option (ResolvedNode × List ℤ)
+valued_node_in r t id =
     slice_get t.specializations.items id.0 >>= λ s.
     option_map (λ n. (n, s.statics.items)) (slice_get r.nodes.items s.node.0)
 
 -- the property of one that observes another, and of one alone
-abbrev pub is_one_truth_in : List Shape → Bool
-is_one_truth_in (t ∷ []) = is_shape t truth
+abbrev pub is_one_truth_in : List DataType → Bool
+is_one_truth_in (t ∷ []) = is_type t truth
 is_one_truth_in _ = false
 
-abbrev pub observes : Face → Face → Bool
+abbrev pub observes : InterfaceView → InterfaceView → Bool
 observes observer root =
     observer.is_plain
-    && (are_shapes (inputs_of observer) root.shapes && is_one_truth_in (outputs_of observer))
+    && (are_types (inputs_of observer) root.data_types && is_one_truth_in (outputs_of observer))
 
-abbrev pub property_by : Face → Option (ResolvedNode × List ℤ) → Option Bool
+abbrev pub property_by : InterfaceView → Option (ResolvedNode × List ℤ) → Option Bool
 property_by root None = Some (is_one_truth_in (outputs_of root))
-property_by root (Some s) = option_map (λ o. observes o root) (face_in s.0 s.1)
+property_by root (Some s) = option_map (λ o. observes o root) (interface_under s.0 s.1)
 
 -- the scalar elements of variables of these names and types
-abbrev pub elements_named : List Name → List Shape → Elements
+abbrev pub elements_named : List Name → List DataType → Elements
 elements_named (x ∷ xs) (s ∷ ss) =
     map (λ n. (n, s.kind)) (element_names x s.sizes) ++ elements_named xs ss
 elements_named _ _ = []
 
 -- the property of a program, where its node under test is seen so
-abbrev pub property_in : Reached → Table → Face → Option Bool
-property_in r t root = property_by root (t.observer >>= standing_in r t)
+abbrev pub property_in : Reached → Table → InterfaceView → Option Bool
+property_in r t root = property_by root (t.observer >>= valued_node_in r t)

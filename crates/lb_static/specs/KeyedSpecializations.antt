@@ -1,7 +1,7 @@
--- What the specializations that a walk has entered are found by.
+-- What the specializations that instantiation has entered are found by.
 -- This file says what data of the program mean; no definition of the language stands on it.
 use Rattle.std.specs.Prelude.{◌≡◌, ◌⊎◌, ℤ, Option, Some, None, List, [], ◌∷◌, ◌++◌, length, All}
-use Rattle.lb_static.specs.Walked.{IsKnown}
+use Rattle.lb_static.specs.Instantiated.{IsKnown}
 use Rattle.lb_static.specs.declared.reach.NodeId.{NodeId}
 use Rattle.lb_static.specs.declared.specializations.Key.{Key}
 use Rattle.lb_static.specs.declared.table.Specialization.{Specialization}

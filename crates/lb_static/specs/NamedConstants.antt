@@ -10,7 +10,7 @@ use Rattle.lb_static.specs.Names.{constants_within, is_constant, named_constants
 use Rattle.lb_static.specs.Parts.{among, static_names}
 use Rattle.lb_static.specs.ResolvedNodes.{node_of}
 use Rattle.lb_static.specs.ResolvedTerms.{static_of}
-use Rattle.lb_static.specs.Visiting.{is_visited}
+use Rattle.lb_static.specs.WorkLists.{is_visited}
 use Rattle.lb_static.specs.declared.globals.Globals.{Globals}
 use Rattle.lb_static.specs.declared.resolved.ResolvedNode.{ResolvedNode}
 use Rattle.lb_static.specs.declared.resolved.StaticPart.{StaticPart}

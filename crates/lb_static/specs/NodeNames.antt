@@ -4,22 +4,22 @@ use Rattle.std.specs.Prelude.{◌≡◌, ℕ, Bool, true, ◌&&◌, List, [], na
 use Rattle.std.specs.List.{list_all}
 use Rattle.lb_syntax.specs.Lists.{either_or, holds}
 use Rattle.lb_syntax.specs.SourceView.{view_node, view_source}
-use Rattle.lb_syntax.specs.Tree.{Name, Static, Node_named, Symbol, Expr, Literal, Truth, Variable, Group, Unary, Binary, If, Arrow, Fby, Pre, Current, When, Copies, Index, Slice, Join, Array, AtMostOne, Nor, Call, Iterate, Exprs, Nil, Cons, Node, Statement, Equation, Assertion}
+use Rattle.lb_syntax.specs.Tree.{Name, Static, Node_named, Symbol, Expr, Literal, Truth, Variable, Group, Unary, Binary, If, Arrow, Fby, Pre, Current, When, Replicate, Index, Slice, Join, Array, AtMostOne, Nor, Call, Iterate, Exprs, Nil, Cons, Node, Statement, Equation, Assertion}
 use Rattle.lb_static.specs.Instances.{Program, Site, node_named}
 use Rattle.lb_static.specs.NameFaults.{alone}
 use Rattle.lb_static.specs.Names.{is_callable, is_known, is_static_name, is_variable}
 use Rattle.lb_static.specs.Parts.{static_names, variable_names}
 use Rattle.lb_static.specs.ResolvedTerms.{name_at}
-use Rattle.lb_static.specs.declared.naming.Naming.{Naming}
+use Rattle.lb_static.specs.declared.node_scope.NodeScope.{NodeScope}
 use Rattle.lb_static.specs.declared.resolved.NodePlace.{NodePlace}
 use Rattle.lb_static.specs.declared.resolved.VariableId.{VariableId}
 
 -- ## The names of a node
 
-abbrev pub node_in : Naming → Node
+abbrev pub node_in : NodeScope → Node
 node_in n = view_node n.tree.now
 
-abbrev pub program_in : Naming → Program
+abbrev pub program_in : NodeScope → Program
 program_in n = alone (view_source n.source.now)
 
 -- the place of the variable of a name
@@ -70,7 +70,7 @@ module _ (P : Program) (n : Node) where
     passes (Pre a) = passes a
     passes (Current a) = passes a
     passes (When a x sign) = is_variable P n x && passes a
-    passes (Copies a s) = static_passes s && passes a
+    passes (Replicate a s) = static_passes s && passes a
     passes (Index a s) = static_passes s && passes a
     passes (Slice a s t) = static_passes s && (static_passes t && passes a)
     passes (Join a b) = passes a && passes b

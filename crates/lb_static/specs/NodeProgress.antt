@@ -13,18 +13,18 @@ use Rattle.lb_static.specs.NameFaults.{IsNameFault, alone}
 use Rattle.lb_static.specs.NodeNames.{node_in, passes, statement_passes, call_passes, static_passes, statics_pass}
 use Rattle.lb_static.specs.Parts.{among, right_side, variable_names}
 use Rattle.lb_static.specs.ResolvedNodes.{part_of}
-use Rattle.lb_static.specs.ResolvedTerms.{Texts, Counts, sampling_of, is_sampling_within, static_of, expr_of, statement_of, is_step_within, is_step_unhidden, declaration_of, site_of, site_at, static_at, statics_at, is_call, is_static, are_statics, is_within, is_unhidden, is_declared_within, is_site_within}
-use Rattle.lb_static.specs.Shapes.{variables}
+use Rattle.lb_static.specs.ResolvedTerms.{Texts, Counts, sampling_of, is_sampling_within, static_of, expr_of, statement_of, is_statement_within, is_statement_unhidden, declaration_of, site_of, site_at, static_at, statics_at, is_call, is_static, are_statics, is_within, is_unhidden, is_declared_within, is_site_within}
+use Rattle.lb_static.specs.DataTypes.{variables}
 use Rattle.lb_static.specs.StaticParts.{Part, parts_of, arguments_of, group_parts}
 use Rattle.lb_static.specs.declared.error.StaticError.{StaticError}
-use Rattle.lb_static.specs.declared.naming.Naming.{Naming}
+use Rattle.lb_static.specs.declared.node_scope.NodeScope.{NodeScope}
 use Rattle.lb_static.specs.declared.resolved.CallId.{CallId}
 use Rattle.lb_static.specs.declared.resolved.CallSite.{CallSite}
 use Rattle.lb_static.specs.declared.resolved.Role.{Role}
 use Rattle.lb_static.specs.declared.resolved.Sampling as resolved
 use Rattle.lb_static.specs.declared.resolved.StaticId.{StaticId}
 use Rattle.lb_static.specs.declared.resolved.StaticPart.{StaticPart}
-use Rattle.lb_static.specs.declared.resolved.Step.{Step}
+use Rattle.lb_static.specs.declared.resolved.ResolvedStatement.{ResolvedStatement}
 use Rattle.lb_static.specs.declared.resolved.Term.{Term}
 use Rattle.lb_static.specs.declared.resolved.Variable.{Variable}
 
@@ -90,7 +90,7 @@ with_variable s d = record {
 abbrev pub texts_in : List StaticPart → List Static
 texts_in parts = map (λ p. static_of p.text) parts
 
-abbrev pub kept : Naming → List StaticPart → List CallSite → List Variable → Progress
+abbrev pub kept : NodeScope → List StaticPart → List CallSite → List Variable → Progress
 kept n parts calls variables = record {
   source = view_source n.source.now;
   node = node_in n;
@@ -101,7 +101,7 @@ kept n parts calls variables = record {
       map (site_of (map (λ m. m.name) (view_source n.source.now).nodes) (texts_in parts)) calls;
 }
 
-abbrev pub counts_kept : Naming → List StaticPart → List CallSite → Counts
+abbrev pub counts_kept : NodeScope → List StaticPart → List CallSite → Counts
 counts_kept n parts calls = record {
   variables = length (variable_names (node_in n));
   statics = length parts;
@@ -109,7 +109,7 @@ counts_kept n parts calls = record {
 }
 
 -- each number is within range
-pub record IsKept (n : Naming) (parts : List StaticPart) (calls : List CallSite)
+pub record IsKept (n : NodeScope) (parts : List StaticPart) (calls : List CallSite)
     (variables : List Variable) : Type 0 where
   pub declared_within :
       list_all (is_declared_within (counts_kept n parts calls)) variables ≡ true
@@ -216,10 +216,11 @@ ResolvesTerms before after es (Err f) = IsNameFault f (exprs_pass before es)
 
 -- ## Statements
 
-abbrev pub StepStands : Progress → Statement → Step → Type 0
-StepStands s x step =
-    (statement_of (texts s) step ≡ x) × (is_step_within (counts_in (texts s)) step ≡ true)
-    × (is_step_unhidden (texts s) step ≡ true)
+abbrev pub StatementStands : Progress → Statement → ResolvedStatement → Type 0
+StatementStands s x statement =
+    (statement_of (texts s) statement ≡ x)
+    × (is_statement_within (counts_in (texts s)) statement ≡ true)
+    × (is_statement_unhidden (texts s) statement ≡ true)
 
 abbrev pub statement_fits : Progress → Statement → Bool
 statement_fits s x = statement_passes (program_of s) s.node x
@@ -230,26 +231,27 @@ after_statements s xs =
     (flat_map statement_sites xs)
 
 -- the statement that a statement with resolved names stands for, or why there is none
-abbrev pub ResolvesStep :
-    (before after : Progress) → Statement → Result Step StaticError → Type 0
-ResolvesStep before after x (Ok step) =
-    (after ≡ after_expr before (right_side x)) × StepStands after x step
+abbrev pub ResolvesStatement :
+    (before after : Progress) → Statement → Result ResolvedStatement StaticError → Type 0
+ResolvesStatement before after x (Ok statement) =
+    (after ≡ after_expr before (right_side x)) × StatementStands after x statement
     × (statement_fits before x ≡ true)
-ResolvesStep before after x (Err f) = IsNameFault f (statement_fits before x)
+ResolvesStatement before after x (Err f) = IsNameFault f (statement_fits before x)
 
 -- statements that stand for some of a body
-abbrev pub StepsStand : Progress → List Statement → List Step → Type 0
-StepsStand s xs steps =
-    (map (statement_of (texts s)) steps ≡ xs)
-    × (list_all (is_step_within (counts_in (texts s))) steps ≡ true)
-    × (list_all (is_step_unhidden (texts s)) steps ≡ true)
+abbrev pub StatementsStand : Progress → List Statement → List ResolvedStatement → Type 0
+StatementsStand s xs statements =
+    (map (statement_of (texts s)) statements ≡ xs)
+    × (list_all (is_statement_within (counts_in (texts s))) statements ≡ true)
+    × (list_all (is_statement_unhidden (texts s)) statements ≡ true)
 
-abbrev pub ResolvesSteps :
-    (before after : Progress) → List Statement → Result (Vec Step Global) StaticError → Type 0
-ResolvesSteps before after xs (Ok steps) =
-    (after ≡ after_statements before xs) × StepsStand after xs steps.items
+abbrev pub ResolvesStatements :
+    (before after : Progress) → List Statement → Result (Vec ResolvedStatement Global) StaticError
+    → Type 0
+ResolvesStatements before after xs (Ok statements) =
+    (after ≡ after_statements before xs) × StatementsStand after xs statements.items
     × (list_all (statement_fits before) xs ≡ true)
-ResolvesSteps before after xs (Err f) = IsNameFault f (list_all (statement_fits before) xs)
+ResolvesStatements before after xs (Err f) = IsNameFault f (list_all (statement_fits before) xs)
 
 -- ## Declarations
 

@@ -5,8 +5,8 @@ use Rattle.std.specs.Prelude.{Bool, option_map, List, [], ◌∷◌, ◌++◌, m
 use Rattle.std.specs.Str.{bytes_eq}
 use Rattle.std.specs.List.{list_any}
 use Rattle.lb_syntax.specs.Lists.{some_of}
-use Rattle.lb_syntax.specs.Tree.{Name, Static, Whole, Named, Negated, Combined, Grouped, Node_named, Expr, Literal, Truth, Variable, Group, Unary, Binary, If, Arrow, Fby, Pre, Current, When, Copies, Index, Slice, Join, Array, AtMostOne, Nor, Call, Iterate, Exprs, Nil, Cons, Node, Statement, Equation, Assertion}
-use Rattle.lb_static.specs.Shapes.{variables}
+use Rattle.lb_syntax.specs.Tree.{Name, Static, Whole, Named, Negated, Combined, Grouped, Node_named, Expr, Literal, Truth, Variable, Group, Unary, Binary, If, Arrow, Fby, Pre, Current, When, Replicate, Index, Slice, Join, Array, AtMostOne, Nor, Call, Iterate, Exprs, Nil, Cons, Node, Statement, Equation, Assertion}
+use Rattle.lb_static.specs.DataTypes.{variables}
 
 -- a name is one of these
 abbrev pub among : Name → List Name → Bool
@@ -29,7 +29,7 @@ abbrev mutual
   parts (Pre a) = Pre a ∷ parts a
   parts (Current a) = Current a ∷ parts a
   parts (When a x sign) = When a x sign ∷ parts a
-  parts (Copies a n) = Copies a n ∷ parts a
+  parts (Replicate a n) = Replicate a n ∷ parts a
   parts (Index a i) = Index a i ∷ parts a
   parts (Slice a i j) = Slice a i j ∷ parts a
   parts (Join a b) = Join a b ∷ (parts a ++ parts b)
@@ -69,7 +69,7 @@ own_clock_names _ = []
 
 -- sizes
 abbrev pub own_sizes : Expr → List Static
-own_sizes (Copies a n) = n ∷ []
+own_sizes (Replicate a n) = n ∷ []
 own_sizes (Iterate it op n es) = n ∷ []
 own_sizes _ = []
 

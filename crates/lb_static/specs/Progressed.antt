@@ -4,15 +4,16 @@ use Rattle.std.specs.Prelude.{◌≡◌, ℕ, Vec}
 use Rattle.std.specs.declared.alloc.Global.{Global}
 use Rattle.lb_syntax.specs.declared.tree.Node.{Node}
 use Rattle.lb_static.specs.NodeProgress.{Progress, kept}
-use Rattle.lb_static.specs.declared.found.Found.{Found}
+use Rattle.lb_static.specs.declared.node_builder.NodeBuilder.{NodeBuilder}
 use Rattle.lb_static.specs.declared.resolved.ResolvedNode.{ResolvedNode}
-use Rattle.lb_static.specs.declared.resolved.Step.{Step}
+use Rattle.lb_static.specs.declared.resolved.ResolvedStatement.{ResolvedStatement}
 
-abbrev pub progress : Found → Progress
-progress f = kept f.naming f.statics.items f.calls.items f.variables.items
+abbrev pub progress : NodeBuilder → Progress
+progress f = kept f.node_scope f.statics.items f.calls.items f.variables.items
 
 -- the node of a tree with what was found of it
-pub record IsFinished (f : Found) (tree : Node) (inputs outputs : ℕ) (body : Vec Step Global)
+pub record IsFinished (f : NodeBuilder) (tree : Node) (inputs outputs : ℕ)
+    (body : Vec ResolvedStatement Global)
     (r : ResolvedNode) : Type 0 where
   pub tree_is : r.tree.now ≡ tree
   pub variables : r.variables.items ≡ f.variables.items

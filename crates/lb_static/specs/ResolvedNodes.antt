@@ -7,8 +7,8 @@ use Rattle.lb_syntax.specs.SourceView.{view_node}
 use Rattle.lb_syntax.specs.Tree.{Name, Static, Node}
 use Rattle.lb_static.specs.Instances.{node_sites}
 use Rattle.lb_static.specs.Parts.{variable_names}
-use Rattle.lb_static.specs.Shapes.{variables}
-use Rattle.lb_static.specs.ResolvedTerms.{Texts, Counts, static_of, statement_of, declaration_of, site_of, is_step_within, is_step_unhidden, is_declared_within, is_site_within}
+use Rattle.lb_static.specs.DataTypes.{variables}
+use Rattle.lb_static.specs.ResolvedTerms.{Texts, Counts, static_of, statement_of, declaration_of, site_of, is_statement_within, is_statement_unhidden, is_declared_within, is_site_within}
 use Rattle.lb_static.specs.StaticParts.{Part, node_static_parts}
 use Rattle.lb_static.specs.declared.resolved.ResolvedNode.{ResolvedNode}
 use Rattle.lb_static.specs.declared.resolved.StaticPart.{StaticPart}
@@ -53,10 +53,10 @@ pub record IsResolved (nodes : List Name) (r : ResolvedNode) : Type 0 where
   pub calls : map (site_of nodes (statics_of r)) r.calls.items ≡ node_sites (node_of r)
   pub statics : map part_of r.statics.items ≡ node_static_parts r.tree.now
   -- where it names a static parameter or a constant, no variable of its own hides it
-  pub unhidden : list_all (is_step_unhidden (texts_of r)) r.body.items ≡ true
+  pub unhidden : list_all (is_statement_unhidden (texts_of r)) r.body.items ≡ true
   -- each number is within range, and 32 bits hold those of variables
   pub declared_within : list_all (is_declared_within (counts_of r)) r.variables.items ≡ true
-  pub body_within : list_all (is_step_within (counts_of r)) r.body.items ≡ true
+  pub body_within : list_all (is_statement_within (counts_of r)) r.body.items ≡ true
   pub calls_within :
       list_all (is_site_within (length nodes) (counts_of r)) r.calls.items ≡ true
   pub variables_fit : length r.variables.items < 2 ^ 32

@@ -17,9 +17,9 @@ use Rattle.lb_static.specs.declared.resolved.Variable.{Variable as Declared}
 use Rattle.lb_static.specs.declared.resolved.CallSite.{CallSite}
 use Rattle.lb_static.specs.declared.resolved.StaticText.{StaticText}
 use Rattle.lb_static.specs.declared.resolved.StaticText.TheVariants.{Written, Named as Named_text}
-use Rattle.lb_static.specs.declared.resolved.Step.{Step}
-use Rattle.lb_static.specs.declared.resolved.Step.TheVariants as step
-use Rattle.lb_static.specs.declared.resolved.Term.{Term, Literal, Truth, Variable, Value, Group', Unary', Binary', If', Arrow', Fby', Pre', Current', When', Copies', Index', Slice', Join', Array', AtMostOne', Nor', Call', IterateNode', IterateSymbol', Row_of-Term, end_of-Term, more_of-Term}
+use Rattle.lb_static.specs.declared.resolved.ResolvedStatement.{ResolvedStatement}
+use Rattle.lb_static.specs.declared.resolved.ResolvedStatement.TheVariants as statement
+use Rattle.lb_static.specs.declared.resolved.Term.{Term, Literal, Truth, Variable, Value, Group', Unary', Binary', If', Arrow', Fby', Pre', Current', When', Replicate', Index', Slice', Join', Array', AtMostOne', Nor', Call', IterateNode', IterateSymbol', Row_of-Term, end_of-Term, more_of-Term}
 
 -- ## What the numbers of a node stand for
 
@@ -80,17 +80,17 @@ abbrev mutual
   expr_of t (Pre' p e) = tree.Pre (expr_of t e)
   expr_of t (Current' p e) = tree.Current (expr_of t e)
   expr_of t (When' p e x sign) = tree.When (expr_of t e) (name_at t.variables x) sign
-  expr_of t (Copies' p e n) = tree.Copies (expr_of t e) (static_at t.statics n)
+  expr_of t (Replicate' p e n) = tree.Replicate (expr_of t e) (static_at t.statics n)
   expr_of t (Index' p e i) = tree.Index (expr_of t e) (static_at t.statics i)
   expr_of t (Slice' p e i j) =
       tree.Slice (expr_of t e) (static_at t.statics i) (static_at t.statics j)
   expr_of t (Join' p a q b) = tree.Join (expr_of t a) (expr_of t b)
-  expr_of t (Array' shape all) = tree.Array (row_of t all)
-  expr_of t (AtMostOne' shape all) = tree.AtMostOne (row_of t all)
-  expr_of t (Nor' shape all) = tree.Nor (row_of t all)
-  expr_of t (Call' c shape all) = call_expr (site_at t.calls c) (row_of t all)
-  expr_of t (IterateNode' it c shape all) = iterate_expr it (site_at t.calls c) (row_of t all)
-  expr_of t (IterateSymbol' it op n shape all) =
+  expr_of t (Array' arity all) = tree.Array (row_of t all)
+  expr_of t (AtMostOne' arity all) = tree.AtMostOne (row_of t all)
+  expr_of t (Nor' arity all) = tree.Nor (row_of t all)
+  expr_of t (Call' c arity all) = call_expr (site_at t.calls c) (row_of t all)
+  expr_of t (IterateNode' it c arity all) = iterate_expr it (site_at t.calls c) (row_of t all)
+  expr_of t (IterateSymbol' it op n arity all) =
       tree.Iterate it (tree.Symbol op) (static_at t.statics n) (row_of t all)
 
   pub row_of : {m : _} → Texts → Row_of-Term m → Exprs
@@ -102,10 +102,10 @@ abbrev pub exprs_of : Texts → List Term → Exprs
 exprs_of t [] = Nil
 exprs_of t (e ∷ es) = Cons (expr_of t e) (exprs_of t es)
 
-abbrev pub statement_of : Texts → Step → Statement
-statement_of t (step.Equation lefts e) =
+abbrev pub statement_of : Texts → ResolvedStatement → Statement
+statement_of t (statement.Equation lefts e) =
     tree.Equation (map (name_at t.variables) lefts.items) (expr_of t e)
-statement_of t (step.Assertion e) = tree.Assertion (expr_of t e)
+statement_of t (statement.Assertion e) = tree.Assertion (expr_of t e)
 
 -- ## Declarations and calls
 
@@ -165,25 +165,25 @@ abbrev mutual
   is_within n (Pre' p e) = is_within n e
   is_within n (Current' p e) = is_within n e
   is_within n (When' p e x sign) = is_variable n x && is_within n e
-  is_within n (Copies' p e i) = is_static n i && is_within n e
+  is_within n (Replicate' p e i) = is_static n i && is_within n e
   is_within n (Index' p e i) = is_static n i && is_within n e
   is_within n (Slice' p e i j) = is_static n i && (is_static n j && is_within n e)
   is_within n (Join' p a q b) = is_within n a && is_within n b
-  is_within n (Array' shape all) = are_within n all
-  is_within n (AtMostOne' shape all) = are_within n all
-  is_within n (Nor' shape all) = are_within n all
-  is_within n (Call' c shape all) = is_call n c && are_within n all
-  is_within n (IterateNode' it c shape all) = is_call n c && are_within n all
-  is_within n (IterateSymbol' it op i shape all) = is_static n i && are_within n all
+  is_within n (Array' arity all) = are_within n all
+  is_within n (AtMostOne' arity all) = are_within n all
+  is_within n (Nor' arity all) = are_within n all
+  is_within n (Call' c arity all) = is_call n c && are_within n all
+  is_within n (IterateNode' it c arity all) = is_call n c && are_within n all
+  is_within n (IterateSymbol' it op i arity all) = is_static n i && are_within n all
 
   pub are_within : {m : _} → Counts → Row_of-Term m → Bool
   are_within n end_of-Term = true
   are_within n (more_of-Term e rest) = is_within n e && are_within n rest
 
-abbrev pub is_step_within : Counts → Step → Bool
-is_step_within n (step.Equation lefts e) =
+abbrev pub is_statement_within : Counts → ResolvedStatement → Bool
+is_statement_within n (statement.Equation lefts e) =
     list_all (is_variable n) lefts.items && is_within n e
-is_step_within n (step.Assertion e) = is_within n e
+is_statement_within n (statement.Assertion e) = is_within n e
 
 abbrev pub is_sampling_within : Counts → Option Sampling → Bool
 is_sampling_within n None = true
@@ -217,24 +217,24 @@ abbrev mutual
   is_unhidden t (Pre' p e) = is_unhidden t e
   is_unhidden t (Current' p e) = is_unhidden t e
   is_unhidden t (When' p e x sign) = is_unhidden t e
-  is_unhidden t (Copies' p e i) = is_unhidden t e
+  is_unhidden t (Replicate' p e i) = is_unhidden t e
   is_unhidden t (Index' p e i) = is_unhidden t e
   is_unhidden t (Slice' p e i j) = is_unhidden t e
   is_unhidden t (Join' p a q b) = is_unhidden t a && is_unhidden t b
-  is_unhidden t (Array' shape all) = are_unhidden t all
-  is_unhidden t (AtMostOne' shape all) = are_unhidden t all
-  is_unhidden t (Nor' shape all) = are_unhidden t all
-  is_unhidden t (Call' c shape all) = are_unhidden t all
-  is_unhidden t (IterateNode' it c shape all) = are_unhidden t all
-  is_unhidden t (IterateSymbol' it op i shape all) = are_unhidden t all
+  is_unhidden t (Array' arity all) = are_unhidden t all
+  is_unhidden t (AtMostOne' arity all) = are_unhidden t all
+  is_unhidden t (Nor' arity all) = are_unhidden t all
+  is_unhidden t (Call' c arity all) = are_unhidden t all
+  is_unhidden t (IterateNode' it c arity all) = are_unhidden t all
+  is_unhidden t (IterateSymbol' it op i arity all) = are_unhidden t all
 
   pub are_unhidden : {m : _} → Texts → Row_of-Term m → Bool
   are_unhidden t end_of-Term = true
   are_unhidden t (more_of-Term e rest) = is_unhidden t e && are_unhidden t rest
 
-abbrev pub is_step_unhidden : Texts → Step → Bool
-is_step_unhidden t (step.Equation lefts e) = is_unhidden t e
-is_step_unhidden t (step.Assertion e) = is_unhidden t e
+abbrev pub is_statement_unhidden : Texts → ResolvedStatement → Bool
+is_statement_unhidden t (statement.Equation lefts e) = is_unhidden t e
+is_statement_unhidden t (statement.Assertion e) = is_unhidden t e
 
 -- a call site, where the source has so many nodes
 abbrev pub is_site_within : (nodes : ℕ) → Counts → CallSite → Bool

@@ -1,14 +1,14 @@
--- What is answered of the shape of the node under test and of the observer.
+-- What is answered of the interface of the node under test and of the observer.
 -- This file says what data of the program mean; no definition of the language stands on it.
 use Rattle.std.specs.Prelude.{◌≡◌, Bool, true, false, ◌&&◌, nat_eq, nat_le, [], ◌∷◌, length, map, Option, Result, Ok, Err}
 use Rattle.std.specs.List.{list_all}
 use Rattle.lb_syntax.specs.Lists.{either_or, holds, some_of, where_true}
 use Rattle.lb_static.specs.Instances.{Program, Root, instance_at}
-use Rattle.lb_static.specs.Interfaces.{Face, elements_in_all, elements_named, inputs_of, property_in}
+use Rattle.lb_static.specs.Interfaces.{InterfaceView, elements_in_all, elements_named, inputs_of, property_in}
 use Rattle.lb_static.specs.ReachedNodes.{tree_at}
-use Rattle.lb_static.specs.Shapes.{signature}
+use Rattle.lb_static.specs.DataTypes.{signature}
 use Rattle.lb_static.specs.Signature.{Elements}
-use Rattle.lb_static.specs.Walk.{is_root}
+use Rattle.lb_static.specs.Instantiation.{is_root}
 use Rattle.lb_static.specs.declared.error.StaticError.{StaticError}
 use Rattle.lb_static.specs.declared.error.StaticError.TheVariants as error
 use Rattle.lb_static.specs.declared.reach.NodeId.{NodeId}
@@ -20,19 +20,20 @@ abbrev pub has_no_parameters_at : Reached → NodeId → Bool
 has_no_parameters_at r id =
     list_all (λ n. nat_eq (length n.parameters) 0) (some_of (tree_at r id ∷ []))
 
--- whether a node under test with these inputs and outputs has the shape that it may have
-abbrev pub is_root_in : Reached → Table → Face → Bool
+-- whether a node under test with these inputs and outputs has the interface that it may have
+abbrev pub is_root_in : Reached → Table → InterfaceView → Bool
 is_root_in r t f =
     f.is_plain
     && (nat_le (elements_in_all (inputs_of f)) 1023 && either_or (property_in r t f) false)
 
--- the scalar inputs of a node under test with these inputs and outputs, where it has that shape
-abbrev pub signature_in : Reached → Table → Face → Option Elements
+-- the scalar inputs of a node under test with these inputs and outputs, where it has that interface
+abbrev pub signature_in : Reached → Table → InterfaceView → Option Elements
 signature_in r t f =
     where_true (is_root_in r t f)
     (elements_named (map (λ d. d.name) f.node.inputs) (inputs_of f))
 
--- the signature of a program whose node under test and observer have the shape that they may have,
+-- the signature of a program whose node under test and observer have the interface that they may
+-- have,
 -- or that they have not, unless memory ran out
 abbrev pub IsRootAnswer : Program → Result Elements StaticError → Type 0
 IsRootAnswer P (Ok s) = (holds (is_root P) (instance_at P Root) ≡ true) × (s ≡ signature P)

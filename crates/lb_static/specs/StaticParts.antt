@@ -5,7 +5,7 @@ use Rattle.std.specs.Prelude.{Bool, cond, List, [], ◌∷◌, ◌++◌, map, fl
 use Rattle.lb_syntax.specs.Grammar.{Group}
 use Rattle.lb_syntax.specs.SourceView.{view_groups, view_node}
 use Rattle.lb_syntax.specs.Tree as tree
-use Rattle.lb_syntax.specs.Tree.{Name, Static, Node_named, Symbol, Expr, Literal, Truth, Variable, Unary, Binary, If, Arrow, Fby, Pre, Current, When, Copies, Slice, Join, Array, AtMostOne, Nor, Call, Iterate, Exprs, Nil, Cons, Statement}
+use Rattle.lb_syntax.specs.Tree.{Name, Static, Node_named, Symbol, Expr, Literal, Truth, Variable, Unary, Binary, If, Arrow, Fby, Pre, Current, When, Replicate, Slice, Join, Array, AtMostOne, Nor, Call, Iterate, Exprs, Nil, Cons, Statement}
 use Rattle.lb_syntax.specs.declared.tree.Node as written
 use Rattle.lb_static.specs.Parts.{among, right_side, variable_names}
 use Rattle.lb_static.specs.declared.resolved.Role.{Role}
@@ -35,7 +35,7 @@ abbrev mutual
   parts_of variable (Pre a) = parts_of variable a
   parts_of variable (Current a) = parts_of variable a
   parts_of variable (When a x sign) = parts_of variable a
-  parts_of variable (Copies a n) = (Size, n) ∷ parts_of variable a
+  parts_of variable (Replicate a n) = (Size, n) ∷ parts_of variable a
   parts_of variable (tree.Index a i) = (Index, i) ∷ parts_of variable a
   parts_of variable (Slice a i j) = (SliceStart, i) ∷ ((SliceEnd, j) ∷ parts_of variable a)
   parts_of variable (Join a b) = parts_of variable a ++ parts_of variable b

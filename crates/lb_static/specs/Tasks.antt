@@ -4,12 +4,12 @@ use Rattle.std.specs.Prelude.{ℕ, ◌+◌, Bool, cond, List, [], ◌∷◌, len
 use Rattle.lb_syntax.specs.Tree.{Constant}
 use Rattle.lb_static.specs.Parts.{static_names}
 use Rattle.lb_static.specs.declared.constants.Task.{Task}
-use Rattle.lb_static.specs.declared.constants.Task.TheVariants.{Visit, Settle}
+use Rattle.lb_static.specs.declared.constants.Task.TheVariants.{Visit, Evaluate}
 
 -- the place of the constant that a task speaks of
 abbrev pub place_of : Task → ℕ
 place_of (Visit place) = place
-place_of (Settle place) = place
+place_of (Evaluate place) = place
 
 -- how many tasks may still come up at the constants that are not seen yet: two of each, and one of
 -- each name in it

@@ -12,13 +12,13 @@ ghost use Rattle.lb_static.specs.NameFaults.{named_in, IsNameFault};
 ghost use Rattle.lb_static.specs.Names.{are_distinct};
 ghost use Rattle.lb_static.specs.Parts.{among, static_names};
 ghost use Rattle.lb_static.specs.ResolvedNodes.{IsResolved, node_of};
-ghost use Rattle.lb_static.specs.Visiting.{visited_after_all};
+ghost use Rattle.lb_static.specs.WorkLists.{visited_after_all};
 
 use crate::error::StaticError;
 use crate::globals::{Globals, refused_name};
 use crate::resolved::{ResolvedNode, StaticPart, StaticText};
 use crate::scope::Scope;
-use crate::visits::Visits;
+use crate::work_list::WorkList;
 use lb_syntax::tree::{Name, Source, Static};
 use std::alloc::{AllocError, Global};
 
@@ -27,18 +27,18 @@ fn visit_name(
     name: &Name,
     globals: &Globals,
     hidden: &Scope,
-    visits: &mut Visits,
+    work_list: &mut WorkList,
 ) -> Result<(), AllocError>
-    requires { visits.old.count ≡ globals.now.constants }
-    ensures order { OnOk result (visits.new.order
-        ≡ visited_after_all visits.old.order (place_named globals.now hidden.now name.now)) }
-    ensures count { OnOk result (visits.new.count ≡ visits.old.count) }
+    requires { work_list.old.count ≡ globals.now.constants }
+    ensures order { OnOk result (work_list.new.order
+        ≡ visited_after_all work_list.old.order (place_named globals.now hidden.now name.now)) }
+    ensures count { OnOk result (work_list.new.count ≡ work_list.old.count) }
 {
     if hidden.place(name.as_str()).is_some() {
         return Ok(());
     }
     if let Some(place) = globals.constant_place(name.as_str()) {
-        visits.visit(place)?;
+        work_list.visit(place)?;
     }
     Ok(())
 }
@@ -48,22 +48,22 @@ fn visit_names(
     expression: &Static,
     globals: &Globals,
     hidden: &Scope,
-    visits: &mut Visits,
+    work_list: &mut WorkList,
 ) -> Result<(), AllocError>
-    requires { visits.old.count ≡ globals.now.constants }
-    ensures order { OnOk result (visits.new.order ≡ visited_after_all visits.old.order
+    requires { work_list.old.count ≡ globals.now.constants }
+    ensures order { OnOk result (work_list.new.order ≡ visited_after_all work_list.old.order
         (places_named globals.now hidden.now (static_names (view_static expression.now)))) }
-    ensures count { OnOk result (visits.new.count ≡ visits.old.count) }
+    ensures count { OnOk result (work_list.new.count ≡ work_list.old.count) }
 {
     match expression {
         Static::Whole(_) => Ok(()),
-        Static::Named(x) => visit_name(x, globals, hidden, visits),
+        Static::Named(x) => visit_name(x, globals, hidden, work_list),
         Static::Grouped(inner) | Static::Negated(inner) => {
-            visit_names(inner, globals, hidden, visits)
+            visit_names(inner, globals, hidden, work_list)
         }
         Static::Combined(_, left, right) => {
-            visit_names(left, globals, hidden, visits)?;
-            visit_names(right, globals, hidden, visits)
+            visit_names(left, globals, hidden, work_list)?;
+            visit_names(right, globals, hidden, work_list)
         }
     }
 }
@@ -104,17 +104,17 @@ fn visit_parts(
     parts: &[StaticPart],
     globals: &Globals,
     hidden: &Scope,
-    visits: &mut Visits,
+    work_list: &mut WorkList,
 ) -> Result<(), AllocError>
-    requires { visits.old.count ≡ globals.now.constants }
-    ensures order { OnOk result (visits.new.order ≡ visited_after_all visits.old.order
+    requires { work_list.old.count ≡ globals.now.constants }
+    ensures order { OnOk result (work_list.new.order ≡ visited_after_all work_list.old.order
         (flat_map (part_constants globals.now hidden.now) parts.now)) }
-    ensures count { OnOk result (visits.new.count ≡ visits.old.count) }
+    ensures count { OnOk result (work_list.new.count ≡ work_list.old.count) }
 {
     for part in parts {
         match part.text {
-            StaticText::Written(expression) => visit_names(expression, globals, hidden, visits)?,
-            StaticText::Named(name) => visit_name(name, globals, hidden, visits)?,
+            StaticText::Written(expression) => visit_names(expression, globals, hidden, work_list)?,
+            StaticText::Named(name) => visit_name(name, globals, hidden, work_list)?,
         }
     }
     Ok(())
@@ -125,15 +125,15 @@ fn visit_node(
     alloc: Global,
     node: &ResolvedNode,
     globals: &Globals,
-    visits: &mut Visits,
+    work_list: &mut WorkList,
 ) -> Result<(), AllocError>
-    requires { visits.old.count ≡ globals.now.constants }
-    ensures order { OnOk result (visits.new.order
-        ≡ visited_after_all visits.old.order (node_constants globals.now node.now)) }
-    ensures count { OnOk result (visits.new.count ≡ visits.old.count) }
+    requires { work_list.old.count ≡ globals.now.constants }
+    ensures order { OnOk result (work_list.new.order
+        ≡ visited_after_all work_list.old.order (node_constants globals.now node.now)) }
+    ensures count { OnOk result (work_list.new.count ≡ work_list.old.count) }
 {
     let hidden = parameters_of(alloc, &node.tree.parameters)?;
-    visit_parts(&node.statics, globals, &hidden, visits)
+    visit_parts(&node.statics, globals, &hidden, work_list)
 }
 
 /// Visits the constants that some nodes name.
@@ -141,46 +141,46 @@ fn visit_nodes(
     alloc: Global,
     nodes: &[ResolvedNode],
     globals: &Globals,
-    visits: &mut Visits,
+    work_list: &mut WorkList,
 ) -> Result<(), AllocError>
-    requires { visits.old.count ≡ globals.now.constants }
-    ensures order { OnOk result (visits.new.order
-        ≡ visited_after_all visits.old.order (flat_map (node_constants globals.now) nodes.now)) }
-    ensures count { OnOk result (visits.new.count ≡ visits.old.count) }
+    requires { work_list.old.count ≡ globals.now.constants }
+    ensures order { OnOk result (work_list.new.order
+        ≡ visited_after_all work_list.old.order (flat_map (node_constants globals.now) nodes.now)) }
+    ensures count { OnOk result (work_list.new.count ≡ work_list.old.count) }
 {
     for node in nodes {
-        visit_node(alloc, node, globals, visits)?;
+        visit_node(alloc, node, globals, work_list)?;
     }
     Ok(())
 }
 
 /// Judges the names in the value of each constant that came up, and visits what they stand for.
-fn judge_visited(
+fn check_visited(
     alloc: Global,
     globals: &Globals,
     source: &Source,
     nothing: &Scope,
-    visits: &mut Visits,
+    work_list: &mut WorkList,
 ) -> Result<(), StaticError>
     requires nothing { nothing.now ≡ [] }
     requires names { globals.now.names ≡ names_in_source (view_source source.now) }
     requires constants { globals.now.constants ≡ length source.now.constants.items }
     requires once { are_distinct (names_in_source (view_source source.now)) ≡ true }
-    requires count { visits.old.count ≡ globals.now.constants }
+    requires count { work_list.old.count ≡ globals.now.constants }
     ensures ok { OnOk result ((xs : List TreeName)
-        → AreNamed (view_source source.now) xs visits.old.order
+        → AreNamed (view_source source.now) xs work_list.old.order
         → keeps_constants (view_source source.now) xs ≡ true) }
     ensures err { IfErr result (λ e. (xs : List TreeName)
-        → AreNamed (view_source source.now) xs visits.old.order
+        → AreNamed (view_source source.now) xs work_list.old.order
         → IsNameFault e (keeps_constants (view_source source.now) xs)) }
 {
     let mut done = 0;
-    while let Some(place) = visits.place(done) {
+    while let Some(place) = work_list.place(done) {
         let value = &source.constants[place].value;
         if let Some(name) = unknown_name(value, globals) {
             return Err(refused_name(alloc, name.as_str()));
         }
-        visit_names(value, globals, nothing, visits)?;
+        visit_names(value, globals, nothing, work_list)?;
         done += 1;
     }
     Ok(())
@@ -188,12 +188,12 @@ fn judge_visited(
 
 /// Judges the constants that some nodes name, and those that these name in turn; none of them came
 /// up before.
-fn judge_named(
+fn check_named(
     alloc: Global,
     globals: &Globals,
     source: &Source,
     nodes: &[ResolvedNode],
-    visits: &mut Visits,
+    work_list: &mut WorkList,
 ) -> Result<(), StaticError>
     requires names { globals.now.names ≡ names_in_source (view_source source.now) }
     requires constants { globals.now.constants ≡ length source.now.constants.items }
@@ -202,20 +202,20 @@ fn judge_named(
         (view_source source.now).nodes)) nodes.now }
     requires named { list_all (λ r. named_in (view_source source.now) (node_of r)) nodes.now
         ≡ true }
-    requires none { visits.old.order ≡ [] }
-    requires count { visits.old.count ≡ globals.now.constants }
+    requires none { work_list.old.order ≡ [] }
+    requires count { work_list.old.count ≡ globals.now.constants }
     ensures ok { OnOk result (keeps_constants_of (view_source source.now) nodes.now ≡ true) }
     ensures err { IfErr result (λ e.
         IsNameFault e (keeps_constants_of (view_source source.now) nodes.now)) }
 {
-    visit_nodes(alloc, nodes, globals, visits)?;
+    visit_nodes(alloc, nodes, globals, work_list)?;
     let nothing = Scope::new(alloc);
-    judge_visited(alloc, globals, source, &nothing, visits)
+    check_visited(alloc, globals, source, &nothing, work_list)
 }
 
 /// Judges the constants that reached nodes name, and those that these name in turn: an unknown
 /// name in the value of one of them is refused.
-pub fn judge_constants(
+pub fn check_constants(
     alloc: Global,
     globals: &Globals,
     source: &Source,
@@ -232,6 +232,6 @@ pub fn judge_constants(
     ensures err { IfErr result (λ e.
         IsNameFault e (keeps_constants_of (view_source source.now) nodes.now)) }
 {
-    let mut visits = Visits::new(alloc, source.constants.len())?;
-    judge_named(alloc, globals, source, nodes, &mut visits)
+    let mut work_list = WorkList::new(alloc, source.constants.len())?;
+    check_named(alloc, globals, source, nodes, &mut work_list)
 }

@@ -1,9 +1,10 @@
 //! The values of the named constants of a source.
 //!
 //! A constant may name others that stand before it or after it, in a chain as long as the source,
-//! so no call goes along a chain: a walk with its own stack settles each constant after those that
-//! it names. Of `const a = b + 1; b = 2;` it visits `a` and then `b`, and settles `b` and then `a`.
-//! A constant that needs itself is settled while a value that it needs is not known, and gets none.
+//! so no call goes along a chain: a walk with its own stack evaluates each constant after those
+//! that it names. Of `const a = b + 1; b = 2;` it visits `a` and then `b`, and evaluates `b` and
+//! then `a`. A constant that needs itself is evaluated while a value that it needs is not known,
+//! and gets none.
 //!
 //! The order of the walk saves time, and no value depends on it: a value that is had from values
 //! that are known is right, and where no constant gets a value any more, all values are known.
@@ -12,7 +13,7 @@
 ghost use Rattle.std.specs.Prelude.{◌≡◌, ◌<◌, ◌≤◌, ◌+◌, ℕ, [], true, false, map, length, IfOk, OnOk, All};
 ghost use Rattle.lb_syntax.specs.SourceView.{view_constant};
 ghost use Rattle.lb_syntax.specs.View.{view_static};
-ghost use Rattle.lb_static.specs.ConstantValues.{names_of, known, read_constants, value_held, AreFirst, AreSettled, IsSettled, IsSound};
+ghost use Rattle.lb_static.specs.ConstantValues.{names_of, known, read_constants, value_held, AreFirst, AreStable, IsStable, IsSound};
 ghost use Rattle.lb_static.specs.Tasks.{place_of};
 ghost use Rattle.lb_static.specs.Parts.{static_names};
 ghost use Rattle.lb_static.specs.StaticValues.{constant_value};
@@ -63,9 +64,9 @@ impl Values for Known<'_> {
     }
 }
 
-/// Settles the constant at a place: its value is known from now on, if it was not and is had from
+/// Evaluates the constant at a place: its value is known from now on, if it was not and is had from
 /// those that were. Answers whether it is known anew.
-fn settle(
+fn evaluate(
     constants: &[&Constant],
     names: &Scope,
     values: &mut [Option<StaticInt>],
@@ -77,8 +78,8 @@ fn settle(
     ensures sound { IsSound (read_constants constants.now) values.new }
     ensures more { result ≡ true → known values.old < known values.new }
     ensures same { result ≡ false → values.new ≡ values.old }
-    ensures settled { result ≡ false →
-        IsSettled (read_constants constants.now) values.old place }
+    ensures stable { result ≡ false →
+        IsStable (read_constants constants.now) values.old place }
 {
     if values[place].is_some() {
         return false;
@@ -92,19 +93,19 @@ fn settle(
     }
 }
 
-/// Settles each constant in the order of the source. Answers whether a value is known anew; if none
-/// is, each constant has a value that is known, or none.
-fn settle_all(constants: &[&Constant], names: &Scope, values: &mut [Option<StaticInt>]) -> bool
+/// Evaluates each constant in the order of the source. Answers whether a value is known anew; if
+/// none is, each constant has a value that is known, or none.
+fn evaluate_all(constants: &[&Constant], names: &Scope, values: &mut [Option<StaticInt>]) -> bool
     requires same_names { names.now ≡ names_of (read_constants constants.now) }
     requires sound { IsSound (read_constants constants.now) values.old }
     ensures sound { IsSound (read_constants constants.now) values.new }
     ensures more { result ≡ true → known values.old < known values.new }
-    ensures settled { result ≡ false →
-        AreSettled (read_constants constants.now) values.new }
+    ensures stable { result ≡ false →
+        AreStable (read_constants constants.now) values.new }
 {
     let mut is_more = false;
     for place in 0..constants.len() {
-        if settle(constants, names, values, place) {
+        if evaluate(constants, names, values, place) {
             is_more = true;
         }
     }
@@ -117,7 +118,7 @@ enum Task {
     /// The constant at this place and those that it names, unless that began before.
     Visit(usize),
     /// The constant at this place, after those that it names.
-    Settle(usize),
+    Evaluate(usize),
 }
 
 /// Puts a visit of each constant that an expression names onto the tasks.
@@ -143,8 +144,8 @@ fn visit_names(expression: &Static, names: &Scope, tasks: &mut Vec<Task>) -> Res
     }
 }
 
-/// Visits each constant that was not seen, and settles it after those that it names, as far as they
-/// do not need it. There is no task yet.
+/// Visits each constant that was not seen, and evaluates it after those that it names, as far as
+/// they do not need it. There is no task yet.
 fn visit_each(
     constants: &[&Constant],
     names: &Scope,
@@ -166,20 +167,20 @@ fn visit_each(
             Task::Visit(place) => {
                 if !seen[place] {
                     seen[place] = true;
-                    tasks.push(Task::Settle(place))?;
+                    tasks.push(Task::Evaluate(place))?;
                     visit_names(&constants[place].value, names, tasks)?;
                 }
             }
-            Task::Settle(place) => {
-                settle(constants, names, values, place);
+            Task::Evaluate(place) => {
+                evaluate(constants, names, values, place);
             }
         }
     }
     Ok(())
 }
 
-/// Settles each constant after those that it names, as far as they do not need it.
-fn walk(
+/// Evaluates each constant after those that it names, as far as they do not need it.
+fn evaluate_in_order(
     alloc: Global,
     constants: &[&Constant],
     names: &Scope,
@@ -224,11 +225,11 @@ fn values_of(
 ) -> Result<Vec<Option<StaticInt>>, AllocError>
     requires { names.now ≡ names_of (read_constants constants.now) }
     ensures sound { IfOk result (λ v. IsSound (read_constants constants.now) v.items) }
-    ensures settled { IfOk result (λ v. AreSettled (read_constants constants.now) v.items) }
+    ensures stable { IfOk result (λ v. AreStable (read_constants constants.now) v.items) }
 {
     let mut values = vec![in alloc; None; constants.len()]?;
-    walk(alloc, constants, names, &mut values)?;
-    while settle_all(constants, names, &mut values) {}
+    evaluate_in_order(alloc, constants, names, &mut values)?;
+    while evaluate_all(constants, names, &mut values) {}
     Ok(values)
 }
 

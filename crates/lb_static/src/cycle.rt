@@ -1,11 +1,11 @@
 //! Cycles in a graph of calls.
 //!
-//! A chain of calls may be as long as the source, so no function calls itself along it: the walk
+//! A chain of calls may be as long as the source, so no function calls itself along it: the search
 //! holds its path in a vector. It follows each call once, so its time is linear in nodes and calls.
 
 ghost use Rattle.std.specs.Prelude.{◌≡◌, [], map, None, IfOk};
 ghost use Rattle.lb_static.specs.CallGraphs.{AreWithin, IsCycleAnswer};
-ghost use Rattle.lb_static.specs.CycleSearch.{IsAt, IsBetween, IsWalkAnswer};
+ghost use Rattle.lb_static.specs.CycleSearch.{IsAt, IsBetween, IsSearchAnswer};
 ghost use Rattle.lb_static.specs.declared.cycle.Progress.TheVariants.{Unseen};
 
 use std::alloc::{AllocError, Global};
@@ -47,7 +47,7 @@ impl<'g> Frame<'g> {
 /// Follows the calls of a node that was not begun; there is nothing on the path. Answers a node
 /// that reaches itself, if it meets one; if not, the node is done, with all that it reaches, and
 /// there is nothing on the path again.
-fn walk_from<'g>(
+fn search_from<'g>(
     graph: &'g [Vec<usize>],
     progress: &mut [Progress],
     path: &mut Vec<Frame<'g>>,
@@ -58,7 +58,7 @@ fn walk_from<'g>(
     requires unseen { IsAt progress.old start Unseen }
     requires none { path.old.items ≡ [] }
     ensures answer { IfOk result
-        (IsWalkAnswer (map (λ v. v.items) graph.now) progress.old start progress.new) }
+        (IsSearchAnswer (map (λ v. v.items) graph.now) progress.old start progress.new) }
     ensures none { IfOk result (λ found. found ≡ None → path.new.items ≡ []) }
 {
     progress[start] = Progress::Open;
@@ -83,9 +83,9 @@ fn walk_from<'g>(
     Ok(None)
 }
 
-/// Walks from each node that is not begun by then. Nothing is begun yet, and there is nothing on
+/// Searches from each node that is not begun by then. Nothing is begun yet, and there is nothing on
 /// the path.
-fn walk_from_each<'g>(
+fn search_from_each<'g>(
     graph: &'g [Vec<usize>],
     progress: &mut [Progress],
     path: &mut Vec<Frame<'g>>,
@@ -97,7 +97,7 @@ fn walk_from_each<'g>(
 {
     for start in 0..graph.len() {
         if matches!(progress[start], Progress::Unseen) {
-            if let Some(node) = walk_from(graph, progress, path, start)? {
+            if let Some(node) = search_from(graph, progress, path, start)? {
                 return Ok(Some(node));
             }
         }
@@ -113,5 +113,5 @@ pub fn find_cycle(alloc: Global, graph: &[Vec<usize>]) -> Result<Option<usize>, 
 {
     let mut progress = vec![in alloc; Progress::Unseen; graph.len()]?;
     let mut path = Vec::new(alloc);
-    walk_from_each(graph, &mut progress, &mut path)
+    search_from_each(graph, &mut progress, &mut path)
 }

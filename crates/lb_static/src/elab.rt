@@ -40,10 +40,10 @@ impl<'s> Model for Elab<'s> {
     ghost use mir.Syntax.{named};
     ghost use Rattle.std.specs.Prelude.{[]};
     ghost use Rattle.lb_static.specs.contracts.elab.Elaboration.{the_row};
-    ghost use Rattle.lb_static.specs.declared.elab.Elaboration.{Elaboration as Found};
+    ghost use Rattle.lb_static.specs.declared.elab.Elaboration.{Elaboration as ElaborationValue};
     ghost use Rattle.lb_static.specs.Elaborated.{IsLawful};
 
-    ghost Value = { Found };
+    ghost Value = { ElaborationValue };
 
     ghost coded = { (the_row (record { mir = named 0; lft = [] })).coded };
 

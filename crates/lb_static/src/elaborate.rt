@@ -9,30 +9,34 @@ ghost use Rattle.lb_static.specs.Instances.{Program};
 ghost use Rattle.lb_static.specs.Names.{keeps_names};
 ghost use Rattle.lb_static.specs.ReachedNodes.{IsReached};
 
+use crate::check_interface::{check_interface, have_no_parameters};
+use crate::check_recursion::check_recursion;
 use crate::constants::Constants;
 use crate::elab::{Elab, Elaboration};
 use crate::error::StaticError;
-use crate::judge_calls::judge_calls;
-use crate::judge_names::judge_names;
-use crate::judge_root::{have_no_parameters, judge_root};
+use crate::instantiate::instantiate;
 use crate::reach::Reached;
+use crate::resolve_names::resolve_names;
 use crate::table::Table;
-use crate::walk::walk;
 use lb_syntax::tree::Source;
 use std::alloc::Global;
 
 /// The instances of a program whose names are judged, with their static values.
-fn judge_instances(alloc: Global, source: &Source, reached: &Reached) -> Result<Table, StaticError>
+fn instances_of_program(
+    alloc: Global,
+    source: &Source,
+    reached: &Reached,
+) -> Result<Table, StaticError>
     requires { (P : Program) × IsReached P reached.now }
     ensures { (P : Program) → keeps_names P ≡ true → IsReached P reached.now
         → P.source ≡ view_source source.now → IsTableAnswer P reached.now result }
 {
-    judge_calls(alloc, reached)?;
+    check_recursion(alloc, reached)?;
     if !have_no_parameters(reached) {
         return Err(StaticError::Root);
     }
     let constants = Constants::new(alloc, &source.constants)?;
-    walk(alloc, reached, &constants)
+    instantiate(alloc, reached, &constants)
 }
 
 /// The program of a node under test, and of its observer if there is one: the nodes that are
@@ -50,9 +54,9 @@ pub fn elaborate<'s>(
     ensures { Elaborates
         (program_of source.now node.now (option_map (λ o. o.now) observer.entry)) result }
 {
-    let reached = judge_names(alloc, source, node, observer)?;
-    let table = judge_instances(alloc, source, &reached)?;
-    let signature = judge_root(alloc, &reached, &table)?;
+    let reached = resolve_names(alloc, source, node, observer)?;
+    let table = instances_of_program(alloc, source, &reached)?;
+    let signature = check_interface(alloc, &reached, &table)?;
     Ok(Elab::new(Elaboration {
         source,
         node,

@@ -1,10 +1,10 @@
 //! The names of the scalar elements of a variable.
 
 ghost use Rattle.std.specs.Prelude.{◌≡◌, ◌≤◌, ◌+◌, ◌++◌, map, length, string_bytes, OnOk, IfOk};
-ghost use Rattle.lb_static.specs.Interfaces.{elements_in_all, elements_named, shapes_seen};
-ghost use Rattle.lb_static.specs.Shapes.{element_names, index_text, product};
+ghost use Rattle.lb_static.specs.Interfaces.{elements_in_all, elements_named, view_types};
+ghost use Rattle.lb_static.specs.DataTypes.{element_names, index_text, product};
 
-use crate::shape::Shape;
+use crate::data_type::DataType;
 use crate::signature::Signature;
 use lb_syntax::tree::{Kind, Name};
 use std::alloc::{AllocError, Global};
@@ -42,19 +42,23 @@ pub fn push_elements(
 }
 
 /// The scalar elements of variables of these names and types.
-pub fn elements(alloc: Global, names: &[&Name], shapes: &[Shape]) -> Result<Signature, AllocError>
-    requires { elements_in_all (shapes_seen shapes.now) ≤ 1023 }
+pub fn elements(
+    alloc: Global,
+    names: &[&Name],
+    data_types: &[DataType],
+) -> Result<Signature, AllocError>
+    requires { elements_in_all (view_types data_types.now) ≤ 1023 }
     ensures { IfOk result (λ signature. signature
-        ≡ elements_named (map (λ x. x.now) names.now) (shapes_seen shapes.now)) }
+        ≡ elements_named (map (λ x. x.now) names.now) (view_types data_types.now)) }
 {
     let mut signature = Signature::new(alloc);
-    for (name, shape) in names.iter().zip(shapes) {
+    for (name, data_type) in names.iter().zip(data_types) {
         push_elements(
             alloc,
             &mut signature,
             name.as_str(),
-            shape.kind,
-            &shape.sizes,
+            data_type.kind,
+            &data_type.sizes,
         )?;
     }
     Ok(signature)

@@ -4,13 +4,13 @@ ghost use Rattle.std.specs.Prelude.{◌≡◌, ◌≤◌, map, min, not, length,
 ghost use Rattle.std.specs.List.{list_all};
 ghost use Rattle.lb_syntax.specs.SourceView.{view_node};
 
+use crate::data_type::{DataType, are_same, data_types, element_count, is_one_truth};
 use crate::element_names::elements;
 use crate::error::StaticError;
 use crate::resolved::{ResolvedNode, Variable};
-use crate::shape::{Shape, are_same, element_count, is_one_truth, shapes};
 use crate::signature::Signature;
-use crate::standing::interface_variables;
 use crate::static_value::StaticInt;
+use crate::valued_node::interface_variables;
 use lb_syntax::tree::{Name, Node};
 use std::alloc::{AllocError, Global};
 
@@ -29,22 +29,22 @@ pub struct Interface<'s> {
     /// How many of the types are those of inputs.
     pub inputs: usize,
     /// The types of the inputs, then those of the outputs.
-    pub shapes: Vec<Shape>,
+    pub data_types: Vec<DataType>,
     /// Whether all inputs and outputs are on the base clock.
     pub is_plain: bool,
-    pub ghost inputs_fit: { inputs ≤ length shapes.items },
+    pub ghost inputs_fit: { inputs ≤ length data_types.items },
 }
 
 impl<'s> Interface<'s> {
     ghost use Rattle.lb_static.specs.Interfaces.{
       Answers,
-      face_in,
-      face_seen,
+      interface_under,
+      view_interface,
       inputs_of,
       outputs_of,
       observes,
       is_one_truth_in,
-      shapes_seen,
+      view_types,
       elements_in_all,
       elements_named,
     };
@@ -55,54 +55,54 @@ impl<'s> Interface<'s> {
         node: &ResolvedNode<'s>,
         statics: &[StaticInt],
     ) -> Result<Interface<'s>, StaticError>
-        ensures { Answers face_seen (face_in node.now statics.now) result }
+        ensures { Answers view_interface (interface_under node.now statics.now) result }
     {
         let variables = interface_variables(node).ok_or(StaticError::Root)?;
-        let shapes = shapes(alloc, variables, statics)?;
+        let data_types = data_types(alloc, variables, statics)?;
         let tree = node.tree;
         Ok(Interface {
             tree,
             inputs: node.inputs,
-            shapes,
+            data_types,
             is_plain: have_no_clocks(variables),
         })
     }
 
     /// The types of the inputs.
-    pub fn inputs(&self) -> &[Shape]
-        ensures { shapes_seen result.now ≡ inputs_of (face_seen self.now) }
+    pub fn inputs(&self) -> &[DataType]
+        ensures { view_types result.now ≡ inputs_of (view_interface self.now) }
     {
-        &self.shapes[..self.inputs]
+        &self.data_types[..self.inputs]
     }
 
     /// Whether the one output is a scalar `bool`.
     pub fn has_property(&self) -> bool
-        ensures { result ≡ is_one_truth_in (outputs_of (face_seen self.now)) }
+        ensures { result ≡ is_one_truth_in (outputs_of (view_interface self.now)) }
     {
-        is_one_truth(&self.shapes[self.inputs..])
+        is_one_truth(&self.data_types[self.inputs..])
     }
 
     /// Whether it may observe another node: its inputs have the types of that node's inputs and
     /// outputs, its one output is a scalar `bool`, and all are on the base clock.
     pub fn observes(&self, root: &Interface) -> bool
-        ensures { result ≡ observes (face_seen self.now) (face_seen root.now) }
+        ensures { result ≡ observes (view_interface self.now) (view_interface root.now) }
     {
-        self.is_plain && are_same(self.inputs(), &root.shapes) && self.has_property()
+        self.is_plain && are_same(self.inputs(), &root.data_types) && self.has_property()
     }
 
     /// How many scalar inputs there are; of more than 32 bits hold, the most that they hold.
     pub fn scalar_inputs(&self) -> u32
-        ensures { result ≡ min (elements_in_all (inputs_of (face_seen self.now))) 4294967295 }
+        ensures { result ≡ min (elements_in_all (inputs_of (view_interface self.now))) 4294967295 }
     {
         element_count(self.inputs())
     }
 
     /// The scalar elements of the inputs, in order.
     pub fn signature(&self, alloc: Global) -> Result<Signature, AllocError>
-        requires { elements_in_all (inputs_of (face_seen self.now)) ≤ 1023 }
+        requires { elements_in_all (inputs_of (view_interface self.now)) ≤ 1023 }
         ensures { IfOk result (λ signature. signature ≡ elements_named
-            (map (λ d. d.name) (face_seen self.now).node.inputs)
-            (inputs_of (face_seen self.now))) }
+            (map (λ d. d.name) (view_interface self.now).node.inputs)
+            (inputs_of (view_interface self.now))) }
     {
         let names = input_names(alloc, self.tree)?;
         elements(alloc, &names, self.inputs())

@@ -10,14 +10,14 @@ ghost use Rattle.lb_static.specs.NameFaults.{named_in, IsNameFault};
 ghost use Rattle.lb_static.specs.Names.{are_distinct, starts};
 ghost use Rattle.lb_static.specs.ReachedNodes.{IsReached};
 ghost use Rattle.lb_static.specs.CalledNodes.{AreResolved, AreStarts, IsStart, are_named, called, callees, ids_of};
-ghost use Rattle.lb_static.specs.Visiting.{AreHad, visited_after_all, within};
+ghost use Rattle.lb_static.specs.WorkLists.{AreReachable, visited_after_all, within};
 
 use crate::error::StaticError;
 use crate::globals::{Globals, refused_name};
 use crate::reach::{NodeId, Reached};
 use crate::resolved::{CallSite, ResolvedNode};
 use crate::resolving_nodes::resolve_node;
-use crate::visits::Visits;
+use crate::work_list::WorkList;
 use lb_syntax::tree::Source;
 use std::alloc::{AllocError, Global};
 
@@ -37,14 +37,14 @@ fn place_named(source: &Source, name: &str) -> Option<usize>
 }
 
 /// Visits the nodes that some calls call, in text order.
-fn visit_callees(calls: &[CallSite], visits: &mut Visits) -> Result<(), AllocError>
-    requires { list_all (λ s. nat_lt s.callee.0 visits.old.count) calls.now ≡ true }
+fn visit_callees(calls: &[CallSite], work_list: &mut WorkList) -> Result<(), AllocError>
+    requires { list_all (λ s. nat_lt s.callee.0 work_list.old.count) calls.now ≡ true }
     ensures order { OnOk result
-        (visits.new.order ≡ visited_after_all visits.old.order (callees calls.now)) }
-    ensures count { OnOk result (visits.new.count ≡ visits.old.count) }
+        (work_list.new.order ≡ visited_after_all work_list.old.order (callees calls.now)) }
+    ensures count { OnOk result (work_list.new.count ≡ work_list.old.count) }
 {
     for call in calls {
-        visits.visit(call.callee.0)?;
+        work_list.visit(call.callee.0)?;
     }
     Ok(())
 }
@@ -54,27 +54,28 @@ fn resolve_visited<'s>(
     alloc: Global,
     globals: &Globals,
     source: &'s Source,
-    visits: &mut Visits,
+    work_list: &mut WorkList,
     nodes: &mut Vec<ResolvedNode<'s>>,
 ) -> Result<(), StaticError>
     requires names { globals.now.names ≡ names_in_source (view_source source.now) }
     requires constants { globals.now.constants ≡ length source.now.constants.items }
-    requires count { visits.old.count ≡ length source.now.nodes.items }
+    requires count { work_list.old.count ≡ length source.now.nodes.items }
     requires none { nodes.old.items ≡ [] }
     ensures resolved { OnOk result
-        (AreResolved (view_source source.now) visits.old.order visits.new.order nodes.new.items) }
-    ensures all { OnOk result (length nodes.new.items ≡ length visits.new.order) }
-    ensures count { OnOk result (visits.new.count ≡ visits.old.count) }
-    ensures few { OnOk result (length visits.new.order ≤ visits.new.count) }
+        (AreResolved (view_source source.now) work_list.old.order work_list.new.order
+        nodes.new.items) }
+    ensures all { OnOk result (length nodes.new.items ≡ length work_list.new.order) }
+    ensures count { OnOk result (work_list.new.count ≡ work_list.old.count) }
+    ensures few { OnOk result (length work_list.new.order ≤ work_list.new.count) }
     ensures err { IfErr result (λ e. (start : TreeNode → Bool)
-        → AreHad (view_source source.now).nodes start called visits.old.order
+        → AreReachable (view_source source.now).nodes start called work_list.old.order
         → IsNameFault e (list_all (named_in (view_source source.now))
         (within (view_source source.now).nodes start called
         (length (view_source source.now).nodes)))) }
 {
-    while let Some(place) = visits.place(nodes.len()) {
+    while let Some(place) = work_list.place(nodes.len()) {
         let node = resolve_node(alloc, globals, source, &source.nodes[place])?;
-        visit_callees(&node.calls, visits)?;
+        visit_callees(&node.calls, work_list)?;
         nodes.push(node)?;
     }
     Ok(())
@@ -85,17 +86,17 @@ fn visit_named(
     alloc: Global,
     source: &Source,
     name: &str,
-    visits: &mut Visits,
+    work_list: &mut WorkList,
 ) -> Result<NodeId, StaticError>
-    requires count { visits.old.count ≡ length source.now.nodes.items }
+    requires count { work_list.old.count ≡ length source.now.nodes.items }
     ensures start { IfOk result (λ id.
-        IsStart (view_source source.now) name.now visits.old.order visits.new.order id) }
-    ensures count { OnOk result (visits.new.count ≡ visits.old.count) }
+        IsStart (view_source source.now) name.now work_list.old.order work_list.new.order id) }
+    ensures count { OnOk result (work_list.new.count ≡ work_list.old.count) }
     ensures err { IfErr result (λ e.
         IsNameFault e (is_some (node_in_source source.now name.now))) }
 {
     match place_named(source, name) {
-        Some(place) => Ok(NodeId(visits.visit(place)?)),
+        Some(place) => Ok(NodeId(work_list.visit(place)?)),
         None => Err(refused_name(alloc, name)),
     }
 }
@@ -106,23 +107,23 @@ fn visit_starts(
     source: &Source,
     node: &str,
     observer: Option<&str>,
-    visits: &mut Visits,
+    work_list: &mut WorkList,
 ) -> Result<(NodeId, Option<NodeId>), StaticError>
     requires once { are_distinct (names_in_source (view_source source.now)) ≡ true }
-    requires none { visits.old.order ≡ [] }
-    requires count { visits.old.count ≡ length source.now.nodes.items }
+    requires none { work_list.old.order ≡ [] }
+    requires count { work_list.old.count ≡ length source.now.nodes.items }
     ensures starts { IfOk result (λ found.
         AreStarts (program_of source.now node.now (option_map (λ o. o.now) observer.entry))
-        visits.new.order found.0 found.1) }
-    ensures count { OnOk result (visits.new.count ≡ visits.old.count) }
+        work_list.new.order found.0 found.1) }
+    ensures count { OnOk result (work_list.new.count ≡ work_list.old.count) }
     ensures err { IfErr result (λ e. IsNameFault e (list_all is_some (starts
         (program_of source.now node.now (option_map (λ o. o.now) observer.entry))))) }
 {
-    let root = visit_named(alloc, source, node, visits)?;
+    let root = visit_named(alloc, source, node, work_list)?;
     match observer {
         None => Ok((root, None)),
         Some(name) => {
-            let observer = visit_named(alloc, source, name, visits)?;
+            let observer = visit_named(alloc, source, name, work_list)?;
             Ok((root, Some(observer)))
         }
     }
@@ -143,13 +144,13 @@ fn reach_all<'s>(
     source: &'s Source,
     node: &str,
     observer: Option<&str>,
-    visits: &mut Visits,
+    work_list: &mut WorkList,
 ) -> Result<Reached<'s>, StaticError>
     requires names { globals.now.names ≡ names_in_source (view_source source.now) }
     requires constants { globals.now.constants ≡ length source.now.constants.items }
     requires once { are_distinct (names_in_source (view_source source.now)) ≡ true }
-    requires none { visits.old.order ≡ [] }
-    requires count { visits.old.count ≡ length source.now.nodes.items }
+    requires none { work_list.old.order ≡ [] }
+    requires count { work_list.old.count ≡ length source.now.nodes.items }
     ensures named { OnOk result (are_named (program_of source.now node.now
         (option_map (λ o. o.now) observer.entry)) ≡ true) }
     ensures reached { IfOk result (IsReached (program_of source.now node.now
@@ -157,10 +158,10 @@ fn reach_all<'s>(
     ensures err { IfErr result (λ e. IsNameFault e (are_named (program_of source.now node.now
         (option_map (λ o. o.now) observer.entry)))) }
 {
-    let (root, observer) = visit_starts(alloc, source, node, observer, visits)?;
+    let (root, observer) = visit_starts(alloc, source, node, observer, work_list)?;
     let mut nodes = Vec::new(alloc);
-    resolve_visited(alloc, globals, source, visits, &mut nodes)?;
-    let ids = node_ids(alloc, visits.turns())?;
+    resolve_visited(alloc, globals, source, work_list, &mut nodes)?;
+    let ids = node_ids(alloc, work_list.turns())?;
     Ok(Reached {
         nodes,
         ids,
@@ -188,6 +189,6 @@ pub fn reach<'s>(
     ensures err { IfErr result (λ e. IsNameFault e (are_named (program_of source.now node.now
         (option_map (λ o. o.now) observer.entry)))) }
 {
-    let mut visits = Visits::new(alloc, source.nodes.len())?;
-    reach_all(alloc, globals, source, node, observer, &mut visits)
+    let mut work_list = WorkList::new(alloc, source.nodes.len())?;
+    reach_all(alloc, globals, source, node, observer, &mut work_list)
 }

@@ -54,7 +54,7 @@ pub enum Term {
     /// `e when c` (true), `e when not c` (false)
     When(Box<Term>, VariableId, bool),
     /// `e ^ n`
-    Copies(Box<Term>, StaticId),
+    Replicate(Box<Term>, StaticId),
     /// `e[i]`
     Index(Box<Term>, StaticId),
     /// `e[i..j]`
@@ -77,7 +77,7 @@ pub enum Term {
 
 /// A statement whose names are resolved.
 #[derive(Drop)]
-pub enum Step {
+pub enum ResolvedStatement {
     /// `x = e;`, `(x, y) = e;`
     Equation(Vec<VariableId>, Term),
     /// `assert e;`
@@ -156,7 +156,7 @@ pub struct ResolvedNode<'s> {
     /// How many of them, after the inputs, are outputs.
     pub outputs: usize,
     /// The statements, in text order.
-    pub body: Vec<Step>,
+    pub body: Vec<ResolvedStatement>,
     /// The calls and iterated nodes, in text order, each before those in its arguments.
     pub calls: Vec<CallSite>,
     /// The static expressions: those of declarations first, then those of the body in text order.

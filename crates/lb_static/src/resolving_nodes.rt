@@ -4,16 +4,16 @@ ghost use Rattle.std.specs.Prelude.{◌≡◌, [], true, map, length, OnOk, IfOk
 ghost use Rattle.lb_syntax.specs.SourceView.{view_node, view_source};
 ghost use Rattle.lb_static.specs.SourceNames.{names_in_source};
 ghost use Rattle.lb_static.specs.NameFaults.{IsNameFault, named_in};
-ghost use Rattle.lb_static.specs.NodeProgress.{StepsStand, after_node, node_fits};
+ghost use Rattle.lb_static.specs.NodeProgress.{StatementsStand, after_node, node_fits};
 ghost use Rattle.lb_static.specs.Progressed.{progress};
 ghost use Rattle.lb_static.specs.ResolvedNodes.{IsResolved};
 
 use crate::error::StaticError;
-use crate::found::Found;
 use crate::globals::Globals;
-use crate::naming::Naming;
-use crate::resolved::{ResolvedNode, Step};
-use crate::resolving_steps::steps;
+use crate::node_builder::NodeBuilder;
+use crate::node_scope::NodeScope;
+use crate::resolved::{ResolvedNode, ResolvedStatement};
+use crate::resolving_statements::resolve_statements;
 use crate::resolving_variables::resolve_groups;
 use lb_syntax::tree::{Node, Source};
 use std::alloc::Global;
@@ -26,20 +26,20 @@ struct NodeParts {
     /// How many of them are outputs.
     outputs: usize,
     /// The statements, in text order.
-    body: Vec<Step>,
+    body: Vec<ResolvedStatement>,
 }
 
 /// Resolves the parts of a node, of which nothing is resolved yet.
 fn resolve_parts<'s>(
     alloc: Global,
-    here: &mut Found<'_, 's>,
+    here: &mut NodeBuilder<'_, 's>,
     node: &'s Node,
 ) -> Result<NodeParts, StaticError>
     requires { (progress here.old).declared ≡ [] }
     ensures found { OnOk result
         (progress here.new ≡ after_node (progress here.old) node.now) }
     ensures stand { IfOk result (λ parts.
-        StepsStand (progress here.new) (view_node node.now).body parts.body.items) }
+        StatementsStand (progress here.new) (view_node node.now).body parts.body.items) }
     ensures fit { OnOk result (node_fits (progress here.old) (view_node node.now) ≡ true) }
     ensures inputs { IfOk result (λ parts. parts.inputs ≡ length (view_node node.now).inputs) }
     ensures outputs { IfOk result (λ parts. parts.outputs ≡ length (view_node node.now).outputs) }
@@ -51,7 +51,7 @@ fn resolve_parts<'s>(
     resolve_groups(alloc, here, &node.outputs)?;
     let outputs = here.variable_count() - inputs;
     resolve_groups(alloc, here, &node.locals)?;
-    let body = steps(alloc, here, &node.body)?;
+    let body = resolve_statements(alloc, here, &node.body)?;
     Ok(NodeParts {
         inputs,
         outputs,
@@ -76,8 +76,8 @@ pub fn resolve_node<'s>(
     ensures err { IfErr result (λ e.
         IsNameFault e (named_in (view_source source.now) (view_node node.now))) }
 {
-    let naming = Naming::new(alloc, globals, source, node)?;
-    let mut here = Found::new(alloc, naming);
+    let node_scope = NodeScope::new(alloc, globals, source, node)?;
+    let mut here = NodeBuilder::new(alloc, node_scope);
     let parts = resolve_parts(alloc, &mut here, node)?;
     Ok(here.finish(node, parts.inputs, parts.outputs, parts.body))
 }

@@ -11,21 +11,21 @@ ghost use Rattle.lb_static.specs.Progressed.{progress};
 ghost use Rattle.lb_static.specs.ResolvedTerms.{static_at, is_count_within};
 
 use crate::error::StaticError;
-use crate::found::Found;
 use crate::globals::refused_name;
+use crate::node_builder::NodeBuilder;
 use crate::resolved::{CallId, CallSite, Role, StaticId, StaticPart, StaticText, Term, VariableId};
 use lb_syntax::tree::{Name, Static};
 use std::alloc::Global;
 
 /// The place of the variable of a name.
-pub fn variable(alloc: Global, here: &Found, name: &Name) -> Result<VariableId, StaticError>
+pub fn variable(alloc: Global, here: &NodeBuilder, name: &Name) -> Result<VariableId, StaticError>
     ensures found { IfOk result (IsVariableAt (progress here.now).node name.now) }
-    ensures is { IfOk result (λ _.
+    ensures is_declared { IfOk result (λ _.
         is_variable (program_of (progress here.now)) (progress here.now).node name.now ≡ true) }
     ensures err { IfErr result (λ e. IsNameFault e
         (is_variable (program_of (progress here.now)) (progress here.now).node name.now)) }
 {
-    match here.naming().place(name) {
+    match here.node_scope().place(name) {
         Some(place) => Ok(place),
         None => Err(refused_name(alloc, name.as_str())),
     }
@@ -34,15 +34,15 @@ pub fn variable(alloc: Global, here: &Found, name: &Name) -> Result<VariableId, 
 /// What a name in an expression stands for: a variable, a static parameter or a constant.
 pub fn named<'s>(
     alloc: Global,
-    here: &mut Found<'_, 's>,
+    here: &mut NodeBuilder<'_, 's>,
     name: &'s Name,
 ) -> Result<Term, StaticError>
     ensures { ResolvesTerm (progress here.old) (progress here.new) (tree.Variable name.now) result }
 {
-    if let Some(place) = here.naming().place(name) {
+    if let Some(place) = here.node_scope().place(name) {
         return Ok(Term::Variable(place));
     }
-    if !here.naming().is_static(name) {
+    if !here.node_scope().is_static(name) {
         return Err(refused_name(alloc, name.as_str()));
     }
     let part = StaticPart {
@@ -55,14 +55,14 @@ pub fn named<'s>(
 /// The number of a static expression.
 pub fn one_static<'s>(
     alloc: Global,
-    here: &mut Found<'_, 's>,
+    here: &mut NodeBuilder<'_, 's>,
     role: Role,
     text: &'s Static,
 ) -> Result<StaticId, StaticError>
     ensures { ResolvesStatic (progress here.old) (progress here.new) role (view_static text.now)
         result }
 {
-    here.naming().judge_static(alloc, text)?;
+    here.node_scope().check_static(alloc, text)?;
     here.push_static(StaticPart {
         role,
         text: StaticText::Written(text),
@@ -72,7 +72,7 @@ pub fn one_static<'s>(
 /// The first of some static expressions that stand one after another, and how many there are.
 pub fn all_statics<'s>(
     alloc: Global,
-    here: &mut Found<'_, 's>,
+    here: &mut NodeBuilder<'_, 's>,
     role: Role,
     texts: &'s [Static],
 ) -> Result<(StaticId, usize), StaticError>
@@ -89,7 +89,7 @@ pub fn all_statics<'s>(
 /// The number of a call or of an iterated node, which is called so often.
 pub fn call<'s>(
     alloc: Global,
-    here: &mut Found<'_, 's>,
+    here: &mut NodeBuilder<'_, 's>,
     name: &'s Name,
     arguments: &'s [Static],
     count: Option<StaticId>,
@@ -101,7 +101,7 @@ pub fn call<'s>(
       count = option_map (static_at (texts (progress here.old)).statics) count;
     }) result }
 {
-    let callee = here.naming().callee(alloc, name, arguments.len())?;
+    let callee = here.node_scope().callee(alloc, name, arguments.len())?;
     let (first_argument, arguments) = all_statics(alloc, here, Role::Argument, arguments)?;
     here.push_call(CallSite {
         callee,

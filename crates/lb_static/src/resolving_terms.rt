@@ -7,7 +7,7 @@ ghost use Rattle.lb_static.specs.Frames.{ResolvesFramed, ResolvesRow};
 ghost use Rattle.lb_static.specs.Progressed.{progress};
 
 use crate::error::StaticError;
-use crate::found::Found;
+use crate::node_builder::NodeBuilder;
 use crate::resolved::{CallId, Role, StaticId, Term, VariableId};
 use crate::resolving_parts::{call, named, one_static, variable};
 use lb_syntax::tree::{ArrayIterator, BinaryOperator, Expr, Operator, UnaryOperator};
@@ -25,7 +25,7 @@ enum Frame {
     Pre,
     Current,
     When(VariableId, bool),
-    Copies(StaticId),
+    Replicate(StaticId),
     Index(StaticId),
     Slice(StaticId, StaticId),
     Join(Box<Term>),
@@ -44,7 +44,11 @@ enum Head {
 
 /// The term of an expression, in a box.
 #[cycle(resolving)]
-fn boxed<'s>(alloc: Global, here: &mut Found<'_, 's>, e: &'s Expr) -> Result<Box<Term>, StaticError>
+fn boxed<'s>(
+    alloc: Global,
+    here: &mut NodeBuilder<'_, 's>,
+    e: &'s Expr,
+) -> Result<Box<Term>, StaticError>
     ensures { ResolvesBox (progress here.old) (progress here.new) (view e.now) result }
 {
     Ok(Box::new(alloc, term(alloc, here, e)?)?)
@@ -54,7 +58,7 @@ fn boxed<'s>(alloc: Global, here: &mut Found<'_, 's>, e: &'s Expr) -> Result<Box
 #[cycle(resolving)]
 fn terms<'s>(
     alloc: Global,
-    here: &mut Found<'_, 's>,
+    here: &mut NodeBuilder<'_, 's>,
     es: &'s [Expr],
 ) -> Result<Vec<Term>, StaticError>
     ensures { ResolvesTerms (progress here.old) (progress here.new) (map view es.now) result }
@@ -70,7 +74,7 @@ fn terms<'s>(
 #[cycle(resolving)]
 fn framed<'s>(
     alloc: Global,
-    here: &mut Found<'_, 's>,
+    here: &mut NodeBuilder<'_, 's>,
     frame: Frame,
     e: &'s Expr,
 ) -> Result<Term, StaticError>
@@ -87,7 +91,7 @@ fn framed<'s>(
         Frame::Pre => Ok(Term::Pre(operand)),
         Frame::Current => Ok(Term::Current(operand)),
         Frame::When(clock, sign) => Ok(Term::When(operand, clock, sign)),
-        Frame::Copies(size) => Ok(Term::Copies(operand, size)),
+        Frame::Replicate(size) => Ok(Term::Replicate(operand, size)),
         Frame::Index(index) => Ok(Term::Index(operand, index)),
         Frame::Slice(start, end) => Ok(Term::Slice(operand, start, end)),
         Frame::Join(first) => Ok(Term::Join(first, operand)),
@@ -98,7 +102,7 @@ fn framed<'s>(
 #[cycle(resolving)]
 fn row<'s>(
     alloc: Global,
-    here: &mut Found<'_, 's>,
+    here: &mut NodeBuilder<'_, 's>,
     head: Head,
     es: &'s [Expr],
 ) -> Result<Term, StaticError>
@@ -119,7 +123,11 @@ fn row<'s>(
 
 /// The term that stands for an expression.
 #[cycle(resolving)]
-pub fn term<'s>(alloc: Global, here: &mut Found<'_, 's>, e: &'s Expr) -> Result<Term, StaticError>
+pub fn term<'s>(
+    alloc: Global,
+    here: &mut NodeBuilder<'_, 's>,
+    e: &'s Expr,
+) -> Result<Term, StaticError>
     ensures { ResolvesTerm (progress here.old) (progress here.new) (view e.now) result }
 {
     match e {
@@ -151,9 +159,9 @@ pub fn term<'s>(alloc: Global, here: &mut Found<'_, 's>, e: &'s Expr) -> Result<
             let clock = variable(alloc, here, x)?;
             framed(alloc, here, Frame::When(clock, *sign), a)
         }
-        Expr::Copies(a, n) => {
+        Expr::Replicate(a, n) => {
             let size = one_static(alloc, here, Role::Size, n)?;
-            framed(alloc, here, Frame::Copies(size), a)
+            framed(alloc, here, Frame::Replicate(size), a)
         }
         Expr::Index(a, i) => {
             let index = one_static(alloc, here, Role::Index, i)?;

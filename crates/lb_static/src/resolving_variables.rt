@@ -10,7 +10,7 @@ ghost use Rattle.lb_static.specs.Progressed.{progress};
 ghost use Rattle.lb_static.specs.ResolvedTerms.{is_declared_within};
 
 use crate::error::StaticError;
-use crate::found::Found;
+use crate::node_builder::NodeBuilder;
 use crate::resolved::{Role, Sampling, Variable};
 use crate::resolving_parts::{all_statics, variable};
 use lb_syntax::tree;
@@ -20,7 +20,7 @@ use std::alloc::Global;
 /// The clock of some variables.
 fn sampling(
     alloc: Global,
-    here: &Found,
+    here: &NodeBuilder,
     clock: &Option<tree::Sampling>,
 ) -> Result<Option<Sampling>, StaticError>
     ensures stands { IfOk result (ClockStands (progress here.now) (view_clock clock.now)) }
@@ -38,7 +38,11 @@ fn sampling(
 }
 
 /// One more variable for each of these names, all of them alike.
-fn push_variables(here: &mut Found, names: &[Name], variable: Variable) -> Result<(), StaticError>
+fn push_variables(
+    here: &mut NodeBuilder,
+    names: &[Name],
+    variable: Variable,
+) -> Result<(), StaticError>
     requires { is_declared_within (counts_in (texts (progress here.old))) variable ≡ true }
     ensures ok { OnOk result
         (progress here.new ≡ with_alike (progress here.old) names.now variable) }
@@ -53,7 +57,7 @@ fn push_variables(here: &mut Found, names: &[Name], variable: Variable) -> Resul
 /// Resolves the variables of a group, which share the places of their sizes.
 fn resolve_group<'s>(
     alloc: Global,
-    here: &mut Found<'_, 's>,
+    here: &mut NodeBuilder<'_, 's>,
     group: &'s Declarations,
 ) -> Result<(), StaticError>
     ensures ok { OnOk result
@@ -80,7 +84,7 @@ fn resolve_group<'s>(
 /// Resolves the variables of some groups.
 pub fn resolve_groups<'s>(
     alloc: Global,
-    here: &mut Found<'_, 's>,
+    here: &mut NodeBuilder<'_, 's>,
     groups: &'s [Declarations],
 ) -> Result<(), StaticError>
     ensures ok { OnOk result

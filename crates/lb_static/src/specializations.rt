@@ -1,4 +1,4 @@
-//! The specializations that a walk has entered.
+//! The specializations that instantiation has entered.
 
 ghost use Rattle.std.specs.Prelude.{◌≡◌, ◌<◌, ◌^◌, [], length, option_map, slice_get, Some, IfOk, IfSome, OnErr};
 ghost use Rattle.lb_static.specs.KeyedSpecializations.{IsFound, IsAdded};

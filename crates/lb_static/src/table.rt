@@ -57,8 +57,8 @@ pub struct Instance {
     pub origin: Origin,
 }
 
-/// The instances of a program, in the order of the walk: those of the node under test, then those
-/// of the observer, each before those that it calls.
+/// The instances of a program, in the order of instantiation: those of the node under test, then
+/// those of the observer, each before those that it calls.
 #[derive(Drop)]
 pub struct Table {
     pub specializations: Vec<Specialization>,

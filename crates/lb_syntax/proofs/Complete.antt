@@ -9,7 +9,7 @@ use Rattle.lb_syntax.specs.declared.token.Token.{Token}
 use Rattle.lb_syntax.specs.declared.token.Token.TheVariants as token
 use Rattle.lb_syntax.specs.Tree.{Name, Not, Negate, ArrayIterator, Static, Operator}
 use Rattle.lb_syntax.specs.Tree.{Expr, Exprs, Literal, Truth, Variable, Group, Unary, Binary, If}
-use Rattle.lb_syntax.specs.Tree.{Arrow, Fby, Pre, Current, When, Copies, Index, Slice, Join, Array}
+use Rattle.lb_syntax.specs.Tree.{Arrow, Fby, Pre, Current, When, Replicate, Index, Slice, Join, Array}
 use Rattle.lb_syntax.specs.Tree.{AtMostOne, Nor, Call, Iterate, Nil, Cons}
 use Rattle.lb_syntax.specs.Levels.{Form, row_of, IsLeft, IsLast}
 use Rattle.lb_syntax.specs.Spelling.{◌▸◌, IsMark, IsName, IsList, IsStatic, AreArguments}
@@ -120,7 +120,7 @@ module _ (n : ℕ) (inner : ℕ → Reader Expr) (complete : Complete n inner) w
   no_close (Fby a b) ts rest s = no_close a ts s.0.0 s.0.1
   no_close (Join a b) ts rest s = no_close a ts s.0.0 s.0.1
   no_close (When e c sign) ts rest s = no_close e ts s.0.0 s.0.1
-  no_close (Copies e k) ts rest s = no_close e ts s.0.0 s.0.1
+  no_close (Replicate e k) ts rest s = no_close e ts s.0.0 s.0.1
   no_close (Index e i) ts rest s = no_close e ts s.0.0 s.0.1
   no_close (Slice e i j) ts rest s = no_close e ts s.0.0 s.0.1
   no_close (Literal k) ts rest s = ap (expect m.Close) s
@@ -414,8 +414,9 @@ module _ (n : ℕ) (inner : ℕ → Reader Expr) (complete : Complete n inner) w
       grows form.When e (When e c sign) (reads e) least ts s.0.0 s.0.2.0 rest q p fuel deep s.0.1
       s.0.2.1 s.1 last
       (rw (clock_reads c sign s.0.2.0 rest s.0.2.2) refl)
-  reads (Copies e k) least ts rest q p fuel deep s last below clear =
-      grows form.Copies e (Copies e k) (reads e) least ts s.0.0 s.0.2.0 rest q p fuel deep s.0.1
+  reads (Replicate e k) least ts rest q p fuel deep s last below clear =
+      grows form.Replicate e (Replicate e k) (reads e) least ts s.0.0 s.0.2.0 rest q p fuel deep
+      s.0.1
       s.0.2.1 s.1 last
       (rw (size_reads k s.0.2.0 rest s.0.2.2) refl)
   reads (Index e i) least ts rest q p fuel deep s last below clear =

@@ -17,7 +17,7 @@ use Rattle.lb_syntax.specs.Levels.{form_of}
 use Rattle.lb_syntax.specs.Limits.{is_short_name, is_small_literal, is_separator, depth_after}
 use Rattle.lb_syntax.specs.Limits.{is_counted, is_small_statement, in_first, runs, keeps_limits}
 use Rattle.lb_syntax.specs.Limits.{IsFirstOver}
-use Rattle.lb_syntax.specs.Walk.{opens, weight_of, counted_after, here_or, over_from}
+use Rattle.lb_syntax.specs.TokenCounts.{opens, weight_of, counted_after, here_or, over_from}
 
 -- ---- the marks that are counted
 
@@ -202,12 +202,12 @@ pub record IsFirstOverOrNone (ts : List Token) (answer : Option ℕ) : Type 0 wh
   pub kept : IsNone answer ↔ IsTrue (keeps_limits ts)
   pub first : IfSome answer (IsFirstOver ts)
 
-pub walk_finds_first : (ts : List Token) (answer : Option ℕ) → over_from 0 0 ts ≡ answer →
+pub counts_find_first : (ts : List Token) (answer : Option ℕ) → over_from 0 0 ts ≡ answer →
     IsFirstOverOrNone ts answer
-walk_finds_first ts None e =
+counts_find_first ts None e =
     let kept = kept_by_answer ts None e in
     record { kept = ((λ _. kept), (λ _. refl)); first = tt }
-walk_finds_first ts (Some index) e =
+counts_find_first ts (Some index) e =
     let over = over_is_first 0 0 ts index e in
     let broken = kept_by_answer ts (Some index) e in
     record {
@@ -238,19 +238,19 @@ drop-at ts index t below here =
     let rest = drop (suc index) ts in
     rw add-one (drop-cons ts index t below ∙ ap (λ first. first ∷ rest) (sym here))
 
-pub walk_stops : (ts : List Token) (whole : Option ℕ) (depth counted index : ℕ) (t : Token) →
+pub counts_stop : (ts : List Token) (whole : Option ℕ) (depth counted index : ℕ) (t : Token) →
     index < length ts → t ≡ get_or ts index t → counted_after depth counted t ≡ None →
     IsAnswer whole index (over_from depth counted (drop index ts)) → whole ≡ Some index
-walk_stops ts whole depth counted index t below here over e =
+counts_stop ts whole depth counted index t below here over e =
     let rest = drop (index + 1) ts in
     let step : over_from depth counted (drop index ts) ≡ Some 0 =
     ap (over_from depth counted) (drop-at ts index t below here) ∙
     ap (here_or (λ more. over_from (depth_after depth t) more rest)) over in
     here_answer whole index (e ∙ ap (option_map (λ n. index + n)) step)
 
-pub walk_ends : (ts : List Token) (whole : Option ℕ) (depth counted index : ℕ) →
+pub counts_end : (ts : List Token) (whole : Option ℕ) (depth counted index : ℕ) →
     length ts ≤ index → IsAnswer whole index (over_from depth counted (drop index ts)) →
     whole ≡ None
-walk_ends ts whole depth counted index over e =
+counts_end ts whole depth counted index over e =
     let none = drop_all index ts over in
     e ∙ ap (λ rest. option_map (λ n. index + n) (over_from depth counted rest)) none

@@ -6,7 +6,7 @@ use Rattle.lb_syntax.specs.declared.token.Token.{Token}
 use Rattle.lb_syntax.specs.Tree.{Name, Or, Xor, And, Plus, Minus, Times, Not, Negate, Static, Whole}
 use Rattle.lb_syntax.specs.Tree.{Named, Negated, Combined, Grouped, Operator, Node_named, Symbol}
 use Rattle.lb_syntax.specs.Tree.{Expr, Exprs, Literal, Truth, Variable, Group, Unary, Binary, If}
-use Rattle.lb_syntax.specs.Tree.{Arrow, Fby, Pre, Current, When, Copies, Index, Slice, Join, Array}
+use Rattle.lb_syntax.specs.Tree.{Arrow, Fby, Pre, Current, When, Replicate, Index, Slice, Join, Array}
 use Rattle.lb_syntax.specs.Tree.{AtMostOne, Nor, Call, Iterate, Nil, Cons}
 use Rattle.lb_syntax.specs.Levels.{Form}
 use Rattle.lb_syntax.specs.Spelling.{IsSeparator, IsTail, IsStatic, AreArguments, IsSize}
@@ -26,7 +26,7 @@ abbrev mutual
   depth (Pre a) = suc (depth a)
   depth (Current a) = suc (depth a)
   depth (When e c sign) = depth e
-  depth (Copies e n) = depth e
+  depth (Replicate e n) = depth e
   depth (Index e i) = depth e
   depth (Slice e i j) = depth e
   depth (Join a b) = max (depth a) (suc (depth b))
@@ -43,7 +43,7 @@ abbrev mutual
 
 pub depth_one : (e : Expr) → 1 ≤ depth e
 depth_one (When e c sign) = depth_one e
-depth_one (Copies e n) = depth_one e
+depth_one (Replicate e n) = depth_one e
 depth_one (Index e i) = depth_one e
 depth_one (Slice e i j) = depth_one e
 depth_one _ = omega arith
@@ -55,7 +55,7 @@ spine (Arrow a b) = suc (spine a)
 spine (Fby a b) = suc (spine a)
 spine (Join a b) = suc (spine a)
 spine (When e c sign) = suc (spine e)
-spine (Copies e n) = suc (spine e)
+spine (Replicate e n) = suc (spine e)
 spine (Index e i) = suc (spine e)
 spine (Slice e i j) = suc (spine e)
 spine _ = 0
@@ -192,11 +192,11 @@ mutual
         form_room form.When s.0.0 s.0.2.0 s.0.2.1,
         clock_room c sign s.0.2.0 rest s.0.2.2,
       )
-  room (Copies e n) ts rest s =
+  room (Replicate e n) ts rest s =
       omega (
         arith,
         room e ts s.0.0 s.0.1,
-        form_room form.Copies s.0.0 s.0.2.0 s.0.2.1,
+        form_room form.Replicate s.0.0 s.0.2.0 s.0.2.1,
         size_room n s.0.2.0 rest s.0.2.2,
       )
   room (Index e i) ts rest s =
@@ -308,11 +308,11 @@ spine_room (When e c sign) ts rest s =
       form_room form.When s.0.0 s.0.2.0 s.0.2.1,
       clock_room c sign s.0.2.0 rest s.0.2.2,
     )
-spine_room (Copies e n) ts rest s =
+spine_room (Replicate e n) ts rest s =
     omega (
       arith,
       spine_room e ts s.0.0 s.0.1,
-      form_room form.Copies s.0.0 s.0.2.0 s.0.2.1,
+      form_room form.Replicate s.0.0 s.0.2.0 s.0.2.1,
       size_room n s.0.2.0 rest s.0.2.2,
     )
 spine_room (Index e i) ts rest s =

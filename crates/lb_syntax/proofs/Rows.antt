@@ -120,7 +120,7 @@ is_row form.Join = left_row 1 one (omega arith) (omega arith)
 is_row form.Arrow = right_row 3 three (omega arith) (omega arith)
 is_row form.Fby = right_row 3 three (omega arith) (omega arith)
 is_row form.When = left_row 11 eleven (omega arith) (omega arith)
-is_row form.Copies = left_row 13 thirteen (omega arith) (omega arith)
+is_row form.Replicate = left_row 13 thirteen (omega arith) (omega arith)
 is_row form.Element = left_row 13 thirteen (omega arith) (omega arith)
 
 -- a form that takes another one as its left operand belongs to no operand of that one

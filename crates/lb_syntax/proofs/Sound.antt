@@ -131,7 +131,7 @@ module _ (inner : ℕ → Reader Expr) (sound : Sound inner) where
       let c = bind_some (clock_at us) _ r h in
       subst (Pair least whole) (some_is c.2)
       (record { spelled = ((ts, s, (us, f, clock_read us c.0 c.1)), left); last = le })
-  longer_read least e form.Copies whole ts us r s f left le h =
+  longer_read least e form.Replicate whole ts us r s f left le h =
       let n = bind_some (size_at us) _ r h in
       subst (Pair least whole) (some_is n.2)
       (record { spelled = ((ts, s, (us, f, size_read us n.0 n.1)), left); last = le })

@@ -10,7 +10,7 @@ use Rattle.lb_syntax.specs.declared.token.Mark.TheVariants as m
 use Rattle.lb_syntax.specs.Tree.{BinaryOperator, Or, Xor, And, Implies, Equal, Unequal, Less}
 use Rattle.lb_syntax.specs.Tree.{AtMost, Greater, AtLeast, Plus, Minus, Times, Divide, Modulo}
 use Rattle.lb_syntax.specs.Tree.{UnaryOperator, Not, Negate, Static, Negated, Combined}
-use Rattle.lb_syntax.specs.Tree.{Expr, Unary, Binary, If, Arrow, Fby, Pre, Current, When, Copies}
+use Rattle.lb_syntax.specs.Tree.{Expr, Unary, Binary, If, Arrow, Fby, Pre, Current, When, Replicate}
 use Rattle.lb_syntax.specs.Tree.{Index, Slice, Join}
 
 -- ---- the table
@@ -47,7 +47,7 @@ row_of (form.Data Times) = to_left 10
 row_of (form.Data Divide) = to_left 10
 row_of (form.Data Modulo) = to_left 10
 row_of form.When = to_left 11
-row_of form.Copies = to_left 13
+row_of form.Replicate = to_left 13
 row_of form.Element = to_left 13
 
 -- the prefix forms
@@ -97,7 +97,7 @@ form_of m.AtMost = Some (form.Data AtMost)
 form_of m.Greater = Some (form.Data Greater)
 form_of m.AtLeast = Some (form.Data AtLeast)
 form_of m.When = Some form.When
-form_of m.Caret = Some form.Copies
+form_of m.Caret = Some form.Replicate
 form_of m.OpenBracket = Some form.Element
 form_of mark = data_form (arithmetic_of mark)
 
@@ -109,7 +109,7 @@ level (Arrow a b) = (row_of form.Arrow).level
 level (Fby a b) = (row_of form.Fby).level
 level (Join a b) = (row_of form.Join).level
 level (When e x sign) = (row_of form.When).level
-level (Copies e n) = (row_of form.Copies).level
+level (Replicate e n) = (row_of form.Replicate).level
 level (Index e i) = (row_of form.Element).level
 level (Slice e i j) = (row_of form.Element).level
 level (If c a b) = choice_level

@@ -12,7 +12,7 @@ pub mod Tokens
 pub mod Places
 pub mod Lexed
 pub mod Limits
-pub mod Walk
+pub mod TokenCounts
 pub mod Texts
 pub mod ListReading
 pub mod Grammar

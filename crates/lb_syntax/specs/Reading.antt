@@ -16,7 +16,7 @@ use Rattle.lb_syntax.specs.Tree.{Name, BinaryOperator, Or, Xor, And, Plus, Minus
 use Rattle.lb_syntax.specs.Tree.{Negate, ArrayIterator, Map, Red, Fill, Static, Whole, Named}
 use Rattle.lb_syntax.specs.Tree.{Negated, Combined, Grouped, Operator, Node_named, Symbol}
 use Rattle.lb_syntax.specs.Tree.{Expr, Exprs, Literal, Truth, Variable, Group, Unary, Binary, If}
-use Rattle.lb_syntax.specs.Tree.{Arrow, Fby, Pre, Current, When, Copies, Index, Slice, Join, Array}
+use Rattle.lb_syntax.specs.Tree.{Arrow, Fby, Pre, Current, When, Replicate, Index, Slice, Join, Array}
 use Rattle.lb_syntax.specs.Tree.{AtMostOne, Nor, Call, Iterate, Nil, Cons}
 use Rattle.lb_syntax.specs.Levels.{Form, Row, row_of, choice_level, unary_level, memory_level}
 use Rattle.lb_syntax.specs.Levels.{arithmetic_of, form_of, level, edge, static_level}
@@ -288,9 +288,9 @@ module _ (inner : ℕ → Reader Expr) where
   longer e form.When ts = do
     c ← clock_at ts
     Some (When e c.0.0 c.0.1, c.1)
-  longer e form.Copies ts = do
+  longer e form.Replicate ts = do
     n ← size_at ts
-    Some (Copies e n.0, n.1)
+    Some (Replicate e n.0, n.1)
   longer e form.Element ts = element_at e ts
   longer e form ts = infix_at e form ts
 

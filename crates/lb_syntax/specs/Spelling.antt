@@ -11,7 +11,7 @@ use Rattle.lb_syntax.specs.Tree.{Name, BinaryOperator, Or, Xor, And, Plus, Minus
 use Rattle.lb_syntax.specs.Tree.{Negate, ArrayIterator, Map, Red, Fill, Static, Whole, Named}
 use Rattle.lb_syntax.specs.Tree.{Negated, Combined, Grouped, Operator, Node_named, Symbol}
 use Rattle.lb_syntax.specs.Tree.{Expr, Exprs, Literal, Truth, Variable, Group, Unary, Binary, If}
-use Rattle.lb_syntax.specs.Tree.{Arrow, Fby, Pre, Current, When, Copies, Index, Slice, Join, Array}
+use Rattle.lb_syntax.specs.Tree.{Arrow, Fby, Pre, Current, When, Replicate, Index, Slice, Join, Array}
 use Rattle.lb_syntax.specs.Tree.{AtMostOne, Nor, Call, Iterate, Nil, Cons}
 use Rattle.lb_syntax.specs.Levels.{Form, row_of, choice_level, unary_level, memory_level}
 use Rattle.lb_syntax.specs.Levels.{arithmetic_of, form_of, IsLeft, IsLast, static_level}
@@ -170,7 +170,7 @@ abbrev mutual
   IsSpelled (Fby a b) ts rest = Infix form.Fby a b (IsSpelled a) (IsSpelled b) ts rest
   IsSpelled (Join a b) ts rest = Infix form.Join a b (IsSpelled a) (IsSpelled b) ts rest
   IsSpelled (When e c sign) ts rest = Postfix form.When e (IsSpelled e) (IsClock c sign) ts rest
-  IsSpelled (Copies e n) ts rest = Postfix form.Copies e (IsSpelled e) (IsSize n) ts rest
+  IsSpelled (Replicate e n) ts rest = Postfix form.Replicate e (IsSpelled e) (IsSize n) ts rest
   IsSpelled (Index e i) ts rest =
       Postfix form.Element e (IsSpelled e) (IsStatic i ▸ IsMark m.CloseBracket) ts rest
   IsSpelled (Slice e i j) ts rest =

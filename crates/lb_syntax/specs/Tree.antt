@@ -45,7 +45,7 @@ mutual
     Pre : Expr → Expr  -- `pre e`
     Current : Expr → Expr  -- `current e`
     When : Expr → Name → Bool → Expr  -- `e when c`, `e when not c`
-    Copies : Expr → Static → Expr  -- `e ^ n`
+    Replicate : Expr → Static → Expr  -- `e ^ n`
     Index : Expr → Static → Expr  -- `e[i]`
     Slice : Expr → Static → Static → Expr  -- `e[i..j]`
     Join : Expr → Expr → Expr  -- `a | b`

@@ -7,7 +7,7 @@ use Rattle.lb_syntax.specs.declared.tree.Operator.{Operator}
 use Rattle.lb_syntax.specs.declared.tree.Operator.TheVariants.{Node, Symbol}
 use Rattle.lb_syntax.specs.declared.tree.Expr.{Expr, Literal, Truth, Variable, Group', Unary'}
 use Rattle.lb_syntax.specs.declared.tree.Expr.{Binary', If', Arrow', Fby', Pre', Current', When'}
-use Rattle.lb_syntax.specs.declared.tree.Expr.{Copies', Index', Slice', Join', Array', AtMostOne'}
+use Rattle.lb_syntax.specs.declared.tree.Expr.{Replicate', Index', Slice', Join', Array', AtMostOne'}
 use Rattle.lb_syntax.specs.declared.tree.Expr.{Nor', Call', Iterate', Row_of-Expr, end_of-Expr}
 use Rattle.lb_syntax.specs.declared.tree.Expr.{more_of-Expr}
 use Rattle.lb_syntax.specs.declared.tree.Sampling.{Sampling}
@@ -44,15 +44,15 @@ abbrev mutual
   view (Pre' p a) = tree.Pre (view a)
   view (Current' p a) = tree.Current (view a)
   view (When' p e x sign) = tree.When (view e) x sign
-  view (Copies' p e n) = tree.Copies (view e) (view_static n)
+  view (Replicate' p e n) = tree.Replicate (view e) (view_static n)
   view (Index' p e i) = tree.Index (view e) (view_static i)
   view (Slice' p e i j) = tree.Slice (view e) (view_static i) (view_static j)
   view (Join' p a q b) = tree.Join (view a) (view b)
-  view (Array' shape es) = tree.Array (view_row es)
-  view (AtMostOne' shape es) = tree.AtMostOne (view_row es)
-  view (Nor' shape es) = tree.Nor (view_row es)
-  view (Call' f args shape es) = tree.Call f (view_statics args.items) (view_row es)
-  view (Iterate' i f n shape es) =
+  view (Array' arity es) = tree.Array (view_row es)
+  view (AtMostOne' arity es) = tree.AtMostOne (view_row es)
+  view (Nor' arity es) = tree.Nor (view_row es)
+  view (Call' f args arity es) = tree.Call f (view_statics args.items) (view_row es)
+  view (Iterate' i f n arity es) =
       tree.Iterate i (view_operator f) (view_static n) (view_row es)
 
   pub view_row : {m : _} → Row_of-Expr m → tree.Exprs

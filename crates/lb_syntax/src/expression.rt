@@ -47,7 +47,7 @@ fn level(e: &Expr) -> u8
         Expr::Arrow(_, _) | Expr::Fby(_, _) => row_of(Form::Arrow).level,
         Expr::Join(_, _) => row_of(Form::Join).level,
         Expr::When(_, _, _) => row_of(Form::When).level,
-        Expr::Copies(_, _) => row_of(Form::Copies).level,
+        Expr::Replicate(_, _) => row_of(Form::Replicate).level,
         Expr::Index(_, _) | Expr::Slice(_, _, _) => row_of(Form::Element).level,
         Expr::If(_, _, _) => CHOICE_LEVEL,
         Expr::Unary(op, _) => unary_level(*op),
@@ -592,9 +592,9 @@ impl<F: Fn(Global, usize, u8, &[Token]) -> Result<(Box<Expr>, &[Token]), ReadErr
                 let (c, rest) = clock(alloc, tokens)?;
                 boxed_before(alloc, Expr::When(left, c.variable, c.sign), rest)
             }
-            Form::Copies => {
+            Form::Replicate => {
                 let (n, rest) = size(alloc, tokens)?;
-                boxed_before(alloc, Expr::Copies(left, n), rest)
+                boxed_before(alloc, Expr::Replicate(left, n), rest)
             }
             Form::Element => element(alloc, left, tokens),
             _ => self.infix(left, form, tokens),

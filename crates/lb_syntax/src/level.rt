@@ -37,7 +37,7 @@ pub enum Form {
     /// `e when c`
     When,
     /// `e ^ n`
-    Copies,
+    Replicate,
     /// `e[i]`, `e[i..j]`
     Element,
 }
@@ -98,7 +98,7 @@ pub fn row_of(form: Form) -> Row
         Form::Arrow | Form::Fby => to_right(3),
         Form::Data(op) => data_row(op),
         Form::When => to_left(11),
-        Form::Copies | Form::Element => to_left(13),
+        Form::Replicate | Form::Element => to_left(13),
     }
 }
 
@@ -160,7 +160,7 @@ pub fn form_of(mark: Mark) -> Option<Form>
         Mark::Greater => Some(Form::Data(BinaryOperator::Greater)),
         Mark::AtLeast => Some(Form::Data(BinaryOperator::AtLeast)),
         Mark::When => Some(Form::When),
-        Mark::Caret => Some(Form::Copies),
+        Mark::Caret => Some(Form::Replicate),
         Mark::OpenBracket => Some(Form::Element),
         _ => match arithmetic_of(mark) {
             Some(op) => Some(Form::Data(op)),

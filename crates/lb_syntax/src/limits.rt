@@ -5,7 +5,7 @@
 
 ghost use Rattle.std.specs.Prelude.{◌≡◌, ◌<◌, ◌≤◌, ◌+◌, ◌&&◌, ◌↔◌, length, IsNone, IfSome, IsTrue};
 ghost use Rattle.lb_syntax.specs.Limits as spec;
-ghost use Rattle.lb_syntax.specs.Walk as walk;
+ghost use Rattle.lb_syntax.specs.TokenCounts as token_counts;
 
 use crate::level::form_of;
 use crate::token::{Mark, Token};
@@ -59,7 +59,7 @@ fn is_separator(depth: usize, token: &Token) -> bool
 
 /// Whether a mark is a prefix operator, or a bracket that nests in front of an operand.
 fn opens(mark: Mark) -> bool
-    ensures { result ≡ walk.opens mark }
+    ensures { result ≡ token_counts.opens mark }
 {
     match mark {
         Mark::If | Mark::Not | Mark::Pre | Mark::Current | Mark::Hash | Mark::Nor => true,
@@ -82,7 +82,7 @@ fn is_counted(token: &Token) -> bool
 /// How many tokens of its statement are counted up to a token, or none where it breaks a limit.
 fn counted_after(depth: usize, counted: usize, token: &Token) -> Option<usize>
     requires { counted ≤ 500 }
-    ensures value { result ≡ walk.counted_after depth counted token.now }
+    ensures value { result ≡ token_counts.counted_after depth counted token.now }
     ensures few { IfSome result (λ n. n ≤ 500) }
 {
     if !fits(token) {

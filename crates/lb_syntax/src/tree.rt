@@ -172,7 +172,7 @@ pub enum Expr {
     /// `e when c` (true), `e when not c` (false)
     When(Box<Expr>, Name, bool),
     /// `e ^ n`
-    Copies(Box<Expr>, Static),
+    Replicate(Box<Expr>, Static),
     /// `e[i]`
     Index(Box<Expr>, Static),
     /// `e[i..j]`

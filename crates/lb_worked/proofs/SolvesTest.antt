@@ -8,7 +8,7 @@ use Rattle.lb_syntax.specs.Tree.{Name, Node_named, Expr, Call, Iterate, Exprs, D
 use Rattle.lb_syntax.specs.Tree.{Statement, Equation, Assertion}
 use Rattle.lb_static.specs.Instances.{Program, Instance, Path, Root, Observer, Child, instance_at}
 use Rattle.lb_static.specs.Instances.{node_named, instances}
-use Rattle.lb_static.specs.Shapes.{variables, width, input_kinds}
+use Rattle.lb_static.specs.DataTypes.{variables, width, input_kinds}
 use Rattle.lb_check.specs.Scalars.{Stream}
 use Rattle.lb_check.specs.Clocks.{Clock, base_clock, argument_clocks}
 use Rattle.lb_check.specs.Occurrences.{Occurrence, node_occurrences, statements}

@@ -6,7 +6,7 @@ use Rattle.lb_syntax.specs.declared.tree.BinaryOperator.TheVariants.{Greater, At
 use Rattle.lb_syntax.specs.declared.tree.BinaryOperator.TheVariants.{Times, Divide}
 use Rattle.lb_syntax.specs.declared.tree.ArrayIterator.TheVariants.{Map, Red, Fill}
 use Rattle.lb_syntax.specs.Tree.{Whole, Combined, Literal, Truth, Group, Binary, If, Arrow, Fby}
-use Rattle.lb_syntax.specs.Tree.{Pre, Copies, Index, Slice, Join, Array, Assertion, Node}
+use Rattle.lb_syntax.specs.Tree.{Pre, Replicate, Index, Slice, Join, Array, Assertion, Node}
 use Rattle.lb_static.specs.Instances.{Program}
 use Rattle.lb_static.specs.WorkedTrees.{static, v, exprs, call, call_with, when_true, iterate}
 use Rattle.lb_static.specs.WorkedTrees.{iterate_symbol, int_var, bool_var, int_array, on_true}
@@ -176,7 +176,7 @@ array_memory = alone (main (int_array "A" (Whole 2 ∷ []) ∷ int_var "e" ∷ [
 -- let B = x^2^3; ok = B[2][1] = e; tel
 abbrev pub copied : Program
 copied = alone (main (int_var "x" ∷ int_var "e" ∷ []) (int_array "B" (Whole 2 ∷ Whole 3 ∷ []) ∷ [])
-    (equation "B" (Copies (Copies (v "x") (Whole 2)) (Whole 3))
+    (equation "B" (Replicate (Replicate (v "x") (Whole 2)) (Whole 3))
     ∷ equation "ok" (Binary Equal (Index (Index (v "B") (Whole 2)) (Whole 1)) (v "e")) ∷ []))
 
 -- const n = 5 div 2;
@@ -197,7 +197,7 @@ abbrev pub static_parameter : Program
 static_parameter = program [] (
     with_parameters "k" (node "first" (int_var "x" ∷ []) (int_var "y" ∷ []) (int_array "A"
     (static "k" ∷ []) ∷ [])
-    (equation "A" (Copies (v "x") (static "k"))
+    (equation "A" (Replicate (v "x") (static "k"))
     ∷ equation "y" (Binary Plus (Index (v "A") (Combined Minus (static "k") (Whole 1))) (v "k"))
     ∷ []))
     ∷ main (int_var "x" ∷ int_var "e" ∷ []) []

@@ -13,7 +13,7 @@ use Rattle.lb_syntax.specs.declared.tree.BinaryOperator.TheVariants.{Divide, Mod
 use Rattle.lb_syntax.specs.declared.tree.ArrayIterator.TheVariants.{Map}
 use Rattle.lb_syntax.specs.Tree.{Name, Static, Whole, Named, Negated, Combined, Grouped, Symbol}
 use Rattle.lb_syntax.specs.Tree.{Expr, Literal, Truth, Variable, Unary, Binary, If, Arrow, Pre}
-use Rattle.lb_syntax.specs.Tree.{When, Copies, Join, Array, Call, Iterate, Nil, Cons}
+use Rattle.lb_syntax.specs.Tree.{When, Replicate, Join, Array, Call, Iterate, Nil, Cons}
 use Rattle.lb_syntax.specs.Spelling.{Spells, IsStatic}
 use Rattle.lb_syntax.specs.Tokens.{tokens}
 
@@ -189,11 +189,12 @@ when_to_the_left_tree = When (When (Variable a) c true) d false
 
 abbrev pub copies_to_the_left_tree : Expr
 copies_to_the_left_tree =
-    Copies (Copies (Literal 0) (Named n)) (Grouped (Combined Minus (Whole 1) (Negated (Whole 2))))
+    Replicate (Replicate (Literal 0) (Named n))
+    (Grouped (Combined Minus (Whole 1) (Negated (Whole 2))))
 
 abbrev pub static_quotients_tree : Expr
 static_quotients_tree =
-    Copies (Variable a)
+    Replicate (Variable a)
     (Grouped (Combined Divide (Combined Divide (Named n) (Whole 2)) (Whole 3)))
 
 abbrev pub static_arguments_tree : Expr

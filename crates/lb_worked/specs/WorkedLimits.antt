@@ -3,7 +3,7 @@
 use Rattle.std.specs.Prelude.{true, List, [], ◌∷◌, ℕ, zero, suc, ◌+◌, replicate}
 use Rattle.lb_syntax.specs.declared.tree.BinaryOperator.TheVariants.{And, Equal}
 use Rattle.lb_syntax.specs.declared.tree.ArrayIterator.TheVariants.{Map}
-use Rattle.lb_syntax.specs.Tree.{Whole, Truth, Binary, Copies, Index, Node, Call, Name, Expr}
+use Rattle.lb_syntax.specs.Tree.{Whole, Truth, Binary, Replicate, Index, Node, Call, Name, Expr}
 use Rattle.lb_static.specs.Instances.{Program}
 use Rattle.lb_static.specs.WorkedTrees.{v, exprs, iterate, int_var, int_array, equation, node, main}
 use Rattle.lb_static.specs.WorkedTrees.{program, alone}
@@ -42,7 +42,7 @@ abbrev pub mapped : (n i : ℕ) → Program
 mapped n i = program [] (
     node "f" (int_var "a" ∷ []) (int_var "b" ∷ []) [] (equation "b" (v "a") ∷ [])
     ∷ main (int_var "x" ∷ []) (int_array "B" (Whole n ∷ []) ∷ [])
-    (equation "B" (iterate Map "f" (Whole n) (Copies (v "x") (Whole n) ∷ []))
+    (equation "B" (iterate Map "f" (Whole n) (Replicate (v "x") (Whole n) ∷ []))
     ∷ equation "ok" (Binary Equal (Index (v "B") (Whole i)) (v "x")) ∷ []) ∷ [])
 
 -- ## Size
@@ -61,4 +61,4 @@ repeated (suc n) = Binary And (repeated n) first_is_x
 -- let A = x^4096; ok = A[0] = x and ..; tel
 abbrev pub long_array : ℕ → Program
 long_array n = alone (main (int_var "x" ∷ []) (int_array "A" (Whole 4096 ∷ []) ∷ [])
-    (equation "A" (Copies (v "x") (Whole 4096)) ∷ equation "ok" (repeated n) ∷ []))
+    (equation "A" (Replicate (v "x") (Whole 4096)) ∷ equation "ok" (repeated n) ∷ []))

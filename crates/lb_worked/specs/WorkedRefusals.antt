@@ -5,7 +5,7 @@ use Rattle.lb_syntax.specs.declared.tree.BinaryOperator.TheVariants.{Equal, Less
 use Rattle.lb_syntax.specs.declared.tree.BinaryOperator.TheVariants.{Divide}
 use Rattle.lb_syntax.specs.declared.tree.ArrayIterator.TheVariants.{Map, Red, Fill}
 use Rattle.lb_syntax.specs.Tree.{Whole, Negated, Combined, Grouped, Literal, Truth, Group, Binary}
-use Rattle.lb_syntax.specs.Tree.{If, Pre, Current, Copies, Index, Slice, Join, Array, Assertion}
+use Rattle.lb_syntax.specs.Tree.{If, Pre, Current, Replicate, Index, Slice, Join, Array, Assertion}
 use Rattle.lb_syntax.specs.Tree.{Node, Declaration, Statement}
 use Rattle.lb_static.specs.Instances.{Program}
 use Rattle.lb_static.specs.WorkedTrees.{static, v, exprs, call, call_with, when_true, iterate}
@@ -67,7 +67,7 @@ constant_for_a_clock_name = program (constant "k" (Whole 1) ∷ []) (
 -- let A = x^1; ok = true; tel
 abbrev pub unknown_static_name : Program
 unknown_static_name = alone (changed (int_array "A" (static "n" ∷ []) ∷ [])
-    (equation "A" (Copies (v "x") (Whole 1))
+    (equation "A" (Replicate (v "x") (Whole 1))
     ∷ equation "ok" (Truth true) ∷ []))
 
 -- the variable hides the constant
@@ -79,7 +79,7 @@ abbrev pub variable_in_a_static_expression : Program
 variable_in_a_static_expression = program (constant "z" (Whole 2) ∷ []) (
     changed (int_var "z" ∷ int_array "A" (static "z" ∷ []) ∷ [])
     (equation "z" (Literal 1)
-    ∷ equation "A" (Copies (v "x") (Whole 1))
+    ∷ equation "A" (Replicate (v "x") (Whole 1))
     ∷ equation "ok" (Truth true) ∷ []) ∷ [])
 
 -- a hidden constant is not reached
@@ -175,7 +175,7 @@ no_observer = alone (node "plant" (int_var "x" ∷ []) (int_var "y" ∷ []) []
 abbrev pub constant_without_a_value : Program
 constant_without_a_value = program (constant "n" (Combined Divide (Whole 1) (Whole 0)) ∷ []) (
     changed (int_array "A" (static "n" ∷ []) ∷ [])
-    (equation "A" (Copies (v "x") (static "n"))
+    (equation "A" (Replicate (v "x") (static "n"))
     ∷ equation "ok" (Truth true) ∷ []) ∷ [])
 
 -- const a = b; b = a;
@@ -185,7 +185,7 @@ constant_without_a_value = program (constant "n" (Combined Divide (Whole 1) (Who
 abbrev pub constants_in_a_circle : Program
 constants_in_a_circle = program (constant "a" (static "b") ∷ constant "b" (static "a") ∷ []) (
     changed (int_array "A" (static "a" ∷ []) ∷ [])
-    (equation "A" (Copies (v "x") (static "a"))
+    (equation "A" (Replicate (v "x") (static "a"))
     ∷ equation "ok" (Truth true) ∷ []) ∷ [])
 
 -- const n = 2147483647 + 1;
@@ -195,7 +195,7 @@ constants_in_a_circle = program (constant "a" (static "b") ∷ constant "b" (sta
 abbrev pub constant_out_of_range : Program
 constant_out_of_range = program (constant "n" (Combined Plus (Whole 2147483647) (Whole 1)) ∷ []) (
     changed (int_array "A" (static "n" ∷ []) ∷ [])
-    (equation "A" (Copies (v "x") (static "n"))
+    (equation "A" (Replicate (v "x") (static "n"))
     ∷ equation "ok" (Truth true) ∷ []) ∷ [])
 
 -- const n = 1 div 0;
@@ -219,7 +219,7 @@ unreached_constant = program (constant "n" (Combined Divide (Whole 1) (Whole 0))
 -- let A = x^1; ok = true; tel
 abbrev pub size_of_zero : Program
 size_of_zero = alone (changed (int_array "A" (Whole 0 ∷ []) ∷ [])
-    (equation "A" (Copies (v "x") (Whole 1))
+    (equation "A" (Replicate (v "x") (Whole 1))
     ∷ equation "ok" (Truth true) ∷ []))
 
 -- const n = -1;
@@ -229,14 +229,14 @@ size_of_zero = alone (changed (int_array "A" (Whole 0 ∷ []) ∷ [])
 abbrev pub negative_size : Program
 negative_size = program (constant "n" (Negated (Whole 1)) ∷ []) (
     changed (int_array "A" (static "n" ∷ []) ∷ [])
-    (equation "A" (Copies (v "x") (Whole 1))
+    (equation "A" (Replicate (v "x") (Whole 1))
     ∷ equation "ok" (Truth true) ∷ []) ∷ [])
 
 -- node main(x, y: int; c: bool) returns (ok: bool);
 -- let ok = (x^4097)[0] = y; tel
 abbrev pub size_above_4096 : Program
 size_above_4096 = alone (changed []
-    (equation "ok" (Binary Equal (Index (Group (Copies (v "x") (Whole 4097))) (Whole 0)) (v "y"))
+    (equation "ok" (Binary Equal (Index (Group (Replicate (v "x") (Whole 4097))) (Whole 0)) (v "y"))
     ∷ []))
 
 -- node main(x, y: int; c: bool) returns (ok: bool);
@@ -244,7 +244,7 @@ size_above_4096 = alone (changed []
 -- let A = x^3; ok = A[4096] = x; tel
 abbrev pub index_above_4095 : Program
 index_above_4095 = alone (changed (int_array "A" (Whole 3 ∷ []) ∷ [])
-    (equation "A" (Copies (v "x") (Whole 3))
+    (equation "A" (Replicate (v "x") (Whole 3))
     ∷ equation "ok" (Binary Equal (Index (v "A") (Whole 4096)) (v "x")) ∷ []))
 
 -- node main(x, y: int; c: bool) returns (ok: bool);
@@ -252,7 +252,7 @@ index_above_4095 = alone (changed (int_array "A" (Whole 3 ∷ []) ∷ [])
 -- let A = x^3; B = A[2..1]; ok = true; tel
 abbrev pub slice_backwards : Program
 slice_backwards = alone (changed (int_array "A" (Whole 3 ∷ []) ∷ int_array "B" (Whole 2 ∷ []) ∷ [])
-    (equation "A" (Copies (v "x") (Whole 3))
+    (equation "A" (Replicate (v "x") (Whole 3))
     ∷ equation "B" (Slice (v "A") (Whole 2) (Whole 1))
     ∷ equation "ok" (Truth true) ∷ []))
 
@@ -261,7 +261,7 @@ slice_backwards = alone (changed (int_array "A" (Whole 3 ∷ []) ∷ int_array "
 -- let A = x^257^256; ok = true; tel
 abbrev pub type_of_65792_elements : Program
 type_of_65792_elements = alone (changed (int_array "A" (Whole 257 ∷ Whole 256 ∷ []) ∷ [])
-    (equation "A" (Copies (Copies (v "x") (Whole 257)) (Whole 256))
+    (equation "A" (Replicate (Replicate (v "x") (Whole 257)) (Whole 256))
     ∷ equation "ok" (Truth true) ∷ []))
 
 -- node main(x, y: int; c: bool) returns (ok: bool);
@@ -372,7 +372,7 @@ branches_of_two_types = alone (changed []
 -- let A = x^3; ok = A[3] = x; tel
 abbrev pub index_past_the_end : Program
 index_past_the_end = alone (changed (int_array "A" (Whole 3 ∷ []) ∷ [])
-    (equation "A" (Copies (v "x") (Whole 3))
+    (equation "A" (Replicate (v "x") (Whole 3))
     ∷ equation "ok" (Binary Equal (Index (v "A") (Whole 3)) (v "x")) ∷ []))
 
 -- node main(x, y: int; c: bool) returns (ok: bool);
@@ -381,7 +381,7 @@ index_past_the_end = alone (changed (int_array "A" (Whole 3 ∷ []) ∷ [])
 abbrev pub slice_past_the_end : Program
 slice_past_the_end = alone (changed (int_array "A" (Whole 3 ∷ []) ∷ int_array "B" (Whole 2 ∷ [])
     ∷ [])
-    (equation "A" (Copies (v "x") (Whole 3))
+    (equation "A" (Replicate (v "x") (Whole 3))
     ∷ equation "B" (Slice (v "A") (Whole 2) (Whole 3))
     ∷ equation "ok" (Truth true) ∷ []))
 
@@ -390,7 +390,7 @@ slice_past_the_end = alone (changed (int_array "A" (Whole 3 ∷ []) ∷ int_arra
 -- let A = x^3; ok = A = A; tel
 abbrev pub equal_arrays : Program
 equal_arrays = alone (changed (int_array "A" (Whole 3 ∷ []) ∷ [])
-    (equation "A" (Copies (v "x") (Whole 3))
+    (equation "A" (Replicate (v "x") (Whole 3))
     ∷ equation "ok" (Binary Equal (v "A") (v "A")) ∷ []))
 
 -- node main(x, y: int; c: bool) returns (ok: bool);
@@ -398,7 +398,7 @@ equal_arrays = alone (changed (int_array "A" (Whole 3 ∷ []) ∷ [])
 -- let A = x^4096; ok = (A | [x])[0] = x; tel
 abbrev pub joined_past_4096 : Program
 joined_past_4096 = alone (changed (int_array "A" (Whole 4096 ∷ []) ∷ [])
-    (equation "A" (Copies (v "x") (Whole 4096))
+    (equation "A" (Replicate (v "x") (Whole 4096))
     ∷ equation "ok" (Binary Equal (Index (Group (Join (v "A") (Array (exprs (v "x" ∷ [])))))
     (Whole 0)) (v "x")) ∷ []))
 
@@ -441,7 +441,7 @@ assertion_of_an_int = alone (changed []
 abbrev pub map_of_other_length : Program
 map_of_other_length = alone (changed (int_array "A" (Whole 3 ∷ []) ∷ int_array "B" (Whole 2 ∷ [])
     ∷ [])
-    (equation "A" (Copies (v "x") (Whole 3))
+    (equation "A" (Replicate (v "x") (Whole 3))
     ∷ equation "B" (iterate_symbol Map Plus (Whole 2) (v "A" ∷ v "A" ∷ []))
     ∷ equation "ok" (Truth true) ∷ []))
 
@@ -575,10 +575,10 @@ call_before_its_arguments = program [] (
     node "no_value" (int_var "x" ∷ []) (int_var "y" ∷ []) (int_array "A"
     (Grouped (Combined Divide (Whole 1) (Whole 0)) ∷ []) ∷ [])
     (equation "y" (v "x")
-    ∷ equation "A" (Copies (v "x") (Whole 1)) ∷ [])
+    ∷ equation "A" (Replicate (v "x") (Whole 1)) ∷ [])
     ∷ node "no_range" (int_var "x" ∷ []) (int_var "y" ∷ []) (int_array "A" (Whole 0 ∷ []) ∷ [])
     (equation "y" (v "x")
-    ∷ equation "A" (Copies (v "x") (Whole 1)) ∷ [])
+    ∷ equation "A" (Replicate (v "x") (Whole 1)) ∷ [])
     ∷ changed (int_var "z" ∷ [])
     (equation "z" (call "no_range" (call "no_value" (v "x" ∷ []) ∷ []))
     ∷ equation "ok" (Truth true) ∷ []) ∷ [])
@@ -597,10 +597,10 @@ arguments_after_their_call = program [] (
     node "no_value" (int_var "x" ∷ []) (int_var "y" ∷ []) (int_array "A"
     (Grouped (Combined Divide (Whole 1) (Whole 0)) ∷ []) ∷ [])
     (equation "y" (v "x")
-    ∷ equation "A" (Copies (v "x") (Whole 1)) ∷ [])
+    ∷ equation "A" (Replicate (v "x") (Whole 1)) ∷ [])
     ∷ node "no_range" (int_var "x" ∷ []) (int_var "y" ∷ []) (int_array "A" (Whole 0 ∷ []) ∷ [])
     (equation "y" (v "x")
-    ∷ equation "A" (Copies (v "x") (Whole 1)) ∷ [])
+    ∷ equation "A" (Replicate (v "x") (Whole 1)) ∷ [])
     ∷ changed (int_var "z" ∷ [])
     (equation "z" (call "no_value" (call "no_range" (v "x" ∷ []) ∷ []))
     ∷ equation "ok" (Truth true) ∷ []) ∷ [])
@@ -611,8 +611,8 @@ arguments_after_their_call = program [] (
 abbrev pub value_before_range : Program
 value_before_range = alone (changed (int_array "A" (Whole 0 ∷ []) ∷ int_array "B"
     (Grouped (Combined Divide (Whole 1) (Whole 0)) ∷ []) ∷ [])
-    (equation "A" (Copies (v "x") (Whole 1))
-    ∷ equation "B" (Copies (v "x") (Whole 1))
+    (equation "A" (Replicate (v "x") (Whole 1))
+    ∷ equation "B" (Replicate (v "x") (Whole 1))
     ∷ equation "ok" (Truth true) ∷ []))
 
 -- node g<<const k: int>>(x: int) returns (y: int);
@@ -625,7 +625,7 @@ abbrev pub one_value_of_a_parameter : Program
 one_value_of_a_parameter = program [] (
     with_parameters "k" (node "g" (int_var "x" ∷ []) (int_var "y" ∷ []) (int_array "A"
     (static "k" ∷ []) ∷ [])
-    (equation "A" (Copies (v "x") (static "k"))
+    (equation "A" (Replicate (v "x") (static "k"))
     ∷ equation "y" (Index (v "A") (Whole 0)) ∷ []))
     ∷ changed (int_var "z" ∷ int_var "w" ∷ [])
     (equation "z" (call_with "g" (Whole 1 ∷ []) (v "x" ∷ []))
@@ -649,25 +649,27 @@ recursion_before_parameters = alone (with_parameters "k" (main (int_var "x" ∷ 
 -- node main<<const k: int>>(x: int) returns (ok: bool);
 -- var A: int^(1 div 0);
 -- let A = x^1; ok = true; tel
-abbrev pub parameters_before_the_walk : Program
-parameters_before_the_walk = alone (with_parameters "k" (main (int_var "x" ∷ []) (int_array "A"
+abbrev pub parameters_before_the_instantiation : Program
+parameters_before_the_instantiation =
+    alone (with_parameters "k" (main (int_var "x" ∷ []) (int_array "A"
     (Grouped (Combined Divide (Whole 1) (Whole 0)) ∷ []) ∷ [])
-    (equation "A" (Copies (v "x") (Whole 1))
+    (equation "A" (Replicate (v "x") (Whole 1))
     ∷ equation "ok" (Truth true) ∷ [])))
 
 -- node main(x: int) returns (ok: int);
 -- var A: int^(1 div 0);
 -- let A = x^1; ok = 1; tel
-abbrev pub walk_before_the_shape : Program
-walk_before_the_shape = alone (node "main" (int_var "x" ∷ []) (int_var "ok" ∷ []) (int_array "A"
+abbrev pub instantiation_before_the_interface : Program
+instantiation_before_the_interface =
+    alone (node "main" (int_var "x" ∷ []) (int_var "ok" ∷ []) (int_array "A"
     (Grouped (Combined Divide (Whole 1) (Whole 0)) ∷ []) ∷ [])
-    (equation "A" (Copies (v "x") (Whole 1))
+    (equation "A" (Replicate (v "x") (Whole 1))
     ∷ equation "ok" (Literal 1) ∷ []))
 
 -- node main(x: int) returns (ok: int);
 -- let ok = true; tel
-abbrev pub shape_before_types : Program
-shape_before_types = alone (node "main" (int_var "x" ∷ []) (int_var "ok" ∷ []) []
+abbrev pub interface_before_types : Program
+interface_before_types = alone (node "main" (int_var "x" ∷ []) (int_var "ok" ∷ []) []
     (equation "ok" (Truth true) ∷ []))
 
 -- node g(x: int) returns (y: int); let y = true; tel

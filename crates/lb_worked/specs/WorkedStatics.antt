@@ -6,13 +6,13 @@ use Rattle.lb_syntax.specs.declared.tree.BinaryOperator.TheVariants.{Equal, Plus
 use Rattle.lb_syntax.specs.declared.tree.BinaryOperator.TheVariants.{Divide, Modulo}
 use Rattle.lb_syntax.specs.declared.tree.ArrayIterator.TheVariants.{Map, Red}
 use Rattle.lb_syntax.specs.Tree.{Static, Whole, Negated, Combined, Grouped, Literal, Truth, Binary}
-use Rattle.lb_syntax.specs.Tree.{Copies, Index, Array, Name}
+use Rattle.lb_syntax.specs.Tree.{Replicate, Index, Array, Name}
 use Rattle.lb_static.specs.Instances.{Program, Path, instances}
 use Rattle.lb_static.specs.WorkedTrees.{static, v, exprs, call, call_with, iterate, int_var}
 use Rattle.lb_static.specs.WorkedTrees.{bool_var, int_array, equation, node, with_parameters, main}
 use Rattle.lb_static.specs.WorkedTrees.{constant, program, alone, bench}
 use Rattle.lb_static.specs.StaticValues.{value_under, constant_value}
-use Rattle.lb_static.specs.Shapes.{signature}
+use Rattle.lb_static.specs.DataTypes.{signature}
 use Rattle.lb_static.specs.Names.{reached_nodes, reached_constants}
 
 -- ## Static expressions
@@ -175,7 +175,7 @@ partly_reached = program (constant "a" (static "b") ∷ constant "b" (Whole 1) �
     node "far" (int_var "x" ∷ []) (int_var "y" ∷ []) []
     (equation "y" (Binary Plus (v "x") (v "d")) ∷ [])
     ∷ node "near" (int_var "x" ∷ []) (int_var "y" ∷ []) (int_array "A" (static "e" ∷ []) ∷ [])
-    (equation "A" (Copies (v "x") (static "e"))
+    (equation "A" (Replicate (v "x") (static "e"))
     ∷ equation "y" (iterate Red "far2" (Whole 5) (v "x" ∷ v "A" ∷ [])) ∷ [])
     ∷ node "far2" (int_var "a" ∷ int_var "x" ∷ []) (int_var "y" ∷ []) []
     (equation "y" (Binary Plus (v "a") (v "x")) ∷ [])

@@ -3,7 +3,7 @@
 ghost use Rattle.std.specs.Prelude.{List, None, Some, [], codes, length, negsuc, pos, slice_get};
 ghost use Rattle.std.specs.Prelude.{◌∷◌, ◌≡◌};
 ghost use Rattle.lb_static.specs.Instances.{Root, Observer, Child};
-ghost use Rattle.lb_static.specs.Shapes.{input_kinds, signature};
+ghost use Rattle.lb_static.specs.DataTypes.{input_kinds, signature};
 ghost use Rattle.lb_static.specs.StaticValues.{value_under};
 ghost use Rattle.lb_static.specs.WorkedTrees.{names};
 ghost use Rattle.lb_syntax.specs.declared.tree.Kind.TheVariants.{Int, Bool};

@@ -1,4 +1,4 @@
-//! The equations of terms and steps.
+//! The equations of terms and statements.
 
 ghost use Rattle.std.specs.Prelude.{◌≡◌, ◌<◌, ◌≤◌, ◌++◌, All, [], IfOk};
 ghost use Rattle.lb_flat.specs.Programs.{flat_equations};
@@ -8,7 +8,7 @@ ghost use Rattle.lb_flat.specs.Values.{scalar_of};
 ghost use Rattle.lb_flat.specs.Within.{IsWithin};
 
 use crate::equation::{ElementId, Equation, InputId, Operation};
-use crate::plain::term::{Step, Term, Variable};
+use crate::plain::term::{PlainStatement, Term, Variable};
 use crate::program::FlatProgram;
 use crate::scalar::Scalar;
 use lb_static::resolved::VariableId;
@@ -25,18 +25,18 @@ pub(crate) struct Emission {
     /// The next free element.
     pub(crate) next: u32,
     /// The elements that hold operands of memories.
-    pub(crate) kept: Vec<ElementId>,
+    pub(crate) memory_operands: Vec<ElementId>,
     /// The elements that hold assertions.
     pub(crate) asserted: Vec<ElementId>,
     pub ghost equations_within: { All (IsWithin next []) equations.items },
     pub ghost copies_within: { All (IsWithin next []) copies.items },
-    pub ghost kept_within: { All (λ a. a.0 < next) kept.items },
+    pub ghost memory_operands_within: { All (λ a. a.0 < next) memory_operands.items },
     pub ghost asserted_within: { All (λ a. a.0 < next) asserted.items },
 }
 
 /// The element that holds a term, and the kind of the term.
 #[derive(Clone, Copy)]
-pub(crate) struct Found {
+pub(crate) struct TypedElement {
     pub(crate) element: ElementId,
     pub(crate) kind: Kind,
 }
@@ -120,13 +120,13 @@ fn whole_equations(
 impl Emission {
     ghost use Rattle.std.specs.Prelude.{◌+◌, ◌*◌, ◌^◌, ◌≤◌, true, length, OnOk};
     ghost use Rattle.std.specs.List.{list_all};
-    ghost use Rattle.lb_flat.specs.PlainNodes.{is_place, is_within, is_step_within};
+    ghost use Rattle.lb_flat.specs.PlainNodes.{is_place, is_within, is_statement_within};
     ghost use Rattle.lb_flat.specs.TermKinds.{kinds_of};
     ghost use Rattle.lb_flat.specs.Flat.{Always};
     ghost use Rattle.lb_flat.specs.Emit.{before_instances, emit_nor, emit_at_most_one};
     ghost use Rattle.lb_flat.specs.Emissions.{state_of, found_of, emitted_of, CanPush, IsTaken, AreTaken};
     ghost use Rattle.lb_flat.specs.Programs.{numbers_of, program_of, IsInRange};
-    ghost use Rattle.lb_flat.specs.Terms.{term_size, list_size, step_size, steps_size};
+    ghost use Rattle.lb_flat.specs.Terms.{term_size, list_size, statement_size, statements_size};
     ghost use Rattle.lb_flat.specs.Values.{operation_of};
 
     /// Nothing yet, where the first so many elements are those of variables.
@@ -137,14 +137,14 @@ impl Emission {
             equations: Vec::new(alloc),
             copies: Vec::new(alloc),
             next: variables,
-            kept: Vec::new(alloc),
+            memory_operands: Vec::new(alloc),
             asserted: Vec::new(alloc),
         }
     }
 
     /// A new element, which this operation gives.
     #[tactic(auto, using(crate::proofs::Emitting::pushes))]
-    fn push(&mut self, operation: Operation, kind: Kind) -> Result<Found, AllocError>
+    fn push(&mut self, operation: Operation, kind: Kind) -> Result<TypedElement, AllocError>
         requires { CanPush self.old.next operation }
         ensures found { IfOk result (λ f.
             found_of self.new f ≡ mirror.pushed (state_of self.old) (operation_of operation) kind) }
@@ -158,12 +158,12 @@ impl Emission {
             operation,
         })?;
         self.next += 1;
-        Ok(Found { element, kind })
+        Ok(TypedElement { element, kind })
     }
 
     /// `pre` of an operand, which a memory keeps.
     #[tactic(auto, using(crate::proofs::Emitting::pushes))]
-    fn previous(&mut self, operand: Found) -> Result<Found, AllocError>
+    fn previous(&mut self, operand: TypedElement) -> Result<TypedElement, AllocError>
         requires room { self.old.next + 1 < 2 ^ 32 }
         requires operand { operand.element.0 < self.old.next }
         ensures found { IfOk result (λ f. found_of self.new f
@@ -171,13 +171,13 @@ impl Emission {
         ensures next { OnOk result (self.new.next ≡ self.old.next + 1) }
         ensures element { IfOk result (λ f. f.element.0 < self.new.next) }
     {
-        self.kept.push(operand.element)?;
+        self.memory_operands.push(operand.element)?;
         let previous = Operation::Previous(first_value(operand.kind), operand.element);
         self.push(previous, operand.kind)
     }
 
     /// Whether none of these elements is true.
-    fn nor(&mut self, operands: &[ElementId]) -> Result<Found, AllocError>
+    fn nor(&mut self, operands: &[ElementId]) -> Result<TypedElement, AllocError>
         requires room { self.old.next + length operands.now + 2 < 2 ^ 32 }
         requires operands { All (λ a. a.0 < self.old.next) operands.now }
         ensures found { IfOk result (λ f. found_of self.new f
@@ -195,7 +195,7 @@ impl Emission {
     }
 
     /// Whether at most one of these elements is true.
-    fn at_most_one(&mut self, operands: &[ElementId]) -> Result<Found, AllocError>
+    fn at_most_one(&mut self, operands: &[ElementId]) -> Result<TypedElement, AllocError>
         requires room { self.old.next + 3 * length operands.now + 2 < 2 ^ 32 }
         requires operands { All (λ a. a.0 < self.old.next) operands.now }
         ensures found { IfOk result (λ f. found_of self.new f
@@ -219,7 +219,7 @@ impl Emission {
     }
 
     /// A term with this operand: a data operator or `pre`.
-    fn with_one(&mut self, term: &Term, operand: Found) -> Result<Found, AllocError>
+    fn with_one(&mut self, term: &Term, operand: TypedElement) -> Result<TypedElement, AllocError>
         requires room { self.old.next + 1 < 2 ^ 32 }
         requires operand { operand.element.0 < self.old.next }
         ensures found { IfOk result (λ f. found_of self.new f
@@ -237,7 +237,12 @@ impl Emission {
     }
 
     /// A term with these two operands: a data operator, `fby` or `->`.
-    fn with_two(&mut self, term: &Term, a: ElementId, b: Found) -> Result<Found, AllocError>
+    fn with_two(
+        &mut self,
+        term: &Term,
+        a: ElementId,
+        b: TypedElement,
+    ) -> Result<TypedElement, AllocError>
         requires room { self.old.next + 2 < 2 ^ 32 }
         requires first { a.0 < self.old.next }
         requires second { b.element.0 < self.old.next }
@@ -261,7 +266,7 @@ impl Emission {
     }
 
     /// A term with these operands in a row: `nor` or `#`.
-    fn with_all(&mut self, term: &Term, operands: &[ElementId]) -> Result<Found, AllocError>
+    fn with_all(&mut self, term: &Term, operands: &[ElementId]) -> Result<TypedElement, AllocError>
         requires room { self.old.next + 3 * length operands.now + 2 < 2 ^ 32 }
         requires operands { All (λ a. a.0 < self.old.next) operands.now }
         ensures found { IfOk result (λ f. found_of self.new f
@@ -285,7 +290,7 @@ impl Emission {
         alloc: Global,
         variables: &[Variable],
         term: &Term,
-    ) -> Result<Found, AllocError>
+    ) -> Result<TypedElement, AllocError>
         requires within { is_within (length variables.now) term.now ≡ true }
         requires variables { length variables.now ≤ self.old.next }
         requires room { self.old.next + 5 * term_size term.now < 2 ^ 32 }
@@ -297,7 +302,7 @@ impl Emission {
         match term {
             Term::Literal(n) => self.push(Operation::Constant(literal(*n)), Kind::Int),
             Term::Truth(b) => self.push(Operation::Constant(Scalar::Boolean(*b)), Kind::Bool),
-            Term::Variable(x) => Ok(Found {
+            Term::Variable(x) => Ok(TypedElement {
                 element: ElementId(x.0),
                 kind: variables[x.0 as usize].kind,
             }),
@@ -367,23 +372,29 @@ impl Emission {
         Ok(())
     }
 
-    /// Emits a step after what was emitted so far.
-    #[tactic(auto, unfolding(crate::specs::Terms::emit_step), using(crate::proofs::Emitting::steps))]
-    fn step(&mut self, alloc: Global, variables: &[Variable], step: &Step) -> Result<(), AllocError>
-        requires within { is_step_within (length variables.now) step.now ≡ true }
+    /// Emits a statement after what was emitted so far.
+    #[tactic(auto, unfolding(crate::specs::Terms::emit_statement), using(crate::proofs::Emitting::statements))]
+    fn statement(
+        &mut self,
+        alloc: Global,
+        variables: &[Variable],
+        statement: &PlainStatement,
+    ) -> Result<(), AllocError>
+        requires within { is_statement_within (length variables.now) statement.now ≡ true }
         requires variables { length variables.now ≤ self.old.next }
-        requires room { self.old.next + 5 * step_size step.now < 2 ^ 32 }
+        requires room { self.old.next + 5 * statement_size statement.now < 2 ^ 32 }
         ensures state { OnOk result (state_of self.new
-            ≡ mirror.emit_step (kinds_of variables.now) (state_of self.old) step.now) }
+            ≡ mirror.emit_statement (kinds_of variables.now) (state_of self.old) statement.now) }
         ensures grows { OnOk result (self.old.next ≤ self.new.next) }
-        ensures room { OnOk result (self.new.next ≤ self.old.next + 5 * step_size step.now) }
+        ensures room { OnOk result
+            (self.new.next ≤ self.old.next + 5 * statement_size statement.now) }
     {
-        match step {
-            Step::Equation(lefts, e) => {
+        match statement {
+            PlainStatement::Equation(lefts, e) => {
                 let found = self.emit(alloc, variables, e)?;
                 self.copy(lefts, found.element)
             }
-            Step::Assertion(e) => {
+            PlainStatement::Assertion(e) => {
                 let found = self.emit(alloc, variables, e)?;
                 self.asserted.push(found.element)?;
                 Ok(())
@@ -391,23 +402,24 @@ impl Emission {
         }
     }
 
-    /// Emits some steps, one after another.
-    #[tactic(auto, unfolding(crate::specs::Terms::emit_steps, crate::specs::Terms::steps_size), using(crate::proofs::Emitting::steps))]
-    pub(crate) fn steps(
+    /// Emits some statements, one after another.
+    #[tactic(auto, unfolding(crate::specs::Terms::emit_statements, crate::specs::Terms::statements_size), using(crate::proofs::Emitting::statements))]
+    pub(crate) fn statements(
         &mut self,
         alloc: Global,
         variables: &[Variable],
-        steps: &[Step],
+        statements: &[PlainStatement],
     ) -> Result<(), AllocError>
-        requires within { list_all (is_step_within (length variables.now)) steps.now ≡ true }
+        requires within { list_all (is_statement_within (length variables.now)) statements.now
+            ≡ true }
         requires variables { length variables.now ≤ self.old.next }
-        requires room { self.old.next + 5 * steps_size steps.now < 2 ^ 32 }
+        requires room { self.old.next + 5 * statements_size statements.now < 2 ^ 32 }
         ensures state { OnOk result (state_of self.new
-            ≡ mirror.emit_steps (kinds_of variables.now) (state_of self.old) steps.now) }
+            ≡ mirror.emit_statements (kinds_of variables.now) (state_of self.old) statements.now) }
         ensures grows { OnOk result (self.old.next ≤ self.new.next) }
     {
-        for step in steps {
-            self.step(alloc, variables, step)?;
+        for statement in statements {
+            self.statement(alloc, variables, statement)?;
         }
         Ok(())
     }
@@ -431,15 +443,15 @@ impl Emission {
             equations: _equations,
             copies: _copies,
             next,
-            kept,
+            memory_operands,
             asserted,
         } = self;
         Ok(FlatProgram {
             equations: all,
-            ticks: Vec::new(alloc),
+            clocks: Vec::new(alloc),
             size: next,
             variables,
-            kept,
+            memory_operands,
             asserted,
             property: ElementId(inputs),
         })

@@ -1,9 +1,9 @@
 //! The size of a program: its variables, and its expressions with their parts.
 
 ghost use Rattle.std.specs.Prelude.{◌≡◌, ◌-◌};
-ghost use Rattle.lb_flat.specs.Terms.{term_size, list_size, steps_size};
+ghost use Rattle.lb_flat.specs.Terms.{term_size, list_size, statements_size};
 
-use crate::plain::term::{Step, Term};
+use crate::plain::term::{PlainStatement, Term};
 
 /// What is left of so many expressions after a term and its parts; nothing where they are too few.
 #[cycle(size)]
@@ -36,14 +36,14 @@ fn after_terms(left: u32, terms: &[Term]) -> u32
     left
 }
 
-/// What is left after the right sides of some steps.
-#[tactic(auto, unfolding(crate::specs::Terms::steps_size), using(crate::proofs::TermRows::sizes))]
-pub(crate) fn after_steps(left: u32, steps: &[Step]) -> u32
-    ensures { result ≡ left - steps_size steps.now }
+/// What is left after the right sides of some statements.
+#[tactic(auto, unfolding(crate::specs::Terms::statements_size), using(crate::proofs::TermRows::sizes))]
+pub(crate) fn after_statements(left: u32, statements: &[PlainStatement]) -> u32
+    ensures { result ≡ left - statements_size statements.now }
 {
     let mut left = left;
-    for step in steps {
-        let (Step::Equation(_, e) | Step::Assertion(e)) = step;
+    for statement in statements {
+        let (PlainStatement::Equation(_, e) | PlainStatement::Assertion(e)) = statement;
         left = after_term(left, e);
     }
     left

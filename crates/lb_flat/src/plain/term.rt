@@ -37,7 +37,7 @@ pub enum Term {
 
 /// A statement.
 #[derive(Drop)]
-pub enum Step {
+pub enum PlainStatement {
     /// `x = e;`, `(x, y) = e;`
     Equation(Vec<VariableId>, Term),
     /// `assert e;`

@@ -2,10 +2,10 @@
 
 ghost use Rattle.std.specs.Prelude.{◌≡◌, MatchResult};
 ghost use Rattle.std.specs.List.{list_all};
-ghost use Rattle.lb_flat.specs.LaterForms.{IsLater, TranslatesTerm, TranslatesTerms, TranslatesStep, TranslatesSteps};
+ghost use Rattle.lb_flat.specs.UnsupportedForms.{IsUnsupported, TranslatesTerm, TranslatesTerms, TranslatesStatement, TranslatesStatements};
 
 use crate::error::FlatError;
-use crate::plain::term::{Step, Term};
+use crate::plain::term::{PlainStatement, Term};
 use lb_static::resolved;
 use std::alloc::Global;
 
@@ -27,7 +27,7 @@ pub(crate) fn plain_term(alloc: Global, term: &resolved::Term) -> Result<Box<Ter
     match term {
         resolved::Term::Literal(n) => {
             if *n > GREATEST_LITERAL {
-                return Err(FlatError::Later);
+                return Err(FlatError::Unsupported);
             }
             boxed(alloc, Term::Literal(*n))
         }
@@ -61,14 +61,14 @@ pub(crate) fn plain_term(alloc: Global, term: &resolved::Term) -> Result<Box<Ter
         resolved::Term::Value(_)
         | resolved::Term::Current(_)
         | resolved::Term::When(_, _, _)
-        | resolved::Term::Copies(_, _)
+        | resolved::Term::Replicate(_, _)
         | resolved::Term::Index(_, _)
         | resolved::Term::Slice(_, _, _)
         | resolved::Term::Join(_, _)
         | resolved::Term::Array(_)
         | resolved::Term::Call(_, _)
         | resolved::Term::IterateNode(_, _, _)
-        | resolved::Term::IterateSymbol(_, _, _, _) => Err(FlatError::Later),
+        | resolved::Term::IterateSymbol(_, _, _, _) => Err(FlatError::Unsupported),
     }
 }
 
@@ -85,27 +85,33 @@ fn plain_terms(alloc: Global, terms: &[resolved::Term]) -> Result<Vec<Term>, Fla
 }
 
 /// The statement of the same form.
-fn plain_step(alloc: Global, step: &resolved::Step) -> Result<Step, FlatError>
-    ensures { TranslatesStep step.now result }
+fn plain_statement(
+    alloc: Global,
+    statement: &resolved::ResolvedStatement,
+) -> Result<PlainStatement, FlatError>
+    ensures { TranslatesStatement statement.now result }
 {
-    match step {
-        resolved::Step::Equation(lefts, e) => {
+    match statement {
+        resolved::ResolvedStatement::Equation(lefts, e) => {
             let lefts = Vec::from_slice(alloc, lefts)?;
-            Ok(Step::Equation(lefts, Box::into_inner(plain_term(alloc, e)?)))
+            Ok(PlainStatement::Equation(lefts, Box::into_inner(plain_term(alloc, e)?)))
         }
-        resolved::Step::Assertion(e) => {
-            Ok(Step::Assertion(Box::into_inner(plain_term(alloc, e)?)))
+        resolved::ResolvedStatement::Assertion(e) => {
+            Ok(PlainStatement::Assertion(Box::into_inner(plain_term(alloc, e)?)))
         }
     }
 }
 
 /// The statements of the same forms, in text order.
-pub(crate) fn plain_steps(alloc: Global, body: &[resolved::Step]) -> Result<Vec<Step>, FlatError>
-    ensures { TranslatesSteps body.now result }
+pub(crate) fn plain_statements(
+    alloc: Global,
+    body: &[resolved::ResolvedStatement],
+) -> Result<Vec<PlainStatement>, FlatError>
+    ensures { TranslatesStatements body.now result }
 {
-    let mut steps = Vec::new(alloc);
-    for step in body {
-        steps.push(plain_step(alloc, step)?)?;
+    let mut statements = Vec::new(alloc);
+    for statement in body {
+        statements.push(plain_statement(alloc, statement)?)?;
     }
-    Ok(steps)
+    Ok(statements)
 }

@@ -9,7 +9,7 @@ ghost use Rattle.lb_flat.specs.PlainNodes.{IsPlain};
 
 use crate::error::FlatError;
 use crate::plain::Plain;
-use crate::plain::terms::plain_steps;
+use crate::plain::terms::plain_statements;
 use crate::plain::variables::declared_variables;
 use lb_static::elab::Elab;
 use lb_static::reach::Reached;
@@ -37,10 +37,10 @@ fn plain_node(alloc: Global, root: &ResolvedNode) -> Result<Plain, FlatError>
     ensures { TranslatesNode root.now result }
 {
     if !root.statics.is_empty() {
-        return Err(FlatError::Later);
+        return Err(FlatError::Unsupported);
     }
     let variables = declared_variables(alloc, root.tree)?;
-    let body = plain_steps(alloc, &root.body)?;
+    let body = plain_statements(alloc, &root.body)?;
     Ok(Plain {
         name: root.tree.name.copy(alloc)?,
         is_function: root.tree.is_function,
@@ -59,7 +59,7 @@ pub fn plain(alloc: Global, elab: &Elab) -> Result<Plain, FlatError>
 {
     let reached = elab.reached();
     if has_observer(reached) {
-        return Err(FlatError::Later);
+        return Err(FlatError::Unsupported);
     }
     plain_node(alloc, &reached.nodes[reached.root.0 as usize])
 }

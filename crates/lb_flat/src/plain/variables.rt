@@ -4,8 +4,8 @@ ghost use Rattle.std.specs.Prelude.{◌≡◌, ◌++◌, map, not, OnOk, IfOk, I
 ghost use Rattle.std.specs.List.{list_all};
 ghost use Rattle.lb_syntax.specs.Grammar.{declarations, declared};
 ghost use Rattle.lb_syntax.specs.SourceView.{view_group, view_groups, view_node};
-ghost use Rattle.lb_static.specs.Shapes.{variables};
-ghost use Rattle.lb_flat.specs.LaterForms.{IsLater};
+ghost use Rattle.lb_static.specs.DataTypes.{variables};
+ghost use Rattle.lb_flat.specs.UnsupportedForms.{IsUnsupported};
 ghost use Rattle.lb_flat.specs.PlainNodes.{is_scalar};
 ghost use Rattle.lb_flat.specs.PlainTerms.{declaration_of};
 
@@ -15,7 +15,7 @@ use lb_syntax::tree::{Declarations, Node};
 use std::alloc::Global;
 
 /// Whether a group declares variables that are no scalars on the base clock.
-fn has_later_form(group: &Declarations) -> bool
+fn has_unsupported_form(group: &Declarations) -> bool
     ensures { result ≡ not (list_all is_scalar (declarations (view_group group.now))) }
 {
     !(group.names.is_empty() || group.sizes.is_empty() && group.clock.is_none())
@@ -29,11 +29,11 @@ fn declare_group(
 ) -> Result<(), FlatError>
     ensures ok { OnOk result (map declaration_of all.new.items
         ≡ map declaration_of all.old.items ++ declarations (view_group group.now)) }
-    ensures err { IfErr result (λ e. IsLater e
+    ensures err { IfErr result (λ e. IsUnsupported e
         (list_all is_scalar (declarations (view_group group.now)))) }
 {
-    if has_later_form(group) {
-        return Err(FlatError::Later);
+    if has_unsupported_form(group) {
+        return Err(FlatError::Unsupported);
     }
     for name in &group.names {
         all.push(Variable {
@@ -52,7 +52,7 @@ fn declare_groups(
 ) -> Result<(), FlatError>
     ensures ok { OnOk result (map declaration_of all.new.items
         ≡ map declaration_of all.old.items ++ declared (view_groups groups.now)) }
-    ensures err { IfErr result (λ e. IsLater e
+    ensures err { IfErr result (λ e. IsUnsupported e
         (list_all is_scalar (declared (view_groups groups.now)))) }
 {
     for group in groups {
@@ -66,7 +66,7 @@ fn declare_groups(
 pub(crate) fn declared_variables(alloc: Global, node: &Node) -> Result<Vec<Variable>, FlatError>
     ensures ok { IfOk result (λ all.
         map declaration_of all.items ≡ variables (view_node node.now)) }
-    ensures err { IfErr result (λ e. IsLater e
+    ensures err { IfErr result (λ e. IsUnsupported e
         (list_all is_scalar (variables (view_node node.now)))) }
 {
     let mut all = Vec::new(alloc);

@@ -1,6 +1,6 @@
 use Rattle.lb_check.specs.Types.{array_of}
-use Rattle.lb_check.specs.StoredShapes.{shape_in}
-use Rattle.lb_check.proofs.ShapeLists.{onto_start, gathers_more, made}
+use Rattle.lb_check.specs.StoredTypes.{view_type}
+use Rattle.lb_check.proofs.TypeLists.{onto_start, gathers_more, made}
 use Rattle.lb_check.proofs.array_types.arrays_onto.Goals as goal
 
 pub loop-element-init : goal.loop-element-init
@@ -16,5 +16,5 @@ loop-element-preserved c =
     c.in-Some.array
     item.is c.in_ok-copy.ensures c.in_ok-array.ensures c.in-Some.is in
     rw c.in_ok-push-in-Some.ensures.items
-    (gathers_more _ (λ t. f (shape_in t)) all l.arrays.items l.element-index item.result
+    (gathers_more _ (λ t. f (view_type t)) all l.arrays.items l.element-index item.result
     c.in-Some.array l.invariant c.loop-element-test.true one)

@@ -3,7 +3,7 @@ use Rattle.std.specs.Prelude.{Some, slice_get}
 use Rattle.std.proofs.lemmas.Bool.Decides.{nat_tests}
 use Rattle.std.proofs.lemmas.Option.{slice_get_read}
 use Rattle.lb_check.specs.OwnClocks.{clock_in}
-use Rattle.lb_check.proofs.StandingRows.{declared_nowhere, declared_there}
+use Rattle.lb_check.proofs.ClockSetRows.{declared_nowhere, declared_there}
 use Rattle.lb_check.proofs.own_clock.declared_clock.Goals as goal
 
 pub returns-in-Some-clause-same : goal.returns-in-Some-clause-same

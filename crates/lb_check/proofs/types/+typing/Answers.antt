@@ -1,11 +1,11 @@
 use Rattle.std.proofs.Common.{◌≡◌, IfOk, Some, None, map, ap, sym, subst, ◌∙◌}
 use Rattle.std.specs.Prelude.{option_map}
 use Rattle.lb_syntax.specs.Lists.{◌>>=◌}
-use Rattle.lb_check.specs.StoredShapes.{shape_in, shapes_in, context_in}
+use Rattle.lb_check.specs.StoredTypes.{view_type, view_types, context_in}
 use Rattle.lb_check.specs.TermTypes as mirror
 use Rattle.lb_check.specs.TermTypes.{type_of, types_of}
 use Rattle.lb_check.specs.Types.{only}
-use Rattle.lb_check.proofs.ShapeLists.{gathers_more, gathers_none, gathers_end}
+use Rattle.lb_check.proofs.TypeLists.{gathers_more, gathers_none, gathers_end}
 use Rattle.lb_check.proofs.TypeParts.{number_type, pair_type, single_none, single_type}
 use Rattle.lb_check.proofs.TypeRows.{type_of_row}
 use Rattle.lb_check.proofs.types.+typing.Goals as goal
@@ -14,29 +14,29 @@ use Rattle.lb_check.proofs.types.+typing.Goals as goal
 
 pub types_of-loop-term-preserved : goal.types_of-loop-term-preserved
 types_of-loop-term-preserved t c =
-    let ctx = context_in c.args.scope.now in
+    let ctx = context_in c.args.env.now in
     let l = c.loop-term in
     let all = c.args.terms.now in
     rw c.in_ok-push-in-Some.ensures.items
     (gathers_more (types_of ctx all)
-    (type_of ctx) all l.types.items l.term-index c.term-item.result c.in-Some.shape l.invariant
+    (type_of ctx) all l.types.items l.term-index c.term-item.result c.in-Some.data_type l.invariant
     c.loop-term-test.true
-    (sym (ap (option_map shape_in) c.in-Some.is) ∙ c.in_ok-shape.ensures
+    (sym (ap (option_map view_type) c.in-Some.is) ∙ c.in_ok-data_type.ensures
     ∙ ap (type_of ctx) c.term-item.is))
 
 pub types_of-returns-in-None : goal.types_of-returns-in-None
 types_of-returns-in-None t c =
-    let ctx = context_in c.args.scope.now in
+    let ctx = context_in c.args.env.now in
     let l = c.loop-term in
     let all = c.args.terms.now in
     gathers_none (types_of ctx all)
     (type_of ctx) all l.types.items l.term-index c.term-item.result l.invariant
     c.loop-term-test.true c.term-item.is
-    (sym c.in_ok-shape.ensures ∙ ap (option_map shape_in) c.in-None.is)
+    (sym c.in_ok-data_type.ensures ∙ ap (option_map view_type) c.in-None.is)
 
 pub types_of-returns : goal.types_of-returns
 types_of-returns t c =
-    let ctx = context_in c.args.scope.now in
+    let ctx = context_in c.args.env.now in
     let l = c.loop-term in
     let all = c.args.terms.now in
     gathers_end (types_of ctx all)
@@ -46,33 +46,33 @@ types_of-returns t c =
 
 pub operand_results-returns-in-Some : goal.operand_results-returns-in-Some
 operand_results-returns-in-Some t c =
-    let ctx = context_in c.args.scope.now in
+    let ctx = context_in c.args.env.now in
     let term = c.args.term.now in
-    let types : types_of ctx c.args.operands.now ≡ Some (map shape_in c.deref.result.now) =
-    sym c.in_ok-types.ensures ∙ ap (option_map shapes_in) c.in-Some.is
-    ∙ ap (λ ts. Some (map shape_in ts)) (sym c.deref.ensures.value) in
-    subst (λ r. IfOk c.row_results.result (λ o. option_map shapes_in o ≡ r))
+    let types : types_of ctx c.args.operands.now ≡ Some (map view_type c.deref.result.now) =
+    sym c.in_ok-types.ensures ∙ ap (option_map view_types) c.in-Some.is
+    ∙ ap (λ ts. Some (map view_type ts)) (sym c.deref.ensures.value) in
+    subst (λ r. IfOk c.row_results.result (λ o. option_map view_types o ≡ r))
     (sym (ap (λ o. o >>= mirror.row_results ctx term) types)) c.row_results.ensures
 
 pub operand_results-returns-in-None : goal.operand_results-returns-in-None
 operand_results-returns-in-None t c =
-    let ctx = context_in c.args.scope.now in
+    let ctx = context_in c.args.env.now in
     let term = c.args.term.now in
     let types : types_of ctx c.args.operands.now ≡ None =
-    sym c.in_ok-types.ensures ∙ ap (option_map shapes_in) c.in-None.is in
+    sym c.in_ok-types.ensures ∙ ap (option_map view_types) c.in-None.is in
     sym (ap (λ o. o >>= mirror.row_results ctx term) types)
 
 -- ## The type of a term with two operands
 
 pub two_types-returns-in_ok-type_of-in-If : goal.two_types-returns-in_ok-type_of-in-If
 two_types-returns-in_ok-type_of-in-If t c =
-    let ctx = context_in c.args.scope.now in
-    let left = option_map shape_in c.args.left in
-    let right = option_map shape_in c.args.right in
+    let ctx = context_in c.args.env.now in
+    let left = option_map view_type c.args.left in
+    let right = option_map view_type c.args.right in
     c.when_truth.ensures
-    ∙ ap (λ o. mirror.when_truth o (option_map shape_in c.same_type-chosen.result))
+    ∙ ap (λ o. mirror.when_truth o (option_map view_type c.common_type-chosen.result))
     (c.in_ok-type_of-in-If.ensures ∙ ap (type_of ctx) c.deref.ensures)
-    ∙ ap (mirror.when_truth (type_of ctx c.in-If.c.value)) c.same_type-chosen.ensures
+    ∙ ap (mirror.when_truth (type_of ctx c.in-If.c.value)) c.common_type-chosen.ensures
     ∙ sym (ap (λ e. mirror.two_types ctx e left right) c.in-If.is)
 
 -- ## The type of a term
@@ -80,40 +80,40 @@ two_types-returns-in_ok-type_of-in-If t c =
 pub type_of-returns-in-Literal : goal.type_of-returns-in-Literal
 type_of-returns-in-Literal t c =
     ap Some c.scalar-in-Literal.ensures
-    ∙ sym (number_type (context_in c.args.scope.now) c.args.term.now c.in-Literal.is)
+    ∙ sym (number_type (context_in c.args.env.now) c.args.term.now c.in-Literal.is)
 
 pub type_of-returns-in-Truth : goal.type_of-returns-in-Truth
 unfolding type_of
 type_of-returns-in-Truth t c =
-    ap Some c.scalar.ensures ∙ sym (ap (type_of (context_in c.args.scope.now)) c.in-Truth.is)
+    ap Some c.scalar.ensures ∙ sym (ap (type_of (context_in c.args.env.now)) c.in-Truth.is)
 
 pub type_of-returns-in-Variable : goal.type_of-returns-in-Variable
 unfolding type_of
 type_of-returns-in-Variable t c =
-    subst (λ r. IfOk c.variable.result (λ o. option_map shape_in o ≡ r))
-    (sym (ap (type_of (context_in c.args.scope.now)) c.in-Variable.is)) c.variable.ensures
+    subst (λ r. IfOk c.variable.result (λ o. option_map view_type o ≡ r))
+    (sym (ap (type_of (context_in c.args.env.now)) c.in-Variable.is)) c.variable.ensures
 
 pub type_of-returns-in-Some : goal.type_of-returns-in-Some
 type_of-returns-in-Some t c =
-    let ctx = context_in c.args.scope.now in
-    let operand : type_of ctx c.in-Group.e.value ≡ Some (shape_in c.in-Some.operand) =
+    let ctx = context_in c.args.env.now in
+    let operand : type_of ctx c.in-Group.e.value ≡ Some (view_type c.in-Some.operand) =
     ap (type_of ctx) (sym c.deref-in-Group.ensures) ∙ sym c.in_ok-operand-in-Group.ensures
-    ∙ ap (option_map shape_in) c.in-Some.is in
-    subst (λ r. IfOk c.one_type.result (λ o. option_map shape_in o ≡ r))
+    ∙ ap (option_map view_type) c.in-Some.is in
+    subst (λ r. IfOk c.one_type.result (λ o. option_map view_type o ≡ r))
     (single_type ctx c.args.term.now c.in-Group.e
-    (shape_in c.in-Some.operand) c.in-Group.is operand) c.one_type.ensures
+    (view_type c.in-Some.operand) c.in-Group.is operand) c.one_type.ensures
 
 pub type_of-returns-in-None : goal.type_of-returns-in-None
 type_of-returns-in-None t c =
-    let ctx = context_in c.args.scope.now in
+    let ctx = context_in c.args.env.now in
     sym (single_none ctx c.args.term.now c.in-Group.e c.in-Group.is
     (ap (type_of ctx) (sym c.deref-in-Group.ensures) ∙ sym c.in_ok-operand-in-Group.ensures
-    ∙ ap (option_map shape_in) c.in-None.is))
+    ∙ ap (option_map view_type) c.in-None.is))
 
 pub type_of-returns-in_ok-right-in-Binary : goal.type_of-returns-in_ok-right-in-Binary
 type_of-returns-in_ok-right-in-Binary t c =
-    let ctx = context_in c.args.scope.now in
-    subst (λ r. IfOk c.two_types.result (λ o. option_map shape_in o ≡ r))
+    let ctx = context_in c.args.env.now in
+    subst (λ r. IfOk c.two_types.result (λ o. option_map view_type o ≡ r))
     (pair_type ctx c.args.term.now c.in-Binary.a c.in-Binary.b _ _ c.in-Binary.is
     (c.in_ok-left-in-Binary.ensures ∙ ap (type_of ctx) c.deref-in-Binary.ensures)
     (c.in_ok-right-in-Binary.ensures ∙ ap (type_of ctx) c.deref-in-Binary-2.ensures))
@@ -122,7 +122,7 @@ type_of-returns-in_ok-right-in-Binary t c =
 pub type_of-returns-in_ok-operand_results-in-Array :
     goal.type_of-returns-in_ok-operand_results-in-Array
 type_of-returns-in_ok-operand_results-in-Array t c =
-    let ctx = context_in c.args.scope.now in
+    let ctx = context_in c.args.env.now in
     let term = c.args.term.now in
     c.only.ensures
     ∙ ap (λ o. o >>= only)

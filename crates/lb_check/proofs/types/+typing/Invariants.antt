@@ -1,10 +1,10 @@
 use Rattle.std.proofs.Common.{drop}
-use Rattle.lb_check.specs.StoredShapes.{context_in}
+use Rattle.lb_check.specs.StoredTypes.{context_in}
 use Rattle.lb_check.specs.TermTypes.{type_of, types_of}
-use Rattle.lb_check.proofs.ShapeLists.{Gathered}
+use Rattle.lb_check.proofs.TypeLists.{Gathered}
 use Rattle.lb_check.proofs.types.+typing.Given as goal
 
 abbrev pub invariant-types_of-loop-term : goal.invariant-types_of-loop-term
 invariant-types_of-loop-term l =
-    let ctx = context_in l.scope in
+    let ctx = context_in l.env in
     Gathered (types_of ctx l.terms) (type_of ctx) l.types.items (drop l.term-index l.terms)

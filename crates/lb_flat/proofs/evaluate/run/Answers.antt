@@ -7,7 +7,7 @@ pub loop-t-init : goal.loop-t-init
 loop-t-init g c =
     let p = c.args.program.now in
     record {
-      equations = flat_equations p.ticks.items p.equations.items;
+      equations = flat_equations p.clocks.items p.equations.items;
       in_order = c.requires.runnable.in_order;
       inputs_are = c.requires.inputs;
       steps_are = c.requires.steps;

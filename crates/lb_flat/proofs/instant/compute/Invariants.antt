@@ -4,4 +4,4 @@ use Rattle.lb_flat.proofs.instant.compute.Given as goal
 use Rattle.lb_flat.proofs.Steps.{IsFilling}
 
 abbrev pub invariant-loop-i : goal.invariant-loop-i
-invariant-loop-i l = IsFilling (equation_of l.ticks) [] l.row l.fn.row l.steps l.i
+invariant-loop-i l = IsFilling (equation_of l.clocks) [] l.row l.fn.row l.steps l.i

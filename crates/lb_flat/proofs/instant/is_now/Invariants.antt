@@ -7,8 +7,8 @@ use Rattle.lb_flat.proofs.instant.is_now.Given as goal
 -- the rest of the clock has an instant exactly where all of it has
 abbrev pub invariant-loop-depth : goal.invariant-loop-depth
 invariant-loop-depth l = record {
-  same : (n : ℕ) → n + l.depth ≡ length l.ticks →
-      is_now (map cell_of l.row) (clock_within n l.ticks l.rest)
-      ≡ is_now (map cell_of l.row) (clock_of l.ticks l.fn.clock);
-  in_table : IsClock l.ticks l.rest;
+  same : (n : ℕ) → n + l.depth ≡ length l.clocks →
+      is_now (map cell_of l.row) (clock_within n l.clocks l.rest)
+      ≡ is_now (map cell_of l.row) (clock_of l.clocks l.fn.clock);
+  in_table : IsClock l.clocks l.rest;
 }

@@ -8,7 +8,7 @@ use Rattle.lb_flat.proofs.order.order.Goals as goal
 pub returns-clause-determined : goal.returns-clause-determined
 returns-clause-determined c P flat =
     let p = c.args.flat.program in
-    let qs = flat_equations p.ticks.items c.in_ok-equations.equations.items in
+    let qs = flat_equations p.clocks.items c.in_ok-equations.equations.items in
     let ready = ready_of p.size qs c.in_ok-equations.ensures.order.in_order in
     record { one = has_one_history P _ flat ready; prefix = is_prefix P _ flat ready }
 
@@ -20,7 +20,7 @@ returns-clause-order c =
       same = refl;
       ordering = ordered.ordering;
       ready =
-          ready_of p.size (flat_equations p.ticks.items c.in_ok-equations.equations.items)
+          ready_of p.size (flat_equations p.clocks.items c.in_ok-equations.equations.items)
           ordered.in_order;
     }
 

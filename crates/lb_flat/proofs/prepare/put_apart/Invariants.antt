@@ -3,4 +3,4 @@ use Rattle.lb_flat.proofs.prepare.put_apart.Given as goal
 
 abbrev pub invariant-loop-i : goal.invariant-loop-i
 invariant-loop-i l =
-    AreApart l.size l.ticks l.equations l.i l.inputs.items l.steps.items l.memories.items
+    AreApart l.size l.clocks l.equations l.i l.inputs.items l.steps.items l.memories.items

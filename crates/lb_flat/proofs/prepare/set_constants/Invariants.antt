@@ -10,6 +10,6 @@ abbrev pub invariant-loop-i : goal.invariant-loop-i
 invariant-loop-i l = record {
   as_long : length l.row ≡ length l.fn.row;
   rest :
-      filled [] (map cell_of l.row) (fixed_in (flat_equations l.ticks (drop l.i l.equations)))
-      ≡ filled [] (map cell_of l.fn.row) (fixed_in (flat_equations l.ticks l.equations));
+      filled [] (map cell_of l.row) (fixed_in (flat_equations l.clocks (drop l.i l.equations)))
+      ≡ filled [] (map cell_of l.fn.row) (fixed_in (flat_equations l.clocks l.equations));
 }

@@ -14,7 +14,7 @@ evaluate-requires c =
       runnable = record {
         in_range = c.args.ordered.now.in_range;
         in_order =
-            ready_of program.size (flat_equations program.ticks.items program.equations.items)
+            ready_of program.size (flat_equations program.clocks.items program.equations.items)
             c.args.ordered.now.in_order;
       };
     }
@@ -24,7 +24,7 @@ ready :
     let f = program_of c.args.ordered.now.program in Ready f.size [] f.equations
 ready c =
     let program = c.args.ordered.now.program in
-    ready_of program.size (flat_equations program.ticks.items program.equations.items)
+    ready_of program.size (flat_equations program.clocks.items program.equations.items)
     c.args.ordered.now.in_order
 
 pub returns-clause-verdict : goal.returns-clause-verdict

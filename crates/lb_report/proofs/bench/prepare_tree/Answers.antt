@@ -5,7 +5,7 @@ use Rattle.lb_syntax.specs.SourceView.{view_source}
 use Rattle.lb_static.specs.Elaborated.{IsElaborated, elaborated_program}
 use Rattle.lb_static.specs.Elaborates.{Elaborates}
 use Rattle.lb_static.specs.Instances.{Program}
-use Rattle.lb_static.specs.Walk.{static_refusal}
+use Rattle.lb_static.specs.Instantiation.{static_refusal}
 use Rattle.lb_check.specs.Acceptance.{check_refusal}
 use Rattle.lb_check.specs.Checked.{IsAnswer}
 use Rattle.lb_flat.specs.Expanded.{IsExpansionAnswer}

@@ -1,6 +1,6 @@
 use Rattle.std.proofs.Common.{◌≡◌, ◌∙◌, subst, sym}
 use Rattle.std.proofs.lemmas.Result.{err_from_is_err_and}
-use Rattle.lb_static.specs.Shapes.{signature}
+use Rattle.lb_static.specs.DataTypes.{signature}
 use Rattle.lb_flat.specs.Traces.{Traces, trace_names}
 use Rattle.lb_trace.specs.Errors.{Refuses}
 use Rattle.lb_trace.specs.Spelling.{Spells}

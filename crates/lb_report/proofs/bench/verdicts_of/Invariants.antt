@@ -1,6 +1,6 @@
 use Rattle.std.proofs.Common.{◌≡◌, length}
 use Rattle.lb_static.specs.Instances.{Program}
-use Rattle.lb_static.specs.Shapes.{signature}
+use Rattle.lb_static.specs.DataTypes.{signature}
 use Rattle.lb_flat.specs.Flattening.{IsFlatOf}
 use Rattle.lb_flat.specs.Programs as flat
 use Rattle.lb_report.proofs.VerdictLists.{AreFirst}

@@ -13,7 +13,7 @@ returns-then-is_some-clause-order c =
     ap (λ y. among y c.args.hidden.now) (sym c.as_str.ensures)
     ∙ sym (is_found (bytes_eq c.as_str.result.now) c.args.hidden.now c.place.result
     c.place.ensures.value) ∙ sym c.is_some.ensures ∙ c.if-is_some.true in
-    visit_hidden c.args.visits.now.order c.args.globals.now c.args.hidden.now x hidden
+    visit_hidden c.args.work_list.now.order c.args.globals.now c.args.hidden.now x hidden
 
 pub returns-in_ok-visit-clause-order : goal.returns-in_ok-visit-clause-order
 returns-in_ok-visit-clause-order c =
@@ -23,7 +23,7 @@ returns-in_ok-visit-clause-order c =
     ∙ sym (is_found (bytes_eq c.as_str.result.now) c.args.hidden.now c.place.result
     c.place.ensures.value) ∙ sym c.is_some.ensures ∙ c.if-is_some.false in
     c.in_ok-visit.ensures.order
-    ∙ visit_known c.args.visits.now.order c.args.globals.now c.args.hidden.now x c.in-Some.place
+    ∙ visit_known c.args.work_list.now.order c.args.globals.now c.args.hidden.now x c.in-Some.place
     hidden
     (ap (constant_place c.args.globals.now.names c.args.globals.now.constants)
     (sym c.as_str-2.ensures) ∙ sym c.in-Some.ensures.value)
@@ -35,6 +35,6 @@ returns-in_default-clause-order c =
     ap (λ y. among y c.args.hidden.now) (sym c.as_str.ensures)
     ∙ sym (is_found (bytes_eq c.as_str.result.now) c.args.hidden.now c.place.result
     c.place.ensures.value) ∙ sym c.is_some.ensures ∙ c.if-is_some.false in
-    visit_unknown c.args.visits.now.order c.args.globals.now c.args.hidden.now x hidden
+    visit_unknown c.args.work_list.now.order c.args.globals.now c.args.hidden.now x hidden
     (ap (constant_place c.args.globals.now.names c.args.globals.now.constants)
     (sym c.as_str-2.ensures) ∙ sym c.in_default.ensures.value)

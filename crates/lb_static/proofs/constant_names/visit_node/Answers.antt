@@ -3,14 +3,14 @@ use Rattle.std.proofs.Common.{ap, ◌∙◌}
 use Rattle.std.specs.Prelude.{flat_map}
 use Rattle.lb_static.specs.NamedConstants.{part_constants}
 use Rattle.lb_static.specs.Parts.{among}
-use Rattle.lb_static.specs.Visiting.{visited_after_all}
+use Rattle.lb_static.specs.WorkLists.{visited_after_all}
 use Rattle.lb_static.proofs.ConstantPlaces.{ok_more, parts_alike}
 use Rattle.lb_static.proofs.constant_names.visit_node.Goals as goal
 
 pub returns-clause-order : goal.returns-clause-order
 returns-clause-order c =
     let g = c.args.globals.now in
-    let order = c.args.visits.now.order in
+    let order = c.args.work_list.now.order in
     let parts = c.args.node.now.statics.items in
     let hidden = c.in_ok-hidden.hidden in
     let parameters = c.args.node.now.tree.now.parameters.items in

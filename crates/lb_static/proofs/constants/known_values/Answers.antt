@@ -2,7 +2,7 @@
 use Rattle.std.proofs.Common.{◌≡◌, map, length, subst}
 use Rattle.std.specs.Prelude.{Result, Ok, Err, IfOk}
 use Rattle.lb_syntax.specs.SourceView.{view_constant}
-use Rattle.lb_static.specs.ConstantValues.{read_constants, value_held, AreSettled, IsSound}
+use Rattle.lb_static.specs.ConstantValues.{read_constants, value_held, AreStable, IsSound}
 use Rattle.lb_static.specs.StaticValues.{constant_value}
 use Rattle.lb_static.proofs.ConstantSteps.{all_values}
 use Rattle.lb_static.proofs.constants.known_values.Goals as goal
@@ -20,12 +20,12 @@ returns c =
     let values = c.values_of.result in
     let told = c.in_ok-first_of_each.ensures in
     both values (λ v. IsSound (read_constants firsts) v.items)
-    (λ v. AreSettled (read_constants firsts) v.items)
+    (λ v. AreStable (read_constants firsts) v.items)
     (λ v. value_held names v.items
     ≡ constant_value (map view_constant constants) (length constants))
     (subst (λ l. IfOk values (λ v. IsSound (read_constants l) v.items)) c.deref.ensures.value
     c.values_of.ensures.sound)
-    (subst (λ l. IfOk values (λ v. AreSettled (read_constants l) v.items)) c.deref.ensures.value
-    c.values_of.ensures.settled)
-    (λ v sound settled. all_values firsts constants names v.items told.same_names told.first
-    told.few sound settled)
+    (subst (λ l. IfOk values (λ v. AreStable (read_constants l) v.items)) c.deref.ensures.value
+    c.values_of.ensures.stable)
+    (λ v sound stable. all_values firsts constants names v.items told.same_names told.first
+    told.few sound stable)

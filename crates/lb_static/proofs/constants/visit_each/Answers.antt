@@ -3,7 +3,7 @@ use Rattle.std.proofs.Common.{rules, ◌<◌, ◌++◌, ◌∷◌, [], All, Some
 use Rattle.std.proofs.lemmas.List.{length-append}
 use Rattle.std.proofs.lemmas.List.Elements.{All-pop, All-push, All-same}
 use Rattle.lb_static.specs.Tasks.{place_of}
-use Rattle.lb_static.specs.declared.constants.Task.TheVariants.{Settle}
+use Rattle.lb_static.specs.declared.constants.Task.TheVariants.{Evaluate}
 use Rattle.lb_static.proofs.ConstantSteps.{fewer, names_length}
 use Rattle.lb_static.proofs.constants.visit_each.Goals as goal
 
@@ -31,12 +31,12 @@ bounds-constants-place c =
     let here : c.in-Visit.place < n = subst (λ t. place_of t < n) c.in-Visit.is taken.1 in
     omega (arith, here, c.loop-task.invariant.as_many)
 
-pub settle-requires-clause-within : goal.settle-requires-clause-within
-settle-requires-clause-within c =
+pub evaluate-requires-clause-within : goal.evaluate-requires-clause-within
+evaluate-requires-clause-within c =
     let n = length c.args.constants.now in
     let taken = All-pop (λ t. place_of t < n) c.loop-task.tasks.items c.pop.new.self.items
     (Some c.in-Some.task) c.in-Some.ensures.items c.loop-task.invariant.within in
-    subst (λ t. place_of t < n) c.in-Settle.is taken.1
+    subst (λ t. place_of t < n) c.in-Evaluate.is taken.1
 
 pub visit_names-requires : goal.visit_names-requires
 visit_names-requires c =
@@ -44,10 +44,11 @@ visit_names-requires c =
     let taken = All-pop (λ t. place_of t < n) c.loop-task.tasks.items c.pop.new.self.items
     (Some c.in-Some.task) c.in-Some.ensures.items c.loop-task.invariant.within in
     let here = subst (λ t. place_of t < n) c.in-Visit.is taken.1 in
-    let more = All-push (λ t. place_of t < n) c.pop.new.self.items (Settle c.in-Visit.place) taken.0
+    let more = All-push (λ t. place_of t < n) c.pop.new.self.items (Evaluate c.in-Visit.place)
+    taken.0
     here in
     let all = All-same (λ t. place_of t < n) c.push-then-not-seen-place.new.self.items
-    (c.pop.new.self.items ++ Settle c.in-Visit.place ∷ []) c.in_ok-push-in-Visit.ensures.items
+    (c.pop.new.self.items ++ Evaluate c.in-Visit.place ∷ []) c.in_ok-push-in-Visit.ensures.items
     more in
     record {
       within = subst (λ m. All (λ t. place_of t < m)
@@ -64,7 +65,7 @@ loop-task-smaller-in-Continue-branch-3 c =
     let left = ap length c.in-Some.ensures.items
     ∙ length-append c.pop.new.self.items (c.in-Some.task ∷ []) in
     let pushed = ap length c.in_ok-push-in-Visit.ensures.items
-    ∙ length-append c.pop.new.self.items (Settle c.in-Visit.place ∷ []) in
+    ∙ length-append c.pop.new.self.items (Evaluate c.in-Visit.place ∷ []) in
     fewer c.loop-task.seen c.args.constants.now c.in-Visit.place c.index-constants-place.result _
     (length c.pop.new.self.items) (length c.loop-task.tasks.items)
     (length c.visit_names.new.tasks.items)
@@ -99,7 +100,7 @@ loop-task-preserved c =
     let taken = All-pop (λ t. place_of t < n) c.loop-task.tasks.items c.pop.new.self.items
     (Some c.in-Some.task) c.in-Some.ensures.items c.loop-task.invariant.within in
     record {
-      sound = c.settle.ensures.sound;
+      sound = c.evaluate.ensures.sound;
       as_many =
           c.loop-task.invariant.as_many;
       within = taken.0;

@@ -25,7 +25,7 @@ returns-in_err-signature c =
     let p = err_from_is_err_and c.from_residual-in_err-signature.result
     c.from_residual-in_err-signature.ensures.1 in
     rw (p.1, p.2) (root_fault P c.in_err-signature.field-0.0 names told.calls told.parameters
-    told.walked (c.in_err-signature.ensures P names reached told.starts told.walked))
+    told.instantiated (c.in_err-signature.ensures P names reached told.starts told.instantiated))
 
 pub new-requires : goal.new-requires
 new-requires c =
@@ -34,9 +34,9 @@ new-requires c =
     let names = c.in_ok-reached.ensures.names in
     let reached = c.in_ok-reached.ensures.reached in
     let told = c.in_ok-table.ensures P names reached refl in
-    let root = c.in_ok-signature.ensures P names reached told.starts told.walked in
+    let root = c.in_ok-signature.ensures P names reached told.starts told.instantiated in
     record {
-      accepted = no_fault P names told.calls told.parameters told.walked root.0;
+      accepted = no_fault P names told.calls told.parameters told.instantiated root.0;
       reached = reached;
       table = told.table;
       inputs = sym root.1;

@@ -1,6 +1,6 @@
 use Rattle.std.proofs.Common.{length, ◌≡◌, ◌+◌, ◌*◌, ◌++◌, map}
 use Rattle.std.specs.List.{flat_map, range_with_len}
-use Rattle.lb_static.specs.Shapes.{element_names, product, index_text}
+use Rattle.lb_static.specs.DataTypes.{element_names, product, index_text}
 use Rattle.lb_static.proofs.element_names.+push_elements.Given as goal
 
 abbrev pub decreases-push_elements : goal.decreases-push_elements

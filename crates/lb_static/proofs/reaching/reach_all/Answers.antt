@@ -22,7 +22,7 @@ returns-clause-reached c =
       c.requires.count,
       length-map items view_node,
     ) in
-    is_reached P c.visit_starts.new.visits.order c.resolve_visited.new.visits.order
+    is_reached P c.visit_starts.new.work_list.order c.resolve_visited.new.work_list.order
     (record {
       nodes = c.resolve_visited.new.nodes;
       ids =
@@ -39,7 +39,7 @@ returns-clause-named c =
     let items = c.args.source.now.nodes.items in
     let P = program_of c.args.source.now c.args.node.now
     (option_map (λ o. o.now) c.args.observer) in
-    let few : length c.resolve_visited.new.visits.order ≤ length P.source.nodes =
+    let few : length c.resolve_visited.new.work_list.order ≤ length P.source.nodes =
     omega (
       arith,
       c.in_ok-resolve_visited.ensures.few,
@@ -48,7 +48,7 @@ returns-clause-named c =
       c.requires.count,
       length-map items view_node,
     ) in
-    named P c.visit_starts.new.visits.order c.resolve_visited.new.visits.order
+    named P c.visit_starts.new.work_list.order c.resolve_visited.new.work_list.order
     c.resolve_visited.new.nodes.items c.in_ok-root.root c.in_ok-root.observer
     c.requires.once c.in_ok-root.ensures.starts c.in_ok-resolve_visited.ensures.resolved
     c.in_ok-resolve_visited.ensures.all few

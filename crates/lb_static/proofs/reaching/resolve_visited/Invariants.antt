@@ -5,8 +5,9 @@ use Rattle.lb_static.proofs.reaching.resolve_visited.Given as goal
 
 abbrev pub invariant-loop-place : goal.invariant-loop-place
 invariant-loop-place l = record {
-  count : l.visits.count ≡ length l.source.nodes.items;
-  resolved : AreResolved (view_source l.source) l.initial.visits.order l.visits.order l.nodes.items;
+  count : l.work_list.count ≡ length l.source.nodes.items;
+  resolved : AreResolved (view_source l.source) l.initial.work_list.order l.work_list.order
+      l.nodes.items;
 }
 
 abbrev pub decreases-loop-place : goal.decreases-loop-place

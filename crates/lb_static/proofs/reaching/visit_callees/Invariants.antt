@@ -1,11 +1,11 @@
 use Rattle.std.proofs.Common.{◌≡◌, drop}
 use Rattle.lb_static.specs.CalledNodes.{callees}
-use Rattle.lb_static.specs.Visiting.{visited_after_all}
+use Rattle.lb_static.specs.WorkLists.{visited_after_all}
 use Rattle.lb_static.proofs.reaching.visit_callees.Given as goal
 
 abbrev pub invariant-loop-call : goal.invariant-loop-call
 invariant-loop-call l = record {
-  count : l.visits.count ≡ l.initial.visits.count;
-  order : visited_after_all l.visits.order (callees (drop l.call-index l.calls))
-      ≡ visited_after_all l.initial.visits.order (callees l.calls);
+  count : l.work_list.count ≡ l.initial.work_list.count;
+  order : visited_after_all l.work_list.order (callees (drop l.call-index l.calls))
+      ≡ visited_after_all l.initial.work_list.order (callees l.calls);
 }

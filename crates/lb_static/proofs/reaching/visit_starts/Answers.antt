@@ -8,7 +8,8 @@ use Rattle.lb_static.proofs.reaching.visit_starts.Goals as goal
 pub returns-in-None-clause-starts : goal.returns-in-None-clause-starts
 returns-in-None-clause-starts c =
     one_start (view_source c.args.source.now) c.args.node.now
-    (option_map (λ o. o.now) c.args.observer) c.args.visits.now.order c.visit_named.new.visits.order
+    (option_map (λ o. o.now) c.args.observer) c.args.work_list.now.order
+    c.visit_named.new.work_list.order
     c.in_ok-root.root
     (ap (option_map (λ o. o.now)) c.in-None.is) c.requires.none c.requires.once
     c.in_ok-root.ensures.start
@@ -17,7 +18,8 @@ pub returns-in_ok-observer-in-Some-clause-starts :
     goal.returns-in_ok-observer-in-Some-clause-starts
 returns-in_ok-observer-in-Some-clause-starts c =
     two_starts (view_source c.args.source.now) c.args.node.now c.in-Some.name.now
-    (option_map (λ o. o.now) c.args.observer) c.args.visits.now.order c.visit_named.new.visits.order
-    c.visit_named-in-Some.new.visits.order c.in_ok-root.root c.in_ok-observer-in-Some.observer
+    (option_map (λ o. o.now) c.args.observer) c.args.work_list.now.order
+    c.visit_named.new.work_list.order
+    c.visit_named-in-Some.new.work_list.order c.in_ok-root.root c.in_ok-observer-in-Some.observer
     (ap (option_map (λ o. o.now)) c.in-Some.is) c.requires.none c.requires.once
     c.in_ok-root.ensures.start c.in_ok-observer-in-Some.ensures.start

@@ -17,8 +17,8 @@ returns-in_err-parts-clause-err c =
     let p = err_from_is_err_and c.from_residual-in_err-parts.result
     c.from_residual-in_err-parts.ensures.1 in
     let n = c.args.node.now in
-    let a = started c.in_ok-naming.naming (progress c.new-here.result) c.args.source.now n
-    c.new-here.ensures c.in_ok-naming.ensures.source c.in_ok-naming.ensures.tree in
+    let a = started c.in_ok-node_scope.node_scope (progress c.new-here.result) c.args.source.now n
+    c.new-here.ensures c.in_ok-node_scope.ensures.source c.in_ok-node_scope.ensures.tree in
     let f = c.in_err-parts.field-0.0 in
     let fault = subst (λ t. IsNameFault f (node_fits t (view_node n))) a
     c.in_err-parts.ensures.err in
@@ -30,8 +30,8 @@ returns-clause-tree c = c.finish.ensures.tree_is
 pub returns-clause-resolved : goal.returns-clause-resolved
 returns-clause-resolved c =
     let n = c.args.node.now in
-    let a = started c.in_ok-naming.naming (progress c.new-here.result) c.args.source.now n
-    c.new-here.ensures c.in_ok-naming.ensures.source c.in_ok-naming.ensures.tree in
+    let a = started c.in_ok-node_scope.node_scope (progress c.new-here.result) c.args.source.now n
+    c.new-here.ensures c.in_ok-node_scope.ensures.source c.in_ok-node_scope.ensures.tree in
     let parts = c.in_ok-parts.parts in
     let told = c.in_ok-parts.ensures in
     let all = told.found ∙ ap (λ t. after_node t n) a
@@ -42,7 +42,7 @@ returns-clause-resolved c =
 pub returns-clause-named : goal.returns-clause-named
 returns-clause-named c =
     let n = c.args.node.now in
-    let a = started c.in_ok-naming.naming (progress c.new-here.result) c.args.source.now n
-    c.new-here.ensures c.in_ok-naming.ensures.source c.in_ok-naming.ensures.tree in
+    let a = started c.in_ok-node_scope.node_scope (progress c.new-here.result) c.args.source.now n
+    c.new-here.ensures c.in_ok-node_scope.ensures.source c.in_ok-node_scope.ensures.tree in
     let fit = subst (λ t. node_fits t (view_node n) ≡ true) a c.in_ok-parts.ensures.fit in
-    all_named (at_start (view_source c.args.source.now) n) c.in_ok-naming.ensures.distinct fit
+    all_named (at_start (view_source c.args.source.now) n) c.in_ok-node_scope.ensures.distinct fit

@@ -3,7 +3,7 @@ use Rattle.std.proofs.Common.{◌≡◌, true, map, refl, ap, sym, subst, ◌∙
 use Rattle.std.specs.List.{list_all}
 use Rattle.std.proofs.lemmas.Result.{err_from_is_err_and}
 use Rattle.lb_syntax.specs.SourceView.{view_groups, view_node, view_statement}
-use Rattle.lb_static.specs.NodeProgress.{after_groups, after_statements, statement_fits, StepsStand}
+use Rattle.lb_static.specs.NodeProgress.{after_groups, after_statements, statement_fits, StatementsStand}
 use Rattle.lb_static.specs.Progressed.{progress}
 use Rattle.lb_static.proofs.FinishedNodes.{groups_after, groups_fit, groups_refused, body_refused, inputs_counted, outputs_counted}
 use Rattle.lb_static.proofs.NamedNodes.{all_fit, inputs_fault, outputs_fault, locals_fault, body_fault}
@@ -87,7 +87,7 @@ returns-clause-found c =
 
 pub returns-clause-stand : goal.returns-clause-stand
 returns-clause-stand c =
-    subst (λ l. StepsStand (progress c.steps.new.here) (map view_statement l)
+    subst (λ l. StatementsStand (progress c.resolve_statements.new.here) (map view_statement l)
     c.in_ok-body.body.items) c.deref-4.ensures.value c.in_ok-body.ensures.1
 
 pub returns-clause-fit : goal.returns-clause-fit

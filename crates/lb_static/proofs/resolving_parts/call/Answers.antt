@@ -17,8 +17,8 @@ returns c =
     let callee = c.in_ok-callee.callee in
     let long = sym (length-map c.args.arguments.now view_static) in
     let called : IsCallee (program_of before) f (length args) callee =
-    subst (λ P. IsCallee P f (length args) callee) c.naming.ensures.source
-    (subst (λ k. IsCallee (program_in c.naming.result.now) f k callee) long
+    subst (λ P. IsCallee P f (length args) callee) c.node_scope.ensures.source
+    (subst (λ k. IsCallee (program_in c.node_scope.result.now) f k callee) long
     c.in_ok-callee.ensures.ok) in
     let found = c.in_ok-first_argument.ensures in
     call_resolved before (progress c.push_call.new.self) f args

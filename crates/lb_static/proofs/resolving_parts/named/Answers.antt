@@ -13,10 +13,11 @@ returns c =
     let s = progress c.args.here.now in
     let x = c.args.name.now in
     let other : is_variable_of s x ≡ false =
-    same_two (λ P n. is_variable P n x) _ _ _ _ (sym c.naming.ensures.source)
-    (sym c.naming.ensures.node) ∙ sym c.place.ensures.is ∙ ap is_some c.in_default.is in
+    same_two (λ P n. is_variable P n x) _ _ _ _ (sym c.node_scope.ensures.source)
+    (sym c.node_scope.ensures.node) ∙ sym c.place.ensures.is_declared
+    ∙ ap is_some c.in_default.is in
     let known : is_static_name (program_of s) s.node x ≡ true =
-    same_two (λ P n. is_static_name P n x) _ _ _ _ (sym c.naming-2.ensures.source)
-    (sym c.naming-2.ensures.node) ∙ sym c.is_static.ensures ∙ c.if-not-is_static.false in
+    same_two (λ P n. is_static_name P n x) _ _ _ _ (sym c.node_scope-2.ensures.source)
+    (sym c.node_scope-2.ensures.node) ∙ sym c.is_static.ensures ∙ c.if-not-is_static.false in
     named_done s (progress c.push_static.new.self) x c.in_ok-push_static.field-0 other known
     c.in_ok-push_static.ensures.after c.in_ok-push_static.ensures.id

@@ -186,14 +186,14 @@ term-returns-in_err-clock-in-When t c =
     (first_refused f _ (expr_passes before (view c.in-When.a.value))
     c.in_err-clock-in-When.ensures.err)
 
-pub term-returns-in_err-size-in-Copies : goal.term-returns-in_err-size-in-Copies
-term-returns-in_err-size-in-Copies t c =
+pub term-returns-in_err-size-in-Replicate : goal.term-returns-in_err-size-in-Replicate
+term-returns-in_err-size-in-Replicate t c =
     let before = progress c.args.here.now in
-    let f = c.in_err-size-in-Copies.field-0.0 in
-    exit_refused before _ c.args.e.now _ c.from_residual-in_err-size-in-Copies.result f
-    c.in-Copies.is c.from_residual-in_err-size-in-Copies.ensures.1
-    (first_refused f _ (expr_passes before (view c.in-Copies.a.value))
-    c.in_err-size-in-Copies.ensures)
+    let f = c.in_err-size-in-Replicate.field-0.0 in
+    exit_refused before _ c.args.e.now _ c.from_residual-in_err-size-in-Replicate.result f
+    c.in-Replicate.is c.from_residual-in_err-size-in-Replicate.ensures.1
+    (first_refused f _ (expr_passes before (view c.in-Replicate.a.value))
+    c.in_err-size-in-Replicate.ensures)
 
 pub term-returns-in_err-index-in-Index : goal.term-returns-in_err-index-in-Index
 term-returns-in_err-index-in-Index t c =
@@ -409,7 +409,7 @@ term-returns-in_ok-clock-in-When t c =
     let a = c.in-When.a.value in
     let x = c.in-When.x in
     let found = c.in_ok-clock-in-When.ensures.found in
-    let is = c.in_ok-clock-in-When.ensures.is in
+    let is = c.in_ok-clock-in-When.ensures.is_declared in
     rw c.in-When.is (framed_as before before after (frame.When clock sign) _ a
     (tree.When (view a) x sign) c.framed-in-When.result c.deref-in-When.ensures
     (λ b d.
@@ -426,22 +426,22 @@ term-returns-in_ok-clock-in-When t c =
     (λ f h. second_refused f (is_variable (program_of before) before.node x) _ h)
     c.framed-in-When.ensures)
 
-pub term-returns-in_ok-size-in-Copies : goal.term-returns-in_ok-size-in-Copies
-term-returns-in_ok-size-in-Copies t c =
+pub term-returns-in_ok-size-in-Replicate : goal.term-returns-in_ok-size-in-Replicate
+term-returns-in_ok-size-in-Replicate t c =
     let before = progress c.args.here.now in
     let mid = progress c.one_static.new.here in
-    let after = progress c.framed-in-Copies.new.here in
-    let id = c.in_ok-size-in-Copies.size in
-    let n = view_static c.in-Copies.n in
-    let a = c.in-Copies.a.value in
-    let s = c.in_ok-size-in-Copies.ensures in
-    rw c.in-Copies.is (framed_as before mid after (frame.Copies id) _ a
-    (tree.Copies (view a) n) c.framed-in-Copies.result c.deref-in-Copies.ensures
+    let after = progress c.framed-in-Replicate.new.here in
+    let id = c.in_ok-size-in-Replicate.size in
+    let n = view_static c.in-Replicate.n in
+    let a = c.in-Replicate.a.value in
+    let s = c.in_ok-size-in-Replicate.ensures in
+    rw c.in-Replicate.is (framed_as before mid after (frame.Replicate id) _ a
+    (tree.Replicate (view a) n) c.framed-in-Replicate.result c.deref-in-Replicate.ensures
     (λ b d. let r = static_done before mid after _ n (view a) id b.value s d in
-    (r.0, (same_two tree.Copies _ _ _ _ r.2.0 r.1.0, both _ _ r.1.1 r.2.1, r.2.2), r.3))
+    (r.0, (same_two tree.Replicate _ _ _ _ r.2.0 r.1.0, both _ _ r.1.1 r.2.1, r.2.2), r.3))
     (λ f h. second_refused f (static_fits before n) _
     (before_more before mid _ _ f (view a) s.0 h))
-    c.framed-in-Copies.ensures)
+    c.framed-in-Replicate.ensures)
 
 pub term-returns-in_ok-index-in-Index : goal.term-returns-in_ok-index-in-Index
 term-returns-in_ok-index-in-Index t c =
@@ -628,9 +628,9 @@ pub framed-returns-in-When : goal.framed-returns-in-When
 framed-returns-in-When t c =
     rw c.in-When.is (c.in_ok-operand.operand, refl, c.in_ok-operand.ensures)
 
-pub framed-returns-in-Copies : goal.framed-returns-in-Copies
-framed-returns-in-Copies t c =
-    rw c.in-Copies.is (c.in_ok-operand.operand, refl, c.in_ok-operand.ensures)
+pub framed-returns-in-Replicate : goal.framed-returns-in-Replicate
+framed-returns-in-Replicate t c =
+    rw c.in-Replicate.is (c.in_ok-operand.operand, refl, c.in_ok-operand.ensures)
 
 pub framed-returns-in-Index : goal.framed-returns-in-Index
 framed-returns-in-Index t c =

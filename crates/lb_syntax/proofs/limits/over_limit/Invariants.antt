@@ -1,5 +1,5 @@
 use Rattle.std.proofs.Common.{◌≤◌, drop}
-use Rattle.lb_syntax.specs.Walk.{over_from}
+use Rattle.lb_syntax.specs.TokenCounts.{over_from}
 use Rattle.lb_syntax.proofs.LimitLaws.{IsAnswer}
 use Rattle.lb_syntax.proofs.limits.over_limit.Given as goal
 

@@ -7,7 +7,7 @@ use Rattle.lb_flat.proofs.order.table.enter.Goals as goal
 use Rattle.lb_flat.proofs.order.table.enter.Goals.{in-None, in-Some+else-not-is_same}
 
 pub loop-i-init : goal.loop-i-init
-loop-i-init c = empty_table c.args.ticks.now c.args.table.now c.requires.empty
+loop-i-init c = empty_table c.args.clocks.now c.args.table.now c.requires.empty
 
 pub returns-then-not-is_same-clause-cycle : goal.returns-then-not-is_same-clause-cycle
 returns-then-not-is_same-clause-cycle c _ =
@@ -17,7 +17,7 @@ returns-then-not-is_same-clause-cycle c _ =
 pub loop-i-preserved : goal.loop-i-preserved
 loop-i-preserved c =
     let grown = λ (table : List (Option Equation)).
-    IsTableOf (length c.args.table.now) c.args.ticks.now
+    IsTableOf (length c.args.table.now) c.args.clocks.now
     (take (c.loop-i.i + 1) c.args.equations.now) table in
     elim c.match-table-q.branch [
       | in-None w ↦

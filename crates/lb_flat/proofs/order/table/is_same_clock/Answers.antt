@@ -6,8 +6,8 @@ use Rattle.lb_flat.proofs.order.table.is_same_clock.Goals.{then-x-y-via-then-x-y
 
 pub returns-then-x-y : goal.returns-then-x-y
 returns-then-x-y c =
-    let one = sym c.tick_at.ensures ∙ c.in-Some-Some.is-0 in
-    let other = sym c.tick_at-in-loop-depth.ensures ∙ c.in-Some-Some.is-1 in (
+    let one = sym c.clock_at.ensures ∙ c.in-Some-Some.is-0 in
+    let other = sym c.clock_at-in-loop-depth.ensures ∙ c.in-Some-Some.is-1 in (
       λ h. absurd (true≢false (sym h)),
       λ same. absurd (elim c.then-x-y.branch [
         | then-x-y-via-then-x-y w ↦
@@ -23,8 +23,8 @@ pub returns-in-None-None : goal.returns-in-None-None
 returns-in-None-None c = (
   λ _.
       ends_both _ _ _ _ _ _ c.loop-depth.invariant c.loop-depth-test.true
-      (sym c.tick_at.ensures ∙ c.in-None-None.is-0)
-      (sym c.tick_at-in-loop-depth.ensures ∙ c.in-None-None.is-1),
+      (sym c.clock_at.ensures ∙ c.in-None-None.is-0)
+      (sym c.clock_at-in-loop-depth.ensures ∙ c.in-None-None.is-1),
   λ _. refl,
 )
 
@@ -33,8 +33,8 @@ returns-in_default c = (
   λ h. absurd (true≢false (sym h)),
   λ same.
       absurd (other_ends _ _ _ _ _ _ c.loop-depth.invariant c.loop-depth-test.true _
-      (sym c.tick_at.ensures ∙ c.in_default.is-0)
-      (sym c.tick_at-in-loop-depth.ensures ∙ c.in_default.is-1) same),
+      (sym c.clock_at.ensures ∙ c.in_default.is-0)
+      (sym c.clock_at-in-loop-depth.ensures ∙ c.in_default.is-1) same),
 )
 
 pub returns-in_default-2 : goal.returns-in_default-2
@@ -42,15 +42,15 @@ returns-in_default-2 c = (
   λ h. absurd (true≢false (sym h)),
   λ same.
       absurd (one_ends _ _ _ _ _ _ c.loop-depth.invariant c.loop-depth-test.true _
-      (sym c.tick_at.ensures ∙ c.in_default.is-0)
-      (sym c.tick_at-in-loop-depth.ensures ∙ c.in_default.is-1) same),
+      (sym c.clock_at.ensures ∙ c.in_default.is-0)
+      (sym c.clock_at-in-loop-depth.ensures ∙ c.in_default.is-1) same),
 )
 
 pub loop-depth-preserved : goal.loop-depth-preserved
 loop-depth-preserved c =
     goes_on _ _ _ _ _ _ c.loop-depth.invariant c.loop-depth-test.true _ _
-    (sym c.tick_at.ensures ∙ c.in-Some-Some.is-0)
-    (sym c.tick_at-in-loop-depth.ensures ∙ c.in-Some-Some.is-1) c.if-x-y.false
+    (sym c.clock_at.ensures ∙ c.in-Some-Some.is-0)
+    (sym c.clock_at-in-loop-depth.ensures ∙ c.in-Some-Some.is-1) c.if-x-y.false
     (signs_same _ _ c.if-x-y-2.false)
 
 pub returns : goal.returns

@@ -3,7 +3,7 @@ use Rattle.std.proofs.Common.{rules, ◌+◌, ◌++◌, ◌∷◌, [], List, tak
 use Rattle.std.proofs.lemmas.Result.{err_from_is_err_and}
 use Rattle.lb_static.specs.declared.resolved.Term as form
 use Rattle.lb_flat.specs.declared.plain.term.Term as term
-use Rattle.lb_flat.specs.LaterForms.{has_plain_forms, IsPlainOf, ArePlainOf, IsLater}
+use Rattle.lb_flat.specs.UnsupportedForms.{has_plain_forms, IsPlainOf, ArePlainOf, IsUnsupported}
 use Rattle.lb_flat.proofs.PlainTranslation.{at_most_one_of, boxed_translates, later_at_most_one, later_nor, later_third, more_of, nor_of}
 use Rattle.lb_flat.proofs.plain.terms.+plain_term.Goals as goal
 
@@ -11,7 +11,8 @@ pub plain_term-returns-in_err-plain_term-in-If : goal.plain_term-returns-in_err-
 plain_term-returns-in_err-plain_term-in-If t c =
     let p = err_from_is_err_and c.from_residual-in_err-plain_term-in-If.result
     c.from_residual-in_err-plain_term-in-If.ensures.1 in
-    let later : IsLater c.in_err-plain_term-in-If.field-0.0 (has_plain_forms c.in-If.b.value) =
+    let later : IsUnsupported c.in_err-plain_term-in-If.field-0.0
+    (has_plain_forms c.in-If.b.value) =
     search rules in
     rw (p.1, p.2) (rw c.in-If.is
     (later_third c.in_err-plain_term-in-If.field-0.0 (has_plain_forms c.in-If.c.value)

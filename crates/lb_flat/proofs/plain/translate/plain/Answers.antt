@@ -6,7 +6,7 @@ use Rattle.lb_static.specs.ReachedNodes.{source_names}
 use Rattle.lb_static.specs.ResolvedNodes.{IsResolved}
 use Rattle.lb_static.specs.declared.reach.Reached.{Reached}
 use Rattle.lb_static.specs.declared.resolved.ResolvedNode.{ResolvedNode}
-use Rattle.lb_static.proofs.WalkSteps.{element_all}
+use Rattle.lb_static.proofs.InstanceSteps.{element_all}
 use Rattle.lb_flat.specs.PlainPrograms.{observer_of}
 use Rattle.lb_flat.proofs.PlainStarts.{at_start, no_parameters, has_output, unobserved, answered}
 use Rattle.lb_flat.proofs.plain.translate.plain.Goals as goal

@@ -1,6 +1,6 @@
 use Rattle.lb_static.proofs.RootFaults.{seen_there}
 use Rattle.std.proofs.Common.{sym}
-use Rattle.lb_static.proofs.RootShapes.{inputs_fit}
+use Rattle.lb_static.proofs.InterfaceTypes.{inputs_fit}
 use Rattle.lb_static.proofs.interface.Interface.new.Goals as goal
 
 pub invariant_of-result : goal.invariant_of-result
@@ -9,6 +9,6 @@ invariant_of-result c =
     c.interface_variables.ensures c.in_ok-variables.ensures.value in
     record {
       inputs_fit = inputs_fit c.args.node.now c.args.statics.now
-          c.in_ok-variables.variables.now c.in_ok-shapes.shapes.items (sym found)
-          c.in_ok-shapes.ensures;
+          c.in_ok-variables.variables.now c.in_ok-data_types.data_types.items (sym found)
+          c.in_ok-data_types.ensures;
     }

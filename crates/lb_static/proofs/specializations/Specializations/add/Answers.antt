@@ -3,9 +3,9 @@ use Rattle.std.proofs.Common.{◌≡◌, ◌∙◌, sym, ap, refl, subst, ◌∷
 use Rattle.std.proofs.lemmas.List.{length-map, length-append}
 use Rattle.indexmap.specs.IndexMap.{keys}
 use Rattle.lb_static.specs.KeyedSpecializations.{AreKeyed, IsUnknown}
-use Rattle.lb_static.specs.Walked.{IsKnown}
+use Rattle.lb_static.specs.Instantiated.{IsKnown}
 use Rattle.lb_static.proofs.KeyedSpecializations.{key_eq, known_at, unknown, added, added_view, keyed_more}
-use Rattle.lb_static.proofs.NodeNaming.{past_all}
+use Rattle.lb_static.proofs.NodeScopes.{past_all}
 use Rattle.lb_static.proofs.specializations.Specializations.add.Goals as goal
 
 pub returns-in-Some-clause-added : goal.returns-in-Some-clause-added

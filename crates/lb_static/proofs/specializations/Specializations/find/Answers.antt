@@ -3,7 +3,7 @@ use Rattle.std.proofs.Common.{◌∙◌, ap, sym, subst}
 use Rattle.std.specs.Prelude.{option_map, slice_get}
 use Rattle.std.proofs.lemmas.Option.{slice_get-map}
 use Rattle.lb_static.specs.KeyedSpecializations.{IsUnknown}
-use Rattle.lb_static.specs.Walked.{IsKnown}
+use Rattle.lb_static.specs.Instantiated.{IsKnown}
 use Rattle.lb_static.specs.declared.specializations.Key.{Key}
 use Rattle.lb_static.specs.declared.table.Specialization.{Specialization}
 use Rattle.lb_static.proofs.KeyedSpecializations.{known_at, unknown}

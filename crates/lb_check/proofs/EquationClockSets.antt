@@ -1,0 +1,724 @@
+-- A call that is a whole right side keeps the rules of clocks exactly where the code finds so.
+use Rattle.std.proofs.Common.{◌≡◌, ℕ, zero, suc, ◌+◌, ◌-◌, ◌<◌, ◌≤◌, ◌⊎◌, inl, inr, Bool, true, false, List, [], ◌∷◌, ◌++◌, take, drop, length, map, Option, Some, None, refl, ap, sym, ◌∙◌, subst, arith}
+use Rattle.std.specs.Prelude.{◌&&◌, ◌||◌, not, slice_get, nat_eq, nat_lt, if◌then◌else◌}
+use Rattle.std.specs.List.{list_all}
+use Rattle.std.proofs.lemmas.Bool.Decides.{nat_tests}
+use Rattle.std.proofs.lemmas.List.{length-map}
+use Rattle.lb_syntax.specs.Lists.{either_or, listed, or_else}
+use Rattle.lb_syntax.specs.Tree as text
+use Rattle.lb_syntax.specs.Tree.{Name, Expr, Declaration}
+use Rattle.lb_static.specs.Instances.{Program, Site, node_named}
+use Rattle.lb_static.specs.ResolvedNodes.{node_of, texts_of, counts_of}
+use Rattle.lb_static.specs.ResolvedTerms.{exprs_of, is_within, is_unhidden, is_variable}
+use Rattle.lb_static.specs.declared.resolved.ResolvedNode.{ResolvedNode}
+use Rattle.lb_static.specs.declared.resolved.Sampling.{Sampling}
+use Rattle.lb_static.specs.declared.resolved.Term.{Term}
+use Rattle.lb_static.specs.declared.resolved.Variable.{Variable as Declared}
+use Rattle.lb_static.specs.declared.resolved.VariableId.{VariableId}
+use Rattle.lb_check.specs.ClockRules.{is_clock, are_clocks, left_clocks, are_on_results}
+use Rattle.lb_check.specs.Clocks as tree
+use Rattle.lb_check.specs.Clocks.{given_inputs, given_outputs, given_name, outer, above, own_depth, depth, declared_clock, base_clock, base_from, argument_clocks, result_clocks}
+use Rattle.lb_check.specs.Occurrences.{statement_clock}
+use Rattle.lb_check.specs.OwnClocks.{HasClocks, name_in, clock_in, is_clock_within}
+use Rattle.lb_check.specs.ClockSets.{AreClockSets, is_clocked_on}
+use Rattle.lb_check.specs.TermClocks.{Context, declared_in, operands_of, given_at, clock_sets, are_given, input_clocks, output_clocks, base_of, all_fit, left_clock_sets, stands_for, result_base, is_call_clocked}
+use Rattle.lb_check.specs.declared.own_clock.Clock.{Clock}
+use Rattle.lb_check.specs.declared.own_clock.Clock.TheVariants.{Base}
+use Rattle.lb_check.specs.declared.clock_set.ClockSet.{ClockSet}
+use Rattle.lb_check.specs.declared.clock_set.ClockSet.TheVariants.{OneClock}
+use Rattle.lb_check.proofs.CallOperands.{are_given_is, own_inputs, clock_set_within, waited_given, input_waits, output_waits, inputs_seen, inputs_is_given, code_known, code_stand, same_fits}
+use Rattle.lb_check.proofs.CallClockSets as one
+use Rattle.lb_check.proofs.FittingClocks.{IsGiven, IsWithin, fits_on, fit_some, fit_none, base_within, base_is}
+use Rattle.lb_check.proofs.TruthValues.{and_first, and_second, and_true, both_true, both_ways}
+use Rattle.lb_check.proofs.GivenNames.{given_in, given_out, found_before, output_at, output_held, variable_held}
+use Rattle.lb_check.proofs.NodePlaces.{held, all_at}
+use Rattle.lb_check.proofs.ListPairs.{get_mapped, mapped_from, get_taken, taken, get_dropped, each_pair, pair_at, pairs_from}
+use Rattle.lb_check.proofs.ClockTests.{clock_same, clock_turned}
+use Rattle.lb_check.proofs.OuterClocks.{stood, clock_equal, above_outer, declared_is, place_name, variable_at, seen, expected_on, AreGiven, StandFor, HaveNames, outer_all}
+
+-- ## Clocks of two lists
+
+clocks_length : (ks ls : List tree.Clock) → are_clocks ks ls ≡ true → length ks ≡ length ls
+clocks_length [] [] e = refl
+clocks_length [] (l ∷ ls) e = absurd cc
+clocks_length (k ∷ ks) [] e = absurd cc
+clocks_length (k ∷ ks) (l ∷ ls) e = ap suc (clocks_length ks ls (and_second (is_clock k l) _ e))
+
+clocks_at : (ks ls : List tree.Clock) (j : ℕ) (k l : tree.Clock) → are_clocks ks ls ≡ true →
+    slice_get ks j ≡ Some k → slice_get ls j ≡ Some l → is_clock k l ≡ true
+clocks_at [] ls j k l e p q = absurd cc
+clocks_at (x ∷ ks) [] j k l e p q = absurd cc
+clocks_at (x ∷ ks) (y ∷ ls) zero k l e p q =
+    let s : x ≡ k = cc in
+    let t : y ≡ l = cc in
+    sym (ap (λ z. is_clock z y) s ∙ ap (is_clock k) t) ∙ and_first (is_clock x y) _ e
+clocks_at (x ∷ ks) (y ∷ ls) (suc j) k l e p q =
+    clocks_at ks ls j k l (and_second (is_clock x y) _ e) p q
+
+clocks_from : (ks ls : List tree.Clock) → length ks ≡ length ls
+    → ((j : ℕ) (k l : tree.Clock) → slice_get ks j ≡ Some k → slice_get ls j ≡ Some l →
+    is_clock k l ≡ true) → are_clocks ks ls ≡ true
+clocks_from [] [] e h = refl
+clocks_from [] (l ∷ ls) e h = absurd (omega (arith, e))
+clocks_from (k ∷ ks) [] e h = absurd (omega (arith, e))
+clocks_from (k ∷ ks) (l ∷ ls) e h =
+    both_true (is_clock k l) (are_clocks ks ls) (h 0 k l refl refl)
+    (clocks_from ks ls (omega (arith, e)) (λ j x y p q. h (suc j) x y p q))
+
+nil_of : {A : Type 0} (xs : List A) → length xs ≡ 0 → xs ≡ []
+nil_of [] e = refl
+nil_of (x ∷ xs) e = absurd (omega (arith, e))
+
+-- ## Places of inputs, and of outputs
+
+place_split : (i m n : ℕ) → i < m + n → (i < m) ⊎ ((j : ℕ) × (i ≡ m + j) × (j < n))
+place_split i m n lt = by (nat_lt i m) refl
+  where
+    by : (b : Bool) → nat_lt i m ≡ b → (i < m) ⊎ ((j : ℕ) × (i ≡ m + j) × (j < n))
+    by true less = inl (grind (arith, nat_tests))
+    by false more =
+        let low : m ≤ i = grind (arith, nat_tests) in
+        inr (i - m, omega arith, omega arith)
+
+small_place : (i m : ℕ) → i < m → nat_lt i m ≡ true
+small_place i m lt = grind (arith, nat_tests)
+
+later_place : (m j : ℕ) → nat_lt (m + j) m ≡ false
+later_place m j = grind (arith, nat_tests)
+
+less_place : (m j : ℕ) → m + j - m ≡ j
+less_place m j = omega arith
+
+module _ (P : Program) (here callee : ResolvedNode) (h : HasClocks here) (hc : HasClocks callee)
+    (site : Site)
+    (named : node_named P site.callee ≡ Some (node_of callee)) (ctx : Context)
+    (declares : ctx.variable ≡ declared_in here)
+    (es : List Term) (w : list_all (is_within (counts_of here)) es ≡ true)
+    (u : list_all (is_unhidden (texts_of here)) es ≡ true) (stand : AreClockSets P here ctx es)
+    (lefts : List VariableId) (wl : list_all (is_variable (counts_of here)) lefts ≡ true) where
+  abbrev args : text.Exprs
+  args = exprs_of (texts_of here) es
+
+  abbrev ss : List ClockSet
+  ss = clock_sets (operands_of ctx es)
+
+  abbrev ls : List ClockSet
+  ls = left_clock_sets ctx lefts
+
+  abbrev xs : List Name
+  xs = map (name_in here) lefts
+
+  abbrev Y : ℕ → Option VariableId
+  Y = stands_for callee.inputs (operands_of ctx es) lefts
+
+  Y_in : (i : ℕ) → i < callee.inputs → Y i ≡ given_at (operands_of ctx es) i
+  Y_in i lt = rw (small_place i callee.inputs lt) refl
+
+  Y_out : (j : ℕ) → Y (callee.inputs + j) ≡ slice_get lefts j
+  Y_out j = rw (later_place callee.inputs j, less_place callee.inputs j) refl
+
+  -- where what stands for a variable of the callee may stand
+  abbrev S : ℕ → Option ClockSet
+  S i = if nat_lt i callee.inputs then slice_get ss i else slice_get ls (i - callee.inputs)
+
+  S_in : (i : ℕ) → i < callee.inputs → S i ≡ slice_get ss i
+  S_in i lt = rw (small_place i callee.inputs lt) refl
+
+  S_out : (j : ℕ) → S (callee.inputs + j) ≡ slice_get ls j
+  S_out j = rw (later_place callee.inputs j, less_place callee.inputs j) refl
+
+  abbrev inner : tree.Given
+  inner = given_inputs (node_of callee).inputs args
+
+  abbrev given : tree.Given
+  given = given_inputs (node_of callee).inputs args ++ given_outputs (node_of callee).outputs xs
+
+  -- ## Left variables
+
+  left_within : (j : ℕ) (x : VariableId) → slice_get lefts j ≡ Some x →
+      is_variable (counts_of here) x ≡ true
+  left_within j x e = all_at (is_variable (counts_of here)) lefts j x wl e
+
+  left_stands : (j : ℕ) (x : VariableId) → slice_get lefts j ≡ Some x →
+      slice_get ls j ≡ Some (OneClock (declared_in here x))
+  left_stands j x e = get_mapped (λ x. OneClock (ctx.variable x)) lefts j x e
+      ∙ ap (λ f. Some (OneClock (f x))) declares
+
+  left_from : (j : ℕ) (s : ClockSet) → slice_get ls j ≡ Some s →
+      (x : VariableId) × (slice_get lefts j ≡ Some x) × (s ≡ OneClock (declared_in here x))
+  left_from j s e =
+      let x = mapped_from (λ x. OneClock (ctx.variable x)) lefts j s e in
+      (x.0, x.1, sym x.2 ∙ ap (λ f. OneClock (f x.0)) declares)
+
+  lefts_within : (j : ℕ) (s : ClockSet) → slice_get ls j ≡ Some s → IsWithin here s
+  lefts_within j s e l only =
+      let x = left_from j s e in
+      let both : OneClock l ≡ OneClock (declared_in here x.0) = sym only ∙ x.2 in
+      let same : l ≡ declared_in here x.0 = cc in
+      subst (λ k. is_clock_within here k ≡ true) (sym same)
+      (declared_is here h x.0 (left_within j x.0 x.1)).1
+
+  left_clock_at : (j : ℕ) (x : VariableId) → slice_get lefts j ≡ Some x →
+      slice_get (left_clocks (node_of here) xs) j ≡ Some
+      (declared_clock (node_of here) (name_in here x))
+  left_clock_at j x e = get_mapped (declared_clock (node_of here)) xs j (name_in here x)
+      (get_mapped (name_in here) lefts j x e)
+
+  left_clock_from : (j : ℕ) (k : tree.Clock) → slice_get (left_clocks (node_of here) xs) j ≡ Some k
+      → (x : VariableId) × (slice_get lefts j ≡ Some x)
+      × (declared_clock (node_of here) (name_in here x) ≡ k)
+  left_clock_from j k e =
+      let n = mapped_from (declared_clock (node_of here)) xs j k e in
+      let x = mapped_from (name_in here) lefts j n.0 n.1 in
+      (x.0, x.1, ap (declared_clock (node_of here)) x.2 ∙ n.2)
+
+  -- a left variable may stand on a clock if that is its own
+  left_stood : (j : ℕ) (x : VariableId) (k : tree.Clock) → slice_get lefts j ≡ Some x →
+      stood here k (OneClock (declared_in here x)) ≡ is_clock k
+      (declared_clock (node_of here) (name_in here x))
+  left_stood j x k e = ap (is_clock k) (declared_is here h x (left_within j x e)).0
+
+  -- ## What stands for the variables of the callee
+
+  all_stand : StandFor here callee Y S (callee.inputs + callee.outputs)
+  all_stand i y lt e =
+      elim (place_split i callee.inputs callee.outputs lt) [
+        | inl less ↦
+            let z = own_inputs P here callee h hc ctx declares es w u stand Y Y_in i y less e in
+            (S_in i less ∙ z.0, z.1)
+        | inr p ↦
+            let there : slice_get lefts p.0 ≡ Some y = sym (Y_out p.0) ∙ ap Y (sym p.1) ∙ e in
+            (ap S p.1 ∙ S_out p.0 ∙ left_stands p.0 y there, left_within p.0 y there)
+      ]
+
+  all_names : HaveNames here callee Y given (callee.inputs + callee.outputs)
+  all_names i y lt e =
+      elim (place_split i callee.inputs callee.outputs lt) [
+        | inl less ↦
+            let there = given_in callee hc here ctx es i y less (sym (Y_in i less) ∙ e) in
+            ap (λ o. either_or o (place_name callee i))
+            (found_before inner (given_outputs (node_of callee).outputs xs)
+            (place_name callee i) (name_in here y) there)
+        | inr p ↦
+            let there : slice_get lefts p.0 ≡ Some y = sym (Y_out p.0) ∙ ap Y (sym p.1) ∙ e in
+            let x = get_mapped (name_in here) lefts p.0 y there in
+            let here_given = given_out callee hc args xs p.0 (name_in here y) p.2 x in
+            let at : given_name given (place_name callee (callee.inputs + p.0)) ≡ name_in here y =
+            ap (λ o. either_or o (place_name callee (callee.inputs + p.0))) here_given in
+            ap (λ i. given_name given (place_name callee i)) p.1 ∙ at
+      ]
+
+  -- the clock declared for an output
+  out_clock : (j : ℕ) (c : Option Sampling) → slice_get (output_clocks callee) j ≡ Some c
+      → (v : Declared) × (slice_get callee.variables.items (callee.inputs + j) ≡ Some v)
+      × (v.clock ≡ c) × (j < callee.outputs)
+  out_clock j c e =
+      let v = mapped_from (λ v. v.clock)
+      (take callee.outputs (drop callee.inputs callee.variables.items)) j c e in
+      let t = get_taken callee.outputs (drop callee.inputs callee.variables.items) j v.0 v.1 in
+      (v.0, sym (get_dropped callee.inputs callee.variables.items j) ∙ t.0, v.2, t.1)
+
+  clock_out : (j : ℕ) (v : Declared) → j < callee.outputs →
+      slice_get callee.variables.items (callee.inputs + j) ≡ Some v →
+      slice_get (output_clocks callee) j ≡ Some v.clock
+  clock_out j v lt e =
+      let there = get_dropped callee.inputs callee.variables.items j ∙ e in
+      get_mapped (λ v. v.clock) (take callee.outputs (drop callee.inputs callee.variables.items)) j
+      v (taken callee.outputs (drop callee.inputs callee.variables.items) j v there lt)
+
+  module _ (all : are_given callee (operands_of ctx es) ≡ true)
+      (many : length lefts ≡ callee.outputs) where
+    what_waits : (i : ℕ) (v : Declared) (s : Sampling) → i < callee.inputs + callee.outputs →
+        slice_get callee.variables.items i ≡ Some v → v.clock ≡ Some s
+        → s.variable.0 < callee.inputs + callee.outputs
+    what_waits i v s lt at is =
+        elim (place_split i callee.inputs callee.outputs lt) [
+          | inl less ↦ let small = input_waits callee hc i v s less at is in omega arith
+          | inr p ↦ output_waits callee hc p.0 v s p.2
+              (ap (slice_get callee.variables.items) (sym p.1) ∙ at) is
+        ]
+
+    -- each variable that is waited for is given one of the caller
+    waits : AreGiven callee Y (callee.inputs + callee.outputs) (callee.inputs + callee.outputs)
+    waits i v s lt at is =
+        let below = what_waits i v s lt at is in (
+          below,
+          elim (place_split s.variable.0 callee.inputs callee.outputs below) [
+            | inl less ↦
+                let y = waited_given P here callee h hc ctx declares es w u stand all i v s lt at is
+                less in
+                (y.0, Y_in s.variable.0 less ∙ y.1)
+            | inr p ↦
+                let small = p.2 in
+                let y = held lefts p.0 (omega (arith, many)) in
+                (y.0, ap Y p.1 ∙ Y_out p.0 ∙ y.1)
+          ],
+        )
+
+    waits_in : AreGiven callee Y callee.inputs callee.inputs
+    waits_in i v s lt at is =
+        let less = input_waits callee hc i v s lt at is in
+        let y = waited_given P here callee h hc ctx declares es w u stand all i v s
+        (omega arith) at is less in
+        (less, (y.0, Y_in s.variable.0 less ∙ y.1))
+
+    abbrev fits_in : tree.Clock → Bool
+    fits_in b = fits_on here h Y b (input_clocks callee) ss
+
+    abbrev fits_out : tree.Clock → Bool
+    fits_out b = fits_on here h Y b (output_clocks callee) ls
+
+    abbrev outer_in : tree.Clock → Bool
+    outer_in b = each_pair (stood here)
+        (inputs_seen P here callee h hc ctx declares es w u stand b) ss
+
+    -- the clocks of the results, where the callee runs on this one
+    abbrev outputs_seen : tree.Clock → List tree.Clock
+    outputs_seen b = map (λ (d : Declaration). outer b given
+        (declared_clock (node_of callee) d.name)) (node_of callee).outputs
+
+    abbrev outer_out : tree.Clock → Bool
+    outer_out b = are_clocks (left_clocks (node_of here) xs) (outputs_seen b)
+
+    few : callee.inputs ≤ callee.inputs
+    few = omega arith
+
+    in_same : (b : tree.Clock) → outer_in b ≡ fits_in b
+    in_same b = same_fits P here callee h hc ctx declares es w u stand Y Y_in callee.inputs few
+        waits_in b
+
+    params_in : (i : ℕ) (c : Option Sampling) → slice_get (input_clocks callee) i ≡ Some c →
+        IsGiven here Y c
+    params_in = inputs_is_given P here callee h hc ctx declares es w u stand Y Y_in callee.inputs
+        few waits_in
+
+    within_in : (i : ℕ) (s : ClockSet) → slice_get ss i ≡ Some s → IsWithin here s
+    within_in = clock_set_within P here callee h hc ctx declares es w u stand
+
+    params_out : (j : ℕ) (c : Option Sampling) → slice_get (output_clocks callee) j ≡ Some c →
+        IsGiven here Y c
+    params_out j c e s is =
+        let v = out_clock j c e in
+        let less = v.3 in
+        let z = waits (callee.inputs + j) v.0 s (omega arith) v.1 (v.2 ∙ is) in
+        (z.1.0, z.1.1, (all_stand s.variable.0 z.1.0 z.0 z.1.1).1)
+
+    -- ## The clocks of the results
+
+    inputs_stand : (b : tree.Clock) → fits_in b ≡ true → (i : ℕ) (v : Declared) (s : ClockSet) →
+        i < callee.inputs → slice_get callee.variables.items i ≡ Some v
+        → S i ≡ Some s → stood here (expected_on here Y b v.clock) s ≡ true
+    inputs_stand b ok i v s lt at e =
+        code_stand P here callee h hc ctx declares es w u stand Y Y_in callee.inputs few waits_in b
+        ok i v s lt at (sym (S_in i lt) ∙ e)
+
+    known : (b : tree.Clock) → fits_in b ≡ true
+        → ((j : ℕ) (v : Declared) (x : VariableId) → j < callee.outputs →
+        slice_get callee.variables.items (callee.inputs + j) ≡ Some v →
+        slice_get lefts j ≡ Some x
+        → (stood here (seen callee given b (callee.inputs + j)) (OneClock (declared_in here x))
+        ≡ true)
+        ⊎ (stood here (expected_on here Y b v.clock) (OneClock (declared_in here x)) ≡ true))
+        → (x : VariableId) (v : Declared) → x.0 < callee.inputs + callee.outputs →
+        slice_get callee.variables.items x.0 ≡ Some v
+        → expected_on here Y b v.clock ≡ seen callee given b x.0
+    known b ok out =
+        outer_all here callee h hc Y S (callee.inputs + callee.outputs)
+        (callee.inputs + callee.outputs) (omega arith) waits all_stand given all_names b
+        (λ i v s lt at e. elim (place_split i callee.inputs callee.outputs lt) [
+          | inl less ↦ inr (inputs_stand b ok i v s less at e)
+          | inr p ↦
+              let x = left_from p.0 s (sym (S_out p.0) ∙ ap S (sym p.1) ∙ e) in
+              let there = out p.0 v x.0 p.2
+              (ap (slice_get callee.variables.items) (sym p.1) ∙ at) x.1 in
+              subst (λ z. (stood here (seen callee given b i) z ≡ true)
+              ⊎ (stood here (expected_on here Y b v.clock) z ≡ true)) (sym x.2)
+              (subst (λ i. (stood here (seen callee given b i) (OneClock (declared_in here x.0))
+              ≡ true)
+              ⊎ (stood here (expected_on here Y b v.clock)
+              (OneClock (declared_in here x.0)) ≡ true)) (sym p.1) there)
+        ])
+
+    -- a left variable is on the clock of its result
+    result_at : (b : tree.Clock) → outer_out b ≡ true → (j : ℕ) (x : VariableId) →
+        j < callee.outputs → slice_get lefts j ≡ Some x
+        → is_clock (declared_clock (node_of here) (name_in here x))
+        (seen callee given b (callee.inputs + j)) ≡ true
+    result_at b ok j x lt e =
+        let d = output_held callee hc j lt in
+        let f = λ (d : Declaration). outer b given (declared_clock (node_of callee) d.name) in
+        let there = get_mapped f (node_of callee).outputs j d.0 d.1 in
+        let k = declared_clock (node_of here) (name_in here x) in
+        let same = clocks_at (left_clocks (node_of here) xs) (outputs_seen b) j k (f d.0) ok
+        (left_clock_at j x e) there in
+        subst (λ n. is_clock k (outer b given (declared_clock (node_of callee) n)) ≡ true)
+        (output_at callee hc j d.0 d.1).0 same
+
+    known_outer : (b : tree.Clock) → fits_in b ≡ true → outer_out b ≡ true →
+        (x : VariableId) (v : Declared) → x.0 < callee.inputs + callee.outputs
+        → slice_get callee.variables.items x.0 ≡ Some v →
+        expected_on here Y b v.clock ≡ seen callee given b x.0
+    known_outer b ok out =
+        known b ok (λ j v x lt at e.
+        let z = seen callee given b (callee.inputs + j) in
+        inl (left_stood j x z e ∙ clock_turned z (declared_clock (node_of here) (name_in here x))
+        ∙ result_at b out j x lt e))
+
+    left_fits : (b : tree.Clock) → fits_out b ≡ true → (j : ℕ) (v : Declared) (x : VariableId) →
+        j < callee.outputs → slice_get callee.variables.items (callee.inputs + j) ≡ Some v
+        → slice_get lefts j ≡ Some x →
+        stood here (expected_on here Y b v.clock) (OneClock (declared_in here x)) ≡ true
+    left_fits b ok j v x lt at e =
+        pair_at (λ c s. stood here (expected_on here Y b c) s) (output_clocks callee) ls j v.clock
+        (OneClock (declared_in here x)) ok (clock_out j v lt at) (left_stands j x e)
+
+    known_code : (b : tree.Clock) → fits_in b ≡ true → fits_out b ≡ true →
+        (x : VariableId) (v : Declared) → x.0 < callee.inputs + callee.outputs
+        → slice_get callee.variables.items x.0 ≡ Some v →
+        expected_on here Y b v.clock ≡ seen callee given b x.0
+    known_code b ok out = known b ok (λ j v x lt at e. inr (left_fits b out j v x lt at e))
+
+    to_out : (b : tree.Clock) → fits_in b ≡ true → outer_out b ≡ true → fits_out b ≡ true
+    to_out b ok out =
+        pairs_from (λ c s. stood here (expected_on here Y b c) s) (output_clocks callee) ls
+        (λ j c s p q.
+        let v = out_clock j c p in
+        let x = left_from j s q in
+        let less = v.3 in
+        let z = seen callee given b (callee.inputs + j) in
+        let at : expected_on here Y b v.0.clock ≡ z =
+        known_outer b ok out (variable_at (callee.inputs + j)) v.0 (omega arith) v.1 in
+        ap (stood here (expected_on here Y b c)) x.2
+        ∙ ap (λ k. stood here k (OneClock (declared_in here x.0)))
+        (ap (expected_on here Y b) (sym v.2) ∙ at)
+        ∙ left_stood j x.0 z x.1 ∙ clock_turned z (declared_clock (node_of here) (name_in here x.0))
+        ∙ result_at b out j x.0 less x.1)
+
+    from_out : (b : tree.Clock) → fits_in b ≡ true → fits_out b ≡ true → outer_out b ≡ true
+    from_out b ok out =
+        let count : length (left_clocks (node_of here) xs) ≡ length (outputs_seen b) =
+        simp length-map (many ∙ hc.resolved.outputs) in
+        clocks_from (left_clocks (node_of here) xs) (outputs_seen b) count (λ j k l p q.
+        let x = left_clock_from j k p in
+        let d = mapped_from (λ (d : Declaration). outer b given
+        (declared_clock (node_of callee) d.name)) (node_of callee).outputs j l q in
+        let place = output_at callee hc j d.0 d.1 in
+        let less = place.1 in
+        let v = variable_held callee hc (callee.inputs + j) (omega arith) in
+        let own = declared_clock (node_of here) (name_in here x.0) in
+        let z = seen callee given b (callee.inputs + j) in
+        let at : expected_on here Y b v.0.clock ≡ z =
+        known_code b ok out (variable_at (callee.inputs + j)) v.0 (omega arith) v.1 in
+        let same : l ≡ z = sym d.2 ∙ ap
+        (λ n. outer b given (declared_clock (node_of callee) n)) place.0 in
+        ap (λ c. is_clock c l) (sym x.2) ∙ ap (is_clock own) (same ∙ sym at)
+        ∙ clock_turned own (expected_on here Y b v.0.clock)
+        ∙ sym (left_stood j x.0 (expected_on here Y b v.0.clock) x.1)
+        ∙ left_fits b out j v.0 x.0 less v.1 x.1)
+
+    -- ## The base clock of the callee
+
+    abbrev code_in : Option Clock → Bool
+    code_in base = all_fit base Y (input_clocks callee) ss
+
+    abbrev code_out : Option Clock → Bool
+    code_out base = all_fit base Y (output_clocks callee) ls
+
+    in_code : (k : Clock) → is_clock_within here k ≡ true →
+        code_in (Some k) ≡ fits_in (clock_in here k)
+    in_code = fit_some here h Y (input_clocks callee) ss params_in within_in
+
+    out_code : (k : Clock) → is_clock_within here k ≡ true →
+        code_out (Some k) ≡ fits_out (clock_in here k)
+    out_code = fit_some here h Y (output_clocks callee) ls params_out lefts_within
+
+    on_base : (k : Clock) (b : tree.Clock) → is_clock_within here k ≡ true → b ≡ clock_in here k →
+        fits_in b ≡ true → fits_out b ≡ true
+        → (code_in (Some k) ≡ true) × (code_out (Some k) ≡ true)
+    on_base k b w same ok out = (
+      in_code k w ∙ ap fits_in (sym same) ∙ ok,
+      out_code k w
+          ∙ ap fits_out (sym same) ∙ out,
+    )
+
+    to_base : (o p : Option Clock) → base_of (output_clocks callee) ls ≡ o →
+        base_of (input_clocks callee) ss ≡ p
+        → (b : tree.Clock) → fits_in b ≡ true → fits_out b ≡ true →
+        (code_in (or_else o p) ≡ true) × (code_out (or_else o p) ≡ true)
+    to_base (Some k) p eo ep b ok out =
+        on_base k b (base_within here h Y (output_clocks callee) ls params_out lefts_within k eo)
+        (base_is here h Y (output_clocks callee) ls params_out lefts_within k b eo out) ok out
+    to_base None (Some k) eo ep b ok out =
+        on_base k b (base_within here h Y (input_clocks callee) ss params_in within_in k ep)
+        (base_is here h Y (input_clocks callee) ss params_in within_in k b ep ok) ok out
+    to_base None None eo ep b ok out = (
+      fit_none here h Y (input_clocks callee) ss params_in within_in ep b ∙ ok,
+      fit_none here h Y (output_clocks callee) ls params_out lefts_within eo b ∙ out,
+    )
+
+    abbrev FitsSome : Type 0
+    FitsSome = (b : tree.Clock) × (fits_in b ≡ true) × (fits_out b ≡ true)
+
+    off_base : (k : Clock) → is_clock_within here k ≡ true → code_in (Some k) ≡ true →
+        code_out (Some k) ≡ true → FitsSome
+    off_base k w ok out = (clock_in here k, sym (in_code k w) ∙ ok, sym (out_code k w) ∙ out)
+
+    from_base : (o p : Option Clock) → base_of (output_clocks callee) ls ≡ o →
+        base_of (input_clocks callee) ss ≡ p
+        → code_in (or_else o p) ≡ true → code_out (or_else o p) ≡ true → FitsSome
+    from_base (Some k) p eo ep ok out =
+        off_base k (base_within here h Y (output_clocks callee) ls params_out lefts_within k eo) ok
+        out
+    from_base None (Some k) eo ep ok out =
+        off_base k (base_within here h Y (input_clocks callee) ss params_in within_in k ep) ok out
+    from_base None None eo ep ok out = (
+      tree.Base,
+      sym (fit_none here h Y (input_clocks callee) ss params_in within_in ep tree.Base) ∙ ok,
+      sym (fit_none here h Y (output_clocks callee) ls params_out lefts_within eo tree.Base) ∙ out,
+    )
+
+    -- ## The clock of the equation
+
+    abbrev call : Expr
+    call = text.Call site.callee site.arguments (exprs_of (texts_of here) es)
+
+    abbrev clock_on : List VariableId → tree.Clock
+    clock_on l = statement_clock P (node_of here) (text.Equation (map (name_in here) l) call)
+
+    -- the base clock of the callee, from the clock of the equation
+    abbrev from_left : tree.Clock
+    from_left = base_clock (clock_on lefts) (node_of callee)
+
+    abbrev base : Option Clock
+    base = result_base ctx callee (operands_of ctx es) lefts
+
+    no_left : lefts ≡ [] → from_left ≡ tree.Base
+    no_left none =
+        let count : length (node_of callee).outputs ≡ 0 =
+        sym (ap length (sym none) ∙ many ∙ hc.resolved.outputs) in
+        ap (λ l. base_clock (clock_on l) (node_of callee)) none
+        ∙ ap (base_from tree.Base (node_of callee)) (nil_of (node_of callee).outputs count)
+
+    base_first : (k : tree.Clock) (ds : List Declaration) (d : Declaration) →
+        slice_get ds 0 ≡ Some d → base_from k (node_of callee) ds ≡ above
+        (own_depth (node_of callee) d) k
+    base_first k [] d e = absurd cc
+    base_first k (c ∷ ds) d e = let same : c ≡ d = cc in
+        ap (λ z. above (own_depth (node_of callee) z) k) same
+
+    -- the clock of the equation is that of the first result
+    left_seen : (x : VariableId) (l : List VariableId) → lefts ≡ x ∷ l → (b : tree.Clock) →
+        fits_in b ≡ true → fits_out b ≡ true
+        → (clock_on lefts ≡ seen callee given b (callee.inputs + 0)) × (0 < callee.outputs)
+    left_seen x l is b ok out =
+        let count : suc (length l) ≡ callee.outputs = ap length (sym is) ∙ many in
+        let some : 0 < callee.outputs = omega (arith, count) in
+        let first : slice_get lefts 0 ≡ Some x = ap (λ l. slice_get l 0) is in
+        let on = result_at b (from_out b ok out) 0 x some first in (
+          ap clock_on is ∙ clock_same (declared_clock (node_of here) (name_in here x))
+              (seen callee given b (callee.inputs + 0)) on,
+          some,
+        )
+
+    left_base : (x : VariableId) (l : List VariableId) → lefts ≡ x ∷ l → (b : tree.Clock) →
+        fits_in b ≡ true → fits_out b ≡ true → from_left ≡ b
+    left_base x l is b ok out =
+        let z = left_seen x l is b ok out in
+        let d = output_held callee hc 0 z.1 in
+        let place = output_at callee hc 0 d.0 d.1 in
+        base_first (clock_on lefts) (node_of callee).outputs d.0 d.1
+        ∙ ap (λ n. above (depth (declared_clock (node_of callee) n)) (clock_on lefts)) place.0
+        ∙ ap
+        (above
+        (depth (declared_clock (node_of callee) (place_name callee (callee.inputs + 0))))) z.0
+        ∙ above_outer b given (declared_clock (node_of callee)
+        (place_name callee (callee.inputs + 0)))
+
+    base_is_first : (x : VariableId) (l : List VariableId) → lefts ≡ x ∷ l →
+        base ≡ or_else (base_of (output_clocks callee) ls) (base_of (input_clocks callee) ss)
+    base_is_first x l is =
+        ap (result_base ctx callee (operands_of ctx es)) is
+        ∙ ap (λ l. or_else (base_of (output_clocks callee) (left_clock_sets ctx l))
+        (base_of (input_clocks callee) ss)) (sym is)
+
+    to_code : (l : List VariableId) → lefts ≡ l → fits_in from_left ≡ true →
+        fits_out from_left ≡ true → (code_in base ≡ true) × (code_out base ≡ true)
+    to_code [] is ok out =
+        let some : base ≡ Some Base = ap (result_base ctx callee (operands_of ctx es)) is in
+        let z = on_base Base from_left refl (no_left is) ok out in
+        (ap code_in some ∙ z.0, ap code_out some ∙ z.1)
+    to_code (x ∷ l) is ok out =
+        let z = to_base (base_of (output_clocks callee) ls)
+        (base_of (input_clocks callee) ss) refl refl from_left ok out in
+        (ap code_in (base_is_first x l is) ∙ z.0, ap code_out (base_is_first x l is) ∙ z.1)
+
+    from_code : (l : List VariableId) → lefts ≡ l → code_in base ≡ true → code_out base ≡ true →
+        (fits_in from_left ≡ true) × (fits_out from_left ≡ true)
+    from_code [] is ok out =
+        let some : base ≡ Some Base = ap (result_base ctx callee (operands_of ctx es)) is in (
+          ap fits_in (no_left is) ∙ sym (in_code Base refl) ∙ ap code_in (sym some) ∙ ok,
+          ap fits_out (no_left is) ∙ sym (out_code Base refl) ∙ ap code_out (sym some) ∙ out,
+        )
+    from_code (x ∷ l) is ok out =
+        let first = base_is_first x l is in
+        let z = from_base (base_of (output_clocks callee) ls)
+        (base_of (input_clocks callee) ss) refl refl (ap code_in (sym first) ∙ ok)
+        (ap code_out (sym first) ∙ out) in
+        let same = left_base x l is z.0 z.1 z.2 in
+        (ap fits_in same ∙ z.1, ap fits_out same ∙ z.2)
+
+    -- ## A callee with one output
+
+    module _ (single : callee.outputs ≡ 1) where
+      waits_one : AreGiven callee Y callee.inputs (callee.inputs + 1)
+      waits_one i v s lt at is =
+          let z = one.waits P here callee h hc site named ctx declares es w u stand single all i v s
+          lt at is in
+          (z.0, (z.1.0, Y_in s.variable.0 z.0 ∙ z.1.1))
+
+      -- its clock is the same where nothing is given for outputs
+      same_result : (b : tree.Clock) → fits_in b ≡ true → fits_out b ≡ true →
+          seen callee given b (callee.inputs + 0) ≡ seen callee inner b callee.inputs
+      same_result b ok out =
+          let o = variable_held callee hc callee.inputs (omega (arith, single)) in
+          let place : callee.inputs + 0 ≡ callee.inputs = omega arith in
+          let less : callee.inputs < callee.inputs + 1 = omega arith in
+          let within : callee.inputs < callee.inputs + callee.outputs = omega (arith, single) in
+          ap (seen callee given b) place
+          ∙ sym (known_code b ok out (variable_at callee.inputs) o.0 within o.1)
+          ∙ code_known P here callee h hc ctx declares es w u stand Y Y_in (callee.inputs + 1)
+          (omega arith) waits_one b ok (variable_at callee.inputs) o.0 less o.1
+
+      result_on : (l : List VariableId) → lefts ≡ l → fits_in from_left ≡ true →
+          fits_out from_left ≡ true
+          → are_clocks (result_clocks (clock_on lefts) (node_of callee) args [])
+          (clock_on lefts ∷ []) ≡ true
+      result_on [] is ok out = let none : 0 ≡ callee.outputs = ap length (sym is) ∙ many in
+          absurd (omega (arith, none, single))
+      result_on (x ∷ l) is ok out =
+          let k = clock_on lefts in
+          let on : k ≡ seen callee inner from_left callee.inputs =
+          (left_seen x l is from_left ok out).0 ∙ same_result from_left ok out in
+          ap (λ ks. are_clocks ks (k ∷ []))
+          (one.results_seen P here callee h hc site named ctx declares es w u stand single k)
+          ∙ ap (λ c. is_clock (seen callee inner c callee.inputs) k && true)
+          (sym (one.base_up P here callee h hc site named ctx declares es w u stand single k))
+          ∙ and_true (is_clock (seen callee inner from_left callee.inputs) k)
+          ∙ clock_equal (seen callee inner from_left callee.inputs) k (sym on)
+
+    -- the rule for one result says nothing more
+    one_kept : fits_in from_left ≡ true → fits_out from_left ≡ true
+        → (not (nat_eq (length (node_of callee).outputs) 1)
+        || are_clocks (result_clocks (clock_on lefts) (node_of callee) args [])
+        (clock_on lefts ∷ [])) ≡ true
+    one_kept ok out = by (nat_eq (length (node_of callee).outputs) 1) refl
+      where
+        by : (b : Bool) → nat_eq (length (node_of callee).outputs) 1 ≡ b →
+            (not b || are_clocks (result_clocks (clock_on lefts) (node_of callee) args [])
+            (clock_on lefts ∷ [])) ≡ true
+        by false e = refl
+        by true e =
+            let count : length (node_of callee).outputs ≡ 1 = grind (arith, nat_tests) in
+            result_on (hc.resolved.outputs ∙ count) lefts refl ok out
+
+  -- ## The equation
+
+  abbrev whole : Expr
+  whole = text.Call site.callee site.arguments (exprs_of (texts_of here) es)
+
+  abbrev k : tree.Clock
+  k = statement_clock P (node_of here)
+      (text.Equation (map (name_in here) lefts)
+      (text.Call site.callee site.arguments (exprs_of (texts_of here) es)))
+
+  abbrev g : Bool
+  g = are_given callee (operands_of ctx es)
+
+  -- the rule for calls with one result
+  abbrev kept_one : Bool
+  kept_one = not (nat_eq (length (node_of callee).outputs) 1)
+      || are_clocks (result_clocks k (node_of callee) args []) (k ∷ [])
+
+  abbrev kept_in : Bool
+  kept_in = each_pair (stood here) (argument_clocks k (node_of callee) args) ss
+
+  abbrev kept_out : Bool
+  kept_out = are_clocks (left_clocks (node_of here) xs) (result_clocks k (node_of callee) args xs)
+
+  abbrev fit_in : Bool
+  fit_in = all_fit (result_base ctx callee (operands_of ctx es) lefts) Y (input_clocks callee) ss
+
+  abbrev fit_out : Bool
+  fit_out = all_fit (result_base ctx callee (operands_of ctx es) lefts) Y (output_clocks callee) ls
+
+  rules : (m : ℕ) → (is_clocked_on P here k m whole && are_on_results P (node_of here) k xs whole) ≡
+      (((g && kept_one) && kept_in) && kept_out)
+  rules m =
+      let results = λ (o : Option text.Node). list_all
+      (λ n. are_clocks (left_clocks (node_of here) xs) (result_clocks k n args xs))
+      (listed (λ n. n ∷ []) o) in
+      ap (λ b. b && are_on_results P (node_of here) k xs whole)
+      (one.clocked_call P here callee h hc site named ctx declares es w u stand k m)
+      ∙ ap (λ b. ((b && kept_one) && kept_in) && are_on_results P (node_of here) k xs whole)
+      (are_given_is P here callee h hc ctx declares es w u stand)
+      ∙ ap (λ b. ((g && kept_one) && kept_in) && b) (ap results named ∙ and_true kept_out)
+
+  as_many : kept_out ≡ true → length lefts ≡ callee.outputs
+  as_many out =
+      let f = declared_clock (node_of here) in
+      let c = λ (d : Declaration). outer (base_clock k (node_of callee)) given
+      (declared_clock (node_of callee) d.name) in
+      sym (length-map lefts (name_in here)) ∙ sym (length-map xs f)
+      ∙ clocks_length (left_clocks (node_of here) xs)
+      (result_clocks k (node_of callee) args xs) out
+      ∙ length-map (node_of callee).outputs c ∙ sym hc.resolved.outputs
+
+  code_kept : (((g && kept_one) && kept_in) && kept_out) ≡ true →
+      (nat_eq (length lefts) callee.outputs && (g && (fit_in && fit_out))) ≡ true
+  code_kept t =
+      let out = and_second ((g && kept_one) && kept_in) kept_out t in
+      let front = and_first ((g && kept_one) && kept_in) kept_out t in
+      let all = and_first g kept_one (and_first (g && kept_one) kept_in front) in
+      let many = as_many out in
+      let inside = sym (in_same all many (from_left all many))
+      ∙ and_second (g && kept_one) kept_in front in
+      let outside = to_out all many (from_left all many) inside out in
+      let z = to_code all many lefts refl inside outside in
+      let count : nat_eq (length lefts) callee.outputs ≡ true = grind (arith, nat_tests) in
+      both_true _ _ count (both_true g _ all (both_true fit_in fit_out z.0 z.1))
+
+  text_kept : (nat_eq (length lefts) callee.outputs && (g && (fit_in && fit_out))) ≡ true →
+      (((g && kept_one) && kept_in) && kept_out) ≡ true
+  text_kept t =
+      let count = and_first (nat_eq (length lefts) callee.outputs) _ t in
+      let many : length lefts ≡ callee.outputs = grind (arith, nat_tests) in
+      let rest = and_second (nat_eq (length lefts) callee.outputs) _ t in
+      let all = and_first g _ rest in
+      let fit = and_second g _ rest in
+      let z = from_code all many lefts refl (and_first fit_in fit_out fit)
+      (and_second fit_in fit_out fit) in
+      let out = from_out all many (from_left all many) z.0 z.1 in
+      both_true _ kept_out
+      (both_true (g && kept_one) kept_in (both_true g kept_one all (one_kept all many z.0 z.1))
+      (in_same all many (from_left all many) ∙ z.0))
+      out
+
+  kept : (m : ℕ) → (is_clocked_on P here k m whole && are_on_results P (node_of here) k xs whole) ≡
+      is_call_clocked ctx callee (operands_of ctx es) lefts
+  kept m = rules m ∙ both_ways _ _ code_kept text_kept
+
+-- a call that is a whole right side, where its operands stand as the code found
+pub equation_stands : (P : Program) (here callee : ResolvedNode) → HasClocks here → HasClocks callee
+    → (site : Site) → node_named P site.callee ≡ Some (node_of callee)
+    → (ctx : Context) → ctx.variable ≡ declared_in here
+    → (es : List Term) → list_all (is_within (counts_of here)) es ≡ true →
+    list_all (is_unhidden (texts_of here)) es ≡ true
+    → AreClockSets P here ctx es
+    → (lefts : List VariableId) → list_all (is_variable (counts_of here)) lefts ≡ true → (m : ℕ)
+    → let xs = map (name_in here) lefts in
+    let e = text.Call site.callee site.arguments (exprs_of (texts_of here) es) in
+    let k = statement_clock P (node_of here) (text.Equation xs e) in
+    (is_clocked_on P here k m e && are_on_results P (node_of here) k xs e) ≡ is_call_clocked ctx
+    callee (operands_of ctx es) lefts
+equation_stands P here callee h hc site named ctx declares es w u stand lefts wl m =
+    kept P here callee h hc site named ctx declares es w u stand lefts wl m

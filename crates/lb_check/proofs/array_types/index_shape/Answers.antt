@@ -1,6 +1,0 @@
-use Rattle.std.proofs.Common.{arith}
-use Rattle.lb_check.proofs.ShapeLists.{outermost}
-use Rattle.lb_check.proofs.array_types.index_shape.Goals as goal
-
-pub returns-then-index-length : goal.returns-then-index-length
-returns-then-index-length c = grind (arith, outermost)

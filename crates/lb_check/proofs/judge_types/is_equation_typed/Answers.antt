@@ -1,5 +1,0 @@
-use Rattle.std.proofs.Common.{rules}
-use Rattle.lb_check.proofs.judge_types.is_equation_typed.Goals as goal
-
-pub returns-in-Some-2 : goal.returns-in-Some-2
-returns-in-Some-2 c = search rules

@@ -1,8 +1,0 @@
-use Rattle.std.proofs.Common.{rules}
-use Rattle.lb_check.proofs.standing.Standing.both.Goals as goal
-
-pub returns-then-is_same : goal.returns-then-is_same
-returns-then-is_same c = search rules
-
-pub returns-else-is_same : goal.returns-else-is_same
-returns-else-is_same c = search rules

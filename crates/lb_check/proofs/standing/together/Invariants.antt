@@ -1,8 +1,0 @@
-use Rattle.std.proofs.Common.{◌≡◌, drop}
-use Rattle.lb_check.specs.TermClocks as mirror
-use Rattle.lb_check.proofs.standing.together.Given as goal
-
-abbrev pub invariant-loop-operand : goal.invariant-loop-operand
-invariant-loop-operand l =
-    mirror.together l.operands ≡ mirror.both l.standing
-    (mirror.together (drop l.operand-index l.operands))

@@ -1,0 +1,5 @@
+use Rattle.std.proofs.Common.{rules}
+use Rattle.lb_check.proofs.term_clock.ClockEnv.sampled.Goals as goal
+
+pub returns-then-accepts_clock : goal.returns-then-accepts_clock
+returns-then-accepts_clock c = search rules

@@ -1,0 +1,5 @@
+use Rattle.std.proofs.Common.{rules}
+use Rattle.lb_check.proofs.term_clock.row_clock_set.Goals as goal
+
+pub returns-in_default-callee : goal.returns-in_default-callee
+returns-in_default-callee c = search rules

@@ -1,5 +1,0 @@
-use Rattle.std.proofs.Common.{rules}
-use Rattle.lb_check.proofs.term_clock.row_standing.Goals as goal
-
-pub returns-in_default-callee : goal.returns-in_default-callee
-returns-in_default-callee c = search rules

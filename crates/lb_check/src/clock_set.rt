@@ -1,0 +1,70 @@
+//! The clocks that a term accepts (E10).
+
+ghost use Rattle.std.specs.Prelude.{◌≡◌};
+ghost use Rattle.lb_check.specs.TermClocks as mirror;
+
+use crate::own_clock::{Clock, is_same};
+use lb_static::resolved::VariableId;
+
+/// The clocks that a term accepts.
+#[derive(Clone, Copy)]
+pub enum ClockSet {
+    /// On none: a rule of clocks is broken in it.
+    NoClock,
+    /// On each: nothing in it determines a clock.
+    AnyClock,
+    /// On this one alone.
+    OneClock(Clock),
+}
+
+/// An operand in a row: where it may stand, and the variable that it is, in parentheses or not.
+#[derive(Clone, Copy)]
+pub struct Operand {
+    pub clock_set: ClockSet,
+    pub variable: Option<VariableId>,
+}
+
+impl ClockSet {
+    /// The clocks that both accept.
+    pub fn both(self, other: ClockSet) -> ClockSet
+        ensures { result ≡ mirror.both self other }
+    {
+        match (self, other) {
+            (ClockSet::NoClock, _) => ClockSet::NoClock,
+            (ClockSet::AnyClock, _) => other,
+            (ClockSet::OneClock(_), ClockSet::NoClock) => ClockSet::NoClock,
+            (ClockSet::OneClock(_), ClockSet::AnyClock) => self,
+            (ClockSet::OneClock(left), ClockSet::OneClock(right)) => {
+                if is_same(left, right) {
+                    self
+                } else {
+                    ClockSet::NoClock
+                }
+            }
+        }
+    }
+
+    /// Whether a term accepts this clock, if there is one.
+    pub fn accepts_clock(self, clock: Option<Clock>) -> bool
+        ensures { result ≡ mirror.accepts_clock clock self }
+    {
+        match (self, clock) {
+            (ClockSet::NoClock, _) => false,
+            (ClockSet::AnyClock, _) => true,
+            (ClockSet::OneClock(own), Some(clock)) => is_same(own, clock),
+            (ClockSet::OneClock(_), None) => false,
+        }
+    }
+}
+
+/// The clocks that all of some operands accept.
+#[tactic(auto, using(crate::proofs::ClockSetRows::together_next))]
+pub fn together(operands: &[Operand]) -> ClockSet
+    ensures { result ≡ mirror.together operands.now }
+{
+    let mut clock_set = ClockSet::AnyClock;
+    for operand in operands {
+        clock_set = clock_set.both(operand.clock_set);
+    }
+    clock_set
+}

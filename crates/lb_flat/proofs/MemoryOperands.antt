@@ -1,0 +1,397 @@
+-- The elements that a state lists as kept hold exactly the operands that memories keep: a test
+-- passes at one of those elements exactly where it does at one of these operands.
+use Rattle.std.proofs.Common.{◌≡◌, ℕ, ◌+◌, Bool, true, false, ◌||◌, Option, Some, None, List, [], ◌∷◌, ◌++◌, map, flat_map, refl, sym, ap, ap₂, ◌∙◌, subst}
+use Rattle.std.specs.List.{list_any}
+use Rattle.std.proofs.lemmas.List.{map-append}
+use Rattle.std.proofs.lemmas.List.Folds.{list_any-append}
+use Rattle.lb_syntax.specs.declared.tree.UnaryOperator.TheVariants.{Not}
+use Rattle.lb_syntax.specs.declared.tree.BinaryOperator.{BinaryOperator}
+use Rattle.lb_syntax.specs.declared.tree.BinaryOperator.TheVariants.{Or, And}
+use Rattle.lb_syntax.specs.declared.tree.ArrayIterator.{ArrayIterator}
+use Rattle.lb_syntax.specs.declared.tree.ArrayIterator.TheVariants.{Map, Red}
+use Rattle.lb_syntax.specs.Lists.{Every, some_of, zip2, joined}
+use Rattle.lb_syntax.specs.Tree.{Name, Node_named, Symbol, Expr, Literal, Truth, Variable, Group, Unary, Binary, If, Arrow, Fby, Pre, Current, When, Replicate, Index, Slice, Join, Array, AtMostOne, Nor, Call, Iterate, Exprs, Nil, Cons, Declaration}
+use Rattle.lb_static.specs.Instances.{Program, Instance, node_named}
+use Rattle.lb_check.specs.Scalars.{Stream, Boolean}
+use Rattle.lb_check.specs.Clocks.{Clock}
+use Rattle.lb_check.specs.Occurrences.{Occurrence, call_count, occurrences, occurrences_in, occurrences_each, call_clocks}
+use Rattle.lb_check.specs.Streams.{History, first_of}
+use Rattle.lb_check.specs.Solutions.{Inputs, streams_at}
+use Rattle.lb_check.specs.Verdicts.{memory_operand}
+use Rattle.lb_flat.specs.Flat.{FlatClock, Operation, Constant, ApplyUnary, ApplyBinary, FirstThen, Previous, Latest, Sample, FlatEquation, column, AreLong}
+use Rattle.lb_flat.specs.Layouts.{Layout, flat_clock}
+use Rattle.lb_flat.specs.Emit.{State, Emitted, add, push, chained, twice, emit_nor, emit_at_most_one, keep, joins, chosen_by, emit_symbol, emit_name, emit, emit_all, emit_each}
+use Rattle.lb_flat.proofs.Lists.{Every-first, Every-second}
+use Rattle.lb_flat.proofs.Adding.{columns, AllMet, add_sound, nor_sound, at_most_one_sound, symbol_sound}
+use Rattle.lb_flat.proofs.Placing.{Agrees, IsPlaced}
+use Rattle.lb_flat.proofs.Emission.{joins_equations, sound, sound_all, sound_each}
+
+pub or_false : (a : Bool) → a ≡ (a || false)
+or_false true = refl
+or_false false = refl
+
+pub or_assoc : (a b c : Bool) → ((a || b) || c) ≡ (a || (b || c))
+or_assoc true b c = refl
+or_assoc false b c = refl
+
+or_swap : (a b c : Bool) → ((a || b) || c) ≡ (a || (c || b))
+or_swap true b c = refl
+or_swap false true true = refl
+or_swap false true false = refl
+or_swap false false true = refl
+or_swap false false false = refl
+
+pub append_assoc : (xs ys zs : List Stream) → xs ++ (ys ++ zs) ≡ (xs ++ ys) ++ zs
+append_assoc [] ys zs = refl
+append_assoc (x ∷ xs) ys zs = ap (λ r. x ∷ r) (append_assoc xs ys zs)
+
+-- ## What leaves the kept elements as they were
+
+add_kept : (k : FlatClock) (s : State) (os : List Operation)
+    → (add k s os).state.memory_operands ≡ s.memory_operands
+unfolding add
+add_kept k s os = refl
+
+chained_kept :
+    (k : FlatClock) (op : BinaryOperator) (s : State) (init : ℕ) (ys : List ℕ) →
+    (chained k op s init ys).state.memory_operands ≡ s.memory_operands
+unfolding chained
+chained_kept k op s init [] = refl
+chained_kept k op s init (y ∷ ys) =
+    chained_kept k op (push k s (ApplyBinary op init y)) s.next ys
+
+twice_kept :
+    (k : FlatClock) (s : State) (any two : ℕ) (xs : List ℕ) →
+    (twice k s any two xs).state.memory_operands ≡ s.memory_operands
+unfolding twice
+twice_kept k s any two [] = refl
+twice_kept k s any two (x ∷ xs) =
+    let t = push k s (ApplyBinary And any x) in
+    let u = push k t (ApplyBinary Or two s.next) in
+    twice_kept k (push k u (ApplyBinary Or any x)) u.next t.next xs
+
+nor_kept : (k : FlatClock) (s : State) (is : List ℕ)
+    → (emit_nor k s is).state.memory_operands ≡ s.memory_operands
+nor_kept k s is =
+    let t = push k s (Constant (Boolean false)) in
+    let r = chained k Or t s.next is in
+    add_kept k r.state (map (ApplyUnary Not) r.found) ∙ chained_kept k Or t s.next is
+
+at_most_one_kept :
+    (k : FlatClock) (s : State) (is : List ℕ)
+    → (emit_at_most_one k s is).state.memory_operands ≡ s.memory_operands
+at_most_one_kept k s is =
+    let t = push k s (Constant (Boolean false)) in
+    let r = twice k t s.next s.next is in
+    add_kept k r.state (map (ApplyUnary Not) r.found) ∙ twice_kept k t s.next s.next is
+
+pub joins_kept :
+    (s : State) (qs : List FlatEquation) (is : List ℕ)
+    → (joins s qs is).state.memory_operands ≡ s.memory_operands
+unfolding joins
+joins_kept s qs is = refl
+
+symbol_kept :
+    (k : FlatClock) (op : BinaryOperator) (s : State) (it : ArrayIterator)
+    (found : List (List ℕ)) → (emit_symbol k op s it found).state.memory_operands
+    ≡ s.memory_operands
+symbol_kept k op s Map (xs ∷ (ys ∷ [])) = add_kept k s (zip2 (ApplyBinary op) xs ys)
+symbol_kept k op s Red ((init ∷ []) ∷ (ys ∷ [])) = chained_kept k op s init ys
+symbol_kept k op s it found = refl
+
+keep_kept : (x : Emitted) → (keep x).state.memory_operands ≡ x.state.memory_operands ++ x.found
+unfolding keep
+keep_kept x = refl
+
+keep_equations : (x : Emitted) → (keep x).state.equations ≡ x.state.equations
+unfolding keep
+keep_equations x = refl
+
+module _ (Y : Layout) (P : Program) (X : Inputs) (H : History) (F : List Stream)
+    (long : AreLong X F) (agrees : Agrees Y X H F) (here : Instance) where
+  -- ## The operands of some occurrences
+
+  -- the streams of the operands that these occurrences keep
+  abbrev pub operands : List Occurrence → List Stream
+  operands os = flat_map (streams_at P H here) (some_of (map (memory_operand P here) os))
+
+  operands_first :
+      (p : Option Occurrence) (os os' : List Occurrence) →
+      operands (os ++ os') ≡ operands os ++ operands os' →
+      flat_map (streams_at P H here) (some_of (p ∷ map (memory_operand P here) (os ++ os')))
+      ≡ flat_map (streams_at P H here) (some_of (p ∷ map (memory_operand P here) os))
+      ++ operands os'
+  operands_first None os os' e = e
+  operands_first (Some p) os os' e =
+      ap (λ xs. streams_at P H here p ++ xs) e
+      ∙ append_assoc (streams_at P H here p) (operands os) (operands os')
+
+  pub operands-append :
+      (os os' : List Occurrence) → operands (os ++ os') ≡ operands os ++ operands os'
+  operands-append [] os' = refl
+  operands-append (o ∷ os) os' =
+      operands_first (memory_operand P here o) os os' (operands-append os os')
+
+  -- ## What is kept from state to state
+
+  abbrev passes : (Stream → Bool) → List ℕ → Bool
+  passes test is = list_any test (columns X F is)
+
+  -- a test passes at a kept element of t where it does at one of s, or at an operand of these
+  -- occurrences
+  pub record Keeps (s t : State) (os : List Occurrence) : Type 0 where
+    pub same :
+        (test : Stream → Bool) →
+        list_any test (columns X F t.memory_operands)
+        ≡ (list_any test (columns X F s.memory_operands) || list_any test (operands os))
+
+  keeps_on :
+      (s t u : State) (os : List Occurrence) → Keeps s t os → u.memory_operands ≡ t.memory_operands
+      → Keeps s u os
+  keeps_on s t u os h e =
+      record { same = λ test. ap (passes test) e ∙ h.same test }
+
+  keeps_nothing :
+      (s t : State) (os : List Occurrence) → operands os ≡ []
+      → t.memory_operands ≡ s.memory_operands → Keeps s t os
+  keeps_nothing s t os q e = record {
+    same = λ test.
+        ap (passes test) e ∙ or_false (passes test s.memory_operands)
+        ∙ ap (λ xss. passes test s.memory_operands || list_any test xss) (sym q);
+  }
+
+  -- an occurrence that keeps nothing, after its parts
+  keeps_quiet :
+      (s t u : State) (o : Occurrence) (os : List Occurrence) →
+      operands (o ∷ os) ≡ operands os → Keeps s t os → u.memory_operands ≡ t.memory_operands
+      → Keeps s u (o ∷ os)
+  keeps_quiet s t u o os q h e = record {
+    same = λ test.
+        ap (passes test) e ∙ h.same test
+        ∙ ap (λ xss. passes test s.memory_operands || list_any test xss) (sym q);
+  }
+
+  pub keeps_two :
+      (s t u : State) (os os' : List Occurrence) → Keeps s t os → Keeps t u os' →
+      Keeps s u (os ++ os')
+  keeps_two s t u os os' a b = record {
+    same = λ test.
+        b.same test ∙ ap (λ c. c || list_any test (operands os')) (a.same test)
+        ∙ or_assoc (passes test s.memory_operands) (list_any test (operands os))
+        (list_any test (operands os'))
+        ∙ ap (λ c. passes test s.memory_operands || c)
+        (sym (list_any-append test (operands os) (operands os'))
+        ∙ ap (list_any test) (sym (operands-append os os')));
+  }
+
+  -- an occurrence that keeps its operand
+  keeps_own :
+      (s : State) (x : Emitted) (xss : List Stream) (o : Occurrence) (os : List Occurrence) →
+      operands (o ∷ os) ≡ xss ++ operands os → columns X F x.found ≡ xss → Keeps s x.state os →
+      Keeps s (keep x).state (o ∷ os)
+  keeps_own s x xss o os q e h = record {
+    same = λ test.
+        ap (passes test) (keep_kept x)
+        ∙ ap (list_any test) (map-append (column X F) x.state.memory_operands x.found)
+        ∙ list_any-append test (columns X F x.state.memory_operands) (columns X F x.found)
+        ∙ ap₂ (λ c xss. c || list_any test xss) (h.same test) e
+        ∙ or_swap (passes test s.memory_operands) (list_any test (operands os)) (list_any test xss)
+        ∙ ap (λ c. passes test s.memory_operands || c)
+        (sym (list_any-append test xss (operands os)) ∙ ap (list_any test) (sym q));
+  }
+
+  name_kept :
+      (k : Clock) (s : State) (x : Name) (d : Option Declaration) →
+      (emit_name Y P here k s x d).state.memory_operands ≡ s.memory_operands
+  name_kept k s x (Some d) = refl
+  name_kept k s x None = add_kept _ s _
+
+  unkept :
+      (x : Emitted) → AllMet X F (keep x).state.equations → AllMet X F x.state.equations
+  unkept x h = subst (AllMet X F) (keep_equations x) h
+
+  -- ## Expressions
+
+  abbrev AllPlaced : List Occurrence → Type 0
+  AllPlaced os = Every (IsPlaced Y P H here) os
+
+  fore : (os os' : List Occurrence) → AllPlaced (os ++ os') → AllPlaced os
+  fore os os' w = Every-first (IsPlaced Y P H here) os os' w
+
+  aft : (os os' : List Occurrence) → AllPlaced (os ++ os') → AllPlaced os'
+  aft os os' w = Every-second (IsPlaced Y P H here) os os' w
+
+  abbrev parts : Clock → ℕ → Expr → List Occurrence
+  parts k n e = occurrences P here.node k n e
+
+  -- two operands, one after another
+  keeps_both :
+      (k : Clock) (n : ℕ) (s : State) (a b : Expr) →
+      (AllPlaced (occurrences P here.node k n a) →
+      AllMet X F (emit Y P here k n s a).state.equations →
+      Keeps s (emit Y P here k n s a).state (occurrences P here.node k n a)) →
+      (AllPlaced (occurrences P here.node k (n + call_count a) b) →
+      AllMet X F
+      (emit Y P here k (n + call_count a) (emit Y P here k n s a).state b).state.equations →
+      Keeps (emit Y P here k n s a).state
+      (emit Y P here k (n + call_count a) (emit Y P here k n s a).state b).state
+      (occurrences P here.node k (n + call_count a) b)) →
+      AllPlaced
+      (occurrences P here.node k n a ++ occurrences P here.node k (n + call_count a) b) →
+      AllMet X F
+      (emit Y P here k (n + call_count a) (emit Y P here k n s a).state b).state.equations →
+      Keeps s (emit Y P here k (n + call_count a) (emit Y P here k n s a).state b).state
+      (occurrences P here.node k n a ++ occurrences P here.node k (n + call_count a) b)
+  keeps_both k n s a b left right w h =
+      let m = n + call_count a in
+      let oa = parts k n a in let ob = parts k m b in
+      let x = emit Y P here k n s a in
+      let sb = sound Y P X H F long agrees here k m x.state b (aft oa ob w) h in
+      keeps_two s x.state _ oa ob (left (fore oa ob w) sb.before) (right (aft oa ob w) h)
+
+  mutual
+    unfolding emit
+
+    pub keeps :
+        (k : Clock) (n : ℕ) (s : State) (e : Expr) → AllPlaced (occurrences P here.node k n e) →
+        AllMet X F (emit Y P here k n s e).state.equations →
+        Keeps s (emit Y P here k n s e).state (occurrences P here.node k n e)
+    keeps k n s (Literal m) w h = keeps_nothing s _ _ refl (add_kept _ s _)
+    keeps k n s (Truth b) w h = keeps_nothing s _ _ refl (add_kept _ s _)
+    keeps k n s (Variable x) w h = keeps_nothing s _ _ refl (name_kept k s x _)
+    keeps k n s (Group a) w h = keeps k n s a w h
+    keeps k n s (Unary op a) w h =
+        let x = emit Y P here k n s a in
+        let r = add_sound X F (flat_clock Y here.path k) x.state (map (ApplyUnary op) x.found) h in
+        keeps_quiet s x.state _ _ _ refl (keeps k n s a w.1 r.before) (add_kept _ x.state _)
+    keeps k n s (Binary op a b) w h =
+        let m = n + call_count a in
+        let x = emit Y P here k n s a in let y = emit Y P here k m x.state b in
+        let new = zip2 (ApplyBinary op) x.found y.found in
+        let r = add_sound X F (flat_clock Y here.path k) y.state new h in
+        keeps_quiet s y.state _ _ _ refl
+        (keeps_both k n s a b (keeps k n s a) (keeps k m x.state b) w.1 r.before)
+        (add_kept _ y.state _)
+    keeps k n s (If c a b) w h =
+        let na = n + call_count c in let nb = na + call_count a in
+        let oc = parts k n c in let oa = parts k na a in let ob = parts k nb b in
+        let z = emit Y P here k n s c in
+        let x = emit Y P here k na z.state a in
+        let y = emit Y P here k nb x.state b in
+        let new = chosen_by z.found x.found y.found in
+        let r = add_sound X F (flat_clock Y here.path k) y.state new h in
+        let branches = aft oc (oa ++ ob) w.1 in
+        let sb = sound Y P X H F long agrees here k nb x.state b (aft oa ob branches) r.before in
+        let sa = sound Y P X H F long agrees here k na z.state a (fore oa ob branches) sb.before in
+        keeps_quiet s y.state _ _ _ refl
+        (keeps_two s z.state y.state oc (oa ++ ob)
+        (keeps k n s c (fore oc (oa ++ ob) w.1) sa.before)
+        (keeps_both k na z.state a b (keeps k na z.state a) (keeps k nb _ b) branches r.before))
+        (add_kept _ y.state _)
+    keeps k n s (Arrow a b) w h =
+        let m = n + call_count a in
+        let x = emit Y P here k n s a in let y = emit Y P here k m x.state b in
+        let new = zip2 (FirstThen false) x.found y.found in
+        let r = add_sound X F (flat_clock Y here.path k) y.state new h in
+        keeps_quiet s y.state _ _ _ refl
+        (keeps_both k n s a b (keeps k n s a) (keeps k m x.state b) w.1 r.before)
+        (add_kept _ y.state _)
+    keeps k n s (Fby a b) w h =
+        let m = n + call_count a in
+        let own = flat_clock Y here.path k in
+        let oa = parts k n a in let ob = parts k m b in
+        let x = emit Y P here k n s a in let y = emit Y P here k m x.state b in
+        let before = map (Previous (first_of P here b)) (keep y).found in
+        let z = add own (keep y).state before in
+        let r = add_sound X F own z.state (zip2 (FirstThen false) x.found z.found) h in
+        let q = add_sound X F own (keep y).state before r.before in
+        let hy = unkept y q.before in
+        let sb = sound Y P X H F long agrees here k m x.state b (aft oa ob w.1) hy in
+        keeps_on s z.state _ _
+        (keeps_on s (keep y).state _ _
+        (keeps_own s y _ _ (oa ++ ob) refl sb.found
+        (keeps_both k n s a b (keeps k n s a) (keeps k m x.state b) w.1 hy))
+        (add_kept _ (keep y).state _))
+        (add_kept _ z.state _)
+    keeps k n s (Pre a) w h =
+        let x = emit Y P here k n s a in
+        let new = map (Previous (first_of P here a)) (keep x).found in
+        let r = add_sound X F (flat_clock Y here.path k) (keep x).state new h in
+        let hx = unkept x r.before in
+        let sa = sound Y P X H F long agrees here k n s a w.1 hx in
+        keeps_on s (keep x).state _ _
+        (keeps_own s x _ _ _ refl sa.found (keeps k n s a w.1 hx)) (add_kept _ (keep x).state _)
+    keeps k n s (Current a) w h =
+        let x = emit Y P here _ n s a in
+        let new = map (Latest (first_of P here a)) (keep x).found in
+        let r = add_sound X F (flat_clock Y here.path k) (keep x).state new h in
+        let hx = unkept x r.before in
+        let sa = sound Y P X H F long agrees here _ n s a w.1 hx in
+        keeps_on s (keep x).state _ _
+        (keeps_own s x _ _ _ refl sa.found (keeps _ n s a w.1 hx)) (add_kept _ (keep x).state _)
+    keeps k n s (When a x sign) w h =
+        let z = emit Y P here _ n s a in
+        let r = add_sound X F _ z.state (map Sample z.found) h in
+        keeps_quiet s z.state _ _ _ refl (keeps _ n s a w.1 r.before) (add_kept _ z.state _)
+    keeps k n s (Replicate a m) w h = keeps_quiet s _ _ _ _ refl (keeps k n s a w.1 h) refl
+    keeps k n s (Index a i) w h = keeps_quiet s _ _ _ _ refl (keeps k n s a w.1 h) refl
+    keeps k n s (Slice a i j) w h = keeps_quiet s _ _ _ _ refl (keeps k n s a w.1 h) refl
+    keeps k n s (Join a b) w h =
+        keeps_quiet s _ _ _ _ refl (keeps_both k n s a b (keeps k n s a) (keeps k _ _ b) w.1 h) refl
+    keeps k n s (Array es) w h = keeps_quiet s _ _ _ _ refl (keeps_all k n s es w.1 h) refl
+    keeps k n s (AtMostOne es) w h =
+        let own = flat_clock Y here.path k in
+        let r = emit_all Y P here k n s es in
+        let a = at_most_one_sound X F long own r.state (joined r.found) h in
+        keeps_quiet s r.state _ _ _ refl (keeps_all k n s es w.1 a.before)
+        (at_most_one_kept _ r.state _)
+    keeps k n s (Nor es) w h =
+        let own = flat_clock Y here.path k in
+        let r = emit_all Y P here k n s es in
+        let a = nor_sound X F long own r.state (joined r.found) h in
+        keeps_quiet s r.state _ _ _ refl (keeps_all k n s es w.1 a.before) (nor_kept _ r.state _)
+    keeps k n s (Call f statics es) w h =
+        let ks = call_clocks k (node_named P f) es in
+        let r = emit_each Y P here ks (n + 1) s es in
+        let before = subst (AllMet X F) (joins_equations r.state _ _) h in
+        keeps_quiet s r.state _ _ _ refl (keeps_each ks (n + 1) s es w.1 before)
+        (joins_kept r.state _ _)
+    keeps k n s (Iterate it (Node_named f statics) m es) w h =
+        let r = emit_all Y P here k (n + 1) s es in
+        let before = subst (AllMet X F) (joins_equations r.state _ _) h in
+        keeps_quiet s r.state _ _ _ refl (keeps_all k (n + 1) s es w.1 before)
+        (joins_kept r.state _ _)
+    keeps k n s (Iterate it (Symbol op) m es) w h =
+        let r = emit_all Y P here k n s es in
+        let a = symbol_sound X F (flat_clock Y here.path k) op r.state it r.found h in
+        keeps_quiet s r.state _ _ _ refl (keeps_all k n s es w.1 a.before)
+        (symbol_kept _ op r.state it r.found)
+
+    pub keeps_all :
+        (k : Clock) (n : ℕ) (s : State) (es : Exprs) →
+        AllPlaced (occurrences_in P here.node k n es) →
+        AllMet X F (emit_all Y P here k n s es).state.equations →
+        Keeps s (emit_all Y P here k n s es).state (occurrences_in P here.node k n es)
+    keeps_all k n s Nil w h = keeps_nothing s _ _ refl refl
+    keeps_all k n s (Cons e es) w h =
+        let m = n + call_count e in
+        let oa = parts k n e in let ob = occurrences_in P here.node k m es in
+        let x = emit Y P here k n s e in
+        let r = sound_all Y P X H F long agrees here k m x.state es (aft oa ob w) h in
+        keeps_two s x.state _ oa ob (keeps k n s e (fore oa ob w) r.before)
+        (keeps_all k m x.state es (aft oa ob w) h)
+
+    pub keeps_each :
+        (ks : List Clock) (n : ℕ) (s : State) (es : Exprs) →
+        AllPlaced (occurrences_each P here.node ks n es) →
+        AllMet X F (emit_each Y P here ks n s es).state.equations →
+        Keeps s (emit_each Y P here ks n s es).state (occurrences_each P here.node ks n es)
+    keeps_each ks n s Nil w h = keeps_nothing s _ _ refl refl
+    keeps_each [] n s (Cons e es) w h = keeps_nothing s _ _ refl refl
+    keeps_each (k ∷ ks) n s (Cons e es) w h =
+        let m = n + call_count e in
+        let oa = parts k n e in let ob = occurrences_each P here.node ks m es in
+        let x = emit Y P here k n s e in
+        let r = sound_each Y P X H F long agrees here ks m x.state es (aft oa ob w) h in
+        keeps_two s x.state _ oa ob (keeps k n s e (fore oa ob w) r.before)
+        (keeps_each ks m x.state es (aft oa ob w) h)

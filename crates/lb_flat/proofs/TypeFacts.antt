@@ -1,0 +1,325 @@
+-- What the types of an expression say of its parts, and how many scalar elements they have.
+use Rattle.std.proofs.Common.{◌≡◌, ℕ, suc, ◌+◌, ◌-◌, ◌*◌, ◌<◌, ◌≤◌, Bool, true, false, ◌&&◌, ◌||◌, nat_eq, nat_le, nat_lt, Option, Some, None, List, [], ◌∷◌, map, refl, sym, ap, ap₂, ◌∙◌, arith, add-mul, if◌then◌else◌}
+use Rattle.std.specs.List.{list_all}
+use Rattle.lb_syntax.specs.declared.tree.UnaryOperator.{UnaryOperator}
+use Rattle.lb_syntax.specs.declared.tree.UnaryOperator.TheVariants.{Not, Negate}
+use Rattle.lb_syntax.specs.declared.tree.BinaryOperator.{BinaryOperator}
+use Rattle.lb_syntax.specs.declared.tree.Kind.{Kind}
+use Rattle.lb_syntax.specs.Lists.{◌>>=◌, where_true}
+use Rattle.lb_static.specs.DataTypes.{DataType, int, truth, is_kind, is_type, are_types, same_sizes, product, element_count}
+use Rattle.lb_check.specs.Types.{is_arithmetic, is_logical, is_equality, are_ints, are_truths, unary_type, binary_type, common_type, array_of, element_with, element_of, index_type, slice_type, join_type, only, singly, from_one, from_two, from_truths}
+
+-- the scalar elements of some results
+abbrev pub elements_in : List DataType → ℕ
+elements_in [] = 0
+elements_in (t ∷ ts) = element_count t + elements_in ts
+
+-- ## Inversions
+
+pub record Bound {A B : Type 0} (o : Option A) (f : A → Option B) (y : B) : Type 0 where
+  pub value : A
+  pub is : o ≡ Some value
+  pub gives : f value ≡ Some y
+
+pub bound :
+    {A B : Type 0} (o : Option A) (f : A → Option B) (y : B) → (o >>= f) ≡ Some y → Bound o f y
+bound None f y e = cc
+bound (Some x) f y e = record { value = x; is = refl; gives = e }
+
+pub some_same : {A : Type 0} (x y : A) → Some x ≡ Some y → x ≡ y
+some_same x y e = cc
+
+pub single : (ts : List DataType) (t : DataType) → only ts ≡ Some t → ts ≡ t ∷ []
+single [] t e = cc
+single (s ∷ []) t e = cc
+single (s ∷ (u ∷ ts)) t e = cc
+
+pub record Single (o : Option DataType) (ts : List DataType) : Type 0 where
+  pub data_type : DataType
+  pub is : o ≡ Some data_type
+  pub all : ts ≡ data_type ∷ []
+
+pub alone : (o : Option DataType) (ts : List DataType) → singly o ≡ Some ts → Single o ts
+alone None ts e = cc
+alone (Some t) ts e = record { data_type = t; is = refl; all = sym (some_same _ _ e) }
+
+pub record Truly {A : Type 0} (b : Bool) (x y : A) : Type 0 where
+  pub holds : b ≡ true
+  pub same : x ≡ y
+
+pub truly : {A : Type 0} (b : Bool) (x y : A) → where_true b x ≡ Some y → Truly b x y
+truly true x y e = record { holds = refl; same = some_same x y e }
+truly false x y e = cc
+
+pub and_first : (a b : Bool) → (a && b) ≡ true → a ≡ true
+and_first true b e = refl
+and_first false b e = cc
+
+pub and_second : (a b : Bool) → (a && b) ≡ true → b ≡ true
+and_second true b e = e
+and_second false b e = cc
+
+-- a result from an operand with one result
+pub record One (operand : Option (List DataType)) (f : DataType → Option DataType)
+    (ts : List DataType) :
+    Type 0 where
+  pub data_type : DataType
+  pub result : DataType
+  pub is : operand ≡ Some (data_type ∷ [])
+  pub gives : f data_type ≡ Some result
+  pub all : ts ≡ result ∷ []
+
+pub one :
+    (o : Option (List DataType)) (f : DataType → Option DataType) (ts : List DataType) →
+    from_one o f ≡ Some ts → One o f ts
+one o f ts e =
+    let b = bound (o >>= only) _ ts e in
+    let a = bound o only b.value b.is in
+    let r = alone (f b.value) ts b.gives in
+    record {
+      data_type = b.value;
+      result = r.data_type;
+      is = a.is ∙ ap Some (single a.value b.value a.gives);
+      gives = r.is;
+      all = r.all;
+    }
+
+-- and from two
+pub record Two (left right : Option (List DataType)) (f : DataType → DataType → Option DataType)
+    (ts : List DataType) : Type 0 where
+  pub first : DataType
+  pub second : DataType
+  pub result : DataType
+  pub is_first : left ≡ Some (first ∷ [])
+  pub is_second : right ≡ Some (second ∷ [])
+  pub gives : f first second ≡ Some result
+  pub all : ts ≡ result ∷ []
+
+pub two :
+    (o p : Option (List DataType)) (f : DataType → DataType → Option DataType) (ts : List DataType)
+    →
+    from_two o p f ≡ Some ts → Two o p f ts
+two o p f ts e =
+    let b = bound (o >>= only) _ ts e in
+    let a = bound o only b.value b.is in
+    let d = bound (p >>= only) _ ts b.gives in
+    let c = bound p only d.value d.is in
+    let r = alone (f b.value d.value) ts d.gives in
+    record {
+      first = b.value;
+      second = d.value;
+      result = r.data_type;
+      is_first = a.is ∙ ap Some (single a.value b.value a.gives);
+      is_second = c.is ∙ ap Some (single c.value d.value c.gives);
+      gives = r.is;
+      all = r.all;
+    }
+
+pub record Truths (o : Option (List DataType)) (ts : List DataType) : Type 0 where
+  pub data_types : List DataType
+  pub is : o ≡ Some data_types
+  pub truths : list_all (is_type truth) data_types ≡ true
+  pub all : ts ≡ truth ∷ []
+
+pub from_true :
+    (o : Option (List DataType)) (ts : List DataType) → from_truths o ≡ Some ts → Truths o ts
+from_true o ts e =
+    let b = bound o _ ts e in
+    let t = truly (list_all (is_type truth) b.value) (truth ∷ []) ts b.gives in
+    record { data_types = b.value; is = b.is; truths = t.holds; all = sym t.same }
+
+-- ## Scalars
+
+no_sizes : (ns : List ℕ) → same_sizes ns [] ≡ true → product ns ≡ 1
+no_sizes [] e = refl
+no_sizes (n ∷ ns) e = cc
+
+none_sizes : (ns : List ℕ) → same_sizes [] ns ≡ true → product ns ≡ 1
+none_sizes [] e = refl
+none_sizes (n ∷ ns) e = cc
+
+is_int : (s : DataType) → is_type s int ≡ true → element_count s ≡ 1
+is_int s e = no_sizes s.sizes (and_second (is_kind s.kind (int).kind) (same_sizes s.sizes []) e)
+
+is_truth : (s : DataType) → is_type s truth ≡ true → element_count s ≡ 1
+is_truth s e =
+    no_sizes s.sizes (and_second (is_kind s.kind (truth).kind) (same_sizes s.sizes []) e)
+
+pub truth_is : (s : DataType) → is_type truth s ≡ true → element_count s ≡ 1
+truth_is s e =
+    none_sizes s.sizes (and_second (is_kind (truth).kind s.kind) (same_sizes [] s.sizes) e)
+
+pub unary_count :
+    (op : UnaryOperator) (s r : DataType) → unary_type op s ≡ Some r →
+    element_count s ≡ element_count r
+unary_count Not s r e =
+    let t = truly (is_type s truth) truth r e in is_truth s t.holds ∙ ap element_count t.same
+unary_count Negate s r e =
+    let t = truly (is_type s int) int r e in is_int s t.holds ∙ ap element_count t.same
+
+pub record Scalars (s t r : DataType) : Type 0 where
+  pub first : element_count s ≡ 1
+  pub second : element_count t ≡ 1
+  pub result : element_count r ≡ 1
+
+ints :
+    (s t u r : DataType) → element_count u ≡ 1 → where_true (are_ints s t) u ≡ Some r →
+    Scalars s t r
+ints s t u r one e =
+    let h = truly (are_ints s t) u r e in
+    record {
+      first = is_int s (and_first _ (is_type t int) h.holds);
+      second = is_int t (and_second (is_type s int) _ h.holds);
+      result = ap element_count (sym h.same) ∙ one;
+    }
+
+truths :
+    (s t u r : DataType) → element_count u ≡ 1 → where_true (are_truths s t) u ≡ Some r →
+    Scalars s t r
+truths s t u r one e =
+    let h = truly (are_truths s t) u r e in
+    record {
+      first = is_truth s (and_first _ (is_type t truth) h.holds);
+      second = is_truth t (and_second (is_type s truth) _ h.holds);
+      result = ap element_count (sym h.same) ∙ one;
+    }
+
+same_scalars :
+    (s t r : DataType) (b c : Bool) → are_ints s t ≡ b → are_truths s t ≡ c →
+    where_true (b || c) truth ≡ Some r → Scalars s t r
+same_scalars s t r true c p q e = ints s t truth r refl (ap (λ d. where_true d truth) p ∙ e)
+same_scalars s t r false c p q e = truths s t truth r refl (ap (λ d. where_true d truth) q ∙ e)
+
+binary_by :
+    (s t r : DataType) (a b c : Bool) →
+    (if a then where_true (are_ints s t) int else
+    if b then where_true (are_truths s t) truth else
+    if c then where_true (are_ints s t || are_truths s t) truth else
+    where_true (are_ints s t) truth) ≡ Some r → Scalars s t r
+binary_by s t r true b c e = ints s t int r refl e
+binary_by s t r false true c e = truths s t truth r refl e
+binary_by s t r false false true e = same_scalars s t r _ _ refl refl e
+binary_by s t r false false false e = ints s t truth r refl e
+
+pub binary_count :
+    (op : BinaryOperator) (s t r : DataType) → binary_type op s t ≡ Some r → Scalars s t r
+binary_count op s t r e =
+    binary_by s t r (is_arithmetic op) (is_logical op) (is_equality op) e
+
+-- ## Types that are the same
+
+equal : (n m : ℕ) → nat_eq n m ≡ true → n ≡ m
+equal n m e = grind arith
+
+sizes_same : (ns ms : List ℕ) → same_sizes ns ms ≡ true → product ns ≡ product ms
+sizes_same [] [] e = refl
+sizes_same [] (m ∷ ms) e = cc
+sizes_same (n ∷ ns) [] e = cc
+sizes_same (n ∷ ns) (m ∷ ms) e =
+    ap₂ (λ a b. a * b) (equal n m (and_first (nat_eq n m) (same_sizes ns ms) e))
+    (sizes_same ns ms (and_second (nat_eq n m) (same_sizes ns ms) e))
+
+pub same_count : (s t : DataType) → is_type s t ≡ true → element_count s ≡ element_count t
+same_count s t e =
+    sizes_same s.sizes t.sizes (and_second (is_kind s.kind t.kind) (same_sizes s.sizes t.sizes) e)
+
+pub record Alike (s t r : DataType) : Type 0 where
+  pub first : element_count s ≡ element_count r
+  pub second : element_count t ≡ element_count r
+
+pub alike : (s t r : DataType) → common_type s t ≡ Some r → Alike s t r
+alike s t r e =
+    let h = truly (is_type s t) t r e in
+    record {
+      first = same_count s t h.holds ∙ ap element_count h.same;
+      second = ap element_count h.same;
+    }
+
+pub are_counts :
+    (ss ts : List DataType) → are_types ss ts ≡ true →
+    map element_count ss ≡ map element_count ts
+are_counts [] [] e = refl
+are_counts [] (t ∷ ts) e = cc
+are_counts (s ∷ ss) [] e = cc
+are_counts (s ∷ ss) (t ∷ ts) e =
+    ap₂ (λ n ns. n ∷ ns) (same_count s t (and_first (is_type s t) (are_types ss ts) e))
+    (are_counts ss ts (and_second (is_type s t) (are_types ss ts) e))
+
+-- ## Arrays
+
+pub array_count :
+    (n : ℕ) (t r : DataType) → array_of n t ≡ Some r → element_count r ≡ n * element_count t
+array_count n t r e =
+    let h = truly (nat_le 1 n && nat_le n 4096) (record { kind = t.kind; sizes = n ∷ t.sizes }) r e
+    in
+    ap element_count (sym h.same)
+
+-- an array and its elements
+parts_with :
+    (k : Kind) (ns : List ℕ) (a : ℕ × DataType) → element_with k ns ≡ Some a →
+    ns ≡ a.0 ∷ a.1.sizes
+parts_with k [] a e = cc
+parts_with k (n ∷ ns) a e =
+    let same : (n, record { kind = k; sizes = ns }) ≡ a = some_same _ _ e in
+    ap (λ (b : ℕ × DataType). b.0 ∷ b.1.sizes) same
+
+pub element_is :
+    (t : DataType) (a : ℕ × DataType) → element_of t ≡ Some a → t.sizes ≡ a.0 ∷ a.1.sizes
+element_is t a e = parts_with t.kind t.sizes a e
+
+pub less : (n m : ℕ) → nat_lt n m ≡ true → n < m
+less n m e = grind arith
+
+pub at_most : (n m : ℕ) → nat_le n m ≡ true → n ≤ m
+at_most n m e = grind arith
+
+pub record Indexed (i : ℕ) (t r : DataType) : Type 0 where
+  pub count : ℕ
+  pub sizes : t.sizes ≡ count ∷ r.sizes
+  pub within : i < count
+
+pub indexed : (i : ℕ) (t r : DataType) → index_type i t ≡ Some r → Indexed i t r
+indexed i t r e =
+    let a = bound (element_of t) _ r e in
+    let h = truly (nat_lt i a.value.0) a.value.1 r a.gives in
+    record {
+      count = a.value.0;
+      sizes = element_is t a.value a.is ∙ ap (λ (s : DataType). a.value.0 ∷ s.sizes) h.same;
+      within = less i a.value.0 h.holds;
+    }
+
+pub record Sliced (i j : ℕ) (t r : DataType) : Type 0 where
+  pub count : ℕ
+  pub element : DataType
+  pub sizes : t.sizes ≡ count ∷ element.sizes
+  pub ordered : i ≤ j
+  pub within : j < count
+  pub result : element_count r ≡ (suc j - i) * element_count element
+
+pub sliced : (i j : ℕ) (t r : DataType) → slice_type i j t ≡ Some r → Sliced i j t r
+sliced i j t r e =
+    let a = bound (element_of t) _ r e in
+    let c = bound (where_true (nat_le i j && nat_lt j a.value.0) a.value.1) _ r a.gives in
+    let h = truly (nat_le i j && nat_lt j a.value.0) a.value.1 c.value c.is in
+    record {
+      count = a.value.0;
+      element = c.value;
+      sizes = element_is t a.value a.is ∙ ap (λ (s : DataType). a.value.0 ∷ s.sizes) h.same;
+      ordered = at_most i j (and_first (nat_le i j) (nat_lt j a.value.0) h.holds);
+      within = less j a.value.0 (and_second (nat_le i j) (nat_lt j a.value.0) h.holds);
+      result = array_count (suc j - i) c.value r c.gives;
+    }
+
+pub joined_count :
+    (s t r : DataType) → join_type s t ≡ Some r →
+    element_count s + element_count t ≡ element_count r
+joined_count s t r e =
+    let a = bound (element_of s) _ r e in
+    let b = bound (element_of t) _ r a.gives in
+    let c = bound (common_type a.value.1 b.value.1) _ r b.gives in
+    let same = alike a.value.1 b.value.1 c.value c.is in
+    ap₂ (λ m n. m + n)
+    (ap product (element_is s a.value a.is) ∙ ap (λ n. a.value.0 * n) same.first)
+    (ap product (element_is t b.value b.is) ∙ ap (λ n. b.value.0 * n) same.second)
+    ∙ sym (add-mul a.value.0 b.value.0 (element_count c.value))
+    ∙ sym (array_count (a.value.0 + b.value.0) c.value r c.gives)

@@ -1,0 +1,95 @@
+//! What the row of an instant decides.
+
+ghost use Rattle.std.specs.Prelude.{◌≡◌, ◌<◌, ◌≤◌, Some, length, map, All};
+ghost use Rattle.std.specs.List.{range_with_len};
+ghost use Rattle.lb_check.specs.Verdicts.{is_bad, is_false};
+ghost use Rattle.lb_flat.specs.Judging.{some_in, row_judged};
+ghost use Rattle.lb_flat.specs.Values.{cell_of};
+ghost use Rattle.lb_flat.specs.Programs.{numbers_of, program_of, IsInRange};
+
+use crate::cell::Cell;
+use crate::equation::ElementId;
+use crate::program::FlatProgram;
+use lb_check::verdict::Verdict;
+
+// A present fault.
+fn is_bad(x: Cell) -> bool
+    ensures { result ≡ is_bad (Some (cell_of x)) }
+{
+    match x {
+        Cell::Bad => true,
+        _ => false,
+    }
+}
+
+// Present and false.
+fn is_false(x: Cell) -> bool
+    ensures { result ≡ is_false (Some (cell_of x)) }
+{
+    match x {
+        Cell::Boolean(b) => !b,
+        _ => false,
+    }
+}
+
+// Whether one of the first elements holds a fault.
+fn first_bad(row: &[Cell], count: u32) -> bool
+    requires { count ≤ length row.now }
+    ensures { result ≡ some_in is_bad (map cell_of row.now) (range_with_len 0 count) }
+{
+    for i in 0..count {
+        if is_bad(row[i as usize]) {
+            return true;
+        }
+    }
+    false
+}
+
+// Whether one of these elements holds a fault.
+fn some_bad(row: &[Cell], elements: &[ElementId]) -> bool
+    requires { All (λ a. a.0 < length row.now) elements.now }
+    ensures { result ≡ some_in is_bad (map cell_of row.now) (numbers_of elements.now) }
+{
+    for i in 0..elements.len() {
+        if is_bad(row[elements[i].0 as usize]) {
+            return true;
+        }
+    }
+    false
+}
+
+// Whether one of these elements is false.
+fn some_false(row: &[Cell], elements: &[ElementId]) -> bool
+    requires { All (λ a. a.0 < length row.now) elements.now }
+    ensures { result ≡ some_in is_false (map cell_of row.now) (numbers_of elements.now) }
+{
+    for i in 0..elements.len() {
+        if is_false(row[elements[i].0 as usize]) {
+            return true;
+        }
+    }
+    false
+}
+
+/// What the row of instant `t` decides; `Passed` where it decides nothing.
+///
+/// A fault comes before a failed assertion, and that before a false property.
+pub(crate) fn instant_verdict(program: &FlatProgram, row: &[Cell], t: u32) -> Verdict
+    requires elements { length row.now ≡ program.now.size }
+    requires in_range { IsInRange program.now }
+    ensures { result ≡ row_judged (program_of program.now) t (map cell_of row.now) }
+{
+    if first_bad(row, program.variables)
+        || some_bad(row, program.memory_operands.as_slice())
+        || some_bad(row, program.asserted.as_slice())
+    {
+        return Verdict::Fault(t);
+    }
+    if some_false(row, program.asserted.as_slice()) {
+        return Verdict::Assertion(t);
+    }
+    if is_false(row[program.property.0 as usize]) {
+        return Verdict::False(t);
+    }
+    Verdict::Passed
+}

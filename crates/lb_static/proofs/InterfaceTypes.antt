@@ -1,0 +1,205 @@
+-- The types of the inputs and outputs of an instance, against the definitions.
+use Rattle.std.proofs.Common.{◌≡◌, ℕ, ◌+◌, ◌≤◌, ℤ, Bool, true, false, List, [], ◌∷◌, ◌++◌, length, take, drop, map, Option, Some, None, option_map, refl, ap, sym, ◌∙◌, arith, length-append}
+use Rattle.std.specs.Prelude.{nat_le, not, is_some, reverse}
+use Rattle.std.specs.List.{list_all}
+use Rattle.std.proofs.lemmas.Bool.Decides.{nat_tests}
+use Rattle.std.proofs.lemmas.List.{length-map, length-take-le, take-map, drop-map, take_at, append_assoc}
+use Rattle.std.proofs.lemmas.List.Folds.{list_all-map}
+use Rattle.lb_syntax.specs.Lists.{◌>>=◌, all_some, where_true, zip2}
+use Rattle.lb_syntax.specs.declared.tree.Kind.{Kind}
+use Rattle.lb_syntax.specs.Tree.{Name, Static, Node, Declaration}
+use Rattle.lb_static.specs.Instances.{Program, Instance, static_value}
+use Rattle.lb_static.specs.Interfaces.{InterfaceView, has_no_clock, type_under, types_under, view_types, view_type, interface_variables, interface_under}
+use Rattle.lb_static.specs.Parts.{variable_names}
+use Rattle.lb_static.specs.ResolvedNodes.{IsResolved, node_of, statics_of, counts_of}
+use Rattle.lb_static.specs.ResolvedTerms.{Counts, declaration_of, sampling_of, static_of, is_declared_within, is_sampling_within}
+use Rattle.lb_static.specs.DataTypes.{DataType, variables, variable_type}
+use Rattle.lb_static.specs.StaticValues.{natural}
+use Rattle.lb_static.specs.Instantiation.{is_base_clocked, has_plain_clocks}
+use Rattle.lb_static.specs.declared.resolved.ResolvedNode.{ResolvedNode}
+use Rattle.lb_static.specs.declared.resolved.Sampling.{Sampling}
+use Rattle.lb_static.specs.declared.resolved.Variable.{Variable}
+use Rattle.lb_static.specs.declared.data_type.DataType as seen
+use Rattle.lb_static.proofs.Lists.{and_first, and_second}
+use Rattle.lb_static.proofs.Options.{map_reverse, length-all_some}
+
+-- the types of the inputs are among those of inputs and outputs
+pub inputs_fit : (n : ResolvedNode) (statics : List ℤ) (vs : List Variable)
+    (data_types : List seen.DataType) → Some vs ≡ interface_variables n
+    → types_under statics vs ≡ Some (view_types data_types) → n.inputs ≤ length data_types
+inputs_fit n statics vs data_types found there =
+    by (nat_le (n.inputs + n.outputs) (length n.variables.items)) refl found
+  where
+    by : (b : Bool) → nat_le (n.inputs + n.outputs) (length n.variables.items) ≡ b
+        → Some vs ≡ where_true b (take (n.inputs + n.outputs) n.variables.items)
+        → n.inputs ≤ length data_types
+    by false e f = absurd cc
+    by true e f =
+        let same : vs ≡ take (n.inputs + n.outputs) n.variables.items = cc in
+        let within : n.inputs + n.outputs ≤ length n.variables.items = grind (arith, nat_tests) in
+        let a = length-all_some (map (type_under statics) vs) (view_types data_types) there in
+        let b = length-map vs (type_under statics) in
+        let d = length-map data_types view_type in
+        let f : length vs ≡ n.inputs + n.outputs =
+        ap length same ∙ length-take-le (n.inputs + n.outputs) n.variables.items within in
+        omega arith
+
+-- ## The types of variables
+
+-- values that are those of some texts
+each_value : {A B C : Type 0} (g : A → Option B) (h : B → Option C) (ts : List A) (vs : List B)
+    → map Some vs ≡ map g ts → map (λ s. g s >>= h) ts ≡ map h vs
+each_value g h [] [] e = refl
+each_value g h [] (v ∷ vs) e = absurd cc
+each_value g h (t ∷ ts) [] e = absurd cc
+each_value g h (t ∷ ts) (v ∷ vs) e =
+    let first : Some v ≡ g t = cc in
+    let rest : map Some vs ≡ map g ts = cc in
+    ap (λ o. (o >>= h) ∷ map (λ s. g s >>= h) ts) (sym first)
+    ∙ ap (λ l. h v ∷ l) (each_value g h ts vs rest)
+
+part_values : {A B : Type 0} (g : A → Option B) (first count : ℕ) (ts : List A) (vs : List B)
+    → map Some vs ≡ map g ts
+    → map Some (reverse (take count (drop first vs))) ≡ map g (reverse (take count (drop first ts)))
+part_values g first count ts vs e =
+    map_reverse Some (take count (drop first vs))
+    ∙ ap reverse (sym (take-map Some count (drop first vs))
+    ∙ ap (take count) (sym (drop-map Some first vs)) ∙ ap (λ l. take count (drop first l)) e
+    ∙ ap (take count) (drop-map g first ts) ∙ take-map g count (drop first ts))
+    ∙ sym (map_reverse g (take count (drop first ts)))
+
+as_many : {A B : Type 0} (g : A → Option B) (ts : List A) (vs : List B) → map Some vs ≡ map g ts
+    → length vs ≡ length ts
+as_many g ts vs e = sym (length-map vs Some) ∙ ap length e ∙ length-map ts g
+
+abbrev type_with : Kind → Option (List ℕ) → Option DataType
+type_with k o = option_map (λ ns. record { kind = k; sizes = ns }) o
+
+type_is : (P : Program) (here : Instance) (texts : List Static) (statics : List ℤ)
+    (names : List Name) (x : Name) (v : Variable)
+    → map Some statics ≡ map (static_value P here) texts
+    → nat_le (v.first_size.0 + v.sizes) (length texts) ≡ true
+    → type_under statics v ≡ variable_type P here (declaration_of names texts x v)
+type_is P here texts statics names x v e within =
+    ap (λ b. where_true b (take v.sizes (drop v.first_size.0 statics)) >>= λ values. type_with
+    v.kind (all_some (map natural (reverse values))))
+    (ap (nat_le (v.first_size.0 + v.sizes)) (as_many (static_value P here) texts statics e)
+    ∙ within)
+    ∙ ap (λ l. type_with v.kind (all_some l))
+    (sym (each_value (static_value P here) natural
+    (reverse (take v.sizes (drop v.first_size.0 texts)))
+    (reverse (take v.sizes (drop v.first_size.0 statics)))
+    (part_values (static_value P here) v.first_size.0 v.sizes texts statics e)))
+
+types_are : (P : Program) (here : Instance) (texts : List Static) (statics : List ℤ) (n : Counts)
+    (all names : List Name) (vs : List Variable)
+    → map Some statics ≡ map (static_value P here) texts
+    → n.statics ≡ length texts → list_all (is_declared_within n) vs ≡ true
+    → length names ≡ length vs
+    → map (type_under statics) vs
+    ≡ map (variable_type P here) (zip2 (declaration_of all texts) names vs)
+types_are P here texts statics n all [] [] e few within same = refl
+types_are P here texts statics n all [] (v ∷ vs) e few within same = absurd (omega (arith, same))
+types_are P here texts statics n all (x ∷ xs) [] e few within same = absurd (omega (arith, same))
+types_are P here texts statics n all (x ∷ xs) (v ∷ vs) e few within same =
+    let first = and_first (is_declared_within n v) (list_all (is_declared_within n) vs) within in
+    let rest = and_second (is_declared_within n v) (list_all (is_declared_within n) vs) within in
+    let fits : nat_le (v.first_size.0 + v.sizes) (length texts) ≡ true =
+    ap (nat_le (v.first_size.0 + v.sizes)) (sym few)
+    ∙ and_first (nat_le (v.first_size.0 + v.sizes) n.statics) (is_sampling_within n v.clock)
+    first in
+    let others : length xs ≡ length vs = omega arith in
+    ap (λ o. o ∷ map (type_under statics) vs) (type_is P here texts statics all x v e fits)
+    ∙ ap (λ l. variable_type P here (declaration_of all texts x v) ∷ l)
+    (types_are P here texts statics n all xs vs e few rest others)
+
+clocks_are : (P : Program) (texts : List Static) (all names : List Name) (vs : List Variable)
+    → length names ≡ length vs
+    → map has_no_clock vs ≡ map (is_base_clocked P) (zip2 (declaration_of all texts) names vs)
+clocks_are P texts all [] [] same = refl
+clocks_are P texts all [] (v ∷ vs) same = absurd (omega (arith, same))
+clocks_are P texts all (x ∷ xs) [] same = absurd (omega (arith, same))
+clocks_are P texts all (x ∷ xs) (v ∷ vs) same =
+    let others : length xs ≡ length vs = omega arith in
+    ap (λ b. not b ∷ map has_no_clock vs) (by v.clock)
+    ∙ ap (λ l. is_base_clocked P (declaration_of all texts x v) ∷ l)
+    (clocks_are P texts all xs vs others)
+  where
+    by : (o : Option Sampling) → is_some o ≡ is_some (option_map (sampling_of all) o)
+    by None = refl
+    by (Some s) = refl
+
+-- ## The inputs and outputs of a node with values
+
+-- an instance has this node and these values of static expressions
+pub record Stands (P : Program) (names : List Name) (here : Instance) (n : ResolvedNode)
+    (statics : List ℤ) : Type 0 where
+  pub node : node_of n ≡ here.node
+  pub resolved : IsResolved names n
+  pub values : map Some statics ≡ map (static_value P here) (statics_of n)
+
+abbrev pub face_by : Node → ℕ → Bool → Option (List DataType) → Option InterfaceView
+face_by node inputs plain o =
+    option_map (λ ss. record { node = node; inputs = inputs; data_types = ss; is_plain = plain }) o
+
+-- those of the definitions
+abbrev pub face_of : Program → Instance → Option InterfaceView
+face_of P here = face_by here.node (length here.node.inputs) (has_plain_clocks P here)
+    (all_some (map (variable_type P here) (here.node.inputs ++ here.node.outputs)))
+
+abbrev interface_of : Node → List Declaration
+interface_of n = n.inputs ++ n.outputs
+
+-- the first of the variables
+interface_is : (n : Node) → take (length n.inputs + length n.outputs) (variables n) ≡ interface_of n
+interface_is n =
+    ap (take (length n.inputs + length n.outputs)) (sym (append_assoc n.inputs n.outputs n.locals))
+    ∙ take_at (n.inputs ++ n.outputs) n.locals (length n.inputs + length n.outputs)
+    (length-append n.inputs n.outputs)
+
+pub face_is : (P : Program) (names : List Name) (here : Instance) (n : ResolvedNode)
+    (statics : List ℤ) → Stands P names here n statics → interface_under n statics ≡ face_of P here
+face_is P names here n statics s =
+    let node = node_of n in
+    let vs = n.variables.items in
+    let k = n.inputs + n.outputs in
+    let all = variable_names node in
+    let texts = statics_of n in
+    let count : k ≡ length node.inputs + length node.outputs =
+    omega (arith, s.resolved.inputs, s.resolved.outputs) in
+    let many : length (variables node) ≡ length node.inputs + length (node.outputs ++ node.locals) =
+    length-append node.inputs (node.outputs ++ node.locals) in
+    let more : length (node.outputs ++ node.locals) ≡ length node.outputs + length node.locals =
+    length-append node.outputs node.locals in
+    let long : length all ≡ length vs =
+    length-map (variables node) (λ d. d.name) ∙ sym s.resolved.as_many in
+    let within : k ≤ length vs = omega (arith, s.resolved.as_many) in
+    let fits : nat_le k (length vs) ≡ true = grind (arith, nat_tests) in
+    let data_types : map (type_under statics) (take k vs)
+    ≡ map (variable_type P here) (interface_of node) =
+    sym (take-map (type_under statics) k vs)
+    ∙ ap (take k) (types_are P here texts statics (counts_of n) all all vs s.values
+    (sym (length-map n.statics.items (λ p. static_of p.text))) s.resolved.declared_within long
+    ∙ ap (map (variable_type P here)) s.resolved.declared)
+    ∙ take-map (variable_type P here) k (variables node)
+    ∙ ap (λ j. map (variable_type P here) (take j (variables node))) count
+    ∙ ap (map (variable_type P here)) (interface_is node) in
+    let clocks : list_all has_no_clock (take k vs)
+    ≡ list_all (is_base_clocked P) (interface_of node) =
+    sym (list_all-map (λ b. b) has_no_clock (take k vs))
+    ∙ ap (list_all (λ b. b)) (sym (take-map has_no_clock k vs)
+    ∙ ap (take k) (clocks_are P texts all all vs long
+    ∙ ap (map (is_base_clocked P)) s.resolved.declared)
+    ∙ take-map (is_base_clocked P) k (variables node)
+    ∙ ap (λ j. map (is_base_clocked P) (take j (variables node))) count
+    ∙ ap (map (is_base_clocked P)) (interface_is node))
+    ∙ list_all-map (λ b. b) (is_base_clocked P) (interface_of node) in
+    ap (λ b. where_true b (take k vs) >>= λ vs. face_by node n.inputs (list_all has_no_clock vs)
+    (types_under statics vs)) fits
+    ∙ ap (λ l. face_by node n.inputs (list_all has_no_clock (take k vs)) (all_some l)) data_types
+    ∙ ap (λ b. face_by node n.inputs b (all_some (map (variable_type P here) (interface_of node))))
+    clocks
+    ∙ ap (λ i. face_by node i (list_all (is_base_clocked P) (interface_of node))
+    (all_some (map (variable_type P here) (interface_of node)))) s.resolved.inputs
+    ∙ ap (λ m. face_by m (length m.inputs) (list_all (is_base_clocked P) (interface_of m))
+    (all_some (map (variable_type P here) (interface_of m)))) s.node

@@ -1,0 +1,8 @@
+-- One call more, and its callee if it has one.
+use Rattle.std.proofs.Common.{arith}
+use Rattle.std.proofs.lemmas.Grind.{common_steps}
+use Rattle.std.proofs.lemmas.List.Elements.{filter_map-append}
+use Rattle.lb_static.proofs.check_recursion.callees.Goals as goal
+
+pub loop-call-preserved : goal.loop-call-preserved
+loop-call-preserved c = grind (arith, common_steps, filter_map-append)

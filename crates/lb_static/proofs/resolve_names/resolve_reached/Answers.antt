@@ -1,0 +1,50 @@
+-- The parts of the rules of names are judged one after the other.
+use Rattle.std.proofs.Common.{◌≡◌, All, true, map, sym, subst}
+use Rattle.std.specs.Prelude.{option_map}
+use Rattle.std.specs.List.{list_all}
+use Rattle.std.proofs.lemmas.Result.{err_from_is_err_and}
+use Rattle.lb_syntax.specs.SourceView.{view_source}
+use Rattle.lb_static.specs.Elaborated.{program_of}
+use Rattle.lb_static.specs.NamedConstants.{keeps_constants_of}
+use Rattle.lb_static.specs.NameFaults.{IsNameFault, named_in}
+use Rattle.lb_static.specs.ResolvedNodes.{IsResolved, node_of}
+use Rattle.lb_static.proofs.KeptNames.{fault_constants, names_kept, nodes_named}
+use Rattle.lb_static.proofs.resolve_names.resolve_reached.Goals as goal
+
+pub check_constants-requires-clause-resolved : goal.check_constants-requires-clause-resolved
+check_constants-requires-clause-resolved c =
+    let s = view_source c.args.source.now in
+    subst (All (IsResolved (map (λ n. n.name) s.nodes))) (sym c.deref.ensures.value)
+    c.in_ok-reached.ensures.reached.resolved
+
+pub check_constants-requires-clause-named : goal.check_constants-requires-clause-named
+check_constants-requires-clause-named c =
+    let s = view_source c.args.source.now in
+    let P = program_of c.args.source.now c.args.node.now
+    (option_map (λ o. o.now) c.args.observer) in
+    subst (λ l. list_all (λ r. named_in s (node_of r)) l ≡ true) (sym c.deref.ensures.value)
+    (nodes_named P c.in_ok-reached.reached c.in_ok-reached.ensures.reached
+    c.in_ok-reached.ensures.named)
+
+pub returns-in_err-check_constants-clause-err : goal.returns-in_err-check_constants-clause-err
+returns-in_err-check_constants-clause-err c =
+    let p = err_from_is_err_and c.from_residual-in_err-check_constants.result
+    c.from_residual-in_err-check_constants.ensures.1 in
+    let s = view_source c.args.source.now in
+    let P = program_of c.args.source.now c.args.node.now
+    (option_map (λ o. o.now) c.args.observer) in
+    let e = c.in_err-check_constants.field-0.0 in
+    let fault = subst (λ l. IsNameFault e (keeps_constants_of s l)) c.deref.ensures.value
+    c.in_err-check_constants.ensures.err in
+    rw (p.1, p.2) (fault_constants P c.in_ok-reached.reached c.in_ok-reached.ensures.reached e
+    fault)
+
+pub returns-clause-names : goal.returns-clause-names
+returns-clause-names c =
+    let s = view_source c.args.source.now in
+    let P = program_of c.args.source.now c.args.node.now
+    (option_map (λ o. o.now) c.args.observer) in
+    let kept = subst (λ l. keeps_constants_of s l ≡ true) c.deref.ensures.value
+    c.in_ok-check_constants.ensures.ok in
+    names_kept P c.in_ok-reached.reached c.in_ok-reached.ensures.reached c.requires.once
+    c.in_ok-reached.ensures.named kept

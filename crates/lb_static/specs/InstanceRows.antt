@@ -1,0 +1,72 @@
+-- What the instantiation of a program promises of the rows of its table.
+-- This file says what data of the program mean; no definition of the language stands on it.
+use Rattle.std.specs.Prelude.{◌≡◌, ◌<◌, ◌≤◌, ℕ, Option, Some, None, option_map, List, [], ◌∷◌, ◌++◌, map, length, slice_get}
+use Rattle.std.specs.List.{Contains}
+use Rattle.lb_syntax.specs.Lists.{either_or}
+use Rattle.lb_static.specs.Instances.{Program, Instance, Path, instances}
+use Rattle.lb_static.specs.InstanceTable.{specialized_at, path_from, paths_after, rows_of}
+use Rattle.lb_static.specs.declared.reach.Reached.{Reached}
+use Rattle.lb_static.specs.declared.table.Instance as row
+use Rattle.lb_static.specs.declared.table.Origin.{Origin}
+use Rattle.lb_static.specs.declared.table.Specialization.{Specialization}
+use Rattle.lb_static.specs.declared.table.SpecializationId.{SpecializationId}
+use Rattle.lb_static.specs.declared.table.Table.{Table}
+
+-- ## Rows that are added
+
+-- a row where its instance stands, before it has its specialization
+abbrev pub begun_row : Origin → row.Instance
+begun_row origin = record { specialization = record { 0 = 0 }; origin = origin }
+
+-- the instance that a row stands for at a path, where these are the specializations
+abbrev pub stood : Reached → List Specialization → Path → row.Instance → Option Instance
+stood r specializations p i =
+    either_or (option_map (specialized_at r p) (slice_get specializations i.specialization.0)) None
+
+-- the instances that rows stand for, where the rows before them have these paths
+abbrev pub stood_after :
+    Reached → List Specialization → List Path → List row.Instance → List (Option Instance)
+stood_after r specializations before [] = []
+stood_after r specializations before (i ∷ rest) =
+    stood r specializations (path_from before i.origin) i
+    ∷ stood_after r specializations (before ++ path_from before i.origin ∷ []) rest
+
+-- the specializations of rows
+abbrev pub places_of : List row.Instance → List ℕ
+places_of rows = map (λ i. i.specialization.0) rows
+
+-- Rows were added at the end, and each specialization that is new has one of them.
+pub record HasUsed (first last : List Specialization) (before after : List row.Instance) :
+    Type 0 where
+  pub added : List row.Instance
+  pub whole : after ≡ before ++ added
+  pub used : (i : ℕ) → length first ≤ i → i < length last → Contains (places_of added) i
+
+-- Rows were added at the end, and they stand for the instances that were entered.
+pub record HasRows (r : Reached) (specializations : List Specialization)
+    (before after : List row.Instance) (entered : List Instance) : Type 0 where
+  pub added : List row.Instance
+  pub whole : after ≡ before ++ added
+  pub stand : stood_after r specializations (paths_after [] before) added ≡ map Some entered
+
+-- a row has this specialization now, and all other rows are those that were there
+abbrev pub IsSpecializedRow :
+    ℕ → SpecializationId → (before after : List row.Instance) → Type 0
+IsSpecializedRow place id before after =
+    (front back : List row.Instance) (i : row.Instance) → length front ≡ place
+    → before ≡ front ++ i ∷ back
+    → after ≡ front ++ record { specialization = id; origin = i.origin } ∷ back
+
+-- each specialization that is new has this place
+abbrev pub IsOneMore : ℕ → (first last : List Specialization) → Type 0
+IsOneMore place first last = (i : ℕ) → length first ≤ i → i < length last → i ≡ place
+
+-- ## The whole table
+
+-- the rows of a table are the instances of the program, and each specialization has one
+pub record AreInstances (P : Program) (r : Reached) (t : Table) : Type 0 where
+  pub instances : rows_of r t ≡ map Some (instances P)
+  -- each specialization has an instance
+  pub used : (i : ℕ) → i < length t.specializations.items →
+      Contains (map (λ row. row.specialization.0) t.instances.items) i
+  pub few : length t.instances.items ≤ 4096

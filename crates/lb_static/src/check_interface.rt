@@ -1,0 +1,100 @@
+//! The interface of the node under test and of the observer.
+
+ghost use Rattle.std.specs.Prelude.{◌≡◌, true, None};
+ghost use Rattle.std.specs.List.{list_all};
+ghost use Rattle.lb_static.specs.Instances.{Program, instances};
+ghost use Rattle.lb_static.specs.InstanceTable.{HasStarts};
+ghost use Rattle.lb_static.specs.Interfaces.{Answers, view_interface, property_in};
+ghost use Rattle.lb_static.specs.Names.{keeps_names};
+ghost use Rattle.lb_static.specs.ReachedNodes.{IsReached};
+ghost use Rattle.lb_static.specs.RootAnswers.{IsRootAnswer, has_no_parameters_at, signature_in};
+ghost use Rattle.lb_static.specs.Instantiation.{has_no_parameters, instantiation_refusal};
+
+use crate::error::StaticError;
+use crate::interface::Interface;
+use crate::reach::{NodeId, Reached};
+use crate::signature::Signature;
+use crate::table::Table;
+use crate::valued_node::valued_node;
+use std::alloc::Global;
+
+/// Whether a node that is reached has no static parameters.
+fn has_no_parameters(reached: &Reached, id: NodeId) -> bool
+    ensures { result ≡ has_no_parameters_at reached.now id }
+{
+    match reached.nodes.get(id.0) {
+        Some(node) => node.tree.parameters.is_empty(),
+        None => true,
+    }
+}
+
+/// Whether the node under test and the observer have no static parameters.
+pub fn have_no_parameters(reached: &Reached) -> bool
+    ensures { (P : Program) → IsReached P reached.now → result ≡ has_no_parameters P }
+{
+    has_no_parameters(reached, reached.root)
+        && match reached.observer {
+            Some(id) => has_no_parameters(reached, id),
+            None => true,
+        }
+}
+
+/// Whether the property is one output: that of the observer, which has to fit the node under test,
+/// or else that of the node under test.
+fn has_property(
+    alloc: Global,
+    reached: &Reached,
+    table: &Table,
+    root: &Interface,
+) -> Result<bool, StaticError>
+    ensures { Answers (λ b. b) (property_in reached.now table.now (view_interface root.now)) result }
+{
+    let observer = match table.observer {
+        Some(id) => valued_node(reached, table, id),
+        None => None,
+    };
+    match observer {
+        Some(found) => Ok(Interface::new(alloc, found.node, found.statics)?.observes(root)),
+        None => Ok(root.has_property()),
+    }
+}
+
+/// The scalar inputs of the node under test, by its inputs and outputs, where these and the
+/// observer are as they may be.
+fn interface_signature(
+    alloc: Global,
+    reached: &Reached,
+    table: &Table,
+    root: &Interface,
+) -> Result<Signature, StaticError>
+    ensures { Answers (λ s. s) (signature_in reached.now table.now (view_interface root.now)) result }
+{
+    if !root.is_plain || root.scalar_inputs() > Signature::MOST {
+        return Err(StaticError::Root);
+    }
+    if !has_property(alloc, reached, table, root)? {
+        return Err(StaticError::Root);
+    }
+    Ok(root.signature(alloc)?)
+}
+
+/// The scalar inputs of the node under test, where it and the observer have the interface that they
+/// may have.
+///
+/// All inputs and outputs of both are on the base clock, and there are at most 1,023 scalar
+/// inputs. The property is the one output of the node under test, a `bool`; an observer's inputs
+/// have the types of that node's inputs and then of its outputs, and its one output, a `bool`, is
+/// the property.
+pub fn check_interface(
+    alloc: Global,
+    reached: &Reached,
+    table: &Table,
+) -> Result<Signature, StaticError>
+    ensures { (P : Program) → keeps_names P ≡ true → IsReached P reached.now
+        → HasStarts P reached.now table.now → instantiation_refusal P 0 (instances P) ≡ None
+        → IsRootAnswer P result }
+{
+    let found = valued_node(reached, table, table.root).ok_or(StaticError::Root)?;
+    let root = Interface::new(alloc, found.node, found.statics)?;
+    interface_signature(alloc, reached, table, &root)
+}

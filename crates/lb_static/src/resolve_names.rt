@@ -1,0 +1,64 @@
+//! The names of a program: what is reached from the node under test and the observer, and that
+//! each name there has a meaning.
+
+ghost use Rattle.std.specs.Prelude.{◌≡◌, true, length, option_map, OnOk, IfOk, IfErr};
+ghost use Rattle.lb_syntax.specs.SourceView.{view_source};
+ghost use Rattle.lb_static.specs.Elaborated.{program_of};
+ghost use Rattle.lb_static.specs.NameFaults.{IsNameFault};
+ghost use Rattle.lb_static.specs.Names.{are_distinct, keeps_names};
+ghost use Rattle.lb_static.specs.ReachedNodes.{IsReached};
+ghost use Rattle.lb_static.specs.SourceNames.{names_in_source};
+
+use crate::constant_names::check_constants;
+use crate::error::StaticError;
+use crate::globals::Globals;
+use crate::reach::Reached;
+use crate::reaching::reach;
+use lb_syntax::tree::Source;
+use std::alloc::Global;
+
+/// The nodes that are reached by name, with their names resolved, where the names of the source are
+/// known.
+fn resolve_reached<'s>(
+    alloc: Global,
+    globals: &Globals,
+    source: &'s Source,
+    node: &str,
+    observer: Option<&str>,
+) -> Result<Reached<'s>, StaticError>
+    requires names { globals.now.names ≡ names_in_source (view_source source.now) }
+    requires constants { globals.now.constants ≡ length source.now.constants.items }
+    requires once { are_distinct (names_in_source (view_source source.now)) ≡ true }
+    ensures names { OnOk result (keeps_names (program_of source.now node.now
+        (option_map (λ o. o.now) observer.entry)) ≡ true) }
+    ensures reached { IfOk result (IsReached (program_of source.now node.now
+        (option_map (λ o. o.now) observer.entry))) }
+    ensures err { IfErr result (λ e. IsNameFault e (keeps_names (program_of source.now node.now
+        (option_map (λ o. o.now) observer.entry)))) }
+{
+    let reached = reach(alloc, globals, source, node, observer)?;
+    check_constants(alloc, globals, source, &reached.nodes)?;
+    Ok(reached)
+}
+
+/// The nodes that are reached by name, with their names resolved.
+///
+/// A doubled name of a constant, node or function is refused wherever it stands. Of other names
+/// only those are judged that stand in a reached node, or in the value of a constant that is
+/// reached from one.
+pub fn resolve_names<'s>(
+    alloc: Global,
+    source: &'s Source,
+    node: &str,
+    observer: Option<&str>,
+) -> Result<Reached<'s>, StaticError>
+    ensures names { OnOk result (keeps_names (program_of source.now node.now
+        (option_map (λ o. o.now) observer.entry)) ≡ true) }
+    ensures reached { IfOk result (IsReached (program_of source.now node.now
+        (option_map (λ o. o.now) observer.entry))) }
+    ensures err { IfErr result (λ e. IsNameFault e (keeps_names (program_of source.now node.now
+        (option_map (λ o. o.now) observer.entry)))) }
+{
+    let globals = Globals::new(alloc, source)?;
+    resolve_reached(alloc, &globals, source, node, observer)
+}
