@@ -1,5 +1,5 @@
 -- A node of which all is resolved stands for its tree.
-use Rattle.std.proofs.Common.{◌≡◌, ℕ, ◌+◌, ◌<◌, ◌^◌, true, List, [], ◌∷◌, ◌++◌, length, map, refl, ap, sym, subst, ◌∙◌, arith, length-append}
+use Rattle.std.proofs.Common.{◌≡◌, ℕ, ◌+◌, true, List, [], ◌∷◌, ◌++◌, length, map, refl, ap, sym, subst, ◌∙◌, length-append}
 use Rattle.std.specs.Prelude.{flat_map, Vec}
 use Rattle.std.specs.declared.alloc.Global.{Global}
 use Rattle.std.specs.List.{list_all}
@@ -296,10 +296,6 @@ module _ (f : NodeBuilder) (source : written_source.Source) (n : written.Node) (
     declared_within = (λ j. list_all (is_declared_within (sym same_counts j)) (done.variables j))
         ∙ f.sound.declared_within
 
-    fits : length r.variables.items < 2 ^ 32
-    fits = let few = f.node_scope.places_fit in let many =
-        f.node_scope.variables_are in let same = same_variables in omega (arith, few, many, same)
-
     pub resolved : StatementsStand (progress f) N.body body.items → inputs ≡ length N.inputs
         → outputs ≡ length N.outputs → IsResolved names r
     resolved stand ins outs = record {
@@ -317,5 +313,4 @@ module _ (f : NodeBuilder) (source : written_source.Source) (n : written.Node) (
       body_within = (λ j. list_all (is_statement_within (sym same_counts_in j)) (done.body_is j))
           ∙ stand.1;
       calls_within = calls_within;
-      variables_fit = fits;
     }

@@ -7,7 +7,7 @@ use Rattle.std.proofs.lemmas.Option.{get_or_from_slice_get}
 use Rattle.std.proofs.lemmas.List.Elements.{Contains-append_left, Contains-append_right}
 use Rattle.lb_syntax.specs.Lists.{either_or, zip2}
 use Rattle.lb_static.specs.Instances.{Program, Instance, Path, Root, Child, instances}
-use Rattle.lb_static.specs.InstanceTable.{instance_of, specialized_at, path_from, paths_after, row_at, rows_of}
+use Rattle.lb_static.specs.InstanceTable.{instance_of, specialized_at, path_from, paths_after, row_at, rows_of, CallersStandBefore}
 use Rattle.lb_static.specs.ReachedNodes.{tree_at}
 use Rattle.lb_static.specs.ResolvedNodes.{node_of}
 use Rattle.lb_static.specs.Instantiated.{HasGrown, IsKnown}
@@ -289,8 +289,8 @@ pub are_instances : (P : Program) (r : Reached) (t : Table) (s : List Specializa
     (rows : List row.Instance) (entered : List Instance)
     → t.specializations.items ≡ s → t.instances.items ≡ rows → instances P ≡ entered
     → HasRows r s [] rows entered → HasUsed [] s [] rows → length rows ≤ 4096
-    → AreInstances P r t
-are_instances P r t s rows entered e f same stand used few =
+    → CallersStandBefore rows → AreInstances P r t
+are_instances P r t s rows entered e f same stand used few before =
     let here = t.specializations.items in
     record {
       instances =
@@ -301,6 +301,7 @@ are_instances P r t s rows entered e f same stand used few =
           (subst (λ l. HasUsed [] here [] l) (sym f)
           (subst (λ l. HasUsed [] l [] rows) (sym e) used));
       few = omega (arith, ap length f);
+      before = subst CallersStandBefore (sym f) before;
     }
 
 -- ## A row with its specialization

@@ -159,6 +159,7 @@ is_table P r t starts specialized rows = record {
   observer = starts.observer;
   used = rows.used;
   few = rows.few;
+  before = rows.before;
 }
 
 pub table_answer : (P : Program) (r : Reached) (result : Result Table StaticError)

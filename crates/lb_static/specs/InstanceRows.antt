@@ -4,7 +4,7 @@ use Rattle.std.specs.Prelude.{◌≡◌, ◌<◌, ◌≤◌, ℕ, Option, Some, 
 use Rattle.std.specs.List.{Contains}
 use Rattle.lb_syntax.specs.Lists.{either_or}
 use Rattle.lb_static.specs.Instances.{Program, Instance, Path, instances}
-use Rattle.lb_static.specs.InstanceTable.{specialized_at, path_from, paths_after, rows_of}
+use Rattle.lb_static.specs.InstanceTable.{specialized_at, path_from, paths_after, rows_of, CallersStandBefore}
 use Rattle.lb_static.specs.declared.reach.Reached.{Reached}
 use Rattle.lb_static.specs.declared.table.Instance as row
 use Rattle.lb_static.specs.declared.table.Origin.{Origin}
@@ -63,10 +63,12 @@ IsOneMore place first last = (i : ℕ) → length first ≤ i → i < length las
 
 -- ## The whole table
 
--- the rows of a table are the instances of the program, and each specialization has one
+-- The rows of a table are the instances of the program, each behind its caller, and each
+-- specialization has one.
 pub record AreInstances (P : Program) (r : Reached) (t : Table) : Type 0 where
   pub instances : rows_of r t ≡ map Some (instances P)
   -- each specialization has an instance
   pub used : (i : ℕ) → i < length t.specializations.items →
       Contains (map (λ row. row.specialization.0) t.instances.items) i
   pub few : length t.instances.items ≤ 4096
+  pub before : CallersStandBefore t.instances.items

@@ -84,6 +84,17 @@ row_at r t p i =
 abbrev pub rows_of : Reached → Table → List (Option Instance)
 rows_of r t = zip2 (row_at r t) (paths_of t) t.instances.items
 
+-- the caller of an instance stands before this place
+abbrev pub CallerStandsBefore : ℕ → Origin → Type 0
+CallerStandsBefore place (origin.Called caller call index) = caller.0 < place
+CallerStandsBefore place _ = Unit {0}
+
+-- each row stands behind that of its caller
+abbrev pub CallersStandBefore : List row.Instance → Type 0
+CallersStandBefore rows =
+    (place : ℕ) (i : row.Instance) → slice_get rows place ≡ Some i
+    → CallerStandsBefore place i.origin
+
 -- what is known of the specializations of a table, and which of them instantiation starts with
 pub record HasStarts (P : Program) (r : Reached) (t : Table) : Type 0 where
   pub statics : (i : ℕ) (s : Specialization) →
@@ -102,3 +113,5 @@ pub record IsTable (P : Program) (r : Reached) (t : Table) : Type 0 where
   pub used : (i : ℕ) → i < length t.specializations.items →
       Contains (map (λ row. row.specialization.0) t.instances.items) i
   pub few : length t.instances.items ≤ 4096
+  -- each instance stands behind its caller
+  pub before : CallersStandBefore t.instances.items

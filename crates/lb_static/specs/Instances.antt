@@ -2,7 +2,7 @@
 -- of its static parameters.
 -- Source: Lustre V6 reference manual, nodes, static parameters and array iterators. The order of
 -- instances is this project's rule.
-use Rattle.std.specs.Prelude.{ℕ, zero, suc, nat_lt, ℤ, Option, Some, None, option_map, List, [], ◌∷◌, ◌++◌, map, length, slice_get, flat_map, if◌then◌else◌}
+use Rattle.std.specs.Prelude.{ℕ, zero, suc, nat_eq, nat_lt, Bool, true, false, ◌&&◌, ℤ, Option, Some, None, option_map, List, [], ◌∷◌, ◌++◌, map, length, slice_get, flat_map, if◌then◌else◌}
 use Rattle.std.specs.List.{range_with_len, zip}
 use Rattle.lb_syntax.specs.Lists.{◌>>=◌, all_some, some_of, listed}
 use Rattle.lb_syntax.specs.Tree.{Name, Static, Node_named, Symbol, Expr, Literal, Truth, Variable, Group, Unary, Binary, If, Arrow, Fby, Pre, Current, When, Replicate, Index, Slice, Join, Array, AtMostOne, Nor, Call, Iterate, Exprs, Nil, Cons, Node, Source, Statement, Equation, Assertion}
@@ -16,6 +16,13 @@ pub data Path : Type 0 where
   Root : Path
   Observer : Path
   Child : Path → (call index : ℕ) → Path
+
+-- whether two paths are the same
+abbrev pub is_path : Path → Path → Bool
+is_path Root Root = true
+is_path Observer Observer = true
+is_path (Child p c i) (Child q d j) = nat_eq c d && (nat_eq i j && is_path p q)
+is_path _ _ = false
 
 -- a node where it stands, with the values of its static parameters
 pub record Instance : Type 0 where

@@ -1,6 +1,6 @@
 -- When a node with resolved names stands for its tree.
 -- This file says what data of the program mean; no definition of the language stands on it.
-use Rattle.std.specs.Prelude.{◌≡◌, ◌<◌, ◌^◌, true, List, length, map}
+use Rattle.std.specs.Prelude.{◌≡◌, true, List, length, map}
 use Rattle.std.specs.List.{list_all}
 use Rattle.lb_syntax.specs.Lists.{zip2}
 use Rattle.lb_syntax.specs.SourceView.{view_node}
@@ -54,9 +54,8 @@ pub record IsResolved (nodes : List Name) (r : ResolvedNode) : Type 0 where
   pub statics : map part_of r.statics.items ≡ node_static_parts r.tree.now
   -- where it names a static parameter or a constant, no variable of its own hides it
   pub unhidden : list_all (is_statement_unhidden (texts_of r)) r.body.items ≡ true
-  -- each number is within range, and 32 bits hold those of variables
+  -- each number is within range
   pub declared_within : list_all (is_declared_within (counts_of r)) r.variables.items ≡ true
   pub body_within : list_all (is_statement_within (counts_of r)) r.body.items ≡ true
   pub calls_within :
       list_all (is_site_within (length nodes) (counts_of r)) r.calls.items ≡ true
-  pub variables_fit : length r.variables.items < 2 ^ 32

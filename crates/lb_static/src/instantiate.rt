@@ -10,7 +10,7 @@
 ghost use Rattle.std.specs.Prelude.{◌≡◌, ◌≤◌, ◌<◌, ◌+◌, ◌-◌, ◌^◌, ◌++◌, ◌∷◌, [], ℕ, true, length, option_map, slice_get, IfSome, IfOk, IfErr, OnOk};
 ghost use Rattle.std.specs.List.{list_all};
 ghost use Rattle.lb_static.specs.Instances.{Program, Path, instances_from};
-ghost use Rattle.lb_static.specs.InstanceTable.{instance_of, path_from, paths_after};
+ghost use Rattle.lb_static.specs.InstanceTable.{instance_of, path_from, paths_after, CallerStandsBefore, CallersStandBefore};
 ghost use Rattle.lb_static.specs.HeldValues.{value_of};
 ghost use Rattle.lb_static.specs.Names.{keeps_names};
 ghost use Rattle.lb_static.specs.ReachedNodes.{IsReached, is_linked, id_at};
@@ -288,6 +288,10 @@ fn enter(
     ensures used { OnOk result
         (HasUsed entered.old.specializations entered.new.specializations
         entered.old.instances.items entered.new.instances.items) }
+    ensures callers { OnOk result
+        (CallerStandsBefore (length entered.old.instances.items) entry.origin
+        → CallersStandBefore entered.old.instances.items
+        → CallersStandBefore entered.new.instances.items) }
     ensures stand { IfOk result (λ _. (P : Program) (p : Path) (n : ResolvedNode)
         → IsInstantiable P reached.now constants.now
         → slice_get reached.now.nodes.items entry.node.0 ≡ Some n → level P p ≡ entry.level

@@ -1,6 +1,6 @@
 //! What the names of a node stand for.
 
-ghost use Rattle.std.specs.Prelude.{◌≡◌, ◌++◌, ◌<◌, ◌^◌, [], length, OnOk, IfOk, IfErr};
+ghost use Rattle.std.specs.Prelude.{◌≡◌, ◌++◌, [], length, OnOk, IfOk, IfErr};
 ghost use Rattle.lb_syntax.specs.Grammar.{declared as declarations_in};
 ghost use Rattle.lb_syntax.specs.SourceView.{view_groups, view_node, view_source};
 ghost use Rattle.lb_syntax.specs.View.{view_static};
@@ -30,7 +30,6 @@ pub struct NodeScope<'a, 's> {
     variables: usize,
     pub ghost names_are: { declared ≡ declared_names (view_node tree.now) },
     pub ghost variables_are: { variables ≡ length (variable_names (view_node tree.now)) },
-    pub ghost places_fit: { variables < 2 ^ 32 },
     pub ghost globals_are: { globals.now.names ≡ names_in_source (view_source source.now) },
     pub ghost constants_are: { globals.now.constants ≡ length source.now.constants.items },
 }
@@ -65,13 +64,10 @@ fn declare_groups(
 
 /// Declares the variables of a node, in their order, and then its static parameters. Answers how
 /// many variables there are.
-///
-/// More variables than have places are more than fit in memory.
 fn declare_all(alloc: Global, declared: &mut Scope, tree: &Node) -> Result<usize, StaticError>
     requires { declared.old ≡ [] }
     ensures ok { OnOk result (declared.new ≡ declared_names (view_node tree.now)) }
     ensures variables { IfOk result (λ n. n ≡ length (variable_names (view_node tree.now))) }
-    ensures few { IfOk result (λ n. n < 2 ^ 32) }
     ensures err { IfErr result (λ e.
         IsNameFault e (are_distinct (declared_names (view_node tree.now)))) }
 {
@@ -79,9 +75,6 @@ fn declare_all(alloc: Global, declared: &mut Scope, tree: &Node) -> Result<usize
     declare_groups(alloc, declared, &tree.outputs)?;
     declare_groups(alloc, declared, &tree.locals)?;
     let variables = declared.len();
-    if variables > u32::MAX as usize {
-        return Err(StaticError::Memory);
-    }
     declare_names(alloc, declared, &tree.parameters)?;
     Ok(variables)
 }
@@ -125,7 +118,7 @@ impl<'a, 's> NodeScope<'a, 's> {
             ≡ is_variable (program_in self.now) (node_in self.now) name.now }
     {
         match self.declared.place(name.as_str()) {
-            Some(place) if place < self.variables => Some(VariableId(place as u32)),
+            Some(place) if place < self.variables => Some(VariableId(place)),
             _ => None,
         }
     }

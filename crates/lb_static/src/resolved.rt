@@ -10,7 +10,7 @@ use lb_syntax::tree::{ArrayIterator, BinaryOperator, Kind, Name, Node, Static, U
 
 /// The place of a variable among the inputs, outputs and locals of its node, in this order.
 #[derive(Clone, Copy, PartialEq, Eq, Debug)]
-pub struct VariableId(pub u32);
+pub struct VariableId(pub usize);
 
 /// The place of a static expression among those of its node.
 #[derive(Clone, Copy)]

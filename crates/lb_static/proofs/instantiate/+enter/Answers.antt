@@ -23,6 +23,7 @@ use Rattle.lb_static.specs.declared.table.SpecializationId.{SpecializationId}
 use Rattle.lb_static.proofs.Lists.{append_assoc}
 use Rattle.lb_static.proofs.InstanceSteps.{element_all, elsewhere, memory_alone, ok_when, some_known_later}
 use Rattle.lb_static.proofs.InstanceCalls.{entered_none, entered_more, refused_here, refused_below, all_entered, of_calls, below, of_indexes, index_step, call_step, calls_all}
+use Rattle.lb_static.proofs.InstanceCallers.{callers_begun, callers_specialized}
 use Rattle.lb_static.proofs.InstanceRows.{rows_none, rows_grown, rows_more, rows_specialized, known_stands, path_below, used_none, used_more, used_specialized}
 use Rattle.lb_static.proofs.CallSites.{call_read}
 use Rattle.lb_static.proofs.LinkedSpecializations.{called_known, called_later, none_called, called_next, all_called}
@@ -78,6 +79,9 @@ loop-call-init t c =
           used_none c.args.entered.now.specializations c.begin.new.entered.specializations
           (c.args.entered.now.instances.items ++ begun_row c.args.entry.origin ∷ [])
           c.begin.new.entered.instances.items c.in_ok-begun.ensures.same c.in_ok-begun.ensures.row;
+      callers =
+          callers_begun c.args.entered.now.instances.items c.begin.new.entered.instances.items
+          c.args.entry.origin c.in_ok-begun.ensures.row;
       stand = λ P p n w at low judged path.
           rows_none c.args.reached.now c.begin.new.entered.specializations
           (c.args.entered.now.instances.items ++ begun_row c.args.entry.origin ∷ [])
@@ -127,6 +131,7 @@ loop-index-init t c =
       linked_calls = λ P p n m w at am low judged linked_calls.
           (inv.linked_calls P p n w at low judged linked_calls).0;
       used = inv.used;
+      callers = inv.callers;
       stand = λ P p n m w at am low judged path.
           let rows = c.args.entered.now.instances.items ++ begun_row c.args.entry.origin ∷ [] in
           subst (HasRows c.args.reached.now c.loop-call.entered.specializations rows
@@ -187,6 +192,7 @@ loop-index-preserved t c =
           (c.args.entered.now.instances.items ++ begun_row c.args.entry.origin ∷ [])
           c.loop-index.entered.instances.items c.enter.new.entered.instances.items
           inv.used told.used;
+      callers = λ here all. told.callers inv.above (inv.callers here all);
       stand = λ P p n m w at am low judged path.
           let r = c.args.reached.now in
           let old = c.args.entered.now.instances.items in
@@ -363,6 +369,7 @@ loop-call-preserved t c =
             ],
           );
       used = inv.used;
+      callers = inv.callers;
       stand = λ P p n w at low judged path.
           let m = get_or nodes callee.node.0 n in
           let am = slice_get-get_or nodes callee.node.0 n c.callee_of-callee.ensures.within in
@@ -461,6 +468,17 @@ returns-clause-used t c =
     c.add_specialization.new.entered.instances.items c.args.entry.origin c.len-row.result x
     place c.loop-call.invariant.used (IfOk-at_ok _ e c.add_specialization.ensures.placed)
     (IfOk-at_ok _ e c.add_specialization.ensures.one_more))
+
+pub returns-clause-callers : goal.returns-clause-callers
+returns-clause-callers t c =
+    let place : c.len-row.result ≡ length c.args.entered.now.instances.items =
+    omega (arith, c.len-row.ensures) in
+    ok_when c.add_specialization.result _ (λ x e. λ here all.
+    callers_specialized c.args.entered.now.specializations c.loop-call.entered.specializations
+    c.args.entered.now.instances.items c.loop-call.entered.instances.items
+    c.add_specialization.new.entered.instances.items c.args.entry.origin c.len-row.result x
+    place c.loop-call.invariant.used (IfOk-at_ok _ e c.add_specialization.ensures.placed)
+    (c.loop-call.invariant.callers here all))
 
 pub returns-clause-stand : goal.returns-clause-stand
 returns-clause-stand t c =

@@ -4,7 +4,7 @@ use Rattle.lb_static.specs.Instances.{Program, Path}
 use Rattle.lb_static.specs.LinkedSpecializations.{AreCalled, AreLinked}
 use Rattle.lb_static.specs.Instantiation.{level}
 use Rattle.lb_static.specs.Instantiated.{IsInstantiable, AreJudged, AreEntered, HasGrown, IsKnown}
-use Rattle.lb_static.specs.InstanceTable.{path_from, paths_after}
+use Rattle.lb_static.specs.InstanceTable.{path_from, paths_after, CallerStandsBefore, CallersStandBefore}
 use Rattle.lb_static.specs.InstanceRows.{begun_row, HasUsed, HasRows}
 use Rattle.lb_static.specs.declared.resolved.ResolvedNode.{ResolvedNode}
 use Rattle.lb_static.proofs.InstanceCalls.{of_calls, of_indexes}
@@ -38,6 +38,9 @@ invariant-loop-call l =
           (take l.call n.calls.items) l.callees.items;
       used : HasUsed first l.entered.specializations
           (l.fn.entered.instances.items ++ begun_row l.entry.origin ∷ []) l.entered.instances.items;
+      callers : CallerStandsBefore (length l.fn.entered.instances.items) l.entry.origin
+          → CallersStandBefore l.fn.entered.instances.items
+          → CallersStandBefore l.entered.instances.items;
       stand : (P : Program) (p : Path) (n : ResolvedNode) → IsInstantiable P l.reached l.constants
           → slice_get l.reached.nodes.items l.entry.node.0 ≡ Some n → level P p ≡ l.entry.level
           → AreJudged P l.reached first
@@ -77,6 +80,9 @@ invariant-loop-index l =
           → AreLinked l.reached l.entered.specializations;
       used : HasUsed first l.entered.specializations
           (l.fn.entered.instances.items ++ begun_row l.entry.origin ∷ []) l.entered.instances.items;
+      callers : CallerStandsBefore (length l.fn.entered.instances.items) l.entry.origin
+          → CallersStandBefore l.fn.entered.instances.items
+          → CallersStandBefore l.entered.instances.items;
       stand : (P : Program) (p : Path) (n m : ResolvedNode) → IsInstantiable P l.reached l.constants
           → slice_get l.reached.nodes.items l.entry.node.0 ≡ Some n
           → slice_get l.reached.nodes.items l.callee.node.0 ≡ Some m

@@ -5,7 +5,7 @@ use Rattle.std.proofs.lemmas.Option.{slice_get_past, slice_get-map}
 use Rattle.std.specs.Prelude.{slice_get, option_map}
 use Rattle.lb_syntax.specs.Lists.{◌>>=◌}
 use Rattle.lb_static.specs.Instances.{Program, Root, Observer, instances_from}
-use Rattle.lb_static.specs.InstanceTable.{instance_of}
+use Rattle.lb_static.specs.InstanceTable.{instance_of, CallersStandBefore}
 use Rattle.lb_static.specs.ReachedNodes.{tree_at}
 use Rattle.lb_static.specs.ResolvedNodes.{node_of}
 use Rattle.lb_static.specs.LinkedSpecializations.{AreLinked}
@@ -20,6 +20,7 @@ use Rattle.lb_static.proofs.WholeInstantiation.{instantiable, none_judged, root_
 use Rattle.lb_static.proofs.instantiate.instantiate.Goals as goal
 use Rattle.lb_static.proofs.instantiate.instantiate.Goals.{in-Some+in_ok-id-in-Some, in_default-2, in_default, In_ok-root}
 use Rattle.lb_static.specs.InstanceRows.{HasUsed, HasRows}
+use Rattle.lb_static.proofs.InstanceCallers.{callers_none}
 use Rattle.lb_static.proofs.InstanceRows.{rows_grown, rows_more, used_more, are_instances}
 
 pub returns-in_err-root-clause-answer : goal.returns-in_err-root-clause-answer
@@ -209,6 +210,11 @@ root_used c =
     subst (λ l. HasUsed [] s l rows) c.new-2.ensures.items
     (subst (λ l. HasUsed l s c.new-2.result.items rows) c.new.ensures c.in_ok-root.ensures.used)
 
+root_callers : (c : In_ok-root) → CallersStandBefore c.enter.new.entered.instances.items
+root_callers c =
+    c.in_ok-root.ensures.callers tt
+    (subst CallersStandBefore (sym c.new-2.ensures.items) callers_none)
+
 pub returns-clause-rows : goal.returns-clause-rows
 returns-clause-rows c = λ P names reached values.
     let r = c.args.reached.now in
@@ -219,6 +225,7 @@ returns-clause-rows c = λ P names reached values.
     let before = root_entered here P w n found.1 in
     let stand = root_rows here P w n found.1 in
     let used = root_used here in
+    let callers = root_callers here in
     let root = instance_of Root (node_of n) [] in
     let of_root = instances_from P 65 root in
     let at_root = root_is P r reached n found.1 in
@@ -236,7 +243,8 @@ returns-clause-rows c = λ P names reached values.
     let alone = λ (h : (r.observer >>= tree_at r) ≡ None) (e : specializations.items ≡ first)
     (f : after.instances.items ≡ rows).
     are_instances P r table first rows of_root e f
-    (alone_are P root at_root (no_observer P r reached h)) stand used c.in_ok-root.ensures.room in
+    (alone_are P root at_root (no_observer P r reached h)) stand used c.in_ok-root.ensures.room
+    callers in
     elim c.match-reached.branch [
       | in-Some+in_ok-id-in-Some b ↦
           let within : b.in-Some.node.0 < length r.nodes.items =
@@ -257,6 +265,7 @@ returns-clause-rows c = λ P names reached values.
           (rows_grown r first last [] rows of_root b.in_ok-id-in-Some.ensures.grown stand) later)
           (used_more [] first last [] rows all used b.in_ok-id-in-Some.ensures.used)
           b.in_ok-id-in-Some.ensures.room
+          (b.in_ok-id-in-Some.ensures.callers tt callers)
       | in_default-2 b ↦
           let past : length r.nodes.items ≤ b.in-Some.node.0 =
           omega (arith, b.len.ensures, b.if-node-len.false) in
