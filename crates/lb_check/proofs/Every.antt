@@ -1,7 +1,7 @@
 -- What holds of each item of a list.
-use Rattle.std.proofs.Common.{◌≡◌, ℕ, zero, suc, ◌+◌, ◌<◌, Bool, true, List, [], ◌∷◌, ◌++◌, Option, Some, None, map, flat_map, refl, ap₂, subst, arith}
+use Rattle.std.proofs.Common.{◌≡◌, ℕ, zero, suc, ◌+◌, ◌<◌, Bool, true, false, cond, List, [], ◌∷◌, ◌++◌, Option, Some, None, map, flat_map, refl, ap₂, subst, arith}
 use Rattle.std.specs.Prelude.{◌||◌, IfSome}
-use Rattle.std.specs.List.{list_all, list_any, range_with_len}
+use Rattle.std.specs.List.{list_all, list_any, filter, range_with_len}
 use Rattle.lb_syntax.specs.Lists.{Every, some_of}
 use Rattle.lb_check.proofs.TruthValues.{and_first, and_second}
 
@@ -41,6 +41,18 @@ module _ {A : Type 0} (Q : A → Type 0) where
   pub Every-second : (xs ys : List A) → Every Q (xs ++ ys) → Every Q ys
   Every-second [] ys p = p
   Every-second (x ∷ xs) ys p = Every-second xs ys p.1
+
+-- those that pass a test
+pub Every-filter :
+    {A : Type 0} (Q : A → Type 0) (test : A → Bool) (xs : List A) → Every Q xs →
+    Every Q (filter test xs)
+Every-filter Q test [] h = tt
+Every-filter Q test (x ∷ xs) h = by (test x) (Every-filter Q test xs h.1)
+  where
+    by : (b : Bool) → Every Q (filter test xs) →
+        Every Q (cond b (x ∷ filter test xs) (filter test xs))
+    by true rest = (h.0, rest)
+    by false rest = rest
 
 -- the pieces of a `flat_map`
 module _ {A : Type 0} (Q : A → Type 0) {B : Type 0} (f : B → List A) where

@@ -9,7 +9,7 @@ use Rattle.lb_static.specs.Instantiation.{static_refusal, instantiation_refusal}
 use Rattle.lb_check.specs.Acceptance.{check_refusal}
 use Rattle.lb_check.specs.Solutions.{Inputs, Solves, AgreeAt, AreSame, HasOneHistory}
 use Rattle.lb_check.specs.Streams.{History}
-use Rattle.lb_check.specs.Verdicts.{Verdict, Passed, Fault, Assertion_fails, False, is_bad, is_false, some_at, is_fault, is_failed, property_path, property_columns, is_violated, decides, IsLeast, Ends, HasVerdict, IsOnlyVerdict}
+use Rattle.lb_check.specs.Verdicts.{Verdict, Passed, Fault, Undefined, Assertion_fails, False, is_bad, is_nil, is_false, some_at, is_fault, is_undefined, is_failed, property_path, property_columns, is_violated, decides, IsLeast, Ends, HasVerdict, IsOnlyVerdict}
 use Rattle.lb_check.proofs.Checks.{instantiation_kept}
 use Rattle.lb_check.proofs.Every.{Every-map, Every-both, Every-first, Every-second, any_same, flat_same}
 use Rattle.lb_check.proofs.SameInstances.{all_same_places, starts_agree}
@@ -19,6 +19,7 @@ use Rattle.lb_check.proofs.SameInstances.{all_same_places, starts_agree}
 -- two histories decide alike at each instant
 record DecideAlike (P : Program) (H G : History) : Type 0 where
   fault : (t : ℕ) → is_fault P H t ≡ is_fault P G t
+  undefined : (t : ℕ) → is_undefined P H t ≡ is_undefined P G t
   failed : (t : ℕ) → is_failed P H t ≡ is_failed P G t
   violated : (t : ℕ) → is_violated P H t ≡ is_violated P G t
 
@@ -69,6 +70,14 @@ module _ (P : Program) (H G : History) (same : AreSame P H G) where
           fault = λ t.
               any_same _ _ (instances P)
               (Every-map _ _ (λ here p. ap (some_at is_bad t) p.named) (instances P) places);
+          undefined = λ t.
+              ap₂ (λ a b. a || b)
+              (any_same _ _ (instances P)
+              (Every-map _ _ (λ here p. ap (some_at is_nil t) p.clocks) (instances P) places))
+              (ap₂ (λ a b. a || b)
+              (any_same _ _ (instances P)
+              (Every-map _ _ (λ here p. ap (some_at is_nil t) p.asserted) (instances P) places))
+              (ap (some_at is_nil t) property_same));
           failed = λ t.
               any_same _ _ (instances P)
               (Every-map _ _ (λ here p. ap (some_at is_false t) p.asserted) (instances P) places);
@@ -95,7 +104,8 @@ module _ (P : Program) (H G : History) (count : ℕ) (alike : DecideAlike P H G)
   decides_same : (t : ℕ) → decides P H t ≡ decides P G t
   decides_same t =
       ap₂ (λ a b. a || b) (alike.fault t)
-      (ap₂ (λ a b. a || b) (alike.failed t) (alike.violated t))
+      (ap₂ (λ a b. a || b) (alike.undefined t)
+      (ap₂ (λ a b. a || b) (alike.failed t) (alike.violated t)))
 
   least_same : (t u : ℕ) → IsLeast P H count t → IsLeast P G count u → t ≡ u
   least_same t u a b =
@@ -117,31 +127,49 @@ module _ (P : Program) (H G : History) (count : ℕ) (alike : DecideAlike P H G)
   fault_at : (t u : ℕ) → t ≡ u → is_fault P H t ≡ is_fault P G u
   fault_at t u e = alike.fault t ∙ ap (is_fault P G) e
 
+  undefined_at : (t u : ℕ) → t ≡ u → is_undefined P H t ≡ is_undefined P G u
+  undefined_at t u e = alike.undefined t ∙ ap (is_undefined P G) e
+
   failed_at : (t u : ℕ) → t ≡ u → is_failed P H t ≡ is_failed P G u
   failed_at t u e = alike.failed t ∙ ap (is_failed P G) e
 
   same_end : (v w : Verdict) → Ends P H count v → Ends P G count w → v ≡ w
   same_end Passed Passed a b = refl
   same_end Passed (Fault u) a b = absurd (passed u a b.0)
+  same_end Passed (Undefined u) a b = absurd (passed u a b.0)
   same_end Passed (Assertion_fails u) a b = absurd (passed u a b.0)
   same_end Passed (False u) a b = absurd (passed u a b.0)
   same_end (Fault t) Passed a b = absurd (passed_turned t a.0 b)
   same_end (Fault t) (Fault u) a b = ap Fault (least_same t u a.0 b.0)
+  same_end (Fault t) (Undefined u) a b =
+      absurd (contrary _ a.1 (fault_at t u (least_same t u a.0 b.0) ∙ b.1))
   same_end (Fault t) (Assertion_fails u) a b =
       absurd (contrary _ a.1 (fault_at t u (least_same t u a.0 b.0) ∙ b.1))
   same_end (Fault t) (False u) a b =
       absurd (contrary _ a.1 (fault_at t u (least_same t u a.0 b.0) ∙ b.1))
+  same_end (Undefined t) Passed a b = absurd (passed_turned t a.0 b)
+  same_end (Undefined t) (Fault u) a b =
+      absurd (contrary _ b.1 (sym (fault_at t u (least_same t u a.0 b.0)) ∙ a.1))
+  same_end (Undefined t) (Undefined u) a b = ap Undefined (least_same t u a.0 b.0)
+  same_end (Undefined t) (Assertion_fails u) a b =
+      absurd (contrary _ a.2 (undefined_at t u (least_same t u a.0 b.0) ∙ b.2))
+  same_end (Undefined t) (False u) a b =
+      absurd (contrary _ a.2 (undefined_at t u (least_same t u a.0 b.0) ∙ b.2))
   same_end (Assertion_fails t) Passed a b = absurd (passed_turned t a.0 b)
   same_end (Assertion_fails t) (Fault u) a b =
       absurd (contrary _ b.1 (sym (fault_at t u (least_same t u a.0 b.0)) ∙ a.1))
+  same_end (Assertion_fails t) (Undefined u) a b =
+      absurd (contrary _ b.2 (sym (undefined_at t u (least_same t u a.0 b.0)) ∙ a.2))
   same_end (Assertion_fails t) (Assertion_fails u) a b = ap Assertion_fails (least_same t u a.0 b.0)
   same_end (Assertion_fails t) (False u) a b =
-      absurd (contrary _ a.2 (failed_at t u (least_same t u a.0 b.0) ∙ b.2))
+      absurd (contrary _ a.3 (failed_at t u (least_same t u a.0 b.0) ∙ b.3))
   same_end (False t) Passed a b = absurd (passed_turned t a.0 b)
   same_end (False t) (Fault u) a b =
       absurd (contrary _ b.1 (sym (fault_at t u (least_same t u a.0 b.0)) ∙ a.1))
+  same_end (False t) (Undefined u) a b =
+      absurd (contrary _ b.2 (sym (undefined_at t u (least_same t u a.0 b.0)) ∙ a.2))
   same_end (False t) (Assertion_fails u) a b =
-      absurd (contrary _ b.2 (sym (failed_at t u (least_same t u a.0 b.0)) ∙ a.2))
+      absurd (contrary _ b.3 (sym (failed_at t u (least_same t u a.0 b.0)) ∙ a.3))
   same_end (False t) (False u) a b = ap False (least_same t u a.0 b.0)
 
 -- ## One history, one verdict

@@ -28,14 +28,14 @@ use Rattle.lb_check.proofs.TruthValues.{and_first, and_second}
 -- ## What is refused nowhere
 
 -- an instance that is entered is not too deep, and its sizes are in range
-abbrev IsEntered : Program → Instance → Type 0
+abbrev pub IsEntered : Program → Instance → Type 0
 IsEntered P c =
     (level P c.path ≤ 64) × (list_all (is_between P c 1 4096) (node_sizes c.node) ≡ true)
 
 low : (n : ℕ) → nat_le n 64 ≡ true → n ≤ 64
 low n e = grind (arith, nat_tests)
 
-all_entered :
+pub all_entered :
     (P : Program) (n : ℕ) (is : List Instance) → instantiation_refusal P n is ≡ None →
     Every (IsEntered P) is
 all_entered P n [] e = tt
@@ -74,7 +74,7 @@ module _ (P : Program) where
       ap (level P) (callee_path P here s.1 s.0 i c e))) _)) _)
 
   module _ (Q : Instance → Type 0) where
-    abbrev Low : Instance → Type 0
+    abbrev pub Low : Instance → Type 0
     Low c = (level P c.path ≤ 64) × Q c
 
     -- what holds of the instances below one, of which none is too deep, holds of those that each
@@ -110,7 +110,7 @@ module _ (P : Program) where
         by None h = absurd cc
         by (Some n) h = sym (ap (λ (i : Instance). i.path) (some_same _ _ h))
 
-    abbrev CallSuch : List Instance → Type 0
+    abbrev pub CallSuch : List Instance → Type 0
     CallSuch is = Every (λ i. Every Q (children P i)) is
 
     -- the instances below a start
@@ -130,7 +130,7 @@ module _ (P : Program) where
         let f = bound P.observer (start_at P Observer) c e in
         ap (level P) (started Observer f.value c f.gives)
 
-    all_children : Every Low (instances P) → CallSuch (instances P)
+    pub all_children : Every Low (instances P) → CallSuch (instances P)
     all_children h =
         let of_root = listed (instances_from P 65) (instance_at P Root) in
         let of_observer = listed (instances_from P 65) (instance_at P Observer) in

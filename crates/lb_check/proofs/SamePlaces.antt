@@ -6,6 +6,7 @@ use Rattle.std.specs.List.{list_all}
 use Rattle.lb_syntax.specs.Lists.{Every}
 use Rattle.lb_syntax.specs.Tree.{Name, Expr, Statement, Equation, Assertion}
 use Rattle.lb_static.specs.Instances.{Program, Instance, sites, statement_sites, node_sites}
+use Rattle.lb_static.specs.Parts.{among, clock_names}
 use Rattle.lb_static.specs.DataTypes.{DataType, truth, is_type, variables}
 use Rattle.lb_static.specs.Instantiation.{are_same}
 use Rattle.lb_check.specs.ClockRules.{is_clocked, is_occurrence_clocked, are_declared_clocks}
@@ -15,9 +16,9 @@ use Rattle.lb_check.specs.Solutions.{AgreeAt, streams_at}
 use Rattle.lb_check.specs.Streams.{History}
 use Rattle.lb_check.specs.TypeRules.{is_statement_typed, is_clock_typed, is_typed}
 use Rattle.lb_check.specs.Types.{data_types}
-use Rattle.lb_check.specs.Verdicts.{assertion_of, assertions, memory_operand, memory_operands, variable_columns, memory_columns, assertion_columns, named_places}
+use Rattle.lb_check.specs.Verdicts.{assertion_of, assertions, memory_operand, memory_operands, variable_columns, memory_columns, assertion_columns, named_places, clock_variables, clock_columns}
 use Rattle.lb_check.proofs.DeterminedClocks.{OfCalled, fore, aft, sited_first, sited_second, determined}
-use Rattle.lb_check.proofs.Every.{Every-append, Every-found, Every-tested, flat_same}
+use Rattle.lb_check.proofs.Every.{Every-append, Every-filter, Every-found, Every-tested, flat_same}
 use Rattle.lb_check.proofs.NamedClocks.{IsOver, clock_or_over, declared_over}
 use Rattle.lb_check.proofs.SameStreams.{Same, IsSame, SitesHold, AreLawful, KeepsSame, same_streams}
 use Rattle.lb_check.proofs.TruthValues.{and_first, and_second}
@@ -38,9 +39,10 @@ typed_truth P (Some []) e = absurd cc
 typed_truth P (Some (t ∷ [])) e = (t, refl)
 typed_truth P (Some (t ∷ (u ∷ ts))) e = let end = and_second (is_type t truth) false e in absurd cc
 
--- the named places of an instance have the same streams
+-- the named places of an instance, and its variables that serve as clocks, have the same streams
 pub record SamePlaces (P : Program) (H G : History) (here : Instance) : Type 0 where
   pub named : named_places P H here ≡ named_places P G here
+  pub clocks : clock_columns H here ≡ clock_columns G here
   pub asserted : assertion_columns P H here ≡ assertion_columns P G here
 
 module _ (P : Program) (H G : History) (here : Instance) (agree : AgreeAt H G here) where
@@ -127,6 +129,11 @@ module _ (P : Program) (H G : History) (here : Instance) (agree : AgreeAt H G he
       let own : variable_columns H here ≡ variable_columns G here =
       flat_same (λ d. H.columns here.path d.name) (λ d. G.columns here.path d.name)
       (variables here.node) agree.columns in
+      let clocks : clock_columns H here ≡ clock_columns G here =
+      flat_same (λ d. H.columns here.path d.name) (λ d. G.columns here.path d.name)
+      (clock_variables here.node)
+      (Every-filter (λ d. H.columns here.path d.name ≡ G.columns here.path d.name)
+      (λ d. among d.name (clock_names here.node)) (variables here.node) agree.columns) in
       let kept : memory_columns P H here ≡ memory_columns P G here =
       flat_same (streams_at P H here) (streams_at P G here) (memory_operands P here)
       (Every-found Equal (memory_operand P here) (node_occurrences P here.node) body.0) in
@@ -135,5 +142,6 @@ module _ (P : Program) (H G : History) (here : Instance) (agree : AgreeAt H G he
       (Every-found Equal (λ s. assertion_of s.0 s.1) (statements P here.node) body.1) in
       record {
         named = ap₂ (λ xss yss. xss ++ yss) own (ap₂ (λ xss yss. xss ++ yss) kept asserted);
+        clocks = clocks;
         asserted = asserted;
       }

@@ -13,9 +13,9 @@ use Rattle.lb_static.specs.StaticValues.{named}
 use Rattle.lb_check.specs.ClockRules.{are_declared_clocks, are_given_variables, is_call_clocked, is_on_clock}
 use Rattle.lb_check.specs.Clocks.{Clock, Base, On, clock_of, clock_or, declared_clock}
 use Rattle.lb_check.specs.Occurrences.{Occurrence, call_count, call_clocks, occurrences, occurrences_in, occurrences_each}
-use Rattle.lb_check.specs.Scalars.{or_fault, Integer, Boolean, two_scalars, one_scalar, at_most_one, none_true}
+use Rattle.lb_check.specs.Scalars.{or_fault, Integer, Boolean, two_scalars, one_scalar, at_most_one, none_true, first_value}
 use Rattle.lb_check.specs.Solutions.{AgreeAt, streams_at}
-use Rattle.lb_check.specs.Streams.{History, presence, signed, constantly, along, along_two, choices, across, first_then, previous, sample, latest, gathered, last_of, iterated, symbols, streams, all_streams, number, part_count, first_of, outputs_of, name_streams}
+use Rattle.lb_check.specs.Streams.{History, presence, signed, constantly, along, along_two, choices, across, first_then, previous, sample, latest, gathered, last_of, iterated, symbols, streams, all_streams, number, part_count, outputs_of, name_streams}
 use Rattle.lb_check.specs.Types.{data_types, all_types, singly, name_data_type, from_one, from_truths, unary_type, binary_type, common_type, array_of, index_type, slice_type, join_type, operator_types}
 use Rattle.lb_check.specs.Verdicts.{memory_operand}
 use Rattle.lb_check.proofs.ClockTests.{clock_same}
@@ -204,13 +204,13 @@ module _ (P : Program) (H G : History) (here : Instance) (agree : AgreeAt H G he
         let y = same_streams k n a (i.first ∷ []) i.is_first o l.0 l.1 in
         let z = same_streams k (n + call_count a) b (i.second ∷ []) i.is_second o r.0 r.1 in (
           ap₂ (zip2 first_then) y.0
-              (ap₂ (λ bs xss. map (previous (first_of P here b) bs) xss) (on k o) z.0),
+              (ap₂ (λ bs xss. map (previous first_value bs) xss) (on k o) z.0),
           (z.0, Every-append KeepsSame _ _ y.1 z.1),
         )
     same_streams k n (Pre a) ts e o h s =
         let i = one (data_types P here a) Some ts e in
         let z = same_streams k n a (i.data_type ∷ []) i.is o h.1 s in
-        (ap₂ (λ bs xss. map (previous (first_of P here a) bs) xss) (on k o) z.0, (z.0, z.1))
+        (ap₂ (λ bs xss. map (previous first_value bs) xss) (on k o) z.0, (z.0, z.1))
     same_streams k n (When a x sign) ts e o h s =
         let own = declared_clock here.node x in
         let t = bound (from_truths (singly (name_data_type P here x))) _ ts e in
@@ -226,7 +226,7 @@ module _ (P : Program) (H G : History) (here : Instance) (agree : AgreeAt H G he
         (λ c same. same.declared) own n a i.data_type i.is
         h.1 s) in
         let z = same_streams own n a (i.data_type ∷ []) i.is over h.1 s in
-        (ap₂ (λ bs xss. map (latest (first_of P here a) bs) xss) (on k o) z.0, (z.0, z.1))
+        (ap₂ (λ bs xss. map (latest first_value bs) xss) (on k o) z.0, (z.0, z.1))
     same_streams k n (Replicate a m) ts e o h s =
         let c = bound (static_count P here m) _ ts e in
         let i = one (data_types P here a) (array_of c.value) ts c.gives in

@@ -1,7 +1,7 @@
 -- What one scalar element holds at one instant, and the tables of the data operators.
--- Source: Lustre V6 reference manual, data operators. Faults and strictness are this project's
--- rule.
-use Rattle.std.specs.Prelude.{Bool, true, false, not, ◌&&◌, ◌||◌, nat_le, nat_eq, ℤ, pos, int_lt, int_le, Option, List, [], ◌∷◌, count_by, option_map}
+-- Source: Lustre V6 reference manual, data operators and the undefined value nil. Faults and
+-- strictness are this project's rule.
+use Rattle.std.specs.Prelude.{Bool, true, false, not, ◌&&◌, ◌||◌, nat_le, nat_eq, ℤ, int_lt, int_le, Option, List, [], ◌∷◌, count_by, option_map}
 use Rattle.std.specs.Ordering.{int_eq}
 use Rattle.lb_syntax.specs.declared.tree.UnaryOperator.{UnaryOperator}
 use Rattle.lb_syntax.specs.declared.tree.UnaryOperator.TheVariants.{Not, Negate}
@@ -12,10 +12,12 @@ use Rattle.lb_syntax.specs.declared.tree.Kind.TheVariants.{Int as Int_kind, Bool
 use Rattle.lb_syntax.specs.Lists.{either_or}
 use Rattle.lb_static.specs.Arithmetic.{is_int, arithmetic, negated}
 
--- `Bad` is the value of a fault
+-- `Nil` is the undefined value, which a memory holds before its first tick; `Bad` is the value of a
+-- fault
 pub data Scalar : Type 0 where
   Integer : ℤ → Scalar
   Boolean : Bool → Scalar
+  Nil : Scalar
   Bad : Scalar
 
 -- absent, or a scalar
@@ -28,11 +30,12 @@ Stream = List Cell
 
 -- ## Strictness
 
--- a data operator with a faulty operand has the value of a fault, and else this result; the one
--- place that says so
+-- a data operator with a faulty operand has the value of a fault, else with a nil operand nil, and
+-- else this result; the one place that says so
 abbrev pub strict : List Scalar → Scalar → Scalar
 strict [] result = result
 strict (Bad ∷ vs) result = Bad
+strict (Nil ∷ vs) result = strict vs Nil
 strict (v ∷ vs) result = strict vs result
 
 -- ## Operators with one operand, and with two
@@ -83,10 +86,11 @@ one_scalar op v = strict (v ∷ []) (one_value op v)
 
 -- ## `if`, `#` and `nor`
 
--- the chosen branch; the other one may be faulty
+-- the chosen branch, where the other one may be faulty or nil; nil where the condition is
 abbrev pub chosen : Scalar → Scalar → Scalar → Scalar
 chosen (Boolean true) v w = v
 chosen (Boolean false) v w = w
+chosen Nil v w = Nil
 chosen c v w = Bad
 
 abbrev pub is_true : Scalar → Bool
@@ -101,21 +105,24 @@ at_most_one vs = strict vs (Boolean (nat_le (count_by is_true vs) 1))
 abbrev pub none_true : List Scalar → Scalar
 none_true vs = strict vs (Boolean (nat_eq (count_by is_true vs) 0))
 
--- ## Kinds
+-- ## Memories
 
 -- the value of a memory before its first tick; the one place that says so
-abbrev pub first_value : Kind → Scalar
-first_value Int_kind = Integer (pos 0)
-first_value Bool_kind = Boolean false
+abbrev pub first_value : Scalar
+first_value = Nil
 
--- whether a scalar is one of this kind; the value of a fault is one of each
+-- ## Kinds
+
+-- whether a scalar is one of this kind; nil and the value of a fault are of each
 abbrev pub is_of_kind : Kind → Scalar → Bool
 is_of_kind Int_kind (Integer z) = is_int z
 is_of_kind Bool_kind (Boolean b) = true
+is_of_kind kind Nil = true
 is_of_kind kind Bad = true
 is_of_kind kind v = false
 
--- whether a scalar is one that a trace may give: one of this kind, and no fault
+-- whether a scalar is one that a trace may give: one of this kind, neither nil nor a fault
 abbrev pub is_given : Kind → Scalar → Bool
+is_given kind Nil = false
 is_given kind Bad = false
 is_given kind v = is_of_kind kind v

@@ -120,7 +120,7 @@ column_of rows j = map (λ row. slice_get row j) rows
 abbrev pub columns_of : ℕ → Inputs → List Stream
 columns_of n rows = map (column_of rows) (range_with_len 0 n)
 
--- the scalars of an instant have these kinds and no fault
+-- the scalars of an instant have these kinds, and none is nil or a fault
 abbrev pub is_row : List Kind → List Scalar → Bool
 is_row [] [] = true
 is_row (kind ∷ kinds) (v ∷ vs) = is_given kind v && is_row kinds vs

@@ -101,7 +101,7 @@ pub record History : Type 0 where
   pub ticks : Path → List Bool
   pub columns : Path → Name → List Stream
 
--- whether a cell has this sign; the value of a fault has neither
+-- whether a cell has this sign; nil and the value of a fault have neither
 abbrev pub shows : Bool → Cell → Bool
 shows sign (Some (Boolean b)) = same sign b
 shows sign x = false
@@ -152,10 +152,6 @@ module _ (P : Program) (here : Instance) where
   abbrev pub data_type : Expr → DataType
   data_type e = either_or (data_types P here e >>= only) int
 
-  -- the first value of a memory for an expression
-  abbrev pub first_of : Expr → Scalar
-  first_of e = first_value (data_type e).kind
-
   -- the scalar elements of one element of an array
   abbrev pub part_count : Expr → ℕ
   part_count e = product (tail_of (data_type e).sizes)
@@ -193,16 +189,16 @@ abbrev mutual
       zip2 first_then (streams P H here k n a) (streams P H here k (n + call_count a) b)
   streams P H here k n (Fby a b) =
       zip2 first_then (streams P H here k n a)
-      (map (previous (first_of P here b) (presence H here.path k))
+      (map (previous first_value (presence H here.path k))
       (streams P H here k (n + call_count a) b))
   streams P H here k n (Pre a) =
-      map (previous (first_of P here a) (presence H here.path k)) (streams P H here k n a)
+      map (previous first_value (presence H here.path k)) (streams P H here k n a)
   streams P H here k n (When a x sign) =
       let own = declared_clock here.node x in
       map (zip2 sample (presence H here.path (On own x sign))) (streams P H here own n a)
   streams P H here k n (Current a) =
       let own = clock_or (clock_of P here.node a) in
-      map (latest (first_of P here a) (presence H here.path k)) (streams P H here own n a)
+      map (latest first_value (presence H here.path k)) (streams P H here own n a)
   streams P H here k n (Replicate a m) = copies (number P here m) (streams P H here k n a)
   streams P H here k n (Index a i) =
       take (part_count P here a)

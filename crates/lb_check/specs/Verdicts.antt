@@ -2,18 +2,19 @@
 -- Source: this project's rule, after the 1993 paper on synchronous observers: an assertion is an
 -- assumption on the environment, and the property is judged only while the assumptions have held.
 use Rattle.std.specs.Prelude.{◌≡◌, ℕ, zero, suc, ◌+◌, ◌<◌, Bool, true, false, ◌||◌, Option, Some, None, List, ◌++◌, map, length, flat_map, slice_get, if◌then◌else◌}
-use Rattle.std.specs.List.{list_any}
+use Rattle.std.specs.List.{list_any, filter}
 use Rattle.lb_syntax.specs.Lists.{some_of, listed}
-use Rattle.lb_syntax.specs.Tree.{Name, Expr, Fby, Pre, Current, Node, Statement, Equation, Assertion}
+use Rattle.lb_syntax.specs.Tree.{Name, Expr, Fby, Pre, Current, Declaration, Node, Statement, Equation, Assertion}
 use Rattle.lb_static.specs.Instances.{Program, Instance, Path, Root, Observer, instance_at, instances}
+use Rattle.lb_static.specs.Parts.{among, clock_names}
 use Rattle.lb_static.specs.DataTypes.{variables}
-use Rattle.lb_check.specs.Scalars.{Boolean, Bad, Cell, Stream}
+use Rattle.lb_check.specs.Scalars.{Boolean, Nil, Bad, Cell, Stream}
 use Rattle.lb_check.specs.Clocks.{Clock, clock_of, clock_or}
 use Rattle.lb_check.specs.Occurrences.{Occurrence, at, call_count, node_occurrences, statements}
 use Rattle.lb_check.specs.Streams.{History}
 use Rattle.lb_check.specs.Solutions.{Inputs, Solves, streams_at}
 pub use Rattle.lb_check.specs.declared.verdict.Verdict.{Verdict}
-pub use Rattle.lb_check.specs.declared.verdict.Verdict.TheVariants.{Passed, Fault, Assertion as Assertion_fails, False}
+pub use Rattle.lb_check.specs.declared.verdict.Verdict.TheVariants.{Passed, Fault, Undefined, Assertion as Assertion_fails, False}
 
 -- ## Named places
 
@@ -55,12 +56,26 @@ abbrev pub named_places : Program → History → Instance → List Stream
 named_places P H here =
     variable_columns H here ++ (memory_columns P H here ++ assertion_columns P H here)
 
+-- the variables of a node that serve as clocks: some `when` of the node names them
+abbrev pub clock_variables : Node → List Declaration
+clock_variables n = filter (λ d. among d.name (clock_names n)) (variables n)
+
+-- the streams of those of an instance
+abbrev pub clock_columns : History → Instance → List Stream
+clock_columns H here =
+    flat_map (λ d. H.columns here.path d.name) (clock_variables here.node)
+
 -- ## What happens at an instant
 
 -- a cell is present and holds a fault
 abbrev pub is_bad : Option Cell → Bool
 is_bad (Some (Some Bad)) = true
 is_bad x = false
+
+-- a cell is present and nil
+abbrev pub is_nil : Option Cell → Bool
+is_nil (Some (Some Nil)) = true
+is_nil x = false
 
 -- a cell is present and false
 abbrev pub is_false : Option Cell → Bool
@@ -93,11 +108,20 @@ property_columns P H =
 abbrev pub is_violated : Program → History → ℕ → Bool
 is_violated P H t = some_at is_false t (property_columns P H)
 
+-- nil stands where a truth is wanted: in a variable that serves as a clock, an assertion or the
+-- property
+abbrev pub is_undefined : Program → History → ℕ → Bool
+is_undefined P H t =
+    list_any (λ here. some_at is_nil t (clock_columns H here)) (instances P)
+    || (list_any (λ here. some_at is_nil t (assertion_columns P H here)) (instances P)
+    || some_at is_nil t (property_columns P H))
+
 -- ## The verdict
 
--- one of the three happens
+-- one of the four happens
 abbrev pub decides : Program → History → ℕ → Bool
-decides P H t = is_fault P H t || (is_failed P H t || is_violated P H t)
+decides P H t =
+    is_fault P H t || (is_undefined P H t || (is_failed P H t || is_violated P H t))
 
 -- one happens at this instant, which is one of so many, and none before
 pub record IsLeast (P : Program) (H : History) (count t : ℕ) : Type 0 where
@@ -105,15 +129,19 @@ pub record IsLeast (P : Program) (H : History) (count t : ℕ) : Type 0 where
   pub happens : decides P H t ≡ true
   pub not_before : (s : ℕ) → s < t → decides P H s ≡ false
 
--- a history over so many instants ends with a verdict: at the least instant a fault comes before an
--- assertion, and an assertion before the property
+-- a history over so many instants ends with a verdict: at the least instant a fault comes before
+-- what is undefined, that before an assertion, and an assertion before the property
 abbrev pub Ends : Program → History → ℕ → Verdict → Type 0
 Ends P H count Passed = (t : ℕ) → t < count → decides P H t ≡ false
 Ends P H count (Fault t) = IsLeast P H count t × (is_fault P H t ≡ true)
+Ends P H count (Undefined t) =
+    IsLeast P H count t × (is_fault P H t ≡ false) × (is_undefined P H t ≡ true)
 Ends P H count (Assertion_fails t) =
-    IsLeast P H count t × (is_fault P H t ≡ false) × (is_failed P H t ≡ true)
+    IsLeast P H count t × (is_fault P H t ≡ false) × (is_undefined P H t ≡ false)
+    × (is_failed P H t ≡ true)
 Ends P H count (False t) =
-    IsLeast P H count t × (is_fault P H t ≡ false) × (is_failed P H t ≡ false)
+    IsLeast P H count t × (is_fault P H t ≡ false) × (is_undefined P H t ≡ false)
+    × (is_failed P H t ≡ false)
 
 -- the verdict of a trace
 abbrev pub HasVerdict : Program → Inputs → Verdict → Type 0
@@ -130,6 +158,7 @@ pub record IsOnlyVerdict (P : Program) (X : Inputs) (v : Verdict) : Type 0 where
 abbrev pub judged : Program → History → ℕ → Verdict
 judged P H t =
     if is_fault P H t then Fault t else
+    if is_undefined P H t then Undefined t else
     if is_failed P H t then Assertion_fails t else
     if is_violated P H t then False t else Passed
 

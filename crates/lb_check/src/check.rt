@@ -2,13 +2,13 @@
 
 ghost use Rattle.std.specs.Prelude.{◌≡◌, IfOk, string_bytes};
 ghost use Rattle.lb_syntax.specs.Lists.{listed};
-ghost use Rattle.lb_static.specs.Elaborated.{elaborated_program};
+ghost use Rattle.lb_static.specs.Elaborated.{elaborated_program, IsLawful};
 ghost use Rattle.lb_static.specs.Instances.{Program};
 ghost use Rattle.lb_static.specs.ReachedNodes.{tree_at};
 ghost use Rattle.lb_check.specs.Checked.{IsAnswer, IsRefusal};
 ghost use Rattle.lb_check.specs.JudgedPrograms.{IsJudged};
 
-use crate::checked::Checked;
+use crate::checked::{Checked, Checking};
 use crate::clock_rules::ill_clocked_node;
 use crate::definition_rules::ill_defined_node;
 use crate::error::CheckError;
@@ -55,10 +55,11 @@ fn broken_rule(
 /// program again.
 pub fn check<'s>(alloc: Global, elab: Elab<'s>) -> Result<Checked<'s>, CheckError>
     ensures answer { IsAnswer (elaborated_program elab.entry) result }
-    ensures same { IfOk result (λ c. c ≡ elab.entry) }
+    ensures same { IfOk result (λ c. c.elab ≡ elab.entry) }
+    ensures lawful { IsLawful elab.entry }
 {
     match broken_rule(alloc, elab.reached(), elab.table())? {
         Some(error) => Err(error),
-        None => Ok(Checked::new(elab)),
+        None => Ok(Checked::new(Checking { elab })),
     }
 }

@@ -7,61 +7,68 @@ use lb_static::elab::Elab;
 use lb_static::signature::Signature;
 use std::marker::Model;
 
+/// A program that keeps the rules of types, clocks and definitions, and what is found of it.
+#[derive(Drop)]
+pub struct Checking<'s> {
+    /// The program, elaborated.
+    pub elab: Elab<'s>,
+}
+
 /// An elaborated program that keeps the rules of types, clocks and definitions.
 ///
-/// Contracts see the elaboration, which names the program. That it is true of this program, and
+/// Contracts see what is found of it, which names the program. That it is true of this program, and
 /// that the program keeps the rules, is known of every `Checked`; the read calls say it.
 #[derive(Drop)]
 pub struct Checked<'s> {
-    elab: Elab<'s>,
+    checking: Checking<'s>,
 }
 
 impl<'s> Model for Checked<'s> {
     ghost use mir.Syntax.{named};
     ghost use Rattle.std.specs.Prelude.{[]};
-    ghost use Rattle.lb_static.specs.contracts.elab.Elaboration.{the_row};
-    ghost use Rattle.lb_static.specs.declared.elab.Elaboration.{Elaboration};
+    ghost use Rattle.lb_check.specs.contracts.checked.Checking.{the_row};
+    ghost use Rattle.lb_check.specs.declared.checked.Checking.{Checking as CheckingValue};
     ghost use Rattle.lb_check.specs.LawfulPrograms.{IsChecked};
 
-    ghost Value = { Elaboration };
+    ghost Value = { CheckingValue };
 
     ghost coded = { (the_row (record { mir = named 0; lft = [] })).coded };
 
-    ghost view = { λ c. c.elab };
+    ghost view = { λ c. c.checking };
 
-    ghost invariant = { λ c. IsChecked c.elab };
+    ghost invariant = { λ c. IsChecked c.checking };
 }
 
 impl<'s> Checked<'s> {
-    /// An elaborated program that keeps the rules.
-    pub(crate) fn new(elab: Elab<'s>) -> Checked<'s>
-        requires { IsChecked elab }
-        ensures { result ≡ elab.entry }
+    /// A program that keeps the rules.
+    pub(crate) fn new(checking: Checking<'s>) -> Checked<'s>
+        requires { IsChecked checking }
+        ensures { result ≡ checking.entry }
     {
-        Checked { elab }
+        Checked { checking }
     }
 
     /// The program, elaborated.
     pub fn elab(&self) -> &Elab<'s>
-        ensures value { result.now ≡ self.now }
+        ensures value { result.now ≡ self.now.elab }
         ensures lawful { IsChecked self.now }
     {
-        &self.elab
+        &self.checking.elab
     }
 
     /// The scalar input elements of the node under test, in order.
     pub fn signature(&self) -> &Signature
-        ensures value { result.now ≡ self.now.signature }
+        ensures value { result.now ≡ self.now.elab.signature }
         ensures lawful { IsChecked self.now }
     {
-        self.elab.signature()
+        self.checking.elab.signature()
     }
 
     /// The scalar input elements of the node under test, with nothing else kept.
     pub fn into_signature(self) -> Signature
-        ensures value { result ≡ self.entry.signature }
+        ensures value { result ≡ self.entry.elab.signature }
         ensures lawful { IsChecked self.entry }
     {
-        self.elab.into_signature()
+        self.checking.elab.into_signature()
     }
 }

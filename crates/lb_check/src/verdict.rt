@@ -2,14 +2,18 @@
 
 /// What the node under test, or its observer, comes to on one trace.
 ///
-/// The first instant at which something goes wrong decides; at one instant a fault comes before a
-/// failed assertion, and that before a false property. Instants count from 0.
+/// The first instant at which something goes wrong decides; at one instant a fault comes before
+/// what is undefined, that before a failed assertion, and that before a false property. Instants
+/// count from 0.
 #[derive(Clone, Copy)]
 pub enum Verdict {
     /// Nothing went wrong at any instant.
     Passed,
     /// An arithmetic fault occurred at this instant.
     Fault(u32),
+    /// An assertion, the property or a variable that serves as a clock was nil at this instant: it
+    /// hangs on a memory before its first tick.
+    Undefined(u32),
     /// An assertion was false at this instant: an assumption on the environment did not hold.
     Assertion(u32),
     /// The property was false at this instant.
