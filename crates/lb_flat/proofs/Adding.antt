@@ -1,6 +1,6 @@
 -- Where the equations that the small words of expansion add hold, so do those before, and the
 -- elements found have the streams of their operator.
-use Rattle.std.proofs.Common.{◌≡◌, ℕ, suc, List, [], ◌∷◌, false, Option, Some, map, length, fold, refl, sym, ap, ap₂, ◌∙◌}
+use Rattle.std.proofs.Common.{◌≡◌, ℕ, suc, List, [], ◌∷◌, false, Option, map, length, fold, refl, sym, ap, ap₂, ◌∙◌}
 use Rattle.lb_syntax.specs.declared.tree.UnaryOperator.TheVariants.{Not}
 use Rattle.lb_syntax.specs.declared.tree.BinaryOperator.{BinaryOperator}
 use Rattle.lb_syntax.specs.declared.tree.BinaryOperator.TheVariants.{Or, And}
@@ -14,7 +14,7 @@ use Rattle.lb_flat.specs.Flat.{FlatClock, Operation, Constant, ApplyUnary, Apply
 use Rattle.lb_flat.specs.Emit.{State, Emitted, numbered, numbers, add, push, chosen_by, chained, twice, negated, emit_nor, emit_at_most_one, emit_symbol}
 use Rattle.lb_flat.proofs.Lists.{Every-first, Every-second}
 use Rattle.lb_flat.proofs.Columns.{column_long, instants_long}
-use Rattle.lb_flat.proofs.Counting.{Count, more, read_by, any_counted, two_counted, any_step, two_step, none_yet, not_two_yet, none_chained, at_most_one_counts, AllTruths, IsTruth}
+use Rattle.lb_flat.proofs.Counting.{Count, Counted, more, read_by, any_counted, two_counted, any_step, two_step, none_yet, not_two_yet, none_chained, at_most_one_counts, AllTruths, IsTruth}
 
 module _ (X : Inputs) (F : List Stream) where
   -- the streams of some elements
@@ -242,7 +242,7 @@ module _ (X : Inputs) (F : List Stream) where
       let truths = twice_truths k t s.next s.next is all.before in
       let n = negated_sound k t x _ (λ g.
       let p = push_sound k s start (twice_before k t s.next s.next is g) in
-      twice_sound k t s.next s.next is (map (held (Some 0)) bs) g
+      twice_sound k t s.next s.next is (map (held (Counted 0)) bs) g
       (p.new ∙ none_yet bs) (p.new ∙ not_two_yet bs)) h in
       let p = push_sound k s (Constant (Boolean false)) n.before in
       record {

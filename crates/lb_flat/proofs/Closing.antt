@@ -9,10 +9,10 @@ use Rattle.lb_syntax.specs.declared.tree.ArrayIterator.TheVariants.{Map, Red, Fi
 use Rattle.lb_syntax.specs.Lists.{Every, zip2, tail_of}
 use Rattle.lb_syntax.specs.Tree.{Name, Node_named, Symbol, Expr, Literal, Truth, Variable, Group, Unary, Binary, If, Arrow, Fby, Pre, Current, When, Replicate, Index, Slice, Join, Array, AtMostOne, Nor, Call, Iterate, Exprs, Nil, Cons, Declaration}
 use Rattle.lb_static.specs.Instances.{Program, Instance, Path, Child, node_named}
-use Rattle.lb_check.specs.Scalars.{Boolean}
+use Rattle.lb_check.specs.Scalars.{Boolean, first_value}
 use Rattle.lb_check.specs.Clocks.{Clock, On, declared_clock}
 use Rattle.lb_check.specs.Occurrences.{call_clocks}
-use Rattle.lb_check.specs.Streams.{first_of, number, outputs_of, gathered, last_of, iterated}
+use Rattle.lb_check.specs.Streams.{number, outputs_of, gathered, last_of, iterated}
 use Rattle.lb_flat.specs.Flat.{FlatClock, Operation, Constant, ApplyUnary, ApplyBinary, Choose, FirstThen, Previous, Latest, Sample, FlatEquation}
 use Rattle.lb_flat.specs.Run.{clock_reads, reads, keeps}
 use Rattle.lb_flat.specs.Layouts.{Layout, flat_clock}
@@ -336,12 +336,12 @@ module _ (V : ℕ) where
           let x = tight k n s a c in
           let y = keep_tight _ _ (tight k _ _ b x.state) in
           two_tight _ (clocks_below k) s _ _ (FirstThen false) (λ n i j p q. (p, (q, tt)))
-          x (one_tight _ (clocks_below k) _ _ (Previous (first_of P here b)) (λ n i p. (p, tt)) y)
+          x (one_tight _ (clocks_below k) _ _ (Previous first_value) (λ n i p. (p, tt)) y)
       tight k n s (Pre a) c =
-          one_tight _ (clocks_below k) s _ (Previous (first_of P here a)) (λ n i p. (p, tt))
+          one_tight _ (clocks_below k) s _ (Previous first_value) (λ n i p. (p, tt))
           (keep_tight s _ (tight k n s a c))
       tight k n s (Current a) c =
-          one_tight _ (clocks_below k) s _ (Latest (first_of P here a)) (λ n i p. (p, tt))
+          one_tight _ (clocks_below k) s _ (Latest first_value) (λ n i p. (p, tt))
           (keep_tight s _ (tight _ n s a c))
       tight k n s (When a x sign) c =
           one_tight _ (clocks_below (On (declared_clock here.node x) x sign)) s _ Sample

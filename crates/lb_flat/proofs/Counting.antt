@@ -4,19 +4,25 @@ use Rattle.std.proofs.lemmas.List.Sums.{sum_by-cons}
 use Rattle.lb_syntax.specs.declared.tree.UnaryOperator.TheVariants.{Not}
 use Rattle.lb_syntax.specs.declared.tree.BinaryOperator.TheVariants.{Or, And}
 use Rattle.lb_syntax.specs.Lists.{Every, zip2, all_some, tail_of}
-use Rattle.lb_check.specs.Scalars.{Scalar, Integer, Boolean, Bad, Cell, Stream, two_scalars, one_scalar, is_true, at_most_one, none_true, strict}
+use Rattle.lb_check.specs.Scalars.{Scalar, Integer, Boolean, Nil, Bad, Cell, Stream, two_scalars, one_scalar, is_true, at_most_one, none_true, strict}
 use Rattle.lb_check.specs.Streams.{held, constantly, along, along_two, first_cell, across}
 
 -- ## Counts of the operands that are true
 
--- a count, or none where an operand was no truth value
-abbrev pub Count : Type 0
-Count = Option ℕ
+-- a count; `Unknown` where an operand was nil, and `Faulty` where one was a fault or no truth value
+pub data Count : Type 0 where
+  Counted : ℕ → Count
+  Unknown : Count
+  Faulty : Count
 
 abbrev one_more : Count → Scalar → Count
-one_more (Some n) (Boolean true) = Some (suc n)
-one_more (Some n) (Boolean false) = Some n
-one_more c v = None
+one_more Faulty v = Faulty
+one_more Unknown Bad = Faulty
+one_more Unknown v = Unknown
+one_more (Counted n) (Boolean true) = Counted (suc n)
+one_more (Counted n) (Boolean false) = Counted n
+one_more (Counted n) Nil = Unknown
+one_more (Counted n) v = Faulty
 
 abbrev pub more : Option Count → Cell → Option Count
 more (Some c) (Some v) = Some (one_more c v)
@@ -24,24 +30,27 @@ more c x = None
 
 -- instant by instant at those of a clock
 abbrev pub counts : List Bool → List Stream → List (Option Count)
-counts bs xss = fold (zip2 more) (map (held (Some 0)) bs) xss
+counts bs xss = fold (zip2 more) (map (held (Counted 0)) bs) xss
 
 -- a test of a count
 abbrev by_test : (ℕ → Bool) → Count → Scalar
-by_test test (Some n) = Boolean (test n)
-by_test test None = Bad
+by_test test (Counted n) = Boolean (test n)
+by_test test Unknown = Nil
+by_test test Faulty = Bad
 
 -- whether any of so many is true; whether two are; whether none is; whether at most one is
 abbrev pub any_counted : Count → Scalar
-any_counted (Some zero) = Boolean false
-any_counted (Some (suc n)) = Boolean true
-any_counted None = Bad
+any_counted (Counted zero) = Boolean false
+any_counted (Counted (suc n)) = Boolean true
+any_counted Unknown = Nil
+any_counted Faulty = Bad
 
 abbrev pub two_counted : Count → Scalar
-two_counted (Some zero) = Boolean false
-two_counted (Some (suc zero)) = Boolean false
-two_counted (Some (suc (suc n))) = Boolean true
-two_counted None = Bad
+two_counted (Counted zero) = Boolean false
+two_counted (Counted (suc zero)) = Boolean false
+two_counted (Counted (suc (suc n))) = Boolean true
+two_counted Unknown = Nil
+two_counted Faulty = Bad
 
 abbrev none_counted : Count → Scalar
 none_counted c = by_test (λ n. nat_eq n 0) c
@@ -65,19 +74,29 @@ AreTruths vs = Every (λ v. IsTruth (Some v)) vs
 
 -- what an operator gives of a count is what it gives of the operands
 record IsBy (f : List Scalar → Scalar) (g : Count → Scalar) : Type 0 where
-  same : (vs : List Scalar) → AreTruths vs → f vs ≡ g (fold one_more (Some 0) vs)
+  same : (vs : List Scalar) → AreTruths vs → f vs ≡ g (fold one_more (Counted 0) vs)
 
-fault_counted : (vs : List Scalar) → fold one_more None vs ≡ None
+fault_counted : (vs : List Scalar) → fold one_more Faulty vs ≡ Faulty
 fault_counted [] = refl
 fault_counted (v ∷ vs) = fault_counted vs
 
 module _ (test : ℕ → Bool) where
+  -- after a nil operand
+  nil_counted :
+      (vs : List Scalar) → strict vs Nil ≡ by_test test (fold one_more Unknown vs)
+  nil_counted [] = refl
+  nil_counted (Bad ∷ vs) = sym (ap (by_test test) (fault_counted vs))
+  nil_counted (Nil ∷ vs) = nil_counted vs
+  nil_counted (Integer z ∷ vs) = nil_counted vs
+  nil_counted (Boolean b ∷ vs) = nil_counted vs
+
   strict_counted :
       (n : ℕ) (vs : List Scalar) → AreTruths vs →
       strict vs (Boolean (test (n + count_by is_true vs)))
-      ≡ by_test test (fold one_more (Some n) vs)
+      ≡ by_test test (fold one_more (Counted n) vs)
   strict_counted n [] t = let e : n + 0 ≡ n = omega arith in ap (λ m. Boolean (test m)) e
   strict_counted n (Bad ∷ vs) t = sym (ap (by_test test) (fault_counted vs))
+  strict_counted n (Nil ∷ vs) t = nil_counted vs
   strict_counted n (Integer z ∷ vs) t = absurd t.0
   strict_counted n (Boolean true ∷ vs) t =
       let e : n + count_by is_true (Boolean true ∷ vs) ≡ suc n + count_by is_true vs =
@@ -90,7 +109,7 @@ module _ (test : ℕ → Bool) where
 
   counted_by : (vs : List Scalar) → AreTruths vs →
       strict vs (Boolean (test (count_by is_true vs)))
-      ≡ by_test test (fold one_more (Some 0) vs)
+      ≡ by_test test (fold one_more (Counted 0) vs)
   counted_by vs t =
       let e : count_by is_true vs ≡ 0 + count_by is_true vs = omega arith in
       ap (λ m. strict vs (Boolean (test m))) e ∙ strict_counted 0 vs t
@@ -172,7 +191,7 @@ all_truths (Some v ∷ xs) t = joined_truths v (all_some xs) t.0 (all_truths xs 
 module _ (f : List Scalar → Scalar) (g : Count → Scalar) (by : IsBy f g) where
   some_counted :
       (o : Option (List Scalar)) → IfSome o AreTruths →
-      option_map f o ≡ option_map g (option_map (fold one_more (Some 0)) o)
+      option_map f o ≡ option_map g (option_map (fold one_more (Counted 0)) o)
   some_counted None t = refl
   some_counted (Some vs) t = ap Some (by.same vs t)
 
@@ -183,16 +202,16 @@ module _ (f : List Scalar → Scalar) (g : Count → Scalar) (by : IsBy f g) whe
   across_counts (true ∷ bs) xss h t =
       ap₂ (λ x xs. x ∷ xs)
       (some_counted (all_some (map first_cell xss)) (all_truths _ (cells_truths xss t))
-      ∙ sym (ap (option_map g) (cells_counted (Some 0) (map first_cell xss))))
+      ∙ sym (ap (option_map g) (cells_counted (Counted 0) (map first_cell xss))))
       (across_counts bs (map tail_of xss) (tails_long (length bs) xss h) (tails_truths xss t))
       ∙ sym (ap (read_by g)
-      (counts_step (length bs) (Some (Some 0)) (map (held (Some 0)) bs) xss h))
+      (counts_step (length bs) (Some (Counted 0)) (map (held (Counted 0)) bs) xss h))
   across_counts (false ∷ bs) xss h t =
       ap₂ (λ x xs. x ∷ xs)
       (sym (ap (option_map g) (nothing_counted (map first_cell xss))))
       (across_counts bs (map tail_of xss) (tails_long (length bs) xss h) (tails_truths xss t))
       ∙ sym (ap (read_by g)
-      (counts_step (length bs) None (map (held (Some 0)) bs) xss h))
+      (counts_step (length bs) None (map (held (Counted 0)) bs) xss h))
 
 none_by : IsBy none_true none_counted
 none_by = record { same = counted_by (λ n. nat_eq n 0) }
@@ -203,32 +222,45 @@ at_most_one_by = record { same = counted_by (λ n. nat_le n 1) }
 -- ## The counts by `or` and `and`
 
 any_one : (c : Count) (v : Scalar) → two_scalars Or (any_counted c) v ≡ any_counted (one_more c v)
-any_one (Some zero) (Boolean true) = refl
-any_one (Some zero) (Boolean false) = refl
-any_one (Some (suc n)) (Boolean true) = refl
-any_one (Some (suc n)) (Boolean false) = refl
-any_one (Some zero) (Integer z) = refl
-any_one (Some (suc n)) (Integer z) = refl
-any_one (Some zero) Bad = refl
-any_one (Some (suc n)) Bad = refl
-any_one None v = refl
+any_one (Counted zero) (Boolean true) = refl
+any_one (Counted zero) (Boolean false) = refl
+any_one (Counted (suc n)) (Boolean true) = refl
+any_one (Counted (suc n)) (Boolean false) = refl
+any_one (Counted zero) (Integer z) = refl
+any_one (Counted (suc n)) (Integer z) = refl
+any_one (Counted zero) Nil = refl
+any_one (Counted (suc n)) Nil = refl
+any_one (Counted zero) Bad = refl
+any_one (Counted (suc n)) Bad = refl
+any_one Unknown (Boolean b) = refl
+any_one Unknown (Integer z) = refl
+any_one Unknown Nil = refl
+any_one Unknown Bad = refl
+any_one Faulty v = refl
 
 two_one :
     (c : Count) (v : Scalar) →
     two_scalars Or (two_counted c) (two_scalars And (any_counted c) v) ≡ two_counted (one_more c v)
-two_one (Some zero) (Boolean true) = refl
-two_one (Some zero) (Boolean false) = refl
-two_one (Some (suc zero)) (Boolean true) = refl
-two_one (Some (suc zero)) (Boolean false) = refl
-two_one (Some (suc (suc n))) (Boolean true) = refl
-two_one (Some (suc (suc n))) (Boolean false) = refl
-two_one (Some zero) (Integer z) = refl
-two_one (Some (suc zero)) (Integer z) = refl
-two_one (Some (suc (suc n))) (Integer z) = refl
-two_one (Some zero) Bad = refl
-two_one (Some (suc zero)) Bad = refl
-two_one (Some (suc (suc n))) Bad = refl
-two_one None v = refl
+two_one (Counted zero) (Boolean true) = refl
+two_one (Counted zero) (Boolean false) = refl
+two_one (Counted (suc zero)) (Boolean true) = refl
+two_one (Counted (suc zero)) (Boolean false) = refl
+two_one (Counted (suc (suc n))) (Boolean true) = refl
+two_one (Counted (suc (suc n))) (Boolean false) = refl
+two_one (Counted zero) (Integer z) = refl
+two_one (Counted (suc zero)) (Integer z) = refl
+two_one (Counted (suc (suc n))) (Integer z) = refl
+two_one (Counted zero) Nil = refl
+two_one (Counted (suc zero)) Nil = refl
+two_one (Counted (suc (suc n))) Nil = refl
+two_one (Counted zero) Bad = refl
+two_one (Counted (suc zero)) Bad = refl
+two_one (Counted (suc (suc n))) Bad = refl
+two_one Unknown (Boolean b) = refl
+two_one Unknown (Integer z) = refl
+two_one Unknown Nil = refl
+two_one Unknown Bad = refl
+two_one Faulty v = refl
 
 pub any_step :
     (cs : List (Option Count)) (xs : Stream) →
@@ -264,14 +296,14 @@ any_counts cs (xs ∷ xss) =
 
 pub none_yet :
     (bs : List Bool) →
-    constantly (Boolean false) bs ≡ read_by any_counted (map (held (Some 0)) bs)
+    constantly (Boolean false) bs ≡ read_by any_counted (map (held (Counted 0)) bs)
 none_yet [] = refl
 none_yet (true ∷ bs) = ap (λ ys. Some (Boolean false) ∷ ys) (none_yet bs)
 none_yet (false ∷ bs) = ap (λ ys. None ∷ ys) (none_yet bs)
 
 pub not_two_yet :
     (bs : List Bool) →
-    constantly (Boolean false) bs ≡ read_by two_counted (map (held (Some 0)) bs)
+    constantly (Boolean false) bs ≡ read_by two_counted (map (held (Counted 0)) bs)
 not_two_yet [] = refl
 not_two_yet (true ∷ bs) = ap (λ ys. Some (Boolean false) ∷ ys) (not_two_yet bs)
 not_two_yet (false ∷ bs) = ap (λ ys. None ∷ ys) (not_two_yet bs)
@@ -281,9 +313,10 @@ not_any :
     along (one_scalar Not) (read_by any_counted cs) ≡ read_by none_counted cs
 not_any [] = refl
 not_any (None ∷ cs) = ap (λ ys. None ∷ ys) (not_any cs)
-not_any (Some None ∷ cs) = ap (λ ys. Some Bad ∷ ys) (not_any cs)
-not_any (Some (Some zero) ∷ cs) = ap (λ ys. Some (Boolean true) ∷ ys) (not_any cs)
-not_any (Some (Some (suc n)) ∷ cs) =
+not_any (Some Faulty ∷ cs) = ap (λ ys. Some Bad ∷ ys) (not_any cs)
+not_any (Some Unknown ∷ cs) = ap (λ ys. Some Nil ∷ ys) (not_any cs)
+not_any (Some (Counted zero) ∷ cs) = ap (λ ys. Some (Boolean true) ∷ ys) (not_any cs)
+not_any (Some (Counted (suc n)) ∷ cs) =
     let e : false ≡ nat_eq (suc n) 0 = grind arith in
     ap₂ (λ b ys. Some (Boolean b) ∷ ys) e (not_any cs)
 
@@ -292,10 +325,11 @@ not_two :
     along (one_scalar Not) (read_by two_counted cs) ≡ read_by at_most_one_counted cs
 not_two [] = refl
 not_two (None ∷ cs) = ap (λ ys. None ∷ ys) (not_two cs)
-not_two (Some None ∷ cs) = ap (λ ys. Some Bad ∷ ys) (not_two cs)
-not_two (Some (Some zero) ∷ cs) = ap (λ ys. Some (Boolean true) ∷ ys) (not_two cs)
-not_two (Some (Some (suc zero)) ∷ cs) = ap (λ ys. Some (Boolean true) ∷ ys) (not_two cs)
-not_two (Some (Some (suc (suc n))) ∷ cs) =
+not_two (Some Faulty ∷ cs) = ap (λ ys. Some Bad ∷ ys) (not_two cs)
+not_two (Some Unknown ∷ cs) = ap (λ ys. Some Nil ∷ ys) (not_two cs)
+not_two (Some (Counted zero) ∷ cs) = ap (λ ys. Some (Boolean true) ∷ ys) (not_two cs)
+not_two (Some (Counted (suc zero)) ∷ cs) = ap (λ ys. Some (Boolean true) ∷ ys) (not_two cs)
+not_two (Some (Counted (suc (suc n))) ∷ cs) =
     let e : false ≡ nat_le (suc (suc n)) 1 = grind arith in
     ap₂ (λ b ys. Some (Boolean b) ∷ ys) e (not_two cs)
 
@@ -310,7 +344,7 @@ pub none_chained :
 none_chained bs xss h t =
     ap (along (one_scalar Not))
     (ap (λ ys. fold (along_two (two_scalars Or)) ys xss) (none_yet bs)
-    ∙ any_counts (map (held (Some 0)) bs) xss)
+    ∙ any_counts (map (held (Counted 0)) bs) xss)
     ∙ not_any (counts bs xss)
     ∙ sym (across_counts none_true none_counted none_by bs xss h t)
 

@@ -5,10 +5,10 @@ use Rattle.std.proofs.lemmas.List.{map-append}
 use Rattle.lb_syntax.specs.Lists.{Every, zip2, copies, joined, either_or}
 use Rattle.lb_syntax.specs.Tree.{Name, Node_named, Symbol, Expr, Literal, Truth, Variable, Group, Unary, Binary, If, Arrow, Fby, Pre, Current, When, Replicate, Index, Slice, Join, Array, AtMostOne, Nor, Call, Iterate, Exprs, Nil, Cons, Declaration}
 use Rattle.lb_static.specs.Instances.{Program, Instance, Child, name_value, node_named}
-use Rattle.lb_check.specs.Scalars.{Scalar, Integer, Boolean, Stream, or_fault, two_scalars, one_scalar, none_true, at_most_one}
+use Rattle.lb_check.specs.Scalars.{Scalar, Integer, Boolean, Stream, or_fault, two_scalars, one_scalar, none_true, at_most_one, first_value}
 use Rattle.lb_check.specs.Clocks.{Clock, On, declared_clock}
 use Rattle.lb_check.specs.Occurrences.{Occurrence, at, call_count, call_clocks, occurrences, occurrences_in, occurrences_each}
-use Rattle.lb_check.specs.Streams.{History, presence, constantly, along, along_two, choices, previous, first_then, sample, latest, across, symbols, streams, all_streams, argument_streams, first_of, number, outputs_of, iterated}
+use Rattle.lb_check.specs.Streams.{History, presence, constantly, along, along_two, choices, previous, first_then, sample, latest, across, symbols, streams, all_streams, argument_streams, number, outputs_of, iterated}
 use Rattle.lb_check.specs.Solutions.{Inputs, IsJoined}
 use Rattle.lb_flat.specs.Flat.{FlatClock, Operation, Constant, ApplyUnary, ApplyBinary, FirstThen, Previous, Latest, Sample, FlatEquation, column, instants, operate, AreLong}
 use Rattle.lb_flat.specs.Layouts.{Layout, flat_clock}
@@ -308,7 +308,7 @@ module _ (Y : Layout) (P : Program) (X : Inputs) (H : History) (F : List Stream)
         (sound k n s a (fore _ (parts k m b) w.1)) (sound k m _ b (aft (parts k n a) _ w.1)) h
     sound k n s (Fby a b) w h =
         let m = n + call_count a in
-        let v = first_of P here b in
+        let v = first_value in
         let x = emit Y P here k n s a in
         let oa = parts k n a in let ob = parts k m b in
         two_sound _ s _ _ _ _ (FirstThen false) first_then (λ i j. refl) _ _ _ tt
@@ -318,12 +318,12 @@ module _ (Y : Layout) (P : Program) (X : Inputs) (H : History) (F : List Stream)
         (λ i. ap (λ bs. previous v bs (column X F i)) (flat k)) (at k m (Pre b)) _ tt
         (keep_sound _ _ _ _ (sound k m x.state b (aft oa ob w.1))) g)) h
     sound k n s (Pre a) w h =
-        let v = first_of P here a in
+        let v = first_value in
         one_sound _ s _ _ (Previous v) _
         (λ i. ap (λ bs. previous v bs (column X F i)) (flat k)) _ _ tt
         (keep_sound _ _ _ _ (sound k n s a w.1)) h
     sound k n s (Current a) w h =
-        let v = first_of P here a in
+        let v = first_value in
         one_sound _ s _ _ (Latest v) _
         (λ i. ap (λ bs. latest v bs (column X F i)) (flat k)) _ _ tt
         (keep_sound _ _ _ _ (sound _ n s a w.1)) h

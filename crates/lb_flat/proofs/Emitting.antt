@@ -1,5 +1,5 @@
 -- What one push of the code that expands does.
-use Rattle.std.proofs.Common.{◌≡◌, ◌<◌, ◌≤◌, ℕ, ◌+◌, List, [], ◌∷◌, ◌++◌, length, get_or, None, arith, rules, All}
+use Rattle.std.proofs.Common.{◌≡◌, ◌<◌, ◌≤◌, ℕ, ◌+◌, List, [], ◌∷◌, ◌++◌, length, get_or, None, arith, rules, All, drop, sym, ap, ◌∙◌}
 use Rattle.std.proofs.lemmas.List.{map-append}
 use Rattle.std.proofs.lemmas.List.Elements.{All-push, All-weaker, All-nil, All-cons}
 use Rattle.std.proofs.lemmas.List.FromFn.{map-range_with_len_more}
@@ -10,7 +10,9 @@ use Rattle.lb_static.specs.declared.resolved.VariableId.{VariableId}
 use Rattle.lb_flat.specs.PlainNodes.{is_place}
 use Rattle.lb_flat.specs.Flat as flat
 use Rattle.lb_flat.specs.Flat.{Always}
-use Rattle.lb_flat.specs.Terms.{given_elements}
+use Rattle.lb_flat.specs.Emit.{State, Emitted}
+use Rattle.lb_flat.specs.Terms.{TypedElement, emit_term, emit_list, given_elements}
+use Rattle.lb_flat.specs.declared.plain.term.Term.{Term}
 use Rattle.lb_flat.proofs.TypeFacts.{and_first}
 use Rattle.lb_flat.specs.declared.equation.ElementId.{ElementId}
 use Rattle.lb_flat.specs.declared.equation.Operation.{Operation}
@@ -21,7 +23,7 @@ use Rattle.lb_flat.specs.Programs.{numbers_of, flat_equations}
 use Rattle.lb_flat.specs.Run.{reads, keeps}
 use Rattle.lb_flat.specs.Values.{operation_of, equation_of}
 use Rattle.lb_flat.specs.Within.{IsWithin}
-use Rattle.lb_flat.proofs.TermRows.{single_size, pair_size, row_size_is, size_next, emit_next, variable_kind, single_within, pair_within, within_of_row, within_next, statements_size_next, step_within_next, steps_next, places_of_more}
+use Rattle.lb_flat.proofs.TermRows.{single_size, pair_size, row_size_is, size_next, emit_next, single_within, pair_within, within_of_row, within_next, within_more, terms_within_more, statements_size_next, step_within_next, steps_next, places_of_more, steps_within_more}
 
 -- ## Elements below a number
 
@@ -124,6 +126,21 @@ first_place n [] d lt e = absurd (omega arith)
 first_place n (x ∷ xs) d lt e =
     let h : nat_lt x.0 n ≡ true = and_first (is_place n x) _ e in grind (arith, nat_tests)
 
+-- one term of a list more
+pub list_step :
+    (s t : State) (whole : Emitted) (old new : List ElementId) (a : ElementId) (es : List Term)
+    (i : ℕ) (e d : Term) → i < length es → e ≡ get_or es i d →
+    (let x : TypedElement = record { state = t; element = a.0 } in x ≡ emit_term s e) →
+    new ≡ old ++ a ∷ [] → emit_list s (numbers_of old) (drop i es) ≡ whole →
+    emit_list t (numbers_of new) (drop (i + 1) es) ≡ whole
+list_step s t whole old new a es i e d lt is found items before =
+    let rest = drop (i + 1) es in
+    let one = ap (λ (xs : List ElementId). emit_list t (numbers_of xs) rest) items in
+    let two = ap (λ ns. emit_list t ns rest) (numbers_push old a) in
+    let three = ap (λ (x : TypedElement).
+    emit_list x.state (numbers_of old ++ x.element ∷ []) rest) (found ∙ ap (emit_term s) is) in
+    one ∙ two ∙ three ∙ sym (emit_next s (numbers_of old) es i d lt) ∙ before
+
 pub ruleset copies = (first_place, within_push, equations_push)
 
 pub ruleset pushes = (
@@ -143,11 +160,12 @@ pub ruleset emits = (
   row_size_is,
   size_next,
   emit_next,
-  variable_kind,
   single_within,
   pair_within,
   within_of_row,
   within_next,
+  within_more,
+  terms_within_more,
   elements_later,
   elements_push,
 )
@@ -157,6 +175,7 @@ pub ruleset statements = (
   step_within_next,
   steps_next,
   places_of_more,
+  steps_within_more,
   elements_push,
   equations_push,
   numbers_push,

@@ -3,7 +3,7 @@ use Rattle.std.proofs.Common.{◌≡◌, ◌≢◌, ℕ, suc, ◌+◌, ◌<◌, 
 use Rattle.std.proofs.Math.Seq.{drop-cons}
 use Rattle.std.proofs.lemmas.List.{length-map}
 use Rattle.lb_check.specs.declared.verdict.Verdict.{Verdict}
-use Rattle.lb_check.specs.declared.verdict.Verdict.TheVariants.{Passed, Fault, Assertion, False}
+use Rattle.lb_check.specs.declared.verdict.Verdict.TheVariants.{Passed, Fault, Undefined, Assertion, False}
 use Rattle.lb_check.specs.Solutions.{Inputs}
 use Rattle.lb_check.specs.Verdicts.{or_later}
 use Rattle.lb_flat.specs.declared.cell.Cell.{Cell}
@@ -37,6 +37,7 @@ pub record IsEvaluating (f : FlatProgram) (X : Inputs) (clocks : List Clock)
 later_is : (v w : Verdict) → v ≢ Passed → or_later v w ≡ v
 later_is Passed w n = absurd (n refl)
 later_is (Fault t) w n = refl
+later_is (Undefined t) w n = refl
 later_is (Assertion t) w n = refl
 later_is (False t) w n = refl
 

@@ -69,4 +69,9 @@ module _ (P : Program) (Y : Layout) (count : ℕ) (K : ℕ → FlatClock) (N : �
         (agrees P Y count K N Q e.ordering e.ready e.fitting e.placing X F trace s
         (e.signs X F s))
         (e.sound X F s).instances further_met e.instance_order t in
-        record { fault = w.fault; failed = w.failed; violated = w.violated }
+        record {
+          fault = w.fault;
+          undefined = w.undefined;
+          failed = w.failed;
+          violated = w.violated;
+        }

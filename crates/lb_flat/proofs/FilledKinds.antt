@@ -5,7 +5,7 @@ use Rattle.lb_syntax.specs.declared.tree.Kind.{Kind}
 use Rattle.lb_syntax.specs.declared.tree.Kind.TheVariants.{Bool as Truth}
 use Rattle.lb_syntax.specs.declared.tree.BinaryOperator.TheVariants.{Or, And}
 use Rattle.lb_syntax.specs.Lists.{Every, zip2, tail_of}
-use Rattle.lb_check.specs.Scalars.{Scalar, Integer, Boolean, Bad, Stream, two_scalars, one_scalar, is_of_kind}
+use Rattle.lb_check.specs.Scalars.{Scalar, Integer, Boolean, Nil, Bad, Stream, two_scalars, one_scalar, is_of_kind}
 use Rattle.lb_check.specs.Streams.{constantly, along, along_two, choice, previous, first_then, sample, latest, newest, first_cell}
 use Rattle.lb_check.specs.Solutions.{Inputs, column_of, fits, is_row}
 use Rattle.lb_flat.specs.Flat.{FlatClock, Operation, Input, Constant, Copy, ApplyUnary, ApplyBinary, Choose, FirstThen, Previous, Latest, Sample, FlatEquation, column, instants, operate, Holds}
@@ -170,6 +170,7 @@ module _ (inputs : List Kind) (N : ℕ → Kind) (X : Inputs)
   truths_of (None ∷ xs) h = (tt, truths_of xs h.1)
   truths_of (Some (Integer z) ∷ xs) h = no_integer z h.0
   truths_of (Some (Boolean b) ∷ xs) h = (tt, truths_of xs h.1)
+  truths_of (Some Nil ∷ xs) h = (tt, truths_of xs h.1)
   truths_of (Some Bad ∷ xs) h = (tt, truths_of xs h.1)
 
   operand_truths :

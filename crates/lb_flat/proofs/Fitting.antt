@@ -5,7 +5,7 @@ use Rattle.std.proofs.Math.ListN.{get_or-eq_default}
 use Rattle.std.proofs.lemmas.List.{length-map}
 use Rattle.lb_syntax.specs.declared.tree.Kind.{Kind}
 use Rattle.lb_syntax.specs.Lists.{Every, In}
-use Rattle.lb_check.specs.Scalars.{Scalar, Integer, Boolean, Bad, Cell, Stream, two_scalars, one_scalar, is_given}
+use Rattle.lb_check.specs.Scalars.{Scalar, Integer, Boolean, Nil, Bad, Cell, Stream, two_scalars, one_scalar, is_given}
 use Rattle.lb_check.specs.Streams.{held, one_cell, two_cells, sample, newest, first_cell}
 use Rattle.lb_check.specs.Solutions.{Inputs, fits, is_row}
 use Rattle.lb_flat.specs.Flat.{FlatClock, Operation, Input, Constant, Copy, ApplyUnary, ApplyBinary, Choose, FirstThen, Previous, Latest, Sample, FlatEquation, column, instants, FlatSolves}
@@ -83,6 +83,7 @@ both false b e = cc
 given_of : (kind : Kind) (v : Scalar) → is_given kind v ≡ true → IsOf kind v
 given_of kind (Integer z) e = e
 given_of kind (Boolean b) e = e
+given_of kind Nil e = cc
 given_of kind Bad e = cc
 
 all_given :

@@ -3,14 +3,14 @@ use Rattle.std.proofs.Common.{◌≡◌, ℕ, zero, suc, ◌+◌, ◌<◌, ◌�
 use Rattle.std.proofs.Math.Seq.{drop-cons}
 use Rattle.std.proofs.Math.ListN.{drop_of_length-le}
 use Rattle.lb_static.specs.Instances.{Program}
-use Rattle.lb_check.specs.declared.verdict.Verdict.TheVariants.{Passed, Fault, Assertion, False}
+use Rattle.lb_check.specs.declared.verdict.Verdict.TheVariants.{Passed, Fault, Undefined, Assertion, False}
 use Rattle.lb_check.specs.Scalars.{Cell, Stream}
 use Rattle.lb_check.specs.Streams.{History}
 use Rattle.lb_check.specs.Solutions.{Inputs, AreSame, HasOneHistory}
-use Rattle.lb_check.specs.Verdicts.{is_bad, is_false, some_at, judged, or_later, verdict_from, Ends, HasVerdict}
+use Rattle.lb_check.specs.Verdicts.{is_bad, is_nil, is_false, some_at, judged, or_later, verdict_from, Ends, HasVerdict}
 use Rattle.lb_flat.specs.Flat.{FlatEquation, column, FlatSolves}
 use Rattle.lb_flat.specs.Run.{Row, cell, advanced, Ready, row_of, run, streams_of}
-use Rattle.lb_flat.specs.Judging.{FlatProgram, named_elements, some_in, row_judged, rows_judged, flat_verdict}
+use Rattle.lb_flat.specs.Judging.{FlatProgram, named_elements, truth_elements, some_in, row_judged, rows_judged, flat_verdict}
 use Rattle.lb_flat.specs.Flattening.{history_of, IsTrace, IsWatched, IsFlatOf}
 use Rattle.lb_flat.proofs.Stepping.{after_first, column_step}
 use Rattle.lb_flat.proofs.Running.{step_of, ready_advanced, exists, unique}
@@ -51,10 +51,12 @@ module _ (size : ℕ) (X : Inputs) (Q : List FlatEquation) (F : List Stream)
 -- ## The verdict of the rows
 
 verdict_same :
-    (a b c d e g : Bool) (t : ℕ) → a ≡ b → c ≡ d → e ≡ g →
-    (if a then Fault t else if c then Assertion t else if e then False t else Passed)
-    ≡ (if b then Fault t else if d then Assertion t else if g then False t else Passed)
-verdict_same a b c d e g t p q r = cc
+    (a b c d e g h k : Bool) (t : ℕ) → a ≡ b → c ≡ d → e ≡ g → h ≡ k →
+    (if a then Fault t else if c then Undefined t else
+    if e then Assertion t else if h then False t else Passed)
+    ≡ (if b then Fault t else if d then Undefined t else
+    if g then Assertion t else if k then False t else Passed)
+verdict_same a b c d e g h k t p q r s = cc
 
 module _ (P : Program) (f : FlatProgram) (X : Inputs) (F : List Stream) (H : History)
     (ready : Ready f.size [] f.equations) (s : FlatSolves f.size f.equations X F)
@@ -66,8 +68,9 @@ module _ (P : Program) (f : FlatProgram) (X : Inputs) (F : List Stream) (H : His
   judged_same t lt =
       let w = watched t lt in
       let same = some_same f.size X f.equations F ready s t lt in
-      verdict_same _ _ _ _ _ _ t
-      (w.fault ∙ same is_bad (named_elements f)) (w.failed ∙ same is_false f.asserted)
+      verdict_same _ _ _ _ _ _ _ _ t
+      (w.fault ∙ same is_bad (named_elements f)) (w.undefined ∙ same is_nil (truth_elements f))
+      (w.failed ∙ same is_false f.asserted)
       (w.violated ∙ same is_false (f.property ∷ []))
 
   verdict_from_rows :

@@ -50,8 +50,6 @@ pub mod PlainRoots
 pub mod PlainStarts
 pub mod PlainNames
 pub mod PlainClocks
-pub mod TermDataTypes
-pub mod PlainTypes
 pub mod PlainPlacing
 pub mod PlainExpanding
 pub mod FilledKinds
@@ -90,3 +88,4 @@ pub mod Emitting
 pub mod Counted
 pub mod PlainEmission
 pub mod PlainExpansion
+pub mod Starting

@@ -12,10 +12,10 @@ use Rattle.lb_syntax.specs.declared.tree.ArrayIterator.TheVariants.{Map, Red}
 use Rattle.lb_syntax.specs.Lists.{Every, some_of, zip2, joined}
 use Rattle.lb_syntax.specs.Tree.{Name, Node_named, Symbol, Expr, Literal, Truth, Variable, Group, Unary, Binary, If, Arrow, Fby, Pre, Current, When, Replicate, Index, Slice, Join, Array, AtMostOne, Nor, Call, Iterate, Exprs, Nil, Cons, Declaration}
 use Rattle.lb_static.specs.Instances.{Program, Instance, node_named}
-use Rattle.lb_check.specs.Scalars.{Stream, Boolean}
+use Rattle.lb_check.specs.Scalars.{Stream, Boolean, first_value}
 use Rattle.lb_check.specs.Clocks.{Clock}
 use Rattle.lb_check.specs.Occurrences.{Occurrence, call_count, occurrences, occurrences_in, occurrences_each, call_clocks}
-use Rattle.lb_check.specs.Streams.{History, first_of}
+use Rattle.lb_check.specs.Streams.{History}
 use Rattle.lb_check.specs.Solutions.{Inputs, streams_at}
 use Rattle.lb_check.specs.Verdicts.{memory_operand}
 use Rattle.lb_flat.specs.Flat.{FlatClock, Operation, Constant, ApplyUnary, ApplyBinary, FirstThen, Previous, Latest, Sample, FlatEquation, column, AreLong}
@@ -301,7 +301,7 @@ module _ (Y : Layout) (P : Program) (X : Inputs) (H : History) (F : List Stream)
         let own = flat_clock Y here.path k in
         let oa = parts k n a in let ob = parts k m b in
         let x = emit Y P here k n s a in let y = emit Y P here k m x.state b in
-        let before = map (Previous (first_of P here b)) (keep y).found in
+        let before = map (Previous first_value) (keep y).found in
         let z = add own (keep y).state before in
         let r = add_sound X F own z.state (zip2 (FirstThen false) x.found z.found) h in
         let q = add_sound X F own (keep y).state before r.before in
@@ -315,7 +315,7 @@ module _ (Y : Layout) (P : Program) (X : Inputs) (H : History) (F : List Stream)
         (add_kept _ z.state _)
     keeps k n s (Pre a) w h =
         let x = emit Y P here k n s a in
-        let new = map (Previous (first_of P here a)) (keep x).found in
+        let new = map (Previous first_value) (keep x).found in
         let r = add_sound X F (flat_clock Y here.path k) (keep x).state new h in
         let hx = unkept x r.before in
         let sa = sound Y P X H F long agrees here k n s a w.1 hx in
@@ -323,7 +323,7 @@ module _ (Y : Layout) (P : Program) (X : Inputs) (H : History) (F : List Stream)
         (keeps_own s x _ _ _ refl sa.found (keeps k n s a w.1 hx)) (add_kept _ (keep x).state _)
     keeps k n s (Current a) w h =
         let x = emit Y P here _ n s a in
-        let new = map (Latest (first_of P here a)) (keep x).found in
+        let new = map (Latest first_value) (keep x).found in
         let r = add_sound X F (flat_clock Y here.path k) (keep x).state new h in
         let hx = unkept x r.before in
         let sa = sound Y P X H F long agrees here _ n s a w.1 hx in

@@ -1,19 +1,20 @@
--- A fault, a false assertion and a false property of a program show at the elements that its flat
--- program watches.
+-- A fault, nil where a truth is wanted, a false assertion and a false property of a program show at
+-- the elements that its flat program watches.
 use Rattle.std.proofs.Common.{◌≡◌, ℕ, Bool, true, false, ◌||◌, Option, Some, None, List, [], ◌∷◌, ◌++◌, map, flat_map, slice_get, refl, sym, ap, ap₂, ◌∙◌}
 use Rattle.std.specs.List.{list_any, range_with_len}
 use Rattle.std.proofs.lemmas.List.{map-append}
 use Rattle.std.proofs.lemmas.List.Folds.{list_any-append}
 use Rattle.lb_syntax.specs.Lists.{Every, listed}
-use Rattle.lb_static.specs.Instances.{Program, instance_at, instances}
+use Rattle.lb_syntax.specs.Tree.{Declaration}
+use Rattle.lb_static.specs.Instances.{Program, Instance, instance_at, instances}
 use Rattle.lb_static.specs.DataTypes.{variables}
 use Rattle.lb_check.specs.Scalars.{Stream}
 use Rattle.lb_check.specs.Solutions.{Inputs}
-use Rattle.lb_check.specs.Verdicts.{is_bad, is_false, property_path, variable_columns, memory_columns, assertion_columns, property_columns}
+use Rattle.lb_check.specs.Verdicts.{is_bad, is_nil, is_false, property_path, variable_columns, clock_variables, memory_columns, assertion_columns, property_columns}
 use Rattle.lb_flat.specs.Flat.{column, AreLong}
 use Rattle.lb_flat.specs.Layouts.{Layout}
 use Rattle.lb_flat.specs.Flattening.{history_of, IsWatched}
-use Rattle.lb_flat.specs.Emit.{State, before_instances, emit_instances, property_places, expanded}
+use Rattle.lb_flat.specs.Emit.{State, before_instances, emit_instances, clock_places, property_places, expanded}
 use Rattle.lb_flat.proofs.Lists.{map-pieces}
 use Rattle.lb_flat.proofs.Adding.{columns, AllMet}
 use Rattle.lb_flat.proofs.Placing.{Agrees}
@@ -85,20 +86,25 @@ module _ (Y : Layout) (P : Program) (count : ℕ) (X : Inputs) (F : List Stream)
       all_watched Y P X (history_of Y X F) F long agrees (before_instances count) (instances P)
       ok met
 
+  -- a test of the streams of these variables of each instance
   variables_flat :
-      all_places Y P ≡ range_with_len 0 count → (test : Stream → Bool) →
-      list_any (λ here. list_any test (variable_columns (history_of Y X F) here)) (instances P)
-      ≡ list_any test (columns X F (range_with_len 0 count))
-  variables_flat e test =
-      any_pieces test (variable_columns (history_of Y X F)) (instances P)
+      (chosen : Instance → List Declaration) (test : Stream → Bool) →
+      list_any (λ here.
+      list_any test (flat_map (λ d. columns X F (Y.places here.path d.name)) (chosen here)))
+      (instances P)
+      ≡ list_any test
+      (columns X F
+      (flat_map (λ here. flat_map (λ d. Y.places here.path d.name) (chosen here)) (instances P)))
+  variables_flat chosen test =
+      let streams = λ (here : Instance).
+      flat_map (λ d. columns X F (Y.places here.path d.name)) (chosen here) in
+      any_pieces test streams (instances P)
       ∙ ap (list_any test)
       (map-pieces (column X F)
-      (λ here. flat_map (λ d. Y.places here.path d.name) (variables here.node))
-      (variable_columns (history_of Y X F))
+      (λ here. flat_map (λ d. Y.places here.path d.name) (chosen here)) streams
       (λ here. map-pieces (column X F) (λ d. Y.places here.path d.name)
-      (λ d. columns X F (Y.places here.path d.name)) (λ d. refl) (variables here.node))
-      (instances P)
-      ∙ ap (columns X F) e)
+      (λ d. columns X F (Y.places here.path d.name)) (λ d. refl) (chosen here))
+      (instances P))
 
   named_flat :
       (is js ks : List ℕ) (test : Stream → Bool) →
@@ -130,15 +136,25 @@ module _ (Y : Layout) (P : Program) (count : ℕ) (X : Inputs) (F : List Stream)
   is_watched order t =
       let H = history_of Y X F in
       let bad : Stream → Bool = λ xs. is_bad (slice_get xs t) in
+      let unknown : Stream → Bool = λ xs. is_nil (slice_get xs t) in
       let untrue : Stream → Bool = λ xs. is_false (slice_get xs t) in
+      let property = λ (test : Stream → Bool).
+      ap (list_any test) (property_flat ∙ ap (columns X F) order.property) in
       record {
         fault =
             any_three bad (variable_columns H) (memory_columns P H) (assertion_columns P H)
             (instances P)
-            ∙ ap₂ (λ a b. a || b) (variables_flat order.variables bad)
+            ∙ ap₂ (λ a b. a || b)
+            (variables_flat (λ here. variables here.node) bad
+            ∙ ap (λ is. list_any bad (columns X F is)) order.variables)
             (ap₂ (λ a b. a || b) (sym (watched_here.memory_operands bad))
             (sym (watched_here.asserted bad)))
             ∙ sym (named_flat (range_with_len 0 count) s.memory_operands s.asserted bad);
+        undefined =
+            ap₂ (λ a b. a || b) (variables_flat (λ here. clock_variables here.node) unknown)
+            (ap₂ (λ a b. a || b) (sym (watched_here.asserted unknown)) (property unknown))
+            ∙ sym (named_flat (clock_places Y (instances P)) s.asserted
+            ((expanded Y P count).property ∷ []) unknown);
         failed = sym (watched_here.asserted untrue);
-        violated = ap (list_any untrue) (property_flat ∙ ap (columns X F) order.property);
+        violated = property untrue;
       }

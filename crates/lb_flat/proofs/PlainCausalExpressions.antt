@@ -10,10 +10,9 @@ use Rattle.lb_static.specs.Instances.{Program, Instance, Root, name_value}
 use Rattle.lb_static.specs.DataTypes.{variables, width}
 use Rattle.lb_static.specs.Parts.{parts, parts_in}
 use Rattle.lb_flat.specs.PlainNodes.{IsPlain, is_plain, is_scalar, start_of}
-use Rattle.lb_check.specs.Scalars.{Integer, Boolean, or_fault}
+use Rattle.lb_check.specs.Scalars.{Integer, Boolean, or_fault, first_value}
 use Rattle.lb_check.specs.Clocks.{Clock, Base, clock_of, clock_or, first_clock}
 use Rattle.lb_check.specs.Occurrences.{call_count}
-use Rattle.lb_check.specs.Streams.{first_of}
 use Rattle.lb_check.specs.Needs.{Element, elements, itself, needs, all_needs}
 use Rattle.lb_flat.proofs.PlainClocks.{base_declared}
 use Rattle.lb_flat.specs.Flat.{ApplyUnary, ApplyBinary, FirstThen}
@@ -194,13 +193,13 @@ module _ (P : Program) (n : Node) (elaborated : IsPlain P n) where
       trace m s (Fby a b) p h =
           let x = emit Y P here Base m s a in
           let y = emit Y P here Base (m + call_count a) x.state b in
-          fby_traced (IsAt n) Under Left s x (keep y) _ _ (first_of P here b)
+          fby_traced (IsAt n) Under Left s x (keep y) _ _ first_value
           (trace m s a (fore (parts a) (parts b) p.1))
           (keep_traced (IsAt n) Under Left x.state y (needs P here (m + call_count a) b)
           (trace (m + call_count a) x.state b (aft (parts a) (parts b) p.1))) h
       trace m s (Pre a) p h =
           let x = emit Y P here Base m s a in
-          pre_traced (IsAt n) Under Left s (keep x) _ (first_of P here a)
+          pre_traced (IsAt n) Under Left s (keep x) _ first_value
           (keep_traced (IsAt n) Under Left s x _ (trace m s a p.1)) h
       trace m s (AtMostOne es) p h =
           let x = emit_all Y P here Base m s es in

@@ -1,21 +1,24 @@
 -- In a plain node everything stands on the base clock.
 use Rattle.std.proofs.Common.{◌≡◌, ◌⊎◌, inl, inr, ℕ, suc, Bool, true, false, cond, List, [], ◌∷◌, length, map, Option, Some, None, refl, ap, sym, ◌∙◌, subst}
-use Rattle.std.specs.Prelude.{◌&&◌, not, is_some, nat_eq}
-use Rattle.std.specs.List.{list_all}
+use Rattle.std.specs.Prelude.{◌&&◌, ◌++◌, not, is_some, nat_eq, option_map, flat_map}
+use Rattle.std.specs.List.{list_all, filter}
 use Rattle.std.specs.Str.{bytes_eq}
-use Rattle.lb_syntax.specs.Lists.{◌>>=◌, or_else}
-use Rattle.lb_syntax.specs.Tree.{Name, Declaration, Node, Sampling, Equation}
+use Rattle.lb_syntax.specs.Lists.{◌>>=◌, or_else, some_of}
+use Rattle.lb_syntax.specs.Tree as tree
+use Rattle.lb_syntax.specs.Tree.{Name, Expr, Declaration, Node, Sampling, Equation}
 use Rattle.lb_flat.specs.declared.plain.term.Term.{Term, Literal, Truth, Variable, Group', Unary', Binary', If', Arrow', Fby', Pre', AtMostOne', Nor', Row_of-Term, end_of-Term, more_of-Term}
 use Rattle.lb_flat.specs.declared.plain.term.PlainStatement.{PlainStatement}
 use Rattle.lb_flat.specs.declared.plain.term.PlainStatement.TheVariants as statement
 use Rattle.lb_static.specs.StaticValues.{named}
 use Rattle.lb_static.specs.Instances.{Program}
+use Rattle.lb_static.specs.Parts.{among, own_clock_names, node_parts, clock_names}
 use Rattle.lb_static.specs.DataTypes.{variables}
-use Rattle.lb_flat.specs.PlainNodes.{is_scalar}
+use Rattle.lb_flat.specs.PlainNodes.{is_scalar, is_plain}
 use Rattle.lb_flat.specs.PlainTerms.{expr_of, row_of, statement_of, name_of}
 use Rattle.lb_static.specs.declared.resolved.VariableId.{VariableId}
 use Rattle.lb_check.specs.Clocks.{Clock, Base, clock_or, clock_of, first_clock, clock_within, sampled, variable_clock, declared_clock}
 use Rattle.lb_check.specs.Occurrences.{statement_clock}
+use Rattle.lb_check.specs.Verdicts.{clock_variables}
 
 and_first : (a b : Bool) → (a && b) ≡ true → a ≡ true
 and_first true b e = refl
@@ -32,6 +35,42 @@ no_clock (Some s) e = absurd cc
 -- a scalar on the base clock has no clock
 pub scalar_clock : (d : Declaration) → is_scalar d ≡ true → d.clock ≡ None
 scalar_clock d e = no_clock d.clock (and_second (nat_eq (length d.sizes) 0) _ e)
+
+-- ## No variable serves as a clock
+
+none_declared : (ds : List Declaration) → list_all is_scalar ds ≡ true →
+    some_of (map (λ d. option_map (λ s. s.variable) d.clock) ds) ≡ []
+none_declared [] e = refl
+none_declared (d ∷ ds) e =
+    ap (λ o. some_of (option_map (λ s. s.variable) o
+    ∷ map (λ d. option_map (λ s. s.variable) d.clock) ds))
+    (scalar_clock d (and_first _ (list_all is_scalar ds) e))
+    ∙ none_declared ds (and_second (is_scalar d) _ e)
+
+names_no_clock : (a : Expr) → is_plain a ≡ true → own_clock_names a ≡ []
+names_no_clock (tree.When a x sign) e = absurd cc
+names_no_clock a e = refl
+
+none_named : (es : List Expr) → list_all is_plain es ≡ true → flat_map own_clock_names es ≡ []
+none_named [] e = refl
+none_named (a ∷ es) e =
+    ap (λ xs. xs ++ flat_map own_clock_names es)
+    (names_no_clock a (and_first _ (list_all is_plain es) e))
+    ∙ none_named es (and_second (is_plain a) _ e)
+
+none_among : (ds : List Declaration) → filter (λ d. among d.name []) ds ≡ []
+none_among [] = refl
+none_among (d ∷ ds) = none_among ds
+
+pub no_clock_variables : (n : Node) → list_all is_scalar (variables n) ≡ true →
+    list_all is_plain (node_parts n) ≡ true → clock_variables n ≡ []
+no_clock_variables n scalars plain =
+    let names : clock_names n ≡ [] =
+    ap (λ xs. xs ++ flat_map own_clock_names (node_parts n)) (none_declared (variables n) scalars)
+    ∙ none_named (node_parts n) plain in
+    ap (λ xs. filter (λ d. among d.name xs) (variables n)) names ∙ none_among (variables n)
+
+-- ## Declarations
 
 -- the clock of a declaration that has none
 base_within : (m : ℕ) (vars : List Declaration) (d : Declaration) → is_scalar d ≡ true →

@@ -1,17 +1,14 @@
 -- What the code emits for the terms of a plain node is what expansion emits for their expressions.
-use Rattle.std.proofs.Common.{◌≡◌, ◌≤◌, ℕ, zero, suc, ◌+◌, Bool, true, false, cond, List, [], ◌∷◌, ◌++◌, length, map, drop, get_or, Option, Some, None, refl, ap, sym, ◌∙◌, append_assoc, arith}
-use Rattle.std.specs.Prelude.{◌&&◌, not, pos, nat_le, slice_get, option_map, flat_map}
+use Rattle.std.proofs.Common.{◌≡◌, ◌≤◌, ℕ, zero, suc, ◌+◌, Bool, true, false, List, [], ◌∷◌, ◌++◌, length, map, drop, get_or, Some, refl, ap, sym, ◌∙◌, append_assoc, arith}
+use Rattle.std.specs.Prelude.{◌&&◌, not, pos, nat_le, slice_get, flat_map}
 use Rattle.std.specs.List.{list_all}
 use Rattle.std.specs.Str.{bytes_eq}
 use Rattle.std.proofs.lemmas.Bool.Decides.{nat_tests}
 use Rattle.std.proofs.lemmas.Slice.Eq.{bytes_eq-Decides}
 use Rattle.std.proofs.lemmas.List.Folds.{list_all-append}
-use Rattle.lb_syntax.specs.declared.tree.UnaryOperator.{UnaryOperator}
-use Rattle.lb_syntax.specs.declared.tree.UnaryOperator.TheVariants.{Not, Negate}
+use Rattle.lb_syntax.specs.declared.tree.UnaryOperator.TheVariants.{Not}
 use Rattle.lb_syntax.specs.declared.tree.BinaryOperator.{BinaryOperator}
-use Rattle.lb_syntax.specs.declared.tree.Kind.{Kind}
-use Rattle.lb_syntax.specs.declared.tree.Kind.TheVariants.{Int as Int_kind, Bool as Bool_kind}
-use Rattle.lb_syntax.specs.Lists.{◌>>=◌, either_or, where_true, joined, zip2}
+use Rattle.lb_syntax.specs.Lists.{either_or, joined, zip2}
 use Rattle.lb_syntax.specs.Tree as tree
 use Rattle.lb_syntax.specs.Tree.{Name, Node, Expr}
 use Rattle.lb_static.specs.declared.resolved.VariableId.{VariableId}
@@ -21,27 +18,22 @@ use Rattle.lb_flat.specs.declared.plain.term.PlainStatement.TheVariants as state
 use Rattle.lb_flat.specs.declared.plain.term.Term.{Term, Literal, Truth, Variable, Group', Unary', Binary', If', Arrow', Fby', Pre', AtMostOne', Nor', Row_of-Term, end_of-Term, more_of-Term}
 use Rattle.lb_static.specs.StaticValues.{named}
 use Rattle.lb_static.specs.Instances.{Program, Instance}
-use Rattle.lb_static.specs.DataTypes.{int, variables, variable_type, is_kind}
+use Rattle.lb_static.specs.DataTypes.{variables}
 use Rattle.lb_static.specs.Parts.{among, variable_names, parts, parts_in, right_side}
 use Rattle.lb_static.specs.Names.{are_distinct}
 use Rattle.lb_flat.specs.PlainNodes.{is_plain, start_of, is_scalar, is_place, is_within, are_within}
 use Rattle.lb_flat.specs.PlainTerms.{declaration_of, name_of, expr_of, row_of, statement_of}
-use Rattle.lb_check.specs.Scalars.{Scalar, Integer, first_value}
-use Rattle.lb_check.specs.Types.{name_data_type, only, is_arithmetic, is_logical, is_equality}
+use Rattle.lb_check.specs.Scalars.{Integer, first_value}
 use Rattle.lb_check.specs.Clocks.{Base}
 use Rattle.lb_check.specs.Occurrences.{call_count}
-use Rattle.lb_check.specs.Streams.{first_of}
-use Rattle.lb_flat.specs.TermKinds.{kinds_of, term_kind, row_truths, unary_kind, binary_kind, same_kind, is_bool, fits_left}
 use Rattle.lb_check.proofs.DistinctNames.{held_at, not_among}
-use Rattle.lb_flat.proofs.PlainNames.{found_at, get_name}
-use Rattle.lb_flat.proofs.PlainTypes.{names_map}
-use Rattle.lb_flat.proofs.TermDataTypes.{scalar, type_list, term_types}
+use Rattle.lb_flat.proofs.PlainNames.{found_at, get_name, names_map}
 use Rattle.lb_flat.specs.Flat.{Always, Operation, Constant, ApplyUnary, ApplyBinary, FirstThen, Previous}
 use Rattle.lb_flat.specs.Layouts.{Layout}
 use Rattle.lb_flat.specs.PlainLayout.{place_among, plain_layout}
 use Rattle.lb_flat.specs.Emit.{State, Emitted, gives, add, keep, push, negated, chained, twice, emit_nor, emit_at_most_one, emit_name, emit, emit_all, numbers, chosen_by}
-use Rattle.lb_flat.specs.Terms.{TypedElement, pushed, as_truth, literal, unary_result, binary_result, emit_term, emit_row}
-use Rattle.lb_flat.proofs.TypeFacts.{bound, truly, some_same, and_first, and_second}
+use Rattle.lb_flat.specs.Terms.{TypedElement, pushed, only_found, literal, emit_term, emit_row}
+use Rattle.lb_flat.proofs.TypeFacts.{and_first, and_second}
 
 -- ## Literals
 
@@ -154,7 +146,7 @@ as_emitted f = gives f.state (f.element ∷ [])
 abbrev IsSingle : Emitted → Type 0
 IsSingle r = r.found ≡ get_or r.found 0 0 ∷ []
 
-single_is : (r : Emitted) → IsSingle r → r ≡ as_emitted (as_truth r)
+single_is : (r : Emitted) → IsSingle r → r ≡ as_emitted (only_found r)
 single_is r e = ap (λ is. gives r.state is) e
 
 negated_single : (r : Emitted) → IsSingle r → IsSingle (negated Always r)
@@ -177,46 +169,17 @@ twice_single s any two [] = refl
 twice_single s any two (i ∷ is) = twice_single _ _ _ is
 
 nor_single : (s : State) (is : List ℕ) →
-    emit_nor Always s is ≡ as_emitted (as_truth (emit_nor Always s is))
+    emit_nor Always s is ≡ as_emitted (only_found (emit_nor Always s is))
 nor_single s is = single_is _ (negated_single _ (chained_single _ _ is _))
 
 at_most_one_single : (s : State) (is : List ℕ) →
-    emit_at_most_one Always s is ≡ as_emitted (as_truth (emit_at_most_one Always s is))
+    emit_at_most_one Always s is ≡ as_emitted (only_found (emit_at_most_one Always s is))
 at_most_one_single s is = single_is _ (negated_single _ (twice_single _ _ _ is))
 
--- ## Kinds
-
-unary_kind_is : (op : UnaryOperator) (k r : Kind) → unary_kind op k ≡ Some r → unary_result op ≡ r
-unary_kind_is Not k r e = (truly (is_kind k Bool_kind) Bool_kind r e).same
-unary_kind_is Negate k r e = (truly (is_kind k Int_kind) Int_kind r e).same
-
-binary_kind_is : (op : BinaryOperator) (k l r : Kind) → binary_kind op k l ≡ Some r →
-    binary_result op ≡ r
-binary_kind_is op k l r e = by (is_arithmetic op) (is_logical op) (is_equality op) e
-  where
-    by : (a b c : Bool) →
-        cond a (where_true (is_kind k Int_kind && is_kind l Int_kind) Int_kind)
-        (cond b (where_true (is_kind k Bool_kind && is_kind l Bool_kind) Bool_kind)
-        (cond c (where_true (is_kind k l) Bool_kind)
-        (where_true (is_kind k Int_kind && is_kind l Int_kind) Bool_kind))) ≡ Some r →
-        cond a Int_kind Bool_kind ≡ r
-    by true b c e = (truly _ Int_kind r e).same
-    by false true c e = (truly _ Bool_kind r e).same
-    by false false true e = (truly _ Bool_kind r e).same
-    by false false false e = (truly _ Bool_kind r e).same
-
-same_kind_is : (k l r : Kind) → same_kind k l ≡ Some r → l ≡ r
-same_kind_is k l r e = (truly _ l r e).same
-
-pub bool_is : (o : Option Kind) → is_bool o ≡ true → o ≡ Some Bool_kind
-bool_is None e = absurd cc
-bool_is (Some Int_kind) e = absurd cc
-bool_is (Some Bool_kind) e = refl
+-- ## Literals and places
 
 literal_is : (v : ℕ) → nat_le v 2147483647 ≡ true → literal v ≡ Integer (pos v)
 literal_is v e = rw e refl
-
--- ## Places
 
 not_true : (b : Bool) → not b ≡ true → b ≡ false
 not_true true e = absurd cc
@@ -238,12 +201,6 @@ place_found k (x ∷ xs) (suc i) y d e =
     rw no (place_found (suc k) xs i y (and_second (not (among x xs)) _ d) e
     ∙ ap (λ (a : ℕ). a ∷ []) sum)
 
-get_kind : (vars : List Declared) (i : ℕ) (v : Declared) → slice_get vars i ≡ Some v →
-    slice_get (kinds_of vars) i ≡ Some v.kind
-get_kind [] i v e = absurd cc
-get_kind (w ∷ vars) zero v e = let same : w ≡ v = cc in ap (λ (z : Declared). Some z.kind) same
-get_kind (w ∷ vars) (suc i) v e = get_kind vars i v e
-
 -- the declarations from a place on
 pub drop_at : (vars : List Declared) (j : ℕ) (v : Declared) → slice_get vars j ≡ Some v →
     drop j (map declaration_of vars) ≡ declaration_of v ∷ drop (suc j) (map declaration_of vars)
@@ -257,31 +214,28 @@ nil_append : {A : Type 0} (xs : List A) → xs ++ [] ≡ xs
 nil_append [] = refl
 nil_append (x ∷ xs) = ap (λ zs. x ∷ zs) (nil_append xs)
 
--- a typed equation has one left variable
-pub record OneLeft (xs : List VariableId) (o : Option Kind) : Type 0 where
+-- an equation with one left name has one left variable
+pub record OneLeft (xs : List VariableId) : Type 0 where
   pub left : VariableId
   pub all : xs ≡ left ∷ []
-  pub kind : Kind
-  pub is : o ≡ Some kind
 
-pub one_left : (kinds : List Kind) (xs : List VariableId) (o : Option Kind) →
-    fits_left kinds xs o ≡ true → OneLeft xs o
-one_left kinds [] o e = absurd cc
-one_left kinds (x ∷ []) None e = absurd cc
-one_left kinds (x ∷ []) (Some k) e = record { left = x; all = refl; kind = k; is = refl }
-one_left kinds (x ∷ y ∷ xs) o e = absurd cc
+pub one_left : (names : List Name) (xs : List VariableId) (y : Name) →
+    map (name_of names) xs ≡ y ∷ [] → OneLeft xs
+one_left names [] y e = absurd cc
+one_left names (x ∷ []) y e = record { left = x; all = refl }
+one_left names (x ∷ (z ∷ xs)) y e = absurd cc
 
 -- ## Expressions
 
 -- `fby` from its operands, and `pre`
-abbrev after_fby : Emitted → Emitted → Scalar → Emitted
-after_fby x b v =
+abbrev after_fby : Emitted → Emitted → Emitted
+after_fby x b =
     let y = keep b in
-    let z = add Always y.state (map (Previous v) y.found) in
+    let z = add Always y.state (map (Previous first_value) y.found) in
     add Always z.state (zip2 (FirstThen false) x.found z.found)
 
-abbrev after_pre : Emitted → Scalar → Emitted
-after_pre a v = let x = keep a in add Always x.state (map (Previous v) x.found)
+abbrev after_pre : Emitted → Emitted
+after_pre a = let x = keep a in add Always x.state (map (Previous first_value) x.found)
 
 module _ (P : Program) (n : Node) (vars : List Declared)
     (vars_is : variables n ≡ map declaration_of vars)
@@ -289,9 +243,6 @@ module _ (P : Program) (n : Node) (vars : List Declared)
     (plain : list_all is_scalar (variables n) ≡ true) where
   abbrev pub names : List Name
   names = map (λ v. v.name) vars
-
-  abbrev pub kinds : List Kind
-  kinds = kinds_of vars
 
   abbrev pub Y : Layout
   Y = plain_layout n
@@ -312,7 +263,6 @@ module _ (P : Program) (n : Node) (vars : List Declared)
     pub name : name_of names x ≡ variable.name
     pub declared :
         named (λ d. d.name) (name_of names x) (variables n) ≡ Some (declaration_of variable)
-    pub kind : slice_get kinds x.0 ≡ Some variable.kind
     pub place : place_among 0 (variable_names n) variable.name ≡ x.0 ∷ []
 
   pub held : (x : VariableId) → is_place count x ≡ true → Held x
@@ -329,204 +279,115 @@ module _ (P : Program) (n : Node) (vars : List Declared)
             ap (λ z. named (λ d. d.name) z (variables n)) name
             ∙ ap (λ ds. named (λ d. d.name) v.0.name ds) vars_is
             ∙ found_at vars x.0 v.0 distinct v.1;
-        kind = get_kind vars x.0 v.0 v.1;
         place =
             ap (λ xs. place_among 0 xs v.0.name) names_is
             ∙ place_found 0 names x.0 v.0.name distinct got ∙ ap (λ (i : ℕ). i ∷ []) sum;
       }
 
-  named_type : (x : VariableId) → is_place count x ≡ true →
-      name_data_type P here (name_of names x) ≡ option_map scalar (slice_get kinds x.0)
-  named_type x within =
-      let h = held x within in
-      ap (λ o. either_or (option_map (variable_type P here) o) (Some int)) h.declared
-      ∙ ap (option_map scalar) (sym h.kind)
-
-  -- the first value of a memory for a term
-  first_is : (t : Term) (k : Kind) → is_within count t ≡ true → term_kind kinds t ≡ Some k →
-      first_of P here (expr_of names t) ≡ first_value k
-  first_is t k w e =
-      let s = term_types P here names kinds count named_type t w ∙ ap type_list e in
-      ap (λ ts. first_value (either_or (ts >>= only) int).kind) s
-
-  -- a term of this kind gives one element, as the code has it
-  pub record Emits (m : ℕ) (s : State) (t : Term) (k : Kind) : Type 0 where
-    pub emitted : emit Y P here Base m s (expr_of names t) ≡ as_emitted (emit_term kinds s t)
-    pub kind : (emit_term kinds s t).kind ≡ k
+  -- a term gives one element, as the code has it
+  abbrev pub Emits : ℕ → State → Term → Type 0
+  Emits m s t = emit Y P here Base m s (expr_of names t) ≡ as_emitted (emit_term s t)
 
   -- two operands
-  pair_emits : (f : ℕ → ℕ → Operation) (k : Kind) (m m' : ℕ) (s : State) (a b : Term)
-      (j l : Kind) → Emits m s a j → Emits m' (emit_term kinds s a).state b l →
+  pair_emits : (f : ℕ → ℕ → Operation) (m m' : ℕ) (s : State) (a b : Term) → Emits m s a →
+      Emits m' (emit_term s a).state b →
       (let x = emit Y P here Base m s (expr_of names a) in
       let y = emit Y P here Base m' x.state (expr_of names b) in
       add Always y.state (zip2 f x.found y.found))
-      ≡ (let x = emit_term kinds s a in
-      let y = emit_term kinds x.state b in
-      as_emitted (pushed y.state (f x.element y.element) k))
+      ≡ (let x = emit_term s a in
+      let y = emit_term x.state b in
+      as_emitted (pushed y.state (f x.element y.element)))
   unfolding add
-  pair_emits f k m m' s a b j l x y =
+  pair_emits f m m' s a b x y =
       let next : Emitted → Emitted → Emitted = λ x y. add Always y.state (zip2 f x.found y.found) in
-      ap (λ (r : Emitted). next r (emit Y P here Base m' r.state (expr_of names b))) x.emitted
-      ∙ ap (next (as_emitted (emit_term kinds s a))) y.emitted
+      ap (λ (r : Emitted). next r (emit Y P here Base m' r.state (expr_of names b))) x
+      ∙ ap (next (as_emitted (emit_term s a))) y
 
   mutual
-    unfolding emit emit_term term_kind add keep
+    unfolding emit emit_term add keep
 
-    pub term_emits : (t : Term) (m : ℕ) (s : State) (k : Kind) → is_within count t ≡ true →
-        has_ints t ≡ true → term_kind kinds t ≡ Some k → Emits m s t k
-    term_emits (Literal v) m s k w i e = record {
-      emitted = ap (λ c. as_emitted (pushed s (Constant c) Int_kind)) (sym (literal_is v i));
-      kind = some_same Int_kind k e;
-    }
-    term_emits (Truth b) m s k w i e = record { emitted = refl; kind = some_same Bool_kind k e }
-    term_emits (Variable x) m s k w i e =
+    pub term_emits : (t : Term) (m : ℕ) (s : State) → is_within count t ≡ true →
+        has_ints t ≡ true → Emits m s t
+    term_emits (Literal v) m s w i =
+        ap (λ c. as_emitted (pushed s (Constant c))) (sym (literal_is v i))
+    term_emits (Truth b) m s w i = refl
+    term_emits (Variable x) m s w i =
         let h = held x w in
-        record {
-          emitted =
-              ap (emit_name Y P here Base s (name_of names x)) h.declared
-              ∙ ap (gives s) h.place;
-          kind = ap (λ o. either_or o Int_kind) e;
-        }
-    term_emits (Group' p a) m s k w i e =
-        let r = term_emits a m s k w i e in record { emitted = r.emitted; kind = r.kind }
-    term_emits (Unary' op p a) m s k w i e =
-        let ka = bound (term_kind kinds a) (unary_kind op) k e in
-        let x = term_emits a m s ka.value w i ka.is in
-        record {
-          emitted =
-              ap (λ (r : Emitted). add Always r.state (map (ApplyUnary op) r.found)) x.emitted;
-          kind = unary_kind_is op ka.value k ka.gives;
-        }
-    term_emits (Binary' op p a q b) m s k w i e =
-        let ka = bound (term_kind kinds a) (λ j. term_kind kinds b >>= binary_kind op j) k e in
-        let kb = bound (term_kind kinds b) (binary_kind op ka.value) k ka.gives in
+        ap (emit_name Y P here Base s (name_of names x)) h.declared ∙ ap (gives s) h.place
+    term_emits (Group' p a) m s w i = term_emits a m s w i
+    term_emits (Unary' op p a) m s w i =
+        ap (λ (r : Emitted). add Always r.state (map (ApplyUnary op) r.found))
+        (term_emits a m s w i)
+    term_emits (Binary' op p a q b) m s w i =
         let m' = m + call_count (expr_of names a) in
-        let x = term_emits a m s ka.value (and_first _ (is_within count b) w)
-        (and_first _ (has_ints b) i) ka.is in
-        let y = term_emits b m' (emit_term kinds s a).state kb.value
-        (and_second (is_within count a) _ w) (and_second (has_ints a) _ i) kb.is in
-        record {
-          emitted =
-              pair_emits (ApplyBinary op) (binary_result op) m m' s a b ka.value kb.value x y;
-          kind = binary_kind_is op ka.value kb.value k kb.gives;
-        }
-    term_emits (If' p c q a r b) m s k w i e =
+        let x = term_emits a m s (and_first _ (is_within count b) w)
+        (and_first _ (has_ints b) i) in
+        let y = term_emits b m' (emit_term s a).state (and_second (is_within count a) _ w)
+        (and_second (has_ints a) _ i) in
+        pair_emits (ApplyBinary op) m m' s a b x y
+    term_emits (If' p c q a r b) m s w i =
         let wab = and_second (is_within count c) _ w in
         let iab = and_second (has_ints c) _ i in
-        let kc = bound (term_kind kinds c >>= unary_kind Not) (λ _.
-        term_kind kinds a >>= λ j. term_kind kinds b >>= same_kind j) k e in
-        let kd = bound (term_kind kinds c) (unary_kind Not) kc.value kc.is in
-        let ka = bound (term_kind kinds a) (λ j. term_kind kinds b >>= same_kind j) k kc.gives in
-        let kb = bound (term_kind kinds b) (same_kind ka.value) k ka.gives in
         let m' = m + call_count (expr_of names c) in
         let m'' = m + call_count (expr_of names c) + call_count (expr_of names a) in
-        let z = term_emits c m s kd.value (and_first _ (is_within count a && is_within count b) w)
-        (and_first _ (has_ints a && has_ints b) i) kd.is in
-        let fz = emit_term kinds s c in
-        let x = term_emits a m' fz.state ka.value (and_first _ (is_within count b) wab)
-        (and_first _ (has_ints b) iab) ka.is in
-        let fx = emit_term kinds fz.state a in
-        let y = term_emits b m'' fx.state kb.value (and_second (is_within count a) _ wab)
-        (and_second (has_ints a) _ iab) kb.is in
+        let z = term_emits c m s (and_first _ (is_within count a && is_within count b) w)
+        (and_first _ (has_ints a && has_ints b) i) in
+        let fz = emit_term s c in
+        let x = term_emits a m' fz.state (and_first _ (is_within count b) wab)
+        (and_first _ (has_ints b) iab) in
+        let fx = emit_term fz.state a in
+        let y = term_emits b m'' fx.state (and_second (is_within count a) _ wab)
+        (and_second (has_ints a) _ iab) in
         let next : Emitted → Emitted → Emitted → Emitted = λ z x y.
         add Always y.state (chosen_by z.found x.found y.found) in
         let from_x : Emitted → Emitted → Emitted = λ z x.
         next z x (emit Y P here Base m'' x.state (expr_of names b)) in
-        record {
-          emitted =
-              ap (λ (z : Emitted). from_x z (emit Y P here Base m' z.state (expr_of names a)))
-              z.emitted
-              ∙ ap (from_x (as_emitted fz)) x.emitted
-              ∙ ap (next (as_emitted fz) (as_emitted fx)) y.emitted;
-          kind = y.kind ∙ same_kind_is ka.value kb.value k kb.gives;
-        }
-    term_emits (Arrow' p a q b) m s k w i e =
-        let ka = bound (term_kind kinds a) (λ j. term_kind kinds b >>= same_kind j) k e in
-        let kb = bound (term_kind kinds b) (same_kind ka.value) k ka.gives in
+        ap (λ (z : Emitted). from_x z (emit Y P here Base m' z.state (expr_of names a))) z
+        ∙ ap (from_x (as_emitted fz)) x
+        ∙ ap (next (as_emitted fz) (as_emitted fx)) y
+    term_emits (Arrow' p a q b) m s w i =
         let m' = m + call_count (expr_of names a) in
-        let x = term_emits a m s ka.value (and_first _ (is_within count b) w)
-        (and_first _ (has_ints b) i) ka.is in
-        let fx = emit_term kinds s a in
-        let y = term_emits b m' fx.state kb.value
-        (and_second (is_within count a) _ w) (and_second (has_ints a) _ i) kb.is in
-        let fy = emit_term kinds fx.state b in
-        record {
-          emitted = pair_emits (FirstThen false) fy.kind m m' s a b ka.value kb.value x y;
-          kind = y.kind ∙ same_kind_is ka.value kb.value k kb.gives;
-        }
-    term_emits (Fby' p a q b) m s k w i e =
-        let ka = bound (term_kind kinds a) (λ j. term_kind kinds b >>= same_kind j) k e in
-        let kb = bound (term_kind kinds b) (same_kind ka.value) k ka.gives in
+        let x = term_emits a m s (and_first _ (is_within count b) w)
+        (and_first _ (has_ints b) i) in
+        let y = term_emits b m' (emit_term s a).state (and_second (is_within count a) _ w)
+        (and_second (has_ints a) _ i) in
+        pair_emits (FirstThen false) m m' s a b x y
+    term_emits (Fby' p a q b) m s w i =
         let m' = m + call_count (expr_of names a) in
-        let wb = and_second (is_within count a) _ w in
-        let x = term_emits a m s ka.value (and_first _ (is_within count b) w)
-        (and_first _ (has_ints b) i) ka.is in
-        let fx = emit_term kinds s a in
-        let y = term_emits b m' fx.state kb.value wb (and_second (has_ints a) _ i) kb.is in
-        let fy = emit_term kinds fx.state b in
-        let first = first_of P here (expr_of names b) in
-        let is_first : first ≡ first_value fy.kind =
-        first_is b kb.value wb kb.is ∙ ap first_value (sym y.kind) in
-        record {
-          emitted =
-              ap (λ (r : Emitted).
-              after_fby r (emit Y P here Base m' r.state (expr_of names b)) first)
-              x.emitted
-              ∙ ap (λ (r : Emitted). after_fby (as_emitted fx) r first) y.emitted
-              ∙ ap (after_fby (as_emitted fx) (as_emitted fy)) is_first;
-          kind = y.kind ∙ same_kind_is ka.value kb.value k kb.gives;
-        }
-    term_emits (Pre' p a) m s k w i e =
-        let x = term_emits a m s k w i e in
-        let fx = emit_term kinds s a in
-        let first = first_of P here (expr_of names a) in
-        let is_first : first ≡ first_value fx.kind =
-        first_is a k w e ∙ ap first_value (sym x.kind) in
-        record {
-          emitted =
-              ap (λ (r : Emitted). after_pre r first) x.emitted
-              ∙ ap (after_pre (as_emitted fx)) is_first;
-          kind = x.kind;
-        }
-    term_emits (AtMostOne' arity all) m s k w i e =
-        let t = truly (row_truths kinds all) Bool_kind k e in
-        let r = row_emits all m s [] w i t.holds in
-        let q = emit_row kinds s [] all in
-        record {
-          emitted =
-              ap (λ (q : Emitted). emit_at_most_one Always q.state q.found) (sym r)
-              ∙ at_most_one_single q.state q.found;
-          kind = t.same;
-        }
-    term_emits (Nor' arity all) m s k w i e =
-        let t = truly (row_truths kinds all) Bool_kind k e in
-        let r = row_emits all m s [] w i t.holds in
-        let q = emit_row kinds s [] all in
-        record {
-          emitted =
-              ap (λ (q : Emitted). emit_nor Always q.state q.found) (sym r)
-              ∙ nor_single q.state q.found;
-          kind = t.same;
-        }
+        let x = term_emits a m s (and_first _ (is_within count b) w)
+        (and_first _ (has_ints b) i) in
+        let fx = emit_term s a in
+        let y = term_emits b m' fx.state (and_second (is_within count a) _ w)
+        (and_second (has_ints a) _ i) in
+        ap (λ (r : Emitted). after_fby r (emit Y P here Base m' r.state (expr_of names b))) x
+        ∙ ap (after_fby (as_emitted fx)) y
+    term_emits (Pre' p a) m s w i = ap after_pre (term_emits a m s w i)
+    term_emits (AtMostOne' arity all) m s w i =
+        let q = emit_row s [] all in
+        ap (λ (q : Emitted). emit_at_most_one Always q.state q.found)
+        (sym (row_emits all m s [] w i))
+        ∙ at_most_one_single q.state q.found
+    term_emits (Nor' arity all) m s w i =
+        let q = emit_row s [] all in
+        ap (λ (q : Emitted). emit_nor Always q.state q.found) (sym (row_emits all m s [] w i))
+        ∙ nor_single q.state q.found
 
     row_emits : {l : _} (row : Row_of-Term l) (m : ℕ) (s : State) (found : List ℕ) →
-        are_within count row ≡ true → row_has_ints row ≡ true → row_truths kinds row ≡ true →
-        emit_row kinds s found row
+        are_within count row ≡ true → row_has_ints row ≡ true →
+        emit_row s found row
         ≡ (let r = emit_all Y P here Base m s (row_of names row) in
         gives r.state (found ++ joined r.found))
-    row_emits end_of-Term m s found w i e = ap (gives s) (sym (nil_append found))
-    row_emits (more_of-Term t rest) m s found w i e =
+    row_emits end_of-Term m s found w i = ap (gives s) (sym (nil_append found))
+    row_emits (more_of-Term t rest) m s found w i =
         let m' = m + call_count (expr_of names t) in
-        let is_truth = bool_is (term_kind kinds t) (and_first _ (row_truths kinds rest) e) in
-        let x = term_emits t m s Bool_kind (and_first _ (are_within count rest) w)
-        (and_first _ (row_has_ints rest) i) is_truth in
-        let fx = emit_term kinds s t in
+        let x = term_emits t m s (and_first _ (are_within count rest) w)
+        (and_first _ (row_has_ints rest) i) in
+        let fx = emit_term s t in
         let ih = row_emits rest m' fx.state (found ++ fx.element ∷ [])
-        (and_second (is_within count t) _ w) (and_second (has_ints t) _ i)
-        (and_second (is_bool (term_kind kinds t)) _ e) in
+        (and_second (is_within count t) _ w) (and_second (has_ints t) _ i) in
         let r = emit_all Y P here Base m' fx.state (row_of names rest) in
         let whole : Emitted → Emitted = λ x.
         (let r = emit_all Y P here Base m' x.state (row_of names rest) in
         gives r.state (found ++ (x.found ++ joined r.found))) in
         ih ∙ ap (gives r.state) (append_assoc found (fx.element ∷ []) (joined r.found))
-        ∙ ap whole (sym x.emitted)
+        ∙ ap whole (sym x)

@@ -4,9 +4,7 @@ use Rattle.std.specs.Prelude.{◌&&◌, nat_le, nat_lt, nat_eq, flat_map}
 use Rattle.std.specs.List.{list_all, range_with_len}
 use Rattle.std.proofs.lemmas.Bool.Decides.{nat_tests}
 use Rattle.std.proofs.lemmas.List.{take-append-drop, drop-drop, length-map}
-use Rattle.lb_syntax.specs.declared.tree.Kind.{Kind}
-use Rattle.lb_syntax.specs.declared.tree.Kind.TheVariants.{Bool as Bool_kind}
-use Rattle.lb_syntax.specs.Lists.{◌>>=◌, listed}
+use Rattle.lb_syntax.specs.Lists.{◌>>=◌, Every, listed}
 use Rattle.lb_syntax.specs.Tree.{Name, Node, Declaration}
 use Rattle.lb_flat.specs.declared.plain.Plain.{Plain}
 use Rattle.lb_static.specs.declared.resolved.VariableId.{VariableId}
@@ -22,28 +20,27 @@ use Rattle.lb_flat.specs.PlainNodes.{IsPlain, is_plain, start_of, is_scalar, is_
 use Rattle.lb_flat.specs.PlainPrograms.{node_in, IsPlainFault}
 use Rattle.lb_flat.specs.PlainTerms.{declaration_of, name_of, expr_of, row_of, statement_of}
 use Rattle.lb_check.specs.Occurrences.{call_count}
-use Rattle.lb_flat.specs.TermKinds.{kinds_of, term_kind, is_plain_statement_typed, are_typed}
 use Rattle.lb_check.specs.Verdicts.{property_path}
-use Rattle.lb_flat.proofs.PlainNames.{distinct_names}
-use Rattle.lb_flat.proofs.PlainTypes.{names_map, node_typed}
-use Rattle.lb_flat.proofs.PlainClocks.{base_declared, step_base}
+use Rattle.lb_flat.proofs.PlainNames.{distinct_names, names_map}
+use Rattle.lb_flat.proofs.PlainGiven.{HasOneLeft, one_lefts}
+use Rattle.lb_flat.proofs.PlainClocks.{base_declared, step_base, no_clock_variables}
 use Rattle.lb_flat.specs.declared.flat.Flat.{Flat}
 use Rattle.lb_flat.specs.declared.error.FlatError.{FlatError}
 use Rattle.lb_flat.specs.declared.error.FlatError.TheVariants as error
 use Rattle.lb_flat.specs.TermExpansion.{IsSizedAnswer}
 use Rattle.lb_flat.specs.Expanded.{IsExpansionOf, IsExpansionAnswer}
 use Rattle.lb_flat.proofs.PlainAnswers.{plain_expansion}
-use Rattle.lb_flat.proofs.PlainSize.{all_typed, plain_size}
+use Rattle.lb_flat.proofs.PlainSize.{plain_size}
 use Rattle.lb_check.specs.Acceptance.{check_refusal}
 use Rattle.lb_check.specs.TypeRules.{size, is_small}
 use Rattle.lb_flat.specs.Flat.{Always, Input, FlatEquation}
 use Rattle.lb_flat.specs.Judging.{FlatProgram}
 use Rattle.lb_flat.specs.Layouts.{Layout, flat_clock}
 use Rattle.lb_flat.specs.PlainLayout.{place_among, plain_layout}
-use Rattle.lb_flat.specs.Emit.{State, Emitted, Target, assert, joins, emit, emit_body, emit_instances, before_instances, targets, copied, from_inputs, given_inputs, observed, property_places, expanded}
+use Rattle.lb_flat.specs.Emit.{State, Emitted, Target, assert, joins, emit, emit_body, emit_instances, before_instances, targets, copied, from_inputs, given_inputs, observed, clock_places, property_places, expanded}
 use Rattle.lb_flat.specs.Terms.{copied_first, with_copies, emit_term, emit_statement, emit_statements, given_elements, expanded_plain, term_size, row_size, statement_size, statements_size, plain_size_of}
 use Rattle.lb_flat.proofs.TypeFacts.{and_first, and_second}
-use Rattle.lb_flat.proofs.PlainEmission.{step_has_ints, steps_ints, as_emitted, held, term_emits, one_left, bool_is, drop_at}
+use Rattle.lb_flat.proofs.PlainEmission.{step_has_ints, steps_ints, as_emitted, held, term_emits, one_left, drop_at}
 
 -- ## Size
 
@@ -129,9 +126,6 @@ module _ (P : Program) (n : Node) (vars : List Declared)
   abbrev names : List Name
   names = map (λ v. v.name) vars
 
-  abbrev kinds : List Kind
-  kinds = kinds_of vars
-
   abbrev Y : Layout
   Y = plain_layout n
 
@@ -159,18 +153,18 @@ module _ (P : Program) (n : Node) (vars : List Declared)
 
   pub body_emits : (ss : List PlainStatement) (m : ℕ) (s : State) →
       list_all (is_statement_within count) ss ≡ true → list_all step_has_ints ss ≡ true →
-      are_typed kinds ss ≡ true → rest_after m ss s ≡ emit_statements kinds s ss
+      Every (HasOneLeft n) (map (statement_of names) ss) →
+      rest_after m ss s ≡ emit_statements s ss
   unfolding emit_body emit_statements emit_statement joins assert
   body_emits [] m s w i e = refl
   body_emits (statement.Equation lefts t ∷ ss) m s w i e =
       let here_within = and_first _ (list_all (is_statement_within count) ss) w in
       let m' = m + call_count (expr_of names t) in
-      let left = one_left kinds lefts.items (term_kind kinds t)
-      (and_first _ (are_typed kinds ss) e) in
-      let x = term_emits P n vars vars_is distinct plain t m s left.kind
+      let left = one_left names lefts.items e.0.name e.0.is in
+      let x = term_emits P n vars vars_is distinct plain t m s
       (and_second (list_all (is_place count) lefts.items) _ here_within)
-      (and_first _ (list_all step_has_ints ss) i) left.is in
-      let fx = emit_term kinds s t in
+      (and_first _ (list_all step_has_ints ss) i) in
+      let fx = emit_term s t in
       let place = subst (λ xs. list_all (is_place count) xs ≡ true) left.all
       (and_first (list_all (is_place count) lefts.items) _ here_within) in
       let is_target = target_is left.left (and_first (is_place count left.left) true place) in
@@ -180,11 +174,10 @@ module _ (P : Program) (n : Node) (vars : List Declared)
       rest_after m' ss (with_copies x.state (copied ts x.found)) in
       let ih = body_emits ss m' (with_copies fx.state (copied_first lefts.items fx.element))
       (and_second (is_statement_within count (statement.Equation lefts t)) _ w)
-      (and_second (step_has_ints (statement.Equation lefts t)) _ i)
-      (and_second (is_plain_statement_typed kinds (statement.Equation lefts t)) _ e) in
+      (and_second (step_has_ints (statement.Equation lefts t)) _ i) e.1 in
       ap (λ k. next (emit Y P here k m s (expr_of names t)) (lefts_of lefts.items))
       (step_base P n plain names (statement.Equation lefts t))
-      ∙ ap (λ (x : Emitted). next x (lefts_of lefts.items)) x.emitted
+      ∙ ap (λ (x : Emitted). next x (lefts_of lefts.items)) x
       ∙ ap (λ xs. next (as_emitted fx) (lefts_of xs)) left.all
       ∙ ap (λ ts. next (as_emitted fx) (ts ++ [])) is_target
       ∙ ap (λ xs. rest_after m' ss (with_copies fx.state (copied_first xs fx.element)))
@@ -192,19 +185,17 @@ module _ (P : Program) (n : Node) (vars : List Declared)
       ∙ ih
   body_emits (statement.Assertion t ∷ ss) m s w i e =
       let m' = m + call_count (expr_of names t) in
-      let is_truth = bool_is (term_kind kinds t) (and_first _ (are_typed kinds ss) e) in
-      let x = term_emits P n vars vars_is distinct plain t m s Bool_kind
+      let x = term_emits P n vars vars_is distinct plain t m s
       (and_first _ (list_all (is_statement_within count) ss) w)
-      (and_first _ (list_all step_has_ints ss) i) is_truth in
-      let fx = emit_term kinds s t in
+      (and_first _ (list_all step_has_ints ss) i) in
+      let fx = emit_term s t in
       let next : Emitted → State = λ x. rest_after m' ss (assert x) in
       let ih = body_emits ss m' (assert (as_emitted fx))
       (and_second (is_statement_within count (statement.Assertion t)) _ w)
-      (and_second (step_has_ints (statement.Assertion t)) _ i)
-      (and_second (is_plain_statement_typed kinds (statement.Assertion t)) _ e) in
+      (and_second (step_has_ints (statement.Assertion t)) _ i) e.1 in
       ap (λ k. next (emit Y P here k m s (expr_of names t)))
       (step_base P n plain names (statement.Assertion t))
-      ∙ ap next x.emitted ∙ ih
+      ∙ ap next x ∙ ih
 
   -- ## Inputs and the property
 
@@ -290,8 +281,7 @@ module _ (el : Plain) where
       let parts = steps_parts (map (λ v. v.name) el.variables.items) el.body.items in
       omega (arith, count_is, parts)
 
-  module _ (P : Program) (e : IsPlain P node)
-      (typed : are_typed (kinds_of el.variables.items) el.body.items ≡ true) where
+  module _ (P : Program) (e : IsPlain P node) (lefts : Every (HasOneLeft node) node.body) where
     distinct : are_distinct (map (λ v. v.name) el.variables.items) ≡ true
     distinct =
         subst (λ xs. are_distinct xs ≡ true)
@@ -302,12 +292,13 @@ module _ (el : Plain) where
         second_of (nat_eq (length node.parameters) 0) (list_all is_scalar (variables node)) _
         e.plain
 
+    forms : list_all is_plain (node_parts node) ≡ true
+    forms =
+        second_of (list_all is_scalar (variables node)) (list_all is_plain (node_parts node)) _
+        (and_second (nat_eq (length node.parameters) 0) _ e.plain)
+
     ints : list_all step_has_ints el.body.items ≡ true
-    ints =
-        let rest = and_second (list_all is_scalar (variables node)) _
-        (and_second (nat_eq (length node.parameters) 0) _ e.plain) in
-        steps_ints (map (λ v. v.name) el.variables.items) el.body.items
-        (and_first (list_all is_plain (node_parts node)) _ rest)
+    ints = steps_ints (map (λ v. v.name) el.variables.items) el.body.items forms
 
     abbrev layout : Layout
     layout = plain_layout node
@@ -316,21 +307,23 @@ module _ (el : Plain) where
     elements = length el.variables.items
 
     abbrev last : State
-    last = emit_statements (kinds_of el.variables.items) (before_instances elements) el.body.items
+    last = emit_statements (before_instances elements) el.body.items
 
     emitted : emit_instances layout P (before_instances elements) (instances P) ≡ last
     unfolding emit_instances
     emitted =
         ap (emit_instances layout P (before_instances elements)) e.alone
         ∙ body_emits P node el.variables.items vars_are distinct plain el.body.items 0
-        (before_instances elements) el.steps_fit ints typed
+        (before_instances elements) el.steps_fit ints lefts
 
-    abbrev from : State → List FlatEquation → List FlatEquation → ℕ → ℕ → FlatProgram
-    from s given seen count property = record {
+    abbrev from :
+        State → List FlatEquation → List FlatEquation → ℕ → List ℕ → ℕ → FlatProgram
+    from s given seen count clock_elements property = record {
       equations = given ++ (seen ++ (s.copies ++ s.equations));
       size = s.next;
       variables = count;
       memory_operands = s.memory_operands;
+      clock_elements = clock_elements;
       asserted = s.asserted;
       property = property;
     }
@@ -349,6 +342,12 @@ module _ (el : Plain) where
         ap (λ o. observed layout o (instance_at P Observer)) e.root
         ∙ ap (observed layout (Some (start_of node))) no_observer
 
+    are_clocks : clock_places layout (instances P) ≡ []
+    are_clocks =
+        ap (clock_places layout) e.alone
+        ∙ ap (λ ds. flat_map (λ (d : Declaration). layout.places Root d.name) ds ++ [])
+        (no_clock_variables node plain forms)
+
     is_property : get_or (property_places layout P) 0 0 ≡ el.inputs
     is_property =
         let fits = el.parts_fit in
@@ -365,26 +364,16 @@ module _ (el : Plain) where
     expansion_is =
         let given = given_inputs layout (instance_at P Root) in
         let seen = observed layout (instance_at P Root) (instance_at P Observer) in
+        let clock_elements = clock_places layout (instances P) in
         let property = get_or (property_places layout P) 0 0 in
         sym (
         ap (expanded layout P) count_is
-        ∙ ap (λ s. from s given seen elements property) emitted
-        ∙ ap (λ qs. from last qs seen elements property) is_given
-        ∙ ap (λ qs. from last (given_elements el.inputs) qs elements property) is_observed
-        ∙ ap (from last (given_elements el.inputs) [] elements) is_property)
-
--- what is refused for no reason is typed as the code would find it
-typed_is : (el : Plain) (P : Program) → IsPlain P (node_in el) → check_refusal P ≡ None →
-    are_typed (kinds_of el.variables.items) el.body.items ≡ true
-typed_is el P e refusal =
-    let n = node_in el in
-    sym (node_typed P n e el.variables.items (vars_are el) el.body.items refl el.steps_fit
-    (plain_of n e))
-    ∙ all_typed P (start_of n) e.alone refusal
-  where
-    plain_of : (n : Node) → IsPlain P n → list_all is_scalar (variables n) ≡ true
-    plain_of n e = second_of (nat_eq (length n.parameters) 0) (list_all is_scalar (variables n)) _
-        e.plain
+        ∙ ap (λ s. from s given seen elements clock_elements property) emitted
+        ∙ ap (λ qs. from last qs seen elements clock_elements property) is_given
+        ∙ ap (λ qs. from last (given_elements el.inputs) qs elements clock_elements property)
+        is_observed
+        ∙ ap (λ is. from last (given_elements el.inputs) [] elements is property) are_clocks
+        ∙ ap (from last (given_elements el.inputs) [] elements []) is_property)
 
 -- the answer of the code about the terms is the one about the program
 pub answer_is :
@@ -398,7 +387,7 @@ answer_is el P (Ok f) e refusal h =
     let small : is_small P ≡ true =
     at_most (size P) (omega (arith, counted_by, counted, limit)) in (
       small,
-      subst (IsExpansionOf P) (sym (h.1 ∙ expansion_is el P e (typed_is el P e refusal)))
+      subst (IsExpansionOf P) (sym (h.1 ∙ expansion_is el P e (one_lefts P n e refusal)))
           (plain_expansion P n e refusal),
     )
 answer_is el P (Err error.Memory) e refusal h = tt

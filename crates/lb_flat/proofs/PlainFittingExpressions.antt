@@ -1,5 +1,5 @@
 -- A typed expression of a plain node gives one element of its kind, and equations that fit.
-use Rattle.std.proofs.Common.{◌≡◌, ℕ, ◌+◌, true, false, pos, Option, Some, option_map, List, [], ◌∷◌, ◌++◌, refl, sym, ap, ◌∙◌, subst, subst₂}
+use Rattle.std.proofs.Common.{◌≡◌, ℕ, ◌+◌, true, false, pos, Some, option_map, List, [], ◌∷◌, ◌++◌, refl, sym, ap, ◌∙◌, subst, subst₂}
 use Rattle.std.specs.List.{list_all}
 use Rattle.lb_syntax.specs.declared.tree.Kind.{Kind}
 use Rattle.lb_syntax.specs.declared.tree.Kind.TheVariants.{Int, Bool as Truth}
@@ -11,7 +11,7 @@ use Rattle.lb_static.specs.Instances.{Program, Instance}
 use Rattle.lb_static.specs.DataTypes.{DataType, int, truth, is_type, variables, variable_type}
 use Rattle.lb_static.specs.Parts.{among, variable_names, parts, parts_in, own_names}
 use Rattle.lb_flat.specs.PlainNodes.{is_scalar, is_plain, start_of}
-use Rattle.lb_check.specs.Scalars.{Integer, Boolean, first_value}
+use Rattle.lb_check.specs.Scalars.{Integer, Boolean}
 use Rattle.lb_check.specs.Types.{data_types, all_types, only, singly, name_data_type, from_one, from_truths, unary_type, binary_type, common_type}
 use Rattle.lb_check.specs.Clocks.{Base}
 use Rattle.lb_check.specs.Occurrences.{call_count}
@@ -19,7 +19,7 @@ use Rattle.lb_flat.specs.Flat.{Constant, ApplyUnary, ApplyBinary}
 use Rattle.lb_flat.specs.PlainLayout.{plain_layout}
 use Rattle.lb_flat.specs.Emit.{State, Emitted, EmittedAll, emit_name, emit, emit_all}
 use Rattle.lb_flat.proofs.Lists.{Every-append, Every-first, Every-second}
-use Rattle.lb_flat.proofs.ScalarKinds.{IsOf}
+use Rattle.lb_flat.proofs.ScalarKinds.{nil_of}
 use Rattle.lb_flat.proofs.TypeFacts.{bound, some_same, single, alone, and_first, and_second, one, two, from_true}
 use Rattle.lb_flat.proofs.PlainFittingKinds.{IsKind, Keeps}
 use Rattle.lb_flat.proofs.PlainFittingTypes.{scalar, binary_scalar, unary_scalar, same_scalars, truth_kind, SameScalars}
@@ -44,16 +44,6 @@ aft n es es' h = Every-second (IsPlainExpression (variable_names n)) es es' h
 
 pub not_plain : {A : Type 0} → false ≡ true → A
 not_plain e = absurd cc
-
-first_is_of :
-    (o : Option (List DataType)) (k : Kind) → o ≡ Some (scalar k ∷ []) →
-    IsOf k (first_value (either_or (o >>= only) int).kind)
-first_is_of o k e =
-    subst (λ p. IsOf k (first_value (either_or (p >>= only) int).kind)) (sym e) (by k)
-  where
-    by : (k : Kind) → IsOf k (first_value k)
-    by Int = refl
-    by Truth = refl
 
 head_same : (s t : DataType) → s ∷ [] ≡ t ∷ [] → s ≡ t
 head_same s t e = cc
@@ -226,8 +216,8 @@ module _ (P : Program) (n : Node) (scalars : list_all is_scalar (variables n) �
         (aft n (parts a) (parts b) p.1) i.is_second (later ks x.gives.kinds w x.gives.keeps)
         x.gives.state in
         let u = alike x.kind y.kind i.first i.second i.result x.all y.all i.gives in
-        let v = first_is_of (data_types P (start_of n) b) y.kind (i.is_second ∙ ap Some y.all) in
-        let before = previous_gives inputs x.gives.kinds _ y.kind _ v y.gives in
+        let before =
+        previous_gives inputs x.gives.kinds _ y.kind _ (nil_of y.kind) y.gives in
         record {
           kind = x.kind;
           all = all_are ts i.result x.kind i.all u.is;
@@ -236,12 +226,11 @@ module _ (P : Program) (n : Node) (scalars : list_all is_scalar (variables n) �
     fits m s (Pre a) ts ks p e w h =
         let i = one (data_types P (start_of n) a) Some ts e in
         let x = fits m s a (i.data_type ∷ []) ks p.1 i.is w h in
-        let v = first_is_of (data_types P (start_of n) a) x.kind (i.is ∙ ap Some x.all) in
         let same = some_same _ _ i.gives in
         record {
           kind = x.kind;
           all = all_are ts i.result x.kind i.all (sym same ∙ head_same _ _ x.all);
-          gives = previous_gives inputs ks _ x.kind _ v x.gives;
+          gives = previous_gives inputs ks _ x.kind _ (nil_of x.kind) x.gives;
         }
     fits m s (AtMostOne es) ts ks p e w h =
         let t = from_true (all_types P (start_of n) es) ts e in

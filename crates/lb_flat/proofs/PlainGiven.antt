@@ -76,12 +76,12 @@ one_copied k is i j e =
 -- ## Left sides
 
 -- one variable stands on the left
-record IsOneLeft (n : Node) (lefts : List Name) : Type 0 where
-  name : Name
-  is : lefts ≡ name ∷ []
-  is_in : In name (variable_names n)
+pub record IsOneLeft (n : Node) (lefts : List Name) : Type 0 where
+  pub name : Name
+  pub is : lefts ≡ name ∷ []
+  pub is_in : In name (variable_names n)
 
-abbrev HasOneLeft : Node → Statement → Type 0
+abbrev pub HasOneLeft : Node → Statement → Type 0
 HasOneLeft n (Equation lefts e) = IsOneLeft n lefts
 HasOneLeft n (Assertion e) = Unit {0}
 
@@ -263,7 +263,7 @@ module _ (P : Program) (n : Node) (elaborated : IsPlain P n)
   abbrev lefts : List Name
   lefts = flat_map left_names n.body
 
-  one_lefts : Every (HasOneLeft n) n.body
+  pub one_lefts : Every (HasOneLeft n) n.body
   one_lefts =
       statements_one P n elaborated n.body (parts_plain P n elaborated)
       (all_typed P n elaborated accepted)

@@ -106,3 +106,9 @@ found_at (w ∷ vars) (suc i) v d e =
     let a = not_true _ (and_first (not (among w.name (map (λ v. v.name) vars))) _ d) in
     let no = not_among w.name (map (λ v. v.name) vars) i v.name a (get_name vars i v e) in
     rw no (found_at vars i v (and_second (not (among w.name (map (λ v. v.name) vars))) _ d) e)
+
+-- the names of declarations are those of the variables
+pub names_map : (vars : List Variable) → map (λ d. d.name) (map declaration_of vars)
+    ≡ map (λ v. v.name) vars
+names_map [] = refl
+names_map (v ∷ vars) = ap (λ (xs : List Name). v.name ∷ xs) (names_map vars)

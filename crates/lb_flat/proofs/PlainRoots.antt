@@ -300,7 +300,7 @@ module _ (nodes : List Name) (r : ResolvedNode) (resolved_is : IsResolved nodes 
     (vars : List Variable)
     (declared_is : map declaration_of vars ≡ variables (resolved_node.node_of r))
     (statements : List PlainStatement) (of : AreStatementsOf r.body.items statements) where
-  pub as_many_variables : length vars ≡ length r.variables.items
+  as_many_variables : length vars ≡ length r.variables.items
   as_many_variables =
       count_is (resolved_node.node_of r) vars r.inputs r.outputs declared_is resolved_is.inputs
       resolved_is.outputs ∙ sym resolved_is.as_many

@@ -268,7 +268,7 @@ no_refusal : (b : Bool) (o : Option Refusal) → or_else (unless b E9) o ≡ Non
 no_refusal true o e = refl
 no_refusal false o e = cc
 
-pub all_typed :
+all_typed :
     (P : Program) (here : Instance) → instances P ≡ here ∷ [] → check_refusal P ≡ None →
     is_typed P here ≡ true
 all_typed P here alone e =

@@ -11,12 +11,12 @@ use Rattle.lb_static.specs.DataTypes.{DataType, variables}
 use Rattle.lb_static.specs.Parts.{parts, parts_in, right_side}
 use Rattle.lb_static.specs.Instantiation.{are_same}
 use Rattle.lb_flat.specs.PlainNodes.{is_plain}
-use Rattle.lb_check.specs.Scalars.{Scalar, Integer, Boolean, Stream, or_fault, two_scalars, one_scalar, at_most_one, none_true}
+use Rattle.lb_check.specs.Scalars.{Scalar, Integer, Boolean, Stream, or_fault, two_scalars, one_scalar, at_most_one, none_true, first_value}
 use Rattle.lb_check.specs.Types.{data_types}
 use Rattle.lb_check.specs.TypeRules.{type_of_name, is_statement_typed}
 use Rattle.lb_check.specs.Clocks.{Clock, declared_clock}
 use Rattle.lb_check.specs.Occurrences.{Occurrence, at, call_count, occurrences, occurrences_in, statement_clock, right_sides}
-use Rattle.lb_check.specs.Streams.{History, presence, constantly, along, along_two, choices, previous, first_then, across, first_of, streams, all_streams}
+use Rattle.lb_check.specs.Streams.{History, presence, constantly, along, along_two, choices, previous, first_then, across, streams, all_streams}
 use Rattle.lb_check.specs.Solutions.{AreEqual}
 use Rattle.lb_flat.proofs.Lists.{Every-append, Every-first, Every-second}
 use Rattle.lb_flat.proofs.Bodies.{occurrences_of}
@@ -181,10 +181,10 @@ module _ (P : Program) (H G : History) (here : Instance)
           (plain_same (n + call_count a) b (aft (parts a) (parts b) p.1))
       plain_same n (Fby a b) p =
           ap₂ (zip2 first_then) (plain_same n a (fore (parts a) (parts b) p.1))
-          (ap₂ (λ bs xss. map (previous (first_of P here b) bs) xss) clock
+          (ap₂ (λ bs xss. map (previous first_value bs) xss) clock
           (plain_same (n + call_count a) b (aft (parts a) (parts b) p.1)))
       plain_same n (Pre a) p =
-          ap₂ (λ bs xss. map (previous (first_of P here a) bs) xss) clock (plain_same n a p.1)
+          ap₂ (λ bs xss. map (previous first_value bs) xss) clock (plain_same n a p.1)
       plain_same n (AtMostOne es) p =
           ap₂ (λ bs xsss. across at_most_one bs (joined xsss) ∷ []) clock (all_same n es p.1)
       plain_same n (Nor es) p =

@@ -169,8 +169,8 @@ module _ (clocks : List Clock) (qs : List Equation) (i : ℕ) (d : Equation) (lt
       pub step_put :
           (more : List ℕ) → ((j : InputId) → next.operation ≡ Input j → ⊥) →
           is_step (equation_of clocks next) ≡ true → IsWithin size clocks next →
-          more ≡ memories ++ place_of_memory (has_memory (operation_of next.operation)) (length steps)
-          →
+          more
+          ≡ memories ++ place_of_memory (has_memory (operation_of next.operation)) (length steps) →
           AreApart size clocks qs (i + 1) inputs (steps ++ next ∷ []) more
       step_put more never e within grown = record {
         inputs_are =

@@ -12,7 +12,7 @@ use Rattle.lb_syntax.specs.contracts.tree.UnaryOperatorPartialEq.TheImpl.{ghosts
 use Rattle.lb_syntax.specs.contracts.tree.BinaryOperatorPartialEq.TheImpl.{ghosts as binary}
 use Rattle.lb_check.specs.Scalars as scalars
 use Rattle.lb_flat.specs.declared.scalar.Scalar.{Scalar}
-use Rattle.lb_flat.specs.declared.scalar.Scalar.TheVariants.{Integer, Boolean, Bad}
+use Rattle.lb_flat.specs.declared.scalar.Scalar.TheVariants.{Integer, Boolean, Nil, Bad}
 use Rattle.lb_flat.specs.declared.equation.ElementId.{ElementId}
 use Rattle.lb_flat.specs.declared.equation.InputId.{InputId}
 use Rattle.lb_flat.specs.declared.equation.Operation.{Operation}
@@ -46,6 +46,7 @@ scalar_same (Boolean true) (Boolean true) h = refl
 scalar_same (Boolean true) (Boolean false) h = absurd (true≢false (sym h))
 scalar_same (Boolean false) (Boolean true) h = absurd (true≢false (sym h))
 scalar_same (Boolean false) (Boolean false) h = refl
+scalar_same Nil Nil h = refl
 scalar_same Bad Bad h = refl
 scalar_same _ _ h = absurd (true≢false (sym h))
 
@@ -94,6 +95,7 @@ operation_same _ _ h = absurd (true≢false (sym h))
 scalar_from : scalars.Scalar → Scalar
 scalar_from (scalars.Integer z) = Integer z
 scalar_from (scalars.Boolean b) = Boolean b
+scalar_from scalars.Nil = Nil
 scalar_from scalars.Bad = Bad
 
 operation_from : flat.Operation → Operation
@@ -114,6 +116,7 @@ scalar_back : (v : Scalar) → scalar_from (scalar_of v) ≡ v
 unfolding scalar_from
 scalar_back (Integer z) = refl
 scalar_back (Boolean b) = refl
+scalar_back Nil = refl
 scalar_back Bad = refl
 
 operation_back : (p : Operation) → operation_from (operation_of p) ≡ p

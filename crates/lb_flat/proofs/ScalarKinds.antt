@@ -1,5 +1,5 @@
 -- The operators give scalars of their kinds.
-use Rattle.std.proofs.Common.{◌≡◌, ◌≢◌, ℕ, zero, suc, ◌/◌, ◌<◌, ◌≤◌, Bool, true, false, ℤ, pos, negsuc, neg_ℤ, ◌+ℤ◌, ◌-ℤ◌, ◌*ℤ◌, int_div, int_rem, Option, Some, None, refl, subst, arith}
+use Rattle.std.proofs.Common.{◌≡◌, ◌≢◌, ℕ, zero, suc, ◌/◌, ◌<◌, ◌≤◌, Bool, true, false, ℤ, pos, negsuc, neg_ℤ, ◌+ℤ◌, ◌-ℤ◌, ◌*ℤ◌, int_div, int_rem, Option, Some, None, [], ◌∷◌, refl, subst, arith}
 use Rattle.std.specs.Int.Signed.{mag, mag_rem}
 use Rattle.std.proofs.Math.Nat.{div-le_self, div-one, div-lt_iff_lt-mul, div-le_of_le-mul}
 use Rattle.lb_syntax.specs.declared.tree.UnaryOperator.{UnaryOperator}
@@ -10,7 +10,7 @@ use Rattle.lb_syntax.specs.declared.tree.Kind.{Kind}
 use Rattle.lb_syntax.specs.declared.tree.Kind.TheVariants.{Int, Bool as Truth}
 use Rattle.lb_syntax.specs.Lists.{where_true}
 use Rattle.lb_static.specs.Arithmetic.{is_int, is_divisible}
-use Rattle.lb_check.specs.Scalars.{Scalar, Integer, Boolean, Bad, or_fault, two_scalars, one_scalar, chosen, is_of_kind}
+use Rattle.lb_check.specs.Scalars.{Scalar, Integer, Boolean, Nil, Bad, strict, or_fault, two_scalars, one_scalar, chosen, is_of_kind}
 
 -- ## Results in the range of `int`
 
@@ -110,9 +110,20 @@ unary_kind op k = None
 abbrev pub IsOf : Kind → Scalar → Type 0
 IsOf k v = is_of_kind k v ≡ true
 
+pub nil_of : (k : Kind) → IsOf k Nil
+nil_of Int = refl
+nil_of Truth = refl
+
 pub bad_of : (k : Kind) → IsOf k Bad
 bad_of Int = refl
 bad_of Truth = refl
+
+-- what an operator gives of nil and another operand
+nil_and : (k : Kind) (v : Scalar) → IsOf k (strict (v ∷ []) Nil)
+nil_and k (Integer z) = nil_of k
+nil_and k (Boolean b) = nil_of k
+nil_and k Nil = nil_of k
+nil_and k Bad = bad_of k
 
 one_kind : (k l : Kind) (v : Scalar) → Some k ≡ Some l → IsOf k v → IsOf l v
 one_kind k l v e h = let same : k ≡ l = cc in subst (λ m. IsOf m v) same h
@@ -159,12 +170,16 @@ pub binary_of :
     (op : BinaryOperator) (k l r : Kind) (v w : Scalar) → binary_kind op k l ≡ Some r →
     IsOf k v → IsOf l w → IsOf r (two_scalars op v w)
 binary_of op Int Int r (Integer a) (Integer b) e i j = of_integers op r a b e i j
+binary_of op Int Int r (Integer a) Nil e i j = nil_of r
 binary_of op Int Int r (Integer a) Bad e i j = bad_of r
+binary_of op Int Int r Nil w e i j = nil_and r w
 binary_of op Int Int r Bad w e i j = bad_of r
 binary_of op Int Int r (Boolean a) w e i j = cc
 binary_of op Int Int r (Integer a) (Boolean b) e i j = cc
 binary_of op Truth Truth r (Boolean a) (Boolean b) e i j = of_truths op r a b e
+binary_of op Truth Truth r (Boolean a) Nil e i j = nil_of r
 binary_of op Truth Truth r (Boolean a) Bad e i j = bad_of r
+binary_of op Truth Truth r Nil w e i j = nil_and r w
 binary_of op Truth Truth r Bad w e i j = bad_of r
 binary_of op Truth Truth r (Integer a) w e i j = cc
 binary_of op Truth Truth r (Boolean a) (Integer b) e i j = cc
@@ -175,10 +190,12 @@ pub unary_of :
     (op : UnaryOperator) (k r : Kind) (v : Scalar) → unary_kind op k ≡ Some r → IsOf k v →
     IsOf r (one_scalar op v)
 unary_of Negate Int r (Integer a) e i = one_kind Int r _ e (lawful_int (neg_ℤ a) _ refl)
+unary_of Negate Int r Nil e i = nil_of r
 unary_of Negate Int r Bad e i = bad_of r
 unary_of Negate Int r (Boolean a) e i = cc
 unary_of Negate Truth r v e i = cc
 unary_of Not Truth r (Boolean a) e i = one_kind Truth r _ e refl
+unary_of Not Truth r Nil e i = nil_of r
 unary_of Not Truth r Bad e i = bad_of r
 unary_of Not Truth r (Integer a) e i = cc
 unary_of Not Int r v e i = cc
@@ -188,4 +205,5 @@ pub chosen_of :
 chosen_of k (Boolean true) v w i j = i
 chosen_of k (Boolean false) v w i j = j
 chosen_of k (Integer z) v w i j = bad_of k
+chosen_of k Nil v w i j = nil_of k
 chosen_of k Bad v w i j = bad_of k

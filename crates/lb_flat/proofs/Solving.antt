@@ -10,7 +10,7 @@ use Rattle.lb_syntax.specs.Lists.{Every, In}
 use Rattle.lb_syntax.specs.Tree.{Name, Declaration}
 use Rattle.lb_static.specs.Instances.{Program, Instance, Path, Root, Observer, instances}
 use Rattle.lb_static.specs.DataTypes.{variables, width, input_kinds}
-use Rattle.lb_check.specs.Scalars.{Integer, Boolean, Bad, Stream}
+use Rattle.lb_check.specs.Scalars.{Integer, Boolean, Nil, Bad, Stream}
 use Rattle.lb_check.specs.Clocks.{declared_clock}
 use Rattle.lb_check.specs.Solutions.{Inputs, fits, is_row, Fits, SolvesAt, Solves}
 use Rattle.lb_flat.specs.Flat.{FlatClock, Always, Operation, ApplyBinary, FlatEquation, column, instants, Holds, FlatSolves}
@@ -61,6 +61,7 @@ fits_truths (false ∷ bs) (None ∷ xs) e = (tt, fits_truths bs xs e)
 fits_truths (false ∷ bs) (Some v ∷ xs) e = cc
 fits_truths (true ∷ bs) (Some (Integer z) ∷ xs) e = cc
 fits_truths (true ∷ bs) (Some (Boolean b) ∷ xs) e = (tt, fits_truths bs xs e)
+fits_truths (true ∷ bs) (Some Nil ∷ xs) e = (tt, fits_truths bs xs e)
 fits_truths (true ∷ bs) (Some Bad ∷ xs) e = (tt, fits_truths bs xs e)
 
 absent_truths : (n : ℕ) → Every IsTruth (replicate n None)

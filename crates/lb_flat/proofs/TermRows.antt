@@ -1,24 +1,20 @@
 -- A row of terms in a tree is the list in the vector; terms and steps from a place on.
-use Rattle.std.proofs.Common.{◌≡◌, ℕ, ◌+◌, ◌*◌, ◌<◌, ◌≤◌, List, [], ◌∷◌, ◌++◌, length, drop, get_or, Vec, Box, Global, refl, sym, ap, ◌∙◌, zero, suc, ◌⊎◌, inl, inr, arith}
-use Rattle.std.specs.Prelude.{true, ◌&&◌, nat_lt, slice_get}
+use Rattle.std.proofs.Common.{◌≡◌, ℕ, ◌+◌, ◌*◌, ◌<◌, ◌≤◌, List, [], ◌∷◌, ◌++◌, length, drop, get_or, Vec, Box, Global, refl, sym, ap, ◌∙◌, ◌⊎◌, inl, inr, arith}
+use Rattle.std.specs.Prelude.{Bool, true, ◌&&◌}
 use Rattle.std.specs.List.{list_all}
 use Rattle.std.proofs.lemmas.Bool.Decides.{nat_tests}
 use Rattle.std.proofs.lemmas.List.{drop_more}
 use mathlib.Core.Former.{Count}
 use Rattle.lb_syntax.specs.declared.tree.BinaryOperator.{BinaryOperator}
-use Rattle.lb_syntax.specs.declared.tree.Kind.{Kind}
-use Rattle.lb_syntax.specs.declared.tree.Kind.TheVariants.{Int as Int_kind}
 use Rattle.lb_syntax.specs.declared.tree.UnaryOperator.{UnaryOperator}
-use Rattle.lb_syntax.specs.Lists.{either_or}
-use Rattle.lb_flat.specs.declared.plain.term.Variable.{Variable as Declared}
 use Rattle.lb_static.specs.declared.resolved.VariableId.{VariableId}
 use Rattle.lb_flat.specs.declared.plain.term.PlainStatement.{PlainStatement}
-use Rattle.lb_flat.specs.declared.plain.term.Term.{Term, Unary, Binary, If, Arrow, Fby, Pre, AtMostOne, Nor, AtMostOne', Nor', Row_of-Term, end_of-Term, more_of-Term, items-the_row-Term, items_hidden-the_row-Term-0}
+use Rattle.lb_flat.specs.declared.plain.term.PlainStatement.TheVariants as statement
+use Rattle.lb_flat.specs.declared.plain.term.Term.{Term, Literal, Truth, Variable, Unary, Binary, If, Arrow, Fby, Pre, AtMostOne, Nor, Group', Unary', Binary', If', Arrow', Fby', Pre', AtMostOne', Nor', Row_of-Term, end_of-Term, more_of-Term, items-the_row-Term, items_hidden-the_row-Term-0}
 use Rattle.lb_flat.specs.PlainNodes.{is_place, is_statement_within, is_within, are_within}
-use Rattle.lb_flat.specs.TermKinds.{kinds_of}
 use Rattle.lb_flat.specs.Flat.{Always, Choose}
 use Rattle.lb_flat.specs.Emit.{State, Emitted, emit_nor, emit_at_most_one}
-use Rattle.lb_flat.specs.Terms.{TypedElement, pushed, with_one, with_two, with_all, as_truth, emit_term, emit_row, emit_list, term_size, row_size, list_size, statement_size, statements_size, emit_statement, emit_statements}
+use Rattle.lb_flat.specs.Terms.{TypedElement, pushed, with_one, with_two, with_all, only_found, emit_term, emit_row, emit_list, term_size, row_size, list_size, statement_size, statements_size, emit_statement, emit_statements}
 use Rattle.lb_flat.proofs.TypeFacts.{and_first, and_second}
 
 abbrev pub row_of : Term → (n : Count) × Row_of-Term n
@@ -88,116 +84,104 @@ row_size_is t es (inr is) = ap term_size is ∙ size_nor es
 -- ## Emission
 
 list_after_row :
-    (kinds : List Kind) (s : State) (found : List ℕ) (n : _) (row : Row_of-Term n) →
-    emit_row kinds s found row ≡ emit_list kinds s found (items-the_row-Term n row)
+    (s : State) (found : List ℕ) (n : _) (row : Row_of-Term n) →
+    emit_row s found row ≡ emit_list s found (items-the_row-Term n row)
 unfolding emit_term emit_list
-list_after_row kinds s found n end_of-Term = refl
-list_after_row kinds s found n (more_of-Term e rest) =
-    let x = emit_term kinds s e in
-    list_after_row kinds x.state (found ++ x.element ∷ []) _ rest
+list_after_row s found n end_of-Term = refl
+list_after_row s found n (more_of-Term e rest) =
+    let x = emit_term s e in
+    list_after_row x.state (found ++ x.element ∷ []) _ rest
 
 pub emit_at_most_one_is :
-    (kinds : List Kind) (s : State) (es : Vec Term Global) →
-    emit_term kinds s (AtMostOne es)
-    ≡ (let r = emit_list kinds s [] es.items in as_truth (emit_at_most_one Always r.state r.found))
+    (s : State) (es : Vec Term Global) →
+    emit_term s (AtMostOne es)
+    ≡ (let r = emit_list s [] es.items in only_found (emit_at_most_one Always r.state r.found))
 unfolding emit_term
-emit_at_most_one_is kinds s es =
+emit_at_most_one_is s es =
     let row = row_of (AtMostOne es) in
-    ap (λ (r : Emitted). as_truth (emit_at_most_one Always r.state r.found))
-    (list_after_row kinds s [] row.0 row.1
-    ∙ ap (emit_list kinds s []) (items_hidden-the_row-Term-0 es))
+    ap (λ (r : Emitted). only_found (emit_at_most_one Always r.state r.found))
+    (list_after_row s [] row.0 row.1
+    ∙ ap (emit_list s []) (items_hidden-the_row-Term-0 es))
 
 pub emit_nor_is :
-    (kinds : List Kind) (s : State) (es : Vec Term Global) →
-    emit_term kinds s (Nor es)
-    ≡ (let r = emit_list kinds s [] es.items in as_truth (emit_nor Always r.state r.found))
+    (s : State) (es : Vec Term Global) →
+    emit_term s (Nor es)
+    ≡ (let r = emit_list s [] es.items in only_found (emit_nor Always r.state r.found))
 unfolding emit_term
-emit_nor_is kinds s es =
+emit_nor_is s es =
     let row = row_of (Nor es) in
-    ap (λ (r : Emitted). as_truth (emit_nor Always r.state r.found))
-    (list_after_row kinds s [] row.0 row.1
-    ∙ ap (emit_list kinds s []) (items_hidden-the_row-Term-0 es))
+    ap (λ (r : Emitted). only_found (emit_nor Always r.state r.found))
+    (list_after_row s [] row.0 row.1
+    ∙ ap (emit_list s []) (items_hidden-the_row-Term-0 es))
 
 pub emit_next :
-    (kinds : List Kind) (s : State) (found : List ℕ) (es : List Term) (i : ℕ) (d : Term) →
+    (s : State) (found : List ℕ) (es : List Term) (i : ℕ) (d : Term) →
     i < length es →
-    emit_list kinds s found (drop i es)
-    ≡ (let x = emit_term kinds s (get_or es i d) in
-    emit_list kinds x.state (found ++ x.element ∷ []) (drop (i + 1) es))
+    emit_list s found (drop i es)
+    ≡ (let x = emit_term s (get_or es i d) in
+    emit_list x.state (found ++ x.element ∷ []) (drop (i + 1) es))
 unfolding emit_list
-emit_next kinds s found es i d lt = ap (emit_list kinds s found) (drop_more es i d lt)
+emit_next s found es i d lt = ap (emit_list s found) (drop_more es i d lt)
 
 pub emit_if_is :
-    (kinds : List Kind) (s : State) (c a b : Box Term Global) (z x y : TypedElement) →
-    z ≡ emit_term kinds s c.value → x ≡ emit_term kinds z.state a.value →
-    y ≡ emit_term kinds x.state b.value →
-    emit_term kinds s (If c a b) ≡ pushed y.state (Choose z.element x.element y.element) y.kind
+    (s : State) (c a b : Box Term Global) (z x y : TypedElement) →
+    z ≡ emit_term s c.value → x ≡ emit_term z.state a.value →
+    y ≡ emit_term x.state b.value →
+    emit_term s (If c a b) ≡ pushed y.state (Choose z.element x.element y.element)
 unfolding emit_term
-emit_if_is kinds s c a b z x y ez ex ey =
+emit_if_is s c a b z x y ez ex ey =
     let f : TypedElement → TypedElement → TypedElement → TypedElement = λ z x y.
-    pushed y.state (Choose z.element x.element y.element) y.kind in
-    let g : TypedElement → TypedElement → TypedElement =
-    λ z x. f z x (emit_term kinds x.state b.value) in
+    pushed y.state (Choose z.element x.element y.element) in
+    let g : TypedElement → TypedElement → TypedElement = λ z x. f z x (emit_term x.state b.value) in
     sym (ap (f z x) ey ∙ ap (g z) ex
-    ∙ ap (λ (z : TypedElement). g z (emit_term kinds z.state a.value)) ez)
+    ∙ ap (λ (z : TypedElement). g z (emit_term z.state a.value)) ez)
 
 -- what a term emits from what its one operand and its two operands do
 pub emit_single_is :
-    (kinds : List Kind) (s : State) (t : Term) (e : Box Term Global) (x : TypedElement) →
-    IsSingle t e → x ≡ emit_term kinds s e.value → emit_term kinds s t ≡ with_one t x
+    (s : State) (t : Term) (e : Box Term Global) (x : TypedElement) →
+    IsSingle t e → x ≡ emit_term s e.value → emit_term s t ≡ with_one t x
 unfolding emit_term
-emit_single_is kinds s t e x (inl (op, is)) ex = rw (is, ex) refl
-emit_single_is kinds s t e x (inr is) ex = rw (is, ex) refl
+emit_single_is s t e x (inl (op, is)) ex = rw (is, ex) refl
+emit_single_is s t e x (inr is) ex = rw (is, ex) refl
 
 pub emit_pair_is :
-    (kinds : List Kind) (s : State) (t : Term) (a b : Box Term Global) (x y : TypedElement) →
-    IsPair t a b → x ≡ emit_term kinds s a.value → y ≡ emit_term kinds x.state b.value →
-    emit_term kinds s t ≡ with_two t x.element y
+    (s : State) (t : Term) (a b : Box Term Global) (x y : TypedElement) →
+    IsPair t a b → x ≡ emit_term s a.value → y ≡ emit_term x.state b.value →
+    emit_term s t ≡ with_two t x.element y
 unfolding emit_term
-emit_pair_is kinds s t a b x y (inl (op, is)) ex ey = rw (is, ey, ex) refl
-emit_pair_is kinds s t a b x y (inr (inl is)) ex ey = rw (is, ey, ex) refl
-emit_pair_is kinds s t a b x y (inr (inr is)) ex ey = rw (is, ey, ex) refl
+emit_pair_is s t a b x y (inl (op, is)) ex ey = rw (is, ey, ex) refl
+emit_pair_is s t a b x y (inr (inl is)) ex ey = rw (is, ey, ex) refl
+emit_pair_is s t a b x y (inr (inr is)) ex ey = rw (is, ey, ex) refl
 
 -- `#` and `nor` of the elements that were found
 pub emit_truths_is :
-    (kinds : List Kind) (s : State) (es : Vec Term Global) (xs : List Term) (r : Emitted) →
-    xs ≡ es.items → r ≡ emit_list kinds s [] xs →
-    emit_term kinds s (AtMostOne es) ≡ as_truth (emit_at_most_one Always r.state r.found)
-emit_truths_is kinds s es xs r items er =
-    emit_at_most_one_is kinds s es
-    ∙ sym (ap (λ (r : Emitted). as_truth (emit_at_most_one Always r.state r.found))
-    (er ∙ ap (emit_list kinds s []) items))
+    (s : State) (es : Vec Term Global) (xs : List Term) (r : Emitted) →
+    xs ≡ es.items → r ≡ emit_list s [] xs →
+    emit_term s (AtMostOne es) ≡ only_found (emit_at_most_one Always r.state r.found)
+emit_truths_is s es xs r items er =
+    emit_at_most_one_is s es
+    ∙ sym (ap (λ (r : Emitted). only_found (emit_at_most_one Always r.state r.found))
+    (er ∙ ap (emit_list s []) items))
 
 pub emit_none_is :
-    (kinds : List Kind) (s : State) (es : Vec Term Global) (xs : List Term) (r : Emitted) →
-    xs ≡ es.items → r ≡ emit_list kinds s [] xs →
-    emit_term kinds s (Nor es) ≡ as_truth (emit_nor Always r.state r.found)
-emit_none_is kinds s es xs r items er =
-    emit_nor_is kinds s es
-    ∙ sym (ap (λ (r : Emitted). as_truth (emit_nor Always r.state r.found))
-    (er ∙ ap (emit_list kinds s []) items))
+    (s : State) (es : Vec Term Global) (xs : List Term) (r : Emitted) →
+    xs ≡ es.items → r ≡ emit_list s [] xs →
+    emit_term s (Nor es) ≡ only_found (emit_nor Always r.state r.found)
+emit_none_is s es xs r items er =
+    emit_nor_is s es
+    ∙ sym (ap (λ (r : Emitted). only_found (emit_nor Always r.state r.found))
+    (er ∙ ap (emit_list s []) items))
 
 pub emit_all_is :
-    (kinds : List Kind) (s : State) (t : Term) (es : Vec Term Global) (xs : List Term)
-    (r : Emitted) → IsRow t es → xs ≡ es.items → r ≡ emit_list kinds s [] xs →
-    emit_term kinds s t ≡ with_all t r
-emit_all_is kinds s t es xs r (inl is) items er =
-    ap (emit_term kinds s) is ∙ emit_truths_is kinds s es xs r items er
+    (s : State) (t : Term) (es : Vec Term Global) (xs : List Term)
+    (r : Emitted) → IsRow t es → xs ≡ es.items → r ≡ emit_list s [] xs →
+    emit_term s t ≡ with_all t r
+emit_all_is s t es xs r (inl is) items er =
+    ap (emit_term s) is ∙ emit_truths_is s es xs r items er
     ∙ sym (ap (λ (t : Term). with_all t r) is)
-emit_all_is kinds s t es xs r (inr is) items er =
-    ap (emit_term kinds s) is ∙ emit_none_is kinds s es xs r items er
+emit_all_is s t es xs r (inr is) items er =
+    ap (emit_term s) is ∙ emit_none_is s es xs r items er
     ∙ sym (ap (λ (t : Term). with_all t r) is)
-
-pub variable_kind : (vars : List Declared) (x : VariableId) (d : Declared) →
-    is_place (length vars) x ≡ true →
-    (get_or vars x.0 d).kind ≡ either_or (slice_get (kinds_of vars) x.0) Int_kind
-variable_kind vars x d e = by vars x.0 e
-  where
-    by : (vars : List Declared) (i : ℕ) → nat_lt i (length vars) ≡ true →
-        (get_or vars i d).kind ≡ either_or (slice_get (kinds_of vars) i) Int_kind
-    by [] i e = absurd (grind (arith, nat_tests))
-    by (v ∷ vars) zero e = refl
-    by (v ∷ vars) (suc i) e = by vars i (grind (arith, nat_tests))
 
 within_items : (count : ℕ) (n : _) (row : Row_of-Term n) →
     are_within count row ≡ list_all (is_within count) (items-the_row-Term n row)
@@ -264,20 +248,130 @@ pub step_within_next : (count : ℕ) (ss : List PlainStatement) (i : ℕ) (d : P
 step_within_next count ss i d lt = ap (list_all (is_statement_within count)) (drop_more ss i d lt)
 
 pub steps_next :
-    (kinds : List Kind) (s : State) (ss : List PlainStatement) (i : ℕ) (d : PlainStatement)
-    → i < length ss →
-    emit_statements kinds s (drop i ss)
-    ≡ emit_statements kinds (emit_statement kinds s (get_or ss i d)) (drop (i + 1) ss)
+    (s : State) (ss : List PlainStatement) (i : ℕ) (d : PlainStatement) → i < length ss →
+    emit_statements s (drop i ss)
+    ≡ emit_statements (emit_statement s (get_or ss i d)) (drop (i + 1) ss)
 unfolding emit_statements
-steps_next kinds s ss i d lt = ap (emit_statements kinds s) (drop_more ss i d lt)
+steps_next s ss i d lt = ap (emit_statements s) (drop_more ss i d lt)
+
+-- ## Names of more variables
+
+place_of_more : (m : ℕ) (x : VariableId) (n : ℕ) → n ≤ m → is_place n x ≡ true →
+    is_place m x ≡ true
+place_of_more m x n le e = grind (arith, nat_tests)
+
+both_of_more : (a b c d : Bool) → (a ≡ true → c ≡ true) → (b ≡ true → d ≡ true) →
+    (a && b) ≡ true → (c && d) ≡ true
+both_of_more a b c d first second e =
+    let p = first (and_first a b e) in let q = second (and_second a b e) in rw p q
+
+mutual
+  -- a term whose variables are some has variables that are more
+  pub within_more : (m : ℕ) (t : Term) (n : ℕ) → n ≤ m → is_within n t ≡ true →
+      is_within m t ≡ true
+  within_more m (Literal v) n le e = refl
+  within_more m (Truth b) n le e = refl
+  within_more m (Variable x) n le e = place_of_more m x n le e
+  within_more m (Group' p a) n le e = within_more m a n le e
+  within_more m (Unary' op p a) n le e = within_more m a n le e
+  within_more m (Binary' op p a q b) n le e =
+      both_of_more (is_within n a) (is_within n b) (is_within m a) (is_within m b)
+      (within_more m a n le) (within_more m b n le) e
+  within_more m (If' p c q a r b) n le e =
+      both_of_more (is_within n c) (is_within n a && is_within n b) (is_within m c)
+      (is_within m a && is_within m b) (within_more m c n le)
+      (both_of_more (is_within n a) (is_within n b) (is_within m a) (is_within m b)
+      (within_more m a n le) (within_more m b n le)) e
+  within_more m (Arrow' p a q b) n le e =
+      both_of_more (is_within n a) (is_within n b) (is_within m a) (is_within m b)
+      (within_more m a n le) (within_more m b n le) e
+  within_more m (Fby' p a q b) n le e =
+      both_of_more (is_within n a) (is_within n b) (is_within m a) (is_within m b)
+      (within_more m a n le) (within_more m b n le) e
+  within_more m (Pre' p a) n le e = within_more m a n le e
+  within_more m (AtMostOne' arity all) n le e = row_within_more m all n le e
+  within_more m (Nor' arity all) n le e = row_within_more m all n le e
+
+  row_within_more : {l : _} (m : ℕ) (row : Row_of-Term l) (n : ℕ) → n ≤ m →
+      are_within n row ≡ true → are_within m row ≡ true
+  row_within_more m end_of-Term n le e = refl
+  row_within_more m (more_of-Term t rest) n le e =
+      both_of_more (is_within n t) (are_within n rest) (is_within m t) (are_within m rest)
+      (within_more m t n le) (row_within_more m rest n le) e
+
+pub terms_within_more : (m : ℕ) (ts : List Term) (n : ℕ) → n ≤ m →
+    list_all (is_within n) ts ≡ true → list_all (is_within m) ts ≡ true
+terms_within_more m [] n le e = refl
+terms_within_more m (t ∷ ts) n le e =
+    both_of_more (is_within n t) (list_all (is_within n) ts) (is_within m t) _
+    (within_more m t n le) (terms_within_more m ts n le) e
+
+-- so are the operands of a term
+pub second_within :
+    (n m : ℕ) (t : Term) (a b : Box Term Global) → IsPair t a b → n ≤ m → is_within n t ≡ true →
+    is_within m b.value ≡ true
+second_within n m t a b is le e =
+    within_more m b.value n le
+    (and_second (is_within n a.value) (is_within n b.value) (sym (pair_within n t a b is) ∙ e))
+
+if_within :
+    (n : ℕ) (t : Term) (c a b : Box Term Global) → t ≡ If c a b →
+    is_within n t ≡ is_within n c.value && (is_within n a.value && is_within n b.value)
+if_within n t c a b is = ap (is_within n) is
+
+pub branches_within :
+    (n m : ℕ) (t : Term) (c a b : Box Term Global) → t ≡ If c a b → n ≤ m →
+    is_within n t ≡ true → (is_within m a.value && is_within m b.value) ≡ true
+branches_within n m t c a b is le e =
+    both_of_more (is_within n a.value) (is_within n b.value) (is_within m a.value)
+    (is_within m b.value) (within_more m a.value n le) (within_more m b.value n le)
+    (and_second (is_within n c.value) (is_within n a.value && is_within n b.value)
+    (sym (if_within n t c a b is) ∙ e))
+
+pub if_size : (t : Term) (c a b : Box Term Global) → t ≡ If c a b →
+    term_size t ≡ 1 + (term_size c.value + (term_size a.value + term_size b.value))
+unfolding term_size
+if_size t c a b is = ap term_size is
+
+-- the terms after one of a list
+pub later_within :
+    (n m : ℕ) (ts : List Term) (i : ℕ) (d : Term) → i < length ts → n ≤ m →
+    list_all (is_within n) (drop i ts) ≡ true → list_all (is_within m) (drop (i + 1) ts) ≡ true
+later_within n m ts i d lt le e =
+    terms_within_more m (drop (i + 1) ts) n le
+    (and_second (is_within n (get_or ts i d)) _ (sym (within_next n ts i d lt) ∙ e))
 
 -- places of some are places of more
 pub places_of_more : (m : ℕ) (xs : List VariableId) (n : ℕ) → n ≤ m →
     list_all (is_place n) xs ≡ true → list_all (is_place m) xs ≡ true
 places_of_more m [] n le e = refl
 places_of_more m (x ∷ xs) n le e =
-    let first : is_place n x ≡ true = and_first (is_place n x) _ e in
-    let here : is_place m x ≡ true = grind (arith, nat_tests) in
-    rw here (places_of_more m xs n le (and_second (is_place n x) _ e))
+    both_of_more (is_place n x) (list_all (is_place n) xs) (is_place m x) _
+    (place_of_more m x n le) (places_of_more m xs n le) e
+
+step_within_more : (m : ℕ) (s : PlainStatement) (n : ℕ) → n ≤ m → is_statement_within n s ≡ true →
+    is_statement_within m s ≡ true
+step_within_more m (statement.Equation lefts t) n le e =
+    both_of_more (list_all (is_place n) lefts.items) (is_within n t) _ (is_within m t)
+    (places_of_more m lefts.items n le) (within_more m t n le) e
+step_within_more m (statement.Assertion t) n le e = within_more m t n le e
+
+pub steps_within_more : (m : ℕ) (ss : List PlainStatement) (n : ℕ) → n ≤ m →
+    list_all (is_statement_within n) ss ≡ true → list_all (is_statement_within m) ss ≡ true
+steps_within_more m [] n le e = refl
+steps_within_more m (s ∷ ss) n le e =
+    both_of_more (is_statement_within n s) (list_all (is_statement_within n) ss)
+    (is_statement_within m s) _
+    (step_within_more m s n le) (steps_within_more m ss n le) e
+
+-- the statements after one of a list
+pub later_statements_within :
+    (n m : ℕ) (ss : List PlainStatement) (i : ℕ) (d : PlainStatement) → i < length ss → n ≤ m →
+    list_all (is_statement_within n) (drop i ss) ≡ true →
+    list_all (is_statement_within m) (drop (i + 1) ss) ≡ true
+later_statements_within n m ss i d lt le e =
+    steps_within_more m (drop (i + 1) ss) n le
+    (and_second (is_statement_within n (get_or ss i d)) _
+    (sym (step_within_next n ss i d lt) ∙ e))
 
 pub ruleset sizes = (size_at_most_one, size_nor, size_next, statements_size_next)

@@ -5,7 +5,6 @@ use Rattle.lb_flat.specs.declared.equation.ElementId.{ElementId}
 use Rattle.lb_flat.specs.declared.equation.Operation.{Operation}
 use Rattle.lb_flat.specs.declared.equation.Operation.TheVariants.{Input, Constant, Copy, ApplyUnary, ApplyBinary, Choose, FirstThen, Previous, Latest, Sample}
 use Rattle.lb_flat.specs.declared.expand.emission.Emission.{Emission}
-use Rattle.lb_flat.specs.declared.expand.emission.TypedElement.{TypedElement}
 use Rattle.lb_flat.specs.Emit.{State, Emitted}
 use Rattle.lb_flat.specs.Programs.{numbers_of, flat_equations}
 use Rattle.lb_flat.specs.Terms as terms
@@ -21,8 +20,8 @@ state_of s = record {
 }
 
 -- the same with the element that holds a term
-abbrev pub found_of : Emission → TypedElement → terms.TypedElement
-found_of s f = record { state = state_of s; element = f.element.0; kind = f.kind }
+abbrev pub found_of : Emission → ElementId → terms.TypedElement
+found_of s a = record { state = state_of s; element = a.0 }
 
 -- the same with the elements that hold some terms
 abbrev pub emitted_of : Emission → List ElementId → Emitted

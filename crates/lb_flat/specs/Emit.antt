@@ -14,12 +14,12 @@ use Rattle.lb_syntax.specs.Tree.{Name, Node_named, Symbol, Expr, Literal, Truth,
 use Rattle.lb_static.specs.StaticValues.{named}
 use Rattle.lb_static.specs.Instances.{Program, Instance, Path, Root, Observer, Child, name_value, node_named, instance_at, instances}
 use Rattle.lb_static.specs.DataTypes.{variables}
-use Rattle.lb_check.specs.Scalars.{Integer, Boolean, or_fault}
+use Rattle.lb_check.specs.Scalars.{Integer, Boolean, or_fault, first_value}
 use Rattle.lb_check.specs.Clocks.{Clock, On, clock_of, clock_or, declared_clock}
 use Rattle.lb_check.specs.Occurrences.{call_count, call_clocks, statement_clock}
-use Rattle.lb_check.specs.Streams.{first_of, part_count, number, outputs_of, iterated}
+use Rattle.lb_check.specs.Streams.{part_count, number, outputs_of, iterated}
 use Rattle.lb_check.specs.Solutions.{iterator_inputs}
-use Rattle.lb_check.specs.Verdicts.{property_path}
+use Rattle.lb_check.specs.Verdicts.{property_path, clock_variables}
 use Rattle.lb_flat.specs.Flat.{FlatClock, Operation, Input, Constant, Copy, ApplyUnary, ApplyBinary, Choose, FirstThen, Previous, Latest, Sample, FlatEquation}
 use Rattle.lb_flat.specs.Judging.{FlatProgram}
 use Rattle.lb_flat.specs.Layouts.{Layout, flat_clock}
@@ -222,19 +222,19 @@ unfoldable mutual
   emit Y P here k n s (Fby a b) =
       let x = emit Y P here k n s a in
       let y = keep (emit Y P here k (n + call_count a) x.state b) in
-      let before = map (Previous (first_of P here b)) y.found in
+      let before = map (Previous first_value) y.found in
       let z = add (flat_clock Y here.path k) y.state before in
       add (flat_clock Y here.path k) z.state (zip2 (FirstThen false) x.found z.found)
   emit Y P here k n s (Pre a) =
       let x = keep (emit Y P here k n s a) in
-      add (flat_clock Y here.path k) x.state (map (Previous (first_of P here a)) x.found)
+      add (flat_clock Y here.path k) x.state (map (Previous first_value) x.found)
   emit Y P here k n s (When a x sign) =
       let own = declared_clock here.node x in
       let z = emit Y P here own n s a in
       add (flat_clock Y here.path (On own x sign)) z.state (map Sample z.found)
   emit Y P here k n s (Current a) =
       let x = keep (emit Y P here (clock_or (clock_of P here.node a)) n s a) in
-      add (flat_clock Y here.path k) x.state (map (Latest (first_of P here a)) x.found)
+      add (flat_clock Y here.path k) x.state (map (Latest first_value) x.found)
   emit Y P here k n s (Replicate a m) =
       let x = emit Y P here k n s a in
       gives x.state (copies (number P here m) x.found)
@@ -347,6 +347,12 @@ property_places Y P =
     listed (λ here. flat_map (λ d. Y.places here.path d.name) here.node.outputs)
     (instance_at P (property_path P.observer))
 
+-- the elements of the variables of these instances that serve as clocks
+abbrev pub clock_places : Layout → List Instance → List ℕ
+clock_places Y is =
+    flat_map (λ here.
+    flat_map (λ d. Y.places here.path d.name) (clock_variables here.node)) is
+
 -- the whole program, where so many elements are those of variables
 abbrev pub expanded : Layout → Program → ℕ → FlatProgram
 expanded Y P count =
@@ -359,6 +365,7 @@ expanded Y P count =
       size = s.next;
       variables = count;
       memory_operands = s.memory_operands;
+      clock_elements = clock_places Y (instances P);
       asserted = s.asserted;
       property = get_or (property_places Y P) 0 0;
     }

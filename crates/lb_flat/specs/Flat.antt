@@ -15,6 +15,7 @@ use Rattle.lb_check.specs.Solutions.{Inputs, column_of}
 pub data FlatClock : Type 0 where
   Always : FlatClock
   Where : FlatClock → (element : ℕ) → (sign : Bool) → FlatClock
+  deriving IsSet as FlatClock-set
 
 -- how an element is had from others, which are named by their numbers; what a memory holds is part
 -- of its operation

@@ -3,26 +3,32 @@
 use Rattle.std.specs.Prelude.{ℕ, suc, Bool, Option, Some, List, [], ◌∷◌, ◌++◌, if◌then◌else◌}
 use Rattle.std.specs.List.{list_any, range_with_len}
 use Rattle.lb_check.specs.declared.verdict.Verdict.{Verdict}
-use Rattle.lb_check.specs.declared.verdict.Verdict.TheVariants.{Passed, Fault, Assertion, False}
+use Rattle.lb_check.specs.declared.verdict.Verdict.TheVariants.{Passed, Fault, Undefined, Assertion, False}
 use Rattle.lb_check.specs.Scalars.{Cell}
 use Rattle.lb_check.specs.Solutions.{Inputs}
-use Rattle.lb_check.specs.Verdicts.{is_bad, is_false, or_later}
+use Rattle.lb_check.specs.Verdicts.{is_bad, is_nil, is_false, or_later}
 use Rattle.lb_flat.specs.Flat.{FlatEquation}
 use Rattle.lb_flat.specs.Run.{Row, cell, run}
 
 -- equations on so many elements, of which the first are those of variables; the elements that hold
--- the operands of memories and the assertions, and that of the property
+-- the operands of memories, the variables that serve as clocks and the assertions, and that of the
+-- property
 pub record FlatProgram : Type 0 where
   pub equations : List FlatEquation
   pub size : ℕ
   pub variables : ℕ
   pub memory_operands : List ℕ
+  pub clock_elements : List ℕ
   pub asserted : List ℕ
   pub property : ℕ
 
 -- the elements at which a fault counts
 abbrev pub named_elements : FlatProgram → List ℕ
 named_elements f = range_with_len 0 f.variables ++ (f.memory_operands ++ f.asserted)
+
+-- the elements at which a truth is wanted
+abbrev pub truth_elements : FlatProgram → List ℕ
+truth_elements f = f.clock_elements ++ (f.asserted ++ f.property ∷ [])
 
 -- one of these elements passes a test in a row
 abbrev pub some_in : (Option Cell → Bool) → Row → List ℕ → Bool
@@ -32,6 +38,7 @@ some_in test row is = list_any (λ i. test (Some (cell row i))) is
 abbrev pub row_judged : FlatProgram → ℕ → Row → Verdict
 row_judged f t row =
     if some_in is_bad row (named_elements f) then Fault t else
+    if some_in is_nil row (truth_elements f) then Undefined t else
     if some_in is_false row f.asserted then Assertion t else
     if some_in is_false row (f.property ∷ []) then False t else Passed
 

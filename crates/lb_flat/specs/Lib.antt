@@ -11,6 +11,8 @@ pub mod Values
 pub mod Within
 pub mod Programs
 pub mod Prepared
+pub mod PreparedPrograms
+pub mod PreparedParts
 pub mod InOrder
 pub mod Inputs
 pub mod PlainLayout
@@ -18,7 +20,6 @@ pub mod PlainTerms
 pub mod PlainNodes
 pub mod PlainPrograms
 pub mod UnsupportedForms
-pub mod TermKinds
 pub mod Stuck
 pub mod Expanded
 pub mod Prefixes

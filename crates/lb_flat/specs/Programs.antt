@@ -26,6 +26,7 @@ program_of p = record {
   size = p.size;
   variables = p.variables;
   memory_operands = numbers_of p.memory_operands.items;
+  clock_elements = numbers_of p.clock_elements.items;
   asserted = numbers_of p.asserted.items;
   property = p.property.0;
 }
@@ -36,6 +37,7 @@ pub record IsInRange (p : FlatProgram) : Type 0 where
   pub equations : All (IsWithin p.size p.clocks.items) p.equations.items
   pub variables : p.variables ≤ p.size
   pub memory_operands : All (λ a. a.0 < p.size) p.memory_operands.items
+  pub clock_elements : All (λ a. a.0 < p.size) p.clock_elements.items
   pub asserted : All (λ a. a.0 < p.size) p.asserted.items
   pub property : p.property.0 < p.size
 

@@ -3,7 +3,7 @@
 use Rattle.std.specs.Prelude.{ℕ, zero, suc, Option, Some, None, List, length, slice_get}
 use Rattle.lb_check.specs.Scalars as scalars
 use Rattle.lb_flat.specs.declared.scalar.Scalar.{Scalar}
-use Rattle.lb_flat.specs.declared.scalar.Scalar.TheVariants.{Integer, Boolean, Bad}
+use Rattle.lb_flat.specs.declared.scalar.Scalar.TheVariants.{Integer, Boolean, Nil, Bad}
 use Rattle.lb_flat.specs.declared.cell.Cell as code
 use Rattle.lb_flat.specs.declared.cell.Cell.TheVariants as cells
 use Rattle.lb_flat.specs.declared.equation.ClockId.{ClockId}
@@ -17,11 +17,13 @@ use Rattle.lb_flat.specs.Flat as flat
 abbrev pub scalar_of : Scalar → scalars.Scalar
 scalar_of (Integer z) = scalars.Integer z
 scalar_of (Boolean b) = scalars.Boolean b
+scalar_of Nil = scalars.Nil
 scalar_of Bad = scalars.Bad
 
 -- a cell
 abbrev pub cell_of : code.Cell → scalars.Cell
 cell_of cells.Absent = None
+cell_of cells.Nil = Some scalars.Nil
 cell_of cells.Bad = Some scalars.Bad
 cell_of (cells.Integer z) = Some (scalars.Integer z)
 cell_of (cells.Boolean b) = Some (scalars.Boolean b)

@@ -1,8 +1,9 @@
 //! Cells and the tables of the data operators.
 //!
 //! Arithmetic is exact: where a result is out of the range of `int`, or there is no quotient, it is
-//! the value of a fault. An operator with a faulty operand gives that value too; `if` takes the
-//! chosen branch alone. Where an operand is absent, so is the result.
+//! the value of a fault. An operator with a faulty operand gives that value too, and else with a
+//! nil operand nil; `if` takes the chosen branch alone. Where an operand is absent, so is the
+//! result.
 
 ghost use Rattle.std.specs.Prelude.{◌≡◌, Some};
 ghost use Rattle.lb_check.specs.Scalars.{two_integers, two_booleans, two_scalars, one_scalar, or_fault};
@@ -19,6 +20,8 @@ use lb_syntax::tree::{BinaryOperator, UnaryOperator};
 pub enum Cell {
     /// Nothing: the element is absent.
     Absent,
+    /// The undefined value, which a memory holds before its first tick.
+    Nil,
     /// The value of a fault.
     Bad,
     /// An `int`.
@@ -34,6 +37,7 @@ pub(crate) fn present(v: Scalar) -> Cell
     match v {
         Scalar::Integer(z) => Cell::Integer(z),
         Scalar::Boolean(b) => Cell::Boolean(b),
+        Scalar::Nil => Cell::Nil,
         Scalar::Bad => Cell::Bad,
     }
 }
@@ -93,6 +97,8 @@ pub(crate) fn two_cells(op: BinaryOperator, x: Cell, y: Cell) -> Cell
     }
     match (x, y) {
         (Cell::Absent, _) | (_, Cell::Absent) => Cell::Absent,
+        (Cell::Bad, _) | (_, Cell::Bad) => Cell::Bad,
+        (Cell::Nil, _) | (_, Cell::Nil) => Cell::Nil,
         _ => Cell::Bad,
     }
 }
@@ -103,13 +109,15 @@ pub(crate) fn one_cell(op: UnaryOperator, x: Cell) -> Cell
 {
     match (op, x) {
         (_, Cell::Absent) => Cell::Absent,
+        (_, Cell::Nil) => Cell::Nil,
         (UnaryOperator::Negate, Cell::Integer(a)) => or_fault(negated(a)),
         (UnaryOperator::Not, Cell::Boolean(a)) => Cell::Boolean(!a),
         _ => Cell::Bad,
     }
 }
 
-/// The chosen branch of an `if`; the other one may be faulty.
+/// The chosen branch of an `if`, where the other one may be faulty or nil; nil where the condition
+/// is.
 pub(crate) fn chosen_cell(condition: Cell, x: Cell, y: Cell) -> Cell
     ensures { cell_of result ≡ chosen_cell (cell_of condition) (cell_of x) (cell_of y) }
 {
@@ -117,6 +125,7 @@ pub(crate) fn chosen_cell(condition: Cell, x: Cell, y: Cell) -> Cell
         (Cell::Absent, _, _) | (_, Cell::Absent, _) | (_, _, Cell::Absent) => Cell::Absent,
         (Cell::Boolean(true), _, _) => x,
         (Cell::Boolean(false), _, _) => y,
+        (Cell::Nil, _, _) => Cell::Nil,
         _ => Cell::Bad,
     }
 }
@@ -143,6 +152,7 @@ pub(crate) fn newest(before: Scalar, x: Cell) -> Scalar
 {
     match x {
         Cell::Absent => before,
+        Cell::Nil => Scalar::Nil,
         Cell::Bad => Scalar::Bad,
         Cell::Integer(z) => Scalar::Integer(z),
         Cell::Boolean(b) => Scalar::Boolean(b),

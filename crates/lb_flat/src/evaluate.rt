@@ -3,10 +3,11 @@
 //! An instant has four phases: its inputs are read, the row is computed, the row is judged, and the
 //! memories are committed. No phase takes memory.
 
-ghost use Rattle.std.specs.Prelude.{◌≡◌, ◌<◌, length, map, All, IfOk, get_or, []};
+ghost use Rattle.std.specs.Prelude.{◌≡◌, ◌<◌, length, map, All, get_or, []};
 ghost use Rattle.lb_check.specs.Solutions.{Inputs};
 ghost use Rattle.lb_flat.specs.Judging.{row_judged, flat_verdict};
 ghost use Rattle.lb_flat.specs.Prepared.{inputs_in, steps_in, memory_places, place_equation, AreFixed};
+ghost use Rattle.lb_flat.specs.PreparedParts.{IsRoomFor, program_in};
 ghost use Rattle.lb_flat.specs.Run.{advanced, filled};
 ghost use Rattle.lb_flat.specs.Values.{cell_of};
 ghost use Rattle.lb_flat.specs.Within.{IsWithin};
@@ -16,10 +17,10 @@ use crate::cell::Cell;
 use crate::equation::{Equation, InputPlace};
 use crate::instant::{commit, compute};
 use crate::instant_verdict::instant_verdict;
-use crate::prepare::{put_apart, set_constants};
+use crate::prepared::Prepared;
 use crate::program::FlatProgram;
+use crate::scratch::Scratch;
 use lb_check::verdict::Verdict;
-use std::alloc::{AllocError, Global};
 
 /// The instants of one trace.
 pub trait Instants {
@@ -101,36 +102,20 @@ fn run<I: Instants>(
     Verdict::Passed
 }
 
-/// The verdict of a trace.
-pub fn evaluate<I: Instants>(
-    alloc: Global,
-    program: &FlatProgram,
-    trace: &I,
-) -> Result<Verdict, AllocError>
-    requires runnable { IsRunnable program.now }
-    ensures { IfOk result (λ v. v ≡ flat_verdict (program_of program.now) (I.rows trace.now)) }
+/// The verdict of a trace, in room that may hold anything before.
+pub fn evaluate<I: Instants>(prepared: &Prepared<'_>, scratch: &mut Scratch, trace: &I) -> Verdict
+    requires { IsRoomFor prepared.now scratch.old }
+    ensures room { IsRoomFor prepared.now scratch.new }
+    ensures verdict { result
+        ≡ flat_verdict (program_of (program_in prepared.now)) (I.rows trace.now) }
 {
-    let equations = program.equations.as_slice();
-    let clocks = program.clocks.as_slice();
-    let mut inputs = Vec::new(alloc);
-    let mut steps = Vec::new(alloc);
-    let mut memories = Vec::new(alloc);
-    put_apart(
-        equations,
-        program.size,
-        clocks,
-        &mut inputs,
-        &mut steps,
-        &mut memories,
-    )?;
-    let mut row = vec![in alloc; Cell::Absent; program.size as usize]?;
-    set_constants(row.as_mut_slice(), equations, clocks);
-    Ok(run(
-        program,
-        inputs.as_slice(),
-        memories.as_slice(),
-        steps.as_mut_slice(),
-        row.as_mut_slice(),
+    scratch.restart(prepared);
+    run(
+        prepared.program,
+        prepared.inputs.as_slice(),
+        prepared.memories.as_slice(),
+        scratch.steps.as_mut_slice(),
+        scratch.row.as_mut_slice(),
         trace,
-    ))
+    )
 }

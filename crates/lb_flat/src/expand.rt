@@ -20,15 +20,15 @@ use size::after_statements;
 use std::alloc::Global;
 
 /// The greatest size of a program.
-const MOST: u32 = 65536;
+const MOST: usize = 65536;
 
 /// Whether the program is small enough: it has at most so many variables, and expressions with
 /// their parts, together.
 fn is_small(plain: &Plain) -> bool
     ensures { result ≡ nat_le (mirror.plain_size_of plain.now) 65536 }
 {
-    let variables = plain.variables.len() as u32;
-    after_statements((MOST + 1).saturating_sub(variables), &plain.body) > 0
+    let left = (MOST + 1).saturating_sub(plain.variables.len()) as u32;
+    after_statements(left, &plain.body) > 0
 }
 
 /// Expands a plain program that is small enough.
@@ -40,7 +40,7 @@ fn expand_plain(alloc: Global, plain: &Plain) -> Result<Flat, FlatError>
     }
     let variables = plain.variables.len() as u32;
     let mut emission = Emission::new(alloc, variables);
-    emission.statements(alloc, &plain.variables, &plain.body)?;
+    emission.statements(alloc, &plain.body)?;
     let program = emission.into_program(alloc, plain.inputs as u32, variables)?;
     Ok(Flat { program })
 }
@@ -48,7 +48,7 @@ fn expand_plain(alloc: Global, plain: &Plain) -> Result<Flat, FlatError>
 /// Expands a checked program, or refuses it where it has forms that do not run yet or its size is
 /// over 65,536 (E12).
 pub fn expand(alloc: Global, checked: &Checked) -> Result<Flat, FlatError>
-    ensures { IsExpansionAnswer (elaborated_program checked.now) result }
+    ensures { IsExpansionAnswer (elaborated_program checked.now.elab) result }
 {
     let plain = plain(alloc, checked.elab())?;
     expand_plain(alloc, &plain)

@@ -2,7 +2,7 @@
 
 ghost use Rattle.std.specs.Prelude.{◌≡◌, ◌<◌, ◌≤◌, Some, length, map, All};
 ghost use Rattle.std.specs.List.{range_with_len};
-ghost use Rattle.lb_check.specs.Verdicts.{is_bad, is_false};
+ghost use Rattle.lb_check.specs.Verdicts.{is_bad, is_nil, is_false};
 ghost use Rattle.lb_flat.specs.Judging.{some_in, row_judged};
 ghost use Rattle.lb_flat.specs.Values.{cell_of};
 ghost use Rattle.lb_flat.specs.Programs.{numbers_of, program_of, IsInRange};
@@ -18,6 +18,16 @@ fn is_bad(x: Cell) -> bool
 {
     match x {
         Cell::Bad => true,
+        _ => false,
+    }
+}
+
+// Present and nil.
+fn is_nil(x: Cell) -> bool
+    ensures { result ≡ is_nil (Some (cell_of x)) }
+{
+    match x {
+        Cell::Nil => true,
         _ => false,
     }
 }
@@ -58,6 +68,19 @@ fn some_bad(row: &[Cell], elements: &[ElementId]) -> bool
     false
 }
 
+// Whether one of these elements is nil.
+fn some_nil(row: &[Cell], elements: &[ElementId]) -> bool
+    requires { All (λ a. a.0 < length row.now) elements.now }
+    ensures { result ≡ some_in is_nil (map cell_of row.now) (numbers_of elements.now) }
+{
+    for i in 0..elements.len() {
+        if is_nil(row[elements[i].0 as usize]) {
+            return true;
+        }
+    }
+    false
+}
+
 // Whether one of these elements is false.
 fn some_false(row: &[Cell], elements: &[ElementId]) -> bool
     requires { All (λ a. a.0 < length row.now) elements.now }
@@ -73,7 +96,8 @@ fn some_false(row: &[Cell], elements: &[ElementId]) -> bool
 
 /// What the row of instant `t` decides; `Passed` where it decides nothing.
 ///
-/// A fault comes before a failed assertion, and that before a false property.
+/// A fault comes before nil where a truth is wanted, that before a failed assertion, and that
+/// before a false property.
 pub(crate) fn instant_verdict(program: &FlatProgram, row: &[Cell], t: u32) -> Verdict
     requires elements { length row.now ≡ program.now.size }
     requires in_range { IsInRange program.now }
@@ -84,6 +108,12 @@ pub(crate) fn instant_verdict(program: &FlatProgram, row: &[Cell], t: u32) -> Ve
         || some_bad(row, program.asserted.as_slice())
     {
         return Verdict::Fault(t);
+    }
+    if some_nil(row, program.clock_elements.as_slice())
+        || some_nil(row, program.asserted.as_slice())
+        || is_nil(row[program.property.0 as usize])
+    {
+        return Verdict::Undefined(t);
     }
     if some_false(row, program.asserted.as_slice()) {
         return Verdict::Assertion(t);

@@ -1,7 +1,7 @@
 //! Plain programs: one node of scalars on one clock, without an observer. Such programs alone run
 //! so far.
 
-ghost use Rattle.std.specs.Prelude.{◌≡◌, ◌+◌, ◌≤◌, ◌<◌, ◌^◌, true, length};
+ghost use Rattle.std.specs.Prelude.{◌≡◌, ◌+◌, ◌≤◌, ◌<◌, true, length};
 ghost use Rattle.std.specs.List.{list_all};
 ghost use Rattle.lb_flat.specs.PlainNodes.{is_statement_within};
 
@@ -32,6 +32,5 @@ pub struct Plain {
     pub body: Vec<PlainStatement>,
     pub ghost parts_fit: { inputs + outputs ≤ length variables.items },
     pub ghost has_output: { 0 < outputs },
-    pub ghost places_fit: { length variables.items < 2 ^ 32 },
     pub ghost steps_fit: { list_all (is_statement_within (length variables.items)) body.items ≡ true },
 }

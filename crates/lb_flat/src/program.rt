@@ -18,6 +18,8 @@ pub struct FlatProgram {
     pub variables: u32,
     /// The elements that hold operands of `pre`, `fby` and `current`.
     pub memory_operands: Vec<ElementId>,
+    /// The elements of variables that serve as clocks.
+    pub clock_elements: Vec<ElementId>,
     /// The elements that hold assertions.
     pub asserted: Vec<ElementId>,
     /// The element that holds the property.

@@ -7,6 +7,8 @@ pub enum Scalar {
     Integer(i32),
     /// A `bool`.
     Boolean(bool),
+    /// The undefined value, which a memory holds before its first tick.
+    Nil,
     /// The value of a fault.
     Bad,
 }

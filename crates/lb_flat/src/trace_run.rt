@@ -1,98 +1,54 @@
 //! The verdict of a recorded trace.
 
-ghost use Rattle.std.specs.Prelude.{◌≡◌, ◌<◌, Some, length, map, slice_get, All, IfOk, OnOk};
-ghost use Rattle.lb_syntax.specs.Lists.{zip2};
+ghost use Rattle.std.specs.Prelude.{◌≡◌, ◌<◌, length, IfOk, OnOk};
 ghost use Rattle.lb_static.specs.Instances.{Program};
 ghost use Rattle.lb_static.specs.DataTypes.{signature};
-ghost use Rattle.lb_static.specs.Signature.{kinds_of};
 ghost use Rattle.lb_check.specs.Solutions.{HasOneHistory};
 ghost use Rattle.lb_check.specs.Verdicts.{IsOnlyVerdict};
 ghost use Rattle.lb_flat.specs.Flattening.{IsFlatOf};
-ghost use Rattle.lb_flat.specs.Inputs.{scalar_in, inputs_of};
-ghost use Rattle.lb_flat.specs.Prepared.{place_equation};
+ghost use Rattle.lb_flat.specs.Inputs.{inputs_of};
+ghost use Rattle.lb_flat.specs.PreparedParts.{IsRoomFor, program_in, recording_in};
 ghost use Rattle.lb_flat.specs.Programs.{program_of};
-ghost use Rattle.lb_flat.specs.Run.{filled};
-ghost use Rattle.lb_flat.specs.Values.{cell_of};
 
-use crate::cell::Cell;
-use crate::equation::{InputId, InputPlace};
-use crate::evaluate::{Instants, evaluate};
+use crate::evaluate::evaluate;
 use crate::flat::Ordered;
+use crate::prepared::Prepared;
+use crate::recorded::{Recorded, RecordedTrace};
+use crate::scratch::Scratch;
 use crate::traces::TraceSet;
 use lb_check::verdict::Verdict;
-use lb_static::signature::{Kind, Signature};
 use std::alloc::{AllocError, Global};
 
-// What a cell of a recorded trace stands for; a Boolean is 0 or 1.
-fn cell_in(kind: Kind, cell: i32) -> Cell
-    ensures { cell_of result ≡ Some (scalar_in kind cell) }
-{
-    match kind {
-        Kind::Int => Cell::Integer(cell),
-        Kind::Bool => Cell::Boolean(cell >= 1),
-    }
-}
-
-// The input at a place of the signature.
-fn input_at(kinds: &[Kind], cells: &[i32], input: InputId) -> Cell
-    requires { length cells.now ≡ length kinds.now }
-    ensures { cell_of result ≡ slice_get (zip2 scalar_in kinds.now cells.now) input.0 }
-{
-    let j = input.0 as usize;
-    if j < kinds.len() {
-        cell_in(kinds[j], cells[j])
-    } else {
-        Cell::Absent
-    }
-}
-
-// Reads the cells of a row into the elements that hold inputs.
-fn read_row(kinds: &[Kind], cells: &[i32], inputs: &[InputPlace], row: &mut [Cell])
-    requires cells { length cells.now ≡ length kinds.now }
-    requires elements { All (λ p. p.element.0 < length row.old) inputs.now }
-    ensures elements { length row.new ≡ length row.old }
-    ensures read { map cell_of row.new
-        ≡ filled (zip2 scalar_in kinds.now cells.now) (map cell_of row.old)
-        (map place_equation inputs.now) }
-{
-    for i in 0..inputs.len() {
-        let place = inputs[i];
-        row[place.element.0 as usize] = input_at(kinds, cells, place.input);
-    }
-}
-
-// What each column holds.
-fn kinds_of(alloc: Global, signature: &Signature) -> Result<Vec<Kind>, AllocError>
-    ensures { IfOk result (λ kinds. kinds.items ≡ kinds_of signature.now) }
-{
-    let mut kinds = Vec::new(alloc);
-    for i in 0..signature.len() {
-        kinds.push(signature.kind(i))?;
-    }
-    Ok(kinds)
-}
-
-// A trace of some recorded ones.
-#[derive(Drop)]
-struct RecordedTrace<'a> {
-    set: &'a TraceSet,
-    // What each column holds, looked up once for all instants.
-    kinds: Vec<Kind>,
+/// The one verdict that a prepared program has on a trace, computed instant by instant in the room
+/// of a worker. It takes no memory.
+///
+/// ```text
+/// let prepared = Prepared::new(alloc, &ordered)?;
+/// let recorded = Recorded::new(alloc, &set)?;
+/// let mut scratch = Scratch::new(alloc, &prepared)?;
+/// let verdict = eval_prepared(&prepared, &recorded, 0, &mut scratch);
+/// ```
+pub fn eval_prepared(
+    prepared: &Prepared<'_>,
+    recorded: &Recorded<'_>,
     k: u32,
-    ghost recorded: { k < length set.now.traces },
-    ghost columns: { kinds.items ≡ kinds_of set.now.signature },
-}
-
-impl Instants for RecordedTrace<'_> {
-    ghost rows = { λ r. inputs_of r.set.now r.k };
-
-    fn count(&self) -> u32 {
-        self.set.length(self.k)
-    }
-
-    fn read(&self, t: u32, inputs: &[InputPlace], row: &mut [Cell]) {
-        read_row(self.kinds.as_slice(), self.set.row(self.k, t), inputs, row);
-    }
+    scratch: &mut Scratch,
+) -> Verdict
+    requires trace { k < length (recording_in recorded.now).traces }
+    requires room { IsRoomFor prepared.now scratch.old }
+    ensures room { IsRoomFor prepared.now scratch.new }
+    ensures verdict { (P : Program) → IsFlatOf P (program_of (program_in prepared.now)) →
+        signature P ≡ (recording_in recorded.now).signature →
+        IsOnlyVerdict P (inputs_of (recording_in recorded.now) k) result }
+    ensures alone { (P : Program) → IsFlatOf P (program_of (program_in prepared.now)) →
+        signature P ≡ (recording_in recorded.now).signature →
+        HasOneHistory P (inputs_of (recording_in recorded.now) k) }
+{
+    let set = recorded.set;
+    let kinds = recorded.kinds.as_slice();
+    let _ = set.signature();
+    let trace = RecordedTrace { set, kinds, k };
+    evaluate(prepared, scratch, &trace)
 }
 
 /// The one verdict that a program has on a trace, computed instant by instant. It takes memory once
@@ -115,7 +71,8 @@ pub fn eval_trace(
         (P : Program) → IsFlatOf P (program_of ordered.now.program) →
         signature P ≡ set.now.signature → HasOneHistory P (inputs_of set.now k)) }
 {
-    let kinds = kinds_of(alloc, set.signature())?;
-    let trace = RecordedTrace { set, kinds, k };
-    evaluate(alloc, &ordered.program, &trace)
+    let prepared = Prepared::new(alloc, ordered)?;
+    let recorded = Recorded::new(alloc, set)?;
+    let mut scratch = Scratch::new(alloc, &prepared)?;
+    Ok(eval_prepared(&prepared, &recorded, k, &mut scratch))
 }

@@ -2,17 +2,16 @@
 
 ghost use Rattle.std.specs.Prelude.{◌≡◌, ◌<◌, ◌≤◌, ◌++◌, All, [], IfOk};
 ghost use Rattle.lb_flat.specs.Programs.{flat_equations};
-ghost use Rattle.lb_check.specs.Scalars.{first_value};
 ghost use Rattle.lb_flat.specs.Terms as mirror;
 ghost use Rattle.lb_flat.specs.Values.{scalar_of};
 ghost use Rattle.lb_flat.specs.Within.{IsWithin};
 
 use crate::equation::{ElementId, Equation, InputId, Operation};
-use crate::plain::term::{PlainStatement, Term, Variable};
+use crate::plain::term::{PlainStatement, Term};
 use crate::program::FlatProgram;
 use crate::scalar::Scalar;
 use lb_static::resolved::VariableId;
-use lb_syntax::tree::{BinaryOperator, Kind, UnaryOperator};
+use lb_syntax::tree::{BinaryOperator, UnaryOperator};
 use std::alloc::{AllocError, Global};
 
 /// What was emitted so far. All is on the base clock.
@@ -34,23 +33,6 @@ pub(crate) struct Emission {
     pub ghost asserted_within: { All (λ a. a.0 < next) asserted.items },
 }
 
-/// The element that holds a term, and the kind of the term.
-#[derive(Clone, Copy)]
-pub(crate) struct TypedElement {
-    pub(crate) element: ElementId,
-    pub(crate) kind: Kind,
-}
-
-/// What a memory holds before its first tick.
-fn first_value(kind: Kind) -> Scalar
-    ensures { scalar_of result ≡ first_value kind }
-{
-    match kind {
-        Kind::Int => Scalar::Integer(0),
-        Kind::Bool => Scalar::Boolean(false),
-    }
-}
-
 /// A literal; one that is no `int` has the value of a fault.
 fn literal(value: u32) -> Scalar
     ensures { scalar_of result ≡ mirror.literal value }
@@ -59,30 +41,6 @@ fn literal(value: u32) -> Scalar
         Scalar::Integer(value as i32)
     } else {
         Scalar::Bad
-    }
-}
-
-/// The kind of what an operator gives.
-fn unary_result(op: UnaryOperator) -> Kind
-    ensures { result ≡ mirror.unary_result op }
-{
-    match op {
-        UnaryOperator::Not => Kind::Bool,
-        UnaryOperator::Negate => Kind::Int,
-    }
-}
-
-/// The kind of what an operator gives.
-fn binary_result(op: BinaryOperator) -> Kind
-    ensures { result ≡ mirror.binary_result op }
-{
-    match op {
-        BinaryOperator::Plus
-        | BinaryOperator::Minus
-        | BinaryOperator::Times
-        | BinaryOperator::Divide
-        | BinaryOperator::Modulo => Kind::Int,
-        _ => Kind::Bool,
     }
 }
 
@@ -121,7 +79,6 @@ impl Emission {
     ghost use Rattle.std.specs.Prelude.{◌+◌, ◌*◌, ◌^◌, ◌≤◌, true, length, OnOk};
     ghost use Rattle.std.specs.List.{list_all};
     ghost use Rattle.lb_flat.specs.PlainNodes.{is_place, is_within, is_statement_within};
-    ghost use Rattle.lb_flat.specs.TermKinds.{kinds_of};
     ghost use Rattle.lb_flat.specs.Flat.{Always};
     ghost use Rattle.lb_flat.specs.Emit.{before_instances, emit_nor, emit_at_most_one};
     ghost use Rattle.lb_flat.specs.Emissions.{state_of, found_of, emitted_of, CanPush, IsTaken, AreTaken};
@@ -144,12 +101,12 @@ impl Emission {
 
     /// A new element, which this operation gives.
     #[tactic(auto, using(crate::proofs::Emitting::pushes))]
-    fn push(&mut self, operation: Operation, kind: Kind) -> Result<TypedElement, AllocError>
+    fn push(&mut self, operation: Operation) -> Result<ElementId, AllocError>
         requires { CanPush self.old.next operation }
-        ensures found { IfOk result (λ f.
-            found_of self.new f ≡ mirror.pushed (state_of self.old) (operation_of operation) kind) }
+        ensures found { IfOk result (λ a.
+            found_of self.new a ≡ mirror.pushed (state_of self.old) (operation_of operation)) }
         ensures next { OnOk result (self.new.next ≡ self.old.next + 1) }
-        ensures element { IfOk result (λ f. f.element.0 ≡ self.old.next) }
+        ensures element { IfOk result (λ a. a.0 ≡ self.old.next) }
     {
         let element = ElementId(self.next);
         self.equations.push(Equation {
@@ -158,123 +115,111 @@ impl Emission {
             operation,
         })?;
         self.next += 1;
-        Ok(TypedElement { element, kind })
+        Ok(element)
     }
 
     /// `pre` of an operand, which a memory keeps.
     #[tactic(auto, using(crate::proofs::Emitting::pushes))]
-    fn previous(&mut self, operand: TypedElement) -> Result<TypedElement, AllocError>
+    fn previous(&mut self, operand: ElementId) -> Result<ElementId, AllocError>
         requires room { self.old.next + 1 < 2 ^ 32 }
-        requires operand { operand.element.0 < self.old.next }
-        ensures found { IfOk result (λ f. found_of self.new f
+        requires operand { operand.0 < self.old.next }
+        ensures found { IfOk result (λ a. found_of self.new a
             ≡ mirror.previous (found_of self.old operand)) }
         ensures next { OnOk result (self.new.next ≡ self.old.next + 1) }
-        ensures element { IfOk result (λ f. f.element.0 < self.new.next) }
+        ensures element { IfOk result (λ a. a.0 < self.new.next) }
     {
-        self.memory_operands.push(operand.element)?;
-        let previous = Operation::Previous(first_value(operand.kind), operand.element);
-        self.push(previous, operand.kind)
+        self.memory_operands.push(operand)?;
+        self.push(Operation::Previous(Scalar::Nil, operand))
     }
 
     /// Whether none of these elements is true.
-    fn nor(&mut self, operands: &[ElementId]) -> Result<TypedElement, AllocError>
+    fn nor(&mut self, operands: &[ElementId]) -> Result<ElementId, AllocError>
         requires room { self.old.next + length operands.now + 2 < 2 ^ 32 }
         requires operands { All (λ a. a.0 < self.old.next) operands.now }
-        ensures found { IfOk result (λ f. found_of self.new f
-            ≡ mirror.as_truth (emit_nor Always (state_of self.old) (numbers_of operands.now))) }
+        ensures found { IfOk result (λ a. found_of self.new a
+            ≡ mirror.only_found (emit_nor Always (state_of self.old) (numbers_of operands.now))) }
         ensures next { OnOk result (self.new.next ≡ self.old.next + length operands.now + 2) }
-        ensures element { IfOk result (λ f. f.element.0 < self.new.next) }
+        ensures element { IfOk result (λ a. a.0 < self.new.next) }
     {
         let no = Operation::Constant(Scalar::Boolean(false));
-        let mut any = self.push(no, Kind::Bool)?.element;
+        let mut any = self.push(no)?;
         for operand in operands {
             let or = Operation::ApplyBinary(BinaryOperator::Or, any, *operand);
-            any = self.push(or, Kind::Bool)?.element;
+            any = self.push(or)?;
         }
-        self.push(Operation::ApplyUnary(UnaryOperator::Not, any), Kind::Bool)
+        self.push(Operation::ApplyUnary(UnaryOperator::Not, any))
     }
 
     /// Whether at most one of these elements is true.
-    fn at_most_one(&mut self, operands: &[ElementId]) -> Result<TypedElement, AllocError>
+    fn at_most_one(&mut self, operands: &[ElementId]) -> Result<ElementId, AllocError>
         requires room { self.old.next + 3 * length operands.now + 2 < 2 ^ 32 }
         requires operands { All (λ a. a.0 < self.old.next) operands.now }
-        ensures found { IfOk result (λ f. found_of self.new f
-            ≡ mirror.as_truth
+        ensures found { IfOk result (λ a. found_of self.new a
+            ≡ mirror.only_found
             (emit_at_most_one Always (state_of self.old) (numbers_of operands.now))) }
         ensures next { OnOk result (self.new.next ≡ self.old.next + 3 * length operands.now + 2) }
-        ensures element { IfOk result (λ f. f.element.0 < self.new.next) }
+        ensures element { IfOk result (λ a. a.0 < self.new.next) }
     {
         let no = Operation::Constant(Scalar::Boolean(false));
-        let mut any = self.push(no, Kind::Bool)?.element;
+        let mut any = self.push(no)?;
         let mut two = any;
         for operand in operands {
             let and = Operation::ApplyBinary(BinaryOperator::And, any, *operand);
-            let both = self.push(and, Kind::Bool)?.element;
+            let both = self.push(and)?;
             let or = Operation::ApplyBinary(BinaryOperator::Or, two, both);
-            two = self.push(or, Kind::Bool)?.element;
+            two = self.push(or)?;
             let or = Operation::ApplyBinary(BinaryOperator::Or, any, *operand);
-            any = self.push(or, Kind::Bool)?.element;
+            any = self.push(or)?;
         }
-        self.push(Operation::ApplyUnary(UnaryOperator::Not, two), Kind::Bool)
+        self.push(Operation::ApplyUnary(UnaryOperator::Not, two))
     }
 
     /// A term with this operand: a data operator or `pre`.
-    fn with_one(&mut self, term: &Term, operand: TypedElement) -> Result<TypedElement, AllocError>
+    fn with_one(&mut self, term: &Term, operand: ElementId) -> Result<ElementId, AllocError>
         requires room { self.old.next + 1 < 2 ^ 32 }
-        requires operand { operand.element.0 < self.old.next }
-        ensures found { IfOk result (λ f. found_of self.new f
+        requires operand { operand.0 < self.old.next }
+        ensures found { IfOk result (λ a. found_of self.new a
             ≡ mirror.with_one term.now (found_of self.old operand)) }
         ensures next { OnOk result (self.new.next ≡ self.old.next + 1) }
-        ensures element { IfOk result (λ f. f.element.0 < self.new.next) }
+        ensures element { IfOk result (λ a. a.0 < self.new.next) }
     {
         match term {
-            Term::Unary(op, _) => self.push(
-                Operation::ApplyUnary(*op, operand.element),
-                unary_result(*op),
-            ),
+            Term::Unary(op, _) => self.push(Operation::ApplyUnary(*op, operand)),
             _ => self.previous(operand),
         }
     }
 
     /// A term with these two operands: a data operator, `fby` or `->`.
-    fn with_two(
-        &mut self,
-        term: &Term,
-        a: ElementId,
-        b: TypedElement,
-    ) -> Result<TypedElement, AllocError>
+    fn with_two(&mut self, term: &Term, a: ElementId, b: ElementId) -> Result<ElementId, AllocError>
         requires room { self.old.next + 2 < 2 ^ 32 }
         requires first { a.0 < self.old.next }
-        requires second { b.element.0 < self.old.next }
-        ensures found { IfOk result (λ f. found_of self.new f
+        requires second { b.0 < self.old.next }
+        ensures found { IfOk result (λ found. found_of self.new found
             ≡ mirror.with_two term.now a.0 (found_of self.old b)) }
         ensures grows { OnOk result (self.old.next ≤ self.new.next) }
         ensures room { OnOk result (self.new.next ≤ self.old.next + 2) }
-        ensures element { IfOk result (λ f. f.element.0 < self.new.next) }
+        ensures element { IfOk result (λ a. a.0 < self.new.next) }
     {
         match term {
-            Term::Binary(op, _, _) => self.push(
-                Operation::ApplyBinary(*op, a, b.element),
-                binary_result(*op),
-            ),
+            Term::Binary(op, _, _) => self.push(Operation::ApplyBinary(*op, a, b)),
             Term::Fby(_, _) => {
                 let before = self.previous(b)?;
-                self.push(Operation::FirstThen(false, a, before.element), b.kind)
+                self.push(Operation::FirstThen(false, a, before))
             }
-            _ => self.push(Operation::FirstThen(false, a, b.element), b.kind),
+            _ => self.push(Operation::FirstThen(false, a, b)),
         }
     }
 
     /// A term with these operands in a row: `nor` or `#`.
-    fn with_all(&mut self, term: &Term, operands: &[ElementId]) -> Result<TypedElement, AllocError>
+    fn with_all(&mut self, term: &Term, operands: &[ElementId]) -> Result<ElementId, AllocError>
         requires room { self.old.next + 3 * length operands.now + 2 < 2 ^ 32 }
         requires operands { All (λ a. a.0 < self.old.next) operands.now }
-        ensures found { IfOk result (λ f. found_of self.new f
+        ensures found { IfOk result (λ a. found_of self.new a
             ≡ mirror.with_all term.now (emitted_of self.old operands.now)) }
         ensures grows { OnOk result (self.old.next ≤ self.new.next) }
         ensures room { OnOk result
             (self.new.next ≤ self.old.next + 3 * length operands.now + 2) }
-        ensures element { IfOk result (λ f. f.element.0 < self.new.next) }
+        ensures element { IfOk result (λ a. a.0 < self.new.next) }
     {
         match term {
             Term::Nor(_) => self.nor(operands),
@@ -285,45 +230,36 @@ impl Emission {
     /// Emits a term after what was emitted so far.
     #[cycle(emission)]
     #[tactic(auto, unfolding(crate::specs::Terms::emit_term, crate::specs::Terms::term_size), using(crate::proofs::Emitting::emits))]
-    fn emit(
-        &mut self,
-        alloc: Global,
-        variables: &[Variable],
-        term: &Term,
-    ) -> Result<TypedElement, AllocError>
-        requires within { is_within (length variables.now) term.now ≡ true }
-        requires variables { length variables.now ≤ self.old.next }
+    fn emit(&mut self, alloc: Global, term: &Term) -> Result<ElementId, AllocError>
+        requires within { is_within self.old.next term.now ≡ true }
         requires room { self.old.next + 5 * term_size term.now < 2 ^ 32 }
-        ensures found { IfOk result (λ f. found_of self.new f
-            ≡ mirror.emit_term (kinds_of variables.now) (state_of self.old) term.now) }
-        ensures taken { IfOk result (λ f.
-            IsTaken self.old.next self.new.next (term_size term.now) f.element) }
+        ensures found { IfOk result (λ a. found_of self.new a
+            ≡ mirror.emit_term (state_of self.old) term.now) }
+        ensures taken { IfOk result (λ a.
+            IsTaken self.old.next self.new.next (term_size term.now) a) }
     {
         match term {
-            Term::Literal(n) => self.push(Operation::Constant(literal(*n)), Kind::Int),
-            Term::Truth(b) => self.push(Operation::Constant(Scalar::Boolean(*b)), Kind::Bool),
-            Term::Variable(x) => Ok(TypedElement {
-                element: ElementId(x.0),
-                kind: variables[x.0 as usize].kind,
-            }),
-            Term::Group(e) => self.emit(alloc, variables, e),
+            Term::Literal(n) => self.push(Operation::Constant(literal(*n))),
+            Term::Truth(b) => self.push(Operation::Constant(Scalar::Boolean(*b))),
+            Term::Variable(x) => Ok(ElementId(x.0 as u32)),
+            Term::Group(e) => self.emit(alloc, e),
             Term::Unary(_, e) | Term::Pre(e) => {
-                let operand = self.emit(alloc, variables, e)?;
+                let operand = self.emit(alloc, e)?;
                 self.with_one(term, operand)
             }
             Term::Binary(_, a, b) | Term::Arrow(a, b) | Term::Fby(a, b) => {
-                let a = self.emit(alloc, variables, a)?;
-                let b = self.emit(alloc, variables, b)?;
-                self.with_two(term, a.element, b)
+                let a = self.emit(alloc, a)?;
+                let b = self.emit(alloc, b)?;
+                self.with_two(term, a, b)
             }
             Term::If(c, a, b) => {
-                let c = self.emit(alloc, variables, c)?;
-                let a = self.emit(alloc, variables, a)?;
-                let b = self.emit(alloc, variables, b)?;
-                self.push(Operation::Choose(c.element, a.element, b.element), b.kind)
+                let c = self.emit(alloc, c)?;
+                let a = self.emit(alloc, a)?;
+                let b = self.emit(alloc, b)?;
+                self.push(Operation::Choose(c, a, b))
             }
             Term::AtMostOne(terms) | Term::Nor(terms) => {
-                let operands = self.emit_all(alloc, variables, terms)?;
+                let operands = self.emit_all(alloc, terms)?;
                 self.with_all(term, &operands)
             }
         }
@@ -332,23 +268,17 @@ impl Emission {
     /// Emits some terms, one after another.
     #[cycle(emission)]
     #[tactic(auto, unfolding(crate::specs::Terms::emit_list, crate::specs::Terms::list_size), using(crate::proofs::Emitting::emits))]
-    fn emit_all(
-        &mut self,
-        alloc: Global,
-        variables: &[Variable],
-        terms: &[Term],
-    ) -> Result<Vec<ElementId>, AllocError>
-        requires within { list_all (is_within (length variables.now)) terms.now ≡ true }
-        requires variables { length variables.now ≤ self.old.next }
+    fn emit_all(&mut self, alloc: Global, terms: &[Term]) -> Result<Vec<ElementId>, AllocError>
+        requires within { list_all (is_within self.old.next) terms.now ≡ true }
         requires room { self.old.next + 5 * list_size terms.now < 2 ^ 32 }
         ensures found { IfOk result (λ found. emitted_of self.new found.items
-            ≡ mirror.emit_list (kinds_of variables.now) (state_of self.old) [] terms.now) }
+            ≡ mirror.emit_list (state_of self.old) [] terms.now) }
         ensures taken { IfOk result (λ found.
             AreTaken self.old.next self.new.next (list_size terms.now) found.items) }
     {
         let mut found = Vec::new(alloc);
         for term in terms {
-            found.push(self.emit(alloc, variables, term)?.element)?;
+            found.push(self.emit(alloc, term)?)?;
         }
         Ok(found)
     }
@@ -363,8 +293,10 @@ impl Emission {
         ensures next { self.new.next ≡ self.old.next }
     {
         if let [x, ..] = lefts {
+            let next = self.next;
+            prove!(x.0 < next as usize);
             self.copies.push(Equation {
-                element: ElementId(x.0),
+                element: ElementId(x.0 as u32),
                 clock: None,
                 operation: Operation::Copy(found),
             })?;
@@ -374,29 +306,23 @@ impl Emission {
 
     /// Emits a statement after what was emitted so far.
     #[tactic(auto, unfolding(crate::specs::Terms::emit_statement), using(crate::proofs::Emitting::statements))]
-    fn statement(
-        &mut self,
-        alloc: Global,
-        variables: &[Variable],
-        statement: &PlainStatement,
-    ) -> Result<(), AllocError>
-        requires within { is_statement_within (length variables.now) statement.now ≡ true }
-        requires variables { length variables.now ≤ self.old.next }
+    fn statement(&mut self, alloc: Global, statement: &PlainStatement) -> Result<(), AllocError>
+        requires within { is_statement_within self.old.next statement.now ≡ true }
         requires room { self.old.next + 5 * statement_size statement.now < 2 ^ 32 }
         ensures state { OnOk result (state_of self.new
-            ≡ mirror.emit_statement (kinds_of variables.now) (state_of self.old) statement.now) }
+            ≡ mirror.emit_statement (state_of self.old) statement.now) }
         ensures grows { OnOk result (self.old.next ≤ self.new.next) }
         ensures room { OnOk result
             (self.new.next ≤ self.old.next + 5 * statement_size statement.now) }
     {
         match statement {
             PlainStatement::Equation(lefts, e) => {
-                let found = self.emit(alloc, variables, e)?;
-                self.copy(lefts, found.element)
+                let found = self.emit(alloc, e)?;
+                self.copy(lefts, found)
             }
             PlainStatement::Assertion(e) => {
-                let found = self.emit(alloc, variables, e)?;
-                self.asserted.push(found.element)?;
+                let found = self.emit(alloc, e)?;
+                self.asserted.push(found)?;
                 Ok(())
             }
         }
@@ -407,19 +333,16 @@ impl Emission {
     pub(crate) fn statements(
         &mut self,
         alloc: Global,
-        variables: &[Variable],
         statements: &[PlainStatement],
     ) -> Result<(), AllocError>
-        requires within { list_all (is_statement_within (length variables.now)) statements.now
-            ≡ true }
-        requires variables { length variables.now ≤ self.old.next }
+        requires within { list_all (is_statement_within self.old.next) statements.now ≡ true }
         requires room { self.old.next + 5 * statements_size statements.now < 2 ^ 32 }
         ensures state { OnOk result (state_of self.new
-            ≡ mirror.emit_statements (kinds_of variables.now) (state_of self.old) statements.now) }
+            ≡ mirror.emit_statements (state_of self.old) statements.now) }
         ensures grows { OnOk result (self.old.next ≤ self.new.next) }
     {
         for statement in statements {
-            self.statement(alloc, variables, statement)?;
+            self.statement(alloc, statement)?;
         }
         Ok(())
     }
@@ -452,6 +375,7 @@ impl Emission {
             size: next,
             variables,
             memory_operands,
+            clock_elements: Vec::new(alloc),
             asserted,
             property: ElementId(inputs),
         })

@@ -13,12 +13,12 @@ returns-in_err-plain c =
     let error = c.in_err-plain.field-0.0 in
     let fault = subst (λ (e : Elaboration). IsPlainFault (elaborated_program e) error)
     c.elab.ensures.value c.in_err-plain.ensures.err in
-    rw (p.1, p.2) (plain_fault_is (elaborated_program c.args.checked.now) error fault)
+    rw (p.1, p.2) (plain_fault_is (elaborated_program c.args.checked.now.elab) error fault)
 
 pub returns : goal.returns
 returns c =
     let plain = c.in_ok-plain.plain in
     let is = subst (λ (e : Elaboration). IsPlain (elaborated_program e) (node_in plain))
     c.elab.ensures.value c.in_ok-plain.ensures.ok in
-    answer_is plain (elaborated_program c.args.checked.now) c.expand_plain.result is
+    answer_is plain (elaborated_program c.args.checked.now.elab) c.expand_plain.result is
     c.elab.ensures.lawful.accepted c.expand_plain.ensures

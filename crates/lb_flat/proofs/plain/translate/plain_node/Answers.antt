@@ -1,11 +1,11 @@
 -- The plain node is that of the source.
-use Rattle.std.proofs.Common.{◌≡◌, ◌<◌, ◌^◌, length, true, ap, sym, subst, ◌∙◌, arith}
+use Rattle.std.proofs.Common.{◌≡◌, ◌<◌, length, true, ap, sym, subst, ◌∙◌, arith}
 use Rattle.std.specs.Prelude.{nat_eq}
 use Rattle.std.proofs.lemmas.Bool.Decides.{nat_tests}
 use Rattle.lb_static.specs.ResolvedNodes as resolved_node
 use Rattle.lb_flat.specs.UnsupportedForms.{AreStatementsOf}
 use Rattle.lb_flat.specs.PlainNodes.{node_of}
-use Rattle.lb_flat.proofs.PlainRoots.{as_many_variables, parts_fit, plain_is, running, steps_fit}
+use Rattle.lb_flat.proofs.PlainRoots.{parts_fit, plain_is, running, steps_fit}
 use Rattle.lb_flat.proofs.plain.translate.plain_node.Goals as goal
 
 pub invariant_of-result : goal.invariant_of-result
@@ -20,8 +20,6 @@ invariant_of-result c =
       parts_fit = parts_fit (resolved_node.node_of r) vars r.inputs r.outputs declared is.inputs
           is.outputs;
       has_output = subst (λ k. 0 < k) (sym is.outputs) c.requires.output;
-      places_fit = subst (λ k. k < 2 ^ 32) (sym (as_many_variables c.requires.resolved.0 r is vars
-          declared statements of)) is.variables_fit;
       steps_fit = steps_fit c.requires.resolved.0 r is vars declared statements of;
     }
 

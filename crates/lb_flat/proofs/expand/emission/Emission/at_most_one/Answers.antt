@@ -6,9 +6,9 @@ pub loop-operand-preserved : goal.loop-operand-preserved
 loop-operand-preserved c =
     at_most_one_step (state_of c.args.self.now) (state_of c.loop-operand.self)
     c.loop-operand.any.0 c.loop-operand.two.0 c.args.operands.now c.loop-operand.operand-index _
-    (found_of c.push-in-loop-operand.new.self c.in_ok-both.field-0)
-    (found_of c.push-in-loop-operand-2.new.self c.in_ok-two.field-0)
-    (found_of c.push-in-loop-operand-3.new.self c.in_ok-any-2.field-0)
+    (found_of c.push-in-loop-operand.new.self c.in_ok-both.both)
+    (found_of c.push-in-loop-operand-2.new.self c.in_ok-two.two)
+    (found_of c.push-in-loop-operand-3.new.self c.in_ok-any-2.any)
     c.loop-operand-test.true c.loop-operand.invariant c.in_ok-both.ensures.found
     c.in_ok-two.ensures.found c.in_ok-any-2.ensures.found
 

@@ -6,7 +6,7 @@ pub loop-operand-preserved : goal.loop-operand-preserved
 loop-operand-preserved c =
     nor_step (state_of c.args.self.now) (state_of c.loop-operand.self) c.loop-operand.any.0
     c.args.operands.now c.loop-operand.operand-index _
-    (found_of c.push-in-loop-operand.new.self c.in_ok-any-2.field-0) c.loop-operand-test.true
+    (found_of c.push-in-loop-operand.new.self c.in_ok-any-2.any) c.loop-operand-test.true
     c.loop-operand.invariant c.in_ok-any-2.ensures.found
 
 pub returns-clause-found : goal.returns-clause-found

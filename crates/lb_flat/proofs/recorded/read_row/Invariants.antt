@@ -2,7 +2,7 @@ use Rattle.lb_syntax.specs.Lists.{zip2}
 use Rattle.lb_flat.specs.Inputs.{scalar_in}
 use Rattle.lb_flat.specs.Prepared.{place_equation}
 use Rattle.lb_flat.proofs.Steps.{IsFilling}
-use Rattle.lb_flat.proofs.trace_run.read_row.Given as goal
+use Rattle.lb_flat.proofs.recorded.read_row.Given as goal
 
 abbrev pub invariant-loop-i : goal.invariant-loop-i
 invariant-loop-i l =

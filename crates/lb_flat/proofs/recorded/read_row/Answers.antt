@@ -1,5 +1,5 @@
 use Rattle.lb_flat.proofs.Steps.{fill_step, all_filled}
-use Rattle.lb_flat.proofs.trace_run.read_row.Goals as goal
+use Rattle.lb_flat.proofs.recorded.read_row.Goals as goal
 
 pub loop-i-preserved : goal.loop-i-preserved
 loop-i-preserved c =

@@ -5,7 +5,7 @@ use mir.Val.{SFits}
 use Rattle.lb_syntax.specs.declared.tree.Kind.TheVariants.{Int}
 use Rattle.lb_flat.specs.Inputs.{scalar_in}
 use Rattle.lb_flat.proofs.RecordedInputs.{scalar_there, no_scalar}
-use Rattle.lb_flat.proofs.trace_run.input_at.Goals as goal
+use Rattle.lb_flat.proofs.recorded.input_at.Goals as goal
 
 pub returns-then-j-kinds : goal.returns-then-j-kinds
 returns-then-j-kinds c =

@@ -1,6 +1,6 @@
 use Rattle.std.proofs.Common.{◌≡◌, take}
 use Rattle.lb_static.specs.Signature.{kinds_of}
-use Rattle.lb_flat.proofs.trace_run.kinds_of.Given as goal
+use Rattle.lb_flat.proofs.recorded.kinds_of.Given as goal
 
 abbrev pub invariant-loop-i : goal.invariant-loop-i
 invariant-loop-i l = l.kinds.items ≡ take l.i (kinds_of l.signature)
