@@ -9,7 +9,7 @@ use Rattle.std.proofs.lemmas.Bool.Decides.{Decides-int_eq}
 use Rattle.std.proofs.lemmas.Slice.Eq.{bytes_eq-Decides}
 use Rattle.lb_syntax.specs.Lists.{Every}
 use Rattle.lb_syntax.specs.Tree.{Name}
-use Rattle.lb_check.specs.Scalars.{Scalar, Integer, Boolean, Bad, Cell, Stream}
+use Rattle.lb_check.specs.Scalars.{Scalar, Integer, Boolean, Nil, Bad, Cell, Stream}
 
 -- a test whose passing shows a fact
 pub record Test (A : Type 0) : Type 0 where
@@ -88,6 +88,7 @@ equal_names x y = record { passed = bytes_eq x y; shows = (bytes_eq-Decides x y)
 abbrev pub equal_scalars : (v w : Scalar) → Test (v ≡ w)
 equal_scalars (Integer a) (Integer b) = so (ap Integer) (equal_ints a b)
 equal_scalars (Boolean a) (Boolean b) = so (ap Boolean) (equal_bools a b)
+equal_scalars Nil Nil = holds refl
 equal_scalars Bad Bad = holds refl
 equal_scalars v w = fails
 

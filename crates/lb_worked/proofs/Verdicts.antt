@@ -4,8 +4,8 @@ use Rattle.std.proofs.Common.{sym, subst, arith}
 use Rattle.std.proofs.lemmas.Bool.{cases_order}
 use Rattle.lb_static.specs.Instances.{Program}
 use Rattle.lb_check.specs.Streams.{History}
-use Rattle.lb_check.specs.Verdicts.{is_fault, is_failed, is_violated, decides, Ends, judged}
-use Rattle.lb_check.specs.Verdicts.{or_later, verdict_from}
+use Rattle.lb_check.specs.Verdicts.{is_fault, is_undefined, is_failed, is_violated, decides, Ends}
+use Rattle.lb_check.specs.Verdicts.{judged, or_later, verdict_from}
 
 module _ (P : Program) (H : History) (count : ℕ) where
   -- nothing happens before instant t
@@ -20,25 +20,29 @@ module _ (P : Program) (H : History) (count : ℕ) where
 
   -- from an instant before which nothing happened
   step :
-      (t n : ℕ) (f a v : Bool) → t < count → Quiet t →
-      is_fault P H t ≡ f → is_failed P H t ≡ a → is_violated P H t ≡ v →
+      (t n : ℕ) (f u a v : Bool) → t < count → Quiet t →
+      is_fault P H t ≡ f → is_undefined P H t ≡ u → is_failed P H t ≡ a →
+      is_violated P H t ≡ v →
       (Quiet (suc t) → Ends P H count (verdict_from P H (suc t) n)) →
       Ends P H count (or_later (judged P H t) (verdict_from P H (suc t) n))
-  step t n true a v lt q p r s later =
+  step t n true u a v lt q p z r s later =
       rw p (record { within = lt; happens = rw p refl; not_before = q }, p)
-  step t n false true v lt q p r s later =
-      rw (p, r) (record { within = lt; happens = rw (p, r) refl; not_before = q }, p, r)
-  step t n false false true lt q p r s later =
-      rw (p, r, s) (record { within = lt; happens = rw (p, r, s) refl; not_before = q }, p, r)
-  step t n false false false lt q p r s later =
-      rw (p, r, s) (later (quiet_on t q (rw (p, r, s) refl)))
+  step t n false true a v lt q p z r s later =
+      rw (p, z) (record { within = lt; happens = rw (p, z) refl; not_before = q }, p, z)
+  step t n false false true v lt q p z r s later =
+      rw (p, z, r) (record { within = lt; happens = rw (p, z, r) refl; not_before = q }, p, z, r)
+  step t n false false false true lt q p z r s later =
+      rw (p, z, r, s)
+      (record { within = lt; happens = rw (p, z, r, s) refl; not_before = q }, p, z, r)
+  step t n false false false false lt q p z r s later =
+      rw (p, z, r, s) (later (quiet_on t q (rw (p, z, r, s) refl)))
 
   ends_from :
       (t n : ℕ) → t + n ≡ count → Quiet t → Ends P H count (verdict_from P H t n)
   ends_from t zero e q = λ s lt. q s (omega (arith, e))
   ends_from t (suc n) e q =
       let later = λ (r : Quiet (suc t)). ends_from (suc t) n (omega (arith, e)) r in
-      step t n _ _ _ (omega (arith, e)) q refl refl refl later
+      step t n _ _ _ _ (omega (arith, e)) q refl refl refl refl later
 
   -- the verdict that is found so is that of the history
   pub ends : Ends P H count (verdict_from P H 0 count)

@@ -171,6 +171,20 @@ array_memory = alone (main (int_array "A" (Whole 2 ∷ []) ∷ int_var "e" ∷ [
     ∷ equation "ok" (Binary Equal (Binary Plus (Binary Times (Index (v "B") (Whole 0)) (Literal 10))
     (Index (v "B") (Whole 1))) (v "e")) ∷ []))
 
+-- node main(A: int^2; e: int) returns (ok: bool);
+-- var B, C: int^2; s: int;
+-- let
+-- B = pre A; C = map<<+,2>>(A, B); s = red<<+,2>>(0, C);
+-- ok = true -> s = e;
+-- tel
+abbrev pub nil_in_arrays : Program
+nil_in_arrays = alone (main (int_array "A" (Whole 2 ∷ []) ∷ int_var "e" ∷ []) (int_array "B"
+    (Whole 2 ∷ []) ∷ int_array "C" (Whole 2 ∷ []) ∷ int_var "s" ∷ [])
+    (equation "B" (Pre (v "A"))
+    ∷ equation "C" (iterate_symbol Map Plus (Whole 2) (v "A" ∷ v "B" ∷ []))
+    ∷ equation "s" (iterate_symbol Red Plus (Whole 2) (Literal 0 ∷ v "C" ∷ []))
+    ∷ equation "ok" (Arrow (Truth true) (Binary Equal (v "s") (v "e"))) ∷ []))
+
 -- node main(x, e: int) returns (ok: bool);
 -- var B: int^2^3;
 -- let B = x^2^3; ok = B[2][1] = e; tel

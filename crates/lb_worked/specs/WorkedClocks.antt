@@ -1,11 +1,11 @@
 -- Programs with slower clocks.
 -- Source: this project's rule.
-use Rattle.std.specs.Prelude.{true, [], ◌∷◌}
+use Rattle.std.specs.Prelude.{true, false, [], ◌∷◌}
 use Rattle.lb_syntax.specs.declared.tree.BinaryOperator.TheVariants.{Equal, Less, Greater, Plus}
-use Rattle.lb_syntax.specs.declared.tree.BinaryOperator.TheVariants.{Times, Divide}
+use Rattle.lb_syntax.specs.declared.tree.BinaryOperator.TheVariants.{Times, Divide, Or}
 use Rattle.lb_syntax.specs.declared.tree.ArrayIterator.TheVariants.{Map}
 use Rattle.lb_syntax.specs.Tree.{Whole, Literal, Truth, Group, Binary, Arrow, Pre, Current, Index}
-use Rattle.lb_syntax.specs.Tree.{Array, Assertion, Node}
+use Rattle.lb_syntax.specs.Tree.{If, Array, Assertion, Node}
 use Rattle.lb_static.specs.Instances.{Program}
 use Rattle.lb_static.specs.WorkedTrees.{v, exprs, call, when_true, when_false, iterate, int_var}
 use Rattle.lb_static.specs.WorkedTrees.{bool_var, int_array, bool_array, on_true, on_false}
@@ -21,23 +21,51 @@ cnt = node "cnt" (int_var "x" ∷ []) (int_var "n" ∷ []) []
 -- with the node `cnt` above:
 -- node main(c: bool; x, e: int) returns (ok: bool);
 -- var m: int;
--- let m = current (cnt(x when c)); ok = m = e; tel
+-- let m = 0 -> current (cnt(x when c)); ok = m = e; tel
 abbrev pub slower_counter : Program
 slower_counter = program [] (
+    cnt
+    ∷ main (bool_var "c" ∷ int_var "x" ∷ int_var "e" ∷ []) (int_var "m" ∷ [])
+    (equation "m" (Arrow (Literal 0)
+    (Current (Group (call "cnt" (when_true (v "x") "c" ∷ [])))))
+    ∷ equation "ok" (Binary Equal (v "m") (v "e")) ∷ []) ∷ [])
+
+-- the same without its guard; with the node `cnt` above:
+-- node main(c: bool; x, e: int) returns (ok: bool);
+-- var m: int;
+-- let m = current (cnt(x when c)); ok = m = e; tel
+abbrev pub unguarded_counter : Program
+unguarded_counter = program [] (
     cnt
     ∷ main (bool_var "c" ∷ int_var "x" ∷ int_var "e" ∷ []) (int_var "m" ∷ [])
     (equation "m" (Current (Group (call "cnt" (when_true (v "x") "c" ∷ []))))
     ∷ equation "ok" (Binary Equal (v "m") (v "e")) ∷ []) ∷ [])
 
+-- the same where a Boolean remembers a first tick; with the node `cnt` above:
+-- node main(c: bool; x: int) returns (ok: bool);
+-- var known: bool; m: int;
+-- let
+-- known = c or (false -> pre known);
+-- m = current (cnt(x when c));
+-- ok = if known then m < 9 else true;
+-- tel
+abbrev pub known_counter : Program
+known_counter = program [] (
+    cnt
+    ∷ main (bool_var "c" ∷ int_var "x" ∷ []) (bool_var "known" ∷ int_var "m" ∷ [])
+    (equation "known" (Binary Or (v "c") (Group (Arrow (Truth false) (Pre (v "known")))))
+    ∷ equation "m" (Current (Group (call "cnt" (when_true (v "x") "c" ∷ []))))
+    ∷ equation "ok" (If (v "known") (Binary Less (v "m") (Literal 9)) (Truth true)) ∷ []) ∷ [])
+
 -- node main(c: bool; x, e: int) returns (ok: bool);
 -- var s, p: int when c; m: int;
--- let s = x when c; p = 0 -> pre s; m = current p; ok = m = e; tel
+-- let s = x when c; p = 0 -> pre s; m = 0 -> current p; ok = m = e; tel
 abbrev pub slow_memory : Program
 slow_memory = alone (main (bool_var "c" ∷ int_var "x" ∷ int_var "e" ∷ []) (on_true (int_var "s") "c"
     ∷ on_true (int_var "p") "c" ∷ int_var "m" ∷ [])
     (equation "s" (when_true (v "x") "c")
     ∷ equation "p" (Arrow (Literal 0) (Pre (v "s")))
-    ∷ equation "m" (Current (v "p"))
+    ∷ equation "m" (Arrow (Literal 0) (Current (v "p")))
     ∷ equation "ok" (Binary Equal (v "m") (v "e")) ∷ []))
 
 -- node main(d, b: bool; e: int) returns (ok: bool);
@@ -69,6 +97,27 @@ both_signs_absent = alone (main (int_var "d" ∷ []) (bool_var "c" ∷ on_true (
     (equation "c" (Binary Greater (Binary Divide (Literal 1) (v "d")) (Literal 0))
     ∷ equation "y" (Binary Divide (Literal 1) (Group (when_true (v "d") "c")))
     ∷ equation "z" (Binary Divide (Literal 1) (Group (when_false (v "d") "c")))
+    ∷ equation "ok" (Truth true) ∷ []))
+
+-- node main(b: bool; x: int) returns (ok: bool);
+-- var c: bool; y: int when c; z: int when not c;
+-- let c = pre b; y = x when c; z = x when not c; ok = true; tel
+abbrev pub nil_clock : Program
+nil_clock = alone (main (bool_var "b" ∷ int_var "x" ∷ []) (bool_var "c" ∷ on_true (int_var "y") "c"
+    ∷ on_false (int_var "z") "c" ∷ [])
+    (equation "c" (Pre (v "b"))
+    ∷ equation "y" (when_true (v "x") "c")
+    ∷ equation "z" (when_false (v "x") "c")
+    ∷ equation "ok" (Truth true) ∷ []))
+
+-- node main(b: bool; x: int) returns (ok: bool);
+-- var c: bool; y: int when c;
+-- let c = true -> pre b; y = x when c; ok = true; tel
+abbrev pub guarded_clock : Program
+guarded_clock = alone (main (bool_var "b" ∷ int_var "x" ∷ []) (bool_var "c" ∷ on_true (int_var "y")
+    "c" ∷ [])
+    (equation "c" (Arrow (Truth true) (Pre (v "b")))
+    ∷ equation "y" (when_true (v "x") "c")
     ∷ equation "ok" (Truth true) ∷ []))
 
 -- ## Calls with clocked parameters

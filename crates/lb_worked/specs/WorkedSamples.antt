@@ -8,8 +8,8 @@ use Prim.Native.String.{String}
 use Rattle.lb_syntax.specs.Lists.{or_else, heads, listed, some_of, tail_of}
 use Rattle.lb_syntax.specs.Tree.{Name}
 use Rattle.lb_static.specs.WorkedTrees.{pieces, words}
-use Rattle.lb_static.specs.Instances.{Path, Root, Observer, Child}
-use Rattle.lb_check.specs.Scalars.{Integer, Boolean, Bad, Cell, Stream}
+use Rattle.lb_static.specs.Instances.{Path, Root, Observer, Child, is_path}
+use Rattle.lb_check.specs.Scalars.{Integer, Boolean, Nil, Bad, Cell, Stream}
 use Rattle.lb_check.specs.Streams.{History}
 use Rattle.lb_check.specs.Solutions.{Inputs}
 use Rattle.lb_check.specs.Needs.{Element}
@@ -20,13 +20,14 @@ use Rattle.lb_check.specs.Needs.{Element}
 abbrev parts : String → List (List ℕ)
 parts text = pieces 59 (codes text)
 
--- a cell: `.` for absent, `t` and `f` for true and false, `!` for the value of a fault, or a
--- whole number
+-- a cell: `.` for absent, `t` and `f` for true and false, `?` for nil, `!` for the value of a
+-- fault, or a whole number
 abbrev cell : List ℕ → Cell
 cell w =
     if bytes_eq w (codes ".") then None else
     if bytes_eq w (codes "t") then Some (Boolean true) else
     if bytes_eq w (codes "f") then Some (Boolean false) else
+    if bytes_eq w (codes "?") then Some Nil else
     if bytes_eq w (codes "!") then Some Bad else
     Some (Integer (signed_digits_value 10 w))
 
@@ -62,12 +63,6 @@ at p text =
     let columns = map column (parts text) in
     let count = length (listed (λ c. c.1) (slice_get columns 0)) in
     record { path = p; ticks = replicate count true; columns = columns }
-
-abbrev pub is_path : Path → Path → Bool
-is_path Root Root = true
-is_path Observer Observer = true
-is_path (Child p c i) (Child q d j) = nat_eq c d && (nat_eq i j && is_path p q)
-is_path _ _ = false
 
 abbrev part_at : List Part → Path → Option Part
 part_at told p = find (λ part. is_path part.path p) told

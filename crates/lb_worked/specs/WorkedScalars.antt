@@ -1,6 +1,6 @@
 -- Programs of one node without clocks or arrays.
 -- Source: this project's rule.
-use Rattle.std.specs.Prelude.{true, [], ◌∷◌}
+use Rattle.std.specs.Prelude.{true, false, [], ◌∷◌}
 use Rattle.lb_syntax.specs.declared.tree.UnaryOperator.TheVariants.{Not, Negate}
 use Rattle.lb_syntax.specs.declared.tree.BinaryOperator.TheVariants.{Or, Xor, And, Implies, Equal}
 use Rattle.lb_syntax.specs.declared.tree.BinaryOperator.TheVariants.{Unequal, Less, AtMost, Greater}
@@ -253,6 +253,18 @@ abbrev pub truth_before_the_first : Program
 truth_before_the_first = alone (main (bool_var "b" ∷ []) []
     (equation "ok" (Pre (v "b")) ∷ []))
 
+-- node main(b: bool) returns (ok: bool);
+-- let ok = true -> pre b; tel
+abbrev pub guarded_truth : Program
+guarded_truth = alone (main (bool_var "b" ∷ []) []
+    (equation "ok" (Arrow (Truth true) (Pre (v "b"))) ∷ []))
+
+-- node main(b: bool) returns (ok: bool);
+-- let ok = true -> pre pre b; tel
+abbrev pub two_instants_before : Program
+two_instants_before = alone (main (bool_var "b" ∷ []) []
+    (equation "ok" (Arrow (Truth true) (Pre (Pre (v "b")))) ∷ []))
+
 -- node main(x, e: int) returns (ok: bool);
 -- var r: int;
 -- let r = 5 fby x; ok = r = e; tel
@@ -292,3 +304,82 @@ abbrev pub unused_side : Program
 unused_side = alone (main (int_var "y" ∷ []) (int_var "z" ∷ [])
     (equation "z" (Arrow (Literal 1) (Binary Divide (Literal 1) (v "y")))
     ∷ equation "ok" (Truth true) ∷ []))
+
+-- ## Nil
+
+-- node main(x: int) returns (ok: bool);
+-- var q: int;
+-- let q = pre x / 0; ok = true; tel
+abbrev pub nil_by_zero : Program
+nil_by_zero = alone (main (int_var "x" ∷ []) (int_var "q" ∷ [])
+    (equation "q" (Binary Divide (Pre (v "x")) (Literal 0))
+    ∷ equation "ok" (Truth true) ∷ []))
+
+-- node main(x: int) returns (ok: bool);
+-- var q: int;
+-- let q = 1 / pre x; ok = true; tel
+abbrev pub one_by_nil : Program
+one_by_nil = alone (main (int_var "x" ∷ []) (int_var "q" ∷ [])
+    (equation "q" (Binary Divide (Literal 1) (Pre (v "x")))
+    ∷ equation "ok" (Truth true) ∷ []))
+
+-- node main(x: int) returns (ok: bool);
+-- var q: int;
+-- let q = pre x + 1 / x; ok = true; tel
+abbrev pub fault_beside_nil : Program
+fault_beside_nil = alone (main (int_var "x" ∷ []) (int_var "q" ∷ [])
+    (equation "q" (Binary Plus (Pre (v "x")) (Binary Divide (Literal 1) (v "x")))
+    ∷ equation "ok" (Truth true) ∷ []))
+
+-- node main(b: bool) returns (ok: bool);
+-- let ok = b or pre b; tel
+abbrev pub nil_under_or : Program
+nil_under_or = alone (main (bool_var "b" ∷ []) []
+    (equation "ok" (Binary Or (v "b") (Pre (v "b"))) ∷ []))
+
+-- node main(b: bool) returns (ok: bool);
+-- let ok = #(b, pre b, b); tel
+abbrev pub nil_counted : Program
+nil_counted = alone (main (bool_var "b" ∷ []) []
+    (equation "ok" (AtMostOne (exprs (v "b" ∷ Pre (v "b") ∷ v "b" ∷ []))) ∷ []))
+
+-- node main(b: bool) returns (ok: bool);
+-- let ok = not nor(b, pre b); tel
+abbrev pub nil_under_nor : Program
+nil_under_nor = alone (main (bool_var "b" ∷ []) []
+    (equation "ok" (Unary Not (Nor (exprs (v "b" ∷ Pre (v "b") ∷ [])))) ∷ []))
+
+-- node main(b: bool) returns (ok: bool);
+-- let ok = if pre b then true else true; tel
+abbrev pub nil_condition : Program
+nil_condition = alone (main (bool_var "b" ∷ []) []
+    (equation "ok" (If (Pre (v "b")) (Truth true) (Truth true)) ∷ []))
+
+-- node main(b: bool) returns (ok: bool);
+-- let ok = if b then true else pre b; tel
+abbrev pub nil_branch : Program
+nil_branch = alone (main (bool_var "b" ∷ []) []
+    (equation "ok" (If (v "b") (Truth true) (Pre (v "b"))) ∷ []))
+
+-- node main(b: bool) returns (ok: bool);
+-- let assert pre b; ok = b; tel
+abbrev pub nil_assertion : Program
+nil_assertion = alone (main (bool_var "b" ∷ []) []
+    (Assertion (Pre (v "b"))
+    ∷ equation "ok" (v "b") ∷ []))
+
+-- node main(b: bool) returns (ok: bool);
+-- let assert false; ok = pre b; tel
+abbrev pub nil_beside_an_assertion : Program
+nil_beside_an_assertion = alone (main (bool_var "b" ∷ []) []
+    (Assertion (Truth false)
+    ∷ equation "ok" (Pre (v "b")) ∷ []))
+
+-- node main(b: bool) returns (ok: bool);
+-- var z: int;
+-- let z = 1 / 0; assert false; ok = pre b; tel
+abbrev pub nil_beside_a_fault : Program
+nil_beside_a_fault = alone (main (bool_var "b" ∷ []) (int_var "z" ∷ [])
+    (equation "z" (Binary Divide (Literal 1) (Literal 0))
+    ∷ Assertion (Truth false)
+    ∷ equation "ok" (Pre (v "b")) ∷ []))

@@ -11,7 +11,8 @@ ghost use Rattle.lb_worked.specs.WorkedSamples.{trace};
 ghost use Rattle.lb_worked.specs.WorkedArrays.{counters, digits, differences, pairs, unrolled};
 ghost use Rattle.lb_worked.specs.WorkedArrays.{two_maps, far_steps, sliced, matrix, matrix_row};
 ghost use Rattle.lb_worked.specs.WorkedArrays.{chosen_array, whole_choice_faults, array_memory};
-ghost use Rattle.lb_worked.specs.WorkedArrays.{copied, size_by_a_constant, static_parameter};
+ghost use Rattle.lb_worked.specs.WorkedArrays.{nil_in_arrays, copied, size_by_a_constant};
+ghost use Rattle.lb_worked.specs.WorkedArrays.{static_parameter};
 ghost use Rattle.lb_worked.specs.WorkedArrays.{unused_input, assertion_with_a_fault};
 ghost use Rattle.lb_worked.specs.WorkedArrays.{element_not_taken, value_not_sampled};
 ghost use Rattle.lb_worked.specs.WorkedArrays.{call_not_chosen, symbol_not_chosen, two_results};
@@ -45,6 +46,12 @@ pub fn forms_of_arrays()
     ensures copies_of_copies { HasVerdict copied (trace "5 5") Passed }
     ensures size_by_a_constant { HasVerdict size_by_a_constant (trace "3 3; 3 4") (False 1) }
     ensures static_parameter_of_each_call { HasVerdict static_parameter (trace "1 304") Passed }
+{}
+
+/// Before its first tick a memory of an array is nil in every element.
+pub fn nil_in_every_element()
+    ensures accepted { IsAccepted nil_in_arrays }
+    ensures sums_of_nil { HasVerdict nil_in_arrays (trace "1 2 0; 3 4 10") Passed }
 {}
 
 /// A fault counts in a variable, an input of a call and an assertion; not in what is left out.

@@ -5,11 +5,13 @@ ghost use Rattle.lb_syntax.specs.Lists.{Every};
 ghost use Rattle.lb_syntax.specs.Refusals.{E8, E9, E10};
 ghost use Rattle.lb_check.specs.Acceptance.{refusal, IsAccepted};
 ghost use Rattle.lb_check.specs.Verdicts.{HasVerdict};
-ghost use Rattle.lb_check.specs.declared.verdict.Verdict.TheVariants.{Passed, Fault};
+ghost use Rattle.lb_check.specs.declared.verdict.Verdict.TheVariants.{Passed, Fault, Undefined};
 ghost use Rattle.lb_check.specs.declared.verdict.Verdict.TheVariants.{Assertion as Assertion_fails};
 ghost use Rattle.lb_check.specs.declared.verdict.Verdict.TheVariants.{False};
 ghost use Rattle.lb_worked.specs.WorkedSamples.{trace};
 ghost use Rattle.lb_worked.specs.WorkedClocks.{slower_counter, slow_memory, absent_clock};
+ghost use Rattle.lb_worked.specs.WorkedClocks.{unguarded_counter, known_counter, nil_clock};
+ghost use Rattle.lb_worked.specs.WorkedClocks.{guarded_clock};
 ghost use Rattle.lb_worked.specs.WorkedClocks.{faulty_clock, both_signs_absent, clocked_result};
 ghost use Rattle.lb_worked.specs.WorkedClocks.{current_of_a_result, truth_for_a_clock};
 ghost use Rattle.lb_worked.specs.WorkedClocks.{expression_for_a_clock, other_clock_for_an_argument};
@@ -35,6 +37,23 @@ pub fn a_counter_on_a_slower_clock()
     ensures no_tick_no_change { HasVerdict slower_counter (trace "f 1 0; t 1 1; f 1 2") (False 2) }
 {}
 
+/// Before the first tick `current` is nil. An arrow guards it where the first instant is a tick or
+/// has a value of its own, and a Boolean that remembers the first tick guards it everywhere.
+pub fn current_before_the_first_tick()
+    ensures accepted { Every IsAccepted (unguarded_counter ∷ known_counter ∷ []) }
+    ensures nil_is_undefined { HasVerdict unguarded_counter (trace "f 1 0; t 1 1") (Undefined 0) }
+    ensures tick_at_once { HasVerdict unguarded_counter (trace "t 1 1; f 1 1") Passed }
+    ensures arrow_for_one_instant { HasVerdict slower_counter (trace "f 1 0; f 1 0") (Undefined 1) }
+    ensures remembered { HasVerdict known_counter (trace "f 1; f 1; t 1; f 1") Passed }
+{}
+
+/// A clock variable that is nil ticks for neither sign, and is undefined.
+pub fn nil_in_a_clock()
+    ensures accepted { Every IsAccepted (nil_clock ∷ guarded_clock ∷ []) }
+    ensures nil_is_undefined { HasVerdict nil_clock (trace "t 1; t 2") (Undefined 0) }
+    ensures guarded { HasVerdict guarded_clock (trace "t 1; t 2") Passed }
+{}
+
 /// `->` and `pre` count the ticks of their clock; `not c` ticks where `c` is present and false.
 pub fn memories_on_a_slower_clock()
     ensures accepted { Every IsAccepted (slow_memory ∷ absent_clock ∷ faulty_clock
@@ -50,12 +69,12 @@ pub fn calls_with_clocked_parameters()
     ensures result_on_the_clock_of_the_caller { IsAccepted clocked_result }
     ensures clocked_result { HasVerdict clocked_result (trace "t 3; f 4") Passed }
     ensures current_of_a_result { IsAccepted current_of_a_result }
-    ensures current_of_it { HasVerdict current_of_a_result (trace "f 2 0; t 3 3; f 4 3") Passed }
+    ensures current_of_it { HasVerdict current_of_a_result (trace "t 2 2; f 4 2; t 3 3") Passed }
     ensures truth_for_a_clock_parameter { refusal truth_for_a_clock ≡ Some E10 }
     ensures expression_for_a_clock_parameter { refusal expression_for_a_clock ≡ Some E10 }
     ensures argument_on_another_clock { refusal other_clock_for_an_argument ≡ Some E10 }
     ensures output_that_is_the_clock_of_another { IsAccepted clock_among_results }
-    ensures clock_among_results { HasVerdict clock_among_results (trace "-1 0; 5 5; -3 5") Passed }
+    ensures clock_among_results { HasVerdict clock_among_results (trace "4 4; -3 4; 5 5") Passed }
     ensures result_on_a_clock_of_its_own { refusal result_on_another_clock ≡ Some E10 }
 {}
 
@@ -64,28 +83,27 @@ pub fn what_stands_for_a_clock_parameter()
     ensures one_variable_for_two { IsAccepted one_variable_for_two }
     ensures two_parameters_are_two_clocks { refusal two_parameters_are_two_clocks ≡ Some E10 }
     ensures literal_for_a_clocked_input { IsAccepted literal_for_a_clocked_input }
-    ensures at_its_ticks { HasVerdict literal_for_a_clocked_input (trace "f 0; t 3") Passed }
+    ensures at_its_ticks { HasVerdict literal_for_a_clocked_input (trace "t 3; f 3") Passed }
     ensures any_expression_for_an_inner_clock { IsAccepted any_expression_for_an_inner_clock }
     ensures a_clock_inside { HasVerdict any_expression_for_an_inner_clock
-        (trace "-2 0; 5 5; -1 5") Passed }
+        (trace "5 5; -1 5") Passed }
 {}
 
 /// Such a call runs on the clock of the place where it stands.
 pub fn calls_whose_arguments_determine_no_clock()
     ensures accepted { IsAccepted slower_call_without_arguments }
-    ensures no_arguments { HasVerdict slower_call_without_arguments (trace "f 0; t 1; f 1; t 2")
-        Passed }
+    ensures no_arguments { HasVerdict slower_call_without_arguments (trace "t 1; f 1; t 2") Passed }
     ensures current_of_it { refusal current_of_a_call_without_arguments ≡ Some E10 }
     ensures two_results_of_literals { IsAccepted slower_results_of_literals }
-    ensures two_results { HasVerdict slower_results_of_literals (trace "f 0; t 48") Passed }
+    ensures two_results { HasVerdict slower_results_of_literals (trace "t 48; f 48") Passed }
 {}
 
 /// Literals and constants are on every clock; operands share one; two variables are two clocks.
 pub fn what_clock_an_expression_is_on()
     ensures literals_on_a_slower_clock { IsAccepted slower_literals }
-    ensures slower_literals { HasVerdict slower_literals (trace "f 0 0; t 0 7; f 0 7") Passed }
+    ensures slower_literals { HasVerdict slower_literals (trace "t 0 7; f 0 7") Passed }
     ensures arrays_on_a_slower_clock { IsAccepted slower_arrays }
-    ensures slower_arrays { HasVerdict slower_arrays (trace "f 1 2 0; t 3 4 78; t 1 2 12") Passed }
+    ensures slower_arrays { HasVerdict slower_arrays (trace "t 3 4 78; f 5 6 78; t 1 2 12") Passed }
     ensures current_of_a_literal { refusal current_of_a_literal ≡ Some E10 }
     ensures current_on_the_base_clock { refusal current_on_the_base_clock ≡ Some E10 }
     ensures operands_on_two_clocks { refusal two_clocks ≡ Some E10 }

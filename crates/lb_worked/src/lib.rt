@@ -7,6 +7,7 @@ pub mod causality;
 pub mod clocks;
 pub mod levels;
 pub mod limits;
+pub mod numbers;
 pub mod programs;
 pub mod refusals;
 pub mod scalars;

@@ -6,7 +6,7 @@ ghost use Rattle.lb_check.specs.TypeRules.{size};
 ghost use Rattle.lb_check.specs.Verdicts.{HasVerdict};
 ghost use Rattle.lb_check.specs.declared.verdict.Verdict.TheVariants.{Passed};
 ghost use Rattle.lb_worked.specs.WorkedArrays.{two_results};
-ghost use Rattle.lb_worked.specs.WorkedClocks.{slower_counter};
+ghost use Rattle.lb_worked.specs.WorkedClocks.{unguarded_counter};
 ghost use Rattle.lb_worked.specs.WorkedSamples.{trace};
 ghost use Rattle.lb_worked.specs.WorkedScalars.{followed};
 ghost use Rattle.lb_static.specs.Instances.{instances};
@@ -32,7 +32,7 @@ pub fn the_size_of_a_program()
     ensures size_of_thirteen { size (long_array 12) ≡ 61494 }
     ensures size_of_fourteen { size (long_array 13) ≡ 65594 }
     ensures of_two_results { size two_results ≡ 22 }
-    ensures of_current_and_when { size slower_counter ≡ 20 }
+    ensures of_current_and_when { size unguarded_counter ≡ 20 }
     ensures of_fby { size followed ≡ 10 }
     ensures thirteen_are_small_enough { refusal (long_array 12) ≡ None }
     ensures fourteen_are_too_many { refusal (long_array 13) ≡ Some E12 }

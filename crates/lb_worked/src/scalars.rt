@@ -5,7 +5,7 @@ ghost use Rattle.lb_syntax.specs.Lists.{Every};
 ghost use Rattle.lb_check.specs.Scalars.{Integer, Boolean};
 ghost use Rattle.lb_check.specs.Acceptance.{IsAccepted};
 ghost use Rattle.lb_check.specs.Verdicts.{HasVerdict};
-ghost use Rattle.lb_check.specs.declared.verdict.Verdict.TheVariants.{Passed, Fault};
+ghost use Rattle.lb_check.specs.declared.verdict.Verdict.TheVariants.{Passed, Fault, Undefined};
 ghost use Rattle.lb_check.specs.declared.verdict.Verdict.TheVariants.{Assertion as Assertion_fails};
 ghost use Rattle.lb_check.specs.declared.verdict.Verdict.TheVariants.{False};
 ghost use Rattle.lb_worked.specs.WorkedSamples.{trace};
@@ -18,9 +18,14 @@ ghost use Rattle.lb_worked.specs.WorkedScalars.{without_a_fault, property_alone,
 ghost use Rattle.lb_worked.specs.WorkedScalars.{equality_of_truths, comparisons, counting};
 ghost use Rattle.lb_worked.specs.WorkedScalars.{logic_table, equality_table, comparison_table};
 ghost use Rattle.lb_worked.specs.WorkedScalars.{first_then, followed, before_the_first};
-ghost use Rattle.lb_worked.specs.WorkedScalars.{truth_before_the_first, unused_operand};
+ghost use Rattle.lb_worked.specs.WorkedScalars.{truth_before_the_first, guarded_truth};
+ghost use Rattle.lb_worked.specs.WorkedScalars.{two_instants_before, unused_operand};
 ghost use Rattle.lb_worked.specs.WorkedScalars.{unused_operand_of_fby, unused_operand_of_current};
-ghost use Rattle.lb_worked.specs.WorkedScalars.{unused_side};
+ghost use Rattle.lb_worked.specs.WorkedScalars.{unused_side, nil_by_zero, one_by_nil};
+ghost use Rattle.lb_worked.specs.WorkedScalars.{fault_beside_nil, nil_under_or, nil_counted};
+ghost use Rattle.lb_worked.specs.WorkedScalars.{nil_under_nor, nil_condition, nil_branch};
+ghost use Rattle.lb_worked.specs.WorkedScalars.{nil_assertion, nil_beside_an_assertion};
+ghost use Rattle.lb_worked.specs.WorkedScalars.{nil_beside_a_fault};
 
 /// The notation of traces below: instants parted by semicolons, cells by spaces.
 pub fn how_traces_are_written()
@@ -74,10 +79,14 @@ pub fn a_fault_in_what_is_not_needed()
     ensures under_at_most_one { HasVerdict strict_count (trace "5 0") (Fault 0) }
 {}
 
-/// At one instant a fault comes before an assertion, and that before the property.
+/// At one instant a fault comes before what is undefined, that before an assertion, and that before
+/// the property.
 pub fn the_order_at_one_instant()
-    ensures accepted { Every IsAccepted (all_three ∷ without_a_fault ∷ property_alone ∷ []) }
+    ensures accepted { Every IsAccepted (all_three ∷ without_a_fault ∷ property_alone
+        ∷ nil_beside_a_fault ∷ nil_beside_an_assertion ∷ []) }
     ensures fault_first { HasVerdict all_three (trace "0") (Fault 0) }
+    ensures fault_before_nil { HasVerdict nil_beside_a_fault (trace "t") (Fault 0) }
+    ensures nil_before_assertion { HasVerdict nil_beside_an_assertion (trace "t") (Undefined 0) }
     ensures assertion_next { HasVerdict without_a_fault (trace "0") (Assertion_fails 0) }
     ensures property_last { HasVerdict property_alone (trace "0") (False 0) }
 {}
@@ -100,14 +109,44 @@ pub fn operators_of_data()
     ensures three_are_too_many { HasVerdict counting (trace "f f t; t t t") (False 1) }
 {}
 
-/// `->` and `fby` give their first operand at the first instant; before it `pre` has 0 or false.
+/// `->` and `fby` give their first operand at the first instant, at which `pre` is nil.
 pub fn first_instants()
     ensures accepted { Every IsAccepted (first_then ∷ followed ∷ before_the_first
-        ∷ truth_before_the_first ∷ []) }
+        ∷ truth_before_the_first ∷ guarded_truth ∷ two_instants_before ∷ []) }
     ensures arrow { HasVerdict first_then (trace "f 7; t 1; f 5") Passed }
     ensures fby { HasVerdict followed (trace "1 5; 2 1; 3 2") Passed }
-    ensures pre_of_an_int_is_zero { HasVerdict before_the_first (trace "2 4; 2 4") (Fault 0) }
-    ensures pre_of_a_bool_is_false { HasVerdict truth_before_the_first (trace "t") (False 0) }
+    ensures pre_of_an_int_is_nil { HasVerdict before_the_first (trace "2 4; 2 4") Passed }
+    ensures pre_of_a_bool_is_nil { HasVerdict truth_before_the_first (trace "t") (Undefined 0) }
+    ensures guarded_by_an_arrow { HasVerdict guarded_truth (trace "t; t") Passed }
+    ensures one_arrow_for_two_pre { HasVerdict two_instants_before (trace "t; t") (Undefined 1) }
+{}
+
+/// A data operator with a nil operand gives nil, which is no fault; but a faulty operand makes one.
+pub fn nil_in_operators_of_data()
+    ensures accepted { Every IsAccepted (nil_by_zero ∷ one_by_nil ∷ fault_beside_nil ∷ nil_under_or
+        ∷ nil_counted ∷ nil_under_nor ∷ []) }
+    ensures nil_divided_by_zero { HasVerdict nil_by_zero (trace "2; 2") (Fault 1) }
+    ensures one_divided_by_nil { HasVerdict one_by_nil (trace "0; 0") (Fault 1) }
+    ensures fault_comes_before_nil { HasVerdict fault_beside_nil (trace "0") (Fault 0) }
+    ensures sum_with_nil { HasVerdict fault_beside_nil (trace "1; 1") Passed }
+    ensures true_or_nil { HasVerdict nil_under_or (trace "t") (Undefined 0) }
+    ensures two_true_and_nil { HasVerdict nil_counted (trace "t") (Undefined 0) }
+    ensures one_true_and_nil { HasVerdict nil_under_nor (trace "t") (Undefined 0) }
+{}
+
+/// `if` with a nil condition is nil; with one that is true or false it is the chosen branch alone.
+pub fn nil_in_if()
+    ensures accepted { Every IsAccepted (nil_condition ∷ nil_branch ∷ []) }
+    ensures nil_condition { HasVerdict nil_condition (trace "t") (Undefined 0) }
+    ensures nil_in_the_other_branch { HasVerdict nil_branch (trace "t") Passed }
+    ensures nil_in_the_chosen_branch { HasVerdict nil_branch (trace "f") (Undefined 0) }
+{}
+
+/// An assertion that is nil is undefined, whatever the property.
+pub fn nil_in_an_assertion()
+    ensures accepted { IsAccepted nil_assertion }
+    ensures before_a_false_property { HasVerdict nil_assertion (trace "f") (Undefined 0) }
+    ensures beside_a_true_property { HasVerdict nil_assertion (trace "t; t") (Undefined 0) }
 {}
 
 /// A fault counts where `pre`, `fby` or `current` keeps it; in an unused side of `->` it does not.

@@ -52,7 +52,7 @@ pub fn signatures()
 {}
 
 /// Each instance before those below it; a call before those in its arguments; the observer last.
-pub fn instances_in_the_order_of_the_walk()
+pub fn instances_in_order()
     ensures nodes { callees nested_calls ≡ names "main f g g f g f g" }
     ensures places { paths nested_calls ≡
         (Root

@@ -13,11 +13,11 @@ unfolding needs
 returns c = record {
   accepted = (accepted worked.slower_call_without_arguments).shows refl;
   no_arguments = by_history _ _ Passed (history (
-      at Root "c f t f t; e 0 1 1 2; n . 1 . 2; m 0 1 1 2; ok t t t t"
-      ∷ running "f t f t" (Child Root 0 0) "n . 1 . 2" ∷ [])) refl refl;
+      at Root "c t f t; e 1 1 2; n 1 . 2; m 1 1 2; ok t t t"
+      ∷ running "t f t" (Child Root 0 0) "n 1 . 2" ∷ [])) refl refl;
   current_of_it = refl;
   two_results_of_literals = (accepted worked.slower_results_of_literals).shows refl;
   two_results = by_history _ _ Passed (history (
-      at Root "c f t; e 0 48; p . 4; q . 8; ok t t"
-      ∷ running "f t" (Child Root 0 0) "a . 3; b . 4; p . 4; q . 8" ∷ [])) refl refl;
+      at Root "c t f; e 48 48; p 4 .; q 8 .; ok t t"
+      ∷ running "t f" (Child Root 0 0) "a 3 .; b 4 .; p 4 .; q 8 ." ∷ [])) refl refl;
 }

@@ -17,14 +17,14 @@ returns c = record {
       ∷ at (Child Root 0 0) "c t f; y 3 .; z 3 ." ∷ [])) refl refl;
   current_of_a_result = (accepted worked.current_of_a_result).shows refl;
   current_of_it = by_history _ _ Passed (history (
-      at Root "c f t f; x 2 3 4; e 0 3 3; w 0 3 3; ok t t t"
-      ∷ at (Child Root 0 0) "c f t f; y . 3 .; z . 3 ." ∷ [])) refl refl;
+      at Root "c t f t; x 2 4 3; e 2 2 3; w 2 2 3; ok t t t"
+      ∷ at (Child Root 0 0) "c t f t; y 2 . 3; z 2 . 3" ∷ [])) refl refl;
   truth_for_a_clock_parameter = refl;
   expression_for_a_clock_parameter = refl;
   argument_on_another_clock = refl;
   output_that_is_the_clock_of_another = (accepted worked.clock_among_results).shows refl;
   clock_among_results = by_history _ _ Passed (history (
-      at Root "x -1 5 -3; e 0 5 5; d f t f; z . 5 .; m 0 5 5; ok t t t"
-      ∷ at (Child Root 0 0) "x -1 5 -3; c f t f; y . 5 ." ∷ [])) refl refl;
+      at Root "x 4 -3 5; e 4 4 5; d t f t; z 4 . 5; m 4 4 5; ok t t t"
+      ∷ at (Child Root 0 0) "x 4 -3 5; c t f t; y 4 . 5" ∷ [])) refl refl;
   result_on_a_clock_of_its_own = refl;
 }

@@ -13,11 +13,11 @@ unfolding needs
 returns c = record {
   literals_on_a_slower_clock = (accepted worked.slower_literals).shows refl;
   slower_literals = by_history _ _ Passed (history (
-      at Root "c f t f; x 0 0 0; e 0 7 7; y . 6 .; m 0 7 7; ok t t t" ∷ [])) refl refl;
+      at Root "c t f; x 0 0; e 7 7; y 6 .; m 7 7; ok t t" ∷ [])) refl refl;
   arrays_on_a_slower_clock = (accepted worked.slower_arrays).shows refl;
   slower_arrays = by_history _ _ Passed (history (
       at Root
-      "c f t t; A 1 3 1; A 2 4 2; e 0 78 12; B . 7 1; B . 8 2; C 0 7 1; C 0 8 2; ok t t t"
+      "c t f t; A 3 5 1; A 4 6 2; e 78 78 12; B 7 . 1; B 8 . 2; C 7 7 1; C 8 8 2; ok t t t"
       ∷ [])) refl refl;
   current_of_a_literal = refl;
   current_on_the_base_clock = refl;

@@ -15,11 +15,11 @@ returns c = record {
   two_parameters_are_two_clocks = refl;
   literal_for_a_clocked_input = (accepted worked.literal_for_a_clocked_input).shows refl;
   at_its_ticks = by_history _ _ Passed (history (
-      at Root "c f t; e 0 3; w 0 3; ok t t"
-      ∷ at (Child Root 0 0) "c f t; y . 3; z . 3" ∷ [])) refl refl;
+      at Root "c t f; e 3 3; w 3 3; ok t t"
+      ∷ at (Child Root 0 0) "c t f; y 3 .; z 3 ." ∷ [])) refl refl;
   any_expression_for_an_inner_clock =
       (accepted worked.any_expression_for_an_inner_clock).shows refl;
   a_clock_inside = by_history _ _ Passed (history (
-      at Root "x -2 5 -1; e 0 5 5; ok t t t"
-      ∷ at (Child Root 0 0) "c f t f; x -2 5 -1; z . 5 .; y 0 5 5" ∷ [])) refl refl;
+      at Root "x 5 -1; e 5 5; ok t t"
+      ∷ at (Child Root 0 0) "c t f; x 5 -1; z 5 .; y 5 5" ∷ [])) refl refl;
 }

@@ -1,5 +1,5 @@
 use Rattle.std.proofs.Common.{refl}
-use Rattle.lb_worked.proofs.static_values.instances_in_the_order_of_the_walk.Goals as goal
+use Rattle.lb_worked.proofs.static_values.instances_in_order.Goals as goal
 
 pub returns : goal.returns
 returns c = record {
