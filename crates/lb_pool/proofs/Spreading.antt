@@ -69,3 +69,12 @@ pub of_collected :
 of_collected {E = E} R xs rs all h ys worked same =
     subst (AllZip R xs) (sym same)
     (oks E R xs ys (subst (AllZip (λ x y. IfOk y (R x)) xs) worked h))
+
+-- what is known of results does not need the states that were handed on
+pub of_states :
+    {A B : Type 0} (S : Type 0) (R : A → B → Type 0) (xs : List A) (ys : List B) →
+    AllZip (λ x y. (before after : S) × R x y) xs ys → AllZip R xs ys
+of_states S R [] [] h = tt
+of_states S R [] (y ∷ ys) h = absurd h
+of_states S R (x ∷ xs) [] h = absurd h
+of_states S R (x ∷ xs) (y ∷ ys) h = (h.0.2, of_states S R xs ys h.1)

@@ -1,7 +1,10 @@
 //! Workers that draw the batches of a plan from a claim board until none is left.
 
-ghost use Rattle.std.specs.Prelude.{◌≡◌, ◌-◌, ◌<◌, ◌≤◌, [], length, IfOk};
+ghost use Rattle.std.specs.Prelude.{◌≡◌, ℕ, List, ◌-◌, ◌<◌, ◌≤◌, [], length, IfOk};
 ghost use Rattle.std.specs.Thread.{IsSync};
+ghost use Rattle.lb_flat.specs.PreparedParts.{program_in, recording_in};
+ghost use Rattle.lb_flat.specs.Traces.{Recording};
+ghost use Rattle.lb_flat.specs.declared.program.FlatProgram.{FlatProgram};
 ghost use Rattle.lb_pool.specs.Plans.{numbers_in};
 ghost use Rattle.lb_pool.specs.Runs.{AreVerdicts};
 ghost use Rattle.lb_pool.specs.Seats.{limit_of, IsSeatOf, shares_of, drawn_of};
@@ -13,6 +16,9 @@ use crate::gate::Gate;
 use crate::plan::Plan;
 use lb_check::verdict::Verdict;
 use lb_flat::flat::Ordered;
+use lb_flat::prepared::Prepared;
+use lb_flat::recorded::Recorded;
+use lb_flat::scratch::Scratch;
 use lb_flat::traces::TraceSet;
 use std::alloc::{AllocError, Global};
 use std::thread::{Threads, join};
@@ -29,19 +35,20 @@ fn drain<G: Gate>(
     alloc: Global,
     board: &ClaimBoard,
     gate: &G,
-    work: &Work<'_>,
+    work: &Work<'_, '_>,
     mut seat: ClaimSeat,
 ) -> Result<Done, AllocError>
     requires board { limit_of board.now ≡ length work.now.plan.now }
     requires seat { IsSeatOf board.now seat }
     requires nothing { drawn_of seat ≡ [] }
-    ensures { IfOk result (HasDone board.now (shares_of seat) work.now.ordered.now.program
-        work.now.set.now work.now.plan.now) }
+    ensures { IfOk result (HasDone board.now (shares_of seat) (program_in work.now.prepared.now)
+        (recording_in work.now.recorded.now) work.now.plan.now) }
 {
+    let mut scratch = Scratch::new(alloc, work.prepared)?;
     let mut judged = Vec::new(alloc);
     while let Some(i) = board.claim(&mut seat) {
         gate.enter(i);
-        run_batch(alloc, work, i, &mut judged)?;
+        run_batch(work, i, &mut scratch, &mut judged)?;
     }
     Ok(Done { seat, judged })
 }
@@ -62,65 +69,125 @@ fn both_done(board: &ClaimBoard, one: Done, other: Done) -> Result<Done, AllocEr
     Ok(Done { seat, judged })
 }
 
+// What each worker of a run does. Those who start workers are generic over it, so that their types
+// name no lifetime.
+trait Worker {
+    ghost program: { Self → FlatProgram };
+
+    ghost recording: { Self → Recording };
+
+    ghost batches: { Self → List (List ℕ) };
+
+    // Claims until it is told that no batch is left.
+    fn drain_board(
+        &self,
+        alloc: Global,
+        board: &ClaimBoard,
+        seat: ClaimSeat,
+    ) -> Result<Done, AllocError>
+        requires board { limit_of board.now ≡ length (batches self.now) }
+        requires seat { IsSeatOf board.now seat }
+        requires nothing { drawn_of seat ≡ [] }
+        ensures { IfOk result (HasDone board.now (shares_of seat) (program self.now)
+            (recording self.now) (batches self.now)) };
+}
+
+// A worker that passes a gate before each batch.
+#[derive(Drop)]
+struct GatedWorker<'a, 'p, G> {
+    work: Work<'a, 'p>,
+    gate: &'a G,
+}
+
+impl<G: Gate> Worker for GatedWorker<'_, '_, G> {
+    ghost program = { λ w. program_in w.work.prepared.now };
+
+    ghost recording = { λ w. recording_in w.work.recorded.now };
+
+    ghost batches = { λ w. w.work.plan.now };
+
+    fn drain_board(
+        &self,
+        alloc: Global,
+        board: &ClaimBoard,
+        seat: ClaimSeat,
+    ) -> Result<Done, AllocError> {
+        drain(alloc, board, self.gate, &self.work, seat)
+    }
+}
+
 // Some workers, each with a seat of its own: a seat is split until each has one.
-fn work_together<R: Threads + Sync, G: Gate + Sync>(
+fn work_together<R: Threads + Sync, W: Worker + Sync>(
     rt: &R,
     alloc: Global,
     board: &ClaimBoard,
-    gate: &G,
-    ordered: &Ordered,
-    set: &TraceSet,
-    plan: &Plan,
+    worker: &W,
     seat: ClaimSeat,
     workers: u32,
 ) -> Result<Done, AllocError>
-    requires over_all { length (numbers_in plan.now) ≡ length set.now.traces }
-    requires board { limit_of board.now ≡ length plan.now }
+    requires board { limit_of board.now ≡ length (W.batches worker.now) }
     requires seat { IsSeatOf board.now seat }
     requires nothing { drawn_of seat ≡ [] }
     requires workers { (0 < workers) × (workers ≤ shares_of seat) }
-    ensures { IfOk result
-        (HasDone board.now (shares_of seat) ordered.now.program set.now plan.now) }
+    ensures { IfOk result (HasDone board.now (shares_of seat) (W.program worker.now)
+        (W.recording worker.now) (W.batches worker.now)) }
 {
     if workers == 1 {
-        return drain(alloc, board, gate, &Work { ordered, set, plan }, seat);
+        return worker.drain_board(alloc, board, seat);
     }
     let (left, right) = board.split(seat);
     let half = workers / 2;
     let (one, other) = join(
         rt,
         move || -> Result<Done, AllocError>
-            requires { IsSync R.row × IsSync G.row
-                × (length (numbers_in plan.now) ≡ length set.now.traces)
-                × (limit_of board.now ≡ length plan.now)
+            requires { IsSync R.row × IsSync W.row
+                × (limit_of board.now ≡ length (W.batches worker.now))
                 × IsSeatOf board.now left × (drawn_of left ≡ [])
                 × (0 < workers - half) × (workers - half ≤ shares_of left) }
             ensures { IfOk result (HasDone board.entry.now (shares_of left)
-                ordered.entry.now.program set.entry.now plan.entry.now) }
-        {
-            work_together(
-                rt,
-                alloc,
-                board,
-                gate,
-                ordered,
-                set,
-                plan,
-                left,
-                workers - half,
-            )
-        },
+                (W.program worker.entry.now) (W.recording worker.entry.now)
+                (W.batches worker.entry.now)) }
+        { work_together(rt, alloc, board, worker, left, workers - half) },
         move || -> Result<Done, AllocError>
-            requires { IsSync R.row × IsSync G.row
-                × (length (numbers_in plan.now) ≡ length set.now.traces)
-                × (limit_of board.now ≡ length plan.now)
+            requires { IsSync R.row × IsSync W.row
+                × (limit_of board.now ≡ length (W.batches worker.now))
                 × IsSeatOf board.now right × (drawn_of right ≡ [])
                 × (0 < half) × (half ≤ shares_of right) }
             ensures { IfOk result (HasDone board.entry.now (shares_of right)
-                ordered.entry.now.program set.entry.now plan.entry.now) }
-        { work_together(rt, alloc, board, gate, ordered, set, plan, right, half) },
+                (W.program worker.entry.now) (W.recording worker.entry.now)
+                (W.batches worker.entry.now)) }
+        { work_together(rt, alloc, board, worker, right, half) },
     );
     both_done(board, one?, other?)
+}
+
+// The verdicts of all traces, by workers that share a prepared program.
+fn run_workers<'a, 'p, R: Threads + Sync, G: Gate + Sync>(
+    rt: &R,
+    alloc: Global,
+    prepared: &'a Prepared<'p>,
+    recorded: &'a Recorded<'p>,
+    plan: &'a Plan,
+    workers: u32,
+    gate: &'a G,
+) -> Result<Vec<Verdict>, AllocError>
+    requires plan { length (numbers_in plan.now) ≡ length (recording_in recorded.now).traces }
+    requires workers { (0 < workers) × (workers ≤ 64) }
+    ensures { IfOk result (λ verdicts. AreVerdicts (program_in prepared.now)
+        (recording_in recorded.now) verdicts.items) }
+{
+    let (board, seat) = ClaimBoard::new(alloc, plan.batches())?;
+    let work = Work {
+        prepared,
+        recorded,
+        plan,
+    };
+    let worker = GatedWorker { work, gate };
+    let done = work_together(rt, alloc, &board, &worker, seat, workers)?;
+    let Done { seat, judged } = done;
+    let told = board.close(seat);
+    prove!(told);
+    verdicts_of(alloc, &work, judged.as_slice())
 }
 
 /// The verdicts of all traces of a set, in the traces' order, by 1 to 64 workers that draw the
@@ -146,10 +213,7 @@ pub fn run_claims<R: Threads + Sync, G: Gate + Sync>(
     requires workers { (0 < workers) × (workers ≤ 64) }
     ensures { IfOk result (λ verdicts. AreVerdicts ordered.now.program set.now verdicts.items) }
 {
-    let (board, seat) = ClaimBoard::new(alloc, plan.batches())?;
-    let done = work_together(rt, alloc, &board, gate, ordered, set, plan, seat, workers)?;
-    let Done { seat, judged } = done;
-    let told = board.close(seat);
-    prove!(told);
-    verdicts_of(alloc, &Work { ordered, set, plan }, judged.as_slice())
+    let prepared = Prepared::new(alloc, ordered)?;
+    let recorded = Recorded::new(alloc, set)?;
+    run_workers(rt, alloc, &prepared, &recorded, plan, workers, gate)
 }

@@ -2,6 +2,7 @@
 
 ghost use Rattle.std.specs.Prelude.{◌≡◌, ◌<◌, [], length, flat_map, IfOk};
 ghost use Rattle.std.specs.List.{AllZip, range_with_len};
+ghost use Rattle.lb_flat.specs.PreparedParts.{IsRoomFor, program_in, recording_in};
 ghost use Rattle.lb_pool.specs.Plans.{numbers_in};
 ghost use Rattle.lb_pool.specs.Runs.{AreVerdicts, IsBatchOf};
 
@@ -9,44 +10,80 @@ use crate::batch::{Judged, Work, run_batch, verdicts_of};
 use crate::plan::Plan;
 use lb_check::verdict::Verdict;
 use lb_flat::flat::Ordered;
+use lb_flat::prepared::Prepared;
+use lb_flat::recorded::Recorded;
+use lb_flat::scratch::Scratch;
 use lb_flat::traces::TraceSet;
 use rayon::prelude::*;
 use std::alloc::{AllocError, Global};
 use std::thread::Threads;
 
-// The verdicts of a batch.
-fn judged_batch(alloc: Global, work: &Work<'_>, i: u32) -> Result<Vec<Judged>, AllocError>
-    requires { i < length work.now.plan.now }
-    ensures { IfOk result (λ judged. IsBatchOf work.now.ordered.now.program work.now.set.now
-        work.now.plan.now i judged.items) }
+// The room that a worker has, or new room where it has none for this program.
+fn room_for(
+    alloc: Global,
+    prepared: &Prepared<'_>,
+    room: Option<Scratch>,
+) -> Result<Scratch, AllocError>
+    ensures { IfOk result (IsRoomFor prepared.now) }
 {
+    if let Some(scratch) = room {
+        if scratch.fits(prepared) {
+            return Ok(scratch);
+        }
+    }
+    Scratch::new(alloc, prepared)
+}
+
+// The verdicts of a batch, in the room that the worker had for the batch before.
+fn judged_batch(
+    alloc: Global,
+    work: &Work<'_, '_>,
+    room: &mut Option<Scratch>,
+    i: u32,
+) -> Result<Vec<Judged>, AllocError>
+    requires { i < length work.now.plan.now }
+    ensures { IfOk result (λ judged. IsBatchOf (program_in work.now.prepared.now)
+        (recording_in work.now.recorded.now) work.now.plan.now i judged.items) }
+{
+    let mut scratch = room_for(alloc, work.prepared, room.take())?;
     let mut judged = Vec::new(alloc);
-    run_batch(alloc, work, i, &mut judged)?;
+    run_batch(work, i, &mut scratch, &mut judged)?;
+    *room = Some(scratch);
     Ok(judged)
 }
 
-// The verdicts of each batch, in the order of the batches.
-fn judged_batches<R: Threads + Sync>(
+// The verdicts of each batch, in the order of the batches. Each thread makes room once, for all
+// batches that it runs.
+fn judged_batches<'p, R: Threads + Sync>(
     rt: &R,
     alloc: Global,
-    ordered: &Ordered,
-    set: &TraceSet,
+    prepared: &Prepared<'p>,
+    recorded: &Recorded<'p>,
     plan: &Plan,
 ) -> Result<Result<Vec<Vec<Judged>>, AllocError>, AllocError>
-    requires { length (numbers_in plan.now) ≡ length set.now.traces }
+    requires { length (numbers_in plan.now) ≡ length (recording_in recorded.now).traces }
     ensures { IfOk result (λ outer. IfOk outer (λ batches.
-        AllZip (λ i judged. IsBatchOf ordered.now.program set.now plan.now i judged.items)
+        AllZip (λ i judged. IsBatchOf (program_in prepared.now) (recording_in recorded.now)
+        plan.now i judged.items)
         (range_with_len 0 (length plan.now)) batches.items)) }
 {
     (0..plan.batches())
         .into_par_iter()
-        .map(
-            |i: u32| -> Result<Vec<Judged>, AllocError>
-                requires { (length (numbers_in plan.now) ≡ length set.now.traces)
-                    × (i < length plan.now) }
-                ensures { IfOk result (λ judged. IsBatchOf ordered.entry.now.program set.entry.now
-                    plan.entry.now i judged.items) }
-            { judged_batch(alloc, &Work { ordered, set, plan }, i) },
+        .map_init(
+            || -> Option<Scratch> { None },
+            |room: &mut Option<Scratch>, i: u32| -> Result<Vec<Judged>, AllocError>
+                requires { (length (numbers_in plan.now)
+                    ≡ length (recording_in recorded.now).traces) × (i < length plan.now) }
+                ensures { IfOk result (λ judged. IsBatchOf (program_in prepared.entry.now)
+                    (recording_in recorded.entry.now) plan.entry.now i judged.items) }
+            {
+                let work = Work {
+                    prepared,
+                    recorded,
+                    plan,
+                };
+                judged_batch(alloc, &work, room, i)
+            },
         )
         .collect(rt, alloc)
 }
@@ -60,6 +97,30 @@ fn in_one_list(alloc: Global, batches: &[Vec<Judged>]) -> Result<Vec<Judged>, Al
         all.extend_from_slice(batch.as_slice())?;
     }
     Ok(all)
+}
+
+// The verdicts of all traces, by threads that share a prepared program.
+fn spread_batches<'p, R: Threads + Sync>(
+    rt: &R,
+    alloc: Global,
+    prepared: &Prepared<'p>,
+    recorded: &Recorded<'p>,
+    plan: &Plan,
+) -> Result<Vec<Verdict>, AllocError>
+    requires plan { length (numbers_in plan.now) ≡ length (recording_in recorded.now).traces }
+    ensures { IfOk result (λ verdicts. AreVerdicts (program_in prepared.now)
+        (recording_in recorded.now) verdicts.items) }
+{
+    let _ = plan.traces();
+    let batches = judged_batches(rt, alloc, prepared, recorded, plan)?;
+    let batches = batches?;
+    let judged = in_one_list(alloc, batches.as_slice())?;
+    let work = Work {
+        prepared,
+        recorded,
+        plan,
+    };
+    verdicts_of(alloc, &work, judged.as_slice())
 }
 
 /// The verdicts of all traces of a set, in the traces' order, by as many threads as `rayon` finds
@@ -79,9 +140,7 @@ pub fn run_spread<R: Threads + Sync>(
     requires { length (numbers_in plan.now) ≡ length set.now.traces }
     ensures { IfOk result (λ verdicts. AreVerdicts ordered.now.program set.now verdicts.items) }
 {
-    let _ = plan.traces();
-    let batches = judged_batches(rt, alloc, ordered, set, plan)?;
-    let batches = batches?;
-    let judged = in_one_list(alloc, batches.as_slice())?;
-    verdicts_of(alloc, &Work { ordered, set, plan }, judged.as_slice())
+    let prepared = Prepared::new(alloc, ordered)?;
+    let recorded = Recorded::new(alloc, set)?;
+    spread_batches(rt, alloc, &prepared, &recorded, plan)
 }

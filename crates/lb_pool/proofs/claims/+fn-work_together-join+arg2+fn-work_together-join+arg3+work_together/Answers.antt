@@ -9,9 +9,9 @@ use Rattle.lb_pool.proofs.claims.+fn-work_together-join+arg2+fn-work_together-jo
 pub returns : goal.returns
 returns g t c =
     let board = c.args.board.now in
-    let p = c.args.ordered.now.program in
-    let r = c.args.set.now in
-    let batches = c.args.plan.now in
+    let p = g.W.Worker.program c.args.worker.now in
+    let r = g.W.Worker.recording c.args.worker.now in
+    let batches = g.W.Worker.batches c.args.worker.now in
     let all = shares_of c.args.seat in
     let a = shares_of c.split-left.result.0 in
     let b = shares_of c.split-left.result.1 in

@@ -1,20 +1,25 @@
--- All batches were drawn, so each trace has been judged.
-use Rattle.std.proofs.Common.{ℕ, List, length, sym, ap, ◌∙◌, subst}
-use Rattle.std.specs.List.{Contains}
-use Rattle.lb_pool.specs.Draws.{AreAllBelow}
-use Rattle.lb_pool.specs.Runs.{numbers_of}
-use Rattle.lb_pool.specs.Seats.{drawn_of}
-use Rattle.lb_pool.proofs.Covering.{covered}
+-- What was prepared and recorded is the program and the traces that were given.
+use Rattle.std.proofs.Common.{length, sym, ap, ◌∙◌, subst}
+use Rattle.std.proofs.lemmas.Result.{IfOk-weaker}
+use Rattle.lb_flat.specs.PreparedParts.{recording_in}
+use Rattle.lb_flat.specs.Traces.{Recording}
+use Rattle.lb_flat.specs.declared.program.FlatProgram.{FlatProgram}
+use Rattle.lb_pool.specs.Runs.{AreVerdicts}
 use Rattle.lb_pool.proofs.claims.run_claims.Goals as goal
 
-pub verdicts_of-requires-clause-each : goal.verdicts_of-requires-clause-each
-verdicts_of-requires-clause-each g c k below =
-    let plan = c.args.plan.now in
-    let drawn = drawn_of c.in_ok-done.done.seat in
-    let limit = c.in_ok-board.ensures.limit ∙ c.batches.ensures.count in
-    let all : AreAllBelow (length plan) drawn =
-    subst (λ (n : ℕ). AreAllBelow n drawn) limit (c.close-told.ensures.drawn c.if-prove.false) in
-    let numbers = ap numbers_of c.as_slice.ensures.value ∙ c.in_ok-done.ensures.numbers in
-    subst (λ (l : List ℕ). Contains l k) (sym numbers)
-    (covered (length c.args.set.now.traces) plan drawn c.batches.ensures.lawful c.requires.plan all
-    k below)
+pub run_workers-requires-clause-plan : goal.run_workers-requires-clause-plan
+run_workers-requires-clause-plan g c κs within =
+    c.requires.plan
+    ∙ ap (λ (r : Recording). length r.traces) (sym c.in_ok-recorded.ensures)
+
+pub returns : goal.returns
+returns g c =
+    let p = c.args.ordered.now.program in
+    let r = c.args.set.now in
+    let there = recording_in c.in_ok-recorded.recorded in
+    IfOk-weaker c.run_workers.result _ (λ verdicts. AreVerdicts p r verdicts.items)
+    (λ verdicts are.
+    subst (λ (x : Recording). AreVerdicts p x verdicts.items) c.in_ok-recorded.ensures
+    (subst (λ (x : FlatProgram). AreVerdicts x there verdicts.items) c.in_ok-prepared.ensures
+    are))
+    c.run_workers.ensures

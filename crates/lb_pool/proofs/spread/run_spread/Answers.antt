@@ -1,38 +1,20 @@
--- All batches were judged.
-use Rattle.std.proofs.Common.{List, Vec, Global, length, sym, ap, ◌∙◌, subst}
-use Rattle.std.specs.Prelude.{flat_map}
-use Rattle.std.specs.List.{AllZip, Contains, range_with_len}
-use Rattle.std.proofs.lemmas.Result.{IfOk-at_ok}
-use Rattle.lb_pool.specs.Runs.{AreJudged, IsBatchOf, numbers_of}
-use Rattle.lb_pool.specs.declared.batch.Judged.{Judged}
-use Rattle.lb_pool.proofs.Spreading.{all_judged, each_judged}
+-- What was prepared and recorded is the program and the traces that were given.
+use Rattle.std.proofs.Common.{subst}
+use Rattle.std.proofs.lemmas.Result.{IfOk-weaker}
+use Rattle.lb_flat.specs.PreparedParts.{recording_in}
+use Rattle.lb_flat.specs.Traces.{Recording}
+use Rattle.lb_flat.specs.declared.program.FlatProgram.{FlatProgram}
+use Rattle.lb_pool.specs.Runs.{AreVerdicts}
 use Rattle.lb_pool.proofs.spread.run_spread.Goals as goal
 
-pub verdicts_of-requires-clause-judged : goal.verdicts_of-requires-clause-judged
-verdicts_of-requires-clause-judged g c =
+pub returns : goal.returns
+returns g c =
     let p = c.args.ordered.now.program in
     let r = c.args.set.now in
-    let plan = c.args.plan.now in
-    let lists = c.in_ok-batches-2.batches.items in
-    let judged = IfOk-at_ok (λ (v : Vec (Vec Judged Global) Global).
-    AllZip (λ i j. IsBatchOf p r plan i j.items) (range_with_len 0 (length plan)) v.items)
-    c.in_ok-batches-2.was c.in_ok-batches.ensures in
-    let together = c.as_slice-2.ensures.value ∙ c.in_ok-judged.ensures
-    ∙ ap (λ (l : List (Vec Judged Global)). flat_map (λ j. j.items) l) c.as_slice.ensures.value in
-    subst (AreJudged p r) (sym together)
-    (all_judged p r plan (range_with_len 0 (length plan)) lists judged)
-
-pub verdicts_of-requires-clause-each : goal.verdicts_of-requires-clause-each
-verdicts_of-requires-clause-each g c k below =
-    let p = c.args.ordered.now.program in
-    let r = c.args.set.now in
-    let plan = c.args.plan.now in
-    let lists = c.in_ok-batches-2.batches.items in
-    let judged = IfOk-at_ok (λ (v : Vec (Vec Judged Global) Global).
-    AllZip (λ i j. IsBatchOf p r plan i j.items) (range_with_len 0 (length plan)) v.items)
-    c.in_ok-batches-2.was c.in_ok-batches.ensures in
-    let together = c.as_slice-2.ensures.value ∙ c.in_ok-judged.ensures
-    ∙ ap (λ (l : List (Vec Judged Global)). flat_map (λ j. j.items) l) c.as_slice.ensures.value in
-    subst (λ (l : List Judged). Contains (numbers_of l) k) (sym together)
-    (each_judged p r plan (length r.traces) lists c.traces.ensures.lawful c.requires judged k
-    below)
+    let there = recording_in c.in_ok-recorded.recorded in
+    IfOk-weaker c.spread_batches.result _ (λ verdicts. AreVerdicts p r verdicts.items)
+    (λ verdicts are.
+    subst (λ (x : Recording). AreVerdicts p x verdicts.items) c.in_ok-recorded.ensures
+    (subst (λ (x : FlatProgram). AreVerdicts x there verdicts.items) c.in_ok-prepared.ensures
+    are))
+    c.spread_batches.ensures

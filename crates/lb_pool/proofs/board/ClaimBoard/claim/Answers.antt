@@ -1,5 +1,5 @@
 -- One fetch_add keeps the law.
-use Rattle.std.proofs.Common.{arith, ◌∙◌}
+use Rattle.std.proofs.Common.{arith, rules, ◌∙◌}
 use Rattle.lb_pool.proofs.Claiming.{claims}
 use Rattle.lb_pool.proofs.board.ClaimBoard.claim.Goals as goal
 
@@ -12,3 +12,7 @@ fetch_add-found-requires c =
       claims shared.key shared.table_id.slots seat.seat.id seat.seat.me
           (omega (arith, seat.view.0, seat.part.0)) (seat.view.1 ∙ c.if-seat.false),
     )
+
+-- where nothing is left the seat is told
+pub invariant_of-seat-else-found-self : goal.invariant_of-seat-else-found-self
+invariant_of-seat-else-found-self c = search rules

@@ -1,9 +1,12 @@
 -- The seat with all shares has all draws.
-use Rattle.std.proofs.Common.{◌∙◌, subst}
+use Rattle.std.proofs.Common.{◌∙◌, subst, sym}
 use Rattle.lb_pool.specs.Draws.{AreAllBelow}
 use Rattle.lb_pool.specs.Seats.{drawn_of}
 use Rattle.lb_pool.proofs.Claiming.{settled}
 use Rattle.lb_pool.proofs.board.ClaimBoard.close.Goals as goal
+
+pub returns-clause-told : goal.returns-clause-told
+returns-clause-told c = sym c.args.seat.view.1
 
 pub returns-clause-drawn : goal.returns-clause-drawn
 returns-clause-drawn c told =

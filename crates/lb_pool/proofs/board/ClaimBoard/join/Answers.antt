@@ -1,5 +1,5 @@
 -- A join keeps the law.
-use Rattle.std.proofs.Common.{arith}
+use Rattle.std.proofs.Common.{arith, rules}
 use Rattle.lb_pool.proofs.Claiming.{joins}
 use Rattle.lb_pool.proofs.board.ClaimBoard.join.Goals as goal
 
@@ -14,3 +14,7 @@ join_seat-requires c =
       joins c.args.self.now.table.shared.key first.seat.id first.seat.me.0 second.seat.id
           second.seat.me.0 (omega (arith, first.view.0, first.part.0)),
     )
+
+-- the seat has the shares of both, and was told where one of them was
+pub invariant_of-result : goal.invariant_of-result
+invariant_of-result c = search rules

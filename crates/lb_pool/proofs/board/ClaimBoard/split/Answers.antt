@@ -1,5 +1,5 @@
 -- A split keeps the law.
-use Rattle.std.proofs.Common.{arith}
+use Rattle.std.proofs.Common.{arith, rules}
 use Rattle.lb_pool.proofs.Claiming.{splits}
 use Rattle.lb_pool.proofs.board.ClaimBoard.split.Goals as goal
 
@@ -10,3 +10,7 @@ split_seat-other-requires c =
       omega (arith, c.args.self.now.word),
       splits c.args.self.now.table.shared.key seat.id seat.me.0 c.requires.shares,
     )
+
+-- the first seat has the larger half
+pub invariant_of-result : goal.invariant_of-result
+invariant_of-result c = search rules
