@@ -14,6 +14,7 @@ use std::alloc::Global;
 use std::fs::File;
 use std::io::{Read, Write};
 use std::rt::Runtime;
+use std::thread::Threads;
 
 /// The bytes of an input.
 fn load_input<I: Read>(alloc: Global, reader: &mut I) -> Result<Vec<u8>, Refusal> {
@@ -39,7 +40,7 @@ where
 #[tactic(auto, using(crate::proofs::Statuses::report_status))]
 fn report<R, I>(rt: &R, task: &Task<'_>, reader: &mut I) -> Result<Report, Refusal>
 where
-    R: Runtime + AllocGlobal,
+    R: Runtime + AllocGlobal + Threads + Sync,
     I: Read,
     ensures { IfOk result (λ report. report.status < 2) }
 {
@@ -66,7 +67,7 @@ fn deliver<W: Write>(writer: &mut W, text: &[u8], status: u8) -> Result<u8, Refu
 /// Does a task, and answers the status of its report where that went out.
 fn run_task<R, I, W>(rt: &R, task: &Task<'_>, reader: &mut I, writer: &mut W) -> Result<u8, Refusal>
 where
-    R: Runtime + AllocGlobal,
+    R: Runtime + AllocGlobal + Threads + Sync,
     I: Read,
     W: Write,
     ensures ok { IfOk result (λ status. status < 2) }
@@ -80,7 +81,7 @@ where
 /// Does what the words ask for, and answers the status where a report or the help text went out.
 fn run<R, I, W>(rt: &R, words: &[String], reader: &mut I, writer: &mut W) -> Result<u8, Refusal>
 where
-    R: Runtime + AllocGlobal,
+    R: Runtime + AllocGlobal + Threads + Sync,
     I: Read,
     W: Write,
     ensures ok { IfOk result (λ status. status < 2) }
@@ -106,8 +107,8 @@ pub fn refuse<E: Write>(refusal: &Refusal, errors: &mut E) -> u8
 ///
 /// | Status | When |
 /// |---|---|
-/// | 0 | a report in which no trace has a fault or is false; `--help` |
-/// | 1 | a report in which some trace has a fault or is false |
+/// | 0 | a report in which no trace has a fault, is undefined or false; `--help` |
+/// | 1 | a report in which some trace has a fault, is undefined or false |
 /// | 2 | refused: E1 to E18, E20 |
 /// | 3 | E0, E19, E21 |
 pub fn command<R, I, W, E>(
@@ -118,7 +119,7 @@ pub fn command<R, I, W, E>(
     errors: &mut E,
 ) -> u8
 where
-    R: Runtime + AllocGlobal,
+    R: Runtime + AllocGlobal + Threads + Sync,
     I: Read,
     W: Write,
     E: Write,

@@ -4,4 +4,4 @@ pub mod Refusals
 pub mod FirstRefusals
 pub mod Bench
 pub mod Correct
-pub mod Prepared
+pub mod AcceptedPrograms

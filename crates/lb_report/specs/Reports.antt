@@ -3,24 +3,27 @@
 use Rattle.std.specs.Prelude.{◌≡◌, ℕ, Bool, true, false, ◌==◌, if◌then◌else◌, Option, Some, None, List, [], ◌∷◌, ◌++◌, length, codes, decimal, count_by, flat_map, get_or}
 use Rattle.std.specs.List.{list_any, range_with_len}
 use Rattle.lb_check.specs.declared.verdict.Verdict.{Verdict}
-use Rattle.lb_check.specs.declared.verdict.Verdict.TheVariants.{Passed, Fault, Assertion, False}
+use Rattle.lb_check.specs.declared.verdict.Verdict.TheVariants.{Passed, Fault, Undefined, Assertion, False}
 use Rattle.lb_report.specs.declared.text.Report.{Report}
 
 -- the words for verdicts, in the order of the last line
 abbrev pub words : List (List ℕ)
-words = codes "passed" ∷ codes "fault" ∷ codes "assertion" ∷ codes "false" ∷ []
+words =
+    codes "passed" ∷ codes "fault" ∷ codes "undefined" ∷ codes "assertion" ∷ codes "false" ∷ []
 
 -- which of the words a verdict has
 abbrev pub place_of : Verdict → ℕ
 place_of Passed = 0
 place_of (Fault t) = 1
-place_of (Assertion t) = 2
-place_of (False t) = 3
+place_of (Undefined t) = 2
+place_of (Assertion t) = 3
+place_of (False t) = 4
 
 -- the instant that decided, if one did
 abbrev pub instant_of : Verdict → Option ℕ
 instant_of Passed = None
 instant_of (Fault t) = Some t
+instant_of (Undefined t) = Some t
 instant_of (Assertion t) = Some t
 instant_of (False t) = Some t
 
@@ -28,6 +31,7 @@ instant_of (False t) = Some t
 abbrev pub is_failure : Verdict → Bool
 is_failure Passed = false
 is_failure (Fault t) = true
+is_failure (Undefined t) = true
 is_failure (Assertion t) = false
 is_failure (False t) = true
 
@@ -76,7 +80,7 @@ report_of names verdicts = lines names verdicts ++ total verdicts
 
 -- ## The status
 
--- 1 where a verdict is a fault or false, else 0
+-- 1 where a verdict is a fault, undefined or false, else 0
 abbrev pub status_of : List Verdict → ℕ
 status_of verdicts = if list_any is_failure verdicts then 1 else 0
 

@@ -3,7 +3,7 @@
 //! ```text
 //! a false 2
 //! b passed
-//! total 2 passed 1 fault 0 assertion 0 false 1
+//! total 2 passed 1 fault 0 undefined 0 assertion 0 false 1
 //! ```
 
 ghost use Rattle.std.specs.Prelude.{◌≡◌, ◌<◌, ◌++◌, [], length, get_or, IfOk, OnOk};
@@ -16,7 +16,7 @@ use lb_flat::traces::TraceSet;
 use std::alloc::{AllocError, Global};
 
 /// How many words there are for verdicts.
-const WORDS: usize = 4;
+const WORDS: usize = 5;
 
 /// The words for verdicts, in the order of the last line.
 fn word(place: usize) -> &'static str
@@ -26,7 +26,8 @@ fn word(place: usize) -> &'static str
     match place {
         0 => "passed",
         1 => "fault",
-        2 => "assertion",
+        2 => "undefined",
+        3 => "assertion",
         _ => "false",
     }
 }
@@ -39,8 +40,9 @@ fn place_of(verdict: Verdict) -> usize
     match verdict {
         Verdict::Passed => 0,
         Verdict::Fault(_) => 1,
-        Verdict::Assertion(_) => 2,
-        Verdict::False(_) => 3,
+        Verdict::Undefined(_) => 2,
+        Verdict::Assertion(_) => 3,
+        Verdict::False(_) => 4,
     }
 }
 
@@ -50,7 +52,8 @@ fn instant_of(verdict: Verdict) -> Option<u32>
 {
     match verdict {
         Verdict::Passed => None,
-        Verdict::Fault(t) | Verdict::Assertion(t) | Verdict::False(t) => Some(t),
+        Verdict::Fault(t) | Verdict::Undefined(t) | Verdict::Assertion(t) | Verdict::False(t) =>
+            Some(t),
     }
 }
 
@@ -104,8 +107,8 @@ fn push_total(text: &mut Vec<u8>, verdicts: &[Verdict]) -> Result<(), AllocError
 }
 
 /// The report on a set of traces with these verdicts, one for each trace in order: a line for each
-/// trace, `NAME passed`, `NAME fault T`, `NAME assertion T` or `NAME false T`, and a last line
-/// `total N passed P fault F assertion A false B`.
+/// trace, `NAME passed`, `NAME fault T`, `NAME undefined T`, `NAME assertion T` or `NAME false T`,
+/// and a last line `total N passed P fault F undefined U assertion A false B`.
 pub fn report_text(
     alloc: Global,
     set: &TraceSet,
@@ -127,10 +130,14 @@ pub fn report_text(
 fn is_failure(verdict: Verdict) -> bool
     ensures { result ≡ spec.is_failure verdict }
 {
-    matches!(verdict, Verdict::Fault(_) | Verdict::False(_))
+    matches!(
+        verdict,
+        Verdict::Fault(_) | Verdict::Undefined(_) | Verdict::False(_)
+    )
 }
 
-/// The status of a run with these verdicts: 1 where one of them is a fault or false, else 0.
+/// The status of a run with these verdicts: 1 where one of them is a fault, undefined or false,
+/// else 0.
 pub fn status(verdicts: &[Verdict]) -> u8
     ensures { result ≡ spec.status_of verdicts.now }
 {
@@ -146,7 +153,7 @@ pub fn status(verdicts: &[Verdict]) -> u8
 pub struct Report {
     /// A line for each trace, and a last line that counts.
     pub text: Vec<u8>,
-    /// 1 where a trace has a fault or is false, else 0.
+    /// 1 where a trace has a fault, is undefined or false, else 0.
     pub status: u8,
 }
 

@@ -5,10 +5,10 @@ use lb_command::command::{command, refuse};
 use lb_command::refusal::Refusal;
 use std::alloc::Global;
 use std::env;
-use std::io::{self, ErrorKind};
+use std::io::{self, ErrorKind, Read, Write};
 use std::process::ExitCode;
 use std::rt::Runtime;
-use std::thread::Builder;
+use std::thread::{Builder, Threads};
 
 /// The words of the command line, the program's name first.
 fn words<R: Runtime + AllocGlobal>(rt: &R) -> Result<Vec<String>, Refusal> {
@@ -22,24 +22,27 @@ fn words<R: Runtime + AllocGlobal>(rt: &R) -> Result<Vec<String>, Refusal> {
 /// How much stack a run has, in bytes: more than the deepest texts need that are accepted.
 const STACK: usize = 2 << 20;
 
-/// Runs the program, and answers its exit status.
-fn run(rt: HostRuntime) -> u8 {
-    let stderr = rt.stderr();
-    let mut errors = io::writer(&stderr);
-    match words(&rt) {
-        Ok(words) => command(
-            &rt,
-            words.as_slice(),
-            &mut rt.stdin(),
-            &mut io::writer(&rt),
-            &mut errors,
-        ),
-        Err(refusal) => refuse(&refusal, &mut errors),
+/// Runs the program on these streams, and answers its exit status.
+fn run<R, I, W, E>(rt: &R, reader: &mut I, writer: &mut W, errors: &mut E) -> u8
+where
+    R: Runtime + AllocGlobal + Threads + Sync,
+    I: Read,
+    W: Write,
+    E: Write,
+{
+    match words(rt) {
+        Ok(words) => command(rt, words.as_slice(), reader, writer, errors),
+        Err(refusal) => refuse(&refusal, errors),
     }
 }
 
 fn main(rt: HostRuntime) -> ExitCode {
-    let status = match Builder::new().stack_size(STACK).spawn(&rt, move || run(rt)) {
+    let builder = Builder::new().stack_size(STACK);
+    let status = match builder.spawn(&rt, move || {
+        let stderr = rt.stderr();
+        let mut errors = io::writer(&stderr);
+        run(&rt, &mut rt.stdin(), &mut io::writer(&rt), &mut errors)
+    }) {
         Ok(thread) => thread.join(&rt),
         Err(_) => refuse(&Refusal::MEMORY, &mut io::writer(&rt.stderr())),
     };

@@ -6,10 +6,10 @@ use Rattle.lb_static.specs.DataTypes.{signature}
 use Rattle.lb_check.specs.Acceptance.{IsAccepted}
 use Rattle.lb_flat.specs.Flattening.{IsFlatOf}
 use Rattle.lb_flat.specs.Programs as flat
-use Rattle.lb_report.specs.declared.bench.Prepared.{Prepared}
+use Rattle.lb_report.specs.declared.bench.AcceptedProgram.{AcceptedProgram}
 
 -- it is ready to run this program, which is accepted
-pub record IsPrepared (p : Prepared) (P : Program) : Type 0 where
+pub record IsAcceptedProgram (p : AcceptedProgram) (P : Program) : Type 0 where
   pub accepted : IsAccepted P
   pub inputs : signature P ≡ p.signature
   pub equations : IsFlatOf P (flat.program_of p.ordered.program)

@@ -12,7 +12,7 @@ use Rattle.lb_flat.specs.Expanded.{IsExpansionAnswer}
 use Rattle.lb_flat.specs.Programs as flat
 use Rattle.lb_report.specs.Bench.{program_of}
 use Rattle.lb_report.proofs.Refusing.{accepted_is, is_cycle, same_program, too_large}
-use Rattle.lb_report.proofs.bench.prepare_tree.Goals as goal
+use Rattle.lb_report.proofs.bench.accept_tree.Goals as goal
 
 pub returns-in_err-elab-clause-err : goal.returns-in_err-elab-clause-err
 returns-in_err-elab-clause-err c =
@@ -29,7 +29,7 @@ returns-in_err-checked-clause-err c =
     let tree = view_source c.args.tree.now in
     let same = same_program tree c.args.options.now _ _ c.as_str.ensures.value c.observer_name.ensures in
     let of : elaborated_program c.in_ok-elab.elab ≡ program_of tree c.args.options.now = c.in_ok-elab.ensures ∙ same in
-    let accepted = subst (λ (P : Program). static_refusal P ≡ None) of c.signature.ensures.lawful.accepted in
+    let accepted = subst (λ (P : Program). static_refusal P ≡ None) of c.in_err-checked.ensures.lawful.accepted in
     let refused = subst (λ (P : Program). IsAnswer P (Err c.in_err-checked.field-0.0)) of c.in_err-checked.ensures.answer in
     λ source traces only. rw (p.1, p.2)
     (record { tree = tree; spelled = only; holds = (accepted, refused) })
@@ -41,7 +41,7 @@ returns-in_err-flat-clause-err c =
     let tree = view_source c.args.tree.now in
     let P = program_of tree c.args.options.now in
     let same = same_program tree c.args.options.now _ _ c.as_str.ensures.value c.observer_name.ensures in
-    let of : elaborated_program c.in_ok-checked.checked ≡ P = ap elaborated_program c.in_ok-checked.ensures.same ∙ c.in_ok-elab.ensures ∙ same in
+    let of : elaborated_program c.in_ok-checked.checked.elab ≡ P = ap elaborated_program c.in_ok-checked.ensures.same ∙ c.in_ok-elab.ensures ∙ same in
     let law = c.into_signature-signature.ensures.lawful in
     let accepted = subst (λ (P : Program). static_refusal P ≡ None) of law.elaborated.accepted in
     let checked = subst (λ (P : Program). check_refusal P ≡ None) of law.accepted in
@@ -56,7 +56,7 @@ returns-in_err-ordered-clause-err c =
     let tree = view_source c.args.tree.now in
     let P = program_of tree c.args.options.now in
     let same = same_program tree c.args.options.now _ _ c.as_str.ensures.value c.observer_name.ensures in
-    let of : elaborated_program c.in_ok-checked.checked ≡ P = ap elaborated_program c.in_ok-checked.ensures.same ∙ c.in_ok-elab.ensures ∙ same in
+    let of : elaborated_program c.in_ok-checked.checked.elab ≡ P = ap elaborated_program c.in_ok-checked.ensures.same ∙ c.in_ok-elab.ensures ∙ same in
     let law = c.into_signature-signature.ensures.lawful in
     let accepted = subst (λ (P : Program). static_refusal P ≡ None) of law.elaborated.accepted in
     let checked = subst (λ (P : Program). check_refusal P ≡ None) of law.accepted in
@@ -70,9 +70,9 @@ returns-clause-ok c =
     let tree = view_source c.args.tree.now in
     let P = program_of tree c.args.options.now in
     let same = same_program tree c.args.options.now _ _ c.as_str.ensures.value c.observer_name.ensures in
-    let of : elaborated_program c.in_ok-checked.checked ≡ P = ap elaborated_program c.in_ok-checked.ensures.same ∙ c.in_ok-elab.ensures ∙ same in
+    let of : elaborated_program c.in_ok-checked.checked.elab ≡ P = ap elaborated_program c.in_ok-checked.ensures.same ∙ c.in_ok-elab.ensures ∙ same in
     let law = c.into_signature-signature.ensures.lawful in
-    let here = subst (λ (P : Program). IsElaborated P c.in_ok-checked.checked) of law.elaborated in
+    let here = subst (λ (P : Program). IsElaborated P c.in_ok-checked.checked.elab) of law.elaborated in
     let checked = subst (λ (P : Program). check_refusal P ≡ None) of law.accepted in
     let answer = subst (λ (P : Program). IsExpansionAnswer P (Ok c.in_ok-flat.field-0)) of c.in_ok-flat.ensures in
     let found = accepted_is P (flat.program_of c.in_ok-flat.field-0.program) (flat.program_of c.in_ok-ordered.ordered.program) here.accepted checked answer.0 answer.1
