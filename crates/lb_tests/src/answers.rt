@@ -7,6 +7,7 @@ use lb_report::options::Options;
 use lb_report::text::Report;
 use std::alloc::{AllocError, Global};
 use std::rt::Runtime;
+use std::thread::Threads;
 
 /// A refusal: its number and its word, and the place or the node that it names.
 pub fn push_refusal(said: &mut String, error: &BenchError) -> Result<(), AllocError> {
@@ -45,7 +46,7 @@ fn push_outcome(said: &mut String, outcome: &Result<Report, BenchError>) -> Resu
 }
 
 /// What is answered on a case text. An empty name is no observer.
-pub fn push_answer<R: Runtime + AllocGlobal>(
+pub fn push_answer<R: Runtime + AllocGlobal + Threads + Sync>(
     rt: &R,
     case: &str,
     observer: &str,
@@ -56,7 +57,7 @@ pub fn push_answer<R: Runtime + AllocGlobal>(
 }
 
 /// What is answered on a case text after its first line, which may name an observer.
-pub fn push_case<R: Runtime + AllocGlobal>(
+pub fn push_case<R: Runtime + AllocGlobal + Threads + Sync>(
     rt: &R,
     asked: &str,
     said: &mut String,

@@ -5,9 +5,10 @@ use lb_command::command::command;
 use std::alloc::{AllocError, Global};
 use std::rt::Runtime;
 use std::test::Fail;
+use std::thread::Threads;
 
 /// The words of a command line, as the program gets them.
-fn words_of(alloc: Global, line: &str) -> Result<Vec<String>, AllocError> {
+pub fn words_of(alloc: Global, line: &str) -> Result<Vec<String>, AllocError> {
     let mut words = Vec::new(alloc);
     for word in line.split(' ') {
         words.push(String::from_str(alloc, word)?)?;
@@ -17,7 +18,7 @@ fn words_of(alloc: Global, line: &str) -> Result<Vec<String>, AllocError> {
 
 /// What is printed as an error, the status, and whether there is output, where the first line has
 /// the words and the others are the input.
-pub fn push_answer<R: Runtime + AllocGlobal>(
+pub fn push_answer<R: Runtime + AllocGlobal + Threads + Sync>(
     rt: &R,
     asked: &str,
     said: &mut String,

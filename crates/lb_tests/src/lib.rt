@@ -13,6 +13,8 @@ mod elaboration;
 #[cfg(test)]
 mod lanes;
 #[cfg(test)]
+mod pool;
+#[cfg(test)]
 mod programs;
 #[cfg(test)]
 mod reports;

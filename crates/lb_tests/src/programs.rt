@@ -5,10 +5,11 @@ use crate::tables::{Asks, Table, check};
 use std::alloc::AllocError;
 use std::process::Abort;
 use std::rt::Runtime;
+use std::thread::Threads;
 
 /// What is answered on the nodes, the front and the end of a program. One that keeps the rules is
 /// refused later, since it has no traces or does not run yet.
-pub fn push_answer<R: Runtime + AllocGlobal>(
+pub fn push_answer<R: Runtime + AllocGlobal + Threads + Sync>(
     rt: &R,
     front: &str,
     end: &str,
@@ -23,7 +24,10 @@ pub fn push_answer<R: Runtime + AllocGlobal>(
     Ok(())
 }
 
-fn check_tables<R: Runtime + AllocGlobal + Abort>(rt: &R) -> Result<(), AllocError> {
+fn check_tables<R>(rt: &R) -> Result<(), AllocError>
+where
+    R: Runtime + AllocGlobal + Threads + Sync + Abort,
+{
     check(rt, &Table::of_lines(Asks::Programs(MAIN), RULES))?;
     check(rt, &Table::of_lines(Asks::Programs(CLOCKED), STATEMENTS))?;
     check(rt, &Table::of_texts(Asks::Programs(PLAIN), TRACES))

@@ -68,8 +68,9 @@ fn statuses_and_options(rt: HostRuntime) -> Result<(), AllocError> {
         status(&[]),
         status(&[Verdict::Assertion(0)]),
         status(&[Verdict::Fault(1999999999)]),
+        status(&[Verdict::Undefined(0)]),
     ];
-    assert!(rt; statuses == [0, 0, 1]);
+    assert!(rt; statuses == [0, 0, 1, 1]);
     let options = Options::new(String::from_str(rt.alloc(), "main")?, None, 1, 64, true);
     assert!(rt; is_as_given(&options));
     Ok(())

@@ -8,8 +8,12 @@ use lb_trace::error::TraceError;
 use std::alloc::AllocError;
 use std::process::Abort;
 use std::rt::Runtime;
+use std::thread::Threads;
 
-fn check_cases<R: Runtime + AllocGlobal + Abort>(rt: &R, rows: &str) -> Result<(), AllocError> {
+fn check_cases<R>(rt: &R, rows: &str) -> Result<(), AllocError>
+where
+    R: Runtime + AllocGlobal + Threads + Sync + Abort,
+{
     check(
         rt,
         &Table {
@@ -43,7 +47,7 @@ fn refusals(rt: HostRuntime) -> Result<(), AllocError> {
 
 /// The verdicts of traces. Among them: a counter, with an assumption and without; sums and
 /// quotients at the bounds; operators that are strict, and `if` that is not; memories at the first
-/// instant; equations in no order.
+/// instant, guarded and not; equations in no order.
 const REPORTS: &str = "
 node main(x: int) returns (ok: bool);
 var n: int;
@@ -60,14 +64,14 @@ b,0
 %answer
 a false 2
 b passed
-total 2 passed 1 fault 0 assertion 0 false 1
+total 2 passed 1 fault 0 undefined 0 assertion 0 false 1
 status 1
 %case
 node main(x: int) returns (ok: bool); let ok = x < 10; tel
 %traces
 trace,x
 %answer
-total 0 passed 0 fault 0 assertion 0 false 0
+total 0 passed 0 fault 0 undefined 0 assertion 0 false 0
 status 0
 %case
 node main(x: int) returns (ok: bool);
@@ -86,7 +90,7 @@ b,0
 %answer
 a assertion 2
 b passed
-total 2 passed 1 fault 0 assertion 1 false 0
+total 2 passed 1 fault 0 undefined 0 assertion 1 false 0
 status 0
 %case
 node main(x: int) returns (ok: bool);
@@ -100,7 +104,7 @@ b,2147483646
 %answer
 a fault 1
 b passed
-total 2 passed 1 fault 1 assertion 0 false 0
+total 2 passed 1 fault 1 undefined 0 assertion 0 false 0
 status 1
 %case
 node main(p, q: bool) returns (ok: bool); let assert p; ok = q; tel
@@ -117,7 +121,7 @@ b,0,1
 %answer
 a assertion 1
 b false 1
-total 2 passed 0 fault 0 assertion 1 false 1
+total 2 passed 0 fault 0 undefined 0 assertion 1 false 1
 status 1
 %case
 node main(x: int) returns (ok: bool);
@@ -128,7 +132,7 @@ trace,x
 a,0
 %answer
 a assertion 0
-total 1 passed 0 fault 0 assertion 1 false 0
+total 1 passed 0 fault 0 undefined 0 assertion 1 false 0
 status 0
 %case
 node main(x: int) returns (ok: bool);
@@ -139,7 +143,7 @@ trace,x
 a,0
 %answer
 a false 0
-total 1 passed 0 fault 0 assertion 0 false 1
+total 1 passed 0 fault 0 undefined 0 assertion 0 false 1
 status 1
 %case
 node main(x: int; c: bool) returns (ok: bool);
@@ -153,7 +157,7 @@ b,0,0
 %answer
 a fault 1
 b false 0
-total 2 passed 0 fault 1 assertion 0 false 1
+total 2 passed 0 fault 1 undefined 0 assertion 0 false 1
 status 1
 %case
 node main(x, y, z: int) returns (ok: bool); let ok = x + y = z; tel
@@ -164,7 +168,7 @@ b,2147483647,1,0
 %answer
 a passed
 b fault 0
-total 2 passed 1 fault 1 assertion 0 false 0
+total 2 passed 1 fault 1 undefined 0 assertion 0 false 0
 status 1
 %case
 node main(x, y, z: int) returns (ok: bool); let ok = x div y = z; tel
@@ -175,7 +179,7 @@ b,-2147483648,-1,0
 %answer
 a passed
 b fault 0
-total 2 passed 1 fault 1 assertion 0 false 0
+total 2 passed 1 fault 1 undefined 0 assertion 0 false 0
 status 1
 %case
 node main(x, y, z: int) returns (ok: bool); let ok = x mod y = z; tel
@@ -186,7 +190,7 @@ b,1,0,0
 %answer
 a passed
 b fault 0
-total 2 passed 1 fault 1 assertion 0 false 0
+total 2 passed 1 fault 1 undefined 0 assertion 0 false 0
 status 1
 %case
 node main(p, q: bool) returns (ok: bool); let ok = p => q; tel
@@ -197,7 +201,7 @@ b,0,0
 %answer
 a false 0
 b passed
-total 2 passed 1 fault 0 assertion 0 false 1
+total 2 passed 1 fault 0 undefined 0 assertion 0 false 1
 status 1
 %case
 node main(x: int; c: bool) returns (ok: bool); let ok = c or 1 div x = 1; tel
@@ -208,7 +212,7 @@ b,0,1
 %answer
 a passed
 b fault 0
-total 2 passed 1 fault 1 assertion 0 false 0
+total 2 passed 1 fault 1 undefined 0 assertion 0 false 0
 status 1
 %case
 node main(x: int; c: bool) returns (ok: bool); let ok = (if c then 1 else 1 div x) = 1; tel
@@ -219,7 +223,7 @@ b,0,0
 %answer
 a passed
 b fault 0
-total 2 passed 1 fault 1 assertion 0 false 0
+total 2 passed 1 fault 1 undefined 0 assertion 0 false 0
 status 1
 %case
 node main(x: bool) returns (ok: bool); let ok = x -> pre x; tel
@@ -230,7 +234,123 @@ a,0
 a,1
 %answer
 a false 2
-total 1 passed 0 fault 0 assertion 0 false 1
+total 1 passed 0 fault 0 undefined 0 assertion 0 false 1
+status 1
+%case
+node main(x: bool) returns (ok: bool); let ok = pre x; tel
+%traces
+trace,x
+a,1
+a,1
+%answer
+a undefined 0
+total 1 passed 0 fault 0 undefined 1 assertion 0 false 0
+status 1
+%case
+node main(x: bool) returns (ok: bool); let ok = true -> pre x; tel
+%traces
+trace,x
+a,1
+a,1
+%answer
+a passed
+total 1 passed 1 fault 0 undefined 0 assertion 0 false 0
+status 0
+%case
+node main(x: int) returns (ok: bool);
+var q: int;
+let q = pre x / 0; ok = true; tel
+%traces
+trace,x
+a,2
+a,2
+b,2
+%answer
+a fault 1
+b passed
+total 2 passed 1 fault 1 undefined 0 assertion 0 false 0
+status 1
+%case
+node main(x: int) returns (ok: bool);
+var q: int;
+let q = 1 / pre x; ok = true; tel
+%traces
+trace,x
+a,0
+a,0
+b,0
+%answer
+a fault 1
+b passed
+total 2 passed 1 fault 1 undefined 0 assertion 0 false 0
+status 1
+%case
+node main(b: bool) returns (ok: bool); let assert false; ok = pre b; tel
+%traces
+trace,b
+a,1
+%answer
+a undefined 0
+total 1 passed 0 fault 0 undefined 1 assertion 0 false 0
+status 1
+%case
+node main(b: bool) returns (ok: bool);
+var z: int;
+let z = 1 / 0; assert false; ok = pre b; tel
+%traces
+trace,b
+a,1
+%answer
+a fault 0
+total 1 passed 0 fault 1 undefined 0 assertion 0 false 0
+status 1
+%case
+node main(x: bool) returns (ok: bool); let assert pre x; ok = x; tel
+%traces
+trace,x
+a,0
+%answer
+a undefined 0
+total 1 passed 0 fault 0 undefined 1 assertion 0 false 0
+status 1
+%case
+node main(x: bool) returns (ok: bool); let ok = if pre x then true else true; tel
+%traces
+trace,x
+a,1
+%answer
+a undefined 0
+total 1 passed 0 fault 0 undefined 1 assertion 0 false 0
+status 1
+%case
+node main(x: bool) returns (ok: bool); let ok = if x then true else pre x; tel
+%traces
+trace,x
+a,1
+b,0
+%answer
+a passed
+b undefined 0
+total 2 passed 1 fault 0 undefined 1 assertion 0 false 0
+status 1
+%case
+node main(x: bool) returns (ok: bool); let ok = x or #(x, pre x); tel
+%traces
+trace,x
+a,1
+%answer
+a undefined 0
+total 1 passed 0 fault 0 undefined 1 assertion 0 false 0
+status 1
+%case
+node main(x: bool) returns (ok: bool); let ok = true -> pre pre x; tel
+%traces
+trace,x
+a,1
+a,1
+%answer
+a undefined 1
+total 1 passed 0 fault 0 undefined 1 assertion 0 false 0
 status 1
 %case
 node main(x: bool) returns (ok: bool); let ok = true fby x; assert ok; tel
@@ -241,7 +361,7 @@ a,0
 a,1
 %answer
 a assertion 2
-total 1 passed 0 fault 0 assertion 1 false 0
+total 1 passed 0 fault 0 undefined 0 assertion 1 false 0
 status 0
 %case
 node main(x: bool) returns (ok: bool);
@@ -253,7 +373,7 @@ a,0
 a,1
 %answer
 a false 1
-total 1 passed 0 fault 0 assertion 0 false 1
+total 1 passed 0 fault 0 undefined 0 assertion 0 false 1
 status 1
 %case
 node main(x: int) returns (ok: bool);
@@ -278,7 +398,7 @@ a,2147483647
 a,-2147483648
 %answer
 a passed
-total 1 passed 1 fault 0 assertion 0 false 0
+total 1 passed 1 fault 0 undefined 0 assertion 0 false 0
 status 0
 %case
 node main(x: int; c: bool; y: int) returns (ok: bool);
@@ -291,7 +411,7 @@ a/b.c-1_2,1,2,1
 %answer
 a passed
 a/b.c-1_2 passed
-total 2 passed 2 fault 0 assertion 0 false 0
+total 2 passed 2 fault 0 undefined 0 assertion 0 false 0
 status 0
 %case
 node main(x: int) returns (ok: bool); let ok = x = 1; tel
@@ -300,7 +420,7 @@ node main(x: int) returns (ok: bool); let ok = x = 1; tel
 \"a\",\"1\"\r
 %answer
 a passed
-total 1 passed 1 fault 0 assertion 0 false 0
+total 1 passed 1 fault 0 undefined 0 assertion 0 false 0
 status 0
 %case
 node main() returns (ok: bool); let ok = true -> false; tel
@@ -312,7 +432,7 @@ b
 %answer
 a false 1
 b passed
-total 2 passed 1 fault 0 assertion 0 false 1
+total 2 passed 1 fault 0 undefined 0 assertion 0 false 1
 status 1";
 
 /// Refusals, by the first part that refuses. The last are of forms that do not run yet.

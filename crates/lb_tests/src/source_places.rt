@@ -8,6 +8,7 @@ use crate::tables::{Asks, Table, check};
 use std::alloc::AllocError;
 use std::process::Abort;
 use std::rt::Runtime;
+use std::thread::Threads;
 
 /// Whole texts.
 const PARTS: &str = "x at 1:1
@@ -390,7 +391,7 @@ k (1); at 2:3
 k k; at 2:3
 k ..2; at 2:3";
 
-fn check_rows<R: Runtime + AllocGlobal + Abort>(
+fn check_rows<R: Runtime + AllocGlobal + Threads + Sync + Abort>(
     rt: &R,
     front: &str,
     rows: &str,

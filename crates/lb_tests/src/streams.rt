@@ -50,7 +50,7 @@ impl Write for FailingOutput {
     }
 }
 
-const LINE: &[u8] = b"total 0 passed 0 fault 0 assertion 0 false 0\n";
+const LINE: &[u8] = b"total 0 passed 0 fault 0 undefined 0 assertion 0 false 0\n";
 
 /// How many bytes are read whole, and after how many an input fails.
 const WHOLE: [usize; 4] = [0, 1, 1048576, 2500000];

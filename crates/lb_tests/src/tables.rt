@@ -1,4 +1,4 @@
-//! Tables of text, and the walk over them.
+//! Tables of text, and the loop over their rows.
 //!
 //! A row says what is asked, then after a mark, mostly ` => `, what is wanted.
 //!
@@ -10,12 +10,13 @@
 //! main => 1 of 1: main | x0: Bool x1: Bool y: Bool
 //! ```
 //!
-//! `{2 x@, }` stands for `x0, x1, `, and `{3 a}` for `aaa`.
+//! `{2 x@, }` stands for `x0, x1, `, `{3 a}` for `aaa`, and `{1..2 x@ @, }` for `x1 1, x2 2, `.
 
-use crate::{answers, commands, lanes, programs, reports, sources};
+use crate::{answers, commands, lanes, pool, programs, reports, sources};
 use std::alloc::AllocError;
 use std::process::Abort;
 use std::rt::Runtime;
+use std::thread::Threads;
 
 /// What the rows of a table ask about.
 #[derive(Drop)]
@@ -32,6 +33,14 @@ pub enum Asks<'a> {
     Parts,
     /// A run of the program: its words, and its standard input.
     Runs,
+    /// The plan of a width and the lengths of traces.
+    Plans,
+    /// What two seats of a board draw in turn.
+    Claims,
+    /// The shares of two seats that give to one another.
+    Shares,
+    /// A case text, whatever the workers and the batches.
+    Spreads,
     /// A kernel on integers, and its operands.
     Ints,
     /// A kernel on planes, and its operands.
@@ -73,43 +82,52 @@ impl<'a> Table<'a> {
     }
 }
 
-/// So many turns of `a@`, one after the other.
-fn push_turns(row: &mut String, turns: u32, turn: &str) -> Result<(), AllocError> {
-    let (front, back) = turn.split_once('@').unwrap_or((turn, ""));
-    let is_numbered = front.len() < turn.len();
-    for number in 0..turns {
-        row.push_str(front)?;
-        if is_numbered {
-            write!(row, "{number}{back}")?;
+/// The turns of `a@` from a first number to an end, one after the other.
+fn push_turns(row: &mut String, first: u32, end: u32, turn: &str) -> Result<(), AllocError> {
+    for number in first..end {
+        let mut pieces = turn.split('@');
+        row.push_str(pieces.next().unwrap_or(""))?;
+        for piece in pieces {
+            write!(row, "{number}{piece}")?;
         }
     }
     Ok(())
 }
 
-/// Of `3 a@}` and what follows it, the number of turns, the turn and what follows.
-fn repeated(piece: &str) -> Option<(u32, &str, &str)> {
+/// The first number and the end of `3` or `1..3`.
+fn numbers(text: &str) -> Option<(u32, u32)> {
+    let (first, last) = match text.split_once("..") {
+        Some((first, last)) => (first, last),
+        None => return Some((0, text.parse::<u32>().ok()?)),
+    };
+    let last = last.parse::<u32>().ok()?;
+    Some((first.parse::<u32>().ok()?, last.saturating_add(1)))
+}
+
+/// Of `3 a@}` and what follows it, the numbers, the turn and what follows.
+fn repeated(piece: &str) -> Option<((u32, u32), &str, &str)> {
     let (repeated, rest) = piece.split_once('}')?;
-    let (turns, turn) = repeated.split_once(' ')?;
-    Some((turns.parse().ok()?, turn, rest))
+    let (count, turn) = repeated.split_once(' ')?;
+    Some((numbers(count)?, turn, rest))
 }
 
 /// The row in which all turns are written out, and whether each brace has a number of turns.
-fn write_out(row: &mut String, short: &str) -> Result<bool, AllocError> {
+pub fn write_out(row: &mut String, short: &str) -> Result<bool, AllocError> {
     let mut pieces = short.split('{');
     row.clear();
     row.push_str(pieces.next().unwrap_or(""))?;
     for piece in pieces {
-        let Some((turns, turn, rest)) = repeated(piece) else {
+        let Some(((first, end), turn, rest)) = repeated(piece) else {
             return Ok(false);
         };
-        push_turns(row, turns, turn)?;
+        push_turns(row, first, end, turn)?;
         row.push_str(rest)?;
     }
     Ok(true)
 }
 
 /// What is answered on what a row asks.
-fn push_answer<R: Runtime + AllocGlobal>(
+fn push_answer<R: Runtime + AllocGlobal + Threads + Sync>(
     rt: &R,
     asks: &Asks<'_>,
     asked: &str,
@@ -122,13 +140,17 @@ fn push_answer<R: Runtime + AllocGlobal>(
         Asks::Programs(front) => programs::push_answer(rt, front, asked, said),
         Asks::Parts => reports::push_parts(asked, said),
         Asks::Runs => commands::push_answer(rt, asked, said),
+        Asks::Plans => pool::push_plan(rt.alloc(), asked, said),
+        Asks::Claims => pool::push_claims(rt.alloc(), asked, said),
+        Asks::Shares => pool::push_shares(rt.alloc(), asked, said),
+        Asks::Spreads => pool::push_spread(rt, asked, said),
         Asks::Ints => lanes::push_ints(asked, said),
         Asks::Planes => lanes::push_plane(asked, said),
     }
 }
 
 /// Whether a row is answered as it wants, with the answer. A row without the mark is not.
-fn is_right<R: Runtime + AllocGlobal>(
+fn is_right<R: Runtime + AllocGlobal + Threads + Sync>(
     rt: &R,
     table: &Table<'_>,
     row: &str,
@@ -142,8 +164,8 @@ fn is_right<R: Runtime + AllocGlobal>(
     Ok(said.as_str() == wanted)
 }
 
-/// The walk over a table, with room for a row and for what is said of it.
-fn check_rows<R: Runtime + AllocGlobal + Abort>(
+/// Goes over a table, with room for a row and for what is said of it.
+fn check_rows<R: Runtime + AllocGlobal + Threads + Sync + Abort>(
     rt: &R,
     table: &Table<'_>,
     row: &mut String,
@@ -159,7 +181,7 @@ fn check_rows<R: Runtime + AllocGlobal + Abort>(
 }
 
 /// Asks each row of a table, and fails at the first that is answered otherwise.
-pub fn check<R: Runtime + AllocGlobal + Abort>(
+pub fn check<R: Runtime + AllocGlobal + Threads + Sync + Abort>(
     rt: &R,
     table: &Table<'_>,
 ) -> Result<(), AllocError> {

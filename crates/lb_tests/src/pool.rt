@@ -1,0 +1,537 @@
+//! Plans, claim boards, and runs by workers.
+
+ghost use Rattle.std.specs.Prelude.{◌≡◌};
+ghost use Rattle.lb_pool.specs.Seats.{IsSeatOf, shares_of};
+
+use crate::commands::words_of;
+use crate::tables::{Asks, Table, check, write_out};
+use lb_check::check::check as check_rules;
+use lb_check::verdict::Verdict;
+use lb_command::command::command;
+use lb_flat::expand::expand;
+use lb_flat::flat::Ordered;
+use lb_flat::order::order;
+use lb_flat::trace_run::eval_trace;
+use lb_flat::traces::TraceSet;
+use lb_pool::board::{ClaimBoard, ClaimSeat};
+use lb_pool::claims::run_claims;
+use lb_pool::gate::Gate;
+use lb_pool::plan::Plan;
+use lb_report::case::split_case;
+use lb_report::text::status;
+use lb_static::elaborate::elaborate;
+use lb_static::signature::Signature;
+use lb_syntax::parse::parse;
+use lb_syntax::tree::Source;
+use lb_trace::read_traces;
+use std::alloc::{AllocError, Global};
+use std::hint::spin_loop;
+use std::rt::Runtime;
+use std::sync::atomic::{AtomicBool, Ordering};
+use std::thread::Threads;
+
+// ## Plans
+
+// A trace text with traces of so many instants, which have no cells.
+fn push_traces(text: &mut String, lengths: &str) -> Result<(), AllocError> {
+    let mut number: u32 = 0;
+    for length in lengths.split(' ') {
+        for _ in 0..length.parse::<u32>().unwrap_or(0) {
+            write!(text, "t{number}\n")?;
+        }
+        number = number.saturating_add(1);
+    }
+    Ok(())
+}
+
+// How many batches and traces a plan has, and its batches.
+fn push_batches(plan: &Plan, said: &mut String) -> Result<(), AllocError> {
+    write!(said, "{} of {}:", plan.batches(), plan.traces())?;
+    for i in 0..plan.batches() {
+        said.push_str(" |")?;
+        for k in plan.batch(i) {
+            write!(said, " {k}")?;
+        }
+    }
+    Ok(())
+}
+
+// The plan of a width, as `2` or `2 by length`.
+fn push_plan_of(
+    alloc: Global,
+    set: &TraceSet,
+    width: &str,
+    said: &mut String,
+) -> Result<(), AllocError> {
+    let (number, is_by_length) = match width.split_once(' ') {
+        Some((number, _)) => (number, true),
+        None => (width, false),
+    };
+    let width = number.parse::<u32>().unwrap_or(0);
+    if width == 0 || width > 64 {
+        return said.push_str("no width");
+    }
+    let plan = if is_by_length {
+        Plan::by_length(alloc, set, width)
+    } else {
+        Plan::in_order(alloc, set.len(), width)
+    };
+    push_batches(&plan?, said)
+}
+
+/// The plan of a width and the lengths of some traces.
+pub fn push_plan(alloc: Global, asked: &str, said: &mut String) -> Result<(), AllocError> {
+    let (width, lengths) = asked.split_once(':').unwrap_or((asked, ""));
+    let mut text = String::from_str(alloc, "trace\n")?;
+    push_traces(&mut text, lengths)?;
+    let signature = Signature::new(alloc);
+    match &read_traces(alloc, &signature, text.as_str().as_bytes()) {
+        Ok(set) => push_plan_of(alloc, set, width, said),
+        Err(_) => said.push_str("no traces"),
+    }
+}
+
+// A width and the lengths of traces, 0 first; the numbers of batches and of traces, and the batches.
+const PLANS: &str = "\
+64:{65  1} => 2 of 65: |{64  @} | 64
+64 by length:{65  1} => 2 of 65: |{64  @} | 64
+64: => 0 of 0:
+1 by length: => 0 of 0:
+1: 2 2 => 2 of 2: | 0 | 1
+2: 3 1 2 1 => 2 of 4: | 0 1 | 2 3
+3: 3 1 2 1 => 2 of 4: | 0 1 2 | 3
+2 by length: 3 1 2 1 => 2 of 4: | 1 3 | 2 0
+3 by length: 3 1 2 1 => 2 of 4: | 1 3 2 | 0";
+
+#[test]
+fn plans(rt: HostRuntime) -> Result<(), AllocError> {
+    check(&rt, &Table::of_lines(Asks::Plans, PLANS))
+}
+
+// ## Claim boards
+
+// Claims once.
+fn push_draw(board: &ClaimBoard, seat: &mut ClaimSeat, said: &mut String) -> Result<(), AllocError>
+    requires { IsSeatOf board.now seat.old }
+    ensures seat { IsSeatOf board.now seat.new }
+    ensures shares { shares_of seat.new ≡ shares_of seat.old }
+{
+    match board.claim(seat) {
+        Some(k) => write!(said, "{k} "),
+        None => said.push_str("- "),
+    }
+}
+
+// Claims with two seats, `a` and `b`, in turn.
+fn push_draws(
+    board: &ClaimBoard,
+    first: &mut ClaimSeat,
+    second: &mut ClaimSeat,
+    turns: &str,
+    said: &mut String,
+) -> Result<(), AllocError>
+    requires first { IsSeatOf board.now first.old }
+    requires second { IsSeatOf board.now second.old }
+    ensures first { IsSeatOf board.now first.new }
+    ensures second { IsSeatOf board.now second.new }
+    ensures first_shares { shares_of first.new ≡ shares_of first.old }
+    ensures second_shares { shares_of second.new ≡ shares_of second.old }
+{
+    for turn in turns.as_bytes() {
+        if *turn == b'a' {
+            push_draw(board, first, said)?;
+        } else {
+            push_draw(board, second, said)?;
+        }
+    }
+    Ok(())
+}
+
+/// What two seats of a board draw in turn, and whether it is all.
+pub fn push_claims(alloc: Global, asked: &str, said: &mut String) -> Result<(), AllocError> {
+    let (limit, turns) = asked.split_once(' ').unwrap_or((asked, ""));
+    let (board, seat) = ClaimBoard::new(alloc, limit.parse::<u32>().unwrap_or(0))?;
+    let (mut first, mut second) = board.split(seat);
+    push_draws(&board, &mut first, &mut second, turns, said)?;
+    let seat = board.join(first, second);
+    said.push_str(if board.close(seat) { "all" } else { "not all" })
+}
+
+// How many numbers there are and who claims; what is drawn, and whether the two were told that it is
+// all.
+const CLAIMS: &str = "\
+3 ababa => 0 1 2 - - all
+3 abab => 0 1 2 - all
+3 aba => 0 1 2 not all
+3 aaaab => 0 1 2 - - all
+1 ab => 0 - all
+1 abab => 0 - - - all
+1 b => 0 not all
+0 ab => - - all
+0 a => - all";
+
+// Moves the larger half of the second seat's shares to the first, if there are two.
+fn moved(board: &ClaimBoard, first: ClaimSeat, second: ClaimSeat) -> (ClaimSeat, ClaimSeat)
+    requires first { IsSeatOf board.now first }
+    requires second { IsSeatOf board.now second }
+    ensures first { IsSeatOf board.now result.0 }
+    ensures second { IsSeatOf board.now result.1 }
+{
+    if second.shares() < 2 {
+        return (first, second);
+    }
+    let (left, right) = board.split(second);
+    (board.join(first, left), right)
+}
+
+// The shares of two seats, of which `a` or `b` gives the larger half of its own to the other.
+fn push_moves(
+    board: &ClaimBoard,
+    first: ClaimSeat,
+    second: ClaimSeat,
+    turns: &str,
+    said: &mut String,
+) -> Result<(), AllocError>
+    requires first { IsSeatOf board.now first }
+    requires second { IsSeatOf board.now second }
+{
+    let mut a = first;
+    let mut b = second;
+    for turn in turns.as_bytes() {
+        if *turn == b'a' {
+            let (taker, giver) = moved(board, b, a);
+            b = taker;
+            a = giver;
+        } else {
+            let (taker, giver) = moved(board, a, b);
+            a = taker;
+            b = giver;
+        }
+        write!(said, ", {} {}", a.shares(), b.shares())?;
+    }
+    Ok(())
+}
+
+/// The shares of the two halves of a seat, and after each turn.
+pub fn push_shares(alloc: Global, turns: &str, said: &mut String) -> Result<(), AllocError> {
+    let (board, seat) = ClaimBoard::new(alloc, 3)?;
+    write!(said, "{}: ", seat.shares())?;
+    let (first, second) = board.split(seat);
+    write!(said, "{} {}", first.shares(), second.shares())?;
+    push_moves(&board, first, second, turns, said)
+}
+
+// Who gives the larger half of its shares to the other; all shares, those of the two halves, and
+// those after each turn. In the second row a seat of three shares is cut.
+const SHARES: &str = "\
+a => 64: 32 32, 16 48
+bbbbaaaaaa => 64: 32 32, 48 16, 56 8, 60 4, 62 2, 31 33, 15 49, 7 57, 3 61, 1 63, 1 63";
+
+#[test]
+fn boards(rt: HostRuntime) -> Result<(), AllocError> {
+    check(&rt, &Table::of_lines(Asks::Claims, CLAIMS))?;
+    check(&rt, &Table::of_lines(Asks::Shares, SHARES))
+}
+
+// ## Runs
+
+// The records of a line: `a 2,7` is `a,7` twice. A line without a space is one record.
+fn push_records(case: &mut String, line: &str) -> Result<(), AllocError> {
+    let (name, records) = line.split_once(' ').unwrap_or((line, "1"));
+    let (count, cells) = records.split_once(',').unwrap_or((records, ""));
+    let comma = if cells.is_empty() { "" } else { "," };
+    for _ in 0..count.parse::<u32>().unwrap_or(0) {
+        write!(case, "{name}{comma}{cells}\n")?;
+    }
+    Ok(())
+}
+
+// A case whose records are told by their count.
+fn push_case(case: &mut String, short: &str) -> Result<(), AllocError> {
+    let (source, traces) = short.split_once("%traces\n").unwrap_or((short, ""));
+    write!(case, "{source}%traces\n")?;
+    for line in traces.split('\n') {
+        push_records(case, line)?;
+    }
+    Ok(())
+}
+
+// The output and the status of a command line on a case.
+fn push_output<R: Runtime + AllocGlobal + Threads + Sync>(
+    rt: &R,
+    line: &str,
+    case: &str,
+    said: &mut String,
+) -> Result<(), AllocError> {
+    let words = words_of(rt.alloc(), line)?;
+    let mut output: Vec<u8> = Vec::new(rt.alloc());
+    let mut errors: Vec<u8> = Vec::new(rt.alloc());
+    let mut reader = case.as_bytes();
+    let status = command(rt, words.as_slice(), &mut reader, &mut output, &mut errors);
+    let printed = std::str::from_utf8(output.as_slice()).unwrap_or("no text");
+    write!(said, "{printed}status {status}")
+}
+
+// The first command line that answers a case otherwise than was said, if there is one.
+fn push_other<R: Runtime + AllocGlobal + Threads + Sync>(
+    rt: &R,
+    case: &str,
+    said: &mut String,
+    other: &mut String,
+) -> Result<(), AllocError> {
+    for line in LINES.split('\n') {
+        other.clear();
+        push_output(rt, line, case, other)?;
+        if other.as_str() != said.as_str() {
+            return write!(said, "\n{line}: {other}");
+        }
+    }
+    Ok(())
+}
+
+/// What all command lines answer on a case whose records are told by their count.
+pub fn push_spread<R: Runtime + AllocGlobal + Threads + Sync>(
+    rt: &R,
+    asked: &str,
+    said: &mut String,
+) -> Result<(), AllocError> {
+    let mut case = String::new(rt.alloc());
+    let mut other = String::new(rt.alloc());
+    push_case(&mut case, asked)?;
+    push_output(rt, "lbench", case.as_str(), said)?;
+    push_other(rt, case.as_str(), said, &mut other)
+}
+
+// Numbers of workers, widths of batches, and batches in order or by length.
+const LINES: &str = "\
+lbench --workers 0 --batch 1
+lbench --workers 0 --batch 7
+lbench --workers 0 --batch 64
+lbench --workers 1 --batch 1
+lbench --workers 1 --batch 7
+lbench --workers 1 --batch 64
+lbench --workers 2 --batch 1
+lbench --workers 2 --batch 7
+lbench --workers 2 --batch 64
+lbench --workers 7 --batch 1
+lbench --workers 7 --batch 7
+lbench --workers 7 --batch 64
+lbench --workers 64 --batch 1
+lbench --workers 64 --batch 7
+lbench --workers 64 --batch 64
+lbench --workers 0 --batch 1 --by-length
+lbench --workers 0 --batch 7 --by-length
+lbench --workers 0 --batch 64 --by-length
+lbench --workers 1 --batch 1 --by-length
+lbench --workers 1 --batch 7 --by-length
+lbench --workers 1 --batch 64 --by-length
+lbench --workers 2 --batch 1 --by-length
+lbench --workers 2 --batch 7 --by-length
+lbench --workers 2 --batch 64 --by-length
+lbench --workers 7 --batch 1 --by-length
+lbench --workers 7 --batch 7 --by-length
+lbench --workers 7 --batch 64 --by-length
+lbench --workers 64 --batch 1 --by-length
+lbench --workers 64 --batch 7 --by-length
+lbench --workers 64 --batch 64 --by-length";
+
+// Sixty-five lengths, so that at width 64 the second batch has one trace; traces of which some end
+// early; no trace.
+const SPREADS: &str = "\
+node main() returns (ok: bool);
+var n: int;
+let n = 0 -> pre n + 1; ok = n < 64; tel
+%traces
+trace
+{1..65 t@ @
+}%answer
+{1..64 t@ passed
+}t65 false 64
+total 65 passed 64 fault 0 undefined 0 assertion 0 false 1
+status 1
+%case
+node main(x: int) returns (ok: bool);
+var q: int;
+let q = 100 / (x + 1); ok = x < 50; tel
+%traces
+trace,x
+{5 t@ 10,1
+}t5 1,-1
+t5 8,1
+t5 1,50
+t6 1,1
+t7 9,1
+t7 1,50
+{8..63 t@ 10,1
+}%answer
+{5 t@ passed
+}t5 fault 0
+t6 passed
+t7 false 9
+{8..63 t@ passed
+}total 64 passed 62 fault 1 undefined 0 assertion 0 false 1
+status 1
+%case
+node main() returns (ok: bool); let ok = true; tel
+%traces
+trace
+%answer
+total 0 passed 0 fault 0 undefined 0 assertion 0 false 0
+status 0";
+
+#[test]
+fn spreads(rt: HostRuntime) -> Result<(), AllocError> {
+    check(
+        &rt,
+        &Table {
+            asks: Asks::Spreads,
+            rows: SPREADS,
+            between: "\n%case\n",
+            mark: "%answer\n",
+        },
+    )
+}
+
+// ## Two workers at once
+
+/// Holds the worker of batch 0 until another batch has been entered.
+#[derive(Drop)]
+struct Hold {
+    is_entered: AtomicBool,
+    has_given_up: AtomicBool,
+}
+
+/// How often the worker of batch 0 looks.
+const TURNS: u32 = 100_000_000;
+
+impl Hold {
+    fn wait(&self) {
+        for _ in 0..TURNS {
+            if self.is_entered.load(Ordering::SeqCst) {
+                return;
+            }
+            spin_loop();
+        }
+        self.has_given_up.store(true, Ordering::SeqCst);
+    }
+}
+
+impl Gate for Hold {
+    fn enter(&self, batch: u32) {
+        if batch == 0 {
+            self.wait();
+        } else {
+            self.is_entered.store(true, Ordering::SeqCst);
+        }
+    }
+}
+
+// The equations of a tree, and the signature of its traces.
+fn ordered_of(alloc: Global, tree: &Source) -> Option<(Signature, Ordered)> {
+    let elab = elaborate(alloc, tree, "main", None).ok()?;
+    let checked = check_rules(alloc, elab).ok()?;
+    let flat = expand(alloc, &checked).ok();
+    let signature = checked.into_signature();
+    let ordered = order(alloc, flat?).ok()?;
+    Some((signature, ordered))
+}
+
+// The verdict of the last of sixty-five traces, found alone.
+fn push_last(
+    alloc: Global,
+    ordered: &Ordered,
+    set: &TraceSet,
+    said: &mut String,
+) -> Result<(), AllocError> {
+    if set.len() != 65 {
+        return said.push_str("another count");
+    }
+    match eval_trace(alloc, ordered, set, 64)? {
+        Verdict::False(t) => write!(said, ", last false {t}"),
+        _ => said.push_str(", last another"),
+    }
+}
+
+// How many verdicts two workers find, the status, and the last verdict.
+fn push_verdicts<R: Threads + Sync>(
+    rt: &R,
+    alloc: Global,
+    ordered: &Ordered,
+    set: &TraceSet,
+    gate: &Hold,
+    said: &mut String,
+) -> Result<(), AllocError> {
+    let plan = Plan::in_order(alloc, set.len(), 64)?;
+    if plan.traces() != set.len() {
+        return said.push_str("not all traces");
+    }
+    let verdicts = run_claims(rt, alloc, ordered, set, &plan, 2, gate)?;
+    let status = status(verdicts.as_slice());
+    write!(said, "{} verdicts, status {status}", verdicts.len())?;
+    push_last(alloc, ordered, set, said)
+}
+
+// The same of a program and a trace text.
+fn push_gated_traces<R: Threads + Sync>(
+    rt: &R,
+    alloc: Global,
+    program: &(Signature, Ordered),
+    traces: &[u8],
+    gate: &Hold,
+    said: &mut String,
+) -> Result<(), AllocError> {
+    match &read_traces(alloc, &program.0, traces) {
+        Ok(set) => push_verdicts(rt, alloc, &program.1, set, gate, said),
+        Err(_) => said.push_str("no traces"),
+    }
+}
+
+// The same of a case.
+fn push_gated<R: Threads + Sync>(
+    rt: &R,
+    alloc: Global,
+    case: &str,
+    gate: &Hold,
+    said: &mut String,
+) -> Result<(), AllocError> {
+    let (source, traces) = split_case(case.as_bytes());
+    match &parse(alloc, source) {
+        Ok(tree) => match &ordered_of(alloc, tree) {
+            Some(program) => push_gated_traces(rt, alloc, program, traces, gate, said),
+            None => said.push_str("no program"),
+        },
+        Err(_) => said.push_str("no source"),
+    }
+}
+
+// The same of the first case of a table whose records are told by their count.
+fn push_gated_row<R: Threads + Sync>(
+    rt: &R,
+    alloc: Global,
+    gate: &Hold,
+    said: &mut String,
+) -> Result<(), AllocError> {
+    let (short, _) = SPREADS.split_once("%answer\n").unwrap_or(("", ""));
+    let mut row = String::new(alloc);
+    let mut case = String::new(alloc);
+    let _ = write_out(&mut row, short)?;
+    push_case(&mut case, row.as_str())?;
+    push_gated(rt, alloc, case.as_str(), gate, said)
+}
+
+/// A body that runs all batches on one thread does not pass the gate.
+#[test]
+fn one_thread_for_all(rt: HostRuntime) -> Result<(), AllocError> {
+    let gate = Hold {
+        is_entered: AtomicBool::new(false),
+        has_given_up: AtomicBool::new(false),
+    };
+    let mut said = String::new(rt.alloc());
+    push_gated_row(&rt, rt.alloc(), &gate, &mut said)?;
+    assert!(rt;
+        !gate.has_given_up.load(Ordering::SeqCst),
+        "batch 1 was not entered"
+    );
+    assert_eq!(rt; said.as_str(), "65 verdicts, status 1, last false 64");
+    Ok(())
+}
