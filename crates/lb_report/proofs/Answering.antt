@@ -138,11 +138,13 @@ module _ (source traces : Text) (options : Options) where
             inr (first_of _ (of_traces h.tree h.spelled h.holds.0 refused))
       ]
 
-  reported : (report : Report) → IsBenchReport source traces options report → IsFirstOf source traces options None
+  reported : (report : Report) → IsBenchReport source traces options report
+      → IsFirstOf source traces options None
   reported report h =
       let recorded = h.holds.recorded in
       first_of None
-      (of_traces h.tree h.spelled h.holds.accepted (h.holds.recording.traces, recorded.text_spells_it))
+      (of_traces h.tree h.spelled h.holds.accepted
+      (h.holds.recording.traces, recorded.text_spells_it))
 
   pub answered :
       (answer : Result Report BenchError) → IfOk answer (IsBenchReport source traces options) →

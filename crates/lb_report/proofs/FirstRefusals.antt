@@ -16,7 +16,8 @@ use Rattle.lb_report.specs.FirstRefusals.{IsFirstRefusal, IsOnlyFirstRefusal, Is
 not_over : (text : Text) → KeepsLimits text → BreaksLimit text → ⊥
 not_over text (ts, has) (us, are, over) =
     let same : ts ≡ us = cc in
-    let kept : IsTrue (keeps_limits us) = subst (λ xs. IsTrue (keeps_limits xs)) same has.limits_kept in
+    let kept : IsTrue (keeps_limits us) =
+    subst (λ xs. IsTrue (keeps_limits xs)) same has.limits_kept in
     cc
 
 -- a text that keeps its limits is refused for its grammar alone
@@ -27,7 +28,8 @@ limits_kept text r (over_limit short over) keeps = absurd (not_over text keeps o
 limits_kept text r (no_tree fault) keeps = refl
 
 -- a text that spells a program is not refused
-spelled : (text : Text) (r : Refusal) (tree : Source) → IsTextRefusal text r → IsOnlyProgram tree text → ⊥
+spelled : (text : Text) (r : Refusal) (tree : Source) → IsTextRefusal text r
+    → IsOnlyProgram tree text → ⊥
 spelled text r tree (no_tree fault) only = fault.none_is_spelled tree only.text_spells_it
 spelled text r tree (too_long long) only =
     let e = limits_kept text E3 (too_long long) only.limits_hold in cc
@@ -41,23 +43,27 @@ one_text : (text : Text) (r s : Refusal) → IsTextRefusal text r → IsTextRefu
 one_text text r s (too_long long) (too_long other) = refl
 one_text text r s (too_long long) (no_tokens short none) = absurd (omega (arith, long, short))
 one_text text r s (too_long long) (over_limit short over) = absurd (omega (arith, long, short))
-one_text text r s (too_long long) (no_tree fault) = limits_kept text E3 (too_long long) fault.limits_hold
+one_text text r s (too_long long) (no_tree fault) =
+    limits_kept text E3 (too_long long) fault.limits_hold
 one_text text r s (no_tokens short none) (too_long long) = absurd (omega (arith, long, short))
 one_text text r s (no_tokens short none) (no_tokens other more) = refl
 one_text text r s (no_tokens short none) (over_limit other over) =
     let e = over.1 in cc
-one_text text r s (no_tokens short none) (no_tree fault) = limits_kept text E1 (no_tokens short none) fault.limits_hold
+one_text text r s (no_tokens short none) (no_tree fault) =
+    limits_kept text E1 (no_tokens short none) fault.limits_hold
 one_text text r s (over_limit short over) (too_long long) = absurd (omega (arith, long, short))
 one_text text r s (over_limit short over) (no_tokens other none) =
     let e = over.1 in cc
 one_text text r s (over_limit short over) (over_limit other more) = refl
-one_text text r s (over_limit short over) (no_tree fault) = limits_kept text E3 (over_limit short over) fault.limits_hold
+one_text text r s (over_limit short over) (no_tree fault) =
+    limits_kept text E3 (over_limit short over) fault.limits_hold
 one_text text r s (no_tree fault) other = sym (limits_kept text s other fault.limits_hold)
 
 -- ## The program
 
 -- a first refusal is one of the rules before causality, or all of these are kept
-of_rules : (P : Program) (r : Refusal) → IsFirst P (Some r) → (refusal P ≡ Some r) ⊎ ((r ≡ E13) × (refusal P ≡ None))
+of_rules : (P : Program) (r : Refusal) → IsFirst P (Some r)
+    → (refusal P ≡ Some r) ⊎ ((r ≡ E13) × (refusal P ≡ None))
 of_rules P E13 h = inr (refl, h.0)
 of_rules P r h = inl h
 
@@ -77,7 +83,8 @@ accepted P r h is = let e = is.rules in cc
 -- ## The traces
 
 -- traces have one first refusal, or none
-one_trace : (P : Program) (text : Text) (a b : Option ℕ) → IsTraceRefusal P text a → IsTraceRefusal P text b → a ≡ b
+one_trace : (P : Program) (text : Text) (a b : Option ℕ) → IsTraceRefusal P text a
+    → IsTraceRefusal P text b → a ≡ b
 one_trace P text None None h k = refl
 one_trace P text None (Some n) h k = absurd (k.1 h.0 h.1)
 one_trace P text (Some n) None h k = absurd (h.1 k.0 k.1)
@@ -101,9 +108,11 @@ module _ (source traces : Text) (node : Name) (observer : Option Name) where
       IsFirstRefusal source traces node observer b → a ≡ b
   at_most_one a b (of_text r h e) (of_text s k f) =
       e ∙ ap (λ t. Some (refusal_number t)) (one_text source r s h k) ∙ sym f
-  at_most_one a b (of_text r h e) (of_program tree s only k f) = absurd (spelled source r tree h only)
+  at_most_one a b (of_text r h e) (of_program tree s only k f) =
+      absurd (spelled source r tree h only)
   at_most_one a b (of_text r h e) (of_traces tree only is k) = absurd (spelled source r tree h only)
-  at_most_one a b (of_program tree s only k f) (of_text r h e) = absurd (spelled source r tree h only)
+  at_most_one a b (of_program tree s only k f) (of_text r h e) =
+      absurd (spelled source r tree h only)
   at_most_one a b (of_program tree r only h e) (of_program other s same k f) =
       let here = at_one (λ P. IsFirst P (Some s)) tree other only same k in
       e ∙ ap (λ t. Some (refusal_number t)) (one_program (program tree) r s h here) ∙ sym f

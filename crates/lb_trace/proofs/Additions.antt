@@ -15,48 +15,63 @@ use Rattle.lb_trace.proofs.Names.{bytes_eq-flip, comes_back-last, is_trace_name-
 use Rattle.lb_trace.proofs.Soundness.{comes_back-other}
 
 -- a record with no cell
-pub record_by-none : (elements : Elements) (table : List Column) (width : ℕ) (traces : Traces) (fields : Record)
+pub record_by-none : (elements : Elements) (table : List Column) (width : ℕ) (traces : Traces)
+    (fields : Record)
     → field_at fields 0 ≡ None → record_by elements table width traces fields ≡ Err 15
 unfolding field_at
 record_by-none elements table width traces [] missing = refl
 record_by-none elements table width traces (name ∷ cells) missing = cc missing
 
 -- a record of another length
-pub record_by-length : (elements : Elements) (table : List Column) (width : ℕ) (traces : Traces) (fields : Record) (name : List ℕ)
-    → field_at fields 0 ≡ Some name → length (after_first fields) ≢ width → record_by elements table width traces fields ≡ Err 15
+pub record_by-length : (elements : Elements) (table : List Column) (width : ℕ) (traces : Traces)
+    (fields : Record) (name : List ℕ)
+    → field_at fields 0 ≡ Some name → length (after_first fields) ≢ width
+    → record_by elements table width traces fields ≡ Err 15
 unfolding field_at
 record_by-length elements table width traces [] name found other = cc found
 record_by-length elements table width traces (first ∷ cells) name found other =
-    let no : (length cells == width) ≡ false = false_from_ne_true (length cells == width) (λ same. other (eqb-true (length cells) width same)) in
+    let no : (length cells == width)
+    ≡ false = false_from_ne_true (length cells == width)
+    (λ same. other (eqb-true (length cells) width same)) in
     rw no refl
 
-go_on_cells : (elements : Elements) (name : List ℕ) (traces : Traces) (row : Option Row) → is_last name traces ≡ true
+go_on_cells : (elements : Elements) (name : List ℕ) (traces : Traces) (row : Option Row)
+    → is_last name traces ≡ true
     → with_cells elements name traces row ≡ go_on_by elements traces row
 go_on_cells elements name traces None last = refl
 go_on_cells elements name traces (Some row) last = rw last refl
 
-other_cells : (elements : Elements) (name : List ℕ) (traces : Traces) (row : Option Row) → is_last name traces ≡ false
+other_cells : (elements : Elements) (name : List ℕ) (traces : Traces) (row : Option Row)
+    → is_last name traces ≡ false
     → with_cells elements name traces row ≡ start_cells elements name traces row
 other_cells elements name traces None other = refl
 other_cells elements name traces (Some row) other = rw other refl
 
 -- a record of the last trace
-pub record_by-last : (elements : Elements) (table : List Column) (width : ℕ) (traces : Traces) (fields : Record) (name : List ℕ)
-    → field_at fields 0 ≡ Some name → length (after_first fields) ≡ width → All (IsTrace elements) traces → is_last name traces ≡ true
-    → record_by elements table width traces fields ≡ go_on_by elements traces (row_by table (after_first fields))
+pub record_by-last : (elements : Elements) (table : List Column) (width : ℕ) (traces : Traces)
+    (fields : Record) (name : List ℕ)
+    → field_at fields 0 ≡ Some name → length (after_first fields) ≡ width
+    → All (IsTrace elements) traces → is_last name traces ≡ true
+    → record_by elements table width traces fields
+    ≡ go_on_by elements traces (row_by table (after_first fields))
 unfolding field_at
 record_by-last elements table width traces [] name found long each last = cc found
 record_by-last elements table width traces (first ∷ cells) name found long each last =
     let same : first ≡ name = cc found in
     let count : (length cells == width) ≡ true = eq-eqb (length cells) width long in
     let is : is_last first traces ≡ true = ap (λ n. is_last n traces) same ∙ last in
-    let lawful : is_trace_name first ≡ true = is_trace_name-true first (last_lawful elements first traces each is) in
-    rw (count, lawful, comes_back-last first traces is) (go_on_cells elements first traces (row_by table cells) is)
+    let lawful : is_trace_name first ≡ true =
+    is_trace_name-true first (last_lawful elements first traces each is) in
+    rw (count, lawful, comes_back-last first traces is)
+    (go_on_cells elements first traces (row_by table cells) is)
 
 -- a record of another trace
-pub record_by-other : (elements : Elements) (table : List Column) (width : ℕ) (traces : Traces) (fields : Record) (name : List ℕ)
-    → field_at fields 0 ≡ Some name → length (after_first fields) ≡ width → is_last name traces ≡ false
-    → record_by elements table width traces fields ≡ start_by elements name traces (row_by table (after_first fields))
+pub record_by-other : (elements : Elements) (table : List Column) (width : ℕ) (traces : Traces)
+    (fields : Record) (name : List ℕ)
+    → field_at fields 0 ≡ Some name → length (after_first fields) ≡ width
+    → is_last name traces ≡ false
+    → record_by elements table width traces fields
+    ≡ start_by elements name traces (row_by table (after_first fields))
 unfolding field_at
 record_by-other elements table width traces [] name found long other = cc found
 record_by-other elements table width traces (first ∷ cells) name found long other =
@@ -64,26 +79,35 @@ record_by-other elements table width traces (first ∷ cells) name found long ot
     let count : (length cells == width) ≡ true = eq-eqb (length cells) width long in
     let is : is_last first traces ≡ false = ap (λ n. is_last n traces) same ∙ other in
     rw count
-    (ap (λ b. if not (is_trace_name first) || b then Err 17 else with_cells elements first traces (row_by table cells)) (comes_back-other first traces is)
-    ∙ ap (λ r. if not (is_trace_name first) || list_any (λ (t : Trace). bytes_eq first t.0) traces then Err 17 else r)
+    (ap (λ b. if not (is_trace_name first)
+    || b then Err 17 else with_cells elements first traces (row_by table cells))
+    (comes_back-other first traces is)
+    ∙ ap (λ r. if not (is_trace_name first)
+    || list_any (λ (t : Trace). bytes_eq first t.0) traces then Err 17 else r)
     (other_cells elements first traces (row_by table cells) is)
     ∙ ap (λ n. start_by elements n traces (row_by table cells)) same)
 
 -- a name that is ill-formed or there already
-refuse : (a b : Bool) (r : Result Traces ℕ) → (a && not b) ≡ false → (if not a || b then Err 17 else r) ≡ Err 17
+refuse : (a b : Bool) (r : Result Traces ℕ) → (a && not b) ≡ false
+    → (if not a || b then Err 17 else r) ≡ Err 17
 refuse true true r h = refl
 refuse true false r h = cc h
 refuse false b r h = refl
 
-pub start_by-refused : (elements : Elements) (name : List ℕ) (traces : Traces) (row : Option Row) (has : Bool)
-    → has ≡ list_any (λ t. bytes_eq name t.0) traces → (is_trace_name name && not has) ≡ false → start_by elements name traces row ≡ Err 17
+pub start_by-refused : (elements : Elements) (name : List ℕ) (traces : Traces) (row : Option Row)
+    (has : Bool)
+    → has ≡ list_any (λ t. bytes_eq name t.0) traces → (is_trace_name name && not has) ≡ false
+    → start_by elements name traces row ≡ Err 17
 start_by-refused elements name traces row has known bad =
-    refuse (is_trace_name name) (list_any (λ (t : Trace). bytes_eq name t.0) traces) (start_cells elements name traces row)
+    refuse (is_trace_name name) (list_any (λ (t : Trace). bytes_eq name t.0) traces)
+    (start_cells elements name traces row)
     (ap (λ b. is_trace_name name && not b) (sym known) ∙ bad)
 
 -- a name that is lawful and new
-pub start_by-new : (elements : Elements) (name : List ℕ) (traces : Traces) (row : Option Row) → IsTraceName name
-    → list_any (λ t. bytes_eq name t.0) traces ≡ false → start_by elements name traces row ≡ start_cells elements name traces row
+pub start_by-new : (elements : Elements) (name : List ℕ) (traces : Traces) (row : Option Row)
+    → IsTraceName name
+    → list_any (λ t. bytes_eq name t.0) traces ≡ false
+    → start_by elements name traces row ≡ start_cells elements name traces row
 start_by-new elements name traces row lawful none =
     let yes : is_trace_name name ≡ true = is_trace_name-true name lawful in
     rw (yes, none) refl
@@ -97,7 +121,8 @@ turn false false = refl
 -- the names of the traces after a new one
 names_after : (b : Bool) (traces next : Traces) (name : List ℕ) (row : Row) (q : List ℕ)
     → if◌then◌else◌ {A = Result Traces ℕ} b (Ok (with_trace traces name row)) (Err 18) ≡ Ok next
-    → list_any (λ t. bytes_eq q t.0) next ≡ (bytes_eq name q || list_any (λ t. bytes_eq q t.0) traces)
+    → list_any (λ t. bytes_eq q t.0) next
+    ≡ (bytes_eq name q || list_any (λ t. bytes_eq q t.0) traces)
 names_after true traces next name row q is =
     let same : next ≡ with_trace traces name row = cc is in
     let named : Trace → Bool = λ t. bytes_eq q t.0 in
@@ -107,28 +132,36 @@ names_after true traces next name row q is =
     ∙ ap (λ b. b || list_any named traces) (bytes_eq-flip q name)
 names_after false traces next name row q is = cc is
 
-pub start_cells-names : (elements : Elements) (name : List ℕ) (traces next : Traces) (row : Option Row) (q : List ℕ)
+pub start_cells-names : (elements : Elements) (name : List ℕ) (traces next : Traces)
+    (row : Option Row) (q : List ℕ)
     → start_cells elements name traces row ≡ Ok next
-    → list_any (λ t. bytes_eq q t.0) next ≡ (bytes_eq name q || list_any (λ t. bytes_eq q t.0) traces)
+    → list_any (λ t. bytes_eq q t.0) next
+    ≡ (bytes_eq name q || list_any (λ t. bytes_eq q t.0) traces)
 start_cells-names elements name traces next None q is = cc is
 start_cells-names elements name traces next (Some row) q is =
-    names_after (nat_lt (length traces) 1000000 && nat_le ((instants_of traces + 1) * cells_of_instant elements) 67108864) traces next name row q is
+    names_after (nat_lt (length traces) 1000000
+    && nat_le ((instants_of traces + 1) * cells_of_instant elements) 67108864) traces next name row
+    q is
 
 -- the names of the traces after one more row of the last
-same_row : (traces : Traces) (row : Row) (q : List ℕ) → list_any (λ t. bytes_eq q t.0) (with_row traces row) ≡ list_any (λ t. bytes_eq q t.0) traces
+same_row : (traces : Traces) (row : Row) (q : List ℕ)
+    → list_any (λ t. bytes_eq q t.0) (with_row traces row) ≡ list_any (λ t. bytes_eq q t.0) traces
 same_row [] row q = refl
 same_row (t ∷ []) row q = refl
 same_row (t ∷ u ∷ more) row q = ap (λ b. bytes_eq q t.0 || b) (same_row (u ∷ more) row q)
 
-same_names : (b : Bool) (traces next : Traces) (row : Row) (q : List ℕ) → if◌then◌else◌ {A = Result Traces ℕ} b (Ok (with_row traces row)) (Err 18) ≡ Ok next
+same_names : (b : Bool) (traces next : Traces) (row : Row) (q : List ℕ)
+    → if◌then◌else◌ {A = Result Traces ℕ} b (Ok (with_row traces row)) (Err 18) ≡ Ok next
     → list_any (λ t. bytes_eq q t.0) next ≡ list_any (λ t. bytes_eq q t.0) traces
 same_names true traces next row q is =
     let same : next ≡ with_row traces row = cc is in
     ap (list_any (λ (t : Trace). bytes_eq q t.0)) same ∙ same_row traces row q
 same_names false traces next row q is = cc is
 
-pub go_on_by-names : (elements : Elements) (traces next : Traces) (row : Option Row) (q : List ℕ) → go_on_by elements traces row ≡ Ok next
+pub go_on_by-names : (elements : Elements) (traces next : Traces) (row : Option Row) (q : List ℕ)
+    → go_on_by elements traces row ≡ Ok next
     → list_any (λ t. bytes_eq q t.0) next ≡ list_any (λ t. bytes_eq q t.0) traces
 go_on_by-names elements traces next None q is = cc is
 go_on_by-names elements traces next (Some row) q is =
-    same_names (nat_lt (length (last_rows traces)) 1000000 && nat_le ((instants_of traces + 1) * cells_of_instant elements) 67108864) traces next row q is
+    same_names (nat_lt (length (last_rows traces)) 1000000
+    && nat_le ((instants_of traces + 1) * cells_of_instant elements) 67108864) traces next row q is

@@ -16,10 +16,12 @@ use Rattle.lb_trace.specs.Mirrors.{column_of}
 use Rattle.lb_trace.specs.Spelling.{Record, after_first, begins, is_header}
 use Rattle.lb_trace.proofs.Names.{and-false}
 
-pub begins-some : (fields : Record) (x : List ℕ) → field_at fields 0 ≡ Some x → bytes_eq x (codes "trace") ≡ begins fields
+pub begins-some : (fields : Record) (x : List ℕ) → field_at fields 0 ≡ Some x
+    → bytes_eq x (codes "trace") ≡ begins fields
 unfolding field_at
 begins-some [] x found = cc found
-begins-some (first ∷ rest) x found = let same : first ≡ x = cc found in ap (λ f. bytes_eq f (codes "trace")) (sym same)
+begins-some (first ∷ rest) x found =
+    let same : first ≡ x = cc found in ap (λ f. bytes_eq f (codes "trace")) (sym same)
 
 pub begins-none : (fields : Record) → field_at fields 0 ≡ None → false ≡ begins fields
 unfolding field_at
@@ -27,7 +29,8 @@ begins-none [] missing = refl
 begins-none (first ∷ rest) missing = cc missing
 
 -- a name that does not stand once among the columns
-pub not_once : (elements : Elements) (fields : Record) (i n : ℕ) (name : List ℕ) → slice_get (names_of elements) i ≡ Some name
+pub not_once : (elements : Elements) (fields : Record) (i n : ℕ) (name : List ℕ)
+    → slice_get (names_of elements) i ≡ Some name
     → n ≡ count_by (bytes_eq name) (after_first fields) → n ≢ 1 → is_header elements fields ≡ false
 not_once elements fields i n name named counted other =
     let names : List (List ℕ) = names_of elements in
@@ -40,33 +43,43 @@ not_once elements fields i n name named counted other =
     rw some_not (and-false (begins fields))
 
 -- one more name that stands once
-pub once_more : (elements : Elements) (columns : Record) (i n : ℕ) (name : List ℕ) → slice_get (names_of elements) i ≡ Some name
-    → n ≡ count_by (bytes_eq name) columns → n ≡ 1 → list_all (λ m. count_by (bytes_eq m) columns == 1) (take i (names_of elements)) ≡ true
+pub once_more : (elements : Elements) (columns : Record) (i n : ℕ) (name : List ℕ)
+    → slice_get (names_of elements) i ≡ Some name
+    → n ≡ count_by (bytes_eq name) columns → n ≡ 1
+    → list_all (λ m. count_by (bytes_eq m) columns == 1) (take i (names_of elements)) ≡ true
     → list_all (λ m. count_by (bytes_eq m) columns == 1) (take (i + 1) (names_of elements)) ≡ true
 once_more elements columns i n name named counted one before =
     let names : List (List ℕ) = names_of elements in
     let once : List ℕ → Bool = λ m. count_by (bytes_eq m) columns == 1 in
     let below : i < length names = slice_get_within names i name named in
     let same : get_or names i [] ≡ name = get_or_from_slice_get names i name [] named in
-    let here : once (get_or names i []) ≡ true = ap once same ∙ eq-eqb (count_by (bytes_eq name) columns) 1 (sym counted ∙ one) in
+    let here : once (get_or names i []) ≡ true =
+    ap once same ∙ eq-eqb (count_by (bytes_eq name) columns) 1 (sym counted ∙ one) in
     list_all_more once names i [] below ∙ rw (before, here) refl
 
 -- the table with one more column
-pub table_more : (elements : Elements) (columns : Record) (table : List Column) (i at : ℕ) (kind : Kind) (name : List ℕ)
+pub table_more : (elements : Elements) (columns : Record) (table : List Column) (i at : ℕ)
+    (kind : Kind) (name : List ℕ)
     → slice_get (names_of elements) i ≡ Some name → slice_get (kinds_of elements) i ≡ Some kind
-    → at ≡ position_or_len (bytes_eq name) columns → table ≡ map (column_of columns) (take i elements)
-    → table ++ (record { at = at; kind = kind }) ∷ [] ≡ map (column_of columns) (take (i + 1) elements)
+    → at ≡ position_or_len (bytes_eq name) columns
+    → table ≡ map (column_of columns) (take i elements)
+    → table ++ (record { at = at; kind = kind }) ∷ []
+    ≡ map (column_of columns) (take (i + 1) elements)
 table_more elements columns table i at kind name named kinded placed before =
     let name_of : Element → List ℕ = λ e. e.0 in
     let kind_of : Element → Kind = λ e. e.1 in
     let default : Element = (name, kind) in
     let element : Element = get_or elements i default in
-    let below : i < length elements = omega (arith, slice_get_within (names_of elements) i name named, length-map elements name_of) in
-    let name_is : element.0 ≡ name = sym (get_or-map name_of elements i default name below) ∙ get_or_from_slice_get (names_of elements) i name name named in
-    let kind_is : element.1 ≡ kind = sym (get_or-map kind_of elements i default kind below) ∙ get_or_from_slice_get (kinds_of elements) i kind kind kinded in
+    let below : i < length elements = omega
+    (arith, slice_get_within (names_of elements) i name named, length-map elements name_of) in
+    let name_is : element.0 ≡ name = sym (get_or-map name_of elements i default name below)
+    ∙ get_or_from_slice_get (names_of elements) i name name named in
+    let kind_is : element.1 ≡ kind = sym (get_or-map kind_of elements i default kind below)
+    ∙ get_or_from_slice_get (kinds_of elements) i kind kind kinded in
     let column_at : ℕ → Kind → Column = λ a k. record { at = a; kind = k } in
     let column_is : column_at at kind ≡ column_of columns element =
-    ap (λ a. column_at a kind) (placed ∙ ap (λ m. position_or_len (bytes_eq m) columns) (sym name_is))
+    ap (λ a. column_at a kind)
+    (placed ∙ ap (λ m. position_or_len (bytes_eq m) columns) (sym name_is))
     ∙ ap (λ k. column_at (position_or_len (bytes_eq element.0) columns) k) (sym kind_is) in
     ap (λ t. t ++ column_at at kind ∷ []) before
     ∙ ap (λ c. map (column_of columns) (take i elements) ++ c ∷ []) column_is

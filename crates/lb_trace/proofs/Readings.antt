@@ -23,76 +23,109 @@ use Rattle.lb_trace.proofs.Records.{reached_all, reached_first}
 use Rattle.lb_trace.proofs.Soundness.{IsRecording-instant, IsRow-cells, Reads, reads_record, some_last}
 
 -- one more record
-pub reaches-more : (text : List ℕ) (records : List Record) (a b : TextReader) (fields : Record) → Reaches text records a
+pub reaches-more : (text : List ℕ) (records : List Record) (a b : TextReader) (fields : Record)
+    → Reaches text records a
     → ReadRecord left a b true fields → b.first ≡ true → Reaches text (records ++ fields ∷ []) b
 reaches-more text records a b fields at read first =
-    let m = rows-more left a b fields default_config st.StartRecord (strip_bom text) at.rest records at.config at.source at.reached read in
-    record { plain = read.3 ∙ at.plain; ready = inl first; config = read.2 ∙ at.config; rest = m.0; source = m.1; reached = m.2 }
+    let m = rows-more left a b fields default_config st.StartRecord (strip_bom text) at.rest records
+    at.config at.source at.reached read in
+    record {
+      plain = read.3 ∙ at.plain;
+      ready =
+          inl first;
+      config = read.2 ∙ at.config;
+      rest = m.0;
+      source = m.1;
+      reached = m.2;
+    }
 
 -- no more record
-pub reaches-end : (text : List ℕ) (records : List Record) (a b : TextReader) (fields : Record) → Reaches text records a
+pub reaches-end : (text : List ℕ) (records : List Record) (a b : TextReader) (fields : Record)
+    → Reaches text records a
     → ReadRecord left a b false fields → records_of text ≡ records
 reaches-end text records a b fields at read =
-    reached_all text at.rest a.state records at.reached (rows-end left a b fields default_config at.rest at.config at.source read)
+    reached_all text at.rest a.state records at.reached
+    (rows-end left a b fields default_config at.rest at.config at.source read)
 
-pub reaches-first : (text : List ℕ) (records : List Record) (a : TextReader) → Reaches text records a
+pub reaches-first : (text : List ℕ) (records : List Record) (a : TextReader)
+    → Reaches text records a
     → (more : List Record) × (records_of text ≡ records ++ more)
 reaches-first text records a at = reached_first text at.rest a.state records at.reached
 
 -- the row that is read by the table is the row that is spelled
-row_by-table : (elements : Elements) (columns cells : Record) → row_by (map (column_of columns) elements) cells ≡ row_of elements columns cells
+row_by-table : (elements : Elements) (columns cells : Record)
+    → row_by (map (column_of columns) elements) cells ≡ row_of elements columns cells
 row_by-table [] columns cells = refl
 row_by-table (e ∷ more) columns cells =
-    ap (λ o. option_and_then (λ v. option_map (λ row. v ∷ row) o) (cell_value e.1 (under columns cells e.0))) (row_by-table more columns cells)
+    ap (λ o. option_and_then (λ v. option_map (λ row. v ∷ row) o)
+    (cell_value e.1 (under columns cells e.0))) (row_by-table more columns cells)
 
-pub record_by-table : (elements : Elements) (columns : Record) (table : List Column) (width : ℕ) (traces : Traces) (r : Record)
+pub record_by-table : (elements : Elements) (columns : Record) (table : List Column) (width : ℕ)
+    (traces : Traces) (r : Record)
     → table ≡ map (column_of columns) elements → width ≡ length columns
     → record_by elements table width traces r ≡ with_record elements columns traces r
 record_by-table elements columns table width traces [] is wide = refl
 record_by-table elements columns table width traces (name ∷ cells) is wide =
     ap (λ n. record_by elements table n traces (name ∷ cells)) wide
-    ∙ ap (λ row. if not (length cells == length columns) then Err 15 else if not (is_trace_name name) || comes_back name traces then Err 17
+    ∙ ap (λ row. if not (length cells == length columns) then Err 15 else if not
+    (is_trace_name name) || comes_back name traces then Err 17
     else with_cells elements name traces row)
     (ap (λ t. row_by t cells) is ∙ row_by-table elements columns cells)
 
-pub rows_follow : (elements : Elements) (columns : Record) (table : List Column) → table ≡ map (column_of columns) elements → RowsFollow table elements
+pub rows_follow : (elements : Elements) (columns : Record) (table : List Column)
+    → table ≡ map (column_of columns) elements → RowsFollow table elements
 rows_follow elements columns table is cells row read =
-    IsRow-cells elements columns cells row (sym (ap (λ t. row_by t cells) is ∙ row_by-table elements columns cells) ∙ read)
+    IsRow-cells elements columns cells row
+    (sym (ap (λ t. row_by t cells) is ∙ row_by-table elements columns cells) ∙ read)
 
 -- a reading of some records and then more
-then_both : (x : Result Traces ℕ) (all some more : Traces → Result Traces ℕ) → ((t : Traces) → all t ≡ then_read more (some t))
+then_both : (x : Result Traces ℕ) (all some more : Traces → Result Traces ℕ)
+    → ((t : Traces) → all t ≡ then_read more (some t))
     → then_read all x ≡ then_read more (then_read some x)
 then_both (Ok t) all some more each = each t
 then_both (Err n) all some more each = refl
 
-with_records-append : (elements : Elements) (columns : Record) (before : Traces) (some more : List Record)
-    → with_records elements columns before (some ++ more) ≡ then_read (λ traces. with_records elements columns traces more) (with_records elements columns before some)
+with_records-append : (elements : Elements) (columns : Record) (before : Traces)
+    (some more : List Record)
+    → with_records elements columns before (some ++ more)
+    ≡ then_read (λ traces. with_records elements columns traces more)
+    (with_records elements columns before some)
 unfolding with_records
 with_records-append elements columns before [] more = refl
-with_records-append elements columns before (r ∷ some) more = then_both (with_record elements columns before r)
-    (λ further. with_records elements columns further (some ++ more)) (λ further. with_records elements columns further some)
-    (λ traces. with_records elements columns traces more) (λ further. with_records-append elements columns further some more)
+with_records-append elements columns before (r ∷ some) more =
+    then_both (with_record elements columns before r)
+    (λ further. with_records elements columns further (some ++ more))
+    (λ further. with_records elements columns further some)
+    (λ traces. with_records elements columns traces more)
+    (λ further. with_records-append elements columns further some more)
 
 -- one more instant
-count_row : (traces : Traces) (row : Row) → 0 < length traces → instants_of (with_row traces row) ≡ instants_of traces + 1
+count_row : (traces : Traces) (row : Row) → 0 < length traces
+    → instants_of (with_row traces row) ≡ instants_of traces + 1
 count_row traces row some =
     let f : Front traces = front_of traces some in
     let long : Trace → ℕ = λ t. length t.1 in
     let grown : Trace = (f.last.0, f.last.1 ++ row ∷ []) in
-    let after : instants_of (f.front ++ grown ∷ []) ≡ instants_of f.front + length (f.last.1 ++ row ∷ []) = sum_by_push long f.front grown in
-    let before : instants_of (f.front ++ f.last ∷ []) ≡ instants_of f.front + length f.last.1 = sum_by_push long f.front f.last in
+    let after : instants_of (f.front ++ grown ∷ []) ≡ instants_of f.front
+    + length (f.last.1 ++ row ∷ []) = sum_by_push long f.front grown in
+    let before : instants_of (f.front ++ f.last ∷ []) ≡ instants_of f.front + length f.last.1 =
+    sum_by_push long f.front f.last in
     let same : instants_of (with_row traces row) ≡ instants_of (f.front ++ grown ∷ []) =
-    ap (λ ts. instants_of (with_row ts row)) f.is ∙ ap instants_of (with_row-push f.front f.last row) in
+    ap (λ ts. instants_of (with_row ts row)) f.is
+    ∙ ap instants_of (with_row-push f.front f.last row) in
     let was : instants_of traces ≡ instants_of (f.front ++ f.last ∷ []) = ap instants_of f.is in
     omega (arith, length_push f.last.1 row)
 
 count_either : (b : Bool) (traces : Traces) (name : List ℕ) (row : Row) → is_last name traces ≡ b
-    → instants_of (if b then with_row traces row else with_trace traces name row) ≡ instants_of traces + 1
+    → instants_of (if b then with_row traces row else with_trace traces name row)
+    ≡ instants_of traces + 1
 count_either true traces name row last = count_row traces row (some_last name traces last)
-count_either false traces name row last = sum_by_push (λ (t : Trace). length t.1) traces (name, row ∷ [])
+count_either false traces name row last =
+    sum_by_push (λ (t : Trace). length t.1) traces (name, row ∷ [])
 
 -- how far a reading has come: the records, and what was read of them
-pub record Progress (elements : Elements) (text : List ℕ) (header : Record) (traces : Traces) (reader : TextReader) (number : ℕ) : Type 0 where
+pub record Progress (elements : Elements) (text : List ℕ) (header : Record) (traces : Traces)
+    (reader : TextReader) (number : ℕ) : Type 0 where
   pub rows : List Record
   pub reaches : Reaches text (header ∷ rows) reader
   pub read : with_records elements (after_first header) [] rows ≡ Ok traces
@@ -100,8 +133,10 @@ pub record Progress (elements : Elements) (text : List ℕ) (header : Record) (t
   pub counted : number ≡ instants_of traces + 1
 
 -- a reader that has given no record yet
-pub reaches-none : (text : List ℕ) (reader : TextReader) → reader.trim ≡ trim.None → Ready reader → reader.config ≡ default_config
-    → source_of left reader ≡ Some (strip_bom text) → reader.state ≡ st.StartRecord → Reaches text [] reader
+pub reaches-none : (text : List ℕ) (reader : TextReader) → reader.trim ≡ trim.None → Ready reader
+    → reader.config ≡ default_config
+    → source_of left reader ≡ Some (strip_bom text) → reader.state ≡ st.StartRecord
+    → Reaches text [] reader
 unfolding Reached
 reaches-none text reader plain ready config source state = record {
   plain = plain;
@@ -113,26 +148,34 @@ reaches-none text reader plain ready config source state = record {
 }
 
 -- after the header
-pub progress-start : (elements : Elements) (text : List ℕ) (header : Record) (traces : Traces) (reader : TextReader)
-    → Reaches text (header ∷ []) reader → traces ≡ [] → Progress elements text header traces reader 1
+pub progress-start : (elements : Elements) (text : List ℕ) (header : Record) (traces : Traces)
+    (reader : TextReader)
+    → Reaches text (header ∷ []) reader → traces ≡ []
+    → Progress elements text header traces reader 1
 unfolding with_records
 progress-start elements text header traces reader at none = record {
   rows = [];
   reaches = at;
   read = ap Ok (sym none);
-  lawful = subst (λ ts. IsRecording record { signature = elements; traces = ts }) (sym none) (IsRecording-none elements);
+  lawful = subst (λ ts. IsRecording record { signature = elements; traces = ts }) (sym none)
+      (IsRecording-none elements);
   counted = ap (λ ts. instants_of ts + 1) (sym none);
 }
 
 -- after one more record
-pub progress-more : (elements : Elements) (text : List ℕ) (header : Record) (traces next : Traces) (a b : TextReader) (number : ℕ) (fields : Record)
-    → (at : Progress elements text header traces a number) → Reaches text ((header ∷ at.rows) ++ fields ∷ []) b
-    → with_record elements (after_first header) traces fields ≡ Ok next → Progress elements text header next b (number + 1)
+pub progress-more : (elements : Elements) (text : List ℕ) (header : Record) (traces next : Traces)
+    (a b : TextReader) (number : ℕ) (fields : Record)
+    → (at : Progress elements text header traces a number)
+    → Reaches text ((header ∷ at.rows) ++ fields ∷ []) b
+    → with_record elements (after_first header) traces fields ≡ Ok next
+    → Progress elements text header next b (number + 1)
 unfolding with_records
 progress-more elements text header traces next a b number fields at further good =
-    let reads : Reads elements (after_first header) traces next fields = reads_record elements (after_first header) traces next fields good in
+    let reads : Reads elements (after_first header) traces next fields =
+    reads_record elements (after_first header) traces next fields good in
     let one_more : instants_of next ≡ instants_of traces + 1 =
-    ap instants_of reads.is ∙ count_either (is_last reads.instant.0 traces) traces reads.instant.0 reads.instant.1 refl in
+    ap instants_of reads.is ∙ count_either (is_last reads.instant.0 traces) traces reads.instant.0
+    reads.instant.1 refl in
     record {
       rows = at.rows ++ fields ∷ [];
       reaches = further;
@@ -144,17 +187,23 @@ progress-more elements text header traces next a b number fields at further good
     }
 
 -- the reading of all records
-pub progress-end : (elements : Elements) (text : List ℕ) (header : Record) (traces : Traces) (a : TextReader) (number : ℕ)
-    → (at : Progress elements text header traces a number) → length text ≤ 1073741824 → is_header elements header ≡ true
+pub progress-end : (elements : Elements) (text : List ℕ) (header : Record) (traces : Traces)
+    (a : TextReader) (number : ℕ)
+    → (at : Progress elements text header traces a number) → length text ≤ 1073741824
+    → is_header elements header ≡ true
     → records_of text ≡ header ∷ at.rows → outcome elements text ≡ Ok traces
 progress-end elements text header traces a number at short headed all =
     outcome-records elements text (header ∷ at.rows) short all
     ∙ reading-rows elements header at.rows headed ∙ at.read
 
 -- a record with a fault
-pub progress-bad : (elements : Elements) (text : List ℕ) (header : Record) (traces : Traces) (a b : TextReader) (number n : ℕ) (fields : Record)
-    → (at : Progress elements text header traces a number) → length text ≤ 1073741824 → is_header elements header ≡ true
-    → Reaches text ((header ∷ at.rows) ++ fields ∷ []) b → with_record elements (after_first header) traces fields ≡ Err n → outcome elements text ≡ Err n
+pub progress-bad : (elements : Elements) (text : List ℕ) (header : Record) (traces : Traces)
+    (a b : TextReader) (number n : ℕ) (fields : Record)
+    → (at : Progress elements text header traces a number) → length text ≤ 1073741824
+    → is_header elements header ≡ true
+    → Reaches text ((header ∷ at.rows) ++ fields ∷ []) b
+    → with_record elements (after_first header) traces fields ≡ Err n
+    → outcome elements text ≡ Err n
 unfolding with_records
 progress-bad elements text header traces a b number n fields at short headed further bad =
     let rest = reaches-first text ((header ∷ at.rows) ++ fields ∷ []) b further in
@@ -166,53 +215,70 @@ progress-bad elements text header traces a b number n fields at short headed fur
     ∙ ap (then_read (λ t. with_records elements (after_first header) t rest.0)) bad
 
 -- a text without a header, or with another one
-pub no_header : (elements : Elements) (text : List ℕ) → length text ≤ 1073741824 → records_of text ≡ [] → outcome elements text ≡ Err 14
-no_header elements text short none = outcome-records elements text [] short none ∙ reading-none elements
+pub no_header : (elements : Elements) (text : List ℕ) → length text ≤ 1073741824
+    → records_of text ≡ [] → outcome elements text ≡ Err 14
+no_header elements text short none =
+    outcome-records elements text [] short none ∙ reading-none elements
 
-pub other_header : (elements : Elements) (text : List ℕ) (header : Record) (b : TextReader) → Reaches text (header ∷ []) b → length text ≤ 1073741824
+pub other_header : (elements : Elements) (text : List ℕ) (header : Record) (b : TextReader)
+    → Reaches text (header ∷ []) b → length text ≤ 1073741824
     → is_header elements header ≡ false → outcome elements text ≡ Err 14
 other_header elements text header b at short other =
     let rest = reaches-first text (header ∷ []) b at in
-    outcome-records elements text (header ∷ rest.0) short rest.1 ∙ reading-other elements header rest.0 other
+    outcome-records elements text (header ∷ rest.0) short rest.1
+    ∙ reading-other elements header rest.0 other
 
 -- a refusal by its number
 pub refused : (elements : Elements) (text : List ℕ) (n : ℕ) → outcome elements text ≡ Err n
-    → (n ≡ 0) ⊎ ((outcome elements text ≡ Err n) × ((traces : Traces) → ¬ (Spells elements text traces)))
+    → (n ≡ 0) ⊎ ((outcome elements text ≡ Err n)
+    × ((traces : Traces) → ¬ (Spells elements text traces)))
 refused elements text n is = inr (is, refused_text elements text n is)
 
 -- the only traces that a text spells
-pub only : (elements : Elements) (text : List ℕ) (traces : Traces) → outcome elements text ≡ Ok traces
+pub only : (elements : Elements) (text : List ℕ) (traces : Traces)
+    → outcome elements text ≡ Ok traces
     → (other : Traces) → Spells elements text other → other ≡ traces
 only elements text traces is other spells = cc (is, complete_text elements text other spells)
 
 -- what one read says
-pub goes : (text : List ℕ) (records : List Record) (a b : TextReader) (fields : Record) (found : Bool) → Reaches text records a
+pub goes : (text : List ℕ) (records : List Record) (a b : TextReader) (fields : Record)
+    (found : Bool) → Reaches text records a
     → ReadRecord left a b found fields → b.first ≡ true → Goes text records b fields found
 goes text records a b fields true at read first = reaches-more text records a b fields at read first
 goes text records a b fields false at read first = reaches-end text records a b fields at read
 
 -- the traces so far are lawful under the signature of their rows
-pub lawful_rows : (r : Recording) (elements : Elements) → r.signature ≡ elements → IsRecording record { signature = elements; traces = r.traces } → IsRecording r
-lawful_rows r elements same lawful = subst (λ e. IsRecording record { signature = e; traces = r.traces }) (sym same) lawful
+pub lawful_rows : (r : Recording) (elements : Elements) → r.signature ≡ elements
+    → IsRecording record { signature = elements; traces = r.traces } → IsRecording r
+lawful_rows r elements same lawful =
+    subst (λ e. IsRecording record { signature = e; traces = r.traces }) (sym same) lawful
 
 -- one more record by the table is one more record
-pub added : (r : Recording) (elements : Elements) (columns : Record) (table : List Column) (width : ℕ) (fields : Record) (outcome_is : Result Traces ℕ)
+pub added : (r : Recording) (elements : Elements) (columns : Record) (table : List Column)
+    (width : ℕ) (fields : Record) (outcome_is : Result Traces ℕ)
     → r.signature ≡ elements → table ≡ map (column_of columns) elements → width ≡ length columns
-    → record_by r.signature table width r.traces fields ≡ outcome_is → with_record elements columns r.traces fields ≡ outcome_is
+    → record_by r.signature table width r.traces fields ≡ outcome_is
+    → with_record elements columns r.traces fields ≡ outcome_is
 added r elements columns table width fields outcome_is same is wide by =
     sym (record_by-table elements columns table width r.traces fields is wide)
     ∙ ap (λ e. record_by e table width r.traces fields) (sym same) ∙ by
 
 -- a refusal of one more record is that of the text
-pub refused_record : (r : Recording) (elements : Elements) (text : List ℕ) (header : Record) (a b : TextReader) (number : ℕ) (fields : Record)
-    (table : List Column) (width : ℕ) (e : TraceError) → (at : Progress elements text header r.traces a number) → length text ≤ 1073741824
-    → is_header elements header ≡ true → Reaches text ((header ∷ at.rows) ++ fields ∷ []) b → r.signature ≡ elements
+pub refused_record : (r : Recording) (elements : Elements) (text : List ℕ) (header : Record)
+    (a b : TextReader) (number : ℕ) (fields : Record)
+    (table : List Column) (width : ℕ) (e : TraceError)
+    → (at : Progress elements text header r.traces a number) → length text ≤ 1073741824
+    → is_header elements header ≡ true → Reaches text ((header ∷ at.rows) ++ fields ∷ []) b
+    → r.signature ≡ elements
     → table ≡ map (column_of (after_first header)) elements → width ≡ length (after_first header)
     → IsRefusal (record_by r.signature table width r.traces fields) e → Refuses elements text e
-refused_record r elements text header a b number fields table width e at short headed further same is wide bad =
+refused_record r elements text header a b number fields table width e at short headed further same
+    is wide bad =
     ⊎_elim (λ (h : error_number e ≡ 0). inl h)
     (λ (h : record_by r.signature table width r.traces fields ≡ Err (error_number e)).
     refused elements text (error_number e)
-    (progress-bad elements text header r.traces a b number (error_number e) fields at short headed further
-    (added r elements (after_first header) table width fields (Err (error_number e)) same is wide h)))
+    (progress-bad elements text header r.traces a b number (error_number e) fields at short headed
+    further
+    (added r elements (after_first header) table width fields (Err (error_number e)) same is wide
+    h)))
     bad

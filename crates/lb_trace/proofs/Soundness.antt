@@ -21,19 +21,23 @@ use Rattle.lb_trace.specs.Spelling.{Instant, Record, SpellsInstant, instants, ro
 use Rattle.lb_trace.proofs.Names.{IsTraceName-from, and-true, and_true}
 
 -- what a choice says that gives a value
-some_if : {A : Type 0} (b : Bool) (x v : A) → (if b then Some x else None) ≡ Some v → (b ≡ true) × (v ≡ x)
+some_if : {A : Type 0} (b : Bool) (x v : A) → (if b then Some x else None) ≡ Some v
+    → (b ≡ true) × (v ≡ x)
 some_if true x v is = (refl, cc is)
 some_if false x v is = cc is
 
-ok_if : {A : Type 0} (b : Bool) (x v : A) (n : ℕ) → (if b then Ok x else Err n) ≡ Ok v → (b ≡ true) × (v ≡ x)
+ok_if : {A : Type 0} (b : Bool) (x v : A) (n : ℕ) → (if b then Ok x else Err n) ≡ Ok v
+    → (b ≡ true) × (v ≡ x)
 ok_if true x v n is = (refl, cc is)
 ok_if false x v n is = cc is
 
-and_then_some : {A B : Type 0} (f : A → Option B) (o : Option A) (v : B) → option_and_then f o ≡ Some v → (x : A) × (o ≡ Some x) × (f x ≡ Some v)
+and_then_some : {A B : Type 0} (f : A → Option B) (o : Option A) (v : B)
+    → option_and_then f o ≡ Some v → (x : A) × (o ≡ Some x) × (f x ≡ Some v)
 and_then_some f None v is = cc is
 and_then_some f (Some x) v is = (x, refl, is)
 
-map_some : {A B : Type 0} (f : A → B) (o : Option A) (v : B) → option_map f o ≡ Some v → (x : A) × (o ≡ Some x) × (f x ≡ v)
+map_some : {A B : Type 0} (f : A → B) (o : Option A) (v : B) → option_map f o ≡ Some v
+    → (x : A) × (o ≡ Some x) × (f x ≡ v)
 map_some f None v is = cc is
 map_some f (Some x) v is = (x, refl, cc is)
 
@@ -49,15 +53,19 @@ IsInt-signed false n v is =
     rw parts.1 (omega (arith, ints), omega (arith, ints))
 
 IsInt-either : (b : Bool) (negative positive : Option ℕ) (v : ℤ)
-    → (if b then option_and_then (signed true) negative else option_and_then (signed false) positive) ≡ Some v → IsInt v
-IsInt-either true negative positive v is = let n = and_then_some (signed true) negative v is in IsInt-signed true n.0 v n.2
-IsInt-either false negative positive v is = let n = and_then_some (signed false) positive v is in IsInt-signed false n.0 v n.2
+    → (if b then option_and_then (signed true) negative else option_and_then (signed false)
+    positive) ≡ Some v → IsInt v
+IsInt-either true negative positive v is =
+    let n = and_then_some (signed true) negative v is in IsInt-signed true n.0 v n.2
+IsInt-either false negative positive v is =
+    let n = and_then_some (signed false) positive v is in IsInt-signed false n.0 v n.2
 
 IsInt-cell : (cell : List ℕ) (v : ℤ) → int_of cell ≡ Some v → IsInt v
 IsInt-cell [] v is = cc is
 IsInt-cell (b ∷ rest) v is = IsInt-either (b == 45) (natural_of rest) (natural_of (b ∷ rest)) v is
 
-IsCell-either : (a b : Bool) (v : ℤ) → (if a then Some (pos 1) else if b then Some (pos 0) else None) ≡ Some v → IsCell kind.Bool v
+IsCell-either : (a b : Bool) (v : ℤ)
+    → (if a then Some (pos 1) else if b then Some (pos 0) else None) ≡ Some v → IsCell kind.Bool v
 IsCell-either true b v is = inr (cc is)
 IsCell-either false true v is = inl (cc is)
 IsCell-either false false v is = cc is
@@ -66,17 +74,23 @@ IsCell-either false false v is = cc is
 IsCell-value : (k : Kind) (cell : List ℕ) (v : ℤ) → cell_value k cell ≡ Some v → IsCell k v
 IsCell-value kind.Int cell v is = IsInt-cell cell v is
 IsCell-value kind.Bool cell v is =
-    IsCell-either (bytes_eq cell (codes "1") || bytes_eq cell (codes "true")) (bytes_eq cell (codes "0") || bytes_eq cell (codes "false")) v is
+    IsCell-either (bytes_eq cell (codes "1") || bytes_eq cell (codes "true"))
+    (bytes_eq cell (codes "0") || bytes_eq cell (codes "false")) v is
 
 -- a row that cells spell follows the signature
-pub IsRow-cells : (elements : Elements) (columns cells : Record) (row : Row) → row_of elements columns cells ≡ Some row → IsRow elements row
+pub IsRow-cells : (elements : Elements) (columns cells : Record) (row : Row)
+    → row_of elements columns cells ≡ Some row → IsRow elements row
 IsRow-cells [] columns cells [] is = tt
 IsRow-cells [] columns cells (v ∷ row) is = cc is
 IsRow-cells (e ∷ more) columns cells row is =
-    let first = and_then_some (λ v. option_map (λ rest. v ∷ rest) (row_of more columns cells)) (cell_value e.1 (under columns cells e.0)) row is in
+    let first = and_then_some (λ v. option_map (λ rest. v ∷ rest) (row_of more columns cells))
+    (cell_value e.1 (under columns cells e.0)) row is in
     let rest = map_some (λ r. first.0 ∷ r) (row_of more columns cells) row first.2 in
-    subst (IsRow (e ∷ more)) rest.2
-    (IsCell-value e.1 (under columns cells e.0) first.0 first.1, IsRow-cells more columns cells rest.0 rest.1)
+    subst (IsRow (e ∷ more)) rest.2 (
+      IsCell-value e.1 (under columns cells e.0) first.0 first.1,
+      IsRow-cells more columns cells
+          rest.0 rest.1,
+    )
 
 -- all instants, with one more row of the last trace
 instants-row : (traces : Traces) (name : List ℕ) (row : Row) → is_last name traces ≡ true
@@ -95,9 +109,11 @@ instants-row (t ∷ u ∷ more) name row last =
     ∙ sym (append_assoc (map instant t.1) (instants (u ∷ more)) ((name, row) ∷ []))
 
 instants-either : (b : Bool) (traces : Traces) (name : List ℕ) (row : Row) → is_last name traces ≡ b
-    → instants (if b then with_row traces row else with_trace traces name row) ≡ instants traces ++ (name, row) ∷ []
+    → instants (if b then with_row traces row else with_trace traces name row) ≡ instants traces
+    ++ (name, row) ∷ []
 instants-either true traces name row last = instants-row traces name row last
-instants-either false traces name row last = flat_map-append (λ (t : Trace). map (λ (r : Row). (t.0, r)) t.1) traces ((name, row ∷ []) ∷ [])
+instants-either false traces name row last =
+    flat_map-append (λ (t : Trace). map (λ (r : Row). (t.0, r)) t.1) traces ((name, row ∷ []) ∷ [])
 
 -- all instants, with one more
 pub instants-push : (traces : Traces) (name : List ℕ) (row : Row)
@@ -105,25 +121,30 @@ pub instants-push : (traces : Traces) (name : List ℕ) (row : Row)
 instants-push traces name row = instants-either (is_last name traces) traces name row refl
 
 -- what a good record says
-pub record Reads (elements : Elements) (columns : Record) (traces next : Traces) (r : Record) : Type 0 where
+pub record Reads (elements : Elements) (columns : Record) (traces next : Traces) (r : Record) : Type
+    0 where
   pub instant : Instant
   pub spells : SpellsInstant elements columns r instant
   pub stays : comes_back instant.0 traces ≡ false
   pub room : has_room elements instant.0 traces ≡ true
   pub is : next ≡ with_instant instant.0 instant.1 traces
 
-peel : (a b d : Bool) (x : Result Traces ℕ) (next : Traces) → (if not a then Err 15 else if not b || d then Err 17 else x) ≡ Ok next
+peel : (a b d : Bool) (x : Result Traces ℕ) (next : Traces)
+    → (if not a then Err 15 else if not b || d then Err 17 else x) ≡ Ok next
     → (a ≡ true) × (b ≡ true) × (d ≡ false) × (x ≡ Ok next)
 peel true true false x next is = (refl, refl, refl, is)
 peel true true true x next is = cc is
 peel true false d x next is = cc is
 peel false b d x next is = cc is
 
-cells_ok : (elements : Elements) (name : List ℕ) (traces next : Traces) (o : Option Row) → with_cells elements name traces o ≡ Ok next
-    → (row : Row) × (o ≡ Some row) × (has_room elements name traces ≡ true) × (next ≡ with_instant name row traces)
+cells_ok : (elements : Elements) (name : List ℕ) (traces next : Traces) (o : Option Row)
+    → with_cells elements name traces o ≡ Ok next
+    → (row : Row) × (o ≡ Some row) × (has_room elements name traces ≡ true)
+    × (next ≡ with_instant name row traces)
 cells_ok elements name traces next None is = cc is
 cells_ok elements name traces next (Some row) is =
-    let parts = ok_if (has_room elements name traces) (with_instant name row traces) next 18 is in (row, refl, parts.0, parts.1)
+    let parts = ok_if (has_room elements name traces) (with_instant name row traces) next 18 is in
+    (row, refl, parts.0, parts.1)
 
 pub reads_record : (elements : Elements) (columns : Record) (traces next : Traces) (r : Record)
     → with_record elements columns traces r ≡ Ok next → Reads elements columns traces next r
@@ -134,80 +155,112 @@ reads_record elements columns traces next (name ∷ cells) is =
     let row = cells_ok elements name traces next (row_of elements columns cells) parts.3 in
     record {
       instant = (name, row.0);
-      spells = (eqb-true (length cells) (length columns) parts.0, refl, IsTraceName-from name parts.1, row.1);
+      spells = (
+        eqb-true (length cells) (length columns) parts.0,
+        refl,
+        IsTraceName-from name
+            parts.1,
+        row.1,
+      );
       stays = parts.2;
       room = row.2;
       is = row.3;
     }
 
 -- the name and the row of an instant that is spelled
-spelled_name : (elements : Elements) (columns : Record) (r : Record) (instant : Instant) → SpellsInstant elements columns r instant → IsTraceName instant.0
+spelled_name : (elements : Elements) (columns : Record) (r : Record) (instant : Instant)
+    → SpellsInstant elements columns r instant → IsTraceName instant.0
 spelled_name elements columns [] instant spells = absurd spells
 spelled_name elements columns (name ∷ cells) instant spells = subst IsTraceName spells.1 spells.2
 
-spelled_row : (elements : Elements) (columns : Record) (r : Record) (instant : Instant) → SpellsInstant elements columns r instant → IsRow elements instant.1
+spelled_row : (elements : Elements) (columns : Record) (r : Record) (instant : Instant)
+    → SpellsInstant elements columns r instant → IsRow elements instant.1
 spelled_row elements columns [] instant spells = absurd spells
-spelled_row elements columns (name ∷ cells) instant spells = IsRow-cells elements columns cells instant.1 spells.3
+spelled_row elements columns (name ∷ cells) instant spells =
+    IsRow-cells elements columns cells instant.1 spells.3
 
 -- a name that no trace has
-pub none_contains : (name : List ℕ) (traces : Traces) → list_any (λ t. bytes_eq name t.0) traces ≡ false → ¬ (Contains (trace_names traces) name)
+pub none_contains : (name : List ℕ) (traces : Traces)
+    → list_any (λ t. bytes_eq name t.0) traces ≡ false → ¬ (Contains (trace_names traces) name)
 none_contains name traces none has =
     let name_of : Trace → List ℕ = λ t. t.0 in
     let below : has.0 < length traces = omega (arith, has.1, length-map traces name_of) in
-    let same : (get_or traces has.0 (name, [])).0 ≡ name = sym (get_or-map name_of traces has.0 (name, []) name below) ∙ has.2 in
+    let same : (get_or traces has.0 (name, [])).0 ≡ name =
+    sym (get_or-map name_of traces has.0 (name, []) name below) ∙ has.2 in
     let some : list_any (λ (t : Trace). bytes_eq name t.0) traces ≡ true =
-    list_any_at (λ (t : Trace). bytes_eq name t.0) traces has.0 (name, []) below ((bytes_eq-Decides name (get_or traces has.0 (name, [])).0).1 (sym same)) in
+    list_any_at (λ (t : Trace). bytes_eq name t.0) traces has.0 (name, []) below
+    ((bytes_eq-Decides name (get_or traces has.0 (name, [])).0).1 (sym same)) in
     cc (none, some)
 
 -- what does not come back and is not the last is not there at all
-pub comes_back-other : (name : List ℕ) (traces : Traces) → is_last name traces ≡ false → comes_back name traces ≡ list_any (λ t. bytes_eq name t.0) traces
-comes_back-other name traces other = rw other (and-true (list_any (λ (t : Trace). bytes_eq name t.0) traces))
+pub comes_back-other : (name : List ℕ) (traces : Traces) → is_last name traces ≡ false
+    → comes_back name traces ≡ list_any (λ t. bytes_eq name t.0) traces
+comes_back-other name traces other =
+    rw other (and-true (list_any (λ (t : Trace). bytes_eq name t.0) traces))
 
-new_name : (name : List ℕ) (traces : Traces) → comes_back name traces ≡ false → is_last name traces ≡ false → ¬ (Contains (trace_names traces) name)
-new_name name traces stays other = none_contains name traces (sym (comes_back-other name traces other) ∙ stays)
+new_name : (name : List ℕ) (traces : Traces) → comes_back name traces ≡ false
+    → is_last name traces ≡ false → ¬ (Contains (trace_names traces) name)
+new_name name traces stays other =
+    none_contains name traces (sym (comes_back-other name traces other) ∙ stays)
 
 pub some_last : (name : List ℕ) (traces : Traces) → is_last name traces ≡ true → 0 < length traces
 some_last name [] last = cc last
 some_last name (t ∷ more) last = omega arith
 
-IsRecording-either : (b : Bool) (elements : Elements) (traces : Traces) (instant : Instant) → is_last instant.0 traces ≡ b
-    → IsRecording record { signature = elements; traces = traces } → IsTraceName instant.0 → IsRow elements instant.1
+IsRecording-either : (b : Bool) (elements : Elements) (traces : Traces) (instant : Instant)
+    → is_last instant.0 traces ≡ b
+    → IsRecording record { signature = elements; traces = traces } → IsTraceName instant.0
+    → IsRow elements instant.1
     → comes_back instant.0 traces ≡ false
-    → ((if b then nat_lt (length (last_rows traces)) 1000000 else nat_lt (length traces) 1000000) ≡ true)
+    → ((if b then nat_lt (length (last_rows traces)) 1000000 else nat_lt (length traces) 1000000)
+    ≡ true)
     → HasRoom record { signature = elements; traces = traces }
-    → IsRecording record { signature = elements; traces = if b then with_row traces instant.1 else with_trace traces instant.0 instant.1 }
+    → IsRecording record {
+      signature = elements;
+      traces =
+          if b then with_row traces instant.1 else with_trace traces instant.0 instant.1;
+    }
 IsRecording-either true elements traces instant last lawful named follows stays count room =
-    IsRecording-row elements traces instant.1 lawful (some_last instant.0 traces last) follows (ltb-true (length (last_rows traces)) 1000000 count) room
+    IsRecording-row elements traces instant.1 lawful (some_last instant.0 traces last) follows
+    (ltb-true (length (last_rows traces)) 1000000 count) room
 IsRecording-either false elements traces instant last lawful named follows stays count room =
-    IsRecording-trace record { signature = elements; traces = traces } instant.0 instant.1 lawful named (new_name instant.0 traces stays last) follows
+    IsRecording-trace record { signature = elements; traces = traces } instant.0 instant.1 lawful
+    named (new_name instant.0 traces stays last) follows
     (ltb-true (length traces) 1000000 count) room
 
-pub IsRecording-instant : (elements : Elements) (columns : Record) (traces next : Traces) (r : Record)
-    → IsRecording record { signature = elements; traces = traces } → Reads elements columns traces next r
+pub IsRecording-instant : (elements : Elements) (columns : Record) (traces next : Traces)
+    (r : Record)
+    → IsRecording record { signature = elements; traces = traces }
+    → Reads elements columns traces next r
     → IsRecording record { signature = elements; traces = next }
 IsRecording-instant elements columns traces next r lawful reads =
     let name : List ℕ = reads.instant.0 in
-    let parts = and_true (if is_last name traces then nat_lt (length (last_rows traces)) 1000000 else nat_lt (length traces) 1000000)
+    let parts = and_true (if is_last name traces then nat_lt (length (last_rows traces)) 1000000
+    else nat_lt (length traces) 1000000)
     (nat_le ((instants_of traces + 1) * cells_of_instant elements) 67108864) reads.room in
     subst (λ ts. IsRecording record { signature = elements; traces = ts }) (sym reads.is)
-    (IsRecording-either (is_last name traces) elements traces reads.instant refl lawful (spelled_name elements columns r reads.instant reads.spells)
+    (IsRecording-either (is_last name traces) elements traces reads.instant refl lawful
+    (spelled_name elements columns r reads.instant reads.spells)
     (spelled_row elements columns r reads.instant reads.spells) reads.stays parts.0
     (leb-true ((instants_of traces + 1) * cells_of_instant elements) 67108864 parts.1))
 
 -- what a reading of records says
-pub record Sound (elements : Elements) (columns : Record) (before after : Traces) (records : List Record) : Type 0 where
+pub record Sound (elements : Elements) (columns : Record) (before after : Traces)
+    (records : List Record) : Type 0 where
   pub lawful : IsRecording record { signature = elements; traces = after }
   pub more : List Instant
   pub is : instants after ≡ instants before ++ more
   pub spelled : AllZip (SpellsInstant elements columns) records more
 
-then_ok : (f : Traces → Result Traces ℕ) (x : Result Traces ℕ) (after : Traces) → then_read f x ≡ Ok after
+then_ok : (f : Traces → Result Traces ℕ) (x : Result Traces ℕ) (after : Traces)
+    → then_read f x ≡ Ok after
     → (next : Traces) × (x ≡ Ok next) × (f next ≡ Ok after)
 then_ok f (Ok next) after is = (next, refl, is)
 then_ok f (Err n) after is = cc is
 
 pub sound : (elements : Elements) (columns : Record) (before after : Traces) (records : List Record)
-    → IsRecording record { signature = elements; traces = before } → with_records elements columns before records ≡ Ok after
+    → IsRecording record { signature = elements; traces = before }
+    → with_records elements columns before records ≡ Ok after
     → Sound elements columns before after records
 unfolding with_records
 sound elements columns before after [] lawful is =
@@ -219,10 +272,13 @@ sound elements columns before after [] lawful is =
       spelled = tt;
     }
 sound elements columns before after (r ∷ records) lawful is =
-    let first = then_ok (λ further. with_records elements columns further records) (with_record elements columns before r) after is in
-    let reads : Reads elements columns before first.0 r = reads_record elements columns before first.0 r first.1 in
+    let first = then_ok (λ further. with_records elements columns further records)
+    (with_record elements columns before r) after is in
+    let reads : Reads elements columns before first.0 r =
+    reads_record elements columns before first.0 r first.1 in
     let rest : Sound elements columns first.0 after records =
-    sound elements columns first.0 after records (IsRecording-instant elements columns before first.0 r lawful reads) first.2 in
+    sound elements columns first.0 after records
+    (IsRecording-instant elements columns before first.0 r lawful reads) first.2 in
     record {
       lawful = rest.lawful;
       more = reads.instant ∷ rest.more;

@@ -6,7 +6,8 @@ use Rattle.lb_report.specs.Bench.{IsRefused}
 use Rattle.lb_report.specs.declared.error.BenchError.{BenchError}
 use Rattle.lb_report.proofs.bench.accept.Goals as goal
 
-of_every : {A : Type 0} (r : Result A BenchError) (Q : Text → BenchError → Type 0) → ((t : Text) → IfErr r (Q t)) → IfErr r (λ e. (t : Text) → Q t e)
+of_every : {A : Type 0} (r : Result A BenchError) (Q : Text → BenchError → Type 0)
+    → ((t : Text) → IfErr r (Q t)) → IfErr r (λ e. (t : Text) → Q t e)
 of_every (Ok x) Q h = tt
 of_every (Err e) Q h = h
 

@@ -18,8 +18,10 @@ pub returns-in_err-elab-clause-err : goal.returns-in_err-elab-clause-err
 returns-in_err-elab-clause-err c =
     let p = err_from_is_err_and c.from_residual.result c.from_residual.ensures.1 in
     let tree = view_source c.args.tree.now in
-    let same = same_program tree c.args.options.now _ _ c.as_str.ensures.value c.observer_name.ensures in
-    let refused = subst (λ (P : Program). Elaborates P (Err c.in_err-elab.field-0.0)) same c.in_err-elab.ensures in
+    let same = same_program tree c.args.options.now _ _ c.as_str.ensures.value
+    c.observer_name.ensures in
+    let refused = subst (λ (P : Program). Elaborates P (Err c.in_err-elab.field-0.0)) same
+    c.in_err-elab.ensures in
     λ source traces only. rw (p.1, p.2) (record { tree = tree; spelled = only; holds = refused })
 
 pub returns-in_err-checked-clause-err : goal.returns-in_err-checked-clause-err
@@ -27,10 +29,14 @@ returns-in_err-checked-clause-err c =
     let residual = c.from_residual-in_err-checked in
     let p = err_from_is_err_and residual.result residual.ensures.1 in
     let tree = view_source c.args.tree.now in
-    let same = same_program tree c.args.options.now _ _ c.as_str.ensures.value c.observer_name.ensures in
-    let of : elaborated_program c.in_ok-elab.elab ≡ program_of tree c.args.options.now = c.in_ok-elab.ensures ∙ same in
-    let accepted = subst (λ (P : Program). static_refusal P ≡ None) of c.in_err-checked.ensures.lawful.accepted in
-    let refused = subst (λ (P : Program). IsAnswer P (Err c.in_err-checked.field-0.0)) of c.in_err-checked.ensures.answer in
+    let same = same_program tree c.args.options.now _ _ c.as_str.ensures.value
+    c.observer_name.ensures in
+    let of : elaborated_program c.in_ok-elab.elab ≡ program_of tree c.args.options.now =
+    c.in_ok-elab.ensures ∙ same in
+    let accepted = subst (λ (P : Program). static_refusal P ≡ None) of
+    c.in_err-checked.ensures.lawful.accepted in
+    let refused = subst (λ (P : Program). IsAnswer P (Err c.in_err-checked.field-0.0)) of
+    c.in_err-checked.ensures.answer in
     λ source traces only. rw (p.1, p.2)
     (record { tree = tree; spelled = only; holds = (accepted, refused) })
 
@@ -40,13 +46,16 @@ returns-in_err-flat-clause-err c =
     let p = err_from_is_err_and residual.result residual.ensures.1 in
     let tree = view_source c.args.tree.now in
     let P = program_of tree c.args.options.now in
-    let same = same_program tree c.args.options.now _ _ c.as_str.ensures.value c.observer_name.ensures in
-    let of : elaborated_program c.in_ok-checked.checked.elab ≡ P = ap elaborated_program c.in_ok-checked.ensures.same ∙ c.in_ok-elab.ensures ∙ same in
+    let same = same_program tree c.args.options.now _ _ c.as_str.ensures.value
+    c.observer_name.ensures in
+    let of : elaborated_program c.in_ok-checked.checked.elab ≡ P =
+    ap elaborated_program c.in_ok-checked.ensures.same ∙ c.in_ok-elab.ensures ∙ same in
     let law = c.into_signature-signature.ensures.lawful in
     let accepted = subst (λ (P : Program). static_refusal P ≡ None) of law.elaborated.accepted in
     let checked = subst (λ (P : Program). check_refusal P ≡ None) of law.accepted in
     let refused = too_large P c.in_err-flat.field-0.0 accepted checked
-    (subst (λ (P : Program). IsExpansionAnswer P (Err c.in_err-flat.field-0.0)) of c.in_err-flat.ensures) in
+    (subst (λ (P : Program). IsExpansionAnswer P (Err c.in_err-flat.field-0.0)) of
+    c.in_err-flat.ensures) in
     λ source traces only. rw (p.1, p.2) (record { tree = tree; spelled = only; holds = refused })
 
 pub returns-in_err-ordered-clause-err : goal.returns-in_err-ordered-clause-err
@@ -55,13 +64,17 @@ returns-in_err-ordered-clause-err c =
     let p = err_from_is_err_and residual.result residual.ensures.1 in
     let tree = view_source c.args.tree.now in
     let P = program_of tree c.args.options.now in
-    let same = same_program tree c.args.options.now _ _ c.as_str.ensures.value c.observer_name.ensures in
-    let of : elaborated_program c.in_ok-checked.checked.elab ≡ P = ap elaborated_program c.in_ok-checked.ensures.same ∙ c.in_ok-elab.ensures ∙ same in
+    let same = same_program tree c.args.options.now _ _ c.as_str.ensures.value
+    c.observer_name.ensures in
+    let of : elaborated_program c.in_ok-checked.checked.elab ≡ P =
+    ap elaborated_program c.in_ok-checked.ensures.same ∙ c.in_ok-elab.ensures ∙ same in
     let law = c.into_signature-signature.ensures.lawful in
     let accepted = subst (λ (P : Program). static_refusal P ≡ None) of law.elaborated.accepted in
     let checked = subst (λ (P : Program). check_refusal P ≡ None) of law.accepted in
-    let answer = subst (λ (P : Program). IsExpansionAnswer P (Ok c.in_ok-flat.field-0)) of c.in_ok-flat.ensures in
-    let refused = is_cycle P (flat.program_of c.in_ok-flat.field-0.program) c.in_err-ordered.field-0.0 accepted checked answer.0 answer.1
+    let answer = subst (λ (P : Program). IsExpansionAnswer P (Ok c.in_ok-flat.field-0)) of
+    c.in_ok-flat.ensures in
+    let refused = is_cycle P (flat.program_of c.in_ok-flat.field-0.program)
+    c.in_err-ordered.field-0.0 accepted checked answer.0 answer.1
     (λ e. c.in_err-ordered.ensures.cycle (ap Err e)) in
     λ source traces only. rw (p.1, p.2) (record { tree = tree; spelled = only; holds = refused })
 
@@ -69,12 +82,22 @@ pub returns-clause-ok : goal.returns-clause-ok
 returns-clause-ok c =
     let tree = view_source c.args.tree.now in
     let P = program_of tree c.args.options.now in
-    let same = same_program tree c.args.options.now _ _ c.as_str.ensures.value c.observer_name.ensures in
-    let of : elaborated_program c.in_ok-checked.checked.elab ≡ P = ap elaborated_program c.in_ok-checked.ensures.same ∙ c.in_ok-elab.ensures ∙ same in
+    let same = same_program tree c.args.options.now _ _ c.as_str.ensures.value
+    c.observer_name.ensures in
+    let of : elaborated_program c.in_ok-checked.checked.elab ≡ P =
+    ap elaborated_program c.in_ok-checked.ensures.same ∙ c.in_ok-elab.ensures ∙ same in
     let law = c.into_signature-signature.ensures.lawful in
-    let here = subst (λ (P : Program). IsElaborated P c.in_ok-checked.checked.elab) of law.elaborated in
+    let here = subst (λ (P : Program). IsElaborated P c.in_ok-checked.checked.elab) of
+    law.elaborated in
     let checked = subst (λ (P : Program). check_refusal P ≡ None) of law.accepted in
-    let answer = subst (λ (P : Program). IsExpansionAnswer P (Ok c.in_ok-flat.field-0)) of c.in_ok-flat.ensures in
-    let found = accepted_is P (flat.program_of c.in_ok-flat.field-0.program) (flat.program_of c.in_ok-ordered.ordered.program) here.accepted checked answer.0 answer.1
+    let answer = subst (λ (P : Program). IsExpansionAnswer P (Ok c.in_ok-flat.field-0)) of
+    c.in_ok-flat.ensures in
+    let found = accepted_is P (flat.program_of c.in_ok-flat.field-0.program)
+    (flat.program_of c.in_ok-ordered.ordered.program) here.accepted checked answer.0 answer.1
     c.in_ok-ordered.ensures.order in
-    record { accepted = found.0; inputs = here.inputs ∙ sym c.into_signature-signature.ensures.value; equations = found.1 }
+    record {
+      accepted = found.0;
+      inputs =
+          here.inputs ∙ sym c.into_signature-signature.ensures.value;
+      equations = found.1;
+    }

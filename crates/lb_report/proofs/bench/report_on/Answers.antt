@@ -39,7 +39,8 @@ returns-clause-report g c = λ source options found.
             c.in_ok-verdicts.verdicts.items found.holds.equations (sym same)
             c.in_ok-verdicts.ensures;
         reported =
-            subst (λ vs. IsReport (trace_names traces) vs c.in_ok-new.field-0) c.as_slice.ensures.value
+            subst (λ vs. IsReport (trace_names traces) vs c.in_ok-new.field-0)
+            c.as_slice.ensures.value
             c.in_ok-new.ensures;
       };
     }

@@ -10,7 +10,16 @@ below n i small at =
     let power : 10 ^ i ≤ 10 ^ 17 = pow-le-pow_right some place in omega arith
 
 pub overflow_mul-n : goal.overflow_mul-n
-overflow_mul-n c = omega (arith, below c.loop-digit.n c.loop-digit.digit-index c.loop-digit.invariant.small (omega arith))
+overflow_mul-n c = omega (
+  arith,
+  below c.loop-digit.n c.loop-digit.digit-index c.loop-digit.invariant.small
+      (omega arith),
+)
 
 pub overflow_add-n : goal.overflow_add-n
-overflow_add-n c = omega (arith, c.from.ensures, below c.loop-digit.n c.loop-digit.digit-index c.loop-digit.invariant.small (omega arith))
+overflow_add-n c = omega (
+  arith,
+  c.from.ensures,
+  below c.loop-digit.n c.loop-digit.digit-index
+      c.loop-digit.invariant.small (omega arith),
+)

@@ -11,6 +11,8 @@ use Rattle.lb_trace.proofs.header.has_no_other.Goals as goal
 pub returns-then-not-is_named : goal.returns-then-not-is_named
 returns-then-not-is_named c =
     let columns : Record = after_first (fields_of c.args.header.now) in
-    let is_named : List ℕ → Bool = λ column. list_any (bytes_eq column) (names_of c.args.signature.now) in
+    let is_named : List ℕ → Bool =
+    λ column. list_any (bytes_eq column) (names_of c.args.signature.now) in
     let below : c.loop-i.i < length columns = omega (arith, c.width-i-end.ensures) in
-    sym (list_all_at is_named columns c.loop-i.i [] below (ap is_named (sym c.cell.ensures) ∙ sym c.is_named.ensures ∙ c.if-not-is_named.true))
+    sym (list_all_at is_named columns c.loop-i.i [] below
+    (ap is_named (sym c.cell.ensures) ∙ sym c.is_named.ensures ∙ c.if-not-is_named.true))

@@ -10,27 +10,35 @@ use Rattle.lb_trace.proofs.Outcomes.{outcome-long, sound_text}
 use Rattle.lb_trace.proofs.Readings.{added, lawful_rows, no_header, only, other_header, progress-end, progress-more, progress-start, refused, refused_record, rows_follow}
 use Rattle.lb_trace.proofs.read.read_records.Goals as goal
 
-pub returns-then-text-gt-MOST_BYTES-clause-refused : goal.returns-then-text-gt-MOST_BYTES-clause-refused
+pub returns-then-text-gt-MOST_BYTES-clause-refused :
+    goal.returns-then-text-gt-MOST_BYTES-clause-refused
 returns-then-text-gt-MOST_BYTES-clause-refused c =
-    refused c.args.signature.now c.args.text.now 18 (outcome-long c.args.signature.now c.args.text.now c.if-text-gt-MOST_BYTES.true)
+    refused c.args.signature.now c.args.text.now 18
+    (outcome-long c.args.signature.now c.args.text.now c.if-text-gt-MOST_BYTES.true)
 
 pub returns-then-not-branch-clause-refused : goal.returns-then-not-branch-clause-refused
 returns-then-not-branch-clause-refused c =
-    let none = rw c.if-not-branch.true at (c.in_ok-next.ensures.goes c.args.text.now [] c.requires) in
-    refused c.args.signature.now c.args.text.now 14 (no_header c.args.signature.now c.args.text.now c.if-text-gt-MOST_BYTES.false none)
+    let none = rw c.if-not-branch.true at
+    (c.in_ok-next.ensures.goes c.args.text.now [] c.requires) in
+    refused c.args.signature.now c.args.text.now 14
+    (no_header c.args.signature.now c.args.text.now c.if-text-gt-MOST_BYTES.false none)
 
 pub returns-in_default-header-clause-refused : goal.returns-in_default-header-clause-refused
 returns-in_default-header-clause-refused c =
-    let at = rw c.if-not-branch.false at (c.in_ok-next.ensures.goes c.args.text.now [] c.requires) in
+    let at = rw c.if-not-branch.false at
+    (c.in_ok-next.ensures.goes c.args.text.now [] c.requires) in
     let other = rw c.in_default-header.is at c.in-Ok.ensures in
     refused c.args.signature.now c.args.text.now 14
-    (other_header c.args.signature.now c.args.text.now (fields_of c.next.new.entry) c.next.new.reader at c.if-text-gt-MOST_BYTES.false other)
+    (other_header c.args.signature.now c.args.text.now (fields_of c.next.new.entry)
+    c.next.new.reader at c.if-text-gt-MOST_BYTES.false other)
 
 pub loop-number-init : goal.loop-number-init
 loop-number-init c =
-    let at = rw c.if-not-branch.false at (c.in_ok-next.ensures.goes c.args.text.now [] c.requires) in
+    let at = rw c.if-not-branch.false at
+    (c.in_ok-next.ensures.goes c.args.text.now [] c.requires) in
     record {
-      progress = progress-start c.args.signature.now c.args.text.now (fields_of c.next.new.entry) c.in-Ok-new.recorder.rows.traces c.next.new.reader at
+      progress = progress-start c.args.signature.now c.args.text.now (fields_of c.next.new.entry)
+          c.in-Ok-new.recorder.rows.traces c.next.new.reader at
           (ap (λ (r : Recording). r.traces) c.in-Ok-new.ensures.rows);
       follows = ap (λ (r : Recording). r.signature) c.in-Ok-new.ensures.rows;
       known = c.in-Ok-new.ensures.names;
@@ -38,52 +46,81 @@ loop-number-init c =
 
 pub returns-then-not-branch-2-clause-spelled : goal.returns-then-not-branch-2-clause-spelled
 returns-then-not-branch-2-clause-spelled c =
-    let all = rw c.if-not-branch-2.true at (c.in_ok-next-2.ensures.goes c.args.text.now (fields_of c.next.new.entry ∷ c.loop-number.invariant.progress.rows) c.loop-number.invariant.progress.reaches) in
+    let all = rw c.if-not-branch-2.true at
+    (c.in_ok-next-2.ensures.goes c.args.text.now
+    (fields_of c.next.new.entry ∷ c.loop-number.invariant.progress.rows)
+    c.loop-number.invariant.progress.reaches) in
     let headed = rw c.in-Some.is at c.in-Ok.ensures in
-    let read : outcome c.args.signature.now c.args.text.now ≡ Ok c.loop-number.recorder.rows.traces =
-    progress-end c.args.signature.now c.args.text.now (fields_of c.next.new.entry) c.loop-number.recorder.rows.traces c.loop-number.reader c.loop-number.number
+    let read : outcome c.args.signature.now c.args.text.now
+    ≡ Ok c.loop-number.recorder.rows.traces =
+    progress-end c.args.signature.now c.args.text.now (fields_of c.next.new.entry)
+    c.loop-number.recorder.rows.traces c.loop-number.reader c.loop-number.number
     c.loop-number.invariant.progress c.if-text-gt-MOST_BYTES.false headed.0 all in
-    sound_text c.args.signature.now c.args.text.now c.into_set.result.traces (read ∙ ap (λ (r : Recording). Ok r.traces) (sym c.into_set.ensures))
+    sound_text c.args.signature.now c.args.text.now c.into_set.result.traces
+    (read ∙ ap (λ (r : Recording). Ok r.traces) (sym c.into_set.ensures))
 
 pub returns-then-not-branch-2-clause-only : goal.returns-then-not-branch-2-clause-only
 returns-then-not-branch-2-clause-only c =
-    let all = rw c.if-not-branch-2.true at (c.in_ok-next-2.ensures.goes c.args.text.now (fields_of c.next.new.entry ∷ c.loop-number.invariant.progress.rows) c.loop-number.invariant.progress.reaches) in
+    let all = rw c.if-not-branch-2.true at
+    (c.in_ok-next-2.ensures.goes c.args.text.now
+    (fields_of c.next.new.entry ∷ c.loop-number.invariant.progress.rows)
+    c.loop-number.invariant.progress.reaches) in
     let headed = rw c.in-Some.is at c.in-Ok.ensures in
-    let read : outcome c.args.signature.now c.args.text.now ≡ Ok c.loop-number.recorder.rows.traces =
-    progress-end c.args.signature.now c.args.text.now (fields_of c.next.new.entry) c.loop-number.recorder.rows.traces c.loop-number.reader c.loop-number.number
+    let read : outcome c.args.signature.now c.args.text.now
+    ≡ Ok c.loop-number.recorder.rows.traces =
+    progress-end c.args.signature.now c.args.text.now (fields_of c.next.new.entry)
+    c.loop-number.recorder.rows.traces c.loop-number.reader c.loop-number.number
     c.loop-number.invariant.progress c.if-text-gt-MOST_BYTES.false headed.0 all in
-    only c.args.signature.now c.args.text.now c.into_set.result.traces (read ∙ ap (λ (r : Recording). Ok r.traces) (sym c.into_set.ensures))
+    only c.args.signature.now c.args.text.now c.into_set.result.traces
+    (read ∙ ap (λ (r : Recording). Ok r.traces) (sym c.into_set.ensures))
 
 pub add-requires-clause-lawful : goal.add-requires-clause-lawful
 add-requires-clause-lawful c =
-    lawful_rows c.loop-number.recorder.rows c.args.signature.now c.loop-number.invariant.follows c.loop-number.invariant.progress.lawful
+    lawful_rows c.loop-number.recorder.rows c.args.signature.now c.loop-number.invariant.follows
+    c.loop-number.invariant.progress.lawful
 
 pub add-requires-clause-kinds : goal.add-requires-clause-kinds
 add-requires-clause-kinds c =
     let headed = rw c.in-Some.is at c.in-Ok.ensures in
     subst (RowsFollow c.deref.result.now) (sym c.loop-number.invariant.follows)
-    (rows_follow c.args.signature.now (after_first (fields_of c.next.new.entry)) c.deref.result.now (c.deref.ensures.value ∙ headed.1))
+    (rows_follow c.args.signature.now (after_first (fields_of c.next.new.entry)) c.deref.result.now
+    (c.deref.ensures.value ∙ headed.1))
 
 pub returns-in_err-add-clause-refused : goal.returns-in_err-add-clause-refused
 returns-in_err-add-clause-refused c =
-    let further = rw c.if-not-branch-2.false at (c.in_ok-next-2.ensures.goes c.args.text.now (fields_of c.next.new.entry ∷ c.loop-number.invariant.progress.rows) c.loop-number.invariant.progress.reaches) in
+    let further = rw c.if-not-branch-2.false at
+    (c.in_ok-next-2.ensures.goes c.args.text.now
+    (fields_of c.next.new.entry ∷ c.loop-number.invariant.progress.rows)
+    c.loop-number.invariant.progress.reaches) in
     let headed = rw c.in-Some.is at c.in-Ok.ensures in
-    let bad = refused_record c.loop-number.recorder.rows c.args.signature.now c.args.text.now (fields_of c.next.new.entry) c.loop-number.reader c.next-in-loop-number.new.reader c.loop-number.number
-    (fields_of c.next-in-loop-number.new.entry) c.deref.result.now c.width-columns.result c.in_err-add.field-0.0
-    c.loop-number.invariant.progress c.if-text-gt-MOST_BYTES.false headed.0 further c.loop-number.invariant.follows
+    let bad = refused_record c.loop-number.recorder.rows c.args.signature.now c.args.text.now
+    (fields_of c.next.new.entry) c.loop-number.reader c.next-in-loop-number.new.reader
+    c.loop-number.number
+    (fields_of c.next-in-loop-number.new.entry) c.deref.result.now c.width-columns.result
+    c.in_err-add.field-0.0
+    c.loop-number.invariant.progress c.if-text-gt-MOST_BYTES.false headed.0 further
+    c.loop-number.invariant.follows
     (c.deref.ensures.value ∙ headed.1) c.width-columns.ensures c.in_err-add.ensures.err in
-    let p = err_from_is_err_and c.from_residual-in_err-add.result c.from_residual-in_err-add.ensures.1 in
+    let p = err_from_is_err_and c.from_residual-in_err-add.result
+    c.from_residual-in_err-add.ensures.1 in
     rw (p.1, p.2) bad
 
 pub loop-number-preserved : goal.loop-number-preserved
 loop-number-preserved c =
-    let further = rw c.if-not-branch-2.false at (c.in_ok-next-2.ensures.goes c.args.text.now (fields_of c.next.new.entry ∷ c.loop-number.invariant.progress.rows) c.loop-number.invariant.progress.reaches) in
+    let further = rw c.if-not-branch-2.false at
+    (c.in_ok-next-2.ensures.goes c.args.text.now
+    (fields_of c.next.new.entry ∷ c.loop-number.invariant.progress.rows)
+    c.loop-number.invariant.progress.reaches) in
     let headed = rw c.in-Some.is at c.in-Ok.ensures in
     record {
-      progress = progress-more c.args.signature.now c.args.text.now (fields_of c.next.new.entry) c.loop-number.recorder.rows.traces c.add.new.self.rows.traces
-          c.loop-number.reader c.next-in-loop-number.new.reader c.loop-number.number (fields_of c.next-in-loop-number.new.entry) c.loop-number.invariant.progress further
-          (added c.loop-number.recorder.rows c.args.signature.now (after_first (fields_of c.next.new.entry)) c.deref.result.now c.width-columns.result
-          (fields_of c.next-in-loop-number.new.entry) (Ok c.add.new.self.rows.traces) c.loop-number.invariant.follows (c.deref.ensures.value ∙ headed.1)
+      progress = progress-more c.args.signature.now c.args.text.now (fields_of c.next.new.entry)
+          c.loop-number.recorder.rows.traces c.add.new.self.rows.traces
+          c.loop-number.reader c.next-in-loop-number.new.reader c.loop-number.number
+          (fields_of c.next-in-loop-number.new.entry) c.loop-number.invariant.progress further
+          (added c.loop-number.recorder.rows c.args.signature.now
+          (after_first (fields_of c.next.new.entry)) c.deref.result.now c.width-columns.result
+          (fields_of c.next-in-loop-number.new.entry) (Ok c.add.new.self.rows.traces)
+          c.loop-number.invariant.follows (c.deref.ensures.value ∙ headed.1)
           c.width-columns.ensures c.in_ok-add.ensures.ok);
       follows = c.in_ok-add.ensures.signature ∙ c.loop-number.invariant.follows;
       known = c.in_ok-add.ensures.names;

@@ -6,7 +6,8 @@ use Rattle.lb_trace.proofs.read.read_records.Given as goal
 
 abbrev pub invariant-loop-number : goal.invariant-loop-number
 invariant-loop-number l = record {
-  progress : Progress l.fn.signature l.fn.text (fields_of l.initial.record) l.recorder.rows.traces l.reader l.number;
+  progress : Progress l.fn.signature l.fn.text (fields_of l.initial.record) l.recorder.rows.traces
+      l.reader l.number;
   follows : l.recorder.rows.signature ≡ l.fn.signature;
   known : knows l.recorder.names l.recorder.rows.traces;
 }

@@ -11,6 +11,10 @@ returns c =
     let reader = c.from_reader.ensures in
     reaches-none c.args.text.now c.from_reader.result
     (reader.trim ∙ ap builder_trim flexible ∙ ap builder_trim named ∙ c.new.ensures.trim)
-    (inr (inr (reader.has_headers ∙ ap builder_names_headers flexible ∙ ap builder_names_headers named, reader.headers)))
+    (inr (inr (
+      reader.has_headers ∙ ap builder_names_headers flexible
+          ∙ ap builder_names_headers named,
+      reader.headers,
+    )))
     (reader.config ∙ ap builder_config flexible ∙ ap builder_config named ∙ c.new.ensures.config)
     reader.source reader.state

@@ -11,4 +11,5 @@ returns-in-Some c =
 
 pub returns-in-None : goal.returns-in-None
 returns-in-None c =
-    c.as_slice.ensures ∙ cell-none (fields_of c.args.entry.now) c.args.i c.saturating_add.result (omega (arith, c.saturating_add.ensures)) (sym c.in-None.ensures.value)
+    c.as_slice.ensures ∙ cell-none (fields_of c.args.entry.now) c.args.i c.saturating_add.result
+    (omega (arith, c.saturating_add.ensures)) (sym c.in-None.ensures.value)

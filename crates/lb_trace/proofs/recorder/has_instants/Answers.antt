@@ -7,4 +7,5 @@ pub returns : goal.returns
 returns c =
     ap (λ n. nat_lt n 1000000)
     (c.length.ensures.instants
-    ∙ sym (ap length (last_rows_at c.args.set.now.traces (c.len.result - 1) c.requires (omega (arith, c.len.ensures.count)))))
+    ∙ sym (ap length (last_rows_at c.args.set.now.traces (c.len.result - 1) c.requires
+    (omega (arith, c.len.ensures.count)))))

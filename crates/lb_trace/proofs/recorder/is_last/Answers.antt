@@ -6,6 +6,8 @@ use Rattle.lb_trace.proofs.recorder.is_last.Goals as goal
 
 pub returns-then-count-gt0 : goal.returns-then-count-gt0
 returns-then-count-gt0 c =
-    let some : 0 < length c.args.set.now.traces = omega (arith, c.len-count.ensures.count, c.if-count-gt0.true) in
+    let some : 0 < length c.args.set.now.traces =
+    omega (arith, c.len-count.ensures.count, c.if-count-gt0.true) in
     c.eq.ensures ∙ ap (bytes_eq c.args.name.now) (c.as_bytes.ensures.value ∙ c.name.ensures)
-    ∙ sym (is_last_at c.args.name.now c.args.set.now.traces (c.len-count.result - 1) some (omega (arith, c.len-count.ensures.count)))
+    ∙ sym (is_last_at c.args.name.now c.args.set.now.traces (c.len-count.result - 1) some
+    (omega (arith, c.len-count.ensures.count)))

@@ -20,24 +20,34 @@ not_true false h = refl
 
 pub returns-then-not-is_trace_name : goal.returns-then-not-is_trace_name
 returns-then-not-is_trace_name c =
-    let no : is_trace_name c.args.name.now ≡ false = false_from_ne_true (is_trace_name c.args.name.now)
-    (λ yes. cc (c.is_trace_name.ensures.1 (IsTraceName-from c.args.name.now yes), c.if-not-is_trace_name.true)) in
+    let no : is_trace_name c.args.name.now ≡ false =
+    false_from_ne_true (is_trace_name c.args.name.now)
+    (λ yes. cc (
+      c.is_trace_name.ensures.1 (IsTraceName-from c.args.name.now yes),
+      c.if-not-is_trace_name.true,
+    )) in
     record { found = rw no refl; memory = tt }
 
 pub returns-in_default : goal.returns-in_default
 returns-in_default c =
-    absurd (c.in_default.ensures.cases.0 (IsUtf8-from_ascii c.args.name.now (IsAscii-name c.args.name.now (c.is_trace_name.ensures.0 c.if-not-is_trace_name.false))))
+    absurd (c.in_default.ensures.cases.0
+    (IsUtf8-from_ascii c.args.name.now
+    (IsAscii-name c.args.name.now (c.is_trace_name.ensures.0 c.if-not-is_trace_name.false))))
 
 pub returns-clause-found : goal.returns-clause-found
 returns-clause-found c =
     let text_is : c.in-Ok.text.now ≡ c.args.name.now = c.in-Ok.ensures.cases.0 in
-    let key_is : string_bytes c.in-Ok-from_str.key ≡ c.args.name.now = c.in-Ok-from_str.ensures.ok ∙ text_is in
+    let key_is : string_bytes c.in-Ok-from_str.key ≡ c.args.name.now =
+    c.in-Ok-from_str.ensures.ok ∙ text_is in
     let fresh : contains_text c.args.names.now (string_bytes c.in-Ok-from_str.key) ≡ false =
-    not_true (contains_text c.args.names.now (string_bytes c.in-Ok-from_str.key)) (sym c.in-Ok-insert.ensures.added ∙ c.if-not-is_new.false) in (
+    not_true (contains_text c.args.names.now (string_bytes c.in-Ok-from_str.key))
+    (sym c.in-Ok-insert.ensures.added ∙ c.if-not-is_new.false) in (
       text_is,
       c.is_trace_name.ensures.0 c.if-not-is_trace_name.false,
       sym (ap (contains_text c.args.names.now) key_is) ∙ fresh,
-      λ q. hash_set_updates_text (string_bytes c.in-Ok-from_str.key) c.args.names.now c.insert.new.self true c.in-Ok-insert.ensures.updates q
-          ∙ cond_or (bytes_eq (string_bytes c.in-Ok-from_str.key) q) (contains_text c.args.names.now q)
+      λ q. hash_set_updates_text (string_bytes c.in-Ok-from_str.key) c.args.names.now
+          c.insert.new.self true c.in-Ok-insert.ensures.updates q
+          ∙ cond_or (bytes_eq (string_bytes c.in-Ok-from_str.key) q)
+          (contains_text c.args.names.now q)
           ∙ ap (λ bs. bytes_eq bs q || contains_text c.args.names.now q) key_is,
     )

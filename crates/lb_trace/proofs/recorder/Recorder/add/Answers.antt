@@ -12,14 +12,21 @@ use Rattle.lb_trace.proofs.recorder.Recorder.add.Goals as goal
 
 pub returns-in_default-clause-err : goal.returns-in_default-clause-err
 returns-in_default-clause-err c =
-    inr (record_by-none c.args.self.now.rows.signature c.args.table.now c.args.columns c.args.self.now.rows.traces (fields_of c.args.entry.now) (sym c.in_default.ensures.value))
+    inr (record_by-none c.args.self.now.rows.signature c.args.table.now c.args.columns
+    c.args.self.now.rows.traces (fields_of c.args.entry.now) (sym c.in_default.ensures.value))
 
-going : (c : goal.After-go_on) → record_by c.args.self.now.rows.signature c.args.table.now c.args.columns c.args.self.now.rows.traces (fields_of c.args.entry.now)
-    ≡ go_on_by c.args.self.now.rows.signature c.args.self.now.rows.traces (row_by c.args.table.now (after_first (fields_of c.args.entry.now)))
+going : (c : goal.After-go_on)
+    → record_by c.args.self.now.rows.signature c.args.table.now c.args.columns
+    c.args.self.now.rows.traces (fields_of c.args.entry.now)
+    ≡ go_on_by c.args.self.now.rows.signature c.args.self.now.rows.traces
+    (row_by c.args.table.now (after_first (fields_of c.args.entry.now)))
 going c =
-    record_by-last c.args.self.now.rows.signature c.args.table.now c.args.columns c.args.self.now.rows.traces (fields_of c.args.entry.now) c.in-Some.name.now
-    (sym c.in-Some.ensures.value) (sym c.width-cells.ensures ∙ c.if-cells-columns.false) c.requires.lawful.each
-    (ap (λ (r : Recording). is_last c.in-Some.name.now r.traces) (sym c.set.ensures) ∙ sym c.if-is_last.ensures)
+    record_by-last c.args.self.now.rows.signature c.args.table.now c.args.columns
+    c.args.self.now.rows.traces (fields_of c.args.entry.now) c.in-Some.name.now
+    (sym c.in-Some.ensures.value) (sym c.width-cells.ensures ∙ c.if-cells-columns.false)
+    c.requires.lawful.each
+    (ap (λ (r : Recording). is_last c.in-Some.name.now r.traces) (sym c.set.ensures)
+    ∙ sym c.if-is_last.ensures)
 
 pub returns-then-is_last-clause-ok : goal.returns-then-is_last-clause-ok
 returns-then-is_last-clause-ok c = rw (going c) c.go_on.ensures.ok
@@ -30,18 +37,27 @@ returns-then-is_last-clause-err c = rw (going c) c.go_on.ensures.err
 pub returns-then-is_last-clause-names : goal.returns-then-is_last-clause-names
 returns-then-is_last-clause-names c =
     on_ok_weaker c.go_on.result
-    (λ (gone : go_on_by c.args.self.now.rows.signature c.args.self.now.rows.traces (row_by c.args.table.now (after_first (fields_of c.args.entry.now))) ≡ Ok c.go_on.new.self.rows.traces).
+    (λ (gone : go_on_by c.args.self.now.rows.signature c.args.self.now.rows.traces
+    (row_by c.args.table.now (after_first (fields_of c.args.entry.now)))
+    ≡ Ok c.go_on.new.self.rows.traces).
     λ (q : List ℕ).
     ap (λ names. contains_text names q) c.go_on.ensures.names ∙ c.requires.names q
-    ∙ sym (go_on_by-names c.args.self.now.rows.signature c.args.self.now.rows.traces c.go_on.new.self.rows.traces (row_by c.args.table.now (after_first (fields_of c.args.entry.now))) q gone))
+    ∙ sym (go_on_by-names c.args.self.now.rows.signature c.args.self.now.rows.traces
+    c.go_on.new.self.rows.traces
+    (row_by c.args.table.now (after_first (fields_of c.args.entry.now))) q gone))
     c.go_on.ensures.ok
 
-other : (c : goal.After-start) → record_by c.args.self.now.rows.signature c.args.table.now c.args.columns c.args.self.now.rows.traces (fields_of c.args.entry.now)
-    ≡ start_by c.args.self.now.rows.signature c.in-Some.name.now c.args.self.now.rows.traces (row_by c.args.table.now (after_first (fields_of c.args.entry.now)))
+other : (c : goal.After-start)
+    → record_by c.args.self.now.rows.signature c.args.table.now c.args.columns
+    c.args.self.now.rows.traces (fields_of c.args.entry.now)
+    ≡ start_by c.args.self.now.rows.signature c.in-Some.name.now c.args.self.now.rows.traces
+    (row_by c.args.table.now (after_first (fields_of c.args.entry.now)))
 other c =
-    record_by-other c.args.self.now.rows.signature c.args.table.now c.args.columns c.args.self.now.rows.traces (fields_of c.args.entry.now) c.in-Some.name.now
+    record_by-other c.args.self.now.rows.signature c.args.table.now c.args.columns
+    c.args.self.now.rows.traces (fields_of c.args.entry.now) c.in-Some.name.now
     (sym c.in-Some.ensures.value) (sym c.width-cells.ensures ∙ c.if-cells-columns.false)
-    (ap (λ (r : Recording). is_last c.in-Some.name.now r.traces) (sym c.set.ensures) ∙ sym c.if-is_last.ensures)
+    (ap (λ (r : Recording). is_last c.in-Some.name.now r.traces) (sym c.set.ensures)
+    ∙ sym c.if-is_last.ensures)
 
 pub returns-else-is_last-clause-ok : goal.returns-else-is_last-clause-ok
 returns-else-is_last-clause-ok c = rw (other c) c.start.ensures.ok

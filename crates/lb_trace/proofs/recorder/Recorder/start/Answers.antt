@@ -15,18 +15,25 @@ use Rattle.lb_trace.proofs.recorder.Recorder.start.Goals as goal
 pub begin-requires-clause-fresh : goal.begin-requires-clause-fresh
 begin-requires-clause-fresh c =
     let found = rw c.in-Some.is at c.in_ok-text.ensures.found in
-    let none : list_any (λ (t : Trace). bytes_eq c.args.name.now t.0) c.args.self.now.rows.traces ≡ false =
+    let none : list_any (λ (t : Trace). bytes_eq c.args.name.now t.0) c.args.self.now.rows.traces
+    ≡ false =
     sym (c.requires.names c.args.name.now) ∙ found.2 in
     rw found.0 (none_contains c.args.name.now c.args.self.now.rows.traces none)
 
-new_start : (c : goal.After-begin) → start_by c.args.self.now.rows.signature c.args.name.now c.args.self.now.rows.traces (row_by c.args.table.now (after_first (fields_of c.args.entry.now)))
-    ≡ start_cells c.args.self.now.rows.signature c.in-Some.text.now c.args.self.now.rows.traces (row_by c.args.table.now (after_first (fields_of c.args.entry.now)))
+new_start : (c : goal.After-begin)
+    → start_by c.args.self.now.rows.signature c.args.name.now c.args.self.now.rows.traces
+    (row_by c.args.table.now (after_first (fields_of c.args.entry.now)))
+    ≡ start_cells c.args.self.now.rows.signature c.in-Some.text.now c.args.self.now.rows.traces
+    (row_by c.args.table.now (after_first (fields_of c.args.entry.now)))
 new_start c =
     let found = rw c.in-Some.is at c.in_ok-text.ensures.found in
-    let none : list_any (λ (t : Trace). bytes_eq c.args.name.now t.0) c.args.self.now.rows.traces ≡ false =
+    let none : list_any (λ (t : Trace). bytes_eq c.args.name.now t.0) c.args.self.now.rows.traces
+    ≡ false =
     sym (c.requires.names c.args.name.now) ∙ found.2 in
-    start_by-new c.args.self.now.rows.signature c.args.name.now c.args.self.now.rows.traces (row_by c.args.table.now (after_first (fields_of c.args.entry.now))) found.1 none
-    ∙ ap (λ n. start_cells c.args.self.now.rows.signature n c.args.self.now.rows.traces (row_by c.args.table.now (after_first (fields_of c.args.entry.now)))) (sym found.0)
+    start_by-new c.args.self.now.rows.signature c.args.name.now c.args.self.now.rows.traces
+    (row_by c.args.table.now (after_first (fields_of c.args.entry.now))) found.1 none
+    ∙ ap (λ n. start_cells c.args.self.now.rows.signature n c.args.self.now.rows.traces
+    (row_by c.args.table.now (after_first (fields_of c.args.entry.now)))) (sym found.0)
 
 pub returns-clause-ok : goal.returns-clause-ok
 returns-clause-ok c = rw (new_start c) c.begin.ensures.ok
@@ -38,11 +45,16 @@ pub returns-clause-names : goal.returns-clause-names
 returns-clause-names c =
     let found = rw c.in-Some.is at c.in_ok-text.ensures.found in
     on_ok_weaker c.begin.result
-    (λ (started : start_cells c.args.self.now.rows.signature c.in-Some.text.now c.args.self.now.rows.traces (row_by c.args.table.now (after_first (fields_of c.args.entry.now))) ≡ Ok c.begin.new.self.rows.traces).
+    (λ (started : start_cells c.args.self.now.rows.signature c.in-Some.text.now
+    c.args.self.now.rows.traces (row_by c.args.table.now (after_first (fields_of c.args.entry.now)))
+    ≡ Ok c.begin.new.self.rows.traces).
     λ (q : List ℕ).
     ap (λ names. contains_text names q) c.begin.ensures.names
     ∙ found.3 q
     ∙ ap (λ b. bytes_eq c.args.name.now q || b) (c.requires.names q)
-    ∙ ap (λ n. bytes_eq n q || list_any (λ (t : Trace). bytes_eq q t.0) c.args.self.now.rows.traces) (sym found.0)
-    ∙ sym (start_cells-names c.args.self.now.rows.signature c.in-Some.text.now c.args.self.now.rows.traces c.begin.new.self.rows.traces (row_by c.args.table.now (after_first (fields_of c.args.entry.now))) q started))
+    ∙ ap (λ n. bytes_eq n q || list_any (λ (t : Trace). bytes_eq q t.0) c.args.self.now.rows.traces)
+    (sym found.0)
+    ∙ sym (start_cells-names c.args.self.now.rows.signature c.in-Some.text.now
+    c.args.self.now.rows.traces c.begin.new.self.rows.traces
+    (row_by c.args.table.now (after_first (fields_of c.args.entry.now))) q started))
     c.begin.ensures.ok
