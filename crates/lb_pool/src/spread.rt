@@ -69,6 +69,8 @@ fn judged_batches<'p, R: Threads + Sync>(
 {
     (0..plan.batches())
         .into_par_iter()
+        // A batch is worth a thread of its own, however few there are.
+        .with_min_len(1)
         .map_init(
             || -> Option<Scratch> { None },
             |room: &mut Option<Scratch>, i: u32| -> Result<Vec<Judged>, AllocError>

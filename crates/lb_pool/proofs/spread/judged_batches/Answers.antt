@@ -22,7 +22,14 @@ collect-requires-clause-ready g c κs within =
     let inside = nat_range-All (λ i. (length (numbers_in plan) ≡ length traces)
     × (i < length plan)) 0 c.batches.result
     (λ i low high. (c.requires, omega (arith, high, c.batches.ensures.count))) in
-    rw (c.map_init.ensures.base, c.map_init.ensures.init, c.map_init.ensures.f, ends.0, ends.1)
+    rw (
+      c.map_init.ensures.base,
+      c.map_init.ensures.init,
+      c.map_init.ensures.f,
+      c.with_min_len.ensures.base,
+      ends.0,
+      ends.1,
+    )
     (tt, λ k d below. (λ room. inside k d below, λ before after y given. tt))
 
 pub returns : goal.returns
@@ -34,7 +41,8 @@ returns g c =
     let ends = c.into_par_iter.ensures in
     let whole : c.batches.result - 0 ≡ length plan = omega (arith, c.batches.ensures.count) in
     IfOk-then c.collect.result _ _ c.collect.ensures (λ outer h.
-    let chain = rw (c.map_init.ensures.base, c.map_init.ensures.f) at h.1 in
+    let chain =
+    rw (c.map_init.ensures.base, c.map_init.ensures.f, c.with_min_len.ensures.base) at h.1 in
     let places = chain.1 ∙ (λ i. nat_range (ends.0 i) (ends.1 i)) ∙ ap (range_with_len 0) whole in
     MatchResult-weaker outer h.2 (λ lists k.
     subst (λ l. AllZip R l lists.items) places
