@@ -1,6 +1,9 @@
 -- What stands in a list, and lists in which nothing stands twice.
-use Rattle.std.proofs.Common.{◌≡◌, ◌⊎◌, inl, inr, ℕ, zero, suc, ◌+◌, ◌<◌, ◌≤◌, Option, Some, None, List, [], ◌∷◌, ◌++◌, map, length, flat_map, refl, sym, ap, ◌∙◌, subst, arith}
+use Rattle.std.proofs.Common.{◌≡◌, ◌⊎◌, inl, inr, ℕ, zero, suc, ◌+◌, ◌<◌, ◌≤◌, Option, Some, None}
+use Rattle.std.proofs.Common.{List, [], ◌∷◌, ◌++◌, map, length, flat_map, refl, sym, ap, ◌∙◌, subst}
+use Rattle.std.proofs.Common.{arith}
 use Rattle.std.specs.List.{range_with_len}
+pub use Rattle.lb_syntax.specs.Lists.{AreApart}
 use Rattle.lb_syntax.specs.Lists.{Every, In, some_of}
 use Rattle.lb_static.proofs.Members.{in_map}
 
@@ -63,10 +66,6 @@ module _ {A B : Type 0} (f : A → Option B) where
       by (Some w) e (inr j) again = later (again j)
 
 -- ## Lists in which nothing stands twice
-
-abbrev pub AreApart : {A : Type 0} → List A → Type 0
-AreApart [] = Unit {0}
-AreApart (x ∷ xs) = (In x xs → ⊥) × AreApart xs
 
 module _ {A : Type 0} where
   pub apart-append :

@@ -1,11 +1,13 @@
 -- A call with one result stands on the clocks that the code finds, and on no others.
-use Rattle.std.proofs.Common.{◌≡◌, ℕ, zero, suc, ◌+◌, ◌<◌, ◌≤◌, ◌⊎◌, inl, inr, Bool, true, false, List, [], ◌∷◌, ◌++◌, take, drop, length, map, Option, Some, None, refl, ap, sym, ◌∙◌, subst, arith}
+use Rattle.std.proofs.Common.{◌≡◌, ℕ, zero, suc, ◌+◌, ◌<◌, ◌≤◌, ◌⊎◌, inl, inr, Bool, true, false}
+use Rattle.std.proofs.Common.{List, [], ◌∷◌, ◌++◌, take, drop, length, map, Option, Some, None}
+use Rattle.std.proofs.Common.{refl, ap, sym, ◌∙◌, subst, arith}
 use Rattle.std.specs.Prelude.{◌&&◌, ◌||◌, not, option_map, slice_get, nat_eq, nat_lt, if◌then◌else◌}
 use Rattle.std.specs.List.{list_all}
 use Rattle.std.proofs.lemmas.Bool.Decides.{nat_tests}
 use Rattle.std.proofs.lemmas.List.{append-nil}
 use Rattle.std.proofs.lemmas.Option.{slice_get_within}
-use Rattle.lb_syntax.specs.Lists.{◌>>=◌, listed}
+use Rattle.lb_syntax.specs.Lists.{◌>>=◌, either_or, listed}
 use Rattle.lb_syntax.specs.Tree as text
 use Rattle.lb_syntax.specs.Tree.{Name, Expr, Declaration}
 use Rattle.lb_static.specs.Instances.{Program, Site, node_named}
@@ -18,21 +20,32 @@ use Rattle.lb_static.specs.declared.resolved.Variable.{Variable as Declared}
 use Rattle.lb_static.specs.declared.resolved.VariableId.{VariableId}
 use Rattle.lb_check.specs.ClockRules.{is_clock, are_clocks, is_occurrence_clocked, is_call_clocked}
 use Rattle.lb_check.specs.Clocks as tree
-use Rattle.lb_check.specs.Clocks.{clock_of, each_clock, given_inputs, given_outputs, outer, above, own_depth, declared_clock, depth, base_clock, base_from, base_from_arguments, first_result_clock, called_clock, result_clocks, argument_clocks}
+use Rattle.lb_check.specs.Clocks.{clock_of, each_clock, given_inputs, given_outputs, outer, above}
+use Rattle.lb_check.specs.Clocks.{own_depth, declared_clock, depth, base_clock, base_from}
+use Rattle.lb_check.specs.Clocks.{base_from_arguments, first_result_clock, called_clock}
+use Rattle.lb_check.specs.Clocks.{result_clocks, argument_clocks}
 use Rattle.lb_check.specs.Occurrences.{occurrences_each, call_clocks}
 use Rattle.lb_check.specs.OwnClocks.{HasClocks, clock_in}
 use Rattle.lb_check.specs.ClockSets.{IsClockSet, AreClockSets, is_clocked_on}
-use Rattle.lb_check.specs.TermClocks.{Context, declared_in, infer_clock, operands_of, given_at, clock_sets, are_given, input_clocks, output_clocks, base_of, expected, all_fit, clock_set_on, first_result, call_clock_set}
+use Rattle.lb_check.specs.TermClocks.{Context, declared_in, infer_clock, operands_of, given_at}
+use Rattle.lb_check.specs.TermClocks.{clock_sets, are_given, input_clocks, output_clocks, base_of}
+use Rattle.lb_check.specs.TermClocks.{expected, all_fit, clock_set_on, first_result, call_clock_set}
 use Rattle.lb_check.specs.declared.own_clock.Clock.{Clock}
 use Rattle.lb_check.specs.declared.clock_set.ClockSet.{ClockSet}
 use Rattle.lb_check.specs.declared.clock_set.ClockSet.TheVariants.{NoClock, AnyClock, OneClock}
-use Rattle.lb_check.proofs.CallOperands.{are_given_is, operand_within, operand_stands, clock_set_within, waited_given, input_waits, output_waits, not_itself, each_stood, stands_at, stood_clock, clock_there, clock_from, inputs_seen, inputs_is_given, code_known, same_fits}
-use Rattle.lb_check.proofs.FittingClocks.{IsGiven, IsWithin, base_found, fits_on, fit_some, fit_none, base_within, base_is, expects}
+use Rattle.lb_check.proofs.CallOperands.{are_given_is, operand_within, operand_stands}
+use Rattle.lb_check.proofs.CallOperands.{clock_set_within, waited_given, input_waits, output_waits}
+use Rattle.lb_check.proofs.CallOperands.{not_itself, each_stood, stands_at, stood_clock}
+use Rattle.lb_check.proofs.CallOperands.{clock_there, clock_from, inputs_seen, inputs_is_given}
+use Rattle.lb_check.proofs.CallOperands.{code_known, same_fits}
+use Rattle.lb_check.proofs.FittingClocks.{IsGiven, IsWithin, base_found, fits_on, fit_some}
+use Rattle.lb_check.proofs.FittingClocks.{fit_none, base_within, base_is, expects}
 use Rattle.lb_check.proofs.TruthValues.{and_first, and_second, and_true, both_true, both_ways}
 use Rattle.lb_check.proofs.GivenNames.{term_at, clock_set_at, input_held, output_at, variable_held}
 use Rattle.lb_check.proofs.ListPairs.{never, get_mapped, mapped_from, get_taken, each_pair, pair_at}
 use Rattle.lb_check.proofs.ClockTests.{clock_same}
-use Rattle.lb_check.proofs.OuterClocks.{stood, clock_equal, above_outer, place_name, variable_at, seen, expected_on, AreGiven}
+use Rattle.lb_check.proofs.OuterClocks.{stood, clock_equal, above_outer, place_name, variable_at}
+use Rattle.lb_check.proofs.OuterClocks.{seen, expected_on, AreGiven}
 use Rattle.lb_check.proofs.OwnClocks.{clock_of_free}
 
 -- ## Lists with one item
@@ -476,6 +489,56 @@ module _ (P : Program) (here callee : ResolvedNode) (h : HasClocks here) (hc : H
         let f = all_fit base Y (input_clocks callee) ss in
         subst (λ cs. IsClockSet P here call_of (if g && f then first_result base Y cs else NoClock))
         (sym results) (by_given g refl)
+
+    -- ## The base clock of a call that stands on a clock
+
+    module _ (k : Clock) (n : ℕ)
+        (kept : is_clocked_on P here (clock_in here k) n call_of ≡ true) where
+      judged : ((are_given callee (operands_of ctx es)
+          && is_clock (seen callee given (up (clock_in here k)) callee.inputs) (clock_in here k))
+          && each_pair (stood here)
+          (inputs_seen P here callee h hc ctx declares es w u stand (up (clock_in here k))) ss)
+          ≡ true
+      judged = sym (called (clock_in here k) n) ∙ kept
+
+      pub runs_given : are_given callee (operands_of ctx es) ≡ true
+      runs_given =
+          and_first (are_given callee (operands_of ctx es)) _ (and_first _ (each_pair (stood here)
+          (inputs_seen P here callee h hc ctx declares es w u stand (up (clock_in here k))) ss)
+          judged)
+
+      runs_fit : fits runs_given (up (clock_in here k)) ≡ true
+      runs_fit =
+          and_second (is_clock (seen callee given (up (clock_in here k)) callee.inputs)
+          (clock_in here k)) _ (sym (on_clock runs_given (clock_in here k) n) ∙ kept)
+
+      up_is : (o : Option Clock) → base_of (input_clocks callee) ss ≡ o →
+          up (clock_in here k) ≡ clock_in here (either_or o k)
+      up_is (Some l) e =
+          base_is here h Y (input_clocks callee) ss (params_given runs_given) (within runs_given) l
+          (up (clock_in here k)) e runs_fit
+      up_is None e =
+          let none = λ (b : tree.Clock). fit_none here h Y (input_clocks callee) ss
+          (params_given runs_given) (within runs_given) e b in
+          let every = λ (b : tree.Clock). sym (none b) ∙ none (up (clock_in here k)) ∙ runs_fit in
+          let free = result_free runs_given (none_determined runs_given every).1
+          result.0.clock refl in
+          let lt = slice_get_within callee.variables.items callee.inputs result.0 result.1 in
+          let top : tree.Base ≡ declared_clock (node_of callee) (place_name callee callee.inputs) =
+          clock_of_free callee hc (variable_at callee.inputs) result.0 result.1 lt free in
+          subst (λ c. above (depth c) (clock_in here k) ≡ clock_in here k) top refl
+
+      pub runs_base : base_clock (clock_in here k) (node_of callee)
+          ≡ clock_in here (either_or (base_of (input_clocks callee) ss) k)
+      runs_base =
+          base_up (clock_in here k) ∙ up_is (base_of (input_clocks callee) ss) refl
+
+      pub runs_fitting : fits_on here h Y
+          (clock_in here (either_or (base_of (input_clocks callee) ss) k)) (input_clocks callee) ss
+          ≡ true
+      runs_fitting =
+          subst (λ b. fits_on here h Y b (input_clocks callee) ss ≡ true)
+          (up_is (base_of (input_clocks callee) ss) refl) runs_fit
 
 -- a call with one result, where its operands stand as the code found
 pub call_stands : (P : Program) (here callee : ResolvedNode) → HasClocks here → HasClocks callee

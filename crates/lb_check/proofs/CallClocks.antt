@@ -1,5 +1,7 @@
 -- The arguments that the code finds to be variables are those of the definition.
-use Rattle.std.proofs.Common.{◌≡◌, ℕ, zero, suc, ◌<◌, Bool, true, false, ◌+◌, List, [], ◌∷◌, ◌++◌, take, map, length, Option, Some, None, refl, ap, sym, ◌∙◌, subst, arith}
+use Rattle.std.proofs.Common.{◌≡◌, ℕ, zero, suc, ◌<◌, Bool, true, false, ◌+◌, List, [], ◌∷◌, ◌++◌}
+use Rattle.std.proofs.Common.{take, map, length, Option, Some, None, refl, ap, sym, ◌∙◌, subst}
+use Rattle.std.proofs.Common.{arith}
 use Rattle.std.specs.Prelude.{◌&&◌, ◌||◌, not, nat_lt, is_some, slice_get}
 use Rattle.std.specs.Str.{bytes_eq}
 use Rattle.std.proofs.lemmas.Bool.Decides.{nat_tests}
@@ -16,17 +18,21 @@ use Rattle.lb_static.specs.Parts.{among}
 use Rattle.lb_static.specs.Names.{are_distinct}
 use Rattle.lb_static.specs.StaticValues.{named}
 use Rattle.std.specs.List.{list_all}
-use Rattle.lb_static.specs.ResolvedTerms.{Texts, Counts, declaration_of, exprs_of, named_value, name_at, static_at, expr_of, is_variable, is_within, is_unhidden, is_no_variable}
+use Rattle.lb_static.specs.ResolvedTerms.{Texts, Counts, declaration_of, exprs_of, named_value}
+use Rattle.lb_static.specs.ResolvedTerms.{name_at, static_at, expr_of, is_variable, is_within}
+use Rattle.lb_static.specs.ResolvedTerms.{is_unhidden, is_no_variable}
 use Rattle.lb_static.specs.declared.resolved.Sampling.{Sampling}
 use Rattle.lb_static.specs.declared.resolved.Variable.{Variable as Declared}
 use Rattle.lb_static.specs.declared.resolved.VariableId.{VariableId}
 use Rattle.lb_check.specs.Clocks.{Given, as_variable, given_inputs}
 use Rattle.lb_static.specs.declared.resolved.Term.{Term, Variable, Value, Group'}
 use Rattle.lb_check.specs.CallClocks.{variable_of, is_variable_at, is_given}
-use Rattle.lb_check.proofs.ClockedNodes.{get_name, among_first, zip_split, first_names, all_taken, same_taken, as_many_names, within_names}
+use Rattle.lb_check.proofs.ClockedNodes.{get_name, among_first, zip_split, first_names, all_taken}
+use Rattle.lb_check.proofs.ClockedNodes.{same_taken, as_many_names, within_names}
 use Rattle.lb_check.specs.ClockRules.{is_given_variable, are_given_variables}
 use Rattle.lb_check.specs.ClockDepths.{waits_below}
-use Rattle.lb_check.proofs.TruthValues.{and_first, and_second, and_true, not_true, or_first, or_second}
+use Rattle.lb_check.proofs.TruthValues.{and_first, and_second, and_true, not_true, or_first}
+use Rattle.lb_check.proofs.TruthValues.{or_second}
 use Rattle.lb_check.proofs.DistinctNames.{not_among, unequal, distinct_first}
 use Rattle.lb_check.proofs.NodePlaces.{held}
 use Rattle.lb_check.proofs.ClockTests.{among_at}

@@ -1,5 +1,7 @@
 -- The operands of a call: what stands for the variables of the callee, and on which clocks.
-use Rattle.std.proofs.Common.{◌≡◌, ℕ, zero, suc, ◌+◌, ◌<◌, ◌≤◌, inl, inr, true, List, [], ◌∷◌, ◌++◌, take, drop, length, map, Option, Some, None, refl, ap, sym, ◌∙◌, subst, arith}
+use Rattle.std.proofs.Common.{◌≡◌, ℕ, zero, suc, ◌+◌, ◌<◌, ◌≤◌, inl, inr, true, List, [], ◌∷◌, ◌++◌}
+use Rattle.std.proofs.Common.{take, drop, length, map, Option, Some, None, refl, ap, sym, ◌∙◌}
+use Rattle.std.proofs.Common.{subst, arith}
 use Rattle.std.specs.Prelude.{◌&&◌, ◌||◌, not, is_some, slice_get, nat_lt}
 use Rattle.std.specs.List.{list_all}
 use Rattle.std.proofs.lemmas.Bool.Decides.{nat_tests}
@@ -19,22 +21,28 @@ use Rattle.lb_check.specs.CallClocks as code
 use Rattle.lb_check.specs.ClockDepths.{waits_below}
 use Rattle.lb_check.specs.ClockRules.{is_occurrence_clocked, are_given_variables, is_clocked_by}
 use Rattle.lb_check.specs.Clocks as tree
-use Rattle.lb_check.specs.Clocks.{clock_of, each_clock, given_inputs, given_name, outer, declared_clock, depth}
+use Rattle.lb_check.specs.Clocks.{clock_of, each_clock, given_inputs, given_name, outer}
+use Rattle.lb_check.specs.Clocks.{declared_clock, depth}
 use Rattle.lb_check.specs.Occurrences.{call_count, occurrences, occurrences_each}
 use Rattle.lb_check.specs.OwnClocks.{HasClocks, clock_in}
 use Rattle.lb_check.specs.ClockSets.{IsClockSet, AreClockSets, is_clocked_on}
-use Rattle.lb_check.specs.TermClocks.{Context, declared_in, infer_clock, operands_of, given_at, clock_sets, is_given, are_given, input_clocks}
+use Rattle.lb_check.specs.TermClocks.{Context, declared_in, infer_clock, operands_of, given_at}
+use Rattle.lb_check.specs.TermClocks.{clock_sets, is_given, are_given, input_clocks}
 use Rattle.lb_check.specs.declared.clock_set.ClockSet.{ClockSet}
 use Rattle.lb_check.specs.declared.clock_set.ClockSet.TheVariants.{NoClock, AnyClock, OneClock}
 use Rattle.lb_check.proofs.CallClocks.{all_given}
 use Rattle.lb_check.proofs.ClockedNodes.{as_many_names, inputs_clocked, outputs_clocked}
 use Rattle.lb_check.proofs.FittingClocks.{IsGiven, IsWithin, fits_on}
 use Rattle.lb_check.proofs.TruthValues.{and_first, and_second, both_ways}
-use Rattle.lb_check.proofs.GivenNames.{operand_at, clock_set_at, term_at, variable_stands, variable_within, input_held, input_at, variable_held, given_in}
+use Rattle.lb_check.proofs.GivenNames.{operand_at, clock_set_at, term_at, variable_stands}
+use Rattle.lb_check.proofs.GivenNames.{variable_within, input_held, input_at, variable_held}
+use Rattle.lb_check.proofs.GivenNames.{given_in}
 use Rattle.lb_check.proofs.NodePlaces.{all_at}
-use Rattle.lb_check.proofs.ListPairs.{taken, get_taken, get_mapped, mapped_from, each_pair, pair_at, pairs_from, get_dropped}
+use Rattle.lb_check.proofs.ListPairs.{taken, get_taken, get_mapped, mapped_from, each_pair, pair_at}
+use Rattle.lb_check.proofs.ListPairs.{pairs_from, get_dropped}
 use Rattle.lb_check.proofs.ClockTests.{clock_same}
-use Rattle.lb_check.proofs.OuterClocks.{stood, place_name, variable_at, seen, expected_on, AreGiven, StandFor, HaveNames, outer_all}
+use Rattle.lb_check.proofs.OuterClocks.{stood, place_name, variable_at, seen, expected_on, AreGiven}
+use Rattle.lb_check.proofs.OuterClocks.{StandFor, HaveNames, outer_all}
 use Rattle.lb_check.proofs.OwnClocks.{clock_of_waiting}
 
 -- ## What the code finds of the operands

@@ -7,8 +7,13 @@ use Rattle.lb_syntax.specs.declared.tree.BinaryOperator.{BinaryOperator}
 use Rattle.lb_static.specs.declared.resolved.CallId.{CallId}
 use Rattle.lb_static.specs.declared.resolved.StaticId.{StaticId}
 use Rattle.lb_static.specs.declared.resolved.VariableId.{VariableId}
-use Rattle.lb_static.specs.declared.resolved.Term.{Term, Array, AtMostOne, Nor, Call, IterateNode, IterateSymbol, Array', AtMostOne', Nor', Call', IterateNode', IterateSymbol', Row_of-Term, end_of-Term, more_of-Term, items-the_row-Term, items_hidden-the_row-Term-0}
-use Rattle.lb_check.specs.TermClocks.{Context, is_call_clocked, is_equation_clocked, operand_of, operands_in, operands_of, row_clock_set, infer_clock}
+use Rattle.lb_static.specs.declared.resolved.Term.{Term, Array, AtMostOne, Nor, Call, IterateNode}
+use Rattle.lb_static.specs.declared.resolved.Term.{IterateSymbol, Array', AtMostOne', Nor', Call'}
+use Rattle.lb_static.specs.declared.resolved.Term.{IterateNode', IterateSymbol', Row_of-Term}
+use Rattle.lb_static.specs.declared.resolved.Term.{end_of-Term, more_of-Term, items-the_row-Term}
+use Rattle.lb_static.specs.declared.resolved.Term.{items_hidden-the_row-Term-0}
+use Rattle.lb_check.specs.TermClocks.{Context, is_call_clocked, is_equation_clocked, operand_of}
+use Rattle.lb_check.specs.TermClocks.{operands_in, operands_of, row_clock_set, infer_clock}
 use Rattle.lb_check.specs.declared.clock_set.Operand.{Operand}
 use Rattle.lb_check.proofs.TypeRows.{IsRow}
 
@@ -19,7 +24,7 @@ operands_items ctx n end_of-Term = refl
 operands_items ctx n (more_of-Term e rest) =
     ap (λ (os : List Operand). operand_of ctx e ∷ os) (operands_items ctx _ rest)
 
-abbrev row_in : Term → (n : Count) × Row_of-Term n
+abbrev pub row_in : Term → (n : Count) × Row_of-Term n
 row_in (Array' _ row) = (_, row)
 row_in (AtMostOne' _ row) = (_, row)
 row_in (Nor' _ row) = (_, row)
@@ -29,7 +34,7 @@ row_in (IterateSymbol' _ _ _ _ row) = (_, row)
 row_in _ = (_, end_of-Term)
 
 -- the operands in the row of a term are those that the list in its vector is
-same_operands : (ctx : Context) (t : Term) (es : Vec Term Global) →
+pub same_operands : (ctx : Context) (t : Term) (es : Vec Term Global) →
     items-the_row-Term _ (row_in t).1 ≡ es.items
     → operands_in ctx (row_in t).1 ≡ operands_of ctx es.items
 same_operands ctx t es e = operands_items ctx _ (row_in t).1 ∙ ap (operands_of ctx) e

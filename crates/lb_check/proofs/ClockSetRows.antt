@@ -1,5 +1,6 @@
 -- Clocks that the code compares, and rows of operands from a place on.
-use Rattle.std.proofs.Common.{◌≡◌, ◌≢◌, ℕ, ◌+◌, ◌<◌, ◌≤◌, Bool, true, false, List, [], ◌∷◌, length, drop, get_or, Option, Some, None, refl, ap, sym, ◌∙◌, arith}
+use Rattle.std.proofs.Common.{◌≡◌, ◌≢◌, ℕ, ◌+◌, ◌<◌, ◌≤◌, Bool, true, false, List, [], ◌∷◌, length}
+use Rattle.std.proofs.Common.{drop, get_or, Option, Some, None, refl, ap, sym, ◌∙◌, arith}
 use Rattle.std.specs.Prelude.{◌&&◌, nat_eq, slice_get, if◌then◌else◌}
 use Rattle.std.proofs.lemmas.Bool.Decides.{nat_tests}
 use Rattle.std.proofs.lemmas.List.{drop_all, drop_more}
@@ -15,7 +16,8 @@ use Rattle.lb_check.specs.Clocks as tree
 use Rattle.lb_check.specs.OwnClocks.{HasClocks, clock_in, name_in}
 use Rattle.lb_check.specs.Scalars.{same}
 use Rattle.lb_check.specs.StoredClocks.{clocks_of}
-use Rattle.lb_check.specs.TermClocks.{clock_with, declared_in, is_same, both, together, clock_sets, base_of, all_fit, accepts_clock, expected}
+use Rattle.lb_check.specs.TermClocks.{clock_with, declared_in, is_same, both, together, clock_sets}
+use Rattle.lb_check.specs.TermClocks.{base_of, all_fit, accepts_clock, expected}
 use Rattle.lb_check.specs.declared.own_clock.Clock.{Clock}
 use Rattle.lb_check.specs.declared.own_clock.Clock.TheVariants.{Base, On}
 use Rattle.lb_check.specs.declared.clock_set.Operand.{Operand}

@@ -1,19 +1,23 @@
 -- The declared clocks of a node are as deep as the numbers of its variables say.
-use Rattle.std.proofs.Common.{◌≡◌, ℕ, zero, suc, ◌+◌, ◌-◌, min, ◌<◌, Bool, true, false, List, [], ◌∷◌, ◌++◌, take, drop, get_or, map, length, Option, Some, None, Vec, Global, refl, ap, sym, ◌∙◌, subst, arith}
+use Rattle.std.proofs.Common.{◌≡◌, ℕ, zero, suc, ◌+◌, ◌-◌, min, ◌<◌, Bool, true, false, List, []}
+use Rattle.std.proofs.Common.{◌∷◌, ◌++◌, take, drop, get_or, map, length, Option, Some, None, Vec}
+use Rattle.std.proofs.Common.{Global, refl, ap, sym, ◌∙◌, subst, arith}
 use Rattle.std.specs.Prelude.{◌&&◌, not, is_some, option_map, slice_get, nat_lt}
 use Rattle.std.specs.List.{list_all}
 use Rattle.std.specs.Str.{bytes_eq}
 use Rattle.std.proofs.lemmas.Bool.Decides.{nat_tests}
 use Rattle.std.proofs.lemmas.Slice.Eq.{bytes_eq-Decides}
 use Rattle.std.proofs.lemmas.Option.{slice_get_within}
-use Rattle.std.proofs.lemmas.List.{length-take, length-drop, length-map, length-append, append_assoc, drop_more}
+use Rattle.std.proofs.lemmas.List.{length-take, length-drop, length-map, length-append}
+use Rattle.std.proofs.lemmas.List.{append_assoc, drop_more}
 use Rattle.lb_syntax.specs.Lists.{◌>>=◌, zip2, either_or}
 use Rattle.lb_syntax.specs.Tree.{Name, Static, Declaration, Node}
 use Rattle.lb_static.specs.StaticValues.{named}
 use Rattle.lb_static.specs.Names.{are_distinct}
 use Rattle.lb_static.specs.Parts.{among, variable_names}
 use Rattle.lb_static.specs.DataTypes.{variables}
-use Rattle.lb_static.specs.ResolvedTerms.{Counts, declaration_of, sampling_of, name_at, is_declared_within, are_statics}
+use Rattle.lb_static.specs.ResolvedTerms.{Counts, declaration_of, sampling_of, name_at}
+use Rattle.lb_static.specs.ResolvedTerms.{is_declared_within, are_statics}
 use Rattle.lb_static.specs.ResolvedNodes.{IsResolved, counts_of, node_of, statics_of}
 use Rattle.lb_static.specs.declared.resolved.ResolvedNode.{ResolvedNode}
 use Rattle.lb_static.specs.declared.resolved.Sampling.{Sampling}

@@ -1,5 +1,6 @@
 -- The statements, terms and calls of a node from a place on.
-use Rattle.std.proofs.Common.{◌≡◌, ◌⊎◌, inl, inr, ℕ, ◌+◌, ◌<◌, Bool, Box, List, length, drop, get_or, Vec, Global, refl, ap, ◌∙◌}
+use Rattle.std.proofs.Common.{◌≡◌, ◌⊎◌, inl, inr, ℕ, ◌+◌, ◌<◌, Bool, Box, List, length, drop}
+use Rattle.std.proofs.Common.{get_or, Vec, Global, refl, ap, ◌∙◌}
 use Rattle.std.specs.Prelude.{◌&&◌, ◌||◌, if◌then◌else◌, ◌==◌}
 use Rattle.std.proofs.lemmas.List.{drop_more}
 use mathlib.Core.Former.{Count}
@@ -12,8 +13,15 @@ use Rattle.lb_static.specs.declared.resolved.CallSite.{CallSite}
 use Rattle.lb_static.specs.declared.resolved.StaticId.{StaticId}
 use Rattle.lb_static.specs.declared.resolved.VariableId.{VariableId}
 use Rattle.lb_static.specs.declared.resolved.ResolvedStatement.{ResolvedStatement}
-use Rattle.lb_static.specs.declared.resolved.Term.{Term, Group, Unary, When, Replicate, Index, Slice, Array, AtMostOne, Nor, Call, IterateNode, IterateSymbol, Array', AtMostOne', Nor', Call', IterateNode', IterateSymbol', Row_of-Term, end_of-Term, more_of-Term, items-the_row-Term, items_hidden-the_row-Term-0}
-use Rattle.lb_check.specs.NodeDefinitions.{count_left, count_statement, count_statements, has_memory, row_memory, any_memory, statement_memory, statements_memory, calls_function, call_functions}
+use Rattle.lb_static.specs.declared.resolved.Term.{Term, Group, Unary, When, Replicate, Index}
+use Rattle.lb_static.specs.declared.resolved.Term.{Slice, Array, AtMostOne, Nor, Call, IterateNode}
+use Rattle.lb_static.specs.declared.resolved.Term.{IterateSymbol, Array', AtMostOne', Nor', Call'}
+use Rattle.lb_static.specs.declared.resolved.Term.{IterateNode', IterateSymbol', Row_of-Term}
+use Rattle.lb_static.specs.declared.resolved.Term.{end_of-Term, more_of-Term, items-the_row-Term}
+use Rattle.lb_static.specs.declared.resolved.Term.{items_hidden-the_row-Term-0}
+use Rattle.lb_check.specs.NodeDefinitions.{count_left, count_statement, count_statements}
+use Rattle.lb_check.specs.NodeDefinitions.{has_memory, row_memory, any_memory, statement_memory}
+use Rattle.lb_check.specs.NodeDefinitions.{statements_memory, calls_function, call_functions}
 
 pub count_next : (k : ℕ) (xs : List VariableId) (i : ℕ) (d : VariableId) → i < length xs
     → count_left k (drop i xs) ≡ (if (get_or xs i d).0 == k then 1 else 0) + count_left k

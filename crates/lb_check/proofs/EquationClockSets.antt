@@ -1,5 +1,7 @@
 -- A call that is a whole right side keeps the rules of clocks exactly where the code finds so.
-use Rattle.std.proofs.Common.{◌≡◌, ℕ, zero, suc, ◌+◌, ◌-◌, ◌<◌, ◌≤◌, ◌⊎◌, inl, inr, Bool, true, false, List, [], ◌∷◌, ◌++◌, take, drop, length, map, Option, Some, None, refl, ap, sym, ◌∙◌, subst, arith}
+use Rattle.std.proofs.Common.{◌≡◌, ℕ, suc, ◌+◌, ◌-◌, ◌<◌, ◌≤◌, ◌⊎◌, inl, inr, Bool, true, false}
+use Rattle.std.proofs.Common.{List, [], ◌∷◌, ◌++◌, take, drop, length, map, Option, Some, None}
+use Rattle.std.proofs.Common.{refl, ap, sym, ◌∙◌, subst, arith}
 use Rattle.std.specs.Prelude.{◌&&◌, ◌||◌, not, slice_get, nat_eq, nat_lt, if◌then◌else◌}
 use Rattle.std.specs.List.{list_all}
 use Rattle.std.proofs.lemmas.Bool.Decides.{nat_tests}
@@ -17,77 +19,37 @@ use Rattle.lb_static.specs.declared.resolved.Variable.{Variable as Declared}
 use Rattle.lb_static.specs.declared.resolved.VariableId.{VariableId}
 use Rattle.lb_check.specs.ClockRules.{is_clock, are_clocks, left_clocks, are_on_results}
 use Rattle.lb_check.specs.Clocks as tree
-use Rattle.lb_check.specs.Clocks.{given_inputs, given_outputs, given_name, outer, above, own_depth, depth, declared_clock, base_clock, base_from, argument_clocks, result_clocks}
+use Rattle.lb_check.specs.Clocks.{given_inputs, given_outputs, given_name, outer, above, own_depth}
+use Rattle.lb_check.specs.Clocks.{depth, declared_clock, base_clock, base_from, argument_clocks}
+use Rattle.lb_check.specs.Clocks.{result_clocks}
 use Rattle.lb_check.specs.Occurrences.{statement_clock}
 use Rattle.lb_check.specs.OwnClocks.{HasClocks, name_in, clock_in, is_clock_within}
 use Rattle.lb_check.specs.ClockSets.{AreClockSets, is_clocked_on}
-use Rattle.lb_check.specs.TermClocks.{Context, declared_in, operands_of, given_at, clock_sets, are_given, input_clocks, output_clocks, base_of, all_fit, left_clock_sets, stands_for, result_base, is_call_clocked}
+use Rattle.lb_check.specs.TermClocks.{Context, declared_in, operands_of, given_at, clock_sets}
+use Rattle.lb_check.specs.TermClocks.{are_given, input_clocks, output_clocks, base_of, all_fit}
+use Rattle.lb_check.specs.TermClocks.{left_clock_sets, stands_for, result_base, is_call_clocked}
 use Rattle.lb_check.specs.declared.own_clock.Clock.{Clock}
 use Rattle.lb_check.specs.declared.own_clock.Clock.TheVariants.{Base}
 use Rattle.lb_check.specs.declared.clock_set.ClockSet.{ClockSet}
 use Rattle.lb_check.specs.declared.clock_set.ClockSet.TheVariants.{OneClock}
-use Rattle.lb_check.proofs.CallOperands.{are_given_is, own_inputs, clock_set_within, waited_given, input_waits, output_waits, inputs_seen, inputs_is_given, code_known, code_stand, same_fits}
+use Rattle.lb_check.proofs.ClockLists.{clocks_length, clocks_at, clocks_from, nil_of, place_split}
+use Rattle.lb_check.proofs.ClockLists.{small_place, later_place, less_place}
+use Rattle.lb_check.proofs.CallOperands.{are_given_is, own_inputs, clock_set_within, waited_given}
+use Rattle.lb_check.proofs.CallOperands.{input_waits, output_waits, inputs_seen, inputs_is_given}
+use Rattle.lb_check.proofs.CallOperands.{code_known, code_stand, same_fits}
 use Rattle.lb_check.proofs.CallClockSets as one
-use Rattle.lb_check.proofs.FittingClocks.{IsGiven, IsWithin, fits_on, fit_some, fit_none, base_within, base_is}
+use Rattle.lb_check.proofs.FittingClocks.{IsGiven, IsWithin, fits_on, fit_some, fit_none}
+use Rattle.lb_check.proofs.FittingClocks.{base_within, base_is}
 use Rattle.lb_check.proofs.TruthValues.{and_first, and_second, and_true, both_true, both_ways}
-use Rattle.lb_check.proofs.GivenNames.{given_in, given_out, found_before, output_at, output_held, variable_held}
+use Rattle.lb_check.proofs.GivenNames.{given_in, given_out, found_before, output_at, output_held}
+use Rattle.lb_check.proofs.GivenNames.{variable_held}
 use Rattle.lb_check.proofs.NodePlaces.{held, all_at}
-use Rattle.lb_check.proofs.ListPairs.{get_mapped, mapped_from, get_taken, taken, get_dropped, each_pair, pair_at, pairs_from}
+use Rattle.lb_check.proofs.ListPairs.{get_mapped, mapped_from, get_taken, taken, get_dropped}
+use Rattle.lb_check.proofs.ListPairs.{each_pair, pair_at, pairs_from}
 use Rattle.lb_check.proofs.ClockTests.{clock_same, clock_turned}
-use Rattle.lb_check.proofs.OuterClocks.{stood, clock_equal, above_outer, declared_is, place_name, variable_at, seen, expected_on, AreGiven, StandFor, HaveNames, outer_all}
-
--- ## Clocks of two lists
-
-clocks_length : (ks ls : List tree.Clock) → are_clocks ks ls ≡ true → length ks ≡ length ls
-clocks_length [] [] e = refl
-clocks_length [] (l ∷ ls) e = absurd cc
-clocks_length (k ∷ ks) [] e = absurd cc
-clocks_length (k ∷ ks) (l ∷ ls) e = ap suc (clocks_length ks ls (and_second (is_clock k l) _ e))
-
-clocks_at : (ks ls : List tree.Clock) (j : ℕ) (k l : tree.Clock) → are_clocks ks ls ≡ true →
-    slice_get ks j ≡ Some k → slice_get ls j ≡ Some l → is_clock k l ≡ true
-clocks_at [] ls j k l e p q = absurd cc
-clocks_at (x ∷ ks) [] j k l e p q = absurd cc
-clocks_at (x ∷ ks) (y ∷ ls) zero k l e p q =
-    let s : x ≡ k = cc in
-    let t : y ≡ l = cc in
-    sym (ap (λ z. is_clock z y) s ∙ ap (is_clock k) t) ∙ and_first (is_clock x y) _ e
-clocks_at (x ∷ ks) (y ∷ ls) (suc j) k l e p q =
-    clocks_at ks ls j k l (and_second (is_clock x y) _ e) p q
-
-clocks_from : (ks ls : List tree.Clock) → length ks ≡ length ls
-    → ((j : ℕ) (k l : tree.Clock) → slice_get ks j ≡ Some k → slice_get ls j ≡ Some l →
-    is_clock k l ≡ true) → are_clocks ks ls ≡ true
-clocks_from [] [] e h = refl
-clocks_from [] (l ∷ ls) e h = absurd (omega (arith, e))
-clocks_from (k ∷ ks) [] e h = absurd (omega (arith, e))
-clocks_from (k ∷ ks) (l ∷ ls) e h =
-    both_true (is_clock k l) (are_clocks ks ls) (h 0 k l refl refl)
-    (clocks_from ks ls (omega (arith, e)) (λ j x y p q. h (suc j) x y p q))
-
-nil_of : {A : Type 0} (xs : List A) → length xs ≡ 0 → xs ≡ []
-nil_of [] e = refl
-nil_of (x ∷ xs) e = absurd (omega (arith, e))
-
--- ## Places of inputs, and of outputs
-
-place_split : (i m n : ℕ) → i < m + n → (i < m) ⊎ ((j : ℕ) × (i ≡ m + j) × (j < n))
-place_split i m n lt = by (nat_lt i m) refl
-  where
-    by : (b : Bool) → nat_lt i m ≡ b → (i < m) ⊎ ((j : ℕ) × (i ≡ m + j) × (j < n))
-    by true less = inl (grind (arith, nat_tests))
-    by false more =
-        let low : m ≤ i = grind (arith, nat_tests) in
-        inr (i - m, omega arith, omega arith)
-
-small_place : (i m : ℕ) → i < m → nat_lt i m ≡ true
-small_place i m lt = grind (arith, nat_tests)
-
-later_place : (m j : ℕ) → nat_lt (m + j) m ≡ false
-later_place m j = grind (arith, nat_tests)
-
-less_place : (m j : ℕ) → m + j - m ≡ j
-less_place m j = omega arith
+use Rattle.lb_check.proofs.OuterClocks.{stood, clock_equal, above_outer, declared_is, place_name}
+use Rattle.lb_check.proofs.OuterClocks.{variable_at, seen, expected_on, AreGiven, StandFor}
+use Rattle.lb_check.proofs.OuterClocks.{HaveNames, outer_all}
 
 module _ (P : Program) (here callee : ResolvedNode) (h : HasClocks here) (hc : HasClocks callee)
     (site : Site)
@@ -111,7 +73,7 @@ module _ (P : Program) (here callee : ResolvedNode) (h : HasClocks here) (hc : H
   abbrev Y : ℕ → Option VariableId
   Y = stands_for callee.inputs (operands_of ctx es) lefts
 
-  Y_in : (i : ℕ) → i < callee.inputs → Y i ≡ given_at (operands_of ctx es) i
+  pub Y_in : (i : ℕ) → i < callee.inputs → Y i ≡ given_at (operands_of ctx es) i
   Y_in i lt = rw (small_place i callee.inputs lt) refl
 
   Y_out : (j : ℕ) → Y (callee.inputs + j) ≡ slice_get lefts j
@@ -706,6 +668,86 @@ module _ (P : Program) (here callee : ResolvedNode) (h : HasClocks here) (hc : H
   kept : (m : ℕ) → (is_clocked_on P here k m whole && are_on_results P (node_of here) k xs whole) ≡
       is_call_clocked ctx callee (operands_of ctx es) lefts
   kept m = rules m ∙ both_ways _ _ code_kept text_kept
+
+  -- ## The base clock of a call that is a whole right side
+
+  module _ (m : ℕ) (whole_kept : is_clocked_on P here k m whole ≡ true)
+      (on_results : are_on_results P (node_of here) k xs whole ≡ true) where
+    judged : (((g && kept_one) && kept_in) && kept_out) ≡ true
+    judged = sym (rules m) ∙ both_true (is_clocked_on P here k m whole) _ whole_kept on_results
+
+    front : ((g && kept_one) && kept_in) ≡ true
+    front = and_first ((g && kept_one) && kept_in) kept_out judged
+
+    pub side_given : are_given callee (operands_of ctx es) ≡ true
+    side_given = and_first g kept_one (and_first (g && kept_one) kept_in front)
+
+    many : length lefts ≡ callee.outputs
+    many = as_many (and_second ((g && kept_one) && kept_in) kept_out judged)
+
+    inside : fits_in side_given many (from_left side_given many) ≡ true
+    inside =
+        sym (in_same side_given many (from_left side_given many))
+        ∙ and_second (g && kept_one) kept_in front
+
+    outside : fits_out side_given many (from_left side_given many) ≡ true
+    outside =
+        to_out side_given many (from_left side_given many) inside
+        (and_second ((g && kept_one) && kept_in) kept_out judged)
+
+    -- where nothing determines the base clock, any will do
+    any_in : base_of (input_clocks callee) ss ≡ None → (b : tree.Clock) →
+        fits_in side_given many b ≡ true
+    any_in e b =
+        let none = λ (c : tree.Clock). fit_none here h Y (input_clocks callee) ss
+        (params_in side_given many) (within_in side_given many) e c in
+        sym (none b) ∙ none (from_left side_given many) ∙ inside
+
+    any_out : base_of (output_clocks callee) ls ≡ None → (b : tree.Clock) →
+        fits_out side_given many b ≡ true
+    any_out e b =
+        let none = λ (c : tree.Clock). fit_none here h Y (output_clocks callee) ls
+        (params_out side_given many) lefts_within e c in
+        sym (none b) ∙ none (from_left side_given many) ∙ outside
+
+    two_bases : tree.Base ≡ tree.On tree.Base [] true → ⊥
+    two_bases e = cc
+
+    -- the base clock that some left variable or operand determines
+    found_base : (x : VariableId) (l : List VariableId) → lefts ≡ x ∷ l → (o p : Option Clock) →
+        base_of (output_clocks callee) ls ≡ o → base_of (input_clocks callee) ss ≡ p →
+        from_left side_given many ≡ clock_in here (either_or (or_else o p) Base)
+    found_base x l is (Some b) p eo ep =
+        base_is here h Y (output_clocks callee) ls (params_out side_given many) lefts_within b
+        (from_left side_given many) eo outside
+    found_base x l is None (Some b) eo ep =
+        base_is here h Y (input_clocks callee) ss (params_in side_given many)
+        (within_in side_given many) b (from_left side_given many) ep inside
+    found_base x l is None None eo ep =
+        let at = λ (b : tree.Clock). left_base side_given many x l is b (any_in ep b) (any_out eo b)
+        in
+        absurd (two_bases (sym (at tree.Base) ∙ at (tree.On tree.Base [] true)))
+
+    by_lefts : (l : List VariableId) → lefts ≡ l → from_left side_given many
+        ≡ clock_in here (either_or (result_base ctx callee (operands_of ctx es) lefts) Base)
+    by_lefts [] is =
+        let some : result_base ctx callee (operands_of ctx es) lefts ≡ Some Base =
+        ap (result_base ctx callee (operands_of ctx es)) is in
+        no_left side_given many is ∙ sym (ap (λ o. clock_in here (either_or o Base)) some)
+    by_lefts (x ∷ l) is =
+        found_base x l is (base_of (output_clocks callee) ls) (base_of (input_clocks callee) ss)
+        refl refl
+        ∙ sym (ap (λ o. clock_in here (either_or o Base)) (base_is_first side_given many x l is))
+
+    pub side_base : base_clock k (node_of callee)
+        ≡ clock_in here (either_or (result_base ctx callee (operands_of ctx es) lefts) Base)
+    side_base = by_lefts lefts refl
+
+    pub side_fitting : fits_on here h Y
+        (clock_in here (either_or (result_base ctx callee (operands_of ctx es) lefts) Base))
+        (input_clocks callee) ss ≡ true
+    side_fitting =
+        subst (λ b. fits_on here h Y b (input_clocks callee) ss ≡ true) (by_lefts lefts refl) inside
 
 -- a call that is a whole right side, where its operands stand as the code found
 pub equation_stands : (P : Program) (here callee : ResolvedNode) → HasClocks here → HasClocks callee

@@ -1,5 +1,6 @@
 -- What the code reads of a specialization is what the definitions say of its instances.
-use Rattle.std.proofs.Common.{◌≡◌, suc, true, List, [], ◌∷◌, length, map, Option, Some, None, refl, ap, sym, ◌∙◌, subst}
+use Rattle.std.proofs.Common.{◌≡◌, suc, true, List, [], ◌∷◌, length, map, Option, Some, None, refl}
+use Rattle.std.proofs.Common.{ap, sym, ◌∙◌, subst}
 use Rattle.std.specs.Prelude.{option_map, slice_get, nat_lt}
 use Rattle.std.proofs.lemmas.Option.{slice_get-map}
 use Rattle.lb_syntax.specs.Lists.{◌>>=◌, either_or}
@@ -13,12 +14,16 @@ use Rattle.lb_static.specs.declared.resolved.VariableId.{VariableId}
 use Rattle.lb_static.specs.declared.table.Specialization.{Specialization}
 use Rattle.lb_static.specs.declared.table.Table.{Table}
 use Rattle.lb_static.specs.InstanceTable.{instance_of}
-use Rattle.lb_static.specs.Instances.{Program, Instance, Path, Site, static_value, static_count, node_sites}
+use Rattle.lb_static.specs.Instances.{Program, Instance, Path, Site, static_value, static_count}
+use Rattle.lb_static.specs.Instances.{node_sites}
 use Rattle.lb_static.specs.Names.{are_distinct}
 use Rattle.lb_static.specs.Parts.{variable_names}
 use Rattle.lb_static.specs.ReachedNodes.{source_names}
 use Rattle.lb_static.specs.ResolvedNodes.{IsResolved, node_of, statics_of, counts_of}
-use Rattle.lb_static.specs.ResolvedTerms.{static_of, static_at, name_at, site_at, site_of, no_site, named_value, is_variable, is_static, is_call, is_no_variable, are_statics, is_count_within, is_site_within}
+use Rattle.lb_static.specs.ResolvedTerms.{static_of, static_at, name_at, site_at, site_of, no_site}
+use Rattle.lb_static.specs.ResolvedTerms.{named_value, is_variable, is_static, is_call}
+use Rattle.lb_static.specs.ResolvedTerms.{is_no_variable, are_statics, is_count_within}
+use Rattle.lb_static.specs.ResolvedTerms.{is_site_within}
 use Rattle.lb_static.specs.DataTypes.{DataType, int, variables, variable_type}
 use Rattle.lb_static.specs.StaticValues.{named}
 use Rattle.lb_check.specs.Types.{data_types, name_data_type, singly}

@@ -1,5 +1,6 @@
 -- What the numbers of a specialization stand for is what the definitions say of its instances.
-use Rattle.std.proofs.Common.{◌≡◌, ℕ, zero, suc, Bool, true, false, List, [], ◌∷◌, ◌++◌, map, take, drop, Option, Some, None, refl, ap, sym, ◌∙◌, subst}
+use Rattle.std.proofs.Common.{◌≡◌, ℕ, zero, suc, Bool, true, false, List, [], ◌∷◌, ◌++◌, map, take}
+use Rattle.std.proofs.Common.{drop, Option, Some, None, refl, ap, sym, ◌∙◌, subst}
 use Rattle.std.specs.Prelude.{ℤ, ◌||◌, not, option_map, slice_get, reverse}
 use Rattle.std.specs.Str.{bytes_eq}
 use Rattle.std.proofs.lemmas.List.{take-map, drop-map, reverse-append}
@@ -36,7 +37,7 @@ all_snoc (Some m ∷ os) o = ap (option_map (λ ns. m ∷ ns)) (all_snoc os o) �
     by (Some ns) None = refl
     by (Some ns) (Some n) = refl
 
-all_reversed : (os : List (Option ℕ)) →
+pub all_reversed : (os : List (Option ℕ)) →
     all_some (reverse os) ≡ option_map (λ (ns : List ℕ). reverse ns) (all_some os)
 all_reversed [] = refl
 all_reversed (o ∷ os) =

@@ -1,6 +1,7 @@
 -- Whether operands stand on the clocks that the code expects of them is whether they stand on those
 -- that the caller sees.
-use Rattle.std.proofs.Common.{◌≡◌, ℕ, zero, suc, Bool, true, List, [], ◌∷◌, Option, Some, None, refl, ap, sym, ◌∙◌}
+use Rattle.std.proofs.Common.{◌≡◌, ℕ, zero, suc, Bool, true, List, [], ◌∷◌, Option, Some, None}
+use Rattle.std.proofs.Common.{refl, ap, sym, ◌∙◌}
 use Rattle.std.specs.Prelude.{◌&&◌, option_map, slice_get}
 use Rattle.lb_syntax.specs.Lists.{either_or, holds}
 use Rattle.lb_static.specs.ResolvedNodes.{counts_of}

@@ -1,5 +1,7 @@
 -- What is given for the variables of a callee has the names of the caller's variables.
-use Rattle.std.proofs.Common.{◌≡◌, ℕ, zero, suc, ◌+◌, ◌<◌, ◌≤◌, Bool, true, false, List, [], ◌∷◌, ◌++◌, length, map, Option, Some, None, refl, ap, sym, ◌∙◌, subst, arith}
+use Rattle.std.proofs.Common.{◌≡◌, ℕ, zero, suc, ◌+◌, ◌<◌, ◌≤◌, Bool, true, false, List, [], ◌∷◌}
+use Rattle.std.proofs.Common.{◌++◌, length, map, Option, Some, None, refl, ap, sym, ◌∙◌, subst}
+use Rattle.std.proofs.Common.{arith}
 use Rattle.std.specs.Prelude.{not, option_map, slice_get, nat_lt}
 use Rattle.std.specs.Str.{bytes_eq}
 use Rattle.std.proofs.lemmas.Bool.Decides.{nat_tests}
@@ -12,7 +14,8 @@ use Rattle.lb_syntax.specs.Tree.{Name, Expr, Declaration, Node}
 use Rattle.lb_static.specs.Names.{are_distinct}
 use Rattle.lb_static.specs.Parts.{among, variable_names}
 use Rattle.lb_static.specs.ResolvedNodes.{node_of, texts_of}
-use Rattle.lb_static.specs.ResolvedTerms.{Texts, Counts, expr_of, exprs_of, name_at, is_within, is_variable}
+use Rattle.lb_static.specs.ResolvedTerms.{Texts, Counts, expr_of, exprs_of, name_at, is_within}
+use Rattle.lb_static.specs.ResolvedTerms.{is_variable}
 use Rattle.lb_static.specs.DataTypes.{variables}
 use Rattle.lb_static.specs.StaticValues.{named}
 use Rattle.lb_static.specs.declared.resolved.ResolvedNode.{ResolvedNode}
@@ -35,7 +38,8 @@ use Rattle.lb_check.proofs.DistinctNames.{distinct_first, not_among}
 
 -- ## Operands that are variables
 
-variable_as : (texts : Texts) (t : Term) (y : VariableId) → variable_of t ≡ Some y →
+-- the text of an operand that is a variable
+pub variable_as : (texts : Texts) (t : Term) (y : VariableId) → variable_of t ≡ Some y →
     as_variable (expr_of texts t) ≡ Some (name_at texts.variables y)
 unfolding variable_of
 variable_as texts (Variable x) y e = let same : x ≡ y = cc in
@@ -206,7 +210,8 @@ module _ (callee : ResolvedNode) (hc : HasClocks callee) where
       (d : Declaration) × (slice_get (node_of callee).outputs j ≡ Some d)
   output_held j lt = held (node_of callee).outputs j (subst (λ m. j < m) hc.resolved.outputs lt)
 
-  all_variables : callee.inputs + callee.outputs ≤ length callee.variables.items
+  -- each input and output is among the variables
+  pub all_variables : callee.inputs + callee.outputs ≤ length callee.variables.items
   all_variables =
       let a = length-append (node_of callee).inputs
       ((node_of callee).outputs ++ (node_of callee).locals) in

@@ -1,19 +1,27 @@
 -- Instances by their paths: each stands where its path says, each that stands at a path is among
 -- the instances, and no path has two.
-use Rattle.std.proofs.Common.{◌≡◌, ◌⊎◌, inl, inr, ℕ, zero, suc, ◌+◌, ◌<◌, ◌≤◌, Bool, true, false, Option, Some, None, option_map, List, [], ◌∷◌, ◌++◌, flat_map, map, refl, ap, ap₂, sym, subst, ◌∙◌, arith}
+use Rattle.std.proofs.Common.{◌≡◌, ◌⊎◌, inl, inr, ℕ, zero, suc, ◌+◌, ◌<◌, ◌≤◌, Bool, true, false}
+use Rattle.std.proofs.Common.{Option, Some, None, option_map, List, [], ◌∷◌, ◌++◌, flat_map, map}
+use Rattle.std.proofs.Common.{refl, ap, ap₂, sym, subst, ◌∙◌, arith}
 use Rattle.std.specs.Prelude.{◌&&◌, nat_eq, nat_lt, slice_get, IfSome, if◌then◌else◌}
 use Rattle.std.specs.List.{range_with_len}
 use Rattle.std.proofs.lemmas.Bool.Decides.{nat_tests}
 use Rattle.lb_syntax.specs.Lists.{Every, In, listed, some_of, all_some}
 use Rattle.lb_syntax.specs.Tree.{Name, Node}
-use Rattle.lb_static.specs.Instances.{Program, Instance, Path, Root, Observer, Child, is_path, Site, node_sites, numbered_sites, node_named, instance_count, callee_of, start_at, instance_at, site_instances, children, instances_from, instances}
+use Rattle.lb_static.specs.Instances.{Program, Instance, Path, Root, Observer, Child, is_path, Site}
+use Rattle.lb_static.specs.Instances.{node_sites, numbered_sites, node_named, instance_count}
+use Rattle.lb_static.specs.Instances.{callee_of, start_at, instance_at, site_instances, children}
+use Rattle.lb_static.specs.Instances.{instances_from, instances}
 use Rattle.lb_static.specs.Instantiation.{level, instantiation_refusal}
-use Rattle.lb_check.proofs.Every.{Every-map, Every-both, Every-all, Every-append, Every-of_pieces, Every-found, Every-of_range}
+use Rattle.lb_check.proofs.Every.{Every-map, Every-both, Every-all, Every-append, Every-of_pieces}
+use Rattle.lb_check.proofs.Every.{Every-found, Every-of_range}
 use Rattle.lb_check.proofs.NamedClocks.{if_some}
 use Rattle.lb_check.proofs.OperandTypes.{bound, some_same}
 use Rattle.lb_check.proofs.SameInstances.{callee_path, all_entered, all_children}
 use Rattle.lb_check.proofs.TruthValues.{and_first, and_second, both_true}
-use Rattle.lb_check.proofs.ApartLists.{in_first, in_second, Every-at, Every-from, in_some, some_in, AreApart, apart-append, some_apart, IsPiece, of_pieces, to_pieces, apart_pieces, range_apart, in_range}
+use Rattle.lb_check.proofs.ApartLists.{in_first, in_second, Every-at, Every-from, in_some, some_in}
+use Rattle.lb_check.proofs.ApartLists.{AreApart, apart-append, some_apart, IsPiece, of_pieces}
+use Rattle.lb_check.proofs.ApartLists.{to_pieces, apart_pieces, range_apart, in_range}
 
 -- ## Equal paths
 
@@ -235,7 +243,7 @@ module _ (P : Program) where
 
   -- ## What an instance calls is an instance
 
-  numbered_in :
+  pub numbered_in :
       (ss : List Site) (n j : ℕ) (s : Site) → slice_get ss j ≡ Some s →
       In (n + j, s) (numbered_sites n ss)
   numbered_in [] n j s e = absurd cc
@@ -374,7 +382,8 @@ module _ (P : Program) where
       deep c i = let k = child_path here c i in ap depth k.path
 
       within : (b c : Instance) → In b (instances_from P n c) → IsWithin c.path b.path
-      within b c i = Every-at (λ d. IsWithin c.path d.path) (instances_from P n c) b (all_within n c) i
+      within b c i = Every-at (λ d. IsWithin c.path d.path) (instances_from P n c) b
+          (all_within n c) i
 
       deeper : IsPiece (instances_from P n) here (children P here) → ⊥
       deeper p =

@@ -1,15 +1,28 @@
 -- The types that the code finds for a term are those of the expression that it stands for.
-use Rattle.std.proofs.Common.{◌≡◌, ℕ, Bool, true, false, List, [], ◌∷◌, Option, Some, None, refl, ap, sym, ◌∙◌}
+use Rattle.std.proofs.Common.{◌≡◌, ℕ, Bool, true, false, List, [], ◌∷◌, Option, Some, None, refl}
+use Rattle.std.proofs.Common.{ap, sym, ◌∙◌}
 use Rattle.std.specs.Prelude.{◌&&◌, if◌then◌else◌}
 use Rattle.lb_syntax.specs.declared.tree.BinaryOperator.{BinaryOperator}
 use Rattle.lb_syntax.specs.Lists.{◌>>=◌, where_true, either_or}
 use Rattle.lb_syntax.specs.Tree.{Whole, Node_named, Symbol}
-use Rattle.lb_static.specs.declared.resolved.Term.{Term, Literal, Truth, Variable, Value, Group', Unary', Binary', If', Arrow', Fby', Pre', Current', When', Replicate', Index', Slice', Join', Array', AtMostOne', Nor', Call', IterateNode', IterateSymbol', Row_of-Term, end_of-Term, more_of-Term}
+use Rattle.lb_static.specs.declared.resolved.Term.{Term, Literal, Truth, Variable, Value, Group'}
+use Rattle.lb_static.specs.declared.resolved.Term.{Unary', Binary', If', Arrow', Fby', Pre'}
+use Rattle.lb_static.specs.declared.resolved.Term.{Current', When', Replicate', Index', Slice'}
+use Rattle.lb_static.specs.declared.resolved.Term.{Join', Array', AtMostOne', Nor', Call'}
+use Rattle.lb_static.specs.declared.resolved.Term.{IterateNode', IterateSymbol', Row_of-Term}
+use Rattle.lb_static.specs.declared.resolved.Term.{end_of-Term, more_of-Term}
 use Rattle.lb_static.specs.Instances.{Program, Instance, static_count}
-use Rattle.lb_static.specs.ResolvedTerms.{Texts, Counts, expr_of, row_of, named_value, name_at, static_at, site_at, is_variable, is_static, is_call, is_no_variable, is_within, are_within, is_unhidden, are_unhidden}
+use Rattle.lb_static.specs.ResolvedTerms.{Texts, Counts, expr_of, row_of, named_value, name_at}
+use Rattle.lb_static.specs.ResolvedTerms.{static_at, site_at, is_variable, is_static, is_call}
+use Rattle.lb_static.specs.ResolvedTerms.{is_no_variable, is_within, are_within, is_unhidden}
+use Rattle.lb_static.specs.ResolvedTerms.{are_unhidden}
 use Rattle.lb_static.specs.DataTypes.{DataType, int, truth, is_type}
-use Rattle.lb_check.specs.Types.{data_types, all_types, name_data_type, operator_types, is_arithmetic, unary_type, binary_type, common_type, array_of, index_type, slice_type, join_type, list_type, iterator_types, from_one, from_two, from_truths, singly, only}
-use Rattle.lb_check.specs.TermTypes.{Context, Signature, type_of, types_in, results, when_both, when_truth, symbol_signature}
+use Rattle.lb_check.specs.Types.{data_types, all_types, name_data_type, operator_types}
+use Rattle.lb_check.specs.Types.{is_arithmetic, unary_type, binary_type, common_type, array_of}
+use Rattle.lb_check.specs.Types.{index_type, slice_type, join_type, list_type, iterator_types}
+use Rattle.lb_check.specs.Types.{from_one, from_two, from_truths, singly, only}
+use Rattle.lb_check.specs.TermTypes.{Context, Signature, type_of, types_in, results, when_both}
+use Rattle.lb_check.specs.TermTypes.{when_truth, symbol_signature}
 use Rattle.lb_check.proofs.TruthValues.{and_first, and_second}
 
 -- ## One type of several

@@ -1,5 +1,6 @@
 -- The clocks in the text of a node that keeps the rules of clocks wait for its variables alone.
-use Rattle.std.proofs.Common.{◌≡◌, ℕ, zero, suc, Bool, true, false, cond, List, [], ◌∷◌, ◌++◌, length, map, Option, Some, None, refl, ap, sym, ◌∙◌, subst}
+use Rattle.std.proofs.Common.{◌≡◌, ℕ, zero, suc, Bool, true, false, cond, List, [], ◌∷◌, ◌++◌}
+use Rattle.std.proofs.Common.{length, map, Option, Some, None, refl, ap, sym, ◌∙◌, subst}
 use Rattle.std.specs.Prelude.{◌&&◌, ◌||◌, not, IfSome, option_map}
 use Rattle.std.specs.List.{list_all}
 use Rattle.std.specs.Str.{bytes_eq}
@@ -9,8 +10,12 @@ use Rattle.lb_syntax.specs.Tree.{Name, Exprs, Declaration, Sampling, Node}
 use Rattle.lb_static.specs.Parts.{among, variable_names}
 use Rattle.lb_static.specs.DataTypes.{variables}
 use Rattle.lb_static.specs.StaticValues.{named}
-use Rattle.lb_check.specs.Clocks.{Clock, Base, On, Given, sampled, clock_within, variable_clock, clock_or, declared_clock, parent, above, own_depth, given_name, outer, given_inputs, base_from, base_clock, base_from_arguments, first_result_clock, argument_clocks}
-use Rattle.lb_check.specs.ClockRules.{if_clocked, is_clocked_by, are_declared_clocks, is_given_variable, are_given_variables}
+use Rattle.lb_check.specs.Clocks.{Clock, Base, On, Given, sampled, clock_within, variable_clock}
+use Rattle.lb_check.specs.Clocks.{clock_or, declared_clock, parent, above, own_depth, given_name}
+use Rattle.lb_check.specs.Clocks.{outer, given_inputs, base_from, base_clock, base_from_arguments}
+use Rattle.lb_check.specs.Clocks.{first_result_clock, argument_clocks}
+use Rattle.lb_check.specs.ClockRules.{if_clocked, is_clocked_by, are_declared_clocks}
+use Rattle.lb_check.specs.ClockRules.{is_given_variable, are_given_variables}
 use Rattle.lb_check.proofs.Every.{Every-tested, Every-both, Every-first, Every-second}
 use Rattle.lb_check.proofs.TruthValues.{and_first, and_second}
 
@@ -79,7 +84,7 @@ turned x y e f =
     absurd cc
 
 -- a name among the first of some declarations is that of one of these
-found_first :
+pub found_first :
     (E : Declaration → Type 0) (x : Name) (ds rest : List Declaration) (v : Declaration) →
     Every E ds → among x (map (λ d. d.name) ds) ≡ true →
     named (λ d. d.name) x (ds ++ rest) ≡ Some v → E v
@@ -144,7 +149,7 @@ last_name x (c ∷ ds) d none e = by (last_name x ds d) (bytes_eq x c.name) none
     by rest false none e = rest none e
 
 -- each of some declarations has one of their names
-own_names : (ds : List Declaration) → Every (λ d. among d.name (map (λ d. d.name) ds) ≡ true) ds
+pub own_names : (ds : List Declaration) → Every (λ d. among d.name (map (λ d. d.name) ds) ≡ true) ds
 own_names ds = from ds (λ x e. e)
   where
     or_true : (b c : Bool) → c ≡ true → (b || c) ≡ true
@@ -271,16 +276,16 @@ module _ (V : Name → Type 0) (n : Node) (all : Every (λ d. V d.name) (variabl
 
 -- ## What a call is given
 
-module _ (V : Name → Type 0) (here callee : Node) (es : Exprs)
-    (all : Every (λ d. V d.name) (variables here))
+-- where this holds of an input for which a variable of the caller is given, it does so of all that
+-- the clock of an input waits for
+module _ (Seen : Name → Type 0) (here callee : Node) (es : Exprs)
     (declared : are_declared_clocks callee ≡ true)
-    (is_given : are_given_variables here callee es ≡ true) where
+    (is_given : are_given_variables here callee es ≡ true)
+    (seen : (x : Name) (g : Name × Name) →
+    named (λ g. g.0) x (given_inputs callee.inputs es) ≡ Some g →
+    among g.1 (variable_names here) ≡ true → Seen x) where
   abbrev given : Given
   given = given_inputs callee.inputs es
-
-  -- the variable of the caller that stands for one of the callee
-  abbrev Seen : Name → Type 0
-  Seen x = V (given_name given x)
 
   -- a parameter that waits for an input alone, and is given a variable for it
   abbrev Waits : Declaration → Type 0
@@ -309,9 +314,7 @@ module _ (V : Name → Type 0) (here callee : Node) (es : Exprs)
       (x : Name) (o : Option (Name × Name)) → named (λ g. g.0) x given ≡ o →
       holds (λ g. among g.1 (variable_names here)) o ≡ true → Seen x
   given_there x None is e = absurd cc
-  given_there x (Some g) is e =
-      subst V (sym (ap (λ o. either_or (option_map (λ g. g.1) o) x) is))
-      (among_has V g.1 (variables here) all e)
+  given_there x (Some g) is e = seen x g is e
 
   implied : (a b : Bool) → a ≡ true → (not a || b) ≡ true → b ≡ true
   implied true b e f = f
@@ -339,28 +342,13 @@ module _ (V : Name → Type 0) (here callee : Node) (es : Exprs)
             e found,
       )
 
-  -- the clock of one of the inputs, as the caller sees it
-  input_over : (x : Name) → among x input_names ≡ true → IsOver Seen (declared_clock callee x)
+  -- the clock of one of the inputs
+  pub input_over : (x : Name) → among x input_names ≡ true → IsOver Seen (declared_clock callee x)
   input_over x e =
       clock_or_over Seen (variable_clock callee x)
       (named_over Seen (variables callee) Waits waits (suc (length (variables callee))) x
       (λ v found. found_first Waits x callee.inputs (callee.outputs ++ callee.locals) v inputs_wait
       e found))
-
-  -- the clocks of the arguments
-  pub arguments_over :
-      (k : Clock) → IsOver V k → Every (IsOver V) (argument_clocks k callee es)
-  arguments_over k h = by callee.inputs (own_names callee.inputs)
-    where
-      by : (ds : List Declaration) → Every (λ d. among d.name input_names ≡ true) ds →
-          Every (IsOver V)
-          (map (λ d. outer (base_clock k callee) given (declared_clock callee d.name)) ds)
-      by [] own = tt
-      by (d ∷ ds) own = (
-        outer_over V (base_clock k callee) given (declared_clock callee d.name)
-            (base_over V k callee h) (input_over d.name own.0),
-        by ds own.1,
-      )
 
   -- ## The clock of the one result
 
@@ -432,7 +420,8 @@ module _ (V : Name → Type 0) (here callee : Node) (es : Exprs)
                 tt
         by (Some s) is = waiting s is (among s.variable input_names) refl
 
-    output_over : IsOver Seen (declared_clock callee d.name)
+    -- the clock of the one output
+    pub output_over : IsOver Seen (declared_clock callee d.name)
     output_over = by (among d.name input_names) refl
       where
         by : (b : Bool) → among d.name input_names ≡ b → IsOver Seen (declared_clock callee d.name)
@@ -445,8 +434,47 @@ module _ (V : Name → Type 0) (here callee : Node) (es : Exprs)
             clock_or_over Seen (variable_clock callee d.name)
             (subst (λ o. IfSome o (IsOver Seen)) (sym same) (output_within n))
 
-    pub result_over :
-        (k : Clock) → IsOver V k → IsOver V (first_result_clock k callee given callee.outputs)
-    result_over k h =
-        subst (λ outs. IsOver V (first_result_clock k callee given outs)) (sym one)
-        (outer_over V k given (declared_clock callee d.name) h output_over)
+-- the clocks of a call, as the caller sees them
+module _ (V : Name → Type 0) (here callee : Node) (es : Exprs)
+    (all : Every (λ d. V d.name) (variables here))
+    (declared : are_declared_clocks callee ≡ true)
+    (is_given : are_given_variables here callee es ≡ true) where
+  -- the variable of the caller that stands for one of the callee
+  abbrev SeenOver : Name → Type 0
+  SeenOver x = V (given_name (given_inputs callee.inputs es) x)
+
+  seen_over :
+      (x : Name) (g : Name × Name) →
+      named (λ g. g.0) x (given_inputs callee.inputs es) ≡ Some g →
+      among g.1 (variable_names here) ≡ true → SeenOver x
+  seen_over x g is e =
+      subst V (sym (ap (λ o. either_or (option_map (λ g. g.1) o) x) is))
+      (among_has V g.1 (variables here) all e)
+
+  -- the clocks of the arguments
+  pub arguments_over :
+      (k : Clock) → IsOver V k → Every (IsOver V) (argument_clocks k callee es)
+  arguments_over k h = by callee.inputs (own_names callee.inputs)
+    where
+      by : (ds : List Declaration) →
+          Every (λ d. among d.name (map (λ i. i.name) callee.inputs) ≡ true) ds →
+          Every (IsOver V)
+          (map (λ d. outer (base_clock k callee) (given_inputs callee.inputs es)
+          (declared_clock callee d.name)) ds)
+      by [] own = tt
+      by (d ∷ ds) own = (
+        outer_over V (base_clock k callee) (given_inputs callee.inputs es)
+            (declared_clock callee d.name) (base_over V k callee h)
+            (input_over SeenOver here callee es declared is_given seen_over d.name own.0),
+        by ds own.1,
+      )
+
+  -- the clock of the one result
+  pub result_over :
+      (d : Declaration) → callee.outputs ≡ d ∷ [] → (k : Clock) → IsOver V k →
+      IsOver V (first_result_clock k callee (given_inputs callee.inputs es) callee.outputs)
+  result_over d one k h =
+      subst (λ outs. IsOver V (first_result_clock k callee (given_inputs callee.inputs es) outs))
+      (sym one)
+      (outer_over V k (given_inputs callee.inputs es) (declared_clock callee d.name) h
+      (output_over SeenOver here callee es declared is_given seen_over d one))

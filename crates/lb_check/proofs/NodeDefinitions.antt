@@ -1,6 +1,9 @@
 -- The rules of definitions of a node with resolved names are what the code finds.
-use Rattle.std.proofs.Common.{length-append, ◌≡◌, ℕ, zero, suc, ◌+◌, ◌-◌, ◌<◌, ◌≤◌, Bool, true, false, cond, List, [], ◌∷◌, ◌++◌, length, map, Option, Some, None, refl, ap, sym, ◌∙◌, subst, arith}
-use Rattle.std.specs.Prelude.{◌&&◌, ◌||◌, not, nat_lt, nat_eq, option_map, slice_get, flat_map, ◌==◌, ◌↔◌, IfOk, IsTrue, Result, Ok, Err}
+use Rattle.std.proofs.Common.{length-append, ◌≡◌, ℕ, zero, suc, ◌+◌, ◌-◌, ◌<◌, ◌≤◌, Bool, true}
+use Rattle.std.proofs.Common.{false, cond, List, [], ◌∷◌, ◌++◌, length, map, Option, Some, None}
+use Rattle.std.proofs.Common.{refl, ap, sym, ◌∙◌, subst, arith}
+use Rattle.std.specs.Prelude.{◌&&◌, ◌||◌, not, nat_lt, nat_eq, option_map, slice_get, flat_map}
+use Rattle.std.specs.Prelude.{◌==◌, ◌↔◌, IfOk, IsTrue, Result, Ok, Err}
 use Rattle.std.specs.List.{list_all}
 use Rattle.std.specs.Str.{bytes_eq}
 use Rattle.std.proofs.lemmas.Bool.Decides.{nat_tests}
@@ -18,17 +21,30 @@ use Rattle.lb_static.specs.declared.resolved.ResolvedNode.{ResolvedNode}
 use Rattle.lb_static.specs.declared.resolved.VariableId.{VariableId}
 use Rattle.lb_static.specs.declared.resolved.ResolvedStatement.{ResolvedStatement}
 use Rattle.lb_static.specs.declared.resolved.ResolvedStatement.TheVariants as statement
-use Rattle.lb_static.specs.declared.resolved.Term.{Term, Literal, Truth, Variable, Value, Group', Unary', Binary', If', Arrow', Fby', Pre', Current', When', Replicate', Index', Slice', Join', Array', AtMostOne', Nor', Call', IterateNode', IterateSymbol', Row_of-Term, end_of-Term, more_of-Term}
+use Rattle.lb_static.specs.declared.resolved.Term.{Term, Literal, Truth, Variable, Value, Group'}
+use Rattle.lb_static.specs.declared.resolved.Term.{Unary', Binary', If', Arrow', Fby', Pre'}
+use Rattle.lb_static.specs.declared.resolved.Term.{Current', When', Replicate', Index', Slice'}
+use Rattle.lb_static.specs.declared.resolved.Term.{Join', Array', AtMostOne', Nor', Call'}
+use Rattle.lb_static.specs.declared.resolved.Term.{IterateNode', IterateSymbol', Row_of-Term}
+use Rattle.lb_static.specs.declared.resolved.Term.{end_of-Term, more_of-Term}
 use Rattle.lb_static.specs.Instances.{Program, Site, node_named, statement_sites, sites, sites_in}
 use Rattle.lb_static.specs.Names.{are_distinct, keeps_names}
-use Rattle.lb_static.specs.Parts.{left_names, node_parts, parts, parts_in, right_side, variable_names}
-use Rattle.lb_static.specs.ReachedNodes.{IsReached, are_linked, id_at, is_linked, source_names, tree_at, trees}
+use Rattle.lb_static.specs.Parts.{left_names, node_parts, parts, parts_in, right_side}
+use Rattle.lb_static.specs.Parts.{variable_names}
+use Rattle.lb_static.specs.ReachedNodes.{IsReached, are_linked, id_at, is_linked, source_names}
+use Rattle.lb_static.specs.ReachedNodes.{tree_at, trees}
 use Rattle.lb_static.specs.ResolvedNodes.{IsResolved, node_of, texts_of, counts_of, statics_of}
-use Rattle.lb_static.specs.ResolvedTerms.{Texts, Counts, is_variable, is_statement_within, name_at, static_at, named_value, expr_of, row_of, statement_of, site_of}
+use Rattle.lb_static.specs.ResolvedTerms.{Texts, Counts, is_variable, is_statement_within, name_at}
+use Rattle.lb_static.specs.ResolvedTerms.{static_at, named_value, expr_of, row_of, statement_of}
+use Rattle.lb_static.specs.ResolvedTerms.{site_of}
 use Rattle.lb_static.specs.DataTypes.{variables}
 use Rattle.lb_check.specs.ClockRules.{if_node}
-use Rattle.lb_check.specs.DefinitionRules.{definition_count, defines_once, is_memoryless, is_defined}
-use Rattle.lb_check.specs.NodeDefinitions.{count_left, count_statement, count_statements, DefinesEach, has_memory, row_memory, statement_memory, statements_memory, calls_function, call_functions, keeps_function_rules, is_defined_at}
+use Rattle.lb_check.specs.DefinitionRules.{definition_count, defines_once, is_memoryless}
+use Rattle.lb_check.specs.DefinitionRules.{is_defined}
+use Rattle.lb_check.specs.NodeDefinitions.{count_left, count_statement, count_statements}
+use Rattle.lb_check.specs.NodeDefinitions.{DefinesEach, has_memory, row_memory, statement_memory}
+use Rattle.lb_check.specs.NodeDefinitions.{statements_memory, calls_function, call_functions}
+use Rattle.lb_check.specs.NodeDefinitions.{keeps_function_rules, is_defined_at}
 use Rattle.lb_check.proofs.NodePlaces.{held, all_at, all_from, named_at, distinct_variables}
 use Rattle.lb_check.proofs.TruthValues.{and_first, and_second}
 use Rattle.lb_check.proofs.DistinctNames.{distinct_at}

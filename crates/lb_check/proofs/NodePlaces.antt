@@ -1,13 +1,15 @@
 -- Where names are distinct a place is found by its name, and what a node of the source is called by
 -- is that of its place.
-use Rattle.std.proofs.Common.{◌≡◌, ℕ, zero, suc, ◌<◌, Bool, true, List, [], ◌∷◌, ◌++◌, length, map, Some, refl, ap, sym, ◌∙◌, subst, arith}
+use Rattle.std.proofs.Common.{◌≡◌, ℕ, zero, suc, ◌<◌, Bool, true, List, [], ◌∷◌, ◌++◌, length, map}
+use Rattle.std.proofs.Common.{Some, refl, ap, sym, ◌∙◌, subst, arith}
 use Rattle.std.specs.Prelude.{not, option_map, slice_get}
 use Rattle.std.specs.List.{list_all, Contains}
 use Rattle.std.proofs.lemmas.Option.{slice_get-map, slice_get-get_or}
 use Rattle.std.proofs.lemmas.Slice.Eq.{bytes_eq-Decides}
 use Rattle.lb_syntax.specs.Tree.{Name, Node}
 use Rattle.lb_static.specs.Instances.{Program, node_named}
-use Rattle.lb_static.specs.Names.{are_distinct, is_named, declares_once, reached_nodes, keeps_names, global_names}
+use Rattle.lb_static.specs.Names.{are_distinct, is_named, declares_once, reached_nodes, keeps_names}
+use Rattle.lb_static.specs.Names.{global_names}
 use Rattle.lb_static.specs.Parts.{among, variable_names}
 use Rattle.lb_static.specs.StaticValues.{named}
 use Rattle.lb_check.proofs.TruthValues.{and_first, and_second, not_true}

@@ -1,6 +1,8 @@
 -- The numbers of scalar elements: each variable of an instance has as many as it is wide, and all
 -- together are the numbers from 0 on, in the order of the elements.
-use Rattle.std.proofs.Common.{◌≡◌, inl, inr, ℕ, zero, suc, ◌+◌, ◌<◌, Bool, true, false, Option, Some, None, List, [], ◌∷◌, ◌++◌, flat_map, map, length, refl, ap, ap₂, sym, subst, ◌∙◌, arith}
+use Rattle.std.proofs.Common.{◌≡◌, inl, inr, ℕ, zero, suc, ◌+◌, ◌<◌, Bool, true, false, Option}
+use Rattle.std.proofs.Common.{Some, None, List, [], ◌∷◌, ◌++◌, flat_map, map, length, refl, ap, ap₂}
+use Rattle.std.proofs.Common.{sym, subst, ◌∙◌, arith}
 use Rattle.std.specs.Prelude.{◌||◌, not, slice_get}
 use Rattle.std.specs.Str.{bytes_eq}
 use Rattle.std.specs.List.{range_with_len}
@@ -14,14 +16,17 @@ use Rattle.lb_static.specs.Instances.{Program, Instance, Path, is_path, instance
 use Rattle.lb_static.specs.Names.{are_distinct}
 use Rattle.lb_static.specs.Parts.{among}
 use Rattle.lb_static.proofs.Members.{place_in, in_at, in_map}
-use Rattle.lb_check.specs.Elements.{instance_elements, program_elements, found_from, numbers_from, numbers_of}
+use Rattle.lb_check.specs.Elements.{instance_elements, program_elements, found_from, numbers_from}
+use Rattle.lb_check.specs.Elements.{numbers_of}
 use Rattle.lb_check.specs.Needs.{Element, elements}
 use Rattle.lb_check.proofs.Every.{Every-map, Every-all, flat_same}
 use Rattle.lb_check.proofs.ListPairs.{never, get_mapped}
 use Rattle.lb_check.proofs.OperandTypes.{some_same}
 use Rattle.lb_check.proofs.TruthValues.{and_first, and_second, not_true, or_first, or_second}
-use Rattle.lb_check.proofs.ApartLists.{in_first, in_second, Every-at, Every-from, AreApart, to_pieces, in_range}
-use Rattle.lb_check.proofs.InstancePaths.{is_path-same, same_path, IsAt, all_at, at_path, same_instance, instances_apart}
+use Rattle.lb_check.proofs.ApartLists.{in_first, in_second, Every-at, Every-from, AreApart}
+use Rattle.lb_check.proofs.ApartLists.{to_pieces, in_range}
+use Rattle.lb_check.proofs.InstancePaths.{is_path-same, same_path, IsAt, all_at, at_path}
+use Rattle.lb_check.proofs.InstancePaths.{same_instance, instances_apart}
 
 -- ## Ranges and places
 
@@ -37,7 +42,8 @@ range_append a (suc m) n =
     ap (λ b. a ∷ (range_with_len (a + 1) m ++ range_with_len b n)) from
     ∙ (ap (λ is. a ∷ is) (range_append (a + 1) m n) ∙ ap (range_with_len a) count)
 
-map_append : {A B : Type 0} (f : A → B) (xs ys : List A) → map f (xs ++ ys) ≡ map f xs ++ map f ys
+pub map_append : {A B : Type 0} (f : A → B) (xs ys : List A)
+    → map f (xs ++ ys) ≡ map f xs ++ map f ys
 map_append f [] ys = refl
 map_append f (x ∷ xs) ys = ap (λ zs. f x ∷ zs) (map_append f xs ys)
 
@@ -57,14 +63,15 @@ places_are : {A : Type 0} (xs : List A) →
     map (slice_get xs) (range_with_len 0 (length xs)) ≡ map (λ x. Some x) xs
 places_are xs = places_from xs xs 0 (λ j. let e : 0 + j ≡ j = omega arith in ap (slice_get xs) e)
 
-range_get : (a n i : ℕ) → i < n → slice_get (range_with_len a n) i ≡ Some (a + i)
+pub range_get : (a n i : ℕ) → i < n → slice_get (range_with_len a n) i ≡ Some (a + i)
 range_get a zero i lt = absurd (omega arith)
 range_get a (suc n) zero lt = let e : a ≡ a + 0 = omega arith in ap (λ j. Some j) e
 range_get a (suc n) (suc i) lt =
     let e : (a + 1) + i ≡ a + suc i = omega arith in
     range_get (a + 1) n i (omega arith) ∙ ap (λ j. Some j) e
 
-got_within : {A : Type 0} (xs : List A) (i : ℕ) (x : A) → slice_get xs i ≡ Some x → i < length xs
+pub got_within : {A : Type 0} (xs : List A) (i : ℕ) (x : A) → slice_get xs i ≡ Some x
+    → i < length xs
 got_within [] i x e = absurd cc
 got_within (y ∷ xs) zero x e = omega arith
 got_within (y ∷ xs) (suc i) x e = let below = got_within xs i x e in omega (arith, below)
@@ -74,30 +81,32 @@ got_within (y ∷ xs) (suc i) x e = let below = got_within xs i x e in omega (ar
 not_among : (x : Name) (ds : List Declaration) → among x (map (λ d. d.name) ds) ≡ false →
     Every (λ d. bytes_eq x d.name ≡ false) ds
 not_among x [] e = tt
-not_among x (d ∷ ds) e = (or_first (bytes_eq x d.name) _ e, not_among x ds (or_second (bytes_eq x d.name) _ e))
+not_among x (d ∷ ds) e =
+    (or_first (bytes_eq x d.name) _ e, not_among x ds (or_second (bytes_eq x d.name) _ e))
 
 module _ (P : Program) (here : Instance) where
-  length_elements : (d : Declaration) → length (elements P here d) ≡ width P here d
+  pub length_elements : (d : Declaration) → length (elements P here d) ≡ width P here d
   length_elements d =
       length-map (range_with_len 0 (width P here d)) _ ∙ length-range_with_len 0 (width P here d)
 
-  numbers_first : (n : ℕ) (d : Declaration) (ds : List Declaration) →
+  pub numbers_first : (n : ℕ) (d : Declaration) (ds : List Declaration) →
       numbers_from P here n (d ∷ ds) d.name ≡ range_with_len n (width P here d)
   unfolding numbers_from
   numbers_first n d ds = let z = (bytes_eq-Decides d.name d.name).1 refl in rw z refl
 
-  numbers_later :
+  pub numbers_later :
       (n : ℕ) (d : Declaration) (ds : List Declaration) (x : Name) → bytes_eq d.name x ≡ false →
       numbers_from P here n (d ∷ ds) x ≡ numbers_from P here (n + width P here d) ds x
   unfolding numbers_from
   numbers_later n d ds x e = rw e refl
 
-  others : (d : Declaration) (ds : List Declaration) → are_distinct (map (λ d. d.name) (d ∷ ds)) ≡ true →
+  pub others : (d : Declaration) (ds : List Declaration)
+      → are_distinct (map (λ d. d.name) (d ∷ ds)) ≡ true →
       Every (λ e. bytes_eq d.name e.name ≡ false) ds
   others d ds e =
       not_among d.name ds (not_true _ (and_first (not (among d.name (map (λ d. d.name) ds))) _ e))
 
-  distinct_rest : (d : Declaration) (ds : List Declaration) →
+  pub distinct_rest : (d : Declaration) (ds : List Declaration) →
       are_distinct (map (λ d. d.name) (d ∷ ds)) ≡ true → are_distinct (map (λ d. d.name) ds) ≡ true
   distinct_rest d ds e = and_second (not (among d.name (map (λ d. d.name) ds))) _ e
 
@@ -115,7 +124,8 @@ module _ (P : Program) (here : Instance) where
       let same = flat_same all less ds
       (Every-map _ _ (λ x no. numbers_later n d ds x.name no) ds (others d ds e)) in
       let later = same ∙ node_numbers (n + w) ds (distinct_rest d ds e) in
-      let count = length-append (elements P here d) rest ∙ ap (λ m. m + length rest) (length_elements d) in
+      let count = length-append (elements P here d) rest
+      ∙ ap (λ m. m + length rest) (length_elements d) in
       ap₂ (λ xs ys. xs ++ ys) (numbers_first n d ds) later
       ∙ (range_append n w (length rest) ∙ ap (range_with_len n) (sym count))
 
@@ -130,7 +140,8 @@ module _ (P : Program) (here : Instance) where
   )
     where
       Every-both-map : (xs : List Declaration) → Every (λ x. bytes_eq d.name x.name ≡ false) xs →
-          Every (λ x. length (numbers_from P here (n + width P here d) ds x.name) ≡ width P here x) xs →
+          Every (λ x. length (numbers_from P here (n + width P here d) ds x.name) ≡ width P here x)
+          xs →
           Every (λ x. length (numbers_from P here n (d ∷ ds) x.name) ≡ width P here x) xs
       Every-both-map [] p q = tt
       Every-both-map (x ∷ xs) p q =
@@ -170,12 +181,12 @@ module _ (P : Program) (here : Instance) where
 -- ## All instances
 
 module _ (P : Program) where
-  found_first : (n : ℕ) (c : Instance) (is : List Instance) →
+  pub found_first : (n : ℕ) (c : Instance) (is : List Instance) →
       found_from P n (c ∷ is) c.path ≡ Some (n, c)
   unfolding found_from
   found_first n c is = let z = is_path-same c.path in rw z refl
 
-  found_later :
+  pub found_later :
       (n : ℕ) (c : Instance) (is : List Instance) (p : Path) → is_path c.path p ≡ false →
       found_from P n (c ∷ is) p ≡ found_from P (n + length (instance_elements P c)) is p
   unfolding found_from
@@ -202,7 +213,8 @@ module _ (P : Program) where
           )
       by false e (inl same) again =
           let z = is_path-same here.path in
-          let w : is_path c.path here.path ≡ true = subst (λ d. is_path d.path here.path ≡ true) (sym same) z in
+          let w : is_path c.path here.path ≡ true =
+          subst (λ d. is_path d.path here.path ≡ true) (sym same) z in
           absurd cc
       by false e (inr j) again =
           let k = again j in
@@ -234,7 +246,7 @@ module _ (P : Program) where
           let k = again (sym (found_later n c is p at) ∙ e) in
           (inr k.0, k.1)
 
-  numbers_at :
+  pub numbers_at :
       (m : ℕ) (here : Instance) (x : Name) →
       found_from P 0 (instances P) here.path ≡ Some (m, here) →
       numbers_of P here.path x ≡ numbers_from P here m (variables here.node) x
@@ -314,10 +326,12 @@ module _ (P : Program) where
             ∙ (ap (λ w. map (slice_get ns) (range_with_len 0 w)) (sym e) ∙ places_are ns)
           where
             map_map : (ks : List ℕ) →
-                map number_at (map (λ k. record { path = here.path; variable = d.name; index = k }) ks)
+                map number_at (map (λ k. record { path = here.path; variable = d.name; index = k })
+                ks)
                 ≡ map (slice_get (numbers_of P here.path d.name)) ks
             map_map [] = refl
-            map_map (k ∷ ks) = ap (λ zs. slice_get (numbers_of P here.path d.name) k ∷ zs) (map_map ks)
+            map_map (k ∷ ks) = ap (λ zs. slice_get (numbers_of P here.path d.name) k ∷ zs)
+                (map_map ks)
 
         by : (ds : List Declaration) →
             Every (λ d. length (numbers_of P here.path d.name) ≡ width P here d) ds →
@@ -355,7 +369,8 @@ module _ (P : Program) where
         let below = got_within (program_elements P) i x e in
         let one = get_mapped number_at (program_elements P) i x e in
         let there = range_get 0 (length (program_elements P)) i below in
-        let other = get_mapped (λ j. Some j) (range_with_len 0 (length (program_elements P))) i (0 + i) there in
+        let other = get_mapped (λ j. Some j) (range_with_len 0 (length (program_elements P))) i
+        (0 + i) there in
         let same = some_same (number_at x) (Some (0 + i))
         (sym one ∙ (ap (λ xs. slice_get xs i) numbered ∙ other)) in
         let number : 0 + i ≡ i = omega arith in

@@ -1,5 +1,6 @@
 -- A trace on which a program has one history has one verdict.
-use Rattle.std.proofs.Common.{◌≡◌, ℕ, zero, suc, ◌<◌, ◌⊎◌, inl, inr, Bool, true, false, Option, Some, None, length, flat_map, refl, ap, ap₂, sym, ◌∙◌, arith}
+use Rattle.std.proofs.Common.{◌≡◌, ℕ, zero, suc, ◌<◌, ◌⊎◌, inl, inr, Bool, true, false, Option}
+use Rattle.std.proofs.Common.{Some, None, length, flat_map, refl, ap, ap₂, sym, ◌∙◌, arith}
 use Rattle.std.specs.Prelude.{◌||◌, IfSome}
 use Rattle.lb_syntax.specs.Lists.{listed}
 use Rattle.lb_syntax.specs.Tree.{Name}
@@ -9,9 +10,13 @@ use Rattle.lb_static.specs.Instantiation.{static_refusal, instantiation_refusal}
 use Rattle.lb_check.specs.Acceptance.{check_refusal}
 use Rattle.lb_check.specs.Solutions.{Inputs, Solves, AgreeAt, AreSame, HasOneHistory}
 use Rattle.lb_check.specs.Streams.{History}
-use Rattle.lb_check.specs.Verdicts.{Verdict, Passed, Fault, Undefined, Assertion_fails, False, is_bad, is_nil, is_false, some_at, is_fault, is_undefined, is_failed, property_path, property_columns, is_violated, decides, IsLeast, Ends, HasVerdict, IsOnlyVerdict}
+use Rattle.lb_check.specs.Verdicts.{Verdict, Passed, Fault, Undefined, Assertion_fails, False}
+use Rattle.lb_check.specs.Verdicts.{is_bad, is_nil, is_false, some_at, is_fault, is_undefined}
+use Rattle.lb_check.specs.Verdicts.{is_failed, property_path, property_columns, is_violated}
+use Rattle.lb_check.specs.Verdicts.{decides, IsLeast, Ends, HasVerdict, IsOnlyVerdict}
 use Rattle.lb_check.proofs.Checks.{instantiation_kept}
-use Rattle.lb_check.proofs.Every.{Every-map, Every-both, Every-first, Every-second, any_same, flat_same}
+use Rattle.lb_check.proofs.Every.{Every-map, Every-both, Every-first, Every-second, any_same}
+use Rattle.lb_check.proofs.Every.{flat_same}
 use Rattle.lb_check.proofs.SameInstances.{all_same_places, starts_agree}
 
 -- ## Histories that decide alike

@@ -1,11 +1,16 @@
 -- What the types of an expression say of its operands, and of what it calls.
-use Rattle.std.proofs.Common.{◌≡◌, ℕ, Bool, true, false, ℤ, Option, Some, None, option_map, List, [], ◌∷◌, map, refl, sym, ap, ap₂, ◌∙◌}
+use Rattle.std.proofs.Common.{◌≡◌, ℕ, Bool, true, false, ℤ, Option, Some, None, option_map, List}
+use Rattle.std.proofs.Common.{[], ◌∷◌, map, refl, sym, ap, ap₂, ◌∙◌}
 use Rattle.std.specs.List.{list_all, zip}
 use Rattle.lb_syntax.specs.Lists.{◌>>=◌, all_some, where_true}
-use Rattle.lb_syntax.specs.Tree.{Name, Static, Node_named, Expr, Exprs, Call, Cons, Declaration, Node}
-use Rattle.lb_static.specs.Instances.{Program, Instance, Child, call_site, callee_of, node_named, static_value}
-use Rattle.lb_static.specs.DataTypes.{DataType, truth, is_type, are_types, input_types, output_types, variable_type}
-use Rattle.lb_check.specs.Types.{data_types, all_types, only, singly, from_one, from_two, from_truths, operator_types}
+use Rattle.lb_syntax.specs.Tree.{Name, Static, Node_named, Expr, Exprs, Call, Cons, Declaration}
+use Rattle.lb_syntax.specs.Tree.{Node}
+use Rattle.lb_static.specs.Instances.{Program, Instance, Child, call_site, callee_of, node_named}
+use Rattle.lb_static.specs.Instances.{static_value}
+use Rattle.lb_static.specs.DataTypes.{DataType, truth, is_type, are_types, input_types}
+use Rattle.lb_static.specs.DataTypes.{output_types, variable_type}
+use Rattle.lb_check.specs.Types.{data_types, all_types, only, singly, from_one, from_two}
+use Rattle.lb_check.specs.Types.{from_truths, operator_types}
 
 -- ## Inversions
 

@@ -1,5 +1,6 @@
 -- The clock of a declared variable stands one step below that of the variable that it waits for.
-use Rattle.std.proofs.Common.{◌≡◌, ◌≢◌, ℕ, zero, suc, ◌<◌, Bool, true, false, List, [], ◌∷◌, ◌++◌, length, Option, Some, None, refl, ap, sym, ◌∙◌, subst, arith}
+use Rattle.std.proofs.Common.{◌≡◌, ◌≢◌, ℕ, zero, suc, ◌<◌, Bool, true, false, List, [], ◌∷◌, ◌++◌}
+use Rattle.std.proofs.Common.{length, Option, Some, None, refl, ap, sym, ◌∙◌, subst, arith}
 use Rattle.std.specs.Prelude.{◌&&◌, ◌==◌, is_some, option_map, slice_get, nat_eq}
 use Rattle.std.specs.Str.{bytes_eq}
 use Rattle.std.proofs.lemmas.Slice.Eq.{bytes_eq-Decides}
@@ -18,7 +19,8 @@ use Rattle.lb_static.specs.declared.resolved.ResolvedNode.{ResolvedNode}
 use Rattle.lb_static.specs.declared.resolved.Sampling.{Sampling}
 use Rattle.lb_static.specs.declared.resolved.Variable.{Variable}
 use Rattle.lb_static.specs.declared.resolved.VariableId.{VariableId}
-use Rattle.lb_check.specs.Clocks.{Clock, Base, On, clock_within, sampled, clock_or, variable_clock, declared_clock}
+use Rattle.lb_check.specs.Clocks.{Clock, Base, On, clock_within, sampled, clock_or, variable_clock}
+use Rattle.lb_check.specs.Clocks.{declared_clock}
 use Rattle.lb_check.specs.ClockRules.{is_clocked_by, is_clock}
 use Rattle.lb_check.specs.Scalars.{same}
 use Rattle.lb_check.specs.ClockDepths.{awaited}
@@ -69,7 +71,7 @@ sampled_more f g ds None k more e = e
 sampled_more f g ds (Some s) k more e =
     below_more f g s.variable s.sign (named (λ v. v.name) s.variable ds) k more e
 
-more_steps : (m : ℕ) (ds : List Declaration) (d : Declaration) (k : Clock) →
+pub more_steps : (m : ℕ) (ds : List Declaration) (d : Declaration) (k : Clock) →
     clock_within m ds d ≡ Some k → clock_within (suc m) ds d ≡ Some k
 more_steps zero ds d k e = absurd cc
 more_steps (suc m) ds d k e =

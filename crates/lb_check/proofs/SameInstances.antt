@@ -1,15 +1,21 @@
 -- What holds of all instances of a program holds of those that an instance calls, and two histories
 -- that agree on all of them have the same streams at all named places.
-use Rattle.std.proofs.Common.{◌≡◌, ℕ, zero, suc, ◌+◌, ◌<◌, ◌≤◌, true, Option, Some, None, option_map, List, [], ◌∷◌, map, refl, ap, sym, subst, arith}
+use Rattle.std.proofs.Common.{◌≡◌, ℕ, zero, suc, ◌+◌, ◌<◌, ◌≤◌, true, Option, Some, None}
+use Rattle.std.proofs.Common.{option_map, List, [], ◌∷◌, map, refl, ap, sym, subst, arith}
 use Rattle.std.specs.Prelude.{◌&&◌, nat_le, nat_lt, IfSome}
 use Rattle.std.specs.List.{list_all, range_with_len}
 use Rattle.std.proofs.lemmas.Bool.Decides.{nat_tests}
 use Rattle.lb_syntax.specs.Lists.{Every, either_or, holds, listed, all_some}
 use Rattle.lb_syntax.specs.Refusals.{E5, E6, E9, E10, E12, unless}
 use Rattle.lb_syntax.specs.Tree.{Name, Static, Node}
-use Rattle.lb_static.specs.Instances.{Program, Instance, Path, Root, Observer, Child, Site, node_sites, numbered_sites, node_named, static_value, static_count, instance_count, callee_of, start_at, instance_at, site_instances, children, instances_from, instances}
+use Rattle.lb_static.specs.Instances.{Program, Instance, Path, Root, Observer, Child, Site}
+use Rattle.lb_static.specs.Instances.{node_sites, numbered_sites, node_named, static_value}
+use Rattle.lb_static.specs.Instances.{static_count, instance_count, callee_of, start_at}
+use Rattle.lb_static.specs.Instances.{instance_at, site_instances, children, instances_from}
+use Rattle.lb_static.specs.Instances.{instances}
 use Rattle.lb_static.specs.Parts.{node_sizes}
-use Rattle.lb_static.specs.Instantiation.{is_between, is_in_range, has_values, level, may_enter, instance_refusal, instantiation_refusal}
+use Rattle.lb_static.specs.Instantiation.{is_between, is_in_range, has_values, level, may_enter}
+use Rattle.lb_static.specs.Instantiation.{instance_refusal, instantiation_refusal}
 use Rattle.lb_static.proofs.SiteCounts.{passes, counted, node_counts}
 use Rattle.lb_check.specs.Acceptance.{check_refusal}
 use Rattle.lb_check.specs.ClockRules.{are_declared_clocks, is_clocked}
@@ -18,7 +24,9 @@ use Rattle.lb_check.specs.Streams.{History}
 use Rattle.lb_check.specs.TypeRules.{is_typed}
 use Rattle.lb_check.proofs.Checks.{first_none, second_none, kept}
 use Rattle.lb_check.proofs.DeterminedClocks.{OfCalled, Sited}
-use Rattle.lb_check.proofs.Every.{Every-map, Every-both, Every-tested, Every-all, Every-append, Every-first, Every-second, Every-piece, Every-of_pieces, Every-found, Every-finds, Every-range}
+use Rattle.lb_check.proofs.Every.{Every-map, Every-both, Every-tested, Every-all, Every-append}
+use Rattle.lb_check.proofs.Every.{Every-first, Every-second, Every-piece, Every-of_pieces}
+use Rattle.lb_check.proofs.Every.{Every-found, Every-finds, Every-range}
 use Rattle.lb_check.proofs.NamedClocks.{if_some}
 use Rattle.lb_check.proofs.OperandTypes.{bound, some_same}
 use Rattle.lb_check.proofs.SamePlaces.{SamePlaces, same_places}
@@ -62,7 +70,7 @@ callee_path P here site call index c e =
     sym (ap (λ (i : Instance). i.path) (some_same _ _ values.gives))
 
 module _ (P : Program) where
-  deeper : (here : Instance) →
+  pub deeper : (here : Instance) →
       Every (λ c. level P c.path ≡ suc (level P here.path)) (children P here)
   deeper here =
       let below = λ (c : Instance). level P c.path ≡ suc (level P here.path) in
@@ -185,7 +193,7 @@ module _ (P : Program) where
       called_from here (suc n) ss h.1 (and_second (counted (is_between P here 1 4096) s) _ e),
     )
 
-    all_called :
+    pub all_called :
         (here : Instance) → Every Q (children P here) →
         list_all (is_between P here 1 4096) (node_sizes here.node) ≡ true →
         Sited (OfCalled P here Q) 0 (node_sites here.node)
@@ -198,21 +206,21 @@ module _ (P : Program) where
 
 module _ (P : Program) (instantiated : instantiation_refusal P 0 (instances P) ≡ None)
     (accepted : check_refusal P ≡ None) (H G : History) (same : AreSame P H G) where
-  typed : Every (λ here. is_typed P here ≡ true) (instances P)
+  pub typed : Every (λ here. is_typed P here ≡ true) (instances P)
   typed =
       Every-tested (is_typed P) (instances P)
       (kept (list_all (is_typed P) (instances P)) E9 (first_none _ _ accepted))
 
-  clocked : Every (λ here. is_clocked P here.node ≡ true) (instances P)
+  pub clocked : Every (λ here. is_clocked P here.node ≡ true) (instances P)
   clocked =
       let later = second_none (unless (list_all (is_typed P) (instances P)) E9) _ accepted in
       Every-tested (λ here. is_clocked P here.node) (instances P)
       (kept (list_all (λ here. is_clocked P here.node) (instances P)) E10 (first_none _ _ later))
 
-  entered : Every (IsEntered P) (instances P)
+  pub entered : Every (IsEntered P) (instances P)
   entered = all_entered P 0 (instances P) instantiated
 
-  called_same : Every (λ i. Every (IsSame H G) (children P i)) (instances P)
+  pub called_same : Every (λ i. Every (IsSame H G) (children P i)) (instances P)
   called_same =
       all_children P (IsSame H G)
       (Every-map _ (Low P (IsSame H G)) (λ c h. (

@@ -1,6 +1,7 @@
 -- Two histories that agree on an instance and on those that it calls have the same streams at the
 -- named places of the instance.
-use Rattle.std.proofs.Common.{◌≡◌, ℕ, ◌+◌, true, false, Option, Some, None, List, [], ◌∷◌, ◌++◌, flat_map, zip, refl, ap₂}
+use Rattle.std.proofs.Common.{◌≡◌, ℕ, ◌+◌, true, false, Option, Some, None, List, [], ◌∷◌, ◌++◌}
+use Rattle.std.proofs.Common.{flat_map, zip, refl, ap₂}
 use Rattle.std.specs.Prelude.{IfSome}
 use Rattle.std.specs.List.{list_all}
 use Rattle.lb_syntax.specs.Lists.{Every}
@@ -11,13 +12,17 @@ use Rattle.lb_static.specs.DataTypes.{DataType, truth, is_type, variables}
 use Rattle.lb_static.specs.Instantiation.{are_same}
 use Rattle.lb_check.specs.ClockRules.{is_clocked, is_occurrence_clocked, are_declared_clocks}
 use Rattle.lb_check.specs.Clocks.{clock_of}
-use Rattle.lb_check.specs.Occurrences.{Occurrence, call_count, occurrences, statement_clock, right_sides, statements, node_occurrences}
+use Rattle.lb_check.specs.Occurrences.{Occurrence, call_count, occurrences, statement_clock}
+use Rattle.lb_check.specs.Occurrences.{right_sides, statements, node_occurrences}
 use Rattle.lb_check.specs.Solutions.{AgreeAt, streams_at}
 use Rattle.lb_check.specs.Streams.{History}
 use Rattle.lb_check.specs.TypeRules.{is_statement_typed, is_clock_typed, is_typed}
 use Rattle.lb_check.specs.Types.{data_types}
-use Rattle.lb_check.specs.Verdicts.{assertion_of, assertions, memory_operand, memory_operands, variable_columns, memory_columns, assertion_columns, named_places, clock_variables, clock_columns}
-use Rattle.lb_check.proofs.DeterminedClocks.{OfCalled, fore, aft, sited_first, sited_second, determined}
+use Rattle.lb_check.specs.Verdicts.{assertion_of, assertions, memory_operand, memory_operands}
+use Rattle.lb_check.specs.Verdicts.{variable_columns, memory_columns, assertion_columns}
+use Rattle.lb_check.specs.Verdicts.{named_places, clock_variables, clock_columns}
+use Rattle.lb_check.proofs.DeterminedClocks.{OfCalled, fore, aft, sited_first, sited_second}
+use Rattle.lb_check.proofs.DeterminedClocks.{determined}
 use Rattle.lb_check.proofs.Every.{Every-append, Every-filter, Every-found, Every-tested, flat_same}
 use Rattle.lb_check.proofs.NamedClocks.{IsOver, clock_or_over, declared_over}
 use Rattle.lb_check.proofs.SameStreams.{Same, IsSame, SitesHold, AreLawful, KeepsSame, same_streams}
@@ -31,7 +36,7 @@ typed_some :
 typed_some P None p e = absurd cc
 typed_some P (Some ts) p e = (ts, refl)
 
-typed_truth :
+pub typed_truth :
     (P : Program) (o : Option (List DataType)) → are_same P o (Some (truth ∷ [])) ≡ true →
     (t : DataType) × (o ≡ Some (t ∷ []))
 typed_truth P None e = absurd cc

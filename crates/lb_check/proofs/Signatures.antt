@@ -1,5 +1,6 @@
 -- The types of the inputs and of the outputs of a callee.
-use Rattle.std.proofs.Common.{◌≡◌, ℕ, suc, List, [], ◌∷◌, ◌++◌, length, map, take, drop, Option, Some, None, refl, ap, sym, ◌∙◌}
+use Rattle.std.proofs.Common.{◌≡◌, ℕ, suc, List, [], ◌∷◌, ◌++◌, length, map, take, drop, Option}
+use Rattle.std.proofs.Common.{Some, None, refl, ap, sym, ◌∙◌}
 use Rattle.std.specs.Prelude.{ℤ}
 use Rattle.std.proofs.lemmas.List.{take-map, drop-map}
 use Rattle.lb_syntax.specs.Lists.{◌>>=◌, all_some, zip2}
@@ -7,7 +8,8 @@ use Rattle.lb_syntax.specs.Tree.{Name, Node}
 use Rattle.lb_static.specs.declared.resolved.ResolvedNode.{ResolvedNode}
 use Rattle.lb_static.specs.declared.resolved.Variable.{Variable as Declared}
 use Rattle.lb_static.specs.InstanceTable.{instance_of}
-use Rattle.lb_static.specs.Instances.{Program, Instance, Path, Child, Site, static_value, callee_of, call_site, node_named}
+use Rattle.lb_static.specs.Instances.{Program, Instance, Path, Child, Site, static_value, callee_of}
+use Rattle.lb_static.specs.Instances.{call_site, node_named}
 use Rattle.lb_static.specs.Parts.{variable_names}
 use Rattle.lb_static.specs.ResolvedNodes.{IsResolved, node_of, statics_of}
 use Rattle.lb_static.specs.ResolvedTerms.{declaration_of}

@@ -1,5 +1,7 @@
 -- Where the rules of types hold each call has one result, but for one that is a whole right side.
-use Rattle.std.proofs.Common.{◌≡◌, ℕ, suc, Bool, true, false, List, [], ◌∷◌, ◌++◌, length, map, take, drop, Option, Some, None, refl, ap, sym, ◌∙◌, arith, length-append, length-take, length-drop}
+use Rattle.std.proofs.Common.{◌≡◌, ℕ, suc, Bool, true, false, List, [], ◌∷◌, ◌++◌, length, map}
+use Rattle.std.proofs.Common.{take, drop, Option, Some, None, refl, ap, sym, ◌∙◌, arith}
+use Rattle.std.proofs.Common.{length-append, length-take, length-drop}
 use Rattle.std.specs.Prelude.{◌&&◌, is_some, option_map, slice_get, nat_eq, ℤ}
 use Rattle.std.specs.List.{list_all}
 use Rattle.std.proofs.lemmas.Bool.Decides.{nat_tests}
@@ -11,18 +13,30 @@ use Rattle.lb_static.specs.declared.resolved.CallId.{CallId}
 use Rattle.lb_static.specs.declared.resolved.ResolvedNode.{ResolvedNode}
 use Rattle.lb_static.specs.declared.resolved.ResolvedStatement.{ResolvedStatement}
 use Rattle.lb_static.specs.declared.resolved.ResolvedStatement.TheVariants as statement
-use Rattle.lb_static.specs.declared.resolved.Term.{Term, Literal, Truth, Variable, Value, Group', Unary', Binary', If', Arrow', Fby', Pre', Current', When', Replicate', Index', Slice', Join', Array', AtMostOne', Nor', Call', IterateNode', IterateSymbol', Row_of-Term, end_of-Term, more_of-Term}
+use Rattle.lb_static.specs.declared.resolved.Term.{Term, Literal, Truth, Variable, Value, Group'}
+use Rattle.lb_static.specs.declared.resolved.Term.{Unary', Binary', If', Arrow', Fby', Pre'}
+use Rattle.lb_static.specs.declared.resolved.Term.{Current', When', Replicate', Index', Slice'}
+use Rattle.lb_static.specs.declared.resolved.Term.{Join', Array', AtMostOne', Nor', Call'}
+use Rattle.lb_static.specs.declared.resolved.Term.{IterateNode', IterateSymbol', Row_of-Term}
+use Rattle.lb_static.specs.declared.resolved.Term.{end_of-Term, more_of-Term}
 use Rattle.lb_static.specs.declared.table.Specialization.{Specialization}
 use Rattle.lb_static.specs.declared.table.Table.{Table}
 use Rattle.lb_static.specs.InstanceTable.{instance_of}
-use Rattle.lb_static.specs.Instances.{Program, Instance, Root, Child, Site, callee_of, node_named, static_value}
+use Rattle.lb_static.specs.Instances.{Program, Instance, Root, Child, Site, callee_of, node_named}
+use Rattle.lb_static.specs.Instances.{static_value}
 use Rattle.lb_static.specs.ReachedNodes.{source_names}
 use Rattle.lb_static.specs.ResolvedNodes.{IsResolved, node_of, counts_of}
-use Rattle.lb_static.specs.ResolvedTerms.{is_call, is_static, is_variable, is_within, are_within, is_statement_within}
+use Rattle.lb_static.specs.ResolvedTerms.{is_call, is_static, is_variable, is_within, are_within}
+use Rattle.lb_static.specs.ResolvedTerms.{is_statement_within}
 use Rattle.lb_static.specs.DataTypes.{DataType, truth, is_type, are_types}
 use Rattle.lb_check.specs.JudgedPrograms.{IsJudged}
-use Rattle.lb_check.specs.ClockSets.{is_single, are_single, calls_single, is_single_within, is_statement_single}
-use Rattle.lb_check.specs.TermTypes.{Context, Signature, context_of, declared_type, declared_types, signature_of, callee_at, callee_signature, signature_at, are_typed, is_specialization_typed, is_variable_typed, is_resolved_statement_typed, is_node_typed, are_equal, results, type_of, types_in, when_truth}
+use Rattle.lb_check.specs.ClockSets.{is_single, are_single, calls_single, is_single_within}
+use Rattle.lb_check.specs.ClockSets.{is_statement_single}
+use Rattle.lb_check.specs.TermTypes.{Context, Signature, context_of, declared_type, declared_types}
+use Rattle.lb_check.specs.TermTypes.{signature_of, callee_at, callee_signature, signature_at}
+use Rattle.lb_check.specs.TermTypes.{are_typed, is_specialization_typed, is_variable_typed}
+use Rattle.lb_check.specs.TermTypes.{is_resolved_statement_typed, is_node_typed, are_equal, results}
+use Rattle.lb_check.specs.TermTypes.{type_of, types_in, when_truth}
 use Rattle.lb_check.specs.Types.{only, singly}
 use Rattle.lb_check.proofs.FittedCalls.{specialized_instance}
 use Rattle.lb_check.proofs.MirroredTypes.{results_only}

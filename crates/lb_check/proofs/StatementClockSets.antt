@@ -1,5 +1,6 @@
 -- The statements of a node keep the rules of clocks where the code finds that they do.
-use Rattle.std.proofs.Common.{◌≡◌, ℕ, ◌<◌, Bool, true, false, ◌+◌, List, [], ◌∷◌, length, map, Option, Some, None, refl, ap, sym, ◌∙◌, subst, arith}
+use Rattle.std.proofs.Common.{◌≡◌, ℕ, ◌<◌, Bool, true, false, ◌+◌, List, [], ◌∷◌, length, map}
+use Rattle.std.proofs.Common.{Option, Some, None, refl, ap, sym, ◌∙◌, subst, arith}
 use Rattle.std.specs.Prelude.{◌&&◌, ◌==◌, slice_get, flat_map, nat_eq}
 use Rattle.std.specs.List.{list_all, zip}
 use Rattle.std.proofs.lemmas.Bool.Decides.{nat_tests}
@@ -12,23 +13,38 @@ use Rattle.lb_static.specs.Instances.{Program, Site, node_named, node_sites, sta
 use Rattle.lb_static.specs.Parts.{right_side}
 use Rattle.lb_static.specs.ReachedNodes.{source_names}
 use Rattle.lb_static.specs.ResolvedNodes.{IsResolved, node_of, texts_of, counts_of}
-use Rattle.lb_static.specs.ResolvedTerms.{Texts, is_variable, is_call, is_within, are_within, is_unhidden, are_unhidden, is_declared_within, is_sampling_within, are_statics, is_statement_within, is_statement_unhidden, expr_of, exprs_of, row_of, named_value, static_at, statement_of, site_at}
+use Rattle.lb_static.specs.ResolvedTerms.{Texts, is_variable, is_call, is_within, are_within}
+use Rattle.lb_static.specs.ResolvedTerms.{is_unhidden, are_unhidden, is_declared_within}
+use Rattle.lb_static.specs.ResolvedTerms.{is_sampling_within, are_statics, is_statement_within}
+use Rattle.lb_static.specs.ResolvedTerms.{is_statement_unhidden, expr_of, exprs_of, row_of}
+use Rattle.lb_static.specs.ResolvedTerms.{named_value, static_at, statement_of, site_at}
 use Rattle.lb_static.specs.declared.reach.Reached.{Reached}
 use Rattle.lb_static.specs.declared.resolved.CallId.{CallId}
 use Rattle.lb_static.specs.declared.resolved.ResolvedNode.{ResolvedNode}
 use Rattle.lb_static.specs.declared.resolved.Sampling.{Sampling}
 use Rattle.lb_static.specs.declared.resolved.ResolvedStatement.{ResolvedStatement}
 use Rattle.lb_static.specs.declared.resolved.ResolvedStatement.TheVariants as statement
-use Rattle.lb_static.specs.declared.resolved.Term.{Term, Literal, Truth, Variable, Value, Group', Unary', Binary', If', Arrow', Fby', Pre', Current', When', Replicate', Index', Slice', Join', Array', AtMostOne', Nor', Call', IterateNode', IterateSymbol', Row_of-Term, end_of-Term, more_of-Term}
+use Rattle.lb_static.specs.declared.resolved.Term.{Term, Literal, Truth, Variable, Value, Group'}
+use Rattle.lb_static.specs.declared.resolved.Term.{Unary', Binary', If', Arrow', Fby', Pre'}
+use Rattle.lb_static.specs.declared.resolved.Term.{Current', When', Replicate', Index', Slice'}
+use Rattle.lb_static.specs.declared.resolved.Term.{Join', Array', AtMostOne', Nor', Call'}
+use Rattle.lb_static.specs.declared.resolved.Term.{IterateNode', IterateSymbol', Row_of-Term}
+use Rattle.lb_static.specs.declared.resolved.Term.{end_of-Term, more_of-Term}
 use Rattle.lb_static.specs.declared.resolved.VariableId.{VariableId}
 use Rattle.lb_check.specs.Scalars.{same}
 use Rattle.lb_check.specs.Clocks as clocks
 use Rattle.lb_check.specs.Clocks.{clock_of, clock_or, declared_clock, ungrouped}
-use Rattle.lb_check.specs.ClockRules.{is_clock, is_clocked, is_occurrence_clocked, is_statement_clocked, are_on_results, left_clocks}
+use Rattle.lb_check.specs.ClockRules.{is_clock, is_clocked, is_occurrence_clocked}
+use Rattle.lb_check.specs.ClockRules.{is_statement_clocked, are_on_results, left_clocks}
 use Rattle.lb_check.specs.Occurrences.{Occurrence, at, occurrences, right_sides, statement_clock}
 use Rattle.lb_check.specs.OwnClocks.{HasClocks, clock_in, is_clock_within, name_in}
-use Rattle.lb_check.specs.ClockSets.{is_clocked_on, IsClockSet, AreClockSets, SeesClocks, is_single, are_single, is_single_within, is_statement_single}
-use Rattle.lb_check.specs.TermClocks.{Context, clock_with, context_of, callee_in, declared_in, is_same, accepts_clock, operands_in, operands_of, operand_of, infer_clock, left_clock, is_one_clocked, is_call_clocked, is_equation_clocked, stands, is_resolved_statement_clocked, is_body_clocked}
+use Rattle.lb_check.specs.ClockSets.{is_clocked_on, IsClockSet, AreClockSets, SeesClocks, is_single}
+use Rattle.lb_check.specs.ClockSets.{are_single, is_single_within, is_statement_single}
+use Rattle.lb_check.specs.TermClocks.{Context, clock_with, context_of, callee_in, declared_in}
+use Rattle.lb_check.specs.TermClocks.{is_same, accepts_clock, operands_in, operands_of, operand_of}
+use Rattle.lb_check.specs.TermClocks.{infer_clock, left_clock, is_one_clocked, is_call_clocked}
+use Rattle.lb_check.specs.TermClocks.{is_equation_clocked, stands, is_resolved_statement_clocked}
+use Rattle.lb_check.specs.TermClocks.{is_body_clocked}
 use Rattle.lb_check.specs.declared.own_clock.Clock.{Clock}
 use Rattle.lb_check.specs.declared.own_clock.Clock.TheVariants.{Base, On}
 use Rattle.lb_check.specs.declared.clock_set.Operand.{Operand}

@@ -1,6 +1,8 @@
 -- A rule that looks at a specialization alone holds of each instance where it holds of each
 -- specialization.
-use Rattle.std.proofs.Common.{◌≡◌, ℕ, zero, suc, ◌+◌, ◌<◌, Bool, true, List, [], ◌∷◌, ◌++◌, length, map, Option, Some, None, refl, inl, inr, ap, sym, ◌∙◌, subst, arith, length-append}
+use Rattle.std.proofs.Common.{◌≡◌, ℕ, zero, suc, ◌+◌, ◌<◌, Bool, true, List, [], ◌∷◌, ◌++◌, length}
+use Rattle.std.proofs.Common.{map, Option, Some, None, refl, inl, inr, ap, sym, ◌∙◌, subst, arith}
+use Rattle.std.proofs.Common.{length-append}
 use Rattle.std.specs.Prelude.{option_map, slice_get, slice_index_or}
 use Rattle.std.specs.List.{list_all}
 use Rattle.std.proofs.lemmas.Option.{slice_get_within}
@@ -9,7 +11,8 @@ use Rattle.lb_static.specs.declared.reach.Reached.{Reached}
 use Rattle.lb_static.specs.declared.table.Instance as row
 use Rattle.lb_static.specs.declared.table.Specialization.{Specialization}
 use Rattle.lb_static.specs.declared.table.Table.{Table}
-use Rattle.lb_static.specs.InstanceTable.{IsTable, path_from, paths_after, paths_of, row_at, specialized_at}
+use Rattle.lb_static.specs.InstanceTable.{IsTable, path_from, paths_after, paths_of, row_at}
+use Rattle.lb_static.specs.InstanceTable.{specialized_at}
 use Rattle.lb_static.specs.Instances.{Program, Instance, Path, instances}
 use Rattle.lb_check.proofs.TruthValues.{and_first, and_second, both_ways}
 
@@ -32,7 +35,7 @@ all_from good [] each = refl
 all_from good (x ∷ xs) each = rw (each 0 x refl) (all_from good xs (λ i y e. each (suc i) y e))
 
 -- there are as many paths as rows
-paths_length : (before : List Path) (rows : List row.Instance) →
+pub paths_length : (before : List Path) (rows : List row.Instance) →
     length (paths_after before rows) ≡ length before + length rows
 paths_length before [] = omega arith
 paths_length before (i ∷ rows) =
@@ -51,7 +54,7 @@ place_of f (x ∷ rows) (suc k) i lt e = place_of f rows k i (omega arith) e
 -- ## The instance of a specialization
 
 module _ (P : Program) (r : Reached) (t : Table) where
-  row_held : (p : Path) (i : row.Instance) (here : Instance) → row_at r t p i ≡ Some here
+  pub row_held : (p : Path) (i : row.Instance) (here : Instance) → row_at r t p i ≡ Some here
       → (s : Specialization) × (slice_get t.specializations.items i.specialization.0 ≡ Some s)
       × (specialized_at r p s ≡ Some here)
   row_held p i here e = by (slice_get t.specializations.items i.specialization.0) e

@@ -1,5 +1,7 @@
 -- Types and lists of types, as the code holds them.
-use Rattle.std.proofs.Common.{◌≡◌, ℕ, zero, suc, ◌+◌, ◌<◌, ◌≤◌, Bool, true, false, List, [], ◌∷◌, ◌++◌, length, map, drop, get_or, Option, Some, None, refl, ap, sym, ◌∙◌, subst, arith}
+use Rattle.std.proofs.Common.{◌≡◌, ℕ, zero, suc, ◌+◌, ◌<◌, ◌≤◌, Bool, true, false, List, [], ◌∷◌}
+use Rattle.std.proofs.Common.{◌++◌, length, map, drop, get_or, Option, Some, None, refl, ap, sym}
+use Rattle.std.proofs.Common.{◌∙◌, subst, arith}
 use Rattle.std.specs.Prelude.{◌&&◌, ℤ, option_map, reverse, nat_eq}
 use Rattle.std.specs.Bool.{◌==◌}
 use Rattle.std.specs.List.{list_all}
@@ -11,7 +13,8 @@ use denote.Enum.Bare.{sameb}
 use Rattle.lb_syntax.specs.contracts.tree.Kind.{the_type}
 use Rattle.lb_syntax.specs.declared.tree.Kind.{Kind}
 use Rattle.lb_syntax.specs.declared.tree.Kind.TheVariants.{Int as Int_kind, Bool as Bool_kind}
-use Rattle.std.proofs.lemmas.List.{drop_all, drop_more, length-reverse, reverse-append, reverse-reverse}
+use Rattle.std.proofs.lemmas.List.{drop_all, drop_more, length-reverse, reverse-append}
+use Rattle.std.proofs.lemmas.List.{reverse-reverse}
 use Rattle.lb_syntax.specs.Lists.{all_some}
 use Rattle.lb_static.specs.DataTypes.{DataType, is_kind, same_sizes, is_type, are_types, truth}
 use Rattle.lb_static.specs.StaticValues.{natural}

@@ -1,11 +1,14 @@
 -- The type of a term from those of its one, two or three operands.
-use Rattle.std.proofs.Common.{◌≡◌, ℕ, ◌⊎◌, inl, inr, Bool, true, false, Option, Some, None, Box, Global, refl, ap, ◌∙◌}
+use Rattle.std.proofs.Common.{◌≡◌, ℕ, ◌⊎◌, inl, inr, Bool, true, false, Option, Some, None, Box}
+use Rattle.std.proofs.Common.{Global, refl, ap, ◌∙◌}
 use Rattle.lb_syntax.specs.declared.tree.BinaryOperator.{BinaryOperator}
 use Rattle.lb_syntax.specs.declared.tree.UnaryOperator.{UnaryOperator}
 use Rattle.lb_syntax.specs.Lists.{◌>>=◌, where_true}
 use Rattle.lb_static.specs.declared.resolved.StaticId.{StaticId}
 use Rattle.lb_static.specs.declared.resolved.VariableId.{VariableId}
-use Rattle.lb_static.specs.declared.resolved.Term.{Term, Literal, Value, Group, Unary, Pre, Current, When, Replicate, Index, Slice, Binary, Arrow, Fby, Join, If}
+use Rattle.lb_static.specs.declared.resolved.Term.{Term, Literal, Value, Group, Unary, Pre, Current}
+use Rattle.lb_static.specs.declared.resolved.Term.{When, Replicate, Index, Slice, Binary, Arrow}
+use Rattle.lb_static.specs.declared.resolved.Term.{Fby, Join, If}
 use Rattle.lb_static.specs.DataTypes.{DataType, int, truth, is_type}
 use Rattle.lb_check.specs.Types.{array_of, index_type, slice_type}
 use Rattle.lb_check.specs.TermTypes.{Context, one_type, two_types, type_of, when_truth}

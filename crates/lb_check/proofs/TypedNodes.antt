@@ -7,7 +7,8 @@ use Rattle.lb_static.specs.declared.reach.Reached.{Reached}
 use Rattle.lb_static.specs.declared.resolved.ResolvedNode.{ResolvedNode}
 use Rattle.lb_static.specs.declared.table.Specialization.{Specialization}
 use Rattle.lb_static.specs.declared.table.Table.{Table}
-use Rattle.lb_check.specs.TermTypes.{context_of, is_node_typed, is_specialization_typed, is_resolved_statement_typed, is_variable_typed}
+use Rattle.lb_check.specs.TermTypes.{context_of, is_node_typed, is_specialization_typed}
+use Rattle.lb_check.specs.TermTypes.{is_resolved_statement_typed, is_variable_typed}
 
 module _ (r : Reached) (t : Table) (s : Specialization) (n : ResolvedNode)
     (at : slice_get r.nodes.items s.node.0 ≡ Some n) where

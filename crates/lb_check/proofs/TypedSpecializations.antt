@@ -1,5 +1,6 @@
 -- The rules of types of a specialization are those of each of its instances.
-use Rattle.std.proofs.Common.{◌≡◌, ℕ, zero, suc, ◌<◌, Bool, true, List, [], ◌∷◌, length, map, Option, Some, None, refl, ap, sym, ◌∙◌, subst, arith}
+use Rattle.std.proofs.Common.{◌≡◌, ℕ, zero, suc, ◌<◌, Bool, true, List, [], ◌∷◌, length, map}
+use Rattle.std.proofs.Common.{Option, Some, None, refl, ap, sym, ◌∙◌, subst, arith}
 use Rattle.std.specs.Prelude.{◌&&◌, option_map, slice_get, slice_index_or}
 use Rattle.std.specs.List.{list_all}
 use Rattle.std.proofs.lemmas.Option.{slice_get-map, slice_get_within, get_or_from_slice_get}
@@ -20,7 +21,10 @@ use Rattle.lb_static.specs.Names.{are_distinct, is_named, declares_once, reached
 use Rattle.lb_static.specs.Parts.{variable_names}
 use Rattle.lb_static.specs.ReachedNodes.{source_names, trees}
 use Rattle.lb_static.specs.ResolvedNodes.{IsResolved, node_of, statics_of, texts_of, counts_of}
-use Rattle.lb_static.specs.ResolvedTerms.{name_at, declaration_of, sampling_of, statement_of, is_variable, is_within, is_statement_within, is_statement_unhidden, are_statics, is_sampling_within, is_declared_within}
+use Rattle.lb_static.specs.ResolvedTerms.{name_at, declaration_of, sampling_of, statement_of}
+use Rattle.lb_static.specs.ResolvedTerms.{is_variable, is_within, is_statement_within}
+use Rattle.lb_static.specs.ResolvedTerms.{is_statement_unhidden, are_statics, is_sampling_within}
+use Rattle.lb_static.specs.ResolvedTerms.{is_declared_within}
 use Rattle.lb_static.specs.DataTypes.{DataType, truth, is_type, variables}
 use Rattle.lb_static.specs.Instantiation.{are_same}
 use Rattle.lb_check.specs.JudgedPrograms.{IsJudged}
@@ -28,7 +32,8 @@ use Rattle.lb_check.specs.TypeRules.{type_of_name, is_statement_typed, is_clock_
 use Rattle.lb_check.specs.TermTypes as mirror
 use Rattle.lb_check.specs.TermTypes.{Context, context_of, results, variable_at, are_equal}
 use Rattle.lb_check.proofs.FittedCalls.{node_at, specialized_instance, values_at, call_is}
-use Rattle.lb_check.proofs.FittedEnvs.{length_map, variable_is, left_is, value_is, static_is, repeats_is, call_at}
+use Rattle.lb_check.proofs.FittedEnvs.{length_map, variable_is, left_is, value_is, static_is}
+use Rattle.lb_check.proofs.FittedEnvs.{repeats_is, call_at}
 use Rattle.lb_check.proofs.MirroredTypes.{Fits, term_results}
 use Rattle.lb_check.proofs.DistinctNames.{distinct_first}
 use Rattle.lb_check.proofs.TableRows.{each_judged}
@@ -85,7 +90,8 @@ module _ (P : Program) (r : Reached) (t : Table) (j : IsJudged P r t) (i : ℕ) 
   valued : map Some s.statics.items ≡ map (static_value P here) (statics_of n)
   valued = values_at P r t j.reached j.table s (j.table.specialized i s is).0 n p at
 
-  fits : Fits P here (texts_of n) (counts_of n) ctx
+  -- what stands for the numbers of its node is what the definitions say
+  pub fits : Fits P here (texts_of n) (counts_of n) ctx
   unfolding context_of
   fits = record {
     variable = variable_is P r t s n p resolved distinct_here valued;

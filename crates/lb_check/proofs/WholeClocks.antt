@@ -1,5 +1,6 @@
 -- The rules of clocks of a program are what the code finds of the nodes of its specializations.
-use Rattle.std.proofs.Common.{◌≡◌, ℕ, suc, ◌<◌, Bool, true, false, List, [], ◌∷◌, length, map, Option, Some, None, refl, ap, sym, ◌∙◌, subst, arith}
+use Rattle.std.proofs.Common.{◌≡◌, ℕ, suc, ◌<◌, Bool, true, false, List, [], ◌∷◌, length, map}
+use Rattle.std.proofs.Common.{Option, Some, None, refl, ap, sym, ◌∙◌, subst, arith}
 use Rattle.std.specs.Prelude.{◌&&◌, ℤ, option_map, slice_get}
 use Rattle.std.specs.List.{list_all, zip}
 use Rattle.std.proofs.lemmas.Option.{slice_get-map, slice_get_within, get_or_from_slice_get}
@@ -13,7 +14,8 @@ use Rattle.lb_static.specs.declared.resolved.ResolvedNode.{ResolvedNode}
 use Rattle.lb_static.specs.declared.table.Specialization.{Specialization}
 use Rattle.lb_static.specs.declared.table.Table.{Table}
 use Rattle.lb_static.specs.InstanceTable.{instance_of}
-use Rattle.lb_static.specs.Instances.{Program, Instance, Root, Child, Site, callee_of, instances, node_named, node_sites, static_value}
+use Rattle.lb_static.specs.Instances.{Program, Instance, Root, Child, Site, callee_of, instances}
+use Rattle.lb_static.specs.Instances.{node_named, node_sites, static_value}
 use Rattle.lb_static.specs.ReachedNodes.{id_at, source_names, tree_at}
 use Rattle.lb_static.specs.ResolvedNodes.{IsResolved, node_of, statics_of, texts_of}
 use Rattle.lb_static.specs.ResolvedTerms.{site_of, is_statement_unhidden}
@@ -237,6 +239,29 @@ module _ (P : Program) (r : Reached) (t : Table) (j : IsJudged P r t) where
     instances_clocked =
         both_ways _ _ (λ e. all_are (from_code e)) (λ e. all_are (from_trees e))
         ∙ all_specializations P r t j.table (is_clocked P)
+
+    -- what is known of the node of a specialization where each instance keeps the rules of clocks
+    pub record IsClockedNode (n : ResolvedNode) : Type 0 where
+      pub sees : SeesClocks P r n
+      pub unhidden : list_all (is_statement_unhidden (texts_of n)) n.body.items ≡ true
+      pub single : list_all (is_statement_single r n) n.body.items ≡ true
+      pub kept : is_clocked P (node_of n) ≡ true
+
+    pub clocked_node : list_all (λ here. is_clocked P here.node) (instances P) ≡ true →
+        (i : ℕ) (s : Specialization) (n : ResolvedNode) →
+        slice_get t.specializations.items i ≡ Some s →
+        slice_get r.nodes.items s.node.0 ≡ Some n → IsClockedNode n
+    clocked_node clocked i s n is at =
+        let all = all_specializations P r t j.table (is_clocked P) ∙ clocked in
+        let declared = from_trees all in
+        record {
+          sees = sees i (λ k m lt. declared k m) s is n at (declared i s is n at);
+          unhidden = (resolved_at P r j.names j.reached s.node.0 n at).unhidden;
+          single = single_statements (instances_typed P r t j ∙ typed) i s n is at;
+          kept =
+              sym (ap (holds (is_clocked P)) (tree_of s n at))
+              ∙ all_at by_tree t.specializations.items i s all is;
+        }
 
     -- the first specialization whose node the code finds to break the rules of clocks breaks them
     pub first_broken : (i : ℕ) (s : Specialization) → slice_get t.specializations.items i ≡ Some s →

@@ -1,6 +1,7 @@
 -- What a call gives for the clock variables of the node that it calls, as the code finds it.
 -- This file mirrors code (src/call_clock.rt); no definition of the language stands on it.
-use Rattle.std.specs.Prelude.{ℕ, Bool, true, ◌||◌, not, nat_lt, Option, Some, None, is_some, List, slice_get}
+use Rattle.std.specs.Prelude.{ℕ, Bool, true, ◌||◌, not, nat_lt, Option, Some, None, is_some, List}
+use Rattle.std.specs.Prelude.{slice_get}
 use Rattle.lb_syntax.specs.Lists.{holds}
 use Rattle.lb_static.specs.declared.resolved.Sampling.{Sampling}
 use Rattle.lb_static.specs.declared.resolved.Term.{Term, Variable, Group'}

@@ -1,6 +1,7 @@
 -- How deep the declared clocks of a node stand, as the code finds it.
 -- This file mirrors code (src/clock.rt); no definition of the language stands on it.
-use Rattle.std.specs.Prelude.{◌≡◌, ◌+◌, ◌<◌, ◌≤◌, ℕ, zero, suc, nat_lt, Bool, true, Option, Some, None, option_map, List, length, slice_get}
+use Rattle.std.specs.Prelude.{◌≡◌, ◌+◌, ◌<◌, ◌≤◌, ℕ, zero, suc, nat_lt, Bool, true, Option, Some}
+use Rattle.std.specs.Prelude.{None, option_map, List, length, slice_get}
 use Rattle.lb_syntax.specs.Lists.{◌>>=◌}
 use Rattle.lb_static.specs.declared.resolved.Sampling.{Sampling}
 use Rattle.lb_static.specs.declared.resolved.Variable.{Variable}

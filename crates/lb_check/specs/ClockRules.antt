@@ -2,16 +2,19 @@
 -- clock and its own variables.
 -- Source: Lustre V6 reference manual, clocks. The clock on which a call runs, and that of what
 -- nothing determines, are this project's rule.
-use Rattle.std.specs.Prelude.{Bool, true, false, ◌&&◌, ◌||◌, not, nat_eq, Option, Some, is_some, List, [], ◌∷◌, ◌++◌, map, length}
+use Rattle.std.specs.Prelude.{Bool, true, false, ◌&&◌, ◌||◌, not, nat_eq, Option, Some, is_some}
+use Rattle.std.specs.Prelude.{List, [], ◌∷◌, ◌++◌, map, length}
 use Rattle.std.specs.List.{list_all}
 use Rattle.std.specs.Str.{bytes_eq}
 use Rattle.lb_syntax.specs.Lists.{holds, listed}
-use Rattle.lb_syntax.specs.Tree.{Name, Node_named, Expr, Variable, Current, When, Call, Iterate, Exprs, Declaration, Sampling, Node, Statement, Equation, Assertion}
+use Rattle.lb_syntax.specs.Tree.{Name, Node_named, Expr, Variable, Current, When, Call, Iterate}
+use Rattle.lb_syntax.specs.Tree.{Exprs, Declaration, Sampling, Node, Statement, Equation, Assertion}
 use Rattle.lb_static.specs.StaticValues.{named}
 use Rattle.lb_static.specs.Instances.{Program, node_named}
 use Rattle.lb_static.specs.Parts.{among, variable_names}
 use Rattle.lb_check.specs.Scalars.{same}
-use Rattle.lb_check.specs.Clocks.{Clock, Base, On, Given, variable_clock, declared_clock, clock_of, given_inputs, result_clocks, ungrouped}
+use Rattle.lb_check.specs.Clocks.{Clock, Base, On, Given, variable_clock, declared_clock, clock_of}
+use Rattle.lb_check.specs.Clocks.{given_inputs, result_clocks, ungrouped}
 use Rattle.lb_check.specs.Occurrences.{Occurrence, node_occurrences, statements}
 
 -- ## The same clock

@@ -1,9 +1,13 @@
 -- The clocks of an instance, as it sees them itself.
 -- Source: Lustre V6 reference manual, clocks. The clock on which a call runs is this project's
 -- rule.
-use Rattle.std.specs.Prelude.{ℕ, zero, suc, Bool, Option, Some, None, option_map, List, [], ◌∷◌, ◌++◌, map, length}
+use Rattle.std.specs.Prelude.{ℕ, zero, suc, Bool, Option, Some, None, option_map, List, [], ◌∷◌}
+use Rattle.std.specs.Prelude.{◌++◌, map, length}
 use Rattle.lb_syntax.specs.Lists.{◌>>=◌, or_else, either_or, listed}
-use Rattle.lb_syntax.specs.Tree.{Name, Expr, Literal, Truth, Variable, Group, Unary, Binary, If, Arrow, Fby, Pre, Current, When, Replicate, Index, Slice, Join, Array, AtMostOne, Nor, Call, Iterate, Exprs, Nil, Cons, Declaration, Sampling, Node}
+use Rattle.lb_syntax.specs.Tree.{Name, Expr, Literal, Truth, Variable, Group, Unary, Binary, If}
+use Rattle.lb_syntax.specs.Tree.{Arrow, Fby, Pre, Current, When, Replicate, Index, Slice, Join}
+use Rattle.lb_syntax.specs.Tree.{Array, AtMostOne, Nor, Call, Iterate, Exprs, Nil, Cons}
+use Rattle.lb_syntax.specs.Tree.{Declaration, Sampling, Node}
 use Rattle.lb_static.specs.StaticValues.{named}
 use Rattle.lb_static.specs.Instances.{Program, node_named}
 use Rattle.lb_static.specs.DataTypes.{variables}

@@ -1,9 +1,11 @@
 -- The rules of definitions and of functions, as a test (E11).
 -- Source: Lustre V6 reference manual, equations and functions.
-use Rattle.std.specs.Prelude.{ℕ, Bool, true, false, ◌&&◌, ◌||◌, not, nat_eq, ◌++◌, count_by, flat_map}
+use Rattle.std.specs.Prelude.{ℕ, Bool, true, false, ◌&&◌, ◌||◌, not, nat_eq, ◌++◌, count_by}
+use Rattle.std.specs.Prelude.{flat_map}
 use Rattle.std.specs.List.{list_all}
 use Rattle.std.specs.Str.{bytes_eq}
-use Rattle.lb_syntax.specs.Tree.{Name, Node_named, Expr, Arrow, Fby, Pre, Current, Call, Iterate, Node}
+use Rattle.lb_syntax.specs.Tree.{Name, Node_named, Expr, Arrow, Fby, Pre, Current, Call, Iterate}
+use Rattle.lb_syntax.specs.Tree.{Node}
 use Rattle.lb_static.specs.Instances.{Program}
 use Rattle.lb_static.specs.Parts.{left_names, node_parts}
 use Rattle.lb_check.specs.ClockRules.{if_node}

@@ -1,18 +1,26 @@
 -- Which scalar elements of variables an element needs at the same instant.
 -- Source: this project's rule, on scalar elements after expansion; the Lustre V6 reference manual
 -- has it on variables.
-use Rattle.std.specs.Prelude.{◌≡◌, ℕ, suc, ◌+◌, ◌-◌, ◌*◌, Bool, true, false, ◌&&◌, Option, Some, None, List, [], ◌∷◌, ◌++◌, map, take, drop, flat_map, filter, find, nat_eq}
+use Rattle.std.specs.Prelude.{◌≡◌, ℕ, suc, ◌+◌, ◌-◌, ◌*◌, Bool, true, false, ◌&&◌, Option, Some}
+use Rattle.std.specs.Prelude.{None, List, [], ◌∷◌, ◌++◌, map, take, drop, flat_map, filter, find}
+use Rattle.std.specs.Prelude.{nat_eq}
 use Rattle.std.specs.Str.{bytes_eq}
 use Rattle.std.specs.List.{range_with_len, list_any}
 use Rattle.lb_syntax.specs.declared.tree.ArrayIterator.{ArrayIterator}
 use Rattle.lb_syntax.specs.declared.tree.ArrayIterator.TheVariants.{Map, Red}
 use Rattle.lb_syntax.specs.Lists.{◌>>=◌, In, zip2, copies, heads, joined, holds, either_or, listed}
-use Rattle.lb_syntax.specs.Tree.{Name, Node_named, Symbol, Expr, Literal, Truth, Variable, Group, Unary, Binary, If, Arrow, Fby, Pre, Current, When, Replicate, Index, Slice, Join, Array, AtMostOne, Nor, Call, Iterate, Exprs, Nil, Cons, Declaration, Node, Static, Statement, Equation, Assertion}
+use Rattle.lb_syntax.specs.Tree.{Name, Node_named, Symbol, Expr, Literal, Truth, Variable, Group}
+use Rattle.lb_syntax.specs.Tree.{Unary, Binary, If, Arrow, Fby, Pre, Current, When, Replicate}
+use Rattle.lb_syntax.specs.Tree.{Index, Slice, Join, Array, AtMostOne, Nor, Call, Iterate, Exprs}
+use Rattle.lb_syntax.specs.Tree.{Nil, Cons, Declaration, Node, Static, Statement, Equation}
+use Rattle.lb_syntax.specs.Tree.{Assertion}
 use Rattle.lb_static.specs.StaticValues.{named}
-use Rattle.lb_static.specs.Instances.{Program, Instance, Path, Root, Observer, Child, node_named, call_site, callee_of, instance_at, instances}
+use Rattle.lb_static.specs.Instances.{Program, Instance, Path, Root, Observer, Child, node_named}
+use Rattle.lb_static.specs.Instances.{call_site, callee_of, instance_at, instances}
 use Rattle.lb_static.specs.DataTypes.{variables, width}
 use Rattle.lb_static.specs.Parts.{left_names}
-use Rattle.lb_check.specs.Clocks.{Clock, Base, On, Given, clock_of, clock_or, declared_clock, base_clock, given_inputs, given_outputs, ungrouped}
+use Rattle.lb_check.specs.Clocks.{Clock, Base, On, Given, clock_of, clock_or, declared_clock}
+use Rattle.lb_check.specs.Clocks.{base_clock, given_inputs, given_outputs, ungrouped}
 use Rattle.lb_check.specs.Occurrences.{Occurrence, call_count, node_occurrences, statements}
 use Rattle.lb_check.specs.Streams.{number, part_count, outputs_of, iterated}
 use Rattle.lb_check.specs.Solutions.{iterator_inputs}

@@ -1,7 +1,8 @@
 -- Which variables a node with resolved names defines, whether its terms have memory, and whether
 -- it calls functions alone, as the code finds them.
 -- This file mirrors code (src/definition_rules.rt); no definition of the language stands on it.
-use Rattle.std.specs.Prelude.{◌≡◌, ℕ, ◌+◌, ◌<◌, Bool, true, false, ◌&&◌, ◌||◌, not, nat_lt, List, [], ◌∷◌, if◌then◌else◌, ◌==◌, EachIndex, min, slice_index}
+use Rattle.std.specs.Prelude.{◌≡◌, ℕ, ◌+◌, ◌<◌, Bool, true, false, ◌&&◌, ◌||◌, not, nat_lt, List}
+use Rattle.std.specs.Prelude.{[], ◌∷◌, if◌then◌else◌, ◌==◌, EachIndex, min, slice_index}
 use Rattle.std.specs.List.{list_all, list_any}
 use Rattle.lb_syntax.specs.Lists.{◌>>=◌, holds}
 use Rattle.lb_static.specs.Instances.{Program}
@@ -13,7 +14,12 @@ use Rattle.lb_static.specs.declared.resolved.ResolvedNode.{ResolvedNode}
 use Rattle.lb_static.specs.declared.resolved.VariableId.{VariableId}
 use Rattle.lb_static.specs.declared.resolved.ResolvedStatement.{ResolvedStatement}
 use Rattle.lb_static.specs.declared.resolved.ResolvedStatement.TheVariants as statement
-use Rattle.lb_static.specs.declared.resolved.Term.{Term, Literal, Truth, Variable, Value, Group', Unary', Binary', If', Arrow', Fby', Pre', Current', When', Replicate', Index', Slice', Join', Array', AtMostOne', Nor', Call', IterateNode', IterateSymbol', Row_of-Term, end_of-Term, more_of-Term}
+use Rattle.lb_static.specs.declared.resolved.Term.{Term, Literal, Truth, Variable, Value, Group'}
+use Rattle.lb_static.specs.declared.resolved.Term.{Unary', Binary', If', Arrow', Fby', Pre'}
+use Rattle.lb_static.specs.declared.resolved.Term.{Current', When', Replicate', Index', Slice'}
+use Rattle.lb_static.specs.declared.resolved.Term.{Join', Array', AtMostOne', Nor', Call'}
+use Rattle.lb_static.specs.declared.resolved.Term.{IterateNode', IterateSymbol', Row_of-Term}
+use Rattle.lb_static.specs.declared.resolved.Term.{end_of-Term, more_of-Term}
 use Rattle.lb_check.specs.DefinitionRules.{is_defined}
 
 -- ## Left variables

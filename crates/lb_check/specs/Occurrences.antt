@@ -4,7 +4,10 @@
 -- project's rule.
 use Rattle.std.specs.Prelude.{ℕ, ◌+◌, Option, Some, None, List, [], ◌∷◌, ◌++◌, length, flat_map}
 use Rattle.std.specs.List.{zip}
-use Rattle.lb_syntax.specs.Tree.{Node_named, Symbol, Expr, Literal, Truth, Variable, Group, Unary, Binary, If, Arrow, Fby, Pre, Current, When, Replicate, Index, Slice, Join, Array, AtMostOne, Nor, Call, Iterate, Exprs, Nil, Cons, Node, Statement, Equation, Assertion}
+use Rattle.lb_syntax.specs.Tree.{Node_named, Symbol, Expr, Literal, Truth, Variable, Group, Unary}
+use Rattle.lb_syntax.specs.Tree.{Binary, If, Arrow, Fby, Pre, Current, When, Replicate, Index}
+use Rattle.lb_syntax.specs.Tree.{Slice, Join, Array, AtMostOne, Nor, Call, Iterate, Exprs, Nil}
+use Rattle.lb_syntax.specs.Tree.{Cons, Node, Statement, Equation, Assertion}
 use Rattle.lb_static.specs.Instances.{Program, sites, node_named, statement_sites}
 use Rattle.lb_static.specs.Parts.{right_side}
 use Rattle.lb_check.specs.Clocks.{Clock, Base, clock_of, clock_or, declared_clock, argument_clocks}

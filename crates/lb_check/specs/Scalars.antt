@@ -1,12 +1,15 @@
 -- What one scalar element holds at one instant, and the tables of the data operators.
 -- Source: Lustre V6 reference manual, data operators and the undefined value nil. Faults and
 -- strictness are this project's rule.
-use Rattle.std.specs.Prelude.{Bool, true, false, not, ◌&&◌, ◌||◌, nat_le, nat_eq, ℤ, int_lt, int_le, Option, List, [], ◌∷◌, count_by, option_map}
+use Rattle.std.specs.Prelude.{Bool, true, false, not, ◌&&◌, ◌||◌, nat_le, nat_eq, ℤ, int_lt, int_le}
+use Rattle.std.specs.Prelude.{Option, List, [], ◌∷◌, count_by, option_map}
 use Rattle.std.specs.Ordering.{int_eq}
 use Rattle.lb_syntax.specs.declared.tree.UnaryOperator.{UnaryOperator}
 use Rattle.lb_syntax.specs.declared.tree.UnaryOperator.TheVariants.{Not, Negate}
 use Rattle.lb_syntax.specs.declared.tree.BinaryOperator.{BinaryOperator}
-use Rattle.lb_syntax.specs.declared.tree.BinaryOperator.TheVariants.{Or, Xor, And, Implies, Equal, Unequal, Less, AtMost, Greater, AtLeast}
+use Rattle.lb_syntax.specs.declared.tree.BinaryOperator.TheVariants.{Or, Xor, And, Implies, Equal}
+use Rattle.lb_syntax.specs.declared.tree.BinaryOperator.TheVariants.{Unequal, Less, AtMost, Greater}
+use Rattle.lb_syntax.specs.declared.tree.BinaryOperator.TheVariants.{AtLeast}
 use Rattle.lb_syntax.specs.declared.tree.Kind.{Kind}
 use Rattle.lb_syntax.specs.declared.tree.Kind.TheVariants.{Int as Int_kind, Bool as Bool_kind}
 use Rattle.lb_syntax.specs.Lists.{either_or}

@@ -1,19 +1,24 @@
 -- What it is for a history to solve a program on a trace.
 -- Source: Lustre V6 reference manual, equations and node instances. A solution is pinned
 -- completely: shape, length, presence and kind of every stream are part of it.
-use Rattle.std.specs.Prelude.{◌≡◌, ℕ, zero, suc, ◌+◌, Bool, true, false, ◌&&◌, Option, Some, None, IfSome, List, [], ◌∷◌, ◌++◌, map, length, replicate, flat_map, slice_get}
+use Rattle.std.specs.Prelude.{◌≡◌, ℕ, zero, suc, ◌+◌, Bool, true, false, ◌&&◌, Option, Some, None}
+use Rattle.std.specs.Prelude.{IfSome, List, [], ◌∷◌, ◌++◌, map, length, replicate, flat_map}
+use Rattle.std.specs.Prelude.{slice_get}
 use Rattle.std.specs.List.{range_with_len}
 use Rattle.lb_syntax.specs.declared.tree.Kind.{Kind}
 use Rattle.lb_syntax.specs.declared.tree.ArrayIterator.{ArrayIterator}
 use Rattle.lb_syntax.specs.declared.tree.ArrayIterator.TheVariants.{Map, Red, Fill}
 use Rattle.lb_syntax.specs.Lists.{Every, part}
-use Rattle.lb_syntax.specs.Tree.{Name, Node_named, Expr, Call, Iterate, Exprs, Declaration, Node, Statement, Equation, Assertion}
-use Rattle.lb_static.specs.Instances.{Program, Instance, Path, Root, Observer, Child, instance_at, node_named, instances}
+use Rattle.lb_syntax.specs.Tree.{Name, Node_named, Expr, Call, Iterate, Exprs, Declaration, Node}
+use Rattle.lb_syntax.specs.Tree.{Statement, Equation, Assertion}
+use Rattle.lb_static.specs.Instances.{Program, Instance, Path, Root, Observer, Child, instance_at}
+use Rattle.lb_static.specs.Instances.{node_named, instances}
 use Rattle.lb_static.specs.DataTypes.{variables, width, input_kinds}
 use Rattle.lb_check.specs.Scalars.{Scalar, Stream, is_of_kind, is_given}
 use Rattle.lb_check.specs.Clocks.{Clock, declared_clock, base_clock, argument_clocks}
 use Rattle.lb_check.specs.Occurrences.{Occurrence, node_occurrences, statements}
-use Rattle.lb_check.specs.Streams.{History, presence, streams, all_streams, argument_streams, number}
+use Rattle.lb_check.specs.Streams.{History, presence, streams, all_streams, argument_streams}
+use Rattle.lb_check.specs.Streams.{number}
 
 -- ## What goes into the instances that are called
 

@@ -1,17 +1,25 @@
 -- The streams of an expression, from a history that gives the streams of variables.
 -- Source: Lustre V6 reference manual, temporal operators, clocks and array iterators. Streams of
 -- scalar elements in place of arrays are this project's choice.
-use Rattle.std.specs.Prelude.{ℕ, suc, ◌+◌, ◌-◌, ◌*◌, Bool, true, false, ◌&&◌, pos, Option, Some, None, option_map, List, [], ◌∷◌, ◌++◌, map, take, drop, flat_map, fold}
+use Rattle.std.specs.Prelude.{ℕ, suc, ◌+◌, ◌-◌, ◌*◌, Bool, true, false, ◌&&◌, pos, Option, Some}
+use Rattle.std.specs.Prelude.{None, option_map, List, [], ◌∷◌, ◌++◌, map, take, drop, flat_map}
+use Rattle.std.specs.Prelude.{fold}
 use Rattle.std.specs.List.{range_with_len}
 use Rattle.lb_syntax.specs.declared.tree.BinaryOperator.{BinaryOperator}
 use Rattle.lb_syntax.specs.declared.tree.ArrayIterator.{ArrayIterator}
 use Rattle.lb_syntax.specs.declared.tree.ArrayIterator.TheVariants.{Map, Red, Fill}
 use Rattle.lb_syntax.specs.Lists.{◌>>=◌, zip2, copies, tail_of, joined, all_some, either_or, listed}
-use Rattle.lb_syntax.specs.Tree.{Name, Static, Node_named, Symbol, Expr, Literal, Truth, Variable, Group, Unary, Binary, If, Arrow, Fby, Pre, Current, When, Replicate, Index, Slice, Join, Array, AtMostOne, Nor, Call, Iterate, Exprs, Nil, Cons, Declaration}
+use Rattle.lb_syntax.specs.Tree.{Name, Static, Node_named, Symbol, Expr, Literal, Truth, Variable}
+use Rattle.lb_syntax.specs.Tree.{Group, Unary, Binary, If, Arrow, Fby, Pre, Current, When}
+use Rattle.lb_syntax.specs.Tree.{Replicate, Index, Slice, Join, Array, AtMostOne, Nor, Call}
+use Rattle.lb_syntax.specs.Tree.{Iterate, Exprs, Nil, Cons, Declaration}
 use Rattle.lb_static.specs.StaticValues.{named}
-use Rattle.lb_static.specs.Instances.{Program, Instance, Path, Child, static_count, name_value, node_named}
+use Rattle.lb_static.specs.Instances.{Program, Instance, Path, Child, static_count, name_value}
+use Rattle.lb_static.specs.Instances.{node_named}
 use Rattle.lb_static.specs.DataTypes.{DataType, int, variables, product}
-use Rattle.lb_check.specs.Scalars.{Scalar, Integer, Boolean, Cell, Stream, or_fault, same, two_scalars, one_scalar, chosen, at_most_one, none_true, first_value}
+use Rattle.lb_check.specs.Scalars.{Scalar, Integer, Boolean, Cell, Stream, or_fault, same}
+use Rattle.lb_check.specs.Scalars.{two_scalars, one_scalar, chosen, at_most_one, none_true}
+use Rattle.lb_check.specs.Scalars.{first_value}
 use Rattle.lb_check.specs.Types.{data_types, only}
 use Rattle.lb_check.specs.Clocks.{Clock, Base, On, clock_of, clock_or, declared_clock}
 use Rattle.lb_check.specs.Occurrences.{call_count}

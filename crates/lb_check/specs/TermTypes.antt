@@ -1,6 +1,7 @@
 -- The types of a term, as the code finds them.
 -- This file mirrors code (src/types.rt); no definition of the language stands on it.
-use Rattle.std.specs.Prelude.{ℕ, ℤ, Bool, true, ◌&&◌, Option, Some, None, option_map, List, [], ◌∷◌, map, take, drop, reverse, slice_get, if◌then◌else◌}
+use Rattle.std.specs.Prelude.{ℕ, ℤ, Bool, true, ◌&&◌, Option, Some, None, option_map, List, [], ◌∷◌}
+use Rattle.std.specs.Prelude.{map, take, drop, reverse, slice_get, if◌then◌else◌}
 use Rattle.std.specs.List.{list_all}
 use Rattle.lb_syntax.specs.declared.tree.ArrayIterator.{ArrayIterator}
 use Rattle.lb_syntax.specs.declared.tree.BinaryOperator.{BinaryOperator}
@@ -13,14 +14,21 @@ use Rattle.lb_static.specs.declared.resolved.Sampling.{Sampling}
 use Rattle.lb_static.specs.declared.resolved.StaticId.{StaticId}
 use Rattle.lb_static.specs.declared.resolved.ResolvedStatement.{ResolvedStatement}
 use Rattle.lb_static.specs.declared.resolved.ResolvedStatement.TheVariants as statement
-use Rattle.lb_static.specs.declared.resolved.Term.{Term, Literal, Truth, Variable, Value, Group', Unary', Binary', If', Arrow', Fby', Pre', Current', When', Replicate', Index', Slice', Join', Array', AtMostOne', Nor', Call', IterateNode', IterateSymbol', Row_of-Term, end_of-Term, more_of-Term}
+use Rattle.lb_static.specs.declared.resolved.Term.{Term, Literal, Truth, Variable, Value, Group'}
+use Rattle.lb_static.specs.declared.resolved.Term.{Unary', Binary', If', Arrow', Fby', Pre'}
+use Rattle.lb_static.specs.declared.resolved.Term.{Current', When', Replicate', Index', Slice'}
+use Rattle.lb_static.specs.declared.resolved.Term.{Join', Array', AtMostOne', Nor', Call'}
+use Rattle.lb_static.specs.declared.resolved.Term.{IterateNode', IterateSymbol', Row_of-Term}
+use Rattle.lb_static.specs.declared.resolved.Term.{end_of-Term, more_of-Term}
 use Rattle.lb_static.specs.declared.resolved.Variable.{Variable as Declared}
 use Rattle.lb_static.specs.declared.resolved.VariableId.{VariableId}
 use Rattle.lb_static.specs.declared.table.Specialization.{Specialization}
 use Rattle.lb_static.specs.declared.table.Table.{Table}
 use Rattle.lb_static.specs.DataTypes.{DataType, int, truth, is_type, are_types}
 use Rattle.lb_static.specs.StaticValues.{natural}
-use Rattle.lb_check.specs.Types.{is_arithmetic, unary_type, binary_type, common_type, array_of, index_type, slice_type, join_type, list_type, iterator_types, only, singly}
+use Rattle.lb_check.specs.Types.{is_arithmetic, unary_type, binary_type, common_type, array_of}
+use Rattle.lb_check.specs.Types.{index_type, slice_type, join_type, list_type, iterator_types, only}
+use Rattle.lb_check.specs.Types.{singly}
 
 -- the types of the inputs and of the outputs of what is called
 abbrev pub Signature : Type 0

@@ -7,7 +7,8 @@ use Rattle.lb_syntax.specs.Lists.{◌>>=◌, either_or, holds, listed, all_some}
 use Rattle.lb_syntax.specs.Tree.{Name, Expr, Declaration, Statement, Equation, Assertion}
 use Rattle.lb_static.specs.StaticValues.{named}
 use Rattle.lb_static.specs.Instances.{Program, Instance, instances}
-use Rattle.lb_static.specs.DataTypes.{DataType, truth, is_type, element_count, variables, variable_type, width}
+use Rattle.lb_static.specs.DataTypes.{DataType, truth, is_type, element_count, variables}
+use Rattle.lb_static.specs.DataTypes.{variable_type, width}
 use Rattle.lb_static.specs.Parts.{node_parts}
 use Rattle.lb_static.specs.Instantiation.{are_same}
 use Rattle.lb_check.specs.Types.{data_types}

@@ -1,11 +1,14 @@
 -- The verdict of a trace, from the history that solves the program on it.
 -- Source: this project's rule, after the 1993 paper on synchronous observers: an assertion is an
 -- assumption on the environment, and the property is judged only while the assumptions have held.
-use Rattle.std.specs.Prelude.{◌≡◌, ℕ, zero, suc, ◌+◌, ◌<◌, Bool, true, false, ◌||◌, Option, Some, None, List, ◌++◌, map, length, flat_map, slice_get, if◌then◌else◌}
+use Rattle.std.specs.Prelude.{◌≡◌, ℕ, zero, suc, ◌+◌, ◌<◌, Bool, true, false, ◌||◌, Option, Some}
+use Rattle.std.specs.Prelude.{None, List, ◌++◌, map, length, flat_map, slice_get, if◌then◌else◌}
 use Rattle.std.specs.List.{list_any, filter}
 use Rattle.lb_syntax.specs.Lists.{some_of, listed}
-use Rattle.lb_syntax.specs.Tree.{Name, Expr, Fby, Pre, Current, Declaration, Node, Statement, Equation, Assertion}
-use Rattle.lb_static.specs.Instances.{Program, Instance, Path, Root, Observer, instance_at, instances}
+use Rattle.lb_syntax.specs.Tree.{Name, Expr, Fby, Pre, Current, Declaration, Node, Statement}
+use Rattle.lb_syntax.specs.Tree.{Equation, Assertion}
+use Rattle.lb_static.specs.Instances.{Program, Instance, Path, Root, Observer, instance_at}
+use Rattle.lb_static.specs.Instances.{instances}
 use Rattle.lb_static.specs.Parts.{among, clock_names}
 use Rattle.lb_static.specs.DataTypes.{variables}
 use Rattle.lb_check.specs.Scalars.{Boolean, Nil, Bad, Cell, Stream}
@@ -14,7 +17,9 @@ use Rattle.lb_check.specs.Occurrences.{Occurrence, at, call_count, node_occurren
 use Rattle.lb_check.specs.Streams.{History}
 use Rattle.lb_check.specs.Solutions.{Inputs, Solves, streams_at}
 pub use Rattle.lb_check.specs.declared.verdict.Verdict.{Verdict}
-pub use Rattle.lb_check.specs.declared.verdict.Verdict.TheVariants.{Passed, Fault, Undefined, Assertion as Assertion_fails, False}
+pub use Rattle.lb_check.specs.declared.verdict.Verdict.TheVariants.{Passed, Fault, Undefined}
+pub use Rattle.lb_check.specs.declared.verdict.Verdict.TheVariants.{Assertion as Assertion_fails}
+pub use Rattle.lb_check.specs.declared.verdict.Verdict.TheVariants.{False}
 
 -- ## Named places
 

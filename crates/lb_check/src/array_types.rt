@@ -18,7 +18,8 @@ const LONGEST: u64 = 4096;
 /// An array of so many of these, where it is not too long.
 #[tactic(auto, using(crate::proofs::TypeLists::outermost))]
 pub fn array_of(length: u64, element: DataType) -> Result<Option<DataType>, AllocError>
-    ensures { IfOk result (λ o. option_map view_type o ≡ types.array_of length (view_type element)) }
+    ensures { IfOk result (λ o.
+        option_map view_type o ≡ types.array_of length (view_type element)) }
 {
     if length < 1 || LONGEST < length {
         return Ok(None);

@@ -45,7 +45,7 @@ fn given_at(operands: &[Operand], place: usize) -> Option<VariableId>
 
 impl Given<'_> {
     /// What stands for the variable of the callee at a place.
-    fn at(&self, place: usize) -> Option<VariableId>
+    pub fn at(&self, place: usize) -> Option<VariableId>
         ensures { result ≡ given_in self.now place }
     {
         match *self {
@@ -69,7 +69,7 @@ fn variables_from<'t>(node: &'t ResolvedNode, first: usize, count: usize) -> &'t
 }
 
 /// The inputs and outputs of a node.
-fn parameters<'t>(node: &'t ResolvedNode) -> &'t [Variable]
+pub fn parameters<'t>(node: &'t ResolvedNode) -> &'t [Variable]
     ensures { result.now ≡ take (node.now.inputs + node.now.outputs) node.now.variables.items }
 {
     let variables = node.variables.as_slice();
@@ -136,7 +136,7 @@ fn base_of(parameters: &[Variable], operands: &[Operand]) -> Option<Clock>
 
 /// The clock of a parameter as the caller sees it, if it sees one: that on which the callee runs,
 /// or one on which a variable that stands there for one of the callee has a sign.
-fn expected(base: Option<Clock>, given: &Given, clock: Option<Sampling>) -> Option<Clock>
+pub fn expected(base: Option<Clock>, given: &Given, clock: Option<Sampling>) -> Option<Clock>
     ensures { result ≡ mirror.expected base (given_in given.now) clock }
 {
     match clock {
@@ -146,6 +146,21 @@ fn expected(base: Option<Clock>, given: &Given, clock: Option<Sampling>) -> Opti
         }
         None => base,
     }
+}
+
+/// The inputs of a node.
+pub fn inputs_of<'t>(node: &'t ResolvedNode) -> &'t [Variable]
+    ensures { result.now ≡ take node.now.inputs node.now.variables.items }
+{
+    variables_from(node, 0, node.inputs)
+}
+
+/// The base clock of a callee, if its operands determine it.
+pub fn base_clock(callee: &ResolvedNode, operands: &[Operand]) -> Option<Clock>
+    ensures { result ≡ mirror.base_of (mirror.input_clocks callee.now)
+        (mirror.clock_sets operands.now) }
+{
+    base_of(inputs_of(callee), operands)
 }
 
 /// Whether each operand may stand on the clock of its parameter.
@@ -246,6 +261,21 @@ fn result_base(callee: &ResolvedNode, operands: &[Operand], results: &[Operand])
         Some(clock) => Some(clock),
         None => base_of(variables_from(callee, 0, callee.inputs), operands),
     }
+}
+
+/// The base clock of a callee whose results are these left variables, if something determines it.
+pub fn result_clock(
+    alloc: Global,
+    env: &ClockEnv,
+    callee: &ResolvedNode,
+    operands: &[Operand],
+    lefts: &[VariableId],
+) -> Result<Option<Clock>, AllocError>
+    ensures { IfOk result (λ base.
+        base ≡ mirror.result_base (context_in env.now) callee.now operands.now lefts.now) }
+{
+    let results = left_operands(alloc, env, lefts)?;
+    Ok(result_base(callee, operands, &results))
 }
 
 /// Whether the operands of a call that is a whole right side, and the left variables as its

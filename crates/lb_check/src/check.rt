@@ -12,6 +12,7 @@ use crate::checked::{Checked, Checking};
 use crate::clock_rules::ill_clocked_node;
 use crate::definition_rules::ill_defined_node;
 use crate::error::CheckError;
+use crate::placed_clock::placed_clocks;
 use crate::type_rules::ill_typed_node;
 use lb_static::elab::Elab;
 use lb_static::reach::{NodeId, Reached};
@@ -60,6 +61,9 @@ pub fn check<'s>(alloc: Global, elab: Elab<'s>) -> Result<Checked<'s>, CheckErro
 {
     match broken_rule(alloc, elab.reached(), elab.table())? {
         Some(error) => Err(error),
-        None => Ok(Checked::new(Checking { elab })),
+        None => {
+            let clocks = placed_clocks(alloc, elab.reached())?;
+            Ok(Checked::new(Checking { elab, clocks }))
+        }
     }
 }

@@ -1,9 +1,13 @@
 //! A checked program: what the layer above reads of it.
 
-ghost use Rattle.std.specs.Prelude.{◌≡◌};
+ghost use Rattle.std.specs.Prelude.{◌≡◌, slice_get};
+ghost use Rattle.lb_syntax.specs.Lists.{listed};
 ghost use Rattle.lb_check.specs.LawfulPrograms.{IsChecked};
 
+use crate::found_clocks::{CallClock, NodeClocks};
+use crate::own_clock::Clock;
 use lb_static::elab::Elab;
+use lb_static::reach::NodeId;
 use lb_static::signature::Signature;
 use std::marker::Model;
 
@@ -12,6 +16,8 @@ use std::marker::Model;
 pub struct Checking<'s> {
     /// The program, elaborated.
     pub elab: Elab<'s>,
+    /// What is found of each reached node: the clock of each term and what is found of each call.
+    pub clocks: Vec<NodeClocks>,
 }
 
 /// An elaborated program that keeps the rules of types, clocks and definitions.
@@ -54,6 +60,31 @@ impl<'s> Checked<'s> {
         ensures lawful { IsChecked self.now }
     {
         &self.checking.elab
+    }
+
+    /// The clocks on which the terms of a node stand, in text order: none of a node that is not
+    /// reached.
+    pub fn term_clocks(&self, node: NodeId) -> &[Clock]
+        ensures value { result.now
+            ≡ listed (λ f. f.terms.items) (slice_get self.now.clocks.items node.0) }
+        ensures lawful { IsChecked self.now }
+    {
+        match self.checking.clocks.get(node.0 as usize) {
+            Some(found) => &found.terms,
+            None => &[],
+        }
+    }
+
+    /// What is found of the calls of a node, in text order: none of a node that is not reached.
+    pub fn call_clocks(&self, node: NodeId) -> &[CallClock]
+        ensures value { result.now
+            ≡ listed (λ f. f.calls.items) (slice_get self.now.clocks.items node.0) }
+        ensures lawful { IsChecked self.now }
+    {
+        match self.checking.clocks.get(node.0 as usize) {
+            Some(found) => &found.calls,
+            None => &[],
+        }
     }
 
     /// The scalar input elements of the node under test, in order.

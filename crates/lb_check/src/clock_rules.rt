@@ -25,7 +25,7 @@ use lb_static::table::Table;
 use std::alloc::{AllocError, Global};
 
 /// The clock of an equation: that of its first left variable.
-fn left_clock(env: &ClockEnv, lefts: &[VariableId]) -> Clock
+pub fn left_clock(env: &ClockEnv, lefts: &[VariableId]) -> Clock
     ensures { result ≡ mirror.left_clock (context_in env.now) lefts.now }
 {
     match lefts {

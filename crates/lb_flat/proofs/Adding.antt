@@ -1,6 +1,7 @@
 -- Where the equations that the small words of expansion add hold, so do those before, and the
 -- elements found have the streams of their operator.
-use Rattle.std.proofs.Common.{◌≡◌, ℕ, suc, List, [], ◌∷◌, false, Option, map, length, fold, refl, sym, ap, ap₂, ◌∙◌}
+use Rattle.std.proofs.Common.{◌≡◌, ℕ, suc, List, [], ◌∷◌, false, Option, map, length, fold, refl}
+use Rattle.std.proofs.Common.{sym, ap, ap₂, ◌∙◌}
 use Rattle.lb_syntax.specs.declared.tree.UnaryOperator.TheVariants.{Not}
 use Rattle.lb_syntax.specs.declared.tree.BinaryOperator.{BinaryOperator}
 use Rattle.lb_syntax.specs.declared.tree.BinaryOperator.TheVariants.{Or, And}
@@ -10,11 +11,15 @@ use Rattle.lb_syntax.specs.Lists.{Every, zip2}
 use Rattle.lb_check.specs.Scalars.{Boolean, Stream, two_scalars, one_scalar, none_true, at_most_one}
 use Rattle.lb_check.specs.Streams.{held, along, along_two, choice, choices, across, symbols}
 use Rattle.lb_check.specs.Solutions.{Inputs}
-use Rattle.lb_flat.specs.Flat.{FlatClock, Operation, Constant, ApplyUnary, ApplyBinary, Choose, FlatEquation, column, instants, operate, Holds, AreLong}
-use Rattle.lb_flat.specs.Emit.{State, Emitted, numbered, numbers, add, push, chosen_by, chained, twice, negated, emit_nor, emit_at_most_one, emit_symbol}
+use Rattle.lb_flat.specs.Flat.{FlatClock, Operation, Constant, ApplyUnary, ApplyBinary, Choose}
+use Rattle.lb_flat.specs.Flat.{FlatEquation, column, instants, operate, Holds, AreLong}
+use Rattle.lb_flat.specs.Emit.{State, Emitted, numbered, numbers, add, push, chosen_by, chained}
+use Rattle.lb_flat.specs.Emit.{twice, negated, emit_nor, emit_at_most_one, emit_symbol}
 use Rattle.lb_flat.proofs.Lists.{Every-first, Every-second}
 use Rattle.lb_flat.proofs.Columns.{column_long, instants_long}
-use Rattle.lb_flat.proofs.Counting.{Count, Counted, more, read_by, any_counted, two_counted, any_step, two_step, none_yet, not_two_yet, none_chained, at_most_one_counts, AllTruths, IsTruth}
+use Rattle.lb_flat.proofs.Counting.{Count, Counted, more, read_by, any_counted, two_counted}
+use Rattle.lb_flat.proofs.Counting.{any_step, two_step, none_yet, not_two_yet, none_chained}
+use Rattle.lb_flat.proofs.Counting.{at_most_one_counts, AllTruths, IsTruth}
 
 module _ (X : Inputs) (F : List Stream) where
   -- the streams of some elements

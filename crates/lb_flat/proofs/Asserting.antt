@@ -1,19 +1,26 @@
 -- Expressions leave the list of asserted elements as it was.
-use Rattle.std.proofs.Common.{◌≡◌, ℕ, ◌+◌, false, Option, Some, None, List, [], ◌∷◌, ◌++◌, map, refl, ◌∙◌}
+use Rattle.std.proofs.Common.{◌≡◌, ℕ, ◌+◌, false, Option, Some, None, List, [], ◌∷◌, ◌++◌, map}
+use Rattle.std.proofs.Common.{refl, ◌∙◌}
 use Rattle.lb_syntax.specs.declared.tree.UnaryOperator.TheVariants.{Not}
 use Rattle.lb_syntax.specs.declared.tree.BinaryOperator.{BinaryOperator}
 use Rattle.lb_syntax.specs.declared.tree.BinaryOperator.TheVariants.{Or, And}
 use Rattle.lb_syntax.specs.declared.tree.ArrayIterator.{ArrayIterator}
 use Rattle.lb_syntax.specs.declared.tree.ArrayIterator.TheVariants.{Map, Red}
 use Rattle.lb_syntax.specs.Lists.{zip2}
-use Rattle.lb_syntax.specs.Tree.{Name, Node_named, Symbol, Expr, Literal, Truth, Variable, Group, Unary, Binary, If, Arrow, Fby, Pre, Current, When, Replicate, Index, Slice, Join, Array, AtMostOne, Nor, Call, Iterate, Exprs, Nil, Cons, Declaration}
+use Rattle.lb_syntax.specs.Tree.{Name, Node_named, Symbol, Expr, Literal, Truth, Variable, Group}
+use Rattle.lb_syntax.specs.Tree.{Unary, Binary, If, Arrow, Fby, Pre, Current, When, Replicate}
+use Rattle.lb_syntax.specs.Tree.{Index, Slice, Join, Array, AtMostOne, Nor, Call, Iterate, Exprs}
+use Rattle.lb_syntax.specs.Tree.{Nil, Cons, Declaration}
 use Rattle.lb_static.specs.Instances.{Program, Instance, node_named}
 use Rattle.lb_check.specs.Scalars.{Boolean}
 use Rattle.lb_check.specs.Clocks.{Clock}
 use Rattle.lb_check.specs.Occurrences.{call_clocks}
-use Rattle.lb_flat.specs.Flat.{FlatClock, Operation, Constant, ApplyUnary, ApplyBinary, FlatEquation}
+use Rattle.lb_flat.specs.Flat.{FlatClock, Operation, Constant, ApplyUnary, ApplyBinary}
+use Rattle.lb_flat.specs.Flat.{FlatEquation}
 use Rattle.lb_flat.specs.Layouts.{Layout}
-use Rattle.lb_flat.specs.Emit.{State, Emitted, add, push, chained, twice, emit_nor, emit_at_most_one, keep, assert, joins, emit_symbol, emit_name, emit, emit_all, emit_each}
+use Rattle.lb_flat.specs.Emit.{State, Emitted, add, push, chained, twice, emit_nor}
+use Rattle.lb_flat.specs.Emit.{emit_at_most_one, keep, assert, joins, emit_symbol, emit_name, emit}
+use Rattle.lb_flat.specs.Emit.{emit_all, emit_each}
 
 add_asserted :
     (k : FlatClock) (s : State) (os : List Operation) → (add k s os).state.asserted ≡ s.asserted

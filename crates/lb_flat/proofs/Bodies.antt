@@ -1,19 +1,22 @@
 -- The copies of an instance hold exactly where its equations do and its calls are joined; and so of
 -- all instances.
-use Rattle.std.proofs.Common.{◌≡◌, ℕ, ◌+◌, List, [], ◌∷◌, length, flat_map, zip, refl, sym, ap, ◌∙◌, subst}
+use Rattle.std.proofs.Common.{◌≡◌, ℕ, ◌+◌, List, [], ◌∷◌, length, flat_map, zip, refl, sym, ap, ◌∙◌}
+use Rattle.std.proofs.Common.{subst}
 use Rattle.std.proofs.lemmas.List.{length-map}
 use Rattle.lb_syntax.specs.Lists.{Every}
 use Rattle.lb_syntax.specs.Tree.{Name, Node, Statement, Equation, Assertion}
 use Rattle.lb_static.specs.Instances.{Program, Instance, Path}
 use Rattle.lb_check.specs.Scalars.{Stream}
 use Rattle.lb_check.specs.Clocks.{Clock}
-use Rattle.lb_check.specs.Occurrences.{Occurrence, call_count, occurrences, statement_clock, right_sides, statements, node_occurrences}
+use Rattle.lb_check.specs.Occurrences.{Occurrence, call_count, occurrences, statement_clock}
+use Rattle.lb_check.specs.Occurrences.{right_sides, statements, node_occurrences}
 use Rattle.lb_check.specs.Streams.{History}
 use Rattle.lb_check.specs.Solutions.{Inputs, IsJoined, AreEqual, streams_at}
 use Rattle.lb_flat.specs.Flat.{column, AreLong}
 use Rattle.lb_flat.specs.Run.{clock_reads}
 use Rattle.lb_flat.specs.Layouts.{Layout, flat_clock}
-use Rattle.lb_flat.specs.Emit.{State, Emitted, joins, copied, Target, targets, assert, emit, emit_body, emit_instances}
+use Rattle.lb_flat.specs.Emit.{State, Emitted, joins, copied, Target, targets, assert, emit}
+use Rattle.lb_flat.specs.Emit.{emit_body, emit_instances}
 use Rattle.lb_flat.proofs.Lists.{map-pieces, Every-append, Every-first, Every-second}
 use Rattle.lb_flat.proofs.Adding.{IsMet, AllMet}
 use Rattle.lb_flat.proofs.Placing.{Agrees, IsPlaced}

@@ -1,5 +1,6 @@
 -- The emitted equations give elements one after another, each from elements before its own.
-use Rattle.std.proofs.Common.{◌≡◌, ℕ, suc, ◌+◌, ◌-◌, ◌<◌, ◌≤◌, false, Option, Some, None, List, [], ◌∷◌, ◌++◌, map, length, refl, ap, subst, arith, length-append}
+use Rattle.std.proofs.Common.{◌≡◌, ℕ, suc, ◌+◌, ◌-◌, ◌<◌, ◌≤◌, false, Option, Some, None, List, []}
+use Rattle.std.proofs.Common.{◌∷◌, ◌++◌, map, length, refl, ap, subst, arith, length-append}
 use Rattle.std.specs.List.{range_with_len}
 use Rattle.lb_syntax.specs.declared.tree.UnaryOperator.TheVariants.{Not}
 use Rattle.lb_syntax.specs.declared.tree.BinaryOperator.{BinaryOperator}
@@ -7,17 +8,24 @@ use Rattle.lb_syntax.specs.declared.tree.BinaryOperator.TheVariants.{Or, And}
 use Rattle.lb_syntax.specs.declared.tree.ArrayIterator.{ArrayIterator}
 use Rattle.lb_syntax.specs.declared.tree.ArrayIterator.TheVariants.{Map, Red, Fill}
 use Rattle.lb_syntax.specs.Lists.{Every, zip2, tail_of}
-use Rattle.lb_syntax.specs.Tree.{Name, Node_named, Symbol, Expr, Literal, Truth, Variable, Group, Unary, Binary, If, Arrow, Fby, Pre, Current, When, Replicate, Index, Slice, Join, Array, AtMostOne, Nor, Call, Iterate, Exprs, Nil, Cons, Declaration}
+use Rattle.lb_syntax.specs.Tree.{Name, Node_named, Symbol, Expr, Literal, Truth, Variable, Group}
+use Rattle.lb_syntax.specs.Tree.{Unary, Binary, If, Arrow, Fby, Pre, Current, When, Replicate}
+use Rattle.lb_syntax.specs.Tree.{Index, Slice, Join, Array, AtMostOne, Nor, Call, Iterate, Exprs}
+use Rattle.lb_syntax.specs.Tree.{Nil, Cons, Declaration}
 use Rattle.lb_static.specs.Instances.{Program, Instance, Path, Child, node_named}
 use Rattle.lb_check.specs.Scalars.{Boolean, first_value}
 use Rattle.lb_check.specs.Clocks.{Clock, On, declared_clock}
 use Rattle.lb_check.specs.Occurrences.{call_clocks}
 use Rattle.lb_check.specs.Streams.{number, outputs_of, gathered, last_of, iterated}
-use Rattle.lb_flat.specs.Flat.{FlatClock, Operation, Constant, ApplyUnary, ApplyBinary, Choose, FirstThen, Previous, Latest, Sample, FlatEquation}
+use Rattle.lb_flat.specs.Flat.{FlatClock, Operation, Constant, ApplyUnary, ApplyBinary, Choose}
+use Rattle.lb_flat.specs.Flat.{FirstThen, Previous, Latest, Sample, FlatEquation}
 use Rattle.lb_flat.specs.Run.{clock_reads, reads, keeps}
 use Rattle.lb_flat.specs.Layouts.{Layout, flat_clock}
-use Rattle.lb_flat.specs.Emit.{State, Emitted, EmittedAll, numbered, numbers, after, add, joins, chosen_by, push, chained, twice, negated, keep, assert, emit_nor, emit_at_most_one, emit_symbol, emit_name, emit, emit_all, emit_each}
-use Rattle.lb_flat.proofs.Lists.{Every-map, Every-append, Every-take, Every-drop, Every-copies, Every-joined, Every-pieces}
+use Rattle.lb_flat.specs.Emit.{State, Emitted, EmittedAll, numbered, numbers, after, add, joins}
+use Rattle.lb_flat.specs.Emit.{chosen_by, push, chained, twice, negated, keep, assert, emit_nor}
+use Rattle.lb_flat.specs.Emit.{emit_at_most_one, emit_symbol, emit_name, emit, emit_all, emit_each}
+use Rattle.lb_flat.proofs.Lists.{Every-map, Every-append, Every-take, Every-drop, Every-copies}
+use Rattle.lb_flat.proofs.Lists.{Every-joined, Every-pieces}
 use Rattle.lb_flat.proofs.Filling.{Fresh}
 
 -- ## Elements below a number

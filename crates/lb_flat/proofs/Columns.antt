@@ -1,11 +1,14 @@
 -- Streams, and the instants of clocks, are as long as the trace.
-use Rattle.std.proofs.Common.{◌≡◌, ℕ, zero, suc, Bool, true, false, Option, Some, None, List, [], ◌∷◌, length, refl, ap, ◌∙◌, arith}
+use Rattle.std.proofs.Common.{◌≡◌, ℕ, zero, suc, Bool, true, false, Option, Some, None, List, []}
+use Rattle.std.proofs.Common.{◌∷◌, length, refl, ap, ◌∙◌, arith}
 use Rattle.std.proofs.lemmas.List.{length-map, length-replicate}
 use Rattle.lb_check.specs.Scalars.{Scalar, Stream}
 use Rattle.lb_check.specs.Streams.{held, choice, previous, first_then, latest, newest, first_cell}
 use Rattle.lb_check.specs.Solutions.{Inputs}
 use Rattle.lb_syntax.specs.Lists.{tail_of}
-use Rattle.lb_flat.specs.Flat.{FlatClock, Always, Where, Operation, Input, Constant, Copy, ApplyUnary, ApplyBinary, Choose, FirstThen, Previous, Latest, Sample, column, instants, operate, AreLong}
+use Rattle.lb_flat.specs.Flat.{FlatClock, Always, Where, Operation, Input, Constant, Copy}
+use Rattle.lb_flat.specs.Flat.{ApplyUnary, ApplyBinary, Choose, FirstThen, Previous, Latest, Sample}
+use Rattle.lb_flat.specs.Flat.{column, instants, operate, AreLong}
 use Rattle.lb_flat.specs.Run.{chosen_cell}
 use Rattle.lb_flat.proofs.Lists.{length-zips}
 

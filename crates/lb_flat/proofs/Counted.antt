@@ -1,12 +1,14 @@
 -- `#` and `nor` from one operand on, as the code goes over them.
-use Rattle.std.proofs.Common.{◌≡◌, ◌<◌, ◌≤◌, ℕ, ◌+◌, false, List, length, drop, get_or, sym, ap, ◌∙◌, subst, arith, ◌*◌}
+use Rattle.std.proofs.Common.{◌≡◌, ◌<◌, ◌≤◌, ℕ, ◌+◌, false, List, length, drop, get_or, sym, ap}
+use Rattle.std.proofs.Common.{◌∙◌, subst, arith, ◌*◌}
 use Rattle.std.proofs.lemmas.List.{drop_more, drop_all}
 use Rattle.lb_syntax.specs.declared.tree.UnaryOperator.TheVariants.{Not}
 use Rattle.lb_syntax.specs.declared.tree.BinaryOperator.TheVariants.{Or, And}
 use Rattle.lb_check.specs.Scalars.{Boolean}
 use Rattle.lb_flat.specs.declared.equation.ElementId.{ElementId}
 use Rattle.lb_flat.specs.Flat.{Always, Constant, ApplyUnary, ApplyBinary}
-use Rattle.lb_flat.specs.Emit.{State, push, add, chained, twice, negated, emit_nor, emit_at_most_one}
+use Rattle.lb_flat.specs.Emit.{State, push, add, chained, twice, negated, emit_nor}
+use Rattle.lb_flat.specs.Emit.{emit_at_most_one}
 use Rattle.lb_flat.specs.Programs.{numbers_of}
 use Rattle.lb_flat.specs.Terms.{TypedElement, pushed, only_found}
 

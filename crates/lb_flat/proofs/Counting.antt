@@ -1,10 +1,13 @@
 -- `#` and `nor` by a chain of `or` and `and` over one stream after another.
-use Rattle.std.proofs.Common.{◌≡◌, ℕ, zero, suc, ◌+◌, Bool, true, false, nat_le, nat_eq, Option, Some, None, IfSome, option_map, List, [], ◌∷◌, map, length, fold, count_by, cond, refl, sym, ap, ap₂, ◌∙◌, arith}
+use Rattle.std.proofs.Common.{◌≡◌, ℕ, zero, suc, ◌+◌, Bool, true, false, nat_le, nat_eq, Option}
+use Rattle.std.proofs.Common.{Some, None, IfSome, option_map, List, [], ◌∷◌, map, length, fold}
+use Rattle.std.proofs.Common.{count_by, cond, refl, sym, ap, ap₂, ◌∙◌, arith}
 use Rattle.std.proofs.lemmas.List.Sums.{sum_by-cons}
 use Rattle.lb_syntax.specs.declared.tree.UnaryOperator.TheVariants.{Not}
 use Rattle.lb_syntax.specs.declared.tree.BinaryOperator.TheVariants.{Or, And}
 use Rattle.lb_syntax.specs.Lists.{Every, zip2, all_some, tail_of}
-use Rattle.lb_check.specs.Scalars.{Scalar, Integer, Boolean, Nil, Bad, Cell, Stream, two_scalars, one_scalar, is_true, at_most_one, none_true, strict}
+use Rattle.lb_check.specs.Scalars.{Scalar, Integer, Boolean, Nil, Bad, Cell, Stream, two_scalars}
+use Rattle.lb_check.specs.Scalars.{one_scalar, is_true, at_most_one, none_true, strict}
 use Rattle.lb_check.specs.Streams.{held, constantly, along, along_two, first_cell, across}
 
 -- ## Counts of the operands that are true

@@ -1,22 +1,36 @@
 -- Where the emitted equations hold, the elements found have the streams of their expression, and
 -- the copies hold exactly where every call in it is joined.
-use Rattle.std.proofs.Common.{◌≡◌, ℕ, ◌+◌, false, Option, Some, None, option_map, pos, List, [], ◌∷◌, ◌++◌, map, take, drop, flat_map, refl, sym, ap, ap₂, ◌∙◌, subst}
+use Rattle.std.proofs.Common.{◌≡◌, ℕ, ◌+◌, false, Option, Some, None, option_map, pos, List, []}
+use Rattle.std.proofs.Common.{◌∷◌, ◌++◌, map, take, drop, flat_map, refl, sym, ap, ap₂, ◌∙◌, subst}
 use Rattle.std.proofs.lemmas.List.{map-append}
 use Rattle.lb_syntax.specs.Lists.{Every, zip2, copies, joined, either_or}
-use Rattle.lb_syntax.specs.Tree.{Name, Node_named, Symbol, Expr, Literal, Truth, Variable, Group, Unary, Binary, If, Arrow, Fby, Pre, Current, When, Replicate, Index, Slice, Join, Array, AtMostOne, Nor, Call, Iterate, Exprs, Nil, Cons, Declaration}
+use Rattle.lb_syntax.specs.Tree.{Name, Node_named, Symbol, Expr, Literal, Truth, Variable, Group}
+use Rattle.lb_syntax.specs.Tree.{Unary, Binary, If, Arrow, Fby, Pre, Current, When, Replicate}
+use Rattle.lb_syntax.specs.Tree.{Index, Slice, Join, Array, AtMostOne, Nor, Call, Iterate, Exprs}
+use Rattle.lb_syntax.specs.Tree.{Nil, Cons, Declaration}
 use Rattle.lb_static.specs.Instances.{Program, Instance, Child, name_value, node_named}
-use Rattle.lb_check.specs.Scalars.{Scalar, Integer, Boolean, Stream, or_fault, two_scalars, one_scalar, none_true, at_most_one, first_value}
+use Rattle.lb_check.specs.Scalars.{Scalar, Integer, Boolean, Stream, or_fault, two_scalars}
+use Rattle.lb_check.specs.Scalars.{one_scalar, none_true, at_most_one, first_value}
 use Rattle.lb_check.specs.Clocks.{Clock, On, declared_clock}
-use Rattle.lb_check.specs.Occurrences.{Occurrence, at, call_count, call_clocks, occurrences, occurrences_in, occurrences_each}
-use Rattle.lb_check.specs.Streams.{History, presence, constantly, along, along_two, choices, previous, first_then, sample, latest, across, symbols, streams, all_streams, argument_streams, number, outputs_of, iterated}
+use Rattle.lb_check.specs.Occurrences.{Occurrence, at, call_count, call_clocks, occurrences}
+use Rattle.lb_check.specs.Occurrences.{occurrences_in, occurrences_each}
+use Rattle.lb_check.specs.Streams.{History, presence, constantly, along, along_two, choices}
+use Rattle.lb_check.specs.Streams.{previous, first_then, sample, latest, across, symbols, streams}
+use Rattle.lb_check.specs.Streams.{all_streams, argument_streams, number, outputs_of, iterated}
 use Rattle.lb_check.specs.Solutions.{Inputs, IsJoined}
-use Rattle.lb_flat.specs.Flat.{FlatClock, Operation, Constant, ApplyUnary, ApplyBinary, FirstThen, Previous, Latest, Sample, FlatEquation, column, instants, operate, AreLong}
+use Rattle.lb_flat.specs.Flat.{FlatClock, Operation, Constant, ApplyUnary, ApplyBinary, FirstThen}
+use Rattle.lb_flat.specs.Flat.{Previous, Latest, Sample, FlatEquation, column, instants, operate}
+use Rattle.lb_flat.specs.Flat.{AreLong}
 use Rattle.lb_flat.specs.Layouts.{Layout, flat_clock}
-use Rattle.lb_flat.specs.Emit.{State, Emitted, EmittedAll, add, joins, keep, chosen_by, call_copies, iterator_copies, emit_name, emit, emit_all, emit_each}
-use Rattle.lb_flat.proofs.Lists.{map-take, map-drop, map-copies, map-joined, map-pieces, Every-append, Every-first, Every-second}
-use Rattle.lb_flat.proofs.Adding.{IsMet, columns, AllMet, Added, add_sound, each_one, each_two, each_choice, nor_sound, at_most_one_sound, symbol_sound}
+use Rattle.lb_flat.specs.Emit.{State, Emitted, EmittedAll, add, joins, keep, chosen_by, call_copies}
+use Rattle.lb_flat.specs.Emit.{iterator_copies, emit_name, emit, emit_all, emit_each}
+use Rattle.lb_flat.proofs.Lists.{map-take, map-drop, map-copies, map-joined, map-pieces}
+use Rattle.lb_flat.proofs.Lists.{Every-append, Every-first, Every-second}
+use Rattle.lb_flat.proofs.Adding.{IsMet, columns, AllMet, Added, add_sound, each_one, each_two}
+use Rattle.lb_flat.proofs.Adding.{each_choice, nor_sound, at_most_one_sound, symbol_sound}
 use Rattle.lb_flat.proofs.Placing.{Agrees, IsPlaced, presence_flat, constantly_flat}
-use Rattle.lb_flat.proofs.Joining.{call_sound, call_holds, iterator_sound, iterator_holds, iterated_flat}
+use Rattle.lb_flat.proofs.Joining.{call_sound, call_holds, iterator_sound, iterator_holds}
+use Rattle.lb_flat.proofs.Joining.{iterated_flat}
 
 pub joins_equations :
     (s : State) (qs : List FlatEquation) (is : List ℕ) →

@@ -1,5 +1,6 @@
 -- What one push of the code that expands does.
-use Rattle.std.proofs.Common.{◌≡◌, ◌<◌, ◌≤◌, ℕ, ◌+◌, List, [], ◌∷◌, ◌++◌, length, get_or, None, arith, rules, All, drop, sym, ap, ◌∙◌}
+use Rattle.std.proofs.Common.{◌≡◌, ◌<◌, ◌≤◌, ℕ, ◌+◌, List, [], ◌∷◌, ◌++◌, length, get_or, None}
+use Rattle.std.proofs.Common.{arith, rules, All, drop, sym, ap, ◌∙◌}
 use Rattle.std.proofs.lemmas.List.{map-append}
 use Rattle.std.proofs.lemmas.List.Elements.{All-push, All-weaker, All-nil, All-cons}
 use Rattle.std.proofs.lemmas.List.FromFn.{map-range_with_len_more}
@@ -16,14 +17,19 @@ use Rattle.lb_flat.specs.declared.plain.term.Term.{Term}
 use Rattle.lb_flat.proofs.TypeFacts.{and_first}
 use Rattle.lb_flat.specs.declared.equation.ElementId.{ElementId}
 use Rattle.lb_flat.specs.declared.equation.Operation.{Operation}
-use Rattle.lb_flat.specs.declared.equation.Operation.TheVariants.{Input, Constant, Copy, ApplyUnary, ApplyBinary, Choose, FirstThen, Previous, Latest, Sample}
+use Rattle.lb_flat.specs.declared.equation.Operation.TheVariants.{Input, Constant, Copy, ApplyUnary}
+use Rattle.lb_flat.specs.declared.equation.Operation.TheVariants.{ApplyBinary, Choose, FirstThen}
+use Rattle.lb_flat.specs.declared.equation.Operation.TheVariants.{Previous, Latest, Sample}
 use Rattle.lb_flat.specs.declared.equation.Equation.{Equation}
 use Rattle.lb_flat.specs.Emissions.{AreBelow}
 use Rattle.lb_flat.specs.Programs.{numbers_of, flat_equations}
 use Rattle.lb_flat.specs.Run.{reads, keeps}
 use Rattle.lb_flat.specs.Values.{operation_of, equation_of}
 use Rattle.lb_flat.specs.Within.{IsWithin}
-use Rattle.lb_flat.proofs.TermRows.{single_size, pair_size, row_size_is, size_next, emit_next, single_within, pair_within, within_of_row, within_next, within_more, terms_within_more, statements_size_next, step_within_next, steps_next, places_of_more, steps_within_more}
+use Rattle.lb_flat.proofs.TermRows.{single_size, pair_size, row_size_is, size_next, emit_next}
+use Rattle.lb_flat.proofs.TermRows.{single_within, pair_within, within_of_row, within_next}
+use Rattle.lb_flat.proofs.TermRows.{within_more, terms_within_more, statements_size_next}
+use Rattle.lb_flat.proofs.TermRows.{step_within_next, steps_next, places_of_more, steps_within_more}
 
 -- ## Elements below a number
 
@@ -36,7 +42,8 @@ none_below n = All-nil (λ i. i < n)
 more_below : (n i : ℕ) (is : List ℕ) → i < n → Below n is → Below n (i ∷ is)
 more_below n i is lt h = All-cons (λ i. i < n) i is lt h
 
-reads_below : (n m : ℕ) (o : Operation) → AreBelow n o → n ≤ m → Below m (reads (operation_of o))
+pub reads_below : (n m : ℕ) (o : Operation) → AreBelow n o → n ≤ m
+    → Below m (reads (operation_of o))
 reads_below n m (Input j) h le = none_below m
 reads_below n m (Constant v) h le = none_below m
 reads_below n m (Copy a) h le = more_below m a.0 [] (omega arith) (none_below m)
@@ -55,7 +62,8 @@ reads_below n m (Previous v a) h le = none_below m
 reads_below n m (Latest v a) h le = more_below m a.0 [] (omega arith) (none_below m)
 reads_below n m (Sample a) h le = more_below m a.0 [] (omega arith) (none_below m)
 
-keeps_below : (n m : ℕ) (o : Operation) → AreBelow n o → n ≤ m → Below m (keeps (operation_of o))
+pub keeps_below : (n m : ℕ) (o : Operation) → AreBelow n o → n ≤ m
+    → Below m (keeps (operation_of o))
 keeps_below n m (Previous v a) h le = more_below m a.0 [] (omega arith) (none_below m)
 keeps_below n m (Input j) h le = none_below m
 keeps_below n m (Constant v) h le = none_below m
@@ -67,7 +75,7 @@ keeps_below n m (FirstThen started a b) h le = none_below m
 keeps_below n m (Latest v a) h le = none_below m
 keeps_below n m (Sample a) h le = none_below m
 
-below_later : (n m : ℕ) (is : List ℕ) → Below n is → n ≤ m → Below m is
+pub below_later : (n m : ℕ) (is : List ℕ) → Below n is → n ≤ m → Below m is
 below_later n m is h le = All-weaker (λ i. i < n) (λ i. i < m) (λ i lt. omega arith) is h
 
 -- ## More elements

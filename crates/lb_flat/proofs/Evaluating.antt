@@ -1,9 +1,11 @@
 -- What an instant of the evaluator keeps.
-use Rattle.std.proofs.Common.{◌≡◌, ◌≢◌, ℕ, suc, ◌+◌, ◌<◌, List, [], length, map, drop, get_or, All, refl, sym, ap, ap₂, ◌∙◌, subst, add-one}
+use Rattle.std.proofs.Common.{◌≡◌, ◌≢◌, ℕ, suc, ◌+◌, ◌<◌, List, [], length, map, drop, get_or, All}
+use Rattle.std.proofs.Common.{refl, sym, ap, ap₂, ◌∙◌, subst, add-one}
 use Rattle.std.proofs.Math.Seq.{drop-cons}
 use Rattle.std.proofs.lemmas.List.{length-map}
 use Rattle.lb_check.specs.declared.verdict.Verdict.{Verdict}
-use Rattle.lb_check.specs.declared.verdict.Verdict.TheVariants.{Passed, Fault, Undefined, Assertion, False}
+use Rattle.lb_check.specs.declared.verdict.Verdict.TheVariants.{Passed, Fault, Undefined, Assertion}
+use Rattle.lb_check.specs.declared.verdict.Verdict.TheVariants.{False}
 use Rattle.lb_check.specs.Solutions.{Inputs}
 use Rattle.lb_check.specs.Verdicts.{or_later}
 use Rattle.lb_flat.specs.declared.cell.Cell.{Cell}
@@ -16,7 +18,8 @@ use Rattle.lb_flat.specs.Run.{filled, advanced, Ready, row_of, run}
 use Rattle.lb_flat.specs.Judging.{FlatProgram, row_judged, rows_judged, flat_verdict}
 use Rattle.lb_flat.specs.Values.{cell_of, equation_of}
 use Rattle.lb_flat.specs.Within.{IsWithin}
-use Rattle.lb_flat.proofs.FixedCells.{instant_row, inputs_advanced, steps_advanced, places_advanced, fixed_stay}
+use Rattle.lb_flat.proofs.FixedCells.{instant_row, inputs_advanced, steps_advanced, places_advanced}
+use Rattle.lb_flat.proofs.FixedCells.{fixed_stay}
 use Rattle.lb_flat.proofs.Running.{ready_advanced}
 
 -- before instant t the steps are those of the program with their memories moved on, the row holds

@@ -1,14 +1,19 @@
 -- Streams that are filled in along equations whose kinds fit hold scalars of their kinds; so the
 -- operands that have to be truth values are.
-use Rattle.std.proofs.Common.{◌≡◌, ℕ, suc, ◌<◌, Bool, true, false, ℤ, inl, inr, Some, None, List, [], ◌∷◌, ◌++◌, sym, ◌∙◌, slice_get, subst, arith}
+use Rattle.std.proofs.Common.{◌≡◌, ℕ, suc, ◌<◌, Bool, true, false, ℤ, inl, inr, Some, None, List}
+use Rattle.std.proofs.Common.{[], ◌∷◌, ◌++◌, sym, ◌∙◌, slice_get, subst, arith}
 use Rattle.lb_syntax.specs.declared.tree.Kind.{Kind}
 use Rattle.lb_syntax.specs.declared.tree.Kind.TheVariants.{Bool as Truth}
 use Rattle.lb_syntax.specs.declared.tree.BinaryOperator.TheVariants.{Or, And}
 use Rattle.lb_syntax.specs.Lists.{Every, zip2, tail_of}
-use Rattle.lb_check.specs.Scalars.{Scalar, Integer, Boolean, Nil, Bad, Stream, two_scalars, one_scalar, is_of_kind}
-use Rattle.lb_check.specs.Streams.{constantly, along, along_two, choice, previous, first_then, sample, latest, newest, first_cell}
+use Rattle.lb_check.specs.Scalars.{Scalar, Integer, Boolean, Nil, Bad, Stream, two_scalars}
+use Rattle.lb_check.specs.Scalars.{one_scalar, is_of_kind}
+use Rattle.lb_check.specs.Streams.{constantly, along, along_two, choice, previous, first_then}
+use Rattle.lb_check.specs.Streams.{sample, latest, newest, first_cell}
 use Rattle.lb_check.specs.Solutions.{Inputs, column_of, fits, is_row}
-use Rattle.lb_flat.specs.Flat.{FlatClock, Operation, Input, Constant, Copy, ApplyUnary, ApplyBinary, Choose, FirstThen, Previous, Latest, Sample, FlatEquation, column, instants, operate, Holds}
+use Rattle.lb_flat.specs.Flat.{FlatClock, Operation, Input, Constant, Copy, ApplyUnary, ApplyBinary}
+use Rattle.lb_flat.specs.Flat.{Choose, FirstThen, Previous, Latest, Sample, FlatEquation, column}
+use Rattle.lb_flat.specs.Flat.{instants, operate, Holds}
 use Rattle.lb_flat.specs.Run.{clock_reads, reads, keeps}
 use Rattle.lb_flat.proofs.Lists.{Every-first, Every-second}
 use Rattle.lb_flat.proofs.Counting.{IsTruth}
@@ -17,7 +22,8 @@ use Rattle.lb_flat.proofs.Columns.{choice_step, latest_step}
 use Rattle.lb_flat.proofs.Filling.{Fresh}
 use Rattle.lb_flat.proofs.TypeFacts.{and_first, and_second}
 use Rattle.lb_flat.proofs.ScalarKinds.{IsOf, unary_of, binary_of}
-use Rattle.lb_flat.proofs.Fitting.{OperandKinds, KindFits, CellOf, compared, held_of, kept_of, newest_of, one_of, two_of, chosen_cell_of, given_kind}
+use Rattle.lb_flat.proofs.Fitting.{OperandKinds, KindFits, CellOf, compared, held_of, kept_of}
+use Rattle.lb_flat.proofs.Fitting.{newest_of, one_of, two_of, chosen_cell_of, given_kind}
 use Rattle.lb_flat.proofs.Solving.{second_of_or, second_of_and}
 
 -- a stream holds scalars of a kind where it is present
@@ -134,7 +140,7 @@ module _ (inputs : List Kind) (N : ℕ → Kind) (X : Inputs)
   of : (kind : Kind) (i : ℕ) → N i ≡ kind → ElementOf i → StreamOf kind (column X F i)
   of kind i e h = subst (λ k. StreamOf k (column X F i)) e h
 
-  operate_of :
+  pub operate_of :
       (k : FlatClock) (kind : Kind) (o : Operation) → OperandKinds inputs N kind o →
       Every ElementOf (reads o) → Every ElementOf (keeps o) →
       StreamOf kind (operate X F k o)

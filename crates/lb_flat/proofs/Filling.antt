@@ -1,10 +1,14 @@
 -- Equations that each name only what stands before them have streams, whatever those before are.
-use Rattle.std.proofs.Common.{◌≡◌, ℕ, zero, suc, ◌+◌, ◌<◌, true, false, ◌&&◌, List, [], ◌∷◌, ◌++◌, length, refl, sym, ap, ap₂, ◌∙◌, arith, length-append}
+use Rattle.std.proofs.Common.{◌≡◌, ℕ, zero, suc, ◌+◌, ◌<◌, true, false, ◌&&◌, List, [], ◌∷◌, ◌++◌}
+use Rattle.std.proofs.Common.{length, refl, sym, ap, ap₂, ◌∙◌, arith, length-append}
 use Rattle.lb_syntax.specs.Lists.{Every, zip2}
 use Rattle.lb_check.specs.Scalars.{Stream, two_scalars, one_scalar}
-use Rattle.lb_check.specs.Streams.{constantly, along, along_two, choice, previous, first_then, sample, latest, shows}
+use Rattle.lb_check.specs.Streams.{constantly, along, along_two, choice, previous, first_then}
+use Rattle.lb_check.specs.Streams.{sample, latest, shows}
 use Rattle.lb_check.specs.Solutions.{Inputs}
-use Rattle.lb_flat.specs.Flat.{FlatClock, Always, Where, Operation, Input, Constant, Copy, ApplyUnary, ApplyBinary, Choose, FirstThen, Previous, Latest, Sample, FlatEquation, column, instants, operate, Holds, AreLong}
+use Rattle.lb_flat.specs.Flat.{FlatClock, Always, Where, Operation, Input, Constant, Copy}
+use Rattle.lb_flat.specs.Flat.{ApplyUnary, ApplyBinary, Choose, FirstThen, Previous, Latest, Sample}
+use Rattle.lb_flat.specs.Flat.{FlatEquation, column, instants, operate, Holds, AreLong}
 use Rattle.lb_flat.specs.Run.{clock_reads, reads, keeps}
 use Rattle.lb_flat.proofs.Lists.{Every-first, Every-second, Every-append}
 use Rattle.lb_flat.proofs.Columns.{operate_long}

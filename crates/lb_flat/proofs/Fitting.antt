@@ -1,21 +1,29 @@
 -- In a solution of a flat program whose clocks and kinds fit, each element is present exactly at
 -- the instants of its clock, with scalars of its kind.
-use Rattle.std.proofs.Common.{◌≡◌, ℕ, zero, suc, ◌<◌, ◌≤◌, ◌⊎◌, Bool, true, false, ◌&&◌, inl, inr, Some, None, IfSome, is_some, List, [], ◌∷◌, map, length, slice_get, refl, sym, ap₂, ◌∙◌, subst, arith}
+use Rattle.std.proofs.Common.{◌≡◌, ℕ, zero, suc, ◌<◌, ◌≤◌, ◌⊎◌, Bool, true, false, ◌&&◌, inl, inr}
+use Rattle.std.proofs.Common.{Some, None, IfSome, is_some, List, [], ◌∷◌, map, length, slice_get}
+use Rattle.std.proofs.Common.{refl, sym, ap₂, ◌∙◌, subst, arith}
 use Rattle.std.proofs.Math.ListN.{get_or-eq_default}
 use Rattle.std.proofs.lemmas.List.{length-map}
 use Rattle.lb_syntax.specs.declared.tree.Kind.{Kind}
 use Rattle.lb_syntax.specs.Lists.{Every, In}
-use Rattle.lb_check.specs.Scalars.{Scalar, Integer, Boolean, Nil, Bad, Cell, Stream, two_scalars, one_scalar, is_given}
+use Rattle.lb_check.specs.Scalars.{Scalar, Integer, Boolean, Nil, Bad, Cell, Stream, two_scalars}
+use Rattle.lb_check.specs.Scalars.{one_scalar, is_given}
 use Rattle.lb_check.specs.Streams.{held, one_cell, two_cells, sample, newest, first_cell}
 use Rattle.lb_check.specs.Solutions.{Inputs, fits, is_row}
-use Rattle.lb_flat.specs.Flat.{FlatClock, Operation, Input, Constant, Copy, ApplyUnary, ApplyBinary, Choose, FirstThen, Previous, Latest, Sample, FlatEquation, column, instants, FlatSolves}
-use Rattle.lb_flat.specs.Run.{Row, cell, is_now, chosen_cell, now, remembered, advanced, clock_reads, reads, Ready}
+use Rattle.lb_flat.specs.Flat.{FlatClock, Operation, Input, Constant, Copy, ApplyUnary, ApplyBinary}
+use Rattle.lb_flat.specs.Flat.{Choose, FirstThen, Previous, Latest, Sample, FlatEquation, column}
+use Rattle.lb_flat.specs.Flat.{instants, FlatSolves}
+use Rattle.lb_flat.specs.Run.{Row, cell, is_now, chosen_cell, now, remembered, advanced}
+use Rattle.lb_flat.specs.Run.{clock_reads, reads, Ready}
 use Rattle.lb_flat.proofs.Lists.{Every-first}
 use Rattle.lb_flat.proofs.Columns.{column_long, instants_long}
-use Rattle.lb_flat.proofs.Stepping.{HoldsNow, first_row, after_first, column_step, instants_step, NowAndLater, now_and_later}
+use Rattle.lb_flat.proofs.Stepping.{HoldsNow, first_row, after_first, column_step, instants_step}
+use Rattle.lb_flat.proofs.Stepping.{NowAndLater, now_and_later}
 use Rattle.lb_flat.proofs.Running.{Step, step_of, ready_advanced}
 use Rattle.lb_flat.proofs.OnClock.{OperandsFit, ClockFits, row_on}
-use Rattle.lb_flat.proofs.ScalarKinds.{IsOf, binary_kind, unary_kind, binary_of, unary_of, chosen_of}
+use Rattle.lb_flat.proofs.ScalarKinds.{IsOf, binary_kind, unary_kind, binary_of, unary_of}
+use Rattle.lb_flat.proofs.ScalarKinds.{chosen_of}
 
 -- ## Kinds of an equation
 
@@ -86,7 +94,7 @@ given_of kind (Boolean b) e = e
 given_of kind Nil e = cc
 given_of kind Bad e = cc
 
-all_given :
+pub all_given :
     (kinds : List Kind) (given : List Scalar) → is_row kinds given ≡ true → (j : ℕ) →
     j < length kinds → is_some (slice_get given j) ≡ true
 all_given [] given e j lt = absurd (omega arith)
@@ -231,7 +239,7 @@ fits_step kind true (Some v) bs xs p h e =
     ap₂ (λ c d. c && d) h e
 fits_step kind false (Some v) bs xs p h e = cc
 
-fits_nothing :
+pub fits_nothing :
     (kind : Kind) (bs : List Bool) (xs : Stream) → length bs ≡ 0 → length xs ≡ 0 →
     fits kind bs xs ≡ true
 fits_nothing kind [] [] p q = refl

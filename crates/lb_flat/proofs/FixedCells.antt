@@ -1,10 +1,14 @@
 -- A row whose constants are set and whose inputs were read is filled by the steps alone.
-use Rattle.std.proofs.Common.{◌≡◌, ℕ, suc, ◌≤◌, Bool, true, false, not, ◌||◌, cond, List, [], ◌∷◌, map, length, set, refl, sym, ap, ap₂, ◌∙◌, subst, arith}
+use Rattle.std.proofs.Common.{◌≡◌, ℕ, suc, ◌≤◌, Bool, true, false, not, ◌||◌, cond, List, [], ◌∷◌}
+use Rattle.std.proofs.Common.{map, length, set, refl, sym, ap, ap₂, ◌∙◌, subst, arith}
 use Rattle.std.specs.List.{filter}
 use Rattle.lb_syntax.specs.Lists.{Every}
 use Rattle.lb_check.specs.Scalars.{Scalar}
-use Rattle.lb_flat.specs.Flat.{FlatClock, Always, Where, Operation, Input, Constant, Copy, ApplyUnary, ApplyBinary, Choose, FirstThen, Previous, Latest, Sample, FlatEquation}
-use Rattle.lb_flat.specs.Prepared.{is_input, is_fixed, is_step, has_memory, fixed_in, steps_in, on_base, inputs_in, memory_places, HoldsFixed, AreFixed}
+use Rattle.lb_flat.specs.Flat.{FlatClock, Always, Where, Operation, Input, Constant, Copy}
+use Rattle.lb_flat.specs.Flat.{ApplyUnary, ApplyBinary, Choose, FirstThen, Previous, Latest, Sample}
+use Rattle.lb_flat.specs.Flat.{FlatEquation}
+use Rattle.lb_flat.specs.Prepared.{is_input, is_fixed, is_step, has_memory, fixed_in, steps_in}
+use Rattle.lb_flat.specs.Prepared.{on_base, inputs_in, memory_places, HoldsFixed, AreFixed}
 use Rattle.lb_flat.specs.Run.{Row, cell, now, filled, remembered, advanced, Ready, row_of}
 use Rattle.lb_flat.proofs.Lists.{Every-map, Every-both}
 use Rattle.lb_flat.proofs.Rows.{filled_is, length-filled, row_holds}

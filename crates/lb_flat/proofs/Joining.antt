@@ -1,6 +1,8 @@
 -- The copies of the inputs of the instances that are called hold exactly where the calls are
 -- joined.
-use Rattle.std.proofs.Common.{◌≡◌, ℕ, zero, suc, ◌+◌, ◌-◌, ◌*◌, ◌/◌, ◌<◌, Option, Some, None, List, [], ◌∷◌, ◌++◌, map, length, take, drop, refl, sym, ap, ap₂, ◌∙◌, subst, arith}
+use Rattle.std.proofs.Common.{◌≡◌, ℕ, zero, suc, ◌+◌, ◌-◌, ◌*◌, ◌/◌, ◌<◌, Option, Some, None, List}
+use Rattle.std.proofs.Common.{[], ◌∷◌, ◌++◌, map, length, take, drop, refl, sym, ap, ap₂, ◌∙◌}
+use Rattle.std.proofs.Common.{subst, arith}
 use Rattle.std.specs.List.{range_with_len}
 use Rattle.std.proofs.lemmas.List.{map-append, length-map}
 use Rattle.lb_syntax.specs.declared.tree.ArrayIterator.{ArrayIterator}
@@ -11,13 +13,18 @@ use Rattle.lb_static.specs.Instances.{Program, Instance, Path, Child}
 use Rattle.lb_check.specs.Scalars.{Stream}
 use Rattle.lb_check.specs.Clocks.{Clock, base_clock, declared_clock}
 use Rattle.lb_check.specs.Occurrences.{call_clocks}
-use Rattle.lb_check.specs.Streams.{History, presence, all_streams, argument_streams, gathered, last_of, iterated}
-use Rattle.lb_check.specs.Solutions.{Inputs, Receives, accumulated, iterator_inputs, IsCallJoined, IsIteratorJoined}
+use Rattle.lb_check.specs.Streams.{History, presence, all_streams, argument_streams, gathered}
+use Rattle.lb_check.specs.Streams.{last_of, iterated}
+use Rattle.lb_check.specs.Solutions.{Inputs, Receives, accumulated, iterator_inputs, IsCallJoined}
+use Rattle.lb_check.specs.Solutions.{IsIteratorJoined}
 use Rattle.lb_flat.specs.Flat.{column, instants}
 use Rattle.lb_flat.specs.Layouts.{Layout, flat_clock}
 use Rattle.lb_flat.specs.Emit.{Target, targets, copied, received, call_copies, iterator_copies}
-use Rattle.lb_flat.proofs.Lists.{map-take, map-drop, map-pieces, map-maps, Every-append, Every-first, Every-second, Every-piece, Every-of_pieces, Every-of_range, Every-range}
-use Rattle.lb_flat.proofs.Placing.{Agrees, AreAsWide, IsCalleePlaced, IsCallPlaced, IsIteratorPlaced, presence_flat}
+use Rattle.lb_flat.proofs.Lists.{map-take, map-drop, map-pieces, map-maps, Every-append}
+use Rattle.lb_flat.proofs.Lists.{Every-first, Every-second, Every-piece, Every-of_pieces}
+use Rattle.lb_flat.proofs.Lists.{Every-of_range, Every-range}
+use Rattle.lb_flat.proofs.Placing.{Agrees, AreAsWide, IsCalleePlaced, IsCallPlaced}
+use Rattle.lb_flat.proofs.Placing.{IsIteratorPlaced, presence_flat}
 use Rattle.lb_flat.proofs.Adding.{IsMet, columns, AllMet}
 
 firsts_equal : (x y : Stream) (xs ys : List Stream) → x ∷ xs ≡ y ∷ ys → x ≡ y

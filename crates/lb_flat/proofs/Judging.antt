@@ -1,16 +1,21 @@
 -- A flat program in order gives the verdict of the program that it stands for.
-use Rattle.std.proofs.Common.{◌≡◌, ℕ, zero, suc, ◌+◌, ◌<◌, ◌≤◌, Bool, ◌||◌, Option, Some, List, [], ◌∷◌, map, length, drop, get_or, slice_get, refl, sym, ap, ap₂, ◌∙◌, subst, arith, if◌then◌else◌}
+use Rattle.std.proofs.Common.{◌≡◌, ℕ, zero, suc, ◌+◌, ◌<◌, ◌≤◌, Bool, ◌||◌, Option, Some, List, []}
+use Rattle.std.proofs.Common.{◌∷◌, map, length, drop, get_or, slice_get, refl, sym, ap, ap₂, ◌∙◌}
+use Rattle.std.proofs.Common.{subst, arith, if◌then◌else◌}
 use Rattle.std.proofs.Math.Seq.{drop-cons}
 use Rattle.std.proofs.Math.ListN.{drop_of_length-le}
 use Rattle.lb_static.specs.Instances.{Program}
-use Rattle.lb_check.specs.declared.verdict.Verdict.TheVariants.{Passed, Fault, Undefined, Assertion, False}
+use Rattle.lb_check.specs.declared.verdict.Verdict.TheVariants.{Passed, Fault, Undefined, Assertion}
+use Rattle.lb_check.specs.declared.verdict.Verdict.TheVariants.{False}
 use Rattle.lb_check.specs.Scalars.{Cell, Stream}
 use Rattle.lb_check.specs.Streams.{History}
 use Rattle.lb_check.specs.Solutions.{Inputs, AreSame, HasOneHistory}
-use Rattle.lb_check.specs.Verdicts.{is_bad, is_nil, is_false, some_at, judged, or_later, verdict_from, Ends, HasVerdict}
+use Rattle.lb_check.specs.Verdicts.{is_bad, is_nil, is_false, some_at, judged, or_later}
+use Rattle.lb_check.specs.Verdicts.{verdict_from, Ends, HasVerdict}
 use Rattle.lb_flat.specs.Flat.{FlatEquation, column, FlatSolves}
 use Rattle.lb_flat.specs.Run.{Row, cell, advanced, Ready, row_of, run, streams_of}
-use Rattle.lb_flat.specs.Judging.{FlatProgram, named_elements, truth_elements, some_in, row_judged, rows_judged, flat_verdict}
+use Rattle.lb_flat.specs.Judging.{FlatProgram, named_elements, truth_elements, some_in, row_judged}
+use Rattle.lb_flat.specs.Judging.{rows_judged, flat_verdict}
 use Rattle.lb_flat.specs.Flattening.{history_of, IsTrace, IsWatched, IsFlatOf}
 use Rattle.lb_flat.proofs.Stepping.{after_first, column_step}
 use Rattle.lb_flat.proofs.Running.{step_of, ready_advanced, exists, unique}

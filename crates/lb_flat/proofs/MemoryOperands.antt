@@ -1,6 +1,7 @@
 -- The elements that a state lists as kept hold exactly the operands that memories keep: a test
 -- passes at one of those elements exactly where it does at one of these operands.
-use Rattle.std.proofs.Common.{◌≡◌, ℕ, ◌+◌, Bool, true, false, ◌||◌, Option, Some, None, List, [], ◌∷◌, ◌++◌, map, flat_map, refl, sym, ap, ap₂, ◌∙◌, subst}
+use Rattle.std.proofs.Common.{◌≡◌, ℕ, ◌+◌, Bool, true, false, ◌||◌, Option, Some, None, List, []}
+use Rattle.std.proofs.Common.{◌∷◌, ◌++◌, map, flat_map, refl, sym, ap, ap₂, ◌∙◌, subst}
 use Rattle.std.specs.List.{list_any}
 use Rattle.std.proofs.lemmas.List.{map-append}
 use Rattle.std.proofs.lemmas.List.Folds.{list_any-append}
@@ -10,19 +11,27 @@ use Rattle.lb_syntax.specs.declared.tree.BinaryOperator.TheVariants.{Or, And}
 use Rattle.lb_syntax.specs.declared.tree.ArrayIterator.{ArrayIterator}
 use Rattle.lb_syntax.specs.declared.tree.ArrayIterator.TheVariants.{Map, Red}
 use Rattle.lb_syntax.specs.Lists.{Every, some_of, zip2, joined}
-use Rattle.lb_syntax.specs.Tree.{Name, Node_named, Symbol, Expr, Literal, Truth, Variable, Group, Unary, Binary, If, Arrow, Fby, Pre, Current, When, Replicate, Index, Slice, Join, Array, AtMostOne, Nor, Call, Iterate, Exprs, Nil, Cons, Declaration}
+use Rattle.lb_syntax.specs.Tree.{Name, Node_named, Symbol, Expr, Literal, Truth, Variable, Group}
+use Rattle.lb_syntax.specs.Tree.{Unary, Binary, If, Arrow, Fby, Pre, Current, When, Replicate}
+use Rattle.lb_syntax.specs.Tree.{Index, Slice, Join, Array, AtMostOne, Nor, Call, Iterate, Exprs}
+use Rattle.lb_syntax.specs.Tree.{Nil, Cons, Declaration}
 use Rattle.lb_static.specs.Instances.{Program, Instance, node_named}
 use Rattle.lb_check.specs.Scalars.{Stream, Boolean, first_value}
 use Rattle.lb_check.specs.Clocks.{Clock}
-use Rattle.lb_check.specs.Occurrences.{Occurrence, call_count, occurrences, occurrences_in, occurrences_each, call_clocks}
+use Rattle.lb_check.specs.Occurrences.{Occurrence, call_count, occurrences, occurrences_in}
+use Rattle.lb_check.specs.Occurrences.{occurrences_each, call_clocks}
 use Rattle.lb_check.specs.Streams.{History}
 use Rattle.lb_check.specs.Solutions.{Inputs, streams_at}
 use Rattle.lb_check.specs.Verdicts.{memory_operand}
-use Rattle.lb_flat.specs.Flat.{FlatClock, Operation, Constant, ApplyUnary, ApplyBinary, FirstThen, Previous, Latest, Sample, FlatEquation, column, AreLong}
+use Rattle.lb_flat.specs.Flat.{FlatClock, Operation, Constant, ApplyUnary, ApplyBinary, FirstThen}
+use Rattle.lb_flat.specs.Flat.{Previous, Latest, Sample, FlatEquation, column, AreLong}
 use Rattle.lb_flat.specs.Layouts.{Layout, flat_clock}
-use Rattle.lb_flat.specs.Emit.{State, Emitted, add, push, chained, twice, emit_nor, emit_at_most_one, keep, joins, chosen_by, emit_symbol, emit_name, emit, emit_all, emit_each}
+use Rattle.lb_flat.specs.Emit.{State, Emitted, add, push, chained, twice, emit_nor}
+use Rattle.lb_flat.specs.Emit.{emit_at_most_one, keep, joins, chosen_by, emit_symbol, emit_name}
+use Rattle.lb_flat.specs.Emit.{emit, emit_all, emit_each}
 use Rattle.lb_flat.proofs.Lists.{Every-first, Every-second}
-use Rattle.lb_flat.proofs.Adding.{columns, AllMet, add_sound, nor_sound, at_most_one_sound, symbol_sound}
+use Rattle.lb_flat.proofs.Adding.{columns, AllMet, add_sound, nor_sound, at_most_one_sound}
+use Rattle.lb_flat.proofs.Adding.{symbol_sound}
 use Rattle.lb_flat.proofs.Placing.{Agrees, IsPlaced}
 use Rattle.lb_flat.proofs.Emission.{joins_equations, sound, sound_all, sound_each}
 

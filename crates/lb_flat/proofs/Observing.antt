@@ -1,6 +1,7 @@
 -- A fault, nil where a truth is wanted, a false assertion and a false property of a program show at
 -- the elements that its flat program watches.
-use Rattle.std.proofs.Common.{◌≡◌, ℕ, Bool, true, false, ◌||◌, Option, Some, None, List, [], ◌∷◌, ◌++◌, map, flat_map, slice_get, refl, sym, ap, ap₂, ◌∙◌}
+use Rattle.std.proofs.Common.{◌≡◌, ℕ, Bool, true, false, ◌||◌, Option, Some, None, List, [], ◌∷◌}
+use Rattle.std.proofs.Common.{◌++◌, map, flat_map, slice_get, refl, sym, ap, ap₂, ◌∙◌}
 use Rattle.std.specs.List.{list_any, range_with_len}
 use Rattle.std.proofs.lemmas.List.{map-append}
 use Rattle.std.proofs.lemmas.List.Folds.{list_any-append}
@@ -10,11 +11,14 @@ use Rattle.lb_static.specs.Instances.{Program, Instance, instance_at, instances}
 use Rattle.lb_static.specs.DataTypes.{variables}
 use Rattle.lb_check.specs.Scalars.{Stream}
 use Rattle.lb_check.specs.Solutions.{Inputs}
-use Rattle.lb_check.specs.Verdicts.{is_bad, is_nil, is_false, property_path, variable_columns, clock_variables, memory_columns, assertion_columns, property_columns}
+use Rattle.lb_check.specs.Verdicts.{is_bad, is_nil, is_false, property_path, variable_columns}
+use Rattle.lb_check.specs.Verdicts.{clock_variables, memory_columns, assertion_columns}
+use Rattle.lb_check.specs.Verdicts.{property_columns}
 use Rattle.lb_flat.specs.Flat.{column, AreLong}
 use Rattle.lb_flat.specs.Layouts.{Layout}
 use Rattle.lb_flat.specs.Flattening.{history_of, IsWatched}
-use Rattle.lb_flat.specs.Emit.{State, before_instances, emit_instances, clock_places, property_places, expanded}
+use Rattle.lb_flat.specs.Emit.{State, before_instances, emit_instances, clock_places}
+use Rattle.lb_flat.specs.Emit.{property_places, expanded}
 use Rattle.lb_flat.proofs.Lists.{map-pieces}
 use Rattle.lb_flat.proofs.Adding.{columns, AllMet}
 use Rattle.lb_flat.proofs.Placing.{Agrees}

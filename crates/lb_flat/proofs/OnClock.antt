@@ -1,10 +1,13 @@
 -- In a row of a flat program whose clocks fit, each element is present exactly where its clock has
 -- an instant.
-use Rattle.std.proofs.Common.{◌≡◌, ℕ, ◌<◌, Bool, true, false, ◌&&◌, inl, inr, Some, None, is_some, List, [], ◌∷◌, slice_get, refl, sym, ap, ◌∙◌, subst}
+use Rattle.std.proofs.Common.{◌≡◌, ℕ, ◌<◌, Bool, true, false, ◌&&◌, inl, inr, Some, None, is_some}
+use Rattle.std.proofs.Common.{List, [], ◌∷◌, slice_get, refl, sym, ap, ◌∙◌, subst}
 use Rattle.lb_syntax.specs.Lists.{Every, In}
 use Rattle.lb_check.specs.Scalars.{Scalar, Cell}
 use Rattle.lb_check.specs.Streams.{held, one_cell, two_cells, sample, shows}
-use Rattle.lb_flat.specs.Flat.{FlatClock, Always, Where, Operation, Input, Constant, Copy, ApplyUnary, ApplyBinary, Choose, FirstThen, Previous, Latest, Sample, FlatEquation}
+use Rattle.lb_flat.specs.Flat.{FlatClock, Always, Where, Operation, Input, Constant, Copy}
+use Rattle.lb_flat.specs.Flat.{ApplyUnary, ApplyBinary, Choose, FirstThen, Previous, Latest, Sample}
+use Rattle.lb_flat.specs.Flat.{FlatEquation}
 use Rattle.lb_flat.specs.Run.{Row, cell, is_now, chosen_cell, now, clock_reads, reads, Ready}
 use Rattle.lb_flat.proofs.Lists.{Every-first}
 use Rattle.lb_flat.proofs.Stepping.{HoldsNow}
@@ -28,22 +31,22 @@ pub record ClockFits (inputs : ℕ) (K : ℕ → FlatClock) (q : FlatEquation) :
   pub own : K q.element ≡ q.clock
   pub operands : OperandsFit inputs K q.clock q.operation
 
-held_present : (v : Scalar) (b : Bool) → is_some (held v b) ≡ b
+pub held_present : (v : Scalar) (b : Bool) → is_some (held v b) ≡ b
 held_present v true = refl
 held_present v false = refl
 
-one_present : (f : Scalar → Scalar) (x : Cell) → is_some (one_cell f x) ≡ is_some x
+pub one_present : (f : Scalar → Scalar) (x : Cell) → is_some (one_cell f x) ≡ is_some x
 one_present f None = refl
 one_present f (Some v) = refl
 
-two_present :
+pub two_present :
     (f : Scalar → Scalar → Scalar) (x y : Cell) (b : Bool) → is_some x ≡ b → is_some y ≡ b →
     is_some (two_cells f x y) ≡ b
 two_present f None y b p q = p
 two_present f (Some v) None b p q = q
 two_present f (Some v) (Some w) b p q = p
 
-choice_present :
+pub choice_present :
     (c x y : Cell) (b : Bool) → is_some c ≡ b → is_some x ≡ b → is_some y ≡ b →
     is_some (chosen_cell c x y) ≡ b
 choice_present None x y b p q r = p
@@ -51,7 +54,7 @@ choice_present (Some c) None y b p q r = q
 choice_present (Some c) (Some v) None b p q r = r
 choice_present (Some c) (Some v) (Some w) b p q r = p
 
-kept_present : (b c : Bool) (x : Cell) → is_some x ≡ b → is_some (sample (b && c) x) ≡ (b && c)
+pub kept_present : (b c : Bool) (x : Cell) → is_some x ≡ b → is_some (sample (b && c) x) ≡ (b && c)
 kept_present true true x e = e
 kept_present true false x e = refl
 kept_present false c x e = refl

@@ -1,6 +1,9 @@
--- What settling and the table of equations keep, and why there is no order where none is found.
-use Rattle.std.proofs.Common.{◌≡◌, ℕ, zero, suc, ◌+◌, ◌<◌, ◌≤◌, Bool, true, false, not, ◌&&◌, ◌||◌, Option, Some, None, List, [], ◌∷◌, ◌++◌, length, map, replicate, get_or, set, All, refl, sym, ap, subst, ◌∙◌, arith, inl, inr, ◌⊎◌, ⊎_elim, below_more, length-set, append_assoc}
-use Rattle.std.specs.List.{list_all, list_any}
+-- What scheduling keeps, and what stands in a table where no element is next.
+use Rattle.std.proofs.Common.{◌≡◌, ℕ, zero, suc, ◌+◌, ◌<◌, ◌≤◌, Bool, true, false, not, Option}
+use Rattle.std.proofs.Common.{Some, None, List, [], ◌∷◌, ◌++◌, length, map, replicate, get_or, set}
+use Rattle.std.proofs.Common.{All, refl, sym, ap, subst, ◌∙◌, arith, inl, inr, ◌⊎◌, ⊎_elim}
+use Rattle.std.proofs.Common.{below_more, length-set, append_assoc}
+use Rattle.std.specs.List.{list_any}
 use Rattle.std.proofs.lemmas.Bool.{cases_eq, not-true, not_from_false}
 use Rattle.std.proofs.lemmas.List.{get_or-set_other, map-append, append-nil}
 use Rattle.lb_syntax.specs.Lists.{Every, In}
@@ -8,11 +11,14 @@ use Rattle.lb_flat.specs.declared.equation.Clock.{Clock}
 use Rattle.lb_flat.specs.declared.equation.Equation.{Equation}
 use Rattle.lb_flat.specs.Flat.{FlatEquation}
 use Rattle.lb_flat.specs.InOrder.{is_done, is_next, is_in_order}
-use Rattle.lb_flat.specs.Ordering.{IsTable, IsTableOf, IsScheduled, AreScheduled, IsNotNext, NoneIsNext, is_ready, left}
+use Rattle.lb_flat.specs.declared.program.FlatProgram.{FlatProgram}
+use Rattle.lb_flat.specs.Ordering.{IsTable, IsScheduled, AreScheduled, IsNotNext, IsLeft, IsStuckAt}
+use Rattle.lb_flat.specs.Ordering.{awaited, left}
 use Rattle.lb_flat.specs.Programs.{flat_equations}
 use Rattle.lb_flat.specs.Run.{equation_reads, keeps}
-use Rattle.lb_flat.specs.Stuck.{CannotOrder, NotGiven, Waiting}
+use Rattle.lb_flat.specs.Stuck.{IsStuck}
 use Rattle.lb_flat.specs.Values.{equation_of}
+use Rattle.lb_flat.proofs.Awaiting.{none_left, some_waits}
 use Rattle.lb_flat.proofs.InOrder.{Every-of_All, passes, ends_order, goes_before}
 
 -- ## Lists
@@ -84,14 +90,15 @@ module _ (clocks : List Clock) (table : List (Option Equation)) (done : List Boo
     (out : List Equation) (e : ℕ) (q : Equation) (is_table : IsTable clocks table)
     (h : IsScheduled clocks table done out) (at : get_or table e None ≡ Some q)
     (lt : e < length table) (new : is_done done e ≡ false)
-    (ready : is_ready clocks done q ≡ true) where
+    (ready : awaited clocks done q ≡ None) where
   element : q.element.0 ≡ e
   element = is_table.own e q at
 
   next : is_next done (equation_of clocks q) ≡ true
   next =
       let w = is_table.within e q at in
-      passes done (equation_of clocks q) ready
+      passes done (equation_of clocks q)
+      (none_left done (equation_reads (equation_of clocks q)) ready)
       (subst (λ n. Every (λ i. i < n) (keeps (equation_of clocks q).operation)) (sym h.marks)
       (Every-of_All (λ i. i < length table) (keeps (equation_of clocks q).operation)
       w.memory_operands))
@@ -187,40 +194,7 @@ all_settled clocks table done out n h le all = record {
   holds = λ e q lt. h.holds e q (all e (omega arith));
 }
 
--- ## What settling finds where none is next
-
--- of the numbers below one, each has something, or one does not have it
-all_or_one :
-    (Has : ℕ → Type 0) → ((i : ℕ) → Has i ⊎ (Has i → ⊥)) → (n : ℕ) →
-    ((i : ℕ) → i < n → Has i) ⊎ ((i : ℕ) × (i < n) × (Has i → ⊥))
-all_or_one Has decide zero = inl (λ i lt. absurd (omega arith))
-all_or_one Has decide (suc n) = by (all_or_one Has decide n) (decide n)
-  where
-    by :
-        ((i : ℕ) → i < n → Has i) ⊎ ((i : ℕ) × (i < n) × (Has i → ⊥)) → Has n ⊎ (Has n → ⊥) →
-        ((i : ℕ) → i < suc n → Has i) ⊎ ((i : ℕ) × (i < suc n) × (Has i → ⊥))
-    by (inr r) h = let lt = r.1 in inr (r.0, omega arith, r.2)
-    by (inl all) (inr none) = inr (n, omega arith, none)
-    by (inl all) (inl has) =
-        inl (λ i lt.
-        ⊎_elim (λ (same : i ≡ n). subst Has (sym same) has)
-        (λ (other : i ≡ n → ⊥). all i (omega (arith, other))) (cases_eq i n))
-
-some_not :
-    (test : ℕ → Bool) (is : List ℕ) → list_all test is ≡ false →
-    list_any (λ i. not (test i)) is ≡ true
-some_not test [] h = cc
-some_not test (i ∷ is) h = by (test i) h (some_not test is)
-  where
-    by :
-        (b : Bool) → (b && list_all test is) ≡ false →
-        (list_all test is ≡ false → list_any (λ i. not (test i)) is ≡ true) →
-        (not b || list_any (λ i. not (test i)) is) ≡ true
-    by true e again = again e
-    by false e again = refl
-
-no_entry : (o : Option Equation) (q : Equation) → o ≡ None → o ≡ Some q → ⊥
-no_entry o q h k = cc
+-- ## Where none is next
 
 -- a place that has an entry is one of the table
 in_table :
@@ -230,62 +204,54 @@ in_table [] e q h = cc
 in_table (o ∷ table) zero q h = omega arith
 in_table (o ∷ table) (suc e) q h = omega (arith, in_table table e q h)
 
-module _ (size : ℕ) (clocks : List Clock) (qs : List Equation) (table : List (Option Equation))
-    (t : IsTableOf size clocks qs table) (n : NoneIsNext clocks table) where
+module _ (p : FlatProgram) (table : List (Option Equation)) (done : List Bool)
+    (s : IsStuckAt p table done) where
+  abbrev clocks : List Clock
+  clocks = p.clocks.items
+
   abbrev Q : List FlatEquation
-  Q = flat_equations clocks qs
+  Q = flat_equations clocks p.equations.items
 
-  abbrev IsGiven : ℕ → Type 0
-  IsGiven i = In i (map (λ q. q.element) Q)
+  -- the equation of an element
+  pub record IsEntry (e : ℕ) : Type 0 where
+    pub equation : Equation
+    pub stands : get_or table e None ≡ Some equation
 
-  -- an element has an equation where the table has an entry
-  given_or_not : (i : ℕ) → IsGiven i ⊎ (IsGiven i → ⊥)
-  given_or_not i = by (get_or table i None) refl
-    where
-      by : (o : Option Equation) → get_or table i None ≡ o → IsGiven i ⊎ (IsGiven i → ⊥)
-      by (Some q) e =
-          inl (subst IsGiven (t.own i q e)
-          (In-map (λ q. q.element) (equation_of clocks q) Q
-          (In-map (equation_of clocks) q qs (t.listed i q e))))
-      by None e = inr (λ given.
-          let s = from_map (λ (q : FlatEquation). q.element) i Q given in
-          let r = from_map (equation_of clocks) s.source qs s.is_in in
-          let entered = t.each r.source r.is_in in
-          let element : r.source.element.0 ≡ i = ap (λ x. x.element) r.is ∙ s.is in
-          no_entry (get_or table i None) entered.entry e
-          (subst (λ j. get_or table j None ≡ Some entered.entry) element entered.stands))
+  pub entry : (e : ℕ) → e < p.size → IsEntry e
+  entry e lt =
+      let q = from_map (λ (q : FlatEquation). q.element) e Q (s.given.each e lt) in
+      let r = from_map (equation_of clocks) q.source p.equations.items q.is_in in
+      let element : r.source.element.0 ≡ e = ap (λ x. x.element) r.is ∙ q.is in
+      record {
+        equation = r.source;
+        stands =
+            subst (λ i. get_or table i None ≡ Some r.source) element
+            (s.table.each r.source r.is_in);
+      }
 
-  -- what is not done waits for something that is not
+  -- what is left waits for something that is left
   waits :
-      (q : FlatEquation) → In q Q → not (is_done n.done q.element) ≡ true →
-      list_any (λ i. not (is_done n.done i)) (equation_reads q) ≡ true
+      (q : FlatEquation) → In q Q → not (is_done done q.element) ≡ true →
+      list_any (λ i. not (is_done done i)) (equation_reads q) ≡ true
   waits q is left =
-      let s = from_map (equation_of clocks) q qs is in
-      let e = t.each s.source s.is_in in
-      let element : s.source.element.0 ≡ q.element = ap (λ x. x.element) s.is in
-      let not_done = not-true (is_done n.done q.element) left in
-      let not_ready : is_ready clocks n.done e.entry ≡ false =
-      n.stuck s.source.element.0 (in_table table s.source.element.0 e.entry e.stands)
-      (ap (is_done n.done) element ∙ not_done) e.entry e.stands in
-      subst (λ x. list_any (λ i. not (is_done n.done i)) (equation_reads x) ≡ true)
-      (e.same ∙ s.is)
-      (some_not (is_done n.done) (equation_reads (equation_of clocks e.entry)) not_ready)
+      let r = from_map (equation_of clocks) q p.equations.items is in
+      let element : r.source.element.0 ≡ q.element = ap (λ x. x.element) r.is in
+      let stands = s.table.each r.source r.is_in in
+      let some =
+      s.stuck r.source.element.0 (in_table table r.source.element.0 r.source stands)
+      (ap (is_done done) element ∙ not-true (is_done done q.element) left) r.source stands in
+      subst (λ x. list_any (λ i. not (is_done done i)) (equation_reads x) ≡ true) r.is
+      (some_waits done (equation_reads (equation_of clocks r.source)) some)
 
-  pub none_next : CannotOrder size Q
-  none_next = by (all_or_one IsGiven given_or_not size)
-    where
-      by :
-          ((i : ℕ) → i < size → IsGiven i) ⊎ ((i : ℕ) × (i < size) × (IsGiven i → ⊥)) →
-          CannotOrder size Q
-      by (inr r) = NotGiven r.0 r.1 r.2
-      by (inl all) = Waiting (record {
-        left = λ i. not (is_done n.done i);
-        one = n.element;
-        is_element = omega (arith, n.is_element, t.entries);
-        is_left = not_from_false (is_done n.done n.element) n.is_left;
-        given = λ i lt left. all i lt;
-        waits = Every-of_All (λ q. not (is_done n.done q.element) ≡ true →
-            list_any (λ i. not (is_done n.done i)) (equation_reads q) ≡ true) Q
-            (All-In (λ q. not (is_done n.done q.element) ≡ true →
-            list_any (λ i. not (is_done n.done i)) (equation_reads q) ≡ true) Q waits);
-      })
+  pub is_stuck : (one : ℕ) → IsLeft p done one → IsStuck p.size Q
+  is_stuck one l = record {
+    left = λ i. not (is_done done i);
+    one = one;
+    is_element = l.is_element;
+    is_left = not_from_false (is_done done one) l.is_left;
+    given = λ i lt left. s.given.each i lt;
+    waits = Every-of_All (λ q. not (is_done done q.element) ≡ true →
+        list_any (λ i. not (is_done done i)) (equation_reads q) ≡ true) Q
+        (All-In (λ q. not (is_done done q.element) ≡ true →
+        list_any (λ i. not (is_done done i)) (equation_reads q) ≡ true) Q waits);
+  }

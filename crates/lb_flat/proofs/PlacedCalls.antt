@@ -1,5 +1,7 @@
 -- In an expression that is typed, the inputs of what is called are as wide as what they receive.
-use Rattle.std.proofs.Common.{◌≡◌, ℕ, zero, suc, ◌+◌, ◌*◌, ◌/◌, ◌<◌, ◌&&◌, Option, Some, List, [], ◌∷◌, ◌++◌, map, length, take, drop, refl, sym, ap, ap₂, ◌∙◌, subst, arith}
+use Rattle.std.proofs.Common.{◌≡◌, ℕ, zero, suc, ◌+◌, ◌*◌, ◌/◌, ◌<◌, ◌&&◌, Option, Some, List, []}
+use Rattle.std.proofs.Common.{◌∷◌, ◌++◌, map, length, take, drop, refl, sym, ap, ap₂, ◌∙◌, subst}
+use Rattle.std.proofs.Common.{arith}
 use Rattle.std.proofs.lemmas.List.{length-map}
 use Rattle.std.proofs.Math.Nat.{mul-div_cancel_left}
 use Rattle.lb_syntax.specs.declared.tree.ArrayIterator.{ArrayIterator}
@@ -7,7 +9,8 @@ use Rattle.lb_syntax.specs.declared.tree.ArrayIterator.TheVariants.{Map, Red, Fi
 use Rattle.lb_syntax.specs.Lists.{Every, part, all_some, where_true}
 use Rattle.lb_syntax.specs.Tree.{Name, Static, Node_named, Call, Iterate, Exprs, Declaration, Node}
 use Rattle.lb_static.specs.Instances.{Program, Instance, Child, static_count, node_named}
-use Rattle.lb_static.specs.DataTypes.{DataType, width, variable_type, element_count, is_type, are_types}
+use Rattle.lb_static.specs.DataTypes.{DataType, width, variable_type, element_count, is_type}
+use Rattle.lb_static.specs.DataTypes.{are_types}
 use Rattle.lb_check.specs.Types.{data_types, all_types, array_of, operator_types, iterator_types}
 use Rattle.lb_check.specs.Scalars.{Stream}
 use Rattle.lb_check.specs.Clocks.{Clock, argument_clocks}
@@ -16,12 +19,15 @@ use Rattle.lb_check.specs.Streams.{History, all_streams, argument_streams, numbe
 use Rattle.lb_check.specs.Solutions.{accumulated, iterator_inputs}
 use Rattle.lb_flat.proofs.Lists.{Every-first}
 use Rattle.lb_flat.proofs.Placing.{AreAsWide}
-use Rattle.lb_flat.proofs.TypeFacts.{bound, truly, are_counts, same_count, array_count, and_first, and_second, some_same}
+use Rattle.lb_flat.proofs.TypeFacts.{bound, truly, are_counts, same_count, array_count, and_first}
+use Rattle.lb_flat.proofs.TypeFacts.{and_second, some_same}
 use Rattle.lb_flat.proofs.OutputWidths.{each, width_of, length-index}
-use Rattle.lb_flat.proofs.Widths.{called, Placed, placed, AreVariablesWide, IsCalleeWide, IsOccurrenceWide, number_is, same_first, same_rest, all_wide, outputs_at}
+use Rattle.lb_flat.proofs.Widths.{called, Placed, placed, AreVariablesWide, IsCalleeWide}
+use Rattle.lb_flat.proofs.Widths.{IsOccurrenceWide, number_is, same_first, same_rest, all_wide}
+use Rattle.lb_flat.proofs.Widths.{outputs_at}
 use Rattle.lb_flat.proofs.TypedBodies.{arguments_wide, inputs_as_wide}
 
-length-all :
+pub length-all :
     {A : Type 0} (os : List (Option A)) (ys : List A) → all_some os ≡ Some ys →
     length ys ≡ length os
 length-all [] ys e = let none : [] ≡ ys = some_same _ _ e in ap length (sym none)
@@ -29,7 +35,7 @@ length-all (o ∷ os) ys e =
     let h = each o os ys e in
     ap length h.all ∙ ap suc (length-all os h.rest h.others)
 
-lengths_same :
+pub lengths_same :
     (ss ts : List DataType) → map element_count ss ≡ map element_count ts → length ss ≡ length ts
 lengths_same ss ts e =
     sym (length-map ss element_count) ∙ ap length e ∙ length-map ts element_count

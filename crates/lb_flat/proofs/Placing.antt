@@ -1,13 +1,15 @@
 -- When streams of a flat program are those of a history, and what the types and the layout give of
 -- each occurrence of an expression.
-use Rattle.std.proofs.Common.{◌≡◌, ℕ, ◌+◌, ◌<◌, Option, Some, None, Bool, List, [], ◌∷◌, map, length, refl, sym, ap, ap₂, ◌∙◌}
+use Rattle.std.proofs.Common.{◌≡◌, ℕ, ◌+◌, ◌<◌, Option, Some, None, Bool, List, [], ◌∷◌, map}
+use Rattle.std.proofs.Common.{length, refl, sym, ap, ap₂, ◌∙◌}
 use Rattle.lb_syntax.specs.declared.tree.ArrayIterator.{ArrayIterator}
 use Rattle.lb_syntax.specs.Tree.{Name, Node_named, Expr, Call, Iterate, Exprs, Declaration, Node}
 use Rattle.lb_static.specs.Instances.{Program, Instance, Path, Child, node_named}
 use Rattle.lb_check.specs.Scalars.{Stream, Scalar}
 use Rattle.lb_check.specs.Clocks.{Clock, Base, On, base_clock, argument_clocks}
 use Rattle.lb_check.specs.Occurrences.{Occurrence}
-use Rattle.lb_check.specs.Streams.{History, presence, signed, constantly, all_streams, argument_streams, number}
+use Rattle.lb_check.specs.Streams.{History, presence, signed, constantly, all_streams}
+use Rattle.lb_check.specs.Streams.{argument_streams, number}
 use Rattle.lb_check.specs.Solutions.{Inputs, iterator_inputs}
 use Rattle.lb_flat.specs.Flat.{FlatClock, column, instants}
 use Rattle.lb_flat.specs.Layouts.{Layout, where_signed, flat_clock}

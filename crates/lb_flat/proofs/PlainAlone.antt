@@ -1,18 +1,23 @@
 -- A program without an observer, whose node under test has running forms alone, is plain.
-use Rattle.std.proofs.Common.{◌≡◌, ℕ, suc, Bool, true, false, List, [], ◌∷◌, ◌++◌, length, map, Option, Some, None, refl, ap, sym, subst, ◌∙◌, arith}
+use Rattle.std.proofs.Common.{◌≡◌, ℕ, suc, Bool, true, false, List, [], ◌∷◌, ◌++◌, length, map}
+use Rattle.std.proofs.Common.{Option, Some, None, refl, ap, sym, subst, ◌∙◌, arith}
 use Rattle.std.specs.Prelude.{◌&&◌, not, flat_map, is_some, nat_eq, option_map}
 use Rattle.std.specs.List.{list_all}
 use Rattle.std.proofs.lemmas.Bool.Decides.{nat_tests}
 use Rattle.lb_syntax.specs.declared.tree.Kind.{Kind}
 use Rattle.lb_syntax.specs.Lists.{◌>>=◌, listed}
 use Rattle.lb_syntax.specs.Tree.{Name, Node, Declaration, Static, Sampling}
-use Rattle.lb_static.specs.Instances.{Program, Root, Observer, start_at, node_named, node_sites, numbered_sites, site_instances, instances_from, instances, instance_at}
+use Rattle.lb_static.specs.Instances.{Program, Root, Observer, start_at, node_named, node_sites}
+use Rattle.lb_static.specs.Instances.{numbered_sites, site_instances, instances_from, instances}
+use Rattle.lb_static.specs.Instances.{instance_at}
 use Rattle.lb_static.specs.Parts.{among, variable_names, node_parts, node_names}
 use Rattle.lb_static.specs.DataTypes.{variables, scalar_elements, signature}
 use Rattle.lb_static.specs.Instantiation.{static_refusal}
 use Rattle.lb_static.proofs.Lists.{and_first, and_second, both, all_append}
-use Rattle.lb_flat.specs.PlainNodes.{IsPlain, is_plain, is_plain_node, is_scalar, plain_inputs, start_of}
-use Rattle.lb_flat.proofs.PlainForms.{is_simple_statement, plain_parts, known_names, no_node_sites, simple_from_parts}
+use Rattle.lb_flat.specs.PlainNodes.{IsPlain, is_plain, is_plain_node, is_scalar, plain_inputs}
+use Rattle.lb_flat.specs.PlainNodes.{start_of}
+use Rattle.lb_flat.proofs.PlainForms.{is_simple_statement, plain_parts, known_names, no_node_sites}
+use Rattle.lb_flat.proofs.PlainForms.{simple_from_parts}
 use Rattle.lb_flat.proofs.ScalarGroups.{bare}
 
 -- ## Scalars

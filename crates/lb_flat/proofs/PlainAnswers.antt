@@ -6,6 +6,7 @@ use Rattle.lb_static.specs.Instances.{Program}
 use Rattle.lb_static.specs.DataTypes.{variables}
 use Rattle.lb_check.specs.Acceptance.{check_refusal}
 use Rattle.lb_flat.specs.Flat.{Always, FlatEquation}
+use Rattle.lb_flat.specs.GivenOnce.{IsGiven}
 use Rattle.lb_flat.specs.Run.{Ready}
 use Rattle.lb_flat.specs.Judging.{FlatProgram}
 use Rattle.lb_flat.specs.Flattening.{IsFlatOf}
@@ -16,7 +17,8 @@ use Rattle.lb_flat.proofs.PlainExpanding.{plain_is_expansion, plain_flat_of}
 use Rattle.lb_flat.proofs.PlainFitting.{kind_of, plain_fitting}
 use Rattle.lb_flat.proofs.PlainSolved.{plain_solved}
 use Rattle.lb_flat.proofs.PlainCausal.{plain_causal}
-use Rattle.lb_flat.proofs.PlainGivenCycles.{plain_no_order}
+use Rattle.lb_flat.proofs.PlainCausalCycles.{plain_cyclic}
+use Rattle.lb_flat.proofs.PlainGivenOnce.{given_once}
 
 module _ (P : Program) (n : Node) (e : IsPlain P n) (c : check_refusal P ≡ None) where
   abbrev f : FlatProgram
@@ -34,4 +36,7 @@ module _ (P : Program) (n : Node) (e : IsPlain P n) (c : check_refusal P ≡ Non
 
   pub plain_expansion : IsExpansionOf P f
   plain_expansion =
-      record { flat = plain_flat; causal = plain_causal P n e; cyclic = plain_no_order P n e c }
+      record { flat = plain_flat; causal = plain_causal P n e; cyclic = plain_cyclic P n e }
+
+  pub plain_given_once : IsGiven f
+  plain_given_once = given_once P n e c

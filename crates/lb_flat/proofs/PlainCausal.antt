@@ -1,12 +1,14 @@
 -- A plain program whose flat equations can be put in order is causal: the element of a variable
 -- comes after those that it needs.
-use Rattle.std.proofs.Common.{◌≡◌, ◌⊎◌, inl, inr, ℕ, suc, ◌<◌, ◌≢◌, true, false, eqb, if◌then◌else◌, List, [], ◌∷◌, ◌++◌, sym, ap, ◌∙◌, subst, arith}
+use Rattle.std.proofs.Common.{◌≡◌, ◌⊎◌, inl, inr, ℕ, suc, ◌<◌, ◌≢◌, true, false, eqb, if◌then◌else◌}
+use Rattle.std.proofs.Common.{List, [], ◌∷◌, ◌++◌, sym, ap, ◌∙◌, subst, arith}
 use Rattle.std.proofs.lemmas.Bool.Decides.{eqb_tells}
 use Rattle.lb_syntax.specs.Lists.{Every, In}
 use Rattle.lb_syntax.specs.Tree.{Node}
 use Rattle.lb_static.specs.Instances.{Program}
 use Rattle.lb_flat.specs.PlainNodes.{IsPlain}
-use Rattle.lb_check.specs.Needs.{Element, Definition, definitions, Needs, Reaches, at_once, through, IsCausal}
+use Rattle.lb_check.specs.Needs.{Element, Definition, definitions, Needs, Reaches, at_once, through}
+use Rattle.lb_check.specs.Needs.{IsCausal}
 use Rattle.lb_flat.specs.Flat.{FlatEquation}
 use Rattle.lb_flat.specs.Run.{equation_reads, Ready}
 use Rattle.lb_flat.specs.PlainLayout.{plain_layout}
@@ -17,7 +19,9 @@ use Rattle.lb_flat.proofs.PlainCausalLinks.{Has, Meets}
 use Rattle.lb_flat.proofs.PlainCausalExpressions.{IsAt}
 use Rattle.lb_flat.proofs.PlainCausalBodies.{IsDefinedBy, BodyTraced, each_second, body_traced}
 use Rattle.lb_flat.proofs.Solving.{Every-of_in}
-use Rattle.lb_flat.proofs.PlainCausalDefinitions.{in_first, in_second, all_plain, defined, every_definition, count, final, inputs, equations_are}
+use Rattle.lb_flat.proofs.PlainCausalDefinitions.{in_first, in_second, all_plain, defined}
+use Rattle.lb_flat.proofs.PlainCausalDefinitions.{every_definition, count, final, inputs}
+use Rattle.lb_flat.proofs.PlainCausalDefinitions.{equations_are}
 
 -- ## Turns
 

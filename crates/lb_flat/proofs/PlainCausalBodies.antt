@@ -1,6 +1,8 @@
 -- The copies that the statements of a plain node emit, one by one, are the definitions of its
 -- variables: each comes from what its definition needs.
-use Rattle.std.proofs.Common.{append_assoc, ◌≡◌, ℕ, suc, ◌+◌, Bool, true, false, if◌then◌else◌, cond, Option, Some, None, List, [], ◌∷◌, ◌++◌, map, flat_map, zip, inl, inr, refl, sym, ap, ◌∙◌, subst}
+use Rattle.std.proofs.Common.{append_assoc, ◌≡◌, ℕ, suc, ◌+◌, Bool, true, false, if◌then◌else◌}
+use Rattle.std.proofs.Common.{cond, Option, Some, None, List, [], ◌∷◌, ◌++◌, map, flat_map, zip}
+use Rattle.std.proofs.Common.{inl, inr, refl, sym, ap, ◌∙◌, subst}
 use Rattle.std.specs.Str.{bytes_eq}
 use Rattle.std.proofs.lemmas.List.{append-nil}
 use Rattle.std.proofs.lemmas.Slice.Eq.{bytes_eq-Decides}
@@ -13,7 +15,8 @@ use Rattle.lb_static.specs.Parts.{parts, right_side}
 use Rattle.lb_flat.specs.PlainNodes.{IsPlain, start_of}
 use Rattle.lb_check.specs.Clocks.{Clock, Base, declared_clock}
 use Rattle.lb_check.specs.Occurrences.{call_count, statement_clock, right_sides}
-use Rattle.lb_check.specs.Needs.{Element, Definition, elements, elements_named, defined_as, equation_definitions, needs}
+use Rattle.lb_check.specs.Needs.{Element, Definition, elements, elements_named, defined_as}
+use Rattle.lb_check.specs.Needs.{equation_definitions, needs}
 use Rattle.lb_flat.proofs.PlainClocks.{base_declared}
 use Rattle.lb_flat.specs.Flat.{Always, FlatClock, FlatEquation}
 use Rattle.lb_flat.specs.Run.{clock_reads, equation_reads}
@@ -23,7 +26,8 @@ use Rattle.lb_flat.specs.Emit.{State, Target, targets, copied, joins, assert, em
 use Rattle.lb_flat.proofs.Emission.{joins_equations, joins_copies}
 use Rattle.lb_flat.proofs.Bodies.{assert_equations, assert_copies}
 use Rattle.lb_flat.proofs.PlainCausalLinks.{AllMeet, Link, Traced}
-use Rattle.lb_flat.proofs.PlainCausalExpressions.{AllPlain, fore, aft, plain_base, IsAt, IsOne, scalars, ones, one_element, trace}
+use Rattle.lb_flat.proofs.PlainCausalExpressions.{AllPlain, fore, aft, plain_base, IsAt, IsOne}
+use Rattle.lb_flat.proofs.PlainCausalExpressions.{scalars, ones, one_element, trace}
 
 -- ## Two lists, one by one
 

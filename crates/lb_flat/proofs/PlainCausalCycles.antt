@@ -1,6 +1,8 @@
 -- A plain program whose flat equations are stuck is cyclic: of the variables that are left each one
 -- needs another, so one needs itself.
-use Rattle.std.proofs.Common.{◌≡◌, ◌⊎◌, inl, inr, ℕ, zero, suc, ◌<◌, ◌≤◌, ◌≢◌, Bool, true, false, ◌||◌, if◌then◌else◌, List, [], ◌∷◌, ◌++◌, map, refl, sym, ap, ◌∙◌, subst, arith}
+use Rattle.std.proofs.Common.{◌≡◌, ◌⊎◌, inl, inr, ℕ, zero, suc, ◌<◌, ◌≤◌, ◌≢◌, Bool, true, false}
+use Rattle.std.proofs.Common.{◌||◌, if◌then◌else◌, List, [], ◌∷◌, ◌++◌, map, refl, sym, ap, ◌∙◌}
+use Rattle.std.proofs.Common.{subst, arith}
 use Rattle.std.specs.List.{list_any}
 use Rattle.std.specs.Str.{bytes_eq}
 use Rattle.std.proofs.lemmas.Bool.Decides.{eqb_tells}
@@ -17,7 +19,8 @@ use Rattle.lb_flat.specs.Flat.{Always, FlatClock, FlatEquation}
 use Rattle.lb_flat.specs.Run.{clock_reads, reads, keeps, equation_reads}
 use Rattle.lb_flat.specs.Layouts.{flat_clock}
 use Rattle.lb_flat.specs.PlainLayout.{place_among, plain_layout}
-use Rattle.lb_flat.specs.Emit.{Target, targets, from_inputs, input_targets, before_instances, emit_instances, expanded}
+use Rattle.lb_flat.specs.Emit.{Target, targets, from_inputs, input_targets, before_instances}
+use Rattle.lb_flat.specs.Emit.{emit_instances, expanded}
 use Rattle.lb_flat.specs.Stuck.{IsStuck}
 use Rattle.lb_flat.proofs.Lists.{Every-append, Every-first, Every-second, Every-in, Every-pieces}
 use Rattle.lb_flat.proofs.Filling.{Fresh}
@@ -29,7 +32,9 @@ use Rattle.lb_flat.proofs.PlainCausalLinks.{SomeOf, Has, Meets}
 use Rattle.lb_flat.proofs.PlainCausalExpressions.{element_of, IsAt, scalars}
 use Rattle.lb_flat.proofs.PlainCausalBodies.{IsDefinedBy, BodyTraced, pair_of, body_traced}
 use Rattle.lb_flat.proofs.Solving.{Every-of_in}
-use Rattle.lb_flat.proofs.PlainCausalDefinitions.{in_first, in_second, in_either, all_plain, count, final, inputs, defined, in_definitions, emits_final, equations_are}
+use Rattle.lb_flat.proofs.PlainCausalDefinitions.{in_first, in_second, in_either, all_plain, count}
+use Rattle.lb_flat.proofs.PlainCausalDefinitions.{final, inputs, defined, in_definitions}
+use Rattle.lb_flat.proofs.PlainCausalDefinitions.{emits_final, equations_are}
 
 -- ## A cycle among numbers
 
@@ -201,11 +206,11 @@ of_map f y (x ∷ xs) (inr i) = let r = of_map f y xs i in (r.0, inr r.1, r.2)
 -- ## Further equations, and those of inputs
 
 -- an equation of a further element reads elements below its own
-record IsFurther (V : ℕ) (q : FlatEquation) : Type 0 where
-  above : V ≤ q.element
-  reads_below : Every (λ i. i < q.element) (equation_reads q)
+pub record IsFurther (V : ℕ) (q : FlatEquation) : Type 0 where
+  pub above : V ≤ q.element
+  pub reads_below : Every (λ i. i < q.element) (equation_reads q)
 
-further :
+pub further :
     (V n : ℕ) (qs : List FlatEquation) → V ≤ n → Fresh n qs → Every (IsFurther V) qs
 further V n [] le h = tt
 further V n (q ∷ qs) le h = (

@@ -1,6 +1,7 @@
 -- The definitions of a plain program are those of its equations, and some that need nothing; the
 -- equations of its expansion are those of its inputs, its copies and further ones.
-use Rattle.std.proofs.Common.{◌≡◌, ℕ, true, ◌⊎◌, inl, inr, Some, None, List, [], ◌∷◌, ◌++◌, map, length, flat_map, refl, sym, ap, ap₂, ◌∙◌, subst}
+use Rattle.std.proofs.Common.{◌≡◌, ℕ, true, ◌⊎◌, inl, inr, Some, None, List, [], ◌∷◌, ◌++◌, map}
+use Rattle.std.proofs.Common.{length, flat_map, refl, sym, ap, ap₂, ◌∙◌, subst}
 use Rattle.lb_syntax.specs.Lists.{◌>>=◌, Every, In}
 use Rattle.lb_syntax.specs.Tree.{Expr, Call, Iterate, Node}
 use Rattle.lb_static.specs.Instances.{Program, Instance, Observer, instance_at, instances, start_at}
@@ -9,13 +10,17 @@ use Rattle.lb_static.specs.Parts.{parts, right_side, node_parts}
 use Rattle.lb_flat.specs.PlainNodes.{IsPlain, is_plain, start_of}
 use Rattle.lb_check.specs.Clocks.{declared_clock}
 use Rattle.lb_check.specs.Occurrences.{Occurrence, node_occurrences}
-use Rattle.lb_check.specs.Needs.{Element, Definition, elements, waits_for, call_definitions, clock_definitions, definitions_at, observer_definitions, definitions}
+use Rattle.lb_check.specs.Needs.{Element, Definition, elements, waits_for, call_definitions}
+use Rattle.lb_check.specs.Needs.{clock_definitions, definitions_at, observer_definitions}
+use Rattle.lb_check.specs.Needs.{definitions}
 use Rattle.lb_flat.proofs.PlainClocks.{base_declared}
 use Rattle.lb_flat.specs.Flat.{FlatEquation}
 use Rattle.lb_flat.specs.Layouts.{Layout}
 use Rattle.lb_flat.specs.PlainLayout.{plain_layout}
-use Rattle.lb_flat.specs.Emit.{State, emit_body, emit_instances, before_instances, given_inputs, observed, expanded}
-use Rattle.lb_flat.proofs.Lists.{Every-map, Every-append, Every-piece, Every-pieces, Every-of_pieces}
+use Rattle.lb_flat.specs.Emit.{State, emit_body, emit_instances, before_instances, given_inputs}
+use Rattle.lb_flat.specs.Emit.{observed, expanded}
+use Rattle.lb_flat.proofs.Lists.{Every-map, Every-append, Every-piece, Every-pieces}
+use Rattle.lb_flat.proofs.Lists.{Every-of_pieces}
 use Rattle.lb_flat.proofs.TypeFacts.{and_first, and_second}
 use Rattle.lb_flat.proofs.PlainPlacing.{every_passes}
 use Rattle.lb_flat.proofs.PlainStreams.{not_plain, plain_body}

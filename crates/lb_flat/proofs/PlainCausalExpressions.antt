@@ -1,10 +1,13 @@
 -- The found element of a plain expression comes from the elements of the variables that the
 -- expression needs, and from no others.
-use Rattle.std.proofs.Common.{◌≡◌, ℕ, ◌+◌, true, false, inl, inr, pos, Option, Some, None, IfSome, List, [], ◌∷◌, ◌++◌, map, length, get_or, refl, sym, ap, ◌∙◌, arith}
+use Rattle.std.proofs.Common.{◌≡◌, ℕ, ◌+◌, true, false, inl, inr, pos, Option, Some, None, IfSome}
+use Rattle.std.proofs.Common.{List, [], ◌∷◌, ◌++◌, map, length, get_or, refl, sym, ap, ◌∙◌, arith}
 use Rattle.std.specs.List.{list_all, range_with_len}
 use Rattle.std.specs.Str.{bytes_eq}
 use Rattle.lb_syntax.specs.Lists.{◌>>=◌, Every, either_or, joined, or_else}
-use Rattle.lb_syntax.specs.Tree.{Name, Expr, Literal, Truth, Variable, Group, Unary, Binary, If, Arrow, Fby, Pre, AtMostOne, Nor, Exprs, Nil, Cons, Declaration, Node}
+use Rattle.lb_syntax.specs.Tree.{Name, Expr, Literal, Truth, Variable, Group, Unary, Binary, If}
+use Rattle.lb_syntax.specs.Tree.{Arrow, Fby, Pre, AtMostOne, Nor, Exprs, Nil, Cons, Declaration}
+use Rattle.lb_syntax.specs.Tree.{Node}
 use Rattle.lb_static.specs.StaticValues.{named}
 use Rattle.lb_static.specs.Instances.{Program, Instance, Root, name_value}
 use Rattle.lb_static.specs.DataTypes.{variables, width}
@@ -23,7 +26,10 @@ use Rattle.lb_flat.proofs.Lists.{Every-map, Every-both, Every-first, Every-secon
 use Rattle.lb_flat.proofs.TypeFacts.{and_first, and_second}
 use Rattle.lb_flat.proofs.OutputWidths.{found_in}
 use Rattle.lb_flat.proofs.PlainPlacing.{plain_places, plain_widths}
-use Rattle.lb_flat.proofs.PlainCausalLinks.{SomeOf, Has, AllMeet, Link, Traced, TracedAll, constant_traced, one_traced, two_traced, three_traced, keep_traced, pre_traced, fby_traced, nor_gives, at_most_one_gives, all_traced, none_traced, more_traced}
+use Rattle.lb_flat.proofs.PlainCausalLinks.{SomeOf, Has, AllMeet, Link, Traced, TracedAll}
+use Rattle.lb_flat.proofs.PlainCausalLinks.{constant_traced, one_traced, two_traced, three_traced}
+use Rattle.lb_flat.proofs.PlainCausalLinks.{keep_traced, pre_traced, fby_traced, nor_gives}
+use Rattle.lb_flat.proofs.PlainCausalLinks.{at_most_one_gives, all_traced, none_traced, more_traced}
 
 abbrev pub AllPlain : List Expr → Type 0
 AllPlain es = Every (λ e. is_plain e ≡ true) es

@@ -1,15 +1,18 @@
 -- What the found element of an expression comes from, along the equations that expansion emits on
 -- the base clock: the elements of the variables that the expression needs.
-use Rattle.std.proofs.Common.{◌≡◌, ◌⊎◌, inl, inr, ℕ, false, List, [], ◌∷◌, ◌++◌, map, refl, sym, ap, ap₂, ◌∙◌, subst}
+use Rattle.std.proofs.Common.{◌≡◌, ◌⊎◌, inl, inr, ℕ, false, List, [], ◌∷◌, ◌++◌, map, refl, sym, ap}
+use Rattle.std.proofs.Common.{ap₂, ◌∙◌, subst}
 use Rattle.lb_syntax.specs.declared.tree.UnaryOperator.TheVariants.{Not}
 use Rattle.lb_syntax.specs.declared.tree.BinaryOperator.{BinaryOperator}
 use Rattle.lb_syntax.specs.declared.tree.BinaryOperator.TheVariants.{Or, And}
 use Rattle.lb_syntax.specs.Lists.{Every, zip2, heads, joined}
 use Rattle.lb_check.specs.Scalars.{Scalar, Boolean}
 use Rattle.lb_check.specs.Needs.{Element, both}
-use Rattle.lb_flat.specs.Flat.{Always, Operation, Constant, ApplyUnary, ApplyBinary, Choose, FirstThen, Previous, FlatEquation}
+use Rattle.lb_flat.specs.Flat.{Always, Operation, Constant, ApplyUnary, ApplyBinary, Choose}
+use Rattle.lb_flat.specs.Flat.{FirstThen, Previous, FlatEquation}
 use Rattle.lb_flat.specs.Run.{reads, equation_reads}
-use Rattle.lb_flat.specs.Emit.{State, Emitted, EmittedAll, numbered, add, keep, chosen_by, push, chained, twice, negated, emit_nor, emit_at_most_one}
+use Rattle.lb_flat.specs.Emit.{State, Emitted, EmittedAll, numbered, add, keep, chosen_by, push}
+use Rattle.lb_flat.specs.Emit.{chained, twice, negated, emit_nor, emit_at_most_one}
 use Rattle.lb_flat.proofs.Lists.{Every-append, Every-first, Every-second}
 
 -- ## Some one of a list
@@ -19,16 +22,16 @@ SomeOf Q [] = ⊥
 SomeOf Q (x ∷ xs) = Q x ⊎ SomeOf Q xs
 
 module _ {A : Type 0} (Q : A → Type 0) where
-  some_first : (xs ys : List A) → SomeOf Q xs → SomeOf Q (xs ++ ys)
+  pub some_first : (xs ys : List A) → SomeOf Q xs → SomeOf Q (xs ++ ys)
   some_first [] ys h = absurd h
   some_first (x ∷ xs) ys (inl q) = inl q
   some_first (x ∷ xs) ys (inr h) = inr (some_first xs ys h)
 
-  some_second : (xs ys : List A) → SomeOf Q ys → SomeOf Q (xs ++ ys)
+  pub some_second : (xs ys : List A) → SomeOf Q ys → SomeOf Q (xs ++ ys)
   some_second [] ys h = h
   some_second (x ∷ xs) ys h = inr (some_second xs ys h)
 
-  some_split : (xs ys : List A) → SomeOf Q (xs ++ ys) → SomeOf Q xs ⊎ SomeOf Q ys
+  pub some_split : (xs ys : List A) → SomeOf Q (xs ++ ys) → SomeOf Q xs ⊎ SomeOf Q ys
   some_split [] ys h = inr h
   some_split (x ∷ xs) ys (inl q) = inl (inl q)
   some_split (x ∷ xs) ys (inr h) = first (some_split xs ys h)

@@ -1,12 +1,15 @@
 -- In a plain node everything stands on the base clock.
-use Rattle.std.proofs.Common.{◌≡◌, ◌⊎◌, inl, inr, ℕ, suc, Bool, true, false, cond, List, [], ◌∷◌, length, map, Option, Some, None, refl, ap, sym, ◌∙◌, subst}
+use Rattle.std.proofs.Common.{◌≡◌, ◌⊎◌, inl, inr, ℕ, suc, Bool, true, false, cond, List, [], ◌∷◌}
+use Rattle.std.proofs.Common.{length, map, Option, Some, None, refl, ap, sym, ◌∙◌, subst}
 use Rattle.std.specs.Prelude.{◌&&◌, ◌++◌, not, is_some, nat_eq, option_map, flat_map}
 use Rattle.std.specs.List.{list_all, filter}
 use Rattle.std.specs.Str.{bytes_eq}
 use Rattle.lb_syntax.specs.Lists.{◌>>=◌, or_else, some_of}
 use Rattle.lb_syntax.specs.Tree as tree
 use Rattle.lb_syntax.specs.Tree.{Name, Expr, Declaration, Node, Sampling, Equation}
-use Rattle.lb_flat.specs.declared.plain.term.Term.{Term, Literal, Truth, Variable, Group', Unary', Binary', If', Arrow', Fby', Pre', AtMostOne', Nor', Row_of-Term, end_of-Term, more_of-Term}
+use Rattle.lb_flat.specs.declared.plain.term.Term.{Term, Literal, Truth, Variable, Group', Unary'}
+use Rattle.lb_flat.specs.declared.plain.term.Term.{Binary', If', Arrow', Fby', Pre', AtMostOne'}
+use Rattle.lb_flat.specs.declared.plain.term.Term.{Nor', Row_of-Term, end_of-Term, more_of-Term}
 use Rattle.lb_flat.specs.declared.plain.term.PlainStatement.{PlainStatement}
 use Rattle.lb_flat.specs.declared.plain.term.PlainStatement.TheVariants as statement
 use Rattle.lb_static.specs.StaticValues.{named}
@@ -16,7 +19,8 @@ use Rattle.lb_static.specs.DataTypes.{variables}
 use Rattle.lb_flat.specs.PlainNodes.{is_scalar, is_plain}
 use Rattle.lb_flat.specs.PlainTerms.{expr_of, row_of, statement_of, name_of}
 use Rattle.lb_static.specs.declared.resolved.VariableId.{VariableId}
-use Rattle.lb_check.specs.Clocks.{Clock, Base, clock_or, clock_of, first_clock, clock_within, sampled, variable_clock, declared_clock}
+use Rattle.lb_check.specs.Clocks.{Clock, Base, clock_or, clock_of, first_clock, clock_within}
+use Rattle.lb_check.specs.Clocks.{sampled, variable_clock, declared_clock}
 use Rattle.lb_check.specs.Occurrences.{statement_clock}
 use Rattle.lb_check.specs.Verdicts.{clock_variables}
 

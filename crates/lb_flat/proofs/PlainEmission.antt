@@ -1,5 +1,7 @@
 -- What the code emits for the terms of a plain node is what expansion emits for their expressions.
-use Rattle.std.proofs.Common.{◌≡◌, ◌≤◌, ℕ, zero, suc, ◌+◌, Bool, true, false, List, [], ◌∷◌, ◌++◌, length, map, drop, get_or, Some, refl, ap, sym, ◌∙◌, append_assoc, arith}
+use Rattle.std.proofs.Common.{◌≡◌, ◌≤◌, ℕ, zero, suc, ◌+◌, Bool, true, false, List, [], ◌∷◌, ◌++◌}
+use Rattle.std.proofs.Common.{length, map, drop, get_or, Some, refl, ap, sym, ◌∙◌, append_assoc}
+use Rattle.std.proofs.Common.{arith}
 use Rattle.std.specs.Prelude.{◌&&◌, not, pos, nat_le, slice_get, flat_map}
 use Rattle.std.specs.List.{list_all}
 use Rattle.std.specs.Str.{bytes_eq}
@@ -15,7 +17,9 @@ use Rattle.lb_static.specs.declared.resolved.VariableId.{VariableId}
 use Rattle.lb_flat.specs.declared.plain.term.Variable.{Variable as Declared}
 use Rattle.lb_flat.specs.declared.plain.term.PlainStatement.{PlainStatement}
 use Rattle.lb_flat.specs.declared.plain.term.PlainStatement.TheVariants as statement
-use Rattle.lb_flat.specs.declared.plain.term.Term.{Term, Literal, Truth, Variable, Group', Unary', Binary', If', Arrow', Fby', Pre', AtMostOne', Nor', Row_of-Term, end_of-Term, more_of-Term}
+use Rattle.lb_flat.specs.declared.plain.term.Term.{Term, Literal, Truth, Variable, Group', Unary'}
+use Rattle.lb_flat.specs.declared.plain.term.Term.{Binary', If', Arrow', Fby', Pre', AtMostOne'}
+use Rattle.lb_flat.specs.declared.plain.term.Term.{Nor', Row_of-Term, end_of-Term, more_of-Term}
 use Rattle.lb_static.specs.StaticValues.{named}
 use Rattle.lb_static.specs.Instances.{Program, Instance}
 use Rattle.lb_static.specs.DataTypes.{variables}
@@ -28,10 +32,13 @@ use Rattle.lb_check.specs.Clocks.{Base}
 use Rattle.lb_check.specs.Occurrences.{call_count}
 use Rattle.lb_check.proofs.DistinctNames.{held_at, not_among}
 use Rattle.lb_flat.proofs.PlainNames.{found_at, get_name, names_map}
-use Rattle.lb_flat.specs.Flat.{Always, Operation, Constant, ApplyUnary, ApplyBinary, FirstThen, Previous}
+use Rattle.lb_flat.specs.Flat.{Always, Operation, Constant, ApplyUnary, ApplyBinary, FirstThen}
+use Rattle.lb_flat.specs.Flat.{Previous}
 use Rattle.lb_flat.specs.Layouts.{Layout}
 use Rattle.lb_flat.specs.PlainLayout.{place_among, plain_layout}
-use Rattle.lb_flat.specs.Emit.{State, Emitted, gives, add, keep, push, negated, chained, twice, emit_nor, emit_at_most_one, emit_name, emit, emit_all, numbers, chosen_by}
+use Rattle.lb_flat.specs.Emit.{State, Emitted, gives, add, keep, push, negated, chained, twice}
+use Rattle.lb_flat.specs.Emit.{emit_nor, emit_at_most_one, emit_name, emit, emit_all, numbers}
+use Rattle.lb_flat.specs.Emit.{chosen_by}
 use Rattle.lb_flat.specs.Terms.{TypedElement, pushed, only_found, literal, emit_term, emit_row}
 use Rattle.lb_flat.proofs.TypeFacts.{and_first, and_second}
 

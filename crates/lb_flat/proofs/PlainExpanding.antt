@@ -1,12 +1,14 @@
 -- A plain program and its expansion: the streams that solve the flat program are solutions of the
 -- program, and what decides its verdict is watched.
-use Rattle.std.proofs.Common.{◌≡◌, ℕ, ◌<◌, true, Option, Some, None, IfSome, List, [], ◌++◌, length, map, refl, sym, ap, ◌∙◌, subst}
+use Rattle.std.proofs.Common.{◌≡◌, ℕ, ◌<◌, true, Option, Some, None, IfSome, List, [], ◌++◌, length}
+use Rattle.std.proofs.Common.{map, refl, sym, ap, ◌∙◌, subst}
 use Rattle.std.proofs.lemmas.List.{length-map}
 use Rattle.std.specs.List.{list_all}
 use Rattle.lb_syntax.specs.declared.tree.Kind.{Kind}
 use Rattle.lb_syntax.specs.Lists.{◌>>=◌, Every}
 use Rattle.lb_syntax.specs.Tree.{Expr, Call, Iterate, Node}
-use Rattle.lb_static.specs.Instances.{Program, Instance, Root, Observer, instance_at, instances, start_at}
+use Rattle.lb_static.specs.Instances.{Program, Instance, Root, Observer, instance_at, instances}
+use Rattle.lb_static.specs.Instances.{start_at}
 use Rattle.lb_static.specs.DataTypes.{variables, width, input_kinds}
 use Rattle.lb_static.specs.Parts.{parts, right_side, node_parts}
 use Rattle.lb_flat.specs.PlainNodes.{IsPlain, is_plain, start_of}
@@ -34,7 +36,8 @@ use Rattle.lb_flat.proofs.SoundInstances.{RunAt, RunsAt, instance_sound}
 use Rattle.lb_flat.proofs.Solving.{fitting_ordered}
 use Rattle.lb_flat.proofs.Expanding.{IsExpansion, ordered, history_solves, watched}
 use Rattle.lb_flat.proofs.PlainStreams.{IsBodyPlain, not_plain, plain_body}
-use Rattle.lb_flat.proofs.PlainPlacing.{IsPlainFitting, every_passes, unless_none, or_none_first, plain_placing, plain_widths, plain_instances}
+use Rattle.lb_flat.proofs.PlainPlacing.{IsPlainFitting, every_passes, unless_none, or_none_first}
+use Rattle.lb_flat.proofs.PlainPlacing.{plain_placing, plain_widths, plain_instances}
 
 -- ## Plain occurrences
 

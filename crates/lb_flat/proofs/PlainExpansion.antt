@@ -1,5 +1,7 @@
 -- What the code emits for a plain program is the expansion of its program.
-use Rattle.std.proofs.Common.{◌≡◌, ◌<◌, ◌≤◌, ℕ, zero, suc, ◌+◌, Bool, true, false, List, [], ◌∷◌, ◌++◌, length, map, take, drop, get_or, Option, Some, None, Result, Ok, Err, refl, ap, sym, subst, ◌∙◌, arith, length-append}
+use Rattle.std.proofs.Common.{◌≡◌, ◌<◌, ◌≤◌, ℕ, zero, suc, ◌+◌, Bool, true, false, List, [], ◌∷◌}
+use Rattle.std.proofs.Common.{◌++◌, length, map, take, drop, get_or, Option, Some, None, Ok, Err}
+use Rattle.std.proofs.Common.{refl, ap, sym, subst, ◌∙◌, arith, length-append}
 use Rattle.std.specs.Prelude.{◌&&◌, nat_le, nat_lt, nat_eq, flat_map}
 use Rattle.std.specs.List.{list_all, range_with_len}
 use Rattle.std.proofs.lemmas.Bool.Decides.{nat_tests}
@@ -11,12 +13,16 @@ use Rattle.lb_static.specs.declared.resolved.VariableId.{VariableId}
 use Rattle.lb_flat.specs.declared.plain.term.Variable.{Variable as Declared}
 use Rattle.lb_flat.specs.declared.plain.term.PlainStatement.{PlainStatement}
 use Rattle.lb_flat.specs.declared.plain.term.PlainStatement.TheVariants as statement
-use Rattle.lb_flat.specs.declared.plain.term.Term.{Term, Literal, Truth, Variable, Group', Unary', Binary', If', Arrow', Fby', Pre', AtMostOne', Nor', Row_of-Term, end_of-Term, more_of-Term}
-use Rattle.lb_static.specs.Instances.{Program, Instance, Root, Observer, start_at, instance_at, instances}
+use Rattle.lb_flat.specs.declared.plain.term.Term.{Term, Literal, Truth, Variable, Group', Unary'}
+use Rattle.lb_flat.specs.declared.plain.term.Term.{Binary', If', Arrow', Fby', Pre', AtMostOne'}
+use Rattle.lb_flat.specs.declared.plain.term.Term.{Nor', Row_of-Term, end_of-Term, more_of-Term}
+use Rattle.lb_static.specs.Instances.{Program, Instance, Root, Observer, start_at, instance_at}
+use Rattle.lb_static.specs.Instances.{instances}
 use Rattle.lb_static.specs.DataTypes.{variables}
 use Rattle.lb_static.specs.Parts.{variable_names, parts, parts_in, right_side, node_parts}
 use Rattle.lb_static.specs.Names.{are_distinct}
-use Rattle.lb_flat.specs.PlainNodes.{IsPlain, is_plain, start_of, is_scalar, is_place, is_statement_within}
+use Rattle.lb_flat.specs.PlainNodes.{IsPlain, is_plain, start_of, is_scalar, is_place}
+use Rattle.lb_flat.specs.PlainNodes.{is_statement_within}
 use Rattle.lb_flat.specs.PlainPrograms.{node_in, IsPlainFault}
 use Rattle.lb_flat.specs.PlainTerms.{declaration_of, name_of, expr_of, row_of, statement_of}
 use Rattle.lb_check.specs.Occurrences.{call_count}
@@ -24,23 +30,30 @@ use Rattle.lb_check.specs.Verdicts.{property_path}
 use Rattle.lb_flat.proofs.PlainNames.{distinct_names, names_map}
 use Rattle.lb_flat.proofs.PlainGiven.{HasOneLeft, one_lefts}
 use Rattle.lb_flat.proofs.PlainClocks.{base_declared, step_base, no_clock_variables}
-use Rattle.lb_flat.specs.declared.flat.Flat.{Flat}
+use Rattle.lb_flat.specs.declared.program.FlatProgram.{FlatProgram as Expanded}
 use Rattle.lb_flat.specs.declared.error.FlatError.{FlatError}
 use Rattle.lb_flat.specs.declared.error.FlatError.TheVariants as error
 use Rattle.lb_flat.specs.TermExpansion.{IsSizedAnswer}
 use Rattle.lb_flat.specs.Expanded.{IsExpansionOf, IsExpansionAnswer}
-use Rattle.lb_flat.proofs.PlainAnswers.{plain_expansion}
+use Rattle.lb_flat.proofs.PlainAnswers.{plain_expansion, plain_given_once}
 use Rattle.lb_flat.proofs.PlainSize.{plain_size}
 use Rattle.lb_check.specs.Acceptance.{check_refusal}
 use Rattle.lb_check.specs.TypeRules.{size, is_small}
 use Rattle.lb_flat.specs.Flat.{Always, Input, FlatEquation}
+use Rattle.lb_flat.specs.GivenOnce.{IsGiven}
 use Rattle.lb_flat.specs.Judging.{FlatProgram}
+use Rattle.lb_flat.specs.Programs.{program_of}
 use Rattle.lb_flat.specs.Layouts.{Layout, flat_clock}
 use Rattle.lb_flat.specs.PlainLayout.{place_among, plain_layout}
-use Rattle.lb_flat.specs.Emit.{State, Emitted, Target, assert, joins, emit, emit_body, emit_instances, before_instances, targets, copied, from_inputs, given_inputs, observed, clock_places, property_places, expanded}
-use Rattle.lb_flat.specs.Terms.{copied_first, with_copies, emit_term, emit_statement, emit_statements, given_elements, expanded_plain, term_size, row_size, statement_size, statements_size, plain_size_of}
+use Rattle.lb_flat.specs.Emit.{State, Emitted, Target, assert, joins, emit, emit_body}
+use Rattle.lb_flat.specs.Emit.{emit_instances, before_instances, targets, copied, from_inputs}
+use Rattle.lb_flat.specs.Emit.{given_inputs, observed, clock_places, property_places, expanded}
+use Rattle.lb_flat.specs.Terms.{copied_first, with_copies, emit_term, emit_statement}
+use Rattle.lb_flat.specs.Terms.{emit_statements, given_elements, expanded_plain, term_size}
+use Rattle.lb_flat.specs.Terms.{row_size, statement_size, statements_size, plain_size_of}
 use Rattle.lb_flat.proofs.TypeFacts.{and_first, and_second}
-use Rattle.lb_flat.proofs.PlainEmission.{step_has_ints, steps_ints, as_emitted, held, term_emits, one_left, drop_at}
+use Rattle.lb_flat.proofs.PlainEmission.{step_has_ints, steps_ints, as_emitted, held, term_emits}
+use Rattle.lb_flat.proofs.PlainEmission.{one_left, drop_at}
 
 -- ## Size
 
@@ -376,26 +389,36 @@ module _ (el : Plain) where
         ∙ ap (from last (given_elements el.inputs) [] elements []) is_property)
 
 -- the answer of the code about the terms is the one about the program
-pub answer_is :
-    (el : Plain) (P : Program) (r : Result Flat FlatError) → IsPlain P (node_in el) →
-    check_refusal P ≡ None → IsSizedAnswer el r → IsExpansionAnswer P r
-answer_is el P (Ok f) e refusal h =
-    let n = node_in el in
-    let counted_by = plain_size P n e refusal in
-    let counted = size_is el in
-    let limit = h.0 in
-    let small : is_small P ≡ true =
-    at_most (size P) (omega (arith, counted_by, counted, limit)) in (
-      small,
-      subst (IsExpansionOf P) (sym (h.1 ∙ expansion_is el P e (one_lefts P n e refusal)))
-          (plain_expansion P n e refusal),
-    )
-answer_is el P (Err error.Memory) e refusal h = tt
-answer_is el P (Err error.Large) e refusal h =
-    let counted_by = plain_size P (node_in el) e refusal in
-    let counted = size_is el in
-    above (size P) (omega (arith, counted_by, counted, h))
-answer_is el P (Err error.Unsupported) e refusal h = absurd h
+module _ (el : Plain) (P : Program) (e : IsPlain P (node_in el)) (accepted : check_refusal P ≡ None)
+  where
+    module _ (p : Expanded) (h : IsSizedAnswer el (Ok p)) where
+      is_expanded :
+          program_of p ≡ expanded (plain_layout (node_in el)) P (length (variables (node_in el)))
+      is_expanded = h.1 ∙ expansion_is el P e (one_lefts P (node_in el) e accepted)
+
+      pub answer_small : is_small P ≡ true
+      answer_small =
+          let counted_by = plain_size P (node_in el) e accepted in
+          let counted = size_is el in
+          let limit = h.0 in
+          at_most (size P) (omega (arith, counted_by, counted, limit))
+
+      pub answer_is : IsExpansionOf P (program_of p)
+      answer_is =
+          subst (IsExpansionOf P) (sym is_expanded) (plain_expansion P (node_in el) e accepted)
+
+      pub answer_given : IsGiven (program_of p)
+      answer_given = subst IsGiven (sym is_expanded) (plain_given_once P (node_in el) e accepted)
+
+    -- and so is a refusal
+    pub refusal_is :
+        (f : FlatError) → IsSizedAnswer el (Err f) → IsExpansionAnswer P (Err f)
+    refusal_is error.Memory h = tt
+    refusal_is error.Large h =
+        let counted_by = plain_size P (node_in el) e accepted in
+        let counted = size_is el in
+        above (size P) (omega (arith, counted_by, counted, h))
+    refusal_is error.Unsupported h = absurd h
 
 -- what is refused before the terms are looked at
 pub plain_fault_is : (P : Program) (f : FlatError) → IsPlainFault P f → IsExpansionAnswer P (Err f)

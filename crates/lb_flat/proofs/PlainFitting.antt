@@ -1,5 +1,6 @@
 -- The clocks and the kinds of the flat program of a plain one-node program fit.
-use Rattle.std.proofs.Common.{◌≡◌, ℕ, ◌+◌, Bool, true, false, ◌&&◌, nat_eq, Option, Some, None, List, [], ◌∷◌, ◌++◌, map, length, refl, sym, ap, ◌∙◌, subst, arith}
+use Rattle.std.proofs.Common.{◌≡◌, ℕ, ◌+◌, Bool, true, false, ◌&&◌, nat_eq, Option, Some, None}
+use Rattle.std.proofs.Common.{List, [], ◌∷◌, ◌++◌, map, length, refl, sym, ap, ◌∙◌, subst, arith}
 use Rattle.std.specs.List.{list_all}
 use Rattle.std.proofs.lemmas.List.{length-map}
 use Rattle.lb_syntax.specs.declared.tree.Kind.{Kind}
@@ -7,7 +8,8 @@ use Rattle.lb_syntax.specs.Lists.{◌>>=◌, Every, or_else}
 use Rattle.lb_syntax.specs.Refusals.{Refusal, E9, unless}
 use Rattle.lb_syntax.specs.Tree.{Name, Node, Declaration, Expr}
 use Rattle.lb_static.specs.StaticValues.{named}
-use Rattle.lb_static.specs.Instances.{Program, Instance, Root, Observer, start_at, instance_at, instances}
+use Rattle.lb_static.specs.Instances.{Program, Instance, Root, Observer, start_at, instance_at}
+use Rattle.lb_static.specs.Instances.{instances}
 use Rattle.lb_static.specs.DataTypes.{variables, input_kinds}
 use Rattle.lb_static.specs.Signature.{kinds_of}
 use Rattle.lb_static.specs.Parts.{among, own_names, node_parts, node_names, variable_names}
@@ -18,10 +20,12 @@ use Rattle.lb_flat.proofs.PlainNames.{distinct_names}
 use Rattle.lb_flat.specs.Flat.{FlatEquation}
 use Rattle.lb_flat.specs.PlainLayout.{plain_layout}
 use Rattle.lb_flat.specs.Emit.{emit_instances, before_instances, given_inputs, observed, expanded}
-use Rattle.lb_flat.proofs.Lists.{Every-append, Every-map, Every-both, Every-first, Every-piece, map-maps}
+use Rattle.lb_flat.proofs.Lists.{Every-append, Every-map, Every-both, Every-first, Every-piece}
+use Rattle.lb_flat.proofs.Lists.{map-maps}
 use Rattle.lb_flat.proofs.TypeFacts.{and_first, and_second}
 use Rattle.lb_flat.proofs.PlainFittingKinds.{IsKind, IsPlainEquation, kind_at, kind_is, plain_fits}
-use Rattle.lb_flat.proofs.PlainFittingVariables.{each_true, each_found, variable_kinds, found_placed}
+use Rattle.lb_flat.proofs.PlainFittingVariables.{each_true, each_found, variable_kinds}
+use Rattle.lb_flat.proofs.PlainFittingVariables.{found_placed}
 use Rattle.lb_flat.proofs.PlainFittingExpressions.{IsPlainExpression, ArePlain}
 use Rattle.lb_flat.proofs.PlainFittingBodies.{Grown, body_grown, inputs_given}
 use Rattle.lb_flat.proofs.PlainPlacing.{IsPlainFitting}

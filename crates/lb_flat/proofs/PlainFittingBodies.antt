@@ -1,13 +1,18 @@
 -- The statements of a typed plain node, and its inputs, give equations that fit.
-use Rattle.std.proofs.Common.{◌≡◌, ℕ, suc, ◌+◌, true, false, Option, Some, None, option_map, List, [], ◌∷◌, ◌++◌, map, flat_map, refl, sym, ap, ap₂, ◌∙◌, subst, arith}
+use Rattle.std.proofs.Common.{◌≡◌, ℕ, suc, ◌+◌, true, false, Option, Some, None, option_map, List}
+use Rattle.std.proofs.Common.{[], ◌∷◌, ◌++◌, map, flat_map, refl, sym, ap, ap₂, ◌∙◌, subst, arith}
 use Rattle.std.specs.List.{list_all}
 use Rattle.lb_syntax.specs.declared.tree.Kind.{Kind}
 use Rattle.lb_syntax.specs.Lists.{Every, or_else, all_some}
 use Rattle.lb_syntax.specs.Tree as tree
-use Rattle.lb_syntax.specs.Tree.{Name, Node, Declaration, Expr, Literal, Variable, Group, Unary, Binary, If, Arrow, Fby, Pre, Current, When, Replicate, Index, Slice, Join, Array, AtMostOne, Nor, Call, Iterate, Exprs, Nil, Cons, Statement, Equation, Assertion}
+use Rattle.lb_syntax.specs.Tree.{Name, Node, Declaration, Expr, Literal, Variable, Group, Unary}
+use Rattle.lb_syntax.specs.Tree.{Binary, If, Arrow, Fby, Pre, Current, When, Replicate, Index}
+use Rattle.lb_syntax.specs.Tree.{Slice, Join, Array, AtMostOne, Nor, Call, Iterate, Exprs, Nil}
+use Rattle.lb_syntax.specs.Tree.{Cons, Statement, Equation, Assertion}
 use Rattle.lb_static.specs.StaticValues.{named}
 use Rattle.lb_static.specs.Instances.{Program, Instance, Root}
-use Rattle.lb_static.specs.DataTypes.{DataType, is_kind, is_type, are_types, same_sizes, variables, variable_type}
+use Rattle.lb_static.specs.DataTypes.{DataType, is_kind, is_type, are_types, same_sizes, variables}
+use Rattle.lb_static.specs.DataTypes.{variable_type}
 use Rattle.lb_static.specs.Parts.{parts, parts_in, right_side}
 use Rattle.lb_static.specs.Instantiation.{are_same}
 use Rattle.lb_flat.specs.PlainNodes.{is_scalar, start_of}
@@ -18,7 +23,8 @@ use Rattle.lb_check.specs.Occurrences.{call_count, statement_clock}
 use Rattle.lb_flat.proofs.PlainClocks.{base_declared}
 use Rattle.lb_flat.specs.Flat.{Copy, Input, FlatEquation}
 use Rattle.lb_flat.specs.PlainLayout.{plain_layout}
-use Rattle.lb_flat.specs.Emit.{State, Emitted, Target, targets, copied, from_inputs, joins, assert, emit, emit_body}
+use Rattle.lb_flat.specs.Emit.{State, Emitted, Target, targets, copied, from_inputs, joins, assert}
+use Rattle.lb_flat.specs.Emit.{emit, emit_body}
 use Rattle.lb_flat.proofs.Lists.{Every-append}
 use Rattle.lb_flat.proofs.TypeFacts.{bound, some_same, and_first, and_second}
 use Rattle.lb_flat.proofs.OutputWidths.{each}

@@ -1,18 +1,22 @@
 -- A typed expression of a plain node gives one element of its kind, and equations that fit.
-use Rattle.std.proofs.Common.{◌≡◌, ℕ, ◌+◌, true, false, pos, Some, option_map, List, [], ◌∷◌, ◌++◌, refl, sym, ap, ◌∙◌, subst, subst₂}
+use Rattle.std.proofs.Common.{◌≡◌, ℕ, ◌+◌, true, false, pos, Some, option_map, List, [], ◌∷◌, ◌++◌}
+use Rattle.std.proofs.Common.{refl, sym, ap, ◌∙◌, subst, subst₂}
 use Rattle.std.specs.List.{list_all}
 use Rattle.lb_syntax.specs.declared.tree.Kind.{Kind}
 use Rattle.lb_syntax.specs.declared.tree.Kind.TheVariants.{Int, Bool as Truth}
 use Rattle.lb_syntax.specs.Lists.{◌>>=◌, Every, either_or, joined}
 use Rattle.lb_syntax.specs.Tree as tree
-use Rattle.lb_syntax.specs.Tree.{Name, Node, Expr, Literal, Variable, Group, Unary, Binary, If, Arrow, Fby, Pre, Current, When, Replicate, Index, Slice, Join, Array, AtMostOne, Nor, Call, Iterate, Exprs, Nil, Cons}
+use Rattle.lb_syntax.specs.Tree.{Name, Node, Expr, Literal, Variable, Group, Unary, Binary, If}
+use Rattle.lb_syntax.specs.Tree.{Arrow, Fby, Pre, Current, When, Replicate, Index, Slice, Join}
+use Rattle.lb_syntax.specs.Tree.{Array, AtMostOne, Nor, Call, Iterate, Exprs, Nil, Cons}
 use Rattle.lb_static.specs.StaticValues.{named}
 use Rattle.lb_static.specs.Instances.{Program, Instance}
 use Rattle.lb_static.specs.DataTypes.{DataType, int, truth, is_type, variables, variable_type}
 use Rattle.lb_static.specs.Parts.{among, variable_names, parts, parts_in, own_names}
 use Rattle.lb_flat.specs.PlainNodes.{is_scalar, is_plain, start_of}
 use Rattle.lb_check.specs.Scalars.{Integer, Boolean}
-use Rattle.lb_check.specs.Types.{data_types, all_types, only, singly, name_data_type, from_one, from_truths, unary_type, binary_type, common_type}
+use Rattle.lb_check.specs.Types.{data_types, all_types, only, singly, name_data_type, from_one}
+use Rattle.lb_check.specs.Types.{from_truths, unary_type, binary_type, common_type}
 use Rattle.lb_check.specs.Clocks.{Base}
 use Rattle.lb_check.specs.Occurrences.{call_count}
 use Rattle.lb_flat.specs.Flat.{Constant, ApplyUnary, ApplyBinary}
@@ -20,10 +24,15 @@ use Rattle.lb_flat.specs.PlainLayout.{plain_layout}
 use Rattle.lb_flat.specs.Emit.{State, Emitted, EmittedAll, emit_name, emit, emit_all}
 use Rattle.lb_flat.proofs.Lists.{Every-append, Every-first, Every-second}
 use Rattle.lb_flat.proofs.ScalarKinds.{nil_of}
-use Rattle.lb_flat.proofs.TypeFacts.{bound, some_same, single, alone, and_first, and_second, one, two, from_true}
+use Rattle.lb_flat.proofs.TypeFacts.{bound, some_same, single, alone, and_first, and_second, one}
+use Rattle.lb_flat.proofs.TypeFacts.{two, from_true}
 use Rattle.lb_flat.proofs.PlainFittingKinds.{IsKind, Keeps}
-use Rattle.lb_flat.proofs.PlainFittingTypes.{scalar, binary_scalar, unary_scalar, same_scalars, truth_kind, SameScalars}
-use Rattle.lb_flat.proofs.PlainFittingWords.{AreTruths, Kinded, Gives, gives_after, given_already, add_gives, one_gives, two_gives, choice_gives, previous_gives, first_then_gives, nor_gives, at_most_one_gives}
+use Rattle.lb_flat.proofs.PlainFittingTypes.{scalar, binary_scalar, unary_scalar, same_scalars}
+use Rattle.lb_flat.proofs.PlainFittingTypes.{truth_kind, SameScalars}
+use Rattle.lb_flat.proofs.PlainFittingWords.{AreTruths, Kinded, Gives, gives_after, given_already}
+use Rattle.lb_flat.proofs.PlainFittingWords.{add_gives, one_gives, two_gives, choice_gives}
+use Rattle.lb_flat.proofs.PlainFittingWords.{previous_gives, first_then_gives, nor_gives}
+use Rattle.lb_flat.proofs.PlainFittingWords.{at_most_one_gives}
 use Rattle.lb_flat.proofs.PlainFittingVariables.{variable_kinds, IsPlaced, name_placed}
 
 -- ## Plain expressions

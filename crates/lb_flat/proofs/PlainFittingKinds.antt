@@ -1,9 +1,12 @@
 -- Equations on the base clock that fit a list of kinds, which grows with the elements.
-use Rattle.std.proofs.Common.{◌≡◌, ℕ, zero, suc, ◌<◌, Some, List, [], ◌∷◌, ◌++◌, length, slice_get, get_or, refl, sym, ap, ap₂, ◌∙◌, subst, arith}
+use Rattle.std.proofs.Common.{◌≡◌, ℕ, zero, suc, ◌<◌, Some, List, [], ◌∷◌, ◌++◌, length, slice_get}
+use Rattle.std.proofs.Common.{get_or, refl, sym, ap, ap₂, ◌∙◌, subst, arith}
 use Rattle.lb_syntax.specs.declared.tree.Kind.{Kind}
 use Rattle.lb_syntax.specs.declared.tree.Kind.TheVariants.{Int}
 use Rattle.lb_syntax.specs.Lists.{Every}
-use Rattle.lb_flat.specs.Flat.{FlatClock, Always, Operation, Input, Constant, Copy, ApplyUnary, ApplyBinary, Choose, FirstThen, Previous, Latest, Sample, FlatEquation}
+use Rattle.lb_flat.specs.Flat.{FlatClock, Always, Operation, Input, Constant, Copy, ApplyUnary}
+use Rattle.lb_flat.specs.Flat.{ApplyBinary, Choose, FirstThen, Previous, Latest, Sample}
+use Rattle.lb_flat.specs.Flat.{FlatEquation}
 use Rattle.lb_flat.proofs.Lists.{Every-map}
 use Rattle.lb_flat.proofs.OnClock.{OperandsFit, ClockFits}
 use Rattle.lb_flat.proofs.ScalarKinds.{IsOf, binary_kind, unary_kind}

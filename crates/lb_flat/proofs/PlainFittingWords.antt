@@ -1,5 +1,6 @@
 -- The small words of expansion give elements of kinds, and equations that fit them.
-use Rattle.std.proofs.Common.{◌≡◌, ℕ, false, Some, List, [], ◌∷◌, ◌++◌, map, length, refl, sym, ap₂, subst, arith, length-append}
+use Rattle.std.proofs.Common.{◌≡◌, ℕ, false, Some, List, [], ◌∷◌, ◌++◌, map, length, refl, sym, ap₂}
+use Rattle.std.proofs.Common.{subst, arith, length-append}
 use Rattle.lb_syntax.specs.declared.tree.UnaryOperator.TheVariants.{Not}
 use Rattle.lb_syntax.specs.declared.tree.BinaryOperator.{BinaryOperator}
 use Rattle.lb_syntax.specs.declared.tree.BinaryOperator.TheVariants.{Or, And}
@@ -7,11 +8,14 @@ use Rattle.lb_syntax.specs.declared.tree.Kind.{Kind}
 use Rattle.lb_syntax.specs.declared.tree.Kind.TheVariants.{Bool as Truth}
 use Rattle.lb_syntax.specs.Lists.{Every, zip2}
 use Rattle.lb_check.specs.Scalars.{Scalar, Boolean}
-use Rattle.lb_flat.specs.Flat.{Always, Operation, Constant, ApplyUnary, ApplyBinary, Choose, FirstThen, Previous, FlatEquation}
-use Rattle.lb_flat.specs.Emit.{State, Emitted, add, keep, push, chosen_by, chained, twice, negated, emit_nor, emit_at_most_one}
+use Rattle.lb_flat.specs.Flat.{Always, Operation, Constant, ApplyUnary, ApplyBinary, Choose}
+use Rattle.lb_flat.specs.Flat.{FirstThen, Previous, FlatEquation}
+use Rattle.lb_flat.specs.Emit.{State, Emitted, add, keep, push, chosen_by, chained, twice, negated}
+use Rattle.lb_flat.specs.Emit.{emit_nor, emit_at_most_one}
 use Rattle.lb_flat.proofs.Lists.{Every-append, Every-map}
 use Rattle.lb_flat.proofs.ScalarKinds.{IsOf, binary_kind}
-use Rattle.lb_flat.proofs.PlainFittingKinds.{IsKind, Keeps, keeps_more, last_kind, Reads, IsPlainEquation, reads_kept, equations_kept}
+use Rattle.lb_flat.proofs.PlainFittingKinds.{IsKind, Keeps, keeps_more, last_kind, Reads}
+use Rattle.lb_flat.proofs.PlainFittingKinds.{IsPlainEquation, reads_kept, equations_kept}
 
 -- these elements are truths
 abbrev pub AreTruths : List Kind → List ℕ → Type 0

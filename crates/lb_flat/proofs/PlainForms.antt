@@ -3,7 +3,10 @@
 use Rattle.std.proofs.Common.{◌≡◌, Bool, true, false, cond, List, [], ◌∷◌, ◌++◌, refl, ap, sym, ◌∙◌}
 use Rattle.std.specs.Prelude.{◌&&◌, pos, flat_map}
 use Rattle.std.specs.List.{list_all}
-use Rattle.lb_syntax.specs.Tree.{Name, Node, Statement, Equation, Assertion, Expr, Literal, Truth, Variable, Group, Unary, Binary, If, Arrow, Fby, Pre, Current, When, Replicate, Index, Slice, Join, Array, AtMostOne, Nor, Call, Iterate, Exprs, Nil, Cons}
+use Rattle.lb_syntax.specs.Tree.{Name, Node, Statement, Equation, Assertion, Expr, Literal, Truth}
+use Rattle.lb_syntax.specs.Tree.{Variable, Group, Unary, Binary, If, Arrow, Fby, Pre, Current, When}
+use Rattle.lb_syntax.specs.Tree.{Replicate, Index, Slice, Join, Array, AtMostOne, Nor, Call}
+use Rattle.lb_syntax.specs.Tree.{Iterate, Exprs, Nil, Cons}
 use Rattle.lb_static.specs.Arithmetic.{is_int}
 use Rattle.lb_flat.specs.PlainNodes.{is_plain}
 use Rattle.lb_static.specs.Instances.{sites, sites_in, statement_sites, node_sites}

@@ -1,6 +1,8 @@
 -- The equations of the expansion of a plain program that breaks no rule give each element, and each
 -- once: the elements of inputs, those of the variables on the left, and the further ones.
-use Rattle.std.proofs.Common.{append_assoc, ◌≡◌, ◌⊎◌, inl, inr, ℕ, suc, ◌+◌, ◌-◌, ◌<◌, ◌≤◌, true, false, nat_eq, Option, Some, None, List, [], ◌∷◌, ◌++◌, map, flat_map, refl, sym, ap, ap₂, ◌∙◌, subst, arith}
+use Rattle.std.proofs.Common.{append_assoc, ◌≡◌, ◌⊎◌, inl, inr, ℕ, suc, ◌+◌, ◌-◌, ◌<◌, ◌≤◌, true}
+use Rattle.std.proofs.Common.{false, nat_eq, Option, Some, None, List, [], ◌∷◌, ◌++◌, map, flat_map}
+use Rattle.std.proofs.Common.{refl, sym, ap, ap₂, ◌∙◌, subst, arith}
 use Rattle.std.specs.List.{list_all, range_with_len}
 use Rattle.std.specs.Str.{bytes_eq}
 use Rattle.std.proofs.lemmas.Grind.{flat_map-append}
@@ -30,7 +32,8 @@ use Rattle.lb_flat.proofs.PlainNames.{distinct_names}
 use Rattle.lb_flat.specs.Flat.{FlatClock, FlatEquation}
 use Rattle.lb_flat.specs.Layouts.{Layout, flat_clock}
 use Rattle.lb_flat.specs.PlainLayout.{plain_layout}
-use Rattle.lb_flat.specs.Emit.{State, Emitted, Target, targets, copied, joins, assert, from_inputs, before_instances, emit, emit_body, emit_instances, expanded}
+use Rattle.lb_flat.specs.Emit.{State, Emitted, Target, targets, copied, joins, assert, from_inputs}
+use Rattle.lb_flat.specs.Emit.{before_instances, emit, emit_body, emit_instances, expanded}
 use Rattle.lb_flat.proofs.Lists.{map-pieces, Every-in}
 use Rattle.lb_flat.proofs.TypeFacts.{and_first, and_second, bound, some_same}
 use Rattle.lb_flat.proofs.OutputWidths.{each}
@@ -38,7 +41,12 @@ use Rattle.lb_flat.proofs.Emission.{joins_copies}
 use Rattle.lb_flat.proofs.Closing.{Closed}
 use Rattle.lb_flat.proofs.Bodies.{all_closed, assert_copies}
 use Rattle.lb_flat.proofs.Ordering.{In-map}
-use Rattle.lb_flat.proofs.PlainGivenLists.{AreApart, apart-append, apart_first, apart_single, apart_sources, apart_pieces, of_pieces, to_pieces, range_apart, in_range, element_numbers, fresh_above, fresh_apart, fresh_given, times, is_equal, stands, is_there, once_apart, distinct_apart, IsFound, found, of_names, later_none}
+use Rattle.lb_flat.proofs.PlainGivenLists.{AreApart, apart-append, apart_first, apart_single}
+use Rattle.lb_flat.proofs.PlainGivenLists.{apart_sources, apart_pieces, of_pieces, to_pieces}
+use Rattle.lb_flat.proofs.PlainGivenLists.{range_apart, in_range, element_numbers, fresh_above}
+use Rattle.lb_flat.proofs.PlainGivenLists.{fresh_apart, fresh_given, times, is_equal, stands}
+use Rattle.lb_flat.proofs.PlainGivenLists.{is_there, once_apart, distinct_apart, IsFound, found}
+use Rattle.lb_flat.proofs.PlainGivenLists.{of_names, later_none}
 use Rattle.lb_flat.proofs.PlainPlacing.{every_passes, unless_none, plain_laid, plain_instances}
 use Rattle.lb_flat.proofs.PlainFittingTypes.{scalar}
 use Rattle.lb_flat.proofs.PlainFittingVariables.{variable_kinds}
@@ -46,9 +54,11 @@ use Rattle.lb_flat.proofs.PlainFittingExpressions.{ArePlain, not_plain, fits}
 use Rattle.lb_flat.proofs.PlainFittingExpressions as fitting
 use Rattle.lb_flat.proofs.PlainFitting.{parts_plain, all_typed}
 use Rattle.lb_flat.proofs.PlainCausalLinks.{Meets, AllMeet, Traced}
-use Rattle.lb_flat.proofs.PlainCausalExpressions.{AllPlain, fore, aft, plain_base, IsAt, IsOne, scalars, ones, trace}
+use Rattle.lb_flat.proofs.PlainCausalExpressions.{AllPlain, fore, aft, plain_base, IsAt, IsOne}
+use Rattle.lb_flat.proofs.PlainCausalExpressions.{scalars, ones, trace}
 use Rattle.lb_flat.proofs.Solving.{Every-of_in}
-use Rattle.lb_flat.proofs.PlainCausalDefinitions.{in_first, in_second, in_either, all_plain, count, final, inputs, emits_final, equations_are}
+use Rattle.lb_flat.proofs.PlainCausalDefinitions.{in_first, in_second, in_either, all_plain, count}
+use Rattle.lb_flat.proofs.PlainCausalDefinitions.{final, inputs, emits_final, equations_are}
 
 -- ## Targets
 
@@ -413,7 +423,7 @@ module _ (P : Program) (n : Node) (elaborated : IsPlain P n)
       subst AreApart (sym p.1) (λ j. j, tt)
 
   -- the equations of the elements of variables
-  abbrev firsts : List FlatEquation
+  abbrev pub firsts : List FlatEquation
   firsts = inputs n ++ (final P n).copies
 
   firsts_give : element_numbers firsts ≡ flat_map place given_names
@@ -427,7 +437,7 @@ module _ (P : Program) (n : Node) (elaborated : IsPlain P n)
       subst AreApart (sym firsts_give)
       (apart_pieces place given_names names_apart place_apart one_name)
 
-  firsts_below : (i : ℕ) → In i (element_numbers firsts) → i < count n
+  pub firsts_below : (i : ℕ) → In i (element_numbers firsts) → i < count n
   firsts_below i h =
       let p = of_pieces place i given_names (subst (In i) firsts_give h) in
       Every-in (λ i. i < count n) i (place p.source) ((plain_laid n).places Root p.source) p.holds
@@ -449,7 +459,7 @@ module _ (P : Program) (n : Node) (elaborated : IsPlain P n)
       all_closed (count n) (plain_layout n) P (plain_laid n) (before_instances (count n))
       (instances P) (record { fresh = tt; next = omega arith })
 
-  closed : Closed (count n) (final P n)
+  pub closed : Closed (count n) (final P n)
   closed = subst (Closed (count n)) (emits_final P n elaborated) emits_closed
 
   abbrev f_size : ℕ
@@ -466,7 +476,7 @@ module _ (P : Program) (n : Node) (elaborated : IsPlain P n)
       ∙ sym (append_assoc (inputs n) (final P n).copies (final P n).equations))
       ∙ map-append (λ q. q.element) firsts (final P n).equations
 
-  all_apart : AreApart (element_numbers Q)
+  pub all_apart : AreApart (element_numbers Q)
   all_apart =
       let furthers = (final P n).equations in
       subst AreApart (sym elements_are)

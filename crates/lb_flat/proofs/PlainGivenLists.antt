@@ -1,10 +1,13 @@
 -- Lists in which nothing stands twice: numbers in order, the elements of further equations, and
 -- names that each stand among some at most once.
-use Rattle.std.proofs.Common.{◌≡◌, ◌⊎◌, inl, inr, ℕ, zero, suc, ◌+◌, ◌<◌, ◌≤◌, Bool, true, false, ◌||◌, cond, not, nat_eq, Option, Some, None, List, [], ◌∷◌, ◌++◌, map, length, flat_map, refl, sym, ap, ◌∙◌, subst, arith}
+use Rattle.std.proofs.Common.{◌≡◌, ◌⊎◌, inl, inr, ℕ, zero, suc, ◌+◌, ◌<◌, ◌≤◌, Bool, true, false}
+use Rattle.std.proofs.Common.{◌||◌, cond, not, nat_eq, Option, Some, None, List, [], ◌∷◌, ◌++◌, map}
+use Rattle.std.proofs.Common.{length, flat_map, refl, sym, ap, ◌∙◌, subst, arith}
 use Rattle.std.specs.List.{range_with_len}
 use Rattle.std.specs.Str.{bytes_eq}
 use Rattle.std.proofs.lemmas.Bool.Decides.{nat_tests}
 use Rattle.std.proofs.lemmas.Slice.Eq.{bytes_eq-Decides}
+pub use Rattle.lb_syntax.specs.Lists.{AreApart}
 use Rattle.lb_syntax.specs.Lists.{In, or_else}
 use Rattle.lb_syntax.specs.Refusals.{Refusal}
 use Rattle.lb_syntax.specs.Tree.{Name, Declaration}
@@ -18,10 +21,6 @@ use Rattle.lb_flat.proofs.TypeFacts.{and_first, and_second}
 use Rattle.lb_flat.proofs.PlainCausalDefinitions.{in_first, in_second, in_either}
 
 -- ## Lists in which nothing stands twice
-
-abbrev pub AreApart : {A : Type 0} → List A → Type 0
-AreApart [] = Unit {0}
-AreApart (x ∷ xs) = (In x xs → ⊥) × AreApart xs
 
 module _ {A : Type 0} where
   pub apart-append :

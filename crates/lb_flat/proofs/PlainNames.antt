@@ -1,6 +1,7 @@
 -- The names of the variables of a plain node are distinct, so that each place is found by its
 -- name.
-use Rattle.std.proofs.Common.{◌≡◌, ℕ, zero, suc, Bool, true, false, cond, List, [], ◌∷◌, length, map, Option, Some, None, refl, ap, sym, subst}
+use Rattle.std.proofs.Common.{◌≡◌, ℕ, zero, suc, Bool, true, false, cond, List, [], ◌∷◌, length}
+use Rattle.std.proofs.Common.{map, Option, Some, None, refl, ap, sym, subst}
 use Rattle.std.specs.Prelude.{◌&&◌, ◌||◌, not, find, filter, slice_get, option_map}
 use Rattle.std.specs.List.{list_all, list_any}
 use Rattle.std.specs.Str.{bytes_eq}
@@ -12,7 +13,8 @@ use Rattle.lb_flat.specs.declared.plain.term.Variable.{Variable}
 use Rattle.lb_static.specs.StaticValues.{named}
 use Rattle.lb_static.specs.Instances.{Program, node_named}
 use Rattle.lb_static.specs.Parts.{among, variable_names}
-use Rattle.lb_static.specs.Names.{are_distinct, is_named, declares_once, start_names, calls, reached_within, keeps_names}
+use Rattle.lb_static.specs.Names.{are_distinct, is_named, declares_once, start_names, calls}
+use Rattle.lb_static.specs.Names.{reached_within, keeps_names}
 use Rattle.lb_flat.specs.PlainNodes.{IsPlain, start_of}
 use Rattle.lb_flat.specs.PlainTerms.{declaration_of}
 use Rattle.lb_static.proofs.TestedItems.{found_passes}

@@ -1,6 +1,8 @@
 -- In the layout of a plain node each variable has one element, its number among the variables: the
 -- elements are the first ones in order, all on the base clock.
-use Rattle.std.proofs.Common.{◌≡◌, ℕ, suc, ◌+◌, ◌<◌, ◌≤◌, Bool, true, false, inl, inr, Option, Some, None, List, [], ◌∷◌, ◌++◌, map, length, flat_map, get_or, refl, sym, ap, ap₂, ◌∙◌, subst, arith, length-append}
+use Rattle.std.proofs.Common.{◌≡◌, ℕ, suc, ◌+◌, ◌<◌, ◌≤◌, Bool, true, false, inl, inr, Option, Some}
+use Rattle.std.proofs.Common.{None, List, [], ◌∷◌, ◌++◌, map, length, flat_map, get_or, refl, sym}
+use Rattle.std.proofs.Common.{ap, ap₂, ◌∙◌, subst, arith, length-append}
 use Rattle.std.specs.Prelude.{not, ◌||◌, nat_eq, option_map, reverse, if◌then◌else◌}
 use Rattle.std.specs.List.{list_all, range_with_len}
 use Rattle.std.specs.Str.{bytes_eq}
@@ -13,11 +15,14 @@ use Rattle.lb_syntax.specs.declared.tree.Kind.{Kind}
 use Rattle.lb_syntax.specs.Lists.{◌>>=◌, Every, In, all_some, either_or, holds, listed, or_else}
 use Rattle.lb_syntax.specs.Refusals.{Refusal, E4, E7, E8, unless}
 use Rattle.lb_syntax.specs.Tree.{Name, Static, Declaration, Node}
-use Rattle.lb_static.specs.Instances.{Program, Instance, Path, Root, Observer, instance_at, instances, start_at, static_count}
-use Rattle.lb_static.specs.DataTypes.{DataType, element_count, variables, variable_type, width, input_kinds}
+use Rattle.lb_static.specs.Instances.{Program, Instance, Path, Root, Observer, instance_at}
+use Rattle.lb_static.specs.Instances.{instances, start_at, static_count}
+use Rattle.lb_static.specs.DataTypes.{DataType, element_count, variables, variable_type, width}
+use Rattle.lb_static.specs.DataTypes.{input_kinds}
 use Rattle.lb_static.specs.Parts.{among, variable_names}
 use Rattle.lb_static.specs.Names.{are_distinct, keeps_names, is_well_founded}
-use Rattle.lb_static.specs.Instantiation.{instantiation_refusal, has_no_parameters, is_one_truth, has_property, is_root}
+use Rattle.lb_static.specs.Instantiation.{instantiation_refusal, has_no_parameters, is_one_truth}
+use Rattle.lb_static.specs.Instantiation.{has_property, is_root}
 use Rattle.lb_flat.specs.PlainNodes.{IsPlain, is_scalar, start_of}
 use Rattle.lb_check.specs.Clocks.{Clock, Base, On, declared_clock}
 use Rattle.lb_check.specs.Verdicts.{property_path}

@@ -1,5 +1,7 @@
 -- The node under test is plain where its forms run, and then the plain node is that of the source.
-use Rattle.std.proofs.Common.{◌≡◌, ℕ, zero, suc, ◌+◌, ◌≤◌, Bool, true, false, List, [], ◌∷◌, ◌++◌, length, map, take, drop, Option, refl, ap, sym, ◌∙◌, arith, length-append}
+use Rattle.std.proofs.Common.{◌≡◌, ℕ, zero, suc, ◌+◌, ◌≤◌, Bool, true, false, List, [], ◌∷◌, ◌++◌}
+use Rattle.std.proofs.Common.{length, map, take, drop, Option, refl, ap, sym, ◌∙◌, arith}
+use Rattle.std.proofs.Common.{length-append}
 use Rattle.std.specs.Prelude.{◌&&◌, ◌||◌, not, nat_eq, nat_lt, is_some, flat_map, slice_get}
 use Rattle.std.specs.List.{list_all}
 use Rattle.std.specs.Str.{bytes_eq}
@@ -23,15 +25,18 @@ use Rattle.lb_static.specs.declared.resolved.ResolvedNode.{ResolvedNode}
 use Rattle.lb_static.specs.declared.resolved.ResolvedStatement as resolved_statement
 use Rattle.lb_static.specs.declared.resolved.ResolvedStatement.TheVariants as from
 use Rattle.lb_static.specs.declared.resolved.Term as form
-use Rattle.lb_static.proofs.Lists.{and_first, and_second, both, false_first, all_append, append_assoc, map_map}
-use Rattle.lb_flat.specs.UnsupportedForms.{has_plain_forms, have_plain_forms, is_plain_statement, AreStatementsOf}
+use Rattle.lb_static.proofs.Lists.{and_first, and_second, both, false_first, all_append}
+use Rattle.lb_static.proofs.Lists.{append_assoc, map_map}
+use Rattle.lb_flat.specs.UnsupportedForms.{has_plain_forms, have_plain_forms, is_plain_statement}
+use Rattle.lb_flat.specs.UnsupportedForms.{AreStatementsOf}
 use Rattle.lb_flat.specs.PlainNodes.{is_scalar, is_statement_within, is_plain_node, node_of}
 use Rattle.lb_flat.specs.PlainPrograms.{runs}
 use Rattle.lb_flat.specs.PlainTerms.{declaration_of, statement_of}
 use Rattle.lb_flat.specs.declared.plain.term.PlainStatement.{PlainStatement}
 use Rattle.lb_flat.specs.declared.plain.term.Variable.{Variable}
 use Rattle.lb_flat.proofs.PlainAlone.{is_variable_in, plain_node_is}
-use Rattle.lb_flat.proofs.PlainForms.{is_simple, are_simple, is_simple_statement, none_append, no_body_statics}
+use Rattle.lb_flat.proofs.PlainForms.{is_simple, are_simple, is_simple_statement, none_append}
+use Rattle.lb_flat.proofs.PlainForms.{no_body_statics}
 use Rattle.lb_flat.proofs.PlainTranslation.{steps_stand}
 
 -- ## Forms that run are simple

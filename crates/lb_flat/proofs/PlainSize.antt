@@ -1,6 +1,8 @@
 -- The size of a program of one node of scalars on one clock: one for each variable, and one for
 -- each expression and part of one.
-use Rattle.std.proofs.Common.{◌≡◌, ℕ, ◌+◌, Bool, true, false, nat_eq, Option, Some, None, IfSome, option_map, List, [], ◌∷◌, ◌++◌, map, reverse, length, flat_map, refl, sym, ap, ◌∙◌, arith}
+use Rattle.std.proofs.Common.{◌≡◌, ℕ, ◌+◌, Bool, true, false, nat_eq, Option, Some, None, IfSome}
+use Rattle.std.proofs.Common.{option_map, List, [], ◌∷◌, ◌++◌, map, reverse, length, flat_map, refl}
+use Rattle.std.proofs.Common.{sym, ap, ◌∙◌, arith}
 use Rattle.std.specs.Prelude.{sum_by}
 use Rattle.std.specs.List.{list_all}
 use Rattle.std.specs.Str.{bytes_eq}
@@ -8,18 +10,25 @@ use Rattle.std.proofs.lemmas.List.Folds.{list_all-append}
 use Rattle.std.proofs.lemmas.List.Sums.{sum_by-cons}
 use Rattle.lb_syntax.specs.Lists.{◌>>=◌, Every, all_some, either_or, or_else}
 use Rattle.lb_syntax.specs.Refusals.{Refusal, E9, unless}
-use Rattle.lb_syntax.specs.Tree.{Static, Expr, Literal, Truth, Variable, Group, Unary, Binary, If, Arrow, Fby, Pre, Current, When, Replicate, Index, Slice, Join, Array, AtMostOne, Nor, Call, Iterate, Exprs, Nil, Cons, Declaration, Node, Statement, Equation, Assertion}
+use Rattle.lb_syntax.specs.Tree.{Static, Expr, Literal, Truth, Variable, Group, Unary, Binary, If}
+use Rattle.lb_syntax.specs.Tree.{Arrow, Fby, Pre, Current, When, Replicate, Index, Slice, Join}
+use Rattle.lb_syntax.specs.Tree.{Array, AtMostOne, Nor, Call, Iterate, Exprs, Nil, Cons}
+use Rattle.lb_syntax.specs.Tree.{Declaration, Node, Statement, Equation, Assertion}
 use Rattle.lb_flat.specs.PlainNodes.{IsPlain, start_of, is_scalar, is_plain}
 use Rattle.lb_static.specs.Instances.{Program, Instance, instances, static_count}
 use Rattle.lb_static.specs.Parts.{parts, parts_in, node_parts, right_side}
-use Rattle.lb_static.specs.DataTypes.{DataType, int, truth, element_count, variables, variable_type, width}
+use Rattle.lb_static.specs.DataTypes.{DataType, int, truth, element_count, variables, variable_type}
+use Rattle.lb_static.specs.DataTypes.{width}
 use Rattle.lb_static.specs.Instantiation.{are_same}
 use Rattle.lb_check.specs.Acceptance.{check_refusal}
-use Rattle.lb_check.specs.TypeRules.{is_typed, is_statement_typed, is_clock_typed, type_of_name, total, expression_size, instance_size, size}
-use Rattle.lb_check.specs.Types.{data_types, all_types, only, singly, from_one, from_truths, unary_type, binary_type, common_type}
+use Rattle.lb_check.specs.TypeRules.{is_typed, is_statement_typed, is_clock_typed, type_of_name}
+use Rattle.lb_check.specs.TypeRules.{total, expression_size, instance_size, size}
+use Rattle.lb_check.specs.Types.{data_types, all_types, only, singly, from_one, from_truths}
+use Rattle.lb_check.specs.Types.{unary_type, binary_type, common_type}
 use Rattle.lb_flat.proofs.Lists.{Every-append}
 use Rattle.lb_flat.proofs.OutputWidths.{found_in}
-use Rattle.lb_flat.proofs.TypeFacts.{Two, bound, one, two, from_true, unary_count, binary_count, alike, some_same, and_first, and_second}
+use Rattle.lb_flat.proofs.TypeFacts.{Two, bound, one, two, from_true, unary_count, binary_count}
+use Rattle.lb_flat.proofs.TypeFacts.{alike, some_same, and_first, and_second}
 
 -- as many ones as there are items
 ones :

@@ -1,13 +1,15 @@
 -- Every history that solves a plain program of one node comes from streams that solve its flat
 -- program.
-use Rattle.std.proofs.Common.{◌≡◌, ℕ, Bool, true, false, ◌&&◌, nat_eq, Option, None, IfSome, List, [], ◌∷◌, ◌++◌, length, flat_map, refl, sym, ap, ap₂, ◌∙◌, subst}
+use Rattle.std.proofs.Common.{◌≡◌, ℕ, Bool, true, false, ◌&&◌, nat_eq, Option, None, IfSome, List}
+use Rattle.std.proofs.Common.{[], ◌∷◌, ◌++◌, length, flat_map, refl, sym, ap, ap₂, ◌∙◌, subst}
 use Rattle.std.specs.List.{list_all}
 use Rattle.std.proofs.lemmas.List.{length-replicate}
 use Rattle.lb_syntax.specs.Lists.{◌>>=◌, Every, or_else}
 use Rattle.lb_syntax.specs.Refusals.{Refusal, E9, unless}
 use Rattle.lb_syntax.specs.declared.tree.Kind.{Kind}
 use Rattle.lb_syntax.specs.Tree.{Name, Expr, Call, Iterate, Node, Declaration}
-use Rattle.lb_static.specs.Instances.{Program, Instance, Root, Observer, start_at, instance_at, instances}
+use Rattle.lb_static.specs.Instances.{Program, Instance, Root, Observer, start_at, instance_at}
+use Rattle.lb_static.specs.Instances.{instances}
 use Rattle.lb_static.specs.DataTypes.{variables, input_kinds}
 use Rattle.lb_static.specs.Parts.{among, variable_names, parts, right_side, node_parts, node_names}
 use Rattle.lb_flat.specs.PlainNodes.{is_scalar, is_plain, start_of, IsPlain}
@@ -16,7 +18,8 @@ use Rattle.lb_check.specs.Scalars.{Stream}
 use Rattle.lb_check.specs.TypeRules.{is_clock_typed, is_statement_typed, is_typed}
 use Rattle.lb_check.specs.Clocks.{Clock, declared_clock}
 use Rattle.lb_check.specs.Streams.{History, presence}
-use Rattle.lb_check.specs.Solutions.{Inputs, variable_presence, IsGiven, IsObserved, IsJoinedAt, IsJoined, SolvesAt, Solves, AreSame}
+use Rattle.lb_check.specs.Solutions.{Inputs, variable_presence, IsGiven, IsObserved, IsJoinedAt}
+use Rattle.lb_check.specs.Solutions.{IsJoined, SolvesAt, Solves, AreSame}
 use Rattle.lb_flat.proofs.PlainClocks.{base_declared}
 use Rattle.lb_flat.specs.Flat.{FlatClock, FlatEquation, Holds, FlatSolves}
 use Rattle.lb_flat.specs.Layouts.{Layout}
@@ -30,7 +33,8 @@ use Rattle.lb_flat.proofs.TypeFacts.{and_first, and_second}
 use Rattle.lb_flat.proofs.Fitting.{KindFits}
 use Rattle.lb_flat.proofs.Solving.{Every-ordered}
 use Rattle.lb_flat.proofs.Expanding.{ordered, IsExpansion}
-use Rattle.lb_flat.proofs.Gathering.{gathered_streams, gathered_count, gathered_long, gathered_truths, all_gathered, filled_columns}
+use Rattle.lb_flat.proofs.Gathering.{gathered_streams, gathered_count, gathered_long}
+use Rattle.lb_flat.proofs.Gathering.{gathered_truths, all_gathered, filled_columns}
 use Rattle.lb_flat.proofs.PlainStreams.{IsBodyPlain, not_plain, plain_body, body_equal}
 use Rattle.lb_flat.proofs.PlainExpanding.{plain_sound}
 

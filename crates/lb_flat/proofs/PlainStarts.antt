@@ -1,5 +1,7 @@
 -- What is known of the starts of an elaborated program.
-use Rattle.std.proofs.Common.{◌≡◌, ℕ, suc, ◌<◌, Bool, true, false, List, [], ◌∷◌, length, map, get_or, Option, Some, None, Result, Ok, Err, refl, ap, sym, subst, ◌∙◌, arith}
+use Rattle.std.proofs.Common.{◌≡◌, ℕ, suc, ◌<◌, Bool, true, false, List, [], ◌∷◌, length, map}
+use Rattle.std.proofs.Common.{get_or, Option, Some, None, Result, Ok, Err, refl, ap, sym, subst}
+use Rattle.std.proofs.Common.{◌∙◌, arith}
 use Rattle.std.specs.Prelude.{◌||◌, not, nat_eq, is_some, option_map, slice_get, IfOk, IfErr}
 use Rattle.std.specs.List.{list_all}
 use Rattle.std.proofs.lemmas.Bool.Decides.{nat_tests}
@@ -8,13 +10,15 @@ use Rattle.lb_syntax.specs.Lists.{◌>>=◌, holds, listed, or_else, all_some, s
 use Rattle.lb_syntax.specs.Refusals.{Refusal, E4, E7, E8, unless}
 use Rattle.lb_syntax.specs.Tree.{Name, Node, Declaration}
 use Rattle.lb_static.specs.Elaborated.{IsElaborated}
-use Rattle.lb_static.specs.Instances.{Program, Instance, Root, Observer, node_named, start_at, instance_at, instances}
+use Rattle.lb_static.specs.Instances.{Program, Instance, Root, Observer, node_named, start_at}
+use Rattle.lb_static.specs.Instances.{instance_at, instances}
 use Rattle.lb_static.specs.Names.{keeps_names, starts, is_well_founded}
 use Rattle.lb_static.specs.ReachedNodes.{source_names, tree_at}
 use Rattle.lb_static.specs.ResolvedNodes as resolved_node
 use Rattle.lb_static.specs.ResolvedNodes.{IsResolved}
 use Rattle.lb_static.specs.DataTypes.{variable_type, variables}
-use Rattle.lb_static.specs.Instantiation.{static_refusal, instantiation_refusal, has_no_parameters, has_plain_clocks, has_property, is_one_truth, is_root}
+use Rattle.lb_static.specs.Instantiation.{static_refusal, instantiation_refusal, has_no_parameters}
+use Rattle.lb_static.specs.Instantiation.{has_plain_clocks, has_property, is_one_truth, is_root}
 use Rattle.lb_static.specs.declared.elab.Elab.{Elab}
 use Rattle.lb_static.specs.declared.reach.Reached.{Reached}
 use Rattle.lb_static.specs.declared.resolved.ResolvedNode.{ResolvedNode}

@@ -1,22 +1,30 @@
 -- The streams of plain expressions come from those of the variables of their instance alone; so
 -- what solves the equations of a plain node keeps solving them where other names change.
-use Rattle.std.proofs.Common.{◌≡◌, ℕ, ◌+◌, true, false, Option, Some, None, IfSome, option_map, List, [], ◌∷◌, ◌++◌, map, flat_map, zip, pos, refl, sym, ap, ap₂, ◌∙◌, subst}
+use Rattle.std.proofs.Common.{◌≡◌, ℕ, ◌+◌, true, false, Option, Some, None, IfSome, option_map}
+use Rattle.std.proofs.Common.{List, [], ◌∷◌, ◌++◌, map, flat_map, zip, pos, refl, sym, ap, ap₂, ◌∙◌}
+use Rattle.std.proofs.Common.{subst}
 use Rattle.std.specs.List.{list_all}
 use Rattle.std.specs.Str.{bytes_eq}
 use Rattle.lb_syntax.specs.Lists.{Every, zip2, joined, all_some, either_or}
-use Rattle.lb_syntax.specs.Tree.{Name, Expr, Literal, Truth, Variable, Group, Unary, Binary, If, Arrow, Fby, Pre, Current, When, Replicate, Index, Slice, Join, Array, AtMostOne, Nor, Call, Iterate, Exprs, Nil, Cons, Declaration, Node, Statement, Equation, Assertion}
+use Rattle.lb_syntax.specs.Tree.{Name, Expr, Literal, Truth, Variable, Group, Unary, Binary, If}
+use Rattle.lb_syntax.specs.Tree.{Arrow, Fby, Pre, Current, When, Replicate, Index, Slice, Join}
+use Rattle.lb_syntax.specs.Tree.{Array, AtMostOne, Nor, Call, Iterate, Exprs, Nil, Cons}
+use Rattle.lb_syntax.specs.Tree.{Declaration, Node, Statement, Equation, Assertion}
 use Rattle.lb_static.specs.StaticValues.{named}
 use Rattle.lb_static.specs.Instances.{Program, Instance, name_value}
 use Rattle.lb_static.specs.DataTypes.{DataType, variables}
 use Rattle.lb_static.specs.Parts.{parts, parts_in, right_side}
 use Rattle.lb_static.specs.Instantiation.{are_same}
 use Rattle.lb_flat.specs.PlainNodes.{is_plain}
-use Rattle.lb_check.specs.Scalars.{Scalar, Integer, Boolean, Stream, or_fault, two_scalars, one_scalar, at_most_one, none_true, first_value}
+use Rattle.lb_check.specs.Scalars.{Scalar, Integer, Boolean, Stream, or_fault, two_scalars}
+use Rattle.lb_check.specs.Scalars.{one_scalar, at_most_one, none_true, first_value}
 use Rattle.lb_check.specs.Types.{data_types}
 use Rattle.lb_check.specs.TypeRules.{type_of_name, is_statement_typed}
 use Rattle.lb_check.specs.Clocks.{Clock, declared_clock}
-use Rattle.lb_check.specs.Occurrences.{Occurrence, at, call_count, occurrences, occurrences_in, statement_clock, right_sides}
-use Rattle.lb_check.specs.Streams.{History, presence, constantly, along, along_two, choices, previous, first_then, across, streams, all_streams}
+use Rattle.lb_check.specs.Occurrences.{Occurrence, at, call_count, occurrences, occurrences_in}
+use Rattle.lb_check.specs.Occurrences.{statement_clock, right_sides}
+use Rattle.lb_check.specs.Streams.{History, presence, constantly, along, along_two, choices}
+use Rattle.lb_check.specs.Streams.{previous, first_then, across, streams, all_streams}
 use Rattle.lb_check.specs.Solutions.{AreEqual}
 use Rattle.lb_flat.proofs.Lists.{Every-append, Every-first, Every-second}
 use Rattle.lb_flat.proofs.Bodies.{occurrences_of}

@@ -1,5 +1,7 @@
 -- A plain term stands for the same expression as the resolved term of its form.
-use Rattle.std.proofs.Common.{◌≡◌, ℕ, ◌+◌, ◌<◌, Bool, true, false, List, [], ◌∷◌, ◌++◌, length, map, take, get_or, Result, Ok, Err, Vec, Box, Global, MatchResult, refl, ap, sym, subst, ◌∙◌}
+use Rattle.std.proofs.Common.{◌≡◌, ℕ, ◌+◌, ◌<◌, Bool, true, false, List, [], ◌∷◌, ◌++◌, length, map}
+use Rattle.std.proofs.Common.{take, get_or, Result, Ok, Err, Vec, Box, Global, MatchResult, refl}
+use Rattle.std.proofs.Common.{ap, sym, subst, ◌∙◌}
 use Rattle.std.specs.Prelude.{◌&&◌}
 use Rattle.std.specs.List.{list_all}
 use Rattle.std.proofs.lemmas.List.{take_more}
@@ -16,8 +18,14 @@ use Rattle.lb_flat.specs.declared.error.FlatError.{FlatError}
 use Rattle.lb_flat.specs.declared.error.FlatError.TheVariants as error
 use Rattle.lb_flat.specs.declared.plain.term.PlainStatement.{PlainStatement}
 use Rattle.lb_flat.specs.declared.plain.term.PlainStatement.TheVariants as statement
-use Rattle.lb_flat.specs.declared.plain.term.Term.{Term, Literal, Truth, Variable, AtMostOne, Nor, Group', Unary', Binary', If', Arrow', Fby', Pre', AtMostOne', Nor', Row_of-Term, end_of-Term, more_of-Term, items-the_row-Term, items_hidden-the_row-Term-0}
-use Rattle.lb_flat.specs.UnsupportedForms.{has_plain_forms, have_plain_forms, is_plain_statement, IsPlainOf, IsRowOf, ArePlainOf, IsStatementOf, AreStatementsOf, IsUnsupported, TranslatesTerm}
+use Rattle.lb_flat.specs.declared.plain.term.Term.{Term, Literal, Truth, Variable, AtMostOne, Nor}
+use Rattle.lb_flat.specs.declared.plain.term.Term.{Group', Unary', Binary', If', Arrow', Fby', Pre'}
+use Rattle.lb_flat.specs.declared.plain.term.Term.{AtMostOne', Nor', Row_of-Term, end_of-Term}
+use Rattle.lb_flat.specs.declared.plain.term.Term.{more_of-Term, items-the_row-Term}
+use Rattle.lb_flat.specs.declared.plain.term.Term.{items_hidden-the_row-Term-0}
+use Rattle.lb_flat.specs.UnsupportedForms.{has_plain_forms, have_plain_forms, is_plain_statement}
+use Rattle.lb_flat.specs.UnsupportedForms.{IsPlainOf, IsRowOf, ArePlainOf, IsStatementOf}
+use Rattle.lb_flat.specs.UnsupportedForms.{AreStatementsOf, IsUnsupported, TranslatesTerm}
 use Rattle.lb_flat.specs.PlainNodes.{is_place, is_within, are_within, is_statement_within}
 use Rattle.lb_flat.specs.PlainTerms.{name_of, expr_of, row_of, statement_of}
 

@@ -1,6 +1,7 @@
 -- What solves a program on the beginning of a trace is the beginning of what solves it on the whole
 -- trace.
-use Rattle.std.proofs.Common.{◌≡◌, ℕ, zero, suc, true, ◌&&◌, None, List, [], ◌∷◌, ◌++◌, map, length, take, replicate, refl, sym, ap, ap₂, ◌∙◌}
+use Rattle.std.proofs.Common.{◌≡◌, ℕ, zero, suc, true, ◌&&◌, None, List, [], ◌∷◌, ◌++◌, map, length}
+use Rattle.std.proofs.Common.{take, replicate, refl, sym, ap, ap₂, ◌∙◌}
 use Rattle.lb_syntax.specs.Lists.{Every, zip2}
 use Rattle.lb_syntax.specs.Tree.{Declaration}
 use Rattle.lb_static.specs.Instances.{Program, Instance, Path, instances}
@@ -48,7 +49,7 @@ module _ (Z : Inputs) where
   -- ## Streams
 
   -- the streams of the run of a prefix are those of the whole run, as far as the prefix goes
-  streams_taken :
+  pub streams_taken :
       (size : ℕ) (Q : List FlatEquation) (X : Inputs) → Ready size [] Q →
       streams_of size (run size Q X)
       ≡ map (take (length X)) (streams_of size (run size Q (X ++ Z)))
@@ -108,7 +109,7 @@ module _ (Z : Inputs) where
         variables_prefix p ds h.1 g.1,
       )
 
-      instances_prefix :
+      pub instances_prefix :
           (is : List Instance) → Every (AgreeAt Part H') is → Every (AgreeAt Whole H) is →
           Every (IsPrefixAt H' H (length X)) is
       instances_prefix [] h g = tt

@@ -1,5 +1,7 @@
 -- One more equation of a program is put among its inputs, its steps or its constants.
-use Rattle.std.proofs.Common.{◌≡◌, ℕ, suc, ◌+◌, ◌<◌, Bool, true, false, cond, refl, arith, List, [], ◌∷◌, ◌++◌, map, length, drop, set, get_or, sym, ap, ◌∙◌, add-one, append_assoc, All}
+use Rattle.std.proofs.Common.{◌≡◌, ℕ, suc, ◌+◌, ◌<◌, Bool, true, false, cond, refl, arith, List, []}
+use Rattle.std.proofs.Common.{◌∷◌, ◌++◌, map, length, drop, set, get_or, sym, ap, ◌∙◌, add-one}
+use Rattle.std.proofs.Common.{append_assoc, All}
 use Rattle.std.proofs.Math.Seq.{drop-cons}
 use Rattle.std.proofs.lemmas.List.{map_push, length-map, append-nil}
 use Rattle.std.specs.Prelude.{not, ◌||◌}
@@ -9,11 +11,14 @@ use Rattle.lb_flat.specs.declared.equation.Equation.{Equation}
 use Rattle.lb_flat.specs.declared.equation.InputId.{InputId}
 use Rattle.lb_flat.specs.declared.equation.InputPlace.{InputPlace}
 use Rattle.lb_flat.specs.declared.equation.Operation.{Operation}
-use Rattle.lb_flat.specs.declared.equation.Operation.TheVariants.{Input, Constant, Copy, ApplyUnary, ApplyBinary, Choose, FirstThen, Previous, Latest, Sample}
+use Rattle.lb_flat.specs.declared.equation.Operation.TheVariants.{Input, Constant, Copy, ApplyUnary}
+use Rattle.lb_flat.specs.declared.equation.Operation.TheVariants.{ApplyBinary, Choose, FirstThen}
+use Rattle.lb_flat.specs.declared.equation.Operation.TheVariants.{Previous, Latest, Sample}
 use Rattle.lb_flat.specs.declared.equation.Clock.{Clock}
 use Rattle.lb_flat.specs.declared.cell.Cell.{Cell}
 use Rattle.lb_flat.specs.Flat.{FlatEquation}
-use Rattle.lb_flat.specs.Prepared.{is_input, is_fixed, is_step, has_memory, on_base, inputs_in, steps_in, fixed_in, memory_places, place_equation}
+use Rattle.lb_flat.specs.Prepared.{is_input, is_fixed, is_step, has_memory, on_base, inputs_in}
+use Rattle.lb_flat.specs.Prepared.{steps_in, fixed_in, memory_places, place_equation}
 use Rattle.lb_flat.specs.Run.{Row, now, filled}
 use Rattle.lb_flat.specs.Values.{cell_of, clock_of, operation_of, equation_of}
 use Rattle.lb_flat.specs.Within.{IsWithin}

@@ -1,6 +1,8 @@
 -- The rows of a recorded trace are a trace of a program with its signature, and a flat program in
 -- order gives its verdict.
-use Rattle.std.proofs.Common.{◌≡◌, ℕ, zero, suc, ◌<◌, ◌≤◌, Bool as Truth, true, ◌&&◌, ℤ, pos, List, [], ◌∷◌, map, length, get_or, slice_get, Some, None, refl, sym, ap, ap₂, subst, ◌∙◌, arith}
+use Rattle.std.proofs.Common.{◌≡◌, ℕ, zero, suc, ◌<◌, ◌≤◌, Bool as Truth, true, ◌&&◌, ℤ, pos, List}
+use Rattle.std.proofs.Common.{[], ◌∷◌, map, length, get_or, slice_get, Some, None, refl, sym, ap}
+use Rattle.std.proofs.Common.{ap₂, subst, ◌∙◌, arith}
 use Rattle.std.specs.List.{All}
 use Rattle.std.proofs.lemmas.Int.{ints}
 use Rattle.std.proofs.lemmas.Option.{slice_get-get_or, slice_get_past}
@@ -88,7 +90,7 @@ rows_given elements (row ∷ rows) h = (
 
 module _ (P : Program) (r : Recording) (k : ℕ) (same : signature P ≡ r.signature)
     (lawful : IsRecording r) (below : k < length r.traces) where
-  trace_given : IsTrace P (inputs_of r k)
+  pub trace_given : IsTrace P (inputs_of r k)
   trace_given =
       subst (λ (elements : Elements).
       Every (λ row. is_row (kinds_of elements) row ≡ true) (inputs_of r k)) (sym same)

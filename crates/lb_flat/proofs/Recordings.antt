@@ -1,12 +1,15 @@
 -- A lawful recording stays lawful with one more trace, and with one more row.
-use Rattle.std.proofs.Common.{ℕ, ◌≡◌, ◌≢◌, ◌+◌, ◌*◌, ◌<◌, ◌≤◌, List, [], ◌∷◌, ◌++◌, length, refl, sym, ap, ◌∙◌, subst, arith}
+use Rattle.std.proofs.Common.{ℕ, ◌≡◌, ◌≢◌, ◌+◌, ◌*◌, ◌<◌, ◌≤◌, List, [], ◌∷◌, ◌++◌, length, refl}
+use Rattle.std.proofs.Common.{sym, ap, ◌∙◌, subst, arith}
 use Rattle.std.proofs.lemmas.List.{length_push, map_push, get_or_default, get_or_at, take_at}
 use Rattle.std.proofs.lemmas.List.Elements.{All-push, All-nil, All-take}
 use Rattle.std.proofs.lemmas.List.Quantifiers.{all_pairs_push}
 use Rattle.std.proofs.lemmas.List.Sums.{sum_by_push}
 use Rattle.std.specs.List.{All, AllPairs, Contains}
 use Rattle.lb_static.specs.Signature.{Elements}
-use Rattle.lb_flat.specs.Traces.{Row, Trace, Traces, Recording, IsRecording, IsTrace, IsTraceName, IsRow, HasRoom, trace_names, instants_of, cells_of_instant, last_rows, with_row, with_trace}
+use Rattle.lb_flat.specs.Traces.{Row, Trace, Traces, Recording, IsRecording, IsTrace, IsTraceName}
+use Rattle.lb_flat.specs.Traces.{IsRow, HasRoom, trace_names, instants_of, cells_of_instant}
+use Rattle.lb_flat.specs.Traces.{last_rows, with_row, with_trace}
 
 -- no trace yet
 pub IsRecording-none : (elements : Elements) → IsRecording record

@@ -1,12 +1,15 @@
 -- The inputs of the node under test have as many elements as the signature, and the observer's are
 -- as wide as what it observes.
-use Rattle.std.proofs.Common.{◌≡◌, ℕ, ◌+◌, Option, Some, None, IfSome, option_map, List, [], ◌∷◌, ◌++◌, map, length, flat_map, refl, sym, ap, ◌∙◌, arith, length-append}
+use Rattle.std.proofs.Common.{◌≡◌, ℕ, ◌+◌, Option, Some, None, IfSome, option_map, List, [], ◌∷◌}
+use Rattle.std.proofs.Common.{◌++◌, map, length, flat_map, refl, sym, ap, ◌∙◌, arith, length-append}
 use Rattle.std.proofs.lemmas.List.{length-map}
 use Rattle.lb_syntax.specs.declared.tree.Kind.{Kind}
 use Rattle.lb_syntax.specs.Lists.{Every, either_or, listed}
 use Rattle.lb_syntax.specs.Tree.{Name, Declaration}
 use Rattle.lb_static.specs.Instances.{Program, Instance, Root, instance_at}
-use Rattle.lb_static.specs.DataTypes.{DataType, width, variable_type, element_count, product, element_names, index_text, scalar_elements, signature, input_kinds}
+use Rattle.lb_static.specs.DataTypes.{DataType, width, variable_type, element_count, product}
+use Rattle.lb_static.specs.DataTypes.{element_names, index_text, scalar_elements, signature}
+use Rattle.lb_static.specs.DataTypes.{input_kinds}
 use Rattle.lb_flat.specs.Layouts.{Layout}
 use Rattle.lb_flat.specs.Emit.{targets, input_targets}
 use Rattle.lb_flat.proofs.OutputWidths.{length-range}

@@ -1,11 +1,16 @@
 -- The equations of a program in order have exactly one row at an instant: the one that is filled.
-use Rattle.std.proofs.Common.{◌≡◌, ℕ, suc, ◌<◌, ◌≤◌, true, false, ◌&&◌, inl, inr, None, List, [], ◌∷◌, length, set, replicate, refl, sym, ap, ap₂, ◌∙◌, subst, arith, length-set}
+use Rattle.std.proofs.Common.{◌≡◌, ℕ, suc, ◌<◌, ◌≤◌, true, false, ◌&&◌, inl, inr, None, List, []}
+use Rattle.std.proofs.Common.{◌∷◌, length, set, replicate, refl, sym, ap, ap₂, ◌∙◌, subst, arith}
+use Rattle.std.proofs.Common.{length-set}
 use Rattle.std.proofs.lemmas.List.{get_or-set_same, get_or-set_other, length-replicate}
 use Rattle.lb_syntax.specs.Lists.{Every, In}
 use Rattle.lb_check.specs.Scalars.{Scalar, Cell, two_scalars, one_scalar}
 use Rattle.lb_check.specs.Streams.{held, one_cell, two_cells, sample, shows, newest}
-use Rattle.lb_flat.specs.Flat.{FlatClock, Always, Where, Operation, Input, Constant, Copy, ApplyUnary, ApplyBinary, Choose, FirstThen, Previous, Latest, Sample, FlatEquation}
-use Rattle.lb_flat.specs.Run.{Row, cell, is_now, chosen_cell, now, clock_reads, reads, IsNext, Ready, filled, row_of}
+use Rattle.lb_flat.specs.Flat.{FlatClock, Always, Where, Operation, Input, Constant, Copy}
+use Rattle.lb_flat.specs.Flat.{ApplyUnary, ApplyBinary, Choose, FirstThen, Previous, Latest, Sample}
+use Rattle.lb_flat.specs.Flat.{FlatEquation}
+use Rattle.lb_flat.specs.Run.{Row, cell, is_now, chosen_cell, now, clock_reads, reads, IsNext}
+use Rattle.lb_flat.specs.Run.{Ready, filled, row_of}
 use Rattle.lb_flat.proofs.Lists.{Every-first, Every-second}
 use Rattle.lb_flat.proofs.Stepping.{HoldsNow}
 

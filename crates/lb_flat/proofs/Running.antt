@@ -1,14 +1,19 @@
 -- A flat program in order has exactly one solution on each trace: what the run gives.
-use Rattle.std.proofs.Common.{◌≡◌, ℕ, zero, suc, ◌<◌, List, [], ◌∷◌, ◌++◌, map, length, replicate, refl, sym, ap, ap₂, ◌∙◌, subst, arith}
+use Rattle.std.proofs.Common.{◌≡◌, ℕ, zero, suc, ◌<◌, List, [], ◌∷◌, ◌++◌, map, length, replicate}
+use Rattle.std.proofs.Common.{refl, sym, ap, ap₂, ◌∙◌, subst, arith}
 use Rattle.std.proofs.lemmas.List.{length-map, length-replicate}
 use Rattle.lb_syntax.specs.Lists.{Every, In, zip2, tail_of}
 use Rattle.lb_check.specs.Scalars.{Scalar, Stream}
 use Rattle.lb_check.specs.Streams.{first_cell}
 use Rattle.lb_check.specs.Solutions.{Inputs}
-use Rattle.lb_flat.specs.Flat.{Operation, Input, Constant, Copy, ApplyUnary, ApplyBinary, Choose, FirstThen, Previous, Latest, Sample, FlatEquation, Holds, AreLong, FlatSolves}
-use Rattle.lb_flat.specs.Run.{Row, remembered, advanced, clock_reads, reads, keeps, IsNext, Ready, row_of, run, streams_of}
+use Rattle.lb_flat.specs.Flat.{Operation, Input, Constant, Copy, ApplyUnary, ApplyBinary, Choose}
+use Rattle.lb_flat.specs.Flat.{FirstThen, Previous, Latest, Sample, FlatEquation, Holds, AreLong}
+use Rattle.lb_flat.specs.Flat.{FlatSolves}
+use Rattle.lb_flat.specs.Run.{Row, remembered, advanced, clock_reads, reads, keeps, IsNext, Ready}
+use Rattle.lb_flat.specs.Run.{row_of, run, streams_of}
 use Rattle.lb_flat.proofs.Columns.{column_long, operate_long}
-use Rattle.lb_flat.proofs.Stepping.{HoldsNow, first_row, after_first, NowAndLater, now_and_later, from_now_and_later}
+use Rattle.lb_flat.proofs.Stepping.{HoldsNow, first_row, after_first, NowAndLater, now_and_later}
+use Rattle.lb_flat.proofs.Stepping.{from_now_and_later}
 use Rattle.lb_flat.proofs.Rows.{row_is, row_holds, length-row_of}
 
 -- ## The order stays
@@ -117,7 +122,7 @@ none_long [] h = refl
 none_long ([] ∷ F) h = ap (λ ys. [] ∷ ys) (none_long F h.1)
 none_long ((x ∷ xs) ∷ F) h = absurd (omega (arith, h.0))
 
-each_none_long : (n : ℕ) → AreLong [] (replicate n [])
+pub each_none_long : (n : ℕ) → AreLong [] (replicate n [])
 each_none_long zero = tt
 each_none_long (suc n) = (refl, each_none_long n)
 
@@ -125,7 +130,7 @@ no_cells : (xs : Stream) → length xs ≡ 0 → xs ≡ []
 no_cells [] e = refl
 no_cells (x ∷ xs) e = absurd (omega arith)
 
-none_holds : (Q : List FlatEquation) (F : List Stream) → AreLong [] F → Every (Holds [] F) Q
+pub none_holds : (Q : List FlatEquation) (F : List Stream) → AreLong [] F → Every (Holds [] F) Q
 none_holds [] F long = tt
 none_holds (q ∷ Q) F long = (
   no_cells _ (column_long [] F long q.element)

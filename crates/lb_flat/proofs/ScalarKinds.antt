@@ -1,16 +1,22 @@
 -- The operators give scalars of their kinds.
-use Rattle.std.proofs.Common.{◌≡◌, ◌≢◌, ℕ, zero, suc, ◌/◌, ◌<◌, ◌≤◌, Bool, true, false, ℤ, pos, negsuc, neg_ℤ, ◌+ℤ◌, ◌-ℤ◌, ◌*ℤ◌, int_div, int_rem, Option, Some, None, [], ◌∷◌, refl, subst, arith}
+use Rattle.std.proofs.Common.{◌≡◌, ◌≢◌, ℕ, zero, suc, ◌/◌, ◌<◌, ◌≤◌, Bool, true, false, ℤ, pos}
+use Rattle.std.proofs.Common.{negsuc, neg_ℤ, ◌+ℤ◌, ◌-ℤ◌, ◌*ℤ◌, int_div, int_rem, Option, Some, None}
+use Rattle.std.proofs.Common.{[], ◌∷◌, refl, subst, arith}
 use Rattle.std.specs.Int.Signed.{mag, mag_rem}
 use Rattle.std.proofs.Math.Nat.{div-le_self, div-one, div-lt_iff_lt-mul, div-le_of_le-mul}
 use Rattle.lb_syntax.specs.declared.tree.UnaryOperator.{UnaryOperator}
 use Rattle.lb_syntax.specs.declared.tree.UnaryOperator.TheVariants.{Not, Negate}
 use Rattle.lb_syntax.specs.declared.tree.BinaryOperator.{BinaryOperator}
-use Rattle.lb_syntax.specs.declared.tree.BinaryOperator.TheVariants.{Or, Xor, And, Implies, Equal, Unequal, Less, AtMost, Greater, AtLeast, Plus, Minus, Times, Divide, Modulo}
+use Rattle.lb_syntax.specs.declared.tree.BinaryOperator.TheVariants.{Or, Xor, And, Implies, Equal}
+use Rattle.lb_syntax.specs.declared.tree.BinaryOperator.TheVariants.{Unequal, Less, AtMost, Greater}
+use Rattle.lb_syntax.specs.declared.tree.BinaryOperator.TheVariants.{AtLeast, Plus, Minus, Times}
+use Rattle.lb_syntax.specs.declared.tree.BinaryOperator.TheVariants.{Divide, Modulo}
 use Rattle.lb_syntax.specs.declared.tree.Kind.{Kind}
 use Rattle.lb_syntax.specs.declared.tree.Kind.TheVariants.{Int, Bool as Truth}
 use Rattle.lb_syntax.specs.Lists.{where_true}
 use Rattle.lb_static.specs.Arithmetic.{is_int, is_divisible}
-use Rattle.lb_check.specs.Scalars.{Scalar, Integer, Boolean, Nil, Bad, strict, or_fault, two_scalars, one_scalar, chosen, is_of_kind}
+use Rattle.lb_check.specs.Scalars.{Scalar, Integer, Boolean, Nil, Bad, strict, or_fault}
+use Rattle.lb_check.specs.Scalars.{two_scalars, one_scalar, chosen, is_of_kind}
 
 -- ## Results in the range of `int`
 

@@ -1,6 +1,8 @@
 -- The streams that solve the flat program of a program, put in order, stand for a history that
 -- solves the program.
-use Rattle.std.proofs.Common.{◌≡◌, ℕ, zero, suc, ◌<◌, ◌≤◌, Bool, true, false, inl, inr, Some, None, List, [], ◌∷◌, length, replicate, refl, sym, ap, ap₂, ◌∙◌, subst, arith}
+use Rattle.std.proofs.Common.{◌≡◌, ℕ, zero, suc, ◌<◌, ◌≤◌, Bool, true, false, inl, inr, Some, None}
+use Rattle.std.proofs.Common.{List, [], ◌∷◌, length, replicate, refl, sym, ap, ap₂, ◌∙◌, subst}
+use Rattle.std.proofs.Common.{arith}
 use Rattle.std.proofs.Math.ListN.{get_or-eq_default}
 use Rattle.std.proofs.lemmas.List.{length-map}
 use Rattle.lb_syntax.specs.declared.tree.BinaryOperator.TheVariants.{Or, And}
@@ -13,7 +15,8 @@ use Rattle.lb_static.specs.DataTypes.{variables, width, input_kinds}
 use Rattle.lb_check.specs.Scalars.{Integer, Boolean, Nil, Bad, Stream}
 use Rattle.lb_check.specs.Clocks.{declared_clock}
 use Rattle.lb_check.specs.Solutions.{Inputs, fits, is_row, Fits, SolvesAt, Solves}
-use Rattle.lb_flat.specs.Flat.{FlatClock, Always, Operation, ApplyBinary, FlatEquation, column, instants, Holds, FlatSolves}
+use Rattle.lb_flat.specs.Flat.{FlatClock, Always, Operation, ApplyBinary, FlatEquation, column}
+use Rattle.lb_flat.specs.Flat.{instants, Holds, FlatSolves}
 use Rattle.lb_flat.specs.Run.{Ready}
 use Rattle.lb_flat.specs.Layouts.{Layout, flat_clock}
 use Rattle.lb_flat.specs.Emit.{expanded}
@@ -53,7 +56,7 @@ fitting_ordered inputs K N Q Q' o fit = record {
 
 -- ## Truth values
 
-fits_truths : (bs : List Bool) (xs : Stream) → fits Truth bs xs ≡ true → Every IsTruth xs
+pub fits_truths : (bs : List Bool) (xs : Stream) → fits Truth bs xs ≡ true → Every IsTruth xs
 fits_truths bs [] e = tt
 fits_truths [] (x ∷ xs) e = cc
 fits_truths (true ∷ bs) (None ∷ xs) e = cc
@@ -64,7 +67,7 @@ fits_truths (true ∷ bs) (Some (Boolean b) ∷ xs) e = (tt, fits_truths bs xs e
 fits_truths (true ∷ bs) (Some Nil ∷ xs) e = (tt, fits_truths bs xs e)
 fits_truths (true ∷ bs) (Some Bad ∷ xs) e = (tt, fits_truths bs xs e)
 
-absent_truths : (n : ℕ) → Every IsTruth (replicate n None)
+pub absent_truths : (n : ℕ) → Every IsTruth (replicate n None)
 absent_truths zero = tt
 absent_truths (suc n) = (tt, absent_truths n)
 

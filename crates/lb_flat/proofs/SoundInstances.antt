@@ -1,14 +1,18 @@
 -- An instance that is typed is sound: its equations and its calls have the widths of their types.
-use Rattle.std.proofs.Common.{◌≡◌, ℕ, ◌+◌, ◌<◌, true, Option, Some, None, List, [], ◌∷◌, map, refl, subst}
+use Rattle.std.proofs.Common.{◌≡◌, ℕ, ◌+◌, ◌<◌, true, Option, Some, None, List, [], ◌∷◌, map, refl}
+use Rattle.std.proofs.Common.{subst}
 use Rattle.std.specs.List.{list_all}
 use Rattle.lb_syntax.specs.Lists.{Every, all_some}
-use Rattle.lb_syntax.specs.Tree.{Node_named, Expr, Call, Iterate, Node, Statement, Equation, Assertion}
+use Rattle.lb_syntax.specs.Tree.{Node_named, Expr, Call, Iterate, Node, Statement, Equation}
+use Rattle.lb_syntax.specs.Tree.{Assertion}
 use Rattle.lb_static.specs.Instances.{Program, Instance, Child, node_named}
 use Rattle.lb_static.specs.DataTypes.{DataType, truth, variables}
 use Rattle.lb_check.specs.Types.{data_types}
 use Rattle.lb_check.specs.TypeRules.{type_of_name, is_clock_typed, is_statement_typed, is_typed}
 use Rattle.lb_check.specs.Clocks.{Clock, base_clock}
-use Rattle.lb_check.specs.Occurrences.{Occurrence, call_count, call_clocks, occurrences, occurrences_each, statement_clock, right_sides, node_occurrences}
+use Rattle.lb_check.specs.Occurrences.{Occurrence, call_count, call_clocks, occurrences}
+use Rattle.lb_check.specs.Occurrences.{occurrences_each, statement_clock, right_sides}
+use Rattle.lb_check.specs.Occurrences.{node_occurrences}
 use Rattle.lb_check.specs.Streams.{History, number}
 use Rattle.lb_flat.specs.Layouts.{Layout, flat_clock}
 use Rattle.lb_flat.proofs.Lists.{Every-map, Every-both, Every-append, Every-first, Every-second}
@@ -78,7 +82,7 @@ module _ (Y : Layout) (P : Program) (H : History) (here : Instance) where
         Every (IsTypedAt P H here) (occurrences P here.node k n e)
     statement_typed e lefts k n t w = typed P H here k n e t.right t.is_right w
 
-    body_typed :
+    pub body_typed :
         (n : ℕ) (body : List Statement) → list_all (is_statement_typed P here) body ≡ true →
         AllWide (occurrences_of P here.node (right_sides P here.node n body)) →
         Every (IsTypedAt P H here) (occurrences_of P here.node (right_sides P here.node n body))

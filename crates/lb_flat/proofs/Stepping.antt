@@ -1,11 +1,15 @@
 -- An equation holds of streams where it holds of their first row, and of the rest with its memory
 -- moved on.
-use Rattle.std.proofs.Common.{◌≡◌, ℕ, zero, suc, true, false, ◌&&◌, Some, None, List, [], ◌∷◌, map, length, refl, sym, ap, ap₂, ◌∙◌, arith}
+use Rattle.std.proofs.Common.{◌≡◌, ℕ, zero, suc, true, false, ◌&&◌, Some, None, List, [], ◌∷◌, map}
+use Rattle.std.proofs.Common.{length, refl, sym, ap, ap₂, ◌∙◌, arith}
 use Rattle.lb_syntax.specs.Lists.{Every, zip2, tail_of}
 use Rattle.lb_check.specs.Scalars.{Scalar, Cell, Stream, two_scalars, one_scalar}
-use Rattle.lb_check.specs.Streams.{constantly, along, along_two, choice, previous, first_then, sample, latest, shows, first_cell}
+use Rattle.lb_check.specs.Streams.{constantly, along, along_two, choice, previous, first_then}
+use Rattle.lb_check.specs.Streams.{sample, latest, shows, first_cell}
 use Rattle.lb_check.specs.Solutions.{Inputs}
-use Rattle.lb_flat.specs.Flat.{FlatClock, Always, Where, Operation, Input, Constant, Copy, ApplyUnary, ApplyBinary, Choose, FirstThen, Previous, Latest, Sample, FlatEquation, column, instants, operate, Holds, AreLong}
+use Rattle.lb_flat.specs.Flat.{FlatClock, Always, Where, Operation, Input, Constant, Copy}
+use Rattle.lb_flat.specs.Flat.{ApplyUnary, ApplyBinary, Choose, FirstThen, Previous, Latest, Sample}
+use Rattle.lb_flat.specs.Flat.{FlatEquation, column, instants, operate, Holds, AreLong}
 use Rattle.lb_flat.specs.Run.{Row, cell, is_now, now, started_by, remembered, advanced}
 use Rattle.lb_flat.proofs.Columns.{choice_step, latest_step}
 

@@ -1,5 +1,7 @@
 -- What an iteration of the evaluator's loops keeps.
-use Rattle.std.proofs.Common.{◌≡◌, ◌<◌, ◌≤◌, ℕ, zero, suc, ◌+◌, ◌-◌, Bool, true, false, ◌&&◌, ◌||◌, Option, Some, None, List, [], ◌∷◌, length, map, drop, set, get_or, refl, sym, ap, ◌∙◌, subst, arith, All, add-one, length-set}
+use Rattle.std.proofs.Common.{◌≡◌, ◌<◌, ◌≤◌, ℕ, zero, suc, ◌+◌, ◌-◌, Bool, true, false, ◌&&◌, ◌||◌}
+use Rattle.std.proofs.Common.{Option, Some, None, List, [], ◌∷◌, length, map, drop, set, get_or}
+use Rattle.std.proofs.Common.{refl, sym, ap, ◌∙◌, subst, arith, All, add-one, length-set}
 use Rattle.std.proofs.Math.Seq.{drop-cons}
 use Rattle.std.specs.List.{range_with_len}
 use Rattle.std.proofs.lemmas.Option.{slice_get-get_or}
@@ -20,9 +22,11 @@ use Rattle.lb_flat.specs.declared.equation.Equation.{Equation}
 use Rattle.lb_flat.specs.Within.{IsClock, AreClocks, IsWithin}
 use Rattle.lb_flat.specs.Flat.{FlatEquation}
 use Rattle.lb_flat.specs.Prepared.{memory_places}
-use Rattle.lb_flat.proofs.Memories.{moved, all_moved, moved_is, memories_moved, places_within, every_at}
+use Rattle.lb_flat.proofs.Memories.{moved, all_moved, moved_is, memories_moved, places_within}
+use Rattle.lb_flat.proofs.Memories.{every_at}
 use Rattle.lb_flat.proofs.Running.{reads_same, keeps_same}
-use Rattle.lb_flat.specs.Values.{cell_of, clock_within, clock_from, clock_of, operation_of, equation_of}
+use Rattle.lb_flat.specs.Values.{cell_of, clock_within, clock_from, clock_of, operation_of}
+use Rattle.lb_flat.specs.Values.{equation_of}
 
 -- ## Clocks
 

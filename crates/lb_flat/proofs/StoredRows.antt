@@ -1,13 +1,19 @@
 -- Rows that lie one after the other: what stands at a place, and all traces after one more row.
-use Rattle.std.proofs.Common.{ℕ, zero, suc, ◌≡◌, ◌+◌, ◌-◌, ◌*◌, ◌<◌, ◌≤◌, List, [], ◌∷◌, ◌++◌, length, map, get_or, set, take, drop, refl, sym, ap, ◌∙◌, ℤ, pos, arith, length-append, length-drop, length-set, get_or-set_same}
-use Rattle.std.proofs.lemmas.List.{get_or_append_left, get_or_push, length_push, drop_at, take_all, take-append-le, drop-append-le, get_or-take, get_or-drop, same_lists}
-use Rattle.std.proofs.lemmas.List.FromFn.{length-map-range_with_len, get_or-map-range_with_len, map-range_with_len_more, sum_by-map-range_with_len_more}
+use Rattle.std.proofs.Common.{ℕ, zero, suc, ◌≡◌, ◌+◌, ◌-◌, ◌*◌, ◌<◌, ◌≤◌, List, [], ◌∷◌, ◌++◌}
+use Rattle.std.proofs.Common.{length, map, get_or, set, take, drop, refl, sym, ap, ◌∙◌, ℤ, pos}
+use Rattle.std.proofs.Common.{arith, length-append, length-drop, length-set, get_or-set_same}
+use Rattle.std.proofs.lemmas.List.{get_or_append_left, get_or_push, length_push, drop_at, take_all}
+use Rattle.std.proofs.lemmas.List.{take-append-le, drop-append-le, get_or-take, get_or-drop}
+use Rattle.std.proofs.lemmas.List.{same_lists}
+use Rattle.std.proofs.lemmas.List.FromFn.{length-map-range_with_len, get_or-map-range_with_len}
+use Rattle.std.proofs.lemmas.List.FromFn.{map-range_with_len_more, sum_by-map-range_with_len_more}
 use Rattle.std.proofs.Math.Nat.{mul-le-mul_right}
 use Rattle.std.specs.List.{range_with_len}
 use Rattle.lb_flat.specs.Traces.{Row, Trace, cell_at, trace_at, with_row, with_trace, instants_of}
 use Rattle.lb_flat.specs.Ledger.{IsLedger, place, last_place}
 use Rattle.lb_flat.specs.Stored.{row_of, rows_between, stored_traces, AreRows}
-use Rattle.lb_flat.proofs.Ledgers.{IsLedger-push, last_place-push, place-push_before, place-le-last, map-range-agree, place-set_before, last_place-set, IsLedger-set}
+use Rattle.lb_flat.proofs.Ledgers.{IsLedger-push, last_place-push, place-push_before, place-le-last}
+use Rattle.lb_flat.proofs.Ledgers.{map-range-agree, place-set_before, last_place-set, IsLedger-set}
 use Rattle.lb_flat.proofs.Recordings.{with_row-push}
 
 -- a row from a place on ends within a list that holds the rows after it

@@ -1,15 +1,20 @@
 -- What a set holds, after one more trace and after one more row.
-use Rattle.std.proofs.Common.{ℕ, ◌≡◌, ◌+◌, ◌-◌, ◌*◌, ◌<◌, ◌≤◌, List, [], ◌∷◌, ◌++◌, length, get_or, set, sym, ap, ◌∙◌, subst, ℤ, pos, arith}
+use Rattle.std.proofs.Common.{ℕ, ◌≡◌, ◌+◌, ◌-◌, ◌*◌, ◌<◌, ◌≤◌, List, [], ◌∷◌, ◌++◌, length, get_or}
+use Rattle.std.proofs.Common.{set, sym, ap, ◌∙◌, subst, ℤ, pos, arith}
 use Rattle.std.proofs.lemmas.List.{get_or_read}
 use Rattle.std.proofs.lemmas.Slice.Zip.{AllZip-long}
 use Rattle.std.proofs.Math.Nat.{mul-le-mul_left}
 use Rattle.std.specs.List.{Contains}
 use Rattle.lb_static.specs.Signature.{Elements}
-use Rattle.lb_flat.specs.Traces.{Row, Trace, Traces, Recording, IsRecording, IsTrace, IsTraceName, IsRow, IsCell, HasRoom, trace_names, trace_at, cell_at, instants_of, cells_of_instant, last_rows, with_row, with_trace}
+use Rattle.lb_flat.specs.Traces.{Row, Trace, Traces, Recording, IsRecording, IsTrace, IsTraceName}
+use Rattle.lb_flat.specs.Traces.{IsRow, IsCell, HasRoom, trace_names, trace_at, cell_at}
+use Rattle.lb_flat.specs.Traces.{instants_of, cells_of_instant, last_rows, with_row, with_trace}
 use Rattle.lb_flat.specs.Ledger.{place, last_place}
 use Rattle.lb_flat.specs.Stored.{stored, stored_traces, IsStored}
 use Rattle.lb_flat.proofs.Recordings.{IsRecording-trace, IsRecording-row}
-use Rattle.lb_flat.proofs.StoredRows.{stored-trace, stored-row, AreRows-trace, AreRows-row, instants-stored, length-stored, trace_at-stored, length-rows_between, cell_at-stored, cell_within}
+use Rattle.lb_flat.proofs.StoredRows.{stored-trace, stored-row, AreRows-trace, AreRows-row}
+use Rattle.lb_flat.proofs.StoredRows.{instants-stored, length-stored, trace_at-stored}
+use Rattle.lb_flat.proofs.StoredRows.{length-rows_between, cell_at-stored, cell_within}
 
 -- a row that follows a signature is as long as it
 pub length-row : (elements : Elements) (row : Row) → IsRow elements row →

@@ -1,18 +1,52 @@
--- How the table of equations grows.
-use Rattle.std.proofs.Common.{◌≡◌, ℕ, zero, suc, ◌+◌, ◌<◌, true, false, Option, Some, None, List, [], ◌∷◌, ◌++◌, length, replicate, get_or, set, take, All, refl, sym, ap, subst, ◌∙◌, arith, inl, inr, ⊎_elim, length-set}
+-- How the table of equations grows, and what is ordered by it.
+use Rattle.std.proofs.Common.{◌≡◌, ℕ, zero, suc, ◌+◌, ◌<◌, true, false, Option, Some, None, List}
+use Rattle.std.proofs.Common.{[], ◌∷◌, ◌++◌, length, map, replicate, get_or, set, take, All, refl}
+use Rattle.std.proofs.Common.{sym, ap, subst, ◌∙◌, arith, inl, inr, ⊎_elim, length-set}
 use Rattle.std.proofs.lemmas.Bool.{cases_eq}
 use Rattle.std.proofs.lemmas.List.{get_or-set_same, get_or-set_other, take_more}
-use Rattle.lb_syntax.specs.Lists.{In}
+use Rattle.lb_syntax.specs.Lists.{AreApart, In}
 use Rattle.lb_flat.specs.declared.equation.Clock.{Clock}
 use Rattle.lb_flat.specs.declared.equation.Equation.{Equation}
 use Rattle.lb_flat.specs.declared.program.FlatProgram.{FlatProgram}
+use Rattle.lb_flat.specs.Flat.{FlatEquation}
+use Rattle.lb_flat.specs.GivenOnce.{IsGiven}
 use Rattle.lb_flat.specs.InOrder.{is_in_order}
-use Rattle.lb_flat.specs.Ordering.{AreOrdered, AreScheduled, IsTable, IsTableOf, IsEntered}
-use Rattle.lb_flat.specs.Programs.{flat_equations, IsInRange}
-use Rattle.lb_flat.specs.Stuck.{CannotOrder, GivenTwice}
+use Rattle.lb_flat.specs.Ordering.{AreOrdered, AreScheduled, IsTable, IsTableOf}
+use Rattle.lb_flat.specs.Programs.{flat_equations, program_of, IsInRange}
 use Rattle.lb_flat.specs.Values.{equation_of}
 use Rattle.lb_flat.specs.Within.{IsWithin, AreClocks}
-use Rattle.lb_flat.proofs.Ordering.{In-left, In-last, In-cases, In-get_or, In-map, In-All, All-In, from_map}
+use Rattle.lb_flat.proofs.Ordering.{In-left, In-last, In-cases, In-get_or, In-map, In-All, All-In}
+use Rattle.lb_flat.proofs.Ordering.{from_map}
+
+-- ## Equations of different elements
+
+abbrev pub elements_of : List Equation → List ℕ
+elements_of qs = map (λ q. q.element.0) qs
+
+flat_elements :
+    (clocks : List Clock) (qs : List Equation) →
+    map (λ q. q.element) (flat_equations clocks qs) ≡ elements_of qs
+flat_elements clocks [] = refl
+flat_elements clocks (q ∷ qs) = ap (λ is. q.element.0 ∷ is) (flat_elements clocks qs)
+
+-- the equations of a program are of different elements
+pub elements_apart :
+    (p : FlatProgram) → IsGiven (program_of p) → AreApart (elements_of p.equations.items)
+elements_apart p given =
+    subst AreApart (flat_elements p.clocks.items p.equations.items) given.once
+
+-- no equation before a place is of its element
+pub new_element :
+    (qs : List Equation) (i : ℕ) (d : Equation) (p : Equation) → AreApart (elements_of qs) →
+    i < length qs → In p (take i qs) → p.element.0 ≡ (get_or qs i d).element.0 → ⊥
+new_element [] i d p h lt is same = absurd (omega arith)
+new_element (q ∷ qs) zero d p h lt is same = is
+new_element (q ∷ qs) (suc i) d p h lt (inl e) same =
+    h.0 (subst (λ n. In n (elements_of qs))
+    (sym same ∙ ap (λ (x : Equation). x.element.0) (sym e))
+    (In-map (λ (x : Equation). x.element.0) (get_or qs i d) qs (In-get_or qs i d (omega arith))))
+new_element (q ∷ qs) (suc i) d p h lt (inr is) same =
+    new_element qs i d p h.1 (omega arith) is same
 
 -- ## Tables
 
@@ -29,9 +63,9 @@ same_entry : (o : Option Equation) (p q : Equation) → o ≡ Some p → o ≡ S
 same_entry o p q h k = cc
 
 pub empty_table :
-    (clocks : List Clock) (table : List (Option Equation)) →
-    table ≡ replicate (length table) None → IsTableOf (length table) clocks [] table
-empty_table clocks table empty =
+    (table : List (Option Equation)) → table ≡ replicate (length table) None →
+    IsTableOf (length table) [] table
+empty_table table empty =
     let none = λ (e : ℕ). ap (λ t. get_or t e None) empty ∙ none_in (length table) e in
     record {
       entries = refl;
@@ -40,118 +74,66 @@ empty_table clocks table empty =
       each = λ q i. absurd i;
     }
 
-module _ (size : ℕ) (clocks : List Clock) (qs : List Equation) (table : List (Option Equation))
-    (q : Equation) (t : IsTableOf size clocks qs table) where
-  -- a table with one equation more
-  module _ (new : get_or table q.element.0 None ≡ None) (lt : q.element.0 < length table) where
-    abbrev more : List (Option Equation)
-    more = set table q.element.0 (Some q)
+-- a table with one equation more
+module _ (size : ℕ) (qs : List Equation) (table : List (Option Equation)) (q : Equation)
+    (t : IsTableOf size qs table)
+    (new : (p : Equation) → In p qs → p.element.0 ≡ q.element.0 → ⊥)
+    (lt : q.element.0 < length table) where
+  abbrev more : List (Option Equation)
+  more = set table q.element.0 (Some q)
 
-    here : get_or more q.element.0 None ≡ Some q
-    here = get_or-set_same table q.element.0 (Some q) None lt
+  here : get_or more q.element.0 None ≡ Some q
+  here = get_or-set_same table q.element.0 (Some q) None lt
 
-    elsewhere : (e : ℕ) → (e ≡ q.element.0 → ⊥) → get_or more e None ≡ get_or table e None
-    elsewhere e other = get_or-set_other table q.element.0 e (Some q) None other
+  elsewhere : (e : ℕ) → (e ≡ q.element.0 → ⊥) → get_or more e None ≡ get_or table e None
+  elsewhere e other = get_or-set_other table q.element.0 e (Some q) None other
 
-    at : (e : ℕ) (p : Equation) → e ≡ q.element.0 → get_or more e None ≡ Some p → q ≡ p
-    at e p same h =
-        same_entry (get_or more e None) q p (ap (λ i. get_or more i None) same ∙ here) h
+  at : (e : ℕ) (p : Equation) → e ≡ q.element.0 → get_or more e None ≡ Some p → q ≡ p
+  at e p same h =
+      same_entry (get_or more e None) q p (ap (λ i. get_or more i None) same ∙ here) h
 
-    pub new_entry : IsTableOf size clocks (qs ++ q ∷ []) more
-    new_entry = record {
-      entries = length-set table q.element.0 (Some q) ∙ t.entries;
-      listed = λ e p h.
-          ⊎_elim
-          (λ (same : e ≡ q.element.0).
-          subst (λ x. In x (qs ++ q ∷ [])) (at e p same h) (In-last q qs))
-          (λ (other : e ≡ q.element.0 → ⊥).
-          In-left p qs (q ∷ []) (t.listed e p (sym (elsewhere e other) ∙ h)))
-          (cases_eq e q.element.0);
-      own = λ e p h.
-          ⊎_elim
-          (λ (same : e ≡ q.element.0). ap (λ x. x.element.0) (sym (at e p same h)) ∙ sym same)
-          (λ (other : e ≡ q.element.0 → ⊥). t.own e p (sym (elsewhere e other) ∙ h))
-          (cases_eq e q.element.0);
-      each = λ p i.
-          ⊎_elim
-          (λ (earlier : In p qs).
-          let s = t.each p earlier in
-          record {
-            entry = s.entry;
-            stands =
-                elsewhere p.element.0
-                (λ same. not_none (get_or table p.element.0 None) s.entry
-                (ap (λ j. get_or table j None) same ∙ new) s.stands)
-                ∙ s.stands;
-            same = s.same;
-          })
-          (λ (last : q ≡ p).
-          subst (IsEntered clocks more) last (record { entry = q; stands = here; same = refl }))
-          (In-cases p q qs i);
-    }
+  new_entry : IsTableOf size (qs ++ q ∷ []) more
+  new_entry = record {
+    entries = length-set table q.element.0 (Some q) ∙ t.entries;
+    listed = λ e p h.
+        ⊎_elim
+        (λ (same : e ≡ q.element.0).
+        subst (λ x. In x (qs ++ q ∷ [])) (at e p same h) (In-last q qs))
+        (λ (other : e ≡ q.element.0 → ⊥).
+        In-left p qs (q ∷ []) (t.listed e p (sym (elsewhere e other) ∙ h)))
+        (cases_eq e q.element.0);
+    own = λ e p h.
+        ⊎_elim
+        (λ (same : e ≡ q.element.0). ap (λ x. x.element.0) (sym (at e p same h)) ∙ sym same)
+        (λ (other : e ≡ q.element.0 → ⊥). t.own e p (sym (elsewhere e other) ∙ h))
+        (cases_eq e q.element.0);
+    each = λ p i.
+        ⊎_elim
+        (λ (earlier : In p qs). elsewhere p.element.0 (new p earlier) ∙ t.each p earlier)
+        (λ (last : q ≡ p). subst (λ x. get_or more x.element.0 None ≡ Some x) last here)
+        (In-cases p q qs i);
+  }
 
-  module _ (p : Equation) (stands : get_or table q.element.0 None ≡ Some p) where
-    pub old_entry :
-        equation_of clocks p ≡ equation_of clocks q → IsTableOf size clocks (qs ++ q ∷ []) table
-    old_entry same = record {
-      entries = t.entries;
-      listed = λ e r h. In-left r qs (q ∷ []) (t.listed e r h);
-      own = t.own;
-      each = λ r i.
-          ⊎_elim (t.each r)
-          (λ (last : q ≡ r).
-          subst (IsEntered clocks table) last
-          (record { entry = p; stands = stands; same = same }))
-          (In-cases r q qs i);
-    }
-
--- ## Loops
-
-In-take : {A : Type 0} (n : ℕ) (xs : List A) (a : A) → In a (take n xs) → In a xs
-In-take zero xs a h = absurd h
-In-take (suc n) [] a h = absurd h
-In-take (suc n) (x ∷ xs) a (inl e) = inl e
-In-take (suc n) (x ∷ xs) a (inr h) = inr (In-take n xs a h)
-
-module _ (size : ℕ) (clocks : List Clock) (all : List Equation) (table : List (Option Equation))
-    (i : ℕ) (d : Equation) (lt : i < length all)
-    (t : IsTableOf size clocks (take i all) table) where
-  abbrev q : Equation
-  q = get_or all i d
-
-  pub enters :
-      get_or table q.element.0 None ≡ None → All (IsWithin size clocks) all →
-      IsTableOf size clocks (take (i + 1) all) (set table q.element.0 (Some q))
-  enters new within =
-      let w = within i d lt in
-      subst (λ qs. IsTableOf size clocks qs (set table q.element.0 (Some q)))
-      (sym (take_more all i d lt))
-      (new_entry size clocks (take i all) table q t new (omega (arith, w.element, t.entries)))
-
-  module _ (p : Equation) (stands : get_or table q.element.0 None ≡ Some p) where
-    pub passes_over :
-        equation_of clocks p ≡ equation_of clocks q →
-        IsTableOf size clocks (take (i + 1) all) table
-    passes_over same =
-        subst (λ qs. IsTableOf size clocks qs table) (sym (take_more all i d lt))
-        (old_entry size clocks (take i all) table q t p stands same)
-
-    pub refuses :
-        (equation_of clocks p ≡ equation_of clocks q → ⊥) →
-        CannotOrder size (flat_equations clocks all)
-    refuses differ =
-        GivenTwice (equation_of clocks p) (equation_of clocks q)
-        (In-map (equation_of clocks) p all
-        (In-take i all p (t.listed q.element.0 p stands)))
-        (In-map (equation_of clocks) q all (In-get_or all i d lt))
-        (t.own q.element.0 p stands) differ
+-- one equation more of a list is entered
+pub enters :
+    (size : ℕ) (all : List Equation) (table : List (Option Equation)) (i : ℕ) (d : Equation) →
+    i < length all → IsTableOf size (take i all) table → AreApart (elements_of all) →
+    All (λ q. q.element.0 < size) all →
+    IsTableOf size (take (i + 1) all)
+    (set table (get_or all i d).element.0 (Some (get_or all i d)))
+enters size all table i d lt t apart within =
+    let q = get_or all i d in
+    subst (λ qs. IsTableOf size qs (set table q.element.0 (Some q))) (sym (take_more all i d lt))
+    (new_entry size (take i all) table q t
+    (λ p is same. new_element all i d p apart lt is same)
+    (omega (arith, within i d lt, t.entries)))
 
 -- ## The order
 
 module _ (p : FlatProgram) (table : List (Option Equation))
-    (t : IsTableOf p.size p.clocks.items p.equations.items table) where
-  pub is_table : IsInRange p → IsTable p.clocks.items table
-  is_table range = record {
+    (t : IsTableOf p.size p.equations.items table) (range : IsInRange p) where
+  pub is_table : IsTable p.clocks.items table
+  is_table = record {
     table_clocks = subst (λ n. AreClocks n p.clocks.items) (sym t.entries) range.clocks;
     own = t.own;
     within = λ e q h.
@@ -164,31 +146,29 @@ module _ (p : FlatProgram) (table : List (Option Equation))
     listed : (q : Equation) → In q out → In q p.equations.items
     listed q i = t.listed q.element.0 q (scheduled.entries q i)
 
-    holds : IsInRange p → (q : Equation) → In q p.equations.items →
-        In (equation_of p.clocks.items q) (flat_equations p.clocks.items out)
-    holds range q i =
-        let e = t.each q i in
+    holds : (q : Equation) → In q p.equations.items → In q out
+    holds q i =
         let w = In-All (IsWithin p.size p.clocks.items) q p.equations.items range.equations i in
-        subst (λ x. In x (flat_equations p.clocks.items out)) e.same
-        (In-map (equation_of p.clocks.items) e.entry out
-        (scheduled.holds q.element.0 e.entry (omega (arith, w.element, t.entries)) e.stands))
+        scheduled.holds q.element.0 q (omega (arith, w.element, t.entries)) (t.each q i)
 
-    pub are_ordered : IsInRange p → AreOrdered p out
-    are_ordered range = record {
+    -- the same equations, under the table of their clocks
+    moved :
+        (qs rs : List Equation) → ((q : Equation) → In q qs → In q rs) → (x : FlatEquation) →
+        In x (flat_equations p.clocks.items qs) → In x (flat_equations p.clocks.items rs)
+    moved qs rs f x i =
+        let s = from_map (equation_of p.clocks.items) x qs i in
+        subst (λ y. In y (flat_equations p.clocks.items rs)) s.is
+        (In-map (equation_of p.clocks.items) s.source rs (f s.source s.is_in))
+
+    pub are_ordered : AreOrdered p out
+    are_ordered = record {
       within =
           All-In (IsWithin p.size p.clocks.items) out
           (λ q i. In-All (IsWithin p.size p.clocks.items) q p.equations.items range.equations
           (listed q i));
       ordering = record {
-        there = λ x i.
-            let s = from_map (equation_of p.clocks.items) x p.equations.items i in
-            subst (λ y. In y (flat_equations p.clocks.items out)) s.is
-            (holds range s.source s.is_in);
-        back = λ x i.
-            let s = from_map (equation_of p.clocks.items) x out i in
-            subst (λ y. In y (flat_equations p.clocks.items p.equations.items)) s.is
-            (In-map (equation_of p.clocks.items) s.source p.equations.items
-            (listed s.source s.is_in));
+        there = moved p.equations.items out holds;
+        back = moved out p.equations.items listed;
       };
       in_order =
           subst

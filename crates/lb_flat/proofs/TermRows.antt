@@ -1,5 +1,6 @@
 -- A row of terms in a tree is the list in the vector; terms and steps from a place on.
-use Rattle.std.proofs.Common.{◌≡◌, ℕ, ◌+◌, ◌*◌, ◌<◌, ◌≤◌, List, [], ◌∷◌, ◌++◌, length, drop, get_or, Vec, Box, Global, refl, sym, ap, ◌∙◌, ◌⊎◌, inl, inr, arith}
+use Rattle.std.proofs.Common.{◌≡◌, ℕ, ◌+◌, ◌*◌, ◌<◌, ◌≤◌, List, [], ◌∷◌, ◌++◌, length, drop, get_or}
+use Rattle.std.proofs.Common.{Vec, Box, Global, refl, sym, ap, ◌∙◌, ◌⊎◌, inl, inr, arith}
 use Rattle.std.specs.Prelude.{Bool, true, ◌&&◌}
 use Rattle.std.specs.List.{list_all}
 use Rattle.std.proofs.lemmas.Bool.Decides.{nat_tests}
@@ -10,11 +11,18 @@ use Rattle.lb_syntax.specs.declared.tree.UnaryOperator.{UnaryOperator}
 use Rattle.lb_static.specs.declared.resolved.VariableId.{VariableId}
 use Rattle.lb_flat.specs.declared.plain.term.PlainStatement.{PlainStatement}
 use Rattle.lb_flat.specs.declared.plain.term.PlainStatement.TheVariants as statement
-use Rattle.lb_flat.specs.declared.plain.term.Term.{Term, Literal, Truth, Variable, Unary, Binary, If, Arrow, Fby, Pre, AtMostOne, Nor, Group', Unary', Binary', If', Arrow', Fby', Pre', AtMostOne', Nor', Row_of-Term, end_of-Term, more_of-Term, items-the_row-Term, items_hidden-the_row-Term-0}
+use Rattle.lb_flat.specs.declared.plain.term.Term.{Term, Literal, Truth, Variable, Unary, Binary}
+use Rattle.lb_flat.specs.declared.plain.term.Term.{If, Arrow, Fby, Pre, AtMostOne, Nor, Group'}
+use Rattle.lb_flat.specs.declared.plain.term.Term.{Unary', Binary', If', Arrow', Fby', Pre'}
+use Rattle.lb_flat.specs.declared.plain.term.Term.{AtMostOne', Nor', Row_of-Term, end_of-Term}
+use Rattle.lb_flat.specs.declared.plain.term.Term.{more_of-Term, items-the_row-Term}
+use Rattle.lb_flat.specs.declared.plain.term.Term.{items_hidden-the_row-Term-0}
 use Rattle.lb_flat.specs.PlainNodes.{is_place, is_statement_within, is_within, are_within}
 use Rattle.lb_flat.specs.Flat.{Always, Choose}
 use Rattle.lb_flat.specs.Emit.{State, Emitted, emit_nor, emit_at_most_one}
-use Rattle.lb_flat.specs.Terms.{TypedElement, pushed, with_one, with_two, with_all, only_found, emit_term, emit_row, emit_list, term_size, row_size, list_size, statement_size, statements_size, emit_statement, emit_statements}
+use Rattle.lb_flat.specs.Terms.{TypedElement, pushed, with_one, with_two, with_all, only_found}
+use Rattle.lb_flat.specs.Terms.{emit_term, emit_row, emit_list, term_size, row_size, list_size}
+use Rattle.lb_flat.specs.Terms.{statement_size, statements_size, emit_statement, emit_statements}
 use Rattle.lb_flat.proofs.TypeFacts.{and_first, and_second}
 
 abbrev pub row_of : Term → (n : Count) × Row_of-Term n

@@ -1,13 +1,19 @@
 -- What the types of an expression say of its parts, and how many scalar elements they have.
-use Rattle.std.proofs.Common.{◌≡◌, ℕ, suc, ◌+◌, ◌-◌, ◌*◌, ◌<◌, ◌≤◌, Bool, true, false, ◌&&◌, ◌||◌, nat_eq, nat_le, nat_lt, Option, Some, None, List, [], ◌∷◌, map, refl, sym, ap, ap₂, ◌∙◌, arith, add-mul, if◌then◌else◌}
+use Rattle.std.proofs.Common.{◌≡◌, ℕ, suc, ◌+◌, ◌-◌, ◌*◌, ◌<◌, ◌≤◌, Bool, true, false, ◌&&◌, ◌||◌}
+use Rattle.std.proofs.Common.{nat_eq, nat_le, nat_lt, Option, Some, None, List, [], ◌∷◌, map, refl}
+use Rattle.std.proofs.Common.{sym, ap, ap₂, ◌∙◌, arith, add-mul, if◌then◌else◌}
 use Rattle.std.specs.List.{list_all}
 use Rattle.lb_syntax.specs.declared.tree.UnaryOperator.{UnaryOperator}
 use Rattle.lb_syntax.specs.declared.tree.UnaryOperator.TheVariants.{Not, Negate}
 use Rattle.lb_syntax.specs.declared.tree.BinaryOperator.{BinaryOperator}
 use Rattle.lb_syntax.specs.declared.tree.Kind.{Kind}
 use Rattle.lb_syntax.specs.Lists.{◌>>=◌, where_true}
-use Rattle.lb_static.specs.DataTypes.{DataType, int, truth, is_kind, is_type, are_types, same_sizes, product, element_count}
-use Rattle.lb_check.specs.Types.{is_arithmetic, is_logical, is_equality, are_ints, are_truths, unary_type, binary_type, common_type, array_of, element_with, element_of, index_type, slice_type, join_type, only, singly, from_one, from_two, from_truths}
+use Rattle.lb_static.specs.DataTypes.{DataType, int, truth, is_kind, is_type, are_types, same_sizes}
+use Rattle.lb_static.specs.DataTypes.{product, element_count}
+use Rattle.lb_check.specs.Types.{is_arithmetic, is_logical, is_equality, are_ints, are_truths}
+use Rattle.lb_check.specs.Types.{unary_type, binary_type, common_type, array_of, element_with}
+use Rattle.lb_check.specs.Types.{element_of, index_type, slice_type, join_type, only, singly}
+use Rattle.lb_check.specs.Types.{from_one, from_two, from_truths}
 
 -- the scalar elements of some results
 abbrev pub elements_in : List DataType → ℕ

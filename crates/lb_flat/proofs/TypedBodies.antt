@@ -1,10 +1,13 @@
 -- In an instance that is typed, the left variables of each equation are as wide as its right side,
 -- and the inputs of a call as its arguments.
-use Rattle.std.proofs.Common.{◌≡◌, ℕ, ◌+◌, ◌≤◌, Bool, true, false, nat_eq, Option, Some, None, IfSome, List, [], ◌∷◌, map, length, flat_map, zip, cond, find, refl, sym, ap, ap₂, ◌∙◌, subst, arith, length-append}
+use Rattle.std.proofs.Common.{◌≡◌, ℕ, ◌+◌, ◌≤◌, Bool, true, false, nat_eq, Option, Some, None}
+use Rattle.std.proofs.Common.{IfSome, List, [], ◌∷◌, map, length, flat_map, zip, cond, find, refl}
+use Rattle.std.proofs.Common.{sym, ap, ap₂, ◌∙◌, subst, arith, length-append}
 use Rattle.std.specs.List.{list_all}
 use Rattle.std.specs.Str.{bytes_eq}
 use Rattle.lb_syntax.specs.Lists.{Every, all_some}
-use Rattle.lb_syntax.specs.Tree.{Name, Expr, Exprs, Nil, Cons, Declaration, Statement, Equation, Assertion}
+use Rattle.lb_syntax.specs.Tree.{Name, Expr, Exprs, Nil, Cons, Declaration, Statement, Equation}
+use Rattle.lb_syntax.specs.Tree.{Assertion}
 use Rattle.lb_static.specs.StaticValues.{named}
 use Rattle.lb_static.specs.Instances.{Program, Instance, Path}
 use Rattle.lb_static.specs.DataTypes.{DataType, variables, width, variable_type, element_count}
@@ -12,7 +15,8 @@ use Rattle.lb_static.specs.Instantiation.{are_same}
 use Rattle.lb_check.specs.Types.{data_types, all_types}
 use Rattle.lb_check.specs.TypeRules.{type_of_name, is_statement_typed}
 use Rattle.lb_check.specs.Clocks.{Clock}
-use Rattle.lb_check.specs.Occurrences.{at, call_count, occurrences, occurrences_each, statement_clock, right_sides}
+use Rattle.lb_check.specs.Occurrences.{at, call_count, occurrences, occurrences_each}
+use Rattle.lb_check.specs.Occurrences.{statement_clock, right_sides}
 use Rattle.lb_check.specs.Scalars.{Stream}
 use Rattle.lb_check.specs.Streams.{History, argument_streams}
 use Rattle.lb_flat.proofs.Lists.{Every-first, Every-second}

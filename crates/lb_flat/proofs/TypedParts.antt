@@ -1,12 +1,18 @@
 -- Where an expression is typed, so is every part of it.
 use Rattle.std.proofs.Common.{◌≡◌, ℕ, ◌+◌, Some, List, [], ◌∷◌, ◌++◌}
 use Rattle.lb_syntax.specs.Lists.{Every}
-use Rattle.lb_syntax.specs.Tree.{Node_named, Symbol, Expr, Literal, Truth, Variable, Group, Unary, Binary, If, Arrow, Fby, Pre, Current, When, Replicate, Index, Slice, Join, Array, AtMostOne, Nor, Call, Iterate, Exprs, Nil, Cons}
+use Rattle.lb_syntax.specs.Tree.{Node_named, Symbol, Expr, Literal, Truth, Variable, Group, Unary}
+use Rattle.lb_syntax.specs.Tree.{Binary, If, Arrow, Fby, Pre, Current, When, Replicate, Index}
+use Rattle.lb_syntax.specs.Tree.{Slice, Join, Array, AtMostOne, Nor, Call, Iterate, Exprs, Nil}
+use Rattle.lb_syntax.specs.Tree.{Cons}
 use Rattle.lb_static.specs.Instances.{Program, Instance, static_count, node_named}
 use Rattle.lb_static.specs.DataTypes.{DataType}
-use Rattle.lb_check.specs.Types.{data_types, all_types, singly, name_data_type, from_one, from_truths, unary_type, binary_type, common_type, array_of, index_type, slice_type, join_type, operator_types}
+use Rattle.lb_check.specs.Types.{data_types, all_types, singly, name_data_type, from_one}
+use Rattle.lb_check.specs.Types.{from_truths, unary_type, binary_type, common_type, array_of}
+use Rattle.lb_check.specs.Types.{index_type, slice_type, join_type, operator_types}
 use Rattle.lb_check.specs.Clocks.{Clock, clock_of, clock_or, declared_clock}
-use Rattle.lb_check.specs.Occurrences.{Occurrence, call_count, call_clocks, occurrences, occurrences_in, occurrences_each}
+use Rattle.lb_check.specs.Occurrences.{Occurrence, call_count, call_clocks, occurrences}
+use Rattle.lb_check.specs.Occurrences.{occurrences_in, occurrences_each}
 use Rattle.lb_check.specs.Streams.{History}
 use Rattle.lb_flat.proofs.Lists.{Every-append, Every-first, Every-second}
 use Rattle.lb_flat.proofs.TypeFacts.{bound, one, two, from_true}

@@ -1,8 +1,10 @@
 -- A history ends with the verdict that is found by looking at one instant after another.
-use Rattle.std.proofs.Common.{◌≡◌, ℕ, zero, suc, ◌+◌, ◌<◌, ◌⊎◌, inl, inr, Bool, true, false, refl, sym, ap, subst, arith}
+use Rattle.std.proofs.Common.{◌≡◌, ℕ, zero, suc, ◌+◌, ◌<◌, ◌⊎◌, inl, inr, Bool, true, false, refl}
+use Rattle.std.proofs.Common.{sym, ap, subst, arith}
 use Rattle.lb_static.specs.Instances.{Program}
 use Rattle.lb_check.specs.Streams.{History}
-use Rattle.lb_check.specs.Verdicts.{is_fault, is_undefined, is_failed, is_violated, decides, Ends, judged, or_later, verdict_from}
+use Rattle.lb_check.specs.Verdicts.{is_fault, is_undefined, is_failed, is_violated, decides, Ends}
+use Rattle.lb_check.specs.Verdicts.{judged, or_later, verdict_from}
 
 compared : (t u : ℕ) → (t < u) ⊎ (t ≡ u) ⊎ (u < t)
 compared zero zero = inr (inl refl)

@@ -1,6 +1,7 @@
 -- The elements that a flat program lists as kept and as asserted hold the operands that memories
 -- keep and the assertions of all instances.
-use Rattle.std.proofs.Common.{◌≡◌, ℕ, ◌+◌, Bool, ◌||◌, List, [], ◌∷◌, ◌++◌, map, flat_map, zip, refl, sym, ap, ap₂, ◌∙◌, subst}
+use Rattle.std.proofs.Common.{◌≡◌, ℕ, ◌+◌, Bool, ◌||◌, List, [], ◌∷◌, ◌++◌, map, flat_map, zip}
+use Rattle.std.proofs.Common.{refl, sym, ap, ap₂, ◌∙◌, subst}
 use Rattle.std.specs.List.{list_any}
 use Rattle.std.proofs.lemmas.List.{map-append}
 use Rattle.std.proofs.lemmas.List.Folds.{list_any-append}
@@ -8,19 +9,23 @@ use Rattle.lb_syntax.specs.Lists.{Every, some_of}
 use Rattle.lb_syntax.specs.Tree.{Statement, Equation, Assertion}
 use Rattle.lb_static.specs.Instances.{Program, Instance}
 use Rattle.lb_check.specs.Scalars.{Stream}
-use Rattle.lb_check.specs.Occurrences.{Occurrence, call_count, occurrences, statement_clock, right_sides}
+use Rattle.lb_check.specs.Occurrences.{Occurrence, call_count, occurrences, statement_clock}
+use Rattle.lb_check.specs.Occurrences.{right_sides}
 use Rattle.lb_check.specs.Streams.{History}
 use Rattle.lb_check.specs.Solutions.{Inputs, streams_at}
 use Rattle.lb_check.specs.Verdicts.{assertion_of, memory_columns, assertion_columns}
 use Rattle.lb_flat.specs.Flat.{column, AreLong}
 use Rattle.lb_flat.specs.Layouts.{Layout}
-use Rattle.lb_flat.specs.Emit.{State, joins, copied, targets, assert, emit, emit_body, emit_instances}
+use Rattle.lb_flat.specs.Emit.{State, joins, copied, targets, assert, emit, emit_body}
+use Rattle.lb_flat.specs.Emit.{emit_instances}
 use Rattle.lb_flat.proofs.Lists.{Every-first, Every-second}
 use Rattle.lb_flat.proofs.Adding.{columns, AllMet}
 use Rattle.lb_flat.proofs.Placing.{Agrees, IsPlaced}
 use Rattle.lb_flat.proofs.Emission.{joins_equations, sound}
-use Rattle.lb_flat.proofs.Bodies.{IsWide, IsSound, occurrences_of, assert_equations, body_sound, all_sound}
-use Rattle.lb_flat.proofs.MemoryOperands.{or_assoc, or_false, joins_kept, append_assoc, Keeps, keeps, keeps_two}
+use Rattle.lb_flat.proofs.Bodies.{IsWide, IsSound, occurrences_of, assert_equations, body_sound}
+use Rattle.lb_flat.proofs.Bodies.{all_sound}
+use Rattle.lb_flat.proofs.MemoryOperands.{or_assoc, or_false, joins_kept, append_assoc, Keeps}
+use Rattle.lb_flat.proofs.MemoryOperands.{keeps, keeps_two}
 use Rattle.lb_flat.proofs.Asserting.{joins_asserted, assert_asserted, assert_kept, asserts}
 
 -- an element of a list that has none

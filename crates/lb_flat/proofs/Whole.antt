@@ -1,6 +1,7 @@
 -- Streams that solve a whole flat program, and histories that join a whole program up: its inputs
 -- are the trace, the observer receives what it is to see, and every instance is solved.
-use Rattle.std.proofs.Common.{◌≡◌, ℕ, suc, ◌+◌, Option, Some, None, IfSome, List, [], ◌∷◌, ◌++◌, map, length, flat_map, refl, sym, ap, ap₂, ◌∙◌, subst, arith}
+use Rattle.std.proofs.Common.{◌≡◌, ℕ, suc, ◌+◌, Option, Some, None, IfSome, List, [], ◌∷◌, ◌++◌}
+use Rattle.std.proofs.Common.{map, length, flat_map, refl, sym, ap, ap₂, ◌∙◌, subst, arith}
 use Rattle.std.specs.List.{range_with_len}
 use Rattle.std.proofs.Math.Numerals.{add-one}
 use Rattle.lb_syntax.specs.Lists.{Every}
@@ -9,11 +10,15 @@ use Rattle.lb_static.specs.Instances.{Program, Instance, Root, Observer, instanc
 use Rattle.lb_static.specs.DataTypes.{input_kinds}
 use Rattle.lb_check.specs.Scalars.{Stream}
 use Rattle.lb_check.specs.Streams.{History}
-use Rattle.lb_check.specs.Solutions.{Inputs, column_of, columns_of, columns_at, IsGiven, IsObserved, Receives}
+use Rattle.lb_check.specs.Solutions.{Inputs, column_of, columns_of, columns_at, IsGiven, IsObserved}
+use Rattle.lb_check.specs.Solutions.{Receives}
 use Rattle.lb_flat.specs.Flat.{FlatEquation, column, Holds, AreLong, FlatSolves}
 use Rattle.lb_flat.specs.Layouts.{Layout}
-use Rattle.lb_flat.specs.Emit.{State, Target, targets, from_inputs, input_targets, given_inputs, observed_places, observed, before_instances, emit_instances, expanded}
-use Rattle.lb_flat.proofs.Lists.{map-pieces, Every-map, Every-both, Every-append, Every-first, Every-second}
+use Rattle.lb_flat.specs.Emit.{State, Target, targets, from_inputs, input_targets, given_inputs}
+use Rattle.lb_flat.specs.Emit.{observed_places, observed, before_instances, emit_instances}
+use Rattle.lb_flat.specs.Emit.{expanded}
+use Rattle.lb_flat.proofs.Lists.{map-pieces, Every-map, Every-both, Every-append, Every-first}
+use Rattle.lb_flat.proofs.Lists.{Every-second}
 use Rattle.lb_flat.proofs.Adding.{IsMet, AllMet, HasTruths, columns}
 use Rattle.lb_flat.proofs.Placing.{Agrees, AreAsWide}
 use Rattle.lb_flat.proofs.Joining.{targeted, targets_flat, received_sound, received_holds}

@@ -1,23 +1,44 @@
 -- An expression has as many streams as its types have scalar elements.
-use Rattle.std.proofs.Common.{◌≡◌, ℕ, suc, ◌+◌, ◌-◌, ◌*◌, ◌<◌, ◌≤◌, Bool, true, false, ◌&&◌, if◌then◌else◌, ℤ, Option, Some, None, IfSome, option_map, List, [], ◌∷◌, ◌++◌, map, length, take, drop, flat_map, refl, sym, ap, ap₂, ◌∙◌, arith, length-append}
+use Rattle.std.proofs.Common.{◌≡◌, ℕ, suc, ◌+◌, ◌-◌, ◌*◌, ◌<◌, ◌≤◌, Bool, true, false, ◌&&◌}
+use Rattle.std.proofs.Common.{if◌then◌else◌, ℤ, Option, Some, None, IfSome, option_map, List, []}
+use Rattle.std.proofs.Common.{◌∷◌, ◌++◌, map, length, take, drop, flat_map, refl, sym, ap, ap₂, ◌∙◌}
+use Rattle.std.proofs.Common.{arith, length-append}
 use Rattle.std.specs.List.{list_all, zip}
 use Rattle.std.specs.Str.{bytes_eq}
 use Rattle.std.proofs.lemmas.List.{length-map}
 use Rattle.lb_syntax.specs.declared.tree.BinaryOperator.{BinaryOperator}
 use Rattle.lb_syntax.specs.declared.tree.ArrayIterator.{ArrayIterator}
 use Rattle.lb_syntax.specs.declared.tree.ArrayIterator.TheVariants.{Map, Red, Fill}
-use Rattle.lb_syntax.specs.Lists.{◌>>=◌, Every, joined, tail_of, all_some, either_or, where_true, listed}
-use Rattle.lb_syntax.specs.Tree.{Name, Static, Node_named, Symbol, Expr, Literal, Truth, Variable, Group, Unary, Binary, If, Arrow, Fby, Pre, Current, When, Replicate, Index, Slice, Join, Array, AtMostOne, Nor, Call, Iterate, Exprs, Nil, Cons, Declaration, Node}
-use Rattle.lb_static.specs.Instances.{Program, Instance, Child, static_count, call_site, callee_of, node_named, name_value, static_value}
-use Rattle.lb_static.specs.DataTypes.{DataType, int, truth, variables, width, variable_type, element_count, product, input_types, output_types, is_type, are_types}
-use Rattle.lb_check.specs.Types.{data_types, all_types, only, singly, list_type, from_one, from_truths, name_data_type, array_of, operator_types, iterator_types, map_types, red_types, fill_types, unary_type, binary_type, common_type, index_type, slice_type, join_type, is_arithmetic}
+use Rattle.lb_syntax.specs.Lists.{◌>>=◌, Every, joined, tail_of, all_some, either_or, where_true}
+use Rattle.lb_syntax.specs.Lists.{listed}
+use Rattle.lb_syntax.specs.Tree.{Name, Static, Node_named, Symbol, Expr, Literal, Truth, Variable}
+use Rattle.lb_syntax.specs.Tree.{Group, Unary, Binary, If, Arrow, Fby, Pre, Current, When}
+use Rattle.lb_syntax.specs.Tree.{Replicate, Index, Slice, Join, Array, AtMostOne, Nor, Call}
+use Rattle.lb_syntax.specs.Tree.{Iterate, Exprs, Nil, Cons, Declaration, Node}
+use Rattle.lb_static.specs.Instances.{Program, Instance, Child, static_count, call_site, callee_of}
+use Rattle.lb_static.specs.Instances.{node_named, name_value, static_value}
+use Rattle.lb_static.specs.DataTypes.{DataType, int, truth, variables, width, variable_type}
+use Rattle.lb_static.specs.DataTypes.{element_count, product, input_types, output_types, is_type}
+use Rattle.lb_static.specs.DataTypes.{are_types}
+use Rattle.lb_check.specs.Types.{data_types, all_types, only, singly, list_type, from_one}
+use Rattle.lb_check.specs.Types.{from_truths, name_data_type, array_of, operator_types}
+use Rattle.lb_check.specs.Types.{iterator_types, map_types, red_types, fill_types, unary_type}
+use Rattle.lb_check.specs.Types.{binary_type, common_type, index_type, slice_type, join_type}
+use Rattle.lb_check.specs.Types.{is_arithmetic}
 use Rattle.lb_check.specs.Scalars.{Stream, or_fault}
 use Rattle.lb_check.specs.Clocks.{Clock, clock_of, clock_or, declared_clock}
 use Rattle.lb_check.specs.Occurrences.{Occurrence, call_count, occurrences, occurrences_in}
-use Rattle.lb_check.specs.Streams.{History, presence, constantly, gathered, last_of, iterated, symbols, streams, all_streams, number, part_count, outputs_of, data_type}
+use Rattle.lb_check.specs.Streams.{History, presence, constantly, gathered, last_of, iterated}
+use Rattle.lb_check.specs.Streams.{symbols, streams, all_streams, number, part_count, outputs_of}
+use Rattle.lb_check.specs.Streams.{data_type}
 use Rattle.lb_flat.proofs.Lists.{length-zips, Every-first, Every-second}
-use Rattle.lb_flat.proofs.TypeFacts.{One, elements_in, bound, alone, one, two, from_true, unary_count, binary_count, alike, array_count, indexed, sliced, joined_count, truth_is, some_same, same_count, and_first, and_second, truly, single, are_counts}
-use Rattle.lb_flat.proofs.OutputWidths.{length-copies, length-choices, length-part, length-index, found_in, each, arrays_count, width_of, outputs_wide, gathered_wide, last_wide}
+use Rattle.lb_flat.proofs.TypeFacts.{One, elements_in, bound, alone, one, two, from_true}
+use Rattle.lb_flat.proofs.TypeFacts.{unary_count, binary_count, alike, array_count, indexed, sliced}
+use Rattle.lb_flat.proofs.TypeFacts.{joined_count, truth_is, some_same, same_count, and_first}
+use Rattle.lb_flat.proofs.TypeFacts.{and_second, truly, single, are_counts}
+use Rattle.lb_flat.proofs.OutputWidths.{length-copies, length-choices, length-part, length-index}
+use Rattle.lb_flat.proofs.OutputWidths.{found_in, each, arrays_count, width_of, outputs_wide}
+use Rattle.lb_flat.proofs.OutputWidths.{gathered_wide, last_wide}
 
 -- ## What is called
 

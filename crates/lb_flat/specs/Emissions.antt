@@ -3,7 +3,9 @@
 use Rattle.std.specs.Prelude.{ℕ, ◌+◌, ◌*◌, ◌<◌, ◌≤◌, List, [], All, length}
 use Rattle.lb_flat.specs.declared.equation.ElementId.{ElementId}
 use Rattle.lb_flat.specs.declared.equation.Operation.{Operation}
-use Rattle.lb_flat.specs.declared.equation.Operation.TheVariants.{Input, Constant, Copy, ApplyUnary, ApplyBinary, Choose, FirstThen, Previous, Latest, Sample}
+use Rattle.lb_flat.specs.declared.equation.Operation.TheVariants.{Input, Constant, Copy, ApplyUnary}
+use Rattle.lb_flat.specs.declared.equation.Operation.TheVariants.{ApplyBinary, Choose, FirstThen}
+use Rattle.lb_flat.specs.declared.equation.Operation.TheVariants.{Previous, Latest, Sample}
 use Rattle.lb_flat.specs.declared.expand.emission.Emission.{Emission}
 use Rattle.lb_flat.specs.Emit.{State, Emitted}
 use Rattle.lb_flat.specs.Programs.{numbers_of, flat_equations}

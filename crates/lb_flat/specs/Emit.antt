@@ -2,7 +2,8 @@
 -- statements and instances.
 -- Source: this project's rule; each operator becomes the equations that the Lustre V6 reference
 -- manual gives it, element by element.
-use Rattle.std.specs.Prelude.{ℕ, suc, ◌+◌, ◌-◌, ◌*◌, false, pos, Option, Some, None, List, [], ◌∷◌, ◌++◌, map, take, drop, flat_map, get_or}
+use Rattle.std.specs.Prelude.{ℕ, suc, ◌+◌, ◌-◌, ◌*◌, false, pos, Option, Some, None, List, [], ◌∷◌}
+use Rattle.std.specs.Prelude.{◌++◌, map, take, drop, flat_map, get_or}
 use Rattle.std.specs.List.{range_with_len}
 use Rattle.lb_syntax.specs.declared.tree.UnaryOperator.TheVariants.{Not}
 use Rattle.lb_syntax.specs.declared.tree.BinaryOperator.{BinaryOperator}
@@ -10,9 +11,13 @@ use Rattle.lb_syntax.specs.declared.tree.BinaryOperator.TheVariants.{Or, And}
 use Rattle.lb_syntax.specs.declared.tree.ArrayIterator.{ArrayIterator}
 use Rattle.lb_syntax.specs.declared.tree.ArrayIterator.TheVariants.{Map, Red}
 use Rattle.lb_syntax.specs.Lists.{zip2, copies, joined, listed}
-use Rattle.lb_syntax.specs.Tree.{Name, Node_named, Symbol, Expr, Literal, Truth, Variable, Group, Unary, Binary, If, Arrow, Fby, Pre, Current, When, Replicate, Index, Slice, Join, Array, AtMostOne, Nor, Call, Iterate, Exprs, Nil, Cons, Declaration, Node, Statement, Equation, Assertion}
+use Rattle.lb_syntax.specs.Tree.{Name, Node_named, Symbol, Expr, Literal, Truth, Variable, Group}
+use Rattle.lb_syntax.specs.Tree.{Unary, Binary, If, Arrow, Fby, Pre, Current, When, Replicate}
+use Rattle.lb_syntax.specs.Tree.{Index, Slice, Join, Array, AtMostOne, Nor, Call, Iterate, Exprs}
+use Rattle.lb_syntax.specs.Tree.{Nil, Cons, Declaration, Node, Statement, Equation, Assertion}
 use Rattle.lb_static.specs.StaticValues.{named}
-use Rattle.lb_static.specs.Instances.{Program, Instance, Path, Root, Observer, Child, name_value, node_named, instance_at, instances}
+use Rattle.lb_static.specs.Instances.{Program, Instance, Path, Root, Observer, Child, name_value}
+use Rattle.lb_static.specs.Instances.{node_named, instance_at, instances}
 use Rattle.lb_static.specs.DataTypes.{variables}
 use Rattle.lb_check.specs.Scalars.{Integer, Boolean, or_fault, first_value}
 use Rattle.lb_check.specs.Clocks.{Clock, On, clock_of, clock_or, declared_clock}
@@ -20,7 +25,8 @@ use Rattle.lb_check.specs.Occurrences.{call_count, call_clocks, statement_clock}
 use Rattle.lb_check.specs.Streams.{part_count, number, outputs_of, iterated}
 use Rattle.lb_check.specs.Solutions.{iterator_inputs}
 use Rattle.lb_check.specs.Verdicts.{property_path, clock_variables}
-use Rattle.lb_flat.specs.Flat.{FlatClock, Operation, Input, Constant, Copy, ApplyUnary, ApplyBinary, Choose, FirstThen, Previous, Latest, Sample, FlatEquation}
+use Rattle.lb_flat.specs.Flat.{FlatClock, Operation, Input, Constant, Copy, ApplyUnary, ApplyBinary}
+use Rattle.lb_flat.specs.Flat.{Choose, FirstThen, Previous, Latest, Sample, FlatEquation}
 use Rattle.lb_flat.specs.Judging.{FlatProgram}
 use Rattle.lb_flat.specs.Layouts.{Layout, flat_clock}
 

@@ -6,7 +6,8 @@ use Rattle.lb_syntax.specs.declared.tree.UnaryOperator.{UnaryOperator}
 use Rattle.lb_syntax.specs.declared.tree.BinaryOperator.{BinaryOperator}
 use Rattle.lb_syntax.specs.Lists.{Every, zip2}
 use Rattle.lb_check.specs.Scalars.{Scalar, Stream, two_scalars, one_scalar}
-use Rattle.lb_check.specs.Streams.{constantly, along, along_two, choice, previous, first_then, sample, latest, sampled_at}
+use Rattle.lb_check.specs.Streams.{constantly, along, along_two, choice, previous, first_then}
+use Rattle.lb_check.specs.Streams.{sample, latest, sampled_at}
 use Rattle.lb_check.specs.Solutions.{Inputs, column_of}
 
 -- ## What a flat program is

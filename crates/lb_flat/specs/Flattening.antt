@@ -9,7 +9,8 @@ use Rattle.lb_check.specs.Acceptance.{check_refusal}
 use Rattle.lb_check.specs.Scalars.{Stream}
 use Rattle.lb_check.specs.Streams.{History}
 use Rattle.lb_check.specs.Solutions.{Inputs, is_row, Solves, AreSame}
-use Rattle.lb_check.specs.Verdicts.{is_bad, is_nil, is_false, some_at, is_fault, is_undefined, is_failed, is_violated}
+use Rattle.lb_check.specs.Verdicts.{is_bad, is_nil, is_false, some_at, is_fault, is_undefined}
+use Rattle.lb_check.specs.Verdicts.{is_failed, is_violated}
 use Rattle.lb_flat.specs.Flat.{column, instants, FlatSolves}
 use Rattle.lb_flat.specs.Layouts.{Layout}
 use Rattle.lb_flat.specs.Judging.{FlatProgram, named_elements, truth_elements}

@@ -1,6 +1,7 @@
 -- The test whether equations stand in an order in which they can be computed.
 -- This file says what data of the program mean: the test answers true only where they are `Ready`.
-use Rattle.std.specs.Prelude.{ℕ, Bool, true, false, not, ◌&&◌, nat_lt, List, [], ◌∷◌, length, get_or, set}
+use Rattle.std.specs.Prelude.{ℕ, Bool, true, false, not, ◌&&◌, nat_lt, List, [], ◌∷◌, length}
+use Rattle.std.specs.Prelude.{get_or, set}
 use Rattle.std.specs.List.{list_all}
 use Rattle.lb_flat.specs.Flat.{FlatEquation}
 use Rattle.lb_flat.specs.Run.{equation_reads, keeps}

@@ -1,7 +1,9 @@
--- When no order answers, and what the parts of `order` promise each other.
+-- What the parts of `order` promise each other.
 -- This file says what data of the program mean; no definition of the language stands on it.
-use Rattle.std.specs.Prelude.{◌≡◌, ℕ, suc, ◌<◌, Bool, true, false, Option, Some, None, option_and_then, slice_get, List, [], ◌∷◌, ◌++◌, length, replicate, get_or, All}
-use Rattle.std.specs.List.{list_all}
+use Rattle.std.specs.Prelude.{◌≡◌, ℕ, suc, ◌<◌, Bool, true, false, not, Option, Some, None}
+use Rattle.std.specs.Prelude.{option_and_then, slice_get, List, [], ◌∷◌, ◌++◌, length, replicate}
+use Rattle.std.specs.Prelude.{get_or, All}
+use Rattle.std.specs.List.{find}
 use Rattle.lb_syntax.specs.Lists.{In}
 use Rattle.lb_flat.specs.declared.equation.ClockId.{ClockId}
 use Rattle.lb_flat.specs.declared.equation.Clock.{Clock}
@@ -9,8 +11,9 @@ use Rattle.lb_flat.specs.declared.equation.Equation.{Equation}
 use Rattle.lb_flat.specs.declared.program.FlatProgram.{FlatProgram}
 use Rattle.lb_flat.specs.Expanded.{IsOrderingOf}
 use Rattle.lb_flat.specs.Flat.{FlatEquation}
+use Rattle.lb_flat.specs.GivenOnce.{IsGiven}
 use Rattle.lb_flat.specs.InOrder.{is_done, is_in_order}
-use Rattle.lb_flat.specs.Programs.{flat_equations}
+use Rattle.lb_flat.specs.Programs.{IsInRange, flat_equations, program_of}
 use Rattle.lb_flat.specs.Run.{equation_reads}
 use Rattle.lb_flat.specs.Values.{equation_of}
 use Rattle.lb_flat.specs.Within.{AreClocks, IsWithin}
@@ -38,30 +41,23 @@ pub record IsTable (clocks : List Clock) (table : List (Option Equation)) : Type
   pub within :
       (e : ℕ) (q : Equation) → get_or table e None ≡ Some q → IsWithin (length table) clocks q
 
--- an equation is that of its element in the table
-pub record IsEntered (clocks : List Clock) (table : List (Option Equation)) (q : Equation) :
+-- a table for so many elements has these equations, each at its element
+pub record IsTableOf (size : ℕ) (qs : List Equation) (table : List (Option Equation)) :
     Type 0 where
-  pub entry : Equation
-  pub stands : get_or table q.element.0 None ≡ Some entry
-  pub same : equation_of clocks entry ≡ equation_of clocks q
-
--- a table for so many elements has these equations, and each of them
-pub record IsTableOf (size : ℕ) (clocks : List Clock) (qs : List Equation)
-    (table : List (Option Equation)) : Type 0 where
   pub entries : length table ≡ size
   pub listed : (e : ℕ) (q : Equation) → get_or table e None ≡ Some q → In q qs
   pub own : (e : ℕ) (q : Equation) → get_or table e None ≡ Some q → q.element.0 ≡ e
-  pub each : (q : Equation) → In q qs → IsEntered clocks table q
+  pub each : (q : Equation) → In q qs → get_or table q.element.0 None ≡ Some q
 
 -- ## What is scheduled
 
--- whether all these elements are done
-abbrev pub all_done : List Bool → List ℕ → Bool
-all_done done is = list_all (is_done done) is
+-- the first of these elements that is not done
+abbrev pub first_left : List Bool → List ℕ → Option ℕ
+first_left done is = find (λ i. not (is_done done i)) is
 
--- whether all that an equation reads is done
-abbrev pub is_ready : List Clock → List Bool → Equation → Bool
-is_ready clocks done q = all_done done (equation_reads (equation_of clocks q))
+-- the first element that an equation reads and that is not done
+abbrev pub awaited : List Clock → List Bool → Equation → Option ℕ
+awaited clocks done q = first_left done (equation_reads (equation_of clocks q))
 
 -- how many are not done
 abbrev pub left : List Bool → ℕ
@@ -94,12 +90,20 @@ pub record AreScheduled (clocks : List Clock) (table : List (Option Equation))
 abbrev pub IsNotNext : List Clock → List (Option Equation) → List Bool → ℕ → Type 0
 IsNotNext clocks table done e =
     is_done done e ≡ false → (q : Equation) → get_or table e None ≡ Some q →
-    is_ready clocks done q ≡ false
+    awaited clocks done q ≡ None → ⊥
 
--- some element is not done, and none can be
-pub record NoneIsNext (clocks : List Clock) (table : List (Option Equation)) : Type 0 where
-  pub done : List Bool
-  pub stuck : (e : ℕ) → e < length table → IsNotNext clocks table done e
-  pub element : ℕ
-  pub is_element : element < length table
-  pub is_left : is_done done element ≡ false
+-- ## Where no element is next
+
+-- an element of a program is not done
+pub record IsLeft (p : FlatProgram) (done : List Bool) (e : ℕ) : Type 0 where
+  pub is_element : e < p.size
+  pub is_left : is_done done e ≡ false
+
+-- some elements of a program are done, and none of the others is next in the table
+pub record IsStuckAt (p : FlatProgram) (rows : List (Option Equation)) (done : List Bool) :
+    Type 0 where
+  pub in_range : IsInRange p
+  pub given : IsGiven (program_of p)
+  pub table : IsTableOf p.size p.equations.items rows
+  pub marks : length done ≡ length rows
+  pub stuck : (e : ℕ) → e < length rows → IsNotNext p.clocks.items rows done e

@@ -1,6 +1,7 @@
 -- The node of a plain program, and what is known of such a program.
 -- This file says what data of the program mean; no definition of the language stands on it.
-use Rattle.std.specs.Prelude.{◌≡◌, ℕ, ◌+◌, Bool, true, false, ◌&&◌, nat_lt, pos, Some, None, is_some, List, [], ◌∷◌, map, take, drop, not, nat_eq, length}
+use Rattle.std.specs.Prelude.{◌≡◌, ℕ, ◌+◌, Bool, true, false, ◌&&◌, nat_lt, pos, Some, None}
+use Rattle.std.specs.Prelude.{is_some, List, [], ◌∷◌, map, take, drop, not, nat_eq, length}
 use Rattle.std.specs.List.{list_all}
 use Rattle.lb_syntax.specs.Tree as tree
 use Rattle.lb_syntax.specs.Tree.{Name, Node, Expr, Declaration}
@@ -8,7 +9,10 @@ use Rattle.lb_static.specs.declared.resolved.VariableId.{VariableId}
 use Rattle.lb_flat.specs.declared.plain.term.Variable.{Variable}
 use Rattle.lb_flat.specs.declared.plain.term.PlainStatement.{PlainStatement}
 use Rattle.lb_flat.specs.declared.plain.term.PlainStatement.TheVariants as statement
-use Rattle.lb_flat.specs.declared.plain.term.Term.{Term, Literal, Truth, Variable as Named, Group', Unary', Binary', If', Arrow', Fby', Pre', AtMostOne', Nor', Row_of-Term, end_of-Term, more_of-Term}
+use Rattle.lb_flat.specs.declared.plain.term.Term.{Term, Literal, Truth, Variable as Named, Group'}
+use Rattle.lb_flat.specs.declared.plain.term.Term.{Unary', Binary', If', Arrow', Fby', Pre'}
+use Rattle.lb_flat.specs.declared.plain.term.Term.{AtMostOne', Nor', Row_of-Term, end_of-Term}
+use Rattle.lb_flat.specs.declared.plain.term.Term.{more_of-Term}
 use Rattle.lb_static.specs.Arithmetic.{is_int}
 use Rattle.lb_static.specs.Signature.{Elements}
 use Rattle.lb_static.specs.Instances.{Program, Instance, Root, instance_at, instances}

@@ -1,6 +1,7 @@
 -- Which programs are plain, so that they run, and what `plain` promises of them.
 -- This file says what data of the program mean; no definition of the language stands on it.
-use Rattle.std.specs.Prelude.{◌≡◌, Bool, true, ◌&&◌, ◌||◌, not, nat_eq, Option, is_some, length, Result, Ok, Err}
+use Rattle.std.specs.Prelude.{◌≡◌, Bool, true, ◌&&◌, ◌||◌, not, nat_eq, Option, is_some, length}
+use Rattle.std.specs.Prelude.{Result, Ok, Err}
 use Rattle.std.specs.List.{list_all}
 use Rattle.lb_syntax.specs.Lists.{◌>>=◌, holds}
 use Rattle.lb_syntax.specs.Tree.{Node}

@@ -8,7 +8,10 @@ use Rattle.lb_static.specs.declared.resolved.VariableId.{VariableId}
 use Rattle.lb_flat.specs.declared.plain.term.Variable.{Variable}
 use Rattle.lb_flat.specs.declared.plain.term.PlainStatement.{PlainStatement}
 use Rattle.lb_flat.specs.declared.plain.term.PlainStatement.TheVariants as statement
-use Rattle.lb_flat.specs.declared.plain.term.Term.{Term, Literal, Truth, Variable as Named, Group', Unary', Binary', If', Arrow', Fby', Pre', AtMostOne', Nor', Row_of-Term, end_of-Term, more_of-Term}
+use Rattle.lb_flat.specs.declared.plain.term.Term.{Term, Literal, Truth, Variable as Named, Group'}
+use Rattle.lb_flat.specs.declared.plain.term.Term.{Unary', Binary', If', Arrow', Fby', Pre'}
+use Rattle.lb_flat.specs.declared.plain.term.Term.{AtMostOne', Nor', Row_of-Term, end_of-Term}
+use Rattle.lb_flat.specs.declared.plain.term.Term.{more_of-Term}
 
 -- the name of a variable among these
 abbrev pub name_of : List Name → VariableId → Name

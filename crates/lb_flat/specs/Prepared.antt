@@ -1,10 +1,12 @@
 -- What of a flat program is known before its instants, and what is left for each.
 -- Source: this project's rule.
-use Rattle.std.specs.Prelude.{ℕ, suc, Bool, true, false, not, ◌||◌, ◌≡◌, List, [], ◌∷◌, map, if◌then◌else◌}
+use Rattle.std.specs.Prelude.{ℕ, suc, Bool, true, false, not, ◌||◌, ◌≡◌, List, [], ◌∷◌, map}
+use Rattle.std.specs.Prelude.{if◌then◌else◌}
 use Rattle.std.specs.List.{filter}
 use Rattle.lb_syntax.specs.Lists.{Every}
 use Rattle.lb_flat.specs.declared.equation.InputPlace.{InputPlace}
-use Rattle.lb_flat.specs.Flat.{FlatClock, Always, Where, Operation, Input, Constant, FirstThen, Previous, Latest, FlatEquation}
+use Rattle.lb_flat.specs.Flat.{FlatClock, Always, Where, Operation, Input, Constant, FirstThen}
+use Rattle.lb_flat.specs.Flat.{Previous, Latest, FlatEquation}
 use Rattle.lb_flat.specs.Run.{Row, cell, now}
 
 -- a scalar of the trace

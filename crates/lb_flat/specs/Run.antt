@@ -1,11 +1,14 @@
 -- How a flat program runs: a row of cells at each instant, from the memories and the inputs.
 -- Source: this project's rule.
-use Rattle.std.specs.Prelude.{ℕ, ◌<◌, Bool, true, false, ◌&&◌, Some, None, List, [], ◌∷◌, ◌++◌, map, get_or, set, replicate, slice_get}
+use Rattle.std.specs.Prelude.{ℕ, ◌<◌, Bool, true, false, ◌&&◌, Some, None, List, [], ◌∷◌, ◌++◌, map}
+use Rattle.std.specs.Prelude.{get_or, set, replicate, slice_get}
 use Rattle.lb_syntax.specs.Lists.{Every, In, zip2}
 use Rattle.lb_check.specs.Scalars.{Scalar, Cell, Stream, chosen, two_scalars, one_scalar}
 use Rattle.lb_check.specs.Streams.{held, one_cell, two_cells, sample, shows, newest}
 use Rattle.lb_check.specs.Solutions.{Inputs}
-use Rattle.lb_flat.specs.Flat.{FlatClock, Always, Where, Operation, Input, Constant, Copy, ApplyUnary, ApplyBinary, Choose, FirstThen, Previous, Latest, Sample, FlatEquation}
+use Rattle.lb_flat.specs.Flat.{FlatClock, Always, Where, Operation, Input, Constant, Copy}
+use Rattle.lb_flat.specs.Flat.{ApplyUnary, ApplyBinary, Choose, FirstThen, Previous, Latest, Sample}
+use Rattle.lb_flat.specs.Flat.{FlatEquation}
 
 -- ## One instant
 

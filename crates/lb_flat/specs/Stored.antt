@@ -1,5 +1,6 @@
 -- How names and traces lie in memory.
-use Rattle.std.specs.Prelude.{ℕ, ◌≡◌, ◌+◌, ◌-◌, ◌*◌, ◌≤◌, List, [], length, map, get_or, take, drop, ℤ}
+use Rattle.std.specs.Prelude.{ℕ, ◌≡◌, ◌+◌, ◌-◌, ◌*◌, ◌≤◌, List, [], length, map, get_or, take, drop}
+use Rattle.std.specs.Prelude.{ℤ}
 use Rattle.std.specs.List.{range_with_len}
 use Rattle.std.specs.Str.{IsAscii}
 use Rattle.lb_static.specs.Signature.{Elements}

@@ -16,16 +16,3 @@ pub record IsStuck (size : ℕ) (Q : List FlatEquation) : Type 0 where
   pub given : (i : ℕ) → i < size → left i ≡ true → In i (map (λ q. q.element) Q)
   pub waits :
       Every (λ q. left q.element ≡ true → list_any left (equation_reads q) ≡ true) Q
-
--- why equations on so many elements cannot be put in order
-pub data CannotOrder (size : ℕ) (Q : List FlatEquation) : Type 0 where
-  -- an element has no equation
-  NotGiven :
-      (element : ℕ) → (is_element : element < size) →
-      (not_given : In element (map (λ q. q.element) Q) → ⊥) → CannotOrder size Q
-  -- it has two that differ
-  GivenTwice :
-      (one other : FlatEquation) → (is_one : In one Q) → (is_other : In other Q) →
-      (same : one.element ≡ other.element) → (differ : one ≡ other → ⊥) → CannotOrder size Q
-  -- or some elements wait for one another
-  Waiting : (stuck : IsStuck size Q) → CannotOrder size Q

@@ -1,15 +1,19 @@
 -- This file mirrors code (src/expand.rt and the files below it): the equations that `expand` emits
 -- for terms, whose names are places, and how many expressions it counts.
 -- All is scalar and on the base clock, so each term has one element.
-use Rattle.std.specs.Prelude.{ℕ, ◌+◌, false, nat_le, pos, List, [], ◌∷◌, ◌++◌, length, map, get_or, if◌then◌else◌}
+use Rattle.std.specs.Prelude.{ℕ, ◌+◌, false, nat_le, pos, List, [], ◌∷◌, ◌++◌, length, map, get_or}
+use Rattle.std.specs.Prelude.{if◌then◌else◌}
 use Rattle.std.specs.List.{range_with_len}
 use Rattle.lb_flat.specs.declared.plain.Plain.{Plain}
 use Rattle.lb_static.specs.declared.resolved.VariableId.{VariableId}
 use Rattle.lb_flat.specs.declared.plain.term.PlainStatement.{PlainStatement}
 use Rattle.lb_flat.specs.declared.plain.term.PlainStatement.TheVariants as statement
-use Rattle.lb_flat.specs.declared.plain.term.Term.{Term, Literal, Truth, Variable, Group', Unary', Binary', If', Arrow', Fby', Pre', AtMostOne', Nor', Row_of-Term, end_of-Term, more_of-Term}
+use Rattle.lb_flat.specs.declared.plain.term.Term.{Term, Literal, Truth, Variable, Group', Unary'}
+use Rattle.lb_flat.specs.declared.plain.term.Term.{Binary', If', Arrow', Fby', Pre', AtMostOne'}
+use Rattle.lb_flat.specs.declared.plain.term.Term.{Nor', Row_of-Term, end_of-Term, more_of-Term}
 use Rattle.lb_check.specs.Scalars.{Scalar, Integer, Boolean, Bad, first_value}
-use Rattle.lb_flat.specs.Flat.{Always, Operation, Input, Constant, Copy, ApplyUnary, ApplyBinary, Choose, FirstThen, Previous, FlatEquation}
+use Rattle.lb_flat.specs.Flat.{Always, Operation, Input, Constant, Copy, ApplyUnary, ApplyBinary}
+use Rattle.lb_flat.specs.Flat.{Choose, FirstThen, Previous, FlatEquation}
 use Rattle.lb_flat.specs.Judging.{FlatProgram}
 use Rattle.lb_flat.specs.Emit.{State, Emitted, push, emit_nor, emit_at_most_one, before_instances}
 

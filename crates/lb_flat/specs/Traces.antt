@@ -1,6 +1,8 @@
 -- Recorded traces, as contracts see them.
 -- Source: this project's rule; the limits are those of a trace text.
-use Rattle.std.specs.Prelude.{Bool as Truth, ℕ, ◌≡◌, ◌≢◌, ◌+◌, ◌*◌, ◌<◌, ◌≤◌, max, ◌==◌, ◌||◌, IsTrue, List, [], ◌∷◌, ◌++◌, length, map, get_or, ◌⊎◌, ℤ, pos, negsuc, ◌≤ℤ◌}
+use Rattle.std.specs.Prelude.{Bool as Truth, ℕ, ◌≡◌, ◌≢◌, ◌+◌, ◌*◌, ◌<◌, ◌≤◌, max, ◌==◌, ◌||◌}
+use Rattle.std.specs.Prelude.{IsTrue, List, [], ◌∷◌, ◌++◌, length, map, get_or, ◌⊎◌, ℤ, pos, negsuc}
+use Rattle.std.specs.Prelude.{◌≤ℤ◌}
 use Rattle.std.specs.Char.{is_ascii_alphanumeric}
 use Rattle.std.specs.List.{All, AllPairs, AllZip, sum_by}
 use Rattle.lb_syntax.specs.declared.tree.Kind.{Kind}

@@ -1,6 +1,7 @@
 -- Which forms of resolved terms and steps run so far, and the plain ones of the same forms.
 -- This file says what data of the program mean; no definition of the language stands on it.
-use Rattle.std.specs.Prelude.{◌≡◌, Bool, true, false, ◌&&◌, pos, List, [], ◌∷◌, Result, Ok, Err, Box, Vec}
+use Rattle.std.specs.Prelude.{◌≡◌, Bool, true, false, ◌&&◌, pos, List, [], ◌∷◌, Result, Ok, Err}
+use Rattle.std.specs.Prelude.{Box, Vec}
 use Rattle.std.specs.declared.alloc.Global.{Global}
 use Rattle.std.specs.List.{list_all}
 use Rattle.lb_static.specs.Arithmetic.{is_int}
@@ -11,7 +12,9 @@ use Rattle.lb_flat.specs.declared.error.FlatError.{FlatError}
 use Rattle.lb_flat.specs.declared.error.FlatError.TheVariants as error
 use Rattle.lb_flat.specs.declared.plain.term.PlainStatement.{PlainStatement}
 use Rattle.lb_flat.specs.declared.plain.term.PlainStatement.TheVariants as statement
-use Rattle.lb_flat.specs.declared.plain.term.Term.{Term, Literal, Truth, Variable, Group', Unary', Binary', If', Arrow', Fby', Pre', AtMostOne', Nor', Row_of-Term, end_of-Term, more_of-Term}
+use Rattle.lb_flat.specs.declared.plain.term.Term.{Term, Literal, Truth, Variable, Group', Unary'}
+use Rattle.lb_flat.specs.declared.plain.term.Term.{Binary', If', Arrow', Fby', Pre', AtMostOne'}
+use Rattle.lb_flat.specs.declared.plain.term.Term.{Nor', Row_of-Term, end_of-Term, more_of-Term}
 
 -- ## Forms that run
 

@@ -6,7 +6,8 @@
 //! result.
 
 ghost use Rattle.std.specs.Prelude.{◌≡◌, Some};
-ghost use Rattle.lb_check.specs.Scalars.{two_integers, two_booleans, two_scalars, one_scalar, or_fault};
+ghost use Rattle.lb_check.specs.Scalars.{two_integers, two_booleans, two_scalars, one_scalar};
+ghost use Rattle.lb_check.specs.Scalars.{or_fault};
 ghost use Rattle.lb_check.specs.Streams.{held, one_cell, two_cells, sample, shows, newest};
 ghost use Rattle.lb_flat.specs.Run.{chosen_cell};
 ghost use Rattle.lb_flat.specs.Values.{scalar_of, cell_of};

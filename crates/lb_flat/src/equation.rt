@@ -13,7 +13,7 @@ use crate::scalar::Scalar;
 use lb_syntax::tree::{BinaryOperator, UnaryOperator};
 
 /// An element of a flat program, by its number.
-#[derive(Clone, Copy, PartialEq, Eq)]
+#[derive(Clone, Copy, Debug, PartialEq, Eq)]
 pub struct ElementId(pub u32);
 
 /// A clock of a flat program, by its place in the table of its clocks.

@@ -1,5 +1,6 @@
 //! Why a program is refused here.
 
+use crate::equation::ElementId;
 use std::alloc::{AllocError, AllocFailed};
 
 /// Why a program is not expanded.
@@ -22,9 +23,10 @@ pub enum OrderError {
     /// Memory ran out (E0).
     #[error("memory ran out")]
     Memory,
-    /// An element needs itself at the same instant (E13).
+    /// An element needs itself at the same instant (E13). These are elements of variables, each of
+    /// which needs the next one, and the last of which needs the first.
     #[error("an element needs itself at the same instant")]
-    Cycle,
+    Cycle(Vec<ElementId>),
 }
 
 impl From<AllocError> for FlatError {

@@ -6,7 +6,8 @@
 ghost use Rattle.std.specs.Prelude.{◌≡◌, ◌<◌, length, map, All, get_or, []};
 ghost use Rattle.lb_check.specs.Solutions.{Inputs};
 ghost use Rattle.lb_flat.specs.Judging.{row_judged, flat_verdict};
-ghost use Rattle.lb_flat.specs.Prepared.{inputs_in, steps_in, memory_places, place_equation, AreFixed};
+ghost use Rattle.lb_flat.specs.Prepared.{inputs_in, steps_in, memory_places, place_equation};
+ghost use Rattle.lb_flat.specs.Prepared.{AreFixed};
 ghost use Rattle.lb_flat.specs.PreparedParts.{IsRoomFor, program_in};
 ghost use Rattle.lb_flat.specs.Run.{advanced, filled};
 ghost use Rattle.lb_flat.specs.Values.{cell_of};

@@ -1,19 +1,25 @@
 //! Expansion: from a checked program to equations on scalar elements.
 
-ghost use Rattle.std.specs.Prelude.{◌≡◌, ◌≤◌, ◌<◌, nat_le};
+ghost use Rattle.std.specs.Prelude.{◌≡◌, ◌≤◌, ◌<◌, IfOk, nat_le};
 ghost use Rattle.lb_static.specs.Elaborated.{elaborated_program};
 ghost use Rattle.lb_flat.specs.Expanded.{IsExpansionAnswer};
-ghost use Rattle.lb_flat.specs.Programs.{program_of};
+ghost use Rattle.lb_flat.specs.Programs.{program_of, IsInRange};
 ghost use Rattle.lb_flat.specs.Terms as mirror;
 ghost use Rattle.lb_flat.specs.TermExpansion.{IsSizedAnswer};
 
+mod call_emission;
 mod emission;
+mod form_emission;
+mod frame;
+mod operators;
 mod size;
+mod term_emission;
 
 use crate::error::FlatError;
 use crate::flat::Flat;
 use crate::plain::Plain;
 use crate::plain::translate::plain;
+use crate::program::FlatProgram;
 use emission::Emission;
 use lb_check::checked::Checked;
 use size::after_statements;
@@ -32,8 +38,9 @@ fn is_small(plain: &Plain) -> bool
 }
 
 /// Expands a plain program that is small enough.
-fn expand_plain(alloc: Global, plain: &Plain) -> Result<Flat, FlatError>
-    ensures { IsSizedAnswer plain.now result }
+fn expand_plain(alloc: Global, plain: &Plain) -> Result<FlatProgram, FlatError>
+    ensures answer { IsSizedAnswer plain.now result }
+    ensures in_range { IfOk result (λ p. IsInRange p) }
 {
     if !is_small(plain) {
         return Err(FlatError::Large);
@@ -41,8 +48,7 @@ fn expand_plain(alloc: Global, plain: &Plain) -> Result<Flat, FlatError>
     let variables = plain.variables.len() as u32;
     let mut emission = Emission::new(alloc, variables);
     emission.statements(alloc, &plain.body)?;
-    let program = emission.into_program(alloc, plain.inputs as u32, variables)?;
-    Ok(Flat { program })
+    Ok(emission.into_program(alloc, plain.inputs as u32, variables)?)
 }
 
 /// Expands a checked program, or refuses it where it has forms that do not run yet or its size is
@@ -51,5 +57,6 @@ pub fn expand(alloc: Global, checked: &Checked) -> Result<Flat, FlatError>
     ensures { IsExpansionAnswer (elaborated_program checked.now.elab) result }
 {
     let plain = plain(alloc, checked.elab())?;
-    expand_plain(alloc, &plain)
+    let program = expand_plain(alloc, &plain)?;
+    Ok(Flat { program })
 }

@@ -1,8 +1,9 @@
 //! The stages of a flat program: expanded, and put in order.
 
 ghost use Rattle.std.specs.Prelude.{◌≡◌, true, false, replicate};
+ghost use Rattle.lb_flat.specs.GivenOnce.{IsGiven, given_prop};
 ghost use Rattle.lb_flat.specs.InOrder.{is_in_order};
-ghost use Rattle.lb_flat.specs.Programs.{IsInRange, flat_equations};
+ghost use Rattle.lb_flat.specs.Programs.{IsInRange, flat_equations, program_of};
 
 use crate::program::FlatProgram;
 
@@ -11,6 +12,7 @@ use crate::program::FlatProgram;
 pub struct Flat {
     pub program: FlatProgram,
     pub ghost in_range: { IsInRange program },
+    pub ghost given: { IsGiven (program_of program) } by { given_prop (program_of program) },
 }
 
 /// A flat program whose equations can be computed one after the other.

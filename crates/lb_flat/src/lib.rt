@@ -3,6 +3,7 @@
 #![tactic(auto)]
 
 pub mod cell;
+mod children;
 pub mod equation;
 pub mod error;
 pub mod evaluate;
@@ -10,6 +11,7 @@ pub mod expand;
 pub mod flat;
 mod instant;
 mod instant_verdict;
+mod layout;
 mod names;
 pub mod order;
 pub mod plain;
@@ -19,5 +21,7 @@ pub mod program;
 pub mod recorded;
 pub mod scalar;
 pub mod scratch;
+mod table_size;
 pub mod trace_run;
 pub mod traces;
+mod variable_kinds;

@@ -4,18 +4,21 @@
 //! scheduled: first by a topological sort, and then in passes over all elements until one schedules
 //! none. The sort decides only how many passes there are: it leaves nothing to the first of them.
 
-ghost use Rattle.std.specs.Prelude.{◌≡◌, IfOk};
+ghost use Rattle.std.specs.Prelude.{IfErr, IfOk};
 ghost use Rattle.lb_static.specs.Instances.{Program};
-ghost use Rattle.lb_flat.specs.Expanded.{IsOrderOf};
+ghost use Rattle.lb_flat.specs.Expanded.{IsCycleFound, IsOrderOf};
 ghost use Rattle.lb_flat.specs.Flattening.{IsFlatOf};
+ghost use Rattle.lb_flat.specs.GivenOnce.{IsGiven};
 ghost use Rattle.lb_flat.specs.Ordering.{AreOrdered};
 ghost use Rattle.lb_flat.specs.Prefixes.{IsDetermined};
-ghost use Rattle.lb_flat.specs.Programs.{flat_equations, program_of, IsInRange};
-ghost use Rattle.lb_flat.specs.Stuck.{CannotOrder};
+ghost use Rattle.lb_flat.specs.Programs.{program_of, IsInRange};
 
+mod cycle;
+mod next_variable;
 mod schedule;
 mod table;
 mod topological_sort;
+mod waiting;
 
 use crate::equation::Equation;
 use crate::error::OrderError;
@@ -27,27 +30,24 @@ use table::equation_table;
 
 // The equations of a program in order.
 fn ordered_equations(alloc: Global, program: &FlatProgram) -> Result<Vec<Equation>, OrderError>
-    requires { IsInRange program.now }
+    requires in_range { IsInRange program.now }
+    requires given { IsGiven (program_of program.now) }
     ensures order { IfOk result (λ qs. AreOrdered program.now qs.items) }
-    ensures cycle { result ≡ Err OrderError.Cycle → CannotOrder program.now.size
-        (flat_equations program.now.clocks.items program.now.equations.items) }
+    ensures cycle { IfErr result (IsCycleFound (program_of program.now)) }
 {
-    let clocks = program.clocks.as_slice();
-    let table = equation_table(alloc, program.size, clocks, program.equations.as_slice())?;
-    scheduled(alloc, clocks, table.as_slice())
+    let table = equation_table(alloc, program)?;
+    scheduled(alloc, program, table.as_slice())
 }
 
 /// Puts the equations of a flat program in an order in which they can be computed.
 ///
-/// Fails with `Cycle` (E13) only where there is no such order: an element has no equation, has two
-/// that differ, or some elements wait for one another at the same instant. An equation that stands
-/// twice is taken once.
+/// Fails with `Cycle` (E13) only where there is no such order: it names elements of variables of
+/// which each one reads the next at the same instant, and the last reads the first.
 pub fn order(alloc: Global, flat: Flat) -> Result<Ordered, OrderError>
     ensures order { IfOk result (λ o. IsOrderOf (program_of flat.program) (program_of o.program)) }
     ensures determined { IfOk result (λ o.
         (P : Program) → IsFlatOf P (program_of o.program) → IsDetermined P) }
-    ensures cycle { result ≡ Err OrderError.Cycle →
-        CannotOrder flat.program.size (program_of flat.program).equations }
+    ensures cycle { IfErr result (IsCycleFound (program_of flat.program)) }
 {
     let equations = ordered_equations(alloc, &flat.program)?;
     let mut program = flat.program;

@@ -4,7 +4,8 @@
 //! input is read. The other equations are steps, computed at each instant; few have a memory.
 
 ghost use Rattle.std.specs.Prelude.{◌≡◌, ◌<◌, [], Some, is_some, length, map, All, OnOk, IfSome};
-ghost use Rattle.lb_flat.specs.Prepared.{is_fixed, is_step, has_memory, inputs_in, steps_in, memory_places, place_equation, AreFixed};
+ghost use Rattle.lb_flat.specs.Prepared.{is_fixed, is_step, has_memory, inputs_in, steps_in};
+ghost use Rattle.lb_flat.specs.Prepared.{memory_places, place_equation, AreFixed};
 ghost use Rattle.lb_flat.specs.Programs.{flat_equations};
 ghost use Rattle.lb_flat.specs.Run.{Row, Ready, now};
 ghost use Rattle.lb_flat.specs.Values.{scalar_of, cell_of, clock_of, operation_of, equation_of};

@@ -8,11 +8,14 @@
 //!                              row ends  0 2 3
 //! ```
 
-ghost use Rattle.std.specs.Prelude.{◌≡◌, ◌<◌, ◌≤◌, ◌+◌, ◌↔◌, IsTrue, [], length, get_or, slice_get, Some, IfOk, OnOk, OnErr, pos};
+ghost use Rattle.std.specs.Prelude.{◌≡◌, ◌<◌, ◌≤◌, ◌+◌, ◌↔◌, IsTrue, [], length, get_or, slice_get};
+ghost use Rattle.std.specs.Prelude.{Some, IfOk, OnOk, OnErr, pos};
 ghost use Rattle.std.specs.List.{Contains};
 ghost use Rattle.lb_static.specs.Signature.{kinds_of};
 ghost use Rattle.lb_syntax.specs.declared.tree.Kind.TheVariants.{Int, Bool};
-ghost use Rattle.lb_flat.specs.Traces.{trace_at, cell_at, instants_of, trace_names, IsTraceName, IsRow, HasRoom, last_rows, with_row, with_trace, IsRecording, IsInt};
+ghost use Rattle.lb_flat.specs.Traces.{trace_at, cell_at, instants_of, trace_names, IsTraceName};
+ghost use Rattle.lb_flat.specs.Traces.{IsRow, HasRoom, last_rows, with_row, with_trace};
+ghost use Rattle.lb_flat.specs.Traces.{IsRecording, IsInt};
 
 use crate::names::Names;
 pub use crate::names::is_trace_name;

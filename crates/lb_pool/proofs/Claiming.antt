@@ -1,5 +1,8 @@
 -- Each atomic step keeps the law of the claim board.
-use Rattle.std.proofs.Common.{◌≡◌, ℕ, zero, suc, ◌+◌, ◌-◌, ◌/◌, ◌%◌, ◌^◌, ◌<◌, ◌≤◌, ◌⊎◌, inl, inr, ◌||◌, List, [], ◌∷◌, ◌++◌, Bool, true, false, cond, length, length-append, set, refl, sym, ap, ◌∙◌, subst, arith, min, zero-add, ◌≢◌, le_refl}
+use Rattle.std.proofs.Common.{◌≡◌, ℕ, zero, suc, ◌+◌, ◌-◌, ◌/◌, ◌%◌, ◌^◌, ◌<◌, ◌≤◌, ◌⊎◌, inl, inr}
+use Rattle.std.proofs.Common.{◌||◌, List, [], ◌∷◌, ◌++◌, Bool, true, false, cond, length}
+use Rattle.std.proofs.Common.{length-append, set, refl, sym, ap, ◌∙◌, subst, arith, min, zero-add}
+use Rattle.std.proofs.Common.{◌≢◌, le_refl}
 use Rattle.std.specs.List.{sum_by}
 use Rattle.std.specs.Prelude.{slice_index, slice_set, nat_lt, ◌==◌}
 use Rattle.std.proofs.lemmas.List.Sums.{sum_by-append}
@@ -12,7 +15,8 @@ use Rattle.atomic_table.proofs.Lists.{at_set, at_snoc, set_else}
 use Rattle.lb_pool.specs.declared.views.View.{View}
 use Rattle.lb_pool.specs.Views.{larger_half, smaller_half, both, spent}
 use Rattle.lb_pool.specs.Draws.{times, once_below, AreAllBelow}
-use Rattle.lb_pool.specs.Claims.{told_shares, IsLawfulView, AreLawfulViews, IsLawfulBoard, claimed, Claims}
+use Rattle.lb_pool.specs.Claims.{told_shares, IsLawfulView, AreLawfulViews, IsLawfulBoard, claimed}
+use Rattle.lb_pool.specs.Claims.{Claims}
 
 -- ## Sums over views
 

@@ -1,5 +1,6 @@
 -- The verdicts of all batches, in the order of the batches.
-use Rattle.std.proofs.Common.{◌≡◌, ℕ, ◌<◌, List, [], ◌∷◌, ◌++◌, Vec, Global, length, get_or, refl, ap, ◌∙◌, subst, sym, arith}
+use Rattle.std.proofs.Common.{◌≡◌, ℕ, ◌<◌, List, [], ◌∷◌, ◌++◌, Vec, Global, length, get_or, refl}
+use Rattle.std.proofs.Common.{ap, ◌∙◌, subst, sym, arith}
 use Rattle.std.specs.Prelude.{flat_map, map, IfOk, Ok, Result}
 use Rattle.std.specs.List.{AllZip, Contains, range_with_len}
 use Rattle.std.proofs.lemmas.List.{map-append}

@@ -1,6 +1,7 @@
 //! What runs of all kinds share: the verdicts of a batch, and their places in the list of all.
 
-ghost use Rattle.std.specs.Prelude.{◌≡◌, ℕ, ◌<◌, ◌++◌, [], length, get_or, All, Contains, IfOk, OnOk};
+ghost use Rattle.std.specs.Prelude.{◌≡◌, ℕ, ◌<◌, ◌++◌, [], length, get_or, All, Contains, IfOk};
+ghost use Rattle.std.specs.Prelude.{OnOk};
 ghost use Rattle.lb_flat.specs.PreparedParts.{IsRoomFor, program_in, recording_in};
 ghost use Rattle.lb_pool.specs.Plans.{numbers_in};
 ghost use Rattle.lb_pool.specs.Runs.{numbers_of, AreJudged, AreVerdicts, placed};

@@ -10,7 +10,8 @@
 //! it; who does not is told that none is left, and takes no further step. A seat is the right to
 //! claim. Seats are split for more threads and joined after them; nothing here locks or waits.
 
-ghost use Rattle.std.specs.Prelude.{◌≡◌, ◌<◌, ◌≤◌, ◌+◌, ◌-◌, ◌/◌, ◌||◌, ◌++◌, ◌∷◌, [], true, false, None, MatchOption, IfOk, length, min};
+ghost use Rattle.std.specs.Prelude.{◌≡◌, ◌<◌, ◌≤◌, ◌+◌, ◌-◌, ◌/◌, ◌||◌, ◌++◌, ◌∷◌, [], true, false};
+ghost use Rattle.std.specs.Prelude.{None, MatchOption, IfOk, length, min};
 ghost use Rattle.lb_pool.specs.Draws.{AreAllBelow};
 
 use crate::views::{Claim, Draws, Gather, Halve, View};

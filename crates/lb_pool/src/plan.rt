@@ -8,7 +8,8 @@
 //!                                                            batches  1 3 | 2 0
 //! ```
 
-ghost use Rattle.std.specs.Prelude.{◌≡◌, ◌<◌, ◌≤◌, ◌^◌, [], length, map, get_or, IfOk, OnOk, vec_len};
+ghost use Rattle.std.specs.Prelude.{◌≡◌, ◌<◌, ◌≤◌, ◌^◌, [], length, map, get_or, IfOk, OnOk};
+ghost use Rattle.std.specs.Prelude.{vec_len};
 ghost use Rattle.std.specs.List.{range_with_len};
 ghost use Rattle.std.specs.List.Sorted.{IsPermutation};
 ghost use Rattle.lb_pool.specs.Cuts.{measured};

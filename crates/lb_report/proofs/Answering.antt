@@ -1,11 +1,13 @@
 -- A report is given where nothing refuses first, and an error has the number of the first refusal.
-use Rattle.std.proofs.Common.{◌≡◌, ℕ, ◌<◌, inl, inr, Option, Some, None, Result, Ok, Err, refl, ap, ◌∙◌, arith}
+use Rattle.std.proofs.Common.{◌≡◌, ℕ, ◌<◌, inl, inr, Option, Some, None, Result, Ok, Err, refl, ap}
+use Rattle.std.proofs.Common.{◌∙◌, arith}
 use Rattle.std.specs.Prelude.{IfOk, IfErr, string_bytes}
 use Rattle.std.specs.Option.{option_map}
 use Rattle.lb_syntax.specs.Lists.{or_else}
 use Rattle.lb_syntax.specs.Tokens.{Text}
 use Rattle.lb_syntax.specs.Correct.{Parses}
-use Rattle.lb_syntax.specs.Refusals.{Refusal, E1, E2, E3, E4, E5, E6, E7, E8, E9, E10, E11, E12, E13, refusal_number, unless}
+use Rattle.lb_syntax.specs.Refusals.{Refusal, E1, E2, E3, E4, E5, E6, E7, E8, E9, E10, E11, E12}
+use Rattle.lb_syntax.specs.Refusals.{E13, refusal_number, unless}
 use Rattle.lb_syntax.specs.declared.error.SyntaxError.{SyntaxError}
 use Rattle.lb_syntax.specs.declared.error.SyntaxError.TheVariants as syntax
 use Rattle.lb_static.specs.Elaborates.{IsStaticFault}
@@ -23,7 +25,8 @@ use Rattle.lb_flat.specs.declared.error.OrderError.{OrderError}
 use Rattle.lb_flat.specs.declared.error.OrderError.TheVariants as order
 use Rattle.lb_report.specs.Bench.{IsBenchReport, IsCycle, IsRefused, program_of}
 use Rattle.lb_report.specs.Correct.{HasFirstNumber, IsBenchAnswer, IsFirstOf}
-use Rattle.lb_report.specs.FirstRefusals.{IsFirstRefusal, IsTextRefusal, too_long, no_tokens, over_limit, no_tree, of_text, of_program, of_traces}
+use Rattle.lb_report.specs.FirstRefusals.{IsFirstRefusal, IsTextRefusal, too_long, no_tokens}
+use Rattle.lb_report.specs.FirstRefusals.{over_limit, no_tree, of_text, of_program, of_traces}
 use Rattle.lb_report.specs.Refusals.{syntax_number, static_number, check_number, order_number}
 use Rattle.lb_report.specs.declared.error.BenchError.{BenchError}
 use Rattle.lb_report.specs.declared.error.BenchError.TheVariants as part
@@ -99,7 +102,7 @@ by_order :
     (P : Program) (e : OrderError) → 0 < order_number e → IsCycle P e →
     IsNumbered (λ r. IsFirst P (Some r)) (order_number e)
 by_order P order.Memory some h = absurd (omega (arith, some))
-by_order P order.Cycle some h = record { refusal = E13; refuses = h; same = refl }
+by_order P (order.Cycle elements) some h = record { refusal = E13; refuses = h; same = refl }
 
 -- ## What the bench answers
 

@@ -1,5 +1,6 @@
 -- There is at most one first refusal.
-use Rattle.std.proofs.Common.{◌≡◌, ℕ, ◌⊎◌, inl, inr, Option, Some, None, refl, ap, sym, subst, ◌∙◌, arith, IsTrue}
+use Rattle.std.proofs.Common.{◌≡◌, ℕ, ◌⊎◌, inl, inr, Option, Some, None, refl, ap, sym, subst, ◌∙◌}
+use Rattle.std.proofs.Common.{arith, IsTrue}
 use Rattle.lb_syntax.specs.Tree.{Name, Source}
 use Rattle.lb_syntax.specs.Tokens.{Text}
 use Rattle.lb_syntax.specs.Correct.{IsOnlyProgram, KeepsLimits}
@@ -8,7 +9,9 @@ use Rattle.lb_syntax.specs.Refusals.{Refusal, E1, E2, E3, E13, refusal_number}
 use Rattle.lb_syntax.specs.Texts.{BreaksLimit}
 use Rattle.lb_static.specs.Instances.{Program}
 use Rattle.lb_check.specs.Acceptance.{refusal, IsAccepted, IsFirst}
-use Rattle.lb_report.specs.FirstRefusals.{IsFirstRefusal, IsOnlyFirstRefusal, IsTextRefusal, IsTraceRefusal, too_long, no_tokens, over_limit, no_tree, of_text, of_program, of_traces}
+use Rattle.lb_report.specs.FirstRefusals.{IsFirstRefusal, IsOnlyFirstRefusal, IsTextRefusal}
+use Rattle.lb_report.specs.FirstRefusals.{IsTraceRefusal, too_long, no_tokens, over_limit, no_tree}
+use Rattle.lb_report.specs.FirstRefusals.{of_text, of_program, of_traces}
 
 -- ## The text of the source
 

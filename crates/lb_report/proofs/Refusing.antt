@@ -1,6 +1,6 @@
 -- What a part of the bench refuses is the first refusal of the program; one that no part refuses is
 -- accepted.
-use Rattle.std.proofs.Common.{◌≡◌, true, Option, None, Err, [], refl, ap, sym, subst, ◌∙◌}
+use Rattle.std.proofs.Common.{◌≡◌, true, Option, None, Err, [], ap, sym, subst, ◌∙◌}
 use Rattle.std.specs.Prelude.{string_bytes}
 use Rattle.std.specs.Option.{option_map}
 use Rattle.lb_syntax.specs.Lists.{or_else}
@@ -10,11 +10,10 @@ use Rattle.lb_static.specs.Instances.{Program}
 use Rattle.lb_static.specs.Instantiation.{static_refusal}
 use Rattle.lb_check.specs.Acceptance.{check_refusal, refusal, IsAccepted}
 use Rattle.lb_check.specs.TypeRules.{is_small}
-use Rattle.lb_flat.specs.Expanded.{IsExpansionAnswer, IsExpansionOf, IsOrderOf}
+use Rattle.lb_flat.specs.Expanded.{IsCycleFound, IsExpansionAnswer, IsExpansionOf, IsOrderOf}
 use Rattle.lb_flat.specs.Flattening.{IsFlatOf}
 use Rattle.lb_flat.specs.Judging.{FlatProgram}
 use Rattle.lb_flat.specs.Run.{Ready}
-use Rattle.lb_flat.specs.Stuck.{CannotOrder}
 use Rattle.lb_flat.specs.declared.error.FlatError.{FlatError}
 use Rattle.lb_flat.specs.declared.error.FlatError.TheVariants as flat
 use Rattle.lb_flat.specs.declared.error.OrderError.{OrderError}
@@ -49,10 +48,10 @@ too_large P flat.Unsupported s c h = (s, c, h)
 pub is_cycle :
     (P : Program) (f : FlatProgram) (e : OrderError) → static_refusal P ≡ None →
     check_refusal P ≡ None → is_small P ≡ true → IsExpansionOf P f →
-    (e ≡ Cycle → CannotOrder f.size f.equations) → IsCycle P e
-is_cycle P f Memory s c z expansion cannot = tt
-is_cycle P f Cycle s c z expansion cannot =
-    (size_decides P s c ∙ ap (λ b. unless b E12) z, expansion.cyclic (cannot refl))
+    IsCycleFound f e → IsCycle P e
+is_cycle P f Memory s c z expansion found = tt
+is_cycle P f (Cycle elements) s c z expansion found =
+    (size_decides P s c ∙ ap (λ b. unless b E12) z, expansion.cyclic found.1)
 
 -- a program whose equations are put in order is accepted, and these are its equations
 pub accepted_is :

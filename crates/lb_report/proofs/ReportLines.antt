@@ -1,5 +1,6 @@
 -- Reports, line by line.
-use Rattle.std.proofs.Common.{◌≡◌, ℕ, ◌+◌, ◌<◌, List, [], ◌∷◌, ◌++◌, length, drop, get_or, flat_map, suc, ap, sym, ◌∙◌, append-nil, append_assoc, add-one, arith}
+use Rattle.std.proofs.Common.{◌≡◌, ℕ, ◌+◌, ◌<◌, List, [], ◌∷◌, ◌++◌, length, drop, get_or, flat_map}
+use Rattle.std.proofs.Common.{suc, ap, sym, ◌∙◌, append-nil, append_assoc, add-one, arith}
 use Rattle.std.proofs.Math.Seq.{drop-cons}
 use Rattle.std.proofs.lemmas.List.{map-id}
 use Rattle.std.proofs.lemmas.Grind.{flat_map-append}

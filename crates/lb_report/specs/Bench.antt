@@ -1,6 +1,7 @@
 -- What `bench` promises of a source text and a trace text.
 -- Source: this project's rule.
-use Rattle.std.specs.Prelude.{◌≡◌, ℕ, ◌<◌, true, Some, None, Err, List, length, get_or, string_bytes}
+use Rattle.std.specs.Prelude.{◌≡◌, ℕ, ◌<◌, true, Some, None, Err, List, length, get_or}
+use Rattle.std.specs.Prelude.{string_bytes}
 use Rattle.std.specs.Option.{option_map}
 use Rattle.lb_syntax.specs.Tree.{Source}
 use Rattle.lb_syntax.specs.Tokens.{Text}
@@ -93,7 +94,7 @@ IsTooLarge P flat.Unsupported =
 -- the first refusal of a program is that an element needs itself at the same instant
 abbrev pub IsCycle : Program → OrderError → Type 0
 IsCycle P order.Memory = Unit {0}
-IsCycle P order.Cycle = IsFirst P (Some E13)
+IsCycle P (order.Cycle elements) = IsFirst P (Some E13)
 
 -- the named part refuses, and none before it; nothing is said where memory ran out
 abbrev pub IsRefused : (source traces : Text) → Options → BenchError → Type 0

@@ -1,6 +1,7 @@
 -- A case text: a source and its traces in one text, parted by a line.
 -- Source: this project's rule.
-use Rattle.std.specs.Prelude.{ℕ, Bool, true, nat_eq, ◌+◌, ◌&&◌, if◌then◌else◌, Option, Some, None, List, [], ◌∷◌, drop, codes, ◌==◌}
+use Rattle.std.specs.Prelude.{ℕ, Bool, true, nat_eq, ◌+◌, ◌&&◌, if◌then◌else◌, Option, Some, None}
+use Rattle.std.specs.Prelude.{List, [], ◌∷◌, drop, codes, ◌==◌}
 use Rattle.std.specs.List.{starts_with}
 
 abbrev pub begins : List ℕ → List ℕ → Bool

@@ -1,6 +1,7 @@
 -- What `bench` answers to a source and a trace text: the promise of the whole bench.
 -- Source: this project's rule.
-use Rattle.std.specs.Prelude.{◌≡◌, ℕ, ◌<◌, ◌⊎◌, Option, Some, None, Result, IfOk, OnOk, IfErr, string_bytes}
+use Rattle.std.specs.Prelude.{◌≡◌, ℕ, ◌<◌, ◌⊎◌, Option, Some, None, Result, IfOk, OnOk, IfErr}
+use Rattle.std.specs.Prelude.{string_bytes}
 use Rattle.std.specs.Option.{option_map}
 use Rattle.lb_syntax.specs.Tokens.{Text}
 use Rattle.lb_flat.specs.declared.error.FlatError.TheVariants as flat
@@ -18,8 +19,8 @@ IsFirstOf source traces options first =
     IsOnlyFirstRefusal source traces (string_bytes options.node)
     (option_map string_bytes options.observer) first
 
--- an error has the number of the first refusal. Want of memory, which has the number 0, is none; and
--- a form that does not run yet is refused as E12, whatever comes after
+-- an error has the number of the first refusal. Want of memory, which has the number 0, is none;
+-- and a form that does not run yet is refused as E12, whatever comes after
 abbrev pub HasFirstNumber : (source traces : Text) → Options → BenchError → Type 0
 HasFirstNumber source traces options e =
     0 < number_of e →

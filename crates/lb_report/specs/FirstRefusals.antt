@@ -1,5 +1,5 @@
--- The first refusal of a run, from its two texts and the names of two nodes: the refusals from E1 to
--- E18 in the order of the parts, which are the text of the source, its program, and the traces.
+-- The first refusal of a run, from its two texts and the names of two nodes: the refusals from E1
+-- to E18 in the order of the parts, which are the text of the source, its program, and the traces.
 -- Source: this project's rule.
 use Rattle.std.specs.Prelude.{◌≡◌, ℕ, ◌≤◌, Option, Some, None, Err, length}
 use Rattle.lb_syntax.specs.Tree.{Name, Source}

@@ -74,7 +74,7 @@ flat_number flat.Unsupported = 12
 
 abbrev pub order_number : OrderError → ℕ
 order_number order.Memory = 0
-order_number order.Cycle = 13
+order_number (order.Cycle elements) = 13
 
 -- the number of a refusal
 abbrev pub number_of : BenchError → ℕ

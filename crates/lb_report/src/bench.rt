@@ -56,7 +56,8 @@ fn accept_tree(
     tree: &Source,
     options: &Options,
 ) -> Result<AcceptedProgram, BenchError>
-    ensures ok { IfOk result (λ p. IsAcceptedProgram p (program_of (view_source tree.now) options.now)) }
+    ensures ok { IfOk result (λ p.
+        IsAcceptedProgram p (program_of (view_source tree.now) options.now)) }
     ensures err { (source traces : Text) → IsOnlyProgram (view_source tree.now) source →
         IfErr result (IsRefused source traces options.now) }
 {

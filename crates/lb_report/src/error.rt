@@ -69,7 +69,7 @@ fn order_number(cause: &OrderError) -> u8
 {
     match cause {
         OrderError::Memory => 0,
-        OrderError::Cycle => 13,
+        OrderError::Cycle(_) => 13,
     }
 }
 

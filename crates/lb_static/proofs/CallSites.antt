@@ -1,5 +1,7 @@
 -- The instances that a call site of an instance calls.
-use Rattle.std.proofs.Common.{◌≡◌, ℕ, suc, zero, ◌<◌, ℤ, pos, negsuc, Bool, true, false, cond, List, [], ◌∷◌, ◌++◌, map, length, take, drop, get_or, Option, Some, None, option_map, refl, ap, ap₂, sym, ◌∙◌, subst, arith}
+use Rattle.std.proofs.Common.{◌≡◌, ℕ, suc, zero, ◌<◌, ℤ, pos, negsuc, Bool, true, false, cond, List}
+use Rattle.std.proofs.Common.{[], ◌∷◌, ◌++◌, map, length, take, drop, get_or, Option, Some, None}
+use Rattle.std.proofs.Common.{option_map, refl, ap, ap₂, sym, ◌∙◌, subst, arith}
 use Rattle.std.specs.Prelude.{◌||◌, not, slice_get, find}
 use Rattle.std.specs.List.{range_with_len, zip}
 use Rattle.std.specs.Str.{bytes_eq}
@@ -8,7 +10,9 @@ use Rattle.std.proofs.lemmas.List.{take-map, drop-map, length-map}
 use Rattle.std.proofs.lemmas.Slice.Eq.{bytes_eq-Decides}
 use Rattle.lb_syntax.specs.Lists.{◌>>=◌, all_some, some_of, either_or, listed}
 use Rattle.lb_syntax.specs.Tree.{Name, Static, Whole, Node}
-use Rattle.lb_static.specs.Instances.{Program, Instance, Path, Child, Site, static_value, node_named, instance_count, callee_of, node_sites, site_instances}
+use Rattle.lb_static.specs.Instances.{Program, Instance, Path, Child, Site, static_value}
+use Rattle.lb_static.specs.Instances.{node_named, instance_count, callee_of, node_sites}
+use Rattle.lb_static.specs.Instances.{site_instances}
 use Rattle.lb_static.specs.InstanceTable.{instance_of}
 use Rattle.lb_static.specs.Names.{are_distinct, global_names}
 use Rattle.lb_static.specs.Parts.{among}

@@ -1,5 +1,7 @@
 -- The walk over the nodes that are reached by name: one more node, and a fault of one.
-use Rattle.std.proofs.Common.{◌≡◌, ℕ, zero, suc, ◌+◌, ◌<◌, ◌≤◌, Bool, true, false, cond, List, [], ◌∷◌, ◌++◌, length, map, drop, get_or, Option, Some, option_map, refl, ap, sym, subst, ◌∙◌, arith, length-append}
+use Rattle.std.proofs.Common.{◌≡◌, ℕ, zero, suc, ◌+◌, ◌<◌, ◌≤◌, Bool, true, false, cond, List, []}
+use Rattle.std.proofs.Common.{◌∷◌, ◌++◌, length, map, drop, get_or, Option, Some, option_map, refl}
+use Rattle.std.proofs.Common.{ap, sym, subst, ◌∙◌, arith, length-append}
 use Rattle.std.specs.Prelude.{◌&&◌, filter, nat_lt, slice_get}
 use Rattle.std.specs.List.{list_all}
 use Rattle.std.specs.Str.{bytes_eq}
@@ -18,7 +20,8 @@ use Rattle.lb_static.specs.NameFaults.{IsNameFault, named_in}
 use Rattle.lb_static.specs.ResolvedNodes.{IsResolved, counts_of, node_of, statics_of}
 use Rattle.lb_static.specs.ResolvedTerms.{Counts, is_site_within, site_of}
 use Rattle.lb_static.specs.StaticValues.{named}
-use Rattle.lb_static.specs.WorkLists.{AreReachable, Grows, is_reachable, is_visited, visited_after, visited_after_all, within}
+use Rattle.lb_static.specs.WorkLists.{AreReachable, Grows, is_reachable, is_visited, visited_after}
+use Rattle.lb_static.specs.WorkLists.{visited_after_all, within}
 use Rattle.lb_static.specs.declared.error.StaticError.{StaticError}
 use Rattle.lb_static.specs.declared.resolved.CallSite.{CallSite}
 use Rattle.lb_static.specs.declared.resolved.ResolvedNode.{ResolvedNode}
@@ -26,7 +29,8 @@ use Rattle.lb_static.proofs.Faults.{fault_within}
 use Rattle.lb_static.proofs.Reachability.{reachable_by, reachable_next, reachable_visits, within_is}
 use Rattle.lb_static.proofs.Lists.{all_append, and_first, and_second, both, map_next}
 use Rattle.lb_static.proofs.TestedItems.{all_weaker}
-use Rattle.lb_static.proofs.WorkLists.{all_at, at_all, at_any, append_before, append_last, grows_all, grows_both, visited_all}
+use Rattle.lb_static.proofs.WorkLists.{all_at, at_all, at_any, append_before, append_last}
+use Rattle.lb_static.proofs.WorkLists.{grows_all, grows_both, visited_all}
 
 -- ## Look-ups
 

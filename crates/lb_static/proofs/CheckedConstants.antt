@@ -1,5 +1,7 @@
 -- The walk over the constants that are reached by name: one more constant, and a fault of one.
-use Rattle.std.proofs.Common.{◌≡◌, ℕ, zero, suc, ◌<◌, ◌≤◌, Bool, true, false, List, [], ◌∷◌, length, map, Option, Some, None, is_some, option_map, refl, ap, sym, subst, ◌∙◌, arith}
+use Rattle.std.proofs.Common.{◌≡◌, ℕ, zero, suc, ◌<◌, ◌≤◌, Bool, true, false, List, [], ◌∷◌, length}
+use Rattle.std.proofs.Common.{map, Option, Some, None, is_some, option_map, refl, ap, sym, subst}
+use Rattle.std.proofs.Common.{◌∙◌, arith}
 use Rattle.std.specs.Prelude.{◌||◌, filter, nat_lt, slice_get}
 use Rattle.std.specs.List.{list_all, list_any}
 use Rattle.std.specs.Str.{bytes_eq}
@@ -12,20 +14,24 @@ use Rattle.lb_syntax.specs.Tree.{Name, Constant, Source}
 use Rattle.lb_static.specs.CalledNodes.{program_in}
 use Rattle.lb_static.specs.SourceNames.{constants_in, names_in_source}
 use Rattle.lb_static.specs.NameFaults.{IsNameFault}
-use Rattle.lb_static.specs.NamedConstants.{AreNamed, constant_place, is_judged, keeps_constants, place_named, places_named}
+use Rattle.lb_static.specs.NamedConstants.{AreNamed, constant_place, is_judged, keeps_constants}
+use Rattle.lb_static.specs.NamedConstants.{place_named, places_named}
 use Rattle.lb_static.specs.Names.{are_distinct, constants_within, is_constant}
 use Rattle.lb_static.specs.Parts.{among, static_names}
-use Rattle.lb_static.specs.WorkLists.{AreReachable, Grows, is_reachable, is_visited, visited_after_all, within}
+use Rattle.lb_static.specs.WorkLists.{AreReachable, Grows, is_reachable, is_visited}
+use Rattle.lb_static.specs.WorkLists.{visited_after_all, within}
 use Rattle.lb_static.specs.declared.error.StaticError.{StaticError}
 use Rattle.lb_static.specs.declared.globals.Globals.{Globals}
 use Rattle.lb_static.proofs.Faults.{fault_within}
 use Rattle.lb_static.proofs.CalledNodes.{grown_at, reachable_passes, refuted, there}
 use Rattle.lb_static.proofs.ConstantPlaces.{constant_found, constant_known}
-use Rattle.lb_static.proofs.Reachability.{closed_has, reachable_by, reachable_next, reachable_visits, within_is}
+use Rattle.lb_static.proofs.Reachability.{closed_has, reachable_by, reachable_next}
+use Rattle.lb_static.proofs.Reachability.{reachable_visits, within_is}
 use Rattle.lb_static.proofs.Lists.{and_first, both}
 use Rattle.lb_static.proofs.TestedItems.{all_flat, all_weaker}
 use Rattle.lb_static.proofs.ReachedPlaces.{filtered_from, mapped_from}
-use Rattle.lb_static.proofs.WorkLists.{all_at, any_at, append_before, at_all, at_any, at_visited, grows_all, grows_both, visited_all, visited_at}
+use Rattle.lb_static.proofs.WorkLists.{all_at, any_at, append_before, at_all, at_any, at_visited}
+use Rattle.lb_static.proofs.WorkLists.{grows_all, grows_both, visited_all, visited_at}
 
 -- the value of the first constant names the second
 abbrev pub names_constant : Constant → Constant → Bool

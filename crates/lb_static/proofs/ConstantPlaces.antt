@@ -1,6 +1,9 @@
 -- The places of the constants that names stand for.
-use Rattle.std.proofs.Common.{◌≡◌, ℕ, ◌+◌, ◌<◌, ◌≤◌, Bool, true, false, List, [], ◌∷◌, ◌++◌, length, drop, get_or, Option, Some, None, is_some, refl, ap, sym, subst, ◌∙◌, arith}
-use Rattle.std.specs.Prelude.{◌||◌, IfErr, OnOk, Result, Ok, Err, flat_map, nat_lt, position, slice_get, if◌then◌else◌}
+use Rattle.std.proofs.Common.{◌≡◌, ℕ, ◌+◌, ◌<◌, ◌≤◌, Bool, true, false, List, [], ◌∷◌, ◌++◌, length}
+use Rattle.std.proofs.Common.{drop, get_or, Option, Some, None, is_some, refl, ap, sym, subst, ◌∙◌}
+use Rattle.std.proofs.Common.{arith}
+use Rattle.std.specs.Prelude.{◌||◌, IfErr, OnOk, Result, Ok, Err, flat_map, nat_lt, position}
+use Rattle.std.specs.Prelude.{slice_get, if◌then◌else◌}
 use Rattle.std.specs.List.{list_any}
 use Rattle.std.specs.Str.{bytes_eq}
 use Rattle.std.proofs.lemmas.Bool.Decides.{nat_tests}
@@ -9,7 +12,8 @@ use Rattle.std.proofs.lemmas.List.{drop_more}
 use Rattle.std.proofs.lemmas.Slice.Eq.{bytes_eq-Decides}
 use Rattle.lb_syntax.specs.Lists.{◌>>=◌, listed, where_true}
 use Rattle.lb_syntax.specs.Tree.{Name}
-use Rattle.lb_static.specs.NamedConstants.{constant_place, part_constants, place_named, places_named}
+use Rattle.lb_static.specs.NamedConstants.{constant_place, part_constants, place_named}
+use Rattle.lb_static.specs.NamedConstants.{places_named}
 use Rattle.lb_static.specs.Names.{are_distinct}
 use Rattle.lb_static.specs.Parts.{among, static_names}
 use Rattle.lb_static.specs.ResolvedTerms.{static_of}

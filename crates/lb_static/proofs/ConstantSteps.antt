@@ -1,5 +1,7 @@
 -- The values of constants: what more steps keep, and when a table of values is complete.
-use Rattle.std.proofs.Common.{◌≡◌, ◌≢◌, ℕ, zero, suc, ◌+◌, ◌-◌, ◌<◌, ◌≤◌, ℤ, Bool, true, false, cond, List, [], ◌∷◌, ◌++◌, length, map, drop, set, get_or, replicate, Option, Some, None, is_some, option_map, refl, ap, sym, ◌∙◌, arith}
+use Rattle.std.proofs.Common.{◌≡◌, ◌≢◌, ℕ, zero, suc, ◌+◌, ◌-◌, ◌<◌, ◌≤◌, ℤ, Bool, true, false}
+use Rattle.std.proofs.Common.{cond, List, [], ◌∷◌, ◌++◌, length, map, drop, set, get_or, replicate}
+use Rattle.std.proofs.Common.{Option, Some, None, is_some, option_map, refl, ap, sym, ◌∙◌, arith}
 use Rattle.std.specs.Prelude.{not, ◌||◌, if◌then◌else◌, nat_lt, nat_eq, position, slice_get}
 use Rattle.std.specs.Borrow.{Bor}
 use Rattle.std.specs.List.{position_or_len}
@@ -8,7 +10,8 @@ use Rattle.std.proofs.lemmas.Bool.Decides.{nat_tests}
 use Rattle.std.proofs.lemmas.List.{length-map, length-set, get_or-set_same, length-replicate}
 use Rattle.std.proofs.lemmas.List.Folds.{find_at}
 use Rattle.std.proofs.lemmas.List.Sums.{sum_by-set, count_by-le-length}
-use Rattle.std.proofs.lemmas.Option.{slice_get-map, slice_get_past, slice_get_within, slice_get-get_or, get_or_from_slice_get}
+use Rattle.std.proofs.lemmas.Option.{slice_get-map, slice_get_past, slice_get_within}
+use Rattle.std.proofs.lemmas.Option.{slice_get-get_or, get_or_from_slice_get}
 use Rattle.std.proofs.lemmas.Slice.Eq.{bytes_eq-Decides}
 use Rattle.lb_syntax.specs.Lists.{◌>>=◌}
 use Rattle.lb_syntax.specs.Tree.{Name, Static, Whole, Named, Negated, Combined, Grouped, Constant}
@@ -16,7 +19,8 @@ use Rattle.lb_syntax.specs.SourceView.{view_constant}
 use Rattle.lb_syntax.specs.View.{view_static}
 use Rattle.lb_syntax.specs.declared.tree.Constant as written
 use Rattle.lb_static.specs.Arithmetic.{arithmetic, negated}
-use Rattle.lb_static.specs.ConstantValues.{names_of, read_constants, value_held, known, AreFirst, AreStable, IsStable, IsSound}
+use Rattle.lb_static.specs.ConstantValues.{names_of, read_constants, value_held, known, AreFirst}
+use Rattle.lb_static.specs.ConstantValues.{AreStable, IsStable, IsSound}
 use Rattle.lb_static.specs.Parts.{among, static_names}
 use Rattle.lb_static.specs.Scopes.{declared_after}
 use Rattle.lb_static.specs.StaticValues.{named, value_under, constant_value}

@@ -1,5 +1,7 @@
 -- The steps of the search for a cycle.
-use Rattle.std.proofs.Common.{◌≡◌, ◌≢◌, ℕ, zero, suc, ◌+◌, ◌<◌, ◌≤◌, Bool, true, false, List, [], ◌∷◌, ◌++◌, length, map, set, get_or, reverse, Option, Some, None, refl, ap, sym, subst, ◌∙◌, ◌⊎◌, inl, inr, arith}
+use Rattle.std.proofs.Common.{◌≡◌, ◌≢◌, ℕ, zero, suc, ◌+◌, ◌<◌, ◌≤◌, Bool, true, false, List, []}
+use Rattle.std.proofs.Common.{◌∷◌, ◌++◌, length, map, set, get_or, reverse, Option, Some, None}
+use Rattle.std.proofs.Common.{refl, ap, sym, subst, ◌∙◌, ◌⊎◌, inl, inr, arith}
 use Rattle.std.specs.Prelude.{nat_eq, slice_get}
 use Rattle.std.proofs.lemmas.Bool.Decides.{nat_tests}
 use Rattle.std.proofs.lemmas.List.{length-set, get_or-set_same, reverse-append}
@@ -7,7 +9,8 @@ use Rattle.std.proofs.lemmas.List.Sums.{sum_by_push}
 use Rattle.std.proofs.lemmas.Option.{slice_get-get_or, slice_get_within}
 use Rattle.lb_syntax.specs.Lists.{In}
 use Rattle.lb_static.specs.CallGraphs.{AreWithin, IsOnCycle, Leads, called}
-use Rattle.lb_static.specs.CycleSearch.{IsAt, IsBetween, IsFrame, IsPath, IsSearch, IsSearchFrom, Keeps, unseen, on_path}
+use Rattle.lb_static.specs.CycleSearch.{IsAt, IsBetween, IsFrame, IsPath, IsSearch, IsSearchFrom}
+use Rattle.lb_static.specs.CycleSearch.{Keeps, unseen, on_path}
 use Rattle.lb_static.specs.declared.cycle.Frame.{Frame}
 use Rattle.lb_static.specs.declared.cycle.Progress.{Progress}
 use Rattle.lb_static.specs.declared.cycle.Progress.TheVariants.{Unseen, Open, Done}

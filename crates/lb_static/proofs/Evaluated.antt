@@ -1,5 +1,7 @@
 -- What the values of the static expressions of a node say of an instance of it.
-use Rattle.std.proofs.Common.{◌≡◌, ℕ, ℤ, pos, Bool, true, false, List, [], ◌∷◌, ◌++◌, map, reverse, length, take, drop, Option, Some, None, option_map, refl, ap, ap₂, sym, ◌∙◌, arith}
+use Rattle.std.proofs.Common.{◌≡◌, ℕ, ℤ, pos, Bool, true, false, List, [], ◌∷◌, ◌++◌, map, reverse}
+use Rattle.std.proofs.Common.{length, take, drop, Option, Some, None, option_map, refl, ap, ap₂}
+use Rattle.std.proofs.Common.{sym, ◌∙◌, arith}
 use Rattle.std.specs.Prelude.{◌&&◌, flat_map, is_some, nat_le}
 use Rattle.std.specs.List.{list_all}
 use Rattle.std.proofs.lemmas.List.{length-map, reverse-append, take-map, drop-map, map-append}
@@ -7,12 +9,15 @@ use Rattle.std.proofs.lemmas.List.Folds.{list_all-map}
 use Rattle.lb_syntax.specs.Lists.{◌>>=◌, all_some, either_or, zip2}
 use Rattle.lb_syntax.specs.SourceView.{view_node}
 use Rattle.lb_syntax.specs.Tree.{Name, Declaration}
-use Rattle.lb_static.specs.Instances.{Program, Instance, Path, name_value, static_value, static_count}
-use Rattle.lb_static.specs.Parts.{among, declared_sizes, node_parts, own_sizes, own_indexes, own_slices, variable_names}
+use Rattle.lb_static.specs.Instances.{Program, Instance, Path, name_value, static_value}
+use Rattle.lb_static.specs.Instances.{static_count}
+use Rattle.lb_static.specs.Parts.{among, declared_sizes, node_parts, own_sizes, own_indexes}
+use Rattle.lb_static.specs.Parts.{own_slices, variable_names}
 use Rattle.lb_static.specs.ResolvedNodes.{IsResolved, part_of, statics_of}
 use Rattle.lb_static.specs.ResolvedTerms.{declaration_of, static_of}
 use Rattle.lb_static.specs.DataTypes.{variables, width, product, element_count}
-use Rattle.lb_static.specs.Specialized.{part_value, part_values, in_range_after, is_narrow, node_in_range}
+use Rattle.lb_static.specs.Specialized.{part_value, part_values, in_range_after, is_narrow}
+use Rattle.lb_static.specs.Specialized.{node_in_range}
 use Rattle.lb_static.specs.StaticParts.{Part, group_parts, node_static_parts}
 use Rattle.lb_static.specs.StaticValues.{natural, value_under}
 use Rattle.lb_static.specs.Instantiation.{has_values, is_in_range}
@@ -20,9 +25,11 @@ use Rattle.lb_static.specs.declared.resolved.ResolvedNode.{ResolvedNode}
 use Rattle.lb_static.specs.declared.resolved.StaticPart.{StaticPart}
 use Rattle.lb_static.specs.declared.resolved.Variable.{Variable as Declared}
 use Rattle.lb_static.proofs.Evaluations.{some_each}
-use Rattle.lb_static.proofs.ValuedInstances.{instance_with, values_judged, variables_declared, groups_of}
+use Rattle.lb_static.proofs.ValuedInstances.{instance_with, values_judged, variables_declared}
+use Rattle.lb_static.proofs.ValuedInstances.{groups_of}
 use Rattle.lb_static.proofs.Lists.{all_append, map_map}
-use Rattle.lb_static.proofs.NodeRanges.{pass_after, ranges_are, node_ranges, body_passes, is_size, is_index, is_slice}
+use Rattle.lb_static.proofs.NodeRanges.{pass_after, ranges_are, node_ranges, body_passes, is_size}
+use Rattle.lb_static.proofs.NodeRanges.{is_index, is_slice}
 use Rattle.lb_static.proofs.NodeValues.{some_all, sizes_in}
 use Rattle.lb_static.proofs.OwnParts.{body_is}
 use Rattle.lb_static.proofs.Widths.{narrow_is}

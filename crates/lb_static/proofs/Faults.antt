@@ -2,7 +2,8 @@
 use Rattle.std.proofs.Common.{◌≡◌, Bool, false}
 use Rattle.lb_static.specs.NameFaults.{IsNameFault}
 use Rattle.lb_static.specs.declared.error.StaticError.{StaticError}
-use Rattle.lb_static.specs.declared.error.StaticError.TheVariants.{Memory, Name, Recursion, Root, Value, Range, Instances}
+use Rattle.lb_static.specs.declared.error.StaticError.TheVariants.{Memory, Name, Recursion, Root}
+use Rattle.lb_static.specs.declared.error.StaticError.TheVariants.{Value, Range, Instances}
 
 pub fault_within : (e : StaticError) (b all : Bool) → IsNameFault e b → (b ≡ false → all ≡ false)
     → IsNameFault e all

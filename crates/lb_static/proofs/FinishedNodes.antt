@@ -1,5 +1,6 @@
 -- A node of which all is resolved stands for its tree.
-use Rattle.std.proofs.Common.{◌≡◌, ℕ, ◌+◌, true, List, [], ◌∷◌, ◌++◌, length, map, refl, ap, sym, subst, ◌∙◌, length-append}
+use Rattle.std.proofs.Common.{◌≡◌, ℕ, ◌+◌, true, List, [], ◌∷◌, ◌++◌, length, map, refl, ap, sym}
+use Rattle.std.proofs.Common.{subst, ◌∙◌, length-append}
 use Rattle.std.specs.Prelude.{flat_map, Vec}
 use Rattle.std.specs.declared.alloc.Global.{Global}
 use Rattle.std.specs.List.{list_all}
@@ -7,7 +8,8 @@ use Rattle.std.proofs.lemmas.Grind.{flat_map-append}
 use Rattle.std.proofs.lemmas.List.{length-map, map-append}
 use Rattle.lb_syntax.specs.Grammar.{Group, declared}
 use Rattle.lb_syntax.specs.Lists.{zip2}
-use Rattle.lb_syntax.specs.SourceView.{view_group, view_groups, view_node, view_source, view_statement}
+use Rattle.lb_syntax.specs.SourceView.{view_group, view_groups, view_node, view_source}
+use Rattle.lb_syntax.specs.SourceView.{view_statement}
 use Rattle.lb_syntax.specs.Tree.{Name, Static, Declaration, Node, Source, Statement}
 use Rattle.lb_syntax.specs.declared.tree.Declarations.{Declarations}
 use Rattle.lb_syntax.specs.declared.tree.Node as written
@@ -15,11 +17,16 @@ use Rattle.lb_syntax.specs.declared.tree.Source as written_source
 use Rattle.lb_static.specs.Instances.{node_sites}
 use Rattle.lb_static.specs.NameFaults.{IsNameFault}
 use Rattle.lb_static.specs.NodeNames.{node_in}
-use Rattle.lb_static.specs.NodeProgress.{Progress, texts, texts_in, counts_in, counts_kept, nameless, after_groups, after_node, declaration_fits, statement_fits, StatementsStand}
+use Rattle.lb_static.specs.NodeProgress.{Progress, texts, texts_in, counts_in, counts_kept}
+use Rattle.lb_static.specs.NodeProgress.{nameless, after_groups, after_node, declaration_fits}
+use Rattle.lb_static.specs.NodeProgress.{statement_fits, StatementsStand}
 use Rattle.lb_static.specs.Parts.{among, right_side, variable_names}
 use Rattle.lb_static.specs.Progressed.{progress, IsFinished}
-use Rattle.lb_static.specs.ResolvedNodes.{part_of, texts_of, counts_of, statics_of, node_of, IsResolved}
-use Rattle.lb_static.specs.ResolvedTerms.{statement_of, declaration_of, site_of, is_statement_within, is_statement_unhidden, is_declared_within, is_site_within}
+use Rattle.lb_static.specs.ResolvedNodes.{part_of, texts_of, counts_of, statics_of, node_of}
+use Rattle.lb_static.specs.ResolvedNodes.{IsResolved}
+use Rattle.lb_static.specs.ResolvedTerms.{statement_of, declaration_of, site_of}
+use Rattle.lb_static.specs.ResolvedTerms.{is_statement_within, is_statement_unhidden}
+use Rattle.lb_static.specs.ResolvedTerms.{is_declared_within, is_site_within}
 use Rattle.lb_static.specs.DataTypes.{variables}
 use Rattle.lb_static.specs.StaticParts.{Part, group_parts, node_static_parts, parts_of}
 use Rattle.lb_static.specs.declared.error.StaticError.{StaticError}

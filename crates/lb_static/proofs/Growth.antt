@@ -1,16 +1,25 @@
 -- What stands for a part of a node stands for it when more is found.
-use Rattle.std.proofs.Common.{◌≡◌, ℕ, zero, suc, ◌+◌, ◌<◌, ◌≤◌, Bool, true, false, cond, List, [], ◌∷◌, ◌++◌, length, take, drop, map, Option, Some, None, option_map, refl, ap, sym, subst, ◌∙◌, arith, length-append, length-drop, ◌-◌}
+use Rattle.std.proofs.Common.{◌≡◌, ℕ, zero, suc, ◌+◌, ◌<◌, ◌≤◌, Bool, true, false, cond, List, []}
+use Rattle.std.proofs.Common.{◌∷◌, ◌++◌, length, take, drop, map, Option, Some, None, option_map}
+use Rattle.std.proofs.Common.{refl, ap, sym, subst, ◌∙◌, arith, length-append, length-drop, ◌-◌}
 use Rattle.std.specs.Prelude.{◌&&◌, nat_lt, nat_le, slice_get}
 use Rattle.std.specs.List.{list_all}
 use Rattle.std.proofs.lemmas.Bool.Decides.{nat_tests}
-use Rattle.std.proofs.lemmas.List.{append-nil, map-append, length-map, drop-append-le, take-append-le}
+use Rattle.std.proofs.lemmas.List.{append-nil, map-append, length-map, drop-append-le}
+use Rattle.std.proofs.lemmas.List.{take-append-le}
 use Rattle.lb_syntax.specs.Lists.{either_or}
 use Rattle.lb_syntax.specs.SourceView.{view_source}
 use Rattle.lb_syntax.specs.Tree as tree
 use Rattle.lb_syntax.specs.Tree.{Name, Static, Whole, Declaration, Exprs}
 use Rattle.lb_static.specs.Instances.{Site}
-use Rattle.lb_static.specs.NodeProgress.{counts_in, counts_kept, texts_in, kept, grown, with_variable, IsKept}
-use Rattle.lb_static.specs.ResolvedTerms.{Texts, Counts, static_of, static_at, statics_at, site_at, no_site, named_value, call_expr, iterate_expr, name_at, sampling_of, declaration_of, site_of, expr_of, row_of, are_statics, is_within, are_within, is_declared_within, is_site_within, is_sampling_within, is_count_within, is_no_variable, is_unhidden, are_unhidden}
+use Rattle.lb_static.specs.NodeProgress.{counts_in, counts_kept, texts_in, kept, grown}
+use Rattle.lb_static.specs.NodeProgress.{with_variable, IsKept}
+use Rattle.lb_static.specs.ResolvedTerms.{Texts, Counts, static_of, static_at, statics_at, site_at}
+use Rattle.lb_static.specs.ResolvedTerms.{no_site, named_value, call_expr, iterate_expr, name_at}
+use Rattle.lb_static.specs.ResolvedTerms.{sampling_of, declaration_of, site_of, expr_of, row_of}
+use Rattle.lb_static.specs.ResolvedTerms.{are_statics, is_within, are_within, is_declared_within}
+use Rattle.lb_static.specs.ResolvedTerms.{is_site_within, is_sampling_within, is_count_within}
+use Rattle.lb_static.specs.ResolvedTerms.{is_no_variable, is_unhidden, are_unhidden}
 use Rattle.lb_static.specs.NodeNames.{node_in}
 use Rattle.lb_static.specs.Parts.{variable_names}
 use Rattle.lb_static.specs.ResolvedNodes.{part_of}
@@ -20,7 +29,12 @@ use Rattle.lb_static.specs.declared.resolved.StaticPart.{StaticPart}
 use Rattle.lb_static.specs.declared.resolved.CallSite.{CallSite}
 use Rattle.lb_static.specs.declared.resolved.StaticId.{StaticId}
 use Rattle.lb_static.specs.declared.resolved.Variable.{Variable as Declared}
-use Rattle.lb_static.specs.declared.resolved.Term.{Term, Literal, Truth, Variable, Value, Group', Unary', Binary', If', Arrow', Fby', Pre', Current', When', Replicate', Index', Slice', Join', Array', AtMostOne', Nor', Call', IterateNode', IterateSymbol', Row_of-Term, end_of-Term, more_of-Term}
+use Rattle.lb_static.specs.declared.resolved.Term.{Term, Literal, Truth, Variable, Value, Group'}
+use Rattle.lb_static.specs.declared.resolved.Term.{Unary', Binary', If', Arrow', Fby', Pre'}
+use Rattle.lb_static.specs.declared.resolved.Term.{Current', When', Replicate', Index', Slice'}
+use Rattle.lb_static.specs.declared.resolved.Term.{Join', Array', AtMostOne', Nor', Call'}
+use Rattle.lb_static.specs.declared.resolved.Term.{IterateNode', IterateSymbol', Row_of-Term}
+use Rattle.lb_static.specs.declared.resolved.Term.{end_of-Term, more_of-Term}
 use Rattle.lb_static.proofs.Lists.{and_first, and_second, both, map_map}
 
 -- ## Lists with more at the end

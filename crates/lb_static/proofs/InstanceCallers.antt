@@ -1,5 +1,6 @@
 -- Each row that instantiation adds to its table stands behind that of its caller.
-use Rattle.std.proofs.Common.{◌≡◌, ℕ, suc, zero, List, [], ◌∷◌, ◌++◌, length, Some, refl, ap, sym, ◌∙◌, subst}
+use Rattle.std.proofs.Common.{◌≡◌, ℕ, suc, zero, List, [], ◌∷◌, ◌++◌, length, Some, refl, ap, sym}
+use Rattle.std.proofs.Common.{◌∙◌, subst}
 use Rattle.std.specs.Prelude.{slice_get}
 use Rattle.lb_static.specs.InstanceTable.{CallerStandsBefore, CallersStandBefore}
 use Rattle.lb_static.specs.InstanceRows.{begun_row, HasUsed, IsSpecializedRow}

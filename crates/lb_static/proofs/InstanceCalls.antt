@@ -1,5 +1,7 @@
 -- The instances below an instance, call by call and index by index.
-use Rattle.std.proofs.Common.{◌≡◌, ℕ, suc, zero, ◌+◌, ◌-◌, ◌<◌, ◌≤◌, ℤ, List, [], ◌∷◌, ◌++◌, map, length, take, drop, get_or, Option, Some, None, refl, ap, sym, ◌∙◌, subst, add-one, arith}
+use Rattle.std.proofs.Common.{◌≡◌, ℕ, suc, zero, ◌+◌, ◌-◌, ◌<◌, ◌≤◌, ℤ, List, [], ◌∷◌, ◌++◌, map}
+use Rattle.std.proofs.Common.{length, take, drop, get_or, Option, Some, None, refl, ap, sym, ◌∙◌}
+use Rattle.std.proofs.Common.{subst, add-one, arith}
 use Rattle.std.specs.Prelude.{flat_map}
 use Rattle.std.specs.List.{range_with_len}
 use Rattle.std.proofs.lemmas.Grind.{flat_map-append}
@@ -7,7 +9,8 @@ use Rattle.std.proofs.lemmas.List.{append-nil, length-append}
 use Rattle.std.proofs.lemmas.List.FromFn.{map-range_with_len_more}
 use Rattle.lb_syntax.specs.Lists.{or_else}
 use Rattle.lb_syntax.specs.Refusals.{Refusal}
-use Rattle.lb_static.specs.Instances.{Program, Instance, Path, Child, Site, instances_from, site_instances, numbered_sites, node_sites, children}
+use Rattle.lb_static.specs.Instances.{Program, Instance, Path, Child, Site, instances_from}
+use Rattle.lb_static.specs.Instances.{site_instances, numbered_sites, node_sites, children}
 use Rattle.lb_static.specs.InstanceTable.{instance_of}
 use Rattle.lb_static.specs.ResolvedNodes.{node_of}
 use Rattle.lb_static.specs.Instantiation.{instance_refusal, instantiation_refusal}

@@ -1,5 +1,7 @@
 -- The rows that instantiation adds to its table, and the instances that they stand for.
-use Rattle.std.proofs.Common.{◌≡◌, ℕ, suc, zero, ◌+◌, ◌<◌, ◌≤◌, ℤ, List, [], ◌∷◌, ◌++◌, map, length, set, get_or, Option, Some, None, option_map, refl, ap, ap₂, sym, ◌∙◌, subst, inl, inr, ◌⊎◌, arith}
+use Rattle.std.proofs.Common.{◌≡◌, ℕ, suc, zero, ◌+◌, ◌<◌, ◌≤◌, ℤ, List, [], ◌∷◌, ◌++◌, map, length}
+use Rattle.std.proofs.Common.{set, get_or, Option, Some, None, option_map, refl, ap, ap₂, sym, ◌∙◌}
+use Rattle.std.proofs.Common.{subst, inl, inr, ◌⊎◌, arith}
 use Rattle.std.specs.Prelude.{slice_get}
 use Rattle.std.specs.List.{Contains}
 use Rattle.std.proofs.lemmas.List.{append-nil, length-append, map-append, set_at}
@@ -7,11 +9,13 @@ use Rattle.std.proofs.lemmas.Option.{get_or_from_slice_get}
 use Rattle.std.proofs.lemmas.List.Elements.{Contains-append_left, Contains-append_right}
 use Rattle.lb_syntax.specs.Lists.{either_or, zip2}
 use Rattle.lb_static.specs.Instances.{Program, Instance, Path, Root, Child, instances}
-use Rattle.lb_static.specs.InstanceTable.{instance_of, specialized_at, path_from, paths_after, row_at, rows_of, CallersStandBefore}
+use Rattle.lb_static.specs.InstanceTable.{instance_of, specialized_at, path_from, paths_after}
+use Rattle.lb_static.specs.InstanceTable.{row_at, rows_of, CallersStandBefore}
 use Rattle.lb_static.specs.ReachedNodes.{tree_at}
 use Rattle.lb_static.specs.ResolvedNodes.{node_of}
 use Rattle.lb_static.specs.Instantiated.{HasGrown, IsKnown}
-use Rattle.lb_static.specs.InstanceRows.{begun_row, stood, stood_after, places_of, HasUsed, HasRows, IsSpecializedRow, IsOneMore, AreInstances}
+use Rattle.lb_static.specs.InstanceRows.{begun_row, stood, stood_after, places_of, HasUsed, HasRows}
+use Rattle.lb_static.specs.InstanceRows.{IsSpecializedRow, IsOneMore, AreInstances}
 use Rattle.lb_static.specs.declared.reach.NodeId.{NodeId}
 use Rattle.lb_static.specs.declared.reach.Reached.{Reached}
 use Rattle.lb_static.specs.declared.resolved.CallId.{CallId}

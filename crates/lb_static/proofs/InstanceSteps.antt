@@ -1,5 +1,7 @@
 -- The instantiation of a program, step by step.
-use Rattle.std.proofs.Common.{◌≡◌, ℕ, suc, zero, ◌<◌, ◌≤◌, ℤ, pos, Bool, true, false, List, [], ◌∷◌, ◌++◌, length, get_or, Option, Some, None, Ok, Err, Result, Vec, All, refl, ap, sym, ◌∙◌, subst, inl, inr, ◌⊎◌, arith}
+use Rattle.std.proofs.Common.{◌≡◌, ℕ, suc, zero, ◌<◌, ◌≤◌, ℤ, pos, Bool, true, false, List, [], ◌∷◌}
+use Rattle.std.proofs.Common.{◌++◌, length, get_or, Option, Some, None, Ok, Err, Result, Vec, All}
+use Rattle.std.proofs.Common.{refl, ap, sym, ◌∙◌, subst, inl, inr, ◌⊎◌, arith}
 use Rattle.std.specs.Prelude.{is_some, nat_lt, nat_le, option_map, slice_get, IfOk, IfErr, IfSome}
 use Rattle.std.specs.List.{zip}
 use Rattle.std.specs.Borrow.{Bor}
@@ -18,8 +20,11 @@ use Rattle.lb_static.specs.ReachedNodes.{source_names}
 use Rattle.lb_static.specs.ResolvedNodes.{IsResolved, node_of}
 use Rattle.lb_static.specs.ResolvedTerms.{Counts, are_statics, is_count_within, is_site_within}
 use Rattle.lb_static.specs.Specialized.{IsEvaluated, size_of, value_given}
-use Rattle.lb_static.specs.Instantiation.{has_values, is_in_range, may_enter, level, instance_refusal}
-use Rattle.lb_static.specs.Instantiated.{IsInstantiable, IsJudgement, IsJudged, IsJudgedAt, AreJudged, IsKnown, IsKnownWith, HasGrown, IsRefusal, times_of}
+use Rattle.lb_static.specs.Instantiation.{has_values, is_in_range, may_enter, level}
+use Rattle.lb_static.specs.Instantiation.{instance_refusal}
+use Rattle.lb_static.specs.Instantiated.{IsInstantiable, IsJudgement, IsJudged, IsJudgedAt}
+use Rattle.lb_static.specs.Instantiated.{AreJudged, IsKnown, IsKnownWith, HasGrown, IsRefusal}
+use Rattle.lb_static.specs.Instantiated.{times_of}
 use Rattle.lb_static.specs.declared.constants.Constants.{Constants}
 use Rattle.lb_static.specs.declared.error.StaticError.{StaticError}
 use Rattle.lb_static.specs.declared.error.StaticError.TheVariants as error

@@ -1,5 +1,7 @@
 -- The interface of the node under test and of the observer, and the scalar inputs.
-use Rattle.std.proofs.Common.{◌≡◌, ℕ, ℤ, ◌+◌, Bool, true, false, List, [], ◌∷◌, ◌++◌, length, take, drop, map, Option, Some, None, option_map, refl, ap, sym, ◌∙◌, arith, length-append, subst}
+use Rattle.std.proofs.Common.{◌≡◌, ℕ, ℤ, ◌+◌, Bool, true, false, List, [], ◌∷◌, ◌++◌, length, take}
+use Rattle.std.proofs.Common.{drop, map, Option, Some, None, option_map, refl, ap, sym, ◌∙◌, arith}
+use Rattle.std.proofs.Common.{length-append, subst}
 use Rattle.std.specs.Prelude.{◌&&◌, nat_le, is_some}
 use Rattle.std.specs.List.{flat_map}
 use Rattle.std.proofs.lemmas.List.{length-map, map-append, take_at, drop_at}
@@ -10,11 +12,16 @@ use Rattle.std.proofs.lemmas.Bool.Decides.{nat_tests}
 use Rattle.lb_syntax.specs.Lists.{◌>>=◌, all_some, listed, holds, either_or}
 use Rattle.lb_syntax.specs.Tree.{Name, Declaration}
 use Rattle.lb_static.specs.Instances.{Program, Instance, Root, Observer, instances, instance_at}
-use Rattle.lb_static.specs.Interfaces.{InterfaceView, valued_node_in, interface_under, inputs_of, outputs_of, is_one_truth_in, observes, property_by, property_in, elements_named, elements_in_all}
+use Rattle.lb_static.specs.Interfaces.{InterfaceView, valued_node_in, interface_under, inputs_of}
+use Rattle.lb_static.specs.Interfaces.{outputs_of, is_one_truth_in, observes, property_by}
+use Rattle.lb_static.specs.Interfaces.{property_in, elements_named, elements_in_all}
 use Rattle.lb_static.specs.InstanceTable.{HasStarts, specialized_instance_at}
 use Rattle.lb_static.specs.ReachedNodes.{IsReached, source_names}
-use Rattle.lb_static.specs.DataTypes.{DataType, are_types, element_count, element_names, input_types, output_types, scalar_elements, variable_type, signature}
-use Rattle.lb_static.specs.Instantiation.{are_same, fits_observer, has_plain_clocks, has_property, is_one_truth, is_root, instantiation_refusal}
+use Rattle.lb_static.specs.DataTypes.{DataType, are_types, element_count, element_names}
+use Rattle.lb_static.specs.DataTypes.{input_types, output_types, scalar_elements, variable_type}
+use Rattle.lb_static.specs.DataTypes.{signature}
+use Rattle.lb_static.specs.Instantiation.{are_same, fits_observer, has_plain_clocks, has_property}
+use Rattle.lb_static.specs.Instantiation.{is_one_truth, is_root, instantiation_refusal}
 use Rattle.lb_static.specs.declared.reach.Reached.{Reached}
 use Rattle.lb_static.specs.declared.resolved.ResolvedNode.{ResolvedNode}
 use Rattle.lb_static.specs.declared.table.SpecializationId.{SpecializationId}

@@ -1,18 +1,23 @@
 -- The types of the inputs and outputs of an instance, against the definitions.
-use Rattle.std.proofs.Common.{◌≡◌, ℕ, ◌+◌, ◌≤◌, ℤ, Bool, true, false, List, [], ◌∷◌, ◌++◌, length, take, drop, map, Option, Some, None, option_map, refl, ap, sym, ◌∙◌, arith, length-append}
+use Rattle.std.proofs.Common.{◌≡◌, ℕ, ◌+◌, ◌≤◌, ℤ, Bool, true, false, List, [], ◌∷◌, ◌++◌, length}
+use Rattle.std.proofs.Common.{take, drop, map, Option, Some, None, option_map, refl, ap, sym, ◌∙◌}
+use Rattle.std.proofs.Common.{arith, length-append}
 use Rattle.std.specs.Prelude.{nat_le, not, is_some, reverse}
 use Rattle.std.specs.List.{list_all}
 use Rattle.std.proofs.lemmas.Bool.Decides.{nat_tests}
-use Rattle.std.proofs.lemmas.List.{length-map, length-take-le, take-map, drop-map, take_at, append_assoc}
+use Rattle.std.proofs.lemmas.List.{length-map, length-take-le, take-map, drop-map, take_at}
+use Rattle.std.proofs.lemmas.List.{append_assoc}
 use Rattle.std.proofs.lemmas.List.Folds.{list_all-map}
 use Rattle.lb_syntax.specs.Lists.{◌>>=◌, all_some, where_true, zip2}
 use Rattle.lb_syntax.specs.declared.tree.Kind.{Kind}
 use Rattle.lb_syntax.specs.Tree.{Name, Static, Node, Declaration}
 use Rattle.lb_static.specs.Instances.{Program, Instance, static_value}
-use Rattle.lb_static.specs.Interfaces.{InterfaceView, has_no_clock, type_under, types_under, view_types, view_type, interface_variables, interface_under}
+use Rattle.lb_static.specs.Interfaces.{InterfaceView, has_no_clock, type_under, types_under}
+use Rattle.lb_static.specs.Interfaces.{view_types, view_type, interface_variables, interface_under}
 use Rattle.lb_static.specs.Parts.{variable_names}
 use Rattle.lb_static.specs.ResolvedNodes.{IsResolved, node_of, statics_of, counts_of}
-use Rattle.lb_static.specs.ResolvedTerms.{Counts, declaration_of, sampling_of, static_of, is_declared_within, is_sampling_within}
+use Rattle.lb_static.specs.ResolvedTerms.{Counts, declaration_of, sampling_of, static_of}
+use Rattle.lb_static.specs.ResolvedTerms.{is_declared_within, is_sampling_within}
 use Rattle.lb_static.specs.DataTypes.{DataType, variables, variable_type}
 use Rattle.lb_static.specs.StaticValues.{natural}
 use Rattle.lb_static.specs.Instantiation.{is_base_clocked, has_plain_clocks}

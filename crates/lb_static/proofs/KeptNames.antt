@@ -8,7 +8,9 @@ use Rattle.lb_static.specs.CalledNodes.{are_named, program_in}
 use Rattle.lb_static.specs.Instances.{Program}
 use Rattle.lb_static.specs.NamedConstants.{keeps_constants}
 use Rattle.lb_static.specs.NameFaults.{IsNameFault, named_in}
-use Rattle.lb_static.specs.Names.{are_distinct, constants_within, global_names, is_constant, is_named, keeps_names, named_constants, reached_constants, reached_nodes, starts}
+use Rattle.lb_static.specs.Names.{are_distinct, constants_within, global_names, is_constant}
+use Rattle.lb_static.specs.Names.{is_named, keeps_names, named_constants, reached_constants}
+use Rattle.lb_static.specs.Names.{reached_nodes, starts}
 use Rattle.lb_static.specs.Parts.{among, static_names}
 use Rattle.lb_static.specs.ReachedNodes.{IsReached, trees}
 use Rattle.lb_static.specs.ResolvedNodes.{node_of}

@@ -1,15 +1,19 @@
 -- The specializations that instantiation adds have what the call sites of their nodes call.
-use Rattle.std.proofs.Common.{◌≡◌, ℕ, zero, suc, ◌+◌, ◌<◌, ◌≤◌, ℤ, List, [], ◌∷◌, ◌++◌, length, take, Option, Some, None, option_map, refl, ap, sym, ◌∙◌, subst, inl, inr, ◌⊎◌}
+use Rattle.std.proofs.Common.{◌≡◌, ℕ, zero, suc, ◌+◌, ◌<◌, ◌≤◌, ℤ, List, [], ◌∷◌, ◌++◌, length}
+use Rattle.std.proofs.Common.{take, Option, Some, None, option_map, refl, ap, sym, ◌∙◌, subst, inl}
+use Rattle.std.proofs.Common.{inr, ◌⊎◌}
 use Rattle.std.specs.Prelude.{slice_get}
 use Rattle.std.proofs.lemmas.List.{length-map, take_more, take_all}
 use Rattle.std.proofs.lemmas.Option.{slice_get-map, slice_get_within, get_or_from_slice_get}
 use Rattle.lb_syntax.specs.Lists.{In}
-use Rattle.lb_static.specs.Instances.{Program, Instance, Path, Root, Child, Site, callee_of, node_sites}
+use Rattle.lb_static.specs.Instances.{Program, Instance, Path, Root, Child, Site, callee_of}
+use Rattle.lb_static.specs.Instances.{node_sites}
 use Rattle.lb_static.specs.InstanceTable.{instance_of, specialized_at, IsSpecialized}
 use Rattle.lb_static.specs.ReachedNodes.{source_names, id_at}
 use Rattle.lb_static.specs.ResolvedNodes.{IsResolved, node_of, statics_of}
 use Rattle.lb_static.specs.ResolvedTerms.{site_of}
-use Rattle.lb_static.specs.LinkedSpecializations.{IsCalled, AreCalled, IsLinked, AreLinked, AreSpecialized}
+use Rattle.lb_static.specs.LinkedSpecializations.{IsCalled, AreCalled, IsLinked, AreLinked}
+use Rattle.lb_static.specs.LinkedSpecializations.{AreSpecialized}
 use Rattle.lb_static.specs.Instantiated.{IsInstantiable, AreJudged, IsKnown, HasGrown, values_at}
 use Rattle.lb_static.specs.declared.constants.Constants.{Constants}
 use Rattle.lb_static.specs.declared.reach.NodeId.{NodeId}

@@ -1,6 +1,7 @@
 -- The names that stand in a node: in its static expressions as the code finds them, and as the
 -- definitions list them.
-use Rattle.std.proofs.Common.{◌≡◌, Bool, true, false, cond, List, [], ◌∷◌, ◌++◌, map, refl, ap, sym, ◌∙◌}
+use Rattle.std.proofs.Common.{◌≡◌, Bool, true, false, cond, List, [], ◌∷◌, ◌++◌, map, refl, ap, sym}
+use Rattle.std.proofs.Common.{◌∙◌}
 use Rattle.std.specs.Prelude.{◌&&◌, ◌||◌, not, flat_map}
 use Rattle.std.specs.List.{list_any}
 use Rattle.std.specs.Str.{bytes_eq}
@@ -9,11 +10,16 @@ use Rattle.std.proofs.lemmas.Slice.Eq.{bytes_eq-Decides}
 use Rattle.lb_syntax.specs.Grammar.{Group, declarations, declared}
 use Rattle.lb_syntax.specs.SourceView.{view_group, view_groups, view_node}
 use Rattle.lb_syntax.specs.Tree as tree
-use Rattle.lb_syntax.specs.Tree.{Name, Static, Operator, Node_named, Symbol, Declaration, Expr, Literal, Truth, Variable, Unary, Binary, If, Arrow, Fby, Pre, Current, When, Replicate, Slice, Join, Array, AtMostOne, Nor, Call, Iterate, Exprs, Nil, Cons, Node}
+use Rattle.lb_syntax.specs.Tree.{Name, Static, Operator, Node_named, Symbol, Declaration, Expr}
+use Rattle.lb_syntax.specs.Tree.{Literal, Truth, Variable, Unary, Binary, If, Arrow, Fby, Pre}
+use Rattle.lb_syntax.specs.Tree.{Current, When, Replicate, Slice, Join, Array, AtMostOne, Nor, Call}
+use Rattle.lb_syntax.specs.Tree.{Iterate, Exprs, Nil, Cons, Node}
 use Rattle.lb_syntax.specs.declared.tree.Node as written
-use Rattle.lb_static.specs.Parts.{among, own_arguments, own_indexes, own_names, own_sizes, parts, parts_in as exprs_in, static_names}
+use Rattle.lb_static.specs.Parts.{among, own_arguments, own_indexes, own_names, own_sizes, parts}
+use Rattle.lb_static.specs.Parts.{parts_in as exprs_in, static_names}
 use Rattle.lb_static.specs.DataTypes.{variables}
-use Rattle.lb_static.specs.StaticParts.{Part, arguments_of, group_parts, if_named, parts_of, parts_in}
+use Rattle.lb_static.specs.StaticParts.{Part, arguments_of, group_parts, if_named, parts_of}
+use Rattle.lb_static.specs.StaticParts.{parts_in}
 use Rattle.lb_static.specs.declared.resolved.Role.TheVariants.{Argument, Size, Value}
 use Rattle.lb_static.proofs.ConstantPlaces.{flat_append}
 use Rattle.lb_static.proofs.Lists.{append_assoc}

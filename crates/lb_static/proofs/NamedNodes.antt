@@ -1,19 +1,26 @@
 -- Each name of a node has a meaning where its declarations and its statements pass.
-use Rattle.std.proofs.Common.{◌≡◌, Bool, true, false, List, [], ◌∷◌, ◌++◌, Option, None, Some, map, option_map, refl, ap, sym, ◌∙◌}
+use Rattle.std.proofs.Common.{◌≡◌, Bool, true, false, List, [], ◌∷◌, ◌++◌, Option, None, Some, map}
+use Rattle.std.proofs.Common.{option_map, refl, ap, sym, ◌∙◌}
 use Rattle.std.specs.Prelude.{◌&&◌, flat_map}
 use Rattle.std.specs.List.{list_all}
 use Rattle.lb_syntax.specs.Lists.{some_of}
 use Rattle.lb_syntax.specs.Tree.{Name, Node, Declaration, Sampling, Static, Expr}
 use Rattle.lb_static.specs.Instances.{Program, node_sites}
 use Rattle.lb_static.specs.NameFaults.{IsNameFault}
-use Rattle.lb_static.specs.Names.{are_distinct, is_callable, is_known, is_static_name, is_variable, is_named}
+use Rattle.lb_static.specs.Names.{are_distinct, is_callable, is_known, is_static_name, is_variable}
+use Rattle.lb_static.specs.Names.{is_named}
 use Rattle.lb_static.specs.NodeNames.{static_passes, statics_pass}
-use Rattle.lb_static.specs.NodeProgress.{Progress, program_of, clock_fits, declaration_fits, node_fits, statement_fits}
-use Rattle.lb_static.specs.Parts.{left_names, node_parts, own_names, own_sizes, own_indexes, own_arguments, own_clock_names, node_names, node_statics, node_static_names, declared_names, declared_sizes, static_names, clock_names}
+use Rattle.lb_static.specs.NodeProgress.{Progress, program_of, clock_fits, declaration_fits}
+use Rattle.lb_static.specs.NodeProgress.{node_fits, statement_fits}
+use Rattle.lb_static.specs.Parts.{left_names, node_parts, own_names, own_sizes, own_indexes}
+use Rattle.lb_static.specs.Parts.{own_arguments, own_clock_names, node_names, node_statics}
+use Rattle.lb_static.specs.Parts.{node_static_names, declared_names, declared_sizes, static_names}
+use Rattle.lb_static.specs.Parts.{clock_names}
 use Rattle.lb_static.specs.DataTypes.{variables}
 use Rattle.lb_static.specs.declared.error.StaticError.{StaticError}
 use Rattle.lb_static.proofs.Faults.{fault_within}
-use Rattle.lb_static.proofs.Lists.{all_append, and_assoc, and_first, and_second, both, false_first, false_second}
+use Rattle.lb_static.proofs.Lists.{all_append, and_assoc, and_first, and_second, both, false_first}
+use Rattle.lb_static.proofs.Lists.{false_second}
 use Rattle.lb_static.proofs.NodeNameRules.{all_and, body_is, own}
 use Rattle.lb_static.proofs.TestedItems.{all_flat}
 

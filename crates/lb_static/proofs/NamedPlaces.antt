@@ -1,5 +1,6 @@
 -- The constants that come up first are those that the reached nodes name.
-use Rattle.std.proofs.Common.{◌≡◌, ℕ, suc, ◌<◌, Bool, true, false, List, [], ◌∷◌, ◌++◌, length, map, All, Option, Some, None, refl, ap, sym, ◌∙◌, arith}
+use Rattle.std.proofs.Common.{◌≡◌, ℕ, suc, ◌<◌, Bool, true, false, List, [], ◌∷◌, ◌++◌, length, map}
+use Rattle.std.proofs.Common.{All, Option, Some, None, refl, ap, sym, ◌∙◌, arith}
 use Rattle.std.specs.Prelude.{◌&&◌, ◌||◌, flat_map, nat_eq, nat_lt, not, slice_get, if◌then◌else◌}
 use Rattle.std.specs.List.{list_all, list_any}
 use Rattle.std.specs.Str.{bytes_eq}
@@ -11,10 +12,14 @@ use Rattle.lb_syntax.specs.SourceView.{view_groups}
 use Rattle.lb_syntax.specs.Tree.{Name, Constant, Node, Source, Static}
 use Rattle.lb_static.specs.CalledNodes.{program_in}
 use Rattle.lb_static.specs.SourceNames.{names_in_source}
-use Rattle.lb_static.specs.NamedConstants.{AreNamed, constant_place, node_constants, part_constants, place_named}
+use Rattle.lb_static.specs.NamedConstants.{AreNamed, constant_place, node_constants, part_constants}
+use Rattle.lb_static.specs.NamedConstants.{place_named}
 use Rattle.lb_static.specs.NameFaults.{named_in}
-use Rattle.lb_static.specs.Names.{are_distinct, declares_once, is_callable, is_known, is_static_name, named_constants}
-use Rattle.lb_static.specs.Parts.{among, declared_names, declared_sizes, node_names, node_parts, node_static_names, node_statics, own_arguments, own_indexes, own_sizes, right_side, parts, static_names, variable_names}
+use Rattle.lb_static.specs.Names.{are_distinct, declares_once, is_callable, is_known}
+use Rattle.lb_static.specs.Names.{is_static_name, named_constants}
+use Rattle.lb_static.specs.Parts.{among, declared_names, declared_sizes, node_names, node_parts}
+use Rattle.lb_static.specs.Parts.{node_static_names, node_statics, own_arguments, own_indexes}
+use Rattle.lb_static.specs.Parts.{own_sizes, right_side, parts, static_names, variable_names}
 use Rattle.lb_static.specs.Instances.{node_sites}
 use Rattle.lb_static.specs.ResolvedNodes.{IsResolved, node_of, part_of}
 use Rattle.lb_static.specs.ResolvedTerms.{static_of}
@@ -26,7 +31,8 @@ use Rattle.lb_static.proofs.ConstantPlaces.{constant_found}
 use Rattle.lb_static.proofs.Reachability.{any_filter}
 use Rattle.lb_static.proofs.CheckedConstants.{name_of_place, place_of_constant}
 use Rattle.lb_static.proofs.Lists.{all_append, and_first, and_second, both}
-use Rattle.lb_static.proofs.Mentions.{any_and, any_flat, any_map, any_stands, expression_stands, groups_stand, in_part, in_static, stands, variables_are}
+use Rattle.lb_static.proofs.Mentions.{any_and, any_flat, any_map, any_stands, expression_stands}
+use Rattle.lb_static.proofs.Mentions.{groups_stand, in_part, in_static, stands, variables_are}
 use Rattle.lb_static.proofs.TestedItems.{all_flat}
 use Rattle.lb_static.proofs.ReachedPlaces.{all_item}
 use Rattle.lb_static.proofs.Scopes.{among_append}

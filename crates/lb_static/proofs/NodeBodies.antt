@@ -1,5 +1,6 @@
 -- Statements resolved one after another.
-use Rattle.std.proofs.Common.{◌≡◌, ℕ, ◌+◌, ◌<◌, true, List, [], ◌∷◌, ◌++◌, length, take, get_or, map, Ok, ap, sym, subst, refl, ◌∙◌}
+use Rattle.std.proofs.Common.{◌≡◌, ℕ, ◌+◌, ◌<◌, true, List, [], ◌∷◌, ◌++◌, length, take, get_or}
+use Rattle.std.proofs.Common.{map, Ok, ap, sym, subst, refl, ◌∙◌}
 use Rattle.std.specs.Prelude.{flat_map}
 use Rattle.std.specs.List.{list_all}
 use Rattle.std.proofs.lemmas.List.{map-append, take_more}
@@ -8,9 +9,12 @@ use Rattle.lb_syntax.specs.Tree as tree
 use Rattle.lb_syntax.specs.declared.tree.Statement.{Statement}
 use Rattle.lb_static.specs.Instances.{Site, sites, statement_sites}
 use Rattle.lb_static.specs.NameFaults.{IsNameFault}
-use Rattle.lb_static.specs.NodeProgress.{Progress, texts, counts_in, grown, is_variable_of, after_statements, statement_fits, StatementsStand, ResolvesStatement}
+use Rattle.lb_static.specs.NodeProgress.{Progress, texts, counts_in, grown, is_variable_of}
+use Rattle.lb_static.specs.NodeProgress.{after_statements, statement_fits, StatementsStand}
+use Rattle.lb_static.specs.NodeProgress.{ResolvesStatement}
 use Rattle.lb_static.specs.Parts.{right_side}
-use Rattle.lb_static.specs.ResolvedTerms.{name_at, statement_of, is_statement_within, is_statement_unhidden, is_variable, is_within}
+use Rattle.lb_static.specs.ResolvedTerms.{name_at, statement_of, is_statement_within}
+use Rattle.lb_static.specs.ResolvedTerms.{is_statement_unhidden, is_variable, is_within}
 use Rattle.lb_static.specs.StaticParts.{Part, parts_of}
 use Rattle.lb_static.specs.declared.error.StaticError.{StaticError}
 use Rattle.lb_static.specs.declared.resolved.ResolvedStatement.{ResolvedStatement}
@@ -18,7 +22,8 @@ use Rattle.lb_static.specs.declared.resolved.ResolvedStatement.TheVariants.{Equa
 use Rattle.lb_static.proofs.Faults.{fault_within}
 use Rattle.lb_static.proofs.Growth.{same_on, all_on, both_on, same_two}
 use Rattle.lb_static.proofs.Lists.{all_append, and_first, and_second, both}
-use Rattle.lb_static.proofs.Resolutions.{and_true, expr_grown, within_grown, unhidden_grown, flat_more, grown_twice, one_fails}
+use Rattle.lb_static.proofs.Resolutions.{and_true, expr_grown, within_grown, unhidden_grown}
+use Rattle.lb_static.proofs.Resolutions.{flat_more, grown_twice, one_fails}
 
 module _ (s : Progress) (P : List Part) (C : List Site) where
   still : (statement : ResolvedStatement)

@@ -1,12 +1,18 @@
 -- The tests of the code on the names of a node are the rule of names.
-use Rattle.std.proofs.Common.{◌≡◌, Bool, true, false, List, [], ◌∷◌, ◌++◌, None, Some, refl, ap, sym, ◌∙◌}
+use Rattle.std.proofs.Common.{◌≡◌, Bool, true, false, List, [], ◌∷◌, ◌++◌, None, Some, refl, ap}
+use Rattle.std.proofs.Common.{sym, ◌∙◌}
 use Rattle.std.specs.Prelude.{◌&&◌, flat_map}
 use Rattle.std.specs.List.{list_all}
-use Rattle.lb_syntax.specs.Tree.{Node, Statement, Equation, Assertion, Node_named, Symbol, Expr, Literal, Truth, Variable, Group, Unary, Binary, If, Arrow, Fby, Pre, Current, When, Replicate, Index, Slice, Join, Array, AtMostOne, Nor, Call, Iterate, Exprs, Nil, Cons}
+use Rattle.lb_syntax.specs.Tree.{Node, Statement, Equation, Assertion, Node_named, Symbol, Expr}
+use Rattle.lb_syntax.specs.Tree.{Literal, Truth, Variable, Group, Unary, Binary, If, Arrow, Fby}
+use Rattle.lb_syntax.specs.Tree.{Pre, Current, When, Replicate, Index, Slice, Join, Array}
+use Rattle.lb_syntax.specs.Tree.{AtMostOne, Nor, Call, Iterate, Exprs, Nil, Cons}
 use Rattle.lb_static.specs.Instances.{Program, Site, sites, sites_in, statement_sites}
 use Rattle.lb_static.specs.Names.{is_callable, is_known, is_variable}
-use Rattle.lb_static.specs.NodeNames.{passes, all_pass, static_passes, statics_pass, statement_passes}
-use Rattle.lb_static.specs.Parts.{parts, parts_in, right_side, left_names, own_names, own_sizes, own_indexes, own_arguments, own_clock_names}
+use Rattle.lb_static.specs.NodeNames.{passes, all_pass, static_passes, statics_pass}
+use Rattle.lb_static.specs.NodeNames.{statement_passes}
+use Rattle.lb_static.specs.Parts.{parts, parts_in, right_side, left_names, own_names, own_sizes}
+use Rattle.lb_static.specs.Parts.{own_indexes, own_arguments, own_clock_names}
 use Rattle.lb_static.proofs.Lists.{all_append}
 
 -- ## Tests

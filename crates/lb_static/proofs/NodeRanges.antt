@@ -1,13 +1,17 @@
 -- The static expressions of a node are in range where its sizes, indexes and slices are.
-use Rattle.std.proofs.Common.{◌≡◌, ℤ, Bool, true, false, cond, List, [], ◌∷◌, ◌++◌, map, Option, Some, refl, ap, ap₂, sym, ◌∙◌}
+use Rattle.std.proofs.Common.{◌≡◌, ℤ, Bool, true, false, cond, List, [], ◌∷◌, ◌++◌, map, Option}
+use Rattle.std.proofs.Common.{Some, refl, ap, ap₂, sym, ◌∙◌}
 use Rattle.std.specs.Prelude.{◌&&◌, flat_map}
 use Rattle.std.specs.List.{list_all}
 use Rattle.std.proofs.lemmas.List.Folds.{list_all-map}
 use Rattle.lb_syntax.specs.Grammar.{Group as Declarations, declared}
 use Rattle.lb_syntax.specs.Tree as tree
-use Rattle.lb_syntax.specs.Tree.{Name, Static, Node_named, Symbol, Expr, Literal, Truth, Variable, Group, Unary, Binary, If, Arrow, Fby, Pre, Current, When, Replicate, Slice, Join, Array, AtMostOne, Nor, Call, Iterate}
+use Rattle.lb_syntax.specs.Tree.{Name, Static, Node_named, Symbol, Expr, Literal, Truth, Variable}
+use Rattle.lb_syntax.specs.Tree.{Group, Unary, Binary, If, Arrow, Fby, Pre, Current, When}
+use Rattle.lb_syntax.specs.Tree.{Replicate, Slice, Join, Array, AtMostOne, Nor, Call, Iterate}
 use Rattle.lb_static.specs.Parts.{own_sizes, own_indexes, own_slices}
-use Rattle.lb_static.specs.Specialized.{part_value, part_passes, count_between, runs_forward, in_range_after}
+use Rattle.lb_static.specs.Specialized.{part_value, part_passes, count_between, runs_forward}
+use Rattle.lb_static.specs.Specialized.{in_range_after}
 use Rattle.lb_static.specs.StaticParts.{Part, arguments_of, group_parts, if_named}
 use Rattle.lb_static.specs.StaticValues.{value_under}
 use Rattle.lb_static.specs.ResolvedNodes.{part_of}

@@ -1,5 +1,7 @@
 -- What the names of a node stand for: variables stand before static parameters.
-use Rattle.std.proofs.Common.{◌≡◌, ℕ, zero, suc, ◌+◌, ◌<◌, ◌≤◌, Bool, true, false, cond, List, [], ◌∷◌, ◌++◌, length, take, drop, get_or, map, Option, Some, None, option_map, refl, ap, sym, subst, ◌∙◌, arith}
+use Rattle.std.proofs.Common.{◌≡◌, ℕ, zero, suc, ◌+◌, ◌<◌, ◌≤◌, Bool, true, false, cond, List, []}
+use Rattle.std.proofs.Common.{◌∷◌, ◌++◌, length, take, drop, get_or, map, Option, Some, None}
+use Rattle.std.proofs.Common.{option_map, refl, ap, sym, subst, ◌∙◌, arith}
 use Rattle.std.specs.Prelude.{◌&&◌, ◌||◌, not, nat_lt, nat_le, nat_eq, position, slice_get, find}
 use Rattle.std.specs.List.{position_or_len}
 use Rattle.std.specs.Str.{bytes_eq}
@@ -28,7 +30,8 @@ use Rattle.lb_static.proofs.Faults.{fault_within}
 use Rattle.lb_static.proofs.Groups.{groups_next}
 use Rattle.lb_static.proofs.TestedItems.{found_passes}
 use Rattle.lb_static.proofs.Lists.{append_assoc, none_passes, some_passes, position_take}
-use Rattle.lb_static.proofs.Scopes.{among_append, bytes_eq-symmetric, position_map, doubled_before, name_at_place}
+use Rattle.lb_static.proofs.Scopes.{among_append, bytes_eq-symmetric, position_map, doubled_before}
+use Rattle.lb_static.proofs.Scopes.{name_at_place}
 
 -- ## Refused names
 

@@ -1,5 +1,6 @@
 -- The static expressions of a node have values where its sizes, indexes, arguments and names do.
-use Rattle.std.proofs.Common.{◌≡◌, ℤ, Bool, true, false, cond, List, [], ◌∷◌, map, Option, Some, None, refl, ap, ap₂, sym, ◌∙◌}
+use Rattle.std.proofs.Common.{◌≡◌, ℤ, Bool, true, false, cond, List, [], ◌∷◌, map, Option, Some}
+use Rattle.std.proofs.Common.{None, refl, ap, ap₂, sym, ◌∙◌}
 use Rattle.std.specs.Prelude.{◌&&◌, ◌||◌, flat_map, is_some, option_map}
 use Rattle.std.specs.List.{list_all}
 use Rattle.std.proofs.lemmas.Grind.{flat_map-append}
@@ -7,7 +8,10 @@ use Rattle.std.proofs.lemmas.List.Folds.{list_all-map}
 use Rattle.lb_syntax.specs.Grammar.{Group as Declarations, declarations, declared}
 use Rattle.lb_syntax.specs.Lists.{all_some}
 use Rattle.lb_syntax.specs.Tree as tree
-use Rattle.lb_syntax.specs.Tree.{Name, Static, Node_named, Symbol, Expr, Literal, Truth, Variable, Group, Unary, Binary, If, Arrow, Fby, Pre, Current, When, Replicate, Index, Slice, Join, Array, AtMostOne, Nor, Call, Iterate}
+use Rattle.lb_syntax.specs.Tree.{Name, Static, Node_named, Symbol, Expr, Literal, Truth, Variable}
+use Rattle.lb_syntax.specs.Tree.{Group, Unary, Binary, If, Arrow, Fby, Pre, Current, When}
+use Rattle.lb_syntax.specs.Tree.{Replicate, Index, Slice, Join, Array, AtMostOne, Nor, Call}
+use Rattle.lb_syntax.specs.Tree.{Iterate}
 use Rattle.lb_static.specs.Parts.{own_sizes, own_indexes, own_arguments, own_names}
 use Rattle.lb_static.specs.StaticParts.{Part, group_parts, if_named}
 use Rattle.lb_static.specs.StaticValues.{value_under}

@@ -1,5 +1,6 @@
 -- The variables of groups of declarations.
-use Rattle.std.proofs.Common.{◌≡◌, ℕ, zero, suc, ◌+◌, ◌<◌, Bool, true, false, List, [], ◌∷◌, ◌++◌, length, take, get_or, map, Option, refl, ap, sym, subst, ◌∙◌, arith}
+use Rattle.std.proofs.Common.{◌≡◌, ℕ, zero, suc, ◌+◌, ◌<◌, Bool, true, false, List, [], ◌∷◌, ◌++◌}
+use Rattle.std.proofs.Common.{length, take, get_or, map, Option, refl, ap, sym, subst, ◌∙◌, arith}
 use Rattle.std.specs.Prelude.{◌&&◌, nat_eq, flat_map}
 use Rattle.std.specs.List.{list_all}
 use Rattle.std.proofs.lemmas.List.{append-nil, map-append, take_more}
@@ -8,7 +9,9 @@ use Rattle.lb_syntax.specs.SourceView.{view_group, view_groups}
 use Rattle.lb_syntax.specs.Tree.{Name, Declaration}
 use Rattle.lb_syntax.specs.declared.tree.Declarations.{Declarations}
 use Rattle.lb_static.specs.NameFaults.{IsNameFault}
-use Rattle.lb_static.specs.NodeProgress.{Progress, texts, counts_in, grown, nameless, after_group, after_groups, with_variable, with_alike, declaration_fits, statics_fit, clock_fits, ClockStands, StaticsStand}
+use Rattle.lb_static.specs.NodeProgress.{Progress, texts, counts_in, grown, nameless, after_group}
+use Rattle.lb_static.specs.NodeProgress.{after_groups, with_variable, with_alike, declaration_fits}
+use Rattle.lb_static.specs.NodeProgress.{statics_fit, clock_fits, ClockStands, StaticsStand}
 use Rattle.lb_static.specs.Parts.{variable_names}
 use Rattle.lb_static.specs.ResolvedTerms.{declaration_of, is_declared_within}
 use Rattle.lb_static.specs.StaticParts.{group_parts, if_named}
@@ -18,7 +21,8 @@ use Rattle.lb_static.specs.declared.resolved.Sampling as resolved
 use Rattle.lb_static.specs.declared.resolved.StaticId.{StaticId}
 use Rattle.lb_static.specs.declared.resolved.Variable.{Variable}
 use Rattle.lb_static.proofs.Faults.{fault_within}
-use Rattle.lb_static.proofs.Lists.{append_assoc, map_map, both, all_append, false_first, false_second}
+use Rattle.lb_static.proofs.Lists.{append_assoc, map_map, both, all_append, false_first}
+use Rattle.lb_static.proofs.Lists.{false_second}
 use Rattle.lb_static.proofs.Resolutions.{flat_more}
 
 -- ## Variables that are all alike

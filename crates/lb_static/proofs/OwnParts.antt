@@ -4,11 +4,15 @@ use Rattle.std.proofs.Common.{◌≡◌, Bool, cond, List, [], ◌∷◌, ◌++�
 use Rattle.std.specs.Prelude.{flat_map}
 use Rattle.std.proofs.lemmas.Grind.{flat_map-append}
 use Rattle.lb_syntax.specs.Tree as tree
-use Rattle.lb_syntax.specs.Tree.{Name, Node_named, Symbol, Expr, Literal, Truth, Variable, Group, Unary, Binary, If, Arrow, Fby, Pre, Current, When, Replicate, Slice, Join, Array, AtMostOne, Nor, Call, Iterate, Exprs, Nil, Cons, Statement}
+use Rattle.lb_syntax.specs.Tree.{Name, Node_named, Symbol, Expr, Literal, Truth, Variable, Group}
+use Rattle.lb_syntax.specs.Tree.{Unary, Binary, If, Arrow, Fby, Pre, Current, When, Replicate}
+use Rattle.lb_syntax.specs.Tree.{Slice, Join, Array, AtMostOne, Nor, Call, Iterate, Exprs, Nil}
+use Rattle.lb_syntax.specs.Tree.{Cons, Statement}
 use Rattle.lb_static.specs.Parts as of
 use Rattle.lb_static.specs.Parts.{parts, right_side}
 use Rattle.lb_static.specs.StaticParts.{Part, arguments_of, parts_of, parts_in}
-use Rattle.lb_static.specs.declared.resolved.Role.TheVariants.{Size, Index, SliceStart, SliceEnd, Value}
+use Rattle.lb_static.specs.declared.resolved.Role.TheVariants.{Size, Index, SliceStart, SliceEnd}
+use Rattle.lb_static.specs.declared.resolved.Role.TheVariants.{Value}
 
 -- those that stand in an expression itself
 abbrev pub own_parts : (Name → Bool) → Expr → List Part

@@ -1,10 +1,13 @@
 -- What is had from some items by steps: more steps have more, and what is closed under steps has
 -- all of it.
-use Rattle.std.proofs.Common.{◌≡◌, ℕ, zero, suc, ◌+◌, ◌-◌, ◌≤◌, Bool, true, false, cond, List, [], ◌∷◌, ◌++◌, length, Option, Some, None, refl, ap, sym, ◌∙◌, arith, length-append}
+use Rattle.std.proofs.Common.{◌≡◌, ℕ, zero, suc, ◌+◌, ◌-◌, ◌≤◌, Bool, true, false, cond, List, []}
+use Rattle.std.proofs.Common.{◌∷◌, ◌++◌, length, Option, Some, None, refl, ap, sym, ◌∙◌, arith}
+use Rattle.std.proofs.Common.{length-append}
 use Rattle.std.specs.Prelude.{◌||◌, ◌&&◌, filter, slice_get, if◌then◌else◌}
 use Rattle.std.specs.List.{list_all, list_any}
 use Rattle.lb_syntax.specs.Lists.{holds}
-use Rattle.lb_static.specs.WorkLists.{AreReachable, is_reachable, is_visited, visited_after, visited_after_all, within}
+use Rattle.lb_static.specs.WorkLists.{AreReachable, is_reachable, is_visited, visited_after}
+use Rattle.lb_static.specs.WorkLists.{visited_after_all, within}
 use Rattle.lb_static.proofs.Lists.{all_append, and_first, and_second, both}
 use Rattle.lb_static.proofs.TestedItems.{all_weaker}
 use Rattle.lb_static.proofs.WorkLists.{any_at, at_any, grows_once, or_left, or_right}

@@ -1,5 +1,7 @@
 -- A node reaches itself where its place lies on a cycle of calls, and there alone.
-use Rattle.std.proofs.Common.{◌≡◌, ℕ, zero, suc, ◌<◌, Bool, true, false, cond, List, [], ◌∷◌, ◌++◌, length, map, Option, Some, None, refl, ap, sym, subst, ◌∙◌, ◌⊎◌, inl, inr, arith}
+use Rattle.std.proofs.Common.{◌≡◌, ℕ, zero, suc, ◌<◌, Bool, true, false, cond, List, [], ◌∷◌, ◌++◌}
+use Rattle.std.proofs.Common.{length, map, Option, Some, None, refl, ap, sym, subst, ◌∙◌, ◌⊎◌, inl}
+use Rattle.std.proofs.Common.{inr, arith}
 use Rattle.std.specs.Prelude.{◌||◌, not, nat_lt, slice_get, option_map, Err}
 use Rattle.std.specs.List.{list_any}
 use Rattle.std.specs.Str.{bytes_eq}
@@ -10,11 +12,15 @@ use Rattle.std.proofs.lemmas.Option.{slice_get-map, slice_get_within}
 use Rattle.std.proofs.lemmas.Slice.Eq.{bytes_eq-Decides}
 use Rattle.lb_syntax.specs.Lists.{◌>>=◌, either_or, holds, In}
 use Rattle.lb_syntax.specs.Tree.{Name, Static, Node}
-use Rattle.lb_static.specs.CallGraphs.{AreWithin, IsCallsAnswer, IsCycleNamed, IsOnCycle, IsOrder, IsOrdered, Leads, TellsRecursion, called, callee_of, callees_of, graph_of}
+use Rattle.lb_static.specs.CallGraphs.{AreWithin, IsCallsAnswer, IsCycleNamed, IsOnCycle, IsOrder}
+use Rattle.lb_static.specs.CallGraphs.{IsOrdered, Leads, TellsRecursion, called, callee_of}
+use Rattle.lb_static.specs.CallGraphs.{callees_of, graph_of}
 use Rattle.lb_static.specs.Instances.{Program, Site, node_sites}
-use Rattle.lb_static.specs.Names.{are_distinct, calls, global_names, is_recursive, is_well_founded, keeps_names, reached_nodes, reached_within, start_names}
+use Rattle.lb_static.specs.Names.{are_distinct, calls, global_names, is_recursive, is_well_founded}
+use Rattle.lb_static.specs.Names.{keeps_names, reached_nodes, reached_within, start_names}
 use Rattle.lb_static.specs.Parts.{among}
-use Rattle.lb_static.specs.ReachedNodes.{IsReached, are_linked, id_at, is_linked, source_names, trees}
+use Rattle.lb_static.specs.ReachedNodes.{IsReached, are_linked, id_at, is_linked, source_names}
+use Rattle.lb_static.specs.ReachedNodes.{trees}
 use Rattle.lb_static.specs.ResolvedNodes.{IsResolved, node_of, statics_of}
 use Rattle.lb_static.specs.ResolvedTerms.{site_of}
 use Rattle.lb_static.specs.declared.error.StaticError.{StaticError}
@@ -24,7 +30,9 @@ use Rattle.lb_static.specs.declared.reach.Reached.{Reached}
 use Rattle.lb_static.specs.declared.resolved.CallSite.{CallSite}
 use Rattle.lb_static.specs.declared.resolved.ResolvedNode.{ResolvedNode}
 use Rattle.lb_static.proofs.Lists.{and_first, and_second}
-use Rattle.lb_static.proofs.Members.{in_at, place_in, some_at, in_contains, contains_in, in_map, map_in, in_filter, filter_in, in_filter_map, filter_map_in, any_in, in_any, all_in, from_all}
+use Rattle.lb_static.proofs.Members.{in_at, place_in, some_at, in_contains, contains_in, in_map}
+use Rattle.lb_static.proofs.Members.{map_in, in_filter, filter_in, in_filter_map, filter_map_in}
+use Rattle.lb_static.proofs.Members.{any_in, in_any, all_in, from_all}
 use Rattle.lb_static.proofs.Saturation.{enough_calls}
 
 -- ## Names that are distinct

@@ -1,19 +1,24 @@
 -- The nodes that came up in the walk are those that are reached by name.
-use Rattle.std.proofs.Common.{◌≡◌, ℕ, zero, suc, ◌<◌, ◌≤◌, Bool, true, false, List, [], ◌∷◌, ◌++◌, length, map, All, get_or, Option, Some, None, is_some, option_map, refl, ap, sym, subst, ◌∙◌, arith}
+use Rattle.std.proofs.Common.{◌≡◌, ℕ, zero, suc, ◌<◌, ◌≤◌, Bool, true, false, List, [], ◌∷◌, ◌++◌}
+use Rattle.std.proofs.Common.{length, map, All, get_or, Option, Some, None, is_some, option_map}
+use Rattle.std.proofs.Common.{refl, ap, sym, subst, ◌∙◌, arith}
 use Rattle.std.specs.Prelude.{◌&&◌, ◌||◌, not, nat_lt, slice_get, filter, cond, ◌↔◌}
 use Rattle.std.specs.List.{list_any, Contains}
 use Rattle.std.specs.Str.{bytes_eq}
 use Rattle.std.proofs.lemmas.Bool.Decides.{nat_tests}
 use Rattle.std.proofs.lemmas.List.{length-map}
-use Rattle.std.proofs.lemmas.Option.{slice_get-map, slice_get-get_or, slice_get_within, get_or_from_slice_get}
+use Rattle.std.proofs.lemmas.Option.{slice_get-map, slice_get-get_or, slice_get_within}
+use Rattle.std.proofs.lemmas.Option.{get_or_from_slice_get}
 use Rattle.std.proofs.lemmas.Slice.Eq.{bytes_eq-Decides}
 use Rattle.lb_syntax.specs.Lists.{◌>>=◌, holds, either_or}
 use Rattle.lb_syntax.specs.Tree.{Name, Node, Source}
-use Rattle.lb_static.specs.CalledNodes.{AreResolved, AreStarts, IsStart, are_called, are_named, called, ids_of, node_at, program_in}
+use Rattle.lb_static.specs.CalledNodes.{AreResolved, AreStarts, IsStart, are_called, are_named}
+use Rattle.lb_static.specs.CalledNodes.{called, ids_of, node_at, program_in}
 use Rattle.lb_static.specs.SourceNames.{constants_in, names_in_source}
 use Rattle.lb_static.specs.Instances.{Program, node_named, node_sites}
 use Rattle.lb_static.specs.NameFaults.{named_in}
-use Rattle.lb_static.specs.Names.{are_distinct, calls, is_named, reached_nodes, reached_within, start_names}
+use Rattle.lb_static.specs.Names.{are_distinct, calls, is_named, reached_nodes, reached_within}
+use Rattle.lb_static.specs.Names.{start_names}
 use Rattle.lb_static.specs.Parts.{among}
 use Rattle.lb_static.specs.ReachedNodes.{IsReached, are_linked, id_at, is_linked, tree_at, trees}
 use Rattle.lb_static.specs.ResolvedNodes.{IsResolved, counts_of, node_of, statics_of}
@@ -27,7 +32,8 @@ use Rattle.lb_static.specs.declared.resolved.ResolvedNode.{ResolvedNode}
 use Rattle.lb_static.proofs.Reachability.{closed_has, reachable_by, reachable_visit, within_is}
 use Rattle.lb_static.proofs.Lists.{and_first, and_second, both}
 use Rattle.lb_static.proofs.TestedItems.{all_weaker, found_passes}
-use Rattle.lb_static.proofs.WorkLists.{all_at, any_at, as_few, at_all, at_any, at_visited, grows_once, or_left, or_right, visited_at}
+use Rattle.lb_static.proofs.WorkLists.{all_at, any_at, as_few, at_all, at_any, at_visited}
+use Rattle.lb_static.proofs.WorkLists.{grows_once, or_left, or_right, visited_at}
 
 -- ## Distinct names
 

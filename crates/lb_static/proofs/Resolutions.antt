@@ -1,6 +1,9 @@
 -- Resolved parts one after another, and what stands for a whole expression.
-use Rattle.std.proofs.Common.{◌≡◌, ℕ, zero, suc, ◌+◌, ◌<◌, Bool, true, false, List, [], ◌∷◌, ◌++◌, length, take, drop, get_or, map, arith, Ok, Err, Vec, Global, refl, ap, sym, subst, ◌∙◌, length-append}
-use Rattle.std.specs.Prelude.{◌&&◌, ◌||◌, not, nat_le, nat_lt, slice_get, flat_map, cond, Result, IfOk, IfErr, option_map, Option, None, Some}
+use Rattle.std.proofs.Common.{◌≡◌, ℕ, zero, suc, ◌+◌, ◌<◌, Bool, true, false, List, [], ◌∷◌, ◌++◌}
+use Rattle.std.proofs.Common.{length, take, drop, get_or, map, arith, Ok, Err, Vec, Global, refl}
+use Rattle.std.proofs.Common.{ap, sym, subst, ◌∙◌, length-append}
+use Rattle.std.specs.Prelude.{◌&&◌, ◌||◌, not, nat_le, nat_lt, slice_get, flat_map, cond, Result}
+use Rattle.std.specs.Prelude.{IfOk, IfErr, option_map, Option, None, Some}
 use Rattle.std.specs.List.{list_all}
 use Rattle.std.proofs.lemmas.List.{append-nil, map-append, length-map, take_more, take_all}
 use Rattle.std.proofs.Math.Seq.{drop-append_seam}
@@ -12,20 +15,30 @@ use Rattle.lb_syntax.specs.Tree as tree
 use Rattle.lb_syntax.specs.Tree.{Name, Static, Expr, Exprs}
 use Rattle.lb_syntax.specs.View.{view, view_row, view_static, view_statics, view_operator}
 use Rattle.lb_syntax.specs.declared.tree.Operator.{Operator}
-use Rattle.lb_syntax.specs.declared.tree.Operator.TheVariants.{Node as Node_operator, Symbol as Symbol_operator}
+use Rattle.lb_syntax.specs.declared.tree.Operator.TheVariants.{Node as Node_operator}
+use Rattle.lb_syntax.specs.declared.tree.Operator.TheVariants.{Symbol as Symbol_operator}
 use Rattle.lb_syntax.specs.declared.tree.Static.{Static as Static'}
 use Rattle.lb_syntax.specs.declared.tree.ArrayIterator.{ArrayIterator}
 use Rattle.lb_syntax.specs.declared.tree.BinaryOperator.{BinaryOperator}
 use Rattle.lb_syntax.specs.declared.tree.Expr as source
-use Rattle.lb_syntax.specs.declared.tree.Expr.{Array', AtMostOne', Nor', Call', Iterate', Row_of-Expr, end_of-Expr, more_of-Expr, items-the_row-Expr, items_hidden-the_row-Expr-0}
+use Rattle.lb_syntax.specs.declared.tree.Expr.{Array', AtMostOne', Nor', Call', Iterate'}
+use Rattle.lb_syntax.specs.declared.tree.Expr.{Row_of-Expr, end_of-Expr, more_of-Expr}
+use Rattle.lb_syntax.specs.declared.tree.Expr.{items-the_row-Expr, items_hidden-the_row-Expr-0}
 use Rattle.lb_static.specs.Instances.{Site, sites, sites_in}
 use Rattle.lb_static.specs.NameFaults.{IsNameFault}
 use Rattle.lb_static.specs.NodeNames.{all_pass, IsCallee}
 use Rattle.lb_static.specs.Names.{is_callable, is_constant, is_static_name}
 use Rattle.lb_static.specs.Parts.{among, variable_names}
 use Rattle.lb_static.specs.declared.resolved.NodePlace.{NodePlace}
-use Rattle.lb_static.specs.NodeProgress.{Progress, texts, counts_in, grown, callees, is_variable_of, program_of, after_expr, after_exprs, Stands, StandAll, StaticStands, CallStands, ResolvesTerm, ResolvesTerms, ResolvesStatic, ResolvesCall, StaticsStand, statics_fit, expr_passes, exprs_pass, static_fits, call_fits}
-use Rattle.lb_static.specs.ResolvedTerms.{Texts, Counts, expr_of, row_of, static_at, is_static, is_call, is_within, are_within, is_no_variable, is_unhidden, are_unhidden, named_value, iterate_expr, no_site, site_of, is_count_within}
+use Rattle.lb_static.specs.NodeProgress.{Progress, texts, counts_in, grown, callees, is_variable_of}
+use Rattle.lb_static.specs.NodeProgress.{program_of, after_expr, after_exprs, Stands, StandAll}
+use Rattle.lb_static.specs.NodeProgress.{StaticStands, CallStands, ResolvesTerm, ResolvesTerms}
+use Rattle.lb_static.specs.NodeProgress.{ResolvesStatic, ResolvesCall, StaticsStand, statics_fit}
+use Rattle.lb_static.specs.NodeProgress.{expr_passes, exprs_pass, static_fits, call_fits}
+use Rattle.lb_static.specs.ResolvedTerms.{Texts, Counts, expr_of, row_of, static_at, is_static}
+use Rattle.lb_static.specs.ResolvedTerms.{is_call, is_within, are_within, is_no_variable}
+use Rattle.lb_static.specs.ResolvedTerms.{is_unhidden, are_unhidden, named_value, iterate_expr}
+use Rattle.lb_static.specs.ResolvedTerms.{no_site, site_of, is_count_within}
 use Rattle.lb_static.specs.StaticParts.{Part, parts_of, parts_in, arguments_of}
 use Rattle.lb_static.specs.declared.error.StaticError.{StaticError}
 use Rattle.lb_static.specs.declared.resolved.CallId.{CallId}
@@ -33,10 +46,14 @@ use Rattle.lb_static.specs.declared.resolved.Role.{Role}
 use Rattle.lb_static.specs.declared.resolved.Role.TheVariants.{Size, Value as Value_role}
 use Rattle.lb_static.specs.declared.resolved.StaticId.{StaticId}
 use Rattle.lb_static.specs.declared.resolved.Term as term
-use Rattle.lb_static.specs.declared.resolved.Term.{Term, Row_of-Term, end_of-Term, more_of-Term, items-the_row-Term, items_hidden-the_row-Term-0}
+use Rattle.lb_static.specs.declared.resolved.Term.{Term, Row_of-Term, end_of-Term, more_of-Term}
+use Rattle.lb_static.specs.declared.resolved.Term.{items-the_row-Term, items_hidden-the_row-Term-0}
 use Rattle.lb_static.proofs.Faults.{fault_within}
-use Rattle.lb_static.proofs.Growth.{expr_stays, unhidden_stays, still_within, static_stays, static_still, call_stays, call_still, count_stays, same_on, all_on, both_on, same_two}
-use Rattle.lb_static.proofs.Lists.{append_assoc, both, false_first, false_second, all_append, map_map}
+use Rattle.lb_static.proofs.Growth.{expr_stays, unhidden_stays, still_within, static_stays}
+use Rattle.lb_static.proofs.Growth.{static_still, call_stays, call_still, count_stays, same_on}
+use Rattle.lb_static.proofs.Growth.{all_on, both_on, same_two}
+use Rattle.lb_static.proofs.Lists.{append_assoc, both, false_first, false_second, all_append}
+use Rattle.lb_static.proofs.Lists.{map_map}
 use Rattle.lb_static.proofs.Scopes.{among_append}
 
 -- ## More of a node

@@ -1,5 +1,6 @@
 -- Why the node under test or the observer is refused.
-use Rattle.std.proofs.Common.{◌≡◌, Bool, true, false, Option, Some, None, Result, Ok, Err, option_map, refl, ap, sym, ◌∙◌, subst}
+use Rattle.std.proofs.Common.{◌≡◌, Bool, true, false, Option, Some, None, Result, Ok, Err}
+use Rattle.std.proofs.Common.{option_map, refl, ap, sym, ◌∙◌, subst}
 use Rattle.std.specs.Prelude.{ok_or}
 use Rattle.lb_syntax.specs.Lists.{holds, where_true}
 use Rattle.lb_static.specs.Instances.{Program, Root, instance_at}

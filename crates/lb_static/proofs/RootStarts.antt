@@ -1,10 +1,13 @@
 -- The instances of the node under test and of the observer, by the table.
-use Rattle.std.proofs.Common.{◌≡◌, ℕ, ℤ, List, map, Option, Some, None, option_map, slice_get, refl, ap, sym, ◌∙◌, subst}
-use Rattle.std.proofs.lemmas.Option.{slice_get-map, slice_get_within, get_or_from_slice_get, some_pair_parts}
+use Rattle.std.proofs.Common.{◌≡◌, ℕ, ℤ, List, map, Option, Some, None, option_map, slice_get, refl}
+use Rattle.std.proofs.Common.{ap, sym, ◌∙◌, subst}
+use Rattle.std.proofs.lemmas.Option.{slice_get-map, slice_get_within, get_or_from_slice_get}
+use Rattle.std.proofs.lemmas.Option.{some_pair_parts}
 use Rattle.lb_syntax.specs.Lists.{◌>>=◌}
 use Rattle.lb_static.specs.Instances.{Program, Path, Instance, Root, static_value}
 use Rattle.lb_static.specs.Interfaces.{valued_node_in}
-use Rattle.lb_static.specs.InstanceTable.{HasStarts, instance_of, specialized_at, specialized_instance_at}
+use Rattle.lb_static.specs.InstanceTable.{HasStarts, instance_of, specialized_at}
+use Rattle.lb_static.specs.InstanceTable.{specialized_instance_at}
 use Rattle.lb_static.specs.ReachedNodes.{IsReached, source_names}
 use Rattle.lb_static.specs.ResolvedNodes.{IsResolved, node_of, statics_of}
 use Rattle.lb_static.specs.declared.reach.Reached.{Reached}

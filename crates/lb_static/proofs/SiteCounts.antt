@@ -1,15 +1,22 @@
 -- Each call of an instance whose sizes are in range is entered at least once.
-use Rattle.std.proofs.Common.{◌≡◌, ℕ, zero, suc, ◌<◌, ℤ, pos, negsuc, Bool, true, List, [], ◌∷◌, ◌++◌, Option, Some, None, option_map, refl, ap, sym, ◌∙◌, subst, arith}
+use Rattle.std.proofs.Common.{◌≡◌, ℕ, zero, suc, ◌<◌, ℤ, pos, negsuc, Bool, true, List, [], ◌∷◌}
+use Rattle.std.proofs.Common.{◌++◌, Option, Some, None, option_map, refl, ap, sym, ◌∙◌, subst}
+use Rattle.std.proofs.Common.{arith}
 use Rattle.std.specs.Prelude.{◌&&◌, nat_le, flat_map, slice_get}
 use Rattle.std.specs.List.{list_all}
 use Rattle.std.proofs.lemmas.Grind.{flat_map-append}
 use Rattle.std.proofs.lemmas.Option.{slice_get-map}
 use Rattle.std.proofs.lemmas.Bool.Decides.{nat_tests}
 use Rattle.lb_syntax.specs.Lists.{◌>>=◌, holds, either_or}
-use Rattle.lb_syntax.specs.Tree.{Static, Node_named, Symbol, Expr, Literal, Truth, Variable, Group, Unary, Binary, If, Arrow, Fby, Pre, Current, When, Replicate, Index, Slice, Join, Array, AtMostOne, Nor, Call, Iterate, Exprs, Nil, Cons, Node, Statement, Equation, Assertion}
-use Rattle.lb_static.specs.Instances.{Program, Path, Site, sites, sites_in, statement_sites, node_sites}
+use Rattle.lb_syntax.specs.Tree.{Static, Node_named, Symbol, Expr, Literal, Truth, Variable, Group}
+use Rattle.lb_syntax.specs.Tree.{Unary, Binary, If, Arrow, Fby, Pre, Current, When, Replicate}
+use Rattle.lb_syntax.specs.Tree.{Index, Slice, Join, Array, AtMostOne, Nor, Call, Iterate, Exprs}
+use Rattle.lb_syntax.specs.Tree.{Nil, Cons, Node, Statement, Equation, Assertion}
+use Rattle.lb_static.specs.Instances.{Program, Path, Site, sites, sites_in, statement_sites}
+use Rattle.lb_static.specs.Instances.{node_sites}
 use Rattle.lb_static.specs.InstanceTable.{instance_of}
-use Rattle.lb_static.specs.Parts.{parts, parts_in, right_side, declared_sizes, node_parts, node_sizes, own_sizes}
+use Rattle.lb_static.specs.Parts.{parts, parts_in, right_side, declared_sizes, node_parts}
+use Rattle.lb_static.specs.Parts.{node_sizes, own_sizes}
 use Rattle.lb_static.specs.ReachedNodes.{source_names}
 use Rattle.lb_static.specs.ResolvedNodes.{IsResolved, node_of, statics_of}
 use Rattle.lb_static.specs.ResolvedTerms.{site_of, static_at}

@@ -1,14 +1,17 @@
 -- The types of the inputs and outputs of the node under test, where instantiation refuses nothing.
-use Rattle.std.proofs.Common.{◌≡◌, ℕ, Bool, true, false, List, [], ◌∷◌, ◌++◌, map, Option, Some, None, option_map, refl, ap, sym, ◌∙◌}
+use Rattle.std.proofs.Common.{◌≡◌, ℕ, Bool, true, false, List, [], ◌∷◌, ◌++◌, map, Option, Some}
+use Rattle.std.proofs.Common.{None, option_map, refl, ap, sym, ◌∙◌}
 use Rattle.std.specs.Prelude.{◌&&◌, nat_le, is_some, reverse}
 use Rattle.std.specs.List.{list_all, flat_map}
 use Rattle.lb_syntax.specs.Lists.{all_some, listed, or_else, holds}
 use Rattle.lb_syntax.specs.Refusals.{Refusal, E5, E6, E12, unless}
 use Rattle.lb_syntax.specs.Tree.{Static, Declaration}
-use Rattle.lb_static.specs.Instances.{Program, Instance, Root, Observer, children, instances, instances_from, instance_at, static_count}
+use Rattle.lb_static.specs.Instances.{Program, Instance, Root, Observer, children, instances}
+use Rattle.lb_static.specs.Instances.{instances_from, instance_at, static_count}
 use Rattle.lb_static.specs.Parts.{declared_sizes, node_sizes}
 use Rattle.lb_static.specs.DataTypes.{variables, variable_type}
-use Rattle.lb_static.specs.Instantiation.{has_values, is_between, is_in_range, may_enter, instantiation_refusal}
+use Rattle.lb_static.specs.Instantiation.{has_values, is_between, is_in_range, may_enter}
+use Rattle.lb_static.specs.Instantiation.{instantiation_refusal}
 use Rattle.lb_static.proofs.Lists.{and_first, and_second, all_append, append_assoc}
 use Rattle.lb_static.proofs.Options.{all_some-map-reverse}
 

@@ -4,7 +4,9 @@ use Rattle.std.specs.Prelude.{IfOk}
 use Rattle.lb_syntax.specs.Lists.{or_else, holds}
 use Rattle.lb_syntax.specs.Refusals.{Refusal, E4, E5, E6, E7, E8, E12, unless}
 use Rattle.lb_static.specs.declared.error.StaticError.{StaticError}
-use Rattle.lb_static.specs.declared.error.StaticError.TheVariants.{Memory, Name as Name_fault, Recursion, Root as Root_fault, Value, Range, Instances}
+use Rattle.lb_static.specs.declared.error.StaticError.TheVariants.{Memory, Name as Name_fault}
+use Rattle.lb_static.specs.declared.error.StaticError.TheVariants.{Recursion, Root as Root_fault}
+use Rattle.lb_static.specs.declared.error.StaticError.TheVariants.{Value, Range, Instances}
 use Rattle.lb_static.specs.CallGraphs.{IsCallsAnswer}
 use Rattle.lb_static.specs.Elaborates.{IsStaticFault, IsTableAnswer}
 use Rattle.lb_static.specs.InstanceTable.{HasStarts, IsTable}
@@ -16,7 +18,8 @@ use Rattle.lb_static.specs.Instances.{Program, Root, instance_at, instances}
 use Rattle.lb_static.specs.NameFaults.{IsNameFault}
 use Rattle.lb_static.specs.Names.{is_well_founded, keeps_names}
 use Rattle.lb_static.specs.RootAnswers.{IsRootAnswer}
-use Rattle.lb_static.specs.Instantiation.{has_no_parameters, is_root, static_refusal, instantiation_refusal}
+use Rattle.lb_static.specs.Instantiation.{has_no_parameters, is_root, static_refusal}
+use Rattle.lb_static.specs.Instantiation.{instantiation_refusal}
 use Rattle.lb_static.specs.Instantiated.{IsRefusal, IsInstantiationAnswer}
 
 -- ## The first of five

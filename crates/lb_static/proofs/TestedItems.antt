@@ -1,5 +1,6 @@
 -- Tests of the items of a list, and what a search finds.
-use Rattle.std.proofs.Common.{◌≡◌, Bool, true, false, cond, List, [], ◌∷◌, Option, Some, refl, ap, subst, ◌∙◌}
+use Rattle.std.proofs.Common.{◌≡◌, Bool, true, false, cond, List, [], ◌∷◌, Option, Some, refl, ap}
+use Rattle.std.proofs.Common.{subst, ◌∙◌}
 use Rattle.std.specs.Prelude.{◌&&◌, find, filter, flat_map}
 use Rattle.std.specs.List.{list_all}
 use Rattle.lb_static.proofs.Lists.{and_first, and_second, both, all_append}

@@ -1,5 +1,6 @@
 -- Types as the code holds them, against the types of the definitions.
-use Rattle.std.proofs.Common.{◌≡◌, ℕ, zero, suc, ◌+◌, ◌*◌, ◌<◌, ◌≤◌, Bool, true, List, [], ◌∷◌, length, min, refl, ap, ◌∙◌, arith, eqb}
+use Rattle.std.proofs.Common.{◌≡◌, ℕ, zero, suc, ◌+◌, ◌*◌, ◌<◌, ◌≤◌, Bool, true, List, [], ◌∷◌}
+use Rattle.std.proofs.Common.{length, min, refl, ap, ◌∙◌, arith, eqb}
 use Rattle.std.specs.Prelude.{◌&&◌, ◌==◌}
 use Rattle.std.proofs.lemmas.Bool.Decides.{nat_tests}
 use Rattle.std.specs.Cmp.Lexicographic.{pointwise}

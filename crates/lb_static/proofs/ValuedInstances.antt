@@ -1,6 +1,7 @@
 -- An instance has values, and they are in range, where those of the static expressions of its
 -- node are.
-use Rattle.std.proofs.Common.{◌≡◌, ℤ, Bool, true, false, List, [], ◌∷◌, ◌++◌, Option, refl, ap, ap₂, sym, ◌∙◌}
+use Rattle.std.proofs.Common.{◌≡◌, ℤ, Bool, true, false, List, [], ◌∷◌, ◌++◌, Option, refl, ap, ap₂}
+use Rattle.std.proofs.Common.{sym, ◌∙◌}
 use Rattle.std.specs.Prelude.{◌&&◌, flat_map, is_some}
 use Rattle.std.specs.List.{list_all}
 use Rattle.std.proofs.lemmas.List.{map-append}
@@ -10,7 +11,8 @@ use Rattle.lb_syntax.specs.Tree.{Name}
 use Rattle.lb_syntax.specs.declared.tree.Declarations.{Declarations}
 use Rattle.lb_syntax.specs.declared.tree.Node as written
 use Rattle.lb_static.specs.Instances.{Program, Instance, Path, name_value}
-use Rattle.lb_static.specs.Parts.{among, declared_sizes, node_parts, own_sizes, own_indexes, own_arguments, own_names, variable_names}
+use Rattle.lb_static.specs.Parts.{among, declared_sizes, node_parts, own_sizes, own_indexes}
+use Rattle.lb_static.specs.Parts.{own_arguments, own_names, variable_names}
 use Rattle.lb_static.specs.DataTypes.{variables}
 use Rattle.lb_static.specs.StaticParts.{Part, group_parts, node_static_parts}
 use Rattle.lb_static.specs.StaticValues.{value_under}

@@ -1,6 +1,8 @@
 -- The whole instantiation: the instances below the node under test, and then those below the
 -- observer.
-use Rattle.std.proofs.Common.{◌≡◌, ℕ, zero, suc, ◌<◌, ℤ, true, List, [], ◌∷◌, ◌++◌, map, length, get_or, Option, Some, None, option_map, refl, ap, sym, ◌∙◌, subst, arith}
+use Rattle.std.proofs.Common.{◌≡◌, ℕ, zero, suc, ◌<◌, ℤ, true, List, [], ◌∷◌, ◌++◌, map, length}
+use Rattle.std.proofs.Common.{get_or, Option, Some, None, option_map, refl, ap, sym, ◌∙◌, subst}
+use Rattle.std.proofs.Common.{arith}
 use Rattle.std.specs.Prelude.{slice_get}
 use Rattle.std.specs.List.{list_all, zip}
 use Rattle.std.proofs.lemmas.List.{length-map, append-nil}
@@ -10,15 +12,18 @@ use Rattle.std.proofs.lemmas.Option.{slice_get-map}
 use Rattle.lb_syntax.specs.Lists.{◌>>=◌, listed}
 use Rattle.lb_syntax.specs.Tree.{Name, Node}
 use Rattle.lb_static.specs.HeldValues.{value_of}
-use Rattle.lb_static.specs.Instances.{Program, Instance, Path, Root, Observer, static_value, node_named, start_at, instance_at, instances_from, instances}
-use Rattle.lb_static.specs.InstanceTable.{instance_of, specialized_at, specialized_instance_at, HasStatics, HasStarts}
+use Rattle.lb_static.specs.Instances.{Program, Instance, Path, Root, Observer, static_value}
+use Rattle.lb_static.specs.Instances.{node_named, start_at, instance_at, instances_from, instances}
+use Rattle.lb_static.specs.InstanceTable.{instance_of, specialized_at, specialized_instance_at}
+use Rattle.lb_static.specs.InstanceTable.{HasStatics, HasStarts}
 use Rattle.lb_static.specs.Names.{keeps_names}
 use Rattle.lb_static.specs.ReachedNodes.{IsReached, source_names, tree_at, are_linked}
 use Rattle.lb_static.specs.ResolvedNodes.{IsResolved, node_of, counts_of, statics_of}
 use Rattle.lb_static.specs.ResolvedTerms.{is_site_within}
 use Rattle.lb_static.specs.StaticValues.{constant_value}
 use Rattle.lb_static.specs.Instantiation.{instantiation_refusal}
-use Rattle.lb_static.specs.Instantiated.{AreSound, IsRefusal, AreEntered, AreJudged, IsJudgedAt, IsKnown, IsInstantiable}
+use Rattle.lb_static.specs.Instantiated.{AreSound, IsRefusal, AreEntered, AreJudged, IsJudgedAt}
+use Rattle.lb_static.specs.Instantiated.{IsKnown, IsInstantiable}
 use Rattle.lb_static.specs.declared.constants.Constants.{Constants}
 use Rattle.lb_static.specs.declared.error.StaticError.{StaticError}
 use Rattle.lb_static.specs.declared.reach.NodeId.{NodeId}

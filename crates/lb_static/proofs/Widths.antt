@@ -1,5 +1,7 @@
 -- The elements of a variable: the product of its sizes, in any order.
-use Rattle.std.proofs.Common.{◌≡◌, ℕ, suc, zero, ◌+◌, ◌*◌, ◌≤◌, min, ℤ, pos, negsuc, Bool, true, false, List, [], ◌∷◌, ◌++◌, map, reverse, Option, Some, None, option_map, refl, ap, sym, ◌∙◌, arith}
+use Rattle.std.proofs.Common.{◌≡◌, ℕ, suc, zero, ◌+◌, ◌*◌, ◌≤◌, min, ℤ, pos, negsuc, Bool, true}
+use Rattle.std.proofs.Common.{false, List, [], ◌∷◌, ◌++◌, map, reverse, Option, Some, None}
+use Rattle.std.proofs.Common.{option_map, refl, ap, sym, ◌∙◌, arith}
 use Rattle.std.specs.Prelude.{nat_le}
 use Rattle.std.proofs.lemmas.Bool.Decides.{nat_tests}
 use Rattle.std.proofs.lemmas.List.{reverse-append}
@@ -9,12 +11,13 @@ use Rattle.lb_static.specs.Specialized.{size_of, times_sizes}
 use Rattle.lb_static.specs.StaticValues.{natural}
 
 -- the product of sizes that all are there, and else 0
-abbrev product_of : List (Option ℕ) → ℕ
+abbrev pub product_of : List (Option ℕ) → ℕ
 product_of [] = 1
 product_of (None ∷ os) = 0
 product_of (Some n ∷ os) = n * product_of os
 
-product_is : (os : List (Option ℕ)) → either_or (option_map product (all_some os)) 0 ≡ product_of os
+pub product_is : (os : List (Option ℕ)) →
+    either_or (option_map product (all_some os)) 0 ≡ product_of os
 product_is [] = refl
 product_is (None ∷ os) = refl
 product_is (Some n ∷ os) = by (all_some os) (product_of os) (product_is os)
@@ -34,18 +37,18 @@ product_front : (o : Option ℕ) (os : List (Option ℕ))
 product_front None os = omega arith
 product_front (Some n) os = grind arith
 
-product_reverse : (os : List (Option ℕ)) → product_of (reverse os) ≡ product_of os
+pub product_reverse : (os : List (Option ℕ)) → product_of (reverse os) ≡ product_of os
 product_reverse [] = refl
 product_reverse (o ∷ os) =
     ap product_of (reverse-append (o ∷ []) os) ∙ product_append (reverse os) (o ∷ [])
     ∙ ap (λ m. m * product_of (o ∷ [])) (product_reverse os) ∙ product_front o os
 
 -- the product of sizes
-abbrev sizes_product : List ℤ → ℕ
+abbrev pub sizes_product : List ℤ → ℕ
 sizes_product [] = 1
 sizes_product (v ∷ vs) = size_of v * sizes_product vs
 
-product_naturals : (vs : List ℤ) → product_of (map natural vs) ≡ sizes_product vs
+pub product_naturals : (vs : List ℤ) → product_of (map natural vs) ≡ sizes_product vs
 product_naturals [] = refl
 product_naturals (pos n ∷ vs) = ap (λ m. n * m) (product_naturals vs)
 product_naturals (negsuc n ∷ vs) = omega arith
@@ -73,7 +76,8 @@ bounded e (suc k) = by (nat_le e 65537) refl
         past : (a b : ℕ) → 65537 ≤ a → 65537 ≤ b → min a 65537 ≡ min b 65537
         past a b g l = omega arith
 
-times_are : (e : ℕ) (vs : List ℤ) → times_sizes (min e 65537) vs ≡ min (e * sizes_product vs) 65537
+pub times_are : (e : ℕ) (vs : List ℤ) →
+    times_sizes (min e 65537) vs ≡ min (e * sizes_product vs) 65537
 times_are e [] = omega arith
 times_are e (v ∷ vs) =
     ap (λ n. times_sizes n vs) (bounded e (size_of v)) ∙ times_are (e * size_of v) vs

@@ -1,5 +1,7 @@
 -- Places that came up in a walk: one more visit, and more of them.
-use Rattle.std.proofs.Common.{◌≡◌, ◌≢◌, ℕ, zero, suc, ◌+◌, ◌<◌, ◌≤◌, Bool, true, false, cond, List, [], ◌∷◌, ◌++◌, length, set, get_or, replicate, Bor, Option, Some, None, is_some, refl, ap, sym, subst, ◌∙◌, arith, length-append}
+use Rattle.std.proofs.Common.{◌≡◌, ◌≢◌, ℕ, zero, suc, ◌+◌, ◌<◌, ◌≤◌, Bool, true, false, cond, List}
+use Rattle.std.proofs.Common.{[], ◌∷◌, ◌++◌, length, set, get_or, replicate, Bor, Option, Some}
+use Rattle.std.proofs.Common.{None, is_some, refl, ap, sym, subst, ◌∙◌, arith, length-append}
 use Rattle.std.specs.Prelude.{◌||◌, nat_eq, slice_get, if◌then◌else◌, IfSome, MatchOption}
 use Rattle.std.specs.Option.{option_copied}
 use Rattle.std.specs.List.{HoldsAt}

@@ -1,11 +1,13 @@
 -- The arithmetic of `int`, which static expressions and the run share.
 -- Source: Lustre V6 reference manual, arithmetic operators. The range and the faults are this
 -- project's rule.
-use Rattle.std.specs.Prelude.{Bool, not, ◌&&◌, ℤ, pos, negsuc, ◌+ℤ◌, ◌-ℤ◌, ◌*ℤ◌, neg_ℤ, int_le, int_div, int_rem, Option, None}
+use Rattle.std.specs.Prelude.{Bool, not, ◌&&◌, ℤ, pos, negsuc, ◌+ℤ◌, ◌-ℤ◌, ◌*ℤ◌, neg_ℤ, int_le}
+use Rattle.std.specs.Prelude.{int_div, int_rem, Option, None}
 use Rattle.std.specs.Ordering.{int_eq}
 use Rattle.lb_syntax.specs.Lists.{where_true}
 use Rattle.lb_syntax.specs.declared.tree.BinaryOperator.{BinaryOperator}
-use Rattle.lb_syntax.specs.declared.tree.BinaryOperator.TheVariants.{Plus, Minus, Times, Divide, Modulo}
+use Rattle.lb_syntax.specs.declared.tree.BinaryOperator.TheVariants.{Plus, Minus, Times, Divide}
+use Rattle.lb_syntax.specs.declared.tree.BinaryOperator.TheVariants.{Modulo}
 
 -- the least and the greatest value of `int`
 abbrev pub least_int : ℤ

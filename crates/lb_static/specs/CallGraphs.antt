@@ -1,6 +1,7 @@
 -- The calls between the nodes that are reached, where each node is its place among them.
 -- This file says what data of the program mean; no definition of the language stands on it.
-use Rattle.std.specs.Prelude.{◌≡◌, ◌<◌, ℕ, true, false, Option, Some, None, Result, Ok, Err, List, [], ◌∷◌, map, length, slice_get, nat_lt, if◌then◌else◌, string_bytes}
+use Rattle.std.specs.Prelude.{◌≡◌, ◌<◌, ℕ, true, false, Option, Some, None, Result, Ok, Err, List}
+use Rattle.std.specs.Prelude.{[], ◌∷◌, map, length, slice_get, nat_lt, if◌then◌else◌, string_bytes}
 use Rattle.std.specs.List.{filter_map}
 use Rattle.lb_syntax.specs.Lists.{◌>>=◌, either_or, In}
 use Rattle.lb_syntax.specs.Tree.{Name, Node}

@@ -1,6 +1,7 @@
 -- The nodes that come up in the walk over what is reached by name.
 -- This file says what data of the program mean; no definition of the language stands on it.
-use Rattle.std.specs.Prelude.{◌≡◌, ◌<◌, ◌≤◌, ℕ, Bool, true, ◌&&◌, [], Option, None, Some, is_some, option_map, List, map, length, slice_get, All}
+use Rattle.std.specs.Prelude.{◌≡◌, ◌<◌, ◌≤◌, ℕ, Bool, true, ◌&&◌, [], Option, None, Some, is_some}
+use Rattle.std.specs.Prelude.{option_map, List, map, length, slice_get, All, Result, Ok, Err}
 use Rattle.std.specs.List.{list_all, list_any}
 use Rattle.std.specs.Str.{bytes_eq}
 use Rattle.lb_syntax.specs.Lists.{◌>>=◌}
@@ -8,10 +9,13 @@ use Rattle.lb_syntax.specs.Tree.{Name, Node, Source}
 use Rattle.lb_static.specs.Instances.{Program, node_named, node_sites}
 use Rattle.lb_static.specs.Names.{is_named, reached_nodes, start_names, starts}
 use Rattle.lb_static.specs.Parts.{among}
-use Rattle.lb_static.specs.NameFaults.{named_in}
+use Rattle.lb_static.specs.NameFaults.{named_in, IsNameFault}
+use Rattle.lb_static.specs.ReachedNodes.{IsReached}
 use Rattle.lb_static.specs.ResolvedNodes.{IsResolved, node_of}
 use Rattle.lb_static.specs.WorkLists.{AreReachable, Grows, is_visited, visited_after}
+use Rattle.lb_static.specs.declared.error.StaticError.{StaticError}
 use Rattle.lb_static.specs.declared.reach.NodeId.{NodeId}
+use Rattle.lb_static.specs.declared.reach.Reached.{Reached}
 use Rattle.lb_static.specs.declared.resolved.CallSite.{CallSite}
 use Rattle.lb_static.specs.declared.resolved.ResolvedNode.{ResolvedNode}
 
@@ -74,6 +78,12 @@ pub record AreStarts (P : Program) (order : List ℕ) (root : NodeId)
 -- the starts are there, and each name of a node that is reached has a meaning
 abbrev pub are_named : Program → Bool
 are_named P = list_all is_some (starts P) && list_all (is_named P) (reached_nodes P)
+
+-- The nodes that a program reaches, with their names resolved, where its names pass a test; or the
+-- name that does not.
+abbrev pub Reaches : (Program → Bool) → Program → Result Reached StaticError → Type 0
+Reaches test P (Ok r) = (test P ≡ true) × IsReached P r
+Reaches test P (Err e) = IsNameFault e (test P)
 
 -- for each place the number of the node that came up
 abbrev pub ids_of : List (Option ℕ) → List (Option NodeId)

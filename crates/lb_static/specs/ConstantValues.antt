@@ -1,6 +1,7 @@
 -- The values of constants as a table holds them while they are computed.
 -- This file says what data of the program mean; no definition of the language stands on it.
-use Rattle.std.specs.Prelude.{◌≡◌, ◌<◌, ℕ, ℤ, Option, None, Some, is_some, List, map, length, slice_get, position}
+use Rattle.std.specs.Prelude.{◌≡◌, ◌<◌, ℕ, ℤ, Option, None, Some, is_some, List, map, length}
+use Rattle.std.specs.Prelude.{slice_get, position}
 use Rattle.std.specs.List.{count_by}
 use Rattle.std.specs.Str.{bytes_eq}
 use Rattle.std.specs.Borrow.{Bor}

@@ -1,7 +1,8 @@
 -- The variables of an instance, their types and their scalar elements.
 -- Source: Lustre V6 reference manual, types and arrays. The order and the names of scalar elements
 -- are this project's rule.
-use Rattle.std.specs.Prelude.{ℕ, ◌*◌, nat_eq, Bool, true, false, ◌&&◌, Option, option_map, List, [], ◌∷◌, ◌++◌, map, reverse, flat_map, codes}
+use Rattle.std.specs.Prelude.{ℕ, ◌*◌, nat_eq, Bool, true, false, ◌&&◌, Option, option_map, List, []}
+use Rattle.std.specs.Prelude.{◌∷◌, ◌++◌, map, reverse, flat_map, codes}
 use Rattle.std.specs.Fmt.{decimal}
 use Rattle.std.specs.List.{range_with_len}
 use Rattle.lb_syntax.specs.Lists.{all_some, either_or, listed}

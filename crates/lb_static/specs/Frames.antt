@@ -4,14 +4,19 @@ use Rattle.std.specs.Prelude.{◌≡◌, List, Result, Ok, Err, Box, Vec}
 use Rattle.std.specs.declared.alloc.Global.{Global}
 use Rattle.lb_syntax.specs.Tree.{Expr}
 use Rattle.lb_static.specs.NameFaults.{IsNameFault}
-use Rattle.lb_static.specs.NodeProgress.{Progress, ResolvesTerm, ResolvesTerms, expr_passes, exprs_pass}
+use Rattle.lb_static.specs.NodeProgress.{Progress, ResolvesTerm, ResolvesTerms, expr_passes}
+use Rattle.lb_static.specs.NodeProgress.{exprs_pass}
 use Rattle.lb_static.specs.declared.error.StaticError.{StaticError}
 use Rattle.lb_static.specs.declared.resolved.Term as term
 use Rattle.lb_static.specs.declared.resolved.Term.{Term}
 use Rattle.lb_static.specs.declared.resolving_terms.Frame.{Frame}
-use Rattle.lb_static.specs.declared.resolving_terms.Frame.TheVariants.{Group, Unary, Binary, If, Arrow, Fby, Pre, Current, When, Replicate, Index, Slice, Join}
+use Rattle.lb_static.specs.declared.resolving_terms.Frame.TheVariants.{Group, Unary, Binary, If}
+use Rattle.lb_static.specs.declared.resolving_terms.Frame.TheVariants.{Arrow, Fby, Pre, Current}
+use Rattle.lb_static.specs.declared.resolving_terms.Frame.TheVariants.{When, Replicate, Index}
+use Rattle.lb_static.specs.declared.resolving_terms.Frame.TheVariants.{Slice, Join}
 use Rattle.lb_static.specs.declared.resolving_terms.Head.{Head}
-use Rattle.lb_static.specs.declared.resolving_terms.Head.TheVariants.{Array, AtMostOne, Nor, Call, IterateNode, IterateSymbol}
+use Rattle.lb_static.specs.declared.resolving_terms.Head.TheVariants.{Array, AtMostOne, Nor, Call}
+use Rattle.lb_static.specs.declared.resolving_terms.Head.TheVariants.{IterateNode, IterateSymbol}
 
 -- the term with this last operand
 abbrev pub around : Frame → Box Term Global → Term

@@ -1,10 +1,12 @@
 -- What the instantiation of a program promises of the rows of its table.
 -- This file says what data of the program mean; no definition of the language stands on it.
-use Rattle.std.specs.Prelude.{◌≡◌, ◌<◌, ◌≤◌, ℕ, Option, Some, None, option_map, List, [], ◌∷◌, ◌++◌, map, length, slice_get}
+use Rattle.std.specs.Prelude.{◌≡◌, ◌<◌, ◌≤◌, ℕ, Option, Some, None, option_map, List, [], ◌∷◌, ◌++◌}
+use Rattle.std.specs.Prelude.{map, length, slice_get}
 use Rattle.std.specs.List.{Contains}
 use Rattle.lb_syntax.specs.Lists.{either_or}
 use Rattle.lb_static.specs.Instances.{Program, Instance, Path, instances}
-use Rattle.lb_static.specs.InstanceTable.{specialized_at, path_from, paths_after, rows_of, CallersStandBefore}
+use Rattle.lb_static.specs.InstanceTable.{specialized_at, path_from, paths_after, rows_of}
+use Rattle.lb_static.specs.InstanceTable.{CallersStandBefore}
 use Rattle.lb_static.specs.declared.reach.Reached.{Reached}
 use Rattle.lb_static.specs.declared.table.Instance as row
 use Rattle.lb_static.specs.declared.table.Origin.{Origin}

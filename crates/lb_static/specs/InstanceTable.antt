@@ -1,10 +1,12 @@
 -- What the table of instances promises to the steps above.
 -- This file says what data of the program mean; no definition of the language stands on it.
-use Rattle.std.specs.Prelude.{◌≡◌, ◌<◌, ◌≤◌, ℕ, ℤ, Option, Some, None, option_map, List, [], ◌∷◌, ◌++◌, map, length, slice_get}
+use Rattle.std.specs.Prelude.{◌≡◌, ◌<◌, ◌≤◌, ℕ, ℤ, Option, Some, None, option_map, List, [], ◌∷◌}
+use Rattle.std.specs.Prelude.{◌++◌, map, length, slice_get}
 use Rattle.std.specs.List.{zip, Contains}
 use Rattle.lb_syntax.specs.Lists.{◌>>=◌, either_or, zip2}
 use Rattle.lb_syntax.specs.Tree.{Node}
-use Rattle.lb_static.specs.Instances.{Program, Instance, Path, Root, Observer, Child, Site, static_value, callee_of, node_sites, instance_at, instances}
+use Rattle.lb_static.specs.Instances.{Program, Instance, Path, Root, Observer, Child, Site}
+use Rattle.lb_static.specs.Instances.{static_value, callee_of, node_sites, instance_at, instances}
 use Rattle.lb_static.specs.ReachedNodes.{tree_at}
 use Rattle.lb_static.specs.ResolvedNodes.{statics_of}
 use Rattle.lb_static.specs.declared.reach.Reached.{Reached}

@@ -2,10 +2,16 @@
 -- of its static parameters.
 -- Source: Lustre V6 reference manual, nodes, static parameters and array iterators. The order of
 -- instances is this project's rule.
-use Rattle.std.specs.Prelude.{ℕ, zero, suc, nat_eq, nat_lt, Bool, true, false, ◌&&◌, ℤ, Option, Some, None, option_map, List, [], ◌∷◌, ◌++◌, map, length, slice_get, flat_map, if◌then◌else◌}
+use Rattle.std.specs.Prelude.{ℕ, zero, suc, nat_eq, nat_lt, Bool, true, false, ◌&&◌, ℤ, Option}
+use Rattle.std.specs.Prelude.{Some, None, option_map, List, [], ◌∷◌, ◌++◌, map, length, slice_get}
+use Rattle.std.specs.Prelude.{flat_map, if◌then◌else◌}
 use Rattle.std.specs.List.{range_with_len, zip}
 use Rattle.lb_syntax.specs.Lists.{◌>>=◌, all_some, some_of, listed}
-use Rattle.lb_syntax.specs.Tree.{Name, Static, Node_named, Symbol, Expr, Literal, Truth, Variable, Group, Unary, Binary, If, Arrow, Fby, Pre, Current, When, Replicate, Index, Slice, Join, Array, AtMostOne, Nor, Call, Iterate, Exprs, Nil, Cons, Node, Source, Statement, Equation, Assertion}
+use Rattle.lb_syntax.specs.Tree.{Name, Static, Node_named, Symbol, Expr, Literal, Truth, Variable}
+use Rattle.lb_syntax.specs.Tree.{Group, Unary, Binary, If, Arrow, Fby, Pre, Current, When}
+use Rattle.lb_syntax.specs.Tree.{Replicate, Index, Slice, Join, Array, AtMostOne, Nor, Call}
+use Rattle.lb_syntax.specs.Tree.{Iterate, Exprs, Nil, Cons, Node, Source, Statement, Equation}
+use Rattle.lb_syntax.specs.Tree.{Assertion}
 use Rattle.lb_static.specs.StaticValues.{named, value_under, constant_value, natural}
 
 -- ## Where an instance stands

@@ -1,6 +1,7 @@
 -- What the instantiation of a program promises.
 -- This file says what data of the program mean; no definition of the language stands on it.
-use Rattle.std.specs.Prelude.{◌≡◌, ◌<◌, ◌+◌, ℕ, ℤ, pos, true, false, Option, Some, None, List, map, take, drop, length, slice_get, Result, Ok, Err, Vec, All}
+use Rattle.std.specs.Prelude.{◌≡◌, ◌<◌, ◌+◌, ℕ, ℤ, pos, true, false, Option, Some, None, List, map}
+use Rattle.std.specs.Prelude.{take, drop, length, slice_get, Result, Ok, Err, Vec, All}
 use Rattle.std.specs.List.{list_all}
 use Rattle.std.specs.Borrow.{Bor}
 use Rattle.std.specs.declared.alloc.Global.{Global}
@@ -15,7 +16,8 @@ use Rattle.lb_static.specs.ResolvedNodes.{counts_of, node_of, statics_of}
 use Rattle.lb_static.specs.ResolvedTerms.{is_declared_within, is_site_within}
 use Rattle.lb_static.specs.Specialized.{size_of}
 use Rattle.lb_static.specs.StaticValues.{constant_value}
-use Rattle.lb_static.specs.Instantiation.{has_values, is_in_range, instance_refusal, instantiation_refusal}
+use Rattle.lb_static.specs.Instantiation.{has_values, is_in_range, instance_refusal}
+use Rattle.lb_static.specs.Instantiation.{instantiation_refusal}
 use Rattle.lb_static.specs.declared.constants.Constants.{Constants}
 use Rattle.lb_static.specs.declared.error.StaticError.{StaticError}
 use Rattle.lb_static.specs.declared.error.StaticError.TheVariants as error

@@ -2,14 +2,18 @@
 -- Source: Lustre V6 reference manual, static parameters and arrays. Ranges, limits and the order
 -- of instantiation are this project's rule; observers follow the 1993 paper on synchronous
 -- observers.
-use Rattle.std.specs.Prelude.{ℕ, suc, Bool, false, ◌&&◌, ◌||◌, not, nat_le, nat_lt, nat_eq, Option, Some, None, is_some, List, [], ◌∷◌, ◌++◌, map, length}
+use Rattle.std.specs.Prelude.{ℕ, suc, Bool, false, ◌&&◌, ◌||◌, not, nat_le, nat_lt, nat_eq, Option}
+use Rattle.std.specs.Prelude.{Some, None, is_some, List, [], ◌∷◌, ◌++◌, map, length}
 use Rattle.std.specs.List.{list_all}
 use Rattle.lb_syntax.specs.Lists.{some_of, or_else, holds, all_some}
 use Rattle.lb_syntax.specs.Refusals.{Refusal, E4, E5, E6, E7, E8, E12, unless}
 use Rattle.lb_syntax.specs.Tree.{Static, Declaration}
-use Rattle.lb_static.specs.Instances.{Program, Instance, Path, Root, Observer, Child, name_value, static_value, static_count, instance_at, instances}
-use Rattle.lb_static.specs.DataTypes.{DataType, truth, is_type, are_types, variables, variable_type, width, input_types, output_types, signature}
-use Rattle.lb_static.specs.Parts.{among, variable_names, node_names, node_statics, node_sizes, node_indexes, node_slices}
+use Rattle.lb_static.specs.Instances.{Program, Instance, Path, Root, Observer, Child, name_value}
+use Rattle.lb_static.specs.Instances.{static_value, static_count, instance_at, instances}
+use Rattle.lb_static.specs.DataTypes.{DataType, truth, is_type, are_types, variables, variable_type}
+use Rattle.lb_static.specs.DataTypes.{width, input_types, output_types, signature}
+use Rattle.lb_static.specs.Parts.{among, variable_names, node_names, node_statics, node_sizes}
+use Rattle.lb_static.specs.Parts.{node_indexes, node_slices}
 use Rattle.lb_static.specs.Names.{starts, keeps_names, is_well_founded}
 
 module _ (P : Program) where

@@ -1,12 +1,15 @@
 -- The types of the inputs and outputs of an instance, as the code finds them.
 -- This file says what data of the program mean; no definition of the language stands on it.
-use Rattle.std.specs.Prelude.{◌≡◌, ℕ, ◌+◌, ℤ, Bool, false, ◌&&◌, not, nat_le, Option, None, Some, is_some, option_map, List, [], ◌∷◌, ◌++◌, map, reverse, take, drop, length, slice_get, Result, Ok, Err}
+use Rattle.std.specs.Prelude.{◌≡◌, ℕ, ◌+◌, ℤ, Bool, false, ◌&&◌, not, nat_le, Option, None, Some}
+use Rattle.std.specs.Prelude.{is_some, option_map, List, [], ◌∷◌, ◌++◌, map, reverse, take, drop}
+use Rattle.std.specs.Prelude.{length, slice_get, Result, Ok, Err}
 use Rattle.std.specs.List.{list_all}
 use Rattle.lb_syntax.specs.Lists.{◌>>=◌, all_some, where_true}
 use Rattle.lb_syntax.specs.SourceView.{view_node}
 use Rattle.lb_syntax.specs.Tree.{Name, Node}
 use Rattle.lb_static.specs.ResolvedNodes.{node_of}
-use Rattle.lb_static.specs.DataTypes.{DataType, truth, element_count, element_names, is_type, are_types}
+use Rattle.lb_static.specs.DataTypes.{DataType, truth, element_count, element_names, is_type}
+use Rattle.lb_static.specs.DataTypes.{are_types}
 use Rattle.lb_static.specs.Signature.{Elements}
 use Rattle.lb_static.specs.StaticValues.{natural}
 use Rattle.lb_static.specs.declared.error.StaticError.{StaticError}

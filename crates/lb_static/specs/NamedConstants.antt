@@ -1,6 +1,7 @@
 -- The constants that come up in the walk over what reached nodes name.
 -- This file says what data of the program mean; no definition of the language stands on it.
-use Rattle.std.specs.Prelude.{◌≡◌, ℕ, Bool, true, nat_lt, Option, Some, is_some, List, [], ◌∷◌, length, map, flat_map, position, slice_get, if◌then◌else◌}
+use Rattle.std.specs.Prelude.{◌≡◌, ℕ, Bool, true, nat_lt, Option, Some, is_some, List, [], ◌∷◌}
+use Rattle.std.specs.Prelude.{length, map, flat_map, position, slice_get, if◌then◌else◌}
 use Rattle.std.specs.List.{list_all}
 use Rattle.std.specs.Str.{bytes_eq}
 use Rattle.lb_syntax.specs.Lists.{◌>>=◌, listed, where_true}

@@ -1,13 +1,15 @@
 -- The rules of names and recursion, each a test (E4, E7).
 -- Source: Lustre V6 reference manual, declarations and scope. What is reached, and that only that
 -- is judged, is this project's rule.
-use Rattle.std.specs.Prelude.{ℕ, zero, suc, Bool, true, ◌&&◌, ◌||◌, not, nat_eq, Option, is_some, List, [], ◌∷◌, ◌++◌, map, length, filter, flat_map}
+use Rattle.std.specs.Prelude.{ℕ, zero, suc, Bool, true, ◌&&◌, ◌||◌, not, nat_eq, Option, is_some}
+use Rattle.std.specs.Prelude.{List, [], ◌∷◌, ◌++◌, map, length, filter, flat_map}
 use Rattle.std.specs.Str.{bytes_eq}
 use Rattle.std.specs.List.{list_all, list_any}
 use Rattle.lb_syntax.specs.Lists.{holds, listed}
 use Rattle.lb_syntax.specs.Tree.{Name, Node, Constant}
 use Rattle.lb_static.specs.Instances.{Program, Site, node_named, node_sites}
-use Rattle.lb_static.specs.Parts.{among, left_names, node_names, static_names, node_static_names, clock_names, variable_names, declared_names}
+use Rattle.lb_static.specs.Parts.{among, left_names, node_names, static_names, node_static_names}
+use Rattle.lb_static.specs.Parts.{clock_names, variable_names, declared_names}
 
 abbrev pub are_distinct : List Name → Bool
 are_distinct [] = true

@@ -1,10 +1,14 @@
 -- What the names of a node may stand for, and whether each name of an expression has a meaning.
 -- The tests mirror the recursion of the code; no definition of the language stands on them.
-use Rattle.std.specs.Prelude.{◌≡◌, ℕ, Bool, true, ◌&&◌, List, [], nat_eq, Some, None, map, length, slice_get, nat_lt}
+use Rattle.std.specs.Prelude.{◌≡◌, ℕ, Bool, true, ◌&&◌, List, [], nat_eq, Some, None, map, length}
+use Rattle.std.specs.Prelude.{slice_get, nat_lt}
 use Rattle.std.specs.List.{list_all}
 use Rattle.lb_syntax.specs.Lists.{either_or, holds}
 use Rattle.lb_syntax.specs.SourceView.{view_node, view_source}
-use Rattle.lb_syntax.specs.Tree.{Name, Static, Node_named, Symbol, Expr, Literal, Truth, Variable, Group, Unary, Binary, If, Arrow, Fby, Pre, Current, When, Replicate, Index, Slice, Join, Array, AtMostOne, Nor, Call, Iterate, Exprs, Nil, Cons, Node, Statement, Equation, Assertion}
+use Rattle.lb_syntax.specs.Tree.{Name, Static, Node_named, Symbol, Expr, Literal, Truth, Variable}
+use Rattle.lb_syntax.specs.Tree.{Group, Unary, Binary, If, Arrow, Fby, Pre, Current, When}
+use Rattle.lb_syntax.specs.Tree.{Replicate, Index, Slice, Join, Array, AtMostOne, Nor, Call}
+use Rattle.lb_syntax.specs.Tree.{Iterate, Exprs, Nil, Cons, Node, Statement, Equation, Assertion}
 use Rattle.lb_static.specs.Instances.{Program, Site, node_named}
 use Rattle.lb_static.specs.NameFaults.{alone}
 use Rattle.lb_static.specs.Names.{is_callable, is_known, is_static_name, is_variable}

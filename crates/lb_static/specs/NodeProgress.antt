@@ -1,6 +1,7 @@
 -- What is resolved of a node so far, and what one more resolved part adds.
 -- This file says what data of the program mean; no definition of the language stands on it.
-use Rattle.std.specs.Prelude.{◌≡◌, ℕ, Bool, true, ◌&&◌, Option, None, Some, option_map, List, [], ◌∷◌, ◌++◌, map, flat_map, length, Result, Ok, Err, Box, Vec}
+use Rattle.std.specs.Prelude.{◌≡◌, ℕ, Bool, true, ◌&&◌, Option, None, Some, option_map, List, []}
+use Rattle.std.specs.Prelude.{◌∷◌, ◌++◌, map, flat_map, length, Result, Ok, Err, Box, Vec}
 use Rattle.std.specs.declared.alloc.Global.{Global}
 use Rattle.std.specs.List.{list_all}
 use Rattle.lb_syntax.specs.SourceView.{view_groups, view_source, view_statement}
@@ -10,10 +11,16 @@ use Rattle.lb_syntax.specs.declared.tree.Node as written
 use Rattle.lb_static.specs.Names.{is_variable}
 use Rattle.lb_static.specs.Instances.{Program, Site, sites, statement_sites}
 use Rattle.lb_static.specs.NameFaults.{IsNameFault, alone}
-use Rattle.lb_static.specs.NodeNames.{node_in, passes, statement_passes, call_passes, static_passes, statics_pass}
+use Rattle.lb_static.specs.NodeNames.{node_in, passes, statement_passes, call_passes, static_passes}
+use Rattle.lb_static.specs.NodeNames.{statics_pass}
 use Rattle.lb_static.specs.Parts.{among, right_side, variable_names}
 use Rattle.lb_static.specs.ResolvedNodes.{part_of}
-use Rattle.lb_static.specs.ResolvedTerms.{Texts, Counts, sampling_of, is_sampling_within, static_of, expr_of, statement_of, is_statement_within, is_statement_unhidden, declaration_of, site_of, site_at, static_at, statics_at, is_call, is_static, are_statics, is_within, is_unhidden, is_declared_within, is_site_within}
+use Rattle.lb_static.specs.ResolvedTerms.{Texts, Counts, sampling_of, is_sampling_within, static_of}
+use Rattle.lb_static.specs.ResolvedTerms.{expr_of, statement_of, is_statement_within}
+use Rattle.lb_static.specs.ResolvedTerms.{is_statement_unhidden, declaration_of, site_of, site_at}
+use Rattle.lb_static.specs.ResolvedTerms.{static_at, statics_at, is_call, is_static, are_statics}
+use Rattle.lb_static.specs.ResolvedTerms.{is_within, is_unhidden, is_declared_within}
+use Rattle.lb_static.specs.ResolvedTerms.{is_site_within}
 use Rattle.lb_static.specs.DataTypes.{variables}
 use Rattle.lb_static.specs.StaticParts.{Part, parts_of, arguments_of, group_parts}
 use Rattle.lb_static.specs.declared.error.StaticError.{StaticError}

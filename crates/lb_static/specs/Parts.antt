@@ -5,7 +5,11 @@ use Rattle.std.specs.Prelude.{Bool, option_map, List, [], ◌∷◌, ◌++◌, m
 use Rattle.std.specs.Str.{bytes_eq}
 use Rattle.std.specs.List.{list_any}
 use Rattle.lb_syntax.specs.Lists.{some_of}
-use Rattle.lb_syntax.specs.Tree.{Name, Static, Whole, Named, Negated, Combined, Grouped, Node_named, Expr, Literal, Truth, Variable, Group, Unary, Binary, If, Arrow, Fby, Pre, Current, When, Replicate, Index, Slice, Join, Array, AtMostOne, Nor, Call, Iterate, Exprs, Nil, Cons, Node, Statement, Equation, Assertion}
+use Rattle.lb_syntax.specs.Tree.{Name, Static, Whole, Named, Negated, Combined, Grouped, Node_named}
+use Rattle.lb_syntax.specs.Tree.{Expr, Literal, Truth, Variable, Group, Unary, Binary, If, Arrow}
+use Rattle.lb_syntax.specs.Tree.{Fby, Pre, Current, When, Replicate, Index, Slice, Join, Array}
+use Rattle.lb_syntax.specs.Tree.{AtMostOne, Nor, Call, Iterate, Exprs, Nil, Cons, Node, Statement}
+use Rattle.lb_syntax.specs.Tree.{Equation, Assertion}
 use Rattle.lb_static.specs.DataTypes.{variables}
 
 -- a name is one of these

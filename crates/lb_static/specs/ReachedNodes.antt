@@ -1,6 +1,7 @@
 -- What the reached nodes of a program promise to the steps above.
 -- This file says what data of the program mean; no definition of the language stands on it.
-use Rattle.std.specs.Prelude.{◌≡◌, ◌<◌, ◌↔◌, Bool, true, Option, Some, List, map, length, slice_get, nat_lt, All}
+use Rattle.std.specs.Prelude.{◌≡◌, ◌<◌, ◌↔◌, Bool, true, Option, Some, List, map, length, slice_get}
+use Rattle.std.specs.Prelude.{nat_lt, All}
 use Rattle.std.specs.List.{list_all, Contains}
 use Rattle.lb_syntax.specs.Lists.{◌>>=◌, holds}
 use Rattle.lb_syntax.specs.Tree.{Name, Node}

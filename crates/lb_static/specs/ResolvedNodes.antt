@@ -8,7 +8,9 @@ use Rattle.lb_syntax.specs.Tree.{Name, Static, Node}
 use Rattle.lb_static.specs.Instances.{node_sites}
 use Rattle.lb_static.specs.Parts.{variable_names}
 use Rattle.lb_static.specs.DataTypes.{variables}
-use Rattle.lb_static.specs.ResolvedTerms.{Texts, Counts, static_of, statement_of, declaration_of, site_of, is_statement_within, is_statement_unhidden, is_declared_within, is_site_within}
+use Rattle.lb_static.specs.ResolvedTerms.{Texts, Counts, static_of, statement_of, declaration_of}
+use Rattle.lb_static.specs.ResolvedTerms.{site_of, is_statement_within, is_statement_unhidden}
+use Rattle.lb_static.specs.ResolvedTerms.{is_declared_within, is_site_within}
 use Rattle.lb_static.specs.StaticParts.{Part, node_static_parts}
 use Rattle.lb_static.specs.declared.resolved.ResolvedNode.{ResolvedNode}
 use Rattle.lb_static.specs.declared.resolved.StaticPart.{StaticPart}

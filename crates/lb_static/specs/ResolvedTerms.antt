@@ -1,10 +1,12 @@
 -- What a node with resolved names stands for: its tree with the names put back.
 -- This file says what data of the program mean; no definition of the language stands on it.
-use Rattle.std.specs.Prelude.{ℕ, ◌+◌, Bool, true, ◌&&◌, not, nat_le, nat_lt, Option, None, Some, option_map, List, [], ◌∷◌, map, take, drop, slice_get}
+use Rattle.std.specs.Prelude.{ℕ, ◌+◌, Bool, true, ◌&&◌, not, nat_le, nat_lt, Option, None, Some}
+use Rattle.std.specs.Prelude.{option_map, List, [], ◌∷◌, map, take, drop, slice_get}
 use Rattle.std.specs.List.{list_all}
 use Rattle.lb_syntax.specs.Lists.{either_or}
 use Rattle.lb_syntax.specs.Tree as tree
-use Rattle.lb_syntax.specs.Tree.{Name, Static, Whole, Expr, Exprs, Nil, Cons, Declaration, Statement}
+use Rattle.lb_syntax.specs.Tree.{Name, Static, Whole, Expr, Exprs, Nil, Cons, Declaration}
+use Rattle.lb_syntax.specs.Tree.{Statement}
 use Rattle.lb_syntax.specs.View.{view_static}
 use Rattle.lb_syntax.specs.declared.tree.ArrayIterator.{ArrayIterator}
 use Rattle.lb_static.specs.Instances.{Site}
@@ -19,7 +21,12 @@ use Rattle.lb_static.specs.declared.resolved.StaticText.{StaticText}
 use Rattle.lb_static.specs.declared.resolved.StaticText.TheVariants.{Written, Named as Named_text}
 use Rattle.lb_static.specs.declared.resolved.ResolvedStatement.{ResolvedStatement}
 use Rattle.lb_static.specs.declared.resolved.ResolvedStatement.TheVariants as statement
-use Rattle.lb_static.specs.declared.resolved.Term.{Term, Literal, Truth, Variable, Value, Group', Unary', Binary', If', Arrow', Fby', Pre', Current', When', Replicate', Index', Slice', Join', Array', AtMostOne', Nor', Call', IterateNode', IterateSymbol', Row_of-Term, end_of-Term, more_of-Term}
+use Rattle.lb_static.specs.declared.resolved.Term.{Term, Literal, Truth, Variable, Value, Group'}
+use Rattle.lb_static.specs.declared.resolved.Term.{Unary', Binary', If', Arrow', Fby', Pre'}
+use Rattle.lb_static.specs.declared.resolved.Term.{Current', When', Replicate', Index', Slice'}
+use Rattle.lb_static.specs.declared.resolved.Term.{Join', Array', AtMostOne', Nor', Call'}
+use Rattle.lb_static.specs.declared.resolved.Term.{IterateNode', IterateSymbol', Row_of-Term}
+use Rattle.lb_static.specs.declared.resolved.Term.{end_of-Term, more_of-Term}
 
 -- ## What the numbers of a node stand for
 

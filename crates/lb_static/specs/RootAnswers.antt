@@ -1,10 +1,12 @@
 -- What is answered of the interface of the node under test and of the observer.
 -- This file says what data of the program mean; no definition of the language stands on it.
-use Rattle.std.specs.Prelude.{◌≡◌, Bool, true, false, ◌&&◌, nat_eq, nat_le, [], ◌∷◌, length, map, Option, Result, Ok, Err}
+use Rattle.std.specs.Prelude.{◌≡◌, Bool, true, false, ◌&&◌, nat_eq, nat_le, [], ◌∷◌, length, map}
+use Rattle.std.specs.Prelude.{Option, Result, Ok, Err}
 use Rattle.std.specs.List.{list_all}
 use Rattle.lb_syntax.specs.Lists.{either_or, holds, some_of, where_true}
 use Rattle.lb_static.specs.Instances.{Program, Root, instance_at}
-use Rattle.lb_static.specs.Interfaces.{InterfaceView, elements_in_all, elements_named, inputs_of, property_in}
+use Rattle.lb_static.specs.Interfaces.{InterfaceView, elements_in_all, elements_named, inputs_of}
+use Rattle.lb_static.specs.Interfaces.{property_in}
 use Rattle.lb_static.specs.ReachedNodes.{tree_at}
 use Rattle.lb_static.specs.DataTypes.{signature}
 use Rattle.lb_static.specs.Signature.{Elements}

@@ -1,6 +1,8 @@
 -- The static expressions of a node under values of its static parameters.
 -- This file says what data of the program mean; no definition of the language stands on it.
-use Rattle.std.specs.Prelude.{◌≡◌, ℕ, ◌*◌, min, nat_le, ℤ, pos, negsuc, Bool, true, false, ◌&&◌, Option, Some, None, List, [], ◌∷◌, map, take, drop, Result, Ok, Err, Vec}
+use Rattle.std.specs.Prelude.{◌≡◌, ℕ, ◌*◌, min, nat_le, ℤ, pos, negsuc, Bool, true, false, ◌&&◌}
+use Rattle.std.specs.Prelude.{Option, Some, None, List, [], ◌∷◌, map, take, drop, Result, Ok, Err}
+use Rattle.std.specs.Prelude.{Vec}
 use Rattle.std.specs.List.{list_all, zip}
 use Rattle.std.specs.declared.alloc.Global.{Global}
 use Rattle.lb_syntax.specs.Lists.{◌>>=◌, all_some, holds}
@@ -14,7 +16,8 @@ use Rattle.lb_static.specs.declared.error.StaticError.TheVariants as error
 use Rattle.lb_static.specs.declared.instance_values.InstanceValues.{InstanceValues}
 use Rattle.lb_static.specs.declared.resolved.ResolvedNode.{ResolvedNode}
 use Rattle.lb_static.specs.declared.resolved.Role.{Role}
-use Rattle.lb_static.specs.declared.resolved.Role.TheVariants.{Size, Index, SliceStart, SliceEnd, Argument, Value}
+use Rattle.lb_static.specs.declared.resolved.Role.TheVariants.{Size, Index, SliceStart, SliceEnd}
+use Rattle.lb_static.specs.declared.resolved.Role.TheVariants.{Argument, Value}
 use Rattle.lb_static.specs.declared.resolved.StaticPart.{StaticPart}
 use Rattle.lb_static.specs.declared.resolved.Variable.{Variable as Declared}
 use Rattle.lb_static.specs.declared.static_value.StaticInt.{StaticInt}

@@ -5,11 +5,15 @@ use Rattle.std.specs.Prelude.{Bool, cond, List, [], ◌∷◌, ◌++◌, map, fl
 use Rattle.lb_syntax.specs.Grammar.{Group}
 use Rattle.lb_syntax.specs.SourceView.{view_groups, view_node}
 use Rattle.lb_syntax.specs.Tree as tree
-use Rattle.lb_syntax.specs.Tree.{Name, Static, Node_named, Symbol, Expr, Literal, Truth, Variable, Unary, Binary, If, Arrow, Fby, Pre, Current, When, Replicate, Slice, Join, Array, AtMostOne, Nor, Call, Iterate, Exprs, Nil, Cons, Statement}
+use Rattle.lb_syntax.specs.Tree.{Name, Static, Node_named, Symbol, Expr, Literal, Truth, Variable}
+use Rattle.lb_syntax.specs.Tree.{Unary, Binary, If, Arrow, Fby, Pre, Current, When, Replicate}
+use Rattle.lb_syntax.specs.Tree.{Slice, Join, Array, AtMostOne, Nor, Call, Iterate, Exprs, Nil}
+use Rattle.lb_syntax.specs.Tree.{Cons, Statement}
 use Rattle.lb_syntax.specs.declared.tree.Node as written
 use Rattle.lb_static.specs.Parts.{among, right_side, variable_names}
 use Rattle.lb_static.specs.declared.resolved.Role.{Role}
-use Rattle.lb_static.specs.declared.resolved.Role.TheVariants.{Size, Index, SliceStart, SliceEnd, Argument, Value}
+use Rattle.lb_static.specs.declared.resolved.Role.TheVariants.{Size, Index, SliceStart, SliceEnd}
+use Rattle.lb_static.specs.declared.resolved.Role.TheVariants.{Argument, Value}
 
 -- a static expression and what it is there for
 abbrev pub Part : Type 0

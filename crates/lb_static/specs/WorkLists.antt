@@ -1,6 +1,8 @@
 -- Places that came up in a walk, each of them once, and what is had from some items by steps.
 -- This file mirrors code (src/work_list.rt); no definition of the language stands on it.
-use Rattle.std.specs.Prelude.{◌≡◌, ◌≤◌, ℕ, zero, suc, Bool, true, ◌||◌, nat_eq, Option, Some, is_some, List, [], ◌∷◌, ◌++◌, length, filter, slice_get, if◌then◌else◌}
+use Rattle.std.specs.Prelude.{◌≡◌, ◌≤◌, ℕ, zero, suc, Bool, true, ◌||◌, nat_eq, Option, Some}
+use Rattle.std.specs.Prelude.{is_some, List, [], ◌∷◌, ◌++◌, length, filter, slice_get}
+use Rattle.std.specs.Prelude.{if◌then◌else◌}
 use Rattle.std.specs.List.{list_all, list_any, count_by}
 use Rattle.lb_syntax.specs.Lists.{holds}
 

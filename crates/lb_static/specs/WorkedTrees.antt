@@ -1,12 +1,15 @@
 -- Short ways to write the trees of worked examples.
 -- Source: this project's words.
-use Rattle.std.specs.Prelude.{ℕ, nat_eq, Bool, true, false, Some, None, List, [], ◌∷◌, filter, codes, if◌then◌else◌}
+use Rattle.std.specs.Prelude.{ℕ, nat_eq, Bool, true, false, Some, None, List, [], ◌∷◌, filter}
+use Rattle.std.specs.Prelude.{codes, if◌then◌else◌}
 use Prim.Native.String.{String}
 use Rattle.lb_syntax.specs.declared.tree.Kind.{Kind}
 use Rattle.lb_syntax.specs.declared.tree.Kind.TheVariants.{Int as Int_kind, Bool as Bool_kind}
 use Rattle.lb_syntax.specs.declared.tree.BinaryOperator.{BinaryOperator}
 use Rattle.lb_syntax.specs.declared.tree.ArrayIterator.{ArrayIterator}
-use Rattle.lb_syntax.specs.Tree.{Name, Static, Named, Node_named, Symbol, Expr, Variable, When, Call, Iterate, Exprs, Nil, Cons, Declaration, Statement, Equation, Node, Constant}
+use Rattle.lb_syntax.specs.Tree.{Name, Static, Named, Node_named, Symbol, Expr, Variable, When}
+use Rattle.lb_syntax.specs.Tree.{Call, Iterate, Exprs, Nil, Cons, Declaration, Statement, Equation}
+use Rattle.lb_syntax.specs.Tree.{Node, Constant}
 use Rattle.lb_static.specs.Instances.{Program}
 
 -- ## Texts

@@ -47,7 +47,8 @@ fn has_property(
     table: &Table,
     root: &Interface,
 ) -> Result<bool, StaticError>
-    ensures { Answers (λ b. b) (property_in reached.now table.now (view_interface root.now)) result }
+    ensures { Answers (λ b. b)
+        (property_in reached.now table.now (view_interface root.now)) result }
 {
     let observer = match table.observer {
         Some(id) => valued_node(reached, table, id),
@@ -67,7 +68,8 @@ fn interface_signature(
     table: &Table,
     root: &Interface,
 ) -> Result<Signature, StaticError>
-    ensures { Answers (λ s. s) (signature_in reached.now table.now (view_interface root.now)) result }
+    ensures { Answers (λ s. s)
+        (signature_in reached.now table.now (view_interface root.now)) result }
 {
     if !root.is_plain || root.scalar_inputs() > Signature::MOST {
         return Err(StaticError::Root);

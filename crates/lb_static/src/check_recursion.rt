@@ -1,7 +1,8 @@
 //! Recursion: no node that is reached may reach itself by its calls.
 
 ghost use Rattle.std.specs.Prelude.{◌≡◌, true, map, IfOk};
-ghost use Rattle.lb_static.specs.CallGraphs.{IsCallsAnswer, IsCycleNamed, TellsRecursion, callee_of, callees_of, graph_of};
+ghost use Rattle.lb_static.specs.CallGraphs.{IsCallsAnswer, IsCycleNamed, TellsRecursion};
+ghost use Rattle.lb_static.specs.CallGraphs.{callee_of, callees_of, graph_of};
 ghost use Rattle.lb_static.specs.Instances.{Program};
 ghost use Rattle.lb_static.specs.Names.{keeps_names};
 ghost use Rattle.lb_static.specs.ReachedNodes.{IsReached};

@@ -1,13 +1,16 @@
 //! The constants that are reached by name from the nodes that are: each name in the value of one
 //! of them is to be that of a constant.
 
-ghost use Rattle.std.specs.Prelude.{◌≡◌, ℕ, [], true, false, flat_map, length, map, List, OnOk, IfOk, IfErr, MatchOption, All};
+ghost use Rattle.std.specs.Prelude.{◌≡◌, ℕ, [], true, false, flat_map, length, map, List, OnOk};
+ghost use Rattle.std.specs.Prelude.{IfOk, IfErr, MatchOption, All};
 ghost use Rattle.std.specs.List.{list_all};
 ghost use Rattle.lb_syntax.specs.SourceView.{view_source};
 ghost use Rattle.lb_syntax.specs.Tree.{Name as TreeName};
 ghost use Rattle.lb_syntax.specs.View.{view_static};
 ghost use Rattle.lb_static.specs.SourceNames.{names_in_source};
-ghost use Rattle.lb_static.specs.NamedConstants.{AreNamed, is_judged, keeps_constants, keeps_constants_of, node_constants, part_constants, place_named, places_named};
+ghost use Rattle.lb_static.specs.NamedConstants.{AreNamed, is_judged, keeps_constants};
+ghost use Rattle.lb_static.specs.NamedConstants.{keeps_constants_of, node_constants};
+ghost use Rattle.lb_static.specs.NamedConstants.{part_constants, place_named, places_named};
 ghost use Rattle.lb_static.specs.NameFaults.{named_in, IsNameFault};
 ghost use Rattle.lb_static.specs.Names.{are_distinct};
 ghost use Rattle.lb_static.specs.Parts.{among, static_names};

@@ -10,10 +10,12 @@
 //! that are known is right, and where no constant gets a value any more, all values are known.
 //! After the walk one pass over the constants finds that none does.
 
-ghost use Rattle.std.specs.Prelude.{◌≡◌, ◌<◌, ◌≤◌, ◌+◌, ℕ, [], true, false, map, length, IfOk, OnOk, All};
+ghost use Rattle.std.specs.Prelude.{◌≡◌, ◌<◌, ◌≤◌, ◌+◌, ℕ, [], true, false, map, length, IfOk};
+ghost use Rattle.std.specs.Prelude.{OnOk, All};
 ghost use Rattle.lb_syntax.specs.SourceView.{view_constant};
 ghost use Rattle.lb_syntax.specs.View.{view_static};
-ghost use Rattle.lb_static.specs.ConstantValues.{names_of, known, read_constants, value_held, AreFirst, AreStable, IsStable, IsSound};
+ghost use Rattle.lb_static.specs.ConstantValues.{names_of, known, read_constants, value_held};
+ghost use Rattle.lb_static.specs.ConstantValues.{AreFirst, AreStable, IsStable, IsSound};
 ghost use Rattle.lb_static.specs.Tasks.{place_of};
 ghost use Rattle.lb_static.specs.Parts.{static_names};
 ghost use Rattle.lb_static.specs.StaticValues.{constant_value};

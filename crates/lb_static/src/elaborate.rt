@@ -1,5 +1,5 @@
-//! Elaboration of a program: its names, its static values, its instances and the shape of the node
-//! under test.
+//! Elaboration of a program: its names, its static values, its instances and the interface of the
+//! node under test.
 
 ghost use Rattle.std.specs.Prelude.{◌≡◌, true, option_map};
 ghost use Rattle.lb_syntax.specs.SourceView.{view_source};
@@ -43,7 +43,7 @@ fn instances_of_program(
 /// reached, the instances with their static values, and the signature.
 ///
 /// A refusal is by the first rule that is broken: of names (E4), recursion (E7), static parameters
-/// of the node under test (E8), instances and static values (E12, E5, E6), and the shape of the
+/// of the node under test (E8), instances and static values (E12, E5, E6), and the interface of the
 /// node under test and of the observer (E8).
 pub fn elaborate<'s>(
     alloc: Global,

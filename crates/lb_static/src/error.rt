@@ -19,8 +19,8 @@ pub enum StaticError {
     /// A node reaches itself by its calls (E7). It holds the name of the node.
     #[error("the node {0} reaches itself by its calls")]
     Recursion(String),
-    /// The node under test or the observer has another shape than it may (E8).
-    #[error("the node that is run, or its observer, has another shape than it may")]
+    /// The node under test or the observer has an interface that it may not have (E8).
+    #[error("the node that is run, or its observer, has an interface that it may not have")]
     Root,
     /// A static expression has no value (E5). It holds the name of the node in which it stands.
     #[error("a static expression of the node {0} has no value")]

@@ -1,6 +1,7 @@
 //! The global names of a source: constants, nodes and functions share one name space.
 
-ghost use Rattle.std.specs.Prelude.{◌≡◌, ◌++◌, ◌∷◌, [], not, true, false, length, take, drop, position, ◌<◌, OnOk, IfOk, IfErr, IfSome};
+ghost use Rattle.std.specs.Prelude.{◌≡◌, ◌++◌, ◌∷◌, [], not, true, false, length, take, drop};
+ghost use Rattle.std.specs.Prelude.{position, ◌<◌, OnOk, IfOk, IfErr, IfSome};
 ghost use Rattle.std.specs.Str.{bytes_eq};
 ghost use Rattle.lb_syntax.specs.SourceView.{view_source};
 ghost use Rattle.lb_static.specs.Parts.{among};

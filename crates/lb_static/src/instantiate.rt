@@ -7,10 +7,12 @@
 //! A node with values of its parameters is evaluated once. Where it comes up again, its values are
 //! taken from the table; the instances below it are instantiated again, since each has its row.
 
-ghost use Rattle.std.specs.Prelude.{◌≡◌, ◌≤◌, ◌<◌, ◌+◌, ◌-◌, ◌^◌, ◌++◌, ◌∷◌, [], ℕ, true, length, option_map, slice_get, IfSome, IfOk, IfErr, OnOk};
+ghost use Rattle.std.specs.Prelude.{◌≡◌, ◌≤◌, ◌<◌, ◌+◌, ◌-◌, ◌^◌, ◌++◌, ◌∷◌, [], ℕ, true, length};
+ghost use Rattle.std.specs.Prelude.{option_map, slice_get, IfSome, IfOk, IfErr, OnOk};
 ghost use Rattle.std.specs.List.{list_all};
 ghost use Rattle.lb_static.specs.Instances.{Program, Path, instances_from};
-ghost use Rattle.lb_static.specs.InstanceTable.{instance_of, path_from, paths_after, CallerStandsBefore, CallersStandBefore};
+ghost use Rattle.lb_static.specs.InstanceTable.{instance_of, path_from, paths_after};
+ghost use Rattle.lb_static.specs.InstanceTable.{CallerStandsBefore, CallersStandBefore};
 ghost use Rattle.lb_static.specs.HeldValues.{value_of};
 ghost use Rattle.lb_static.specs.Names.{keeps_names};
 ghost use Rattle.lb_static.specs.ReachedNodes.{IsReached, is_linked, id_at};
@@ -19,8 +21,12 @@ ghost use Rattle.lb_static.specs.ResolvedNodes.{node_of};
 ghost use Rattle.lb_static.specs.ResolvedTerms.{is_site_within};
 ghost use Rattle.lb_static.specs.LinkedSpecializations.{AreCalled, AreLinked, AreSpecialized};
 ghost use Rattle.lb_static.specs.Instantiation.{level, instantiation_refusal, instance_refusal};
-ghost use Rattle.lb_static.specs.Instantiated.{AreSound, IsInstantiable, IsBegun, IsKnownWith, IsJudged, AreJudged, IsKnown, HasGrown, IsRefusal, AreEntered, values_at, times_of, IsInstantiationAnswer};
-ghost use Rattle.lb_static.specs.InstanceRows.{HasUsed, HasRows, IsSpecializedRow, IsOneMore, AreInstances};
+ghost use Rattle.lb_static.specs.Instantiated.{AreSound, IsInstantiable, IsBegun, IsKnownWith};
+ghost use Rattle.lb_static.specs.Instantiated.{IsJudged, AreJudged, IsKnown, HasGrown, IsRefusal};
+ghost use Rattle.lb_static.specs.Instantiated.{AreEntered, values_at, times_of};
+ghost use Rattle.lb_static.specs.Instantiated.{IsInstantiationAnswer};
+ghost use Rattle.lb_static.specs.InstanceRows.{HasUsed, HasRows, IsSpecializedRow, IsOneMore};
+ghost use Rattle.lb_static.specs.InstanceRows.{AreInstances};
 ghost use Rattle.lb_static.specs.declared.resolved.ResolvedNode.{ResolvedNode};
 
 use crate::constants::Constants;

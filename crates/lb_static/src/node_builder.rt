@@ -7,7 +7,8 @@ ghost use Rattle.lb_static.specs.NodeNames.{node_in, program_in};
 ghost use Rattle.lb_static.specs.NodeProgress.{IsKept};
 ghost use Rattle.lb_static.specs.Parts.{variable_names};
 ghost use Rattle.lb_static.specs.ResolvedNodes.{part_of};
-ghost use Rattle.lb_static.specs.ResolvedTerms.{declaration_of, is_declared_within, is_site_within, site_of};
+ghost use Rattle.lb_static.specs.ResolvedTerms.{declaration_of, is_declared_within, is_site_within};
+ghost use Rattle.lb_static.specs.ResolvedTerms.{site_of};
 
 use crate::error::StaticError;
 use crate::node_scope::NodeScope;
@@ -30,7 +31,8 @@ pub struct NodeBuilder<'a, 's> {
 }
 
 impl<'a, 's> NodeBuilder<'a, 's> {
-    ghost use Rattle.lb_static.specs.NodeProgress.{texts, counts_in, callees, grown, with_variable, program_of};
+    ghost use Rattle.lb_static.specs.NodeProgress.{texts, counts_in, callees, grown, with_variable};
+    ghost use Rattle.lb_static.specs.NodeProgress.{program_of};
     ghost use Rattle.lb_static.specs.Progressed.{progress, IsFinished};
 
     /// Nothing is resolved yet.

@@ -82,7 +82,8 @@ fn declare_all(alloc: Global, declared: &mut Scope, tree: &Node) -> Result<usize
 impl<'a, 's> NodeScope<'a, 's> {
     ghost use Rattle.std.specs.Prelude.{true, is_some, IfSome};
     ghost use Rattle.lb_static.specs.Names.{is_static_name, is_variable};
-    ghost use Rattle.lb_static.specs.NodeNames.{node_in, program_in, static_passes, takes, IsVariableAt, IsCallee};
+    ghost use Rattle.lb_static.specs.NodeNames.{node_in, program_in, static_passes, takes};
+    ghost use Rattle.lb_static.specs.NodeNames.{IsVariableAt, IsCallee};
 
     /// The names of a node. A variable or a static parameter that is declared twice is refused.
     pub fn new(

@@ -1,6 +1,7 @@
 //! The nodes that are reached by name from the node under test and the observer.
 
-ghost use Rattle.std.specs.Prelude.{◌≡◌, ◌<◌, ◌≤◌, ℕ, [], Bool, true, is_some, length, map, nat_lt, option_map, slice_get, OnOk, IfOk, IfErr, MatchOption};
+ghost use Rattle.std.specs.Prelude.{◌≡◌, ◌<◌, ◌≤◌, ℕ, [], Bool, true, is_some, length, map, nat_lt};
+ghost use Rattle.std.specs.Prelude.{option_map, slice_get, OnOk, IfOk, IfErr, MatchOption};
 ghost use Rattle.std.specs.List.{list_all};
 ghost use Rattle.lb_syntax.specs.SourceView.{view_source};
 ghost use Rattle.lb_syntax.specs.Tree.{Node as TreeNode};
@@ -8,8 +9,8 @@ ghost use Rattle.lb_static.specs.Elaborated.{program_of};
 ghost use Rattle.lb_static.specs.SourceNames.{names_in_source, node_in_source};
 ghost use Rattle.lb_static.specs.NameFaults.{named_in, IsNameFault};
 ghost use Rattle.lb_static.specs.Names.{are_distinct, starts};
-ghost use Rattle.lb_static.specs.ReachedNodes.{IsReached};
-ghost use Rattle.lb_static.specs.CalledNodes.{AreResolved, AreStarts, IsStart, are_named, called, callees, ids_of};
+ghost use Rattle.lb_static.specs.CalledNodes.{AreResolved, AreStarts, IsStart, Reaches, are_named};
+ghost use Rattle.lb_static.specs.CalledNodes.{called, callees, ids_of};
 ghost use Rattle.lb_static.specs.WorkLists.{AreReachable, visited_after_all, within};
 
 use crate::error::StaticError;
@@ -151,12 +152,8 @@ fn reach_all<'s>(
     requires once { are_distinct (names_in_source (view_source source.now)) ≡ true }
     requires none { work_list.old.order ≡ [] }
     requires count { work_list.old.count ≡ length source.now.nodes.items }
-    ensures named { OnOk result (are_named (program_of source.now node.now
-        (option_map (λ o. o.now) observer.entry)) ≡ true) }
-    ensures reached { IfOk result (IsReached (program_of source.now node.now
-        (option_map (λ o. o.now) observer.entry))) }
-    ensures err { IfErr result (λ e. IsNameFault e (are_named (program_of source.now node.now
-        (option_map (λ o. o.now) observer.entry)))) }
+    ensures { Reaches are_named (program_of source.now node.now
+        (option_map (λ o. o.now) observer.entry)) result }
 {
     let (root, observer) = visit_starts(alloc, source, node, observer, work_list)?;
     let mut nodes = Vec::new(alloc);
@@ -182,12 +179,8 @@ pub fn reach<'s>(
     requires names { globals.now.names ≡ names_in_source (view_source source.now) }
     requires constants { globals.now.constants ≡ length source.now.constants.items }
     requires once { are_distinct (names_in_source (view_source source.now)) ≡ true }
-    ensures named { OnOk result (are_named (program_of source.now node.now
-        (option_map (λ o. o.now) observer.entry)) ≡ true) }
-    ensures reached { IfOk result (IsReached (program_of source.now node.now
-        (option_map (λ o. o.now) observer.entry))) }
-    ensures err { IfErr result (λ e. IsNameFault e (are_named (program_of source.now node.now
-        (option_map (λ o. o.now) observer.entry)))) }
+    ensures { Reaches are_named (program_of source.now node.now
+        (option_map (λ o. o.now) observer.entry)) result }
 {
     let mut work_list = WorkList::new(alloc, source.nodes.len())?;
     reach_all(alloc, globals, source, node, observer, &mut work_list)

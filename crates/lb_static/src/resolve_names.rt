@@ -1,12 +1,11 @@
 //! The names of a program: what is reached from the node under test and the observer, and that
 //! each name there has a meaning.
 
-ghost use Rattle.std.specs.Prelude.{◌≡◌, true, length, option_map, OnOk, IfOk, IfErr};
+ghost use Rattle.std.specs.Prelude.{◌≡◌, true, length, option_map};
 ghost use Rattle.lb_syntax.specs.SourceView.{view_source};
+ghost use Rattle.lb_static.specs.CalledNodes.{Reaches};
 ghost use Rattle.lb_static.specs.Elaborated.{program_of};
-ghost use Rattle.lb_static.specs.NameFaults.{IsNameFault};
 ghost use Rattle.lb_static.specs.Names.{are_distinct, keeps_names};
-ghost use Rattle.lb_static.specs.ReachedNodes.{IsReached};
 ghost use Rattle.lb_static.specs.SourceNames.{names_in_source};
 
 use crate::constant_names::check_constants;
@@ -29,12 +28,8 @@ fn resolve_reached<'s>(
     requires names { globals.now.names ≡ names_in_source (view_source source.now) }
     requires constants { globals.now.constants ≡ length source.now.constants.items }
     requires once { are_distinct (names_in_source (view_source source.now)) ≡ true }
-    ensures names { OnOk result (keeps_names (program_of source.now node.now
-        (option_map (λ o. o.now) observer.entry)) ≡ true) }
-    ensures reached { IfOk result (IsReached (program_of source.now node.now
-        (option_map (λ o. o.now) observer.entry))) }
-    ensures err { IfErr result (λ e. IsNameFault e (keeps_names (program_of source.now node.now
-        (option_map (λ o. o.now) observer.entry)))) }
+    ensures { Reaches keeps_names (program_of source.now node.now
+        (option_map (λ o. o.now) observer.entry)) result }
 {
     let reached = reach(alloc, globals, source, node, observer)?;
     check_constants(alloc, globals, source, &reached.nodes)?;
@@ -52,12 +47,8 @@ pub fn resolve_names<'s>(
     node: &str,
     observer: Option<&str>,
 ) -> Result<Reached<'s>, StaticError>
-    ensures names { OnOk result (keeps_names (program_of source.now node.now
-        (option_map (λ o. o.now) observer.entry)) ≡ true) }
-    ensures reached { IfOk result (IsReached (program_of source.now node.now
-        (option_map (λ o. o.now) observer.entry))) }
-    ensures err { IfErr result (λ e. IsNameFault e (keeps_names (program_of source.now node.now
-        (option_map (λ o. o.now) observer.entry)))) }
+    ensures { Reaches keeps_names (program_of source.now node.now
+        (option_map (λ o. o.now) observer.entry)) result }
 {
     let globals = Globals::new(alloc, source)?;
     resolve_reached(alloc, &globals, source, node, observer)

@@ -6,7 +6,8 @@ ghost use Rattle.lb_syntax.specs.View.{view_static, view_statics};
 ghost use Rattle.lb_static.specs.NameFaults.{IsNameFault};
 ghost use Rattle.lb_static.specs.Names.{is_variable};
 ghost use Rattle.lb_static.specs.NodeNames.{IsVariableAt};
-ghost use Rattle.lb_static.specs.NodeProgress.{ResolvesTerm, ResolvesStatic, ResolvesStatics, ResolvesCall, texts, counts_in, program_of};
+ghost use Rattle.lb_static.specs.NodeProgress.{ResolvesTerm, ResolvesStatic, ResolvesStatics};
+ghost use Rattle.lb_static.specs.NodeProgress.{ResolvesCall, texts, counts_in, program_of};
 ghost use Rattle.lb_static.specs.Progressed.{progress};
 ghost use Rattle.lb_static.specs.ResolvedTerms.{static_at, is_count_within};
 

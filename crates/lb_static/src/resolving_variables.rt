@@ -5,7 +5,9 @@ ghost use Rattle.std.specs.List.{list_all};
 ghost use Rattle.lb_syntax.specs.Grammar.{declarations, declared};
 ghost use Rattle.lb_syntax.specs.SourceView.{view_clock, view_group, view_groups};
 ghost use Rattle.lb_static.specs.NameFaults.{IsNameFault};
-ghost use Rattle.lb_static.specs.NodeProgress.{ClockStands, texts, counts_in, with_alike, after_group, after_groups, clock_fits, declaration_fits};
+ghost use Rattle.lb_static.specs.NodeProgress.{ClockStands, texts, counts_in, with_alike};
+ghost use Rattle.lb_static.specs.NodeProgress.{after_group, after_groups, clock_fits};
+ghost use Rattle.lb_static.specs.NodeProgress.{declaration_fits};
 ghost use Rattle.lb_static.specs.Progressed.{progress};
 ghost use Rattle.lb_static.specs.ResolvedTerms.{is_declared_within};
 

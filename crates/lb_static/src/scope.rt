@@ -1,6 +1,7 @@
 //! Names that are declared once each, in order.
 
-ghost use Rattle.std.specs.Prelude.{◌≡◌, ◌++◌, ◌∷◌, [], not, true, position, length, OnErr, IfOk, IfSome, ◌<◌};
+ghost use Rattle.std.specs.Prelude.{◌≡◌, ◌++◌, ◌∷◌, [], not, true, position, length, OnErr, IfOk};
+ghost use Rattle.std.specs.Prelude.{IfSome, ◌<◌};
 ghost use Rattle.std.specs.Str.{bytes_eq};
 ghost use Rattle.lb_static.specs.Parts.{among};
 ghost use Rattle.lb_static.specs.Names.{are_distinct};

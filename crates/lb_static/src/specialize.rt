@@ -3,12 +3,15 @@
 //! Each static expression of the node is evaluated once, and its value is held at its place. Sizes,
 //! indexes and slices are judged by what stands at their places alone.
 
-ghost use Rattle.std.specs.Prelude.{◌≡◌, ◌≤◌, ◌<◌, ◌+◌, ◌^◌, nat_le, true, IfOk, option_map, length, pos};
+ghost use Rattle.std.specs.Prelude.{◌≡◌, ◌≤◌, ◌<◌, ◌+◌, ◌^◌, nat_le, true, IfOk, option_map};
+ghost use Rattle.std.specs.Prelude.{length, pos};
 ghost use Rattle.std.specs.List.{list_all};
 ghost use Rattle.lb_static.specs.ResolvedTerms.{static_of, is_declared_within, are_statics};
 ghost use Rattle.lb_static.specs.ResolvedNodes.{counts_of};
 ghost use Rattle.lb_static.specs.StaticValues.{value_under};
-ghost use Rattle.lb_static.specs.Specialized.{given_by, part_value, part_values, count_between, runs_forward, part_passes, in_range_after, size_of, times_sizes, is_narrow, node_in_range, IsEvaluated};
+ghost use Rattle.lb_static.specs.Specialized.{given_by, part_value, part_values, count_between};
+ghost use Rattle.lb_static.specs.Specialized.{runs_forward, part_passes, in_range_after, size_of};
+ghost use Rattle.lb_static.specs.Specialized.{times_sizes, is_narrow, node_in_range, IsEvaluated};
 
 use crate::error::StaticError;
 use crate::instance_values::InstanceValues;

@@ -9,7 +9,8 @@ use Rattle.lb_syntax.specs.declared.token.Token.{Token}
 use Rattle.lb_syntax.specs.declared.token.Token.TheVariants as token
 use Rattle.lb_syntax.specs.Tree.{Name, Not, Negate, ArrayIterator, Static, Operator}
 use Rattle.lb_syntax.specs.Tree.{Expr, Exprs, Literal, Truth, Variable, Group, Unary, Binary, If}
-use Rattle.lb_syntax.specs.Tree.{Arrow, Fby, Pre, Current, When, Replicate, Index, Slice, Join, Array}
+use Rattle.lb_syntax.specs.Tree.{Arrow, Fby, Pre, Current, When, Replicate, Index, Slice, Join}
+use Rattle.lb_syntax.specs.Tree.{Array}
 use Rattle.lb_syntax.specs.Tree.{AtMostOne, Nor, Call, Iterate, Nil, Cons}
 use Rattle.lb_syntax.specs.Levels.{Form, row_of, IsLeft, IsLast}
 use Rattle.lb_syntax.specs.Spelling.{◌▸◌, IsMark, IsName, IsList, IsStatic, AreArguments}

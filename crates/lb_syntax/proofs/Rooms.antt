@@ -6,7 +6,8 @@ use Rattle.lb_syntax.specs.declared.token.Token.{Token}
 use Rattle.lb_syntax.specs.Tree.{Name, Or, Xor, And, Plus, Minus, Times, Not, Negate, Static, Whole}
 use Rattle.lb_syntax.specs.Tree.{Named, Negated, Combined, Grouped, Operator, Node_named, Symbol}
 use Rattle.lb_syntax.specs.Tree.{Expr, Exprs, Literal, Truth, Variable, Group, Unary, Binary, If}
-use Rattle.lb_syntax.specs.Tree.{Arrow, Fby, Pre, Current, When, Replicate, Index, Slice, Join, Array}
+use Rattle.lb_syntax.specs.Tree.{Arrow, Fby, Pre, Current, When, Replicate, Index, Slice, Join}
+use Rattle.lb_syntax.specs.Tree.{Array}
 use Rattle.lb_syntax.specs.Tree.{AtMostOne, Nor, Call, Iterate, Nil, Cons}
 use Rattle.lb_syntax.specs.Levels.{Form}
 use Rattle.lb_syntax.specs.Spelling.{IsSeparator, IsTail, IsStatic, AreArguments, IsSize}

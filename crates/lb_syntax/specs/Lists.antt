@@ -13,6 +13,11 @@ abbrev pub In : {A : Type 0} → A → List A → Type 0
 In i [] = ⊥
 In i (x ∷ xs) = (x ≡ i) ⊎ In i xs
 
+-- nothing stands twice in a list
+abbrev pub AreApart : {A : Type 0} → List A → Type 0
+AreApart [] = Unit {0}
+AreApart (x ∷ xs) = (In x xs → ⊥) × AreApart xs
+
 -- two lists, item by item, as far as both go
 abbrev pub zip2 : {A B C : Type 0} → (A → B → C) → List A → List B → List C
 zip2 f [] ys = []

@@ -7,7 +7,8 @@ use Rattle.lb_syntax.specs.declared.tree.Operator.{Operator}
 use Rattle.lb_syntax.specs.declared.tree.Operator.TheVariants.{Node, Symbol}
 use Rattle.lb_syntax.specs.declared.tree.Expr.{Expr, Literal, Truth, Variable, Group', Unary'}
 use Rattle.lb_syntax.specs.declared.tree.Expr.{Binary', If', Arrow', Fby', Pre', Current', When'}
-use Rattle.lb_syntax.specs.declared.tree.Expr.{Replicate', Index', Slice', Join', Array', AtMostOne'}
+use Rattle.lb_syntax.specs.declared.tree.Expr.{Replicate', Index', Slice', Join', Array'}
+use Rattle.lb_syntax.specs.declared.tree.Expr.{AtMostOne'}
 use Rattle.lb_syntax.specs.declared.tree.Expr.{Nor', Call', Iterate', Row_of-Expr, end_of-Expr}
 use Rattle.lb_syntax.specs.declared.tree.Expr.{more_of-Expr}
 use Rattle.lb_syntax.specs.declared.tree.Sampling.{Sampling}

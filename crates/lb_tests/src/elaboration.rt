@@ -105,7 +105,7 @@ node main(x: int) returns (ok: bool); let ok = x > 0; tel
 main, watch => the name watch is unknown or doubled
 ----
 node main() returns (ok: bool); let ok = true; tel
-main, main => the node that is run, or its observer, has another shape than it may
+main, main => the node that is run, or its observer, has an interface that it may not have
 ----
 node main() returns (ok: bool); let ok = true; tel
 node o(ok: bool) returns (fine: bool); let fine = ok; tel
@@ -276,25 +276,25 @@ node f(x: bool) returns (y: bool); let y = not x; tel
 main => 2 of 2: main f | a: Int m[0]: Int m[1]: Int c: Bool
 ----
 node main(x: int) returns (y: int); let y = x; tel
-main => the node that is run, or its observer, has another shape than it may
+main => the node that is run, or its observer, has an interface that it may not have
 ----
 node main(x: int) returns (ok: bool^1); let ok = true^1; tel
-main => the node that is run, or its observer, has another shape than it may
+main => the node that is run, or its observer, has an interface that it may not have
 ----
 node main() returns (a, b: bool); let a = true; b = a; tel
-main => the node that is run, or its observer, has another shape than it may
+main => the node that is run, or its observer, has an interface that it may not have
 ----
 node main(c: bool; x: bool when c) returns (ok: bool); let ok = c; tel
-main => the node that is run, or its observer, has another shape than it may
+main => the node that is run, or its observer, has an interface that it may not have
 ----
 node main(x: int^32^32) returns (ok: bool); let ok = true; tel
-main => the node that is run, or its observer, has another shape than it may
+main => the node that is run, or its observer, has an interface that it may not have
 ----
 node main(x: int^4096^16) returns (ok: bool); let ok = true; tel
-main => the node that is run, or its observer, has another shape than it may
+main => the node that is run, or its observer, has an interface that it may not have
 ----
 node main<<const n: int>>() returns (ok: bool); let ok = true; tel
-main => the node that is run, or its observer, has another shape than it may
+main => the node that is run, or its observer, has an interface that it may not have
 ----
 node main(x: int^2) returns (y: int); let y = x[0]; tel
 node o(x: int^2; y: int) returns (ok: bool); let ok = y = x[0]; tel
@@ -302,15 +302,15 @@ main, o => 2 of 2: main o | x[0]: Int x[1]: Int
 ----
 node main(x: int^2) returns (y: int); let y = x[0]; tel
 node o(x: int^2) returns (ok: bool); let ok = true; tel
-main, o => the node that is run, or its observer, has another shape than it may
+main, o => the node that is run, or its observer, has an interface that it may not have
 ----
 node main(x: int^2^3) returns (y: int); let y = 1; tel
 node o(x: int^3^2; y: int) returns (ok: bool); let ok = true; tel
-main, o => the node that is run, or its observer, has another shape than it may
+main, o => the node that is run, or its observer, has an interface that it may not have
 ----
 node main(x: int) returns (y: int); let y = x; tel
 node o(x, y: int) returns (ok: int); let ok = x; tel
-main, o => the node that is run, or its observer, has another shape than it may
+main, o => the node that is run, or its observer, has an interface that it may not have
 ----
 node main(x: int) returns (ok: bool); let ok = f(x) > 0; tel
 node f(x: int) returns (y: int); let y = (x^(1 div 0))[0]; tel
@@ -324,7 +324,7 @@ node main(x: int^1023) returns (ok: bool); let ok = true; tel
 main => 1 of 1: main |{1023  x[@]: Int}
 ----
 node main({65535 x@, }y: int^4096^16) returns (ok: bool); let ok = true; tel
-main => the node that is run, or its observer, has another shape than it may";
+main => the node that is run, or its observer, has an interface that it may not have";
 
 #[test]
 fn programs_and_their_refusals(rt: HostRuntime) -> Result<(), AllocError> {

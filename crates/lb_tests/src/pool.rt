@@ -91,7 +91,7 @@ pub fn push_plan(alloc: Global, asked: &str, said: &mut String) -> Result<(), Al
     }
 }
 
-// A width and the lengths of traces, 0 first; the numbers of batches and of traces, and the batches.
+// A width and the lengths of traces, 0 first; how many batches and traces, and the batches.
 const PLANS: &str = "\
 64:{65  1} => 2 of 65: |{64  @} | 64
 64 by length:{65  1} => 2 of 65: |{64  @} | 64
@@ -157,8 +157,8 @@ pub fn push_claims(alloc: Global, asked: &str, said: &mut String) -> Result<(), 
     said.push_str(if board.close(seat) { "all" } else { "not all" })
 }
 
-// How many numbers there are and who claims; what is drawn, and whether the two were told that it is
-// all.
+// How many numbers there are and who claims; what is drawn, and whether the two were told that
+// it is all.
 const CLAIMS: &str = "\
 3 ababa => 0 1 2 - - all
 3 abab => 0 1 2 - all

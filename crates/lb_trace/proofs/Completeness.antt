@@ -1,16 +1,21 @@
 -- What records spell is what is read of them.
-use Rattle.std.proofs.Common.{ℕ, ◌≡◌, ◌≢◌, ◌+◌, ◌*◌, ◌<◌, ◌≤◌, true, false, List, [], ◌∷◌, ◌++◌, length, map, get_or, Ok, refl, sym, ap, ◌∙◌, subst, arith, append_assoc, length-append, nat_le, nat_lt}
+use Rattle.std.proofs.Common.{ℕ, ◌≡◌, ◌≢◌, ◌+◌, ◌*◌, ◌<◌, ◌≤◌, true, false, List, [], ◌∷◌, ◌++◌}
+use Rattle.std.proofs.Common.{length, map, get_or, Ok, refl, sym, ap, ◌∙◌, subst, arith}
+use Rattle.std.proofs.Common.{append_assoc, length-append, nat_le, nat_lt}
 use Rattle.std.proofs.lemmas.Bool.{le-leb, lt-ltb}
-use Rattle.std.proofs.lemmas.List.{append-nil, get_or_append_left, get_or_at, length-map, map-append}
+use Rattle.std.proofs.lemmas.List.{append-nil, get_or_append_left, get_or_at, length-map}
+use Rattle.std.proofs.lemmas.List.{map-append}
 use Rattle.std.proofs.lemmas.List.Sums.{sum_by-append, sum_by-cons}
 use Rattle.std.proofs.Math.Nat.{mul-le-mul_right}
 use Rattle.std.specs.List.{All, AllZip}
 use Rattle.lb_static.specs.Signature.{Elements}
-use Rattle.lb_flat.specs.Traces.{IsRecording, IsTrace, Row, Trace, Traces, cells_of_instant, instants_of, last_rows, trace_names}
+use Rattle.lb_flat.specs.Traces.{IsRecording, IsTrace, Row, Trace, Traces, cells_of_instant}
+use Rattle.lb_flat.specs.Traces.{instants_of, last_rows, trace_names}
 use Rattle.lb_flat.proofs.Recordings.{last_rows-push, with_row-push}
 use Rattle.lb_trace.specs.Refusals.{has_room, is_last, with_instant, with_records}
 use Rattle.lb_trace.specs.Spelling.{Record, SpellsInstant, instants}
-use Rattle.lb_trace.proofs.Names.{bytes_eq-same, comes_back-last, comes_back-none, is_last-none, is_last-push, none_named}
+use Rattle.lb_trace.proofs.Names.{bytes_eq-same, comes_back-last, comes_back-none, is_last-none}
+use Rattle.lb_trace.proofs.Names.{is_last-push, none_named}
 use Rattle.lb_trace.proofs.Steps.{step}
 
 instants_in : Trace → ℕ

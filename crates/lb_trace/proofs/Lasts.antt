@@ -1,5 +1,6 @@
 -- The last of some traces.
-use Rattle.std.proofs.Common.{ℕ, ◌≡◌, ◌-◌, ◌<◌, List, [], ◌∷◌, ◌++◌, length, refl, sym, ap, ◌∙◌, arith}
+use Rattle.std.proofs.Common.{ℕ, ◌≡◌, ◌-◌, ◌<◌, List, [], ◌∷◌, ◌++◌, length, refl, sym, ap, ◌∙◌}
+use Rattle.std.proofs.Common.{arith}
 use Rattle.std.proofs.lemmas.List.{get_or_push, length_push}
 use Rattle.std.specs.Str.{bytes_eq}
 use Rattle.lb_flat.specs.Traces.{Trace, Traces, last_rows, trace_at}

@@ -1,12 +1,14 @@
 -- A text spells traces exactly where they are its outcome.
-use Rattle.std.proofs.Common.{ℕ, ◌≡◌, ◌<◌, ◌≤◌, Bool, true, false, if◌then◌else◌, List, [], ◌∷◌, length, Ok, Err, refl, sym, ap, ◌∙◌, subst, arith, nat_le}
+use Rattle.std.proofs.Common.{ℕ, ◌≡◌, ◌<◌, ◌≤◌, Bool, true, false, if◌then◌else◌, List, [], ◌∷◌}
+use Rattle.std.proofs.Common.{length, Ok, Err, refl, sym, ap, ◌∙◌, subst, arith, nat_le}
 use Rattle.std.proofs.lemmas.Bool.{false_from_ne_true, le-leb, leb-true}
 use Rattle.std.specs.List.{AllZip}
 use Rattle.lb_static.specs.Signature.{Elements}
 use Rattle.lb_flat.specs.Traces.{IsRecording, Traces}
 use Rattle.lb_flat.proofs.Recordings.{IsRecording-none}
 use Rattle.lb_trace.specs.Refusals.{outcome, reading, with_records}
-use Rattle.lb_trace.specs.Spelling.{Record, SpelledBy, Spells, SpellsInstant, after_first, is_header, records_of}
+use Rattle.lb_trace.specs.Spelling.{Record, SpelledBy, Spells, SpellsInstant, after_first}
+use Rattle.lb_trace.specs.Spelling.{is_header, records_of}
 use Rattle.lb_trace.proofs.Completeness.{complete}
 use Rattle.lb_trace.proofs.Soundness.{Sound, sound}
 

@@ -1,5 +1,8 @@
 -- How far a reading of a text has come.
-use Rattle.std.proofs.Common.{ℕ, ◌≡◌, ◌+◌, ◌<◌, ◌≤◌, Bool, true, false, ◌==◌, ◌||◌, not, if◌then◌else◌, List, [], ◌∷◌, ◌++◌, length, map, Some, Result, Ok, Err, refl, sym, ap, ◌∙◌, subst, arith, append_assoc, inl, inr, ⊎_elim, ◌⊎◌}
+use Rattle.std.proofs.Common.{ℕ, ◌≡◌, ◌+◌, ◌<◌, ◌≤◌, Bool, true, false, ◌==◌, ◌||◌, not}
+use Rattle.std.proofs.Common.{if◌then◌else◌, List, [], ◌∷◌, ◌++◌, length, map, Some, Result, Ok}
+use Rattle.std.proofs.Common.{Err, refl, sym, ap, ◌∙◌, subst, arith, append_assoc, inl, inr, ⊎_elim}
+use Rattle.std.proofs.Common.{◌⊎◌}
 use Rattle.std.proofs.lemmas.List.{length_push}
 use Rattle.std.proofs.lemmas.List.Sums.{sum_by_push}
 use Rattle.std.specs.Option.{option_and_then, option_map}
@@ -8,7 +11,8 @@ use Rattle.csv.specs.declared.reader.Trim.TheVariants as trim
 use Rattle.csv.specs.Reading.{ReadRecord, Reached, Ready, default_config, source_of, strip_bom}
 use Rattle.csv.proofs.ReadFacts.{rows-end, rows-more}
 use Rattle.lb_static.specs.Signature.{Elements}
-use Rattle.lb_flat.specs.Traces.{IsRecording, Recording, Row, Trace, Traces, instants_of, with_row, with_trace}
+use Rattle.lb_flat.specs.Traces.{IsRecording, Recording, Row, Trace, Traces, instants_of, with_row}
+use Rattle.lb_flat.specs.Traces.{with_trace}
 use Rattle.lb_flat.proofs.Recordings.{IsRecording-none, Front, front_of, with_row-push}
 use Rattle.lb_trace.specs.declared.error.TraceError.{TraceError}
 use Rattle.lb_trace.specs.declared.header.Column.{Column}
@@ -16,11 +20,15 @@ use Rattle.lb_trace.specs.Cells.{cell_value}
 use Rattle.lb_trace.specs.Errors.{IsRefusal, Refuses, error_number}
 use Rattle.lb_trace.specs.Mirrors.{RowsFollow, column_of, record_by, row_by}
 use Rattle.lb_trace.specs.Readers.{Goes, Reaches, TextReader, left}
-use Rattle.lb_trace.specs.Refusals.{comes_back, is_last, is_trace_name, outcome, then_read, with_cells, with_record, with_records}
-use Rattle.lb_trace.specs.Spelling.{Record, Spells, after_first, is_header, records_of, row_of, under}
-use Rattle.lb_trace.proofs.Outcomes.{complete_text, outcome-records, reading-none, reading-other, reading-rows, refused_text}
+use Rattle.lb_trace.specs.Refusals.{comes_back, is_last, is_trace_name, outcome, then_read}
+use Rattle.lb_trace.specs.Refusals.{with_cells, with_record, with_records}
+use Rattle.lb_trace.specs.Spelling.{Record, Spells, after_first, is_header, records_of, row_of}
+use Rattle.lb_trace.specs.Spelling.{under}
+use Rattle.lb_trace.proofs.Outcomes.{complete_text, outcome-records, reading-none, reading-other}
+use Rattle.lb_trace.proofs.Outcomes.{reading-rows, refused_text}
 use Rattle.lb_trace.proofs.Records.{reached_all, reached_first}
-use Rattle.lb_trace.proofs.Soundness.{IsRecording-instant, IsRow-cells, Reads, reads_record, some_last}
+use Rattle.lb_trace.proofs.Soundness.{IsRecording-instant, IsRow-cells, Reads, reads_record}
+use Rattle.lb_trace.proofs.Soundness.{some_last}
 
 -- one more record
 pub reaches-more : (text : List ℕ) (records : List Record) (a b : TextReader) (fields : Record)

@@ -1,5 +1,8 @@
 -- What is read of records is what they spell.
-use Rattle.std.proofs.Common.{ℕ, ◌≡◌, ◌+◌, ◌*◌, ◌<◌, ◌≤◌, Bool, true, false, ◌||◌, ◌==◌, not, if◌then◌else◌, List, [], ◌∷◌, ◌++◌, length, map, get_or, Option, Some, None, Result, Ok, Err, ℤ, pos, neg_ℤ, refl, sym, ap, ◌∙◌, subst, arith, append_assoc, nat_le, nat_lt, inl, inr}
+use Rattle.std.proofs.Common.{ℕ, ◌≡◌, ◌+◌, ◌*◌, ◌<◌, ◌≤◌, Bool, true, false, ◌||◌, ◌==◌, not}
+use Rattle.std.proofs.Common.{if◌then◌else◌, List, [], ◌∷◌, ◌++◌, length, map, get_or, Option, Some}
+use Rattle.std.proofs.Common.{None, Result, Ok, Err, ℤ, pos, neg_ℤ, refl, sym, ap, ◌∙◌, subst}
+use Rattle.std.proofs.Common.{arith, append_assoc, nat_le, nat_lt, inl, inr}
 use Rattle.std.specs.Prelude.{codes}
 use Rattle.std.proofs.lemmas.Bool.{eqb-true, leb-true, ltb-true}
 use Rattle.std.proofs.lemmas.List.{append-nil, get_or-map, length-map, map-append}
@@ -13,10 +16,13 @@ use Rattle.std.specs.Option.{option_and_then, option_map}
 use Rattle.lb_syntax.specs.declared.tree.Kind.{Kind}
 use Rattle.lb_syntax.specs.declared.tree.Kind.TheVariants as kind
 use Rattle.lb_static.specs.Signature.{Elements}
-use Rattle.lb_flat.specs.Traces.{HasRoom, IsCell, IsInt, IsRecording, IsRow, IsTraceName, Row, Trace, Traces, cells_of_instant, instants_of, last_rows, trace_names, with_row, with_trace}
+use Rattle.lb_flat.specs.Traces.{HasRoom, IsCell, IsInt, IsRecording, IsRow, IsTraceName, Row}
+use Rattle.lb_flat.specs.Traces.{Trace, Traces, cells_of_instant, instants_of, last_rows}
+use Rattle.lb_flat.specs.Traces.{trace_names, with_row, with_trace}
 use Rattle.lb_flat.proofs.Recordings.{IsRecording-row, IsRecording-trace}
 use Rattle.lb_trace.specs.Cells.{cell_value, int_of, natural_of, signed}
-use Rattle.lb_trace.specs.Refusals.{comes_back, has_room, is_last, is_trace_name, then_read, with_cells, with_instant, with_record, with_records}
+use Rattle.lb_trace.specs.Refusals.{comes_back, has_room, is_last, is_trace_name, then_read}
+use Rattle.lb_trace.specs.Refusals.{with_cells, with_instant, with_record, with_records}
 use Rattle.lb_trace.specs.Spelling.{Instant, Record, SpellsInstant, instants, row_of, under}
 use Rattle.lb_trace.proofs.Names.{IsTraceName-from, and-true, and_true}
 

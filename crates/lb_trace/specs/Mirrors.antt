@@ -1,5 +1,7 @@
 -- These definitions mirror code: the table of columns, and the row that is read by it.
-use Rattle.std.specs.Prelude.{ℕ, ◌+◌, ◌*◌, ◌&&◌, nat_lt, nat_le, ◌≡◌, ◌==◌, ◌||◌, not, if◌then◌else◌, List, [], ◌∷◌, length, get_or, Option, Some, None, Result, Ok, Err}
+use Rattle.std.specs.Prelude.{ℕ, ◌+◌, ◌*◌, ◌&&◌, nat_lt, nat_le, ◌≡◌, ◌==◌, ◌||◌, not}
+use Rattle.std.specs.Prelude.{if◌then◌else◌, List, [], ◌∷◌, length, get_or, Option, Some, None}
+use Rattle.std.specs.Prelude.{Result, Ok, Err}
 use Rattle.std.specs.HashSet.{HashSet, contains_text}
 use Rattle.std.specs.Prelude.{String}
 use Rattle.std.specs.Global.{Global}
@@ -7,7 +9,8 @@ use Rattle.std.specs.List.{list_any, position_or_len}
 use Rattle.std.specs.Option.{option_and_then, option_map}
 use Rattle.std.specs.Str.{bytes_eq}
 use Rattle.lb_static.specs.Signature.{Element, Elements}
-use Rattle.lb_flat.specs.Traces.{IsRow, Row, Traces, cells_of_instant, instants_of, last_rows, with_row, with_trace}
+use Rattle.lb_flat.specs.Traces.{IsRow, Row, Traces, cells_of_instant, instants_of, last_rows}
+use Rattle.lb_flat.specs.Traces.{with_row, with_trace}
 use Rattle.lb_trace.specs.declared.header.Column.{Column}
 use Rattle.lb_trace.specs.Cells.{cell_value}
 use Rattle.lb_trace.specs.Refusals.{comes_back, is_trace_name, with_cells}

@@ -1,10 +1,13 @@
 -- The first refusal of a trace text, as a computation.
 -- Source: this project's rule.
-use Rattle.std.specs.Prelude.{ℕ, ◌+◌, ◌*◌, ◌==◌, ◌&&◌, ◌||◌, not, nat_lt, nat_le, if◌then◌else◌, Bool as Truth, false, List, [], ◌∷◌, length, Option, Some, None, Result, Ok, Err}
+use Rattle.std.specs.Prelude.{ℕ, ◌+◌, ◌*◌, ◌==◌, ◌&&◌, ◌||◌, not, nat_lt, nat_le, if◌then◌else◌}
+use Rattle.std.specs.Prelude.{Bool as Truth, false, List, [], ◌∷◌, length, Option, Some, None}
+use Rattle.std.specs.Prelude.{Result, Ok, Err}
 use Rattle.std.specs.List.{list_all, list_any}
 use Rattle.std.specs.Str.{bytes_eq}
 use Rattle.lb_static.specs.Signature.{Elements}
-use Rattle.lb_flat.specs.Traces.{Row, Traces, cells_of_instant, instants_of, is_name_byte, last_rows, with_row, with_trace}
+use Rattle.lb_flat.specs.Traces.{Row, Traces, cells_of_instant, instants_of, is_name_byte}
+use Rattle.lb_flat.specs.Traces.{last_rows, with_row, with_trace}
 use Rattle.lb_trace.specs.Spelling.{Record, after_first, is_header, records_of, row_of}
 
 -- whether a name is lawful

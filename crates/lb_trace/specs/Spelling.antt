@@ -1,6 +1,7 @@
 -- The traces that a text spells under a signature.
 -- Source: this project's rule. Records are those of the csv crate, by its specification.
-use Rattle.std.specs.Prelude.{ℕ, ◌≡◌, ◌≤◌, ◌==◌, ◌&&◌, Bool as Truth, false, IsTrue, List, [], ◌∷◌, length, map, get_or, Option, Some, codes}
+use Rattle.std.specs.Prelude.{ℕ, ◌≡◌, ◌≤◌, ◌==◌, ◌&&◌, Bool as Truth, false, IsTrue, List, [], ◌∷◌}
+use Rattle.std.specs.Prelude.{length, map, get_or, Option, Some, codes}
 use Rattle.std.specs.List.{AllZip, count_by, flat_map, list_all, list_any, position_or_len}
 use Rattle.std.specs.Option.{option_and_then, option_map}
 use Rattle.std.specs.Str.{bytes_eq}

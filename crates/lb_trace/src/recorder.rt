@@ -1,14 +1,19 @@
 //! The traces of the records that have been read.
 
-ghost use Rattle.std.specs.Prelude.{◌≡◌, ◌<◌, ◌≤◌, ◌+◌, ◌*◌, ◌&&◌, ◌||◌, not, nat_le, nat_lt, true, false, ℕ, List, [], length, map, Ok, IfOk, IfErr, OnOk, MatchOption, if◌then◌else◌};
+ghost use Rattle.std.specs.Prelude.{◌≡◌, ◌<◌, ◌≤◌, ◌+◌, ◌*◌, ◌&&◌, ◌||◌, not, nat_le, nat_lt, true};
+ghost use Rattle.std.specs.Prelude.{false, ℕ, List, [], length, map, Ok, IfOk, IfErr, OnOk};
+ghost use Rattle.std.specs.Prelude.{MatchOption, if◌then◌else◌};
 ghost use Rattle.std.specs.HashSet.{contains_text};
 ghost use Rattle.std.specs.List.{Contains, list_any};
 ghost use Rattle.std.specs.Str.{bytes_eq};
 ghost use Rattle.csv.specs.Records.{fields_of};
-ghost use Rattle.lb_flat.specs.Traces.{IsRecording, IsTraceName, cells_of_instant, instants_of, last_rows, trace_names};
+ghost use Rattle.lb_flat.specs.Traces.{IsRecording, IsTraceName, cells_of_instant, instants_of};
+ghost use Rattle.lb_flat.specs.Traces.{last_rows, trace_names};
 ghost use Rattle.lb_trace.specs.Errors.{IsRefusal, error_number};
-ghost use Rattle.lb_trace.specs.Mirrors.{RowsFollow, go_on_by, knows, record_by, row_by, start_by, start_cells};
-ghost use Rattle.lb_trace.specs.Refusals.{is_last, is_trace_name as lawful_name, with_cells, has_room};
+ghost use Rattle.lb_trace.specs.Mirrors.{RowsFollow, go_on_by, knows, record_by, row_by, start_by};
+ghost use Rattle.lb_trace.specs.Mirrors.{start_cells};
+ghost use Rattle.lb_trace.specs.Refusals.{is_last, is_trace_name as lawful_name, with_cells};
+ghost use Rattle.lb_trace.specs.Refusals.{has_room};
 ghost use Rattle.lb_trace.specs.Spelling.{after_first};
 
 use crate::error::TraceError;

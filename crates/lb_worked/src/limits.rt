@@ -17,7 +17,8 @@ ghost use Rattle.lb_worked.specs.WorkedLimits.{chain, mapped, long_array};
 /// There are at most 64 levels: the walk over a chain of 64 nodes finds nothing, over 65 it does.
 pub fn levels()
     ensures chain_of_64_nodes { instantiation_refusal (chain 62) 0 (instances (chain 62)) ≡ None }
-    ensures chain_of_65_nodes { instantiation_refusal (chain 63) 0 (instances (chain 63)) ≡ Some E12 }
+    ensures chain_of_65_nodes { instantiation_refusal (chain 63) 0 (instances (chain 63))
+        ≡ Some E12 }
 {}
 
 /// There are at most 4,096 instances.

@@ -37,7 +37,8 @@ ghost use Rattle.lb_worked.specs.WorkedRefusals.{call_before_its_arguments};
 ghost use Rattle.lb_worked.specs.WorkedRefusals.{arguments_after_their_call, value_before_range};
 ghost use Rattle.lb_worked.specs.WorkedRefusals.{one_value_of_a_parameter, name_before_recursion};
 ghost use Rattle.lb_worked.specs.WorkedRefusals.{recursion_before_parameters};
-ghost use Rattle.lb_worked.specs.WorkedRefusals.{parameters_before_the_instantiation, instantiation_before_the_interface};
+ghost use Rattle.lb_worked.specs.WorkedRefusals.{parameters_before_the_instantiation};
+ghost use Rattle.lb_worked.specs.WorkedRefusals.{instantiation_before_the_interface};
 ghost use Rattle.lb_worked.specs.WorkedRefusals.{interface_before_types, types_before_clocks};
 ghost use Rattle.lb_worked.specs.WorkedRefusals.{clocks_before_definitions};
 
@@ -127,8 +128,10 @@ pub fn the_order_of_refusals()
     ensures one_value_of_a_parameter_alone { refusal one_value_of_a_parameter ≡ Some E6 }
     ensures name_before_recursion { refusal name_before_recursion ≡ Some E4 }
     ensures recursion_before_parameters { refusal recursion_before_parameters ≡ Some E7 }
-    ensures parameters_before_the_instantiation { refusal parameters_before_the_instantiation ≡ Some E8 }
-    ensures instantiation_before_the_interface { refusal instantiation_before_the_interface ≡ Some E5 }
+    ensures parameters_before_the_instantiation { refusal parameters_before_the_instantiation
+        ≡ Some E8 }
+    ensures instantiation_before_the_interface { refusal instantiation_before_the_interface
+        ≡ Some E5 }
     ensures interface_before_types { refusal interface_before_types ≡ Some E8 }
     ensures types_of_all_before_clocks_of_any { refusal types_before_clocks ≡ Some E9 }
     ensures clocks_of_all_before_definitions_of_any { refusal clocks_before_definitions ≡ Some E10 }

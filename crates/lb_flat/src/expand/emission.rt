@@ -81,7 +81,8 @@ impl Emission {
     ghost use Rattle.lb_flat.specs.PlainNodes.{is_place, is_within, is_statement_within};
     ghost use Rattle.lb_flat.specs.Flat.{Always};
     ghost use Rattle.lb_flat.specs.Emit.{before_instances, emit_nor, emit_at_most_one};
-    ghost use Rattle.lb_flat.specs.Emissions.{state_of, found_of, emitted_of, CanPush, IsTaken, AreTaken};
+    ghost use Rattle.lb_flat.specs.Emissions.{state_of, found_of, emitted_of, CanPush, IsTaken};
+    ghost use Rattle.lb_flat.specs.Emissions.{AreTaken};
     ghost use Rattle.lb_flat.specs.Programs.{numbers_of, program_of, IsInRange};
     ghost use Rattle.lb_flat.specs.Terms.{term_size, list_size, statement_size, statements_size};
     ghost use Rattle.lb_flat.specs.Values.{operation_of};

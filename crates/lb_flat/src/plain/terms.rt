@@ -2,7 +2,8 @@
 
 ghost use Rattle.std.specs.Prelude.{◌≡◌, MatchResult};
 ghost use Rattle.std.specs.List.{list_all};
-ghost use Rattle.lb_flat.specs.UnsupportedForms.{IsUnsupported, TranslatesTerm, TranslatesTerms, TranslatesStatement, TranslatesStatements};
+ghost use Rattle.lb_flat.specs.UnsupportedForms.{IsUnsupported, TranslatesTerm, TranslatesTerms};
+ghost use Rattle.lb_flat.specs.UnsupportedForms.{TranslatesStatement, TranslatesStatements};
 
 use crate::error::FlatError;
 use crate::plain::term::{PlainStatement, Term};

@@ -1,6 +1,7 @@
--- What is answered is what is found of the rules.
+-- What is answered is what is found of the rules, and what is found of the clocks is kept.
 use Rattle.lb_static.specs.Elaborated.{elaborated_program}
 use Rattle.lb_check.proofs.Checks.{accepted, found, refused}
+use Rattle.lb_check.proofs.FoundClocks.{found_here}
 use Rattle.lb_check.proofs.check.check.Goals as goal
 
 pub returns-in-Some-clause-answer : goal.returns-in-Some-clause-answer
@@ -13,9 +14,14 @@ pub new-requires : goal.new-requires
 new-requires c =
     let told = found c.args.elab c.reached.result.now c.table.result.now c.in_ok-error.field-0
     c.reached.ensures.lawful c.reached.ensures.value c.table.ensures.value c.in_ok-error.ensures in
+    let kept = accepted (elaborated_program c.args.elab) c.in_ok-error.field-0 told c.in-None.is in
     record {
       elaborated = c.reached.ensures.lawful;
-      accepted = accepted (elaborated_program c.args.elab) c.in_ok-error.field-0 told c.in-None.is;
+      accepted = kept;
+      clocks =
+          found_here c.args.elab c.reached-in-None.result.now c.in_ok-clocks-in-None.clocks.items
+          c.reached.ensures.lawful c.reached-in-None.ensures.value kept
+          c.in_ok-clocks-in-None.ensures;
     }
 
 pub returns-clause-answer : goal.returns-clause-answer

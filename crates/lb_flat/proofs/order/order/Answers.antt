@@ -1,4 +1,5 @@
-use Rattle.std.proofs.Common.{refl, rules}
+use Rattle.std.proofs.Common.{refl}
+use Rattle.std.proofs.lemmas.Result.{err_from_is_err_and}
 use Rattle.lb_flat.specs.Programs.{flat_equations}
 use Rattle.lb_flat.proofs.InOrder.{ready_of}
 use Rattle.lb_flat.proofs.Judging.{has_one_history}
@@ -25,8 +26,6 @@ returns-clause-order c =
     }
 
 pub returns-in_err-equations-clause-cycle : goal.returns-in_err-equations-clause-cycle
-returns-in_err-equations-clause-cycle c e =
-    c.in_err-equations.ensures.cycle (search rules)
-
-pub returns-clause-cycle : goal.returns-clause-cycle
-returns-clause-cycle c = search rules
+returns-in_err-equations-clause-cycle c =
+    let p = err_from_is_err_and c.from_residual.result c.from_residual.ensures.1 in
+    rw (p.1, p.2) c.in_err-equations.ensures.cycle

@@ -1,4 +1,5 @@
-use Rattle.std.proofs.Common.{◌≡◌, ◌+◌, [], is_some, List, drop, length, map, ap, sym, subst, ◌∙◌, arith}
+use Rattle.std.proofs.Common.{◌≡◌, ◌+◌, [], is_some, List, drop, length, map, ap, sym, subst, ◌∙◌}
+use Rattle.std.proofs.Common.{arith}
 use Rattle.std.proofs.Math.ListN.{drop_of_length-le}
 use Rattle.lb_flat.specs.declared.cell.Cell.{Cell}
 use Rattle.lb_flat.specs.Prepared.{fixed_in, AreFixed}

@@ -75,7 +75,7 @@ returns-in_err-ordered-clause-err c =
     c.in_ok-flat.ensures in
     let refused = is_cycle P (flat.program_of c.in_ok-flat.field-0.program)
     c.in_err-ordered.field-0.0 accepted checked answer.0 answer.1
-    (λ e. c.in_err-ordered.ensures.cycle (ap Err e)) in
+    c.in_err-ordered.ensures.cycle in
     λ source traces only. rw (p.1, p.2) (record { tree = tree; spelled = only; holds = refused })
 
 pub returns-clause-ok : goal.returns-clause-ok

@@ -2,11 +2,13 @@ use Rattle.std.proofs.Common.{◌≡◌, Bool, true, false, map, Some, refl, ap,
 use Rattle.std.specs.Prelude.{◌&&◌, nat_le}
 use Rattle.std.proofs.lemmas.Result.{err_from_is_err_and}
 use Rattle.lb_syntax.specs.Lists.{either_or, where_true}
-use Rattle.lb_static.specs.Interfaces.{view_interface, inputs_of, elements_in_all, elements_named, property_in}
+use Rattle.lb_static.specs.Interfaces.{view_interface, inputs_of, elements_in_all, elements_named}
+use Rattle.lb_static.specs.Interfaces.{property_in}
 use Rattle.lb_static.proofs.RootFaults.{fault_for}
 use Rattle.lb_static.proofs.InterfaceRules.{too_many, few_enough}
 use Rattle.lb_static.proofs.check_interface.interface_signature.Goals as goal
-use Rattle.lb_static.proofs.check_interface.interface_signature.Goals.{then-not-root-via-then-not-root, then-not-root-via-else-not-root+then-scalar_inputs-gt-MOST}
+use Rattle.lb_static.proofs.check_interface.interface_signature.Goals.{then-not-root-via-then-not-root}
+use Rattle.lb_static.proofs.check_interface.interface_signature.Goals.{then-not-root-via-else-not-root+then-scalar_inputs-gt-MOST}
 
 none : (a b : Bool) → (a && (b && false)) ≡ false
 none true true = refl

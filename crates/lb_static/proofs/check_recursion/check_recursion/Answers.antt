@@ -2,7 +2,8 @@
 use Rattle.std.proofs.Common.{Some, Err, ◌<◌, map, length, ap, sym, subst, ◌∙◌, arith}
 use Rattle.std.proofs.lemmas.List.{length-map}
 use Rattle.std.proofs.lemmas.Option.{slice_get-get_or}
-use Rattle.lb_static.specs.CallGraphs.{AreWithin, IsCallsAnswer, IsCycleAnswer, IsCycleNamed, callees_of, graph_of}
+use Rattle.lb_static.specs.CallGraphs.{AreWithin, IsCallsAnswer, IsCycleAnswer, IsCycleNamed}
+use Rattle.lb_static.specs.CallGraphs.{callees_of, graph_of}
 use Rattle.lb_static.specs.Instances.{Program}
 use Rattle.lb_static.specs.ReachedNodes.{IsReached}
 use Rattle.lb_static.proofs.ReachedCalls.{graph_within, ordered_founded, recursion_told}

@@ -1,5 +1,6 @@
 -- The tasks of the walk speak of constants, and each of these is visited once.
-use Rattle.std.proofs.Common.{rules, ◌<◌, ◌++◌, ◌∷◌, [], All, Some, ap, sym, subst, ◌∙◌, length, arith}
+use Rattle.std.proofs.Common.{rules, ◌<◌, ◌++◌, ◌∷◌, [], All, Some, ap, sym, subst, ◌∙◌, length}
+use Rattle.std.proofs.Common.{arith}
 use Rattle.std.proofs.lemmas.List.{length-append}
 use Rattle.std.proofs.lemmas.List.Elements.{All-pop, All-push, All-same}
 use Rattle.lb_static.specs.Tasks.{place_of}

@@ -3,7 +3,9 @@ use Rattle.std.proofs.Common.{refl, rules, arith, ap, ◌∙◌, ◌++◌, ◌�
 use Rattle.std.proofs.lemmas.List.{length-map, nil_from_length}
 use Rattle.std.proofs.lemmas.Option.{slice_get_within}
 use Rattle.lb_static.specs.declared.cycle.Progress.TheVariants.{Unseen, Open, Done}
-use Rattle.lb_static.proofs.CycleSteps.{begins, last_within, finishes, passes, enters, calls_node, cycle_found, ends, less_passed, less_finished, less_entered, read_at}
+use Rattle.lb_static.proofs.CycleSteps.{begins, last_within, finishes, passes, enters, calls_node}
+use Rattle.lb_static.proofs.CycleSteps.{cycle_found, ends, less_passed, less_finished, less_entered}
+use Rattle.lb_static.proofs.CycleSteps.{read_at}
 use Rattle.lb_static.proofs.cycle.search_from.Goals as goal
 
 pub bounds-progress-start : goal.bounds-progress-start

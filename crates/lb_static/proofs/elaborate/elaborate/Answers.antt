@@ -12,15 +12,15 @@ returns-in_err-table c =
     (option_map (λ o. o.now) c.args.observer) in
     let p = err_from_is_err_and c.from_residual-in_err-table.result
     c.from_residual-in_err-table.ensures.1 in
-    rw (p.1, p.2) (c.in_err-table.ensures P c.in_ok-reached.ensures.names
-    c.in_ok-reached.ensures.reached refl)
+    rw (p.1, p.2) (c.in_err-table.ensures P c.in_ok-reached.ensures.0
+    c.in_ok-reached.ensures.1 refl)
 
 pub returns-in_err-signature : goal.returns-in_err-signature
 returns-in_err-signature c =
     let P = program_of c.args.source.now c.args.node.now
     (option_map (λ o. o.now) c.args.observer) in
-    let names = c.in_ok-reached.ensures.names in
-    let reached = c.in_ok-reached.ensures.reached in
+    let names = c.in_ok-reached.ensures.0 in
+    let reached = c.in_ok-reached.ensures.1 in
     let told = c.in_ok-table.ensures P names reached refl in
     let p = err_from_is_err_and c.from_residual-in_err-signature.result
     c.from_residual-in_err-signature.ensures.1 in
@@ -31,8 +31,8 @@ pub new-requires : goal.new-requires
 new-requires c =
     let P = program_of c.args.source.now c.args.node.now
     (option_map (λ o. o.now) c.args.observer) in
-    let names = c.in_ok-reached.ensures.names in
-    let reached = c.in_ok-reached.ensures.reached in
+    let names = c.in_ok-reached.ensures.0 in
+    let reached = c.in_ok-reached.ensures.1 in
     let told = c.in_ok-table.ensures P names reached refl in
     let root = c.in_ok-signature.ensures P names reached told.starts told.instantiated in
     record {

@@ -1,12 +1,14 @@
 -- An instance is entered, then those that it calls, one after another.
-use Rattle.std.proofs.Common.{◌≡◌, ◌≤◌, ◌+◌, ◌-◌, ◌++◌, [], true, length, take, get_or, Some, None, Vec, ℕ, List, refl, ap, sym, subst, ◌∙◌, arith, ◌∷◌, suc}
+use Rattle.std.proofs.Common.{◌≡◌, ◌≤◌, ◌+◌, ◌-◌, ◌++◌, [], true, length, take, get_or, Some, None}
+use Rattle.std.proofs.Common.{Vec, ℕ, List, refl, ap, sym, subst, ◌∙◌, arith, ◌∷◌, suc}
 use Rattle.std.specs.Prelude.{slice_get, IfSome, option_map}
 use Rattle.std.specs.List.{list_all}
 use Rattle.std.specs.declared.alloc.Global.{Global}
 use Rattle.std.proofs.lemmas.List.{length-append, length-map, append-nil}
 use Rattle.std.proofs.lemmas.List.Elements.{All-get_or}
 use Rattle.std.proofs.lemmas.List.Sums.{AllPass-from_list_all}
-use Rattle.std.proofs.lemmas.Option.{get_or_from_slice_get, slice_get-get_or, slice_get-map, slice_get_read}
+use Rattle.std.proofs.lemmas.Option.{get_or_from_slice_get, slice_get-get_or, slice_get-map}
+use Rattle.std.proofs.lemmas.Option.{slice_get_read}
 use Rattle.std.proofs.lemmas.Result.{err_from_is_err_and, IfOk-at_ok}
 use Rattle.lb_static.specs.Instances.{Program, Path, Child, children, instances_from, node_sites}
 use Rattle.lb_static.specs.InstanceTable.{instance_of}
@@ -15,18 +17,25 @@ use Rattle.lb_static.specs.ResolvedNodes.{node_of, statics_of, counts_of, IsReso
 use Rattle.lb_static.specs.ResolvedTerms.{site_of, is_site_within, Counts}
 use Rattle.lb_static.specs.LinkedSpecializations.{AreLinked}
 use Rattle.lb_static.specs.Instantiation.{level, instantiation_refusal}
-use Rattle.lb_static.specs.Instantiated.{AreJudged, AreEntered, IsInstantiable, IsRefusal, IsSoundNode, values_at, times_of, IsKnown}
+use Rattle.lb_static.specs.Instantiated.{AreJudged, AreEntered, IsInstantiable, IsRefusal}
+use Rattle.lb_static.specs.Instantiated.{IsSoundNode, values_at, times_of, IsKnown}
 use Rattle.lb_static.specs.InstanceRows.{begun_row, HasRows}
 use Rattle.lb_static.specs.declared.resolved.CallSite.{CallSite}
 use Rattle.lb_static.specs.declared.resolved.ResolvedNode.{ResolvedNode}
 use Rattle.lb_static.specs.declared.table.SpecializationId.{SpecializationId}
 use Rattle.lb_static.proofs.Lists.{append_assoc}
-use Rattle.lb_static.proofs.InstanceSteps.{element_all, elsewhere, memory_alone, ok_when, some_known_later}
-use Rattle.lb_static.proofs.InstanceCalls.{entered_none, entered_more, refused_here, refused_below, all_entered, of_calls, below, of_indexes, index_step, call_step, calls_all}
+use Rattle.lb_static.proofs.InstanceSteps.{element_all, elsewhere, memory_alone, ok_when}
+use Rattle.lb_static.proofs.InstanceSteps.{some_known_later}
+use Rattle.lb_static.proofs.InstanceCalls.{entered_none, entered_more, refused_here, refused_below}
+use Rattle.lb_static.proofs.InstanceCalls.{all_entered, of_calls, below, of_indexes, index_step}
+use Rattle.lb_static.proofs.InstanceCalls.{call_step, calls_all}
 use Rattle.lb_static.proofs.InstanceCallers.{callers_begun, callers_specialized}
-use Rattle.lb_static.proofs.InstanceRows.{rows_none, rows_grown, rows_more, rows_specialized, known_stands, path_below, used_none, used_more, used_specialized}
+use Rattle.lb_static.proofs.InstanceRows.{rows_none, rows_grown, rows_more, rows_specialized}
+use Rattle.lb_static.proofs.InstanceRows.{known_stands, path_below, used_none, used_more}
+use Rattle.lb_static.proofs.InstanceRows.{used_specialized}
 use Rattle.lb_static.proofs.CallSites.{call_read}
-use Rattle.lb_static.proofs.LinkedSpecializations.{called_known, called_later, none_called, called_next, all_called}
+use Rattle.lb_static.proofs.LinkedSpecializations.{called_known, called_later, none_called}
+use Rattle.lb_static.proofs.LinkedSpecializations.{called_next, all_called}
 use Rattle.lb_static.proofs.SiteCounts.{entered_once}
 use Rattle.lb_static.proofs.instantiate.+enter.Goals as goal
 use Rattle.lb_static.proofs.instantiate.+enter.Goals.{in-Some+in_ok-push, in_default}

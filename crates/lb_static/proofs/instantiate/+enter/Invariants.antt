@@ -4,7 +4,8 @@ use Rattle.lb_static.specs.Instances.{Program, Path}
 use Rattle.lb_static.specs.LinkedSpecializations.{AreCalled, AreLinked}
 use Rattle.lb_static.specs.Instantiation.{level}
 use Rattle.lb_static.specs.Instantiated.{IsInstantiable, AreJudged, AreEntered, HasGrown, IsKnown}
-use Rattle.lb_static.specs.InstanceTable.{path_from, paths_after, CallerStandsBefore, CallersStandBefore}
+use Rattle.lb_static.specs.InstanceTable.{path_from, paths_after, CallerStandsBefore}
+use Rattle.lb_static.specs.InstanceTable.{CallersStandBefore}
 use Rattle.lb_static.specs.InstanceRows.{begun_row, HasUsed, HasRows}
 use Rattle.lb_static.specs.declared.resolved.ResolvedNode.{ResolvedNode}
 use Rattle.lb_static.proofs.InstanceCalls.{of_calls, of_indexes}

@@ -1,5 +1,6 @@
 -- The instances below the node under test are entered first, then those below the observer.
-use Rattle.std.proofs.Common.{◌≡◌, ◌<◌, ◌≤◌, List, [], length, Some, None, refl, ap, sym, subst, ◌∙◌, arith, ◌++◌}
+use Rattle.std.proofs.Common.{◌≡◌, ◌<◌, ◌≤◌, List, [], length, Some, None, refl, ap, sym, subst}
+use Rattle.std.proofs.Common.{◌∙◌, arith, ◌++◌}
 use Rattle.std.proofs.lemmas.Result.{err_from_is_err_and}
 use Rattle.std.proofs.lemmas.Option.{slice_get_past, slice_get-map}
 use Rattle.std.specs.Prelude.{slice_get, option_map}
@@ -16,9 +17,14 @@ use Rattle.lb_static.specs.declared.table.Specialization.{Specialization}
 use Rattle.lb_static.specs.declared.table.Table.{Table}
 use Rattle.lb_static.proofs.LinkedSpecializations.{none_linked, are_specialized}
 use Rattle.lb_static.proofs.InstanceSteps.{known_later}
-use Rattle.lb_static.proofs.WholeInstantiation.{instantiable, none_judged, root_is, observer_is, no_observer, refused_first, refused_second, instantiated_alone, instantiated_both, there_is, has_starts, observer_stands, none_stands, alone_are, both_are}
+use Rattle.lb_static.proofs.WholeInstantiation.{instantiable, none_judged, root_is, observer_is}
+use Rattle.lb_static.proofs.WholeInstantiation.{no_observer, refused_first, refused_second}
+use Rattle.lb_static.proofs.WholeInstantiation.{instantiated_alone, instantiated_both, there_is}
+use Rattle.lb_static.proofs.WholeInstantiation.{has_starts, observer_stands, none_stands, alone_are}
+use Rattle.lb_static.proofs.WholeInstantiation.{both_are}
 use Rattle.lb_static.proofs.instantiate.instantiate.Goals as goal
-use Rattle.lb_static.proofs.instantiate.instantiate.Goals.{in-Some+in_ok-id-in-Some, in_default-2, in_default, In_ok-root}
+use Rattle.lb_static.proofs.instantiate.instantiate.Goals.{in-Some+in_ok-id-in-Some, in_default-2}
+use Rattle.lb_static.proofs.instantiate.instantiate.Goals.{in_default, In_ok-root}
 use Rattle.lb_static.specs.InstanceRows.{HasUsed, HasRows}
 use Rattle.lb_static.proofs.InstanceCallers.{callers_none}
 use Rattle.lb_static.proofs.InstanceRows.{rows_grown, rows_more, used_more, are_instances}

@@ -15,7 +15,7 @@ pub check_constants-requires-clause-resolved : goal.check_constants-requires-cla
 check_constants-requires-clause-resolved c =
     let s = view_source c.args.source.now in
     subst (All (IsResolved (map (λ n. n.name) s.nodes))) (sym c.deref.ensures.value)
-    c.in_ok-reached.ensures.reached.resolved
+    c.in_ok-reached.ensures.1.resolved
 
 pub check_constants-requires-clause-named : goal.check_constants-requires-clause-named
 check_constants-requires-clause-named c =
@@ -23,11 +23,11 @@ check_constants-requires-clause-named c =
     let P = program_of c.args.source.now c.args.node.now
     (option_map (λ o. o.now) c.args.observer) in
     subst (λ l. list_all (λ r. named_in s (node_of r)) l ≡ true) (sym c.deref.ensures.value)
-    (nodes_named P c.in_ok-reached.reached c.in_ok-reached.ensures.reached
-    c.in_ok-reached.ensures.named)
+    (nodes_named P c.in_ok-reached.reached c.in_ok-reached.ensures.1
+    c.in_ok-reached.ensures.0)
 
-pub returns-in_err-check_constants-clause-err : goal.returns-in_err-check_constants-clause-err
-returns-in_err-check_constants-clause-err c =
+pub returns-in_err-check_constants : goal.returns-in_err-check_constants
+returns-in_err-check_constants c =
     let p = err_from_is_err_and c.from_residual-in_err-check_constants.result
     c.from_residual-in_err-check_constants.ensures.1 in
     let s = view_source c.args.source.now in
@@ -36,15 +36,17 @@ returns-in_err-check_constants-clause-err c =
     let e = c.in_err-check_constants.field-0.0 in
     let fault = subst (λ l. IsNameFault e (keeps_constants_of s l)) c.deref.ensures.value
     c.in_err-check_constants.ensures.err in
-    rw (p.1, p.2) (fault_constants P c.in_ok-reached.reached c.in_ok-reached.ensures.reached e
+    rw (p.1, p.2) (fault_constants P c.in_ok-reached.reached c.in_ok-reached.ensures.1 e
     fault)
 
-pub returns-clause-names : goal.returns-clause-names
-returns-clause-names c =
+pub returns : goal.returns
+returns c =
     let s = view_source c.args.source.now in
     let P = program_of c.args.source.now c.args.node.now
     (option_map (λ o. o.now) c.args.observer) in
     let kept = subst (λ l. keeps_constants_of s l ≡ true) c.deref.ensures.value
-    c.in_ok-check_constants.ensures.ok in
-    names_kept P c.in_ok-reached.reached c.in_ok-reached.ensures.reached c.requires.once
-    c.in_ok-reached.ensures.named kept
+    c.in_ok-check_constants.ensures.ok in (
+      names_kept P c.in_ok-reached.reached c.in_ok-reached.ensures.1 c.requires.once
+          c.in_ok-reached.ensures.0 kept,
+      c.in_ok-reached.ensures.1,
+    )

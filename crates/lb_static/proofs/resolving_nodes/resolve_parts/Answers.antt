@@ -3,10 +3,13 @@ use Rattle.std.proofs.Common.{◌≡◌, true, map, refl, ap, sym, subst, ◌∙
 use Rattle.std.specs.List.{list_all}
 use Rattle.std.proofs.lemmas.Result.{err_from_is_err_and}
 use Rattle.lb_syntax.specs.SourceView.{view_groups, view_node, view_statement}
-use Rattle.lb_static.specs.NodeProgress.{after_groups, after_statements, statement_fits, StatementsStand}
+use Rattle.lb_static.specs.NodeProgress.{after_groups, after_statements, statement_fits}
+use Rattle.lb_static.specs.NodeProgress.{StatementsStand}
 use Rattle.lb_static.specs.Progressed.{progress}
-use Rattle.lb_static.proofs.FinishedNodes.{groups_after, groups_fit, groups_refused, body_refused, inputs_counted, outputs_counted}
-use Rattle.lb_static.proofs.NamedNodes.{all_fit, inputs_fault, outputs_fault, locals_fault, body_fault}
+use Rattle.lb_static.proofs.FinishedNodes.{groups_after, groups_fit, groups_refused, body_refused}
+use Rattle.lb_static.proofs.FinishedNodes.{inputs_counted, outputs_counted}
+use Rattle.lb_static.proofs.NamedNodes.{all_fit, inputs_fault, outputs_fault, locals_fault}
+use Rattle.lb_static.proofs.NamedNodes.{body_fault}
 use Rattle.lb_static.proofs.resolving_nodes.resolve_parts.Goals as goal
 
 pub returns-in_err-resolve_groups-clause-err : goal.returns-in_err-resolve_groups-clause-err

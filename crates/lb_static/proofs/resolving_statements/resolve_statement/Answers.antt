@@ -7,7 +7,8 @@ use Rattle.lb_syntax.specs.Tree.{Name}
 use Rattle.lb_syntax.specs.View.{view}
 use Rattle.lb_static.specs.NameFaults.{IsNameFault}
 use Rattle.lb_static.specs.Names.{is_variable}
-use Rattle.lb_static.specs.NodeProgress.{Progress, ResolvesTerm, ResolvesStatement, texts, counts_in, program_of, expr_passes}
+use Rattle.lb_static.specs.NodeProgress.{Progress, ResolvesTerm, ResolvesStatement, texts}
+use Rattle.lb_static.specs.NodeProgress.{counts_in, program_of, expr_passes}
 use Rattle.lb_static.specs.Parts.{variable_names}
 use Rattle.lb_static.specs.Progressed.{progress}
 use Rattle.lb_static.specs.ResolvedTerms.{name_at, is_variable as is_place}

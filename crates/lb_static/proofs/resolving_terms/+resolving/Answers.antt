@@ -1,5 +1,6 @@
 -- What stands for an expression whose parts are resolved, and which faults of parts are its own.
-use Rattle.std.proofs.Common.{◌≡◌, ◌+◌, Bool, Ok, refl, Vec, Global, Option, None, Some, List, map, take, ap, sym, subst, ◌∙◌}
+use Rattle.std.proofs.Common.{◌≡◌, ◌+◌, Bool, Ok, refl, Vec, Global, Option, None, Some, List, map}
+use Rattle.std.proofs.Common.{take, ap, sym, subst, ◌∙◌}
 use Rattle.std.proofs.lemmas.Result.{err_from_is_err_and}
 use Rattle.std.specs.Prelude.{◌&&◌, Box, Err, IsErrAnd, Result, length, nat_lt}
 use Rattle.lb_syntax.specs.Tree as tree
@@ -10,7 +11,8 @@ use Rattle.lb_syntax.specs.declared.tree.Expr.{Expr}
 use Rattle.lb_syntax.specs.declared.tree.ArrayIterator.{ArrayIterator}
 use Rattle.lb_syntax.specs.declared.tree.Operator.{Operator}
 use Rattle.lb_syntax.specs.declared.tree.Static.{Static}
-use Rattle.lb_static.specs.NodeProgress.{Progress, texts, grown, expr_passes, exprs_pass, static_fits, program_of, ResolvesCall, ResolvesTerm}
+use Rattle.lb_static.specs.NodeProgress.{Progress, texts, grown, expr_passes, exprs_pass}
+use Rattle.lb_static.specs.NodeProgress.{static_fits, program_of, ResolvesCall, ResolvesTerm}
 use Rattle.lb_static.specs.ResolvedTerms.{expr_of, name_at, static_at}
 use Rattle.lb_static.specs.StaticParts.{Part}
 use Rattle.lb_static.specs.declared.resolved.CallId.{CallId}
@@ -30,7 +32,13 @@ use Rattle.lb_static.specs.declared.resolved.Term.{Term}
 use Rattle.lb_static.proofs.Faults.{fault_within}
 use Rattle.lb_static.proofs.Growth.{same_two}
 use Rattle.lb_static.proofs.Lists.{both, false_first, false_second}
-use Rattle.lb_static.proofs.Resolutions.{Done, AllDone, SoFar, site_for, call_done, size_done, sized_call_done, call_term_done, iterate_node_done, iterate_symbol_done, fault_after_call, fault_after_node, fault_after_symbol, fault_of_item, next_done, two_done, three_done, view_iterate, static_done, statics_done, array_done, at_most_one_done, nor_done, array_fault, at_most_one_fault, nor_fault}
+use Rattle.lb_static.proofs.Resolutions.{Done, AllDone, SoFar, site_for, call_done, size_done}
+use Rattle.lb_static.proofs.Resolutions.{sized_call_done, call_term_done, iterate_node_done}
+use Rattle.lb_static.proofs.Resolutions.{iterate_symbol_done, fault_after_call, fault_after_node}
+use Rattle.lb_static.proofs.Resolutions.{fault_after_symbol, fault_of_item, next_done, two_done}
+use Rattle.lb_static.proofs.Resolutions.{three_done, view_iterate, static_done, statics_done}
+use Rattle.lb_static.proofs.Resolutions.{array_done, at_most_one_done, nor_done, array_fault}
+use Rattle.lb_static.proofs.Resolutions.{at_most_one_fault, nor_fault}
 use Rattle.lb_static.proofs.resolving_terms.+resolving.Goals as goal
 
 -- what is known of a box, of the expression in it

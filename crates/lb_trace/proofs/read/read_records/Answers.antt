@@ -7,7 +7,9 @@ use Rattle.lb_trace.specs.Mirrors.{RowsFollow}
 use Rattle.lb_trace.specs.Refusals.{outcome}
 use Rattle.lb_trace.specs.Spelling.{after_first}
 use Rattle.lb_trace.proofs.Outcomes.{outcome-long, sound_text}
-use Rattle.lb_trace.proofs.Readings.{added, lawful_rows, no_header, only, other_header, progress-end, progress-more, progress-start, refused, refused_record, rows_follow}
+use Rattle.lb_trace.proofs.Readings.{added, lawful_rows, no_header, only, other_header}
+use Rattle.lb_trace.proofs.Readings.{progress-end, progress-more, progress-start, refused}
+use Rattle.lb_trace.proofs.Readings.{refused_record, rows_follow}
 use Rattle.lb_trace.proofs.read.read_records.Goals as goal
 
 pub returns-then-text-gt-MOST_BYTES-clause-refused :

@@ -1,5 +1,6 @@
 -- A lawful name is text, and one that is new is added.
-use Rattle.std.proofs.Common.{◌≡◌, ◌||◌, not, true, false, Bool, sym, ap, ◌∙◌, refl, cond, string_bytes}
+use Rattle.std.proofs.Common.{◌≡◌, ◌||◌, not, true, false, Bool, sym, ap, ◌∙◌, refl, cond}
+use Rattle.std.proofs.Common.{string_bytes}
 use Rattle.std.specs.Str.{bytes_eq}
 use Rattle.std.specs.HashSet.{contains_text}
 use Rattle.std.proofs.lemmas.Bool.{false_from_ne_true}

@@ -1,5 +1,6 @@
 -- One more cell is one more value of the row.
-use Rattle.std.proofs.Common.{◌≡◌, ℕ, ◌+◌, ◌<◌, List, [], ◌∷◌, ◌++◌, length, get_or, drop, Option, Some, None, ℤ, refl, sym, ap, ◌∙◌, append_assoc, add-one, rules}
+use Rattle.std.proofs.Common.{◌≡◌, ℕ, ◌+◌, ◌<◌, List, [], ◌∷◌, ◌++◌, length, get_or, drop, Option}
+use Rattle.std.proofs.Common.{Some, None, ℤ, refl, sym, ap, ◌∙◌, append_assoc, add-one, rules}
 use Rattle.std.proofs.Math.Seq.{drop-cons}
 use Rattle.std.specs.Option.{option_and_then, option_map}
 use Rattle.csv.specs.Records.{fields_of}

@@ -1,8 +1,10 @@
-use Rattle.lb_check.proofs.Numbers.{number_is, number_of}
+use Rattle.lb_check.proofs.AcceptedNumbers.{numbers_walk, numbers_width, number_is, number_of}
 use Rattle.lb_worked.proofs.numbers.numbers_and_places.Goals as goal
 
 pub returns : goal.returns
 returns c = record {
-  number = λ P distinct i x e. number_is P distinct i x e;
-  place = λ P distinct p x k i e. number_of P distinct p x k i e;
+  number = λ P accepted i x e. number_is P accepted i x e;
+  place = λ P accepted p x k i e. number_of P accepted p x k i e;
+  in_order = λ P accepted. numbers_walk P accepted;
+  as_wide = λ P accepted here i. numbers_width P accepted here i;
 }

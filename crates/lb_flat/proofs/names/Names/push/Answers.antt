@@ -1,5 +1,6 @@
 -- The text has grown by the name, and the places by its end.
-use Rattle.std.proofs.Common.{rules, arith, ◌≡◌, ◌<◌, ◌≤◌, ◌++◌, ◌∷◌, [], length, is_ok, true, length-append, ◌+◌, ap, ◌∙◌}
+use Rattle.std.proofs.Common.{rules, arith, ◌≡◌, ◌<◌, ◌≤◌, ◌++◌, ◌∷◌, [], length, is_ok, true}
+use Rattle.std.proofs.Common.{length-append, ◌+◌, ap, ◌∙◌}
 use Rattle.std.specs.Prelude.{string_bytes}
 use Rattle.std.specs.List.{slice_range}
 use Rattle.lb_flat.specs.Ledger.{cut}

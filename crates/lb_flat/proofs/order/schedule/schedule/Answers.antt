@@ -1,5 +1,6 @@
 use Rattle.std.proofs.Common.{subst, sym, ◌∙◌, set, true, arith}
 use Rattle.lb_flat.specs.Ordering.{IsScheduled}
+use Rattle.lb_flat.proofs.Awaiting.{found_none}
 use Rattle.lb_flat.proofs.Ordering.{schedules, left-set}
 use Rattle.lb_flat.proofs.order.schedule.schedule.Goals as goal
 
@@ -9,7 +10,8 @@ returns-clause-state c =
     (IsScheduled c.args.clocks.now c.args.table.now (set c.args.done.now c.args.e true))
     (sym c.in_ok-push.ensures.items)
     (schedules _ _ _ _ _ _ c.requires.table c.requires.state c.in-Some.is c.requires.element
-    c.if-done-e.false (sym c.is_ready.ensures ∙ c.if-not-is_ready.false))
+    c.if-done-e.false
+    (found_none _ _ c.awaited.ensures (sym c.is_some.ensures ∙ c.if-is_some.false)))
 
 pub returns-clause-scheduled : goal.returns-clause-scheduled
 returns-clause-scheduled c _ =

@@ -4,7 +4,8 @@ use Rattle.std.proofs.lemmas.Result.{err_from_is_err_and}
 use Rattle.lb_static.specs.declared.resolved.Term as form
 use Rattle.lb_flat.specs.declared.plain.term.Term as term
 use Rattle.lb_flat.specs.UnsupportedForms.{has_plain_forms, IsPlainOf, ArePlainOf, IsUnsupported}
-use Rattle.lb_flat.proofs.PlainTranslation.{at_most_one_of, boxed_translates, later_at_most_one, later_nor, later_third, more_of, nor_of}
+use Rattle.lb_flat.proofs.PlainTranslation.{at_most_one_of, boxed_translates, later_at_most_one}
+use Rattle.lb_flat.proofs.PlainTranslation.{later_nor, later_third, more_of, nor_of}
 use Rattle.lb_flat.proofs.plain.terms.+plain_term.Goals as goal
 
 pub plain_term-returns-in_err-plain_term-in-If : goal.plain_term-returns-in_err-plain_term-in-If

@@ -3,7 +3,9 @@ use Rattle.std.proofs.Common.{◌≡◌, arith, ap, ◌∙◌, length}
 use Rattle.std.specs.Prelude.{not, nat_eq, is_some, ◌||◌, ◌&&◌}
 use Rattle.lb_flat.proofs.ScalarGroups.{scalar_group}
 use Rattle.lb_flat.proofs.plain.variables.has_unsupported_form.Goals as goal
-use Rattle.lb_flat.proofs.plain.variables.has_unsupported_form.Goals.{then-is_empty, else-is_empty+then-is_empty-2, else-is_empty+else-is_empty-2}
+use Rattle.lb_flat.proofs.plain.variables.has_unsupported_form.Goals.{then-is_empty}
+use Rattle.lb_flat.proofs.plain.variables.has_unsupported_form.Goals.{else-is_empty+then-is_empty-2}
+use Rattle.lb_flat.proofs.plain.variables.has_unsupported_form.Goals.{else-is_empty+else-is_empty-2}
 
 pub returns : goal.returns
 returns c =

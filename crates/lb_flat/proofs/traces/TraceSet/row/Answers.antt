@@ -1,5 +1,6 @@
 -- The row lies within all cells.
-use Rattle.std.proofs.Common.{arith, ◌≡◌, ℕ, ◌+◌, ◌-◌, ◌*◌, ℤ, List, [], length, get_or, take, drop, ap, ◌∙◌, subst}
+use Rattle.std.proofs.Common.{arith, ◌≡◌, ℕ, ◌+◌, ◌-◌, ◌*◌, ℤ, List, [], length, get_or, take, drop}
+use Rattle.std.proofs.Common.{ap, ◌∙◌, subst}
 use Rattle.lb_flat.specs.Traces.{trace_at, IsRecording}
 use Rattle.lb_flat.proofs.RowsFound.{finds_row, FindsRow, row_follows}
 use Rattle.lb_flat.proofs.Storing.{count_of, length-row}

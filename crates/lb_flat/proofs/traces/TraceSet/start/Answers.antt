@@ -1,5 +1,6 @@
 -- The names, the cells and the places have grown by one trace of one row.
-use Rattle.std.proofs.Common.{arith, rules, ◌≡◌, ◌<◌, ◌++◌, ◌∷◌, [], length, ◌+◌, ap, ◌∙◌, sym, subst, is_ok, true}
+use Rattle.std.proofs.Common.{arith, rules, ◌≡◌, ◌<◌, ◌++◌, ◌∷◌, [], length, ◌+◌, ap, ◌∙◌, sym}
+use Rattle.std.proofs.Common.{subst, is_ok, true}
 use Rattle.lb_flat.specs.Traces.{Recording}
 use Rattle.lb_flat.specs.Ledger.{last_place}
 use Rattle.lb_flat.proofs.Ledgers.{read_last}

@@ -1,10 +1,12 @@
 -- A key that is not there goes last, with its specialization.
-use Rattle.std.proofs.Common.{◌≡◌, ◌∙◌, sym, ap, refl, subst, ◌∷◌, ◌++◌, [], None, map, length, ◌+◌, ◌<◌, arith, inl, inr}
+use Rattle.std.proofs.Common.{◌≡◌, ◌∙◌, sym, ap, refl, subst, ◌∷◌, ◌++◌, [], None, map, length, ◌+◌}
+use Rattle.std.proofs.Common.{◌<◌, arith, inl, inr}
 use Rattle.std.proofs.lemmas.List.{length-map, length-append}
 use Rattle.indexmap.specs.IndexMap.{keys}
 use Rattle.lb_static.specs.KeyedSpecializations.{AreKeyed, IsUnknown}
 use Rattle.lb_static.specs.Instantiated.{IsKnown}
-use Rattle.lb_static.proofs.KeyedSpecializations.{key_eq, known_at, unknown, added, added_view, keyed_more}
+use Rattle.lb_static.proofs.KeyedSpecializations.{key_eq, known_at, unknown, added, added_view}
+use Rattle.lb_static.proofs.KeyedSpecializations.{keyed_more}
 use Rattle.lb_static.proofs.NodeScopes.{past_all}
 use Rattle.lb_static.proofs.specializations.Specializations.add.Goals as goal
 

@@ -1,5 +1,6 @@
 -- One more place has its turn.
-use Rattle.std.proofs.Common.{◌≡◌, ◌<◌, ◌++◌, ◌∷◌, [], Some, length, set, refl, ap, ◌∙◌, sym, subst, rules}
+use Rattle.std.proofs.Common.{◌≡◌, ◌<◌, ◌++◌, ◌∷◌, [], Some, length, set, refl, ap, ◌∙◌, sym, subst}
+use Rattle.std.proofs.Common.{rules}
 use Rattle.std.specs.Prelude.{slice_get}
 use Rattle.std.proofs.lemmas.Option.{slice_get_read}
 use Rattle.lb_static.specs.WorkLists.{HasTurns, visited_after}

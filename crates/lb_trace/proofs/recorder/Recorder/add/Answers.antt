@@ -7,7 +7,8 @@ use Rattle.lb_flat.specs.Traces.{Recording}
 use Rattle.lb_trace.specs.Mirrors.{go_on_by, record_by, row_by, start_by}
 use Rattle.lb_trace.specs.Refusals.{is_last}
 use Rattle.lb_trace.specs.Spelling.{after_first}
-use Rattle.lb_trace.proofs.Additions.{go_on_by-names, record_by-last, record_by-none, record_by-other}
+use Rattle.lb_trace.proofs.Additions.{go_on_by-names, record_by-last, record_by-none}
+use Rattle.lb_trace.proofs.Additions.{record_by-other}
 use Rattle.lb_trace.proofs.recorder.Recorder.add.Goals as goal
 
 pub returns-in_default-clause-err : goal.returns-in_default-clause-err

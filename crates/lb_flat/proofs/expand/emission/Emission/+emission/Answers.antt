@@ -1,7 +1,11 @@
 use Rattle.lb_flat.specs.Emissions.{state_of, found_of, emitted_of}
 use Rattle.std.proofs.Common.{◌≡◌, ◌<◌, ◌+◌, ◌*◌, true, rules, arith, inl, inr, ap}
-use Rattle.lb_flat.specs.declared.plain.term.Term.TheViews.{sized-AtMostOne, sized-Nor, sized-Binary, sized-Arrow, sized-Fby, sized-If}
-use Rattle.lb_flat.proofs.TermRows.{emit_single_is, emit_pair_is, emit_if_is, emit_all_is, within_of_row, room_of_row, pair_size, if_size, second_within, branches_within, later_within}
+use Rattle.lb_flat.specs.declared.plain.term.Term.TheViews.{sized-AtMostOne, sized-Nor}
+use Rattle.lb_flat.specs.declared.plain.term.Term.TheViews.{sized-Binary, sized-Arrow, sized-Fby}
+use Rattle.lb_flat.specs.declared.plain.term.Term.TheViews.{sized-If}
+use Rattle.lb_flat.proofs.TermRows.{emit_single_is, emit_pair_is, emit_if_is, emit_all_is}
+use Rattle.lb_flat.proofs.TermRows.{within_of_row, room_of_row, pair_size, if_size, second_within}
+use Rattle.lb_flat.proofs.TermRows.{branches_within, later_within}
 use Rattle.lb_flat.proofs.Emitting.{emits, list_step, elements_push}
 use Rattle.lb_flat.specs.PlainNodes.{is_within}
 use Rattle.lb_flat.proofs.TypeFacts.{and_first, and_second}

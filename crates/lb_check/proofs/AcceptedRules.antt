@@ -1,0 +1,82 @@
+-- What the rules of an accepted program say of each of its instances.
+use Rattle.std.proofs.Common.{◌≡◌, ℕ, suc, Bool, true, Option, Some, None, List, [], ◌∷◌}
+use Rattle.std.specs.List.{list_all}
+use Rattle.lb_syntax.specs.Lists.{Every, In}
+use Rattle.lb_syntax.specs.Refusals.{E5, E6, E9, E10, E11, E12, unless}
+use Rattle.lb_static.specs.Instances.{Program, Instance, instances}
+use Rattle.lb_static.specs.Instantiation.{static_refusal, has_values, is_in_range, may_enter}
+use Rattle.lb_static.specs.Instantiation.{instance_refusal, instantiation_refusal}
+use Rattle.lb_check.specs.Acceptance.{check_refusal}
+use Rattle.lb_check.specs.ClockRules.{is_clocked}
+use Rattle.lb_check.specs.DefinitionRules.{is_defined}
+use Rattle.lb_check.specs.TypeRules.{is_typed}
+use Rattle.lb_check.proofs.ApartLists.{Every-at}
+use Rattle.lb_check.proofs.Checks.{first_none, second_none, kept, instantiation_kept}
+use Rattle.lb_check.proofs.Every.{Every-tested}
+
+-- the static values of an instance are there, and are in range
+pub record IsValued (P : Program) (here : Instance) : Type 0 where
+  pub values : has_values P here ≡ true
+  pub in_range : is_in_range P here ≡ true
+
+all_valued :
+    (P : Program) (n : ℕ) (is : List Instance) → instantiation_refusal P n is ≡ None →
+    Every (IsValued P) is
+all_valued P n [] e = tt
+all_valued P n (c ∷ is) e =
+    let here = first_none (instance_refusal P n c) _ e in
+    let later = second_none (unless (may_enter P n c) E12) _ here in (
+      record {
+        values = kept (has_values P c) E5 (first_none _ _ later);
+        in_range =
+            kept (is_in_range P c) E6 (second_none (unless (has_values P c) E5) _ later);
+      },
+      all_valued P (suc n) is (second_none (instance_refusal P n c) _ e),
+    )
+
+-- the static values of each instance of an accepted program are there, and are in range
+pub valued :
+    (P : Program) → static_refusal P ≡ None → (here : Instance) → In here (instances P) →
+    IsValued P here
+valued P accepted here i =
+    Every-at (IsValued P) (instances P) here
+    (all_valued P 0 (instances P) (instantiation_kept P accepted)) i
+
+module _ (P : Program) (checked : check_refusal P ≡ None) where
+  abbrev clocks : Instance → Bool
+  clocks here = is_clocked P here.node
+
+  abbrev definitions : Instance → Bool
+  definitions here = is_defined P here.node
+
+  -- each instance keeps the rules of types
+  pub all_typed : Every (λ here. is_typed P here ≡ true) (instances P)
+  all_typed =
+      Every-tested (is_typed P) (instances P)
+      (kept (list_all (is_typed P) (instances P)) E9 (first_none _ _ checked))
+
+  -- each node of an instance keeps the rules of clocks
+  pub all_clocked : Every (λ here. is_clocked P here.node ≡ true) (instances P)
+  all_clocked =
+      let later = second_none (unless (list_all (is_typed P) (instances P)) E9) _ checked in
+      Every-tested clocks (instances P)
+      (kept (list_all clocks (instances P)) E10 (first_none _ _ later))
+
+  -- and those of definitions
+  pub all_defined : Every (λ here. is_defined P here.node ≡ true) (instances P)
+  all_defined =
+      let later = second_none (unless (list_all (is_typed P) (instances P)) E9) _ checked in
+      Every-tested definitions (instances P)
+      (kept (list_all definitions (instances P)) E11
+      (second_none (unless (list_all clocks (instances P)) E10) _ later))
+
+  pub typed : (here : Instance) → In here (instances P) → is_typed P here ≡ true
+  typed here i = Every-at (λ here. is_typed P here ≡ true) (instances P) here all_typed i
+
+  pub clocked : (here : Instance) → In here (instances P) → is_clocked P here.node ≡ true
+  clocked here i =
+      Every-at (λ here. is_clocked P here.node ≡ true) (instances P) here all_clocked i
+
+  pub defined : (here : Instance) → In here (instances P) → is_defined P here.node ≡ true
+  defined here i =
+      Every-at (λ here. is_defined P here.node ≡ true) (instances P) here all_defined i

@@ -1,0 +1,67 @@
+-- Two lists of clocks that are the same, and the places of the inputs and outputs of a node.
+use Rattle.std.proofs.Common.{◌≡◌, ℕ, zero, suc, ◌+◌, ◌-◌, ◌<◌, ◌≤◌, ◌⊎◌, inl, inr, Bool, true}
+use Rattle.std.proofs.Common.{false, List, [], ◌∷◌, length, Some, refl, ap, sym, ◌∙◌, arith}
+use Rattle.std.specs.Prelude.{slice_get, nat_lt}
+use Rattle.std.proofs.lemmas.Bool.Decides.{nat_tests}
+use Rattle.lb_check.specs.ClockRules.{is_clock, are_clocks}
+use Rattle.lb_check.specs.Clocks as tree
+use Rattle.lb_check.proofs.TruthValues.{and_first, and_second, both_true}
+
+-- ## Clocks of two lists
+
+-- they are as many
+pub clocks_length : (ks ls : List tree.Clock) → are_clocks ks ls ≡ true → length ks ≡ length ls
+clocks_length [] [] e = refl
+clocks_length [] (l ∷ ls) e = absurd cc
+clocks_length (k ∷ ks) [] e = absurd cc
+clocks_length (k ∷ ks) (l ∷ ls) e = ap suc (clocks_length ks ls (and_second (is_clock k l) _ e))
+
+-- those at one place are the same
+pub clocks_at : (ks ls : List tree.Clock) (j : ℕ) (k l : tree.Clock) → are_clocks ks ls ≡ true →
+    slice_get ks j ≡ Some k → slice_get ls j ≡ Some l → is_clock k l ≡ true
+clocks_at [] ls j k l e p q = absurd cc
+clocks_at (x ∷ ks) [] j k l e p q = absurd cc
+clocks_at (x ∷ ks) (y ∷ ls) zero k l e p q =
+    let s : x ≡ k = cc in
+    let t : y ≡ l = cc in
+    sym (ap (λ z. is_clock z y) s ∙ ap (is_clock k) t) ∙ and_first (is_clock x y) _ e
+clocks_at (x ∷ ks) (y ∷ ls) (suc j) k l e p q =
+    clocks_at ks ls j k l (and_second (is_clock x y) _ e) p q
+
+-- lists as long as each other are the same where each of them is
+pub clocks_from : (ks ls : List tree.Clock) → length ks ≡ length ls
+    → ((j : ℕ) (k l : tree.Clock) → slice_get ks j ≡ Some k → slice_get ls j ≡ Some l →
+    is_clock k l ≡ true) → are_clocks ks ls ≡ true
+clocks_from [] [] e h = refl
+clocks_from [] (l ∷ ls) e h = absurd (omega (arith, e))
+clocks_from (k ∷ ks) [] e h = absurd (omega (arith, e))
+clocks_from (k ∷ ks) (l ∷ ls) e h =
+    both_true (is_clock k l) (are_clocks ks ls) (h 0 k l refl refl)
+    (clocks_from ks ls (omega (arith, e)) (λ j x y p q. h (suc j) x y p q))
+
+-- a list without items
+pub nil_of : {A : Type 0} (xs : List A) → length xs ≡ 0 → xs ≡ []
+nil_of [] e = refl
+nil_of (x ∷ xs) e = absurd (omega (arith, e))
+
+-- ## Places of inputs, and of outputs
+
+-- a parameter is an input or an output
+pub place_split : (i m n : ℕ) → i < m + n → (i < m) ⊎ ((j : ℕ) × (i ≡ m + j) × (j < n))
+place_split i m n lt = by (nat_lt i m) refl
+  where
+    by : (b : Bool) → nat_lt i m ≡ b → (i < m) ⊎ ((j : ℕ) × (i ≡ m + j) × (j < n))
+    by true less = inl (grind (arith, nat_tests))
+    by false more =
+        let low : m ≤ i = grind (arith, nat_tests) in
+        inr (i - m, omega arith, omega arith)
+
+-- tests of places, as the code makes them
+pub small_place : (i m : ℕ) → i < m → nat_lt i m ≡ true
+small_place i m lt = grind (arith, nat_tests)
+
+pub later_place : (m j : ℕ) → nat_lt (m + j) m ≡ false
+later_place m j = grind (arith, nat_tests)
+
+pub less_place : (m j : ℕ) → m + j - m ≡ j
+less_place m j = omega arith

@@ -1,0 +1,95 @@
+-- What holds of the starts of a program, and passes from an instance to those of each call in its
+-- text, holds of all its instances.
+use Rattle.std.proofs.Common.{◌≡◌, ℕ, zero, suc, ◌+◌, ◌<◌, true, Option, Some, None, refl, sym}
+use Rattle.std.proofs.Common.{subst, arith}
+use Rattle.std.specs.Prelude.{IfSome}
+use Rattle.std.specs.List.{range_with_len}
+use Rattle.lb_syntax.specs.Lists.{Every, In, either_or, listed}
+use Rattle.lb_static.specs.Instances.{Program, Instance, Root, Observer, Site, node_sites}
+use Rattle.lb_static.specs.Instances.{numbered_sites, instance_count, callee_of, instance_at}
+use Rattle.lb_static.specs.Instances.{site_instances, children, instances_from, instances}
+use Rattle.lb_check.specs.Occurrences.{Occurrence, node_occurrences}
+use Rattle.lb_check.specs.TypeRules.{is_typed}
+use Rattle.lb_check.proofs.Every.{Every-map, Every-both, Every-append, Every-first, Every-second}
+use Rattle.lb_check.proofs.Every.{Every-piece, Every-of_pieces, Every-found, Every-of_range}
+use Rattle.lb_check.proofs.NamedClocks.{if_some}
+use Rattle.lb_check.proofs.OccurrenceSites.{own_site}
+use Rattle.lb_check.proofs.CallOccurrences.{HasCall, node_calls_stand}
+
+module _ (P : Program) (Q : Instance → Type 0) where
+  -- it passes from an instance to the instances of each call in its text
+  abbrev pub Passes : Instance → Type 0
+  Passes here =
+      (o : Occurrence) (s : Site) (i : ℕ) (c : Instance) → In o (node_occurrences P here.node) →
+      own_site o.expr ≡ Some s → i < either_or (instance_count P here s.count) 0 →
+      callee_of P here s o.calls_before i ≡ Some c → Q c
+
+  site_have :
+      (here : Instance) → Passes here → (s : ℕ × Site) →
+      HasCall (node_occurrences P here.node) s → Every Q (site_instances P here s)
+  site_have here passes s call =
+      Every-found Q (callee_of P here s.1 s.0)
+      (listed (range_with_len 0) (instance_count P here s.1.count))
+      (by (instance_count P here s.1.count) refl)
+    where
+      one : (i : ℕ) → i < either_or (instance_count P here s.1.count) 0 → (c : Instance) →
+          callee_of P here s.1 s.0 i ≡ Some c → Q c
+      one i lt c gives =
+          passes call.occurrence s.1 i c call.stands call.site lt
+          (subst (λ n. callee_of P here s.1 n i ≡ Some c) (sym call.number) gives)
+
+      by : (n : Option ℕ) → instance_count P here s.1.count ≡ n →
+          Every (λ i. IfSome (callee_of P here s.1 s.0 i) Q) (listed (range_with_len 0) n)
+      by None is = tt
+      by (Some m) is =
+          Every-of_range (λ i. IfSome (callee_of P here s.1 s.0 i) Q) 0 m
+          (λ i lt.
+          let none : i ≡ 0 + i = omega arith in
+          let within : i < either_or (instance_count P here s.1.count) 0 =
+          subst (λ n. i < either_or n 0) (sym is) lt in
+          subst (λ i. IfSome (callee_of P here s.1 s.0 i) Q) none
+          (if_some Q (callee_of P here s.1 s.0 i) (λ c e. one i within c e)))
+
+  children_have :
+      (here : Instance) → is_typed P here ≡ true → Passes here → Every Q (children P here)
+  children_have here typed passes =
+      Every-of_pieces Q (site_instances P here) (numbered_sites 0 (node_sites here.node))
+      (Every-map (HasCall (node_occurrences P here.node))
+      (λ s. Every Q (site_instances P here s)) (site_have here passes)
+      (numbered_sites 0 (node_sites here.node)) (node_calls_stand P here typed))
+
+  -- an instance keeps the rules of types, and passes it on where it holds
+  abbrev pub IsPassed : Instance → Type 0
+  IsPassed c = (is_typed P c ≡ true) × (Q c → Passes c)
+
+  all_from : (n : ℕ) (c : Instance) → Every IsPassed (instances_from P n c) → Q c →
+      Every Q (instances_from P n c)
+  all_from zero c passed q = tt
+  all_from (suc n) c passed q = (
+    q,
+    Every-of_pieces Q (instances_from P n) (children P c)
+        (Every-map _ (λ d. Every Q (instances_from P n d)) (λ d z. all_from n d z.0 z.1)
+        (children P c)
+        (Every-both (λ d. Every IsPassed (instances_from P n d)) Q (children P c)
+        (Every-piece IsPassed (instances_from P n) (children P c) passed.1)
+        (children_have c passed.0.0 (passed.0.1 q)))),
+  )
+
+  from_start :
+      (o : Option Instance) → ((c : Instance) → o ≡ Some c → Q c) →
+      Every IsPassed (listed (instances_from P 65) o) →
+      Every Q (listed (instances_from P 65) o)
+  from_start None top passed = tt
+  from_start (Some c) top passed = all_from 65 c passed (top c refl)
+
+  -- so it holds of all
+  pub inherited :
+      Every IsPassed (instances P) → ((c : Instance) → instance_at P Root ≡ Some c → Q c) →
+      ((c : Instance) → instance_at P Observer ≡ Some c → Q c) → Every Q (instances P)
+  inherited passed root observer =
+      let of_root = listed (instances_from P 65) (instance_at P Root) in
+      let of_observer = listed (instances_from P 65) (instance_at P Observer) in
+      Every-append Q of_root of_observer
+      (from_start (instance_at P Root) root (Every-first IsPassed of_root of_observer passed))
+      (from_start (instance_at P Observer) observer
+      (Every-second IsPassed of_root of_observer passed))

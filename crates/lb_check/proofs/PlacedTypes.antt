@@ -1,0 +1,205 @@
+-- The types that the code finds of the parts of a term are those of the parts of its text.
+use Rattle.std.proofs.Common.{◌≡◌, Bool, true, List, [], ◌∷◌, ◌++◌, map, flat_map, Option, Some}
+use Rattle.std.proofs.Common.{None, refl, ap, ap₂, sym, ◌∙◌, subst}
+use Rattle.std.specs.Prelude.{◌&&◌}
+use Rattle.std.specs.List.{list_all}
+use Rattle.std.proofs.lemmas.List.{map-append}
+use mathlib.Core.Former.{Count}
+use Rattle.lb_syntax.specs.Tree as tree
+use Rattle.lb_syntax.specs.Tree.{Expr, Exprs, Static}
+use Rattle.lb_static.specs.DataTypes.{DataType}
+use Rattle.lb_static.specs.Instances.{Program, Instance}
+use Rattle.lb_static.specs.Parts.{node_parts, parts, parts_in, right_side}
+use Rattle.lb_static.specs.ResolvedTerms.{Texts, Counts, expr_of, row_of, named_value, static_at}
+use Rattle.lb_static.specs.ResolvedTerms.{statement_of, is_variable, is_static, is_call, is_within}
+use Rattle.lb_static.specs.ResolvedTerms.{are_within, is_unhidden, are_unhidden}
+use Rattle.lb_static.specs.ResolvedTerms.{is_statement_within, is_statement_unhidden}
+use Rattle.lb_static.specs.declared.resolved.ResolvedNode.{ResolvedNode}
+use Rattle.lb_static.specs.declared.resolved.ResolvedStatement.{ResolvedStatement}
+use Rattle.lb_static.specs.declared.resolved.ResolvedStatement.TheVariants as statement
+use Rattle.lb_static.specs.declared.resolved.Term.{Term, Literal, Truth, Variable, Value, Group'}
+use Rattle.lb_static.specs.declared.resolved.Term.{Unary', Binary', If', Arrow', Fby', Pre'}
+use Rattle.lb_static.specs.declared.resolved.Term.{Current', When', Replicate', Index', Slice'}
+use Rattle.lb_static.specs.declared.resolved.Term.{Join', Array', AtMostOne', Nor', Call'}
+use Rattle.lb_static.specs.declared.resolved.Term.{IterateNode', IterateSymbol', Row_of-Term}
+use Rattle.lb_static.specs.declared.resolved.Term.{end_of-Term, more_of-Term}
+use Rattle.lb_check.specs.PlacedTypes.{FoundTypes, placed_types, placed_row_types, statement_types}
+use Rattle.lb_check.specs.TermTypes.{Context, results}
+use Rattle.lb_check.specs.Types.{data_types}
+use Rattle.lb_check.proofs.MirroredTypes.{Fits, term_results}
+use Rattle.lb_check.proofs.TruthValues.{and_first, and_second}
+
+module _ (P : Program) (here : Instance) (texts : Texts) (n : Counts) (ctx : Context)
+    (fits : Fits P here texts n ctx) where
+  -- the types of some expressions
+  abbrev types_of : List Expr → List FoundTypes
+  types_of es = map (data_types P here) es
+
+  abbrev Places : List FoundTypes → List Expr → Type 0
+  Places ts es = ts ≡ map (data_types P here) es
+
+  one_more : (t : Term) (ts : List FoundTypes) (es : List Expr) → is_within n t ≡ true →
+      is_unhidden texts t ≡ true → Places ts es →
+      Places (results ctx t ∷ ts) (expr_of texts t ∷ es)
+  one_more t ts es w u h =
+      ap₂ (λ (o : FoundTypes) (l : List FoundTypes). o ∷ l)
+      (sym (term_results P here texts n ctx fits t w u)) h
+
+  two_placed : (ts ts' : List FoundTypes) (es es' : List Expr) → Places ts es → Places ts' es' →
+      Places (ts ++ ts') (es ++ es')
+  two_placed ts ts' es es' h g =
+      ap₂ (λ l m. l ++ m) h g ∙ sym (map-append (data_types P here) es es')
+
+  both_placed : (a b : Term) → Places (placed_types ctx a) (parts (expr_of texts a)) →
+      Places (placed_types ctx b) (parts (expr_of texts b)) →
+      Places (placed_types ctx a ++ placed_types ctx b)
+      (parts (expr_of texts a) ++ parts (expr_of texts b))
+  both_placed a b h g =
+      two_placed (placed_types ctx a) (placed_types ctx b) (parts (expr_of texts a))
+      (parts (expr_of texts b)) h g
+
+  value_alone : (s : Static) → parts (named_value s) ≡ named_value s ∷ []
+  value_alone (tree.Named x) = refl
+  value_alone (tree.Whole m) = refl
+  value_alone (tree.Negated s) = refl
+  value_alone (tree.Combined op s t) = refl
+  value_alone (tree.Grouped s) = refl
+
+  mutual
+    unfolding placed_types
+
+    pub types_placed : (t : Term) → is_within n t ≡ true → is_unhidden texts t ≡ true →
+        placed_types ctx t ≡ map (data_types P here) (parts (expr_of texts t))
+    types_placed (Literal m) w u = one_more (Literal m) [] [] w u refl
+    types_placed (Truth b) w u = one_more (Truth b) [] [] w u refl
+    types_placed (Variable x) w u = one_more (Variable x) [] [] w u refl
+    types_placed (Value i) w u =
+        one_more (Value i) [] [] w u refl
+        ∙ ap (map (data_types P here)) (sym (value_alone (static_at texts.statics i)))
+    types_placed (Group' p e) w u = types_placed e w u
+    types_placed (Unary' op p a) w u =
+        one_more (Unary' op p a) (placed_types ctx a) (parts (expr_of texts a)) w u
+        (types_placed a w u)
+    types_placed (Binary' op p a q b) w u =
+        one_more (Binary' op p a q b) (placed_types ctx a ++ placed_types ctx b)
+        (parts (expr_of texts a) ++ parts (expr_of texts b)) w u
+        (both_placed a b
+        (types_placed a (and_first (is_within n a) (is_within n b) w)
+        (and_first (is_unhidden texts a) (is_unhidden texts b) u))
+        (types_placed b (and_second (is_within n a) (is_within n b) w)
+        (and_second (is_unhidden texts a) (is_unhidden texts b) u)))
+    types_placed (If' p c q a r b) w u =
+        let wab = and_second (is_within n c) _ w in
+        let uab = and_second (is_unhidden texts c) _ u in
+        one_more (If' p c q a r b)
+        (placed_types ctx c ++ (placed_types ctx a ++ placed_types ctx b))
+        (parts (expr_of texts c) ++ (parts (expr_of texts a) ++ parts (expr_of texts b))) w u
+        (two_placed (placed_types ctx c) (placed_types ctx a ++ placed_types ctx b)
+        (parts (expr_of texts c)) (parts (expr_of texts a) ++ parts (expr_of texts b))
+        (types_placed c (and_first (is_within n c) (is_within n a && is_within n b) w)
+        (and_first (is_unhidden texts c) (is_unhidden texts a && is_unhidden texts b) u))
+        (both_placed a b
+        (types_placed a (and_first (is_within n a) (is_within n b) wab)
+        (and_first (is_unhidden texts a) (is_unhidden texts b) uab))
+        (types_placed b (and_second (is_within n a) (is_within n b) wab)
+        (and_second (is_unhidden texts a) (is_unhidden texts b) uab))))
+    types_placed (Arrow' p a q b) w u =
+        one_more (Arrow' p a q b) (placed_types ctx a ++ placed_types ctx b)
+        (parts (expr_of texts a) ++ parts (expr_of texts b)) w u (both_placed a b
+        (types_placed a (and_first (is_within n a) (is_within n b) w)
+        (and_first (is_unhidden texts a) (is_unhidden texts b) u))
+        (types_placed b (and_second (is_within n a) (is_within n b) w)
+        (and_second (is_unhidden texts a) (is_unhidden texts b) u)))
+    types_placed (Fby' p a q b) w u =
+        one_more (Fby' p a q b) (placed_types ctx a ++ placed_types ctx b)
+        (parts (expr_of texts a) ++ parts (expr_of texts b)) w u (both_placed a b
+        (types_placed a (and_first (is_within n a) (is_within n b) w)
+        (and_first (is_unhidden texts a) (is_unhidden texts b) u))
+        (types_placed b (and_second (is_within n a) (is_within n b) w)
+        (and_second (is_unhidden texts a) (is_unhidden texts b) u)))
+    types_placed (Pre' p e) w u =
+        one_more (Pre' p e) (placed_types ctx e) (parts (expr_of texts e)) w u
+        (types_placed e w u)
+    types_placed (Current' p e) w u =
+        one_more (Current' p e) (placed_types ctx e) (parts (expr_of texts e)) w u
+        (types_placed e w u)
+    types_placed (When' p e x sign) w u =
+        one_more (When' p e x sign) (placed_types ctx e) (parts (expr_of texts e)) w u
+        (types_placed e (and_second (is_variable n x) _ w) u)
+    types_placed (Replicate' p e i) w u =
+        one_more (Replicate' p e i) (placed_types ctx e) (parts (expr_of texts e)) w u
+        (types_placed e (and_second (is_static n i) _ w) u)
+    types_placed (Index' p e i) w u =
+        one_more (Index' p e i) (placed_types ctx e) (parts (expr_of texts e)) w u
+        (types_placed e (and_second (is_static n i) _ w) u)
+    types_placed (Slice' p e i j) w u =
+        one_more (Slice' p e i j) (placed_types ctx e) (parts (expr_of texts e)) w u
+        (types_placed e (and_second (is_static n j) _ (and_second (is_static n i) _ w)) u)
+    types_placed (Join' p a q b) w u =
+        one_more (Join' p a q b) (placed_types ctx a ++ placed_types ctx b)
+        (parts (expr_of texts a) ++ parts (expr_of texts b)) w u (both_placed a b
+        (types_placed a (and_first (is_within n a) (is_within n b) w)
+        (and_first (is_unhidden texts a) (is_unhidden texts b) u))
+        (types_placed b (and_second (is_within n a) (is_within n b) w)
+        (and_second (is_unhidden texts a) (is_unhidden texts b) u)))
+    types_placed (Array' arity all) w u =
+        one_more (Array' arity all) (placed_row_types ctx all) (parts_in (row_of texts all)) w u
+        (row_types_placed all w u)
+    types_placed (AtMostOne' arity all) w u =
+        one_more (AtMostOne' arity all) (placed_row_types ctx all)
+        (parts_in (row_of texts all)) w u (row_types_placed all w u)
+    types_placed (Nor' arity all) w u =
+        one_more (Nor' arity all) (placed_row_types ctx all) (parts_in (row_of texts all)) w u
+        (row_types_placed all w u)
+    types_placed (Call' c arity all) w u =
+        one_more (Call' c arity all) (placed_row_types ctx all) (parts_in (row_of texts all)) w u
+        (row_types_placed all (and_second (is_call n c) _ w) u)
+    types_placed (IterateNode' it c arity all) w u =
+        one_more (IterateNode' it c arity all) (placed_row_types ctx all)
+        (parts_in (row_of texts all)) w u
+        (row_types_placed all (and_second (is_call n c) _ w) u)
+    types_placed (IterateSymbol' it op i arity all) w u =
+        one_more (IterateSymbol' it op i arity all) (placed_row_types ctx all)
+        (parts_in (row_of texts all)) w u
+        (row_types_placed all (and_second (is_static n i) _ w) u)
+
+    pub row_types_placed : {m : Count} (row : Row_of-Term m) → are_within n row ≡ true →
+        are_unhidden texts row ≡ true →
+        placed_row_types ctx row ≡ map (data_types P here) (parts_in (row_of texts row))
+    row_types_placed end_of-Term w u = refl
+    row_types_placed (more_of-Term e rest) w u =
+        two_placed (placed_types ctx e) (placed_row_types ctx rest) (parts (expr_of texts e))
+        (parts_in (row_of texts rest))
+        (types_placed e (and_first (is_within n e) (are_within n rest) w)
+        (and_first (is_unhidden texts e) (are_unhidden texts rest) u))
+        (row_types_placed rest (and_second (is_within n e) (are_within n rest) w)
+        (and_second (is_unhidden texts e) (are_unhidden texts rest) u))
+
+  -- ## Statements
+
+  statement_placed : (s : ResolvedStatement) → is_statement_within n s ≡ true →
+      is_statement_unhidden texts s ≡ true →
+      statement_types ctx s
+      ≡ map (data_types P here) (parts (right_side (statement_of texts s)))
+  statement_placed (statement.Equation lefts e) w u =
+      types_placed e (and_second (list_all (is_variable n) lefts.items) (is_within n e) w) u
+  statement_placed (statement.Assertion e) w u = types_placed e w u
+
+  -- those of the statements of a node
+  pub statements_typed : (ss : List ResolvedStatement) →
+      list_all (is_statement_within n) ss ≡ true →
+      list_all (is_statement_unhidden texts) ss ≡ true →
+      flat_map (statement_types ctx) ss
+      ≡ map (data_types P here) (flat_map (λ s. parts (right_side s))
+      (map (statement_of texts) ss))
+  statements_typed [] w u = refl
+  statements_typed (s ∷ ss) w u =
+      two_placed (statement_types ctx s) (flat_map (statement_types ctx) ss)
+      (parts (right_side (statement_of texts s)))
+      (flat_map (λ s. parts (right_side s)) (map (statement_of texts) ss))
+      (statement_placed s
+      (and_first (is_statement_within n s) (list_all (is_statement_within n) ss) w)
+      (and_first (is_statement_unhidden texts s) (list_all (is_statement_unhidden texts) ss) u))
+      (statements_typed ss
+      (and_second (is_statement_within n s) (list_all (is_statement_within n) ss) w)
+      (and_second (is_statement_unhidden texts s) (list_all (is_statement_unhidden texts) ss) u))

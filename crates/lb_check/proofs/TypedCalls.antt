@@ -1,0 +1,147 @@
+-- The types of a call in the text of an instance of an accepted program, and of an equation whose
+-- whole right side it is.
+use Rattle.std.proofs.Common.{◌≡◌, inl, inr, ℕ, ◌+◌, Bool, true, false, cond, Option, Some, None}
+use Rattle.std.proofs.Common.{List, [], ◌∷◌, map, refl, ap, sym, ◌∙◌, subst}
+use Rattle.std.specs.Str.{bytes_eq}
+use Rattle.std.proofs.lemmas.Slice.Eq.{bytes_eq-Decides}
+use Rattle.lb_syntax.specs.Lists.{◌>>=◌, In, all_some}
+use Rattle.lb_syntax.specs.Tree.{Name, Static, Node_named, Expr, Literal, Truth, Variable, Group}
+use Rattle.lb_syntax.specs.Tree.{Unary, Binary, If, Arrow, Fby, Pre, Current, When, Replicate}
+use Rattle.lb_syntax.specs.Tree.{Index, Slice, Join, Array, AtMostOne, Nor, Call, Iterate, Exprs}
+use Rattle.lb_syntax.specs.Tree.{Declaration, Node, Statement, Equation}
+use Rattle.lb_static.specs.DataTypes.{DataType, are_types, variables, variable_type}
+use Rattle.lb_static.specs.Instances.{Program, Instance, Child, call_site, callee_of, node_named}
+use Rattle.lb_static.specs.Instances.{instances}
+use Rattle.lb_static.specs.Instantiation.{static_refusal, are_same}
+use Rattle.lb_static.specs.StaticValues.{named}
+use Rattle.lb_static.proofs.Members.{all_in}
+use Rattle.lb_static.proofs.TestedItems.{found_passes}
+use Rattle.lb_check.specs.Acceptance.{check_refusal}
+use Rattle.lb_check.specs.Clocks.{Clock, ungrouped}
+use Rattle.lb_check.specs.Occurrences.{at, node_occurrences}
+use Rattle.lb_check.specs.TypeRules.{type_of_name, is_statement_typed}
+use Rattle.lb_check.specs.Types.{data_types, all_types, operator_types}
+use Rattle.lb_check.proofs.AcceptedRules.{typed}
+use Rattle.lb_check.proofs.OccurrenceClocks.{occurrence_fits}
+use Rattle.lb_check.proofs.OperandTypes.{bound, some_same, truly, called, placed}
+use Rattle.lb_check.proofs.TruthValues.{and_second}
+
+-- ## Names
+
+-- what has a name among some declarations is found
+pub named_there : (x : Name) (ds : List Declaration) → In x (map (λ d. d.name) ds) →
+    (d : Declaration) × (named (λ d. d.name) x ds ≡ Some d)
+named_there x [] i = absurd i
+named_there x (d ∷ ds) i = by (bytes_eq d.name x) refl i (named_there x ds)
+  where
+    by : (b : Bool) → bytes_eq d.name x ≡ b → In x (map (λ d. d.name) (d ∷ ds)) →
+        (In x (map (λ d. d.name) ds) → (e : Declaration) × (named (λ d. d.name) x ds ≡ Some e)) →
+        (e : Declaration) × (cond b (Some d) (named (λ d. d.name) x ds) ≡ Some e)
+    by true is j later = (d, refl)
+    by false is (inl same) later =
+        let own = (bytes_eq-Decides d.name x).1 same in
+        let both : true ≡ false = sym own ∙ is in
+        absurd cc
+    by false is (inr j) later = later j
+
+-- and what is found by its name has the name
+pub found_name : (x : Name) (ds : List Declaration) (d : Declaration) →
+    named (λ d. d.name) x ds ≡ Some d → d.name ≡ x
+found_name x ds d e =
+    (bytes_eq-Decides d.name x).0
+    (found_passes (λ (c : Declaration). bytes_eq c.name x) ds d e)
+
+-- ## Calls
+
+-- the types of a call and of what it calls
+pub record IsTypedCall (P : Program) (here : Instance) (n : ℕ) (f : Name) (statics : List Static)
+    (es : Exprs) (c : Instance) : Type 0 where
+  pub ins : List DataType
+  pub outs : List DataType
+  pub args : List DataType
+  pub inputs : all_some (map (variable_type P c) c.node.inputs) ≡ Some ins
+  pub outputs : all_some (map (variable_type P c) c.node.outputs) ≡ Some outs
+  pub arguments : all_types P here es ≡ Some args
+  pub same : are_types ins args ≡ true
+  pub result : data_types P here (Call f statics es) ≡ Some outs
+  pub path : c.path ≡ Child here.path n 0
+  pub node : node_named P f ≡ Some c.node
+
+-- parentheses have no types of their own
+pub ungrouped_types : (P : Program) (here : Instance) (e : Expr) →
+    data_types P here (ungrouped e) ≡ data_types P here e
+ungrouped_types P here (Literal m) = refl
+ungrouped_types P here (Truth b) = refl
+ungrouped_types P here (Variable x) = refl
+ungrouped_types P here (Group a) = ungrouped_types P here a
+ungrouped_types P here (Unary op a) = refl
+ungrouped_types P here (Binary op a b) = refl
+ungrouped_types P here (If c a b) = refl
+ungrouped_types P here (Arrow a b) = refl
+ungrouped_types P here (Fby a b) = refl
+ungrouped_types P here (Pre a) = refl
+ungrouped_types P here (Current a) = refl
+ungrouped_types P here (When a x sign) = refl
+ungrouped_types P here (Replicate a m) = refl
+ungrouped_types P here (Index a i) = refl
+ungrouped_types P here (Slice a i j) = refl
+ungrouped_types P here (Join a b) = refl
+ungrouped_types P here (Array es) = refl
+ungrouped_types P here (AtMostOne es) = refl
+ungrouped_types P here (Nor es) = refl
+ungrouped_types P here (Call f statics es) = refl
+ungrouped_types P here (Iterate it op m es) = refl
+
+-- types that are compared
+compared :
+    (P : Program) (o p : Option (List DataType)) (ts : List DataType) → o ≡ Some ts →
+    are_same P o p ≡ true → (us : List DataType) × (p ≡ Some us) × (are_types ts us ≡ true)
+compared P None p ts is e = absurd cc
+compared P (Some ss) None ts is e = absurd cc
+compared P (Some ss) (Some us) ts is e =
+    (us, refl, subst (λ xs. are_types xs us ≡ true) (some_same ss ts is) e)
+
+module _ (P : Program) (accepted : static_refusal P ≡ None) (checked : check_refusal P ≡ None)
+    (here : Instance) (stands : In here (instances P)) where
+  -- each call has types
+  pub call_typed :
+      (k : Clock) (n : ℕ) (f : Name) (statics : List Static) (es : Exprs) →
+      In (at k n (Call f statics es)) (node_occurrences P here.node) → (c : Instance) →
+      callee_of P here (call_site f statics) n 0 ≡ Some c →
+      IsTypedCall P here n f statics es c
+  call_typed k n f statics es i c gives =
+      let fits = occurrence_fits P accepted checked here stands (at k n (Call f statics es)) i in
+      let t = bound (operator_types P here (Node_named f statics)) _ fits.types fits.are in
+      let a = bound (all_types P here es) _ fits.types t.gives in
+      let r = truly (are_types t.value.0 a.value) t.value.1 fits.types a.gives in
+      let d = called P here f statics t.value t.is in
+      let p = placed P here f statics d.callee d.is in
+      let it : record d.callee { path = Child here.path n 0 } ≡ c =
+      some_same _ c (sym (p.at n 0) ∙ gives) in
+      record {
+        ins = t.value.0;
+        outs = t.value.1;
+        args = a.value;
+        inputs =
+            subst (λ (z : Instance).
+            all_some (map (variable_type P z) z.node.inputs) ≡ Some t.value.0) it d.inputs;
+        outputs =
+            subst (λ (z : Instance).
+            all_some (map (variable_type P z) z.node.outputs) ≡ Some t.value.1) it d.outputs;
+        arguments = a.is;
+        same = r.holds;
+        result = fits.are ∙ ap (λ ts. Some ts) (sym r.same);
+        path = ap (λ (z : Instance). z.path) (sym it);
+        node = p.node ∙ ap (λ (z : Instance). Some z.node) it;
+      }
+
+  -- the left variables of an equation have the types of its right side
+  pub left_types :
+      (lefts : List Name) (e : Expr) (ts : List DataType) → In (Equation lefts e) here.node.body →
+      data_types P here e ≡ Some ts →
+      (us : List DataType)
+      × (all_some (map (type_of_name P here) lefts) ≡ Some us) × (are_types ts us ≡ true)
+  left_types lefts e ts i is =
+      compared P (data_types P here e) (all_some (map (type_of_name P here) lefts)) ts is
+      (all_in (is_statement_typed P here) here.node.body (Equation lefts e)
+      (and_second _ _ (typed P checked here stands)) i)

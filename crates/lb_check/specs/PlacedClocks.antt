@@ -1,0 +1,245 @@
+-- The clock on which each part of a term stands, and what is found of the calls in it, as the code
+-- places them.
+-- This file mirrors code (src/placed_clock.rt, src/given_variables.rt, src/found_clocks.rt); no
+-- definition of the language stands on it.
+use Rattle.std.specs.Prelude.{ℕ, zero, suc, ◌+◌, nat_eq, Bool, if◌then◌else◌, Option, Some, None}
+use Rattle.std.specs.Prelude.{option_map, List, [], ◌∷◌, ◌++◌, map, flat_map, length, take}
+use Rattle.std.specs.List.{list_any}
+use Rattle.lb_syntax.specs.Lists.{either_or, holds, listed}
+use Rattle.lb_static.specs.declared.reach.Reached.{Reached}
+use Rattle.lb_static.specs.declared.resolved.CallId.{CallId}
+use Rattle.lb_static.specs.declared.resolved.ResolvedNode.{ResolvedNode}
+use Rattle.lb_static.specs.declared.resolved.ResolvedStatement.{ResolvedStatement}
+use Rattle.lb_static.specs.declared.resolved.ResolvedStatement.TheVariants as statement
+use Rattle.lb_static.specs.declared.resolved.Sampling.{Sampling}
+use Rattle.lb_static.specs.declared.resolved.Term.{Term, Literal, Truth, Variable, Value, Group'}
+use Rattle.lb_static.specs.declared.resolved.Term.{Unary', Binary', If', Arrow', Fby', Pre'}
+use Rattle.lb_static.specs.declared.resolved.Term.{Current', When', Replicate', Index', Slice'}
+use Rattle.lb_static.specs.declared.resolved.Term.{Join', Array', AtMostOne', Nor', Call'}
+use Rattle.lb_static.specs.declared.resolved.Term.{IterateNode', IterateSymbol', Row_of-Term}
+use Rattle.lb_static.specs.declared.resolved.Term.{end_of-Term, more_of-Term}
+use Rattle.lb_static.specs.declared.resolved.VariableId.{VariableId}
+use Rattle.lb_check.specs.TermClocks.{Context, context_of, input_clocks, clock_sets, base_of}
+use Rattle.lb_check.specs.TermClocks.{expected, given_at, stands_for, result_base, infer_clock}
+use Rattle.lb_check.specs.TermClocks.{operands_in, left_clock}
+use Rattle.lb_check.specs.declared.clock_set.ClockSet.{ClockSet}
+use Rattle.lb_check.specs.declared.clock_set.ClockSet.TheVariants.{NoClock, AnyClock, OneClock}
+use Rattle.lb_check.specs.declared.clock_set.Operand.{Operand}
+use Rattle.lb_check.specs.declared.found_clocks.CallClock.{CallClock}
+use Rattle.lb_check.specs.declared.found_clocks.GivenVariable.{GivenVariable}
+use Rattle.lb_check.specs.declared.found_clocks.NodeClocks.{NodeClocks}
+use Rattle.lb_check.specs.declared.own_clock.Clock.{Clock}
+use Rattle.lb_check.specs.declared.own_clock.Clock.TheVariants.{Base}
+
+-- ## What is found
+
+-- of a call: the clock on which its instances run, and which variables of the node stand for clock
+-- parameters of what it calls
+pub record FoundCall : Type 0 where
+  pub runs : Clock
+  pub given : List GivenVariable
+
+-- of a term: the clock on which it stands, and what is found of it as a call, if it is one
+pub record FoundTerm : Type 0 where
+  pub clock : Clock
+  pub call : Option FoundCall
+
+abbrev pub part : Clock → FoundTerm
+part k = record { clock = k; call = None }
+
+abbrev pub called : Clock → FoundCall → FoundTerm
+called k c = record { clock = k; call = Some c }
+
+-- of a node: the clocks of its terms, and its calls
+pub record FoundNode : Type 0 where
+  pub terms : List Clock
+  pub calls : List FoundCall
+
+-- one more term
+abbrev pub with_term : FoundNode → FoundTerm → FoundNode
+with_term f t = record {
+  terms = f.terms ++ (t.clock ∷ []);
+  calls = f.calls ++ listed (λ c. c ∷ []) t.call;
+}
+
+abbrev pub with_terms : FoundNode → List FoundTerm → FoundNode
+with_terms f [] = f
+with_terms f (t ∷ ts) = with_terms (with_term f t) ts
+
+abbrev pub nothing_found : FoundNode
+nothing_found = record { terms = []; calls = [] }
+
+-- what the code keeps stands for this
+abbrev pub call_in : CallClock → FoundCall
+call_in c = record { runs = c.runs; given = c.given.items }
+
+abbrev pub found_in : NodeClocks → FoundNode
+found_in f = record { terms = f.terms.items; calls = map call_in f.calls.items }
+
+-- ## Variables that stand for clock parameters
+
+abbrev pub waits_at : ℕ → Option Sampling → Bool
+waits_at i c = holds (λ s. nat_eq s.variable.0 i) c
+
+-- an input or output waits for the variable at a place
+abbrev pub is_awaited : ResolvedNode → ℕ → Bool
+is_awaited n i =
+    list_any (λ v. waits_at i v.clock) (take (n.inputs + n.outputs) n.variables.items)
+
+abbrev pub pair_at : ℕ → VariableId → GivenVariable
+pair_at i y = record { callee = record { 0 = i }; caller = y }
+
+-- what stands for the parameter at a place, if it is a clock parameter
+abbrev pub given_variable : ResolvedNode → (ℕ → Option VariableId) → ℕ → Option GivenVariable
+given_variable n given i = if is_awaited n i then option_map (pair_at i) (given i) else None
+
+-- at so many places from one on
+abbrev pub given_from : ResolvedNode → (ℕ → Option VariableId) → (first count : ℕ) →
+    List GivenVariable
+given_from n given i zero = []
+given_from n given i (suc m) =
+    listed (λ g. g ∷ []) (given_variable n given i) ++ given_from n given (suc i) m
+
+abbrev pub given_variables : ResolvedNode → List Operand → List VariableId → List GivenVariable
+given_variables n os lefts =
+    given_from n (stands_for n.inputs os lefts) 0
+    (length (take (n.inputs + n.outputs) n.variables.items))
+
+-- ## Clocks
+
+-- the clock that these determine, or the base clock where they determine none
+abbrev pub determined_clock : ClockSet → Clock
+determined_clock (OneClock k) = k
+determined_clock s = Base
+
+-- the clock of the one operand of a term on clock k, where the operand accepts these
+abbrev pub operand_clock : Context → Clock → Term → ClockSet → Clock
+operand_clock ctx k (Current' p e) s = determined_clock s
+operand_clock ctx k (When' p e x sign) s = ctx.variable x
+operand_clock ctx k t s = k
+
+-- the clocks of the arguments of a callee that runs on this clock, where these variables of the
+-- caller stand for those of the callee
+abbrev pub argument_clocks : Clock → (ℕ → Option VariableId) → ResolvedNode → List Clock
+argument_clocks base given n =
+    map (λ v. either_or (expected (Some base) given v.clock) base)
+    (take n.inputs n.variables.items)
+
+-- the clock on which a callee runs that is called in a term on clock k
+abbrev pub call_base : Clock → ResolvedNode → List Operand → Clock
+call_base k n os = either_or (base_of (input_clocks n) (clock_sets os)) k
+
+-- the clocks of the arguments, and what is found of the call
+abbrev pub call_clocks : Context → Clock → CallId → List Operand → List Clock
+call_clocks ctx k c os =
+    listed (λ n. argument_clocks (call_base k n os) (given_at os) n) (ctx.callee c)
+
+abbrev pub nested_call : Clock → List Operand → Option ResolvedNode → FoundCall
+nested_call k os None = record { runs = k; given = [] }
+nested_call k os (Some n) = record { runs = call_base k n os; given = given_variables n os [] }
+
+-- the clock on which a callee runs whose call is a whole right side
+abbrev pub side_base : Context → ResolvedNode → List Operand → List VariableId → Clock
+side_base ctx n os lefts = either_or (result_base ctx n os lefts) Base
+
+abbrev pub side_clocks : Context → List VariableId → CallId → List Operand → List Clock
+side_clocks ctx lefts c os =
+    listed (λ n. argument_clocks (side_base ctx n os lefts) (stands_for n.inputs os lefts) n)
+    (ctx.callee c)
+
+abbrev pub side_call :
+    Context → List VariableId → List Operand → Option ResolvedNode → FoundCall
+side_call ctx lefts os None = record { runs = left_clock ctx lefts; given = [] }
+side_call ctx lefts os (Some n) =
+    record { runs = side_base ctx n os lefts; given = given_variables n os lefts }
+
+-- an iterated node runs on the clock of its term
+abbrev pub iterated_call : Clock → FoundCall
+iterated_call k = record { runs = k; given = [] }
+
+-- a term with a row of operands on its own clock
+abbrev pub row_term : Clock → Term → FoundTerm
+row_term k (IterateNode' it c arity all) = called k (iterated_call k)
+row_term k t = part k
+
+-- ## Terms
+
+unfoldable mutual
+  -- what is found of the parts of a term on clock k, in text order; parentheses are none
+  pub placed_terms : Context → Clock → Term → List FoundTerm
+  placed_terms ctx k (Literal n) = part k ∷ []
+  placed_terms ctx k (Truth b) = part k ∷ []
+  placed_terms ctx k (Variable x) = part k ∷ []
+  placed_terms ctx k (Value i) = part k ∷ []
+  placed_terms ctx k (Group' p e) = placed_terms ctx k e
+  placed_terms ctx k (Unary' op p a) = part k ∷ placed_terms ctx k a
+  placed_terms ctx k (Binary' op p a q b) = part k ∷ (placed_terms ctx k a ++ placed_terms ctx k b)
+  placed_terms ctx k (If' p c q a r b) =
+      part k ∷ (placed_terms ctx k c ++ (placed_terms ctx k a ++ placed_terms ctx k b))
+  placed_terms ctx k (Arrow' p a q b) = part k ∷ (placed_terms ctx k a ++ placed_terms ctx k b)
+  placed_terms ctx k (Fby' p a q b) = part k ∷ (placed_terms ctx k a ++ placed_terms ctx k b)
+  placed_terms ctx k (Pre' p e) = part k ∷ placed_terms ctx k e
+  placed_terms ctx k (Current' p e) =
+      part k ∷ placed_terms ctx (determined_clock (infer_clock ctx e)) e
+  placed_terms ctx k (When' p e x sign) = part k ∷ placed_terms ctx (ctx.variable x) e
+  placed_terms ctx k (Replicate' p e n) = part k ∷ placed_terms ctx k e
+  placed_terms ctx k (Index' p e i) = part k ∷ placed_terms ctx k e
+  placed_terms ctx k (Slice' p e i j) = part k ∷ placed_terms ctx k e
+  placed_terms ctx k (Join' p a q b) = part k ∷ (placed_terms ctx k a ++ placed_terms ctx k b)
+  placed_terms ctx k (Array' arity all) = part k ∷ placed_row ctx k all
+  placed_terms ctx k (AtMostOne' arity all) = part k ∷ placed_row ctx k all
+  placed_terms ctx k (Nor' arity all) = part k ∷ placed_row ctx k all
+  placed_terms ctx k (Call' c arity all) =
+      called k (nested_call k (operands_in ctx all) (ctx.callee c))
+      ∷ placed_arguments ctx (call_clocks ctx k c (operands_in ctx all)) all
+  placed_terms ctx k (IterateNode' it c arity all) =
+      called k (iterated_call k) ∷ placed_row ctx k all
+  placed_terms ctx k (IterateSymbol' it op n arity all) = part k ∷ placed_row ctx k all
+
+  -- those of terms on one clock
+  pub placed_row : {m : _} → Context → Clock → Row_of-Term m → List FoundTerm
+  placed_row ctx k end_of-Term = []
+  placed_row ctx k (more_of-Term e rest) = placed_terms ctx k e ++ placed_row ctx k rest
+
+  -- those of terms each on a clock of its own
+  pub placed_arguments : {m : _} → Context → List Clock → Row_of-Term m → List FoundTerm
+  placed_arguments ctx ks end_of-Term = []
+  placed_arguments ctx [] (more_of-Term e rest) = []
+  placed_arguments ctx (k ∷ ks) (more_of-Term e rest) =
+      placed_terms ctx k e ++ placed_arguments ctx ks rest
+
+-- those of a list of terms on one clock
+abbrev pub placed_all : Context → Clock → List Term → List FoundTerm
+placed_all ctx k es = flat_map (placed_terms ctx k) es
+
+-- those of a list of terms each on a clock of its own
+abbrev pub placed_each : Context → List Clock → List Term → List FoundTerm
+placed_each ctx ks [] = []
+placed_each ctx [] (e ∷ es) = []
+placed_each ctx (k ∷ ks) (e ∷ es) = placed_terms ctx k e ++ placed_each ctx ks es
+
+-- ## Statements
+
+-- those of a call that is a whole right side
+abbrev pub placed_call :
+    Context → List VariableId → CallId → List Operand → List Term → List FoundTerm
+placed_call ctx lefts c os es =
+    called (left_clock ctx lefts) (side_call ctx lefts os (ctx.callee c))
+    ∷ placed_each ctx (side_clocks ctx lefts c os) es
+
+-- those of the right side of an equation
+unfoldable pub placed_side : Context → List VariableId → Term → List FoundTerm
+placed_side ctx lefts (Group' p e) = placed_side ctx lefts e
+placed_side ctx lefts (Call' c arity all) =
+    called (left_clock ctx lefts) (side_call ctx lefts (operands_in ctx all) (ctx.callee c))
+    ∷ placed_arguments ctx (side_clocks ctx lefts c (operands_in ctx all)) all
+placed_side ctx lefts e = placed_terms ctx (left_clock ctx lefts) e
+
+abbrev pub placed_statement : Context → ResolvedStatement → List FoundTerm
+placed_statement ctx (statement.Equation lefts e) = placed_side ctx lefts.items e
+placed_statement ctx (statement.Assertion e) =
+    placed_terms ctx (determined_clock (infer_clock ctx e)) e
+
+-- what is found of all terms of a node
+abbrev pub node_terms : Reached → ResolvedNode → List FoundTerm
+node_terms r n = flat_map (placed_statement (context_of r n)) n.body.items

@@ -1,0 +1,56 @@
+//! What is found of the terms and calls of a node when its clocks are judged.
+
+ghost use Rattle.std.specs.Prelude.{◌≡◌, OnOk};
+ghost use Rattle.lb_check.specs.PlacedClocks as placed_mirror;
+
+use crate::own_clock::Clock;
+use lb_static::resolved::VariableId;
+use std::alloc::AllocError;
+
+/// A variable of a callee, and that of its caller which stands for it.
+#[derive(Clone, Copy)]
+pub struct GivenVariable {
+    pub callee: VariableId,
+    pub caller: VariableId,
+}
+
+/// What is found of a call.
+#[derive(Drop)]
+pub struct CallClock {
+    /// The clock on which the instances of the call run.
+    pub runs: Clock,
+    /// What stands for the clock parameters of the callee.
+    pub given: Vec<GivenVariable>,
+}
+
+/// What is found of a node, in text order.
+#[derive(Drop)]
+pub struct NodeClocks {
+    /// The clock on which each term stands.
+    pub terms: Vec<Clock>,
+    /// What is found of each call.
+    pub calls: Vec<CallClock>,
+}
+
+impl NodeClocks {
+    /// Notes the clock of a term that is no call.
+    pub(crate) fn note(&mut self, clock: Clock) -> Result<(), AllocError>
+        ensures { OnOk result (placed_mirror.found_in self.new
+            ≡ placed_mirror.with_term (placed_mirror.found_in self.old)
+            (placed_mirror.part clock)) }
+    {
+        self.terms.push(clock)?;
+        Ok(())
+    }
+
+    /// Notes the clock of a call, and what is found of it.
+    pub(crate) fn note_call(&mut self, clock: Clock, call: CallClock) -> Result<(), AllocError>
+        ensures { OnOk result (placed_mirror.found_in self.new
+            ≡ placed_mirror.with_term (placed_mirror.found_in self.old)
+            (placed_mirror.called clock (placed_mirror.call_in call))) }
+    {
+        self.terms.push(clock)?;
+        self.calls.push(call)?;
+        Ok(())
+    }
+}

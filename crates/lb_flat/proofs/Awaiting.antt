@@ -1,0 +1,147 @@
+-- What the first element that is not done says, and what the climb up a clock finds.
+use Rattle.std.proofs.Common.{◌≡◌, ◌<◌, ◌≤◌, ℕ, zero, suc, ◌+◌, ◌-◌, Bool, true, false, not, ◌&&◌}
+use Rattle.std.proofs.Common.{◌||◌, cond, Option, Some, None, List, [], ◌∷◌, length, get_or, refl}
+use Rattle.std.proofs.Common.{sym, ap, ◌∙◌, inl, inr, arith}
+use Rattle.std.specs.List.{list_all, list_any}
+use Rattle.std.specs.Option.{option_map, is_some}
+use Rattle.std.proofs.lemmas.Option.{slice_get-get_or}
+use Rattle.lb_syntax.specs.Lists.{In}
+use Rattle.lb_flat.specs.declared.equation.ClockId.{ClockId}
+use Rattle.lb_flat.specs.declared.equation.Clock.{Clock}
+use Rattle.lb_flat.specs.declared.equation.ElementId.{ElementId}
+use Rattle.lb_flat.specs.InOrder.{is_done}
+use Rattle.lb_flat.specs.Ordering.{first_left}
+use Rattle.lb_flat.specs.Run.{clock_reads}
+use Rattle.lb_flat.specs.Values.{clock_within, clock_from}
+use Rattle.lb_flat.specs.Within.{IsClock, AreClocks}
+use Rattle.lb_flat.proofs.TypeFacts.{some_same}
+
+-- ## The first that is not done
+
+module _ (done : List Bool) where
+  -- where there is none, all are done
+  pub none_left :
+      (is : List ℕ) → first_left done is ≡ None → list_all (is_done done) is ≡ true
+  none_left [] h = refl
+  none_left (i ∷ is) h = by (is_done done i) h (none_left is)
+    where
+      by :
+          (b : Bool) → cond (not b) (Some i) (first_left done is) ≡ None →
+          (first_left done is ≡ None → list_all (is_done done) is ≡ true) →
+          (b && list_all (is_done done) is) ≡ true
+      by true h again = again h
+      by false h again = absurd (cc)
+
+  -- one that is found is one of them, and not done
+  pub some_left :
+      (is : List ℕ) (a : ℕ) → first_left done is ≡ Some a →
+      In a is × (is_done done a ≡ false)
+  some_left [] a h = absurd (cc)
+  some_left (i ∷ is) a h = by (is_done done i) refl h (some_left is a)
+    where
+      by :
+          (b : Bool) → is_done done i ≡ b →
+          cond (not b) (Some i) (first_left done is) ≡ Some a →
+          (first_left done is ≡ Some a → In a is × (is_done done a ≡ false)) →
+          In a (i ∷ is) × (is_done done a ≡ false)
+      by true e h again = let r = again h in (inr r.0, r.1)
+      by false e h again =
+          let same : i ≡ a = some_same i a h in (inl same, ap (is_done done) (sym same) ∙ e)
+
+  -- where there is one, some are not done
+  pub some_waits :
+      (is : List ℕ) → (first_left done is ≡ None → ⊥) →
+      list_any (λ i. not (is_done done i)) is ≡ true
+  some_waits [] h = absurd (h refl)
+  some_waits (i ∷ is) h = by (is_done done i) h (some_waits is)
+    where
+      by :
+          (b : Bool) → (cond (not b) (Some i) (first_left done is) ≡ None → ⊥) →
+          ((first_left done is ≡ None → ⊥) → list_any (λ i. not (is_done done i)) is ≡ true) →
+          (not b || list_any (λ i. not (is_done done i)) is) ≡ true
+      by true h again = again h
+      by false h again = refl
+
+-- what is found has the number that is found
+pub found_none :
+    (o : Option ElementId) (p : Option ℕ) → option_map (λ a. a.0) o ≡ p → is_some o ≡ false →
+    p ≡ None
+found_none None p e h = sym e
+found_none (Some a) p e h = absurd (cc)
+
+pub found_some :
+    (o : Option ElementId) (p : Option ℕ) → option_map (λ a. a.0) o ≡ p → is_some o ≡ true →
+    p ≡ None → ⊥
+found_some None p e h g = absurd (cc)
+found_some (Some a) p e h g = absurd (cc)
+
+-- ## The climb up a clock
+
+-- the first element that a clock, at most n clocks deep, reads and that is not done
+abbrev pub clock_awaited : List Bool → List Clock → ℕ → Option ClockId → Option ℕ
+clock_awaited done clocks n k = first_left done (clock_reads (clock_within n clocks k))
+
+base_awaited :
+    (done : List Bool) (clocks : List Clock) (n : ℕ) → clock_awaited done clocks n None ≡ None
+base_awaited done clocks zero = refl
+base_awaited done clocks (suc n) = refl
+
+none_deep :
+    (done : List Bool) (clocks : List Clock) (rest : Option ClockId) →
+    clock_awaited done clocks 0 rest ≡ None
+none_deep done clocks None = refl
+none_deep done clocks (Some id) = refl
+
+module _ (done : List Bool) (clocks : List Clock) (clock rest : Option ClockId) (depth : ℕ)
+    (same : (n : ℕ) → n + depth ≡ length clocks →
+    clock_awaited done clocks n rest ≡ clock_awaited done clocks (length clocks) clock) where
+  pub ends_base :
+      depth < length clocks → rest ≡ None →
+      None ≡ clock_awaited done clocks (length clocks) clock
+  ends_base lt e =
+      let n = length clocks - depth in
+      sym (base_awaited done clocks n) ∙ ap (clock_awaited done clocks n) (sym e)
+      ∙ same n (omega arith)
+
+  pub ends_past : length clocks ≤ depth → depth ≤ length clocks →
+      None ≡ clock_awaited done clocks (length clocks) clock
+  ends_past le ge = sym (none_deep done clocks rest) ∙ same 0 (omega arith)
+
+  module _ (id : ClockId) (d : Clock) (e : rest ≡ Some id) (in_table : IsClock clocks rest)
+      (lt : depth < length clocks) where
+    within : id.0 < length clocks
+    within = in_table id e
+
+    -- what is found, where the element of this clock is done or not
+    abbrev next : ℕ → Bool → Option ℕ
+    next n b =
+        cond (not b) (Some (get_or clocks id.0 d).element.0)
+        (clock_awaited done clocks n (get_or clocks id.0 d).parent)
+
+    above :
+        (n : ℕ) → n + (depth + 1) ≡ length clocks →
+        next n (is_done done (get_or clocks id.0 d).element.0)
+        ≡ clock_awaited done clocks (length clocks) clock
+    above n count =
+        sym (ap (λ t. first_left done (clock_reads (clock_from (clock_within n clocks) t)))
+        (slice_get-get_or clocks id.0 d within))
+        ∙ ap (clock_awaited done clocks (suc n)) (sym e)
+        ∙ same (suc n) (omega arith)
+
+    pub ends_waiting :
+        is_done done (get_or clocks id.0 d).element.0 ≡ false →
+        Some (get_or clocks id.0 d).element.0 ≡ clock_awaited done clocks (length clocks) clock
+    ends_waiting waits =
+        let n = length clocks - (depth + 1) in
+        sym (ap (next n) waits) ∙ above n (omega arith)
+
+    pub parent_in_table :
+        (size : ℕ) → AreClocks size clocks → IsClock clocks (get_or clocks id.0 d).parent
+    parent_in_table size table = (table id.0 d within).parent
+
+    pub goes_on :
+        is_done done (get_or clocks id.0 d).element.0 ≡ true →
+        (n : ℕ) → n + (depth + 1) ≡ length clocks →
+        clock_awaited done clocks n (get_or clocks id.0 d).parent
+        ≡ clock_awaited done clocks (length clocks) clock
+    goes_on is n count = sym (ap (next n) is) ∙ above n count

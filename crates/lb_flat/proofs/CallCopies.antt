@@ -1,0 +1,379 @@
+-- The copies that an instance emits: of each call in its text those into the inputs of what is
+-- called, and of each equation those into its left variables.
+use Rattle.std.proofs.Common.{◌≡◌, ℕ, ◌+◌, ◌-◌, ◌*◌, suc, false, pos, Option, Some, None, List, []}
+use Rattle.std.proofs.Common.{◌∷◌, ◌++◌, length, map, take, drop, flat_map, zip, refl, sym, ap, ◌∙◌}
+use Rattle.std.proofs.Common.{subst}
+use Rattle.lb_syntax.specs.declared.tree.BinaryOperator.{BinaryOperator}
+use Rattle.lb_syntax.specs.declared.tree.UnaryOperator.TheVariants.{Not}
+use Rattle.lb_syntax.specs.declared.tree.BinaryOperator.TheVariants.{Or, And}
+use Rattle.lb_syntax.specs.declared.tree.ArrayIterator.{ArrayIterator}
+use Rattle.lb_syntax.specs.declared.tree.ArrayIterator.TheVariants.{Map, Red}
+use Rattle.lb_syntax.specs.Lists.{Every, In, zip2, copies, joined}
+use Rattle.lb_syntax.specs.Tree.{Name, Node_named, Symbol, Expr, Literal, Truth, Variable, Group}
+use Rattle.lb_syntax.specs.Tree.{Unary, Binary, If, Arrow, Fby, Pre, Current, When, Replicate}
+use Rattle.lb_syntax.specs.Tree.{Index, Slice, Join, Array, AtMostOne, Nor, Call, Iterate, Exprs}
+use Rattle.lb_syntax.specs.Tree.{Nil, Cons, Declaration, Node, Statement, Equation, Assertion}
+use Rattle.lb_static.specs.DataTypes.{variables}
+use Rattle.lb_static.specs.Instances.{Program, Instance, Child, node_named}
+use Rattle.lb_static.specs.StaticValues.{named}
+use Rattle.lb_check.specs.Scalars.{Integer, Boolean, first_value}
+use Rattle.lb_check.specs.Clocks.{Clock, On, declared_clock, clock_of, clock_or}
+use Rattle.lb_check.specs.Occurrences.{Occurrence, at, call_count, call_clocks, occurrences}
+use Rattle.lb_check.specs.Occurrences.{occurrences_in, occurrences_each, statement_clock}
+use Rattle.lb_check.specs.Occurrences.{right_sides, statements, node_occurrences}
+use Rattle.lb_check.specs.Streams.{number, outputs_of, iterated}
+use Rattle.lb_check.proofs.Every.{Every-append, Every-first, Every-second}
+use Rattle.lb_flat.specs.Flat.{FlatClock, Operation, Constant, ApplyUnary, ApplyBinary, FirstThen}
+use Rattle.lb_flat.specs.Flat.{Previous, Latest, Sample, FlatEquation}
+use Rattle.lb_flat.specs.Layouts.{Layout, flat_clock}
+use Rattle.lb_flat.specs.Emit.{State, Emitted, EmittedAll, push, add, keep, assert, joins}
+use Rattle.lb_flat.specs.Emit.{chosen_by, chained, twice, emit_nor, emit_at_most_one, emit_symbol}
+use Rattle.lb_flat.specs.Emit.{targets, copied, call_copies, iterator_copies, emit_name, emit}
+use Rattle.lb_flat.specs.Emit.{emit_all, emit_each, emit_body, emit_instances}
+use Rattle.lb_flat.proofs.Bodies.{occurrences_of, assert_copies}
+use Rattle.lb_flat.proofs.Emission.{joins_copies}
+
+-- ## Words that copy nothing
+
+add_copies : (k : FlatClock) (s : State) (os : List Operation) →
+    (add k s os).state.copies ≡ s.copies
+unfolding add
+add_copies k s os = refl
+
+keep_copies : (x : Emitted) → (keep x).state.copies ≡ x.state.copies
+unfolding keep
+keep_copies x = refl
+
+chained_copies : (k : FlatClock) (op : BinaryOperator) (s : State) (init : ℕ) (ys : List ℕ) →
+    (chained k op s init ys).state.copies ≡ s.copies
+unfolding chained
+chained_copies k op s init [] = refl
+chained_copies k op s init (y ∷ ys) =
+    chained_copies k op (push k s (ApplyBinary op init y)) s.next ys
+
+twice_copies : (k : FlatClock) (s : State) (any two : ℕ) (xs : List ℕ) →
+    (twice k s any two xs).state.copies ≡ s.copies
+unfolding twice
+twice_copies k s any two [] = refl
+twice_copies k s any two (x ∷ xs) =
+    let t = push k s (ApplyBinary And any x) in
+    let u = push k t (ApplyBinary Or two s.next) in
+    twice_copies k (push k u (ApplyBinary Or any x)) u.next t.next xs
+
+nor_copies : (k : FlatClock) (s : State) (is : List ℕ) → (emit_nor k s is).state.copies ≡ s.copies
+nor_copies k s is =
+    let t = push k s (Constant (Boolean false)) in
+    let x = chained k Or t s.next is in
+    add_copies k x.state (map (ApplyUnary Not) x.found) ∙ chained_copies k Or t s.next is
+
+at_most_one_copies : (k : FlatClock) (s : State) (is : List ℕ) →
+    (emit_at_most_one k s is).state.copies ≡ s.copies
+at_most_one_copies k s is =
+    let t = push k s (Constant (Boolean false)) in
+    let x = twice k t s.next s.next is in
+    add_copies k x.state (map (ApplyUnary Not) x.found) ∙ twice_copies k t s.next s.next is
+
+symbol_copies :
+    (k : FlatClock) (op : BinaryOperator) (s : State) (it : ArrayIterator)
+    (found : List (List ℕ)) → (emit_symbol k op s it found).state.copies ≡ s.copies
+symbol_copies k op s Map (xs ∷ (ys ∷ [])) = add_copies k s (zip2 (ApplyBinary op) xs ys)
+symbol_copies k op s Red ((init ∷ []) ∷ (ys ∷ [])) = chained_copies k op s init ys
+symbol_copies k op s it found = refl
+
+module _ (Y : Layout) (P : Program) (cs : List FlatEquation) where
+  -- these equations are among those
+  abbrev pub Within : List FlatEquation → Type 0
+  Within qs = Every (λ q. In q cs) qs
+
+  module _ (here : Instance) where
+    name_copies :
+        (k : Clock) (s : State) (x : Name) (o : Option Declaration) →
+        (emit_name Y P here k s x o).state.copies ≡ s.copies
+    name_copies k s x (Some d) = refl
+    name_copies k s x None = add_copies (flat_clock Y here.path k) s _
+
+    -- the copies of a call, where its arguments are emitted after some state
+    abbrev pub CopiedAt : Clock → ℕ → Expr → Type 0
+    CopiedAt k n (Call f statics es) =
+        (s : State)
+        × Within
+        (call_copies Y (Child here.path n 0) (node_named P f)
+        (emit_each Y P here (call_clocks k (node_named P f) es) (n + 1) s es).found)
+    CopiedAt k n (Iterate it (Node_named f statics) m es) =
+        (s : State)
+        × Within
+        (iterator_copies Y here.path n it (number P here m) (node_named P f)
+        (emit_all Y P here k (n + 1) s es).found)
+    CopiedAt k n e = Unit {0}
+
+    abbrev pub IsCopied : Occurrence → Type 0
+    IsCopied o = CopiedAt o.clock o.calls_before o.expr
+
+    -- and those of an equation
+    abbrev pub LeftCopiedAt : Clock → ℕ → Statement → Type 0
+    LeftCopiedAt k n (Equation lefts e) =
+        (s : State)
+        × Within
+        (copied (flat_map (targets Y here.node here.path) lefts) (emit Y P here k n s e).found)
+    LeftCopiedAt k n (Assertion e) = Unit {0}
+
+    abbrev pub IsLeftCopied : Statement × Occurrence → Type 0
+    IsLeftCopied t = LeftCopiedAt t.1.clock t.1.calls_before t.0
+
+    -- the copies of a state are there, and those of some occurrences
+    pub record AreThere (s : State) (os : List Occurrence) : Type 0 where
+      pub before : Within s.copies
+      pub calls : Every IsCopied os
+
+    next : (s : State) (o : Occurrence) (os : List Occurrence) → IsCopied o → AreThere s os →
+        AreThere s (o ∷ os)
+    next s o os c h = record { before = h.before; calls = (c, h.calls) }
+
+    both : (s t : State) (os os' : List Occurrence) → (Within t.copies → AreThere s os) →
+        AreThere t os' → AreThere s (os ++ os')
+    both s t os os' f h =
+        let g = f h.before in
+        record { before = g.before; calls = Every-append IsCopied os os' g.calls h.calls }
+
+    nothing : (s : State) → Within s.copies → AreThere s []
+    nothing s h = record { before = h; calls = tt }
+
+    -- before some operators
+    before_add : (k : Clock) (s : State) (os : List Operation) →
+        Within (add (flat_clock Y here.path k) s os).state.copies → Within s.copies
+    before_add k s os h = subst Within (add_copies (flat_clock Y here.path k) s os) h
+
+    before_keep : (x : Emitted) → Within (keep x).state.copies → Within x.state.copies
+    before_keep x h = subst Within (keep_copies x) h
+
+    mutual
+      unfolding emit
+
+      pub copies_there :
+          (k : Clock) (n : ℕ) (s : State) (e : Expr) →
+          Within (emit Y P here k n s e).state.copies →
+          AreThere s (occurrences P here.node k n e)
+      copies_there k n s (Literal m) h =
+          next s (at k n (Literal m)) [] tt
+          (nothing s (before_add k s (Constant (Integer (pos m)) ∷ []) h))
+      copies_there k n s (Truth b) h =
+          next s (at k n (Truth b)) [] tt
+          (nothing s (before_add k s (Constant (Boolean b) ∷ []) h))
+      copies_there k n s (Variable x) h =
+          next s (at k n (Variable x)) [] tt
+          (nothing s
+          (subst Within (name_copies k s x (named (λ d. d.name) x (variables here.node))) h))
+      copies_there k n s (Group a) h = copies_there k n s a h
+      copies_there k n s (Unary op a) h =
+          let x = emit Y P here k n s a in
+          next s (at k n (Unary op a)) (occurrences P here.node k n a) tt
+          (copies_there k n s a (before_add k x.state (map (ApplyUnary op) x.found) h))
+      copies_there k n s (Binary op a b) h =
+          let m = n + call_count a in
+          let x = emit Y P here k n s a in
+          let y = emit Y P here k m x.state b in
+          let oa = occurrences P here.node k n a in
+          let ob = occurrences P here.node k m b in
+          next s (at k n (Binary op a b)) (oa ++ ob) tt
+          (both s x.state oa ob (copies_there k n s a)
+          (copies_there k m x.state b
+          (before_add k y.state (zip2 (ApplyBinary op) x.found y.found) h)))
+      copies_there k n s (If c a b) h =
+          let na = n + call_count c in
+          let nb = na + call_count a in
+          let z = emit Y P here k n s c in
+          let x = emit Y P here k na z.state a in
+          let y = emit Y P here k nb x.state b in
+          let oc = occurrences P here.node k n c in
+          let oa = occurrences P here.node k na a in
+          let ob = occurrences P here.node k nb b in
+          next s (at k n (If c a b)) (oc ++ (oa ++ ob)) tt
+          (both s z.state oc (oa ++ ob) (copies_there k n s c)
+          (both z.state x.state oa ob (copies_there k na z.state a)
+          (copies_there k nb x.state b
+          (before_add k y.state (chosen_by z.found x.found y.found) h))))
+      copies_there k n s (Arrow a b) h =
+          let m = n + call_count a in
+          let x = emit Y P here k n s a in
+          let y = emit Y P here k m x.state b in
+          let oa = occurrences P here.node k n a in
+          let ob = occurrences P here.node k m b in
+          next s (at k n (Arrow a b)) (oa ++ ob) tt
+          (both s x.state oa ob (copies_there k n s a)
+          (copies_there k m x.state b
+          (before_add k y.state (zip2 (FirstThen false) x.found y.found) h)))
+      copies_there k n s (Fby a b) h =
+          let m = n + call_count a in
+          let x = emit Y P here k n s a in
+          let w = emit Y P here k m x.state b in
+          let y = keep w in
+          let ops = map (Previous first_value) y.found in
+          let z = add (flat_clock Y here.path k) y.state ops in
+          let oa = occurrences P here.node k n a in
+          let ob = occurrences P here.node k m b in
+          next s (at k n (Fby a b)) (oa ++ ob) tt
+          (both s x.state oa ob (copies_there k n s a)
+          (copies_there k m x.state b
+          (before_keep w
+          (before_add k y.state ops
+          (before_add k z.state (zip2 (FirstThen false) x.found z.found) h)))))
+      copies_there k n s (Pre a) h =
+          let w = emit Y P here k n s a in
+          let x = keep w in
+          next s (at k n (Pre a)) (occurrences P here.node k n a) tt
+          (copies_there k n s a
+          (before_keep w (before_add k x.state (map (Previous first_value) x.found) h)))
+      copies_there k n s (When a x sign) h =
+          let own = declared_clock here.node x in
+          let z = emit Y P here own n s a in
+          next s (at k n (When a x sign)) (occurrences P here.node own n a) tt
+          (copies_there own n s a (before_add (On own x sign) z.state (map Sample z.found) h))
+      copies_there k n s (Current a) h =
+          let own = clock_or (clock_of P here.node a) in
+          let w = emit Y P here own n s a in
+          let x = keep w in
+          next s (at k n (Current a)) (occurrences P here.node own n a) tt
+          (copies_there own n s a
+          (before_keep w (before_add k x.state (map (Latest first_value) x.found) h)))
+      copies_there k n s (Replicate a m) h =
+          next s (at k n (Replicate a m)) (occurrences P here.node k n a) tt
+          (copies_there k n s a h)
+      copies_there k n s (Index a i) h =
+          next s (at k n (Index a i)) (occurrences P here.node k n a) tt (copies_there k n s a h)
+      copies_there k n s (Slice a i j) h =
+          next s (at k n (Slice a i j)) (occurrences P here.node k n a) tt
+          (copies_there k n s a h)
+      copies_there k n s (Join a b) h =
+          let m = n + call_count a in
+          let x = emit Y P here k n s a in
+          let oa = occurrences P here.node k n a in
+          let ob = occurrences P here.node k m b in
+          next s (at k n (Join a b)) (oa ++ ob) tt
+          (both s x.state oa ob (copies_there k n s a) (copies_there k m x.state b h))
+      copies_there k n s (Array es) h =
+          next s (at k n (Array es)) (occurrences_in P here.node k n es) tt
+          (row_copies k n s es h)
+      copies_there k n s (AtMostOne es) h =
+          let r = emit_all Y P here k n s es in
+          next s (at k n (AtMostOne es)) (occurrences_in P here.node k n es) tt
+          (row_copies k n s es
+          (subst Within
+          (at_most_one_copies (flat_clock Y here.path k) r.state (joined r.found)) h))
+      copies_there k n s (Nor es) h =
+          let r = emit_all Y P here k n s es in
+          next s (at k n (Nor es)) (occurrences_in P here.node k n es) tt
+          (row_copies k n s es
+          (subst Within (nor_copies (flat_clock Y here.path k) r.state (joined r.found)) h))
+      copies_there k n s (Call f statics es) h =
+          let child = Child here.path n 0 in
+          let callee = node_named P f in
+          let ks = call_clocks k callee es in
+          let r = emit_each Y P here ks (n + 1) s es in
+          let places = flat_map (λ o. Y.places child o.name) (outputs_of P here f) in
+          let qs = call_copies Y child callee r.found in
+          let all = subst Within (joins_copies r.state qs places) h in
+          next s (at k n (Call f statics es)) (occurrences_each P here.node ks (n + 1) es)
+          (s, Every-second (λ q. In q cs) r.state.copies qs all)
+          (each_copies ks (n + 1) s es (Every-first (λ q. In q cs) r.state.copies qs all))
+      copies_there k n s (Iterate it (Node_named f statics) m es) h =
+          let count = number P here m in
+          let r = emit_all Y P here k (n + 1) s es in
+          let places =
+          iterated (λ i x. Y.places (Child here.path n i) x) count it (outputs_of P here f) in
+          let qs = iterator_copies Y here.path n it count (node_named P f) r.found in
+          let all = subst Within (joins_copies r.state qs places) h in
+          next s (at k n (Iterate it (Node_named f statics) m es))
+          (occurrences_in P here.node k (n + 1) es)
+          (s, Every-second (λ q. In q cs) r.state.copies qs all)
+          (row_copies k (n + 1) s es (Every-first (λ q. In q cs) r.state.copies qs all))
+      copies_there k n s (Iterate it (Symbol op) m es) h =
+          let r = emit_all Y P here k n s es in
+          next s (at k n (Iterate it (Symbol op) m es)) (occurrences_in P here.node k n es) tt
+          (row_copies k n s es
+          (subst Within (symbol_copies (flat_clock Y here.path k) op r.state it r.found) h))
+
+      row_copies :
+          (k : Clock) (n : ℕ) (s : State) (es : Exprs) →
+          Within (emit_all Y P here k n s es).state.copies →
+          AreThere s (occurrences_in P here.node k n es)
+      row_copies k n s Nil h = nothing s h
+      row_copies k n s (Cons e es) h =
+          let m = n + call_count e in
+          let x = emit Y P here k n s e in
+          both s x.state (occurrences P here.node k n e) (occurrences_in P here.node k m es)
+          (copies_there k n s e) (row_copies k m x.state es h)
+
+      each_copies :
+          (ks : List Clock) (n : ℕ) (s : State) (es : Exprs) →
+          Within (emit_each Y P here ks n s es).state.copies →
+          AreThere s (occurrences_each P here.node ks n es)
+      each_copies ks n s Nil h = nothing s h
+      each_copies [] n s (Cons e es) h = nothing s h
+      each_copies (k ∷ ks) n s (Cons e es) h =
+          let m = n + call_count e in
+          let x = emit Y P here k n s e in
+          both s x.state (occurrences P here.node k n e) (occurrences_each P here.node ks m es)
+          (copies_there k n s e) (each_copies ks m x.state es h)
+
+    -- ## Statements
+
+    record AreBodyThere (s : State) (ss : List (Statement × Occurrence)) (os : List Occurrence) :
+        Type 0 where
+      before : Within s.copies
+      calls : Every IsCopied os
+      lefts : Every IsLeftCopied ss
+
+    body_copies :
+        (n : ℕ) (s : State) (body : List Statement) →
+        Within (emit_body Y P here n s body).copies →
+        AreBodyThere s (zip body (right_sides P here.node n body))
+        (occurrences_of P here.node (right_sides P here.node n body))
+    unfolding emit_body
+    body_copies n s [] h = record { before = h; calls = tt; lefts = tt }
+    body_copies n s (Assertion e ∷ rest) h =
+        let k = statement_clock P here.node (Assertion e) in
+        let m = n + call_count e in
+        let x = emit Y P here k n s e in
+        let r = body_copies m (assert x) rest h in
+        let a = copies_there k n s e (subst Within (assert_copies x) r.before) in
+        record {
+          before = a.before;
+          calls =
+              Every-append IsCopied (occurrences P here.node k n e)
+              (occurrences_of P here.node (right_sides P here.node m rest)) a.calls r.calls;
+          lefts = (tt, r.lefts);
+        }
+    body_copies n s (Equation lefts e ∷ rest) h =
+        let k = statement_clock P here.node (Equation lefts e) in
+        let m = n + call_count e in
+        let x = emit Y P here k n s e in
+        let qs = copied (flat_map (targets Y here.node here.path) lefts) x.found in
+        let r = body_copies m (joins x.state qs []).state rest h in
+        let all = subst Within (joins_copies x.state qs []) r.before in
+        let a = copies_there k n s e (Every-first (λ q. In q cs) x.state.copies qs all) in
+        record {
+          before = a.before;
+          calls =
+              Every-append IsCopied (occurrences P here.node k n e)
+              (occurrences_of P here.node (right_sides P here.node m rest)) a.calls r.calls;
+          lefts = ((s, Every-second (λ q. In q cs) x.state.copies qs all), r.lefts);
+        }
+
+  -- ## Instances
+
+  -- the copies of the calls and equations of an instance are there
+  pub record HasCopies (here : Instance) : Type 0 where
+    pub calls : Every (IsCopied here) (node_occurrences P here.node)
+    pub lefts : Every (IsLeftCopied here) (statements P here.node)
+
+  -- those of all instances are among the copies that are emitted
+  pub all_copied :
+      (s : State) (is : List Instance) → Within (emit_instances Y P s is).copies →
+      Within s.copies × Every HasCopies is
+  unfolding emit_instances
+  all_copied s [] h = (h, tt)
+  all_copied s (here ∷ rest) h =
+      let t = emit_body Y P here 0 s here.node.body in
+      let r = all_copied t rest h in
+      let a = body_copies here 0 s here.node.body r.0 in
+      (a.before, (record { calls = a.calls; lefts = a.lefts }, r.1))

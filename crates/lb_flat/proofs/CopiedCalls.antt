@@ -1,0 +1,524 @@
+-- The copies that an expression emits are the definitions of the inputs of what it calls, in
+-- whatever order: each copy is one of them, and each of them has its copy.
+use Rattle.std.proofs.Common.{◌≡◌, ℕ, zero, suc, ◌+◌, ◌<◌, ◌≤◌, false, Option, Some, None, List, []}
+use Rattle.std.proofs.Common.{◌∷◌, ◌++◌, map, length, flat_map, refl, sym, ap, ap₂, ◌∙◌, subst}
+use Rattle.std.proofs.Common.{arith}
+use Rattle.std.specs.List.{range_with_len}
+use Rattle.std.proofs.lemmas.List.{append-nil}
+use Rattle.lb_syntax.specs.declared.tree.ArrayIterator.{ArrayIterator}
+use Rattle.lb_syntax.specs.Lists.{Every, zip2, joined, listed}
+use Rattle.lb_syntax.specs.Tree.{Name, Static, Node_named, Symbol, Expr, Literal, Truth, Variable}
+use Rattle.lb_syntax.specs.Tree.{Group, Unary, Binary, If, Arrow, Fby, Pre, Current, When}
+use Rattle.lb_syntax.specs.Tree.{Replicate, Index, Slice, Join, Array, AtMostOne, Nor, Call}
+use Rattle.lb_syntax.specs.Tree.{Iterate, Exprs, Nil, Cons, Declaration, Node}
+use Rattle.lb_static.specs.StaticValues.{named}
+use Rattle.lb_static.specs.Instances.{Program, Instance, Path, Child, call_site, callee_of}
+use Rattle.lb_static.specs.Instances.{static_count, node_named}
+use Rattle.lb_static.specs.DataTypes.{DataType, variables}
+use Rattle.lb_check.specs.Types.{all_types, operator_types}
+use Rattle.lb_check.specs.Scalars.{Stream, first_value}
+use Rattle.lb_check.specs.Clocks.{Clock, On, Given, base_clock, outer, given_inputs, clock_of}
+use Rattle.lb_check.specs.Clocks.{clock_or, declared_clock, argument_clocks}
+use Rattle.lb_check.specs.Needs.{Element, Definition, elements, itself, needs, all_needs}
+use Rattle.lb_check.specs.Needs.{defined_as, input_definitions, output_elements, call_definitions}
+use Rattle.lb_check.specs.Occurrences.{Occurrence, at, call_count, call_clocks, occurrences}
+use Rattle.lb_check.specs.Occurrences.{occurrences_in, occurrences_each}
+use Rattle.lb_check.specs.Solutions.{iterator_inputs}
+use Rattle.lb_check.specs.Streams.{History, number, outputs_of, all_streams, argument_streams}
+use Rattle.lb_check.specs.Streams.{iterated}
+use Rattle.lb_flat.specs.Flat.{FlatClock, FlatEquation, Operation, FirstThen, Previous, Latest}
+use Rattle.lb_flat.specs.Flat.{Sample}
+use Rattle.lb_flat.specs.Layouts.{Layout, flat_clock}
+use Rattle.lb_flat.specs.Emit.{State, Emitted, received, call_copies, iterator_copies, add, keep}
+use Rattle.lb_flat.specs.Emit.{joins, emit_name, emit, emit_all, emit_each}
+use Rattle.lb_flat.proofs.Lists.{Every-first, Every-second}
+use Rattle.lb_flat.proofs.Emission.{joins_equations, joins_copies}
+use Rattle.lb_flat.proofs.Placing.{AreAsWide}
+use Rattle.lb_flat.proofs.TypeFacts.{bound}
+use Rattle.lb_flat.proofs.Widths.{called, placed, first_of_all, AreVariablesWide, IsOccurrenceWide}
+use Rattle.lb_flat.proofs.PlacedCalls.{call_as_wide, iterator_as_wide}
+use Rattle.lb_flat.proofs.TypedParts.{IsTypedAt}
+use Rattle.lb_flat.proofs.EmittedCopies.{add_copies, keep_copies, nor_copies, at_most_one_copies}
+use Rattle.lb_flat.proofs.EmittedCopies.{symbol_copies}
+use Rattle.lb_flat.proofs.FoundWidths.{length-inputs, as_many, all_as_many}
+use Rattle.lb_flat.proofs.GivenCalls.{clocks_enough}
+use Rattle.lb_flat.proofs.LinkSymbols.{keep_equations, symbol_before}
+use Rattle.lb_flat.proofs.LinkWords.{Pairs, pairs-append, AllMeet, AreLinks, variable_links, added}
+use Rattle.lb_flat.proofs.LinkWords.{nor_gives, at_most_one_gives}
+use Rattle.lb_flat.proofs.LinkTerms.{AreNumbered, IsKnown, outputs_numbered, linked, all_linked}
+use Rattle.lb_flat.proofs.LinkTerms.{each_before}
+use Rattle.lb_flat.proofs.CopiedDefinitions.{AreMatched, matched-none, matched-append}
+use Rattle.lb_flat.proofs.CopiedDefinitions.{matched-crossed, matched-pairs, pieces-append}
+use Rattle.lb_flat.proofs.CopiedDefinitions.{IsDefinedBy, AreDeclared, AreFed, received_paired}
+use Rattle.lb_flat.proofs.CopiedDefinitions.{fed_of, inputs_linked}
+
+-- item by item over numbers in order
+range_pairs :
+    {A B : Type 0} (R : A → B → Type 0) (f : ℕ → List A) (g : ℕ → List B) (n a m : ℕ) →
+    a + m ≤ n → ((i : ℕ) → i < n → Pairs R (f i) (g i)) →
+    Pairs R (flat_map f (range_with_len a m)) (flat_map g (range_with_len a m))
+range_pairs R f g n a zero le h = tt
+range_pairs R f g n a (suc m) le h =
+    pairs-append R (f a) (g a) (flat_map f (range_with_len (a + 1) m))
+    (flat_map g (range_with_len (a + 1) m)) (h a (omega arith))
+    (range_pairs R f g n (a + 1) m (omega arith) h)
+
+module _ (Y : Layout) (P : Program) (H : History)
+    (same : (p : Path) (x : Name) → length (Y.places p x) ≡ length (H.columns p x))
+    (IsAt : Element → ℕ → Type 0) (Under : ℕ → ℕ → Type 0) (Left : ℕ → Type 0)
+    (here : Instance) (variables_wide : AreVariablesWide P H here here)
+    (numbered : AreNumbered Y P H same IsAt Under Left here here) where
+  abbrev Defined : FlatEquation → Definition → Type 0
+  Defined q d = IsDefinedBy Y P H same IsAt Under Left q d
+
+  abbrev flat : Clock → FlatClock
+  flat k = flat_clock Y here.path k
+
+  abbrev Links : Clock → List ℕ → List (List Element) → Type 0
+  Links k is yss = AreLinks IsAt Under Left (flat k) is yss
+
+  abbrev Parts : List Occurrence → Type 0
+  Parts os = Every (IsKnown Y P H same IsAt Under Left here) os
+
+  abbrev Met : State → Type 0
+  Met s = AllMeet IsAt Under Left s.equations
+
+  -- the inputs of what is called are on the clocks of the arguments, and stand at their numbers
+  abbrev pub IsPassed : Clock → ℕ → Expr → Type 0
+  IsPassed k n (Call f statics es) =
+      (c : Instance) → callee_of P here (call_site f statics) n 0 ≡ Some c →
+      Every (λ d. flat_clock Y c.path (declared_clock c.node d.name)
+      ≡ flat_clock Y here.path
+      (outer (base_clock k c.node) (given_inputs c.node.inputs es) (declared_clock c.node d.name)))
+      c.node.inputs
+      × AreDeclared Y P H same IsAt Under Left c c.node.inputs
+  IsPassed k n (Iterate it (Node_named f statics) m es) =
+      (i : ℕ) → i < number P here m → (c : Instance) →
+      callee_of P here (call_site f statics) n i ≡ Some c →
+      Every (λ d. flat_clock Y c.path (declared_clock c.node d.name) ≡ flat_clock Y here.path k)
+      c.node.inputs
+      × AreDeclared Y P H same IsAt Under Left c c.node.inputs
+  IsPassed k n e = Unit {0}
+
+  abbrev IsGivenTo : Occurrence → Type 0
+  IsGivenTo o = IsPassed o.clock o.calls_before o.expr
+
+  abbrev pub ArePassed : List Occurrence → Type 0
+  ArePassed os = Every IsGivenTo os
+
+  -- the definitions of the inputs of what these call
+  abbrev pub called_by : List Occurrence → List Definition
+  called_by os = flat_map (λ o. call_definitions P here o.calls_before o.expr) os
+
+  -- the copies of the later state are these definitions besides
+  pub record Defines (s t : State) (ds : List Definition) : Type 0 where
+    pub new : List FlatEquation
+    pub copies : t.copies ≡ s.copies ++ new
+    pub matched : AreMatched Defined new ds
+
+  defines_none : (s t : State) → t.copies ≡ s.copies → Defines s t []
+  defines_none s t e = record {
+    new = [];
+    copies = e ∙ sym (append-nil s.copies);
+    matched = matched-none Defined;
+  }
+
+  defines_after :
+      (s t u : State) (ds : List Definition) → Defines s t ds → u.copies ≡ t.copies →
+      Defines s u ds
+  defines_after s t u ds a e =
+      record { new = a.new; copies = e ∙ a.copies; matched = a.matched }
+
+  assoc : (qs rs ts : List FlatEquation) → (qs ++ rs) ++ ts ≡ qs ++ (rs ++ ts)
+  assoc [] rs ts = refl
+  assoc (q ∷ qs) rs ts = ap (λ us. q ∷ us) (assoc qs rs ts)
+
+  defines_two :
+      (s t u : State) (os os' : List Occurrence) → Defines s t (called_by os) →
+      Defines t u (called_by os') → Defines s u (called_by (os ++ os'))
+  defines_two s t u os os' a b = record {
+    new = a.new ++ b.new;
+    copies = b.copies ∙ (ap (λ qs. qs ++ b.new) a.copies ∙ assoc s.copies a.new b.new);
+    matched = subst (AreMatched Defined (a.new ++ b.new))
+        (sym (pieces-append (λ o. call_definitions P here o.calls_before o.expr) os os'))
+        (matched-append Defined a.new b.new (called_by os) (called_by os') a.matched b.matched);
+  }
+
+  -- a call whose copies are these stands before those in its arguments
+  defines_call :
+      (s t u : State) (qs : List FlatEquation) (own ds : List Definition) → Defines s t ds →
+      u.copies ≡ t.copies ++ qs → AreMatched Defined qs own → Defines s u (own ++ ds)
+  defines_call s t u qs own ds a e m = record {
+    new = a.new ++ qs;
+    copies = e ∙ (ap (λ rs. rs ++ qs) a.copies ∙ assoc s.copies a.new qs);
+    matched = matched-crossed Defined a.new qs ds own a.matched m;
+  }
+
+  fore : (os os' : List Occurrence) → Parts (os ++ os') → Parts os
+  fore os os' h = Every-first (IsKnown Y P H same IsAt Under Left here) os os' h
+
+  aft : (os os' : List Occurrence) → Parts (os ++ os') → Parts os'
+  aft os os' h = Every-second (IsKnown Y P H same IsAt Under Left here) os os' h
+
+  before : (os os' : List Occurrence) → ArePassed (os ++ os') → ArePassed os
+  before os os' h = Every-first IsGivenTo os os' h
+
+  behind : (os os' : List Occurrence) → ArePassed (os ++ os') → ArePassed os'
+  behind os os' h = Every-second IsGivenTo os os' h
+
+  term_linked :
+      (k : Clock) (n : ℕ) (s : State) (e : Expr) → Parts (occurrences P here.node k n e) →
+      Met (emit Y P here k n s e).state →
+      Met s × Links k (emit Y P here k n s e).found (needs P here n e)
+  term_linked k n s e p h =
+      let l = linked Y P H same IsAt Under Left here variables_wide numbered k n s e p h in
+      (l.before, l.links)
+
+  -- ## One call
+
+  each_fed :
+      (p : Path) (callee : Node) (given : Given) (b : Clock) (ds : List Declaration) (n : ℕ)
+      (s : State) (es : Exprs) (us : List DataType) → all_types P here es ≡ Some us →
+      let ks : List Clock = map (λ d. outer b given (declared_clock callee d.name)) ds in
+      length us ≤ length ks → Parts (occurrences_each P here.node ks n es) →
+      Met (emit_each Y P here ks n s es).state →
+      Every (λ d. flat_clock Y p (declared_clock callee d.name)
+      ≡ flat (outer b given (declared_clock callee d.name))) ds →
+      AreAsWide H p ds (argument_streams P H here ks n es) →
+      AreFed Y P H same IsAt Under Left p callee ds (emit_each Y P here ks n s es).found
+      (all_needs P here n es)
+  unfolding emit needs
+  each_fed p callee given b [] n s Nil us is le parts h c w = tt
+  each_fed p callee given b (d ∷ ds) n s Nil us is le parts h c w = absurd w
+  each_fed p callee given b [] n s (Cons e es) us is le parts h c w =
+      let f = first_of_all P H here e es us is in
+      absurd (omega (arith, le, ap length f.all))
+  each_fed p callee given b (d ∷ ds) n s (Cons e es) us is le parts h c w =
+      let k = outer b given (declared_clock callee d.name) in
+      let ks : List Clock = map (λ d. outer b given (declared_clock callee d.name)) ds in
+      let m = n + call_count e in
+      let x = emit Y P here k n s e in
+      let oa = occurrences P here.node k n e in
+      let ob = occurrences_each P here.node ks m es in
+      let f = first_of_all P H here e es us is in
+      let kept = each_before Y P H same IsAt Under Left here variables_wide numbered ks m x.state es
+      (aft oa ob parts) h in
+      let l = term_linked k n s e (fore oa ob parts) kept in (
+        (
+          subst (λ l. AreLinks IsAt Under Left l x.found (needs P here n e)) (sym c.0) l.1,
+          same p d.name ∙ (w.0 ∙ sym (as_many Y P H here same k n s e)),
+        ),
+        each_fed p callee given b ds m x.state es f.rest f.others
+            (omega (arith, le, ap length f.all)) (aft oa ob parts) h c.1 w.1,
+      )
+
+  call_matched :
+      (k : Clock) (n : ℕ) (s : State) (f : Name) (statics : List Static) (es : Exprs) →
+      IsTypedAt P H here (at k n (Call f statics es)) → IsPassed k n (Call f statics es) →
+      Parts (occurrences_each P here.node (call_clocks k (node_named P f) es) (n + 1) es) →
+      Met (emit_each Y P here (call_clocks k (node_named P f) es) (n + 1) s es).state →
+      AreMatched Defined
+      (call_copies Y (Child here.path n 0) (node_named P f)
+      (emit_each Y P here (call_clocks k (node_named P f) es) (n + 1) s es).found)
+      (call_definitions P here n (Call f statics es))
+  call_matched k n s f statics es t passed parts met =
+      let o = bound (operator_types P here (Node_named f statics)) _ t.types t.are in
+      let c = called P here f statics o.value o.is in
+      let p = placed P here f statics c.callee c.is in
+      let node = c.callee.node in
+      let child = Child here.path n 0 in
+      let callee : Instance = record c.callee { path = child } in
+      let given = passed callee (p.at n 0) in
+      let enough = clocks_enough Y P H here same variables_wide 0 k f statics es t.types t.are in
+      let fewer = subst (λ o. length enough.0 ≤ length (call_clocks k o es)) p.node enough.2 in
+      let own_parts = subst (λ o.
+      Parts (occurrences_each P here.node (call_clocks k o es) (n + 1) es)) p.node parts in
+      let own_met = subst (λ o. Met (emit_each Y P here (call_clocks k o es) (n + 1) s es).state)
+      p.node met in
+      let wide = subst (λ o. Every (IsOccurrenceWide P H here)
+      (occurrences_each P here.node (call_clocks k o es) (n + 1) es)) p.node t.parts.1 in
+      let as_wide = call_as_wide P H here variables_wide k n f statics es t.types t.are t.parts.0
+      node p.node wide in
+      let args = all_needs P here (n + 1) es in
+      let found : Option Node → List (List ℕ) =
+      λ o. (emit_each Y P here (call_clocks k o es) (n + 1) s es).found in
+      let fed = each_fed child node (given_inputs node.inputs es) (base_clock k node) node.inputs
+      (n + 1) s es enough.0 enough.1 fewer own_parts own_met given.0 as_wide in
+      let own = matched-pairs Defined (received Y node child node.inputs (found (Some node)))
+      (defined_as (flat_map (elements P callee) node.inputs) (joined args))
+      (received_paired Y P H same IsAt Under Left callee node node.inputs (found (Some node)) args
+      given.1 fed) in
+      subst (λ o. AreMatched Defined (call_copies Y child o (found o))
+      (input_definitions P (callee_of P here (call_site f statics) n 0) args)) (sym p.node)
+      (subst (λ o. AreMatched Defined (received Y node child node.inputs (found (Some node)))
+      (input_definitions P o args)) (sym (p.at n 0)) own)
+
+  iterator_matched :
+      (k : Clock) (n : ℕ) (s : State) (it : ArrayIterator) (f : Name) (statics : List Static)
+      (m : Static) (es : Exprs) →
+      IsKnown Y P H same IsAt Under Left here (at k n (Iterate it (Node_named f statics) m es)) →
+      IsPassed k n (Iterate it (Node_named f statics) m es) →
+      Pairs (Links k) (emit_all Y P here k (n + 1) s es).found (all_needs P here (n + 1) es) →
+      AreMatched Defined
+      (iterator_copies Y here.path n it (number P here m) (node_named P f)
+      (emit_all Y P here k (n + 1) s es).found)
+      (call_definitions P here n (Iterate it (Node_named f statics) m es))
+  iterator_matched k n s it f statics m es known passed l =
+      let t = known.typed in
+      let size = bound (static_count P here m) _ t.types t.are in
+      let o = bound (operator_types P here (Node_named f statics)) _ t.types size.gives in
+      let c = called P here f statics o.value o.is in
+      let p = placed P here f statics c.callee c.is in
+      let node = c.callee.node in
+      let count = number P here m in
+      let callee : ℕ → Instance = λ i. record c.callee { path = Child here.path n i } in
+      let found = (emit_all Y P here k (n + 1) s es).found in
+      let args = all_needs P here (n + 1) es in
+      let places : ℕ → Name → List ℕ = λ i x. Y.places (Child here.path n i) x in
+      let streams : ℕ → Name → List Stream = λ i x. H.columns (Child here.path n i) x in
+      let outs : ℕ → Name → List (List Element) =
+      λ i x. itself (output_elements P here f statics n i x) in
+      let lengths = all_as_many Y P H here same k (n + 1) s es in
+      let outputs : (i : ℕ) → i < count → (x : Name) → Links k (places i x) (outs i x) =
+      λ i lt x. variable_links IsAt Under Left (flat k) (places i x)
+      (output_elements P here f statics n i x)
+      (outputs_numbered Y P H same IsAt Under Left here f statics n i (callee i) (p.at n i) refl
+      (known.linkable.1 i lt (callee i) (p.at n i)) x) in
+      let copies : ℕ → List FlatEquation =
+      λ i. received Y node (Child here.path n i) node.inputs
+      (iterator_inputs places count it node.outputs found i) in
+      let definitions : ℕ → List Definition =
+      λ i. input_definitions P (callee_of P here (call_site f statics) n i)
+      (iterator_inputs outs count it node.outputs args i) in
+      let one : (i : ℕ) → i < count → Pairs Defined (copies i) (definitions i) =
+      λ i lt.
+      let given = passed i lt (callee i) (p.at n i) in
+      let iss = iterator_inputs places count it node.outputs found i in
+      let ysss = iterator_inputs outs count it node.outputs args i in
+      let fed = fed_of Y P H same IsAt Under Left (flat k) (Child here.path n i) node node.inputs
+      iss ysss
+      (iterator_inputs streams count it node.outputs (all_streams P H here k (n + 1) es) i) given.0
+      (inputs_linked Y P H same IsAt Under Left (flat k) places outs count outputs it node.outputs
+      found args i lt l)
+      (iterator_as_wide P H here variables_wide k n it f statics m es t.types t.are t.parts.0.1 node
+      p.node t.parts.1 i lt)
+      (length-inputs places streams (λ j x. same (Child here.path n j) x) count it node.outputs
+      found (all_streams P H here k (n + 1) es) i lengths) in
+      subst (λ o. Pairs Defined (copies i) (input_definitions P o ysss)) (sym (p.at n i))
+      (received_paired Y P H same IsAt Under Left (callee i) node node.inputs iss ysss given.1
+      fed) in
+      let all = matched-pairs Defined (flat_map copies (range_with_len 0 count))
+      (flat_map definitions (range_with_len 0 count))
+      (range_pairs Defined copies definitions count 0 count (omega arith) one) in
+      subst (λ o. AreMatched Defined (iterator_copies Y here.path n it count o found)
+      (flat_map (λ i. input_definitions P (callee_of P here (call_site f statics) n i)
+      (iterator_inputs outs count it (listed (λ n. n.outputs) o) args i)) (range_with_len 0 count)))
+      (sym p.node) all
+
+  -- ## Expressions
+
+  name_defines : (k : Clock) (s : State) (x : Name) (o : Option Declaration) →
+      Defines s (emit_name Y P here k s x o).state []
+  name_defines k s x None = defines_none s _ (add_copies (flat k) s _)
+  name_defines k s x (Some d) = defines_none s s refl
+
+  added_met : (k : FlatClock) (s : State) (os : List Operation) → Met (add k s os).state → Met s
+  added_met k s os h = let n = added IsAt Under Left k s os h in n.before
+
+  kept_met : (x : Emitted) → Met (keep x).state → Met x.state
+  kept_met x h = subst (AllMeet IsAt Under Left) (keep_equations x) h
+
+  mutual
+    unfolding emit
+
+    -- the copies of an expression are the definitions of what its calls receive
+    pub calls_defined :
+        (k : Clock) (n : ℕ) (s : State) (e : Expr) → Parts (occurrences P here.node k n e) →
+        ArePassed (occurrences P here.node k n e) → Met (emit Y P here k n s e).state →
+        Defines s (emit Y P here k n s e).state (called_by (occurrences P here.node k n e))
+    calls_defined k n s (Literal m) p g h = defines_none s _ (add_copies (flat k) s _)
+    calls_defined k n s (Truth b) p g h = defines_none s _ (add_copies (flat k) s _)
+    calls_defined k n s (Variable x) p g h =
+        name_defines k s x (named (λ d. d.name) x (variables here.node))
+    calls_defined k n s (Group a) p g h = calls_defined k n s a p g h
+    calls_defined k n s (Unary op a) p g h =
+        let x = emit Y P here k n s a in
+        defines_after s x.state _ (called_by (occurrences P here.node k n a))
+        (calls_defined k n s a p.1 g.1 (added_met (flat k) x.state _ h))
+        (add_copies (flat k) x.state _)
+    calls_defined k n s (Binary op a b) p g h =
+        let m = n + call_count a in
+        let x = emit Y P here k n s a in
+        let y = emit Y P here k m x.state b in
+        let oa = occurrences P here.node k n a in
+        let ob = occurrences P here.node k m b in
+        let met = added_met (flat k) y.state _ h in
+        let first = (term_linked k m x.state b (aft oa ob p.1) met).0 in
+        defines_after s y.state _ (called_by (oa ++ ob))
+        (defines_two s x.state y.state oa ob
+        (calls_defined k n s a (fore oa ob p.1) (before oa ob g.1) first)
+        (calls_defined k m x.state b (aft oa ob p.1) (behind oa ob g.1) met))
+        (add_copies (flat k) y.state _)
+    calls_defined k n s (If c a b) p g h =
+        let na = n + call_count c in
+        let nb = na + call_count a in
+        let z = emit Y P here k n s c in
+        let x = emit Y P here k na z.state a in
+        let y = emit Y P here k nb x.state b in
+        let oc = occurrences P here.node k n c in
+        let oa = occurrences P here.node k na a in
+        let ob = occurrences P here.node k nb b in
+        let p' = aft oc (oa ++ ob) p.1 in
+        let g' = behind oc (oa ++ ob) g.1 in
+        let met = added_met (flat k) y.state _ h in
+        let second = (term_linked k nb x.state b (aft oa ob p') met).0 in
+        let first = (term_linked k na z.state a (fore oa ob p') second).0 in
+        defines_after s y.state _ (called_by (oc ++ (oa ++ ob)))
+        (defines_two s z.state y.state oc (oa ++ ob)
+        (calls_defined k n s c (fore oc (oa ++ ob) p.1) (before oc (oa ++ ob) g.1) first)
+        (defines_two z.state x.state y.state oa ob
+        (calls_defined k na z.state a (fore oa ob p') (before oa ob g') second)
+        (calls_defined k nb x.state b (aft oa ob p') (behind oa ob g') met)))
+        (add_copies (flat k) y.state _)
+    calls_defined k n s (Arrow a b) p g h =
+        let m = n + call_count a in
+        let x = emit Y P here k n s a in
+        let y = emit Y P here k m x.state b in
+        let oa = occurrences P here.node k n a in
+        let ob = occurrences P here.node k m b in
+        let met = added_met (flat k) y.state _ h in
+        let first = (term_linked k m x.state b (aft oa ob p.1) met).0 in
+        defines_after s y.state _ (called_by (oa ++ ob))
+        (defines_two s x.state y.state oa ob
+        (calls_defined k n s a (fore oa ob p.1) (before oa ob g.1) first)
+        (calls_defined k m x.state b (aft oa ob p.1) (behind oa ob g.1) met))
+        (add_copies (flat k) y.state _)
+    calls_defined k n s (Fby a b) p g h =
+        let m = n + call_count a in
+        let x = emit Y P here k n s a in
+        let y = emit Y P here k m x.state b in
+        let memory = map (Previous first_value) (keep y).found in
+        let z = add (flat k) (keep y).state memory in
+        let oa = occurrences P here.node k n a in
+        let ob = occurrences P here.node k m b in
+        let met = kept_met y (added_met (flat k) (keep y).state memory
+        (added_met (flat k) z.state (zip2 (FirstThen false) x.found z.found) h)) in
+        let first = (term_linked k m x.state b (aft oa ob p.1) met).0 in
+        defines_after s y.state _ (called_by (oa ++ ob))
+        (defines_two s x.state y.state oa ob
+        (calls_defined k n s a (fore oa ob p.1) (before oa ob g.1) first)
+        (calls_defined k m x.state b (aft oa ob p.1) (behind oa ob g.1) met))
+        (add_copies (flat k) z.state (zip2 (FirstThen false) x.found z.found)
+        ∙ (add_copies (flat k) (keep y).state memory ∙ keep_copies y))
+    calls_defined k n s (Pre a) p g h =
+        let x = emit Y P here k n s a in
+        let memory = map (Previous first_value) (keep x).found in
+        defines_after s x.state _ (called_by (occurrences P here.node k n a))
+        (calls_defined k n s a p.1 g.1 (kept_met x (added_met (flat k) (keep x).state memory h)))
+        (add_copies (flat k) (keep x).state memory ∙ keep_copies x)
+    calls_defined k n s (When a y sign) p g h =
+        let own = declared_clock here.node y in
+        let x = emit Y P here own n s a in
+        defines_after s x.state _ (called_by (occurrences P here.node own n a))
+        (calls_defined own n s a p.1 g.1
+        (added_met (flat (On own y sign)) x.state (map Sample x.found) h))
+        (add_copies (flat (On own y sign)) x.state (map Sample x.found))
+    calls_defined k n s (Current a) p g h =
+        let own = clock_or (clock_of P here.node a) in
+        let x = emit Y P here own n s a in
+        let memory = map (Latest first_value) (keep x).found in
+        defines_after s x.state _ (called_by (occurrences P here.node own n a))
+        (calls_defined own n s a p.1 g.1 (kept_met x (added_met (flat k) (keep x).state memory h)))
+        (add_copies (flat k) (keep x).state memory ∙ keep_copies x)
+    calls_defined k n s (Replicate a m) p g h = calls_defined k n s a p.1 g.1 h
+    calls_defined k n s (Index a i) p g h = calls_defined k n s a p.1 g.1 h
+    calls_defined k n s (Slice a i j) p g h = calls_defined k n s a p.1 g.1 h
+    calls_defined k n s (Join a b) p g h =
+        let m = n + call_count a in
+        let x = emit Y P here k n s a in
+        let y = emit Y P here k m x.state b in
+        let oa = occurrences P here.node k n a in
+        let ob = occurrences P here.node k m b in
+        let first = (term_linked k m x.state b (aft oa ob p.1) h).0 in
+        defines_two s x.state y.state oa ob
+        (calls_defined k n s a (fore oa ob p.1) (before oa ob g.1) first)
+        (calls_defined k m x.state b (aft oa ob p.1) (behind oa ob g.1) h)
+    calls_defined k n s (Array es) p g h = all_defined k n s es p.1 g.1 h
+    calls_defined k n s (AtMostOne es) p g h =
+        let r = emit_all Y P here k n s es in
+        let one = at_most_one_gives IsAt Under Left (flat k) r.state (joined r.found) h in
+        defines_after s r.state _ (called_by (occurrences_in P here.node k n es))
+        (all_defined k n s es p.1 g.1 one.before)
+        (at_most_one_copies (flat k) r.state (joined r.found))
+    calls_defined k n s (Nor es) p g h =
+        let r = emit_all Y P here k n s es in
+        let one = nor_gives IsAt Under Left (flat k) r.state (joined r.found) h in
+        defines_after s r.state _ (called_by (occurrences_in P here.node k n es))
+        (all_defined k n s es p.1 g.1 one.before)
+        (nor_copies (flat k) r.state (joined r.found))
+    calls_defined k n s (Call f statics es) p g h =
+        let ks = call_clocks k (node_named P f) es in
+        let r = emit_each Y P here ks (n + 1) s es in
+        let copies = call_copies Y (Child here.path n 0) (node_named P f) r.found in
+        let is = flat_map (λ o. Y.places (Child here.path n 0) o.name) (outputs_of P here f) in
+        let met = subst (AllMeet IsAt Under Left) (joins_equations r.state copies is) h in
+        defines_call s r.state _ copies (call_definitions P here n (Call f statics es))
+        (called_by (occurrences_each P here.node ks (n + 1) es))
+        (each_defined ks (n + 1) s es p.1 g.1 met) (joins_copies r.state copies is)
+        (call_matched k n s f statics es p.0.typed g.0 p.1 met)
+    calls_defined k n s (Iterate it (Node_named f statics) m es) p g h =
+        let r = emit_all Y P here k (n + 1) s es in
+        let count = number P here m in
+        let copies = iterator_copies Y here.path n it count (node_named P f) r.found in
+        let is = iterated (λ i x. Y.places (Child here.path n i) x) count it
+        (outputs_of P here f) in
+        let met = subst (AllMeet IsAt Under Left) (joins_equations r.state copies is) h in
+        let l = all_linked Y P H same IsAt Under Left here variables_wide numbered k (n + 1) s es
+        p.1 met in
+        defines_call s r.state _ copies
+        (call_definitions P here n (Iterate it (Node_named f statics) m es))
+        (called_by (occurrences_in P here.node k (n + 1) es))
+        (all_defined k (n + 1) s es p.1 g.1 met) (joins_copies r.state copies is)
+        (iterator_matched k n s it f statics m es p.0 g.0 l.links)
+    calls_defined k n s (Iterate it (Symbol op) m es) p g h =
+        let r = emit_all Y P here k n s es in
+        defines_after s r.state _ (called_by (occurrences_in P here.node k n es))
+        (all_defined k n s es p.1 g.1
+        (symbol_before IsAt Under Left (flat k) op r.state it r.found h))
+        (symbol_copies (flat k) op r.state it r.found)
+
+    all_defined :
+        (k : Clock) (n : ℕ) (s : State) (es : Exprs) → Parts (occurrences_in P here.node k n es) →
+        ArePassed (occurrences_in P here.node k n es) → Met (emit_all Y P here k n s es).state →
+        Defines s (emit_all Y P here k n s es).state (called_by (occurrences_in P here.node k n es))
+    all_defined k n s Nil p g h = defines_none s s refl
+    all_defined k n s (Cons e es) p g h =
+        let m = n + call_count e in
+        let x = emit Y P here k n s e in
+        let oa = occurrences P here.node k n e in
+        let ob = occurrences_in P here.node k m es in
+        let l = all_linked Y P H same IsAt Under Left here variables_wide numbered k m x.state es
+        (aft oa ob p) h in
+        defines_two s x.state _ oa ob
+        (calls_defined k n s e (fore oa ob p) (before oa ob g) l.before)
+        (all_defined k m x.state es (aft oa ob p) (behind oa ob g) h)
+
+    each_defined :
+        (ks : List Clock) (n : ℕ) (s : State) (es : Exprs) →
+        Parts (occurrences_each P here.node ks n es) →
+        ArePassed (occurrences_each P here.node ks n es) →
+        Met (emit_each Y P here ks n s es).state →
+        Defines s (emit_each Y P here ks n s es).state
+        (called_by (occurrences_each P here.node ks n es))
+    each_defined ks n s Nil p g h = defines_none s s refl
+    each_defined [] n s (Cons e es) p g h = defines_none s s refl
+    each_defined (k ∷ ks) n s (Cons e es) p g h =
+        let m = n + call_count e in
+        let x = emit Y P here k n s e in
+        let oa = occurrences P here.node k n e in
+        let ob = occurrences_each P here.node ks m es in
+        let kept = each_before Y P H same IsAt Under Left here variables_wide numbered ks m x.state
+        es (aft oa ob p) h in
+        defines_two s x.state _ oa ob
+        (calls_defined k n s e (fore oa ob p) (before oa ob g) kept)
+        (each_defined ks m x.state es (aft oa ob p) (behind oa ob g) h)

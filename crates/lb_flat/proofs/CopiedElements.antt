@@ -1,0 +1,302 @@
+-- The equations of an expansion give elements of the program: copies those of variables, and the
+-- further ones those after them.
+use Rattle.std.proofs.Common.{◌≡◌, ℕ, suc, ◌+◌, ◌<◌, ◌≤◌, false, Option, Some, None, List, [], ◌∷◌}
+use Rattle.std.proofs.Common.{◌++◌, map, length, flat_map, refl, sym, ◌∙◌, subst, arith}
+use Rattle.std.specs.List.{range_with_len}
+use Rattle.lb_syntax.specs.declared.tree.UnaryOperator.TheVariants.{Not}
+use Rattle.lb_syntax.specs.declared.tree.BinaryOperator.{BinaryOperator}
+use Rattle.lb_syntax.specs.declared.tree.BinaryOperator.TheVariants.{Or, And}
+use Rattle.lb_syntax.specs.declared.tree.ArrayIterator.{ArrayIterator}
+use Rattle.lb_syntax.specs.declared.tree.ArrayIterator.TheVariants.{Map, Red}
+use Rattle.lb_syntax.specs.Lists.{Every, zip2}
+use Rattle.lb_syntax.specs.Tree.{Name, Node_named, Symbol, Expr, Literal, Truth, Variable, Group}
+use Rattle.lb_syntax.specs.Tree.{Unary, Binary, If, Arrow, Fby, Pre, Current, When, Replicate}
+use Rattle.lb_syntax.specs.Tree.{Index, Slice, Join, Array, AtMostOne, Nor, Call, Iterate, Exprs}
+use Rattle.lb_syntax.specs.Tree.{Nil, Cons, Declaration, Node, Statement, Equation, Assertion}
+use Rattle.lb_static.specs.Instances.{Program, Instance, Path, Root, Observer, Child, node_named}
+use Rattle.lb_static.specs.Instances.{instance_at, instances}
+use Rattle.lb_check.specs.Clocks.{Clock, declared_clock}
+use Rattle.lb_check.specs.Occurrences.{call_count, call_clocks, statement_clock}
+use Rattle.lb_check.specs.Scalars.{Boolean}
+use Rattle.lb_check.specs.Solutions.{iterator_inputs}
+use Rattle.lb_check.specs.Streams.{number}
+use Rattle.lb_flat.specs.Emit.{State, Emitted, Target, add, push, chained, twice, emit_nor}
+use Rattle.lb_flat.specs.Emit.{emit_at_most_one, keep, assert, joins, copied, targets, received}
+use Rattle.lb_flat.specs.Emit.{call_copies, iterator_copies, emit_symbol, emit_name, emit, emit_all}
+use Rattle.lb_flat.specs.Emit.{emit_each, emit_body, emit_instances, from_inputs, input_targets}
+use Rattle.lb_flat.specs.Emit.{given_inputs, observed, observed_places, before_instances, expanded}
+use Rattle.lb_flat.specs.Flat.{FlatClock, Operation, Constant, ApplyUnary, ApplyBinary}
+use Rattle.lb_flat.specs.Flat.{FlatEquation}
+use Rattle.lb_flat.specs.Layouts.{Layout, flat_clock}
+use Rattle.lb_flat.proofs.Bodies.{IsLaidOut, assert_copies, all_closed}
+use Rattle.lb_flat.proofs.Closing.{Closed, Below}
+use Rattle.lb_flat.proofs.Emission.{joins_copies}
+use Rattle.lb_flat.proofs.Filling.{Fresh}
+use Rattle.lb_flat.proofs.Lists.{Every-map, Every-append, Every-pieces}
+
+-- ## What copies nothing
+
+add_copied : (k : FlatClock) (s : State) (os : List Operation) →
+    (add k s os).state.copies ≡ s.copies
+unfolding add
+add_copied k s os = refl
+
+keep_copied : (x : Emitted) → (keep x).state.copies ≡ x.state.copies
+unfolding keep
+keep_copied x = refl
+
+chained_copied :
+    (k : FlatClock) (op : BinaryOperator) (s : State) (init : ℕ) (ys : List ℕ) →
+    (chained k op s init ys).state.copies ≡ s.copies
+unfolding chained
+chained_copied k op s init [] = refl
+chained_copied k op s init (y ∷ ys) =
+    chained_copied k op (push k s (ApplyBinary op init y)) s.next ys
+
+twice_copied :
+    (k : FlatClock) (s : State) (any two : ℕ) (xs : List ℕ) →
+    (twice k s any two xs).state.copies ≡ s.copies
+unfolding twice
+twice_copied k s any two [] = refl
+twice_copied k s any two (x ∷ xs) =
+    let t = push k s (ApplyBinary And any x) in
+    let u = push k t (ApplyBinary Or two s.next) in
+    twice_copied k (push k u (ApplyBinary Or any x)) u.next t.next xs
+
+nor_copied : (k : FlatClock) (s : State) (is : List ℕ) →
+    (emit_nor k s is).state.copies ≡ s.copies
+nor_copied k s is =
+    let t = push k s (Constant (Boolean false)) in
+    let r = chained k Or t s.next is in
+    add_copied k r.state (map (ApplyUnary Not) r.found) ∙ chained_copied k Or t s.next is
+
+at_most_one_copied : (k : FlatClock) (s : State) (is : List ℕ) →
+    (emit_at_most_one k s is).state.copies ≡ s.copies
+at_most_one_copied k s is =
+    let t = push k s (Constant (Boolean false)) in
+    let r = twice k t s.next s.next is in
+    add_copied k r.state (map (ApplyUnary Not) r.found) ∙ twice_copied k t s.next s.next is
+
+symbol_copied :
+    (k : FlatClock) (op : BinaryOperator) (s : State) (it : ArrayIterator)
+    (found : List (List ℕ)) → (emit_symbol k op s it found).state.copies ≡ s.copies
+symbol_copied k op s Map (xs ∷ (ys ∷ [])) = add_copied k s (zip2 (ApplyBinary op) xs ys)
+symbol_copied k op s Red ((init ∷ []) ∷ (ys ∷ [])) = chained_copied k op s init ys
+symbol_copied k op s it found = refl
+
+-- ## Copies
+
+module _ (V : ℕ) (Y : Layout) (P : Program)
+    (places : (p : Path) (x : Name) → Below V (Y.places p x)) where
+  -- equations of elements below V
+  abbrev pub AllBelow : List FlatEquation → Type 0
+  AllBelow qs = Every (λ q. q.element < V) qs
+
+  -- an element of a target below V
+  abbrev Low : Target → Type 0
+  Low t = t.place < V
+
+  targets_below : (n : Node) (p : Path) (x : Name) → Every Low (targets Y n p x)
+  targets_below n p x = by (Y.places p x) (places p x)
+    where
+      by : (is : List ℕ) → Below V is →
+          Every Low
+          (map (λ i. record { place = i; clock = flat_clock Y p (declared_clock n x) }) is)
+      by [] h = tt
+      by (i ∷ is) h = (h.0, by is h.1)
+
+  copied_below : (ts : List Target) (js : List ℕ) → Every Low ts →
+      AllBelow (copied ts js)
+  copied_below [] js h = tt
+  copied_below (t ∷ ts) [] h = tt
+  copied_below (t ∷ ts) (j ∷ js) h = (h.0, copied_below ts js h.1)
+
+  received_below : (callee : Node) (p : Path) (ds : List Declaration) (iss : List (List ℕ)) →
+      AllBelow (received Y callee p ds iss)
+  received_below callee p [] iss = tt
+  received_below callee p (d ∷ ds) [] = tt
+  received_below callee p (d ∷ ds) (is ∷ iss) =
+      Every-append (λ q. q.element < V) (copied (targets Y callee p d.name) is)
+      (received Y callee p ds iss)
+      (copied_below (targets Y callee p d.name) is (targets_below callee p d.name))
+      (received_below callee p ds iss)
+
+  call_below : (p : Path) (o : Option Node) (iss : List (List ℕ)) →
+      AllBelow (call_copies Y p o iss)
+  call_below p None iss = tt
+  call_below p (Some callee) iss = received_below callee p callee.inputs iss
+
+  iterator_below :
+      (p : Path) (n : ℕ) (it : ArrayIterator) (m : ℕ) (o : Option Node) (iss : List (List ℕ)) →
+      AllBelow (iterator_copies Y p n it m o iss)
+  iterator_below p n it m None iss = tt
+  iterator_below p n it m (Some callee) iss =
+      let outputs : ℕ → Name → List ℕ = λ i x. Y.places (Child p n i) x in
+      Every-pieces (λ q. q.element < V)
+      (λ i. received Y callee (Child p n i) callee.inputs
+      (iterator_inputs outputs m it callee.outputs iss i))
+      (λ i. received_below callee (Child p n i) callee.inputs
+      (iterator_inputs outputs m it callee.outputs iss i))
+      (range_with_len 0 m)
+
+  -- what copied nothing more
+  on : (Q R : List FlatEquation) → R ≡ Q → AllBelow Q → AllBelow R
+  on Q R e h = subst AllBelow (sym e) h
+
+  joins_below : (s : State) (qs : List FlatEquation) (is : List ℕ) → AllBelow qs →
+      AllBelow s.copies → AllBelow (joins s qs is).state.copies
+  joins_below s qs is new h =
+      on (s.copies ++ qs) _ (joins_copies s qs is)
+      (Every-append (λ q. q.element < V) s.copies qs h new)
+
+  module _ (here : Instance) where
+    name_copied :
+        (k : Clock) (s : State) (x : Name) (d : Option Declaration) →
+        (emit_name Y P here k s x d).state.copies ≡ s.copies
+    name_copied k s x (Some d) = refl
+    name_copied k s x None = add_copied (flat_clock Y here.path k) s _
+
+    mutual
+      unfolding emit
+
+      copies_below : (k : Clock) (n : ℕ) (s : State) (e : Expr) → AllBelow s.copies →
+          AllBelow (emit Y P here k n s e).state.copies
+      copies_below k n s (Literal m) h = on _ _ (add_copied _ s _) h
+      copies_below k n s (Truth b) h = on _ _ (add_copied _ s _) h
+      copies_below k n s (Variable x) h = on _ _ (name_copied k s x _) h
+      copies_below k n s (Group a) h = copies_below k n s a h
+      copies_below k n s (Unary op a) h = on _ _ (add_copied _ _ _) (copies_below k n s a h)
+      copies_below k n s (Binary op a b) h =
+          on _ _ (add_copied _ _ _) (copies_below k _ _ b (copies_below k n s a h))
+      copies_below k n s (If c a b) h =
+          on _ _ (add_copied _ _ _)
+          (copies_below k _ _ b (copies_below k _ _ a (copies_below k n s c h)))
+      copies_below k n s (Arrow a b) h =
+          on _ _ (add_copied _ _ _) (copies_below k _ _ b (copies_below k n s a h))
+      copies_below k n s (Fby a b) h =
+          on _ _ (add_copied _ _ _) (on _ _ (add_copied _ _ _) (on _ _ (keep_copied _)
+          (copies_below k _ _ b (copies_below k n s a h))))
+      copies_below k n s (Pre a) h =
+          on _ _ (add_copied _ _ _) (on _ _ (keep_copied _) (copies_below k n s a h))
+      copies_below k n s (Current a) h =
+          on _ _ (add_copied _ _ _) (on _ _ (keep_copied _) (copies_below _ n s a h))
+      copies_below k n s (When a x sign) h =
+          on _ _ (add_copied _ _ _) (copies_below _ n s a h)
+      copies_below k n s (Replicate a m) h = copies_below k n s a h
+      copies_below k n s (Index a m) h = copies_below k n s a h
+      copies_below k n s (Slice a m l) h = copies_below k n s a h
+      copies_below k n s (Join a b) h = copies_below k _ _ b (copies_below k n s a h)
+      copies_below k n s (Array es) h = all_below k n s es h
+      copies_below k n s (AtMostOne es) h =
+          on _ _ (at_most_one_copied _ _ _) (all_below k n s es h)
+      copies_below k n s (Nor es) h = on _ _ (nor_copied _ _ _) (all_below k n s es h)
+      copies_below k n s (Call f statics es) h =
+          let r = emit_each Y P here (call_clocks k (node_named P f) es) (n + 1) s es in
+          joins_below r.state (call_copies Y (Child here.path n 0) (node_named P f) r.found) _
+          (call_below (Child here.path n 0) (node_named P f) r.found)
+          (each_below (call_clocks k (node_named P f) es) (n + 1) s es h)
+      copies_below k n s (Iterate it (Node_named f statics) m es) h =
+          let r = emit_all Y P here k (n + 1) s es in
+          joins_below r.state
+          (iterator_copies Y here.path n it (number P here m) (node_named P f) r.found) _
+          (iterator_below here.path n it (number P here m) (node_named P f) r.found)
+          (all_below k (n + 1) s es h)
+      copies_below k n s (Iterate it (Symbol op) m es) h =
+          on _ _ (symbol_copied _ op _ it _) (all_below k n s es h)
+
+      all_below : (k : Clock) (n : ℕ) (s : State) (es : Exprs) → AllBelow s.copies →
+          AllBelow (emit_all Y P here k n s es).state.copies
+      all_below k n s Nil h = h
+      all_below k n s (Cons e es) h = all_below k _ _ es (copies_below k n s e h)
+
+      each_below : (ks : List Clock) (n : ℕ) (s : State) (es : Exprs) → AllBelow s.copies →
+          AllBelow (emit_each Y P here ks n s es).state.copies
+      each_below ks n s Nil h = h
+      each_below [] n s (Cons e es) h = h
+      each_below (k ∷ ks) n s (Cons e es) h = each_below ks _ _ es (copies_below k n s e h)
+
+    body_below : (n : ℕ) (s : State) (body : List Statement) → AllBelow s.copies →
+        AllBelow (emit_body Y P here n s body).copies
+    unfolding emit_body
+    body_below n s [] h = h
+    body_below n s (Equation lefts e ∷ rest) h =
+        let k = statement_clock P here.node (Equation lefts e) in
+        let x = emit Y P here k n s e in
+        let ts = flat_map (targets Y here.node here.path) lefts in
+        body_below (n + call_count e) (joins x.state (copied ts x.found) []).state rest
+        (joins_below x.state (copied ts x.found) []
+        (copied_below ts x.found
+        (Every-pieces Low (targets Y here.node here.path)
+        (targets_below here.node here.path) lefts))
+        (copies_below k n s e h))
+    body_below n s (Assertion e ∷ rest) h =
+        let k = statement_clock P here.node (Assertion e) in
+        let x = emit Y P here k n s e in
+        body_below (n + call_count e) (assert x) rest
+        (on x.state.copies (assert x).copies (assert_copies x) (copies_below k n s e h))
+
+  instances_below : (s : State) (is : List Instance) → AllBelow s.copies →
+      AllBelow (emit_instances Y P s is).copies
+  unfolding emit_instances
+  instances_below s [] h = h
+  instances_below s (here ∷ is) h =
+      instances_below (emit_body Y P here 0 s here.node.body) is
+      (body_below here 0 s here.node.body h)
+
+  -- ## The trace and the observer
+
+  inputs_below : (j : ℕ) (ts : List Target) → Every Low ts →
+      AllBelow (from_inputs j ts)
+  inputs_below j [] h = tt
+  inputs_below j (t ∷ ts) h = (h.0, inputs_below (suc j) ts h.1)
+
+  given_below : (o : Option Instance) → AllBelow (given_inputs Y o)
+  given_below None = tt
+  given_below (Some root) =
+      inputs_below 0 (input_targets Y root)
+      (Every-pieces Low (λ d. targets Y root.node Root d.name)
+      (λ d. targets_below root.node Root d.name) root.node.inputs)
+
+  observed_below : (o p : Option Instance) → AllBelow (observed Y o p)
+  observed_below None p = tt
+  observed_below (Some root) None = tt
+  observed_below (Some root) (Some observer) =
+      received_below observer.node Observer observer.node.inputs (observed_places Y root)
+
+-- ## All equations
+
+fresh_within : (n : ℕ) (qs : List FlatEquation) → Fresh n qs →
+    Every (λ q. q.element < n + length qs) qs
+fresh_within n [] h = tt
+fresh_within n (q ∷ qs) h = (
+  let e = h.0.element in omega (arith, e),
+  Every-map (λ q. q.element < suc n + length qs) (λ q. q.element < n + suc (length qs))
+      (λ q lt. omega (arith, lt)) qs (fresh_within (suc n) qs h.1),
+)
+
+-- the equations of an expansion give elements of the program
+pub expanded_within :
+    (count : ℕ) (Y : Layout) (P : Program) → IsLaidOut count Y →
+    Every (λ q. q.element < (expanded Y P count).size) (expanded Y P count).equations
+expanded_within count Y P laid =
+    let s = emit_instances Y P (before_instances count) (instances P) in
+    let given = given_inputs Y (instance_at P Root) in
+    let seen = observed Y (instance_at P Root) (instance_at P Observer) in
+    let closed : Closed count s =
+    all_closed count Y P laid (before_instances count) (instances P)
+    (record { fresh = tt; next = omega arith }) in
+    let within : count ≤ s.next = omega (arith, closed.next) in
+    let widen : (qs : List FlatEquation) → Every (λ q. q.element < count) qs →
+    Every (λ q. q.element < s.next) qs =
+    λ qs h. Every-map (λ q. q.element < count) (λ q. q.element < s.next)
+    (λ q lt. omega (arith, lt, within)) qs h in
+    Every-append (λ q. q.element < s.next) given (seen ++ (s.copies ++ s.equations))
+    (widen given (given_below count Y P laid.places (instance_at P Root)))
+    (Every-append (λ q. q.element < s.next) seen (s.copies ++ s.equations)
+    (widen seen
+    (observed_below count Y P laid.places (instance_at P Root) (instance_at P Observer)))
+    (Every-append (λ q. q.element < s.next) s.copies s.equations
+    (widen s.copies
+    (instances_below count Y P laid.places (before_instances count) (instances P) tt))
+    (subst (λ n. Every (λ q. q.element < n) s.equations) (sym closed.next)
+    (fresh_within count s.equations closed.fresh))))

@@ -1,0 +1,276 @@
+-- What a term does with its operands, form by form, in the words of the code that expands resolved
+-- terms.
+use Rattle.std.proofs.Common.{◌≡◌, ◌<◌, ◌≤◌, ℕ, zero, suc, ◌+◌, ◌-◌, ◌*◌, List, [], ◌∷◌, ◌++◌}
+use Rattle.std.proofs.Common.{length, map, take, drop, get_or, min, Vec, Box, Global, arith, false}
+use Rattle.std.proofs.Common.{refl, sym, ap, ap₂, subst, ◌∙◌}
+use Rattle.std.specs.Prelude.{Bool}
+use Rattle.std.specs.List.{slice_range}
+use Rattle.std.proofs.lemmas.List.{drop-drop, take-take, drop-append-le, drop-take, length-map}
+use Rattle.std.proofs.lemmas.List.{length-drop, length-take-le, append_assoc, append-nil}
+use Rattle.std.proofs.lemmas.List.{take-append-drop, take-append-le, drop_more, drop_all, take_min}
+use Rattle.std.proofs.lemmas.List.{drop_min}
+use Rattle.std.proofs.Math.Seq.{take-append_seam, drop-append_seam}
+use Rattle.lb_syntax.specs.Lists.{zip2, copies}
+use Rattle.lb_syntax.specs.declared.tree.ArrayIterator.{ArrayIterator}
+use Rattle.lb_syntax.specs.declared.tree.ArrayIterator.TheVariants.{Map, Fill}
+use Rattle.lb_syntax.specs.declared.tree.BinaryOperator.{BinaryOperator}
+use Rattle.lb_syntax.specs.declared.tree.UnaryOperator.{UnaryOperator}
+use Rattle.lb_check.specs.Scalars.{first_value}
+use Rattle.lb_static.specs.declared.resolved.CallId.{CallId}
+use Rattle.lb_static.specs.declared.resolved.StaticId.{StaticId}
+use Rattle.lb_static.specs.declared.resolved.VariableId.{VariableId}
+use Rattle.lb_static.specs.declared.resolved.Term.{Term, Unary, Binary, Arrow, Fby, Pre, Current}
+use Rattle.lb_static.specs.declared.resolved.Term.{When, Replicate, Index, Slice, Join, Array}
+use Rattle.lb_static.specs.declared.resolved.Term.{AtMostOne, Nor, Call, IterateNode, IterateSymbol}
+use Rattle.lb_flat.specs.Emit.{State, Emitted, gives, add, keep, chosen_by, chained, emit_nor}
+use Rattle.lb_flat.specs.Emit.{emit_at_most_one}
+use Rattle.lb_flat.specs.EmitTerms.{Context, Place, each, memory, pairs, choose, picked, red}
+use Rattle.lb_flat.specs.EmitTerms.{symbol, call, iterate, with_one, with_two, with_all}
+use Rattle.lb_flat.specs.Flat as flat
+use Rattle.lb_flat.specs.Flat.{FlatClock, ApplyUnary, ApplyBinary, FirstThen, Previous, Latest}
+use Rattle.lb_flat.specs.Flat.{Sample, Choose}
+use Rattle.lb_flat.specs.TermEmissions.{onto, above, without, on_top, on_two, on_three}
+use Rattle.lb_flat.proofs.EmittedStacks.{added_none, on_top_onto, without_operands}
+
+-- ## One operand
+
+module _ (ctx : Context) (at : Place) (t : Term) (e : Box Term Global) (k : FlatClock) where
+  pub unary_form : (op : UnaryOperator) → t ≡ Unary op e → k ≡ ctx.clock at.term →
+      (x : Emitted) → with_one ctx at t x ≡ each k (ApplyUnary op) x
+  unary_form op is clock x = rw (is, clock) refl
+
+  pub pre_form : t ≡ Pre e → k ≡ ctx.clock at.term → (x : Emitted) →
+      with_one ctx at t x ≡ memory k (Previous first_value) x
+  pre_form is clock x = rw (is, clock) refl
+
+  pub current_form : t ≡ Current e → k ≡ ctx.clock at.term → (x : Emitted) →
+      with_one ctx at t x ≡ memory k (Latest first_value) x
+  current_form is clock x = rw (is, clock) refl
+
+  pub when_form : (y : VariableId) (sign : Bool) → t ≡ When e y sign → k ≡ ctx.sampled y.0 sign →
+      (x : Emitted) → with_one ctx at t x ≡ each k Sample x
+  when_form y sign is clock x = rw (is, clock) refl
+
+  pub copies_form : (n : StaticId) (count : ℕ) → t ≡ Replicate e n → count ≡ ctx.count n.0 →
+      (x : Emitted) → with_one ctx at t x ≡ gives x.state (copies count x.found)
+  copies_form n count is size x = rw (is, size) refl
+
+  pub index_form : (i : StaticId) (parts start : ℕ) → t ≡ Index e i →
+      parts ≡ ctx.parts (suc at.term) → start ≡ ctx.count i.0 → (x : Emitted) →
+      with_one ctx at t x ≡ picked (parts * start) parts x
+  index_form i parts start is many from x = rw (is, many, from) refl
+
+  pub slice_form : (i j : StaticId) (parts start count : ℕ) → t ≡ Slice e i j →
+      parts ≡ ctx.parts (suc at.term) → start ≡ ctx.count i.0 →
+      count ≡ suc (ctx.count j.0) - ctx.count i.0 → (x : Emitted) →
+      with_one ctx at t x ≡ picked (parts * start) (parts * count) x
+  slice_form i j parts start count is many from size x = rw (is, many, from, size) refl
+
+-- what a word leaves is what the form does
+pub on_form : (from : ℕ) (f g : Emitted → Emitted) (x y : Emitted) →
+    ((z : Emitted) → f z ≡ g z) → y ≡ on_top from g x → y ≡ on_top from f x
+on_form from f g x y is e = e ∙ sym (ap (onto (take from x.found)) (is (above from x)))
+
+-- the same, of the words
+pub top_form : (from : ℕ) (f g : Emitted → Emitted) (x : Emitted) →
+    ((z : Emitted) → f z ≡ g z) → on_top from g x ≡ on_top from f x
+top_form from f g x is = sym (ap (onto (take from x.found)) (is (above from x)))
+
+-- ## Two operands
+
+module _ (ctx : Context) (at : Place) (t : Term) (a b : Box Term Global) (k : FlatClock) where
+  pub binary_form : (op : BinaryOperator) → t ≡ Binary op a b → k ≡ ctx.clock at.term →
+      (xs : List ℕ) (y : Emitted) → with_two ctx at t xs y ≡ pairs k (ApplyBinary op) xs y
+  binary_form op is clock xs y = rw (is, clock) refl
+
+  pub arrow_form : t ≡ Arrow a b → k ≡ ctx.clock at.term → (xs : List ℕ) (y : Emitted) →
+      with_two ctx at t xs y ≡ pairs k (FirstThen false) xs y
+  arrow_form is clock xs y = rw (is, clock) refl
+
+  pub fby_form : t ≡ Fby a b → k ≡ ctx.clock at.term → (xs : List ℕ) (y : Emitted) →
+      with_two ctx at t xs y
+      ≡ pairs k (FirstThen false) xs (memory k (Previous first_value) y)
+  fby_form is clock xs y = rw (is, clock) refl
+
+  pub join_form : t ≡ Join a b → (xs : List ℕ) (y : Emitted) →
+      with_two ctx at t xs y ≡ gives y.state (xs ++ y.found)
+  join_form is xs y = rw is refl
+
+pub on_two_form : (from middle : ℕ) (f g : List ℕ → Emitted → Emitted) (x y : Emitted) →
+    ((xs : List ℕ) (z : Emitted) → f xs z ≡ g xs z) → y ≡ on_two from middle g x →
+    y ≡ on_two from middle f x
+on_two_form from middle f g x y is e =
+    e ∙ sym (ap (onto (take from x.found))
+    (is (slice_range x.found from middle) (above middle x)))
+
+pub two_form : (from middle : ℕ) (f g : List ℕ → Emitted → Emitted) (x : Emitted) →
+    ((xs : List ℕ) (z : Emitted) → f xs z ≡ g xs z) →
+    on_two from middle g x ≡ on_two from middle f x
+two_form from middle f g x is =
+    sym (ap (onto (take from x.found))
+    (is (slice_range x.found from middle) (above middle x)))
+
+-- a list in three parts, of which the second begins at one place and the third at another
+pub three_parts : (from middle : ℕ) (all : List ℕ) → from ≤ middle →
+    take from all ++ (slice_range all from middle ++ drop middle all) ≡ all
+three_parts from middle all le =
+    let rest = drop from all in
+    let sum : from + (middle - from) ≡ middle = omega (arith, le) in
+    let skip : drop (middle - from) rest ≡ drop middle all =
+    drop-drop (middle - from) from all ∙ ap (λ n. drop n all) sum in
+    ap (λ (is : List ℕ). take from all ++ (take (middle - from) rest ++ is)) (sym skip)
+    ∙ ap (λ (is : List ℕ). take from all ++ is) (take-append-drop (middle - from) rest)
+    ∙ take-append-drop from all
+
+-- both operands, one after the other, are what stands there
+pub joined_stays : (from middle : ℕ) (x : Emitted) → from ≤ middle →
+    on_two from middle (λ xs y. gives y.state (xs ++ y.found)) x ≡ x
+joined_stays from middle x le =
+    ap (λ (is : List ℕ). gives x.state is) (three_parts from middle x.found le)
+
+-- all operands, and the operand of parentheses, too
+pub same_stays : (from : ℕ) (x : Emitted) → on_top from (λ y. y) x ≡ x
+same_stays from x = ap (λ (is : List ℕ). gives x.state is) (take-append-drop from x.found)
+
+drop_take : (m n : ℕ) (xs : List ℕ) → m ≤ n → drop m (take n xs) ≡ take (n - m) (drop m xs)
+drop_take m n xs le =
+    let sum : n ≡ m + (n - m) = omega (arith, le) in
+    ap (λ k. drop m (take k xs)) sum ∙ drop-take m (n - m) xs
+
+part_below : (m n : ℕ) (xs ys : List ℕ) → m ≤ n → n ≤ length xs →
+    slice_range (take n xs ++ ys) m n ≡ slice_range xs m n
+part_below m n xs ys le within =
+    let size : length (take n xs) ≡ n = length-take-le n xs within in
+    let a = drop-append-le m (take n xs) ys (omega (arith, size, le)) in
+    let left = length-drop m (take n xs) in
+    let b = take-append-le (n - m) (drop m (take n xs)) ys (omega (arith, left, size)) in
+    ap (take (n - m)) a ∙ b
+    ∙ ap (take (n - m)) (drop_take m n xs le)
+    ∙ take-take (n - m) (n - m) (drop m xs) (omega arith)
+
+-- a word on the second operand, and then one on both
+pub pairs_after :
+    (k : FlatClock) (f : ℕ → ℕ → flat.Operation) (g : Emitted → Emitted) (from middle : ℕ)
+    (x y : Emitted) → from ≤ middle → middle ≤ length x.found → y ≡ on_top middle g x →
+    on_two from middle (pairs k f) y ≡ on_two from middle (λ xs z. pairs k f xs (g z)) x
+pairs_after k f g from middle x y le within e =
+    let below = take middle x.found in
+    let z = g (above middle x) in
+    let all = below ++ z.found in
+    let size : length below ≡ middle = length-take-le middle x.found within in
+    let first : take from all ≡ take from x.found =
+    take-append-le from below z.found (omega (arith, size, le))
+    ∙ take-take from middle x.found le in
+    let second : slice_range all from middle ≡ slice_range x.found from middle =
+    part_below from middle x.found z.found le within in
+    let third : drop middle all ≡ z.found =
+    ap (λ n. drop n all) (sym size) ∙ drop-append_seam below z.found in
+    ap (on_two from middle (pairs k f)) e
+    ∙ ap₂ onto first (ap₂ (λ (xs ys : List ℕ). pairs k f xs (gives z.state ys)) second third)
+
+-- ## A row
+
+module _ (ctx : Context) (at : Place) (t : Term) (es : Vec Term Global) (k : FlatClock) where
+  pub one_form : t ≡ AtMostOne es → k ≡ ctx.clock at.term → (r : Emitted) →
+      with_all ctx at t r ≡ emit_at_most_one k r.state r.found
+  one_form is clock r = rw (is, clock) refl
+
+  pub nor_form : t ≡ Nor es → k ≡ ctx.clock at.term → (r : Emitted) →
+      with_all ctx at t r ≡ emit_nor k r.state r.found
+  nor_form is clock r = rw (is, clock) refl
+
+  pub call_form : (c : CallId) → t ≡ Call c es → (r : Emitted) →
+      with_all ctx at t r ≡ call ctx at.call r
+  call_form c is r = rw is refl
+
+  pub node_form : (it : ArrayIterator) (c : CallId) → t ≡ IterateNode it c es → (r : Emitted) →
+      with_all ctx at t r ≡ iterate ctx at.call it r
+  node_form it c is r = rw is refl
+
+  pub symbol_form : (it : ArrayIterator) (op : BinaryOperator) (n : StaticId) (count : ℕ) →
+      t ≡ IterateSymbol it op n es → k ≡ ctx.clock at.term → count ≡ ctx.count n.0 →
+      (r : Emitted) → with_all ctx at t r ≡ symbol k op count it r
+  symbol_form it op n count is clock size r = rw (is, clock, size) refl
+
+  pub array_form : t ≡ Array es → (r : Emitted) → with_all ctx at t r ≡ r
+  array_form is r = rw is refl
+
+-- ## A choice, an iterated symbol
+
+take_one : (n i : ℕ) (is : List ℕ) → 0 < n → take n (i ∷ is) ≡ i ∷ take (n - 1) is
+take_one zero i is lt = absurd (omega (arith, lt))
+take_one (suc n) i is lt =
+    let e : suc n - 1 ≡ n = omega arith in ap (λ m. i ∷ take m is) (sym e)
+
+-- the first of the conditions chooses
+pub chosen_is :
+    (k : FlatClock) (from second third c : ℕ) (x y z : Emitted) → from < second → second ≤ third →
+    third ≤ length x.found → c ≡ get_or x.found from 0 →
+    y ≡ on_two second third (pairs k (Choose c)) x → z ≡ without from second y →
+    z ≡ on_three from second third (choose k) x
+chosen_is k from second third c x y z lt le within is e f =
+    let all = x.found in
+    let cs = slice_range all from second in
+    let xs = slice_range all second third in
+    let ys = drop third all in
+    let below = take second all in
+    let size : length below ≡ second = length-take-le second all (omega (arith, le, within)) in
+    let new = pairs k (Choose c) xs (gives x.state ys) in
+    let gone : without from second (onto below new) ≡ onto (take from below) new =
+    ap (λ n. without from n (onto below new)) (sym size)
+    ∙ without_operands from below new (omega (arith, size, lt)) in
+    let first : cs ≡ c ∷ take (second - from - 1) (drop (from + 1) all) =
+    ap (take (second - from)) (drop_more all from 0 (omega (arith, lt, le, within)))
+    ∙ take_one (second - from) _ (drop (from + 1) all) (omega (arith, lt))
+    ∙ ap (λ i. i ∷ take (second - from - 1) (drop (from + 1) all)) (sym is) in
+    f ∙ ap (without from second) e ∙ gone
+    ∙ ap (λ (b : List ℕ). onto b new)
+    (take-take from second all (omega (arith, lt)))
+    ∙ ap (λ (cs : List ℕ). onto (take from all) (choose k cs xs (gives x.state ys))) (sym first)
+
+-- where there is no condition, nothing is chosen
+pub none_chosen :
+    (k : FlatClock) (from second third : ℕ) (x y : Emitted) → from ≡ second →
+    y ≡ gives x.state (take from x.found) → y ≡ on_three from second third (choose k) x
+none_chosen k from second third x y same e =
+    let all = x.found in
+    let rest = gives x.state (drop third all) in
+    let empty : slice_range all from second ≡ [] =
+    ap (λ n. take n (drop from all)) (none_between from second same) in
+    let none : choose k [] (slice_range all second third) rest ≡ gives x.state [] =
+    added_none k (gives x.state []) in
+    e ∙ ap (λ (is : List ℕ). gives x.state is) (sym (append-nil (take from all)))
+    ∙ ap (onto (take from all)) (sym none)
+    ∙ ap (λ (cs : List ℕ). onto (take from all) (choose k cs (slice_range all second third) rest))
+    (sym empty)
+  where
+    none_between : (m n : ℕ) → m ≡ n → n - m ≡ 0
+    none_between m n e = omega (arith, e)
+
+-- a symbol over two arrays is pairs of the first so many elements and the others
+pub map_is :
+    (k : FlatClock) (op : BinaryOperator) (from middle n : ℕ) (x : Emitted) →
+    from ≤ length x.found → middle ≡ from + min n (length x.found - from) →
+    on_two from middle (pairs k (ApplyBinary op)) x
+    ≡ on_top from (symbol k op n Map) x
+map_is k op from middle n x le is =
+    let all = x.found in
+    let rest = drop from all in
+    let size = length-drop from all in
+    let first : slice_range all from middle ≡ take n rest =
+    ap (λ m. take m rest) (gap from middle (min n (length all - from)) is)
+    ∙ ap (λ m. take (min n m) rest) (sym size) ∙ take_min n rest in
+    let second : drop middle all ≡ drop n rest =
+    ap (λ m. drop m all) is ∙ sym (drop-drop (min n (length all - from)) from all)
+    ∙ ap (λ m. drop (min n m) rest) (sym size) ∙ drop_min n rest in
+    ap (onto (take from all))
+    (ap₂ (λ (xs ys : List ℕ). pairs k (ApplyBinary op) xs (gives x.state ys)) first second)
+  where
+    gap : (a b m : ℕ) → b ≡ a + m → b - a ≡ m
+    gap a b m e = omega (arith, e)
+
+-- nothing comes of `fill`
+pub fill_is : (k : FlatClock) (op : BinaryOperator) (from n : ℕ) (x : Emitted) →
+    gives x.state (take from x.found) ≡ on_top from (symbol k op n Fill) x
+fill_is k op from n x = ap (λ (is : List ℕ). gives x.state is)
+    (sym (append-nil (take from x.found)))

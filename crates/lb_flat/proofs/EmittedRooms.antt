@@ -1,0 +1,236 @@
+-- How many new numbers each word of emission takes, so that the room of a term is that of its words.
+use Rattle.std.proofs.Common.{◌≡◌, ◌<◌, ◌≤◌, ℕ, zero, suc, ◌+◌, ◌-◌, ◌*◌, List, [], ◌∷◌, length}
+use Rattle.std.proofs.Common.{map, take, drop, min, arith, false, refl, sym, ap, ap₂, subst, ◌∙◌}
+use Rattle.std.specs.List.{slice_range}
+use Rattle.std.proofs.Math.Nat.{min-le_right}
+use Rattle.std.proofs.lemmas.List.{length-map, length-drop, length-append, length-take-le}
+use Rattle.std.proofs.lemmas.List.{drop_more, drop_all}
+use Rattle.lb_syntax.specs.Lists.{zip2}
+use Rattle.lb_syntax.specs.declared.tree.ArrayIterator.TheVariants.{Map}
+use Rattle.lb_syntax.specs.declared.tree.BinaryOperator.{BinaryOperator}
+use Rattle.lb_syntax.specs.declared.tree.BinaryOperator.TheVariants.{Or, And}
+use Rattle.lb_syntax.specs.declared.tree.UnaryOperator.TheVariants.{Not}
+use Rattle.lb_check.specs.Scalars.{Boolean, first_value}
+use Rattle.lb_flat.specs.Emit.{State, Emitted, push, add, keep, chained, twice, emit_nor}
+use Rattle.lb_flat.specs.Emit.{emit_at_most_one}
+use Rattle.lb_flat.specs.EmitTerms.{each, memory, pairs, choose, red, symbol}
+use Rattle.lb_flat.specs.Flat.{FlatClock, Operation, Constant, ApplyUnary, ApplyBinary, Choose}
+use Rattle.lb_flat.specs.Flat.{FirstThen, Previous}
+use Rattle.lb_flat.specs.TermEmissions.{above, on_top}
+use Rattle.lb_flat.proofs.EmittedNumbers.{next_of_add}
+use Rattle.lb_flat.proofs.EmittedForms.{map_is, pairs_after}
+use Rattle.lb_flat.proofs.EmittedStacks.{length_of_part}
+
+-- ## Each word
+
+pub each_next : (k : FlatClock) (f : ℕ → Operation) (x : Emitted) →
+    (each k f x).state.next ≡ x.state.next + length x.found
+each_next k f x =
+    let size = length-map x.found f in
+    next_of_add k x.state (map f x.found) ∙ ap (λ n. x.state.next + n) size
+
+pub memory_next : (k : FlatClock) (f : ℕ → Operation) (x : Emitted) →
+    (memory k f x).state.next ≡ x.state.next + length x.found
+unfolding keep
+memory_next k f x = each_next k f (keep x)
+
+zip_length : (f : ℕ → ℕ → Operation) (xs ys : List ℕ) →
+    length (zip2 f xs ys) ≡ min (length xs) (length ys)
+zip_length f [] ys = grind arith
+zip_length f (x ∷ xs) [] = grind arith
+zip_length f (x ∷ xs) (y ∷ ys) = let h = zip_length f xs ys in grind (arith, h)
+
+pub pairs_next : (k : FlatClock) (f : ℕ → ℕ → Operation) (xs : List ℕ) (y : Emitted) →
+    (pairs k f xs y).state.next ≡ y.state.next + min (length xs) (length y.found)
+pairs_next k f xs y =
+    next_of_add k y.state (zip2 f xs y.found)
+    ∙ ap (λ n. y.state.next + n) (zip_length f xs y.found)
+
+pub chosen_next : (k : FlatClock) (c : ℕ) (cs xs : List ℕ) (y : Emitted) →
+    (choose k (c ∷ cs) xs y).state.next ≡ y.state.next + min (length xs) (length y.found)
+chosen_next k c cs xs y = pairs_next k (Choose c) xs y
+
+chained_next : (k : FlatClock) (op : BinaryOperator) (s : State) (init : ℕ) (ys : List ℕ) →
+    (chained k op s init ys).state.next ≡ s.next + length ys
+unfolding chained
+chained_next k op s init [] = omega arith
+chained_next k op s init (y ∷ ys) =
+    let h = chained_next k op (push k s (ApplyBinary op init y)) s.next ys in omega (arith, h)
+
+chained_one : (k : FlatClock) (op : BinaryOperator) (s : State) (init : ℕ) (ys : List ℕ) →
+    length (chained k op s init ys).found ≡ 1
+unfolding chained
+chained_one k op s init [] = refl
+chained_one k op s init (y ∷ ys) = chained_one k op (push k s (ApplyBinary op init y)) s.next ys
+
+twice_next : (k : FlatClock) (s : State) (any two : ℕ) (xs : List ℕ) →
+    (twice k s any two xs).state.next ≡ s.next + 3 * length xs
+unfolding twice
+twice_next k s any two [] = omega arith
+twice_next k s any two (x ∷ xs) =
+    let t = push k s (ApplyBinary And any x) in
+    let u = push k t (ApplyBinary Or two s.next) in
+    let h = twice_next k (push k u (ApplyBinary Or any x)) u.next t.next xs in
+    omega (arith, h)
+
+twice_one : (k : FlatClock) (s : State) (any two : ℕ) (xs : List ℕ) →
+    length (twice k s any two xs).found ≡ 1
+unfolding twice
+twice_one k s any two [] = refl
+twice_one k s any two (x ∷ xs) =
+    let t = push k s (ApplyBinary And any x) in
+    let u = push k t (ApplyBinary Or two s.next) in
+    twice_one k (push k u (ApplyBinary Or any x)) u.next t.next xs
+
+negated_next : (k : FlatClock) (r : Emitted) →
+    (add k r.state (map (ApplyUnary Not) r.found)).state.next ≡ r.state.next + length r.found
+negated_next k r = each_next k (ApplyUnary Not) r
+
+pub nor_next : (k : FlatClock) (s : State) (is : List ℕ) →
+    (emit_nor k s is).state.next ≡ s.next + 2 + length is
+nor_next k s is =
+    let t = push k s (Constant (Boolean false)) in
+    let r = chained k Or t s.next is in
+    let a = negated_next k r in
+    let b = chained_next k Or t s.next is in
+    let d = chained_one k Or t s.next is in
+    omega (arith, a, b, d)
+
+pub one_next : (k : FlatClock) (s : State) (is : List ℕ) →
+    (emit_at_most_one k s is).state.next ≡ s.next + 2 + 3 * length is
+one_next k s is =
+    let t = push k s (Constant (Boolean false)) in
+    let r = twice k t s.next s.next is in
+    let a = negated_next k r in
+    let b = twice_next k t s.next s.next is in
+    let d = twice_one k t s.next s.next is in
+    omega (arith, a, b, d)
+
+pub red_next : (k : FlatClock) (op : BinaryOperator) (s : State) (is : List ℕ) →
+    (red k op s is).state.next ≡ s.next + (length is - 1)
+red_next k op s [] = omega arith
+red_next k op s (i ∷ is) = let h = chained_next k op s i is in omega (arith, h)
+
+-- ## The room of each, above so many elements of a stack
+
+module _ (from most : ℕ) (x : Emitted) where
+  pub each_room : (k : FlatClock) (f : ℕ → Operation) (z : Emitted) → z ≡ each k f (above from x) →
+      z.state.next < most → x.state.next + (length x.found - from) < most
+  each_room k f z is lt =
+      let size = length-drop from x.found in
+      let more = each_next k f (above from x) in
+      let same = ap (λ (z : Emitted). z.state.next) is in
+      omega (arith, size, more, same, lt)
+
+  pub memory_room : (k : FlatClock) (f : ℕ → Operation) (z : Emitted)
+      → z ≡ memory k f (above from x) →
+      z.state.next < most → x.state.next + (length x.found - from) < most
+  memory_room k f z is lt =
+      let size = length-drop from x.found in
+      let more = memory_next k f (above from x) in
+      let same = ap (λ (z : Emitted). z.state.next) is in
+      omega (arith, size, more, same, lt)
+
+  pub nor_room : (k : FlatClock) (z : Emitted) → z ≡ emit_nor k x.state (drop from x.found) →
+      z.state.next < most → x.state.next + 2 + (length x.found - from) < most
+  nor_room k z is lt =
+      let size = length-drop from x.found in
+      let more = nor_next k x.state (drop from x.found) in
+      let same = ap (λ (z : Emitted). z.state.next) is in
+      omega (arith, size, more, same, lt)
+
+  pub one_room : (k : FlatClock) (z : Emitted) → z ≡ emit_at_most_one k x.state (drop from x.found)
+      →
+      z.state.next < most → x.state.next + 2 + 3 * (length x.found - from) < most
+  one_room k z is lt =
+      let size = length-drop from x.found in
+      let more = one_next k x.state (drop from x.found) in
+      let same = ap (λ (z : Emitted). z.state.next) is in
+      omega (arith, size, more, same, lt)
+
+  pub red_room : (k : FlatClock) (op : BinaryOperator) (z : Emitted)
+      → z ≡ red k op x.state (drop from x.found) →
+      z.state.next < most → x.state.next + (length x.found - (from + 1)) < most
+  red_room k op z is lt =
+      let size = length-drop from x.found in
+      let more = red_next k op x.state (drop from x.found) in
+      let same = ap (λ (z : Emitted). z.state.next) is in
+      omega (arith, size, more, same, lt)
+
+-- of two operands
+pub pairs_room :
+    (from middle most : ℕ) (x : Emitted) (k : FlatClock) (f : ℕ → ℕ → Operation) →
+    from ≤ middle → middle ≤ length x.found →
+    (pairs k f (slice_range x.found from middle) (above middle x)).state.next < most →
+    x.state.next + min (middle - from) (length x.found - middle) < most
+pairs_room from middle most x k f le within lt =
+    let more = pairs_next k f (slice_range x.found from middle) (above middle x) in
+    let first = length_of_part x.found from middle within in
+    let second = length-drop middle x.found in
+    let sizes = ap₂ (λ m n. x.state.next + min m n) first second in
+    subst (λ n. n < most) (more ∙ sizes) lt
+
+-- of a choice, where there is a condition
+pub choose_room :
+    (from second third most : ℕ) (x : Emitted) (k : FlatClock) → from < second → second ≤ third →
+    third ≤ length x.found →
+    (choose k (slice_range x.found from second) (slice_range x.found second third)
+    (above third x)).state.next < most →
+    x.state.next + min (third - second) (length x.found - third) < most
+choose_room from second third most x k less le within lt =
+    let xs = slice_range x.found second third in
+    let cs = slice_range x.found from second in
+    let size : 0 < length cs =
+    let part = length_of_part x.found from second (omega (arith, le, within)) in
+    omega (arith, part, less) in
+    let one = length_of_part x.found second third within in
+    let two = length-drop third x.found in
+    let sizes = ap₂ (λ m n. x.state.next + min m n) one two in
+    subst (λ n. n < most) (by_first cs xs size ∙ sizes) lt
+  where
+    by_first : (cs xs : List ℕ) → 0 < length cs →
+        (choose k cs xs (above third x)).state.next
+        ≡ x.state.next + min (length xs) (length (drop third x.found))
+    by_first [] xs lt = absurd (omega (arith, lt))
+    by_first (c ∷ cs) xs lt = chosen_next k c cs xs (above third x)
+
+-- of a symbol over two arrays
+pub map_room :
+    (from middle n most : ℕ) (x : Emitted) (k : FlatClock) (op : BinaryOperator) →
+    from ≤ length x.found → middle ≡ from + min n (length x.found - from) →
+    (symbol k op n Map (above from x)).state.next < most →
+    x.state.next + min (middle - from) (length x.found - middle) < most
+map_room from middle n most x k op le is lt =
+    let same = ap (λ (y : Emitted). y.state.next) (map_is k op from middle n x le is) in
+    let right = min-le_right n (length x.found - from) in
+    pairs_room from middle most x k (ApplyBinary op) (omega (arith, is))
+    (omega (arith, is, right, le)) (subst (λ m. m < most) (sym same) lt)
+
+-- of `fby`: a memory of the second operand, and then pairs of both
+pub fby_rooms :
+    (from middle most : ℕ) (x : Emitted) (k : FlatClock) → from ≤ middle →
+    middle ≤ length x.found →
+    (pairs k (FirstThen false) (slice_range x.found from middle)
+    (memory k (Previous first_value) (above middle x))).state.next < most →
+    (x.state.next + (length x.found - middle) < most)
+    × ((let y = on_top middle (memory k (Previous first_value)) x in
+    y.state.next + min (middle - from) (length y.found - middle)) < most)
+fby_rooms from middle most x k le within lt =
+    let g = memory k (Previous first_value) in
+    let y = on_top middle g x in
+    let same = ap (λ (z : Emitted). z.state.next)
+    (pairs_after k (FirstThen false) g from middle x y le within refl) in
+    let one = memory_next k (Previous first_value) (above middle x) in
+    let size = length-drop middle x.found in
+    let two = pairs_next k (FirstThen false) (slice_range x.found from middle)
+    (g (above middle x)) in
+    let first : x.state.next + (length x.found - middle) < most =
+    omega (arith, one, size, two, lt) in
+    let long : middle ≤ length y.found =
+    let a = length-append (take middle x.found) (g (above middle x)).found in
+    let b = length-take-le middle x.found within in
+    omega (arith, a, b) in (
+      first,
+      pairs_room from middle most y k (FirstThen false) le long
+          (subst (λ n. n < most) (sym same) lt),
+    )

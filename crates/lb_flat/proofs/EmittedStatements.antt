@@ -1,0 +1,138 @@
+-- The code that expands resolved statements: left variables are copies of what their term left on
+-- the stack.
+use Rattle.std.proofs.Common.{◌≡◌, ◌<◌, ◌≤◌, ℕ, ◌+◌, ◌-◌, ◌^◌, List, [], ◌∷◌, ◌++◌, length, map}
+use Rattle.std.proofs.Common.{take, drop, get_or, min, arith, refl, sym, ap, ap₂, subst, ◌∙◌}
+use Rattle.std.specs.Prelude.{flat_map}
+use Rattle.std.proofs.Math.Seq.{take-append_seam}
+use Rattle.std.proofs.lemmas.List.{drop_more, drop_all, length-map}
+use Rattle.lb_static.specs.declared.resolved.ResolvedStatement.{ResolvedStatement}
+use Rattle.lb_static.specs.declared.resolved.ResolvedStatement.TheVariants as statement
+use Rattle.lb_static.specs.declared.resolved.Term.{Term}
+use Rattle.lb_static.specs.declared.resolved.VariableId.{VariableId}
+use Rattle.lb_flat.specs.Emit.{State, Emitted, Target, assert, joins, copied}
+use Rattle.lb_flat.specs.EmitTerms.{Context, Place, PlacedEmitted, PlacedState, placed}
+use Rattle.lb_flat.specs.EmitTerms.{left_targets, emit_term, emit_statement}
+use Rattle.lb_flat.specs.Flat.{FlatEquation}
+use Rattle.lb_flat.specs.Frames.{HasPlaces, HasRoom, placed_state, stacked, with_copies}
+use Rattle.lb_flat.specs.TermEmissions.{onto, above, with_asserted}
+use Rattle.lb_flat.proofs.EmittedCalls.{copying_more, copying_ends, copied_append, skipped}
+use Rattle.lb_flat.proofs.EmittedWalks.{above_onto, place_in, emitted_in}
+
+module _ (ctx : Context) where
+  -- one left variable more
+  pub left_step :
+      (s t whole : State) (lefts : List VariableId) (i at to : ℕ) (x d : VariableId)
+      (all : List ℕ) → i < length lefts → x ≡ get_or lefts i d → at ≤ length all →
+      with_copies s (copied (flat_map (left_targets ctx) (drop i lefts)) (drop at all)) ≡ whole →
+      t ≡ with_copies s (copied (left_targets ctx x) (drop at all)) →
+      to ≡ at + min (length (ctx.places x.0)) (length all - at) →
+      with_copies t (copied (flat_map (left_targets ctx) (drop (i + 1) lefts)) (drop to all))
+      ≡ whole
+  left_step s t whole lefts i at to x d all lt is within h et place =
+      let f = left_targets ctx in
+      let ts = f x in
+      let us = flat_map f (drop (i + 1) lefts) in
+      let count : length ts ≡ length (ctx.places x.0) =
+      length-map (ctx.places x.0) (λ p. record { place = p; clock = ctx.declared x.0 }) in
+      let rest : drop to all ≡ drop (length ts) (drop at all) =
+      ap (λ n. drop n all) place ∙ skipped at (length (ctx.places x.0)) all within
+      ∙ ap (λ n. drop n (drop at all)) (sym count) in
+      let split : copied (flat_map f (drop i lefts)) (drop at all)
+      ≡ copied ts (drop at all) ++ copied us (drop to all) =
+      ap (λ (xs : List VariableId). copied (flat_map f xs) (drop at all))
+      (drop_more lefts i d lt ∙ ap (λ (x : VariableId). x ∷ drop (i + 1) lefts) (sym is))
+      ∙ copied_append ts us (drop at all)
+      ∙ ap (λ (is : List ℕ). copied ts (drop at all) ++ copied us is) (sym rest) in
+      copying_more s t whole (copied ts (drop at all)) (copied us (drop to all))
+      (copied (flat_map f (drop i lefts)) (drop at all)) et split h
+
+  pub left_ends :
+      (s whole : State) (lefts : List VariableId) (i at : ℕ) (all : List ℕ) → length lefts ≤ i →
+      with_copies s (copied (flat_map (left_targets ctx) (drop i lefts)) (drop at all)) ≡ whole →
+      s ≡ whole
+  left_ends s whole lefts i at all le h =
+      copying_ends s whole _ (ap (λ (xs : List VariableId).
+      copied (flat_map (left_targets ctx) xs) (drop at all)) (drop_all i lefts le)) h
+
+  -- the room of a statement is that of its term
+  equation_is :
+      (at : Place) (s : State) (x : ResolvedStatement) (lefts : _) (e : Term) →
+      x ≡ statement.Equation lefts e →
+      emit_statement ctx at s x
+      ≡ (let r = emit_term ctx at s e in
+      placed_state r.place (with_copies r.emitted.state
+      (copied (flat_map (left_targets ctx) lefts.items) r.emitted.found)))
+  unfolding emit_statement joins
+  equation_is at s x lefts e is = rw is refl
+
+  assertion_is :
+      (at : Place) (s : State) (x : ResolvedStatement) (e : Term) → x ≡ statement.Assertion e →
+      emit_statement ctx at s x
+      ≡ (let r = emit_term ctx at s e in placed_state r.place (assert r.emitted))
+  unfolding emit_statement
+  assertion_is at s x e is = rw is refl
+
+  pub equation_room :
+      (at : Place) (s : State) (x : ResolvedStatement) (lefts : _) (e : Term) →
+      x ≡ statement.Equation lefts e →
+      (emit_statement ctx at s x).state.next < 2 ^ 32 →
+      HasPlaces (emit_statement ctx at s x).place → HasRoom (emit_term ctx at s e)
+  equation_room at s x lefts e is lt places =
+      let same = equation_is at s x lefts e is in
+      record {
+        elements = subst (λ (r : PlacedState). r.state.next < 2 ^ 32) same lt;
+        places = subst (λ (r : PlacedState). HasPlaces r.place) same places;
+      }
+
+  pub assertion_room :
+      (at : Place) (s : State) (x : ResolvedStatement) (e : Term) → x ≡ statement.Assertion e →
+      (emit_statement ctx at s x).state.next < 2 ^ 32 →
+      HasPlaces (emit_statement ctx at s x).place → HasRoom (emit_term ctx at s e)
+  unfolding assert
+  assertion_room at s x e is lt places =
+      let same = assertion_is at s x e is in
+      record {
+        elements = subst (λ (r : PlacedState). r.state.next < 2 ^ 32) same lt;
+        places = subst (λ (r : PlacedState). HasPlaces r.place) same places;
+      }
+
+  -- what a statement leaves
+  pub equation_done :
+      (at to : Place) (s t : State) (x : ResolvedStatement) (lefts : _) (e : Term)
+      (below : List ℕ) (mid : Emitted) → x ≡ statement.Equation lefts e →
+      placed to mid ≡ stacked below (emit_term ctx at s e) →
+      t ≡ with_copies mid.state
+      (copied (flat_map (left_targets ctx) lefts.items) (drop (length below) mid.found)) →
+      placed_state to t ≡ emit_statement ctx at s x
+  equation_done at to s t x lefts e below mid is h et =
+      let r = emit_term ctx at s e in
+      let ts = flat_map (left_targets ctx) lefts.items in
+      let same : above (length below) mid ≡ r.emitted =
+      ap (above (length below)) (emitted_in to mid (stacked below r) h)
+      ∙ above_onto below r.emitted in
+      ap₂ placed_state (place_in to mid (stacked below r) h)
+      (et ∙ ap (λ (z : Emitted). with_copies z.state (copied ts z.found)) same)
+      ∙ sym (equation_is at s x lefts e is)
+
+  pub assertion_done :
+      (at to : Place) (s t : State) (x : ResolvedStatement) (e : Term) (below : List ℕ)
+      (mid : Emitted) → x ≡ statement.Assertion e →
+      placed to mid ≡ stacked below (emit_term ctx at s e) →
+      t ≡ with_asserted mid.state (drop (length below) mid.found) →
+      placed_state to t ≡ emit_statement ctx at s x
+  unfolding assert
+  assertion_done at to s t x e below mid is h et =
+      let r = emit_term ctx at s e in
+      let same : above (length below) mid ≡ r.emitted =
+      ap (above (length below)) (emitted_in to mid (stacked below r) h)
+      ∙ above_onto below r.emitted in
+      ap₂ placed_state (place_in to mid (stacked below r) h) (et ∙ ap assert same)
+      ∙ sym (assertion_is at s x e is)
+
+-- the stack is what it was
+pub stack_kept :
+    (to : Place) (below : List ℕ) (mid : Emitted) (r : PlacedEmitted) →
+    placed to mid ≡ stacked below r → take (length below) mid.found ≡ below
+stack_kept to below mid r h =
+    ap (λ (z : PlacedEmitted). take (length below) z.emitted.found) h
+    ∙ take-append_seam below r.emitted.found

@@ -1,0 +1,318 @@
+-- The code that expands resolved terms, term by term: the room of each operand is had from that of
+-- the term, and what the operands left on the stack makes what the term leaves.
+use Rattle.std.proofs.Common.{◌≡◌, ◌<◌, ◌≤◌, ℕ, suc, ◌+◌, ◌-◌, ◌^◌, List, [], ◌∷◌, ◌++◌, length}
+use Rattle.std.proofs.Common.{take, drop, get_or, Vec, Box, Global, arith, refl, sym, ap, ap₂}
+use Rattle.std.proofs.Common.{subst, ◌∙◌}
+use Rattle.std.specs.List.{slice_range}
+use Rattle.std.proofs.Math.Seq.{take-append_seam, drop-append_seam}
+use Rattle.std.proofs.lemmas.List.{append_assoc, length-append}
+use Rattle.std.specs.Prelude.{Bool}
+use Rattle.lb_check.specs.Scalars.{Scalar, Boolean}
+use Rattle.lb_static.specs.declared.resolved.StaticId.{StaticId}
+use Rattle.lb_static.specs.declared.resolved.VariableId.{VariableId}
+use Rattle.lb_static.specs.declared.resolved.Term.{Term, Literal, Truth, Variable, Value, Group, If}
+use Rattle.lb_flat.specs.Emit.{State, Emitted, gives, add, chosen_by}
+use Rattle.lb_flat.specs.EmitTerms.{Context, Place, PlacedEmitted, placed, next_term, row_place}
+use Rattle.lb_flat.specs.EmitTerms.{literal, constant, choose, with_one, with_two, with_all}
+use Rattle.lb_flat.specs.EmitTerms.{emit_term, emit_list}
+use Rattle.lb_flat.specs.Frames.{HasPlaces, HasRoom, stacked}
+use Rattle.lb_flat.specs.Flat.{FlatClock, Constant}
+use Rattle.lb_flat.specs.TermEmissions.{onto, above, on_top, on_two, on_three, pushed}
+use Rattle.lb_flat.proofs.EmittedNumbers.{next_grows, list_grows, one_grows, two_grows, all_grows}
+use Rattle.lb_flat.proofs.EmittedNumbers.{add_grows, next_of_add}
+use Rattle.lb_flat.proofs.EmittedPlaces.{IsNotAfter, place_grows, list_later, then_later}
+use Rattle.lb_flat.specs.TermForms.{IsSingle, IsPair, IsRow}
+use Rattle.lb_flat.proofs.EmittedRows.{emitted_single, emitted_pair, emitted_if, emitted_all}
+use Rattle.lb_flat.proofs.EmittedRows.{listed_onto, listed_none, listed_more, listed_step}
+use Rattle.lb_flat.proofs.EmittedStacks.{on_top_onto, on_two_onto}
+
+-- ## Room
+
+pub places_before : (from to : Place) → IsNotAfter from to → HasPlaces to → HasPlaces from
+places_before from to h g =
+    record { terms = omega (arith, h.term, g.terms); calls = omega (arith, h.call, g.calls) }
+
+-- what comes before has room where what comes after has
+room_before : (x y : PlacedEmitted) → x.emitted.state.next ≤ y.emitted.state.next →
+    IsNotAfter x.place y.place → HasRoom y → HasRoom x
+room_before x y le h g =
+    record {
+      elements = omega (arith, le, g.elements);
+      places = places_before x.place y.place h g.places;
+    }
+
+same_place : (at : Place) → IsNotAfter at at
+same_place at = record { term = omega arith; call = omega arith }
+
+module _ (ctx : Context) (at : Place) (s : State) (t : Term) where
+  -- a term with one operand
+  pub single_room : (e : Box Term Global) → IsSingle t e → HasRoom (emit_term ctx at s t) →
+      HasRoom (emit_term ctx (next_term at) s e.value)
+  single_room e is h =
+      let x = emit_term ctx (next_term at) s e.value in
+      room_before x (placed x.place (with_one ctx at t x.emitted))
+      (one_grows ctx at t x.emitted) (same_place x.place)
+      (subst HasRoom (emitted_single ctx at s t e x is refl) h)
+
+  pub single_word : (e : Box Term Global) → IsSingle t e → HasRoom (emit_term ctx at s t) →
+      (let x = emit_term ctx (next_term at) s e.value in
+      (with_one ctx at t x.emitted).state.next < 2 ^ 32)
+  single_word e is h =
+      let x = emit_term ctx (next_term at) s e.value in
+      (subst HasRoom (emitted_single ctx at s t e x is refl) h).elements
+
+  -- with two
+  pub pair_room : (a b : Box Term Global) → IsPair t a b → HasRoom (emit_term ctx at s t) →
+      (let x = emit_term ctx (next_term at) s a.value in
+      HasRoom x × HasRoom (emit_term ctx x.place x.emitted.state b.value))
+  pair_room a b is h =
+      let x = emit_term ctx (next_term at) s a.value in
+      let y = emit_term ctx x.place x.emitted.state b.value in
+      let second : HasRoom y =
+      room_before y (placed y.place (with_two ctx at t x.emitted.found y.emitted))
+      (two_grows ctx at t x.emitted.found y.emitted) (same_place y.place)
+      (subst HasRoom (emitted_pair ctx at s t a b x y is refl refl) h) in
+      let first : HasRoom x =
+      room_before x y (next_grows ctx x.place x.emitted.state b.value)
+      (place_grows ctx x.place x.emitted.state b.value) second in
+      (first, second)
+
+  pub pair_word : (a b : Box Term Global) → IsPair t a b → HasRoom (emit_term ctx at s t) →
+      (let x = emit_term ctx (next_term at) s a.value in
+      let y = emit_term ctx x.place x.emitted.state b.value in
+      (with_two ctx at t x.emitted.found y.emitted).state.next < 2 ^ 32)
+  pair_word a b is h =
+      let x = emit_term ctx (next_term at) s a.value in
+      let y = emit_term ctx x.place x.emitted.state b.value in
+      (subst HasRoom (emitted_pair ctx at s t a b x y is refl refl) h).elements
+
+  -- with a row of them
+  pub row_room : (es : Vec Term Global) → IsRow t es → HasRoom (emit_term ctx at s t) →
+      HasRoom (emit_list ctx (row_place at t) s es.items)
+  row_room es is h =
+      let r = emit_list ctx (row_place at t) s es.items in
+      room_before r (placed r.place (with_all ctx at t r.emitted))
+      (all_grows ctx at t r.emitted) (same_place r.place)
+      (subst HasRoom (emitted_all ctx at s t es es.items r is refl refl) h)
+
+  pub row_word : (es : Vec Term Global) → IsRow t es → HasRoom (emit_term ctx at s t) →
+      (let r = emit_list ctx (row_place at t) s es.items in
+      (with_all ctx at t r.emitted).state.next < 2 ^ 32)
+  row_word es is h =
+      let r = emit_list ctx (row_place at t) s es.items in
+      (subst HasRoom (emitted_all ctx at s t es es.items r is refl refl) h).elements
+
+-- a choice
+module _ (ctx : Context) (at : Place) (s : State) (t : Term) (c a b : Box Term Global)
+    (is : t ≡ If c a b) where
+  abbrev first_of_three : PlacedEmitted
+  first_of_three = emit_term ctx (next_term at) s c.value
+
+  abbrev second_of_three : PlacedEmitted
+  second_of_three =
+      emit_term ctx first_of_three.place first_of_three.emitted.state a.value
+
+  abbrev third_of_three : PlacedEmitted
+  third_of_three =
+      emit_term ctx second_of_three.place second_of_three.emitted.state b.value
+
+  if_is : emit_term ctx at s t
+      ≡ placed third_of_three.place (choose (ctx.clock at.term) first_of_three.emitted.found
+      second_of_three.emitted.found third_of_three.emitted)
+  if_is =
+      ap (emit_term ctx at s) is
+      ∙ emitted_if ctx at s c a b first_of_three second_of_three third_of_three refl refl refl
+
+  pub if_word : HasRoom (emit_term ctx at s t) →
+      (choose (ctx.clock at.term) first_of_three.emitted.found second_of_three.emitted.found
+      third_of_three.emitted).state.next < 2 ^ 32
+  if_word h = (subst HasRoom if_is h).elements
+
+  pub third_room : HasRoom (emit_term ctx at s t) → HasRoom third_of_three
+  third_room h =
+      room_before third_of_three (placed third_of_three.place
+      (choose (ctx.clock at.term) first_of_three.emitted.found
+      second_of_three.emitted.found third_of_three.emitted))
+      (add_grows (ctx.clock at.term) third_of_three.emitted.state
+      (chosen_by first_of_three.emitted.found second_of_three.emitted.found
+      third_of_three.emitted.found))
+      (same_place third_of_three.place) (subst HasRoom if_is h)
+
+  pub second_room : HasRoom (emit_term ctx at s t) → HasRoom second_of_three
+  second_room h =
+      let x = second_of_three in
+      room_before x third_of_three (next_grows ctx x.place x.emitted.state b.value)
+      (place_grows ctx x.place x.emitted.state b.value) (third_room h)
+
+  pub first_room : HasRoom (emit_term ctx at s t) → HasRoom first_of_three
+  first_room h =
+      let x = first_of_three in
+      room_before x second_of_three (next_grows ctx x.place x.emitted.state a.value)
+      (place_grows ctx x.place x.emitted.state a.value) (second_room h)
+
+-- ## What a term leaves
+
+-- of what stands on a stack, the part above what was below
+pub above_onto : (below : List ℕ) (x : Emitted) → above (length below) (onto below x) ≡ x
+above_onto below x =
+    ap (λ (is : List ℕ). record { state = x.state; found = is }) (drop-append_seam below x.found)
+
+-- the parts of what was placed
+pub place_in : (at : Place) (x : Emitted) (r : PlacedEmitted) → placed at x ≡ r → at ≡ r.place
+place_in at x r e = ap (λ (r : PlacedEmitted). r.place) e
+
+pub emitted_in : (at : Place) (x : Emitted) (r : PlacedEmitted) → placed at x ≡ r → x ≡ r.emitted
+emitted_in at x r e = ap (λ (r : PlacedEmitted). r.emitted) e
+
+module _ (ctx : Context) (at : Place) (s : State) (t : Term) (below : List ℕ) where
+  -- one operand, and the word on it
+  pub single_done :
+      (e : Box Term Global) (to : Place) (mid new : Emitted) → IsSingle t e →
+      placed to mid ≡ stacked below (emit_term ctx (next_term at) s e.value) →
+      new ≡ on_top (length below) (with_one ctx at t) mid →
+      placed to new ≡ stacked below (emit_term ctx at s t)
+  single_done e to mid new is h f =
+      let x = emit_term ctx (next_term at) s e.value in
+      let leaves = f
+      ∙ ap (on_top (length below) (with_one ctx at t)) (emitted_in to mid (stacked below x) h)
+      ∙ on_top_onto (with_one ctx at t) below x.emitted in
+      ap₂ placed (place_in to mid (stacked below x) h) leaves
+      ∙ ap (stacked below) (sym (emitted_single ctx at s t e x is refl))
+
+  pub single_left :
+      (e : Box Term Global) (to : Place) (mid : Emitted) (most : ℕ) →
+      placed to mid ≡ stacked below (emit_term ctx (next_term at) s e.value) →
+      (let x = emit_term ctx (next_term at) s e.value in
+      (with_one ctx at t x.emitted).state.next < most) →
+      (with_one ctx at t (above (length below) mid)).state.next < most
+  single_left e to mid most h lt =
+      let x = emit_term ctx (next_term at) s e.value in
+      let same = ap (above (length below)) (emitted_in to mid (stacked below x) h)
+      ∙ above_onto below x.emitted in
+      subst (λ (y : Emitted). (with_one ctx at t y).state.next < most) (sym same) lt
+
+  -- two operands
+  pub pair_done :
+      (a b : Box Term Global) (to up : Place) (mid next new : Emitted) → IsPair t a b →
+      placed to mid ≡ stacked below (emit_term ctx (next_term at) s a.value) →
+      placed up next ≡ stacked mid.found (emit_term ctx to mid.state b.value) →
+      new ≡ on_two (length below) (length mid.found) (with_two ctx at t) next →
+      placed up new ≡ stacked below (emit_term ctx at s t)
+  pair_done a b to up mid next new is h g f =
+      let x = emit_term ctx (next_term at) s a.value in
+      let y = emit_term ctx x.place x.emitted.state b.value in
+      let first = emitted_in to mid (stacked below x) h in
+      let second : placed up next ≡ stacked (below ++ x.emitted.found) y =
+      g ∙ ap₂ (λ (at : Place) (z : Emitted). stacked z.found (emit_term ctx at z.state b.value))
+      (place_in to mid (stacked below x) h) first in
+      let size = ap (λ (z : Emitted). length z.found) first in
+      let leaves = f
+      ∙ ap₂ (λ n z. on_two (length below) n (with_two ctx at t) z) size
+      (emitted_in up next (stacked (below ++ x.emitted.found) y) second)
+      ∙ on_two_onto (with_two ctx at t) below x.emitted.found y.emitted in
+      ap₂ placed (place_in up next (stacked (below ++ x.emitted.found) y) second) leaves
+      ∙ ap (stacked below) (sym (emitted_pair ctx at s t a b x y is refl refl))
+
+  -- a row of operands
+  pub row_done :
+      (es : Vec Term Global) (to : Place) (mid new : Emitted) → IsRow t es →
+      placed to mid ≡ stacked below (emit_list ctx (row_place at t) s es.items) →
+      new ≡ on_top (length below) (with_all ctx at t) mid →
+      placed to new ≡ stacked below (emit_term ctx at s t)
+  row_done es to mid new is h f =
+      let r = emit_list ctx (row_place at t) s es.items in
+      let leaves = f
+      ∙ ap (on_top (length below) (with_all ctx at t)) (emitted_in to mid (stacked below r) h)
+      ∙ on_top_onto (with_all ctx at t) below r.emitted in
+      ap₂ placed (place_in to mid (stacked below r) h) leaves
+      ∙ ap (stacked below) (sym (emitted_all ctx at s t es es.items r is refl refl))
+
+-- the room of the word on a row
+pub row_left :
+    (ctx : Context) (at : Place) (t : Term) (below : List ℕ) (r : PlacedEmitted) (to : Place)
+    (mid : Emitted) (most : ℕ) → placed to mid ≡ stacked below r →
+    (with_all ctx at t r.emitted).state.next < most →
+    (with_all ctx at t (above (length below) mid)).state.next < most
+row_left ctx at t below r to mid most h lt =
+    let same = ap (above (length below)) (emitted_in to mid (stacked below r) h)
+    ∙ above_onto below r.emitted in
+    subst (λ (y : Emitted). (with_all ctx at t y).state.next < most) (sym same) lt
+
+-- ## Lists of terms
+
+-- a list that has room has room for its first term
+pub listed_room :
+    (ctx : Context) (at : Place) (x : Emitted) (es : List Term) (i : ℕ) (d : Term) →
+    i < length es → HasRoom (listed_onto ctx at x (drop i es)) →
+    HasRoom (emit_term ctx at x.state (get_or es i d))
+listed_room ctx at x es i d lt h =
+    let y = emit_term ctx at x.state (get_or es i d) in
+    let rest = drop (i + 1) es in
+    let r = emit_list ctx y.place y.emitted.state rest in
+    let g = subst HasRoom (listed_more ctx at x es i d lt) h in
+    room_before y (listed_onto ctx y.place (onto x.found y.emitted) rest)
+    (list_grows ctx y.place y.emitted.state rest) (list_later ctx y.place y.emitted.state rest) g
+
+-- ## Terms without parts, and parentheses
+
+module _ (ctx : Context) (at : Place) (s : State) (t : Term) where
+  pub literal_is : (n : ℕ) → t ≡ Literal n →
+      emit_term ctx at s t
+      ≡ placed (next_term at) (constant (ctx.clock at.term) s (literal n))
+  unfolding emit_term
+  literal_is n is = rw is refl
+
+  pub truth_is : (b : Bool) → t ≡ Truth b →
+      emit_term ctx at s t
+      ≡ placed (next_term at) (constant (ctx.clock at.term) s (Boolean b))
+  unfolding emit_term
+  truth_is b is = rw is refl
+
+  pub variable_is : (x : VariableId) → t ≡ Variable x →
+      emit_term ctx at s t ≡ placed (next_term at) (gives s (ctx.places x.0))
+  unfolding emit_term
+  variable_is x is = rw is refl
+
+  pub value_is : (i : StaticId) → t ≡ Value i →
+      emit_term ctx at s t
+      ≡ placed (next_term at) (constant (ctx.clock at.term) s (ctx.value i.0))
+  unfolding emit_term
+  value_is i is = rw is refl
+
+  pub group_is : (e : Box Term Global) → t ≡ Group e →
+      emit_term ctx at s t ≡ emit_term ctx at s e.value
+  unfolding emit_term
+  group_is e is = rw is refl
+
+-- one new element
+pub leaf_room :
+    (at : Place) (k : FlatClock) (s : State) (v : Scalar) (r : PlacedEmitted) →
+    r ≡ placed at (constant k s v) → HasRoom r → s.next + 1 < 2 ^ 32
+leaf_room at k s v r is h =
+    let more = next_of_add k s (Constant v ∷ []) in
+    let same = ap (λ (r : PlacedEmitted). r.emitted.state.next) is in
+    let room = h.elements in
+    omega (arith, more, same, room)
+
+pub leaf_places :
+    (at : Place) (x : Emitted) (r : PlacedEmitted) → r ≡ placed at x → HasRoom r → HasPlaces at
+leaf_places at x r is h = subst HasPlaces (ap (λ (r : PlacedEmitted). r.place) is) h.places
+
+pub leaf_done :
+    (at to : Place) (k j : FlatClock) (v w : Scalar) (s : State) (below : List ℕ)
+    (new : Emitted) (r : PlacedEmitted) → r ≡ placed at (constant k s v) → to ≡ at →
+    new ≡ pushed j (Constant w) (gives s below) → j ≡ k → w ≡ v →
+    placed to new ≡ stacked below r
+unfolding add
+leaf_done at to k j v w s below new r is place h clock value =
+    ap₂ placed place (h ∙ ap₂ (λ (k : FlatClock) (v : Scalar).
+    pushed k (Constant v) (gives s below)) clock value)
+    ∙ sym (ap (stacked below) is)
+
+pub variable_done :
+    (at to : Place) (is js below : List ℕ) (s : State) (new : Emitted) (r : PlacedEmitted) →
+    r ≡ placed at (gives s js) → to ≡ at → new ≡ onto below (gives s is) → is ≡ js →
+    placed to new ≡ stacked below r
+variable_done at to is js below s new r form place h same =
+    ap₂ placed place (h ∙ ap (λ (is : List ℕ). onto below (gives s is)) same)
+    ∙ sym (ap (stacked below) form)

@@ -1,0 +1,122 @@
+-- The flat program of an accepted program stands for it, in any order of its equations, where its
+-- clocks and kinds fit, the layout gives variables their elements, and each element has an
+-- equation.
+use Rattle.std.proofs.Common.{◌≡◌, ℕ, ◌<◌, None, List, ◌++◌, map, length}
+use Rattle.lb_syntax.specs.declared.tree.Kind.{Kind}
+use Rattle.lb_syntax.specs.Lists.{Every, In}
+use Rattle.lb_syntax.specs.Tree.{Name}
+use Rattle.lb_static.specs.DataTypes.{variables, width, input_kinds}
+use Rattle.lb_static.specs.Instances.{Program, Path, Root, Observer, instance_at, instances}
+use Rattle.lb_static.specs.Instantiation.{static_refusal}
+use Rattle.lb_check.specs.Acceptance.{check_refusal}
+use Rattle.lb_check.specs.Occurrences.{node_occurrences}
+use Rattle.lb_check.specs.Scalars.{Stream}
+use Rattle.lb_check.specs.Solutions.{Inputs, variable_presence, Solves}
+use Rattle.lb_check.specs.Streams.{History}
+use Rattle.lb_flat.specs.Emit.{State, given_inputs, observed, before_instances, emit_instances}
+use Rattle.lb_flat.specs.Emit.{expanded}
+use Rattle.lb_flat.specs.Expanded.{IsOrderingOf}
+use Rattle.lb_flat.specs.Flat.{FlatClock, FlatEquation, instants}
+use Rattle.lb_flat.specs.FlatSolutions.{IsFlatSolution}
+use Rattle.lb_flat.specs.Flattening.{history_of}
+use Rattle.lb_flat.specs.Layouts.{Layout}
+use Rattle.lb_flat.specs.StandingPrograms.{StandsFor}
+use Rattle.lb_flat.proofs.Adding.{columns}
+use Rattle.lb_flat.proofs.EmittedParts.{Stay, second_stays}
+use Rattle.lb_flat.proofs.Expanding.{ordered}
+use Rattle.lb_flat.proofs.Fitting.{IsFitting}
+use Rattle.lb_flat.proofs.FlatHistories.{streams_for, solved_flat, solved_same}
+use Rattle.lb_flat.proofs.Gathering.{all_gathered}
+use Rattle.lb_flat.proofs.KeptMemories.{memories_are}
+use Rattle.lb_flat.proofs.Lists.{Every-map}
+use Rattle.lb_flat.proofs.Observing.{IsInOrder}
+use Rattle.lb_flat.proofs.SolutionHistories.{further_met, solution_solves, solution_watched}
+use Rattle.lb_flat.proofs.Solving.{IsVariablePlaced, IsPlacing}
+use Rattle.lb_flat.proofs.SoundInstances.{RunsAt}
+use Rattle.lb_flat.proofs.SoundPrograms.{program_sound}
+use Rattle.lb_flat.proofs.Whole.{IsProgramSound}
+
+module _ (P : Program) (elaborated : static_refusal P ≡ None) (checked : check_refusal P ≡ None)
+    (Y : Layout) (count : ℕ) (K : ℕ → FlatClock) (N : ℕ → Kind) (Q : List FlatEquation)
+    (ordering : IsOrderingOf (expanded Y P count).equations Q)
+    (each : (i : ℕ) → i < (expanded Y P count).size → In i (map (λ q. q.element) Q))
+    (within : Every (λ q. q.element < (expanded Y P count).size) Q)
+    (fit : IsFitting (input_kinds P) K N Q)
+    (placing : IsPlacing Y P count K N (expanded Y P count).size)
+    (order : IsInOrder Y P count)
+    -- what is called runs on the clock of the call
+    (runs : (H : History) →
+    Every (λ here. Every (RunsAt Y P H here) (node_occurrences P here.node)) (instances P))
+    -- a variable that serves for another in a clock has its streams
+    (signs : (X : Inputs) (F : List Stream) →
+    IsFlatSolution (input_kinds P) N (ordered Y P count Q) X F → (p : Path) (x : Name) →
+    columns X F (Y.places p x) ≡ columns X F (Y.signs p x))
+    -- and so it is in the streams that are filled in from a history that solves the program, on
+    -- whose clocks all instances run
+    (long : (X : Inputs) (H : History) → Solves P X H →
+    Every (λ here.
+    Every (λ d. length (variable_presence H here d) ≡ length X) (variables here.node))
+    (instances P))
+    (ticks : (X : Inputs) (H : History) (h : Solves P X H) →
+    Every (λ here.
+    instants X
+    (all_gathered P Y count K N (expanded Y P count).size placing order.variables X H h)
+    (Y.runs here.path)
+    ≡ H.ticks here.path) (instances P))
+    (served : (X : Inputs) (H : History) (h : Solves P X H) → (p : Path) (x : Name) →
+    columns X
+    (all_gathered P Y count K N (expanded Y P count).size placing order.variables X H h)
+    (Y.places p x)
+    ≡ columns X
+    (all_gathered P Y count K N (expanded Y P count).size placing order.variables X H h)
+    (Y.signs p x)) where
+  placed :
+      Every (λ here. Every (λ d. length (Y.places here.path d.name) ≡ width P here d)
+      (variables here.node)) (instances P)
+  placed =
+      Every-map (λ here. Every (IsVariablePlaced Y P K N (expanded Y P count).size here)
+      (variables here.node))
+      (λ here. Every (λ d. length (Y.places here.path d.name) ≡ width P here d)
+      (variables here.node))
+      (λ here h. Every-map (IsVariablePlaced Y P K N (expanded Y P count).size here)
+      (λ d. length (Y.places here.path d.name) ≡ width P here d) (λ d v. v.width)
+      (variables here.node) h) (instances P) placing.variables
+
+  sound : (X : Inputs) (F : List Stream) → IsProgramSound Y P (history_of Y X F)
+  sound X F = program_sound P elaborated checked Y placed runs X F
+
+  abbrev further : State
+  further = emit_instances Y P (before_instances count) (instances P)
+
+  further_there : Stay further.equations Q
+  further_there q i =
+      let given = given_inputs Y (instance_at P Root) in
+      let seen = observed Y (instance_at P Root) (instance_at P Observer) in
+      ordering.there q
+      (second_stays given (seen ++ (further.copies ++ further.equations)) q
+      (second_stays seen (further.copies ++ further.equations) q
+      (second_stays further.copies further.equations q i)))
+
+  -- the flat program stands for the program
+  pub stands_for : StandsFor P Y N (ordered Y P count Q)
+  stands_for = record {
+    accepted = elaborated;
+    checked = checked;
+    solves = λ X F s.
+        solution_solves P Y count K N Q ordering each fit placing X F s (signs X F s) (sound X F);
+    solved = λ X H h. (
+      streams_for P elaborated checked Y count K N Q ordering within fit placing order.variables
+          sound X H h,
+      solved_flat P elaborated checked Y count K N Q ordering within fit placing order.variables
+          sound X H h (long X H h) (ticks X H h) (served X H h),
+      solved_same P elaborated checked Y count K N Q ordering within fit placing order.variables
+          sound X H h (long X H h) (ticks X H h) (served X H h),
+    );
+    watched = λ X F s t lt.
+        solution_watched P Y count K N Q ordering each fit placing X F s (signs X F s) (sound X F)
+        order t;
+    memories =
+        memories_are P elaborated checked Y placed runs count N (ordered Y P count Q)
+        further_there signs
+        (λ X F s. further_met P Y count K N Q ordering each fit placing X F s);
+  }

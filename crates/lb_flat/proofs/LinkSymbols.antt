@@ -1,0 +1,175 @@
+-- What iterated nodes and iterated symbols give, element by element.
+use Rattle.std.proofs.Common.{◌≡◌, inl, inr, ℕ, zero, suc, ◌+◌, ◌-◌, ◌<◌, ◌≤◌, true, false, Bool}
+use Rattle.std.proofs.Common.{if◌then◌else◌, Option, Some, None, List, [], ◌∷◌, ◌++◌, map, length}
+use Rattle.std.proofs.Common.{flat_map, refl, sym, ap, ◌∙◌, subst, arith}
+use Rattle.std.specs.List.{range_with_len}
+use Rattle.lb_syntax.specs.declared.tree.BinaryOperator.{BinaryOperator}
+use Rattle.lb_syntax.specs.declared.tree.ArrayIterator.{ArrayIterator}
+use Rattle.lb_syntax.specs.declared.tree.ArrayIterator.TheVariants.{Map, Red, Fill}
+use Rattle.lb_syntax.specs.Lists.{Every, zip2, joined, tail_of, all_some}
+use Rattle.lb_syntax.specs.Tree.{Name, Declaration}
+use Rattle.lb_static.specs.DataTypes.{DataType, int, truth}
+use Rattle.lb_check.specs.Types.{array_of, red_types}
+use Rattle.lb_check.specs.Needs.{Element, symbol_needs}
+use Rattle.lb_check.specs.Streams.{gathered, last_of, iterated}
+use Rattle.lb_flat.specs.Flat.{FlatClock, FlatEquation, ApplyBinary}
+use Rattle.lb_flat.specs.Run.{clock_reads}
+use Rattle.lb_flat.specs.Layouts.{where_signed}
+use Rattle.lb_flat.specs.Emit.{State, Emitted, keep, joins, emit_symbol}
+use Rattle.lb_flat.proofs.TypeFacts.{elements_in, bound, truly, some_same}
+use Rattle.lb_flat.proofs.LinkWords.{SomeOf, Pairs, pairs-append, pairs-pieces, AllMeet, AreLinks}
+use Rattle.lb_flat.proofs.LinkWords.{added, each_two, all_links, two_links, step, chained_gives}
+
+-- ## What iterated nodes give
+
+module _ {A B : Type 0} (R : A → B → Type 0) (f : ℕ → Name → List A) (g : ℕ → Name → List B)
+    (n : ℕ) (same : (i : ℕ) → i < n → (x : Name) → Pairs R (f i x) (g i x)) where
+  each_range : (a m : ℕ) (x : Name) → a + m ≤ n →
+      Every (λ i. Pairs R (f i x) (g i x)) (range_with_len a m)
+  each_range a zero x le = tt
+  each_range a (suc m) x le = (same a (omega arith) x, each_range (a + 1) m x (omega arith))
+
+  gathered_pairs : (outs : List Declaration) → Pairs R (gathered f n outs) (gathered g n outs)
+  gathered_pairs [] = tt
+  gathered_pairs (o ∷ outs) =
+      pairs-append R (flat_map (λ i. f i o.name) (range_with_len 0 n))
+      (flat_map (λ i. g i o.name) (range_with_len 0 n)) (gathered f n outs) (gathered g n outs)
+      (pairs-pieces R (λ i. f i o.name) (λ i. g i o.name) (range_with_len 0 n)
+      (each_range 0 n o.name (omega arith)))
+      (gathered_pairs outs)
+
+  last_pairs : 0 < n → (outs : List Declaration) → Pairs R (last_of f n outs) (last_of g n outs)
+  last_pairs positive [] = tt
+  last_pairs positive (o ∷ outs) = same (n - 1) (omega (arith, positive)) o.name
+
+  pub iterated_pairs :
+      0 < n → (it : ArrayIterator) (outs : List Declaration) →
+      Pairs R (iterated f n it outs) (iterated g n it outs)
+  iterated_pairs positive Map outs = gathered_pairs outs
+  iterated_pairs positive Red outs = last_pairs positive outs
+  iterated_pairs positive Fill outs =
+      pairs-append R (last_of f n outs) (last_of g n outs) (gathered f n (tail_of outs))
+      (gathered g n (tail_of outs)) (last_pairs positive outs) (gathered_pairs (tail_of outs))
+
+pub keep_found : (x : Emitted) → (keep x).found ≡ x.found
+unfolding keep
+keep_found x = refl
+
+pub keep_equations : (x : Emitted) → (keep x).state.equations ≡ x.state.equations
+unfolding keep
+keep_equations x = refl
+
+pub joins_found : (s : State) (qs : List FlatEquation) (is : List ℕ) → (joins s qs is).found ≡ is
+unfolding joins
+joins_found s qs is = refl
+
+-- ## Types of iterated symbols
+
+pub symbol_out :
+    (b : Bool) (types : List DataType × List DataType) →
+    (if b then Some (int ∷ int ∷ [], int ∷ []) else Some (truth ∷ truth ∷ [], truth ∷ []))
+    ≡ Some types → elements_in types.1 ≡ 1
+symbol_out true types e =
+    ap (λ (t : List DataType × List DataType). elements_in t.1) (sym (some_same _ _ e))
+symbol_out false types e =
+    ap (λ (t : List DataType × List DataType). elements_in t.1) (sym (some_same _ _ e))
+
+pub red_out :
+    (n : ℕ) (ins outs args ts : List DataType) → red_types n ins outs args ≡ Some ts → ts ≡ outs
+red_out n [] outs args ts e = absurd cc
+red_out n (a ∷ ins) [] args ts e = absurd cc
+red_out n (a ∷ ins) (o ∷ (p ∷ outs)) args ts e = absurd cc
+red_out n (a ∷ ins) (o ∷ []) [] ts e = absurd cc
+red_out n (a ∷ ins) (o ∷ []) (i ∷ args) ts e =
+    let w = bound (all_some (map (array_of n) ins)) _ ts e in
+    let h = truly _ (o ∷ []) ts w.gives in
+    sym h.same
+
+-- ## Clocks
+
+pub signed_wider :
+    (Left : ℕ → Type 0) (k : FlatClock) (sign : _) (is : List ℕ) →
+    SomeOf Left (clock_reads k) → SomeOf Left (clock_reads (where_signed k sign is))
+signed_wider Left k sign [] g = g
+signed_wider Left k sign (i ∷ is) g = inr g
+
+-- ## Iterated symbols
+
+module _ (IsAt : Element → ℕ → Type 0) (Under : ℕ → ℕ → Type 0) (Left : ℕ → Type 0) where
+  pub map_linked :
+      (k : FlatClock) (op : BinaryOperator) (s : State) (found : List (List ℕ))
+      (ysss : List (List (List Element))) → Pairs (AreLinks IsAt Under Left k) found ysss →
+      AllMeet IsAt Under Left (emit_symbol k op s Map found).state.equations →
+      AreLinks IsAt Under Left k (emit_symbol k op s Map found).found (symbol_needs Map ysss)
+  map_linked k op s [] [] l h = tt
+  map_linked k op s [] (ys ∷ ysss) l h = absurd l
+  map_linked k op s (x ∷ found) [] l h = absurd l
+  map_linked k op s (x ∷ []) (ys ∷ []) l h = tt
+  map_linked k op s (x ∷ []) (ys ∷ (zs ∷ ysss)) l h = absurd l.1
+  map_linked k op s (x ∷ (x' ∷ found)) (ys ∷ []) l h = absurd l.1
+  map_linked k op s (x ∷ (x' ∷ [])) (ys ∷ (zs ∷ [])) l h =
+      let n = added IsAt Under Left k s (zip2 (ApplyBinary op) x x') h in
+      each_two IsAt Under Left k (ApplyBinary op) (λ i j. refl) _ x x' ys zs n.new l.0 l.1.0
+  map_linked k op s (x ∷ (x' ∷ [])) (ys ∷ (zs ∷ (ws ∷ ysss))) l h = absurd l.1.1
+  map_linked k op s (x ∷ (x' ∷ (u ∷ found))) (ys ∷ (zs ∷ [])) l h = absurd l.1.1
+  map_linked k op s (x ∷ (x' ∷ (u ∷ found))) (ys ∷ (zs ∷ (ws ∷ ysss))) l h = tt
+
+  pub map_before :
+      (k : FlatClock) (op : BinaryOperator) (s : State) (found : List (List ℕ)) →
+      AllMeet IsAt Under Left (emit_symbol k op s Map found).state.equations →
+      AllMeet IsAt Under Left s.equations
+  map_before k op s [] h = h
+  map_before k op s (x ∷ []) h = h
+  map_before k op s (x ∷ (y ∷ [])) h =
+      let n = added IsAt Under Left k s (zip2 (ApplyBinary op) x y) h in n.before
+  map_before k op s (x ∷ (y ∷ (z ∷ found))) h = h
+
+  pub red_before :
+      (k : FlatClock) (op : BinaryOperator) (s : State) (found : List (List ℕ)) →
+      AllMeet IsAt Under Left (emit_symbol k op s Red found).state.equations →
+      AllMeet IsAt Under Left s.equations
+  red_before k op s [] h = h
+  red_before k op s ([] ∷ found) h = h
+  red_before k op s ((i ∷ (j ∷ is)) ∷ found) h = h
+  red_before k op s ((i ∷ []) ∷ []) h = h
+  red_before k op s ((i ∷ []) ∷ (ys ∷ [])) h =
+      let g = chained_gives IsAt Under Left k op s i ys h in g.before
+  red_before k op s ((i ∷ []) ∷ (ys ∷ (zs ∷ found))) h = h
+
+  -- where something is found at all
+  pub red_linked :
+      (k : FlatClock) (op : BinaryOperator) (s : State) (found : List (List ℕ))
+      (ysss : List (List (List Element))) → Pairs (AreLinks IsAt Under Left k) found ysss →
+      0 < length (emit_symbol k op s Red found).found →
+      AllMeet IsAt Under Left (emit_symbol k op s Red found).state.equations →
+      AreLinks IsAt Under Left k (emit_symbol k op s Red found).found (symbol_needs Red ysss)
+  red_linked k op s [] ysss l lt h = absurd (omega (arith, lt))
+  red_linked k op s ([] ∷ found) ysss l lt h = absurd (omega (arith, lt))
+  red_linked k op s ((i ∷ (j ∷ is)) ∷ found) ysss l lt h = absurd (omega (arith, lt))
+  red_linked k op s ((i ∷ []) ∷ []) ysss l lt h = absurd (omega (arith, lt))
+  red_linked k op s ((i ∷ []) ∷ (x ∷ (y ∷ found))) ysss l lt h = absurd (omega (arith, lt))
+  red_linked k op s ((i ∷ []) ∷ (x ∷ [])) [] l lt h = absurd l
+  red_linked k op s ((i ∷ []) ∷ (x ∷ [])) ([] ∷ ysss) l lt h = absurd l.0
+  red_linked k op s ((i ∷ []) ∷ (x ∷ [])) ((y ∷ (z ∷ ys)) ∷ ysss) l lt h = absurd l.0.1
+  red_linked k op s ((i ∷ []) ∷ (x ∷ [])) ((y ∷ []) ∷ []) l lt h = absurd l.1
+  red_linked k op s ((i ∷ []) ∷ (x ∷ [])) ((y ∷ []) ∷ (zs ∷ (ws ∷ ysss))) l lt h = absurd l.1.1
+  red_linked k op s ((i ∷ []) ∷ (x ∷ [])) ((y ∷ []) ∷ (zs ∷ [])) l lt h =
+      let g = chained_gives IsAt Under Left k op s i x h in
+      let first = all_links IsAt Under Left k (i ∷ []) (y ∷ []) l.0 in
+      let others = all_links IsAt Under Left k x zs l.1.0 in
+      subst (λ is. AreLinks IsAt Under Left k is ((joined (y ∷ []) ++ joined zs) ∷ []))
+      (sym g.is_found) (
+        step IsAt Under Left k g.element (i ∷ x) (joined (y ∷ []) ++ joined zs) g.comes
+            (two_links IsAt Under Left k (i ∷ []) x (joined (y ∷ [])) (joined zs) first others),
+        tt,
+      )
+
+  -- the equations before an iterated symbol
+  pub symbol_before :
+      (k : FlatClock) (op : BinaryOperator) (s : State) (it : ArrayIterator)
+      (found : List (List ℕ)) →
+      AllMeet IsAt Under Left (emit_symbol k op s it found).state.equations →
+      AllMeet IsAt Under Left s.equations
+  symbol_before k op s Map found h = map_before k op s found h
+  symbol_before k op s Red found h = red_before k op s found h
+  symbol_before k op s Fill found h = h

@@ -1,0 +1,811 @@
+-- The found elements of an expression come from the elements of the variables that it needs,
+-- element by element, or are left by what its clock reads.
+use Rattle.std.proofs.Common.{◌≡◌, ◌⊎◌, inl, inr, ℕ, zero, suc, ◌+◌, ◌-◌, ◌*◌, ◌<◌, ◌≤◌, true}
+use Rattle.std.proofs.Common.{false, Bool, pos, if◌then◌else◌, Option, Some, None, IfSome, List, []}
+use Rattle.std.proofs.Common.{◌∷◌, ◌++◌, map, length, take, drop, flat_map, refl, sym, ap, ap₂, ◌∙◌}
+use Rattle.std.proofs.Common.{subst, arith}
+use Rattle.std.specs.List.{list_all, range_with_len}
+use Rattle.std.specs.Str.{bytes_eq}
+use Rattle.std.proofs.lemmas.Slice.Eq.{bytes_eq-Decides}
+use Rattle.std.proofs.lemmas.List.{length-map}
+use Rattle.lb_static.proofs.TestedItems.{found_passes}
+use Rattle.lb_syntax.specs.declared.tree.UnaryOperator.TheVariants.{Not}
+use Rattle.lb_syntax.specs.declared.tree.BinaryOperator.{BinaryOperator}
+use Rattle.lb_syntax.specs.declared.tree.ArrayIterator.{ArrayIterator}
+use Rattle.lb_syntax.specs.declared.tree.ArrayIterator.TheVariants.{Map, Red, Fill}
+use Rattle.lb_syntax.specs.Lists.{◌>>=◌, Every, In, zip2, joined, tail_of, all_some, either_or}
+use Rattle.lb_syntax.specs.Lists.{where_true, listed}
+use Rattle.lb_syntax.specs.Tree.{Name, Static, Node_named, Symbol, Expr, Literal, Truth, Variable}
+use Rattle.lb_syntax.specs.Tree.{Group, Unary, Binary, If, Arrow, Fby, Pre, Current, When}
+use Rattle.lb_syntax.specs.Tree.{Replicate, Index, Slice, Join, Array, AtMostOne, Nor, Call}
+use Rattle.lb_syntax.specs.Tree.{Iterate, Exprs, Nil, Cons, Declaration}
+use Rattle.lb_static.specs.StaticValues.{named}
+use Rattle.lb_static.specs.Instances.{Program, Instance, Path, Child, call_site, callee_of}
+use Rattle.lb_static.specs.Instances.{static_count, name_value, node_named}
+use Rattle.lb_static.specs.DataTypes.{DataType, int, truth, variables, is_type, are_types}
+use Rattle.lb_check.specs.Types.{data_types, all_types, from_one, from_truths, common_type}
+use Rattle.lb_check.specs.Types.{array_of, index_type, slice_type, join_type, operator_types}
+use Rattle.lb_check.specs.Types.{is_arithmetic}
+use Rattle.lb_check.specs.Scalars.{Integer, Boolean, or_fault, first_value}
+use Rattle.lb_check.specs.Clocks.{Clock, On, clock_of, clock_or, declared_clock}
+use Rattle.lb_check.specs.Needs.{Element, elements, elements_named, itself, both, needs, all_needs}
+use Rattle.lb_check.specs.Needs.{output_elements, symbol_needs, waits_for}
+use Rattle.lb_check.specs.Occurrences.{Occurrence, at, call_count, call_clocks, occurrences}
+use Rattle.lb_check.specs.Occurrences.{occurrences_in, occurrences_each}
+use Rattle.lb_check.specs.Streams.{History, number, part_count, outputs_of, gathered, last_of}
+use Rattle.lb_check.specs.Streams.{iterated}
+use Rattle.lb_flat.specs.Flat.{FlatClock, Operation, Constant, ApplyUnary, ApplyBinary, FirstThen}
+use Rattle.lb_flat.specs.Flat.{Previous, Latest, Sample}
+use Rattle.lb_flat.specs.Run.{clock_reads, reads}
+use Rattle.lb_flat.specs.Layouts.{Layout, where_signed, flat_clock}
+use Rattle.lb_flat.specs.Emit.{State, Emitted, EmittedAll, call_copies, iterator_copies, add, keep}
+use Rattle.lb_flat.specs.Emit.{joins, push, chosen_by, chained, negated, emit_symbol, emit_name}
+use Rattle.lb_flat.specs.Emit.{emit, emit_all, emit_each}
+use Rattle.lb_flat.proofs.Lists.{Every-append, Every-take, Every-drop, Every-copies, Every-joined}
+use Rattle.lb_flat.proofs.Lists.{Every-first, Every-second}
+use Rattle.lb_flat.proofs.Emission.{joins_equations}
+use Rattle.lb_flat.proofs.TypeFacts.{elements_in, bound, one, two, from_true, alike, truly}
+use Rattle.lb_flat.proofs.TypeFacts.{truth_is, some_same, and_first}
+use Rattle.lb_flat.proofs.Widths.{called, placed, first_of_all, AreVariablesWide, IsOccurrenceWide}
+use Rattle.lb_flat.proofs.Widths.{wide}
+use Rattle.lb_flat.proofs.TypedParts.{IsTypedAt}
+use Rattle.lb_flat.proofs.FoundWidths.{as_many, add_count}
+use Rattle.lb_flat.proofs.LinkSymbols.{iterated_pairs, keep_found, keep_equations, joins_found}
+use Rattle.lb_flat.proofs.LinkSymbols.{symbol_out, red_out, signed_wider, map_linked, map_before}
+use Rattle.lb_flat.proofs.LinkSymbols.{red_before, red_linked}
+use Rattle.lb_flat.proofs.LinkWords.{SomeOf, Pairs, pairs-append, pairs-take, pairs-drop}
+use Rattle.lb_flat.proofs.LinkWords.{pairs-copies, pairs-joined, pairs-pieces, Has, AllMeet}
+use Rattle.lb_flat.proofs.LinkWords.{AreLinks, Links, Link, New, Waits, Gives, Comes, no_links}
+use Rattle.lb_flat.proofs.LinkWords.{one_link, two_links, step, all_links, variable_links, added}
+use Rattle.lb_flat.proofs.LinkWords.{each_one, each_two, each_choice, each_first, memories}
+use Rattle.lb_flat.proofs.LinkWords.{each_memory, each_constant, each_latest, each_sample, pushed}
+use Rattle.lb_flat.proofs.LinkWords.{chained_gives, nor_gives, at_most_one_gives}
+
+module _ (Y : Layout) (P : Program) (H : History)
+    (same : (p : Path) (x : Name) → length (Y.places p x) ≡ length (H.columns p x))
+    (IsAt : Element → ℕ → Type 0) (Under : ℕ → ℕ → Type 0) (Left : ℕ → Type 0)
+    (here : Instance) where
+  -- the elements of the variables of an instance have their numbers
+  abbrev pub AreNumbered : Instance → Type 0
+  AreNumbered c = (x : Name) → Pairs (λ i y. IsAt y i) (Y.places c.path x) (elements_named P c x)
+
+  abbrev pub flat : Clock → FlatClock
+  flat k = flat_clock Y here.path k
+
+  -- the variables that a clock of the instance waits for are those that it reads
+  pub record IsAwaited (k : Clock) : Type 0 where
+    pub each : Every (λ y. (i : ℕ) × In i (clock_reads (flat k)) × IsAt y i) (waits_for P here k)
+    pub back :
+        Every (λ i. (y : Element) × In y (waits_for P here k) × IsAt y i) (clock_reads (flat k))
+
+  -- what is under t has its clock under t
+  abbrev pub IsRunAt : Clock → ℕ → Type 0
+  IsRunAt k i = (t : ℕ) → Under t i → Every (Under t) (clock_reads (flat k))
+
+  abbrev pub RunOn : Clock → List ℕ → Type 0
+  RunOn k is = Every (IsRunAt k) is
+
+  abbrev Met : State → Type 0
+  Met s = AllMeet IsAt Under Left s.equations
+
+  -- what is found without a new element for it has the clock on which the expression stands
+  abbrev pub IsRunning : Clock → ℕ → Expr → Type 0
+  IsRunning k n (Variable x) = RunOn k (Y.places here.path x)
+  IsRunning k n (When a x sign) = k ≡ On (declared_clock here.node x) x sign
+  IsRunning k n (Call f statics es) =
+      (t : DataType) → data_types P here (Call f statics es) ≡ Some (t ∷ []) →
+      RunOn k (flat_map (λ o. Y.places (Child here.path n 0) o.name) (outputs_of P here f))
+  IsRunning k n (Iterate it (Node_named f statics) m es) =
+      RunOn k
+      (iterated (λ i x. Y.places (Child here.path n i) x) (number P here m) it
+      (outputs_of P here f))
+  IsRunning k n e = Unit {0}
+
+  -- what has to be known of an expression itself, its parts apart
+  abbrev pub IsLinkable : Clock → ℕ → Expr → Type 0
+  IsLinkable k n (When a x sign) = IsAwaited (On (declared_clock here.node x) x sign)
+  IsLinkable k n (Current a) = IsAwaited (clock_or (clock_of P here.node a))
+  IsLinkable k n (Call f statics es) =
+      (c : Instance) → callee_of P here (call_site f statics) n 0 ≡ Some c → AreNumbered c
+  IsLinkable k n (Iterate it (Node_named f statics) m es) =
+      (0 < number P here m)
+      × ((i : ℕ) → i < number P here m → (c : Instance) →
+      callee_of P here (call_site f statics) n i ≡ Some c → AreNumbered c)
+  IsLinkable k n e = Unit {0}
+
+  -- an occurrence is typed, and this is known of it
+  pub record IsKnown (o : Occurrence) : Type 0 where
+    pub typed : IsTypedAt P H here o
+    pub linkable : IsLinkable o.clock o.calls_before o.expr
+    pub running : IsRunning o.clock o.calls_before o.expr
+
+  abbrev pub Parts : List Occurrence → Type 0
+  Parts os = Every IsKnown os
+
+  pub fore : (os os' : List Occurrence) → Parts (os ++ os') → Parts os
+  fore os os' h = Every-first IsKnown os os' h
+
+  pub aft : (os os' : List Occurrence) → Parts (os ++ os') → Parts os'
+  aft os os' h = Every-second IsKnown os os' h
+
+  pub record Linked (s : State) (r : Emitted) (k : FlatClock) (yss : List (List Element)) :
+      Type 0 where
+    pub before : AllMeet IsAt Under Left s.equations
+    pub links : AreLinks IsAt Under Left k r.found yss
+
+  pub record LinkedAll (s : State) (r : EmittedAll) (k : FlatClock)
+      (ysss : List (List (List Element))) : Type 0 where
+    pub before : AllMeet IsAt Under Left s.equations
+    pub links : Pairs (AreLinks IsAt Under Left k) r.found ysss
+
+  -- ## Clocks that are passed
+
+  pub awaited :
+      (k l : Clock) → IsAwaited l →
+      Waits IsAt Under Left (flat k) (flat l) (waits_for P here l)
+  awaited k l w = record {
+    there = λ t u. from (waits_for P here l) w.each t u;
+    back = λ g. to (clock_reads (flat l)) w.back g;
+  }
+    where
+      at : (t i : ℕ) (is : List ℕ) → Every (Under t) is → In i is → Under t i
+      at t i [] u j = absurd j
+      at t i (x ∷ is) u (inl e) = subst (Under t) e u.0
+      at t i (x ∷ is) u (inr j) = at t i is u.1 j
+
+      from :
+          (ys : List Element) →
+          Every (λ y. (i : ℕ) × In i (clock_reads (flat l)) × IsAt y i) ys → (t : ℕ) →
+          Every (Under t) (clock_reads (flat l)) → Every (Has IsAt Under Left (Under t)) ys
+      from [] h t u = tt
+      from (y ∷ ys) h t u =
+          ((h.0.0, h.0.2, at t h.0.0 (clock_reads (flat l)) u h.0.1), from ys h.1 t u)
+
+      among : (y : Element) (ys : List Element) → In y ys → Has IsAt Under Left Left y →
+          SomeOf (Has IsAt Under Left Left) ys
+      among y [] j g = absurd j
+      among y (z ∷ ys) (inl e) g = inl (subst (Has IsAt Under Left Left) (sym e) g)
+      among y (z ∷ ys) (inr j) g = inr (among y ys j g)
+
+      to :
+          (is : List ℕ) →
+          Every (λ i. (y : Element) × In y (waits_for P here l) × IsAt y i) is →
+          SomeOf Left is → SomeOf (Has IsAt Under Left Left) (waits_for P here l)
+      to [] h g = absurd g
+      to (i ∷ is) h (inl g) = among h.0.0 (waits_for P here l) h.0.1 (i, h.0.2, g)
+      to (i ∷ is) h (inr g) = to is h.1 g
+
+  -- ## Names and calls
+
+  named_elements :
+      (x : Name) (d : Declaration) → named (λ d. d.name) x (variables here.node) ≡ Some d →
+      elements_named P here x ≡ elements P here d
+  named_elements x d e = ap (listed (elements P here)) e
+
+  pub name_linked :
+      (k : Clock) (s : State) (x : Name) (o : Option Declaration) →
+      named (λ d. d.name) x (variables here.node) ≡ o → AreNumbered here →
+      AllMeet IsAt Under Left (emit_name Y P here k s x o).state.equations →
+      Linked s (emit_name Y P here k s x o) (flat k)
+      (either_or (o >>= λ d. Some (itself (elements P here d))) ([] ∷ []))
+  name_linked k s x None e numbered h =
+      let v = or_fault (name_value P here x) in
+      let n = added IsAt Under Left (flat k) s (Constant v ∷ []) h in
+      record {
+        before = n.before;
+        links = each_constant IsAt Under Left (flat k) (Constant v) refl _ n.new;
+      }
+  name_linked k s x (Some d) e numbered h =
+      let test = λ (d : Declaration). bytes_eq d.name x in
+      let name = (bytes_eq-Decides d.name x).0 (found_passes test (variables here.node) d e) in
+      record {
+        before = h;
+        links = variable_links IsAt Under Left (flat k) (Y.places here.path d.name)
+            (elements P here d)
+            (subst (λ y. Pairs (λ i y. IsAt y i) (Y.places here.path y) (elements P here d))
+            (sym name)
+            (subst (Pairs (λ i y. IsAt y i) (Y.places here.path x)) (named_elements x d e)
+            (numbered x)));
+      }
+
+  -- the outputs of an instance that is called
+  pub outputs_numbered :
+      (f : Name) (statics : List Static) (n i : ℕ) (c : Instance) →
+      callee_of P here (call_site f statics) n i ≡ Some c → c.path ≡ Child here.path n i →
+      AreNumbered c → (x : Name) →
+      Pairs (λ i y. IsAt y i) (Y.places (Child here.path n i) x)
+      (output_elements P here f statics n i x)
+  outputs_numbered f statics n i c e path numbered x =
+      subst (λ p. Pairs (λ i y. IsAt y i) (Y.places p x) (output_elements P here f statics n i x))
+      path
+      (subst (Pairs (λ i y. IsAt y i) (Y.places c.path x))
+      (sym (ap (listed (λ callee. elements_named P callee x)) e)) (numbered x))
+
+  pub each_output :
+      (f : Name) (statics : List Static) (n : ℕ) →
+      ((x : Name) → Pairs (λ i y. IsAt y i) (Y.places (Child here.path n 0) x)
+      (output_elements P here f statics n 0 x)) → (outs : List Declaration) →
+      Pairs (λ i y. IsAt y i) (flat_map (λ o. Y.places (Child here.path n 0) o.name) outs)
+      (flat_map (λ o. output_elements P here f statics n 0 o.name) outs)
+  each_output f statics n h [] = tt
+  each_output f statics n h (o ∷ outs) =
+      pairs-append (λ i y. IsAt y i) (Y.places (Child here.path n 0) o.name)
+      (output_elements P here f statics n 0 o.name)
+      (flat_map (λ o. Y.places (Child here.path n 0) o.name) outs)
+      (flat_map (λ o. output_elements P here f statics n 0 o.name) outs) (h o.name)
+      (each_output f statics n h outs)
+
+  -- ## Clocks of what is found
+
+  pub added_runs :
+      (k : Clock) (s : State) (os : List Operation) →
+      AllMeet IsAt Under Left (add (flat k) s os).state.equations →
+      RunOn k (add (flat k) s os).found
+  added_runs k s os h =
+      let n = added IsAt Under Left (flat k) s os h in from (add (flat k) s os).found os n.new
+    where
+      from : (is : List ℕ) (os : List Operation) →
+          Pairs (New IsAt Under Left (flat k)) is os → RunOn k is
+      from [] [] n = tt
+      from [] (o ∷ os) n = absurd n
+      from (i ∷ is) [] n = absurd n
+      from (i ∷ is) (o ∷ os) n = (n.0.clock, from is os n.1)
+
+  pub name_runs :
+      (k : Clock) (s : State) (x : Name) (o : Option Declaration) →
+      named (λ d. d.name) x (variables here.node) ≡ o → RunOn k (Y.places here.path x) →
+      AllMeet IsAt Under Left (emit_name Y P here k s x o).state.equations →
+      RunOn k (emit_name Y P here k s x o).found
+  name_runs k s x None e r h =
+      added_runs k s (Constant (or_fault (name_value P here x)) ∷ []) h
+  name_runs k s x (Some d) e r h =
+      let test = λ (d : Declaration). bytes_eq d.name x in
+      let name = (bytes_eq-Decides d.name x).0 (found_passes test (variables here.node) d e) in
+      subst (λ y. RunOn k (Y.places here.path y)) (sym name) r
+
+  chained_runs :
+      (k : Clock) (op : BinaryOperator) (s : State) (init : ℕ) (ys : List ℕ) →
+      AllMeet IsAt Under Left (chained (flat k) op s init ys).state.equations →
+      RunOn k (init ∷ []) → RunOn k (chained (flat k) op s init ys).found
+  unfolding chained
+  chained_runs k op s init [] h r = r
+  chained_runs k op s init (y ∷ ys) h r =
+      let g = chained_gives IsAt Under Left (flat k) op (push (flat k) s (ApplyBinary op init y))
+      s.next ys h in
+      let p = pushed IsAt Under Left (flat k) s (ApplyBinary op init y) g.before in
+      chained_runs k op (push (flat k) s (ApplyBinary op init y)) s.next ys h (p.clock, tt)
+
+  pub symbol_runs :
+      (k : Clock) (op : BinaryOperator) (s : State) (it : ArrayIterator)
+      (found : List (List ℕ)) →
+      AllMeet IsAt Under Left (emit_symbol (flat k) op s it found).state.equations →
+      Every (RunOn k) found → RunOn k (emit_symbol (flat k) op s it found).found
+  symbol_runs k op s Map [] h r = tt
+  symbol_runs k op s Map (x ∷ []) h r = tt
+  symbol_runs k op s Map (x ∷ (y ∷ [])) h r = added_runs k s (zip2 (ApplyBinary op) x y) h
+  symbol_runs k op s Map (x ∷ (y ∷ (z ∷ found))) h r = tt
+  symbol_runs k op s Red [] h r = tt
+  symbol_runs k op s Red ([] ∷ found) h r = tt
+  symbol_runs k op s Red ((i ∷ (j ∷ is)) ∷ found) h r = tt
+  symbol_runs k op s Red ((i ∷ []) ∷ []) h r = tt
+  symbol_runs k op s Red ((i ∷ []) ∷ (ys ∷ [])) h r = chained_runs k op s i ys h r.0
+  symbol_runs k op s Red ((i ∷ []) ∷ (ys ∷ (zs ∷ found))) h r = tt
+  symbol_runs k op s Fill found h r = tt
+
+  pub negated_runs :
+      (k : Clock) (x : Emitted) →
+      AllMeet IsAt Under Left (negated (flat k) x).state.equations →
+      RunOn k (negated (flat k) x).found
+  negated_runs k x h = added_runs k x.state (map (ApplyUnary Not) x.found) h
+
+  -- ## Forms with one operand, and with two
+
+  pub one_linked :
+      (k : FlatClock) (s : State) (x : Emitted) (yss : List (List Element)) (f : ℕ → Operation) →
+      ((i : ℕ) → reads (f i) ≡ i ∷ []) →
+      (AllMeet IsAt Under Left x.state.equations → Linked s x k yss) →
+      AllMeet IsAt Under Left (add k x.state (map f x.found)).state.equations →
+      Linked s (add k x.state (map f x.found)) k yss
+  one_linked k s x yss f e part h =
+      let n = added IsAt Under Left k x.state (map f x.found) h in
+      let a = part n.before in
+      record {
+        before = a.before;
+        links = each_one IsAt Under Left k f e _ x.found yss n.new a.links;
+      }
+
+  pub two_linked :
+      (k : FlatClock) (s : State) (x y : Emitted) (yss zss : List (List Element))
+      (f : ℕ → ℕ → Operation) → ((i j : ℕ) → reads (f i j) ≡ i ∷ j ∷ []) →
+      (AllMeet IsAt Under Left x.state.equations → Linked s x k yss) →
+      (AllMeet IsAt Under Left y.state.equations → Linked x.state y k zss) →
+      AllMeet IsAt Under Left (add k y.state (zip2 f x.found y.found)).state.equations →
+      Linked s (add k y.state (zip2 f x.found y.found)) k (both yss zss)
+  two_linked k s x y yss zss f e left right h =
+      let n = added IsAt Under Left k y.state (zip2 f x.found y.found) h in
+      let b = right n.before in
+      let a = left b.before in
+      record {
+        before = a.before;
+        links = each_two IsAt Under Left k f e _ x.found y.found yss zss n.new a.links b.links;
+      }
+
+  pub keep_linked :
+      (s : State) (x : Emitted) (k : FlatClock) (yss : List (List Element)) →
+      (AllMeet IsAt Under Left x.state.equations → Linked s x k yss) →
+      AllMeet IsAt Under Left (keep x).state.equations → Linked s (keep x) k yss
+  unfolding keep
+  keep_linked s x k yss part h =
+      let a = part h in record { before = a.before; links = a.links }
+
+  pub constant_linked :
+      (k : FlatClock) (s : State) (o : Operation) → reads o ≡ [] →
+      AllMeet IsAt Under Left (add k s (o ∷ [])).state.equations →
+      Linked s (add k s (o ∷ [])) k ([] ∷ [])
+  constant_linked k s o e h =
+      let n = added IsAt Under Left k s (o ∷ []) h in
+      record { before = n.before; links = each_constant IsAt Under Left k o e _ n.new }
+
+  -- one element of all elements of some expressions
+  pub gathered_linked :
+      (k : FlatClock) (s : State) (x : EmittedAll) (r : Emitted)
+      (ysss : List (List (List Element))) →
+      (AllMeet IsAt Under Left x.state.equations → LinkedAll s x k ysss) →
+      Gives IsAt Under Left k x.state r (joined x.found) →
+      Linked s r k (joined (joined ysss) ∷ [])
+  gathered_linked k s x r ysss part g =
+      let a = part g.before in
+      let all = all_links IsAt Under Left k (joined x.found) (joined ysss)
+      (pairs-joined (Link IsAt Under Left k) x.found ysss a.links) in
+      record {
+        before = a.before;
+        links = subst (λ is. AreLinks IsAt Under Left k is (joined (joined ysss) ∷ []))
+            (sym g.is_found) (
+              step IsAt Under Left k g.element (joined x.found) (joined (joined ysss)) g.comes all,
+              tt,
+            );
+      }
+
+  module _ (variables_wide : AreVariablesWide P H here here) (numbered : AreNumbered here) where
+    -- as many elements as the types say
+    pub counted :
+        (k : Clock) (n : ℕ) (s : State) (e : Expr) (ts : List DataType) →
+        data_types P here e ≡ Some ts →
+        Every (IsOccurrenceWide P H here) (occurrences P here.node k n e) →
+        length (emit Y P here k n s e).found ≡ elements_in ts
+    counted k n s e ts is w =
+        as_many Y P H here same k n s e ∙ wide P H here variables_wide k n e ts is w
+
+    -- a condition has one element
+    pub condition_one :
+        (k : Clock) (n : ℕ) (s : State) (c a b : Expr) → IsTypedAt P H here (at k n (If c a b)) →
+        length (emit Y P here k n s c).found ≡ 1
+    condition_one k n s c a b t =
+        let m = n + call_count c in
+        let oc = occurrences P here.node k n c in
+        let others = occurrences P here.node k m a
+        ++ occurrences P here.node k (m + call_count a) b in
+        let u = bound (from_truths (from_one (data_types P here c) Some)) _ t.types t.are in
+        let truths = from_true (from_one (data_types P here c) Some) u.value u.is in
+        let z = one (data_types P here c) Some truths.data_types truths.is in
+        let condition : is_type truth z.data_type ≡ true =
+        and_first (is_type truth z.data_type) true
+        (ap (λ us. list_all (is_type truth) us)
+        (sym (z.all ∙ ap (λ u. u ∷ []) (sym (some_same _ _ z.gives)))) ∙ truths.truths) in
+        counted k n s c (z.data_type ∷ []) z.is
+        (Every-first (IsOccurrenceWide P H here) oc others t.parts.1)
+        ∙ (ap (λ m. m + 0) (truth_is z.data_type condition) ∙ omega arith)
+
+    -- both operands of `fby` have as many
+    pub sides_same :
+        (k : Clock) (n : ℕ) (s t : State) (a b : Expr) → IsTypedAt P H here (at k n (Fby a b)) →
+        length (emit Y P here k n s a).found
+        ≡ length (emit Y P here k (n + call_count a) t b).found
+    sides_same k n s t a b h =
+        let m = n + call_count a in
+        let oa = occurrences P here.node k n a in
+        let ob = occurrences P here.node k m b in
+        let i = two (data_types P here a) (data_types P here b) common_type h.types h.are in
+        let like = alike i.first i.second i.result i.gives in
+        counted k n s a (i.first ∷ []) i.is_first
+        (Every-first (IsOccurrenceWide P H here) oa ob h.parts.1)
+        ∙ (ap (λ m. m + 0) (like.first ∙ sym like.second)
+        ∙ sym (counted k m t b (i.second ∷ []) i.is_second
+        (Every-second (IsOccurrenceWide P H here) oa ob h.parts.1)))
+
+    -- a reduction by a symbol has one element
+    pub red_some :
+        (k : Clock) (n : ℕ) (s : State) (op : BinaryOperator) (m : Static) (es : Exprs) →
+        IsTypedAt P H here (at k n (Iterate Red (Symbol op) m es)) →
+        0 < length (emit Y P here k n s (Iterate Red (Symbol op) m es)).found
+    red_some k n s op m es t =
+        let c = bound (static_count P here m) _ t.types t.are in
+        let o = bound (operator_types P here (Symbol op)) _ t.types c.gives in
+        let a = bound (all_types P here es) _ t.types o.gives in
+        let out = symbol_out (is_arithmetic op) o.value o.is in
+        let result = red_out c.value o.value.0 o.value.1 a.value t.types a.gives in
+        let count = counted k n s (Iterate Red (Symbol op) m es) t.types t.are t.parts in
+        let one : elements_in t.types ≡ 1 = ap elements_in result ∙ out in
+        omega (arith, count, one)
+
+    mutual
+      unfolding emit needs
+
+      -- the found elements come from what the expression needs
+      pub linked :
+          (k : Clock) (n : ℕ) (s : State) (e : Expr) → Parts (occurrences P here.node k n e) →
+          AllMeet IsAt Under Left (emit Y P here k n s e).state.equations →
+          Linked s (emit Y P here k n s e) (flat k) (needs P here n e)
+      linked k n s (Literal m) p h =
+          constant_linked (flat k) s (Constant (Integer (pos m))) refl h
+      linked k n s (Truth b) p h = constant_linked (flat k) s (Constant (Boolean b)) refl h
+      linked k n s (Variable x) p h =
+          name_linked k s x (named (λ d. d.name) x (variables here.node)) refl numbered h
+      linked k n s (Group a) p h = linked k n s a p h
+      linked k n s (Unary op a) p h =
+          one_linked (flat k) s (emit Y P here k n s a) (needs P here n a) (ApplyUnary op)
+          (λ i. refl) (linked k n s a p.1) h
+      linked k n s (Binary op a b) p h =
+          let m = n + call_count a in
+          let oa = occurrences P here.node k n a in
+          let ob = occurrences P here.node k m b in
+          let x = emit Y P here k n s a in
+          two_linked (flat k) s x (emit Y P here k m x.state b) (needs P here n a)
+          (needs P here m b) (ApplyBinary op) (λ i j. refl) (linked k n s a (fore oa ob p.1))
+          (linked k m x.state b (aft oa ob p.1)) h
+      linked k n s (If c a b) p h =
+          let na = n + call_count c in
+          let nb = na + call_count a in
+          let oc = occurrences P here.node k n c in
+          let oa = occurrences P here.node k na a in
+          let ob = occurrences P here.node k nb b in
+          let z = emit Y P here k n s c in
+          let x = emit Y P here k na z.state a in
+          let y = emit Y P here k nb x.state b in
+          let new = added IsAt Under Left (flat k) y.state (chosen_by z.found x.found y.found) h in
+          let lb = linked k nb x.state b (aft oa ob (aft oc (oa ++ ob) p.1)) new.before in
+          let la = linked k na z.state a (fore oa ob (aft oc (oa ++ ob) p.1)) lb.before in
+          let lc = linked k n s c (fore oc (oa ++ ob) p.1) la.before in
+          record {
+            before = lc.before;
+            links = each_choice IsAt Under Left (flat k) z.found _ x.found y.found
+                (needs P here n c) (needs P here na a) (needs P here nb b)
+                (condition_one k n s c a b p.0.typed) new.new lc.links la.links lb.links;
+          }
+      linked k n s (Arrow a b) p h =
+          let m = n + call_count a in
+          let oa = occurrences P here.node k n a in
+          let ob = occurrences P here.node k m b in
+          let x = emit Y P here k n s a in
+          two_linked (flat k) s x (emit Y P here k m x.state b) (needs P here n a)
+          (needs P here m b) (FirstThen false) (λ i j. refl) (linked k n s a (fore oa ob p.1))
+          (linked k m x.state b (aft oa ob p.1)) h
+      linked k n s (Fby a b) p h =
+          let m = n + call_count a in
+          let oa = occurrences P here.node k n a in
+          let ob = occurrences P here.node k m b in
+          let x = emit Y P here k n s a in
+          let y = emit Y P here k m x.state b in
+          let before = map (Previous first_value) (keep y).found in
+          let z = add (flat k) (keep y).state before in
+          let new = added IsAt Under Left (flat k) z.state (zip2 (FirstThen false) x.found z.found)
+          h in
+          let memory = added IsAt Under Left (flat k) (keep y).state before new.before in
+          let lb = keep_linked x.state y (flat k) (needs P here m b)
+          (linked k m x.state b (aft oa ob p.1)) memory.before in
+          let la = linked k n s a (fore oa ob p.1) lb.before in
+          let many : length x.found ≡ length z.found =
+          sides_same k n s x.state a b p.0.typed
+          ∙ sym (add_count (flat k) (keep y).state before
+          ∙ (length-map (keep y).found (Previous first_value) ∙ ap length (keep_found y))) in
+          record {
+            before = la.before;
+            links = each_first IsAt Under Left (flat k) (FirstThen false) (λ i j. refl) _ x.found
+                z.found (needs P here n a) many new.new la.links
+                (memories IsAt Under Left (flat k) (Previous first_value) (λ i. refl) z.found
+                (keep y).found memory.new);
+          }
+      linked k n s (Pre a) p h =
+          let x = emit Y P here k n s a in
+          let new = added IsAt Under Left (flat k) (keep x).state
+          (map (Previous first_value) (keep x).found) h in
+          let la = keep_linked s x (flat k) (needs P here n a) (linked k n s a p.1) new.before in
+          record {
+            before = la.before;
+            links = each_memory IsAt Under Left (flat k) (Previous first_value) (λ i. refl) (flat k)
+                _ (keep x).found (needs P here n a) new.new la.links;
+          }
+      linked k n s (When a y sign) p h =
+          let own = declared_clock here.node y in
+          let x = emit Y P here own n s a in
+          let new = added IsAt Under Left (flat (On own y sign)) x.state (map Sample x.found) h in
+          let la = linked own n s a p.1 new.before in
+          record {
+            before = la.before;
+            links = each_sample IsAt Under Left Sample (λ i. refl) (flat k) (flat (On own y sign))
+                (flat own) (waits_for P here (On own y sign))
+                (awaited k (On own y sign) p.0.linkable)
+                (signed_wider Left (flat own) sign (Y.signs here.path y)) _ x.found
+                (needs P here n a) new.new la.links;
+          }
+      linked k n s (Current a) p h =
+          let own = clock_or (clock_of P here.node a) in
+          let x = emit Y P here own n s a in
+          let new = added IsAt Under Left (flat k) (keep x).state
+          (map (Latest first_value) (keep x).found) h in
+          let la = keep_linked s x (flat own) (needs P here n a) (linked own n s a p.1) new.before
+          in
+          let kept : AllMeet IsAt Under Left x.state.equations =
+          subst (AllMeet IsAt Under Left) (keep_equations x) new.before in
+          let i = one (data_types P here a) Some p.0.typed.types p.0.typed.are in
+          let run = runs own n s a i.data_type i.is p.1 kept in
+          record {
+            before = la.before;
+            links = each_latest IsAt Under Left (flat k) (Latest first_value) (λ i. refl) (flat own)
+                (waits_for P here own) (awaited k own p.0.linkable) _ (keep x).found
+                (needs P here n a) new.new la.links
+                (subst (RunOn own) (sym (keep_found x)) run);
+          }
+      linked k n s (Replicate a m) p h =
+          let l = linked k n s a p.1 h in
+          record {
+            before = l.before;
+            links = pairs-copies (Link IsAt Under Left (flat k)) (number P here m) _ _ l.links;
+          }
+      linked k n s (Index a i) p h =
+          let l = linked k n s a p.1 h in
+          record {
+            before = l.before;
+            links = pairs-take (Link IsAt Under Left (flat k)) (part_count P here a) _ _
+                (pairs-drop (Link IsAt Under Left (flat k)) (part_count P here a * number P here i)
+                _ _ l.links);
+          }
+      linked k n s (Slice a i j) p h =
+          let l = linked k n s a p.1 h in
+          record {
+            before = l.before;
+            links = pairs-take (Link IsAt Under Left (flat k))
+                (part_count P here a * (suc (number P here j) - number P here i)) _ _
+                (pairs-drop (Link IsAt Under Left (flat k)) (part_count P here a * number P here i)
+                _ _ l.links);
+          }
+      linked k n s (Join a b) p h =
+          let m = n + call_count a in
+          let oa = occurrences P here.node k n a in
+          let ob = occurrences P here.node k m b in
+          let x = emit Y P here k n s a in
+          let lb = linked k m x.state b (aft oa ob p.1) h in
+          let la = linked k n s a (fore oa ob p.1) lb.before in
+          record {
+            before = la.before;
+            links = pairs-append (Link IsAt Under Left (flat k)) _ _ _ _ la.links lb.links;
+          }
+      linked k n s (Array es) p h =
+          let l = all_linked k n s es p.1 h in
+          record {
+            before = l.before;
+            links = pairs-joined (Link IsAt Under Left (flat k)) _ _ l.links;
+          }
+      linked k n s (AtMostOne es) p h =
+          let x = emit_all Y P here k n s es in
+          let g = at_most_one_gives IsAt Under Left (flat k) x.state (joined x.found) h in
+          gathered_linked (flat k) s x _ (all_needs P here n es) (all_linked k n s es p.1) g
+      linked k n s (Nor es) p h =
+          let x = emit_all Y P here k n s es in
+          let g = nor_gives IsAt Under Left (flat k) x.state (joined x.found) h in
+          gathered_linked (flat k) s x _ (all_needs P here n es) (all_linked k n s es p.1) g
+      linked k n s (Call f statics es) p h =
+          let t = p.0.typed in
+          let o = bound (operator_types P here (Node_named f statics)) _ t.types t.are in
+          let c = called P here f statics o.value o.is in
+          let there = placed P here f statics c.callee c.is in
+          let ks = call_clocks k (node_named P f) es in
+          let r = emit_each Y P here ks (n + 1) s es in
+          let callee : Instance = record c.callee { path = Child here.path n 0 } in
+          let output = outputs_numbered f statics n 0 callee (there.at n 0) refl
+          (p.0.linkable callee (there.at n 0)) in
+          let outs = outputs_of P here f in
+          let copies = call_copies Y (Child here.path n 0) (node_named P f) r.found in
+          let is = flat_map (λ o. Y.places (Child here.path n 0) o.name) outs in
+          let ys = flat_map (λ o. output_elements P here f statics n 0 o.name) outs in
+          record {
+            before = each_before ks (n + 1) s es p.1
+                (subst (AllMeet IsAt Under Left) (joins_equations r.state copies is) h);
+            links = subst (λ js. AreLinks IsAt Under Left (flat k) js (itself ys))
+                (sym (joins_found r.state copies is))
+                (variable_links IsAt Under Left (flat k) is ys
+                (each_output f statics n output outs));
+          }
+      linked k n s (Iterate it (Node_named f statics) m es) p h =
+          let t = p.0.typed in
+          let size = bound (static_count P here m) _ t.types t.are in
+          let o = bound (operator_types P here (Node_named f statics)) _ t.types size.gives in
+          let c = called P here f statics o.value o.is in
+          let there = placed P here f statics c.callee c.is in
+          let r = emit_all Y P here k (n + 1) s es in
+          let outs = outputs_of P here f in
+          let count = number P here m in
+          let copies = iterator_copies Y here.path n it count (node_named P f) r.found in
+          let is = iterated (λ i x. Y.places (Child here.path n i) x) count it outs in
+          let ys = iterated (output_elements P here f statics n) count it outs in
+          let l = all_linked k (n + 1) s es p.1
+          (subst (AllMeet IsAt Under Left) (joins_equations r.state copies is) h) in
+          let callee : ℕ → Instance = λ i. record c.callee { path = Child here.path n i } in
+          record {
+            before = l.before;
+            links = subst (λ js. AreLinks IsAt Under Left (flat k) js (itself ys))
+                (sym (joins_found r.state copies is))
+                (variable_links IsAt Under Left (flat k) is ys
+                (iterated_pairs (λ i y. IsAt y i) (λ i x. Y.places (Child here.path n i) x)
+                (output_elements P here f statics n) count
+                (λ i lt x. outputs_numbered f statics n i (callee i) (there.at n i) refl
+                (p.0.linkable.1 i lt (callee i) (there.at n i)) x) p.0.linkable.0 it outs));
+          }
+      linked k n s (Iterate Map (Symbol op) m es) p h =
+          let r = emit_all Y P here k n s es in
+          let met = map_before IsAt Under Left (flat k) op r.state r.found h in
+          let l = all_linked k n s es p.1 met in
+          record {
+            before = l.before;
+            links = map_linked IsAt Under Left (flat k) op r.state r.found (all_needs P here n es)
+                l.links h;
+          }
+      linked k n s (Iterate Red (Symbol op) m es) p h =
+          let r = emit_all Y P here k n s es in
+          let met = red_before IsAt Under Left (flat k) op r.state r.found h in
+          let l = all_linked k n s es p.1 met in
+          record {
+            before = l.before;
+            links = red_linked IsAt Under Left (flat k) op r.state r.found (all_needs P here n es)
+                l.links (red_some k n s op m es p.0.typed) h;
+          }
+      linked k n s (Iterate Fill (Symbol op) m es) p h =
+          let l = all_linked k n s es p.1 h in
+          record { before = l.before; links = tt }
+
+      pub all_linked :
+          (k : Clock) (n : ℕ) (s : State) (es : Exprs) →
+          Parts (occurrences_in P here.node k n es) →
+          AllMeet IsAt Under Left (emit_all Y P here k n s es).state.equations →
+          LinkedAll s (emit_all Y P here k n s es) (flat k) (all_needs P here n es)
+      all_linked k n s Nil p h = record { before = h; links = tt }
+      all_linked k n s (Cons e es) p h =
+          let m = n + call_count e in
+          let oa = occurrences P here.node k n e in
+          let ob = occurrences_in P here.node k m es in
+          let x = emit Y P here k n s e in
+          let lb = all_linked k m x.state es (aft oa ob p) h in
+          let la = linked k n s e (fore oa ob p) lb.before in
+          record { before = la.before; links = (la.links, lb.links) }
+
+      pub each_before :
+          (ks : List Clock) (n : ℕ) (s : State) (es : Exprs) →
+          Parts (occurrences_each P here.node ks n es) →
+          AllMeet IsAt Under Left (emit_each Y P here ks n s es).state.equations →
+          AllMeet IsAt Under Left s.equations
+      each_before ks n s Nil p h = h
+      each_before [] n s (Cons e es) p h = h
+      each_before (k ∷ ks) n s (Cons e es) p h =
+          let m = n + call_count e in
+          let oa = occurrences P here.node k n e in
+          let ob = occurrences_each P here.node ks m es in
+          let x = emit Y P here k n s e in
+          let later = each_before ks m x.state es (aft oa ob p) h in
+          let l = linked k n s e (fore oa ob p) later in
+          l.before
+
+      -- and they have the clock on which it stands, where it has one result
+      pub runs :
+          (k : Clock) (n : ℕ) (s : State) (e : Expr) (t : DataType) →
+          data_types P here e ≡ Some (t ∷ []) → Parts (occurrences P here.node k n e) →
+          AllMeet IsAt Under Left (emit Y P here k n s e).state.equations →
+          RunOn k (emit Y P here k n s e).found
+      runs k n s (Literal m) t is p h = added_runs k s (Constant (Integer (pos m)) ∷ []) h
+      runs k n s (Truth b) t is p h = added_runs k s (Constant (Boolean b) ∷ []) h
+      runs k n s (Variable x) t is p h =
+          name_runs k s x (named (λ d. d.name) x (variables here.node)) refl p.0.running h
+      runs k n s (Group a) t is p h = runs k n s a t is p h
+      runs k n s (Unary op a) t is p h = added_runs k (emit Y P here k n s a).state _ h
+      runs k n s (Binary op a b) t is p h =
+          let x = emit Y P here k n s a in
+          added_runs k (emit Y P here k (n + call_count a) x.state b).state _ h
+      runs k n s (If c a b) t is p h =
+          let z = emit Y P here k n s c in
+          let x = emit Y P here k (n + call_count c) z.state a in
+          let y = emit Y P here k (n + call_count c + call_count a) x.state b in
+          added_runs k y.state (chosen_by z.found x.found y.found) h
+      runs k n s (Arrow a b) t is p h =
+          let x = emit Y P here k n s a in
+          added_runs k (emit Y P here k (n + call_count a) x.state b).state _ h
+      runs k n s (Fby a b) t is p h =
+          let y = keep (emit Y P here k (n + call_count a) (emit Y P here k n s a).state b) in
+          let z = add (flat k) y.state (map (Previous first_value) y.found) in
+          added_runs k z.state _ h
+      runs k n s (Pre a) t is p h = added_runs k (keep (emit Y P here k n s a)).state _ h
+      runs k n s (When a y sign) t is p h =
+          let own = declared_clock here.node y in
+          let x = emit Y P here own n s a in
+          subst (λ l. RunOn l (add (flat (On own y sign)) x.state (map Sample x.found)).found)
+          (sym p.0.running) (added_runs (On own y sign) x.state (map Sample x.found) h)
+      runs k n s (Current a) t is p h =
+          added_runs k (keep (emit Y P here (clock_or (clock_of P here.node a)) n s a)).state _ h
+      runs k n s (Replicate a m) t is p h =
+          let c = bound (static_count P here m) _ (t ∷ []) is in
+          let i = one (data_types P here a) (array_of c.value) (t ∷ []) c.gives in
+          Every-copies (IsRunAt k) (number P here m) (emit Y P here k n s a).found
+          (runs k n s a i.data_type i.is p.1 h)
+      runs k n s (Index a j) t is p h =
+          let c = bound (static_count P here j) _ (t ∷ []) is in
+          let i = one (data_types P here a) (index_type c.value) (t ∷ []) c.gives in
+          Every-take (IsRunAt k) (part_count P here a) _
+          (Every-drop (IsRunAt k) (part_count P here a * number P here j)
+          (emit Y P here k n s a).found (runs k n s a i.data_type i.is p.1 h))
+      runs k n s (Slice a j l) t is p h =
+          let c = bound (static_count P here j) _ (t ∷ []) is in
+          let d = bound (static_count P here l) _ (t ∷ []) c.gives in
+          let i = one (data_types P here a) (slice_type c.value d.value) (t ∷ []) d.gives in
+          Every-take (IsRunAt k) (part_count P here a * (suc (number P here l) - number P here j)) _
+          (Every-drop (IsRunAt k) (part_count P here a * number P here j)
+          (emit Y P here k n s a).found (runs k n s a i.data_type i.is p.1 h))
+      runs k n s (Join a b) t is p h =
+          let m = n + call_count a in
+          let oa = occurrences P here.node k n a in
+          let ob = occurrences P here.node k m b in
+          let x = emit Y P here k n s a in
+          let i = two (data_types P here a) (data_types P here b) join_type (t ∷ []) is in
+          let lb = linked k m x.state b (aft oa ob p.1) h in
+          Every-append (IsRunAt k) x.found (emit Y P here k m x.state b).found
+          (runs k n s a i.first i.is_first (fore oa ob p.1) lb.before)
+          (runs k m x.state b i.second i.is_second (aft oa ob p.1) h)
+      runs k n s (Array es) t is p h =
+          let b = bound (all_types P here es) _ (t ∷ []) is in
+          Every-joined (IsRunAt k) (emit_all Y P here k n s es).found
+          (all_runs k n s es b.value b.is p.1 h)
+      runs k n s (AtMostOne es) t is p h = negated_runs k _ h
+      runs k n s (Nor es) t is p h = negated_runs k _ h
+      runs k n s (Call f statics es) t is p h =
+          let q = emit_each Y P here (call_clocks k (node_named P f) es) (n + 1) s es in
+          subst (RunOn k)
+          (sym (joins_found q.state (call_copies Y (Child here.path n 0) (node_named P f) q.found)
+          (flat_map (λ o. Y.places (Child here.path n 0) o.name) (outputs_of P here f))))
+          (p.0.running t is)
+      runs k n s (Iterate it (Node_named f statics) m es) t is p h =
+          let q = emit_all Y P here k (n + 1) s es in
+          let count = number P here m in
+          subst (RunOn k)
+          (sym (joins_found q.state
+          (iterator_copies Y here.path n it count (node_named P f) q.found)
+          (iterated (λ i x. Y.places (Child here.path n i) x) count it (outputs_of P here f))))
+          p.0.running
+      runs k n s (Iterate Map (Symbol op) m es) t is p h =
+          let c = bound (static_count P here m) _ (t ∷ []) is in
+          let o = bound (operator_types P here (Symbol op)) _ (t ∷ []) c.gives in
+          let a = bound (all_types P here es) _ (t ∷ []) o.gives in
+          let x = emit_all Y P here k n s es in
+          let met = map_before IsAt Under Left (flat k) op x.state x.found h in
+          symbol_runs k op x.state Map x.found h (all_runs k n s es a.value a.is p.1 met)
+      runs k n s (Iterate Red (Symbol op) m es) t is p h =
+          let c = bound (static_count P here m) _ (t ∷ []) is in
+          let o = bound (operator_types P here (Symbol op)) _ (t ∷ []) c.gives in
+          let a = bound (all_types P here es) _ (t ∷ []) o.gives in
+          let x = emit_all Y P here k n s es in
+          let met = red_before IsAt Under Left (flat k) op x.state x.found h in
+          symbol_runs k op x.state Red x.found h (all_runs k n s es a.value a.is p.1 met)
+      runs k n s (Iterate Fill (Symbol op) m es) t is p h = tt
+
+      all_runs :
+          (k : Clock) (n : ℕ) (s : State) (es : Exprs) (ts : List DataType) →
+          all_types P here es ≡ Some ts → Parts (occurrences_in P here.node k n es) →
+          AllMeet IsAt Under Left (emit_all Y P here k n s es).state.equations →
+          Every (RunOn k) (emit_all Y P here k n s es).found
+      all_runs k n s Nil ts is p h = tt
+      all_runs k n s (Cons e es) ts is p h =
+          let m = n + call_count e in
+          let oa = occurrences P here.node k n e in
+          let ob = occurrences_in P here.node k m es in
+          let x = emit Y P here k n s e in
+          let f = first_of_all P H here e es ts is in
+          let lb = all_linked k m x.state es (aft oa ob p) h in (
+            runs k n s e f.first f.is (fore oa ob p) lb.before,
+            all_runs k m x.state es f.rest f.others (aft oa ob p) h,
+          )

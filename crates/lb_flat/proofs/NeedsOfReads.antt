@@ -1,0 +1,122 @@
+-- Where a variable's element reads another by way of further elements, it needs it.
+use Rattle.std.proofs.Common.{◌≡◌, ◌⊎◌, inl, inr, ℕ, zero, suc, ◌<◌, ◌≤◌, Some, List, [], ◌∷◌}
+use Rattle.std.proofs.Common.{length, refl, subst, sym, arith}
+use Rattle.std.specs.Prelude.{slice_get}
+use Rattle.lb_syntax.specs.Lists.{In}
+use Rattle.lb_static.specs.Instances.{Program}
+use Rattle.lb_check.specs.Elements.{program_elements}
+use Rattle.lb_check.specs.Needs.{Element, Definition, definitions}
+use Rattle.lb_check.proofs.ApartLists.{apart_single}
+use Rattle.lb_flat.specs.Flat.{FlatEquation}
+use Rattle.lb_flat.specs.GivenOnce.{IsGiven}
+use Rattle.lb_flat.specs.Judging.{FlatProgram}
+use Rattle.lb_flat.specs.Reading.{Leads, reads_it, by_way, NeedsAt}
+use Rattle.lb_flat.specs.Run.{equation_reads}
+use Rattle.lb_flat.proofs.PlainCausalLinks.{SomeOf}
+
+-- this holds of the number of an element
+abbrev pub HasNumber : Program → (ℕ → Type 0) → Element → Type 0
+HasNumber P Q x = (i : ℕ) × (slice_get (program_elements P) i ≡ Some x) × Q i
+
+-- an element of a variable has a definition that needs one of which this holds
+pub record IsNeeding (P : Program) (Q : ℕ → Type 0) (i : ℕ) : Type 0 where
+  pub definition : Definition
+  pub stands : In definition (definitions P)
+  pub is_at : slice_get (program_elements P) i ≡ Some definition.element
+  pub needed : SomeOf (HasNumber P Q) definition.needed
+
+-- what is left is passed on by the further elements of a program
+abbrev pub PassesOn : FlatProgram → (ℕ → Type 0) → Type 0
+PassesOn f Left =
+    (q : FlatEquation) → In q f.equations → f.variables ≤ q.element → Left q.element →
+    SomeOf Left (equation_reads q)
+
+-- an element of a variable that reads what is left needs what is left
+abbrev pub ReadsNeeds : Program → FlatProgram → (ℕ → Type 0) → Type 0
+ReadsNeeds P f Left =
+    (q : FlatEquation) → In q f.equations → q.element < f.variables →
+    SomeOf Left (equation_reads q) → IsNeeding P Left q.element
+
+some_of_in :
+    {A : Type 0} (Q : A → Type 0) (x : A) (xs : List A) → In x xs → Q x → SomeOf Q xs
+some_of_in Q x [] i h = absurd i
+some_of_in Q x (y ∷ xs) (inl e) h = inl (subst Q (sym e) h)
+some_of_in Q x (y ∷ xs) (inr i) h = inr (some_of_in Q x xs i h)
+
+in_some :
+    {A : Type 0} (Q : A → Type 0) (xs : List A) → SomeOf Q xs → (x : A) × In x xs × Q x
+in_some Q [] h = absurd h
+in_some Q (x ∷ xs) (inl q) = (x, inl refl, q)
+in_some Q (x ∷ xs) (inr h) = let r = in_some Q xs h in (r.0, inr r.1, r.2)
+
+got_below :
+    {A : Type 0} (xs : List A) (i : ℕ) (x : A) → slice_get xs i ≡ Some x → i < length xs
+got_below [] i x e = absurd (cc)
+got_below (y ∷ xs) zero x e = omega arith
+got_below (y ∷ xs) (suc i) x e = omega (arith, got_below xs i x e)
+
+module _ (P : Program) (f : FlatProgram) (given : IsGiven f)
+    (count : f.variables ≡ length (program_elements P))
+    (reading : (Left : ℕ → Type 0) → PassesOn f Left → ReadsNeeds P f Left) (j : ℕ)
+    (is_variable : j < f.variables) where
+  -- a variable's element, or a further one that reads it
+  abbrev Left : ℕ → Type 0
+  Left e = (e ≡ j) ⊎ ((f.variables ≤ e) × Leads f j e)
+
+  record IsFirstRead (i : ℕ) : Type 0 where
+    equation : FlatEquation
+    stands : In equation f.equations
+    is_of : equation.element ≡ i
+    reads : SomeOf Left (equation_reads equation)
+
+  first_read : (i : ℕ) → Leads f j i → IsFirstRead i
+  first_read _ (reads_it q is reads) = record {
+    equation = q;
+    stands = is;
+    is_of = refl;
+    reads = some_of_in Left j (equation_reads q) reads (inl refl);
+  }
+  first_read _ (by_way q e is reads high rest) = record {
+    equation = q;
+    stands = is;
+    is_of = refl;
+    reads = some_of_in Left e (equation_reads q) reads (inr (high, rest));
+  }
+
+  passes_on : PassesOn f Left
+  passes_on q is high (inl e) = absurd (omega (arith, e))
+  passes_on q is high (inr h) =
+      let r = first_read q.element h.1 in
+      let same : r.equation ≡ q =
+      apart_single (λ (q : FlatEquation). q.element) f.equations r.equation q given.once r.stands
+      is r.is_of in
+      subst (λ (q : FlatEquation). SomeOf Left (equation_reads q)) same r.reads
+
+  -- what is left among the numbers of variables is the one
+  is_one : (i : ℕ) → i < length (program_elements P) → Left i → i ≡ j
+  is_one i lt (inl e) = e
+  is_one i lt (inr h) = let high = h.0 in absurd (omega (arith, count))
+
+  -- what leads from a variable's element to another is a need
+  pub needs_of : (i : ℕ) → i < f.variables → Leads f j i → NeedsAt P i j
+  needs_of i lt leads =
+      let r = first_read i leads in
+      let low : r.equation.element < f.variables = subst (λ k. k < f.variables) (sym r.is_of) lt in
+      let n = reading Left passes_on r.equation r.stands low r.reads in
+      let y = in_some (HasNumber P Left) n.definition.needed n.needed in
+      let number = y.2.0 in
+      let same : number ≡ j =
+      is_one number (got_below (program_elements P) number y.0 y.2.1) y.2.2 in
+      record {
+        one = n.definition.element;
+        other = y.0;
+        is_one = subst (λ k. slice_get (program_elements P) k ≡ Some n.definition.element) r.is_of
+            n.is_at;
+        is_other = subst (λ k. slice_get (program_elements P) k ≡ Some y.0) same y.2.1;
+        needs = record {
+          by = n.definition;
+          stands = n.stands;
+          is_of = refl;
+          names = y.1;
+        };
+      }

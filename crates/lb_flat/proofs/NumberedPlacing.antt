@@ -1,0 +1,139 @@
+-- The layout of an accepted program by numbers gives each variable elements on its clock and of its
+-- kind, the property one element, and the inputs of the node under test those of the signature.
+use Rattle.std.proofs.Common.{◌≡◌, ℕ, ◌<◌, ◌≤◌, Some, None, IfSome, List, [], ◌∷◌, ◌++◌, length}
+use Rattle.std.proofs.Common.{flat_map, get_or, refl, ap, ◌∙◌, subst, arith}
+use Rattle.std.specs.Prelude.{slice_get}
+use Rattle.lb_syntax.specs.declared.tree.Kind.{Kind}
+use Rattle.lb_syntax.specs.Lists.{Every, In, listed}
+use Rattle.lb_syntax.specs.Tree.{Declaration}
+use Rattle.lb_static.specs.DataTypes.{variables, width, input_kinds}
+use Rattle.lb_static.specs.Instances.{Program, Instance, Root, instance_at, instances}
+use Rattle.lb_static.specs.Instantiation.{static_refusal}
+use Rattle.lb_check.specs.Clocks.{declared_clock}
+use Rattle.lb_check.specs.Elements.{program_elements, element_kinds, numbers_of}
+use Rattle.lb_check.specs.Verdicts.{property_path}
+use Rattle.lb_check.proofs.AcceptedNumbers.{numbers_below}
+use Rattle.lb_check.proofs.ApartLists.{Every-at, Every-from}
+use Rattle.lb_check.proofs.Checks.{instantiation_kept}
+use Rattle.lb_check.proofs.ElementKinds.{kinds_at_numbers}
+use Rattle.lb_check.proofs.ElementValues.{element_values, values_at_numbers}
+use Rattle.lb_check.proofs.InstancePaths.{in_instances, path_is}
+use Rattle.lb_check.proofs.NamedClocks.{if_some}
+use Rattle.lb_flat.specs.Emit.{property_places, input_targets, before_instances, expanded}
+use Rattle.lb_flat.specs.Flat.{FlatClock}
+use Rattle.lb_flat.specs.Layouts.{flat_clock}
+use Rattle.lb_flat.specs.NumberedLayouts.{layout}
+use Rattle.lb_flat.proofs.Bodies.{all_closed}
+use Rattle.lb_flat.proofs.Lists.{Every-first, Every-second}
+use Rattle.lb_flat.proofs.NumberedPlaces.{places_walk, places_width, is_laid_out}
+use Rattle.lb_flat.proofs.Observing.{IsInOrder}
+use Rattle.lb_flat.proofs.PropertyOutput.{output_width, property_of}
+use Rattle.lb_flat.proofs.RootWidths.{inputs_count}
+use Rattle.lb_flat.proofs.Solving.{IsVariablePlaced, IsPlacing}
+
+-- the clock of a variable
+abbrev pub clock_on : Program → Instance → Declaration → FlatClock
+clock_on P here d = flat_clock (layout P) here.path (declared_clock here.node d.name)
+
+-- that of each element
+abbrev pub element_clocks : Program → List FlatClock
+element_clocks P = element_values P (clock_on P)
+
+only_one : (is : List ℕ) → length is ≡ 1 → is ≡ get_or is 0 0 ∷ []
+only_one [] e = absurd (omega arith)
+only_one (i ∷ []) e = refl
+only_one (i ∷ j ∷ is) e = absurd (omega arith)
+
+module _ (P : Program) (accepted : static_refusal P ≡ None) where
+  abbrev count : ℕ
+  count = length (program_elements P)
+
+  -- ## Variables
+
+  -- the elements of variables are among those of the flat program
+  pub count_within : count ≤ (expanded (layout P) P count).size
+  count_within =
+      let closed = all_closed count (layout P) P (is_laid_out P accepted) (before_instances count)
+      (instances P) (record { fresh = tt; next = omega arith }) in
+      let next = closed.next in
+      omega (arith, next)
+
+  -- K and N give the clock and the kind of each of so many elements
+  module _ (K : ℕ → FlatClock) (N : ℕ → Kind) (size : ℕ) (large : count ≤ size)
+      (clocks : (i : ℕ) (k : FlatClock) → slice_get (element_clocks P) i ≡ Some k → K i ≡ k)
+      (kinds : (i : ℕ) (l : Kind) → slice_get (element_kinds P) i ≡ Some l → N i ≡ l) where
+    variable_placed :
+        (here : Instance) → In here (instances P) → (d : Declaration) →
+        In d (variables here.node) → IsVariablePlaced (layout P) P K N size here d
+    variable_placed here i d j =
+        let own = numbers_of P here.path d.name in
+        let below = numbers_below P accepted here.path d.name in
+        let on = values_at_numbers P (clock_on P) accepted here i d j in
+        let of = kinds_at_numbers P accepted here i d j in
+        record {
+          width = Every-at (λ c. length (numbers_of P here.path c.name) ≡ width P here c)
+              (variables here.node) d (places_width P accepted here i) j;
+          elements = Every-from _ own (λ n k. record {
+            within = let lower = Every-at (λ m. m < count) own n below k in
+                omega (arith, lower, large);
+            clock = clocks n (clock_on P here d)
+                (Every-at (λ m. slice_get (element_clocks P) m ≡ Some (clock_on P here d)) own n on
+                k);
+            is_of = kinds n d.kind
+                (Every-at (λ m. slice_get (element_kinds P) m ≡ Some d.kind) own n of k);
+          });
+        }
+
+    -- each variable has as many elements as its type, on its clock and of its kind
+    pub is_placing : IsPlacing (layout P) P (length (program_elements P)) K N size
+    is_placing = record {
+      laid = is_laid_out P accepted;
+      root = refl;
+      observer = refl;
+      variables = Every-from _ (instances P)
+          (λ here i. Every-from _ (variables here.node) (λ d j. variable_placed here i d j));
+    }
+
+  -- ## The property
+
+  property_one : length (property_places (layout P) P) ≡ 1
+  property_one =
+      let p = property_of P accepted in
+      let outputs = p.here.node.outputs in
+      let locals = p.here.node.locals in
+      let is_in = in_instances P (instantiation_kept P accepted) (property_path P.observer) p.here
+      p.stands in
+      let wide = Every-first _ outputs locals
+      (Every-second _ p.here.node.inputs (outputs ++ locals)
+      (places_width P accepted p.here is_in)) in
+      ap (λ o. length (listed (λ (here : Instance).
+      flat_map (λ d. numbers_of P here.path d.name) here.node.outputs) o)) p.stands
+      ∙ output_width P p.here outputs (λ d. numbers_of P p.here.path d.name) p.is_truth wide
+
+  -- the elements of variables are the first ones, and the property has one
+  pub is_in_order : IsInOrder (layout P) P (length (program_elements P))
+  is_in_order = record {
+    variables = places_walk P accepted;
+    property = only_one (property_places (layout P) P) property_one;
+  }
+
+  -- ## Inputs
+
+  -- the elements of the inputs are as many as the scalar inputs
+  pub inputs_placed :
+      IfSome (instance_at P Root) (λ root.
+      length (input_targets (layout P) root) ≡ length (input_kinds P))
+  inputs_placed =
+      inputs_count (layout P) P (instance_at P Root) refl
+      (if_some (λ root.
+      Every (λ d. length (numbers_of P Root d.name) ≡ width P root d) root.node.inputs)
+      (instance_at P Root) wide)
+    where
+      wide : (root : Instance) → instance_at P Root ≡ Some root →
+          Every (λ d. length (numbers_of P Root d.name) ≡ width P root d) root.node.inputs
+      wide root e =
+          let is_in = in_instances P (instantiation_kept P accepted) Root root e in
+          subst (λ p. Every (λ d. length (numbers_of P p d.name) ≡ width P root d)
+          root.node.inputs) (path_is P Root root e)
+          (Every-first _ root.node.inputs (root.node.outputs ++ root.node.locals)
+          (places_width P accepted root is_in))

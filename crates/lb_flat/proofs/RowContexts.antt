@@ -1,0 +1,189 @@
+-- What the numbers in the text of a row's node stand for is what its instance gives them: elements,
+-- static values and calls.
+use Rattle.std.proofs.Common.{◌≡◌, ℕ, ◌<◌, true, List, length, map, Option, Some, None, option_map}
+use Rattle.std.proofs.Common.{ap, sym, ◌∙◌, subst, arith}
+use Rattle.std.specs.Prelude.{slice_get, nat_lt}
+use Rattle.std.proofs.lemmas.Bool.Decides.{nat_tests}
+use Rattle.std.proofs.lemmas.List.{length-map}
+use Rattle.std.proofs.lemmas.Option.{slice_get-map, slice_get_within}
+use Rattle.lb_syntax.specs.Lists.{either_or}
+use Rattle.lb_syntax.specs.Tree.{Name, Named, Whole}
+use Rattle.lb_static.specs.Instances.{Program, Instance, Child, Site, name_value, static_value}
+use Rattle.lb_static.specs.Instances.{node_named, node_sites, instances}
+use Rattle.lb_static.specs.Instantiation.{static_refusal}
+use Rattle.lb_static.specs.InstanceTable.{IsTable, instance_of}
+use Rattle.lb_static.specs.Names.{are_distinct}
+use Rattle.lb_static.specs.Parts.{variable_names}
+use Rattle.lb_static.specs.ReachedNodes.{IsReached, source_names}
+use Rattle.lb_static.specs.ResolvedNodes.{IsResolved, node_of, statics_of, counts_of}
+use Rattle.lb_static.specs.ResolvedTerms.{static_at, site_at, site_of, no_site, is_variable}
+use Rattle.lb_static.specs.ResolvedTerms.{is_static, is_call}
+use Rattle.lb_static.specs.declared.reach.Reached.{Reached}
+use Rattle.lb_static.specs.declared.resolved.ResolvedNode.{ResolvedNode}
+use Rattle.lb_static.specs.declared.resolved.StaticId.{StaticId}
+use Rattle.lb_static.specs.declared.resolved.VariableId.{VariableId}
+use Rattle.lb_static.specs.declared.table.Instance as row
+use Rattle.lb_static.specs.declared.table.Table.{Table}
+use Rattle.lb_static.proofs.Members.{in_at}
+use Rattle.lb_check.specs.Elements.{numbers_of}
+use Rattle.lb_check.specs.OwnClocks.{name_in}
+use Rattle.lb_check.specs.Scalars.{or_fault}
+use Rattle.lb_check.specs.Streams.{number}
+use Rattle.lb_check.specs.TermClocks.{callee_in}
+use Rattle.lb_check.proofs.ApartLists.{Every-at}
+use Rattle.lb_check.proofs.Checks.{names_kept}
+use Rattle.lb_check.proofs.FittedCalls.{node_at, values_at}
+use Rattle.lb_check.proofs.FittedEnvs.{static_is, repeats_is}
+use Rattle.lb_check.proofs.InstanceNames.{variables_distinct, callee_node}
+use Rattle.lb_check.proofs.InstancePaths.{at_path, called}
+use Rattle.lb_check.proofs.OperandTypes.{some_same}
+use Rattle.lb_check.proofs.SiteCallees.{callee_found}
+use Rattle.lb_flat.specs.RowContexts.{value_at, size_at, times_at}
+use Rattle.lb_flat.specs.Rows.{row_numbers, child_numbers}
+use Rattle.lb_flat.proofs.NumberedRows.{own_numbers_are}
+use Rattle.lb_flat.proofs.RowChildren.{child_numbers_are}
+use Rattle.lb_flat.proofs.RowInstances.{IsRow}
+
+module _ {A : Type 0} where
+  some_some : (p o : Option A) → option_map Some p ≡ Some o → p ≡ o
+  some_some None o e = absurd cc
+  some_some (Some x) o e = cc
+
+  -- what a list of things that all are there has at a place
+  held_there :
+      (xs : List A) (os : List (Option A)) (i : ℕ) (o : Option A) → map Some xs ≡ os →
+      slice_get os i ≡ Some o → slice_get xs i ≡ o
+  held_there xs os i o e at =
+      some_some (slice_get xs i) o
+      (sym (slice_get-map Some xs i)
+      ∙ (ap (λ (l : List (Option A)). slice_get l i) e ∙ at))
+
+below : (i n : ℕ) → i < n → nat_lt i n ≡ true
+below i n e = grind (arith, nat_tests)
+
+module _ (P : Program) (r : Reached) (t : Table) (reached : IsReached P r)
+    (table : IsTable P r t) (accepted : static_refusal P ≡ None) (k : ℕ) (i : row.Instance)
+    (here : Instance) (is : IsRow P r t table k i here) where
+  own_resolved : IsResolved (source_names P) is.node
+  own_resolved =
+      let sp = table.specialized i.specialization.0 is.specialization is.specialized in
+      let m = node_at P r t reached table is.specialization sp.0 in
+      subst (IsResolved (source_names P)) (some_same m.0 is.node (sym m.1 ∙ is.resolved)) m.2
+
+  own_values :
+      map Some is.specialization.statics.items
+      ≡ map (static_value P (instance_of here.path (node_of is.node)
+      is.specialization.values.items)) (statics_of is.node)
+  own_values =
+      values_at P r t reached table is.specialization
+      (table.specialized i.specialization.0 is.specialization is.specialized).0 is.node here.path
+      is.resolved
+
+  own_names : are_distinct (variable_names (node_of is.node)) ≡ true
+  own_names =
+      subst (λ (c : Instance). are_distinct (variable_names c.node) ≡ true) is.same
+      (Every-at (λ (c : Instance). are_distinct (variable_names c.node) ≡ true) (instances P) here
+      (variables_distinct P accepted) (in_at (instances P) k here is.instance_is))
+
+  -- the elements of a variable
+  pub places_are :
+      (x : VariableId) → is_variable (counts_of is.node) x ≡ true →
+      row_numbers r t k x ≡ numbers_of P here.path (name_in is.node x)
+  places_are x within = own_numbers_are P r t reached table accepted k i here is x within
+
+  -- the value of a name that is no variable
+  pub value_are :
+      (j : ℕ) (x : Name) → slice_get (statics_of is.node) j ≡ Some (Named x) →
+      value_at is.specialization.statics.items j ≡ or_fault (name_value P here x)
+  value_are j x e =
+      let own = instance_of here.path (node_of is.node) is.specialization.values.items in
+      ap or_fault (held_there is.specialization.statics.items
+      (map (static_value P own) (statics_of is.node)) j (name_value P own x) own_values
+      (slice_get-map (static_value P own) (statics_of is.node) j
+      ∙ ap (option_map (static_value P own)) e))
+      ∙ ap (λ (c : Instance). or_fault (name_value P c x)) (sym is.same)
+
+  -- a size or an index
+  pub size_are :
+      (j : StaticId) → is_static (counts_of is.node) j ≡ true →
+      size_at is.specialization.statics.items j.0
+      ≡ number P here (static_at (statics_of is.node) j)
+  size_are j within =
+      ap (λ o. either_or o 0) (sym (static_is P r t is.specialization is.node here.path
+      own_resolved own_names own_values j within))
+      ∙ ap (λ (c : Instance). number P c (static_at (statics_of is.node) j)) (sym is.same)
+
+  -- ## Calls
+
+  -- a site has the number of a call
+  pub site_call :
+      (c : ℕ) (site : Site) → slice_get (node_sites here.node) c ≡ Some site →
+      is_call (counts_of is.node) (record { 0 = c }) ≡ true
+  site_call c site e =
+      let within = slice_get_within (node_sites here.node) c site e in
+      let same = ap (λ (d : Instance). length (node_sites d.node)) is.same in
+      let many = ap length own_resolved.calls in
+      let long = length-map is.node.calls.items
+      (site_of (source_names P) (statics_of is.node)) in
+      below c (length is.node.calls.items) (omega (arith, within, same, many, long))
+
+  own_site :
+      (c : ℕ) (site : Site) → slice_get (node_sites here.node) c ≡ Some site →
+      site_at (node_sites (node_of is.node)) (record { 0 = c }) ≡ site
+  own_site c site e =
+      ap (λ (d : Instance). either_or (slice_get (node_sites d.node) c) no_site) (sym is.same)
+      ∙ ap (λ o. either_or o no_site) e
+
+  -- what a call calls, by its number
+  pub record IsCallee (c : ℕ) (site : Site) : Type 0 where
+    pub callee : ResolvedNode
+    pub found : callee_in r is.node (record { 0 = c }) ≡ Some callee
+    pub named : node_named P site.callee ≡ Some (node_of callee)
+    pub resolved : IsResolved (source_names P) callee
+
+  -- there is one
+  pub callee_is :
+      (c : ℕ) (site : Site) → slice_get (node_sites here.node) c ≡ Some site → IsCallee c site
+  callee_is c site e =
+      let m = callee_found P r (names_kept P accepted) reached is.specialization.node.0 is.node
+      is.resolved (record { 0 = c }) (site_call c site e) in
+      record {
+        callee = m.0;
+        found = m.1;
+        named = ap (λ (z : Site). node_named P z.callee) (sym (own_site c site e)) ∙ m.2;
+        resolved = m.3;
+      }
+
+  -- how often a call is iterated
+  pub times_are :
+      (c : ℕ) (site : Site) → slice_get (node_sites here.node) c ≡ Some site →
+      times_at is.node is.specialization c ≡ number P here (either_or site.count (Whole 0))
+  times_are c site e =
+      ap (λ o. either_or o 0) (sym (repeats_is P r t is.specialization is.node here.path
+      own_resolved own_names own_values (record { 0 = c }) (site_call c site e)))
+      ∙ (ap (λ (z : Site). number P (instance_of here.path (node_of is.node)
+      is.specialization.values.items) (either_or z.count (Whole 0))) (own_site c site e)
+      ∙ ap (λ (d : Instance). number P d (either_or site.count (Whole 0))) (sym is.same))
+
+  -- the elements of a variable of what a call calls at an index
+  pub child_are :
+      (c : ℕ) (site : Site) → slice_get (node_sites here.node) c ≡ Some site →
+      (m : ResolvedNode) → callee_in r is.node (record { 0 = c }) ≡ Some m → (index : ℕ)
+      (x : VariableId) → is_variable (counts_of m) x ≡ true →
+      child_numbers r t k c index x ≡ numbers_of P (Child here.path c index) (name_in m x)
+  child_are c site e m found index x within =
+      let own = callee_is c site e in
+      let same = some_same own.callee m (sym own.found ∙ found) in
+      child_numbers_are P r t table reached accepted k i here is c index m
+      (subst (IsResolved (source_names P)) same own.resolved).as_many
+      (λ there at.
+      let by = called P here.path c index there at in
+      let caller = some_same by.caller here
+      (sym by.above ∙ at_path P here (in_at (instances P) k here is.instance_is)) in
+      let one = some_same by.site site
+      (sym by.stands ∙ (ap (λ (d : Instance). slice_get (node_sites d.node) c) caller ∙ e)) in
+      some_same there.node (node_of m)
+      (sym (callee_node P by.caller by.site c index there by.gives)
+      ∙ (ap (λ (z : Site). node_named P z.callee) one
+      ∙ (own.named ∙ ap (λ n. Some (node_of n)) same))))
+      x within

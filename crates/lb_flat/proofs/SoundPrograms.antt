@@ -1,0 +1,280 @@
+-- An accepted program is sound in each history in which the variables of its instances are as wide
+-- as their types, where what is called runs on the clocks of the calls.
+use Rattle.std.proofs.Common.{◌≡◌, ℕ, ◌+◌, true, Option, Some, None, IfSome, List, [], ◌∷◌, ◌++◌}
+use Rattle.std.proofs.Common.{map, length, refl, sym, ap, ap₂, ◌∙◌, subst, arith}
+use Rattle.std.specs.Prelude.{nat_le}
+use Rattle.std.proofs.lemmas.List.{length-map}
+use Rattle.lb_syntax.specs.Lists.{Every, all_some, holds}
+use Rattle.lb_syntax.specs.Refusals.{E4, E7, E8, unless}
+use Rattle.lb_syntax.specs.Tree.{Name, Node_named, Expr, Call, Iterate, Declaration}
+use Rattle.lb_static.specs.Instances.{Program, Instance, Path, Root, Observer, node_sites}
+use Rattle.lb_static.specs.Instances.{instance_at, instances}
+use Rattle.lb_static.specs.DataTypes.{DataType, are_types, element_count, variable_type, variables}
+use Rattle.lb_static.specs.DataTypes.{width, input_types, signature}
+use Rattle.lb_static.specs.Instantiation.{static_refusal, instantiation_refusal, has_no_parameters}
+use Rattle.lb_static.specs.Instantiation.{has_plain_clocks, has_property, fits_observer, are_same}
+use Rattle.lb_static.specs.Instantiation.{is_root}
+use Rattle.lb_static.specs.Names.{keeps_names, is_well_founded}
+use Rattle.lb_check.specs.Acceptance.{check_refusal}
+use Rattle.lb_check.specs.ClockRules.{are_declared_clocks, is_clocked}
+use Rattle.lb_check.specs.Clocks.{Clock}
+use Rattle.lb_check.specs.Occurrences.{Occurrence, at, node_occurrences}
+use Rattle.lb_check.specs.Scalars.{Stream}
+use Rattle.lb_check.specs.Solutions.{Inputs, Solves, SolvesAt, Fits, columns_at}
+use Rattle.lb_check.specs.Streams.{History}
+use Rattle.lb_check.specs.TypeRules.{is_typed}
+use Rattle.lb_check.proofs.CalledProperties.{instances_typed, instances_clocked, clocks_declared}
+use Rattle.lb_check.proofs.CalledProperties.{calls_have}
+use Rattle.lb_check.proofs.Checks.{second_none, kept, instantiation_kept}
+use Rattle.lb_check.proofs.Every.{Every-all}
+use Rattle.lb_check.proofs.DeterminedClocks.{OfCalled, Sited}
+use Rattle.lb_check.proofs.InstancePaths.{in_instances, path_is}
+use Rattle.lb_check.proofs.NamedClocks.{if_some}
+use Rattle.lb_check.proofs.StandingParts.{Stands, node_stands}
+use Rattle.lb_flat.specs.Flat.{column}
+use Rattle.lb_flat.specs.Flattening.{history_of}
+use Rattle.lb_flat.specs.Layouts.{Layout}
+use Rattle.lb_flat.proofs.Bodies.{IsSound}
+use Rattle.lb_flat.proofs.Lists.{Every-map, Every-both, Every-append, Every-first, Every-second}
+use Rattle.lb_flat.proofs.Lists.{Every-in}
+use Rattle.lb_flat.proofs.OutputWidths.{each, width_of}
+use Rattle.lb_flat.proofs.Placing.{AreAsWide}
+use Rattle.lb_flat.proofs.RootWidths.{inputs_count}
+use Rattle.lb_flat.proofs.SoundInstances.{RunsAt, instance_sound}
+use Rattle.lb_flat.proofs.TypeFacts.{and_first, and_second, are_counts, some_same}
+use Rattle.lb_flat.proofs.Whole.{IsProgramSound}
+use Rattle.lb_flat.proofs.Widths.{AreVariablesWide, IsWideAt, IsOccurrenceWide}
+
+-- ## The calls of an instance are wide
+
+module _ (P : Program) (H : History) where
+  -- what is called is as wide as its types, and has declared clocks
+  abbrev IsWideCallee : Instance → Type 0
+  IsWideCallee c =
+      (Every (λ d. length (H.columns c.path d.name) ≡ width P c d) (variables c.node))
+      × (are_declared_clocks c.node ≡ true)
+
+  module _ (here : Instance) where
+    abbrev AnyName : Name → Type 0
+    AnyName x = Unit {0}
+
+    abbrev AnyVariables : Type 0
+    AnyVariables = Every (λ d. AnyName d.name) (variables here.node)
+
+    every_name : AnyVariables
+    every_name = Every-all (λ d. AnyName d.name) (λ d. tt) (variables here.node)
+
+    known : (c : Instance) → IsWideCallee c → are_declared_clocks c.node ≡ true
+    known c h = h.1
+
+    abbrev StandsWide : Occurrence → Type 0
+    StandsWide o = Stands P here AnyName every_name IsWideCallee known o
+
+    wide_at : (k : Clock) (n : ℕ) (e : Expr) → StandsWide (at k n e) → IsWideAt P H here n e
+    wide_at k n (Call f statics es) s = λ c is. (s.sited.0.1 0 (omega arith) c is).0
+    wide_at k n (Iterate it (Node_named f statics) m es) s =
+        (s.sited.0.0, λ i lt c is. (s.sited.0.1 i lt c is).0)
+    wide_at k n e s = tt
+
+    occurrences_wide :
+        is_typed P here ≡ true → is_clocked P here.node ≡ true →
+        Sited (OfCalled P here IsWideCallee) 0 (node_sites here.node) →
+        Every (IsOccurrenceWide P H here) (node_occurrences P here.node)
+    occurrences_wide typed clocked s =
+        Every-map StandsWide (IsOccurrenceWide P H here)
+        (λ o h. wide_at o.clock o.calls_before o.expr h) (node_occurrences P here.node)
+        (node_stands P here AnyName every_name IsWideCallee known typed clocked s).0
+
+-- ## The observer
+
+-- what static rules say of the node under test
+pub root_kept : (P : Program) → static_refusal P ≡ None →
+    holds (is_root P) (instance_at P Root) ≡ true
+root_kept P e =
+    let calls = second_none (unless (keeps_names P) E4) _ e in
+    let parameters = second_none (unless (is_well_founded P) E7) _ calls in
+    let inside = second_none (unless (has_no_parameters P) E8) _ parameters in
+    kept (holds (is_root P) (instance_at P Root)) E8
+    (second_none (instantiation_refusal P 0 (instances P)) _ inside)
+
+module _ (P : Program) where
+  types_there :
+      (o p : Option (List DataType)) → are_same P o p ≡ true →
+      (ts : List DataType) × (us : List DataType) × (o ≡ Some ts) × (p ≡ Some us)
+      × (are_types ts us ≡ true)
+  types_there None p e = cc
+  types_there (Some ts) None e = cc
+  types_there (Some ts) (Some us) e = (ts, us, refl, refl, e)
+
+  widths_are :
+      (c : Instance) (ds : List Declaration) (ts : List DataType) →
+      all_some (map (variable_type P c) ds) ≡ Some ts →
+      map (width P c) ds ≡ map element_count ts
+  widths_are c [] ts e = ap (map element_count) (some_same [] ts e)
+  widths_are c (d ∷ ds) ts e =
+      let h = each (variable_type P c d) (map (variable_type P c) ds) ts e in
+      ap₂ (λ n ns. n ∷ ns) (width_of P c d h.first h.is) (widths_are c ds h.rest h.others)
+      ∙ sym (ap (map element_count) h.all)
+
+  first_number : (n m : ℕ) (ns ms : List ℕ) → n ∷ ns ≡ m ∷ ms → n ≡ m
+  first_number n m ns ms e = cc
+
+  other_numbers : (n m : ℕ) (ns ms : List ℕ) → n ∷ ns ≡ m ∷ ms → ns ≡ ms
+  other_numbers n m ns ms e = cc
+
+  seen_wide :
+      (H : History) (o r : Instance) (ds es : List Declaration) →
+      map (width P o) ds ≡ map (width P r) es →
+      Every (λ d. length (H.columns Observer d.name) ≡ width P o d) ds →
+      Every (λ d. length (H.columns Root d.name) ≡ width P r d) es →
+      AreAsWide H Observer ds (columns_at H Root es)
+  seen_wide H o r [] [] same a b = tt
+  seen_wide H o r [] (e ∷ es) same a b = absurd cc
+  seen_wide H o r (d ∷ ds) [] same a b = absurd cc
+  seen_wide H o r (d ∷ ds) (e ∷ es) same a b = (
+    a.0 ∙ first_number _ _ _ _ same ∙ sym b.0,
+    seen_wide H o r ds es (other_numbers _ _ _ _ same) a.1 b.1,
+  )
+
+  module _ (elaborated : static_refusal P ≡ None) (H : History)
+      (wide : Every (λ here. AreVariablesWide P H here here) (instances P)) where
+    wide_there :
+        (p : Path) (c : Instance) → instance_at P p ≡ Some c →
+        Every (λ d. length (H.columns p d.name) ≡ width P c d) (variables c.node)
+    wide_there p c is =
+        let own = Every-in (λ here. AreVariablesWide P H here here) c (instances P) wide
+        (in_instances P (instantiation_kept P elaborated) p c is) in
+        subst (λ q. Every (λ d. length (H.columns q d.name) ≡ width P c d) (variables c.node))
+        (path_is P p c is) own
+
+    observer_fits :
+        (root observer : Instance) → instance_at P Root ≡ Some root →
+        instance_at P Observer ≡ Some observer → fits_observer P root observer ≡ true
+    observer_fits root observer is also =
+        let keeps : is_root P root ≡ true =
+        sym (ap (holds (is_root P)) is) ∙ root_kept P elaborated in
+        let later = and_second (has_plain_clocks P root) _ keeps in
+        let property = and_second (nat_le (length (signature P)) 1023) _ later in
+        let all : has_property P root (Some observer) ≡ true =
+        sym (ap (has_property P root) also) ∙ property in
+        and_first (fits_observer P root observer) _ (and_second (has_plain_clocks P observer) _ all)
+
+    abbrev IsSeen : Instance → Instance → Type 0
+    IsSeen root observer =
+        AreAsWide H Observer observer.node.inputs
+        (columns_at H Root (root.node.inputs ++ root.node.outputs))
+
+    one_seen :
+        (root observer : Instance) → instance_at P Root ≡ Some root →
+        instance_at P Observer ≡ Some observer → IsSeen root observer
+    one_seen root observer is also =
+        let ins = root.node.inputs in
+        let outs = root.node.outputs in
+        let locals = root.node.locals in
+        let t = types_there (input_types P observer)
+        (all_some (map (variable_type P root) (ins ++ outs))) (observer_fits root observer is also)
+        in
+        let shown = wide_there Root root is in
+        let sees = wide_there Observer observer also in
+        seen_wide H observer root observer.node.inputs (ins ++ outs)
+        (widths_are observer observer.node.inputs t.0 t.2 ∙ are_counts t.0 t.1 t.4
+        ∙ sym (widths_are root (ins ++ outs) t.1 t.3))
+        (Every-first _ observer.node.inputs (observer.node.outputs ++ observer.node.locals) sees)
+        (Every-append _ ins outs (Every-first _ ins (outs ++ locals) shown)
+        (Every-first _ outs locals (Every-second _ ins (outs ++ locals) shown)))
+
+    -- the observer's inputs are as wide as what it observes
+    pub observer_wide :
+        IfSome (instance_at P Root) (λ root. IfSome (instance_at P Observer) (IsSeen root))
+    observer_wide =
+        if_some (λ root. IfSome (instance_at P Observer) (IsSeen root)) (instance_at P Root)
+        (λ root is.
+        if_some (IsSeen root) (instance_at P Observer) (λ observer also.
+        one_seen root observer is also))
+
+-- ## A whole program
+
+module _ (P : Program) (elaborated : static_refusal P ≡ None)
+    (checked : check_refusal P ≡ None) where
+  module _ (H : History)
+      (wide : Every (λ here. AreVariablesWide P H here here) (instances P)) where
+    -- the calls of all instances are as wide as their types
+    pub all_wide :
+        Every (λ here. Every (IsOccurrenceWide P H here) (node_occurrences P here.node))
+        (instances P)
+    all_wide =
+        Every-map _ (λ here. Every (IsOccurrenceWide P H here) (node_occurrences P here.node))
+        (λ here z. occurrences_wide P H here z.0 z.1.0 z.1.1) (instances P)
+        (Every-both _ _ (instances P) (instances_typed P checked)
+        (Every-both _ _ (instances P) (instances_clocked P checked)
+        (calls_have P elaborated (IsWideCallee P H)
+        (Every-both _ _ (instances P) wide (clocks_declared P checked)))))
+
+    -- the program is sound, where a layout gives the inputs of the node under test their elements
+    pub sound_where_wide :
+        (Y : Layout) →
+        Every (λ here. Every (RunsAt Y P H here) (node_occurrences P here.node)) (instances P) →
+        IfSome (instance_at P Root) (λ root.
+        Every (λ d. length (Y.places Root d.name) ≡ width P root d) root.node.inputs) →
+        IsProgramSound Y P H
+    sound_where_wide Y runs placed = record {
+      instances =
+          Every-map _ (IsSound Y P H)
+          (λ here z. instance_sound Y P H here z.0.0 z.0.1 z.1.0 z.1.1) (instances P)
+          (Every-both _ _ (instances P)
+          (Every-both _ _ (instances P) wide (instances_typed P checked))
+          (Every-both _ _ (instances P) all_wide runs));
+      inputs = inputs_count Y P (instance_at P Root) refl placed;
+      observer = observer_wide P elaborated H wide;
+    }
+
+  -- the variables of a solution are as wide as their types
+  pub solution_wide :
+      (X : Inputs) (H : History) → Solves P X H →
+      Every (λ here. AreVariablesWide P H here here) (instances P)
+  solution_wide X H h =
+      Every-map (SolvesAt P H) (λ here. AreVariablesWide P H here here)
+      (λ here s. Every-map (Fits P H here)
+      (λ d. length (H.columns here.path d.name) ≡ width P here d) (λ d f. f.width)
+      (variables here.node) s.variables) (instances P) h.instances
+
+  module _ (Y : Layout)
+      (placed : Every (λ here. Every (λ d. length (Y.places here.path d.name) ≡ width P here d)
+      (variables here.node)) (instances P))
+      (runs : (H : History) →
+      Every (λ here. Every (RunsAt Y P H here) (node_occurrences P here.node)) (instances P)) where
+    -- and so are those of the history of any streams
+    pub history_wide :
+        (X : Inputs) (F : List Stream) →
+        Every (λ here. AreVariablesWide P (history_of Y X F) here here) (instances P)
+    history_wide X F =
+        Every-map _ (λ here. AreVariablesWide P (history_of Y X F) here here)
+        (λ here h. Every-map _ (λ d. length (map (column X F) (Y.places here.path d.name))
+        ≡ width P here d)
+        (λ d w. length-map (Y.places here.path d.name) (column X F) ∙ w) (variables here.node) h)
+        (instances P) placed
+
+    inputs_placed :
+        IfSome (instance_at P Root) (λ root.
+        Every (λ d. length (Y.places Root d.name) ≡ width P root d) root.node.inputs)
+    inputs_placed =
+        if_some (λ root.
+        Every (λ d. length (Y.places Root d.name) ≡ width P root d) root.node.inputs)
+        (instance_at P Root)
+        (λ root is.
+        let own = Every-in _ root (instances P) placed
+        (in_instances P (instantiation_kept P elaborated) Root root is) in
+        Every-first _ root.node.inputs (root.node.outputs ++ root.node.locals)
+        (subst (λ p. Every (λ d. length (Y.places p d.name) ≡ width P root d)
+        (variables root.node)) (path_is P Root root is) own))
+
+    -- the program is sound in the history of any streams
+    pub program_sound : (X : Inputs) (F : List Stream) → IsProgramSound Y P (history_of Y X F)
+    program_sound X F =
+        sound_where_wide (history_of Y X F) (history_wide X F) Y (runs (history_of Y X F))
+        inputs_placed
+
+    -- and in each that solves it
+    pub solution_sound : (X : Inputs) (H : History) → Solves P X H → IsProgramSound Y P H
+    solution_sound X H h =
+        sound_where_wide H (solution_wide X H h) Y (runs H) inputs_placed

@@ -1,0 +1,171 @@
+-- The size that is counted by the rows of the table is that of the program.
+use Rattle.std.proofs.Common.{◌≡◌, ℕ, suc, ◌+◌, ◌<◌, ◌≤◌, min, Bool, true, false, List, [], ◌∷◌}
+use Rattle.std.proofs.Common.{flat_map, take, get_or, length, Some, refl, ap, sym, ◌∙◌, subst}
+use Rattle.std.proofs.Common.{arith}
+use Rattle.std.specs.Prelude.{◌-◌, slice_get, sum_by, nat_le, nat_lt}
+use Rattle.std.proofs.lemmas.Bool.Decides.{nat_tests}
+use Rattle.std.proofs.lemmas.List.{length-append, take_all}
+use Rattle.std.proofs.lemmas.List.Sums.{sum_by-cons, sum_by_more}
+use Rattle.lb_static.specs.DataTypes.{variables, width}
+use Rattle.lb_static.specs.Instances.{Program, Instance, instances}
+use Rattle.lb_static.specs.InstanceTable.{IsTable}
+use Rattle.lb_static.specs.Parts.{node_parts}
+use Rattle.lb_static.specs.ReachedNodes.{IsReached}
+use Rattle.lb_static.specs.declared.reach.Reached.{Reached}
+use Rattle.lb_static.specs.declared.table.Instance as row
+use Rattle.lb_static.specs.declared.table.Table.{Table}
+use Rattle.lb_check.specs.Elements.{instance_elements, program_elements}
+use Rattle.lb_check.specs.TypeRules.{expression_size, size, is_small}
+use Rattle.lb_check.proofs.FittedCalls.{specialized_instance}
+use Rattle.lb_check.proofs.OperandTypes.{some_same}
+use Rattle.lb_flat.specs.Rows.{sum_of, widths_in, element_total}
+use Rattle.lb_flat.specs.TableSizes.{term_total, HasTermSizes}
+use Rattle.lb_flat.proofs.NumberedRows.{elements_wide, first_is}
+use Rattle.lb_flat.proofs.RowInstances.{IsRow, rows_many, row_shown}
+use Rattle.lb_flat.proofs.StoredLayouts.{sum_mapped}
+
+-- sums as far as 65,537 of what is counted as far as 65,537
+capped_sums :
+    (f : row.Instance → ℕ) (g : Instance → ℕ) (rows : List row.Instance) (is : List Instance) →
+    length rows ≡ length is →
+    ((j : ℕ) (i : row.Instance) (here : Instance) → slice_get rows j ≡ Some i →
+    slice_get is j ≡ Some here → f i ≡ min (g here) 65537) →
+    (a : ℕ) → min (a + sum_by f rows) 65537 ≡ min (a + sum_by g is) 65537
+capped_sums f g [] [] long same a = refl
+capped_sums f g [] (c ∷ is) long same a = absurd (omega (arith, long))
+capped_sums f g (i ∷ rows) [] long same a = absurd (omega (arith, long))
+capped_sums f g (i ∷ rows) (c ∷ is) long same a =
+    let rest = capped_sums f g rows is (omega (arith, long))
+    (λ j l here p q. same (suc j) l here p q) (a + f i) in
+    let one = same 0 i c refl refl in
+    by (f i) (g c) (sum_by f rows) (sum_by g is) (sum_by f (i ∷ rows)) (sum_by g (c ∷ is)) one rest
+    (sum_by-cons f i rows) (sum_by-cons g c is)
+  where
+    by : (m n s u v w : ℕ) → m ≡ min n 65537 → min ((a + m) + s) 65537 ≡ min ((a + m) + u) 65537 →
+        v ≡ m + s → w ≡ n + u → min (a + v) 65537 ≡ min (a + w) 65537
+    by m n s u v w one rest p q = omega (arith, one, rest, p, q)
+
+small_below : (m n : ℕ) → min m 65537 ≡ min n 65537 → nat_le m 65536 ≡ nat_le n 65536
+small_below m n e = by (nat_le m 65536) refl
+  where
+    by : (b : Bool) → nat_le m 65536 ≡ b → b ≡ nat_le n 65536
+    by true is =
+        let le : m ≤ 65536 = grind (arith, nat_tests) in
+        let other : n ≤ 65536 = omega (arith, le, e) in
+        grind (arith, nat_tests)
+    by false is =
+        let gt : 65536 < m = grind (arith, nat_tests) in
+        let other : 65536 < n = omega (arith, gt, e) in
+        grind (arith, nat_tests)
+
+-- ## A loop over rows
+
+module _ {A : Type 0} (f : A → ℕ) where
+  -- what is left after one row more
+  pub less_left :
+      (xs : List A) (i : ℕ) (x : A) (a left size rest : ℕ) → i < length xs → x ≡ get_or xs i x →
+      left ≡ 65537 - (a + sum_by f (take i xs)) → size ≡ f x → rest ≡ left - size →
+      rest ≡ 65537 - (a + sum_by f (take (i + 1) xs))
+  less_left xs i x a left size rest lt is h own next =
+      let more = sum_by_more f xs i x lt in
+      let item = ap f is in
+      omega (arith, h, own, next, more, item)
+
+  -- something is left where the sum is at most 65,536
+  pub some_left :
+      (xs : List A) (i a left : ℕ) → length xs ≤ i →
+      left ≡ 65537 - (a + sum_by f (take i xs)) → nat_lt 0 left ≡ nat_le (a + sum_by f xs) 65536
+  some_left xs i a left le h =
+      by (sum_by f xs) (h ∙ ap (λ l. 65537 - (a + sum_by f l)) (take_all i xs le))
+    where
+      by : (n : ℕ) → left ≡ 65537 - (a + n) → nat_lt 0 left ≡ nat_le (a + n) 65536
+      by n e = grind (arith, nat_tests)
+
+-- ## Sums
+
+sum_both :
+    {A : Type 0} (f g : A → ℕ) (xs : List A) →
+    sum_by (λ x. f x + g x) xs ≡ sum_by f xs + sum_by g xs
+sum_both f g [] = refl
+sum_both f g (x ∷ xs) =
+    let rest = sum_both f g xs in
+    let all = sum_by-cons (λ x. f x + g x) x xs in
+    let first = sum_by-cons f x xs in
+    let second = sum_by-cons g x xs in
+    omega (arith, rest, all, first, second)
+
+module _ (P : Program) where
+  -- the elements of instances are as many as their variables are wide
+  wide_elements :
+      (is : List Instance) →
+      length (flat_map (instance_elements P) is)
+      ≡ sum_by (λ (c : Instance). sum_by (width P c) (variables c.node)) is
+  wide_elements [] = refl
+  wide_elements (c ∷ is) =
+      let own = elements_wide P c (variables c.node) ∙ sum_mapped (width P c) (variables c.node) in
+      let rest = wide_elements is in
+      let all = length-append (instance_elements P c) (flat_map (instance_elements P) is) in
+      let cons = sum_by-cons (λ (c : Instance). sum_by (width P c) (variables c.node)) c is in
+      omega (arith, own, rest, all, cons)
+
+  -- the elements of the expressions of an instance
+  abbrev parts_size : Instance → ℕ
+  parts_size c = sum_by (expression_size P c) (node_parts c.node)
+
+  -- the size is that of the variables and that of the expressions
+  pub size_parts :
+      size P
+      ≡ length (flat_map (instance_elements P) (instances P)) + sum_by parts_size (instances P)
+  size_parts =
+      sum_both (λ (c : Instance). sum_by (width P c) (variables c.node)) parts_size (instances P)
+      ∙ ap (λ n. n + sum_by parts_size (instances P)) (sym (wide_elements (instances P)))
+
+  module _ (r : Reached) (t : Table) (reached : IsReached P r) (table : IsTable P r t) where
+    total_is : element_total r t ≡ length (flat_map (instance_elements P) (instances P))
+    total_is =
+        let rows = t.instances.items in
+        let is = instances P in
+        let many = rows_many P r t table in
+        let all_rows = take_all (length rows) rows (omega arith) in
+        let all_is = take_all (length rows) is (omega (arith, many)) in
+        ap (λ l. sum_of (flat_map (widths_in r t) l)) (sym all_rows)
+        ∙ (first_is P r t reached table (length rows)
+        ∙ ap (λ l. length (flat_map (instance_elements P) l)) all_is)
+
+    -- there are as many elements in the rows as in the program
+    pub element_total_is : element_total r t ≡ length (program_elements P)
+    unfolding program_elements
+    element_total_is = total_is
+
+    -- a program with so many elements is not small
+    pub too_many : 65536 < element_total r t → is_small P ≡ false
+    too_many over =
+        let total = total_is in
+        let both = size_parts in
+        let large : 65536 < size P = omega (arith, over, total, both) in
+        by (size P) large
+      where
+        by : (n : ℕ) → 65536 < n → nat_le n 65536 ≡ false
+        by n lt = grind (arith, nat_tests)
+
+    -- the size that is counted tells whether the program is small
+    pub counted_small :
+        (sizes : List ℕ) → HasTermSizes P r t sizes →
+        nat_le (element_total r t + term_total t sizes) 65536 ≡ is_small P
+    counted_small sizes has =
+        small_below (element_total r t + term_total t sizes) (size P)
+        (capped_sums (λ (i : row.Instance). get_or sizes i.specialization.0 0) parts_size
+        t.instances.items (instances P) (rows_many P r t table) one (element_total r t)
+        ∙ ap (λ n. min n 65537) (ap (λ n. n + sum_by parts_size (instances P)) total_is
+        ∙ sym size_parts))
+      where
+        one : (j : ℕ) (i : row.Instance) (here : Instance) →
+            slice_get t.instances.items j ≡ Some i → slice_get (instances P) j ≡ Some here →
+            get_or sizes i.specialization.0 0 ≡ min (parts_size here) 65537
+        one j i here e f =
+            let shown = row_shown P r t table j i e in
+            let same = some_same shown.0 here (sym shown.1.instance_is ∙ f) in
+            let is = subst (IsRow P r t table j i) same shown.1 in
+            has i.specialization.0 is.specialization is.specialized here.path here
+            (specialized_instance P r t reached table is.specialization is.node here.path
+            is.resolved ∙ ap (λ c. Some c) (sym is.same))

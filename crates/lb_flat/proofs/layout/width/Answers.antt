@@ -1,0 +1,10 @@
+-- The sizes that are read give the width of the variable.
+use Rattle.std.proofs.Common.{ap, ◌∙◌}
+use Rattle.lb_static.specs.Specialized.{times_sizes}
+use Rattle.lb_flat.proofs.StoredLayouts.{capped}
+use Rattle.lb_flat.proofs.layout.width.Goals as goal
+
+pub returns : goal.returns
+returns c =
+    c.element_count.ensures.value
+    ∙ (ap (times_sizes 1) c.values_at-sizes.ensures ∙ capped c.args.statics.now c.args.variable.now)

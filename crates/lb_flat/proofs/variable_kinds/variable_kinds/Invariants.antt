@@ -1,0 +1,7 @@
+use Rattle.std.proofs.Common.{◌≡◌, flat_map, take}
+use Rattle.lb_flat.specs.RowKinds.{kinds_in}
+use Rattle.lb_flat.proofs.variable_kinds.variable_kinds.Given as goal
+
+abbrev pub invariant-loop-row : goal.invariant-loop-row
+invariant-loop-row l =
+    l.kinds.items ≡ flat_map (kinds_in l.reached l.table) (take l.row-index l.row-items)

@@ -1,0 +1,51 @@
+-- What a frame of the code that expands resolved terms stands for.
+-- This file says what data of the program mean; no definition of the language stands on it.
+use Rattle.std.specs.Prelude.{◌≡◌, ℕ, ◌+◌, ◌<◌, ◌≤◌, ◌^◌, List, ◌++◌, map}
+use Rattle.std.specs.List.{range_with_len}
+use Rattle.lb_flat.specs.declared.expand.frame.Elements.{Elements}
+use Rattle.lb_flat.specs.declared.expand.frame.Place.{Place as CodePlace}
+use Rattle.lb_flat.specs.Emit.{State, Emitted, Target}
+use Rattle.lb_flat.specs.EmitTerms.{Place, PlacedEmitted, PlacedState, placed}
+use Rattle.lb_flat.specs.Flat.{FlatClock, FlatEquation, Copy}
+use Rattle.lb_flat.specs.TermEmissions.{onto}
+
+-- the elements of a variable
+abbrev pub elements_of : Elements → List ℕ
+elements_of e = range_with_len e.first e.count
+
+-- they stand before an element
+abbrev pub AreBefore : ℕ → Elements → Type 0
+AreBefore n e = e.first + e.count ≤ n
+
+-- as targets on a clock
+abbrev pub targets_of : FlatClock → List ℕ → List Target
+targets_of k is = map (λ i. record { place = i; clock = k }) is
+
+abbrev pub place_of : CodePlace → Place
+place_of at = record { term = at.term; call = at.call }
+
+-- an element that is a copy of another one
+abbrev pub copy_of : FlatClock → (element operand : ℕ) → FlatEquation
+copy_of k i j = record { element = i; clock = k; operation = Copy j }
+
+-- some equations more of elements of variables
+abbrev pub with_copies : State → List FlatEquation → State
+with_copies s qs = record s { copies = s.copies ++ qs }
+
+-- a place is one that the code can hold
+pub record HasPlaces (at : Place) : Type 0 where
+  pub terms : at.term < 2 ^ 64
+  pub calls : at.call < 2 ^ 64
+
+-- what is emitted takes no more numbers of elements, terms and calls than there are
+pub record HasRoom (r : PlacedEmitted) : Type 0 where
+  pub elements : r.emitted.state.next < 2 ^ 32
+  pub places : HasPlaces r.place
+
+-- what was emitted, with its elements above these of a stack
+abbrev pub stacked : List ℕ → PlacedEmitted → PlacedEmitted
+stacked below r = placed r.place (onto below r.emitted)
+
+-- what was emitted for a statement, and the place after it
+abbrev pub placed_state : Place → State → PlacedState
+placed_state at s = record { place = at; state = s }

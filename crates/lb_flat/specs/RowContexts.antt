@@ -1,0 +1,56 @@
+-- What the numbers in the text of a row's node stand for.
+-- This file mirrors code (src/expand/frame.rt); no definition of the language stands on it.
+use Rattle.std.specs.Prelude.{ℕ, ℤ, Bool, List, slice_get, option_map}
+use Rattle.lb_syntax.specs.Lists.{either_or}
+use Rattle.lb_static.specs.declared.reach.Reached.{Reached}
+use Rattle.lb_static.specs.declared.resolved.ResolvedNode.{ResolvedNode}
+use Rattle.lb_static.specs.declared.table.Specialization.{Specialization}
+use Rattle.lb_static.specs.declared.table.Table.{Table}
+use Rattle.lb_check.specs.Scalars.{Scalar, or_fault}
+use Rattle.lb_check.specs.TermClocks.{callee_in}
+use Rattle.lb_check.specs.TermTypes.{count_at, repeats_at}
+use Rattle.lb_flat.specs.declared.expand.frame.Callee.{Callee}
+use Rattle.lb_flat.specs.EmitTerms.{Context}
+use Rattle.lb_flat.specs.Flat.{FlatClock}
+use Rattle.lb_flat.specs.Rows.{row_numbers, child_numbers}
+
+-- the value of a static expression as an operand, where these are all
+abbrev pub value_at : List ℤ → ℕ → Scalar
+value_at statics i = or_fault (slice_get statics i)
+
+-- as a size or an index
+abbrev pub size_at : List ℤ → ℕ → ℕ
+size_at statics i = either_or (count_at statics (record { 0 = i })) 0
+
+-- how often a call is iterated
+abbrev pub times_at : ResolvedNode → Specialization → ℕ → ℕ
+times_at n s c = either_or (repeats_at n s (record { 0 = c })) 0
+
+-- how many inputs and outputs a node has
+abbrev pub parameters_of : ResolvedNode → Callee
+parameters_of m = record { inputs = m.inputs; outputs = m.outputs }
+
+-- the clocks of a row, and how many scalar elements each element of the array of a term has
+pub record RowClocks : Type 0 where
+  pub declared : ℕ → FlatClock
+  pub sampled : ℕ → Bool → FlatClock
+  pub clock : ℕ → FlatClock
+  pub parts : ℕ → ℕ
+  pub input : (call index variable : ℕ) → FlatClock
+
+-- what the numbers stand for in a row of this node and this specialization
+abbrev pub row_context :
+    Reached → Table → RowClocks → ℕ → ResolvedNode → Specialization → Context
+row_context r t k j n s = record {
+  places = λ x. row_numbers r t j (record { 0 = x });
+  declared = k.declared;
+  sampled = k.sampled;
+  value = value_at s.statics.items;
+  count = size_at s.statics.items;
+  clock = k.clock;
+  parts = k.parts;
+  callee = λ c. option_map parameters_of (callee_in r n (record { 0 = c }));
+  repeats = times_at n s;
+  child = λ c i x. child_numbers r t j c i (record { 0 = x });
+  input = k.input;
+}

@@ -1,0 +1,30 @@
+-- What the scalar elements of the variables of the rows of the table of instances hold.
+-- This file mirrors code (src/variable_kinds.rt); no definition of the language stands on it.
+use Rattle.std.specs.Prelude.{ℤ, min, List, replicate, flat_map, slice_get}
+use Rattle.lb_syntax.specs.declared.tree.Kind.{Kind}
+use Rattle.lb_syntax.specs.Lists.{listed}
+use Rattle.lb_static.specs.declared.reach.Reached.{Reached}
+use Rattle.lb_static.specs.declared.resolved.Variable.{Variable as Declared}
+use Rattle.lb_static.specs.declared.table.Instance as row
+use Rattle.lb_static.specs.declared.table.Specialization.{Specialization}
+use Rattle.lb_static.specs.declared.table.Table.{Table}
+use Rattle.lb_flat.specs.Rows.{declared_width}
+
+-- the kinds of the elements of a variable under these static values; 65,537 elements stand for all
+-- that are more than 65,536
+abbrev pub declared_kinds : List ℤ → Declared → List Kind
+declared_kinds statics v = replicate (min (declared_width statics v) 65537) v.kind
+
+-- those of the variables of a specialization
+abbrev pub kinds_of : Reached → Specialization → List Kind
+kinds_of r s =
+    listed (λ n. flat_map (declared_kinds s.statics.items) n.variables.items)
+    (slice_get r.nodes.items s.node.0)
+
+-- of a row
+abbrev pub kinds_in : Reached → Table → row.Instance → List Kind
+kinds_in r t i = listed (kinds_of r) (slice_get t.specializations.items i.specialization.0)
+
+-- of all rows
+abbrev pub table_kinds : Reached → Table → List Kind
+table_kinds r t = flat_map (kinds_in r t) t.instances.items

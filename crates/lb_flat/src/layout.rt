@@ -1,0 +1,187 @@
+//! Where the scalar elements of the rows of the table of instances stand.
+//!
+//! The variables of all rows stand one after another, and so do their elements:
+//!
+//! ```text
+//! row 0: a, m^2   row 1: x     variables before each row       0 2 3
+//!                              elements before each variable   0 1 3 4
+//! ```
+
+ghost use Rattle.std.specs.Prelude.{◌≡◌, ◌≤◌, ◌<◌, ◌+◌, ◌^◌, min, map, take, drop, IfOk};
+ghost use Rattle.lb_static.specs.Specialized.{size_of, times_sizes};
+ghost use Rattle.lb_flat.specs.Rows.{sum_of, declared_width, widths_in, AreAdded};
+
+use crate::error::FlatError;
+use lb_static::reach::Reached;
+use lb_static::resolved::{Variable, VariableId};
+use lb_static::static_value::StaticInt;
+use lb_static::table::{Instance, InstanceId, Table};
+use std::alloc::Global;
+use std::ops::Range;
+
+/// The most elements of variables.
+const MOST: u32 = 65536;
+
+/// Where the elements of the rows of a table stand.
+#[derive(Drop)]
+pub(crate) struct Layout {
+    /// How many variables stand before each row; one more at the end: all variables.
+    variables: Vec<usize>,
+    /// How many elements stand before each variable of all rows; one more at the end.
+    starts: Vec<u32>,
+    /// How many elements there are.
+    pub(crate) count: u32,
+}
+
+/// A size as a number; one below 0 counts as 0.
+fn size_of(value: StaticInt) -> u64
+    ensures value { result ≡ size_of value }
+    ensures within { result < 2 ^ 32 }
+{
+    let number = value.get();
+    if number < 0 { 0 } else { number as u64 }
+}
+
+/// So many elements as the sizes make, or 65,537 for all that are more than 65,536.
+fn element_count(sizes: &[StaticInt]) -> u64
+    ensures value { result ≡ times_sizes 1 sizes.now }
+    ensures within { result ≤ 65537 }
+{
+    let mut elements = 1;
+    for size in sizes {
+        elements = (elements * size_of(*size)).min(u64::from(MOST) + 1);
+    }
+    elements
+}
+
+/// So many static values, from one on.
+fn values_at(statics: &[StaticInt], first: usize, count: usize) -> &[StaticInt]
+    ensures { result.now ≡ take count (drop first statics.now) }
+{
+    if statics.len() <= first {
+        return &statics[..0];
+    }
+    let rest = &statics[first..];
+    if rest.len() <= count {
+        rest
+    } else {
+        &rest[..count]
+    }
+}
+
+/// How many elements a variable has under these static values, or 65,537 for more than 65,536.
+pub(crate) fn width(statics: &[StaticInt], variable: &Variable) -> u32
+    ensures { result ≡ min (declared_width statics.now variable.now) 65537 }
+{
+    let sizes = values_at(statics, variable.first_size.0, variable.sizes);
+    element_count(sizes) as u32
+}
+
+/// Adds the starts of some variables behind so many elements; answers how many there are then.
+fn add_variables(
+    starts: &mut Vec<u32>,
+    last: u32,
+    statics: &[StaticInt],
+    variables: &[Variable],
+) -> Result<u32, FlatError>
+    requires { last ≤ 65536 }
+    ensures added { IfOk result (AreAdded (map (declared_width statics.now) variables.now) last
+        starts.old.items starts.new.items) }
+    ensures large { result ≡ Err FlatError.Large →
+        65536 < last + sum_of (map (declared_width statics.now) variables.now) }
+{
+    let mut next = last;
+    for variable in variables {
+        let width = width(statics, variable);
+        if width > MOST - next {
+            return Err(FlatError::Large);
+        }
+        next += width;
+        starts.push(next)?;
+    }
+    Ok(next)
+}
+
+/// Adds the starts of the variables of a row.
+fn add_row(
+    starts: &mut Vec<u32>,
+    last: u32,
+    reached: &Reached,
+    table: &Table,
+    row: &Instance,
+) -> Result<u32, FlatError>
+    requires { last ≤ 65536 }
+    ensures added { IfOk result (AreAdded (widths_in reached.now table.now row.now) last
+        starts.old.items starts.new.items) }
+    ensures large { result ≡ Err FlatError.Large →
+        65536 < last + sum_of (widths_in reached.now table.now row.now) }
+{
+    let Some(specialization) = table.specializations.get(row.specialization.0 as usize) else {
+        return Ok(last);
+    };
+    match reached.nodes.get(specialization.node.0) {
+        Some(node) => add_variables(starts, last, &specialization.statics, &node.variables),
+        None => Ok(last),
+    }
+}
+
+impl Layout {
+    ghost use Rattle.std.specs.Prelude.{ℕ, get_or, length};
+    ghost use Rattle.lb_flat.specs.Rows.{variables_before, element_total, row_numbers};
+    ghost use Rattle.lb_flat.specs.Rows.{numbers_between, numbers_at};
+
+    /// Where the elements of the rows of a table stand.
+    ///
+    /// Fails with `Large` where there are more than 65,536.
+    pub(crate) fn new(alloc: Global, reached: &Reached, table: &Table) -> Result<Layout, FlatError>
+        ensures numbers { IfOk result (λ l. (row x : ℕ) →
+            numbers_at l.variables.items l.starts.items row x
+            ≡ row_numbers reached.now table.now row (record { 0 = x })) }
+        ensures variables { IfOk result (λ l. (row : ℕ) →
+            row ≤ length table.now.instances.items →
+            get_or l.variables.items row 0 ≡ variables_before reached.now table.now row) }
+        ensures count { IfOk result (λ l. l.count ≡ element_total reached.now table.now) }
+        ensures few { IfOk result (λ l. l.count ≤ 65536) }
+        ensures large { result ≡ Err FlatError.Large →
+            65536 < element_total reached.now table.now }
+    {
+        let mut variables = Vec::new(alloc);
+        let mut starts = Vec::new(alloc);
+        let mut count = 0;
+        variables.push(0)?;
+        starts.push(0)?;
+        for row in &table.instances {
+            count = add_row(&mut starts, count, reached, table, row)?;
+            variables.push(starts.len() - 1)?;
+        }
+        Ok(Layout {
+            variables,
+            starts,
+            count,
+        })
+    }
+
+    /// How many variables stand before a row.
+    pub(crate) fn first_variable(&self, row: InstanceId) -> usize
+        ensures { result ≡ get_or self.now.variables.items row.0 0 }
+    {
+        self.variables.get(row.0 as usize).copied().unwrap_or(0)
+    }
+
+    /// The elements of a variable of a row.
+    pub(crate) fn elements(&self, row: InstanceId, x: VariableId) -> Range<u32>
+        ensures { numbers_between result.start result.end
+            ≡ numbers_at self.now.variables.items self.now.starts.items row.0 x.0 }
+    {
+        let row = row.0 as usize;
+        let first = self.variables.get(row).copied().unwrap_or(0);
+        let next = self.variables.get(row + 1).copied().unwrap_or(0);
+        if x.0 >= next.saturating_sub(first) {
+            return 0..0;
+        }
+        let variable = first + x.0;
+        let start = self.starts.get(variable).copied().unwrap_or(0);
+        let end = self.starts.get(variable + 1).copied().unwrap_or(0);
+        start..end
+    }
+}
