@@ -17,6 +17,8 @@ mod pool;
 #[cfg(test)]
 mod programs;
 #[cfg(test)]
+mod readings;
+#[cfg(test)]
 mod reports;
 #[cfg(test)]
 mod runs;

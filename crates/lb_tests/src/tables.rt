@@ -12,7 +12,7 @@
 //!
 //! `{2 x@, }` stands for `x0, x1, `, `{3 a}` for `aaa`, and `{1..2 x@ @, }` for `x1 1, x2 2, `.
 
-use crate::{answers, commands, lanes, pool, programs, reports, sources};
+use crate::{answers, commands, lanes, pool, programs, readings, reports, sources};
 use std::alloc::AllocError;
 use std::process::Abort;
 use std::rt::Runtime;
@@ -41,6 +41,8 @@ pub enum Asks<'a> {
     Shares,
     /// A case text, whatever the workers and the batches.
     Spreads,
+    /// A trace text under the signature `x: int, c: bool`.
+    Readings,
     /// A kernel on integers, and its operands.
     Ints,
     /// A kernel on planes, and its operands.
@@ -144,6 +146,7 @@ fn push_answer<R: Runtime + AllocGlobal + Threads + Sync>(
         Asks::Claims => pool::push_claims(rt.alloc(), asked, said),
         Asks::Shares => pool::push_shares(rt.alloc(), asked, said),
         Asks::Spreads => pool::push_spread(rt, asked, said),
+        Asks::Readings => readings::push_answer(rt.alloc(), asked, said),
         Asks::Ints => lanes::push_ints(asked, said),
         Asks::Planes => lanes::push_plane(asked, said),
     }

@@ -9,3 +9,11 @@ pub mod Records
 pub mod Lasts
 pub mod Additions
 pub mod Readings
+pub mod Lines
+pub mod PlainRecords
+pub mod FirstCells
+pub mod SmallNumbers
+pub mod PlainValues
+pub mod CopiedCells
+pub mod PlainRecordings
+pub mod OrderedColumns

@@ -124,7 +124,8 @@ count_row traces row some =
     let was : instants_of traces ≡ instants_of (f.front ++ f.last ∷ []) = ap instants_of f.is in
     omega (arith, length_push f.last.1 row)
 
-count_either : (b : Bool) (traces : Traces) (name : List ℕ) (row : Row) → is_last name traces ≡ b
+pub count_either : (b : Bool) (traces : Traces) (name : List ℕ) (row : Row)
+    → is_last name traces ≡ b
     → instants_of (if b then with_row traces row else with_trace traces name row)
     ≡ instants_of traces + 1
 count_either true traces name row last = count_row traces row (some_last name traces last)

@@ -4,3 +4,7 @@ pub mod Refusals
 pub mod Errors
 pub mod Mirrors
 pub mod Readers
+pub mod Plain
+pub mod Lines
+pub mod Scan
+pub mod PlainRows

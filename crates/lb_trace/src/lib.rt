@@ -2,12 +2,19 @@
 #![tactic(auto)]
 
 mod cells;
+mod copied;
 pub mod error;
 mod header;
+mod plain;
+mod plain_rows;
 mod read;
+mod read_plain;
 mod reader;
 mod record;
 mod recorder;
 mod rows;
+mod scan;
+mod small;
+mod table;
 
 pub use read::read_traces;

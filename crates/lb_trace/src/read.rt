@@ -1,6 +1,6 @@
 //! From the bytes of a trace text to a set of traces.
 
-ghost use Rattle.std.specs.Prelude.{◌≡◌, ◌≤◌, [], Ok, IfOk, IfErr};
+ghost use Rattle.std.specs.Prelude.{◌≡◌, ◌≤◌, [], length, Ok, IfOk, IfErr};
 ghost use Rattle.lb_flat.specs.Traces.{Traces};
 ghost use Rattle.lb_trace.specs.Errors.{IsRefusal, error_number, Refuses};
 ghost use Rattle.lb_trace.specs.Readers.{Reaches};
@@ -9,6 +9,8 @@ ghost use Rattle.lb_trace.specs.Spelling.{Spells};
 
 use crate::error::TraceError;
 use crate::header::columns_of;
+use crate::plain::{is_plain, strip_bom};
+use crate::read_plain::read_plain;
 use crate::reader::{next, reader_of};
 use crate::record::width;
 use crate::recorder::Recorder;
@@ -48,12 +50,20 @@ pub fn read_traces(
     // A refusal is the first one of a text that spells nothing, or a growth was refused.
     ensures refused { IfErr result (Refuses signature.now text.now) }
 {
-    let mut reader = reader_of(alloc, text);
+    if text.len() > MOST_BYTES {
+        return Err(TraceError::Limit { record: None });
+    }
     let mut record = ByteRecord::new(alloc);
+    let body = strip_bom(text);
+    if is_plain(body) {
+        return read_plain(alloc, signature, text, body, &mut record);
+    }
+    let mut reader = reader_of(alloc, text);
     read_records(alloc, signature, text, &mut reader, &mut record)
 }
 
-// The same with a reader that stands before the text, and room for a record.
+// The same of a text that is not too long, with a reader that stands before it, and room for a
+// record.
 fn read_records(
     alloc: Global,
     signature: &Signature,
@@ -61,16 +71,14 @@ fn read_records(
     reader: &mut Reader<&[u8]>,
     record: &mut ByteRecord,
 ) -> Result<TraceSet, TraceError>
-    requires { Reaches text.now [] reader.old }
+    requires short { length text.now ≤ 1073741824 }
+    requires reaches { Reaches text.now [] reader.old }
     ensures signature { IfOk result (λ set. set.signature ≡ signature.now) }
     ensures spelled { IfOk result (λ set. Spells signature.now text.now set.traces) }
     ensures only { IfOk result
         (λ set. (other : Traces) → Spells signature.now text.now other → other ≡ set.traces) }
     ensures refused { IfErr result (Refuses signature.now text.now) }
 {
-    if text.len() > MOST_BYTES {
-        return Err(TraceError::Limit { record: None });
-    }
     if !next(reader, record)? {
         return Err(TraceError::Header);
     }

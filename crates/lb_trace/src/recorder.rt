@@ -2,24 +2,30 @@
 
 ghost use Rattle.std.specs.Prelude.{◌≡◌, ◌<◌, ◌≤◌, ◌+◌, ◌*◌, ◌&&◌, ◌||◌, not, nat_le, nat_lt, true};
 ghost use Rattle.std.specs.Prelude.{false, ℕ, List, [], length, map, Ok, IfOk, IfErr, OnOk};
-ghost use Rattle.std.specs.Prelude.{MatchOption, if◌then◌else◌};
+ghost use Rattle.std.specs.Prelude.{MatchOption, if◌then◌else◌, IsTrue, IfSome, None, Some};
 ghost use Rattle.std.specs.HashSet.{contains_text};
 ghost use Rattle.std.specs.List.{Contains, list_any};
 ghost use Rattle.std.specs.Str.{bytes_eq};
 ghost use Rattle.csv.specs.Records.{fields_of};
 ghost use Rattle.lb_flat.specs.Traces.{IsRecording, IsTraceName, cells_of_instant, instants_of};
-ghost use Rattle.lb_flat.specs.Traces.{last_rows, trace_names};
+ghost use Rattle.lb_flat.specs.Traces.{IsRow, last_rows, trace_names};
 ghost use Rattle.lb_trace.specs.Errors.{IsRefusal, error_number};
 ghost use Rattle.lb_trace.specs.Mirrors.{RowsFollow, go_on_by, knows, record_by, row_by, start_by};
+ghost use Rattle.lb_trace.specs.Lines.{after_line, record_of};
 ghost use Rattle.lb_trace.specs.Mirrors.{start_cells};
+ghost use Rattle.lb_trace.specs.PlainRows.{AreInOrder};
 ghost use Rattle.lb_trace.specs.Refusals.{is_last, is_trace_name as lawful_name, with_cells};
 ghost use Rattle.lb_trace.specs.Refusals.{has_room};
 ghost use Rattle.lb_trace.specs.Spelling.{after_first};
 
+use crate::copied::copy_record;
 use crate::error::TraceError;
 use crate::header::Column;
+use crate::plain_rows::read_line;
 use crate::record::width;
 use crate::rows::read_row;
+use crate::scan::next_cell;
+use crate::table::Table;
 use csv::ByteRecord;
 use lb_flat::traces::{TraceRows, TraceSet, is_trace_name};
 use lb_static::signature::Signature;
@@ -155,6 +161,105 @@ impl Recorder {
         }
     }
 
+    /// Adds the first record of a text without quotes, and gives what stands after it; otherwise as
+    /// `add`. A record of the last trace is read in one pass where the columns stand in the order
+    /// of the signature; `entry` is room for another.
+    pub(crate) fn add_line<'t>(
+        &mut self,
+        alloc: Global,
+        table: &Table,
+        text: &'t [u8],
+        entry: &mut ByteRecord,
+        number: u64,
+    ) -> Result<&'t [u8], TraceError>
+        requires names { knows self.old.names self.old.rows.traces }
+        requires lawful { IsRecording self.old.rows }
+        requires kinds { RowsFollow table.now.columns.items self.old.rows.signature }
+        requires order { IsTrue table.now.in_order
+            → (length table.now.columns.items ≡ table.now.count)
+            × AreInOrder 0 table.now.columns.items }
+        ensures ok { IfOk result (λ rest. record_by self.old.rows.signature table.now.columns.items
+            table.now.count self.old.rows.traces (record_of text.now) ≡ Ok self.new.rows.traces) }
+        ensures after { IfOk result (λ rest. rest.now ≡ after_line text.now) }
+        ensures names { IfOk result (λ rest. knows self.new.names self.new.rows.traces) }
+        ensures signature { IfOk result
+            (λ rest. self.new.rows.signature ≡ self.old.rows.signature) }
+        ensures err { IfErr result (IsRefusal (record_by self.old.rows.signature
+            table.now.columns.items table.now.count self.old.rows.traces (record_of text.now))) }
+    {
+        if table.in_order {
+            if let Some(rest) = self.go_on_line(&table.columns, text, number)? {
+                return Ok(rest);
+            }
+        }
+        let Ok(rest) = copy_record(text, entry) else {
+            return Err(TraceError::Memory(AllocError));
+        };
+        self.add(alloc, &table.columns, table.count, entry, number)?;
+        Ok(rest)
+    }
+
+    // One more instant of the last trace, of columns that stand in order, and what stands after its
+    // record; None where the record is not of the last trace or spells no row.
+    fn go_on_line<'t>(
+        &mut self,
+        table: &[Column],
+        text: &'t [u8],
+        number: u64,
+    ) -> Result<Option<&'t [u8]>, TraceError>
+        requires lawful { IsRecording self.old.rows }
+        requires kinds { RowsFollow table.now self.old.rows.signature }
+        requires order { AreInOrder 0 table.now }
+        ensures ok { IfOk result (λ found. IfSome found (λ rest.
+            record_by self.old.rows.signature table.now (length table.now) self.old.rows.traces
+            (record_of text.now) ≡ Ok self.new.rows.traces)) }
+        ensures after { IfOk result
+            (λ found. IfSome found (λ rest. rest.now ≡ after_line text.now)) }
+        ensures names { self.new.names ≡ self.old.names }
+        ensures known { (q : List ℕ) → IfOk result (λ found. IfSome found (λ rest.
+            list_any (λ t. bytes_eq q t.0) self.new.rows.traces
+            ≡ list_any (λ t. bytes_eq q t.0) self.old.rows.traces)) }
+        ensures rows { IfOk result (λ found. found ≡ None → self.new.rows ≡ self.old.rows) }
+        ensures signature { IfOk result
+            (λ found. self.new.rows.signature ≡ self.old.rows.signature) }
+        ensures err { IfErr result (IsRefusal (record_by self.old.rows.signature table.now
+            (length table.now) self.old.rows.traces (record_of text.now))) }
+    {
+        let name = next_cell(text);
+        if name.is_last || !is_last(self.rows.set(), name.bytes) {
+            return Ok(None);
+        }
+        let Ok(line) = read_line(table, name.rest, &mut self.row) else {
+            return Err(TraceError::Memory(AllocError));
+        };
+        let Some(rest) = line else {
+            return Ok(None);
+        };
+        self.push_row(number)?;
+        Ok(Some(rest))
+    }
+
+    // One more instant of the last trace, whose row was read.
+    fn push_row(&mut self, number: u64) -> Result<(), TraceError>
+        requires started { 0 < length self.old.rows.traces }
+        requires row { IsRow self.old.rows.signature self.old.row.items }
+        ensures ok { OnOk result
+            (go_on_by self.old.rows.signature self.old.rows.traces (Some self.old.row.items)
+            ≡ Ok self.new.rows.traces) }
+        ensures names { self.new.names ≡ self.old.names }
+        ensures signature { OnOk result (self.new.rows.signature ≡ self.old.rows.signature) }
+        ensures err { IfErr result (IsRefusal
+            (go_on_by self.old.rows.signature self.old.rows.traces (Some self.old.row.items))) }
+    {
+        let set = self.rows.set();
+        if !has_instants(set) || !has_cells(set) {
+            return Err(TraceError::Limit {
+                record: Some(number),
+            });
+        }
+        self.rows.push(&self.row).map_err(TraceError::Memory)
+    }
+
     // One more instant of the last trace.
     fn go_on(&mut self, table: &[Column], entry: &ByteRecord, number: u64) -> Result<(), TraceError>
         requires started { 0 < length self.old.rows.traces }
@@ -175,13 +280,7 @@ impl Recorder {
                 column,
             });
         }
-        let set = self.rows.set();
-        if !has_instants(set) || !has_cells(set) {
-            return Err(TraceError::Limit {
-                record: Some(number),
-            });
-        }
-        self.rows.push(&self.row).map_err(TraceError::Memory)
+        self.push_row(number)
     }
 
     // One more trace, where its name is lawful and new.

@@ -6,38 +6,32 @@ use Rattle.lb_flat.specs.Traces.{Recording}
 use Rattle.lb_trace.specs.Mirrors.{RowsFollow}
 use Rattle.lb_trace.specs.Refusals.{outcome}
 use Rattle.lb_trace.specs.Spelling.{after_first}
-use Rattle.lb_trace.proofs.Outcomes.{outcome-long, sound_text}
+use Rattle.lb_trace.proofs.Outcomes.{sound_text}
 use Rattle.lb_trace.proofs.Readings.{added, lawful_rows, no_header, only, other_header}
 use Rattle.lb_trace.proofs.Readings.{progress-end, progress-more, progress-start, refused}
 use Rattle.lb_trace.proofs.Readings.{refused_record, rows_follow}
 use Rattle.lb_trace.proofs.read.read_records.Goals as goal
 
-pub returns-then-text-gt-MOST_BYTES-clause-refused :
-    goal.returns-then-text-gt-MOST_BYTES-clause-refused
-returns-then-text-gt-MOST_BYTES-clause-refused c =
-    refused c.args.signature.now c.args.text.now 18
-    (outcome-long c.args.signature.now c.args.text.now c.if-text-gt-MOST_BYTES.true)
-
 pub returns-then-not-branch-clause-refused : goal.returns-then-not-branch-clause-refused
 returns-then-not-branch-clause-refused c =
     let none = rw c.if-not-branch.true at
-    (c.in_ok-next.ensures.goes c.args.text.now [] c.requires) in
+    (c.in_ok-next.ensures.goes c.args.text.now [] c.requires.reaches) in
     refused c.args.signature.now c.args.text.now 14
-    (no_header c.args.signature.now c.args.text.now c.if-text-gt-MOST_BYTES.false none)
+    (no_header c.args.signature.now c.args.text.now c.requires.short none)
 
 pub returns-in_default-header-clause-refused : goal.returns-in_default-header-clause-refused
 returns-in_default-header-clause-refused c =
     let at = rw c.if-not-branch.false at
-    (c.in_ok-next.ensures.goes c.args.text.now [] c.requires) in
+    (c.in_ok-next.ensures.goes c.args.text.now [] c.requires.reaches) in
     let other = rw c.in_default-header.is at c.in-Ok.ensures in
     refused c.args.signature.now c.args.text.now 14
     (other_header c.args.signature.now c.args.text.now (fields_of c.next.new.entry)
-    c.next.new.reader at c.if-text-gt-MOST_BYTES.false other)
+    c.next.new.reader at c.requires.short other)
 
 pub loop-number-init : goal.loop-number-init
 loop-number-init c =
     let at = rw c.if-not-branch.false at
-    (c.in_ok-next.ensures.goes c.args.text.now [] c.requires) in
+    (c.in_ok-next.ensures.goes c.args.text.now [] c.requires.reaches) in
     record {
       progress = progress-start c.args.signature.now c.args.text.now (fields_of c.next.new.entry)
           c.in-Ok-new.recorder.rows.traces c.next.new.reader at
@@ -57,7 +51,7 @@ returns-then-not-branch-2-clause-spelled c =
     ≡ Ok c.loop-number.recorder.rows.traces =
     progress-end c.args.signature.now c.args.text.now (fields_of c.next.new.entry)
     c.loop-number.recorder.rows.traces c.loop-number.reader c.loop-number.number
-    c.loop-number.invariant.progress c.if-text-gt-MOST_BYTES.false headed.0 all in
+    c.loop-number.invariant.progress c.requires.short headed.0 all in
     sound_text c.args.signature.now c.args.text.now c.into_set.result.traces
     (read ∙ ap (λ (r : Recording). Ok r.traces) (sym c.into_set.ensures))
 
@@ -72,7 +66,7 @@ returns-then-not-branch-2-clause-only c =
     ≡ Ok c.loop-number.recorder.rows.traces =
     progress-end c.args.signature.now c.args.text.now (fields_of c.next.new.entry)
     c.loop-number.recorder.rows.traces c.loop-number.reader c.loop-number.number
-    c.loop-number.invariant.progress c.if-text-gt-MOST_BYTES.false headed.0 all in
+    c.loop-number.invariant.progress c.requires.short headed.0 all in
     only c.args.signature.now c.args.text.now c.into_set.result.traces
     (read ∙ ap (λ (r : Recording). Ok r.traces) (sym c.into_set.ensures))
 
@@ -100,7 +94,7 @@ returns-in_err-add-clause-refused c =
     c.loop-number.number
     (fields_of c.next-in-loop-number.new.entry) c.deref.result.now c.width-columns.result
     c.in_err-add.field-0.0
-    c.loop-number.invariant.progress c.if-text-gt-MOST_BYTES.false headed.0 further
+    c.loop-number.invariant.progress c.requires.short headed.0 further
     c.loop-number.invariant.follows
     (c.deref.ensures.value ∙ headed.1) c.width-columns.ensures c.in_err-add.ensures.err in
     let p = err_from_is_err_and c.from_residual-in_err-add.result

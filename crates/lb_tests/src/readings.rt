@@ -1,0 +1,96 @@
+//! Trace texts: what is read of them, whichever way their records end and their cells are written.
+
+use crate::tables::{Asks, Table, check};
+use lb_flat::traces::TraceSet;
+use lb_static::signature::{Kind, Signature};
+use lb_trace::read_traces;
+use std::alloc::{AllocError, Global};
+
+// The text that a row stands for: `/` is a line feed, `\` a carriage return, `'` the byte `"`, and
+// `^` the byte order mark.
+fn push_text(short: &str, text: &mut String) -> Result<(), AllocError> {
+    for letter in short.chars() {
+        match letter {
+            '/' => text.push('\n')?,
+            '\\' => text.push('\r')?,
+            '\'' => text.push('"')?,
+            '^' => text.push('\u{feff}')?,
+            _ => text.push(letter)?,
+        }
+    }
+    Ok(())
+}
+
+// The names of the traces, each with the cells of its instants.
+fn push_traces(set: &TraceSet, said: &mut String) -> Result<(), AllocError> {
+    for k in 0..set.len() {
+        write!(said, "{}:", set.name(k))?;
+        for t in 0..set.length(k) {
+            said.push_str(" (")?;
+            for cell in set.row(k, t) {
+                write!(said, " {cell}")?;
+            }
+            said.push_str(" )")?;
+        }
+        said.push_str(";")?;
+    }
+    Ok(())
+}
+
+/// What is read of a text whose columns are an integer `x` and a Boolean `c`, or its refusal.
+pub fn push_answer(alloc: Global, asked: &str, said: &mut String) -> Result<(), AllocError> {
+    let mut signature = Signature::new(alloc);
+    signature.push(String::from_str(alloc, "x")?, Kind::Int)?;
+    signature.push(String::from_str(alloc, "c")?, Kind::Bool)?;
+    let mut text = String::new(alloc);
+    push_text(asked, &mut text)?;
+    match &read_traces(alloc, &signature, text.as_str().as_bytes()) {
+        Ok(set) => push_traces(set, said),
+        Err(error) => write!(said, "E{} {error}", error.number()),
+    }
+}
+
+// Records that end in each way, with and without an end of the last; empty lines; a byte order
+// mark; a quote in the first, a middle and the last cell, and in the last byte; columns in another
+// order; numbers of each length; and refusals, of texts with quotes and without.
+const READINGS: &str = "\
+trace,x,c/a,1,0/a,5,1/b,-7,true/ => a: ( 1 0 ) ( 5 1 );b: ( -7 1 );
+trace,x,c/a,1,0/a,5,1/b,-7,true => a: ( 1 0 ) ( 5 1 );b: ( -7 1 );
+trace,x,c\\/a,1,0\\/a,5,1\\/b,-7,true\\/ => a: ( 1 0 ) ( 5 1 );b: ( -7 1 );
+trace,x,c\\a,1,0\\a,5,1\\b,-7,true\\ => a: ( 1 0 ) ( 5 1 );b: ( -7 1 );
+//trace,x,c\\//a,1,0/\\/a,5,1\\\\b,-7,true// => a: ( 1 0 ) ( 5 1 );b: ( -7 1 );
+^trace,x,c/a,1,0/a,5,1/b,-7,true/ => a: ( 1 0 ) ( 5 1 );b: ( -7 1 );
+'trace',x,c/a,1,0/a,5,1/b,-7,true/ => a: ( 1 0 ) ( 5 1 );b: ( -7 1 );
+trace,x,c/a,1,0/a,'5',1/b,-7,true/ => a: ( 1 0 ) ( 5 1 );b: ( -7 1 );
+trace,x,c/a,1,0/a,5,1/b,-7,'true' => a: ( 1 0 ) ( 5 1 );b: ( -7 1 );
+trace,x,c\\/'a',1,0\\/'a',5,1/'b',-7,'true'/ => a: ( 1 0 ) ( 5 1 );b: ( -7 1 );
+trace,c,x/a,0,1/a,1,5/b,true,-7/ => a: ( 1 0 ) ( 5 1 );b: ( -7 1 );
+^trace,c,x\\a,0,1\\a,1,'5'\\b,true,-7\\ => a: ( 1 0 ) ( 5 1 );b: ( -7 1 );
+trace,x,c => 
+^'trace',x,c/ => 
+trace,x,c/a,7,0/a,42,1/a,-100,0 => a: ( 7 0 ) ( 42 1 ) ( -100 0 );
+trace,x,c/a,0,0/a,007,1/a,1000,0 => a: ( 0 0 ) ( 7 1 ) ( 1000 0 );
+trace,x,c/a,1,0/a,999999999,1/a,-999999999,0 => a: ( 1 0 ) ( 999999999 1 ) ( -999999999 0 );
+trace,x,c/a,1,0/a,2147483647,1/a,-2147483648,0 => a: ( 1 0 ) ( 2147483647 1 ) ( -2147483648 0 );
+trace,x,c/a,1,0/a,00000000000000000012,false/a,-0,true => a: ( 1 0 ) ( 12 0 ) ( 0 1 );
+ => E14 the first record is not `trace` and the name of each scalar input
+/\\/ => E14 the first record is not `trace` and the name of each scalar input
+trace,x/a,1 => E14 the first record is not `trace` and the name of each scalar input
+trace,x,c/a,1,0/a,1/ => E15 record 2 has 1 cells, and the header 2
+trace,x,c/a,1,0/a,1,0,0/ => E15 record 2 has 3 cells, and the header 2
+trace,x,c/a,1,0/a,'1'/ => E15 record 2 has 1 cells, and the header 2
+trace,x,c/a,1,0/a,2147483648,0/ => E16 the cell of record 2 in column 0 is no value of it
+trace,x,c/a,1,0/a,-2147483649,0/ => E16 the cell of record 2 in column 0 is no value of it
+trace,x,c/a,1,0/a,1,2/ => E16 the cell of record 2 in column 1 is no value of it
+trace,x,c/a,1,0/a,1,'2'/ => E16 the cell of record 2 in column 1 is no value of it
+trace,x,c/a,1,0/a,,0/ => E16 the cell of record 2 in column 0 is no value of it
+trace,x,c/a,1,0/a,-,0/ => E16 the cell of record 2 in column 0 is no value of it
+trace,x,c/a,1,0/a,1 ,0/ => E16 the cell of record 2 in column 0 is no value of it
+trace,x,c/a,1,0/b,1,0/a,x,0/ => E17 the trace name of record 3 is ill-formed or comes back
+trace,x,c/a,1,0/'b',1,0/a,x,0/ => E17 the trace name of record 3 is ill-formed or comes back
+trace,x,c/,1,0/ => E17 the trace name of record 1 is ill-formed or comes back";
+
+#[test]
+fn readings(rt: HostRuntime) -> Result<(), AllocError> {
+    check(&rt, &Table::of_lines(Asks::Readings, READINGS))
+}

@@ -1,0 +1,56 @@
+use Rattle.std.proofs.Common.{◌+◌, ◌∙◌, ap, sym, refl, drop, arith, rules, Some}
+use Rattle.lb_trace.specs.Lines.{record_of}
+use Rattle.lb_trace.specs.PlainRows.{onto, plain_row}
+use Rattle.lb_trace.proofs.PlainValues.{after-last, after-more, pushed-value, row-full, row-long}
+use Rattle.lb_trace.proofs.PlainValues.{row-more, row-none, row-short}
+use Rattle.lb_trace.proofs.plain_rows.other_row.Goals as goal
+
+pub loop-i-preserved : goal.loop-i-preserved
+loop-i-preserved c =
+    let cell = c.in-Some.cell in
+    let columns = c.args.columns.now in
+    let i = c.loop-i.i in
+    record {
+      cells = c.loop-i.invariant.cells
+          ∙ row-more columns i _ _ c.loop-i.rest.now cell.rest.now cell.value c.loop-i.row.items
+          cell.is_last c.loop-i-test.true refl c.in-Some.ensures c.if-cell.false
+          ∙ ap (λ r. onto r (plain_row (drop (i + 1) columns) (record_of cell.rest.now)))
+          (sym (pushed-value _ c.loop-i.row.items c.in-Some.cell.value (search rules)
+          c.in_ok-push.ensures.items));
+      after = c.loop-i.invariant.after
+          ∙ after-more _ c.loop-i.rest.now cell.rest.now cell.value cell.is_last c.in-Some.ensures
+          c.if-cell.false;
+    }
+
+pub returns-then-i-columns : goal.returns-then-i-columns
+returns-then-i-columns c =
+    let cell = c.in-Some.cell in
+    c.loop-i.invariant.cells
+    ∙ row-short c.args.columns.now c.loop-i.i _ _ c.loop-i.rest.now cell.rest.now cell.value
+    c.loop-i.row.items cell.is_last c.loop-i-test.true refl c.in-Some.ensures c.if-cell.true
+    (omega arith)
+
+pub returns-then-cell : goal.returns-then-cell
+returns-then-cell c =
+    let cell = c.in-Some.cell in (
+      c.loop-i.invariant.cells
+          ∙ row-full c.args.columns.now c.loop-i.i _ _ c.loop-i.rest.now cell.rest.now cell.value
+          c.loop-i.row.items cell.is_last c.loop-i-test.true refl c.in-Some.ensures c.if-cell.true
+          (omega arith)
+          ∙ ap Some (sym (pushed-value _ c.loop-i.row.items c.in-Some.cell.value (search rules)
+          c.in_ok-push.ensures.items)),
+      after-last _ c.loop-i.rest.now cell.rest.now cell.value cell.is_last c.in-Some.ensures
+          c.if-cell.true ∙ sym c.loop-i.invariant.after,
+    )
+
+pub returns : goal.returns
+returns c =
+    c.loop-i.invariant.cells
+    ∙ row-long c.args.columns.now c.loop-i.i c.loop-i.rest.now c.loop-i.row.items
+    c.loop-i-test.false
+
+pub returns-in_default : goal.returns-in_default
+returns-in_default c =
+    c.loop-i.invariant.cells
+    ∙ row-none c.args.columns.now c.loop-i.i _ _ c.loop-i.rest.now c.loop-i.row.items
+    c.loop-i-test.true refl c.in_default.ensures

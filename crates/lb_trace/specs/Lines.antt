@@ -1,0 +1,17 @@
+-- The record at the front of a text, and what comes after it.
+use Rattle.std.specs.Prelude.{ℕ, if◌then◌else◌, List, [], ◌∷◌}
+use Rattle.lb_trace.specs.Plain.{ends_line, is_comma, split_at}
+
+-- the bytes before the end of the first line
+unfoldable pub line_of : List ℕ → List ℕ
+line_of [] = []
+line_of (b ∷ rest) = if ends_line b then [] else b ∷ line_of rest
+
+-- the bytes after the end of the first line
+unfoldable pub after_line : List ℕ → List ℕ
+after_line [] = []
+after_line (b ∷ rest) = if ends_line b then rest else after_line rest
+
+-- the cells of the first line
+abbrev pub record_of : List ℕ → List (List ℕ)
+record_of text = split_at is_comma (line_of text)

@@ -1,0 +1,54 @@
+-- The row that the cells of a record without quotes spell, where the columns stand in the order of
+-- the signature.
+use Rattle.std.specs.Prelude.{ℕ, suc, ◌≡◌, Bool, true, false, ◌+◌, ◌*◌, ◌-◌, List, [], ◌∷◌, ◌++◌}
+use Rattle.std.specs.Prelude.{Option, Some, None, ℤ, ◌<◌}
+use Rattle.std.specs.Option.{option_and_then, option_map}
+use Rattle.lb_syntax.specs.declared.tree.Kind.{Kind}
+use Rattle.lb_trace.specs.declared.header.Column.{Column}
+use Rattle.lb_trace.specs.Cells.{cell_value, natural_of}
+use Rattle.lb_trace.specs.Scan.{after_cell, cell_of, is_last_cell}
+use Rattle.lb_trace.specs.Spelling.{Record}
+
+-- the row that the cells spell, one for each column; None where one spells nothing, or their number
+-- is another
+unfoldable pub plain_row : List Column → Record → Option (List ℤ)
+plain_row [] [] = Some []
+plain_row [] (cell ∷ cells) = None
+plain_row (column ∷ columns) [] = None
+plain_row (column ∷ columns) (cell ∷ cells) =
+    option_and_then (λ v. option_map (λ row. v ∷ row) (plain_row columns cells))
+    (cell_value column.kind cell)
+
+-- each column stands where its place in this list is, counted from a number on
+abbrev pub AreInOrder : ℕ → List Column → Type 0
+AreInOrder n [] = Unit {0}
+AreInOrder n (column ∷ columns) = (column.at ≡ n) × AreInOrder (suc n) columns
+
+-- a row after some values that stand already
+abbrev pub onto : List ℤ → Option (List ℤ) → Option (List ℤ)
+onto row more = option_map (λ values. row ++ values) more
+
+-- a text begins with a cell that spells a value; what stands after it, and whether it is the last
+abbrev pub BeginsWith : Kind → List ℕ → ℤ → List ℕ → Bool → Type 0
+BeginsWith kind text value rest is_last =
+    (cell_value kind (cell_of text) ≡ Some value) × (rest ≡ after_cell text)
+    × (is_last ≡ is_last_cell text)
+
+-- the same for a number without a sign, of at most nine digits
+abbrev pub BeginsWithNumber : List ℕ → ℕ → List ℕ → Bool → Type 0
+BeginsWithNumber text n rest is_last =
+    (natural_of (cell_of text) ≡ Some n) × (n < 1000000000) × (rest ≡ after_cell text)
+    × (is_last ≡ is_last_cell text)
+
+-- how many digits stand at the front of three bytes of which the first is one, by whether the
+-- second and the third are
+abbrev pub count_of : Bool → Bool → ℕ
+count_of false three = 1
+count_of true false = 2
+count_of true true = 3
+
+-- the number that those digits spell
+abbrev pub value_of : Bool → Bool → ℕ → ℕ → ℕ → ℕ
+value_of false three a b c = a - 48
+value_of true false a b c = (a - 48) * 10 + (b - 48)
+value_of true true a b c = ((a - 48) * 10 + (b - 48)) * 10 + (c - 48)
