@@ -1,5 +1,5 @@
 -- What the rules of an accepted program say of each of its instances.
-use Rattle.std.proofs.Common.{◌≡◌, ℕ, suc, Bool, true, Option, Some, None, List, [], ◌∷◌}
+use Rattle.std.proofs.Common.{◌≡◌, ℕ, suc, Bool, true, None, List, [], ◌∷◌}
 use Rattle.std.specs.List.{list_all}
 use Rattle.lb_syntax.specs.Lists.{Every, In}
 use Rattle.lb_syntax.specs.Refusals.{E5, E6, E9, E10, E11, E12, unless}
@@ -7,12 +7,13 @@ use Rattle.lb_static.specs.Instances.{Program, Instance, instances}
 use Rattle.lb_static.specs.Instantiation.{static_refusal, has_values, is_in_range, may_enter}
 use Rattle.lb_static.specs.Instantiation.{instance_refusal, instantiation_refusal}
 use Rattle.lb_check.specs.Acceptance.{check_refusal}
-use Rattle.lb_check.specs.ClockRules.{is_clocked}
+use Rattle.lb_check.specs.ClockRules.{is_clocked, are_declared_clocks}
 use Rattle.lb_check.specs.DefinitionRules.{is_defined}
 use Rattle.lb_check.specs.TypeRules.{is_typed}
 use Rattle.lb_check.proofs.ApartLists.{Every-at}
 use Rattle.lb_check.proofs.Checks.{first_none, second_none, kept, instantiation_kept}
-use Rattle.lb_check.proofs.Every.{Every-tested}
+use Rattle.lb_check.proofs.Every.{Every-map, Every-tested}
+use Rattle.lb_check.proofs.TruthValues.{and_first}
 
 -- the static values of an instance are there, and are in range
 pub record IsValued (P : Program) (here : Instance) : Type 0 where
@@ -61,6 +62,13 @@ module _ (P : Program) (checked : check_refusal P ≡ None) where
       let later = second_none (unless (list_all (is_typed P) (instances P)) E9) _ checked in
       Every-tested clocks (instances P)
       (kept (list_all clocks (instances P)) E10 (first_none _ _ later))
+
+  -- so that it has declared clocks
+  pub all_declared : Every (λ here. are_declared_clocks here.node ≡ true) (instances P)
+  all_declared =
+      Every-map (λ here. is_clocked P here.node ≡ true)
+      (λ here. are_declared_clocks here.node ≡ true)
+      (λ here e. and_first (are_declared_clocks here.node) _ e) (instances P) all_clocked
 
   -- and those of definitions
   pub all_defined : Every (λ here. is_defined P here.node ≡ true) (instances P)

@@ -1,6 +1,6 @@
 -- What the code reads of a specialization is what the definitions say of its instances.
-use Rattle.std.proofs.Common.{◌≡◌, suc, true, List, [], ◌∷◌, length, map, Option, Some, None, refl}
-use Rattle.std.proofs.Common.{ap, sym, ◌∙◌, subst}
+use Rattle.std.proofs.Common.{◌≡◌, suc, ℤ, true, List, [], ◌∷◌, length, map, Option, Some, None}
+use Rattle.std.proofs.Common.{refl, ap, sym, ◌∙◌, subst}
 use Rattle.std.specs.Prelude.{option_map, slice_get, nat_lt}
 use Rattle.std.proofs.lemmas.Option.{slice_get-map}
 use Rattle.lb_syntax.specs.Lists.{◌>>=◌, either_or}
@@ -14,8 +14,8 @@ use Rattle.lb_static.specs.declared.resolved.VariableId.{VariableId}
 use Rattle.lb_static.specs.declared.table.Specialization.{Specialization}
 use Rattle.lb_static.specs.declared.table.Table.{Table}
 use Rattle.lb_static.specs.InstanceTable.{instance_of}
-use Rattle.lb_static.specs.Instances.{Program, Instance, Path, Site, static_value, static_count}
-use Rattle.lb_static.specs.Instances.{node_sites}
+use Rattle.lb_static.specs.Instances.{Program, Instance, Path, Site, name_value, static_value}
+use Rattle.lb_static.specs.Instances.{static_count, node_sites}
 use Rattle.lb_static.specs.Names.{are_distinct}
 use Rattle.lb_static.specs.Parts.{variable_names}
 use Rattle.lb_static.specs.ReachedNodes.{source_names}
@@ -24,12 +24,13 @@ use Rattle.lb_static.specs.ResolvedTerms.{static_of, static_at, name_at, site_at
 use Rattle.lb_static.specs.ResolvedTerms.{named_value, is_variable, is_static, is_call}
 use Rattle.lb_static.specs.ResolvedTerms.{is_no_variable, are_statics, is_count_within}
 use Rattle.lb_static.specs.ResolvedTerms.{is_site_within}
-use Rattle.lb_static.specs.DataTypes.{DataType, int, variables, variable_type}
+use Rattle.lb_static.specs.DataTypes.{DataType, variables, variable_type}
 use Rattle.lb_static.specs.StaticValues.{named}
-use Rattle.lb_check.specs.Types.{data_types, name_data_type, singly}
+use Rattle.lb_check.specs.Types.{constant_type, data_types, name_data_type, singly}
 use Rattle.lb_check.specs.TypeRules.{type_of_name}
-use Rattle.lb_check.specs.TermTypes.{count_at, declared_type, variable_at, repeats_of, repeats_at}
-use Rattle.lb_check.proofs.FittedTypes.{count_is, declared_is, declared_at, unfound}
+use Rattle.lb_check.specs.TermTypes.{constant_at, count_at, declared_type, variable_at, repeats_of}
+use Rattle.lb_check.specs.TermTypes.{repeats_at}
+use Rattle.lb_check.proofs.FittedTypes.{value_at, count_is, declared_is, declared_at, unfound}
 use Rattle.lb_check.proofs.TableRows.{all_at}
 use Rattle.lb_check.proofs.DistinctNames.{held_at}
 use Rattle.lb_check.proofs.TruthValues.{and_second, not_true}
@@ -73,7 +74,8 @@ module _ (P : Program) (r : Reached) (t : Table) (s : Specialization) (n : Resol
   pub variable_is : (x : VariableId) → is_variable (counts_of n) x ≡ true →
       name_data_type P here (name_at names x) ≡ variable_at n s x
   variable_is x w =
-      let f = found x w in ap (λ o. either_or o (Some int)) f.1 ∙ sym f.2
+      let f = found x w in
+      ap (λ o. either_or o (constant_type (name_value P here (name_at names x)))) f.1 ∙ sym f.2
 
   pub left_is : (x : VariableId) → is_variable (counts_of n) x ≡ true →
       type_of_name P here (name_at names x) ≡ variable_at n s x
@@ -87,27 +89,46 @@ module _ (P : Program) (r : Reached) (t : Table) (s : Specialization) (n : Resol
       by None data_type e = absurd cc
       by (Some d) data_type e = cc
 
-  pub value_is : (i : StaticId) → is_no_variable names (static_at (statics_of n) i) ≡ true
-      → data_types P here (named_value (static_at (statics_of n) i)) ≡ Some (int ∷ [])
-  value_is i u = by (static_at (statics_of n) i) u
+  -- the static expression with a number
+  static_held : (i : StaticId) → is_static (counts_of n) i ≡ true →
+      (st : Static) × (slice_get (statics_of n) i.0 ≡ Some st)
+  static_held i w =
+      let part = held_at n.statics.items i.0 w in (
+        static_of part.0.text,
+        slice_get-map (λ q. static_of q.text) n.statics.items i.0
+            ∙ ap (option_map (λ q. static_of q.text)) part.1,
+      )
+
+  pub value_is : (i : StaticId) → is_static (counts_of n) i ≡ true
+      → is_no_variable names (static_at (statics_of n) i) ≡ true
+      → data_types P here (named_value (static_at (statics_of n) i))
+      ≡ singly (constant_at s.statics.items i)
+  value_is i w u =
+      let h = static_held i w in
+      let same = ap (λ o. either_or o (Whole 0)) h.1 in
+      ap (λ st. data_types P here (named_value st)) same
+      ∙ by h.0 (slice_get s.statics.items i.0)
+      (subst (λ st. is_no_variable names st ≡ true) same u)
+      (value_at P here (statics_of n) s.statics.items valued i h.0 h.1)
     where
-      by : (st : Static) → is_no_variable names st ≡ true →
-          data_types P here (named_value st) ≡ Some (int ∷ [])
-      by (Named x) u = ap (λ o. singly (either_or (option_map (variable_type P here) o) (Some int)))
+      by : (st : Static) (v : Option ℤ) → is_no_variable names st ≡ true →
+          static_value P here st ≡ v →
+          data_types P here (named_value st) ≡ singly (constant_type v)
+      by (Named x) v u e =
+          ap (λ o. singly (either_or (option_map (variable_type P here) o)
+          (constant_type (name_value P here x))))
           (unfound x (variables (node_of n)) (not_true _ u))
-      by (Whole m) u = refl
-      by (Negated st) u = refl
-      by (Combined op st su) u = refl
-      by (Grouped st) u = refl
+          ∙ ap (λ o. singly (constant_type o)) e
+      by (Whole m) v u e = absurd cc
+      by (Negated st) v u e = absurd cc
+      by (Combined op st su) v u e = absurd cc
+      by (Grouped st) v u e = absurd cc
 
   pub static_is : (i : StaticId) → is_static (counts_of n) i ≡ true →
       static_count P here (static_at (statics_of n) i) ≡ count_at s.statics.items i
   static_is i w =
-      let part = held_at n.statics.items i.0 w in
-      let at : slice_get (statics_of n) i.0 ≡ Some (static_of part.0.text) =
-      slice_get-map (λ q. static_of q.text) n.statics.items i.0
-      ∙ ap (option_map (λ q. static_of q.text)) part.1 in
-      count_is P here (statics_of n) s.statics.items valued i (static_of part.0.text) at
+      let h = static_held i w in
+      count_is P here (statics_of n) s.statics.items valued i h.0 h.1
 
   pub call_at : (c : CallId) → is_call (counts_of n) c ≡ true
       → (site : CallSite) × (slice_get n.calls.items c.0 ≡ Some site)

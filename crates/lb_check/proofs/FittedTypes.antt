@@ -70,21 +70,26 @@ type_with k ns = record { kind = k; sizes = ns }
 
 module _ (P : Program) (here : Instance) (statics : List Static) (values : List ℤ)
     (valued : map Some values ≡ map (static_value P here) statics) where
-  one_count : (o : Option ℤ) (v : Option ℤ) → option_map Some o ≡ Some v →
-      (v >>= natural) ≡ (o >>= natural)
-  one_count None v e = absurd cc
-  one_count (Some z) v e = let same : Some z ≡ v = cc in ap (λ o. o >>= natural) (sym same)
+  one_value : (o : Option ℤ) (v : Option ℤ) → option_map Some o ≡ Some v → v ≡ o
+  one_value None v e = absurd cc
+  one_value (Some z) v e = let same : Some z ≡ v = cc in sym same
+
+  -- the value that stands at a place
+  pub value_at : (i : StaticId) (s : Static) → slice_get statics i.0 ≡ Some s →
+      static_value P here s ≡ slice_get values i.0
+  value_at i s at =
+      one_value (slice_get values i.0) (static_value P here s)
+      (sym (slice_get-map Some values i.0)
+      ∙ ap (λ (xs : List (Option ℤ)). slice_get xs i.0) valued
+      ∙ slice_get-map (static_value P here) statics i.0
+      ∙ ap (option_map (static_value P here)) at)
 
   -- a size or an index that stands at a place
   pub count_is : (i : StaticId) (s : Static) → slice_get statics i.0 ≡ Some s →
       static_count P here (static_at statics i) ≡ count_at values i
   count_is i s at =
-      let both : option_map Some (slice_get values i.0) ≡ Some (static_value P here s) =
-      sym (slice_get-map Some values i.0) ∙ ap (λ (xs : List (Option ℤ)). slice_get xs i.0) valued
-      ∙ slice_get-map (static_value P here) statics i.0
-      ∙ ap (option_map (static_value P here)) at in
       ap (λ o. static_count P here (either_or o (Whole 0))) at
-      ∙ one_count (slice_get values i.0) (static_value P here s) both
+      ∙ ap (λ o. o >>= natural) (value_at i s at)
 
   counts : (ss : List Static) (vs : List ℤ) → map Some vs ≡ map (static_value P here) ss →
       map (static_count P here) ss ≡ map natural vs

@@ -20,8 +20,10 @@ use Rattle.lb_static.specs.declared.table.Table.{Table}
 use Rattle.lb_check.specs.Acceptance.{check_refusal}
 use Rattle.lb_check.specs.ClockRules.{is_clocked}
 use Rattle.lb_check.specs.FoundTerms.{HasTermClocks, HasFoundCalls, HasFoundClocks}
+use Rattle.lb_check.specs.FoundTerms.{is_call_within}
 use Rattle.lb_check.specs.JudgedPrograms.{IsJudged}
 use Rattle.lb_check.specs.Occurrences.{node_occurrences}
+use Rattle.lb_check.specs.OwnClocks.{is_clock_within}
 use Rattle.lb_check.specs.PlacedClocks.{call_in, found_in, node_terms, nothing_found, with_terms}
 use Rattle.lb_check.specs.TypeRules.{is_typed}
 use Rattle.lb_check.specs.declared.found_clocks.NodeClocks.{NodeClocks}
@@ -30,9 +32,11 @@ use Rattle.lb_check.proofs.Checks.{first_none, second_none, kept, judged}
 use Rattle.lb_check.proofs.CountedCalls.{calls_in, counted_from, node_counted}
 use Rattle.lb_check.proofs.EquationClockSets.{equation_stands}
 use Rattle.lb_check.proofs.ListPairs.{get_mapped, mapped_from}
+use Rattle.lb_check.proofs.NodeClocks.{resolved_at}
 use Rattle.lb_check.proofs.NodePlaces.{all_at}
 use Rattle.lb_check.proofs.PlacedNodes.{node_placed}
 use Rattle.lb_check.proofs.PlacedRows.{all_found}
+use Rattle.lb_check.proofs.PlacedWithin.{node_within}
 use Rattle.lb_check.proofs.SingleCalls.{single_statements}
 use Rattle.lb_check.proofs.Specializations.{all_specializations}
 use Rattle.lb_check.proofs.StatementClockSets.{node_clocked}
@@ -78,6 +82,8 @@ module _ (P : Program) (r : Reached) (t : Table) (j : IsJudged P r t)
       × (slice_get found s.node.0 ≡ Some f)
       × HasTermClocks P n f.terms.items
       × HasFoundCalls P n (map call_in f.calls.items)
+      × (list_all (is_clock_within n) f.terms.items ≡ true)
+      × (list_all (is_call_within n) (map call_in f.calls.items) ≡ true)
   of_node i s n at there =
       let known =
       clocked_node P r t j
@@ -91,11 +97,16 @@ module _ (P : Program) (r : Reached) (t : Table) (j : IsJudged P r t)
       (ap (λ l. slice_get l s.node.0) is ∙ get_mapped of r.nodes.items s.node.0 n there) in
       let same = f.2 ∙ all_found nothing_found (node_terms r n) in
       let placed = node_placed P r n known.sees known.unhidden known.single known.kept
-      (counted i s n at there) in (
+      (counted i s n at there) in
+      let resolved = resolved_at P r known.sees.names known.sees.reached known.sees.place n
+      known.sees.at in
+      let within = node_within r n resolved.declared_within resolved.body_within in (
         f.0,
         f.1,
         subst (HasTermClocks P n) (sym (ap (λ g. g.terms) same)) placed.0,
         subst (HasFoundCalls P n) (sym (ap (λ g. g.calls) same)) placed.1,
+        ap (λ g. list_all (is_clock_within n) g.terms) same ∙ within.0,
+        ap (λ g. list_all (is_call_within n) g.calls) same ∙ within.1,
       )
 
   pub found_clocks : HasFoundClocks P r t found

@@ -1,23 +1,36 @@
 -- The types that the code finds of the terms of a specialization are those of the expressions of
 -- each of its instances.
-use Rattle.std.proofs.Common.{◌≡◌, ℕ, true, List, map, flat_map, Some, ap, sym, ◌∙◌}
-use Rattle.std.specs.Prelude.{slice_get}
+use Rattle.std.proofs.Common.{◌≡◌, ◌≤◌, ℕ, true, Option, Some, None, List, Vec, Global, map}
+use Rattle.std.proofs.Common.{flat_map, ap, sym, ◌∙◌, subst}
+use Rattle.std.specs.Prelude.{slice_get, sum_by}
+use Rattle.lb_syntax.specs.Lists.{listed}
 use Rattle.lb_static.specs.DataTypes.{DataType}
-use Rattle.lb_static.specs.InstanceTable.{instance_of}
-use Rattle.lb_static.specs.Instances.{Program, Path}
+use Rattle.lb_static.specs.Elaborated.{elaborated_program, IsLawful}
+use Rattle.lb_static.specs.InstanceTable.{IsTable, instance_of, specialized_at}
+use Rattle.lb_static.specs.Instances.{Program, Instance, Path}
 use Rattle.lb_static.specs.Parts.{node_parts, parts, right_side}
-use Rattle.lb_static.specs.ReachedNodes.{source_names}
+use Rattle.lb_static.specs.ReachedNodes.{IsReached, source_names}
 use Rattle.lb_static.specs.ResolvedNodes.{IsResolved, counts_of, node_of, texts_of}
+use Rattle.lb_static.specs.declared.elab.Elaboration.{Elaboration}
 use Rattle.lb_static.specs.declared.reach.Reached.{Reached}
 use Rattle.lb_static.specs.declared.resolved.ResolvedNode.{ResolvedNode}
 use Rattle.lb_static.specs.declared.table.Specialization.{Specialization}
 use Rattle.lb_static.specs.declared.table.Table.{Table}
+use Rattle.lb_check.specs.FoundTerms.{HasFoundTypes, HasTypes}
 use Rattle.lb_check.specs.JudgedPrograms.{IsJudged}
-use Rattle.lb_check.specs.PlacedTypes.{node_types}
+use Rattle.lb_check.specs.PlacedTypes.{AreFound, FoundTypes, found_in, found_of, node_types}
+use Rattle.lb_check.specs.PlacedTypes.{nothing_found, size_of, specialization_types, with_terms}
 use Rattle.lb_check.specs.TermTypes.{context_of}
-use Rattle.lb_check.specs.TypeRules.{is_typed}
+use Rattle.lb_check.specs.TypeRules.{expression_size, is_typed}
 use Rattle.lb_check.specs.Types.{data_types}
+use Rattle.lb_check.specs.declared.found_types.NodeTypes.{NodeTypes}
+use Rattle.lb_check.proofs.Checks.{judged}
+use Rattle.lb_check.proofs.FittedCalls.{node_at, specialized_instance}
+use Rattle.lb_check.proofs.KeptTypes.{size_within, types_kept}
+use Rattle.lb_check.proofs.ListPairs.{get_mapped, mapped_from}
+use Rattle.lb_check.proofs.OperandTypes.{some_same}
 use Rattle.lb_check.proofs.PlacedTypes.{statements_typed}
+use Rattle.lb_check.proofs.SpecializationSizes.{too_large}
 use Rattle.lb_check.proofs.TypedParts.{node_parts_typed}
 use Rattle.lb_check.proofs.TypedSpecializations.{fits}
 
@@ -42,3 +55,73 @@ module _ (P : Program) (r : Reached) (t : Table) (j : IsJudged P r t) (i : ℕ) 
   types_found typed =
       let all = node_parts_typed P (instance_of p (node_of n) s.values.items) typed in
       (all.rows, types_are ∙ all.are, all.are)
+
+-- ## What is kept of each specialization
+
+module _ (P : Program) (r : Reached) (t : Table) (j : IsJudged P r t) where
+  -- it is what is kept of the types of the expressions of an instance at any path
+  of_specialization :
+      (i : ℕ) (s : Specialization) → slice_get t.specializations.items i ≡ Some s →
+      (n : ResolvedNode) → slice_get r.nodes.items s.node.0 ≡ Some n → (p : Path) →
+      specialization_types r t s
+      ≡ map (data_types P (instance_of p (node_of n) s.values.items)) (node_parts (node_of n))
+  of_specialization i s is n at p =
+      let known = node_at P r t j.reached j.table s (j.table.specialized i s is).0 in
+      let same = some_same known.0 n (sym known.1 ∙ at) in
+      ap (listed (λ (m : ResolvedNode). node_types (context_of r t m s) m)) at
+      ∙ types_are P r t j i s is n at (subst (IsResolved (source_names P)) same known.2) p
+
+  size_fits :
+      (i : ℕ) (s : Specialization) → slice_get t.specializations.items i ≡ Some s →
+      (p : Path) (here : Instance) → specialized_at r p s ≡ Some here →
+      size_of (found_of r t s) ≤ sum_by (expression_size P here) (node_parts here.node)
+  size_fits i s is p here e =
+      let known = node_at P r t j.reached j.table s (j.table.specialized i s is).0 in
+      let own = instance_of p (node_of known.0) s.values.items in
+      let same = some_same own here
+      (sym (specialized_instance P r t j.reached j.table s known.0 p known.1) ∙ e) in
+      subst (λ (c : Instance).
+      size_of (found_of r t s) ≤ sum_by (expression_size P c) (node_parts c.node)) same
+      (subst (λ (os : List FoundTypes).
+      size_of (with_terms nothing_found os) ≤ sum_by (expression_size P own) (node_parts own.node))
+      (sym (of_specialization i s is known.0 known.1 p))
+      (size_within P own (node_parts own.node)))
+
+  -- what is found of all specializations are the types of the expressions of their instances
+  pub types_here : (found : Option (Vec NodeTypes Global)) → AreFound r t found →
+      HasFoundTypes P r t found
+  types_here None over =
+      too_large P r t (λ (s : Specialization). size_of (found_of r t s)) size_fits j.table over
+  types_here (Some found) is = λ i s n there at.
+      let f = mapped_from found_in found.items i (found_of r t s)
+      (ap (λ l. slice_get l i) is
+      ∙ get_mapped (found_of r t) t.specializations.items i s there) in (
+        f.0,
+        f.1,
+        (λ p. types_kept P (instance_of p (node_of n) s.values.items) f.0
+            (f.2 ∙ ap (with_terms nothing_found) (of_specialization i s there n at p))),
+      )
+
+-- what is lent of a specialization is what is found of each instance that it is
+pub types_lent :
+    (P : Program) (r : Reached) (t : Table) → IsReached P r → IsTable P r t →
+    (found : Vec NodeTypes Global) → HasFoundTypes P r t (Some found) →
+    (i : ℕ) (s : Specialization) → slice_get t.specializations.items i ≡ Some s →
+    (p : Path) (here : Instance) → specialized_at r p s ≡ Some here →
+    (f : NodeTypes) × (slice_get found.items i ≡ Some f) × HasTypes P here f
+types_lent P r t reached table found has i s there p here e =
+    let known = node_at P r t reached table s (table.specialized i s there).0 in
+    let own = instance_of p (node_of known.0) s.values.items in
+    let same = some_same own here
+    (sym (specialized_instance P r t reached table s known.0 p known.1) ∙ e) in
+    let f = has i s known.0 there known.1 in
+    (f.0, f.1, subst (λ (c : Instance). HasTypes P c f.0) same (f.2 p))
+
+-- what is found of an elaborated program
+pub types_found_here :
+    (e : Elaboration) (r : Reached) (t : Table) (found : Option (Vec NodeTypes Global)) →
+    IsLawful e → r ≡ e.reached → t ≡ e.table → AreFound r t found →
+    HasFoundTypes (elaborated_program e) e.reached e.table found
+types_found_here e r t found is same rows kept =
+    types_here (elaborated_program e) e.reached e.table (judged (elaborated_program e) e is) found
+    (subst (λ r. AreFound r e.table found) same (subst (λ t. AreFound r t found) rows kept))

@@ -10,11 +10,12 @@ use Rattle.lb_static.specs.Instances.{numbered_sites, instance_count, callee_of,
 use Rattle.lb_static.specs.Instances.{site_instances, children, instances_from, instances}
 use Rattle.lb_check.specs.Occurrences.{Occurrence, node_occurrences}
 use Rattle.lb_check.specs.TypeRules.{is_typed}
+use Rattle.lb_check.proofs.ApartLists.{Every-from}
 use Rattle.lb_check.proofs.Every.{Every-map, Every-both, Every-append, Every-first, Every-second}
 use Rattle.lb_check.proofs.Every.{Every-piece, Every-of_pieces, Every-found, Every-of_range}
 use Rattle.lb_check.proofs.NamedClocks.{if_some}
 use Rattle.lb_check.proofs.OccurrenceSites.{own_site}
-use Rattle.lb_check.proofs.CallOccurrences.{HasCall, node_calls_stand}
+use Rattle.lb_check.proofs.SiteOccurrences.{IsCallAt, call_occurs}
 
 module _ (P : Program) (Q : Instance → Type 0) where
   -- it passes from an instance to the instances of each call in its text
@@ -26,7 +27,7 @@ module _ (P : Program) (Q : Instance → Type 0) where
 
   site_have :
       (here : Instance) → Passes here → (s : ℕ × Site) →
-      HasCall (node_occurrences P here.node) s → Every Q (site_instances P here s)
+      IsCallAt P here s.0 s.1 → Every Q (site_instances P here s)
   site_have here passes s call =
       Every-found Q (callee_of P here s.1 s.0)
       (listed (range_with_len 0) (instance_count P here s.1.count))
@@ -54,9 +55,9 @@ module _ (P : Program) (Q : Instance → Type 0) where
       (here : Instance) → is_typed P here ≡ true → Passes here → Every Q (children P here)
   children_have here typed passes =
       Every-of_pieces Q (site_instances P here) (numbered_sites 0 (node_sites here.node))
-      (Every-map (HasCall (node_occurrences P here.node))
-      (λ s. Every Q (site_instances P here s)) (site_have here passes)
-      (numbered_sites 0 (node_sites here.node)) (node_calls_stand P here typed))
+      (Every-from (λ (s : ℕ × Site). Every Q (site_instances P here s))
+      (numbered_sites 0 (node_sites here.node))
+      (λ s i. site_have here passes s (call_occurs P here typed s.0 s.1 i)))
 
   -- an instance keeps the rules of types, and passes it on where it holds
   abbrev pub IsPassed : Instance → Type 0

@@ -22,12 +22,10 @@ use Rattle.lb_check.proofs.ElementKinds.{kinds_in}
 use Rattle.lb_check.proofs.ElementValues.{pieces_count}
 use Rattle.lb_check.proofs.Every.{Every-map, Every-first}
 use Rattle.lb_check.proofs.InstancePaths.{path_is}
+use Rattle.lb_check.proofs.ListPairs.{cons_same}
 use Rattle.lb_check.proofs.Numbers.{map_append}
 
 -- ## Lists
-
-cons_same : {A : Type 0} (x y : A) (xs ys : List A) → x ∷ xs ≡ y ∷ ys → (x ≡ y) × (xs ≡ ys)
-cons_same x y xs ys e = (cc, cc)
 
 -- the first of numbers in order are in order
 range_first : (a n : ℕ) (xs ys : List ℕ) → xs ++ ys ≡ range_with_len a n →

@@ -14,6 +14,10 @@ never false f = refl
 
 -- ## Lists
 
+-- what stands first in the same lists is the same, and so is the rest
+pub cons_same : {A : Type 0} (x y : A) (xs ys : List A) → x ∷ xs ≡ y ∷ ys → (x ≡ y) × (xs ≡ ys)
+cons_same x y xs ys e = (cc, cc)
+
 pub get_first : {A : Type 0} (xs ys : List A) (i : ℕ) (x : A) → slice_get xs i ≡ Some x →
     slice_get (xs ++ ys) i ≡ Some x
 get_first [] ys i x e = absurd cc

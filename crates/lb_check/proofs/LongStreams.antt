@@ -26,7 +26,7 @@ use Rattle.lb_check.specs.Solutions.{fits, variable_presence, Fits, SolvesAt, So
 use Rattle.lb_check.specs.Streams.{History, signed, presence, number}
 use Rattle.lb_check.specs.TypeRules.{is_typed}
 use Rattle.lb_check.proofs.ApartLists.{Every-at}
-use Rattle.lb_check.proofs.CalledProperties.{instances_typed, instances_clocked, clocks_declared}
+use Rattle.lb_check.proofs.AcceptedRules.{all_typed, all_clocked, all_declared}
 use Rattle.lb_check.proofs.CalledProperties.{calls_have}
 use Rattle.lb_check.proofs.DeterminedClocks.{OfCalled, Sited}
 use Rattle.lb_check.proofs.Every.{Every-map, Every-both, Every-range}
@@ -265,11 +265,11 @@ module _ (P : Program) (elaborated : static_refusal P ≡ None) (checked : check
       )) (instances P)
       (Every-both _ _ (instances P)
       (Every-both (SolvesAt P H) (λ c. is_typed P c ≡ true) (instances P) h.instances
-      (instances_typed P checked))
+      (all_typed P checked))
       (Every-both (λ c. is_clocked P c.node ≡ true)
       (λ c. Sited (OfCalled P c IsDeclaredNode) 0 (node_sites c.node)) (instances P)
-      (instances_clocked P checked)
-      (calls_have P elaborated IsDeclaredNode (clocks_declared P checked))))
+      (all_clocked P checked)
+      (calls_have P elaborated IsDeclaredNode (all_declared P checked))))
 
   start_long :
       (p : Path) → H.ticks p ≡ replicate (length X) true → (c : Instance) →

@@ -1,10 +1,9 @@
 -- The types that the code finds for a term are those of the expression that it stands for.
 use Rattle.std.proofs.Common.{◌≡◌, ℕ, Bool, true, false, List, [], ◌∷◌, Option, Some, None, refl}
 use Rattle.std.proofs.Common.{ap, sym, ◌∙◌}
-use Rattle.std.specs.Prelude.{◌&&◌, if◌then◌else◌}
-use Rattle.lb_syntax.specs.declared.tree.BinaryOperator.{BinaryOperator}
+use Rattle.std.specs.Prelude.{◌&&◌, pos}
 use Rattle.lb_syntax.specs.Lists.{◌>>=◌, where_true, either_or}
-use Rattle.lb_syntax.specs.Tree.{Whole, Node_named, Symbol}
+use Rattle.lb_syntax.specs.Tree.{Whole, Node_named}
 use Rattle.lb_static.specs.declared.resolved.Term.{Term, Literal, Truth, Variable, Value, Group'}
 use Rattle.lb_static.specs.declared.resolved.Term.{Unary', Binary', If', Arrow', Fby', Pre'}
 use Rattle.lb_static.specs.declared.resolved.Term.{Current', When', Replicate', Index', Slice'}
@@ -16,13 +15,13 @@ use Rattle.lb_static.specs.ResolvedTerms.{Texts, Counts, expr_of, row_of, named_
 use Rattle.lb_static.specs.ResolvedTerms.{static_at, site_at, is_variable, is_static, is_call}
 use Rattle.lb_static.specs.ResolvedTerms.{is_no_variable, is_within, are_within, is_unhidden}
 use Rattle.lb_static.specs.ResolvedTerms.{are_unhidden}
-use Rattle.lb_static.specs.DataTypes.{DataType, int, truth, is_type}
+use Rattle.lb_static.specs.DataTypes.{DataType, truth, is_type}
 use Rattle.lb_check.specs.Types.{data_types, all_types, name_data_type, operator_types}
-use Rattle.lb_check.specs.Types.{is_arithmetic, unary_type, binary_type, common_type, array_of}
-use Rattle.lb_check.specs.Types.{index_type, slice_type, join_type, list_type, iterator_types}
+use Rattle.lb_check.specs.Types.{constant_type, unary_type, binary_type, common_type, array_of}
+use Rattle.lb_check.specs.Types.{index_type, slice_type, join_type, list_type, symbol_types}
+use Rattle.lb_check.specs.Types.{iterator_types}
 use Rattle.lb_check.specs.Types.{from_one, from_two, from_truths, singly, only}
-use Rattle.lb_check.specs.TermTypes.{Context, Signature, type_of, types_in, results, when_both}
-use Rattle.lb_check.specs.TermTypes.{when_truth, symbol_signature}
+use Rattle.lb_check.specs.TermTypes.{Context, type_of, types_in, results, when_both, when_truth}
 use Rattle.lb_check.proofs.TruthValues.{and_first, and_second}
 
 -- ## One type of several
@@ -33,10 +32,10 @@ one_of (Some t) = refl
 
 pub results_only : (ctx : Context) (t : Term) → (results ctx t >>= only) ≡ type_of ctx t
 unfolding type_of results
-results_only ctx (Literal n) = refl
+results_only ctx (Literal n) = one_of (constant_type (Some (pos n)))
 results_only ctx (Truth b) = refl
 results_only ctx (Variable x) = one_of (ctx.variable x)
-results_only ctx (Value i) = refl
+results_only ctx (Value i) = one_of (ctx.constant i)
 results_only ctx (Group' p e) = results_only ctx e
 results_only ctx (Unary' op p a) = one_of (type_of ctx (Unary' op p a))
 results_only ctx (Binary' op p a q b) = one_of (type_of ctx (Binary' op p a q b))
@@ -153,15 +152,6 @@ iterated c d o n p q f ec eo ep =
     by None = sym (nothing q)
     by (Some a) = called o n p q (f a) eo ep
 
-symbol_is : (P : Program) (here : Instance) (op : BinaryOperator) →
-    operator_types P here (Symbol op) ≡ Some (symbol_signature op)
-symbol_is P here op = by (is_arithmetic op) (int ∷ int ∷ [], int ∷ [])
-    (truth ∷ truth ∷ [], truth ∷ [])
-  where
-    by : (b : Bool) (s t : Signature) → (if b then Some s else Some t) ≡ Some (if b then s else t)
-    by true s t = refl
-    by false s t = refl
-
 -- ## Terms
 
 -- what stands for the numbers of a node is what the definitions say of an instance
@@ -169,8 +159,9 @@ pub record Fits (P : Program) (here : Instance) (texts : Texts) (n : Counts) (ct
     Type 0 where
   pub variable : (x : _) → is_variable n x ≡ true →
       name_data_type P here (name_at texts.variables x) ≡ ctx.variable x
-  pub value : (i : _) → is_no_variable texts.variables (static_at texts.statics i) ≡ true
-      → data_types P here (named_value (static_at texts.statics i)) ≡ Some (int ∷ [])
+  pub value : (i : _) → is_static n i ≡ true
+      → is_no_variable texts.variables (static_at texts.statics i) ≡ true
+      → data_types P here (named_value (static_at texts.statics i)) ≡ singly (ctx.constant i)
   pub count : (i : _) → is_static n i ≡ true →
       static_count P here (static_at texts.statics i) ≡ ctx.count i
   pub call : (c : _) → is_call n c ≡ true
@@ -201,7 +192,7 @@ module _ (P : Program) (here : Instance) (texts : Texts) (n : Counts) (ctx : Con
     term_results (Literal m) w u = refl
     term_results (Truth b) w u = refl
     term_results (Variable x) w u = ap singly (fits.variable x w)
-    term_results (Value i) w u = fits.value i u
+    term_results (Value i) w u = fits.value i w u
     term_results (Group' p e) w u = term_results e w u
     term_results (Unary' op p a) w u =
         from_one_is (typed a) (type_of ctx a) (unary_type op) (one a (term_results a w u))
@@ -270,9 +261,9 @@ module _ (P : Program) (here : Instance) (texts : Texts) (n : Counts) (ctx : Con
         (λ m o ts. iterator_types it m o.0 o.1 ts)
         (fits.repeats c wc) (fits.call c wc) (row_types all (and_second (is_call n c) _ w) u)
     term_results (IterateSymbol' it op i arity all) w u =
-        iterated _ (ctx.count i) _ (Some (symbol_signature op)) _ (types_in ctx all)
+        iterated _ (ctx.count i) _ (symbol_types op) _ (types_in ctx all)
         (λ m o ts. iterator_types it m o.0 o.1 ts)
-        (fits.count i (and_first _ (are_within n all) w)) (symbol_is P here op)
+        (fits.count i (and_first _ (are_within n all) w)) refl
         (row_types all (and_second (is_static n i) _ w) u)
 
     row_types : {m : _} (row : Row_of-Term m) → are_within n row ≡ true →

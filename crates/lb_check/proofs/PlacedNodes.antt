@@ -63,6 +63,7 @@ use Rattle.lb_check.proofs.PlacedArguments.{arguments_placed}
 use Rattle.lb_check.proofs.PlacedRows.{calls_among, clocks_among}
 use Rattle.lb_check.proofs.PlacedTerms.{IsCall, IsCallOf, IsTerm, arguments_on, determined_is}
 use Rattle.lb_check.proofs.PlacedTerms.{given_by, row_placed, term_placed}
+use Rattle.lb_check.proofs.PlacedWithin.{are_among, parameters_within}
 use Rattle.lb_check.proofs.RightCalls.{AreFrom, each_from, first_lefts, later_lefts, lefts_among}
 use Rattle.lb_check.proofs.RightCalls.{no_more, no_own, own_is, own_lefts, row_from}
 use Rattle.lb_check.proofs.RightCalls.{statement_below, statements_from}
@@ -231,6 +232,9 @@ module _ (P : Program) (r : Reached) (here : ResolvedNode) (sees : SeesClocks P 
             ∙ given_is callee hc here ctx es lefts all_given
             ∙ sym (ap (λ o. listed (λ z. map (pair_names (variable_names z) here)
             (given_variables callee os lefts)) o) found.2);
+        parameters =
+            ap (are_among (given_variables callee os lefts)) found.2
+            ∙ parameters_within callee hc os lefts;
       })
 
   -- what is found of some occurrences, where the call of a number has these left variables
@@ -404,7 +408,7 @@ module _ (P : Program) (r : Reached) (here : ResolvedNode) (sees : SeesClocks P 
   side_placed lefts wl n (IterateNode' it c arity all) w u s k f =
       let es = row_of texts all in
       let x = expr_of texts (IterateNode' it c arity all) in (
-        (refl, (refl, record { runs = refl; given = refl })),
+        (refl, (refl, record { runs = refl; given = refl; parameters = refl })),
         inner lefts n x
             (occurrences_in P (node_of here) (clock_in here (left_k lefts)) (n + 1) es)
             (placed_row ctx (left_k lefts) all)
@@ -596,5 +600,6 @@ module _ (P : Program) (r : Reached) (here : ResolvedNode) (sees : SeesClocks P 
             record {
               runs = c.2.runs;
               given = given_to_is o.calls_before o.expr ∙ c.2.given;
+              parameters = c.2.parameters;
             },
           )

@@ -29,7 +29,7 @@ use Rattle.lb_static.specs.declared.resolved.VariableId.{VariableId}
 use Rattle.lb_check.specs.Clocks as clocks
 use Rattle.lb_check.specs.Clocks.{Given, clock_of, clock_or, declared_clock, given_inputs, outer}
 use Rattle.lb_check.specs.ClockRules.{is_occurrence_clocked}
-use Rattle.lb_check.specs.FoundTerms.{given_names, pair_names}
+use Rattle.lb_check.specs.FoundTerms.{are_parameters, given_names, pair_names}
 use Rattle.lb_check.specs.Needs.{given_parameters, is_site, site_clock}
 use Rattle.lb_check.specs.Occurrences.{Occurrence, at, call_count, occurrences, occurrences_in}
 use Rattle.lb_check.specs.Occurrences.{occurrences_each}
@@ -53,6 +53,7 @@ use Rattle.lb_check.proofs.ClockTests.{declared_is}
 use Rattle.lb_check.proofs.GivenVariables.{given_is}
 use Rattle.lb_check.proofs.PairedLists.{Pairs, Pairs-append}
 use Rattle.lb_check.proofs.PlacedArguments.{arguments_placed}
+use Rattle.lb_check.proofs.PlacedWithin.{are_among, parameters_within}
 use Rattle.lb_check.proofs.SiteCallees.{callee_found}
 use Rattle.lb_check.proofs.TermClockSets.{row_items, within_items, unhidden_items, operands_items}
 use Rattle.lb_check.proofs.TermClockSets.{term_stands, row_stands}
@@ -70,6 +71,7 @@ pub record IsCallOf (P : Program) (n : ResolvedNode) (lefts : List Name) (o : Oc
     (c : FoundCall) : Type 0 where
   pub runs : site_clock P o.clock o.expr ≡ clock_in n c.runs
   pub given : given_by P o.expr lefts ≡ given_names P n o.expr c.given
+  pub parameters : are_parameters P o.expr c.given ≡ true
 
 abbrev pub IsCall :
     Program → ResolvedNode → List Name → Occurrence → Option FoundCall → Type 0
@@ -239,6 +241,9 @@ module _ (P : Program) (r : Reached) (here : ResolvedNode) (sees : SeesClocks P 
             ∙ given_is callee hc here ctx es [] all_given
             ∙ sym (ap (λ o. listed (λ z. map (pair_names (variable_names z) here)
             (given_variables callee os [])) o) found.2);
+        parameters =
+            ap (are_among (given_variables callee os [])) found.2
+            ∙ parameters_within callee hc os [];
       })
 
   value_placed : (k : Clock) (n : ℕ) (s : Static) → Places (on k n (named_value s)) (part k ∷ [])
@@ -412,7 +417,7 @@ module _ (P : Program) (r : Reached) (here : ResolvedNode) (sees : SeesClocks P 
               (λ f. arguments_on ks (n + 1) all wa u oa f) (and_second _ _ e),
         )
     term_placed k n (IterateNode' it c arity all) w u o e = (
-      (refl, (refl, record { runs = refl; given = refl })),
+      (refl, (refl, record { runs = refl; given = refl; parameters = refl })),
       row_placed k (n + 1) all (and_second (is_call (counts_of here) c) _ w) u o
           (and_second _ _ e),
     )

@@ -1,15 +1,15 @@
 -- In an accepted program each call in the text of an instance is an occurrence, at the number of
 -- its site.
-use Rattle.std.proofs.Common.{◌≡◌, ℕ, suc, ◌+◌, Bool, true, Option, Some, None, option_map, List}
+use Rattle.std.proofs.Common.{◌≡◌, ℕ, suc, ◌+◌, true, Option, Some, None, option_map, List}
 use Rattle.std.proofs.Common.{[], ◌∷◌, ◌++◌, length, map, flat_map, refl, ap, ap₂, sym, ◌∙◌, subst}
 use Rattle.std.proofs.Common.{arith}
-use Rattle.std.specs.Prelude.{◌&&◌, slice_get}
+use Rattle.std.specs.Prelude.{slice_get}
 use Rattle.std.specs.List.{list_all}
 use Rattle.lb_syntax.specs.Lists.{In, some_of}
-use Rattle.lb_syntax.specs.Tree.{Name, Static, Node_named, Symbol, Expr, Literal, Truth, Variable}
+use Rattle.lb_syntax.specs.Tree.{Node_named, Symbol, Expr, Literal, Truth, Variable}
 use Rattle.lb_syntax.specs.Tree.{Group, Unary, Binary, If, Arrow, Fby, Pre, Current, When}
 use Rattle.lb_syntax.specs.Tree.{Replicate, Index, Slice, Join, Array, AtMostOne, Nor, Call}
-use Rattle.lb_syntax.specs.Tree.{Iterate, Exprs, Nil, Cons, Node, Statement, Equation, Assertion}
+use Rattle.lb_syntax.specs.Tree.{Iterate, Exprs, Nil, Cons, Statement, Equation, Assertion}
 use Rattle.lb_static.specs.DataTypes.{DataType, are_types, variables}
 use Rattle.lb_static.specs.Instances.{Program, Instance, Site, call_site, sites, sites_in}
 use Rattle.lb_static.specs.Instances.{statement_sites, node_sites, numbered_sites, node_named}
@@ -19,8 +19,8 @@ use Rattle.lb_check.specs.Acceptance.{check_refusal}
 use Rattle.lb_check.specs.Clocks.{Clock, clock_of, clock_or, declared_clock}
 use Rattle.lb_check.specs.Occurrences.{Occurrence, call_count, call_clocks, occurrences}
 use Rattle.lb_check.specs.Occurrences.{occurrences_in, occurrences_each, statement_clock}
-use Rattle.lb_check.specs.Occurrences.{right_sides, node_occurrences}
-use Rattle.lb_check.specs.TypeRules.{is_clock_typed, is_statement_typed}
+use Rattle.lb_check.specs.Occurrences.{node_occurrences}
+use Rattle.lb_check.specs.TypeRules.{is_clock_typed, is_statement_typed, is_typed}
 use Rattle.lb_check.specs.Types.{data_types, all_types, singly, name_data_type, from_one}
 use Rattle.lb_check.specs.Types.{from_truths, unary_type, binary_type, common_type, array_of}
 use Rattle.lb_check.specs.Types.{index_type, slice_type, join_type, operator_types}
@@ -33,14 +33,14 @@ use Rattle.lb_check.proofs.OperandTypes.{bound, one, two, from_true, truly, firs
 use Rattle.lb_check.proofs.TruthValues.{and_first, and_second}
 
 -- the number and the site of a call
-abbrev own_call : Occurrence → Option (ℕ × Site)
+abbrev pub own_call : Occurrence → Option (ℕ × Site)
 own_call o = option_map (λ s. (o.calls_before, s)) (own_site o.expr)
 
-abbrev calls_among : List Occurrence → List (ℕ × Site)
+abbrev pub calls_among : List Occurrence → List (ℕ × Site)
 calls_among os = some_of (map own_call os)
 
 -- the calls of some occurrences are these sites, counted from n
-abbrev AreCallsOf : ℕ → List Occurrence → List Site → Type 0
+abbrev pub AreCallsOf : ℕ → List Occurrence → List Site → Type 0
 AreCallsOf n os ss = calls_among os ≡ numbered_sites n ss
 
 calls_append : (os os' : List Occurrence) →
@@ -216,7 +216,8 @@ module _ (P : Program) (here : Instance) where
       let t = right_typed P here (Assertion e) typed in
       site_calls (statement_clock P here.node (Assertion e)) n e t.0 t.1
 
-  body_calls :
+  -- the calls in statements whose types are right are their sites
+  pub body_calls :
       (n : ℕ) (ss : List Statement) → list_all (is_statement_typed P here) ss ≡ true →
       AreCallsOf n (body_occurrences P here.node n ss) (flat_map statement_sites ss)
   body_calls n [] e = refl
@@ -235,17 +236,13 @@ pub record IsCallAt (P : Program) (here : Instance) (n : ℕ) (s : Site) : Type 
   pub number : occurrence.calls_before ≡ n
   pub site : own_site occurrence.expr ≡ Some s
 
--- each call in the text of an instance is an occurrence
-pub site_occurs :
-    (P : Program) → check_refusal P ≡ None → (here : Instance) → In here (instances P) → (n : ℕ)
-    (s : Site) → slice_get (node_sites here.node) n ≡ Some s → IsCallAt P here n s
-site_occurs P checked here stands n s e =
+-- each numbered call in the text of an instance whose types are right is an occurrence
+pub call_occurs :
+    (P : Program) (here : Instance) → is_typed P here ≡ true → (n : ℕ) (s : Site) →
+    In (n, s) (numbered_sites 0 (node_sites here.node)) → IsCallAt P here n s
+call_occurs P here typed n s numbered =
     let all = body_calls P here 0 here.node.body
-    (and_second (list_all (is_clock_typed P here) (variables here.node)) _
-    (typed P checked here stands)) in
-    let number : 0 + n ≡ n = omega arith in
-    let numbered = subst (λ m. In (m, s) (numbered_sites 0 (node_sites here.node))) number
-    (numbered_in P (node_sites here.node) 0 n s e) in
+    (and_second (list_all (is_clock_typed P here) (variables here.node)) _ typed) in
     let found = some_in own_call (node_occurrences P here.node) (n, s)
     (subst (λ cs. In (n, s) cs) (sym all) numbered) in
     by found.0 found.1 (own_site found.0.expr) refl found.2
@@ -263,3 +260,13 @@ site_occurs P checked here stands n s e =
           number = ap (λ (u : ℕ × Site). u.0) same;
           site = is ∙ ap (λ (u : ℕ × Site). Some u.1) same;
         }
+
+-- so is each call in the text of an instance of an accepted program, at its number
+pub site_occurs :
+    (P : Program) → check_refusal P ≡ None → (here : Instance) → In here (instances P) → (n : ℕ)
+    (s : Site) → slice_get (node_sites here.node) n ≡ Some s → IsCallAt P here n s
+site_occurs P checked here stands n s e =
+    let number : 0 + n ≡ n = omega arith in
+    call_occurs P here (typed P checked here stands) n s
+    (subst (λ m. In (m, s) (numbered_sites 0 (node_sites here.node))) number
+    (numbered_in P (node_sites here.node) 0 n s e))

@@ -6,21 +6,12 @@ use Rattle.lb_syntax.specs.declared.tree.UnaryOperator.{UnaryOperator}
 use Rattle.lb_syntax.specs.Lists.{◌>>=◌, where_true}
 use Rattle.lb_static.specs.declared.resolved.StaticId.{StaticId}
 use Rattle.lb_static.specs.declared.resolved.VariableId.{VariableId}
-use Rattle.lb_static.specs.declared.resolved.Term.{Term, Literal, Value, Group, Unary, Pre, Current}
-use Rattle.lb_static.specs.declared.resolved.Term.{When, Replicate, Index, Slice, Binary, Arrow}
-use Rattle.lb_static.specs.declared.resolved.Term.{Fby, Join, If}
-use Rattle.lb_static.specs.DataTypes.{DataType, int, truth, is_type}
+use Rattle.lb_static.specs.declared.resolved.Term.{Term, Group, Unary, Pre, Current, When}
+use Rattle.lb_static.specs.declared.resolved.Term.{Replicate, Index, Slice, Binary, Arrow, Fby}
+use Rattle.lb_static.specs.declared.resolved.Term.{Join, If}
+use Rattle.lb_static.specs.DataTypes.{DataType, is_type, truth}
 use Rattle.lb_check.specs.Types.{array_of, index_type, slice_type}
 use Rattle.lb_check.specs.TermTypes.{Context, one_type, two_types, type_of, when_truth}
-
--- a number
-abbrev pub IsNumber : Term → Type 0
-IsNumber t = ((n : ℕ) × (t ≡ Literal n)) ⊎ ((i : StaticId) × (t ≡ Value i))
-
-pub number_type : (ctx : Context) (t : Term) → IsNumber t → type_of ctx t ≡ Some int
-unfolding type_of
-number_type ctx t (inl (n, e)) = rw e refl
-number_type ctx t (inr (i, e)) = rw e refl
 
 -- a term with this one operand
 abbrev pub IsSingle : Term → Box Term Global → Type 0

@@ -1,13 +1,17 @@
 -- What is found of the expressions in a text, number by number: an expression has the number of its
 -- place among all that stand in its node, in text order, parentheses apart.
 -- This file says what data of the program mean; no definition of the language stands on it.
-use Rattle.std.specs.Prelude.{◌≡◌, ℕ, Some, List, [], map, slice_get}
-use Rattle.lb_syntax.specs.Lists.{listed}
+use Rattle.std.specs.Prelude.{◌≡◌, ℕ, Bool, true, false, ◌&&◌, min, nat_lt, Option, Some, None, List}
+use Rattle.std.specs.Prelude.{Vec, [], map, length, reverse, slice_get}
+use Rattle.std.specs.Global.{Global}
+use Rattle.std.specs.List.{list_all}
+use Rattle.lb_syntax.specs.Lists.{holds, listed}
 use Rattle.lb_syntax.specs.Tree.{Name, Expr, Call}
-use Rattle.lb_static.specs.Instances.{Program, node_named}
-use Rattle.lb_static.specs.Parts.{variable_names}
-use Rattle.lb_static.specs.ResolvedNodes.{node_of}
-use Rattle.lb_static.specs.ResolvedTerms.{name_at}
+use Rattle.lb_static.specs.InstanceTable.{instance_of}
+use Rattle.lb_static.specs.Instances.{Program, Instance, Path, node_named}
+use Rattle.lb_static.specs.Parts.{node_parts, variable_names}
+use Rattle.lb_static.specs.ResolvedNodes.{node_of, counts_of}
+use Rattle.lb_static.specs.ResolvedTerms.{is_variable, name_at}
 use Rattle.lb_static.specs.declared.reach.Reached.{Reached}
 use Rattle.lb_static.specs.declared.resolved.ResolvedNode.{ResolvedNode}
 use Rattle.lb_static.specs.declared.table.Specialization.{Specialization}
@@ -15,10 +19,14 @@ use Rattle.lb_static.specs.declared.table.Table.{Table}
 use Rattle.lb_check.specs.Clocks.{Given}
 use Rattle.lb_check.specs.Needs.{call_at, given_to, site_clock}
 use Rattle.lb_check.specs.Occurrences.{Occurrence, node_occurrences}
-use Rattle.lb_check.specs.OwnClocks.{clock_in, name_in}
+use Rattle.lb_check.specs.OwnClocks.{clock_in, is_clock_within, name_in}
 use Rattle.lb_check.specs.PlacedClocks.{FoundCall, call_in}
+use Rattle.lb_check.specs.PlacedTypes.{found_in, lengths_of, parts_of}
+use Rattle.lb_check.specs.Streams.{data_type, part_count}
+use Rattle.lb_check.specs.TypeRules.{expression_size, is_small}
 use Rattle.lb_check.specs.declared.found_clocks.GivenVariable.{GivenVariable}
 use Rattle.lb_check.specs.declared.found_clocks.NodeClocks.{NodeClocks}
+use Rattle.lb_check.specs.declared.found_types.NodeTypes.{NodeTypes}
 use Rattle.lb_check.specs.declared.own_clock.Clock.{Clock}
 
 -- the clocks that are found of a node are those on which its expressions stand
@@ -30,11 +38,23 @@ HasTermClocks P n ks =
 abbrev pub pair_names : List Name → ResolvedNode → GivenVariable → Name × Name
 pair_names names n g = (name_at names g.callee, name_in n g.caller)
 
--- those of the callee of a call
+-- those of the callee of a call; nothing else gives any
 abbrev pub given_names : Program → ResolvedNode → Expr → List GivenVariable → Given
 given_names P n (Call f statics es) gs =
     listed (λ callee. map (pair_names (variable_names callee) n) gs) (node_named P f)
-given_names P n e gs = []
+given_names P n e gs = map (pair_names [] n) gs
+
+-- these are variables of the callee of a call
+abbrev pub are_parameters : Program → Expr → List GivenVariable → Bool
+are_parameters P (Call f statics es) gs =
+    holds (λ callee. list_all (λ g. nat_lt g.callee.0 (length (variable_names callee))) gs)
+    (node_named P f)
+are_parameters P e gs = true
+
+-- what is found of a call names variables of the node
+abbrev pub is_call_within : ResolvedNode → FoundCall → Bool
+is_call_within n c =
+    is_clock_within n c.runs && list_all (λ g. is_variable (counts_of n) g.caller) c.given
 
 -- what is found of a call of a node is the clock on which its instances run, and what the node
 -- gives for clock parameters of its callee
@@ -42,6 +62,7 @@ pub record IsFoundCall (P : Program) (n : ResolvedNode) (o : Occurrence) (c : Fo
     Type 0 where
   pub runs : site_clock P o.clock o.expr ≡ clock_in n c.runs
   pub given : given_to P (node_of n) o.calls_before o.expr ≡ given_names P n o.expr c.given
+  pub parameters : are_parameters P o.expr c.given ≡ true
 
 -- of each call of a node, by its number
 abbrev pub HasFoundCalls : Program → ResolvedNode → List FoundCall → Type 0
@@ -59,3 +80,33 @@ pub record HasFoundClocks (P : Program) (r : Reached) (t : Table)
       × (slice_get found s.node.0 ≡ Some f)
       × HasTermClocks P n f.terms.items
       × HasFoundCalls P n (map call_in f.calls.items)
+      × (list_all (is_clock_within n) f.terms.items ≡ true)
+      × (list_all (is_call_within n) (map call_in f.calls.items) ≡ true)
+
+-- ## Types
+
+-- the types that are found of an instance are those of its expressions: their kinds, how many
+-- scalar elements they have (as far as 65,537), their lengths, the outermost last, and how many
+-- scalar elements each element of an array has (as far as 65,537)
+pub record HasTypes (P : Program) (here : Instance) (f : NodeTypes) : Type 0 where
+  pub kinds :
+      map (λ t. t.kind) f.terms.items
+      ≡ map (λ e. (data_type P here e).kind) (node_parts here.node)
+  pub elements :
+      map (λ t. t.elements) f.terms.items
+      ≡ map (λ e. min (expression_size P here e) 65537) (node_parts here.node)
+  pub lengths : (i : ℕ) (e : Expr) → slice_get (node_parts here.node) i ≡ Some e →
+      lengths_of (found_in f) i ≡ reverse (data_type P here e).sizes
+  pub parts : (i : ℕ) (e : Expr) → slice_get (node_parts here.node) i ≡ Some e →
+      parts_of (found_in f) i ≡ min (part_count P here e) 65537
+
+-- this of each specialization and each of its instances; where nothing is found of any, the program
+-- is too large
+abbrev pub HasFoundTypes : Program → Reached → Table → Option (Vec NodeTypes Global) → Type 0
+HasFoundTypes P r t None = is_small P ≡ false
+HasFoundTypes P r t (Some found) =
+    (i : ℕ) (s : Specialization) (n : ResolvedNode) →
+    slice_get t.specializations.items i ≡ Some s → slice_get r.nodes.items s.node.0 ≡ Some n →
+    (f : NodeTypes)
+    × (slice_get found.items i ≡ Some f)
+    × ((p : Path) → HasTypes P (instance_of p (node_of n) s.values.items) f)

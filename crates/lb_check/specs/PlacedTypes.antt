@@ -1,7 +1,17 @@
--- The types of the results of each part of a term, as a walk over the term finds them.
--- This file mirrors code; no definition of the language stands on it.
-use Rattle.std.specs.Prelude.{Option, List, [], ◌∷◌, ◌++◌, flat_map}
-use Rattle.lb_static.specs.DataTypes.{DataType}
+-- The types of the results of each part of a term, as a walk over the term finds them, and what is
+-- kept of them.
+-- This file mirrors code (src/placed_types.rt, src/found_types.rt); no definition of the language
+-- stands on it.
+use Rattle.std.specs.Prelude.{◌≡◌, ℕ, ◌*◌, ◌-◌, ◌^◌, ◌<◌, min, Option, Some, None, List, Vec}
+use Rattle.std.specs.Prelude.{[], ◌∷◌, ◌++◌, flat_map, length, map, reverse, take, drop, slice_get}
+use Rattle.std.specs.Prelude.{sum_by}
+use Rattle.std.specs.Global.{Global}
+use Rattle.lb_syntax.specs.Lists.{either_or, listed}
+use Rattle.lb_syntax.specs.declared.tree.Kind.{Kind}
+use Rattle.lb_static.specs.declared.reach.Reached.{Reached}
+use Rattle.lb_static.specs.declared.table.Specialization.{Specialization}
+use Rattle.lb_static.specs.declared.table.Table.{Table}
+use Rattle.lb_static.specs.DataTypes.{DataType, int, product}
 use Rattle.lb_static.specs.declared.resolved.ResolvedNode.{ResolvedNode}
 use Rattle.lb_static.specs.declared.resolved.ResolvedStatement.{ResolvedStatement}
 use Rattle.lb_static.specs.declared.resolved.ResolvedStatement.TheVariants as statement
@@ -11,7 +21,12 @@ use Rattle.lb_static.specs.declared.resolved.Term.{Current', When', Replicate', 
 use Rattle.lb_static.specs.declared.resolved.Term.{Join', Array', AtMostOne', Nor', Call'}
 use Rattle.lb_static.specs.declared.resolved.Term.{IterateNode', IterateSymbol', Row_of-Term}
 use Rattle.lb_static.specs.declared.resolved.Term.{end_of-Term, more_of-Term}
-use Rattle.lb_check.specs.TermTypes.{Context, results}
+use Rattle.lb_check.specs.TermTypes.{Context, context_of, results}
+use Rattle.lb_check.specs.TypeRules.{total}
+use Rattle.lb_check.specs.Types.{only}
+use Rattle.lb_check.specs.declared.data_type.DataType as stored
+use Rattle.lb_check.specs.declared.found_types.NodeTypes.{NodeTypes}
+use Rattle.lb_check.specs.declared.found_types.TermType.{TermType}
 
 -- what is found of one term: the types of its results, or none where a rule of types is broken
 abbrev pub FoundTypes : Type 0
@@ -66,3 +81,90 @@ statement_types ctx (statement.Assertion e) = placed_types ctx e
 -- those of all terms of a node
 abbrev pub node_types : Context → ResolvedNode → List FoundTypes
 node_types ctx n = flat_map (statement_types ctx) n.body.items
+
+-- those of the terms of a list
+abbrev pub placed_all_types : Context → List Term → List FoundTypes
+placed_all_types ctx es = flat_map (placed_types ctx) es
+
+-- those of the node of a specialization
+abbrev pub specialization_types : Reached → Table → Specialization → List FoundTypes
+specialization_types r t s =
+    listed (λ (n : ResolvedNode). node_types (context_of r t n s) n)
+    (slice_get r.nodes.items s.node.0)
+
+-- ## What is kept of types
+
+-- so many elements, and arrays of these lengths of them, as far as 65,537
+abbrev pub times_lengths : ℕ → List ℕ → ℕ
+times_lengths n [] = n
+times_lengths n (m ∷ ms) = times_lengths (min (min (n * m) (2 ^ 64 - 1)) 65537) ms
+
+abbrev pub count_of : stored.DataType → ℕ
+count_of t = product t.lengths.items
+
+-- the rows of terms, and the lengths of their types
+pub record FoundNode : Type 0 where
+  pub terms : List TermType
+  pub lengths : List ℕ
+
+abbrev pub found_in : NodeTypes → FoundNode
+found_in f = record { terms = f.terms.items; lengths = f.lengths.items }
+
+abbrev pub nothing_found : FoundNode
+nothing_found = record { terms = []; lengths = [] }
+
+-- one more term, of this kind, with these lengths, the outermost last, and so many elements
+abbrev pub with_row : FoundNode → Kind → List ℕ → ℕ → FoundNode
+with_row f kind ns n = record {
+  terms =
+      f.terms
+      ++ (record {
+        kind = kind;
+        elements = n;
+        first = length f.lengths;
+        rank = length ns;
+      } ∷ []);
+  lengths = f.lengths ++ ns;
+}
+
+-- the one type of a term, or `int`
+abbrev pub type_among : List DataType → DataType
+type_among ts = either_or (only ts) int
+
+-- one more term, whose results have these types
+abbrev pub with_types : FoundNode → List DataType → FoundNode
+with_types f ts =
+    with_row f (type_among ts).kind (reverse (type_among ts).sizes) (min (total ts) 65537)
+
+abbrev pub with_term : FoundNode → FoundTypes → FoundNode
+with_term f o = with_types f (either_or o [])
+
+abbrev pub with_terms : FoundNode → List FoundTypes → FoundNode
+with_terms f [] = f
+with_terms f (o ∷ os) = with_terms (with_term f o) os
+
+-- all that is kept of a specialization
+abbrev pub found_of : Reached → Table → Specialization → FoundNode
+found_of r t s = with_terms nothing_found (specialization_types r t s)
+
+abbrev pub size_of : FoundNode → ℕ
+size_of f = sum_by (λ (t : TermType). t.elements) f.terms
+
+-- what is kept of each specialization, or nothing where all of them together have more than 65,536
+-- scalar elements
+abbrev pub AreFound : Reached → Table → Option (Vec NodeTypes Global) → Type 0
+AreFound r t None =
+    65536 < sum_by (λ (s : Specialization). size_of (found_of r t s)) t.specializations.items
+AreFound r t (Some all) =
+    map found_in all.items ≡ map (found_of r t) t.specializations.items
+
+-- ## What is read of it
+
+-- the lengths of the type of the term at a place
+abbrev pub lengths_of : FoundNode → ℕ → List ℕ
+lengths_of f i =
+    listed (λ (t : TermType). take t.rank (drop t.first f.lengths)) (slice_get f.terms i)
+
+-- how many scalar elements each of its elements has
+abbrev pub parts_of : FoundNode → ℕ → ℕ
+parts_of f i = times_lengths 1 (take (length (lengths_of f i) - 1) (lengths_of f i))

@@ -1,7 +1,7 @@
 -- The types of a term, as the code finds them.
 -- This file mirrors code (src/types.rt); no definition of the language stands on it.
-use Rattle.std.specs.Prelude.{ℕ, ℤ, Bool, true, ◌&&◌, Option, Some, None, option_map, List, [], ◌∷◌}
-use Rattle.std.specs.Prelude.{map, take, drop, reverse, slice_get, if◌then◌else◌}
+use Rattle.std.specs.Prelude.{ℕ, ℤ, pos, Bool, true, ◌&&◌, Option, Some, None, option_map, List, []}
+use Rattle.std.specs.Prelude.{◌∷◌, map, take, drop, reverse, slice_get}
 use Rattle.std.specs.List.{list_all}
 use Rattle.lb_syntax.specs.declared.tree.ArrayIterator.{ArrayIterator}
 use Rattle.lb_syntax.specs.declared.tree.BinaryOperator.{BinaryOperator}
@@ -24,11 +24,11 @@ use Rattle.lb_static.specs.declared.resolved.Variable.{Variable as Declared}
 use Rattle.lb_static.specs.declared.resolved.VariableId.{VariableId}
 use Rattle.lb_static.specs.declared.table.Specialization.{Specialization}
 use Rattle.lb_static.specs.declared.table.Table.{Table}
-use Rattle.lb_static.specs.DataTypes.{DataType, int, truth, is_type, are_types}
+use Rattle.lb_static.specs.DataTypes.{DataType, truth, is_type, are_types}
 use Rattle.lb_static.specs.StaticValues.{natural}
-use Rattle.lb_check.specs.Types.{is_arithmetic, unary_type, binary_type, common_type, array_of}
-use Rattle.lb_check.specs.Types.{index_type, slice_type, join_type, list_type, iterator_types, only}
-use Rattle.lb_check.specs.Types.{singly}
+use Rattle.lb_check.specs.Types.{constant_type, unary_type, binary_type, common_type, array_of}
+use Rattle.lb_check.specs.Types.{index_type, slice_type, join_type, list_type, symbol_types}
+use Rattle.lb_check.specs.Types.{iterator_types, only, singly}
 
 -- the types of the inputs and of the outputs of what is called
 abbrev pub Signature : Type 0
@@ -37,11 +37,16 @@ Signature = List DataType × List DataType
 -- what stands for the numbers in a term
 pub record Context : Type 0 where
   pub variable : VariableId → Option DataType
+  pub constant : StaticId → Option DataType
   pub count : StaticId → Option ℕ
   pub call : CallId → Option Signature
   pub repeats : CallId → Option ℕ
 
 -- ## What stands for the numbers of a specialization
+
+-- the type of a static parameter or a constant
+abbrev pub constant_at : List ℤ → StaticId → Option DataType
+constant_at statics i = constant_type (slice_get statics i.0)
 
 -- a size or an index
 abbrev pub count_at : List ℤ → StaticId → Option ℕ
@@ -92,17 +97,13 @@ repeats_at n s c = slice_get n.calls.items c.0 >>= repeats_of s.statics.items
 unfoldable pub context_of : Reached → Table → ResolvedNode → Specialization → Context
 context_of r t n s = record {
   variable = variable_at n s;
+  constant = constant_at s.statics.items;
   count = count_at s.statics.items;
   call = signature_at r t s;
   repeats = repeats_at n s;
 }
 
 -- ## Terms
-
-abbrev pub symbol_signature : BinaryOperator → Signature
-symbol_signature op =
-    if is_arithmetic op then (int ∷ int ∷ [], int ∷ [])
-    else (truth ∷ truth ∷ [], truth ∷ [])
 
 -- a truth gives this
 abbrev pub when_truth : Option DataType → Option DataType → Option DataType
@@ -126,7 +127,7 @@ node_results ctx it c ts =
 abbrev pub symbol_results :
     ArrayIterator → BinaryOperator → Option ℕ → List DataType → Option (List DataType)
 symbol_results it op count ts =
-    count >>= λ n. iterator_types it n (symbol_signature op).0 (symbol_signature op).1 ts
+    count >>= λ n. symbol_types op >>= λ o. iterator_types it n o.0 o.1 ts
 
 -- the types of the results of a term with a row of operands of these types
 abbrev pub row_results : Context → Term → List DataType → Option (List DataType)
@@ -150,10 +151,10 @@ one_type ctx e t = Some t
 unfoldable mutual
   -- the one type of a term
   pub type_of : Context → Term → Option DataType
-  type_of ctx (Literal n) = Some int
+  type_of ctx (Literal n) = constant_type (Some (pos n))
   type_of ctx (Truth b) = Some truth
   type_of ctx (Variable x) = ctx.variable x
-  type_of ctx (Value i) = Some int
+  type_of ctx (Value i) = ctx.constant i
   type_of ctx (Group' p e) = type_of ctx e
   type_of ctx (Unary' op p a) = type_of ctx a >>= unary_type op
   type_of ctx (Binary' op p a q b) = when_both (type_of ctx a) (type_of ctx b) (binary_type op)

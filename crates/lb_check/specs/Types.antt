@@ -1,8 +1,8 @@
 -- The type of each expression of an instance.
 -- Source: Lustre V6 reference manual, typing of expressions and array iterators; the limits of
 -- lengths are this project's rule.
-use Rattle.std.specs.Prelude.{ℕ, suc, ◌+◌, ◌-◌, Bool, true, false, ◌&&◌, ◌||◌, nat_le, nat_lt}
-use Rattle.std.specs.Prelude.{Option, Some, None, option_map, List, [], ◌∷◌, map, length}
+use Rattle.std.specs.Prelude.{ℕ, suc, ◌+◌, ◌-◌, ℤ, pos, Bool, true, false, ◌&&◌, ◌||◌, nat_le}
+use Rattle.std.specs.Prelude.{nat_lt, Option, Some, None, option_map, List, [], ◌∷◌, map, length}
 use Rattle.std.specs.Prelude.{if◌then◌else◌}
 use Rattle.std.specs.List.{list_all}
 use Rattle.lb_syntax.specs.declared.tree.UnaryOperator.{UnaryOperator}
@@ -14,13 +14,15 @@ use Rattle.lb_syntax.specs.declared.tree.BinaryOperator.TheVariants.{Divide, Mod
 use Rattle.lb_syntax.specs.declared.tree.Kind.{Kind}
 use Rattle.lb_syntax.specs.declared.tree.ArrayIterator.{ArrayIterator}
 use Rattle.lb_syntax.specs.declared.tree.ArrayIterator.TheVariants.{Map, Red, Fill}
-use Rattle.lb_syntax.specs.Lists.{◌>>=◌, all_some, either_or, where_true}
+use Rattle.lb_syntax.specs.Lists.{◌>>=◌, all_some, either_or, holds, where_true}
 use Rattle.lb_syntax.specs.Tree.{Name, Operator, Node_named, Symbol, Expr, Literal, Truth, Variable}
 use Rattle.lb_syntax.specs.Tree.{Group, Unary, Binary, If, Arrow, Fby, Pre, Current, When}
 use Rattle.lb_syntax.specs.Tree.{Replicate, Index, Slice, Join, Array, AtMostOne, Nor, Call}
 use Rattle.lb_syntax.specs.Tree.{Iterate, Exprs, Nil, Cons}
 use Rattle.lb_static.specs.StaticValues.{named}
-use Rattle.lb_static.specs.Instances.{Program, Instance, static_count, call_site, callee_of}
+use Rattle.lb_static.specs.Arithmetic.{is_int}
+use Rattle.lb_static.specs.Instances.{Program, Instance, name_value, static_count, call_site}
+use Rattle.lb_static.specs.Instances.{callee_of}
 use Rattle.lb_static.specs.DataTypes.{DataType, int, truth, is_type, are_types, variables}
 use Rattle.lb_static.specs.DataTypes.{variable_type, input_types, output_types}
 
@@ -126,22 +128,31 @@ iterator_types Map n ins outs args = map_types n ins outs args
 iterator_types Red n ins outs args = red_types n ins outs args
 iterator_types Fill n ins outs args = fill_types n ins outs args
 
+-- the types of what an iterated data operator takes and of what it gives: numbers, or truths; a
+-- comparison is not iterated
+abbrev pub symbol_types : BinaryOperator → Option (List DataType × List DataType)
+symbol_types op =
+    if is_arithmetic op then Some (int ∷ int ∷ [], int ∷ [])
+    else where_true (is_logical op) (truth ∷ truth ∷ [], truth ∷ [])
+
 -- the types of the inputs and of the outputs of what is called or iterated
 abbrev pub operator_types : Program → Instance → Operator → Option (List DataType × List DataType)
 operator_types P here (Node_named f statics) =
     callee_of P here (call_site f statics) 0 0 >>= λ n.
     input_types P n >>= λ ins. output_types P n >>= λ outs. Some (ins, outs)
-operator_types P here (Symbol op) =
-    if is_arithmetic op then Some (int ∷ int ∷ [], int ∷ [])
-    else Some (truth ∷ truth ∷ [], truth ∷ [])
+operator_types P here (Symbol op) = symbol_types op
 
 -- ## Expressions
 
--- the type of a name: of a variable, or `int` of a static parameter or a constant
+-- the type of a number with this value, where that is in the range of `int`
+abbrev pub constant_type : Option ℤ → Option DataType
+constant_type o = where_true (holds is_int o) int
+
+-- the type of a name: of a variable, or of a static parameter or a constant
 abbrev pub name_data_type : Program → Instance → Name → Option DataType
 name_data_type P here x =
     either_or (option_map (variable_type P here) (named (λ d. d.name) x (variables here.node)))
-    (Some int)
+    (constant_type (name_value P here x))
 
 -- the one type of an expression with one result
 abbrev pub only : List DataType → Option DataType
@@ -167,7 +178,7 @@ from_truths ts = ts >>= λ ts. where_true (list_all (is_type truth) ts) (truth �
 abbrev mutual
   -- the types of the results of an expression, or none where a rule of types is broken
   pub data_types : Program → Instance → Expr → Option (List DataType)
-  data_types P here (Literal n) = Some (int ∷ [])
+  data_types P here (Literal n) = singly (constant_type (Some (pos n)))
   data_types P here (Truth b) = Some (truth ∷ [])
   data_types P here (Variable x) = singly (name_data_type P here x)
   data_types P here (Group a) = data_types P here a

@@ -13,6 +13,7 @@ use crate::clock_rules::ill_clocked_node;
 use crate::definition_rules::ill_defined_node;
 use crate::error::CheckError;
 use crate::placed_clock::placed_clocks;
+use crate::placed_types::placed_types;
 use crate::type_rules::ill_typed_node;
 use lb_static::elab::Elab;
 use lb_static::reach::{NodeId, Reached};
@@ -63,7 +64,12 @@ pub fn check<'s>(alloc: Global, elab: Elab<'s>) -> Result<Checked<'s>, CheckErro
         Some(error) => Err(error),
         None => {
             let clocks = placed_clocks(alloc, elab.reached())?;
-            Ok(Checked::new(Checking { elab, clocks }))
+            let types = placed_types(alloc, elab.reached(), elab.table())?;
+            Ok(Checked::new(Checking {
+                elab,
+                clocks,
+                types,
+            }))
         }
     }
 }

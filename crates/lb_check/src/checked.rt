@@ -1,14 +1,17 @@
 //! A checked program: what the layer above reads of it.
 
-ghost use Rattle.std.specs.Prelude.{◌≡◌, slice_get};
+ghost use Rattle.std.specs.Prelude.{◌≡◌, option_map, slice_get};
+ghost use Rattle.lb_syntax.specs.Lists as lists;
 ghost use Rattle.lb_syntax.specs.Lists.{listed};
 ghost use Rattle.lb_check.specs.LawfulPrograms.{IsChecked};
 
 use crate::found_clocks::{CallClock, NodeClocks};
+use crate::found_types::NodeTypes;
 use crate::own_clock::Clock;
 use lb_static::elab::Elab;
 use lb_static::reach::NodeId;
 use lb_static::signature::Signature;
+use lb_static::table::SpecializationId;
 use std::marker::Model;
 
 /// A program that keeps the rules of types, clocks and definitions, and what is found of it.
@@ -18,6 +21,9 @@ pub struct Checking<'s> {
     pub elab: Elab<'s>,
     /// What is found of each reached node: the clock of each term and what is found of each call.
     pub clocks: Vec<NodeClocks>,
+    /// What is found of each specialization: the types of its terms; nothing where the terms of all
+    /// of them together have more than 65,536 scalar elements, so that the program is too large.
+    pub types: Option<Vec<NodeTypes>>,
 }
 
 /// An elaborated program that keeps the rules of types, clocks and definitions.
@@ -84,6 +90,19 @@ impl<'s> Checked<'s> {
         match self.checking.clocks.get(node.0 as usize) {
             Some(found) => &found.calls,
             None => &[],
+        }
+    }
+
+    /// The types of the terms of a specialization, in text order: of none where the terms of all
+    /// specializations together have more than 65,536 scalar elements.
+    pub fn term_types(&self, specialization: SpecializationId) -> Option<&NodeTypes>
+        ensures value { option_map (λ f. f.now) result
+            ≡ lists.◌>>=◌ self.now.types (λ all. slice_get all.items specialization.0) }
+        ensures lawful { IsChecked self.now }
+    {
+        match &self.checking.types {
+            Some(all) => all.get(specialization.0 as usize),
+            None => None,
         }
     }
 

@@ -1,6 +1,6 @@
 //! The types of what operators give.
 
-ghost use Rattle.std.specs.Prelude.{◌≡◌, map, option_map, IfOk};
+ghost use Rattle.std.specs.Prelude.{◌≡◌, pos, Some, map, option_map, IfOk};
 ghost use Rattle.lb_syntax.specs.Lists as lists;
 ghost use Rattle.lb_check.specs.StoredTypes.{view_type, view_types, signature_in};
 ghost use Rattle.lb_check.specs.TermTypes as mirror;
@@ -16,6 +16,24 @@ fn given_where(fits: bool, given: DataType) -> Option<DataType>
     ensures { option_map view_type result ≡ lists.where_true fits (view_type given) }
 {
     if fits { Some(given) } else { None }
+}
+
+/// The type of a number with this value, where that is in the range of `int`.
+pub fn constant_type(alloc: Global, value: i64) -> Option<DataType>
+    ensures { option_map view_type result ≡ types.constant_type (Some value) }
+{
+    if i64::from(i32::MIN) <= value && value <= i64::from(i32::MAX) {
+        Some(DataType::scalar(alloc, Kind::Int))
+    } else {
+        None
+    }
+}
+
+/// The type of a number in the text.
+pub fn literal_type(alloc: Global, number: u32) -> Option<DataType>
+    ensures { option_map view_type result ≡ types.constant_type (Some (pos number)) }
+{
+    constant_type(alloc, i64::from(number))
 }
 
 /// What an operator gives, where its operand has the type that it takes.
@@ -127,9 +145,9 @@ pub fn when_truth(condition: Option<DataType>, given: Option<DataType>) -> Optio
     if condition?.is_truth() { given } else { None }
 }
 
-/// The types of what a data operator takes and gives.
-pub fn symbol_signature(alloc: Global, op: BinaryOperator) -> Result<Signature, AllocError>
-    ensures { IfOk result (λ s. signature_in s ≡ mirror.symbol_signature op) }
+/// The types of what an iterated data operator takes and gives.
+pub fn symbol_types(alloc: Global, op: BinaryOperator) -> Result<Option<Signature>, AllocError>
+    ensures { IfOk result (λ o. option_map signature_in o ≡ types.symbol_types op) }
 {
     let kind = match op {
         BinaryOperator::Plus
@@ -137,14 +155,16 @@ pub fn symbol_signature(alloc: Global, op: BinaryOperator) -> Result<Signature, 
         | BinaryOperator::Times
         | BinaryOperator::Divide
         | BinaryOperator::Modulo => Kind::Int,
-        _ => Kind::Bool,
+        BinaryOperator::Or | BinaryOperator::Xor | BinaryOperator::And | BinaryOperator::Implies =>
+            Kind::Bool,
+        _ => return Ok(None),
     };
     let mut inputs = Vec::new(alloc);
     inputs.push(DataType::scalar(alloc, kind))?;
     inputs.push(DataType::scalar(alloc, kind))?;
     let mut outputs = Vec::new(alloc);
     outputs.push(DataType::scalar(alloc, kind))?;
-    Ok(Signature { inputs, outputs })
+    Ok(Some(Signature { inputs, outputs }))
 }
 
 /// One type.

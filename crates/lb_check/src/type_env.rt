@@ -7,6 +7,7 @@ ghost use Rattle.lb_check.specs.StoredTypes.{lengths_in};
 ghost use Rattle.lb_check.specs.TermTypes as mirror;
 
 use crate::data_type::{DataType, Signature};
+use crate::operand_types::constant_type;
 use lb_static::reach::Reached;
 use lb_static::resolved::{CallId, CallSite, ResolvedNode, StaticId, Variable, VariableId};
 use lb_static::static_value::StaticInt;
@@ -28,6 +29,13 @@ fn whole(value: StaticInt) -> Option<u64>
 {
     let value = value.get();
     if value < 0 { None } else { Some(value as u64) }
+}
+
+/// The type of the static parameter or constant that stands there.
+fn constant_at(alloc: Global, statics: &[StaticInt], i: StaticId) -> Option<DataType>
+    ensures { option_map view_type result ≡ mirror.constant_at statics.now i }
+{
+    constant_type(alloc, statics.get(i.0 as usize)?.get())
 }
 
 /// The size or index that stands there.
@@ -190,6 +198,14 @@ impl TypeEnv<'_, '_> {
             Some(variable) => declared_type(alloc, &self.specialization.statics, variable),
             None => Ok(None),
         }
+    }
+
+    /// The type of a static parameter or a constant.
+    #[tactic(auto, unfolding(crate::specs::TermTypes::context_of))]
+    pub fn constant(&self, alloc: Global, i: StaticId) -> Option<DataType>
+        ensures { option_map view_type result ≡ (context_in self.now).constant i }
+    {
+        constant_at(alloc, &self.specialization.statics, i)
     }
 
     /// A size or an index.

@@ -8,7 +8,7 @@ ghost use Rattle.lb_check.specs.Types.{list_type, singly};
 use crate::array_types::{element_type, iterator_types, list_type, part_type, replicate_type};
 use crate::data_type::{DataType, all_truths, are_same};
 use crate::operand_types::{
-    common_type, joined, of_operands, one, only, symbol_signature, unary_type, when_truth,
+    common_type, joined, literal_type, of_operands, one, only, symbol_types, unary_type, when_truth,
 };
 use crate::type_env::TypeEnv;
 use lb_static::resolved::{CallId, Term};
@@ -85,16 +85,11 @@ fn symbol_results(
     ensures { IfOk result (λ o. option_map view_types o
         ≡ mirror.symbol_results iterator op count (map view_type types.now)) }
 {
-    match count {
-        Some(length) => {
-            iterator_types(
-                alloc,
-                iterator,
-                length,
-                &symbol_signature(alloc, op)?,
-                types,
-            )
-        }
+    let Some(length) = count else {
+        return Ok(None);
+    };
+    match symbol_types(alloc, op)? {
+        Some(signature) => iterator_types(alloc, iterator, length, &signature, types),
         None => Ok(None),
     }
 }
@@ -213,7 +208,8 @@ pub fn type_of(alloc: Global, env: &TypeEnv, term: &Term) -> Result<Option<DataT
         option_map view_type o ≡ mirror.type_of (context_in env.now) term.now) }
 {
     match term {
-        Term::Literal(_) | Term::Value(_) => Ok(Some(DataType::scalar(alloc, Kind::Int))),
+        Term::Literal(n) => Ok(literal_type(alloc, *n)),
+        Term::Value(i) => Ok(env.constant(alloc, *i)),
         Term::Truth(_) => Ok(Some(DataType::scalar(alloc, Kind::Bool))),
         Term::Variable(x) => env.variable(alloc, *x),
         Term::Group(e)

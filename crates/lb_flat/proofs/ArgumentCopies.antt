@@ -11,16 +11,16 @@ use Rattle.lb_syntax.specs.Tree.{Name, Static, Node_named, Expr, Literal, Truth,
 use Rattle.lb_syntax.specs.Tree.{Unary, Binary, If, Arrow, Fby, Pre, Current, When, Replicate}
 use Rattle.lb_syntax.specs.Tree.{Index, Slice, Join, Array, AtMostOne, Nor, Call, Iterate, Exprs}
 use Rattle.lb_syntax.specs.Tree.{Nil, Cons, Declaration, Node}
-use Rattle.lb_static.specs.DataTypes.{DataType, int, is_type, are_types, element_count, variables}
+use Rattle.lb_static.specs.DataTypes.{DataType, is_type, are_types, element_count, variables}
 use Rattle.lb_static.specs.DataTypes.{variable_type, width, input_types, output_types}
-use Rattle.lb_static.specs.Instances.{Program, Instance, Path, Child, node_named}
+use Rattle.lb_static.specs.Instances.{Program, Instance, Path, Child, name_value, node_named}
 use Rattle.lb_static.specs.StaticValues.{named}
 use Rattle.lb_check.specs.Clocks.{Clock, as_variable, declared_clock, given_inputs, given_outputs}
 use Rattle.lb_check.specs.Clocks.{ungrouped}
 use Rattle.lb_check.specs.Occurrences.{call_count}
 use Rattle.lb_check.specs.Streams.{outputs_of}
 use Rattle.lb_check.specs.TypeRules.{type_of_name}
-use Rattle.lb_check.specs.Types.{data_types, all_types, singly, name_data_type}
+use Rattle.lb_check.specs.Types.{data_types, all_types, singly, constant_type, name_data_type}
 use Rattle.lb_check.proofs.Every.{Every-append, Every-first, Every-second}
 use Rattle.lb_check.proofs.GivenParameters.{found_in}
 use Rattle.lb_check.proofs.OperandTypes.{bound, some_same, first_of_all}
@@ -112,7 +112,8 @@ module _ (Y : Layout) (P : Program) (here : Instance) where
       data_types P here e ≡ singly (variable_type P here v)
   variable_types (Variable z) x v e is =
       let same = some_same z x e in
-      ap (λ o. singly (either_or (option_map (variable_type P here) o) (Some int)))
+      ap (λ o. singly (either_or (option_map (variable_type P here) o)
+      (constant_type (name_value P here z))))
       (ap (λ y. named (λ d. d.name) y (variables here.node)) same ∙ is)
   variable_types (Group a) x v e is = variable_types a x v e is
   variable_types _ x v e is = absurd cc

@@ -133,23 +133,24 @@ module _ (P : Program) (accepted : static_refusal P ≡ None) (checked : check_r
       row.row.element.0 row.serves)) found
 
   -- the call of an instance
-  record IsCallerOf (p : Path) (call index : ℕ) : Type 0 where
-    caller : Instance
-    above : instance_at P p ≡ Some caller
-    stands : In caller (instances P)
-    occurrence : Occurrence
-    occurs : In occurrence (node_occurrences P caller.node)
-    number : occurrence.calls_before ≡ call
-    found : call_at P caller.node call ≡ Some occurrence
-    runs_flat :
+  pub record IsCallerOf (p : Path) (call index : ℕ) : Type 0 where
+    pub caller : Instance
+    pub above : instance_at P p ≡ Some caller
+    pub stands : In caller (instances P)
+    pub occurrence : Occurrence
+    pub occurs : In occurrence (node_occurrences P caller.node)
+    pub number : occurrence.calls_before ≡ call
+    pub found : call_at P caller.node call ≡ Some occurrence
+    pub runs_flat :
         (layout P).runs (Child p call index)
         ≡ flat_clock (layout P) caller.path (site_clock P occurrence.clock occurrence.expr)
-    runs_whole :
+    pub runs_whole :
         runs_on P (Child p call index)
         ≡ whole_clock P caller.path (runs_on P caller.path)
         (site_clock P occurrence.clock occurrence.expr)
 
-  caller_of : (p : Path) (call index : ℕ) (c : Instance) →
+  -- there is one
+  pub caller_of : (p : Path) (call index : ℕ) (c : Instance) →
       instance_at P (Child p call index) ≡ Some c → IsCallerOf p call index
   caller_of p call index c at =
       let k = called P p call index c at in
@@ -177,7 +178,8 @@ module _ (P : Program) (accepted : static_refusal P ≡ None) (checked : check_r
             ∙ called_runs P k.caller (at_path P k.caller up) o.occurrence own_call index;
       }
 
-  site_is_own :
+  -- its clock is one of its caller
+  pub site_is_own :
       (here : Instance) → In here (instances P) → (o : Occurrence) →
       In o (node_occurrences P here.node) → IsOwn here.node (site_clock P o.clock o.expr)
   site_is_own here stands o i =

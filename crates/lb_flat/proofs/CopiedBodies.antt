@@ -1,8 +1,8 @@
 -- The copies of all instances are the definitions of left variables and of the inputs of what is
 -- called: each copy is one of them, and each of them has its copy.
-use Rattle.std.proofs.Common.{◌≡◌, ◌⊎◌, inl, inr, ℕ, zero, suc, ◌+◌, ◌<◌, ◌≤◌, Bool, true, false}
-use Rattle.std.proofs.Common.{if◌then◌else◌, Option, Some, None, List, [], ◌∷◌, ◌++◌, map, length}
-use Rattle.std.proofs.Common.{flat_map, zip, refl, sym, ap, ap₂, ◌∙◌, subst, arith}
+use Rattle.std.proofs.Common.{◌≡◌, ◌⊎◌, inl, inr, ℕ, zero, suc, ◌+◌, ◌<◌, ◌≤◌, true, pos, Option}
+use Rattle.std.proofs.Common.{Some, None, List, [], ◌∷◌, ◌++◌, map, length, flat_map, zip, refl}
+use Rattle.std.proofs.Common.{sym, ap, ap₂, ◌∙◌, subst, arith}
 use Rattle.std.specs.List.{list_all}
 use Rattle.std.proofs.lemmas.List.{append-nil, length-map}
 use Rattle.lb_syntax.specs.declared.tree.ArrayIterator.{ArrayIterator}
@@ -14,12 +14,12 @@ use Rattle.lb_syntax.specs.Tree.{Replicate, Index, Slice, Join, Array, AtMostOne
 use Rattle.lb_syntax.specs.Tree.{Iterate, Exprs, Declaration, Statement, Equation, Assertion}
 use Rattle.lb_static.specs.Instances.{Program, Instance, Path, Child, call_site, static_count}
 use Rattle.lb_static.specs.Instances.{node_named}
-use Rattle.lb_static.specs.DataTypes.{DataType, int, truth, are_types}
+use Rattle.lb_static.specs.DataTypes.{DataType, are_types}
 use Rattle.lb_static.specs.Instantiation.{are_same}
 use Rattle.lb_check.specs.Types.{data_types, unary_type, binary_type, common_type, array_of}
 use Rattle.lb_check.specs.Types.{index_type, slice_type, join_type, list_type, iterator_types}
 use Rattle.lb_check.specs.Types.{all_types, name_data_type, singly, from_one, from_truths}
-use Rattle.lb_check.specs.Types.{operator_types, is_arithmetic}
+use Rattle.lb_check.specs.Types.{operator_types}
 use Rattle.lb_check.specs.TypeRules.{type_of_name, is_statement_typed}
 use Rattle.lb_check.specs.Clocks.{Clock, declared_clock, ungrouped}
 use Rattle.lb_check.specs.Needs.{Element, Definition, elements_named, itself, needs}
@@ -40,7 +40,7 @@ use Rattle.lb_flat.proofs.Emission.{joins_equations, joins_copies}
 use Rattle.lb_flat.proofs.OutputWidths.{each}
 use Rattle.lb_flat.proofs.PlacedCalls.{length-all, lengths_same}
 use Rattle.lb_flat.proofs.TypeFacts.{bound, one, two, from_true, alone, truly, some_same}
-use Rattle.lb_flat.proofs.TypeFacts.{are_counts, and_first, and_second}
+use Rattle.lb_flat.proofs.TypeFacts.{are_counts, and_first, and_second, constant, symbolic}
 use Rattle.lb_flat.proofs.Widths.{called, placed, AreVariablesWide}
 use Rattle.lb_flat.proofs.LinkSymbols.{iterated_pairs, joins_found, red_out}
 use Rattle.lb_flat.proofs.LinkWords.{Pairs, pairs-append, AllMeet, AreLinks, Link, variable_links}
@@ -78,15 +78,6 @@ too_many P here x y lefts right left e like one =
     let many = lengths_same right left (are_counts right left like) in
     absurd (omega (arith, count, names, many, one))
 
-symbol_one :
-    (b : Bool) (types : List DataType × List DataType) →
-    (if b then Some (int ∷ int ∷ [], int ∷ []) else Some (truth ∷ truth ∷ [], truth ∷ []))
-    ≡ Some types → length types.1 ≡ 1
-symbol_one true types e =
-    ap (λ (t : List DataType × List DataType). length t.1) (sym (some_same _ _ e))
-symbol_one false types e =
-    ap (λ (t : List DataType × List DataType). length t.1) (sym (some_same _ _ e))
-
 symbol_single :
     (n : ℕ) (it : ArrayIterator) (ins outs args ts : List DataType) → length outs ≡ 1 →
     iterator_types it n ins outs args ≡ Some ts → length ts ≡ 1
@@ -107,7 +98,7 @@ symbol_single n Fill (a ∷ []) (o ∷ (p ∷ outs)) args ts one e = absurd (ome
 one_or_call :
     (P : Program) (here : Instance) (e : Expr) (ts : List DataType) →
     data_types P here e ≡ Some ts → (is_site (ungrouped e) ≡ true) ⊎ (length ts ≡ 1)
-one_or_call P here (Literal m) ts e = inr (ap length (sym (some_same _ _ e)))
+one_or_call P here (Literal m) ts e = inr (ap length (constant (Some (pos m)) ts e).all)
 one_or_call P here (Truth b) ts e = inr (ap length (sym (some_same _ _ e)))
 one_or_call P here (Variable x) ts e =
     let i = alone (name_data_type P here x) ts e in inr (ap length i.all)
@@ -166,7 +157,8 @@ one_or_call P here (Iterate it (Symbol op) m es) ts e =
     let o = bound (operator_types P here (Symbol op)) _ ts c.gives in
     let a = bound (all_types P here es) _ ts o.gives in
     inr (symbol_single c.value it o.value.0 o.value.1 a.value ts
-    (symbol_one (is_arithmetic op) o.value o.is) a.gives)
+    (ap (λ (t : List DataType × List DataType). length t.1) (symbolic op o.value o.is).are)
+    a.gives)
 
 module _ (Y : Layout) (P : Program) (H : History)
     (same : (p : Path) (x : Name) → length (Y.places p x) ≡ length (H.columns p x))

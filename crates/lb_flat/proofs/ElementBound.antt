@@ -1,7 +1,7 @@
 -- The elements of a flat program are few: at most five times as many as the size of its program.
-use Rattle.std.proofs.Common.{◌≡◌, ℕ, zero, suc, ◌+◌, ◌*◌, ◌≤◌, false, true, Option, Some, None}
-use Rattle.std.proofs.Common.{option_map, List, [], ◌∷◌, ◌++◌, map, length, flat_map, refl, sym, ap}
-use Rattle.std.proofs.Common.{◌∙◌, subst, arith, length-append}
+use Rattle.std.proofs.Common.{◌≡◌, ℕ, zero, suc, ◌+◌, ◌*◌, ◌≤◌, false, true, pos, Option, Some}
+use Rattle.std.proofs.Common.{None, option_map, List, [], ◌∷◌, ◌++◌, map, length, flat_map, refl}
+use Rattle.std.proofs.Common.{sym, ap, ◌∙◌, subst, arith, length-append}
 use Rattle.std.specs.Prelude.{sum_by}
 use Rattle.std.specs.List.{list_all, range_with_len}
 use Rattle.std.proofs.lemmas.List.{length-map}
@@ -16,8 +16,9 @@ use Rattle.lb_syntax.specs.Tree.{Name, Node_named, Symbol, Expr, Literal, Truth,
 use Rattle.lb_syntax.specs.Tree.{Unary, Binary, If, Arrow, Fby, Pre, Current, When, Replicate}
 use Rattle.lb_syntax.specs.Tree.{Index, Slice, Join, Array, AtMostOne, Nor, Call, Iterate, Exprs}
 use Rattle.lb_syntax.specs.Tree.{Nil, Cons, Declaration, Statement, Equation, Assertion}
-use Rattle.lb_static.specs.DataTypes.{DataType, int, element_count, variables, variable_type, width}
-use Rattle.lb_static.specs.Instances.{Program, Instance, node_named, static_count, instances}
+use Rattle.lb_static.specs.DataTypes.{DataType, element_count, variables, variable_type, width}
+use Rattle.lb_static.specs.Instances.{Program, Instance, name_value, node_named, static_count}
+use Rattle.lb_static.specs.Instances.{instances}
 use Rattle.lb_static.specs.Parts.{parts, parts_in, node_parts, right_side}
 use Rattle.lb_static.specs.StaticValues.{named}
 use Rattle.lb_check.specs.Acceptance.{check_refusal}
@@ -32,8 +33,8 @@ use Rattle.lb_check.specs.TypeRules.{is_clock_typed, is_statement_typed, is_type
 use Rattle.lb_check.specs.TypeRules.{expression_size, instance_size, size}
 use Rattle.lb_check.specs.Types.{data_types, all_types, singly, name_data_type, from_one}
 use Rattle.lb_check.specs.Types.{from_truths, unary_type, binary_type, common_type, array_of}
-use Rattle.lb_check.specs.Types.{index_type, slice_type, join_type, operator_types}
-use Rattle.lb_check.proofs.CalledProperties.{instances_typed}
+use Rattle.lb_check.specs.Types.{index_type, slice_type, join_type, operator_types, constant_type}
+use Rattle.lb_check.proofs.AcceptedRules.{all_typed}
 use Rattle.lb_check.proofs.OccurrenceParts.{right_typed}
 use Rattle.lb_check.proofs.OperandTypes.{bound, one, two, from_true, first_of_all, some_same}
 use Rattle.lb_check.proofs.TruthValues.{and_first, and_second}
@@ -46,7 +47,7 @@ use Rattle.lb_flat.specs.Flat.{FirstThen, Previous, Latest, Sample, FlatEquation
 use Rattle.lb_flat.specs.Layouts.{Layout, flat_clock}
 use Rattle.lb_flat.proofs.Bodies.{occurrences_of}
 use Rattle.lb_flat.proofs.Lists.{Every-map, Every-both, Every-first, Every-second}
-use Rattle.lb_flat.proofs.TypeFacts.{elements_in}
+use Rattle.lb_flat.proofs.TypeFacts.{elements_in, constant}
 
 -- ## New elements
 
@@ -300,7 +301,8 @@ module _ (P : Program) (here : Instance) where
     name_few :
         (k : Clock) (s : State) (x : Name) (ts : List DataType) →
         data_types P here (Variable x) ≡ Some ts → (d : Option Declaration) →
-        singly (either_or (option_map (variable_type P here) d) (Some int)) ≡ Some ts →
+        singly (either_or (option_map (variable_type P here) d)
+        (constant_type (name_value P here x))) ≡ Some ts →
         IsFew s.next (emit_name Y P here k s x d).state.next (elements_in ts)
         (weight (Variable x ∷ []))
     name_few k s x ts typed (Some d) is =
@@ -308,7 +310,7 @@ module _ (P : Program) (here : Instance) where
         (own_weight (Variable x) ts [] typed)
     name_few k s x ts typed None is =
         constant_few (flat_clock Y here.path k) s _ (Variable x) ts typed
-        (ap elements_in (sym (some_same _ _ is)))
+        (ap elements_in (constant (name_value P here x) ts is).all)
 
     -- new elements for those of the one operand
     one_added :
@@ -407,7 +409,7 @@ module _ (P : Program) (here : Instance) where
           data_types P here e ≡ Some ts → AllHave (parts_at k n e) → FewAt k n s e ts
       few k n s (Literal m) ts e w =
           constant_few (flat_clock Y here.path k) s _ (Literal m) ts e
-          (ap elements_in (sym (some_same _ _ e)))
+          (ap elements_in (constant (Some (pos m)) ts e).all)
       few k n s (Truth b) ts e w =
           constant_few (flat_clock Y here.path k) s _ (Truth b) ts e
           (ap elements_in (sym (some_same _ _ e)))
@@ -781,7 +783,7 @@ module _ (P : Program) (Y : Layout) (W : Instance → Occurrence → Type 0) whe
       let all = few_instances (before_instances n) (instances P)
       (Every-map _ IsWeighed
       (λ here z. record { typed = z.0; holding = z.1.0; counted = z.1.1 }) (instances P)
-      (Every-both (λ here. is_typed P here ≡ true) _ (instances P) (instances_typed P checked)
+      (Every-both (λ here. is_typed P here ≡ true) _ (instances P) (all_typed P checked)
       (Every-both (λ here. Every (W here) (node_occurrences P here.node)) IsCounted (instances P)
       holds counted))) in
       omega (arith, all)

@@ -1,6 +1,7 @@
 -- What is asked of the places and the clocks of variables, so that the equations of expansion fit:
 -- of an instance, of what it calls, and of each occurrence of an expression in it.
-use Rattle.std.proofs.Common.{◌≡◌, ℕ, ◌<◌, true, false, pos, Some, List, [], ◌∷◌, ◌++◌, length, zip}
+use Rattle.std.proofs.Common.{◌≡◌, ℕ, ◌<◌, true, false, pos, Some, None, List, [], ◌∷◌, ◌++◌}
+use Rattle.std.proofs.Common.{length, zip}
 use Rattle.std.specs.List.{list_all}
 use Rattle.lb_syntax.specs.declared.tree.Kind.TheVariants.{Int, Bool as Truth}
 use Rattle.lb_syntax.specs.Lists.{Every}
@@ -9,6 +10,7 @@ use Rattle.lb_syntax.specs.Tree.{Call, Iterate, Exprs, Declaration, Node, Statem
 use Rattle.lb_syntax.specs.Tree.{Assertion}
 use Rattle.lb_static.specs.Instances.{Program, Instance, Child, call_site, callee_of, node_named}
 use Rattle.lb_static.specs.Instances.{name_value}
+use Rattle.lb_static.specs.StaticValues.{named}
 use Rattle.lb_static.specs.DataTypes.{variables, width}
 use Rattle.lb_check.specs.Scalars.{Integer, or_fault}
 use Rattle.lb_check.specs.Clocks.{Clock, declared_clock, base_clock, given_inputs, outer, ungrouped}
@@ -96,7 +98,9 @@ module _ (S : Sorts) (Y : Layout) (P : Program) where
     -- gives, and what is called has its places and clocks; an iterator has at least one instance
     abbrev pub IsSetAt : Clock → ℕ → Expr → Type 0
     IsSetAt k n (Literal m) = IsOf Int (Integer (pos m))
-    IsSetAt k n (Variable x) = IsOf Int (or_fault (name_value P here x))
+    IsSetAt k n (Variable x) =
+        named (λ d. d.name) x (variables here.node) ≡ None →
+        IsOf Int (or_fault (name_value P here x))
     IsSetAt k n (When a x sign) =
         (i : ℕ) × (rest : List ℕ) × (Y.signs here.path x ≡ i ∷ rest)
     IsSetAt k n (Call f statics es) =

@@ -1,8 +1,8 @@
 -- The left variables of an equation are copies that fit, also where its right side is a call or an
 -- iterated node with several results.
-use Rattle.std.proofs.Common.{◌≡◌, ℕ, ◌+◌, ◌-◌, ◌*◌, ◌<◌, Bool, true, false, if◌then◌else◌, Some}
-use Rattle.std.proofs.Common.{IfSome, List, [], ◌∷◌, ◌++◌, map, length, flat_map, zip, refl, sym}
-use Rattle.std.proofs.Common.{ap, ◌∙◌, subst, subst₂, arith}
+use Rattle.std.proofs.Common.{◌≡◌, ℕ, ◌+◌, ◌-◌, ◌*◌, ◌<◌, true, false, pos, Some, IfSome, List, []}
+use Rattle.std.proofs.Common.{◌∷◌, ◌++◌, map, length, flat_map, zip, refl, sym, ap, ◌∙◌, subst}
+use Rattle.std.proofs.Common.{subst₂, arith}
 use Rattle.std.specs.List.{range_with_len}
 use Rattle.std.specs.Str.{bytes_eq}
 use Rattle.std.proofs.lemmas.List.{length-map}
@@ -19,7 +19,7 @@ use Rattle.lb_static.specs.DataTypes.{DataType, int, truth, is_type, are_types, 
 use Rattle.lb_static.specs.DataTypes.{variable_type, element_count}
 use Rattle.lb_check.specs.Types.{data_types, all_types, singly, name_data_type, from_one}
 use Rattle.lb_check.specs.Types.{from_truths, unary_type, binary_type, common_type, array_of}
-use Rattle.lb_check.specs.Types.{index_type, slice_type, join_type, list_type, is_arithmetic}
+use Rattle.lb_check.specs.Types.{index_type, slice_type, join_type, list_type}
 use Rattle.lb_check.specs.Types.{operator_types, iterator_types}
 use Rattle.lb_check.specs.TypeRules.{type_of_name}
 use Rattle.lb_check.specs.Clocks.{Clock, declared_clock, ungrouped}
@@ -30,7 +30,7 @@ use Rattle.lb_flat.specs.Layouts.{Layout, flat_clock}
 use Rattle.lb_flat.specs.Emit.{Target, targets, copied}
 use Rattle.lb_flat.proofs.Lists.{Every-append, Every-map}
 use Rattle.lb_flat.proofs.TypeFacts.{bound, some_same, alone, one, two, from_true, truly, and_first}
-use Rattle.lb_flat.proofs.TypeFacts.{and_second, same_count, array_count}
+use Rattle.lb_flat.proofs.TypeFacts.{and_second, same_count, array_count, constant, symbolic}
 use Rattle.lb_flat.proofs.OutputWidths.{found_in, each, width_of, length-range}
 use Rattle.lb_flat.proofs.TypedBodies.{name_same, found_passes}
 use Rattle.lb_flat.proofs.Widths.{called, placed}
@@ -68,22 +68,11 @@ symbol_one n Fill u [] args ts e = cc
 symbol_one n Fill u (a ∷ []) args ts e = cc
 symbol_one n Fill u (a ∷ (b ∷ ins)) args ts e = cc
 
-symbol_output :
-    (b : Bool) (types : List DataType × List DataType) →
-    (if b then Some (int ∷ int ∷ [], int ∷ []) else Some (truth ∷ truth ∷ [], truth ∷ []))
-    ≡ Some types → IsOneOf types.1
-symbol_output true types e =
-    let same = some_same _ _ e in
-    (int, ap (λ (t : List DataType × List DataType). t.1) (sym same))
-symbol_output false types e =
-    let same = some_same _ _ e in
-    (truth, ap (λ (t : List DataType × List DataType). t.1) (sym same))
-
 module _ (P : Program) (here : Instance) where
   pub one_result :
       (e : Expr) (ts : List DataType) → is_site (ungrouped e) ≡ false →
       data_types P here e ≡ Some ts → IsOneOf ts
-  one_result (Literal m) ts s e = (int, sym (some_same _ _ e))
+  one_result (Literal m) ts s e = (int, (constant (Some (pos m)) ts e).all)
   one_result (Truth b) ts s e = (truth, sym (some_same _ _ e))
   one_result (Variable x) ts s e =
       let a = alone (name_data_type P here x) ts e in (a.data_type, a.all)
@@ -133,9 +122,10 @@ module _ (P : Program) (here : Instance) where
       let c = bound (static_count P here m) _ ts e in
       let o = bound (operator_types P here (Symbol op)) _ ts c.gives in
       let a = bound (all_types P here es) _ ts o.gives in
-      let y = symbol_output (is_arithmetic op) o.value o.is in
-      symbol_one c.value it y.0 o.value.0 a.value ts
-      (ap (λ outs. iterator_types it c.value o.value.0 outs a.value) (sym y.1) ∙ a.gives)
+      let y = symbolic op o.value o.is in
+      let outs = ap (λ (t : List DataType × List DataType). t.1) y.are in
+      symbol_one c.value it y.data_type o.value.0 a.value ts
+      (ap (λ us. iterator_types it c.value o.value.0 us a.value) (sym outs) ∙ a.gives)
 
 -- ## Lists of pieces
 

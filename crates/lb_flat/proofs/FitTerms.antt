@@ -1,7 +1,7 @@
 -- The equations of an expression fit, and its elements are on its clock and of the kind of its
 -- type.
 use Rattle.std.proofs.Common.{◌≡◌, ℕ, ◌+◌, ◌-◌, Bool, true, false, ◌&&◌, ◌||◌, not, cond, ℤ, pos}
-use Rattle.std.proofs.Common.{if◌then◌else◌, Option, Some, None, IfSome, option_map, List, [], ◌∷◌}
+use Rattle.std.proofs.Common.{◌⊎◌, inl, inr, Option, Some, None, IfSome, option_map, List, [], ◌∷◌}
 use Rattle.std.proofs.Common.{◌++◌, map, refl, sym, ap, ◌∙◌, subst, subst₂}
 use Rattle.std.specs.Str.{bytes_eq}
 use Rattle.std.proofs.lemmas.Slice.Eq.{bytes_eq-Decides}
@@ -27,7 +27,7 @@ use Rattle.lb_static.specs.Parts.{among, variable_names}
 use Rattle.lb_check.specs.Types.{data_types, all_types, only, singly, name_data_type, from_one}
 use Rattle.lb_check.specs.Types.{from_truths, unary_type, binary_type, common_type, array_of}
 use Rattle.lb_check.specs.Types.{index_type, slice_type, join_type, list_type, is_arithmetic}
-use Rattle.lb_check.specs.Types.{operator_types, iterator_types}
+use Rattle.lb_check.specs.Types.{is_logical, constant_type, operator_types, iterator_types}
 use Rattle.lb_check.specs.Scalars.{Scalar, Integer, Boolean, or_fault, first_value}
 use Rattle.lb_check.specs.Clocks.{Clock, On, clock_of, clock_or, declared_clock}
 use Rattle.lb_check.specs.ClockRules.{is_clock}
@@ -45,7 +45,7 @@ use Rattle.lb_flat.proofs.Lists.{Every-copies, Every-joined}
 use Rattle.lb_flat.proofs.Emission.{joins_equations}
 use Rattle.lb_flat.proofs.ScalarKinds.{IsOf, nil_of, binary_kind}
 use Rattle.lb_flat.proofs.TypeFacts.{bound, some_same, single, alone, one, two, from_true, truly}
-use Rattle.lb_flat.proofs.TypeFacts.{and_first, and_second}
+use Rattle.lb_flat.proofs.TypeFacts.{Symbolic, constant, symbolic, and_first, and_second}
 use Rattle.lb_flat.proofs.OutputWidths.{found_in, each}
 use Rattle.lb_flat.proofs.TypedBodies.{name_same, found_passes}
 use Rattle.lb_flat.proofs.KindFacts.{AllOf, type_kind, kinds_alike, arrays_alike, unary_kinds}
@@ -86,13 +86,6 @@ first_typed P here e es ts h =
       all = sym (some_same _ _ d.gives);
     }
 
--- a symbol takes two of a type and gives one of it
-record Symbolic (op : BinaryOperator) (types : List DataType × List DataType) : Type 0 where
-  data_type : DataType
-  ins : types.0 ≡ data_type ∷ (data_type ∷ [])
-  outs : types.1 ≡ data_type ∷ []
-  takes : binary_kind op data_type.kind data_type.kind ≡ Some data_type.kind
-
 arithmetic_kind :
     (op : BinaryOperator) → is_arithmetic op ≡ true → binary_kind op Int Int ≡ Some Int
 arithmetic_kind Plus e = refl
@@ -111,28 +104,39 @@ arithmetic_kind Xor e = cc
 arithmetic_kind And e = cc
 arithmetic_kind Implies e = cc
 
-symbol_types :
-    (op : BinaryOperator) (b : Bool) (types : List DataType × List DataType) →
-    is_arithmetic op ≡ b →
+no_arithmetic : (op : BinaryOperator) → is_logical op ≡ true → is_arithmetic op ≡ false
+no_arithmetic Plus e = absurd cc
+no_arithmetic Minus e = absurd cc
+no_arithmetic Times e = absurd cc
+no_arithmetic Divide e = absurd cc
+no_arithmetic Modulo e = absurd cc
+no_arithmetic Equal e = refl
+no_arithmetic Unequal e = refl
+no_arithmetic Less e = refl
+no_arithmetic AtMost e = refl
+no_arithmetic Greater e = refl
+no_arithmetic AtLeast e = refl
+no_arithmetic Or e = refl
+no_arithmetic Xor e = refl
+no_arithmetic And e = refl
+no_arithmetic Implies e = refl
+
+-- a symbol gives the kind that it takes
+symbol_kind :
+    (op : BinaryOperator) (types : List DataType × List DataType) (y : Symbolic op types) →
     (is_arithmetic op ≡ false → binary_kind op Truth_kind Truth_kind ≡ Some Truth_kind) →
-    (if b then Some (int ∷ int ∷ [], int ∷ []) else Some (truth ∷ truth ∷ [], truth ∷ []))
-    ≡ Some types → Symbolic op types
-symbol_types op true types is w e =
-    let same = some_same _ _ e in
-    record {
-      data_type = int;
-      ins = ap (λ (t : List DataType × List DataType). t.0) (sym same);
-      outs = ap (λ (t : List DataType × List DataType). t.1) (sym same);
-      takes = arithmetic_kind op is;
-    }
-symbol_types op false types is w e =
-    let same = some_same _ _ e in
-    record {
-      data_type = truth;
-      ins = ap (λ (t : List DataType × List DataType). t.0) (sym same);
-      outs = ap (λ (t : List DataType × List DataType). t.1) (sym same);
-      takes = w is;
-    }
+    binary_kind op y.data_type.kind y.data_type.kind ≡ Some y.data_type.kind
+symbol_kind op types y w = by y.of
+  where
+    by : ((is_arithmetic op ≡ true) × (y.data_type ≡ int))
+        ⊎ ((is_logical op ≡ true) × (y.data_type ≡ truth)) →
+        binary_kind op y.data_type.kind y.data_type.kind ≡ Some y.data_type.kind
+    by (inl (a, e)) =
+        subst (λ (t : DataType). binary_kind op t.kind t.kind ≡ Some t.kind) (sym e)
+        (arithmetic_kind op a)
+    by (inr (l, e)) =
+        subst (λ (t : DataType). binary_kind op t.kind t.kind ≡ Some t.kind) (sym e)
+        (w (no_arithmetic op l))
 
 head_same : (s t : DataType) (ss ts : List DataType) → s ∷ ss ≡ t ∷ ts → s ≡ t
 head_same s t ss ts e = cc
@@ -225,14 +229,18 @@ module _ (S : Sorts) (Y : Layout) (P : Program) (here : Instance)
 
   name_fits :
       (k : Clock) (s : State) (x : Name) (o : Option Declaration) (ts : List DataType) →
-      named (λ d. d.name) x (variables here.node) ≡ o → IsOf Int (or_fault (name_value P here x)) →
+      named (λ d. d.name) x (variables here.node) ≡ o →
+      (named (λ d. d.name) x (variables here.node) ≡ None →
+      IsOf Int (or_fault (name_value P here x))) →
       (not (among x (variable_names here.node)) || is_clock k (declared_clock here.node x)) ≡ true →
-      singly (either_or (option_map (variable_type P here) o) (Some int)) ≡ Some ts →
+      singly (either_or (option_map (variable_type P here) o)
+      (constant_type (name_value P here x))) ≡ Some ts →
       AllSorted S (emit_name Y P here k s x o).state.equations →
       TermFits s (emit_name Y P here k s x o) k ts
   name_fits k s x None ts is w c e h =
       constant_fits k s (or_fault (name_value P here x)) int ts
-      (named_gives (flat k) (name_value P here x) w) (sym (some_same _ _ e)) h
+      (named_gives (flat k) (name_value P here x) (w is))
+      (constant (name_value P here x) ts e).all h
   name_fits k s x (Some d) ts is w c e h =
       let a = alone (variable_type P here d) ts e in
       let test = λ (d : Declaration). bytes_eq d.name x in
@@ -375,7 +383,7 @@ module _ (S : Sorts) (Y : Layout) (P : Program) (here : Instance)
         TermFits s (emit Y P here k n s e) k ts
     fits_term k n s (Literal m) ts e w h =
         constant_fits k s (Integer (pos m)) int ts (integer_gives S (flat k) (pos m) w.0.at_it)
-        (sym (some_same _ _ e)) h
+        (constant (Some (pos m)) ts e).all h
     fits_term k n s (Truth b) ts e w h =
         constant_fits k s (Boolean b) truth ts (boolean_gives S (flat k) b)
         (sym (some_same _ _ e)) h
@@ -583,12 +591,10 @@ module _ (S : Sorts) (Y : Layout) (P : Program) (here : Instance)
         let c = bound (static_count P here m) _ ts e in
         let o = bound (operator_types P here (Symbol op)) _ ts c.gives in
         let a = bound (all_types P here es) _ ts o.gives in
-        let y = symbol_types op (is_arithmetic op) o.value refl w.0.at_it o.is in
-        let types = ap (λ ins. iterator_types it c.value ins o.value.1 a.value) (sym y.ins)
-        ∙ a.gives in
-        symbol_fits k op y.data_type y.takes c.value it a.value ts s _
-        (ap (λ outs. iterator_types it c.value (y.data_type ∷ (y.data_type ∷ [])) outs a.value)
-        (sym y.outs) ∙ types) h
+        let y = symbolic op o.value o.is in
+        symbol_fits k op y.data_type (symbol_kind op o.value y w.0.at_it) c.value it a.value ts s _
+        (ap (λ (t : List DataType × List DataType). iterator_types it c.value t.0 t.1 a.value)
+        (sym y.are) ∙ a.gives) h
         (λ g. fits_all k n s es a.value a.is w.1 g)
 
     -- expressions on one clock

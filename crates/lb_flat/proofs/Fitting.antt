@@ -14,6 +14,8 @@ use Rattle.lb_check.specs.Solutions.{Inputs, fits, is_row}
 use Rattle.lb_flat.specs.Flat.{FlatClock, Operation, Input, Constant, Copy, ApplyUnary, ApplyBinary}
 use Rattle.lb_flat.specs.Flat.{Choose, FirstThen, Previous, Latest, Sample, FlatEquation, column}
 use Rattle.lb_flat.specs.Flat.{instants, FlatSolves}
+pub use Rattle.lb_flat.specs.Fitting.{OperandKinds, KindFits, IsFitting}
+use Rattle.lb_flat.specs.Fitting.{OperandsFit, ClockFits, IsOf}
 use Rattle.lb_flat.specs.Run.{Row, cell, is_now, chosen_cell, now, remembered, advanced}
 use Rattle.lb_flat.specs.Run.{clock_reads, reads, Ready}
 use Rattle.lb_flat.proofs.Lists.{Every-first}
@@ -21,27 +23,8 @@ use Rattle.lb_flat.proofs.Columns.{column_long, instants_long}
 use Rattle.lb_flat.proofs.Stepping.{HoldsNow, first_row, after_first, column_step, instants_step}
 use Rattle.lb_flat.proofs.Stepping.{NowAndLater, now_and_later}
 use Rattle.lb_flat.proofs.Running.{Step, step_of, ready_advanced}
-use Rattle.lb_flat.proofs.OnClock.{OperandsFit, ClockFits, row_on}
-use Rattle.lb_flat.proofs.ScalarKinds.{IsOf, binary_kind, unary_kind, binary_of, unary_of}
-use Rattle.lb_flat.proofs.ScalarKinds.{chosen_of}
-
--- ## Kinds of an equation
-
--- the kinds of what an operation reads, where N gives the kind of each element
-abbrev pub OperandKinds : List Kind → (ℕ → Kind) → Kind → Operation → Type 0
-OperandKinds inputs N kind (Input j) = slice_get inputs j ≡ Some kind
-OperandKinds inputs N kind (Constant v) = IsOf kind v
-OperandKinds inputs N kind (Copy a) = N a ≡ kind
-OperandKinds inputs N kind (ApplyUnary op a) = unary_kind op (N a) ≡ Some kind
-OperandKinds inputs N kind (ApplyBinary op a b) = binary_kind op (N a) (N b) ≡ Some kind
-OperandKinds inputs N kind (Choose c a b) = (N a ≡ kind) × (N b ≡ kind)
-OperandKinds inputs N kind (FirstThen started a b) = (N a ≡ kind) × (N b ≡ kind)
-OperandKinds inputs N kind (Previous v a) = IsOf kind v × (N a ≡ kind)
-OperandKinds inputs N kind (Latest v a) = IsOf kind v × (N a ≡ kind)
-OperandKinds inputs N kind (Sample a) = N a ≡ kind
-
-abbrev pub KindFits : List Kind → (ℕ → Kind) → FlatEquation → Type 0
-KindFits inputs N q = OperandKinds inputs N (N q.element) q.operation
+use Rattle.lb_flat.proofs.OnClock.{row_on}
+use Rattle.lb_flat.proofs.ScalarKinds.{binary_of, unary_of, chosen_of}
 
 -- a cell is absent or holds a scalar of a kind
 abbrev pub CellOf : Kind → Cell → Type 0
@@ -252,12 +235,6 @@ compared zero (suc n) = inl (omega arith)
 compared (suc i) zero = inr (omega arith)
 compared (suc i) (suc n) =
     elim (compared i n) [ inl lt ↦ inl (omega arith) | inr le ↦ inr (omega arith) ]
-
--- the clocks and the kinds of a flat program fit
-pub record IsFitting (inputs : List Kind) (K : ℕ → FlatClock) (N : ℕ → Kind)
-    (Q : List FlatEquation) : Type 0 where
-  pub clocks : Every (ClockFits (length inputs) K) Q
-  pub kinds : Every (KindFits inputs N) Q
 
 module _ (inputs : List Kind) (K : ℕ → FlatClock) (N : ℕ → Kind) (size : ℕ) where
   pub solution_fits :

@@ -19,15 +19,14 @@ use Rattle.lb_check.specs.Streams.{History}
 use Rattle.lb_check.proofs.SameSolutions.{solves_same}
 use Rattle.lb_flat.specs.Emit.{State, given_inputs, observed, before_instances, emit_instances}
 use Rattle.lb_flat.specs.Emit.{expanded}
-use Rattle.lb_flat.specs.Expanded.{IsOrderingOf}
-use Rattle.lb_flat.specs.Flat.{FlatClock, FlatEquation, column, instants, Holds, FlatSolves}
+use Rattle.lb_flat.specs.Flat.{FlatClock, FlatEquation, column, instants, FlatSolves}
 use Rattle.lb_flat.specs.FlatSolutions.{IsFlatSolution}
 use Rattle.lb_flat.specs.Flattening.{history_of}
 use Rattle.lb_flat.specs.Layouts.{Layout, flat_clock}
 use Rattle.lb_flat.proofs.Adding.{columns}
 use Rattle.lb_flat.proofs.Bodies.{IsSolvedAt, all_closed}
 use Rattle.lb_flat.proofs.Closing.{Closed}
-use Rattle.lb_flat.proofs.Expanding.{ordered}
+use Rattle.lb_flat.proofs.CopiedElements.{expanded_within}
 use Rattle.lb_flat.proofs.FilledFits.{fresh_fits, cells_fit}
 use Rattle.lb_flat.proofs.Filling.{filled_solves}
 use Rattle.lb_flat.proofs.Fitting.{KindFits, IsFitting}
@@ -37,14 +36,12 @@ use Rattle.lb_flat.proofs.Lists.{Every-map, Every-both, Every-second, Every-of_p
 use Rattle.lb_flat.proofs.Observing.{all_places}
 use Rattle.lb_flat.proofs.OnClock.{ClockFits}
 use Rattle.lb_flat.proofs.Placing.{Agrees, presence_flat}
-use Rattle.lb_flat.proofs.Solving.{Every-ordered, IsElement, IsVariablePlaced, IsPlacing}
+use Rattle.lb_flat.proofs.Solving.{IsElement, IsVariablePlaced, IsPlacing}
 use Rattle.lb_flat.proofs.Whole.{IsProgramSound, IsTied, to_flat}
 
 module _ (P : Program) (elaborated : static_refusal P ≡ None) (checked : check_refusal P ≡ None)
-    (Y : Layout) (count : ℕ) (K : ℕ → FlatClock) (N : ℕ → Kind) (Q : List FlatEquation)
-    (ordering : IsOrderingOf (expanded Y P count).equations Q)
-    (within : Every (λ q. q.element < (expanded Y P count).size) Q)
-    (fit : IsFitting (input_kinds P) K N Q)
+    (Y : Layout) (count : ℕ) (K : ℕ → FlatClock) (N : ℕ → Kind)
+    (fit : IsFitting (input_kinds P) K N (expanded Y P count).equations)
     (placing : IsPlacing Y P count K N (expanded Y P count).size)
     (order : all_places Y P ≡ range_with_len 0 count)
     (sound : (X : Inputs) (F : List Stream) → IsProgramSound Y P (history_of Y X F)) where
@@ -60,14 +57,15 @@ module _ (P : Program) (elaborated : static_refusal P ≡ None) (checked : check
       (record { fresh = tt; next = omega arith })
 
   -- what holds of all equations holds of those of the further elements
-  of_further : (Q' : FlatEquation → Type 0) → Every Q' Q → Every Q' further.equations
-  of_further Q' h =
+  of_further :
+      (Q : FlatEquation → Type 0) → Every Q (expanded Y P count).equations →
+      Every Q further.equations
+  of_further Q h =
       let given = given_inputs Y (instance_at P Root) in
       let seen = observed Y (instance_at P Root) (instance_at P Observer) in
-      Every-second Q' further.copies further.equations
-      (Every-second Q' seen (further.copies ++ further.equations)
-      (Every-second Q' given (seen ++ (further.copies ++ further.equations))
-      (Every-ordered Q' (expanded Y P count).equations Q ordering.there h)))
+      Every-second Q further.copies further.equations
+      (Every-second Q seen (further.copies ++ further.equations)
+      (Every-second Q given (seen ++ (further.copies ++ further.equations)) h))
 
   module _ (X : Inputs) (H : History) (h : Solves P X H) where
     -- the streams of all elements
@@ -199,17 +197,13 @@ module _ (P : Program) (elaborated : static_refusal P ≡ None) (checked : check
           (omega (arith, lt, closed.next))
 
       -- a history that solves the program comes from streams that solve the flat program
-      pub solved_flat : IsFlatSolution (input_kinds P) N (ordered Y P count Q) X streams_for
+      pub solved_flat : IsFlatSolution (input_kinds P) N (expanded Y P count) X streams_for
       solved_flat = record {
         rows = h.rows;
-        equations = record {
-          elements = flat.elements;
-          as_long = flat.as_long;
-          equations =
-              Every-ordered (Holds X streams_for) Q (expanded Y P count).equations ordering.back
-              flat.equations;
-        };
-        cells = cells_fit (input_kinds P) K N size X streams_for Q within fit.clocks each_fit;
+        equations = flat;
+        cells =
+            cells_fit (input_kinds P) K N size X streams_for (expanded Y P count).equations
+            (expanded_within count Y P placing.laid) fit.clocks each_fit;
       }
 
       pub solved_same : AreSame P history_for H

@@ -1,6 +1,5 @@
--- The flat program of an accepted program stands for it, in any order of its equations, where its
--- clocks and kinds fit, the layout gives variables their elements, and each element has an
--- equation.
+-- The flat program of an accepted program stands for it, where its clocks and kinds fit, the layout
+-- gives variables their elements, and each element has an equation.
 use Rattle.std.proofs.Common.{◌≡◌, ℕ, ◌<◌, None, List, ◌++◌, map, length}
 use Rattle.lb_syntax.specs.declared.tree.Kind.{Kind}
 use Rattle.lb_syntax.specs.Lists.{Every, In}
@@ -11,19 +10,18 @@ use Rattle.lb_static.specs.Instantiation.{static_refusal}
 use Rattle.lb_check.specs.Acceptance.{check_refusal}
 use Rattle.lb_check.specs.Occurrences.{node_occurrences}
 use Rattle.lb_check.specs.Scalars.{Stream}
-use Rattle.lb_check.specs.Solutions.{Inputs, variable_presence, Solves}
+use Rattle.lb_check.specs.Solutions.{Inputs, variable_presence, Solves, AreSame}
 use Rattle.lb_check.specs.Streams.{History}
 use Rattle.lb_flat.specs.Emit.{State, given_inputs, observed, before_instances, emit_instances}
 use Rattle.lb_flat.specs.Emit.{expanded}
-use Rattle.lb_flat.specs.Expanded.{IsOrderingOf}
-use Rattle.lb_flat.specs.Flat.{FlatClock, FlatEquation, instants}
+use Rattle.lb_flat.specs.Flat.{FlatClock, instants}
 use Rattle.lb_flat.specs.FlatSolutions.{IsFlatSolution}
-use Rattle.lb_flat.specs.Flattening.{history_of}
+use Rattle.lb_flat.specs.Flattening.{history_of, IsWatched}
+use Rattle.lb_flat.specs.Judging.{FlatProgram}
 use Rattle.lb_flat.specs.Layouts.{Layout}
-use Rattle.lb_flat.specs.StandingPrograms.{StandsFor}
+use Rattle.lb_flat.specs.MemoryPlaces.{HasAllMemories}
 use Rattle.lb_flat.proofs.Adding.{columns}
 use Rattle.lb_flat.proofs.EmittedParts.{Stay, second_stays}
-use Rattle.lb_flat.proofs.Expanding.{ordered}
 use Rattle.lb_flat.proofs.Fitting.{IsFitting}
 use Rattle.lb_flat.proofs.FlatHistories.{streams_for, solved_flat, solved_same}
 use Rattle.lb_flat.proofs.Gathering.{all_gathered}
@@ -36,12 +34,28 @@ use Rattle.lb_flat.proofs.SoundInstances.{RunsAt}
 use Rattle.lb_flat.proofs.SoundPrograms.{program_sound}
 use Rattle.lb_flat.proofs.Whole.{IsProgramSound}
 
+-- the streams that solve the flat program, with presence and kinds, and the histories that solve the
+-- program on a trace, are the same; what decides a verdict is watched, and the memories of all
+-- operators stand in the flat program
+pub record StandsFor (P : Program) (Y : Layout) (kinds : ℕ → Kind) (f : FlatProgram) :
+    Type 0 where
+  pub solves :
+      (X : Inputs) (F : List Stream) → IsFlatSolution (input_kinds P) kinds f X F →
+      Solves P X (history_of Y X F)
+  pub solved :
+      (X : Inputs) (H : History) → Solves P X H →
+      (F : List Stream) × IsFlatSolution (input_kinds P) kinds f X F
+      × AreSame P (history_of Y X F) H
+  pub watched :
+      (X : Inputs) (F : List Stream) → IsFlatSolution (input_kinds P) kinds f X F → (t : ℕ) →
+      t < length X → IsWatched P f X F (history_of Y X F) t
+  pub memories : HasAllMemories P Y kinds f
+
 module _ (P : Program) (elaborated : static_refusal P ≡ None) (checked : check_refusal P ≡ None)
-    (Y : Layout) (count : ℕ) (K : ℕ → FlatClock) (N : ℕ → Kind) (Q : List FlatEquation)
-    (ordering : IsOrderingOf (expanded Y P count).equations Q)
-    (each : (i : ℕ) → i < (expanded Y P count).size → In i (map (λ q. q.element) Q))
-    (within : Every (λ q. q.element < (expanded Y P count).size) Q)
-    (fit : IsFitting (input_kinds P) K N Q)
+    (Y : Layout) (count : ℕ) (K : ℕ → FlatClock) (N : ℕ → Kind)
+    (each : (i : ℕ) → i < (expanded Y P count).size →
+    In i (map (λ q. q.element) (expanded Y P count).equations))
+    (fit : IsFitting (input_kinds P) K N (expanded Y P count).equations)
     (placing : IsPlacing Y P count K N (expanded Y P count).size)
     (order : IsInOrder Y P count)
     -- what is called runs on the clock of the call
@@ -49,7 +63,7 @@ module _ (P : Program) (elaborated : static_refusal P ≡ None) (checked : check
     Every (λ here. Every (RunsAt Y P H here) (node_occurrences P here.node)) (instances P))
     -- a variable that serves for another in a clock has its streams
     (signs : (X : Inputs) (F : List Stream) →
-    IsFlatSolution (input_kinds P) N (ordered Y P count Q) X F → (p : Path) (x : Name) →
+    IsFlatSolution (input_kinds P) N (expanded Y P count) X F → (p : Path) (x : Name) →
     columns X F (Y.places p x) ≡ columns X F (Y.signs p x))
     -- and so it is in the streams that are filled in from a history that solves the program, on
     -- whose clocks all instances run
@@ -88,35 +102,32 @@ module _ (P : Program) (elaborated : static_refusal P ≡ None) (checked : check
   abbrev further : State
   further = emit_instances Y P (before_instances count) (instances P)
 
-  further_there : Stay further.equations Q
+  further_there : Stay further.equations (expanded Y P count).equations
   further_there q i =
       let given = given_inputs Y (instance_at P Root) in
       let seen = observed Y (instance_at P Root) (instance_at P Observer) in
-      ordering.there q
-      (second_stays given (seen ++ (further.copies ++ further.equations)) q
+      second_stays given (seen ++ (further.copies ++ further.equations)) q
       (second_stays seen (further.copies ++ further.equations) q
-      (second_stays further.copies further.equations q i)))
+      (second_stays further.copies further.equations q i))
 
   -- the flat program stands for the program
-  pub stands_for : StandsFor P Y N (ordered Y P count Q)
+  pub stands_for : StandsFor P Y N (expanded Y P count)
   stands_for = record {
-    accepted = elaborated;
-    checked = checked;
     solves = λ X F s.
-        solution_solves P Y count K N Q ordering each fit placing X F s (signs X F s) (sound X F);
+        solution_solves P Y count K N each fit placing X F s (signs X F s) (sound X F);
     solved = λ X H h. (
-      streams_for P elaborated checked Y count K N Q ordering within fit placing order.variables
+      streams_for P elaborated checked Y count K N fit placing order.variables
           sound X H h,
-      solved_flat P elaborated checked Y count K N Q ordering within fit placing order.variables
+      solved_flat P elaborated checked Y count K N fit placing order.variables
           sound X H h (long X H h) (ticks X H h) (served X H h),
-      solved_same P elaborated checked Y count K N Q ordering within fit placing order.variables
+      solved_same P elaborated checked Y count K N fit placing order.variables
           sound X H h (long X H h) (ticks X H h) (served X H h),
     );
     watched = λ X F s t lt.
-        solution_watched P Y count K N Q ordering each fit placing X F s (signs X F s) (sound X F)
+        solution_watched P Y count K N each fit placing X F s (signs X F s) (sound X F)
         order t;
     memories =
-        memories_are P elaborated checked Y placed runs count N (ordered Y P count Q)
+        memories_are P elaborated checked Y placed runs count N (expanded Y P count)
         further_there signs
-        (λ X F s. further_met P Y count K N Q ordering each fit placing X F s);
+        (λ X F s. further_met P Y count K N each fit placing X F s);
   }

@@ -14,6 +14,7 @@ use Rattle.lb_check.specs.Scalars.{Stream, is_of_kind}
 use Rattle.lb_check.specs.Streams.{History}
 use Rattle.lb_check.specs.Verdicts.{variable_columns}
 use Rattle.lb_check.specs.Solutions.{Inputs, fits, variable_presence, Fits, SolvesAt, Solves}
+use Rattle.lb_check.proofs.ListPairs.{cons_same}
 use Rattle.lb_flat.specs.Flat.{FlatClock, column, AreLong}
 use Rattle.lb_flat.specs.Layouts.{Layout}
 use Rattle.lb_flat.specs.Emit.{State, before_instances, emit_instances}
@@ -37,22 +38,17 @@ pub record Halves {A : Type 0} (xs ys us vs : List A) : Type 0 where
   pub first : xs ≡ ys
   pub second : us ≡ vs
 
-heads_same : {A : Type 0} (x y : A) (xs ys : List A) → x ∷ xs ≡ y ∷ ys → x ≡ y
-heads_same x y xs ys e = cc
-
-tails_same : {A : Type 0} (x y : A) (xs ys : List A) → x ∷ xs ≡ y ∷ ys → xs ≡ ys
-tails_same x y xs ys e = cc
-
-halves :
+pub halves :
     {A : Type 0} (xs ys us vs : List A) → length xs ≡ length ys → xs ++ us ≡ ys ++ vs →
     Halves xs ys us vs
 halves [] [] us vs n e = record { first = refl; second = e }
 halves [] (y ∷ ys) us vs n e = absurd (omega (arith, n))
 halves (x ∷ xs) [] us vs n e = absurd (omega (arith, n))
 halves (x ∷ xs) (y ∷ ys) us vs n e =
-    let r = halves xs ys us vs (omega (arith, n)) (tails_same x y (xs ++ us) (ys ++ vs) e) in
+    let both = cons_same x y (xs ++ us) (ys ++ vs) e in
+    let r = halves xs ys us vs (omega (arith, n)) both.1 in
     record {
-      first = ap₂ (λ z zs. z ∷ zs) (heads_same x y (xs ++ us) (ys ++ vs) e) r.first;
+      first = ap₂ (λ z zs. z ∷ zs) both.0 r.first;
       second = r.second;
     }
 

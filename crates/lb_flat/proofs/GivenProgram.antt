@@ -25,6 +25,7 @@ use Rattle.lb_check.specs.Elements.{program_elements}
 use Rattle.lb_check.specs.Solutions.{columns_at}
 use Rattle.lb_check.specs.Streams.{History}
 use Rattle.lb_check.specs.TypeRules.{is_clock_typed, is_statement_typed, is_typed}
+use Rattle.lb_check.proofs.AcceptedRules.{all_typed}
 use Rattle.lb_check.proofs.ApartLists.{Every-at, Every-from}
 use Rattle.lb_check.proofs.Checks.{first_none, second_none, kept, instantiation_kept}
 use Rattle.lb_check.proofs.Every.{Every-map, Every-both, Every-tested, Every-all, Every-append}
@@ -35,7 +36,7 @@ use Rattle.lb_check.proofs.SameInstances.{IsEntered, all_entered}
 use Rattle.lb_check.proofs.TruthValues.{and_first, and_second}
 use Rattle.lb_flat.specs.Flat.{FlatEquation, column}
 use Rattle.lb_flat.specs.Flattening.{history_of}
-use Rattle.lb_flat.specs.Given.{AreApart, IsGiven}
+use Rattle.lb_flat.specs.GivenOnce.{IsGiven}
 use Rattle.lb_flat.specs.Layouts.{Layout, flat_clock}
 use Rattle.lb_flat.specs.NumberedLayouts.{layout}
 use Rattle.lb_flat.specs.Run.{clock_reads, reads, keeps, equation_reads}
@@ -51,12 +52,12 @@ use Rattle.lb_flat.proofs.GivenBodies.{IsReady, in_names, in_instance, instances
 use Rattle.lb_flat.proofs.GivenCalls.{element_numbers, target_places, received_gives, in_inputs}
 use Rattle.lb_flat.proofs.GivenCalls.{given_in, given-append}
 use Rattle.lb_flat.proofs.Lists.{map-pieces}
+use Rattle.lb_flat.proofs.NumberedWidths.{calls_wide}
 use Rattle.lb_flat.proofs.NumberedPlaces.{places_walk, places_width, is_laid_out}
 use Rattle.lb_flat.proofs.Observing.{all_places}
 use Rattle.lb_flat.proofs.Placing.{AreAsWide}
 use Rattle.lb_flat.proofs.SoundInstances.{body_typed}
 use Rattle.lb_flat.proofs.TypedBodies.{body_wide}
-use Rattle.lb_flat.proofs.WideInstances.{all_typed, calls_wide}
 use Rattle.lb_flat.proofs.Totals.{total, total-append, total-plus, total-same, total-map}
 use Rattle.lb_flat.proofs.Totals.{total-pieces, times, times_of, of_times, once_apart, range_low}
 use Rattle.lb_flat.proofs.Totals.{range_high, range_once, same_sums}
@@ -196,7 +197,7 @@ module _ (P : Program) (accepted : static_refusal P ≡ None) (checked : check_r
     ready : Every (IsReady Y P H same i) (instances P)
     ready =
         Every-from (IsReady Y P H same i) (instances P) (λ here j.
-        let of_calls = calls_wide P accepted H wide here j in
+        let of_calls = calls_wide P accepted [] [] checked here j in
         let own = wide here j in
         record {
           variables = own;
@@ -409,10 +410,7 @@ module _ (P : Program) (accepted : static_refusal P ≡ None) (checked : check_r
       absurd (omega (arith, there, part, all, none)))
 
   -- each element has exactly one equation, and a further one reads lower ones alone
-  pub given_whole :
-      IsGiven (length (program_elements P))
-      (expanded (layout P) P (length (program_elements P))).size
-      (expanded (layout P) P (length (program_elements P))).equations
+  pub given_whole : IsGiven (expanded (layout P) P (length (program_elements P)))
   given_whole = record {
     each = λ i lt.
         of_times i (element_numbers Q) (at_least_once i (omega (arith, lt, closed.next)));

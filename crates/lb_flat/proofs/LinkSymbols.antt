@@ -1,7 +1,7 @@
 -- What iterated nodes and iterated symbols give, element by element.
-use Rattle.std.proofs.Common.{◌≡◌, inl, inr, ℕ, zero, suc, ◌+◌, ◌-◌, ◌<◌, ◌≤◌, true, false, Bool}
-use Rattle.std.proofs.Common.{if◌then◌else◌, Option, Some, None, List, [], ◌∷◌, ◌++◌, map, length}
-use Rattle.std.proofs.Common.{flat_map, refl, sym, ap, ◌∙◌, subst, arith}
+use Rattle.std.proofs.Common.{◌≡◌, inl, inr, ℕ, zero, suc, ◌+◌, ◌-◌, ◌<◌, ◌≤◌, true, ◌⊎◌, Some}
+use Rattle.std.proofs.Common.{List, [], ◌∷◌, ◌++◌, map, length, flat_map, refl, sym, ap, ◌∙◌, subst}
+use Rattle.std.proofs.Common.{arith}
 use Rattle.std.specs.List.{range_with_len}
 use Rattle.lb_syntax.specs.declared.tree.BinaryOperator.{BinaryOperator}
 use Rattle.lb_syntax.specs.declared.tree.ArrayIterator.{ArrayIterator}
@@ -9,14 +9,14 @@ use Rattle.lb_syntax.specs.declared.tree.ArrayIterator.TheVariants.{Map, Red, Fi
 use Rattle.lb_syntax.specs.Lists.{Every, zip2, joined, tail_of, all_some}
 use Rattle.lb_syntax.specs.Tree.{Name, Declaration}
 use Rattle.lb_static.specs.DataTypes.{DataType, int, truth}
-use Rattle.lb_check.specs.Types.{array_of, red_types}
+use Rattle.lb_check.specs.Types.{array_of, is_arithmetic, is_logical, red_types, symbol_types}
 use Rattle.lb_check.specs.Needs.{Element, symbol_needs}
 use Rattle.lb_check.specs.Streams.{gathered, last_of, iterated}
 use Rattle.lb_flat.specs.Flat.{FlatClock, FlatEquation, ApplyBinary}
 use Rattle.lb_flat.specs.Run.{clock_reads}
 use Rattle.lb_flat.specs.Layouts.{where_signed}
 use Rattle.lb_flat.specs.Emit.{State, Emitted, keep, joins, emit_symbol}
-use Rattle.lb_flat.proofs.TypeFacts.{elements_in, bound, truly, some_same}
+use Rattle.lb_flat.proofs.TypeFacts.{elements_in, bound, truly, symbolic}
 use Rattle.lb_flat.proofs.LinkWords.{SomeOf, Pairs, pairs-append, pairs-pieces, AllMeet, AreLinks}
 use Rattle.lb_flat.proofs.LinkWords.{added, each_two, all_links, two_links, step, chained_gives}
 
@@ -66,13 +66,17 @@ joins_found s qs is = refl
 -- ## Types of iterated symbols
 
 pub symbol_out :
-    (b : Bool) (types : List DataType × List DataType) →
-    (if b then Some (int ∷ int ∷ [], int ∷ []) else Some (truth ∷ truth ∷ [], truth ∷ []))
-    ≡ Some types → elements_in types.1 ≡ 1
-symbol_out true types e =
-    ap (λ (t : List DataType × List DataType). elements_in t.1) (sym (some_same _ _ e))
-symbol_out false types e =
-    ap (λ (t : List DataType × List DataType). elements_in t.1) (sym (some_same _ _ e))
+    (op : BinaryOperator) (types : List DataType × List DataType) →
+    symbol_types op ≡ Some types → elements_in types.1 ≡ 1
+symbol_out op types e =
+    let y = symbolic op types e in
+    ap (λ (t : List DataType × List DataType). elements_in t.1) y.are ∙ by y.data_type y.of
+  where
+    by : (u : DataType) →
+        ((is_arithmetic op ≡ true) × (u ≡ int)) ⊎ ((is_logical op ≡ true) × (u ≡ truth)) →
+        elements_in (u ∷ []) ≡ 1
+    by u (inl (a, e)) = ap (λ (t : DataType). elements_in (t ∷ [])) e
+    by u (inr (l, e)) = ap (λ (t : DataType). elements_in (t ∷ [])) e
 
 pub red_out :
     (n : ℕ) (ins outs args ts : List DataType) → red_types n ins outs args ≡ Some ts → ts ≡ outs

@@ -1,7 +1,7 @@
 -- The found elements of an expression come from the elements of the variables that it needs,
 -- element by element, or are left by what its clock reads.
 use Rattle.std.proofs.Common.{◌≡◌, ◌⊎◌, inl, inr, ℕ, zero, suc, ◌+◌, ◌-◌, ◌*◌, ◌<◌, ◌≤◌, true}
-use Rattle.std.proofs.Common.{false, Bool, pos, if◌then◌else◌, Option, Some, None, IfSome, List, []}
+use Rattle.std.proofs.Common.{false, Bool, pos, Option, Some, None, IfSome, List, []}
 use Rattle.std.proofs.Common.{◌∷◌, ◌++◌, map, length, take, drop, flat_map, refl, sym, ap, ap₂, ◌∙◌}
 use Rattle.std.proofs.Common.{subst, arith}
 use Rattle.std.specs.List.{list_all, range_with_len}
@@ -25,7 +25,6 @@ use Rattle.lb_static.specs.Instances.{static_count, name_value, node_named}
 use Rattle.lb_static.specs.DataTypes.{DataType, int, truth, variables, is_type, are_types}
 use Rattle.lb_check.specs.Types.{data_types, all_types, from_one, from_truths, common_type}
 use Rattle.lb_check.specs.Types.{array_of, index_type, slice_type, join_type, operator_types}
-use Rattle.lb_check.specs.Types.{is_arithmetic}
 use Rattle.lb_check.specs.Scalars.{Integer, Boolean, or_fault, first_value}
 use Rattle.lb_check.specs.Clocks.{Clock, On, clock_of, clock_or, declared_clock}
 use Rattle.lb_check.specs.Needs.{Element, elements, elements_named, itself, both, needs, all_needs}
@@ -422,7 +421,7 @@ module _ (Y : Layout) (P : Program) (H : History)
         let c = bound (static_count P here m) _ t.types t.are in
         let o = bound (operator_types P here (Symbol op)) _ t.types c.gives in
         let a = bound (all_types P here es) _ t.types o.gives in
-        let out = symbol_out (is_arithmetic op) o.value o.is in
+        let out = symbol_out op o.value o.is in
         let result = red_out c.value o.value.0 o.value.1 a.value t.types a.gives in
         let count = counted k n s (Iterate Red (Symbol op) m es) t.types t.are t.parts in
         let one : elements_in t.types ≡ 1 = ap elements_in result ∙ out in

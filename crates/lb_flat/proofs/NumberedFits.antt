@@ -13,6 +13,7 @@ use Rattle.lb_static.specs.DataTypes.{variables, width, signature, input_kinds}
 use Rattle.lb_static.specs.Instances.{Program, Instance, Path, Root, Observer, Site, call_site, callee_of, name_value, node_named, static_count, instance_at, instances}
 use Rattle.lb_static.specs.Instantiation.{static_refusal, instantiation_refusal, has_no_parameters, is_between, has_plain_clocks, has_property, fits_observer, is_root}
 use Rattle.lb_static.specs.Names.{keeps_names, is_well_founded}
+use Rattle.lb_static.specs.StaticValues.{named}
 use Rattle.lb_static.specs.Parts.{node_sizes, declared_sizes, own_sizes, node_parts}
 use Rattle.lb_static.proofs.Members.{all_in}
 use Rattle.lb_check.specs.Acceptance.{check_refusal}
@@ -76,7 +77,8 @@ program_sorts P =
 -- a constant is of kind `int`, and an iterated symbol takes what it gives
 abbrev pub IsScalarAt : Program → Instance → Expr → Type 0
 IsScalarAt P here (Literal m) = IsOf Int (Integer (pos m))
-IsScalarAt P here (Variable x) = IsOf Int (or_fault (name_value P here x))
+IsScalarAt P here (Variable x) =
+    named (λ d. d.name) x (variables here.node) ≡ None → IsOf Int (or_fault (name_value P here x))
 IsScalarAt P here (Iterate it (Symbol op) m es) =
     is_arithmetic op ≡ false → binary_kind op Truth_kind Truth_kind ≡ Some Truth_kind
 IsScalarAt P here e = Unit {0}

@@ -5,31 +5,13 @@ use Rattle.std.proofs.Common.{List, [], ◌∷◌, slice_get, refl, sym, ap, ◌
 use Rattle.lb_syntax.specs.Lists.{Every, In}
 use Rattle.lb_check.specs.Scalars.{Scalar, Cell}
 use Rattle.lb_check.specs.Streams.{held, one_cell, two_cells, sample, shows}
-use Rattle.lb_flat.specs.Flat.{FlatClock, Always, Where, Operation, Input, Constant, Copy}
+use Rattle.lb_flat.specs.Flat.{FlatClock, Operation, Input, Constant, Copy}
 use Rattle.lb_flat.specs.Flat.{ApplyUnary, ApplyBinary, Choose, FirstThen, Previous, Latest, Sample}
 use Rattle.lb_flat.specs.Flat.{FlatEquation}
+pub use Rattle.lb_flat.specs.Fitting.{OperandsFit, ClockFits}
 use Rattle.lb_flat.specs.Run.{Row, cell, is_now, chosen_cell, now, clock_reads, reads, Ready}
 use Rattle.lb_flat.proofs.Lists.{Every-first}
 use Rattle.lb_flat.proofs.Stepping.{HoldsNow}
-
--- the clocks of what an operation reads, where K gives the clock of each element, and there are so
--- many inputs
-abbrev pub OperandsFit : ℕ → (ℕ → FlatClock) → FlatClock → Operation → Type 0
-OperandsFit inputs K k (Input j) = (k ≡ Always) × (j < inputs)
-OperandsFit inputs K k (Constant v) = Unit {0}
-OperandsFit inputs K k (Copy a) = K a ≡ k
-OperandsFit inputs K k (ApplyUnary op a) = K a ≡ k
-OperandsFit inputs K k (ApplyBinary op a b) = (K a ≡ k) × (K b ≡ k)
-OperandsFit inputs K k (Choose c a b) = (K c ≡ k) × (K a ≡ k) × (K b ≡ k)
-OperandsFit inputs K k (FirstThen started a b) = (K a ≡ k) × (K b ≡ k)
-OperandsFit inputs K k (Previous v a) = Unit {0}
-OperandsFit inputs K k (Latest v a) = Unit {0}
-OperandsFit inputs K k (Sample a) = (i : ℕ) × (sign : Bool) × (k ≡ Where (K a) i sign)
-
--- an equation is on the clock of its element, and its operands fit
-pub record ClockFits (inputs : ℕ) (K : ℕ → FlatClock) (q : FlatEquation) : Type 0 where
-  pub own : K q.element ≡ q.clock
-  pub operands : OperandsFit inputs K q.clock q.operation
 
 pub held_present : (v : Scalar) (b : Bool) → is_some (held v b) ≡ b
 held_present v true = refl

@@ -120,7 +120,7 @@ parts_wide n i lt (u ∷ us) ts xsss o e =
 module _ (P : Program) (H : History) (here : Instance)
     (variables_wide : AreVariablesWide P H here here) where
   -- the inputs of the instance at a place
-  inputs_at :
+  pub inputs_at :
       (f : Name) (statics : List Static) (c : Instance) → Placed P here f statics c → (n i : ℕ) →
       IsCalleeWide P H here n f statics i →
       Every (λ d. length (H.columns (Child here.path n i) d.name) ≡ width P c d) c.node.inputs

@@ -10,13 +10,13 @@ use Rattle.lb_syntax.specs.Tree.{Name, Node, Expr, Literal, Variable, Group, Una
 use Rattle.lb_syntax.specs.Tree.{Arrow, Fby, Pre, Current, When, Replicate, Index, Slice, Join}
 use Rattle.lb_syntax.specs.Tree.{Array, AtMostOne, Nor, Call, Iterate, Exprs, Nil, Cons}
 use Rattle.lb_static.specs.StaticValues.{named}
-use Rattle.lb_static.specs.Instances.{Program, Instance}
-use Rattle.lb_static.specs.DataTypes.{DataType, int, truth, is_type, variables, variable_type}
+use Rattle.lb_static.specs.Instances.{Program, Instance, name_value}
+use Rattle.lb_static.specs.DataTypes.{DataType, truth, is_type, variables, variable_type}
 use Rattle.lb_static.specs.Parts.{among, variable_names, parts, parts_in, own_names}
 use Rattle.lb_flat.specs.PlainNodes.{is_scalar, is_plain, start_of}
 use Rattle.lb_check.specs.Scalars.{Integer, Boolean}
 use Rattle.lb_check.specs.Types.{data_types, all_types, only, singly, name_data_type, from_one}
-use Rattle.lb_check.specs.Types.{from_truths, unary_type, binary_type, common_type}
+use Rattle.lb_check.specs.Types.{from_truths, unary_type, binary_type, common_type, constant_type}
 use Rattle.lb_check.specs.Clocks.{Base}
 use Rattle.lb_check.specs.Occurrences.{call_count}
 use Rattle.lb_flat.specs.Flat.{Constant, ApplyUnary, ApplyBinary}
@@ -25,7 +25,7 @@ use Rattle.lb_flat.specs.Emit.{State, Emitted, EmittedAll, emit_name, emit, emit
 use Rattle.lb_flat.proofs.Lists.{Every-append, Every-first, Every-second}
 use Rattle.lb_flat.proofs.ScalarKinds.{nil_of}
 use Rattle.lb_flat.proofs.TypeFacts.{bound, some_same, single, alone, and_first, and_second, one}
-use Rattle.lb_flat.proofs.TypeFacts.{two, from_true}
+use Rattle.lb_flat.proofs.TypeFacts.{two, from_true, constant}
 use Rattle.lb_flat.proofs.PlainFittingKinds.{IsKind, Keeps}
 use Rattle.lb_flat.proofs.PlainFittingTypes.{scalar, binary_scalar, unary_scalar, same_scalars}
 use Rattle.lb_flat.proofs.PlainFittingTypes.{truth_kind, SameScalars}
@@ -113,7 +113,8 @@ module _ (P : Program) (n : Node) (scalars : list_all is_scalar (variables n) �
       singly (name_data_type P (start_of n) x) ≡ Some ts → ts ≡ scalar p.declaration.kind ∷ []
   name_type x p ts e =
       let a = alone (name_data_type P (start_of n) x) ts e in
-      let is = ap (λ o. either_or (option_map (variable_type P (start_of n)) o) (Some int)) p.is in
+      let is = ap (λ o. either_or (option_map (variable_type P (start_of n)) o)
+      (constant_type (name_value P (start_of n) x))) p.is in
       a.all ∙ ap (λ t. t ∷ []) (some_same _ _ (sym a.is ∙ is ∙ p.data_type))
 
   name_fits :
@@ -147,7 +148,7 @@ module _ (P : Program) (n : Node) (scalars : list_all is_scalar (variables n) �
         Kinded inputs ks s → Fits ks ts (emit (plain_layout n) P (start_of n) Base m s e)
     fits m s (Literal v) ts ks p e w h = record {
       kind = Int;
-      all = sym (some_same _ _ e);
+      all = (constant (Some (pos v)) ts e).all;
       gives = add_gives inputs ks s Int (Constant (Integer (pos v))) h p.0.form;
     }
     fits m s (tree.Truth b) ts ks p e w h = record {

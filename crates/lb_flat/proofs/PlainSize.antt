@@ -1,8 +1,8 @@
 -- The size of a program of one node of scalars on one clock: one for each variable, and one for
 -- each expression and part of one.
-use Rattle.std.proofs.Common.{◌≡◌, ℕ, ◌+◌, Bool, true, false, nat_eq, Option, Some, None, IfSome}
-use Rattle.std.proofs.Common.{option_map, List, [], ◌∷◌, ◌++◌, map, reverse, length, flat_map, refl}
-use Rattle.std.proofs.Common.{sym, ap, ◌∙◌, arith}
+use Rattle.std.proofs.Common.{◌≡◌, ℕ, ◌+◌, Bool, true, false, nat_eq, pos, Option, Some, None}
+use Rattle.std.proofs.Common.{IfSome, option_map, List, [], ◌∷◌, ◌++◌, map, reverse, length}
+use Rattle.std.proofs.Common.{flat_map, refl, sym, ap, ◌∙◌, arith}
 use Rattle.std.specs.Prelude.{sum_by}
 use Rattle.std.specs.List.{list_all}
 use Rattle.std.specs.Str.{bytes_eq}
@@ -13,22 +13,22 @@ use Rattle.lb_syntax.specs.Refusals.{Refusal, E9, unless}
 use Rattle.lb_syntax.specs.Tree.{Static, Expr, Literal, Truth, Variable, Group, Unary, Binary, If}
 use Rattle.lb_syntax.specs.Tree.{Arrow, Fby, Pre, Current, When, Replicate, Index, Slice, Join}
 use Rattle.lb_syntax.specs.Tree.{Array, AtMostOne, Nor, Call, Iterate, Exprs, Nil, Cons}
-use Rattle.lb_syntax.specs.Tree.{Declaration, Node, Statement, Equation, Assertion}
+use Rattle.lb_syntax.specs.Tree.{Name, Declaration, Node, Statement, Equation, Assertion}
 use Rattle.lb_flat.specs.PlainNodes.{IsPlain, start_of, is_scalar, is_plain}
-use Rattle.lb_static.specs.Instances.{Program, Instance, instances, static_count}
+use Rattle.lb_static.specs.Instances.{Program, Instance, instances, name_value, static_count}
 use Rattle.lb_static.specs.Parts.{parts, parts_in, node_parts, right_side}
-use Rattle.lb_static.specs.DataTypes.{DataType, int, truth, element_count, variables, variable_type}
+use Rattle.lb_static.specs.DataTypes.{DataType, truth, element_count, variables, variable_type}
 use Rattle.lb_static.specs.DataTypes.{width}
 use Rattle.lb_static.specs.Instantiation.{are_same}
 use Rattle.lb_check.specs.Acceptance.{check_refusal}
 use Rattle.lb_check.specs.TypeRules.{is_typed, is_statement_typed, is_clock_typed, type_of_name}
 use Rattle.lb_check.specs.TypeRules.{total, expression_size, instance_size, size}
 use Rattle.lb_check.specs.Types.{data_types, all_types, only, singly, from_one, from_truths}
-use Rattle.lb_check.specs.Types.{unary_type, binary_type, common_type}
+use Rattle.lb_check.specs.Types.{unary_type, binary_type, common_type, constant_type}
 use Rattle.lb_flat.proofs.Lists.{Every-append}
 use Rattle.lb_flat.proofs.OutputWidths.{found_in}
 use Rattle.lb_flat.proofs.TypeFacts.{Two, bound, one, two, from_true, unary_count, binary_count}
-use Rattle.lb_flat.proofs.TypeFacts.{alike, some_same, and_first, and_second}
+use Rattle.lb_flat.proofs.TypeFacts.{alike, some_same, and_first, and_second, constant}
 
 -- as many ones as there are items
 ones :
@@ -78,10 +78,11 @@ module _ (P : Program) (here : Instance) where
 
   -- the type of a name that stands for a variable, or for nothing
   name_one :
-      (o : Option Declaration) → IfSome o IsScalarType → (ts : List DataType) →
-      singly (either_or (option_map (variable_type P here) o) (Some int)) ≡ Some ts → total ts ≡ 1
-  name_one None h ts e = ap total (sym (some_same _ _ e))
-  name_one (Some d) h ts e =
+      (x : Name) (o : Option Declaration) → IfSome o IsScalarType → (ts : List DataType) →
+      singly (either_or (option_map (variable_type P here) o)
+      (constant_type (name_value P here x))) ≡ Some ts → total ts ≡ 1
+  name_one x None h ts e = ap total (constant (name_value P here x) ts e).all
+  name_one x (Some d) h ts e =
       ap total (sym (some_same _ _ (ap singly (sym h) ∙ e)))
 
   -- ## Expressions
@@ -134,14 +135,14 @@ module _ (P : Program) (here : Instance) where
           (e : Expr) (ts : List DataType) → data_types P here e ≡ Some ts → ArePlain (parts e) →
           IsMeasured e ts
       measured (Literal m) ts e w =
-          let r = ap total (sym (some_same _ _ e)) in
+          let r = ap total (constant (Some (pos m)) ts e).all in
           record { result = r; all = (own (Literal m) ts e r, tt) }
       measured (Truth b) ts e w =
           let r = ap total (sym (some_same _ _ e)) in
           record { result = r; all = (own (Truth b) ts e r, tt) }
       measured (Variable x) ts e w =
           let r =
-          name_one _ (found_in _ (λ d. bytes_eq d.name x) (variables here.node) scalars) ts e
+          name_one x _ (found_in _ (λ d. bytes_eq d.name x) (variables here.node) scalars) ts e
           in
           record { result = r; all = (own (Variable x) ts e r, tt) }
       measured (Group a) ts e w =

@@ -16,17 +16,17 @@ use Rattle.lb_check.specs.Clocks.{declared_clock}
 use Rattle.lb_check.specs.Elements.{program_elements, numbers_of}
 use Rattle.lb_check.specs.Needs.{Element, Definition, elements, definitions, definitions_at}
 use Rattle.lb_check.specs.Needs.{observer_definitions, equation_definitions, call_definitions}
-use Rattle.lb_check.specs.Needs.{clock_definitions, waits_for, Needs, Reaches, at_once, through}
+use Rattle.lb_check.specs.Needs.{clock_definitions, waits_for, Needs, Reaches}
 use Rattle.lb_check.specs.Occurrences.{statements, node_occurrences}
 use Rattle.lb_check.specs.Solutions.{columns_at}
-use Rattle.lb_check.proofs.AcceptedNumbers.{number_is, numbers_below}
+use Rattle.lb_check.proofs.AcceptedNumbers.{numbers_below}
 use Rattle.lb_check.proofs.ApartLists.{in_first, in_second, in_either, Every-at, Every-from}
 use Rattle.lb_check.proofs.ApartLists.{of_pieces, to_pieces}
 use Rattle.lb_check.proofs.Numbers.{got_within}
-use Rattle.lb_check.proofs.OperandTypes.{some_same}
+use Rattle.lb_flat.specs.Expansions.{HasReads}
 use Rattle.lb_flat.specs.Flat.{FlatClock, Copy, FlatEquation}
 use Rattle.lb_flat.specs.Flattening.{history_of}
-use Rattle.lb_flat.specs.Given.{IsGiven}
+use Rattle.lb_flat.specs.GivenOnce.{IsGiven}
 use Rattle.lb_flat.specs.Judging.{FlatProgram}
 use Rattle.lb_flat.specs.Layouts.{Layout, flat_clock}
 use Rattle.lb_flat.specs.NumberedLayouts.{layout}
@@ -39,6 +39,7 @@ use Rattle.lb_flat.proofs.Closing.{Closed}
 use Rattle.lb_flat.proofs.CopiedBodies.{made_by}
 use Rattle.lb_flat.proofs.CopiedDefinitions.{IsDefinedBy}
 use Rattle.lb_flat.proofs.CopiedProgram.{made, all_copies, copies_defined}
+use Rattle.lb_flat.proofs.ExpansionReads.{reads_at, cycle_read as cycle_of_reads}
 use Rattle.lb_flat.proofs.LinkWords.{SomeOf, Pairs, AllMeet, Meets}
 use Rattle.lb_flat.proofs.NumberedElements.{elements_declared}
 use Rattle.lb_flat.proofs.Lists.{Every-second}
@@ -62,12 +63,6 @@ chain_on f q e is read _ (one_read r stands own) =
 chain_on f q e is read _ (more_reads r m stands own rest) =
     more_reads r m stands own (chain_on f q e is read m rest)
 
--- one chain after another
-pub chained :
-    (f : FlatProgram) (j m i : ℕ) → Chain f j m → Chain f m i → Chain f j i
-chained f j m _ a (one_read q is own) = more_reads q m is own a
-chained f j m _ a (more_reads q e is own rest) = more_reads q e is own (chained f j m e a rest)
-
 -- what one of the second of two lists is paired with
 pub pairs_second :
     {A B : Type 0} (R : A → B → Type 0) (xs : List A) (ys : List B) → Pairs R xs ys → (y : B) →
@@ -90,10 +85,7 @@ module _ (P : Program) (accepted : static_refusal P ≡ None) (checked : check_r
     Every (Under t) (clock_reads (flat_clock (layout P) c.path (declared_clock c.node d.name))))
     (numbers_of P c.path d.name)) (variables c.node)) → In here (instances P) →
     AreClocksKnown P accepted checked Under Left here (node_occurrences P here.node))
-    (given :
-    IsGiven (length (program_elements P))
-    (expanded (layout P) P (length (program_elements P))).size
-    (expanded (layout P) P (length (program_elements P))).equations)
+    (given : IsGiven (expanded (layout P) P (length (program_elements P))))
     (K : ℕ → FlatClock)
     (own : Every (λ q. K q.element ≡ q.clock)
     (expanded (layout P) P (length (program_elements P))).equations)
@@ -202,21 +194,6 @@ module _ (P : Program) (accepted : static_refusal P ≡ None) (checked : check_r
           in_second q (observed Y (instance_at P Root) (instance_at P Observer)) _
           (in_first q final.copies final.equations j)
 
-  -- an element has one number
-  one_number :
-      (i m : ℕ) (x : Element) → slice_get (program_elements P) i ≡ Some x →
-      slice_get (program_elements P) m ≡ Some x → i ≡ m
-  one_number i m x e g =
-      some_same i m (sym (number_is P accepted i x e) ∙ number_is P accepted m x g)
-
-  -- an element reads another, by their numbers
-  pub record HasReads (x y : Element) : Type 0 where
-    pub one : ℕ
-    pub other : ℕ
-    pub is_one : slice_get (program_elements P) one ≡ Some x
-    pub is_other : slice_get (program_elements P) other ≡ Some y
-    pub chain : Chain f other one
-
   -- ## Needs by statements, calls and the observer
 
   abbrev Defined : FlatEquation → Definition → Type 0
@@ -233,7 +210,7 @@ module _ (P : Program) (accepted : static_refusal P ≡ None) (checked : check_r
       made P accepted checked observer_wide Under Left
       (λ here. clocks Under Left here variable_runs)
 
-  by_copy : (d : Definition) (y : Element) → In d made_all → In y d.needed → HasReads d.element y
+  by_copy : (d : Definition) (y : Element) → In d made_all → In y d.needed → HasReads P f d.element y
   by_copy d y stands names =
       let whole = copies_defined P accepted checked observer_wide Under Left
       (λ here. clocks Under Left here variable_runs) further_met in
@@ -266,7 +243,7 @@ module _ (P : Program) (accepted : static_refusal P ≡ None) (checked : check_r
   by_clock :
       (c : Instance) → In c (instances P) → (v : Declaration) → In v (variables c.node) →
       (x y : Element) → In x (elements P c v) →
-      In y (waits_for P c (declared_clock c.node v.name)) → HasReads x y
+      In y (waits_for P c (declared_clock c.node v.name)) → HasReads P f x y
   by_clock c k v of x y among names =
       let n = pairs_second (λ i y. slice_get (program_elements P) i ≡ Some y)
       (numbers_of P c.path v.name) (elements P c v)
@@ -323,46 +300,46 @@ module _ (P : Program) (accepted : static_refusal P ≡ None) (checked : check_r
 
   clock_read :
       (d : Definition) (y : Element) (c : Instance) → In c (instances P) → In d (of_clocks c) →
-      In y d.needed → HasReads d.element y
+      In y d.needed → HasReads P f d.element y
   clock_read d y c k stands names =
       let p = of_pieces (clock_definitions P c) d (variables c.node) stands in
       let v = p.source in
       let needed = waits_for P c (declared_clock c.node v.name) in
       let m = map_in (λ (x : Element). let z : Definition =
       record { element = x; needed = needed } in z) (elements P c v) d p.holds in
-      subst (λ (z : Definition). HasReads z.element y) m.2
+      subst (λ (z : Definition). HasReads P f z.element y) m.2
       (by_clock c k v p.is_in m.0 y m.1
       (subst (λ (z : Definition). In y z.needed) (sym m.2) names))
 
   instance_read :
       (d : Definition) (y : Element) (c : Instance) → In c (instances P) →
-      In d (definitions_at P c) → In y d.needed → HasReads d.element y
+      In d (definitions_at P c) → In y d.needed → HasReads P f d.element y
   instance_read d y c k stands names =
       by (in_either d (eqs c) (calls c ++ of_clocks c) stands)
     where
-      copied : In d (made_at c) → HasReads d.element y
+      copied : In d (made_at c) → HasReads P f d.element y
       copied h =
           by_copy d y
           (in_first d (flat_map made_at (instances P)) of_observer
           (to_pieces made_at d c (instances P) k h)) names
 
-      by_call : In d (calls c) ⊎ In d (of_clocks c) → HasReads d.element y
+      by_call : In d (calls c) ⊎ In d (of_clocks c) → HasReads P f d.element y
       by_call (inl h) = copied (in_second d (eqs c) (calls c) h)
       by_call (inr h) = clock_read d y c k h names
 
-      by : In d (eqs c) ⊎ In d (calls c ++ of_clocks c) → HasReads d.element y
+      by : In d (eqs c) ⊎ In d (calls c ++ of_clocks c) → HasReads P f d.element y
       by (inl h) = copied (in_first d (eqs c) (calls c) h)
       by (inr h) = by_call (in_either d (calls c) (of_clocks c) h)
 
   -- what needs another reads it
-  pub needs_read : (x y : Element) → Needs P x y → HasReads x y
+  pub needs_read : (x y : Element) → Needs P x y → HasReads P f x y
   needs_read x y n =
-      subst (λ x. HasReads x y) n.is_of
+      subst (λ x. HasReads P f x y) n.is_of
       (by (in_either n.by (flat_map (definitions_at P) (instances P)) of_observer n.stands))
     where
       by :
           In n.by (flat_map (definitions_at P) (instances P)) ⊎ In n.by of_observer →
-          HasReads n.by.element y
+          HasReads P f n.by.element y
       by (inl h) =
           let p = of_pieces (definitions_at P) n.by (instances P) h in
           instance_read n.by y p.source p.is_in p.holds n.names
@@ -371,30 +348,8 @@ module _ (P : Program) (accepted : static_refusal P ≡ None) (checked : check_r
 
   -- where an element needs another, its number reads that of the other
   pub reads_of : (i j : ℕ) → NeedsAt P i j → Chain f j i
-  reads_of i j n =
-      let r = needs_read n.one n.other n.needs in
-      let at : r.one ≡ i = one_number r.one i n.one r.is_one n.is_one in
-      let other : r.other ≡ j = one_number r.other j n.other r.is_other n.is_other in
-      subst (Chain f j) at (subst (λ m. Chain f m r.one) other r.chain)
+  reads_of i j n = reads_at P accepted f needs_read i j n
 
-  -- what reaches another reads it
-  reaches_read : (y x : Element) → Reaches P y x → HasReads x y
-  reaches_read y _ (at_once x n) = needs_read x y n
-  reaches_read y _ (through x z n rest) =
-      let a = needs_read x z n in
-      let b = reaches_read y z rest in
-      let same : b.one ≡ a.other = one_number b.one a.other z b.is_one a.is_other in
-      record {
-        one = a.one;
-        other = b.other;
-        is_one = a.is_one;
-        is_other = b.is_other;
-        chain = chained f b.other a.other a.one (subst (Chain f b.other) same b.chain) a.chain;
-      }
-
-  -- what reaches itself reads itself
+  -- what reaches itself by needs reads itself
   pub cycle_read : (x : Element) → Reaches P x x → (i : ℕ) × Chain f i i
-  cycle_read x r =
-      let h = reaches_read x x r in
-      let same : h.other ≡ h.one = one_number h.other h.one x h.is_other h.is_one in
-      (h.one, subst (λ m. Chain f m h.one) same h.chain)
+  cycle_read x r = cycle_of_reads P accepted f needs_read x r

@@ -100,16 +100,18 @@ equal n m e = grind (arith, nat_tests)
 equally : (n m : ℕ) → n ≡ m → nat_eq n m ≡ true
 equally n m e = grind (arith, nat_tests)
 
-record IsCallOf (j c i : ℕ) (o : Origin) : Type 0 where
-  caller : InstanceId
-  call : CallId
-  index : ℕ
-  is : o ≡ origin.Called caller call index
-  caller_is : caller.0 ≡ j
-  call_is : call.0 ≡ c
-  index_is : index ≡ i
+-- an origin is the call of this number of the row with another, at an index
+pub record IsCallOf (j c i : ℕ) (o : Origin) : Type 0 where
+  pub caller : InstanceId
+  pub call : CallId
+  pub index : ℕ
+  pub is : o ≡ origin.Called caller call index
+  pub caller_is : caller.0 ≡ j
+  pub call_is : call.0 ≡ c
+  pub index_is : index ≡ i
 
-called_is : (j c i : ℕ) (o : Origin) → is_called j c i o ≡ true → IsCallOf j c i o
+-- it is where the test says so
+pub called_is : (j c i : ℕ) (o : Origin) → is_called j c i o ≡ true → IsCallOf j c i o
 called_is j c i origin.UnderTest e = absurd cc
 called_is j c i origin.Observer e = absurd cc
 called_is j c i (origin.Called caller call index) e =
@@ -173,7 +175,7 @@ module _ (P : Program) (r : Reached) (t : Table) (table : IsTable P r t) where
   one_index p q c i d j e = cc
 
   -- a row that stands at the path below is a call of the row above
-  origin_called :
+  pub origin_called :
       (j c i k : ℕ) (row_here row_there : row.Instance) (here there : Instance) →
       IsRow P r t table j row_here here → IsRow P r t table k row_there there →
       there.path ≡ Child here.path c i → is_called j c i row_there.origin ≡ true

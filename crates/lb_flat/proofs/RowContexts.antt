@@ -64,7 +64,8 @@ below i n e = grind (arith, nat_tests)
 module _ (P : Program) (r : Reached) (t : Table) (reached : IsReached P r)
     (table : IsTable P r t) (accepted : static_refusal P ≡ None) (k : ℕ) (i : row.Instance)
     (here : Instance) (is : IsRow P r t table k i here) where
-  own_resolved : IsResolved (source_names P) is.node
+  -- the node of a row is resolved
+  pub own_resolved : IsResolved (source_names P) is.node
   own_resolved =
       let sp = table.specialized i.specialization.0 is.specialization is.specialized in
       let m = node_at P r t reached table is.specialization sp.0 in
@@ -79,7 +80,8 @@ module _ (P : Program) (r : Reached) (t : Table) (reached : IsReached P r)
       (table.specialized i.specialization.0 is.specialization is.specialized).0 is.node here.path
       is.resolved
 
-  own_names : are_distinct (variable_names (node_of is.node)) ≡ true
+  -- and its variables have distinct names
+  pub own_names : are_distinct (variable_names (node_of is.node)) ≡ true
   own_names =
       subst (λ (c : Instance). are_distinct (variable_names c.node) ≡ true) is.same
       (Every-at (λ (c : Instance). are_distinct (variable_names c.node) ≡ true) (instances P) here

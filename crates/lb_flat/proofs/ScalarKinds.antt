@@ -1,6 +1,6 @@
 -- The operators give scalars of their kinds.
 use Rattle.std.proofs.Common.{◌≡◌, ◌≢◌, ℕ, zero, suc, ◌/◌, ◌<◌, ◌≤◌, Bool, true, false, ℤ, pos}
-use Rattle.std.proofs.Common.{negsuc, neg_ℤ, ◌+ℤ◌, ◌-ℤ◌, ◌*ℤ◌, int_div, int_rem, Option, Some, None}
+use Rattle.std.proofs.Common.{negsuc, neg_ℤ, ◌+ℤ◌, ◌-ℤ◌, ◌*ℤ◌, int_div, int_rem, Some}
 use Rattle.std.proofs.Common.{[], ◌∷◌, refl, subst, arith}
 use Rattle.std.specs.Int.Signed.{mag, mag_rem}
 use Rattle.std.proofs.Math.Nat.{div-le_self, div-one, div-lt_iff_lt-mul, div-le_of_le-mul}
@@ -17,6 +17,8 @@ use Rattle.lb_syntax.specs.Lists.{where_true}
 use Rattle.lb_static.specs.Arithmetic.{is_int, is_divisible}
 use Rattle.lb_check.specs.Scalars.{Scalar, Integer, Boolean, Nil, Bad, strict, or_fault}
 use Rattle.lb_check.specs.Scalars.{two_scalars, one_scalar, chosen, is_of_kind}
+pub use Rattle.lb_flat.specs.Fitting.{IsOf, binary_kind, unary_kind}
+use Rattle.lb_flat.specs.Fitting.{integers_kind, truths_kind}
 
 -- ## Results in the range of `int`
 
@@ -75,46 +77,7 @@ remainder_int a b true i =
     small_is_int (int_rem a b) (omega (arith, int_is_small a i, mag_rem a b))
 remainder_int a b false i = refl
 
--- ## The kind of a result
-
-abbrev integers_kind : BinaryOperator → Option Kind
-integers_kind Plus = Some Int
-integers_kind Minus = Some Int
-integers_kind Times = Some Int
-integers_kind Divide = Some Int
-integers_kind Modulo = Some Int
-integers_kind Equal = Some Truth
-integers_kind Unequal = Some Truth
-integers_kind Less = Some Truth
-integers_kind AtMost = Some Truth
-integers_kind Greater = Some Truth
-integers_kind AtLeast = Some Truth
-integers_kind op = None
-
-abbrev truths_kind : BinaryOperator → Option Kind
-truths_kind Or = Some Truth
-truths_kind Xor = Some Truth
-truths_kind And = Some Truth
-truths_kind Implies = Some Truth
-truths_kind Equal = Some Truth
-truths_kind Unequal = Some Truth
-truths_kind op = None
-
--- the kind that an operator gives of operands of two kinds, if it takes them
-abbrev pub binary_kind : BinaryOperator → Kind → Kind → Option Kind
-binary_kind op Int Int = integers_kind op
-binary_kind op Truth Truth = truths_kind op
-binary_kind op k l = None
-
-abbrev pub unary_kind : UnaryOperator → Kind → Option Kind
-unary_kind Negate Int = Some Int
-unary_kind Not Truth = Some Truth
-unary_kind op k = None
-
 -- ## Scalars of their kinds
-
-abbrev pub IsOf : Kind → Scalar → Type 0
-IsOf k v = is_of_kind k v ≡ true
 
 pub nil_of : (k : Kind) → IsOf k Nil
 nil_of Int = refl

@@ -1,32 +1,29 @@
 -- In a history that solves an accepted program, a variable that serves for another in a clock has
 -- its streams, and each instance runs on its clock; so do streams of flat elements that are those
 -- of the variables.
-use Rattle.std.proofs.Common.{◌≡◌, inl, inr, ℕ, zero, suc, ◌+◌, ◌<◌, Bool, true, false, cond}
+use Rattle.std.proofs.Common.{◌≡◌, inl, inr, ℕ, ◌+◌, ◌<◌, Bool, true, false, cond}
 use Rattle.std.proofs.Common.{Option, Some, None, option_map, List, [], ◌∷◌, ◌++◌, length, map}
-use Rattle.std.proofs.Common.{flat_map, replicate, refl, ap, ap₂, sym, ◌∙◌, subst, arith}
-use Rattle.std.specs.Prelude.{◌&&◌, IfSome}
-use Rattle.std.specs.List.{range_with_len}
+use Rattle.std.proofs.Common.{flat_map, refl, ap, ap₂, sym, ◌∙◌, subst, arith}
+use Rattle.std.specs.Prelude.{◌&&◌}
 use Rattle.std.specs.Str.{bytes_eq}
 use Rattle.std.proofs.lemmas.Slice.Eq.{bytes_eq-Decides}
-use Rattle.lb_syntax.specs.declared.tree.ArrayIterator.{ArrayIterator}
 use Rattle.lb_syntax.specs.Lists.{◌>>=◌, Every, In, all_some, either_or, listed}
 use Rattle.lb_syntax.specs.Tree.{Name, Static, Node_named, Symbol, Expr, Literal, Truth, Variable}
 use Rattle.lb_syntax.specs.Tree.{Group, Unary, Binary, If, Arrow, Fby, Pre, Current, When}
 use Rattle.lb_syntax.specs.Tree.{Replicate, Index, Slice, Join, Array, AtMostOne, Nor, Call}
 use Rattle.lb_syntax.specs.Tree.{Iterate, Exprs, Nil, Cons, Declaration, Node, Statement, Equation}
-use Rattle.lb_static.specs.DataTypes.{DataType, is_type, are_types, element_count, variables}
+use Rattle.lb_static.specs.DataTypes.{DataType, is_type, are_types, variables}
 use Rattle.lb_static.specs.DataTypes.{variable_type, width}
 use Rattle.lb_static.specs.Instances.{Program, Instance, Path, Root, Observer, Child, Site}
 use Rattle.lb_static.specs.Instances.{call_site, instance_at, instances, instance_count, callee_of}
 use Rattle.lb_static.specs.Instances.{name_value, node_named}
 use Rattle.lb_static.specs.Instantiation.{static_refusal}
-use Rattle.lb_static.specs.Parts.{variable_names}
 use Rattle.lb_static.specs.StaticValues.{named}
 use Rattle.lb_static.proofs.Members.{in_map}
 use Rattle.lb_check.specs.Acceptance.{check_refusal}
-use Rattle.lb_check.specs.Clocks.{Clock, Base, On, as_variable, declared_clock, argument_clocks}
+use Rattle.lb_check.specs.Clocks.{Clock, Base, On, as_variable, declared_clock}
 use Rattle.lb_check.specs.Clocks.{given_inputs, given_outputs, ungrouped, outer, base_clock}
-use Rattle.lb_check.specs.Elements.{found_from, numbers_of}
+use Rattle.lb_check.specs.Elements.{found_from}
 use Rattle.lb_check.specs.Needs.{serving, site_clock}
 use Rattle.lb_check.specs.Occurrences.{Occurrence, at, call_count, node_occurrences, statements}
 use Rattle.lb_check.specs.Scalars.{Stream, or_fault}
@@ -57,38 +54,14 @@ use Rattle.lb_check.proofs.TypedCalls.{named_there, found_name, ungrouped_types,
 use Rattle.lb_check.proofs.TypedCalls.{left_types}
 use Rattle.lb_flat.specs.Flat.{FlatClock, instants}
 use Rattle.lb_flat.specs.Flattening.{history_of}
-use Rattle.lb_flat.specs.Layouts.{Layout, flat_clock, where_signed}
+use Rattle.lb_flat.specs.Layouts.{flat_clock, where_signed}
 use Rattle.lb_flat.specs.NumberedLayouts.{layout}
 use Rattle.lb_flat.proofs.Adding.{columns}
 use Rattle.lb_flat.proofs.CalleeClocks.{instance_runs}
+use Rattle.lb_flat.proofs.Gathering.{halves}
 use Rattle.lb_flat.proofs.NumberedPlaces.{places_nowhere, signs_nowhere, signs_are}
 use Rattle.lb_flat.proofs.OutputWidths.{each, width_of}
 use Rattle.lb_flat.proofs.TypeFacts.{same_count}
-
--- ## Lists side by side
-
-heads_same : {A : Type 0} (x y : A) (xs ys : List A) → x ∷ xs ≡ y ∷ ys → x ≡ y
-heads_same x y xs ys e = cc
-
-tails_same : {A : Type 0} (x y : A) (xs ys : List A) → x ∷ xs ≡ y ∷ ys → xs ≡ ys
-tails_same x y xs ys e = cc
-
-first_same :
-    {A : Type 0} (xs ys zs ws : List A) → length xs ≡ length ys → xs ++ zs ≡ ys ++ ws → xs ≡ ys
-first_same [] [] zs ws long e = refl
-first_same [] (y ∷ ys) zs ws long e = absurd (omega (arith, long))
-first_same (x ∷ xs) [] zs ws long e = absurd (omega (arith, long))
-first_same (x ∷ xs) (y ∷ ys) zs ws long e =
-    ap₂ (λ z zs. z ∷ zs) (heads_same x y (xs ++ zs) (ys ++ ws) e)
-    (first_same xs ys zs ws (omega (arith, long)) (tails_same x y (xs ++ zs) (ys ++ ws) e))
-
-second_same :
-    {A : Type 0} (xs ys zs ws : List A) → length xs ≡ length ys → xs ++ zs ≡ ys ++ ws → zs ≡ ws
-second_same [] [] zs ws long e = e
-second_same [] (y ∷ ys) zs ws long e = absurd (omega (arith, long))
-second_same (x ∷ xs) [] zs ws long e = absurd (omega (arith, long))
-second_same (x ∷ xs) (y ∷ ys) zs ws long e =
-    second_same xs ys zs ws (omega (arith, long)) (tails_same x y (xs ++ zs) (ys ++ ws) e)
 
 -- a name that is given is that of a parameter
 input_named : (ds : List Declaration) (es : Exprs) (x : Name) (g : Name × Name) →
@@ -246,9 +219,9 @@ module _ (P : Program) (H : History) (here : Instance) where
       own v.value y v.is ∙ width_of P here v.value i.first v.gives
       ∙ sym (same_count h.first i.first (and_first (is_type h.first i.first) _ types))
       ∙ sym (width_of P c d h.first h.is) ∙ sym wide.0 in
-      by (bytes_eq d.name x) refl (first_same ys zs more others long same)
+      by (bytes_eq d.name x) refl (halves ys zs more others long same).first
       (λ later. results_same c ds xs h.rest i.rest wide.1 own h.others i.others
-      (and_second (is_type h.first i.first) _ types) (second_same ys zs more others long same) x g
+      (and_second (is_type h.first i.first) _ types) (halves ys zs more others long same).second x g
       later)
       found
     where

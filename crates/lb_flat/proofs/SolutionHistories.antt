@@ -1,5 +1,5 @@
 -- Streams that solve the flat program of a program, with presence and kinds, stand for a history
--- that solves the program, in whatever order the equations stand.
+-- that solves the program.
 use Rattle.std.proofs.Common.{◌≡◌, ℕ, ◌<◌, ◌≤◌, true, inl, inr, None, List, [], ◌∷◌, ◌++◌, map}
 use Rattle.std.proofs.Common.{length, replicate, refl, sym, ap, ap₂, ◌∙◌, subst, arith}
 use Rattle.std.proofs.Math.ListN.{get_or-eq_default}
@@ -17,7 +17,6 @@ use Rattle.lb_check.specs.Scalars.{Stream}
 use Rattle.lb_check.specs.Solutions.{Inputs, fits, Fits, SolvesAt, Solves}
 use Rattle.lb_flat.specs.Emit.{State, given_inputs, observed, before_instances, emit_instances}
 use Rattle.lb_flat.specs.Emit.{expanded}
-use Rattle.lb_flat.specs.Expanded.{IsOrderingOf}
 use Rattle.lb_flat.specs.Flat.{FlatClock, Operation, ApplyBinary, FlatEquation, column, instants}
 use Rattle.lb_flat.specs.Flat.{Holds}
 use Rattle.lb_flat.specs.FlatSolutions.{IsCellFit, IsFlatSolution}
@@ -27,13 +26,12 @@ use Rattle.lb_flat.specs.Layouts.{Layout, flat_clock}
 use Rattle.lb_flat.proofs.Adding.{columns, IsMet, AllMet, HasTruths}
 use Rattle.lb_flat.proofs.Bodies.{IsSolvedAt}
 use Rattle.lb_flat.proofs.Counting.{IsTruth}
-use Rattle.lb_flat.proofs.Expanding.{ordered}
 use Rattle.lb_flat.proofs.Fitting.{OperandKinds, KindFits, IsFitting, compared}
 use Rattle.lb_flat.proofs.Lists.{Every-map, Every-both, Every-second}
 use Rattle.lb_flat.proofs.Observing.{IsInOrder, is_watched}
 use Rattle.lb_flat.proofs.OnClock.{ClockFits}
 use Rattle.lb_flat.proofs.Placing.{Agrees, presence_flat}
-use Rattle.lb_flat.proofs.Solving.{Every-ordered, fits_truths, absent_truths, second_of_or}
+use Rattle.lb_flat.proofs.Solving.{fits_truths, absent_truths, second_of_or}
 use Rattle.lb_flat.proofs.Solving.{second_of_and, IsElement, IsVariablePlaced, IsPlacing}
 use Rattle.lb_flat.proofs.Whole.{IsProgramSound, from_flat}
 
@@ -86,17 +84,15 @@ module _ (wanted : List Kind) (K : ℕ → FlatClock) (N : ℕ → Kind) (f : Fl
 -- ## Histories
 
 module _ (P : Program) (Y : Layout) (count : ℕ) (K : ℕ → FlatClock) (N : ℕ → Kind)
-    (Q : List FlatEquation) (ordering : IsOrderingOf (expanded Y P count).equations Q)
-    (each : (i : ℕ) → i < (expanded Y P count).size → In i (map (λ q. q.element) Q))
-    (fit : IsFitting (input_kinds P) K N Q)
+    (each : (i : ℕ) → i < (expanded Y P count).size →
+    In i (map (λ q. q.element) (expanded Y P count).equations))
+    (fit : IsFitting (input_kinds P) K N (expanded Y P count).equations)
     (placing : IsPlacing Y P count K N (expanded Y P count).size)
     (X : Inputs) (F : List Stream)
-    (s : IsFlatSolution (input_kinds P) N (ordered Y P count Q) X F) where
-  -- the equations hold in the order of expansion
+    (s : IsFlatSolution (input_kinds P) N (expanded Y P count) X F) where
+  -- the equations hold
   pub met : AllMet X F (expanded Y P count).equations
-  met =
-      Every-ordered (IsMet X F) (expanded Y P count).equations Q ordering.there
-      (all_met (input_kinds P) K N (ordered Y P count Q) each fit X F s)
+  met = all_met (input_kinds P) K N (expanded Y P count) each fit X F s
 
   abbrev further : State
   further = emit_instances Y P (before_instances count) (instances P)
@@ -122,7 +118,7 @@ module _ (P : Program) (Y : Layout) (count : ℕ) (K : ℕ → FlatClock) (N : �
     elements_fit k kind [] h = tt
     elements_fit k kind (i ∷ is) h = (
       ap₂ (λ m c. fits m (instants X F c) (column X F i)) (sym h.0.is_of) (sym h.0.clock)
-          ∙ element_fits (input_kinds P) K N (ordered Y P count Q) each fit X F s i h.0.within,
+          ∙ element_fits (input_kinds P) K N (expanded Y P count) each fit X F s i h.0.within,
       elements_fit k kind is h.1,
     )
 
@@ -169,13 +165,6 @@ module _ (P : Program) (Y : Layout) (count : ℕ) (K : ℕ → FlatClock) (N : �
 
     -- and what decides its verdict is watched
     pub solution_watched : IsProgramSound Y P (history_of Y X F) → IsInOrder Y P count → (t : ℕ) →
-        IsWatched P (ordered Y P count Q) X F (history_of Y X F) t
+        IsWatched P (expanded Y P count) X F (history_of Y X F) t
     solution_watched ok order t =
-        let w = is_watched Y P count X F s.equations.as_long agrees ok.instances further_met order t
-        in
-        record {
-          fault = w.fault;
-          undefined = w.undefined;
-          failed = w.failed;
-          violated = w.violated;
-        }
+        is_watched Y P count X F s.equations.as_long agrees ok.instances further_met order t

@@ -23,7 +23,7 @@ use Rattle.lb_check.specs.Scalars.{Stream}
 use Rattle.lb_check.specs.Solutions.{Inputs, Solves, SolvesAt, Fits, columns_at}
 use Rattle.lb_check.specs.Streams.{History}
 use Rattle.lb_check.specs.TypeRules.{is_typed}
-use Rattle.lb_check.proofs.CalledProperties.{instances_typed, instances_clocked, clocks_declared}
+use Rattle.lb_check.proofs.AcceptedRules.{all_typed, all_clocked, all_declared}
 use Rattle.lb_check.proofs.CalledProperties.{calls_have}
 use Rattle.lb_check.proofs.Checks.{second_none, kept, instantiation_kept}
 use Rattle.lb_check.proofs.Every.{Every-all}
@@ -205,10 +205,10 @@ module _ (P : Program) (elaborated : static_refusal P ≡ None)
     all_wide =
         Every-map _ (λ here. Every (IsOccurrenceWide P H here) (node_occurrences P here.node))
         (λ here z. occurrences_wide P H here z.0 z.1.0 z.1.1) (instances P)
-        (Every-both _ _ (instances P) (instances_typed P checked)
-        (Every-both _ _ (instances P) (instances_clocked P checked)
+        (Every-both _ _ (instances P) (all_typed P checked)
+        (Every-both _ _ (instances P) (all_clocked P checked)
         (calls_have P elaborated (IsWideCallee P H)
-        (Every-both _ _ (instances P) wide (clocks_declared P checked)))))
+        (Every-both _ _ (instances P) wide (all_declared P checked)))))
 
     -- the program is sound, where a layout gives the inputs of the node under test their elements
     pub sound_where_wide :
@@ -222,7 +222,7 @@ module _ (P : Program) (elaborated : static_refusal P ≡ None)
           Every-map _ (IsSound Y P H)
           (λ here z. instance_sound Y P H here z.0.0 z.0.1 z.1.0 z.1.1) (instances P)
           (Every-both _ _ (instances P)
-          (Every-both _ _ (instances P) wide (instances_typed P checked))
+          (Every-both _ _ (instances P) wide (all_typed P checked))
           (Every-both _ _ (instances P) all_wide runs));
       inputs = inputs_count Y P (instance_at P Root) refl placed;
       observer = observer_wide P elaborated H wide;

@@ -5,10 +5,12 @@ use Rattle.std.proofs.Common.{map, length, flat_map, refl, sym, ap, ◌∙◌, s
 use Rattle.std.specs.Prelude.{slice_get}
 use Rattle.std.specs.List.{list_all}
 use Rattle.std.proofs.lemmas.List.{length-map}
+use Rattle.lb_syntax.specs.declared.tree.ArrayIterator.{ArrayIterator}
 use Rattle.lb_syntax.specs.Lists.{Every, In}
-use Rattle.lb_syntax.specs.Tree.{Name, Node_named, Symbol, Expr, Literal, Truth, Variable, Group}
-use Rattle.lb_syntax.specs.Tree.{Unary, Binary, If, Arrow, Fby, Pre, Current, When, Replicate}
-use Rattle.lb_syntax.specs.Tree.{Index, Slice, Join, Array, AtMostOne, Nor, Call, Iterate}
+use Rattle.lb_syntax.specs.Tree.{Name, Static, Node_named, Symbol, Expr, Literal, Truth, Variable}
+use Rattle.lb_syntax.specs.Tree.{Group, Unary, Binary, If, Arrow, Fby, Pre, Current, When}
+use Rattle.lb_syntax.specs.Tree.{Replicate, Index, Slice, Join, Array, AtMostOne, Nor, Call}
+use Rattle.lb_syntax.specs.Tree.{Iterate, Exprs}
 use Rattle.lb_static.specs.DataTypes.{variables, width}
 use Rattle.lb_static.specs.Instances.{Program, Instance, Path, Child, Site, call_site, callee_of}
 use Rattle.lb_static.specs.Instances.{node_sites, numbered_sites, children, instances}
@@ -18,9 +20,10 @@ use Rattle.lb_check.specs.Clocks.{Clock, On, base_clock, outer, given_inputs, cl
 use Rattle.lb_check.specs.Clocks.{declared_clock}
 use Rattle.lb_check.specs.Elements.{program_elements}
 use Rattle.lb_check.specs.Needs.{Element}
-use Rattle.lb_check.specs.Occurrences.{Occurrence, occurrences, node_occurrences}
+use Rattle.lb_check.specs.Occurrences.{Occurrence, at, occurrences, node_occurrences}
 use Rattle.lb_check.specs.Streams.{History, number}
 use Rattle.lb_check.specs.TypeRules.{is_clock_typed, is_statement_typed, is_typed}
+use Rattle.lb_check.proofs.AcceptedRules.{all_typed}
 use Rattle.lb_check.proofs.ApartLists.{Every-at, Every-from}
 use Rattle.lb_check.proofs.Checks.{instantiation_kept}
 use Rattle.lb_check.proofs.DeterminedClocks.{OfCalled}
@@ -38,10 +41,10 @@ use Rattle.lb_flat.proofs.CopiedDefinitions.{AreDeclared}
 use Rattle.lb_flat.proofs.LinkTerms.{AreNumbered, IsAwaited, IsRunning, IsLinkable, IsKnown}
 use Rattle.lb_flat.proofs.LinkWords.{Pairs}
 use Rattle.lb_flat.proofs.NumberedElements.{elements_numbered, elements_declared}
+use Rattle.lb_flat.proofs.NumberedWidths.{calls_wide}
 use Rattle.lb_flat.proofs.NumberedPlaces.{places_width}
 use Rattle.lb_flat.proofs.SoundInstances.{body_typed}
 use Rattle.lb_flat.proofs.TypedParts.{IsTypedAt}
-use Rattle.lb_flat.proofs.WideInstances.{all_typed, calls_wide}
 use Rattle.lb_flat.proofs.Widths.{AreVariablesWide}
 
 module _ (P : Program) (accepted : static_refusal P ≡ None) (checked : check_refusal P ≡ None)
@@ -193,6 +196,19 @@ module _ (P : Program) (accepted : static_refusal P ≡ None) (checked : check_r
       (numbered_sites 0 (node_sites here.node)) (o.calls_before, s) called (stands s is))
       (node_occurrences P here.node) (node_calls P here.node).stand
 
+  -- an iterator has an instance
+  pub positive :
+      (here : Instance) → In here (instances P) → (k : Clock) (n : ℕ) (it : ArrayIterator)
+      (f : Name) (statics : List Static) (m : Static) (es : Exprs) →
+      In (at k n (Iterate it (Node_named f statics) m es)) (node_occurrences P here.node) →
+      0 < number P here m
+  positive here j k n it f statics m es i =
+      let o = at k n (Iterate it (Node_named f statics) m es) in
+      let of_site : IsSited here n (Iterate it (Node_named f statics) m es) =
+      Every-at (λ (o : Occurrence). IsSited here o.calls_before o.expr)
+      (node_occurrences P here.node) o (sited here j) i in
+      (of_site _ refl).0
+
   typed_at :
       (here : Instance) → In here (instances P) →
       list_all (is_statement_typed P here) here.node.body ≡ true
@@ -211,7 +227,7 @@ module _ (P : Program) (accepted : static_refusal P ≡ None) (checked : check_r
       let numbered = elements_numbered P accepted here j in
       let os = node_occurrences P here.node in
       let of_types = body_typed Y P H here own 0 here.node.body (typed_at here j)
-      (calls_wide P accepted H wide here j) in
+      (calls_wide P accepted [] [] checked here j) in
       let passed = λ (o : Occurrence).
       IsPassed Y P H same IsAt Under Left here own numbered o.clock o.calls_before o.expr in
       let places = λ (o : Occurrence). IsSited here o.calls_before o.expr in

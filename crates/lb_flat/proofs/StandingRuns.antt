@@ -1,6 +1,6 @@
--- What the run of a flat program says of the program that it stands for, and that both hang on no
--- order of the equations.
-use Rattle.std.proofs.Common.{◌≡◌, ℕ, ◌<◌, true, List, [], length, replicate}
+-- What a flat program that stands for a program says of it: which histories solve it, and what its
+-- verdicts are; and that nothing of it hangs on the order of the equations.
+use Rattle.std.proofs.Common.{◌≡◌, ◌↔◌, ℕ, ◌<◌, true, List, [], length, replicate, sym, subst}
 use Rattle.lb_syntax.specs.declared.tree.Kind.{Kind}
 use Rattle.lb_static.specs.DataTypes.{signature, input_kinds}
 use Rattle.lb_static.specs.Instances.{Program, Observer}
@@ -9,60 +9,121 @@ use Rattle.lb_check.specs.Scalars.{Stream}
 use Rattle.lb_check.specs.Solutions.{Inputs, Solves, AreSame}
 use Rattle.lb_check.specs.Streams.{History}
 use Rattle.lb_check.specs.Verdicts.{HasVerdict, IsOnlyVerdict}
-use Rattle.lb_flat.specs.Expanded.{IsOrderingOf}
-use Rattle.lb_flat.specs.Flat.{FlatClock, FlatEquation}
+use Rattle.lb_flat.specs.Expanded.{IsOrderingOf, IsOrderOf}
+use Rattle.lb_flat.specs.Fitting.{IsFitting}
+use Rattle.lb_flat.specs.Flat.{FlatEquation}
+use Rattle.lb_flat.specs.FlatPrograms.{IsFlatOf}
 use Rattle.lb_flat.specs.FlatSolutions.{IsFlatSolution}
-use Rattle.lb_flat.specs.Flattening.{history_of, IsTrace}
+use Rattle.lb_flat.specs.Flattening.{history_of, IsTrace, IsWatched}
+use Rattle.lb_flat.specs.FurtherKinds.{kind_among}
 use Rattle.lb_flat.specs.Inputs.{inputs_of}
 use Rattle.lb_flat.specs.Judging.{FlatProgram, flat_verdict}
-use Rattle.lb_flat.specs.Layouts.{Layout}
+use Rattle.lb_flat.specs.NumberedLayouts.{layout}
 use Rattle.lb_flat.specs.Prefixes.{IsDetermined}
 use Rattle.lb_flat.specs.Run.{Ready}
-use Rattle.lb_flat.specs.StandingPrograms.{StandsFor}
 use Rattle.lb_flat.specs.Traces.{Recording, IsRecording}
-use Rattle.lb_flat.proofs.Fitting.{IsFitting}
 use Rattle.lb_flat.proofs.FlatEquivalence.{same_solves}
 use Rattle.lb_flat.proofs.OrderedSolutions.{in_order, solution_there, solution_back, watched_there}
 use Rattle.lb_flat.proofs.OrderedSolutions.{all_memories_there}
 use Rattle.lb_flat.proofs.RunSolutions.{run_verdict, run_determined, run_recorded}
+use Rattle.lb_flat.proofs.Solving.{fitting_ordered}
 
-module _ (P : Program) (Y : Layout) (kinds : ℕ → Kind) (f : FlatProgram)
-    (s : StandsFor P Y kinds f) where
+module _ (P : Program) (f : FlatProgram) (inputs kinds : List Kind)
+    (s : IsFlatOf P f inputs kinds) where
+  -- ## Other orders
+
   -- in another order it stands for the program too
-  pub standing_ordered : (Q : List FlatEquation) → IsOrderingOf f.equations Q →
-      StandsFor P Y kinds (in_order f Q)
-  standing_ordered Q o = record {
+  pub flat_ordered :
+      (Q : List FlatEquation) → IsOrderingOf f.equations Q →
+      IsFlatOf P (in_order f Q) inputs kinds
+  flat_ordered Q o = record {
     accepted = s.accepted;
     checked = s.checked;
-    solves = λ X F g. s.solves X F (solution_back (input_kinds P) kinds f Q o X F g);
+    signature = s.signature;
+    variables = s.variables;
+    as_many = s.as_many;
+    variable_kinds = s.variable_kinds;
+    fitting = (
+      s.fitting.0,
+      fitting_ordered inputs s.fitting.0 (kind_among kinds) f.equations Q o s.fitting.1,
+    );
+    solves = λ X F g. s.solves X F (solution_back inputs (kind_among kinds) f Q o X F g);
     solved = λ X H h.
         let r = s.solved X H h in
-        (r.0, solution_there (input_kinds P) kinds f Q o X r.0 r.1, r.2);
+        (r.0, solution_there inputs (kind_among kinds) f Q o X r.0 r.1, r.2);
     watched = λ X F g t lt.
-        watched_there P f Q X F (history_of Y X F) t
-        (s.watched X F (solution_back (input_kinds P) kinds f Q o X F g) t lt);
-    memories = all_memories_there P Y kinds f Q o s.memories;
+        watched_there P f Q X F (history_of (layout P) X F) t
+        (s.watched X F (solution_back inputs (kind_among kinds) f Q o X F g) t lt);
+    memories = all_memories_there P (layout P) (kind_among kinds) f Q o s.memories;
   }
 
-  -- a history that is the same as one that a solution of the flat program stands for, and in which
-  -- an observer would run at every instant, solves the program
-  pub standing_back :
-      (X : Inputs) (H : History) (F : List Stream) →
-      IsFlatSolution (input_kinds P) kinds f X F → AreSame P (history_of Y X F) H →
-      H.ticks Observer ≡ replicate (length X) true → Solves P X H
-  standing_back X H F g same runs =
-      same_solves P s.accepted s.checked X (history_of Y X F) H same runs (s.solves X F g)
+  -- and so does the flat program that `order` makes of it
+  pub flat_in_order : (g : FlatProgram) → IsOrderOf f g → IsFlatOf P g inputs kinds
+  flat_in_order g o =
+      subst (λ h. IsFlatOf P h inputs kinds) (sym o.same) (flat_ordered g.equations o.ordering)
 
-  module _ (ready : Ready f.size [] f.equations) (K : ℕ → FlatClock)
-      (fit : IsFitting (input_kinds P) K kinds f.equations) where
+  -- ## Histories
+
+  -- a history is that of streams that solve the flat program, and an observer runs at every instant
+  abbrev pub IsStreamed : Inputs → History → Type 0
+  IsStreamed X H =
+      (H.ticks Observer ≡ replicate (length X) true)
+      × (F : List Stream) × IsFlatSolution inputs (kind_among kinds) f X F
+      × AreSame P (history_of (layout P) X F) H
+
+  -- such are exactly the histories that solve the program
+  pub stands : (X : Inputs) (H : History) → Solves P X H ↔ IsStreamed X H
+  stands X H = (
+    λ h. let r = s.solved X H h in (h.observer_runs, r.0, r.1, r.2),
+    λ z.
+        same_solves P s.accepted s.checked X (history_of (layout P) X z.1) H z.3 z.0
+        (s.solves X z.1 z.2),
+  )
+
+  -- ## Runs
+
+  -- the solutions on the kinds of the program's inputs
+  given : (X : Inputs) (F : List Stream) →
+      IsFlatSolution (input_kinds P) (kind_among kinds) f X F →
+      IsFlatSolution inputs (kind_among kinds) f X F
+  given X F g = subst (λ l. IsFlatSolution l (kind_among kinds) f X F) (sym s.signature) g
+
+  own_fitting : IsFitting (input_kinds P) s.fitting.0 (kind_among kinds) f.equations
+  own_fitting =
+      subst (λ l. IsFitting l s.fitting.0 (kind_among kinds) f.equations) s.signature s.fitting.1
+
+  own_solves :
+      (X : Inputs) (F : List Stream) →
+      IsFlatSolution (input_kinds P) (kind_among kinds) f X F →
+      Solves P X (history_of (layout P) X F)
+  own_solves X F g = s.solves X F (given X F g)
+
+  own_solved :
+      (X : Inputs) (H : History) → Solves P X H →
+      (F : List Stream) × IsFlatSolution (input_kinds P) (kind_among kinds) f X F
+      × AreSame P (history_of (layout P) X F) H
+  own_solved X H h =
+      let r = s.solved X H h in
+      (r.0, subst (λ l. IsFlatSolution l (kind_among kinds) f X r.0) s.signature r.1, r.2)
+
+  own_watched :
+      (X : Inputs) (F : List Stream) →
+      IsFlatSolution (input_kinds P) (kind_among kinds) f X F → (t : ℕ) → t < length X →
+      IsWatched P f X F (history_of (layout P) X F) t
+  own_watched X F g t lt = s.watched X F (given X F g) t lt
+
+  module _ (ready : Ready f.size [] f.equations) where
     -- the verdict of a run is that of the program
     pub standing_verdict : (X : Inputs) → IsTrace P X → HasVerdict P X (flat_verdict f X)
     standing_verdict X trace =
-        run_verdict P Y kinds f ready K fit s.solves s.solved s.watched X trace
+        run_verdict P (layout P) (kind_among kinds) f ready s.fitting.0 own_fitting own_solves
+        own_solved own_watched X trace
 
     -- inputs determine the history, instant by instant
     pub standing_determined : IsDetermined P
-    standing_determined = run_determined P Y kinds f ready K fit s.solves s.solved s.watched
+    standing_determined =
+        run_determined P (layout P) (kind_among kinds) f ready s.fitting.0 own_fitting own_solves
+        own_solved own_watched
 
     -- the verdict of a recorded trace is the only one
     pub standing_recorded :
@@ -70,5 +131,5 @@ module _ (P : Program) (Y : Layout) (kinds : ℕ → Kind) (f : FlatProgram)
         k < length r.traces → (v : Verdict) → v ≡ flat_verdict f (inputs_of r k) →
         IsOnlyVerdict P (inputs_of r k) v
     standing_recorded r k same lawful below v e =
-        run_recorded P Y kinds f ready K fit s.solves s.solved s.watched s.accepted s.checked r k
-        same lawful below v e
+        run_recorded P (layout P) (kind_among kinds) f ready s.fitting.0 own_fitting own_solves
+        own_solved own_watched s.accepted s.checked r k same lawful below v e

@@ -1,5 +1,6 @@
 -- What the types of an expression say of its parts, and how many scalar elements they have.
-use Rattle.std.proofs.Common.{◌≡◌, ℕ, suc, ◌+◌, ◌-◌, ◌*◌, ◌<◌, ◌≤◌, Bool, true, false, ◌&&◌, ◌||◌}
+use Rattle.std.proofs.Common.{◌≡◌, ◌⊎◌, inl, inr, ℤ, ℕ, suc, ◌+◌, ◌-◌, ◌*◌, ◌<◌, ◌≤◌, Bool, true}
+use Rattle.std.proofs.Common.{false, ◌&&◌, ◌||◌}
 use Rattle.std.proofs.Common.{nat_eq, nat_le, nat_lt, Option, Some, None, List, [], ◌∷◌, map, refl}
 use Rattle.std.proofs.Common.{sym, ap, ap₂, ◌∙◌, arith, add-mul, if◌then◌else◌}
 use Rattle.std.specs.List.{list_all}
@@ -7,13 +8,14 @@ use Rattle.lb_syntax.specs.declared.tree.UnaryOperator.{UnaryOperator}
 use Rattle.lb_syntax.specs.declared.tree.UnaryOperator.TheVariants.{Not, Negate}
 use Rattle.lb_syntax.specs.declared.tree.BinaryOperator.{BinaryOperator}
 use Rattle.lb_syntax.specs.declared.tree.Kind.{Kind}
-use Rattle.lb_syntax.specs.Lists.{◌>>=◌, where_true}
+use Rattle.lb_syntax.specs.Lists.{◌>>=◌, holds, where_true}
+use Rattle.lb_static.specs.Arithmetic.{is_int as is_in_range}
 use Rattle.lb_static.specs.DataTypes.{DataType, int, truth, is_kind, is_type, are_types, same_sizes}
 use Rattle.lb_static.specs.DataTypes.{product, element_count}
 use Rattle.lb_check.specs.Types.{is_arithmetic, is_logical, is_equality, are_ints, are_truths}
 use Rattle.lb_check.specs.Types.{unary_type, binary_type, common_type, array_of, element_with}
 use Rattle.lb_check.specs.Types.{element_of, index_type, slice_type, join_type, only, singly}
-use Rattle.lb_check.specs.Types.{from_one, from_two, from_truths}
+use Rattle.lb_check.specs.Types.{from_one, from_two, from_truths, constant_type, symbol_types}
 
 -- the scalar elements of some results
 abbrev pub elements_in : List DataType → ℕ
@@ -56,6 +58,40 @@ pub record Truly {A : Type 0} (b : Bool) (x y : A) : Type 0 where
 pub truly : {A : Type 0} (b : Bool) (x y : A) → where_true b x ≡ Some y → Truly b x y
 truly true x y e = record { holds = refl; same = some_same x y e }
 truly false x y e = cc
+
+-- a number has the type `int`, and is in its range
+pub record Constant (o : Option ℤ) (ts : List DataType) : Type 0 where
+  pub within : holds is_in_range o ≡ true
+  pub all : ts ≡ int ∷ []
+
+pub constant :
+    (o : Option ℤ) (ts : List DataType) → singly (constant_type o) ≡ Some ts → Constant o ts
+constant o ts e =
+    let a = alone (constant_type o) ts e in
+    let t = truly (holds is_in_range o) int a.data_type a.is in
+    record { within = t.holds; all = a.all ∙ ap (λ u. u ∷ []) (sym t.same) }
+
+-- an iterated symbol takes and gives numbers, or truths
+pub record Symbolic (op : BinaryOperator) (types : List DataType × List DataType) : Type 0 where
+  pub data_type : DataType
+  pub are : types ≡ (data_type ∷ (data_type ∷ []), data_type ∷ [])
+  pub of : ((is_arithmetic op ≡ true) × (data_type ≡ int))
+      ⊎ ((is_logical op ≡ true) × (data_type ≡ truth))
+
+pub symbolic :
+    (op : BinaryOperator) (types : List DataType × List DataType) →
+    symbol_types op ≡ Some types → Symbolic op types
+symbolic op types e = by (is_arithmetic op) (is_logical op) refl refl e
+  where
+    by : (a b : Bool) → is_arithmetic op ≡ a → is_logical op ≡ b →
+        (if a then Some (int ∷ (int ∷ []), int ∷ [])
+        else where_true b (truth ∷ (truth ∷ []), truth ∷ []))
+        ≡ Some types → Symbolic op types
+    by true b p q e =
+        record { data_type = int; are = sym (some_same _ _ e); of = inl (p, refl) }
+    by false b p q e =
+        let t = truly b _ types e in
+        record { data_type = truth; are = sym t.same; of = inr (q ∙ t.holds, refl) }
 
 pub and_first : (a b : Bool) → (a && b) ≡ true → a ≡ true
 and_first true b e = refl

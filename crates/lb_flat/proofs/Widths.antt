@@ -1,8 +1,8 @@
 -- An expression has as many streams as its types have scalar elements.
-use Rattle.std.proofs.Common.{◌≡◌, ℕ, suc, ◌+◌, ◌-◌, ◌*◌, ◌<◌, ◌≤◌, Bool, true, false, ◌&&◌}
-use Rattle.std.proofs.Common.{if◌then◌else◌, ℤ, Option, Some, None, IfSome, option_map, List, []}
-use Rattle.std.proofs.Common.{◌∷◌, ◌++◌, map, length, take, drop, flat_map, refl, sym, ap, ap₂, ◌∙◌}
-use Rattle.std.proofs.Common.{arith, length-append}
+use Rattle.std.proofs.Common.{◌≡◌, ℕ, suc, ◌+◌, ◌-◌, ◌*◌, ◌<◌, ◌≤◌, true, ◌&&◌, ◌⊎◌, inl, inr, ℤ}
+use Rattle.std.proofs.Common.{pos, Option, Some, None, IfSome, option_map, List, [], ◌∷◌, ◌++◌, map}
+use Rattle.std.proofs.Common.{length, take, drop, flat_map, refl, sym, ap, ap₂, ◌∙◌, arith}
+use Rattle.std.proofs.Common.{length-append}
 use Rattle.std.specs.List.{list_all, zip}
 use Rattle.std.specs.Str.{bytes_eq}
 use Rattle.std.proofs.lemmas.List.{length-map}
@@ -24,7 +24,7 @@ use Rattle.lb_check.specs.Types.{data_types, all_types, only, singly, list_type,
 use Rattle.lb_check.specs.Types.{from_truths, name_data_type, array_of, operator_types}
 use Rattle.lb_check.specs.Types.{iterator_types, map_types, red_types, fill_types, unary_type}
 use Rattle.lb_check.specs.Types.{binary_type, common_type, index_type, slice_type, join_type}
-use Rattle.lb_check.specs.Types.{is_arithmetic}
+use Rattle.lb_check.specs.Types.{constant_type, is_arithmetic, is_logical}
 use Rattle.lb_check.specs.Scalars.{Stream, or_fault}
 use Rattle.lb_check.specs.Clocks.{Clock, clock_of, clock_or, declared_clock}
 use Rattle.lb_check.specs.Occurrences.{Occurrence, call_count, occurrences, occurrences_in}
@@ -35,7 +35,8 @@ use Rattle.lb_flat.proofs.Lists.{length-zips, Every-first, Every-second}
 use Rattle.lb_flat.proofs.TypeFacts.{One, elements_in, bound, alone, one, two, from_true}
 use Rattle.lb_flat.proofs.TypeFacts.{unary_count, binary_count, alike, array_count, indexed, sliced}
 use Rattle.lb_flat.proofs.TypeFacts.{joined_count, truth_is, some_same, same_count, and_first}
-use Rattle.lb_flat.proofs.TypeFacts.{and_second, truly, single, are_counts}
+use Rattle.lb_flat.proofs.TypeFacts.{and_second, truly, single, are_counts, Symbolic, constant}
+use Rattle.lb_flat.proofs.TypeFacts.{symbolic}
 use Rattle.lb_flat.proofs.OutputWidths.{length-copies, length-choices, length-part, length-index}
 use Rattle.lb_flat.proofs.OutputWidths.{found_in, each, arrays_count, width_of, outputs_wide}
 use Rattle.lb_flat.proofs.OutputWidths.{gathered_wide, last_wide}
@@ -158,11 +159,13 @@ module _ (P : Program) (H : History) (here : Instance) where
   names_wide :
       AreVariablesWide here → (k : Clock) (x : Name) (o : Option Declaration) →
       IfSome o (λ d. length (H.columns here.path d.name) ≡ width P here d) → (ts : List DataType) →
-      singly (either_or (option_map (variable_type P here) o) (Some int)) ≡ Some ts →
+      singly (either_or (option_map (variable_type P here) o)
+      (constant_type (name_value P here x))) ≡ Some ts →
       length (either_or (option_map (λ d. H.columns here.path d.name) o)
       (constantly (or_fault (name_value P here x)) (presence H here.path k) ∷ []))
       ≡ elements_in ts
-  names_wide all k x None w ts e = ap elements_in (some_same _ _ e)
+  names_wide all k x None w ts e =
+      sym (ap elements_in (constant (name_value P here x) ts e).all)
   names_wide all k x (Some d) w ts e =
       let a = alone (variable_type P here d) ts e in
       let known : width P here d ≡ element_count a.data_type = width_of P here d a.data_type a.is in
@@ -349,32 +352,15 @@ module _ (P : Program) (H : History) (here : Instance) where
   -- ## Iterated symbols
 
   -- a symbol takes two of a scalar type and gives one
-  record Symbolic (types : List DataType × List DataType) : Type 0 where
-    data_type : DataType
-    ins : types.0 ≡ data_type ∷ (data_type ∷ [])
-    outs : types.1 ≡ data_type ∷ []
-    scalar : element_count data_type ≡ 1
-
-  symbol_types :
-      (b : Bool) (types : List DataType × List DataType) →
-      (if b then Some (int ∷ int ∷ [], int ∷ []) else Some (truth ∷ truth ∷ [], truth ∷ []))
-      ≡ Some types → Symbolic types
-  symbol_types true types e =
-      let same = some_same _ _ e in
-      record {
-        data_type = int;
-        ins = ap (λ (t : List DataType × List DataType). t.0) (sym same);
-        outs = ap (λ (t : List DataType × List DataType). t.1) (sym same);
-        scalar = refl;
-      }
-  symbol_types false types e =
-      let same = some_same _ _ e in
-      record {
-        data_type = truth;
-        ins = ap (λ (t : List DataType × List DataType). t.0) (sym same);
-        outs = ap (λ (t : List DataType × List DataType). t.1) (sym same);
-        scalar = refl;
-      }
+  symbol_scalar :
+      (op : BinaryOperator) (types : List DataType × List DataType) (y : Symbolic op types) →
+      element_count y.data_type ≡ 1
+  symbol_scalar op types y = by y.of
+    where
+      by : ((is_arithmetic op ≡ true) × (y.data_type ≡ int))
+          ⊎ ((is_logical op ≡ true) × (y.data_type ≡ truth)) → element_count y.data_type ≡ 1
+      by (inl (a, e)) = ap element_count e
+      by (inr (l, e)) = ap element_count e
 
   -- two operands of equal width, element by element
   zipped :
@@ -514,7 +500,8 @@ module _ (P : Program) (H : History) (here : Instance) where
           (k : Clock) (n : ℕ) (e : Expr) (ts : List DataType) → data_types P here e ≡ Some ts →
           AllWide (occurrences P here.node k n e) →
           length (streams P H here k n e) ≡ elements_in ts
-      wide k n (Literal m) ts e w = ap elements_in (some_same _ _ e)
+      wide k n (Literal m) ts e w =
+          sym (ap elements_in (constant (Some (pos m)) ts e).all)
       wide k n (Truth b) ts e w = ap elements_in (some_same _ _ e)
       wide k n (Variable x) ts e w =
           names_wide variables_wide k x _
@@ -656,11 +643,11 @@ module _ (P : Program) (H : History) (here : Instance) where
           let c = bound (static_count P here m) _ ts e in
           let o = bound (operator_types P here (Symbol op)) _ ts c.gives in
           let a = bound (all_types P here es) _ ts o.gives in
-          let s = symbol_types (is_arithmetic op) o.value o.is in
-          symbol_wide op c.value s.data_type s.scalar it a.value ts (all_streams P H here k n es)
-          (all_wide k n es a.value a.is w.1)
-          (ap₂ (λ ins outs. iterator_types it c.value ins outs a.value) (sym s.ins) (sym s.outs)
-          ∙ a.gives)
+          let y = symbolic op o.value o.is in
+          symbol_wide op c.value y.data_type (symbol_scalar op o.value y) it a.value ts
+          (all_streams P H here k n es) (all_wide k n es a.value a.is w.1)
+          (ap (λ (t : List DataType × List DataType). iterator_types it c.value t.0 t.1 a.value)
+          (sym y.are) ∙ a.gives)
 
       pub all_wide :
           (k : Clock) (n : ℕ) (es : Exprs) (ts : List DataType) → all_types P here es ≡ Some ts →

@@ -6,7 +6,6 @@ pub mod Run
 pub mod Layouts
 pub mod NumberedLayouts
 pub mod Emit
-pub mod Given
 pub mod Reading
 pub mod Judging
 pub mod Flattening
@@ -25,6 +24,7 @@ pub mod PlainPrograms
 pub mod UnsupportedForms
 pub mod Stuck
 pub mod GivenOnce
+pub mod Expansions
 pub mod Expanded
 pub mod Prefixes
 pub mod Ordering
@@ -42,8 +42,14 @@ pub mod RowContexts
 pub mod RowKinds
 pub mod RowBodies
 pub mod FlatSolutions
+pub mod Fitting
+pub mod FlatPrograms
 pub mod MemoryPlaces
-pub mod StandingPrograms
 pub mod FurtherKinds
 pub mod ClockTables
-pub mod RunMemories
+pub mod ClockUses
+pub mod EmitRows
+pub mod EmitWhole
+pub mod TableClocks
+pub mod ClockPlaces
+pub mod RowFrames

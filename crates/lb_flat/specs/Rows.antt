@@ -85,6 +85,10 @@ pub record AreAdded (ws : List ℕ) (last : ℕ) (before after : List ℕ) (next
 abbrev pub numbers_between : (from to : ℕ) → List ℕ
 numbers_between from to = range_with_len from (to - from)
 
+-- how many variables a row has, where so many stand before each
+abbrev pub count_at : (variables : List ℕ) → (row : ℕ) → ℕ
+count_at variables j = get_or variables (j + 1) 0 - get_or variables j 0
+
 -- the numbers of the elements of a variable of a row, where so many variables stand before each
 -- row, and so many elements before each variable
 abbrev pub numbers_at : (variables elements : List ℕ) → (row variable : ℕ) → List ℕ

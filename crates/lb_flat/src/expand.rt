@@ -10,10 +10,14 @@ ghost use Rattle.lb_flat.specs.TermExpansion.{IsSizedAnswer};
 mod call_emission;
 mod emission;
 mod form_emission;
-mod frame;
+pub(crate) mod frame;
 mod operators;
+mod row_emission;
 mod size;
+mod start;
+mod start_emission;
 mod term_emission;
+mod whole_emission;
 
 use crate::error::FlatError;
 use crate::flat::Flat;

@@ -128,7 +128,7 @@ fn add_row(
 impl Layout {
     ghost use Rattle.std.specs.Prelude.{ℕ, get_or, length};
     ghost use Rattle.lb_flat.specs.Rows.{variables_before, element_total, row_numbers};
-    ghost use Rattle.lb_flat.specs.Rows.{numbers_between, numbers_at};
+    ghost use Rattle.lb_flat.specs.Rows.{count_at, numbers_between, numbers_at};
 
     /// Where the elements of the rows of a table stand.
     ///
@@ -166,6 +166,16 @@ impl Layout {
         ensures { result ≡ get_or self.now.variables.items row.0 0 }
     {
         self.variables.get(row.0 as usize).copied().unwrap_or(0)
+    }
+
+    /// How many variables a row has.
+    pub(crate) fn variable_count(&self, row: InstanceId) -> usize
+        ensures { result ≡ count_at self.now.variables.items row.0 }
+    {
+        let row = row.0 as usize;
+        let first = self.variables.get(row).copied().unwrap_or(0);
+        let next = self.variables.get(row + 1).copied().unwrap_or(0);
+        next.saturating_sub(first)
     }
 
     /// The elements of a variable of a row.

@@ -4,6 +4,7 @@
 
 pub mod cell;
 mod children;
+mod clocks;
 pub mod equation;
 pub mod error;
 pub mod evaluate;
@@ -19,6 +20,7 @@ mod prepare;
 pub mod prepared;
 pub mod program;
 pub mod recorded;
+mod row_frame;
 pub mod scalar;
 pub mod scratch;
 mod table_size;

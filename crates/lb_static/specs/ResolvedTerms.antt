@@ -1,7 +1,7 @@
 -- What a node with resolved names stands for: its tree with the names put back.
 -- This file says what data of the program mean; no definition of the language stands on it.
-use Rattle.std.specs.Prelude.{ℕ, ◌+◌, Bool, true, ◌&&◌, not, nat_le, nat_lt, Option, None, Some}
-use Rattle.std.specs.Prelude.{option_map, List, [], ◌∷◌, map, take, drop, slice_get}
+use Rattle.std.specs.Prelude.{ℕ, ◌+◌, Bool, true, false, ◌&&◌, not, nat_le, nat_lt, Option, None}
+use Rattle.std.specs.Prelude.{Some, option_map, List, [], ◌∷◌, map, take, drop, slice_get}
 use Rattle.std.specs.List.{list_all}
 use Rattle.lb_syntax.specs.Lists.{either_or}
 use Rattle.lb_syntax.specs.Tree as tree
@@ -203,10 +203,10 @@ abbrev pub is_count_within : Counts → Option StaticId → Bool
 is_count_within n None = true
 is_count_within n (Some i) = is_static n i
 
--- a static expression that stands for an expression is no variable
+-- a static expression that stands for an expression is a name, and no variable's
 abbrev pub is_no_variable : List Name → Static → Bool
 is_no_variable names (tree.Named x) = not (among x names)
-is_no_variable names s = true
+is_no_variable names s = false
 
 abbrev mutual
   -- where a term has the name of a constant or a static parameter, no variable hides it

@@ -1,22 +1,24 @@
 //! What is emitted for terms of each form and for statements.
 
 ghost use Rattle.std.specs.Prelude.{◌≡◌, ◌<◌, ◌≤◌, ◌+◌, ◌^◌, [], ◌∷◌, flat_map, length, drop, OnOk};
+ghost use Rattle.std.specs.Prelude.{IfOk};
 ghost use Rattle.std.specs.List.{slice_range};
 ghost use Rattle.lb_flat.specs.Emit.{copied};
 ghost use Rattle.lb_flat.specs.EmitTerms as mirror;
-ghost use Rattle.lb_flat.specs.Frames.{place_of, with_copies, HasPlaces};
+ghost use Rattle.lb_flat.specs.Frames.{place_of, placed_state, stacked, with_copies, HasPlaces};
+ghost use Rattle.lb_flat.specs.Frames.{HasRoom};
 ghost use Rattle.lb_flat.specs.Programs.{numbers_of};
 ghost use Rattle.lb_flat.specs.TermEmissions.{state_of, emitted_of, with_asserted, above, on_top};
 ghost use Rattle.lb_flat.specs.TermEmissions.{on_two};
 ghost use Rattle.lb_flat.specs.TermForms.{HasOne, HasTwo, HasRow};
 ghost use Rattle.lb_flat.specs.Values.{scalar_of};
 
-use crate::equation::ElementId;
+use crate::equation::{ElementId, Operation};
 use crate::expand::frame::{Frame, Place};
 use crate::expand::operators::{Pair, Unary};
 use crate::expand::term_emission::TermEmission;
 use crate::scalar::Scalar;
-use lb_static::resolved::{Term, VariableId};
+use lb_static::resolved::{ResolvedStatement, Term, VariableId};
 use std::alloc::AllocError;
 
 /// A literal; one that is no `int` has the value of a fault.
@@ -163,6 +165,111 @@ impl TermEmission {
         }
     }
 
+    /// A term at a place; the place after it.
+    #[cycle(form_emission)]
+    pub(crate) fn emit<F: Frame>(
+        &mut self,
+        frame: &F,
+        term: &Term,
+        at: Place,
+    ) -> Result<Place, AllocError>
+        requires clocks { F.clocks frame.now ≡ self.old.clocks.items }
+        requires variables { F.variables frame.now ≤ self.old.next }
+        requires room { HasRoom (mirror.emit_term (F.context frame.now) (place_of at)
+            (state_of self.old) term.now) }
+        ensures emitted { IfOk result (λ to.
+            mirror.placed (place_of to) (emitted_of self.new)
+            ≡ stacked (numbers_of self.old.found.items) (mirror.emit_term (F.context frame.now)
+            (place_of at) (state_of self.old) term.now)) }
+        ensures clocks { OnOk result (self.new.clocks ≡ self.old.clocks) }
+    {
+        let from = self.found.len();
+        match term {
+            Term::Literal(n) => {
+                let clock = frame.clock(at.term);
+                self.push_found(clock, Operation::Constant(literal(*n)))?;
+                Ok(next_term(at))
+            }
+            Term::Truth(b) => {
+                let clock = frame.clock(at.term);
+                self.push_found(clock, Operation::Constant(Scalar::Boolean(*b)))?;
+                Ok(next_term(at))
+            }
+            Term::Variable(x) => {
+                self.put(frame.places(*x))?;
+                Ok(next_term(at))
+            }
+            Term::Value(i) => {
+                let clock = frame.clock(at.term);
+                self.push_found(clock, Operation::Constant(frame.value(*i)))?;
+                Ok(next_term(at))
+            }
+            Term::Group(e) => self.emit(frame, e, at),
+            Term::Unary(_, e)
+            | Term::Pre(e)
+            | Term::Current(e)
+            | Term::When(e, _, _)
+            | Term::Replicate(e, _)
+            | Term::Index(e, _)
+            | Term::Slice(e, _, _) => {
+                let to = self.emit(frame, e, next_term(at))?;
+                self.with_one(frame, term, at, from)?;
+                Ok(to)
+            }
+            Term::Binary(_, a, b) | Term::Arrow(a, b) | Term::Fby(a, b) | Term::Join(a, b) => {
+                let after = self.emit(frame, a, next_term(at))?;
+                let middle = self.found.len();
+                let to = self.emit(frame, b, after)?;
+                self.with_two(frame, term, at, from, middle)?;
+                Ok(to)
+            }
+            Term::If(c, a, b) => {
+                let one = self.emit(frame, c, next_term(at))?;
+                let second = self.found.len();
+                let two = self.emit(frame, a, one)?;
+                let third = self.found.len();
+                let to = self.emit(frame, b, two)?;
+                self.choose(frame.clock(at.term), from, second, third)?;
+                Ok(to)
+            }
+            Term::Array(terms)
+            | Term::AtMostOne(terms)
+            | Term::Nor(terms)
+            | Term::Call(_, terms)
+            | Term::IterateNode(_, _, terms)
+            | Term::IterateSymbol(_, _, _, terms) => {
+                let to = self.emit_all(frame, terms, row_place(at, term))?;
+                self.with_all(frame, term, at, from)?;
+                Ok(to)
+            }
+        }
+    }
+
+    /// Some terms, one after another; the place after them.
+    #[cycle(form_emission)]
+    fn emit_all<F: Frame>(
+        &mut self,
+        frame: &F,
+        terms: &[Term],
+        at: Place,
+    ) -> Result<Place, AllocError>
+        requires clocks { F.clocks frame.now ≡ self.old.clocks.items }
+        requires variables { F.variables frame.now ≤ self.old.next }
+        requires room { HasRoom (mirror.emit_list (F.context frame.now) (place_of at)
+            (state_of self.old) terms.now) }
+        ensures emitted { IfOk result (λ to.
+            mirror.placed (place_of to) (emitted_of self.new)
+            ≡ stacked (numbers_of self.old.found.items) (mirror.emit_list (F.context frame.now)
+            (place_of at) (state_of self.old) terms.now)) }
+        ensures clocks { OnOk result (self.new.clocks ≡ self.old.clocks) }
+    {
+        let mut to = at;
+        for term in terms {
+            to = self.emit(frame, term, to)?;
+        }
+        Ok(to)
+    }
+
     /// The elements of left variables are copies of those of the stack from one on.
     fn copy_lefts<F: Frame>(
         &mut self,
@@ -216,5 +323,43 @@ impl TermEmission {
             self.assert_one(a)?;
         }
         Ok(())
+    }
+
+    /// A statement at a place; the place after it.
+    pub(crate) fn statement<F: Frame>(
+        &mut self,
+        frame: &F,
+        statement: &ResolvedStatement,
+        at: Place,
+    ) -> Result<Place, AllocError>
+        requires clocks { F.clocks frame.now ≡ self.old.clocks.items }
+        requires variables { F.variables frame.now ≤ self.old.next }
+        requires elements { (mirror.emit_statement (F.context frame.now) (place_of at)
+            (state_of self.old) statement.now).state.next < 2 ^ 32 }
+        requires places { HasPlaces (mirror.emit_statement (F.context frame.now) (place_of at)
+            (state_of self.old) statement.now).place }
+        ensures state { IfOk result (λ to.
+            placed_state (place_of to) (state_of self.new)
+            ≡ mirror.emit_statement (F.context frame.now) (place_of at) (state_of self.old)
+            statement.now) }
+        ensures found { OnOk result (numbers_of self.new.found.items
+            ≡ numbers_of self.old.found.items) }
+        ensures clocks { OnOk result (self.new.clocks ≡ self.old.clocks) }
+    {
+        let from = self.found.len();
+        match statement {
+            ResolvedStatement::Equation(lefts, e) => {
+                let to = self.emit(frame, e, at)?;
+                self.copy_lefts(frame, lefts, from)?;
+                self.cut(from);
+                Ok(to)
+            }
+            ResolvedStatement::Assertion(e) => {
+                let to = self.emit(frame, e, at)?;
+                self.assert_from(from)?;
+                self.cut(from);
+                Ok(to)
+            }
+        }
     }
 }

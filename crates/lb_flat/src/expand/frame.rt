@@ -98,3 +98,24 @@ pub(crate) trait Frame {
             ≡ (context self.now).input call index variable }
         ensures within { IsClock (clocks self.now) result };
 }
+
+/// A frame that goes from row to row of the table of instances.
+pub(crate) trait TableFrame: Frame {
+    ghost use Rattle.std.specs.Prelude.{◌≡◌, ℕ, Bool, true};
+    ghost use Rattle.lb_flat.specs.EmitTerms.{Context};
+
+    /// Whether there is a row with a number.
+    ghost is_row: { Self → ℕ → Bool };
+
+    /// What the numbers stand for in it.
+    ghost contexts: { Self → ℕ → Context };
+
+    /// Goes to the row with a number.
+    fn enter(&mut self, row: usize)
+        requires { is_row self.old row ≡ true }
+        ensures context { Self.context self.new ≡ contexts self.old row }
+        ensures rows { is_row self.new ≡ is_row self.old }
+        ensures contexts { contexts self.new ≡ contexts self.old }
+        ensures clocks { Self.clocks self.new ≡ Self.clocks self.old }
+        ensures variables { Self.variables self.new ≡ Self.variables self.old };
+}

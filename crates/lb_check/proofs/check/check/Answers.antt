@@ -1,7 +1,8 @@
--- What is answered is what is found of the rules, and what is found of the clocks is kept.
+-- What is answered is what is found of the rules, and what is found of clocks and types is kept.
 use Rattle.lb_static.specs.Elaborated.{elaborated_program}
 use Rattle.lb_check.proofs.Checks.{accepted, found, refused}
 use Rattle.lb_check.proofs.FoundClocks.{found_here}
+use Rattle.lb_check.proofs.FoundTypes.{types_found_here}
 use Rattle.lb_check.proofs.check.check.Goals as goal
 
 pub returns-in-Some-clause-answer : goal.returns-in-Some-clause-answer
@@ -22,6 +23,10 @@ new-requires c =
           found_here c.args.elab c.reached-in-None.result.now c.in_ok-clocks-in-None.clocks.items
           c.reached.ensures.lawful c.reached-in-None.ensures.value kept
           c.in_ok-clocks-in-None.ensures;
+      types =
+          types_found_here c.args.elab c.reached-in-None-2.result.now c.table-in-None.result.now
+          c.in_ok-types-in-None.types c.reached.ensures.lawful c.reached-in-None-2.ensures.value
+          c.table-in-None.ensures.value c.in_ok-types-in-None.ensures;
     }
 
 pub returns-clause-answer : goal.returns-clause-answer

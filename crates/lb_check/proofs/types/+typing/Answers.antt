@@ -6,7 +6,7 @@ use Rattle.lb_check.specs.TermTypes as mirror
 use Rattle.lb_check.specs.TermTypes.{type_of, types_of}
 use Rattle.lb_check.specs.Types.{only}
 use Rattle.lb_check.proofs.TypeLists.{gathers_more, gathers_none, gathers_end}
-use Rattle.lb_check.proofs.TypeParts.{number_type, pair_type, single_none, single_type}
+use Rattle.lb_check.proofs.TypeParts.{pair_type, single_none, single_type}
 use Rattle.lb_check.proofs.TypeRows.{type_of_row}
 use Rattle.lb_check.proofs.types.+typing.Goals as goal
 
@@ -78,9 +78,14 @@ two_types-returns-in_ok-type_of-in-If t c =
 -- ## The type of a term
 
 pub type_of-returns-in-Literal : goal.type_of-returns-in-Literal
+unfolding type_of
 type_of-returns-in-Literal t c =
-    ap Some c.scalar-in-Literal.ensures
-    ∙ sym (number_type (context_in c.args.env.now) c.args.term.now c.in-Literal.is)
+    c.literal_type.ensures ∙ sym (ap (type_of (context_in c.args.env.now)) c.in-Literal.is)
+
+pub type_of-returns-in-Value : goal.type_of-returns-in-Value
+unfolding type_of
+type_of-returns-in-Value t c =
+    c.constant.ensures ∙ sym (ap (type_of (context_in c.args.env.now)) c.in-Value.is)
 
 pub type_of-returns-in-Truth : goal.type_of-returns-in-Truth
 unfolding type_of

@@ -1,0 +1,376 @@
+-- What is kept of the types of terms gives the type of each.
+use Rattle.std.proofs.Common.{◌≡◌, ℕ, zero, suc, ◌+◌, ◌*◌, ◌-◌, ◌<◌, ◌≤◌, ◌^◌, min, Bool, true}
+use Rattle.std.proofs.Common.{false}
+use Rattle.std.proofs.Common.{Some, None, List, [], ◌∷◌, ◌++◌, map, flat_map, take, drop}
+use Rattle.std.proofs.Common.{length, get_or, reverse, refl, ap, ap₂, sym, ◌∙◌, subst, arith}
+use Rattle.std.specs.Prelude.{nat_le, slice_get, sum_by}
+use Rattle.std.proofs.lemmas.Bool.Decides.{nat_tests}
+use Rattle.std.proofs.lemmas.List.{append_assoc, append-nil, length-append, reverse-append}
+use Rattle.std.proofs.lemmas.List.{reverse-reverse}
+use Rattle.std.proofs.lemmas.List.Sums.{sum_by-cons, sum_by-take-le, sum_by_more}
+use Rattle.lb_syntax.specs.Lists.{◌>>=◌, either_or, listed, tail_of}
+use Rattle.lb_syntax.specs.Tree.{Expr}
+use Rattle.lb_syntax.specs.declared.tree.Kind.{Kind}
+use Rattle.lb_syntax.specs.declared.tree.Kind.TheVariants.{Int as Int_kind}
+use Rattle.lb_static.specs.DataTypes.{DataType, int, element_count, product}
+use Rattle.lb_static.specs.Instances.{Program, Instance}
+use Rattle.lb_static.specs.Parts.{node_parts}
+use Rattle.lb_check.specs.FoundTerms.{HasTypes}
+use Rattle.lb_check.specs.PlacedTypes.{FoundNode, FoundTypes, count_of, found_in, lengths_of}
+use Rattle.lb_check.specs.PlacedTypes.{nothing_found, parts_of, size_of, times_lengths, type_among}
+use Rattle.lb_check.specs.PlacedTypes.{with_row, with_term, with_terms, with_types}
+use Rattle.lb_check.specs.StoredTypes.{view_type}
+use Rattle.lb_check.specs.Streams.{data_type}
+use Rattle.lb_check.specs.TypeRules.{expression_size, total}
+use Rattle.lb_check.specs.Types.{data_types, only}
+use Rattle.lb_check.specs.declared.data_type.DataType as stored
+use Rattle.lb_check.specs.declared.found_types.NodeTypes.{NodeTypes}
+use Rattle.lb_check.specs.declared.found_types.TermType.{TermType}
+
+-- ## Products as far as 65,537
+
+above : (m e k : ℕ) → m ≤ e → m ≤ e * suc k
+above m e k h = let f : e * suc k ≡ e * k + e = grind arith in omega arith
+
+bounded : (e s : ℕ) → min (min e 65537 * s) 65537 ≡ min (e * s) 65537
+bounded e zero =
+    let f : min e 65537 * 0 ≡ 0 = grind arith in
+    let g : e * 0 ≡ 0 = grind arith in rw (f, g) refl
+bounded e (suc k) = by (nat_le e 65537) refl
+  where
+    past : (a b : ℕ) → 65537 ≤ a → 65537 ≤ b → min a 65537 ≡ min b 65537
+    past a b g l = omega arith
+
+    by : (b : Bool) → nat_le e 65537 ≡ b → min (min e 65537 * suc k) 65537 ≡ min (e * suc k) 65537
+    by true h =
+        let le : e ≤ 65537 = grind (arith, nat_tests) in
+        let same : min e 65537 ≡ e = omega arith in
+        ap (λ n. min (n * suc k) 65537) same
+    by false h =
+        let gt : 65537 ≤ e = grind (arith, nat_tests) in
+        let same : min e 65537 ≡ 65537 = omega arith in
+        ap (λ n. min (n * suc k) 65537) same
+        ∙ past (65537 * suc k) (e * suc k) (above 65537 65537 k (omega arith)) (above 65537 e k gt)
+
+-- the product of lengths, as far as 65,537
+pub times_are :
+    (n : ℕ) (ms : List ℕ) → n ≤ 65537 → times_lengths n ms ≡ min (n * product ms) 65537
+times_are n [] le = omega (arith, le)
+times_are n (m ∷ ms) le =
+    times_are (min (min (n * m) (2 ^ 64 - 1)) 65537) ms (at_most (n * m))
+    ∙ ap (λ k. min (k * product ms) 65537) (as_far (n * m)) ∙ bounded (n * m) (product ms)
+    ∙ ap (λ k. min k 65537) (regroup n m (product ms))
+  where
+    at_most : (k : ℕ) → min (min k (2 ^ 64 - 1)) 65537 ≤ 65537
+    at_most k = omega arith
+
+    as_far : (k : ℕ) → min (min k (2 ^ 64 - 1)) 65537 ≡ min k 65537
+    as_far k = omega arith
+
+    regroup : (a b c : ℕ) → (a * b) * c ≡ a * (b * c)
+    regroup a b c = grind arith
+
+pub count_is : (ms : List ℕ) → times_lengths 1 ms ≡ min (product ms) 65537
+count_is ms =
+    let e : 1 * product ms ≡ product ms = omega arith in
+    times_are 1 ms (omega arith) ∙ ap (λ k. min k 65537) e
+
+product_append : (ns ms : List ℕ) → product (ns ++ ms) ≡ product ns * product ms
+product_append [] ms = omega arith
+product_append (n ∷ ns) ms = ap (λ m. n * m) (product_append ns ms) ∙ grind arith
+
+pub product_reverse : (ns : List ℕ) → product (reverse ns) ≡ product ns
+product_reverse [] = refl
+product_reverse (n ∷ ns) =
+    ap product (reverse-append (n ∷ []) ns) ∙ product_append (reverse ns) (n ∷ [])
+    ∙ ap (λ m. m * product (n ∷ [])) (product_reverse ns) ∙ front (product ns)
+  where
+    front : (m : ℕ) → m * (n * 1) ≡ n * m
+    front m = grind arith
+
+take_seam : {A : Type 0} (xs ys : List A) → take (length xs) (xs ++ ys) ≡ xs
+take_seam [] ys = refl
+take_seam (x ∷ xs) ys = ap (λ l. x ∷ l) (take_seam xs ys)
+
+drop_seam : {A : Type 0} (xs ys : List A) → drop (length xs) (xs ++ ys) ≡ ys
+drop_seam [] ys = refl
+drop_seam (x ∷ xs) ys = drop_seam xs ys
+
+-- all lengths but the outermost
+inner_product :
+    (ns : List ℕ) →
+    product (take (length (reverse ns) - 1) (reverse ns)) ≡ product (tail_of ns)
+inner_product [] = refl
+inner_product (n ∷ ns) =
+    ap (λ l. product (take (length l - 1) l)) (reverse-append (n ∷ []) ns)
+    ∙ ap (λ k. product (take k (reverse ns ++ (n ∷ [])))) shorter
+    ∙ ap product (take_seam (reverse ns) (n ∷ [])) ∙ product_reverse ns
+  where
+    shorter : length (reverse ns ++ (n ∷ [])) - 1 ≡ length (reverse ns)
+    shorter = let e = length-append (reverse ns) (n ∷ []) in omega (arith, e)
+
+-- ## Rows
+
+abbrev types_in : FoundTypes → List DataType
+types_in o = either_or o []
+
+abbrev type_in : FoundTypes → DataType
+type_in o = type_among (types_in o)
+
+abbrev lengths_in : FoundTypes → List ℕ
+lengths_in o = reverse (type_in o).sizes
+
+abbrev row_of : ℕ → FoundTypes → TermType
+row_of n o = record {
+  kind = (type_in o).kind;
+  elements = min (total (types_in o)) 65537;
+  first = n;
+  rank = length (lengths_in o);
+}
+
+abbrev rows_from : ℕ → List FoundTypes → List TermType
+rows_from n [] = []
+rows_from n (o ∷ os) = row_of n o ∷ rows_from (n + length (lengths_in o)) os
+
+abbrev node_with : List TermType → List ℕ → FoundNode
+node_with ts ns = record { terms = ts; lengths = ns }
+
+kept : (f : FoundNode) (os : List FoundTypes) →
+    with_terms f os
+    ≡ node_with (f.terms ++ rows_from (length f.lengths) os) (f.lengths ++ flat_map lengths_in os)
+kept f [] = ap₂ node_with (sym (append-nil f.terms)) (sym (append-nil f.lengths))
+kept f (o ∷ os) =
+    kept (with_term f o) os
+    ∙ ap₂ node_with
+    (append_assoc f.terms (row_of (length f.lengths) o ∷ [])
+    (rows_from (length (f.lengths ++ lengths_in o)) os)
+    ∙ ap (λ n. f.terms ++ (row_of (length f.lengths) o ∷ rows_from n os))
+    (length-append f.lengths (lengths_in o)))
+    (append_assoc f.lengths (lengths_in o) (flat_map lengths_in os))
+
+abbrev all_kept : List FoundTypes → FoundNode
+all_kept os = node_with (rows_from 0 os) (flat_map lengths_in os)
+
+kept_all : (os : List FoundTypes) → with_terms nothing_found os ≡ all_kept os
+kept_all os = kept nothing_found os
+
+-- the lengths of a term, where these stand before those of the row
+lengths_there :
+    (before : List ℕ) (os : List FoundTypes) (i : ℕ) (o : FoundTypes) → slice_get os i ≡ Some o →
+    listed (λ (t : TermType). take t.rank (drop t.first (before ++ flat_map lengths_in os)))
+    (slice_get (rows_from (length before) os) i)
+    ≡ lengths_in o
+lengths_there before [] i o e = absurd cc
+lengths_there before (p ∷ os) zero o e =
+    let same : p ≡ o = cc in
+    ap (take (length (lengths_in p))) (drop_seam before (lengths_in p ++ flat_map lengths_in os))
+    ∙ take_seam (lengths_in p) (flat_map lengths_in os) ∙ ap lengths_in same
+lengths_there before (p ∷ os) (suc i) o e =
+    ap (λ l. listed (λ (t : TermType). take t.rank (drop t.first l))
+    (slice_get (rows_from (length before + length (lengths_in p)) os) i))
+    (sym (append_assoc before (lengths_in p) (flat_map lengths_in os)))
+    ∙ ap (λ n. listed (λ (t : TermType).
+    take t.rank (drop t.first ((before ++ lengths_in p) ++ flat_map lengths_in os)))
+    (slice_get (rows_from n os) i)) (sym (length-append before (lengths_in p)))
+    ∙ lengths_there (before ++ lengths_in p) os i o e
+
+lengths_kept :
+    (f : FoundNode) (os : List FoundTypes) (i : ℕ) (o : FoundTypes) →
+    f ≡ with_terms nothing_found os → slice_get os i ≡ Some o → lengths_of f i ≡ lengths_in o
+lengths_kept f os i o is e =
+    ap (λ g. lengths_of g i) (is ∙ kept_all os) ∙ lengths_there [] os i o e
+
+parts_kept :
+    (f : FoundNode) (os : List FoundTypes) (i : ℕ) (o : FoundTypes) →
+    f ≡ with_terms nothing_found os → slice_get os i ≡ Some o →
+    parts_of f i ≡ min (product (tail_of (type_in o).sizes)) 65537
+parts_kept f os i o is e =
+    let ns = (type_in o).sizes in
+    ap (λ l. times_lengths 1 (take (length l - 1) l)) (lengths_kept f os i o is e)
+    ∙ count_is (take (length (reverse ns) - 1) (reverse ns))
+    ∙ ap (λ k. min k 65537) (inner_product ns)
+
+-- ## One more term
+
+total_is : (ts : List stored.DataType) → total (map view_type ts) ≡ sum_by count_of ts
+total_is [] = refl
+total_is (t ∷ ts) =
+    let rest = total_is ts in
+    let s = sum_by-cons element_count (view_type t) (map view_type ts) in
+    let u = sum_by-cons count_of t ts in
+    let own = product_reverse t.lengths.items in
+    omega (arith, rest, s, u, own)
+
+module _ (f : FoundNode) (ts : List stored.DataType) (n : ℕ)
+    (counted : n ≡ min (sum_by count_of ts) 65537) where
+  all_counted : n ≡ min (total (map view_type ts)) 65537
+  all_counted = counted ∙ ap (λ k. min k 65537) (sym (total_is ts))
+
+  abbrev Notes : Kind → List ℕ → List stored.DataType → Type 0
+  Notes kind ls ts =
+      n ≡ min (total (map view_type ts)) 65537 → with_row f kind ls n
+      ≡ with_types f (map view_type ts)
+
+  -- a term with one result
+  pub one_noted :
+      (t : stored.DataType) (ls : List ℕ) → 1 ≤ length ts → length ts < 2 → t ≡ get_or ts 0 t →
+      ls ≡ t.lengths.items → with_row f t.kind ls n ≡ with_types f (map view_type ts)
+  one_noted t ls some few is own = by ts some few is all_counted
+    where
+      by : (ts : List stored.DataType) → 1 ≤ length ts → length ts < 2 → t ≡ get_or ts 0 t →
+          Notes t.kind ls ts
+      by [] some few is e = absurd (omega (arith, some))
+      by (s ∷ []) some few is e =
+          ap₂ (λ (u : stored.DataType) (ms : List ℕ). with_row f u.kind ms n) is
+          (own ∙ ap (λ (u : stored.DataType). u.lengths.items) is
+          ∙ sym (reverse-reverse s.lengths.items))
+          ∙ ap (with_row f s.kind (reverse (reverse s.lengths.items))) e
+      by (s ∷ (u ∷ ts)) some few is e = absurd (omega (arith, few))
+
+  -- a term with none, or with several
+  pub none_noted : length ts < 1 → with_row f Int_kind [] n ≡ with_types f (map view_type ts)
+  none_noted few = by ts few all_counted
+    where
+      by : (ts : List stored.DataType) → length ts < 1 → Notes Int_kind [] ts
+      by [] few e = ap (with_row f Int_kind []) e
+      by (s ∷ ts) few e = absurd (omega (arith, few))
+
+  pub several_noted : 2 ≤ length ts → with_row f Int_kind [] n ≡ with_types f (map view_type ts)
+  several_noted many = by ts many all_counted
+    where
+      by : (ts : List stored.DataType) → 2 ≤ length ts → Notes Int_kind [] ts
+      by [] many e = absurd (omega (arith, many))
+      by (s ∷ []) many e = absurd (omega (arith, many))
+      by (s ∷ (u ∷ ts)) many e = ap (with_row f Int_kind []) e
+
+-- ## What is left to 65,537
+
+module _ {A : Type 0} (f : A → ℕ) (xs : List A) (i : ℕ) (x : A) (left size rest : ℕ)
+    (lt : i < length xs) (is : x ≡ get_or xs i x)
+    (known : left ≡ 65537 - sum_by f (take i xs)) (own : size ≡ min (f x) 65537)
+    (next : rest ≡ left - size) where
+  -- one more item
+  pub less_left : rest ≡ 65537 - sum_by f (take (i + 1) xs)
+  less_left =
+      let more = sum_by_more f xs i x lt in
+      let item = ap f is in
+      omega (arith, known, own, next, more, item)
+
+  -- nothing is left
+  pub none_left : rest ≡ 0 → 65536 < sum_by f xs
+  none_left e =
+      let less = less_left in
+      let part = sum_by-take-le f xs (i + 1) in
+      omega (arith, e, less, part)
+
+-- ## The expressions of an instance
+
+module _ (P : Program) (here : Instance) where
+  abbrev rows_of : List Expr → List FoundTypes
+  rows_of es = map (data_types P here) es
+
+  type_is : (o : FoundTypes) → type_in o ≡ either_or (o >>= only) int
+  type_is None = refl
+  type_is (Some ts) = refl
+
+  kinds_kept : (n : ℕ) (es : List Expr) →
+      map (λ (t : TermType). t.kind) (rows_from n (rows_of es))
+      ≡ map (λ e. (data_type P here e).kind) es
+  kinds_kept n [] = refl
+  kinds_kept n (e ∷ es) =
+      ap₂ (λ (k : Kind) (ks : List Kind). k ∷ ks)
+      (ap (λ (t : DataType). t.kind) (type_is (data_types P here e)))
+      (kinds_kept (n + length (lengths_in (data_types P here e))) es)
+
+  elements_kept : (n : ℕ) (es : List Expr) →
+      map (λ (t : TermType). t.elements) (rows_from n (rows_of es))
+      ≡ map (λ e. min (expression_size P here e) 65537) es
+  elements_kept n [] = refl
+  elements_kept n (e ∷ es) =
+      ap (λ (ks : List ℕ). min (expression_size P here e) 65537 ∷ ks)
+      (elements_kept (n + length (lengths_in (data_types P here e))) es)
+
+  got : (es : List Expr) (i : ℕ) (e : Expr) → slice_get es i ≡ Some e →
+      slice_get (rows_of es) i ≡ Some (data_types P here e)
+  got [] i e is = absurd cc
+  got (x ∷ es) zero e is = let same : x ≡ e = cc in ap (λ z. Some (data_types P here z)) same
+  got (x ∷ es) (suc i) e is = got es i e is
+
+  -- what is kept of the types of the expressions of an instance
+  pub types_kept :
+      (f : NodeTypes) → found_in f ≡ with_terms nothing_found (rows_of (node_parts here.node)) →
+      HasTypes P here f
+  types_kept f is =
+      let es = node_parts here.node in
+      let all = is ∙ kept_all (rows_of es) in
+      record {
+        kinds =
+            ap (λ (g : FoundNode). map (λ (t : TermType). t.kind) g.terms) all ∙ kinds_kept 0 es;
+        elements =
+            ap (λ (g : FoundNode). map (λ (t : TermType). t.elements) g.terms) all
+            ∙ elements_kept 0 es;
+        lengths = λ i e at.
+            lengths_kept (found_in f) (rows_of es) i (data_types P here e) is (got es i e at)
+            ∙ ap (λ (t : DataType). reverse t.sizes) (type_is (data_types P here e));
+        parts = λ i e at.
+            parts_kept (found_in f) (rows_of es) i (data_types P here e) is (got es i e at)
+            ∙ ap (λ (t : DataType). min (product (tail_of t.sizes)) 65537)
+            (type_is (data_types P here e));
+      }
+
+  -- ## Sizes
+
+  -- sums of what is as far as 65,537, as far as 65,537
+  capped : {A B : Type 0} (f : A → ℕ) (g : B → ℕ) (xs : List A) (ys : List B) (a : ℕ) →
+      map f xs ≡ map (λ y. min (g y) 65537) ys →
+      min (a + sum_by f xs) 65537 ≡ min (a + sum_by g ys) 65537
+  capped f g [] [] a e = refl
+  capped f g [] (y ∷ ys) a e = absurd cc
+  capped f g (x ∷ xs) [] a e = absurd cc
+  capped f g (x ∷ xs) (y ∷ ys) a e =
+      let one : f x ≡ min (g y) 65537 = cc in
+      let more : map f xs ≡ map (λ y. min (g y) 65537) ys = cc in
+      by (f x) (g y) (sum_by f xs) (sum_by g ys) (sum_by f (x ∷ xs)) (sum_by g (y ∷ ys)) one
+      (capped f g xs ys (a + f x) more) (sum_by-cons f x xs) (sum_by-cons g y ys)
+    where
+      by : (m n s u v w : ℕ) → m ≡ min n 65537 →
+          min ((a + m) + s) 65537 ≡ min ((a + m) + u) 65537 →
+          v ≡ m + s → w ≡ n + u → min (a + v) 65537 ≡ min (a + w) 65537
+      by m n s u v w one rest p q = omega (arith, one, rest, p, q)
+
+  -- the scalar elements of all terms are those of the expressions, as far as 65,537
+  pub size_found :
+      (f : NodeTypes) → HasTypes P here f →
+      min (sum_by (λ (t : TermType). t.elements) f.terms.items) 65537
+      ≡ min (sum_by (expression_size P here) (node_parts here.node)) 65537
+  size_found f has =
+      let e = capped (λ (t : TermType). t.elements) (expression_size P here) f.terms.items
+      (node_parts here.node) 0 has.elements in
+      by (sum_by (λ (t : TermType). t.elements) f.terms.items)
+      (sum_by (expression_size P here) (node_parts here.node)) e
+    where
+      by : (n m : ℕ) → min (0 + n) 65537 ≡ min (0 + m) 65537 → min n 65537 ≡ min m 65537
+      by n m e = omega (arith, e)
+
+  -- what is kept has no more elements than the expressions
+  no_more : (n : ℕ) (es : List Expr) →
+      sum_by (λ (t : TermType). t.elements) (rows_from n (rows_of es))
+      ≤ sum_by (expression_size P here) es
+  no_more n [] = omega arith
+  no_more n (e ∷ es) =
+      let row = row_of n (data_types P here e) in
+      let m = n + length (lengths_in (data_types P here e)) in
+      by (expression_size P here e)
+      (sum_by (λ (t : TermType). t.elements) (rows_from m (rows_of es)))
+      (sum_by (expression_size P here) es) _ _ (no_more m es)
+      (sum_by-cons (λ (t : TermType). t.elements) row (rows_from m (rows_of es)))
+      (sum_by-cons (expression_size P here) e es)
+    where
+      by : (k s u v w : ℕ) → s ≤ u → v ≡ min k 65537 + s → w ≡ k + u → v ≤ w
+      by k s u v w le p q = omega (arith, le, p, q)
+
+  pub size_within : (es : List Expr) →
+      size_of (with_terms nothing_found (rows_of es)) ≤ sum_by (expression_size P here) es
+  size_within es =
+      subst (λ (g : FoundNode). size_of g ≤ sum_by (expression_size P here) es)
+      (sym (kept_all (rows_of es))) (no_more 0 es)

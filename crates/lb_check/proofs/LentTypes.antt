@@ -1,0 +1,48 @@
+-- What a checked program lends of the types of terms, as the layer above reads it: number by
+-- number.
+use Rattle.std.proofs.Common.{◌≡◌, ℕ, false, Option, None, Some, Vec, Global}
+use Rattle.std.proofs.Common.{sym, ◌∙◌, subst}
+use Rattle.std.specs.Prelude.{slice_get}
+use Rattle.lb_syntax.specs.Lists.{◌>>=◌}
+use Rattle.lb_static.specs.Instances.{Program, Instance, Path}
+use Rattle.lb_static.specs.InstanceTable.{IsTable, specialized_at}
+use Rattle.lb_static.specs.ReachedNodes.{IsReached}
+use Rattle.lb_static.specs.declared.reach.Reached.{Reached}
+use Rattle.lb_static.specs.declared.table.Specialization.{Specialization}
+use Rattle.lb_static.specs.declared.table.Table.{Table}
+use Rattle.lb_check.specs.FoundTerms.{HasFoundTypes, HasTypes}
+use Rattle.lb_check.specs.TypeRules.{is_small}
+use Rattle.lb_check.specs.declared.found_types.NodeTypes.{NodeTypes}
+use Rattle.lb_check.proofs.FittedCalls.{node_at}
+use Rattle.lb_check.proofs.FoundTypes.{types_lent}
+use Rattle.lb_check.proofs.OperandTypes.{some_same}
+
+module _ (P : Program) (r : Reached) (t : Table) (reached : IsReached P r) (table : IsTable P r t)
+    (i : ℕ) (s : Specialization) (there : slice_get t.specializations.items i ≡ Some s) where
+  abbrev Types : Type 0
+  Types = Option (Vec NodeTypes Global)
+
+  -- what is lent of a specialization
+  abbrev lent : Types → Option NodeTypes
+  lent found = found >>= λ (all : Vec NodeTypes Global). slice_get all.items i
+
+  -- is what is found of each instance that it is
+  pub types_read :
+      (found : Types) → HasFoundTypes P r t found → (p : Path) (here : Instance) →
+      specialized_at r p s ≡ Some here → (f : NodeTypes) → lent found ≡ Some f → HasTypes P here f
+  types_read None has p here e f is = absurd cc
+  types_read (Some found) has p here e f is =
+      let l = types_lent P r t reached table found has i s there p here e in
+      subst (HasTypes P here) (some_same l.0 f (sym l.1 ∙ is)) l.2
+
+  -- and where nothing is lent of one that is there, the program is too large
+  pub none_read : (found : Types) → HasFoundTypes P r t found → lent found ≡ None →
+      is_small P ≡ false
+  none_read None has is = has
+  none_read (Some found) has is =
+      let n = node_at P r t reached table s (table.specialized i s there).0 in
+      let f = has i s n.0 there n.1 in
+      absurd (never f.0 (sym f.1 ∙ is))
+    where
+      never : (f : NodeTypes) → Some f ≡ None → ⊥
+      never f e = cc

@@ -1,0 +1,142 @@
+-- How many variables stand before a row, as a layout holds it: as many more behind each row as its
+-- instance has variables, and no more than there are elements.
+use Rattle.std.proofs.Common.{◌≡◌, ℕ, zero, suc, ◌+◌, ◌-◌, ◌<◌, ◌≤◌, None, Some, List, [], ◌∷◌, ◌++◌}
+use Rattle.std.proofs.Common.{length, map, flat_map, take, get_or, refl, ap, sym, ◌∙◌, subst, arith}
+use Rattle.std.specs.Prelude.{slice_get}
+use Rattle.std.proofs.lemmas.Grind.{flat_map-append}
+use Rattle.std.proofs.lemmas.List.{append-nil, length-append, length-map, take_more}
+use Rattle.std.proofs.lemmas.List.Sums.{sum_by-append, sum_by-cons}
+use Rattle.std.proofs.lemmas.Option.{slice_get_within, get_or_from_slice_get}
+use Rattle.lb_syntax.specs.Lists.{Every}
+use Rattle.lb_syntax.specs.Tree.{Declaration}
+use Rattle.lb_static.specs.DataTypes.{variables, width}
+use Rattle.lb_static.specs.Instances.{Program, Instance, instances}
+use Rattle.lb_static.specs.Instantiation.{static_refusal}
+use Rattle.lb_static.specs.InstanceTable.{IsTable}
+use Rattle.lb_static.specs.ReachedNodes.{IsReached}
+use Rattle.lb_static.specs.declared.reach.Reached.{Reached}
+use Rattle.lb_static.specs.declared.table.Instance as row
+use Rattle.lb_static.specs.declared.table.Table.{Table}
+use Rattle.lb_static.proofs.Members.{in_at}
+use Rattle.lb_check.proofs.ApartLists.{Every-from}
+use Rattle.lb_check.proofs.NodePlaces.{held}
+use Rattle.lb_check.proofs.ServedNumbers.{width_some}
+use Rattle.lb_flat.specs.Rows.{sum_of, widths_in, variables_before, element_total, count_at}
+use Rattle.lb_flat.proofs.NumberedRows.{row_widths_are}
+use Rattle.lb_flat.proofs.RowInstances.{IsRow, row_shown}
+
+-- ## Lists of pieces
+
+module _ {A : Type 0} (f : A → List ℕ) where
+  -- the pieces of one item more
+  pub piece_long :
+      (xs : List A) (k : ℕ) (x : A) → slice_get xs k ≡ Some x →
+      length (flat_map f (take (k + 1) xs)) ≡ length (flat_map f (take k xs)) + length (f x)
+  piece_long xs k x at =
+      let done = flat_map f (take k xs) in
+      let same : get_or xs k x ≡ x = get_or_from_slice_get xs k x x at in
+      ap (λ l. length (flat_map f l)) (take_more xs k x (slice_get_within xs k x at))
+      ∙ ap length (flat_map-append f (take k xs) (get_or xs k x ∷ []))
+      ∙ ap (λ y. length (done ++ (f y ++ []))) same
+      ∙ ap (λ l. length (done ++ l)) (append-nil (f x))
+      ∙ length-append done (f x)
+
+  -- where no piece is longer than its sum, those of the first items are not
+  pub pieces_narrow :
+      (xs : List A) →
+      ((j : ℕ) (x : A) → slice_get xs j ≡ Some x → length (f x) ≤ sum_of (f x)) → (k : ℕ) →
+      length (flat_map f (take k xs)) ≤ sum_of (flat_map f xs)
+  pieces_narrow xs narrow zero = omega arith
+  pieces_narrow [] narrow (suc k) = omega arith
+  pieces_narrow (x ∷ xs) narrow (suc k) =
+      let rest = pieces_narrow xs (λ j y e. narrow (suc j) y e) k in
+      let first = narrow 0 x refl in
+      let long = length-append (f x) (flat_map f (take k xs)) in
+      let sums = sum_by-append (λ n. n) (f x) (flat_map f xs) in
+      omega (arith, rest, first, long, sums)
+
+some_wide :
+    (w : Declaration → ℕ) (ds : List Declaration) → Every (λ d. 0 < w d) ds →
+    length (map w ds) ≤ sum_of (map w ds)
+some_wide w [] h = omega arith
+some_wide w (d ∷ ds) h =
+    let rest = some_wide w ds h.1 in
+    let first = h.0 in
+    let sums = sum_by-cons (λ n. n) (w d) (map w ds) in
+    omega (arith, rest, first, sums)
+
+-- ## Rows
+
+module _ (P : Program) (r : Reached) (t : Table) (reached : IsReached P r)
+    (table : IsTable P r t) (accepted : static_refusal P ≡ None) where
+  -- a row has as many variables as its instance
+  pub row_long :
+      (k : ℕ) (i : row.Instance) (here : Instance) → IsRow P r t table k i here →
+      length (widths_in r t i) ≡ length (variables here.node)
+  row_long k i here is =
+      ap length (row_widths_are P r t reached table k i here is)
+      ∙ length-map (variables here.node) (width P here)
+
+  row_narrow :
+      (k : ℕ) (i : row.Instance) → slice_get t.instances.items k ≡ Some i →
+      length (widths_in r t i) ≤ sum_of (widths_in r t i)
+  row_narrow k i at =
+      let s = row_shown P r t table k i at in
+      let here = s.0 in
+      let stands = in_at (instances P) k here s.1.instance_is in
+      let some = Every-from (λ d. 0 < width P here d) (variables here.node)
+      (λ d on. width_some P accepted here stands d on) in
+      subst (λ ws. length ws ≤ sum_of ws)
+      (sym (row_widths_are P r t reached table k i here s.1))
+      (some_wide (width P here) (variables here.node) some)
+
+  -- no more variables than elements
+  pub variables_few : (k : ℕ) → variables_before r t k ≤ element_total r t
+  variables_few k = pieces_narrow (widths_in r t) t.instances.items row_narrow k
+
+  module _ (held_variables : List ℕ)
+      (kept : (j : ℕ) → j ≤ length t.instances.items →
+      get_or held_variables j 0 ≡ variables_before r t j) where
+    -- what stands behind a row
+    pub next_before :
+        (k : ℕ) (i : row.Instance) (here : Instance) → IsRow P r t table k i here →
+        get_or held_variables (k + 1) 0
+        ≡ get_or held_variables k 0 + length (variables here.node)
+    next_before k i here is =
+        let within = slice_get_within t.instances.items k i is.row_is in
+        let next = kept (k + 1) (omega (arith, within)) in
+        let own = kept k (omega (arith, within)) in
+        let piece = piece_long (widths_in r t) t.instances.items k i is.row_is in
+        let long = row_long k i here is in
+        omega (arith, next, own, piece, long)
+
+    -- a row has as many
+    pub row_count :
+        (k : ℕ) (i : row.Instance) (here : Instance) → IsRow P r t table k i here →
+        count_at held_variables k ≡ length (variables here.node)
+    row_count k i here is = let next = next_before k i here is in omega (arith, next)
+
+    pub count_next :
+        (k : ℕ) → k < length t.instances.items →
+        get_or held_variables (k + 1) 0
+        ≡ get_or held_variables k 0 + count_at held_variables k
+    count_next k lt =
+        let i = held t.instances.items k lt in
+        let s = row_shown P r t table k i.0 i.1 in
+        let next = next_before k i.0 s.0 s.1 in
+        let own = row_count k i.0 s.0 s.1 in
+        omega (arith, next, own)
+
+    -- those before one row are among those before a later one
+    pub before_later :
+        (j d : ℕ) → j + d ≤ length t.instances.items →
+        get_or held_variables j 0 ≤ get_or held_variables (j + d) 0
+    before_later j zero le =
+        let same : j ≡ j + 0 = omega arith in
+        subst (λ m. get_or held_variables j 0 ≤ get_or held_variables m 0) same (omega arith)
+    before_later j (suc d) le =
+        let up = before_later j d (omega (arith, le)) in
+        let next = count_next (j + d) (omega (arith, le)) in
+        let same : (j + d) + 1 ≡ j + suc d = omega arith in
+        subst (λ m. get_or held_variables j 0 ≤ get_or held_variables m 0) same
+        (omega (arith, up, next))

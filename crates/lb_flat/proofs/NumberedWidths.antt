@@ -1,0 +1,67 @@
+-- In the layout by numbers, the variables, the calls and the expressions of an accepted program are
+-- as wide as their types, in the history of any streams.
+use Rattle.std.proofs.Common.{◌≡◌, ℕ, None, Some, List, length, sym, ◌∙◌}
+use Rattle.std.proofs.lemmas.List.{length-map}
+use Rattle.lb_syntax.specs.Lists.{Every, In}
+use Rattle.lb_syntax.specs.Tree.{Name, Expr}
+use Rattle.lb_static.specs.DataTypes.{DataType, variables, width}
+use Rattle.lb_static.specs.Instances.{Program, Instance, Path, instances}
+use Rattle.lb_static.specs.Instantiation.{static_refusal}
+use Rattle.lb_check.specs.Acceptance.{check_refusal}
+use Rattle.lb_check.specs.Clocks.{Clock}
+use Rattle.lb_check.specs.Occurrences.{occurrences, node_occurrences}
+use Rattle.lb_check.specs.Scalars.{Stream}
+use Rattle.lb_check.specs.Solutions.{Inputs}
+use Rattle.lb_check.specs.Streams.{History}
+use Rattle.lb_check.specs.Types.{data_types}
+use Rattle.lb_check.proofs.ApartLists.{Every-at, Every-from}
+use Rattle.lb_flat.specs.Emit.{State, emit}
+use Rattle.lb_flat.specs.Flat.{column}
+use Rattle.lb_flat.specs.Flattening.{history_of}
+use Rattle.lb_flat.specs.NumberedLayouts.{layout}
+use Rattle.lb_flat.proofs.FoundWidths.{as_many}
+use Rattle.lb_flat.proofs.Lists.{Every-map}
+use Rattle.lb_flat.proofs.NumberedPlaces.{places_width}
+use Rattle.lb_flat.proofs.SoundPrograms.{all_wide}
+use Rattle.lb_flat.proofs.TypeFacts.{elements_in}
+use Rattle.lb_flat.proofs.Widths.{AreVariablesWide, IsOccurrenceWide, wide}
+
+module _ (P : Program) (accepted : static_refusal P ≡ None) (X : Inputs) (F : List Stream) where
+  abbrev H : History
+  H = history_of (layout P) X F
+
+  same : (p : Path) (x : Name) → length ((layout P).places p x) ≡ length (H.columns p x)
+  same p x = sym (length-map ((layout P).places p x) (column X F))
+
+  -- a variable has as many streams as its type has scalar elements
+  pub variables_wide :
+      Every (λ here. AreVariablesWide P (history_of (layout P) X F) here here) (instances P)
+  variables_wide =
+      Every-from (λ here. AreVariablesWide P H here here) (instances P)
+      (λ here i.
+      Every-map (λ d. length ((layout P).places here.path d.name) ≡ width P here d)
+      (λ d. length (H.columns here.path d.name) ≡ width P here d)
+      (λ d w. sym (same here.path d.name) ∙ w) (variables here.node)
+      (places_width P accepted here i))
+
+  module _ (checked : check_refusal P ≡ None) (here : Instance) (i : In here (instances P)) where
+    -- what is called is as wide as its types
+    pub calls_wide :
+        Every (IsOccurrenceWide P (history_of (layout P) X F) here)
+        (node_occurrences P here.node)
+    calls_wide =
+        Every-at (λ here. Every (IsOccurrenceWide P H here) (node_occurrences P here.node))
+        (instances P) here (all_wide P accepted checked H variables_wide) i
+
+  -- the elements found of an expression are as many as its types have
+  pub found_wide :
+      (here : Instance) → In here (instances P) → (k : Clock) (n : ℕ) (s : State) (e : Expr)
+      (ts : List DataType) → data_types P here e ≡ Some ts →
+      Every (IsOccurrenceWide P (history_of (layout P) X F) here)
+      (occurrences P here.node k n e) →
+      length (emit (layout P) P here k n s e).found ≡ elements_in ts
+  found_wide here i k n s e ts typed w =
+      as_many (layout P) P H here same k n s e
+      ∙ wide P H here
+      (Every-at (λ here. AreVariablesWide P H here here) (instances P) here variables_wide i)
+      k n e ts typed w

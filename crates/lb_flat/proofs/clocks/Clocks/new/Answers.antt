@@ -1,0 +1,14 @@
+-- What is filled is the table of the program.
+use Rattle.std.proofs.Common.{◌≡◌, rules}
+use Rattle.lb_flat.specs.TableClocks.{sources_of, all_clocks, all_runs}
+use Rattle.lb_flat.proofs.FilledFrom.{clocks_filled}
+use Rattle.lb_flat.proofs.clocks.Clocks.new.Goals as goal
+
+pub returns-clause-lawful : goal.returns-clause-lawful
+returns-clause-lawful c laid =
+    let clocks : c.in_ok-table.table.items
+    ≡ all_clocks (sources_of c.args.checked.now c.args.layout.now) = search rules in
+    let runs : c.in_ok-runs.runs.items
+    ≡ all_runs (sources_of c.args.checked.now c.args.layout.now) = search rules in
+    clocks_filled c.args.checked.now c.elab-elab.ensures.lawful c.args.layout.now laid
+    c.in_ok-table.table.items c.in_ok-runs.runs.items clocks runs

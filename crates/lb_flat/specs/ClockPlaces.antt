@@ -1,0 +1,47 @@
+-- The table of clocks by paths and names: the number of the row at a path, that of a variable among
+-- those of an instance, and the places of their clocks.
+-- This file mirrors code (src/clocks.rt); no definition of the language stands on it.
+use Rattle.std.specs.Prelude.{ℕ, ◌+◌, ◌*◌, Option, None, List, get_or}
+use Rattle.std.specs.Str.{bytes_eq}
+use Rattle.lb_syntax.specs.Lists.{either_or, listed}
+use Rattle.lb_syntax.specs.Tree.{Name}
+use Rattle.lb_static.specs.Instances.{Program, Instance, Path, Root, Observer, Child, is_path}
+use Rattle.lb_static.specs.Instances.{instance_at, instances}
+use Rattle.lb_static.specs.Parts.{variable_names}
+use Rattle.lb_flat.specs.ClockTables.{IsClockTable}
+use Rattle.lb_flat.specs.Rows.{place_where}
+use Rattle.lb_flat.specs.declared.clocks.Clocks.{Clocks}
+use Rattle.lb_flat.specs.declared.equation.ClockId.{ClockId}
+
+-- the number of the row at a path, and any where there is none
+abbrev pub row_number : Program → Path → ℕ
+row_number P p = either_or (place_where (λ (c : Instance). is_path c.path p) (instances P)) 0
+
+-- that of a name among these, and any where it is not among them
+abbrev pub name_number : List Name → Name → ℕ
+name_number names x = either_or (place_where (λ y. bytes_eq y x) names) 0
+
+-- that of a variable of the instance at a path
+abbrev pub variable_place : Program → Path → Name → ℕ
+variable_place P p x =
+    name_number (listed (λ (c : Instance). variable_names c.node) (instance_at P p)) x
+
+-- the clock on which the instance at a path runs, where rows run on these
+abbrev pub path_runs : Program → List (Option ClockId) → Path → Option ClockId
+path_runs P runs Root = None
+path_runs P runs Observer = None
+path_runs P runs (Child p c i) = get_or runs (row_number P (Child p c i)) None
+
+-- how many variables stand before it, where so many stand before each row
+abbrev pub path_before : Program → List ℕ → Path → ℕ
+path_before P variables p = get_or variables (row_number P p) 0
+
+-- the place of the first clock of its variable
+abbrev pub path_place : Program → List ℕ → Path → Name → ℕ
+path_place P variables p x = 2 * (path_before P variables p + variable_place P p x)
+
+-- these clocks are those of a program, where so many variables stand before each row
+abbrev pub AreClocksOf : Program → List ℕ → Clocks → Type 0
+AreClocksOf P variables c =
+    IsClockTable P c.table.items (path_place P variables) (path_runs P c.runs.items)
+    (path_before P variables)

@@ -1,0 +1,48 @@
+-- The equations that `expand` emits for the rows of the table of instances, in its order.
+-- This file mirrors code (src/expand/row_emission.rt); no definition of the language stands on it.
+use Rattle.std.specs.Prelude.{◌≡◌, ℕ, suc, Bool, true, Option, Some, List, [], ◌∷◌, ◌++◌}
+use Rattle.std.specs.Prelude.{slice_get}
+use Rattle.lb_syntax.specs.Lists.{◌>>=◌, listed}
+use Rattle.lb_static.specs.declared.reach.Reached.{Reached}
+use Rattle.lb_static.specs.declared.resolved.ResolvedNode.{ResolvedNode}
+use Rattle.lb_static.specs.declared.resolved.ResolvedStatement.{ResolvedStatement}
+use Rattle.lb_static.specs.declared.table.Instance as row
+use Rattle.lb_static.specs.declared.table.Table.{Table}
+use Rattle.lb_flat.specs.Emit.{State}
+use Rattle.lb_flat.specs.EmitTerms.{Context, first_place, emit_statements}
+use Rattle.lb_flat.specs.Frames.{HasPlaces}
+
+-- the node of a row
+abbrev pub node_in : Reached → Table → row.Instance → Option ResolvedNode
+node_in r t i =
+    slice_get t.specializations.items i.specialization.0 >>= λ s. slice_get r.nodes.items s.node.0
+
+-- the statements of a row of this node, with what its numbers stand for
+abbrev pub with_body : Context → ResolvedNode → List (Context × List ResolvedStatement)
+with_body ctx n = (ctx, n.body.items) ∷ []
+
+-- of the row with a number
+abbrev pub body_in :
+    Reached → Table → (ℕ → Context) → ℕ → row.Instance →
+    List (Context × List ResolvedStatement)
+body_in r t cs j i = listed (with_body (cs j)) (node_in r t i)
+
+-- of these rows, the first of which has this number
+unfoldable pub bodies :
+    Reached → Table → (ℕ → Context) → ℕ → List row.Instance →
+    List (Context × List ResolvedStatement)
+bodies r t cs j [] = []
+bodies r t cs j (i ∷ rows) = body_in r t cs j i ++ bodies r t cs (suc j) rows
+
+-- the terms and calls of a row can be counted, whatever was emitted before
+abbrev pub IsCounted : Context × List ResolvedStatement → Type 0
+IsCounted row = (s : State) → HasPlaces (emit_statements row.0 first_place s row.1).place
+
+-- there is a row with a number, where the row has a node
+abbrev pub HasRow : Reached → Table → (ℕ → Bool) → ℕ → row.Instance → Type 0
+HasRow r t is_row j i = (n : ResolvedNode) → node_in r t i ≡ Some n → is_row j ≡ true
+
+-- and so are all
+abbrev pub HasRows : Reached → Table → (ℕ → Bool) → Type 0
+HasRows r t is_row =
+    (j : ℕ) (i : row.Instance) → slice_get t.instances.items j ≡ Some i → HasRow r t is_row j i

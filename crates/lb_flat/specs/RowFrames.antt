@@ -1,0 +1,152 @@
+-- What the numbers in the text of a row's node stand for, as they are read of what is stored.
+-- This file mirrors code (src/row_frame.rt); no definition of the language stands on it.
+use Rattle.std.specs.Prelude.{◌≡◌, ℕ, ◌+◌, nat_le, ℤ, Option, Some, None}
+use Rattle.std.specs.Prelude.{option_map, List, [], length, get_or, slice_get}
+use Rattle.std.specs.Prelude.{if◌then◌else◌}
+use Rattle.lb_syntax.specs.Lists.{◌>>=◌, either_or, listed}
+use Rattle.lb_static.specs.Arithmetic.{is_int}
+use Rattle.lb_static.specs.declared.reach.Reached.{Reached}
+use Rattle.lb_static.specs.declared.resolved.ResolvedNode.{ResolvedNode}
+use Rattle.lb_static.specs.declared.table.Specialization.{Specialization}
+use Rattle.lb_static.specs.declared.table.Table.{Table}
+use Rattle.lb_check.specs.Scalars.{Scalar, Integer, Bad}
+use Rattle.lb_check.specs.TermClocks.{callee_in, declared_in}
+use Rattle.lb_check.specs.declared.checked.Checking.{Checking}
+use Rattle.lb_check.specs.declared.own_clock.Clock.{Clock}
+use Rattle.lb_check.specs.declared.own_clock.Clock.TheVariants.{Base, On}
+use Rattle.lb_flat.specs.declared.children.Children.{Children}
+use Rattle.lb_flat.specs.declared.clocks.Clocks.{Clocks}
+use Rattle.lb_flat.specs.declared.equation.ClockId.{ClockId}
+use Rattle.lb_flat.specs.declared.expand.frame.Callee.{Callee}
+use Rattle.lb_flat.specs.declared.layout.Layout.{Layout}
+use Rattle.lb_flat.specs.declared.row_frame.RowFrame.{RowFrame}
+use Rattle.lb_flat.specs.EmitTerms.{Context}
+use Rattle.lb_flat.specs.Flat.{FlatClock}
+use Rattle.lb_flat.specs.RowContexts.{RowClocks, size_at, times_at, parameters_of}
+use Rattle.lb_flat.specs.Rows.{numbers_at, called_row}
+use Rattle.lb_flat.specs.TableClocks.{clock_id, node_at}
+use Rattle.lb_flat.specs.Values.{clock_of}
+
+-- the value of a static expression as an operand: that of a fault where it is no `int`
+abbrev pub int_value : ℤ → Scalar
+int_value z = if is_int z then Integer z else Bad
+
+abbrev pub held_value : List ℤ → ℕ → Scalar
+held_value statics i = either_or (option_map int_value (slice_get statics i)) Bad
+
+-- these elements, where they stand before this one
+abbrev pub held_below : ℕ → List ℕ → List ℕ
+held_below count ns = if nat_le (get_or ns 0 0 + length ns) count then ns else []
+
+-- what a call calls, where its inputs and outputs are among its variables
+abbrev pub held_callee : ResolvedNode → Option Callee
+held_callee m =
+    if nat_le (m.inputs + m.outputs) (length m.variables.items)
+    then Some (parameters_of m) else None
+
+-- what is read of a row
+pub record Read : Type 0 where
+  pub reached : Reached
+  pub table : Table
+  pub layout : Layout
+  pub children : Children
+  pub clocks : Clocks
+  pub row : ℕ
+  pub node : ResolvedNode
+  pub specialization : Specialization
+  pub terms : List Clock
+  pub parts : List ℕ
+
+abbrev pub read_of : RowFrame → Read
+read_of f = record {
+  reached = f.reached.now;
+  table = f.table.now;
+  layout = f.layout.now;
+  children = f.children.now;
+  clocks = f.clocks.now;
+  row = f.row.0;
+  node = f.node.now;
+  specialization = f.specialization.now;
+  terms = f.term_clocks.now;
+  parts = f.parts.now;
+}
+
+-- the row that it calls
+abbrev pub read_child : Read → (call index : ℕ) → Option ℕ
+read_child z c i = called_row z.children.rows z.row c i
+
+-- the elements of a variable of a row
+abbrev pub read_numbers : Read → (row variable : ℕ) → List ℕ
+read_numbers z j x =
+    held_below z.layout.count (numbers_at z.layout.variables.items z.layout.starts.items j x)
+
+-- the place of a clock of a row
+abbrev pub read_id : Read → ℕ → Clock → Option ClockId
+read_id z j k = clock_id z.layout.variables.items z.clocks.runs.items j k
+
+-- of the clock of a variable of a row that is called
+abbrev pub input_id : Read → (call index variable : ℕ) → Option ClockId
+input_id z c i x =
+    read_child z c i >>= λ m.
+    slice_get z.table.instances.items m >>= λ j.
+    node_at z.reached z.table j >>= λ n.
+    read_id z m (declared_in n (record { 0 = x }))
+
+abbrev pub read_clock : Read → Option ClockId → FlatClock
+read_clock z k = clock_of z.clocks.table.items k
+
+-- the clocks that are read
+abbrev pub read_clocks : Read → RowClocks
+read_clocks z = record {
+  declared = λ x. read_clock z (read_id z z.row (declared_in z.node (record { 0 = x })));
+  sampled = λ x sign. read_clock z (read_id z z.row (On (record { 0 = x }) sign));
+  clock = λ t. read_clock z (read_id z z.row (get_or z.terms t Base));
+  parts = λ t. get_or z.parts t 0;
+  input = λ c i x. read_clock z (input_id z c i x);
+}
+
+-- all that is read
+abbrev pub read_context : Read → Context
+read_context z = record {
+  places = λ x. read_numbers z z.row x;
+  declared = (read_clocks z).declared;
+  sampled = (read_clocks z).sampled;
+  value = held_value z.specialization.statics.items;
+  count = size_at z.specialization.statics.items;
+  clock = (read_clocks z).clock;
+  parts = (read_clocks z).parts;
+  callee = λ c. callee_in z.reached z.node (record { 0 = c }) >>= held_callee;
+  repeats = times_at z.node z.specialization;
+  child = λ c i x. listed (λ k. read_numbers z k x) (read_child z c i);
+  input = (read_clocks z).input;
+}
+
+abbrev pub frame_context : RowFrame → Context
+frame_context f = read_context (read_of f)
+
+-- ## Rows of a checked program
+
+-- the specialization of a row and its node
+abbrev pub found_row : Checking → ℕ → Option (Specialization × ResolvedNode)
+found_row c j =
+    slice_get c.elab.table.instances.items j >>= λ i.
+    slice_get c.elab.table.specializations.items i.specialization.0 >>= λ s.
+    option_map {U = Specialization × ResolvedNode} (λ n. (s, n))
+    (slice_get c.elab.reached.nodes.items s.node.0)
+
+-- the clocks of the terms of a node
+abbrev pub found_terms : Checking → Specialization → List Clock
+found_terms c s = listed (λ f. f.terms.items) (slice_get c.clocks.items s.node.0)
+
+-- a frame is that of a row of a checked program, with what is known of all rows
+pub record IsFrameOf (c : Checking) (l : Layout) (all : Children) (k : Clocks) (own_parts : List ℕ)
+    (j : ℕ) (z : Read) : Type 0 where
+  pub reached : z.reached ≡ c.elab.reached
+  pub table : z.table ≡ c.elab.table
+  pub layout : z.layout ≡ l
+  pub children : z.children ≡ all
+  pub clocks : z.clocks ≡ k
+  pub row : z.row ≡ j
+  pub found : found_row c j ≡ Some (z.specialization, z.node)
+  pub terms : z.terms ≡ found_terms c z.specialization
+  pub parts : z.parts ≡ own_parts

@@ -1,0 +1,80 @@
+//! What begins a flat program: the rows of the table of instances that start.
+
+ghost use Rattle.std.specs.Prelude.{◌≡◌, ◌<◌, ◌≤◌, ◌+◌, ◌^◌, true, Some, OnOk};
+ghost use Rattle.lb_flat.specs.EmitWhole as mirror;
+ghost use Rattle.lb_flat.specs.Frames.{with_copies};
+ghost use Rattle.lb_flat.specs.Programs.{numbers_of};
+ghost use Rattle.lb_flat.specs.TermEmissions.{state_of};
+
+use crate::expand::frame::TableFrame;
+use crate::expand::row_emission::row_node;
+use crate::expand::start::Start;
+use crate::expand::term_emission::TermEmission;
+use lb_static::reach::Reached;
+use lb_static::table::{Origin, Table};
+use std::alloc::AllocError;
+
+/// Whether an instance starts the node under test, or the observer.
+fn is_start(observer: bool, origin: Origin) -> bool
+    ensures { result ≡ mirror.is_start observer origin }
+{
+    match origin {
+        Origin::UnderTest => !observer,
+        Origin::Observer => observer,
+        Origin::Called { .. } => false,
+    }
+}
+
+/// The first row that starts the node under test, or the observer.
+pub(crate) fn start_in(reached: &Reached, table: &Table, observer: bool) -> Option<Start>
+    ensures { result ≡ mirror.start_in reached.now table.now observer }
+{
+    for row in 0..table.instances.len() {
+        let instance = table.instances[row];
+        if is_start(observer, instance.origin) {
+            return match row_node(reached, table, &instance) {
+                Some(node) => Some(Start {
+                    row,
+                    inputs: node.inputs,
+                    outputs: node.outputs,
+                }),
+                None => None,
+            };
+        }
+    }
+    None
+}
+
+impl TermEmission {
+    /// The inputs of the observer are copies of the inputs and outputs of the node under test.
+    pub(crate) fn observe<F: TableFrame>(
+        &mut self,
+        frame: &mut F,
+        root: Start,
+        observer: Start,
+    ) -> Result<(), AllocError>
+        requires clocks { F.clocks frame.old ≡ self.old.clocks.items }
+        requires variables { F.variables frame.old ≤ self.old.next }
+        requires root_row { F.is_row frame.old root.row ≡ true }
+        requires observer_row { F.is_row frame.old observer.row ≡ true }
+        requires outputs { root.inputs + root.outputs < 2 ^ 64 }
+        ensures state { OnOk result (state_of self.new ≡ with_copies (state_of self.old)
+            (mirror.observed_at (F.contexts frame.old) (Some root) (Some observer))) }
+        ensures found { OnOk result (numbers_of self.new.found.items
+            ≡ numbers_of self.old.found.items) }
+        ensures next { OnOk result (self.new.next ≡ self.old.next) }
+        ensures clocks { OnOk result (self.new.clocks ≡ self.old.clocks) }
+        ensures rows { F.is_row frame.new ≡ F.is_row frame.old }
+        ensures contexts { F.contexts frame.new ≡ F.contexts frame.old }
+        ensures table { F.clocks frame.new ≡ F.clocks frame.old }
+        ensures variables { F.variables frame.new ≡ F.variables frame.old }
+    {
+        let from = self.found.len();
+        frame.enter(root.row);
+        self.put_parameters(&*frame, 0, root.inputs + root.outputs)?;
+        frame.enter(observer.row);
+        self.copy_parameters(&*frame, observer.inputs, from)?;
+        self.cut(from);
+        Ok(())
+    }
+}
