@@ -1,6 +1,6 @@
 -- What is read of the clocks that are filled row by row: the clock on which a row runs, the element
 -- that serves for a variable, and the two clocks of a variable.
-use Rattle.std.proofs.Common.{◌≡◌, ℕ, zero, suc, ◌+◌, ◌-◌, ◌*◌, ◌<◌, ◌≤◌, Bool, true, false, Option}
+use Rattle.std.proofs.Common.{◌≡◌, ℕ, zero, suc, ◌+◌, ◌*◌, ◌<◌, ◌≤◌, Bool, true, false, Option}
 use Rattle.std.proofs.Common.{Some, None, option_map, List, [], ◌∷◌, ◌++◌, length, map, flat_map}
 use Rattle.std.proofs.Common.{take, get_or, refl, ap, sym, ◌∙◌, arith}
 use Rattle.std.specs.Prelude.{slice_get}
@@ -268,8 +268,11 @@ module _ (from : Sources) (counted : AreCounted from) where
   module _ (runs : List (Option ClockId)) (serving : List ElementId)
       (nodes : (k : ℕ) (i : row.Instance) → slice_get from.table.instances.items k ≡ Some i →
       (n : ResolvedNode) × (node_at from.reached from.table i ≡ Some n)) where
+    abbrev clock_row : ℕ → row.Instance → List table.Clock
+    clock_row j i = row_clocks from.reached from.table from.variables runs serving j i
+
     abbrev clock_piece : ℕ → row.Instance → List table.Clock → List table.Clock
-    clock_piece j i l = row_clocks from.reached from.table from.variables runs serving j i
+    clock_piece j i l = clock_row j i
 
     abbrev clock_for : ℕ → ResolvedNode → Bool → ℕ → table.Clock
     clock_for k n sign x =
@@ -278,7 +281,7 @@ module _ (from : Sources) (counted : AreCounted from) where
 
     row_long :
         (k : ℕ) (i : row.Instance) → slice_get from.table.instances.items k ≡ Some i →
-        length (row_clocks from.reached from.table from.variables runs serving k i) ≡ 2 * count_at from.variables k
+        length (clock_row k i) ≡ 2 * count_at from.variables k
     row_long k i at =
         let n = nodes k i at in
         ap (λ o. length (listed (node_clocks from.variables runs serving k) o)) n.1
@@ -295,15 +298,15 @@ module _ (from : Sources) (counted : AreCounted from) where
         let done = clocks_among from runs serving (take k rows) in
         let j = get_or rows k i.0 in
         let same : j ≡ i.0 = get_or_from_slice_get rows k i.0 i.0 i.1 in
-        let own : length (row_clocks from.reached from.table from.variables runs serving k j) ≡ 2 * count_at from.variables k =
-        ap (λ z. length (row_clocks from.reached from.table from.variables runs serving k z)) same ∙ row_long k i.0 i.1 in
-        let long = length-append done (row_clocks from.reached from.table from.variables runs serving k j) in
+        let own : length (clock_row k j) ≡ 2 * count_at from.variables k =
+        ap (λ z. length (clock_row k z)) same ∙ row_long k i.0 i.1 in
+        let long = length-append done (clock_row k j) in
         let known = clocks_long k (omega (arith, le)) in
         let next = counted.next k (omega (arith, le)) in
         let count : before (k + 1) ≡ before (suc k) =
         let same : k + 1 ≡ suc k = omega arith in ap before same in
         ap length (next_row clock_piece k i.0 i.1)
-        ∙ (let all : length (done ++ row_clocks from.reached from.table from.variables runs serving k j) ≡ 2 * before (suc k) =
+        ∙ (let all : length (done ++ clock_row k j) ≡ 2 * before (suc k) =
         omega (arith, long, own, known, next, count) in all)
 
     -- the clock of a variable for a sign

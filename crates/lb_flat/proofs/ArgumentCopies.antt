@@ -1,27 +1,27 @@
 -- A variable that a call gives to an input of what it calls is copied as it is, and so is an output
 -- to its left variable: both have as many elements.
-use Rattle.std.proofs.Common.{◌≡◌, ◌&&◌, inl, inr, ℕ, zero, suc, ◌+◌, ◌<◌, Bool, true, false, cond}
+use Rattle.std.proofs.Common.{◌≡◌, ◌&&◌, inl, inr, ℕ, ◌+◌, Bool, true, false, cond}
 use Rattle.std.proofs.Common.{Option, Some, None, option_map, List, [], ◌∷◌, ◌++◌, length, map}
-use Rattle.std.proofs.Common.{flat_map, zip, refl, sym, ap, ap₂, ◌∙◌, subst, arith, length-append}
+use Rattle.std.proofs.Common.{flat_map, refl, sym, ap, ap₂, ◌∙◌, subst, arith}
 use Rattle.std.specs.Str.{bytes_eq}
 use Rattle.std.proofs.lemmas.List.{length-map}
 use Rattle.std.proofs.lemmas.Slice.Eq.{bytes_eq-Decides}
-use Rattle.lb_syntax.specs.Lists.{◌>>=◌, Every, In, all_some, either_or, listed}
-use Rattle.lb_syntax.specs.Tree.{Name, Static, Node_named, Expr, Literal, Truth, Variable, Group}
+use Rattle.lb_syntax.specs.Lists.{Every, In, all_some, either_or, listed}
+use Rattle.lb_syntax.specs.Tree.{Name, Static, Expr, Literal, Truth, Variable, Group}
 use Rattle.lb_syntax.specs.Tree.{Unary, Binary, If, Arrow, Fby, Pre, Current, When, Replicate}
 use Rattle.lb_syntax.specs.Tree.{Index, Slice, Join, Array, AtMostOne, Nor, Call, Iterate, Exprs}
 use Rattle.lb_syntax.specs.Tree.{Nil, Cons, Declaration, Node}
-use Rattle.lb_static.specs.DataTypes.{DataType, is_type, are_types, element_count, variables}
-use Rattle.lb_static.specs.DataTypes.{variable_type, width, input_types, output_types}
-use Rattle.lb_static.specs.Instances.{Program, Instance, Path, Child, name_value, node_named}
+use Rattle.lb_static.specs.DataTypes.{DataType, is_type, are_types, variables}
+use Rattle.lb_static.specs.DataTypes.{variable_type, width}
+use Rattle.lb_static.specs.Instances.{Program, Instance, Path, Child, name_value}
 use Rattle.lb_static.specs.StaticValues.{named}
 use Rattle.lb_check.specs.Clocks.{Clock, as_variable, declared_clock, given_inputs, given_outputs}
 use Rattle.lb_check.specs.Clocks.{ungrouped}
 use Rattle.lb_check.specs.Occurrences.{call_count}
 use Rattle.lb_check.specs.Streams.{outputs_of}
 use Rattle.lb_check.specs.TypeRules.{type_of_name}
-use Rattle.lb_check.specs.Types.{data_types, all_types, singly, constant_type, name_data_type}
-use Rattle.lb_check.proofs.Every.{Every-append, Every-first, Every-second}
+use Rattle.lb_check.specs.Types.{data_types, all_types, singly, constant_type}
+use Rattle.lb_check.proofs.Every.{Every-first, Every-second}
 use Rattle.lb_check.proofs.GivenParameters.{found_in}
 use Rattle.lb_check.proofs.OperandTypes.{bound, some_same, first_of_all}
 use Rattle.lb_check.proofs.TruthValues.{and_first, and_second}

@@ -1,8 +1,8 @@
 -- What the first element that is not done says, and what the climb up a clock finds.
 use Rattle.std.proofs.Common.{◌≡◌, ◌<◌, ◌≤◌, ℕ, zero, suc, ◌+◌, ◌-◌, Bool, true, false, not, ◌&&◌}
-use Rattle.std.proofs.Common.{◌||◌, cond, Option, Some, None, List, [], ◌∷◌, length, get_or, refl}
+use Rattle.std.proofs.Common.{cond, Option, Some, None, List, [], ◌∷◌, length, get_or, refl}
 use Rattle.std.proofs.Common.{sym, ap, ◌∙◌, inl, inr, arith}
-use Rattle.std.specs.List.{list_all, list_any}
+use Rattle.std.specs.List.{list_all}
 use Rattle.std.specs.Option.{option_map, is_some}
 use Rattle.std.proofs.lemmas.Option.{slice_get-get_or}
 use Rattle.lb_syntax.specs.Lists.{In}
@@ -47,20 +47,6 @@ module _ (done : List Bool) where
       by true e h again = let r = again h in (inr r.0, r.1)
       by false e h again =
           let same : i ≡ a = some_same i a h in (inl same, ap (is_done done) (sym same) ∙ e)
-
-  -- where there is one, some are not done
-  pub some_waits :
-      (is : List ℕ) → (first_left done is ≡ None → ⊥) →
-      list_any (λ i. not (is_done done i)) is ≡ true
-  some_waits [] h = absurd (h refl)
-  some_waits (i ∷ is) h = by (is_done done i) h (some_waits is)
-    where
-      by :
-          (b : Bool) → (cond (not b) (Some i) (first_left done is) ≡ None → ⊥) →
-          ((first_left done is ≡ None → ⊥) → list_any (λ i. not (is_done done i)) is ≡ true) →
-          (not b || list_any (λ i. not (is_done done i)) is) ≡ true
-      by true h again = again h
-      by false h again = refl
 
 -- what is found has the number that is found
 pub found_none :

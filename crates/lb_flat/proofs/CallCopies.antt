@@ -1,18 +1,13 @@
 -- The copies that an instance emits: of each call in its text those into the inputs of what is
 -- called, and of each equation those into its left variables.
-use Rattle.std.proofs.Common.{◌≡◌, ℕ, ◌+◌, ◌-◌, ◌*◌, suc, false, pos, Option, Some, None, List, []}
-use Rattle.std.proofs.Common.{◌∷◌, ◌++◌, length, map, take, drop, flat_map, zip, refl, sym, ap, ◌∙◌}
+use Rattle.std.proofs.Common.{◌≡◌, ℕ, ◌+◌, false, pos, Option, Some, None, List, []}
+use Rattle.std.proofs.Common.{◌∷◌, ◌++◌, map, flat_map, zip, refl}
 use Rattle.std.proofs.Common.{subst}
-use Rattle.lb_syntax.specs.declared.tree.BinaryOperator.{BinaryOperator}
-use Rattle.lb_syntax.specs.declared.tree.UnaryOperator.TheVariants.{Not}
-use Rattle.lb_syntax.specs.declared.tree.BinaryOperator.TheVariants.{Or, And}
-use Rattle.lb_syntax.specs.declared.tree.ArrayIterator.{ArrayIterator}
-use Rattle.lb_syntax.specs.declared.tree.ArrayIterator.TheVariants.{Map, Red}
-use Rattle.lb_syntax.specs.Lists.{Every, In, zip2, copies, joined}
+use Rattle.lb_syntax.specs.Lists.{Every, In, zip2, joined}
 use Rattle.lb_syntax.specs.Tree.{Name, Node_named, Symbol, Expr, Literal, Truth, Variable, Group}
 use Rattle.lb_syntax.specs.Tree.{Unary, Binary, If, Arrow, Fby, Pre, Current, When, Replicate}
 use Rattle.lb_syntax.specs.Tree.{Index, Slice, Join, Array, AtMostOne, Nor, Call, Iterate, Exprs}
-use Rattle.lb_syntax.specs.Tree.{Nil, Cons, Declaration, Node, Statement, Equation, Assertion}
+use Rattle.lb_syntax.specs.Tree.{Nil, Cons, Declaration, Statement, Equation, Assertion}
 use Rattle.lb_static.specs.DataTypes.{variables}
 use Rattle.lb_static.specs.Instances.{Program, Instance, Child, node_named}
 use Rattle.lb_static.specs.StaticValues.{named}
@@ -23,62 +18,17 @@ use Rattle.lb_check.specs.Occurrences.{occurrences_in, occurrences_each, stateme
 use Rattle.lb_check.specs.Occurrences.{right_sides, statements, node_occurrences}
 use Rattle.lb_check.specs.Streams.{number, outputs_of, iterated}
 use Rattle.lb_check.proofs.Every.{Every-append, Every-first, Every-second}
-use Rattle.lb_flat.specs.Flat.{FlatClock, Operation, Constant, ApplyUnary, ApplyBinary, FirstThen}
+use Rattle.lb_flat.specs.Flat.{Operation, Constant, ApplyUnary, ApplyBinary, FirstThen}
 use Rattle.lb_flat.specs.Flat.{Previous, Latest, Sample, FlatEquation}
 use Rattle.lb_flat.specs.Layouts.{Layout, flat_clock}
-use Rattle.lb_flat.specs.Emit.{State, Emitted, EmittedAll, push, add, keep, assert, joins}
-use Rattle.lb_flat.specs.Emit.{chosen_by, chained, twice, emit_nor, emit_at_most_one, emit_symbol}
+use Rattle.lb_flat.specs.Emit.{State, Emitted, add, keep, assert, joins}
+use Rattle.lb_flat.specs.Emit.{chosen_by}
 use Rattle.lb_flat.specs.Emit.{targets, copied, call_copies, iterator_copies, emit_name, emit}
 use Rattle.lb_flat.specs.Emit.{emit_all, emit_each, emit_body, emit_instances}
+use Rattle.lb_flat.proofs.EmittedCopies.{add_copies, keep_copies, nor_copies, at_most_one_copies}
+use Rattle.lb_flat.proofs.EmittedCopies.{symbol_copies}
 use Rattle.lb_flat.proofs.Bodies.{occurrences_of, assert_copies}
 use Rattle.lb_flat.proofs.Emission.{joins_copies}
-
--- ## Words that copy nothing
-
-add_copies : (k : FlatClock) (s : State) (os : List Operation) →
-    (add k s os).state.copies ≡ s.copies
-unfolding add
-add_copies k s os = refl
-
-keep_copies : (x : Emitted) → (keep x).state.copies ≡ x.state.copies
-unfolding keep
-keep_copies x = refl
-
-chained_copies : (k : FlatClock) (op : BinaryOperator) (s : State) (init : ℕ) (ys : List ℕ) →
-    (chained k op s init ys).state.copies ≡ s.copies
-unfolding chained
-chained_copies k op s init [] = refl
-chained_copies k op s init (y ∷ ys) =
-    chained_copies k op (push k s (ApplyBinary op init y)) s.next ys
-
-twice_copies : (k : FlatClock) (s : State) (any two : ℕ) (xs : List ℕ) →
-    (twice k s any two xs).state.copies ≡ s.copies
-unfolding twice
-twice_copies k s any two [] = refl
-twice_copies k s any two (x ∷ xs) =
-    let t = push k s (ApplyBinary And any x) in
-    let u = push k t (ApplyBinary Or two s.next) in
-    twice_copies k (push k u (ApplyBinary Or any x)) u.next t.next xs
-
-nor_copies : (k : FlatClock) (s : State) (is : List ℕ) → (emit_nor k s is).state.copies ≡ s.copies
-nor_copies k s is =
-    let t = push k s (Constant (Boolean false)) in
-    let x = chained k Or t s.next is in
-    add_copies k x.state (map (ApplyUnary Not) x.found) ∙ chained_copies k Or t s.next is
-
-at_most_one_copies : (k : FlatClock) (s : State) (is : List ℕ) →
-    (emit_at_most_one k s is).state.copies ≡ s.copies
-at_most_one_copies k s is =
-    let t = push k s (Constant (Boolean false)) in
-    let x = twice k t s.next s.next is in
-    add_copies k x.state (map (ApplyUnary Not) x.found) ∙ twice_copies k t s.next s.next is
-
-symbol_copies :
-    (k : FlatClock) (op : BinaryOperator) (s : State) (it : ArrayIterator)
-    (found : List (List ℕ)) → (emit_symbol k op s it found).state.copies ≡ s.copies
-symbol_copies k op s Map (xs ∷ (ys ∷ [])) = add_copies k s (zip2 (ApplyBinary op) xs ys)
-symbol_copies k op s Red ((init ∷ []) ∷ (ys ∷ [])) = chained_copies k op s init ys
-symbol_copies k op s it found = refl
 
 module _ (Y : Layout) (P : Program) (cs : List FlatEquation) where
   -- these equations are among those

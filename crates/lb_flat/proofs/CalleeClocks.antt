@@ -1,36 +1,34 @@
 -- The clocks of the parameters of what a call calls are, in the layout by numbers, those that its
 -- caller sees, and its instances run on the clock of the call.
-use Rattle.std.proofs.Common.{◌≡◌, inl, inr, ℕ, suc, ◌<◌, Bool, true, Option, Some, None, List, []}
-use Rattle.std.proofs.Common.{◌∷◌, ◌++◌, length, map, zip, refl, ap, ap₂, sym, ◌∙◌, subst, arith}
-use Rattle.std.specs.Prelude.{◌&&◌, ◌||◌, not, nat_eq, filter}
-use Rattle.std.specs.List.{list_all}
+use Rattle.std.proofs.Common.{◌≡◌, inl, ℕ, suc, ◌<◌, Bool, true, Some, None, List, []}
+use Rattle.std.proofs.Common.{◌∷◌, ◌++◌, length, map, zip, refl, ap, sym, ◌∙◌, subst, arith}
+use Rattle.std.specs.Prelude.{◌||◌, not, nat_eq, filter}
 use Rattle.lb_syntax.specs.Lists.{◌>>=◌, Every, In, either_or, listed}
 use Rattle.lb_syntax.specs.declared.tree.ArrayIterator.{ArrayIterator}
 use Rattle.lb_syntax.specs.Tree.{Name, Static, Node_named, Symbol, Expr, Call, Iterate, Exprs}
 use Rattle.lb_syntax.specs.Tree.{Declaration, Node, Statement, Equation, Assertion}
-use Rattle.lb_static.specs.Instances.{Program, Instance, Path, Child, Site, call_site, node_named}
+use Rattle.lb_static.specs.Instances.{Program, Instance, Child, Site, call_site, node_named}
 use Rattle.lb_static.specs.Instances.{instances}
 use Rattle.lb_static.specs.Instantiation.{static_refusal}
-use Rattle.lb_static.specs.Parts.{right_side, left_names}
 use Rattle.lb_static.proofs.Members.{all_in}
 use Rattle.lb_check.specs.Acceptance.{check_refusal}
 use Rattle.lb_check.specs.ClockRules.{is_clock, are_clocks, are_declared_clocks}
 use Rattle.lb_check.specs.ClockRules.{are_given_variables, is_call_clocked, is_base_clocked_node}
-use Rattle.lb_check.specs.ClockRules.{if_node, is_occurrence_clocked, left_clocks, are_on_results}
+use Rattle.lb_check.specs.ClockRules.{is_occurrence_clocked, left_clocks, are_on_results}
 use Rattle.lb_check.specs.ClockRules.{is_statement_clocked}
-use Rattle.lb_check.specs.Clocks.{Clock, Base, Given, declared_clock, base_clock, outer}
+use Rattle.lb_check.specs.Clocks.{Clock, Given, declared_clock, base_clock, outer}
 use Rattle.lb_check.specs.Clocks.{given_inputs, given_outputs, result_clocks, ungrouped}
 use Rattle.lb_check.specs.Needs.{is_clock_parameter, is_site, call_at, lefts_at, given_parameters}
 use Rattle.lb_check.specs.Needs.{given_to, whole_clock, site_clock, runs_on}
 use Rattle.lb_check.specs.Occurrences.{Occurrence, at, node_occurrences, statements}
 use Rattle.lb_check.specs.Streams.{History, number}
 use Rattle.lb_check.proofs.AcceptedRules.{clocked}
-use Rattle.lb_check.proofs.ApartLists.{in_first, in_second, Every-at, Every-from}
+use Rattle.lb_check.proofs.ApartLists.{in_first, in_second, Every-from}
 use Rattle.lb_check.proofs.CalledInstances.{IsInstanceOf, instance_there}
 use Rattle.lb_check.proofs.CallNumbers.{call_of, own_right, lefts_of, right_in}
 use Rattle.lb_check.proofs.ClockTests.{clock_same}
 use Rattle.lb_check.proofs.DeterminedClocks.{called_passes}
-use Rattle.lb_check.proofs.GivenParameters.{IsGiven, IsServed, outer_before, over_before}
+use Rattle.lb_check.proofs.GivenParameters.{IsGiven, outer_before, over_before}
 use Rattle.lb_check.proofs.GivenParameters.{over_parameters, on_base, input_given, result_given}
 use Rattle.lb_check.proofs.GivenParameters.{parameter_given, over_served, called_runs, called_clock}
 use Rattle.lb_check.proofs.InstancePaths.{at_path}

@@ -1,7 +1,7 @@
 -- Every instance is a start or is called by exactly one instance: the sum of something over all
 -- instances is that over the starts and over what each instance calls.
-use Rattle.std.proofs.Common.{◌≡◌, ℕ, zero, suc, ◌+◌, ◌≤◌, Option, Some, None, List, [], ◌∷◌, ◌++◌}
-use Rattle.std.proofs.Common.{flat_map, refl, sym, ap, ap₂, ◌∙◌, subst, arith}
+use Rattle.std.proofs.Common.{◌≡◌, ℕ, zero, suc, ◌+◌, ◌≤◌, Option, Some, None, List, [], ◌∷◌}
+use Rattle.std.proofs.Common.{flat_map, refl, sym, ap, ap₂, ◌∙◌, arith}
 use Rattle.lb_syntax.specs.Lists.{Every, listed}
 use Rattle.lb_static.specs.Instances.{Program, Instance, Root, Observer, instance_at, children}
 use Rattle.lb_static.specs.Instances.{instances_from, instances}

@@ -1,16 +1,15 @@
 -- In a table of clocks by the formula each clock of an instance is found at its place.
-use Rattle.std.proofs.Common.{◌≡◌, inl, inr, ℕ, zero, suc, ◌+◌, ◌*◌, ◌<◌, ◌≤◌, Bool, true, false}
+use Rattle.std.proofs.Common.{◌≡◌, ℕ, zero, suc, ◌+◌, ◌*◌, ◌≤◌, Bool}
 use Rattle.std.proofs.Common.{Option, Some, None, List, [], ◌∷◌, length, refl, ap, ap₂, sym, ◌∙◌}
 use Rattle.std.proofs.Common.{subst, arith}
 use Rattle.std.specs.Prelude.{slice_get}
 use Rattle.lb_syntax.specs.Lists.{◌>>=◌, Every, In, either_or}
 use Rattle.lb_syntax.specs.Tree.{Name, Expr, Call, Node}
-use Rattle.lb_static.specs.DataTypes.{variables}
 use Rattle.lb_static.specs.Instances.{Program, Instance, Path, Root, Observer, Child, instance_at}
 use Rattle.lb_static.specs.Instances.{instances, node_named}
 use Rattle.lb_static.specs.Instantiation.{static_refusal}
 use Rattle.lb_check.specs.Acceptance.{check_refusal}
-use Rattle.lb_check.specs.Clocks.{Clock, Base, On, declared_clock, depth, base_clock}
+use Rattle.lb_check.specs.Clocks.{Clock, Base, On, depth, base_clock}
 use Rattle.lb_check.specs.Needs.{WholeClock, Always as Always_whole, Where as Where_whole, call_at}
 use Rattle.lb_check.specs.Needs.{site_clock, whole_clock, runs_on}
 use Rattle.lb_check.specs.Elements.{numbers_of}

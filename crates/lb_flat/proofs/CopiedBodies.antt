@@ -1,18 +1,18 @@
 -- The copies of all instances are the definitions of left variables and of the inputs of what is
 -- called: each copy is one of them, and each of them has its copy.
-use Rattle.std.proofs.Common.{◌≡◌, ◌⊎◌, inl, inr, ℕ, zero, suc, ◌+◌, ◌<◌, ◌≤◌, true, pos, Option}
+use Rattle.std.proofs.Common.{◌≡◌, ◌⊎◌, inl, inr, ℕ, ◌+◌, true, pos, Option}
 use Rattle.std.proofs.Common.{Some, None, List, [], ◌∷◌, ◌++◌, map, length, flat_map, zip, refl}
-use Rattle.std.proofs.Common.{sym, ap, ap₂, ◌∙◌, subst, arith}
+use Rattle.std.proofs.Common.{sym, ap, ◌∙◌, subst, arith}
 use Rattle.std.specs.List.{list_all}
 use Rattle.std.proofs.lemmas.List.{append-nil, length-map}
 use Rattle.lb_syntax.specs.declared.tree.ArrayIterator.{ArrayIterator}
 use Rattle.lb_syntax.specs.declared.tree.ArrayIterator.TheVariants.{Map, Red, Fill}
 use Rattle.lb_syntax.specs.Lists.{Every, In, all_some, where_true}
-use Rattle.lb_syntax.specs.Tree.{Name, Static, Node_named, Symbol, Expr, Literal, Truth, Variable}
+use Rattle.lb_syntax.specs.Tree.{Name, Node_named, Symbol, Expr, Literal, Truth, Variable}
 use Rattle.lb_syntax.specs.Tree.{Group, Unary, Binary, If, Arrow, Fby, Pre, Current, When}
 use Rattle.lb_syntax.specs.Tree.{Replicate, Index, Slice, Join, Array, AtMostOne, Nor, Call}
-use Rattle.lb_syntax.specs.Tree.{Iterate, Exprs, Declaration, Statement, Equation, Assertion}
-use Rattle.lb_static.specs.Instances.{Program, Instance, Path, Child, call_site, static_count}
+use Rattle.lb_syntax.specs.Tree.{Iterate, Statement, Equation, Assertion}
+use Rattle.lb_static.specs.Instances.{Program, Instance, Path, Child, static_count}
 use Rattle.lb_static.specs.Instances.{node_named}
 use Rattle.lb_static.specs.DataTypes.{DataType, are_types}
 use Rattle.lb_static.specs.Instantiation.{are_same}
@@ -34,10 +34,9 @@ use Rattle.lb_flat.specs.Layouts.{Layout, flat_clock}
 use Rattle.lb_flat.specs.Emit.{State, Target, targets, copied, joins, assert, call_copies}
 use Rattle.lb_flat.specs.Emit.{iterator_copies, emit, emit_all, emit_each, emit_body}
 use Rattle.lb_flat.specs.Emit.{emit_instances}
-use Rattle.lb_flat.proofs.Lists.{Every-map, Every-append, Every-first, Every-second}
+use Rattle.lb_flat.proofs.Lists.{Every-append, Every-first, Every-second}
 use Rattle.lb_flat.proofs.Bodies.{assert_equations, assert_copies, occurrences_of}
 use Rattle.lb_flat.proofs.Emission.{joins_equations, joins_copies}
-use Rattle.lb_flat.proofs.OutputWidths.{each}
 use Rattle.lb_flat.proofs.PlacedCalls.{length-all, lengths_same}
 use Rattle.lb_flat.proofs.TypeFacts.{bound, one, two, from_true, alone, truly, some_same}
 use Rattle.lb_flat.proofs.TypeFacts.{are_counts, and_first, and_second, constant, symbolic}

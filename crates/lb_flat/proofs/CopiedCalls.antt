@@ -1,8 +1,7 @@
 -- The copies that an expression emits are the definitions of the inputs of what it calls, in
 -- whatever order: each copy is one of them, and each of them has its copy.
 use Rattle.std.proofs.Common.{◌≡◌, ℕ, zero, suc, ◌+◌, ◌<◌, ◌≤◌, false, Option, Some, None, List, []}
-use Rattle.std.proofs.Common.{◌∷◌, ◌++◌, map, length, flat_map, refl, sym, ap, ap₂, ◌∙◌, subst}
-use Rattle.std.proofs.Common.{arith}
+use Rattle.std.proofs.Common.{◌∷◌, ◌++◌, map, length, flat_map, refl, sym, ap, ◌∙◌, subst, arith}
 use Rattle.std.specs.List.{range_with_len}
 use Rattle.std.proofs.lemmas.List.{append-nil}
 use Rattle.lb_syntax.specs.declared.tree.ArrayIterator.{ArrayIterator}
@@ -18,7 +17,7 @@ use Rattle.lb_static.specs.DataTypes.{DataType, variables}
 use Rattle.lb_check.specs.Types.{all_types, operator_types}
 use Rattle.lb_check.specs.Scalars.{Stream, first_value}
 use Rattle.lb_check.specs.Clocks.{Clock, On, Given, base_clock, outer, given_inputs, clock_of}
-use Rattle.lb_check.specs.Clocks.{clock_or, declared_clock, argument_clocks}
+use Rattle.lb_check.specs.Clocks.{clock_or, declared_clock}
 use Rattle.lb_check.specs.Needs.{Element, Definition, elements, itself, needs, all_needs}
 use Rattle.lb_check.specs.Needs.{defined_as, input_definitions, output_elements, call_definitions}
 use Rattle.lb_check.specs.Occurrences.{Occurrence, at, call_count, call_clocks, occurrences}
@@ -26,16 +25,17 @@ use Rattle.lb_check.specs.Occurrences.{occurrences_in, occurrences_each}
 use Rattle.lb_check.specs.Solutions.{iterator_inputs}
 use Rattle.lb_check.specs.Streams.{History, number, outputs_of, all_streams, argument_streams}
 use Rattle.lb_check.specs.Streams.{iterated}
+use Rattle.lb_check.proofs.OperandTypes.{first_of_all}
 use Rattle.lb_flat.specs.Flat.{FlatClock, FlatEquation, Operation, FirstThen, Previous, Latest}
 use Rattle.lb_flat.specs.Flat.{Sample}
 use Rattle.lb_flat.specs.Layouts.{Layout, flat_clock}
 use Rattle.lb_flat.specs.Emit.{State, Emitted, received, call_copies, iterator_copies, add, keep}
-use Rattle.lb_flat.specs.Emit.{joins, emit_name, emit, emit_all, emit_each}
+use Rattle.lb_flat.specs.Emit.{emit_name, emit, emit_all, emit_each}
 use Rattle.lb_flat.proofs.Lists.{Every-first, Every-second}
 use Rattle.lb_flat.proofs.Emission.{joins_equations, joins_copies}
 use Rattle.lb_flat.proofs.Placing.{AreAsWide}
 use Rattle.lb_flat.proofs.TypeFacts.{bound}
-use Rattle.lb_flat.proofs.Widths.{called, placed, first_of_all, AreVariablesWide, IsOccurrenceWide}
+use Rattle.lb_flat.proofs.Widths.{called, placed, AreVariablesWide, IsOccurrenceWide}
 use Rattle.lb_flat.proofs.PlacedCalls.{call_as_wide, iterator_as_wide}
 use Rattle.lb_flat.proofs.TypedParts.{IsTypedAt}
 use Rattle.lb_flat.proofs.EmittedCopies.{add_copies, keep_copies, nor_copies, at_most_one_copies}
@@ -191,7 +191,7 @@ module _ (Y : Layout) (P : Program) (H : History)
   each_fed p callee given b [] n s Nil us is le parts h c w = tt
   each_fed p callee given b (d ∷ ds) n s Nil us is le parts h c w = absurd w
   each_fed p callee given b [] n s (Cons e es) us is le parts h c w =
-      let f = first_of_all P H here e es us is in
+      let f = first_of_all P here e es us is in
       absurd (omega (arith, le, ap length f.all))
   each_fed p callee given b (d ∷ ds) n s (Cons e es) us is le parts h c w =
       let k = outer b given (declared_clock callee d.name) in
@@ -200,7 +200,7 @@ module _ (Y : Layout) (P : Program) (H : History)
       let x = emit Y P here k n s e in
       let oa = occurrences P here.node k n e in
       let ob = occurrences_each P here.node ks m es in
-      let f = first_of_all P H here e es us is in
+      let f = first_of_all P here e es us is in
       let kept = each_before Y P H same IsAt Under Left here variables_wide numbered ks m x.state es
       (aft oa ob parts) h in
       let l = term_linked k n s e (fore oa ob parts) kept in (

@@ -1,50 +1,26 @@
 -- The copies that an expression emits are the definitions of the inputs of what it calls: each copy
 -- is one of them, and each of them has its copy.
-use Rattle.std.proofs.Common.{◌≡◌, ◌⊎◌, inl, inr, ℕ, zero, suc, ◌+◌, ◌*◌, ◌/◌, ◌<◌, ◌≤◌, true}
-use Rattle.std.proofs.Common.{Option, Some, None, List, [], ◌∷◌, ◌++◌, map, length, take, drop}
-use Rattle.std.proofs.Common.{flat_map, refl, sym, ap, ap₂, ◌∙◌, subst, arith, length-append}
-use Rattle.std.specs.List.{range_with_len}
-use Rattle.std.proofs.lemmas.List.{append-nil, length-map}
+use Rattle.std.proofs.Common.{◌≡◌, inl, inr, ℕ, zero, suc, ◌*◌, ◌/◌, ◌<◌, List, [], ◌∷◌, ◌++◌}
+use Rattle.std.proofs.Common.{map, length, take, drop, flat_map, refl, sym, ap, ◌∙◌, subst, arith}
 use Rattle.lb_syntax.specs.declared.tree.ArrayIterator.{ArrayIterator}
 use Rattle.lb_syntax.specs.declared.tree.ArrayIterator.TheVariants.{Map, Red, Fill}
-use Rattle.lb_syntax.specs.Lists.{Every, In, part, joined, listed}
-use Rattle.lb_syntax.specs.Tree.{Name, Static, Node_named, Call, Iterate, Exprs, Nil, Cons}
-use Rattle.lb_syntax.specs.Tree.{Declaration, Node}
-use Rattle.lb_static.specs.Instances.{Program, Instance, Path, Child, call_site, callee_of}
-use Rattle.lb_static.specs.Instances.{static_count, node_named}
-use Rattle.lb_static.specs.DataTypes.{DataType, variables}
-use Rattle.lb_check.specs.Types.{all_types, operator_types}
+use Rattle.lb_syntax.specs.Lists.{Every, In, part, joined}
+use Rattle.lb_syntax.specs.Tree.{Name, Declaration, Node}
+use Rattle.lb_static.specs.Instances.{Program, Instance, Path}
 use Rattle.lb_check.specs.Scalars.{Stream}
-use Rattle.lb_check.specs.Clocks.{Clock, base_clock, outer, given_inputs, declared_clock}
-use Rattle.lb_check.specs.Clocks.{argument_clocks}
-use Rattle.lb_check.specs.Needs.{Element, Definition, elements, itself, needs, all_needs}
-use Rattle.lb_check.specs.Needs.{defined_as, input_definitions, output_elements, call_definitions}
-use Rattle.lb_check.specs.Occurrences.{Occurrence, at, call_count, call_clocks, occurrences}
-use Rattle.lb_check.specs.Occurrences.{occurrences_in, occurrences_each}
+use Rattle.lb_check.specs.Clocks.{declared_clock}
+use Rattle.lb_check.specs.Needs.{Element, Definition, elements, defined_as}
 use Rattle.lb_check.specs.Solutions.{accumulated, iterator_inputs}
-use Rattle.lb_check.specs.Streams.{History, number, outputs_of, all_streams, argument_streams}
+use Rattle.lb_check.specs.Streams.{History}
 use Rattle.lb_check.proofs.ApartLists.{Every-at, Every-from}
 use Rattle.lb_flat.specs.Flat.{FlatClock, Copy, FlatEquation}
 use Rattle.lb_flat.specs.Layouts.{Layout, flat_clock}
-use Rattle.lb_flat.specs.Emit.{State, Target, targets, copied, received, call_copies}
-use Rattle.lb_flat.specs.Emit.{iterator_copies, emit, emit_all, emit_each}
-use Rattle.lb_flat.proofs.Lists.{Every-map, Every-append, Every-first, Every-second}
+use Rattle.lb_flat.specs.Emit.{Target, targets, copied, received}
+use Rattle.lb_flat.proofs.Lists.{Every-map, Every-append}
 use Rattle.lb_flat.proofs.Placing.{AreAsWide}
-use Rattle.lb_flat.proofs.TypeFacts.{bound}
-use Rattle.lb_flat.proofs.Widths.{called, placed, first_of_all, AreVariablesWide, IsOccurrenceWide}
-use Rattle.lb_flat.proofs.PlacedCalls.{call_as_wide, iterator_as_wide}
-use Rattle.lb_flat.proofs.TypedParts.{IsTypedAt}
-use Rattle.lb_flat.proofs.FoundWidths.{length-inputs, as_many, all_as_many, each_as_many}
-use Rattle.lb_flat.proofs.GivenCalls.{clocks_enough}
-use Rattle.lb_flat.proofs.LinkWords.{SomeOf, some_first, some_second, Pairs, pairs-append}
-use Rattle.lb_flat.proofs.LinkWords.{pairs-take, pairs-drop, pairs-count, pairs-pieces, AllMeet}
-use Rattle.lb_flat.proofs.LinkWords.{AreLinks, Link, variable_links}
-use Rattle.lb_flat.proofs.LinkTerms.{AreNumbered, IsKnown, outputs_numbered, linked, all_linked}
-
-some_of_in : {A : Type 0} (Q : A → Type 0) (xs : List A) (x : A) → In x xs → Q x → SomeOf Q xs
-some_of_in Q [] x i q = absurd i
-some_of_in Q (y ∷ xs) x (inl e) q = inl (subst Q (sym e) q)
-some_of_in Q (y ∷ xs) x (inr i) q = inr (some_of_in Q xs x i q)
+use Rattle.lb_flat.proofs.LinkWords.{Pairs, pairs-append, pairs-take, pairs-drop, pairs-count}
+use Rattle.lb_flat.proofs.LinkWords.{AreLinks, Link}
+use Rattle.lb_flat.proofs.SomeLists.{SomeOf, some_first, some_second, some_of_in}
 
 some_moved :
     {A : Type 0} (Q : A → Type 0) (xs ys : List A) → ((x : A) → In x xs → In x ys) →

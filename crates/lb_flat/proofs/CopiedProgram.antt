@@ -1,10 +1,10 @@
 -- The copies of an accepted program whose rules hold, and what the observer receives, are the
 -- definitions of its variables by statements, calls and the observer.
-use Rattle.std.proofs.Common.{◌≡◌, ◌⊎◌, inl, inr, ℕ, true, Bool, Option, Some, None, IfSome, List}
-use Rattle.std.proofs.Common.{[], ◌∷◌, ◌++◌, map, length, flat_map, refl, sym, ap, ap₂, ◌∙◌, subst}
+use Rattle.std.proofs.Common.{◌≡◌, ◌⊎◌, inl, inr, ℕ, Option, Some, None, IfSome, List}
+use Rattle.std.proofs.Common.{[], ◌∷◌, ◌++◌, map, length, flat_map, refl, sym, ap, ◌∙◌, subst}
 use Rattle.std.specs.Prelude.{slice_get}
 use Rattle.std.proofs.lemmas.List.{map-append}
-use Rattle.lb_syntax.specs.Lists.{Every, In, holds, joined, listed}
+use Rattle.lb_syntax.specs.Lists.{Every, In, joined}
 use Rattle.lb_syntax.specs.Tree.{Name, Declaration, Node}
 use Rattle.lb_static.specs.DataTypes.{variables}
 use Rattle.lb_static.specs.Instances.{Program, Instance, Path, Root, Observer, instance_at}
@@ -29,9 +29,9 @@ use Rattle.lb_flat.specs.Layouts.{Layout, flat_clock}
 use Rattle.lb_flat.specs.NumberedLayouts.{layout}
 use Rattle.lb_flat.specs.Emit.{State, received, before_instances, emit_instances, observed_places}
 use Rattle.lb_flat.specs.Emit.{observed}
-use Rattle.lb_flat.proofs.CopiedBodies.{made_by, IsSourced, instances_defined}
+use Rattle.lb_flat.proofs.CopiedBodies.{made_by, instances_defined}
 use Rattle.lb_flat.proofs.CopiedDefinitions.{AreMatched, matched-none, matched-crossed}
-use Rattle.lb_flat.proofs.CopiedDefinitions.{matched-pairs, IsDefinedBy, AreDeclared, AreFed}
+use Rattle.lb_flat.proofs.CopiedDefinitions.{matched-pairs, IsDefinedBy, AreFed}
 use Rattle.lb_flat.proofs.CopiedDefinitions.{received_paired}
 use Rattle.lb_flat.proofs.LinkWords.{Pairs, AllMeet, variable_links}
 use Rattle.lb_flat.proofs.NumberedElements.{elements_declared}

@@ -1,7 +1,8 @@
 -- How many variables stand before a row, as a layout holds it: as many more behind each row as its
 -- instance has variables, and no more than there are elements.
-use Rattle.std.proofs.Common.{◌≡◌, ℕ, zero, suc, ◌+◌, ◌-◌, ◌<◌, ◌≤◌, None, Some, List, [], ◌∷◌, ◌++◌}
-use Rattle.std.proofs.Common.{length, map, flat_map, take, get_or, refl, ap, sym, ◌∙◌, subst, arith}
+use Rattle.std.proofs.Common.{◌≡◌, ℕ, zero, suc, ◌+◌, ◌<◌, ◌≤◌, None, Some, List, [], ◌∷◌}
+use Rattle.std.proofs.Common.{◌++◌, length, map, flat_map, take, get_or, refl, ap, sym, ◌∙◌, subst}
+use Rattle.std.proofs.Common.{arith}
 use Rattle.std.specs.Prelude.{slice_get}
 use Rattle.std.proofs.lemmas.Grind.{flat_map-append}
 use Rattle.std.proofs.lemmas.List.{append-nil, length-append, length-map, take_more}

@@ -1,18 +1,18 @@
 -- In a node that defines each output and local once, and no input, the left variables are its
 -- outputs and locals, each once.
-use Rattle.std.proofs.Common.{◌≡◌, ◌⊎◌, inl, inr, ℕ, zero, suc, ◌+◌, ◌<◌, ◌≤◌, Bool, true, false}
+use Rattle.std.proofs.Common.{◌≡◌, ◌⊎◌, inl, inr, ℕ, zero, suc, ◌+◌, ◌≤◌, Bool, true, false}
 use Rattle.std.proofs.Common.{cond, nat_eq, Option, Some, None, List, [], ◌∷◌, ◌++◌, map, flat_map}
 use Rattle.std.proofs.Common.{refl, sym, ap, ◌∙◌, subst, arith}
-use Rattle.std.specs.Prelude.{◌&&◌, not, count_by}
+use Rattle.std.specs.Prelude.{not, count_by}
 use Rattle.std.specs.List.{list_all}
 use Rattle.std.specs.Str.{bytes_eq}
 use Rattle.std.proofs.lemmas.List.Sums.{sum_by-cons}
 use Rattle.std.proofs.lemmas.Slice.Eq.{bytes_eq-Decides}
-use Rattle.lb_syntax.specs.Lists.{Every, In, all_some}
+use Rattle.lb_syntax.specs.Lists.{In, all_some}
 use Rattle.lb_syntax.specs.Tree.{Name, Declaration, Node, Statement, Equation, Assertion}
 use Rattle.lb_static.specs.StaticValues.{named}
 use Rattle.lb_static.specs.Instances.{Program, Instance}
-use Rattle.lb_static.specs.DataTypes.{DataType, variables, variable_type}
+use Rattle.lb_static.specs.DataTypes.{DataType, variables}
 use Rattle.lb_static.specs.Instantiation.{are_same}
 use Rattle.lb_static.specs.Names.{are_distinct}
 use Rattle.lb_static.specs.Parts.{among, left_names, variable_names}
@@ -21,14 +21,14 @@ use Rattle.lb_static.proofs.TestedItems.{found_passes}
 use Rattle.lb_check.specs.DefinitionRules.{definition_count, defines_once}
 use Rattle.lb_check.specs.TypeRules.{type_of_name, is_statement_typed}
 use Rattle.lb_check.specs.Types.{data_types}
-use Rattle.lb_check.proofs.ApartLists.{in_first, in_second, in_either, Every-at}
+use Rattle.lb_check.proofs.ApartLists.{in_either, Every-at}
 use Rattle.lb_check.proofs.Every.{Every-tested}
 use Rattle.lb_check.proofs.InstanceNames.{find_in}
 use Rattle.lb_check.proofs.Numbers.{map_append}
-use Rattle.lb_check.proofs.OperandTypes.{bound, some_same}
+use Rattle.lb_check.proofs.OperandTypes.{bound}
 use Rattle.lb_check.proofs.TruthValues.{and_first, and_second}
 use Rattle.lb_flat.proofs.OutputWidths.{each}
-use Rattle.lb_flat.proofs.Totals.{total, total-append, same_number, is_name, named_here, named_in}
+use Rattle.lb_flat.proofs.Totals.{total, total-append, same_number, is_name, named_in}
 use Rattle.lb_flat.proofs.Totals.{in_named}
 
 -- ## How often a name stands in a list

@@ -4,8 +4,8 @@ use Rattle.std.proofs.Common.{◌≡◌, ℕ, ◌+◌, true, List, [], ◌∷◌
 use Rattle.std.proofs.Common.{sym, ap, ap₂, ◌∙◌, subst}
 use Rattle.std.specs.List.{list_all}
 use Rattle.lb_syntax.specs.Tree as tree
-use Rattle.lb_syntax.specs.Tree.{Name}
-use Rattle.lb_static.specs.Instances.{Program, Instance, Path}
+use Rattle.lb_syntax.specs.Tree.{Name, Statement}
+use Rattle.lb_static.specs.Instances.{Program, Instance, Path, node_sites, sites, statement_sites}
 use Rattle.lb_static.specs.ResolvedTerms.{Texts, Counts, expr_of, name_at, statement_of}
 use Rattle.lb_static.specs.ResolvedTerms.{is_variable, is_within, is_statement_within}
 use Rattle.lb_static.specs.ResolvedTerms.{is_statement_unhidden}
@@ -24,7 +24,7 @@ use Rattle.lb_flat.specs.Flat.{FlatClock}
 use Rattle.lb_flat.specs.Layouts.{Layout}
 use Rattle.lb_flat.proofs.EmittedTerms.{AreTermsAt, IsTermAt, term_is}
 use Rattle.lb_flat.proofs.TermContexts.{IsContext}
-use Rattle.lb_flat.proofs.TermPlaces.{along_first, along_second, past}
+use Rattle.lb_flat.proofs.TermPlaces.{along_first, along_second, past, past_both, past_none}
 use Rattle.lb_flat.proofs.Widths.{AreVariablesWide}
 
 module _ (Y : Layout) (P : Program) (H : History) (here : Instance) (texts : Texts) (n : Counts)
@@ -122,3 +122,75 @@ module _ (Y : Layout) (P : Program) (H : History) (here : Instance) (texts : Tex
       statements_are first_place s ss w u
       (subst (λ b. Standing 0 (body_occurrences P here.node 0 b)) (sym body) h)
       ∙ ap (emit_body Y P here 0 s) body
+
+  -- ## Places
+
+  -- the place after all terms and calls of some statements
+  abbrev past_all : Place → List Statement → Place
+  past_all at ss =
+      past at (body_occurrences P here.node at.call ss) (length (flat_map statement_sites ss))
+
+  places_are :
+      (at : Place) (s : State) (ss : List ResolvedStatement) →
+      list_all (is_statement_within n) ss ≡ true →
+      list_all (is_statement_unhidden texts) ss ≡ true →
+      Standing at.term (body_occurrences P here.node at.call (map (statement_of texts) ss)) →
+      (emit_statements ctx at s ss).place ≡ past_all at (map (statement_of texts) ss)
+  unfolding emit_statements emit_statement
+  places_are at s [] w u h = past_none at
+  places_are at s (statement.Equation lefts e ∷ ss) w u h =
+      let own = is_statement_within n (statement.Equation lefts e) in
+      let ew = and_first own _ w in
+      let eu = and_first (is_statement_unhidden texts (statement.Equation lefts e)) _ u in
+      let x = expr_of texts e in
+      let names = map (name_at texts.variables) lefts.items in
+      let k = statement_clock P here.node (tree.Equation names x) in
+      let os = occurrences P here.node k at.call x in
+      let trees = map (statement_of texts) ss in
+      let rest = body_occurrences P here.node (at.call + call_count x) trees in
+      let to = past at os (call_count x) in
+      let y = emit Y P here k at.call s x in
+      let is = term_is Y P H here texts n ctx context same variables_wide k at s e
+      (and_second (list_all (is_variable n) lefts.items) (is_within n e) ew) eu
+      (along_first (IsTermAt Y P H here ctx) at.term os rest h) in
+      ap (λ (x : PlacedEmitted).
+      (emit_statements ctx x.place
+      (joins x.emitted.state
+      (copied (flat_map (left_targets ctx) lefts.items) x.emitted.found) []).state ss).place) is
+      ∙ places_are to
+      (joins y.state (copied (flat_map (left_targets ctx) lefts.items) y.found) []).state ss
+      (and_second own _ w)
+      (and_second (is_statement_unhidden texts (statement.Equation lefts e)) _ u)
+      (along_second (IsTermAt Y P H here ctx) at.term os rest h)
+      ∙ past_both at os rest (sites x) (flat_map statement_sites trees)
+  places_are at s (statement.Assertion e ∷ ss) w u h =
+      let own = is_statement_within n (statement.Assertion e) in
+      let x = expr_of texts e in
+      let k = statement_clock P here.node (tree.Assertion x) in
+      let os = occurrences P here.node k at.call x in
+      let trees = map (statement_of texts) ss in
+      let rest = body_occurrences P here.node (at.call + call_count x) trees in
+      let to = past at os (call_count x) in
+      let y = emit Y P here k at.call s x in
+      let is = term_is Y P H here texts n ctx context same variables_wide k at s e
+      (and_first own _ w)
+      (and_first (is_statement_unhidden texts (statement.Assertion e)) _ u)
+      (along_first (IsTermAt Y P H here ctx) at.term os rest h) in
+      ap (λ (x : PlacedEmitted). (emit_statements ctx x.place (assert x.emitted) ss).place) is
+      ∙ places_are to (assert y) ss (and_second own _ w)
+      (and_second (is_statement_unhidden texts (statement.Assertion e)) _ u)
+      (along_second (IsTermAt Y P H here ctx) at.term os rest h)
+      ∙ past_both at os rest (sites x) (flat_map statement_sites trees)
+
+  -- that of a whole node
+  pub body_place_is :
+      (ss : List ResolvedStatement) → map (statement_of texts) ss ≡ here.node.body →
+      list_all (is_statement_within n) ss ≡ true →
+      list_all (is_statement_unhidden texts) ss ≡ true →
+      Standing 0 (node_occurrences P here.node) → (s : State) →
+      (emit_statements ctx first_place s ss).place
+      ≡ past first_place (node_occurrences P here.node) (length (node_sites here.node))
+  body_place_is ss body w u h s =
+      places_are first_place s ss w u
+      (subst (λ b. Standing 0 (body_occurrences P here.node 0 b)) (sym body) h)
+      ∙ ap (past_all first_place) body

@@ -1,13 +1,13 @@
 -- The words of the code that expands resolved terms which copy the operands of a call and put its
 -- outputs on the stack.
 use Rattle.std.proofs.Common.{◌≡◌, ◌<◌, ◌≤◌, ℕ, zero, suc, ◌+◌, ◌*◌, ◌-◌, List, [], ◌∷◌, ◌++◌}
-use Rattle.std.proofs.Common.{length, map, take, drop, get_or, min, arith, All, refl, sym, ap, ap₂}
+use Rattle.std.proofs.Common.{length, take, drop, get_or, min, arith, refl, sym, ap, ap₂}
 use Rattle.std.proofs.Common.{subst, ◌∙◌}
 use Rattle.std.specs.Prelude.{Bool, true, false, nat_le, flat_map, Option, Some, None}
 use Rattle.std.specs.List.{range_with_len}
 use Rattle.std.proofs.lemmas.Bool.Decides.{nat_tests}
 use Rattle.std.proofs.lemmas.List.{drop_more, drop_all, drop-drop, drop_min, length-drop}
-use Rattle.std.proofs.lemmas.List.{length-map, append_assoc, append-nil, map-id, get_or-drop}
+use Rattle.std.proofs.lemmas.List.{length-map, append_assoc, append-nil, map-id}
 use Rattle.std.proofs.lemmas.List.Concat.{flat_map-append}
 use Rattle.std.proofs.lemmas.List.FromFn.{length-range_with_len, get_or-range_with_len}
 use Rattle.std.proofs.lemmas.List.FromFn.{length-map-range_with_len, get_or-map-range_with_len}
@@ -19,7 +19,7 @@ use Rattle.lb_flat.specs.Emit.{State, Emitted, gives, joins, Target, copied}
 use Rattle.lb_flat.specs.EmitTerms.{Context, input_targets, part_copies, accumulator, index_copies}
 use Rattle.lb_flat.specs.EmitTerms.{gathered_at, index_outputs, call_copies, call_outputs}
 use Rattle.lb_flat.specs.EmitTerms.{iterator_copies, iterator_outputs, call, iterate}
-use Rattle.lb_flat.specs.Flat.{FlatClock, FlatEquation, Copy}
+use Rattle.lb_flat.specs.Flat.{FlatClock, FlatEquation}
 use Rattle.lb_flat.specs.Frames.{targets_of, copy_of, with_copies}
 use Rattle.lb_flat.specs.TermEmissions.{onto, on_top}
 use Rattle.lb_flat.proofs.EmittedStacks.{equation_pushed, flat_pushed}

@@ -1,12 +1,12 @@
 -- The words of the code that expands resolved terms which keep elements, and which go over them.
-use Rattle.std.proofs.Common.{◌≡◌, ◌<◌, ◌≤◌, ℕ, suc, ◌+◌, ◌*◌, ◌-◌, List, [], ◌∷◌, ◌++◌, false}
-use Rattle.std.proofs.Common.{length, map, take, drop, get_or, min, arith, All, refl, sym, ap, ap₂}
-use Rattle.std.proofs.Common.{subst, ◌∙◌}
-use Rattle.std.proofs.lemmas.List.{append_assoc, append-nil, drop_more, drop_all, drop-map}
-use Rattle.std.proofs.lemmas.List.{take-map, take-append-drop, map-append, drop-drop, drop_min}
-use Rattle.std.proofs.lemmas.List.{take_min, length-append, length-drop, length-take-le}
+use Rattle.std.proofs.Common.{◌≡◌, ◌<◌, ◌≤◌, ℕ, ◌+◌, ◌-◌, List, [], ◌∷◌, ◌++◌, false}
+use Rattle.std.proofs.Common.{length, map, take, drop, get_or, min, arith, All, sym, ap, ap₂}
+use Rattle.std.proofs.Common.{◌∙◌}
+use Rattle.std.proofs.lemmas.List.{append_assoc, append-nil, drop_more, drop_all}
+use Rattle.std.proofs.lemmas.List.{take-map, map-append, drop-drop, drop_min}
+use Rattle.std.proofs.lemmas.List.{take_min, length-drop, length-take-le}
 use Rattle.std.proofs.Math.Seq.{take-append-add}
-use Rattle.std.proofs.lemmas.List.Elements.{All-append, All-drop, All-take, All-push}
+use Rattle.std.proofs.lemmas.List.Elements.{All-take, All-push}
 use Rattle.lb_syntax.specs.declared.tree.BinaryOperator.{BinaryOperator}
 use Rattle.lb_syntax.specs.declared.tree.BinaryOperator.TheVariants.{Or, And}
 use Rattle.lb_syntax.specs.declared.tree.UnaryOperator.TheVariants.{Not}
@@ -18,7 +18,7 @@ use Rattle.lb_flat.specs.EmitTerms.{each, memory}
 use Rattle.lb_flat.specs.Flat as flat
 use Rattle.lb_flat.specs.Flat.{FlatClock, Constant, ApplyUnary, ApplyBinary}
 use Rattle.lb_flat.specs.Programs.{numbers_of}
-use Rattle.lb_flat.specs.TermEmissions.{onto, above, kept, with_kept, with_asserted, on_top}
+use Rattle.lb_flat.specs.TermEmissions.{kept, with_kept, with_asserted, on_top}
 use Rattle.lb_flat.proofs.Emitting.{elements_push, numbers_push}
 
 -- ## Kept elements

@@ -1,14 +1,13 @@
 -- The small words of expansion copy nothing.
-use Rattle.std.proofs.Common.{◌≡◌, ℕ, suc, false, List, [], ◌∷◌, map, refl, ◌∙◌}
-use Rattle.lb_syntax.specs.declared.tree.UnaryOperator.TheVariants.{Not}
+use Rattle.std.proofs.Common.{◌≡◌, ℕ, false, List, [], ◌∷◌, refl, ◌∙◌}
 use Rattle.lb_syntax.specs.declared.tree.BinaryOperator.{BinaryOperator}
 use Rattle.lb_syntax.specs.declared.tree.BinaryOperator.TheVariants.{Or, And}
 use Rattle.lb_syntax.specs.declared.tree.ArrayIterator.{ArrayIterator}
 use Rattle.lb_syntax.specs.declared.tree.ArrayIterator.TheVariants.{Map, Red, Fill}
 use Rattle.lb_syntax.specs.Lists.{zip2}
 use Rattle.lb_check.specs.Scalars.{Boolean}
-use Rattle.lb_flat.specs.Flat.{FlatClock, Operation, Constant, ApplyUnary, ApplyBinary}
-use Rattle.lb_flat.specs.Emit.{State, Emitted, add, keep, assert, push, chained, twice, negated}
+use Rattle.lb_flat.specs.Flat.{FlatClock, Operation, Constant, ApplyBinary}
+use Rattle.lb_flat.specs.Emit.{State, Emitted, add, keep, push, chained, twice}
 use Rattle.lb_flat.specs.Emit.{emit_nor, emit_at_most_one, emit_symbol}
 
 pub add_copies : (k : FlatClock) (s : State) (os : List Operation) →

@@ -1,9 +1,9 @@
--- The words of the code that expands resolved terms which cut, pick and repeat what is on the stack.
+-- The words of the code that expands resolved terms which cut, pick and repeat what is on the
+-- stack.
 use Rattle.std.proofs.Common.{◌≡◌, ◌<◌, ◌≤◌, ℕ, zero, suc, ◌+◌, ◌-◌, List, [], ◌∷◌, ◌++◌, length}
-use Rattle.std.proofs.Common.{map, take, drop, get_or, min, arith, All, refl, sym, ap, ap₂, subst}
+use Rattle.std.proofs.Common.{take, drop, get_or, min, arith, All, sym, ap, ap₂}
 use Rattle.std.proofs.Common.{◌∙◌}
 use Rattle.std.specs.List.{slice_range}
-use Rattle.std.proofs.Math.Seq.{take-length}
 use Rattle.std.proofs.lemmas.List.{take-map, drop-map, map-append, drop-append-le, take-append-le}
 use Rattle.std.proofs.lemmas.List.{take_all, length-drop, append_assoc, append-nil, drop_more}
 use Rattle.std.proofs.lemmas.List.{drop_all}
@@ -11,7 +11,7 @@ use Rattle.std.proofs.lemmas.List.Elements.{All-append, All-take, All-drop}
 use Rattle.lb_syntax.specs.Lists.{copies}
 use Rattle.lb_syntax.specs.declared.tree.BinaryOperator.{BinaryOperator}
 use Rattle.lb_flat.specs.declared.equation.ElementId.{ElementId}
-use Rattle.lb_flat.specs.Emit.{State, Emitted, gives, chained}
+use Rattle.lb_flat.specs.Emit.{Emitted, gives, chained}
 use Rattle.lb_flat.specs.EmitTerms.{picked, red}
 use Rattle.lb_flat.specs.Flat.{FlatClock}
 use Rattle.lb_flat.specs.Programs.{numbers_of}

@@ -1,16 +1,16 @@
 -- What a term does with its operands, form by form, in the words of the code that expands resolved
 -- terms.
 use Rattle.std.proofs.Common.{◌≡◌, ◌<◌, ◌≤◌, ℕ, zero, suc, ◌+◌, ◌-◌, ◌*◌, List, [], ◌∷◌, ◌++◌}
-use Rattle.std.proofs.Common.{length, map, take, drop, get_or, min, Vec, Box, Global, arith, false}
-use Rattle.std.proofs.Common.{refl, sym, ap, ap₂, subst, ◌∙◌}
+use Rattle.std.proofs.Common.{length, take, drop, get_or, min, Vec, Box, Global, arith, false}
+use Rattle.std.proofs.Common.{refl, sym, ap, ap₂, ◌∙◌}
 use Rattle.std.specs.Prelude.{Bool}
 use Rattle.std.specs.List.{slice_range}
-use Rattle.std.proofs.lemmas.List.{drop-drop, take-take, drop-append-le, drop-take, length-map}
-use Rattle.std.proofs.lemmas.List.{length-drop, length-take-le, append_assoc, append-nil}
-use Rattle.std.proofs.lemmas.List.{take-append-drop, take-append-le, drop_more, drop_all, take_min}
+use Rattle.std.proofs.lemmas.List.{drop-drop, take-take, drop-append-le, drop-take}
+use Rattle.std.proofs.lemmas.List.{length-drop, length-take-le, append-nil}
+use Rattle.std.proofs.lemmas.List.{take-append-drop, take-append-le, drop_more, take_min}
 use Rattle.std.proofs.lemmas.List.{drop_min}
-use Rattle.std.proofs.Math.Seq.{take-append_seam, drop-append_seam}
-use Rattle.lb_syntax.specs.Lists.{zip2, copies}
+use Rattle.std.proofs.Math.Seq.{drop-append_seam}
+use Rattle.lb_syntax.specs.Lists.{copies}
 use Rattle.lb_syntax.specs.declared.tree.ArrayIterator.{ArrayIterator}
 use Rattle.lb_syntax.specs.declared.tree.ArrayIterator.TheVariants.{Map, Fill}
 use Rattle.lb_syntax.specs.declared.tree.BinaryOperator.{BinaryOperator}
@@ -22,15 +22,15 @@ use Rattle.lb_static.specs.declared.resolved.VariableId.{VariableId}
 use Rattle.lb_static.specs.declared.resolved.Term.{Term, Unary, Binary, Arrow, Fby, Pre, Current}
 use Rattle.lb_static.specs.declared.resolved.Term.{When, Replicate, Index, Slice, Join, Array}
 use Rattle.lb_static.specs.declared.resolved.Term.{AtMostOne, Nor, Call, IterateNode, IterateSymbol}
-use Rattle.lb_flat.specs.Emit.{State, Emitted, gives, add, keep, chosen_by, chained, emit_nor}
+use Rattle.lb_flat.specs.Emit.{Emitted, gives, emit_nor}
 use Rattle.lb_flat.specs.Emit.{emit_at_most_one}
-use Rattle.lb_flat.specs.EmitTerms.{Context, Place, each, memory, pairs, choose, picked, red}
+use Rattle.lb_flat.specs.EmitTerms.{Context, Place, each, memory, pairs, choose, picked}
 use Rattle.lb_flat.specs.EmitTerms.{symbol, call, iterate, with_one, with_two, with_all}
 use Rattle.lb_flat.specs.Flat as flat
 use Rattle.lb_flat.specs.Flat.{FlatClock, ApplyUnary, ApplyBinary, FirstThen, Previous, Latest}
 use Rattle.lb_flat.specs.Flat.{Sample, Choose}
 use Rattle.lb_flat.specs.TermEmissions.{onto, above, without, on_top, on_two, on_three}
-use Rattle.lb_flat.proofs.EmittedStacks.{added_none, on_top_onto, without_operands}
+use Rattle.lb_flat.proofs.EmittedStacks.{added_none, without_operands}
 
 -- ## One operand
 

@@ -1,19 +1,18 @@
 -- The operands of a term on a stack, one after another: what the code finds of each, and what the
 -- word on all of them leaves.
-use Rattle.std.proofs.Common.{◌≡◌, ◌<◌, ◌≤◌, ℕ, suc, ◌+◌, ◌-◌, ◌^◌, List, [], ◌∷◌, ◌++◌, length}
-use Rattle.std.proofs.Common.{take, drop, Vec, Box, Global, arith, refl, sym, ap, ap₂, subst, ◌∙◌}
+use Rattle.std.proofs.Common.{◌≡◌, ◌<◌, ℕ, ◌+◌, ◌-◌, ◌^◌, List, ◌++◌, length}
+use Rattle.std.proofs.Common.{take, drop, Box, Global, arith, refl, sym, ap, ap₂, subst, ◌∙◌}
 use Rattle.std.specs.List.{slice_range}
 use Rattle.std.proofs.Math.Seq.{take-append_seam, drop-append_seam}
 use Rattle.std.proofs.lemmas.List.{append_assoc, length-append}
 use Rattle.lb_static.specs.declared.resolved.Term.{Term, If}
 use Rattle.lb_flat.specs.Emit.{State, Emitted}
-use Rattle.lb_flat.specs.EmitTerms.{Context, Place, PlacedEmitted, placed, next_term, row_place}
-use Rattle.lb_flat.specs.EmitTerms.{choose, with_one, with_two, with_all, emit_term, emit_list}
+use Rattle.lb_flat.specs.EmitTerms.{Context, Place, PlacedEmitted, placed, next_term}
+use Rattle.lb_flat.specs.EmitTerms.{choose, emit_term, emit_list}
 use Rattle.lb_flat.specs.Flat.{FlatClock}
 use Rattle.lb_flat.specs.Frames.{HasPlaces, HasRoom, stacked}
 use Rattle.lb_flat.specs.TermEmissions.{onto, above, on_three}
 use Rattle.lb_flat.proofs.EmittedPlaces.{place_grows, list_later}
-use Rattle.lb_flat.specs.TermForms.{IsPair}
 use Rattle.lb_flat.proofs.EmittedRows.{emitted_if}
 use Rattle.lb_flat.proofs.EmittedWalks.{places_before, above_onto, place_in, emitted_in}
 

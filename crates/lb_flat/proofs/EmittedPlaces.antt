@@ -1,5 +1,5 @@
 -- The place after a term is not before the term, so that a bound on the last place bounds them all.
-use Rattle.std.proofs.Common.{◌≤◌, ℕ, List, [], ◌∷◌, arith}
+use Rattle.std.proofs.Common.{◌≤◌, List, [], ◌∷◌, arith}
 use Rattle.lb_static.specs.declared.resolved.Term.{Term, Literal, Truth, Variable, Value, Group'}
 use Rattle.lb_static.specs.declared.resolved.Term.{Unary', Binary', If', Arrow', Fby', Pre'}
 use Rattle.lb_static.specs.declared.resolved.Term.{Current', When', Replicate', Index', Slice'}

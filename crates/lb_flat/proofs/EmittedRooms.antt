@@ -1,22 +1,28 @@
--- How many new numbers each word of emission takes, so that the room of a term is that of its words.
-use Rattle.std.proofs.Common.{◌≡◌, ◌<◌, ◌≤◌, ℕ, zero, suc, ◌+◌, ◌-◌, ◌*◌, List, [], ◌∷◌, length}
+-- How many new numbers each word of emission takes, so that the room of a term is that of its
+-- words.
+use Rattle.std.proofs.Common.{◌≡◌, ◌<◌, ◌≤◌, ℕ, ◌+◌, ◌-◌, ◌*◌, ◌^◌, Option, List, [], ◌∷◌, length}
 use Rattle.std.proofs.Common.{map, take, drop, min, arith, false, refl, sym, ap, ap₂, subst, ◌∙◌}
 use Rattle.std.specs.List.{slice_range}
 use Rattle.std.proofs.Math.Nat.{min-le_right}
 use Rattle.std.proofs.lemmas.List.{length-map, length-drop, length-append, length-take-le}
-use Rattle.std.proofs.lemmas.List.{drop_more, drop_all}
 use Rattle.lb_syntax.specs.Lists.{zip2}
 use Rattle.lb_syntax.specs.declared.tree.ArrayIterator.TheVariants.{Map}
 use Rattle.lb_syntax.specs.declared.tree.BinaryOperator.{BinaryOperator}
 use Rattle.lb_syntax.specs.declared.tree.BinaryOperator.TheVariants.{Or, And}
 use Rattle.lb_syntax.specs.declared.tree.UnaryOperator.TheVariants.{Not}
 use Rattle.lb_check.specs.Scalars.{Boolean, first_value}
+use Rattle.lb_flat.specs.declared.equation.Clock.{Clock}
+use Rattle.lb_flat.specs.declared.equation.ClockId.{ClockId}
+use Rattle.lb_flat.specs.declared.equation.ElementId.{ElementId}
+use Rattle.lb_flat.specs.declared.expand.term_emission.TermEmission.{TermEmission}
 use Rattle.lb_flat.specs.Emit.{State, Emitted, push, add, keep, chained, twice, emit_nor}
 use Rattle.lb_flat.specs.Emit.{emit_at_most_one}
 use Rattle.lb_flat.specs.EmitTerms.{each, memory, pairs, choose, red, symbol}
 use Rattle.lb_flat.specs.Flat.{FlatClock, Operation, Constant, ApplyUnary, ApplyBinary, Choose}
 use Rattle.lb_flat.specs.Flat.{FirstThen, Previous}
-use Rattle.lb_flat.specs.TermEmissions.{above, on_top}
+use Rattle.lb_flat.specs.Programs.{numbers_of}
+use Rattle.lb_flat.specs.TermEmissions.{emitted_of, above, on_top}
+use Rattle.lb_flat.specs.Values.{clock_of}
 use Rattle.lb_flat.proofs.EmittedNumbers.{next_of_add}
 use Rattle.lb_flat.proofs.EmittedForms.{map_is, pairs_after}
 use Rattle.lb_flat.proofs.EmittedStacks.{length_of_part}
@@ -113,49 +119,58 @@ red_next k op s (i ∷ is) = let h = chained_next k op s i is in omega (arith, h
 
 -- ## The room of each, above so many elements of a stack
 
-module _ (from most : ℕ) (x : Emitted) where
-  pub each_room : (k : FlatClock) (f : ℕ → Operation) (z : Emitted) → z ≡ each k f (above from x) →
-      z.state.next < most → x.state.next + (length x.found - from) < most
+-- a clock that a frame names is that of the code, where both have the same clocks
+pub same_clock :
+    (cs ds : List Clock) (i : Option ClockId) (k : FlatClock) → ds ≡ cs → clock_of ds i ≡ k →
+    clock_of cs i ≡ k
+same_clock cs ds i k e is = ap (λ cs. clock_of cs i) (sym e) ∙ is
+
+module _ (e : TermEmission) (from : ℕ) where
+  abbrev top : Emitted
+  top = above from (emitted_of e)
+
+  long : length top.found ≡ length e.found.items - from
+  long =
+      let all = length-map e.found.items (λ (a : ElementId). a.0) in
+      length-drop from (numbers_of e.found.items) ∙ ap (λ n. n - from) all
+
+  pub each_room : (k : FlatClock) (f : ℕ → Operation) (z : Emitted) → z ≡ each k f top →
+      z.state.next < 2 ^ 32 → e.next + (length e.found.items - from) < 2 ^ 32
   each_room k f z is lt =
-      let size = length-drop from x.found in
-      let more = each_next k f (above from x) in
-      let same = ap (λ (z : Emitted). z.state.next) is in
-      omega (arith, size, more, same, lt)
+      let size = long in
+      let more = ap (λ (z : Emitted). z.state.next) is ∙ each_next k f top in
+      omega (arith, size, more, lt)
 
-  pub memory_room : (k : FlatClock) (f : ℕ → Operation) (z : Emitted)
-      → z ≡ memory k f (above from x) →
-      z.state.next < most → x.state.next + (length x.found - from) < most
+  pub memory_room : (k : FlatClock) (f : ℕ → Operation) (z : Emitted) → z ≡ memory k f top →
+      z.state.next < 2 ^ 32 → e.next + (length e.found.items - from) < 2 ^ 32
   memory_room k f z is lt =
-      let size = length-drop from x.found in
-      let more = memory_next k f (above from x) in
-      let same = ap (λ (z : Emitted). z.state.next) is in
-      omega (arith, size, more, same, lt)
+      let size = long in
+      let more = ap (λ (z : Emitted). z.state.next) is ∙ memory_next k f top in
+      omega (arith, size, more, lt)
 
-  pub nor_room : (k : FlatClock) (z : Emitted) → z ≡ emit_nor k x.state (drop from x.found) →
-      z.state.next < most → x.state.next + 2 + (length x.found - from) < most
+  pub nor_room : (k : FlatClock) (z : Emitted) → z ≡ emit_nor k top.state top.found →
+      z.state.next < 2 ^ 32 → e.next + 2 + (length e.found.items - from) < 2 ^ 32
   nor_room k z is lt =
-      let size = length-drop from x.found in
-      let more = nor_next k x.state (drop from x.found) in
-      let same = ap (λ (z : Emitted). z.state.next) is in
-      omega (arith, size, more, same, lt)
+      let size = long in
+      let more = ap (λ (z : Emitted). z.state.next) is ∙ nor_next k top.state top.found in
+      omega (arith, size, more, lt)
 
-  pub one_room : (k : FlatClock) (z : Emitted) → z ≡ emit_at_most_one k x.state (drop from x.found)
-      →
-      z.state.next < most → x.state.next + 2 + 3 * (length x.found - from) < most
+  pub one_room : (k : FlatClock) (z : Emitted) → z ≡ emit_at_most_one k top.state top.found →
+      z.state.next < 2 ^ 32 → e.next + 2 + 3 * (length e.found.items - from) < 2 ^ 32
   one_room k z is lt =
-      let size = length-drop from x.found in
-      let more = one_next k x.state (drop from x.found) in
-      let same = ap (λ (z : Emitted). z.state.next) is in
-      omega (arith, size, more, same, lt)
+      let size = long in
+      let more = ap (λ (z : Emitted). z.state.next) is ∙ one_next k top.state top.found in
+      omega (arith, size, more, lt)
 
-  pub red_room : (k : FlatClock) (op : BinaryOperator) (z : Emitted)
-      → z ≡ red k op x.state (drop from x.found) →
-      z.state.next < most → x.state.next + (length x.found - (from + 1)) < most
-  red_room k op z is lt =
-      let size = length-drop from x.found in
-      let more = red_next k op x.state (drop from x.found) in
-      let same = ap (λ (z : Emitted). z.state.next) is in
-      omega (arith, size, more, same, lt)
+pub red_room :
+    (from most : ℕ) (x : Emitted) (k : FlatClock) (op : BinaryOperator) (z : Emitted) →
+    z ≡ red k op x.state (drop from x.found) → z.state.next < most →
+    x.state.next + (length x.found - (from + 1)) < most
+red_room from most x k op z is lt =
+    let size = length-drop from x.found in
+    let more = red_next k op x.state (drop from x.found) in
+    let same = ap (λ (z : Emitted). z.state.next) is in
+    omega (arith, size, more, same, lt)
 
 -- of two operands
 pub pairs_room :
@@ -169,6 +184,22 @@ pairs_room from middle most x k f le within lt =
     let second = length-drop middle x.found in
     let sizes = ap₂ (λ m n. x.state.next + min m n) first second in
     subst (λ n. n < most) (more ∙ sizes) lt
+
+-- the same, of the code
+module _ (e : TermEmission) (from middle : ℕ) (le : from ≤ middle)
+    (within : middle ≤ length e.found.items) where
+  abbrev both : List ℕ
+  both = slice_range (emitted_of e).found from middle
+
+  pub two_room :
+      (k : FlatClock) (f : ℕ → ℕ → Operation) (z : Emitted) →
+      z ≡ pairs k f both (above middle (emitted_of e)) → z.state.next < 2 ^ 32 →
+      e.next + min (middle - from) (length e.found.items - middle) < 2 ^ 32
+  two_room k f z is lt =
+      let size = length-map e.found.items (λ (a : ElementId). a.0) in
+      subst (λ n. e.next + min (middle - from) (n - middle) < 2 ^ 32) size
+      (pairs_room from middle (2 ^ 32) (emitted_of e) k f le (omega (arith, size, within))
+      (subst (λ (z : Emitted). z.state.next < 2 ^ 32) is lt))
 
 -- of a choice, where there is a condition
 pub choose_room :
@@ -208,29 +239,35 @@ map_room from middle n most x k op le is lt =
 
 -- of `fby`: a memory of the second operand, and then pairs of both
 pub fby_rooms :
-    (from middle most : ℕ) (x : Emitted) (k : FlatClock) → from ≤ middle →
-    middle ≤ length x.found →
-    (pairs k (FirstThen false) (slice_range x.found from middle)
-    (memory k (Previous first_value) (above middle x))).state.next < most →
-    (x.state.next + (length x.found - middle) < most)
-    × ((let y = on_top middle (memory k (Previous first_value)) x in
-    y.state.next + min (middle - from) (length y.found - middle)) < most)
-fby_rooms from middle most x k le within lt =
+    (e : TermEmission) (from middle : ℕ) (k : FlatClock) (z : Emitted) → from ≤ middle →
+    middle ≤ length e.found.items →
+    (let g = memory k (Previous first_value) in
+    let x = emitted_of e in
+    z ≡ pairs k (FirstThen false) (slice_range x.found from middle) (g (above middle x)) →
+    z.state.next < 2 ^ 32 →
+    (e.next + (length e.found.items - middle) < 2 ^ 32)
+    × ((let y = on_top middle g x in
+    y.state.next + min (middle - from) (length y.found - middle)) < 2 ^ 32))
+fby_rooms e from middle k z le under is room =
+    let x = emitted_of e in
     let g = memory k (Previous first_value) in
     let y = on_top middle g x in
+    let all = length-map e.found.items (λ (a : ElementId). a.0) in
+    let within : middle ≤ length x.found = omega (arith, all, under) in
+    let lt = subst (λ (z : Emitted). z.state.next < 2 ^ 32) is room in
     let same = ap (λ (z : Emitted). z.state.next)
     (pairs_after k (FirstThen false) g from middle x y le within refl) in
     let one = memory_next k (Previous first_value) (above middle x) in
     let size = length-drop middle x.found in
     let two = pairs_next k (FirstThen false) (slice_range x.found from middle)
     (g (above middle x)) in
-    let first : x.state.next + (length x.found - middle) < most =
-    omega (arith, one, size, two, lt) in
+    let first : e.next + (length e.found.items - middle) < 2 ^ 32 =
+    omega (arith, one, size, two, lt, all) in
     let long : middle ≤ length y.found =
     let a = length-append (take middle x.found) (g (above middle x)).found in
     let b = length-take-le middle x.found within in
     omega (arith, a, b) in (
       first,
-      pairs_room from middle most y k (FirstThen false) le long
-          (subst (λ n. n < most) (sym same) lt),
+      pairs_room from middle (2 ^ 32) y k (FirstThen false) le long
+          (subst (λ n. n < 2 ^ 32) (sym same) lt),
     )

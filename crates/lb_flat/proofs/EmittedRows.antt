@@ -1,18 +1,14 @@
 -- A row of terms in a tree is the list in the vector, and so is what is emitted for it; what a term
 -- emits from what its operands do.
-use Rattle.std.proofs.Common.{◌≡◌, ◌<◌, ℕ, ◌+◌, List, [], ◌∷◌, ◌++◌, length, drop, get_or, Vec, Box}
-use Rattle.std.proofs.Common.{Global, refl, sym, ap, ap₂, ◌∙◌, ◌⊎◌, inl, inr}
-use Rattle.std.specs.Prelude.{Bool}
+use Rattle.std.proofs.Common.{◌≡◌, ◌<◌, ℕ, ◌+◌, List, [], ◌++◌, length, drop, get_or, Vec, Box}
+use Rattle.std.proofs.Common.{Global, refl, sym, ap, ◌∙◌, inl, inr}
 use Rattle.std.proofs.lemmas.List.{drop_more, append_assoc, append-nil}
 use mathlib.Core.Former.{Count}
 use Rattle.lb_syntax.specs.declared.tree.ArrayIterator.{ArrayIterator}
 use Rattle.lb_syntax.specs.declared.tree.BinaryOperator.{BinaryOperator}
-use Rattle.lb_syntax.specs.declared.tree.UnaryOperator.{UnaryOperator}
 use Rattle.lb_static.specs.declared.resolved.CallId.{CallId}
 use Rattle.lb_static.specs.declared.resolved.StaticId.{StaticId}
-use Rattle.lb_static.specs.declared.resolved.VariableId.{VariableId}
-use Rattle.lb_static.specs.declared.resolved.Term.{Term, Group, Unary, Binary, If, Arrow, Fby, Pre}
-use Rattle.lb_static.specs.declared.resolved.Term.{Current, When, Replicate, Index, Slice, Join}
+use Rattle.lb_static.specs.declared.resolved.Term.{Term, If}
 use Rattle.lb_static.specs.declared.resolved.Term.{Array, AtMostOne, Nor, Call, IterateNode}
 use Rattle.lb_static.specs.declared.resolved.Term.{IterateSymbol, Array', AtMostOne', Nor', Call'}
 use Rattle.lb_static.specs.declared.resolved.Term.{IterateNode', IterateSymbol', Row_of-Term}

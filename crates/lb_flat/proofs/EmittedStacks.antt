@@ -1,7 +1,7 @@
 -- What one push of the code that expands resolved terms does, and what its words leave on the
 -- stack.
-use Rattle.std.proofs.Common.{◌≡◌, ◌<◌, ◌≤◌, ℕ, zero, suc, ◌+◌, List, [], ◌∷◌, ◌++◌, length, map}
-use Rattle.std.proofs.Common.{take, drop, get_or, min, ◌-◌, Option, arith, rules, All, refl, sym}
+use Rattle.std.proofs.Common.{◌≡◌, ◌<◌, ◌≤◌, ℕ, suc, ◌+◌, List, [], ◌∷◌, ◌++◌, length, map}
+use Rattle.std.proofs.Common.{take, drop, get_or, min, ◌-◌, Option, arith, All, refl, sym}
 use Rattle.std.proofs.Common.{ap, ap₂, subst, ◌∙◌}
 use Rattle.std.proofs.Math.Seq.{take-append_seam, drop-append_seam, take-length}
 use Rattle.std.proofs.lemmas.List.{append_assoc, append-nil, drop_more, drop_all, drop-map}
@@ -18,12 +18,12 @@ use Rattle.lb_flat.specs.declared.equation.ElementId.{ElementId}
 use Rattle.lb_flat.specs.declared.equation.Equation.{Equation}
 use Rattle.lb_flat.specs.declared.equation.Operation.{Operation}
 use Rattle.lb_flat.specs.Emissions.{AreBelow}
-use Rattle.lb_flat.specs.Emit.{State, Emitted, numbered, numbers, after, push, add}
+use Rattle.lb_flat.specs.Emit.{Emitted, numbered, numbers, after, add}
 use Rattle.lb_flat.specs.Flat as flat
 use Rattle.lb_flat.specs.Flat.{FlatClock, FlatEquation}
 use Rattle.lb_flat.specs.Programs.{numbers_of, flat_equations}
-use Rattle.lb_flat.specs.TermEmissions.{onto, above, on_top, on_two, without, pushed, added}
-use Rattle.lb_flat.specs.Values.{equation_of, operation_of}
+use Rattle.lb_flat.specs.TermEmissions.{onto, on_top, on_two, without, pushed, added}
+use Rattle.lb_flat.specs.Values.{equation_of}
 use Rattle.lb_flat.specs.Within.{IsClock, IsWithin}
 use Rattle.lb_flat.proofs.Emitting.{below_later, reads_below, keeps_below, elements_later}
 use Rattle.lb_flat.proofs.Emitting.{elements_push, numbers_push}

@@ -1,7 +1,7 @@
 -- The code that expands resolved statements: left variables are copies of what their term left on
 -- the stack.
-use Rattle.std.proofs.Common.{◌≡◌, ◌<◌, ◌≤◌, ℕ, ◌+◌, ◌-◌, ◌^◌, List, [], ◌∷◌, ◌++◌, length, map}
-use Rattle.std.proofs.Common.{take, drop, get_or, min, arith, refl, sym, ap, ap₂, subst, ◌∙◌}
+use Rattle.std.proofs.Common.{◌≡◌, ◌<◌, ◌≤◌, ℕ, ◌+◌, ◌-◌, ◌^◌, List, ◌∷◌, ◌++◌, length}
+use Rattle.std.proofs.Common.{take, drop, get_or, min, refl, sym, ap, ap₂, subst, ◌∙◌}
 use Rattle.std.specs.Prelude.{flat_map}
 use Rattle.std.proofs.Math.Seq.{take-append_seam}
 use Rattle.std.proofs.lemmas.List.{drop_more, drop_all, length-map}
@@ -9,12 +9,11 @@ use Rattle.lb_static.specs.declared.resolved.ResolvedStatement.{ResolvedStatemen
 use Rattle.lb_static.specs.declared.resolved.ResolvedStatement.TheVariants as statement
 use Rattle.lb_static.specs.declared.resolved.Term.{Term}
 use Rattle.lb_static.specs.declared.resolved.VariableId.{VariableId}
-use Rattle.lb_flat.specs.Emit.{State, Emitted, Target, assert, joins, copied}
+use Rattle.lb_flat.specs.Emit.{State, Emitted, assert, joins, copied}
 use Rattle.lb_flat.specs.EmitTerms.{Context, Place, PlacedEmitted, PlacedState, placed}
 use Rattle.lb_flat.specs.EmitTerms.{left_targets, emit_term, emit_statement}
-use Rattle.lb_flat.specs.Flat.{FlatEquation}
 use Rattle.lb_flat.specs.Frames.{HasPlaces, HasRoom, placed_state, stacked, with_copies}
-use Rattle.lb_flat.specs.TermEmissions.{onto, above, with_asserted}
+use Rattle.lb_flat.specs.TermEmissions.{above, with_asserted}
 use Rattle.lb_flat.proofs.EmittedCalls.{copying_more, copying_ends, copied_append, skipped}
 use Rattle.lb_flat.proofs.EmittedWalks.{above_onto, place_in, emitted_in}
 

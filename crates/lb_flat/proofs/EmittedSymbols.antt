@@ -1,6 +1,6 @@
 -- An iterated symbol that is typed emits the same over its operands in one list as over one list
 -- for each of them.
-use Rattle.std.proofs.Common.{◌≡◌, ◌⊎◌, inl, inr, ℕ, ◌+◌, ◌*◌, true, Some, List, [], ◌∷◌, ◌++◌, map}
+use Rattle.std.proofs.Common.{◌≡◌, ◌⊎◌, inl, inr, ℕ, ◌*◌, true, Some, List, [], ◌∷◌, ◌++◌, map}
 use Rattle.std.proofs.Common.{length, take, drop, sym, ap, ap₂, ◌∙◌, subst, arith}
 use Rattle.std.proofs.Math.Seq.{drop-append_seam}
 use Rattle.std.proofs.lemmas.List.{append-nil, take-append-le, take_all}

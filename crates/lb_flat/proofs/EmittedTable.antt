@@ -8,7 +8,7 @@ use Rattle.std.proofs.lemmas.Option.{slice_get-map}
 use Rattle.lb_syntax.specs.Lists.{Every, In}
 use Rattle.lb_syntax.specs.Tree.{Name, Static, Named, Expr, Declaration, Node}
 use Rattle.lb_static.specs.DataTypes.{variables, width}
-use Rattle.lb_static.specs.Instances.{Program, Instance, Path, instances}
+use Rattle.lb_static.specs.Instances.{Program, Instance, Path, instances, node_sites}
 use Rattle.lb_static.specs.Instantiation.{static_refusal}
 use Rattle.lb_static.specs.InstanceTable.{IsTable}
 use Rattle.lb_static.specs.Parts.{node_parts}
@@ -37,7 +37,7 @@ use Rattle.lb_flat.specs.Layouts.{flat_clock}
 use Rattle.lb_flat.specs.NumberedLayouts.{layout}
 use Rattle.lb_flat.specs.RowBodies.{row_bodies}
 use Rattle.lb_flat.specs.RowContexts.{RowClocks, row_context}
-use Rattle.lb_flat.proofs.EmittedBodies.{body_is}
+use Rattle.lb_flat.proofs.EmittedBodies.{body_is, body_place_is}
 use Rattle.lb_flat.proofs.EmittedTerms.{IsSmall, IsTermAt}
 use Rattle.lb_flat.proofs.NumberedPlaces.{places_width}
 use Rattle.lb_flat.proofs.RowBodies.{rows_emit}
@@ -45,7 +45,7 @@ use Rattle.lb_flat.proofs.RowContexts.{own_resolved}
 use Rattle.lb_flat.proofs.RowInstances.{IsRow}
 use Rattle.lb_flat.proofs.RowTexts.{AreRowClocks, context_is}
 use Rattle.lb_flat.proofs.TermContexts.{IsContext}
-use Rattle.lb_flat.proofs.TermPlaces.{along_from}
+use Rattle.lb_flat.proofs.TermPlaces.{Along, along_from, past}
 use Rattle.lb_flat.proofs.WideInstances.{all_typed, calls_wide}
 use Rattle.lb_flat.proofs.Widths.{AreVariablesWide, IsOccurrenceWide}
 
@@ -130,6 +130,14 @@ module _ (P : Program) (accepted : static_refusal P ≡ None) (checked : check_r
               (instances P) here small there) stands;
         }
 
+    terms_there :
+        Along (IsTermAt (layout P) P wide_history here ctx) 0 (node_occurrences P here.node)
+    terms_there =
+        along_from (IsTermAt (layout P) P wide_history here ctx) 0 (node_occurrences P here.node)
+        (λ j o e.
+        let start : j ≡ 0 + j = omega arith in
+        subst (λ t. IsTermAt (layout P) P wide_history here ctx t o) start (term_there j o e))
+
     -- the statements of a node that stands for that of an instance give what those of the instance
     -- give
     pub instance_body_is :
@@ -140,13 +148,18 @@ module _ (P : Program) (accepted : static_refusal P ≡ None) (checked : check_r
         ≡ emit_body (layout P) P here 0 s here.node.body
     instance_body_is ss body w u s =
         body_is (layout P) P wide_history here texts n ctx context same_widths
-        (own_wide here there) ss body w u
-        (along_from (IsTermAt (layout P) P wide_history here ctx) 0
-        (node_occurrences P here.node)
-        (λ j o e.
-        let start : j ≡ 0 + j = omega arith in
-        subst (λ t. IsTermAt (layout P) P wide_history here ctx t o) start
-        (term_there j o e))) s
+        (own_wide here there) ss body w u terms_there s
+
+    -- after them so many terms and calls are counted as the node has
+    pub instance_place_is :
+        (ss : List ResolvedStatement) → map (statement_of texts) ss ≡ here.node.body →
+        list_all (is_statement_within n) ss ≡ true →
+        list_all (is_statement_unhidden texts) ss ≡ true → (s : State) →
+        (emit_statements ctx first_place s ss).place
+        ≡ past first_place (node_occurrences P here.node) (length (node_sites here.node))
+    instance_place_is ss body w u s =
+        body_place_is (layout P) P wide_history here texts n ctx context same_widths
+        (own_wide here there) ss body w u terms_there s
 
   -- ## Rows
 
@@ -161,6 +174,19 @@ module _ (P : Program) (accepted : static_refusal P ≡ None) (checked : check_r
         let own = own_resolved P r t reached table accepted k i here is in
         let node : here.node ≡ node_of is.node = ap (λ (c : Instance). c.node) is.same in
         instance_body_is here (in_at (instances P) k here is.instance_is) (texts_of is.node)
+        (counts_of is.node) ctx h.context h.terms is.node.body.items
+        (own.body ∙ ap (λ (m : Node). m.body) (sym node)) own.body_within own.unhidden s
+
+    -- and count as many terms and calls
+    pub row_place_is :
+        (k : ℕ) (i : row.Instance) (here : Instance) (is : IsRow P r t table k i here)
+        (ctx : Context) → IsRowContext P r t table k i here is ctx → (s : State) →
+        (emit_statements ctx first_place s is.node.body.items).place
+        ≡ past first_place (node_occurrences P here.node) (length (node_sites here.node))
+    row_place_is k i here is ctx h s =
+        let own = own_resolved P r t reached table accepted k i here is in
+        let node : here.node ≡ node_of is.node = ap (λ (c : Instance). c.node) is.same in
+        instance_place_is here (in_at (instances P) k here is.instance_is) (texts_of is.node)
         (counts_of is.node) ctx h.context h.terms is.node.body.items
         (own.body ∙ ap (λ (m : Node). m.body) (sym node)) own.body_within own.unhidden s
 

@@ -1,11 +1,9 @@
 -- The code that expands resolved terms, term by term: the room of each operand is had from that of
 -- the term, and what the operands left on the stack makes what the term leaves.
-use Rattle.std.proofs.Common.{◌≡◌, ◌<◌, ◌≤◌, ℕ, suc, ◌+◌, ◌-◌, ◌^◌, List, [], ◌∷◌, ◌++◌, length}
-use Rattle.std.proofs.Common.{take, drop, get_or, Vec, Box, Global, arith, refl, sym, ap, ap₂}
+use Rattle.std.proofs.Common.{◌≡◌, ◌<◌, ◌≤◌, ℕ, ◌+◌, ◌^◌, List, [], ◌∷◌, ◌++◌, length}
+use Rattle.std.proofs.Common.{drop, get_or, Vec, Box, Global, arith, refl, sym, ap, ap₂}
 use Rattle.std.proofs.Common.{subst, ◌∙◌}
-use Rattle.std.specs.List.{slice_range}
-use Rattle.std.proofs.Math.Seq.{take-append_seam, drop-append_seam}
-use Rattle.std.proofs.lemmas.List.{append_assoc, length-append}
+use Rattle.std.proofs.Math.Seq.{drop-append_seam}
 use Rattle.std.specs.Prelude.{Bool}
 use Rattle.lb_check.specs.Scalars.{Scalar, Boolean}
 use Rattle.lb_static.specs.declared.resolved.StaticId.{StaticId}
@@ -17,13 +15,13 @@ use Rattle.lb_flat.specs.EmitTerms.{literal, constant, choose, with_one, with_tw
 use Rattle.lb_flat.specs.EmitTerms.{emit_term, emit_list}
 use Rattle.lb_flat.specs.Frames.{HasPlaces, HasRoom, stacked}
 use Rattle.lb_flat.specs.Flat.{FlatClock, Constant}
-use Rattle.lb_flat.specs.TermEmissions.{onto, above, on_top, on_two, on_three, pushed}
+use Rattle.lb_flat.specs.TermEmissions.{onto, above, on_top, on_two, pushed}
 use Rattle.lb_flat.proofs.EmittedNumbers.{next_grows, list_grows, one_grows, two_grows, all_grows}
 use Rattle.lb_flat.proofs.EmittedNumbers.{add_grows, next_of_add}
-use Rattle.lb_flat.proofs.EmittedPlaces.{IsNotAfter, place_grows, list_later, then_later}
+use Rattle.lb_flat.proofs.EmittedPlaces.{IsNotAfter, place_grows, list_later}
 use Rattle.lb_flat.specs.TermForms.{IsSingle, IsPair, IsRow}
 use Rattle.lb_flat.proofs.EmittedRows.{emitted_single, emitted_pair, emitted_if, emitted_all}
-use Rattle.lb_flat.proofs.EmittedRows.{listed_onto, listed_none, listed_more, listed_step}
+use Rattle.lb_flat.proofs.EmittedRows.{listed_onto, listed_more}
 use Rattle.lb_flat.proofs.EmittedStacks.{on_top_onto, on_two_onto}
 
 -- ## Room

@@ -1,6 +1,6 @@
 -- The whole flat program that is emitted from the rows of the table of instances is the expansion
 -- of the program, where the numbers of a row's variables are those of its instance.
-use Rattle.std.proofs.Common.{◌≡◌, ℕ, zero, suc, ◌+◌, ◌<◌, ◌≤◌, Bool, true, false, cond, Option}
+use Rattle.std.proofs.Common.{◌≡◌, ℕ, zero, suc, ◌+◌, Bool, true, false, cond, Option}
 use Rattle.std.proofs.Common.{Some, None, IfSome, option_map, List, [], ◌∷◌, ◌++◌, map, length, flat_map}
 use Rattle.std.proofs.Common.{get_or, refl, ap, ap₂, sym, ◌∙◌, subst, arith}
 use Rattle.std.specs.Prelude.{slice_get, if◌then◌else◌}
@@ -8,7 +8,7 @@ use Rattle.std.specs.List.{range_with_len, filter}
 use Rattle.std.proofs.lemmas.List.{append_assoc, length-append, length-map}
 use Rattle.lb_syntax.specs.Lists.{◌>>=◌, or_else, listed}
 use Rattle.lb_syntax.specs.Tree.{Name, Declaration, Node}
-use Rattle.lb_static.specs.DataTypes.{variables}
+use Rattle.lb_static.specs.DataTypes.{variables, input_kinds}
 use Rattle.lb_static.specs.Instances.{Program, Instance, Path, Root, Observer, Child, instance_at}
 use Rattle.lb_static.specs.Instances.{start_at, instances}
 use Rattle.lb_static.specs.Instantiation.{static_refusal}
@@ -24,6 +24,7 @@ use Rattle.lb_static.specs.declared.table.Origin.{Origin}
 use Rattle.lb_static.specs.declared.table.Origin.TheVariants as origin
 use Rattle.lb_static.specs.declared.table.Table.{Table}
 use Rattle.lb_static.proofs.Members.{in_at, place_in}
+use Rattle.lb_check.specs.Elements.{element_kinds}
 use Rattle.lb_check.specs.Clocks.{declared_clock}
 use Rattle.lb_check.specs.Solutions.{columns_at}
 use Rattle.lb_check.specs.Streams.{History}
@@ -45,6 +46,7 @@ use Rattle.lb_flat.specs.EmitWhole.{outputs_at, clocks_in, row_clocks, whole}
 use Rattle.lb_flat.specs.Flat.{FlatEquation, column}
 use Rattle.lb_flat.specs.Flattening.{history_of}
 use Rattle.lb_flat.specs.Frames.{targets_of, copy_of}
+use Rattle.lb_flat.specs.FurtherKinds.{kinds_from}
 use Rattle.lb_flat.specs.Judging.{FlatProgram}
 use Rattle.lb_flat.specs.Layouts.{Layout, flat_clock}
 use Rattle.lb_flat.specs.NumberedLayouts.{layout}
@@ -120,7 +122,8 @@ module _ (Y : Layout) where
   abbrev still : History
   still = history_of Y [] []
 
-  abbrev inputs_at : Node → Path → List Declaration → List Target
+  -- the elements of some variables, as targets
+  abbrev pub inputs_at : Node → Path → List Declaration → List Target
   inputs_at n p ds = flat_map (λ (d : Declaration). targets Y n p d.name) ds
 
   abbrev places_at : Path → List Declaration → List ℕ
@@ -221,7 +224,8 @@ module _ (r : Reached) (t : Table) (b : Bool) where
       none_step j x is (is_start b x.origin) refl (not 0 x refl)
       (none_start (suc j) is (λ k i e h. not (suc k) i e h))
 
-abbrev start_path : Bool → Path
+-- the path of what starts
+abbrev pub start_path : Bool → Path
 start_path false = Root
 start_path true = Observer
 
@@ -248,7 +252,8 @@ module _ (P : Program) (r : Reached) (t : Table) (reached : IsReached P r)
       node_of is.node ≡ here.node
   own_node k i here is = sym (ap (λ (c : Instance). c.node) is.same)
 
-  node_found : (k : ℕ) (i : row.Instance) (here : Instance) (is : IsRow P r t table k i here) →
+  -- the node of a row is found
+  pub node_found : (k : ℕ) (i : row.Instance) (here : Instance) (is : IsRow P r t table k i here) →
       node_in r t i ≡ Some is.node
   node_found k i here is =
       ap (λ o. o >>= λ s. slice_get r.nodes.items s.node.0) is.specialized ∙ is.resolved
@@ -297,12 +302,13 @@ module _ (P : Program) (r : Reached) (t : Table) (reached : IsReached P r)
           let e' : Observer ≡ Child own.above call.0 index = apart Observer _ h own.path in
           absurd cc
 
-  record IsStarted (b : Bool) (here : Instance) : Type 0 where
-    number : ℕ
-    line : row.Instance
-    at : IsRow P r t table number line here
-    path : here.path ≡ start_path b
-    found : start_in r t b ≡ Some (start_of number at.node)
+  -- the row with which an instance starts
+  pub record IsStarted (b : Bool) (here : Instance) : Type 0 where
+    pub number : ℕ
+    pub line : row.Instance
+    pub at : IsRow P r t table number line here
+    pub path : here.path ≡ start_path b
+    pub found : start_in r t b ≡ Some (start_of number at.node)
 
   -- the instance of a row that starts
   begun :
@@ -318,7 +324,8 @@ module _ (P : Program) (r : Reached) (t : Table) (reached : IsReached P r)
       let at = at_path P there.0 (in_at (instances P) k there.0 there.1.instance_is) in
       (there.0, there.1, ap (instance_at P) (sym path) ∙ at, path)
 
-  started : (b : Bool) (here : Instance) → instance_at P (start_path b) ≡ Some here →
+  -- the instance at a path that starts has one
+  pub started : (b : Bool) (here : Instance) → instance_at P (start_path b) ≡ Some here →
       IsStarted b here
   started b here e =
       let path = path_is P (start_path b) here e in
@@ -343,7 +350,8 @@ module _ (P : Program) (r : Reached) (t : Table) (reached : IsReached P r)
             ∙ ap (λ m. Some (start_of m own.node)) zero_more);
       }
 
-  not_started : (b : Bool) → instance_at P (start_path b) ≡ None → start_in r t b ≡ None
+  -- and there is no other row that starts
+  pub not_started : (b : Bool) → instance_at P (start_path b) ≡ None → start_in r t b ≡ None
   not_started b e =
       none_start r t b 0 t.instances.items (λ k i at h.
       let one = begun b k i at h in
@@ -368,7 +376,8 @@ module _ (P : Program) (r : Reached) (t : Table) (reached : IsReached P r)
           (own_resolved k i here is).outputs
           ∙ ap (λ (n : Node). length n.outputs) (own_node k i here is)
 
-      inputs_are :
+      -- the inputs of a row are those of its instance
+      pub inputs_are :
           parameter_targets (cs k) is.node.inputs
           ≡ inputs_at (layout P) here.node here.path here.node.inputs
       inputs_are =
@@ -567,6 +576,8 @@ module _ (P : Program) (r : Reached) (t : Table) (reached : IsReached P r)
       abbrev assembled :
           ℕ → List FlatEquation → List FlatEquation → State → List ℕ → List ℕ → FlatProgram
       assembled count given seen s clocks outputs = record {
+        inputs = input_kinds P;
+        kinds = element_kinds P ++ kinds_from (element_kinds P) s.equations;
         equations = given ++ (seen ++ (s.copies ++ s.equations));
         size = s.next;
         variables = count;
@@ -580,7 +591,8 @@ module _ (P : Program) (r : Reached) (t : Table) (reached : IsReached P r)
       pub whole_is :
           ((s : State) → emit_rows s (bodies r t cs 0 t.instances.items)
           ≡ emit_instances (layout P) P s (instances P)) →
-          (count : ℕ) → whole r t cs count ≡ expanded (layout P) P count
+          (count : ℕ) →
+          whole r t cs (input_kinds P) (element_kinds P) count ≡ expanded (layout P) P count
       whole_is emits count =
           let s = emit_rows (before_instances count) (bodies r t cs 0 t.instances.items) in
           let given = given_at cs (start_in r t false) in

@@ -3,15 +3,13 @@
 -- needs.
 use Rattle.std.proofs.Common.{◌≡◌, ℕ, None, Some, List, [], sym, ◌∙◌, subst}
 use Rattle.std.specs.Prelude.{slice_get}
-use Rattle.lb_syntax.specs.declared.tree.Kind.{Kind}
 use Rattle.lb_static.specs.Instances.{Program}
 use Rattle.lb_static.specs.Instantiation.{static_refusal}
 use Rattle.lb_check.specs.Elements.{program_elements}
 use Rattle.lb_check.specs.Needs.{Element, Needs, Reaches, at_once, through, IsCausal, IsCyclic}
 use Rattle.lb_check.proofs.AcceptedNumbers.{number_is}
 use Rattle.lb_check.proofs.OperandTypes.{some_same}
-use Rattle.lb_flat.specs.Expanded.{IsOrderingOf}
-use Rattle.lb_flat.specs.Expansions.{HasReads, IsExpansionOf}
+use Rattle.lb_flat.specs.Expanded.{HasReads, IsExpansionOf, IsOrderingOf}
 use Rattle.lb_flat.specs.Flat.{FlatEquation}
 use Rattle.lb_flat.specs.Judging.{FlatProgram}
 use Rattle.lb_flat.specs.Reading.{Chain, one_read, more_reads, NeedsAt, IsReadCycle, IsCertificate}
@@ -64,8 +62,7 @@ module _ (P : Program) (accepted : static_refusal P ≡ None) (f : FlatProgram)
       let same : h.other ≡ h.one = one_number P accepted h.other h.one x h.is_other h.is_one in
       (h.one, subst (λ m. Chain f m h.one) same h.chain)
 
-module _ (P : Program) (f : FlatProgram) (inputs kinds : List Kind)
-    (e : IsExpansionOf P f inputs kinds) where
+module _ (P : Program) (f : FlatProgram) (e : IsExpansionOf P f) where
   -- where the equations have an order in which they can be computed, the program is causal
   pub expansion_causal :
       (Q : List FlatEquation) → IsOrderingOf f.equations Q → Ready f.size [] Q → IsCausal P

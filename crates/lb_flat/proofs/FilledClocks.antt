@@ -76,7 +76,6 @@ use Rattle.lb_flat.specs.TableClocks.{given_for, caller_number, no_element, own_
 use Rattle.lb_flat.specs.TableClocks.{signed_clock, all_runs, all_serving, all_clocks}
 use Rattle.lb_flat.specs.TableClocks.{clocks_among}
 use Rattle.lb_flat.specs.Values.{clock_of}
-use Rattle.lb_flat.specs.declared.equation.Clock as table
 use Rattle.lb_flat.specs.declared.equation.ClockId.{ClockId}
 use Rattle.lb_flat.specs.declared.equation.ElementId.{ElementId}
 use Rattle.lb_flat.proofs.AddedClocks.{AreCounted, runs_called, runs_first, runs_observer}

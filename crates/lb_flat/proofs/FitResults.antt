@@ -1,6 +1,6 @@
 -- The left variables of an equation are copies that fit, also where its right side is a call or an
 -- iterated node with several results.
-use Rattle.std.proofs.Common.{◌≡◌, ℕ, ◌+◌, ◌-◌, ◌*◌, ◌<◌, true, false, pos, Some, IfSome, List, []}
+use Rattle.std.proofs.Common.{◌≡◌, ℕ, ◌+◌, ◌*◌, ◌<◌, true, false, pos, Some, IfSome, List, []}
 use Rattle.std.proofs.Common.{◌∷◌, ◌++◌, map, length, flat_map, zip, refl, sym, ap, ◌∙◌, subst}
 use Rattle.std.proofs.Common.{subst₂, arith}
 use Rattle.std.specs.List.{range_with_len}

@@ -1,5 +1,5 @@
 -- The copies of an equation fit, whatever its right side is.
-use Rattle.std.proofs.Common.{◌≡◌, ℕ, ◌+◌, ◌-◌, ◌<◌, Bool, true, false, Some, List, [], ◌∷◌, ◌++◌}
+use Rattle.std.proofs.Common.{◌≡◌, ℕ, ◌-◌, ◌<◌, Bool, true, false, Some, List, [], ◌∷◌, ◌++◌}
 use Rattle.std.proofs.Common.{map, length, flat_map, refl, sym, ap, ◌∙◌, subst, arith}
 use Rattle.std.specs.List.{range_with_len, list_all}
 use Rattle.lb_syntax.specs.declared.tree.ArrayIterator.{ArrayIterator}
@@ -33,6 +33,7 @@ use Rattle.lb_flat.proofs.FitTerms.{TermFits}
 use Rattle.lb_flat.proofs.FitResults.{one_result, joined_pieces, left_targets, results_fit}
 use Rattle.lb_flat.proofs.FitResults.{result_fit, call_results, each_array, the_callee, wide_at}
 use Rattle.lb_flat.proofs.FitResults.{on_at, pieces, map_results}
+use Rattle.lb_flat.proofs.IteratedTypes.{Filled, red_of, fill_of}
 
 joins_found :
     (s : State) (qs : List FlatEquation) (is : List ℕ) → (joins s qs is).found ≡ is
@@ -44,52 +45,6 @@ number_is :
     (P : Program) (here : Instance) (m : Static) (n : ℕ) → static_count P here m ≡ Some n →
     number P here m ≡ n
 number_is P here m n e = ap (λ o. either_or o 0) e
-
--- what types say of `red` and `fill`
-record Reduced (ts : List DataType) : Type 0 where
-  out : DataType
-  is : ts ≡ out ∷ []
-
-red_of :
-    (n : ℕ) (ins outs args ts : List DataType) → iterator_types Red n ins outs args ≡ Some ts →
-    Reduced ts
-red_of n [] outs args ts e = cc
-red_of n (a ∷ ins) [] args ts e = cc
-red_of n (a ∷ ins) (o ∷ (p ∷ outs)) args ts e = cc
-red_of n (a ∷ ins) (o ∷ []) [] ts e = cc
-red_of n (a ∷ ins) (o ∷ []) (i ∷ args) ts e =
-    let w = bound (all_some (map (array_of n) ins)) _ ts e in
-    let h = truly _ (o ∷ []) ts w.gives in
-    record { out = o; is = sym h.same }
-
-record Filled (n : ℕ) (outs ts : List DataType) : Type 0 where
-  out : DataType
-  others : List DataType
-  arrays : List DataType
-  outs_is : outs ≡ out ∷ others
-  ts_is : ts ≡ out ∷ arrays
-  gives : all_some (map (array_of n) others) ≡ Some arrays
-
-fill_of :
-    (n : ℕ) (ins outs args ts : List DataType) → iterator_types Fill n ins outs args ≡ Some ts →
-    Filled n outs ts
-fill_of n [] outs args ts e = cc
-fill_of n (a ∷ (b ∷ ins)) outs args ts e = cc
-fill_of n (a ∷ []) [] args ts e = cc
-fill_of n (a ∷ []) (o ∷ []) args ts e = cc
-fill_of n (a ∷ []) (o ∷ (p ∷ outs)) [] ts e = cc
-fill_of n (a ∷ []) (o ∷ (p ∷ outs)) (i ∷ (j ∷ args)) ts e = cc
-fill_of n (a ∷ []) (o ∷ (p ∷ outs)) (i ∷ []) ts e =
-    let w = bound (all_some (map (array_of n) (p ∷ outs))) _ ts e in
-    let h = truly _ (o ∷ w.value) ts w.gives in
-    record {
-      out = o;
-      others = p ∷ outs;
-      arrays = w.value;
-      outs_is = refl;
-      ts_is = sym h.same;
-      gives = w.is;
-    }
 
 -- each left variable is on the clock of the right side
 lefts_on :
@@ -209,9 +164,9 @@ module _ (S : Sorts) (Y : Layout) (P : Program) (here : Instance)
       iterator_results Red args ts e same on =
           let r = red_of m types.0 types.1 args ts e in
           result_fit S Y P here variables_on lefts us r.out k _ typed
-          (subst (λ vs. are_types vs us ≡ true) r.is same) on
-          (iterator_found S Y P here f statics types n is_operator k m w Red m args ts r.out e r.is
-          positive)
+          (subst (λ vs. are_types vs us ≡ true) r.ts_is same) on
+          (iterator_found S Y P here f statics types n is_operator k m w Red m args ts r.out e
+          r.ts_is positive)
       iterator_results Map args ts e same on =
           let c = called P here f statics types is_operator in
           let named = (placed P here f statics c.callee c.is).node in

@@ -1,6 +1,6 @@
 -- The equations of an expression fit, and its elements are on its clock and of the kind of its
 -- type.
-use Rattle.std.proofs.Common.{◌≡◌, ℕ, ◌+◌, ◌-◌, Bool, true, false, ◌&&◌, ◌||◌, not, cond, ℤ, pos}
+use Rattle.std.proofs.Common.{◌≡◌, ℕ, ◌+◌, Bool, true, false, ◌&&◌, ◌||◌, not, cond, ℤ, pos}
 use Rattle.std.proofs.Common.{◌⊎◌, inl, inr, Option, Some, None, IfSome, option_map, List, [], ◌∷◌}
 use Rattle.std.proofs.Common.{◌++◌, map, refl, sym, ap, ◌∙◌, subst, subst₂}
 use Rattle.std.specs.Str.{bytes_eq}

@@ -34,8 +34,8 @@ use Rattle.lb_flat.proofs.SoundInstances.{RunsAt}
 use Rattle.lb_flat.proofs.SoundPrograms.{program_sound}
 use Rattle.lb_flat.proofs.Whole.{IsProgramSound}
 
--- the streams that solve the flat program, with presence and kinds, and the histories that solve the
--- program on a trace, are the same; what decides a verdict is watched, and the memories of all
+-- the streams that solve the flat program, with presence and kinds, and the histories that solve
+-- the program on a trace, are the same; what decides a verdict is watched, and the memories of all
 -- operators stand in the flat program
 pub record StandsFor (P : Program) (Y : Layout) (kinds : ℕ → Kind) (f : FlatProgram) :
     Type 0 where

@@ -1,32 +1,86 @@
--- The sizes that are had from the types of the terms of each specialization are those of the
--- expressions of its instances.
-use Rattle.std.proofs.Common.{ℕ, min, Some, Vec, Global, map, ◌∙◌}
-use Rattle.std.specs.Prelude.{sum_by}
-use Rattle.std.proofs.lemmas.Option.{get_or_from_slice_get}
+-- What is found of the types of a program's terms tells whether it is small.
+use Rattle.std.proofs.Common.{◌≡◌, ℕ, ◌+◌, ◌-◌, ◌<◌, ◌≤◌, false, min, Option, None, Some}
+use Rattle.std.proofs.Common.{option_map, Vec, Global, List, [], ◌∷◌, length, map, take, refl, ap}
+use Rattle.std.proofs.Common.{ap₂, sym, ◌∙◌, subst, arith}
+use Rattle.std.specs.Prelude.{nat_le, nat_lt, sum_by}
+use Rattle.std.proofs.lemmas.Bool.Decides.{nat_tests}
+use Rattle.std.proofs.lemmas.List.Sums.{sum_by-cons}
+use Rattle.std.proofs.lemmas.Option.{slice_get_within}
+use Rattle.lb_syntax.specs.Lists.{In, either_or}
+use Rattle.lb_static.specs.Elaborated.{elaborated_program}
 use Rattle.lb_static.specs.Instances.{Program}
 use Rattle.lb_static.specs.InstanceTable.{IsTable}
 use Rattle.lb_static.specs.ReachedNodes.{IsReached}
 use Rattle.lb_static.specs.declared.reach.Reached.{Reached}
+use Rattle.lb_static.specs.declared.table.Instance as row
 use Rattle.lb_static.specs.declared.table.Table.{Table}
+use Rattle.lb_static.proofs.Members.{contains_in}
 use Rattle.lb_check.specs.FoundTerms.{HasFoundTypes}
+use Rattle.lb_check.specs.LawfulPrograms.{IsChecked}
+use Rattle.lb_check.specs.TypeRules.{is_small}
+use Rattle.lb_check.specs.declared.checked.Checking.{Checking}
 use Rattle.lb_check.specs.declared.found_types.NodeTypes.{NodeTypes}
 use Rattle.lb_check.specs.declared.found_types.TermType.{TermType}
 use Rattle.lb_check.proofs.FoundTypes.{types_lent}
 use Rattle.lb_check.proofs.KeptTypes.{size_found}
-use Rattle.lb_check.proofs.ListPairs.{get_mapped}
-use Rattle.lb_flat.specs.TableSizes.{HasTermSizes}
+use Rattle.lb_flat.specs.Rows.{element_total}
+use Rattle.lb_flat.specs.TableSizes.{HasTermSizes, lent_size, term_total}
+use Rattle.lb_flat.proofs.TableSizes.{counted_small, some_left}
 
--- the scalar elements of the terms of a specialization, as far as 65,537
-abbrev pub size_of : NodeTypes → ℕ
-size_of f = min (sum_by (λ (t : TermType). t.elements) f.terms.items) 65537
+past : (a b : ℕ) → 65536 < b → nat_le (a + b) 65536 ≡ false
+past a b lt = grind (arith, nat_tests)
 
--- what is read of each specialization is its size
-pub sizes_found :
-    (P : Program) (r : Reached) (t : Table) → IsReached P r → IsTable P r t →
-    (found : Vec NodeTypes Global) → HasFoundTypes P r t (Some found) →
-    HasTermSizes P r t (map size_of found.items)
-sizes_found P r t reached table found has i s at p here e =
-    let l = types_lent P r t reached table found has i s at p here e in
-    get_or_from_slice_get (map size_of found.items) i (size_of l.0) 0
-    (get_mapped size_of found.items i l.0 l.1)
-    ∙ size_found P here l.0 l.2
+module _ (P : Program) (r : Reached) (t : Table) (reached : IsReached P r) (table : IsTable P r t)
+  where
+    -- what is found of each specialization has the size of the expressions of its instances
+    sizes_found :
+        (found : Vec NodeTypes Global) → HasFoundTypes P r t (Some found) →
+        HasTermSizes P r t (lent_size (Some found))
+    sizes_found found has i s at p here e =
+        let l = types_lent P r t reached table found has i s at p here e in
+        ap (λ (o : Option NodeTypes). either_or (option_map
+        (λ (f : NodeTypes). min (sum_by (λ (t : TermType). t.elements) f.terms.items) 65537) o)
+        65537) l.1
+        ∙ size_found P here l.0 l.2
+
+    -- where there are no rows, there are no specializations
+    no_sizes : t.instances.items ≡ [] → (size : ℕ → ℕ) → HasTermSizes P r t size
+    no_sizes empty size i s at p here e =
+        let used = contains_in (map (λ (k : row.Instance). k.specialization.0) t.instances.items) i
+        (table.used i (slice_get_within t.specializations.items i s at)) in
+        absurd (subst (λ (rows : List row.Instance).
+        In i (map (λ (k : row.Instance). k.specialization.0) rows)) empty used)
+
+    -- the sizes that are lent of the rows tell whether the program is small
+    lent_small :
+        (types : Option (Vec NodeTypes Global)) → HasFoundTypes P r t types →
+        nat_le (element_total r t + term_total t (lent_size types)) 65536 ≡ is_small P
+    lent_small (Some found) has =
+        counted_small P r t reached table (lent_size (Some found)) (sizes_found found has)
+    lent_small None has = by t.instances.items refl
+      where
+        by : (rows : List row.Instance) → t.instances.items ≡ rows →
+            nat_le (element_total r t + term_total t (lent_size None)) 65536 ≡ is_small P
+        by [] is = counted_small P r t reached table (lent_size None) (no_sizes is (lent_size None))
+        by (i ∷ rows) is =
+            let size = λ (k : row.Instance). lent_size None k.specialization.0 in
+            let total : term_total t (lent_size None) ≡ 65537 + sum_by size rows =
+            ap (sum_by size) is ∙ sum_by-cons size i rows in
+            past (element_total r t) (term_total t (lent_size None)) (omega (arith, total))
+            ∙ sym has
+
+-- what is left behind all rows tells whether a checked program is small
+pub left_small :
+    (c : Checking) → IsChecked c → (rows : List row.Instance) →
+    rows ≡ c.elab.table.instances.items → (elements left i : ℕ) →
+    elements ≡ element_total c.elab.reached c.elab.table → length rows ≤ i →
+    left
+    ≡ 65537 - (elements
+    + sum_by (λ (k : row.Instance). lent_size c.types k.specialization.0) (take i rows)) →
+    nat_lt 0 left ≡ is_small (elaborated_program c.elab)
+left_small c is rows same elements left i own end known =
+    let size = λ (k : row.Instance). lent_size c.types k.specialization.0 in
+    some_left size rows i elements left end known
+    ∙ ap₂ (λ (n : ℕ) (ks : List row.Instance). nat_le (n + sum_by size ks) 65536) own same
+    ∙ lent_small (elaborated_program c.elab) c.elab.reached c.elab.table is.elaborated.reached
+    is.elaborated.table c.types is.types

@@ -3,7 +3,7 @@
 use Rattle.std.proofs.Common.{◌≡◌, ℕ, zero, suc, ◌+◌, ◌<◌, ◌≤◌, Bool, true, false, Option, Some, None}
 use Rattle.std.proofs.Common.{List, [], ◌∷◌, ◌++◌, length, flat_map, take, get_or, option_map}
 use Rattle.std.proofs.Common.{refl, ap, ap₂, sym, ◌∙◌, subst, arith}
-use Rattle.std.specs.Prelude.{nat_le, nat_lt, slice_get, if◌then◌else◌}
+use Rattle.std.specs.Prelude.{ℤ, nat_le, nat_lt, slice_get, if◌then◌else◌}
 use Rattle.std.specs.List.{range_with_len}
 use Rattle.std.proofs.lemmas.Bool.Decides.{nat_tests}
 use Rattle.std.proofs.lemmas.List.{length-append}
@@ -11,7 +11,8 @@ use Rattle.std.proofs.lemmas.List.FromFn.{length-range_with_len}
 use Rattle.std.proofs.lemmas.List.Sums.{sum_by-append, sum_by-cons}
 use Rattle.std.proofs.lemmas.Option.{get_or_from_slice_get}
 use mathlib.Core.Path.{fun_ext}
-use Rattle.lb_syntax.specs.Lists.{◌>>=◌, In, listed}
+use Rattle.lb_syntax.specs.Lists.{◌>>=◌, either_or, In, listed}
+use Rattle.lb_static.specs.Arithmetic.{is_int}
 use Rattle.lb_static.specs.DataTypes.{variables}
 use Rattle.lb_static.specs.Elaborated.{elaborated_program}
 use Rattle.lb_static.specs.Instances.{Program, Instance, Child, Site, node_named, node_sites}
@@ -34,12 +35,13 @@ use Rattle.lb_check.specs.Clocks as tree
 use Rattle.lb_check.specs.Clocks.{declared_clock}
 use Rattle.lb_check.specs.LawfulPrograms.{IsChecked}
 use Rattle.lb_check.specs.Occurrences.{Occurrence, node_occurrences}
-use Rattle.lb_check.specs.OwnClocks.{clock_in, is_clock_within, name_in}
+use Rattle.lb_check.specs.OwnClocks.{HasClocks, clock_in, is_clock_within, name_in}
+use Rattle.lb_check.specs.Scalars.{Bad, Integer, or_fault}
 use Rattle.lb_check.specs.TermClocks.{callee_in, declared_in}
 use Rattle.lb_check.specs.declared.checked.Checking.{Checking}
 use Rattle.lb_check.specs.declared.found_clocks.NodeClocks.{NodeClocks}
 use Rattle.lb_check.specs.declared.own_clock.Clock.{Clock}
-use Rattle.lb_check.specs.declared.own_clock.Clock.TheVariants.{Base}
+use Rattle.lb_check.specs.declared.own_clock.Clock.TheVariants.{Base, On}
 use Rattle.lb_check.proofs.CalledInstances.{instance_there}
 use Rattle.lb_check.proofs.Checks.{names_kept}
 use Rattle.lb_check.proofs.ClockTests.{declared_is, declared_within}
@@ -51,10 +53,11 @@ use Rattle.lb_check.proofs.OperandTypes.{some_same}
 use Rattle.lb_check.proofs.SiteOccurrences.{site_occurs}
 use Rattle.lb_flat.specs.Layouts.{flat_clock}
 use Rattle.lb_flat.specs.NumberedLayouts.{layout}
-use Rattle.lb_flat.specs.RowContexts.{row_context, parameters_of}
-use Rattle.lb_flat.specs.RowFrames.{Read, held_below, held_callee, held_value}
+use Rattle.lb_flat.specs.RowContexts.{row_context, parameters_of, value_at}
+use Rattle.lb_flat.specs.RowFrames.{Read, held_below, held_callee, held_value, frame_contexts}
 use Rattle.lb_flat.specs.RowFrames.{read_clock, read_clocks, read_context, read_id, read_numbers}
-use Rattle.lb_flat.specs.RowFrames.{found_terms, input_id}
+use Rattle.lb_flat.specs.RowFrames.{found_row, found_terms, input_id, int_value, no_context}
+use Rattle.lb_flat.specs.RowFrames.{row_found_context, row_read}
 use Rattle.lb_flat.specs.Rows.{sum_of, widths_in, row_widths, first_of_row}
 use Rattle.lb_flat.specs.Rows.{row_numbers, numbers_at, called_row, child_row, child_numbers}
 use Rattle.lb_flat.specs.TableClocks.{IsLayoutOf, sources_of, all_clocks, all_runs, clock_id, node_at}
@@ -143,6 +146,14 @@ module _ (r : Reached) (t : Table) (l : Layout) (laid : IsLayoutOf r t l) where
       ≡ row_numbers r t j (record { 0 = x })
   held_numbers j x = ap (held_below l.count) (laid.numbers j x) ∙ numbers_below j x
 
+-- a static value that is an `int` is read as it is
+pub value_read :
+    (statics : List ℤ) (i : ℕ) (z : ℤ) → slice_get statics i ≡ Some z → is_int z ≡ true →
+    held_value statics i ≡ value_at statics i
+value_read statics i z at int =
+    ap (λ o. either_or (option_map int_value o) Bad) at
+    ∙ ap (λ b. if b then Integer z else Bad) int ∙ sym (ap or_fault at)
+
 -- ## What calls call
 
 module _ (P : Program) (r : Reached) (names : keeps_names P ≡ true) (reached : IsReached P r) where
@@ -194,7 +205,7 @@ module _ (P : Program) (r : Reached) (names : keeps_names P ≡ true) (reached :
 -- ## Frames
 
 module _ (c : Checking) (lawful : IsChecked c) (l : Layout) (all : Children) (k : Clocks)
-    (own_parts : List ℕ) (laid : IsLayoutOf c.elab.reached c.elab.table l)
+    (laid : IsLayoutOf c.elab.reached c.elab.table l)
     (kept : (j n i : ℕ) → called_row all.rows j n i ≡ child_row c.elab.table j n i)
     (filled : k.table.items ≡ all_clocks (sources_of c l))
     (runs : k.runs.items ≡ all_runs (sources_of c l)) where
@@ -209,18 +220,7 @@ module _ (c : Checking) (lawful : IsChecked c) (l : Layout) (all : Children) (k 
 
   -- what is read of a row of this node
   abbrev pub own_read : ℕ → ResolvedNode → Specialization → Read
-  own_read j n s = record {
-    reached = c.elab.reached;
-    table = c.elab.table;
-    layout = l;
-    children = all;
-    clocks = k;
-    row = j;
-    node = n;
-    specialization = s;
-    terms = found_terms c s;
-    parts = own_parts;
-  }
+  own_read = row_read c l all k
 
   -- it stands for the numbers of the row; a static value that is no `int` is a fault
   pub read_is :
@@ -254,6 +254,32 @@ module _ (c : Checking) (lawful : IsChecked c) (l : Layout) (all : Children) (k 
   module _ (j : ℕ) (i : row.Instance) (here : Instance)
       (is : IsRow (elaborated_program c.elab) c.elab.reached c.elab.table
       lawful.elaborated.table j i here) where
+    -- the row that is found is this one
+    row_found :
+        found_row c j ≡ Some (is.specialization, is.node)
+    row_found =
+        ap (λ (o : Option row.Instance). o >>= λ i.
+        slice_get c.elab.table.specializations.items i.specialization.0 >>= λ s.
+        option_map {U = Specialization × ResolvedNode} (λ n. (s, n))
+        (slice_get c.elab.reached.nodes.items s.node.0)) is.row_is
+        ∙ ap (λ (o : Option Specialization). o >>= λ s.
+        option_map {U = Specialization × ResolvedNode} (λ n. (s, n))
+        (slice_get c.elab.reached.nodes.items s.node.0)) is.specialized
+        ∙ ap (option_map {U = Specialization × ResolvedNode} (λ n. (is.specialization, n)))
+        is.resolved
+
+    -- what a frame of the row reads stands for the numbers of the row
+    pub frame_is :
+        frame_contexts c l all k j
+        ≡ record (row_context c.elab.reached c.elab.table
+        (read_clocks (own_read j is.node is.specialization)) j is.node is.specialization) {
+          value = held_value is.specialization.statics.items;
+        }
+    frame_is =
+        ap (λ (o : Option (Specialization × ResolvedNode)).
+        either_or (option_map (row_found_context c l all k j) o) no_context) row_found
+        ∙ read_is j is.node is.specialization
+
     there : In here (instances P)
     there = in_at (instances P) j here is.instance_is
 
@@ -266,8 +292,43 @@ module _ (c : Checking) (lawful : IsChecked c) (l : Layout) (all : Children) (k 
     clock_read own_clock w =
         clock_filled c lawful l laid k.table.items k.runs.items filled runs j i here is own_clock w
 
+    has_clocks : HasClocks is.node
+    has_clocks =
+        own_clocks P r t lawful.elaborated.reached lawful.elaborated.table
+        lawful.elaborated.accepted lawful.accepted c.clocks.items lawful.clocks l.variables.items
+        l.starts.items laid.numbers laid.variables (subst (λ n. n ≤ 65536) laid.count laid.few) j i
+        here is
+
     same_node : here.node ≡ node_of is.node
     same_node = ap (λ (z : Instance). z.node) is.same
+
+    own_declared :
+        (x : VariableId) → is_variable (counts_of is.node) x ≡ true →
+        clock_in is.node (declared_in is.node x) ≡ declared_clock here.node (name_in is.node x)
+    own_declared x w =
+        declared_is is.node has_clocks x w
+        ∙ ap (λ n. declared_clock n (name_in is.node x)) (sym same_node)
+
+    -- the clock of a variable
+    pub declared_read :
+        (x : VariableId) → is_variable (counts_of is.node) x ≡ true →
+        (read_clocks (own_read j is.node is.specialization)).declared x.0
+        ≡ flat_clock (layout (elaborated_program c.elab)) here.path
+        (declared_clock here.node (name_in is.node x))
+    declared_read x w =
+        clock_read (declared_in is.node x) (declared_within is.node has_clocks x w)
+        ∙ ap (flat_clock (layout P) here.path) (own_declared x w)
+
+    -- that of the instants at which it has a sign
+    pub sampled_read :
+        (x : VariableId) (sign : Bool) → is_variable (counts_of is.node) x ≡ true →
+        (read_clocks (own_read j is.node is.specialization)).sampled x.0 sign
+        ≡ flat_clock (layout (elaborated_program c.elab)) here.path
+        (tree.On (declared_clock here.node (name_in is.node x)) (name_in is.node x) sign)
+    sampled_read x sign w =
+        clock_read (On x sign) w
+        ∙ ap (λ n. flat_clock (layout P) here.path
+        (tree.On (declared_clock n (name_in is.node x)) (name_in is.node x) sign)) (sym same_node)
 
     -- that of a term
     pub term_read :

@@ -1,19 +1,17 @@
 -- The copies of all instances give the inputs of what each calls, and its left variables.
 use Rattle.std.proofs.Common.{◌≡◌, ℕ, ◌+◌, cond, nat_eq, List, [], ◌∷◌, ◌++◌, map, length, flat_map}
-use Rattle.std.proofs.Common.{refl, sym, ap, ap₂, ◌∙◌, arith}
+use Rattle.std.proofs.Common.{sym, ap, ap₂, ◌∙◌, arith}
 use Rattle.std.specs.List.{zip}
-use Rattle.std.proofs.lemmas.List.{map-append, length-map}
+use Rattle.std.proofs.lemmas.List.{length-map}
 use Rattle.lb_syntax.specs.Lists.{Every}
 use Rattle.lb_syntax.specs.Tree.{Name, Statement, Equation, Assertion}
 use Rattle.lb_static.specs.Instances.{Program, Instance, Path, sites, node_sites, numbered_sites}
 use Rattle.lb_static.specs.Instances.{statement_sites, site_instances, children}
 use Rattle.lb_static.specs.Parts.{left_names}
-use Rattle.lb_check.specs.Occurrences.{Occurrence, at, call_count, occurrences, statement_clock}
+use Rattle.lb_check.specs.Occurrences.{at, call_count, occurrences, statement_clock}
 use Rattle.lb_check.specs.Occurrences.{right_sides}
-use Rattle.lb_check.specs.Solutions.{streams_at}
-use Rattle.lb_check.specs.Streams.{History, streams}
+use Rattle.lb_check.specs.Streams.{History}
 use Rattle.lb_check.proofs.OccurrenceSites.{numbered_append}
-use Rattle.lb_flat.specs.Flat.{FlatEquation}
 use Rattle.lb_flat.specs.Layouts.{Layout, flat_clock}
 use Rattle.lb_flat.specs.Emit.{State, Target, targets, copied, joins, assert, emit, emit_body}
 use Rattle.lb_flat.specs.Emit.{emit_instances}
@@ -21,7 +19,7 @@ use Rattle.lb_flat.proofs.Lists.{map-pieces, Every-first, Every-second}
 use Rattle.lb_flat.proofs.Bodies.{IsWide, assert_copies, occurrences_of}
 use Rattle.lb_flat.proofs.Emission.{joins_copies}
 use Rattle.lb_flat.proofs.FoundWidths.{length-pieces, as_many}
-use Rattle.lb_flat.proofs.GivenCalls.{element_numbers, target_places, copied_gives, in_inputs}
+use Rattle.lb_flat.proofs.GivenCalls.{target_places, copied_gives, in_inputs}
 use Rattle.lb_flat.proofs.GivenCalls.{in_site, given_in, given-append, calls_added}
 use Rattle.lb_flat.proofs.TypedParts.{IsTypedAt}
 use Rattle.lb_flat.proofs.Widths.{AreVariablesWide}

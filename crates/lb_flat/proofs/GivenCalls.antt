@@ -1,12 +1,12 @@
 -- The copies that an expression emits give the inputs of the instances that its calls have, each
 -- element as often as it stands among these inputs.
-use Rattle.std.proofs.Common.{◌≡◌, ℕ, suc, ◌+◌, ◌<◌, ◌≤◌, false, cond, nat_eq, Option, Some, None}
-use Rattle.std.proofs.Common.{List, [], ◌∷◌, ◌++◌, map, length, flat_map, refl, sym, ap, ap₂, ◌∙◌}
-use Rattle.std.proofs.Common.{subst, arith}
+use Rattle.std.proofs.Common.{◌≡◌, ℕ, suc, ◌+◌, ◌<◌, ◌≤◌, cond, nat_eq, Option, Some, None, List}
+use Rattle.std.proofs.Common.{[], ◌∷◌, ◌++◌, map, length, flat_map, refl, sym, ap, ap₂, ◌∙◌, subst}
+use Rattle.std.proofs.Common.{arith}
 use Rattle.std.specs.List.{range_with_len}
 use Rattle.std.proofs.lemmas.List.{map-append, length-map}
 use Rattle.lb_syntax.specs.declared.tree.ArrayIterator.{ArrayIterator}
-use Rattle.lb_syntax.specs.Lists.{Every, zip2, joined, some_of, listed, all_some}
+use Rattle.lb_syntax.specs.Lists.{Every, joined, some_of, listed}
 use Rattle.lb_syntax.specs.Tree.{Name, Static, Node_named, Symbol, Expr, Literal, Truth, Variable}
 use Rattle.lb_syntax.specs.Tree.{Group, Unary, Binary, If, Arrow, Fby, Pre, Current, When}
 use Rattle.lb_syntax.specs.Tree.{Replicate, Index, Slice, Join, Array, AtMostOne, Nor, Call}
@@ -21,22 +21,19 @@ use Rattle.lb_check.specs.Scalars.{Stream}
 use Rattle.lb_check.specs.Clocks.{Clock, On, clock_of, clock_or, declared_clock, argument_clocks}
 use Rattle.lb_check.specs.Occurrences.{Occurrence, call_count, call_clocks, occurrences}
 use Rattle.lb_check.specs.Occurrences.{occurrences_in, occurrences_each}
-use Rattle.lb_check.specs.Streams.{History, all_streams, argument_streams, number, outputs_of}
-use Rattle.lb_check.specs.Streams.{iterated}
+use Rattle.lb_check.specs.Streams.{History, all_streams, number}
 use Rattle.lb_check.specs.Solutions.{iterator_inputs}
 use Rattle.lb_check.proofs.OccurrenceSites.{numbered_append}
-use Rattle.lb_flat.specs.Flat.{FlatClock, FlatEquation, Operation}
+use Rattle.lb_check.proofs.OperandTypes.{first_of_all}
+use Rattle.lb_flat.specs.Flat.{FlatClock, FlatEquation}
 use Rattle.lb_flat.specs.Layouts.{Layout, flat_clock}
-use Rattle.lb_flat.specs.Emit.{State, Emitted, Target, targets, copied, received, call_copies}
-use Rattle.lb_flat.specs.Emit.{iterator_copies, add, joins, keep, push, chained, twice, negated}
-use Rattle.lb_flat.specs.Emit.{emit_nor, emit_at_most_one, emit_symbol, emit_name, emit, emit_all}
-use Rattle.lb_flat.specs.Emit.{emit_each}
+use Rattle.lb_flat.specs.Emit.{State, Target, targets, copied, received, call_copies}
+use Rattle.lb_flat.specs.Emit.{iterator_copies, add, keep, emit_name, emit, emit_all, emit_each}
 use Rattle.lb_flat.proofs.Lists.{map-pieces, Every-first, Every-second, Every-of_range}
 use Rattle.lb_flat.proofs.Placing.{AreAsWide}
 use Rattle.lb_flat.proofs.Emission.{joins_copies}
-use Rattle.lb_flat.proofs.TypeFacts.{bound, truly, are_counts, some_same}
-use Rattle.lb_flat.proofs.Widths.{called, placed, number_is, first_of_all, AreVariablesWide}
-use Rattle.lb_flat.proofs.Widths.{IsOccurrenceWide}
+use Rattle.lb_flat.proofs.TypeFacts.{bound, truly, are_counts}
+use Rattle.lb_flat.proofs.Widths.{called, placed, number_is, AreVariablesWide, IsOccurrenceWide}
 use Rattle.lb_flat.proofs.PlacedCalls.{call_as_wide, iterator_as_wide, length-all, lengths_same}
 use Rattle.lb_flat.proofs.TypedParts.{IsTypedAt}
 use Rattle.lb_flat.proofs.FoundWidths.{length-inputs, all_as_many, each_as_many}
@@ -441,12 +438,12 @@ module _ (Y : Layout) (P : Program) (H : History) (here : Instance)
         Adds s (emit_each Y P here ks n s es).state (numbered_sites n (sites_in es))
     each_added ks n s Nil us e le h = adds_none s s refl
     each_added [] n s (Cons e es) us is le h =
-        let f = first_of_all P H here e es us is in
+        let f = first_of_all P here e es us is in
         absurd (omega (arith, le, ap length f.all))
     each_added (k ∷ ks) n s (Cons e es) us is le h =
         let oa = occurrences P here.node k n e in
         let ob = occurrences_each P here.node ks (n + call_count e) es in
-        let f = first_of_all P H here e es us is in
+        let f = first_of_all P here e es us is in
         adds_two s (emit Y P here k n s e).state _ n (sites e) (sites_in es)
         (calls_added k n s e (fore oa ob h))
         (each_added ks (n + call_count e) (emit Y P here k n s e).state es f.rest f.others

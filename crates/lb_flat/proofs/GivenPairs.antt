@@ -1,5 +1,5 @@
 -- The pair of variables that a call gives is found by name where it is found by number.
-use Rattle.std.proofs.Common.{◌≡◌, ℕ, zero, suc, ◌-◌, ◌<◌, Bool}
+use Rattle.std.proofs.Common.{◌≡◌, ℕ, zero, suc, ◌<◌, Bool}
 use Rattle.std.proofs.Common.{true, false, Option, Some, None, List, [], ◌∷◌, length, map}
 use Rattle.std.proofs.Common.{refl, ap, sym, ◌∙◌, arith}
 use Rattle.std.specs.Prelude.{◌==◌, cond, find, nat_eq, nat_lt, option_map, slice_get}

@@ -1,14 +1,14 @@
 -- Each element of the expansion of an accepted program whose rules hold has exactly one equation,
 -- and that of a further element reads lower ones alone.
-use Rattle.std.proofs.Common.{◌≡◌, ◌⊎◌, inl, inr, ℕ, zero, suc, ◌+◌, ◌-◌, ◌<◌, ◌≤◌, true, false}
-use Rattle.std.proofs.Common.{Bool, cond, nat_eq, Option, Some, None, IfSome, List, [], ◌∷◌, ◌++◌}
+use Rattle.std.proofs.Common.{◌≡◌, ◌⊎◌, inl, inr, ℕ, suc, ◌+◌, ◌<◌, ◌≤◌, true}
+use Rattle.std.proofs.Common.{cond, nat_eq, Option, Some, None, IfSome, List, [], ◌∷◌, ◌++◌}
 use Rattle.std.proofs.Common.{map, length, flat_map, refl, sym, ap, ap₂, ◌∙◌, subst, arith}
 use Rattle.std.specs.List.{list_all, range_with_len}
 use Rattle.std.proofs.lemmas.Bool.{cases_lt}
 use Rattle.std.proofs.lemmas.List.{length-map}
 use Rattle.lb_syntax.specs.Lists.{Every, In, listed, holds}
 use Rattle.lb_syntax.specs.Refusals.{E4, E7, E8, E9, E10, E11, unless}
-use Rattle.lb_syntax.specs.Tree.{Name, Declaration, Node}
+use Rattle.lb_syntax.specs.Tree.{Name, Declaration}
 use Rattle.lb_static.specs.DataTypes.{variables, width}
 use Rattle.lb_static.specs.Instances.{Program, Instance, Path, Root, Observer, instance_at}
 use Rattle.lb_static.specs.Instances.{children, instances}
@@ -25,10 +25,9 @@ use Rattle.lb_check.specs.Elements.{program_elements}
 use Rattle.lb_check.specs.Solutions.{columns_at}
 use Rattle.lb_check.specs.Streams.{History}
 use Rattle.lb_check.specs.TypeRules.{is_clock_typed, is_statement_typed, is_typed}
-use Rattle.lb_check.proofs.AcceptedRules.{all_typed}
 use Rattle.lb_check.proofs.ApartLists.{Every-at, Every-from}
-use Rattle.lb_check.proofs.Checks.{first_none, second_none, kept, instantiation_kept}
-use Rattle.lb_check.proofs.Every.{Every-map, Every-both, Every-tested, Every-all, Every-append}
+use Rattle.lb_check.proofs.Checks.{second_none, kept, instantiation_kept}
+use Rattle.lb_check.proofs.Every.{Every-map, Every-tested, Every-all, Every-append}
 use Rattle.lb_check.proofs.Every.{Every-first, Every-second}
 use Rattle.lb_check.proofs.InstanceNames.{variables_distinct}
 use Rattle.lb_check.proofs.InstancePaths.{path_is}
@@ -52,12 +51,12 @@ use Rattle.lb_flat.proofs.GivenBodies.{IsReady, in_names, in_instance, instances
 use Rattle.lb_flat.proofs.GivenCalls.{element_numbers, target_places, received_gives, in_inputs}
 use Rattle.lb_flat.proofs.GivenCalls.{given_in, given-append}
 use Rattle.lb_flat.proofs.Lists.{map-pieces}
-use Rattle.lb_flat.proofs.NumberedWidths.{calls_wide}
 use Rattle.lb_flat.proofs.NumberedPlaces.{places_walk, places_width, is_laid_out}
 use Rattle.lb_flat.proofs.Observing.{all_places}
 use Rattle.lb_flat.proofs.Placing.{AreAsWide}
 use Rattle.lb_flat.proofs.SoundInstances.{body_typed}
 use Rattle.lb_flat.proofs.TypedBodies.{body_wide}
+use Rattle.lb_flat.proofs.WideInstances.{all_typed, calls_wide}
 use Rattle.lb_flat.proofs.Totals.{total, total-append, total-plus, total-same, total-map}
 use Rattle.lb_flat.proofs.Totals.{total-pieces, times, times_of, of_times, once_apart, range_low}
 use Rattle.lb_flat.proofs.Totals.{range_high, range_once, same_sums}
@@ -197,7 +196,7 @@ module _ (P : Program) (accepted : static_refusal P ≡ None) (checked : check_r
     ready : Every (IsReady Y P H same i) (instances P)
     ready =
         Every-from (IsReady Y P H same i) (instances P) (λ here j.
-        let of_calls = calls_wide P accepted [] [] checked here j in
+        let of_calls = calls_wide P accepted H wide here j in
         let own = wide here j in
         record {
           variables = own;

@@ -1,4 +1,4 @@
--- A flat program in order gives the verdict of the program that it stands for.
+-- The verdict of the rows of a flat program in order is that of the history of its program.
 use Rattle.std.proofs.Common.{◌≡◌, ℕ, zero, suc, ◌+◌, ◌<◌, ◌≤◌, Bool, ◌||◌, Option, Some, List, []}
 use Rattle.std.proofs.Common.{◌∷◌, map, length, drop, get_or, slice_get, refl, sym, ap, ap₂, ◌∙◌}
 use Rattle.std.proofs.Common.{subst, arith, if◌then◌else◌}
@@ -9,16 +9,16 @@ use Rattle.lb_check.specs.declared.verdict.Verdict.TheVariants.{Passed, Fault, U
 use Rattle.lb_check.specs.declared.verdict.Verdict.TheVariants.{False}
 use Rattle.lb_check.specs.Scalars.{Cell, Stream}
 use Rattle.lb_check.specs.Streams.{History}
-use Rattle.lb_check.specs.Solutions.{Inputs, AreSame, HasOneHistory}
+use Rattle.lb_check.specs.Solutions.{Inputs}
 use Rattle.lb_check.specs.Verdicts.{is_bad, is_nil, is_false, some_at, judged, or_later}
-use Rattle.lb_check.specs.Verdicts.{verdict_from, Ends, HasVerdict}
+use Rattle.lb_check.specs.Verdicts.{verdict_from, Ends}
 use Rattle.lb_flat.specs.Flat.{FlatEquation, column, FlatSolves}
-use Rattle.lb_flat.specs.Run.{Row, cell, advanced, Ready, row_of, run, streams_of}
+use Rattle.lb_flat.specs.Run.{Row, cell, advanced, Ready, row_of, run}
 use Rattle.lb_flat.specs.Judging.{FlatProgram, named_elements, truth_elements, some_in, row_judged}
 use Rattle.lb_flat.specs.Judging.{rows_judged, flat_verdict}
-use Rattle.lb_flat.specs.Flattening.{history_of, IsTrace, IsWatched, IsFlatOf}
+use Rattle.lb_flat.specs.Flattening.{IsWatched}
 use Rattle.lb_flat.proofs.Stepping.{after_first, column_step}
-use Rattle.lb_flat.proofs.Running.{step_of, ready_advanced, exists, unique}
+use Rattle.lb_flat.proofs.Running.{step_of, ready_advanced}
 use Rattle.lb_flat.proofs.Verdicts.{ends}
 
 -- ## The rows of a solution
@@ -94,31 +94,3 @@ module _ (P : Program) (f : FlatProgram) (X : Inputs) (F : List Stream) (H : His
   flat_ends =
       subst (Ends P H (length X)) (verdict_from_rows 0 (length X) (omega arith))
       (ends P H (length X))
-
--- ## The program that a flat program stands for
-
-module _ (P : Program) (f : FlatProgram) (flat : IsFlatOf P f)
-    (ready : Ready f.size [] f.equations) (X : Inputs) (trace : IsTrace P X) where
-  abbrev solution : List Stream
-  solution = streams_of f.size (run f.size f.equations X)
-
-  -- the verdict of the flat program is that of the program
-  pub has_verdict : HasVerdict P X (flat_verdict f X)
-  has_verdict =
-      let s = exists f.size X f.equations ready in (
-        history_of flat.layout X solution,
-        flat.solves X solution trace s,
-        flat_ends P f X solution (history_of flat.layout X solution) ready s
-            (flat.watched X solution trace s),
-      )
-
-  -- the program has exactly one history
-  pub has_one_history : HasOneHistory P X
-  has_one_history = record {
-    history = history_of flat.layout X solution;
-    solves = flat.solves X solution trace (exists f.size X f.equations ready);
-    only = λ H h.
-        let g = flat.solved X H h in
-        subst (λ F. AreSame P (history_of flat.layout X F) H)
-        (unique f.size X f.equations g.0 ready g.1) g.2;
-  }

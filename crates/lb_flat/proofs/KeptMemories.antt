@@ -1,8 +1,8 @@
 -- The memories of all operators of an accepted program stand in its flat program, and the elements
 -- that they keep hold the streams of their operands.
 use Rattle.std.proofs.Common.{◌≡◌, inr, ℕ, suc, ◌+◌, false, None, Some, List, [], ◌∷◌, ◌++◌, map}
-use Rattle.std.proofs.Common.{length, replicate, refl, sym, ap, ◌∙◌, subst}
-use Rattle.std.proofs.lemmas.List.{length-map, length-replicate}
+use Rattle.std.proofs.Common.{length, refl, sym, ap, ◌∙◌, subst}
+use Rattle.std.proofs.lemmas.List.{length-map}
 use Rattle.lb_syntax.specs.declared.tree.Kind.{Kind}
 use Rattle.lb_syntax.specs.Lists.{Every, In, zip2}
 use Rattle.lb_syntax.specs.Tree.{Name, Expr, Arrow, Fby, Pre, Current}
@@ -14,14 +14,14 @@ use Rattle.lb_check.specs.Clocks.{Clock, clock_of, clock_or}
 use Rattle.lb_check.specs.Occurrences.{Occurrence, at, call_count, occurrences, node_occurrences}
 use Rattle.lb_check.specs.Scalars.{Stream, Nil}
 use Rattle.lb_check.specs.Solutions.{Inputs}
-use Rattle.lb_check.specs.Streams.{History, streams}
+use Rattle.lb_check.specs.Streams.{History}
 use Rattle.lb_check.specs.Types.{data_types, common_type}
 use Rattle.lb_check.proofs.TypedOccurrences.{HasTypes, occurrences_typed}
 use Rattle.lb_flat.specs.Emit.{State, Emitted, numbered, numbers, add, keep, emit, before_instances}
 use Rattle.lb_flat.specs.Emit.{emit_instances}
 use Rattle.lb_flat.specs.Flat.{FlatClock, Operation, FirstThen, Previous, Latest, FlatEquation}
-use Rattle.lb_flat.specs.Flat.{column, instants}
-use Rattle.lb_flat.specs.FlatSolutions.{IsCellFit, IsFlatSolution}
+use Rattle.lb_flat.specs.Flat.{column}
+use Rattle.lb_flat.specs.FlatSolutions.{IsFlatSolution}
 use Rattle.lb_flat.specs.Flattening.{history_of}
 use Rattle.lb_flat.specs.Judging.{FlatProgram}
 use Rattle.lb_flat.specs.Layouts.{Layout, flat_clock}
@@ -29,15 +29,13 @@ use Rattle.lb_flat.specs.MemoryPlaces.{equations_at, HoldStreams, KeepsOperand, 
 use Rattle.lb_flat.specs.MemoryPlaces.{HasMemories, HasAllMemories}
 use Rattle.lb_flat.proofs.Adding.{columns, IsMet, AllMet}
 use Rattle.lb_flat.proofs.Bodies.{IsSound}
-use Rattle.lb_flat.proofs.Columns.{column_long, instants_long}
 use Rattle.lb_flat.proofs.EmittedParts.{Stay, second_stays, add_stays, keep_stays, keep_found}
 use Rattle.lb_flat.proofs.EmittedParts.{emit_stays, AreInside, fore, aft, IsEmitted}
 use Rattle.lb_flat.proofs.EmittedParts.{all_parts_emitted}
 use Rattle.lb_flat.proofs.Emission.{sound}
-use Rattle.lb_flat.proofs.Fitting.{fits_nothing}
+use Rattle.lb_flat.proofs.FoundWidths.{as_many}
 use Rattle.lb_flat.proofs.Lists.{Every-map, Every-both, Every-in, length-zips}
 use Rattle.lb_flat.proofs.Placing.{Agrees, IsPlaced}
-use Rattle.lb_flat.proofs.Running.{each_none_long, none_holds}
 use Rattle.lb_flat.proofs.Solving.{Every-of_in}
 use Rattle.lb_flat.proofs.SoundInstances.{RunsAt}
 use Rattle.lb_flat.proofs.SoundPrograms.{history_wide, program_sound, all_wide}
@@ -81,34 +79,6 @@ length-added : (k : FlatClock) (s : State) (os : List Operation) →
     length (add k s os).found ≡ length os
 length-added k s os = ap length (add_found k s os) ∙ length-numbers s.next os
 
--- ## The solution on no instants
-
-module _ (wanted : List Kind) (kinds : ℕ → Kind) (f : FlatProgram) where
-  abbrev nothing : List Stream
-  nothing = replicate f.size []
-
-  -- on a trace of no instants each flat program has a solution
-  pub nothing_solves : IsFlatSolution wanted kinds f [] nothing
-  nothing_solves = record {
-    rows = tt;
-    equations = record {
-      elements = length-replicate f.size [];
-      as_long = each_none_long f.size;
-      equations = none_holds f.equations nothing (each_none_long f.size);
-    };
-    cells = fit_nothing f.equations;
-  }
-    where
-      fit_nothing : (Q : List FlatEquation) → Every (IsCellFit kinds [] nothing) Q
-      fit_nothing [] = tt
-      fit_nothing (q ∷ Q) = (
-        fits_nothing (kinds q.element) (instants [] nothing q.clock)
-            (column [] nothing q.element)
-            (instants_long [] nothing (each_none_long f.size) q.clock)
-            (column_long [] nothing (each_none_long f.size) q.element),
-        fit_nothing Q,
-      )
-
 -- ## One instance
 
 module _ (P : Program) (Y : Layout) (kinds : ℕ → Kind) (f : FlatProgram)
@@ -121,11 +91,12 @@ module _ (P : Program) (Y : Layout) (kinds : ℕ → Kind) (f : FlatProgram)
     pub signs : (p : Path) (x : Name) → columns X F (Y.places p x) ≡ columns X F (Y.signs p x)
     pub met : AllMet X F final
     pub placed : Every (IsPlaced Y P (history_of Y X F) here) all
-    pub variables_wide : AreVariablesWide P (history_of Y X F) here here
-    pub calls_wide : Every (IsOccurrenceWide P (history_of Y X F) here) all
 
+  -- its variables and its calls are as wide as their types
   module _ (read : (X : Inputs) (F : List Stream) →
-      IsFlatSolution (input_kinds P) kinds f X F → IsRead X F) where
+      IsFlatSolution (input_kinds P) kinds f X F → IsRead X F)
+      (variables_wide : AreVariablesWide P (history_of Y [] []) here here)
+      (calls_wide : Every (IsOccurrenceWide P (history_of Y [] []) here) all) where
     -- an expression that is emitted is among all, and its equations stay
     abbrev StaysAt : Clock → ℕ → State → Expr → Type 0
     StaysAt k n s e = Stay (emit Y P here k n s e).state.equations final
@@ -156,17 +127,12 @@ module _ (P : Program) (Y : Layout) (kinds : ℕ → Kind) (f : FlatProgram)
         data_types P here e ≡ Some ts → StaysAt k n s e → InsideAt k n e →
         length (emit Y P here k n s e).found ≡ elements_in ts
     found_wide k n s e ts typed stay inside =
-        let F = nothing (input_kinds P) kinds f in
-        let solution = nothing_solves (input_kinds P) kinds f in
-        let r = read [] F solution in
-        let H = history_of Y [] F in
-        let is = (emit Y P here k n s e).found in
+        let H = history_of Y [] [] in
         let os = occurrences P here.node k n e in
-        sym (length-map is (column [] F))
-        ∙ ap length (held k n s e stay inside [] F solution)
-        ∙ wide P H here r.variables_wide k n e ts typed
+        as_many Y P H here (λ p x. sym (length-map (Y.places p x) (column [] []))) k n s e
+        ∙ wide P H here variables_wide k n e ts typed
         (Every-of_in (IsOccurrenceWide P H here) os
-        (λ p i. Every-in (IsOccurrenceWide P H here) p all r.calls_wide (inside p i)))
+        (λ p i. Every-in (IsOccurrenceWide P H here) p all calls_wide (inside p i)))
 
     -- two operands of one type are as many
     as_many_found :
@@ -331,21 +297,15 @@ module _ (P : Program) (elaborated : static_refusal P ≡ None) (checked : check
       (X : Inputs) (F : List Stream) → IsFlatSolution (input_kinds P) kinds f X F →
       Every (IsReadAt X F) (instances P)
   read_each X F solution =
-      let H = history_of Y X F in
-      let sounds = (program_sound P elaborated checked Y placed runs X F).instances in
-      let variables_wide = history_wide P elaborated checked Y placed runs X F in
-      Every-map _ (IsReadAt X F)
+      Every-map (IsSound Y P (history_of Y X F)) (IsReadAt X F)
       (λ here z. record {
         signs = signs X F solution;
         met = met X F solution;
-        placed = z.0.placed;
-        variables_wide = z.1.0;
-        calls_wide = z.1.1;
-      }) (instances P)
-      (Every-both (IsSound Y P H) _ (instances P) sounds
-      (Every-both (λ here. AreVariablesWide P H here here)
-      (λ here. Every (IsOccurrenceWide P H here) (node_occurrences P here.node)) (instances P)
-      variables_wide (all_wide P elaborated checked H variables_wide)))
+        placed = z.placed;
+      }) (instances P) (program_sound P elaborated checked Y placed runs X F).instances
+
+  all_variables : Every (λ here. AreVariablesWide P (history_of Y [] []) here here) (instances P)
+  all_variables = history_wide P elaborated checked Y placed runs [] []
 
   -- the memories of all operators stand in the flat program
   pub memories_are : HasAllMemories P Y kinds f
@@ -356,6 +316,11 @@ module _ (P : Program) (elaborated : static_refusal P ≡ None) (checked : check
       (λ here i.
       instance_memories P Y kinds f final there here
       (λ X F solution. Every-in (IsReadAt X F) here (instances P) (read_each X F solution) i)
+      (Every-in (λ here. AreVariablesWide P (history_of Y [] []) here here) here (instances P)
+      all_variables i)
+      (Every-in (λ here. Every (IsOccurrenceWide P (history_of Y [] []) here)
+      (node_occurrences P here.node)) here (instances P)
+      (all_wide P elaborated checked (history_of Y [] []) all_variables) i)
       (Every-in (λ here. Every (IsEmitted Y P here final (node_occurrences P here.node))
       (node_occurrences P here.node)) here (instances P)
       (all_parts_emitted Y P final (before_instances count) (instances P) (λ q i. i)) i)

@@ -1,7 +1,7 @@
 -- What is known of the clocks of the occurrences in the text of an instance of an accepted program,
 -- from the clocks of what it calls and the numbers that clocks read.
-use Rattle.std.proofs.Common.{◌≡◌, inl, inr, ℕ, zero, suc, ◌+◌, ◌-◌, ◌<◌, ◌≤◌, Bool, true, false}
-use Rattle.std.proofs.Common.{Option, Some, None, List, [], ◌∷◌, ◌++◌, map, flat_map, refl, sym, ap}
+use Rattle.std.proofs.Common.{◌≡◌, inl, ℕ, zero, suc, ◌+◌, ◌-◌, ◌<◌, ◌≤◌, Bool, true, false}
+use Rattle.std.proofs.Common.{Option, Some, None, List, [], ◌∷◌, ◌++◌, flat_map, refl, sym, ap}
 use Rattle.std.proofs.Common.{ap₂, ◌∙◌, subst, arith}
 use Rattle.std.specs.Prelude.{◌||◌, not, slice_get}
 use Rattle.std.specs.List.{range_with_len}
@@ -12,8 +12,8 @@ use Rattle.lb_syntax.specs.declared.tree.ArrayIterator.TheVariants.{Map, Red, Fi
 use Rattle.lb_syntax.specs.Lists.{Every, In, tail_of, listed}
 use Rattle.lb_syntax.specs.Tree.{Name, Static, Node_named, Symbol, Expr, Variable, Group, Current}
 use Rattle.lb_syntax.specs.Tree.{When, Call, Iterate, Exprs, Declaration, Node}
-use Rattle.lb_static.specs.DataTypes.{DataType, variables}
-use Rattle.lb_static.specs.Instances.{Program, Instance, Path, Child, Site, call_site, callee_of}
+use Rattle.lb_static.specs.DataTypes.{variables}
+use Rattle.lb_static.specs.Instances.{Program, Instance, Path, Child, Site, call_site}
 use Rattle.lb_static.specs.Instances.{node_named, instances}
 use Rattle.lb_static.specs.Instantiation.{static_refusal}
 use Rattle.lb_static.specs.Parts.{among, variable_names}
@@ -29,7 +29,6 @@ use Rattle.lb_check.specs.Elements.{program_elements, numbers_of}
 use Rattle.lb_check.specs.Needs.{Element, elements}
 use Rattle.lb_check.specs.Occurrences.{Occurrence, at, occurrences, node_occurrences}
 use Rattle.lb_check.specs.Streams.{History, number, outputs_of, gathered, last_of, iterated}
-use Rattle.lb_check.specs.Types.{data_types}
 use Rattle.lb_check.proofs.AcceptedRules.{clocked}
 use Rattle.lb_check.proofs.ApartLists.{in_first, in_second, Every-at, Every-from}
 use Rattle.lb_check.proofs.CalledInstances.{IsInstanceOf, instance_there}

@@ -17,8 +17,9 @@ use Rattle.lb_flat.specs.Run.{clock_reads}
 use Rattle.lb_flat.specs.Layouts.{where_signed}
 use Rattle.lb_flat.specs.Emit.{State, Emitted, keep, joins, emit_symbol}
 use Rattle.lb_flat.proofs.TypeFacts.{elements_in, bound, truly, symbolic}
-use Rattle.lb_flat.proofs.LinkWords.{SomeOf, Pairs, pairs-append, pairs-pieces, AllMeet, AreLinks}
-use Rattle.lb_flat.proofs.LinkWords.{added, each_two, all_links, two_links, step, chained_gives}
+use Rattle.lb_flat.proofs.LinkWords.{Pairs, pairs-append, pairs-pieces, AllMeet, AreLinks, added}
+use Rattle.lb_flat.proofs.LinkWords.{each_two, all_links, two_links, step, chained_gives}
+use Rattle.lb_flat.proofs.SomeLists.{SomeOf}
 
 -- ## What iterated nodes give
 

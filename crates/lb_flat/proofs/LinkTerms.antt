@@ -1,10 +1,9 @@
 -- The found elements of an expression come from the elements of the variables that it needs,
 -- element by element, or are left by what its clock reads.
-use Rattle.std.proofs.Common.{◌≡◌, ◌⊎◌, inl, inr, ℕ, zero, suc, ◌+◌, ◌-◌, ◌*◌, ◌<◌, ◌≤◌, true}
-use Rattle.std.proofs.Common.{false, Bool, pos, Option, Some, None, IfSome, List, []}
-use Rattle.std.proofs.Common.{◌∷◌, ◌++◌, map, length, take, drop, flat_map, refl, sym, ap, ap₂, ◌∙◌}
-use Rattle.std.proofs.Common.{subst, arith}
-use Rattle.std.specs.List.{list_all, range_with_len}
+use Rattle.std.proofs.Common.{◌≡◌, inl, inr, ℕ, suc, ◌+◌, ◌-◌, ◌*◌, ◌<◌, true, false, pos, Option}
+use Rattle.std.proofs.Common.{Some, None, List, [], ◌∷◌, ◌++◌, map, length, flat_map, refl, sym, ap}
+use Rattle.std.proofs.Common.{◌∙◌, subst, arith}
+use Rattle.std.specs.List.{list_all}
 use Rattle.std.specs.Str.{bytes_eq}
 use Rattle.std.proofs.lemmas.Slice.Eq.{bytes_eq-Decides}
 use Rattle.std.proofs.lemmas.List.{length-map}
@@ -13,8 +12,7 @@ use Rattle.lb_syntax.specs.declared.tree.UnaryOperator.TheVariants.{Not}
 use Rattle.lb_syntax.specs.declared.tree.BinaryOperator.{BinaryOperator}
 use Rattle.lb_syntax.specs.declared.tree.ArrayIterator.{ArrayIterator}
 use Rattle.lb_syntax.specs.declared.tree.ArrayIterator.TheVariants.{Map, Red, Fill}
-use Rattle.lb_syntax.specs.Lists.{◌>>=◌, Every, In, zip2, joined, tail_of, all_some, either_or}
-use Rattle.lb_syntax.specs.Lists.{where_true, listed}
+use Rattle.lb_syntax.specs.Lists.{◌>>=◌, Every, In, zip2, joined, either_or, listed}
 use Rattle.lb_syntax.specs.Tree.{Name, Static, Node_named, Symbol, Expr, Literal, Truth, Variable}
 use Rattle.lb_syntax.specs.Tree.{Group, Unary, Binary, If, Arrow, Fby, Pre, Current, When}
 use Rattle.lb_syntax.specs.Tree.{Replicate, Index, Slice, Join, Array, AtMostOne, Nor, Call}
@@ -22,43 +20,42 @@ use Rattle.lb_syntax.specs.Tree.{Iterate, Exprs, Nil, Cons, Declaration}
 use Rattle.lb_static.specs.StaticValues.{named}
 use Rattle.lb_static.specs.Instances.{Program, Instance, Path, Child, call_site, callee_of}
 use Rattle.lb_static.specs.Instances.{static_count, name_value, node_named}
-use Rattle.lb_static.specs.DataTypes.{DataType, int, truth, variables, is_type, are_types}
+use Rattle.lb_static.specs.DataTypes.{DataType, truth, variables, is_type}
 use Rattle.lb_check.specs.Types.{data_types, all_types, from_one, from_truths, common_type}
 use Rattle.lb_check.specs.Types.{array_of, index_type, slice_type, join_type, operator_types}
 use Rattle.lb_check.specs.Scalars.{Integer, Boolean, or_fault, first_value}
 use Rattle.lb_check.specs.Clocks.{Clock, On, clock_of, clock_or, declared_clock}
 use Rattle.lb_check.specs.Needs.{Element, elements, elements_named, itself, both, needs, all_needs}
-use Rattle.lb_check.specs.Needs.{output_elements, symbol_needs, waits_for}
+use Rattle.lb_check.specs.Needs.{output_elements, waits_for}
 use Rattle.lb_check.specs.Occurrences.{Occurrence, at, call_count, call_clocks, occurrences}
 use Rattle.lb_check.specs.Occurrences.{occurrences_in, occurrences_each}
-use Rattle.lb_check.specs.Streams.{History, number, part_count, outputs_of, gathered, last_of}
-use Rattle.lb_check.specs.Streams.{iterated}
+use Rattle.lb_check.specs.Streams.{History, number, part_count, outputs_of, iterated}
+use Rattle.lb_check.proofs.OperandTypes.{first_of_all}
 use Rattle.lb_flat.specs.Flat.{FlatClock, Operation, Constant, ApplyUnary, ApplyBinary, FirstThen}
 use Rattle.lb_flat.specs.Flat.{Previous, Latest, Sample}
 use Rattle.lb_flat.specs.Run.{clock_reads, reads}
-use Rattle.lb_flat.specs.Layouts.{Layout, where_signed, flat_clock}
+use Rattle.lb_flat.specs.Layouts.{Layout, flat_clock}
 use Rattle.lb_flat.specs.Emit.{State, Emitted, EmittedAll, call_copies, iterator_copies, add, keep}
-use Rattle.lb_flat.specs.Emit.{joins, push, chosen_by, chained, negated, emit_symbol, emit_name}
-use Rattle.lb_flat.specs.Emit.{emit, emit_all, emit_each}
+use Rattle.lb_flat.specs.Emit.{push, chosen_by, chained, negated, emit_symbol, emit_name, emit}
+use Rattle.lb_flat.specs.Emit.{emit_all, emit_each}
 use Rattle.lb_flat.proofs.Lists.{Every-append, Every-take, Every-drop, Every-copies, Every-joined}
 use Rattle.lb_flat.proofs.Lists.{Every-first, Every-second}
 use Rattle.lb_flat.proofs.Emission.{joins_equations}
-use Rattle.lb_flat.proofs.TypeFacts.{elements_in, bound, one, two, from_true, alike, truly}
-use Rattle.lb_flat.proofs.TypeFacts.{truth_is, some_same, and_first}
-use Rattle.lb_flat.proofs.Widths.{called, placed, first_of_all, AreVariablesWide, IsOccurrenceWide}
-use Rattle.lb_flat.proofs.Widths.{wide}
+use Rattle.lb_flat.proofs.TypeFacts.{elements_in, bound, one, two, from_true, alike, truth_is}
+use Rattle.lb_flat.proofs.TypeFacts.{some_same, and_first}
+use Rattle.lb_flat.proofs.Widths.{called, placed, AreVariablesWide, IsOccurrenceWide, wide}
 use Rattle.lb_flat.proofs.TypedParts.{IsTypedAt}
 use Rattle.lb_flat.proofs.FoundWidths.{as_many, add_count}
 use Rattle.lb_flat.proofs.LinkSymbols.{iterated_pairs, keep_found, keep_equations, joins_found}
 use Rattle.lb_flat.proofs.LinkSymbols.{symbol_out, red_out, signed_wider, map_linked, map_before}
 use Rattle.lb_flat.proofs.LinkSymbols.{red_before, red_linked}
-use Rattle.lb_flat.proofs.LinkWords.{SomeOf, Pairs, pairs-append, pairs-take, pairs-drop}
-use Rattle.lb_flat.proofs.LinkWords.{pairs-copies, pairs-joined, pairs-pieces, Has, AllMeet}
-use Rattle.lb_flat.proofs.LinkWords.{AreLinks, Links, Link, New, Waits, Gives, Comes, no_links}
-use Rattle.lb_flat.proofs.LinkWords.{one_link, two_links, step, all_links, variable_links, added}
-use Rattle.lb_flat.proofs.LinkWords.{each_one, each_two, each_choice, each_first, memories}
-use Rattle.lb_flat.proofs.LinkWords.{each_memory, each_constant, each_latest, each_sample, pushed}
-use Rattle.lb_flat.proofs.LinkWords.{chained_gives, nor_gives, at_most_one_gives}
+use Rattle.lb_flat.proofs.LinkWords.{Pairs, pairs-append, pairs-take, pairs-drop, pairs-copies}
+use Rattle.lb_flat.proofs.LinkWords.{pairs-joined, Has, AllMeet, AreLinks, Link, New, Waits, Gives}
+use Rattle.lb_flat.proofs.LinkWords.{step, all_links, variable_links, added, each_one, each_two}
+use Rattle.lb_flat.proofs.LinkWords.{each_choice, each_first, memories, each_memory, each_constant}
+use Rattle.lb_flat.proofs.LinkWords.{each_latest, each_sample, pushed, chained_gives, nor_gives}
+use Rattle.lb_flat.proofs.LinkWords.{at_most_one_gives}
+use Rattle.lb_flat.proofs.SomeLists.{SomeOf}
 
 module _ (Y : Layout) (P : Program) (H : History)
     (same : (p : Path) (x : Name) → length (Y.places p x) ≡ length (H.columns p x))
@@ -803,7 +800,7 @@ module _ (Y : Layout) (P : Program) (H : History)
           let oa = occurrences P here.node k n e in
           let ob = occurrences_in P here.node k m es in
           let x = emit Y P here k n s e in
-          let f = first_of_all P H here e es ts is in
+          let f = first_of_all P here e es ts is in
           let lb = all_linked k m x.state es (aft oa ob p) h in (
             runs k n s e f.first f.is (fore oa ob p) lb.before,
             all_runs k m x.state es f.rest f.others (aft oa ob p) h,

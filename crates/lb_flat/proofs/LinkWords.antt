@@ -1,7 +1,7 @@
 -- What the found elements of an expression come from, along the equations that the small words of
 -- expansion emit on a clock: the elements of variables that each needs.
 use Rattle.std.proofs.Common.{◌≡◌, ◌⊎◌, inl, inr, ℕ, zero, suc, false, List, [], ◌∷◌, ◌++◌, map}
-use Rattle.std.proofs.Common.{length, take, drop, flat_map, refl, sym, ap, ap₂, ◌∙◌, subst, arith}
+use Rattle.std.proofs.Common.{length, take, drop, flat_map, refl, ap, subst, arith}
 use Rattle.lb_syntax.specs.declared.tree.UnaryOperator.TheVariants.{Not}
 use Rattle.lb_syntax.specs.declared.tree.BinaryOperator.{BinaryOperator}
 use Rattle.lb_syntax.specs.declared.tree.BinaryOperator.TheVariants.{Or, And}
@@ -11,39 +11,17 @@ use Rattle.lb_check.specs.Needs.{Element, both, itself}
 use Rattle.lb_flat.specs.Flat.{FlatClock, Operation, Constant, ApplyUnary, ApplyBinary, Choose}
 use Rattle.lb_flat.specs.Flat.{FlatEquation}
 use Rattle.lb_flat.specs.Run.{clock_reads, reads, equation_reads}
-use Rattle.lb_flat.specs.Emit.{State, Emitted, numbered, numbers, add, keep, chosen_by, push}
-use Rattle.lb_flat.specs.Emit.{chained, twice, negated, emit_nor, emit_at_most_one}
+use Rattle.lb_flat.specs.Emit.{State, Emitted, numbered, numbers, add, chosen_by, push, chained}
+use Rattle.lb_flat.specs.Emit.{twice, negated, emit_nor, emit_at_most_one}
 use Rattle.lb_flat.proofs.Lists.{Every-append, Every-first, Every-second}
+use Rattle.lb_flat.proofs.SomeLists.{SomeOf, some_first, some_second, some_split}
 
--- ## Some one of a list, and two lists side by side
-
-abbrev pub SomeOf : {A : Type 0} → (A → Type 0) → List A → Type 0
-SomeOf Q [] = ⊥
-SomeOf Q (x ∷ xs) = Q x ⊎ SomeOf Q xs
+-- ## Two lists side by side
 
 abbrev pub Pairs : {A B : Type 0} → (A → B → Type 0) → List A → List B → Type 0
 Pairs R [] [] = Unit {0}
 Pairs R (x ∷ xs) (y ∷ ys) = R x y × Pairs R xs ys
 Pairs R xs ys = ⊥
-
-module _ {A : Type 0} (Q : A → Type 0) where
-  pub some_first : (xs ys : List A) → SomeOf Q xs → SomeOf Q (xs ++ ys)
-  some_first [] ys h = absurd h
-  some_first (x ∷ xs) ys (inl q) = inl q
-  some_first (x ∷ xs) ys (inr h) = inr (some_first xs ys h)
-
-  pub some_second : (xs ys : List A) → SomeOf Q ys → SomeOf Q (xs ++ ys)
-  some_second [] ys h = h
-  some_second (x ∷ xs) ys h = inr (some_second xs ys h)
-
-  pub some_split : (xs ys : List A) → SomeOf Q (xs ++ ys) → SomeOf Q xs ⊎ SomeOf Q ys
-  some_split [] ys h = inr h
-  some_split (x ∷ xs) ys (inl q) = inl (inl q)
-  some_split (x ∷ xs) ys (inr h) = first (some_split xs ys h)
-    where
-      first : SomeOf Q xs ⊎ SomeOf Q ys → (Q x ⊎ SomeOf Q xs) ⊎ SomeOf Q ys
-      first (inl g) = inl (inr g)
-      first (inr g) = inr g
 
 module _ {A B : Type 0} (R : A → B → Type 0) where
   pub pairs-append :

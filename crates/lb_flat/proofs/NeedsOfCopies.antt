@@ -11,7 +11,7 @@ use Rattle.lb_static.specs.Instances.{Program, Instance, Root, Observer, instanc
 use Rattle.lb_static.specs.Instantiation.{static_refusal}
 use Rattle.lb_static.proofs.Members.{in_at, in_map, map_in}
 use Rattle.lb_check.specs.Acceptance.{check_refusal}
-use Rattle.lb_check.specs.Clocks.{Clock, declared_clock}
+use Rattle.lb_check.specs.Clocks.{declared_clock}
 use Rattle.lb_check.specs.Elements.{program_elements, instance_elements, numbers_of}
 use Rattle.lb_check.specs.Needs.{Element, Definition, elements, definitions, definitions_at}
 use Rattle.lb_check.specs.Needs.{observer_definitions, equation_definitions, call_definitions}
@@ -36,35 +36,16 @@ use Rattle.lb_flat.proofs.Bodies.{all_closed}
 use Rattle.lb_flat.proofs.ClockNumbers.{reads_wait}
 use Rattle.lb_flat.proofs.Closing.{Closed}
 use Rattle.lb_flat.proofs.CopiedDefinitions.{IsDefinedBy}
-use Rattle.lb_flat.proofs.CopiedProgram.{made, all_copies, copies_defined, made_in}
+use Rattle.lb_flat.proofs.CopiedProgram.{made, copies_defined, made_in}
 use Rattle.lb_flat.proofs.Filling.{Fresh}
 use Rattle.lb_flat.proofs.GivenProgram.{given_whole}
 use Rattle.lb_flat.proofs.KnownClocks.{clocks_known}
-use Rattle.lb_flat.proofs.LinkWords.{SomeOf, some_split, AllMeet, Meets}
+use Rattle.lb_flat.proofs.LinkWords.{AllMeet, Meets}
 use Rattle.lb_flat.proofs.NeedsOfReads.{HasNumber, IsNeeding, PassesOn, ReadsNeeds, needs_of}
 use Rattle.lb_flat.proofs.NumberedPlaces.{is_laid_out}
 use Rattle.lb_flat.proofs.ObserverWidths.{observer_wide}
-use Rattle.lb_flat.proofs.PlainCausalLinks.{SomeOf as SomeAmong}
-use Rattle.lb_flat.proofs.ReadsOfNeeds.{in_some}
 use Rattle.lb_flat.proofs.SourcedInstances.{same, AreClocksKnown}
-
--- ## Lists
-
-module _ {A : Type 0} (Q : A → Type 0) where
-  to_some : (xs : List A) → SomeAmong Q xs → SomeOf Q xs
-  to_some [] h = h
-  to_some (x ∷ xs) (inl q) = inl q
-  to_some (x ∷ xs) (inr h) = inr (to_some xs h)
-
-  from_some : (xs : List A) → SomeOf Q xs → SomeAmong Q xs
-  from_some [] h = h
-  from_some (x ∷ xs) (inl q) = inl q
-  from_some (x ∷ xs) (inr h) = inr (from_some xs h)
-
-  among_in : (x : A) (xs : List A) → In x xs → Q x → SomeAmong Q xs
-  among_in x [] i q = absurd i
-  among_in x (y ∷ xs) (inl e) q = inl (subst Q (sym e) q)
-  among_in x (y ∷ xs) (inr i) q = inr (among_in x xs i q)
+use Rattle.lb_flat.proofs.SomeLists.{SomeOf, some_split, some_of_in, in_some}
 
 -- equations of the elements from n on
 fresh_high :
@@ -210,7 +191,7 @@ module _ (P : Program) (accepted : static_refusal P ≡ None) (checked : check_r
         stands = clock_stands c e.stands d e.declares e.element e.among;
         is_at = e.is_at;
         needed =
-            among_in (HasNumber P Left) back.0 (waits_for P c k) back.1 (read.0, back.2, read.2);
+            some_of_in (HasNumber P Left) (waits_for P c k) back.0 back.1 (read.0, back.2, read.2);
       }
 
   -- ## Needs by copies
@@ -232,8 +213,7 @@ module _ (P : Program) (accepted : static_refusal P ≡ None) (checked : check_r
     met =
         Every-from (Meets IsAt Under Left) final.equations (λ q i. record {
           there = λ t u. absurd u;
-          back = λ g.
-              to_some Left (equation_reads q) (passes q (further_in q i) (further_high q i) g);
+          back = λ g. passes q (further_in q i) (further_high q i) g;
         })
 
     runs :
@@ -279,7 +259,7 @@ module _ (P : Program) (accepted : static_refusal P ≡ None) (checked : check_r
           stands =
               made_in P accepted checked (observer_wide P accepted [] []) Under Left known d stands;
           is_at = by.is_at;
-          needed = from_some (HasNumber P Left) d.needed h;
+          needed = h;
         }
         linked (inr h) = by_clock Left q is low h
 
@@ -305,12 +285,9 @@ module _ (P : Program) (accepted : static_refusal P ≡ None) (checked : check_r
 
     -- an element of a variable that reads something left needs something left
     reading : ReadsNeeds P f Left
-    reading q is low among =
+    reading q is low some =
         first (in_either q (given_inputs Y (instance_at P Root)) _ is)
       where
-        some : SomeOf Left (equation_reads q)
-        some = to_some Left (equation_reads q) among
-
         given : In q (given_inputs Y (instance_at P Root)) →
             SomeOf Left (reads q.operation) ⊎ SomeOf Left (clock_reads q.clock) →
             IsNeeding P Left q.element

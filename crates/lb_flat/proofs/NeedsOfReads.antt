@@ -12,7 +12,7 @@ use Rattle.lb_flat.specs.GivenOnce.{IsGiven}
 use Rattle.lb_flat.specs.Judging.{FlatProgram}
 use Rattle.lb_flat.specs.Reading.{Leads, reads_it, by_way, NeedsAt}
 use Rattle.lb_flat.specs.Run.{equation_reads}
-use Rattle.lb_flat.proofs.PlainCausalLinks.{SomeOf}
+use Rattle.lb_flat.proofs.SomeLists.{SomeOf, some_of_in, in_some}
 
 -- this holds of the number of an element
 abbrev pub HasNumber : Program → (ℕ → Type 0) → Element → Type 0
@@ -36,18 +36,6 @@ abbrev pub ReadsNeeds : Program → FlatProgram → (ℕ → Type 0) → Type 0
 ReadsNeeds P f Left =
     (q : FlatEquation) → In q f.equations → q.element < f.variables →
     SomeOf Left (equation_reads q) → IsNeeding P Left q.element
-
-some_of_in :
-    {A : Type 0} (Q : A → Type 0) (x : A) (xs : List A) → In x xs → Q x → SomeOf Q xs
-some_of_in Q x [] i h = absurd i
-some_of_in Q x (y ∷ xs) (inl e) h = inl (subst Q (sym e) h)
-some_of_in Q x (y ∷ xs) (inr i) h = inr (some_of_in Q x xs i h)
-
-in_some :
-    {A : Type 0} (Q : A → Type 0) (xs : List A) → SomeOf Q xs → (x : A) × In x xs × Q x
-in_some Q [] h = absurd h
-in_some Q (x ∷ xs) (inl q) = (x, inl refl, q)
-in_some Q (x ∷ xs) (inr h) = let r = in_some Q xs h in (r.0, inr r.1, r.2)
 
 got_below :
     {A : Type 0} (xs : List A) (i : ℕ) (x : A) → slice_get xs i ≡ Some x → i < length xs
@@ -74,13 +62,13 @@ module _ (P : Program) (f : FlatProgram) (given : IsGiven f)
     equation = q;
     stands = is;
     is_of = refl;
-    reads = some_of_in Left j (equation_reads q) reads (inl refl);
+    reads = some_of_in Left (equation_reads q) j reads (inl refl);
   }
   first_read _ (by_way q e is reads high rest) = record {
     equation = q;
     stands = is;
     is_of = refl;
-    reads = some_of_in Left e (equation_reads q) reads (inr (high, rest));
+    reads = some_of_in Left (equation_reads q) e reads (inr (high, rest));
   }
 
   passes_on : PassesOn f Left

@@ -1,7 +1,7 @@
 -- The elements of a variable of an instance of an accepted program stand, in order, at its numbers
 -- among all elements.
-use Rattle.std.proofs.Common.{◌≡◌, inl, inr, ℕ, zero, suc, ◌+◌, ◌<◌, Bool, true, false, cond}
-use Rattle.std.proofs.Common.{Option, Some, None, List, [], ◌∷◌, map, length, refl, sym, ap, ap₂}
+use Rattle.std.proofs.Common.{◌≡◌, inl, inr, ℕ, suc, ◌+◌, Bool, true, false, cond}
+use Rattle.std.proofs.Common.{Option, Some, None, List, [], ◌∷◌, length, refl, sym, ap}
 use Rattle.std.proofs.Common.{◌∙◌, subst, arith}
 use Rattle.std.specs.Prelude.{find, slice_get}
 use Rattle.std.specs.List.{range_with_len}
@@ -11,7 +11,7 @@ use Rattle.std.proofs.lemmas.Slice.Eq.{bytes_eq-Decides}
 use Rattle.lb_syntax.specs.Lists.{Every, In, listed}
 use Rattle.lb_syntax.specs.Tree.{Name, Declaration}
 use Rattle.lb_static.specs.DataTypes.{variables, width}
-use Rattle.lb_static.specs.Instances.{Program, Instance, Path, instances}
+use Rattle.lb_static.specs.Instances.{Program, Instance, instances}
 use Rattle.lb_static.specs.Instantiation.{static_refusal}
 use Rattle.lb_static.specs.Names.{are_distinct}
 use Rattle.lb_static.specs.Parts.{variable_names}

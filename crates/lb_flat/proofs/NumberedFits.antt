@@ -1,23 +1,28 @@
 -- The clocks and the kinds of the flat program of an accepted program fit, in the layout by
 -- numbers.
-use Rattle.std.proofs.Common.{◌≡◌, ℕ, ◌<◌, true, false, ◌&&◌, inl, Option, Some, None, List, [], ◌∷◌, ◌++◌, map, length, take, flat_map, refl, sym, ap, ◌∙◌, subst, arith, length-append}
+use Rattle.std.proofs.Common.{◌≡◌, ℕ, ◌<◌, true, false, ◌&&◌, inl, Option, Some, None, List, []}
+use Rattle.std.proofs.Common.{◌∷◌, ◌++◌, map, length, take, flat_map, refl, sym, ap, ◌∙◌, subst}
+use Rattle.std.proofs.Common.{arith, length-append}
 use Rattle.std.specs.Prelude.{nat_le, pos, slice_get}
 use Rattle.std.specs.List.{list_all}
 use Rattle.std.proofs.lemmas.Bool.Decides.{nat_tests}
 use Rattle.lb_syntax.specs.declared.tree.Kind.{Kind}
 use Rattle.lb_syntax.specs.declared.tree.Kind.TheVariants.{Int, Bool as Truth_kind}
 use Rattle.lb_syntax.specs.Lists.{Every, In, either_or, holds}
-use Rattle.lb_syntax.specs.Refusals.{E4, E7, E8, unless}
-use Rattle.lb_syntax.specs.Tree.{Static, Node_named, Symbol, Expr, Literal, Variable, When, Call, Iterate, Declaration, Statement, Equation, Assertion}
+use Rattle.lb_syntax.specs.Tree.{Static, Node_named, Symbol, Expr, Literal, Variable, When, Call}
+use Rattle.lb_syntax.specs.Tree.{Iterate, Declaration, Statement, Equation, Assertion}
 use Rattle.lb_static.specs.DataTypes.{variables, width, signature, input_kinds}
-use Rattle.lb_static.specs.Instances.{Program, Instance, Path, Root, Observer, Site, call_site, callee_of, name_value, node_named, static_count, instance_at, instances}
-use Rattle.lb_static.specs.Instantiation.{static_refusal, instantiation_refusal, has_no_parameters, is_between, has_plain_clocks, has_property, fits_observer, is_root}
-use Rattle.lb_static.specs.Names.{keeps_names, is_well_founded}
+use Rattle.lb_static.specs.Instances.{Program, Instance, Path, Root, Observer, Site, call_site}
+use Rattle.lb_static.specs.Instances.{callee_of, name_value, node_named, static_count, instance_at}
+use Rattle.lb_static.specs.Instances.{instances}
+use Rattle.lb_static.specs.Instantiation.{static_refusal, is_between, has_plain_clocks}
+use Rattle.lb_static.specs.Instantiation.{has_property, fits_observer, is_root}
 use Rattle.lb_static.specs.StaticValues.{named}
 use Rattle.lb_static.specs.Parts.{node_sizes, declared_sizes, own_sizes, node_parts}
 use Rattle.lb_static.proofs.Members.{all_in}
 use Rattle.lb_check.specs.Acceptance.{check_refusal}
-use Rattle.lb_check.specs.ClockRules.{are_declared_clocks, is_occurrence_clocked, is_statement_clocked}
+use Rattle.lb_check.specs.ClockRules.{are_declared_clocks, is_occurrence_clocked}
+use Rattle.lb_check.specs.ClockRules.{is_statement_clocked}
 use Rattle.lb_check.specs.Clocks.{Clock, On, declared_clock}
 use Rattle.lb_check.specs.Elements.{program_elements, element_kinds, numbers_of}
 use Rattle.lb_check.specs.Needs.{serving}
@@ -29,7 +34,7 @@ use Rattle.lb_check.specs.Types.{is_arithmetic}
 use Rattle.lb_check.proofs.AcceptedRules.{valued, typed, clocked}
 use Rattle.lb_check.proofs.ApartLists.{Every-at, Every-from, in_second, to_pieces}
 use Rattle.lb_check.proofs.CalledInstances.{instance_there, part_of_node}
-use Rattle.lb_check.proofs.Checks.{second_none, kept, instantiation_kept}
+use Rattle.lb_check.proofs.Checks.{instantiation_kept}
 use Rattle.lb_check.proofs.ClockTests.{clock_same}
 use Rattle.lb_check.proofs.DeterminedClocks.{count_of}
 use Rattle.lb_check.proofs.ElementKinds.{length_kinds, kinds_at_numbers}
@@ -48,20 +53,21 @@ use Rattle.lb_flat.specs.FurtherKinds.{kinds_from}
 use Rattle.lb_flat.specs.Layouts.{flat_clock}
 use Rattle.lb_flat.specs.NumberedLayouts.{layout}
 use Rattle.lb_flat.proofs.Bodies.{all_closed}
-use Rattle.lb_flat.proofs.CalleeClocks.{CalleeClocks, ClocksAt, LeftClocks, LeftClocksAt, callee_clocks, left_clocks_of}
+use Rattle.lb_flat.proofs.CalleeClocks.{CalleeClocks, ClocksAt, LeftClocks, LeftClocksAt}
+use Rattle.lb_flat.proofs.CalleeClocks.{callee_clocks, left_clocks_of}
 use Rattle.lb_flat.proofs.Filling.{Fresh}
 use Rattle.lb_flat.proofs.Fitting.{IsFitting}
 use Rattle.lb_flat.proofs.NumberedPlaces.{places_width, signs_are, is_laid_out}
+use Rattle.lb_flat.proofs.NumberedPlacing.{clock_on}
 use Rattle.lb_flat.proofs.ScalarKinds.{IsOf, binary_kind}
+use Rattle.lb_flat.proofs.SoundPrograms.{root_kept}
 use Rattle.lb_flat.proofs.TypeFacts.{bound, some_same}
 use Rattle.lb_flat.proofs.FitWords.{Sorts, AllSorted}
-use Rattle.lb_flat.proofs.FurtherSorts.{got_first, sorts_of, further_sorted, length-kinds_from, taken_first}
-use Rattle.lb_flat.proofs.FitPlaces.{IsVariableOn, AreVariablesOn, IsSetAt, CallLefts, IsInstanceSet}
+use Rattle.lb_flat.proofs.FurtherSorts.{got_first, sorts_of, further_sorted, length-kinds_from}
+use Rattle.lb_flat.proofs.FurtherSorts.{taken_first}
+use Rattle.lb_flat.proofs.FitPlaces.{IsVariableOn, AreVariablesOn, IsSetAt, CallLefts}
+use Rattle.lb_flat.proofs.FitPlaces.{IsInstanceSet}
 use Rattle.lb_flat.proofs.FitProgram.{IsStartSet, IsProgramSet, whole_fits}
-
--- the clock of a variable
-abbrev own_clock : Program → Instance → Declaration → FlatClock
-own_clock P here d = flat_clock (layout P) here.path (declared_clock here.node d.name)
 
 -- the equations of the further elements
 abbrev pub further : Program → List FlatEquation
@@ -72,7 +78,7 @@ further P =
 -- the clock and the kind of each element
 abbrev pub program_sorts : Program → Sorts
 program_sorts P =
-    sorts_of (input_kinds P) (element_values P (own_clock P)) (element_kinds P) (further P)
+    sorts_of (input_kinds P) (element_values P (clock_on P)) (element_kinds P) (further P)
 
 -- a constant is of kind `int`, and an iterated symbol takes what it gives
 abbrev pub IsScalarAt : Program → Instance → Expr → Type 0
@@ -103,16 +109,16 @@ module _ (P : Program) (accepted : static_refusal P ≡ None) where
       In d (variables here.node) → IsVariableOn (program_sorts P) (layout P) P here d
   variable_on here i d j =
       let own = numbers_of P here.path d.name in
-      let on = values_at_numbers P (own_clock P) accepted here i d j in
+      let on = values_at_numbers P (clock_on P) accepted here i d j in
       let of = kinds_at_numbers P accepted here i d j in
       record {
         wide = Every-at (λ c. length (numbers_of P here.path c.name) ≡ width P here c)
             (variables here.node) d (places_width P accepted here i) j;
         elements = Every-from _ own (λ n k. (
-          got_first Always (own_clock P here d) (element_values P (own_clock P))
+          got_first Always (clock_on P here d) (element_values P (clock_on P))
               (map (λ q. q.clock) (further P)) n
-              (Every-at (λ m. slice_get (element_values P (own_clock P)) m
-              ≡ Some (own_clock P here d)) own n on k),
+              (Every-at (λ m. slice_get (element_values P (clock_on P)) m
+              ≡ Some (clock_on P here d)) own n on k),
           got_first Int d.kind (element_kinds P) (kinds_from (element_kinds P) (further P)) n
               (Every-at (λ m. slice_get (element_kinds P) m ≡ Some d.kind) own n of k),
         ));
@@ -130,16 +136,16 @@ module _ (P : Program) (accepted : static_refusal P ≡ None) where
   all_sorted =
       let closed = all_closed count (layout P) P (is_laid_out P accepted) (before_instances count)
       (instances P) (record { fresh = tt; next = omega arith }) in
-      further_sorted (input_kinds P) (element_values P (own_clock P)) (element_kinds P) (further P)
-      (length_values P (own_clock P) ∙ sym (length_kinds P))
+      further_sorted (input_kinds P) (element_values P (clock_on P)) (element_kinds P) (further P)
+      (length_values P (clock_on P) ∙ sym (length_kinds P))
       (subst (λ n. Fresh n (further P)) (sym (length_kinds P)) closed.fresh)
 
   -- K and N give the first elements what their variables have
   pub clocks_first :
-      (i : ℕ) (k : FlatClock) → slice_get (element_values P (own_clock P)) i ≡ Some k →
+      (i : ℕ) (k : FlatClock) → slice_get (element_values P (clock_on P)) i ≡ Some k →
       (program_sorts P).clock_of i ≡ k
   clocks_first i k e =
-      got_first Always k (element_values P (own_clock P)) (map (λ q. q.clock) (further P)) i e
+      got_first Always k (element_values P (clock_on P)) (map (λ q. q.clock) (further P)) i e
 
   pub kinds_first :
       (i : ℕ) (l : Kind) → slice_get (element_kinds P) i ≡ Some l →
@@ -170,16 +176,8 @@ module _ (P : Program) (accepted : static_refusal P ≡ None) where
 
   -- ## The node under test and the observer
 
-  root_kept : holds (is_root P) (instance_at P Root) ≡ true
-  root_kept =
-      kept (holds (is_root P) (instance_at P Root)) E8
-      (second_none (instantiation_refusal P 0 (instances P)) _
-      (second_none (unless (has_no_parameters P) E8) _
-      (second_none (unless (is_well_founded P) E7) _
-      (second_none (unless (keeps_names P) E4) _ accepted))))
-
   root_is : (root : Instance) → instance_at P Root ≡ Some root → is_root P root ≡ true
-  root_is root e = sym (ap (holds (is_root P)) e) ∙ root_kept
+  root_is root e = sym (ap (holds (is_root P)) e) ∙ root_kept P accepted
 
   observer_is :
       (root observer : Instance) → instance_at P Root ≡ Some root →

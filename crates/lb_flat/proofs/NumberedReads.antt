@@ -1,22 +1,22 @@
 -- What the elements of the flat program of an accepted program read, in the layout by numbers, is
 -- what its elements need: each is given once, a read from variable to variable is a need, a need is
 -- a chain of reads, a program with an order is causal, and a cycle of reads is a certificate.
-use Rattle.std.proofs.Common.{◌≡◌, ℕ, ◌<◌, None, List, [], length, refl}
+use Rattle.std.proofs.Common.{◌≡◌, ℕ, ◌<◌, None, List, [], length}
 use Rattle.lb_syntax.specs.Lists.{Every, In}
-use Rattle.lb_syntax.specs.Tree.{Declaration}
 use Rattle.lb_static.specs.DataTypes.{variables, input_kinds}
 use Rattle.lb_static.specs.Instances.{Program, Instance, instances}
 use Rattle.lb_static.specs.Instantiation.{static_refusal}
 use Rattle.lb_check.specs.Acceptance.{check_refusal}
 use Rattle.lb_check.specs.Clocks.{declared_clock}
 use Rattle.lb_check.specs.Elements.{program_elements, numbers_of}
-use Rattle.lb_check.specs.Needs.{Element, Reaches, IsCausal, IsCyclic, waits_for}
-use Rattle.lb_check.proofs.ApartLists.{Every-at, Every-from}
+use Rattle.lb_check.specs.Needs.{Element, Needs, Reaches, IsCausal, IsCyclic, waits_for}
+use Rattle.lb_check.proofs.ApartLists.{Every-from}
 use Rattle.lb_check.proofs.NamedClocks.{declared_over}
 use Rattle.lb_check.proofs.OccurrenceClocks.{IsVariable, own_variables}
 use Rattle.lb_flat.specs.Emit.{expanded}
 use Rattle.lb_flat.specs.Expanded.{IsOrderingOf}
-use Rattle.lb_flat.specs.Flat.{FlatClock, FlatEquation}
+use Rattle.lb_flat.specs.Expanded.{HasReads}
+use Rattle.lb_flat.specs.Flat.{FlatEquation}
 use Rattle.lb_flat.specs.GivenOnce.{IsGiven}
 use Rattle.lb_flat.specs.Layouts.{flat_clock}
 use Rattle.lb_flat.specs.NumberedLayouts.{layout}
@@ -27,7 +27,7 @@ use Rattle.lb_flat.proofs.Certificates.{certificate_of, cyclic_of}
 use Rattle.lb_flat.proofs.ChainOrders.{no_cycle}
 use Rattle.lb_flat.proofs.ClockNumbers.{waits_read}
 use Rattle.lb_flat.proofs.FitPlaces.{IsVariableOn}
-use Rattle.lb_flat.proofs.FitWords.{AreOn, IsOn}
+use Rattle.lb_flat.proofs.FitWords.{IsOn}
 use Rattle.lb_flat.proofs.GivenProgram.{given_whole}
 use Rattle.lb_flat.proofs.KnownClocks.{clocks_known}
 use Rattle.lb_flat.proofs.Lists.{Every-map}
@@ -35,7 +35,7 @@ use Rattle.lb_flat.proofs.NeedsOfCopies.{needs_by_copies}
 use Rattle.lb_flat.proofs.NumberedFits.{AreScalars, program_sorts, program_fits, variables_on}
 use Rattle.lb_flat.proofs.ObserverWidths.{observer_wide}
 use Rattle.lb_flat.proofs.OnClock.{ClockFits}
-use Rattle.lb_flat.proofs.ReadsOfNeeds.{reads_of, cycle_read}
+use Rattle.lb_flat.proofs.ReadsOfNeeds.{reads_of, needs_read, cycle_read}
 
 module _ (P : Program) (accepted : static_refusal P ≡ None) (checked : check_refusal P ≡ None)
   where
@@ -73,7 +73,8 @@ module _ (P : Program) (accepted : static_refusal P ≡ None) (checked : check_r
         (numbers_of P c.path d.name))
         (λ d on.
         Every-map
-        (IsOn (program_sorts P) (flat_clock (layout P) c.path (declared_clock c.node d.name)) d.kind)
+        (IsOn (program_sorts P) (flat_clock (layout P) c.path (declared_clock c.node d.name))
+        d.kind)
         (λ i.
         (program_sorts P).clock_of i ≡ flat_clock (layout P) c.path (declared_clock c.node d.name))
         (λ i h. h.0) (numbers_of P c.path d.name) on.elements)
@@ -102,6 +103,16 @@ module _ (P : Program) (accepted : static_refusal P ≡ None) (checked : check_r
           Chain (expanded (layout P) P (length (program_elements P))) j i
       reads_are =
           reads_of P accepted checked (observer_wide P accepted [] [])
+          (λ Under Left here runs j. clocks_known P accepted checked Under Left here runs j)
+          given_once
+          (program_sorts P).clock_of own declared awaited
+
+      -- what an element needs, its number reads
+      pub needs_reads :
+          (x y : Element) → Needs P x y →
+          HasReads P (expanded (layout P) P (length (program_elements P))) x y
+      needs_reads =
+          needs_read P accepted checked (observer_wide P accepted [] [])
           (λ Under Left here runs j. clocks_known P accepted checked Under Left here runs j)
           given_once
           (program_sorts P).clock_of own declared awaited

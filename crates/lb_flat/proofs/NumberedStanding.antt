@@ -141,8 +141,7 @@ module _ (P : Program) (accepted : static_refusal P ≡ None)
 
     -- the flat program of an accepted program stands for it
     pub numbered_flat :
-        IsFlatOf P (expanded (layout P) P (length (program_elements P))) (input_kinds P)
-        (program_kinds P)
+        IsFlatOf P (expanded (layout P) P (length (program_elements P)))
     numbered_flat = record {
       accepted = accepted;
       checked = checked;

@@ -1,5 +1,5 @@
--- In the layout by numbers, the variables, the calls and the expressions of an accepted program are
--- as wide as their types, in the history of any streams.
+-- In the layout by numbers, the variables and the expressions of an accepted program are as wide as
+-- their types, in the history of any streams.
 use Rattle.std.proofs.Common.{◌≡◌, ℕ, None, Some, List, length, sym, ◌∙◌}
 use Rattle.std.proofs.lemmas.List.{length-map}
 use Rattle.lb_syntax.specs.Lists.{Every, In}
@@ -7,9 +7,8 @@ use Rattle.lb_syntax.specs.Tree.{Name, Expr}
 use Rattle.lb_static.specs.DataTypes.{DataType, variables, width}
 use Rattle.lb_static.specs.Instances.{Program, Instance, Path, instances}
 use Rattle.lb_static.specs.Instantiation.{static_refusal}
-use Rattle.lb_check.specs.Acceptance.{check_refusal}
 use Rattle.lb_check.specs.Clocks.{Clock}
-use Rattle.lb_check.specs.Occurrences.{occurrences, node_occurrences}
+use Rattle.lb_check.specs.Occurrences.{occurrences}
 use Rattle.lb_check.specs.Scalars.{Stream}
 use Rattle.lb_check.specs.Solutions.{Inputs}
 use Rattle.lb_check.specs.Streams.{History}
@@ -22,7 +21,6 @@ use Rattle.lb_flat.specs.NumberedLayouts.{layout}
 use Rattle.lb_flat.proofs.FoundWidths.{as_many}
 use Rattle.lb_flat.proofs.Lists.{Every-map}
 use Rattle.lb_flat.proofs.NumberedPlaces.{places_width}
-use Rattle.lb_flat.proofs.SoundPrograms.{all_wide}
 use Rattle.lb_flat.proofs.TypeFacts.{elements_in}
 use Rattle.lb_flat.proofs.Widths.{AreVariablesWide, IsOccurrenceWide, wide}
 
@@ -43,15 +41,6 @@ module _ (P : Program) (accepted : static_refusal P ≡ None) (X : Inputs) (F : 
       (λ d. length (H.columns here.path d.name) ≡ width P here d)
       (λ d w. sym (same here.path d.name) ∙ w) (variables here.node)
       (places_width P accepted here i))
-
-  module _ (checked : check_refusal P ≡ None) (here : Instance) (i : In here (instances P)) where
-    -- what is called is as wide as its types
-    pub calls_wide :
-        Every (IsOccurrenceWide P (history_of (layout P) X F) here)
-        (node_occurrences P here.node)
-    calls_wide =
-        Every-at (λ here. Every (IsOccurrenceWide P H here) (node_occurrences P here.node))
-        (instances P) here (all_wide P accepted checked H variables_wide) i
 
   -- the elements found of an expression are as many as its types have
   pub found_wide :

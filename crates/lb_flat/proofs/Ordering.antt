@@ -1,10 +1,9 @@
 -- What scheduling keeps, and what stands in a table where no element is next.
-use Rattle.std.proofs.Common.{◌≡◌, ℕ, zero, suc, ◌+◌, ◌<◌, ◌≤◌, Bool, true, false, not, Option}
+use Rattle.std.proofs.Common.{◌≡◌, ℕ, zero, suc, ◌+◌, ◌<◌, ◌≤◌, Bool, true, false, Option}
 use Rattle.std.proofs.Common.{Some, None, List, [], ◌∷◌, ◌++◌, length, map, replicate, get_or, set}
 use Rattle.std.proofs.Common.{All, refl, sym, ap, subst, ◌∙◌, arith, inl, inr, ◌⊎◌, ⊎_elim}
 use Rattle.std.proofs.Common.{below_more, length-set, append_assoc}
-use Rattle.std.specs.List.{list_any}
-use Rattle.std.proofs.lemmas.Bool.{cases_eq, not-true, not_from_false}
+use Rattle.std.proofs.lemmas.Bool.{cases_eq}
 use Rattle.std.proofs.lemmas.List.{get_or-set_other, map-append, append-nil}
 use Rattle.lb_syntax.specs.Lists.{Every, In}
 use Rattle.lb_flat.specs.declared.equation.Clock.{Clock}
@@ -12,13 +11,12 @@ use Rattle.lb_flat.specs.declared.equation.Equation.{Equation}
 use Rattle.lb_flat.specs.Flat.{FlatEquation}
 use Rattle.lb_flat.specs.InOrder.{is_done, is_next, is_in_order}
 use Rattle.lb_flat.specs.declared.program.FlatProgram.{FlatProgram}
-use Rattle.lb_flat.specs.Ordering.{IsTable, IsScheduled, AreScheduled, IsNotNext, IsLeft, IsStuckAt}
+use Rattle.lb_flat.specs.Ordering.{IsTable, IsScheduled, AreScheduled, IsNotNext, IsStuckAt}
 use Rattle.lb_flat.specs.Ordering.{awaited, left}
 use Rattle.lb_flat.specs.Programs.{flat_equations}
 use Rattle.lb_flat.specs.Run.{equation_reads, keeps}
-use Rattle.lb_flat.specs.Stuck.{IsStuck}
 use Rattle.lb_flat.specs.Values.{equation_of}
-use Rattle.lb_flat.proofs.Awaiting.{none_left, some_waits}
+use Rattle.lb_flat.proofs.Awaiting.{none_left}
 use Rattle.lb_flat.proofs.InOrder.{Every-of_All, passes, ends_order, goes_before}
 
 -- ## Lists
@@ -196,14 +194,6 @@ all_settled clocks table done out n h le all = record {
 
 -- ## Where none is next
 
--- a place that has an entry is one of the table
-in_table :
-    (table : List (Option Equation)) (e : ℕ) (q : Equation) →
-    get_or table e None ≡ Some q → e < length table
-in_table [] e q h = cc
-in_table (o ∷ table) zero q h = omega arith
-in_table (o ∷ table) (suc e) q h = omega (arith, in_table table e q h)
-
 module _ (p : FlatProgram) (table : List (Option Equation)) (done : List Bool)
     (s : IsStuckAt p table done) where
   abbrev clocks : List Clock
@@ -228,30 +218,3 @@ module _ (p : FlatProgram) (table : List (Option Equation)) (done : List Bool)
             subst (λ i. get_or table i None ≡ Some r.source) element
             (s.table.each r.source r.is_in);
       }
-
-  -- what is left waits for something that is left
-  waits :
-      (q : FlatEquation) → In q Q → not (is_done done q.element) ≡ true →
-      list_any (λ i. not (is_done done i)) (equation_reads q) ≡ true
-  waits q is left =
-      let r = from_map (equation_of clocks) q p.equations.items is in
-      let element : r.source.element.0 ≡ q.element = ap (λ x. x.element) r.is in
-      let stands = s.table.each r.source r.is_in in
-      let some =
-      s.stuck r.source.element.0 (in_table table r.source.element.0 r.source stands)
-      (ap (is_done done) element ∙ not-true (is_done done q.element) left) r.source stands in
-      subst (λ x. list_any (λ i. not (is_done done i)) (equation_reads x) ≡ true) r.is
-      (some_waits done (equation_reads (equation_of clocks r.source)) some)
-
-  pub is_stuck : (one : ℕ) → IsLeft p done one → IsStuck p.size Q
-  is_stuck one l = record {
-    left = λ i. not (is_done done i);
-    one = one;
-    is_element = l.is_element;
-    is_left = not_from_false (is_done done one) l.is_left;
-    given = λ i lt left. s.given.each i lt;
-    waits = Every-of_All (λ q. not (is_done done q.element) ≡ true →
-        list_any (λ i. not (is_done done i)) (equation_reads q) ≡ true) Q
-        (All-In (λ q. not (is_done done q.element) ≡ true →
-        list_any (λ i. not (is_done done i)) (equation_reads q) ≡ true) Q waits);
-  }

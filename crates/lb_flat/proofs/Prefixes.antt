@@ -1,21 +1,20 @@
--- What solves a program on the beginning of a trace is the beginning of what solves it on the whole
--- trace.
+-- The run of a flat program on the beginning of a trace is the beginning of that on the whole
+-- trace, and so are the histories that stand for both.
 use Rattle.std.proofs.Common.{◌≡◌, ℕ, zero, suc, true, ◌&&◌, None, List, [], ◌∷◌, ◌++◌, map, length}
 use Rattle.std.proofs.Common.{take, replicate, refl, sym, ap, ap₂, ◌∙◌}
 use Rattle.lb_syntax.specs.Lists.{Every, zip2}
 use Rattle.lb_syntax.specs.Tree.{Declaration}
-use Rattle.lb_static.specs.Instances.{Program, Instance, Path, instances}
+use Rattle.lb_static.specs.Instances.{Instance, Path}
 use Rattle.lb_static.specs.DataTypes.{variables}
 use Rattle.lb_check.specs.Scalars.{Stream}
 use Rattle.lb_check.specs.Streams.{History, shows}
-use Rattle.lb_check.specs.Solutions.{Inputs, Solves, AgreeAt}
+use Rattle.lb_check.specs.Solutions.{Inputs, AgreeAt}
 use Rattle.lb_flat.specs.Flat.{FlatClock, Always, Where, FlatEquation, column, instants}
 use Rattle.lb_flat.specs.Run.{Row, advanced, Ready, row_of, run, streams_of}
 use Rattle.lb_flat.specs.Layouts.{Layout}
-use Rattle.lb_flat.specs.Judging.{FlatProgram}
-use Rattle.lb_flat.specs.Flattening.{history_of, IsFlatOf}
-use Rattle.lb_flat.specs.Prefixes.{IsPrefixAt, IsPrefix}
-use Rattle.lb_flat.proofs.Running.{ready_advanced, unique, exists}
+use Rattle.lb_flat.specs.Flattening.{history_of}
+use Rattle.lb_flat.specs.Prefixes.{IsPrefixAt}
+use Rattle.lb_flat.proofs.Running.{ready_advanced, exists}
 
 -- ## Lists
 
@@ -123,16 +122,3 @@ module _ (Z : Inputs) where
         },
         instances_prefix is h.1 g.1,
       )
-
--- what happens up to an instant does not hang on what comes after it
-pub is_prefix :
-    (P : Program) (f : FlatProgram) → IsFlatOf P f → Ready f.size [] f.equations →
-    (X Z : Inputs) (H H' : History) → Solves P (X ++ Z) H → Solves P X H' →
-    IsPrefix P H' H (length X)
-is_prefix P f flat ready X Z H H' whole part =
-    let r = flat.solved (X ++ Z) H whole in
-    let s = flat.solved X H' part in
-    let same =
-    unique f.size X f.equations s.0 ready s.1 ∙ streams_taken Z f.size f.equations X ready
-    ∙ sym (ap (map (take (length X))) (unique f.size (X ++ Z) f.equations r.0 ready r.1)) in
-    instances_prefix Z X flat.layout r.0 s.0 same H' H (instances P) s.2 r.2

@@ -1,20 +1,18 @@
 -- What an element of an accepted program needs, its number reads: by its copy, or by its clock.
 -- What reaches itself by needs does so by reads.
-use Rattle.std.proofs.Common.{◌≡◌, ◌⊎◌, inl, inr, ℕ, ◌+◌, ◌<◌, ◌≤◌, Option, Some, None, IfSome}
-use Rattle.std.proofs.Common.{List, [], ◌∷◌, ◌++◌, map, length, flat_map, refl, sym, ap, ◌∙◌, subst}
-use Rattle.std.proofs.Common.{arith}
+use Rattle.std.proofs.Common.{◌≡◌, ◌⊎◌, inl, inr, ℕ, ◌<◌, Some, None, IfSome, List, [], ◌∷◌}
+use Rattle.std.proofs.Common.{◌++◌, length, flat_map, refl, sym, ap, ◌∙◌, subst, arith}
 use Rattle.std.specs.Prelude.{slice_get}
-use Rattle.std.specs.List.{range_with_len}
 use Rattle.lb_syntax.specs.Lists.{Every, In}
 use Rattle.lb_syntax.specs.Tree.{Declaration}
-use Rattle.lb_static.specs.DataTypes.{variables, width}
+use Rattle.lb_static.specs.DataTypes.{variables}
 use Rattle.lb_static.specs.Instances.{Program, Instance, Root, Observer, instance_at, instances}
 use Rattle.lb_static.specs.Instantiation.{static_refusal}
 use Rattle.lb_static.proofs.Members.{map_in}
 use Rattle.lb_check.specs.Acceptance.{check_refusal}
 use Rattle.lb_check.specs.Clocks.{declared_clock}
 use Rattle.lb_check.specs.Elements.{program_elements, numbers_of}
-use Rattle.lb_check.specs.Needs.{Element, Definition, elements, definitions, definitions_at}
+use Rattle.lb_check.specs.Needs.{Element, Definition, elements, definitions_at}
 use Rattle.lb_check.specs.Needs.{observer_definitions, equation_definitions, call_definitions}
 use Rattle.lb_check.specs.Needs.{clock_definitions, waits_for, Needs, Reaches}
 use Rattle.lb_check.specs.Occurrences.{statements, node_occurrences}
@@ -22,9 +20,10 @@ use Rattle.lb_check.specs.Solutions.{columns_at}
 use Rattle.lb_check.proofs.AcceptedNumbers.{numbers_below}
 use Rattle.lb_check.proofs.ApartLists.{in_first, in_second, in_either, Every-at, Every-from}
 use Rattle.lb_check.proofs.ApartLists.{of_pieces, to_pieces}
+use Rattle.lb_flat.specs.Expanded.{HasReads}
+use Rattle.lb_flat.proofs.ExpansionReads.{reads_at, cycle_read as cycle_of_reads}
 use Rattle.lb_check.proofs.Numbers.{got_within}
-use Rattle.lb_flat.specs.Expansions.{HasReads}
-use Rattle.lb_flat.specs.Flat.{FlatClock, Copy, FlatEquation}
+use Rattle.lb_flat.specs.Flat.{FlatClock, FlatEquation}
 use Rattle.lb_flat.specs.Flattening.{history_of}
 use Rattle.lb_flat.specs.GivenOnce.{IsGiven}
 use Rattle.lb_flat.specs.Judging.{FlatProgram}
@@ -36,23 +35,15 @@ use Rattle.lb_flat.specs.Emit.{State, before_instances, emit_instances, given_in
 use Rattle.lb_flat.specs.Emit.{expanded}
 use Rattle.lb_flat.proofs.Bodies.{all_closed}
 use Rattle.lb_flat.proofs.Closing.{Closed}
-use Rattle.lb_flat.proofs.CopiedBodies.{made_by}
 use Rattle.lb_flat.proofs.CopiedDefinitions.{IsDefinedBy}
-use Rattle.lb_flat.proofs.CopiedProgram.{made, all_copies, copies_defined}
-use Rattle.lb_flat.proofs.ExpansionReads.{reads_at, cycle_read as cycle_of_reads}
-use Rattle.lb_flat.proofs.LinkWords.{SomeOf, Pairs, AllMeet, Meets}
+use Rattle.lb_flat.proofs.CopiedProgram.{made, copies_defined}
+use Rattle.lb_flat.proofs.LinkWords.{Pairs, AllMeet, Meets}
 use Rattle.lb_flat.proofs.NumberedElements.{elements_declared}
 use Rattle.lb_flat.proofs.Lists.{Every-second}
 use Rattle.lb_flat.proofs.NumberedPlaces.{is_laid_out}
 use Rattle.lb_flat.proofs.Placing.{AreAsWide}
 use Rattle.lb_flat.proofs.SourcedInstances.{same, AreClocksKnown}
-
--- one of a list of which this holds
-pub in_some :
-    {A : Type 0} (Q : A → Type 0) (xs : List A) → SomeOf Q xs → (x : A) × In x xs × Q x
-in_some Q [] h = absurd h
-in_some Q (x ∷ xs) (inl q) = (x, inl refl, q)
-in_some Q (x ∷ xs) (inr h) = let r = in_some Q xs h in (r.0, inr r.1, r.2)
+use Rattle.lb_flat.proofs.SomeLists.{SomeOf, in_some}
 
 -- a chain goes on by what an equation of its end reads
 pub chain_on :
@@ -210,7 +201,8 @@ module _ (P : Program) (accepted : static_refusal P ≡ None) (checked : check_r
       made P accepted checked observer_wide Under Left
       (λ here. clocks Under Left here variable_runs)
 
-  by_copy : (d : Definition) (y : Element) → In d made_all → In y d.needed → HasReads P f d.element y
+  by_copy : (d : Definition) (y : Element) → In d made_all → In y d.needed →
+      HasReads P f d.element y
   by_copy d y stands names =
       let whole = copies_defined P accepted checked observer_wide Under Left
       (λ here. clocks Under Left here variable_runs) further_met in

@@ -1,5 +1,4 @@
--- The rows of a recorded trace are a trace of a program with its signature, and a flat program in
--- order gives its verdict.
+-- The rows of a recorded trace are a trace of a program with its signature.
 use Rattle.std.proofs.Common.{◌≡◌, ℕ, zero, suc, ◌<◌, ◌≤◌, Bool as Truth, true, ◌&&◌, ℤ, pos, List}
 use Rattle.std.proofs.Common.{[], ◌∷◌, map, length, get_or, slice_get, Some, None, refl, sym, ap}
 use Rattle.std.proofs.Common.{ap₂, subst, ◌∙◌, arith}
@@ -14,18 +13,12 @@ use Rattle.lb_static.specs.Arithmetic.{is_int}
 use Rattle.lb_static.specs.Instances.{Program}
 use Rattle.lb_static.specs.DataTypes.{signature}
 use Rattle.lb_static.specs.Signature.{Elements, kinds_of}
-use Rattle.lb_check.specs.declared.verdict.Verdict.{Verdict}
 use Rattle.lb_check.specs.Scalars as scalars
 use Rattle.lb_check.specs.Scalars.{is_given}
-use Rattle.lb_check.specs.Solutions.{is_row, HasOneHistory}
-use Rattle.lb_check.specs.Verdicts.{HasVerdict, IsOnlyVerdict}
-use Rattle.lb_check.proofs.OnlyVerdict.{only_verdict}
+use Rattle.lb_check.specs.Solutions.{is_row}
 use Rattle.lb_flat.specs.Traces.{Row, Recording, trace_at, IsCell, IsInt, IsRow, IsRecording}
 use Rattle.lb_flat.specs.Inputs.{scalar_in, scalars_in, inputs_of}
-use Rattle.lb_flat.specs.Flattening.{IsTrace, IsFlatOf}
-use Rattle.lb_flat.specs.Judging.{FlatProgram, flat_verdict}
-use Rattle.lb_flat.specs.Run.{Ready}
-use Rattle.lb_flat.proofs.Judging.{has_verdict, has_one_history}
+use Rattle.lb_flat.specs.Flattening.{IsTrace}
 use Rattle.lb_flat.proofs.Lists.{length-zips}
 
 -- ## The scalars of a row, one after the other
@@ -86,7 +79,7 @@ rows_given elements (row ∷ rows) h = (
   rows_given elements rows (All-tail (IsRow elements) row rows h),
 )
 
--- ## The verdict of a recorded trace
+-- ## The rows of a recorded trace
 
 module _ (P : Program) (r : Recording) (k : ℕ) (same : signature P ≡ r.signature)
     (lawful : IsRecording r) (below : k < length r.traces) where
@@ -95,14 +88,3 @@ module _ (P : Program) (r : Recording) (k : ℕ) (same : signature P ≡ r.signa
       subst (λ (elements : Elements).
       Every (λ row. is_row (kinds_of elements) row ≡ true) (inputs_of r k)) (sym same)
       (rows_given r.signature (trace_at r.traces k).1 (lawful.each k ([], []) below).rows)
-
-  module _ (f : FlatProgram) (flat : IsFlatOf P f) (ready : Ready f.size [] f.equations) where
-    pub recorded_alone : HasOneHistory P (inputs_of r k)
-    recorded_alone = has_one_history P f flat ready (inputs_of r k) trace_given
-
-    pub recorded_verdict :
-        (v : Verdict) → v ≡ flat_verdict f (inputs_of r k) → IsOnlyVerdict P (inputs_of r k) v
-    recorded_verdict v e =
-        only_verdict P flat.accepted flat.checked (inputs_of r k) recorded_alone v
-        (subst (HasVerdict P (inputs_of r k)) (sym e)
-        (has_verdict P f flat ready (inputs_of r k) trace_given))

@@ -1,8 +1,8 @@
 -- A variable is among those that serve as clocks by its number where it is by its name.
-use Rattle.std.proofs.Common.{◌≡◌, ℕ, Bool, true, Option, Some, None, option_map, List, [], ◌∷◌, ◌++◌}
-use Rattle.std.proofs.Common.{map, length, flat_map, refl, ap, ap₂, sym, ◌∙◌, subst, arith}
+use Rattle.std.proofs.Common.{◌≡◌, ℕ, true, Option, Some, None, option_map, List, [], ◌∷◌}
+use Rattle.std.proofs.Common.{◌++◌, map, length, flat_map, refl, ap, ap₂, sym, ◌∙◌, subst, arith}
 use Rattle.std.specs.Prelude.{◌&&◌, ◌||◌, ◌==◌, nat_lt, slice_get}
-use Rattle.std.specs.List.{list_all, list_any}
+use Rattle.std.specs.List.{list_all}
 use Rattle.std.specs.Str.{bytes_eq}
 use Rattle.std.proofs.lemmas.List.{length-map, map-append}
 use Rattle.std.proofs.lemmas.List.Concat.{flat_map-append}
@@ -14,7 +14,7 @@ use Rattle.lb_static.specs.DataTypes.{variables}
 use Rattle.lb_static.specs.Names.{are_distinct}
 use Rattle.lb_static.specs.Parts.{parts, parts_in, right_side, own_clock_names, among, clock_names}
 use Rattle.lb_static.specs.Parts.{variable_names}
-use Rattle.lb_static.specs.ResolvedNodes.{IsResolved, node_of, statics_of, texts_of, counts_of}
+use Rattle.lb_static.specs.ResolvedNodes.{IsResolved, node_of, texts_of, counts_of}
 use Rattle.lb_static.specs.ResolvedTerms.{Texts, Counts, static_at, named_value, expr_of, row_of}
 use Rattle.lb_static.specs.ResolvedTerms.{statement_of, sampling_of, declaration_of, is_variable}
 use Rattle.lb_static.specs.ResolvedTerms.{is_static, is_call, is_within, are_within}

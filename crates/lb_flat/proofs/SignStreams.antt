@@ -1,19 +1,18 @@
 -- Where the copies that are emitted hold, a variable that serves for another in a clock has its
 -- streams.
-use Rattle.std.proofs.Common.{◌≡◌, ℕ, suc, ◌+◌, Option, Some, None, List, [], ◌∷◌, ◌++◌, length}
-use Rattle.std.proofs.Common.{map, flat_map, refl, ap, ap₂, sym, ◌∙◌, subst, arith}
+use Rattle.std.proofs.Common.{◌≡◌, ℕ, ◌+◌, Option, Some, None, List, [], ◌∷◌, ◌++◌, length}
+use Rattle.std.proofs.Common.{flat_map, refl, ap, ap₂, sym, ◌∙◌, subst, arith}
 use Rattle.std.specs.Str.{bytes_eq}
 use Rattle.lb_syntax.specs.Lists.{Every, In, listed}
 use Rattle.lb_syntax.specs.Tree.{Name, Static, Call, Exprs, Declaration, Node, Equation}
 use Rattle.lb_static.specs.DataTypes.{variables, width}
-use Rattle.lb_static.specs.Instances.{Program, Instance, Path, Child, node_named, instances}
+use Rattle.lb_static.specs.Instances.{Program, Instance, Path, Child, instances}
 use Rattle.lb_static.specs.Instantiation.{static_refusal}
 use Rattle.lb_static.specs.StaticValues.{named}
 use Rattle.lb_check.specs.Acceptance.{check_refusal}
 use Rattle.lb_check.specs.Clocks.{Clock, declared_clock, argument_clocks, given_inputs}
-use Rattle.lb_check.specs.Clocks.{given_outputs, ungrouped, outer, base_clock}
+use Rattle.lb_check.specs.Clocks.{given_outputs, outer, base_clock}
 use Rattle.lb_check.specs.Elements.{found_from}
-use Rattle.lb_check.specs.Needs.{serving}
 use Rattle.lb_check.specs.Occurrences.{at, call_clocks, node_occurrences, statements}
 use Rattle.lb_check.specs.Scalars.{Stream}
 use Rattle.lb_check.specs.Solutions.{Inputs}

@@ -16,12 +16,14 @@ use Rattle.lb_check.specs.Streams.{data_type, part_count}
 use Rattle.lb_check.specs.TypeRules.{expression_size, instance_size, is_small, size, total}
 use Rattle.lb_check.specs.Types.{data_types, only}
 
-in_sum : {A : Type 0} (f : A → ℕ) (xs : List A) (x : A) → In x xs → f x ≤ sum_by f xs
+-- what is summed is at most the sum
+pub in_sum : {A : Type 0} (f : A → ℕ) (xs : List A) (x : A) → In x xs → f x ≤ sum_by f xs
 in_sum f [] x i = absurd i
 in_sum f (y ∷ xs) x (inl e) = omega (arith, sum_by-cons f y xs, ap f e)
 in_sum f (y ∷ xs) x (inr i) = omega (arith, sum_by-cons f y xs, in_sum f xs x i)
 
-at_most : (n m : ℕ) → nat_le n m ≡ true → n ≤ m
+-- a test of numbers
+pub at_most : (n m : ℕ) → nat_le n m ≡ true → n ≤ m
 at_most n m e = grind (arith, nat_tests)
 
 -- an element of an array is no larger than the array

@@ -1,13 +1,13 @@
 -- An accepted program is sound in each history in which the variables of its instances are as wide
 -- as their types, where what is called runs on the clocks of the calls.
-use Rattle.std.proofs.Common.{◌≡◌, ℕ, ◌+◌, true, Option, Some, None, IfSome, List, [], ◌∷◌, ◌++◌}
-use Rattle.std.proofs.Common.{map, length, refl, sym, ap, ap₂, ◌∙◌, subst, arith}
+use Rattle.std.proofs.Common.{◌≡◌, ℕ, true, Option, Some, None, IfSome, List, [], ◌∷◌, ◌++◌}
+use Rattle.std.proofs.Common.{map, length, refl, sym, ap, ap₂, ◌∙◌, subst}
 use Rattle.std.specs.Prelude.{nat_le}
 use Rattle.std.proofs.lemmas.List.{length-map}
 use Rattle.lb_syntax.specs.Lists.{Every, all_some, holds}
 use Rattle.lb_syntax.specs.Refusals.{E4, E7, E8, unless}
-use Rattle.lb_syntax.specs.Tree.{Name, Node_named, Expr, Call, Iterate, Declaration}
-use Rattle.lb_static.specs.Instances.{Program, Instance, Path, Root, Observer, node_sites}
+use Rattle.lb_syntax.specs.Tree.{Declaration}
+use Rattle.lb_static.specs.Instances.{Program, Instance, Path, Root, Observer}
 use Rattle.lb_static.specs.Instances.{instance_at, instances}
 use Rattle.lb_static.specs.DataTypes.{DataType, are_types, element_count, variable_type, variables}
 use Rattle.lb_static.specs.DataTypes.{width, input_types, signature}
@@ -16,21 +16,15 @@ use Rattle.lb_static.specs.Instantiation.{has_plain_clocks, has_property, fits_o
 use Rattle.lb_static.specs.Instantiation.{is_root}
 use Rattle.lb_static.specs.Names.{keeps_names, is_well_founded}
 use Rattle.lb_check.specs.Acceptance.{check_refusal}
-use Rattle.lb_check.specs.ClockRules.{are_declared_clocks, is_clocked}
-use Rattle.lb_check.specs.Clocks.{Clock}
-use Rattle.lb_check.specs.Occurrences.{Occurrence, at, node_occurrences}
+use Rattle.lb_check.specs.Occurrences.{node_occurrences}
 use Rattle.lb_check.specs.Scalars.{Stream}
 use Rattle.lb_check.specs.Solutions.{Inputs, Solves, SolvesAt, Fits, columns_at}
 use Rattle.lb_check.specs.Streams.{History}
-use Rattle.lb_check.specs.TypeRules.{is_typed}
-use Rattle.lb_check.proofs.AcceptedRules.{all_typed, all_clocked, all_declared}
-use Rattle.lb_check.proofs.CalledProperties.{calls_have}
+use Rattle.lb_check.proofs.AcceptedRules.{all_typed}
+use Rattle.lb_check.proofs.ApartLists.{Every-at, Every-from}
 use Rattle.lb_check.proofs.Checks.{second_none, kept, instantiation_kept}
-use Rattle.lb_check.proofs.Every.{Every-all}
-use Rattle.lb_check.proofs.DeterminedClocks.{OfCalled, Sited}
 use Rattle.lb_check.proofs.InstancePaths.{in_instances, path_is}
 use Rattle.lb_check.proofs.NamedClocks.{if_some}
-use Rattle.lb_check.proofs.StandingParts.{Stands, node_stands}
 use Rattle.lb_flat.specs.Flat.{column}
 use Rattle.lb_flat.specs.Flattening.{history_of}
 use Rattle.lb_flat.specs.Layouts.{Layout}
@@ -43,47 +37,8 @@ use Rattle.lb_flat.proofs.RootWidths.{inputs_count}
 use Rattle.lb_flat.proofs.SoundInstances.{RunsAt, instance_sound}
 use Rattle.lb_flat.proofs.TypeFacts.{and_first, and_second, are_counts, some_same}
 use Rattle.lb_flat.proofs.Whole.{IsProgramSound}
-use Rattle.lb_flat.proofs.Widths.{AreVariablesWide, IsWideAt, IsOccurrenceWide}
-
--- ## The calls of an instance are wide
-
-module _ (P : Program) (H : History) where
-  -- what is called is as wide as its types, and has declared clocks
-  abbrev IsWideCallee : Instance → Type 0
-  IsWideCallee c =
-      (Every (λ d. length (H.columns c.path d.name) ≡ width P c d) (variables c.node))
-      × (are_declared_clocks c.node ≡ true)
-
-  module _ (here : Instance) where
-    abbrev AnyName : Name → Type 0
-    AnyName x = Unit {0}
-
-    abbrev AnyVariables : Type 0
-    AnyVariables = Every (λ d. AnyName d.name) (variables here.node)
-
-    every_name : AnyVariables
-    every_name = Every-all (λ d. AnyName d.name) (λ d. tt) (variables here.node)
-
-    known : (c : Instance) → IsWideCallee c → are_declared_clocks c.node ≡ true
-    known c h = h.1
-
-    abbrev StandsWide : Occurrence → Type 0
-    StandsWide o = Stands P here AnyName every_name IsWideCallee known o
-
-    wide_at : (k : Clock) (n : ℕ) (e : Expr) → StandsWide (at k n e) → IsWideAt P H here n e
-    wide_at k n (Call f statics es) s = λ c is. (s.sited.0.1 0 (omega arith) c is).0
-    wide_at k n (Iterate it (Node_named f statics) m es) s =
-        (s.sited.0.0, λ i lt c is. (s.sited.0.1 i lt c is).0)
-    wide_at k n e s = tt
-
-    occurrences_wide :
-        is_typed P here ≡ true → is_clocked P here.node ≡ true →
-        Sited (OfCalled P here IsWideCallee) 0 (node_sites here.node) →
-        Every (IsOccurrenceWide P H here) (node_occurrences P here.node)
-    occurrences_wide typed clocked s =
-        Every-map StandsWide (IsOccurrenceWide P H here)
-        (λ o h. wide_at o.clock o.calls_before o.expr h) (node_occurrences P here.node)
-        (node_stands P here AnyName every_name IsWideCallee known typed clocked s).0
+use Rattle.lb_flat.proofs.WideInstances.{calls_wide}
+use Rattle.lb_flat.proofs.Widths.{AreVariablesWide, IsOccurrenceWide}
 
 -- ## The observer
 
@@ -203,12 +158,11 @@ module _ (P : Program) (elaborated : static_refusal P ≡ None)
         Every (λ here. Every (IsOccurrenceWide P H here) (node_occurrences P here.node))
         (instances P)
     all_wide =
-        Every-map _ (λ here. Every (IsOccurrenceWide P H here) (node_occurrences P here.node))
-        (λ here z. occurrences_wide P H here z.0 z.1.0 z.1.1) (instances P)
-        (Every-both _ _ (instances P) (all_typed P checked)
-        (Every-both _ _ (instances P) (all_clocked P checked)
-        (calls_have P elaborated (IsWideCallee P H)
-        (Every-both _ _ (instances P) wide (all_declared P checked)))))
+        Every-from (λ here. Every (IsOccurrenceWide P H here) (node_occurrences P here.node))
+        (instances P)
+        (λ here i.
+        calls_wide P elaborated H
+        (λ c j. Every-at (λ c. AreVariablesWide P H c c) (instances P) c wide j) here i)
 
     -- the program is sound, where a layout gives the inputs of the node under test their elements
     pub sound_where_wide :

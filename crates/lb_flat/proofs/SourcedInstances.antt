@@ -1,7 +1,7 @@
 -- In an accepted program whose rules hold, what has to be known of each instance for its copies to
 -- be definitions follows from what is known of its clocks.
-use Rattle.std.proofs.Common.{◌≡◌, ℕ, ◌+◌, ◌<◌, ◌≤◌, true, Option, Some, None, List, [], ◌∷◌, ◌++◌}
-use Rattle.std.proofs.Common.{map, length, flat_map, refl, sym, ap, ◌∙◌, subst}
+use Rattle.std.proofs.Common.{◌≡◌, ℕ, ◌<◌, ◌≤◌, true, Some, None, List, [], ◌++◌}
+use Rattle.std.proofs.Common.{length, refl, sym, ◌∙◌}
 use Rattle.std.specs.Prelude.{slice_get}
 use Rattle.std.specs.List.{list_all}
 use Rattle.std.proofs.lemmas.List.{length-map}
@@ -12,7 +12,7 @@ use Rattle.lb_syntax.specs.Tree.{Group, Unary, Binary, If, Arrow, Fby, Pre, Curr
 use Rattle.lb_syntax.specs.Tree.{Replicate, Index, Slice, Join, Array, AtMostOne, Nor, Call}
 use Rattle.lb_syntax.specs.Tree.{Iterate, Exprs}
 use Rattle.lb_static.specs.DataTypes.{variables, width}
-use Rattle.lb_static.specs.Instances.{Program, Instance, Path, Child, Site, call_site, callee_of}
+use Rattle.lb_static.specs.Instances.{Program, Instance, Path, Site, call_site, callee_of}
 use Rattle.lb_static.specs.Instances.{node_sites, numbered_sites, children, instances}
 use Rattle.lb_static.specs.Instantiation.{level, static_refusal}
 use Rattle.lb_check.specs.Acceptance.{check_refusal}
@@ -20,16 +20,15 @@ use Rattle.lb_check.specs.Clocks.{Clock, On, base_clock, outer, given_inputs, cl
 use Rattle.lb_check.specs.Clocks.{declared_clock}
 use Rattle.lb_check.specs.Elements.{program_elements}
 use Rattle.lb_check.specs.Needs.{Element}
-use Rattle.lb_check.specs.Occurrences.{Occurrence, at, occurrences, node_occurrences}
+use Rattle.lb_check.specs.Occurrences.{Occurrence, at, node_occurrences}
 use Rattle.lb_check.specs.Streams.{History, number}
 use Rattle.lb_check.specs.TypeRules.{is_clock_typed, is_statement_typed, is_typed}
-use Rattle.lb_check.proofs.AcceptedRules.{all_typed}
 use Rattle.lb_check.proofs.ApartLists.{Every-at, Every-from}
 use Rattle.lb_check.proofs.Checks.{instantiation_kept}
 use Rattle.lb_check.proofs.DeterminedClocks.{OfCalled}
 use Rattle.lb_check.proofs.Every.{Every-map, Every-both, Every-first}
 use Rattle.lb_check.proofs.OccurrenceSites.{own_site, node_calls}
-use Rattle.lb_check.proofs.SameInstances.{IsEntered, all_entered, Low, all_children, all_called}
+use Rattle.lb_check.proofs.SameInstances.{IsEntered, all_entered, all_children, all_called}
 use Rattle.lb_check.proofs.TruthValues.{and_second}
 use Rattle.lb_flat.specs.Flat.{column}
 use Rattle.lb_flat.specs.Flattening.{history_of}
@@ -39,12 +38,11 @@ use Rattle.lb_flat.proofs.CopiedBodies.{IsSourced}
 use Rattle.lb_flat.proofs.CopiedCalls.{IsPassed}
 use Rattle.lb_flat.proofs.CopiedDefinitions.{AreDeclared}
 use Rattle.lb_flat.proofs.LinkTerms.{AreNumbered, IsAwaited, IsRunning, IsLinkable, IsKnown}
-use Rattle.lb_flat.proofs.LinkWords.{Pairs}
 use Rattle.lb_flat.proofs.NumberedElements.{elements_numbered, elements_declared}
-use Rattle.lb_flat.proofs.NumberedWidths.{calls_wide}
 use Rattle.lb_flat.proofs.NumberedPlaces.{places_width}
 use Rattle.lb_flat.proofs.SoundInstances.{body_typed}
 use Rattle.lb_flat.proofs.TypedParts.{IsTypedAt}
+use Rattle.lb_flat.proofs.WideInstances.{all_typed, calls_wide}
 use Rattle.lb_flat.proofs.Widths.{AreVariablesWide}
 
 module _ (P : Program) (accepted : static_refusal P ≡ None) (checked : check_refusal P ≡ None)
@@ -227,7 +225,7 @@ module _ (P : Program) (accepted : static_refusal P ≡ None) (checked : check_r
       let numbered = elements_numbered P accepted here j in
       let os = node_occurrences P here.node in
       let of_types = body_typed Y P H here own 0 here.node.body (typed_at here j)
-      (calls_wide P accepted [] [] checked here j) in
+      (calls_wide P accepted H wide here j) in
       let passed = λ (o : Occurrence).
       IsPassed Y P H same IsAt Under Left here own numbered o.clock o.calls_before o.expr in
       let places = λ (o : Occurrence). IsSited here o.calls_before o.expr in

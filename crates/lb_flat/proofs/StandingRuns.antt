@@ -1,7 +1,6 @@
 -- What a flat program that stands for a program says of it: which histories solve it, and what its
 -- verdicts are; and that nothing of it hangs on the order of the equations.
 use Rattle.std.proofs.Common.{◌≡◌, ◌↔◌, ℕ, ◌<◌, true, List, [], length, replicate, sym, subst}
-use Rattle.lb_syntax.specs.declared.tree.Kind.{Kind}
 use Rattle.lb_static.specs.DataTypes.{signature, input_kinds}
 use Rattle.lb_static.specs.Instances.{Program, Observer}
 use Rattle.lb_check.specs.declared.verdict.Verdict.{Verdict}
@@ -28,14 +27,13 @@ use Rattle.lb_flat.proofs.OrderedSolutions.{all_memories_there}
 use Rattle.lb_flat.proofs.RunSolutions.{run_verdict, run_determined, run_recorded}
 use Rattle.lb_flat.proofs.Solving.{fitting_ordered}
 
-module _ (P : Program) (f : FlatProgram) (inputs kinds : List Kind)
-    (s : IsFlatOf P f inputs kinds) where
+module _ (P : Program) (f : FlatProgram) (s : IsFlatOf P f) where
   -- ## Other orders
 
   -- in another order it stands for the program too
   pub flat_ordered :
       (Q : List FlatEquation) → IsOrderingOf f.equations Q →
-      IsFlatOf P (in_order f Q) inputs kinds
+      IsFlatOf P (in_order f Q)
   flat_ordered Q o = record {
     accepted = s.accepted;
     checked = s.checked;
@@ -45,22 +43,22 @@ module _ (P : Program) (f : FlatProgram) (inputs kinds : List Kind)
     variable_kinds = s.variable_kinds;
     fitting = (
       s.fitting.0,
-      fitting_ordered inputs s.fitting.0 (kind_among kinds) f.equations Q o s.fitting.1,
+      fitting_ordered f.inputs s.fitting.0 (kind_among f.kinds) f.equations Q o s.fitting.1,
     );
-    solves = λ X F g. s.solves X F (solution_back inputs (kind_among kinds) f Q o X F g);
+    solves = λ X F g. s.solves X F (solution_back f.inputs (kind_among f.kinds) f Q o X F g);
     solved = λ X H h.
         let r = s.solved X H h in
-        (r.0, solution_there inputs (kind_among kinds) f Q o X r.0 r.1, r.2);
+        (r.0, solution_there f.inputs (kind_among f.kinds) f Q o X r.0 r.1, r.2);
     watched = λ X F g t lt.
         watched_there P f Q X F (history_of (layout P) X F) t
-        (s.watched X F (solution_back inputs (kind_among kinds) f Q o X F g) t lt);
-    memories = all_memories_there P (layout P) (kind_among kinds) f Q o s.memories;
+        (s.watched X F (solution_back f.inputs (kind_among f.kinds) f Q o X F g) t lt);
+    memories = all_memories_there P (layout P) (kind_among f.kinds) f Q o s.memories;
   }
 
   -- and so does the flat program that `order` makes of it
-  pub flat_in_order : (g : FlatProgram) → IsOrderOf f g → IsFlatOf P g inputs kinds
+  pub flat_in_order : (g : FlatProgram) → IsOrderOf f g → IsFlatOf P g
   flat_in_order g o =
-      subst (λ h. IsFlatOf P h inputs kinds) (sym o.same) (flat_ordered g.equations o.ordering)
+      subst (λ h. IsFlatOf P h) (sym o.same) (flat_ordered g.equations o.ordering)
 
   -- ## Histories
 
@@ -68,7 +66,7 @@ module _ (P : Program) (f : FlatProgram) (inputs kinds : List Kind)
   abbrev pub IsStreamed : Inputs → History → Type 0
   IsStreamed X H =
       (H.ticks Observer ≡ replicate (length X) true)
-      × (F : List Stream) × IsFlatSolution inputs (kind_among kinds) f X F
+      × (F : List Stream) × IsFlatSolution f.inputs (kind_among f.kinds) f X F
       × AreSame P (history_of (layout P) X F) H
 
   -- such are exactly the histories that solve the program
@@ -84,31 +82,31 @@ module _ (P : Program) (f : FlatProgram) (inputs kinds : List Kind)
 
   -- the solutions on the kinds of the program's inputs
   given : (X : Inputs) (F : List Stream) →
-      IsFlatSolution (input_kinds P) (kind_among kinds) f X F →
-      IsFlatSolution inputs (kind_among kinds) f X F
-  given X F g = subst (λ l. IsFlatSolution l (kind_among kinds) f X F) (sym s.signature) g
+      IsFlatSolution (input_kinds P) (kind_among f.kinds) f X F →
+      IsFlatSolution f.inputs (kind_among f.kinds) f X F
+  given X F g = subst (λ l. IsFlatSolution l (kind_among f.kinds) f X F) (sym s.signature) g
 
-  own_fitting : IsFitting (input_kinds P) s.fitting.0 (kind_among kinds) f.equations
+  own_fitting : IsFitting (input_kinds P) s.fitting.0 (kind_among f.kinds) f.equations
   own_fitting =
-      subst (λ l. IsFitting l s.fitting.0 (kind_among kinds) f.equations) s.signature s.fitting.1
+      subst (λ l. IsFitting l s.fitting.0 (kind_among f.kinds) f.equations) s.signature s.fitting.1
 
   own_solves :
       (X : Inputs) (F : List Stream) →
-      IsFlatSolution (input_kinds P) (kind_among kinds) f X F →
+      IsFlatSolution (input_kinds P) (kind_among f.kinds) f X F →
       Solves P X (history_of (layout P) X F)
   own_solves X F g = s.solves X F (given X F g)
 
   own_solved :
       (X : Inputs) (H : History) → Solves P X H →
-      (F : List Stream) × IsFlatSolution (input_kinds P) (kind_among kinds) f X F
+      (F : List Stream) × IsFlatSolution (input_kinds P) (kind_among f.kinds) f X F
       × AreSame P (history_of (layout P) X F) H
   own_solved X H h =
       let r = s.solved X H h in
-      (r.0, subst (λ l. IsFlatSolution l (kind_among kinds) f X r.0) s.signature r.1, r.2)
+      (r.0, subst (λ l. IsFlatSolution l (kind_among f.kinds) f X r.0) s.signature r.1, r.2)
 
   own_watched :
       (X : Inputs) (F : List Stream) →
-      IsFlatSolution (input_kinds P) (kind_among kinds) f X F → (t : ℕ) → t < length X →
+      IsFlatSolution (input_kinds P) (kind_among f.kinds) f X F → (t : ℕ) → t < length X →
       IsWatched P f X F (history_of (layout P) X F) t
   own_watched X F g t lt = s.watched X F (given X F g) t lt
 
@@ -116,13 +114,13 @@ module _ (P : Program) (f : FlatProgram) (inputs kinds : List Kind)
     -- the verdict of a run is that of the program
     pub standing_verdict : (X : Inputs) → IsTrace P X → HasVerdict P X (flat_verdict f X)
     standing_verdict X trace =
-        run_verdict P (layout P) (kind_among kinds) f ready s.fitting.0 own_fitting own_solves
+        run_verdict P (layout P) (kind_among f.kinds) f ready s.fitting.0 own_fitting own_solves
         own_solved own_watched X trace
 
     -- inputs determine the history, instant by instant
     pub standing_determined : IsDetermined P
     standing_determined =
-        run_determined P (layout P) (kind_among kinds) f ready s.fitting.0 own_fitting own_solves
+        run_determined P (layout P) (kind_among f.kinds) f ready s.fitting.0 own_fitting own_solves
         own_solved own_watched
 
     -- the verdict of a recorded trace is the only one
@@ -131,5 +129,5 @@ module _ (P : Program) (f : FlatProgram) (inputs kinds : List Kind)
         k < length r.traces → (v : Verdict) → v ≡ flat_verdict f (inputs_of r k) →
         IsOnlyVerdict P (inputs_of r k) v
     standing_recorded r k same lawful below v e =
-        run_recorded P (layout P) (kind_among kinds) f ready s.fitting.0 own_fitting own_solves
+        run_recorded P (layout P) (kind_among f.kinds) f ready s.fitting.0 own_fitting own_solves
         own_solved own_watched s.accepted s.checked r k same lawful below v e

@@ -9,7 +9,7 @@ use Rattle.lb_syntax.specs.Lists.{◌>>=◌, Every, either_or, listed}
 use Rattle.lb_syntax.specs.Tree as tree
 use Rattle.lb_syntax.specs.Tree.{Name, Static, Named, Expr, Declaration, Node}
 use Rattle.lb_static.specs.Arithmetic.{is_int}
-use Rattle.lb_static.specs.DataTypes.{variables}
+use Rattle.lb_static.specs.DataTypes.{input_kinds, variables}
 use Rattle.lb_static.specs.Instances.{Program, Instance, instances}
 use Rattle.lb_static.specs.Instantiation.{static_refusal}
 use Rattle.lb_static.specs.InstanceTable.{IsTable}
@@ -25,6 +25,7 @@ use Rattle.lb_static.specs.declared.table.Table.{Table}
 use Rattle.lb_static.proofs.Members.{in_at}
 use Rattle.lb_check.specs.Acceptance.{check_refusal}
 use Rattle.lb_check.specs.Clocks.{declared_clock}
+use Rattle.lb_check.specs.Elements.{element_kinds}
 use Rattle.lb_check.specs.Occurrences.{Occurrence, node_occurrences}
 use Rattle.lb_check.specs.OwnClocks.{name_in}
 use Rattle.lb_check.proofs.ApartLists.{Every-at}
@@ -223,7 +224,8 @@ module _ (P : Program) (accepted : static_refusal P ≡ None) (checked : check_r
           let many = own.as_many in
           grind (arith, nat_tests)
 
-      has : HasVariables P here (cs k)
+      -- they stand where its instance puts them, on the clocks that it declares
+      pub has : HasVariables P here (cs k)
       has = record {
         places = λ x d e.
             (contexts k i here is).context.places (record { 0 = x }) (within_is x d e)
@@ -246,5 +248,7 @@ module _ (P : Program) (accepted : static_refusal P ≡ None) (checked : check_r
           ∙ ap (λ (m : Node). among d.name (clock_names m)) (sym node_is)
 
     -- what is emitted from the rows is the flat program of all instances
-    pub program_is : (count : ℕ) → whole r t cs count ≡ expanded (layout P) P count
+    pub program_is :
+        (count : ℕ) →
+        whole r t cs (input_kinds P) (element_kinds P) count ≡ expanded (layout P) P count
     program_is count = whole_is P r t reached table accepted cs has serves rows_are count

@@ -63,13 +63,12 @@ small_below m n e = by (nat_le m 65536) refl
 module _ {A : Type 0} (f : A → ℕ) where
   -- what is left after one row more
   pub less_left :
-      (xs : List A) (i : ℕ) (x : A) (a left size rest : ℕ) → i < length xs → x ≡ get_or xs i x →
-      left ≡ 65537 - (a + sum_by f (take i xs)) → size ≡ f x → rest ≡ left - size →
+      (xs : List A) (i : ℕ) (d : A) (a left size rest : ℕ) → i < length xs →
+      left ≡ 65537 - (a + sum_by f (take i xs)) → size ≡ f (get_or xs i d) → rest ≡ left - size →
       rest ≡ 65537 - (a + sum_by f (take (i + 1) xs))
-  less_left xs i x a left size rest lt is h own next =
-      let more = sum_by_more f xs i x lt in
-      let item = ap f is in
-      omega (arith, h, own, next, more, item)
+  less_left xs i d a left size rest lt h own next =
+      let more = sum_by_more f xs i d lt in
+      omega (arith, h, own, next, more)
 
   -- something is left where the sum is at most 65,536
   pub some_left :
@@ -150,18 +149,18 @@ module _ (P : Program) where
 
     -- the size that is counted tells whether the program is small
     pub counted_small :
-        (sizes : List ℕ) → HasTermSizes P r t sizes →
+        (sizes : ℕ → ℕ) → HasTermSizes P r t sizes →
         nat_le (element_total r t + term_total t sizes) 65536 ≡ is_small P
     counted_small sizes has =
         small_below (element_total r t + term_total t sizes) (size P)
-        (capped_sums (λ (i : row.Instance). get_or sizes i.specialization.0 0) parts_size
+        (capped_sums (λ (i : row.Instance). sizes i.specialization.0) parts_size
         t.instances.items (instances P) (rows_many P r t table) one (element_total r t)
         ∙ ap (λ n. min n 65537) (ap (λ n. n + sum_by parts_size (instances P)) total_is
         ∙ sym size_parts))
       where
         one : (j : ℕ) (i : row.Instance) (here : Instance) →
             slice_get t.instances.items j ≡ Some i → slice_get (instances P) j ≡ Some here →
-            get_or sizes i.specialization.0 0 ≡ min (parts_size here) 65537
+            sizes i.specialization.0 ≡ min (parts_size here) 65537
         one j i here e f =
             let shown = row_shown P r t table j i e in
             let same = some_same shown.0 here (sym shown.1.instance_is ∙ f) in

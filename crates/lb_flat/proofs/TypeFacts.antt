@@ -1,55 +1,29 @@
 -- What the types of an expression say of its parts, and how many scalar elements they have.
 use Rattle.std.proofs.Common.{◌≡◌, ◌⊎◌, inl, inr, ℤ, ℕ, suc, ◌+◌, ◌-◌, ◌*◌, ◌<◌, ◌≤◌, Bool, true}
 use Rattle.std.proofs.Common.{false, ◌&&◌, ◌||◌}
-use Rattle.std.proofs.Common.{nat_eq, nat_le, nat_lt, Option, Some, None, List, [], ◌∷◌, map, refl}
+use Rattle.std.proofs.Common.{nat_eq, nat_le, nat_lt, Option, Some, List, [], ◌∷◌, map, refl}
 use Rattle.std.proofs.Common.{sym, ap, ap₂, ◌∙◌, arith, add-mul, if◌then◌else◌}
-use Rattle.std.specs.List.{list_all}
 use Rattle.lb_syntax.specs.declared.tree.UnaryOperator.{UnaryOperator}
 use Rattle.lb_syntax.specs.declared.tree.UnaryOperator.TheVariants.{Not, Negate}
+pub use Rattle.lb_check.proofs.OperandTypes.{Bound, bound, some_same, single, Single, alone}
+pub use Rattle.lb_check.proofs.OperandTypes.{One, one, Two, two, Truths, from_true}
 use Rattle.lb_syntax.specs.declared.tree.BinaryOperator.{BinaryOperator}
 use Rattle.lb_syntax.specs.declared.tree.Kind.{Kind}
-use Rattle.lb_syntax.specs.Lists.{◌>>=◌, holds, where_true}
+use Rattle.lb_syntax.specs.Lists.{holds, where_true}
 use Rattle.lb_static.specs.Arithmetic.{is_int as is_in_range}
 use Rattle.lb_static.specs.DataTypes.{DataType, int, truth, is_kind, is_type, are_types, same_sizes}
 use Rattle.lb_static.specs.DataTypes.{product, element_count}
 use Rattle.lb_check.specs.Types.{is_arithmetic, is_logical, is_equality, are_ints, are_truths}
 use Rattle.lb_check.specs.Types.{unary_type, binary_type, common_type, array_of, element_with}
-use Rattle.lb_check.specs.Types.{element_of, index_type, slice_type, join_type, only, singly}
-use Rattle.lb_check.specs.Types.{from_one, from_two, from_truths, constant_type, symbol_types}
+use Rattle.lb_check.specs.Types.{element_of, index_type, slice_type, join_type, singly}
+use Rattle.lb_check.specs.Types.{constant_type, symbol_types}
 
 -- the scalar elements of some results
 abbrev pub elements_in : List DataType → ℕ
 elements_in [] = 0
 elements_in (t ∷ ts) = element_count t + elements_in ts
 
--- ## Inversions
-
-pub record Bound {A B : Type 0} (o : Option A) (f : A → Option B) (y : B) : Type 0 where
-  pub value : A
-  pub is : o ≡ Some value
-  pub gives : f value ≡ Some y
-
-pub bound :
-    {A B : Type 0} (o : Option A) (f : A → Option B) (y : B) → (o >>= f) ≡ Some y → Bound o f y
-bound None f y e = cc
-bound (Some x) f y e = record { value = x; is = refl; gives = e }
-
-pub some_same : {A : Type 0} (x y : A) → Some x ≡ Some y → x ≡ y
-some_same x y e = cc
-
-pub single : (ts : List DataType) (t : DataType) → only ts ≡ Some t → ts ≡ t ∷ []
-single [] t e = cc
-single (s ∷ []) t e = cc
-single (s ∷ (u ∷ ts)) t e = cc
-
-pub record Single (o : Option DataType) (ts : List DataType) : Type 0 where
-  pub data_type : DataType
-  pub is : o ≡ Some data_type
-  pub all : ts ≡ data_type ∷ []
-
-pub alone : (o : Option DataType) (ts : List DataType) → singly o ≡ Some ts → Single o ts
-alone None ts e = cc
-alone (Some t) ts e = record { data_type = t; is = refl; all = sym (some_same _ _ e) }
+-- ## Tests
 
 pub record Truly {A : Type 0} (b : Bool) (x y : A) : Type 0 where
   pub holds : b ≡ true
@@ -100,75 +74,6 @@ and_first false b e = cc
 pub and_second : (a b : Bool) → (a && b) ≡ true → b ≡ true
 and_second true b e = e
 and_second false b e = cc
-
--- a result from an operand with one result
-pub record One (operand : Option (List DataType)) (f : DataType → Option DataType)
-    (ts : List DataType) :
-    Type 0 where
-  pub data_type : DataType
-  pub result : DataType
-  pub is : operand ≡ Some (data_type ∷ [])
-  pub gives : f data_type ≡ Some result
-  pub all : ts ≡ result ∷ []
-
-pub one :
-    (o : Option (List DataType)) (f : DataType → Option DataType) (ts : List DataType) →
-    from_one o f ≡ Some ts → One o f ts
-one o f ts e =
-    let b = bound (o >>= only) _ ts e in
-    let a = bound o only b.value b.is in
-    let r = alone (f b.value) ts b.gives in
-    record {
-      data_type = b.value;
-      result = r.data_type;
-      is = a.is ∙ ap Some (single a.value b.value a.gives);
-      gives = r.is;
-      all = r.all;
-    }
-
--- and from two
-pub record Two (left right : Option (List DataType)) (f : DataType → DataType → Option DataType)
-    (ts : List DataType) : Type 0 where
-  pub first : DataType
-  pub second : DataType
-  pub result : DataType
-  pub is_first : left ≡ Some (first ∷ [])
-  pub is_second : right ≡ Some (second ∷ [])
-  pub gives : f first second ≡ Some result
-  pub all : ts ≡ result ∷ []
-
-pub two :
-    (o p : Option (List DataType)) (f : DataType → DataType → Option DataType) (ts : List DataType)
-    →
-    from_two o p f ≡ Some ts → Two o p f ts
-two o p f ts e =
-    let b = bound (o >>= only) _ ts e in
-    let a = bound o only b.value b.is in
-    let d = bound (p >>= only) _ ts b.gives in
-    let c = bound p only d.value d.is in
-    let r = alone (f b.value d.value) ts d.gives in
-    record {
-      first = b.value;
-      second = d.value;
-      result = r.data_type;
-      is_first = a.is ∙ ap Some (single a.value b.value a.gives);
-      is_second = c.is ∙ ap Some (single c.value d.value c.gives);
-      gives = r.is;
-      all = r.all;
-    }
-
-pub record Truths (o : Option (List DataType)) (ts : List DataType) : Type 0 where
-  pub data_types : List DataType
-  pub is : o ≡ Some data_types
-  pub truths : list_all (is_type truth) data_types ≡ true
-  pub all : ts ≡ truth ∷ []
-
-pub from_true :
-    (o : Option (List DataType)) (ts : List DataType) → from_truths o ≡ Some ts → Truths o ts
-from_true o ts e =
-    let b = bound o _ ts e in
-    let t = truly (list_all (is_type truth) b.value) (truth ∷ []) ts b.gives in
-    record { data_types = b.value; is = b.is; truths = t.holds; all = sym t.same }
 
 -- ## Scalars
 

@@ -19,12 +19,13 @@ use Rattle.lb_check.specs.Occurrences.{at, call_count, occurrences, occurrences_
 use Rattle.lb_check.specs.Occurrences.{statement_clock, right_sides}
 use Rattle.lb_check.specs.Scalars.{Stream}
 use Rattle.lb_check.specs.Streams.{History, argument_streams}
+use Rattle.lb_check.proofs.OperandTypes.{first_of_all}
 use Rattle.lb_flat.proofs.Lists.{Every-first, Every-second}
 use Rattle.lb_flat.proofs.Placing.{AreAsWide}
 use Rattle.lb_flat.proofs.Bodies.{IsWide, occurrences_of}
 use Rattle.lb_flat.proofs.TypeFacts.{elements_in, bound, are_counts, and_first, and_second}
 use Rattle.lb_flat.proofs.OutputWidths.{found_in, each, width_of}
-use Rattle.lb_flat.proofs.Widths.{AreVariablesWide, IsOccurrenceWide, first_of_all, only_one, wide}
+use Rattle.lb_flat.proofs.Widths.{AreVariablesWide, IsOccurrenceWide, only_one, wide}
 
 -- ## Names
 
@@ -176,13 +177,13 @@ module _ (P : Program) (H : History) (here : Instance)
       map length (argument_streams P H here ks n es) ≡ map element_count ts
   arguments_wide ks n Nil ts h le w = let none : [] ≡ ts = cc in ap (map element_count) none
   arguments_wide [] n (Cons e es) ts h le w =
-      let i = first_of_all P H here e es ts h in
+      let i = first_of_all P here e es ts h in
       absurd (omega (arith, le, ap length i.all))
   arguments_wide (k ∷ ks) n (Cons e es) ts h le w =
       let m = n + call_count e in
       let oa = occurrences P here.node k n e in
       let ob = occurrences_each P here.node ks m es in
-      let i = first_of_all P H here e es ts h in
+      let i = first_of_all P here e es ts h in
       ap₂ (λ x xs. x ∷ xs)
       (only_one P H here _ i.first
       (wide P H here variables_wide k n e (i.first ∷ []) i.is

@@ -14,9 +14,10 @@ use Rattle.lb_check.specs.Clocks.{Clock, clock_of, clock_or, declared_clock}
 use Rattle.lb_check.specs.Occurrences.{Occurrence, call_count, call_clocks, occurrences}
 use Rattle.lb_check.specs.Occurrences.{occurrences_in, occurrences_each}
 use Rattle.lb_check.specs.Streams.{History}
+use Rattle.lb_check.proofs.OperandTypes.{first_of_all}
 use Rattle.lb_flat.proofs.Lists.{Every-append, Every-first, Every-second}
 use Rattle.lb_flat.proofs.TypeFacts.{bound, one, two, from_true}
-use Rattle.lb_flat.proofs.Widths.{IsOccurrenceWide, first_of_all}
+use Rattle.lb_flat.proofs.Widths.{IsOccurrenceWide}
 
 module _ (P : Program) (H : History) (here : Instance) where
   -- an occurrence has types, and what is called in it is as wide as its types
@@ -162,7 +163,7 @@ module _ (P : Program) (H : History) (here : Instance) where
         AllWide (occurrences_in P here.node k n es) → AllTyped (occurrences_in P here.node k n es)
     typed_all k n Nil ts h w = tt
     typed_all k n (Cons e es) ts h w =
-        let i = first_of_all P H here e es ts h in
+        let i = first_of_all P here e es ts h in
         let oa = occurrences P here.node k n e in
         let ob = occurrences_in P here.node k (n + call_count e) es in
         join oa ob (typed k n e (i.first ∷ []) i.is (fore oa ob w))
@@ -175,7 +176,7 @@ module _ (P : Program) (H : History) (here : Instance) where
     typed_each ks n Nil ts h w = tt
     typed_each [] n (Cons e es) ts h w = tt
     typed_each (k ∷ ks) n (Cons e es) ts h w =
-        let i = first_of_all P H here e es ts h in
+        let i = first_of_all P here e es ts h in
         let oa = occurrences P here.node k n e in
         let ob = occurrences_each P here.node ks (n + call_count e) es in
         join oa ob (typed k n e (i.first ∷ []) i.is (fore oa ob w))

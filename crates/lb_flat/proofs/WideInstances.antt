@@ -1,10 +1,8 @@
 -- In an accepted program whose rules hold, what each call of an instance calls is as wide as its
 -- types, in a history that has a stream for each element of a variable.
-use Rattle.std.proofs.Common.{◌≡◌, ℕ, ◌+◌, ◌<◌, ◌≤◌, true, Option, Some, None, List, [], ◌∷◌}
-use Rattle.std.proofs.Common.{length, refl, ap, sym, subst, ◌∙◌}
-use Rattle.std.specs.List.{list_all}
-use Rattle.lb_syntax.specs.Lists.{Every, In, either_or}
-use Rattle.lb_syntax.specs.Refusals.{E9, unless}
+use Rattle.std.proofs.Common.{◌≡◌, ℕ, ◌≤◌, Some, None}
+use Rattle.std.proofs.Common.{length, refl}
+use Rattle.lb_syntax.specs.Lists.{Every, In}
 use Rattle.lb_syntax.specs.Tree.{Node_named, Symbol, Expr, Literal, Truth, Variable, Group, Unary}
 use Rattle.lb_syntax.specs.Tree.{Binary, If, Arrow, Fby, Pre, Current, When, Replicate, Index}
 use Rattle.lb_syntax.specs.Tree.{Slice, Join, Array, AtMostOne, Nor, Call, Iterate}
@@ -12,24 +10,16 @@ use Rattle.lb_static.specs.Instances.{Program, Instance, Site, node_sites, numbe
 use Rattle.lb_static.specs.Instances.{instances}
 use Rattle.lb_static.specs.Instantiation.{level, static_refusal}
 use Rattle.lb_static.specs.DataTypes.{variables, width}
-use Rattle.lb_check.specs.Acceptance.{check_refusal}
-use Rattle.lb_check.specs.Occurrences.{Occurrence, node_occurrences}
+use Rattle.lb_check.specs.Occurrences.{node_occurrences}
 use Rattle.lb_check.specs.Streams.{History}
-use Rattle.lb_check.specs.TypeRules.{is_typed}
+pub use Rattle.lb_check.proofs.AcceptedRules.{all_typed}
 use Rattle.lb_check.proofs.ApartLists.{Every-at, Every-from}
-use Rattle.lb_check.proofs.Checks.{first_none, kept, instantiation_kept}
+use Rattle.lb_check.proofs.Checks.{instantiation_kept}
 use Rattle.lb_check.proofs.DeterminedClocks.{OfCalled}
-use Rattle.lb_check.proofs.Every.{Every-map, Every-both, Every-tested}
+use Rattle.lb_check.proofs.Every.{Every-map, Every-both}
 use Rattle.lb_check.proofs.OccurrenceSites.{own_site, node_calls}
-use Rattle.lb_check.proofs.SameInstances.{IsEntered, all_entered, Low, all_children, all_called}
+use Rattle.lb_check.proofs.SameInstances.{IsEntered, all_entered, all_children, all_called}
 use Rattle.lb_flat.proofs.Widths.{AreVariablesWide, IsWideAt, IsOccurrenceWide}
-
--- each instance keeps the rules of types
-pub all_typed :
-    (P : Program) → check_refusal P ≡ None → Every (λ here. is_typed P here ≡ true) (instances P)
-all_typed P checked =
-    Every-tested (is_typed P) (instances P)
-    (kept (list_all (is_typed P) (instances P)) E9 (first_none _ _ checked))
 
 module _ (P : Program) (H : History) (here : Instance) where
   -- what is called at a number is as wide as its types

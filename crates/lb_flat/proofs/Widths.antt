@@ -1,9 +1,9 @@
 -- An expression has as many streams as its types have scalar elements.
-use Rattle.std.proofs.Common.{◌≡◌, ℕ, suc, ◌+◌, ◌-◌, ◌*◌, ◌<◌, ◌≤◌, true, ◌&&◌, ◌⊎◌, inl, inr, ℤ}
-use Rattle.std.proofs.Common.{pos, Option, Some, None, IfSome, option_map, List, [], ◌∷◌, ◌++◌, map}
+use Rattle.std.proofs.Common.{◌≡◌, ℕ, suc, ◌+◌, ◌-◌, ◌*◌, ◌<◌, ◌≤◌, true, ◌&&◌, ◌⊎◌, inl, inr, pos}
+use Rattle.std.proofs.Common.{Option, Some, None, IfSome, option_map, List, [], ◌∷◌, ◌++◌, map}
 use Rattle.std.proofs.Common.{length, take, drop, flat_map, refl, sym, ap, ap₂, ◌∙◌, arith}
 use Rattle.std.proofs.Common.{length-append}
-use Rattle.std.specs.List.{list_all, zip}
+use Rattle.std.specs.List.{list_all}
 use Rattle.std.specs.Str.{bytes_eq}
 use Rattle.std.proofs.lemmas.List.{length-map}
 use Rattle.lb_syntax.specs.declared.tree.BinaryOperator.{BinaryOperator}
@@ -16,85 +16,31 @@ use Rattle.lb_syntax.specs.Tree.{Group, Unary, Binary, If, Arrow, Fby, Pre, Curr
 use Rattle.lb_syntax.specs.Tree.{Replicate, Index, Slice, Join, Array, AtMostOne, Nor, Call}
 use Rattle.lb_syntax.specs.Tree.{Iterate, Exprs, Nil, Cons, Declaration, Node}
 use Rattle.lb_static.specs.Instances.{Program, Instance, Child, static_count, call_site, callee_of}
-use Rattle.lb_static.specs.Instances.{node_named, name_value, static_value}
+use Rattle.lb_static.specs.Instances.{node_named, name_value}
 use Rattle.lb_static.specs.DataTypes.{DataType, int, truth, variables, width, variable_type}
-use Rattle.lb_static.specs.DataTypes.{element_count, product, input_types, output_types, is_type}
-use Rattle.lb_static.specs.DataTypes.{are_types}
+use Rattle.lb_static.specs.DataTypes.{element_count, product, is_type, are_types}
 use Rattle.lb_check.specs.Types.{data_types, all_types, only, singly, list_type, from_one}
 use Rattle.lb_check.specs.Types.{from_truths, name_data_type, array_of, operator_types}
-use Rattle.lb_check.specs.Types.{iterator_types, map_types, red_types, fill_types, unary_type}
-use Rattle.lb_check.specs.Types.{binary_type, common_type, index_type, slice_type, join_type}
-use Rattle.lb_check.specs.Types.{constant_type, is_arithmetic, is_logical}
+use Rattle.lb_check.specs.Types.{iterator_types, map_types, unary_type, binary_type, common_type}
+use Rattle.lb_check.specs.Types.{index_type, slice_type, join_type, constant_type, is_arithmetic}
+use Rattle.lb_check.specs.Types.{is_logical}
 use Rattle.lb_check.specs.Scalars.{Stream, or_fault}
 use Rattle.lb_check.specs.Clocks.{Clock, clock_of, clock_or, declared_clock}
 use Rattle.lb_check.specs.Occurrences.{Occurrence, call_count, occurrences, occurrences_in}
 use Rattle.lb_check.specs.Streams.{History, presence, constantly, gathered, last_of, iterated}
 use Rattle.lb_check.specs.Streams.{symbols, streams, all_streams, number, part_count, outputs_of}
 use Rattle.lb_check.specs.Streams.{data_type}
+use Rattle.lb_check.proofs.OperandTypes.{first_of_all}
+pub use Rattle.lb_check.proofs.OperandTypes.{Called, called, Placed, placed}
 use Rattle.lb_flat.proofs.Lists.{length-zips, Every-first, Every-second}
 use Rattle.lb_flat.proofs.TypeFacts.{One, elements_in, bound, alone, one, two, from_true}
 use Rattle.lb_flat.proofs.TypeFacts.{unary_count, binary_count, alike, array_count, indexed, sliced}
 use Rattle.lb_flat.proofs.TypeFacts.{joined_count, truth_is, some_same, same_count, and_first}
-use Rattle.lb_flat.proofs.TypeFacts.{and_second, truly, single, are_counts, Symbolic, constant}
-use Rattle.lb_flat.proofs.TypeFacts.{symbolic}
+use Rattle.lb_flat.proofs.TypeFacts.{and_second, truly, are_counts, Symbolic, constant, symbolic}
 use Rattle.lb_flat.proofs.OutputWidths.{length-copies, length-choices, length-part, length-index}
 use Rattle.lb_flat.proofs.OutputWidths.{found_in, each, arrays_count, width_of, outputs_wide}
 use Rattle.lb_flat.proofs.OutputWidths.{gathered_wide, last_wide}
-
--- ## What is called
-
--- the instance of a call, and the types of its inputs and outputs
-pub record Called (P : Program) (here : Instance) (f : Name) (statics : List Static)
-    (types : List DataType × List DataType) : Type 0 where
-  pub callee : Instance
-  pub is : callee_of P here (call_site f statics) 0 0 ≡ Some callee
-  pub inputs : input_types P callee ≡ Some types.0
-  pub outputs : output_types P callee ≡ Some types.1
-
-pub called :
-    (P : Program) (here : Instance) (f : Name) (statics : List Static)
-    (types : List DataType × List DataType) →
-    operator_types P here (Node_named f statics) ≡ Some types → Called P here f statics types
-called P here f statics types e =
-    let c = bound (callee_of P here (call_site f statics) 0 0) _ types e in
-    let ins = bound (input_types P c.value) _ types c.gives in
-    let outs = bound (output_types P c.value) _ types ins.gives in
-    let same : (ins.value, outs.value) ≡ types = some_same _ _ outs.gives in
-    record {
-      callee = c.value;
-      is = c.is;
-      inputs = ins.is ∙ ap (λ (t : List DataType × List DataType). Some t.0) same;
-      outputs = outs.is ∙ ap (λ (t : List DataType × List DataType). Some t.1) same;
-    }
-
--- the same instance at another place
-pub record Placed (P : Program) (here : Instance) (f : Name) (statics : List Static)
-    (c : Instance) : Type 0 where
-  pub node : node_named P f ≡ Some c.node
-  pub at : (n i : ℕ) →
-      callee_of P here (call_site f statics) n i
-      ≡ Some (record c { path = Child here.path n i })
-
-pub placed :
-    (P : Program) (here : Instance) (f : Name) (statics : List Static) (c : Instance) →
-    callee_of P here (call_site f statics) 0 0 ≡ Some c → Placed P here f statics c
-placed P here f statics c e =
-    let n = bound (node_named P f) _ c e in
-    let values = all_some (map (static_value P here) statics) in
-    let v = bound values _ c n.gives in
-    let same = some_same _ _ v.gives in
-    record {
-      node = n.is ∙ ap (λ (d : Instance). Some d.node) same;
-      at = λ call index.
-          ap₂ (λ (o : Option Node) (vs : Option (List ℤ)).
-          o >>= λ node. vs >>= λ values.
-          Some (record {
-            path = Child here.path call index;
-            node = node;
-            values = zip node.parameters values;
-          })) n.is v.is
-          ∙ ap (λ (d : Instance). Some (record d { path = Child here.path call index })) same;
-    }
+use Rattle.lb_flat.proofs.IteratedTypes.{red_of, fill_of}
 
 module _ (P : Program) (H : History) (here : Instance) where
   -- the variables of an instance are as wide as their types
@@ -248,52 +194,6 @@ module _ (P : Program) (H : History) (here : Instance) where
       let h = truly (are_types w.value args) outs b.value b.is in
       arrays_count n b.value ts b.gives ∙ sym (ap (λ us. n * elements_in us) h.same)
 
-  record Reduced (outs ts : List DataType) : Type 0 where
-    out : DataType
-    outs_is : outs ≡ out ∷ []
-    ts_is : ts ≡ out ∷ []
-
-  red_of :
-      (n : ℕ) (ins outs args ts : List DataType) → red_types n ins outs args ≡ Some ts →
-      Reduced outs ts
-  red_of n [] outs args ts e = cc
-  red_of n (a ∷ ins) [] args ts e = cc
-  red_of n (a ∷ ins) (o ∷ (p ∷ outs)) args ts e = cc
-  red_of n (a ∷ ins) (o ∷ []) [] ts e = cc
-  red_of n (a ∷ ins) (o ∷ []) (i ∷ args) ts e =
-      let w = bound (all_some (map (array_of n) ins)) _ ts e in
-      let h = truly _ (o ∷ []) ts w.gives in
-      record { out = o; outs_is = refl; ts_is = sym h.same }
-
-  record Filled (n : ℕ) (outs ts : List DataType) : Type 0 where
-    out : DataType
-    others : List DataType
-    arrays : List DataType
-    outs_is : outs ≡ out ∷ others
-    ts_is : ts ≡ out ∷ arrays
-    count : elements_in arrays ≡ n * elements_in others
-
-  fill_of :
-      (n : ℕ) (ins outs args ts : List DataType) → fill_types n ins outs args ≡ Some ts →
-      Filled n outs ts
-  fill_of n [] outs args ts e = cc
-  fill_of n (a ∷ (b ∷ ins)) outs args ts e = cc
-  fill_of n (a ∷ []) [] args ts e = cc
-  fill_of n (a ∷ []) (o ∷ []) args ts e = cc
-  fill_of n (a ∷ []) (o ∷ (p ∷ outs)) [] ts e = cc
-  fill_of n (a ∷ []) (o ∷ (p ∷ outs)) (i ∷ (j ∷ args)) ts e = cc
-  fill_of n (a ∷ []) (o ∷ (p ∷ outs)) (i ∷ []) ts e =
-      let w = bound (all_some (map (array_of n) (p ∷ outs))) _ ts e in
-      let h = truly _ (o ∷ w.value) ts w.gives in
-      record {
-        out = o;
-        others = p ∷ outs;
-        arrays = w.value;
-        outs_is = refl;
-        ts_is = sym h.same;
-        count = arrays_count n (p ∷ outs) w.value w.is;
-      }
-
   -- outputs of a node whose first output and the others have these types
   iterated_by :
       (c : Instance) (outputs : ℕ → Name → List Stream) (n : ℕ) → 0 < n →
@@ -326,7 +226,7 @@ module _ (P : Program) (H : History) (here : Instance) where
         length-append (last_of outputs n (d ∷ ds)) (gathered outputs n ds),
         last,
         rest,
-        f.count,
+        arrays_count n f.others f.arrays f.gives,
       )
       ∙ sym (ap elements_in f.ts_is)
     where
@@ -470,29 +370,6 @@ module _ (P : Program) (H : History) (here : Instance) where
       (number_is s c is_c) (number_is t d is_d)
       ∙ length-part q c (suc d - c) x.count xs all fits
       ∙ omega arith ∙ sym x.result) i.all
-
-  -- the types of some operands, and of the first one
-  pub record FirstOfAll (e : Expr) (es : Exprs) (ts : List DataType) : Type 0 where
-    pub first : DataType
-    pub rest : List DataType
-    pub is : data_types P here e ≡ Some (first ∷ [])
-    pub others : all_types P here es ≡ Some rest
-    pub all : ts ≡ first ∷ rest
-
-  pub first_of_all :
-      (e : Expr) (es : Exprs) (ts : List DataType) → all_types P here (Cons e es) ≡ Some ts →
-      FirstOfAll e es ts
-  first_of_all e es ts h =
-      let b = bound (data_types P here e >>= only) _ ts h in
-      let a = bound (data_types P here e) only b.value b.is in
-      let r = bound (all_types P here es) _ ts b.gives in
-      record {
-        first = b.value;
-        rest = r.value;
-        is = a.is ∙ ap Some (single a.value b.value a.gives);
-        others = r.is;
-        all = sym (some_same _ _ r.gives);
-      }
 
   module _ (variables_wide : AreVariablesWide here) where
     mutual
@@ -658,7 +535,7 @@ module _ (P : Program) (H : History) (here : Instance) where
           let m = n + call_count e in
           let oa = occurrences P here.node k n e in
           let ob = occurrences_in P here.node k m es in
-          let i = first_of_all e es ts h in
+          let i = first_of_all P here e es ts h in
           ap₂ (λ x xs. x ∷ xs)
           (only_one _ i.first (wide k n e (i.first ∷ []) i.is (fore oa ob w)))
           (all_wide k m es i.rest i.others (aft oa ob w))

@@ -1,7 +1,8 @@
 -- The variables of a node that serve as clocks, by number: some declared clock or some `when` of
 -- the node names them.
 -- This file mirrors code (src/expand/clock_uses.rt); no definition of the language stands on it.
-use Rattle.std.specs.Prelude.{ℕ, ◌==◌, Bool, List, [], ◌∷◌, ◌++◌, flat_map, length}
+use Rattle.std.specs.Prelude.{◌≡◌, ◌<◌, ℕ, ◌==◌, Bool, false, List, [], ◌∷◌, ◌++◌, flat_map}
+use Rattle.std.specs.Prelude.{get_or, length}
 use Rattle.std.specs.List.{range_with_len, list_any, filter}
 use Rattle.lb_syntax.specs.Lists.{listed}
 use Rattle.lb_static.specs.declared.resolved.ResolvedNode.{ResolvedNode}
@@ -71,3 +72,16 @@ is_among xs x = list_any (λ y. y == x) xs
 -- those that serve as clocks, in the order of their declarations
 abbrev pub clock_numbers : ResolvedNode → List ℕ
 clock_numbers n = filter (is_among (clocks_named n)) (range_with_len 0 (length n.variables.items))
+
+-- of the first so many variables, those that have a flag
+abbrev pub flagged_below : List Bool → ℕ → List ℕ
+flagged_below flags n = filter (λ x. get_or flags x false) (range_with_len 0 n)
+
+-- of all
+abbrev pub flagged : List Bool → List ℕ
+flagged flags = flagged_below flags (length flags)
+
+-- each of so many variables has a flag: whether it is among these
+pub record HasFlags (count : ℕ) (names : List ℕ) (flags : List Bool) : Type 0 where
+  pub long : length flags ≡ count
+  pub flag : (x : ℕ) → x < count → get_or flags x false ≡ is_among names x

@@ -18,15 +18,17 @@ use Rattle.lb_syntax.specs.Tree.{Nil, Cons, Declaration, Node, Statement, Equati
 use Rattle.lb_static.specs.StaticValues.{named}
 use Rattle.lb_static.specs.Instances.{Program, Instance, Path, Root, Observer, Child, name_value}
 use Rattle.lb_static.specs.Instances.{node_named, instance_at, instances}
-use Rattle.lb_static.specs.DataTypes.{variables}
+use Rattle.lb_static.specs.DataTypes.{variables, input_kinds}
 use Rattle.lb_check.specs.Scalars.{Integer, Boolean, or_fault, first_value}
 use Rattle.lb_check.specs.Clocks.{Clock, On, clock_of, clock_or, declared_clock}
+use Rattle.lb_check.specs.Elements.{element_kinds}
 use Rattle.lb_check.specs.Occurrences.{call_count, call_clocks, statement_clock}
 use Rattle.lb_check.specs.Streams.{part_count, number, outputs_of, iterated}
 use Rattle.lb_check.specs.Solutions.{iterator_inputs}
 use Rattle.lb_check.specs.Verdicts.{property_path, clock_variables}
 use Rattle.lb_flat.specs.Flat.{FlatClock, Operation, Input, Constant, Copy, ApplyUnary, ApplyBinary}
 use Rattle.lb_flat.specs.Flat.{Choose, FirstThen, Previous, Latest, Sample, FlatEquation}
+use Rattle.lb_flat.specs.FurtherKinds.{kinds_from}
 use Rattle.lb_flat.specs.Judging.{FlatProgram}
 use Rattle.lb_flat.specs.Layouts.{Layout, flat_clock}
 
@@ -366,6 +368,8 @@ expanded Y P count =
     let root = instance_at P Root in
     let observer = instance_at P Observer in
     record {
+      inputs = input_kinds P;
+      kinds = element_kinds P ++ kinds_from (element_kinds P) s.equations;
       equations =
           given_inputs Y root ++ (observed Y root observer ++ (s.copies ++ s.equations));
       size = s.next;

@@ -2,7 +2,7 @@
 -- that are emitted for resolved terms, where what a number stands for is had from a context.
 -- It is `Emit` with numbers for names. Terms and calls are counted as they come, in text order, and
 -- parentheses are none; the operands of a row give one list of elements.
-use Rattle.std.specs.Prelude.{ℕ, zero, suc, ◌+◌, ◌-◌, ◌*◌, Bool, false, nat_le, pos, Option, Some}
+use Rattle.std.specs.Prelude.{ℕ, zero, suc, ◌-◌, ◌*◌, Bool, false, nat_le, pos, Option, Some}
 use Rattle.std.specs.Prelude.{None, List, [], ◌∷◌, ◌++◌, length, map, take, drop, flat_map}
 use Rattle.std.specs.Prelude.{if◌then◌else◌}
 use Rattle.std.specs.List.{range_with_len}
@@ -21,7 +21,7 @@ use Rattle.lb_static.specs.declared.resolved.Term.{IterateNode', IterateSymbol',
 use Rattle.lb_static.specs.declared.resolved.Term.{end_of-Term, more_of-Term}
 use Rattle.lb_check.specs.Scalars.{Scalar, Integer, Boolean, Bad, first_value}
 use Rattle.lb_flat.specs.declared.expand.frame.Callee.{Callee}
-use Rattle.lb_flat.specs.Flat.{FlatClock, Operation, Constant, ApplyUnary, ApplyBinary, Choose}
+use Rattle.lb_flat.specs.Flat.{FlatClock, Operation, Constant, ApplyUnary, ApplyBinary}
 use Rattle.lb_flat.specs.Flat.{FirstThen, Previous, Latest, Sample, FlatEquation}
 use Rattle.lb_flat.specs.Emit.{State, Emitted, gives, add, keep, assert, joins, chosen_by, chained}
 use Rattle.lb_flat.specs.Emit.{emit_nor, emit_at_most_one, Target, copied}

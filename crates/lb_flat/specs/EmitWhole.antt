@@ -1,10 +1,12 @@
 -- The whole flat program that `expand` emits from the rows of the table of instances.
--- This file mirrors code (src/expand/start_emission.rt, src/expand/whole_emission.rt); no
--- definition of the language stands on it.
-use Rattle.std.specs.Prelude.{ℕ, suc, ◌+◌, Bool, true, false, Option, Some, None, List, [], ◌∷◌}
-use Rattle.std.specs.Prelude.{◌++◌, map, flat_map, get_or, option_map, if◌then◌else◌}
+-- This file mirrors code (src/expand/start_emission.rt, begin_emission.rt, clock_emission.rt and
+-- whole_emission.rt); no definition of the language stands on it.
+use Rattle.std.specs.Prelude.{◌≡◌, ◌<◌, ℕ, suc, ◌+◌, ◌^◌, Bool, true, false, Option, Some, None}
+use Rattle.std.specs.Prelude.{List, [], ◌∷◌, ◌++◌, map, flat_map, get_or, length, option_map}
+use Rattle.std.specs.Prelude.{if◌then◌else◌}
 use Rattle.std.specs.List.{range_with_len}
 use Rattle.lb_syntax.specs.Lists.{or_else, listed}
+use Rattle.lb_syntax.specs.declared.tree.Kind.{Kind}
 use Rattle.lb_static.specs.declared.reach.Reached.{Reached}
 use Rattle.lb_static.specs.declared.resolved.ResolvedNode.{ResolvedNode}
 use Rattle.lb_static.specs.declared.table.Instance as row
@@ -17,6 +19,7 @@ use Rattle.lb_flat.specs.Emit.{Target, copied, from_inputs, before_instances}
 use Rattle.lb_flat.specs.EmitRows.{node_in, bodies}
 use Rattle.lb_flat.specs.EmitTerms.{Context, emit_rows}
 use Rattle.lb_flat.specs.Flat.{FlatClock, FlatEquation, Input}
+use Rattle.lb_flat.specs.FurtherKinds.{kinds_from}
 use Rattle.lb_flat.specs.Judging.{FlatProgram}
 
 -- ## Variables of a row
@@ -72,6 +75,10 @@ module _ (cs : ℕ → Context) where
       (places_from (cs root.row) 0 (root.inputs + root.outputs))
   observed_at root o = []
 
+  -- what begins a flat program
+  abbrev pub begun_at : Option Start → Option Start → List FlatEquation
+  begun_at root o = given_at root ++ observed_at root o
+
   -- the elements of outputs
   abbrev pub outputs_at : Option Start → List ℕ
   outputs_at None = []
@@ -81,6 +88,12 @@ module _ (cs : ℕ → Context) where
   abbrev pub clocks_in : Reached → Table → ℕ → row.Instance → List ℕ
   clocks_in r t j i = listed (λ n. flat_map (cs j).places (clock_numbers n)) (node_in r t i)
 
+-- a row that starts can be entered, and its inputs and outputs can be counted
+pub record IsReady (cs : ℕ → Context) (is_row : ℕ → Bool) (s : Start) : Type 0 where
+  pub there : is_row s.row ≡ true
+  pub inputs_counted : length (parameter_targets (cs s.row) s.inputs) < 2 ^ 32
+  pub all_counted : s.inputs + s.outputs < 2 ^ 64
+
 -- of these rows, the first of which has this number
 unfoldable pub row_clocks : Reached → Table → (ℕ → Context) → ℕ → List row.Instance → List ℕ
 row_clocks r t cs j [] = []
@@ -88,12 +101,16 @@ row_clocks r t cs j (i ∷ rows) = clocks_in cs r t j i ++ row_clocks r t cs (su
 
 -- ## The whole program
 
-abbrev pub whole : Reached → Table → (ℕ → Context) → ℕ → FlatProgram
-whole r t cs count =
+-- on inputs of these kinds, where so many elements are those of variables, which have these kinds
+abbrev pub whole :
+    Reached → Table → (ℕ → Context) → (inputs kinds : List Kind) → ℕ → FlatProgram
+whole r t cs inputs kinds count =
     let s = emit_rows (before_instances count) (bodies r t cs 0 t.instances.items) in
     let root = start_in r t false in
     let observer = start_in r t true in
     record {
+      inputs = inputs;
+      kinds = kinds ++ kinds_from kinds s.equations;
       equations =
           given_at cs root ++ (observed_at cs root observer ++ (s.copies ++ s.equations));
       size = s.next;

@@ -1,7 +1,6 @@
--- When a flat program, whose inputs and whose elements are of these kinds, stands for a program.
+-- When a flat program stands for a program.
 -- Source: this project's rule.
 use Rattle.std.specs.Prelude.{◌≡◌, ℕ, ◌<◌, None, List, length, take}
-use Rattle.lb_syntax.specs.declared.tree.Kind.{Kind}
 use Rattle.lb_static.specs.DataTypes.{input_kinds}
 use Rattle.lb_static.specs.Instances.{Program}
 use Rattle.lb_static.specs.Instantiation.{static_refusal}
@@ -24,22 +23,22 @@ use Rattle.lb_flat.specs.NumberedLayouts.{layout}
 -- flat program, with presence and kinds, and the histories that solve the program on a trace, are
 -- the same; what decides a verdict is watched; and the memories of all operators stand in the flat
 -- program
-pub record IsFlatOf (P : Program) (f : FlatProgram) (inputs kinds : List Kind) : Type 0 where
+pub record IsFlatOf (P : Program) (f : FlatProgram) : Type 0 where
   pub accepted : static_refusal P ≡ None
   pub checked : check_refusal P ≡ None
-  pub signature : inputs ≡ input_kinds P
+  pub signature : f.inputs ≡ input_kinds P
   pub variables : f.variables ≡ length (program_elements P)
-  pub as_many : length kinds ≡ f.size
-  pub variable_kinds : take f.variables kinds ≡ element_kinds P
-  pub fitting : (K : ℕ → FlatClock) × IsFitting inputs K (kind_among kinds) f.equations
+  pub as_many : length f.kinds ≡ f.size
+  pub variable_kinds : take f.variables f.kinds ≡ element_kinds P
+  pub fitting : (K : ℕ → FlatClock) × IsFitting f.inputs K (kind_among f.kinds) f.equations
   pub solves :
-      (X : Inputs) (F : List Stream) → IsFlatSolution inputs (kind_among kinds) f X F →
+      (X : Inputs) (F : List Stream) → IsFlatSolution f.inputs (kind_among f.kinds) f X F →
       Solves P X (history_of (layout P) X F)
   pub solved :
       (X : Inputs) (H : History) → Solves P X H →
-      (F : List Stream) × IsFlatSolution inputs (kind_among kinds) f X F
+      (F : List Stream) × IsFlatSolution f.inputs (kind_among f.kinds) f X F
       × AreSame P (history_of (layout P) X F) H
   pub watched :
-      (X : Inputs) (F : List Stream) → IsFlatSolution inputs (kind_among kinds) f X F →
+      (X : Inputs) (F : List Stream) → IsFlatSolution f.inputs (kind_among f.kinds) f X F →
       (t : ℕ) → t < length X → IsWatched P f X F (history_of (layout P) X F) t
-  pub memories : HasAllMemories P (layout P) (kind_among kinds) f
+  pub memories : HasAllMemories P (layout P) (kind_among f.kinds) f

@@ -1,17 +1,15 @@
--- When a flat program stands for a program.
+-- What the streams of a flat program say of a program: its history, and what decides a verdict.
 -- Source: this project's rule.
-use Rattle.std.specs.Prelude.{◌≡◌, ℕ, ◌<◌, None, List, [], ◌∷◌, map, length, true}
+use Rattle.std.specs.Prelude.{◌≡◌, ℕ, List, [], ◌∷◌, map, true}
 use Rattle.lb_syntax.specs.Lists.{Every}
 use Rattle.lb_static.specs.Instances.{Program}
 use Rattle.lb_static.specs.DataTypes.{input_kinds}
-use Rattle.lb_static.specs.Instantiation.{static_refusal}
-use Rattle.lb_check.specs.Acceptance.{check_refusal}
 use Rattle.lb_check.specs.Scalars.{Stream}
 use Rattle.lb_check.specs.Streams.{History}
-use Rattle.lb_check.specs.Solutions.{Inputs, is_row, Solves, AreSame}
+use Rattle.lb_check.specs.Solutions.{Inputs, is_row}
 use Rattle.lb_check.specs.Verdicts.{is_bad, is_nil, is_false, some_at, is_fault, is_undefined}
 use Rattle.lb_check.specs.Verdicts.{is_failed, is_violated}
-use Rattle.lb_flat.specs.Flat.{column, instants, FlatSolves}
+use Rattle.lb_flat.specs.Flat.{column, instants}
 use Rattle.lb_flat.specs.Layouts.{Layout}
 use Rattle.lb_flat.specs.Judging.{FlatProgram, named_elements, truth_elements}
 
@@ -36,21 +34,3 @@ pub record IsWatched (P : Program) (f : FlatProgram) (X : Inputs) (F : List Stre
       is_undefined P H t ≡ some_at is_nil t (map (column X F) (truth_elements f))
   pub failed : is_failed P H t ≡ some_at is_false t (map (column X F) f.asserted)
   pub violated : is_violated P H t ≡ some_at is_false t (map (column X F) (f.property ∷ []))
-
--- the program breaks no rule of names, static values, instances, types, clocks and definitions; the
--- histories that solve it on a trace, and the streams that solve the flat program, are the same;
--- and what decides a verdict is watched
-pub record IsFlatOf (P : Program) (f : FlatProgram) : Type 0 where
-  pub accepted : static_refusal P ≡ None
-  pub checked : check_refusal P ≡ None
-  pub layout : Layout
-  pub solves :
-      (X : Inputs) (F : List Stream) → IsTrace P X → FlatSolves f.size f.equations X F →
-      Solves P X (history_of layout X F)
-  pub solved :
-      (X : Inputs) (H : History) → Solves P X H →
-      (F : List Stream) × FlatSolves f.size f.equations X F
-      × AreSame P (history_of layout X F) H
-  pub watched :
-      (X : Inputs) (F : List Stream) → IsTrace P X → FlatSolves f.size f.equations X F →
-      (t : ℕ) → t < length X → IsWatched P f X F (history_of layout X F) t

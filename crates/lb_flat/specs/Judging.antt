@@ -2,6 +2,7 @@
 -- Source: this project's rule: that of verdicts, on the elements of a flat program.
 use Rattle.std.specs.Prelude.{ℕ, suc, Bool, Option, Some, List, [], ◌∷◌, ◌++◌, if◌then◌else◌}
 use Rattle.std.specs.List.{list_any, range_with_len}
+use Rattle.lb_syntax.specs.declared.tree.Kind.{Kind}
 use Rattle.lb_check.specs.declared.verdict.Verdict.{Verdict}
 use Rattle.lb_check.specs.declared.verdict.Verdict.TheVariants.{Passed, Fault, Undefined, Assertion}
 use Rattle.lb_check.specs.declared.verdict.Verdict.TheVariants.{False}
@@ -11,10 +12,12 @@ use Rattle.lb_check.specs.Verdicts.{is_bad, is_nil, is_false, or_later}
 use Rattle.lb_flat.specs.Flat.{FlatEquation}
 use Rattle.lb_flat.specs.Run.{Row, cell, run}
 
--- equations on so many elements, of which the first are those of variables; the elements that hold
--- the operands of memories, the variables that serve as clocks and the assertions, and that of the
--- property
+-- equations on so many elements, of which the first are those of variables, with the kinds of the
+-- inputs and of each element; the elements that hold the operands of memories, the variables that
+-- serve as clocks and the assertions, and that of the property
 pub record FlatProgram : Type 0 where
+  pub inputs : List Kind
+  pub kinds : List Kind
   pub equations : List FlatEquation
   pub size : ℕ
   pub variables : ℕ

@@ -1,6 +1,6 @@
 -- What a flat program of the code stands for, and when it can be run.
 -- Source: this project's rule.
-use Rattle.std.specs.Prelude.{ℕ, ◌<◌, ◌≤◌, List, [], map, All}
+use Rattle.std.specs.Prelude.{◌≡◌, ℕ, ◌<◌, ◌≤◌, List, [], length, map, All}
 use Rattle.lb_flat.specs.declared.equation.ElementId.{ElementId}
 use Rattle.lb_flat.specs.declared.equation.Clock.{Clock}
 use Rattle.lb_flat.specs.declared.equation.Equation.{Equation}
@@ -22,6 +22,8 @@ flat_equations clocks qs = map (equation_of clocks) qs
 -- a flat program
 abbrev pub program_of : FlatProgram → judging.FlatProgram
 program_of p = record {
+  inputs = p.inputs.items;
+  kinds = p.kinds.items;
   equations = flat_equations p.clocks.items p.equations.items;
   size = p.size;
   variables = p.variables;
@@ -31,8 +33,9 @@ program_of p = record {
   property = p.property.0;
 }
 
--- all numbers are those of elements, and of clocks of the table
+-- each element has a kind; all numbers are those of elements, and of clocks of the table
 pub record IsInRange (p : FlatProgram) : Type 0 where
+  pub kinds : length p.kinds.items ≡ p.size
   pub clocks : AreClocks p.size p.clocks.items
   pub equations : All (IsWithin p.size p.clocks.items) p.equations.items
   pub variables : p.variables ≤ p.size

@@ -1,17 +1,17 @@
 -- What the numbers in the text of a row's node stand for, as they are read of what is stored.
 -- This file mirrors code (src/row_frame.rt); no definition of the language stands on it.
-use Rattle.std.specs.Prelude.{◌≡◌, ℕ, ◌+◌, nat_le, ℤ, Option, Some, None}
+use Rattle.std.specs.Prelude.{◌≡◌, ℕ, ◌+◌, nat_le, ℤ, Bool, true, false, Option, Some, None}
 use Rattle.std.specs.Prelude.{option_map, List, [], length, get_or, slice_get}
 use Rattle.std.specs.Prelude.{if◌then◌else◌}
 use Rattle.lb_syntax.specs.Lists.{◌>>=◌, either_or, listed}
 use Rattle.lb_static.specs.Arithmetic.{is_int}
-use Rattle.lb_static.specs.declared.reach.Reached.{Reached}
 use Rattle.lb_static.specs.declared.resolved.ResolvedNode.{ResolvedNode}
 use Rattle.lb_static.specs.declared.table.Specialization.{Specialization}
-use Rattle.lb_static.specs.declared.table.Table.{Table}
+use Rattle.lb_check.specs.PlacedTypes.{found_in, parts_of}
 use Rattle.lb_check.specs.Scalars.{Scalar, Integer, Bad}
 use Rattle.lb_check.specs.TermClocks.{callee_in, declared_in}
 use Rattle.lb_check.specs.declared.checked.Checking.{Checking}
+use Rattle.lb_check.specs.declared.found_types.NodeTypes.{NodeTypes}
 use Rattle.lb_check.specs.declared.own_clock.Clock.{Clock}
 use Rattle.lb_check.specs.declared.own_clock.Clock.TheVariants.{Base, On}
 use Rattle.lb_flat.specs.declared.children.Children.{Children}
@@ -21,7 +21,7 @@ use Rattle.lb_flat.specs.declared.expand.frame.Callee.{Callee}
 use Rattle.lb_flat.specs.declared.layout.Layout.{Layout}
 use Rattle.lb_flat.specs.declared.row_frame.RowFrame.{RowFrame}
 use Rattle.lb_flat.specs.EmitTerms.{Context}
-use Rattle.lb_flat.specs.Flat.{FlatClock}
+use Rattle.lb_flat.specs.Flat.{FlatClock, Always}
 use Rattle.lb_flat.specs.RowContexts.{RowClocks, size_at, times_at, parameters_of}
 use Rattle.lb_flat.specs.Rows.{numbers_at, called_row}
 use Rattle.lb_flat.specs.TableClocks.{clock_id, node_at}
@@ -46,8 +46,7 @@ held_callee m =
 
 -- what is read of a row
 pub record Read : Type 0 where
-  pub reached : Reached
-  pub table : Table
+  pub checked : Checking
   pub layout : Layout
   pub children : Children
   pub clocks : Clocks
@@ -55,12 +54,11 @@ pub record Read : Type 0 where
   pub node : ResolvedNode
   pub specialization : Specialization
   pub terms : List Clock
-  pub parts : List ℕ
+  pub types : Option NodeTypes
 
 abbrev pub read_of : RowFrame → Read
 read_of f = record {
-  reached = f.reached.now;
-  table = f.table.now;
+  checked = f.checked.now;
   layout = f.layout.now;
   children = f.children.now;
   clocks = f.clocks.now;
@@ -68,7 +66,7 @@ read_of f = record {
   node = f.node.now;
   specialization = f.specialization.now;
   terms = f.term_clocks.now;
-  parts = f.parts.now;
+  types = option_map (λ types. types.now) f.types;
 }
 
 -- the row that it calls
@@ -88,12 +86,16 @@ read_id z j k = clock_id z.layout.variables.items z.clocks.runs.items j k
 abbrev pub input_id : Read → (call index variable : ℕ) → Option ClockId
 input_id z c i x =
     read_child z c i >>= λ m.
-    slice_get z.table.instances.items m >>= λ j.
-    node_at z.reached z.table j >>= λ n.
+    slice_get z.checked.elab.table.instances.items m >>= λ j.
+    node_at z.checked.elab.reached z.checked.elab.table j >>= λ n.
     read_id z m (declared_in n (record { 0 = x }))
 
 abbrev pub read_clock : Read → Option ClockId → FlatClock
 read_clock z k = clock_of z.clocks.table.items k
+
+-- how many scalar elements each element of the array of a term has: none where nothing is found
+abbrev pub read_parts : Read → ℕ → ℕ
+read_parts z t = either_or (option_map (λ types. parts_of (found_in types) t) z.types) 0
 
 -- the clocks that are read
 abbrev pub read_clocks : Read → RowClocks
@@ -101,7 +103,7 @@ read_clocks z = record {
   declared = λ x. read_clock z (read_id z z.row (declared_in z.node (record { 0 = x })));
   sampled = λ x sign. read_clock z (read_id z z.row (On (record { 0 = x }) sign));
   clock = λ t. read_clock z (read_id z z.row (get_or z.terms t Base));
-  parts = λ t. get_or z.parts t 0;
+  parts = read_parts z;
   input = λ c i x. read_clock z (input_id z c i x);
 }
 
@@ -115,7 +117,7 @@ read_context z = record {
   count = size_at z.specialization.statics.items;
   clock = (read_clocks z).clock;
   parts = (read_clocks z).parts;
-  callee = λ c. callee_in z.reached z.node (record { 0 = c }) >>= held_callee;
+  callee = λ c. callee_in z.checked.elab.reached z.node (record { 0 = c }) >>= held_callee;
   repeats = times_at z.node z.specialization;
   child = λ c i x. listed (λ k. read_numbers z k x) (read_child z c i);
   input = (read_clocks z).input;
@@ -138,15 +140,75 @@ found_row c j =
 abbrev pub found_terms : Checking → Specialization → List Clock
 found_terms c s = listed (λ f. f.terms.items) (slice_get c.clocks.items s.node.0)
 
+-- the types of the terms of a row
+abbrev pub found_types : Checking → ℕ → Option NodeTypes
+found_types c j =
+    slice_get c.elab.table.instances.items j >>= λ i.
+    c.types >>= λ all. slice_get all.items i.specialization.0
+
 -- a frame is that of a row of a checked program, with what is known of all rows
-pub record IsFrameOf (c : Checking) (l : Layout) (all : Children) (k : Clocks) (own_parts : List ℕ)
-    (j : ℕ) (z : Read) : Type 0 where
-  pub reached : z.reached ≡ c.elab.reached
-  pub table : z.table ≡ c.elab.table
+pub record IsFrameOf (c : Checking) (l : Layout) (all : Children) (k : Clocks) (j : ℕ) (z : Read) :
+    Type 0 where
+  pub checked : z.checked ≡ c
   pub layout : z.layout ≡ l
   pub children : z.children ≡ all
   pub clocks : z.clocks ≡ k
   pub row : z.row ≡ j
   pub found : found_row c j ≡ Some (z.specialization, z.node)
   pub terms : z.terms ≡ found_terms c z.specialization
-  pub parts : z.parts ≡ own_parts
+  pub types : z.types ≡ found_types c j
+
+-- whether there is a row with a number
+abbrev pub is_row : Checking → ℕ → Bool
+is_row c j =
+    either_or
+    (option_map (λ (found : Specialization × ResolvedNode). true) (found_row c j)) false
+
+-- ## All rows
+
+-- what is read of a row of this node and this specialization
+abbrev pub row_read :
+    Checking → Layout → Children → Clocks → ℕ → ResolvedNode → Specialization → Read
+row_read c l all k j n s = record {
+  checked = c;
+  layout = l;
+  children = all;
+  clocks = k;
+  row = j;
+  node = n;
+  specialization = s;
+  terms = found_terms c s;
+  types = found_types c j;
+}
+
+-- what the numbers stand for where there is no row
+abbrev pub no_context : Context
+no_context = record {
+  places = λ x. [];
+  declared = λ x. Always;
+  sampled = λ x sign. Always;
+  value = λ i. Bad;
+  count = λ i. 0;
+  clock = λ t. Always;
+  parts = λ t. 0;
+  callee = λ c. None;
+  repeats = λ c. 0;
+  child = λ c i x. [];
+  input = λ c i x. Always;
+}
+
+abbrev pub row_found_context :
+    Checking → Layout → Children → Clocks → ℕ → Specialization × ResolvedNode → Context
+row_found_context c l all k j found = read_context (row_read c l all k j found.1 found.0)
+
+-- what the numbers of the row with a number stand for
+abbrev pub frame_contexts : Checking → Layout → Children → Clocks → ℕ → Context
+frame_contexts c l all k j =
+    either_or (option_map (row_found_context c l all k j) (found_row c j)) no_context
+
+-- of the rows that a frame can go to
+abbrev pub contexts_of : RowFrame → ℕ → Context
+contexts_of f = frame_contexts f.checked.now f.layout.now f.children.now f.clocks.now
+
+abbrev pub is_row_of : RowFrame → ℕ → Bool
+is_row_of f = is_row f.checked.now

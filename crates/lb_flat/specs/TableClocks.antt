@@ -1,7 +1,7 @@
 -- The clocks of the variables of the rows of the table of instances, and the clocks on which the
 -- rows run.
 -- This file mirrors code (src/clocks.rt); no definition of the language stands on it.
-use Rattle.std.specs.Prelude.{◌≡◌, ℕ, suc, ◌+◌, ◌-◌, ◌*◌, min, nat_eq, Bool, true, false, Option}
+use Rattle.std.specs.Prelude.{◌≡◌, ℕ, suc, ◌+◌, ◌*◌, min, nat_eq, Bool, true, false, Option}
 use Rattle.std.specs.Prelude.{Some, None, option_map, List, [], ◌∷◌, ◌++◌, map, flat_map, get_or}
 use Rattle.std.specs.Prelude.{length, slice_get, find, ◌≤◌}
 use Rattle.std.specs.List.{range_with_len}

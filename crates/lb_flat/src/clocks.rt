@@ -339,6 +339,7 @@ impl Clocks {
     ghost use Rattle.lb_static.specs.Elaborated.{elaborated_program};
     ghost use Rattle.lb_flat.specs.ClockPlaces.{AreClocksOf};
     ghost use Rattle.lb_flat.specs.TableClocks.{IsLayoutOf};
+    ghost use Rattle.lb_flat.specs.Within.{AreClocks};
 
     /// The clocks of a table.
     pub(crate) fn new(
@@ -354,6 +355,9 @@ impl Clocks {
         ensures lawful { IfOk result (λ c.
             IsLayoutOf checked.now.elab.reached checked.now.elab.table layout.now →
             AreClocksOf (elaborated_program checked.now.elab) layout.now.variables.items c) }
+        ensures within { IfOk result (λ c.
+            IsLayoutOf checked.now.elab.reached checked.now.elab.table layout.now →
+            AreClocks layout.now.count c.table.items) }
     {
         let elab = checked.elab();
         let runs = table_runs(alloc, checked, layout)?;

@@ -12,9 +12,6 @@ pub enum FlatError {
     /// The size of the expanded program is over 65,536 (E12).
     #[error("the expanded program is too large")]
     Large,
-    /// The program has an observer or a form that does not run yet (E12).
-    #[error("the program has a form that does not run yet")]
-    Unsupported,
 }
 
 /// Why the equations of a program are not put in order.

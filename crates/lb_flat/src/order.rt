@@ -6,8 +6,9 @@
 
 ghost use Rattle.std.specs.Prelude.{IfErr, IfOk};
 ghost use Rattle.lb_static.specs.Instances.{Program};
-ghost use Rattle.lb_flat.specs.Expanded.{IsCycleFound, IsOrderOf};
-ghost use Rattle.lb_flat.specs.Flattening.{IsFlatOf};
+ghost use Rattle.lb_check.specs.Needs.{IsCausal};
+ghost use Rattle.lb_flat.specs.Expanded.{IsCycleFound, IsExpansionOf, IsOrderOf};
+ghost use Rattle.lb_flat.specs.FlatPrograms.{IsFlatOf};
 ghost use Rattle.lb_flat.specs.GivenOnce.{IsGiven};
 ghost use Rattle.lb_flat.specs.Ordering.{AreOrdered};
 ghost use Rattle.lb_flat.specs.Prefixes.{IsDetermined};
@@ -42,11 +43,13 @@ fn ordered_equations(alloc: Global, program: &FlatProgram) -> Result<Vec<Equatio
 /// Puts the equations of a flat program in an order in which they can be computed.
 ///
 /// Fails with `Cycle` (E13) only where there is no such order: it names elements of variables of
-/// which each one reads the next at the same instant, and the last reads the first.
+/// which each one needs the next at the same instant, and the last needs the first.
 pub fn order(alloc: Global, flat: Flat) -> Result<Ordered, OrderError>
     ensures order { IfOk result (λ o. IsOrderOf (program_of flat.program) (program_of o.program)) }
     ensures determined { IfOk result (λ o.
         (P : Program) → IsFlatOf P (program_of o.program) → IsDetermined P) }
+    ensures causal { IfOk result (λ o.
+        (P : Program) → IsExpansionOf P (program_of flat.program) → IsCausal P) }
     ensures cycle { IfErr result (IsCycleFound (program_of flat.program)) }
 {
     let equations = ordered_equations(alloc, &flat.program)?;

@@ -1,6 +1,7 @@
 //! Flat programs.
 
 use crate::equation::{Clock, ElementId, Equation};
+use lb_syntax::tree::Kind;
 
 /// A program expanded into equations on scalar elements.
 ///
@@ -8,6 +9,10 @@ use crate::equation::{Clock, ElementId, Equation};
 /// inside expressions.
 #[derive(Drop)]
 pub struct FlatProgram {
+    /// The kinds of the inputs, in the order of the signature.
+    pub inputs: Vec<Kind>,
+    /// The kind of each element.
+    pub kinds: Vec<Kind>,
     /// One equation for each element.
     pub equations: Vec<Equation>,
     /// The clocks that equations are on.

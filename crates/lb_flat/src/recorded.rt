@@ -53,8 +53,8 @@ fn read_row(kinds: &[Kind], cells: &[i32], inputs: &[InputPlace], row: &mut [Cel
     }
 }
 
-// What each column holds.
-fn kinds_of(alloc: Global, signature: &Signature) -> Result<Vec<Kind>, AllocError>
+/// What each column holds.
+pub(crate) fn kinds_of(alloc: Global, signature: &Signature) -> Result<Vec<Kind>, AllocError>
     ensures { IfOk result (λ kinds. kinds.items ≡ kinds_of signature.now) }
 {
     let mut kinds = Vec::new(alloc);

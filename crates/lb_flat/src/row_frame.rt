@@ -1,6 +1,6 @@
 //! What the numbers in the text of a row's node stand for.
 
-ghost use Rattle.std.specs.Prelude.{◌≡◌, ◌<◌, ◌+◌, ◌^◌, option_map, get_or};
+ghost use Rattle.std.specs.Prelude.{◌≡◌, ◌<◌, ◌+◌, ◌^◌, option_map};
 ghost use Rattle.std.specs.Option.{ForSome};
 ghost use Rattle.lb_check.specs.TermClocks.{callee_in};
 ghost use Rattle.lb_flat.specs.Frames.{elements_of, AreBefore};
@@ -13,21 +13,21 @@ ghost use Rattle.lb_flat.specs.Within.{IsClock};
 use crate::children::Children;
 use crate::clocks::{Clocks, node_at};
 use crate::equation::ClockId;
-use crate::expand::frame::{Callee, Elements, Frame};
+use crate::expand::frame::{Callee, Elements, Frame, TableFrame};
 use crate::layout::Layout;
 use crate::scalar::Scalar;
 use lb_check::checked::Checked;
+use lb_check::found_types::NodeTypes;
 use lb_check::own_clock::{self, declared_clock};
 use lb_static::reach::Reached;
 use lb_static::resolved::{CallId, ResolvedNode, StaticId, VariableId};
 use lb_static::static_value::StaticInt;
-use lb_static::table::{InstanceId, Specialization, Table};
+use lb_static::table::{InstanceId, Specialization};
 
 /// A row of the table of instances, with what is known of all rows.
 #[derive(Clone, Copy)]
 pub(crate) struct RowFrame<'a, 's> {
-    pub(crate) reached: &'a Reached<'s>,
-    pub(crate) table: &'a Table,
+    pub(crate) checked: &'a Checked<'s>,
     pub(crate) layout: &'a Layout,
     pub(crate) children: &'a Children,
     pub(crate) clocks: &'a Clocks,
@@ -36,8 +36,8 @@ pub(crate) struct RowFrame<'a, 's> {
     pub(crate) specialization: &'a Specialization,
     /// The clock on which each term of the node stands.
     pub(crate) term_clocks: &'a [own_clock::Clock],
-    /// Of each term, how many scalar elements each element of its array has.
-    pub(crate) parts: &'a [u32],
+    /// The types of the terms, where the program is not too large for them.
+    pub(crate) types: Option<&'a NodeTypes>,
 }
 
 /// A static value as an operand.
@@ -138,20 +138,19 @@ fn elements_at(layout: &Layout, row: InstanceId, x: VariableId) -> Elements
 }
 
 impl<'a, 's> RowFrame<'a, 's> {
-    ghost use Rattle.std.specs.Prelude.{None};
+    ghost use Rattle.std.specs.Prelude.{None, true};
     ghost use Rattle.std.specs.Option.{MatchOption};
 
-    /// The frame of a row, if there is such a row, where its terms have these parts.
+    /// The frame of a row, if there is such a row.
     pub(crate) fn new(
         checked: &'a Checked<'s>,
         layout: &'a Layout,
         children: &'a Children,
         clocks: &'a Clocks,
-        parts: &'a [u32],
         row: InstanceId,
     ) -> Option<RowFrame<'a, 's>>
         ensures { MatchOption result (mirror.found_row checked.now row.0 ≡ None)
-            (λ f. mirror.IsFrameOf checked.now layout.now children.now clocks.now parts.now row.0
+            (λ f. mirror.IsFrameOf checked.now layout.now children.now clocks.now row.0
             (mirror.read_of f)) }
     {
         let reached = checked.elab().reached();
@@ -162,8 +161,7 @@ impl<'a, 's> RowFrame<'a, 's> {
             .get(instance.specialization.0 as usize)?;
         let node = reached.nodes.get(specialization.node.0)?;
         Some(RowFrame {
-            reached,
-            table,
+            checked,
             layout,
             children,
             clocks,
@@ -171,8 +169,24 @@ impl<'a, 's> RowFrame<'a, 's> {
             node,
             specialization,
             term_clocks: checked.term_clocks(specialization.node),
-            parts,
+            types: checked.term_types(instance.specialization),
         })
+    }
+
+    /// The frame of another row; this one where there is no such row.
+    fn entered(&self, row: usize) -> RowFrame<'a, 's>
+        requires there { mirror.is_row_of self.now row ≡ true }
+        ensures { mirror.IsFrameOf self.now.checked.now self.now.layout.now self.now.children.now
+            self.now.clocks.now row (mirror.read_of result) }
+    {
+        if row >= self.checked.elab().table().instances.len() {
+            return *self;
+        }
+        let row = InstanceId(row as u32);
+        match RowFrame::new(self.checked, self.layout, self.children, self.clocks, row) {
+            Some(entered) => entered,
+            None => *self,
+        }
     }
 
     /// A clock of the table, or the base clock where there is none at this place.
@@ -202,8 +216,9 @@ impl<'a, 's> RowFrame<'a, 's> {
         ensures { result ≡ mirror.input_id (mirror.read_of self.now) call index variable }
     {
         let child = self.children.get(self.row, CallId(call), index)?;
-        let row = self.table.instances.get(child.0 as usize)?;
-        let node = node_at(self.reached, self.table, row)?;
+        let elab = self.checked.elab();
+        let row = elab.table().instances.get(child.0 as usize)?;
+        let node = node_at(elab.reached(), elab.table(), row)?;
         self.id(child, declared_clock(node, VariableId(variable)))
     }
 }
@@ -247,11 +262,14 @@ impl Frame for RowFrame<'_, '_> {
     }
 
     fn parts(&self, term: usize) -> u32 {
-        self.parts.get(term).copied().unwrap_or(0)
+        match self.types {
+            Some(types) => types.part_count(term),
+            None => 0,
+        }
     }
 
     fn callee(&self, call: usize) -> Option<Callee> {
-        parameters(callee_at(self.reached, self.node, call)?)
+        parameters(callee_at(self.checked.elab().reached(), self.node, call)?)
     }
 
     fn repeats(&self, call: usize) -> u32 {
@@ -267,5 +285,17 @@ impl Frame for RowFrame<'_, '_> {
 
     fn input(&self, call: usize, index: u32, variable: usize) -> Option<ClockId> {
         self.held(self.input_id(call, index, variable))
+    }
+}
+
+impl TableFrame for RowFrame<'_, '_> {
+    ghost use Rattle.lb_flat.specs.RowFrames.{contexts_of, is_row_of};
+
+    ghost is_row = { is_row_of };
+
+    ghost contexts = { contexts_of };
+
+    fn enter(&mut self, row: usize) {
+        *self = self.entered(row);
     }
 }

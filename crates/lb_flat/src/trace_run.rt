@@ -5,7 +5,7 @@ ghost use Rattle.lb_static.specs.Instances.{Program};
 ghost use Rattle.lb_static.specs.DataTypes.{signature};
 ghost use Rattle.lb_check.specs.Solutions.{HasOneHistory};
 ghost use Rattle.lb_check.specs.Verdicts.{IsOnlyVerdict};
-ghost use Rattle.lb_flat.specs.Flattening.{IsFlatOf};
+ghost use Rattle.lb_flat.specs.FlatPrograms.{IsFlatOf};
 ghost use Rattle.lb_flat.specs.Inputs.{inputs_of};
 ghost use Rattle.lb_flat.specs.PreparedParts.{IsRoomFor, program_in, recording_in};
 ghost use Rattle.lb_flat.specs.Programs.{program_of};

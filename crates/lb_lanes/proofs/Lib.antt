@@ -4,3 +4,5 @@ pub mod Divisions
 pub mod Vectors
 pub mod Joined
 pub mod Views
+pub mod Rounds
+pub mod Composed

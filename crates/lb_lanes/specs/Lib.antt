@@ -1,3 +1,4 @@
 pub mod Operators
 pub mod Planes
 pub mod Kernels
+pub mod Transposes

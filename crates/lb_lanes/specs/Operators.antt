@@ -4,6 +4,8 @@
 use Rattle.std.specs.Prelude.{Bool, not, ◌&&◌, Option, Some, None, ℤ, pos, negsuc, ◌+ℤ◌, ◌-ℤ◌, ◌*ℤ◌}
 use Rattle.std.specs.Prelude.{neg_ℤ, int_le, int_div, int_rem, if◌then◌else◌}
 use Rattle.std.specs.Ordering.{int_eq}
+use Rattle.lb_lanes.specs.declared.int_operator.IntOperator.{IntOperator}
+use Rattle.lb_lanes.specs.declared.int_operator.IntOperator.TheVariants.{Add, Sub, Mul, Div, Rem}
 
 -- the range of `int`: -2147483648 to 2147483647
 unfoldable pub is_int : ℤ → Bool
@@ -45,3 +47,11 @@ quotient_of a b = divided_by int_div a b
 -- `a mod b`, which is a - b * (a div b)
 abbrev pub remainder_of : ℤ → ℤ → Option ℤ
 remainder_of a b = divided_by int_rem a b
+
+-- the operator of this name
+abbrev pub result_of : IntOperator → ℤ → ℤ → Option ℤ
+result_of Add a b = sum_of a b
+result_of Sub a b = difference_of a b
+result_of Mul a b = product_of a b
+result_of Div a b = quotient_of a b
+result_of Rem a b = remainder_of a b

@@ -6,10 +6,12 @@ ghost use Rattle.std.specs.Int.{cast_signed, w64};
 ghost use Rattle.std.specs.Ordering.{int_eq};
 ghost use Rattle.lb_lanes.specs.Kernels.{AreInts, IsBlend, IsKernel, lane_of};
 ghost use Rattle.lb_lanes.specs.Operators.{difference_of, divided_by, is_int, lawful, negation_of};
-ghost use Rattle.lb_lanes.specs.Operators.{product_of, quotient_of, remainder_of, sum_of};
+ghost use Rattle.lb_lanes.specs.Operators.{product_of, quotient_of, remainder_of, result_of};
+ghost use Rattle.lb_lanes.specs.Operators.{sum_of};
 ghost use Rattle.lb_lanes.specs.Planes.{IsPlaneOf};
 
 use crate::comparisons::{AtMost, Below, Equal, Outside, tested};
+use crate::int_operator::IntOperator;
 use crate::operators::{
     Difference, Division, Exact, Negation, Product, Quotient, Remainder, Sum, commit, run,
     run_division,
@@ -96,6 +98,21 @@ impl IntLanes {
         IntLanes { bits }
     }
 
+    /// Takes over all lanes of another row.
+    pub fn copy_from(&mut self, other: &IntLanes)
+        ensures { self.new ≡ other.now }
+    {
+        self.bits = other.bits;
+    }
+
+    /// Takes over the lanes of `a` where the mask is true, and those of `b` where it is not.
+    pub fn set_blend(&mut self, mask: Plane, a: &IntLanes, b: &IntLanes)
+        ensures { IsBlend mask.0 a.now b.now self.new }
+    {
+        self.bits = b.bits;
+        commit(&mut self.bits, &a.bits, mask.0);
+    }
+
     // Puts the lanes of `new` where the mask is true.
     pub(crate) fn commit(&mut self, new: &IntLanes, mask: Plane)
         ensures { IsBlend mask.0 new.now self.old self.new }
@@ -127,6 +144,52 @@ impl IntLanes {
         let mut lanes = IntLanes { bits: [0; 64] };
         let faults = run_division::<K>(&self.bits, &other.bits, active.0, &mut lanes.bits);
         (lanes, Plane(faults))
+    }
+
+    // Puts the lanes after the operator into `out`, and gives their faults.
+    fn put<K: Exact>(&self, other: &IntLanes, active: Plane, out: &mut IntLanes) -> Plane
+        requires left { AreInts self.now }
+        requires right { AreInts other.now }
+        ensures lanes { IsKernel (λ x y. lawful (K.exact x y)) self.now other.now active.0
+            out.new result.0 }
+        ensures in_range { AreInts out.new }
+    {
+        Plane(run::<K>(&self.bits, &other.bits, active.0, &mut out.bits))
+    }
+
+    // Puts the lanes after the division into `out`, and gives their faults.
+    fn put_divided<K: Division>(&self, other: &IntLanes, active: Plane, out: &mut IntLanes) -> Plane
+        requires left { AreInts self.now }
+        requires right { AreInts other.now }
+        ensures lanes { IsKernel (divided_by K.divided) self.now other.now active.0
+            out.new result.0 }
+        ensures in_range { AreInts out.new }
+    {
+        Plane(run_division::<K>(&self.bits, &other.bits, active.0, &mut out.bits))
+    }
+
+    /// Puts the lanes after an operator into `out`, and gives the faults.
+    ///
+    /// A lane that is not active, or has a fault, gets 0.
+    pub fn operate(
+        &self,
+        op: IntOperator,
+        other: &IntLanes,
+        active: Plane,
+        out: &mut IntLanes,
+    ) -> Plane
+        requires left { AreInts self.now }
+        requires right { AreInts other.now }
+        ensures lanes { IsKernel (result_of op) self.now other.now active.0 out.new result.0 }
+        ensures in_range { AreInts out.new }
+    {
+        match op {
+            IntOperator::Add => self.put::<Sum>(other, active, out),
+            IntOperator::Sub => self.put::<Difference>(other, active, out),
+            IntOperator::Mul => self.put::<Product>(other, active, out),
+            IntOperator::Div => self.put_divided::<Quotient>(other, active, out),
+            IntOperator::Rem => self.put_divided::<Remainder>(other, active, out),
+        }
     }
 
     /// The sums, and the faults: where a sum is out of the range of `int`.

@@ -7,11 +7,15 @@
 
 mod chunks;
 mod comparisons;
+mod int_operator;
 mod lanes;
 mod operators;
 mod planes;
 mod slices;
+mod transposes;
 
+pub use int_operator::IntOperator;
 pub use lanes::IntLanes;
 pub use planes::Plane;
 pub use slices::{and_slices, any_outside, commit_ints, commit_planes, or_slices, xor_slices};
+pub use transposes::transpose;

@@ -8,7 +8,7 @@ use Rattle.lb_check.specs.Solutions.{HasOneHistory}
 use Rattle.lb_check.specs.Verdicts.{IsOnlyVerdict}
 use Rattle.lb_check.specs.declared.verdict.Verdict.{Verdict}
 use Rattle.lb_check.specs.declared.verdict.Verdict.TheVariants.{Passed}
-use Rattle.lb_flat.specs.Flattening.{IsFlatOf}
+use Rattle.lb_flat.specs.FlatPrograms.{IsFlatOf}
 use Rattle.lb_flat.specs.Inputs.{inputs_of}
 use Rattle.lb_flat.specs.Programs.{program_of}
 use Rattle.lb_flat.specs.Traces.{Recording}

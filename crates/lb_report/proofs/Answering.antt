@@ -120,25 +120,23 @@ module _ (source traces : Text) (options : Options) where
   numbered part.Memory h = λ some. absurd (omega (arith, some))
   numbered (part.Syntax e) h = λ some.
       let by = by_text source e some h in
-      inr (first_of _ (of_text by.refusal by.refuses (ap Some by.same)))
+      first_of _ (of_text by.refusal by.refuses (ap Some by.same))
   numbered (part.Static e) h = λ some.
       let by = by_static (program_of h.tree options) e some h.holds in
-      inr (first_of _ (of_program h.tree by.refusal h.spelled by.refuses (ap Some by.same)))
+      first_of _ (of_program h.tree by.refusal h.spelled by.refuses (ap Some by.same))
   numbered (part.Check e) h = λ some.
       let by = by_check (program_of h.tree options) e some h.holds.0 h.holds.1 in
-      inr (first_of _ (of_program h.tree by.refusal h.spelled by.refuses (ap Some by.same)))
+      first_of _ (of_program h.tree by.refusal h.spelled by.refuses (ap Some by.same))
   numbered (part.Flat flat.Memory) h = λ some. absurd (omega (arith, some))
   numbered (part.Flat flat.Large) h = λ some.
-      inr (first_of _ (of_program h.tree E12 h.spelled h.holds refl))
-  numbered (part.Flat flat.Unsupported) h = λ some. inl refl
+      first_of _ (of_program h.tree E12 h.spelled h.holds refl)
   numbered (part.Order e) h = λ some.
       let by = by_order (program_of h.tree options) e some h.holds in
-      inr (first_of _ (of_program h.tree by.refusal h.spelled by.refuses (ap Some by.same)))
+      first_of _ (of_program h.tree by.refusal h.spelled by.refuses (ap Some by.same))
   numbered (part.Trace e) h = λ some.
       elim h.holds.1 [
         | inl zero ↦ absurd (omega (arith, some, zero))
-        | inr refused ↦
-            inr (first_of _ (of_traces h.tree h.spelled h.holds.0 refused))
+        | inr refused ↦ first_of _ (of_traces h.tree h.spelled h.holds.0 refused)
       ]
 
   reported : (report : Report) → IsBenchReport source traces options report

@@ -1,6 +1,6 @@
 -- What a part of the bench refuses is the first refusal of the program; one that no part refuses is
 -- accepted.
-use Rattle.std.proofs.Common.{◌≡◌, true, Option, None, Err, [], ap, sym, subst, ◌∙◌}
+use Rattle.std.proofs.Common.{◌≡◌, true, Option, None, Err, ap, ◌∙◌}
 use Rattle.std.specs.Prelude.{string_bytes}
 use Rattle.std.specs.Option.{option_map}
 use Rattle.lb_syntax.specs.Lists.{or_else}
@@ -9,15 +9,18 @@ use Rattle.lb_syntax.specs.Tree.{Name, Source}
 use Rattle.lb_static.specs.Instances.{Program}
 use Rattle.lb_static.specs.Instantiation.{static_refusal}
 use Rattle.lb_check.specs.Acceptance.{check_refusal, refusal, IsAccepted}
+use Rattle.lb_check.specs.Needs.{IsCausal}
 use Rattle.lb_check.specs.TypeRules.{is_small}
 use Rattle.lb_flat.specs.Expanded.{IsCycleFound, IsExpansionAnswer, IsExpansionOf, IsOrderOf}
-use Rattle.lb_flat.specs.Flattening.{IsFlatOf}
+use Rattle.lb_flat.specs.FlatPrograms.{IsFlatOf}
 use Rattle.lb_flat.specs.Judging.{FlatProgram}
-use Rattle.lb_flat.specs.Run.{Ready}
+use Rattle.lb_flat.specs.Programs.{numbers_of}
 use Rattle.lb_flat.specs.declared.error.FlatError.{FlatError}
 use Rattle.lb_flat.specs.declared.error.FlatError.TheVariants as flat
 use Rattle.lb_flat.specs.declared.error.OrderError.{OrderError}
 use Rattle.lb_flat.specs.declared.error.OrderError.TheVariants.{Memory, Cycle}
+use Rattle.lb_flat.proofs.Certificates.{cyclic_of}
+use Rattle.lb_flat.proofs.StandingRuns.{flat_in_order}
 use Rattle.lb_report.specs.Bench.{IsCycle, IsTooLarge, program_of}
 use Rattle.lb_report.specs.declared.options.Options.{Options}
 
@@ -36,13 +39,12 @@ size_decides P s c =
     ap (λ o. or_else o (or_else (check_refusal P) (unless (is_small P) E12))) s
     ∙ ap (λ o. or_else o (unless (is_small P) E12)) c
 
--- a program that keeps the rules before is refused for its size, or for forms that do not run yet
+-- a program that keeps the rules before is refused for its size
 pub too_large :
     (P : Program) (e : FlatError) → static_refusal P ≡ None → check_refusal P ≡ None →
     IsExpansionAnswer P (Err e) → IsTooLarge P e
 too_large P flat.Memory s c h = tt
 too_large P flat.Large s c h = size_decides P s c ∙ ap (λ b. unless b E12) h
-too_large P flat.Unsupported s c h = (s, c, h)
 
 -- a small one whose equations cannot be put in order is refused for that first
 pub is_cycle :
@@ -50,19 +52,17 @@ pub is_cycle :
     check_refusal P ≡ None → is_small P ≡ true → IsExpansionOf P f →
     IsCycleFound f e → IsCycle P e
 is_cycle P f Memory s c z expansion found = tt
-is_cycle P f (Cycle elements) s c z expansion found =
-    (size_decides P s c ∙ ap (λ b. unless b E12) z, expansion.cyclic found.1)
+is_cycle P f (Cycle elements) s c z expansion found = (
+  size_decides P s c ∙ ap (λ b. unless b E12) z,
+  cyclic_of P (numbers_of elements.items) (found.1 P expansion),
+)
 
--- a program whose equations are put in order is accepted, and these are its equations
+-- a causal program whose equations are put in order is accepted, and these are its equations
 pub accepted_is :
     (P : Program) (f g : FlatProgram) → static_refusal P ≡ None → check_refusal P ≡ None →
-    is_small P ≡ true → IsExpansionOf P f → IsOrderOf f g → IsAccepted P × IsFlatOf P g
-accepted_is P f g s c z expansion order =
-    let size : g.size ≡ f.size = ap (λ h. h.size) order.same in
-    let ready = subst (λ n. Ready n [] g.equations) size order.ready in (
-      record {
-        rules = size_decides P s c ∙ ap (λ b. unless b E12) z;
-        causal = expansion.causal g.equations order.ordering ready;
-      },
-      subst (IsFlatOf P) (sym order.same) (expansion.flat g.equations order.ordering ready),
-    )
+    is_small P ≡ true → IsExpansionOf P f → IsOrderOf f g → IsCausal P →
+    IsAccepted P × IsFlatOf P g
+accepted_is P f g s c z expansion order causal = (
+  record { rules = size_decides P s c ∙ ap (λ b. unless b E12) z; causal = causal },
+  flat_in_order P f expansion.flat g order,
+)

@@ -4,7 +4,7 @@ use Rattle.std.specs.Prelude.{◌≡◌}
 use Rattle.lb_static.specs.Instances.{Program}
 use Rattle.lb_static.specs.DataTypes.{signature}
 use Rattle.lb_check.specs.Acceptance.{IsAccepted}
-use Rattle.lb_flat.specs.Flattening.{IsFlatOf}
+use Rattle.lb_flat.specs.FlatPrograms.{IsFlatOf}
 use Rattle.lb_flat.specs.Programs as flat
 use Rattle.lb_report.specs.declared.bench.AcceptedProgram.{AcceptedProgram}
 

@@ -1,6 +1,6 @@
 -- What `bench` promises of a source text and a trace text.
 -- Source: this project's rule.
-use Rattle.std.specs.Prelude.{◌≡◌, ℕ, ◌<◌, true, Some, None, Err, List, length, get_or}
+use Rattle.std.specs.Prelude.{◌≡◌, ℕ, ◌<◌, Some, None, Err, List, length, get_or}
 use Rattle.std.specs.Prelude.{string_bytes}
 use Rattle.std.specs.Option.{option_map}
 use Rattle.lb_syntax.specs.Tree.{Source}
@@ -11,14 +11,13 @@ use Rattle.lb_static.specs.Elaborates.{Elaborates}
 use Rattle.lb_static.specs.Instances.{Program}
 use Rattle.lb_static.specs.DataTypes.{signature}
 use Rattle.lb_static.specs.Instantiation.{static_refusal}
-use Rattle.lb_check.specs.Acceptance.{check_refusal, refusal, IsAccepted, IsFirst}
+use Rattle.lb_check.specs.Acceptance.{refusal, IsAccepted, IsFirst}
 use Rattle.lb_check.specs.Checked.{IsAnswer}
 use Rattle.lb_check.specs.Solutions.{HasOneHistory}
 use Rattle.lb_check.specs.Verdicts.{IsOnlyVerdict}
 use Rattle.lb_check.specs.declared.verdict.Verdict.{Verdict}
 use Rattle.lb_check.specs.declared.verdict.Verdict.TheVariants.{Passed}
 use Rattle.lb_flat.specs.Inputs.{inputs_of}
-use Rattle.lb_flat.specs.PlainPrograms.{uses_unsupported_forms}
 use Rattle.lb_flat.specs.Traces.{Recording, Traces, trace_names}
 use Rattle.lb_flat.specs.declared.error.FlatError.{FlatError}
 use Rattle.lb_flat.specs.declared.error.FlatError.TheVariants as flat
@@ -83,13 +82,10 @@ IsBenchReport source traces options report =
 
 -- ## Refusals
 
--- the first refusal of a program is its size; or it breaks no rule before that, but has forms that
--- do not run yet
+-- the first refusal of a program is its size
 abbrev pub IsTooLarge : Program → FlatError → Type 0
 IsTooLarge P flat.Memory = Unit {0}
 IsTooLarge P flat.Large = refusal P ≡ Some E12
-IsTooLarge P flat.Unsupported =
-    (static_refusal P ≡ None) × (check_refusal P ≡ None) × (uses_unsupported_forms P ≡ true)
 
 -- the first refusal of a program is that an element needs itself at the same instant
 abbrev pub IsCycle : Program → OrderError → Type 0

@@ -1,15 +1,13 @@
 -- What `bench` answers to a source and a trace text: the promise of the whole bench.
 -- Source: this project's rule.
-use Rattle.std.specs.Prelude.{◌≡◌, ℕ, ◌<◌, ◌⊎◌, Option, Some, None, Result, IfOk, OnOk, IfErr}
+use Rattle.std.specs.Prelude.{ℕ, ◌<◌, Option, Some, None, Result, IfOk, OnOk, IfErr}
 use Rattle.std.specs.Prelude.{string_bytes}
 use Rattle.std.specs.Option.{option_map}
 use Rattle.lb_syntax.specs.Tokens.{Text}
-use Rattle.lb_flat.specs.declared.error.FlatError.TheVariants as flat
 use Rattle.lb_report.specs.Bench.{IsBenchReport, IsRefused}
 use Rattle.lb_report.specs.FirstRefusals.{IsOnlyFirstRefusal}
 use Rattle.lb_report.specs.Refusals.{number_of}
 use Rattle.lb_report.specs.declared.error.BenchError.{BenchError}
-use Rattle.lb_report.specs.declared.error.BenchError.TheVariants as part
 use Rattle.lb_report.specs.declared.options.Options.{Options}
 use Rattle.lb_report.specs.declared.text.Report.{Report}
 
@@ -19,12 +17,10 @@ IsFirstOf source traces options first =
     IsOnlyFirstRefusal source traces (string_bytes options.node)
     (option_map string_bytes options.observer) first
 
--- an error has the number of the first refusal. Want of memory, which has the number 0, is none;
--- and a form that does not run yet is refused as E12, whatever comes after
+-- an error has the number of the first refusal. Want of memory, which has the number 0, is none
 abbrev pub HasFirstNumber : (source traces : Text) → Options → BenchError → Type 0
 HasFirstNumber source traces options e =
-    0 < number_of e →
-    (e ≡ part.Flat flat.Unsupported) ⊎ IsFirstOf source traces options (Some (number_of e))
+    0 < number_of e → IsFirstOf source traces options (Some (number_of e))
 
 -- where there is a report, the source spells exactly one accepted program, the trace text exactly
 -- one list of traces, and the report lists, in its order, the verdict that the program's equations

@@ -70,7 +70,6 @@ check_number (check.Definition name) = 11
 abbrev pub flat_number : FlatError → ℕ
 flat_number flat.Memory = 0
 flat_number flat.Large = 12
-flat_number flat.Unsupported = 12
 
 abbrev pub order_number : OrderError → ℕ
 order_number order.Memory = 0

@@ -59,7 +59,6 @@ fn flat_number(cause: &FlatError) -> u8
     match cause {
         FlatError::Memory => 0,
         FlatError::Large => 12,
-        FlatError::Unsupported => 12,
     }
 }
 
@@ -88,7 +87,7 @@ pub enum BenchError {
     /// E0 and E9 to E11: types, clocks and definitions.
     #[error(transparent)]
     Check(CheckError),
-    /// E0 and E12: forms that do not run yet, and the size of what the program expands to.
+    /// E0 and E12: the size of what the program expands to.
     #[error(transparent)]
     Flat(FlatError),
     /// E0 and E13: an element that needs itself at the same instant.

@@ -11,6 +11,8 @@ mod commands;
 #[cfg(test)]
 mod elaboration;
 #[cfg(test)]
+mod forms;
+#[cfg(test)]
 mod lanes;
 #[cfg(test)]
 mod pool;

@@ -435,7 +435,7 @@ b passed
 total 2 passed 1 fault 0 undefined 0 assertion 0 false 1
 status 1";
 
-/// Refusals, by the first part that refuses. The last are of forms that do not run yet.
+/// Refusals, by the first part that refuses.
 const REFUSALS: &str = "
 %
 %answer
@@ -503,29 +503,6 @@ b,1
 a,1
 %answer
 E17 trace
-%case
-const n = 1;
-node main(x: int) returns (ok: bool); let ok = x > n; tel
-%answer
-E12 large
-%case
-node main(x: bool^2) returns (ok: bool); let ok = x[1]; tel
-%answer
-E12 large
-%case
-node main(x: bool) returns (ok: bool); let ok = g(x); tel
-node g(x: bool) returns (y: bool); let y = x; tel
-%answer
-E12 large
-%case
-node main(x: bool) returns (ok: bool); let ok = current (x when x); tel
-%answer
-E12 large
-%case o
-node main(x: bool) returns (y: bool); let y = x; tel
-node o(x, y: bool) returns (ok: bool); let ok = y; tel
-%answer
-E12 large
 %case
 node main(x: int) returns (ok: bool); let ok = true; tel
 %traces

@@ -251,33 +251,7 @@ impl TermEmission {
         Ok(())
     }
 
-    /// What the instance of a `red` at an index receives: its accumulator, and then its parts.
-    fn copy_red<F: Frame>(
-        &mut self,
-        frame: &F,
-        call: usize,
-        index: u32,
-        callee: Callee,
-        from: usize,
-    ) -> Result<(), AllocError>
-        requires clocks { F.clocks frame.now ≡ self.old.clocks.items }
-        requires variables { F.variables frame.now ≤ self.old.next }
-        requires from { from ≤ length self.old.found.items }
-        ensures state { OnOk result (state_of self.new
-            ≡ with_copies (state_of self.old) (mirror.index_copies (F.context frame.now) call
-            ((F.context frame.now).repeats call) Red callee
-            (drop from (numbers_of self.old.found.items)) index)) }
-        ensures found { OnOk result (self.new.found ≡ self.old.found) }
-        ensures next { OnOk result (self.new.next ≡ self.old.next) }
-        ensures clocks { OnOk result (self.new.clocks ≡ self.old.clocks) }
-    {
-        self.copy_accumulator(frame, call, index, callee, from)?;
-        let count = frame.child(call, index, 0).count as usize;
-        let taken = count.min(self.found.len() - from);
-        self.copy_parts(frame, call, index, 1, callee.inputs, from + taken)
-    }
-
-    /// What the instance at an index receives.
+    /// What the instance at an index receives: of a `red` its accumulator, and then its parts.
     fn copy_index<F: Frame>(
         &mut self,
         frame: &F,
@@ -300,7 +274,12 @@ impl TermEmission {
     {
         match iterator {
             ArrayIterator::Map => self.copy_parts(frame, call, index, 0, callee.inputs, from),
-            ArrayIterator::Red => self.copy_red(frame, call, index, callee, from),
+            ArrayIterator::Red => {
+                self.copy_accumulator(frame, call, index, callee, from)?;
+                let count = frame.child(call, index, 0).count as usize;
+                let taken = count.min(self.found.len() - from);
+                self.copy_parts(frame, call, index, 1, callee.inputs, from + taken)
+            }
             ArrayIterator::Fill => self.copy_accumulator(frame, call, index, callee, from),
         }
     }

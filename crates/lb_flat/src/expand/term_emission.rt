@@ -53,6 +53,7 @@ impl TermEmission {
     /// Nothing yet, where the first so many elements are those of variables.
     pub(crate) fn new(alloc: Global, clocks: Vec<Clock>, variables: u32) -> TermEmission
         ensures state { state_of result ≡ before_instances variables }
+        ensures found { result.found.items ≡ [] }
         ensures clocks { result.clocks ≡ clocks }
     {
         TermEmission {

@@ -1,18 +1,28 @@
 //! What begins a flat program: the rows of the table of instances that start.
 
-ghost use Rattle.std.specs.Prelude.{◌≡◌, ◌<◌, ◌≤◌, ◌+◌, ◌^◌, true, Some, OnOk};
+ghost use Rattle.std.specs.Prelude.{◌≡◌, ◌<◌, ◌≤◌, ◌+◌, ◌^◌, true, false, Some, length, OnOk};
+ghost use Rattle.std.specs.Prelude.{IfOk};
+ghost use Rattle.std.specs.Option.{ForSome};
+ghost use Rattle.lb_syntax.specs.Lists.{Every};
+ghost use Rattle.lb_flat.specs.EmitRows.{bodies, IsCounted, HasRows};
 ghost use Rattle.lb_flat.specs.EmitWhole as mirror;
 ghost use Rattle.lb_flat.specs.Frames.{with_copies};
-ghost use Rattle.lb_flat.specs.Programs.{numbers_of};
+ghost use Rattle.lb_flat.specs.Programs.{numbers_of, program_of, IsInRange};
 ghost use Rattle.lb_flat.specs.TermEmissions.{state_of};
+ghost use Rattle.lb_flat.specs.Within.{AreClocks};
 
+use crate::equation::Clock;
+use crate::expand::begin_emission::Beginning;
 use crate::expand::frame::TableFrame;
 use crate::expand::row_emission::row_node;
 use crate::expand::start::Start;
 use crate::expand::term_emission::TermEmission;
+use crate::further_kinds::further_kinds;
+use crate::program::FlatProgram;
 use lb_static::reach::Reached;
 use lb_static::table::{Origin, Table};
-use std::alloc::AllocError;
+use lb_syntax::tree::Kind;
+use std::alloc::{AllocError, Global};
 
 /// Whether an instance starts the node under test, or the observer.
 fn is_start(observer: bool, origin: Origin) -> bool
@@ -77,4 +87,48 @@ impl TermEmission {
         self.cut(from);
         Ok(())
     }
+}
+
+/// The flat program of the rows of a table of instances, on inputs of these kinds, where the
+/// elements of variables have these.
+pub(crate) fn emit_program<F: TableFrame>(
+    alloc: Global,
+    frame: &mut F,
+    reached: &Reached,
+    table: &Table,
+    clocks: Vec<Clock>,
+    inputs: Vec<Kind>,
+    kinds: Vec<Kind>,
+    variables: u32,
+) -> Result<FlatProgram, AllocError>
+    requires table { F.clocks frame.old ≡ clocks.items }
+    requires variables { F.variables frame.old ≡ variables }
+    requires clocks { AreClocks variables clocks.items }
+    requires kinds { length kinds.items ≡ variables }
+    requires positive { 0 < variables }
+    requires elements { (mirror.whole reached.now table.now (F.contexts frame.old) inputs.items
+        kinds.items variables).size < 2 ^ 32 }
+    requires places { Every IsCounted (bodies reached.now table.now (F.contexts frame.old) 0
+        table.now.instances.items) }
+    requires there { HasRows reached.now table.now (F.is_row frame.old) }
+    requires root { ForSome (mirror.start_in reached.now table.now false)
+        (mirror.IsReady (F.contexts frame.old) (F.is_row frame.old)) }
+    requires observer { ForSome (mirror.start_in reached.now table.now true)
+        (mirror.IsReady (F.contexts frame.old) (F.is_row frame.old)) }
+    ensures program { IfOk result (λ p. program_of p ≡ mirror.whole reached.now table.now
+        (F.contexts frame.old) inputs.items kinds.items variables) }
+    ensures in_range { IfOk result (λ p. IsInRange p) }
+{
+    let beginning = Beginning::new(alloc, frame, reached, table, &clocks, variables)?;
+    let Beginning {
+        copies,
+        clock_elements,
+        property,
+    } = beginning;
+    let mut emission = TermEmission::new(alloc, clocks, variables);
+    emission.rows(frame, reached, table)?;
+    let mut all_kinds = kinds;
+    further_kinds(&mut all_kinds, &emission.equations)?;
+    let whole = emission.after(copies)?;
+    whole.into_program(inputs, all_kinds, variables, clock_elements, property)
 }

@@ -1,5 +1,5 @@
 -- One variable more.
-use Rattle.std.proofs.Common.{◌≡◌, ◌++◌, get_or, ap, ap₂, ◌∙◌}
+use Rattle.std.proofs.Common.{◌++◌, get_or, ap, ap₂, ◌∙◌}
 use Rattle.lb_flat.specs.TableClocks.{clock_id, no_element, signed_clocks, variable_clocks}
 use Rattle.lb_flat.proofs.AddedPieces.{items_added}
 use Rattle.lb_flat.proofs.clocks.push_clocks.Goals as goal

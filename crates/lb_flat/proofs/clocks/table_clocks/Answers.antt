@@ -1,5 +1,5 @@
 -- One row more.
-use Rattle.std.proofs.Common.{◌≡◌, ◌++◌, ◌<◌, length, ap, ◌∙◌, rules}
+use Rattle.std.proofs.Common.{◌++◌, ◌<◌, length, ap, ◌∙◌, rules}
 use Rattle.lb_syntax.specs.Lists.{listed}
 use Rattle.lb_static.specs.declared.table.Instance as row
 use Rattle.lb_flat.specs.TableClocks.{node_clocks, row_clocks}

@@ -1,50 +1,16 @@
-use Rattle.std.proofs.Common.{subst}
+-- A program that the layout finds too large is not small; a small one has its expansion.
+use Rattle.std.proofs.Common.{◌<◌, ap, ap₂, ◌∙◌, subst}
 use Rattle.std.proofs.lemmas.Result.{err_from_is_err_and}
-use Rattle.lb_static.specs.Elaborated.{elaborated_program}
-use Rattle.lb_static.specs.declared.elab.Elaboration.{Elaboration}
-use Rattle.lb_flat.specs.PlainNodes.{IsPlain}
-use Rattle.lb_flat.specs.PlainPrograms.{node_in, IsPlainFault}
-use Rattle.lb_flat.proofs.PlainExpansion.{answer_is, answer_small, answer_given, refusal_is}
-use Rattle.lb_flat.proofs.PlainExpansion.{plain_fault_is}
+use Rattle.lb_flat.specs.Rows.{element_total}
+use Rattle.lb_flat.proofs.LayoutAnswers.{layout_refusal}
 use Rattle.lb_flat.proofs.expand.expand.Goals as goal
 
-pub returns-in_err-plain : goal.returns-in_err-plain
-returns-in_err-plain c =
+pub returns-in_err-layout : goal.returns-in_err-layout
+returns-in_err-layout c =
     let p = err_from_is_err_and c.from_residual.result c.from_residual.ensures.1 in
-    let error = c.in_err-plain.field-0.0 in
-    let fault = subst (λ (e : Elaboration). IsPlainFault (elaborated_program e) error)
-    c.elab.ensures.value c.in_err-plain.ensures.err in
-    rw (p.1, p.2) (plain_fault_is (elaborated_program c.args.checked.now.elab) error fault)
-
-pub returns-in_err-program : goal.returns-in_err-program
-returns-in_err-program c =
-    let residual = c.from_residual-in_err-program in
-    let p = err_from_is_err_and residual.result residual.ensures.1 in
-    let plain = c.in_ok-plain.plain in
-    let is = subst (λ (e : Elaboration). IsPlain (elaborated_program e) (node_in plain))
-    c.elab.ensures.value c.in_ok-plain.ensures.ok in
-    rw (p.1, p.2) (refusal_is plain (elaborated_program c.args.checked.now.elab) is
-    c.elab.ensures.lawful.accepted c.in_err-program.field-0.0 c.in_err-program.ensures.answer)
-
-pub invariant_of-result : goal.invariant_of-result
-invariant_of-result c =
-    let plain = c.in_ok-plain.plain in
-    let is = subst (λ (e : Elaboration). IsPlain (elaborated_program e) (node_in plain))
-    c.elab.ensures.value c.in_ok-plain.ensures.ok in
-    record {
-      in_range = c.in_ok-program.ensures.in_range;
-      given =
-          answer_given plain (elaborated_program c.args.checked.now.elab) is
-          c.elab.ensures.lawful.accepted c.in_ok-program.program c.in_ok-program.ensures.answer;
-    }
-
-pub returns : goal.returns
-returns c =
-    let plain = c.in_ok-plain.plain in
-    let is = subst (λ (e : Elaboration). IsPlain (elaborated_program e) (node_in plain))
-    c.elab.ensures.value c.in_ok-plain.ensures.ok in (
-      answer_small plain (elaborated_program c.args.checked.now.elab) is
-          c.elab.ensures.lawful.accepted c.in_ok-program.program c.in_ok-program.ensures.answer,
-      answer_is plain (elaborated_program c.args.checked.now.elab) is
-          c.elab.ensures.lawful.accepted c.in_ok-program.program c.in_ok-program.ensures.answer,
-    )
+    let elab = c.elab-elab.ensures in
+    let same = ap₂ element_total (c.reached.ensures.value ∙ ap (λ e. e.reached) elab.value)
+    (c.table.ensures.value ∙ ap (λ e. e.table) elab.value) in
+    rw (p.1, p.2) (layout_refusal c.args.checked.now.elab elab.lawful.elaborated
+    c.in_err-layout.field-0.0
+    (λ e. subst (λ n. 65536 < n) same (c.in_err-layout.ensures.large e)))

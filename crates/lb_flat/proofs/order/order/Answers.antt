@@ -1,17 +1,24 @@
 use Rattle.std.proofs.Common.{refl}
 use Rattle.std.proofs.lemmas.Result.{err_from_is_err_and}
-use Rattle.lb_flat.specs.Programs.{flat_equations}
+use Rattle.lb_flat.specs.Programs.{flat_equations, program_of}
+use Rattle.lb_flat.proofs.ExpansionReads.{expansion_causal}
 use Rattle.lb_flat.proofs.InOrder.{ready_of}
-use Rattle.lb_flat.proofs.Judging.{has_one_history}
-use Rattle.lb_flat.proofs.Prefixes.{is_prefix}
+use Rattle.lb_flat.proofs.StandingRuns.{standing_determined}
 use Rattle.lb_flat.proofs.order.order.Goals as goal
 
 pub returns-clause-determined : goal.returns-clause-determined
 returns-clause-determined c P flat =
     let p = c.args.flat.program in
     let qs = flat_equations p.clocks.items c.in_ok-equations.equations.items in
-    let ready = ready_of p.size qs c.in_ok-equations.ensures.order.in_order in
-    record { one = has_one_history P _ flat ready; prefix = is_prefix P _ flat ready }
+    standing_determined P _ flat (ready_of p.size qs c.in_ok-equations.ensures.order.in_order)
+
+pub returns-clause-causal : goal.returns-clause-causal
+returns-clause-causal c P expansion =
+    let p = c.args.flat.program in
+    let qs = flat_equations p.clocks.items c.in_ok-equations.equations.items in
+    let ordered = c.in_ok-equations.ensures.order in
+    expansion_causal P (program_of p) expansion qs ordered.ordering
+    (ready_of p.size qs ordered.in_order)
 
 pub returns-clause-order : goal.returns-clause-order
 returns-clause-order c =

@@ -1,11 +1,12 @@
-use Rattle.std.proofs.Common.{◌≡◌, ◌+◌, take, get_or}
-use Rattle.std.specs.Prelude.{◌-◌, sum_by}
+use Rattle.std.proofs.Common.{◌≡◌, ◌+◌, ◌-◌, take}
+use Rattle.std.specs.Prelude.{sum_by}
 use Rattle.lb_static.specs.declared.table.Instance as row
+use Rattle.lb_flat.specs.TableSizes.{lent_size}
 use Rattle.lb_flat.proofs.table_size.is_small.Given as goal
 
 abbrev pub invariant-loop-row : goal.invariant-loop-row
 invariant-loop-row l =
     l.left
     ≡ 65537 - (l.elements
-    + sum_by (λ (i : row.Instance). get_or l.terms i.specialization.0 0)
+    + sum_by (λ (i : row.Instance). lent_size l.checked.types i.specialization.0)
     (take l.row-index l.row-items))

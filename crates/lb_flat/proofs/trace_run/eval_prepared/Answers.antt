@@ -1,10 +1,12 @@
 -- The verdict of the flat program is that of the program.
 use Rattle.std.proofs.Common.{[]}
+use Rattle.lb_flat.specs.Inputs.{inputs_of}
 use Rattle.lb_flat.specs.Programs.{program_of}
 use Rattle.lb_flat.specs.Run.{Ready}
 use Rattle.lb_flat.specs.declared.prepared.Prepared.{Prepared}
 use Rattle.lb_flat.proofs.InOrder.{ready_of}
-use Rattle.lb_flat.proofs.RecordedInputs.{recorded_verdict, recorded_alone}
+use Rattle.lb_flat.proofs.RecordedInputs.{trace_given}
+use Rattle.lb_flat.proofs.StandingRuns.{standing_determined, standing_recorded}
 use Rattle.lb_flat.proofs.trace_run.eval_prepared.Goals as goal
 
 ready : (p : Prepared) → Ready p.program.now.size [] (program_of p.program.now).equations
@@ -13,12 +15,14 @@ ready p = ready_of p.program.now.size (program_of p.program.now).equations p.in_
 pub returns-clause-verdict : goal.returns-clause-verdict
 returns-clause-verdict c = λ P flat same.
     let p = c.args.prepared.now in
-    recorded_verdict P c.args.recorded.now.set.now c.args.k same c.signature.ensures.lawful
-    c.requires.trace (program_of p.program.now) flat (ready p) c.evaluate.result
+    standing_recorded P (program_of p.program.now) flat (ready p) c.args.recorded.now.set.now
+    c.args.k same c.signature.ensures.lawful c.requires.trace c.evaluate.result
     c.evaluate.ensures.verdict
 
 pub returns-clause-alone : goal.returns-clause-alone
 returns-clause-alone c = λ P flat same.
     let p = c.args.prepared.now in
-    recorded_alone P c.args.recorded.now.set.now c.args.k same c.signature.ensures.lawful
-    c.requires.trace (program_of p.program.now) flat (ready p)
+    let determined = standing_determined P (program_of p.program.now) flat (ready p) in
+    determined.one (inputs_of c.args.recorded.now.set.now c.args.k)
+    (trace_given P c.args.recorded.now.set.now c.args.k same c.signature.ensures.lawful
+    c.requires.trace)

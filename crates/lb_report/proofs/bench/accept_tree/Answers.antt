@@ -94,7 +94,7 @@ returns-clause-ok c =
     c.in_ok-flat.ensures in
     let found = accepted_is P (flat.program_of c.in_ok-flat.field-0.program)
     (flat.program_of c.in_ok-ordered.ordered.program) here.accepted checked answer.0 answer.1
-    c.in_ok-ordered.ensures.order in
+    c.in_ok-ordered.ensures.order (c.in_ok-ordered.ensures.causal P answer.1) in
     record {
       accepted = found.0;
       inputs =

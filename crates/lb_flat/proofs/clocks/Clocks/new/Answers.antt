@@ -1,6 +1,8 @@
--- What is filled is the table of the program.
-use Rattle.std.proofs.Common.{◌≡◌, rules}
+-- What is filled is the table of the program, in range.
+use Rattle.std.proofs.Common.{◌≡◌, sym, subst, rules}
 use Rattle.lb_flat.specs.TableClocks.{sources_of, all_clocks, all_runs}
+use Rattle.lb_flat.specs.Within.{AreClocks}
+use Rattle.lb_flat.proofs.ClockEntries.{filled_within}
 use Rattle.lb_flat.proofs.FilledFrom.{clocks_filled}
 use Rattle.lb_flat.proofs.clocks.Clocks.new.Goals as goal
 
@@ -12,3 +14,10 @@ returns-clause-lawful c laid =
     ≡ all_runs (sources_of c.args.checked.now c.args.layout.now) = search rules in
     clocks_filled c.args.checked.now c.elab-elab.ensures.lawful c.args.layout.now laid
     c.in_ok-table.table.items c.in_ok-runs.runs.items clocks runs
+
+pub returns-clause-within : goal.returns-clause-within
+returns-clause-within c laid =
+    let clocks : c.in_ok-table.table.items
+    ≡ all_clocks (sources_of c.args.checked.now c.args.layout.now) = search rules in
+    subst (AreClocks c.args.layout.now.count) (sym clocks)
+    (filled_within c.args.checked.now c.elab-elab.ensures.lawful c.args.layout.now laid)

@@ -1,4 +1,4 @@
-use Rattle.std.proofs.Common.{◌≡◌, ◌<◌, ◌≤◌, ℕ, length, arith, Some, None, sym, ap, ◌∙◌}
+use Rattle.std.proofs.Common.{◌<◌, length, arith, Some, None, sym, ap, ◌∙◌}
 use Rattle.std.specs.Prelude.{option_map}
 use Rattle.lb_flat.specs.EmitWhole.{start_in}
 use Rattle.lb_flat.proofs.EmittedStarts.{start_passed, start_here, start_end}

@@ -1,5 +1,7 @@
 use Rattle.std.proofs.Common.{arith}
-use Rattle.lb_flat.proofs.Ordering.{all_settled, is_stuck}
+use Rattle.lb_flat.specs.Programs.{numbers_of, program_of}
+use Rattle.lb_flat.proofs.ExpansionReads.{expansion_certified}
+use Rattle.lb_flat.proofs.Ordering.{all_settled}
 use Rattle.lb_flat.proofs.Tables.{is_table}
 use Rattle.lb_flat.proofs.order.schedule.schedule_table.Goals as goal
 
@@ -36,15 +38,7 @@ returns-clause-scheduled c =
     (omega (arith, c.requires.table.entries, c.loop-e-test.false)) c.loop-e.invariant)
 
 pub returns-then-not-done-e-clause-cycle : goal.returns-then-not-done-e-clause-cycle
-returns-then-not-done-e-clause-cycle c = (
-  c.in_ok-cycle.ensures,
-  is_stuck c.args.program.now c.args.table.now _
-      (record {
-        in_range = c.requires.in_range;
-        given = c.requires.given;
-        table = c.requires.table;
-        marks = c.in_ok-schedule_all.ensures.state.marks;
-        stuck = rw c.as_slice-clocks.ensures.value at c.in_ok-schedule_all.ensures.stuck;
-      })
-      c.loop-e.e (record { is_element = c.loop-e-test.true; is_left = c.if-not-done-e.true }),
-)
+returns-then-not-done-e-clause-cycle c =
+    let f = program_of c.args.program.now in
+    let is = numbers_of c.in_ok-cycle.cycle.items in
+    (c.in_ok-cycle.ensures, λ P e. expansion_certified P f e is c.in_ok-cycle.ensures)

@@ -1,9 +1,8 @@
 use denote.Param.Weighed.{at_most}
-use Rattle.std.proofs.Common.{◌≡◌, ◌<◌, ◌≤◌, ◌+◌, ◌*◌, ◌^◌, ℕ, List, length, drop, get_or, ◌++◌}
+use Rattle.std.proofs.Common.{◌≡◌, ◌<◌, ◌≤◌, ◌+◌, ◌*◌, ◌^◌, List, length, get_or, ◌++◌}
 use Rattle.std.proofs.Common.{arith}
 use Rattle.std.proofs.Common.{rules, inl, inr, Vec, Global, IfOk, refl, sym, ap, ap₂, subst, ◌∙◌}
-use Rattle.std.proofs.lemmas.List.{length-map, length-append, drop_all}
-use Rattle.lb_static.specs.declared.resolved.Term.{Term}
+use Rattle.std.proofs.lemmas.List.{length-map, drop_all}
 use Rattle.lb_static.proofs.resolved.Term.TheLaws.{the_size}
 use Rattle.lb_static.specs.declared.resolved.Term.TheViews.{sized-Group, sized-Unary, sized-Pre}
 use Rattle.lb_static.specs.declared.resolved.Term.TheViews.{sized-Current, sized-When}
@@ -16,11 +15,10 @@ use Rattle.lb_static.specs.declared.resolved.Term.TheViews.{sized-IterateSymbol}
 use Rattle.lb_check.specs.Scalars.{Boolean}
 use Rattle.lb_flat.specs.declared.equation.Clock.{Clock}
 use Rattle.lb_flat.specs.declared.equation.ElementId.{ElementId}
-use Rattle.lb_flat.specs.Emit.{Emitted, gives}
 use Rattle.lb_flat.specs.EmitTerms.{PlacedEmitted, placed, next_term, row_place, literal, choose}
 use Rattle.lb_flat.specs.EmitTerms.{with_one, with_two, with_all, emit_term, emit_list}
 use Rattle.lb_flat.specs.Flat.{FlatClock}
-use Rattle.lb_flat.specs.Frames.{elements_of, place_of, stacked, HasPlaces, HasRoom}
+use Rattle.lb_flat.specs.Frames.{elements_of, place_of, stacked, HasRoom}
 use Rattle.lb_flat.specs.Programs.{numbers_of}
 use Rattle.lb_flat.specs.TermEmissions.{state_of, emitted_of, above, on_top, on_two, on_three}
 use Rattle.lb_flat.specs.Values.{clock_of, scalar_of}

@@ -1,4 +1,4 @@
-use Rattle.std.proofs.Common.{◌≡◌, ◌<◌, ◌≤◌, ℕ, List, length, drop, get_or, arith, Vec, Global, ap}
+use Rattle.std.proofs.Common.{◌<◌, ◌≤◌, ℕ, List, length, drop, get_or, arith, Vec, Global, ap}
 use Rattle.std.proofs.Common.{◌∙◌}
 use Rattle.std.proofs.lemmas.List.{length-map}
 use Rattle.lb_flat.specs.declared.equation.ElementId.{ElementId}

@@ -2,7 +2,7 @@ use Rattle.std.proofs.Common.{◌≡◌, ◌∷◌, [], take, drop, Vec, Global,
 use Rattle.lb_syntax.specs.declared.tree.UnaryOperator.TheVariants.{Not}
 use Rattle.lb_flat.specs.declared.equation.Clock.{Clock}
 use Rattle.lb_flat.specs.declared.equation.ElementId.{ElementId}
-use Rattle.lb_flat.specs.Emit.{gives, push, twice, emit_at_most_one}
+use Rattle.lb_flat.specs.Emit.{gives, push, twice}
 use Rattle.lb_flat.specs.Flat.{FlatClock, ApplyUnary}
 use Rattle.lb_flat.specs.Programs.{numbers_of}
 use Rattle.lb_flat.specs.TermEmissions.{state_of, emitted_of, onto}

@@ -1,9 +1,8 @@
-use Rattle.std.proofs.Common.{◌≡◌, ◌<◌, ◌≤◌, length, drop, get_or, arith, Vec, Global, ap, ◌∙◌, ℕ}
+use Rattle.std.proofs.Common.{◌<◌, ◌≤◌, length, get_or, arith, Vec, Global, ap, ◌∙◌, ℕ}
 use Rattle.std.proofs.Common.{List}
 use Rattle.std.proofs.lemmas.List.{length-map}
 use Rattle.lb_flat.specs.declared.equation.Clock.{Clock}
 use Rattle.lb_flat.specs.declared.equation.ElementId.{ElementId}
-use Rattle.lb_flat.specs.Emit.{chained}
 use Rattle.lb_flat.specs.Flat.{FlatClock}
 use Rattle.lb_flat.specs.Programs.{numbers_of}
 use Rattle.lb_flat.specs.TermEmissions.{state_of}

@@ -1,8 +1,7 @@
-use Rattle.std.proofs.Common.{◌≡◌, ◌<◌, ◌≤◌, ◌+◌, ◌-◌, ◌^◌, ℕ, min, subst, length, drop, take}
-use Rattle.std.proofs.Common.{get_or, arith, ap, sym, ◌∙◌}
+use Rattle.std.proofs.Common.{◌<◌, ◌+◌, ◌-◌, ◌^◌, min, subst}
+use Rattle.std.proofs.Common.{arith, ap, ◌∙◌}
 use Rattle.std.proofs.lemmas.List.{length-map}
 use Rattle.lb_flat.specs.declared.equation.ElementId.{ElementId}
-use Rattle.lb_flat.specs.Programs.{numbers_of}
 use Rattle.lb_flat.specs.TermEmissions.{emitted_of}
 use Rattle.lb_flat.specs.Values.{clock_of}
 use Rattle.lb_flat.proofs.EmittedForms.{chosen_is, none_chosen}

@@ -1,4 +1,4 @@
-use Rattle.std.proofs.Common.{◌≡◌, ◌<◌, ◌≤◌, ℕ, List, drop, arith, Vec, Global, ap, ◌∙◌}
+use Rattle.std.proofs.Common.{◌<◌, ℕ, List, drop, arith, Vec, Global, ap, ◌∙◌}
 use Rattle.std.specs.Prelude.{flat_map}
 use Rattle.std.specs.List.{range_with_len}
 use Rattle.lb_flat.specs.declared.equation.ElementId.{ElementId}

@@ -1,9 +1,9 @@
-use Rattle.std.proofs.Common.{◌≡◌, ◌<◌, ◌≤◌, ℕ, List, length, drop, get_or, arith, Vec, Global, ap}
+use Rattle.std.proofs.Common.{◌<◌, ◌≤◌, ℕ, List, length, get_or, arith, Vec, Global, ap}
 use Rattle.std.proofs.Common.{◌∙◌}
 use Rattle.std.proofs.lemmas.List.{length-map}
 use Rattle.lb_flat.specs.declared.equation.ElementId.{ElementId}
 use Rattle.lb_flat.specs.Programs.{numbers_of}
-use Rattle.lb_flat.specs.TermEmissions.{emitted_of, kept, with_kept}
+use Rattle.lb_flat.specs.TermEmissions.{emitted_of, kept}
 use Rattle.lb_flat.proofs.EmittedChains.{keep_more, keep_ends}
 use Rattle.lb_flat.proofs.EmittedStacks.{number_at}
 use Rattle.lb_flat.proofs.expand.term_emission.TermEmission.keep.Goals as goal

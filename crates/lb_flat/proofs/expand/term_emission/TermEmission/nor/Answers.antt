@@ -3,7 +3,7 @@ use Rattle.lb_syntax.specs.declared.tree.UnaryOperator.TheVariants.{Not}
 use Rattle.lb_syntax.specs.declared.tree.BinaryOperator.TheVariants.{Or}
 use Rattle.lb_flat.specs.declared.equation.Clock.{Clock}
 use Rattle.lb_flat.specs.declared.equation.ElementId.{ElementId}
-use Rattle.lb_flat.specs.Emit.{gives, push, chained, emit_nor}
+use Rattle.lb_flat.specs.Emit.{gives, push, chained}
 use Rattle.lb_flat.specs.Flat.{FlatClock, ApplyUnary}
 use Rattle.lb_flat.specs.Programs.{numbers_of}
 use Rattle.lb_flat.specs.TermEmissions.{state_of, emitted_of, onto}

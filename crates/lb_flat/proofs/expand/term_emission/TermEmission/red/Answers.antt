@@ -1,5 +1,5 @@
-use Rattle.std.proofs.Common.{◌≡◌, ◌<◌, ◌≤◌, ◌+◌, ◌∷◌, [], ℕ, List, length, drop, get_or, arith}
-use Rattle.std.proofs.Common.{Vec, Global, ap, sym, ◌∙◌}
+use Rattle.std.proofs.Common.{◌<◌, ℕ, List, length, arith}
+use Rattle.std.proofs.Common.{Vec, Global, ap, ◌∙◌}
 use Rattle.std.proofs.lemmas.List.{length-map}
 use Rattle.lb_flat.specs.declared.equation.ElementId.{ElementId}
 use Rattle.lb_flat.specs.Programs.{numbers_of}

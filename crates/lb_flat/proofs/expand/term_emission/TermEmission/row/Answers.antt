@@ -1,10 +1,9 @@
 -- A row has the statements of its node, and none where it has no node.
-use Rattle.std.proofs.Common.{◌≡◌, ◌<◌, ◌≤◌, ◌^◌, ℕ, Option, Some, None, arith, OnOk, sym, ap}
+use Rattle.std.proofs.Common.{◌≡◌, ◌<◌, ◌^◌, arith, OnOk, sym, ap}
 use Rattle.std.proofs.Common.{subst}
 use Rattle.std.proofs.Common.{◌∙◌}
 use Rattle.std.specs.Prelude.{option_map}
 use Rattle.lb_flat.specs.Emit.{State}
-use Rattle.lb_flat.specs.EmitRows.{node_in}
 use Rattle.lb_flat.specs.TermEmissions.{state_of}
 use Rattle.lb_flat.proofs.EmittingRows.{row_is, row_none, row_places}
 use Rattle.lb_flat.proofs.expand.term_emission.TermEmission.row.Goals as goal

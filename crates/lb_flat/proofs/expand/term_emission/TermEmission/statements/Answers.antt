@@ -1,6 +1,6 @@
-use Rattle.std.proofs.Common.{◌≡◌, ◌<◌, ◌≤◌, ◌^◌, ℕ, List, length, arith, Vec, Global, sym, ap, ◌∙◌}
+use Rattle.std.proofs.Common.{arith, Vec, Global, sym, ap, ◌∙◌}
 use Rattle.lb_flat.specs.declared.equation.Clock.{Clock}
-use Rattle.lb_flat.specs.EmitTerms.{PlacedState, first_place, emit_statement, emit_statements}
+use Rattle.lb_flat.specs.EmitTerms.{PlacedState, first_place, emit_statements}
 use Rattle.lb_flat.specs.Frames.{place_of}
 use Rattle.lb_flat.specs.TermEmissions.{state_of}
 use Rattle.lb_flat.proofs.EmittingRows.{statement_step, statements_end, statement_room}

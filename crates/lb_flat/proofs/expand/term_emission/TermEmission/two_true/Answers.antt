@@ -1,4 +1,4 @@
-use Rattle.std.proofs.Common.{◌≡◌, ◌<◌, ◌≤◌, ℕ, length, drop, get_or, arith, Vec, Global, ap, ap₂}
+use Rattle.std.proofs.Common.{◌<◌, ◌≤◌, ℕ, length, get_or, arith, Vec, Global, ap, ap₂}
 use Rattle.std.proofs.Common.{◌∙◌, List}
 use Rattle.std.proofs.lemmas.List.{length-map}
 use Rattle.lb_syntax.specs.declared.tree.BinaryOperator.TheVariants.{Or, And}

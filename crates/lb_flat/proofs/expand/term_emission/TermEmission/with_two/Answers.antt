@@ -1,24 +1,19 @@
-use Rattle.std.proofs.Common.{◌≡◌, ◌<◌, ◌≤◌, ◌+◌, ◌-◌, ◌*◌, ◌^◌, ℕ, suc, List, length, min, arith}
-use Rattle.std.proofs.Common.{inl, inr, ◌++◌, Vec, Global, OnOk, false, refl, sym, ap, ap₂, subst}
-use Rattle.std.proofs.Common.{◌∙◌}
+use Rattle.std.proofs.Common.{◌≡◌, ◌<◌, ◌+◌, ◌-◌, ◌^◌, length, min, arith, inl, inr, ◌++◌, Vec}
+use Rattle.std.proofs.Common.{Global, OnOk, false, refl, sym, ap, subst, ◌∙◌}
 use Rattle.std.specs.List.{slice_range}
 use Rattle.std.proofs.lemmas.List.{length-map}
 use Rattle.lb_check.specs.Scalars.{first_value}
 use Rattle.lb_flat.specs.declared.equation.Clock.{Clock}
 use Rattle.lb_flat.specs.declared.equation.ElementId.{ElementId}
-use Rattle.lb_flat.specs.Emit.{Emitted, gives, emit_nor, emit_at_most_one}
-use Rattle.lb_flat.specs.EmitTerms.{each, memory, pairs, picked, call, iterate, symbol, with_one}
-use Rattle.lb_flat.specs.EmitTerms.{with_two, with_all}
-use Rattle.lb_flat.specs.Flat.{FlatClock, ApplyUnary, ApplyBinary, FirstThen, Previous, Latest}
-use Rattle.lb_flat.specs.Flat.{Sample}
+use Rattle.lb_flat.specs.Emit.{Emitted, gives}
+use Rattle.lb_flat.specs.EmitTerms.{memory, pairs, with_two}
+use Rattle.lb_flat.specs.Flat.{FlatClock, ApplyBinary, FirstThen, Previous}
 use Rattle.lb_flat.specs.Frames.{place_of}
-use Rattle.lb_flat.specs.Programs.{numbers_of}
-use Rattle.lb_flat.specs.TermEmissions.{emitted_of, above, on_top, on_two}
+use Rattle.lb_flat.specs.TermEmissions.{emitted_of, above, on_two}
 use Rattle.lb_flat.specs.Values.{clock_of}
-use Rattle.lb_flat.specs.Within.{IsClock}
 use Rattle.lb_flat.proofs.EmittedForms.{binary_form, arrow_form, fby_form, join_form, two_form}
 use Rattle.lb_flat.proofs.EmittedForms.{joined_stays, pairs_after}
-use Rattle.lb_flat.proofs.EmittedRooms.{pairs_room, memory_room, fby_rooms}
+use Rattle.lb_flat.proofs.EmittedRooms.{two_room, fby_rooms, same_clock}
 use Rattle.lb_flat.proofs.expand.term_emission.TermEmission.with_two.Goals as goal
 
 pub pairs-requires-clause-room : goal.pairs-requires-clause-room
@@ -29,18 +24,13 @@ pairs-requires-clause-room g c =
     let middle = c.args.middle in
     let at = place_of c.args.at in
     let t = c.args.term.now in
-    let x = emitted_of old in
-    let k = clock_of old.clocks.items c.clock-clock.result in
-    let clock : k ≡ ctx.clock at.term =
-    ap (λ (cs : List Clock). clock_of cs c.clock-clock.result) (sym c.requires.clocks)
-    ∙ c.clock-clock.ensures.clock in
-    let size = length-map old.found.items (λ (a : ElementId). a.0) in
-    let xs = slice_range x.found from middle in
-    let same = ap (λ (z : Emitted). z.state.next)
-    (binary_form ctx at t _ _ k c.in-Binary.op c.in-Binary.is clock xs (above middle x)) in
-    let room = pairs_room from middle (2 ^ 32) x k (ApplyBinary c.in-Binary.op) c.requires.from
-    (omega (arith, size, c.requires.middle)) (subst (λ n. n < 2 ^ 32) same c.requires.room) in
-    subst (λ n. old.next + min (middle - from) (n - middle) < 2 ^ 32) size room
+    let clock = same_clock old.clocks.items _ c.clock-clock.result _ c.requires.clocks
+    c.clock-clock.ensures.clock in
+    let xs = slice_range (emitted_of old).found from middle in
+    let y = above middle (emitted_of old) in
+    two_room old from middle c.requires.from c.requires.middle _ (ApplyBinary c.in-Binary.op)
+    (with_two ctx at t xs y) (binary_form ctx at t _ _ _ c.in-Binary.op c.in-Binary.is clock xs y)
+    c.requires.room
 
 pub pairs-requires-in-Arrow-clause-room : goal.pairs-requires-in-Arrow-clause-room
 pairs-requires-in-Arrow-clause-room g c =
@@ -50,18 +40,12 @@ pairs-requires-in-Arrow-clause-room g c =
     let middle = c.args.middle in
     let at = place_of c.args.at in
     let t = c.args.term.now in
-    let x = emitted_of old in
-    let k = clock_of old.clocks.items c.clock-clock.result in
-    let clock : k ≡ ctx.clock at.term =
-    ap (λ (cs : List Clock). clock_of cs c.clock-clock.result) (sym c.requires.clocks)
-    ∙ c.clock-clock.ensures.clock in
-    let size = length-map old.found.items (λ (a : ElementId). a.0) in
-    let xs = slice_range x.found from middle in
-    let same = ap (λ (z : Emitted). z.state.next)
-    (arrow_form ctx at t _ _ k c.in-Arrow.is clock xs (above middle x)) in
-    let room = pairs_room from middle (2 ^ 32) x k (FirstThen false) c.requires.from
-    (omega (arith, size, c.requires.middle)) (subst (λ n. n < 2 ^ 32) same c.requires.room) in
-    subst (λ n. old.next + min (middle - from) (n - middle) < 2 ^ 32) size room
+    let clock = same_clock old.clocks.items _ c.clock-clock.result _ c.requires.clocks
+    c.clock-clock.ensures.clock in
+    let xs = slice_range (emitted_of old).found from middle in
+    let y = above middle (emitted_of old) in
+    two_room old from middle c.requires.from c.requires.middle _ (FirstThen false)
+    (with_two ctx at t xs y) (arrow_form ctx at t _ _ _ c.in-Arrow.is clock xs y) c.requires.room
 
 pub memory-requires-clause-room : goal.memory-requires-clause-room
 memory-requires-clause-room g c =
@@ -71,18 +55,12 @@ memory-requires-clause-room g c =
     let middle = c.args.middle in
     let at = place_of c.args.at in
     let t = c.args.term.now in
-    let x = emitted_of old in
-    let k = clock_of old.clocks.items c.clock-clock.result in
-    let clock : k ≡ ctx.clock at.term =
-    ap (λ (cs : List Clock). clock_of cs c.clock-clock.result) (sym c.requires.clocks)
-    ∙ c.clock-clock.ensures.clock in
-    let size = length-map old.found.items (λ (a : ElementId). a.0) in
-    let xs = slice_range x.found from middle in
-    let same = ap (λ (z : Emitted). z.state.next)
-    (fby_form ctx at t _ _ k c.in-Fby.is clock xs (above middle x)) in
-    let rooms = fby_rooms from middle (2 ^ 32) x k c.requires.from
-    (omega (arith, size, c.requires.middle)) (subst (λ n. n < 2 ^ 32) same c.requires.room) in
-    subst (λ n. old.next + (n - middle) < 2 ^ 32) size rooms.0
+    let clock = same_clock old.clocks.items _ c.clock-clock.result _ c.requires.clocks
+    c.clock-clock.ensures.clock in
+    let xs = slice_range (emitted_of old).found from middle in
+    let y = above middle (emitted_of old) in
+    (fby_rooms old from middle _ (with_two ctx at t xs y) c.requires.from c.requires.middle
+    (fby_form ctx at t _ _ _ c.in-Fby.is clock xs y) c.requires.room).0
 
 pub pairs-requires-in-Fby-clause-room : goal.pairs-requires-in-Fby-clause-room
 pairs-requires-in-Fby-clause-room g c =
@@ -92,17 +70,12 @@ pairs-requires-in-Fby-clause-room g c =
     let middle = c.args.middle in
     let at = place_of c.args.at in
     let t = c.args.term.now in
-    let x = emitted_of old in
-    let k = clock_of old.clocks.items c.clock-clock.result in
-    let clock : k ≡ ctx.clock at.term =
-    ap (λ (cs : List Clock). clock_of cs c.clock-clock.result) (sym c.requires.clocks)
-    ∙ c.clock-clock.ensures.clock in
-    let size = length-map old.found.items (λ (a : ElementId). a.0) in
-    let xs = slice_range x.found from middle in
-    let same = ap (λ (z : Emitted). z.state.next)
-    (fby_form ctx at t _ _ k c.in-Fby.is clock xs (above middle x)) in
-    let rooms = fby_rooms from middle (2 ^ 32) x k c.requires.from
-    (omega (arith, size, c.requires.middle)) (subst (λ n. n < 2 ^ 32) same c.requires.room) in
+    let clock = same_clock old.clocks.items _ c.clock-clock.result _ c.requires.clocks
+    c.clock-clock.ensures.clock in
+    let xs = slice_range (emitted_of old).found from middle in
+    let y = above middle (emitted_of old) in
+    let rooms = fby_rooms old from middle _ (with_two ctx at t xs y) c.requires.from
+    c.requires.middle (fby_form ctx at t _ _ _ c.in-Fby.is clock xs y) c.requires.room in
     let mid = c.memory.new.self in
     let again = length-map mid.found.items (λ (a : ElementId). a.0) in
     let e = c.in_ok-memory-in-Fby.ensures.emitted in
@@ -123,8 +96,8 @@ returns-in_ok-memory-in-Fby-clause-emitted g c =
     let key : Vec Clock Global → FlatClock = λ cs. clock_of cs.items c.clock-clock.result in
     let k = key old.clocks in
     let clock : k ≡ ctx.clock at.term =
-    ap (λ (cs : List Clock). clock_of cs c.clock-clock.result) (sym c.requires.clocks)
-    ∙ c.clock-clock.ensures.clock in
+    same_clock old.clocks.items _ c.clock-clock.result _ c.requires.clocks
+    c.clock-clock.ensures.clock in
     let size = length-map old.found.items (λ (a : ElementId). a.0) in
     let f = FirstThen false in
     let h = memory k (Previous first_value) in

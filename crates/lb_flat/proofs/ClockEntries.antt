@@ -1,0 +1,269 @@
+-- The clocks of a table by the formula wait for elements of variables, on clocks of the table.
+use Rattle.std.proofs.Common.{◌≡◌, ◌⊎◌, inl, inr, ℕ, zero, suc, ◌+◌, ◌-◌, ◌*◌, ◌<◌, ◌≤◌, Bool, true}
+use Rattle.std.proofs.Common.{false, Option, Some, None, List, [], ◌∷◌, length, get_or, refl}
+use Rattle.std.proofs.Common.{ap, sym, ◌∙◌, subst, arith}
+use Rattle.std.specs.Prelude.{nat_lt, slice_get}
+use Rattle.std.proofs.lemmas.Bool.Decides.{nat_tests}
+use Rattle.std.proofs.lemmas.List.{length-map, take_all}
+use Rattle.std.proofs.lemmas.Option.{get_or_from_slice_get, slice_get_within}
+use Rattle.lb_syntax.specs.Lists.{Every, In}
+use Rattle.lb_syntax.specs.Tree.{Name, Declaration}
+use Rattle.lb_static.specs.DataTypes.{variables}
+use Rattle.lb_static.specs.Elaborated.{elaborated_program}
+use Rattle.lb_static.specs.Instances.{Program, Instance, Path, Root, Observer, Child, instance_at}
+use Rattle.lb_static.specs.Instances.{instances}
+use Rattle.lb_static.specs.Instantiation.{static_refusal}
+use Rattle.lb_static.specs.Parts.{variable_names}
+use Rattle.lb_static.specs.declared.table.Instance as row
+use Rattle.lb_static.proofs.Members.{in_at}
+use Rattle.lb_check.specs.Acceptance.{check_refusal}
+use Rattle.lb_check.specs.Clocks.{Clock, Base, On, declared_clock}
+use Rattle.lb_check.specs.Elements.{program_elements}
+use Rattle.lb_check.specs.LawfulPrograms.{IsChecked}
+use Rattle.lb_check.specs.Needs.{serving, site_clock}
+use Rattle.lb_check.specs.Occurrences.{node_occurrences}
+use Rattle.lb_check.specs.declared.checked.Checking.{Checking}
+use Rattle.lb_check.proofs.AcceptedNumbers.{numbers_below}
+use Rattle.lb_check.proofs.DeclaredClocks.{IsOwn, declared_own}
+use Rattle.lb_check.proofs.InstancePaths.{at_path, path_is}
+use Rattle.lb_check.proofs.NodePlaces.{held}
+use Rattle.lb_check.proofs.OperandTypes.{some_same}
+use Rattle.lb_flat.specs.ClockPlaces.{path_place, path_runs, path_before}
+use Rattle.lb_flat.specs.ClockTables.{sign_place, clock_place, IsClockTable}
+use Rattle.lb_flat.specs.Rows.{count_at, element_total}
+use Rattle.lb_flat.specs.TableClocks.{IsLayoutOf, sources_of, all_clocks, all_runs, all_serving}
+use Rattle.lb_flat.specs.TableClocks.{clocks_among}
+use Rattle.lb_flat.specs.Within.{IsClock, IsTableClock, AreClocks}
+use Rattle.lb_flat.specs.declared.equation.Clock as table
+use Rattle.lb_flat.specs.declared.equation.ClockId.{ClockId}
+use Rattle.lb_flat.specs.declared.layout.Layout.{Layout}
+use Rattle.lb_flat.proofs.AddedClocks.{AreCounted, clocks_long}
+use Rattle.lb_flat.proofs.ClockTable.{caller_of, site_is_own}
+use Rattle.lb_flat.proofs.FilledClocks.{filled_table, own_terms, nodes_found, counted, apart}
+use Rattle.lb_flat.proofs.NumberedPlaces.{signs_are}
+use Rattle.lb_flat.proofs.RowInstances.{IsRow, row_shown}
+use Rattle.lb_flat.proofs.RowPlaces.{row_number_is, variable_place_is}
+use Rattle.lb_flat.proofs.CountedRows.{row_count}
+use Rattle.lb_flat.proofs.TableSizes.{element_total_is}
+
+-- ## One entry
+
+module _ (P : Program) (accepted : static_refusal P ≡ None) (checked : check_refusal P ≡ None)
+    (own : (here : Instance) → In here (instances P) →
+    Every (λ o. IsOwn here.node o.clock) (node_occurrences P here.node))
+    (clocks : List table.Clock) (place : Path → Name → ℕ) (runs : Path → Option ClockId)
+    (before : Path → ℕ) (is : IsClockTable P clocks place runs before) where
+  id_within :
+      (here : Instance) → In here (instances P) → IsClock clocks (runs here.path) → (k : Clock) →
+      IsOwn here.node k → IsClock clocks (clock_place place runs here.path k)
+  id_within here on r Base h = r
+  id_within here on r (On k x sign) h =
+      let z = is.rows here on x h.1 sign in
+      let low = slice_get_within clocks (place here.path x + sign_place sign) z.row z.stands in
+      λ n e. subst (λ (i : ClockId). i.0 < length clocks)
+      (some_same (record { 0 = place here.path x + sign_place sign }) n e) low
+
+  base_within : IsClock clocks None
+  base_within n e = absurd cc
+
+  -- the clock of an instance is one of the table
+  runs_within :
+      (p : Path) (c : Instance) → instance_at P p ≡ Some c → IsClock clocks (runs p)
+  runs_within Root c at = subst (IsClock clocks) (sym is.root) base_within
+  runs_within Observer c at = subst (IsClock clocks) (sym is.observer) base_within
+  runs_within (Child p call index) c at =
+      let u = caller_of P accepted checked own clocks place runs before is p call index c at in
+      let path = path_is P p u.caller u.above in
+      let up = runs_within p u.caller u.above in
+      let there = id_within u.caller u.stands (subst (λ q. IsClock clocks (runs q)) (sym path) up)
+      (site_clock P u.occurrence.clock u.occurrence.expr)
+      (site_is_own P accepted checked own clocks place runs before is u.caller u.stands
+      u.occurrence u.occurs) in
+      subst (IsClock clocks) (sym (is.called p call index c u.caller u.occurrence at u.above
+      u.found))
+      (subst (λ q. IsClock clocks (clock_place place runs q
+      (site_clock P u.occurrence.clock u.occurrence.expr))) path there)
+
+  first_below : (n : ℕ) (xs : List ℕ) (i : ℕ) → Every (λ j. j < n) xs → slice_get xs 0 ≡ Some i →
+      i < n
+  first_below n [] i h e = absurd cc
+  first_below n (x ∷ xs) i h e = subst (λ j. j < n) (some_same x i e) h.0
+
+  -- each entry of the table is in range
+  pub entry_within :
+      (here : Instance) → In here (instances P) → instance_at P here.path ≡ Some here →
+      (x : Name) (on_x : In x (variable_names here.node)) (sign : Bool) → (c : table.Clock) →
+      slice_get clocks (place here.path x + sign_place sign) ≡ Some c →
+      IsTableClock (length (program_elements P)) clocks c
+  entry_within here on at x on_x sign c stands =
+      let z = is.rows here on x on_x sign in
+      let same = some_same z.row c (sym z.stands ∙ stands) in
+      let signs = sym (ap (λ (ns : List ℕ). slice_get ns 0) (signs_are P here on x)) ∙ z.serves in
+      subst (IsTableClock (length (program_elements P)) clocks) same
+      (record {
+        element =
+            first_below (length (program_elements P)) _ z.row.element.0
+            (numbers_below P accepted (serving P here.path x).0 (serving P here.path x).1) signs;
+        parent =
+            subst (IsClock clocks) (sym z.parent)
+            (id_within here on (runs_within here.path here at) (declared_clock here.node x)
+            (declared_own here.node x));
+      })
+
+-- ## All entries
+
+-- each number is twice another one, or one more
+halved : (m : ℕ) → (v : ℕ) × ((m ≡ 2 * v) ⊎ (m ≡ 2 * v + 1))
+halved zero = (0, inl refl)
+halved (suc zero) = (0, inr refl)
+halved (suc (suc m)) = by (halved m)
+  where
+    by : (v : ℕ) × ((m ≡ 2 * v) ⊎ (m ≡ 2 * v + 1)) →
+        (v : ℕ) × ((suc (suc m) ≡ 2 * v) ⊎ (suc (suc m) ≡ 2 * v + 1))
+    by (v, inl e) = (v + 1, inl (omega (arith, e)))
+    by (v, inr e) = (v + 1, inr (omega (arith, e)))
+
+before_test : (i n : ℕ) → nat_lt i n ≡ true → i < n
+before_test i n e = grind (arith, nat_tests)
+
+after_test : (i n : ℕ) → nat_lt i n ≡ false → n ≤ i
+after_test i n e = grind (arith, nat_tests)
+
+module _ (vars : List ℕ) (first : get_or vars 0 0 ≡ 0) where
+  -- a variable of all is one of a row
+  record IsOf (n v : ℕ) : Type 0 where
+    k : ℕ
+    x : ℕ
+    row : k < n
+    is : get_or vars k 0 + x ≡ v
+    low : x < count_at vars k
+
+  row_of_variable :
+      (n : ℕ) →
+      ((k : ℕ) → k < n → get_or vars (k + 1) 0 ≡ get_or vars k 0 + count_at vars k) →
+      (v : ℕ) → v < get_or vars n 0 → IsOf n v
+  row_of_variable zero next v lt = absurd (omega (arith, lt, first))
+  row_of_variable (suc n) next v lt =
+      by (nat_lt v (get_or vars n 0)) refl
+      (row_of_variable n (λ k low. next k (omega (arith, low))) v)
+    where
+      by : (b : Bool) → nat_lt v (get_or vars n 0) ≡ b → (v < get_or vars n 0 → IsOf n v) →
+          IsOf (suc n) v
+      by true e again =
+          let low = before_test v (get_or vars n 0) e in
+          let o = again low in
+          let below = o.row in
+          record { k = o.k; x = o.x; row = omega (arith, below); is = o.is; low = o.low }
+      by false e again =
+          let high = after_test v (get_or vars n 0) e in
+          let more = next n (omega arith) in
+          let same : get_or vars (n + 1) 0 ≡ get_or vars (suc n) 0 =
+          let one : n + 1 ≡ suc n = omega arith in ap (λ m. get_or vars m 0) one in
+          record {
+            k = n;
+            x = v - get_or vars n 0;
+            row = omega arith;
+            is = omega (arith, high);
+            low = omega (arith, high, more, same, lt);
+          }
+
+module _ (c : Checking) (lawful : IsChecked c) (l : Layout)
+    (laid : IsLayoutOf c.elab.reached c.elab.table l) where
+  abbrev P : Program
+  P = elaborated_program c.elab
+
+  abbrev C : List table.Clock
+  C = all_clocks (sources_of c l)
+
+  small : element_total c.elab.reached c.elab.table ≤ 65536
+  small = subst (λ n. n ≤ 65536) laid.count laid.few
+
+  own_counted : AreCounted (sources_of c l)
+  own_counted =
+      counted P c.elab.reached c.elab.table lawful.elaborated.reached lawful.elaborated.table
+      lawful.elaborated.accepted lawful.accepted c.clocks.items lawful.clocks l.variables.items
+      l.starts.items laid.numbers laid.variables small
+
+  long : length (all_clocks (sources_of c l))
+      ≡ 2 * get_or l.variables.items (length c.elab.table.instances.items) 0
+  long =
+      let n = length c.elab.table.instances.items in
+      ap (λ rows. length (clocks_among (sources_of c l) (all_runs (sources_of c l))
+      (all_serving (sources_of c l)) rows))
+      (sym (take_all n c.elab.table.instances.items (omega arith)))
+      ∙ clocks_long (sources_of c l) own_counted (all_runs (sources_of c l))
+      (all_serving (sources_of c l))
+      (nodes_found P c.elab.reached c.elab.table lawful.elaborated.reached lawful.elaborated.table
+      lawful.elaborated.accepted lawful.accepted c.clocks.items lawful.clocks l.variables.items
+      l.starts.items laid.numbers laid.variables small) n (omega arith)
+
+  at_variable :
+      (v : ℕ) (sign : Bool) →
+      v < get_or l.variables.items (length c.elab.table.instances.items) 0 → (e : table.Clock) →
+      slice_get (all_clocks (sources_of c l)) (2 * v + sign_place sign) ≡ Some e →
+      IsTableClock (length (program_elements (elaborated_program c.elab)))
+      (all_clocks (sources_of c l)) e
+  at_variable v sign lt e stands =
+      let o = row_of_variable l.variables.items own_counted.first
+      (length c.elab.table.instances.items) own_counted.next v lt in
+      let i = held c.elab.table.instances.items o.k o.row in
+      let s = row_shown P c.elab.reached c.elab.table lawful.elaborated.table o.k i.0 i.1 in
+      of o.k o.x i.0 s.0 s.1 o.is o.low
+    where
+      of : (k x : ℕ) (i : row.Instance) (here : Instance) →
+          IsRow (elaborated_program c.elab) c.elab.reached c.elab.table lawful.elaborated.table k i
+          here → get_or l.variables.items k 0 + x ≡ v → x < count_at l.variables.items k →
+          IsTableClock (length (program_elements (elaborated_program c.elab)))
+          (all_clocks (sources_of c l)) e
+      of k x i here is number low =
+          let on = in_at (instances P) k here is.instance_is in
+          let many = row_count P c.elab.reached c.elab.table lawful.elaborated.reached
+          lawful.elaborated.table lawful.elaborated.accepted l.variables.items laid.variables k i
+          here is in
+          let names = length-map (variables here.node) (λ (d : Declaration). d.name) in
+          let y = held (variable_names here.node) x (omega (arith, many, names, low)) in
+          let row_is = row_number_is P c.elab.reached c.elab.table lawful.elaborated.table k i here
+          is in
+          let distinct = apart P c.elab.reached c.elab.table lawful.elaborated.reached
+          lawful.elaborated.table lawful.elaborated.accepted lawful.accepted c.clocks.items
+          lawful.clocks l.variables.items l.starts.items laid.numbers laid.variables small k i here
+          is in
+          let place_is = variable_place_is P here on distinct x y.0 y.1 in
+          let start : path_before P l.variables.items here.path ≡ get_or l.variables.items k 0 =
+          ap (λ j. get_or l.variables.items j 0) row_is in
+          let place : 2 * v + sign_place sign
+          ≡ path_place P l.variables.items here.path y.0 + sign_place sign =
+          omega (arith, number, place_is, start) in
+          entry_within P lawful.elaborated.accepted lawful.accepted
+          (own_terms P c.elab.reached c.elab.table lawful.elaborated.reached
+          lawful.elaborated.table lawful.elaborated.accepted lawful.accepted c.clocks.items
+          lawful.clocks l.variables.items l.starts.items laid.numbers laid.variables small) C
+          (path_place P l.variables.items) (path_runs P (all_runs (sources_of c l)))
+          (path_before P l.variables.items)
+          (filled_table P c.elab.reached c.elab.table lawful.elaborated.reached
+          lawful.elaborated.table lawful.elaborated.accepted lawful.accepted c.clocks.items
+          lawful.clocks l.variables.items l.starts.items laid.numbers laid.variables small)
+          here on (at_path P here on) y.0 (in_at (variable_names here.node) x y.0 y.1) sign e
+          (ap (slice_get C) (sym place) ∙ stands)
+
+  -- all clocks that are filled are in range
+  pub filled_within : AreClocks l.count (all_clocks (sources_of c l))
+  filled_within m d lt =
+      let h = halved m in
+      let e = held C m lt in
+      let size : length (program_elements P) ≡ l.count =
+      sym (laid.count ∙ element_total_is P c.elab.reached c.elab.table lawful.elaborated.reached
+      lawful.elaborated.table) in
+      subst (λ n. IsTableClock n C (get_or C m d)) size
+      (subst (IsTableClock (length (program_elements P)) C)
+      (sym (get_or_from_slice_get C m e.0 d e.1)) (by h.0 h.1 e.0 e.1))
+    where
+      by : (v : ℕ) → (m ≡ 2 * v) ⊎ (m ≡ 2 * v + 1) → (e : table.Clock) →
+          slice_get (all_clocks (sources_of c l)) m ≡ Some e →
+          IsTableClock (length (program_elements (elaborated_program c.elab)))
+          (all_clocks (sources_of c l)) e
+      by v (inl h) e stands =
+          let same : 2 * v + 0 ≡ m = omega (arith, h) in
+          at_variable v false (omega (arith, h, lt, long)) e (ap (slice_get C) same ∙ stands)
+      by v (inr h) e stands =
+          at_variable v true (omega (arith, h, lt, long)) e (ap (slice_get C) (sym h) ∙ stands)

@@ -1,0 +1,54 @@
+-- What the types of an iterated node say of its results, where it is `red` or `fill`.
+use Rattle.std.proofs.Common.{◌≡◌, ℕ, Some, List, [], ◌∷◌, map, refl, sym}
+use Rattle.lb_syntax.specs.Lists.{all_some}
+use Rattle.lb_static.specs.DataTypes.{DataType}
+use Rattle.lb_check.specs.Types.{array_of, red_types, fill_types}
+use Rattle.lb_flat.proofs.TypeFacts.{bound, truly}
+
+-- the one type of what `red` gives is that of the output
+pub record Reduced (outs ts : List DataType) : Type 0 where
+  pub out : DataType
+  pub outs_is : outs ≡ out ∷ []
+  pub ts_is : ts ≡ out ∷ []
+
+pub red_of :
+    (n : ℕ) (ins outs args ts : List DataType) → red_types n ins outs args ≡ Some ts →
+    Reduced outs ts
+red_of n [] outs args ts e = cc
+red_of n (a ∷ ins) [] args ts e = cc
+red_of n (a ∷ ins) (o ∷ (p ∷ outs)) args ts e = cc
+red_of n (a ∷ ins) (o ∷ []) [] ts e = cc
+red_of n (a ∷ ins) (o ∷ []) (i ∷ args) ts e =
+    let w = bound (all_some (map (array_of n) ins)) _ ts e in
+    let h = truly _ (o ∷ []) ts w.gives in
+    record { out = o; outs_is = refl; ts_is = sym h.same }
+
+-- those of what `fill` gives are that of the first output, and arrays of the others
+pub record Filled (n : ℕ) (outs ts : List DataType) : Type 0 where
+  pub out : DataType
+  pub others : List DataType
+  pub arrays : List DataType
+  pub outs_is : outs ≡ out ∷ others
+  pub ts_is : ts ≡ out ∷ arrays
+  pub gives : all_some (map (array_of n) others) ≡ Some arrays
+
+pub fill_of :
+    (n : ℕ) (ins outs args ts : List DataType) → fill_types n ins outs args ≡ Some ts →
+    Filled n outs ts
+fill_of n [] outs args ts e = cc
+fill_of n (a ∷ (b ∷ ins)) outs args ts e = cc
+fill_of n (a ∷ []) [] args ts e = cc
+fill_of n (a ∷ []) (o ∷ []) args ts e = cc
+fill_of n (a ∷ []) (o ∷ (p ∷ outs)) [] ts e = cc
+fill_of n (a ∷ []) (o ∷ (p ∷ outs)) (i ∷ (j ∷ args)) ts e = cc
+fill_of n (a ∷ []) (o ∷ (p ∷ outs)) (i ∷ []) ts e =
+    let w = bound (all_some (map (array_of n) (p ∷ outs))) _ ts e in
+    let h = truly _ (o ∷ w.value) ts w.gives in
+    record {
+      out = o;
+      others = p ∷ outs;
+      arrays = w.value;
+      outs_is = refl;
+      ts_is = sym h.same;
+      gives = w.is;
+    }

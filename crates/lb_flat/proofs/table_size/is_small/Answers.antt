@@ -1,0 +1,23 @@
+-- The size of one row more is taken off; what is left tells whether the program is small.
+use Rattle.std.proofs.Common.{ap, ◌∙◌}
+use Rattle.lb_static.specs.declared.table.Instance as row
+use Rattle.lb_flat.specs.TableSizes.{lent_size}
+use Rattle.lb_flat.proofs.FoundSizes.{left_small}
+use Rattle.lb_flat.proofs.TableSizes.{less_left}
+use Rattle.lb_flat.proofs.table_size.is_small.Goals as goal
+
+pub loop-row-preserved : goal.loop-row-preserved
+loop-row-preserved c =
+    let l = c.loop-row in
+    less_left (λ (i : row.Instance). lent_size c.args.checked.now.types i.specialization.0)
+    c.deref-row-items.result.now l.row-index _ c.args.elements l.left c.row_size.result
+    c.saturating_sub-left-in-loop-row.result c.loop-row-test.true l.invariant c.row_size.ensures
+    c.saturating_sub-left-in-loop-row.ensures
+
+pub returns : goal.returns
+returns c =
+    let l = c.loop-row in
+    left_small c.args.checked.now c.elab.ensures.lawful c.deref-row-items.result.now
+    (c.deref-row-items.ensures.value
+    ∙ ap (λ t. t.instances.items) (c.table.ensures.value ∙ ap (λ e. e.table) c.elab.ensures.value))
+    c.args.elements l.left l.row-index c.requires c.loop-row-test.false l.invariant
