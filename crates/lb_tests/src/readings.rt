@@ -37,17 +37,36 @@ fn push_traces(set: &TraceSet, said: &mut String) -> Result<(), AllocError> {
     Ok(())
 }
 
+// What is read of a text under a signature, or its refusal.
+fn push_read(
+    alloc: Global,
+    signature: &Signature,
+    asked: &str,
+    said: &mut String,
+) -> Result<(), AllocError> {
+    let mut text = String::new(alloc);
+    push_text(asked, &mut text)?;
+    match &read_traces(alloc, signature, text.as_str().as_bytes()) {
+        Ok(set) => push_traces(set, said),
+        Err(error) => write!(said, "E{} {error}", error.number()),
+    }
+}
+
 /// What is read of a text whose columns are an integer `x` and a Boolean `c`, or its refusal.
 pub fn push_answer(alloc: Global, asked: &str, said: &mut String) -> Result<(), AllocError> {
     let mut signature = Signature::new(alloc);
     signature.push(String::from_str(alloc, "x")?, Kind::Int)?;
     signature.push(String::from_str(alloc, "c")?, Kind::Bool)?;
-    let mut text = String::new(alloc);
-    push_text(asked, &mut text)?;
-    match &read_traces(alloc, &signature, text.as_str().as_bytes()) {
-        Ok(set) => push_traces(set, said),
-        Err(error) => write!(said, "E{} {error}", error.number()),
-    }
+    push_read(alloc, &signature, asked, said)
+}
+
+/// The same of a text whose columns are integers `x` and `y` and a Boolean `c`.
+pub fn push_three(alloc: Global, asked: &str, said: &mut String) -> Result<(), AllocError> {
+    let mut signature = Signature::new(alloc);
+    signature.push(String::from_str(alloc, "x")?, Kind::Int)?;
+    signature.push(String::from_str(alloc, "y")?, Kind::Int)?;
+    signature.push(String::from_str(alloc, "c")?, Kind::Bool)?;
+    push_read(alloc, &signature, asked, said)
 }
 
 // Records that end in each way, with and without an end of the last; empty lines; a byte order
@@ -88,9 +107,39 @@ trace,x,c/a,1,0/a,-,0/ => E16 the cell of record 2 in column 0 is no value of it
 trace,x,c/a,1,0/a,1 ,0/ => E16 the cell of record 2 in column 0 is no value of it
 trace,x,c/a,1,0/b,1,0/a,x,0/ => E17 the trace name of record 3 is ill-formed or comes back
 trace,x,c/a,1,0/'b',1,0/a,x,0/ => E17 the trace name of record 3 is ill-formed or comes back
+trace,x,c/a,1,0/b,1,0/a,1,0/ => E17 the trace name of record 3 is ill-formed or comes back
+trace,x,c/a,1,0/b,1,0/a,1/ => E15 record 3 has 1 cells, and the header 2
+trace,x,c/a,1,0/b+,1,0/ => E17 the trace name of record 2 is ill-formed or comes back
+trace,x,c/a,1,0/b,1,2/ => E16 the cell of record 2 in column 1 is no value of it
 trace,x,c/,1,0/ => E17 the trace name of record 1 is ill-formed or comes back";
 
 #[test]
 fn readings(rt: HostRuntime) -> Result<(), AllocError> {
     check(&rt, &Table::of_lines(Asks::Readings, READINGS))
+}
+
+// Columns in each of their six orders, with cells of each length and in each place of a trace; and
+// refusals where they stand in another order.
+const ORDERS: &str = "\
+trace,x,y,c/a,1,2,0/a,30,-4,1/b,500,6000,true/ => a: ( 1 2 0 ) ( 30 -4 1 );b: ( 500 6000 1 );
+trace,x,c,y/a,1,0,2/a,30,1,-4/b,500,true,6000/ => a: ( 1 2 0 ) ( 30 -4 1 );b: ( 500 6000 1 );
+trace,y,x,c/a,2,1,0/a,-4,30,1/b,6000,500,true/ => a: ( 1 2 0 ) ( 30 -4 1 );b: ( 500 6000 1 );
+trace,y,c,x/a,2,0,1/a,-4,1,30/b,6000,true,500/ => a: ( 1 2 0 ) ( 30 -4 1 );b: ( 500 6000 1 );
+trace,c,x,y/a,0,1,2/a,1,30,-4/b,true,500,6000/ => a: ( 1 2 0 ) ( 30 -4 1 );b: ( 500 6000 1 );
+trace,c,y,x/a,0,2,1/a,1,-4,30/b,true,6000,500 => a: ( 1 2 0 ) ( 30 -4 1 );b: ( 500 6000 1 );
+trace,y,c,x\\a,2,'0',1\\a,-4,1,30\\'b',6,1,5\\ => a: ( 1 2 0 ) ( 30 -4 1 );b: ( 5 6 1 );
+trace,y,c,x/a,2,0,1/b,2,1,1/c,2,0,1/ => a: ( 1 2 0 );b: ( 1 2 1 );c: ( 1 2 0 );
+trace,c,y,x/a,0,2147483647,-2147483648/ => a: ( -2147483648 2147483647 0 );
+trace,c,y,x/a,0,2,1/a,0,2147483648,1/ => E16 the cell of record 2 in column 1 is no value of it
+trace,c,y,x/a,0,2,1/a,2,1,1/ => E16 the cell of record 2 in column 0 is no value of it
+trace,c,y,x/a,0,2,1/a,0,2/ => E15 record 2 has 2 cells, and the header 3
+trace,c,y,x/a,0,2,1/a,0,2,1,1/ => E15 record 2 has 4 cells, and the header 3
+trace,c,y,x/a,0,2,1/b,0,2,1/a,0,2,1/ => E17 the trace name of record 3 is ill-formed or comes back
+trace,c,x,x/a,0,2,1/ => E14 the first record is not `trace` and the name of each scalar input
+trace,c,x/a,0,2/ => E14 the first record is not `trace` and the name of each scalar input
+trace,c,y,x,z/a,0,2,1,3/ => E14 the first record is not `trace` and the name of each scalar input";
+
+#[test]
+fn orders(rt: HostRuntime) -> Result<(), AllocError> {
+    check(&rt, &Table::of_lines(Asks::Orders, ORDERS))
 }

@@ -43,6 +43,8 @@ pub enum Asks<'a> {
     Spreads,
     /// A trace text under the signature `x: int, c: bool`.
     Readings,
+    /// A trace text under the signature `x: int, y: int, c: bool`.
+    Orders,
     /// A kernel on integers, and its operands.
     Ints,
     /// A kernel on planes, and its operands.
@@ -147,6 +149,7 @@ fn push_answer<R: Runtime + AllocGlobal + Threads + Sync>(
         Asks::Shares => pool::push_shares(rt.alloc(), asked, said),
         Asks::Spreads => pool::push_spread(rt, asked, said),
         Asks::Readings => readings::push_answer(rt.alloc(), asked, said),
+        Asks::Orders => readings::push_three(rt.alloc(), asked, said),
         Asks::Ints => lanes::push_ints(asked, said),
         Asks::Planes => lanes::push_plane(asked, said),
     }

@@ -11,7 +11,8 @@ use Rattle.lb_static.specs.Signature.{Elements}
 use Rattle.lb_flat.specs.Traces.{IsTrace, IsTraceName, Row, Trace, Traces, cells_of_instant}
 use Rattle.lb_flat.specs.Traces.{instants_of, last_rows, with_row, with_trace}
 use Rattle.lb_trace.specs.declared.header.Column.{Column}
-use Rattle.lb_trace.specs.Mirrors.{go_on_by, record_by, row_by, start_by, start_cells}
+use Rattle.lb_trace.specs.Mirrors.{add_by, go_on_by, record_by, row_by, start_by}
+use Rattle.lb_trace.specs.Mirrors.{start_cells}
 use Rattle.lb_trace.specs.Refusals.{is_last, is_trace_name, with_cells}
 use Rattle.lb_trace.specs.Spelling.{Record, after_first}
 use Rattle.lb_trace.proofs.Names.{bytes_eq-flip, comes_back-last, is_trace_name-true, last_lawful}
@@ -89,6 +90,28 @@ record_by-other elements table width traces (first ∷ cells) name found long ot
     || list_any (λ (t : Trace). bytes_eq first t.0) traces then Err 17 else r)
     (other_cells elements first traces (row_by table cells) is)
     ∙ ap (λ n. start_by elements n traces (row_by table cells)) same)
+
+-- a record of any trace
+pub record_by-added : (elements : Elements) (table : List Column) (width : ℕ) (traces : Traces)
+    (fields : Record) (name : List ℕ)
+    → field_at fields 0 ≡ Some name → length (after_first fields) ≡ width
+    → All (IsTrace elements) traces
+    → record_by elements table width traces fields
+    ≡ add_by elements name traces (row_by table (after_first fields))
+record_by-added elements table width traces fields name found long each =
+    by (is_last name traces) refl
+  where
+    by : (b : Bool) → is_last name traces ≡ b
+        → record_by elements table width traces fields
+        ≡ add_by elements name traces (row_by table (after_first fields))
+    by true is =
+        record_by-last elements table width traces fields name found long each is
+        ∙ ap (λ t. if t then go_on_by elements traces (row_by table (after_first fields))
+        else start_by elements name traces (row_by table (after_first fields))) (sym is)
+    by false is =
+        record_by-other elements table width traces fields name found long is
+        ∙ ap (λ t. if t then go_on_by elements traces (row_by table (after_first fields))
+        else start_by elements name traces (row_by table (after_first fields))) (sym is)
 
 -- a name that is ill-formed or there already
 refuse : (a b : Bool) (r : Result Traces ℕ) → (a && not b) ≡ false

@@ -17,3 +17,4 @@ pub mod PlainValues
 pub mod CopiedCells
 pub mod PlainRecordings
 pub mod OrderedColumns
+pub mod PlacedRows

@@ -1,10 +1,11 @@
--- Columns that stand in the order of the signature.
+-- Columns that stand in the order of the signature, or at their places in the text.
 use Rattle.std.proofs.Common.{ℕ, suc, ◌≡◌, ◌+◌, ◌<◌, List, [], ◌∷◌, ◌++◌, length, get_or, take, sym}
-use Rattle.std.proofs.Common.{ap, ◌∙◌}
+use Rattle.std.proofs.Common.{◌∙◌}
 use Rattle.std.proofs.Common.{subst, arith}
 use Rattle.std.proofs.lemmas.List.{length-take-le, take_more}
+use Rattle.std.proofs.lemmas.List.Elements.{All-push}
 use Rattle.lb_trace.specs.declared.header.Column.{Column}
-use Rattle.lb_trace.specs.PlainRows.{AreInOrder}
+use Rattle.lb_trace.specs.PlainRows.{AreInOrder, ArePlaced, IsPlaced}
 
 -- one more column after those in order
 in_order_push :
@@ -23,3 +24,12 @@ one_more_in_order table i d within ordered is =
     let place : i ≡ 0 + length (take i table) = omega (arith, size) in
     subst (AreInOrder 0) (sym (take_more table i d within))
     (in_order_push 0 (take i table) (get_or table i d) ordered (is ∙ place))
+
+-- one more column that stands at its place
+pub one_more_placed :
+    (placed table : List Column) (i : ℕ) (d : Column) → i < length table →
+    ArePlaced placed (take i table) → IsPlaced placed (get_or table i d) →
+    ArePlaced placed (take (i + 1) table)
+one_more_placed placed table i d within before here =
+    subst (ArePlaced placed) (sym (take_more table i d within))
+    (All-push (IsPlaced placed) (take i table) (get_or table i d) before here)

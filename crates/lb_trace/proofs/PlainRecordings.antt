@@ -1,30 +1,25 @@
 -- What is read of a text without quotes, record by record.
-use Rattle.std.proofs.Common.{ℕ, suc, ◌≡◌, ◌+◌, ◌<◌, ◌≤◌, ◌==◌, ◌⊎◌, inl, inr, ⊎_elim, Bool, true}
+use Rattle.std.proofs.Common.{ℕ, suc, ◌≡◌, ◌+◌, ◌≤◌, ◌==◌, ◌⊎◌, inl, ⊎_elim, true}
 use Rattle.std.proofs.Common.{false}
-use Rattle.std.proofs.Common.{if◌then◌else◌, List, [], ◌∷◌, ◌++◌, length, get_or, map, Option, Some}
+use Rattle.std.proofs.Common.{List, [], ◌∷◌, ◌++◌, length, get_or, map, Option, Some}
 use Rattle.std.proofs.Common.{None}
-use Rattle.std.proofs.Common.{Result, Ok, Err, ℤ, refl, sym, ap, ◌∙◌, subst, arith, append_assoc}
+use Rattle.std.proofs.Common.{Ok, Err, ℤ, refl, sym, ap, ◌∙◌, subst, arith, append_assoc}
 use Rattle.std.proofs.lemmas.Bool.{eqb-true}
-use Rattle.std.specs.List.{All}
 use Rattle.std.specs.Option.{option_and_then, option_map}
-use Rattle.std.specs.Str.{bytes_eq}
-use Rattle.csv.specs.Records.{field_at}
-use Rattle.csv.specs.Reading.{default_config, records, strip_bom}
 use Rattle.lb_static.specs.Signature.{Elements}
-use Rattle.lb_flat.specs.Traces.{IsRecording, IsTrace, Recording, Row, Traces, instants_of}
+use Rattle.lb_flat.specs.Traces.{IsRecording, Recording, Row, Traces, instants_of}
 use Rattle.lb_flat.proofs.Recordings.{IsRecording-none}
 use Rattle.lb_trace.specs.declared.error.TraceError.{TraceError}
 use Rattle.lb_trace.specs.declared.header.Column.{Column}
 use Rattle.lb_trace.specs.Cells.{cell_value}
 use Rattle.lb_trace.specs.Errors.{IsRefusal, Refuses, error_number}
 use Rattle.lb_trace.specs.Lines.{after_line, record_of}
-use Rattle.lb_trace.specs.Mirrors.{column_of, go_on_by, record_by, row_by}
+use Rattle.lb_trace.specs.Mirrors.{column_of, record_by, row_by}
 use Rattle.lb_trace.specs.Plain.{plain_records}
 use Rattle.lb_trace.specs.PlainRows.{AreInOrder, plain_row}
 use Rattle.lb_trace.specs.Refusals.{is_last, outcome, then_read, with_record, with_records}
 use Rattle.lb_trace.specs.Scan.{begun_records}
 use Rattle.lb_trace.specs.Spelling.{Record, after_first, is_header, records_of}
-use Rattle.lb_trace.proofs.Additions.{record_by-last}
 use Rattle.lb_trace.proofs.Outcomes.{outcome-records, reading-none, reading-other, reading-rows}
 use Rattle.lb_trace.proofs.Readings.{added, count_either, refused}
 use Rattle.lb_trace.proofs.Soundness.{IsRecording-instant, Reads, reads_record}
@@ -80,25 +75,6 @@ row_in_order (column ∷ table) before (cell ∷ cells) row ordered read =
               (row_by table (before ++ cell ∷ cells)))) v
               ∙ ap (option_map (λ r. value ∷ r)) rows ∙ known,
         )
-
--- a record of the last trace, read in one pass
-pub line_of_last :
-    (elements : Elements) (table : List Column) (traces : Traces) (text bytes rest : List ℕ)
-    (last : Bool) (row : Row) →
-    record_of text ≡ bytes ∷ (if last then [] else record_of rest) → last ≡ false →
-    All (IsTrace elements) traces → is_last bytes traces ≡ true → AreInOrder 0 table →
-    plain_row table (record_of rest) ≡ Some row →
-    record_by elements table (length table) traces (record_of text)
-    ≡ go_on_by elements traces (Some row)
-unfolding field_at
-line_of_last elements table traces text bytes rest last row first inner each is ordered read =
-    let all : record_of text ≡ bytes ∷ record_of rest =
-    first ∙ ap (λ t. bytes ∷ (if t then [] else record_of rest)) inner in
-    let found = row_in_order table [] (record_of rest) row ordered read in
-    ap (record_by elements table (length table) traces) all
-    ∙ record_by-last elements table (length table) traces (bytes ∷ record_of rest) bytes refl
-    found.0 each is
-    ∙ ap (go_on_by elements traces) found.1
 
 -- the records of a text that begins with one
 begun-more :

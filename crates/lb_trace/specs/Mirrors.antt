@@ -13,7 +13,7 @@ use Rattle.lb_flat.specs.Traces.{IsRow, Row, Traces, cells_of_instant, instants_
 use Rattle.lb_flat.specs.Traces.{with_row, with_trace}
 use Rattle.lb_trace.specs.declared.header.Column.{Column}
 use Rattle.lb_trace.specs.Cells.{cell_value}
-use Rattle.lb_trace.specs.Refusals.{comes_back, is_trace_name, with_cells}
+use Rattle.lb_trace.specs.Refusals.{comes_back, is_last, is_trace_name, with_cells}
 use Rattle.lb_trace.specs.Spelling.{Record}
 
 -- the column of an element
@@ -59,6 +59,12 @@ abbrev pub start_by : Elements → List ℕ → Traces → Option Row → Result
 start_by elements name traces row =
     if not (is_trace_name name) || list_any (λ t. bytes_eq name t.0) traces then Err 17
     else start_cells elements name traces row
+
+-- what is left of a record, after its length: it is of the last trace, or of another
+abbrev pub add_by : Elements → List ℕ → Traces → Option Row → Result Traces ℕ
+add_by elements name traces row =
+    if is_last name traces then go_on_by elements traces row
+    else start_by elements name traces row
 
 -- a row that is read by a table follows a signature
 abbrev pub RowsFollow : List Column → Elements → Type 0

@@ -1,7 +1,8 @@
--- The row that the cells of a record without quotes spell, where the columns stand in the order of
--- the signature.
+-- The row that the cells of a record without quotes spell, in the order of the text, and where the
+-- columns of the signature stand in it.
 use Rattle.std.specs.Prelude.{ℕ, suc, ◌≡◌, Bool, true, false, ◌+◌, ◌*◌, ◌-◌, List, [], ◌∷◌, ◌++◌}
-use Rattle.std.specs.Prelude.{Option, Some, None, ℤ, ◌<◌}
+use Rattle.std.specs.Prelude.{Option, Some, None, ℤ, ◌<◌, length, get_or}
+use Rattle.std.specs.List.{All}
 use Rattle.std.specs.Option.{option_and_then, option_map}
 use Rattle.lb_syntax.specs.declared.tree.Kind.{Kind}
 use Rattle.lb_trace.specs.declared.header.Column.{Column}
@@ -23,6 +24,15 @@ plain_row (column ∷ columns) (cell ∷ cells) =
 abbrev pub AreInOrder : ℕ → List Column → Type 0
 AreInOrder n [] = Unit {0}
 AreInOrder n (column ∷ columns) = (column.at ≡ n) × AreInOrder (suc n) columns
+
+-- a column of this kind stands at the place of this one
+abbrev pub IsPlaced : List Column → Column → Type 0
+IsPlaced placed column =
+    (column.at < length placed) × ((get_or placed column.at column).kind ≡ column.kind)
+
+-- columns in the order of the text have each column of a table at its place
+abbrev pub ArePlaced : List Column → List Column → Type 0
+ArePlaced placed table = All (IsPlaced placed) table
 
 -- a row after some values that stand already
 abbrev pub onto : List ℤ → Option (List ℤ) → Option (List ℤ)

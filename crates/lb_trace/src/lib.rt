@@ -5,6 +5,7 @@ mod cells;
 mod copied;
 pub mod error;
 mod header;
+mod placed_rows;
 mod plain;
 mod plain_rows;
 mod read;

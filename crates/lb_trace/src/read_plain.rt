@@ -12,7 +12,7 @@ use crate::header::columns_of;
 use crate::record::width;
 use crate::recorder::Recorder;
 use crate::scan::skip_line_ends;
-use crate::table::{Table, are_in_order};
+use crate::table::{Table, are_in_order, are_placed, in_text_order};
 use csv::ByteRecord;
 use lb_flat::traces::TraceSet;
 use lb_static::signature::Signature;
@@ -50,10 +50,16 @@ pub(crate) fn read_plain(
     };
     let count = width(entry);
     let in_order = are_in_order(&columns, count);
+    let Ok(placed) = in_text_order(alloc, &columns, count) else {
+        return Err(TraceError::Memory(AllocError));
+    };
+    let is_placed = are_placed(&placed, &columns, count);
     let table = Table {
         columns,
         count,
         in_order,
+        placed,
+        is_placed,
     };
     let Ok(mut recorder) = Recorder::new(alloc, signature) else {
         return Err(TraceError::Memory(AllocError));

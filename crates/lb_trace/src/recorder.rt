@@ -10,10 +10,10 @@ ghost use Rattle.csv.specs.Records.{fields_of};
 ghost use Rattle.lb_flat.specs.Traces.{IsRecording, IsTraceName, cells_of_instant, instants_of};
 ghost use Rattle.lb_flat.specs.Traces.{IsRow, last_rows, trace_names};
 ghost use Rattle.lb_trace.specs.Errors.{IsRefusal, error_number};
-ghost use Rattle.lb_trace.specs.Mirrors.{RowsFollow, go_on_by, knows, record_by, row_by, start_by};
+ghost use Rattle.lb_trace.specs.Mirrors.{RowsFollow, add_by, go_on_by, knows, record_by, row_by};
 ghost use Rattle.lb_trace.specs.Lines.{after_line, record_of};
-ghost use Rattle.lb_trace.specs.Mirrors.{start_cells};
-ghost use Rattle.lb_trace.specs.PlainRows.{AreInOrder};
+ghost use Rattle.lb_trace.specs.Mirrors.{start_by, start_cells};
+ghost use Rattle.lb_trace.specs.PlainRows.{AreInOrder, ArePlaced};
 ghost use Rattle.lb_trace.specs.Refusals.{is_last, is_trace_name as lawful_name, with_cells};
 ghost use Rattle.lb_trace.specs.Refusals.{has_room};
 ghost use Rattle.lb_trace.specs.Spelling.{after_first};
@@ -21,7 +21,7 @@ ghost use Rattle.lb_trace.specs.Spelling.{after_first};
 use crate::copied::copy_record;
 use crate::error::TraceError;
 use crate::header::Column;
-use crate::plain_rows::read_line;
+use crate::placed_rows::read_cells;
 use crate::record::width;
 use crate::rows::read_row;
 use crate::scan::next_cell;
@@ -32,12 +32,13 @@ use lb_static::signature::Signature;
 use std::alloc::{AllocError, Global};
 use std::collections::HashSet;
 
-/// The traces so far, their names, and room for a row.
+/// The traces so far, their names, and room for a row and for the cells of a record.
 #[derive(Drop)]
 pub(crate) struct Recorder {
     pub(crate) rows: TraceRows,
     names: HashSet<String>,
     row: Vec<i32>,
+    values: Vec<i32>,
 }
 
 // Whether the last trace has this name.
@@ -115,6 +116,7 @@ impl Recorder {
             rows: TraceRows::new(alloc, signature)?,
             names: HashSet::new(alloc),
             row: Vec::new(alloc),
+            values: Vec::new(alloc),
         })
     }
 
@@ -162,8 +164,7 @@ impl Recorder {
     }
 
     /// Adds the first record of a text without quotes, and gives what stands after it; otherwise as
-    /// `add`. A record of the last trace is read in one pass where the columns stand in the order
-    /// of the signature; `entry` is room for another.
+    /// `add`. A record whose cells spell a row is read in one pass; `entry` is room for another.
     pub(crate) fn add_line<'t>(
         &mut self,
         alloc: Global,
@@ -178,6 +179,9 @@ impl Recorder {
         requires order { IsTrue table.now.in_order
             → (length table.now.columns.items ≡ table.now.count)
             × AreInOrder 0 table.now.columns.items }
+        requires placed { IsTrue table.now.is_placed
+            → (length table.now.placed.items ≡ table.now.count)
+            × ArePlaced table.now.placed.items table.now.columns.items }
         ensures ok { IfOk result (λ rest. record_by self.old.rows.signature table.now.columns.items
             table.now.count self.old.rows.traces (record_of text.now) ≡ Ok self.new.rows.traces) }
         ensures after { IfOk result (λ rest. rest.now ≡ after_line text.now) }
@@ -187,10 +191,8 @@ impl Recorder {
         ensures err { IfErr result (IsRefusal (record_by self.old.rows.signature
             table.now.columns.items table.now.count self.old.rows.traces (record_of text.now))) }
     {
-        if table.in_order {
-            if let Some(rest) = self.go_on_line(&table.columns, text, number)? {
-                return Ok(rest);
-            }
+        if let Some(rest) = self.add_row(alloc, table, text, number)? {
+            return Ok(rest);
         }
         let Ok(rest) = copy_record(text, entry) else {
             return Err(TraceError::Memory(AllocError));
@@ -199,44 +201,88 @@ impl Recorder {
         Ok(rest)
     }
 
-    // One more instant of the last trace, of columns that stand in order, and what stands after its
-    // record; None where the record is not of the last trace or spells no row.
-    fn go_on_line<'t>(
+    // Adds the first record of a text in one pass, and gives what stands after it; None where its
+    // cells spell no row.
+    fn add_row<'t>(
         &mut self,
-        table: &[Column],
+        alloc: Global,
+        table: &Table,
         text: &'t [u8],
         number: u64,
     ) -> Result<Option<&'t [u8]>, TraceError>
+        requires names { knows self.old.names self.old.rows.traces }
         requires lawful { IsRecording self.old.rows }
-        requires kinds { RowsFollow table.now self.old.rows.signature }
-        requires order { AreInOrder 0 table.now }
+        requires kinds { RowsFollow table.now.columns.items self.old.rows.signature }
+        requires order { IsTrue table.now.in_order
+            → (length table.now.columns.items ≡ table.now.count)
+            × AreInOrder 0 table.now.columns.items }
+        requires placed { IsTrue table.now.is_placed
+            → (length table.now.placed.items ≡ table.now.count)
+            × ArePlaced table.now.placed.items table.now.columns.items }
         ensures ok { IfOk result (λ found. IfSome found (λ rest.
-            record_by self.old.rows.signature table.now (length table.now) self.old.rows.traces
-            (record_of text.now) ≡ Ok self.new.rows.traces)) }
+            record_by self.old.rows.signature table.now.columns.items table.now.count
+            self.old.rows.traces (record_of text.now) ≡ Ok self.new.rows.traces)) }
         ensures after { IfOk result
             (λ found. IfSome found (λ rest. rest.now ≡ after_line text.now)) }
-        ensures names { self.new.names ≡ self.old.names }
-        ensures known { (q : List ℕ) → IfOk result (λ found. IfSome found (λ rest.
-            list_any (λ t. bytes_eq q t.0) self.new.rows.traces
-            ≡ list_any (λ t. bytes_eq q t.0) self.old.rows.traces)) }
+        ensures names { IfOk result (λ found. knows self.new.names self.new.rows.traces) }
         ensures rows { IfOk result (λ found. found ≡ None → self.new.rows ≡ self.old.rows) }
         ensures signature { IfOk result
             (λ found. self.new.rows.signature ≡ self.old.rows.signature) }
-        ensures err { IfErr result (IsRefusal (record_by self.old.rows.signature table.now
-            (length table.now) self.old.rows.traces (record_of text.now))) }
+        ensures err { IfErr result (IsRefusal (record_by self.old.rows.signature
+            table.now.columns.items table.now.count self.old.rows.traces (record_of text.now))) }
     {
         let name = next_cell(text);
-        if name.is_last || !is_last(self.rows.set(), name.bytes) {
+        if name.is_last {
             return Ok(None);
         }
-        let Ok(line) = read_line(table, name.rest, &mut self.row) else {
+        let Ok(line) = read_cells(table, name.rest, &mut self.values, &mut self.row) else {
             return Err(TraceError::Memory(AllocError));
         };
         let Some(rest) = line else {
             return Ok(None);
         };
-        self.push_row(number)?;
+        self.add_read(alloc, name.bytes, number)?;
         Ok(Some(rest))
+    }
+
+    // One more instant of the trace with this name, whose row was read.
+    fn add_read(&mut self, alloc: Global, name: &[u8], number: u64) -> Result<(), TraceError>
+        requires names { knows self.old.names self.old.rows.traces }
+        requires lawful { IsRecording self.old.rows }
+        requires row { IsRow self.old.rows.signature self.old.row.items }
+        ensures ok { OnOk result
+            (add_by self.old.rows.signature name.now self.old.rows.traces
+            (Some self.old.row.items) ≡ Ok self.new.rows.traces) }
+        ensures names { OnOk result (knows self.new.names self.new.rows.traces) }
+        ensures signature { OnOk result (self.new.rows.signature ≡ self.old.rows.signature) }
+        ensures err { IfErr result (IsRefusal
+            (add_by self.old.rows.signature name.now self.old.rows.traces
+            (Some self.old.row.items))) }
+    {
+        if is_last(self.rows.set(), name) {
+            self.push_row(number)
+        } else {
+            self.start_row(alloc, name, number)
+        }
+    }
+
+    // One more trace with the row that was read, where its name is lawful and new.
+    fn start_row(&mut self, alloc: Global, name: &[u8], number: u64) -> Result<(), TraceError>
+        requires names { knows self.old.names self.old.rows.traces }
+        requires row { IsRow self.old.rows.signature self.old.row.items }
+        ensures ok { OnOk result
+            (start_by self.old.rows.signature name.now self.old.rows.traces
+            (Some self.old.row.items) ≡ Ok self.new.rows.traces) }
+        ensures names { OnOk result (knows self.new.names self.new.rows.traces) }
+        ensures signature { OnOk result (self.new.rows.signature ≡ self.old.rows.signature) }
+        ensures err { IfErr result (IsRefusal
+            (start_by self.old.rows.signature name.now self.old.rows.traces
+            (Some self.old.row.items))) }
+    {
+        let Some(text) = new_name(alloc, &mut self.names, name)? else {
+            return Err(TraceError::Trace { record: number });
+        };
+        self.begin_row(text, number)
     }
 
     // One more instant of the last trace, whose row was read.
@@ -336,6 +382,23 @@ impl Recorder {
                 column,
             });
         }
+        self.begin_row(name, number)
+    }
+
+    // One more trace with the row that was read.
+    fn begin_row(&mut self, name: &str, number: u64) -> Result<(), TraceError>
+        requires name { IsTraceName name.now }
+        requires fresh { ¬ (Contains (trace_names self.old.rows.traces) name.now) }
+        requires row { IsRow self.old.rows.signature self.old.row.items }
+        ensures ok { OnOk result
+            (start_cells self.old.rows.signature name.now self.old.rows.traces
+            (Some self.old.row.items) ≡ Ok self.new.rows.traces) }
+        ensures names { self.new.names ≡ self.old.names }
+        ensures signature { OnOk result (self.new.rows.signature ≡ self.old.rows.signature) }
+        ensures err { IfErr result (IsRefusal
+            (start_cells self.old.rows.signature name.now self.old.rows.traces
+            (Some self.old.row.items))) }
+    {
         let set = self.rows.set();
         if !has_traces(set) || !has_cells(set) {
             return Err(TraceError::Limit {

@@ -1,18 +1,24 @@
-//! The columns of the scalar inputs.
+//! The columns of the scalar inputs, and how they stand in the text.
 
-ghost use Rattle.std.specs.Prelude.{◌≡◌, IsTrue, length};
-ghost use Rattle.lb_trace.specs.PlainRows.{AreInOrder};
+ghost use Rattle.std.specs.Prelude.{◌≡◌, ◌<◌, ◌≤◌, IsTrue, IfOk, IfSome, length};
+ghost use Rattle.lb_trace.specs.PlainRows.{AreInOrder, ArePlaced, IsPlaced};
 
 use crate::header::Column;
+use std::alloc::{AllocError, Global};
 
-/// The columns of the scalar inputs, in the order of the signature.
+/// The columns of the scalar inputs.
 #[derive(Drop)]
 pub(crate) struct Table {
+    /// They in the order of the signature.
     pub(crate) columns: Vec<Column>,
     /// How many columns the header has.
     pub(crate) count: usize,
     /// Whether these are all of them, and each stands at its place in the signature.
     pub(crate) in_order: bool,
+    /// They in the order of the text, for columns that stand in another order.
+    pub(crate) placed: Vec<Column>,
+    /// Whether these are all columns, and each of the others has one of its kind at its place.
+    pub(crate) is_placed: bool,
 }
 
 /// Whether each column stands at its place in the order of the signature, with none beside them.
@@ -28,4 +34,55 @@ pub(crate) fn are_in_order(table: &[Column], columns: usize) -> bool
         }
     }
     true
+}
+
+/// The columns of a table in the order of the text, of a header that has so many.
+pub(crate) fn in_text_order(
+    alloc: Global,
+    table: &[Column],
+    columns: usize,
+) -> Result<Vec<Column>, AllocError>
+    ensures { IfOk result (λ placed. length placed.items ≤ columns) }
+{
+    let mut placed = Vec::new(alloc);
+    for at in 0..columns {
+        if let Some(column) = column_at(table, at) {
+            placed.push(column)?;
+        }
+    }
+    Ok(placed)
+}
+
+// The column that stands at a place of the text.
+fn column_at(table: &[Column], at: usize) -> Option<Column>
+    ensures { IfSome result (λ column. column.at ≡ at) }
+{
+    for column in table {
+        if column.at == at {
+            return Some(*column);
+        }
+    }
+    None
+}
+
+/// Whether these are so many columns, and each of a table stands at its place among them.
+pub(crate) fn are_placed(placed: &[Column], table: &[Column], columns: usize) -> bool
+    ensures { IsTrue result → (length placed.now ≡ columns) × ArePlaced placed.now table.now }
+{
+    if placed.len() != columns {
+        return false;
+    }
+    for column in table {
+        if !is_placed(placed, *column) {
+            return false;
+        }
+    }
+    true
+}
+
+// Whether a column of the same kind stands at the place of this one.
+fn is_placed(placed: &[Column], column: Column) -> bool
+    ensures { IsTrue result → IsPlaced placed.now column }
+{
+    column.at < placed.len() && placed[column.at].kind == column.kind
 }

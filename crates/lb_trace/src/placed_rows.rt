@@ -1,0 +1,76 @@
+//! The row of a record without quotes, whose columns stand in any order.
+
+ghost use Rattle.std.specs.Prelude.{◌≡◌, ◌<◌, IsTrue, IfOk, IfSome, OnOk, Some, get_or, length, map};
+ghost use Rattle.std.specs.Prelude.{pos};
+ghost use Rattle.std.specs.List.{All};
+ghost use Rattle.lb_trace.specs.Lines.{after_line, record_of};
+ghost use Rattle.lb_trace.specs.Mirrors.{row_by};
+ghost use Rattle.lb_trace.specs.PlainRows.{AreInOrder, ArePlaced};
+
+use crate::header::Column;
+use crate::plain_rows::read_line;
+use crate::table::Table;
+use std::alloc::AllocError;
+
+/// Reads the cells of a record into `row`, in the order of the signature, and gives what stands
+/// after the record; None where they spell no row. `values` is room for the cells in the order of
+/// the text.
+pub(crate) fn read_cells<'t>(
+    table: &Table,
+    text: &'t [u8],
+    values: &mut Vec<i32>,
+    row: &mut Vec<i32>,
+) -> Result<Option<&'t [u8]>, AllocError>
+    requires order { IsTrue table.now.in_order
+        → (length table.now.columns.items ≡ table.now.count)
+        × AreInOrder 0 table.now.columns.items }
+    requires placed { IsTrue table.now.is_placed
+        → (length table.now.placed.items ≡ table.now.count)
+        × ArePlaced table.now.placed.items table.now.columns.items }
+    ensures { IfOk result (λ found. IfSome found (λ rest.
+        (length (record_of text.now) ≡ table.now.count)
+        × (row_by table.now.columns.items (record_of text.now) ≡ Some row.new.items)
+        × (rest.now ≡ after_line text.now))) }
+{
+    if table.in_order {
+        return read_line(&table.columns, text, row);
+    }
+    if table.is_placed {
+        return read_placed(&table.placed, &table.columns, text, values, row);
+    }
+    Ok(None)
+}
+
+// The same by the columns in the order of the text.
+fn read_placed<'t>(
+    placed: &[Column],
+    columns: &[Column],
+    text: &'t [u8],
+    values: &mut Vec<i32>,
+    row: &mut Vec<i32>,
+) -> Result<Option<&'t [u8]>, AllocError>
+    requires { ArePlaced placed.now columns.now }
+    ensures { IfOk result (λ found. IfSome found (λ rest.
+        (length (record_of text.now) ≡ length placed.now)
+        × (row_by columns.now (record_of text.now) ≡ Some row.new.items)
+        × (rest.now ≡ after_line text.now))) }
+{
+    let Some(rest) = read_line(placed, text, values)? else {
+        return Ok(None);
+    };
+    take_places(columns, values, row)?;
+    Ok(Some(rest))
+}
+
+// Takes the value at the place of each column.
+fn take_places(columns: &[Column], values: &[i32], row: &mut Vec<i32>) -> Result<(), AllocError>
+    requires { All (λ column. column.at < length values.now) columns.now }
+    ensures { OnOk result
+        (row.new.items ≡ map (λ column. get_or values.now column.at (pos 0)) columns.now) }
+{
+    row.clear();
+    for column in columns {
+        row.push(values[column.at])?;
+    }
+    Ok(())
+}
