@@ -8,9 +8,9 @@ ghost use Rattle.lb_flat.specs.EmitWhole as mirror;
 ghost use Rattle.lb_flat.specs.Programs.{numbers_of};
 ghost use Rattle.lb_flat.specs.TermEmissions.{state_of, emitted_of, onto};
 
+use crate::clocks::node_at;
 use crate::expand::clock_uses::clock_flags;
 use crate::expand::frame::{Frame, TableFrame};
-use crate::expand::row_emission::row_node;
 use crate::expand::term_emission::TermEmission;
 use lb_static::reach::Reached;
 use lb_static::resolved::VariableId;
@@ -57,7 +57,7 @@ impl TermEmission {
         ensures table { F.clocks frame.new ≡ F.clocks frame.old }
         ensures variables { F.variables frame.new ≡ F.variables frame.old }
     {
-        match row_node(reached, table, row) {
+        match node_at(reached, table, row) {
             Some(node) => {
                 let flags = clock_flags(alloc, node)?;
                 frame.enter(number);

@@ -1,32 +1,21 @@
 //! What is emitted for the rows of the table of instances, one row after another.
 
-ghost use Rattle.std.specs.Prelude.{◌≡◌, ◌<◌, ◌≤◌, ◌^◌, length, option_map, OnOk};
+ghost use Rattle.std.specs.Prelude.{◌≡◌, ◌<◌, ◌≤◌, ◌^◌, length, OnOk};
 ghost use Rattle.lb_syntax.specs.Lists.{Every};
-ghost use Rattle.lb_flat.specs.EmitRows.{node_in, body_in, bodies, IsCounted};
+ghost use Rattle.lb_flat.specs.EmitRows.{body_in, bodies, IsCounted};
 ghost use Rattle.lb_flat.specs.EmitRows.{HasRow, HasRows};
 ghost use Rattle.lb_flat.specs.EmitTerms as mirror;
 ghost use Rattle.lb_flat.specs.Frames.{HasPlaces};
 ghost use Rattle.lb_flat.specs.Programs.{numbers_of};
 ghost use Rattle.lb_flat.specs.TermEmissions.{state_of};
 
+use crate::clocks::node_at;
 use crate::expand::frame::{Frame, Place, TableFrame};
 use crate::expand::term_emission::TermEmission;
 use lb_static::reach::Reached;
-use lb_static::resolved::{ResolvedNode, ResolvedStatement};
+use lb_static::resolved::ResolvedStatement;
 use lb_static::table::{Instance, Table};
 use std::alloc::AllocError;
-
-/// The node of a row.
-pub(crate) fn row_node<'r, 's>(
-    reached: &'r Reached<'s>,
-    table: &Table,
-    row: &Instance,
-) -> Option<&'r ResolvedNode<'s>>
-    ensures { option_map (λ n. n.now) result ≡ node_in reached.now table.now row.now }
-{
-    let specialization = table.specializations.get(row.specialization.0 as usize)?;
-    reached.nodes.get(specialization.node.0)
-}
 
 impl TermEmission {
     /// The statements of a node.
@@ -82,7 +71,7 @@ impl TermEmission {
         ensures table { F.clocks frame.new ≡ F.clocks frame.old }
         ensures variables { F.variables frame.new ≡ F.variables frame.old }
     {
-        match row_node(reached, table, row) {
+        match node_at(reached, table, row) {
             Some(node) => {
                 frame.enter(number);
                 self.statements(&*frame, &node.body)

@@ -1,4 +1,4 @@
-//! What begins a flat program: the rows of the table of instances that start.
+//! The whole flat program: the rows of the table of instances that start, and what all rows emit.
 
 ghost use Rattle.std.specs.Prelude.{◌≡◌, ◌<◌, ◌≤◌, ◌+◌, ◌^◌, true, false, Some, length, OnOk};
 ghost use Rattle.std.specs.Prelude.{IfOk};
@@ -11,10 +11,10 @@ ghost use Rattle.lb_flat.specs.Programs.{numbers_of, program_of, IsInRange};
 ghost use Rattle.lb_flat.specs.TermEmissions.{state_of};
 ghost use Rattle.lb_flat.specs.Within.{AreClocks};
 
+use crate::clocks::node_at;
 use crate::equation::Clock;
 use crate::expand::begin_emission::Beginning;
 use crate::expand::frame::TableFrame;
-use crate::expand::row_emission::row_node;
 use crate::expand::start::Start;
 use crate::expand::term_emission::TermEmission;
 use crate::further_kinds::further_kinds;
@@ -42,7 +42,7 @@ pub(crate) fn start_in(reached: &Reached, table: &Table, observer: bool) -> Opti
     for row in 0..table.instances.len() {
         let instance = table.instances[row];
         if is_start(observer, instance.origin) {
-            return match row_node(reached, table, &instance) {
+            return match node_at(reached, table, &instance) {
                 Some(node) => Some(Start {
                     row,
                     inputs: node.inputs,

@@ -27,7 +27,7 @@ returns-in-Some c =
     let i = c.index.result.now in
     let lt : l.row < length is =
     omega (arith, c.loop-row-test.true, l.auto.row-end, c.len-row-end.ensures) in
-    let found = sym c.row_node.ensures ∙ ap (option_map (λ n. n.now)) c.in-Some.is in
+    let found = sym c.node_at.ensures ∙ ap (option_map (λ n. n.now)) c.in-Some.is in
     start_here r t b is l.row i i (Some c.in-Some.node.now) (start_in r t b) lt c.index.ensures
     (sym c.is_start.ensures ∙ c.if-is_start.true) found l.invariant
 
@@ -41,7 +41,7 @@ returns-in-None c =
     let i = c.index.result.now in
     let lt : l.row < length is =
     omega (arith, c.loop-row-test.true, l.auto.row-end, c.len-row-end.ensures) in
-    let none = sym c.row_node.ensures ∙ ap (option_map (λ n. n.now)) c.in-None.is in
+    let none = sym c.node_at.ensures ∙ ap (option_map (λ n. n.now)) c.in-None.is in
     start_here r t b is l.row i i None (start_in r t b) lt c.index.ensures
     (sym c.is_start.ensures ∙ c.if-is_start.true) none l.invariant
 

@@ -11,7 +11,7 @@ use Rattle.lb_flat.proofs.expand.term_emission.TermEmission.put_row_clocks.Goals
 pub enter-requires : goal.enter-requires
 enter-requires g c =
     c.requires.there c.in-Some.node.now
-    (sym c.row_node.ensures ∙ ap (option_map (λ n. n.now)) c.in-Some.is)
+    (sym c.node_at.ensures ∙ ap (option_map (λ n. n.now)) c.in-Some.is)
 
 pub put_flagged-requires : goal.put_flagged-requires
 put_flagged-requires g c = omega (arith, c.enter.ensures.variables, c.requires.variables)
@@ -21,7 +21,7 @@ returns-in_ok-flags-in-Some-clause-emitted g c =
     let old = c.args.self.now in
     let r = c.put_flagged in
     let n = c.in-Some.node.now in
-    let found = sym c.row_node.ensures ∙ ap (option_map (λ n. n.now)) c.in-Some.is in
+    let found = sym c.node_at.ensures ∙ ap (option_map (λ n. n.now)) c.in-Some.is in
     let flags = subst (λ (fs : List Bool).
     HasFlags (length n.variables.items) (clocks_named n) fs) (sym c.deref.ensures.value)
     c.in_ok-flags-in-Some.ensures in

@@ -11,7 +11,7 @@ use Rattle.lb_flat.proofs.expand.term_emission.TermEmission.row.Goals as goal
 pub enter-requires : goal.enter-requires
 enter-requires g c =
     c.requires.there c.in-Some.node.now
-    (sym c.row_node.ensures ∙ ap (option_map (λ n. n.now)) c.in-Some.is)
+    (sym c.node_at.ensures ∙ ap (option_map (λ n. n.now)) c.in-Some.is)
 
 pub statements-requires-clause-clocks : goal.statements-requires-clause-clocks
 statements-requires-clause-clocks g c = c.enter.ensures.clocks ∙ c.requires.clocks
@@ -22,7 +22,7 @@ statements-requires-clause-variables g c =
 
 pub statements-requires-clause-elements : goal.statements-requires-clause-elements
 statements-requires-clause-elements g c =
-    let found = sym c.row_node.ensures ∙ ap (option_map (λ n. n.now)) c.in-Some.is in
+    let found = sym c.node_at.ensures ∙ ap (option_map (λ n. n.now)) c.in-Some.is in
     subst (λ (s : State). s.next < 2 ^ 32)
     (row_is c.args.reached.now c.args.table.now (g.F.TableFrame.contexts c.args.frame.now)
     (state_of c.args.self.now) c.args.number c.args.row.now c.in-Some.node.now
@@ -31,7 +31,7 @@ statements-requires-clause-elements g c =
 
 pub statements-requires-clause-places : goal.statements-requires-clause-places
 statements-requires-clause-places g c =
-    let found = sym c.row_node.ensures ∙ ap (option_map (λ n. n.now)) c.in-Some.is in
+    let found = sym c.node_at.ensures ∙ ap (option_map (λ n. n.now)) c.in-Some.is in
     row_places c.args.reached.now c.args.table.now (g.F.TableFrame.contexts c.args.frame.now)
     (state_of c.args.self.now) c.args.number c.args.row.now c.in-Some.node.now
     (g.F.Frame.context c.enter.new.self) c.deref.result.now found c.enter.ensures.context
@@ -39,7 +39,7 @@ statements-requires-clause-places g c =
 
 pub returns-in-Some-clause-state : goal.returns-in-Some-clause-state
 returns-in-Some-clause-state g c =
-    let found = sym c.row_node.ensures ∙ ap (option_map (λ n. n.now)) c.in-Some.is in
+    let found = sym c.node_at.ensures ∙ ap (option_map (λ n. n.now)) c.in-Some.is in
     subst (λ (s : State). OnOk c.statements.result (state_of c.statements.new.self ≡ s))
     (sym (row_is c.args.reached.now c.args.table.now (g.F.TableFrame.contexts c.args.frame.now)
     (state_of c.args.self.now) c.args.number c.args.row.now c.in-Some.node.now
@@ -48,6 +48,6 @@ returns-in-Some-clause-state g c =
 
 pub returns-in-None-clause-state : goal.returns-in-None-clause-state
 returns-in-None-clause-state g c =
-    let none = sym c.row_node.ensures ∙ ap (option_map (λ n. n.now)) c.in-None.is in
+    let none = sym c.node_at.ensures ∙ ap (option_map (λ n. n.now)) c.in-None.is in
     sym (row_none c.args.reached.now c.args.table.now (g.F.TableFrame.contexts c.args.frame.now)
     (state_of c.args.self.now) c.args.number c.args.row.now none)
