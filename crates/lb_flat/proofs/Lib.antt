@@ -2,6 +2,7 @@ pub mod Ledgers
 pub mod NameTexts
 pub mod Recordings
 pub mod StoredRows
+pub mod PackedRows
 pub mod Storing
 pub mod Lists
 pub mod Counting

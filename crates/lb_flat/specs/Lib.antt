@@ -1,6 +1,7 @@
 pub mod Traces
 pub mod Ledger
 pub mod Stored
+pub mod Packed
 pub mod Flat
 pub mod Run
 pub mod Layouts

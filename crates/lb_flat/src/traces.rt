@@ -8,18 +8,21 @@
 //!                              row ends  0 2 3
 //! ```
 
-ghost use Rattle.std.specs.Prelude.{◌≡◌, ◌<◌, ◌≤◌, ◌+◌, ◌↔◌, IsTrue, [], length, get_or, slice_get};
-ghost use Rattle.std.specs.Prelude.{Some, IfOk, OnOk, OnErr, pos};
+ghost use Rattle.std.specs.Prelude.{◌≡◌, ◌≢◌, ◌==◌, ℕ, ◌<◌, ◌≤◌, ◌+◌, ◌*◌, ◌||◌, ◌↔◌, IsTrue};
+ghost use Rattle.std.specs.Prelude.{false, [], ◌∷◌, ◌++◌, length, get_or, slice_get, vec_len};
+ghost use Rattle.std.specs.Prelude.{vec_capacity, Some, IfOk, OnOk, OnErr, pos, int_le, All};
+ghost use Rattle.std.specs.Int.{bit_at};
 ghost use Rattle.std.specs.List.{Contains};
 ghost use Rattle.lb_static.specs.Signature.{kinds_of};
 ghost use Rattle.lb_syntax.specs.declared.tree.Kind.TheVariants.{Int, Bool};
 ghost use Rattle.lb_flat.specs.Traces.{trace_at, cell_at, instants_of, trace_names, IsTraceName};
 ghost use Rattle.lb_flat.specs.Traces.{IsRow, HasRoom, last_rows, with_row, with_trace};
 ghost use Rattle.lb_flat.specs.Traces.{IsRecording, IsInt};
+ghost use Rattle.lb_flat.specs.Packed.{truth_columns, words_of_row, bit_in, truth_in, HasPushed};
 
 use crate::names::Names;
 pub use crate::names::is_trace_name;
-use lb_static::signature::Signature;
+use lb_static::signature::{Kind, Signature};
 use std::alloc::{AllocError, Global};
 use std::marker::Model;
 
@@ -34,17 +37,103 @@ pub struct TraceSet {
     cells: Vec<i32>,
     /// 0, and for each trace how many rows end with it.
     row_ends: Vec<u32>,
+    /// The columns that hold Booleans, in the order of the signature.
+    truths: Vec<u32>,
+    /// The Booleans of all rows as the bits of words, so many words for each row.
+    words: Vec<u64>,
 }
 
 impl Model for TraceSet {
     ghost use Rattle.lb_flat.specs.Traces.{Recording};
-    ghost use Rattle.lb_flat.specs.Stored.{stored, IsStored};
+    ghost use Rattle.lb_flat.specs.Stored.{stored};
+    ghost use Rattle.lb_flat.specs.Packed.{IsSet};
 
     ghost Value = { Recording };
 
     ghost view = { λ s. stored s.signature s.names s.cells.items s.row_ends.items };
 
-    ghost invariant = { λ s. IsStored s.signature s.names s.cells.items s.row_ends.items };
+    ghost invariant = { λ s. IsSet s.signature s.names s.cells.items s.row_ends.items s.truths.items
+        s.words.items };
+}
+
+// The columns of a signature that hold Booleans.
+fn truths_of(alloc: Global, signature: &Signature) -> Result<Vec<u32>, AllocError>
+    ensures { IfOk result (λ truths. truths.items ≡ truth_columns 0 (kinds_of signature.now)) }
+{
+    let mut truths = Vec::new(alloc);
+    for j in 0..signature.len() {
+        push_truth(&mut truths, j, signature.kind(j))?;
+    }
+    Ok(truths)
+}
+
+// Adds a column of this kind if it holds a Boolean.
+fn push_truth(truths: &mut Vec<u32>, j: u32, kind: Kind) -> Result<(), AllocError>
+    ensures { OnOk result (truths.new.items ≡ truths.old.items ++ truth_columns j (kind ∷ [])) }
+{
+    match kind {
+        Kind::Bool => {
+            truths.push(j)?;
+        }
+        Kind::Int => {}
+    }
+    Ok(())
+}
+
+// How many words hold so many Booleans.
+fn words_of_row(booleans: usize) -> usize
+    ensures { result ≡ words_of_row booleans }
+{
+    if booleans % 64 == 0 {
+        booleans / 64
+    } else {
+        booleans / 64 + 1
+    }
+}
+
+// The cell of a row in one of some columns.
+fn cell_in(row: &[i32], columns: &[u32], c: usize) -> i32
+    requires column { c < length columns.now }
+    requires columns { All (λ j. j < length row.now) columns.now }
+    ensures { result ≡ get_or row.now (get_or columns.now c (length row.now)) (pos 0) }
+{
+    row[columns[c] as usize]
+}
+
+// The word with one more bit.
+fn with_bit(word: u64, i: usize, b: bool) -> u64
+    requires { i < 64 }
+    ensures here { (bit_at result i == 1) ≡ (b || (bit_at word i == 1)) }
+    ensures others { (j : ℕ) → j ≢ i → bit_at result j ≡ bit_at word j }
+{
+    if b { word | (1u64 << i) } else { word }
+}
+
+// Up to 64 Booleans of a row, from the one with this number on, as the bits of a word.
+fn packed(row: &[i32], columns: &[u32], first: usize) -> u64
+    requires first { first ≤ length columns.now }
+    requires columns { All (λ j. j < length row.now) columns.now }
+    ensures { (i : ℕ) → i < 64
+        → (bit_at result i == 1) ≡ truth_in row.now columns.now (first + i) }
+{
+    let mut word = 0u64;
+    let count = (columns.len() - first).min(64);
+    for i in 0..count {
+        let b = cell_in(row, columns, first + i) >= 1;
+        word = with_bit(word, i, b);
+    }
+    word
+}
+
+// Adds the words of one more row, for which there is room.
+fn push_words(words: &mut Vec<u64>, row: &[i32], columns: &[u32])
+    requires room { vec_len words.old + words_of_row (length columns.now) ≤ vec_capacity words.old }
+    requires columns { All (λ j. j < length row.now) columns.now }
+    ensures { HasPushed words.old.items row.now columns.now words.new.items }
+{
+    for g in 0..words_of_row(columns.len()) {
+        words.push_reserved(packed(row, columns, 64 * g));
+    }
 }
 
 impl TraceSet {
@@ -122,6 +211,24 @@ impl TraceSet {
         &self.cells.as_slice()[start..start + width]
     }
 
+    /// The Booleans of a trace at an instant, in the order of the signature, as the bits of words:
+    /// that with number b is bit b % 64 of word b / 64. The bits past the last are 0.
+    pub fn bits(&self, k: u32, t: u32) -> &[u64]
+        requires trace { k < length self.now.traces }
+        requires instant { t < length (trace_at self.now.traces k).1 }
+        ensures words { length result.now
+            ≡ words_of_row (length (truth_columns 0 (kinds_of self.now.signature))) }
+        ensures bits { (b : ℕ) → b < length (truth_columns 0 (kinds_of self.now.signature))
+            → bit_in result.now b ≡ int_le (pos 1) (cell_at self.now.traces k t
+            (get_or (truth_columns 0 (kinds_of self.now.signature)) b 0)) }
+        ensures past { (b : ℕ) → length (truth_columns 0 (kinds_of self.now.signature)) ≤ b
+            → b < 64 * length result.now → bit_in result.now b ≡ false }
+    {
+        let count = words_of_row(self.truths.len());
+        let first = (self.row_ends[k as usize] as usize + t as usize) * count;
+        &self.words.as_slice()[first..first + count]
+    }
+
     // The cell of a trace at an instant.
     fn cell(&self, k: u32, t: u32, column: u32) -> i32
         requires trace { k < length self.now.traces }
@@ -131,6 +238,16 @@ impl TraceSet {
     {
         let row = self.row_ends[k as usize] as usize + t as usize;
         self.cells[row * self.signature.len() as usize + column as usize]
+    }
+
+    // Makes room for so many more cells, and for the words of their rows.
+    fn reserve(&mut self, cells: usize) -> Result<(), AllocError>
+        ensures { self.new ≡ self.old }
+    {
+        self.cells.reserve(cells)?;
+        let rows = cells / (self.signature.len() as usize).max(1);
+        self.words
+            .reserve(rows.saturating_mul(words_of_row(self.truths.len())))
     }
 
     // One more trace, with its first row.
@@ -146,8 +263,10 @@ impl TraceSet {
     {
         self.cells.reserve(row.len())?;
         self.row_ends.reserve(1)?;
+        self.words.reserve(words_of_row(self.truths.len()))?;
         self.names.push(name)?;
         let _ = self.cells.extend_from_slice(row);
+        push_words(&mut self.words, row, self.truths.as_slice());
         let rows = self.row_ends[self.row_ends.len() - 1];
         let _ = self.row_ends.push(rows + 1);
         Ok(())
@@ -163,7 +282,9 @@ impl TraceSet {
             (self.new ≡ record self.old { traces = with_row self.old.traces row.now }) }
         ensures err { OnErr result (self.new ≡ self.old) }
     {
+        self.words.reserve(words_of_row(self.truths.len()))?;
         self.cells.extend_from_slice(row)?;
+        push_words(&mut self.words, row, self.truths.as_slice());
         let last = self.row_ends.len() - 1;
         self.row_ends[last] += 1;
         Ok(())
@@ -201,14 +322,25 @@ impl TraceRows {
     {
         let mut row_ends = Vec::new(alloc);
         row_ends.push(0)?;
+        let truths = truths_of(alloc, signature)?;
         Ok(TraceRows {
             set: TraceSet {
                 signature: signature.copy(alloc)?,
                 names: Names::new(alloc)?,
                 cells: Vec::new(alloc),
                 row_ends,
+                truths,
+                words: Vec::new(alloc),
             },
         })
+    }
+
+    /// Makes room for so many more cells, so that rows find it there. The traces stay as they are,
+    /// also where memory is refused.
+    pub fn reserve(&mut self, cells: usize) -> Result<(), AllocError>
+        ensures { self.new ≡ self.old }
+    {
+        self.set.reserve(cells)
     }
 
     /// One more trace, with its first row: its cells in the order of the signature, a Boolean as 0

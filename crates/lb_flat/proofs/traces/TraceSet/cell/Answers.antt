@@ -12,7 +12,7 @@ index-requires c =
     omega (
       arith,
       c.requires.trace,
-      c.self.invariant.rows.paired,
+      c.self.invariant.parts.rows.paired,
       count_of c.args.self.now c.self.inside.signature c.self.inside.names c.self.inside.cells.items
           c.self.inside.row_ends.items c.self.view_is,
     )
@@ -23,7 +23,7 @@ overflow_mul-row c =
     let found : _ = finds c.args.self.now c.self.inside.signature c.self.inside.names
     c.self.inside.cells.items c.self.inside.row_ends.items c.args.k c.args.t c.args.column
     c.index.result.now c.len.result
-    c.self.view_is c.self.invariant c.requires.trace c.requires.instant c.requires.column
+    c.self.view_is c.self.invariant.parts c.requires.trace c.requires.instant c.requires.column
     c.index.ensures c.len.ensures.count in
     omega (arith, found.within, c.self.inside.cells.small)
 
@@ -32,7 +32,7 @@ index-requires-2 c =
     let found : _ = finds c.args.self.now c.self.inside.signature c.self.inside.names
     c.self.inside.cells.items c.self.inside.row_ends.items c.args.k c.args.t c.args.column
     c.index.result.now c.len.result
-    c.self.view_is c.self.invariant c.requires.trace c.requires.instant c.requires.column
+    c.self.view_is c.self.invariant.parts c.requires.trace c.requires.instant c.requires.column
     c.index.ensures c.len.ensures.count in
     omega (arith, found.within)
 
@@ -43,7 +43,7 @@ returns c =
     (cell_at c.args.self.now.traces c.args.k c.args.t c.args.column) =
     finds c.args.self.now c.self.inside.signature c.self.inside.names c.self.inside.cells.items
     c.self.inside.row_ends.items c.args.k c.args.t c.args.column c.index.result.now c.len.result
-    c.self.view_is c.self.invariant c.requires.trace c.requires.instant c.requires.column
+    c.self.view_is c.self.invariant.parts c.requires.trace c.requires.instant c.requires.column
     c.index.ensures c.len.ensures.count in
     let fits : SFits w32 c.index-2.result.now = search rules in
     to_z-of_z w32 c.index-2.result.now fits ∙ get_or_read _ _ _ found.within c.index-2.ensures

@@ -11,13 +11,13 @@ returns-clause-count c =
     let count : c.len.result ≡ length c.self.inside.names = c.len.ensures.count in
     let at : c.len.result ≡ (c.len.result + 1) - 1 = omega arith in
     read_last c.self.inside.row_ends.items (c.len.result + 1) c.index.result.now
-    c.self.invariant.rows.ledger (omega (arith, c.self.invariant.rows.paired))
+    c.self.invariant.parts.rows.ledger (omega (arith, c.self.invariant.parts.rows.paired))
     (c.index.ensures ∙ ap (λ i. get_or c.self.inside.row_ends.items i c.index.result.now) at)
     ∙ sym (instants-stored (length c.self.inside.signature) c.self.inside.names
-    c.self.inside.cells.items c.self.inside.row_ends.items c.self.invariant.rows)
+    c.self.inside.cells.items c.self.inside.row_ends.items c.self.invariant.parts.rows)
     ∙ ap (λ (r : Recording). instants_of r.traces) c.self.view_is
 
 pub returns-clause-limit : goal.returns-clause-limit
 returns-clause-limit c =
     rw (returns-clause-count c) (few_instants c.args.self.now
-    (subst IsRecording c.self.view_is c.self.invariant.lawful))
+    (subst IsRecording c.self.view_is c.self.invariant.parts.lawful))

@@ -9,7 +9,7 @@ index-requires c =
     omega (
       arith,
       c.requires,
-      c.self.invariant.rows.paired,
+      c.self.invariant.parts.rows.paired,
       count_of c.args.self.now c.self.inside.signature c.self.inside.names c.self.inside.cells.items
           c.self.inside.row_ends.items c.self.view_is,
     )
@@ -19,7 +19,7 @@ index-requires-2 c =
     omega (
       arith,
       c.requires,
-      c.self.invariant.rows.paired,
+      c.self.invariant.parts.rows.paired,
       count_of c.args.self.now c.self.inside.signature c.self.inside.names c.self.inside.cells.items
           c.self.inside.row_ends.items c.self.view_is,
     )
@@ -29,7 +29,7 @@ parted : (c : goal.After-row_known-2-1) → PartsTrace
 parted c = parts c.args.self.now c.self.inside.signature c.self.inside.names
     c.self.inside.cells.items c.self.inside.row_ends.items c.args.k c.index-2.result.now
     c.index.result.now
-    c.self.view_is c.self.invariant c.requires c.index-2.ensures c.index.ensures
+    c.self.view_is c.self.invariant.parts c.requires c.index-2.ensures c.index.ensures
 
 pub overflow_sub-result : goal.overflow_sub-result
 overflow_sub-result c = omega (arith, (parted c).rises)

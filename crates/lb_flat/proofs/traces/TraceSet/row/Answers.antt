@@ -11,14 +11,14 @@ index-requires c =
     let count =
     count_of c.args.self.now c.self.inside.signature c.self.inside.names
     c.self.inside.cells.items c.self.inside.row_ends.items c.self.view_is in
-    omega (arith, c.requires.trace, c.self.invariant.rows.paired, count)
+    omega (arith, c.requires.trace, c.self.invariant.parts.rows.paired, count)
 
 -- a row that lies within the cells begins and ends below the greatest number
 pub overflow_mul-start : goal.overflow_mul-start
 overflow_mul-start c =
     let row = finds_row c.args.self.now c.self.inside.signature c.self.inside.names
     c.self.inside.cells.items c.self.inside.row_ends.items c.args.k c.args.t c.index.result.now
-    c.len-width.result c.self.view_is c.self.invariant c.requires.trace c.requires.instant
+    c.len-width.result c.self.view_is c.self.invariant.parts c.requires.trace c.requires.instant
     c.index.ensures c.len-width.ensures.count in
     omega (arith, row.within, c.self.inside.cells.small)
 
@@ -29,7 +29,7 @@ found :
 found c =
     finds_row c.args.self.now c.self.inside.signature c.self.inside.names
     c.self.inside.cells.items c.self.inside.row_ends.items c.args.k c.args.t c.index.result.now
-    c.len-width.result c.self.view_is c.self.invariant c.requires.trace c.requires.instant
+    c.len-width.result c.self.view_is c.self.invariant.parts c.requires.trace c.requires.instant
     c.index.ensures c.len-width.ensures.count
 
 pub slice_bounds-result-end : goal.slice_bounds-result-end
@@ -58,5 +58,5 @@ pub returns-clause-width : goal.returns-clause-width
 returns-clause-width c =
     ap length (taken c)
     ∙ length-row _ _ (row_follows c.args.self.now c.args.k c.args.t
-    (subst IsRecording c.self.view_is c.self.invariant.lawful) c.requires.trace
+    (subst IsRecording c.self.view_is c.self.invariant.parts.lawful) c.requires.trace
     c.requires.instant)

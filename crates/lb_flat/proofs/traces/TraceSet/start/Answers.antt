@@ -5,7 +5,9 @@ use Rattle.lb_flat.specs.Traces.{Recording}
 use Rattle.lb_flat.specs.Ledger.{last_place}
 use Rattle.lb_flat.proofs.Ledgers.{read_last}
 use Rattle.lb_flat.proofs.StoredRows.{length-stored}
-use Rattle.lb_flat.proofs.Storing.{start_keeps, start_adds, rows_fit_of}
+use Rattle.lb_flat.specs.Packed.{HasPushed}
+use Rattle.lb_flat.proofs.PackedRows.{set_started, columns_in}
+use Rattle.lb_flat.proofs.Storing.{start_adds, rows_fit_of}
 use Rattle.lb_flat.proofs.traces.TraceSet.start.Goals as goal
 
 pub push-requires-clause-room : goal.push-requires-clause-room
@@ -24,9 +26,9 @@ rows_are : (c : goal.After-push-arg-2-1) → c.index-rows.result.now
 rows_are c =
     let items : c.reserve-2.new.self.items ≡ c.self.inside.row_ends.items =
     c.in_ok-reserve-2.ensures.items in
-    let count : c.len.result ≡ length c.reserve-2.new.self.items = search rules in
-    read_last c.self.inside.row_ends.items c.len.result c.index-rows.result.now
-    c.self.invariant.rows.ledger (count ∙ ap length items) (rw items at c.index-rows.ensures)
+    let count : c.len-2.result ≡ length c.reserve-2.new.self.items = search rules in
+    read_last c.self.inside.row_ends.items c.len-2.result c.index-rows.result.now
+    c.self.invariant.parts.rows.ledger (count ∙ ap length items) (rw items at c.index-rows.ensures)
 
 pub overflow_add-rows : goal.overflow_add-rows
 overflow_add-rows c =
@@ -35,7 +37,7 @@ overflow_add-rows c =
       rows_are c,
       rows_fit_of c.args.self.now c.self.inside.signature
           c.self.inside.names c.self.inside.cells.items c.self.inside.row_ends.items c.self.view_is
-          c.self.invariant c.requires.room,
+          c.self.invariant.parts c.requires.room,
     )
 
 names_are : (c : goal.After-push-2) → c.push.new.self ≡ c.self.inside.names ++ c.args.name.now ∷ []
@@ -55,25 +57,51 @@ ends_are c =
     c.in_ok-reserve-2.ensures.items in
     let room : is_ok c.push-2.result ≡ true = c.push-2.ensures.succeeds
     (omega (arith, c.in_ok-reserve-2.ensures.ok)) in
-    let count : c.len.result ≡ length c.reserve-2.new.self.items = search rules in
+    let count : c.len-2.result ≡ length c.reserve-2.new.self.items = search rules in
     let rows : c.index-rows.result.now ≡ last_place c.self.inside.row_ends.items =
-    read_last c.self.inside.row_ends.items c.len.result c.index-rows.result.now
-    c.self.invariant.rows.ledger (count ∙ ap length items) (rw items at c.index-rows.ensures) in
+    read_last c.self.inside.row_ends.items c.len-2.result c.index-rows.result.now
+    c.self.invariant.parts.rows.ledger (count ∙ ap length items)
+    (rw items at c.index-rows.ensures) in
     (rw room at c.push-2.ensures.items)
     ∙ ap (λ ends. ends ++ (c.index-rows.result.now + 1) ∷ []) items
     ∙ ap (λ n. c.self.inside.row_ends.items ++ (n + 1) ∷ []) rows
 
+pub push_words-requires-clause-room : goal.push_words-requires-clause-room
+push_words-requires-clause-room c =
+    omega (
+      arith,
+      c.in_ok-reserve-3.ensures.ok,
+      c.words_of_row.ensures,
+      ap length c.as_slice.ensures.value,
+    )
+
+pub push_words-requires-clause-columns : goal.push_words-requires-clause-columns
+push_words-requires-clause-columns c =
+    rw c.as_slice.ensures.value
+    (columns_in c.args.self.now c.self.inside.signature c.self.inside.names
+    c.self.inside.cells.items c.self.inside.row_ends.items c.self.inside.truths.items
+    c.self.inside.words.items c.args.row.now c.self.view_is c.self.invariant c.requires.row)
+
+words_are : (c : goal.After-push-2) → HasPushed c.self.inside.words.items c.args.row.now
+    c.self.inside.truths.items c.push_words.new.words.items
+words_are c =
+    subst
+    (λ ws. HasPushed ws c.args.row.now c.self.inside.truths.items c.push_words.new.words.items)
+    c.in_ok-reserve-3.ensures.items
+    (rw (← c.as_slice.ensures.value) c.push_words.ensures)
+
 pub invariant_of-self-2 : goal.invariant_of-self-2
 invariant_of-self-2 c =
     rw (names_are c, cells_are c, ends_are c)
-    (start_keeps c.args.self.now c.self.inside.signature c.self.inside.names
-    c.self.inside.cells.items c.self.inside.row_ends.items c.args.name.now c.args.row.now
+    (set_started c.args.self.now c.self.inside.signature c.self.inside.names
+    c.self.inside.cells.items c.self.inside.row_ends.items c.self.inside.truths.items
+    c.self.inside.words.items c.args.name.now c.args.row.now c.push_words.new.words.items
     c.self.view_is c.self.invariant c.requires.name c.requires.fresh c.requires.row c.requires.count
-    c.requires.room)
+    c.requires.room (words_are c))
 
 pub returns-clause-ok : goal.returns-clause-ok
 returns-clause-ok c =
     rw (names_are c, cells_are c, ends_are c)
     (start_adds c.args.self.now c.self.inside.signature c.self.inside.names
     c.self.inside.cells.items c.self.inside.row_ends.items c.args.name.now c.args.row.now
-    c.self.view_is c.self.invariant c.requires.row)
+    c.self.view_is c.self.invariant.parts c.requires.row)
