@@ -1,0 +1,98 @@
+-- Code that has one more instruction.
+use Rattle.std.proofs.Common.{◌≡◌, ℕ, ◌+◌, ◌<◌, ◌≤◌, List, [], ◌∷◌, ◌++◌, sym, ap, ◌∙◌}
+use Rattle.std.proofs.Common.{subst, cond, refl, Bool, true, false, ◌&&◌, ℤ}
+use Rattle.std.specs.List.{AllByRecursion}
+use Rattle.lb_machine.specs.declared.code.Code.{Code}
+use Rattle.lb_machine.specs.declared.instruction.Instruction.{Instruction}
+use Rattle.lb_machine.specs.declared.instruction.PlaneId.{PlaneId}
+use Rattle.lb_machine.specs.declared.instruction.WordId.{WordId}
+use Rattle.lb_machine.specs.Growing.{IsGrown, IsPlaneFor, IsWordFor}
+use Rattle.lb_machine.specs.Meaning.{Lane, IsDone, HasRun}
+use Rattle.lb_machine.specs.Straight.{IsNext, planes_after, words_after, IsStraight}
+
+-- it is straight still
+pub straight_more :
+    (p w : ℕ) (is : List Instruction) (P W : ℕ) (i : Instruction) → IsStraight p w is P W →
+    IsNext P W i → (P' W' : ℕ) → planes_after P i ≡ P' → words_after W i ≡ W' →
+    IsStraight p w (is ++ i ∷ []) P' W'
+straight_more p w [] P W i h n P' W' ep ew = (
+  subst (λ q. IsNext q w i) (sym h.0) (subst (λ v. IsNext P v i) (sym h.1) n),
+  (
+    ap (λ q. planes_after q i) h.0 ∙ ep,
+    ap (λ v. words_after v i) h.1 ∙ ew,
+  ),
+)
+straight_more p w (j ∷ is) P W i h n P' W' ep ew =
+    (h.0, straight_more (planes_after p j) (words_after w j) is P W i h.1 n P' W' ep ew)
+
+done_before :
+    (s : Lane) (is more : List Instruction) → AllByRecursion (IsDone s) (is ++ more) →
+    AllByRecursion (IsDone s) is
+done_before s [] more d = tt
+done_before s (j ∷ is) more d = (d.0, done_before s is more d.1)
+
+done_last :
+    (s : Lane) (is : List Instruction) (i : Instruction) →
+    AllByRecursion (IsDone s) (is ++ i ∷ []) → IsDone s i
+done_last s [] i d = d.0
+done_last s (j ∷ is) i d = done_last s is i d.1
+
+-- where it has been run, all before has been run, and the instruction has been done
+pub run_before :
+    (is js : List Instruction) (i : Instruction) → js ≡ is ++ i ∷ [] → (s : Lane) → HasRun js s →
+    HasRun is s
+run_before is js i e s h = record {
+  constants = h.constants;
+  done = done_before s is (i ∷ []) (subst (AllByRecursion (IsDone s)) e h.done);
+}
+
+pub run_last :
+    (is js : List Instruction) (i : Instruction) → js ≡ is ++ i ∷ [] → (s : Lane) → HasRun js s →
+    IsDone s i
+run_last is js i e s h = done_last s is i (subst (AllByRecursion (IsDone s)) e h.done)
+
+-- code with one more instruction has grown
+pub grown_by :
+    (before after : Code) (i : Instruction) → after.first_plane ≡ before.first_plane →
+    after.first_word ≡ before.first_word → before.planes ≤ after.planes →
+    before.words ≤ after.words →
+    after.instructions.items ≡ before.instructions.items ++ i ∷ [] → IsGrown before after
+grown_by before after i fp fw hp hw e = record {
+  first_plane = fp;
+  first_word = fw;
+  planes = hp;
+  words = hw;
+  runs = run_before before.instructions.items after.instructions.items i e;
+}
+
+-- and a plane that the instruction writes is for what it means
+pub plane_by :
+    (before after : Code) (i : Instruction) (value : Lane → Bool) (p : PlaneId) →
+    after.instructions.items ≡ before.instructions.items ++ i ∷ [] → p.0 < after.planes →
+    ((s : Lane) → IsDone s i → s.bits p.0 ≡ value s) → IsPlaneFor after value p
+plane_by before after i value p e lt means = record {
+  within = lt;
+  means = λ s h.
+      means s (run_last before.instructions.items after.instructions.items i e s h);
+}
+
+-- the same of a word
+pub word_by :
+    (before after : Code) (i : Instruction) (value : Lane → ℤ) (w : WordId) →
+    after.instructions.items ≡ before.instructions.items ++ i ∷ [] → w.0 < after.words →
+    ((s : Lane) → IsDone s i → s.ints w.0 ≡ value s) → IsWordFor after value w
+word_by before after i value w e lt means = record {
+  within = lt;
+  means = λ s h.
+      means s (run_last before.instructions.items after.instructions.items i e s h);
+}
+
+-- ## Copies
+
+pub both_same : (b : Bool) → (b && b) ≡ b
+both_same true = refl
+both_same false = refl
+
+pub either_same : (b : Bool) (v : ℤ) → cond b v v ≡ v
+either_same true v = refl
+either_same false v = refl

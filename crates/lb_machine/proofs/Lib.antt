@@ -1,0 +1,3 @@
+pub mod Running
+pub mod Carrying
+pub mod Building

@@ -1,0 +1,271 @@
+-- What the run of straight code keeps: all that was done stays done, since later instructions write
+-- places that no earlier one reads or writes.
+use Rattle.std.proofs.Common.{◌≡◌, ℕ, suc, ◌+◌, ◌<◌, ◌≤◌, List, [], ◌∷◌, length, get_or}
+use Rattle.std.proofs.Common.{drop, cond, refl, sym, ap, ap₂, ◌∙◌, subst, arith, ℤ, All, add-one}
+use Rattle.std.proofs.Math.Seq.{drop-cons}
+use Rattle.std.proofs.Math.ListN.{drop_of_length-le}
+use Rattle.std.specs.List.{AllByRecursion}
+use Rattle.lb_lanes.specs.Kernels.{AreInts, lane_of, kept, faulty}
+use Rattle.lb_lanes.specs.Operators.{result_of}
+use Rattle.lb_lanes.specs.Planes.{on}
+use Rattle.lb_machine.specs.declared.instruction.Instruction.{Instruction}
+use Rattle.lb_machine.specs.declared.instruction.Instruction.TheVariants.{Combine, Select, Compare}
+use Rattle.lb_machine.specs.declared.instruction.Instruction.TheVariants.{Operate, Blend}
+use Rattle.lb_machine.specs.Meaning.{Lane, lane_at, combined, compared, IsDone}
+use Rattle.lb_machine.specs.Straight.{IsNext, planes_after, words_after, IsStraight, IsFit}
+use Rattle.lb_machine.specs.Straight.{KeepsPlane, KeepsWord}
+
+-- ## Straight code
+
+straight_planes :
+    (p w : ℕ) (is : List Instruction) (P W : ℕ) → IsStraight p w is P W → p ≤ P
+straight_planes p w [] P W h = omega (arith, h.0)
+straight_planes p w (Combine op a b out ∷ is) P W h =
+    let le = straight_planes (suc p) w is P W h.1 in omega (arith, le)
+straight_planes p w (Select m a b out ∷ is) P W h =
+    let le = straight_planes (suc p) w is P W h.1 in omega (arith, le)
+straight_planes p w (Compare c a b out ∷ is) P W h =
+    let le = straight_planes (suc p) w is P W h.1 in omega (arith, le)
+straight_planes p w (Operate op a b active out faults ∷ is) P W h =
+    let le = straight_planes (suc p) (suc w) is P W h.1 in omega (arith, le)
+straight_planes p w (Blend m a b out ∷ is) P W h = straight_planes p (suc w) is P W h.1
+
+straight_words :
+    (p w : ℕ) (is : List Instruction) (P W : ℕ) → IsStraight p w is P W → w ≤ W
+straight_words p w [] P W h = omega (arith, h.1)
+straight_words p w (Combine op a b out ∷ is) P W h = straight_words (suc p) w is P W h.1
+straight_words p w (Select m a b out ∷ is) P W h = straight_words (suc p) w is P W h.1
+straight_words p w (Compare c a b out ∷ is) P W h = straight_words (suc p) w is P W h.1
+straight_words p w (Operate op a b active out faults ∷ is) P W h =
+    let le = straight_words (suc p) (suc w) is P W h.1 in omega (arith, le)
+straight_words p w (Blend m a b out ∷ is) P W h =
+    let le = straight_words p (suc w) is P W h.1 in omega (arith, le)
+
+-- there are never fewer places
+more_planes_after : (p : ℕ) (i : Instruction) → p ≤ planes_after p i
+more_planes_after p (Combine op a b out) = omega arith
+more_planes_after p (Select m a b out) = omega arith
+more_planes_after p (Compare c a b out) = omega arith
+more_planes_after p (Operate op a b active out faults) = omega arith
+more_planes_after p (Blend m a b out) = omega arith
+
+more_words_after : (w : ℕ) (i : Instruction) → w ≤ words_after w i
+more_words_after w (Combine op a b out) = omega arith
+more_words_after w (Select m a b out) = omega arith
+more_words_after w (Compare c a b out) = omega arith
+more_words_after w (Operate op a b active out faults) = omega arith
+more_words_after w (Blend m a b out) = omega arith
+
+-- an instruction that can be done next fits
+next_fits :
+    (p w P W : ℕ) (i : Instruction) → IsNext p w i → planes_after p i ≤ P → words_after w i ≤ W →
+    IsFit P W i
+next_fits p w P W (Combine op a b out) n hp hw =
+    (omega (arith, n.0, n.2), omega (arith, n.1, n.2), omega (arith, n.2, hp))
+next_fits p w P W (Select m a b out) n hp hw = (
+  omega (arith, n.0, n.3),
+  omega (arith, n.1, n.3),
+  omega (arith, n.2, n.3),
+  omega (arith, n.3, hp),
+)
+next_fits p w P W (Compare c a b out) n hp hw =
+    (omega (arith, n.0, hw), omega (arith, n.1, hw), omega (arith, n.2, hp))
+next_fits p w P W (Operate op a b active out faults) n hp hw = (
+  omega (arith, n.0, n.3),
+  omega (arith, n.1, n.3),
+  omega (arith, n.2, n.4),
+  omega (arith, n.3, hw),
+  omega (arith, n.4, hp),
+)
+next_fits p w P W (Blend m a b out) n hp hw = (
+  omega (arith, n.0, hp),
+  omega (arith, n.1, n.3),
+  omega (arith, n.2, n.3),
+  omega (arith, n.3, hw),
+)
+
+-- it leaves the planes and the words that are there
+plane_kept : (p w : ℕ) (i : Instruction) (k : ℕ) → IsNext p w i → k < p → KeepsPlane i k
+plane_kept p w (Combine op a b out) k n h = λ e. omega (arith, n.2, h, e)
+plane_kept p w (Select m a b out) k n h = λ e. omega (arith, n.3, h, e)
+plane_kept p w (Compare c a b out) k n h = λ e. omega (arith, n.2, h, e)
+plane_kept p w (Operate op a b active out faults) k n h = λ e. omega (arith, n.4, h, e)
+plane_kept p w (Blend m a b out) k n h = tt
+
+word_kept : (p w : ℕ) (i : Instruction) (k : ℕ) → IsNext p w i → k < w → KeepsWord i k
+word_kept p w (Combine op a b out) k n h = tt
+word_kept p w (Select m a b out) k n h = tt
+word_kept p w (Compare c a b out) k n h = tt
+word_kept p w (Operate op a b active out faults) k n h = λ e. omega (arith, n.3, h, e)
+word_kept p w (Blend m a b out) k n h = λ e. omega (arith, n.3, h, e)
+
+-- ## What was done stays done
+
+-- two lanes hold the same in the first planes and words
+pub record AreAlike (p w : ℕ) (s s' : Lane) : Type 0 where
+  pub planes : (k : ℕ) → k < p → s'.bits k ≡ s.bits k
+  pub words : (k : ℕ) → k < w → s'.ints k ≡ s.ints k
+
+stays_done :
+    (p w : ℕ) (s s' : Lane) (i : Instruction) → IsNext p w i →
+    AreAlike (planes_after p i) (words_after w i) s s' → IsDone s i → IsDone s' i
+stays_done p w s s' (Combine op a b out) n h d =
+    h.planes out.0 (omega (arith, n.2)) ∙ d
+    ∙ sym (ap₂ (combined op) (h.planes a.0 (omega (arith, n.0)))
+    (h.planes b.0 (omega (arith, n.1))))
+stays_done p w s s' (Select m a b out) n h d =
+    h.planes out.0 (omega (arith, n.3)) ∙ d
+    ∙ sym (ap (λ c. cond c (s'.bits a.0) (s'.bits b.0)) (h.planes m.0 (omega (arith, n.0)))
+    ∙ ap₂ (cond (s.bits m.0)) (h.planes a.0 (omega (arith, n.1)))
+    (h.planes b.0 (omega (arith, n.2))))
+stays_done p w s s' (Compare c a b out) n h d =
+    h.planes out.0 (omega (arith, n.2)) ∙ d
+    ∙ sym (ap₂ (compared c) (h.words a.0 (omega (arith, n.0))) (h.words b.0 (omega (arith, n.1))))
+stays_done p w s s' (Operate op a b active out faults) n h d =
+    let ea = h.words a.0 (omega (arith, n.0)) in
+    let eb = h.words b.0 (omega (arith, n.1)) in
+    let on_active = h.planes active.0 (omega (arith, n.2)) in
+    let r = ap₂ (result_of op) ea eb in (
+      h.words out.0 (omega (arith, n.3)) ∙ d.0 ∙ sym (ap₂ kept on_active r),
+      h.planes faults.0 (omega (arith, n.4)) ∙ d.1 ∙ sym (ap₂ faulty on_active r),
+    )
+stays_done p w s s' (Blend m a b out) n h d =
+    h.words out.0 (omega (arith, n.3)) ∙ d
+    ∙ sym (ap (λ c. cond c (s'.ints a.0) (s'.ints b.0)) (h.planes m.0 (omega (arith, n.0)))
+    ∙ ap₂ (cond (s.bits m.0)) (h.words a.0 (omega (arith, n.1)))
+    (h.words b.0 (omega (arith, n.2))))
+
+-- ## The run
+
+-- before instruction i: the rest goes on from what is there, and where it has been done, in a lane
+-- that is as this one up to there, all has been done
+pub record IsRunning (first_plane first_word : ℕ) (code : List Instruction) (P W : ℕ)
+    (planes0 planes : List ℕ) (words0 words : List (List ℤ)) (i : ℕ) : Type 0 where
+  pub next_plane : ℕ
+  pub next_word : ℕ
+  pub straight : IsStraight next_plane next_word (drop i code) P W
+  pub planes_long : length planes ≡ P
+  pub words_long : length words ≡ W
+  pub ints : All AreInts words
+  pub more_planes : first_plane ≤ next_plane
+  pub more_words : first_word ≤ next_word
+  pub first_planes : (k : ℕ) → k < first_plane → get_or planes k 0 ≡ get_or planes0 k 0
+  pub first_words : (k : ℕ) → k < first_word → get_or words k [] ≡ get_or words0 k []
+  pub finishing :
+      (lane : ℕ) → lane < 64 → (s : Lane) →
+      AreAlike next_plane next_word (lane_at planes words lane) s →
+      AllByRecursion (IsDone s) (drop i code) → AllByRecursion (IsDone s) code
+
+pub starts :
+    (p w : ℕ) (code : List Instruction) (P W : ℕ) (planes : List ℕ) (words : List (List ℤ)) →
+    IsStraight p w code P W → length planes ≡ P → length words ≡ W → All AreInts words →
+    IsRunning p w code P W planes planes words words 0
+starts p w code P W planes words h lp lw ints = record {
+  next_plane = p;
+  next_word = w;
+  straight = h;
+  planes_long = lp;
+  words_long = lw;
+  ints = ints;
+  more_planes = omega arith;
+  more_words = omega arith;
+  first_planes = λ k lt. refl;
+  first_words = λ k lt. refl;
+  finishing = λ lane lt s a d. d;
+}
+
+module _ (p w : ℕ) (code : List Instruction) (P W : ℕ) (planes0 planes : List ℕ)
+    (words0 words : List (List ℤ)) (i : ℕ)
+    (h : IsRunning p w code P W planes0 planes words0 words i) where
+  -- at the end all has been done
+  pub ends :
+      length code ≤ i → (lane : ℕ) → lane < 64 →
+      AllByRecursion (IsDone (lane_at planes words lane)) code
+  ends le lane lt =
+      h.finishing lane lt (lane_at planes words lane)
+      (record { planes = λ k l. refl; words = λ k l. refl })
+      (subst (AllByRecursion (IsDone (lane_at planes words lane)))
+      (sym (drop_of_length-le code le)) tt)
+
+  module _ (d x : Instruction) (is : x ≡ get_or code i d) (lt : i < length code) where
+    abbrev here : Instruction
+    here = get_or code i d
+
+    cut : drop i code ≡ here ∷ drop (i + 1) code
+    cut = rw (add-one, drop-cons code i d)
+
+    parts :
+        IsNext h.next_plane h.next_word here
+        × IsStraight (planes_after h.next_plane here) (words_after h.next_word here)
+        (drop (i + 1) code) P W
+    parts = subst (λ is. IsStraight h.next_plane h.next_word is P W) cut h.straight
+
+    pub fits : IsFit (length planes) (length words) x
+    fits =
+        subst (IsFit (length planes) (length words)) (sym is)
+        (next_fits h.next_plane h.next_word (length planes) (length words) here parts.0
+        (subst (λ n. planes_after h.next_plane here ≤ n) (sym h.planes_long)
+        (straight_planes _ _ _ _ _ parts.1))
+        (subst (λ n. words_after h.next_word here ≤ n) (sym h.words_long)
+        (straight_words _ _ _ _ _ parts.1)))
+
+    pub goes_on :
+        (planes' : List ℕ) (words' : List (List ℤ)) → length planes' ≡ length planes →
+        length words' ≡ length words → All AreInts words' →
+        ((lane : ℕ) → lane < 64 → IsDone (lane_at planes' words' lane) x) →
+        ((k : ℕ) → KeepsPlane x k → get_or planes' k 0 ≡ get_or planes k 0) →
+        ((k : ℕ) → KeepsWord x k → get_or words' k [] ≡ get_or words k []) →
+        IsRunning p w code P W planes0 planes' words0 words' (i + 1)
+    goes_on planes' words' lp lw ints done planes_same words_same = record {
+      next_plane = planes_after h.next_plane here;
+      next_word = words_after h.next_word here;
+      straight = parts.1;
+      planes_long = lp ∙ h.planes_long;
+      words_long = lw ∙ h.words_long;
+      ints = ints;
+      more_planes = omega (arith, h.more_planes, grown_planes);
+      more_words = omega (arith, h.more_words, grown_words);
+      first_planes = λ k l.
+          same_planes k (plane_kept h.next_plane h.next_word here k parts.0
+          (omega (arith, l, h.more_planes)))
+          ∙ h.first_planes k l;
+      first_words = λ k l.
+          same_words k (word_kept h.next_plane h.next_word here k parts.0
+          (omega (arith, l, h.more_words)))
+          ∙ h.first_words k l;
+      finishing = λ lane l s alike rest.
+          h.finishing lane l s (back lane s alike)
+          (subst (AllByRecursion (IsDone s)) (sym cut) (
+            stays_done h.next_plane h.next_word (lane_at planes' words' lane) s here parts.0 alike
+                (subst (IsDone (lane_at planes' words' lane)) is (done lane l)),
+            rest,
+          ));
+    }
+      where
+        same_planes : (k : ℕ) → KeepsPlane here k → get_or planes' k 0 ≡ get_or planes k 0
+        same_planes k keeps = planes_same k (subst (λ y. KeepsPlane y k) (sym is) keeps)
+
+        same_words : (k : ℕ) → KeepsWord here k → get_or words' k [] ≡ get_or words k []
+        same_words k keeps = words_same k (subst (λ y. KeepsWord y k) (sym is) keeps)
+
+        grown_planes : h.next_plane ≤ planes_after h.next_plane here
+        grown_planes = more_planes_after h.next_plane here
+
+        grown_words : h.next_word ≤ words_after h.next_word here
+        grown_words = more_words_after h.next_word here
+
+        back :
+            (lane : ℕ) (s : Lane) →
+            AreAlike (planes_after h.next_plane here) (words_after h.next_word here)
+            (lane_at planes' words' lane) s →
+            AreAlike h.next_plane h.next_word (lane_at planes words lane) s
+        back lane s alike = record {
+          planes = λ k l.
+              alike.planes k (omega (arith, l, grown_planes))
+              ∙ ap (λ x. on x lane) (same_planes k (plane_kept h.next_plane h.next_word here k
+              parts.0 l));
+          words = λ k l.
+              alike.words k (omega (arith, l, grown_words))
+              ∙ ap (λ x. lane_of x lane) (same_words k (word_kept h.next_plane h.next_word here k
+              parts.0 l));
+        }

@@ -1,0 +1,38 @@
+-- What code that grows keeps, and what its new places mean.
+-- This file says what data of the program mean.
+use Rattle.std.specs.Prelude.{◌≡◌, ◌<◌, ◌≤◌, Bool, Option, ℤ}
+use Rattle.lb_machine.specs.declared.code.Code.{Code}
+use Rattle.lb_machine.specs.declared.instruction.PlaneId.{PlaneId}
+use Rattle.lb_machine.specs.declared.instruction.WordId.{WordId}
+use Rattle.lb_machine.specs.Meaning.{Lane, HasRun}
+use Rattle.lb_lanes.specs.Kernels.{kept, faulty}
+
+-- the code has all its instructions still, and maybe more
+pub record IsGrown (before after : Code) : Type 0 where
+  pub first_plane : after.first_plane ≡ before.first_plane
+  pub first_word : after.first_word ≡ before.first_word
+  pub planes : before.planes ≤ after.planes
+  pub words : before.words ≤ after.words
+  pub runs : (s : Lane) → HasRun after.instructions.items s → HasRun before.instructions.items s
+
+-- a plane of the code holds this in each lane in which the code has been run
+pub record IsPlaneFor (code : Code) (value : Lane → Bool) (p : PlaneId) : Type 0 where
+  pub within : p.0 < code.planes
+  pub means : (s : Lane) → HasRun code.instructions.items s → s.bits p.0 ≡ value s
+
+-- and a word this
+pub record IsWordFor (code : Code) (value : Lane → ℤ) (w : WordId) : Type 0 where
+  pub within : w.0 < code.words
+  pub means : (s : Lane) → HasRun code.instructions.items s → s.ints w.0 ≡ value s
+
+-- a word holds what an operator gives in the lanes that are active, and a plane its faults
+pub record AreResultsFor (code : Code) (value : Lane → Option ℤ) (active : PlaneId)
+    (w : WordId) (p : PlaneId) : Type 0 where
+  pub word_within : w.0 < code.words
+  pub plane_within : p.0 < code.planes
+  pub result :
+      (s : Lane) → HasRun code.instructions.items s →
+      s.ints w.0 ≡ kept (s.bits active.0) (value s)
+  pub faults :
+      (s : Lane) → HasRun code.instructions.items s →
+      s.bits p.0 ≡ faulty (s.bits active.0) (value s)

@@ -1,0 +1,62 @@
+-- What instructions mean in one lane. No lane occurs beside it.
+-- Source: this project's rule.
+use Rattle.std.specs.Prelude.{◌≡◌, ℕ, Bool, true, false, not, ◌&&◌, ◌||◌, List, [], ℤ, pos, int_lt}
+use Rattle.std.specs.Prelude.{int_le, slice_index, slice_index_or, if◌then◌else◌}
+use Rattle.std.specs.List.{AllByRecursion}
+use Rattle.std.specs.Ordering.{int_eq}
+use Rattle.lb_lanes.specs.Kernels.{lane_of, kept, faulty}
+use Rattle.lb_lanes.specs.Operators.{result_of}
+use Rattle.lb_lanes.specs.Planes.{on, differ}
+use Rattle.lb_machine.specs.declared.instruction.PlaneOperator.{PlaneOperator}
+use Rattle.lb_machine.specs.declared.instruction.PlaneOperator.TheVariants.{And, Or, Xor, AndNot}
+use Rattle.lb_machine.specs.declared.instruction.Comparison.{Comparison}
+use Rattle.lb_machine.specs.declared.instruction.Comparison.TheVariants.{Equal, Below, AtMost}
+use Rattle.lb_machine.specs.declared.instruction.Instruction.{Instruction}
+use Rattle.lb_machine.specs.declared.instruction.Instruction.TheVariants.{Combine, Select, Compare}
+use Rattle.lb_machine.specs.declared.instruction.Instruction.TheVariants.{Operate, Blend}
+
+-- what a lane holds: a Boolean at each plane, and an integer at each word
+pub record Lane : Type 0 where
+  pub bits : ℕ → Bool
+  pub ints : ℕ → ℤ
+
+-- one lane of planes and words
+abbrev pub lane_at : List ℕ → List (List ℤ) → ℕ → Lane
+lane_at planes words i = record {
+  bits = λ p. on (slice_index planes p) i;
+  ints = λ w. lane_of (slice_index_or words w []) i;
+}
+
+abbrev pub combined : PlaneOperator → Bool → Bool → Bool
+combined And a b = a && b
+combined Or a b = a || b
+combined Xor a b = differ a b
+combined AndNot a b = a && not b
+
+abbrev pub compared : Comparison → ℤ → ℤ → Bool
+compared Equal a b = int_eq a b
+compared Below a b = int_lt a b
+compared AtMost a b = int_le a b
+
+-- an instruction has been done in a lane
+abbrev pub IsDone : Lane → Instruction → Type 0
+IsDone s (Combine op a b out) = s.bits out.0 ≡ combined op (s.bits a.0) (s.bits b.0)
+IsDone s (Select m a b out) =
+    s.bits out.0 ≡ (if s.bits m.0 then s.bits a.0 else s.bits b.0)
+IsDone s (Compare c a b out) = s.bits out.0 ≡ compared c (s.ints a.0) (s.ints b.0)
+IsDone s (Operate op a b active out faults) =
+    (s.ints out.0 ≡ kept (s.bits active.0) (result_of op (s.ints a.0) (s.ints b.0)))
+    × (s.bits faults.0 ≡ faulty (s.bits active.0) (result_of op (s.ints a.0) (s.ints b.0)))
+IsDone s (Blend m a b out) =
+    s.ints out.0 ≡ (if s.bits m.0 then s.ints a.0 else s.ints b.0)
+
+-- a lane in which the first two planes are false and true, and the first word is 0
+pub record HasConstants (s : Lane) : Type 0 where
+  pub nowhere : s.bits 0 ≡ false
+  pub everywhere : s.bits 1 ≡ true
+  pub zero : s.ints 0 ≡ pos 0
+
+-- a lane in which these instructions have been done
+pub record HasRun (code : List Instruction) (s : Lane) : Type 0 where
+  pub constants : HasConstants s
+  pub done : AllByRecursion (IsDone s) code

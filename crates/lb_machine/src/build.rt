@@ -1,0 +1,209 @@
+//! How code is put together: each call gives the place of a result, by an instruction where it
+//! takes one.
+
+ghost use Rattle.std.specs.Prelude.{◌≡◌, ◌<◌, ◌≤◌, ◌+◌, ◌++◌, [], ◌∷◌, IfOk, OnOk, if◌then◌else◌};
+ghost use Rattle.lb_lanes.specs.Operators.{result_of};
+ghost use Rattle.lb_machine.specs.Meaning.{combined, compared};
+ghost use Rattle.lb_machine.specs.Straight.{planes_after, words_after, IsNext};
+
+use crate::code::Code;
+use crate::instruction::{Comparison, Instruction, NOWHERE, PlaneId, PlaneOperator, WordId};
+use crate::known::{known_blend, known_choice, known_combination};
+use lb_lanes::IntOperator;
+use std::alloc::{AllocError, Global};
+
+impl Code {
+    ghost use Rattle.lb_machine.specs.Growing.{AreResultsFor, IsGrown, IsPlaneFor, IsWordFor};
+
+    /// No instruction, beside planes and words that are there before.
+    pub fn new(alloc: Global, first_plane: u32, first_word: u32) -> Code
+        requires constants { 2 ≤ first_plane }
+        requires zero { 1 ≤ first_word }
+        ensures first_plane { result.first_plane ≡ first_plane }
+        ensures first_word { result.first_word ≡ first_word }
+        ensures planes { result.planes ≡ first_plane }
+        ensures words { result.words ≡ first_word }
+        ensures none { result.instructions.items ≡ [] }
+    {
+        Code {
+            first_plane,
+            first_word,
+            planes: first_plane,
+            words: first_word,
+            instructions: Vec::new(alloc),
+        }
+    }
+
+    // The number of the next plane. More than numbers go is more than any memory holds.
+    fn next_plane(&self) -> Result<PlaneId, AllocError>
+        ensures { IfOk result (λ p. (p.0 ≡ self.now.planes) × (p.0 < 4294967295)) }
+    {
+        if self.planes == u32::MAX {
+            return Err(AllocError);
+        }
+        Ok(PlaneId(self.planes))
+    }
+
+    // The number of the next word.
+    fn next_word(&self) -> Result<WordId, AllocError>
+        ensures { IfOk result (λ w. (w.0 ≡ self.now.words) × (w.0 < 4294967295)) }
+    {
+        if self.words == u32::MAX {
+            return Err(AllocError);
+        }
+        Ok(WordId(self.words))
+    }
+
+    // One more instruction, that writes a plane.
+    fn push_plane(&mut self, i: Instruction) -> Result<(), AllocError>
+        requires next { IsNext self.old.planes self.old.words i }
+        requires plane { planes_after self.old.planes i ≡ self.old.planes + 1 }
+        requires no_word { words_after self.old.words i ≡ self.old.words }
+        requires room { self.old.planes < 4294967295 }
+        ensures first_plane { self.new.first_plane ≡ self.old.first_plane }
+        ensures first_word { self.new.first_word ≡ self.old.first_word }
+        ensures planes { OnOk result (self.new.planes ≡ self.old.planes + 1) }
+        ensures words { self.new.words ≡ self.old.words }
+        ensures last { OnOk result (self.new.instructions.items
+            ≡ self.old.instructions.items ++ i ∷ []) }
+    {
+        self.instructions.push(i)?;
+        self.planes += 1;
+        Ok(())
+    }
+
+    // One more instruction, that writes a word.
+    fn push_word(&mut self, i: Instruction) -> Result<(), AllocError>
+        requires next { IsNext self.old.planes self.old.words i }
+        requires no_plane { planes_after self.old.planes i ≡ self.old.planes }
+        requires word { words_after self.old.words i ≡ self.old.words + 1 }
+        requires room { self.old.words < 4294967295 }
+        ensures first_plane { self.new.first_plane ≡ self.old.first_plane }
+        ensures first_word { self.new.first_word ≡ self.old.first_word }
+        ensures planes { self.new.planes ≡ self.old.planes }
+        ensures words { OnOk result (self.new.words ≡ self.old.words + 1) }
+        ensures last { OnOk result (self.new.instructions.items
+            ≡ self.old.instructions.items ++ i ∷ []) }
+    {
+        self.instructions.push(i)?;
+        self.words += 1;
+        Ok(())
+    }
+
+    /// A plane that holds what an operator on two gives.
+    pub fn combine(
+        &mut self,
+        op: PlaneOperator,
+        a: PlaneId,
+        b: PlaneId,
+    ) -> Result<PlaneId, AllocError>
+        requires left { a.0 < self.old.planes }
+        requires right { b.0 < self.old.planes }
+        ensures grown { OnOk result (IsGrown self.old self.new) }
+        ensures plane { IfOk result (IsPlaneFor self.new
+            (λ s. combined op (s.bits a.0) (s.bits b.0))) }
+    {
+        if let Some(known) = known_combination(op, a, b) {
+            return Ok(known);
+        }
+        let out = self.next_plane()?;
+        self.push_plane(Instruction::Combine(op, a, b, out))?;
+        Ok(out)
+    }
+
+    /// A plane that holds the one of two that a mask chooses.
+    pub fn select(&mut self, mask: PlaneId, a: PlaneId, b: PlaneId) -> Result<PlaneId, AllocError>
+        requires mask { mask.0 < self.old.planes }
+        requires left { a.0 < self.old.planes }
+        requires right { b.0 < self.old.planes }
+        ensures grown { OnOk result (IsGrown self.old self.new) }
+        ensures plane { IfOk result (IsPlaneFor self.new
+            (λ s. if s.bits mask.0 then s.bits a.0 else s.bits b.0)) }
+    {
+        if let Some(known) = known_choice(mask, a, b) {
+            return Ok(known);
+        }
+        let out = self.next_plane()?;
+        self.push_plane(Instruction::Select(mask, a, b, out))?;
+        Ok(out)
+    }
+
+    /// A plane that holds where a test of two words passes.
+    pub fn compare(&mut self, c: Comparison, a: WordId, b: WordId) -> Result<PlaneId, AllocError>
+        requires left { a.0 < self.old.words }
+        requires right { b.0 < self.old.words }
+        ensures grown { OnOk result (IsGrown self.old self.new) }
+        ensures plane { IfOk result (IsPlaneFor self.new
+            (λ s. compared c (s.ints a.0) (s.ints b.0))) }
+    {
+        let out = self.next_plane()?;
+        self.push_plane(Instruction::Compare(c, a, b, out))?;
+        Ok(out)
+    }
+
+    /// A word that holds the one of two that a mask chooses.
+    pub fn blend(&mut self, mask: PlaneId, a: WordId, b: WordId) -> Result<WordId, AllocError>
+        requires mask { mask.0 < self.old.planes }
+        requires left { a.0 < self.old.words }
+        requires right { b.0 < self.old.words }
+        ensures grown { OnOk result (IsGrown self.old self.new) }
+        ensures word { IfOk result (IsWordFor self.new
+            (λ s. if s.bits mask.0 then s.ints a.0 else s.ints b.0)) }
+    {
+        if let Some(known) = known_blend(mask, a, b) {
+            return Ok(known);
+        }
+        let out = self.next_word()?;
+        self.push_word(Instruction::Blend(mask, a, b, out))?;
+        Ok(out)
+    }
+
+    /// A word that holds what an operator on two gives in the lanes that are active, and a plane
+    /// that holds its faults.
+    pub fn operate(
+        &mut self,
+        op: IntOperator,
+        a: WordId,
+        b: WordId,
+        active: PlaneId,
+    ) -> Result<(WordId, PlaneId), AllocError>
+        requires left { a.0 < self.old.words }
+        requires right { b.0 < self.old.words }
+        requires active { active.0 < self.old.planes }
+        ensures grown { OnOk result (IsGrown self.old self.new) }
+        ensures results { IfOk result (λ r. AreResultsFor self.new
+            (λ s. result_of op (s.ints a.0) (s.ints b.0)) active r.0 r.1) }
+    {
+        let out = self.next_word()?;
+        let faults = self.next_plane()?;
+        self.instructions
+            .push(Instruction::Operate(op, a, b, active, out, faults))?;
+        self.planes += 1;
+        self.words += 1;
+        Ok((out, faults))
+    }
+
+    /// A plane of the code's own that holds what another one does.
+    pub fn copy_plane(&mut self, a: PlaneId) -> Result<PlaneId, AllocError>
+        requires { a.0 < self.old.planes }
+        ensures grown { OnOk result (IsGrown self.old self.new) }
+        ensures plane { IfOk result (IsPlaneFor self.new (λ s. s.bits a.0)) }
+        ensures own { IfOk result (λ p. self.new.first_plane ≤ p.0) }
+    {
+        let out = self.next_plane()?;
+        self.push_plane(Instruction::Combine(PlaneOperator::And, a, a, out))?;
+        Ok(out)
+    }
+
+    /// A word of the code's own that holds what another one does.
+    pub fn copy_word(&mut self, a: WordId) -> Result<WordId, AllocError>
+        requires { a.0 < self.old.words }
+        ensures grown { OnOk result (IsGrown self.old self.new) }
+        ensures word { IfOk result (IsWordFor self.new (λ s. s.ints a.0)) }
+        ensures own { IfOk result (λ w. self.new.first_word ≤ w.0) }
+    {
+        let out = self.next_word()?;
+        self.push_word(Instruction::Blend(NOWHERE, a, a, out))?;
+        Ok(out)
+    }
+}

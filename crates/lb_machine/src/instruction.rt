@@ -1,0 +1,58 @@
+//! Instructions over planes and lane words.
+//!
+//! ```text
+//! 7 := 5 and 6            Combine(And, 5, 6, 7)
+//! word 3 := 1 + 2         Operate(Add, 1, 2, 8, 3, 9), in the lanes of plane 8; faults to plane 9
+//! ```
+
+use lb_lanes::IntOperator;
+
+/// A plane, 64 Booleans, by its number.
+#[derive(Clone, Copy, Debug, PartialEq, Eq)]
+pub struct PlaneId(pub u32);
+
+/// A lane word, 64 integers, by its number.
+#[derive(Clone, Copy, Debug, PartialEq, Eq)]
+pub struct WordId(pub u32);
+
+/// The plane that is false in each lane.
+pub const NOWHERE: PlaneId = PlaneId(0);
+
+/// The plane that is true in each lane.
+pub const EVERYWHERE: PlaneId = PlaneId(1);
+
+/// The word that is 0 in each lane.
+pub const ZERO: WordId = WordId(0);
+
+/// An operator on two planes.
+#[derive(Clone, Copy, Debug, PartialEq, Eq)]
+pub enum PlaneOperator {
+    And,
+    Or,
+    Xor,
+    /// The first one, and not the second.
+    AndNot,
+}
+
+/// A test of two integers.
+#[derive(Clone, Copy, Debug, PartialEq, Eq)]
+pub enum Comparison {
+    Equal,
+    Below,
+    AtMost,
+}
+
+/// What is done to all lanes alike. The last places are those that are written.
+#[derive(Clone, Copy)]
+pub enum Instruction {
+    /// An operator on two planes.
+    Combine(PlaneOperator, PlaneId, PlaneId, PlaneId),
+    /// Where the first plane is true the second, and elsewhere the third.
+    Select(PlaneId, PlaneId, PlaneId, PlaneId),
+    /// A test of two words.
+    Compare(Comparison, WordId, WordId, PlaneId),
+    /// An operator on two words, in the lanes of a plane; its result, and its faults.
+    Operate(IntOperator, WordId, WordId, PlaneId, WordId, PlaneId),
+    /// Where the plane is true the first word, and elsewhere the second.
+    Blend(PlaneId, WordId, WordId, WordId),
+}

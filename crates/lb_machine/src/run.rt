@@ -1,0 +1,141 @@
+//! The run of code in all lanes at once.
+
+ghost use Rattle.std.specs.Prelude.{◌≡◌, ◌≢◌, ℕ, ◌<◌, length, slice_index, slice_index_or, [], All};
+ghost use Rattle.std.specs.List.{AllByRecursion};
+ghost use Rattle.lb_lanes.specs.Kernels.{AreInts, IsBlend, IsKernel, lane_of};
+ghost use Rattle.lb_lanes.specs.Operators.{result_of};
+ghost use Rattle.lb_lanes.specs.Planes.{IsPlaneOf, on};
+ghost use Rattle.lb_machine.specs.Meaning.{combined, compared, lane_at, IsDone};
+ghost use Rattle.lb_machine.specs.Straight.{IsFit, KeepsPlane, KeepsWord};
+
+use crate::code::Code;
+use crate::instruction::{Comparison, Instruction, PlaneId, PlaneOperator, WordId};
+use lb_lanes::{IntLanes, IntOperator, Plane};
+
+// A plane by its number.
+fn plane(planes: &[u64], p: PlaneId) -> Plane
+    requires { p.0 < length planes.now }
+    ensures { result.0 ≡ slice_index planes.now p.0 }
+{
+    Plane(planes[p.0 as usize])
+}
+
+fn combined(op: PlaneOperator, a: Plane, b: Plane) -> Plane
+    ensures { IsPlaneOf (λ i. combined op (on a.0 i) (on b.0 i)) result.0 }
+{
+    match op {
+        PlaneOperator::And => a.and(b),
+        PlaneOperator::Or => a.or(b),
+        PlaneOperator::Xor => a.xor(b),
+        PlaneOperator::AndNot => a.and(b.not()),
+    }
+}
+
+fn compared(c: Comparison, a: &IntLanes, b: &IntLanes) -> Plane
+    ensures { IsPlaneOf (λ i. compared c (lane_of a.now i) (lane_of b.now i)) result.0 }
+{
+    match c {
+        Comparison::Equal => a.eq(b),
+        Comparison::Below => a.lt(b),
+        Comparison::AtMost => a.le(b),
+    }
+}
+
+// Puts the result of an operator into a word behind its operands, and gives its faults.
+fn operate(
+    op: IntOperator,
+    a: WordId,
+    b: WordId,
+    active: Plane,
+    out: WordId,
+    words: &mut [IntLanes],
+) -> Plane
+    requires left { a.0 < out.0 }
+    requires right { b.0 < out.0 }
+    requires room { out.0 < length words.old }
+    requires ints { All AreInts words.old }
+    ensures words { length words.new ≡ length words.old }
+    ensures ints { All AreInts words.new }
+    ensures lanes { IsKernel (result_of op) (slice_index_or words.old a.0 [])
+        (slice_index_or words.old b.0 []) active.0 (slice_index_or words.new out.0 []) result.0 }
+    ensures others { (k : ℕ) → k ≢ out.0
+        → slice_index_or words.new k [] ≡ slice_index_or words.old k [] }
+{
+    let (before, after) = words.split_at_mut(out.0 as usize);
+    before[a.0 as usize].operate(op, &before[b.0 as usize], active, &mut after[0])
+}
+
+// Blends two words into one behind them.
+fn blend(mask: Plane, a: WordId, b: WordId, out: WordId, words: &mut [IntLanes])
+    requires left { a.0 < out.0 }
+    requires right { b.0 < out.0 }
+    requires room { out.0 < length words.old }
+    requires ints { All AreInts words.old }
+    ensures words { length words.new ≡ length words.old }
+    ensures ints { All AreInts words.new }
+    ensures lanes { IsBlend mask.0 (slice_index_or words.old a.0 [])
+        (slice_index_or words.old b.0 []) (slice_index_or words.new out.0 []) }
+    ensures others { (k : ℕ) → k ≢ out.0
+        → slice_index_or words.new k [] ≡ slice_index_or words.old k [] }
+{
+    let (before, after) = words.split_at_mut(out.0 as usize);
+    after[0].set_blend(mask, &before[a.0 as usize], &before[b.0 as usize]);
+}
+
+// Does one instruction in all lanes.
+fn execute(i: Instruction, planes: &mut [u64], words: &mut [IntLanes])
+    requires fits { IsFit (length planes.old) (length words.old) i }
+    requires ints { All AreInts words.old }
+    ensures planes { length planes.new ≡ length planes.old }
+    ensures words { length words.new ≡ length words.old }
+    ensures ints { All AreInts words.new }
+    ensures done { (lane : ℕ) → lane < 64 → IsDone (lane_at planes.new words.new lane) i }
+    ensures other_planes { (k : ℕ) → KeepsPlane i k
+        → slice_index planes.new k ≡ slice_index planes.old k }
+    ensures other_words { (k : ℕ) → KeepsWord i k
+        → slice_index_or words.new k [] ≡ slice_index_or words.old k [] }
+{
+    match i {
+        Instruction::Combine(op, a, b, out) => {
+            let made = combined(op, plane(planes, a), plane(planes, b));
+            planes[out.0 as usize] = made.0;
+        }
+        Instruction::Select(mask, a, b, out) => {
+            let made = Plane::select(plane(planes, mask), plane(planes, a), plane(planes, b));
+            planes[out.0 as usize] = made.0;
+        }
+        Instruction::Compare(c, a, b, out) => {
+            let made = compared(c, &words[a.0 as usize], &words[b.0 as usize]);
+            planes[out.0 as usize] = made.0;
+        }
+        Instruction::Operate(op, a, b, active, out, faults) => {
+            let made = operate(op, a, b, plane(planes, active), out, words);
+            planes[faults.0 as usize] = made.0;
+        }
+        Instruction::Blend(mask, a, b, out) => blend(plane(planes, mask), a, b, out, words),
+    }
+}
+
+impl Code {
+    /// Runs the code in all lanes: afterwards each instruction is done in each of them, and what
+    /// was there before the code is as it was.
+    pub fn run(&self, planes: &mut [u64], words: &mut [IntLanes])
+        requires planes { length planes.old ≡ self.now.planes }
+        requires words { length words.old ≡ self.now.words }
+        requires ints { All AreInts words.old }
+        ensures planes { length planes.new ≡ length planes.old }
+        ensures words { length words.new ≡ length words.old }
+        ensures ints { All AreInts words.new }
+        ensures done { (lane : ℕ) → lane < 64 →
+            AllByRecursion (IsDone (lane_at planes.new words.new lane))
+            self.now.instructions.items }
+        ensures first_planes { (k : ℕ) → k < self.now.first_plane
+            → slice_index planes.new k ≡ slice_index planes.old k }
+        ensures first_words { (k : ℕ) → k < self.now.first_word
+            → slice_index_or words.new k [] ≡ slice_index_or words.old k [] }
+    {
+        for i in 0..self.instructions.len() {
+            execute(self.instructions[i], planes, words);
+        }
+    }
+}
