@@ -1,0 +1,381 @@
+-- What is there before the code: one more plane or word, and what a memory holds at first.
+use Rattle.std.proofs.Common.{◌≡◌, ◌≢◌, ℕ, suc, ◌+◌, ◌<◌, ◌≤◌, ◌⊎◌, ◌||◌, Bool, true, false, not, List}
+use Rattle.std.proofs.Common.{[], ◌∷◌, ◌++◌, ℤ, pos, cond, length, refl, sym, ap, ap₂, ◌∙◌, subst}
+use Rattle.std.proofs.Common.{inl, inr, arith}
+use Rattle.std.specs.Prelude.{slice_index, slice_index_or}
+use Rattle.std.proofs.lemmas.List.{get_or_append_left, get_or_push, length_push}
+use Rattle.std.proofs.lemmas.List.Elements.{All-push}
+use Rattle.std.proofs.Common.{All, w32, w64, SFits, to_z, of_z}
+use Rattle.std.proofs.lemmas.Int.{ints, to_z-of_z}
+use Rattle.std.specs.Prelude.{IsTrue}
+use Rattle.lb_syntax.specs.declared.tree.Kind.{Kind}
+use Rattle.lb_syntax.specs.declared.tree.Kind.TheVariants.{Int as Int_kind, Bool as Bool_kind}
+use Rattle.lb_check.specs.Scalars.{Scalar, Integer, Boolean, Nil, Bad}
+use Rattle.lb_flat.specs.Fitting.{IsOf}
+use Rattle.lb_flat.specs.Flat.{Operation, FirstThen, Previous, Latest}
+use Rattle.lb_flat.specs.declared.equation.Operation as code
+use Rattle.lb_flat.specs.declared.equation.Operation.TheVariants as variants
+use Rattle.lb_flat.specs.declared.equation.ElementId.{ElementId}
+use Rattle.lb_flat.specs.declared.scalar.Scalar as code_scalars
+use Rattle.lb_flat.specs.Values.{operation_of}
+use Rattle.lb_lanes.specs.Planes.{on}
+use Rattle.lb_lanes.proofs.OnPlanes.{on-flip, on-zero}
+use Rattle.lb_machine.specs.declared.instruction.PlaneId.{PlaneId}
+use Rattle.lb_machine.specs.declared.instruction.WordId.{WordId}
+use Rattle.lb_lanes.proofs.Words.{int_fits}
+use Rattle.lb_lanes.specs.Operators.{is_int}
+use Rattle.lb_sim.specs.Homes.{plane_in, word_in, is_nil_scalar, is_bad_scalar, IsRow}
+use Rattle.lb_sim.specs.Homes.{IsCellHome, IsMemory}
+use Rattle.lb_sim.specs.Presets.{IsMore, IsFirstValue, IsFirstHolding, IsFirstMemory, first_lane}
+use Rattle.lb_sim.specs.Showing.{shown, value_at, scalar_at}
+use Rattle.lb_sim.specs.States.{flag_of, no_holding, with_memory}
+use Rattle.lb_sim.specs.declared.place.Holding.{Holding}
+use Rattle.lb_sim.specs.declared.place.Value.{Value}
+use Rattle.lb_sim.specs.declared.place.Value.TheVariants.{Truth, Number}
+use Rattle.lb_sim.specs.declared.preset.Preset.{Preset}
+use Rattle.lb_sim.proofs.HomeRows.{row_append, row_homes, home_below}
+
+-- ## Planes of one value
+
+pub all_on : (i : ℕ) → i < 64 → on 18446744073709551615 i ≡ true
+all_on i h = on-flip 0 i (omega arith) h ∙ ap not (on-zero i)
+
+pub chosen_on : (b : Bool) (i : ℕ) → i < 64 → on (cond b 18446744073709551615 0) i ≡ b
+chosen_on true i h = all_on i h
+chosen_on false i h = on-zero i
+
+pub placed_on :
+    (items old : List ℕ) (x n i : ℕ) (b : Bool) → items ≡ old ++ x ∷ [] → length old ≡ n →
+    i < 64 → x ≡ cond b 18446744073709551615 0 → on (slice_index items n) i ≡ b
+placed_on items old x n i b is long lt e =
+    ap (λ l. on (slice_index l n) i) is
+    ∙ ap (λ y. on y i) (get_or_push old x 0 n long)
+    ∙ ap (λ y. on y i) e
+    ∙ chosen_on b i lt
+
+-- ## Words
+
+zero_is_int : is_int (pos 0) ≡ true
+unfolding is_int
+zero_is_int = refl
+
+pub one_zero : All (λ v. IsTrue (is_int v)) (pos 0 ∷ [])
+one_zero =
+    All-push (λ v. IsTrue (is_int v)) [] (pos 0) (λ k d lt. absurd (omega (arith, lt))) zero_is_int
+
+pub more_ints : (words : List ℤ) (v : ℤ) → SFits w32 v → All (λ v. IsTrue (is_int v)) words →
+    All (λ v. IsTrue (is_int v)) (words ++ v ∷ [])
+more_ints words v fits all =
+    All-push (λ v. IsTrue (is_int v)) words v all (int_fits v fits)
+
+widen : (v : ℤ) → SFits w32 v → SFits w64 v
+widen v f = search (arith, ints)
+
+-- a word of 32 bits that is pushed as one of 64 is the same integer
+pub word_same : (v r : ℤ) → SFits w32 v → r ≡ to_z w32 (of_z w32 v) → to_z w64 (of_z w64 r) ≡ v
+word_same v r f e =
+    let same : r ≡ v = e ∙ to_z-of_z w32 v f in
+    ap (λ z. to_z w64 (of_z w64 z)) same ∙ to_z-of_z w64 v (widen v f)
+
+pub ints_kept :
+    (t : Bool) (items old : List ℤ) (x v : ℤ) → items ≡ cond t (old ++ x ∷ []) old → x ≡ v →
+    SFits w32 v → All (λ v. IsTrue (is_int v)) old → All (λ v. IsTrue (is_int v)) items
+ints_kept true items old x v is e fits all =
+    subst (All (λ v. IsTrue (is_int v))) (sym (is ∙ ap (λ z. old ++ z ∷ []) e))
+    (more_ints old v fits all)
+ints_kept false items old x v is e fits all = subst (All (λ v. IsTrue (is_int v))) (sym is) all
+
+pub zero_kept :
+    (t : Bool) (items old : List ℤ) (x : ℤ) → items ≡ cond t (old ++ x ∷ []) old →
+    0 < length old → slice_index_or old 0 (pos 0) ≡ pos 0 →
+    slice_index_or items 0 (pos 0) ≡ pos 0
+zero_kept true items old x is lt e =
+    ap (λ l. slice_index_or l 0 (pos 0)) is
+    ∙ get_or_append_left old (x ∷ []) (pos 0) 0 lt ∙ e
+zero_kept false items old x is lt e = ap (λ l. slice_index_or l 0 (pos 0)) is ∙ e
+
+-- ## More of them
+
+pub more_none : (a : Preset) → IsMore a a
+more_none a = record {
+  planes = omega arith;
+  words = omega arith;
+  same_planes = λ k lt. refl;
+  same_words = λ k lt. refl;
+}
+
+pub more_then : (a b c : Preset) → IsMore a b → IsMore b c → IsMore a c
+more_then a b c h g = record {
+  planes = omega (arith, h.planes, g.planes);
+  words = omega (arith, h.words, g.words);
+  same_planes = λ k lt. g.same_planes k (omega (arith, lt, h.planes)) ∙ h.same_planes k lt;
+  same_words = λ k lt. g.same_words k (omega (arith, lt, h.words)) ∙ h.same_words k lt;
+}
+
+module _ (old new : Preset) where
+  pub more_planes : (x : ℕ) → new.planes.items ≡ old.planes.items ++ x ∷ [] →
+      new.words.items ≡ old.words.items → IsMore old new
+  more_planes x planes words =
+      let longer : length new.planes.items ≡ length old.planes.items + 1 =
+      ap length planes ∙ length_push old.planes.items x in
+      let as_long : length new.words.items ≡ length old.words.items = ap length words in
+      record {
+        planes = omega (arith, longer);
+        words = omega (arith, as_long);
+        same_planes = λ k lt.
+            ap (λ l. slice_index l k) planes
+            ∙ get_or_append_left old.planes.items (x ∷ []) 0 k lt;
+        same_words = λ k lt. ap (λ l. slice_index_or l k (pos 0)) words;
+      }
+
+  pub more_words : (x : ℤ) → new.words.items ≡ old.words.items ++ x ∷ [] →
+      new.planes.items ≡ old.planes.items → IsMore old new
+  more_words x words planes =
+      let longer : length new.words.items ≡ length old.words.items + 1 =
+      ap length words ∙ length_push old.words.items x in
+      let as_long : length new.planes.items ≡ length old.planes.items = ap length planes in
+      record {
+        planes = omega (arith, as_long);
+        words = omega (arith, longer);
+        same_planes = λ k lt. ap (λ l. slice_index l k) planes;
+        same_words = λ k lt.
+            ap (λ l. slice_index_or l k (pos 0)) words
+            ∙ get_or_append_left old.words.items (x ∷ []) (pos 0) k lt;
+      }
+
+  -- what stands at places that were there holds what it held
+  pub value_more : IsMore old new → (i : ℕ) (x : Value) → plane_in x < length old.planes.items →
+      word_in x < length old.words.items →
+      value_at (first_lane new i) x ≡ value_at (first_lane old i) x
+  value_more m i (Truth p) lt _ = ap (λ n. Boolean (on n i)) (m.same_planes p.0 lt)
+  value_more m i (Number w) _ lt = ap Integer (m.same_words w.0 lt)
+
+  pub scalar_more :
+      IsMore old new → (i : ℕ) (h : Holding) → plane_in h.value < length old.planes.items →
+      word_in h.value < length old.words.items → h.nil.0 < length old.planes.items →
+      h.bad.0 < length old.planes.items →
+      scalar_at (first_lane new i) h ≡ scalar_at (first_lane old i) h
+  scalar_more m i h plane word nil bad =
+      ap₂ (λ a b. shown (on a i) (on b i) (value_at (first_lane new i) h.value))
+      (m.same_planes h.bad.0 bad) (m.same_planes h.nil.0 nil)
+      ∙ ap
+      (shown (on (slice_index old.planes.items h.bad.0) i)
+      (on (slice_index old.planes.items h.nil.0) i))
+      (value_more m i h.value plane word)
+
+-- ## A value
+
+pub int_kind : (kind : Kind) (z : ℤ) → IsOf kind (Integer z) → Int_kind ≡ kind
+int_kind Int_kind z e = refl
+int_kind Bool_kind z e = absurd (cc)
+
+pub truth_kind : (kind : Kind) (b : Bool) → IsOf kind (Boolean b) → Bool_kind ≡ kind
+truth_kind Bool_kind b e = refl
+truth_kind Int_kind b e = absurd (cc)
+
+module _ (old new : Preset) (kind : Kind) (v : Scalar) where
+  pub truth_value :
+      (p : PlaneId) → p.0 ≡ length old.planes.items →
+      length new.planes.items ≡ length old.planes.items + 1 →
+      new.words.items ≡ old.words.items → (IsOf kind v → Bool_kind ≡ kind) →
+      ((i : ℕ) → i < 64 → is_nil_scalar v ≡ false → is_bad_scalar v ≡ false →
+      Boolean (on (slice_index new.planes.items p.0) i) ≡ v) →
+      IsFirstValue old new kind v (Truth p)
+  truth_value p at planes words kind_is start =
+      let next : suc (length old.planes.items) ≡ length new.planes.items =
+      omega (arith, planes) in
+      record {
+        kind_is = kind_is;
+        is_set = λ e. absurd (omega (arith, e, at, old.two_planes));
+        planes = inr (at, next);
+        words = inl (refl, sym (ap length words));
+        start = start;
+      }
+
+  pub number_value :
+      (w : WordId) → w.0 ≡ length old.words.items →
+      length new.words.items ≡ length old.words.items + 1 →
+      new.planes.items ≡ old.planes.items → (IsOf kind v → Int_kind ≡ kind) →
+      ((i : ℕ) → i < 64 → is_nil_scalar v ≡ false → is_bad_scalar v ≡ false →
+      Integer (slice_index_or new.words.items w.0 (pos 0)) ≡ v) →
+      IsFirstValue old new kind v (Number w)
+  number_value w at words planes kind_is start =
+      let next : suc (length old.words.items) ≡ length new.words.items = omega (arith, words) in
+      record {
+        kind_is = kind_is;
+        is_set = λ e. absurd (omega (arith, e, at, old.one_word));
+        planes = inl (refl, sym (ap length planes));
+        words = inr (at, next);
+        start = start;
+      }
+
+-- where a scalar is nil or a fault, no value is wanted
+pub no_start : {A : Type 0} (a b : Bool) → (a || b) ≡ true → a ≡ false → b ≡ false → A
+no_start true b e f g = absurd (cc)
+no_start false true e f g = absurd (cc)
+no_start false false e f g = absurd (cc)
+
+-- ## A holding
+
+shown_is :
+    (v w : Scalar) (b n : Bool) → b ≡ is_bad_scalar v → n ≡ is_nil_scalar v →
+    (is_nil_scalar v ≡ false → is_bad_scalar v ≡ false → w ≡ v) → shown b n w ≡ v
+shown_is (Integer z) w b n is_b is_n f = ap₂ (λ b n. shown b n w) is_b is_n ∙ f refl refl
+shown_is (Boolean z) w b n is_b is_n f = ap₂ (λ b n. shown b n w) is_b is_n ∙ f refl refl
+shown_is Nil w b n is_b is_n f = ap₂ (λ b n. shown b n w) is_b is_n
+shown_is Bad w b n is_b is_n f = ap₂ (λ b n. shown b n w) is_b is_n
+
+module _ (a b c d : Preset) (kind : Kind) (watched : Type 0) (v : Scalar) (x : Value)
+    (nil bad : PlaneId) where
+  pub first_holding :
+      IsFirstValue a b kind v x → IsMore b c → nil.0 ≡ length b.planes.items →
+      length c.planes.items ≡ length b.planes.items + 1 → c.words.items ≡ b.words.items →
+      ((i : ℕ) → i < 64 → on (slice_index c.planes.items nil.0) i ≡ is_nil_scalar v) →
+      IsMore c d → d.words.items ≡ c.words.items →
+      IsRow (length c.planes.items) (bad.0 ∷ []) (length d.planes.items) →
+      ((bad.0 ≢ 0) ⊎ ((bad.0 ≡ 0) × watched)) →
+      ((i : ℕ) → i < 64 → on (slice_index d.planes.items bad.0) i ≡ is_bad_scalar v) →
+      IsFirstHolding a d kind watched v (record { value = x; nil = nil; bad = bad })
+  first_holding value more at longer words nil_is more' words' row bad_set bad_is =
+      let next : suc (length b.planes.items) ≡ length c.planes.items = omega (arith, longer) in
+      let within : nil.0 < length c.planes.items = omega (arith, at, longer) in
+      let plane_home =
+      row_homes (length a.planes.items) (length b.planes.items) (plane_in x ∷ []) value.planes in
+      let word_home =
+      row_homes (length a.words.items) (length b.words.items) (word_in x ∷ []) value.words in
+      record {
+        cell = record {
+          kind_is = value.kind_is;
+          is_set = value.is_set;
+          nil = λ e. absurd (omega (arith, e, at, b.two_planes));
+          bad = bad_set;
+        };
+        planes =
+            row_append (length a.planes.items) (length b.planes.items) (length d.planes.items)
+            (plane_in x ∷ []) (nil.0 ∷ bad.0 ∷ []) value.planes
+            (inr (
+              at,
+              subst (λ n. IsRow n (bad.0 ∷ []) (length d.planes.items)) (sym next) row,
+            ));
+        words =
+            subst (λ n. IsRow (length a.words.items) (word_in x ∷ []) n)
+            (sym (ap length words' ∙ ap length words)) value.words;
+        start = λ i lt.
+            shown_is v (value_at (first_lane d i) x) (on (slice_index d.planes.items bad.0) i)
+            (on (slice_index d.planes.items nil.0) i) (bad_is i lt)
+            (ap (λ n. on n i) (more'.same_planes nil.0 within) ∙ nil_is i lt)
+            (λ n m.
+            value_more b d (more_then b c d more more') i x
+            (home_below (length a.planes.items) (length b.planes.items) (plane_in x)
+            (omega (arith, b.two_planes)) plane_home.0)
+            (home_below (length a.words.items) (length b.words.items) (word_in x)
+            (omega (arith, b.one_word)) word_home.0)
+            ∙ value.start i lt n m);
+      }
+
+-- ## A memory
+
+module _ (old new : Preset) (kind : Kind) (watched : ℕ → Type 0) where
+  pub first_flag :
+      (started : Bool) (a b : ℕ) (p : PlaneId) → p.0 ≡ length old.planes.items →
+      length new.planes.items ≡ length old.planes.items + 1 →
+      new.words.items ≡ old.words.items →
+      ((i : ℕ) → i < 64 → on (slice_index new.planes.items p.0) i ≡ started) →
+      IsFirstMemory old new kind watched (FirstThen started a b)
+      (record { value = Truth p; nil = record { 0 = 0 }; bad = record { 0 = 0 } })
+  first_flag started a b p at planes words is =
+      let next : suc (length old.planes.items) ≡ length new.planes.items =
+      omega (arith, planes) in
+      record {
+        memory = record {
+          kind_is = refl;
+          is_set = λ e. absurd (omega (arith, e, at, old.two_planes));
+          nil = refl;
+          bad = refl;
+        };
+        planes = inr (at, inl (refl, inl (refl, next)));
+        words = inl (refl, sym (ap length words));
+        start = λ i lt.
+            let nowhere : on (slice_index new.planes.items 0) i ≡ false =
+            ap (λ n. on n i) new.nowhere ∙ on-zero i in
+            ap (λ m. FirstThen m a b)
+            (ap
+            (λ x. flag_of (shown x x (Boolean (on (slice_index new.planes.items p.0) i)))) nowhere
+            ∙ is i lt);
+      }
+
+  pub first_previous :
+      (v : Scalar) (a : ℕ) (h : Holding) → IsFirstHolding old new kind (watched a) v h →
+      IsFirstMemory old new kind watched (Previous v a) h
+  first_previous v a h g = record {
+    memory = g.cell;
+    planes = g.planes;
+    words = g.words;
+    start = λ i lt. ap (λ m. Previous m a) (g.start i lt);
+  }
+
+  pub first_latest :
+      (v : Scalar) (a : ℕ) (h : Holding) → IsFirstHolding old new kind (watched a) v h →
+      IsFirstMemory old new kind watched (Latest v a) h
+  first_latest v a h g = record {
+    memory = g.cell;
+    planes = g.planes;
+    words = g.words;
+    start = λ i lt. ap (λ m. Latest m a) (g.start i lt);
+  }
+
+module _ (old : Preset) (kind : Kind) (watched : ℕ → Type 0) where
+  none_taken : (p : ℕ) → IsRow p (0 ∷ 0 ∷ 0 ∷ []) p
+  none_taken p = inl (refl, inl (refl, inl (refl, refl)))
+
+  pub no_first :
+      (o : code.Operation) →
+      ((s : Bool) (a b : ElementId) → o ≡ variants.FirstThen s a b → ⊥) →
+      ((v : code_scalars.Scalar) (a : ElementId) → o ≡ variants.Previous v a → ⊥) →
+      ((v : code_scalars.Scalar) (a : ElementId) → o ≡ variants.Latest v a → ⊥) →
+      IsFirstMemory old old kind watched (operation_of o) no_holding
+  no_first (variants.Input j) f p l = record {
+    memory = tt;
+    planes = none_taken (length old.planes.items);
+    words = inl (refl, refl);
+    start = λ i lt. refl;
+  }
+  no_first (variants.Constant v) f p l = record {
+    memory = tt;
+    planes = none_taken (length old.planes.items);
+    words = inl (refl, refl);
+    start = λ i lt. refl;
+  }
+  no_first (variants.Copy a) f p l = record {
+    memory = tt;
+    planes = none_taken (length old.planes.items);
+    words = inl (refl, refl);
+    start = λ i lt. refl;
+  }
+  no_first (variants.ApplyUnary op a) f p l = record {
+    memory = tt;
+    planes = none_taken (length old.planes.items);
+    words = inl (refl, refl);
+    start = λ i lt. refl;
+  }
+  no_first (variants.ApplyBinary op a b) f p l = record {
+    memory = tt;
+    planes = none_taken (length old.planes.items);
+    words = inl (refl, refl);
+    start = λ i lt. refl;
+  }
+  no_first (variants.Choose c a b) f p l = record {
+    memory = tt;
+    planes = none_taken (length old.planes.items);
+    words = inl (refl, refl);
+    start = λ i lt. refl;
+  }
+  no_first (variants.FirstThen s a b) f p l = absurd (f s a b refl)
+  no_first (variants.Previous v a) f p l = absurd (p v a refl)
+  no_first (variants.Latest v a) f p l = absurd (l v a refl)
+  no_first (variants.Sample a) f p l = record {
+    memory = tt;
+    planes = none_taken (length old.planes.items);
+    words = inl (refl, refl);
+    start = λ i lt. refl;
+  }

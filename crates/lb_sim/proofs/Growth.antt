@@ -1,0 +1,64 @@
+-- Code that grows more than once, and what was there before.
+use Rattle.std.proofs.Common.{◌≡◌, ◌<◌, ℕ, zero, suc, List, [], ◌∷◌, length, get_or}
+use Rattle.std.proofs.Common.{not, ◌&&◌, refl, ap, ◌∙◌, arith}
+use Rattle.lb_machine.specs.Growing.{IsGrown, IsPlaneFor}
+use Rattle.lb_machine.specs.declared.code.Code.{Code}
+use Rattle.lb_machine.specs.declared.instruction.PlaneId.{PlaneId}
+use Rattle.lb_sim.specs.Holdings.{IsIn, IsValueIn, IsPlaceIn}
+use Rattle.lb_sim.specs.declared.place.Value.{Value}
+use Rattle.lb_sim.specs.declared.place.Value.TheVariants.{Truth, Number}
+use Rattle.lb_sim.specs.declared.place.Holding.{Holding}
+use Rattle.lb_sim.specs.declared.place.Place.{Place}
+
+pub grown_none : (code : Code) → IsGrown code code
+grown_none code = record {
+  first_plane = refl;
+  first_word = refl;
+  planes = omega arith;
+  words = omega arith;
+  runs = λ s h. h;
+}
+
+pub grown_then : (a b c : Code) → IsGrown a b → IsGrown b c → IsGrown a c
+grown_then a b c g h = record {
+  first_plane = h.first_plane ∙ g.first_plane;
+  first_word = h.first_word ∙ g.first_word;
+  planes = omega (arith, g.planes, h.planes);
+  words = omega (arith, g.words, h.words);
+  runs = λ s r. g.runs s (h.runs s r);
+}
+
+-- a place of the code is one still
+pub value_grown : (a b : Code) (v : Value) → IsGrown a b → IsValueIn a v → IsValueIn b v
+value_grown a b (Truth p) g h = omega (arith, h, g.planes)
+value_grown a b (Number w) g h = omega (arith, h, g.words)
+
+pub holding_grown : (a b : Code) (h : Holding) → IsGrown a b → IsIn a h → IsIn b h
+holding_grown a b h g w = record {
+  value = value_grown a b h.value g w.value;
+  nil = omega (arith, w.nil, g.planes);
+  bad = omega (arith, w.bad, g.planes);
+}
+
+pub place_grown : (a b : Code) (p : Place) → IsGrown a b → IsPlaceIn a p → IsPlaceIn b p
+place_grown a b p g w = record {
+  holding = holding_grown a b p.holding g w.holding;
+  present = omega (arith, w.present, g.planes);
+}
+
+-- where a plane is not is where the one that is everywhere is, and it is not
+pub negation_for :
+    (code : Code) (a p : PlaneId) →
+    IsPlaneFor code (λ s. s.bits 1 && not (s.bits a.0)) p →
+    IsPlaneFor code (λ s. not (s.bits a.0)) p
+negation_for code a p h = record {
+  within = h.within;
+  means = λ s r. h.means s r ∙ ap (λ b. b && not (s.bits a.0)) r.constants.everywhere;
+}
+
+-- what stands at a place of a list
+pub same_there : {A : Type 0} (xs : List A) (i : ℕ) (d e : A) → i < length xs →
+    get_or xs i d ≡ get_or xs i e
+same_there [] i d e lt = absurd (omega (arith, lt))
+same_there (x ∷ xs) zero d e lt = refl
+same_there (x ∷ xs) (suc i) d e lt = same_there xs i d e (omega (arith, lt))

@@ -1,0 +1,276 @@
+-- The columns of a signature, one after the other, and the row that a lane shows of them.
+use Rattle.std.proofs.Common.{◌≡◌, ℕ, zero, suc, ◌+◌, ◌<◌, ◌≤◌, Bool, false, List, [], ◌∷◌, ◌++◌}
+use Rattle.std.proofs.Common.{ℤ, pos, get_or, length, map, take, drop, refl, sym, ap, ap₂, ◌∙◌, arith}
+use Rattle.std.proofs.lemmas.List.{take_more, drop_more, length-take-le}
+use Rattle.std.specs.Prelude.{int_le}
+use Rattle.lb_syntax.specs.declared.tree.Kind.{Kind}
+use Rattle.lb_syntax.specs.declared.tree.Kind.TheVariants.{Int as Int_kind, Bool as Bool_kind}
+use Rattle.lb_syntax.specs.Lists.{zip2}
+use Rattle.lb_check.specs.Scalars.{Scalar, Integer, Boolean}
+use Rattle.lb_flat.specs.Inputs.{scalar_in}
+use Rattle.lb_machine.specs.Meaning.{Lane}
+use Rattle.lb_sim.specs.InputRows.{places_of, truth_columns, number_columns, zero_of}
+use Rattle.lb_sim.specs.Showing.{value_at}
+use Rattle.lb_sim.specs.declared.place.Value.{Value}
+use Rattle.lb_sim.specs.declared.place.Value.TheVariants.{Truth, Number}
+
+-- ## One column more
+
+nothing_more : {A : Type 0} (xs : List A) → xs ++ [] ≡ xs
+nothing_more [] = refl
+nothing_more (x ∷ xs) = ap (λ l. x ∷ l) (nothing_more xs)
+
+pub places_push :
+    (j p w : ℕ) (kinds : List Kind) (k : Kind) →
+    places_of p w (kinds ++ k ∷ [])
+    ≡ places_of p w kinds
+    ++ places_of (p + length (truth_columns j kinds)) (w + length (number_columns j kinds)) (k ∷ [])
+places_push j p w [] k =
+    let at_p : p ≡ p + 0 = omega arith in
+    let at_w : w ≡ w + 0 = omega arith in
+    ap₂ (λ a b. places_of a b (k ∷ [])) at_p at_w
+places_push j p w (Bool_kind ∷ kinds) k =
+    let n = length (truth_columns (suc j) kinds) in
+    let m = length (number_columns (suc j) kinds) in
+    let e : suc p + n ≡ p + suc n = omega arith in
+    ap (λ l. Truth (record { 0 = p }) ∷ l)
+    (places_push (suc j) (suc p) w kinds k
+    ∙ ap (λ a. places_of (suc p) w kinds ++ places_of a (w + m) (k ∷ [])) e)
+places_push j p w (Int_kind ∷ kinds) k =
+    let n = length (truth_columns (suc j) kinds) in
+    let m = length (number_columns (suc j) kinds) in
+    let e : suc w + m ≡ w + suc m = omega arith in
+    ap (λ l. Number (record { 0 = w }) ∷ l)
+    (places_push (suc j) p (suc w) kinds k
+    ∙ ap (λ a. places_of p (suc w) kinds ++ places_of (p + n) a (k ∷ [])) e)
+
+pub truths_push :
+    (j : ℕ) (kinds : List Kind) (k : Kind) →
+    truth_columns j (kinds ++ k ∷ [])
+    ≡ truth_columns j kinds ++ truth_columns (j + length kinds) (k ∷ [])
+truths_push j [] k =
+    let e : j ≡ j + 0 = omega arith in
+    ap (λ a. truth_columns a (k ∷ [])) e
+truths_push j (Bool_kind ∷ kinds) k =
+    let e : suc j + length kinds ≡ j + suc (length kinds) = omega arith in
+    ap (λ l. j ∷ l)
+    (truths_push (suc j) kinds k
+    ∙ ap (λ a. truth_columns (suc j) kinds ++ truth_columns a (k ∷ [])) e)
+truths_push j (Int_kind ∷ kinds) k =
+    let e : suc j + length kinds ≡ j + suc (length kinds) = omega arith in
+    truths_push (suc j) kinds k
+    ∙ ap (λ a. truth_columns (suc j) kinds ++ truth_columns a (k ∷ [])) e
+
+pub numbers_push :
+    (j : ℕ) (kinds : List Kind) (k : Kind) →
+    number_columns j (kinds ++ k ∷ [])
+    ≡ number_columns j kinds ++ number_columns (j + length kinds) (k ∷ [])
+numbers_push j [] k =
+    let e : j ≡ j + 0 = omega arith in
+    ap (λ a. number_columns a (k ∷ [])) e
+numbers_push j (Bool_kind ∷ kinds) k =
+    let e : suc j + length kinds ≡ j + suc (length kinds) = omega arith in
+    numbers_push (suc j) kinds k
+    ∙ ap (λ a. number_columns (suc j) kinds ++ number_columns a (k ∷ [])) e
+numbers_push j (Int_kind ∷ kinds) k =
+    let e : suc j + length kinds ≡ j + suc (length kinds) = omega arith in
+    ap (λ l. j ∷ l)
+    (numbers_push (suc j) kinds k
+    ∙ ap (λ a. number_columns (suc j) kinds ++ number_columns a (k ∷ [])) e)
+
+-- the columns of some kinds
+pub record AreColumns (kinds : List Kind) (places : List Value) (truths numbers : List ℕ) :
+    Type 0 where
+  pub placed : places ≡ places_of 0 0 kinds
+  pub all_truths : truths ≡ truth_columns 0 kinds
+  pub all_numbers : numbers ≡ number_columns 0 kinds
+
+-- there are no more columns of a sort than columns
+pub few_truths : (j : ℕ) (kinds : List Kind) → length (truth_columns j kinds) ≤ length kinds
+few_truths j [] = omega arith
+few_truths j (Bool_kind ∷ kinds) = omega (arith, few_truths (suc j) kinds)
+few_truths j (Int_kind ∷ kinds) = omega (arith, few_truths (suc j) kinds)
+
+pub few_numbers : (j : ℕ) (kinds : List Kind) → length (number_columns j kinds) ≤ length kinds
+few_numbers j [] = omega arith
+few_numbers j (Bool_kind ∷ kinds) = omega (arith, few_numbers (suc j) kinds)
+few_numbers j (Int_kind ∷ kinds) = omega (arith, few_numbers (suc j) kinds)
+
+module _ (kinds : List Kind) (j : ℕ) (places : List Value) (truths numbers : List ℕ)
+    (h : AreColumns (take j kinds) places truths numbers) (lt : j < length kinds) where
+  long : length (take j kinds) ≡ j
+  long = length-take-le j kinds (omega arith)
+
+  at_end : 0 + length (take j kinds) ≡ j
+  at_end = omega (arith, long)
+
+  one_more : (k : Kind) → get_or kinds j Int_kind ≡ k → take (j + 1) kinds ≡ take j kinds ++ k ∷ []
+  one_more k is = take_more kinds j Int_kind lt ∙ ap (λ x. take j kinds ++ x ∷ []) is
+
+  -- no more of a sort than columns so far
+  pub truths_few : length truths ≤ j
+  truths_few =
+      let count : length truths ≡ length (truth_columns 0 (take j kinds)) =
+      ap length h.all_truths in
+      omega (arith, count, few_truths 0 (take j kinds), long)
+
+  pub numbers_few : length numbers ≤ j
+  numbers_few =
+      let count : length numbers ≡ length (number_columns 0 (take j kinds)) =
+      ap length h.all_numbers in
+      omega (arith, count, few_numbers 0 (take j kinds), long)
+
+  pub columns_truth :
+      (n : ℕ) → get_or kinds j Int_kind ≡ Bool_kind → n ≡ length truths →
+      AreColumns (take (j + 1) kinds) (places ++ Truth (record { 0 = n }) ∷ [])
+      (truths ++ j ∷ []) numbers
+  columns_truth n is e =
+      let front = take j kinds in
+      let more = sym (one_more Bool_kind is) in
+      let count : n ≡ length (truth_columns 0 front) = e ∙ ap length h.all_truths in
+      let there : n ≡ 0 + length (truth_columns 0 front) = omega (arith, count) in
+      record {
+        placed =
+            ap (λ l. l ++ Truth (record { 0 = n }) ∷ []) h.placed
+            ∙ ap (λ a. places_of 0 0 front ++ Truth (record { 0 = a }) ∷ []) there
+            ∙ sym (places_push 0 0 0 front Bool_kind)
+            ∙ ap (places_of 0 0) more;
+        all_truths =
+            ap (λ l. l ++ j ∷ []) h.all_truths
+            ∙ ap (λ a. truth_columns 0 front ++ a ∷ []) (sym at_end)
+            ∙ sym (truths_push 0 front Bool_kind)
+            ∙ ap (truth_columns 0) more;
+        all_numbers =
+            h.all_numbers
+            ∙ sym (nothing_more (number_columns 0 front))
+            ∙ sym (numbers_push 0 front Bool_kind)
+            ∙ ap (number_columns 0) more;
+      }
+
+  pub columns_number :
+      (n : ℕ) → get_or kinds j Int_kind ≡ Int_kind → n ≡ length numbers →
+      AreColumns (take (j + 1) kinds) (places ++ Number (record { 0 = n }) ∷ [])
+      truths (numbers ++ j ∷ [])
+  columns_number n is e =
+      let front = take j kinds in
+      let more = sym (one_more Int_kind is) in
+      let count : n ≡ length (number_columns 0 front) = e ∙ ap length h.all_numbers in
+      let there : n ≡ 0 + length (number_columns 0 front) = omega (arith, count) in
+      record {
+        placed =
+            ap (λ l. l ++ Number (record { 0 = n }) ∷ []) h.placed
+            ∙ ap (λ a. places_of 0 0 front ++ Number (record { 0 = a }) ∷ []) there
+            ∙ sym (places_push 0 0 0 front Int_kind)
+            ∙ ap (places_of 0 0) more;
+        all_truths =
+            h.all_truths
+            ∙ sym (nothing_more (truth_columns 0 front))
+            ∙ sym (truths_push 0 front Int_kind)
+            ∙ ap (truth_columns 0) more;
+        all_numbers =
+            ap (λ l. l ++ j ∷ []) h.all_numbers
+            ∙ ap (λ a. number_columns 0 front ++ a ∷ []) (sym at_end)
+            ∙ sym (numbers_push 0 front Int_kind)
+            ∙ ap (number_columns 0) more;
+      }
+
+-- each column of an integer is one of all
+pub numbers_within :
+    (j : ℕ) (kinds : List Kind) (k d : ℕ) → k < length (number_columns j kinds) →
+    get_or (number_columns j kinds) k d < j + length kinds
+numbers_within j [] k d h = absurd (omega (arith, h))
+numbers_within j (Int_kind ∷ kinds) zero d h = omega arith
+numbers_within j (Int_kind ∷ kinds) (suc k) d h =
+    omega (arith, numbers_within (suc j) kinds k d (omega (arith, h)))
+numbers_within j (Bool_kind ∷ kinds) k d h = omega (arith, numbers_within (suc j) kinds k d h)
+
+-- ## The row of a lane
+
+module _ (s : Lane) (whole : List ℤ) where
+  -- it shows the cells of a row
+  pub row_shown :
+      (kinds : List Kind) (j p w : ℕ) → length whole ≡ j + length kinds →
+      ((b : ℕ) → b < length (truth_columns j kinds) →
+      s.bits (p + b) ≡ int_le (pos 1) (get_or whole (get_or (truth_columns j kinds) b 0) (pos 0))) →
+      ((c : ℕ) → c < length (number_columns j kinds) →
+      s.ints (w + c) ≡ get_or whole (get_or (number_columns j kinds) c 0) (pos 0)) →
+      map (value_at s) (places_of p w kinds) ≡ zip2 scalar_in kinds (drop j whole)
+  row_shown [] j p w long bits ints = refl
+  row_shown (Bool_kind ∷ kinds) j p w long bits ints =
+      let here : p ≡ p + 0 = omega arith in
+      let next : suc j ≡ j + 1 = omega arith in
+      let rest = row_shown kinds (suc j) (suc p) w (omega (arith, long))
+      (λ b l.
+      let e : suc p + b ≡ p + suc b = omega arith in
+      ap s.bits e ∙ bits (suc b) (omega (arith, l)))
+      ints in
+      ap₂ (λ (x : Bool) (l : List Scalar). Boolean x ∷ l) (ap s.bits here ∙ bits 0 (omega arith))
+      (rest ∙ ap (λ n. zip2 scalar_in kinds (drop n whole)) next)
+      ∙ ap (zip2 scalar_in (Bool_kind ∷ kinds))
+      (sym (drop_more whole j (pos 0) (omega (arith, long))))
+  row_shown (Int_kind ∷ kinds) j p w long bits ints =
+      let here : w ≡ w + 0 = omega arith in
+      let next : suc j ≡ j + 1 = omega arith in
+      let rest = row_shown kinds (suc j) p (suc w) (omega (arith, long)) bits
+      (λ c l.
+      let e : suc w + c ≡ w + suc c = omega arith in
+      ap s.ints e ∙ ints (suc c) (omega (arith, l))) in
+      ap₂ (λ (x : ℤ) (l : List Scalar). Integer x ∷ l) (ap s.ints here ∙ ints 0 (omega arith))
+      (rest ∙ ap (λ n. zip2 scalar_in kinds (drop n whole)) next)
+      ∙ ap (zip2 scalar_in (Int_kind ∷ kinds))
+      (sym (drop_more whole j (pos 0) (omega (arith, long))))
+
+module _ (s : Lane) where
+  -- it shows 0 and false
+  pub row_zero :
+      (kinds : List Kind) (j p w : ℕ) →
+      ((b : ℕ) → b < length (truth_columns j kinds) → s.bits (p + b) ≡ false) →
+      ((c : ℕ) → c < length (number_columns j kinds) → s.ints (w + c) ≡ pos 0) →
+      map (value_at s) (places_of p w kinds) ≡ map zero_of kinds
+  row_zero [] j p w bits ints = refl
+  row_zero (Bool_kind ∷ kinds) j p w bits ints =
+      let here : p ≡ p + 0 = omega arith in
+      let rest = row_zero kinds (suc j) (suc p) w
+      (λ b l.
+      let e : suc p + b ≡ p + suc b = omega arith in
+      ap s.bits e ∙ bits (suc b) (omega (arith, l)))
+      ints in
+      ap₂ (λ (x : Bool) (l : List Scalar). Boolean x ∷ l) (ap s.bits here ∙ bits 0 (omega arith))
+      rest
+  row_zero (Int_kind ∷ kinds) j p w bits ints =
+      let here : w ≡ w + 0 = omega arith in
+      let rest = row_zero kinds (suc j) p (suc w) bits
+      (λ c l.
+      let e : suc w + c ≡ w + suc c = omega arith in
+      ap s.ints e ∙ ints (suc c) (omega (arith, l))) in
+      ap₂ (λ (x : ℤ) (l : List Scalar). Integer x ∷ l) (ap s.ints here ∙ ints 0 (omega arith)) rest
+
+module _ (s s' : Lane) where
+  -- it shows what another lane shows elsewhere
+  pub row_moved :
+      (kinds : List Kind) (j p w p' w' : ℕ) →
+      ((b : ℕ) → b < length (truth_columns j kinds) → s'.bits (p' + b) ≡ s.bits (p + b)) →
+      ((c : ℕ) → c < length (number_columns j kinds) → s'.ints (w' + c) ≡ s.ints (w + c)) →
+      map (value_at s') (places_of p' w' kinds) ≡ map (value_at s) (places_of p w kinds)
+  row_moved [] j p w p' w' bits ints = refl
+  row_moved (Bool_kind ∷ kinds) j p w p' w' bits ints =
+      let here : p + 0 ≡ p = omega arith in
+      let there : p' ≡ p' + 0 = omega arith in
+      let rest = row_moved kinds (suc j) (suc p) w (suc p') w'
+      (λ b l.
+      let e : suc p' + b ≡ p' + suc b = omega arith in
+      let d : p + suc b ≡ suc p + b = omega arith in
+      ap s'.bits e ∙ bits (suc b) (omega (arith, l)) ∙ ap s.bits d)
+      ints in
+      ap₂ (λ (x : Bool) (l : List Scalar). Boolean x ∷ l)
+      (ap s'.bits there ∙ bits 0 (omega arith) ∙ ap s.bits here) rest
+  row_moved (Int_kind ∷ kinds) j p w p' w' bits ints =
+      let here : w + 0 ≡ w = omega arith in
+      let there : w' ≡ w' + 0 = omega arith in
+      let rest = row_moved kinds (suc j) p (suc w) p' (suc w') bits
+      (λ c l.
+      let e : suc w' + c ≡ w' + suc c = omega arith in
+      let d : w + suc c ≡ suc w + c = omega arith in
+      ap s'.ints e ∙ ints (suc c) (omega (arith, l)) ∙ ap s.ints d) in
+      ap₂ (λ (x : ℤ) (l : List Scalar). Integer x ∷ l)
+      (ap s'.ints there ∙ ints 0 (omega arith) ∙ ap s.ints here) rest

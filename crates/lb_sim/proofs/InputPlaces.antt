@@ -1,0 +1,149 @@
+-- Where inputs stand: one after the other, each in the next plane or the next word. And the marks of
+-- the elements at which a fault counts.
+use Rattle.std.proofs.Common.{◌≡◌, ℕ, zero, suc, ◌+◌, ◌<◌, ◌≤◌, Bool, true, false, List, [], ◌∷◌, ◌++◌}
+use Rattle.std.proofs.Common.{get_or, set, length, map, take, refl, sym, ap, ap₂, ◌∙◌, subst, arith}
+use Rattle.std.proofs.Common.{inl, inr, ⊎_elim, length-set, take_all}
+use Rattle.std.proofs.lemmas.Bool.{cases_eq}
+use Rattle.std.proofs.lemmas.List.{take_more, length-append, get_or-set_same, get_or-set_other}
+use Rattle.lb_syntax.specs.Lists.{In}
+use Rattle.lb_syntax.specs.declared.tree.Kind.{Kind}
+use Rattle.lb_syntax.specs.declared.tree.Kind.TheVariants.{Int as Int_kind, Bool as Bool_kind}
+use Rattle.lb_flat.specs.declared.equation.ElementId.{ElementId}
+use Rattle.lb_flat.specs.Judging.{FlatProgram, named_elements}
+use Rattle.lb_flat.specs.Programs.{numbers_of}
+use Rattle.lb_sim.specs.InputRows.{places_of, truth_columns, number_columns}
+use Rattle.lb_sim.specs.declared.place.Value.{Value}
+use Rattle.lb_sim.specs.declared.place.Value.TheVariants.{Truth, Number}
+use Rattle.lb_sim.proofs.InputColumns.{places_push, truths_push, numbers_push}
+
+-- so many planes and words are there behind inputs of these kinds, which stand at these places
+pub record AreInputs (kinds : List Kind) (values : List Value) (planes words : ℕ) : Type 0 where
+  pub values_are : values ≡ places_of 2 1 kinds
+  pub planes_are : planes ≡ 2 + length (truth_columns 0 kinds)
+  pub words_are : words ≡ 1 + length (number_columns 0 kinds)
+
+pub inputs_none : (planes words : ℕ) → planes ≡ 2 → words ≡ 1 → AreInputs [] [] planes words
+inputs_none planes words p w =
+    record { values_are = refl; planes_are = omega (arith, p); words_are = omega (arith, w) }
+
+module _ (kinds : List Kind) (j : ℕ) (values : List Value) (planes words : ℕ)
+    (h : AreInputs (take j kinds) values planes words) (lt : j < length kinds) where
+  abbrev before : List Kind
+  before = take j kinds
+
+  one_more : (k : Kind) → get_or kinds j Int_kind ≡ k → take (j + 1) kinds ≡ before ++ k ∷ []
+  one_more k is = take_more kinds j Int_kind lt ∙ ap (λ x. before ++ x ∷ []) is
+
+  pub inputs_truth :
+      (n more : ℕ) → get_or kinds j Int_kind ≡ Bool_kind → n ≡ planes → more ≡ planes + 1 →
+      AreInputs (take (j + 1) kinds) (values ++ Truth (record { 0 = n }) ∷ []) more words
+  inputs_truth n more is at grown =
+      let longer : length (truth_columns 0 (before ++ Bool_kind ∷ []))
+      ≡ length (truth_columns 0 before) + 1 =
+      ap length (truths_push 0 before Bool_kind) ∙ length-append _ _ in
+      let as_long : length (number_columns 0 (before ++ Bool_kind ∷ []))
+      ≡ length (number_columns 0 before) + 0 =
+      ap length (numbers_push 0 before Bool_kind) ∙ length-append _ _ in
+      let there : n ≡ 2 + length (truth_columns 0 before) = at ∙ h.planes_are in
+      subst
+      (λ ks. AreInputs ks (values ++ Truth (record { 0 = n }) ∷ []) more words)
+      (sym (one_more Bool_kind is))
+      (record {
+        values_are =
+            ap₂ (λ l m. l ++ Truth (record { 0 = m }) ∷ []) h.values_are there
+            ∙ sym (places_push 0 2 1 before Bool_kind);
+        planes_are = omega (arith, grown, h.planes_are, longer);
+        words_are = omega (arith, h.words_are, as_long);
+      })
+
+  pub inputs_number :
+      (n more : ℕ) → get_or kinds j Int_kind ≡ Int_kind → n ≡ words → more ≡ words + 1 →
+      AreInputs (take (j + 1) kinds) (values ++ Number (record { 0 = n }) ∷ []) planes more
+  inputs_number n more is at grown =
+      let longer : length (number_columns 0 (before ++ Int_kind ∷ []))
+      ≡ length (number_columns 0 before) + 1 =
+      ap length (numbers_push 0 before Int_kind) ∙ length-append _ _ in
+      let as_long : length (truth_columns 0 (before ++ Int_kind ∷ []))
+      ≡ length (truth_columns 0 before) + 0 =
+      ap length (truths_push 0 before Int_kind) ∙ length-append _ _ in
+      let there : n ≡ 1 + length (number_columns 0 before) = at ∙ h.words_are in
+      subst
+      (λ ks. AreInputs ks (values ++ Number (record { 0 = n }) ∷ []) planes more)
+      (sym (one_more Int_kind is))
+      (record {
+        values_are =
+            ap₂ (λ l m. l ++ Number (record { 0 = m }) ∷ []) h.values_are there
+            ∙ sym (places_push 0 2 1 before Int_kind);
+        planes_are = omega (arith, h.planes_are, as_long);
+        words_are = omega (arith, grown, h.words_are, longer);
+      })
+
+pub inputs_same :
+    (kinds : List Kind) (values values' : List Value) (planes planes' words words' : ℕ) →
+    values' ≡ values → planes' ≡ planes → words' ≡ words → AreInputs kinds values planes words →
+    AreInputs kinds values' planes' words'
+inputs_same kinds values values' planes planes' words words' v p w h = record {
+  values_are = v ∙ h.values_are;
+  planes_are = p ∙ h.planes_are;
+  words_are = w ∙ h.words_are;
+}
+
+pub inputs_all : (kinds : List Kind) (j : ℕ) (values : List Value) (planes words : ℕ) →
+    length kinds ≤ j → AreInputs (take j kinds) values planes words →
+    AreInputs kinds values planes words
+inputs_all kinds j values planes words le h =
+    subst (λ ks. AreInputs ks values planes words) (take_all j kinds le) h
+
+-- ## Marks
+
+-- the marks are on elements of a list
+pub record AreMarked (elements : List ℕ) (marks : List Bool) (size : ℕ) : Type 0 where
+  pub as_long : length marks ≡ size
+  pub marked : (a : ℕ) → get_or marks a false ≡ true → In a elements
+
+pub there_in : (xs : List ℕ) (j d : ℕ) → j < length xs → In (get_or xs j d) xs
+there_in [] j d lt = absurd (omega (arith, lt))
+there_in (x ∷ xs) zero d lt = inl refl
+there_in (x ∷ xs) (suc j) d lt = inr (there_in xs j d (omega (arith, lt)))
+
+pub number_in : (xs : List ElementId) (j : ℕ) (x : ElementId) → j < length xs →
+    get_or xs j x ≡ x → In x.0 (numbers_of xs)
+number_in [] j x lt e = absurd (omega (arith, lt))
+number_in (y ∷ xs) zero x lt e = inl (ap (λ (z : ElementId). z.0) e)
+number_in (y ∷ xs) (suc j) x lt e = inr (number_in xs j x (omega (arith, lt)) e)
+
+no_mark : (b : Bool) → b ≡ true → b ≡ false → ⊥
+no_mark b p q = cc
+
+pub marked_none : (elements : List ℕ) (marks : List Bool) (size : ℕ) → length marks ≡ size →
+    ((a : ℕ) → get_or marks a false ≡ false) → AreMarked elements marks size
+marked_none elements marks size long none = record {
+  as_long = long;
+  marked = λ a e. absurd (no_mark (get_or marks a false) e (none a));
+}
+
+pub marked_more :
+    (elements : List ℕ) (marks : List Bool) (size e : ℕ) → In e elements →
+    AreMarked elements marks size → AreMarked elements (set marks e true) size
+marked_more elements marks size e i h = record {
+  as_long = length-set marks e true ∙ h.as_long;
+  marked = λ a is.
+      ⊎_elim (λ (same : a ≡ e). subst (λ k. In k elements) (sym same) i)
+      (λ (other : a ≡ e → ⊥).
+      h.marked a (sym (get_or-set_other marks e a true false other) ∙ is))
+      (cases_eq a e);
+}
+
+in_second : (xs ys : List ℕ) (a : ℕ) → In a ys → In a (xs ++ ys)
+in_second [] ys a i = i
+in_second (x ∷ xs) ys a i = inr (in_second xs ys a i)
+
+in_first : (xs ys : List ℕ) (a : ℕ) → In a xs → In a (xs ++ ys)
+in_first [] ys a i = absurd i
+in_first (x ∷ xs) ys a (inl e) = inl e
+in_first (x ∷ xs) ys a (inr i) = inr (in_first xs ys a i)
+
+-- an operand of a memory is a named element
+pub operand_named : (f : FlatProgram) (a : ℕ) → In a f.memory_operands → In a (named_elements f)
+operand_named f a i =
+    in_second _ (f.memory_operands ++ f.asserted) a (in_first f.memory_operands f.asserted a i)

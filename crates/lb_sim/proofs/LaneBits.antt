@@ -1,0 +1,114 @@
+-- Lanes of planes that are set one by one, and words that hold Booleans as bits.
+use Rattle.std.proofs.Common.{◌≡◌, ◌≢◌, ℕ, zero, suc, ◌+◌, ◌-◌, ◌*◌, ◌/◌, ◌%◌, ◌<◌, ◌≤◌, ◌==◌}
+use Rattle.std.proofs.Common.{◌||◌, Bool, true, false, List, get_or, set, length, refl}
+use Rattle.std.proofs.Common.{sym, ap, ap₂, ◌∙◌, subst, arith, below_more, ◌⊎◌, inl, inr}
+use Rattle.std.proofs.Common.{length-set}
+use Rattle.std.proofs.lemmas.Bool.{cases_lt}
+use Rattle.std.proofs.lemmas.List.{get_or-set_same, get_or-set_other}
+use Rattle.std.specs.Prelude.{bit_or}
+use Rattle.std.specs.Int.{bit_at}
+use Rattle.lb_flat.specs.Packed.{bit_in}
+use Rattle.lb_lanes.specs.Planes.{on}
+use Rattle.lb_lanes.proofs.OnPlanes.{on-or, on-above, shl, on-shl_high, on-shl_low}
+
+-- ## One lane
+
+one_first : on 1 0 ≡ true
+unfolding on
+one_first = refl
+
+one_other : (j : ℕ) → on 1 (suc j) ≡ false
+one_other j = on-above 1 1 (suc j) (omega arith) (omega arith)
+
+same_number : (a : ℕ) → (a == a) ≡ true
+same_number a = grind arith
+
+pub no_number : (a b : ℕ) → a ≢ b → (a == b) ≡ false
+no_number a b ne = grind arith
+
+one_there : (k j : ℕ) → on 1 j ≡ ((k + j) == k)
+one_there k zero =
+    one_first ∙ sym (same_number k) ∙ ap (λ n. n == k) (let e : k ≡ k + 0 = omega arith in e)
+one_there k (suc j) =
+    let ne : (k + suc j) ≢ k = λ e. absurd (omega (arith, e)) in
+    one_other j ∙ sym (no_number (k + suc j) k ne)
+
+on-bit : (k i : ℕ) → k < 64 → i < 64 → on (shl k 1) i ≡ (i == k)
+on-bit k i hk hi = by (cases_lt i k)
+  where
+    by : (i < k) ⊎ (k ≤ i) → on (shl k 1) i ≡ (i == k)
+    by (inl l) =
+        let ne : i ≢ k = λ e. absurd (omega (arith, l, e)) in
+        on-shl_low k i 1 l hi ∙ sym (no_number i k ne)
+    by (inr le) =
+        let j = i - k in
+        let e : k + j ≡ i = omega (arith, le) in
+        let lt : k + j < 64 = omega (arith, e, hi) in
+        subst (λ n. on (shl k 1) n ≡ (n == k)) e (on-shl_high k j 1 lt ∙ one_there k j)
+
+or_other : (a b : Bool) → (a || b) ≡ (b || a)
+or_other true true = refl
+or_other true false = refl
+or_other false true = refl
+or_other false false = refl
+
+-- a plane with one more lane
+pub lane_more : (plane k i : ℕ) → k < 64 → i < 64 →
+    on (bit_or plane (shl k 1)) i ≡ ((i == k) || on plane i)
+lane_more plane k i hk hi =
+    on-or plane (shl k 1) i
+    ∙ ap (λ b. on plane i || b) (on-bit k i hk hi)
+    ∙ or_other (on plane i) (i == k)
+
+-- ## Booleans as the bits of words
+
+-- a lane of a word is the Boolean of its place
+pub bit_there :
+    (words : List ℕ) (word g c : ℕ) (b : Bool) → c < 64 → word ≡ get_or words g 0 →
+    bit_in words (64 * g + c) ≡ b → on word c ≡ b
+unfolding on
+bit_there words word g c b lt same is =
+    let n = 64 * g + c in
+    let whole : 64 * ((64 * g + c) / 64) + (64 * g + c) % 64 ≡ 64 * g + c = omega arith in
+    let small : (64 * g + c) % 64 < 64 = omega arith in
+    let q : (64 * g + c) / 64 ≡ g = omega (arith, whole, small, lt) in
+    let m : (64 * g + c) % 64 ≡ c = omega (arith, whole, q) in
+    ap (λ w. bit_at w c == 1) same
+    ∙ sym (ap₂ (λ x y. bit_at (get_or words x 0) y == 1) q m)
+    ∙ is
+
+-- ## What is copied to places side by side
+
+module _ {A : Type 0} (z : A) (first : ℕ) (words old : List A) where
+  pub record Put (new : List A) (n : ℕ) : Type 0 where
+    pub as_long : length new ≡ length old
+    pub put : (c : ℕ) → c < n → get_or new (first + c) z ≡ get_or words c z
+    pub below : (k : ℕ) → k < first → get_or new k z ≡ get_or old k z
+    pub above : (k : ℕ) → first + n ≤ k → get_or new k z ≡ get_or old k z
+
+  pub put_none : Put old 0
+  put_none = record {
+    as_long = refl;
+    put = λ c h. absurd (omega (arith, h));
+    below = λ k h. refl;
+    above = λ k h. refl;
+  }
+
+  pub put_more :
+      (n : ℕ) (new : List A) (v : A) → Put new n → first + n < length old → v ≡ get_or words n z →
+      Put (set new (first + n) v) (n + 1)
+  put_more n new v h room is_v = record {
+    as_long = length-set new (first + n) v ∙ h.as_long;
+    put =
+        below_more (λ c. get_or (set new (first + n) v) (first + c) z ≡ get_or words c z) n
+        (λ c l.
+        let ne : (first + c) ≢ (first + n) = λ e. absurd (omega (arith, l, e)) in
+        get_or-set_other new (first + n) (first + c) v z ne ∙ h.put c l)
+        (get_or-set_same new (first + n) v z (omega (arith, h.as_long, room)) ∙ is_v);
+    below = λ k l.
+        let ne : k ≢ (first + n) = λ e. absurd (omega (arith, l, e)) in
+        get_or-set_other new (first + n) k v z ne ∙ h.below k l;
+    above = λ k l.
+        let ne : k ≢ (first + n) = λ e. absurd (omega (arith, l, e)) in
+        get_or-set_other new (first + n) k v z ne ∙ h.above k (omega (arith, l));
+  }

@@ -1,0 +1,84 @@
+-- What the code of one equation makes its element show: an input, and a holding of the kind of its
+-- element.
+use Rattle.std.proofs.Common.{◌≡◌, ℕ, false, Option, Some, None, List, map}
+use Rattle.std.proofs.Common.{slice_get, option_map, refl, sym, ap, ap₂, ◌∙◌, subst}
+use Rattle.std.proofs.lemmas.Option.{slice_get-map, none-some, same_Some}
+use Rattle.lb_syntax.specs.declared.tree.Kind.{Kind}
+use Rattle.lb_flat.specs.Values.{operation_of}
+use Rattle.lb_flat.specs.declared.equation.InputId.{InputId}
+use Rattle.lb_flat.specs.declared.equation.Operation.{Operation}
+use Rattle.lb_flat.specs.declared.equation.Operation.TheVariants.{Input}
+use Rattle.lb_machine.specs.Meaning.{Lane}
+use Rattle.lb_machine.specs.declared.code.Code.{Code}
+use Rattle.lb_sim.specs.Emitted.{IsHeld, IsEmitted}
+use Rattle.lb_sim.specs.Showing.{shown, scalar_at, value_at, kind_of, value_kind}
+use Rattle.lb_sim.specs.declared.place.Value.{Value}
+use Rattle.lb_sim.specs.declared.place.Holding.{Holding}
+use Rattle.lb_sim.specs.declared.place.Place.{Place}
+
+-- what stands at a place of an input
+pub input_shows :
+    (s : Lane) (v : Value) (h : Holding) → s.bits 0 ≡ false →
+    h ≡ record { value = v; nil = record { 0 = 0 }; bad = record { 0 = 0 } } →
+    value_at s v ≡ scalar_at s h
+input_shows s v h nowhere e =
+    sym (ap (scalar_at s) e ∙ ap₂ (λ b n. shown b n (value_at s v)) nowhere nowhere)
+
+-- what a list has at a place, where a map of it has something there
+pub mapped_at :
+    {A B : Type 0} (f : A → B) (xs : List A) (i : ℕ) (y : B) → slice_get (map f xs) i ≡ Some y →
+    (x : A) × (slice_get xs i ≡ Some x) × (f x ≡ y)
+mapped_at {A} {B} f xs i y e = by (slice_get xs i) refl
+  where
+    by : (o : Option A) → slice_get xs i ≡ o →
+        (x : A) × (slice_get xs i ≡ Some x) × (f x ≡ y)
+    by None is =
+        absurd (none-some y (sym (slice_get-map f xs i ∙ ap (option_map f) is) ∙ e))
+    by (Some x) is = (
+      x,
+      is,
+      same_Some (f x) y (sym (slice_get-map f xs i ∙ ap (option_map f) is) ∙ e),
+    )
+
+module _ (code : Code) (places : List Place) (inputs : List Value) (constant kept : Holding) where
+  abbrev Emitted : Operation → Kind → Holding → Type 0
+  Emitted o kind h = IsEmitted code places inputs constant kept (operation_of o) kind h
+
+  -- an operation that is known to be this one
+  by_form : (o p : Operation) (kind : Kind) (h : Holding) → o ≡ p → Emitted p kind h →
+      Emitted o kind h
+  by_form o p kind h e x = subst (λ z. Emitted z kind h) (sym e) x
+
+  -- a holding that is the same
+  pub same_holding :
+      (o : Operation) (kind : Kind) (g h : Holding) → Emitted o kind g →
+      (kind_of g ≡ kind → h ≡ g) → Emitted o kind h
+  same_holding o kind g h made same N fit read kinds =
+      let x : IsHeld code places inputs constant kept (operation_of o) kind g =
+      made N fit read kinds in
+      subst (IsHeld code places inputs constant kept (operation_of o) kind)
+      (sym (same x.kind_is)) x
+
+  input_form :
+      (j : InputId) (kind : Kind) (h : Holding) →
+      ((v : Value) → slice_get inputs j.0 ≡ Some v →
+      h ≡ record { value = v; nil = record { 0 = 0 }; bad = record { 0 = 0 } }) →
+      Emitted (Input j) kind h
+  input_form j kind h made N fit read kinds =
+      let found : (v : Value) × (slice_get inputs j.0 ≡ Some v) × (value_kind v ≡ kind) =
+      mapped_at value_kind inputs j.0 kind fit in
+      let v : Value = found.0 in
+      let is = made v found.1 in
+      record {
+        kind_is = ap kind_of is ∙ found.2;
+        shows = λ s r c.
+            slice_get-map (value_at s) inputs j.0 ∙ ap (option_map (value_at s)) found.1
+            ∙ ap Some (input_shows s v h r.constants.nowhere is);
+      }
+
+  pub input_emitted :
+      (o : Operation) (j : InputId) (kind : Kind) (h : Holding) → o ≡ Input j →
+      ((v : Value) → slice_get inputs j.0 ≡ Some v →
+      h ≡ record { value = v; nil = record { 0 = 0 }; bad = record { 0 = 0 } }) →
+      Emitted o kind h
+  input_emitted o j kind h e made = by_form o (Input j) kind h e (input_form j kind h made)

@@ -1,0 +1,117 @@
+-- The row that a lane has after an instant was loaded is that of its trace.
+use Rattle.std.proofs.Common.{◌≡◌, ℕ, ◌+◌, ◌<◌, List, [], ℤ, pos, get_or, length, map}
+use Rattle.std.proofs.Common.{sym, ap, ◌∙◌, subst, arith}
+use Rattle.std.proofs.lemmas.List.{get_or-map, length-map}
+use Rattle.std.specs.List.{All}
+use Rattle.std.specs.Prelude.{int_le}
+use Rattle.lb_syntax.specs.declared.tree.Kind.{Kind}
+use Rattle.lb_syntax.specs.Lists.{zip2}
+use Rattle.lb_static.specs.Signature.{Element, Elements, kinds_of}
+use Rattle.lb_flat.specs.Inputs.{scalar_in, scalars_in, inputs_of}
+use Rattle.lb_flat.specs.Traces.{Recording, IsRecording, trace_at}
+use Rattle.lb_flat.proofs.RowsFound.{row_follows}
+use Rattle.lb_flat.proofs.Storing.{length-row}
+use Rattle.lb_lanes.specs.Kernels.{lane_of}
+use Rattle.lb_lanes.specs.Planes.{on}
+use Rattle.lb_machine.specs.Meaning.{lane_at}
+use Rattle.lb_sim.specs.InputRows.{truth_columns, number_columns, places_of, lane_row}
+use Rattle.lb_sim.specs.InputRows.{member_cell}
+use Rattle.lb_sim.specs.Showing.{value_at}
+use Rattle.lb_sim.proofs.InputColumns.{row_shown, row_moved, numbers_within}
+
+-- as many kinds as elements
+as_many : (elements : Elements) (kinds : List Kind) → kinds_of elements ≡ kinds →
+    length kinds ≡ length elements
+as_many elements kinds same =
+    ap length (sym same) ∙ length-map elements (λ (e : Element). e.1)
+
+-- the columns of the integers are columns of the signature
+pub numbers_all : (kinds : List Kind) (elements : Elements) (columns : List ℕ) →
+    kinds_of elements ≡ kinds → columns ≡ number_columns 0 kinds →
+    All (λ j. j < length elements) columns
+numbers_all kinds elements columns same is k d l =
+    let long = as_many elements kinds same in
+    let below : k < length (number_columns 0 kinds) = subst (λ xs. k < length xs) is l in
+    subst (λ xs. get_or xs k d < length elements) (sym is)
+    (omega (arith, numbers_within 0 kinds k d below, long))
+
+module _ (r : Recording) (members : List ℕ) (t i : ℕ) (kinds : List Kind) (planes : List ℕ)
+    (words : List (List ℤ)) (truths numbers : List ℕ) (lawful : IsRecording r)
+    (same : kinds_of r.signature ≡ kinds) (is_truths : truths ≡ truth_columns 0 kinds)
+    (is_numbers : numbers ≡ number_columns 0 kinds)
+    (below : get_or members i 0 < length r.traces)
+    (inside : t < length (trace_at r.traces (get_or members i 0)).1)
+    (bits : (b : ℕ) → b < length truths →
+    on (get_or planes b 0) i ≡ int_le (pos 1) (member_cell r members t i (get_or truths b 0)))
+    (ints : (c : ℕ) → c < length numbers →
+    lane_of (get_or words c []) i ≡ member_cell r members t i (get_or numbers c 0)) where
+  abbrev row : List ℤ
+  row = get_or (trace_at r.traces (get_or members i 0)).1 t []
+
+  long : length row ≡ 0 + length kinds
+  long =
+      let full : length row ≡ length r.signature =
+      length-row r.signature row (row_follows r (get_or members i 0) t lawful below inside) in
+      omega (arith, full, as_many r.signature kinds same)
+
+  bits_there : (b : ℕ) → b < length (truth_columns 0 kinds) →
+      on (get_or planes (0 + b) 0) i
+      ≡ int_le (pos 1) (get_or row (get_or (truth_columns 0 kinds) b 0) (pos 0))
+  bits_there b l =
+      let e : 0 + b ≡ b = omega arith in
+      ap (λ n. on (get_or planes n 0) i) e
+      ∙ bits b (subst (λ xs. b < length xs) (sym is_truths) l)
+      ∙ ap (λ xs. int_le (pos 1) (get_or row (get_or xs b 0) (pos 0))) is_truths
+
+  ints_there : (c : ℕ) → c < length (number_columns 0 kinds) →
+      lane_of (get_or words (0 + c) []) i
+      ≡ get_or row (get_or (number_columns 0 kinds) c 0) (pos 0)
+  ints_there c l =
+      let e : 0 + c ≡ c = omega arith in
+      ap (λ n. lane_of (get_or words n []) i) e
+      ∙ ints c (subst (λ xs. c < length xs) (sym is_numbers) l)
+      ∙ ap (λ xs. get_or row (get_or xs c 0) (pos 0)) is_numbers
+
+  pub row_loaded :
+      lane_row kinds planes words i ≡ get_or (inputs_of r (get_or members i 0)) t []
+  row_loaded =
+      row_shown (lane_at planes words i) row kinds 0 0 0 long bits_there ints_there
+      ∙ ap (λ ks. zip2 scalar_in ks row) (sym same)
+      ∙ sym (get_or-map (scalars_in r.signature) (trace_at r.traces (get_or members i 0)).1 t [] []
+      inside)
+
+-- the row of a lane that was handed over: behind two planes and a word
+module _ (i : ℕ) (kinds : List Kind) (planes planes' from : List ℕ)
+    (words words' words_from : List (List ℤ)) (truths numbers : List ℕ)
+    (is_truths : truths ≡ truth_columns 0 kinds) (is_numbers : numbers ≡ number_columns 0 kinds)
+    (planes_room : length planes ≡ length truths) (words_room : length words ≡ length numbers)
+    (is_from : from ≡ planes) (is_words : words_from ≡ words)
+    (put : (c : ℕ) → c < length from → get_or planes' (2 + c) 0 ≡ get_or from c 0)
+    (put_words : (c : ℕ) → c < length words_from →
+    get_or words' (1 + c) [] ≡ get_or words_from c []) where
+  bits_handed : (b : ℕ) → b < length (truth_columns 0 kinds) →
+      on (get_or planes' (2 + b) 0) i ≡ on (get_or planes (0 + b) 0) i
+  bits_handed b l =
+      let e : b ≡ 0 + b = omega arith in
+      let long : length from ≡ length (truth_columns 0 kinds) =
+      ap length is_from ∙ planes_room ∙ ap length is_truths in
+      ap (λ w. on w i) (put b (omega (arith, l, long)))
+      ∙ ap (λ xs. on (get_or xs b 0) i) is_from
+      ∙ ap (λ n. on (get_or planes n 0) i) e
+
+  ints_handed : (c : ℕ) → c < length (number_columns 0 kinds) →
+      lane_of (get_or words' (1 + c) []) i ≡ lane_of (get_or words (0 + c) []) i
+  ints_handed c l =
+      let e : c ≡ 0 + c = omega arith in
+      let long : length words_from ≡ length (number_columns 0 kinds) =
+      ap length is_words ∙ words_room ∙ ap length is_numbers in
+      ap (λ w. lane_of w i) (put_words c (omega (arith, l, long)))
+      ∙ ap (λ xs. lane_of (get_or xs c []) i) is_words
+      ∙ ap (λ n. lane_of (get_or words n []) i) e
+
+  pub row_handed :
+      map (value_at (lane_at planes' words' i)) (places_of 2 1 kinds)
+      ≡ lane_row kinds planes words i
+  row_handed =
+      row_moved (lane_at planes words i) (lane_at planes' words' i) kinds 0 0 0 2 1
+      bits_handed ints_handed

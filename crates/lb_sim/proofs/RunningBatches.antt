@@ -1,0 +1,228 @@
+-- A batch that is run to its end, instant by instant: how far each lane has come.
+use Rattle.std.proofs.Common.{◌≡◌, ◌≢◌, ℕ, ◌+◌, ◌<◌, ◌≤◌, ◌&&◌, Bool, true, false, List, [], ◌∷◌, ◌++◌}
+use Rattle.std.proofs.Common.{length, get_or, take, refl, sym, ap, ◌∙◌, subst, arith, ◌⊎◌, inl, inr}
+use Rattle.std.proofs.lemmas.Bool.{true≢false, cases_lt}
+use Rattle.std.proofs.lemmas.List.{length-map}
+use Rattle.std.specs.Prelude.{nat_lt}
+use Rattle.lb_check.specs.Scalars.{Scalar}
+use Rattle.lb_check.specs.Solutions.{Inputs}
+use Rattle.lb_check.specs.declared.verdict.Verdict.{Verdict}
+use Rattle.lb_check.specs.declared.verdict.Verdict.TheVariants.{Passed}
+use Rattle.lb_flat.specs.Fitting.{IsFitting}
+use Rattle.lb_flat.specs.Flat.{FlatClock}
+use Rattle.lb_flat.specs.FurtherKinds.{kind_among}
+use Rattle.lb_flat.specs.Inputs.{inputs_of, scalars_in}
+use Rattle.lb_flat.specs.Judging.{FlatProgram, flat_verdict}
+use Rattle.lb_flat.specs.Programs.{program_of}
+use Rattle.lb_flat.specs.Traces.{Recording, trace_at}
+use Rattle.lb_lanes.specs.Planes.{IsPlaneOf, on}
+use Rattle.lb_lanes.proofs.OnPlanes.{on-zero}
+use Rattle.lb_sim.specs.BatchLanes.{length_in, AreOn, AreRunning, IsAt}
+use Rattle.lb_sim.specs.BatchRuns.{IsFresh, Stands, flat_of, verdict_at}
+use Rattle.lb_sim.specs.InputRows.{HaveInstant}
+use Rattle.lb_sim.specs.LaneStates.{is_passed}
+use Rattle.lb_sim.specs.declared.batch_run.BatchRun.{BatchRun}
+use Rattle.lb_sim.specs.declared.program.LaneProgram.{LaneProgram}
+use Rattle.lb_sim.proofs.Batches.{one_more, moves_on, at_next, at_end, verdict_at_rest, is_below}
+
+-- ## One lane
+
+-- a lane has been run to an instant of its trace, when instant t is the next one
+pub record IsRunTo (run : BatchRun) (X : Inputs) (i t : ℕ) : Type 0 where
+  pub n : ℕ
+  pub stands : Stands run i (take n X)
+  pub here : IsAt (verdict_at run i) (on run.active.0 i) (length X) n t
+
+passed_is : (v : Verdict) → v ≡ Passed → is_passed v ≡ true
+passed_is v e = ap is_passed e
+
+-- one instant more
+pub lane_goes_on :
+    (old new : BatchRun) (X : Inputs) (i t : ℕ) (lane running : Bool) (given : List Scalar) →
+    IsRunTo old X i t → lane ≡ (on old.active.0 i && running) → running ≡ nat_lt t (length X) →
+    (lane ≡ true → given ≡ get_or X t []) →
+    ((Y : Inputs) → lane ≡ true → Stands old i Y → Stands new i (Y ++ given ∷ [])) →
+    ((Y : Inputs) → lane ≡ false → Stands old i Y → Stands new i Y) →
+    (verdict_at old i ≢ Passed → verdict_at new i ≡ verdict_at old i) →
+    on new.active.0 i ≡ (lane && is_passed (verdict_at new i)) → IsRunTo new X i (t + 1)
+lane_goes_on old new X i t lane running given h is runs row moves stays settled active_is =
+    by lane refl
+  where
+    found : is_passed (verdict_at new i) ≡ false → verdict_at new i ≢ Passed
+    found off e = true≢false (sym (passed_is (verdict_at new i) e) ∙ off)
+
+    by : (b : Bool) → lane ≡ b → IsRunTo new X i (t + 1)
+    by true e =
+        let both = moves_on (on old.active.0 i) running lane is e in
+        let here : h.n ≡ t = h.here.now both.0 in
+        let below : t < length X = is_below t (length X) (sym runs ∙ both.1) in
+        let path : take h.n X ++ given ∷ [] ≡ take (t + 1) X =
+        ap (λ (g : List Scalar). take h.n X ++ g ∷ []) (row e) ∙ one_more X h.n t here below in
+        record {
+          n = t + 1;
+          stands = subst (λ (Y : Inputs). Stands new i Y) path (moves (take h.n X) e h.stands);
+          here =
+              at_next (verdict_at new i) (on new.active.0 i) (is_passed (verdict_at new i))
+              (length X) t below
+              (active_is ∙ ap (λ b. b && is_passed (verdict_at new i)) e) found;
+        }
+    by false e = record {
+      n = h.n;
+      stands = stays (take h.n X) e h.stands;
+      here =
+          at_end (verdict_at old i) (verdict_at new i) (on old.active.0 i) running lane
+          (on new.active.0 i) (length X) h.n t h.here is e runs
+          (active_is ∙ ap (λ b. b && is_passed (verdict_at new i)) e) settled;
+    }
+
+-- before the first instant
+pub lane_begins : (run : BatchRun) (X : Inputs) (i : ℕ) → Stands run i [] →
+    on run.active.0 i ≡ true → IsRunTo run X i 0
+lane_begins run X i stands active = record {
+  n = 0;
+  stands = stands;
+  here = record {
+    within = omega arith;
+    now = λ e. refl;
+    ended = λ e. absurd (true≢false (sym active ∙ e));
+  };
+}
+
+-- ## All lanes of a batch
+
+as_long : (r : Recording) (members : List ℕ) (i : ℕ) →
+    length (inputs_of r (get_or members i 0)) ≡ length_in r members i
+as_long r members i =
+    length-map (trace_at r.traces (get_or members i 0)).1 (scalars_in r.signature)
+
+-- where clocks and kinds fit, each member of a batch has been run to an instant
+pub record AreRunTo (p : LaneProgram) (run : BatchRun) (r : Recording) (members : List ℕ)
+    (t : ℕ) : Type 0 where
+  pub program_is : run.program.now ≡ p
+  pub steps_are : run.steps ≡ t
+  pub each :
+      (K : ℕ → FlatClock) →
+      IsFitting (program_of p.program.now).inputs K
+      (kind_among (program_of p.program.now).kinds) (program_of p.program.now).equations →
+      (i : ℕ) → i < length members →
+      IsRunTo run (inputs_of r (get_or members i 0)) i t
+
+is_lane : (i n : ℕ) → i < n → nat_lt i n ≡ true
+is_lane i n h = grind arith
+
+pub all_begin : (run : BatchRun) (r : Recording) (members : List ℕ) → length members ≤ 64 →
+    IsFresh run (length members) → AreRunTo run.program.now run r members 0
+all_begin run r members few fresh = record {
+  program_is = refl;
+  steps_are = fresh.none;
+  each = λ K fits i l.
+      lane_begins run (inputs_of r (get_or members i 0)) i (fresh.empty i l)
+      (fresh.all i (omega (arith, l, few)) ∙ is_lane i (length members) l);
+}
+
+-- a lane takes part where it is active and its trace goes on
+pub have_instant :
+    (r : Recording) (members : List ℕ) (t active lanes until live : ℕ) →
+    length members ≤ 64 → AreRunning r members t lanes until →
+    IsPlaneOf (λ i. on active i && on lanes i) live → HaveInstant r members t live
+have_instant r members t active lanes until live few runs is i l e =
+    (inside, is_below t (length_in r members i) (sym (at inside) ∙ running))
+  where
+    running : on lanes i ≡ true
+    running = (moves_on (on active i) (on lanes i) (on live i) (is i l) e).1
+
+    at : i < length members → on lanes i ≡ nat_lt t (length_in r members i)
+    at m = runs.lanes.members_on i t m (omega arith) runs.later
+
+    by : (i < length members) ⊎ (length members ≤ i) → i < length members
+    by (inl m) = m
+    by (inr m) = absurd (true≢false (sym running ∙ runs.lanes.others_off i m l))
+
+    inside : i < length members
+    inside = by (cases_lt i (length members))
+
+module _ (p : LaneProgram) (old new : BatchRun) (r : Recording) (members : List ℕ)
+    (t lanes until live : ℕ) (rows : ℕ → List Scalar) (few : length members ≤ 64)
+    (runs : AreRunning r members t lanes until)
+    (is : IsPlaneOf (λ i. on old.active.0 i && on lanes i) live) where
+  -- and one instant more
+  pub all_go_on :
+      AreRunTo p old r members t →
+      ((i : ℕ) → i < 64 → on live i ≡ true →
+      rows i ≡ get_or (inputs_of r (get_or members i 0)) t []) →
+      ((K : ℕ → FlatClock) →
+      IsFitting (flat_of old).inputs K (kind_among (flat_of old).kinds) (flat_of old).equations →
+      (i : ℕ) (X : Inputs) → i < 64 → on live i ≡ true → Stands old i X →
+      Stands new i (X ++ rows i ∷ [])) →
+      ((i : ℕ) (X : Inputs) → i < 64 → on live i ≡ false → Stands old i X → Stands new i X) →
+      ((i : ℕ) → i < 64 → verdict_at old i ≢ Passed → verdict_at new i ≡ verdict_at old i) →
+      IsPlaneOf (λ i. on live i && is_passed (verdict_at new i)) new.active.0 →
+      new.steps ≡ old.steps + 1 → new.program.now ≡ old.program.now →
+      AreRunTo p new r members (t + 1)
+  all_go_on h row moves stays settled active_is steps program = record {
+    program_is = program ∙ h.program_is;
+    steps_are = steps ∙ ap (λ n. n + 1) h.steps_are;
+    each = λ K fits i l.
+        let lt : i < 64 = omega (arith, l, few) in
+        let fits_old = subst
+        (λ (q : LaneProgram).
+        IsFitting (program_of q.program.now).inputs K
+        (kind_among (program_of q.program.now).kinds) (program_of q.program.now).equations)
+        (sym h.program_is) fits in
+        lane_goes_on old new (inputs_of r (get_or members i 0)) i t (on live i) (on lanes i)
+        (rows i) (h.each K fits i l) (is i lt)
+        (runs.lanes.members_on i t l (omega arith) runs.later
+        ∙ ap (nat_lt t) (sym (as_long r members i)))
+        (row i lt) (λ Y. moves K fits_old i Y lt) (λ Y. stays i Y lt) (settled i lt)
+        (active_is i lt);
+  }
+
+  both_false : (b : Bool) → (b && false) ≡ false
+  both_false true = refl
+  both_false false = refl
+
+  -- where no lane takes part, all have their verdicts
+  pub all_rest : AreRunTo p old r members t → live ≡ 0 → (K : ℕ → FlatClock) →
+      IsFitting (program_of p.program.now).inputs K
+      (kind_among (program_of p.program.now).kinds) (program_of p.program.now).equations →
+      (i : ℕ) → i < length members →
+      verdict_at old i ≡ flat_verdict (program_of p.program.now)
+      (inputs_of r (get_or members i 0))
+  all_rest h off K fits i l =
+      let X = inputs_of r (get_or members i 0) in
+      let lt : i < 64 = omega (arith, l, few) in
+      let here = h.each K fits i l in
+      let runs_on = runs.lanes.members_on i t l (omega arith) runs.later
+      ∙ ap (nat_lt t) (sym (as_long r members i)) in
+      let none : (on old.active.0 i && nat_lt t (length X)) ≡ false =
+      ap (λ b. on old.active.0 i && b) (sym runs_on) ∙ sym (is i lt) ∙ ap (λ n. on n i) off
+      ∙ on-zero i in
+      subst
+      (λ (q : LaneProgram).
+      verdict_at old i ≡ flat_verdict (program_of q.program.now) X) h.program_is
+      (verdict_at_rest (flat_of old) X (verdict_at old i) (on old.active.0 i) here.n t
+      here.stands.verdict_is here.here none)
+
+none_left : (b : Bool) (t n : ℕ) → n ≤ t → (b && nat_lt t n) ≡ false
+none_left true t n h = grind arith
+none_left false t n h = refl
+
+-- and so they have where no trace has the instant
+pub all_ended : (p : LaneProgram) (run : BatchRun) (r : Recording) (members : List ℕ) (t : ℕ) →
+    AreRunTo p run r members t → ((i : ℕ) → i < length members → length_in r members i ≤ t) →
+    (K : ℕ → FlatClock) →
+    IsFitting (program_of p.program.now).inputs K
+    (kind_among (program_of p.program.now).kinds) (program_of p.program.now).equations →
+    (i : ℕ) → i < length members →
+    verdict_at run i ≡ flat_verdict (program_of p.program.now)
+    (inputs_of r (get_or members i 0))
+all_ended p run r members t h past K fits i l =
+    let X = inputs_of r (get_or members i 0) in
+    let here = h.each K fits i l in
+    let long : length X ≡ length_in r members i = as_long r members i in
+    subst
+    (λ (q : LaneProgram). verdict_at run i ≡ flat_verdict (program_of q.program.now) X)
+    h.program_is
+    (verdict_at_rest (flat_of run) X (verdict_at run i) (on run.active.0 i) here.n t
+    here.stands.verdict_is here.here
+    (none_left (on run.active.0 i) t (length X) (omega (arith, long, past i l))))

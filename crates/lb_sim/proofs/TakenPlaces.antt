@@ -1,0 +1,263 @@
+-- What a memory holds in the lane that follows: what its sources hold in this one.
+use Rattle.std.proofs.Common.{◌≡◌, ◌≢◌, ℕ, suc, ◌+◌, ◌<◌, ◌≤◌, ◌⊎◌, ◌||◌, Bool, true, false, List, []}
+use Rattle.std.proofs.Common.{◌∷◌, ◌++◌, get_or, length, cond, All, refl, sym, ap, ap₂, ◌∙◌, subst}
+use Rattle.std.proofs.Common.{inl, inr, arith}
+use Rattle.std.proofs.lemmas.List.{get_or_append_left, get_or_push, length_push}
+use Rattle.std.proofs.lemmas.List.Elements.{All-push}
+use Rattle.lb_syntax.specs.Lists.{In}
+use Rattle.lb_syntax.specs.declared.tree.Kind.{Kind}
+use Rattle.lb_syntax.specs.declared.tree.Kind.TheVariants.{Int as Int_kind, Bool as Bool_kind}
+use Rattle.lb_check.specs.Scalars.{Scalar, Integer, Boolean}
+use Rattle.lb_check.specs.Verdicts.{is_bad}
+use Rattle.lb_flat.specs.Fitting.{IsOf, OperandKinds}
+use Rattle.lb_flat.specs.Flat.{Operation, Input, Constant, Copy, ApplyUnary, ApplyBinary, Choose}
+use Rattle.lb_flat.specs.Flat.{FirstThen, Previous, Latest, Sample}
+use Rattle.lb_flat.specs.Judging.{some_in}
+use Rattle.lb_machine.specs.Growing.{IsGrown}
+use Rattle.lb_machine.specs.Meaning.{Lane, HasRun}
+use Rattle.lb_machine.specs.declared.code.Code.{Code}
+use Rattle.lb_machine.specs.declared.instruction.PlaneId.{PlaneId}
+use Rattle.lb_machine.specs.declared.instruction.WordId.{WordId}
+use Rattle.lb_sim.specs.Holdings.{IsFor}
+use Rattle.lb_sim.specs.Homes.{plane_in, word_in, IsSet, IsRow, IsFlagHome, IsCellHome, IsMemory}
+use Rattle.lb_sim.specs.Passing.{IsPlaneSource, IsWordSource, IsAdded, IsTaken, AreTaken, IsNextOf}
+use Rattle.lb_sim.proofs.Growth.{grown_then}
+use Rattle.lb_sim.specs.Showing.{shown, value_at, value_kind, scalar_at, kind_of, row_at}
+use Rattle.lb_sim.specs.States.{flag_of, flag_at, holding_of, present_at, IsMoved}
+use Rattle.lb_sim.specs.declared.place.Holding.{Holding}
+use Rattle.lb_sim.specs.declared.place.Place.{Place}
+use Rattle.lb_sim.specs.declared.place.Value.{Value}
+use Rattle.lb_sim.specs.declared.place.Value.TheVariants.{Truth, Number}
+use Rattle.lb_sim.proofs.Committing.{carried_holding, named_moved, IsKeptIn}
+use Rattle.lb_sim.proofs.HomeRows.{row_passes, row_takes}
+
+-- ## Sources of code that grows
+
+pub plane_source_grown : (a b : Code) (next : ℕ) (p : PlaneId) → IsGrown a b →
+    IsPlaneSource a next p → IsPlaneSource b next p
+plane_source_grown a b next p g h = record {
+  own = omega (arith, h.own, g.first_plane);
+  within = omega (arith, h.within, g.planes);
+  means = λ s r. h.means s (g.runs s r);
+}
+
+pub word_source_grown : (a b : Code) (next : ℕ) (w : WordId) → IsGrown a b →
+    IsWordSource a next w → IsWordSource b next w
+word_source_grown a b next w g h = record {
+  own = omega (arith, h.own, g.first_word);
+  within = omega (arith, h.within, g.words);
+  means = λ s r. h.means s (g.runs s r);
+}
+
+pub taken_weaker : {A : Type 0} (P R : A → Type 0) → ((x : A) → P x → R x) → (home : ℕ)
+    (old new : List A) → IsTaken P home old new → IsTaken R home old new
+taken_weaker P R f home old new (inl h) = inl h
+taken_weaker P R f home old new (inr h) =
+    inr (h.0, record { source = h.1.source; items = h.1.items; law = f h.1.source h.1.law })
+
+for_grown : (a b : Code) (kind : Kind) (v : Lane → Scalar) (h : Holding) → IsGrown a b →
+    IsFor a kind v h → IsFor b kind v h
+for_grown a b kind v h g f = record { kind_is = f.kind_is; means = λ s r. f.means s (g.runs s r) }
+
+pub next_grown : (a b : Code) (places : List Place) (home : Holding) (o : Operation) (g : Holding) →
+    IsGrown a b → IsNextOf a places home o g → IsNextOf b places home o g
+next_grown a b places home (FirstThen s x y) g more h =
+    record { kind_is = h.kind_is; means = λ s r. h.means s (more.runs s r) }
+next_grown a b places home (Previous v x) g more h = λ e. for_grown a b _ _ g more (h e)
+next_grown a b places home (Latest v x) g more h = λ e. for_grown a b _ _ g more (h e)
+next_grown a b places home (Input j) g more h = tt
+next_grown a b places home (Constant v) g more h = tt
+next_grown a b places home (Copy x) g more h = tt
+next_grown a b places home (ApplyUnary op x) g more h = tt
+next_grown a b places home (ApplyBinary op x y) g more h = tt
+next_grown a b places home (Choose c x y) g more h = tt
+next_grown a b places home (Sample x) g more h = tt
+
+-- those of a memory, one after the other
+pub all_taken :
+    (a b c d : Code) (home next : Holding) (hp np : PlaneId) (hw nw : WordId)
+    (P after_value after_nil P' : List PlaneId) (W W' : List WordId) →
+    hp.0 ≡ plane_in home.value → np.0 ≡ plane_in next.value → hw.0 ≡ word_in home.value →
+    nw.0 ≡ word_in next.value → IsTaken (IsPlaneSource a np.0) hp.0 P after_value →
+    IsTaken (IsPlaneSource b next.nil.0) home.nil.0 after_value after_nil →
+    IsTaken (IsPlaneSource c next.bad.0) home.bad.0 after_nil P' →
+    IsTaken (IsWordSource d nw.0) hw.0 W W' → IsGrown a b → IsGrown b c → IsGrown c d →
+    AreTaken d home next P P' W W'
+all_taken a b c d home next hp np hw nw P x y P' W W' ehp enp ehw enw tv tn tb tw g h k = record {
+  after_value = x;
+  after_nil = y;
+  value =
+      taken_weaker (IsPlaneSource a (plane_in next.value)) (IsPlaneSource d (plane_in next.value))
+      (λ p. plane_source_grown a d (plane_in next.value) p
+      (grown_then a b d g (grown_then b c d h k)))
+      (plane_in home.value) P x
+      (subst (λ n. IsTaken (IsPlaneSource a (plane_in next.value)) n P x) ehp
+      (subst (λ n. IsTaken (IsPlaneSource a n) hp.0 P x) enp tv));
+  nil =
+      taken_weaker (IsPlaneSource b next.nil.0) (IsPlaneSource d next.nil.0)
+      (λ p. plane_source_grown b d next.nil.0 p (grown_then b c d h k)) home.nil.0 x y tn;
+  bad =
+      taken_weaker (IsPlaneSource c next.bad.0) (IsPlaneSource d next.bad.0)
+      (λ p. plane_source_grown c d next.bad.0 p k) home.bad.0 y P' tb;
+  word =
+      subst (λ n. IsTaken (IsWordSource d (word_in next.value)) n W W') ehw
+      (subst (λ n. IsTaken (IsWordSource d n) hw.0 W W') enw tw);
+}
+
+-- ## One place
+
+module _ {A : Type 0} (P : A → Type 0) (first home : ℕ) (old new : List A)
+    (taken : IsTaken P home old new) where
+  -- the sources have a law, each of them
+  pub taken_all : (R : A → Type 0) → ((x : A) → P x → R x) → All R old → All R new
+  taken_all R f all = by taken
+    where
+      by : IsTaken P home old new → All R new
+      by (inl h) = subst (All R) (sym h.1) all
+      by (inr h) =
+          subst (All R) (sym h.1.items) (All-push R old h.1.source all (f h.1.source h.1.law))
+
+  pub taken_row :
+      (rest : List ℕ) (end : ℕ) → 0 < first → IsRow (first + length old) (home ∷ rest) end →
+      IsRow (first + length new) rest end
+  taken_row rest end lt row = by taken
+    where
+      by : IsTaken P home old new → IsRow (first + length new) rest end
+      by (inl h) =
+          subst (λ xs. IsRow (first + length xs) rest end) (sym h.1)
+          (row_passes (first + length old) end home rest (omega (arith, lt)) h.0 row)
+      by (inr h) =
+          let longer : length new ≡ length old + 1 =
+          ap length h.1.items ∙ length_push old h.1.source in
+          let next : suc (first + length old) ≡ first + length new = omega (arith, longer) in
+          subst (λ n. IsRow n rest end) next
+          ((row_takes (first + length old) end home rest h.0 row).1)
+
+  -- in a lane that follows, the place holds what its source holds
+  module _ {T : Type 0} (number : A → ℕ) (look look' : ℕ → T) where
+    pub carried_before :
+        ((j : ℕ) (d : A) → j < length new → look' (first + j) ≡ look (number (get_or new j d))) →
+        (j : ℕ) (d : A) → j < length old → look' (first + j) ≡ look (number (get_or old j d))
+    carried_before carried j d lt = by taken
+      where
+        by : IsTaken P home old new → look' (first + j) ≡ look (number (get_or old j d))
+        by (inl h) =
+            subst
+            (λ (xs : List A). (j < length xs → look' (first + j) ≡ look (number (get_or xs j d))))
+            h.1 (carried j d) lt
+        by (inr h) =
+            let longer : length new ≡ length old + 1 =
+            ap length h.1.items ∙ length_push old h.1.source in
+            carried j d (omega (arith, longer, lt))
+            ∙ ap (λ (x : A). look (number x))
+            (ap (λ (xs : List A). get_or xs j d) h.1.items
+            ∙ get_or_append_left old (h.1.source ∷ []) d j lt)
+
+    pub carried_here :
+        ((j : ℕ) (d : A) → j < length new → look' (first + j) ≡ look (number (get_or new j d))) →
+        (rest : List ℕ) (end next : ℕ) → IsRow (first + length old) (home ∷ rest) end →
+        ((x : A) → P x → look (number x) ≡ look next) → home ≢ 0 → look' home ≡ look next
+    carried_here carried rest end next row means ne = by taken
+      where
+        by : IsTaken P home old new → look' home ≡ look next
+        by (inl h) = absurd (ne h.0)
+        by (inr h) =
+            let longer : length new ≡ length old + 1 =
+            ap length h.1.items ∙ length_push old h.1.source in
+            let x = h.1.source in
+            ap look' ((row_takes (first + length old) end home rest h.0 row).0)
+            ∙ carried (length old) x (omega (arith, longer))
+            ∙ ap (λ (y : A). look (number y))
+            (ap (λ (xs : List A). get_or xs (length old) x) h.1.items
+            ∙ get_or_push old x x (length old) refl)
+            ∙ means x h.1.law
+
+-- ## One memory
+
+-- the places of a memory hold next what those of another holding hold now; 0 is false
+pub record IsHandedOver (s s' : Lane) (h g : Holding) : Type 0 where
+  pub value : plane_in h.value ≢ 0 → s'.bits (plane_in h.value) ≡ s.bits (plane_in g.value)
+  pub nil : h.nil.0 ≢ 0 → s'.bits h.nil.0 ≡ s.bits g.nil.0
+  pub bad : h.bad.0 ≢ 0 → s'.bits h.bad.0 ≡ s.bits g.bad.0
+  pub word : word_in h.value ≢ 0 → s'.ints (word_in h.value) ≡ s.ints (word_in g.value)
+  pub now : s.bits 0 ≡ false
+  pub after : s'.bits 0 ≡ false
+
+value_handed :
+    (s s' : Lane) (x y : Value) → value_kind x ≡ value_kind y → IsSet x →
+    (plane_in x ≢ 0 → s'.bits (plane_in x) ≡ s.bits (plane_in y)) →
+    (word_in x ≢ 0 → s'.ints (word_in x) ≡ s.ints (word_in y)) → value_at s' x ≡ value_at s y
+value_handed s s' (Truth p) (Truth q) e n bits ints = ap Boolean (bits n)
+value_handed s s' (Number v) (Number w) e n bits ints = ap Integer (ints n)
+value_handed s s' (Truth p) (Number w) e n bits ints = absurd (cc)
+value_handed s s' (Number v) (Truth q) e n bits ints = absurd (cc)
+
+flag_cases : (s : Lane) (x : Value) (b n : Bool) → value_kind x ≡ Bool_kind → b ≡ false →
+    n ≡ false → flag_of (shown b n (value_at s x)) ≡ s.bits (plane_in x)
+flag_cases s (Truth p) b n k e f = ap₂ (λ b n. flag_of (shown b n (Boolean (s.bits p.0)))) e f
+flag_cases s (Number w) b n k e f = absurd (cc)
+
+set_plane : (x : Value) → value_kind x ≡ Bool_kind → IsSet x → plane_in x ≢ 0
+set_plane (Truth p) k n = n
+set_plane (Number w) k n = absurd (cc)
+
+-- a flag is its plane
+flag_is : (s : Lane) (h : Holding) → IsFlagHome h → s.bits 0 ≡ false →
+    flag_at s h ≡ s.bits (plane_in h.value)
+flag_is s h f e =
+    flag_cases s h.value (s.bits h.bad.0) (s.bits h.nil.0) f.kind_is (ap s.bits f.bad ∙ e)
+    (ap s.bits f.nil ∙ e)
+
+module _ (code : Code) (s s' : Lane) (run : HasRun code.instructions.items s) (places : List Place)
+    (named : List ℕ) (quiet : some_in is_bad (row_at s places) named ≡ false) (N : ℕ → Kind)
+    (kinds : (e : ℕ) → e < length places → kind_of (holding_of places e) ≡ N e) where
+  cell_moves :
+      (kind : Kind) (v : Scalar) (a : ℕ) (h g : Holding) → a < length places → N a ≡ kind →
+      IsOf kind v → IsCellHome kind (In a named) v h → IsHandedOver s s' h g →
+      IsNextOf code places h (Previous v a) g →
+      scalar_at s' h
+      ≡ cond (present_at s places a) (scalar_at s (holding_of places a)) (scalar_at s h)
+  cell_moves kind v a h g lt same of home over next =
+      let kept_kind : kind_of h ≡ kind = home.kind_is of in
+      let from_kind : kind_of (holding_of places a) ≡ kind = kinds a lt ∙ same in
+      let is = next (from_kind ∙ sym kept_kind) in
+      let value : value_at s' h.value ≡ value_at s g.value =
+      value_handed s s' h.value g.value (kept_kind ∙ sym from_kind ∙ sym is.kind_is) home.is_set
+      over.value over.word in
+      by home.bad is.means value
+    where
+      by : (h.bad.0 ≢ 0) ⊎ ((h.bad.0 ≡ 0) × In a named) →
+          ((t : Lane) → HasRun code.instructions.items t →
+          scalar_at t g
+          ≡ cond (present_at t places a) (scalar_at t (holding_of places a)) (scalar_at t h)) →
+          value_at s' h.value ≡ value_at s g.value →
+          scalar_at s' h
+          ≡ cond (present_at s places a) (scalar_at s (holding_of places a)) (scalar_at s h)
+      by (inl ne) means value =
+          carried_holding s s' h g value (over.nil home.nil) (over.bad ne) ∙ means s run
+      by (inr none) means value =
+          named_moved s s' places named a h g lt quiet none.1 (ap s.bits none.0 ∙ over.now)
+          (ap s'.bits none.0 ∙ over.after) value (over.nil home.nil) (means s run)
+
+  -- an operation's memory moves on
+  pub memory_moves :
+      (inputs : List Kind) (kind : Kind) (o : Operation) (h g : Holding) →
+      OperandKinds inputs N kind o → IsMemory kind (λ a. In a named) o h →
+      IsKeptIn places o → IsHandedOver s s' h g → IsNextOf code places h o g →
+      IsMoved s s' places h o
+  memory_moves inputs kind (FirstThen started a b) h g fits home lt over next =
+      flag_is s' h home over.after
+      ∙ over.value (set_plane h.value home.kind_is home.is_set)
+      ∙ next.means s run
+      ∙ ap (λ b. b || present_at s places a) (sym (flag_is s h home over.now))
+  memory_moves inputs kind (Previous v a) h g fits home lt over next =
+      cell_moves kind v a h g lt fits.1 fits.0 home over next
+  memory_moves inputs kind (Latest v a) h g fits home lt over next =
+      cell_moves kind v a h g lt fits.1 fits.0 home over next
+  memory_moves inputs kind (Input j) h g fits home lt over next = tt
+  memory_moves inputs kind (Constant v) h g fits home lt over next = tt
+  memory_moves inputs kind (Copy a) h g fits home lt over next = tt
+  memory_moves inputs kind (ApplyUnary op a) h g fits home lt over next = tt
+  memory_moves inputs kind (ApplyBinary op a b) h g fits home lt over next = tt
+  memory_moves inputs kind (Choose c a b) h g fits home lt over next = tt
+  memory_moves inputs kind (Sample a) h g fits home lt over next = tt

@@ -1,0 +1,164 @@
+-- What a cell that a lane shows passes, plane by plane; and a test of some elements, one after the
+-- other.
+use Rattle.std.proofs.Common.{arith, suc, ◌+◌, ◌-◌, ◌<◌, ◌≤◌, [], ◌∷◌, drop, length, add-one}
+use Rattle.std.proofs.Common.{◌≡◌, ℕ, Bool, true, false, not, ◌&&◌, ◌||◌}
+use Rattle.std.proofs.Common.{Option}
+use Rattle.std.proofs.Common.{Some, None, List, get_or, refl, sym, ap}
+use Rattle.std.proofs.Common.{◌∙◌}
+use Rattle.std.proofs.Math.Seq.{drop-cons}
+use Rattle.std.proofs.Math.ListN.{drop_of_length-le}
+use Rattle.std.specs.List.{range_with_len}
+use Rattle.std.proofs.lemmas.List.{get_or-map}
+use Rattle.lb_check.specs.Scalars.{Scalar, Integer, Boolean, Nil, Bad, Cell}
+use Rattle.lb_check.specs.Streams.{held, shows}
+use Rattle.lb_check.specs.Verdicts.{is_bad, is_nil, is_false}
+use Rattle.lb_flat.specs.Judging.{some_in}
+use Rattle.lb_flat.specs.Programs.{numbers_of}
+use Rattle.lb_flat.specs.Run.{cell}
+use Rattle.lb_flat.specs.declared.equation.ElementId.{ElementId}
+use Rattle.lb_machine.specs.Growing.{IsGrown, IsPlaneFor}
+use Rattle.lb_machine.specs.Meaning.{Lane, HasRun}
+use Rattle.lb_machine.specs.declared.code.Code.{Code}
+use Rattle.lb_machine.specs.declared.instruction.PlaneId.{PlaneId}
+use Rattle.lb_sim.specs.Showing.{shown, value_at, cell_at, row_at}
+use Rattle.lb_sim.specs.declared.place.Place.{Place}
+use Rattle.lb_sim.specs.declared.place.Value.{Value}
+use Rattle.lb_sim.specs.declared.place.Value.TheVariants.{Truth, Number}
+use Rattle.lb_sim.proofs.Growth.{grown_none, grown_then}
+
+-- ## One cell
+
+value_sound : (s : Lane) (v : Value) → is_bad (Some (Some (value_at s v))) ≡ false
+value_sound s (Truth p) = refl
+value_sound s (Number w) = refl
+
+value_known : (s : Lane) (v : Value) → is_nil (Some (Some (value_at s v))) ≡ false
+value_known s (Truth p) = refl
+value_known s (Number w) = refl
+
+bad_cases : (p b n : Bool) (v : Scalar) → is_bad (Some (Some v)) ≡ false →
+    (p && b) ≡ is_bad (Some (held (shown b n v) p))
+bad_cases false b n v e = refl
+bad_cases true true n v e = refl
+bad_cases true false true v e = refl
+bad_cases true false false v e = sym e
+
+pub bad_seen : (s : Lane) (p b n : Bool) (v : Value) →
+    (p && b) ≡ is_bad (Some (held (shown b n (value_at s v)) p))
+bad_seen s p b n v = bad_cases p b n (value_at s v) (value_sound s v)
+
+nil_cases : (p b n : Bool) (v : Scalar) → is_nil (Some (Some v)) ≡ false →
+    (p && (n && not b)) ≡ is_nil (Some (held (shown b n v) p))
+nil_cases false b n v e = refl
+nil_cases true true true v e = refl
+nil_cases true true false v e = refl
+nil_cases true false true v e = refl
+nil_cases true false false v e = sym e
+
+pub nil_seen : (s : Lane) (p b n sound : Bool) (v : Value) → sound ≡ (n && not b) →
+    (p && sound) ≡ is_nil (Some (held (shown b n (value_at s v)) p))
+nil_seen s p b n sound v e =
+    ap (λ x. p && x) e ∙ nil_cases p b n (value_at s v) (value_known s v)
+
+false_shows : (x : Cell) → shows false x ≡ is_false (Some x)
+false_shows None = refl
+false_shows (Some (Integer z)) = refl
+false_shows (Some (Boolean true)) = refl
+false_shows (Some (Boolean false)) = refl
+false_shows (Some Nil) = refl
+false_shows (Some Bad) = refl
+
+pub false_seen : (x : Cell) (everywhere : Bool) → everywhere ≡ true →
+    (everywhere && shows false x) ≡ is_false (Some x)
+false_seen x everywhere e = ap (λ b. b && shows false x) e ∙ false_shows x
+
+-- ## Some elements
+
+or_further : (a b c : Bool) → ((a || b) || c) ≡ (a || (b || c))
+or_further true b c = refl
+or_further false b c = refl
+
+or_none : (a : Bool) → (a || false) ≡ a
+or_none true = refl
+or_none false = refl
+
+-- a plane holds the test of some elements, and the rest is still to come
+pub record IsWatching (test : Option Cell → Bool) (before code : Code) (places : List Place)
+    (elements rest : List ℕ) (above plane : PlaneId) : Type 0 where
+  pub grown : IsGrown before code
+  pub within : plane.0 < code.planes
+  pub means :
+      (s : Lane) → HasRun code.instructions.items s →
+      (s.bits plane.0 || some_in test (row_at s places) rest)
+      ≡ (s.bits above.0 || some_in test (row_at s places) elements)
+
+pub watching_first :
+    (test : Option Cell → Bool) (code : Code) (places : List Place) (elements : List ℕ)
+    (above : PlaneId) → above.0 < code.planes →
+    IsWatching test code code places elements elements above above
+watching_first test code places elements above lt =
+    record { grown = grown_none code; within = lt; means = λ s r. refl }
+
+module _ (test : Option Cell → Bool) (before code : Code) (places : List Place)
+    (elements rest : List ℕ) (above plane : PlaneId)
+    (h : IsWatching test before code places elements rest above plane) where
+  pub watching_last : rest ≡ [] →
+      IsPlaneFor code (λ s. s.bits above.0 || some_in test (row_at s places) elements) plane
+  watching_last e = record {
+    within = h.within;
+    means = λ s r.
+        sym (or_none (s.bits plane.0))
+        ∙ ap (λ is. s.bits plane.0 || some_in test (row_at s places) is) (sym e)
+        ∙ h.means s r;
+  }
+
+  pub watching_next :
+      (i : ℕ) (more : List ℕ) (p : Place) → rest ≡ i ∷ more → i < length places →
+      p ≡ get_or places i p → (code₁ code₂ : Code) (here plane' : PlaneId) →
+      IsGrown code code₁ → IsPlaneFor code₁ (λ s. test (Some (cell_at s p))) here →
+      IsGrown code₁ code₂ → IsPlaneFor code₂ (λ s. s.bits plane.0 || s.bits here.0) plane' →
+      IsWatching test before code₂ places elements more above plane'
+  watching_next i more p e lt is_p code₁ code₂ here plane' g₁ seen g₂ made = record {
+    grown = grown_then before code code₂ h.grown (grown_then code code₁ code₂ g₁ g₂);
+    within = made.within;
+    means = λ s r.
+        let row = row_at s places in
+        let later = some_in test row more in
+        let r₁ = g₂.runs s r in
+        let here_is : s.bits here.0 ≡ test (Some (cell row i)) =
+        seen.means s r₁
+        ∙ ap (λ x. test (Some x)) (sym (get_or-map (cell_at s) places i p None lt
+        ∙ ap (cell_at s) (sym is_p))) in
+        ap (λ b. b || later) (made.means s r)
+        ∙ or_further (s.bits plane.0) (s.bits here.0) later
+        ∙ ap (λ b. s.bits plane.0 || (b || later)) here_is
+        ∙ ap (λ is. s.bits plane.0 || some_in test row is) (sym e)
+        ∙ h.means s (g₁.runs s r₁);
+  }
+
+-- ## What is still to come
+
+pub numbers_cut : (ids : List ElementId) (i : ℕ) (d : ElementId) → i < length ids →
+    numbers_of (drop i ids) ≡ (get_or ids i d).0 ∷ numbers_of (drop (i + 1) ids)
+numbers_cut ids i d lt =
+    let here : drop i ids ≡ get_or ids i d ∷ drop (i + 1) ids = rw (add-one, drop-cons ids i d) in
+    ap numbers_of here
+
+pub numbers_end : (ids : List ElementId) (i : ℕ) → length ids ≤ i → numbers_of (drop i ids) ≡ []
+numbers_end ids i le = ap numbers_of (drop_of_length-le ids le)
+
+pub range_cut : (i count : ℕ) → i < count →
+    range_with_len i (count - i) ≡ i ∷ range_with_len (i + 1) (count - (i + 1))
+range_cut i count lt =
+    let e : count - i ≡ suc (count - (i + 1)) = omega (arith, lt) in
+    ap (range_with_len i) e
+
+pub range_end : (i count : ℕ) → count ≤ i → range_with_len i (count - i) ≡ []
+range_end i count le =
+    let e : count - i ≡ 0 = omega (arith, le) in
+    ap (range_with_len i) e
+
+pub range_all : (count : ℕ) → range_with_len 0 count ≡ range_with_len 0 (count - 0)
+range_all count =
+    let e : count ≡ count - 0 = omega arith in
+    ap (range_with_len 0) e

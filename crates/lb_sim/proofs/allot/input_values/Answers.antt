@@ -1,0 +1,34 @@
+use Rattle.std.proofs.Common.{◌≡◌, ◌<◌, length, ap, ◌∙◌, rules}
+use Rattle.std.proofs.lemmas.List.{get_or_default}
+use Rattle.lb_syntax.specs.declared.tree.Kind.TheVariants.{Int as Int_kind}
+use Rattle.lb_sim.specs.declared.preset.Preset.{Preset}
+use Rattle.lb_sim.proofs.InputPlaces.{inputs_same, inputs_truth, inputs_number}
+use Rattle.lb_sim.proofs.allot.input_values.Goals.{in-Bool+in_ok-plane-in-Bool+in_ok-push-in-Bool}
+use Rattle.lb_sim.proofs.allot.input_values.Goals.{in-Int+in_ok-word-in-Int+in_ok-push-in-Int}
+use Rattle.lb_sim.proofs.allot.input_values.Goals as goal
+
+pub loop-j-preserved : goal.loop-j-preserved
+loop-j-preserved c =
+    let kinds = c.args.kinds.now in
+    let l = c.loop-j in
+    let lt : c.loop-j.j < length c.args.kinds.now = search rules in
+    elim c.match-kinds-j.branch [
+      | in-Bool+in_ok-plane-in-Bool+in_ok-push-in-Bool w ↦
+          let made = w.in_ok-plane-in-Bool.ensures in
+          inputs_same _ _ _ _ _ _ _
+          (ap (λ v. v.items) w.values-is ∙ w.in_ok-push-in-Bool.ensures.items)
+          (ap (λ (p : Preset). length p.planes.items) w.preset-is)
+          (ap (λ (p : Preset). length p.words.items) w.preset-is ∙ ap length made.words)
+          (inputs_truth kinds l.j l.values.items (length l.preset.planes.items)
+          (length l.preset.words.items) l.invariant lt w.in_ok-plane-in-Bool.plane.0 _
+          (get_or_default kinds l.j Int_kind _ lt ∙ w.in-Bool.is) made.place made.planes)
+      | in-Int+in_ok-word-in-Int+in_ok-push-in-Int w ↦
+          let made = w.in_ok-word-in-Int.ensures in
+          inputs_same _ _ _ _ _ _ _
+          (ap (λ v. v.items) w.values-is ∙ w.in_ok-push-in-Int.ensures.items)
+          (ap (λ (p : Preset). length p.planes.items) w.preset-is ∙ ap length made.planes)
+          (ap (λ (p : Preset). length p.words.items) w.preset-is)
+          (inputs_number kinds l.j l.values.items (length l.preset.planes.items)
+          (length l.preset.words.items) l.invariant lt w.in_ok-word-in-Int.word.0 _
+          (get_or_default kinds l.j Int_kind _ lt ∙ w.in-Int.is) made.place made.words)
+    ]

@@ -1,0 +1,44 @@
+use Rattle.std.proofs.Common.{◌≡◌, ◌+◌, length, ap, subst, ◌∙◌, arith, rules}
+use Rattle.lb_flat.specs.Programs.{program_of}
+use Rattle.lb_sim.specs.InputRows.{places_of, truth_columns, number_columns}
+use Rattle.lb_sim.specs.Presets.{AreConstants, AreMemories}
+use Rattle.lb_sim.proofs.Allotments.{constants_last}
+use Rattle.lb_sim.proofs.allotted.allot_places.Goals as goal
+
+pub returns : goal.returns
+returns c =
+    let p = c.args.program.now in
+    let f = program_of p in
+    let one = c.input_values.new.preset in
+    let two = c.constants.new.preset in
+    let three = c.memories.new.preset in
+    let table = c.in_ok-constants.constants.items in
+    let kept = c.in_ok-kept.kept.items in
+    let known = c.in_ok-constants.ensures in
+    let slice : c.as_slice.result.now ≡ p.inputs.items = c.as_slice.ensures.value in
+    let cw : length one.words.items ≡ c.len-constant_word.result = search rules in
+    let mp : length two.planes.items ≡ c.len-memory_plane.result = search rules in
+    let mw : length two.words.items ≡ c.len-memory_word.result = search rules in
+    let planes : length one.planes.items ≡ 2 + length (truth_columns 0 p.inputs.items) =
+    c.in_ok-inputs.ensures.planes ∙ ap (λ ks. 2 + length (truth_columns 0 ks)) slice in
+    let words : length one.words.items ≡ 1 + length (number_columns 0 p.inputs.items) =
+    c.in_ok-inputs.ensures.words ∙ ap (λ ks. 1 + length (number_columns 0 ks)) slice in
+    let same : length two.planes.items ≡ length one.planes.items = ap length known.planes in
+    record {
+      inputs_at = c.in_ok-inputs.ensures.values ∙ ap (places_of 2 1) slice;
+      inputs_planes = omega (arith, planes, same, mp);
+      inputs_words = omega (arith, words, cw);
+      constants_words = omega (arith, known.more.words, cw, mw);
+      constants =
+          subst
+          (λ n. AreConstants f n c.len-memory_word.result three.words.items table) cw
+          (subst (λ n. AreConstants f (length one.words.items) n three.words.items table) mw
+          (constants_last f (length one.words.items) (length two.words.items) two three table
+          c.in_ok-kept.ensures.more (omega arith) known.table));
+      memories =
+          subst (λ n. AreMemories f n c.len-memory_word.result three kept) mp
+          (subst (λ n. AreMemories f (length two.planes.items) n three kept) mw
+          c.in_ok-kept.ensures.table);
+      planes_room = omega (arith, c.in_ok-kept.ensures.more.planes, mp);
+      words_room = omega (arith, c.in_ok-kept.ensures.more.words, mw);
+    }

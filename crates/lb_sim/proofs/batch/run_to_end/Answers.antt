@@ -1,0 +1,77 @@
+-- Each lane comes an instant further in its trace, until no lane takes part.
+use Rattle.std.proofs.Common.{◌≡◌, ◌<◌, ◌&&◌, ℕ, [], sym, ap, ◌∙◌, subst, arith, refl, true}
+use Rattle.lb_lanes.specs.Planes.{IsPlaneOf, on}
+use Rattle.lb_lanes.specs.declared.planes.Plane.{Plane}
+use Rattle.lb_sim.specs.Inputs.{inputs_row}
+use Rattle.lb_sim.specs.declared.columns.Columns.{Columns}
+use Rattle.lb_sim.proofs.Batches.{moves_on}
+use Rattle.lb_sim.proofs.RunningBatches.{all_begin, all_go_on, all_rest, all_ended, have_instant}
+use Rattle.lb_sim.proofs.RunningLanes.{on_later}
+use Rattle.lb_sim.proofs.batch.run_to_end.Goals as goal
+
+pub loop-t-init : goal.loop-t-init
+loop-t-init c = record {
+  done =
+      all_begin c.args.run.now c.args.set.now c.args.members.now c.requires.few c.requires.fresh;
+  lanes = c.running_at-next.ensures.lanes;
+  columns = refl;
+}
+
+pub load-requires-clause-live : goal.load-requires-clause-live
+load-requires-clause-live c =
+    have_instant c.args.set.now c.args.members.now c.loop-t.t c.active.result.0 c.still-next.result.lanes
+    c.still-next.result.until c.and-live.result.0 c.requires.few c.still-next.ensures c.and-live.ensures
+
+pub step-requires-clause-shrinks : goal.step-requires-clause-shrinks
+step-requires-clause-shrinks c i l e =
+    let run = c.loop-t.run in
+    let active : on c.active.result.0 i ≡ true =
+    (moves_on (on c.active.result.0 i) (on c.still-next.result.lanes i) (on c.and-live.result.0 i)
+    (c.and-live.ensures i l) e).0 in
+    (moves_on (on run.live.0 i) _ (on run.active.0 i) (run.going i l)
+    (ap (λ (p : Plane). on p.0 i) (sym c.active.ensures) ∙ active)).0
+
+pub loop-t-preserved : goal.loop-t-preserved
+loop-t-preserved c =
+    let run = c.loop-t.run in
+    let set = c.args.set.now in
+    let members = c.args.members.now in
+    let lanes = c.still-next.result.lanes in
+    let live = c.and-live.result.0 in
+    let live_is : IsPlaneOf (λ i. on run.active.0 i && on lanes i) live =
+    subst (λ (p : Plane). IsPlaneOf (λ i. on p.0 i && on lanes i) live) c.active.ensures
+    c.and-live.ensures in
+    let e = c.step.ensures in
+    record {
+      done =
+          all_go_on c.args.run.now.program.now run c.step.new.self set members c.loop-t.t lanes
+          c.still-next.result.until live (λ i. inputs_row c.load.new.self i) c.requires.few
+          c.still-next.ensures live_is c.loop-t.invariant.done c.load.ensures.rows e.moves e.stays
+          e.settled e.active e.steps e.program;
+      lanes = on_later set members c.loop-t.t lanes c.still-next.result.until c.still-next.ensures.lanes;
+      columns = c.load.ensures.kinds ∙ c.loop-t.invariant.columns;
+    }
+
+pub returns-clause-program : goal.returns-clause-program
+returns-clause-program c = c.loop-t.invariant.done.program_is
+
+pub returns-clause-columns : goal.returns-clause-columns
+returns-clause-columns c = c.loop-t.invariant.columns
+
+pub returns-clause-verdicts : goal.returns-clause-verdicts
+returns-clause-verdicts c =
+    all_ended c.args.run.now.program.now c.loop-t.run c.args.set.now c.args.members.now c.loop-t.t
+    c.loop-t.invariant.done
+    (λ i l. let le = c.longest-most.ensures.each i l in omega (arith, le, c.loop-t-test.false))
+
+pub returns-then-live-eq0-clause-verdicts : goal.returns-then-live-eq0-clause-verdicts
+returns-then-live-eq0-clause-verdicts c =
+    let run = c.loop-t.run in
+    let lanes = c.still-next.result.lanes in
+    let live = c.and-live.result.0 in
+    let live_is : IsPlaneOf (λ i. on run.active.0 i && on lanes i) live =
+    subst (λ (p : Plane). IsPlaneOf (λ i. on p.0 i && on lanes i) live) c.active.ensures
+    c.and-live.ensures in
+    all_rest c.args.run.now.program.now run run c.args.set.now c.args.members.now c.loop-t.t lanes
+    c.still-next.result.until live (λ i. []) c.requires.few c.still-next.ensures live_is
+    c.loop-t.invariant.done c.if-live-eq0.true

@@ -1,0 +1,48 @@
+use Rattle.std.proofs.Common.{refl, arith}
+use Rattle.lb_sim.proofs.ClockPlanes.{at_first, ends_base, ends_past, goes_on}
+use Rattle.lb_sim.proofs.Growth.{place_grown, same_there}
+use Rattle.lb_sim.proofs.clock_planes.clock_plane.Goals as goal
+
+pub loop-depth-init : goal.loop-depth-init
+loop-depth-init c =
+    at_first c.args.code.now c.args.clocks.now c.args.places.now c.args.clock _ refl
+    (omega (arith, c.args.code.now.constants, c.args.code.now.more_planes)) c.requires.clock
+
+pub returns-in_default-clause-grown : goal.returns-in_default-clause-grown
+returns-in_default-clause-grown c = c.loop-depth.invariant.grown
+
+pub returns-in_default-clause-plane : goal.returns-in_default-clause-plane
+returns-in_default-clause-plane c =
+    ends_base _ _ _ _ _ _ _ _ c.loop-depth.invariant c.loop-depth-test.true c.in_default.is
+
+pub bounds-clocks-id : goal.bounds-clocks-id
+bounds-clocks-id c = c.loop-depth.invariant.in_table _ c.in-Some.is
+
+pub bounds-places-tick : goal.bounds-places-tick
+bounds-places-tick c =
+    (c.requires.table _ _ (c.loop-depth.invariant.in_table _ c.in-Some.is)).element
+
+pub sign_plane-requires-clause-above : goal.sign_plane-requires-clause-above
+sign_plane-requires-clause-above c = c.loop-depth.invariant.within
+
+pub sign_plane-requires-clause-place : goal.sign_plane-requires-clause-place
+sign_plane-requires-clause-place c =
+    place_grown _ _ _ c.loop-depth.invariant.grown
+    (c.requires.places _ _
+    ((c.requires.table _ _ (c.loop-depth.invariant.in_table _ c.in-Some.is)).element))
+
+pub loop-depth-preserved : goal.loop-depth-preserved
+loop-depth-preserved c =
+    goes_on _ _ _ _ _ _ _ _ c.loop-depth.invariant _ _ c.in-Some.is c.loop-depth-test.true
+    c.requires.table _ _ _ c.in_ok-next.ensures.grown
+    (same_there _ _ _ _
+    ((c.requires.table _ _ (c.loop-depth.invariant.in_table _ c.in-Some.is)).element))
+    c.in_ok-next.ensures.plane
+
+pub returns-clause-grown : goal.returns-clause-grown
+returns-clause-grown c = c.loop-depth.invariant.grown
+
+pub returns-clause-plane : goal.returns-clause-plane
+returns-clause-plane c =
+    ends_past _ _ _ _ _ _ _ _ c.loop-depth.invariant c.loop-depth-test.false
+    c.loop-depth.auto.depth-end

@@ -1,0 +1,22 @@
+use Rattle.std.proofs.Common.{◌∙◌, length, ap}
+use Rattle.lb_sim.specs.InputRows.{truth_columns, number_columns}
+use Rattle.lb_sim.proofs.LaneParts.{computed}
+use Rattle.lb_sim.proofs.instant.compute.Goals as goal
+
+pub returns-clause-computed : goal.returns-clause-computed
+returns-clause-computed c i h =
+    let p = c.args.program.now in
+    let x = c.args.inputs.now in
+    let e = c.hand_over.ensures in
+    let r = c.run.ensures in
+    computed p (length x.planes.items) (length x.words.items)
+    (x.planes_room
+    ∙ ap length x.columns.all_truths
+    ∙ ap (λ ks. length (truth_columns 0 ks)) c.requires.signature)
+    (x.words_room
+    ∙ ap length x.columns.all_numbers
+    ∙ ap (λ ks. length (number_columns 0 ks)) c.requires.signature)
+    c.args.planes.now c.hand_over.new.planes c.run.new.planes c.args.words.now
+    c.hand_over.new.words c.run.new.words e.first_planes e.other_planes e.first_words
+    e.other_words r.first_planes r.first_words i x.columns.kinds.items _ c.requires.signature
+    (e.rows i h) (c.requires.constants i h) (c.requires.constant_words i h) (r.done i h)

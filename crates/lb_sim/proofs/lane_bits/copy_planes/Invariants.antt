@@ -1,0 +1,5 @@
+use Rattle.lb_sim.proofs.LaneBits.{Put}
+use Rattle.lb_sim.proofs.lane_bits.copy_planes.Given as goal
+
+abbrev pub invariant-loop-c : goal.invariant-loop-c
+invariant-loop-c l = Put 0 l.first l.from l.fn.planes l.planes l.c

@@ -1,0 +1,6 @@
+use Rattle.lb_sim.proofs.Loading.{Numbers}
+use Rattle.lb_sim.proofs.loads.load_numbers.Given as goal
+
+abbrev pub invariant-loop-i : goal.invariant-loop-i
+invariant-loop-i l =
+    Numbers l.at.set.now l.at.members.now l.at.t l.at.live.0 l.columns l.words l.i

@@ -1,0 +1,7 @@
+use Rattle.lb_flat.specs.Programs.{program_of}
+use Rattle.lb_sim.proofs.Allotments.{FillsMemories}
+use Rattle.lb_sim.proofs.memories.fill_memories.Given as goal
+
+abbrev pub invariant-loop-i : goal.invariant-loop-i
+invariant-loop-i l =
+    FillsMemories (program_of l.program) l.fn.preset l.preset l.table l.i

@@ -1,0 +1,8 @@
+use Rattle.lb_flat.specs.Programs.{program_of}
+use Rattle.lb_sim.proofs.CommitLoop.{IsCommitting}
+use Rattle.lb_sim.proofs.sources.all_sources.Given as goal
+
+abbrev pub invariant-loop-i : goal.invariant-loop-i
+invariant-loop-i l =
+    IsCommitting (program_of l.program) l.places l.allotted.kept.items l.allotted.memory_plane
+    l.allotted.memory_word l.fn.code l.code l.planes.items l.words.items l.i

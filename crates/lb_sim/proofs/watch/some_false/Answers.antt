@@ -1,0 +1,38 @@
+use Rattle.std.proofs.Common.{arith}
+use Rattle.lb_check.specs.Verdicts.{is_false}
+use Rattle.lb_flat.specs.Programs.{numbers_of}
+use Rattle.lb_sim.proofs.Growth.{place_grown, same_there}
+use Rattle.lb_sim.proofs.Watching.{watching_first, watching_next, watching_last, numbers_cut}
+use Rattle.lb_sim.proofs.Watching.{numbers_end}
+use Rattle.lb_sim.proofs.watch.some_false.Goals as goal
+
+pub loop-i-init : goal.loop-i-init
+loop-i-init c =
+    watching_first is_false c.args.code.now c.args.places.now (numbers_of c.args.elements.now)
+    c.args.above c.requires.above
+
+pub false_plane-requires : goal.false_plane-requires
+false_plane-requires c =
+    place_grown _ _ _ c.loop-i.invariant.grown
+    (c.requires.places _ _ (c.requires.elements _ _ c.loop-i-test.true))
+
+pub combine-requires-clause-left : goal.combine-requires-clause-left
+combine-requires-clause-left c =
+    omega (arith, c.loop-i.invariant.within, c.in_ok-here.ensures.grown.planes)
+
+pub loop-i-preserved : goal.loop-i-preserved
+loop-i-preserved c =
+    watching_next is_false _ _ _ _ _ _ _ c.loop-i.invariant _ _ _
+    (numbers_cut c.args.elements.now c.loop-i.i _ c.loop-i-test.true)
+    (c.requires.elements _ _ c.loop-i-test.true)
+    (same_there _ _ _ _ (c.requires.elements _ _ c.loop-i-test.true)) _ _ _ _
+    c.in_ok-here.ensures.grown c.in_ok-here.ensures.plane c.in_ok-next.ensures.grown
+    c.in_ok-next.ensures.plane
+
+pub returns-clause-grown : goal.returns-clause-grown
+returns-clause-grown c = c.loop-i.invariant.grown
+
+pub returns-clause-plane : goal.returns-clause-plane
+returns-clause-plane c =
+    watching_last is_false _ _ _ _ _ _ _ c.loop-i.invariant
+    (numbers_end c.args.elements.now c.loop-i.i c.loop-i-test.false)

@@ -1,0 +1,46 @@
+-- Which lanes of a batch have an instant, and what the verdicts of a batch are.
+-- Source: this project's rule. No lane occurs beside another.
+use Rattle.std.specs.Prelude.{◌≡◌, ◌≢◌, ℕ, ◌<◌, ◌≤◌, ◌⊎◌, Bool, true, false, List, length, get_or}
+use Rattle.std.specs.Prelude.{nat_lt, take}
+use Rattle.lb_static.specs.Instances.{Program}
+use Rattle.lb_static.specs.DataTypes.{signature}
+use Rattle.lb_check.specs.Solutions.{Inputs, HasOneHistory}
+use Rattle.lb_check.specs.Verdicts.{IsOnlyVerdict}
+use Rattle.lb_check.specs.declared.verdict.Verdict.{Verdict}
+use Rattle.lb_check.specs.declared.verdict.Verdict.TheVariants.{Passed}
+use Rattle.lb_flat.specs.FlatPrograms.{IsFlatOf}
+use Rattle.lb_flat.specs.Inputs.{inputs_of}
+use Rattle.lb_flat.specs.Judging.{FlatProgram}
+use Rattle.lb_flat.specs.Traces.{Recording, trace_at}
+use Rattle.lb_lanes.specs.Planes.{on}
+
+-- how many instants the trace of a lane has
+abbrev pub length_in : Recording → List ℕ → ℕ → ℕ
+length_in r members i = length (trace_at r.traces (get_or members i 0)).1
+
+-- the lanes whose traces have each instant from t to another one
+pub record AreOn (r : Recording) (members : List ℕ) (t plane until : ℕ) : Type 0 where
+  pub members_on :
+      (i s : ℕ) → i < length members → t ≤ s → s < until →
+      on plane i ≡ nat_lt s (length_in r members i)
+  pub others_off : (i : ℕ) → length members ≤ i → i < 64 → on plane i ≡ false
+
+-- where instant t is one of them
+pub record AreRunning (r : Recording) (members : List ℕ) (t plane until : ℕ) : Type 0 where
+  pub later : t < until
+  pub lanes : AreOn r members t plane until
+
+-- how far the trace of a lane has been run when instant t is the next one: to instant n of it
+pub record IsAt (verdict : Verdict) (active : Bool) (as_long n t : ℕ) : Type 0 where
+  pub within : n ≤ as_long
+  pub now : active ≡ true → n ≡ t
+  pub ended : active ≡ false → (n ≡ as_long) ⊎ (verdict ≢ Passed)
+
+-- v is the verdict of a trace: that of each program that the flat one stands for, where the traces
+-- have its signature, by the one history that solves it
+pub record IsVerdictOf (f : FlatProgram) (r : Recording) (k : ℕ) (v : Verdict) : Type 0 where
+  pub only_verdict :
+      (P : Program) → IsFlatOf P f → signature P ≡ r.signature →
+      IsOnlyVerdict P (inputs_of r k) v
+  pub has_one_history :
+      (P : Program) → IsFlatOf P f → signature P ≡ r.signature → HasOneHistory P (inputs_of r k)

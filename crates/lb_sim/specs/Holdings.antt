@@ -1,0 +1,39 @@
+-- What holdings of code are, and what they are for.
+-- This file says what data of the program mean.
+use Rattle.std.specs.Prelude.{◌≡◌, ◌<◌}
+use Rattle.lb_syntax.specs.declared.tree.Kind.{Kind}
+use Rattle.lb_check.specs.Scalars.{Scalar}
+use Rattle.lb_machine.specs.Meaning.{Lane, HasRun}
+use Rattle.lb_machine.specs.declared.code.Code.{Code}
+use Rattle.lb_sim.specs.Showing.{scalar_at, kind_of, value_at, value_kind}
+use Rattle.lb_sim.specs.declared.place.Value.{Value}
+use Rattle.lb_sim.specs.declared.place.Value.TheVariants.{Truth, Number}
+use Rattle.lb_sim.specs.declared.place.Holding.{Holding}
+use Rattle.lb_sim.specs.declared.place.Place.{Place}
+
+-- a value stands at a place of the code
+abbrev pub IsValueIn : Code → Value → Type 0
+IsValueIn code (Truth p) = p.0 < code.planes
+IsValueIn code (Number w) = w.0 < code.words
+
+-- a holding has places of the code
+pub record IsIn (code : Code) (h : Holding) : Type 0 where
+  pub value : IsValueIn code h.value
+  pub nil : h.nil.0 < code.planes
+  pub bad : h.bad.0 < code.planes
+
+-- it is of a kind, and holds this in each lane in which the code has been run
+pub record IsFor (code : Code) (kind : Kind) (scalar : Lane → Scalar) (h : Holding) : Type 0 where
+  pub kind_is : kind_of h ≡ kind
+  pub means : (s : Lane) → HasRun code.instructions.items s → scalar_at s h ≡ scalar s
+
+-- the same of a value alone
+pub record IsValueFor (code : Code) (kind : Kind) (scalar : Lane → Scalar) (v : Value) :
+    Type 0 where
+  pub kind_is : value_kind v ≡ kind
+  pub means : (s : Lane) → HasRun code.instructions.items s → value_at s v ≡ scalar s
+
+-- a place of the code
+pub record IsPlaceIn (code : Code) (p : Place) : Type 0 where
+  pub holding : IsIn code p.holding
+  pub present : p.present.0 < code.planes

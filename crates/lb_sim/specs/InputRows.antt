@@ -1,0 +1,52 @@
+-- The inputs of an instant in each lane: a plane for each Boolean of a signature and a word for
+-- each integer, in its order.
+-- Source: this project's rule. No lane occurs beside another.
+use Rattle.std.specs.Prelude.{◌≡◌, ℕ, suc, ◌<◌, true, false, List, [], ◌∷◌, ℤ, pos, length, map}
+use Rattle.std.specs.Prelude.{get_or, slice_index_or}
+use Rattle.lb_syntax.specs.declared.tree.Kind.{Kind}
+use Rattle.lb_syntax.specs.declared.tree.Kind.TheVariants.{Int as Int_kind, Bool as Bool_kind}
+use Rattle.lb_check.specs.Scalars.{Scalar, Integer, Boolean}
+use Rattle.lb_flat.specs.Traces.{Recording, trace_at, cell_at}
+pub use Rattle.lb_flat.specs.Packed.{truth_columns}
+use Rattle.lb_lanes.specs.Kernels.{lane_of}
+use Rattle.lb_lanes.specs.Planes.{on}
+use Rattle.lb_machine.specs.Meaning.{lane_at}
+use Rattle.lb_sim.specs.Showing.{value_at}
+use Rattle.lb_sim.specs.declared.place.Value.{Value}
+use Rattle.lb_sim.specs.declared.place.Value.TheVariants.{Truth, Number}
+
+-- where inputs of these kinds stand, from a plane and a word on
+abbrev pub places_of : ℕ → ℕ → List Kind → List Value
+places_of p w [] = []
+places_of p w (Bool_kind ∷ kinds) = Truth (record { 0 = p }) ∷ places_of (suc p) w kinds
+places_of p w (Int_kind ∷ kinds) = Number (record { 0 = w }) ∷ places_of p (suc w) kinds
+
+-- the columns of the integers, from a column on
+abbrev pub number_columns : ℕ → List Kind → List ℕ
+number_columns j [] = []
+number_columns j (Bool_kind ∷ kinds) = number_columns (suc j) kinds
+number_columns j (Int_kind ∷ kinds) = j ∷ number_columns (suc j) kinds
+
+-- the row of a lane
+abbrev pub lane_row : List Kind → List ℕ → List (List ℤ) → ℕ → List Scalar
+lane_row kinds planes words i = map (value_at (lane_at planes words i)) (places_of 0 0 kinds)
+
+-- false, or 0
+abbrev pub zero_of : Kind → Scalar
+zero_of Int_kind = Integer (pos 0)
+zero_of Bool_kind = Boolean false
+
+-- the words are 0 in each lane
+abbrev pub AreZero : List (List ℤ) → Type 0
+AreZero words =
+    (w i : ℕ) → w < length words → i < 64 → lane_of (slice_index_or words w []) i ≡ pos 0
+
+-- the cell of a member of a batch
+abbrev pub member_cell : Recording → List ℕ → ℕ → ℕ → ℕ → ℤ
+member_cell r members t i column = cell_at r.traces (get_or members i 0) t column
+
+-- in each of these lanes a member of a batch has this instant
+abbrev pub HaveInstant : Recording → List ℕ → ℕ → ℕ → Type 0
+HaveInstant r members t live =
+    (i : ℕ) → i < 64 → on live i ≡ true →
+    (i < length members) × (t < length (trace_at r.traces (get_or members i 0)).1)

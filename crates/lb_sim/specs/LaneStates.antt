@@ -1,0 +1,43 @@
+-- What it is for a lane to stand for a trace of a flat program: its verdict is that of the trace so
+-- far, and while it is active it holds the memories after that trace.
+-- Source: this project's rule. No lane occurs beside it.
+use Rattle.std.specs.Prelude.{◌≡◌, ℕ, Bool, true, false, not, ◌&&◌, length, List, if◌then◌else◌}
+use Rattle.lb_check.specs.Solutions.{Inputs}
+use Rattle.lb_check.specs.declared.verdict.Verdict.{Verdict}
+use Rattle.lb_check.specs.declared.verdict.Verdict.TheVariants.{Passed}
+use Rattle.lb_flat.specs.Judging.{FlatProgram, flat_verdict}
+use Rattle.lb_check.specs.Scalars.{Scalar}
+use Rattle.lb_machine.specs.Meaning.{Lane, HasRun}
+use Rattle.lb_machine.specs.declared.code.Code.{Code}
+use Rattle.lb_sim.specs.Compiled.{IsHomeAt, HasConstantWords, given_at}
+use Rattle.lb_sim.specs.States.{IsStateAfter}
+use Rattle.lb_sim.specs.declared.place.Holding.{Holding}
+use Rattle.lb_sim.specs.declared.program.LaneProgram.{LaneProgram}
+
+abbrev pub is_passed : Verdict → Bool
+is_passed Passed = true
+is_passed v = false
+
+-- after so many instants: a verdict, and whether the lane is active
+pub record StandsAt (f : FlatProgram) (kept : List Holding) (s : Lane) (verdict : Verdict)
+    (active : Bool) (steps : ℕ) (X : Inputs) : Type 0 where
+  pub verdict_is : verdict ≡ flat_verdict f X
+  pub as_long : active ≡ true → length X ≡ steps
+  pub state : active ≡ true → IsStateAfter f kept s X
+
+-- the verdict of a lane after an instant that decides this, where the lane takes part in it
+abbrev pub settled : Bool → Verdict → Verdict → Verdict
+settled going judged verdict = if going && not (is_passed judged) then judged else verdict
+
+-- two lanes hold the same at the places of memories
+pub record HoldSame (code : Code) (memory_plane memory_word : ℕ) (s s' : Lane) : Type 0 where
+  pub planes : (k : ℕ) → IsHomeAt memory_plane code.first_plane k → s'.bits k ≡ s.bits k
+  pub words : (k : ℕ) → IsHomeAt memory_word code.first_word k → s'.ints k ≡ s.ints k
+
+-- a lane was given a row of inputs and has run the code of a program; its memories and constants
+-- are those of the lane before
+pub record IsComputed (p : LaneProgram) (row : List Scalar) (before s : Lane) : Type 0 where
+  pub run : HasRun p.code.instructions.items s
+  pub constants : HasConstantWords p.constant_word p.memory_word p.start_words.items s
+  pub given : given_at s p.inputs.items ≡ row
+  pub same : HoldSame p.code p.memory_plane p.memory_word before s

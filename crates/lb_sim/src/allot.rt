@@ -1,0 +1,292 @@
+//! Places that are known before the code: those of inputs, constants and memories.
+
+ghost use Rattle.std.specs.Prelude.{◌≡◌, ℕ, ◌+◌, ◌<◌, ◌≤◌, ◌≢◌, ◌⊎◌, true, false, length, All, IfOk};
+ghost use Rattle.std.specs.Prelude.{◌||◌, OnOk, get_or, replicate, [], ◌∷◌, slice_index};
+ghost use Rattle.lb_check.specs.Scalars as scalars;
+ghost use Rattle.lb_flat.specs.Programs.{program_of, IsInRange};
+ghost use Rattle.lb_flat.specs.Judging.{named_elements};
+ghost use Rattle.lb_flat.specs.Run.{keeps, reads};
+ghost use Rattle.lb_flat.specs.Values.{operation_of, scalar_of};
+ghost use Rattle.lb_lanes.specs.Planes.{on};
+ghost use Rattle.lb_syntax.specs.Lists.{In};
+ghost use Rattle.lb_sim.specs.Homes.{is_nil_scalar, is_bad_scalar, IsRow, plane_in, word_in};
+ghost use Rattle.lb_sim.specs.Showing.{value_kind};
+ghost use Rattle.lb_sim.specs.InputRows.{places_of, truth_columns, number_columns};
+ghost use Rattle.lb_sim.specs.Presets.{IsFirstHolding, IsFirstMemory, IsFirstValue, IsConstant, IsConstantAt, IsFixed, IsMore};
+
+use crate::place::{Holding, Value};
+use crate::preset::Preset;
+use lb_flat::equation::Operation;
+use lb_flat::program::FlatProgram;
+use lb_flat::scalar::Scalar;
+use lb_machine::{EVERYWHERE, NOWHERE, PlaneId, ZERO};
+use lb_syntax::tree::Kind;
+use std::alloc::{AllocError, Global};
+
+/// Where nothing stands.
+pub(crate) const NOTHING: Holding = Holding {
+    value: Value::Truth(NOWHERE),
+    nil: NOWHERE,
+    bad: NOWHERE,
+};
+
+/// Where each input stands, behind what is the same everywhere.
+pub(crate) fn input_values(
+    alloc: Global,
+    preset: &mut Preset,
+    kinds: &[Kind],
+) -> Result<Vec<Value>, AllocError>
+    requires planes { length preset.old.planes.items ≡ 2 }
+    requires words { length preset.old.words.items ≡ 1 }
+    ensures values { IfOk result (λ v. v.items ≡ places_of 2 1 kinds.now) }
+    ensures planes { OnOk result (length preset.new.planes.items
+        ≡ 2 + length (truth_columns 0 kinds.now)) }
+    ensures words { OnOk result (length preset.new.words.items
+        ≡ 1 + length (number_columns 0 kinds.now)) }
+{
+    let mut values = Vec::new(alloc);
+    for j in 0..kinds.len() {
+        match kinds[j] {
+            Kind::Bool => {
+                let plane = preset.plane(false)?;
+                values.push(Value::Truth(plane))?;
+            }
+            Kind::Int => {
+                let word = preset.word(0)?;
+                values.push(Value::Number(word))?;
+            }
+        }
+    }
+    Ok(values)
+}
+
+fn is_nil(v: Scalar) -> bool
+    ensures { result ≡ is_nil_scalar (scalar_of v) }
+{
+    match v {
+        Scalar::Nil => true,
+        _ => false,
+    }
+}
+
+fn is_bad(v: Scalar) -> bool
+    ensures { result ≡ is_bad_scalar (scalar_of v) }
+{
+    match v {
+        Scalar::Bad => true,
+        _ => false,
+    }
+}
+
+// A value of a kind, where a scalar is nil or a fault.
+fn empty_value(preset: &mut Preset, kind: Kind) -> Result<Value, AllocError>
+    ensures more { OnOk result (IsMore preset.old preset.new) }
+    ensures value { IfOk result (λ x. (v : scalars.Scalar)
+        → (is_nil_scalar v || is_bad_scalar v) ≡ true
+        → IsFirstValue preset.old preset.new kind v x) }
+{
+    match kind {
+        Kind::Bool => {
+            let plane = preset.plane(false)?;
+            Ok(Value::Truth(plane))
+        }
+        Kind::Int => {
+            let word = preset.word(0)?;
+            Ok(Value::Number(word))
+        }
+    }
+}
+
+// A value that holds a scalar; where that is nil or a fault, anything of this kind.
+fn first_value(preset: &mut Preset, v: Scalar, kind: Kind) -> Result<Value, AllocError>
+    ensures more { OnOk result (IsMore preset.old preset.new) }
+    ensures value { IfOk result (IsFirstValue preset.old preset.new kind (scalar_of v)) }
+{
+    match v {
+        Scalar::Integer(z) => {
+            let word = preset.word(z)?;
+            Ok(Value::Number(word))
+        }
+        Scalar::Boolean(b) => {
+            let plane = preset.plane(b)?;
+            Ok(Value::Truth(plane))
+        }
+        Scalar::Nil => {
+            let value = empty_value(preset, kind)?;
+            Ok(value)
+        }
+        Scalar::Bad => {
+            let value = empty_value(preset, kind)?;
+            Ok(value)
+        }
+    }
+}
+
+// A plane of faults, if the operand is not watched for faults or the first value is one.
+fn bad_place(preset: &mut Preset, v: Scalar, watched: bool) -> Result<PlaneId, AllocError>
+    ensures more { OnOk result (IsMore preset.old preset.new) }
+    ensures words { preset.new.words.items ≡ preset.old.words.items }
+    ensures row { IfOk result (λ p. IsRow (length preset.old.planes.items) (p.0 ∷ [])
+        (length preset.new.planes.items)) }
+    ensures watched { IfOk result (λ p. (p.0 ≢ 0) ⊎ ((p.0 ≡ 0) × (watched ≡ true))) }
+    ensures value { IfOk result (λ p. (i : ℕ) → i < 64
+        → on (slice_index preset.new.planes.items p.0) i ≡ is_bad_scalar (scalar_of v)) }
+{
+    let bad = is_bad(v);
+    if bad {
+        let plane = preset.plane(true)?;
+        return Ok(plane);
+    }
+    if watched {
+        return Ok(NOWHERE);
+    }
+    let plane = preset.plane(false)?;
+    Ok(plane)
+}
+
+// The memory of `pre` and of `current`: a value and its nil plane; a plane of faults only where it
+// is needed.
+fn memory(preset: &mut Preset, v: Scalar, kind: Kind, watched: bool) -> Result<Holding, AllocError>
+    ensures more { OnOk result (IsMore preset.old preset.new) }
+    ensures memory { IfOk result (IsFirstHolding preset.old preset.new kind (watched ≡ true)
+        (scalar_of v)) }
+{
+    let value = first_value(preset, v, kind)?;
+    let nil = preset.plane(is_nil(v))?;
+    let bad = bad_place(preset, v, watched)?;
+    Ok(Holding { value, nil, bad })
+}
+
+/// Where the memory of an operation stands, or nothing; `watched` marks the elements at which a
+/// fault counts.
+pub(crate) fn first_memory(
+    preset: &mut Preset,
+    operation: &Operation,
+    kind: Kind,
+    watched: &[bool],
+) -> Result<Holding, AllocError>
+    requires reads { All (λ i. i < length watched.now) (reads (operation_of operation.now)) }
+    requires keeps { All (λ i. i < length watched.now) (keeps (operation_of operation.now)) }
+    ensures more { OnOk result (IsMore preset.old preset.new) }
+    ensures memory { IfOk result (IsFirstMemory preset.old preset.new kind
+        (λ a. get_or watched.now a false ≡ true) (operation_of operation.now)) }
+{
+    match operation {
+        Operation::FirstThen(started, _, _) => {
+            let plane = preset.plane(*started)?;
+            Ok(Holding {
+                value: Value::Truth(plane),
+                nil: NOWHERE,
+                bad: NOWHERE,
+            })
+        }
+        Operation::Previous(v, a) => {
+            let held = memory(preset, *v, kind, watched[a.0 as usize])?;
+            Ok(held)
+        }
+        Operation::Latest(v, a) => {
+            let held = memory(preset, *v, kind, watched[a.0 as usize])?;
+            Ok(held)
+        }
+        _ => Ok(NOTHING),
+    }
+}
+
+// Marks the operands of memories.
+fn mark_operands(marks: &mut [bool], program: &FlatProgram)
+    requires in_range { IsInRange program.now }
+    requires none { marks.old ≡ replicate program.now.size false }
+    ensures elements { length marks.new ≡ program.now.size }
+    ensures named { (a : ℕ) → get_or marks.new a false ≡ true
+        → In a (named_elements (program_of program.now)) }
+{
+    for j in 0..program.memory_operands.len() {
+        let operand = program.memory_operands[j];
+        marks[operand.0 as usize] = true;
+    }
+}
+
+/// A mark for each element at which a fault counts since a memory keeps it.
+pub(crate) fn watched_elements(
+    alloc: Global,
+    program: &FlatProgram,
+) -> Result<Vec<bool>, AllocError>
+    requires in_range { IsInRange program.now }
+    ensures elements { IfOk result (λ marks. length marks.items ≡ program.now.size) }
+    ensures named { IfOk result (λ marks. (a : ℕ) → get_or marks.items a false ≡ true
+        → In a (named_elements (program_of program.now))) }
+{
+    let mut marks = vec![in alloc; false; program.size as usize]?;
+    mark_operands(marks.as_mut_slice(), program);
+    Ok(marks)
+}
+
+// A value of a kind that takes no place.
+fn no_value(kind: Kind) -> Value
+    ensures kind { value_kind result ≡ kind }
+    ensures plane { plane_in result ≡ 0 }
+    ensures word { word_in result ≡ 0 }
+{
+    match kind {
+        Kind::Bool => Value::Truth(NOWHERE),
+        Kind::Int => Value::Number(ZERO),
+    }
+}
+
+// What a scalar is held as: an integer by a word of its own.
+fn held_constant(preset: &mut Preset, v: Scalar, kind: Kind) -> Result<Holding, AllocError>
+    ensures more { OnOk result (IsMore preset.old preset.new) }
+    ensures planes { preset.new.planes.items ≡ preset.old.planes.items }
+    ensures fixed { IfOk result (IsFixed (length preset.new.words.items)) }
+    ensures constant { IfOk result (λ h. (first : ℕ) → first ≤ length preset.old.words.items
+        → IsConstantAt first (length preset.new.words.items) preset.new.words.items kind
+        (scalar_of v) h) }
+{
+    match v {
+        Scalar::Integer(z) => {
+            let word = preset.word(z)?;
+            Ok(Holding {
+                value: Value::Number(word),
+                nil: NOWHERE,
+                bad: NOWHERE,
+            })
+        }
+        Scalar::Boolean(b) => Ok(Holding {
+            value: Value::Truth(if b { EVERYWHERE } else { NOWHERE }),
+            nil: NOWHERE,
+            bad: NOWHERE,
+        }),
+        Scalar::Nil => Ok(Holding {
+            value: no_value(kind),
+            nil: EVERYWHERE,
+            bad: NOWHERE,
+        }),
+        Scalar::Bad => Ok(Holding {
+            value: no_value(kind),
+            nil: NOWHERE,
+            bad: EVERYWHERE,
+        }),
+    }
+}
+
+/// What an operation holds that is a constant, or nothing.
+pub(crate) fn constant(
+    preset: &mut Preset,
+    operation: &Operation,
+    kind: Kind,
+) -> Result<Holding, AllocError>
+    ensures more { OnOk result (IsMore preset.old preset.new) }
+    ensures planes { preset.new.planes.items ≡ preset.old.planes.items }
+    ensures fixed { IfOk result (IsFixed (length preset.new.words.items)) }
+    ensures constant { IfOk result (λ h. (first : ℕ) → first ≤ length preset.old.words.items
+        → IsConstant first (length preset.new.words.items) preset.new.words.items kind
+        (operation_of operation.now) h) }
+{
+    match operation {
+        Operation::Constant(v) => {
+            let held = held_constant(preset, *v, kind)?;
+            Ok(held)
+        }
+        _ => Ok(NOTHING),
+    }
+}

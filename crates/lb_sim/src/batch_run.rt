@@ -1,0 +1,156 @@
+//! Up to 64 traces of a program, instant by instant.
+
+ghost use Rattle.std.specs.Prelude.{◌≡◌, ◌≢◌, ℕ, ◌<◌, ◌≤◌, ◌+◌, ◌++◌, ◌∷◌, [], true, false, ◌&&◌};
+ghost use Rattle.std.specs.Prelude.{length, All, get_or, IfOk};
+ghost use Rattle.lb_check.specs.Solutions.{Inputs as InputRows};
+ghost use Rattle.lb_check.specs.declared.verdict.Verdict.TheVariants.{Passed};
+ghost use Rattle.lb_flat.specs.Fitting.{IsFitting};
+ghost use Rattle.lb_flat.specs.Flat.{FlatClock};
+ghost use Rattle.lb_flat.specs.FurtherKinds.{kind_among};
+ghost use Rattle.lb_lanes.specs.Kernels.{AreInts};
+ghost use Rattle.lb_lanes.specs.Planes.{IsPlaneOf, on};
+ghost use Rattle.lb_machine.specs.Meaning.{HasConstants, lane_at};
+ghost use Rattle.lb_sim.specs.Compiled.{HasConstantWords};
+ghost use Rattle.lb_sim.specs.LaneStates.{is_passed};
+
+use crate::inputs::Inputs;
+use crate::instant::{advance, first_lanes, pass_all, start};
+use crate::lane_bits::zeros;
+use crate::program::LaneProgram;
+use lb_check::verdict::Verdict;
+use lb_lanes::{IntLanes, Plane};
+use std::alloc::{AllocError, Global};
+
+/// The lanes of a batch: what their planes and words hold, and their verdicts so far.
+///
+/// ```text
+/// let mut run = BatchRun::new(alloc, &program, 64)?;
+/// run.step(&inputs, live);
+/// ```
+#[derive(Drop)]
+pub struct BatchRun<'a> {
+    pub program: &'a LaneProgram<'a>,
+    pub planes: Vec<u64>,
+    pub words: Vec<IntLanes>,
+    pub verdicts: Vec<Verdict>,
+    /// The lanes that were live in the last step, and those of them that have passed so far.
+    pub live: Plane,
+    pub active: Plane,
+    pub steps: u32,
+    pub ghost planes_room: { length planes.items ≡ program.now.code.planes },
+    pub ghost words_room: { length words.items ≡ program.now.code.words },
+    pub ghost ints: { All AreInts words.items },
+    pub ghost verdicts_room: { length verdicts.items ≡ 64 },
+    pub ghost constants: { (i : ℕ) → i < 64 → HasConstants
+        (lane_at planes.items words.items i) },
+    pub ghost constant_words: { (i : ℕ) → i < 64 → HasConstantWords
+        program.now.constant_word program.now.memory_word program.now.start_words.items
+        (lane_at planes.items words.items i) },
+    pub ghost going: { IsPlaneOf (λ i. on live.0 i && is_passed (get_or verdicts.items i Passed))
+        active.0 },
+}
+
+impl<'a> BatchRun<'a> {
+    ghost use Rattle.lb_sim.specs.BatchRuns.{IsFresh, Stands, flat_of, verdict_at};
+    ghost use Rattle.lb_sim.specs.Inputs.{inputs_row};
+
+    /// A run of 1 to 64 lanes, before the first instant.
+    pub fn new(
+        alloc: Global,
+        program: &'a LaneProgram<'a>,
+        lanes: u32,
+    ) -> Result<BatchRun<'a>, AllocError>
+        requires few { lanes ≤ 64 }
+        ensures fresh { IfOk result (λ r. IsFresh r lanes) }
+        ensures live { IfOk result (λ r. r.live ≡ r.active) }
+        ensures program { IfOk result (λ r. r.program.now ≡ program.now) }
+    {
+        let planes = vec![in alloc; 0u64; program.code.planes as usize]?;
+        let words = zeros(alloc, program.code.words as usize)?;
+        let verdicts = vec![in alloc; Verdict::Passed; 64]?;
+        Ok(BatchRun::begun(program, planes, words, verdicts, lanes))
+    }
+
+    // A run of so many lanes, before the first instant, in planes and words that may hold anything.
+    pub(crate) fn begun(
+        program: &'a LaneProgram<'a>,
+        mut planes: Vec<u64>,
+        mut words: Vec<IntLanes>,
+        mut verdicts: Vec<Verdict>,
+        lanes: u32,
+    ) -> BatchRun<'a>
+        requires planes { length planes.items ≡ program.now.code.planes }
+        requires words { length words.items ≡ program.now.code.words }
+        requires ints { All AreInts words.items }
+        requires verdicts { length verdicts.items ≡ 64 }
+        requires few { lanes ≤ 64 }
+        ensures fresh { IsFresh result lanes }
+        ensures live { result.live ≡ result.active }
+        ensures program { result.program.now ≡ program.now }
+    {
+        start(program, planes.as_mut_slice(), words.as_mut_slice());
+        pass_all(verdicts.as_mut_slice());
+        let live = first_lanes(lanes);
+        BatchRun {
+            program,
+            planes,
+            words,
+            verdicts,
+            live,
+            active: live,
+            steps: 0,
+        }
+    }
+
+    /// One instant of the lanes that are live. It takes no memory.
+    pub fn step(&mut self, inputs: &Inputs, live: Plane)
+        requires shrinks { (i : ℕ) → i < 64 → on live.0 i ≡ true
+            → on self.old.live.0 i ≡ true }
+        requires few { self.old.steps < 1000000 }
+        requires signature { inputs.now.columns.kinds.items ≡ (flat_of self.old).inputs }
+        ensures moves { (K : ℕ → FlatClock)
+            → IsFitting (flat_of self.old).inputs K (kind_among (flat_of self.old).kinds)
+            (flat_of self.old).equations → (i : ℕ) → (X : InputRows) → i < 64
+            → on live.0 i ≡ true → Stands self.old i X
+            → Stands self.new i (X ++ inputs_row inputs.now i ∷ []) }
+        ensures stays { (i : ℕ) → (X : InputRows) → i < 64 → on live.0 i ≡ false
+            → Stands self.old i X → Stands self.new i X }
+        ensures settled { (i : ℕ) → i < 64 → verdict_at self.old i ≢ Passed
+            → verdict_at self.new i ≡ verdict_at self.old i }
+        ensures active { IsPlaneOf (λ i. on live.0 i && is_passed (verdict_at self.new i))
+            self.new.active.0 }
+        ensures live { self.new.live ≡ live }
+        ensures steps { self.new.steps ≡ self.old.steps + 1 }
+        ensures program { self.new.program.now ≡ self.old.program.now }
+    {
+        let passed = advance(
+            self.program,
+            inputs,
+            self.planes.as_mut_slice(),
+            self.words.as_mut_slice(),
+            self.verdicts.as_mut_slice(),
+            self.active,
+            live,
+            self.steps,
+        );
+        self.live = live;
+        self.active = passed;
+        self.steps += 1;
+    }
+
+    /// The lanes that were live in the last step and have passed so far; before any step, all of
+    /// them.
+    pub fn active(&self) -> Plane
+        ensures { result ≡ self.now.active }
+    {
+        self.active
+    }
+
+    /// The verdict of a lane over the instants so far.
+    pub fn verdict(&self, lane: u32) -> Verdict
+        requires { lane < 64 }
+        ensures { result ≡ verdict_at self.now lane }
+    {
+        self.verdicts[lane as usize]
+    }
+}

@@ -1,0 +1,112 @@
+//! The inputs of an instant, lane by lane.
+
+ghost use Rattle.std.specs.Prelude.{◌≡◌, ℕ, ◌<◌, ◌≤◌, ◌+◌, true, length, map, All, get_or, IfOk};
+ghost use Rattle.std.specs.Prelude.{[], slice_index, slice_index_or};
+ghost use Rattle.lb_static.specs.Signature.{kinds_of};
+ghost use Rattle.lb_flat.specs.Inputs.{inputs_of};
+ghost use Rattle.lb_lanes.specs.Kernels.{AreInts};
+ghost use Rattle.lb_lanes.specs.Planes.{on};
+ghost use Rattle.lb_machine.specs.Meaning.{lane_at};
+ghost use Rattle.lb_sim.specs.InputRows.{HaveInstant, places_of, zero_of};
+ghost use Rattle.lb_sim.specs.Showing.{value_at};
+
+use crate::columns::Columns;
+use crate::lane_bits::{copy_planes, copy_words, zeros};
+use crate::loads::{Instant, load_numbers, load_truths};
+use lb_flat::program::FlatProgram;
+use lb_flat::traces::TraceSet;
+use lb_lanes::{IntLanes, Plane};
+use lb_syntax::tree::Kind;
+use std::alloc::{AllocError, Global};
+
+/// A row of inputs for each lane: a plane for each Boolean of the signature, and a word for each
+/// integer, in its order.
+#[derive(Drop)]
+pub struct Inputs {
+    pub columns: Columns,
+    pub planes: Vec<u64>,
+    pub words: Vec<IntLanes>,
+    /// The Booleans of each lane, a word for 64 of them; see `loads`.
+    pub rows: Vec<u64>,
+    pub ghost planes_room: { length planes.items ≡ length columns.truths.items },
+    pub ghost words_room: { length words.items ≡ length columns.numbers.items },
+    pub ghost rows_room: { length columns.truths.items + 63 ≤ length rows.items },
+    pub ghost ints: { All AreInts words.items },
+}
+
+impl Inputs {
+    ghost use Rattle.lb_sim.specs.Inputs.{inputs_row};
+
+    /// Rows of 0 and false, of the inputs of a program.
+    pub fn new(alloc: Global, program: &FlatProgram) -> Result<Inputs, AllocError>
+        ensures kinds { IfOk result (λ x. x.columns.kinds.items ≡ program.now.inputs.items) }
+        ensures zero { IfOk result (λ x. (i : ℕ) → i < 64
+            → inputs_row x i ≡ map zero_of program.now.inputs.items) }
+    {
+        Inputs::of_kinds(alloc, program.inputs.as_slice())
+    }
+
+    // Rows of 0 and false, of these kinds.
+    pub(crate) fn of_kinds(alloc: Global, kinds: &[Kind]) -> Result<Inputs, AllocError>
+        ensures kinds { IfOk result (λ x. x.columns.kinds.items ≡ kinds.now) }
+        ensures zero { IfOk result (λ x.
+            (i : ℕ) → i < 64 → inputs_row x i ≡ map zero_of kinds.now) }
+    {
+        let columns = Columns::new(alloc, kinds)?;
+        let planes = vec![in alloc; 0u64; columns.truths.len()]?;
+        let words = zeros(alloc, columns.numbers.len())?;
+        let rows = vec![in alloc; 0u64; columns.truths.len() + 63]?;
+        Ok(Inputs {
+            columns,
+            planes,
+            words,
+            rows,
+        })
+    }
+
+    /// The cells of instant `t`: those of trace `members[i]` in each lane i that is live.
+    pub fn load(&mut self, set: &TraceSet, members: &[u32], t: u32, live: Plane)
+        requires kinds { kinds_of set.now.signature ≡ self.old.columns.kinds.items }
+        requires members { All (λ k. k < length set.now.traces) members.now }
+        requires few { length members.now ≤ 64 }
+        requires live { HaveInstant set.now members.now t live.0 }
+        ensures rows { (i : ℕ) → i < 64 → on live.0 i ≡ true
+            → inputs_row self.new i ≡ get_or (inputs_of set.now (get_or members.now i 0)) t [] }
+        ensures kinds { self.new.columns ≡ self.old.columns }
+    {
+        let _ = set.signature();
+        let at = Instant {
+            set,
+            members,
+            t,
+            live,
+        };
+        let columns = &self.columns;
+        load_truths(&at, self.rows.as_mut_slice(), self.planes.as_mut_slice());
+        load_numbers(&at, columns.numbers.as_slice(), self.words.as_mut_slice());
+    }
+
+    // Copies the rows to where a lane program has its inputs: behind what is the same everywhere.
+    pub(crate) fn hand_over(&self, planes: &mut [u64], words: &mut [IntLanes])
+        requires planes_room { 2 + length self.now.planes.items ≤ length planes.old }
+        requires words_room { 1 + length self.now.words.items ≤ length words.old }
+        requires ints { All AreInts words.old }
+        ensures planes { length planes.new ≡ length planes.old }
+        ensures words { length words.new ≡ length words.old }
+        ensures ints { All AreInts words.new }
+        ensures rows { (i : ℕ) → i < 64
+            → map (value_at (lane_at planes.new words.new i))
+            (places_of 2 1 self.now.columns.kinds.items) ≡ inputs_row self.now i }
+        ensures first_planes { (k : ℕ) → k < 2
+            → slice_index planes.new k ≡ slice_index planes.old k }
+        ensures first_words { (k : ℕ) → k < 1
+            → slice_index_or words.new k [] ≡ slice_index_or words.old k [] }
+        ensures other_planes { (k : ℕ) → 2 + length self.now.planes.items ≤ k
+            → slice_index planes.new k ≡ slice_index planes.old k }
+        ensures other_words { (k : ℕ) → 1 + length self.now.words.items ≤ k
+            → slice_index_or words.new k [] ≡ slice_index_or words.old k [] }
+    {
+        copy_planes(planes, 2, self.planes.as_slice());
+        copy_words(words, 1, self.words.as_slice());
+    }
+}

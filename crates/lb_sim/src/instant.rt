@@ -1,0 +1,249 @@
+//! The parts of an instant of a batch: its start, the run of its code, what it decides, and the
+//! memories of the next instant.
+
+ghost use Rattle.std.specs.Prelude.{◌≡◌, ℕ, ◌<◌, ◌≤◌, not, ◌&&◌, [], length, All, get_or};
+ghost use Rattle.std.specs.Prelude.{nat_lt, pos, slice_index, slice_index_or, IsTrue};
+ghost use Rattle.std.specs.Prelude.{if◌then◌else◌};
+ghost use Rattle.lb_check.specs.declared.verdict.Verdict.TheVariants.{Passed};
+ghost use Rattle.lb_lanes.specs.Kernels.{AreInts, lane_of};
+ghost use Rattle.lb_lanes.specs.Operators.{is_int};
+ghost use Rattle.lb_lanes.specs.Planes.{IsPlaneOf, on};
+ghost use Rattle.lb_machine.specs.Meaning.{HasConstants, lane_at};
+ghost use Rattle.lb_sim.specs.Compiled.{HasConstantWords};
+ghost use Rattle.lb_sim.specs.Inputs.{inputs_row};
+ghost use Rattle.lb_sim.specs.LaneMoves.{IsMovedOn};
+ghost use Rattle.lb_sim.specs.LaneStates.{IsComputed, is_passed};
+ghost use Rattle.lb_sim.specs.States.{IsCarriedOver};
+ghost use Rattle.lb_sim.specs.Watching.{lane_judged};
+
+use crate::inputs::Inputs;
+use crate::lane_bits::{copy_planes, with_lane};
+use crate::place::Watched;
+use crate::program::LaneProgram;
+use lb_check::verdict::Verdict;
+use lb_lanes::{IntLanes, Plane};
+use lb_machine::{PlaneId, carry_planes, carry_words};
+
+// The first so many lanes.
+pub(crate) fn first_lanes(lanes: u32) -> Plane
+    requires few { lanes ≤ 64 }
+    ensures { IsPlaneOf (λ i. nat_lt i lanes) result.0 }
+{
+    let mut plane = 0u64;
+    for lane in 0..lanes {
+        plane = with_lane(plane, lane);
+    }
+    Plane(plane)
+}
+
+// Puts numbers into the first words, each in all lanes.
+fn put_start(words: &mut [IntLanes], start: &[i64])
+    requires room { length start.now ≤ length words.old }
+    requires ints { All AreInts words.old }
+    requires start { All (λ v. IsTrue (is_int v)) start.now }
+    ensures words { length words.new ≡ length words.old }
+    ensures ints { All AreInts words.new }
+    ensures put { (k i : ℕ) → k < length start.now → i < 64
+        → lane_of (slice_index_or words.new k []) i ≡ slice_index_or start.now k (pos 0) }
+{
+    for k in 0..start.len() {
+        words[k] = IntLanes::splat(start[k]);
+    }
+}
+
+// Puts what a program starts with into the first places of all lanes. The rest may hold anything.
+pub(crate) fn start(program: &LaneProgram, planes: &mut [u64], words: &mut [IntLanes])
+    requires planes { length planes.old ≡ program.now.code.planes }
+    requires words { length words.old ≡ program.now.code.words }
+    requires ints { All AreInts words.old }
+    ensures planes { length planes.new ≡ length planes.old }
+    ensures words { length words.new ≡ length words.old }
+    ensures ints { All AreInts words.new }
+    ensures first_planes { (k : ℕ) → k < program.now.code.first_plane
+        → slice_index planes.new k ≡ slice_index program.now.start_planes.items k }
+    ensures first_words { (k i : ℕ) → k < program.now.code.first_word → i < 64
+        → lane_of (slice_index_or words.new k []) i
+        ≡ slice_index_or program.now.start_words.items k (pos 0) }
+{
+    copy_planes(planes, 0, program.start_planes.as_slice());
+    put_start(words, program.start_words.as_slice());
+}
+
+// No lane has a verdict.
+pub(crate) fn pass_all(verdicts: &mut [Verdict])
+    ensures verdicts { length verdicts.new ≡ length verdicts.old }
+    ensures passed { (i : ℕ) → get_or verdicts.new i Passed ≡ Passed }
+{
+    for i in 0..verdicts.len() {
+        verdicts[i] = Verdict::Passed;
+    }
+}
+
+// Hands the inputs of an instant over, and runs the code.
+fn compute(program: &LaneProgram, inputs: &Inputs, planes: &mut [u64], words: &mut [IntLanes])
+    requires planes { length planes.old ≡ program.now.code.planes }
+    requires words { length words.old ≡ program.now.code.words }
+    requires ints { All AreInts words.old }
+    requires signature { inputs.now.columns.kinds.items ≡ program.now.program.now.inputs.items }
+    requires constants { (i : ℕ) → i < 64 → HasConstants (lane_at planes.old words.old i) }
+    requires constant_words { (i : ℕ) → i < 64 → HasConstantWords program.now.constant_word
+        program.now.memory_word program.now.start_words.items
+        (lane_at planes.old words.old i) }
+    ensures planes { length planes.new ≡ length planes.old }
+    ensures words { length words.new ≡ length words.old }
+    ensures ints { All AreInts words.new }
+    ensures computed { (i : ℕ) → i < 64 → IsComputed program.now (inputs_row inputs.now i)
+        (lane_at planes.old words.old i) (lane_at planes.new words.new i) }
+{
+    inputs.hand_over(planes, words);
+    program.code.run(planes, words);
+}
+
+// Whether a plane has a lane.
+fn has(planes: &[u64], p: PlaneId, lane: u32) -> bool
+    requires within { p.0 < length planes.now }
+    requires lane { lane < 64 }
+    ensures { result ≡ on (slice_index planes.now p.0) lane }
+{
+    Plane(planes[p.0 as usize]).get(lane)
+}
+
+// What a lane decides at an instant.
+fn decided(planes: &[u64], watched: Watched, lane: u32, t: u32) -> Verdict
+    requires faults { watched.faults.0 < length planes.now }
+    requires undefined { watched.undefined.0 < length planes.now }
+    requires failed { watched.failed.0 < length planes.now }
+    requires violated { watched.violated.0 < length planes.now }
+    requires lane { lane < 64 }
+    ensures { result ≡ lane_judged watched t (lane_at planes.now [] lane) }
+{
+    if has(planes, watched.faults, lane) {
+        Verdict::Fault(t)
+    } else if has(planes, watched.undefined, lane) {
+        Verdict::Undefined(t)
+    } else if has(planes, watched.failed, lane) {
+        Verdict::Assertion(t)
+    } else if has(planes, watched.violated, lane) {
+        Verdict::False(t)
+    } else {
+        Verdict::Passed
+    }
+}
+
+// The lanes that pass the instant, of those that take part in it.
+fn passing(planes: &[u64], watched: Watched, going: Plane) -> Plane
+    requires faults { watched.faults.0 < length planes.now }
+    requires undefined { watched.undefined.0 < length planes.now }
+    requires failed { watched.failed.0 < length planes.now }
+    requires violated { watched.violated.0 < length planes.now }
+    ensures { (t : ℕ) → IsPlaneOf (λ i. on going.0 i
+        && is_passed (lane_judged watched t (lane_at planes.now [] i))) result.0 }
+{
+    let faults = Plane(planes[watched.faults.0 as usize]);
+    let undefined = Plane(planes[watched.undefined.0 as usize]);
+    let failed = Plane(planes[watched.failed.0 as usize]);
+    let violated = Plane(planes[watched.violated.0 as usize]);
+    going.and(faults.or(undefined).or(failed.or(violated)).not())
+}
+
+// Puts the verdicts of the lanes that an instant decides.
+fn settle(verdicts: &mut [Verdict], planes: &[u64], watched: Watched, lanes: Plane, t: u32)
+    requires verdicts { length verdicts.old ≡ 64 }
+    requires faults { watched.faults.0 < length planes.now }
+    requires undefined { watched.undefined.0 < length planes.now }
+    requires failed { watched.failed.0 < length planes.now }
+    requires violated { watched.violated.0 < length planes.now }
+    ensures verdicts { length verdicts.new ≡ 64 }
+    ensures put { (i : ℕ) → i < 64 → get_or verdicts.new i Passed
+        ≡ (if on lanes.0 i then lane_judged watched t (lane_at planes.now [] i)
+        else get_or verdicts.old i Passed) }
+{
+    for lane in 0..64u32 {
+        if lanes.get(lane) {
+            verdicts[lane as usize] = decided(planes, watched, lane, t);
+        }
+    }
+}
+
+// The lanes that pass the instant, of those that take part in it; the others of these get their
+// verdicts.
+fn judge(
+    program: &LaneProgram,
+    planes: &[u64],
+    verdicts: &mut [Verdict],
+    going: Plane,
+    t: u32,
+) -> Plane
+    requires planes { length planes.now ≡ program.now.code.planes }
+    requires verdicts { length verdicts.old ≡ 64 }
+    ensures verdicts { length verdicts.new ≡ 64 }
+    ensures passed { IsPlaneOf (λ i. on going.0 i
+        && is_passed (lane_judged program.now.watched t (lane_at planes.now [] i))) result.0 }
+    ensures put { (i : ℕ) → i < 64 → get_or verdicts.new i Passed
+        ≡ (if on going.0 i && not (on result.0 i)
+        then lane_judged program.now.watched t (lane_at planes.now [] i)
+        else get_or verdicts.old i Passed) }
+{
+    let passed = passing(planes, program.watched, going);
+    let decided = going.and(passed.not());
+    if decided.0 != 0 {
+        settle(verdicts, planes, program.watched, decided, t);
+    }
+    passed
+}
+
+// The memories take over what the instant gives them.
+fn commit(program: &LaneProgram, planes: &mut [u64], words: &mut [IntLanes])
+    requires planes { length planes.old ≡ program.now.code.planes }
+    requires words { length words.old ≡ program.now.code.words }
+    requires ints { All AreInts words.old }
+    ensures planes { length planes.new ≡ length planes.old }
+    ensures words { length words.new ≡ length words.old }
+    ensures ints { All AreInts words.new }
+    ensures carried { (i : ℕ) → IsCarriedOver program.now.memory_plane program.now.memory_word
+        program.now.plane_sources.items program.now.word_sources.items
+        (lane_at planes.old words.old i) (lane_at planes.new words.new i) }
+{
+    carry_planes(
+        planes,
+        program.memory_plane,
+        program.plane_sources.as_slice(),
+    );
+    carry_words(words, program.memory_word, program.word_sources.as_slice());
+}
+
+// An instant of the lanes that are live. Gives those of them that were active and pass it.
+pub(crate) fn advance(
+    program: &LaneProgram,
+    inputs: &Inputs,
+    planes: &mut [u64],
+    words: &mut [IntLanes],
+    verdicts: &mut [Verdict],
+    active: Plane,
+    live: Plane,
+    t: u32,
+) -> Plane
+    requires planes { length planes.old ≡ program.now.code.planes }
+    requires words { length words.old ≡ program.now.code.words }
+    requires ints { All AreInts words.old }
+    requires verdicts { length verdicts.old ≡ 64 }
+    requires signature { inputs.now.columns.kinds.items ≡ program.now.program.now.inputs.items }
+    requires constants { (i : ℕ) → i < 64 → HasConstants (lane_at planes.old words.old i) }
+    requires constant_words { (i : ℕ) → i < 64 → HasConstantWords program.now.constant_word
+        program.now.memory_word program.now.start_words.items
+        (lane_at planes.old words.old i) }
+    ensures planes { length planes.new ≡ length planes.old }
+    ensures words { length words.new ≡ length words.old }
+    ensures ints { All AreInts words.new }
+    ensures verdicts { length verdicts.new ≡ 64 }
+    ensures moved { (i : ℕ) → i < 64 → IsMovedOn program.now (inputs_row inputs.now i)
+        (lane_at planes.old words.old i) (lane_at planes.new words.new i)
+        (get_or verdicts.old i Passed) (get_or verdicts.new i Passed)
+        (on active.0 i) (on live.0 i) (on result.0 i) t }
+{
+    compute(program, inputs, planes, words);
+    let going = active.and(live);
+    let passed = judge(program, planes, verdicts, going, t);
+    commit(program, planes, words);
+    passed
+}

@@ -1,0 +1,166 @@
+//! Planes and words, lane by lane.
+
+ghost use Rattle.std.specs.Prelude.{◌≡◌, ◌≢◌, ℕ, ◌<◌, ◌≤◌, ◌+◌, ◌*◌, ◌==◌, ◌||◌};
+ghost use Rattle.std.specs.Prelude.{length, IsTrue};
+ghost use Rattle.std.specs.Prelude.{slice_index, slice_index_or, get_or, [], pos, All, IfOk};
+ghost use Rattle.lb_lanes.specs.Kernels.{AreInts, lane_of};
+ghost use Rattle.lb_lanes.specs.Operators.{is_int};
+ghost use Rattle.lb_lanes.specs.Planes.{on};
+ghost use Rattle.lb_sim.specs.InputRows.{AreZero};
+
+use lb_lanes::{IntLanes, transpose};
+use std::alloc::{AllocError, Global};
+
+/// The plane with one more lane.
+pub(crate) fn with_lane(plane: u64, lane: u32) -> u64
+    requires { lane < 64 }
+    ensures { (i : ℕ) → i < 64 → on result i ≡ ((i == lane) || on plane i) }
+{
+    plane | (1u64 << lane)
+}
+
+// The cell of a row in one of some columns.
+fn cell_in(cells: &[i32], columns: &[u32], c: usize) -> i32
+    requires column { c < length columns.now }
+    requires columns { All (λ j. j < length cells.now) columns.now }
+    ensures { result ≡ get_or cells.now (get_or columns.now c 0) (pos 0) }
+{
+    cells[columns[c] as usize]
+}
+
+// The integer of a row in one of some columns.
+fn integer_of(cells: &[i32], columns: &[u32], c: usize) -> i64
+    requires column { c < length columns.now }
+    requires columns { All (λ j. j < length cells.now) columns.now }
+    ensures value { result ≡ get_or cells.now (get_or columns.now c 0) (pos 0) }
+    ensures in_range { IsTrue (is_int result) }
+{
+    i64::from(cell_in(cells, columns, c))
+}
+
+/// How many words the bits of so many columns take.
+pub(crate) fn groups_of(columns: usize) -> usize
+    ensures all { columns ≤ 64 * result }
+    ensures some { (g : ℕ) → g < result → 64 * g < columns }
+{
+    let full = columns / 64;
+    if 64 * full < columns { full + 1 } else { full }
+}
+
+/// How many of so many columns have their bits in word `g`.
+pub(crate) fn size_of_group(columns: usize, g: usize) -> usize
+    requires { 64 * g ≤ columns }
+    ensures few { result ≤ 64 }
+    ensures within { 64 * g + result ≤ columns }
+    ensures all { (c : ℕ) → c < 64 → 64 * g + c < columns → c < result }
+{
+    let rest = columns - 64 * g;
+    if rest < 64 { rest } else { 64 }
+}
+
+// 64 words that lie side by side.
+fn words_from(rows: &[u64], first: usize) -> [u64; 64]
+    requires { first + 64 ≤ length rows.now }
+    ensures { (i : ℕ) → i < 64 → slice_index result i ≡ slice_index rows.now (first + i) }
+{
+    let mut words = [0u64; 64];
+    words.copy_from_slice(&rows[first..first + 64]);
+    words
+}
+
+/// Turns the 64 words from one on, a lane each, into the planes from the same place on.
+pub(crate) fn turn_group(rows: &[u64], first: usize, planes: &mut [u64], count: usize)
+    requires few { count ≤ 64 }
+    requires rows { first + 64 ≤ length rows.now }
+    requires room { first + count ≤ length planes.old }
+    ensures planes { length planes.new ≡ length planes.old }
+    ensures put { (c i : ℕ) → c < count → i < 64
+        → on (slice_index planes.new (first + c)) i ≡ on (slice_index rows.now (first + i)) c }
+    ensures below { (k : ℕ) → k < first → slice_index planes.new k ≡ slice_index planes.old k }
+{
+    let mut words = words_from(rows, first);
+    transpose(&mut words);
+    put_planes(planes, first, &words, count);
+}
+
+// Copies the first words to planes that lie side by side.
+fn put_planes(planes: &mut [u64], first: usize, words: &[u64; 64], count: usize)
+    requires few { count ≤ 64 }
+    requires room { first + count ≤ length planes.old }
+    ensures planes { length planes.new ≡ length planes.old }
+    ensures put { (c : ℕ) → c < count
+        → slice_index planes.new (first + c) ≡ slice_index words.now c }
+    ensures below { (k : ℕ) → k < first → slice_index planes.new k ≡ slice_index planes.old k }
+    ensures above { (k : ℕ) → first + count ≤ k
+        → slice_index planes.new k ≡ slice_index planes.old k }
+{
+    for c in 0..count {
+        planes[first + c] = words[c];
+    }
+}
+
+/// Puts the integers of some columns of a row into a lane of words.
+pub(crate) fn put_numbers(words: &mut [IntLanes], columns: &[u32], lane: u32, cells: &[i32])
+    requires lane { lane < 64 }
+    requires room { length words.old ≡ length columns.now }
+    requires columns { All (λ j. j < length cells.now) columns.now }
+    requires ints { All AreInts words.old }
+    ensures words { length words.new ≡ length words.old }
+    ensures ints { All AreInts words.new }
+    ensures put { (w : ℕ) → w < length columns.now
+        → lane_of (slice_index_or words.new w []) lane
+        ≡ get_or cells.now (get_or columns.now w 0) (pos 0) }
+    ensures others { (w i : ℕ) → w < length columns.now → i < 64 → i ≢ lane
+        → lane_of (slice_index_or words.new w []) i ≡ lane_of (slice_index_or words.old w []) i }
+{
+    for w in 0..columns.len() {
+        let cell = integer_of(cells, columns, w);
+        words[w].set(lane, cell);
+    }
+}
+
+/// Words that are 0 in each lane.
+pub(crate) fn zeros(alloc: Global, count: usize) -> Result<Vec<IntLanes>, AllocError>
+    ensures count { IfOk result (λ words. length words.items ≡ count) }
+    ensures zero { IfOk result (λ words. AreZero words.items) }
+{
+    let mut words = Vec::new(alloc);
+    for _ in 0..count {
+        words.push(IntLanes::splat(0))?;
+    }
+    Ok(words)
+}
+
+/// Copies planes to places that lie side by side.
+pub(crate) fn copy_planes(planes: &mut [u64], first: usize, from: &[u64])
+    requires room { first + length from.now ≤ length planes.old }
+    ensures planes { length planes.new ≡ length planes.old }
+    ensures put { (c : ℕ) → c < length from.now
+        → slice_index planes.new (first + c) ≡ slice_index from.now c }
+    ensures below { (k : ℕ) → k < first → slice_index planes.new k ≡ slice_index planes.old k }
+    ensures above { (k : ℕ) → first + length from.now ≤ k
+        → slice_index planes.new k ≡ slice_index planes.old k }
+{
+    for c in 0..from.len() {
+        planes[first + c] = from[c];
+    }
+}
+
+/// Copies words to places that lie side by side.
+pub(crate) fn copy_words(words: &mut [IntLanes], first: usize, from: &[IntLanes])
+    requires room { first + length from.now ≤ length words.old }
+    requires ints { All AreInts words.old }
+    requires from { All AreInts from.now }
+    ensures words { length words.new ≡ length words.old }
+    ensures ints { All AreInts words.new }
+    ensures put { (c : ℕ) → c < length from.now
+        → slice_index_or words.new (first + c) [] ≡ slice_index_or from.now c [] }
+    ensures below { (k : ℕ) → k < first
+        → slice_index_or words.new k [] ≡ slice_index_or words.old k [] }
+    ensures above { (k : ℕ) → first + length from.now ≤ k
+        → slice_index_or words.new k [] ≡ slice_index_or words.old k [] }
+{
+    for c in 0..from.len() {
+        words[first + c].copy_from(&from[c]);
+    }
+}

@@ -1,0 +1,28 @@
+//! What the lanes of a run say of a program.
+
+ghost use Rattle.std.specs.Prelude.{◌≡◌, ℕ, ◌++◌, ◌∷◌, [], true, List};
+ghost use Rattle.lb_static.specs.Instances.{Program};
+ghost use Rattle.lb_check.specs.Scalars.{Scalar};
+ghost use Rattle.lb_check.specs.Solutions.{Inputs as InputRows};
+ghost use Rattle.lb_flat.specs.FlatPrograms.{IsFlatOf};
+ghost use Rattle.lb_flat.specs.Flattening.{IsTrace};
+ghost use Rattle.lb_lanes.specs.Planes.{on};
+ghost use Rattle.lb_sim.specs.BatchLaws.{KeepsMemories, StandsForTrace};
+ghost use Rattle.lb_sim.specs.BatchRuns.{Stands, flat_of};
+ghost use Rattle.lb_sim.specs.declared.batch_run.BatchRun.{BatchRun};
+
+/// A lane that stands for a trace of a flat program stands for it in the terms of each program that
+/// the flat one is of: its verdict is the one of the trace, and while it is active its memories are
+/// those of the one history that solves the program. This is a law, and computes nothing.
+pub fn lanes_stand_for_traces()
+    ensures { (P : Program) → (r : BatchRun) → (flat : IsFlatOf P (flat_of r)) → (i : ℕ)
+        → (X : InputRows) → IsTrace P X → Stands r i X → StandsForTrace P r flat i X }
+{}
+
+/// In a lane that is active, a memory whose clock does not tick keeps its value. This is a law, and
+/// computes nothing.
+pub fn memories_wait_for_their_clock()
+    ensures { (r s : BatchRun) → s.program.now ≡ r.program.now → (i : ℕ) → (X : InputRows)
+        → (given : List Scalar) → Stands r i X → Stands s i (X ++ given ∷ [])
+        → on r.active.0 i ≡ true → on s.active.0 i ≡ true → KeepsMemories r s i X given }
+{}

@@ -1,0 +1,106 @@
+//! The tables of what constants hold and of where memories stand, for all equations of a program.
+
+ghost use Rattle.std.specs.Prelude.{◌≡◌, ℕ, true, false, [], length, get_or, replicate, IfOk, OnOk};
+ghost use Rattle.lb_syntax.specs.Lists.{In};
+ghost use Rattle.lb_flat.specs.Judging.{named_elements};
+ghost use Rattle.lb_flat.specs.Programs.{flat_equations, program_of, IsInRange};
+ghost use Rattle.lb_flat.specs.Run.{Ready};
+ghost use Rattle.lb_sim.specs.Presets.{AreConstants, AreMemories, IsMore};
+ghost use Rattle.lb_sim.specs.States.{no_holding};
+
+use crate::allot::{NOTHING, constant, first_memory, watched_elements};
+use crate::place::Holding;
+use crate::preset::Preset;
+use lb_flat::program::FlatProgram;
+use std::alloc::{AllocError, Global};
+
+// Fills a table with what elements hold that are constants.
+fn fill_constants(
+    table: &mut [Holding],
+    preset: &mut Preset,
+    program: &FlatProgram,
+) -> Result<(), AllocError>
+    requires in_range { IsInRange program.now }
+    requires in_order { Ready program.now.size []
+        (flat_equations program.now.clocks.items program.now.equations.items) }
+    requires none { table.old ≡ replicate program.now.size no_holding }
+    ensures more { OnOk result (IsMore preset.old preset.new) }
+    ensures planes { OnOk result (preset.new.planes.items ≡ preset.old.planes.items) }
+    ensures table { OnOk result (AreConstants (program_of program.now)
+        (length preset.old.words.items) (length preset.new.words.items) preset.new.words.items
+        table.new) }
+{
+    for i in 0..program.equations.len() {
+        let q = program.equations[i];
+        let kind = program.kinds[q.element.0 as usize];
+        let held = constant(preset, &q.operation, kind)?;
+        table[q.element.0 as usize] = held;
+    }
+    Ok(())
+}
+
+/// What elements hold that are constants.
+pub(crate) fn constants(
+    alloc: Global,
+    preset: &mut Preset,
+    program: &FlatProgram,
+) -> Result<Vec<Holding>, AllocError>
+    requires in_range { IsInRange program.now }
+    requires in_order { Ready program.now.size []
+        (flat_equations program.now.clocks.items program.now.equations.items) }
+    ensures more { OnOk result (IsMore preset.old preset.new) }
+    ensures planes { OnOk result (preset.new.planes.items ≡ preset.old.planes.items) }
+    ensures table { IfOk result (λ table. AreConstants (program_of program.now)
+        (length preset.old.words.items) (length preset.new.words.items) preset.new.words.items
+        table.items) }
+{
+    let mut table = vec![in alloc; NOTHING; program.size as usize]?;
+    fill_constants(table.as_mut_slice(), preset, program)?;
+    Ok(table)
+}
+
+// Fills a table with where the memories of elements stand.
+fn fill_memories(
+    table: &mut [Holding],
+    preset: &mut Preset,
+    program: &FlatProgram,
+    watched: &[bool],
+) -> Result<(), AllocError>
+    requires in_range { IsInRange program.now }
+    requires in_order { Ready program.now.size []
+        (flat_equations program.now.clocks.items program.now.equations.items) }
+    requires none { table.old ≡ replicate program.now.size no_holding }
+    requires marks { length watched.now ≡ program.now.size }
+    requires named { (a : ℕ) → get_or watched.now a false ≡ true
+        → In a (named_elements (program_of program.now)) }
+    ensures more { OnOk result (IsMore preset.old preset.new) }
+    ensures table { OnOk result (AreMemories (program_of program.now)
+        (length preset.old.planes.items) (length preset.old.words.items) preset.new table.new) }
+{
+    for i in 0..program.equations.len() {
+        let q = program.equations[i];
+        let kind = program.kinds[q.element.0 as usize];
+        let home = first_memory(preset, &q.operation, kind, watched)?;
+        table[q.element.0 as usize] = home;
+    }
+    Ok(())
+}
+
+/// Where the memories of elements stand, side by side in the order of the equations.
+pub(crate) fn memories(
+    alloc: Global,
+    preset: &mut Preset,
+    program: &FlatProgram,
+) -> Result<Vec<Holding>, AllocError>
+    requires in_range { IsInRange program.now }
+    requires in_order { Ready program.now.size []
+        (flat_equations program.now.clocks.items program.now.equations.items) }
+    ensures more { OnOk result (IsMore preset.old preset.new) }
+    ensures table { IfOk result (λ table. AreMemories (program_of program.now)
+        (length preset.old.planes.items) (length preset.old.words.items) preset.new table.items) }
+{
+    let watched = watched_elements(alloc, program)?;
+    let mut table = vec![in alloc; NOTHING; program.size as usize]?;
+    fill_memories(table.as_mut_slice(), preset, program, watched.as_slice())?;
+    Ok(table)
+}

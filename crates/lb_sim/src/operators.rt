@@ -1,0 +1,113 @@
+//! Operators of the language on what places hold.
+
+ghost use Rattle.std.specs.Prelude.{◌≡◌, ◌<◌, Some, IfOk, OnOk};
+ghost use Rattle.lb_syntax.specs.declared.tree.Kind.{Kind};
+ghost use Rattle.lb_check.specs.Scalars.{one_scalar, two_integers, two_scalars};
+ghost use Rattle.lb_flat.specs.Fitting.{binary_kind, integers_kind, unary_kind};
+ghost use Rattle.lb_machine.specs.Growing.{IsGrown};
+ghost use Rattle.lb_sim.specs.Holdings.{IsFor, IsIn};
+ghost use Rattle.lb_sim.specs.Showing.{kind_of, scalar_at, shown};
+ghost use Rattle.lb_sim.specs.declared.place.Value.TheVariants.{Truth};
+
+use crate::numbers::{arithmetic, negated};
+use crate::place::{Holding, Value};
+use crate::truths::{compared, not_plane, two_truths};
+use lb_lanes::IntOperator;
+use lb_machine::{Code, PlaneId, PlaneOperator, WordId};
+use lb_syntax::tree::{BinaryOperator, UnaryOperator};
+use std::alloc::AllocError;
+
+// A truth value that is nil and a fault where its operands are.
+fn truth(value: PlaneId, nil: PlaneId, bad: PlaneId) -> Holding
+    ensures { result ≡ record { value = Truth value; nil = nil; bad = bad } }
+{
+    Holding {
+        value: Value::Truth(value),
+        nil,
+        bad,
+    }
+}
+
+// An operator on two integers.
+#[tactic(auto, using(crate::proofs::Growth::grown_then, crate::proofs::Growth::grown_none))]
+fn integers(
+    code: &mut Code,
+    op: BinaryOperator,
+    a: WordId,
+    b: WordId,
+    nil: PlaneId,
+    bad: PlaneId,
+) -> Result<Holding, AllocError>
+    requires left { a.0 < code.old.words }
+    requires right { b.0 < code.old.words }
+    requires nil { nil.0 < code.old.planes }
+    requires bad { bad.0 < code.old.planes }
+    ensures grown { OnOk result (IsGrown code.old code.new) }
+    ensures within { IfOk result (IsIn code.new) }
+    ensures holding { IfOk result (λ h. (kind : Kind) → integers_kind op ≡ Some kind →
+        IsFor code.new kind (λ s.
+        shown (s.bits bad.0) (s.bits nil.0) (two_integers op (s.ints a.0) (s.ints b.0))) h) }
+{
+    match op {
+        BinaryOperator::Plus => Ok(arithmetic(code, IntOperator::Add, a, b, nil, bad)?),
+        BinaryOperator::Minus => Ok(arithmetic(code, IntOperator::Sub, a, b, nil, bad)?),
+        BinaryOperator::Times => Ok(arithmetic(code, IntOperator::Mul, a, b, nil, bad)?),
+        BinaryOperator::Divide => Ok(arithmetic(code, IntOperator::Div, a, b, nil, bad)?),
+        BinaryOperator::Modulo => Ok(arithmetic(code, IntOperator::Rem, a, b, nil, bad)?),
+        _ => {
+            let value = compared(code, op, a, b)?;
+            Ok(truth(value, nil, bad))
+        }
+    }
+}
+
+/// An operator with two operands, of kinds that it takes.
+#[tactic(auto, using(crate::proofs::Growth::grown_then, crate::proofs::Growth::grown_none))]
+pub(crate) fn two_holdings(
+    code: &mut Code,
+    op: BinaryOperator,
+    a: Holding,
+    b: Holding,
+) -> Result<Holding, AllocError>
+    requires left { IsIn code.old a }
+    requires right { IsIn code.old b }
+    ensures grown { OnOk result (IsGrown code.old code.new) }
+    ensures within { IfOk result (IsIn code.new) }
+    ensures holding { IfOk result (λ h. (kind : Kind) →
+        binary_kind op (kind_of a) (kind_of b) ≡ Some kind →
+        IsFor code.new kind (λ s. two_scalars op (scalar_at s a) (scalar_at s b)) h) }
+{
+    let nil = code.combine(PlaneOperator::Or, a.nil, b.nil)?;
+    let bad = code.combine(PlaneOperator::Or, a.bad, b.bad)?;
+    match (a.value, b.value) {
+        (Value::Truth(x), Value::Truth(y)) => {
+            let value = two_truths(code, op, x, y)?;
+            Ok(truth(value, nil, bad))
+        }
+        (Value::Number(x), Value::Number(y)) => Ok(integers(code, op, x, y, nil, bad)?),
+        _ => Ok(a),
+    }
+}
+
+/// An operator with one operand, of a kind that it takes.
+#[tactic(auto, using(crate::proofs::Growth::grown_then, crate::proofs::Growth::grown_none))]
+pub(crate) fn one_holding(
+    code: &mut Code,
+    op: UnaryOperator,
+    a: Holding,
+) -> Result<Holding, AllocError>
+    requires { IsIn code.old a }
+    ensures grown { OnOk result (IsGrown code.old code.new) }
+    ensures within { IfOk result (IsIn code.new) }
+    ensures holding { IfOk result (λ h. (kind : Kind) → unary_kind op (kind_of a) ≡ Some kind →
+        IsFor code.new kind (λ s. one_scalar op (scalar_at s a)) h) }
+{
+    match (op, a.value) {
+        (UnaryOperator::Not, Value::Truth(x)) => {
+            let value = not_plane(code, x)?;
+            Ok(truth(value, a.nil, a.bad))
+        }
+        (UnaryOperator::Negate, Value::Number(x)) => { Ok(negated(code, x, a.nil, a.bad)?) }
+        _ => Ok(a),
+    }
+}

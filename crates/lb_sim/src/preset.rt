@@ -1,0 +1,78 @@
+//! The planes and words that are there before the code runs.
+
+ghost use Rattle.std.specs.Prelude.{◌≡◌, ℕ, ◌+◌, ◌<◌, ◌≤◌, pos, length, All, IfOk, OnOk, IsTrue};
+ghost use Rattle.std.specs.Prelude.{slice_index, slice_index_or};
+ghost use Rattle.lb_lanes.specs.Operators.{is_int};
+ghost use Rattle.lb_lanes.specs.Planes.{on};
+
+use lb_machine::{PlaneId, WordId};
+use std::alloc::{AllocError, Global};
+
+/// What they hold before the first instant, in all lanes alike: the first plane is false, the second
+/// is true, and the first word is 0.
+#[derive(Drop)]
+pub(crate) struct Preset {
+    pub(crate) planes: Vec<u64>,
+    pub(crate) words: Vec<i64>,
+    pub(crate) ghost nowhere: { slice_index planes.items 0 ≡ 0 },
+    pub(crate) ghost everywhere: { slice_index planes.items 1 ≡ 18446744073709551615 },
+    pub(crate) ghost zero: { slice_index_or words.items 0 (pos 0) ≡ pos 0 },
+    pub(crate) ghost two_planes: { 2 ≤ length planes.items },
+    pub(crate) ghost one_word: { 1 ≤ length words.items },
+    pub(crate) ghost few_planes: { length planes.items ≤ 4294967295 },
+    pub(crate) ghost few_words: { length words.items ≤ 4294967295 },
+    pub(crate) ghost ints: { All (λ v. IsTrue (is_int v)) words.items },
+}
+
+impl Preset {
+    ghost use Rattle.lb_sim.specs.Presets.{IsMore};
+
+    /// The plane that is false everywhere, the one that is true everywhere, and the word 0.
+    pub(crate) fn new(alloc: Global) -> Result<Preset, AllocError>
+        ensures planes { IfOk result (λ p. length p.planes.items ≡ 2) }
+        ensures words { IfOk result (λ p. length p.words.items ≡ 1) }
+    {
+        let mut planes = Vec::new(alloc);
+        planes.push(0u64)?;
+        planes.push(u64::MAX)?;
+        let mut words = Vec::new(alloc);
+        words.push(0i64)?;
+        Ok(Preset { planes, words })
+    }
+
+    /// One more plane. More than numbers go is more than any memory holds.
+    pub(crate) fn plane(&mut self, value: bool) -> Result<PlaneId, AllocError>
+        ensures more { OnOk result (IsMore self.old self.new) }
+        ensures place { IfOk result (λ p. p.0 ≡ length self.old.planes.items) }
+        ensures planes { OnOk result (length self.new.planes.items
+            ≡ length self.old.planes.items + 1) }
+        ensures words { self.new.words.items ≡ self.old.words.items }
+        ensures value { IfOk result (λ p. (i : ℕ) → i < 64
+            → on (slice_index self.new.planes.items p.0) i ≡ value) }
+    {
+        let id = self.planes.len();
+        if id >= u32::MAX as usize {
+            return Err(AllocError);
+        }
+        self.planes.push(if value { u64::MAX } else { 0 })?;
+        Ok(PlaneId(id as u32))
+    }
+
+    /// One more word.
+    pub(crate) fn word(&mut self, value: i32) -> Result<WordId, AllocError>
+        ensures more { OnOk result (IsMore self.old self.new) }
+        ensures place { IfOk result (λ w. w.0 ≡ length self.old.words.items) }
+        ensures planes { self.new.planes.items ≡ self.old.planes.items }
+        ensures words { OnOk result (length self.new.words.items
+            ≡ length self.old.words.items + 1) }
+        ensures value { IfOk result (λ w.
+            slice_index_or self.new.words.items w.0 (pos 0) ≡ value) }
+    {
+        let id = self.words.len();
+        if id >= u32::MAX as usize {
+            return Err(AllocError);
+        }
+        self.words.push(i64::from(value))?;
+        Ok(WordId(id as u32))
+    }
+}

@@ -1,0 +1,81 @@
+//! The lanes of a batch whose traces have an instant.
+
+ghost use Rattle.std.specs.Prelude.{◌≡◌, ℕ, ◌<◌, ◌≤◌, ◌==◌, ◌&&◌, ◌||◌, length};
+ghost use Rattle.std.specs.Prelude.{All, nat_lt};
+ghost use Rattle.lb_lanes.specs.Planes.{on};
+ghost use Rattle.lb_sim.specs.BatchLanes.{length_in, AreOn, AreRunning};
+
+use crate::lane_bits::with_lane;
+use lb_flat::traces::TraceSet;
+
+/// Some lanes, and up to which instant they are the ones whose traces go on.
+#[derive(Clone, Copy)]
+pub(crate) struct Running {
+    pub(crate) lanes: u64,
+    pub(crate) until: u32,
+}
+
+// Lanes, and one more where its trace has instant `t`.
+fn with_running(lanes: u64, lane: u32, end: u32, t: u32) -> u64
+    requires { lane < 64 }
+    ensures { (i : ℕ) → i < 64 → on result i ≡ ((nat_lt t end && (i == lane)) || on lanes i) }
+{
+    if t < end {
+        with_lane(lanes, lane)
+    } else {
+        lanes
+    }
+}
+
+// The end of a trace that goes on after instant `t`, or an instant that comes sooner.
+fn sooner(until: u32, end: u32, t: u32) -> u32
+    ensures later { t < until → t < result }
+    ensures until { result ≤ until }
+    ensures end { t < end → result ≤ end }
+{
+    if t < end && end < until { end } else { until }
+}
+
+/// The lanes whose traces have instant `t`.
+pub(crate) fn running_at(set: &TraceSet, members: &[u32], t: u32) -> Running
+    requires few { length members.now ≤ 64 }
+    requires members { All (λ k. k < length set.now.traces) members.now }
+    requires instant { t < 4294967295 }
+    ensures { AreRunning set.now members.now t result.lanes result.until }
+{
+    let mut lanes = 0u64;
+    let mut until = u32::MAX;
+    for i in 0..members.len() {
+        let end = set.length(members[i]);
+        lanes = with_running(lanes, i as u32, end, t);
+        until = sooner(until, end, t);
+    }
+    Running { lanes, until }
+}
+
+/// The lanes whose traces have instant `t`, where it is known up to an instant which they are.
+pub(crate) fn still(set: &TraceSet, members: &[u32], t: u32, last: Running) -> Running
+    requires few { length members.now ≤ 64 }
+    requires members { All (λ k. k < length set.now.traces) members.now }
+    requires instant { t < 4294967295 }
+    requires last { AreOn set.now members.now t last.lanes last.until }
+    ensures { AreRunning set.now members.now t result.lanes result.until }
+{
+    if t < last.until {
+        return last;
+    }
+    running_at(set, members, t)
+}
+
+/// The greatest number of instants that a member has.
+pub(crate) fn longest(set: &TraceSet, members: &[u32]) -> u32
+    requires { All (λ k. k < length set.now.traces) members.now }
+    ensures each { (i : ℕ) → i < length members.now → length_in set.now members.now i ≤ result }
+    ensures limit { result ≤ 1000000 }
+{
+    let mut most = 0u32;
+    for i in 0..members.len() {
+        most = most.max(set.length(members[i]));
+    }
+    most
+}

@@ -1,0 +1,234 @@
+//! What memories take over after an instant.
+
+ghost use Rattle.std.specs.Prelude.{◌≡◌, ℕ, ◌≤◌, ◌<◌, length, All, IfOk, OnOk};
+ghost use Rattle.lb_flat.specs.Programs.{program_of, IsInRange};
+ghost use Rattle.lb_flat.specs.FurtherKinds.{kind_among};
+ghost use Rattle.lb_flat.specs.Run.{keeps, reads};
+ghost use Rattle.lb_flat.specs.Values.{operation_of};
+ghost use Rattle.lb_machine.specs.Growing.{IsGrown};
+ghost use Rattle.lb_sim.specs.Holdings.{IsIn, IsPlaceIn};
+ghost use Rattle.lb_sim.specs.Homes.{plane_in, word_in};
+ghost use Rattle.lb_sim.specs.Passing.{AreSources, AreTaken, IsNextOf, IsPlaneSource, IsTaken};
+ghost use Rattle.lb_sim.specs.Passing.{IsNextFlag, IsWordSource};
+ghost use Rattle.lb_sim.specs.Presets.{AreMemories};
+ghost use Rattle.lb_sim.specs.Showing.{kind_of};
+ghost use Rattle.lb_sim.specs.States.{holding_of};
+
+use crate::allotted::Allotted;
+use crate::picks::pick;
+use crate::place::{Holding, Place, Value};
+use lb_flat::equation::Operation;
+use lb_flat::program::FlatProgram;
+use lb_machine::{Code, NOWHERE, PlaneId, PlaneOperator, WordId, ZERO};
+use std::alloc::{AllocError, Global};
+
+// The plane that a value takes, or none.
+fn plane_of(v: Value) -> PlaneId
+    ensures { result.0 ≡ plane_in v }
+{
+    match v {
+        Value::Truth(p) => p,
+        Value::Number(_) => NOWHERE,
+    }
+}
+
+// The word that a value takes, or none.
+fn word_of(v: Value) -> WordId
+    ensures { result.0 ≡ word_in v }
+{
+    match v {
+        Value::Truth(_) => ZERO,
+        Value::Number(w) => w,
+    }
+}
+
+// A plane that the code writes, with what this one holds.
+#[tactic(auto, using(crate::proofs::Growth::grown_then, crate::proofs::Growth::grown_none))]
+fn own_plane(code: &mut Code, p: PlaneId) -> Result<PlaneId, AllocError>
+    requires { p.0 < code.old.planes }
+    ensures grown { OnOk result (IsGrown code.old code.new) }
+    ensures source { IfOk result (IsPlaneSource code.new p.0) }
+{
+    if p.0 < code.first_plane {
+        let copied = code.copy_plane(p)?;
+        return Ok(copied);
+    }
+    Ok(p)
+}
+
+// A word that the code writes, with what this one holds.
+#[tactic(auto, using(crate::proofs::Growth::grown_then, crate::proofs::Growth::grown_none))]
+fn own_word(code: &mut Code, w: WordId) -> Result<WordId, AllocError>
+    requires { w.0 < code.old.words }
+    ensures grown { OnOk result (IsGrown code.old code.new) }
+    ensures source { IfOk result (IsWordSource code.new w.0) }
+{
+    if w.0 < code.first_word {
+        let copied = code.copy_word(w)?;
+        return Ok(copied);
+    }
+    Ok(w)
+}
+
+// The source of a plane of a memory, if it has one there.
+#[tactic(auto, using(crate::proofs::Growth::grown_then, crate::proofs::Growth::grown_none))]
+fn take_plane(
+    code: &mut Code,
+    home: PlaneId,
+    next: PlaneId,
+    sources: &mut Vec<PlaneId>,
+) -> Result<(), AllocError>
+    requires { next.0 < code.old.planes }
+    ensures grown { OnOk result (IsGrown code.old code.new) }
+    ensures taken { OnOk result (IsTaken (IsPlaneSource code.new next.0) home.0
+        sources.old.items sources.new.items) }
+{
+    if home.0 == NOWHERE.0 {
+        return Ok(());
+    }
+    let source = own_plane(code, next)?;
+    sources.push(source)?;
+    Ok(())
+}
+
+// The source of a word of a memory, if it has one there.
+#[tactic(auto, using(crate::proofs::Growth::grown_then, crate::proofs::Growth::grown_none))]
+fn take_word(
+    code: &mut Code,
+    home: WordId,
+    next: WordId,
+    sources: &mut Vec<WordId>,
+) -> Result<(), AllocError>
+    requires { next.0 < code.old.words }
+    ensures grown { OnOk result (IsGrown code.old code.new) }
+    ensures taken { OnOk result (IsTaken (IsWordSource code.new next.0) home.0
+        sources.old.items sources.new.items) }
+{
+    if home.0 == ZERO.0 {
+        return Ok(());
+    }
+    let source = own_word(code, next)?;
+    sources.push(source)?;
+    Ok(())
+}
+
+// The sources of a memory, in the order in which its places were given.
+#[tactic(auto, using(crate::proofs::Growth::grown_then, crate::proofs::Growth::grown_none))]
+fn push_sources(
+    code: &mut Code,
+    home: Holding,
+    next: Holding,
+    planes: &mut Vec<PlaneId>,
+    words: &mut Vec<WordId>,
+) -> Result<(), AllocError>
+    requires { IsIn code.old next }
+    ensures grown { OnOk result (IsGrown code.old code.new) }
+    ensures taken { OnOk result (AreTaken code.new home next planes.old.items planes.new.items
+        words.old.items words.new.items) }
+{
+    let home_plane = plane_of(home.value);
+    let next_plane = plane_of(next.value);
+    let home_word = word_of(home.value);
+    let next_word = word_of(next.value);
+    take_plane(code, home_plane, next_plane, planes)?;
+    take_plane(code, home.nil, next.nil, planes)?;
+    take_plane(code, home.bad, next.bad, planes)?;
+    take_word(code, home_word, next_word, words)?;
+    Ok(())
+}
+
+// Whether a first tick is over after this instant.
+#[tactic(auto, using(crate::proofs::Growth::grown_then, crate::proofs::Growth::grown_none))]
+fn next_flag(code: &mut Code, home: Holding, present: PlaneId) -> Result<Holding, AllocError>
+    requires home { IsIn code.old home }
+    requires present { present.0 < code.old.planes }
+    ensures grown { OnOk result (IsGrown code.old code.new) }
+    ensures within { IfOk result (IsIn code.new) }
+    ensures next { IfOk result (IsNextFlag code.new home present.0) }
+{
+    let started = plane_of(home.value);
+    let value = code.combine(PlaneOperator::Or, started, present)?;
+    Ok(Holding {
+        value: Value::Truth(value),
+        nil: NOWHERE,
+        bad: NOWHERE,
+    })
+}
+
+// What a memory holds after the instant.
+#[tactic(auto, using(crate::proofs::Growth::grown_then, crate::proofs::Growth::grown_none))]
+fn next_holding(
+    code: &mut Code,
+    places: &[Place],
+    home: Holding,
+    operation: &Operation,
+) -> Result<Holding, AllocError>
+    requires places { All (IsPlaceIn code.old) places.now }
+    requires home { IsIn code.old home }
+    requires reads { All (λ i. i < length places.now) (reads (operation_of operation.now)) }
+    requires keeps { All (λ i. i < length places.now) (keeps (operation_of operation.now)) }
+    ensures grown { OnOk result (IsGrown code.old code.new) }
+    ensures within { IfOk result (IsIn code.new) }
+    ensures next { IfOk result (IsNextOf code.new places.now home
+        (operation_of operation.now)) }
+{
+    match operation {
+        Operation::FirstThen(_, a, _) => {
+            let next = next_flag(code, home, places[a.0 as usize].present)?;
+            Ok(next)
+        }
+        Operation::Previous(_, a) => {
+            let place = places[a.0 as usize];
+            let next = pick(code, place.present, place.holding, home)?;
+            Ok(next)
+        }
+        Operation::Latest(_, a) => {
+            let place = places[a.0 as usize];
+            let next = pick(code, place.present, place.holding, home)?;
+            Ok(next)
+        }
+        _ => Ok(home),
+    }
+}
+
+/// The sources of all planes, and of all words, of memories.
+#[derive(Drop)]
+pub(crate) struct Sources {
+    pub(crate) planes: Vec<PlaneId>,
+    pub(crate) words: Vec<WordId>,
+}
+
+/// What memories take over, in the order of the equations.
+pub(crate) fn all_sources(
+    alloc: Global,
+    code: &mut Code,
+    program: &FlatProgram,
+    places: &[Place],
+    allotted: &Allotted,
+) -> Result<Sources, AllocError>
+    requires in_range { IsInRange program.now }
+    requires elements { length places.now ≡ program.now.size }
+    requires places { All (IsPlaceIn code.old) places.now }
+    requires kinds { (e : ℕ) → e < program.now.size
+        → kind_of (holding_of places.now e) ≡ kind_among program.now.kinds.items e }
+    requires memories { AreMemories (program_of program.now) allotted.now.memory_plane
+        allotted.now.memory_word allotted.now.preset allotted.now.kept.items }
+    requires first_plane { code.old.first_plane ≡ length allotted.now.preset.planes.items }
+    requires first_word { code.old.first_word ≡ length allotted.now.preset.words.items }
+    requires behind_planes { 2 ≤ allotted.now.memory_plane }
+    requires behind_words { 1 ≤ allotted.now.memory_word }
+    ensures grown { OnOk result (IsGrown code.old code.new) }
+    ensures sources { IfOk result (λ r. AreSources (program_of program.now) code.new places.now
+        allotted.now.kept.items allotted.now.memory_plane allotted.now.memory_word
+        r.planes.items r.words.items) }
+{
+    let mut planes = Vec::new(alloc);
+    let mut words = Vec::new(alloc);
+    for i in 0..program.equations.len() {
+        let q = program.equations[i];
+        let home = allotted.kept[q.element.0 as usize];
+        let next = next_holding(code, places, home, &q.operation)?;
+        push_sources(code, home, next, &mut planes, &mut words)?;
+    }
+    Ok(Sources { planes, words })
+}

@@ -1,0 +1,78 @@
+//! The planes of what an instant decides in each lane.
+
+ghost use Rattle.std.specs.Prelude.{◌≡◌, length, All, IfOk, OnOk};
+ghost use Rattle.lb_check.specs.Verdicts.{is_bad, is_nil};
+ghost use Rattle.lb_flat.specs.Judging.{named_elements, some_in, truth_elements};
+ghost use Rattle.lb_flat.specs.Programs.{program_of, IsInRange};
+ghost use Rattle.lb_machine.specs.Growing.{IsGrown, IsPlaneFor};
+ghost use Rattle.lb_sim.specs.Holdings.{IsPlaceIn};
+ghost use Rattle.lb_sim.specs.Showing.{row_at};
+ghost use Rattle.lb_sim.specs.Watching.{AreWatched};
+
+use crate::place::{Place, Watched};
+use crate::watch::{false_plane, first_bad, nil_plane, some_bad, some_false, some_nil};
+use lb_flat::program::FlatProgram;
+use lb_machine::{Code, NOWHERE, PlaneId, PlaneOperator};
+use std::alloc::AllocError;
+
+// Where an element at which a fault counts holds one.
+#[tactic(auto, using(crate::proofs::Growth::grown_then, crate::proofs::Growth::grown_none))]
+fn faults(code: &mut Code, program: &FlatProgram, places: &[Place]) -> Result<PlaneId, AllocError>
+    requires in_range { IsInRange program.now }
+    requires elements { length places.now ≡ program.now.size }
+    requires places { All (IsPlaceIn code.old) places.now }
+    ensures grown { OnOk result (IsGrown code.old code.new) }
+    ensures plane { IfOk result (IsPlaneFor code.new (λ s.
+        some_in is_bad (row_at s places.now) (named_elements (program_of program.now)))) }
+{
+    let variables = first_bad(code, places, program.variables, NOWHERE)?;
+    let operands = some_bad(code, places, program.memory_operands.as_slice(), variables)?;
+    let asserted = some_bad(code, places, program.asserted.as_slice(), operands)?;
+    Ok(asserted)
+}
+
+// Where an element at which a truth is wanted is nil.
+#[tactic(auto, using(crate::proofs::Growth::grown_then, crate::proofs::Growth::grown_none))]
+fn undefined(
+    code: &mut Code,
+    program: &FlatProgram,
+    places: &[Place],
+) -> Result<PlaneId, AllocError>
+    requires in_range { IsInRange program.now }
+    requires elements { length places.now ≡ program.now.size }
+    requires places { All (IsPlaceIn code.old) places.now }
+    ensures grown { OnOk result (IsGrown code.old code.new) }
+    ensures plane { IfOk result (IsPlaneFor code.new (λ s.
+        some_in is_nil (row_at s places.now) (truth_elements (program_of program.now)))) }
+{
+    let clocks = some_nil(code, places, program.clock_elements.as_slice(), NOWHERE)?;
+    let asserted = some_nil(code, places, program.asserted.as_slice(), clocks)?;
+    let property = nil_plane(code, places[program.property.0 as usize])?;
+    let plane = code.combine(PlaneOperator::Or, asserted, property)?;
+    Ok(plane)
+}
+
+/// The planes of what an instant decides in each lane.
+#[tactic(auto, using(crate::proofs::Growth::grown_then, crate::proofs::Growth::grown_none))]
+pub(crate) fn watched(
+    code: &mut Code,
+    program: &FlatProgram,
+    places: &[Place],
+) -> Result<Watched, AllocError>
+    requires in_range { IsInRange program.now }
+    requires elements { length places.now ≡ program.now.size }
+    requires places { All (IsPlaceIn code.old) places.now }
+    ensures grown { OnOk result (IsGrown code.old code.new) }
+    ensures planes { IfOk result (AreWatched code.new (program_of program.now) places.now) }
+{
+    let faults = faults(code, program, places)?;
+    let undefined = undefined(code, program, places)?;
+    let failed = some_false(code, places, program.asserted.as_slice(), NOWHERE)?;
+    let violated = false_plane(code, places[program.property.0 as usize])?;
+    Ok(Watched {
+        faults,
+        undefined,
+        failed,
+        violated,
+    })
+}
