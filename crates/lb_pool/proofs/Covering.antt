@@ -1,5 +1,5 @@
 -- Each trace stands in a batch that was drawn.
-use Rattle.std.proofs.Common.{◌≡◌, ℕ, zero, suc, ◌+◌, ◌<◌, ◌⊎◌, inl, inr, List, [], ◌∷◌, length}
+use Rattle.std.proofs.Common.{◌≡◌, ℕ, zero, suc, ◌+◌, ◌<◌, ◌≤◌, ◌⊎◌, inl, inr, List, [], ◌∷◌, length}
 use Rattle.std.proofs.Common.{get_or, length-append, sym, subst, arith}
 use Rattle.std.specs.List.{All, Contains, range_with_len}
 use Rattle.std.specs.List.Sorted.{IsPermutation}
@@ -10,9 +10,14 @@ use Rattle.std.proofs.lemmas.List.Elements.{Contains-append_left, Contains-appen
 use Rattle.std.proofs.lemmas.List.Elements.{Contains-append_cases}
 use Rattle.std.proofs.lemmas.List.FromFn.{length-range_with_len, get_or-range_with_len}
 use Rattle.std.proofs.lemmas.List.Sorted.{All-permutation, Contains-permutation}
+use Rattle.lb_check.specs.declared.verdict.Verdict.{Verdict}
+use Rattle.lb_flat.specs.Programs.{program_of}
+use Rattle.lb_flat.specs.Traces.{Recording}
+use Rattle.lb_flat.specs.declared.program.FlatProgram.{FlatProgram}
+use Rattle.lb_sim.specs.BatchLanes.{IsVerdictOf}
 use Rattle.lb_pool.specs.Draws.{times, once_below, AreAllBelow}
 use Rattle.lb_pool.specs.Plans.{numbers_in, IsLawful}
-use Rattle.lb_pool.specs.Runs.{numbers_drawn}
+use Rattle.lb_pool.specs.Runs.{IsVerdict, numbers_drawn}
 use Rattle.lb_pool.proofs.Claiming.{times_append}
 
 -- ## All numbers are those of traces
@@ -53,6 +58,23 @@ pub batch_below :
     (i : ℕ) → i < length batches → All (λ k. k < n) (get_or batches i [])
 batch_below n batches lawful over_all i below =
     batches_below n batches (all_numbers n batches lawful over_all) i [] below
+
+-- no batch has more than 64
+pub batch_few :
+    (batches : List (List ℕ)) → IsLawful batches → (i : ℕ) → i < length batches →
+    length (get_or batches i []) ≤ 64
+batch_few batches lawful i below =
+    let wide = lawful.plan.not_wider i below in
+    omega (arith, wide, lawful.at_most_64)
+
+-- what is the verdict of the flat program's traces is the verdict here
+pub is_verdict :
+    (p : FlatProgram) (r : Recording) (k : ℕ) (v : Verdict) → IsVerdictOf (program_of p) r k v →
+    IsVerdict p r k v
+is_verdict p r k v h = record {
+  only_verdict = h.only_verdict;
+  has_one_history = h.has_one_history;
+}
 
 -- ## Each trace is in a batch
 

@@ -2,16 +2,16 @@
 
 ghost use Rattle.std.specs.Prelude.{◌≡◌, ℕ, ◌<◌, ◌++◌, [], length, get_or, All, Contains, IfOk};
 ghost use Rattle.std.specs.Prelude.{OnOk};
-ghost use Rattle.lb_flat.specs.PreparedParts.{IsRoomFor, program_in, recording_in};
 ghost use Rattle.lb_pool.specs.Plans.{numbers_in};
 ghost use Rattle.lb_pool.specs.Runs.{numbers_of, AreJudged, AreVerdicts, placed};
+ghost use Rattle.lb_sim.specs.BatchRooms.{IsRoomFor};
 
 use crate::plan::Plan;
 use lb_check::verdict::Verdict;
-use lb_flat::prepared::Prepared;
-use lb_flat::recorded::Recorded;
-use lb_flat::scratch::Scratch;
-use lb_flat::trace_run::eval_prepared;
+use lb_flat::traces::TraceSet;
+use lb_sim::batch::run_batch_in;
+use lb_sim::program::LaneProgram;
+use lb_sim::room::BatchRoom;
 use std::alloc::{AllocError, Global};
 
 /// A trace and its verdict.
@@ -24,36 +24,38 @@ pub(crate) struct Judged {
 /// What all workers of a run share: the program, the traces, and their plan.
 #[derive(Clone, Copy)]
 pub(crate) struct Work<'a, 'p> {
-    pub(crate) prepared: &'a Prepared<'p>,
-    pub(crate) recorded: &'a Recorded<'p>,
+    pub(crate) program: &'a LaneProgram<'p>,
+    pub(crate) set: &'a TraceSet,
     pub(crate) plan: &'a Plan,
-    pub(crate) ghost over_all: { length (numbers_in plan.now)
-        ≡ length (recording_in recorded.now).traces },
+    pub(crate) ghost over_all: { length (numbers_in plan.now) ≡ length set.now.traces },
 }
 
-/// Puts the verdicts of a batch behind those that were found before, in the room of a worker.
+/// Puts the verdicts of a batch behind those that were found before, in the room of a worker, and
+/// gives the room back.
 pub(crate) fn run_batch(
     work: &Work<'_, '_>,
     i: u32,
-    scratch: &mut Scratch,
+    room: BatchRoom,
     judged: &mut Vec<Judged>,
-) -> Result<(), AllocError>
+) -> Result<BatchRoom, AllocError>
     requires batch { i < length work.now.plan.now }
-    requires room { IsRoomFor work.now.prepared.now scratch.old }
-    requires judged { AreJudged (program_in work.now.prepared.now)
-        (recording_in work.now.recorded.now) judged.old.items }
-    ensures room { IsRoomFor work.now.prepared.now scratch.new }
+    requires room { IsRoomFor work.now.program.now room }
+    requires judged { AreJudged work.now.program.now.program.now work.now.set.now
+        judged.old.items }
+    ensures room { IfOk result (IsRoomFor work.now.program.now) }
     ensures numbers { OnOk result (numbers_of judged.new.items
         ≡ numbers_of judged.old.items ++ get_or work.now.plan.now i []) }
-    ensures judged { OnOk result (AreJudged (program_in work.now.prepared.now)
-        (recording_in work.now.recorded.now) judged.new.items) }
+    ensures judged { OnOk result (AreJudged work.now.program.now.program.now work.now.set.now
+        judged.new.items) }
 {
     let numbers = work.plan.batch(i);
-    for k in numbers {
-        let verdict = eval_prepared(work.prepared, work.recorded, *k, scratch);
-        judged.push(Judged { trace: *k, verdict })?;
+    let done = run_batch_in(room, work.program, work.set, numbers);
+    for j in 0..numbers.len() {
+        let trace = numbers[j];
+        let verdict = done.verdict(j as u32);
+        judged.push(Judged { trace, verdict })?;
     }
-    Ok(())
+    Ok(done)
 }
 
 /// Writes verdicts to the places of their traces.
@@ -72,14 +74,13 @@ pub(crate) fn verdicts_of(
     work: &Work<'_, '_>,
     judged: &[Judged],
 ) -> Result<Vec<Verdict>, AllocError>
-    requires judged { AreJudged (program_in work.now.prepared.now)
-        (recording_in work.now.recorded.now) judged.now }
-    requires each { (k : ℕ) → k < length (recording_in work.now.recorded.now).traces →
+    requires judged { AreJudged work.now.program.now.program.now work.now.set.now judged.now }
+    requires each { (k : ℕ) → k < length work.now.set.now.traces →
         Contains (numbers_of judged.now) k }
-    ensures { IfOk result (λ verdicts. AreVerdicts (program_in work.now.prepared.now)
-        (recording_in work.now.recorded.now) verdicts.items) }
+    ensures { IfOk result (λ verdicts. AreVerdicts work.now.program.now.program.now
+        work.now.set.now verdicts.items) }
 {
-    let mut verdicts = vec![in alloc; Verdict::Passed; work.recorded.len() as usize]?;
+    let mut verdicts = vec![in alloc; Verdict::Passed; work.set.len() as usize]?;
     place(verdicts.as_mut_slice(), judged);
     Ok(verdicts)
 }

@@ -2,7 +2,6 @@
 
 ghost use Rattle.std.specs.Prelude.{◌≡◌, ℕ, List, ◌-◌, ◌<◌, ◌≤◌, [], length, IfOk};
 ghost use Rattle.std.specs.Thread.{IsSync};
-ghost use Rattle.lb_flat.specs.PreparedParts.{program_in, recording_in};
 ghost use Rattle.lb_flat.specs.Traces.{Recording};
 ghost use Rattle.lb_flat.specs.declared.program.FlatProgram.{FlatProgram};
 ghost use Rattle.lb_pool.specs.Plans.{numbers_in};
@@ -16,10 +15,10 @@ use crate::gate::Gate;
 use crate::plan::Plan;
 use lb_check::verdict::Verdict;
 use lb_flat::flat::Ordered;
-use lb_flat::prepared::Prepared;
-use lb_flat::recorded::Recorded;
-use lb_flat::scratch::Scratch;
 use lb_flat::traces::TraceSet;
+use lb_sim::compile::compile;
+use lb_sim::program::LaneProgram;
+use lb_sim::room::BatchRoom;
 use std::alloc::{AllocError, Global};
 use std::thread::{Threads, join};
 
@@ -41,14 +40,15 @@ fn drain<G: Gate>(
     requires board { limit_of board.now ≡ length work.now.plan.now }
     requires seat { IsSeatOf board.now seat }
     requires nothing { drawn_of seat ≡ [] }
-    ensures { IfOk result (HasDone board.now (shares_of seat) (program_in work.now.prepared.now)
-        (recording_in work.now.recorded.now) work.now.plan.now) }
+    ensures { IfOk result (HasDone board.now (shares_of seat) work.now.program.now.program.now
+        work.now.set.now work.now.plan.now) }
 {
-    let mut scratch = Scratch::new(alloc, work.prepared)?;
+    let mut room = BatchRoom::new(alloc, work.program)?;
     let mut judged = Vec::new(alloc);
     while let Some(i) = board.claim(&mut seat) {
         gate.enter(i);
-        run_batch(work, i, &mut scratch, &mut judged)?;
+        let again = run_batch(work, i, room, &mut judged)?;
+        room = again;
     }
     Ok(Done { seat, judged })
 }
@@ -100,9 +100,9 @@ struct GatedWorker<'a, 'p, G> {
 }
 
 impl<G: Gate> Worker for GatedWorker<'_, '_, G> {
-    ghost program = { λ w. program_in w.work.prepared.now };
+    ghost program = { λ w. w.work.program.now.program.now };
 
-    ghost recording = { λ w. recording_in w.work.recorded.now };
+    ghost recording = { λ w. w.work.set.now };
 
     ghost batches = { λ w. w.work.plan.now };
 
@@ -161,27 +161,23 @@ fn work_together<R: Threads + Sync, W: Worker + Sync>(
     both_done(board, one?, other?)
 }
 
-// The verdicts of all traces, by workers that share a prepared program.
+// The verdicts of all traces, by workers that share a lane program.
 fn run_workers<'a, 'p, R: Threads + Sync, G: Gate + Sync>(
     rt: &R,
     alloc: Global,
-    prepared: &'a Prepared<'p>,
-    recorded: &'a Recorded<'p>,
+    program: &'a LaneProgram<'p>,
+    set: &'a TraceSet,
     plan: &'a Plan,
     workers: u32,
     gate: &'a G,
 ) -> Result<Vec<Verdict>, AllocError>
-    requires plan { length (numbers_in plan.now) ≡ length (recording_in recorded.now).traces }
+    requires plan { length (numbers_in plan.now) ≡ length set.now.traces }
     requires workers { (0 < workers) × (workers ≤ 64) }
-    ensures { IfOk result (λ verdicts. AreVerdicts (program_in prepared.now)
-        (recording_in recorded.now) verdicts.items) }
+    ensures { IfOk result (λ verdicts. AreVerdicts program.now.program.now
+        set.now verdicts.items) }
 {
     let (board, seat) = ClaimBoard::new(alloc, plan.batches())?;
-    let work = Work {
-        prepared,
-        recorded,
-        plan,
-    };
+    let work = Work { program, set, plan };
     let worker = GatedWorker { work, gate };
     let done = work_together(rt, alloc, &board, &worker, seat, workers)?;
     let Done { seat, judged } = done;
@@ -213,7 +209,6 @@ pub fn run_claims<R: Threads + Sync, G: Gate + Sync>(
     requires workers { (0 < workers) × (workers ≤ 64) }
     ensures { IfOk result (λ verdicts. AreVerdicts ordered.now.program set.now verdicts.items) }
 {
-    let prepared = Prepared::new(alloc, ordered)?;
-    let recorded = Recorded::new(alloc, set)?;
-    run_workers(rt, alloc, &prepared, &recorded, plan, workers, gate)
+    let program = compile(alloc, ordered)?;
+    run_workers(rt, alloc, &program, set, plan, workers, gate)
 }

@@ -2,18 +2,18 @@
 
 ghost use Rattle.std.specs.Prelude.{◌≡◌, ◌<◌, [], length, flat_map, IfOk};
 ghost use Rattle.std.specs.List.{AllZip, range_with_len};
-ghost use Rattle.lb_flat.specs.PreparedParts.{IsRoomFor, program_in, recording_in};
 ghost use Rattle.lb_pool.specs.Plans.{numbers_in};
 ghost use Rattle.lb_pool.specs.Runs.{AreVerdicts, IsBatchOf};
+ghost use Rattle.lb_sim.specs.BatchRooms.{IsRoomFor};
 
 use crate::batch::{Judged, Work, run_batch, verdicts_of};
 use crate::plan::Plan;
 use lb_check::verdict::Verdict;
 use lb_flat::flat::Ordered;
-use lb_flat::prepared::Prepared;
-use lb_flat::recorded::Recorded;
-use lb_flat::scratch::Scratch;
 use lb_flat::traces::TraceSet;
+use lb_sim::compile::compile;
+use lb_sim::program::LaneProgram;
+use lb_sim::room::BatchRoom;
 use rayon::prelude::*;
 use std::alloc::{AllocError, Global};
 use std::thread::Threads;
@@ -21,34 +21,34 @@ use std::thread::Threads;
 // The room that a worker has, or new room where it has none for this program.
 fn room_for(
     alloc: Global,
-    prepared: &Prepared<'_>,
-    room: Option<Scratch>,
-) -> Result<Scratch, AllocError>
-    ensures { IfOk result (IsRoomFor prepared.now) }
+    program: &LaneProgram<'_>,
+    kept: Option<BatchRoom>,
+) -> Result<BatchRoom, AllocError>
+    ensures { IfOk result (IsRoomFor program.now) }
 {
-    if let Some(scratch) = room {
-        if scratch.fits(prepared) {
-            return Ok(scratch);
+    if let Some(room) = kept {
+        if room.fits(program) {
+            return Ok(room);
         }
     }
-    Scratch::new(alloc, prepared)
+    BatchRoom::new(alloc, program)
 }
 
 // The verdicts of a batch, in the room that the worker had for the batch before.
 fn judged_batch(
     alloc: Global,
     work: &Work<'_, '_>,
-    room: &mut Option<Scratch>,
+    kept: &mut Option<BatchRoom>,
     i: u32,
 ) -> Result<Vec<Judged>, AllocError>
     requires { i < length work.now.plan.now }
-    ensures { IfOk result (λ judged. IsBatchOf (program_in work.now.prepared.now)
-        (recording_in work.now.recorded.now) work.now.plan.now i judged.items) }
+    ensures { IfOk result (λ judged. IsBatchOf work.now.program.now.program.now work.now.set.now
+        work.now.plan.now i judged.items) }
 {
-    let mut scratch = room_for(alloc, work.prepared, room.take())?;
+    let room = room_for(alloc, work.program, kept.take())?;
     let mut judged = Vec::new(alloc);
-    run_batch(work, i, &mut scratch, &mut judged)?;
-    *room = Some(scratch);
+    let room = run_batch(work, i, room, &mut judged)?;
+    *kept = Some(room);
     Ok(judged)
 }
 
@@ -57,13 +57,13 @@ fn judged_batch(
 fn judged_batches<'p, R: Threads + Sync>(
     rt: &R,
     alloc: Global,
-    prepared: &Prepared<'p>,
-    recorded: &Recorded<'p>,
+    program: &LaneProgram<'p>,
+    set: &TraceSet,
     plan: &Plan,
 ) -> Result<Result<Vec<Vec<Judged>>, AllocError>, AllocError>
-    requires { length (numbers_in plan.now) ≡ length (recording_in recorded.now).traces }
+    requires { length (numbers_in plan.now) ≡ length set.now.traces }
     ensures { IfOk result (λ outer. IfOk outer (λ batches.
-        AllZip (λ i judged. IsBatchOf (program_in prepared.now) (recording_in recorded.now)
+        AllZip (λ i judged. IsBatchOf program.now.program.now set.now
         plan.now i judged.items)
         (range_with_len 0 (length plan.now)) batches.items)) }
 {
@@ -72,18 +72,14 @@ fn judged_batches<'p, R: Threads + Sync>(
         // A batch is worth a thread of its own, however few there are.
         .with_min_len(1)
         .map_init(
-            || -> Option<Scratch> { None },
-            |room: &mut Option<Scratch>, i: u32| -> Result<Vec<Judged>, AllocError>
+            || -> Option<BatchRoom> { None },
+            |room: &mut Option<BatchRoom>, i: u32| -> Result<Vec<Judged>, AllocError>
                 requires { (length (numbers_in plan.now)
-                    ≡ length (recording_in recorded.now).traces) × (i < length plan.now) }
-                ensures { IfOk result (λ judged. IsBatchOf (program_in prepared.entry.now)
-                    (recording_in recorded.entry.now) plan.entry.now i judged.items) }
+                    ≡ length set.now.traces) × (i < length plan.now) }
+                ensures { IfOk result (λ judged. IsBatchOf program.entry.now.program.now
+                    set.entry.now plan.entry.now i judged.items) }
             {
-                let work = Work {
-                    prepared,
-                    recorded,
-                    plan,
-                };
+                let work = Work { program, set, plan };
                 judged_batch(alloc, &work, room, i)
             },
         )
@@ -101,27 +97,23 @@ fn in_one_list(alloc: Global, batches: &[Vec<Judged>]) -> Result<Vec<Judged>, Al
     Ok(all)
 }
 
-// The verdicts of all traces, by threads that share a prepared program.
+// The verdicts of all traces, by threads that share a lane program.
 fn spread_batches<'p, R: Threads + Sync>(
     rt: &R,
     alloc: Global,
-    prepared: &Prepared<'p>,
-    recorded: &Recorded<'p>,
+    program: &LaneProgram<'p>,
+    set: &TraceSet,
     plan: &Plan,
 ) -> Result<Vec<Verdict>, AllocError>
-    requires plan { length (numbers_in plan.now) ≡ length (recording_in recorded.now).traces }
-    ensures { IfOk result (λ verdicts. AreVerdicts (program_in prepared.now)
-        (recording_in recorded.now) verdicts.items) }
+    requires plan { length (numbers_in plan.now) ≡ length set.now.traces }
+    ensures { IfOk result (λ verdicts. AreVerdicts program.now.program.now
+        set.now verdicts.items) }
 {
     let _ = plan.traces();
-    let batches = judged_batches(rt, alloc, prepared, recorded, plan)?;
+    let batches = judged_batches(rt, alloc, program, set, plan)?;
     let batches = batches?;
     let judged = in_one_list(alloc, batches.as_slice())?;
-    let work = Work {
-        prepared,
-        recorded,
-        plan,
-    };
+    let work = Work { program, set, plan };
     verdicts_of(alloc, &work, judged.as_slice())
 }
 
@@ -142,7 +134,6 @@ pub fn run_spread<R: Threads + Sync>(
     requires { length (numbers_in plan.now) ≡ length set.now.traces }
     ensures { IfOk result (λ verdicts. AreVerdicts ordered.now.program set.now verdicts.items) }
 {
-    let prepared = Prepared::new(alloc, ordered)?;
-    let recorded = Recorded::new(alloc, set)?;
-    spread_batches(rt, alloc, &prepared, &recorded, plan)
+    let program = compile(alloc, ordered)?;
+    spread_batches(rt, alloc, &program, set, plan)
 }

@@ -1,7 +1,6 @@
 -- Each trace has been judged, so all verdicts stand in their places.
 use Rattle.std.proofs.Common.{◌≡◌, length, drop, vec_len, sym, ap, ◌∙◌, subst, arith, rules}
 use Rattle.std.proofs.lemmas.List.{take_at}
-use Rattle.lb_flat.specs.PreparedParts.{program_in, recording_in}
 use Rattle.lb_pool.specs.Runs.{AreVerdicts}
 use Rattle.lb_pool.proofs.Placed.{all_placed}
 use Rattle.lb_pool.proofs.batch.verdicts_of.Goals as goal
@@ -9,8 +8,8 @@ use Rattle.lb_pool.proofs.batch.verdicts_of.Goals as goal
 pub returns : goal.returns
 returns c =
     let work = c.args.work.now in
-    let p = program_in work.prepared.now in
-    let r = recording_in work.recorded.now in
+    let p = work.program.now.program.now in
+    let r = work.set.now in
     let verdicts = c.in_ok-verdicts.verdicts in
     let old = c.as_mut_slice.result.now in
     let new = c.place.new.verdicts in

@@ -1,7 +1,6 @@
 -- All batches were drawn, so each trace has been judged.
 use Rattle.std.proofs.Common.{ℕ, List, length, sym, ap, ◌∙◌, subst}
 use Rattle.std.specs.List.{Contains}
-use Rattle.lb_flat.specs.PreparedParts.{recording_in}
 use Rattle.lb_pool.specs.Draws.{AreAllBelow}
 use Rattle.lb_pool.specs.Runs.{numbers_of}
 use Rattle.lb_pool.specs.Seats.{drawn_of}
@@ -17,5 +16,5 @@ verdicts_of-requires-clause-each g c k below =
     subst (λ (n : ℕ). AreAllBelow n drawn) limit (c.close-told.ensures.drawn c.if-prove.false) in
     let numbers = ap numbers_of c.as_slice.ensures.value ∙ c.in_ok-done.ensures.numbers in
     subst (λ (l : List ℕ). Contains l k) (sym numbers)
-    (covered (length (recording_in c.args.recorded.now).traces) plan drawn
+    (covered (length c.args.set.now.traces) plan drawn
     c.batches.ensures.lawful c.requires.plan all k below)

@@ -7,8 +7,7 @@ use Rattle.std.proofs.lemmas.Result.{MatchResult-weaker}
 use Rattle.rayon.specs.Numbers.{nat_range}
 use Rattle.rayon.proofs.ListFacts.{IfOk-then}
 use Rattle.rayon.proofs.ToStd.{nat_range-All}
-use Rattle.lb_flat.specs.PreparedParts.{program_in, recording_in}
-use Rattle.lb_flat.specs.declared.scratch.Scratch.{Scratch}
+use Rattle.lb_sim.specs.declared.room.BatchRoom.{BatchRoom}
 use Rattle.lb_pool.specs.Plans.{numbers_in}
 use Rattle.lb_pool.specs.Runs.{IsBatchOf}
 use Rattle.lb_pool.specs.declared.batch.Judged.{Judged}
@@ -19,7 +18,7 @@ pub collect-requires-clause-ready : goal.collect-requires-clause-ready
 collect-requires-clause-ready g c κs within =
     let plan = c.args.plan.now in
     let ends = c.into_par_iter.ensures in
-    let traces = (recording_in c.args.recorded.now).traces in
+    let traces = c.args.set.now.traces in
     let inside = nat_range-All (λ i. (length (numbers_in plan) ≡ length traces)
     × (i < length plan)) 0 c.batches.result
     (λ i low high. (c.requires, omega (arith, high, c.batches.ensures.count))) in
@@ -37,7 +36,7 @@ pub returns : goal.returns
 returns g c =
     let plan = c.args.plan.now in
     let R : ℕ → Vec Judged Global → Type 0 =
-    λ i judged. IsBatchOf (program_in c.args.prepared.now) (recording_in c.args.recorded.now) plan i
+    λ i judged. IsBatchOf c.args.program.now.program.now c.args.set.now plan i
     judged.items in
     let ends = c.into_par_iter.ensures in
     let whole : c.batches.result - 0 ≡ length plan = omega (arith, c.batches.ensures.count) in
@@ -48,5 +47,5 @@ returns g c =
     MatchResult-weaker outer h.2 (λ lists k.
     subst (λ l. AllZip R l lists.items) places
     (of_collected R chain.0 h.0 lists.items
-    (of_states (MutBor (Option Scratch)) (λ i judged. IfOk judged (R i)) chain.0 h.0 chain.2)
+    (of_states (MutBor (Option BatchRoom)) (λ i judged. IfOk judged (R i)) chain.0 h.0 chain.2)
     k.0 k.1 k.2)) (λ e q. tt))

@@ -1,8 +1,6 @@
--- What was prepared and recorded is the program and the traces that were given.
+-- What was compiled is the program that was given.
 use Rattle.std.proofs.Common.{subst}
 use Rattle.std.proofs.lemmas.Result.{IfOk-weaker}
-use Rattle.lb_flat.specs.PreparedParts.{recording_in}
-use Rattle.lb_flat.specs.Traces.{Recording}
 use Rattle.lb_flat.specs.declared.program.FlatProgram.{FlatProgram}
 use Rattle.lb_pool.specs.Runs.{AreVerdicts}
 use Rattle.lb_pool.proofs.spread.run_spread.Goals as goal
@@ -11,10 +9,7 @@ pub returns : goal.returns
 returns g c =
     let p = c.args.ordered.now.program in
     let r = c.args.set.now in
-    let there = recording_in c.in_ok-recorded.recorded in
     IfOk-weaker c.spread_batches.result _ (λ verdicts. AreVerdicts p r verdicts.items)
     (λ verdicts are.
-    subst (λ (x : Recording). AreVerdicts p x verdicts.items) c.in_ok-recorded.ensures
-    (subst (λ (x : FlatProgram). AreVerdicts x there verdicts.items) c.in_ok-prepared.ensures
-    are))
+    subst (λ (x : FlatProgram). AreVerdicts x r verdicts.items) c.in_ok-program.ensures are)
     c.spread_batches.ensures

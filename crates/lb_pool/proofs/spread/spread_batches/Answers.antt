@@ -3,7 +3,6 @@ use Rattle.std.proofs.Common.{List, Vec, Global, length, sym, ap, ◌∙◌, sub
 use Rattle.std.specs.Prelude.{flat_map}
 use Rattle.std.specs.List.{AllZip, Contains, range_with_len}
 use Rattle.std.proofs.lemmas.Result.{IfOk-at_ok}
-use Rattle.lb_flat.specs.PreparedParts.{program_in, recording_in}
 use Rattle.lb_pool.specs.Runs.{AreJudged, IsBatchOf, numbers_of}
 use Rattle.lb_pool.specs.declared.batch.Judged.{Judged}
 use Rattle.lb_pool.proofs.Spreading.{all_judged, each_judged}
@@ -11,8 +10,8 @@ use Rattle.lb_pool.proofs.spread.spread_batches.Goals as goal
 
 pub verdicts_of-requires-clause-judged : goal.verdicts_of-requires-clause-judged
 verdicts_of-requires-clause-judged g c =
-    let p = program_in c.args.prepared.now in
-    let r = recording_in c.args.recorded.now in
+    let p = c.args.program.now.program.now in
+    let r = c.args.set.now in
     let plan = c.args.plan.now in
     let lists = c.in_ok-batches-2.batches.items in
     let judged = IfOk-at_ok (λ (v : Vec (Vec Judged Global) Global).
@@ -25,8 +24,8 @@ verdicts_of-requires-clause-judged g c =
 
 pub verdicts_of-requires-clause-each : goal.verdicts_of-requires-clause-each
 verdicts_of-requires-clause-each g c k below =
-    let p = program_in c.args.prepared.now in
-    let r = recording_in c.args.recorded.now in
+    let p = c.args.program.now.program.now in
+    let r = c.args.set.now in
     let plan = c.args.plan.now in
     let lists = c.in_ok-batches-2.batches.items in
     let judged = IfOk-at_ok (λ (v : Vec (Vec Judged Global) Global).
