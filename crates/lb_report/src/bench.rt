@@ -3,7 +3,7 @@
 //! ```text
 //! source -> parse -> elaborate -> check -> expand -> order --.
 //!                                   |                         |
-//! traces -------------------> read_traces -> plan -> run <----'
+//! traces ----------------> read_traces_by -> plan -> run <----'
 //!                                                     |
 //!                                                  Report
 //! ```
@@ -38,7 +38,7 @@ use lb_static::elaborate::elaborate;
 use lb_static::signature::Signature;
 use lb_syntax::parse::parse;
 use lb_syntax::tree::Source;
-use lb_trace::read_traces;
+use lb_trace::read_traces_by;
 use std::alloc::{AllocError, Global};
 use std::rt::Runtime;
 use std::thread::Threads;
@@ -138,7 +138,7 @@ fn report_on<R: Threads + Sync>(
         OnlyProgram source asked (IsAcceptedProgram program.now) →
         IsRefused source traces.now asked e) }
 {
-    let set = read_traces(alloc, &program.signature, traces)?;
+    let set = read_traces_by(rt, alloc, &program.signature, traces, options.workers)?;
     let verdicts = verdicts_of(rt, alloc, &program.ordered, &set, options)?;
     Ok(Report::new(alloc, &set, verdicts.as_slice())?)
 }

@@ -18,3 +18,8 @@ pub mod CopiedCells
 pub mod PlainRecordings
 pub mod OrderedColumns
 pub mod PlacedRows
+pub mod CutTexts
+pub mod LineReadings
+pub mod JoinedTraces
+pub mod SpreadReadings
+pub mod Fronts

@@ -25,7 +25,7 @@ use Rattle.lb_trace.proofs.FirstCells.{last-end, last-more, walked-end, walked-f
 digit-inside : (b : ℕ) → is_ascii_digit b ≡ true → ends_cell b ≡ false
 digit-inside b e = grind (arith, nat_tests)
 
-and-parts : (a b : Bool) → (a && b) ≡ true → (a ≡ true) × (b ≡ true)
+pub and-parts : (a b : Bool) → (a && b) ≡ true → (a ≡ true) × (b ≡ true)
 and-parts true b h = (refl, h)
 and-parts false b h = cc h
 
@@ -214,6 +214,18 @@ pub int-negative-in : (text rest : List ℕ) (n : ℕ) (x : ℤ) (is_last : Bool
 int-negative-in text rest n x is_last h e b s =
     subst (λ t. BeginsWith kind.Int t x rest is_last) (sym (by_first text 45 h e))
     (int-negative (take (length text - 1) (drop 1 text)) rest n x is_last b s)
+
+-- the same of what stands after the sign, if there is one
+pub int-either : (text digits rest : List ℕ) (negative : Bool) (n : ℕ) (x : ℤ) (is_last : Bool)
+    → 1 ≤ length text → negative ≡ (get_or text 0 0 == 45)
+    → digits ≡ (if negative then take (length text - 1) (drop 1 text) else text)
+    → BeginsWithNumber digits n rest is_last → signed negative n ≡ Some x
+    → BeginsWith kind.Int text x rest is_last
+int-either text digits rest true n x is_last h minus is b s =
+    int-negative-in text rest n x is_last h (equal-from (get_or text 0 0) 45 (sym minus))
+    (subst (λ t. BeginsWithNumber t n rest is_last) is b) s
+int-either text digits rest false n x is_last h minus is b s =
+    int-positive text rest n x is_last (subst (λ t. BeginsWithNumber t n rest is_last) is b) s
 
 -- the same, with a value as it is stored
 pub begins-stored : (k : Kind) (text rest : List ℕ) (x : ℤ) (is_last : Bool) → SFits w32 x

@@ -8,3 +8,5 @@ pub mod Plain
 pub mod Lines
 pub mod Scan
 pub mod PlainRows
+pub mod Tables
+pub mod Fronts

@@ -1,10 +1,15 @@
 //! The reader of a trace text.
 #![tactic(auto)]
 
+mod add_lines;
+mod begun;
 mod cells;
 mod copied;
 pub mod error;
+mod front;
 mod header;
+mod joined;
+mod parts;
 mod placed_rows;
 mod plain;
 mod plain_rows;
@@ -16,6 +21,7 @@ mod recorder;
 mod rows;
 mod scan;
 mod small;
+mod spread;
 mod table;
 
-pub use read::read_traces;
+pub use read::{read_traces, read_traces_by};

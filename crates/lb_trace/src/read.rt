@@ -14,13 +14,18 @@ use crate::read_plain::read_plain;
 use crate::reader::{next, reader_of};
 use crate::record::width;
 use crate::recorder::Recorder;
+use crate::spread::read_spread;
 use csv::{ByteRecord, Reader};
 use lb_flat::traces::TraceSet;
 use lb_static::signature::Signature;
 use std::alloc::{AllocError, Global};
+use std::thread::Threads;
 
 /// The most bytes of a trace text.
 const MOST_BYTES: usize = 1_073_741_824;
+
+/// The parts of a text that is read by as many workers as there are processors.
+const MOST_PARTS: u32 = 64;
 
 /// The traces that a text spells under a signature.
 ///
@@ -60,6 +65,36 @@ pub fn read_traces(
     }
     let mut reader = reader_of(alloc, text);
     read_records(alloc, signature, text, &mut reader, &mut record)
+}
+
+/// The same, read by so many workers at most, or by as many as there are processors where it is 0.
+/// A text with quotes is read by one.
+pub fn read_traces_by<R: Threads + Sync>(
+    rt: &R,
+    alloc: Global,
+    signature: &Signature,
+    text: &[u8],
+    workers: u32,
+) -> Result<TraceSet, TraceError>
+    ensures signature { IfOk result (λ set. set.signature ≡ signature.now) }
+    ensures spelled { IfOk result (λ set. Spells signature.now text.now set.traces) }
+    ensures only { IfOk result
+        (λ set. (other : Traces) → Spells signature.now text.now other → other ≡ set.traces) }
+    ensures refused { IfErr result (Refuses signature.now text.now) }
+{
+    if workers == 1 || text.len() > MOST_BYTES {
+        return read_traces(alloc, signature, text);
+    }
+    let body = strip_bom(text);
+    if !is_plain(body) {
+        return read_traces(alloc, signature, text);
+    }
+    let parts = if workers == 0 { MOST_PARTS } else { workers };
+    match read_spread(rt, alloc, signature, text, body, parts) {
+        Some(set) => Ok(set),
+        // What is refused, or does not join, is judged by one worker.
+        None => read_traces(alloc, signature, text),
+    }
 }
 
 // The same of a text that is not too long, with a reader that stands before it, and room for a

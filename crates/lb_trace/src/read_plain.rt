@@ -6,13 +6,9 @@ ghost use Rattle.lb_trace.specs.Errors.{Refuses};
 ghost use Rattle.lb_trace.specs.Plain.{plain_records};
 ghost use Rattle.lb_trace.specs.Spelling.{Spells, records_of};
 
-use crate::copied::copy_record;
+use crate::begun::begin;
 use crate::error::TraceError;
-use crate::header::columns_of;
-use crate::record::width;
 use crate::recorder::Recorder;
-use crate::scan::skip_line_ends;
-use crate::table::{Table, are_in_order, are_placed, in_text_order};
 use csv::ByteRecord;
 use lb_flat::traces::TraceSet;
 use lb_static::signature::Signature;
@@ -35,41 +31,15 @@ pub(crate) fn read_plain(
         (λ set. (other : Traces) → Spells signature.now text.now other → other ≡ set.traces) }
     ensures refused { IfErr result (Refuses signature.now text.now) }
 {
-    let first = skip_line_ends(body);
-    if first.is_empty() {
-        return Err(TraceError::Header);
-    }
-    let Ok(mut rest) = copy_record(first, entry) else {
+    let Ok(found) = begin(alloc, signature, body) else {
         return Err(TraceError::Memory(AllocError));
     };
-    let Ok(header) = columns_of(alloc, signature, entry) else {
-        return Err(TraceError::Memory(AllocError));
-    };
-    let Some(columns) = header else {
+    let Some(begun) = found else {
         return Err(TraceError::Header);
     };
-    let count = width(entry);
-    let in_order = are_in_order(&columns, count);
-    let Ok(placed) = in_text_order(alloc, &columns, count) else {
+    let Ok(mut recorder) = Recorder::with_room(alloc, signature, begun.rest.len()) else {
         return Err(TraceError::Memory(AllocError));
     };
-    let is_placed = are_placed(&placed, &columns, count);
-    let table = Table {
-        columns,
-        count,
-        in_order,
-        placed,
-        is_placed,
-    };
-    let Ok(mut recorder) = Recorder::new(alloc, signature) else {
-        return Err(TraceError::Memory(AllocError));
-    };
-    for number in 1..u64::MAX {
-        let begun = skip_line_ends(rest);
-        if begun.is_empty() {
-            return Ok(recorder.rows.into_set());
-        }
-        rest = recorder.add_line(alloc, &table, begun, entry, number)?;
-    }
-    unreachable!()
+    recorder.add_lines(alloc, &begun.table, begun.rest, entry)?;
+    Ok(recorder.rows.into_set())
 }

@@ -32,12 +32,15 @@ use lb_static::signature::Signature;
 use std::alloc::{AllocError, Global};
 use std::collections::HashSet;
 
+/// The most cells of all traces together.
+const MOST_CELLS: usize = 67_108_864;
+
 /// The traces so far, their names, and room for a row and for the cells of a record.
 #[derive(Drop)]
 pub(crate) struct Recorder {
     pub(crate) rows: TraceRows,
-    names: HashSet<String>,
-    row: Vec<i32>,
+    pub(crate) names: HashSet<String>,
+    pub(crate) row: Vec<i32>,
     values: Vec<i32>,
 }
 
@@ -71,6 +74,26 @@ fn has_instants(set: &TraceSet) -> bool
     ensures { result ≡ nat_lt (length (last_rows set.now.traces)) 1000000 }
 {
     set.length(set.len() - 1) < 1_000_000
+}
+
+/// One more row of the last trace, where the limits have room for it.
+#[inline]
+pub(crate) fn push_to(rows: &mut TraceRows, row: &[i32], number: u64) -> Result<(), TraceError>
+    requires started { 0 < length rows.old.traces }
+    requires row { IsRow rows.old.signature row.now }
+    ensures ok { OnOk result
+        (go_on_by rows.old.signature rows.old.traces (Some row.now) ≡ Ok rows.new.traces) }
+    ensures signature { OnOk result (rows.new.signature ≡ rows.old.signature) }
+    ensures err { IfErr result (IsRefusal
+        (go_on_by rows.old.signature rows.old.traces (Some row.now))) }
+{
+    let set = rows.set();
+    if !has_instants(set) || !has_cells(set) {
+        return Err(TraceError::Limit {
+            record: Some(number),
+        });
+    }
+    rows.push(row).map_err(TraceError::Memory)
 }
 
 // Takes a name among the names, where it is lawful and new.
@@ -118,6 +141,23 @@ impl Recorder {
             row: Vec::new(alloc),
             values: Vec::new(alloc),
         })
+    }
+
+    /// No trace yet, with room for the cells of a text of so many bytes.
+    pub(crate) fn with_room(
+        alloc: Global,
+        signature: &Signature,
+        bytes: usize,
+    ) -> Result<Recorder, AllocError>
+        ensures rows { IfOk result
+            (λ r. r.rows ≡ record { signature = signature.now; traces = [] }) }
+        ensures names { IfOk result (λ r. knows r.names r.rows.traces) }
+    {
+        let mut recorder = Recorder::new(alloc, signature)?;
+        // A cell takes two bytes at least, its end with it. Where there is no such room at once,
+        // rows make it one by one.
+        let _ = recorder.rows.reserve((bytes / 2 + 1).min(MOST_CELLS));
+        Ok(recorder)
     }
 
     /// Adds a record, of a text whose header has so many columns; `number` is that of the record.
@@ -245,8 +285,13 @@ impl Recorder {
         Ok(Some(rest))
     }
 
-    // One more instant of the trace with this name, whose row was read.
-    fn add_read(&mut self, alloc: Global, name: &[u8], number: u64) -> Result<(), TraceError>
+    /// One more instant of the trace with this name, whose row was read.
+    pub(crate) fn add_read(
+        &mut self,
+        alloc: Global,
+        name: &[u8],
+        number: u64,
+    ) -> Result<(), TraceError>
         requires names { knows self.old.names self.old.rows.traces }
         requires lawful { IsRecording self.old.rows }
         requires row { IsRow self.old.rows.signature self.old.row.items }
@@ -297,13 +342,7 @@ impl Recorder {
         ensures err { IfErr result (IsRefusal
             (go_on_by self.old.rows.signature self.old.rows.traces (Some self.old.row.items))) }
     {
-        let set = self.rows.set();
-        if !has_instants(set) || !has_cells(set) {
-            return Err(TraceError::Limit {
-                record: Some(number),
-            });
-        }
-        self.rows.push(&self.row).map_err(TraceError::Memory)
+        push_to(&mut self.rows, &self.row, number)
     }
 
     // One more instant of the last trace.

@@ -28,8 +28,9 @@ pub(crate) fn end_of(b: u8) -> Option<bool>
     }
 }
 
+/// Whether a byte is the end of a line.
 #[inline(always)]
-fn ends_line(b: u8) -> bool
+pub(crate) fn ends_line(b: u8) -> bool
     ensures { result ≡ ends_line b }
 {
     b == b'\r' || b == b'\n'

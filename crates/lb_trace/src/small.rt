@@ -6,6 +6,7 @@ ghost use Rattle.lb_trace.specs.Plain.{ends_line};
 ghost use Rattle.lb_trace.specs.PlainRows.{BeginsWith, BeginsWithNumber, count_of, value_of};
 ghost use Rattle.lb_trace.specs.Scan.{ends_cell};
 
+use crate::front::front_of;
 use crate::scan::end_of;
 use lb_static::signature::Kind;
 
@@ -56,23 +57,25 @@ fn cell_end(b: u8, inner: bool) -> Option<bool>
 fn small_int<'t>(text: &'t [u8], inner: bool) -> Option<Value<'t>>
     ensures { IfSome result (λ v. BeginsWith Kind.Int text.now v.value v.rest.now v.is_last) }
 {
-    let [first, digits @ ..] = text else {
+    let [first, rest @ ..] = text else {
         return None;
     };
-    if *first == b'-' {
-        let number = any_number(digits, inner)?;
-        return Some(Value {
-            value: signed(true, number.value),
-            rest: number.rest,
-            is_last: number.is_last,
-        });
-    }
-    let number = any_number(text, inner)?;
+    let is_negative = *first == b'-';
+    let digits = after_sign(is_negative, text, rest);
+    let number = any_number(digits, inner)?;
     Some(Value {
-        value: signed(false, number.value),
+        value: signed(is_negative, number.value),
         rest: number.rest,
         is_last: number.is_last,
     })
+}
+
+// What stands after the sign, if there is one. No branch depends on it.
+#[inline(always)]
+fn after_sign<'t>(is_negative: bool, text: &'t [u8], rest: &'t [u8]) -> &'t [u8]
+    ensures { result.now ≡ (if is_negative then rest.now else text.now) }
+{
+    if is_negative { rest } else { text }
 }
 
 #[inline(always)]
@@ -88,10 +91,13 @@ fn signed(is_negative: bool, n: u32) -> i32
 fn any_number<'t>(text: &'t [u8], inner: bool) -> Option<Number<'t>>
     ensures { IfSome result (λ n. BeginsWithNumber text.now n.value n.rest.now n.is_last) }
 {
-    match short_number(text, inner) {
-        Some(number) => Some(number),
-        None => small_number(text, inner),
+    if let Some(number) = short_number(text, inner) {
+        return Some(number);
     }
+    if let Some(number) = long_number(text, inner) {
+        return Some(number);
+    }
+    small_number(text, inner)
 }
 
 // A number of at most three digits. No branch depends on how many there are, which a processor
@@ -143,8 +149,29 @@ fn value_of(has_two: bool, has_three: bool, first: u8, second: u8, third: u8) ->
     if has_two & has_three { three } else { short }
 }
 
-// A number of at most nine digits.
+// A number of at most seven digits, read as a short one is.
 #[inline(always)]
+fn long_number<'t>(text: &'t [u8], inner: bool) -> Option<Number<'t>>
+    ensures { IfSome result (λ n. BeginsWithNumber text.now n.value n.rest.now n.is_last) }
+{
+    if text.len() < 8 {
+        return None;
+    }
+    let front = front_of(text);
+    if front.count == 0 {
+        return None;
+    }
+    let is_last = cell_end(text[front.count], inner)?;
+    Some(Number {
+        value: front.value,
+        rest: &text[front.count + 1..],
+        is_last,
+    })
+}
+
+// A number of at most nine digits. It stays a call, since few are so long or stand so near to the
+// end of a text.
+#[inline(never)]
 fn small_number<'t>(text: &'t [u8], inner: bool) -> Option<Number<'t>>
     ensures { IfSome result (λ n. BeginsWithNumber text.now n.value n.rest.now n.is_last) }
 {

@@ -1,14 +1,23 @@
-//! The columns of the scalar inputs, and how they stand in the text.
+//! The header of a text, as a table of columns, and how these stand in the text.
 
-ghost use Rattle.std.specs.Prelude.{◌≡◌, ◌<◌, ◌≤◌, IsTrue, IfOk, IfSome, length};
+ghost use Rattle.std.specs.Prelude.{◌≡◌, ◌<◌, ◌≤◌, IsTrue, IfOk, IfSome, MatchOption, false, length};
+ghost use Rattle.std.specs.Prelude.{true};
+ghost use Rattle.csv.specs.Records.{fields_of};
 ghost use Rattle.lb_trace.specs.PlainRows.{AreInOrder, ArePlaced, IsPlaced};
+ghost use Rattle.lb_trace.specs.Spelling.{is_header};
+ghost use Rattle.lb_trace.specs.Tables.{IsTable};
 
-use crate::header::Column;
+use crate::header::{Column, columns_of};
+use crate::record::width;
+use csv::ByteRecord;
+use lb_static::signature::Signature;
 use std::alloc::{AllocError, Global};
 
 /// The columns of the scalar inputs.
 #[derive(Drop)]
 pub(crate) struct Table {
+    /// The record that names them.
+    pub(crate) header: ByteRecord,
     /// They in the order of the signature.
     pub(crate) columns: Vec<Column>,
     /// How many columns the header has.
@@ -21,8 +30,37 @@ pub(crate) struct Table {
     pub(crate) is_placed: bool,
 }
 
-/// Whether each column stands at its place in the order of the signature, with none beside them.
-pub(crate) fn are_in_order(table: &[Column], columns: usize) -> bool
+/// The table of a header; None where the record is not `trace` and then the name of each scalar
+/// input once.
+pub(crate) fn table_of(
+    alloc: Global,
+    signature: &Signature,
+    header: ByteRecord,
+) -> Result<Option<Table>, AllocError>
+    ensures { IfOk result (λ found. MatchOption found
+        (is_header signature.now (fields_of header) ≡ false)
+        (λ table. (is_header signature.now (fields_of header) ≡ true)
+        × (fields_of table.header ≡ fields_of header) × IsTable signature.now table)) }
+{
+    let Some(columns) = columns_of(alloc, signature, &header)? else {
+        return Ok(None);
+    };
+    let count = width(&header);
+    let in_order = are_in_order(&columns, count);
+    let placed = in_text_order(alloc, &columns, count)?;
+    let is_placed = are_placed(&placed, &columns, count);
+    Ok(Some(Table {
+        header,
+        columns,
+        count,
+        in_order,
+        placed,
+        is_placed,
+    }))
+}
+
+// Whether each column stands at its place in the order of the signature, with none beside them.
+fn are_in_order(table: &[Column], columns: usize) -> bool
     ensures { IsTrue result → (length table.now ≡ columns) × AreInOrder 0 table.now }
 {
     if table.len() != columns {
@@ -36,12 +74,8 @@ pub(crate) fn are_in_order(table: &[Column], columns: usize) -> bool
     true
 }
 
-/// The columns of a table in the order of the text, of a header that has so many.
-pub(crate) fn in_text_order(
-    alloc: Global,
-    table: &[Column],
-    columns: usize,
-) -> Result<Vec<Column>, AllocError>
+// The columns of a table in the order of the text, of a header that has so many.
+fn in_text_order(alloc: Global, table: &[Column], columns: usize) -> Result<Vec<Column>, AllocError>
     ensures { IfOk result (λ placed. length placed.items ≤ columns) }
 {
     let mut placed = Vec::new(alloc);
@@ -65,8 +99,8 @@ fn column_at(table: &[Column], at: usize) -> Option<Column>
     None
 }
 
-/// Whether these are so many columns, and each of a table stands at its place among them.
-pub(crate) fn are_placed(placed: &[Column], table: &[Column], columns: usize) -> bool
+// Whether these are so many columns, and each of a table stands at its place among them.
+fn are_placed(placed: &[Column], table: &[Column], columns: usize) -> bool
     ensures { IsTrue result → (length placed.now ≡ columns) × ArePlaced placed.now table.now }
 {
     if placed.len() != columns {

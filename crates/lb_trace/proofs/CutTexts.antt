@@ -1,0 +1,109 @@
+-- The records of a text that is cut at the end of a line.
+use Rattle.std.proofs.Common.{ℕ, ◌≡◌, ◌+◌, ◌-◌, ◌<◌, Bool, true, false, List, [], ◌∷◌, ◌++◌}
+use Rattle.std.proofs.Common.{length, get_or, map, take, drop, refl, sym, ap, ◌∙◌, arith, append_assoc}
+use Rattle.std.specs.Prelude.{flat_map}
+use Rattle.std.specs.Borrow.{Bor}
+use Rattle.std.specs.List.{filter}
+use Rattle.std.proofs.lemmas.List.{append-nil, drop_all, drop_more, map-append, take-append-drop}
+use Rattle.std.proofs.lemmas.List.{take_rest}
+use Rattle.std.proofs.lemmas.List.Elements.{filter-append}
+use Rattle.std.proofs.lemmas.Grind.{flat_map-append}
+use Rattle.lb_trace.specs.Plain.{at_front, ends_line, is_comma, is_filled, plain_records, split_at}
+use Rattle.lb_trace.proofs.Lines.{plain-none}
+
+front-append : (x : ℕ) (parts more : List (List ℕ)) → 0 < length parts
+    → at_front x (parts ++ more) ≡ at_front x parts ++ more
+front-append x [] more some = absurd (omega (arith, some))
+front-append x (part ∷ parts) more some = refl
+
+front-some : (x : ℕ) (parts : List (List ℕ)) → 0 < length (at_front x parts)
+front-some x [] = omega arith
+front-some x (part ∷ parts) = omega arith
+
+split-some : (picks : ℕ → Bool) (text : List ℕ) → 0 < length (split_at picks text)
+unfolding split_at
+split-some picks [] = omega arith
+split-some picks (b ∷ rest) = by (picks b) refl
+  where
+    by : (t : Bool) → picks b ≡ t → 0 < length (split_at picks (b ∷ rest))
+    by true e = rw e (omega arith)
+    by false e = rw e (front-some b (split_at picks rest))
+
+-- the parts of a text that is cut where it is parted
+split-append : (picks : ℕ → Bool) (before : List ℕ) (c : ℕ) (after : List ℕ) → picks c ≡ true
+    → split_at picks (before ++ c ∷ after) ≡ split_at picks before ++ split_at picks after
+unfolding split_at
+split-append picks [] c after e = rw e refl
+split-append picks (b ∷ before) c after e = by (picks b) refl (split-append picks before c after e)
+  where
+    by : (t : Bool) → picks b ≡ t
+        → split_at picks (before ++ c ∷ after) ≡ split_at picks before ++ split_at picks after
+        → split_at picks (b ∷ (before ++ c ∷ after))
+        ≡ split_at picks (b ∷ before) ++ split_at picks after
+    by true t more = rw t (ap (λ parts. [] ∷ parts) more)
+    by false t more =
+        rw t (ap (at_front b) more
+        ∙ front-append b (split_at picks before) (split_at picks after) (split-some picks before))
+
+-- the records before the end of a line, and those after it
+plain-cut : (before : List ℕ) (c : ℕ) (after : List ℕ) → ends_line c ≡ true
+    → plain_records (before ++ c ∷ after) ≡ plain_records before ++ plain_records after
+unfolding plain_records
+plain-cut before c after e =
+    ap (λ lines. map (split_at is_comma) (filter is_filled lines))
+    (split-append ends_line before c after e)
+    ∙ ap (map (split_at is_comma))
+    (filter-append is_filled (split_at ends_line before) (split_at ends_line after))
+    ∙ map-append (split_at is_comma) (filter is_filled (split_at ends_line before))
+    (filter is_filled (split_at ends_line after))
+
+-- the same of the parts of a text as slices give them
+pub cut-found : (text : List ℕ) (i b : ℕ) → i < length text → b ≡ get_or text i 0
+    → ends_line b ≡ true
+    → plain_records text
+    ≡ plain_records (take i text) ++ plain_records (take (length text - (i + 1)) (drop (i + 1) text))
+cut-found text i b below is end =
+    ap plain_records (sym (take-append-drop i text))
+    ∙ ap (λ rest. plain_records (take i text ++ rest))
+    (drop_more text i 0 below ∙ ap (λ x. x ∷ drop (i + 1) text) (sym is))
+    ∙ plain-cut (take i text) b (drop (i + 1) text) end
+    ∙ ap (λ rest. plain_records (take i text) ++ plain_records rest) (sym (take_rest text (i + 1)))
+
+-- a text without another end of a line is the last part
+pub cut-none : (text : List ℕ)
+    → plain_records text
+    ≡ plain_records text
+    ++ plain_records (take (length text - length text) (drop (length text) text))
+cut-none text =
+    sym (ap (λ rest. plain_records text ++ plain_records rest)
+    (take_rest text (length text) ∙ drop_all (length text) text (omega arith))
+    ∙ ap (λ rest. plain_records text ++ rest) plain-none
+    ∙ append-nil (plain_records text))
+
+records_in : Bor (List ℕ) → List (List (List ℕ))
+records_in part = plain_records part.now
+
+-- one more part
+pub parts-more : (parts : List (Bor (List ℕ))) (text rest : List ℕ) (part : Bor (List ℕ))
+    (after : List ℕ)
+    → plain_records text ≡ flat_map (λ p. plain_records p.now) parts ++ plain_records rest
+    → plain_records rest ≡ plain_records part.now ++ plain_records after
+    → plain_records text
+    ≡ flat_map (λ p. plain_records p.now) (parts ++ part ∷ []) ++ plain_records after
+unfolding plain_records records_in
+parts-more parts text rest part after so_far cut =
+    so_far ∙ ap (λ rs. flat_map records_in parts ++ rs) cut
+    ∙ sym (append_assoc (flat_map records_in parts) (plain_records part.now) (plain_records after))
+    ∙ ap (λ rs. (flat_map records_in parts ++ rs) ++ plain_records after)
+    (sym (append-nil (plain_records part.now)))
+    ∙ ap (λ rs. rs ++ plain_records after) (sym (flat_map-append records_in parts (part ∷ [])))
+
+-- the last part
+pub parts-all : (parts : List (Bor (List ℕ))) (text : List ℕ) (part : Bor (List ℕ))
+    → plain_records text ≡ flat_map (λ p. plain_records p.now) parts ++ plain_records part.now
+    → plain_records text ≡ flat_map (λ p. plain_records p.now) (parts ++ part ∷ [])
+unfolding records_in
+parts-all parts text part so_far =
+    so_far
+    ∙ ap (λ rs. flat_map records_in parts ++ rs) (sym (append-nil (plain_records part.now)))
+    ∙ sym (flat_map-append records_in parts (part ∷ []))

@@ -1,0 +1,151 @@
+-- What is read of the parts of a text is what the text spells.
+use Rattle.std.proofs.Common.{ℕ, ◌≡◌, ◌≤◌, true, List, [], ◌∷◌, ◌++◌, length, Result, Ok}
+use Rattle.std.proofs.Common.{map, sym, ap, ◌∙◌, subst}
+use Rattle.std.specs.Prelude.{flat_map, IfOk}
+use Rattle.std.specs.Borrow.{Bor}
+use Rattle.std.specs.List.{All, AllZip}
+use Rattle.std.proofs.lemmas.List.Elements.{All-cons, All-nil}
+use Rattle.lb_static.specs.Signature.{Elements}
+use Rattle.csv.specs.Reading.{default_config, records as records_by, strip_bom}
+use Rattle.csv.specs.Records.{fields_of}
+use Rattle.lb_flat.specs.Traces.{IsRecording, Recording, Traces}
+use Rattle.lb_flat.proofs.Recordings.{IsRecording-none}
+use Rattle.lb_trace.specs.declared.table.Table.{Table}
+use Rattle.lb_trace.specs.Plain.{plain_records}
+use Rattle.lb_trace.specs.Refusals.{with_records}
+use Rattle.lb_trace.specs.Spelling.{Record, SpelledBy, Spells, SpellsInstant}
+use Rattle.lb_trace.specs.Spelling.{instants, is_header, records_of}
+use Rattle.lb_trace.specs.Tables.{IsReadOf, columns_in}
+use Rattle.lb_trace.proofs.Outcomes.{complete_text}
+use Rattle.lb_trace.proofs.Soundness.{Sound, sound}
+
+-- two lists of lists, one after the other
+zip-append : {A B : Type 0} (R : A → B → Type 0) (xs zs : List A) (ys ws : List B)
+    → AllZip R xs ys → AllZip R zs ws → AllZip R (xs ++ zs) (ys ++ ws)
+zip-append R [] zs [] ws h k = k
+zip-append R [] zs (y ∷ ys) ws h k = absurd h
+zip-append R (x ∷ xs) zs [] ws h k = absurd h
+zip-append R (x ∷ xs) zs (y ∷ ys) ws h k = (h.0, zip-append R xs zs ys ws h.1 k)
+
+zip-flat : {A B X Y : Type 0} (R : A → B → Type 0) (f : X → List A) (g : Y → List B)
+    (xs : List X) (ys : List Y)
+    → AllZip (λ x y. AllZip R (f x) (g y)) xs ys → AllZip R (flat_map f xs) (flat_map g ys)
+zip-flat R f g [] [] h = tt
+zip-flat R f g [] (y ∷ ys) h = absurd h
+zip-flat R f g (x ∷ xs) [] h = absurd h
+zip-flat R f g (x ∷ xs) (y ∷ ys) h =
+    zip-append R (f x) (flat_map f xs) (g y) (flat_map g ys) h.0 (zip-flat R f g xs ys h.1)
+
+zip-weaker : {X Y : Type 0} (R S : X → Y → Type 0) (xs : List X) (ys : List Y)
+    → AllZip R xs ys → ((x : X) (y : Y) → R x y → S x y) → AllZip S xs ys
+zip-weaker R S [] [] h go = tt
+zip-weaker R S [] (y ∷ ys) h go = absurd h
+zip-weaker R S (x ∷ xs) [] h go = absurd h
+zip-weaker R S (x ∷ xs) (y ∷ ys) h go = (go x y h.0, zip-weaker R S xs ys h.1 go)
+
+-- what is known of each pair and of its second part alone is known of the second parts
+zip-right : {X Y : Type 0} (R : X → Y → Type 0) (P : Y → Type 0) (xs : List X) (ys : List Y)
+    → AllZip R xs ys → ((x : X) (y : Y) → R x y → P y) → All P ys
+zip-right R P [] [] h go = All-nil P
+zip-right R P [] (y ∷ ys) h go = absurd h
+zip-right R P (x ∷ xs) [] h go = absurd h
+zip-right R P (x ∷ xs) (y ∷ ys) h go = All-cons P y ys (go x y h.0) (zip-right R P xs ys h.1 go)
+
+-- what came of each one, where all worked
+oks : {A B : Type 0} (E : Type 0) (R : A → B → Type 0) (xs : List A) (ys : List B)
+    → AllZip (λ x y. IfOk {T = B} {E = E} y (R x)) xs (map Ok ys) → AllZip R xs ys
+oks E R [] [] h = tt
+oks E R [] (y ∷ ys) h = absurd h
+oks E R (x ∷ xs) [] h = absurd h
+oks E R (x ∷ xs) (y ∷ ys) h = (h.0, oks E R xs ys h.1)
+
+pub of_collected : {A B E : Type 0} (R : A → B → Type 0) (xs : List A) (rs : List (Result B E))
+    (all : List B)
+    → AllZip (λ x y. IfOk {T = B} {E = E} y (R x)) xs rs → (ys : List B) → rs ≡ map Ok ys
+    → all ≡ ys → AllZip R xs all
+of_collected {E = E} R xs rs all h ys worked same =
+    subst (AllZip R xs) (sym same)
+    (oks E R xs ys (subst (AllZip (λ x y. IfOk y (R x)) xs) worked h))
+
+-- the sets have the signature
+pub same_signatures : (elements : Elements) (table : Table) (parts : List (Bor (List ℕ)))
+    (sets : List Recording)
+    → AllZip (λ part set. IsReadOf elements table (plain_records part.now) set) parts sets
+    → All (λ set. set.signature ≡ elements) sets
+same_signatures elements table parts sets each =
+    zip-right (λ (part : Bor (List ℕ)) (set : Recording).
+    IsReadOf elements table (plain_records part.now) set)
+    (λ (set : Recording). set.signature ≡ elements) parts sets each
+    (λ part set h. h.0)
+
+-- a text whose parts were read and joined spells what they spell
+pub spread_spells : (elements : Elements) (table : Table) (text rest : List ℕ)
+    (parts : List (Bor (List ℕ))) (sets : List Recording) (set : Recording)
+    → length text ≤ 1073741824
+    → is_header elements (fields_of table.header) ≡ true
+    → records_of text ≡ fields_of table.header ∷ plain_records rest
+    → plain_records rest ≡ flat_map (λ part. plain_records part.now) parts
+    → AllZip (λ part set. IsReadOf elements table (plain_records part.now) set) parts sets
+    → set.signature ≡ elements → IsRecording set
+    → instants set.traces ≡ flat_map (λ one. instants one.traces) sets
+    → Spells elements text set.traces
+unfolding SpelledBy
+spread_spells elements table text rest parts sets set short headed all cut each same lawful
+    joined =
+    let records : Bor (List ℕ) → List Record = λ part. plain_records part.now in
+    let spelled : AllZip (SpellsInstant elements (columns_in table)) (plain_records rest)
+    (instants set.traces) =
+    subst (λ rs. AllZip (SpellsInstant elements (columns_in table)) rs (instants set.traces))
+    (sym cut)
+    (subst (AllZip (SpellsInstant elements (columns_in table)) (flat_map records parts))
+    (sym joined)
+    (zip-flat (SpellsInstant elements (columns_in table)) records
+    (λ (one : Recording). instants one.traces) parts sets
+    (zip-weaker (λ (part : Bor (List ℕ)) (one : Recording).
+    IsReadOf elements table (plain_records part.now) one)
+    (λ (part : Bor (List ℕ)) (one : Recording).
+    AllZip (SpellsInstant elements (columns_in table)) (records part) (instants one.traces))
+    parts sets each (λ part one h. h.1)))) in
+    record {
+      short = short;
+      spelled = subst (SpelledBy elements set.traces) (sym all) (headed, spelled);
+      lawful = subst (λ e. IsRecording record { signature = e; traces = set.traces }) same lawful;
+    }
+
+-- the traces of some records alone
+pub read_of : (elements : Elements) (table : Table) (records : List Record) (set : Recording)
+    → set.signature ≡ elements
+    → with_records elements (columns_in table) [] records ≡ Ok set.traces
+    → IsReadOf elements table records set
+read_of elements table records set same read =
+    let s : Sound elements (columns_in table) [] set.traces records =
+    sound elements (columns_in table) [] set.traces records (IsRecording-none elements) read in (
+      same,
+      subst (AllZip (SpellsInstant elements (columns_in table)) records) (sym s.is) s.spelled,
+    )
+
+-- the same of what a recorder has that began with no trace
+pub part_read : (elements : Elements) (table : Table) (records : List Record)
+    (before after set : Recording)
+    → before ≡ record { signature = elements; traces = [] }
+    → with_records before.signature (columns_in table) before.traces records ≡ Ok after.traces
+    → after.signature ≡ before.signature → set ≡ after
+    → IsReadOf elements table records set
+part_read elements table records before after set none read same is =
+    read_of elements table records set
+    (ap (λ (r : Recording). r.signature) is ∙ same ∙ ap (λ (r : Recording). r.signature) none)
+    (ap (λ (r : Recording). with_records r.signature (columns_in table) r.traces records) (sym none)
+    ∙ read ∙ ap (λ (r : Recording). Ok r.traces) (sym is))
+
+-- the records of a text are those of what follows its byte order mark
+pub records_after_bom : (text body : List ℕ) → body ≡ strip_bom text
+    → records_by default_config body ≡ plain_records body → records_of text ≡ plain_records body
+unfolding records_of
+records_after_bom text body is plain = ap (records_by default_config) (sym is) ∙ plain
+
+-- a text spells one list of traces
+pub only_spelled : (elements : Elements) (text : List ℕ) (traces : Traces)
+    → Spells elements text traces
+    → (other : Traces) → Spells elements text other → other ≡ traces
+only_spelled elements text traces spells other also =
+    cc (complete_text elements text traces spells, complete_text elements text other also)

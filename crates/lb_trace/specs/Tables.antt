@@ -1,0 +1,34 @@
+-- The table of a header.
+use Rattle.std.specs.Prelude.{Bool as Truth, false, ◌≡◌, IsTrue, List, [], ◌∷◌, length, map}
+use Rattle.std.specs.List.{AllZip}
+use Rattle.csv.specs.Records.{fields_of}
+use Rattle.lb_static.specs.Signature.{Elements}
+use Rattle.lb_flat.specs.Traces.{Recording}
+use Rattle.lb_trace.specs.declared.table.Table.{Table}
+use Rattle.lb_trace.specs.Mirrors.{column_of}
+use Rattle.lb_trace.specs.PlainRows.{AreInOrder, ArePlaced}
+use Rattle.lb_trace.specs.Spelling.{Record, SpellsInstant, after_first, instants, is_header}
+
+-- the columns that the header of a table names
+abbrev pub columns_in : Table → Record
+columns_in table = after_first (fields_of table.header)
+
+-- a table has the columns that its header names, for the elements of a signature
+pub record IsTable (elements : Elements) (table : Table) : Type 0 where
+  pub columns : table.columns.items ≡ map (column_of (columns_in table)) elements
+  pub count : table.count ≡ length (columns_in table)
+  pub order : IsTrue table.in_order
+      → (length table.columns.items ≡ table.count) × AreInOrder 0 table.columns.items
+  pub placed : IsTrue table.is_placed
+      → (length table.placed.items ≡ table.count) × ArePlaced table.placed.items table.columns.items
+
+-- whether some records begin with a header
+abbrev pub has_header : Elements → List Record → Truth
+has_header elements [] = false
+has_header elements (header ∷ rows) = is_header elements header
+
+-- traces are those of some records alone, which follow a table
+abbrev pub IsReadOf : Elements → Table → List Record → Recording → Type 0
+IsReadOf elements table records read =
+    (read.signature ≡ elements)
+    × AllZip (SpellsInstant elements (columns_in table)) records (instants read.traces)

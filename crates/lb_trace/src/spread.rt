@@ -1,0 +1,113 @@
+//! A text without quotes, read in parts side by side.
+
+ghost use Rattle.std.specs.Prelude.{◌≡◌, All, IfOk, IfSome, OnOk, flat_map};
+ghost use Rattle.std.specs.List.{AllZip};
+ghost use Rattle.lb_flat.specs.Traces.{IsRecording};
+ghost use Rattle.lb_trace.specs.Plain.{plain_records};
+ghost use Rattle.lb_trace.specs.Spelling.{Spells, instants, records_of};
+ghost use Rattle.lb_trace.specs.Tables.{IsReadOf, IsTable};
+ghost use Rattle.std.specs.Prelude.{◌≤◌, length};
+
+use crate::begun::begin;
+use crate::error::TraceError;
+use crate::parts::parts_of;
+use crate::recorder::Recorder;
+use crate::table::Table;
+use csv::ByteRecord;
+use lb_flat::traces::TraceSet;
+use lb_static::signature::Signature;
+use rayon::prelude::*;
+use std::alloc::{AllocError, Global};
+use std::thread::Threads;
+
+// The traces that the records of a part spell by themselves.
+fn read_part(
+    alloc: Global,
+    signature: &Signature,
+    table: &Table,
+    part: &[u8],
+) -> Result<TraceSet, TraceError>
+    requires { IsTable signature.now table.now }
+    ensures { IfOk result (IsReadOf signature.now table.now (plain_records part.now)) }
+{
+    let Ok(mut recorder) = Recorder::with_room(alloc, signature, part.len()) else {
+        return Err(TraceError::Memory(AllocError));
+    };
+    let mut entry = ByteRecord::new(alloc);
+    recorder.add_lines(alloc, table, part, &mut entry)?;
+    Ok(recorder.rows.into_set())
+}
+
+// The traces of each part, in the order of the parts, or the refusal of one.
+fn read_parts<R: Threads + Sync>(
+    rt: &R,
+    alloc: Global,
+    signature: &Signature,
+    table: &Table,
+    parts: &[&[u8]],
+) -> Result<Result<Vec<TraceSet>, TraceError>, AllocError>
+    requires { IsTable signature.now table.now }
+    ensures { IfOk result (λ outer. IfOk outer (λ sets.
+        AllZip (λ part set. IsReadOf signature.now table.now (plain_records part.now) set)
+        parts.now sets.items)) }
+{
+    parts
+        .par_iter()
+        // A part is worth a thread of its own, however few there are.
+        .with_min_len(1)
+        .map(
+            |part: &&[u8]| -> Result<TraceSet, TraceError>
+                requires { IsTable signature.now table.now }
+                ensures { IfOk result (IsReadOf signature.entry.now table.entry.now
+                    (plain_records part.now.now)) }
+            { read_part(alloc, signature, table, part) },
+        )
+        .collect(rt, alloc)
+}
+
+// The traces of all parts of a text of so many bytes, one after the other; None where they do not
+// join.
+fn joined(alloc: Global, signature: &Signature, sets: &[TraceSet], bytes: usize) -> Option<TraceSet>
+    requires { All (λ set. set.signature ≡ signature.now) sets.now }
+    ensures { IfSome result (λ set. (set.signature ≡ signature.now) × IsRecording set
+        × (instants set.traces ≡ flat_map (λ one. instants one.traces) sets.now)) }
+{
+    let Ok(mut recorder) = Recorder::with_room(alloc, signature, bytes) else {
+        return None;
+    };
+    for set in sets {
+        let Ok(()) = recorder.join(alloc, set) else {
+            return None;
+        };
+    }
+    let set = recorder.rows.into_set();
+    let _ = set.signature();
+    Some(set)
+}
+
+/// The traces that a text without quotes spells, read in so many parts by threads; `body` is the
+/// text after its byte order mark. None says nothing of the text.
+pub(crate) fn read_spread<R: Threads + Sync>(
+    rt: &R,
+    alloc: Global,
+    signature: &Signature,
+    text: &[u8],
+    body: &[u8],
+    count: u32,
+) -> Option<TraceSet>
+    requires short { length text.now ≤ 1073741824 }
+    requires plain { records_of text.now ≡ plain_records body.now }
+    ensures signature { IfSome result (λ set. set.signature ≡ signature.now) }
+    ensures spelled { IfSome result (λ set. Spells signature.now text.now set.traces) }
+{
+    let Ok(Some(begun)) = begin(alloc, signature, body) else {
+        return None;
+    };
+    let Ok(parts) = parts_of(alloc, begun.rest, count) else {
+        return None;
+    };
+    let Ok(Ok(sets)) = read_parts(rt, alloc, signature, &begun.table, &parts) else {
+        return None;
+    };
+    joined(alloc, signature, &sets, begun.rest.len())
+}
