@@ -29,7 +29,7 @@ fn forms(rt: HostRuntime) -> Result<(), AllocError> {
 /// Case texts: inputs that are arrays; sizes that are constants; variables and calls on clocks; a
 /// fault of a clock; `current` of `current`; iterators with and without a memory; several results;
 /// an observer; cycles through `current` and through a call; and sizes at the limit and over it.
-const FORMS: &str = "
+pub const FORMS: &str = "
 node main(m: int^3^2; e: int) returns (ok: bool); let ok = m[1][2] = e; tel
 %traces
 trace,m[0][0],m[0][1],m[0][2],m[1][0],m[1][1],m[1][2],e

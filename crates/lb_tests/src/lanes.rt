@@ -5,13 +5,14 @@ ghost use Rattle.lb_lanes.specs.Kernels.{AreInts};
 
 use crate::tables::{Asks, Table, check};
 use lb_lanes::{
-    IntLanes, Plane, and_slices, any_outside, commit_ints, commit_planes, or_slices, xor_slices,
+    IntLanes, IntOperator, Plane, and_slices, any_outside, commit_ints, commit_planes, or_slices,
+    transpose, xor_slices,
 };
 use std::alloc::{AllocError, Global};
 use std::process::Abort;
 
-// The two integers in lanes 0 and 1, and 0 elsewhere.
-fn pair(first: i32, second: i32) -> IntLanes
+/// The two integers in lanes 0 and 1, and 0 elsewhere.
+pub fn pair(first: i32, second: i32) -> IntLanes
     ensures { AreInts result }
 {
     let mut lanes = IntLanes::splat(0);
@@ -20,14 +21,41 @@ fn pair(first: i32, second: i32) -> IntLanes
     lanes
 }
 
-// The number that a word spells, if it spells one.
-fn number(word: Option<&str>) -> Option<i32> {
+/// The number that a word spells, if it spells one.
+pub fn number(word: Option<&str>) -> Option<i32> {
     word?.parse().ok()
 }
 
 // The plane that a word spells, if it spells one.
 fn plane(word: Option<&str>) -> Option<Plane> {
     Some(Plane(u64::from(number(word)?.unsigned_abs())))
+}
+
+/// The operator of a sign.
+pub fn operator(sign: u8) -> IntOperator {
+    match sign {
+        b'+' => IntOperator::Add,
+        b'-' => IntOperator::Sub,
+        b'*' => IntOperator::Mul,
+        b'/' => IntOperator::Div,
+        _ => IntOperator::Rem,
+    }
+}
+
+// What is put into lanes that hold 99, and where it faults.
+fn put(kernel: &[u8], a: &IntLanes, b: &IntLanes, active: Plane) -> (IntLanes, Plane)
+    requires left { AreInts a.now }
+    requires right { AreInts b.now }
+{
+    let mut out = IntLanes::splat(99);
+    let mut faults = Plane(0);
+    match kernel {
+        [b'c', ..] => out.copy_from(a),
+        [b's', ..] => out.set_blend(active, a, b),
+        [sign, ..] => faults = a.operate(operator(*sign), b, active, &mut out),
+        _ => {}
+    }
+    (out, faults)
 }
 
 // What a kernel makes of two rows of integers, and where it faults or holds.
@@ -45,6 +73,7 @@ fn applied(kernel: &[u8], a: &IntLanes, b: &IntLanes, active: Plane) -> (IntLane
         [b'=', ..] => (IntLanes::splat(0), a.eq(b)),
         [b'<', ..] => (IntLanes::splat(0), a.lt(b)),
         [b'l', ..] => (IntLanes::splat(0), a.le(b)),
+        [b'>', put_kernel @ ..] => put(put_kernel, a, b, active),
         _ => (IntLanes::blend(active, a, b), Plane(0)),
     }
 }
@@ -96,7 +125,8 @@ pub fn push_plane(asked: &str, said: &mut String) -> Result<(), AllocError> {
 }
 
 // Kernels, lanes 0 and 1 of their operands, and the lanes that count or are taken; then lanes 0 and
-// 1 of the result, and the faults or where it holds.
+// 1 of the result, and the faults or where it holds. All other lanes are 0. Those with `>` put
+// their result into lanes that held something else.
 const INTEGERS: &str = "\
 + 2147483647 2 1 3 3 => 0 5 1
 + 2147483647 2 1 3 2 => 0 5 0
@@ -111,7 +141,31 @@ neg -2147483648 7 0 0 3 => 0 -7 1
 = -1 5 1 5 0 => 0 0 18446744073709551614
 < -1 5 1 5 0 => 0 0 1
 le -1 5 1 5 0 => 0 0 18446744073709551615
-blend -1 5 1 5 2 => 1 5 0";
+blend -1 5 1 5 2 => 1 5 0
+blend -1 5 1 7 2 => 1 5 0
+>+ 2147483647 -5 1 3 3 => 0 -2 1
+>+ 2147483647 -5 1 3 2 => 0 -2 0
+>+ -2147483648 -2147483648 0 -1 3 => -2147483648 0 2
+>+ -2147483648 2147483647 -2147483648 2147483647 1 => 0 0 1
+>- -2147483648 5 1 7 3 => 0 -2 1
+>- 0 2147483647 -2147483648 -1 3 => 0 0 3
+>- -2147483648 9 -2147483648 4 2 => 0 5 0
+>* 65536 -65536 32768 32768 3 => 0 -2147483648 1
+>* 46341 46340 46341 46340 3 => 0 2147395600 1
+>* -2147483648 3 -1 -4 1 => 0 0 1
+>/ -7 7 2 -2 3 => -3 -3 0
+>/ 1 9 0 3 7 => 0 3 5
+>/ 1 9 0 3 2 => 0 3 0
+>/ -2147483648 -2147483648 -1 1 3 => 0 -2147483648 1
+>/ -2147483648 -2147483648 -1 1 2 => 0 -2147483648 0
+>% -7 7 2 -2 3 => -1 1 0
+>% 1 9 0 4 5 => 0 0 5
+>% -2147483648 -2147483648 -1 2 3 => 0 0 1
+>% 5 9 0 4 2 => 0 1 0
+>copy -1 5 1 7 0 => -1 5 0
+>set -1 5 1 7 0 => 1 7 0
+>set -1 5 1 7 2 => 1 5 0
+>set -1 5 1 7 1 => -1 7 0";
 
 // Kernels and their planes; the last takes lanes 0 and 1 of the first one.
 const PLANES: &str = "\
@@ -130,6 +184,81 @@ fn integers(rt: HostRuntime) -> Result<(), AllocError> {
 fn planes(rt: HostRuntime) -> Result<(), AllocError> {
     assert!(rt; Plane(4).get(2) && !Plane(4).get(3));
     check(&rt, &Table::of_lines(Asks::Planes, PLANES))
+}
+
+// Rows that are not 0, each with its number, as `3:5;`. Others stay as they are.
+fn set_rows(words: &mut [u64; 64], asked: &str) {
+    for row in asked.split(';') {
+        let (number, word) = row.split_once(':').unwrap_or(("", ""));
+        let number = number.parse::<usize>().unwrap_or(64);
+        if number < 64 {
+            words[number] = word.parse::<u64>().unwrap_or(0);
+        }
+    }
+}
+
+/// The rows of a matrix that are not 0 once it has been transposed.
+pub fn push_transposed(asked: &str, said: &mut String) -> Result<(), AllocError> {
+    let mut words = [0u64; 64];
+    set_rows(&mut words, asked);
+    transpose(&mut words);
+    for number in 0..64usize {
+        if words[number] != 0 {
+            write!(said, "{number}:{};", words[number])?;
+        }
+    }
+    Ok(())
+}
+
+// Rows of 64 columns that are not 0, and the columns as rows.
+const MATRICES: &str = "\
+0:2; => 1:1;
+63:1; => 0:9223372036854775808;
+0:9223372036854775808; => 63:1;
+63:9223372036854775808; => 63:9223372036854775808;
+31:4294967296; => 32:2147483648;
+32:1073741824; => 30:4294967296;
+0:5;2:1;63:4; => 0:5;2:9223372036854775809;
+15:65536;16:256;47:2;48:140737488355328; => 1:140737488355328;8:65536;16:32768;47:281474976710656;
+7:256;8:16;33:17179869184;34:4294967296;62:2305843009213693952; => \
+4:256;8:128;32:17179869184;34:8589934592;61:4611686018427387904;
+1:134217728;3:576460752303423488;13:2147483648;20:16384;31:281474976710720;\
+32:35184372088832;47:1152921504606846976;52:34359738368; => \
+6:2147483648;14:1048576;27:2;31:8192;35:4503599627370496;45:4294967296;48:2147483648;59:8;\
+60:140737488355328;
+0:18446744073709551615; => {64 @:1;}
+{64 @:9223372036854775808;} => 63:18446744073709551615;
+{64 @:18446744073709551615;} => {64 @:18446744073709551615;}";
+
+#[test]
+fn matrices(rt: HostRuntime) -> Result<(), AllocError> {
+    check(&rt, &Table::of_lines(Asks::Matrices, MATRICES))
+}
+
+// Whether bit `c` of row `r` became bit `r` of row `c`, for all of them.
+fn check_bits(rt: &impl Abort, old: &[u64; 64], new: &[u64; 64]) {
+    for r in 0..64u32 {
+        for c in 0..64u32 {
+            let was = old[r as usize] >> c;
+            let is = new[c as usize] >> r;
+            assert!(rt; was % 2 == is % 2, "row {r}, column {c}");
+        }
+    }
+}
+
+#[test]
+fn a_full_matrix(rt: HostRuntime) {
+    let mut old = [0; 64];
+    let mut seed = 7u64;
+    for k in 0..64 {
+        seed = seed
+            .wrapping_mul(6364136223846793005)
+            .wrapping_add(1442695040888963407);
+        old[k] = seed;
+    }
+    let mut new = old;
+    transpose(&mut new);
+    check_bits(&rt, &old, &new);
 }
 
 const LENGTHS: [usize; 5] = [0, 1, 63, 64, 65];

@@ -7,6 +7,8 @@
 #[cfg(test)]
 mod answers;
 #[cfg(test)]
+mod batches;
+#[cfg(test)]
 mod commands;
 #[cfg(test)]
 mod elaboration;
@@ -15,9 +17,13 @@ mod forms;
 #[cfg(test)]
 mod lanes;
 #[cfg(test)]
+mod machine;
+#[cfg(test)]
 mod pool;
 #[cfg(test)]
 mod programs;
+#[cfg(test)]
+mod random;
 #[cfg(test)]
 mod readings;
 #[cfg(test)]

@@ -246,8 +246,8 @@ fn push_records(case: &mut String, line: &str) -> Result<(), AllocError> {
     Ok(())
 }
 
-// A case whose records are told by their count.
-fn push_case(case: &mut String, short: &str) -> Result<(), AllocError> {
+/// A case whose records are told by their count.
+pub fn push_case(case: &mut String, short: &str) -> Result<(), AllocError> {
     let (source, traces) = short.split_once("%traces\n").unwrap_or((short, ""));
     write!(case, "{source}%traces\n")?;
     for line in traces.split('\n') {
@@ -336,7 +336,7 @@ lbench --workers 64 --batch 7 --by-length
 lbench --workers 64 --batch 64 --by-length";
 
 // Sixty-five lengths, so that at width 64 the second batch has one trace; traces of which some end
-// early; no trace.
+// early; the same where one of these passes, so that its line and the last one differ; no trace.
 const SPREADS: &str = "\
 node main() returns (ok: bool);
 var n: int;
@@ -370,6 +370,25 @@ t6 passed
 t7 false 9
 {8..63 t@ passed
 }total 64 passed 62 fault 1 undefined 0 assertion 0 false 1
+status 1
+%case
+node main(x: int) returns (ok: bool);
+var q: int;
+let q = 100 / (x + 1); ok = x < 50; tel
+%traces
+trace,x
+{6 t@ 10,1
+}t6 1,1
+t7 9,1
+t7 1,50
+{8..63 t@ 10,1
+}%answer
+{5 t@ passed
+}t5 passed
+t6 passed
+t7 false 9
+{8..63 t@ passed
+}total 64 passed 63 fault 0 undefined 0 assertion 0 false 1
 status 1
 %case
 node main() returns (ok: bool); let ok = true; tel

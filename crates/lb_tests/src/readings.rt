@@ -3,8 +3,11 @@
 use crate::tables::{Asks, Table, check};
 use lb_flat::traces::TraceSet;
 use lb_static::signature::{Kind, Signature};
-use lb_trace::read_traces;
+use lb_trace::error::TraceError;
+use lb_trace::{read_traces, read_traces_by};
 use std::alloc::{AllocError, Global};
+use std::rt::Runtime;
+use std::thread::Threads;
 
 // The text that a row stands for: `/` is a line feed, `\` a carriage return, `'` the byte `"`, and
 // `^` the byte order mark.
@@ -46,10 +49,10 @@ fn push_read(
 ) -> Result<(), AllocError> {
     let mut text = String::new(alloc);
     push_text(asked, &mut text)?;
-    match &read_traces(alloc, signature, text.as_str().as_bytes()) {
-        Ok(set) => push_traces(set, said),
-        Err(error) => write!(said, "E{} {error}", error.number()),
-    }
+    push_outcome(
+        &read_traces(alloc, signature, text.as_str().as_bytes()),
+        said,
+    )
 }
 
 /// What is read of a text whose columns are an integer `x` and a Boolean `c`, or its refusal.
@@ -67,6 +70,44 @@ pub fn push_three(alloc: Global, asked: &str, said: &mut String) -> Result<(), A
     signature.push(String::from_str(alloc, "y")?, Kind::Int)?;
     signature.push(String::from_str(alloc, "c")?, Kind::Bool)?;
     push_read(alloc, &signature, asked, said)
+}
+
+// What is said of a text that has been read, or of its refusal.
+fn push_outcome(read: &Result<TraceSet, TraceError>, said: &mut String) -> Result<(), AllocError> {
+    match read {
+        Ok(set) => push_traces(set, said),
+        Err(error) => write!(said, "E{} {error}", error.number()),
+    }
+}
+
+/// What is read of a text whose columns are an integer `x` and a Boolean `c`, or its refusal, by
+/// each number of workers; or the first number that makes a difference.
+pub fn push_by_workers<R: Runtime + AllocGlobal + Threads + Sync>(
+    rt: &R,
+    asked: &str,
+    said: &mut String,
+) -> Result<(), AllocError> {
+    let alloc = rt.alloc();
+    let mut signature = Signature::new(alloc);
+    signature.push(String::from_str(alloc, "x")?, Kind::Int)?;
+    signature.push(String::from_str(alloc, "c")?, Kind::Bool)?;
+    let mut text = String::new(alloc);
+    push_text(asked, &mut text)?;
+    let body = text.as_str().as_bytes();
+    push_outcome(&read_traces(alloc, &signature, body), said)?;
+    let mut other = String::new(alloc);
+    for workers in 0..24u32 {
+        other.clear();
+        push_outcome(
+            &read_traces_by(rt, alloc, &signature, body, workers),
+            &mut other,
+        )?;
+        if other.as_str() != said.as_str() {
+            write!(said, " and with {workers} workers {other}")?;
+            return Ok(());
+        }
+    }
+    Ok(())
 }
 
 // Records that end in each way, with and without an end of the last; empty lines; a byte order
@@ -90,6 +131,9 @@ trace,x,c =>
 trace,x,c/a,7,0/a,42,1/a,-100,0 => a: ( 7 0 ) ( 42 1 ) ( -100 0 );
 trace,x,c/a,0,0/a,007,1/a,1000,0 => a: ( 0 0 ) ( 7 1 ) ( 1000 0 );
 trace,x,c/a,1,0/a,999999999,1/a,-999999999,0 => a: ( 1 0 ) ( 999999999 1 ) ( -999999999 0 );
+trace,x,c/a,1234,0/a,-12345,1/a,654321,0/a,1,1 => a: ( 1234 0 ) ( -12345 1 ) ( 654321 0 ) ( 1 1 );
+trace,x,c/a,-1234567,1/a,87654321,0/a,1,1 => a: ( -1234567 1 ) ( 87654321 0 ) ( 1 1 );
+trace,x,c/a,12345,0/a,00123,1/a,12345x,0/ => E16 the cell of record 3 in column 0 is no value of it
 trace,x,c/a,1,0/a,2147483647,1/a,-2147483648,0 => a: ( 1 0 ) ( 2147483647 1 ) ( -2147483648 0 );
 trace,x,c/a,1,0/a,00000000000000000012,false/a,-0,true => a: ( 1 0 ) ( 12 0 ) ( 0 1 );
  => E14 the first record is not `trace` and the name of each scalar input
@@ -142,4 +186,98 @@ trace,c,y,x,z/a,0,2,1,3/ => E14 the first record is not `trace` and the name of 
 #[test]
 fn orders(rt: HostRuntime) -> Result<(), AllocError> {
     check(&rt, &Table::of_lines(Asks::Orders, ORDERS))
+}
+
+// ## Booleans as bits
+
+// The words of the Booleans of each instant of each trace.
+fn push_words(set: &TraceSet, said: &mut String) -> Result<(), AllocError> {
+    for k in 0..set.len() {
+        write!(said, "{}:", set.name(k))?;
+        for t in 0..set.length(k) {
+            said.push_str(" (")?;
+            for word in set.bits(k, t) {
+                write!(said, " {word}")?;
+            }
+            said.push_str(" )")?;
+        }
+        said.push_str(";")?;
+    }
+    Ok(())
+}
+
+// Columns `c0`, `c1` and so on, of integers where a letter is `i` and of Booleans elsewhere, and the
+// header of their texts.
+fn signature_of(alloc: Global, kinds: &str, text: &mut String) -> Result<Signature, AllocError> {
+    let mut signature = Signature::new(alloc);
+    text.push_str("trace")?;
+    for letter in kinds.as_bytes() {
+        let column = signature.len();
+        if column < 1023 {
+            let mut name = String::new(alloc);
+            write!(name, "c{column}")?;
+            let kind = if *letter == b'i' {
+                Kind::Int
+            } else {
+                Kind::Bool
+            };
+            signature.push(name, kind)?;
+            write!(text, ",c{column}")?;
+        }
+    }
+    Ok(signature)
+}
+
+/// What is kept of the Booleans of some records, which stand behind the kinds of their columns.
+pub fn push_bits(alloc: Global, asked: &str, said: &mut String) -> Result<(), AllocError> {
+    let (kinds, records) = asked.split_once(' ').unwrap_or((asked, ""));
+    let mut text = String::new(alloc);
+    let signature = signature_of(alloc, kinds, &mut text)?;
+    for record in records.split(' ') {
+        write!(text, "\n{record}")?;
+    }
+    match &read_traces(alloc, &signature, text.as_str().as_bytes()) {
+        Ok(set) => push_words(set, said),
+        Err(error) => write!(said, "E{} {error}", error.number()),
+    }
+}
+
+// The kinds of columns and some records: no Boolean, one, and some among integers; sixty-four,
+// sixty-five, and a hundred and thirty.
+const BITS: &str = "\
+i a,5 a,-5 b,0 => a: ( ) ( );b: ( );
+b a,1 a,0 b,true => a: ( 1 ) ( 0 );b: ( 1 );
+ibib a,7,1,-1,0 a,-7,0,0,1 b,-1,1,-2147483648,1 => a: ( 1 ) ( 2 );b: ( 3 );
+bb a,1,0 b,0,1 b,1,1 c,0,0 => a: ( 1 );b: ( 2 ) ( 3 );c: ( 0 );
+{32 bb} a{32 ,1,0} a{63 ,0},1 => a: ( 6148914691236517205 ) ( 9223372036854775808 );
+{32 bb}ib a{32 ,1,0},-3,1 a{32 ,0,1},9,0 => a: ( 6148914691236517205 1 ) ( 12297829382473034410 0 );
+{65 bib} a{65 ,1,-9,0} => a: ( 6148914691236517205 6148914691236517205 1 );
+{65 bib} a{64 ,0,5,0},0,5,1 => a: ( 0 0 2 );";
+
+#[test]
+fn bits(rt: HostRuntime) -> Result<(), AllocError> {
+    check(&rt, &Table::of_lines(Asks::Bits, BITS))
+}
+
+// Texts of twenty records and of few, in parts that are cut at each of their lines: within a trace,
+// between two, before a name that comes back, and within a record with a fault.
+const PARTS: &str = "\
+trace,x,c{19 /a,@,0} => a:{19  ( @ 0 )};
+trace,x,c{19 /t@,@,1}/ => {19 t@: ( @ 1 );}
+trace,x,c{10 /a,@,0}{9 /b,@,1}\\ => a:{10  ( @ 0 )};b:{9  ( @ 1 )};
+trace,x,c{4 /a,@,0}{6 //\\b,@,1}//// => a:{4  ( @ 0 )};b:{6  ( @ 1 )};
+trace,x,c{9 /a,@,0}{9 /b,@,1}/a,7,0/ => E17 the trace name of record 19 is ill-formed or comes back
+trace,x,c{9 /t@,@,0}/t3,1,0{9 /b,@,1} => E17 the trace name of record 10 is ill-formed or comes back
+trace,x,c{9 /a,@,0}/a,x,0{9 /b,@,1} => E16 the cell of record 10 in column 0 is no value of it
+trace,x,c{9 /a,@,0}/a,1{9 /b,@,1} => E15 record 10 has 1 cells, and the header 2
+trace,x,c{9 /a,@,0}/a,'1',1{9 /b,@,1} => a:{9  ( @ 0 )} ( 1 1 );b:{9  ( @ 1 )};
+trace,x,c/a,1,0 => a: ( 1 0 );
+trace,x,c => 
+trace,c/ => E14 the first record is not `trace` and the name of each scalar input
+/ => E14 the first record is not `trace` and the name of each scalar input
+ => E14 the first record is not `trace` and the name of each scalar input";
+
+#[test]
+fn parts(rt: HostRuntime) -> Result<(), AllocError> {
+    check(&rt, &Table::of_lines(Asks::Parted, PARTS))
 }

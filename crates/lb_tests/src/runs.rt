@@ -48,7 +48,7 @@ fn refusals(rt: HostRuntime) -> Result<(), AllocError> {
 /// The verdicts of traces. Among them: a counter, with an assumption and without; sums and
 /// quotients at the bounds; operators that are strict, and `if` that is not; memories at the first
 /// instant, guarded and not; equations in no order.
-const REPORTS: &str = "
+pub const REPORTS: &str = "
 node main(x: int) returns (ok: bool);
 var n: int;
 let

@@ -12,7 +12,9 @@
 //!
 //! `{2 x@, }` stands for `x0, x1, `, `{3 a}` for `aaa`, and `{1..2 x@ @, }` for `x1 1, x2 2, `.
 
-use crate::{answers, commands, lanes, pool, programs, readings, reports, sources};
+use crate::{
+    answers, batches, commands, lanes, machine, pool, programs, readings, reports, sources,
+};
 use std::alloc::AllocError;
 use std::process::Abort;
 use std::rt::Runtime;
@@ -45,10 +47,22 @@ pub enum Asks<'a> {
     Readings,
     /// A trace text under the signature `x: int, y: int, c: bool`.
     Orders,
+    /// The kinds of columns, and records, whose Booleans are asked for.
+    Bits,
+    /// A case whose records are told by their count, in lanes.
+    Batches,
+    /// A trace text under the signature `x: int, c: bool`, whatever the workers.
+    Parted,
     /// A kernel on integers, and its operands.
     Ints,
     /// A kernel on planes, and its operands.
     Planes,
+    /// The rows of a matrix of bits.
+    Matrices,
+    /// Planes and words, and code over them.
+    Codes,
+    /// Planes, or words, and those that are carried to the front.
+    Carries,
 }
 
 /// A table.
@@ -150,8 +164,14 @@ fn push_answer<R: Runtime + AllocGlobal + Threads + Sync>(
         Asks::Spreads => pool::push_spread(rt, asked, said),
         Asks::Readings => readings::push_answer(rt.alloc(), asked, said),
         Asks::Orders => readings::push_three(rt.alloc(), asked, said),
+        Asks::Bits => readings::push_bits(rt.alloc(), asked, said),
+        Asks::Batches => batches::push_lanes_of(rt.alloc(), asked, said),
+        Asks::Parted => readings::push_by_workers(rt, asked, said),
         Asks::Ints => lanes::push_ints(asked, said),
         Asks::Planes => lanes::push_plane(asked, said),
+        Asks::Matrices => lanes::push_transposed(asked, said),
+        Asks::Codes => machine::push_results(rt.alloc(), asked, said),
+        Asks::Carries => machine::push_carried(asked, said),
     }
 }
 

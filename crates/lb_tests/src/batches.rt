@@ -1,0 +1,577 @@
+//! Batches of traces in lanes, beside the same traces one after the other.
+
+ghost use Rattle.std.specs.Prelude.{◌≡◌, ◌<◌, ◌≤◌, All, length, true};
+ghost use Rattle.lb_static.specs.Signature.{kinds_of};
+ghost use Rattle.lb_sim.specs.BatchRuns.{flat_of};
+ghost use Rattle.lb_sim.specs.InputRows.{HaveInstant};
+
+use crate::pool::push_case;
+use crate::tables::{Asks, Table, check};
+use crate::{forms, random, runs};
+use lb_check::check::check as check_rules;
+use lb_check::verdict::Verdict;
+use lb_flat::expand::expand;
+use lb_flat::flat::Ordered;
+use lb_flat::order::order;
+use lb_flat::trace_run::eval_trace;
+use lb_flat::traces::TraceSet;
+use lb_lanes::Plane;
+use lb_report::case::split_case;
+use lb_sim::batch::{has_kinds, run_batch};
+use lb_sim::batch_run::BatchRun;
+use lb_sim::compile::compile;
+use lb_sim::inputs::Inputs;
+use lb_sim::program::LaneProgram;
+use lb_static::elaborate::elaborate;
+use lb_static::signature::Signature;
+use lb_syntax::parse::parse;
+use lb_syntax::tree::Source;
+use lb_trace::read_traces;
+use std::alloc::{AllocError, Global};
+use std::process::Abort;
+
+// ## What is asked
+
+/// What is asked of the lanes of a case.
+#[derive(Clone, Copy)]
+enum Question<'a> {
+    /// The verdicts of all traces, in batches of 64.
+    All,
+    /// The verdicts of these traces, batch by batch.
+    Members(&'a str),
+    /// The lanes of all traces after each instant, in one batch.
+    Steps,
+}
+
+// The kind of a verdict, and its instant.
+fn parts(verdict: Verdict) -> (u32, u32) {
+    match verdict {
+        Verdict::Passed => (0, 0),
+        Verdict::Fault(t) => (1, t),
+        Verdict::Undefined(t) => (2, t),
+        Verdict::Assertion(t) => (3, t),
+        Verdict::False(t) => (4, t),
+    }
+}
+
+// The words of a verdict.
+fn push_verdict(verdict: Verdict, said: &mut String) -> Result<(), AllocError> {
+    match verdict {
+        Verdict::Passed => said.push_str("passed"),
+        Verdict::Fault(t) => write!(said, "fault {t}"),
+        Verdict::Undefined(t) => write!(said, "undefined {t}"),
+        Verdict::Assertion(t) => write!(said, "assertion {t}"),
+        Verdict::False(t) => write!(said, "false {t}"),
+    }
+}
+
+// Whether these are at most 64 numbers of traces.
+fn are_members(set: &TraceSet, numbers: &[u32]) -> bool
+    ensures members { result ≡ true → All (λ k. k < length set.now.traces) numbers.now }
+    ensures few { result ≡ true → length numbers.now ≤ 64 }
+{
+    let count = set.len();
+    for i in 0..numbers.len() {
+        if numbers[i] >= count {
+            return false;
+        }
+    }
+    numbers.len() <= 64
+}
+
+// ## Whole batches
+
+// The verdict of each member in its lane, and `alone` where the trace has another one by itself.
+fn push_members(
+    alloc: Global,
+    ordered: &Ordered,
+    program: &LaneProgram<'_>,
+    set: &TraceSet,
+    members: &[u32],
+    said: &mut String,
+) -> Result<(), AllocError>
+    requires members { All (λ k. k < length set.now.traces) members.now }
+    requires few { length members.now ≤ 64 }
+{
+    let done = run_batch(alloc, program, set, members)?;
+    if done.members().len() != members.len() || done.verdicts().len() != members.len() {
+        return said.push_str("another count");
+    }
+    for i in 0..members.len() {
+        let verdict = done.verdicts()[i];
+        write!(said, "{} ", set.name(members[i]))?;
+        push_verdict(verdict, said)?;
+        if parts(verdict) != parts(eval_trace(alloc, ordered, set, members[i])?) {
+            said.push_str(", and not alone")?;
+        }
+        said.push('\n')?;
+    }
+    Ok(())
+}
+
+// The same of members that are given by number, if there are such traces.
+fn push_numbers(
+    alloc: Global,
+    ordered: &Ordered,
+    program: &LaneProgram<'_>,
+    set: &TraceSet,
+    numbers: &[u32],
+    said: &mut String,
+) -> Result<(), AllocError> {
+    if !are_members(set, numbers) {
+        return said.push_str("no members");
+    }
+    push_members(alloc, ordered, program, set, numbers, said)
+}
+
+// The same of all traces, in batches of 64.
+fn push_all(
+    alloc: Global,
+    ordered: &Ordered,
+    program: &LaneProgram<'_>,
+    set: &TraceSet,
+    said: &mut String,
+) -> Result<(), AllocError> {
+    let mut members = Vec::new(alloc);
+    for k in 0..set.len() {
+        members.push(k)?;
+        if members.len() == 64 {
+            push_numbers(alloc, ordered, program, set, members.as_slice(), said)?;
+            members.clear();
+        }
+    }
+    push_numbers(alloc, ordered, program, set, members.as_slice(), said)
+}
+
+// The numbers that a text spells.
+fn numbers_of(alloc: Global, text: &str) -> Result<Vec<u32>, AllocError> {
+    let mut numbers = Vec::new(alloc);
+    for word in text.split(' ') {
+        numbers.push(word.parse::<u32>().unwrap_or(u32::MAX))?;
+    }
+    Ok(numbers)
+}
+
+// The same of batches that a text spells.
+fn push_batches(
+    alloc: Global,
+    ordered: &Ordered,
+    program: &LaneProgram<'_>,
+    set: &TraceSet,
+    batches: &str,
+    said: &mut String,
+) -> Result<(), AllocError> {
+    for batch in batches.split(';') {
+        let numbers = numbers_of(alloc, batch)?;
+        push_numbers(alloc, ordered, program, set, numbers.as_slice(), said)?;
+    }
+    Ok(())
+}
+
+// ## Step by step
+
+// The lanes whose members have an instant.
+fn lanes_at(set: &TraceSet, members: &[u32], t: u32) -> Plane
+    requires members { All (λ k. k < length set.now.traces) members.now }
+    requires few { length members.now ≤ 64 }
+{
+    let mut lanes = 0u64;
+    for i in 0..members.len() {
+        if t < set.length(members[i]) {
+            lanes |= 1u64 << (i as u32);
+        }
+    }
+    Plane(lanes)
+}
+
+// Whether each of these lanes has a member that has the instant.
+fn have_instant(set: &TraceSet, members: &[u32], t: u32, live: Plane) -> bool
+    requires members { All (λ k. k < length set.now.traces) members.now }
+    requires few { length members.now ≤ 64 }
+    ensures { result ≡ true → HaveInstant set.now members.now t live.0 }
+{
+    for i in 0..64u32 {
+        if live.get(i) && (i as usize >= members.len() || t >= set.length(members[i as usize])) {
+            return false;
+        }
+    }
+    true
+}
+
+// The lanes that are not active, each with its verdict, and an active one that has not passed.
+fn push_lanes(run: &BatchRun<'_>, count: u32, said: &mut String) -> Result<(), AllocError>
+    requires { count ≤ 64 }
+{
+    for lane in 0..count {
+        let verdict = run.verdict(lane);
+        if !run.active().get(lane) {
+            write!(said, " {lane} ")?;
+            push_verdict(verdict, said)?;
+        } else if parts(verdict).0 != 0 {
+            write!(said, " {lane} active")?;
+        }
+    }
+    said.push('\n')
+}
+
+// One instant of the lanes that were live and whose members have it, and the lanes after it.
+fn push_step(
+    run: &mut BatchRun<'_>,
+    inputs: &mut Inputs,
+    set: &TraceSet,
+    members: &[u32],
+    said: &mut String,
+) -> Result<(), AllocError>
+    requires members { All (λ k. k < length set.now.traces) members.now }
+    requires few { length members.now ≤ 64 }
+    requires kinds { kinds_of set.now.signature ≡ inputs.old.columns.kinds.items }
+    requires inputs { inputs.old.columns.kinds.items ≡ (flat_of run.old).inputs }
+    ensures program { run.new.program.now ≡ run.old.program.now }
+    ensures columns { inputs.new.columns ≡ inputs.old.columns }
+{
+    let t = run.steps;
+    let live = run.live.and(lanes_at(set, members, t));
+    if t >= 1_000_000 || !have_instant(set, members, t, live) {
+        return said.push_str("no instant");
+    }
+    inputs.load(set, members, t, live);
+    run.step(inputs, live);
+    write!(said, "{t}:")?;
+    push_lanes(run, members.len() as u32, said)
+}
+
+// The lanes before the first instant and after each of ten.
+fn push_steps(
+    run: &mut BatchRun<'_>,
+    inputs: &mut Inputs,
+    set: &TraceSet,
+    members: &[u32],
+    said: &mut String,
+) -> Result<(), AllocError>
+    requires members { All (λ k. k < length set.now.traces) members.now }
+    requires few { length members.now ≤ 64 }
+    requires kinds { kinds_of set.now.signature ≡ inputs.old.columns.kinds.items }
+    requires inputs { inputs.old.columns.kinds.items ≡ (flat_of run.old).inputs }
+{
+    said.push_str("start:")?;
+    push_lanes(run, members.len() as u32, said)?;
+    for _ in 0..10 {
+        push_step(run, inputs, set, members, said)?;
+    }
+    Ok(())
+}
+
+// The same of a batch, if its members and the inputs of the program are those of the traces.
+fn push_run(
+    alloc: Global,
+    program: &LaneProgram<'_>,
+    set: &TraceSet,
+    members: &[u32],
+    said: &mut String,
+) -> Result<(), AllocError> {
+    let mut inputs = Inputs::new(alloc, program.program)?;
+    if !are_members(set, members) {
+        return said.push_str("no members");
+    }
+    if !has_kinds(set.signature(), inputs.columns.kinds.as_slice()) {
+        return said.push_str("no inputs");
+    }
+    let mut run = BatchRun::new(alloc, program, members.len() as u32)?;
+    push_steps(&mut run, &mut inputs, set, members, said)
+}
+
+// The same of all traces of a set.
+fn push_run_of_all(
+    alloc: Global,
+    program: &LaneProgram<'_>,
+    set: &TraceSet,
+    said: &mut String,
+) -> Result<(), AllocError> {
+    let mut members = Vec::new(alloc);
+    for k in 0..set.len() {
+        members.push(k)?;
+    }
+    push_run(alloc, program, set, members.as_slice(), said)
+}
+
+// ## Cases
+
+fn push_on_set(
+    alloc: Global,
+    ordered: &Ordered,
+    set: &TraceSet,
+    question: Question<'_>,
+    said: &mut String,
+) -> Result<(), AllocError> {
+    let program = compile(alloc, ordered)?;
+    match question {
+        Question::All => push_all(alloc, ordered, &program, set, said),
+        Question::Members(batches) => { push_batches(alloc, ordered, &program, set, batches, said) }
+        Question::Steps => push_run_of_all(alloc, &program, set, said),
+    }
+}
+
+// The equations of a tree, and the signature of its traces. An empty name is no observer.
+fn ordered_of(alloc: Global, tree: &Source, observer: &str) -> Option<(Signature, Ordered)> {
+    let observer = if observer.is_empty() {
+        None
+    } else {
+        Some(observer)
+    };
+    let elab = elaborate(alloc, tree, "main", observer).ok()?;
+    let checked = check_rules(alloc, elab).ok()?;
+    let flat = expand(alloc, &checked).ok();
+    let signature = checked.into_signature();
+    let ordered = order(alloc, flat?).ok()?;
+    Some((signature, ordered))
+}
+
+fn push_on_tree(
+    alloc: Global,
+    tree: &Source,
+    observer: &str,
+    traces: &[u8],
+    question: Question<'_>,
+    said: &mut String,
+) -> Result<(), AllocError> {
+    let Some((signature, ordered)) = &ordered_of(alloc, tree, observer) else {
+        return said.push_str("refused");
+    };
+    match &read_traces(alloc, signature, traces) {
+        Ok(set) => push_on_set(alloc, ordered, set, question, said),
+        Err(_) => said.push_str("refused"),
+    }
+}
+
+fn push_on_case(
+    alloc: Global,
+    case: &str,
+    observer: &str,
+    question: Question<'_>,
+    said: &mut String,
+) -> Result<(), AllocError> {
+    let (source, traces) = split_case(case.as_bytes());
+    match &parse(alloc, source) {
+        Ok(tree) => push_on_tree(alloc, tree, observer, traces, question, said),
+        Err(_) => said.push_str("refused"),
+    }
+}
+
+/// What is answered on a case whose records are told by their count: its first line has the members
+/// of some batches, `steps`, or nothing.
+pub fn push_lanes_of(alloc: Global, asked: &str, said: &mut String) -> Result<(), AllocError> {
+    let (line, short) = asked.split_once('\n').unwrap_or(("", asked));
+    let mut case = String::new(alloc);
+    push_case(&mut case, short)?;
+    let question = if line.is_empty() {
+        Question::All
+    } else if line == "steps" {
+        Question::Steps
+    } else {
+        Question::Members(line)
+    };
+    push_on_case(alloc, case.as_str(), "", question, said)
+}
+
+// ## Rows
+
+/// The lanes of one batch in each order; of sixty-five lengths, so that the second batch has one
+/// trace; of traces of which some end early, one of these replaced, and step by step.
+const BATCHES: &str = "\
+0 1 2;0 2 1;1 0 2;1 2 0;2 0 1;2 1 0
+node cnt(x: int) returns (n: int); let n = x -> pre n + x; tel
+node main(c: bool; x, e: int) returns (ok: bool);
+var m: int;
+let m = 0 -> current (cnt(x when c)); ok = m = e; tel
+%traces
+trace,c,x,e
+a,0,1,0
+a,1,1,1
+a,0,1,1
+a,1,1,2
+b,0,7,0
+b,1,1,1
+b,0,9,1
+b,1,1,2
+d,0,1,0
+d,1,1,1
+d,0,1,2
+%answer
+a passed
+b passed
+d false 2
+a passed
+d false 2
+b passed
+b passed
+a passed
+d false 2
+b passed
+d false 2
+a passed
+d false 2
+a passed
+b passed
+d false 2
+b passed
+a passed
+%case
+2;2 2 0
+node main(x: int) returns (ok: bool); let ok = pre x = 1; tel
+%traces
+trace,x
+a,1
+b,2
+d,3
+%answer
+d undefined 0
+d undefined 0
+d undefined 0
+a undefined 0
+%case
+
+node main() returns (ok: bool);
+var n: int;
+let n = 0 -> pre n + 1; ok = n < 64; tel
+%traces
+trace
+{1..65 t@ @
+}%answer
+{1..64 t@ passed
+}t65 false 64
+%case
+
+node main(x: int) returns (ok: bool);
+var q: int;
+let q = 100 / (x + 1); ok = x < 50; tel
+%traces
+trace,x
+{5 t@ 10,1
+}t5 1,-1
+t5 8,1
+t5 1,50
+t6 1,1
+t7 9,1
+t7 1,50
+{8..63 t@ 10,1
+}%answer
+{5 t@ passed
+}t5 fault 0
+t6 passed
+t7 false 9
+{8..63 t@ passed
+}%case
+
+node main(x: int) returns (ok: bool);
+var q: int;
+let q = 100 / (x + 1); ok = x < 50; tel
+%traces
+trace,x
+{6 t@ 10,1
+}t6 1,1
+t7 9,1
+t7 1,50
+{8..63 t@ 10,1
+}%answer
+{7 t@ passed
+}t7 false 9
+{8..63 t@ passed
+}%case
+steps
+node main(x: int) returns (ok: bool);
+var q: int;
+let q = 100 / (x + 1); ok = x < 50; tel
+%traces
+trace,x
+{5 t@ 10,1
+}t5 1,-1
+t5 8,1
+t5 1,50
+t6 1,1
+t7 9,1
+t7 1,50
+{8..63 t@ 10,1
+}%answer
+start:
+0: 5 fault 0
+{1..8 @: 5 fault 0 6 passed
+}9: 5 fault 0 6 passed 7 false 9
+%case
+steps
+node main(p, q: bool; d: int) returns (ok: bool);
+var z: int;
+let assert p; z = 1 / d; ok = if q then true else pre q; tel
+%traces
+trace,p,q,d
+a,1,1,1
+a,1,0,1
+a,1,0,1
+b,1,0,1
+c,1,1,1
+c,0,1,1
+d,1,1,0
+d,1,0,1
+d,0,0,1
+e,1,1,1
+f 4,1,1,1
+g,1,1,1
+g,0,1,0
+%answer
+start:
+0: 1 undefined 0 3 fault 0
+1: 1 undefined 0 2 assertion 1 3 fault 0 4 passed 6 fault 1
+2: 0 false 2 1 undefined 0 2 assertion 1 3 fault 0 4 passed 6 fault 1
+3: 0 false 2 1 undefined 0 2 assertion 1 3 fault 0 4 passed 6 fault 1
+{4..9 @: 0 false 2 1 undefined 0 2 assertion 1 3 fault 0 4 passed 5 passed 6 fault 1
+}";
+
+#[test]
+fn batches(rt: HostRuntime) -> Result<(), AllocError> {
+    check(
+        &rt,
+        &Table {
+            asks: Asks::Batches,
+            rows: BATCHES,
+            between: "%case\n",
+            mark: "%answer\n",
+        },
+    )
+}
+
+// ## The programs of the other tables
+
+// Fails where a trace has another verdict in a lane than alone, or the report of a case has other
+// verdicts.
+fn check_case(
+    rt: &impl Abort,
+    alloc: Global,
+    row: &str,
+    said: &mut String,
+) -> Result<(), AllocError> {
+    let (asked, wanted) = row.split_once("%answer\n").unwrap_or(("", ""));
+    let (observer, case) = asked.split_once('\n').unwrap_or(("", asked));
+    said.clear();
+    push_on_case(alloc, case, observer.trim(), Question::All, said)?;
+    let is_right = match wanted.strip_prefix(said.as_str()) {
+        Some(rest) => rest.starts_with("total "),
+        None => said.as_str() == "refused" && wanted.starts_with("E"),
+    };
+    assert!(rt; is_right, "{case}, in lanes: {said}");
+    Ok(())
+}
+
+fn check_cases(rt: &impl Abort, alloc: Global, rows: &str) -> Result<(), AllocError> {
+    let mut said = String::new(alloc);
+    for row in rows.split("\n%case") {
+        check_case(rt, alloc, row, &mut said)?;
+    }
+    Ok(())
+}
+
+/// Each program of the whole language has the same verdicts in lanes.
+#[test]
+fn programs_in_lanes(rt: HostRuntime) -> Result<(), AllocError> {
+    check_cases(&rt, rt.alloc(), runs::REPORTS)?;
+    check_cases(&rt, rt.alloc(), forms::FORMS)?;
+    check_cases(&rt, rt.alloc(), random::PROGRAMS)
+}

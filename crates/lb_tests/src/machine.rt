@@ -1,0 +1,351 @@
+//! Code over planes and words: what its places hold once it has run. What is wanted was worked out
+//! apart.
+
+ghost use Rattle.std.specs.Prelude.{◌≡◌, ◌<◌, ◌≤◌, ◌+◌, All, IfOk, IfSome, length};
+ghost use Rattle.lb_lanes.specs.Kernels.{AreInts};
+
+use crate::lanes::{number, operator, pair};
+use crate::tables::{Asks, Table, check};
+use lb_lanes::{IntLanes, IntOperator};
+use lb_machine::{Code, Comparison, PlaneId, PlaneOperator, WordId, carry_planes, carry_words};
+use std::alloc::{AllocError, Global};
+use std::process::Abort;
+
+// ## Code
+
+/// The places that a command gives.
+#[derive(Clone, Copy)]
+enum Made {
+    Plane(PlaneId),
+    Word(WordId),
+    Both(WordId, PlaneId),
+    Nothing,
+}
+
+fn combined(code: &mut Code, op: PlaneOperator, a: u32, b: u32) -> Result<Made, AllocError> {
+    if a < code.planes && b < code.planes {
+        return Ok(Made::Plane(code.combine(op, PlaneId(a), PlaneId(b))?));
+    }
+    Ok(Made::Nothing)
+}
+
+fn selected(code: &mut Code, mask: u32, a: u32, b: u32) -> Result<Made, AllocError> {
+    if mask < code.planes && a < code.planes && b < code.planes {
+        let made = code.select(PlaneId(mask), PlaneId(a), PlaneId(b))?;
+        return Ok(Made::Plane(made));
+    }
+    Ok(Made::Nothing)
+}
+
+fn compared(code: &mut Code, c: Comparison, a: u32, b: u32) -> Result<Made, AllocError> {
+    if a < code.words && b < code.words {
+        return Ok(Made::Plane(code.compare(c, WordId(a), WordId(b))?));
+    }
+    Ok(Made::Nothing)
+}
+
+fn blended(code: &mut Code, mask: u32, a: u32, b: u32) -> Result<Made, AllocError> {
+    if mask < code.planes && a < code.words && b < code.words {
+        let made = code.blend(PlaneId(mask), WordId(a), WordId(b))?;
+        return Ok(Made::Word(made));
+    }
+    Ok(Made::Nothing)
+}
+
+fn operated(
+    code: &mut Code,
+    op: IntOperator,
+    a: u32,
+    b: u32,
+    active: u32,
+) -> Result<Made, AllocError> {
+    if active < code.planes && a < code.words && b < code.words {
+        let made = code.operate(op, WordId(a), WordId(b), PlaneId(active))?;
+        return Ok(Made::Both(made.0, made.1));
+    }
+    Ok(Made::Nothing)
+}
+
+fn copied_plane(code: &mut Code, a: u32) -> Result<Made, AllocError> {
+    if a < code.planes {
+        return Ok(Made::Plane(code.copy_plane(PlaneId(a))?));
+    }
+    Ok(Made::Nothing)
+}
+
+fn copied_word(code: &mut Code, a: u32) -> Result<Made, AllocError> {
+    if a < code.words {
+        return Ok(Made::Word(code.copy_word(WordId(a))?));
+    }
+    Ok(Made::Nothing)
+}
+
+// What a command makes of the numbers behind it.
+fn make(code: &mut Code, letter: u8, a: u32, b: u32, c: u32) -> Result<Made, AllocError> {
+    match letter {
+        b'&' => combined(code, PlaneOperator::And, a, b),
+        b'|' => combined(code, PlaneOperator::Or, a, b),
+        b'^' => combined(code, PlaneOperator::Xor, a, b),
+        b'~' => combined(code, PlaneOperator::AndNot, a, b),
+        b'?' => selected(code, a, b, c),
+        b'=' => compared(code, Comparison::Equal, a, b),
+        b'<' => compared(code, Comparison::Below, a, b),
+        b'l' => compared(code, Comparison::AtMost, a, b),
+        b'b' => blended(code, a, b, c),
+        b'p' => copied_plane(code, a),
+        b'w' => copied_word(code, a),
+        sign => operated(code, operator(sign), a, b, c),
+    }
+}
+
+// A number that a word spells without a sign, or 0.
+fn place(word: Option<&str>) -> u32 {
+    match number(word) {
+        Some(n) => n.unsigned_abs(),
+        None => 0,
+    }
+}
+
+// What a command makes.
+fn make_one(code: &mut Code, command: &str) -> Result<Made, AllocError> {
+    let mut words = command.split(' ');
+    let letter = match words.next().unwrap_or("").as_bytes() {
+        [letter, ..] => *letter,
+        _ => b'+',
+    };
+    let a = place(words.next());
+    let b = place(words.next());
+    let c = place(words.next());
+    make(code, letter, a, b, c)
+}
+
+// The code of some commands beside four planes and three words, and what each makes.
+fn built(alloc: Global, commands: &str) -> Result<(Code, Vec<Made>), AllocError> {
+    let mut code = Code::new(alloc, 4, 3);
+    let mut all = Vec::new(alloc);
+    for command in commands.split(", ") {
+        let one = make_one(&mut code, command)?;
+        all.push(one)?;
+    }
+    Ok((code, all))
+}
+
+// The word 0, two further ones, and words of 0 behind them.
+fn words_for(
+    alloc: Global,
+    first: IntLanes,
+    second: IntLanes,
+    count: u32,
+) -> Result<Vec<IntLanes>, AllocError>
+    requires first { AreInts first }
+    requires second { AreInts second }
+    ensures { IfOk result (λ words. All AreInts words.items) }
+{
+    let mut words = Vec::new(alloc);
+    words.push(IntLanes::splat(0))?;
+    words.push(first)?;
+    words.push(second)?;
+    for _ in 3..count {
+        words.push(IntLanes::splat(0))?;
+    }
+    Ok(words)
+}
+
+// Planes false and true everywhere, two further ones, and planes of false behind them.
+fn planes_for(alloc: Global, first: u32, second: u32, count: u32) -> Result<Vec<u64>, AllocError> {
+    let mut planes = Vec::new(alloc);
+    planes.push(0)?;
+    planes.push(u64::MAX)?;
+    planes.push(u64::from(first))?;
+    planes.push(u64::from(second))?;
+    for _ in 4..count {
+        planes.push(0)?;
+    }
+    Ok(planes)
+}
+
+fn push_plane(planes: &[u64], p: PlaneId, said: &mut String) -> Result<(), AllocError> {
+    match planes.get(p.0 as usize) {
+        Some(plane) => write!(said, " {}={plane}", p.0),
+        None => write!(said, " no {}", p.0),
+    }
+}
+
+fn push_word(words: &[IntLanes], w: WordId, said: &mut String) -> Result<(), AllocError> {
+    match words.get(w.0 as usize) {
+        Some(word) => {
+            write!(
+                said,
+                " w{}={},{},{}",
+                w.0,
+                word.get(0),
+                word.get(1),
+                word.get(2)
+            )
+        }
+        None => write!(said, " no w{}", w.0),
+    }
+}
+
+// What stands where the commands said.
+fn push_made(
+    planes: &[u64],
+    words: &[IntLanes],
+    all: &[Made],
+    said: &mut String,
+) -> Result<(), AllocError> {
+    for one in all {
+        match *one {
+            Made::Plane(p) => push_plane(planes, p, said)?,
+            Made::Word(w) => push_word(words, w, said)?,
+            Made::Both(w, p) => {
+                push_word(words, w, said)?;
+                push_plane(planes, p, said)?;
+            }
+            Made::Nothing => said.push_str(" nothing")?,
+        }
+    }
+    Ok(())
+}
+
+// Runs code, if there is just its room, and tells what it made.
+fn push_run(
+    code: &Code,
+    planes: &mut [u64],
+    words: &mut [IntLanes],
+    all: &[Made],
+    said: &mut String,
+) -> Result<(), AllocError>
+    requires { All AreInts words.old }
+{
+    if planes.len() != code.planes as usize || words.len() != code.words as usize {
+        return said.push_str("no room");
+    }
+    code.run(planes, words);
+    write!(said, "{}:", code.instructions.len())?;
+    push_made(planes, words, all, said)
+}
+
+/// The number of instructions of some commands, and what each makes, after a run on two planes and
+/// lanes 0 and 1 of two words.
+pub fn push_results(alloc: Global, asked: &str, said: &mut String) -> Result<(), AllocError> {
+    let (given, commands) = asked.split_once(" | ").unwrap_or((asked, ""));
+    let (code, all) = built(alloc, commands)?;
+    let mut numbers = given.split(' ');
+    let first = place(numbers.next());
+    let second = place(numbers.next());
+    let mut planes = planes_for(alloc, first, second, code.planes)?;
+    let a = pair(
+        number(numbers.next()).unwrap_or(0),
+        number(numbers.next()).unwrap_or(0),
+    );
+    let b = pair(
+        number(numbers.next()).unwrap_or(0),
+        number(numbers.next()).unwrap_or(0),
+    );
+    let mut words = words_for(alloc, a, b, code.words)?;
+    push_run(
+        &code,
+        planes.as_mut_slice(),
+        words.as_mut_slice(),
+        all.as_slice(),
+        said,
+    )
+}
+
+// Two planes, then lanes 0 and 1 of two words, and commands; how many instructions that takes, and
+// the places that they give. `~` is "and not", `?` chooses a plane, `l` is "at most", and `b`
+// chooses a word; behind the operands of an operator stands the plane of its lanes, and its faults
+// follow its results. Where what is asked is there already, no instruction is made.
+const CODES: &str = "\
+12 10 0 0 0 0 | & 2 3, | 2 3, ^ 2 3, ~ 2 3, ~ 3 2, ~ 1 2 => \
+6: 4=8 5=14 6=6 7=4 8=2 9=18446744073709551603
+12 10 0 0 0 0 | & 2 1, & 0 2, | 2 0, | 2 1, ^ 2 0, ^ 3 3, ~ 2 0, ~ 2 2 => \
+0: 2=12 0=0 2=12 1=18446744073709551615 2=12 0=0 2=12 0=0
+12 10 0 0 0 0 | & 3 3, & 1 2, | 3 3, | 0 3, ^ 0 2, ^ 2 1, ~ 2 1, ~ 0 3 => \
+1: 3=10 2=12 3=10 3=10 2=12 4=18446744073709551603 0=0 0=0
+5 12 0 0 0 0 | ? 2 3 1, ? 3 2 0, ? 1 2 3, ? 0 2 3, ? 2 3 3 => \
+2: 4=18446744073709551614 5=4 2=5 3=12 3=12
+5 12 3 -4 3 7 | = 1 2, < 1 2, l 1 2, < 2 1, l 2 1, = 1 1 => \
+6: 4=18446744073709551613 5=2 6=18446744073709551615 7=0 8=18446744073709551613 \
+9=18446744073709551615
+1 2 3 -4 5 7 | b 2 1 2, b 3 1 2, b 1 1 2, b 0 1 2, b 2 1 1 => \
+2: w3=3,7,0 w4=5,-4,0 w1=3,-4,0 w2=5,7,0 w1=3,-4,0
+3 1 2147483647 -7 1 2 | + 1 2 2, + 1 2 3, - 1 2 2, * 1 2 2, / 1 2 2, % 1 2 2 => \
+6: w3=0,-5,0 4=1 w4=0,0,0 5=1 w5=2147483646,-9,0 6=0 w6=2147483647,-14,0 7=0 w7=2147483647,-3,0 \
+8=0 w8=0,-1,0 9=0
+3 2 9 -2147483648 0 -1 | / 1 2 2, / 1 2 3, % 1 2 1, - 0 1 2 => \
+4: w3=0,0,0 4=3 w4=0,0,0 5=2 w5=0,0,0 6=18446744073709551615 w6=-9,0,0 7=2
+6 5 2 3 4 5 | p 2, w 1, p 0, w 0, & 4 3, + 3 2 1 => 6: 4=6 w3=2,3,0 5=0 w4=0,0,0 6=4 w5=6,8,0 7=0
+3 0 1 10 2 20 | + 1 2 2, + 3 3 2, < 2 4, & 6 2, b 6 4 0, | 4 5, p 6 => \
+7: w3=3,30,0 4=0 w4=6,60,0 5=0 6=3 7=3 w5=6,60,0 8=0 9=3";
+
+#[test]
+fn codes(rt: HostRuntime) -> Result<(), AllocError> {
+    check(&rt, &Table::of_lines(Asks::Codes, CODES))
+}
+
+// ## Carrying
+
+// Carries two of six planes to the places from `first` on, if they stand behind these.
+fn push_planes(first: u32, a: u32, b: u32, said: &mut String) -> Result<(), AllocError> {
+    if first > 4 || a < first + 2 || a > 5 || b < first + 2 || b > 5 {
+        return said.push_str("no room");
+    }
+    let mut planes = [10, 11, 12, 13, 14, 15];
+    carry_planes(&mut planes, first, &[PlaneId(a), PlaneId(b)]);
+    for plane in &planes {
+        write!(said, " {plane}")?;
+    }
+    Ok(())
+}
+
+// Carries two of six words to the places from `first` on, if they stand behind these.
+fn push_words(first: u32, a: u32, b: u32, said: &mut String) -> Result<(), AllocError> {
+    if first > 4 || a < first + 2 || a > 5 || b < first + 2 || b > 5 {
+        return said.push_str("no room");
+    }
+    let mut words = [
+        pair(10, -10),
+        pair(11, -11),
+        pair(12, -12),
+        pair(13, -13),
+        pair(14, -14),
+        pair(15, -15),
+    ];
+    carry_words(&mut words, first, &[WordId(a), WordId(b)]);
+    for word in &words {
+        write!(said, " {},{}", word.get(0), word.get(1))?;
+    }
+    Ok(())
+}
+
+/// The planes, or the words, after two of them were carried to the first place and the next.
+pub fn push_carried(asked: &str, said: &mut String) -> Result<(), AllocError> {
+    let mut words = asked.split(' ');
+    let kind = words.next().unwrap_or("");
+    let first = place(words.next());
+    let a = place(words.next());
+    let b = place(words.next());
+    said.push_str("now")?;
+    if kind == "planes" {
+        return push_planes(first, a, b, said);
+    }
+    push_words(first, a, b, said)
+}
+
+// The first place, and the two that are carried there and to the next one; what stands then.
+const CARRIES: &str = "\
+planes 0 2 3 => now 12 13 12 13 14 15
+planes 0 5 2 => now 15 12 12 13 14 15
+planes 1 4 4 => now 10 14 14 13 14 15
+planes 3 5 5 => now 10 11 12 15 15 15
+words 0 2 3 => now 12,-12 13,-13 12,-12 13,-13 14,-14 15,-15
+words 0 5 2 => now 15,-15 12,-12 12,-12 13,-13 14,-14 15,-15
+words 1 4 4 => now 10,-10 14,-14 14,-14 13,-13 14,-14 15,-15
+words 3 5 5 => now 10,-10 11,-11 12,-12 15,-15 15,-15 15,-15";
+
+#[test]
+fn carries(rt: HostRuntime) -> Result<(), AllocError> {
+    check(&rt, &Table::of_lines(Asks::Carries, CARRIES))
+}
