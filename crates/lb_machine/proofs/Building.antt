@@ -1,6 +1,6 @@
 -- Code that has one more instruction.
 use Rattle.std.proofs.Common.{◌≡◌, ℕ, ◌+◌, ◌<◌, ◌≤◌, List, [], ◌∷◌, ◌++◌, sym, ap, ◌∙◌}
-use Rattle.std.proofs.Common.{subst, cond, refl, Bool, true, false, ◌&&◌, ℤ}
+use Rattle.std.proofs.Common.{subst, cond, refl, Bool, true, false, ℤ}
 use Rattle.std.specs.List.{AllByRecursion}
 use Rattle.lb_machine.specs.declared.code.Code.{Code}
 use Rattle.lb_machine.specs.declared.instruction.Instruction.{Instruction}
@@ -89,9 +89,9 @@ word_by before after i value w e lt means = record {
 
 -- ## Copies
 
-pub both_same : (b : Bool) → (b && b) ≡ b
-both_same true = refl
-both_same false = refl
+pub either_plane : (b v : Bool) → cond b v v ≡ v
+either_plane true v = refl
+either_plane false v = refl
 
 pub either_same : (b : Bool) (v : ℤ) → cond b v v ≡ v
 either_same true v = refl

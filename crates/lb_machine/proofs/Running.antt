@@ -9,9 +9,9 @@ use Rattle.lb_lanes.specs.Kernels.{AreInts, lane_of, kept, faulty}
 use Rattle.lb_lanes.specs.Operators.{result_of}
 use Rattle.lb_lanes.specs.Planes.{on}
 use Rattle.lb_machine.specs.declared.instruction.Instruction.{Instruction}
-use Rattle.lb_machine.specs.declared.instruction.Instruction.TheVariants.{Combine, Select, Compare}
+use Rattle.lb_machine.specs.declared.instruction.Instruction.TheVariants.{Select, Compare}
 use Rattle.lb_machine.specs.declared.instruction.Instruction.TheVariants.{Operate, Blend}
-use Rattle.lb_machine.specs.Meaning.{Lane, lane_at, combined, compared, IsDone}
+use Rattle.lb_machine.specs.Meaning.{Lane, lane_at, compared, IsDone}
 use Rattle.lb_machine.specs.Straight.{IsNext, planes_after, words_after, IsStraight, IsFit}
 use Rattle.lb_machine.specs.Straight.{KeepsPlane, KeepsWord}
 
@@ -20,8 +20,6 @@ use Rattle.lb_machine.specs.Straight.{KeepsPlane, KeepsWord}
 straight_planes :
     (p w : ℕ) (is : List Instruction) (P W : ℕ) → IsStraight p w is P W → p ≤ P
 straight_planes p w [] P W h = omega (arith, h.0)
-straight_planes p w (Combine op a b out ∷ is) P W h =
-    let le = straight_planes (suc p) w is P W h.1 in omega (arith, le)
 straight_planes p w (Select m a b out ∷ is) P W h =
     let le = straight_planes (suc p) w is P W h.1 in omega (arith, le)
 straight_planes p w (Compare c a b out ∷ is) P W h =
@@ -33,7 +31,6 @@ straight_planes p w (Blend m a b out ∷ is) P W h = straight_planes p (suc w) i
 straight_words :
     (p w : ℕ) (is : List Instruction) (P W : ℕ) → IsStraight p w is P W → w ≤ W
 straight_words p w [] P W h = omega (arith, h.1)
-straight_words p w (Combine op a b out ∷ is) P W h = straight_words (suc p) w is P W h.1
 straight_words p w (Select m a b out ∷ is) P W h = straight_words (suc p) w is P W h.1
 straight_words p w (Compare c a b out ∷ is) P W h = straight_words (suc p) w is P W h.1
 straight_words p w (Operate op a b active out faults ∷ is) P W h =
@@ -43,14 +40,12 @@ straight_words p w (Blend m a b out ∷ is) P W h =
 
 -- there are never fewer places
 more_planes_after : (p : ℕ) (i : Instruction) → p ≤ planes_after p i
-more_planes_after p (Combine op a b out) = omega arith
 more_planes_after p (Select m a b out) = omega arith
 more_planes_after p (Compare c a b out) = omega arith
 more_planes_after p (Operate op a b active out faults) = omega arith
 more_planes_after p (Blend m a b out) = omega arith
 
 more_words_after : (w : ℕ) (i : Instruction) → w ≤ words_after w i
-more_words_after w (Combine op a b out) = omega arith
 more_words_after w (Select m a b out) = omega arith
 more_words_after w (Compare c a b out) = omega arith
 more_words_after w (Operate op a b active out faults) = omega arith
@@ -60,8 +55,6 @@ more_words_after w (Blend m a b out) = omega arith
 next_fits :
     (p w P W : ℕ) (i : Instruction) → IsNext p w i → planes_after p i ≤ P → words_after w i ≤ W →
     IsFit P W i
-next_fits p w P W (Combine op a b out) n hp hw =
-    (omega (arith, n.0, n.2), omega (arith, n.1, n.2), omega (arith, n.2, hp))
 next_fits p w P W (Select m a b out) n hp hw = (
   omega (arith, n.0, n.3),
   omega (arith, n.1, n.3),
@@ -86,14 +79,12 @@ next_fits p w P W (Blend m a b out) n hp hw = (
 
 -- it leaves the planes and the words that are there
 plane_kept : (p w : ℕ) (i : Instruction) (k : ℕ) → IsNext p w i → k < p → KeepsPlane i k
-plane_kept p w (Combine op a b out) k n h = λ e. omega (arith, n.2, h, e)
 plane_kept p w (Select m a b out) k n h = λ e. omega (arith, n.3, h, e)
 plane_kept p w (Compare c a b out) k n h = λ e. omega (arith, n.2, h, e)
 plane_kept p w (Operate op a b active out faults) k n h = λ e. omega (arith, n.4, h, e)
 plane_kept p w (Blend m a b out) k n h = tt
 
 word_kept : (p w : ℕ) (i : Instruction) (k : ℕ) → IsNext p w i → k < w → KeepsWord i k
-word_kept p w (Combine op a b out) k n h = tt
 word_kept p w (Select m a b out) k n h = tt
 word_kept p w (Compare c a b out) k n h = tt
 word_kept p w (Operate op a b active out faults) k n h = λ e. omega (arith, n.3, h, e)
@@ -109,10 +100,6 @@ pub record AreAlike (p w : ℕ) (s s' : Lane) : Type 0 where
 stays_done :
     (p w : ℕ) (s s' : Lane) (i : Instruction) → IsNext p w i →
     AreAlike (planes_after p i) (words_after w i) s s' → IsDone s i → IsDone s' i
-stays_done p w s s' (Combine op a b out) n h d =
-    h.planes out.0 (omega (arith, n.2)) ∙ d
-    ∙ sym (ap₂ (combined op) (h.planes a.0 (omega (arith, n.0)))
-    (h.planes b.0 (omega (arith, n.1))))
 stays_done p w s s' (Select m a b out) n h d =
     h.planes out.0 (omega (arith, n.3)) ∙ d
     ∙ sym (ap (λ c. cond c (s'.bits a.0) (s'.bits b.0)) (h.planes m.0 (omega (arith, n.0)))
@@ -144,8 +131,8 @@ pub record IsRunning (first_plane first_word : ℕ) (code : List Instruction) (P
   pub next_plane : ℕ
   pub next_word : ℕ
   pub straight : IsStraight next_plane next_word (drop i code) P W
-  pub planes_long : length planes ≡ P
-  pub words_long : length words ≡ W
+  pub planes_long : P ≤ length planes
+  pub words_long : W ≤ length words
   pub ints : All AreInts words
   pub more_planes : first_plane ≤ next_plane
   pub more_words : first_word ≤ next_word
@@ -158,7 +145,7 @@ pub record IsRunning (first_plane first_word : ℕ) (code : List Instruction) (P
 
 pub starts :
     (p w : ℕ) (code : List Instruction) (P W : ℕ) (planes : List ℕ) (words : List (List ℤ)) →
-    IsStraight p w code P W → length planes ≡ P → length words ≡ W → All AreInts words →
+    IsStraight p w code P W → P ≤ length planes → W ≤ length words → All AreInts words →
     IsRunning p w code P W planes planes words words 0
 starts p w code P W planes words h lp lw ints = record {
   next_plane = p;
@@ -204,10 +191,13 @@ module _ (p w : ℕ) (code : List Instruction) (P W : ℕ) (planes0 planes : Lis
     fits =
         subst (IsFit (length planes) (length words)) (sym is)
         (next_fits h.next_plane h.next_word (length planes) (length words) here parts.0
-        (subst (λ n. planes_after h.next_plane here ≤ n) (sym h.planes_long)
-        (straight_planes _ _ _ _ _ parts.1))
-        (subst (λ n. words_after h.next_word here ≤ n) (sym h.words_long)
-        (straight_words _ _ _ _ _ parts.1)))
+        (omega (arith, room_planes, h.planes_long)) (omega (arith, room_words, h.words_long)))
+      where
+        room_planes : planes_after h.next_plane here ≤ P
+        room_planes = straight_planes _ _ _ _ _ parts.1
+
+        room_words : words_after h.next_word here ≤ W
+        room_words = straight_words _ _ _ _ _ parts.1
 
     pub goes_on :
         (planes' : List ℕ) (words' : List (List ℤ)) → length planes' ≡ length planes →
@@ -220,8 +210,8 @@ module _ (p w : ℕ) (code : List Instruction) (P W : ℕ) (planes0 planes : Lis
       next_plane = planes_after h.next_plane here;
       next_word = words_after h.next_word here;
       straight = parts.1;
-      planes_long = lp ∙ h.planes_long;
-      words_long = lw ∙ h.words_long;
+      planes_long = omega (arith, lp, h.planes_long);
+      words_long = omega (arith, lw, h.words_long);
       ints = ints;
       more_planes = omega (arith, h.more_planes, grown_planes);
       more_words = omega (arith, h.more_words, grown_words);

@@ -3,24 +3,18 @@
 use Rattle.std.specs.Prelude.{◌≡◌, ◌⊎◌, if◌then◌else◌}
 use Rattle.lb_machine.specs.declared.instruction.PlaneId.{PlaneId}
 use Rattle.lb_machine.specs.declared.instruction.WordId.{WordId}
-use Rattle.lb_machine.specs.declared.instruction.PlaneOperator.{PlaneOperator}
-use Rattle.lb_machine.specs.Meaning.{Lane, HasConstants, combined}
+use Rattle.lb_machine.specs.Meaning.{Lane, HasConstants}
 
--- a plane is one of two, or the one that is false everywhere
-abbrev pub IsOneOf : PlaneId → PlaneId → PlaneId → Type 0
-IsOneOf a b p = (p.0 ≡ 0) ⊎ ((p.0 ≡ a.0) ⊎ (p.0 ≡ b.0))
-
--- a plane holds what an operator gives of two, and is one that was there
-pub record IsCombined (op : PlaneOperator) (a b p : PlaneId) : Type 0 where
-  pub means : (s : Lane) → HasConstants s → s.bits p.0 ≡ combined op (s.bits a.0) (s.bits b.0)
-  pub there : IsOneOf a b p
+-- a plane is one of three, or the one that is false everywhere
+abbrev pub IsOneOf : (a b c p : PlaneId) → Type 0
+IsOneOf a b c p = (p.0 ≡ 0) ⊎ ((p.0 ≡ a.0) ⊎ ((p.0 ≡ b.0) ⊎ (p.0 ≡ c.0)))
 
 -- a plane holds what a mask chooses of two
 pub record IsSelected (m a b p : PlaneId) : Type 0 where
   pub means :
       (s : Lane) → HasConstants s →
       s.bits p.0 ≡ (if s.bits m.0 then s.bits a.0 else s.bits b.0)
-  pub there : IsOneOf a b p
+  pub there : IsOneOf m a b p
 
 -- a word holds what a mask chooses of two
 pub record IsBlended (m : PlaneId) (a b w : WordId) : Type 0 where

@@ -12,7 +12,7 @@ use Rattle.lb_machine.specs.declared.instruction.PlaneOperator.TheVariants.{And,
 use Rattle.lb_machine.specs.declared.instruction.Comparison.{Comparison}
 use Rattle.lb_machine.specs.declared.instruction.Comparison.TheVariants.{Equal, Below, AtMost}
 use Rattle.lb_machine.specs.declared.instruction.Instruction.{Instruction}
-use Rattle.lb_machine.specs.declared.instruction.Instruction.TheVariants.{Combine, Select, Compare}
+use Rattle.lb_machine.specs.declared.instruction.Instruction.TheVariants.{Select, Compare}
 use Rattle.lb_machine.specs.declared.instruction.Instruction.TheVariants.{Operate, Blend}
 
 -- what a lane holds: a Boolean at each plane, and an integer at each word
@@ -27,6 +27,7 @@ lane_at planes words i = record {
   ints = λ w. lane_of (slice_index_or words w []) i;
 }
 
+-- what an operator gives of two Booleans
 abbrev pub combined : PlaneOperator → Bool → Bool → Bool
 combined And a b = a && b
 combined Or a b = a || b
@@ -40,7 +41,6 @@ compared AtMost a b = int_le a b
 
 -- an instruction has been done in a lane
 abbrev pub IsDone : Lane → Instruction → Type 0
-IsDone s (Combine op a b out) = s.bits out.0 ≡ combined op (s.bits a.0) (s.bits b.0)
 IsDone s (Select m a b out) =
     s.bits out.0 ≡ (if s.bits m.0 then s.bits a.0 else s.bits b.0)
 IsDone s (Compare c a b out) = s.bits out.0 ≡ compared c (s.ints a.0) (s.ints b.0)

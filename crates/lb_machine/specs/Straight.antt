@@ -5,12 +5,11 @@ use Rattle.std.specs.Prelude.{◌≡◌, ◌≢◌, ℕ, suc, ◌<◌, List, [],
 use Rattle.std.specs.Coded.{×_prop}
 use Rattle.std.proofs.Props.{props}
 use Rattle.lb_machine.specs.declared.instruction.Instruction.{Instruction}
-use Rattle.lb_machine.specs.declared.instruction.Instruction.TheVariants.{Combine, Select, Compare}
+use Rattle.lb_machine.specs.declared.instruction.Instruction.TheVariants.{Select, Compare}
 use Rattle.lb_machine.specs.declared.instruction.Instruction.TheVariants.{Operate, Blend}
 
 -- an instruction can be done beside so many planes and words
 abbrev pub IsNext : ℕ → ℕ → Instruction → Type 0
-IsNext p w (Combine op a b out) = (a.0 < p) × (b.0 < p) × (out.0 ≡ p)
 IsNext p w (Select m a b out) = (m.0 < p) × (a.0 < p) × (b.0 < p) × (out.0 ≡ p)
 IsNext p w (Compare c a b out) = (a.0 < w) × (b.0 < w) × (out.0 ≡ p)
 IsNext p w (Operate op a b active out faults) =
@@ -39,7 +38,6 @@ same_prop : (i j : ℕ) → IsProp (i ≡ j)
 same_prop i j = Prim.hlevel props
 
 next_prop : (p w : ℕ) (i : Instruction) → IsProp (IsNext p w i)
-next_prop p w (Combine op a b out) = Prim.hlevel props
 next_prop p w (Select m a b out) = Prim.hlevel props
 next_prop p w (Compare c a b out) = Prim.hlevel props
 next_prop p w (Operate op a b active out faults) = Prim.hlevel props
@@ -55,7 +53,6 @@ straight_prop p w (i ∷ is) P W =
 
 -- an instruction fits so many planes and words, and reads no place that it writes
 abbrev pub IsFit : ℕ → ℕ → Instruction → Type 0
-IsFit P W (Combine op a b out) = (a.0 < out.0) × (b.0 < out.0) × (out.0 < P)
 IsFit P W (Select m a b out) = (m.0 < out.0) × (a.0 < out.0) × (b.0 < out.0) × (out.0 < P)
 IsFit P W (Compare c a b out) = (a.0 < W) × (b.0 < W) × (out.0 < P)
 IsFit P W (Operate op a b active out faults) =
@@ -64,7 +61,6 @@ IsFit P W (Blend m a b out) = (m.0 < P) × (a.0 < out.0) × (b.0 < out.0) × (ou
 
 -- a plane, and a word, that an instruction leaves as it was
 abbrev pub KeepsPlane : Instruction → ℕ → Type 0
-KeepsPlane (Combine op a b out) k = k ≢ out.0
 KeepsPlane (Select m a b out) k = k ≢ out.0
 KeepsPlane (Compare c a b out) k = k ≢ out.0
 KeepsPlane (Operate op a b active out faults) k = k ≢ faults.0

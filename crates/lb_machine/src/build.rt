@@ -5,10 +5,13 @@ ghost use Rattle.std.specs.Prelude.{◌≡◌, ◌<◌, ◌≤◌, ◌+◌, ◌+
 ghost use Rattle.lb_lanes.specs.Operators.{result_of};
 ghost use Rattle.lb_machine.specs.Meaning.{combined, compared};
 ghost use Rattle.lb_machine.specs.Straight.{planes_after, words_after, IsNext};
+ghost use Rattle.lb_machine.specs.declared.instruction.PlaneOperator.TheVariants.{Xor};
 
 use crate::code::Code;
-use crate::instruction::{Comparison, Instruction, NOWHERE, PlaneId, PlaneOperator, WordId};
-use crate::known::{known_blend, known_choice, known_combination};
+use crate::instruction::{
+    Comparison, EVERYWHERE, Instruction, NOWHERE, PlaneId, PlaneOperator, WordId,
+};
+use crate::known::{known_blend, known_choice};
 use lb_lanes::IntOperator;
 use std::alloc::{AllocError, Global};
 
@@ -103,12 +106,26 @@ impl Code {
         ensures plane { IfOk result (IsPlaneFor self.new
             (λ s. combined op (s.bits a.0) (s.bits b.0))) }
     {
-        if let Some(known) = known_combination(op, a, b) {
-            return Ok(known);
-        }
-        let out = self.next_plane()?;
-        self.push_plane(Instruction::Combine(op, a, b, out))?;
-        Ok(out)
+        let plane = match op {
+            PlaneOperator::And => self.select(a, b, NOWHERE)?,
+            PlaneOperator::Or => self.select(a, EVERYWHERE, b)?,
+            PlaneOperator::AndNot => self.select(b, NOWHERE, a)?,
+            PlaneOperator::Xor => self.differ(a, b)?,
+        };
+        Ok(plane)
+    }
+
+    // A plane that holds where two planes differ.
+    fn differ(&mut self, a: PlaneId, b: PlaneId) -> Result<PlaneId, AllocError>
+        requires left { a.0 < self.old.planes }
+        requires right { b.0 < self.old.planes }
+        ensures grown { OnOk result (IsGrown self.old self.new) }
+        ensures plane { IfOk result (IsPlaneFor self.new
+            (λ s. combined Xor (s.bits a.0) (s.bits b.0))) }
+    {
+        let other = self.select(b, NOWHERE, EVERYWHERE)?;
+        let plane = self.select(a, other, b)?;
+        Ok(plane)
     }
 
     /// A plane that holds the one of two that a mask chooses.
@@ -191,7 +208,7 @@ impl Code {
         ensures own { IfOk result (λ p. self.new.first_plane ≤ p.0) }
     {
         let out = self.next_plane()?;
-        self.push_plane(Instruction::Combine(PlaneOperator::And, a, a, out))?;
+        self.push_plane(Instruction::Select(EVERYWHERE, a, a, out))?;
         Ok(out)
     }
 

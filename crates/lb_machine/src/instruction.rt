@@ -1,7 +1,7 @@
 //! Instructions over planes and lane words.
 //!
 //! ```text
-//! 7 := 5 and 6            Combine(And, 5, 6, 7)
+//! 7 := if 4 then 5 else 6  Select(4, 5, 6, 7)
 //! word 3 := 1 + 2         Operate(Add, 1, 2, 8, 3, 9), in the lanes of plane 8; faults to plane 9
 //! ```
 
@@ -45,8 +45,6 @@ pub enum Comparison {
 /// What is done to all lanes alike. The last places are those that are written.
 #[derive(Clone, Copy)]
 pub enum Instruction {
-    /// An operator on two planes.
-    Combine(PlaneOperator, PlaneId, PlaneId, PlaneId),
     /// Where the first plane is true the second, and elsewhere the third.
     Select(PlaneId, PlaneId, PlaneId, PlaneId),
     /// A test of two words.

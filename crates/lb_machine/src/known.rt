@@ -1,75 +1,11 @@
 //! Planes and words that are known without an instruction.
 
 ghost use Rattle.std.specs.Prelude.{IfSome};
-ghost use Rattle.lb_machine.specs.Knowing.{IsBlended, IsCombined, IsSelected};
-ghost use Rattle.lb_machine.specs.declared.instruction.PlaneOperator.TheVariants.{And, Or, Xor};
-ghost use Rattle.lb_machine.specs.declared.instruction.PlaneOperator.TheVariants.{AndNot};
+ghost use Rattle.lb_machine.specs.Knowing.{IsBlended, IsSelected};
 
-use crate::instruction::{EVERYWHERE, NOWHERE, PlaneId, PlaneOperator, WordId};
+use crate::instruction::{EVERYWHERE, NOWHERE, PlaneId, WordId};
 
-fn known_and(a: PlaneId, b: PlaneId) -> Option<PlaneId>
-    ensures { IfSome result (IsCombined And a b) }
-{
-    if a.0 == NOWHERE.0 || b.0 == EVERYWHERE.0 || a.0 == b.0 {
-        Some(a)
-    } else if b.0 == NOWHERE.0 || a.0 == EVERYWHERE.0 {
-        Some(b)
-    } else {
-        None
-    }
-}
-
-fn known_or(a: PlaneId, b: PlaneId) -> Option<PlaneId>
-    ensures { IfSome result (IsCombined Or a b) }
-{
-    if a.0 == EVERYWHERE.0 || b.0 == NOWHERE.0 || a.0 == b.0 {
-        Some(a)
-    } else if b.0 == EVERYWHERE.0 || a.0 == NOWHERE.0 {
-        Some(b)
-    } else {
-        None
-    }
-}
-
-fn known_xor(a: PlaneId, b: PlaneId) -> Option<PlaneId>
-    ensures { IfSome result (IsCombined Xor a b) }
-{
-    if b.0 == NOWHERE.0 {
-        Some(a)
-    } else if a.0 == NOWHERE.0 {
-        Some(b)
-    } else if a.0 == b.0 {
-        Some(NOWHERE)
-    } else {
-        None
-    }
-}
-
-fn known_and_not(a: PlaneId, b: PlaneId) -> Option<PlaneId>
-    ensures { IfSome result (IsCombined AndNot a b) }
-{
-    if a.0 == NOWHERE.0 || b.0 == NOWHERE.0 {
-        Some(a)
-    } else if b.0 == EVERYWHERE.0 || a.0 == b.0 {
-        Some(NOWHERE)
-    } else {
-        None
-    }
-}
-
-/// The plane of an operator on two, where it is there already.
-pub(crate) fn known_combination(op: PlaneOperator, a: PlaneId, b: PlaneId) -> Option<PlaneId>
-    ensures { IfSome result (IsCombined op a b) }
-{
-    match op {
-        PlaneOperator::And => known_and(a, b),
-        PlaneOperator::Or => known_or(a, b),
-        PlaneOperator::Xor => known_xor(a, b),
-        PlaneOperator::AndNot => known_and_not(a, b),
-    }
-}
-
-/// The plane that a mask chooses of two, where it is one of them.
+/// The plane that a mask chooses of two, where it is one of the three, or false everywhere.
 pub(crate) fn known_choice(mask: PlaneId, a: PlaneId, b: PlaneId) -> Option<PlaneId>
     ensures { IfSome result (IsSelected mask a b) }
 {
@@ -77,6 +13,10 @@ pub(crate) fn known_choice(mask: PlaneId, a: PlaneId, b: PlaneId) -> Option<Plan
         Some(a)
     } else if mask.0 == NOWHERE.0 {
         Some(b)
+    } else if b.0 == NOWHERE.0 && (a.0 == EVERYWHERE.0 || a.0 == mask.0) {
+        Some(mask)
+    } else if b.0 == mask.0 && (a.0 == EVERYWHERE.0 || a.0 == NOWHERE.0) {
+        Some(if a.0 == EVERYWHERE.0 { mask } else { NOWHERE })
     } else {
         None
     }

@@ -1,15 +1,15 @@
 //! The run of code in all lanes at once.
 
-ghost use Rattle.std.specs.Prelude.{◌≡◌, ◌≢◌, ℕ, ◌<◌, length, slice_index, slice_index_or, [], All};
+ghost use Rattle.std.specs.Prelude.{◌≡◌, ◌≢◌, ℕ, ◌<◌, ◌≤◌, length, slice_index, slice_index_or, [], All};
 ghost use Rattle.std.specs.List.{AllByRecursion};
 ghost use Rattle.lb_lanes.specs.Kernels.{AreInts, IsBlend, IsKernel, lane_of};
 ghost use Rattle.lb_lanes.specs.Operators.{result_of};
 ghost use Rattle.lb_lanes.specs.Planes.{IsPlaneOf, on};
-ghost use Rattle.lb_machine.specs.Meaning.{combined, compared, lane_at, IsDone};
+ghost use Rattle.lb_machine.specs.Meaning.{compared, lane_at, IsDone};
 ghost use Rattle.lb_machine.specs.Straight.{IsFit, KeepsPlane, KeepsWord};
 
 use crate::code::Code;
-use crate::instruction::{Comparison, Instruction, PlaneId, PlaneOperator, WordId};
+use crate::instruction::{Comparison, Instruction, PlaneId, WordId};
 use lb_lanes::{IntLanes, IntOperator, Plane};
 
 // A plane by its number.
@@ -18,17 +18,6 @@ fn plane(planes: &[u64], p: PlaneId) -> Plane
     ensures { result.0 ≡ slice_index planes.now p.0 }
 {
     Plane(planes[p.0 as usize])
-}
-
-fn combined(op: PlaneOperator, a: Plane, b: Plane) -> Plane
-    ensures { IsPlaneOf (λ i. combined op (on a.0 i) (on b.0 i)) result.0 }
-{
-    match op {
-        PlaneOperator::And => a.and(b),
-        PlaneOperator::Or => a.or(b),
-        PlaneOperator::Xor => a.xor(b),
-        PlaneOperator::AndNot => a.and(b.not()),
-    }
 }
 
 fn compared(c: Comparison, a: &IntLanes, b: &IntLanes) -> Plane
@@ -96,10 +85,6 @@ fn execute(i: Instruction, planes: &mut [u64], words: &mut [IntLanes])
         → slice_index_or words.new k [] ≡ slice_index_or words.old k [] }
 {
     match i {
-        Instruction::Combine(op, a, b, out) => {
-            let made = combined(op, plane(planes, a), plane(planes, b));
-            planes[out.0 as usize] = made.0;
-        }
         Instruction::Select(mask, a, b, out) => {
             let made = Plane::select(plane(planes, mask), plane(planes, a), plane(planes, b));
             planes[out.0 as usize] = made.0;
@@ -117,11 +102,11 @@ fn execute(i: Instruction, planes: &mut [u64], words: &mut [IntLanes])
 }
 
 impl Code {
-    /// Runs the code in all lanes: afterwards each instruction is done in each of them, and what
-    /// was there before the code is as it was.
+    /// Runs the code in all lanes, in room that may be larger: afterwards each instruction is done in
+    /// each of them, and what was there before the code is as it was.
     pub fn run(&self, planes: &mut [u64], words: &mut [IntLanes])
-        requires planes { length planes.old ≡ self.now.planes }
-        requires words { length words.old ≡ self.now.words }
+        requires planes { self.now.planes ≤ length planes.old }
+        requires words { self.now.words ≤ length words.old }
         requires ints { All AreInts words.old }
         ensures planes { length planes.new ≡ length planes.old }
         ensures words { length words.new ≡ length words.old }

@@ -1,5 +1,5 @@
 use Rattle.std.proofs.Common.{◌∙◌, arith}
-use Rattle.lb_machine.proofs.Building.{grown_by, plane_by, both_same}
+use Rattle.lb_machine.proofs.Building.{grown_by, plane_by, either_plane}
 use Rattle.lb_machine.proofs.code.Code.copy_plane.Goals as goal
 
 pub returns-clause-grown : goal.returns-clause-grown
@@ -13,7 +13,7 @@ returns-clause-plane c =
     plane_by c.args.self.now c.push_plane.new.self _ _ c.in_ok-out.out
     c.in_ok-push_plane.ensures.last
     (omega (arith, c.in_ok-out.ensures.0, c.in_ok-push_plane.ensures.planes))
-    (λ s d. d ∙ both_same (s.bits c.args.a.0))
+    (λ s d. d ∙ either_plane (s.bits 1) (s.bits c.args.a.0))
 
 pub returns-clause-own : goal.returns-clause-own
 returns-clause-own c =
