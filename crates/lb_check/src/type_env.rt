@@ -108,6 +108,9 @@ fn declared_type(
     ensures { IfOk result (λ o.
         option_map view_type o ≡ mirror.declared_type statics.now variable.now) }
 {
+    if variable.sizes == 0 {
+        return Ok(Some(DataType::scalar(alloc, variable.kind)));
+    }
     let sizes = values_at(
         statics,
         variable.first_size.0 as usize,

@@ -13,7 +13,7 @@ ghost use Rattle.lb_check.specs.TermTypes as mirror;
 
 use crate::data_type::{DataType, are_same};
 use crate::type_env::TypeEnv;
-use crate::types::results;
+use crate::types::{results, type_of};
 use lb_static::reach::{NodeId, Reached};
 use lb_static::resolved::{ResolvedStatement, Term, Variable, VariableId};
 use lb_static::table::{Specialization, Table};
@@ -48,6 +48,25 @@ fn is_assertion_typed(types: &[DataType]) -> bool
     }
 }
 
+/// Whether the left variable of an equation has the type of its right side.
+fn is_variable_equal(
+    alloc: Global,
+    env: &TypeEnv,
+    left: VariableId,
+    right: &Term,
+) -> Result<bool, AllocError>
+    ensures { IfOk result (λ kept. kept
+        ≡ mirror.is_equation_typed (context_in env.now) (left ∷ []) right.now) }
+{
+    match type_of(alloc, env, right)? {
+        Some(given) => match env.variable(alloc, left)? {
+            Some(declared) => Ok(given.equals(&declared)),
+            None => Ok(false),
+        },
+        None => Ok(false),
+    }
+}
+
 /// Whether the left variables of an equation have the types of the results of its right side.
 fn is_equation_typed(
     alloc: Global,
@@ -58,6 +77,9 @@ fn is_equation_typed(
     ensures { IfOk result (λ kept. kept
         ≡ mirror.is_equation_typed (context_in env.now) lefts.now right.now) }
 {
+    if let [left] = lefts {
+        return is_variable_equal(alloc, env, *left, right);
+    }
     let Some(rights) = results(alloc, env, right)? else {
         return Ok(false);
     };

@@ -232,14 +232,17 @@ pub fn type_of(alloc: Global, env: &TypeEnv, term: &Term) -> Result<Option<DataT
             let right = type_of(alloc, env, b)?;
             two_types(alloc, env, term, left, right)
         }
-        Term::Array(operands)
-        | Term::AtMostOne(operands)
+        Term::AtMostOne(operands)
         | Term::Nor(operands)
         | Term::Call(_, operands)
         | Term::IterateNode(_, _, operands)
         | Term::IterateSymbol(_, _, _, operands) => {
             Ok(only(operand_results(alloc, env, operands, term)?))
         }
+        Term::Array(operands) => match types_of(alloc, env, operands)? {
+            Some(types) => list_type(&types),
+            None => Ok(None),
+        },
     }
 }
 

@@ -1,12 +1,13 @@
-use Rattle.std.proofs.Common.{◌≡◌, IfOk, Some, None, map, ap, sym, subst, ◌∙◌}
+use Rattle.std.proofs.Common.{◌≡◌, IfOk, Some, None, inr, map, ap, sym, subst, ◌∙◌}
 use Rattle.std.specs.Prelude.{option_map}
 use Rattle.lb_syntax.specs.Lists.{◌>>=◌}
 use Rattle.lb_check.specs.StoredTypes.{view_type, view_types, context_in}
 use Rattle.lb_check.specs.TermTypes as mirror
 use Rattle.lb_check.specs.TermTypes.{type_of, types_of}
-use Rattle.lb_check.specs.Types.{only}
+use Rattle.lb_check.specs.Types.{list_type, only, singly}
 use Rattle.lb_check.proofs.TypeLists.{gathers_more, gathers_none, gathers_end}
 use Rattle.lb_check.proofs.TypeParts.{pair_type, single_none, single_type}
+use Rattle.lb_check.proofs.OneType.{only_singly, type_array_list}
 use Rattle.lb_check.proofs.TypeRows.{type_of_row}
 use Rattle.lb_check.proofs.types.+typing.Goals as goal
 
@@ -98,22 +99,22 @@ type_of-returns-in-Variable t c =
     subst (λ r. IfOk c.variable.result (λ o. option_map view_type o ≡ r))
     (sym (ap (type_of (context_in c.args.env.now)) c.in-Variable.is)) c.variable.ensures
 
-pub type_of-returns-in-Some : goal.type_of-returns-in-Some
-type_of-returns-in-Some t c =
+pub type_of-returns-in-Some-2 : goal.type_of-returns-in-Some-2
+type_of-returns-in-Some-2 t c =
     let ctx = context_in c.args.env.now in
-    let operand : type_of ctx c.in-Group.e.value ≡ Some (view_type c.in-Some.operand) =
+    let operand : type_of ctx c.in-Group.e.value ≡ Some (view_type c.in-Some-2.operand) =
     ap (type_of ctx) (sym c.deref-in-Group.ensures) ∙ sym c.in_ok-operand-in-Group.ensures
-    ∙ ap (option_map view_type) c.in-Some.is in
+    ∙ ap (option_map view_type) c.in-Some-2.is in
     subst (λ r. IfOk c.one_type.result (λ o. option_map view_type o ≡ r))
     (single_type ctx c.args.term.now c.in-Group.e
-    (view_type c.in-Some.operand) c.in-Group.is operand) c.one_type.ensures
+    (view_type c.in-Some-2.operand) c.in-Group.is operand) c.one_type.ensures
 
-pub type_of-returns-in-None : goal.type_of-returns-in-None
-type_of-returns-in-None t c =
+pub type_of-returns-in-None-2 : goal.type_of-returns-in-None-2
+type_of-returns-in-None-2 t c =
     let ctx = context_in c.args.env.now in
     sym (single_none ctx c.args.term.now c.in-Group.e c.in-Group.is
     (ap (type_of ctx) (sym c.deref-in-Group.ensures) ∙ sym c.in_ok-operand-in-Group.ensures
-    ∙ ap (option_map view_type) c.in-None.is))
+    ∙ ap (option_map view_type) c.in-None-2.is))
 
 pub type_of-returns-in_ok-right-in-Binary : goal.type_of-returns-in_ok-right-in-Binary
 type_of-returns-in_ok-right-in-Binary t c =
@@ -124,13 +125,35 @@ type_of-returns-in_ok-right-in-Binary t c =
     (c.in_ok-right-in-Binary.ensures ∙ ap (type_of ctx) c.deref-in-Binary-2.ensures))
     c.two_types.ensures
 
-pub type_of-returns-in_ok-operand_results-in-Array :
-    goal.type_of-returns-in_ok-operand_results-in-Array
-type_of-returns-in_ok-operand_results-in-Array t c =
+pub type_of-returns-in_ok-operand_results-in-AtMostOne :
+    goal.type_of-returns-in_ok-operand_results-in-AtMostOne
+type_of-returns-in_ok-operand_results-in-AtMostOne t c =
     let ctx = context_in c.args.env.now in
     let term = c.args.term.now in
     c.only.ensures
     ∙ ap (λ o. o >>= only)
-    (c.in_ok-operand_results-in-Array.ensures
-    ∙ ap (mirror.operand_results ctx term) c.deref.ensures.value)
-    ∙ sym (type_of_row ctx term c.in-Array.operands c.in-Array.is)
+    (c.in_ok-operand_results-in-AtMostOne.ensures
+    ∙ ap (mirror.operand_results ctx term) c.deref-in-AtMostOne.ensures.value)
+    ∙ sym (type_of_row ctx term c.in-AtMostOne.operands (inr c.in-AtMostOne.is))
+
+pub type_of-returns-in-Some : goal.type_of-returns-in-Some
+type_of-returns-in-Some t c =
+    let ctx = context_in c.args.env.now in
+    let types : types_of ctx c.in-Array.operands.items
+    ≡ Some (map view_type c.deref-in-Some.result.now) =
+    ap (types_of ctx) (sym c.deref.ensures.value) ∙ sym c.in_ok-types-in-Array.ensures
+    ∙ ap (option_map view_types) c.in-Some.is
+    ∙ ap (λ ts. Some (map view_type ts)) (sym c.deref-in-Some.ensures.value) in
+    subst (λ r. IfOk c.list_type.result (λ o. option_map view_type o ≡ r))
+    (sym (only_singly _) ∙ sym (ap (λ o. o >>= λ ts. singly (list_type ts) >>= only) types)
+    ∙ sym (type_array_list ctx c.args.term.now c.in-Array.operands c.in-Array.is))
+    c.list_type.ensures
+
+pub type_of-returns-in-None : goal.type_of-returns-in-None
+type_of-returns-in-None t c =
+    let ctx = context_in c.args.env.now in
+    let types : types_of ctx c.in-Array.operands.items ≡ None =
+    ap (types_of ctx) (sym c.deref.ensures.value) ∙ sym c.in_ok-types-in-Array.ensures
+    ∙ ap (option_map view_types) c.in-None.is in
+    sym (ap (λ o. o >>= λ ts. singly (list_type ts) >>= only) types)
+    ∙ sym (type_array_list ctx c.args.term.now c.in-Array.operands c.in-Array.is)
