@@ -1,34 +1,35 @@
 -- The loops that give constants and memories their places: what holds of the first equations, and
 -- at the end of all.
-use Rattle.std.proofs.Common.{◌≡◌, ℕ, ◌+◌, ◌<◌, ◌≤◌, Bool, true, List, [], ◌∷◌, length, get_or, set}
-use Rattle.std.proofs.Common.{map, take, ℤ, pos, All, refl, sym, ap, ap₂, ◌∙◌, subst, arith, inl, inr}
+use Rattle.std.proofs.Common.{◌≡◌, ℕ, ◌+◌, ◌<◌, ◌≤◌, List, [], ◌∷◌, length, get_or, set}
+use Rattle.std.proofs.Common.{map, take, All, refl, sym, ap, ap₂, ◌∙◌, subst, arith, inl}
+use Rattle.std.proofs.Common.{inr}
 use Rattle.std.proofs.Common.{take_all, ◌⊎◌}
 use Rattle.std.proofs.Common.{replicate}
 use Rattle.std.proofs.lemmas.List.{get_or-replicate, length-replicate}
 use Rattle.std.proofs.lemmas.List.Elements.{All-set}
 use Rattle.lb_syntax.specs.Lists.{Every, In}
 use Rattle.lb_syntax.specs.declared.tree.Kind.{Kind}
-use Rattle.lb_check.specs.Scalars.{Scalar, Integer, Boolean, Nil, Bad}
-use Rattle.lb_flat.specs.Fitting.{IsOf}
+use Rattle.lb_check.specs.Scalars.{Scalar}
 use Rattle.lb_flat.specs.Flat.{Operation, Input, Constant, Copy, ApplyUnary, ApplyBinary, Choose}
 use Rattle.lb_flat.specs.Flat.{FirstThen, Previous, Latest, Sample, FlatEquation}
 use Rattle.lb_flat.specs.FurtherKinds.{kind_among}
 use Rattle.lb_flat.specs.Judging.{FlatProgram, named_elements}
 use Rattle.lb_flat.specs.Run.{Ready}
-use Rattle.lb_machine.specs.Meaning.{Lane, HasConstants}
+use Rattle.lb_machine.specs.Meaning.{Lane}
 use Rattle.lb_sim.specs.Compiled.{HasConstantWords}
 use Rattle.lb_sim.specs.Homes.{IsRow, IsHomeIn, IsCellHome, IsMemory, plane_in, word_in, plane_row}
 use Rattle.lb_sim.specs.Homes.{word_row}
-use Rattle.lb_sim.specs.Presets.{IsMore, IsFixed, IsConstant, IsConstantAt, AreConstants, first_lane}
+use Rattle.lb_sim.specs.Presets.{IsMore, IsFixed, IsConstant, AreConstants}
+use Rattle.lb_sim.specs.Presets.{first_lane}
 use Rattle.lb_sim.specs.Presets.{IsFirstMemory, IsMemoryOf, AreMemories}
-use Rattle.lb_sim.specs.Showing.{shown, scalar_at, kind_of}
+use Rattle.lb_sim.specs.Showing.{scalar_at}
 use Rattle.lb_sim.specs.States.{kept_at, no_holding, flag_of, with_memory, equation_in}
 use Rattle.lb_sim.specs.declared.place.Holding.{Holding}
 use Rattle.lb_sim.specs.declared.preset.Preset.{Preset}
 use Rattle.lb_sim.proofs.Filling.{IsFilling, filling_none, filling_more, laws_more, planes_more}
-use Rattle.lb_sim.proofs.Filling.{words_more, all_filled, element_there}
+use Rattle.lb_sim.proofs.Filling.{words_more, all_filled}
 use Rattle.lb_sim.proofs.FirstPlaces.{more_none, more_then, scalar_more}
-use Rattle.lb_sim.proofs.HomeRows.{home_below, in_wider, in_none, in_row, row_grows}
+use Rattle.lb_sim.proofs.HomeRows.{home_below, in_wider, in_none, in_row}
 
 All-weaker_to : {A : Type 0} (P R : A → Type 0) → ((x : A) → P x → R x) → (xs : List A) →
     All P xs → All R xs
@@ -110,7 +111,8 @@ module _ (f : FlatProgram) (old : Preset) where
       ap (λ l. get_or l k d) is
       ∙ get_or-replicate f.size k no_holding d (omega (arith, lt, long)))
 
-  module _ (preset : Preset) (table : List Holding) (i : ℕ) (h : FillsConstants preset table i) where
+  module _ (preset : Preset) (table : List Holding) (i : ℕ)
+      (h : FillsConstants preset table i) where
     pub constants_more :
         (q : FlatEquation) → i < length f.equations → get_or f.equations i q ≡ q →
         (kind : Kind) → kind ≡ kind_among f.kinds q.element → (next : Preset) (g : Holding) →
@@ -138,7 +140,9 @@ module _ (f : FlatProgram) (old : Preset) where
           (law first h.more.words));
     }
 
-    pub constants_all : length f.equations ≤ i → AreConstants f first (length preset.words.items) preset.words.items table
+    pub constants_all :
+        length f.equations ≤ i →
+        AreConstants f first (length preset.words.items) preset.words.items table
     constants_all le = record {
       as_long = h.filling.as_long;
       fixed = h.fixed;

@@ -1,12 +1,13 @@
 -- The pieces of a lane program put together: what is known before the code, the code of the
 -- equations, what is watched and what memories take over.
-use Rattle.std.proofs.Common.{◌≡◌, ℕ, zero, suc, ◌+◌, ◌<◌, ◌≤◌, Bool, false, true, List, [], ◌∷◌, get_or, length}
-use Rattle.std.proofs.Common.{map, ℤ, pos, All, refl, sym, ap, ap₂, ◌∙◌, subst, arith}
-use Rattle.std.specs.Prelude.{slice_index}
+use Rattle.std.proofs.Common.{◌≡◌, ℕ, zero, suc, ◌+◌, ◌<◌, ◌≤◌, Bool, List, [], ◌∷◌}
+use Rattle.std.proofs.Common.{cond, get_or, length}
+use Rattle.std.proofs.Common.{map, ℤ, All, refl, sym, ap, ◌∙◌, subst, arith}
 use Rattle.lb_syntax.specs.Lists.{Every}
 use Rattle.lb_syntax.specs.declared.tree.Kind.{Kind}
 use Rattle.lb_syntax.specs.declared.tree.Kind.TheVariants.{Int as Int_kind, Bool as Bool_kind}
-use Rattle.lb_flat.specs.Fitting.{KindFits, IsFitting}
+use Rattle.lb_check.specs.Scalars.{Scalar}
+use Rattle.lb_flat.specs.Fitting.{KindFits}
 use Rattle.lb_flat.specs.Flat.{Operation, Input, Constant, Copy, ApplyUnary, ApplyBinary, Choose}
 use Rattle.lb_flat.specs.Flat.{FirstThen, Previous, Latest, Sample, FlatEquation}
 use Rattle.lb_flat.specs.FurtherKinds.{kind_among}
@@ -19,16 +20,20 @@ use Rattle.lb_machine.specs.declared.code.Code.{Code}
 use Rattle.lb_machine.specs.declared.instruction.PlaneId.{PlaneId}
 use Rattle.lb_machine.specs.declared.instruction.WordId.{WordId}
 use Rattle.lb_sim.specs.Allotted.{IsAllotted, HasKinds, HasKindsIn, HasConstant, HasAllConstants}
-use Rattle.lb_sim.specs.Compiled.{IsCompiled, IsHome, IsHomeValue, IsHomeAt, HasConstantWords, given_at}
+use Rattle.lb_sim.specs.Compiled.{IsCompiled, IsHome, IsHomeValue, IsHomeAt, HasConstantWords}
+use Rattle.lb_sim.specs.Compiled.{given_at}
+use Rattle.lb_sim.specs.Codes.{IsCodeOf, Suits}
 use Rattle.lb_sim.specs.Holdings.{IsIn, IsValueIn}
-use Rattle.lb_sim.specs.Homes.{plane_in, word_in, IsHomeIn, IsMemory}
+use Rattle.lb_sim.specs.Homes.{plane_in, word_in, IsMemory}
 use Rattle.lb_sim.specs.InputRows.{places_of, truth_columns, number_columns}
 use Rattle.lb_sim.specs.LaidOut.{IsLaidOut, start_lane}
 use Rattle.lb_sim.specs.Layouts.{AreAllotted}
 use Rattle.lb_sim.specs.Passing.{AreSources}
-use Rattle.lb_sim.specs.Presets.{IsFixed, IsConstant, IsMemoryOf}
-use Rattle.lb_sim.specs.Showing.{value_kind}
-use Rattle.lb_sim.specs.States.{kept_at, IsShownBy}
+use Rattle.lb_sim.specs.Presets.{IsConstant, IsMemoryOf}
+use Rattle.lb_sim.specs.Showing.{scalar_at, value_kind}
+use Rattle.lb_sim.specs.States.{kept_at, holding_of, present_at, IsShown, IsShownBy}
+use Rattle.lb_sim.specs.Steady.{AreClear, AreSet, AreHeldFor, IsHeldFor, IsTableOf, ShowsMemory}
+use Rattle.lb_sim.specs.Steady.{ShowsMemories}
 use Rattle.lb_sim.specs.Watching.{AreWatched}
 use Rattle.lb_sim.specs.declared.allotted.Allotted.{Allotted}
 use Rattle.lb_sim.specs.declared.place.Holding.{Holding}
@@ -36,9 +41,8 @@ use Rattle.lb_sim.specs.declared.place.Place.{Place}
 use Rattle.lb_sim.specs.declared.place.Value.{Value}
 use Rattle.lb_sim.specs.declared.place.Value.TheVariants.{Truth, Number}
 use Rattle.lb_sim.specs.declared.place.Watched.{Watched}
-use Rattle.lb_sim.specs.declared.preset.Preset.{Preset}
+use Rattle.lb_sim.specs.declared.program.LaneCode.{LaneCode}
 use Rattle.lb_sim.proofs.FirstPlaces.{all_on}
-use Rattle.lb_sim.proofs.HomeRows.{home_below}
 
 -- ## Before the code
 
@@ -66,19 +70,18 @@ input_kinds p w (Int_kind ∷ kinds) = ap (λ ks. Int_kind ∷ ks) (input_kinds 
 
 has_kinds :
     (kind : Kind) (first last : ℕ) (start : List ℤ) (W : ℕ → Type 0) (o : Operation)
-    (constant kept : Holding) → IsConstant first last start kind o constant →
-    IsMemory kind W o kept → HasKinds kind o constant kept
-has_kinds kind first last start W (Constant v) constant kept c m = c.kind_is
-has_kinds kind first last start W (FirstThen s a b) constant kept c m =
-    record { kind_is = m.kind_is; no_nil = m.nil; no_bad = m.bad }
-has_kinds kind first last start W (Previous v a) constant kept c m = m.kind_is
-has_kinds kind first last start W (Latest v a) constant kept c m = m.kind_is
-has_kinds kind first last start W (Input j) constant kept c m = tt
-has_kinds kind first last start W (Copy a) constant kept c m = tt
-has_kinds kind first last start W (ApplyUnary op a) constant kept c m = tt
-has_kinds kind first last start W (ApplyBinary op a b) constant kept c m = tt
-has_kinds kind first last start W (Choose x a b) constant kept c m = tt
-has_kinds kind first last start W (Sample a) constant kept c m = tt
+    (constant home held : Holding) → IsConstant first last start kind o constant →
+    IsMemory kind W o home → IsHeldFor o home held → HasKinds kind o constant held
+has_kinds kind first last start W (Constant v) constant home held c m h = c.kind_is
+has_kinds kind first last start W (FirstThen s a b) constant home held c m h = h
+has_kinds kind first last start W (Previous v a) constant home held c m h = λ is. h ∙ m.kind_is is
+has_kinds kind first last start W (Latest v a) constant home held c m h = λ is. h ∙ m.kind_is is
+has_kinds kind first last start W (Input j) constant home held c m h = tt
+has_kinds kind first last start W (Copy a) constant home held c m h = tt
+has_kinds kind first last start W (ApplyUnary op a) constant home held c m h = tt
+has_kinds kind first last start W (ApplyBinary op a b) constant home held c m h = tt
+has_kinds kind first last start W (Choose x a b) constant home held c m h = tt
+has_kinds kind first last start W (Sample a) constant home held c m h = tt
 
 has_constant :
     (kind : Kind) (first last : ℕ) (start : List ℤ) (o : Operation) (constant : Holding) →
@@ -94,6 +97,41 @@ has_constant kind first last start (ApplyUnary op a) constant s c w h = tt
 has_constant kind first last start (ApplyBinary op a b) constant s c w h = tt
 has_constant kind first last start (Choose x a b) constant s c w h = tt
 has_constant kind first last start (Sample a) constant s c w h = tt
+
+-- an element that is shown by what stands in for a memory is shown by the memory
+shown_by :
+    (given : List Scalar) (s : Lane) (places : List Place) (home held : Holding) (o : Operation)
+    (v : Scalar) → ShowsMemory s o home held → IsShown given s places held o v →
+    IsShown given s places home o v
+shown_by given s places home held (FirstThen x a b) v e h =
+    h
+    ∙ ap
+    (λ m. cond m (scalar_at s (holding_of places b)) (scalar_at s (holding_of places a))) e
+shown_by given s places home held (Previous w a) v e h = h ∙ e
+shown_by given s places home held (Latest w a) v e h =
+    h ∙ ap (cond (present_at s places a) (scalar_at s (holding_of places a))) e
+shown_by given s places home held (Input j) v e h = h
+shown_by given s places home held (Constant w) v e h = h
+shown_by given s places home held (Copy a) v e h = h
+shown_by given s places home held (ApplyUnary op a) v e h = h
+shown_by given s places home held (ApplyBinary op a b) v e h = h
+shown_by given s places home held (Choose x a b) v e h = h
+shown_by given s places home held (Sample a) v e h = h
+
+all_shown_by :
+    (given : List Scalar) (s : Lane) (places : List Place) (kept held : List Holding)
+    (Q : List FlatEquation) → ShowsMemories s kept held Q →
+    Every (IsShownBy given s places held) Q → Every (IsShownBy given s places kept) Q
+all_shown_by given s places kept held [] e h = tt
+all_shown_by given s places kept held (q ∷ Q) e h = (
+  record {
+    present = h.0.present;
+    scalar =
+        shown_by given s places (kept_at kept q.element) (kept_at held q.element) q.operation
+        (scalar_at s (holding_of places q.element)) e.0 h.0.scalar;
+  },
+  all_shown_by given s places kept held Q e.1 h.1,
+)
 
 home_value :
     (code : Code) (mp mw : ℕ) (v : Value) → IsHomeAt mp code.first_plane (plane_in v) →
@@ -117,32 +155,32 @@ watched_later f a b places w g h = record {
 
 -- each equation is shown, where constants are held
 abbrev pub ShowAll : FlatProgram → Code → List Place → (inputs : List Value) →
-    (constants kept : List Holding) → Type 0
-ShowAll f emitted places inputs constants kept =
+    (constants held : List Holding) → Type 0
+ShowAll f emitted places inputs constants held =
     Every (KindFits f.inputs (kind_among f.kinds)) f.equations →
     (s : Lane) → HasRun emitted.instructions.items s →
     HasAllConstants s constants f.equations →
-    Every (IsShownBy (given_at s inputs) s places kept) f.equations
+    Every (IsShownBy (given_at s inputs) s places held) f.equations
 
 module _ (f : FlatProgram) (known : Allotted) (a : AreAllotted f known) where
   abbrev start_words : List ℤ
   start_words = known.preset.words.items
 
   kinds_of_all :
-      (Q : List FlatEquation) →
+      (held : List Holding) (Q : List FlatEquation) →
       Every
       (λ (q : FlatEquation).
       IsConstant known.constant_word known.memory_word known.preset.words.items
       (kind_among f.kinds q.element) q.operation (kept_at known.constants.items q.element))
       Q →
       Every (λ (q : FlatEquation). IsMemoryOf f q (kept_at known.kept.items q.element)) Q →
-      Every (HasKindsIn f.kinds known.constants.items known.kept.items) Q
-  kinds_of_all [] c m = tt
-  kinds_of_all (q ∷ Q) c m = (
+      AreHeldFor known.kept.items held Q → Every (HasKindsIn f.kinds known.constants.items held) Q
+  kinds_of_all held [] c m h = tt
+  kinds_of_all held (q ∷ Q) c m h = (
     has_kinds (kind_among f.kinds q.element) known.constant_word known.memory_word
         known.preset.words.items _ q.operation (kept_at known.constants.items q.element)
-        (kept_at known.kept.items q.element) c.0 m.0,
-    kinds_of_all Q c.1 m.1,
+        (kept_at known.kept.items q.element) (kept_at held q.element) c.0 m.0 h.0,
+    kinds_of_all held Q c.1 m.1 h.1,
   )
 
   constants_of_all :
@@ -161,74 +199,63 @@ module _ (f : FlatProgram) (known : Allotted) (a : AreAllotted f known) where
     constants_of_all s c w Q h.1,
   )
 
-  -- what the code of the equations asks for
-  pub is_allotted :
-      (code : Code) → code.planes ≡ length known.preset.planes.items →
-      code.words ≡ length known.preset.words.items →
-      IsAllotted f code known.inputs.items known.constants.items known.kept.items
-  is_allotted code planes words = record {
-    inputs_in =
-        subst (All (IsValueIn code)) (sym a.inputs_at)
-        (inputs_there code 0 2 1 f.inputs (omega (arith, planes, a.inputs_planes, a.planes_room))
-        (omega (arith, words, a.inputs_words, a.constants_words, a.words_room)));
-    constants_in = λ k d lt.
-        let h = a.constants.fixed k d lt in
+  module _ (held : List Holding) (clear set : List PlaneId)
+      (table : IsTableOf f known.memory_plane (length known.preset.planes.items)
+      (length known.preset.words.items) known.kept.items held clear set) where
+    -- what stands in for memories has its places in the code
+    pub table_in :
+        (code : Code) → length known.preset.planes.items ≤ code.planes →
+        length known.preset.words.items ≤ code.words → All (IsIn code) held
+    table_in code planes words = λ k d lt.
+        let h = table.below k d lt in
         record {
           value =
-              value_in code (get_or known.constants.items k d).value
-              (omega (arith, h.plane, planes, known.preset.two_planes))
-              (omega (arith, h.word, words, a.words_room));
-          nil = omega (arith, h.nil, planes, known.preset.two_planes);
-          bad = omega (arith, h.bad, planes, known.preset.two_planes);
-        };
-    kept_in = λ k d lt.
-        let h = a.memories.homes k d lt in
-        let few : 0 < length known.preset.planes.items =
-        omega (arith, known.preset.two_planes) in
-        let some : 0 < length known.preset.words.items = omega (arith, known.preset.one_word) in
-        let g = get_or known.kept.items k d in
-        record {
-          value =
-              value_in code g.value
-              (omega (
-                arith,
-                planes,
-                home_below known.memory_plane (length known.preset.planes.items) (plane_in g.value)
-                    few h.plane,
-              ))
-              (omega (
-                arith,
-                words,
-                home_below known.memory_word (length known.preset.words.items) (word_in g.value)
-                    some h.word,
-              ));
-          nil =
-              omega (
-                arith,
-                planes,
-                home_below known.memory_plane (length known.preset.planes.items) g.nil.0 few h.nil,
-              );
-          bad =
-              omega (
-                arith,
-                planes,
-                home_below known.memory_plane (length known.preset.planes.items) g.bad.0 few h.bad,
-              );
-        };
-    all_constants = a.constants.as_long;
-    all_kept = a.memories.as_long;
-    input_kinds = ap (map value_kind) a.inputs_at ∙ input_kinds 2 1 f.inputs;
-    kinds = kinds_of_all f.equations a.constants.constants a.memories.memories;
-  }
+              value_in code (get_or held k d).value (omega (arith, h.plane, planes))
+              (omega (arith, h.word, words));
+          nil = omega (arith, h.nil, planes);
+          bad = omega (arith, h.bad, planes);
+        }
+
+    -- what the code of the equations asks for
+    pub is_allotted :
+        (code : Code) → code.planes ≡ length known.preset.planes.items →
+        code.words ≡ length known.preset.words.items →
+        IsAllotted f code known.inputs.items known.constants.items held
+    is_allotted code planes words = record {
+      inputs_in =
+          subst (All (IsValueIn code)) (sym a.inputs_at)
+          (inputs_there code 0 2 1 f.inputs (omega (arith, planes, a.inputs_planes, a.planes_room))
+          (omega (arith, words, a.inputs_words, a.constants_words, a.words_room)));
+      constants_in = λ k d lt.
+          let h = a.constants.fixed k d lt in
+          record {
+            value =
+                value_in code (get_or known.constants.items k d).value
+                (omega (arith, h.plane, planes, known.preset.two_planes))
+                (omega (arith, h.word, words, a.words_room));
+            nil = omega (arith, h.nil, planes, known.preset.two_planes);
+            bad = omega (arith, h.bad, planes, known.preset.two_planes);
+          };
+      kept_in = table_in code (omega (arith, planes)) (omega (arith, words));
+      all_constants = a.constants.as_long;
+      all_kept = table.as_long;
+      input_kinds = ap (map value_kind) a.inputs_at ∙ input_kinds 2 1 f.inputs;
+      kinds =
+          kinds_of_all held f.equations a.constants.constants a.memories.memories table.held_for;
+    }
 
   -- ## Behind it
 
-  module _ (emitted watching code : Code) (places : List Place) (w : Watched)
+  module _ (held : List Holding) (clear set : List PlaneId)
+      (table : IsTableOf f known.memory_plane (length known.preset.planes.items)
+      (length known.preset.words.items) known.kept.items held clear set)
+      (emitted watching code : Code) (places : List Place) (w : Watched)
       (P : List PlaneId) (W : List WordId)
       (planes : code.first_plane ≡ length known.preset.planes.items)
       (words : code.first_word ≡ length known.preset.words.items)
       (watching_grown : IsGrown emitted watching) (grown : IsGrown watching code)
-      (sources : AreSources f code places known.kept.items known.memory_plane known.memory_word P W)
+      (sources :
+      AreSources f code places known.kept.items held known.memory_plane known.memory_word P W)
     where
       all_homes : All (IsHome code known.memory_plane known.memory_word) known.kept.items
       all_homes k d lt =
@@ -245,27 +272,28 @@ module _ (f : FlatProgram) (known : Allotted) (a : AreAllotted f known) where
             bad = subst (λ n. IsHomeAt known.memory_plane n g.bad.0) end_p h.bad;
           }
 
-      pub is_compiled :
-          length places ≡ f.size →
-          (Every (KindFits f.inputs (kind_among f.kinds)) f.equations →
-          (s : Lane) → HasRun emitted.instructions.items s →
-          HasAllConstants s known.constants.items f.equations →
-          Every (IsShownBy (given_at s known.inputs.items) s places known.kept.items)
-          f.equations) →
+      is_compiled :
+          (Suited : Lane → Type 0) → ((s : Lane) → Suited s → AreClear clear s) →
+          ((s : Lane) → Suited s → AreSet set s) → length places ≡ f.size →
+          ShowAll f emitted places known.inputs.items known.constants.items held →
           AreWatched watching f places w →
           IsCompiled f code known.inputs.items places known.kept.items w known.preset.words.items
-          known.constant_word known.memory_plane known.memory_word P W
-      is_compiled long shown watches = record {
+          known.constant_word known.memory_plane known.memory_word P W Suited
+      is_compiled Suited off on long shown watches = record {
         as_long = long;
         homes = all_homes;
         planes_room = sources.planes_room;
         words_room = sources.words_room;
-        shown = λ K fits s r c.
+        shown = λ K fits s r c suited.
             let run = grown.runs s r in
-            shown fits.kinds s (watching_grown.runs s run)
-            (constants_of_all s r.constants c f.equations a.constants.constants);
+            all_shown_by (given_at s known.inputs.items) s places known.kept.items held f.equations
+            (table.shows s r.constants (off s suited) (on s suited))
+            (shown fits.kinds s (watching_grown.runs s run)
+            (constants_of_all s r.constants c f.equations a.constants.constants));
         watches = watched_later f watching code places w grown watches;
-        moved = λ K fits s s' r c over quiet. sources.moved fits.kinds s s' r over quiet;
+        moved = λ K fits s s' r c suited over quiet.
+            sources.moved fits.kinds s s' r
+            (table.shows s r.constants (off s suited) (on s suited)) over quiet;
       }
 
       starts : (i : ℕ) → i < 64 →
@@ -276,7 +304,7 @@ module _ (f : FlatProgram) (known : Allotted) (a : AreAllotted f known) where
         zero = known.preset.zero;
       }
 
-      pub is_laid_out :
+      is_laid_out :
           IsLaidOut f code known.inputs.items known.kept.items known.preset.planes.items
           known.preset.words.items known.constant_word known.memory_plane known.memory_word P W
       is_laid_out = record {
@@ -292,3 +320,59 @@ module _ (f : FlatProgram) (known : Allotted) (a : AreAllotted f known) where
         start_constants = starts;
         start_state = a.memories.start;
       }
+
+  -- put together it is code of the program
+  module _ (c : LaneCode) (held : List Holding)
+      (table : IsTableOf f known.memory_plane (length known.preset.planes.items)
+      (length known.preset.words.items) known.kept.items held c.clear.items c.set.items)
+      (emitted watching : Code)
+      (planes : c.code.first_plane ≡ length known.preset.planes.items)
+      (words : c.code.first_word ≡ length known.preset.words.items)
+      (watching_grown : IsGrown emitted watching) (grown : IsGrown watching c.code)
+      (sources :
+      AreSources f c.code c.places.items known.kept.items held known.memory_plane known.memory_word
+      c.plane_sources.items c.word_sources.items)
+      (long : length c.places.items ≡ f.size)
+      (shown : ShowAll f emitted c.places.items known.inputs.items known.constants.items held)
+      (watches : AreWatched watching f c.places.items c.watched) where
+    pub is_code :
+        IsCodeOf f known.inputs.items known.kept.items known.preset.planes.items
+        known.preset.words.items known.constant_word known.memory_plane known.memory_word
+        c.code.planes c.code.words c
+    is_code = record {
+      compiled =
+          is_compiled held c.clear.items c.set.items table emitted watching c.code c.places.items
+          c.watched c.plane_sources.items c.word_sources.items planes words watching_grown grown
+          sources (Suits c) (λ s h. h.clear) (λ s h. h.set) long shown watches;
+      laid_out =
+          is_laid_out held c.clear.items c.set.items table emitted watching c.code c.places.items
+          c.watched c.plane_sources.items c.word_sources.items planes words watching_grown grown
+          sources;
+      planes_room = omega arith;
+      words_room = omega arith;
+      clear_homes =
+          subst
+          (λ n. All (λ (p : PlaneId). IsHomeAt known.memory_plane n p.0) c.clear.items)
+          (sym planes) table.clear_homes;
+      set_homes =
+          subst
+          (λ n. All (λ (p : PlaneId). IsHomeAt known.memory_plane n p.0) c.set.items)
+          (sym planes) table.set_homes;
+    }
+
+-- code within some planes and words is so within more of them
+pub code_within :
+    (f : FlatProgram) (inputs : List Value) (kept : List Holding) (start_planes : List ℕ)
+    (start_words : List ℤ) (cw mp mw planes words planes' words' : ℕ) (c : LaneCode) →
+    planes ≤ planes' → words ≤ words' →
+    IsCodeOf f inputs kept start_planes start_words cw mp mw planes words c →
+    IsCodeOf f inputs kept start_planes start_words cw mp mw planes' words' c
+code_within f inputs kept start_planes start_words cw mp mw planes words planes' words' c p w h =
+    record {
+      compiled = h.compiled;
+      laid_out = h.laid_out;
+      planes_room = omega (arith, h.planes_room, p);
+      words_room = omega (arith, h.words_room, w);
+      clear_homes = h.clear_homes;
+      set_homes = h.set_homes;
+    }

@@ -1,6 +1,6 @@
 -- One instant of a batch, as to each of its lanes; and its start.
 use Rattle.std.proofs.Common.{◌≡◌, ◌≢◌, ◌<◌, ◌+◌, ℕ, Bool, true, false, not, ◌&&◌, List, []}
-use Rattle.std.proofs.Common.{◌∷◌, ◌++◌, get_or, ℤ, pos, refl, sym, ap, ◌∙◌}
+use Rattle.std.proofs.Common.{◌∷◌, ◌++◌, get_or, length, ℤ, pos, refl, sym, ap, ap₂, ◌∙◌}
 use Rattle.std.proofs.Common.{subst, inl, inr, arith}
 use Rattle.std.proofs.Math.Logic.{∥∥₁_elim}
 use Rattle.std.proofs.Props.{props}
@@ -18,16 +18,20 @@ use Rattle.lb_flat.specs.Programs.{program_of}
 use Rattle.lb_lanes.specs.Kernels.{lane_of}
 use Rattle.lb_lanes.specs.Planes.{IsPlaneOf, on}
 use Rattle.lb_machine.specs.Meaning.{Lane, HasConstants, lane_at}
+use Rattle.lb_machine.specs.declared.code.Code.{Code}
+use Rattle.lb_sim.specs.Codes.{Suits}
 use Rattle.lb_sim.specs.Compiled.{IsHomeAt, HasConstantWords, given_at}
 use Rattle.lb_sim.specs.LaidOut.{start_lane}
 use Rattle.lb_sim.specs.LaneMoves.{IsMovedOn, StandsIn}
-use Rattle.lb_sim.specs.LaneStates.{HoldSame, IsComputed, StandsAt, is_passed}
+use Rattle.lb_sim.specs.LaneStates.{HoldSame, IsCodeIn, IsComputed, StandsAt, is_passed}
 use Rattle.lb_sim.specs.States.{IsCarriedOver}
 use Rattle.lb_sim.specs.Watching.{lane_judged}
+use Rattle.lb_sim.specs.declared.program.LaneCode.{LaneCode}
 use Rattle.lb_sim.specs.declared.program.LaneProgram.{LaneProgram}
 use Rattle.lb_sim.proofs.LaneLayouts as layouts
-use Rattle.lb_sim.proofs.LanePrograms.{stands_prop, program_ready, memory_words}
+use Rattle.lb_sim.proofs.LanePrograms.{stands_prop, program_ready, memory_words, suits_still}
 use Rattle.lb_sim.proofs.LanePrograms.{inputs_planes, inputs_words, constants_words}
+use Rattle.lb_sim.proofs.LanePrograms.{start_planes_room, start_words_room}
 use Rattle.lb_sim.proofs.LaneSteps as steps_of
 
 -- ## The start
@@ -35,10 +39,10 @@ use Rattle.lb_sim.proofs.LaneSteps as steps_of
 -- the first planes and words hold what the program starts with, in each lane
 pub record IsStarted (p : LaneProgram) (planes : List ℕ) (words : List (List ℤ)) : Type 0 where
   pub planes_put :
-      (k : ℕ) → k < p.code.first_plane →
+      (k : ℕ) → k < length p.start_planes.items →
       slice_index planes k ≡ slice_index p.start_planes.items k
   pub words_put :
-      (k i : ℕ) → k < p.code.first_word → i < 64 →
+      (k i : ℕ) → k < length p.start_words.items → i < 64 →
       lane_of (slice_index_or words k []) i ≡ slice_index_or p.start_words.items k (pos 0)
 
 -- the same of other names for the lists
@@ -56,39 +60,46 @@ module _ (p : LaneProgram) (planes : List ℕ) (words : List (List ℤ))
   abbrev at_start : Lane
   at_start = start_lane p.start_planes.items p.start_words.items i
 
-  bits_start : (k : ℕ) → k < p.code.first_plane → begun.bits k ≡ at_start.bits k
-  bits_start k h = ap (λ x. on x i) (started.planes_put k h)
+  abbrev code : Code
+  code = p.general.code
 
-  ints_start : (k : ℕ) → k < p.code.first_word → begun.ints k ≡ at_start.ints k
-  ints_start k h = started.words_put k i h below
+  bits_start : (k : ℕ) → k < code.first_plane → begun.bits k ≡ at_start.bits k
+  bits_start k h =
+      ap (λ x. on x i)
+      (started.planes_put k (omega (arith, h, start_planes_room p p.general p.general_law)))
+
+  ints_start : (k : ℕ) → k < code.first_word → begun.ints k ≡ at_start.ints k
+  ints_start k h =
+      started.words_put k i (omega (arith, h, start_words_room p p.general p.general_law)) below
 
   -- what is the same everywhere is there
   pub begun_constants : HasConstants begun
   begun_constants =
       let given : HasConstants at_start =
-      ∥∥₁_elim p.laid_out (Prim.hlevel props) (λ h. h.start_constants i below) in
+      ∥∥₁_elim p.general_law (Prim.hlevel props) (λ h. h.laid_out.start_constants i below) in
       record {
-        nowhere = bits_start 0 (omega (arith, p.code.constants)) ∙ given.nowhere;
-        everywhere = bits_start 1 (omega (arith, p.code.constants)) ∙ given.everywhere;
-        zero = ints_start 0 (omega (arith, p.code.zero)) ∙ given.zero;
+        nowhere = bits_start 0 (omega (arith, code.constants)) ∙ given.nowhere;
+        everywhere = bits_start 1 (omega (arith, code.constants)) ∙ given.everywhere;
+        zero = ints_start 0 (omega (arith, code.zero)) ∙ given.zero;
       }
 
   -- and so are the constants
   pub begun_constant_words :
       HasConstantWords p.constant_word p.memory_word p.start_words.items begun
-  begun_constant_words w from to = ints_start w (omega (arith, to, memory_words p))
+  begun_constant_words w from to =
+      ints_start w (omega (arith, to, memory_words p p.general p.general_law))
 
-  starts_same : HoldSame p.code p.memory_plane p.memory_word at_start begun
+  starts_same : HoldSame code p.memory_plane p.memory_word at_start begun
   starts_same = record { planes = plane; words = word }
     where
-      plane : (k : ℕ) → IsHomeAt p.memory_plane p.code.first_plane k →
+      plane : (k : ℕ) → IsHomeAt p.memory_plane code.first_plane k →
           begun.bits k ≡ at_start.bits k
-      plane k (inl e) = bits_start k (omega (arith, e, p.code.constants))
+      plane k (inl e) = bits_start k (omega (arith, e, code.constants))
       plane k (inr h) = bits_start k (h.1)
 
-      word : (k : ℕ) → IsHomeAt p.memory_word p.code.first_word k →
+      word : (k : ℕ) → IsHomeAt p.memory_word code.first_word k →
           begun.ints k ≡ at_start.ints k
-      word k (inl e) = ints_start k (omega (arith, e, p.code.zero))
+      word k (inl e) = ints_start k (omega (arith, e, code.zero))
       word k (inr h) = ints_start k (h.1)
 
   -- each lane stands for the empty trace
@@ -98,10 +109,9 @@ module _ (p : LaneProgram) (planes : List ℕ) (words : List (List ℤ))
   begun_stands v active e =
       let f = program_of p.program.now in
       subst (λ u. StandsAt f p.kept.items begun u active 0 []) (sym e)
-      (∥∥₁_elim p.laid_out (stands_prop f p.kept.items begun Passed active 0 [])
-      (λ laid. ∥∥₁_elim p.compiled (stands_prop f p.kept.items begun Passed active 0 [])
-      (λ compiled. layouts.stands_empty f p.code p.memory_plane p.memory_word p.kept.items
-      compiled.homes at_start begun starts_same (laid.start_state i below) active)))
+      (∥∥₁_elim p.general_law (stands_prop f p.kept.items begun Passed active 0 [])
+      (λ law. layouts.stands_empty f code p.memory_plane p.memory_word p.kept.items
+      law.compiled.homes at_start begun starts_same (law.laid_out.start_state i below) active))
 
 not_passed : (v : Verdict) → v ≢ Passed → is_passed v ≡ false
 not_passed Passed ne = absurd (ne refl)
@@ -112,20 +122,22 @@ not_passed (False t) ne = refl
 
 -- ## An instant
 
--- lanes 0, 1 and 2 are one lane before the instant, once the code has run, and after it
-module _ (p : LaneProgram) (row : List Scalar) (s0 s1 s2 : Lane) (v v' : Verdict)
-    (active live going passed : Bool) (steps : ℕ) (computed : IsComputed p row s0 s1)
+-- lanes 0, 1 and 2 are one lane before the instant, once a code has run that it suits if it takes
+-- part, and after the instant
+module _ (p : LaneProgram) (c : LaneCode) (law : IsCodeIn p c) (row : List Scalar)
+    (s0 s1 s2 : Lane) (v v' : Verdict) (active live going passed : Bool) (steps : ℕ)
+    (suits : going ≡ true → Suits c s0) (computed : IsComputed p c row s0 s1)
     (going_is : going ≡ (active && live))
-    (passed_is : passed ≡ (going && is_passed (lane_judged p.watched steps s1)))
-    (put : v' ≡ (if going && not passed then lane_judged p.watched steps s1 else v))
+    (passed_is : passed ≡ (going && is_passed (lane_judged c.watched steps s1)))
+    (put : v' ≡ (if going && not passed then lane_judged c.watched steps s1 else v))
     (carried :
-    IsCarriedOver p.memory_plane p.memory_word p.plane_sources.items p.word_sources.items s1
+    IsCarriedOver p.memory_plane p.memory_word c.plane_sources.items c.word_sources.items s1
     s2) where
   abbrev f : FlatProgram
   f = program_of p.program.now
 
   abbrev judged : Verdict
-  judged = lane_judged p.watched steps s1
+  judged = lane_judged c.watched steps s1
 
   passed_at : passed ≡ ((active && live) && is_passed judged)
   passed_at = passed_is ∙ ap (λ b. b && is_passed judged) going_is
@@ -143,15 +155,19 @@ module _ (p : LaneProgram) (row : List Scalar) (s0 s1 s2 : Lane) (v v' : Verdict
       layouts.live_passed v judged v' active live passed passed_at put_at there was in
       let is_verdict =
       layouts.live_verdict v judged v' active live passed passed_at put_at there was in
+      let going_there : is_passed v ≡ true → going ≡ true =
+      λ e. going_is ∙ ap₂ (λ a b. a && b) (was ∙ e) there in
+      let suits_now : is_passed v ≡ true → Suits c s1 =
+      λ e. suits_still p c law s0 s1 computed.same (suits (going_there e)) in
       subst (λ r. StandsIn p s2 v' passed (steps + 1) (X ++ r ∷ [])) computed.given
-      (∥∥₁_elim p.compiled
+      (∥∥₁_elim law
       (stands_prop f p.kept.items s2 v' passed (steps + 1)
       (X ++ given_at s1 p.inputs.items ∷ []))
-      (λ compiled. steps_of.moves f p.code p.inputs.items p.places.items p.kept.items p.watched
-      p.start_words.items p.constant_word p.memory_plane p.memory_word p.plane_sources.items
-      p.word_sources.items compiled (program_ready p) K fits s0 s1 s2 computed.run
-      computed.constants computed.same carried X steps v v' is_verdict active passed was
-      is_passed_now stands))
+      (λ h. steps_of.moves f c.code p.inputs.items c.places.items p.kept.items c.watched
+      p.start_words.items p.constant_word p.memory_plane p.memory_word c.plane_sources.items
+      c.word_sources.items (Suits c) h.compiled (program_ready p) K fits s0 s1 s2 computed.run
+      computed.constants computed.same carried X steps v v' is_verdict suits_now active passed
+      was is_passed_now stands))
 
   -- a lane that is not live stands for what it did
   lane_stays :

@@ -1,6 +1,5 @@
 -- The verdict of the flat program on a recorded trace is that of each program that it stands for.
-use Rattle.std.proofs.Common.{◌≡◌, ◌≢◌, ℕ, ◌<◌, List, [], length, sym, ap, ◌∙◌}
-use Rattle.lb_static.specs.DataTypes.{signature}
+use Rattle.std.proofs.Common.{◌≡◌, ◌≢◌, ℕ, ◌<◌, [], length, sym, ap, ◌∙◌}
 use Rattle.lb_static.specs.Signature.{Elements, kinds_of}
 use Rattle.lb_check.specs.declared.verdict.Verdict.{Verdict}
 use Rattle.lb_flat.specs.Fitting.{IsFitting}

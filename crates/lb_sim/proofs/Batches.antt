@@ -1,11 +1,10 @@
 -- The traces of a batch, each to its end or to its verdict.
-use Rattle.std.proofs.Common.{◌≡◌, ◌≢◌, ℕ, zero, suc, ◌+◌, ◌<◌, ◌≤◌, ◌&&◌, Bool, true, false, List}
-use Rattle.std.proofs.Common.{[], ◌∷◌, ◌++◌, length, get_or, take, drop, refl, sym, ap, ap₂, ◌∙◌}
-use Rattle.std.proofs.Common.{subst, arith, ◌⊎◌, inl, inr}
+use Rattle.std.proofs.Common.{◌≡◌, ◌≢◌, ℕ, suc, ◌+◌, ◌<◌, ◌≤◌, ◌&&◌, Bool, true, false, List}
+use Rattle.std.proofs.Common.{[], ◌∷◌, ◌++◌, length, get_or, take, drop, refl, sym, ap, ◌∙◌}
+use Rattle.std.proofs.Common.{arith, ◌⊎◌, inl, inr}
 use Rattle.std.proofs.lemmas.Bool.{true≢false}
-use Rattle.std.proofs.lemmas.List.{take_all, take_more, take-append-drop, length-take-le}
+use Rattle.std.proofs.lemmas.List.{take_all, take_more, take-append-drop}
 use Rattle.std.specs.Prelude.{nat_lt}
-use Rattle.lb_check.specs.Scalars.{Scalar}
 use Rattle.lb_check.specs.Solutions.{Inputs}
 use Rattle.lb_check.specs.Verdicts.{or_later}
 use Rattle.lb_check.specs.declared.verdict.Verdict.{Verdict}
@@ -41,7 +40,8 @@ judged_found f t (row ∷ rows) more found =
   where
     go_on : (u : Verdict) → u ≡ Passed → u ≡ row_judged f t row →
         rows_judged f (suc t) rows ≢ Passed
-    go_on u is e same = found (ap (λ w. or_later w (rows_judged f (suc t) rows)) (sym e ∙ is) ∙ same)
+    go_on u is e same =
+        found (ap (λ w. or_later w (rows_judged f (suc t) rows)) (sym e ∙ is) ∙ same)
 
     by : (rows_judged f (suc t) rows ≢ Passed →
         rows_judged f (suc t) (rows ++ more) ≡ rows_judged f (suc t) rows) →

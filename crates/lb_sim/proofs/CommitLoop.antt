@@ -1,11 +1,10 @@
 -- The loop that gives memories their sources, equation by equation.
-use Rattle.std.proofs.Common.{◌≡◌, ◌≢◌, ℕ, suc, ◌+◌, ◌<◌, ◌≤◌, false, List, [], ◌∷◌, ◌++◌, get_or}
-use Rattle.std.proofs.Common.{length, take, drop, All, refl, sym, ap, ◌∙◌, subst, arith, add-one}
+use Rattle.std.proofs.Common.{◌≡◌, ℕ, ◌+◌, ◌<◌, ◌≤◌, false, List, [], ◌∷◌, ◌++◌, get_or}
+use Rattle.std.proofs.Common.{length, take, drop, All, sym, ap, ◌∙◌, subst, arith, add-one}
 use Rattle.std.proofs.Common.{take_all, take-suc}
 use Rattle.std.proofs.Math.Seq.{drop-cons}
 use Rattle.std.proofs.Math.ListN.{drop_of_length-le}
-use Rattle.lb_syntax.specs.Lists.{Every, In}
-use Rattle.lb_syntax.specs.declared.tree.Kind.{Kind}
+use Rattle.lb_syntax.specs.Lists.{Every}
 use Rattle.lb_check.specs.Verdicts.{is_bad}
 use Rattle.lb_flat.specs.Fitting.{KindFits}
 use Rattle.lb_flat.specs.Flat.{FlatEquation}
@@ -22,6 +21,7 @@ use Rattle.lb_sim.specs.Passing.{IsPlaneSource, IsWordSource, AreTaken, IsNextOf
 use Rattle.lb_sim.specs.Presets.{IsMemoryOf}
 use Rattle.lb_sim.specs.Showing.{kind_of, row_at}
 use Rattle.lb_sim.specs.States.{kept_at, holding_of, IsMoved, IsCarriedOver}
+use Rattle.lb_sim.specs.Steady.{AreHeldFor, IsHeldFor, ShowsMemory, ShowsMemories}
 use Rattle.lb_sim.specs.declared.place.Holding.{Holding}
 use Rattle.lb_sim.specs.declared.place.Place.{Place}
 use Rattle.lb_sim.proofs.Committing.{IsKeptIn}
@@ -153,130 +153,148 @@ module _ (code : Code) (home next : Holding) (mp mw : ℕ) (P P' : List PlaneId)
 
 -- ## The loop
 
-module _ (f : FlatProgram) (places : List Place) (kept : List Holding) (mp mw : ℕ) (before : Code)
-  where
-    abbrev IsQuiet : Lane → Type 0
-    IsQuiet s = some_in is_bad (row_at s places) (named_elements f) ≡ false
+module _ (f : FlatProgram) (places : List Place) (kept held : List Holding) (mp mw : ℕ)
+    (before : Code) where
+  abbrev IsQuiet : Lane → Type 0
+  IsQuiet s = some_in is_bad (row_at s places) (named_elements f) ≡ false
 
-    abbrev AreMoved : Lane → Lane → List FlatEquation → Type 0
-    AreMoved s s' Q =
-        Every (λ (q : FlatEquation). IsMoved s s' places (kept_at kept q.element) q.operation) Q
+  abbrev AreMoved : Lane → Lane → List FlatEquation → Type 0
+  AreMoved s s' Q =
+      Every (λ (q : FlatEquation). IsMoved s s' places (kept_at kept q.element) q.operation) Q
 
-    -- the memories of the first i equations have their sources
-    pub record IsCommitting (code : Code) (P : List PlaneId) (W : List WordId) (i : ℕ) : Type 0 where
-      pub grown : IsGrown before code
-      pub planes_behind : All (IsOwnPlane code) P
-      pub words_behind : All (IsOwnWord code) W
-      pub planes : IsRow (mp + length P) (plane_row kept (drop i f.equations)) code.first_plane
-      pub words : IsRow (mw + length W) (word_row kept (drop i f.equations)) code.first_word
-      pub moved :
-          Every (KindFits f.inputs (kind_among f.kinds)) f.equations →
-          (s s' : Lane) → HasRun code.instructions.items s → IsCarriedOver mp mw P W s s' →
-          IsQuiet s → AreMoved s s' (take i f.equations)
+  -- the memories of the first i equations have their sources
+  pub record IsCommitting (code : Code) (P : List PlaneId) (W : List WordId) (i : ℕ) :
+      Type 0 where
+    pub grown : IsGrown before code
+    pub planes_behind : All (IsOwnPlane code) P
+    pub words_behind : All (IsOwnWord code) W
+    pub planes : IsRow (mp + length P) (plane_row kept (drop i f.equations)) code.first_plane
+    pub words : IsRow (mw + length W) (word_row kept (drop i f.equations)) code.first_word
+    pub moved :
+        Every (KindFits f.inputs (kind_among f.kinds)) f.equations →
+        (s s' : Lane) → HasRun code.instructions.items s →
+        ShowsMemories s kept held f.equations → IsCarriedOver mp mw P W s s' → IsQuiet s →
+        AreMoved s s' (take i f.equations)
 
-    pub committing_none :
-        IsRow mp (plane_row kept f.equations) before.first_plane →
-        IsRow mw (word_row kept f.equations) before.first_word → IsCommitting before [] [] 0
-    committing_none planes words =
-        let p : mp ≡ mp + 0 = omega arith in
-        let w : mw ≡ mw + 0 = omega arith in
+  pub committing_none :
+      IsRow mp (plane_row kept f.equations) before.first_plane →
+      IsRow mw (word_row kept f.equations) before.first_word → IsCommitting before [] [] 0
+  committing_none planes words =
+      let p : mp ≡ mp + 0 = omega arith in
+      let w : mw ≡ mw + 0 = omega arith in
+      record {
+        grown = grown_none before;
+        planes_behind = λ k d lt. absurd (omega (arith, lt));
+        words_behind = λ k d lt. absurd (omega (arith, lt));
+        planes =
+            subst (λ n. IsRow n (plane_row kept f.equations) before.first_plane) p planes;
+        words = subst (λ n. IsRow n (word_row kept f.equations) before.first_word) w words;
+        moved = λ fits s s' r shows o quiet. tt;
+      }
+
+  module _ (code : Code) (P : List PlaneId) (W : List WordId) (i : ℕ)
+      (h : IsCommitting code P W i) (lt_p : 0 < mp) (lt_w : 0 < mw) where
+    module _ (q : FlatEquation) (lt : i < length f.equations) (is : get_or f.equations i q ≡ q)
+      where
+        cut_there : drop i f.equations ≡ get_or f.equations i q ∷ drop (i + 1) f.equations
+        cut_there = rw (add-one, drop-cons f.equations i q)
+
+        cut : drop i f.equations ≡ q ∷ drop (i + 1) f.equations
+        cut = cut_there ∙ ap (λ (r : FlatEquation). r ∷ drop (i + 1) f.equations) is
+
+        front : take (i + 1) f.equations ≡ take i f.equations ++ q ∷ []
+        front =
+            ap (λ n. take n f.equations) (add-one i) ∙ take-suc f.equations i q lt
+            ∙ ap (λ (r : FlatEquation). take i f.equations ++ r ∷ []) is
+
+        -- the next equation's memory gets its sources
+        pub commits :
+            (home now next : Holding) → home ≡ kept_at kept q.element →
+            now ≡ kept_at held q.element → (mid code' : Code) →
+            IsGrown code mid → IsGrown mid code' →
+            (P' : List PlaneId) (W' : List WordId) → AreTaken code' home next P P' W W' →
+            ((e : ℕ) → e < length places → kind_of (holding_of places e) ≡ kind_among f.kinds e) →
+            IsMemoryOf f q home → AreHeldFor kept held f.equations → IsKeptIn places q.operation →
+            IsNextOf mid places now q.operation next → IsCommitting code' P' W' (i + 1)
+        commits home now next at now_at mid code' first second P' W' taken kinds memory alike
+            kept_in law =
+            let grown = grown_then code mid code' first second in
+            let rows_p = subst (λ Q. IsRow (mp + length P) (plane_row kept Q) code.first_plane)
+            cut h.planes in
+            let rows_w = subst (λ Q. IsRow (mw + length W) (word_row kept Q) code.first_word) cut
+            h.words in
+            let row_p = subst
+            (λ (x : Holding). IsRow (mp + length P)
+            (plane_in x.value ∷ x.nil.0 ∷ x.bad.0 ∷ plane_row kept (drop (i + 1) f.equations))
+            code.first_plane) (sym at) rows_p in
+            let row_w = subst
+            (λ (x : Holding). IsRow (mw + length W)
+            (word_in x.value ∷ word_row kept (drop (i + 1) f.equations)) code.first_word)
+            (sym at) rows_w in
+            let IsAlike : FlatEquation → Type 0 = λ x.
+            IsHeldFor x.operation (kept_at kept x.element) (kept_at held x.element) in
+            let here = (subst (Every IsAlike) cut (Every-drop IsAlike i f.equations alike)).0 in
+            let like : IsHeldFor q.operation home now =
+            subst (λ (x : Holding). IsHeldFor q.operation x now) (sym at)
+            (subst (IsHeldFor q.operation (kept_at kept q.element)) (sym now_at) here) in
+            let ps = plane_row kept (drop (i + 1) f.equations) in
+            let ws = word_row kept (drop (i + 1) f.equations) in
+            record {
+              grown = grown_then before code code' h.grown grown;
+              planes_behind =
+                  planes_own code' home next mp mw P P' W W' taken
+                  (own_planes_grown code code' grown P h.planes_behind);
+              words_behind =
+                  words_own code' home next mp mw P P' W W' taken
+                  (own_words_grown code code' grown W h.words_behind);
+              planes =
+                  subst (λ n. IsRow (mp + length P') ps n) (sym grown.first_plane)
+                  (planes_left code' home next mp mw P P' W W' taken lt_p lt_w ps ws
+                  code.first_plane code.first_word row_p row_w);
+              words =
+                  subst (λ n. IsRow (mw + length W') ws n) (sym grown.first_word)
+                  (words_left code' home next mp mw P P' W W' taken lt_p lt_w ps ws
+                  code.first_plane code.first_word row_p row_w);
+              moved = λ fits s s' r shows over quiet.
+                  let own = subst (Every (KindFits f.inputs (kind_among f.kinds))) cut
+                  (Every-drop (KindFits f.inputs (kind_among f.kinds)) i f.equations fits) in
+                  let IsOne : FlatEquation → Type 0 = λ x.
+                  ShowsMemory s x.operation (kept_at kept x.element) (kept_at held x.element) in
+                  let one = (subst (Every IsOne) cut (Every-drop IsOne i f.equations shows)).0 in
+                  let shown : ShowsMemory s q.operation home now =
+                  subst (λ (x : Holding). ShowsMemory s q.operation x now) (sym at)
+                  (subst (ShowsMemory s q.operation (kept_at kept q.element)) (sym now_at) one) in
+                  subst (AreMoved s s') (sym front)
+                  (Every-append
+                  (λ (x : FlatEquation). IsMoved s s' places (kept_at kept x.element) x.operation)
+                  (take i f.equations) (q ∷ [])
+                  (h.moved fits s s' (grown.runs s r) shows
+                  (over_before code' home next mp mw P P' W W' taken lt_p lt_w ps ws
+                  code.first_plane code.first_word row_p row_w s s' r over) quiet) (
+                    subst (λ (x : Holding). IsMoved s s' places x q.operation) at
+                        (memory_moves code' s s' r places (named_elements f) quiet
+                        (kind_among f.kinds) kinds f.inputs (kind_among f.kinds q.element)
+                        q.operation home now next own.0 memory like shown kept_in
+                        (handed code' home next mp mw P P' W W' taken lt_p lt_w ps ws
+                        code.first_plane code.first_word row_p row_w s s' r over)
+                        (next_grown mid code' places now q.operation next second law)),
+                    tt,
+                  ));
+            }
+
+    pub all_committed : length f.equations ≤ i →
+        AreSources f code places kept held mp mw P W
+    all_committed le =
+        let none = drop_of_length-le f.equations le in
         record {
-          grown = grown_none before;
-          planes_behind = λ k d lt. absurd (omega (arith, lt));
-          words_behind = λ k d lt. absurd (omega (arith, lt));
-          planes =
-              subst (λ n. IsRow n (plane_row kept f.equations) before.first_plane) p planes;
-          words = subst (λ n. IsRow n (word_row kept f.equations) before.first_word) w words;
-          moved = λ fits s s' r o quiet. tt;
+          planes_room =
+              subst (λ Q. IsRow (mp + length P) (plane_row kept Q) code.first_plane) none
+              h.planes;
+          words_room =
+              subst (λ Q. IsRow (mw + length W) (word_row kept Q) code.first_word) none h.words;
+          planes_behind = h.planes_behind;
+          words_behind = h.words_behind;
+          moved = λ fits s s' r shows over quiet.
+              subst (AreMoved s s') (take_all i f.equations le)
+              (h.moved fits s s' r shows over quiet);
         }
-
-    module _ (code : Code) (P : List PlaneId) (W : List WordId) (i : ℕ)
-        (h : IsCommitting code P W i) (lt_p : 0 < mp) (lt_w : 0 < mw) where
-      module _ (q : FlatEquation) (lt : i < length f.equations) (is : get_or f.equations i q ≡ q)
-        where
-          cut_there : drop i f.equations ≡ get_or f.equations i q ∷ drop (i + 1) f.equations
-          cut_there = rw (add-one, drop-cons f.equations i q)
-
-          cut : drop i f.equations ≡ q ∷ drop (i + 1) f.equations
-          cut = cut_there ∙ ap (λ (r : FlatEquation). r ∷ drop (i + 1) f.equations) is
-
-          front : take (i + 1) f.equations ≡ take i f.equations ++ q ∷ []
-          front =
-              ap (λ n. take n f.equations) (add-one i) ∙ take-suc f.equations i q lt
-              ∙ ap (λ (r : FlatEquation). take i f.equations ++ r ∷ []) is
-
-          -- the next equation's memory gets its sources
-          pub commits :
-              (home next : Holding) → home ≡ kept_at kept q.element → (mid code' : Code) →
-              IsGrown code mid → IsGrown mid code' →
-              (P' : List PlaneId) (W' : List WordId) → AreTaken code' home next P P' W W' →
-              ((e : ℕ) → e < length places → kind_of (holding_of places e) ≡ kind_among f.kinds e) →
-              IsMemoryOf f q home → IsKeptIn places q.operation →
-              IsNextOf mid places home q.operation next → IsCommitting code' P' W' (i + 1)
-          commits home next at mid code' first second P' W' taken kinds memory kept_in law =
-              let grown = grown_then code mid code' first second in
-              let rows_p = subst (λ Q. IsRow (mp + length P) (plane_row kept Q) code.first_plane) cut
-              h.planes in
-              let rows_w = subst (λ Q. IsRow (mw + length W) (word_row kept Q) code.first_word) cut
-              h.words in
-              let row_p = subst
-              (λ (x : Holding). IsRow (mp + length P)
-              (plane_in x.value ∷ x.nil.0 ∷ x.bad.0 ∷ plane_row kept (drop (i + 1) f.equations))
-              code.first_plane) (sym at) rows_p in
-              let row_w = subst
-              (λ (x : Holding). IsRow (mw + length W)
-              (word_in x.value ∷ word_row kept (drop (i + 1) f.equations)) code.first_word)
-              (sym at) rows_w in
-              let ps = plane_row kept (drop (i + 1) f.equations) in
-              let ws = word_row kept (drop (i + 1) f.equations) in
-              record {
-                grown = grown_then before code code' h.grown grown;
-                planes_behind =
-                    planes_own code' home next mp mw P P' W W' taken
-                    (own_planes_grown code code' grown P h.planes_behind);
-                words_behind =
-                    words_own code' home next mp mw P P' W W' taken
-                    (own_words_grown code code' grown W h.words_behind);
-                planes =
-                    subst (λ n. IsRow (mp + length P') ps n) (sym grown.first_plane)
-                    (planes_left code' home next mp mw P P' W W' taken lt_p lt_w ps ws
-                    code.first_plane code.first_word row_p row_w);
-                words =
-                    subst (λ n. IsRow (mw + length W') ws n) (sym grown.first_word)
-                    (words_left code' home next mp mw P P' W W' taken lt_p lt_w ps ws
-                    code.first_plane code.first_word row_p row_w);
-                moved = λ fits s s' r over quiet.
-                    let own = subst (Every (KindFits f.inputs (kind_among f.kinds))) cut
-                    (Every-drop (KindFits f.inputs (kind_among f.kinds)) i f.equations fits) in
-                    subst (AreMoved s s') (sym front)
-                    (Every-append
-                    (λ (x : FlatEquation). IsMoved s s' places (kept_at kept x.element) x.operation)
-                    (take i f.equations) (q ∷ [])
-                    (h.moved fits s s' (grown.runs s r)
-                    (over_before code' home next mp mw P P' W W' taken lt_p lt_w ps ws
-                    code.first_plane code.first_word row_p row_w s s' r over) quiet) (
-                      subst (λ (x : Holding). IsMoved s s' places x q.operation) at
-                          (memory_moves code' s s' r places (named_elements f) quiet
-                          (kind_among f.kinds) kinds f.inputs (kind_among f.kinds q.element)
-                          q.operation home next own.0 memory kept_in
-                          (handed code' home next mp mw P P' W W' taken lt_p lt_w ps ws
-                          code.first_plane code.first_word row_p row_w s s' r over)
-                          (next_grown mid code' places home q.operation next second law)),
-                      tt,
-                    ));
-              }
-
-      pub all_committed : length f.equations ≤ i →
-          AreSources f code places kept mp mw P W
-      all_committed le =
-          let none = drop_of_length-le f.equations le in
-          record {
-            planes_room =
-                subst (λ Q. IsRow (mp + length P) (plane_row kept Q) code.first_plane) none h.planes;
-            words_room =
-                subst (λ Q. IsRow (mw + length W) (word_row kept Q) code.first_word) none h.words;
-            planes_behind = h.planes_behind;
-            words_behind = h.words_behind;
-            moved = λ fits s s' r over quiet.
-                subst (AreMoved s s') (take_all i f.equations le) (h.moved fits s s' r over quiet);
-          }

@@ -1,7 +1,7 @@
 -- An equation of a program at its place, what is in range there, and its memory.
-use Rattle.std.proofs.Common.{◌≡◌, ℕ, zero, suc, ◌<◌, ◌≤◌, List, [], ◌∷◌, get_or, length, All, refl}
+use Rattle.std.proofs.Common.{◌≡◌, ℕ, zero, suc, ◌<◌, ◌≤◌, List, [], ◌∷◌, get_or, length, All}
 use Rattle.std.proofs.Common.{sym, ap, ◌∙◌, subst, arith}
-use Rattle.lb_syntax.specs.Lists.{Every, In}
+use Rattle.lb_syntax.specs.Lists.{Every}
 use Rattle.lb_syntax.specs.declared.tree.Kind.{Kind}
 use Rattle.lb_syntax.specs.declared.tree.Kind.TheVariants.{Int as Int_kind}
 use Rattle.lb_flat.specs.declared.equation.Clock.{Clock}
@@ -16,20 +16,13 @@ use Rattle.lb_flat.specs.Programs.{flat_equations, IsInRange}
 use Rattle.lb_flat.specs.Run.{reads, keeps}
 use Rattle.lb_flat.specs.Values.{equation_of, operation_of}
 use Rattle.lb_flat.specs.Within.{IsWithin}
-use Rattle.lb_machine.specs.Growing.{IsGrown}
-use Rattle.lb_machine.specs.declared.code.Code.{Code}
-use Rattle.lb_sim.specs.Holdings.{IsIn, IsValueIn}
-use Rattle.lb_sim.specs.Homes.{plane_in, word_in}
 use Rattle.lb_sim.specs.Presets.{AreMemories, IsMemoryOf}
 use Rattle.lb_sim.specs.States.{kept_at, no_holding}
 use Rattle.lb_sim.specs.declared.place.Holding.{Holding}
 use Rattle.lb_sim.specs.declared.place.Place.{Place}
-use Rattle.lb_sim.specs.declared.place.Value.{Value}
-use Rattle.lb_sim.specs.declared.place.Value.TheVariants.{Truth, Number}
 use Rattle.lb_sim.specs.declared.preset.Preset.{Preset}
 use Rattle.lb_sim.proofs.Committing.{IsKeptIn}
 use Rattle.lb_sim.proofs.Growth.{same_there}
-use Rattle.lb_sim.proofs.HomeRows.{home_below}
 
 pub equation_there :
     (clocks : List Clock) (qs : List Equation) (i : ℕ) (x : Equation) → i < length qs →
@@ -99,11 +92,6 @@ pub home_there :
 home_there kept e home size long lt is =
     is ∙ same_there kept e home no_holding (omega (arith, lt, long))
 
-value_in : (code : Code) (v : Value) → plane_in v < code.planes → word_in v < code.words →
-    IsValueIn code v
-value_in code (Truth p) h g = h
-value_in code (Number w) h g = g
-
 every_at : {A : Type 0} (P : A → Type 0) (xs : List A) (i : ℕ) (x : A) → i < length xs →
     get_or xs i x ≡ x → Every P xs → P x
 every_at P [] i x lt e h = absurd (omega (arith, lt))
@@ -112,54 +100,6 @@ every_at P (y ∷ xs) (suc i) x lt e h = every_at P xs i x (omega (arith, lt)) e
 
 module _ (f : FlatProgram) (mp mw : ℕ) (preset : Preset) (kept : List Holding)
     (m : AreMemories f mp mw preset kept) where
-  pub home_is_in :
-      (before code : Code) → IsGrown before code →
-      before.first_plane ≡ length preset.planes.items →
-      before.first_word ≡ length preset.words.items → (e : ℕ) (home : Holding) →
-      home ≡ get_or kept e home → e < f.size → IsIn code home
-  home_is_in before code grown planes words e home is lt =
-      let h = m.homes e home (omega (arith, lt, m.as_long)) in
-      let few : 0 < length preset.planes.items = omega (arith, preset.two_planes) in
-      let some : 0 < length preset.words.items = omega (arith, preset.one_word) in
-      let g = get_or kept e home in
-      let np = length preset.planes.items in
-      let nw = length preset.words.items in
-      subst (IsIn code) (sym is)
-      (record {
-        value =
-            value_in code g.value
-            (omega (
-              arith,
-              planes,
-              before.more_planes,
-              grown.planes,
-              home_below mp np (plane_in g.value) few h.plane,
-            ))
-            (omega (
-              arith,
-              words,
-              before.more_words,
-              grown.words,
-              home_below mw nw (word_in g.value) some h.word,
-            ));
-        nil =
-            omega (
-              arith,
-              planes,
-              before.more_planes,
-              grown.planes,
-              home_below mp np g.nil.0 few h.nil,
-            );
-        bad =
-            omega (
-              arith,
-              planes,
-              before.more_planes,
-              grown.planes,
-              home_below mp np g.bad.0 few h.bad,
-            );
-      })
-
   pub memory_there :
       (q : FlatEquation) (i : ℕ) → i < length f.equations → get_or f.equations i q ≡ q →
       (home : Holding) → home ≡ kept_at kept q.element → IsMemoryOf f q home

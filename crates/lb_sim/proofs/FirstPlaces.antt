@@ -1,5 +1,6 @@
 -- What is there before the code: one more plane or word, and what a memory holds at first.
-use Rattle.std.proofs.Common.{◌≡◌, ◌≢◌, ℕ, suc, ◌+◌, ◌<◌, ◌≤◌, ◌⊎◌, ◌||◌, Bool, true, false, not, List}
+use Rattle.std.proofs.Common.{◌≡◌, ◌≢◌, ℕ, suc, ◌+◌, ◌<◌, ◌⊎◌, ◌||◌, Bool, true, false, not}
+use Rattle.std.proofs.Common.{List}
 use Rattle.std.proofs.Common.{[], ◌∷◌, ◌++◌, ℤ, pos, cond, length, refl, sym, ap, ap₂, ◌∙◌, subst}
 use Rattle.std.proofs.Common.{inl, inr, arith}
 use Rattle.std.specs.Prelude.{slice_index, slice_index_or}
@@ -12,7 +13,7 @@ use Rattle.lb_syntax.specs.declared.tree.Kind.{Kind}
 use Rattle.lb_syntax.specs.declared.tree.Kind.TheVariants.{Int as Int_kind, Bool as Bool_kind}
 use Rattle.lb_check.specs.Scalars.{Scalar, Integer, Boolean, Nil, Bad}
 use Rattle.lb_flat.specs.Fitting.{IsOf}
-use Rattle.lb_flat.specs.Flat.{Operation, FirstThen, Previous, Latest}
+use Rattle.lb_flat.specs.Flat.{FirstThen, Previous, Latest}
 use Rattle.lb_flat.specs.declared.equation.Operation as code
 use Rattle.lb_flat.specs.declared.equation.Operation.TheVariants as variants
 use Rattle.lb_flat.specs.declared.equation.ElementId.{ElementId}
@@ -25,10 +26,9 @@ use Rattle.lb_machine.specs.declared.instruction.WordId.{WordId}
 use Rattle.lb_lanes.proofs.Words.{int_fits}
 use Rattle.lb_lanes.specs.Operators.{is_int}
 use Rattle.lb_sim.specs.Homes.{plane_in, word_in, is_nil_scalar, is_bad_scalar, IsRow}
-use Rattle.lb_sim.specs.Homes.{IsCellHome, IsMemory}
 use Rattle.lb_sim.specs.Presets.{IsMore, IsFirstValue, IsFirstHolding, IsFirstMemory, first_lane}
 use Rattle.lb_sim.specs.Showing.{shown, value_at, scalar_at}
-use Rattle.lb_sim.specs.States.{flag_of, no_holding, with_memory}
+use Rattle.lb_sim.specs.States.{flag_of, no_holding}
 use Rattle.lb_sim.specs.declared.place.Holding.{Holding}
 use Rattle.lb_sim.specs.declared.place.Value.{Value}
 use Rattle.lb_sim.specs.declared.place.Value.TheVariants.{Truth, Number}

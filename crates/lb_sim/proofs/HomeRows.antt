@@ -1,8 +1,8 @@
 -- Places that stand side by side: rows of them, one after the other, and the memories of a program.
-use Rattle.std.proofs.Common.{◌≡◌, ◌≢◌, ℕ, suc, ◌+◌, ◌<◌, ◌≤◌, ◌⊎◌, List, [], ◌∷◌, ◌++◌, refl, sym}
-use Rattle.std.proofs.Common.{ap, ap₂, ◌∙◌, subst, inl, inr, set, length, arith}
+use Rattle.std.proofs.Common.{◌≡◌, ◌≢◌, ℕ, suc, ◌<◌, ◌≤◌, List, [], ◌∷◌, ◌++◌, refl, sym}
+use Rattle.std.proofs.Common.{ap, ap₂, subst, inl, inr, set, arith}
 use Rattle.std.proofs.lemmas.List.{get_or-set_other}
-use Rattle.lb_syntax.specs.Lists.{Every, In}
+use Rattle.lb_syntax.specs.Lists.{Every}
 use Rattle.lb_flat.specs.Flat.{FlatEquation}
 use Rattle.lb_sim.specs.Compiled.{IsHomeAt}
 use Rattle.lb_sim.specs.Homes.{IsRow, IsHomeIn, plane_in, word_in, plane_row, word_row}

@@ -1,10 +1,11 @@
--- Where inputs stand: one after the other, each in the next plane or the next word. And the marks of
--- the elements at which a fault counts.
-use Rattle.std.proofs.Common.{◌≡◌, ℕ, zero, suc, ◌+◌, ◌<◌, ◌≤◌, Bool, true, false, List, [], ◌∷◌, ◌++◌}
-use Rattle.std.proofs.Common.{get_or, set, length, map, take, refl, sym, ap, ap₂, ◌∙◌, subst, arith}
+-- Where inputs stand: one after the other, each in the next plane or the next word. And the marks
+-- of the elements at which a fault counts.
+use Rattle.std.proofs.Common.{◌≡◌, ℕ, zero, suc, ◌+◌, ◌<◌, ◌≤◌, Bool, true, false, List, [], ◌∷◌}
+use Rattle.std.proofs.Common.{◌++◌}
+use Rattle.std.proofs.Common.{get_or, set, length, take, refl, sym, ap, ap₂, ◌∙◌, subst, arith}
 use Rattle.std.proofs.Common.{inl, inr, ⊎_elim, length-set, take_all}
 use Rattle.std.proofs.lemmas.Bool.{cases_eq}
-use Rattle.std.proofs.lemmas.List.{take_more, length-append, get_or-set_same, get_or-set_other}
+use Rattle.std.proofs.lemmas.List.{take_more, length-append, get_or-set_other}
 use Rattle.lb_syntax.specs.Lists.{In}
 use Rattle.lb_syntax.specs.declared.tree.Kind.{Kind}
 use Rattle.lb_syntax.specs.declared.tree.Kind.TheVariants.{Int as Int_kind, Bool as Bool_kind}

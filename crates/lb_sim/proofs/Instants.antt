@@ -82,14 +82,14 @@ module _ (places : List Place) where
 module _ (f : FlatProgram) (code : Code) (inputs : List Value) (places : List Place)
     (kept : List Holding) (watched : Watched) (start_words : List ℤ)
     (constant_word memory_plane memory_word : ℕ)
-    (plane_sources : List PlaneId) (word_sources : List WordId)
+    (plane_sources : List PlaneId) (word_sources : List WordId) (Suited : Lane → Type 0)
     (compiled : IsCompiled f code inputs places kept watched start_words constant_word
-    memory_plane memory_word plane_sources word_sources)
+    memory_plane memory_word plane_sources word_sources Suited)
     (ready : Ready f.size [] f.equations) (K : ℕ → FlatClock)
     (fits : IsFitting f.inputs K (kind_among f.kinds) f.equations) (s : Lane)
     (has_run : HasRun code.instructions.items s)
-    (constants : HasConstantWords constant_word memory_word start_words s) (X : Inputs)
-    (state : IsStateAfter f kept s X) where
+    (constants : HasConstantWords constant_word memory_word start_words s) (suits : Suited s)
+    (X : Inputs) (state : IsStateAfter f kept s X) where
   abbrev given : List Scalar
   given = given_at s inputs
 
@@ -102,7 +102,7 @@ module _ (f : FlatProgram) (code : Code) (inputs : List Value) (places : List Pl
       row_shown given s places kept (length f.inputs) K f.size f.equations compiled.as_long ready
       (subst (Ready f.size []) state
       (ready_after f.size (run f.size f.equations X) f.equations ready)) fits.clocks
-      (compiled.shown K fits s has_run constants)
+      (compiled.shown K fits s has_run constants suits)
 
   -- what the lane decides is what its own row decides
   pub decided : (t : ℕ) → lane_judged watched t s ≡ row_judged f t row
@@ -128,4 +128,4 @@ module _ (f : FlatProgram) (code : Code) (inputs : List Value) (places : List Pl
       (all_moved s s' places kept f.equations
       (all_kept places [] f.equations (λ i r. absurd r)
       (subst (λ n. Ready n [] f.equations) (sym compiled.as_long) ready))
-      (compiled.moved K fits s s' has_run constants carried none))
+      (compiled.moved K fits s s' has_run constants suits carried none))

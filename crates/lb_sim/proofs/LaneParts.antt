@@ -1,5 +1,5 @@
 -- The parts of an instant of a batch, as to what each of them makes of one lane.
-use Rattle.std.proofs.Common.{◌≡◌, ◌≢◌, ◌<◌, ◌≤◌, ◌+◌, ℕ, zero, true, false, not}
+use Rattle.std.proofs.Common.{◌≡◌, ◌≢◌, ◌<◌, ◌≤◌, ◌+◌, ℕ, true, false}
 use Rattle.std.proofs.Common.{List, [], map, length, get_or, set, All, ℤ, pos, sym}
 use Rattle.std.proofs.Common.{ap, ◌∙◌, arith, below_more, length-set}
 use Rattle.std.proofs.Math.Logic.{∥∥₁_elim}
@@ -17,8 +17,9 @@ use Rattle.lb_lanes.proofs.OnPlanes.{on-zero}
 use Rattle.lb_machine.specs.Meaning.{Lane, IsDone, HasConstants, lane_at}
 use Rattle.lb_sim.specs.Compiled.{HasConstantWords, given_at}
 use Rattle.lb_sim.specs.InputRows.{places_of, truth_columns, number_columns}
-use Rattle.lb_sim.specs.LaneStates.{HoldSame, IsComputed}
+use Rattle.lb_sim.specs.LaneStates.{HoldSame, IsCodeIn, IsComputed}
 use Rattle.lb_sim.specs.Showing.{value_at}
+use Rattle.lb_sim.specs.declared.program.LaneCode.{LaneCode}
 use Rattle.lb_sim.specs.declared.program.LaneProgram.{LaneProgram}
 use Rattle.lb_sim.proofs.LaneLayouts.{inputs_same, hold_same}
 use Rattle.lb_sim.proofs.LanePrograms.{scalars_prop, memory_planes, memory_words, inputs_planes}
@@ -49,7 +50,7 @@ pub record PassedPut (old new : List Verdict) (n : ℕ) : Type 0 where
 
 -- planes 0, 1 and 2 are those before inputs are handed over, after it, and after the run; the words
 -- alike
-module _ (p : LaneProgram) (np nw : ℕ)
+module _ (p : LaneProgram) (c : LaneCode) (law : IsCodeIn p c) (np nw : ℕ)
     (is_np : np ≡ length (truth_columns 0 (program_of p.program.now).inputs))
     (is_nw : nw ≡ length (number_columns 0 (program_of p.program.now).inputs))
     (planes0 planes1 planes2 : List ℕ) (words0 words1 words2 : List (List ℤ))
@@ -57,8 +58,8 @@ module _ (p : LaneProgram) (np nw : ℕ)
     (op : (k : ℕ) → 2 + np ≤ k → slice_index planes1 k ≡ slice_index planes0 k)
     (fw : (k : ℕ) → k < 1 → slice_index_or words1 k [] ≡ slice_index_or words0 k [])
     (ow : (k : ℕ) → 1 + nw ≤ k → slice_index_or words1 k [] ≡ slice_index_or words0 k [])
-    (rp : (k : ℕ) → k < p.code.first_plane → slice_index planes2 k ≡ slice_index planes1 k)
-    (rw : (k : ℕ) → k < p.code.first_word →
+    (rp : (k : ℕ) → k < c.code.first_plane → slice_index planes2 k ≡ slice_index planes1 k)
+    (rw : (k : ℕ) → k < c.code.first_word →
     slice_index_or words2 k [] ≡ slice_index_or words1 k [])
     (i : ℕ) where
   abbrev s0 : Lane
@@ -70,10 +71,10 @@ module _ (p : LaneProgram) (np nw : ℕ)
   abbrev s2 : Lane
   s2 = lane_at planes2 words2 i
 
-  bits_ran : (k : ℕ) → k < p.code.first_plane → s2.bits k ≡ s1.bits k
+  bits_ran : (k : ℕ) → k < c.code.first_plane → s2.bits k ≡ s1.bits k
   bits_ran k h = ap (λ x. on x i) (rp k h)
 
-  ints_ran : (k : ℕ) → k < p.code.first_word → s2.ints k ≡ s1.ints k
+  ints_ran : (k : ℕ) → k < c.code.first_word → s2.ints k ≡ s1.ints k
   ints_ran k h = ap (λ x. lane_of x i) (rw k h)
 
   bits_first : (k : ℕ) → k < 2 → s1.bits k ≡ s0.bits k
@@ -86,9 +87,9 @@ module _ (p : LaneProgram) (np nw : ℕ)
   ints_other k h = ap (λ x. lane_of x i) (ow k h)
 
   -- memories hold what they held
-  memories_same : HoldSame p.code p.memory_plane p.memory_word s0 s2
+  memories_same : HoldSame c.code p.memory_plane p.memory_word s0 s2
   memories_same =
-      hold_same p.code p.memory_plane p.memory_word np nw s0 s1 s2
+      hold_same c.code p.memory_plane p.memory_word np nw s0 s1 s2
       (omega (arith, is_np, inputs_planes p))
       (omega (arith, is_nw, inputs_words p, constants_words p)) bits_first
       (λ k h. ap (λ x. on x i) (op k h)) ints_first ints_other bits_ran ints_ran
@@ -97,10 +98,10 @@ module _ (p : LaneProgram) (np nw : ℕ)
   constants_same : HasConstants s0 → HasConstants s2
   constants_same h = record {
     nowhere =
-        bits_ran 0 (omega (arith, p.code.constants)) ∙ bits_first 0 (omega arith) ∙ h.nowhere;
+        bits_ran 0 (omega (arith, c.code.constants)) ∙ bits_first 0 (omega arith) ∙ h.nowhere;
     everywhere =
-        bits_ran 1 (omega (arith, p.code.constants)) ∙ bits_first 1 (omega arith) ∙ h.everywhere;
-    zero = ints_ran 0 (omega (arith, p.code.zero)) ∙ ints_first 0 (omega arith) ∙ h.zero;
+        bits_ran 1 (omega (arith, c.code.constants)) ∙ bits_first 1 (omega arith) ∙ h.everywhere;
+    zero = ints_ran 0 (omega (arith, c.code.zero)) ∙ ints_first 0 (omega arith) ∙ h.zero;
   }
 
   -- and so do constants
@@ -108,7 +109,7 @@ module _ (p : LaneProgram) (np nw : ℕ)
       HasConstantWords p.constant_word p.memory_word p.start_words.items s0 →
       HasConstantWords p.constant_word p.memory_word p.start_words.items s2
   constant_words_same h w from to =
-      ints_ran w (omega (arith, to, memory_words p))
+      ints_ran w (omega (arith, to, memory_words p c law))
       ∙ ints_other w (omega (arith, is_nw, inputs_words p, from))
       ∙ h w from to
 
@@ -119,11 +120,11 @@ module _ (p : LaneProgram) (np nw : ℕ)
   given_same kinds row same is =
       let inputs = (program_of p.program.now).inputs in
       let at : given_at s2 p.inputs.items ≡ given_at s2 (places_of 2 1 inputs) =
-      ∥∥₁_elim p.laid_out (scalars_prop _ _) (λ h. ap (given_at s2) h.inputs_at) in
+      ∥∥₁_elim law (scalars_prop _ _) (λ h. ap (given_at s2) h.laid_out.inputs_at) in
       at
-      ∙ inputs_same s1 s2 p.code.first_plane p.code.first_word 2 1 0 inputs bits_ran ints_ran
-      (omega (arith, inputs_planes p, memory_planes p))
-      (omega (arith, inputs_words p, constants_words p, memory_words p))
+      ∙ inputs_same s1 s2 c.code.first_plane c.code.first_word 2 1 0 inputs bits_ran ints_ran
+      (omega (arith, inputs_planes p, memory_planes p c law))
+      (omega (arith, inputs_words p, constants_words p, memory_words p c law))
       ∙ ap (λ ks. map (value_at s1) (places_of 2 1 ks)) (sym same)
       ∙ is
 
@@ -132,7 +133,7 @@ module _ (p : LaneProgram) (np nw : ℕ)
       (kinds : List Kind) (row : List Scalar) → kinds ≡ (program_of p.program.now).inputs →
       map (value_at s1) (places_of 2 1 kinds) ≡ row → HasConstants s0 →
       HasConstantWords p.constant_word p.memory_word p.start_words.items s0 →
-      AllByRecursion (IsDone s2) p.code.instructions.items → IsComputed p row s0 s2
+      AllByRecursion (IsDone s2) c.code.instructions.items → IsComputed p c row s0 s2
   computed kinds row same is constants words done = record {
     run = record { constants = constants_same constants; done = done };
     constants = constant_words_same words;

@@ -1,6 +1,6 @@
--- What the laws of a lane program say of its places, one by one.
-use Rattle.std.proofs.Common.{◌≡◌, ◌<◌, ◌≤◌, ◌+◌, ℕ, List, length, All}
-use Rattle.std.proofs.Common.{arith, Bool, [], get_or}
+-- What the laws of a lane program and of its codes say of their places, one by one.
+use Rattle.std.proofs.Common.{◌≡◌, ◌<◌, ◌≤◌, ◌+◌, ℕ, List, length, All, inl, inr}
+use Rattle.std.proofs.Common.{arith, Bool, true, false, [], get_or, sym, subst, ◌∙◌}
 use Rattle.std.proofs.Math.Logic.{∥∥₁_elim}
 use Rattle.std.proofs.Props.{props}
 use Rattle.std.specs.Prelude.{IsTrue}
@@ -15,10 +15,12 @@ use Rattle.lb_flat.proofs.InOrder.{ready_of}
 use Rattle.lb_lanes.specs.Operators.{is_int}
 use Rattle.lb_machine.specs.Meaning.{Lane}
 use Rattle.lb_machine.specs.declared.instruction.PlaneId.{PlaneId}
-use Rattle.lb_machine.specs.declared.instruction.WordId.{WordId}
 use Rattle.lb_sim.specs.InputRows.{truth_columns, number_columns}
-use Rattle.lb_sim.specs.LaneStates.{StandsAt}
+use Rattle.lb_sim.specs.Codes.{Suits}
+use Rattle.lb_sim.specs.Compiled.{IsHomeAt}
+use Rattle.lb_sim.specs.LaneStates.{IsCodeIn, HoldSame, StandsAt}
 use Rattle.lb_sim.specs.declared.place.Holding.{Holding}
+use Rattle.lb_sim.specs.declared.program.LaneCode.{LaneCode}
 use Rattle.lb_sim.specs.declared.program.LaneProgram.{LaneProgram}
 
 -- ## There is one proof at most
@@ -43,61 +45,78 @@ module _ (p : LaneProgram) where
   pub program_ready : Ready f.size [] f.equations
   program_ready = ready_of f.size f.equations p.in_order
 
-  -- the planes of what an instant decides are planes of the code
-  pub faults_within : p.watched.faults.0 < p.code.planes
-  faults_within = ∥∥₁_elim p.compiled (Prim.hlevel props) (λ h. h.watches.faults.within)
-
-  pub undefined_within : p.watched.undefined.0 < p.code.planes
-  undefined_within = ∥∥₁_elim p.compiled (Prim.hlevel props) (λ h. h.watches.undefined.within)
-
-  pub failed_within : p.watched.failed.0 < p.code.planes
-  failed_within = ∥∥₁_elim p.compiled (Prim.hlevel props) (λ h. h.watches.failed.within)
-
-  pub violated_within : p.watched.violated.0 < p.code.planes
-  violated_within = ∥∥₁_elim p.compiled (Prim.hlevel props) (λ h. h.watches.violated.within)
-
-  -- the memories lie side by side before the code
-  pub memory_planes : p.memory_plane + length p.plane_sources.items ≡ p.code.first_plane
-  memory_planes = ∥∥₁_elim p.compiled (Prim.hlevel props) (λ h. h.planes_room)
-
-  pub memory_words : p.memory_word + length p.word_sources.items ≡ p.code.first_word
-  memory_words = ∥∥₁_elim p.compiled (Prim.hlevel props) (λ h. h.words_room)
-
+  -- inputs stand first, then constants, and behind them memories
   pub inputs_planes : 2 + length (truth_columns 0 f.inputs) ≤ p.memory_plane
-  inputs_planes = ∥∥₁_elim p.laid_out (Prim.hlevel props) (λ h. h.inputs_planes)
+  inputs_planes = ∥∥₁_elim p.general_law (Prim.hlevel props) (λ h. h.laid_out.inputs_planes)
 
   pub inputs_words : 1 + length (number_columns 0 f.inputs) ≤ p.constant_word
-  inputs_words = ∥∥₁_elim p.laid_out (Prim.hlevel props) (λ h. h.inputs_words)
+  inputs_words = ∥∥₁_elim p.general_law (Prim.hlevel props) (λ h. h.laid_out.inputs_words)
 
   pub constants_words : p.constant_word ≤ p.memory_word
-  constants_words = ∥∥₁_elim p.laid_out (Prim.hlevel props) (λ h. h.constants_words)
-
-  pub start_planes_room : length p.start_planes.items ≡ p.code.first_plane
-  start_planes_room = ∥∥₁_elim p.laid_out (Prim.hlevel props) (λ h. h.start_planes_room)
-
-  pub start_words_room : length p.start_words.items ≡ p.code.first_word
-  start_words_room = ∥∥₁_elim p.laid_out (Prim.hlevel props) (λ h. h.start_words_room)
+  constants_words = ∥∥₁_elim p.general_law (Prim.hlevel props) (λ h. h.laid_out.constants_words)
 
   pub start_ints : All (λ v. IsTrue (is_int v)) p.start_words.items
-  start_ints = ∥∥₁_elim p.laid_out (Prim.hlevel props) (λ h. h.start_ints)
+  start_ints = ∥∥₁_elim p.general_law (Prim.hlevel props) (λ h. h.laid_out.start_ints)
 
-  -- what memories take over stands behind them
-  pub planes_behind :
-      All (λ (s : PlaneId).
-      p.memory_plane + length p.plane_sources.items ≤ s.0 × s.0 < p.code.planes)
-      p.plane_sources.items
-  planes_behind = λ i d lt.
-      let h : p.code.first_plane ≤ (get_or p.plane_sources.items i d).0
-      × (get_or p.plane_sources.items i d).0 < p.code.planes =
-      ∥∥₁_elim p.laid_out (Prim.hlevel props) (λ h. h.planes_behind i d lt) in
-      (omega (arith, h.0, memory_planes), h.1)
+  module _ (c : LaneCode) (law : IsCodeIn p c) where
+    -- there is a place for each plane of the code
+    pub planes_room : c.code.planes ≤ p.planes
+    planes_room = ∥∥₁_elim law (Prim.hlevel props) (λ h. h.planes_room)
 
-  pub words_behind :
-      All (λ (w : WordId).
-      p.memory_word + length p.word_sources.items ≤ w.0 × w.0 < p.code.words)
-      p.word_sources.items
-  words_behind = λ i d lt.
-      let h : p.code.first_word ≤ (get_or p.word_sources.items i d).0
-      × (get_or p.word_sources.items i d).0 < p.code.words =
-      ∥∥₁_elim p.laid_out (Prim.hlevel props) (λ h. h.words_behind i d lt) in
-      (omega (arith, h.0, memory_words), h.1)
+    -- the memories lie side by side before the code
+    pub memory_planes : p.memory_plane + length c.plane_sources.items ≡ c.code.first_plane
+    memory_planes = ∥∥₁_elim law (Prim.hlevel props) (λ h. h.compiled.planes_room)
+
+    pub memory_words : p.memory_word + length c.word_sources.items ≡ c.code.first_word
+    memory_words = ∥∥₁_elim law (Prim.hlevel props) (λ h. h.compiled.words_room)
+
+    -- a program starts with what stands before the code
+    pub start_planes_room : length p.start_planes.items ≡ c.code.first_plane
+    start_planes_room = ∥∥₁_elim law (Prim.hlevel props) (λ h. h.laid_out.start_planes_room)
+
+    pub start_words_room : length p.start_words.items ≡ c.code.first_word
+    start_words_room = ∥∥₁_elim law (Prim.hlevel props) (λ h. h.laid_out.start_words_room)
+
+    -- ## The lanes that suit a code
+
+    home_within : (k : ℕ) → IsHomeAt p.memory_plane c.code.first_plane k → k < p.planes
+    home_within k (inl e) = omega (arith, e, c.code.constants, c.code.more_planes, planes_room)
+    home_within k (inr h) = omega (arith, h.1, c.code.more_planes, planes_room)
+
+    -- what a code takes for granted are planes of the program
+    pub clear_within : All (λ (q : PlaneId). q.0 < p.planes) c.clear.items
+    clear_within = λ i d lt.
+        ∥∥₁_elim law (Prim.hlevel props)
+        (λ h. home_within (get_or c.clear.items i d).0 (h.clear_homes i d lt))
+
+    pub set_within : All (λ (q : PlaneId). q.0 < p.planes) c.set.items
+    set_within = λ i d lt.
+        ∥∥₁_elim law (Prim.hlevel props)
+        (λ h. home_within (get_or c.set.items i d).0 (h.set_homes i d lt))
+
+    -- a lane that suits it does so as long as its memories hold the same
+    pub suits_still :
+        (s s' : Lane) → HoldSame c.code p.memory_plane p.memory_word s s' → Suits c s → Suits c s'
+    suits_still s s' same suits = record {
+      clear = λ i d lt.
+          let h : s'.bits (get_or c.clear.items i d).0 ≡ s.bits (get_or c.clear.items i d).0 =
+          ∥∥₁_elim law (Prim.hlevel props)
+          (λ h. same.planes (get_or c.clear.items i d).0 (h.clear_homes i d lt)) in
+          h ∙ suits.clear i d lt;
+      set = λ i d lt.
+          let h : s'.bits (get_or c.set.items i d).0 ≡ s.bits (get_or c.set.items i d).0 =
+          ∥∥₁_elim law (Prim.hlevel props)
+          (λ h. same.planes (get_or c.set.items i d).0 (h.set_homes i d lt)) in
+          h ∙ suits.set i d lt;
+    }
+
+-- each lane suits code that takes nothing for granted
+pub suits_any : (c : LaneCode) (s : Lane) → c.clear.items ≡ [] → c.set.items ≡ [] → Suits c s
+suits_any c s no_clear no_set = record {
+  clear =
+      subst (λ ps. All (λ (q : PlaneId). s.bits q.0 ≡ false) ps) (sym no_clear)
+      (λ i d lt. absurd (omega (arith, lt)));
+  set =
+      subst (λ ps. All (λ (q : PlaneId). s.bits q.0 ≡ true) ps) (sym no_set)
+      (λ i d lt. absurd (omega (arith, lt)));
+}

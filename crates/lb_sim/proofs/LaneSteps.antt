@@ -139,9 +139,9 @@ stays f kept s s' v v' active active' steps steps' X h same off = record {
 module _ (f : FlatProgram) (code : Code) (inputs : List Value) (places : List Place)
     (kept : List Holding) (watched : Watched) (start_words : List ℤ)
     (constant_word memory_plane memory_word : ℕ)
-    (plane_sources : List PlaneId) (word_sources : List WordId)
+    (plane_sources : List PlaneId) (word_sources : List WordId) (Suited : Lane → Type 0)
     (compiled : IsCompiled f code inputs places kept watched start_words constant_word
-    memory_plane memory_word plane_sources word_sources)
+    memory_plane memory_word plane_sources word_sources Suited)
     (ready : Ready f.size [] f.equations) (K : ℕ → FlatClock)
     (fits : IsFitting f.inputs K (kind_among f.kinds) f.equations) (before s after : Lane)
     (has_run : HasRun code.instructions.items s)
@@ -149,7 +149,8 @@ module _ (f : FlatProgram) (code : Code) (inputs : List Value) (places : List Pl
     (same : HoldSame code memory_plane memory_word before s)
     (carried : IsCarriedOver memory_plane memory_word plane_sources word_sources s after)
     (X : Inputs) (steps : ℕ) (v v' : Verdict)
-    (v_is : v' ≡ settled (is_passed v) (lane_judged watched steps s) v) where
+    (v_is : v' ≡ settled (is_passed v) (lane_judged watched steps s) v)
+    (suits : is_passed v ≡ true → Suited s) where
   abbrev judged : Verdict
   judged = lane_judged watched steps s
 
@@ -194,13 +195,13 @@ module _ (f : FlatProgram) (code : Code) (inputs : List Value) (places : List Pl
             ∙ ap (λ u. or_later u (lane_judged watched (length X) s))
             (sym none ∙ h.verdict_is)
             ∙ sym (verdict_after f code inputs places kept watched start_words constant_word
-            memory_plane memory_word plane_sources word_sources compiled ready K fits s has_run
-            constants X state);
+            memory_plane memory_word plane_sources word_sources Suited compiled ready K fits s
+            has_run constants (suits e) X state);
         as_long = λ on. one_longer (given_at s inputs) X steps long;
         state = λ on.
             state_after f code inputs places kept watched start_words constant_word memory_plane
-            memory_word plane_sources word_sources compiled ready K fits s has_run constants X
-            state steps after carried
+            memory_word plane_sources word_sources Suited compiled ready K fits s has_run
+            constants (suits e) X state steps after carried
             (passed_is judged (sym is ∙ on));
       }
 

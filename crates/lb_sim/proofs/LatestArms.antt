@@ -1,5 +1,5 @@
--- What the code of `current` makes its element show: where its operand is present that, and where it
--- is absent the memory.
+-- What the code of `current` makes its element show: that of its operand where it is present, and
+-- the memory where it is absent.
 use Rattle.std.proofs.Common.{◌≡◌, List, get_or, sym, ap, ◌∙◌, subst}
 use Rattle.std.specs.Prelude.{if◌then◌else◌}
 use Rattle.lb_syntax.specs.declared.tree.Kind.{Kind}

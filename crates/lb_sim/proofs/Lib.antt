@@ -25,7 +25,6 @@ pub mod LaneSteps
 pub mod LaneLayouts
 pub mod BatchSteps
 pub mod BatchVerdicts
-pub mod Rooms
 pub mod LanePrograms
 pub mod LaneParts
 pub mod Waiting
@@ -39,7 +38,9 @@ pub mod Filling
 pub mod Allotments
 pub mod InputPlaces
 pub mod TakenPlaces
+pub mod SteadyTables
 pub mod CommitLoop
 pub mod Assembled
 pub mod EquationsAt
 pub mod RunningBatches
+pub mod Choosing

@@ -1,5 +1,6 @@
 -- A batch that is run to its end, instant by instant: how far each lane has come.
-use Rattle.std.proofs.Common.{◌≡◌, ◌≢◌, ℕ, ◌+◌, ◌<◌, ◌≤◌, ◌&&◌, Bool, true, false, List, [], ◌∷◌, ◌++◌}
+use Rattle.std.proofs.Common.{◌≡◌, ◌≢◌, ℕ, ◌+◌, ◌<◌, ◌≤◌, ◌&&◌, Bool, true, false, List, []}
+use Rattle.std.proofs.Common.{◌∷◌, ◌++◌}
 use Rattle.std.proofs.Common.{length, get_or, take, refl, sym, ap, ◌∙◌, subst, arith, ◌⊎◌, inl, inr}
 use Rattle.std.proofs.lemmas.Bool.{true≢false, cases_lt}
 use Rattle.std.proofs.lemmas.List.{length-map}
@@ -12,12 +13,12 @@ use Rattle.lb_flat.specs.Fitting.{IsFitting}
 use Rattle.lb_flat.specs.Flat.{FlatClock}
 use Rattle.lb_flat.specs.FurtherKinds.{kind_among}
 use Rattle.lb_flat.specs.Inputs.{inputs_of, scalars_in}
-use Rattle.lb_flat.specs.Judging.{FlatProgram, flat_verdict}
+use Rattle.lb_flat.specs.Judging.{flat_verdict}
 use Rattle.lb_flat.specs.Programs.{program_of}
 use Rattle.lb_flat.specs.Traces.{Recording, trace_at}
 use Rattle.lb_lanes.specs.Planes.{IsPlaneOf, on}
 use Rattle.lb_lanes.proofs.OnPlanes.{on-zero}
-use Rattle.lb_sim.specs.BatchLanes.{length_in, AreOn, AreRunning, IsAt}
+use Rattle.lb_sim.specs.BatchLanes.{length_in, AreRunning, IsAt}
 use Rattle.lb_sim.specs.BatchRuns.{IsFresh, Stands, flat_of, verdict_at}
 use Rattle.lb_sim.specs.InputRows.{HaveInstant}
 use Rattle.lb_sim.specs.LaneStates.{is_passed}

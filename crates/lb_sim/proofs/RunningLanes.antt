@@ -1,6 +1,7 @@
 -- The lanes whose traces have an instant, member by member.
 use Rattle.std.proofs.Common.{◌≡◌, ◌≢◌, ℕ, ◌+◌, ◌<◌, ◌≤◌, ◌==◌, ◌||◌, ◌&&◌, Bool, true, false, List}
-use Rattle.std.proofs.Common.{refl, sym, ap, ap₂, ◌∙◌, arith, below_more, length, ◌⊎◌, inl, inr, max}
+use Rattle.std.proofs.Common.{refl, sym, ap, ap₂, ◌∙◌, arith, below_more, length, ◌⊎◌, inl, inr}
+use Rattle.std.proofs.Common.{max}
 use Rattle.std.proofs.lemmas.Bool.{cases_lt}
 use Rattle.std.specs.Prelude.{nat_lt}
 use Rattle.lb_flat.specs.Traces.{Recording}

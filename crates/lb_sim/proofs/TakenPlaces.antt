@@ -1,12 +1,13 @@
 -- What a memory holds in the lane that follows: what its sources hold in this one.
-use Rattle.std.proofs.Common.{◌≡◌, ◌≢◌, ℕ, suc, ◌+◌, ◌<◌, ◌≤◌, ◌⊎◌, ◌||◌, Bool, true, false, List, []}
-use Rattle.std.proofs.Common.{◌∷◌, ◌++◌, get_or, length, cond, All, refl, sym, ap, ap₂, ◌∙◌, subst}
+use Rattle.std.proofs.Common.{◌≡◌, ◌≢◌, ℕ, suc, ◌+◌, ◌<◌, ◌⊎◌, ◌||◌, Bool, false, List}
+use Rattle.std.proofs.Common.{[]}
+use Rattle.std.proofs.Common.{◌∷◌, get_or, length, cond, All, refl, sym, ap, ap₂, ◌∙◌, subst}
 use Rattle.std.proofs.Common.{inl, inr, arith}
 use Rattle.std.proofs.lemmas.List.{get_or_append_left, get_or_push, length_push}
 use Rattle.std.proofs.lemmas.List.Elements.{All-push}
 use Rattle.lb_syntax.specs.Lists.{In}
 use Rattle.lb_syntax.specs.declared.tree.Kind.{Kind}
-use Rattle.lb_syntax.specs.declared.tree.Kind.TheVariants.{Int as Int_kind, Bool as Bool_kind}
+use Rattle.lb_syntax.specs.declared.tree.Kind.TheVariants.{Bool as Bool_kind}
 use Rattle.lb_check.specs.Scalars.{Scalar, Integer, Boolean}
 use Rattle.lb_check.specs.Verdicts.{is_bad}
 use Rattle.lb_flat.specs.Fitting.{IsOf, OperandKinds}
@@ -18,16 +19,20 @@ use Rattle.lb_machine.specs.Meaning.{Lane, HasRun}
 use Rattle.lb_machine.specs.declared.code.Code.{Code}
 use Rattle.lb_machine.specs.declared.instruction.PlaneId.{PlaneId}
 use Rattle.lb_machine.specs.declared.instruction.WordId.{WordId}
+use Rattle.lb_sim.specs.Allotted.{IsFlagHolding}
 use Rattle.lb_sim.specs.Holdings.{IsFor}
 use Rattle.lb_sim.specs.Homes.{plane_in, word_in, IsSet, IsRow, IsFlagHome, IsCellHome, IsMemory}
-use Rattle.lb_sim.specs.Passing.{IsPlaneSource, IsWordSource, IsAdded, IsTaken, AreTaken, IsNextOf}
+use Rattle.lb_sim.specs.Passing.{AreCopies, IsPlaneSource, IsWordSource, IsTaken, AreTaken}
+use Rattle.lb_sim.specs.Passing.{IsNextOf}
 use Rattle.lb_sim.proofs.Growth.{grown_then}
 use Rattle.lb_sim.specs.Showing.{shown, value_at, value_kind, scalar_at, kind_of, row_at}
 use Rattle.lb_sim.specs.States.{flag_of, flag_at, holding_of, present_at, IsMoved}
+use Rattle.lb_sim.specs.Steady.{IsHeldFor, ShowsMemory}
 use Rattle.lb_sim.specs.declared.place.Holding.{Holding}
 use Rattle.lb_sim.specs.declared.place.Place.{Place}
 use Rattle.lb_sim.specs.declared.place.Value.{Value}
 use Rattle.lb_sim.specs.declared.place.Value.TheVariants.{Truth, Number}
+use Rattle.lb_sim.specs.declared.sources.Copies.{Copies}
 use Rattle.lb_sim.proofs.Committing.{carried_holding, named_moved, IsKeptIn}
 use Rattle.lb_sim.proofs.HomeRows.{row_passes, row_takes}
 
@@ -47,6 +52,12 @@ word_source_grown a b next w g h = record {
   own = omega (arith, h.own, g.first_word);
   within = omega (arith, h.within, g.words);
   means = λ s r. h.means s (g.runs s r);
+}
+
+pub copies_grown : (a b : Code) (c : Copies) → IsGrown a b → AreCopies a c → AreCopies b c
+copies_grown a b c g h = record {
+  nowhere = plane_source_grown a b 0 c.nowhere g h.nowhere;
+  everywhere = plane_source_grown a b 1 c.everywhere g h.everywhere;
 }
 
 pub taken_weaker : {A : Type 0} (P R : A → Type 0) → ((x : A) → P x → R x) → (home : ℕ)
@@ -202,62 +213,69 @@ set_plane (Truth p) k n = n
 set_plane (Number w) k n = absurd (cc)
 
 -- a flag is its plane
-flag_is : (s : Lane) (h : Holding) → IsFlagHome h → s.bits 0 ≡ false →
+flag_is : (s : Lane) (h : Holding) → IsFlagHolding h → s.bits 0 ≡ false →
     flag_at s h ≡ s.bits (plane_in h.value)
 flag_is s h f e =
-    flag_cases s h.value (s.bits h.bad.0) (s.bits h.nil.0) f.kind_is (ap s.bits f.bad ∙ e)
-    (ap s.bits f.nil ∙ e)
+    flag_cases s h.value (s.bits h.bad.0) (s.bits h.nil.0) f.kind_is (ap s.bits f.no_bad ∙ e)
+    (ap s.bits f.no_nil ∙ e)
+
+-- the memory of `->` is a flag
+pub flag_holding : (h : Holding) → IsFlagHome h → IsFlagHolding h
+flag_holding h f = record { kind_is = f.kind_is; no_nil = f.nil; no_bad = f.bad }
 
 module _ (code : Code) (s s' : Lane) (run : HasRun code.instructions.items s) (places : List Place)
     (named : List ℕ) (quiet : some_in is_bad (row_at s places) named ≡ false) (N : ℕ → Kind)
     (kinds : (e : ℕ) → e < length places → kind_of (holding_of places e) ≡ N e) where
   cell_moves :
-      (kind : Kind) (v : Scalar) (a : ℕ) (h g : Holding) → a < length places → N a ≡ kind →
-      IsOf kind v → IsCellHome kind (In a named) v h → IsHandedOver s s' h g →
-      IsNextOf code places h (Previous v a) g →
+      (kind : Kind) (v : Scalar) (a : ℕ) (h held g : Holding) → a < length places → N a ≡ kind →
+      IsOf kind v → IsCellHome kind (In a named) v h → kind_of held ≡ kind_of h →
+      scalar_at s held ≡ scalar_at s h → IsHandedOver s s' h g →
+      IsNextOf code places held (Previous v a) g →
       scalar_at s' h
       ≡ cond (present_at s places a) (scalar_at s (holding_of places a)) (scalar_at s h)
-  cell_moves kind v a h g lt same of home over next =
+  cell_moves kind v a h held g lt same of home alike shows over next =
       let kept_kind : kind_of h ≡ kind = home.kind_is of in
       let from_kind : kind_of (holding_of places a) ≡ kind = kinds a lt ∙ same in
-      let is = next (from_kind ∙ sym kept_kind) in
+      let is = next (from_kind ∙ sym (alike ∙ kept_kind)) in
+      let from : Scalar = scalar_at s (holding_of places a) in
+      let means : scalar_at s g ≡ cond (present_at s places a) from (scalar_at s h) =
+      is.means s run ∙ ap (cond (present_at s places a) from) shows in
       let value : value_at s' h.value ≡ value_at s g.value =
       value_handed s s' h.value g.value (kept_kind ∙ sym from_kind ∙ sym is.kind_is) home.is_set
       over.value over.word in
-      by home.bad is.means value
+      by home.bad means value
     where
       by : (h.bad.0 ≢ 0) ⊎ ((h.bad.0 ≡ 0) × In a named) →
-          ((t : Lane) → HasRun code.instructions.items t →
-          scalar_at t g
-          ≡ cond (present_at t places a) (scalar_at t (holding_of places a)) (scalar_at t h)) →
+          scalar_at s g
+          ≡ cond (present_at s places a) (scalar_at s (holding_of places a)) (scalar_at s h) →
           value_at s' h.value ≡ value_at s g.value →
           scalar_at s' h
           ≡ cond (present_at s places a) (scalar_at s (holding_of places a)) (scalar_at s h)
       by (inl ne) means value =
-          carried_holding s s' h g value (over.nil home.nil) (over.bad ne) ∙ means s run
+          carried_holding s s' h g value (over.nil home.nil) (over.bad ne) ∙ means
       by (inr none) means value =
           named_moved s s' places named a h g lt quiet none.1 (ap s.bits none.0 ∙ over.now)
-          (ap s'.bits none.0 ∙ over.after) value (over.nil home.nil) (means s run)
+          (ap s'.bits none.0 ∙ over.after) value (over.nil home.nil) means
 
-  -- an operation's memory moves on
+  -- an operation's memory moves on, where `held` shows what it holds
   pub memory_moves :
-      (inputs : List Kind) (kind : Kind) (o : Operation) (h g : Holding) →
-      OperandKinds inputs N kind o → IsMemory kind (λ a. In a named) o h →
-      IsKeptIn places o → IsHandedOver s s' h g → IsNextOf code places h o g →
-      IsMoved s s' places h o
-  memory_moves inputs kind (FirstThen started a b) h g fits home lt over next =
-      flag_is s' h home over.after
+      (inputs : List Kind) (kind : Kind) (o : Operation) (h held g : Holding) →
+      OperandKinds inputs N kind o → IsMemory kind (λ a. In a named) o h → IsHeldFor o h held →
+      ShowsMemory s o h held → IsKeptIn places o → IsHandedOver s s' h g →
+      IsNextOf code places held o g → IsMoved s s' places h o
+  memory_moves inputs kind (FirstThen started a b) h held g fits home alike shows lt over next =
+      flag_is s' h (flag_holding h home) over.after
       ∙ over.value (set_plane h.value home.kind_is home.is_set)
       ∙ next.means s run
-      ∙ ap (λ b. b || present_at s places a) (sym (flag_is s h home over.now))
-  memory_moves inputs kind (Previous v a) h g fits home lt over next =
-      cell_moves kind v a h g lt fits.1 fits.0 home over next
-  memory_moves inputs kind (Latest v a) h g fits home lt over next =
-      cell_moves kind v a h g lt fits.1 fits.0 home over next
-  memory_moves inputs kind (Input j) h g fits home lt over next = tt
-  memory_moves inputs kind (Constant v) h g fits home lt over next = tt
-  memory_moves inputs kind (Copy a) h g fits home lt over next = tt
-  memory_moves inputs kind (ApplyUnary op a) h g fits home lt over next = tt
-  memory_moves inputs kind (ApplyBinary op a b) h g fits home lt over next = tt
-  memory_moves inputs kind (Choose c a b) h g fits home lt over next = tt
-  memory_moves inputs kind (Sample a) h g fits home lt over next = tt
+      ∙ ap (λ b. b || present_at s places a) (sym (flag_is s held alike over.now) ∙ shows)
+  memory_moves inputs kind (Previous v a) h held g fits home alike shows lt over next =
+      cell_moves kind v a h held g lt fits.1 fits.0 home alike shows over next
+  memory_moves inputs kind (Latest v a) h held g fits home alike shows lt over next =
+      cell_moves kind v a h held g lt fits.1 fits.0 home alike shows over next
+  memory_moves inputs kind (Input j) h held g fits home alike shows lt over next = tt
+  memory_moves inputs kind (Constant v) h held g fits home alike shows lt over next = tt
+  memory_moves inputs kind (Copy a) h held g fits home alike shows lt over next = tt
+  memory_moves inputs kind (ApplyUnary op a) h held g fits home alike shows lt over next = tt
+  memory_moves inputs kind (ApplyBinary op a b) h held g fits home alike shows lt over next = tt
+  memory_moves inputs kind (Choose c a b) h held g fits home alike shows lt over next = tt
+  memory_moves inputs kind (Sample a) h held g fits home alike shows lt over next = tt

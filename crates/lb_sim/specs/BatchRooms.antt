@@ -6,6 +6,6 @@ use Rattle.lb_sim.specs.declared.room.BatchRoom.{BatchRoom}
 
 -- there is a place for each plane and each word of a program, and its inputs have their columns
 pub record IsRoomFor (p : LaneProgram) (room : BatchRoom) : Type 0 where
-  pub planes_room : length room.planes.items ≡ p.code.planes
-  pub words_room : length room.words.items ≡ p.code.words
+  pub planes_room : length room.planes.items ≡ p.planes
+  pub words_room : length room.words.items ≡ p.words
   pub kinds : room.inputs.columns.kinds.items ≡ p.program.now.inputs.items

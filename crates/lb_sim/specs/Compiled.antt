@@ -46,11 +46,13 @@ abbrev pub HasConstantWords : (first memories : ℕ) → List ℤ → Lane → T
 HasConstantWords m n start s =
     (w : ℕ) → m ≤ w → w < n → s.ints w ≡ slice_index_or start w (pos 0)
 
--- the flat program's elements, what it watches, and its memories, from an instant to the next
+-- the flat program's elements, what it watches, and its memories, from an instant to the next, in
+-- each lane that suits the code
 pub record IsCompiled (f : FlatProgram) (code : Code) (inputs : List Value) (places : List Place)
     (kept : List Holding) (watched : Watched) (start_words : List ℤ)
     (constant_word memory_plane memory_word : ℕ)
-    (plane_sources : List PlaneId) (word_sources : List WordId) : Type 0 where
+    (plane_sources : List PlaneId) (word_sources : List WordId) (Suited : Lane → Type 0) :
+    Type 0 where
   pub as_long : length places ≡ f.size
   pub homes : All (IsHome code memory_plane memory_word) kept
   pub planes_room : memory_plane + length plane_sources ≡ code.first_plane
@@ -58,13 +60,13 @@ pub record IsCompiled (f : FlatProgram) (code : Code) (inputs : List Value) (pla
   pub shown :
       (K : ℕ → FlatClock) → IsFitting f.inputs K (kind_among f.kinds) f.equations →
       (s : Lane) → HasRun code.instructions.items s →
-      HasConstantWords constant_word memory_word start_words s →
+      HasConstantWords constant_word memory_word start_words s → Suited s →
       Every (IsShownBy (given_at s inputs) s places kept) f.equations
   pub watches : AreWatched code f places watched
   pub moved :
       (K : ℕ → FlatClock) → IsFitting f.inputs K (kind_among f.kinds) f.equations →
       (s s' : Lane) → HasRun code.instructions.items s →
-      HasConstantWords constant_word memory_word start_words s →
+      HasConstantWords constant_word memory_word start_words s → Suited s →
       IsCarriedOver memory_plane memory_word plane_sources word_sources s s' →
       some_in is_bad (row_at s places) (named_elements f) ≡ false →
       Every (λ q. IsMoved s s' places (kept_at kept q.element) q.operation) f.equations

@@ -6,12 +6,15 @@ use Rattle.lb_check.specs.Solutions.{Inputs}
 use Rattle.lb_check.specs.declared.verdict.Verdict.{Verdict}
 use Rattle.lb_check.specs.declared.verdict.Verdict.TheVariants.{Passed}
 use Rattle.lb_flat.specs.Judging.{FlatProgram, flat_verdict}
+use Rattle.lb_flat.specs.Programs.{program_of}
 use Rattle.lb_check.specs.Scalars.{Scalar}
 use Rattle.lb_machine.specs.Meaning.{Lane, HasRun}
 use Rattle.lb_machine.specs.declared.code.Code.{Code}
+use Rattle.lb_sim.specs.Codes.{IsCodeOf}
 use Rattle.lb_sim.specs.Compiled.{IsHomeAt, HasConstantWords, given_at}
 use Rattle.lb_sim.specs.States.{IsStateAfter}
 use Rattle.lb_sim.specs.declared.place.Holding.{Holding}
+use Rattle.lb_sim.specs.declared.program.LaneCode.{LaneCode}
 use Rattle.lb_sim.specs.declared.program.LaneProgram.{LaneProgram}
 
 abbrev pub is_passed : Verdict → Bool
@@ -34,10 +37,17 @@ pub record HoldSame (code : Code) (memory_plane memory_word : ℕ) (s s' : Lane)
   pub planes : (k : ℕ) → IsHomeAt memory_plane code.first_plane k → s'.bits k ≡ s.bits k
   pub words : (k : ℕ) → IsHomeAt memory_word code.first_word k → s'.ints k ≡ s.ints k
 
--- a lane was given a row of inputs and has run the code of a program; its memories and constants
--- are those of the lane before
-pub record IsComputed (p : LaneProgram) (row : List Scalar) (before s : Lane) : Type 0 where
-  pub run : HasRun p.code.instructions.items s
+-- code of a program
+abbrev pub IsCodeIn : LaneProgram → LaneCode → Type 0
+IsCodeIn p c =
+    ∥ IsCodeOf (program_of p.program.now) p.inputs.items p.kept.items p.start_planes.items
+    p.start_words.items p.constant_word p.memory_plane p.memory_word p.planes p.words c ∥₁
+
+-- a lane was given a row of inputs and has run a code of a program; its memories and constants are
+-- those of the lane before
+pub record IsComputed (p : LaneProgram) (c : LaneCode) (row : List Scalar) (before s : Lane) :
+    Type 0 where
+  pub run : HasRun c.code.instructions.items s
   pub constants : HasConstantWords p.constant_word p.memory_word p.start_words.items s
   pub given : given_at s p.inputs.items ≡ row
-  pub same : HoldSame p.code p.memory_plane p.memory_word before s
+  pub same : HoldSame c.code p.memory_plane p.memory_word before s

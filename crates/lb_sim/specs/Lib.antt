@@ -9,6 +9,8 @@ pub mod Compiled
 pub mod Promise
 pub mod LaneStates
 pub mod LaidOut
+pub mod Steady
+pub mod Codes
 pub mod LaneMoves
 pub mod BatchRuns
 pub mod BatchRooms

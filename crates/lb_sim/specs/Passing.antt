@@ -1,10 +1,10 @@
 -- What memories take over from one instant to the next: a place of the code for each place that a
 -- memory has, in its order.
 -- Source: this project's rule.
-use Rattle.std.specs.Prelude.{◌≡◌, ◌≢◌, ℕ, ◌<◌, ◌≤◌, ◌+◌, ◌||◌, ◌⊎◌, List, [], ◌∷◌, ◌++◌, length, All}
+use Rattle.std.specs.Prelude.{◌≡◌, ◌≢◌, ℕ, ◌<◌, ◌≤◌, ◌+◌, ◌||◌, ◌⊎◌, List, [], ◌∷◌, ◌++◌, length}
+use Rattle.std.specs.Prelude.{All}
 use Rattle.std.specs.Prelude.{if◌then◌else◌, false, get_or}
 use Rattle.lb_syntax.specs.Lists.{Every}
-use Rattle.lb_syntax.specs.declared.tree.Kind.{Kind}
 use Rattle.lb_syntax.specs.declared.tree.Kind.TheVariants.{Bool as Bool_kind}
 use Rattle.lb_check.specs.Verdicts.{is_bad}
 use Rattle.lb_flat.specs.Fitting.{KindFits}
@@ -19,8 +19,10 @@ use Rattle.lb_sim.specs.Holdings.{IsFor}
 use Rattle.lb_sim.specs.Homes.{plane_in, word_in}
 use Rattle.lb_sim.specs.Showing.{scalar_at, kind_of, row_at}
 use Rattle.lb_sim.specs.States.{no_place, holding_of, present_at, kept_at, IsMoved, IsCarriedOver}
+use Rattle.lb_sim.specs.Steady.{ShowsMemories}
 use Rattle.lb_sim.specs.declared.place.Holding.{Holding}
 use Rattle.lb_sim.specs.declared.place.Place.{Place}
+use Rattle.lb_sim.specs.declared.sources.Copies.{Copies}
 
 -- a plane, and a word, that the code writes and that hold what another one does
 pub record IsPlaneSource (code : Code) (next : ℕ) (p : PlaneId) : Type 0 where
@@ -32,6 +34,11 @@ pub record IsWordSource (code : Code) (next : ℕ) (w : WordId) : Type 0 where
   pub own : code.first_word ≤ w.0
   pub within : w.0 < code.words
   pub means : (s : Lane) → HasRun code.instructions.items s → s.ints w.0 ≡ s.ints next
+
+-- two planes that the code writes: one that is false everywhere, and one that is true
+pub record AreCopies (code : Code) (c : Copies) : Type 0 where
+  pub nowhere : IsPlaneSource code 0 c.nowhere
+  pub everywhere : IsPlaneSource code 1 c.everywhere
 
 -- one source more
 pub record IsAdded {A : Type 0} (IsSource : A → Type 0) (old new : List A) : Type 0 where
@@ -57,29 +64,31 @@ pub record AreTaken (code : Code) (home next : Holding) (planes planes' : List P
       IsTaken (IsWordSource code (word_in next.value)) (word_in home.value) words words'
 
 -- whether a first tick is over next
-pub record IsNextFlag (code : Code) (home : Holding) (present : ℕ) (g : Holding) : Type 0 where
+pub record IsNextFlag (code : Code) (held : Holding) (present : ℕ) (g : Holding) : Type 0 where
   pub kind_is : kind_of g ≡ Bool_kind
   pub means :
       (s : Lane) → HasRun code.instructions.items s →
-      s.bits (plane_in g.value) ≡ (s.bits (plane_in home.value) || s.bits present)
+      s.bits (plane_in g.value) ≡ (s.bits (plane_in held.value) || s.bits present)
 
--- what the memory of an operation is to hold next
+-- what the memory of an operation is to hold next, where a holding shows what it holds now
 abbrev pub IsNextOf : Code → List Place → Holding → Operation → Holding → Type 0
-IsNextOf code places home (FirstThen started a b) g =
-    IsNextFlag code home (get_or places a no_place).present.0 g
-IsNextOf code places home (Previous v a) g =
-    kind_of (holding_of places a) ≡ kind_of home →
+IsNextOf code places held (FirstThen started a b) g =
+    IsNextFlag code held (get_or places a no_place).present.0 g
+IsNextOf code places held (Previous v a) g =
+    kind_of (holding_of places a) ≡ kind_of held →
     IsFor code (kind_of (holding_of places a))
-    (λ s. if present_at s places a then scalar_at s (holding_of places a) else scalar_at s home) g
-IsNextOf code places home (Latest v a) g =
-    kind_of (holding_of places a) ≡ kind_of home →
+    (λ s. if present_at s places a then scalar_at s (holding_of places a) else scalar_at s held) g
+IsNextOf code places held (Latest v a) g =
+    kind_of (holding_of places a) ≡ kind_of held →
     IsFor code (kind_of (holding_of places a))
-    (λ s. if present_at s places a then scalar_at s (holding_of places a) else scalar_at s home) g
-IsNextOf code places home o g = Unit {0}
+    (λ s. if present_at s places a then scalar_at s (holding_of places a) else scalar_at s held) g
+IsNextOf code places held o g = Unit {0}
 
--- all memories of a program, whose places stand from a plane and a word on
-pub record AreSources (f : FlatProgram) (code : Code) (places : List Place) (kept : List Holding)
-    (plane word : ℕ) (planes : List PlaneId) (words : List WordId) : Type 0 where
+-- all memories of a program, whose places stand from a plane and a word on, where holdings show
+-- what they hold now
+pub record AreSources (f : FlatProgram) (code : Code) (places : List Place)
+    (kept held : List Holding) (plane word : ℕ) (planes : List PlaneId) (words : List WordId) :
+    Type 0 where
   pub planes_room : plane + length planes ≡ code.first_plane
   pub words_room : word + length words ≡ code.first_word
   pub planes_behind :
@@ -89,7 +98,7 @@ pub record AreSources (f : FlatProgram) (code : Code) (places : List Place) (kep
   pub moved :
       Every (KindFits f.inputs (kind_among f.kinds)) f.equations →
       (s s' : Lane) → HasRun code.instructions.items s →
-      IsCarriedOver plane word planes words s s' →
+      ShowsMemories s kept held f.equations → IsCarriedOver plane word planes words s s' →
       some_in is_bad (row_at s places) (named_elements f) ≡ false →
       Every (λ (q : FlatEquation). IsMoved s s' places (kept_at kept q.element) q.operation)
       f.equations

@@ -1,7 +1,7 @@
 -- What the planes and words hold that are there before the code runs, and how more of them are
 -- given.
 -- This file says what data of the program mean.
-use Rattle.std.specs.Prelude.{◌≡◌, ℕ, ◌≤◌, ◌<◌, Bool, false, List, [], ◌∷◌, ℤ, pos, length}
+use Rattle.std.specs.Prelude.{◌≡◌, ℕ, ◌≤◌, ◌<◌, false, List, [], ◌∷◌, ℤ, pos, length}
 use Rattle.std.specs.Prelude.{map, All}
 use Rattle.std.specs.Prelude.{slice_index, slice_index_or}
 use Rattle.lb_syntax.specs.Lists.{Every, In}

@@ -1,6 +1,7 @@
 -- The planes of what an instant decides in each lane, and the verdict that they give.
 -- Source: this project's rule.
-use Rattle.std.specs.Prelude.{ℕ, Bool, List, [], ◌∷◌, if◌then◌else◌}
+use Rattle.std.specs.Prelude.{ℕ, Bool, Option, List, [], ◌∷◌, if◌then◌else◌}
+use Rattle.lb_check.specs.Scalars.{Cell}
 use Rattle.lb_check.specs.Verdicts.{is_bad, is_nil, is_false}
 use Rattle.lb_check.specs.declared.verdict.Verdict.{Verdict}
 use Rattle.lb_check.specs.declared.verdict.Verdict.TheVariants.{Passed, Fault, Undefined, Assertion}
@@ -12,6 +13,14 @@ use Rattle.lb_machine.specs.declared.code.Code.{Code}
 use Rattle.lb_sim.specs.Showing.{row_at}
 use Rattle.lb_sim.specs.declared.place.Place.{Place}
 use Rattle.lb_sim.specs.declared.place.Watched.{Watched}
+use Rattle.lb_sim.specs.declared.watch.Sought.{Sought}
+use Rattle.lb_sim.specs.declared.watch.Sought.TheVariants.{Faults, Nils, Falses}
+
+-- whether an element shows what is looked for
+abbrev pub is_sought : Sought → Option Cell → Bool
+is_sought Faults x = is_bad x
+is_sought Nils x = is_nil x
+is_sought Falses x = is_false x
 
 -- planes of the code hold in each lane what its row shows at the elements that are watched
 pub record AreWatched (code : Code) (f : FlatProgram) (places : List Place) (w : Watched) :

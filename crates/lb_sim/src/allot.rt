@@ -1,6 +1,7 @@
 //! Places that are known before the code: those of inputs, constants and memories.
 
-ghost use Rattle.std.specs.Prelude.{◌≡◌, ℕ, ◌+◌, ◌<◌, ◌≤◌, ◌≢◌, ◌⊎◌, true, false, length, All, IfOk};
+ghost use Rattle.std.specs.Prelude.{◌≡◌, ℕ, ◌+◌, ◌<◌, ◌≤◌, ◌≢◌, ◌⊎◌, true, false, length, All};
+ghost use Rattle.std.specs.Prelude.{IfOk};
 ghost use Rattle.std.specs.Prelude.{◌||◌, OnOk, get_or, replicate, [], ◌∷◌, slice_index};
 ghost use Rattle.lb_check.specs.Scalars as scalars;
 ghost use Rattle.lb_flat.specs.Programs.{program_of, IsInRange};
@@ -12,7 +13,8 @@ ghost use Rattle.lb_syntax.specs.Lists.{In};
 ghost use Rattle.lb_sim.specs.Homes.{is_nil_scalar, is_bad_scalar, IsRow, plane_in, word_in};
 ghost use Rattle.lb_sim.specs.Showing.{value_kind};
 ghost use Rattle.lb_sim.specs.InputRows.{places_of, truth_columns, number_columns};
-ghost use Rattle.lb_sim.specs.Presets.{IsFirstHolding, IsFirstMemory, IsFirstValue, IsConstant, IsConstantAt, IsFixed, IsMore};
+ghost use Rattle.lb_sim.specs.Presets.{IsFirstHolding, IsFirstMemory, IsFirstValue, IsConstant};
+ghost use Rattle.lb_sim.specs.Presets.{IsConstantAt, IsFixed, IsMore};
 
 use crate::place::{Holding, Value};
 use crate::preset::Preset;

@@ -1,6 +1,7 @@
 //! Whole batches: the verdicts of up to 64 traces.
 
-ghost use Rattle.std.specs.Prelude.{◌≡◌, ◌≢◌, ℕ, ◌<◌, ◌≤◌, true, false, length, All, get_or, take, IfOk};
+ghost use Rattle.std.specs.Prelude.{◌≡◌, ◌≢◌, ℕ, ◌<◌, ◌≤◌, true, false, length, All, get_or, take};
+ghost use Rattle.std.specs.Prelude.{IfOk};
 ghost use Rattle.lb_static.specs.Signature.{kinds_of};
 ghost use Rattle.lb_flat.specs.Fitting.{IsFitting};
 ghost use Rattle.lb_flat.specs.Flat.{FlatClock};

@@ -37,8 +37,8 @@ pub struct BatchRun<'a> {
     pub live: Plane,
     pub active: Plane,
     pub steps: u32,
-    pub ghost planes_room: { length planes.items ≡ program.now.code.planes },
-    pub ghost words_room: { length words.items ≡ program.now.code.words },
+    pub ghost planes_room: { length planes.items ≡ program.now.planes },
+    pub ghost words_room: { length words.items ≡ program.now.words },
     pub ghost ints: { All AreInts words.items },
     pub ghost verdicts_room: { length verdicts.items ≡ 64 },
     pub ghost constants: { (i : ℕ) → i < 64 → HasConstants
@@ -65,8 +65,8 @@ impl<'a> BatchRun<'a> {
         ensures live { IfOk result (λ r. r.live ≡ r.active) }
         ensures program { IfOk result (λ r. r.program.now ≡ program.now) }
     {
-        let planes = vec![in alloc; 0u64; program.code.planes as usize]?;
-        let words = zeros(alloc, program.code.words as usize)?;
+        let planes = vec![in alloc; 0u64; program.planes as usize]?;
+        let words = zeros(alloc, program.words as usize)?;
         let verdicts = vec![in alloc; Verdict::Passed; 64]?;
         Ok(BatchRun::begun(program, planes, words, verdicts, lanes))
     }
@@ -79,8 +79,8 @@ impl<'a> BatchRun<'a> {
         mut verdicts: Vec<Verdict>,
         lanes: u32,
     ) -> BatchRun<'a>
-        requires planes { length planes.items ≡ program.now.code.planes }
-        requires words { length words.items ≡ program.now.code.words }
+        requires planes { length planes.items ≡ program.now.planes }
+        requires words { length words.items ≡ program.now.words }
         requires ints { All AreInts words.items }
         requires verdicts { length verdicts.items ≡ 64 }
         requires few { lanes ≤ 64 }

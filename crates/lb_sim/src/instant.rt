@@ -12,14 +12,15 @@ ghost use Rattle.lb_machine.specs.Meaning.{HasConstants, lane_at};
 ghost use Rattle.lb_sim.specs.Compiled.{HasConstantWords};
 ghost use Rattle.lb_sim.specs.Inputs.{inputs_row};
 ghost use Rattle.lb_sim.specs.LaneMoves.{IsMovedOn};
-ghost use Rattle.lb_sim.specs.LaneStates.{IsComputed, is_passed};
+ghost use Rattle.lb_sim.specs.LaneStates.{IsCodeIn, IsComputed, is_passed};
 ghost use Rattle.lb_sim.specs.States.{IsCarriedOver};
 ghost use Rattle.lb_sim.specs.Watching.{lane_judged};
 
+use crate::choice::code_for;
 use crate::inputs::Inputs;
 use crate::lane_bits::{copy_planes, with_lane};
 use crate::place::Watched;
-use crate::program::LaneProgram;
+use crate::program::{LaneCode, LaneProgram};
 use lb_check::verdict::Verdict;
 use lb_lanes::{IntLanes, Plane};
 use lb_machine::{PlaneId, carry_planes, carry_words};
@@ -53,15 +54,15 @@ fn put_start(words: &mut [IntLanes], start: &[i64])
 
 // Puts what a program starts with into the first places of all lanes. The rest may hold anything.
 pub(crate) fn start(program: &LaneProgram, planes: &mut [u64], words: &mut [IntLanes])
-    requires planes { length planes.old ≡ program.now.code.planes }
-    requires words { length words.old ≡ program.now.code.words }
+    requires planes { length planes.old ≡ program.now.planes }
+    requires words { length words.old ≡ program.now.words }
     requires ints { All AreInts words.old }
     ensures planes { length planes.new ≡ length planes.old }
     ensures words { length words.new ≡ length words.old }
     ensures ints { All AreInts words.new }
-    ensures first_planes { (k : ℕ) → k < program.now.code.first_plane
+    ensures first_planes { (k : ℕ) → k < length program.now.start_planes.items
         → slice_index planes.new k ≡ slice_index program.now.start_planes.items k }
-    ensures first_words { (k i : ℕ) → k < program.now.code.first_word → i < 64
+    ensures first_words { (k i : ℕ) → k < length program.now.start_words.items → i < 64
         → lane_of (slice_index_or words.new k []) i
         ≡ slice_index_or program.now.start_words.items k (pos 0) }
 {
@@ -79,10 +80,17 @@ pub(crate) fn pass_all(verdicts: &mut [Verdict])
     }
 }
 
-// Hands the inputs of an instant over, and runs the code.
-fn compute(program: &LaneProgram, inputs: &Inputs, planes: &mut [u64], words: &mut [IntLanes])
-    requires planes { length planes.old ≡ program.now.code.planes }
-    requires words { length words.old ≡ program.now.code.words }
+// Hands the inputs of an instant over, and runs a code of the program.
+fn compute(
+    program: &LaneProgram,
+    code: &LaneCode,
+    inputs: &Inputs,
+    planes: &mut [u64],
+    words: &mut [IntLanes],
+)
+    requires law { IsCodeIn program.now code.now }
+    requires planes { length planes.old ≡ program.now.planes }
+    requires words { length words.old ≡ program.now.words }
     requires ints { All AreInts words.old }
     requires signature { inputs.now.columns.kinds.items ≡ program.now.program.now.inputs.items }
     requires constants { (i : ℕ) → i < 64 → HasConstants (lane_at planes.old words.old i) }
@@ -92,11 +100,11 @@ fn compute(program: &LaneProgram, inputs: &Inputs, planes: &mut [u64], words: &m
     ensures planes { length planes.new ≡ length planes.old }
     ensures words { length words.new ≡ length words.old }
     ensures ints { All AreInts words.new }
-    ensures computed { (i : ℕ) → i < 64 → IsComputed program.now (inputs_row inputs.now i)
+    ensures computed { (i : ℕ) → i < 64 → IsComputed program.now code.now (inputs_row inputs.now i)
         (lane_at planes.old words.old i) (lane_at planes.new words.new i) }
 {
     inputs.hand_over(planes, words);
-    program.code.run(planes, words);
+    code.code.run(planes, words);
 }
 
 // Whether a plane has a lane.
@@ -167,49 +175,43 @@ fn settle(verdicts: &mut [Verdict], planes: &[u64], watched: Watched, lanes: Pla
 
 // The lanes that pass the instant, of those that take part in it; the others of these get their
 // verdicts.
-fn judge(
-    program: &LaneProgram,
-    planes: &[u64],
-    verdicts: &mut [Verdict],
-    going: Plane,
-    t: u32,
-) -> Plane
-    requires planes { length planes.now ≡ program.now.code.planes }
+fn judge(code: &LaneCode, planes: &[u64], verdicts: &mut [Verdict], going: Plane, t: u32) -> Plane
+    requires faults { code.now.watched.faults.0 < length planes.now }
+    requires undefined { code.now.watched.undefined.0 < length planes.now }
+    requires failed { code.now.watched.failed.0 < length planes.now }
+    requires violated { code.now.watched.violated.0 < length planes.now }
     requires verdicts { length verdicts.old ≡ 64 }
     ensures verdicts { length verdicts.new ≡ 64 }
     ensures passed { IsPlaneOf (λ i. on going.0 i
-        && is_passed (lane_judged program.now.watched t (lane_at planes.now [] i))) result.0 }
+        && is_passed (lane_judged code.now.watched t (lane_at planes.now [] i))) result.0 }
     ensures put { (i : ℕ) → i < 64 → get_or verdicts.new i Passed
         ≡ (if on going.0 i && not (on result.0 i)
-        then lane_judged program.now.watched t (lane_at planes.now [] i)
+        then lane_judged code.now.watched t (lane_at planes.now [] i)
         else get_or verdicts.old i Passed) }
 {
-    let passed = passing(planes, program.watched, going);
+    let passed = passing(planes, code.watched, going);
     let decided = going.and(passed.not());
     if decided.0 != 0 {
-        settle(verdicts, planes, program.watched, decided, t);
+        settle(verdicts, planes, code.watched, decided, t);
     }
     passed
 }
 
 // The memories take over what the instant gives them.
-fn commit(program: &LaneProgram, planes: &mut [u64], words: &mut [IntLanes])
-    requires planes { length planes.old ≡ program.now.code.planes }
-    requires words { length words.old ≡ program.now.code.words }
+fn commit(program: &LaneProgram, code: &LaneCode, planes: &mut [u64], words: &mut [IntLanes])
+    requires law { IsCodeIn program.now code.now }
+    requires planes { length planes.old ≡ program.now.planes }
+    requires words { length words.old ≡ program.now.words }
     requires ints { All AreInts words.old }
     ensures planes { length planes.new ≡ length planes.old }
     ensures words { length words.new ≡ length words.old }
     ensures ints { All AreInts words.new }
     ensures carried { (i : ℕ) → IsCarriedOver program.now.memory_plane program.now.memory_word
-        program.now.plane_sources.items program.now.word_sources.items
+        code.now.plane_sources.items code.now.word_sources.items
         (lane_at planes.old words.old i) (lane_at planes.new words.new i) }
 {
-    carry_planes(
-        planes,
-        program.memory_plane,
-        program.plane_sources.as_slice(),
-    );
-    carry_words(words, program.memory_word, program.word_sources.as_slice());
+    carry_planes(planes, program.memory_plane, code.plane_sources.as_slice());
+    carry_words(words, program.memory_word, code.word_sources.as_slice());
 }
 
 // An instant of the lanes that are live. Gives those of them that were active and pass it.
@@ -223,8 +225,8 @@ pub(crate) fn advance(
     live: Plane,
     t: u32,
 ) -> Plane
-    requires planes { length planes.old ≡ program.now.code.planes }
-    requires words { length words.old ≡ program.now.code.words }
+    requires planes { length planes.old ≡ program.now.planes }
+    requires words { length words.old ≡ program.now.words }
     requires ints { All AreInts words.old }
     requires verdicts { length verdicts.old ≡ 64 }
     requires signature { inputs.now.columns.kinds.items ≡ program.now.program.now.inputs.items }
@@ -241,9 +243,10 @@ pub(crate) fn advance(
         (get_or verdicts.old i Passed) (get_or verdicts.new i Passed)
         (on active.0 i) (on live.0 i) (on result.0 i) t }
 {
-    compute(program, inputs, planes, words);
     let going = active.and(live);
-    let passed = judge(program, planes, verdicts, going, t);
-    commit(program, planes, words);
+    let code = code_for(program, planes, going);
+    compute(program, code, inputs, planes, words);
+    let passed = judge(code, planes, verdicts, going, t);
+    commit(program, code, planes, words);
     passed
 }

@@ -8,8 +8,8 @@ ghost use Rattle.lb_lanes.specs.Planes.{on};
 use lb_machine::{PlaneId, WordId};
 use std::alloc::{AllocError, Global};
 
-/// What they hold before the first instant, in all lanes alike: the first plane is false, the second
-/// is true, and the first word is 0.
+/// What they hold before the first instant, in all lanes alike: the first plane is false, the
+/// second is true, and the first word is 0.
 #[derive(Drop)]
 pub(crate) struct Preset {
     pub(crate) planes: Vec<u64>,

@@ -1,14 +1,31 @@
 //! Lane programs.
 
-ghost use Rattle.std.specs.Prelude.{◌≡◌, true, false, replicate};
+ghost use Rattle.std.specs.Prelude.{◌≡◌, [], true, false, replicate};
 ghost use Rattle.lb_flat.specs.InOrder.{is_in_order};
 ghost use Rattle.lb_flat.specs.Programs.{flat_equations, program_of, IsInRange};
-ghost use Rattle.lb_sim.specs.Compiled.{IsCompiled};
-ghost use Rattle.lb_sim.specs.LaidOut.{IsLaidOut};
+ghost use Rattle.lb_sim.specs.Codes.{IsCodeOf};
 
 use crate::place::{Holding, Place, Value, Watched};
 use lb_flat::program::FlatProgram;
 use lb_machine::{Code, PlaneId, WordId};
+
+/// What an instant does: code, where it finds each element, what it decides, and what memories take
+/// over after it.
+///
+/// It stands for the program in each lane in which some planes of memories are false and some true.
+#[derive(Drop)]
+pub struct LaneCode {
+    pub code: Code,
+    /// Where each element is found.
+    pub places: Vec<Place>,
+    pub watched: Watched,
+    /// What each of the memories takes over after an instant.
+    pub plane_sources: Vec<PlaneId>,
+    pub word_sources: Vec<WordId>,
+    /// The planes of memories that it takes to be false, and those that it takes to be true.
+    pub clear: Vec<PlaneId>,
+    pub set: Vec<PlaneId>,
+}
 
 /// A flat program as code over planes and words, for up to 64 traces at once.
 ///
@@ -17,31 +34,33 @@ use lb_machine::{Code, PlaneId, WordId};
 #[derive(Drop)]
 pub struct LaneProgram<'a> {
     pub program: &'a FlatProgram,
-    pub code: Code,
+    /// Code for any instant, which takes nothing for granted.
+    pub general: LaneCode,
+    /// Code for instants at which each first tick is over and no memory is nil.
+    pub steady: LaneCode,
+    /// How many planes and words a run needs.
+    pub planes: u32,
+    pub words: u32,
     /// Where each input of the signature stands.
     pub inputs: Vec<Value>,
-    /// Where each element is found.
-    pub places: Vec<Place>,
     /// Where the memory of each element stands, if it has one.
     pub kept: Vec<Holding>,
     /// What the planes and the words before the code hold before the first instant, in each lane.
     pub start_planes: Vec<u64>,
     pub start_words: Vec<i64>,
-    /// The first word of the constants, the first plane and the first word of the memories, and
-    /// what each of the memories takes over after an instant.
+    /// The first word of the constants, and the first plane and the first word of the memories.
     pub constant_word: u32,
     pub memory_plane: u32,
     pub memory_word: u32,
-    pub plane_sources: Vec<PlaneId>,
-    pub word_sources: Vec<WordId>,
-    pub watched: Watched,
     pub ghost in_range: { IsInRange program.now },
     pub ghost in_order: { is_in_order (replicate program.now.size false)
         (flat_equations program.now.clocks.items program.now.equations.items) ≡ true },
-    pub ghost compiled: { ∥ IsCompiled (program_of program.now) code inputs.items places.items
-        kept.items watched start_words.items constant_word memory_plane memory_word
-        plane_sources.items word_sources.items ∥₁ },
-    pub ghost laid_out: { ∥ IsLaidOut (program_of program.now) code inputs.items kept.items
-        start_planes.items start_words.items constant_word memory_plane memory_word
-        plane_sources.items word_sources.items ∥₁ },
+    pub ghost general_law: { ∥ IsCodeOf (program_of program.now) inputs.items kept.items
+        start_planes.items start_words.items constant_word memory_plane memory_word planes words
+        general ∥₁ },
+    pub ghost steady_law: { ∥ IsCodeOf (program_of program.now) inputs.items kept.items
+        start_planes.items start_words.items constant_word memory_plane memory_word planes words
+        steady ∥₁ },
+    pub ghost general_clear: { general.clear.items ≡ [] },
+    pub ghost general_set: { general.set.items ≡ [] },
 }

@@ -71,8 +71,8 @@ impl BatchRoom {
     pub fn new(alloc: Global, program: &LaneProgram<'_>) -> Result<BatchRoom, AllocError>
         ensures { IfOk result (IsRoomFor program.now) }
     {
-        let planes = vec![in alloc; 0u64; program.code.planes as usize]?;
-        let words = zeros(alloc, program.code.words as usize)?;
+        let planes = vec![in alloc; 0u64; program.planes as usize]?;
+        let words = zeros(alloc, program.words as usize)?;
         let verdicts = vec![in alloc; Verdict::Passed; 64]?;
         let inputs = Inputs::new(alloc, program.program)?;
         Ok(BatchRoom {
@@ -87,8 +87,8 @@ impl BatchRoom {
     pub fn fits(&self, program: &LaneProgram<'_>) -> bool
         ensures { result ≡ true → IsRoomFor program.now self.now }
     {
-        self.planes.len() == program.code.planes as usize
-            && self.words.len() == program.code.words as usize
+        self.planes.len() == program.planes as usize
+            && self.words.len() == program.words as usize
             && are_kinds(
                 self.inputs.columns.kinds.as_slice(),
                 program.program.inputs.as_slice(),

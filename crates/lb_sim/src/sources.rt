@@ -8,18 +8,20 @@ ghost use Rattle.lb_flat.specs.Values.{operation_of};
 ghost use Rattle.lb_machine.specs.Growing.{IsGrown};
 ghost use Rattle.lb_sim.specs.Holdings.{IsIn, IsPlaceIn};
 ghost use Rattle.lb_sim.specs.Homes.{plane_in, word_in};
-ghost use Rattle.lb_sim.specs.Passing.{AreSources, AreTaken, IsNextOf, IsPlaneSource, IsTaken};
+ghost use Rattle.lb_sim.specs.Passing.{AreCopies, AreSources, AreTaken, IsNextOf, IsPlaneSource};
+ghost use Rattle.lb_sim.specs.Passing.{IsTaken};
 ghost use Rattle.lb_sim.specs.Passing.{IsNextFlag, IsWordSource};
 ghost use Rattle.lb_sim.specs.Presets.{AreMemories};
 ghost use Rattle.lb_sim.specs.Showing.{kind_of};
 ghost use Rattle.lb_sim.specs.States.{holding_of};
+ghost use Rattle.lb_sim.specs.Steady.{AreHeldFor};
 
 use crate::allotted::Allotted;
 use crate::picks::pick;
 use crate::place::{Holding, Place, Value};
 use lb_flat::equation::Operation;
 use lb_flat::program::FlatProgram;
-use lb_machine::{Code, NOWHERE, PlaneId, PlaneOperator, WordId, ZERO};
+use lb_machine::{Code, EVERYWHERE, NOWHERE, PlaneId, PlaneOperator, WordId, ZERO};
 use std::alloc::{AllocError, Global};
 
 // The plane that a value takes, or none.
@@ -42,13 +44,42 @@ fn word_of(v: Value) -> WordId
     }
 }
 
+/// A plane that is false everywhere and one that is true everywhere, which the code writes: all
+/// sources that are so share them.
+#[derive(Clone, Copy)]
+pub(crate) struct Copies {
+    pub(crate) nowhere: PlaneId,
+    pub(crate) everywhere: PlaneId,
+}
+
+// Writes the two planes.
+#[tactic(auto, using(crate::proofs::Growth::grown_then, crate::proofs::Growth::grown_none))]
+fn make_copies(code: &mut Code) -> Result<Copies, AllocError>
+    ensures grown { OnOk result (IsGrown code.old code.new) }
+    ensures copies { IfOk result (AreCopies code.new) }
+{
+    let nowhere = code.copy_plane(NOWHERE)?;
+    let everywhere = code.copy_plane(EVERYWHERE)?;
+    Ok(Copies {
+        nowhere,
+        everywhere,
+    })
+}
+
 // A plane that the code writes, with what this one holds.
 #[tactic(auto, using(crate::proofs::Growth::grown_then, crate::proofs::Growth::grown_none))]
-fn own_plane(code: &mut Code, p: PlaneId) -> Result<PlaneId, AllocError>
-    requires { p.0 < code.old.planes }
+fn own_plane(code: &mut Code, p: PlaneId, copies: Copies) -> Result<PlaneId, AllocError>
+    requires plane { p.0 < code.old.planes }
+    requires copies { AreCopies code.old copies }
     ensures grown { OnOk result (IsGrown code.old code.new) }
     ensures source { IfOk result (IsPlaneSource code.new p.0) }
 {
+    if p.0 == NOWHERE.0 {
+        return Ok(copies.nowhere);
+    }
+    if p.0 == EVERYWHERE.0 {
+        return Ok(copies.everywhere);
+    }
     if p.0 < code.first_plane {
         let copied = code.copy_plane(p)?;
         return Ok(copied);
@@ -76,9 +107,11 @@ fn take_plane(
     code: &mut Code,
     home: PlaneId,
     next: PlaneId,
+    copies: Copies,
     sources: &mut Vec<PlaneId>,
 ) -> Result<(), AllocError>
-    requires { next.0 < code.old.planes }
+    requires next { next.0 < code.old.planes }
+    requires copies { AreCopies code.old copies }
     ensures grown { OnOk result (IsGrown code.old code.new) }
     ensures taken { OnOk result (IsTaken (IsPlaneSource code.new next.0) home.0
         sources.old.items sources.new.items) }
@@ -86,7 +119,7 @@ fn take_plane(
     if home.0 == NOWHERE.0 {
         return Ok(());
     }
-    let source = own_plane(code, next)?;
+    let source = own_plane(code, next, copies)?;
     sources.push(source)?;
     Ok(())
 }
@@ -118,10 +151,12 @@ fn push_sources(
     code: &mut Code,
     home: Holding,
     next: Holding,
+    copies: Copies,
     planes: &mut Vec<PlaneId>,
     words: &mut Vec<WordId>,
 ) -> Result<(), AllocError>
-    requires { IsIn code.old next }
+    requires next { IsIn code.old next }
+    requires copies { AreCopies code.old copies }
     ensures grown { OnOk result (IsGrown code.old code.new) }
     ensures taken { OnOk result (AreTaken code.new home next planes.old.items planes.new.items
         words.old.items words.new.items) }
@@ -130,23 +165,23 @@ fn push_sources(
     let next_plane = plane_of(next.value);
     let home_word = word_of(home.value);
     let next_word = word_of(next.value);
-    take_plane(code, home_plane, next_plane, planes)?;
-    take_plane(code, home.nil, next.nil, planes)?;
-    take_plane(code, home.bad, next.bad, planes)?;
+    take_plane(code, home_plane, next_plane, copies, planes)?;
+    take_plane(code, home.nil, next.nil, copies, planes)?;
+    take_plane(code, home.bad, next.bad, copies, planes)?;
     take_word(code, home_word, next_word, words)?;
     Ok(())
 }
 
 // Whether a first tick is over after this instant.
 #[tactic(auto, using(crate::proofs::Growth::grown_then, crate::proofs::Growth::grown_none))]
-fn next_flag(code: &mut Code, home: Holding, present: PlaneId) -> Result<Holding, AllocError>
-    requires home { IsIn code.old home }
+fn next_flag(code: &mut Code, held: Holding, present: PlaneId) -> Result<Holding, AllocError>
+    requires held { IsIn code.old held }
     requires present { present.0 < code.old.planes }
     ensures grown { OnOk result (IsGrown code.old code.new) }
     ensures within { IfOk result (IsIn code.new) }
-    ensures next { IfOk result (IsNextFlag code.new home present.0) }
+    ensures next { IfOk result (IsNextFlag code.new held present.0) }
 {
-    let started = plane_of(home.value);
+    let started = plane_of(held.value);
     let value = code.combine(PlaneOperator::Or, started, present)?;
     Ok(Holding {
         value: Value::Truth(value),
@@ -155,39 +190,39 @@ fn next_flag(code: &mut Code, home: Holding, present: PlaneId) -> Result<Holding
     })
 }
 
-// What a memory holds after the instant.
+// What a memory holds after the instant, where this shows what it holds now.
 #[tactic(auto, using(crate::proofs::Growth::grown_then, crate::proofs::Growth::grown_none))]
 fn next_holding(
     code: &mut Code,
     places: &[Place],
-    home: Holding,
+    held: Holding,
     operation: &Operation,
 ) -> Result<Holding, AllocError>
     requires places { All (IsPlaceIn code.old) places.now }
-    requires home { IsIn code.old home }
+    requires held { IsIn code.old held }
     requires reads { All (λ i. i < length places.now) (reads (operation_of operation.now)) }
     requires keeps { All (λ i. i < length places.now) (keeps (operation_of operation.now)) }
     ensures grown { OnOk result (IsGrown code.old code.new) }
     ensures within { IfOk result (IsIn code.new) }
-    ensures next { IfOk result (IsNextOf code.new places.now home
+    ensures next { IfOk result (IsNextOf code.new places.now held
         (operation_of operation.now)) }
 {
     match operation {
         Operation::FirstThen(_, a, _) => {
-            let next = next_flag(code, home, places[a.0 as usize].present)?;
+            let next = next_flag(code, held, places[a.0 as usize].present)?;
             Ok(next)
         }
         Operation::Previous(_, a) => {
             let place = places[a.0 as usize];
-            let next = pick(code, place.present, place.holding, home)?;
+            let next = pick(code, place.present, place.holding, held)?;
             Ok(next)
         }
         Operation::Latest(_, a) => {
             let place = places[a.0 as usize];
-            let next = pick(code, place.present, place.holding, home)?;
+            let next = pick(code, place.present, place.holding, held)?;
             Ok(next)
         }
-        _ => Ok(home),
+        _ => Ok(held),
     }
 }
 
@@ -198,13 +233,14 @@ pub(crate) struct Sources {
     pub(crate) words: Vec<WordId>,
 }
 
-/// What memories take over, in the order of the equations.
+/// What memories take over, in the order of the equations, where `held` shows what they hold.
 pub(crate) fn all_sources(
     alloc: Global,
     code: &mut Code,
     program: &FlatProgram,
     places: &[Place],
     allotted: &Allotted,
+    held: &[Holding],
 ) -> Result<Sources, AllocError>
     requires in_range { IsInRange program.now }
     requires elements { length places.now ≡ program.now.size }
@@ -217,18 +253,24 @@ pub(crate) fn all_sources(
     requires first_word { code.old.first_word ≡ length allotted.now.preset.words.items }
     requires behind_planes { 2 ≤ allotted.now.memory_plane }
     requires behind_words { 1 ≤ allotted.now.memory_word }
+    requires all_held { length held.now ≡ program.now.size }
+    requires held { All (IsIn code.old) held.now }
+    requires held_for { AreHeldFor allotted.now.kept.items held.now
+        (program_of program.now).equations }
     ensures grown { OnOk result (IsGrown code.old code.new) }
     ensures sources { IfOk result (λ r. AreSources (program_of program.now) code.new places.now
-        allotted.now.kept.items allotted.now.memory_plane allotted.now.memory_word
+        allotted.now.kept.items held.now allotted.now.memory_plane allotted.now.memory_word
         r.planes.items r.words.items) }
 {
     let mut planes = Vec::new(alloc);
     let mut words = Vec::new(alloc);
+    let copies = make_copies(code)?;
     for i in 0..program.equations.len() {
         let q = program.equations[i];
         let home = allotted.kept[q.element.0 as usize];
-        let next = next_holding(code, places, home, &q.operation)?;
-        push_sources(code, home, next, &mut planes, &mut words)?;
+        let shown = held[q.element.0 as usize];
+        let next = next_holding(code, places, shown, &q.operation)?;
+        push_sources(code, home, next, copies, &mut planes, &mut words)?;
     }
     Ok(Sources { planes, words })
 }

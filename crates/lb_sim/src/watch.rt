@@ -8,12 +8,21 @@ ghost use Rattle.lb_flat.specs.Programs.{numbers_of};
 ghost use Rattle.lb_machine.specs.Growing.{IsGrown, IsPlaneFor};
 ghost use Rattle.lb_sim.specs.Holdings.{IsPlaceIn};
 ghost use Rattle.lb_sim.specs.Showing.{cell_at, row_at};
+ghost use Rattle.lb_sim.specs.Watching.{is_sought};
 
 use crate::picks::sign_plane;
 use crate::place::Place;
 use lb_flat::equation::ElementId;
 use lb_machine::{Code, EVERYWHERE, PlaneId, PlaneOperator};
 use std::alloc::AllocError;
+
+/// What is looked for at elements.
+#[derive(Clone, Copy)]
+pub(crate) enum Sought {
+    Faults,
+    Nils,
+    Falses,
+}
 
 /// Where a place shows the value of a fault.
 pub(crate) fn bad_plane(code: &mut Code, place: Place) -> Result<PlaneId, AllocError>
@@ -71,34 +80,26 @@ pub(crate) fn first_bad(
     Ok(plane)
 }
 
-/// Where one of these elements shows the value of a fault, or a plane is true.
-pub(crate) fn some_bad(
-    code: &mut Code,
-    places: &[Place],
-    elements: &[ElementId],
-    above: PlaneId,
-) -> Result<PlaneId, AllocError>
-    requires elements { All (λ a. a.0 < length places.now) elements.now }
-    requires places { All (IsPlaceIn code.old) places.now }
-    requires above { above.0 < code.old.planes }
+// Where a place shows what is looked for.
+fn sought_plane(code: &mut Code, sought: Sought, place: Place) -> Result<PlaneId, AllocError>
+    requires { IsPlaceIn code.old place }
     ensures grown { OnOk result (IsGrown code.old code.new) }
-    ensures plane { IfOk result (IsPlaneFor code.new (λ s. s.bits above.0
-        || some_in is_bad (row_at s places.now) (numbers_of elements.now))) }
+    ensures plane { IfOk result (IsPlaneFor code.new
+        (λ s. is_sought sought (Some (cell_at s place)))) }
 {
-    let mut plane = above;
-    for i in 0..elements.len() {
-        let here = bad_plane(code, places[elements[i].0 as usize])?;
-        let next = code.combine(PlaneOperator::Or, plane, here)?;
-        plane = next;
+    match sought {
+        Sought::Faults => bad_plane(code, place),
+        Sought::Nils => nil_plane(code, place),
+        Sought::Falses => false_plane(code, place),
     }
-    Ok(plane)
 }
 
-/// Where one of these elements is nil, or a plane is true.
-pub(crate) fn some_nil(
+/// Where one of these elements shows what is looked for, or a plane is true.
+pub(crate) fn some_sought(
     code: &mut Code,
     places: &[Place],
     elements: &[ElementId],
+    sought: Sought,
     above: PlaneId,
 ) -> Result<PlaneId, AllocError>
     requires elements { All (λ a. a.0 < length places.now) elements.now }
@@ -106,34 +107,11 @@ pub(crate) fn some_nil(
     requires above { above.0 < code.old.planes }
     ensures grown { OnOk result (IsGrown code.old code.new) }
     ensures plane { IfOk result (IsPlaneFor code.new (λ s. s.bits above.0
-        || some_in is_nil (row_at s places.now) (numbers_of elements.now))) }
+        || some_in (is_sought sought) (row_at s places.now) (numbers_of elements.now))) }
 {
     let mut plane = above;
     for i in 0..elements.len() {
-        let here = nil_plane(code, places[elements[i].0 as usize])?;
-        let next = code.combine(PlaneOperator::Or, plane, here)?;
-        plane = next;
-    }
-    Ok(plane)
-}
-
-/// Where one of these elements is false, or a plane is true.
-pub(crate) fn some_false(
-    code: &mut Code,
-    places: &[Place],
-    elements: &[ElementId],
-    above: PlaneId,
-) -> Result<PlaneId, AllocError>
-    requires elements { All (λ a. a.0 < length places.now) elements.now }
-    requires places { All (IsPlaceIn code.old) places.now }
-    requires above { above.0 < code.old.planes }
-    ensures grown { OnOk result (IsGrown code.old code.new) }
-    ensures plane { IfOk result (IsPlaneFor code.new (λ s. s.bits above.0
-        || some_in is_false (row_at s places.now) (numbers_of elements.now))) }
-{
-    let mut plane = above;
-    for i in 0..elements.len() {
-        let here = false_plane(code, places[elements[i].0 as usize])?;
+        let here = sought_plane(code, sought, places[elements[i].0 as usize])?;
         let next = code.combine(PlaneOperator::Or, plane, here)?;
         plane = next;
     }

@@ -10,7 +10,7 @@ ghost use Rattle.lb_sim.specs.Showing.{row_at};
 ghost use Rattle.lb_sim.specs.Watching.{AreWatched};
 
 use crate::place::{Place, Watched};
-use crate::watch::{false_plane, first_bad, nil_plane, some_bad, some_false, some_nil};
+use crate::watch::{Sought, false_plane, first_bad, nil_plane, some_sought};
 use lb_flat::program::FlatProgram;
 use lb_machine::{Code, NOWHERE, PlaneId, PlaneOperator};
 use std::alloc::AllocError;
@@ -26,9 +26,10 @@ fn faults(code: &mut Code, program: &FlatProgram, places: &[Place]) -> Result<Pl
         some_in is_bad (row_at s places.now) (named_elements (program_of program.now)))) }
 {
     let variables = first_bad(code, places, program.variables, NOWHERE)?;
-    let operands = some_bad(code, places, program.memory_operands.as_slice(), variables)?;
-    let asserted = some_bad(code, places, program.asserted.as_slice(), operands)?;
-    Ok(asserted)
+    let kept = program.memory_operands.as_slice();
+    let operands = some_sought(code, places, kept, Sought::Faults, variables)?;
+    let asserted = program.asserted.as_slice();
+    some_sought(code, places, asserted, Sought::Faults, operands)
 }
 
 // Where an element at which a truth is wanted is nil.
@@ -45,10 +46,12 @@ fn undefined(
     ensures plane { IfOk result (IsPlaneFor code.new (λ s.
         some_in is_nil (row_at s places.now) (truth_elements (program_of program.now)))) }
 {
-    let clocks = some_nil(code, places, program.clock_elements.as_slice(), NOWHERE)?;
-    let asserted = some_nil(code, places, program.asserted.as_slice(), clocks)?;
+    let clocks = program.clock_elements.as_slice();
+    let of_clocks = some_sought(code, places, clocks, Sought::Nils, NOWHERE)?;
+    let asserted = program.asserted.as_slice();
+    let further = some_sought(code, places, asserted, Sought::Nils, of_clocks)?;
     let property = nil_plane(code, places[program.property.0 as usize])?;
-    let plane = code.combine(PlaneOperator::Or, asserted, property)?;
+    let plane = code.combine(PlaneOperator::Or, further, property)?;
     Ok(plane)
 }
 
@@ -67,7 +70,8 @@ pub(crate) fn watched(
 {
     let faults = faults(code, program, places)?;
     let undefined = undefined(code, program, places)?;
-    let failed = some_false(code, places, program.asserted.as_slice(), NOWHERE)?;
+    let asserted = program.asserted.as_slice();
+    let failed = some_sought(code, places, asserted, Sought::Falses, NOWHERE)?;
     let violated = false_plane(code, places[program.property.0 as usize])?;
     Ok(Watched {
         faults,

@@ -1,6 +1,5 @@
 -- The room keeps the verdicts of the lanes.
-use Rattle.std.proofs.Common.{List, get_or, sym, ap, ◌∙◌, subst}
-use Rattle.lb_check.specs.declared.verdict.Verdict.{Verdict}
+use Rattle.std.proofs.Common.{get_or, sym, ◌∙◌, subst}
 use Rattle.lb_check.specs.declared.verdict.Verdict.TheVariants.{Passed}
 use Rattle.lb_flat.specs.Programs.{program_of}
 use Rattle.lb_sim.specs.BatchLanes.{IsVerdictOf}

@@ -1,11 +1,10 @@
 -- The verdicts of the lanes are those of the program, where its inputs have these kinds.
-use Rattle.std.proofs.Common.{[], get_or, ap, sym, ◌∙◌}
+use Rattle.std.proofs.Common.{[], get_or}
 use Rattle.lb_flat.specs.Programs.{program_of}
 use Rattle.lb_flat.specs.Run.{Ready}
 use Rattle.lb_flat.proofs.InOrder.{ready_of}
-use Rattle.lb_sim.specs.BatchRuns.{verdict_at}
 use Rattle.lb_sim.specs.declared.program.LaneProgram.{LaneProgram}
-use Rattle.lb_sim.proofs.BatchVerdicts.{verdict_of, no_verdict}
+use Rattle.lb_sim.proofs.BatchVerdicts.{verdict_of}
 use Rattle.lb_sim.proofs.batch.run_members.Goals as goal
 
 ready : (p : LaneProgram) → Ready p.program.now.size [] (program_of p.program.now).equations

@@ -1,9 +1,8 @@
 -- Each lane comes an instant further in its trace, until no lane takes part.
-use Rattle.std.proofs.Common.{◌≡◌, ◌<◌, ◌&&◌, ℕ, [], sym, ap, ◌∙◌, subst, arith, refl, true}
+use Rattle.std.proofs.Common.{◌≡◌, ◌&&◌, [], sym, ap, ◌∙◌, subst, arith, refl, true}
 use Rattle.lb_lanes.specs.Planes.{IsPlaneOf, on}
 use Rattle.lb_lanes.specs.declared.planes.Plane.{Plane}
 use Rattle.lb_sim.specs.Inputs.{inputs_row}
-use Rattle.lb_sim.specs.declared.columns.Columns.{Columns}
 use Rattle.lb_sim.proofs.Batches.{moves_on}
 use Rattle.lb_sim.proofs.RunningBatches.{all_begin, all_go_on, all_rest, all_ended, have_instant}
 use Rattle.lb_sim.proofs.RunningLanes.{on_later}
@@ -19,8 +18,9 @@ loop-t-init c = record {
 
 pub load-requires-clause-live : goal.load-requires-clause-live
 load-requires-clause-live c =
-    have_instant c.args.set.now c.args.members.now c.loop-t.t c.active.result.0 c.still-next.result.lanes
-    c.still-next.result.until c.and-live.result.0 c.requires.few c.still-next.ensures c.and-live.ensures
+    have_instant c.args.set.now c.args.members.now c.loop-t.t c.active.result.0
+    c.still-next.result.lanes c.still-next.result.until c.and-live.result.0 c.requires.few
+    c.still-next.ensures c.and-live.ensures
 
 pub step-requires-clause-shrinks : goal.step-requires-clause-shrinks
 step-requires-clause-shrinks c i l e =
@@ -48,7 +48,9 @@ loop-t-preserved c =
           c.still-next.result.until live (λ i. inputs_row c.load.new.self i) c.requires.few
           c.still-next.ensures live_is c.loop-t.invariant.done c.load.ensures.rows e.moves e.stays
           e.settled e.active e.steps e.program;
-      lanes = on_later set members c.loop-t.t lanes c.still-next.result.until c.still-next.ensures.lanes;
+      lanes =
+          on_later set members c.loop-t.t lanes c.still-next.result.until
+          c.still-next.ensures.lanes;
       columns = c.load.ensures.kinds ∙ c.loop-t.invariant.columns;
     }
 

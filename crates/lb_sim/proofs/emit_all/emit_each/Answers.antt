@@ -1,4 +1,4 @@
-use Rattle.std.proofs.Common.{◌≡◌, ◌<◌, ◌≤◌, length, get_or, refl, sym, arith}
+use Rattle.std.proofs.Common.{◌<◌, ◌≤◌, length, refl, sym, arith}
 use Rattle.lb_sim.specs.States.{no_place}
 use Rattle.lb_sim.proofs.Placing.{no_place_in, placing_first, placing_next, kinds_at_end}
 use Rattle.lb_sim.proofs.Placing.{shown_at_end}

@@ -9,7 +9,7 @@ returns-clause-computed c i h =
     let x = c.args.inputs.now in
     let e = c.hand_over.ensures in
     let r = c.run.ensures in
-    computed p (length x.planes.items) (length x.words.items)
+    computed p c.args.code.now c.requires.law (length x.planes.items) (length x.words.items)
     (x.planes_room
     ∙ ap length x.columns.all_truths
     ∙ ap (λ ks. length (truth_columns 0 ks)) c.requires.signature)

@@ -18,5 +18,5 @@ returns-else-decided-ne0-clause-put c i h =
     sym
     (ap
     (λ b. if b
-    then lane_judged c.args.program.now.watched c.args.t (lane_at c.args.planes.now [] i)
+    then lane_judged c.args.code.now.watched c.args.t (lane_at c.args.planes.now [] i)
     else get_or c.args.verdicts.now i Passed) off)

@@ -1,5 +1,5 @@
-use Rattle.std.proofs.Common.{◌<◌, ◌≡◌, length, subst, arith}
-use Rattle.lb_sim.proofs.RunningLanes.{running_none, running_more, running_all, RunningSoFar}
+use Rattle.std.proofs.Common.{arith}
+use Rattle.lb_sim.proofs.RunningLanes.{running_none, running_more, running_all}
 use Rattle.lb_sim.proofs.running.running_at.Goals as goal
 
 pub loop-i-init : goal.loop-i-init
@@ -8,10 +8,11 @@ loop-i-init c =
 
 pub loop-i-preserved : goal.loop-i-preserved
 loop-i-preserved c =
-    running_more c.args.set.now c.args.members.now c.args.t c.loop-i.lanes c.with_running-lanes.result
-    c.loop-i.until c.sooner-until.result c.loop-i.i c.length-end.result c.loop-i.invariant
-    (omega (arith, c.requires.few, c.loop-i-test.true)) c.length-end.ensures.instants
-    c.sooner-until.ensures.later c.sooner-until.ensures.until c.sooner-until.ensures.end c.with_running-lanes.ensures
+    let e = c.sooner-until.ensures in
+    running_more c.args.set.now c.args.members.now c.args.t c.loop-i.lanes
+    c.with_running-lanes.result c.loop-i.until c.sooner-until.result c.loop-i.i
+    c.length-end.result c.loop-i.invariant (omega (arith, c.requires.few, c.loop-i-test.true))
+    c.length-end.ensures.instants e.later e.until e.end c.with_running-lanes.ensures
 
 pub returns : goal.returns
 returns c =

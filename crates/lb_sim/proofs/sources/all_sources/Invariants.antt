@@ -4,5 +4,6 @@ use Rattle.lb_sim.proofs.sources.all_sources.Given as goal
 
 abbrev pub invariant-loop-i : goal.invariant-loop-i
 invariant-loop-i l =
-    IsCommitting (program_of l.program) l.places l.allotted.kept.items l.allotted.memory_plane
-    l.allotted.memory_word l.fn.code l.code l.planes.items l.words.items l.i
+    IsCommitting (program_of l.program) l.places l.allotted.kept.items l.held
+    l.allotted.memory_plane l.allotted.memory_word l.initial.code l.code l.planes.items
+    l.words.items l.i

@@ -1,4 +1,4 @@
-use Rattle.std.proofs.Common.{◌≡◌, [], ◌∷◌, ◌++◌, pos, All, IsTrue, ap, sym, ◌∙◌, subst}
+use Rattle.std.proofs.Common.{[], ◌∷◌, ◌++◌, pos, All, IsTrue, ap, sym, ◌∙◌, subst}
 use Rattle.lb_lanes.specs.Operators.{is_int}
 use Rattle.lb_sim.proofs.FirstPlaces.{one_zero}
 use Rattle.lb_sim.proofs.preset.Preset.new.Goals as goal

@@ -1,4 +1,4 @@
-use Rattle.lb_sim.proofs.Rooms.{zero_ints}
+use Rattle.lb_sim.proofs.ZeroLanes.{zero_ints}
 use Rattle.lb_sim.proofs.room.BatchRoom.new.Goals as goal
 
 pub invariant_of-result-clause-ints : goal.invariant_of-result-clause-ints

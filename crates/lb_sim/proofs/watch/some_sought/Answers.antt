@@ -1,18 +1,18 @@
 use Rattle.std.proofs.Common.{arith}
-use Rattle.lb_check.specs.Verdicts.{is_nil}
 use Rattle.lb_flat.specs.Programs.{numbers_of}
+use Rattle.lb_sim.specs.Watching.{is_sought}
 use Rattle.lb_sim.proofs.Growth.{place_grown, same_there}
 use Rattle.lb_sim.proofs.Watching.{watching_first, watching_next, watching_last, numbers_cut}
 use Rattle.lb_sim.proofs.Watching.{numbers_end}
-use Rattle.lb_sim.proofs.watch.some_nil.Goals as goal
+use Rattle.lb_sim.proofs.watch.some_sought.Goals as goal
 
 pub loop-i-init : goal.loop-i-init
 loop-i-init c =
-    watching_first is_nil c.args.code.now c.args.places.now (numbers_of c.args.elements.now)
-    c.args.above c.requires.above
+    watching_first (is_sought c.args.sought) c.args.code.now c.args.places.now
+    (numbers_of c.args.elements.now) c.args.above c.requires.above
 
-pub nil_plane-requires : goal.nil_plane-requires
-nil_plane-requires c =
+pub sought_plane-requires : goal.sought_plane-requires
+sought_plane-requires c =
     place_grown _ _ _ c.loop-i.invariant.grown
     (c.requires.places _ _ (c.requires.elements _ _ c.loop-i-test.true))
 
@@ -22,7 +22,7 @@ combine-requires-clause-left c =
 
 pub loop-i-preserved : goal.loop-i-preserved
 loop-i-preserved c =
-    watching_next is_nil _ _ _ _ _ _ _ c.loop-i.invariant _ _ _
+    watching_next (is_sought c.args.sought) _ _ _ _ _ _ _ c.loop-i.invariant _ _ _
     (numbers_cut c.args.elements.now c.loop-i.i _ c.loop-i-test.true)
     (c.requires.elements _ _ c.loop-i-test.true)
     (same_there _ _ _ _ (c.requires.elements _ _ c.loop-i-test.true)) _ _ _ _
@@ -34,5 +34,5 @@ returns-clause-grown c = c.loop-i.invariant.grown
 
 pub returns-clause-plane : goal.returns-clause-plane
 returns-clause-plane c =
-    watching_last is_nil _ _ _ _ _ _ _ c.loop-i.invariant
+    watching_last (is_sought c.args.sought) _ _ _ _ _ _ _ c.loop-i.invariant
     (numbers_end c.args.elements.now c.loop-i.i c.loop-i-test.false)
