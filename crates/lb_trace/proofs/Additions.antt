@@ -1,7 +1,7 @@
 -- One more record, by its parts.
 use Rattle.std.proofs.Common.{ℕ, ◌≡◌, ◌≢◌, ◌+◌, ◌*◌, Bool, true, false, ◌&&◌, ◌||◌, ◌==◌, not}
-use Rattle.std.proofs.Common.{if◌then◌else◌, List, [], ◌∷◌, length, Option, Some, None, Result, Ok}
-use Rattle.std.proofs.Common.{Err, refl, sym, ap, ◌∙◌, eq-eqb, nat_le, nat_lt}
+use Rattle.std.proofs.Common.{if◌then◌else◌, List, [], ◌∷◌, ◌++◌, length, Option, Some, None}
+use Rattle.std.proofs.Common.{Result, Ok, Err, refl, sym, ap, ◌∙◌, eq-eqb, nat_le, nat_lt}
 use Rattle.std.proofs.lemmas.Bool.{eqb-true, false_from_ne_true}
 use Rattle.std.proofs.lemmas.List.Folds.{list_any-append}
 use Rattle.std.specs.List.{All, list_any}
@@ -145,49 +145,22 @@ turn false true = refl
 turn false false = refl
 
 -- the names of the traces after a new one
-names_after : (b : Bool) (traces next : Traces) (name : List ℕ) (row : Row) (q : List ℕ)
-    → if◌then◌else◌ {A = Result Traces ℕ} b (Ok (with_trace traces name row)) (Err 18) ≡ Ok next
-    → list_any (λ t. bytes_eq q t.0) next
-    ≡ (bytes_eq name q || list_any (λ t. bytes_eq q t.0) traces)
-names_after true traces next name row q is =
-    let same : next ≡ with_trace traces name row = cc is in
-    let named : Trace → Bool = λ t. bytes_eq q t.0 in
-    ap (list_any named) same
-    ∙ list_any-append named traces ((name, row ∷ []) ∷ [])
-    ∙ turn (list_any named traces) (bytes_eq q name)
-    ∙ ap (λ b. b || list_any named traces) (bytes_eq-flip q name)
-names_after false traces next name row q is = cc is
+pub named-push : (traces : Traces) (t : Trace) (q : List ℕ)
+    → list_any (λ u. bytes_eq q u.0) (traces ++ t ∷ [])
+    ≡ (bytes_eq t.0 q || list_any (λ u. bytes_eq q u.0) traces)
+named-push traces t q =
+    let named : Trace → Bool = λ u. bytes_eq q u.0 in
+    list_any-append named traces (t ∷ []) ∙ turn (list_any named traces) (bytes_eq q t.0)
+    ∙ ap (λ b. b || list_any named traces) (bytes_eq-flip q t.0)
 
-pub start_cells-names : (elements : Elements) (name : List ℕ) (traces next : Traces)
-    (row : Option Row) (q : List ℕ)
-    → start_cells elements name traces row ≡ Ok next
-    → list_any (λ t. bytes_eq q t.0) next
+pub named-more : (traces : Traces) (name : List ℕ) (row : Row) (q : List ℕ)
+    → list_any (λ t. bytes_eq q t.0) (with_trace traces name row)
     ≡ (bytes_eq name q || list_any (λ t. bytes_eq q t.0) traces)
-start_cells-names elements name traces next None q is = cc is
-start_cells-names elements name traces next (Some row) q is =
-    names_after (nat_lt (length traces) 1000000
-    && nat_le ((instants_of traces + 1) * cells_of_instant elements) 67108864) traces next name row
-    q is
+named-more traces name row q = named-push traces (name, row ∷ []) q
 
 -- the names of the traces after one more row of the last
-same_row : (traces : Traces) (row : Row) (q : List ℕ)
+pub named-row : (traces : Traces) (row : Row) (q : List ℕ)
     → list_any (λ t. bytes_eq q t.0) (with_row traces row) ≡ list_any (λ t. bytes_eq q t.0) traces
-same_row [] row q = refl
-same_row (t ∷ []) row q = refl
-same_row (t ∷ u ∷ more) row q = ap (λ b. bytes_eq q t.0 || b) (same_row (u ∷ more) row q)
-
-same_names : (b : Bool) (traces next : Traces) (row : Row) (q : List ℕ)
-    → if◌then◌else◌ {A = Result Traces ℕ} b (Ok (with_row traces row)) (Err 18) ≡ Ok next
-    → list_any (λ t. bytes_eq q t.0) next ≡ list_any (λ t. bytes_eq q t.0) traces
-same_names true traces next row q is =
-    let same : next ≡ with_row traces row = cc is in
-    ap (list_any (λ (t : Trace). bytes_eq q t.0)) same ∙ same_row traces row q
-same_names false traces next row q is = cc is
-
-pub go_on_by-names : (elements : Elements) (traces next : Traces) (row : Option Row) (q : List ℕ)
-    → go_on_by elements traces row ≡ Ok next
-    → list_any (λ t. bytes_eq q t.0) next ≡ list_any (λ t. bytes_eq q t.0) traces
-go_on_by-names elements traces next None q is = cc is
-go_on_by-names elements traces next (Some row) q is =
-    same_names (nat_lt (length (last_rows traces)) 1000000
-    && nat_le ((instants_of traces + 1) * cells_of_instant elements) 67108864) traces next row q is
+named-row [] row q = refl
+named-row (t ∷ []) row q = refl
+named-row (t ∷ u ∷ more) row q = ap (λ b. bytes_eq q t.0 || b) (named-row (u ∷ more) row q)

@@ -1,9 +1,9 @@
 -- Cells are copied one after the other.
-use Rattle.std.proofs.Common.{ℕ, ◌≡◌, ◌<◌, ◌≤◌, ◌+◌, Bool, true, false, if◌then◌else◌, List, []}
+use Rattle.std.proofs.Common.{ℕ, ◌≡◌, ◌<◌, ◌+◌, Bool, true, false, if◌then◌else◌, List, []}
 use Rattle.std.proofs.Common.{◌∷◌}
 use Rattle.std.proofs.Common.{◌++◌, length, refl, sym, ap, ◌∙◌, arith, append_assoc}
 use Rattle.lb_trace.specs.Lines.{after_line, record_of}
-use Rattle.lb_trace.specs.Scan.{after_cell, cell_of, ends_cell, is_last_cell}
+use Rattle.lb_trace.specs.Scan.{after_cell, ends_cell, is_last_cell}
 use Rattle.lb_trace.specs.Spelling.{Record}
 
 -- what stands after a cell that is not the last one of its record is shorter

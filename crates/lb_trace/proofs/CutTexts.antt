@@ -1,6 +1,7 @@
 -- The records of a text that is cut at the end of a line.
 use Rattle.std.proofs.Common.{ℕ, ◌≡◌, ◌+◌, ◌-◌, ◌<◌, Bool, true, false, List, [], ◌∷◌, ◌++◌}
-use Rattle.std.proofs.Common.{length, get_or, map, take, drop, refl, sym, ap, ◌∙◌, arith, append_assoc}
+use Rattle.std.proofs.Common.{length, get_or, map, take, drop, refl, sym, ap, ◌∙◌, arith}
+use Rattle.std.proofs.Common.{append_assoc}
 use Rattle.std.specs.Prelude.{flat_map}
 use Rattle.std.specs.Borrow.{Bor}
 use Rattle.std.specs.List.{filter}
@@ -61,7 +62,8 @@ plain-cut before c after e =
 pub cut-found : (text : List ℕ) (i b : ℕ) → i < length text → b ≡ get_or text i 0
     → ends_line b ≡ true
     → plain_records text
-    ≡ plain_records (take i text) ++ plain_records (take (length text - (i + 1)) (drop (i + 1) text))
+    ≡ plain_records (take i text)
+    ++ plain_records (take (length text - (i + 1)) (drop (i + 1) text))
 cut-found text i b below is end =
     ap plain_records (sym (take-append-drop i text))
     ∙ ap (λ rest. plain_records (take i text ++ rest))

@@ -1,97 +1,216 @@
--- The digits at the front of a text, one byte after the other.
-use Rattle.std.proofs.Common.{ℕ, suc, pow-suc, ◌≡◌, ◌+◌, ◌-◌, ◌*◌, ◌<◌, ◌≤◌, ◌^◌, Bool, true, false, ◌&&◌}
-use Rattle.std.proofs.Common.{if◌then◌else◌, List, [], ◌∷◌, ◌++◌, length, get_or, take, refl, sym, ap}
-use Rattle.std.proofs.Common.{◌∙◌, arith}
+-- The digits at the front of a text, counted at once and added up one after the other.
+use Rattle.std.proofs.Common.{ℕ, zero, suc, pow-suc, ◌≡◌, ◌+◌, ◌-◌, ◌*◌, ◌/◌, ◌%◌, ◌<◌, ◌≤◌, ◌^◌}
+use Rattle.std.proofs.Common.{Bool, true, false, not, cond, leb, nat_lt, if◌then◌else◌, List, []}
+use Rattle.std.proofs.Common.{◌∷◌, ◌++◌, length, get_or, map, min, take, drop, replicate, Fits, w8}
+use Rattle.std.proofs.Common.{refl, sym, ap, ap₂, ◌∙◌, subst, arith}
+use Rattle.std.proofs.lemmas.Bool.{agree_below, agree_below_at, cases_lt}
 use Rattle.std.proofs.lemmas.Bool.Decides.{nat_tests}
-use Rattle.std.proofs.lemmas.List.{take_more}
-use Rattle.std.proofs.lemmas.List.Folds.{list_all-append}
+use Rattle.std.proofs.lemmas.List.{length-map, length-take-le, take-take, take_more, take_rest}
+use Rattle.std.proofs.lemmas.List.Folds.{list_all_at}
 use Rattle.std.proofs.lemmas.List.Sums.{fold-append}
+use Rattle.std.proofs.lemmas.Simd.{map-map, mask_l-mod, trailing_mask_l}
 use Rattle.std.specs.Char.{is_ascii_digit}
-use Rattle.std.specs.List.{list_all}
+use Rattle.std.specs.List.{list_all, prefix_len}
+use lib.Count.{count_trailing_zeros}
+use lib.Lanes.{mask_l, top, zip2}
 use Rattle.lb_trace.specs.Cells.{decimal}
-use Rattle.lb_trace.specs.Fronts.{HasDigits}
+use Rattle.lb_trace.specs.Fronts.{CountsDigits, HasValue, others, past_sign, sign_len}
 use Rattle.lb_trace.proofs.SmallNumbers.{and-parts, below}
 
--- among no byte there is no digit
-pub digits-none : (text : List ℕ) → HasDigits text 0 0 0 true
-digits-none text = record {
-  few = omega arith;
-  all = λ e. refl;
-  digits = refl;
-  spelled = refl;
-  small = omega arith;
-}
+abbrev other : ℕ → Bool
+other b = not (is_ascii_digit b)
+
+zip2-map : (h : ℕ → ℕ → ℕ) (f g : ℕ → ℕ) (xs : List ℕ)
+    → zip2 h (map f xs) (map g xs) ≡ map (λ x. h (f x) (g x)) xs
+zip2-map h f g [] = refl
+zip2-map h f g (x ∷ xs) = ap (λ r. h (f x) (g x) ∷ r) (zip2-map h f g xs)
+
+-- an operation on two vectors that were computed lane by lane from a third
+pub joined : (h : ℕ → ℕ → ℕ) (f g : ℕ → ℕ) (v : List ℕ) {a b : List ℕ}
+    → a ≡ map f v → b ≡ map g v → zip2 h a b ≡ map (λ x. h (f x) (g x)) v
+joined h f g v p q = ap₂ (zip2 h) p q ∙ zip2-map h f g v
+
+-- a vector of one value
+pub splat_is : (v : List ℕ) (n y : ℕ) → length v ≡ n → replicate n y ≡ map (λ _. y) v
+splat_is [] n y e = ap (λ k. replicate k y) (sym e)
+splat_is (x ∷ xs) n y e =
+    ap (λ k. replicate k y) (sym e) ∙ ap (λ r. y ∷ r) (splat_is xs (length xs) y refl)
+
+same_front : (p q : ℕ → Bool) (n : ℕ) (text : List ℕ)
+    → agree_below p q 256 ≡ true → ((k : ℕ) → Fits w8 (get_or text k 0))
+    → map p (take n text) ≡ map q (take n text)
+same_front p q zero text all fits = refl
+same_front p q (suc n) [] all fits = refl
+same_front p q (suc n) (b ∷ rest) all fits =
+    ap₂ (λ (x : Bool) (xs : List Bool). x ∷ xs) (agree_below_at p q 256 b all (fits 0).fits)
+    (same_front p q n rest all (λ k. fits (suc k)))
+
+-- the mask of lanes that were computed from the first bytes of a text
+pub others-of : (text : List ℕ) (n mask : ℕ) (z : List ℕ) (f : ℕ → ℕ)
+    → n ≤ length text → n ≤ 64 → ((k : ℕ) → Fits w8 (get_or text k 0))
+    → mask ≡ mask_l (map (top 7) z) % 2 ^ 64 → z ≡ map f (take n text)
+    → agree_below (λ x. top 7 (f x)) other 256 ≡ true
+    → mask ≡ others (take n text)
+others-of text n mask z f room few fits is lanes all =
+    let stops : ℕ → Bool = λ x. top 7 (f x) in
+    let v : List ℕ = take n text in
+    is ∙ ap (λ l. mask_l l % 2 ^ 64) (ap (map (top 7)) lanes ∙ map-map (top 7) f v)
+    ∙ mask_l-mod (map stops v) 64
+    (omega (arith, length-map v stops, length-take-le n text room))
+    ∙ ap mask_l (same_front stops other n text all fits)
+
+stops-within : (xs : List ℕ) → 0 < others xs → prefix_len (λ x. not (other x)) xs < length xs
+stops-within [] some = absurd (omega (arith, some))
+stops-within (x ∷ xs) some = by (other x) refl (λ left. stops-within xs left)
+  where
+    by : (b : Bool) → other x ≡ b
+        → (0 < others xs → prefix_len (λ y. not (other y)) xs < length xs)
+        → prefix_len (λ y. not (other y)) (x ∷ xs) < length (x ∷ xs)
+    by true e more = rw e (omega arith)
+    by false e more =
+        let left : 0 < others xs = omega (arith, rw e at some) in
+        rw e (omega (arith, more left))
+
+digits-before : (xs : List ℕ)
+    → list_all is_ascii_digit (take (prefix_len (λ x. not (other x)) xs) xs) ≡ true
+digits-before [] = refl
+digits-before (x ∷ xs) = by (is_ascii_digit x) refl (digits-before xs)
+  where
+    by : (b : Bool) → is_ascii_digit x ≡ b
+        → list_all is_ascii_digit (take (prefix_len (λ y. not (other y)) xs) xs) ≡ true
+        → list_all is_ascii_digit (take (prefix_len (λ y. not (other y)) (x ∷ xs)) (x ∷ xs))
+        ≡ true
+    by true e more =
+        let next : 1 + prefix_len (λ y. not (other y)) xs
+        ≡ suc (prefix_len (λ y. not (other y)) xs) = omega arith in
+        rw e (ap (λ m. list_all is_ascii_digit (take m (x ∷ xs))) next ∙ rw e more)
+    by false e more = rw e refl
+
+-- the digits at the front of some bytes, of which one is no digit
+front-counted : (xs : List ℕ) (count : ℕ) → length xs ≤ 64 → 0 < others xs
+    → count ≡ count_trailing_zeros 64 (others xs)
+    → (count < length xs) × (list_all is_ascii_digit (take count xs) ≡ true)
+front-counted xs count few some is =
+    let same : count ≡ prefix_len (λ x. not (other x)) xs =
+    is ∙ trailing_mask_l other 64 xs few some in (
+      omega (arith, same, stops-within xs some),
+      ap (λ n. list_all is_ascii_digit (take n xs)) same ∙ digits-before xs,
+    )
+
+half : (m : Bool) (r : ℕ) → (cond m 1 0 + 2 * r) / 2 ≡ r
+half true r = omega arith
+half false r = omega arith
+
+-- where the mask has no bit there are too many digits
+pub counts-none : (negative : Bool) (text : List ℕ) → CountsDigits negative text 8
+counts-none negative text = λ few. absurd (omega (arith, few))
+
+-- and else the lowest bit tells how many
+pub counts : (negative : Bool) (text : List ℕ) (mask after count : ℕ) → 7 < length text
+    → mask ≡ others (take 8 text) → after ≡ (if negative then mask / 2 else mask) → 0 < after
+    → count ≡ count_trailing_zeros 64 after → CountsDigits negative text count
+counts false text mask after count room is same some found =
+    let at : after ≡ others (take 8 text) = same ∙ is in
+    let long : length (take 8 text) ≡ 8 = length-take-le 8 text (omega arith) in
+    let both = front-counted (take 8 text) count (omega (arith, long))
+    (subst (λ m. 0 < m) at some) (found ∙ ap (count_trailing_zeros 64) at) in
+    λ few. (
+      omega (arith, both.0, long),
+      ap (list_all is_ascii_digit) (sym (take-take count 8 text (omega arith))) ∙ both.1,
+    )
+counts true [] mask after count room is same some found = absurd (omega arith)
+counts true (b ∷ rest) mask after count room is same some found =
+    let at : after ≡ others (take 7 rest) =
+    same ∙ ap (λ m. m / 2) is ∙ half (other b) (others (take 7 rest)) in
+    let long : length (take 7 rest) ≡ 7 = length-take-le 7 rest (omega arith) in
+    let both = front-counted (take 7 rest) count (omega (arith, long))
+    (subst (λ m. 0 < m) at some) (found ∙ ap (count_trailing_zeros 64) at) in
+    λ few. (
+      omega (arith, both.0, long),
+      ap (list_all is_ascii_digit) (sym (take-take count 7 rest (omega arith))) ∙ both.1,
+    )
+
+-- what stands after the sign
+pub sign-past : (negative : Bool) (text digits : List ℕ)
+    → digits ≡ (if negative then take (length text - 1) (drop 1 text) else text)
+    → digits ≡ past_sign negative text
+sign-past true text digits is = is ∙ take_rest text 1
+sign-past false text digits is = is
+
+past-long : (negative : Bool) (text : List ℕ) → 0 < length text
+    → length (past_sign negative text) + sign_len negative ≡ length text
+past-long true [] some = absurd (omega (arith, some))
+past-long true (b ∷ rest) some = omega arith
+past-long false text some = omega arith
+
+-- the digits after a sign have their bytes
+pub digits-long : (negative : Bool) (text digits : List ℕ) → 7 < length text
+    → digits ≡ past_sign negative text → length digits + sign_len negative ≡ length text
+digits-long negative text digits some is =
+    ap (λ (d : List ℕ). length d + sign_len negative) is
+    ∙ past-long negative text (omega arith)
+
+-- no byte spells 0
+pub value-none : (text : List ℕ) (count : ℕ) → HasValue text (min 0 count) 0
+value-none text count =
+    let none : min 0 count ≡ 0 = omega arith in rw none (refl, omega arith)
 
 digit-least : (b : ℕ) → is_ascii_digit b ≡ true → (48 ≤ b) × (b - 48 < 10)
 digit-least b e = (grind (arith, nat_tests), grind (arith, nat_tests))
 
--- a byte with which digits go on
-pub digit-from : (goes_on : Bool) (b : ℕ) (more : Bool) → more ≡ (goes_on && is_ascii_digit b)
-    → more ≡ true → 48 ≤ b
-digit-from goes_on b more is e =
-    (digit-least b (and-parts goes_on (is_ascii_digit b) (sym is ∙ e)).1).0
-
--- so few digits leave room for one more
-pub digits-small : (text : List ℕ) (most value count : ℕ) (goes_on : Bool) → most < 8
-    → HasDigits text most value count goes_on → value < 100000000
-digits-small text most value count goes_on most_few has =
-    below value count 8 has.small (omega (arith, has.few))
+-- a byte among the digits is one
+pub digit-at : (text : List ℕ) (at count : ℕ) → at < length text
+    → list_all is_ascii_digit (take count text) ≡ true → at < count
+    → is_ascii_digit (get_or text at 0) ≡ true
+digit-at text at zero room all few = absurd (omega (arith, few))
+digit-at [] at (suc count) room all few = absurd (omega (arith, room))
+digit-at (b ∷ rest) zero (suc count) room all few =
+    (and-parts (is_ascii_digit b) (list_all is_ascii_digit (take count rest)) all).0
+digit-at (b ∷ rest) (suc at) (suc count) room all few =
+    digit-at rest at count (omega (arith, room))
+    (and-parts (is_ascii_digit b) (list_all is_ascii_digit (take count rest)) all).1
+    (omega (arith, few))
 
 power-more : (n : ℕ) → 10 ^ (n + 1) ≡ 10 ^ n * 10
 power-more n =
     let next : n + 1 ≡ suc n = omega arith in ap (λ m. 10 ^ m) next ∙ pow-suc 10 n
 
-longer : (text front : List ℕ) (b value count next : ℕ) →
-    front ≡ take count text ++ b ∷ [] → is_ascii_digit b ≡ true →
-    list_all is_ascii_digit (take count text) ≡ true → value ≡ decimal (take count text) →
-    next ≡ value * 10 + (b - 48) →
-    (list_all is_ascii_digit front ≡ true) × (next ≡ decimal front)
-longer text front b value count next is digit all spelled more = (
-  ap (list_all is_ascii_digit) is ∙ list_all-append is_ascii_digit (take count text) (b ∷ [])
-      ∙ rw (all, digit) refl,
-  more ∙ ap (λ n. n * 10 + (b - 48)) spelled
-      ∙ sym (fold-append (λ n digit. n * 10 + (digit - 48)) 0 (take count text) (b ∷ []))
-      ∙ ap decimal (sym is),
-)
+-- so few digits leave room for one more
+pub value-small : (text : List ℕ) (at count value : ℕ) → at < 7
+    → HasValue text (min at count) value → value < 100000000
+value-small text at count value few has =
+    below value (min at count) 8 has.1 (omega (arith, few))
 
--- among one more byte
-pub digits-more :
-    (text : List ℕ) (most value count next after : ℕ) (goes_on more : Bool) →
-    most < length text → HasDigits text most value count goes_on →
-    more ≡ (goes_on && is_ascii_digit (get_or text most 0)) →
-    next ≡ (if more then value * 10 + (get_or text most 0 - 48) else value) →
-    after ≡ (if more then count + 1 else count) →
-    HasDigits text (most + 1) next after more
-digits-more text most value count next after goes_on more within has is value_is count_is =
-    by more refl
-  where
-    by : (m : Bool) → more ≡ m → HasDigits text (most + 1) next after more
-    by false e =
-        let same : next ≡ value = value_is ∙ rw e refl in
-        let as_many : after ≡ count = count_is ∙ rw e refl in
-        rw (same, as_many, e) record {
-          few = omega (arith, has.few);
-          all = λ h. cc h;
-          digits = has.digits;
-          spelled = has.spelled;
-          small = has.small;
-        }
-    by true e =
-        let parts = and-parts goes_on (is_ascii_digit (get_or text most 0)) (sym is ∙ e) in
-        let full : count ≡ most = has.all parts.0 in
-        let b : ℕ = get_or text most 0 in
-        let digit = digit-least b parts.1 in
-        let grown : next ≡ value * 10 + (b - 48) = value_is ∙ rw e refl in
-        let longer_by : after ≡ count + 1 = count_is ∙ rw e refl in
-        let front : take (count + 1) text ≡ take count text ++ b ∷ [] =
-        take_more text count 0 (omega (arith, full, within))
-        ∙ ap (λ n. take count text ++ get_or text n 0 ∷ []) full in
-        let both = longer text (take (count + 1) text) b value count next front parts.1 has.digits
-        has.spelled grown in
-        rw longer_by record {
-          few = omega (arith, has.few);
-          all = λ h. omega (arith, full);
-          digits = both.0;
-          spelled = both.1;
-          small = omega (arith, grown, digit.1, has.small, power-more count);
-        }
+-- a byte with which the digits go on
+pub digit-from : (text : List ℕ) (at count : ℕ) → at < length text
+    → list_all is_ascii_digit (take count text) ≡ true → nat_lt at count ≡ true
+    → 48 ≤ get_or text at 0
+digit-from text at count room all more =
+    (digit-least (get_or text at 0)
+    (digit-at text at count room all (grind (arith, nat_tests)))).0
+
+-- one more byte
+pub value-more : (text : List ℕ) (at count value next : ℕ) (more : Bool) → at < length text
+    → list_all is_ascii_digit (take count text) ≡ true → HasValue text (min at count) value
+    → more ≡ nat_lt at count
+    → next ≡ (if more then value * 10 + (get_or text at 0 - 48) else value)
+    → HasValue text (min (at + 1) count) next
+value-more text at count value next true room all has is grown =
+    let within : at < count = grind (arith, nat_tests, is) in
+    let so_far : min at count ≡ at = omega (arith, within) in
+    let after : min (at + 1) count ≡ at + 1 = omega (arith, within) in
+    let b : ℕ = get_or text at 0 in
+    let digit = digit-least b (digit-at text at count room all within) in
+    let had = rw so_far at has in
+    rw after (
+      grown ∙ ap (λ n. n * 10 + (b - 48)) had.0
+          ∙ sym (fold-append (λ n d. n * 10 + (d - 48)) 0 (take at text) (b ∷ []))
+          ∙ ap decimal (sym (take_more text at 0 room)),
+      omega (arith, grown, digit.1, had.1, power-more at),
+    )
+value-more text at count value next false room all has is grown =
+    let past : count ≤ at = grind (arith, nat_tests, is) in
+    let so_far : min at count ≡ count = omega (arith, past) in
+    let after : min (at + 1) count ≡ count = omega (arith, past) in
+    let had = rw so_far at has in
+    rw (after, grown) had

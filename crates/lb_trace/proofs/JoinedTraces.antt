@@ -125,7 +125,8 @@ traces-more traces before after next k below so_far more =
     more ∙ ap (λ is. is ++ one) so_far
     ∙ append_assoc before (instants (take k traces)) one
     ∙ ap (λ is. before ++ (instants (take k traces) ++ is)) (sym (append-nil one))
-    ∙ ap (λ is. before ++ is) (sym (flat_map-append rows_in (take k traces) (trace_at traces k ∷ [])))
+    ∙ ap (λ is. before ++ is)
+    (sym (flat_map-append rows_in (take k traces) (trace_at traces k ∷ [])))
     ∙ ap (λ ts. before ++ instants ts) (sym (take_more traces k ([], []) below))
 
 -- one more set

@@ -8,7 +8,7 @@ use Rattle.lb_flat.proofs.Recordings.{Front, front_of, last_rows-push}
 use Rattle.lb_trace.specs.Refusals.{is_last}
 use Rattle.lb_trace.proofs.Names.{is_last-push}
 
-last_at : (front : Traces) (t : Trace)
+pub last_at : (front : Traces) (t : Trace)
     → trace_at (front ++ t ∷ []) (length (front ++ t ∷ []) - 1) ≡ t
 last_at front t =
     let place : length (front ++ t ∷ []) - 1 ≡ length front = omega (arith, length_push front t) in

@@ -23,3 +23,4 @@ pub mod LineReadings
 pub mod JoinedTraces
 pub mod SpreadReadings
 pub mod Fronts
+pub mod KnownNames

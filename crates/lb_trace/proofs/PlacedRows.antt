@@ -1,6 +1,6 @@
 -- Rows of records whose columns stand in any order.
-use Rattle.std.proofs.Common.{ℕ, suc, zero, ◌≡◌, ◌<◌, List, [], ◌∷◌, length, get_or, map, Option, Some}
-use Rattle.std.proofs.Common.{None, ℤ, pos, refl, sym, ap, ◌∙◌, subst, arith, Bool, false}
+use Rattle.std.proofs.Common.{ℕ, suc, zero, ◌≡◌, ◌<◌, List, [], ◌∷◌, length, get_or, map, Option}
+use Rattle.std.proofs.Common.{Some, None, ℤ, pos, refl, sym, ap, ◌∙◌, subst, arith, Bool, false}
 use Rattle.std.proofs.Common.{if◌then◌else◌, Result, Ok, Err}
 use Rattle.std.specs.Prelude.{IfOk, IfSome, MatchOption}
 use Rattle.std.specs.Borrow.{Bor}

@@ -16,7 +16,7 @@ use Rattle.lb_syntax.specs.declared.tree.Kind.{Kind}
 use Rattle.lb_syntax.specs.declared.tree.Kind.TheVariants as kind
 use Rattle.lb_trace.specs.Cells.{bool_of, decimal, int_of, natural_of, signed}
 use Rattle.lb_trace.specs.Plain.{ends_line}
-use Rattle.lb_trace.specs.PlainRows.{BeginsWith, BeginsWithNumber, count_of, value_of}
+use Rattle.lb_trace.specs.PlainRows.{BeginsWith, BeginsWithNumber}
 use Rattle.lb_trace.specs.Scan.{cell_of, ends_cell}
 use Rattle.lb_trace.proofs.FirstCells.{Walked, after-cell-end, after-cell-more, cell-end, cell-more}
 use Rattle.lb_trace.proofs.FirstCells.{last-end, last-more, walked-end, walked-front, walked-start}
@@ -78,58 +78,6 @@ number-ended text i n is_last h some few small all e end =
       take_rest text (i + 1) ∙ sym at.1,
       end.1 ∙ sym at.2,
     )
-
-digit-small : (b : ℕ) → is_ascii_digit b ≡ true → b - 48 < 10
-digit-small b e = grind (arith, nat_tests)
-
--- one to three digits, and the byte that ends them
-pub short-ended : (text : List ℕ) (two three : Bool) (count n : ℕ) (is_last : Bool)
-    → 4 ≤ length text → is_ascii_digit (get_or text 0 0) ≡ true
-    → two ≡ is_ascii_digit (get_or text 1 0) → three ≡ is_ascii_digit (get_or text 2 0)
-    → count ≡ count_of two three
-    → n ≡ value_of two three (get_or text 0 0) (get_or text 1 0) (get_or text 2 0)
-    → (ends_cell (get_or text count 0) ≡ true) × (is_last ≡ ends_line (get_or text count 0))
-    → BeginsWithNumber text n (take (length text - (count + 1)) (drop (count + 1) text)) is_last
-short-ended [] two three count n is_last h d1 d2 d3 e v end = absurd (omega arith)
-short-ended (a ∷ []) two three count n is_last h d1 d2 d3 e v end = absurd (omega arith)
-short-ended (a ∷ b ∷ []) two three count n is_last h d1 d2 d3 e v end = absurd (omega arith)
-short-ended (a ∷ b ∷ c ∷ rest) false three count n is_last h d1 d2 d3 e v end =
-    let first = digit-small a d1 in
-    let all : list_all is_ascii_digit (take 1 (a ∷ b ∷ c ∷ rest)) ≡ true = rw d1 refl in
-    let value : n ≡ decimal (take 1 (a ∷ b ∷ c ∷ rest)) = omega (arith, v) in
-    let small : n < 10 ^ 1 = omega (arith, v) in
-    subst (λ m. (ends_cell (get_or (a ∷ b ∷ c ∷ rest) m 0) ≡ true)
-    × (is_last ≡ ends_line (get_or (a ∷ b ∷ c ∷ rest) m 0))
-    → BeginsWithNumber (a ∷ b ∷ c ∷ rest) n
-    (take (length (a ∷ b ∷ c ∷ rest) - (m + 1)) (drop (m + 1) (a ∷ b ∷ c ∷ rest))) is_last) (sym e)
-    (λ q. number-ended (a ∷ b ∷ c ∷ rest) 1 n is_last (omega arith) (omega arith) (omega arith)
-    small all value q) end
-short-ended (a ∷ b ∷ c ∷ rest) true false count n is_last h d1 d2 d3 e v end =
-    let first = digit-small a d1 in
-    let second = digit-small b (sym d2) in
-    let all : list_all is_ascii_digit (take 2 (a ∷ b ∷ c ∷ rest)) ≡ true = rw (d1, ← d2) refl in
-    let value : n ≡ decimal (take 2 (a ∷ b ∷ c ∷ rest)) = omega (arith, v) in
-    let small : n < 10 ^ 2 = omega (arith, v) in
-    subst (λ m. (ends_cell (get_or (a ∷ b ∷ c ∷ rest) m 0) ≡ true)
-    × (is_last ≡ ends_line (get_or (a ∷ b ∷ c ∷ rest) m 0))
-    → BeginsWithNumber (a ∷ b ∷ c ∷ rest) n
-    (take (length (a ∷ b ∷ c ∷ rest) - (m + 1)) (drop (m + 1) (a ∷ b ∷ c ∷ rest))) is_last) (sym e)
-    (λ q. number-ended (a ∷ b ∷ c ∷ rest) 2 n is_last (omega arith) (omega arith) (omega arith)
-    small all value q) end
-short-ended (a ∷ b ∷ c ∷ rest) true true count n is_last h d1 d2 d3 e v end =
-    let first = digit-small a d1 in
-    let second = digit-small b (sym d2) in
-    let third = digit-small c (sym d3) in
-    let all : list_all is_ascii_digit (take 3 (a ∷ b ∷ c ∷ rest)) ≡ true =
-    rw (d1, ← d2, ← d3) refl in
-    let value : n ≡ decimal (take 3 (a ∷ b ∷ c ∷ rest)) = omega (arith, v) in
-    let small : n < 10 ^ 3 = omega (arith, v) in
-    subst (λ m. (ends_cell (get_or (a ∷ b ∷ c ∷ rest) m 0) ≡ true)
-    × (is_last ≡ ends_line (get_or (a ∷ b ∷ c ∷ rest) m 0))
-    → BeginsWithNumber (a ∷ b ∷ c ∷ rest) n
-    (take (length (a ∷ b ∷ c ∷ rest) - (m + 1)) (drop (m + 1) (a ∷ b ∷ c ∷ rest))) is_last) (sym e)
-    (λ q. number-ended (a ∷ b ∷ c ∷ rest) 3 n is_last (omega arith) (omega arith) (omega arith)
-    small all value q) end
 
 minus-first : (rest : List ℕ) → natural_of (45 ∷ rest) ≡ None
 minus-first rest =

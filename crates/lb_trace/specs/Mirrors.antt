@@ -2,9 +2,10 @@
 use Rattle.std.specs.Prelude.{ℕ, ◌+◌, ◌*◌, ◌&&◌, nat_lt, nat_le, ◌≡◌, ◌==◌, ◌||◌, not}
 use Rattle.std.specs.Prelude.{if◌then◌else◌, List, [], ◌∷◌, length, get_or, Option, Some, None}
 use Rattle.std.specs.Prelude.{Result, Ok, Err}
-use Rattle.std.specs.HashSet.{HashSet, contains_text}
-use Rattle.std.specs.Prelude.{String}
-use Rattle.std.specs.Global.{Global}
+use Rattle.std.specs.Prelude.{Bool as Truth, true, false}
+use Rattle.std.specs.Cmp.Lexicographic.{slice_cmp}
+use Rattle.std.specs.HashSet.{contains_text}
+use Rattle.std.specs.Ordering.{is_lt, nat_cmp, on, then_cmp}
 use Rattle.std.specs.List.{list_any, position_or_len}
 use Rattle.std.specs.Option.{option_and_then, option_map}
 use Rattle.std.specs.Str.{bytes_eq}
@@ -12,6 +13,7 @@ use Rattle.lb_static.specs.Signature.{Element, Elements}
 use Rattle.lb_flat.specs.Traces.{IsRow, Row, Traces, cells_of_instant, instants_of, last_rows}
 use Rattle.lb_flat.specs.Traces.{with_row, with_trace}
 use Rattle.lb_trace.specs.declared.header.Column.{Column}
+use Rattle.lb_trace.specs.declared.known.Known.{Known}
 use Rattle.lb_trace.specs.Cells.{cell_value}
 use Rattle.lb_trace.specs.Refusals.{comes_back, is_last, is_trace_name, with_cells}
 use Rattle.lb_trace.specs.Spelling.{Record}
@@ -27,9 +29,24 @@ row_by (c ∷ more) cells =
     option_and_then (λ v. option_map (λ row. v ∷ row) (row_by more cells))
     (cell_value c.kind (get_or cells c.at []))
 
--- the set has the names of the traces
-abbrev pub knows : {S : Type 0} → HashSet (String Global) S → Traces → Type 0
-knows names traces = (q : List ℕ) → contains_text names q ≡ list_any (λ t. bytes_eq q t.0) traces
+-- whether a name is shorter than another, or as long and smaller
+abbrev pub is_below : List ℕ → List ℕ → Truth
+is_below name other = is_lt (then_cmp (on length nat_cmp) (slice_cmp nat_cmp) name other)
+
+-- whether a name rises above that of the last trace
+abbrev pub rises_to : Traces → List ℕ → Truth
+rises_to [] name = true
+rises_to (t ∷ []) name = is_below t.0 name
+rises_to (t ∷ u ∷ more) name = rises_to (u ∷ more) name
+
+-- the names of the traces are known: while they rise no trace has a name above the last one, and
+-- otherwise the set has them
+abbrev pub knows : Known → Traces → Type 0
+knows names traces =
+    (names.rising ≡ true → (q : List ℕ) → rises_to traces q ≡ true
+    → list_any (λ t. bytes_eq q t.0) traces ≡ false)
+    × (names.rising ≡ false → (q : List ℕ)
+    → contains_text names.set q ≡ list_any (λ t. bytes_eq q t.0) traces)
 
 -- the traces with one more record, by a table of columns
 abbrev pub record_by : Elements → List Column → ℕ → Traces → Record → Result Traces ℕ

@@ -1,6 +1,6 @@
 -- The row that the cells of a record without quotes spell, in the order of the text, and where the
 -- columns of the signature stand in it.
-use Rattle.std.specs.Prelude.{ℕ, suc, ◌≡◌, Bool, true, false, ◌+◌, ◌*◌, ◌-◌, List, [], ◌∷◌, ◌++◌}
+use Rattle.std.specs.Prelude.{ℕ, suc, ◌≡◌, Bool, List, [], ◌∷◌, ◌++◌}
 use Rattle.std.specs.Prelude.{Option, Some, None, ℤ, ◌<◌, length, get_or}
 use Rattle.std.specs.List.{All}
 use Rattle.std.specs.Option.{option_and_then, option_map}
@@ -49,16 +49,3 @@ abbrev pub BeginsWithNumber : List ℕ → ℕ → List ℕ → Bool → Type 0
 BeginsWithNumber text n rest is_last =
     (natural_of (cell_of text) ≡ Some n) × (n < 1000000000) × (rest ≡ after_cell text)
     × (is_last ≡ is_last_cell text)
-
--- how many digits stand at the front of three bytes of which the first is one, by whether the
--- second and the third are
-abbrev pub count_of : Bool → Bool → ℕ
-count_of false three = 1
-count_of true false = 2
-count_of true true = 3
-
--- the number that those digits spell
-abbrev pub value_of : Bool → Bool → ℕ → ℕ → ℕ → ℕ
-value_of false three a b c = a - 48
-value_of true false a b c = (a - 48) * 10 + (b - 48)
-value_of true true a b c = ((a - 48) * 10 + (b - 48)) * 10 + (c - 48)

@@ -9,6 +9,7 @@ pub mod error;
 mod front;
 mod header;
 mod joined;
+mod known;
 mod parts;
 mod placed_rows;
 mod plain;

@@ -1,7 +1,7 @@
 //! The row of a record without quotes, whose columns stand in any order.
 
-ghost use Rattle.std.specs.Prelude.{◌≡◌, ◌<◌, IsTrue, IfOk, IfSome, OnOk, Some, get_or, length, map};
-ghost use Rattle.std.specs.Prelude.{pos};
+ghost use Rattle.std.specs.Prelude.{◌≡◌, ◌<◌, IsTrue, IfOk, IfSome, OnOk, Some, get_or, length};
+ghost use Rattle.std.specs.Prelude.{map, pos};
 ghost use Rattle.std.specs.List.{All};
 ghost use Rattle.lb_trace.specs.Lines.{after_line, record_of};
 ghost use Rattle.lb_trace.specs.Mirrors.{row_by};

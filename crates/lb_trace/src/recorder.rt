@@ -1,36 +1,33 @@
 //! The traces of the records that have been read.
 
-ghost use Rattle.std.specs.Prelude.{◌≡◌, ◌<◌, ◌≤◌, ◌+◌, ◌*◌, ◌&&◌, ◌||◌, not, nat_le, nat_lt, true};
-ghost use Rattle.std.specs.Prelude.{false, ℕ, List, [], length, map, Ok, IfOk, IfErr, OnOk};
-ghost use Rattle.std.specs.Prelude.{MatchOption, if◌then◌else◌, IsTrue, IfSome, None, Some};
-ghost use Rattle.std.specs.HashSet.{contains_text};
-ghost use Rattle.std.specs.List.{Contains, list_any};
-ghost use Rattle.std.specs.Str.{bytes_eq};
+ghost use Rattle.std.specs.Prelude.{◌≡◌, ◌<◌, ◌≤◌, ◌+◌, ◌*◌, nat_le, nat_lt, [], length, map, Ok};
+ghost use Rattle.std.specs.Prelude.{IfOk, IfErr, OnOk, IsTrue, IfSome, None, Some};
+ghost use Rattle.std.specs.List.{Contains};
 ghost use Rattle.csv.specs.Records.{fields_of};
 ghost use Rattle.lb_flat.specs.Traces.{IsRecording, IsTraceName, cells_of_instant, instants_of};
 ghost use Rattle.lb_flat.specs.Traces.{IsRow, last_rows, trace_names};
-ghost use Rattle.lb_trace.specs.Errors.{IsRefusal, error_number};
+ghost use Rattle.lb_trace.specs.Errors.{IsRefusal};
 ghost use Rattle.lb_trace.specs.Mirrors.{RowsFollow, add_by, go_on_by, knows, record_by, row_by};
 ghost use Rattle.lb_trace.specs.Lines.{after_line, record_of};
 ghost use Rattle.lb_trace.specs.Mirrors.{start_by, start_cells};
 ghost use Rattle.lb_trace.specs.PlainRows.{AreInOrder, ArePlaced};
-ghost use Rattle.lb_trace.specs.Refusals.{is_last, is_trace_name as lawful_name, with_cells};
+ghost use Rattle.lb_trace.specs.Refusals.{is_last};
 ghost use Rattle.lb_trace.specs.Refusals.{has_room};
 ghost use Rattle.lb_trace.specs.Spelling.{after_first};
 
 use crate::copied::copy_record;
 use crate::error::TraceError;
 use crate::header::Column;
+use crate::known::Known;
 use crate::placed_rows::read_cells;
 use crate::record::width;
 use crate::rows::read_row;
 use crate::scan::next_cell;
 use crate::table::Table;
 use csv::ByteRecord;
-use lb_flat::traces::{TraceRows, TraceSet, is_trace_name};
+use lb_flat::traces::{TraceRows, TraceSet};
 use lb_static::signature::Signature;
 use std::alloc::{AllocError, Global};
-use std::collections::HashSet;
 
 /// The most cells of all traces together.
 const MOST_CELLS: usize = 67_108_864;
@@ -39,7 +36,7 @@ const MOST_CELLS: usize = 67_108_864;
 #[derive(Drop)]
 pub(crate) struct Recorder {
     pub(crate) rows: TraceRows,
-    pub(crate) names: HashSet<String>,
+    pub(crate) names: Known,
     pub(crate) row: Vec<i32>,
     values: Vec<i32>,
 }
@@ -96,38 +93,6 @@ pub(crate) fn push_to(rows: &mut TraceRows, row: &[i32], number: u64) -> Result<
     rows.push(row).map_err(TraceError::Memory)
 }
 
-// Takes a name among the names, where it is lawful and new.
-fn new_name<'a>(
-    alloc: Global,
-    names: &mut HashSet<String>,
-    name: &'a [u8],
-) -> Result<Option<&'a str>, TraceError>
-    ensures found { IfOk result (λ found. MatchOption found
-        ((lawful_name name.now && not (contains_text names.old name.now)) ≡ false)
-        (λ text. (text.now ≡ name.now) × IsTraceName name.now
-        × (contains_text names.old name.now ≡ false)
-        × ((q : List ℕ) → contains_text names.new q
-        ≡ (bytes_eq name.now q || contains_text names.old q)))) }
-    ensures memory { IfErr result (λ e. error_number e ≡ 0) }
-{
-    if !is_trace_name(name) {
-        return Ok(None);
-    }
-    let Ok(text) = str::from_utf8(name) else {
-        return Ok(None);
-    };
-    let Ok(key) = String::from_str(alloc, text) else {
-        return Err(TraceError::Memory(AllocError));
-    };
-    let Ok(is_new) = names.insert(key) else {
-        return Err(TraceError::Memory(AllocError));
-    };
-    if !is_new {
-        return Ok(None);
-    }
-    Ok(Some(text))
-}
-
 impl Recorder {
     /// No trace yet.
     pub(crate) fn new(alloc: Global, signature: &Signature) -> Result<Recorder, AllocError>
@@ -137,7 +102,7 @@ impl Recorder {
     {
         Ok(Recorder {
             rows: TraceRows::new(alloc, signature)?,
-            names: HashSet::new(alloc),
+            names: Known::new(alloc),
             row: Vec::new(alloc),
             values: Vec::new(alloc),
         })
@@ -324,7 +289,7 @@ impl Recorder {
             (start_by self.old.rows.signature name.now self.old.rows.traces
             (Some self.old.row.items))) }
     {
-        let Some(text) = new_name(alloc, &mut self.names, name)? else {
+        let Some(text) = self.names.take(alloc, self.rows.set(), name)? else {
             return Err(TraceError::Trace { record: number });
         };
         self.begin_row(text, number)
@@ -388,7 +353,7 @@ impl Recorder {
             (start_by self.old.rows.signature name.now self.old.rows.traces
             (row_by table.now (after_first (fields_of entry.now))))) }
     {
-        let Some(text) = new_name(alloc, &mut self.names, name)? else {
+        let Some(text) = self.names.take(alloc, self.rows.set(), name)? else {
             return Err(TraceError::Trace { record: number });
         };
         self.begin(text, table, entry, number)

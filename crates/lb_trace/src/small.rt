@@ -1,12 +1,13 @@
 //! Cells that are small numbers, read in one pass over their bytes.
 
-ghost use Rattle.std.specs.Prelude.{◌≡◌, ◌<◌, ◌≤◌, true, ◌==◌, ◌||◌, if◌then◌else◌, pos, IfSome};
+ghost use Rattle.std.specs.Prelude.{true, ◌≡◌, ◌<◌, ◌==◌, ◌||◌, if◌then◌else◌, pos, IfSome};
 ghost use Rattle.lb_trace.specs.Cells.{signed};
 ghost use Rattle.lb_trace.specs.Plain.{ends_line};
-ghost use Rattle.lb_trace.specs.PlainRows.{BeginsWith, BeginsWithNumber, count_of, value_of};
+ghost use Rattle.lb_trace.specs.Fronts.{past_sign};
+ghost use Rattle.lb_trace.specs.PlainRows.{BeginsWith, BeginsWithNumber};
 ghost use Rattle.lb_trace.specs.Scan.{ends_cell};
 
-use crate::front::front_of;
+use crate::front::{count_after, value_of};
 use crate::scan::end_of;
 use lb_static::signature::Kind;
 
@@ -62,7 +63,7 @@ fn small_int<'t>(text: &'t [u8], inner: bool) -> Option<Value<'t>>
     };
     let is_negative = *first == b'-';
     let digits = after_sign(is_negative, text, rest);
-    let number = any_number(digits, inner)?;
+    let number = any_number(is_negative, text, digits, inner)?;
     Some(Value {
         value: signed(is_negative, number.value),
         rest: number.rest,
@@ -88,83 +89,47 @@ fn signed(is_negative: bool, n: u32) -> i32
 }
 
 #[inline(always)]
-fn any_number<'t>(text: &'t [u8], inner: bool) -> Option<Number<'t>>
-    ensures { IfSome result (λ n. BeginsWithNumber text.now n.value n.rest.now n.is_last) }
+fn any_number<'t>(
+    is_negative: bool,
+    text: &[u8],
+    digits: &'t [u8],
+    inner: bool,
+) -> Option<Number<'t>>
+    requires { digits.now ≡ past_sign is_negative text.now }
+    ensures { IfSome result (λ n. BeginsWithNumber digits.now n.value n.rest.now n.is_last) }
 {
-    if let Some(number) = short_number(text, inner) {
+    if let Some(number) = long_number(is_negative, text, digits, inner) {
         return Some(number);
     }
-    if let Some(number) = long_number(text, inner) {
-        return Some(number);
-    }
-    small_number(text, inner)
+    small_number(digits, inner)
 }
 
-// A number of at most three digits. No branch depends on how many there are, which a processor
-// guesses badly.
+// A number of at most seven digits, which stand after the sign of a text. No branch depends on how
+// many there are, which a processor guesses badly.
 #[inline(always)]
-fn short_number<'t>(text: &'t [u8], inner: bool) -> Option<Number<'t>>
-    ensures { IfSome result (λ n. BeginsWithNumber text.now n.value n.rest.now n.is_last) }
-{
-    let [first, second, third, _, ..] = text else {
-        return None;
-    };
-    if !first.is_ascii_digit() {
-        return None;
-    }
-    let has_two = second.is_ascii_digit();
-    let has_three = third.is_ascii_digit();
-    let count = count_of(has_two, has_three);
-    let is_last = cell_end(text[count], inner)?;
-    Some(Number {
-        value: value_of(has_two, has_three, *first, *second, *third),
-        rest: &text[count + 1..],
-        is_last,
-    })
-}
-
-// How many digits stand at the front of three bytes, of which the first is one.
-#[inline(always)]
-fn count_of(has_two: bool, has_three: bool) -> usize
-    ensures { result ≡ count_of has_two has_three }
-{
-    let more = if has_three { 3 } else { 2 };
-    if has_two { more } else { 1 }
-}
-
-// The number that those digits spell.
-#[inline(always)]
-fn value_of(has_two: bool, has_three: bool, first: u8, second: u8, third: u8) -> u32
-    requires one { 48 ≤ first }
-    requires two { has_two ≡ true → 48 ≤ second }
-    requires three { has_three ≡ true → 48 ≤ third }
-    ensures { result ≡ value_of has_two has_three first second third }
-{
-    let one = u32::from(first) - 48;
-    let two = (u32::from(first) * 10 + u32::from(second)).wrapping_sub(528);
-    let three = (u32::from(first) * 100 + u32::from(second) * 10 + u32::from(third)).wrapping_sub(
-        5328,
-    );
-    let short = if has_two { two } else { one };
-    if has_two & has_three { three } else { short }
-}
-
-// A number of at most seven digits, read as a short one is.
-#[inline(always)]
-fn long_number<'t>(text: &'t [u8], inner: bool) -> Option<Number<'t>>
-    ensures { IfSome result (λ n. BeginsWithNumber text.now n.value n.rest.now n.is_last) }
+fn long_number<'t>(
+    is_negative: bool,
+    text: &[u8],
+    digits: &'t [u8],
+    inner: bool,
+) -> Option<Number<'t>>
+    requires { digits.now ≡ past_sign is_negative text.now }
+    ensures { IfSome result (λ n. BeginsWithNumber digits.now n.value n.rest.now n.is_last) }
 {
     if text.len() < 8 {
         return None;
     }
-    let front = front_of(text);
-    if front.count == 0 {
+    let count = count_after(is_negative, text);
+    if count == 0 {
         return None;
     }
-    let is_last = cell_end(text[front.count], inner)?;
+    if count > 7 {
+        return None;
+    }
+    let is_last = cell_end(digits[count], inner)?;
     Some(Number {
-        value: front.value,
-        rest: &text[front.count + 1..],
+        value: value_of(digits, count),
+        rest: &digits[count + 1..],
         is_last,
     })
 }

@@ -1,7 +1,7 @@
 //! The header of a text, as a table of columns, and how these stand in the text.
 
-ghost use Rattle.std.specs.Prelude.{◌≡◌, ◌<◌, ◌≤◌, IsTrue, IfOk, IfSome, MatchOption, false, length};
-ghost use Rattle.std.specs.Prelude.{true};
+ghost use Rattle.std.specs.Prelude.{◌≡◌, ◌<◌, ◌≤◌, IsTrue, IfOk, IfSome, MatchOption, false};
+ghost use Rattle.std.specs.Prelude.{length, true};
 ghost use Rattle.csv.specs.Records.{fields_of};
 ghost use Rattle.lb_trace.specs.PlainRows.{AreInOrder, ArePlaced, IsPlaced};
 ghost use Rattle.lb_trace.specs.Spelling.{is_header};

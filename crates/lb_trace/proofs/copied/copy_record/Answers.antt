@@ -1,7 +1,5 @@
-use Rattle.std.proofs.Common.{◌≡◌, ◌++◌, [], ◌∷◌, sym, ap, ◌∙◌, append_assoc}
-use Rattle.std.proofs.lemmas.List.{append-nil}
+use Rattle.std.proofs.Common.{◌++◌, sym, ap, ◌∙◌}
 use Rattle.csv.specs.Records.{fields_of}
-use Rattle.lb_trace.specs.Lines.{after_line, record_of}
 use Rattle.lb_trace.proofs.CopiedCells.{shorter-rest, cells-last, cells-more, line-last, line-more}
 use Rattle.lb_trace.proofs.copied.copy_record.Goals as goal
 

@@ -7,4 +7,5 @@ use Rattle.lb_trace.proofs.parts.parts_of.Given as goal
 abbrev pub invariant-cuts : goal.invariant-cuts
 invariant-cuts l =
     plain_records l.text
-    ≡ flat_map (λ (part : Bor (List ℕ)). plain_records part.now) l.parts.items ++ plain_records l.rest
+    ≡ flat_map (λ (part : Bor (List ℕ)). plain_records part.now) l.parts.items
+    ++ plain_records l.rest

@@ -1,5 +1,5 @@
 -- A text is read by its kind: without quotes in one pass, else by csv.
-use Rattle.std.proofs.Common.{◌≡◌, sym, ap, ◌∙◌, rules}
+use Rattle.std.proofs.Common.{sym, ap, ◌∙◌, rules}
 use Rattle.csv.specs.Reading.{default_config, records}
 use Rattle.lb_trace.specs.Spelling.{records_of}
 use Rattle.lb_trace.proofs.Outcomes.{outcome-long}

@@ -1,11 +1,18 @@
-use Rattle.std.proofs.Common.{arith}
+use Rattle.std.proofs.Common.{ap, sym, subst, ◌∙◌, arith, take, List, ℕ, ◌≡◌, true}
+use Rattle.std.specs.Char.{is_ascii_digit}
+use Rattle.std.specs.List.{list_all}
+use Rattle.lb_trace.proofs.Fronts.{digits-long}
 use Rattle.lb_trace.proofs.SmallNumbers.{number-ended}
 use Rattle.lb_trace.proofs.small.long_number.Goals as goal
 
 pub returns : goal.returns
 returns c =
-    let front = c.front_of-front.result in
-    let has = c.front_of-front.ensures in
-    number-ended c.args.text.now front.count front.value c.in_ok-is_last.is_last
-    (omega (arith, has.few)) (omega arith) (omega (arith, has.few)) has.small has.digits
-    has.spelled c.in_ok-is_last.ensures
+    let count = c.count_after-count.result in
+    let found = c.count_after-count.ensures (omega (arith, c.if-count-gt7.false)) in
+    let long = digits-long c.args.is_negative c.args.text.now c.args.digits.now
+    (omega (arith, c.if-text-lt8.false)) c.requires in
+    number-ended c.args.digits.now count c.value_of.result c.in_ok-is_last.is_last
+    (omega (arith, found.0, long)) (omega (arith, c.if-count-eq0.false))
+    (omega (arith, c.if-count-gt7.false)) c.value_of.ensures.small
+    (ap (λ (d : List ℕ). list_all is_ascii_digit (take count d)) c.requires ∙ found.1)
+    c.value_of.ensures.spelled c.in_ok-is_last.ensures

@@ -1,7 +1,12 @@
 use Rattle.std.proofs.Common.{rules, refl}
 use Rattle.lb_syntax.specs.declared.tree.Kind.TheVariants as kind
+use Rattle.lb_trace.proofs.Fronts.{sign-past}
 use Rattle.lb_trace.proofs.SmallNumbers.{begins-stored, int-either}
 use Rattle.lb_trace.proofs.small.small_int.Goals as goal
+
+pub any_number-requires : goal.any_number-requires
+any_number-requires c =
+    sign-past _ c.args.text.now c.after_sign-digits.result.now c.after_sign-digits.ensures
 
 pub returns : goal.returns
 returns c =

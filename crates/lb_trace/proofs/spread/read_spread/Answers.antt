@@ -30,5 +30,6 @@ returns-clause-spelled g c =
     ∙ ap (λ (parts : List (Bor (List ℕ))).
     flat_map (λ (part : Bor (List ℕ)). plain_records part.now) parts) (sym c.deref.ensures.value))
     read found.0 found.1
-    (found.2 ∙ ap (λ (sets : List Recording). flat_map (λ (one : Recording). instants one.traces) sets)
+    (found.2
+    ∙ ap (λ (sets : List Recording). flat_map (λ (one : Recording). instants one.traces) sets)
     c.deref-2.ensures.value))

@@ -1,4 +1,4 @@
-use Rattle.std.proofs.Common.{subst, rules, sym, arith, length}
+use Rattle.std.proofs.Common.{subst, rules, arith}
 use Rattle.std.proofs.lemmas.List.{take_all}
 use Rattle.lb_syntax.specs.declared.tree.Kind.TheVariants.{Int}
 use Rattle.lb_trace.specs.PlainRows.{AreInOrder}

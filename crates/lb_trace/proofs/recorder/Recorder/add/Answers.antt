@@ -1,14 +1,14 @@
 -- A record is one more instant of the last trace, or the first of another.
-use Rattle.std.proofs.Common.{◌≡◌, Ok, sym, ap, ◌∙◌, inr, ℕ, List}
+use Rattle.std.proofs.Common.{◌≡◌, Ok, sym, ap, ◌∙◌, inr, subst}
 use Rattle.std.proofs.lemmas.Result.{on_ok_weaker}
-use Rattle.std.specs.HashSet.{contains_text}
 use Rattle.csv.specs.Records.{fields_of}
 use Rattle.lb_flat.specs.Traces.{Recording}
-use Rattle.lb_trace.specs.Mirrors.{go_on_by, record_by, row_by, start_by}
+use Rattle.lb_trace.specs.declared.known.Known.{Known}
+use Rattle.lb_trace.specs.Mirrors.{go_on_by, knows, record_by, row_by, start_by}
 use Rattle.lb_trace.specs.Refusals.{is_last}
 use Rattle.lb_trace.specs.Spelling.{after_first}
-use Rattle.lb_trace.proofs.Additions.{go_on_by-names, record_by-last, record_by-none}
-use Rattle.lb_trace.proofs.Additions.{record_by-other}
+use Rattle.lb_trace.proofs.Additions.{record_by-last, record_by-none, record_by-other}
+use Rattle.lb_trace.proofs.KnownNames.{go_on_by-knows}
 use Rattle.lb_trace.proofs.recorder.Recorder.add.Goals as goal
 
 pub returns-in_default-clause-err : goal.returns-in_default-clause-err
@@ -41,11 +41,11 @@ returns-then-is_last-clause-names c =
     (λ (gone : go_on_by c.args.self.now.rows.signature c.args.self.now.rows.traces
     (row_by c.args.table.now (after_first (fields_of c.args.entry.now)))
     ≡ Ok c.go_on.new.self.rows.traces).
-    λ (q : List ℕ).
-    ap (λ names. contains_text names q) c.go_on.ensures.names ∙ c.requires.names q
-    ∙ sym (go_on_by-names c.args.self.now.rows.signature c.args.self.now.rows.traces
-    c.go_on.new.self.rows.traces
-    (row_by c.args.table.now (after_first (fields_of c.args.entry.now))) q gone))
+    subst (λ (names : Known). knows names c.go_on.new.self.rows.traces)
+    (sym c.go_on.ensures.names)
+    (go_on_by-knows c.args.self.now.names c.args.self.now.rows.signature
+    c.args.self.now.rows.traces c.go_on.new.self.rows.traces
+    (row_by c.args.table.now (after_first (fields_of c.args.entry.now))) gone c.requires.names))
     c.go_on.ensures.ok
 
 other : (c : goal.After-start)

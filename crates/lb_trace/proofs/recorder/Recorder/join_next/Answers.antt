@@ -1,9 +1,9 @@
 -- A row of the last trace is one more instant, and takes no name.
-use Rattle.std.proofs.Common.{ℕ, ◌≡◌, Ok, Some, List, sym, ◌∙◌}
+use Rattle.std.proofs.Common.{◌≡◌, Ok, Some}
 use Rattle.std.proofs.lemmas.Result.{on_ok_weaker}
 use Rattle.lb_trace.specs.Mirrors.{go_on_by}
-use Rattle.lb_trace.proofs.Additions.{go_on_by-names}
 use Rattle.lb_trace.proofs.JoinedTraces.{added-on, instants-added, last-added}
+use Rattle.lb_trace.proofs.KnownNames.{go_on_by-knows}
 use Rattle.lb_trace.proofs.Soundness.{some_last}
 use Rattle.lb_trace.proofs.recorder.Recorder.join_next.Goals as goal
 
@@ -40,7 +40,6 @@ returns-clause-names c =
     let next = c.push_to.new.rows.traces in
     on_ok_weaker c.push_to.result
     (λ (good : go_on_by elements traces (Some c.args.row.now) ≡ Ok next).
-    λ (q : List ℕ).
-    c.requires.names q
-    ∙ sym (go_on_by-names elements traces next (Some c.args.row.now) q good))
+    go_on_by-knows c.args.self.now.names elements traces next (Some c.args.row.now) good
+    c.requires.names)
     c.push_to.ensures.ok

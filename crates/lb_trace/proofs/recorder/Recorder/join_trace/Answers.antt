@@ -1,5 +1,5 @@
 -- The first row of a trace, and the others.
-use Rattle.std.proofs.Common.{◌≡◌, length, sym, ap, ◌∙◌, arith}
+use Rattle.std.proofs.Common.{◌≡◌, sym, ap, ◌∙◌, arith}
 use Rattle.lb_flat.specs.Traces.{trace_at}
 use Rattle.lb_trace.specs.Refusals.{is_last}
 use Rattle.lb_trace.specs.Spelling.{instants}
@@ -10,7 +10,8 @@ pub loop-t-init : goal.loop-t-init
 loop-t-init c =
     let trace = trace_at c.args.set.now.traces c.args.k in
     let next = c.join_row.new.self.rows.traces in
-    let same : c.as_bytes-name.result.now ≡ trace.0 = c.as_bytes-name.ensures.value ∙ c.name.ensures in
+    let same : c.as_bytes-name.result.now ≡ trace.0 =
+    c.as_bytes-name.ensures.value ∙ c.name.ensures in
     record {
       added = first-row trace.0 c.as_bytes-name.result.now (instants c.args.self.now.rows.traces)
           (instants next) trace.1 c.row.result.now

@@ -1,0 +1,192 @@
+-- The names of the traces stay known while traces are added.
+use Rattle.std.proofs.Common.{ℕ, ◌≡◌, ◌+◌, ◌*◌, ◌<◌, ◌-◌, Bool, true, false, ◌&&◌, ◌||◌, List, []}
+use Rattle.std.proofs.Common.{◌∷◌, ◌++◌, if◌then◌else◌, length, take, Option, Some, None, Result, Ok}
+use Rattle.std.proofs.Common.{Err, refl, sym, ap, ◌∙◌, subst, nat_le, nat_lt, arith}
+use Rattle.std.proofs.lemmas.Cmp.{nat_cmp_total, nat_list_cmp_total, on_total, then_total}
+use Rattle.std.proofs.lemmas.Cmp.{tied_itself}
+use Rattle.std.proofs.lemmas.List.{take_more}
+use Rattle.std.specs.Cmp.{IsTotalOrder}
+use Rattle.std.specs.Cmp.Lexicographic.{slice_cmp}
+use Rattle.std.specs.HashSet.{contains_text}
+use Rattle.std.specs.List.{list_any}
+use Rattle.std.proofs.Common.{Equal, Greater, Less, Ordering}
+use Rattle.std.specs.Ordering.{is_lt, nat_cmp, on, then_cmp}
+use Rattle.std.specs.Str.{bytes_eq}
+use Rattle.lb_static.specs.Signature.{Elements}
+use Rattle.lb_flat.specs.Traces.{Row, Trace, Traces, cells_of_instant, instants_of, last_rows}
+use Rattle.lb_flat.specs.Traces.{trace_at, with_row, with_trace}
+use Rattle.lb_flat.proofs.Recordings.{Front, front_of}
+use Rattle.lb_trace.specs.declared.known.Known.{Known}
+use Rattle.lb_trace.specs.Mirrors.{go_on_by, is_below, knows, rises_to, start_cells}
+use Rattle.lb_trace.proofs.Additions.{named-more, named-push, named-row}
+use Rattle.lb_trace.proofs.Lasts.{last_at}
+use Rattle.lb_trace.proofs.Names.{bytes_eq-flip, bytes_eq-other}
+
+order : IsTotalOrder (then_cmp (on (length {A = ℕ}) nat_cmp) (slice_cmp nat_cmp))
+order = then_total (on_total (length {A = ℕ}) nat_cmp_total) nat_list_cmp_total
+
+is_less : (o : Ordering) → is_lt o ≡ true → o ≡ Less
+is_less Less h = refl
+is_less Equal h = cc h
+is_less Greater h = cc h
+
+not_less : (o : Ordering) → o ≡ Equal → is_lt o ≡ false
+not_less o is = ap is_lt is
+
+below-more : (a b c : List ℕ) → is_below a b ≡ true → is_below b c ≡ true → is_below a c ≡ true
+below-more a b c one two =
+    let R : List ℕ → List ℕ → Ordering =
+    then_cmp (on (length {A = ℕ}) nat_cmp) (slice_cmp nat_cmp) in
+    ap is_lt (order.trans a b c (is_less (R a b) one) (is_less (R b c) two))
+
+below-other : (a b : List ℕ) → is_below a b ≡ true → bytes_eq b a ≡ false
+below-other a b below =
+    let R : List ℕ → List ℕ → Ordering =
+    then_cmp (on (length {A = ℕ}) nat_cmp) (slice_cmp nat_cmp) in
+    bytes_eq-other b a (λ (same : b ≡ a).
+    let no : is_below a b ≡ false =
+    ap (is_below a) same ∙ not_less (R a a) (tied_itself order a) in
+    cc (below, no))
+
+rises-push : (name : List ℕ) (front : Traces) (t : Trace)
+    → rises_to (front ++ t ∷ []) name ≡ is_below t.0 name
+rises-push name [] t = refl
+rises-push name (u ∷ []) t = refl
+rises-push name (u ∷ v ∷ more) t = rises-push name (v ∷ more) t
+
+rises-more : (traces : Traces) (name q : List ℕ)
+    → rises_to traces name ≡ true → is_below name q ≡ true → rises_to traces q ≡ true
+rises-more [] name q up over = refl
+rises-more (t ∷ []) name q up over = below-more t.0 name q up over
+rises-more (t ∷ u ∷ more) name q up over = rises-more (u ∷ more) name q up over
+
+rises-row : (traces : Traces) (row : Row) (q : List ℕ)
+    → rises_to (with_row traces row) q ≡ rises_to traces q
+rises-row [] row q = refl
+rises-row (t ∷ []) row q = refl
+rises-row (t ∷ u ∷ []) row q = refl
+rises-row (t ∷ u ∷ v ∷ more) row q = rises-row (u ∷ v ∷ more) row q
+
+-- every name rises above none
+pub rises-none : (traces : Traces) (name : List ℕ) → length traces ≡ 0
+    → true ≡ rises_to traces name
+rises-none [] name none = refl
+rises-none (t ∷ more) name none = absurd (omega (arith, none))
+
+-- the last trace is that at the last place
+pub rises_at : (name : List ℕ) (traces : Traces) (n : ℕ) → 0 < length traces
+    → n ≡ length traces - 1
+    → is_below (trace_at traces n).0 name ≡ rises_to traces name
+rises_at name traces n some at =
+    let f : Front traces = front_of traces some in
+    sym (ap (λ ts. rises_to ts name) f.is ∙ rises-push name f.front f.last
+    ∙ ap (λ (t : Trace). is_below t.0 name) (sym (last_at f.front f.last))
+    ∙ ap (λ ts. is_below (trace_at ts (length ts - 1)).0 name) (sym f.is)
+    ∙ ap (λ k. is_below (trace_at traces k).0 name) (sym at))
+
+-- no trace is known
+pub knows-none : (names : Known) → names.rising ≡ true → knows names []
+knows-none names rising =
+    (λ is q up. refl, λ (is : names.rising ≡ false). cc (rising, is))
+
+-- where the names rise a name that rises above them is new
+pub risen-new : (names : Known) (traces : Traces) (name : List ℕ) → knows names traces
+    → (names.rising && rises_to traces name) ≡ true
+    → list_any (λ t. bytes_eq name t.0) traces ≡ false
+risen-new names traces name known both = by names.rising refl
+  where
+    by : (b : Bool) → names.rising ≡ b → list_any (λ (t : Trace). bytes_eq name t.0) traces ≡ false
+    by true is = known.0 is name (ap (λ b. b && rises_to traces name) (sym is) ∙ both)
+    by false is =
+        let no : (names.rising && rises_to traces name) ≡ false =
+        ap (λ b. b && rises_to traces name) is in
+        cc (both, no)
+
+-- and the names rise with it too
+pub risen-knows : (names : Known) (traces : Traces) (name : List ℕ) (row : Row)
+    → knows names traces → (names.rising && rises_to traces name) ≡ true
+    → knows names (with_trace traces name row)
+risen-knows names traces name row known both = by names.rising refl
+  where
+    up : names.rising ≡ true → rises_to traces name ≡ true
+    up is = ap (λ b. b && rises_to traces name) (sym is) ∙ both
+
+    above : names.rising ≡ true → (q : List ℕ) → rises_to (with_trace traces name row) q ≡ true
+        → list_any (λ (t : Trace). bytes_eq q t.0) (with_trace traces name row) ≡ false
+    above is q rises =
+        let over : is_below name q ≡ true = sym (rises-push q traces (name, row ∷ [])) ∙ rises in
+        let none : list_any (λ (t : Trace). bytes_eq q t.0) traces ≡ false =
+        known.0 is q (rises-more traces name q (up is) over) in
+        let other : bytes_eq name q ≡ false = bytes_eq-flip name q ∙ below-other name q over in
+        named-more traces name row q
+        ∙ ap (λ b. b || list_any (λ (t : Trace). bytes_eq q t.0) traces) other
+        ∙ none
+
+    by : (b : Bool) → names.rising ≡ b → knows names (with_trace traces name row)
+    by true is = (above, λ (no : names.rising ≡ false). cc (is, no))
+    by false is =
+        let no : (names.rising && rises_to traces name) ≡ false =
+        ap (λ b. b && rises_to traces name) is in
+        cc (both, no)
+
+-- a set of all names that takes one more
+pub gathered-knows : (names : Known) (traces : Traces) (name : List ℕ) (row : Row)
+    → names.rising ≡ false
+    → ((q : List ℕ) → contains_text names.set q
+    ≡ (bytes_eq name q || list_any (λ t. bytes_eq q t.0) traces))
+    → knows names (with_trace traces name row)
+gathered-knows names traces name row risen has = (
+  λ (is : names.rising ≡ true). cc (risen, is),
+  λ is q. has q ∙ sym (named-more traces name row q),
+)
+
+knows-row : (names : Known) (traces : Traces) (row : Row) → knows names traces
+    → knows names (with_row traces row)
+knows-row names traces row known = (
+  λ is q rises. named-row traces row q ∙ known.0 is q (sym (rises-row traces row q) ∙ rises),
+  λ is q. known.1 is q ∙ sym (named-row traces row q),
+)
+
+ok_is : (b : Bool) (x next : Traces) (n : ℕ)
+    → if◌then◌else◌ {A = Result Traces ℕ} b (Ok x) (Err n) ≡ Ok next → x ≡ next
+ok_is true x next n is = cc is
+ok_is false x next n is = cc is
+
+-- the names after one more row of the last trace
+pub go_on_by-knows : (names : Known) (elements : Elements) (traces next : Traces)
+    (row : Option Row)
+    → go_on_by elements traces row ≡ Ok next → knows names traces → knows names next
+go_on_by-knows names elements traces next None is known = cc is
+go_on_by-knows names elements traces next (Some row) is known =
+    subst (knows names)
+    (ok_is (nat_lt (length (last_rows traces)) 1000000
+    && nat_le ((instants_of traces + 1) * cells_of_instant elements) 67108864)
+    (with_row traces row) next 18 is)
+    (knows-row names traces row known)
+
+-- the names after one more trace
+pub start_cells-knows : (names : Known) (elements : Elements) (name : List ℕ)
+    (traces next : Traces) (row : Option Row)
+    → start_cells elements name traces row ≡ Ok next
+    → ((first : Row) → knows names (with_trace traces name first)) → knows names next
+start_cells-knows names elements name traces next None is known = cc is
+start_cells-knows names elements name traces next (Some row) is known =
+    subst (knows names)
+    (ok_is (nat_lt (length traces) 1000000
+    && nat_le ((instants_of traces + 1) * cells_of_instant elements) 67108864)
+    (with_trace traces name row) next 18 is)
+    (known row)
+
+-- one more name of a list is in a set
+pub names-more : (traces : Traces) (before after : List ℕ → Bool) (k : ℕ) (q : List ℕ)
+    (name : List ℕ)
+    → k < length traces → name ≡ (trace_at traces k).0
+    → after q ≡ (bytes_eq name q || before q)
+    → before q ≡ list_any (λ t. bytes_eq q t.0) (take k traces)
+    → after q ≡ list_any (λ t. bytes_eq q t.0) (take (k + 1) traces)
+names-more traces before after k q name below same put so_far =
+    let named : Trace → Bool = λ t. bytes_eq q t.0 in
+    put ∙ ap (λ b. bytes_eq name q || b) so_far
+    ∙ ap (λ n. bytes_eq n q || list_any named (take k traces)) same
+    ∙ sym (named-push (take k traces) (trace_at traces k) q)
+    ∙ ap (list_any named) (sym (take_more traces k ([], []) below))
