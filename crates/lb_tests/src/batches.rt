@@ -375,8 +375,9 @@ pub fn push_lanes_of(alloc: Global, asked: &str, said: &mut String) -> Result<()
 
 // ## Rows
 
-/// The lanes of one batch in each order; of sixty-five lengths, so that the second batch has one
-/// trace; of traces of which some end early, one of these replaced, and step by step.
+/// The lanes of one batch in each order; of traces in which a clock ticks first at other instants,
+/// and in which a memory stays nil for other whiles; of sixty-five lengths, so that the second
+/// batch has one trace; of traces of which some end early, one of these replaced, and step by step.
 const BATCHES: &str = "\
 0 1 2;0 2 1;1 0 2;1 2 0;2 0 1;2 1 0
 node cnt(x: int) returns (n: int); let n = x -> pre n + x; tel
@@ -415,6 +416,92 @@ b passed
 d false 2
 b passed
 a passed
+%case
+0;1 0;3 0;2 0 4;0 1 2 3 4 5 6
+node cnt(x: int) returns (n: int); let n = x -> pre n + x; tel
+node main(c: bool; x, e: int) returns (ok: bool);
+var m: int;
+let m = current (cnt(x when c)); ok = if e < 0 then true else m = e; tel
+%traces
+trace,c,x,e
+a,1,5,5
+a,0,9,5
+a,1,2,7
+a,0,9,6
+b,0,9,-1
+b,0,9,-1
+b,1,4,4
+b,1,3,7
+b,0,9,8
+d,0,1,-1
+d,0,1,-1
+d,0,1,-1
+d,0,1,-1
+f,0,1,-1
+f,0,1,0
+g,0,1,-1
+g,1,2,2
+g,0,5,2
+g,1,3,4
+h,1,7,7
+h,1,1,8
+i,1,2147483647,2147483647
+i,0,1,2147483647
+i,1,1,-1
+%answer
+a false 3
+b false 4
+a false 3
+f undefined 1
+a false 3
+d passed
+a false 3
+g false 3
+a false 3
+b false 4
+d passed
+f undefined 1
+g false 3
+h passed
+i fault 2
+%case
+0;1 0;2 3;0 1 2 3
+node main(c: bool; x, e: int) returns (ok: bool);
+var p, q: int;
+let
+  p = pre (pre x);
+  q = current (pre (x when c));
+  ok = if e < 0 then true else p + q = e;
+tel
+%traces
+trace,c,x,e
+a,1,1,-1
+a,1,2,-1
+a,0,3,2
+a,1,4,4
+b,1,1,-1
+b,0,2,-1
+b,0,3,-1
+b,1,4,3
+b,1,5,7
+b,0,6,9
+d,1,1,-1
+d,0,2,-1
+d,0,3,1
+f,1,1,-1
+f,1,2,-1
+f,0,3,2
+f,1,4,5
+%answer
+a passed
+b false 5
+a passed
+d undefined 2
+f false 3
+a passed
+b false 5
+d undefined 2
+f false 3
 %case
 2;2 2 0
 node main(x: int) returns (ok: bool); let ok = pre x = 1; tel

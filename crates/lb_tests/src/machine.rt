@@ -256,14 +256,15 @@ pub fn push_results(alloc: Global, asked: &str, said: &mut String) -> Result<(),
 // Two planes, then lanes 0 and 1 of two words, and commands; how many instructions that takes, and
 // the places that they give. `~` is "and not", `?` chooses a plane, `l` is "at most", and `b`
 // chooses a word; behind the operands of an operator stands the plane of its lanes, and its faults
-// follow its results. Where what is asked is there already, no instruction is made.
+// follow its results. Where what is asked is there already, no instruction is made; `^` first makes a
+// plane that is not the second one.
 const CODES: &str = "\
 12 10 0 0 0 0 | & 2 3, | 2 3, ^ 2 3, ~ 2 3, ~ 3 2, ~ 1 2 => \
-6: 4=8 5=14 6=6 7=4 8=2 9=18446744073709551603
+7: 4=8 5=14 7=6 8=4 9=2 10=18446744073709551603
 12 10 0 0 0 0 | & 2 1, & 0 2, | 2 0, | 2 1, ^ 2 0, ^ 3 3, ~ 2 0, ~ 2 2 => \
-0: 2=12 0=0 2=12 1=18446744073709551615 2=12 0=0 2=12 0=0
+2: 2=12 0=0 2=12 1=18446744073709551615 2=12 5=0 2=12 0=0
 12 10 0 0 0 0 | & 3 3, & 1 2, | 3 3, | 0 3, ^ 0 2, ^ 2 1, ~ 2 1, ~ 0 3 => \
-1: 3=10 2=12 3=10 3=10 2=12 4=18446744073709551603 0=0 0=0
+2: 3=10 2=12 3=10 3=10 2=12 5=18446744073709551603 0=0 0=0
 5 12 0 0 0 0 | ? 2 3 1, ? 3 2 0, ? 1 2 3, ? 0 2 3, ? 2 3 3 => \
 2: 4=18446744073709551614 5=4 2=5 3=12 3=12
 5 12 3 -4 3 7 | = 1 2, < 1 2, l 1 2, < 2 1, l 2 1, = 1 1 => \
