@@ -24,6 +24,7 @@ pub mod InstanceRows
 pub mod Specialized
 pub mod Instantiated
 pub mod KeyedSpecializations
+pub mod CalledSpecializations
 pub mod LinkedSpecializations
 pub mod CallGraphs
 pub mod CycleSearch

@@ -17,8 +17,7 @@ use std::alloc::{AllocError, Global};
 fn callee(reached: &Reached, call: &CallSite) -> Option<usize>
     ensures { result ≡ callee_of reached.now call.now }
 {
-    let id = (*reached.ids.get(call.callee.0)?)?;
-    let place = id.0;
+    let place = reached.called(call)?.0;
     if place < reached.nodes.len() {
         Some(place)
     } else {

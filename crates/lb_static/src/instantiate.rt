@@ -71,7 +71,7 @@ fn callee_of<'a>(reached: &Reached, site: &CallSite, statics: &'a [StaticInt]) -
         Some(count) => size_of(statics[count.0]) as u32,
         None => 1,
     };
-    let node = reached.ids[site.callee.0].unwrap();
+    let node = reached.called(site).unwrap();
     Callee {
         node,
         values: &statics[first..first + site.arguments],

@@ -1,6 +1,9 @@
 //! The nodes that are reached by name from the node under test and the observer.
 
-use crate::resolved::ResolvedNode;
+ghost use Rattle.std.specs.Prelude.{◌≡◌};
+ghost use Rattle.lb_static.specs.ReachedNodes.{id_at};
+
+use crate::resolved::{CallSite, ResolvedNode};
 
 /// The place of a node among those that are reached.
 #[derive(Clone, Copy, PartialEq, Eq, Hash, Debug)]
@@ -16,4 +19,13 @@ pub struct Reached<'s> {
     /// The node under test.
     pub root: NodeId,
     pub observer: Option<NodeId>,
+}
+
+impl Reached<'_> {
+    /// The node that a call site calls, if it is among those that are reached.
+    pub fn called(&self, site: &CallSite) -> Option<NodeId>
+        ensures { result ≡ id_at self.now site.now.callee }
+    {
+        *self.ids.get(site.callee.0)?
+    }
 }

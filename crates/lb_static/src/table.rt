@@ -11,6 +11,9 @@
 //!                                                3: count (0), call 1 of 1
 //! ```
 
+ghost use Rattle.std.specs.Prelude.{◌≡◌, option_map};
+ghost use Rattle.lb_static.specs.CalledSpecializations.{called_by};
+
 use crate::reach::NodeId;
 use crate::resolved::CallId;
 use crate::static_value::StaticInt;
@@ -67,4 +70,14 @@ pub struct Table {
     pub root: SpecializationId,
     /// The specialization of the observer, if there is one.
     pub observer: Option<SpecializationId>,
+}
+
+impl Table {
+    /// The specialization that a call of a specialization calls.
+    pub fn called(&self, specialization: &Specialization, call: CallId) -> Option<&Specialization>
+        ensures { option_map (λ s. s.now) result ≡ called_by self.now specialization.now call }
+    {
+        let id = specialization.callees.get(call.0)?;
+        self.specializations.get(id.0 as usize)
+    }
 }
