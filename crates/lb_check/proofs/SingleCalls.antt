@@ -24,6 +24,7 @@ use Rattle.lb_static.specs.declared.table.Table.{Table}
 use Rattle.lb_static.specs.InstanceTable.{instance_of}
 use Rattle.lb_static.specs.Instances.{Program, Instance, Root, Child, Site, callee_of, node_named}
 use Rattle.lb_static.specs.Instances.{static_value}
+use Rattle.lb_static.specs.CalledSpecializations.{called_by}
 use Rattle.lb_static.specs.ReachedNodes.{source_names}
 use Rattle.lb_static.specs.ResolvedNodes.{IsResolved, node_of, counts_of}
 use Rattle.lb_static.specs.ResolvedTerms.{is_call, is_static, is_variable, is_within, are_within}
@@ -33,7 +34,7 @@ use Rattle.lb_check.specs.JudgedPrograms.{IsJudged}
 use Rattle.lb_check.specs.ClockSets.{is_single, are_single, calls_single, is_single_within}
 use Rattle.lb_check.specs.ClockSets.{is_statement_single}
 use Rattle.lb_check.specs.TermTypes.{Context, Signature, context_of, declared_type, declared_types}
-use Rattle.lb_check.specs.TermTypes.{signature_of, callee_at, callee_signature, signature_at}
+use Rattle.lb_check.specs.TermTypes.{signature_of, callee_signature, signature_at}
 use Rattle.lb_check.specs.TermTypes.{are_typed, is_specialization_typed, is_variable_typed}
 use Rattle.lb_check.specs.TermTypes.{is_resolved_statement_typed, is_node_typed, are_equal, results}
 use Rattle.lb_check.specs.TermTypes.{type_of, types_in, when_truth}
@@ -174,7 +175,7 @@ module _ (P : Program) (r : Reached) (t : Table) (j : IsJudged P r t) (i : ℕ) 
   call_single : (c : CallId) → is_call (counts_of n) c ≡ true → (g : Signature) →
       signature_at r t s c ≡ Some g → length g.1 ≡ 1 → calls_single r n c ≡ true
   call_single c w g typed one =
-      let called = bound (callee_at t s c) (callee_signature r) g typed in
+      let called = bound (called_by t s c) (callee_signature r) g typed in
       let id = bound (slice_get s.callees.items c.0)
       (λ id. slice_get t.specializations.items id.0) called.0 called.1 in
       let m = bound (slice_get r.nodes.items called.0.node.0)

@@ -24,6 +24,7 @@ use Rattle.lb_static.specs.declared.resolved.Variable.{Variable as Declared}
 use Rattle.lb_static.specs.declared.resolved.VariableId.{VariableId}
 use Rattle.lb_static.specs.declared.table.Specialization.{Specialization}
 use Rattle.lb_static.specs.declared.table.Table.{Table}
+use Rattle.lb_static.specs.CalledSpecializations.{called_by}
 use Rattle.lb_static.specs.DataTypes.{DataType, truth, is_type, are_types}
 use Rattle.lb_static.specs.StaticValues.{natural}
 use Rattle.lb_check.specs.Types.{constant_type, unary_type, binary_type, common_type, array_of}
@@ -81,12 +82,8 @@ signature_of statics n =
 abbrev pub callee_signature : Reached → Specialization → Option Signature
 callee_signature r s = slice_get r.nodes.items s.node.0 >>= signature_of s.statics.items
 
--- the specialization that a call calls
-abbrev pub callee_at : Table → Specialization → CallId → Option Specialization
-callee_at t s c = slice_get s.callees.items c.0 >>= λ id. slice_get t.specializations.items id.0
-
 abbrev pub signature_at : Reached → Table → Specialization → CallId → Option Signature
-signature_at r t s c = callee_at t s c >>= callee_signature r
+signature_at r t s c = called_by t s c >>= callee_signature r
 
 abbrev pub repeats_of : List ℤ → CallSite → Option ℕ
 repeats_of statics site = either_or (option_map (count_at statics) site.count) (Some 0)

@@ -132,7 +132,7 @@ fn have_memory(body: &[ResolvedStatement]) -> bool
 fn calls_function(reached: &Reached, call: &CallSite) -> bool
     ensures { result ≡ mirror.calls_function reached.now call.now }
 {
-    let Some(Some(id)) = reached.ids.get(call.callee.0 as usize) else {
+    let Some(id) = reached.called(call) else {
         return false;
     };
     match reached.nodes.get(id.0 as usize) {

@@ -33,9 +33,7 @@ impl<'a, 's> ClockEnv<'a, 's> {
         ensures { option_map (λ n. n.now) result ≡ (context_in self.now).callee c }
     {
         let site = self.node.calls.get(c.0 as usize)?;
-        let Some(Some(id)) = self.reached.ids.get(site.callee.0 as usize) else {
-            return None;
-        };
+        let id = self.reached.called(site)?;
         self.reached.nodes.get(id.0 as usize)
     }
 

@@ -162,19 +162,6 @@ fn signature_of(
     Ok(Some(Signature { inputs, outputs }))
 }
 
-/// The specialization that a call of a specialization calls.
-fn callee_at<'t>(
-    table: &'t Table,
-    specialization: &Specialization,
-    c: CallId,
-) -> Option<&'t Specialization>
-    ensures { option_map (λ s. s.now) result
-        ≡ mirror.callee_at table.now specialization.now c }
-{
-    let id = specialization.callees.get(c.0 as usize)?;
-    table.specializations.get(id.0 as usize)
-}
-
 /// The types of the inputs and of the outputs of a specialization.
 fn callee_signature(
     alloc: Global,
@@ -234,7 +221,7 @@ impl TypeEnv<'_, '_> {
         ensures { IfOk result (λ o.
             option_map signature_in o ≡ (context_in self.now).call c) }
     {
-        match callee_at(self.table, self.specialization, c) {
+        match self.table.called(self.specialization, c) {
             Some(callee) => callee_signature(alloc, self.reached, callee),
             None => Ok(None),
         }
