@@ -98,9 +98,7 @@ fn callee_at<'a, 's>(
         ≡ callee_in reached.now node.now (record { 0 = call }) }
 {
     let site = node.calls.get(call)?;
-    let Some(Some(id)) = reached.ids.get(site.callee.0) else {
-        return None;
-    };
+    let id = reached.called(site)?;
     reached.nodes.get(id.0)
 }
 
