@@ -3,6 +3,11 @@ pub mod NameTexts
 pub mod Recordings
 pub mod StoredRows
 pub mod PackedRows
+pub mod KindColumns
+pub mod HeldRows
+pub mod AddedRows
+pub mod FoundCells
+pub mod Extending
 pub mod Storing
 pub mod Lists
 pub mod Counting

@@ -23,7 +23,7 @@ use Rattle.lb_flat.proofs.Lists.{length-zips}
 
 -- ## The scalars of a row, one after the other
 
-get_or-zips :
+pub get_or-zips :
     {A B C : Type 0} (f : A → B → C) (xs : List A) (ys : List B) (i : ℕ) (a : A) (b : B) (c : C) →
     i < length xs → i < length ys → get_or (zip2 f xs ys) i c ≡ f (get_or xs i a) (get_or ys i b)
 get_or-zips f [] ys i a b c p q = absurd (omega arith)

@@ -1,8 +1,8 @@
 -- Recorded traces, as contracts see them.
 -- Source: this project's rule; the limits are those of a trace text.
 use Rattle.std.specs.Prelude.{Bool as Truth, ℕ, ◌≡◌, ◌≢◌, ◌+◌, ◌*◌, ◌<◌, ◌≤◌, max, ◌==◌, ◌||◌}
-use Rattle.std.specs.Prelude.{IsTrue, List, [], ◌∷◌, ◌++◌, length, map, get_or, ◌⊎◌, ℤ, pos, negsuc}
-use Rattle.std.specs.Prelude.{◌≤ℤ◌}
+use Rattle.std.specs.Prelude.{IsTrue, List, [], ◌∷◌, ◌++◌, length, map, get_or, drop, ◌⊎◌, ℤ, pos}
+use Rattle.std.specs.Prelude.{negsuc, ◌≤ℤ◌}
 use Rattle.std.specs.Char.{is_ascii_alphanumeric}
 use Rattle.std.specs.List.{All, AllPairs, AllZip, sum_by}
 use Rattle.lb_syntax.specs.declared.tree.Kind.{Kind}
@@ -88,6 +88,10 @@ pub record IsRecording (r : Recording) : Type 0 where
 abbrev pub HasRoom : Recording → Type 0
 HasRoom r = (instants_of r.traces + 1) * cells_of_instant r.signature ≤ 67108864
 
+-- the limit of cells has room for so many more instants
+abbrev pub HasRoomFor : Recording → ℕ → Type 0
+HasRoomFor r n = (instants_of r.traces + n) * cells_of_instant r.signature ≤ 67108864
+
 -- the rows of the last trace
 abbrev pub last_rows : Traces → List Row
 last_rows [] = []
@@ -99,6 +103,16 @@ abbrev pub with_row : Traces → Row → Traces
 with_row [] row = []
 with_row (t ∷ []) row = (t.0, t.1 ++ row ∷ []) ∷ []
 with_row (t ∷ u ∷ more) row = t ∷ with_row (u ∷ more) row
+
+-- the traces with more rows at the end of the last one
+abbrev pub with_rows : Traces → List Row → Traces
+with_rows [] rows = []
+with_rows (t ∷ []) rows = (t.0, t.1 ++ rows) ∷ []
+with_rows (t ∷ u ∷ more) rows = t ∷ with_rows (u ∷ more) rows
+
+-- the rows of a trace from one on
+abbrev pub rows_from : Traces → ℕ → ℕ → List Row
+rows_from traces k from = drop from (trace_at traces k).1
 
 -- the traces with one more trace at the end, with its first row
 abbrev pub with_trace : Traces → List ℕ → Row → Traces

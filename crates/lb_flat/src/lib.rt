@@ -20,6 +20,7 @@ mod prepare;
 pub mod prepared;
 pub mod program;
 pub mod recorded;
+mod row_columns;
 mod row_frame;
 pub mod scalar;
 pub mod scratch;

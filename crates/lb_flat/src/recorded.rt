@@ -1,11 +1,11 @@
 //! Recorded traces, ready to be read by the evaluator.
 
-ghost use Rattle.std.specs.Prelude.{◌≡◌, ◌<◌, Some, length, map, slice_get, All, IfOk};
-ghost use Rattle.lb_syntax.specs.Lists.{zip2};
+ghost use Rattle.std.specs.Prelude.{◌≡◌, ◌<◌, [], length, map, get_or, slice_get, All, IfOk};
 ghost use Rattle.lb_static.specs.Signature.{kinds_of};
-ghost use Rattle.lb_flat.specs.Inputs.{scalar_in, inputs_of};
+ghost use Rattle.lb_flat.specs.Inputs.{inputs_of};
 ghost use Rattle.lb_flat.specs.Prepared.{place_equation};
 ghost use Rattle.lb_flat.specs.Run.{filled};
+ghost use Rattle.lb_flat.specs.Traces.{trace_at};
 ghost use Rattle.lb_flat.specs.Values.{cell_of};
 
 use crate::cell::Cell;
@@ -15,41 +15,39 @@ use crate::traces::TraceSet;
 use lb_static::signature::{Kind, Signature};
 use std::alloc::{AllocError, Global};
 
-// What a cell of a recorded trace stands for; a Boolean is 0 or 1.
-fn cell_in(kind: Kind, cell: i32) -> Cell
-    ensures { cell_of result ≡ Some (scalar_in kind cell) }
+// The input of an instant of a trace at a place of the signature.
+fn input_at(set: &TraceSet, kinds: &[Kind], k: u32, t: u32, input: InputId) -> Cell
+    requires kinds { kinds.now ≡ kinds_of set.now.signature }
+    requires trace { k < length set.now.traces }
+    requires instant { t < length (trace_at set.now.traces k).1 }
+    ensures { cell_of result ≡ slice_get (get_or (inputs_of set.now k) t []) input.0 }
 {
-    match kind {
-        Kind::Int => Cell::Integer(cell),
-        Kind::Bool => Cell::Boolean(cell >= 1),
-    }
-}
-
-// The input at a place of the signature.
-fn input_at(kinds: &[Kind], cells: &[i32], input: InputId) -> Cell
-    requires { length cells.now ≡ length kinds.now }
-    ensures { cell_of result ≡ slice_get (zip2 scalar_in kinds.now cells.now) input.0 }
-{
+    let _ = set.signature();
     let j = input.0 as usize;
     if j < kinds.len() {
-        cell_in(kinds[j], cells[j])
+        match kinds[j] {
+            Kind::Int => Cell::Integer(set.int_at(k, t, input.0)),
+            Kind::Bool => Cell::Boolean(set.bool_at(k, t, input.0)),
+        }
     } else {
         Cell::Absent
     }
 }
 
-// Reads the cells of a row into the elements that hold inputs.
-fn read_row(kinds: &[Kind], cells: &[i32], inputs: &[InputPlace], row: &mut [Cell])
-    requires cells { length cells.now ≡ length kinds.now }
+// Reads an instant of a trace into the elements that hold inputs.
+fn read_row(set: &TraceSet, kinds: &[Kind], k: u32, t: u32, inputs: &[InputPlace], row: &mut [Cell])
+    requires kinds { kinds.now ≡ kinds_of set.now.signature }
+    requires trace { k < length set.now.traces }
+    requires instant { t < length (trace_at set.now.traces k).1 }
     requires elements { All (λ p. p.element.0 < length row.old) inputs.now }
     ensures elements { length row.new ≡ length row.old }
     ensures read { map cell_of row.new
-        ≡ filled (zip2 scalar_in kinds.now cells.now) (map cell_of row.old)
+        ≡ filled (get_or (inputs_of set.now k) t []) (map cell_of row.old)
         (map place_equation inputs.now) }
 {
     for i in 0..inputs.len() {
         let place = inputs[i];
-        row[place.element.0 as usize] = input_at(kinds, cells, place.input);
+        row[place.element.0 as usize] = input_at(set, kinds, k, t, place.input);
     }
 }
 
@@ -109,6 +107,6 @@ impl Instants for RecordedTrace<'_> {
     }
 
     fn read(&self, t: u32, inputs: &[InputPlace], row: &mut [Cell]) {
-        read_row(self.kinds, self.set.row(self.k, t), inputs, row);
+        read_row(self.set, self.kinds, self.k, t, inputs, row);
     }
 }

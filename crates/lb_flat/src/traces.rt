@@ -1,11 +1,13 @@
 //! Recorded traces, as flat rows.
 //!
-//! All cells stand in one list, row after row, so that an instant takes no memory of its own:
+//! All integers stand in one list, row after row, so that an instant takes no memory of its own.
+//! The Booleans of a row are the bits of words, which stand in a list of their own:
 //!
 //! ```text
-//! trace a: (1, 5), (2, 6)      names     a b
-//! trace b: (7, 8)              cells     1 5 2 6 7 8
-//!                              row ends  0 2 3
+//! trace a: (1, true, 5), (2, false, 6)      names     a b
+//! trace b: (7, true, 8)                     numbers   1 5 2 6 7 8
+//!                                           words     1 0 1
+//!                                           row ends  0 2 3
 //! ```
 
 ghost use Rattle.std.specs.Prelude.{◌≡◌, ◌≢◌, ◌==◌, ℕ, ◌<◌, ◌≤◌, ◌+◌, ◌*◌, ◌||◌, ◌↔◌, IsTrue};
@@ -16,12 +18,14 @@ ghost use Rattle.std.specs.List.{Contains};
 ghost use Rattle.lb_static.specs.Signature.{kinds_of};
 ghost use Rattle.lb_syntax.specs.declared.tree.Kind.TheVariants.{Int, Bool};
 ghost use Rattle.lb_flat.specs.Traces.{trace_at, cell_at, instants_of, trace_names, IsTraceName};
-ghost use Rattle.lb_flat.specs.Traces.{IsRow, HasRoom, last_rows, with_row, with_trace};
-ghost use Rattle.lb_flat.specs.Traces.{IsRecording, IsInt};
-ghost use Rattle.lb_flat.specs.Packed.{truth_columns, words_of_row, bit_in, truth_in, HasPushed};
+ghost use Rattle.lb_flat.specs.Traces.{IsRow, HasRoom, HasRoomFor, last_rows, with_row, with_trace};
+ghost use Rattle.lb_flat.specs.Traces.{with_rows, rows_from, IsRecording, IsInt};
+ghost use Rattle.lb_flat.specs.Packed.{truth_columns, number_columns, words_of_row, bit_in};
+ghost use Rattle.lb_flat.specs.Packed.{truth_in, numbers_in, HasPushed};
 
 use crate::names::Names;
 pub use crate::names::is_trace_name;
+use crate::row_columns::{RowColumns, row_columns};
 use lb_static::signature::{Kind, Signature};
 use std::alloc::{AllocError, Global};
 use std::marker::Model;
@@ -33,51 +37,27 @@ use std::marker::Model;
 pub struct TraceSet {
     signature: Signature,
     names: Names,
-    /// The cells of all rows, one row after the other; a Boolean is 0 or 1.
-    cells: Vec<i32>,
-    /// 0, and for each trace how many rows end with it.
-    row_ends: Vec<u32>,
-    /// The columns that hold Booleans, in the order of the signature.
-    truths: Vec<u32>,
+    /// The integers of all rows, one row after the other.
+    numbers: Vec<i32>,
     /// The Booleans of all rows as the bits of words, so many words for each row.
     words: Vec<u64>,
+    /// 0, and for each trace how many rows end with it.
+    row_ends: Vec<u32>,
+    columns: RowColumns,
 }
 
 impl Model for TraceSet {
     ghost use Rattle.lb_flat.specs.Traces.{Recording};
     ghost use Rattle.lb_flat.specs.Stored.{stored};
-    ghost use Rattle.lb_flat.specs.Packed.{IsSet};
+    ghost use Rattle.lb_flat.specs.Packed.{IsSet, cells_of};
 
     ghost Value = { Recording };
 
-    ghost view = { λ s. stored s.signature s.names s.cells.items s.row_ends.items };
+    ghost view = { λ s. stored s.signature s.names
+        (cells_of s.signature s.numbers.items s.words.items s.row_ends.items) s.row_ends.items };
 
-    ghost invariant = { λ s. IsSet s.signature s.names s.cells.items s.row_ends.items s.truths.items
-        s.words.items };
-}
-
-// The columns of a signature that hold Booleans.
-fn truths_of(alloc: Global, signature: &Signature) -> Result<Vec<u32>, AllocError>
-    ensures { IfOk result (λ truths. truths.items ≡ truth_columns 0 (kinds_of signature.now)) }
-{
-    let mut truths = Vec::new(alloc);
-    for j in 0..signature.len() {
-        push_truth(&mut truths, j, signature.kind(j))?;
-    }
-    Ok(truths)
-}
-
-// Adds a column of this kind if it holds a Boolean.
-fn push_truth(truths: &mut Vec<u32>, j: u32, kind: Kind) -> Result<(), AllocError>
-    ensures { OnOk result (truths.new.items ≡ truths.old.items ++ truth_columns j (kind ∷ [])) }
-{
-    match kind {
-        Kind::Bool => {
-            truths.push(j)?;
-        }
-        Kind::Int => {}
-    }
-    Ok(())
+    ghost invariant = { λ s. IsSet s.signature s.names s.numbers.items s.words.items
+        s.row_ends.items s.columns.integers.items s.columns.truths.items s.columns.places.items };
 }
 
 // How many words hold so many Booleans.
@@ -98,6 +78,31 @@ fn cell_in(row: &[i32], columns: &[u32], c: usize) -> i32
     ensures { result ≡ get_or row.now (get_or columns.now c (length row.now)) (pos 0) }
 {
     row[columns[c] as usize]
+}
+
+// Adds the integers of one more row, for which there is room. A row of integers alone is one copy.
+fn push_numbers(numbers: &mut Vec<i32>, row: &[i32], columns: &[u32])
+    requires room { vec_len numbers.old + length columns.now ≤ vec_capacity numbers.old }
+    requires columns { All (λ j. j < length row.now) columns.now }
+    requires alone { length columns.now ≡ length row.now
+        → numbers_in row.now columns.now ≡ row.now }
+    ensures { numbers.new.items ≡ numbers.old.items ++ numbers_in row.now columns.now }
+{
+    if columns.len() == row.len() {
+        let _ = numbers.extend_from_slice(row);
+        return;
+    }
+    for w in 0..columns.len() {
+        numbers.push_reserved(cell_in(row, columns, w));
+    }
+}
+
+// Whether a bit of a word is set.
+fn has_bit(word: u64, i: usize) -> bool
+    requires { i < 64 }
+    ensures { result ≡ (bit_at word i == 1) }
+{
+    (word >> i) % 2 == 1
 }
 
 // The word with one more bit.
@@ -186,7 +191,9 @@ impl TraceSet {
         requires kind { slice_get (kinds_of self.now.signature) column ≡ Some Int }
         ensures { result ≡ cell_at self.now.traces k t column }
     {
-        self.cell(k, t, column)
+        let row = self.row_ends[k as usize] as usize + t as usize;
+        let w = self.columns.places[column as usize] as usize;
+        self.numbers[row * self.columns.integers.len() + w]
     }
 
     /// The Boolean of a trace at an instant, in a column of the signature.
@@ -196,19 +203,25 @@ impl TraceSet {
         requires kind { slice_get (kinds_of self.now.signature) column ≡ Some Bool }
         ensures { IsTrue result ↔ (cell_at self.now.traces k t column ≡ pos 1) }
     {
-        self.cell(k, t, column) == 1
+        let row = self.row_ends[k as usize] as usize + t as usize;
+        let b = self.columns.places[column as usize] as usize;
+        let word = self.words[row * words_of_row(self.columns.truths.len()) + b / 64];
+        has_bit(word, b % 64)
     }
 
-    /// The cells of a trace at an instant, in the order of the signature; a Boolean is 0 or 1.
-    pub fn row(&self, k: u32, t: u32) -> &[i32]
+    /// The integers of a trace at an instant, in the order of the signature.
+    pub fn numbers(&self, k: u32, t: u32) -> &[i32]
         requires trace { k < length self.now.traces }
         requires instant { t < length (trace_at self.now.traces k).1 }
-        ensures cells { result.now ≡ get_or (trace_at self.now.traces k).1 t [] }
-        ensures width { length result.now ≡ length self.now.signature }
+        ensures count { length result.now
+            ≡ length (number_columns 0 (kinds_of self.now.signature)) }
+        ensures numbers { (w : ℕ) → w < length (number_columns 0 (kinds_of self.now.signature))
+            → get_or result.now w (pos 0) ≡ cell_at self.now.traces k t
+            (get_or (number_columns 0 (kinds_of self.now.signature)) w 0) }
     {
-        let width = self.signature.len() as usize;
+        let width = self.columns.integers.len();
         let start = (self.row_ends[k as usize] as usize + t as usize) * width;
-        &self.cells.as_slice()[start..start + width]
+        &self.numbers.as_slice()[start..start + width]
     }
 
     /// The Booleans of a trace at an instant, in the order of the signature, as the bits of words:
@@ -224,30 +237,37 @@ impl TraceSet {
         ensures past { (b : ℕ) → length (truth_columns 0 (kinds_of self.now.signature)) ≤ b
             → b < 64 * length result.now → bit_in result.now b ≡ false }
     {
-        let count = words_of_row(self.truths.len());
+        let count = words_of_row(self.columns.truths.len());
         let first = (self.row_ends[k as usize] as usize + t as usize) * count;
         &self.words.as_slice()[first..first + count]
     }
 
-    // The cell of a trace at an instant.
-    fn cell(&self, k: u32, t: u32, column: u32) -> i32
+    /// The cells of a trace at an instant, in the order of the signature, at the end of a row; a
+    /// Boolean is 0 or 1.
+    pub fn copy_row(&self, k: u32, t: u32, row: &mut Vec<i32>) -> Result<(), AllocError>
         requires trace { k < length self.now.traces }
         requires instant { t < length (trace_at self.now.traces k).1 }
-        requires column { column < length self.now.signature }
-        ensures { result ≡ cell_at self.now.traces k t column }
+        ensures { OnOk result (row.new.items
+            ≡ row.old.items ++ get_or (trace_at self.now.traces k).1 t []) }
     {
-        let row = self.row_ends[k as usize] as usize + t as usize;
-        self.cells[row * self.signature.len() as usize + column as usize]
+        for column in 0..self.signature.len() {
+            let cell = match self.signature.kind(column) {
+                Kind::Int => self.int_at(k, t, column),
+                Kind::Bool => i32::from(self.bool_at(k, t, column)),
+            };
+            row.push(cell)?;
+        }
+        Ok(())
     }
 
-    // Makes room for so many more cells, and for the words of their rows.
+    // Makes room for the integers and the words of so many more cells.
     fn reserve(&mut self, cells: usize) -> Result<(), AllocError>
         ensures { self.new ≡ self.old }
     {
-        self.cells.reserve(cells)?;
         let rows = cells / (self.signature.len() as usize).max(1);
-        self.words
-            .reserve(rows.saturating_mul(words_of_row(self.truths.len())))
+        self.numbers
+            .reserve(rows.saturating_mul(self.columns.integers.len()))?;
+        self.words.reserve(rows.saturating_mul(words_of_row(self.columns.truths.len())))
     }
 
     // One more trace, with its first row.
@@ -261,12 +281,12 @@ impl TraceSet {
             (self.new ≡ record self.old { traces = with_trace self.old.traces name.now row.now }) }
         ensures err { OnErr result (self.new ≡ self.old) }
     {
-        self.cells.reserve(row.len())?;
+        self.numbers.reserve(self.columns.integers.len())?;
         self.row_ends.reserve(1)?;
-        self.words.reserve(words_of_row(self.truths.len()))?;
+        self.words.reserve(words_of_row(self.columns.truths.len()))?;
         self.names.push(name)?;
-        let _ = self.cells.extend_from_slice(row);
-        push_words(&mut self.words, row, self.truths.as_slice());
+        push_numbers(&mut self.numbers, row, self.columns.integers.as_slice());
+        push_words(&mut self.words, row, self.columns.truths.as_slice());
         let rows = self.row_ends[self.row_ends.len() - 1];
         let _ = self.row_ends.push(rows + 1);
         Ok(())
@@ -282,11 +302,41 @@ impl TraceSet {
             (self.new ≡ record self.old { traces = with_row self.old.traces row.now }) }
         ensures err { OnErr result (self.new ≡ self.old) }
     {
-        self.words.reserve(words_of_row(self.truths.len()))?;
-        self.cells.extend_from_slice(row)?;
-        push_words(&mut self.words, row, self.truths.as_slice());
+        self.words.reserve(words_of_row(self.columns.truths.len()))?;
+        self.numbers.reserve(self.columns.integers.len())?;
+        push_numbers(&mut self.numbers, row, self.columns.integers.as_slice());
+        push_words(&mut self.words, row, self.columns.truths.as_slice());
         let last = self.row_ends.len() - 1;
         self.row_ends[last] += 1;
+        Ok(())
+    }
+
+    // The rows of a trace of another set, from one on, at the end of the last trace.
+    fn extend(&mut self, set: &TraceSet, k: u32, from: u32) -> Result<(), AllocError>
+        requires started { 0 < length self.old.traces }
+        requires trace { k < length set.now.traces }
+        requires from { from ≤ length (trace_at set.now.traces k).1 }
+        requires signature { set.now.signature ≡ self.old.signature }
+        requires instants { length (last_rows self.old.traces)
+            + length (rows_from set.now.traces k from) ≤ 1000000 }
+        requires room { HasRoomFor self.old (length (rows_from set.now.traces k from)) }
+        ensures ok { OnOk result (self.new ≡ record self.old {
+          traces = with_rows self.old.traces (rows_from set.now.traces k from);
+        }) }
+        ensures err { OnErr result (self.new ≡ self.old) }
+    {
+        let added = set.length(k) - from;
+        let first = set.row_ends[k as usize] as usize + from as usize;
+        let past = first + added as usize;
+        let width = set.columns.integers.len();
+        let count = words_of_row(set.columns.truths.len());
+        let numbers = &set.numbers.as_slice()[first * width..past * width];
+        let words = &set.words.as_slice()[first * count..past * count];
+        self.words.reserve(words.len())?;
+        self.numbers.extend_from_slice(numbers)?;
+        let _ = self.words.extend_from_slice(words);
+        let last = self.row_ends.len() - 1;
+        self.row_ends[last] += added;
         Ok(())
     }
 }
@@ -322,15 +372,15 @@ impl TraceRows {
     {
         let mut row_ends = Vec::new(alloc);
         row_ends.push(0)?;
-        let truths = truths_of(alloc, signature)?;
+        let columns = row_columns(alloc, signature)?;
         Ok(TraceRows {
             set: TraceSet {
                 signature: signature.copy(alloc)?,
                 names: Names::new(alloc)?,
-                cells: Vec::new(alloc),
-                row_ends,
-                truths,
+                numbers: Vec::new(alloc),
                 words: Vec::new(alloc),
+                row_ends,
+                columns,
             },
         })
     }
@@ -369,6 +419,24 @@ impl TraceRows {
         ensures err { OnErr result (self.new ≡ self.old) }
     {
         self.set.push(row)
+    }
+
+    /// The rows of a trace of another set under the same signature, from one on, at the end of the
+    /// last trace. Where memory is refused the traces stay as they were.
+    pub fn extend(&mut self, set: &TraceSet, k: u32, from: u32) -> Result<(), AllocError>
+        requires started { 0 < length self.old.traces }
+        requires trace { k < length set.now.traces }
+        requires from { from ≤ length (trace_at set.now.traces k).1 }
+        requires signature { set.now.signature ≡ self.old.signature }
+        requires instants { length (last_rows self.old.traces)
+            + length (rows_from set.now.traces k from) ≤ 1000000 }
+        requires room { HasRoomFor self.old (length (rows_from set.now.traces k from)) }
+        ensures ok { OnOk result (self.new ≡ record self.old {
+          traces = with_rows self.old.traces (rows_from set.now.traces k from);
+        }) }
+        ensures err { OnErr result (self.new ≡ self.old) }
+    {
+        self.set.extend(set, k, from)
     }
 
     /// What has been put together.

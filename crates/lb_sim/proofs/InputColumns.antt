@@ -175,16 +175,6 @@ module _ (kinds : List Kind) (j : ℕ) (places : List Value) (truths numbers : L
             ∙ ap (number_columns 0) more;
       }
 
--- each column of an integer is one of all
-pub numbers_within :
-    (j : ℕ) (kinds : List Kind) (k d : ℕ) → k < length (number_columns j kinds) →
-    get_or (number_columns j kinds) k d < j + length kinds
-numbers_within j [] k d h = absurd (omega (arith, h))
-numbers_within j (Int_kind ∷ kinds) zero d h = omega arith
-numbers_within j (Int_kind ∷ kinds) (suc k) d h =
-    omega (arith, numbers_within (suc j) kinds k d (omega (arith, h)))
-numbers_within j (Bool_kind ∷ kinds) k d h = omega (arith, numbers_within (suc j) kinds k d h)
-
 -- ## The row of a lane
 
 module _ (s : Lane) (whole : List ℤ) where

@@ -198,21 +198,21 @@ module _ (rows old : List ℕ) where
 
 -- ## One lane of words
 
-pub record LanePut (cells : List ℤ) (columns : List ℕ) (lane : ℕ) (old new : List (List ℤ)) (n : ℕ)
-    : Type 0 where
+pub record LanePut (numbers : List ℤ) (lane : ℕ) (old new : List (List ℤ)) (n : ℕ) :
+    Type 0 where
   pub as_long : length new ≡ length old
   pub ints : All AreInts new
   pub put :
       (w : ℕ) → w < n →
-      lane_of (get_or new w []) lane ≡ get_or cells (get_or columns w 0) (pos 0)
+      lane_of (get_or new w []) lane ≡ get_or numbers w (pos 0)
   pub others :
       (w i : ℕ) → i < 64 → i ≢ lane →
       lane_of (get_or new w []) i ≡ lane_of (get_or old w []) i
 
 pub lane_put_none :
-    (cells : List ℤ) (columns : List ℕ) (lane : ℕ) (old : List (List ℤ)) → All AreInts old →
-    LanePut cells columns lane old old 0
-lane_put_none cells columns lane old ints = record {
+    (numbers : List ℤ) (lane : ℕ) (old : List (List ℤ)) → All AreInts old →
+    LanePut numbers lane old old 0
+lane_put_none numbers lane old ints = record {
   as_long = refl;
   ints = ints;
   put = λ w h. absurd (omega (arith, h));
@@ -222,9 +222,9 @@ lane_put_none cells columns lane old ints = record {
 same_number : (a : ℕ) → (a == a) ≡ true
 same_number a = grind arith
 
-module _ (cells : List ℤ) (columns : List ℕ) (lane : ℕ) (old new : List (List ℤ)) (n : ℕ)
-    (word : List ℤ) (v : ℤ) (h : LanePut cells columns lane old new n) (room : n < length old)
-    (within : lane < 64) (is_v : v ≡ get_or cells (get_or columns n 0) (pos 0))
+module _ (numbers : List ℤ) (lane : ℕ) (old new : List (List ℤ)) (n : ℕ)
+    (word : List ℤ) (v : ℤ) (h : LanePut numbers lane old new n) (room : n < length old)
+    (within : lane < 64) (is_v : v ≡ get_or numbers n (pos 0))
     (in_range : IsTrue (is_int v))
     (is : (i : ℕ) → i < 64 →
     lane_of word i ≡ cond (i == lane) v (lane_of (get_or new n []) i)) where
@@ -245,7 +245,7 @@ module _ (cells : List ℤ) (columns : List ℕ) (lane : ℕ) (old new : List (L
           (subst (λ x. IsTrue (is_int x)) (sym at_lane) in_range)
       by (inr ne) = subst (λ x. IsTrue (is_int x)) (sym (at_other i l ne)) (before i l)
 
-  pub lane_put_more : LanePut cells columns lane old (set new n word) (n + 1)
+  pub lane_put_more : LanePut numbers lane old (set new n word) (n + 1)
   lane_put_more =
       let there : n < length new = omega (arith, h.as_long, room) in
       record {
@@ -254,7 +254,7 @@ module _ (cells : List ℤ) (columns : List ℕ) (lane : ℕ) (old new : List (L
         put =
             below_more
             (λ w. lane_of (get_or (set new n word) w []) lane
-            ≡ get_or cells (get_or columns w 0) (pos 0)) n
+            ≡ get_or numbers w (pos 0)) n
             (λ w l.
             let ne : w ≢ n = λ e. absurd (omega (arith, l, e)) in
             ap (λ x. lane_of x lane) (get_or-set_other new n w word [] ne) ∙ h.put w l)

@@ -2,7 +2,6 @@
 use Rattle.std.proofs.Common.{◌≡◌, ℕ, ◌+◌, ◌<◌, List, [], ℤ, pos, get_or, length, map}
 use Rattle.std.proofs.Common.{sym, ap, ◌∙◌, subst, arith}
 use Rattle.std.proofs.lemmas.List.{get_or-map, length-map}
-use Rattle.std.specs.List.{All}
 use Rattle.std.specs.Prelude.{int_le}
 use Rattle.lb_syntax.specs.declared.tree.Kind.{Kind}
 use Rattle.lb_syntax.specs.Lists.{zip2}
@@ -17,23 +16,13 @@ use Rattle.lb_machine.specs.Meaning.{lane_at}
 use Rattle.lb_sim.specs.InputRows.{truth_columns, number_columns, places_of, lane_row}
 use Rattle.lb_sim.specs.InputRows.{member_cell}
 use Rattle.lb_sim.specs.Showing.{value_at}
-use Rattle.lb_sim.proofs.InputColumns.{row_shown, row_moved, numbers_within}
+use Rattle.lb_sim.proofs.InputColumns.{row_shown, row_moved}
 
 -- as many kinds as elements
 as_many : (elements : Elements) (kinds : List Kind) → kinds_of elements ≡ kinds →
     length kinds ≡ length elements
 as_many elements kinds same =
     ap length (sym same) ∙ length-map elements (λ (e : Element). e.1)
-
--- the columns of the integers are columns of the signature
-pub numbers_all : (kinds : List Kind) (elements : Elements) (columns : List ℕ) →
-    kinds_of elements ≡ kinds → columns ≡ number_columns 0 kinds →
-    All (λ j. j < length elements) columns
-numbers_all kinds elements columns same is k d l =
-    let long = as_many elements kinds same in
-    let below : k < length (number_columns 0 kinds) = subst (λ xs. k < length xs) is l in
-    subst (λ xs. get_or xs k d < length elements) (sym is)
-    (omega (arith, numbers_within 0 kinds k d below, long))
 
 module _ (r : Recording) (members : List ℕ) (t i : ℕ) (kinds : List Kind) (planes : List ℕ)
     (words : List (List ℤ)) (truths numbers : List ℕ) (lawful : IsRecording r)

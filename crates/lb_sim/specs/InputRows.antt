@@ -7,7 +7,7 @@ use Rattle.lb_syntax.specs.declared.tree.Kind.{Kind}
 use Rattle.lb_syntax.specs.declared.tree.Kind.TheVariants.{Int as Int_kind, Bool as Bool_kind}
 use Rattle.lb_check.specs.Scalars.{Scalar, Integer, Boolean}
 use Rattle.lb_flat.specs.Traces.{Recording, trace_at, cell_at}
-pub use Rattle.lb_flat.specs.Packed.{truth_columns}
+pub use Rattle.lb_flat.specs.Packed.{truth_columns, number_columns}
 use Rattle.lb_lanes.specs.Kernels.{lane_of}
 use Rattle.lb_lanes.specs.Planes.{on}
 use Rattle.lb_machine.specs.Meaning.{lane_at}
@@ -20,12 +20,6 @@ abbrev pub places_of : ℕ → ℕ → List Kind → List Value
 places_of p w [] = []
 places_of p w (Bool_kind ∷ kinds) = Truth (record { 0 = p }) ∷ places_of (suc p) w kinds
 places_of p w (Int_kind ∷ kinds) = Number (record { 0 = w }) ∷ places_of p (suc w) kinds
-
--- the columns of the integers, from a column on
-abbrev pub number_columns : ℕ → List Kind → List ℕ
-number_columns j [] = []
-number_columns j (Bool_kind ∷ kinds) = number_columns (suc j) kinds
-number_columns j (Int_kind ∷ kinds) = j ∷ number_columns (suc j) kinds
 
 -- the row of a lane
 abbrev pub lane_row : List Kind → List ℕ → List (List ℤ) → ℕ → List Scalar

@@ -81,9 +81,8 @@ impl Inputs {
             t,
             live,
         };
-        let columns = &self.columns;
         load_truths(&at, self.rows.as_mut_slice(), self.planes.as_mut_slice());
-        load_numbers(&at, columns.numbers.as_slice(), self.words.as_mut_slice());
+        load_numbers(&at, self.words.as_mut_slice());
     }
 
     // Copies the rows to where a lane program has its inputs: behind what is the same everywhere.

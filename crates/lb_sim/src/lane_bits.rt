@@ -19,23 +19,13 @@ pub(crate) fn with_lane(plane: u64, lane: u32) -> u64
     plane | (1u64 << lane)
 }
 
-// The cell of a row in one of some columns.
-fn cell_in(cells: &[i32], columns: &[u32], c: usize) -> i32
-    requires column { c < length columns.now }
-    requires columns { All (λ j. j < length cells.now) columns.now }
-    ensures { result ≡ get_or cells.now (get_or columns.now c 0) (pos 0) }
-{
-    cells[columns[c] as usize]
-}
-
-// The integer of a row in one of some columns.
-fn integer_of(cells: &[i32], columns: &[u32], c: usize) -> i64
-    requires column { c < length columns.now }
-    requires columns { All (λ j. j < length cells.now) columns.now }
-    ensures value { result ≡ get_or cells.now (get_or columns.now c 0) (pos 0) }
+// One of some integers.
+fn integer_of(numbers: &[i32], w: usize) -> i64
+    requires { w < length numbers.now }
+    ensures value { result ≡ get_or numbers.now w (pos 0) }
     ensures in_range { IsTrue (is_int result) }
 {
-    i64::from(cell_in(cells, columns, c))
+    i64::from(numbers[w])
 }
 
 /// How many words the bits of so many columns take.
@@ -99,23 +89,21 @@ fn put_planes(planes: &mut [u64], first: usize, words: &[u64; 64], count: usize)
     }
 }
 
-/// Puts the integers of some columns of a row into a lane of words.
-pub(crate) fn put_numbers(words: &mut [IntLanes], columns: &[u32], lane: u32, cells: &[i32])
+/// Puts some integers into a lane of words, one each.
+pub(crate) fn put_numbers(words: &mut [IntLanes], lane: u32, numbers: &[i32])
     requires lane { lane < 64 }
-    requires room { length words.old ≡ length columns.now }
-    requires columns { All (λ j. j < length cells.now) columns.now }
+    requires room { length words.old ≡ length numbers.now }
     requires ints { All AreInts words.old }
     ensures words { length words.new ≡ length words.old }
     ensures ints { All AreInts words.new }
-    ensures put { (w : ℕ) → w < length columns.now
-        → lane_of (slice_index_or words.new w []) lane
-        ≡ get_or cells.now (get_or columns.now w 0) (pos 0) }
-    ensures others { (w i : ℕ) → w < length columns.now → i < 64 → i ≢ lane
+    ensures put { (w : ℕ) → w < length numbers.now
+        → lane_of (slice_index_or words.new w []) lane ≡ get_or numbers.now w (pos 0) }
+    ensures others { (w i : ℕ) → w < length numbers.now → i < 64 → i ≢ lane
         → lane_of (slice_index_or words.new w []) i ≡ lane_of (slice_index_or words.old w []) i }
 {
-    for w in 0..columns.len() {
-        let cell = integer_of(cells, columns, w);
-        words[w].set(lane, cell);
+    for w in 0..numbers.len() {
+        let number = integer_of(numbers, w);
+        words[w].set(lane, number);
     }
 }
 

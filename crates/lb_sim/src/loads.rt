@@ -11,7 +11,7 @@
 ghost use Rattle.std.specs.Prelude.{◌≡◌, ◌≢◌, ℕ, ◌<◌, ◌≤◌, ◌+◌, ◌*◌, true, length, All, get_or};
 ghost use Rattle.std.specs.Prelude.{pos, int_le, slice_index, slice_index_or, []};
 ghost use Rattle.lb_static.specs.Signature.{kinds_of};
-ghost use Rattle.lb_flat.specs.Packed.{truth_columns};
+ghost use Rattle.lb_flat.specs.Packed.{truth_columns, number_columns};
 ghost use Rattle.lb_lanes.specs.Kernels.{AreInts, lane_of};
 ghost use Rattle.lb_lanes.specs.Planes.{on};
 ghost use Rattle.lb_sim.specs.InputRows.{HaveInstant, member_cell};
@@ -112,38 +112,43 @@ pub(crate) fn load_truths(at: &Instant<'_, '_>, rows: &mut [u64], planes: &mut [
     turn(rows, planes);
 }
 
-// Puts the integers of some columns into a lane that is live.
-fn put_member(at: &Instant<'_, '_>, columns: &[u32], i: usize, words: &mut [IntLanes])
+// Puts the integers of a member into its lane if that is live.
+fn put_member(at: &Instant<'_, '_>, i: usize, words: &mut [IntLanes])
     requires member { i < length at.now.members.now }
-    requires room { length words.old ≡ length columns.now }
-    requires columns { All (λ j. j < length at.now.set.now.signature) columns.now }
+    requires room { length words.old
+        ≡ length (number_columns 0 (kinds_of at.now.set.now.signature)) }
     requires ints { All AreInts words.old }
     ensures words { length words.new ≡ length words.old }
     ensures ints { All AreInts words.new }
-    ensures put { on at.now.live.0 i ≡ true → (w : ℕ) → w < length columns.now
+    ensures put { on at.now.live.0 i ≡ true → (w : ℕ)
+        → w < length (number_columns 0 (kinds_of at.now.set.now.signature))
         → lane_of (slice_index_or words.new w []) i
-        ≡ member_cell at.now.set.now at.now.members.now at.now.t i (get_or columns.now w 0) }
-    ensures others { (w k : ℕ) → w < length columns.now → k < 64 → k ≢ i
+        ≡ member_cell at.now.set.now at.now.members.now at.now.t i
+        (get_or (number_columns 0 (kinds_of at.now.set.now.signature)) w 0) }
+    ensures others { (w k : ℕ)
+        → w < length (number_columns 0 (kinds_of at.now.set.now.signature)) → k < 64 → k ≢ i
         → lane_of (slice_index_or words.new w []) k ≡ lane_of (slice_index_or words.old w []) k }
 {
     if !at.live.get(i as u32) {
         return;
     }
-    put_numbers(words, columns, i as u32, at.set.row(at.members[i], at.t));
+    put_numbers(words, i as u32, at.set.numbers(at.members[i], at.t));
 }
 
-/// Puts the integers of some columns into words.
-pub(crate) fn load_numbers(at: &Instant<'_, '_>, columns: &[u32], words: &mut [IntLanes])
-    requires room { length words.old ≡ length columns.now }
-    requires columns { All (λ j. j < length at.now.set.now.signature) columns.now }
+/// Puts the integers of the signature into words.
+pub(crate) fn load_numbers(at: &Instant<'_, '_>, words: &mut [IntLanes])
+    requires room { length words.old
+        ≡ length (number_columns 0 (kinds_of at.now.set.now.signature)) }
     requires ints { All AreInts words.old }
     ensures words { length words.new ≡ length words.old }
     ensures ints { All AreInts words.new }
-    ensures put { (i w : ℕ) → i < 64 → on at.now.live.0 i ≡ true → w < length columns.now
+    ensures put { (i w : ℕ) → i < 64 → on at.now.live.0 i ≡ true
+        → w < length (number_columns 0 (kinds_of at.now.set.now.signature))
         → lane_of (slice_index_or words.new w []) i
-        ≡ member_cell at.now.set.now at.now.members.now at.now.t i (get_or columns.now w 0) }
+        ≡ member_cell at.now.set.now at.now.members.now at.now.t i
+        (get_or (number_columns 0 (kinds_of at.now.set.now.signature)) w 0) }
 {
     for i in 0..at.members.len() {
-        put_member(at, columns, i, words);
+        put_member(at, i, words);
     }
 }

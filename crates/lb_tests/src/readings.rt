@@ -25,12 +25,15 @@ fn push_text(short: &str, text: &mut String) -> Result<(), AllocError> {
 }
 
 // The names of the traces, each with the cells of its instants.
-fn push_traces(set: &TraceSet, said: &mut String) -> Result<(), AllocError> {
+fn push_traces(alloc: Global, set: &TraceSet, said: &mut String) -> Result<(), AllocError> {
+    let mut row = Vec::new(alloc);
     for k in 0..set.len() {
         write!(said, "{}:", set.name(k))?;
         for t in 0..set.length(k) {
             said.push_str(" (")?;
-            for cell in set.row(k, t) {
+            row.clear();
+            set.copy_row(k, t, &mut row)?;
+            for cell in row.as_slice() {
                 write!(said, " {cell}")?;
             }
             said.push_str(" )")?;
@@ -50,6 +53,7 @@ fn push_read(
     let mut text = String::new(alloc);
     push_text(asked, &mut text)?;
     push_outcome(
+        alloc,
         &read_traces(alloc, signature, text.as_str().as_bytes()),
         said,
     )
@@ -73,9 +77,13 @@ pub fn push_three(alloc: Global, asked: &str, said: &mut String) -> Result<(), A
 }
 
 // What is said of a text that has been read, or of its refusal.
-fn push_outcome(read: &Result<TraceSet, TraceError>, said: &mut String) -> Result<(), AllocError> {
+fn push_outcome(
+    alloc: Global,
+    read: &Result<TraceSet, TraceError>,
+    said: &mut String,
+) -> Result<(), AllocError> {
     match read {
-        Ok(set) => push_traces(set, said),
+        Ok(set) => push_traces(alloc, set, said),
         Err(error) => write!(said, "E{} {error}", error.number()),
     }
 }
@@ -94,11 +102,12 @@ pub fn push_by_workers<R: Runtime + AllocGlobal + Threads + Sync>(
     let mut text = String::new(alloc);
     push_text(asked, &mut text)?;
     let body = text.as_str().as_bytes();
-    push_outcome(&read_traces(alloc, &signature, body), said)?;
+    push_outcome(alloc, &read_traces(alloc, &signature, body), said)?;
     let mut other = String::new(alloc);
     for workers in 0..24u32 {
         other.clear();
         push_outcome(
+            alloc,
             &read_traces_by(rt, alloc, &signature, body, workers),
             &mut other,
         )?;

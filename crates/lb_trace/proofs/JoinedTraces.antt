@@ -1,16 +1,20 @@
 -- The instants of traces that are put together.
-use Rattle.std.proofs.Common.{ℕ, ◌≡◌, ◌+◌, ◌*◌, ◌<◌, Bool, true, false, not, ◌||◌, ◌&&◌}
-use Rattle.std.proofs.Common.{if◌then◌else◌, List, [], ◌∷◌, ◌++◌, length, get_or, map, take, Some}
+use Rattle.std.proofs.Common.{ℕ, suc, ◌≡◌, ◌+◌, ◌-◌, ◌*◌, ◌<◌, Bool, true, false, not, ◌||◌, ◌&&◌}
+use Rattle.std.proofs.Common.{if◌then◌else◌, List, [], ◌∷◌, ◌++◌, length, get_or, map, take, drop}
+use Rattle.std.proofs.Common.{Some}
 use Rattle.std.proofs.Common.{Result, Ok, Err, refl, sym, ap, ◌∙◌, subst, append_assoc, arith}
 use Rattle.std.proofs.Common.{nat_le, nat_lt}
 use Rattle.std.proofs.lemmas.List.{append-nil, map-append, take_more}
 use Rattle.std.proofs.lemmas.Grind.{flat_map-append}
 use Rattle.std.specs.Prelude.{flat_map}
-use Rattle.std.specs.List.{list_any}
+use Rattle.std.specs.List.{All, list_any}
 use Rattle.std.specs.Str.{bytes_eq}
+use Rattle.std.proofs.lemmas.Slice.Eq.{bytes_eq-Decides}
 use Rattle.lb_static.specs.Signature.{Elements}
-use Rattle.lb_flat.specs.Traces.{Recording, Row, Trace, Traces, cells_of_instant}
-use Rattle.lb_flat.specs.Traces.{instants_of, last_rows, trace_at, with_row, with_trace}
+use Rattle.lb_flat.specs.Traces.{IsRecording, IsRow, Recording, Row, Trace, Traces}
+use Rattle.lb_flat.specs.Traces.{cells_of_instant, instants_of, last_rows, trace_at, with_row}
+use Rattle.lb_flat.specs.Traces.{with_rows, with_trace}
+use Rattle.lb_trace.specs.declared.recorder.Recorder.{Recorder}
 use Rattle.lb_trace.specs.Mirrors.{add_by, go_on_by, start_by, start_cells}
 use Rattle.lb_trace.specs.Refusals.{is_last, is_trace_name, with_instant}
 use Rattle.lb_trace.specs.Spelling.{Instant, instants}
@@ -53,13 +57,15 @@ pub instants-added : (elements : Elements) (name : List ℕ) (traces next : Trac
 instants-added elements name traces next row good =
     ap instants (grown elements name traces next row good) ∙ instants-push traces name row
 
--- the same of a row that was copied
-pub instants-copied : (elements : Elements) (name : List ℕ) (traces next : Traces) (copy row : Row)
-    → add_by elements name traces (Some copy) ≡ Ok next → copy ≡ row
+-- the same of a row that was copied, and of another text of the name
+pub instants-copied : (elements : Elements) (given name : List ℕ) (traces next : Traces)
+    (copy row : Row)
+    → add_by elements given traces (Some copy) ≡ Ok next → given ≡ name → copy ≡ row
     → instants next ≡ instants traces ++ (name, row) ∷ []
-instants-copied elements name traces next copy row good is =
-    instants-added elements name traces next row
-    (subst (λ r. add_by elements name traces (Some r) ≡ Ok next) is good)
+instants-copied elements given name traces next copy row good same is =
+    instants-added elements given traces next copy good
+    ∙ ap (λ (n : List ℕ). instants traces ++ (n, copy) ∷ []) same
+    ∙ ap (λ (r : Row). instants traces ++ (name, r) ∷ []) is
 
 last-row : (name : List ℕ) (traces : Traces) (row : Row)
     → is_last name (with_row traces row) ≡ is_last name traces
@@ -83,36 +89,59 @@ pub last-added : (elements : Elements) (name : List ℕ) (traces next : Traces) 
 last-added elements name traces next row good =
     ap (is_last name) (grown elements name traces next row good) ∙ last-instant name traces row
 
--- a row of the last trace is added
-pub added-on : (elements : Elements) (name : List ℕ) (traces next : Traces) (row : Row)
-    → is_last name traces ≡ true → go_on_by elements traces (Some row) ≡ Ok next
-    → add_by elements name traces (Some row) ≡ Ok next
-added-on elements name traces next row last good =
-    ap (λ b. if◌then◌else◌ {A = Result Traces ℕ} b (go_on_by elements traces (Some row))
-    (start_by elements name traces (Some row))) last
-    ∙ good
+-- a row of a lawful set is lawful
+pub row-lawful : (set : Recording) (elements : Elements) (k t : ℕ) (row : Row)
+    → IsRecording set → set.signature ≡ elements → k < length set.traces
+    → t < length (trace_at set.traces k).1 → row ≡ get_or (trace_at set.traces k).1 t []
+    → IsRow elements row
+row-lawful set elements k t row lawful same below within is =
+    subst (λ (e : Elements). IsRow e row) same
+    (subst (IsRow set.signature) (sym is) ((lawful.each k ([], []) below).rows t [] within))
 
--- one more row of a trace
-pub rows-more : (name : List ℕ) (before after next : List Instant) (rows : List Row) (t : ℕ)
-    → t < length rows → after ≡ before ++ map (λ row. (name, row)) (take t rows)
-    → next ≡ after ++ (name, get_or rows t []) ∷ []
-    → next ≡ before ++ map (λ row. (name, row)) (take (t + 1) rows)
-rows-more name before after next rows t below so_far more =
-    let instant : Row → Instant = λ row. (name, row) in
-    more ∙ ap (λ is. is ++ (name, get_or rows t []) ∷ []) so_far
-    ∙ append_assoc before (map instant (take t rows)) ((name, get_or rows t []) ∷ [])
-    ∙ ap (λ is. before ++ is) (sym (map-append instant (take t rows) (get_or rows t [] ∷ [])))
-    ∙ ap (λ rs. before ++ map instant rs) (sym (take_more rows t [] below))
+-- a lawful trace has an instant
+pub trace-started : (set : Recording) (k : ℕ) → IsRecording set → k < length set.traces
+    → 0 < length (trace_at set.traces k).1
+trace-started set k lawful below = (lawful.each k ([], []) below).started
 
--- the first row of a trace
-pub first-row : (name given : List ℕ) (before next : List Instant) (rows : List Row) (row : Row)
-    → 0 < length rows → given ≡ name → row ≡ get_or rows 0 []
-    → next ≡ before ++ (given, row) ∷ []
-    → next ≡ before ++ map (λ r. (name, r)) (take 1 rows)
-first-row name given before next [] row some same is more = absurd (omega (arith, some))
-first-row name given before next (first ∷ rows) row some same is more =
-    more ∙ ap (λ (n : List ℕ). before ++ (n, row) ∷ []) same
-    ∙ ap (λ (r : Row). before ++ (name, r) ∷ []) is
+-- more rows of the last trace
+pub instants-rows : (name : List ℕ) (traces : Traces) (rows : List Row)
+    → is_last name traces ≡ true
+    → instants (with_rows traces rows) ≡ instants traces ++ map (λ row. (name, row)) rows
+instants-rows name [] rows last = cc last
+instants-rows name (t ∷ []) rows last =
+    let f : Row → Instant = λ row. (t.0, row) in
+    let same : name ≡ t.0 = (bytes_eq-Decides name t.0).0 last in
+    append-nil (map f (t.1 ++ rows)) ∙ map-append f t.1 rows
+    ∙ ap (λ is. is ++ map f rows) (sym (append-nil (map f t.1)))
+    ∙ ap (λ (n : List ℕ). (map f t.1 ++ []) ++ map (λ (row : Row). (n, row)) rows) (sym same)
+instants-rows name (t ∷ u ∷ more) rows last =
+    let f : Row → Instant = λ row. (t.0, row) in
+    ap (λ is. map f t.1 ++ is) (instants-rows name (u ∷ more) rows last)
+    ∙ sym (append_assoc (map f t.1) (instants (u ∷ more)) (map (λ (row : Row). (name, row)) rows))
+
+-- the same of traces after which these came
+pub instants-extended : (name : List ℕ) (before after : Recording) (rows : List Row)
+    → is_last name before.traces ≡ true
+    → after ≡ record before { traces = with_rows before.traces rows }
+    → instants after.traces ≡ instants before.traces ++ map (λ row. (name, row)) rows
+instants-extended name before after rows last is =
+    ap (λ (r : Recording). instants r.traces) is ∙ instants-rows name before.traces rows last
+
+-- so many rows stand after the first
+pub others-counted : (rows : List Row) → length (drop 1 rows) ≡ length rows - 1
+others-counted [] = refl
+others-counted (row ∷ rows) = omega arith
+
+-- the first row of a trace, and then the others
+pub trace-whole : (name : List ℕ) (before first after : List Instant) (rows : List Row)
+    → 0 < length rows → first ≡ before ++ (name, get_or rows 0 []) ∷ []
+    → after ≡ first ++ map (λ row. (name, row)) (drop 1 rows)
+    → after ≡ before ++ map (λ row. (name, row)) rows
+trace-whole name before first after [] some one others = absurd (omega (arith, some))
+trace-whole name before first after (row ∷ rows) some one others =
+    let f : Row → Instant = λ r. (name, r) in
+    others ∙ ap (λ is. is ++ map f rows) one
+    ∙ append_assoc before ((name, row) ∷ []) (map f rows)
 
 -- one more trace
 pub traces-more : (traces : Traces) (before after next : List Instant) (k : ℕ)
@@ -129,14 +158,41 @@ traces-more traces before after next k below so_far more =
     (sym (flat_map-append rows_in (take k traces) (trace_at traces k ∷ [])))
     ∙ ap (λ ts. before ++ instants ts) (sym (take_more traces k ([], []) below))
 
--- one more set
-pub sets-more : (sets : List Recording) (after next : List Instant) (k : ℕ) (d : Recording)
-    → k < length sets → after ≡ flat_map (λ one. instants one.traces) (take k sets)
-    → next ≡ after ++ instants (get_or sets k d).traces
-    → next ≡ flat_map (λ one. instants one.traces) (take (k + 1) sets)
-sets-more sets after next k d below so_far more =
-    let all_in : Recording → List Instant = λ one. instants one.traces in
-    more ∙ ap (λ is. is ++ all_in (get_or sets k d)) so_far
-    ∙ ap (λ is. flat_map all_in (take k sets) ++ is) (sym (append-nil (all_in (get_or sets k d))))
-    ∙ sym (flat_map-append all_in (take k sets) (get_or sets k d ∷ []))
-    ∙ ap (flat_map all_in) (sym (take_more sets k d below))
+-- one more part
+pub parts-more : (parts : List Recorder) (before after next : List Instant) (k : ℕ) (d : Recorder)
+    → k < length parts
+    → after ≡ before ++ flat_map (λ part. instants part.rows.traces) (take k parts)
+    → next ≡ after ++ instants (get_or parts k d).rows.traces
+    → next ≡ before ++ flat_map (λ part. instants part.rows.traces) (take (k + 1) parts)
+parts-more parts before after next k d below so_far more =
+    let all_in : Recorder → List Instant = λ part. instants part.rows.traces in
+    let one : List Instant = all_in (get_or parts k d) in
+    more ∙ ap (λ is. is ++ one) so_far
+    ∙ append_assoc before (flat_map all_in (take k parts)) one
+    ∙ ap (λ is. before ++ (flat_map all_in (take k parts) ++ is)) (sym (append-nil one))
+    ∙ ap (λ is. before ++ is)
+    (sym (flat_map-append all_in (take k parts) (get_or parts k d ∷ [])))
+    ∙ ap (λ ps. before ++ flat_map all_in ps) (sym (take_more parts k d below))
+
+-- the first part, and the others
+pub parts-whole : (parts rest : List Recorder) (first : Recorder) (all : List Instant)
+    → 0 < length parts → first ≡ get_or parts 0 first → rest ≡ drop 1 parts
+    → all ≡ instants first.rows.traces ++ flat_map (λ part. instants part.rows.traces) rest
+    → all ≡ flat_map (λ part. instants part.rows.traces) parts
+parts-whole [] rest first all some is others joined = absurd (omega (arith, some))
+parts-whole (part ∷ parts) rest first all some is others joined =
+    let all_in : Recorder → List Instant = λ one. instants one.rows.traces in
+    joined ∙ ap (λ (one : Recorder). all_in one ++ flat_map all_in rest) is
+    ∙ ap (λ ps. all_in part ++ flat_map all_in ps) others
+
+-- what is known of all parts is known of the others
+pub parts-others : (P : Recorder → Type 0) (parts rest : List Recorder)
+    → rest ≡ drop 1 parts → All P parts → All P rest
+parts-others P [] rest others each = subst (All P) (sym others) each
+parts-others P (part ∷ parts) rest others each =
+    subst (All P) (sym others) (λ k d below. each (suc k) d (omega (arith, below)))
+
+-- what is known of all parts is known of the first
+pub part-at : (P : Recorder → Type 0) (parts : List Recorder) (first : Recorder)
+    → 0 < length parts → first ≡ get_or parts 0 first → All P parts → P first
+part-at P parts first some is each = subst P (sym is) (each 0 first some)

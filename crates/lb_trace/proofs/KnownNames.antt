@@ -13,8 +13,8 @@ use Rattle.std.proofs.Common.{Equal, Greater, Less, Ordering}
 use Rattle.std.specs.Ordering.{is_lt, nat_cmp, on, then_cmp}
 use Rattle.std.specs.Str.{bytes_eq}
 use Rattle.lb_static.specs.Signature.{Elements}
-use Rattle.lb_flat.specs.Traces.{Row, Trace, Traces, cells_of_instant, instants_of, last_rows}
-use Rattle.lb_flat.specs.Traces.{trace_at, with_row, with_trace}
+use Rattle.lb_flat.specs.Traces.{Recording, Row, Trace, Traces, cells_of_instant, instants_of}
+use Rattle.lb_flat.specs.Traces.{last_rows, trace_at, with_row, with_rows, with_trace}
 use Rattle.lb_flat.proofs.Recordings.{Front, front_of}
 use Rattle.lb_trace.specs.declared.known.Known.{Known}
 use Rattle.lb_trace.specs.Mirrors.{go_on_by, is_below, knows, rises_to, start_cells}
@@ -146,6 +146,31 @@ knows-row names traces row known = (
   λ is q rises. named-row traces row q ∙ known.0 is q (sym (rises-row traces row q) ∙ rises),
   λ is q. known.1 is q ∙ sym (named-row traces row q),
 )
+
+rises-rows : (traces : Traces) (rows : List Row) (q : List ℕ)
+    → rises_to (with_rows traces rows) q ≡ rises_to traces q
+rises-rows [] rows q = refl
+rises-rows (t ∷ []) rows q = refl
+rises-rows (t ∷ u ∷ []) rows q = refl
+rises-rows (t ∷ u ∷ v ∷ more) rows q = rises-rows (u ∷ v ∷ more) rows q
+
+named-rows : (traces : Traces) (rows : List Row) (q : List ℕ)
+    → list_any (λ t. bytes_eq q t.0) (with_rows traces rows)
+    ≡ list_any (λ t. bytes_eq q t.0) traces
+named-rows [] rows q = refl
+named-rows (t ∷ []) rows q = refl
+named-rows (t ∷ u ∷ more) rows q = ap (λ b. bytes_eq q t.0 || b) (named-rows (u ∷ more) rows q)
+
+-- the names after more rows of the last trace
+pub knows-rows : (names : Known) (before after : Recording) (rows : List Row)
+    → after ≡ record before { traces = with_rows before.traces rows }
+    → knows names before.traces → knows names after.traces
+knows-rows names before after rows is known =
+    subst (λ (r : Recording). knows names r.traces) (sym is) (
+      λ rising q rises. named-rows before.traces rows q
+          ∙ known.0 rising q (sym (rises-rows before.traces rows q) ∙ rises),
+      λ risen q. known.1 risen q ∙ sym (named-rows before.traces rows q),
+    )
 
 ok_is : (b : Bool) (x next : Traces) (n : ℕ)
     → if◌then◌else◌ {A = Result Traces ℕ} b (Ok x) (Err n) ≡ Ok next → x ≡ next

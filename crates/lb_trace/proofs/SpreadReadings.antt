@@ -10,12 +10,14 @@ use Rattle.csv.specs.Reading.{default_config, records as records_by, strip_bom}
 use Rattle.csv.specs.Records.{fields_of}
 use Rattle.lb_flat.specs.Traces.{IsRecording, Recording, Traces}
 use Rattle.lb_flat.proofs.Recordings.{IsRecording-none}
+use Rattle.lb_trace.specs.declared.recorder.Recorder.{Recorder}
 use Rattle.lb_trace.specs.declared.table.Table.{Table}
+use Rattle.lb_trace.specs.Mirrors.{knows}
 use Rattle.lb_trace.specs.Plain.{plain_records}
 use Rattle.lb_trace.specs.Refusals.{with_records}
 use Rattle.lb_trace.specs.Spelling.{Record, SpelledBy, Spells, SpellsInstant}
 use Rattle.lb_trace.specs.Spelling.{instants, is_header, records_of}
-use Rattle.lb_trace.specs.Tables.{IsReadOf, columns_in}
+use Rattle.lb_trace.specs.Tables.{IsReadBy, IsReadOf, columns_in}
 use Rattle.lb_trace.proofs.Outcomes.{complete_text}
 use Rattle.lb_trace.proofs.Soundness.{Sound, sound}
 
@@ -67,30 +69,30 @@ of_collected {E = E} R xs rs all h ys worked same =
     subst (AllZip R xs) (sym same)
     (oks E R xs ys (subst (AllZip (λ x y. IfOk y (R x)) xs) worked h))
 
--- the sets have the signature
+-- what was read has the signature, and its names are known
 pub same_signatures : (elements : Elements) (table : Table) (parts : List (Bor (List ℕ)))
-    (sets : List Recording)
-    → AllZip (λ part set. IsReadOf elements table (plain_records part.now) set) parts sets
-    → All (λ set. set.signature ≡ elements) sets
-same_signatures elements table parts sets each =
-    zip-right (λ (part : Bor (List ℕ)) (set : Recording).
-    IsReadOf elements table (plain_records part.now) set)
-    (λ (set : Recording). set.signature ≡ elements) parts sets each
-    (λ part set h. h.0)
+    (read : List Recorder)
+    → AllZip (λ part one. IsReadBy elements table (plain_records part.now) one) parts read
+    → All (λ one. (one.rows.signature ≡ elements) × knows one.names one.rows.traces) read
+same_signatures elements table parts read each =
+    zip-right (λ (part : Bor (List ℕ)) (one : Recorder).
+    IsReadBy elements table (plain_records part.now) one)
+    (λ (one : Recorder). (one.rows.signature ≡ elements) × knows one.names one.rows.traces)
+    parts read each (λ part one h. (h.0.0, h.1))
 
 -- a text whose parts were read and joined spells what they spell
 pub spread_spells : (elements : Elements) (table : Table) (text rest : List ℕ)
-    (parts : List (Bor (List ℕ))) (sets : List Recording) (set : Recording)
+    (parts : List (Bor (List ℕ))) (read : List Recorder) (set : Recording)
     → length text ≤ 1073741824
     → is_header elements (fields_of table.header) ≡ true
     → records_of text ≡ fields_of table.header ∷ plain_records rest
     → plain_records rest ≡ flat_map (λ part. plain_records part.now) parts
-    → AllZip (λ part set. IsReadOf elements table (plain_records part.now) set) parts sets
+    → AllZip (λ part one. IsReadBy elements table (plain_records part.now) one) parts read
     → set.signature ≡ elements → IsRecording set
-    → instants set.traces ≡ flat_map (λ one. instants one.traces) sets
+    → instants set.traces ≡ flat_map (λ one. instants one.rows.traces) read
     → Spells elements text set.traces
 unfolding SpelledBy
-spread_spells elements table text rest parts sets set short headed all cut each same lawful
+spread_spells elements table text rest parts read set short headed all cut each same lawful
     joined =
     let records : Bor (List ℕ) → List Record = λ part. plain_records part.now in
     let spelled : AllZip (SpellsInstant elements (columns_in table)) (plain_records rest)
@@ -100,12 +102,12 @@ spread_spells elements table text rest parts sets set short headed all cut each 
     (subst (AllZip (SpellsInstant elements (columns_in table)) (flat_map records parts))
     (sym joined)
     (zip-flat (SpellsInstant elements (columns_in table)) records
-    (λ (one : Recording). instants one.traces) parts sets
-    (zip-weaker (λ (part : Bor (List ℕ)) (one : Recording).
-    IsReadOf elements table (plain_records part.now) one)
-    (λ (part : Bor (List ℕ)) (one : Recording).
-    AllZip (SpellsInstant elements (columns_in table)) (records part) (instants one.traces))
-    parts sets each (λ part one h. h.1)))) in
+    (λ (one : Recorder). instants one.rows.traces) parts read
+    (zip-weaker (λ (part : Bor (List ℕ)) (one : Recorder).
+    IsReadBy elements table (plain_records part.now) one)
+    (λ (part : Bor (List ℕ)) (one : Recorder).
+    AllZip (SpellsInstant elements (columns_in table)) (records part) (instants one.rows.traces))
+    parts read each (λ part one h. h.0.1)))) in
     record {
       short = short;
       spelled = subst (SpelledBy elements set.traces) (sym all) (headed, spelled);

@@ -4,8 +4,9 @@ use Rattle.std.specs.List.{AllZip}
 use Rattle.csv.specs.Records.{fields_of}
 use Rattle.lb_static.specs.Signature.{Elements}
 use Rattle.lb_flat.specs.Traces.{Recording}
+use Rattle.lb_trace.specs.declared.recorder.Recorder.{Recorder}
 use Rattle.lb_trace.specs.declared.table.Table.{Table}
-use Rattle.lb_trace.specs.Mirrors.{column_of}
+use Rattle.lb_trace.specs.Mirrors.{column_of, knows}
 use Rattle.lb_trace.specs.PlainRows.{AreInOrder, ArePlaced}
 use Rattle.lb_trace.specs.Spelling.{Record, SpellsInstant, after_first, instants, is_header}
 
@@ -32,3 +33,8 @@ abbrev pub IsReadOf : Elements → Table → List Record → Recording → Type 
 IsReadOf elements table records read =
     (read.signature ≡ elements)
     × AllZip (SpellsInstant elements (columns_in table)) records (instants read.traces)
+
+-- the same of what a recorder has, which knows its names
+abbrev pub IsReadBy : Elements → Table → List Record → Recorder → Type 0
+IsReadBy elements table records recorder =
+    IsReadOf elements table records recorder.rows × knows recorder.names recorder.rows.traces

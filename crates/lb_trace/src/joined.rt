@@ -1,20 +1,51 @@
 //! The traces of one part of a text after those of the parts before it.
 
-ghost use Rattle.std.specs.Prelude.{◌≡◌, ◌<◌, ◌++◌, ◌∷◌, [], OnOk, length, map, true};
-ghost use Rattle.lb_flat.specs.Traces.{IsRow, trace_at};
+ghost use Rattle.std.specs.Prelude.{◌≡◌, ◌<◌, ◌≤◌, ◌+◌, ◌++◌, ◌∷◌, [], true, All, OnOk, IsTrue};
+ghost use Rattle.std.specs.Prelude.{flat_map, get_or, length, map};
+ghost use Rattle.lb_flat.specs.Traces.{HasRoomFor, IsRecording, last_rows, rows_from, trace_at};
 ghost use Rattle.lb_trace.specs.Mirrors.{knows};
 ghost use Rattle.lb_trace.specs.Refusals.{is_last};
 ghost use Rattle.lb_trace.specs.Spelling.{instants};
 
 use crate::error::TraceError;
-use crate::recorder::{Recorder, push_to};
+use crate::recorder::Recorder;
 use lb_flat::traces::TraceSet;
 use std::alloc::{AllocError, Global};
 
+// Whether the limits have room for so many more instants of the last trace.
+fn has_room_for(set: &TraceSet, more: u32) -> bool
+    requires started { 0 < length set.now.traces }
+    requires few { more ≤ 1000000 }
+    ensures instants { IsTrue result → length (last_rows set.now.traces) + more ≤ 1000000 }
+    ensures cells { IsTrue result → HasRoomFor set.now more }
+{
+    let cells = u64::from(set.signature().len().max(1));
+    let instants = set.length(set.len() - 1) + more;
+    if instants > 1_000_000 {
+        return false;
+    }
+    (u64::from(set.instants()) + u64::from(more)) * cells <= 67_108_864
+}
+
 impl Recorder {
-    /// Adds all instants of some traces, one after the other. It fails where the name of a trace
-    /// is there already and is not that of the last one, and where a limit has no room.
-    pub(crate) fn join(&mut self, alloc: Global, set: &TraceSet) -> Result<(), TraceError>
+    /// Adds all instants of some parts, one part after the other. It fails where the name of a
+    /// trace is there already and is not that of the last one, and where a limit has no room.
+    pub(crate) fn join_all(&mut self, alloc: Global, parts: &[Recorder]) -> Result<(), TraceError>
+        requires names { knows self.old.names self.old.rows.traces }
+        requires same { All (λ part. part.rows.signature ≡ self.old.rows.signature) parts.now }
+        ensures instants { OnOk result (instants self.new.rows.traces
+            ≡ instants self.old.rows.traces
+            ++ flat_map (λ part. instants part.rows.traces) parts.now) }
+        ensures signature { OnOk result (self.new.rows.signature ≡ self.old.rows.signature) }
+    {
+        for part in parts {
+            self.join(alloc, part.rows.set())?;
+        }
+        Ok(())
+    }
+
+    // Adds all instants of some traces, one after the other.
+    fn join(&mut self, alloc: Global, set: &TraceSet) -> Result<(), TraceError>
         requires names { knows self.old.names self.old.rows.traces }
         requires same { set.now.signature ≡ self.old.rows.signature }
         ensures instants { OnOk result (instants self.new.rows.traces
@@ -40,45 +71,52 @@ impl Recorder {
         ensures signature { OnOk result (self.new.rows.signature ≡ self.old.rows.signature) }
     {
         let _ = set.signature();
-        let name = set.name(k).as_bytes();
-        let count = set.length(k);
-        self.join_row(alloc, name, set.row(k, 0))?;
-        for t in 1..count {
-            self.join_next(name, set.row(k, t))?;
-        }
-        Ok(())
+        self.join_first(alloc, set, k)?;
+        self.join_others(set, k)
     }
 
-    // Adds one more instant of the last trace, which has this name.
-    #[inline]
-    fn join_next(&mut self, name: &[u8], row: &[i32]) -> Result<(), TraceError>
+    // Adds the first instant of one of the traces.
+    fn join_first(&mut self, alloc: Global, set: &TraceSet, k: u32) -> Result<(), TraceError>
+        requires trace { k < length set.now.traces }
+        requires lawful { IsRecording set.now }
         requires names { knows self.old.names self.old.rows.traces }
-        requires last { is_last name.now self.old.rows.traces ≡ true }
-        requires row { IsRow self.old.rows.signature row.now }
+        requires same { set.now.signature ≡ self.old.rows.signature }
         ensures instants { OnOk result (instants self.new.rows.traces
-            ≡ instants self.old.rows.traces ++ (name.now, row.now) ∷ []) }
-        ensures last { OnOk result (is_last name.now self.new.rows.traces ≡ true) }
+            ≡ instants self.old.rows.traces
+            ++ ((trace_at set.now.traces k).0, get_or (trace_at set.now.traces k).1 0 []) ∷ []) }
+        ensures last { OnOk result
+            (is_last (trace_at set.now.traces k).0 self.new.rows.traces ≡ true) }
         ensures names { OnOk result (knows self.new.names self.new.rows.traces) }
         ensures signature { OnOk result (self.new.rows.signature ≡ self.old.rows.signature) }
     {
-        push_to(&mut self.rows, row, 0)
-    }
-
-    // Adds one more instant of the trace with this name.
-    fn join_row(&mut self, alloc: Global, name: &[u8], row: &[i32]) -> Result<(), TraceError>
-        requires names { knows self.old.names self.old.rows.traces }
-        requires row { IsRow self.old.rows.signature row.now }
-        ensures instants { OnOk result (instants self.new.rows.traces
-            ≡ instants self.old.rows.traces ++ (name.now, row.now) ∷ []) }
-        ensures last { OnOk result (is_last name.now self.new.rows.traces ≡ true) }
-        ensures names { OnOk result (knows self.new.names self.new.rows.traces) }
-        ensures signature { OnOk result (self.new.rows.signature ≡ self.old.rows.signature) }
-    {
+        let _ = set.length(k);
         let _ = self.rows.set().signature();
         self.row.clear();
-        let Ok(()) = self.row.extend_from_slice(row) else {
+        let Ok(()) = set.copy_row(k, 0, &mut self.row) else {
             return Err(TraceError::Memory(AllocError));
         };
-        self.add_read(alloc, name, 0)
+        self.add_read(alloc, set.name(k).as_bytes(), 0)
+    }
+
+    // Adds the other instants of one of the traces, all at once, to the last trace.
+    fn join_others(&mut self, set: &TraceSet, k: u32) -> Result<(), TraceError>
+        requires trace { k < length set.now.traces }
+        requires names { knows self.old.names self.old.rows.traces }
+        requires same { set.now.signature ≡ self.old.rows.signature }
+        requires last { is_last (trace_at set.now.traces k).0 self.old.rows.traces ≡ true }
+        ensures instants { OnOk result (instants self.new.rows.traces
+            ≡ instants self.old.rows.traces
+            ++ map (λ row. ((trace_at set.now.traces k).0, row)) (rows_from set.now.traces k 1)) }
+        ensures names { OnOk result (knows self.new.names self.new.rows.traces) }
+        ensures signature { OnOk result (self.new.rows.signature ≡ self.old.rows.signature) }
+    {
+        let more = set.length(k) - 1;
+        if !has_room_for(self.rows.set(), more) {
+            return Err(TraceError::Limit { record: None });
+        }
+        let Ok(()) = self.rows.extend(set, k, 1) else {
+            return Err(TraceError::Memory(AllocError));
+        };
+        Ok(())
     }
 }

@@ -5,7 +5,8 @@ ghost use Rattle.std.specs.List.{AllZip};
 ghost use Rattle.lb_flat.specs.Traces.{IsRecording};
 ghost use Rattle.lb_trace.specs.Plain.{plain_records};
 ghost use Rattle.lb_trace.specs.Spelling.{Spells, instants, records_of};
-ghost use Rattle.lb_trace.specs.Tables.{IsReadOf, IsTable};
+ghost use Rattle.lb_trace.specs.Mirrors.{knows};
+ghost use Rattle.lb_trace.specs.Tables.{IsReadBy, IsTable};
 ghost use Rattle.std.specs.Prelude.{◌≤◌, length};
 
 use crate::begun::begin;
@@ -26,16 +27,16 @@ fn read_part(
     signature: &Signature,
     table: &Table,
     part: &[u8],
-) -> Result<TraceSet, TraceError>
+) -> Result<Recorder, TraceError>
     requires { IsTable signature.now table.now }
-    ensures { IfOk result (IsReadOf signature.now table.now (plain_records part.now)) }
+    ensures { IfOk result (IsReadBy signature.now table.now (plain_records part.now)) }
 {
     let Ok(mut recorder) = Recorder::with_room(alloc, signature, part.len()) else {
         return Err(TraceError::Memory(AllocError));
     };
     let mut entry = ByteRecord::new(alloc);
     recorder.add_lines(alloc, table, part, &mut entry)?;
-    Ok(recorder.rows.into_set())
+    Ok(recorder)
 }
 
 // The traces of each part, in the order of the parts, or the refusal of one.
@@ -45,42 +46,43 @@ fn read_parts<R: Threads + Sync>(
     signature: &Signature,
     table: &Table,
     parts: &[&[u8]],
-) -> Result<Result<Vec<TraceSet>, TraceError>, AllocError>
+) -> Result<Result<Vec<Recorder>, TraceError>, AllocError>
     requires { IsTable signature.now table.now }
-    ensures { IfOk result (λ outer. IfOk outer (λ sets.
-        AllZip (λ part set. IsReadOf signature.now table.now (plain_records part.now) set)
-        parts.now sets.items)) }
+    ensures { IfOk result (λ outer. IfOk outer (λ read.
+        AllZip (λ part one. IsReadBy signature.now table.now (plain_records part.now) one)
+        parts.now read.items)) }
 {
     parts
         .par_iter()
         // A part is worth a thread of its own, however few there are.
         .with_min_len(1)
         .map(
-            |part: &&[u8]| -> Result<TraceSet, TraceError>
+            |part: &&[u8]| -> Result<Recorder, TraceError>
                 requires { IsTable signature.now table.now }
-                ensures { IfOk result (IsReadOf signature.entry.now table.entry.now
+                ensures { IfOk result (IsReadBy signature.entry.now table.entry.now
                     (plain_records part.now.now)) }
             { read_part(alloc, signature, table, part) },
         )
         .collect(rt, alloc)
 }
 
-// The traces of all parts of a text of so many bytes, one after the other; None where they do not
+// The traces of all parts, one after the other, put to those of the first; None where they do not
 // join.
-fn joined(alloc: Global, signature: &Signature, sets: &[TraceSet], bytes: usize) -> Option<TraceSet>
-    requires { All (λ set. set.signature ≡ signature.now) sets.now }
+fn joined(alloc: Global, signature: &Signature, parts: Vec<Recorder>) -> Option<TraceSet>
+    requires { All (λ part. (part.rows.signature ≡ signature.now)
+        × knows part.names part.rows.traces) parts.items }
     ensures { IfSome result (λ set. (set.signature ≡ signature.now) × IsRecording set
-        × (instants set.traces ≡ flat_map (λ one. instants one.traces) sets.now)) }
+        × (instants set.traces ≡ flat_map (λ part. instants part.rows.traces) parts.items)) }
 {
-    let Ok(mut recorder) = Recorder::with_room(alloc, signature, bytes) else {
+    let mut others = parts;
+    if others.is_empty() {
+        return None;
+    }
+    let mut all = others.remove(0);
+    let Ok(()) = all.join_all(alloc, &others) else {
         return None;
     };
-    for set in sets {
-        let Ok(()) = recorder.join(alloc, set) else {
-            return None;
-        };
-    }
-    let set = recorder.rows.into_set();
+    let set = all.rows.into_set();
     let _ = set.signature();
     Some(set)
 }
@@ -106,8 +108,8 @@ pub(crate) fn read_spread<R: Threads + Sync>(
     let Ok(parts) = parts_of(alloc, begun.rest, count) else {
         return None;
     };
-    let Ok(Ok(sets)) = read_parts(rt, alloc, signature, &begun.table, &parts) else {
+    let Ok(Ok(read)) = read_parts(rt, alloc, signature, &begun.table, &parts) else {
         return None;
     };
-    joined(alloc, signature, &sets, begun.rest.len())
+    joined(alloc, signature, read)
 }

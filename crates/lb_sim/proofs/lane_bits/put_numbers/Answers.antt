@@ -9,7 +9,7 @@ use Rattle.lb_sim.proofs.lane_bits.put_numbers.Goals as goal
 
 pub loop-w-init : goal.loop-w-init
 loop-w-init c =
-    lane_put_none c.args.cells.now c.args.columns.now c.args.lane c.args.words.now c.requires.ints
+    lane_put_none c.args.numbers.now c.args.lane c.args.words.now c.requires.ints
 
 pub loop-w-preserved : goal.loop-w-preserved
 loop-w-preserved c =
@@ -20,10 +20,10 @@ loop-w-preserved c =
     let there : w < length words = omega (arith, room, c.loop-w.invariant.as_long) in
     let place : get_or words w c.index-words-w.result ≡ get_or words w [] =
     get_or_default words w c.index-words-w.result [] there in
-    let same = to_z-of_z w64 c.integer_of-cell.result
-    (record { sfits = c.integer_of-cell.type_inv }) in
-    let v : ℤ = to_z w64 (of_z w64 c.integer_of-cell.result) in
-    lane_put_more c.args.cells.now c.args.columns.now c.args.lane c.args.words.now words w
+    let same = to_z-of_z w64 c.integer_of-number.result
+    (record { sfits = c.integer_of-number.type_inv }) in
+    let v : ℤ = to_z w64 (of_z w64 c.integer_of-number.result) in
+    lane_put_more c.args.numbers.now c.args.lane c.args.words.now words w
     c.set.new.self v c.loop-w.invariant room c.requires.lane
-    (same ∙ c.integer_of-cell.ensures.value) (ap is_int same ∙ c.integer_of-cell.ensures.in_range)
+    (same ∙ c.integer_of-number.ensures.value) (ap is_int same ∙ c.integer_of-number.ensures.in_range)
     (λ i l. c.set.ensures i l ∙ ap (λ xs. cond (i == c.args.lane) v (lane_of xs i)) place)

@@ -1,29 +1,46 @@
--- The instants of all sets are put together.
-use Rattle.std.proofs.Common.{List, ◌++◌, ap, ◌∙◌, arith}
-use Rattle.std.specs.Prelude.{flat_map}
-use Rattle.std.proofs.lemmas.List.{take_all}
+-- The others are put to the first.
+use Rattle.std.proofs.Common.{◌≡◌, ◌<◌, List, sym, ap, ◌∙◌, arith, length}
+use Rattle.std.proofs.lemmas.Bool.Decides.{nat_tests}
 use Rattle.lb_flat.specs.Traces.{Recording}
+use Rattle.lb_trace.specs.declared.recorder.Recorder.{Recorder}
+use Rattle.lb_trace.specs.Mirrors.{knows}
 use Rattle.lb_trace.specs.Spelling.{instants}
-use Rattle.lb_trace.proofs.JoinedTraces.{sets-more}
+use Rattle.lb_trace.proofs.JoinedTraces.{part-at, parts-others, parts-whole}
 use Rattle.lb_trace.proofs.spread.joined.Goals as goal
 
-pub loop-set-preserved : goal.loop-set-preserved
-loop-set-preserved c =
-    let before = instants c.loop-set.recorder.rows.traces in
-    record {
-      added = sets-more c.args.sets.now before (instants c.join.new.self.rows.traces)
-          c.loop-set.set-index c.set-item.result c.loop-set-test.true c.loop-set.invariant.added
-          (c.in-Ok-join.ensures.instants
-          ∙ ap (λ (one : Recording). before ++ instants one.traces) c.set-item.is);
-      follows = c.in-Ok-join.ensures.signature ∙ c.loop-set.invariant.follows;
-      known = c.in-Ok-join.ensures.names;
-    }
+pub join_all-requires-clause-names : goal.join_all-requires-clause-names
+join_all-requires-clause-names c =
+    let some : 0 < length c.args.parts.items =
+    grind (arith, nat_tests, c.is_empty.ensures, c.if-is_empty.false) in
+    part-at (λ (part : Recorder). knows part.names part.rows.traces) c.args.parts.items
+    c.remove-all.result some c.remove-all.ensures.value
+    (λ k d below. (c.requires k d below).1)
+
+pub join_all-requires-clause-same : goal.join_all-requires-clause-same
+join_all-requires-clause-same c =
+    let some : 0 < length c.args.parts.items =
+    grind (arith, nat_tests, c.is_empty.ensures, c.if-is_empty.false) in
+    let first : c.remove-all.result.rows.signature ≡ c.args.signature.now =
+    part-at (λ (part : Recorder). part.rows.signature ≡ c.args.signature.now) c.args.parts.items
+    c.remove-all.result some c.remove-all.ensures.value
+    (λ k d below. (c.requires k d below).0) in
+    parts-others (λ (part : Recorder). part.rows.signature ≡ c.remove-all.result.rows.signature)
+    c.args.parts.items c.deref.result.now (c.deref.ensures.value ∙ c.remove-all.ensures.items)
+    (λ k d below. (c.requires k d below).0 ∙ sym first)
 
 pub returns : goal.returns
-returns c = (
-  ap (λ (r : Recording). r.signature) c.into_set-set.ensures ∙ c.loop-set.invariant.follows,
-  c.signature.ensures.lawful,
-  ap (λ (r : Recording). instants r.traces) c.into_set-set.ensures ∙ c.loop-set.invariant.added
-      ∙ ap (λ (sets : List Recording). flat_map (λ (one : Recording). instants one.traces) sets)
-      (take_all c.loop-set.set-index c.args.sets.now (omega (arith, c.loop-set-test.false))),
-)
+returns c =
+    let some : 0 < length c.args.parts.items =
+    grind (arith, nat_tests, c.is_empty.ensures, c.if-is_empty.false) in
+    let first : c.remove-all.result.rows.signature ≡ c.args.signature.now =
+    part-at (λ (part : Recorder). part.rows.signature ≡ c.args.signature.now) c.args.parts.items
+    c.remove-all.result some c.remove-all.ensures.value
+    (λ k d below. (c.requires k d below).0) in (
+      ap (λ (r : Recording). r.signature) c.into_set-set.ensures ∙ c.in-Ok.ensures.signature
+          ∙ first,
+      c.signature.ensures.lawful,
+      ap (λ (r : Recording). instants r.traces) c.into_set-set.ensures
+          ∙ parts-whole c.args.parts.items c.deref.result.now c.remove-all.result _ some
+          c.remove-all.ensures.value (c.deref.ensures.value ∙ c.remove-all.ensures.items)
+          c.in-Ok.ensures.instants,
+    )

@@ -4,9 +4,9 @@ use Rattle.std.specs.Borrow.{Bor}
 use Rattle.std.proofs.lemmas.Result.{MatchResult-weaker}
 use Rattle.rayon.proofs.ListFacts.{IfOk-then}
 use Rattle.rayon.proofs.ToStd.{slice-AllZip}
-use Rattle.lb_flat.specs.Traces.{Recording}
+use Rattle.lb_trace.specs.declared.recorder.Recorder.{Recorder}
 use Rattle.lb_trace.specs.Plain.{plain_records}
-use Rattle.lb_trace.specs.Tables.{IsReadOf}
+use Rattle.lb_trace.specs.Tables.{IsReadBy}
 use Rattle.lb_trace.proofs.SpreadReadings.{of_collected}
 use Rattle.lb_trace.proofs.spread.read_parts.Goals as goal
 
@@ -17,11 +17,11 @@ collect-requires-clause-ready g c κs within =
 
 pub returns : goal.returns
 returns g c =
-    let R : Bor (List ℕ) → Recording → Type 0 =
-    λ part set. IsReadOf c.args.signature.now c.args.table.now (plain_records part.now) set in
+    let R : Bor (List ℕ) → Recorder → Type 0 =
+    λ part one. IsReadBy c.args.signature.now c.args.table.now (plain_records part.now) one in
     IfOk-then c.collect.result _ _ c.collect.ensures (λ outer h.
     let chain = rw (c.map.ensures.base, c.map.ensures.f, c.with_min_len.ensures.base) at h.1 in
     MatchResult-weaker outer h.2 (λ sets k.
     slice-AllZip chain.0 c.args.parts.now (chain.1 ∙ c.par_iter.ensures) R sets.items
-    (of_collected (λ (part : Bor (Bor (List ℕ))) (set : Recording). R part.now set) chain.0 h.0
+    (of_collected (λ (part : Bor (Bor (List ℕ))) (one : Recorder). R part.now one) chain.0 h.0
     sets.items chain.2 k.0 k.1 k.2)) (λ e q. tt))

@@ -1,6 +1,7 @@
 -- The last place is the number of all rows.
 use Rattle.std.proofs.Common.{arith, ◌≡◌, ◌+◌, ◌-◌, get_or, length, sym, subst, ◌∙◌, ap}
 use Rattle.lb_flat.specs.Traces.{Recording, IsRecording, instants_of}
+use Rattle.lb_flat.specs.Packed.{cells_of}
 use Rattle.lb_flat.proofs.Ledgers.{read_last}
 use Rattle.lb_flat.proofs.StoredRows.{instants-stored}
 use Rattle.lb_flat.proofs.Storing.{few_instants}
@@ -14,7 +15,9 @@ returns-clause-count c =
     c.self.invariant.parts.rows.ledger (omega (arith, c.self.invariant.parts.rows.paired))
     (c.index.ensures ∙ ap (λ i. get_or c.self.inside.row_ends.items i c.index.result.now) at)
     ∙ sym (instants-stored (length c.self.inside.signature) c.self.inside.names
-    c.self.inside.cells.items c.self.inside.row_ends.items c.self.invariant.parts.rows)
+    (cells_of c.self.inside.signature c.self.inside.numbers.items
+    c.self.inside.words.items c.self.inside.row_ends.items) c.self.inside.row_ends.items
+    c.self.invariant.parts.rows)
     ∙ ap (λ (r : Recording). instants_of r.traces) c.self.view_is
 
 pub returns-clause-limit : goal.returns-clause-limit

@@ -1,5 +1,6 @@
 -- There is a trace for each name.
 use Rattle.std.proofs.Common.{arith}
+use Rattle.lb_flat.specs.Packed.{cells_of}
 use Rattle.lb_flat.proofs.Storing.{count_of}
 use Rattle.lb_flat.proofs.traces.TraceSet.len.Goals as goal
 
@@ -9,5 +10,7 @@ returns-clause-count c =
       arith,
       c.len.ensures.count,
       count_of c.args.self.now c.self.inside.signature
-          c.self.inside.names c.self.inside.cells.items c.self.inside.row_ends.items c.self.view_is,
+          c.self.inside.names (cells_of c.self.inside.signature c.self.inside.numbers.items
+          c.self.inside.words.items c.self.inside.row_ends.items) c.self.inside.row_ends.items
+          c.self.view_is,
     )

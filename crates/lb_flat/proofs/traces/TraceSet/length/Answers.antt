@@ -1,6 +1,7 @@
 -- The two places around a trace part its rows from the others.
 use Rattle.std.proofs.Common.{arith, length}
 use Rattle.lb_flat.specs.Traces.{trace_at}
+use Rattle.lb_flat.specs.Packed.{cells_of}
 use Rattle.lb_flat.proofs.Storing.{count_of, parts, PartsTrace}
 use Rattle.lb_flat.proofs.traces.TraceSet.length.Goals as goal
 
@@ -10,7 +11,9 @@ index-requires c =
       arith,
       c.requires,
       c.self.invariant.parts.rows.paired,
-      count_of c.args.self.now c.self.inside.signature c.self.inside.names c.self.inside.cells.items
+      count_of c.args.self.now c.self.inside.signature c.self.inside.names
+          (cells_of c.self.inside.signature c.self.inside.numbers.items
+          c.self.inside.words.items c.self.inside.row_ends.items)
           c.self.inside.row_ends.items c.self.view_is,
     )
 
@@ -20,14 +23,18 @@ index-requires-2 c =
       arith,
       c.requires,
       c.self.invariant.parts.rows.paired,
-      count_of c.args.self.now c.self.inside.signature c.self.inside.names c.self.inside.cells.items
+      count_of c.args.self.now c.self.inside.signature c.self.inside.names
+          (cells_of c.self.inside.signature c.self.inside.numbers.items
+          c.self.inside.words.items c.self.inside.row_ends.items)
           c.self.inside.row_ends.items c.self.view_is,
     )
 
 parted : (c : goal.After-row_known-2-1) → PartsTrace
     (length (trace_at c.args.self.now.traces c.args.k).1) c.index-2.result.now c.index.result.now
 parted c = parts c.args.self.now c.self.inside.signature c.self.inside.names
-    c.self.inside.cells.items c.self.inside.row_ends.items c.args.k c.index-2.result.now
+    (cells_of c.self.inside.signature c.self.inside.numbers.items
+    c.self.inside.words.items c.self.inside.row_ends.items) c.self.inside.row_ends.items c.args.k
+    c.index-2.result.now
     c.index.result.now
     c.self.view_is c.self.invariant.parts c.requires c.index-2.ensures c.index.ensures
 

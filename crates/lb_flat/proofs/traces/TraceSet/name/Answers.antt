@@ -1,5 +1,6 @@
 -- The name at a place is that of the trace there.
 use Rattle.std.proofs.Common.{arith, ◌<◌, length, sym, ◌∙◌}
+use Rattle.lb_flat.specs.Packed.{cells_of}
 use Rattle.lb_flat.proofs.Storing.{count_of, name_of}
 use Rattle.lb_flat.proofs.traces.TraceSet.name.Goals as goal
 
@@ -9,7 +10,9 @@ get-requires c =
       arith,
       c.requires,
       count_of c.args.self.now c.self.inside.signature c.self.inside.names
-          c.self.inside.cells.items c.self.inside.row_ends.items c.self.view_is,
+          (cells_of c.self.inside.signature c.self.inside.numbers.items
+          c.self.inside.words.items c.self.inside.row_ends.items) c.self.inside.row_ends.items
+          c.self.view_is,
     )
 
 pub returns : goal.returns
@@ -19,7 +22,11 @@ returns c =
       arith,
       c.requires,
       count_of c.args.self.now c.self.inside.signature c.self.inside.names
-          c.self.inside.cells.items c.self.inside.row_ends.items c.self.view_is,
+          (cells_of c.self.inside.signature c.self.inside.numbers.items
+          c.self.inside.words.items c.self.inside.row_ends.items) c.self.inside.row_ends.items
+          c.self.view_is,
     ) in
     c.get.ensures ∙ sym (name_of c.args.self.now c.self.inside.signature c.self.inside.names
-    c.self.inside.cells.items c.self.inside.row_ends.items c.args.k c.self.view_is below)
+    (cells_of c.self.inside.signature c.self.inside.numbers.items
+    c.self.inside.words.items c.self.inside.row_ends.items) c.self.inside.row_ends.items c.args.k
+    c.self.view_is below)

@@ -1,7 +1,7 @@
 use Rattle.std.proofs.Common.{◌≡◌, length, sym, ap, ap₂, ◌∙◌, rules}
 use Rattle.std.proofs.lemmas.List.{with_items_is, places}
-use Rattle.lb_sim.specs.InputRows.{truth_columns, lane_row}
-use Rattle.lb_sim.proofs.RowsLoaded.{row_loaded, numbers_all}
+use Rattle.lb_sim.specs.InputRows.{truth_columns, number_columns, lane_row}
+use Rattle.lb_sim.proofs.RowsLoaded.{row_loaded}
 use Rattle.lb_sim.proofs.inputs.Inputs.load.Goals as goal
 
 pub load_truths-requires-clause-room : goal.load_truths-requires-clause-room
@@ -12,12 +12,13 @@ load_truths-requires-clause-room c =
     same ∙ x.planes_room ∙ ap length x.columns.all_truths
     ∙ ap (λ kinds. length (truth_columns 0 kinds)) (sym c.requires.kinds)
 
-pub load_numbers-requires-clause-columns : goal.load_numbers-requires-clause-columns
-load_numbers-requires-clause-columns c =
+pub load_numbers-requires-clause-room : goal.load_numbers-requires-clause-room
+load_numbers-requires-clause-room c =
     let x = c.args.self.now in
-    let set = c.args.set.now in
-    numbers_all x.columns.kinds.items set.signature _ c.requires.kinds
-    (c.as_slice.ensures.value ∙ x.columns.all_numbers)
+    let same : length c.as_mut_slice-3.result.now ≡ length c.args.self.now.words.items =
+    search rules in
+    same ∙ x.words_room ∙ ap length x.columns.all_numbers
+    ∙ ap (λ kinds. length (number_columns 0 kinds)) (sym c.requires.kinds)
 
 pub returns-clause-rows : goal.returns-clause-rows
 returns-clause-rows c i h e =
@@ -28,8 +29,8 @@ returns-clause-rows c i h e =
     let planes_are = with_items_is x.planes c.load_truths.new.planes (search (rules, places)) in
     let words_are = with_items_is x.words c.load_numbers.new.words (search (rules, places)) in
     ap₂ (λ ps ws. lane_row x.columns.kinds.items ps ws i) planes_are words_are
-    ∙ row_loaded set members c.args.t i x.columns.kinds.items _ _ _ c.as_slice.result.now
+    ∙ row_loaded set members c.args.t i x.columns.kinds.items _ _ _ _
     c.signature.ensures.lawful c.requires.kinds (ap (truth_columns 0) c.requires.kinds)
-    (c.as_slice.ensures.value ∙ x.columns.all_numbers)
+    (ap (number_columns 0) c.requires.kinds)
     (c.requires.members i 0 there.0) there.1 (λ b l. c.load_truths.ensures.put i b h e l)
     (λ w l. c.load_numbers.ensures.put i w h e l)
