@@ -23,4 +23,5 @@ pub mod LineReadings
 pub mod JoinedTraces
 pub mod SpreadReadings
 pub mod Fronts
+pub mod TruthCells
 pub mod KnownNames

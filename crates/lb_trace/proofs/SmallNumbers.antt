@@ -85,7 +85,8 @@ minus-first rest =
     (list_all is_ascii_digit (45 ∷ rest)) refl in
     rw test refl
 
-equal-from : (a b : ℕ) → (a == b) ≡ true → a ≡ b
+-- numbers that compare as equal are equal
+pub equal-from : (a b : ℕ) → (a == b) ≡ true → a ≡ b
 equal-from a b e = grind (arith, nat_tests)
 
 -- a number without a sign is an integer

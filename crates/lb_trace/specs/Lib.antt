@@ -10,3 +10,4 @@ pub mod Scan
 pub mod PlainRows
 pub mod Tables
 pub mod Fronts
+pub mod TruthCells

@@ -24,5 +24,6 @@ mod scan;
 mod small;
 mod spread;
 mod table;
+mod truths;
 
 pub use read::{read_traces, read_traces_by};

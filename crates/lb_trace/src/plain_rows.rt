@@ -10,6 +10,7 @@ use crate::cells::cell_value;
 use crate::header::Column;
 use crate::scan::next_cell;
 use crate::small::{Value, small_cell};
+use crate::truths::four_cells;
 use lb_static::signature::Kind;
 use std::alloc::AllocError;
 
@@ -28,13 +29,21 @@ pub(crate) fn read_line<'t>(
 {
     row.clear();
     let mut rest = text;
-    for (i, column) in columns.iter().enumerate() {
-        let Some(cell) = small_cell(column.kind, rest, true) else {
+    let mut i = 0;
+    while i < columns.len() {
+        if let Some(values) = four_cells(&columns[i..], rest) {
+            row.extend_from_slice(&values)?;
+            rest = &rest[8..];
+            i += 4;
+            continue;
+        }
+        let Some(cell) = small_cell(columns[i].kind, rest, true) else {
             return other_row(&columns[i..], rest, row);
         };
         row.push(cell.value)?;
+        i += 1;
         if cell.is_last {
-            if i + 1 != columns.len() {
+            if i != columns.len() {
                 return Ok(None);
             }
             return Ok(Some(cell.rest));

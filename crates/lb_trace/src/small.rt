@@ -186,8 +186,9 @@ fn is_bit(b: u8) -> bool
     b == b'0' || b == b'1'
 }
 
+/// The value of a digit 0 or 1.
 #[inline(always)]
-fn bit_of(b: u8) -> i32
+pub(crate) fn bit_of(b: u8) -> i32
     ensures { result ≡ (if b == 49 then pos 1 else pos 0) }
 {
     if b == b'1' { 1 } else { 0 }

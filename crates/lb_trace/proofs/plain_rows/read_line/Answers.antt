@@ -1,45 +1,61 @@
 use Rattle.std.proofs.Common.{◌+◌, ◌∙◌, ap, sym, refl, drop, arith, rules, Some}
+use Rattle.std.proofs.lemmas.List.{take_rest}
 use Rattle.lb_trace.specs.Lines.{record_of}
 use Rattle.lb_trace.specs.PlainRows.{onto, plain_row}
 use Rattle.lb_trace.proofs.PlainValues.{after-last, after-more, onto-start, pushed-value, row-full}
 use Rattle.lb_trace.proofs.PlainValues.{row-long, row-more, row-short}
+use Rattle.lb_trace.proofs.TruthCells.{goes-on-from}
 use Rattle.lb_trace.proofs.plain_rows.read_line.Goals as goal
+
+pub loop-i-preserved-in-Some : goal.loop-i-preserved-in-Some
+loop-i-preserved-in-Some c =
+    let four = c.in-Some.ensures in
+    let on = goes-on-from c.args.columns.now _ c.loop-i.i c.loop-i.rest.now _ _ c.loop-i.row.items _
+    (take_rest c.args.columns.now c.loop-i.i) (take_rest c.loop-i.rest.now 8)
+    c.in_ok-extend_from_slice.ensures.items four.2 in
+    record {
+      cells = c.loop-i.invariant.cells ∙ on.0;
+      after = c.loop-i.invariant.after ∙ on.1;
+    }
 
 pub loop-i-preserved : goal.loop-i-preserved
 loop-i-preserved c =
-    let cell = c.in-Some.cell in
+    let cell = c.in-Some-small_cell.cell in
+    let spelled = c.in-Some-small_cell.ensures in
     let columns = c.args.columns.now in
     let i = c.loop-i.i in
     record {
       cells = c.loop-i.invariant.cells
           ∙ row-more columns i _ _ c.loop-i.rest.now cell.rest.now cell.value c.loop-i.row.items
-          cell.is_last c.loop-i-test.true refl c.in-Some.ensures c.if-cell.false
+          cell.is_last c.loop-i-test.true refl spelled c.if-cell.false
           ∙ ap (λ r. onto r (plain_row (drop (i + 1) columns) (record_of cell.rest.now)))
-          (sym (pushed-value _ c.loop-i.row.items c.in-Some.cell.value (search rules)
+          (sym (pushed-value _ c.loop-i.row.items cell.value (search rules)
           c.in_ok-push.ensures.items));
       after = c.loop-i.invariant.after
-          ∙ after-more _ c.loop-i.rest.now cell.rest.now cell.value cell.is_last c.in-Some.ensures
+          ∙ after-more _ c.loop-i.rest.now cell.rest.now cell.value cell.is_last spelled
           c.if-cell.false;
     }
 
 pub returns-then-i-columns : goal.returns-then-i-columns
 returns-then-i-columns c =
-    let cell = c.in-Some.cell in
+    let cell = c.in-Some-small_cell.cell in
+    let spelled = c.in-Some-small_cell.ensures in
     onto-start _ _ c.clear.ensures.items ∙ c.loop-i.invariant.cells
     ∙ row-short c.args.columns.now c.loop-i.i _ _ c.loop-i.rest.now cell.rest.now cell.value
-    c.loop-i.row.items cell.is_last c.loop-i-test.true refl c.in-Some.ensures c.if-cell.true
+    c.loop-i.row.items cell.is_last c.loop-i-test.true refl spelled c.if-cell.true
     (omega arith)
 
 pub returns-then-cell : goal.returns-then-cell
 returns-then-cell c =
-    let cell = c.in-Some.cell in (
+    let cell = c.in-Some-small_cell.cell in
+    let spelled = c.in-Some-small_cell.ensures in (
       onto-start _ _ c.clear.ensures.items ∙ c.loop-i.invariant.cells
           ∙ row-full c.args.columns.now c.loop-i.i _ _ c.loop-i.rest.now cell.rest.now cell.value
-          c.loop-i.row.items cell.is_last c.loop-i-test.true refl c.in-Some.ensures c.if-cell.true
+          c.loop-i.row.items cell.is_last c.loop-i-test.true refl spelled c.if-cell.true
           (omega arith)
-          ∙ ap Some (sym (pushed-value _ c.loop-i.row.items c.in-Some.cell.value (search rules)
+          ∙ ap Some (sym (pushed-value _ c.loop-i.row.items cell.value (search rules)
           c.in_ok-push.ensures.items)),
-      after-last _ c.loop-i.rest.now cell.rest.now cell.value cell.is_last c.in-Some.ensures
+      after-last _ c.loop-i.rest.now cell.rest.now cell.value cell.is_last spelled
           c.if-cell.true ∙ sym c.loop-i.invariant.after,
     )
 
