@@ -7,18 +7,14 @@
 set -euo pipefail
 records=${1:-570000}
 here=$(cd "$(dirname "$0")" && pwd)
-crates=$(cd "$here/../../crates" && pwd)
-lbench=$crates/lbench
+top=$(cd "$here/../.." && pwd)
+lbench=$top/crates/lbench
 . "$here/../workspace.sh"
 
-workspace "lb_syntax: thiserror
-lb_static: lb_syntax indexmap thiserror
-lb_check: lb_static lb_syntax thiserror
-lb_flat: lb_check lb_static lb_syntax thiserror
-lb_pool: lb_flat lb_check lb_static lb_syntax atomic_table rayon
+workspace "$(grep -E '^lb_(syntax|static|check|flat|lanes|machine|sim|pool):' "$top/crates.txt")
 claim_bench: lb_pool" \
-    "$crates"/lb_{syntax,static,check,flat,pool} "$here/claim_bench"
-cp "$here/../../HANDLES" "$work/"
+    "$top"/crates/lb_{syntax,static,check,flat,lanes,machine,sim,pool} "$here/claim_bench"
+cp "$top/HANDLES" "$work/"
 (cd "$work/crates/claim_bench" && quietly rt run)
 (cd "$lbench" && quietly rt run -- --help)
 
@@ -34,8 +30,8 @@ timed() {
 
 # They take turns, so that what else the machine does falls on all.
 for _ in 1 2 3 4 5; do
-    timed reading 1 "$here/reading.lus"
     for workers in 1 4 64 0; do
+        timed "reading-$workers" "$workers" "$here/reading.lus"
         timed "workers-$workers" "$workers" "$here/interlock.lus"
         cmp "$work/workers-1.report" "$work/workers-$workers.report"
     done
@@ -48,14 +44,15 @@ echo "$(nproc) processors, $records instants"
 awk -v records="$records" '
     !($1 in least) || $2 < least[$1] { least[$1] = $2 }
     END {
-        printf "%-11s %9s %14s %14s %9s\n", "", "seconds", "minus reading", "ns an instant", "times"
-        printf "%-11s %9.3f\n", "reading", least["reading"] / 1e6
-        alone = least["workers-1"] - least["reading"]
+        printf "%-8s %9s %9s %14s %14s %9s\n", "workers", "seconds", "reading", "minus reading",
+            "ns an instant", "times"
+        alone = least["workers-1"] - least["reading-1"]
         for (i = 1; i <= split("1 4 64 0", numbers, " "); i++) {
-            name = "workers-" numbers[i]
-            rest = least[name] - least["reading"]
-            printf "%-11s %9.3f %14.3f %14.0f %9.2f\n", name, least[name] / 1e6, rest / 1e6,
-                rest * 1e3 / records, rest > 0 ? alone / rest : 0
+            whole = least["workers-" numbers[i]]
+            reading = least["reading-" numbers[i]]
+            rest = whole - reading
+            printf "%-8s %9.3f %9.3f %14.3f %14.1f %9.2f\n", numbers[i], whole / 1e6,
+                reading / 1e6, rest / 1e6, rest * 1e3 / records, rest > 0 ? alone / rest : 0
         }
     }' "$work/times"
 awk '

@@ -12,7 +12,7 @@ use Rattle.lb_static.specs.declared.elab.Elaboration.{Elaboration}
 use Rattle.lb_static.specs.declared.reach.Reached.{Reached}
 use Rattle.lb_static.specs.declared.table.Table.{Table}
 use Rattle.lb_check.specs.Acceptance.{check_refusal}
-use Rattle.lb_check.specs.Checked.{IsAnswer, IsRefusal}
+use Rattle.lb_check.specs.Correct.{IsAnswer, IsRefusal}
 use Rattle.lb_check.specs.ClockRules.{is_clocked}
 use Rattle.lb_check.specs.DefinitionRules.{is_defined}
 use Rattle.lb_check.specs.JudgedPrograms.{IsJudged}

@@ -46,7 +46,8 @@ use Rattle.lb_check.specs.PlacedClocks.{FoundCall, FoundTerm, argument_clocks, s
 use Rattle.lb_check.specs.PlacedClocks.{side_call, determined_clock, given_variables}
 use Rattle.lb_check.specs.PlacedClocks.{placed_arguments, placed_row, placed_terms, placed_side}
 use Rattle.lb_check.specs.PlacedClocks.{placed_statement, node_terms}
-use Rattle.lb_check.specs.TermClocks.{Context, context_of, declared_in, callee_in, infer_clock}
+use Rattle.lb_static.specs.ReachedNodes.{callee_in}
+use Rattle.lb_check.specs.TermClocks.{Context, context_of, declared_in, infer_clock}
 use Rattle.lb_check.specs.TermClocks.{left_clock, operands_in, operands_of, result_base, stands_for}
 use Rattle.lb_check.specs.declared.clock_set.Operand.{Operand}
 use Rattle.lb_check.specs.declared.own_clock.Clock.{Clock}

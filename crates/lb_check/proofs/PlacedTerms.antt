@@ -40,7 +40,8 @@ use Rattle.lb_check.specs.ClockSets.{are_single, calls_single}
 use Rattle.lb_check.specs.PlacedClocks.{FoundCall, FoundTerm, part, placed_terms, placed_row}
 use Rattle.lb_check.specs.PlacedClocks.{placed_arguments, argument_clocks, call_base, call_clocks}
 use Rattle.lb_check.specs.PlacedClocks.{determined_clock, given_variables, nested_call}
-use Rattle.lb_check.specs.TermClocks.{Context, context_of, declared_in, callee_in, infer_clock}
+use Rattle.lb_static.specs.ReachedNodes.{callee_in}
+use Rattle.lb_check.specs.TermClocks.{Context, context_of, declared_in, infer_clock}
 use Rattle.lb_check.specs.TermClocks.{operands_in, operands_of, input_clocks, clock_sets, base_of}
 use Rattle.lb_check.specs.TermClocks.{given_at}
 use Rattle.lb_check.specs.declared.own_clock.Clock.{Clock}

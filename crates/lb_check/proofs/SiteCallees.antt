@@ -14,7 +14,7 @@ use Rattle.lb_static.specs.ReachedNodes.{IsReached, are_linked, id_at, is_linked
 use Rattle.lb_static.specs.ReachedNodes.{tree_at}
 use Rattle.lb_static.specs.ResolvedNodes.{IsResolved, node_of, statics_of, counts_of}
 use Rattle.lb_static.specs.ResolvedTerms.{is_call, no_site, site_at, site_of}
-use Rattle.lb_check.specs.TermClocks.{callee_in}
+use Rattle.lb_static.specs.ReachedNodes.{callee_in}
 use Rattle.lb_check.proofs.DistinctNames.{held_at}
 use Rattle.lb_check.proofs.NodePlaces.{all_at, named_at}
 

@@ -40,7 +40,8 @@ use Rattle.lb_check.specs.Occurrences.{Occurrence, at, occurrences, right_sides,
 use Rattle.lb_check.specs.OwnClocks.{HasClocks, clock_in, is_clock_within, name_in}
 use Rattle.lb_check.specs.ClockSets.{is_clocked_on, IsClockSet, AreClockSets, SeesClocks, is_single}
 use Rattle.lb_check.specs.ClockSets.{are_single, is_single_within, is_statement_single}
-use Rattle.lb_check.specs.TermClocks.{Context, clock_with, context_of, callee_in, declared_in}
+use Rattle.lb_static.specs.ReachedNodes.{callee_in}
+use Rattle.lb_check.specs.TermClocks.{Context, clock_with, context_of, declared_in}
 use Rattle.lb_check.specs.TermClocks.{is_same, accepts_clock, operands_in, operands_of, operand_of}
 use Rattle.lb_check.specs.TermClocks.{infer_clock, left_clock, is_one_clocked, is_call_clocked}
 use Rattle.lb_check.specs.TermClocks.{is_equation_clocked, stands, is_resolved_statement_clocked}

@@ -42,7 +42,8 @@ use Rattle.lb_check.specs.Occurrences.{at, call_count, occurrences, occurrences_
 use Rattle.lb_check.specs.OwnClocks.{HasClocks, name_in, clock_in}
 use Rattle.lb_check.specs.ClockSets.{AreClockSets, IsClockSet, SeesClocks, is_clocked_on, is_single}
 use Rattle.lb_check.specs.ClockSets.{are_single, calls_single}
-use Rattle.lb_check.specs.TermClocks.{Context, context_of, declared_in, callee_in, is_same, both}
+use Rattle.lb_static.specs.ReachedNodes.{callee_in}
+use Rattle.lb_check.specs.TermClocks.{Context, context_of, declared_in, is_same, both}
 use Rattle.lb_check.specs.TermClocks.{together, sampled, raised, is_base_clocked, call_clock_set}
 use Rattle.lb_check.specs.TermClocks.{infer_clock, operands_in, operand_of, operands_of}
 use Rattle.lb_check.specs.declared.own_clock.Clock.TheVariants.{Base, On}

@@ -24,7 +24,8 @@ use Rattle.lb_check.specs.JudgedPrograms.{IsJudged}
 use Rattle.lb_check.specs.NodeClocks.{is_node_clocked, is_clocked_at, are_clocked_at}
 use Rattle.lb_check.specs.OwnClocks.{HasClocks}
 use Rattle.lb_check.specs.ClockSets.{SeesClocks, is_statement_single}
-use Rattle.lb_check.specs.TermClocks.{callee_in, is_body_clocked}
+use Rattle.lb_static.specs.ReachedNodes.{callee_in}
+use Rattle.lb_check.specs.TermClocks.{is_body_clocked}
 use Rattle.lb_check.specs.TermTypes.{are_typed}
 use Rattle.lb_check.specs.TypeRules.{is_typed}
 use Rattle.lb_check.proofs.FittedCalls.{at_place, node_at, specialized_instance}

@@ -26,7 +26,8 @@ use Rattle.lb_check.specs.Clocks as tree
 use Rattle.lb_check.specs.Clocks.{clock_of}
 use Rattle.lb_check.specs.Occurrences.{occurrences}
 use Rattle.lb_check.specs.OwnClocks.{HasClocks, clock_in, is_clock_within}
-use Rattle.lb_check.specs.TermClocks.{Context, callee_in, infer_clock}
+use Rattle.lb_static.specs.ReachedNodes.{callee_in}
+use Rattle.lb_check.specs.TermClocks.{Context, infer_clock}
 use Rattle.lb_check.specs.declared.clock_set.ClockSet.{ClockSet}
 use Rattle.lb_check.specs.declared.clock_set.ClockSet.TheVariants.{NoClock, AnyClock, OneClock}
 

@@ -6,7 +6,7 @@ use Rattle.std.specs.Prelude.{Option, Some, None, is_some, option_map, List, [],
 use Rattle.std.specs.Prelude.{drop, length, slice_get, if◌then◌else◌}
 use Rattle.std.specs.List.{list_all}
 use Rattle.lb_syntax.specs.Lists.{◌>>=◌, either_or, or_else, holds}
-use Rattle.lb_static.specs.ReachedNodes.{id_at}
+use Rattle.lb_static.specs.ReachedNodes.{callee_in}
 use Rattle.lb_static.specs.declared.reach.Reached.{Reached}
 use Rattle.lb_static.specs.declared.resolved.CallId.{CallId}
 use Rattle.lb_static.specs.declared.resolved.ResolvedNode.{ResolvedNode}
@@ -41,12 +41,6 @@ clock_with (Some s) = On s.variable s.sign
 
 abbrev pub declared_in : ResolvedNode → VariableId → Clock
 declared_in n x = clock_with (slice_get n.variables.items x.0 >>= λ v. v.clock)
-
-abbrev pub callee_in : Reached → ResolvedNode → CallId → Option ResolvedNode
-callee_in r n c =
-    slice_get n.calls.items c.0 >>= λ site.
-    id_at r site.callee >>= λ id.
-    slice_get r.nodes.items id.0
 
 unfoldable pub context_of : Reached → ResolvedNode → Context
 context_of r n = record { variable = declared_in n; callee = callee_in r n }

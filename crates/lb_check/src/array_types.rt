@@ -9,7 +9,7 @@ ghost use Rattle.lb_check.specs.Types as types;
 
 use crate::data_type::{DataType, Signature, all_are, are_same};
 use crate::operand_types::one;
-use lb_syntax::tree::ArrayIterator;
+use lb_syntax::ArrayIterator;
 use std::alloc::{AllocError, Global};
 
 /// The most elements of an array.

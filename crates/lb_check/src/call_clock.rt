@@ -11,7 +11,7 @@ use crate::clock_set::{ClockSet, Operand};
 use crate::own_clock::Clock;
 use crate::term_clock::ClockEnv;
 use crate::type_env::variables_at;
-use lb_static::resolved::{ResolvedNode, Sampling, Term, Variable, VariableId};
+use lb_static::{ResolvedNode, Sampling, Term, Variable, VariableId};
 use std::alloc::{AllocError, Global};
 
 /// The variable that a term is, in parentheses or not.

@@ -8,10 +8,7 @@ ghost use Rattle.lb_check.specs.LawfulPrograms.{IsChecked};
 use crate::found_clocks::{CallClock, NodeClocks};
 use crate::found_types::NodeTypes;
 use crate::own_clock::Clock;
-use lb_static::elab::Elab;
-use lb_static::reach::NodeId;
-use lb_static::signature::Signature;
-use lb_static::table::SpecializationId;
+use lb_static::{Elab, NodeId, Signature, SpecializationId};
 use std::marker::Model;
 
 /// A program that keeps the rules of types, clocks and definitions, and what is found of it.

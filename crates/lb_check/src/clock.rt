@@ -11,7 +11,7 @@ ghost use Rattle.lb_check.specs.ClockRules.{are_declared_clocks};
 ghost use Rattle.lb_check.specs.ClockDepths.{AreAwaited, AreDepths, AreFound, IsKnown};
 ghost use Rattle.lb_check.specs.ClockDepths.{HasDepth, depth_within, waits_below};
 
-use lb_static::resolved::{ResolvedNode, Variable};
+use lb_static::{ResolvedNode, Variable};
 use std::alloc::{AllocError, Global};
 
 /// How deep the declared clock of a variable stands: the steps to a variable without a clock, or

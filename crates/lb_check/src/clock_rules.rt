@@ -19,9 +19,7 @@ use crate::clock_set::ClockSet;
 use crate::own_clock::{Clock, is_same};
 use crate::term_clock::{ClockEnv, infer_clock, operands_of};
 use crate::used_nodes::used_nodes;
-use lb_static::reach::{NodeId, Reached};
-use lb_static::resolved::{CallId, ResolvedStatement, Term, VariableId};
-use lb_static::table::Table;
+use lb_static::{CallId, NodeId, Reached, ResolvedStatement, Table, Term, VariableId};
 use std::alloc::{AllocError, Global};
 
 /// The clock of an equation: that of its first left variable.

@@ -4,7 +4,7 @@ ghost use Rattle.std.specs.Prelude.{◌≡◌};
 ghost use Rattle.lb_check.specs.TermClocks as mirror;
 
 use crate::own_clock::{Clock, is_same};
-use lb_static::resolved::VariableId;
+use lb_static::VariableId;
 
 /// The clocks that a term accepts.
 #[derive(Clone, Copy)]

@@ -5,7 +5,7 @@ ghost use Rattle.std.specs.List.{list_all};
 ghost use Rattle.lb_static.specs.DataTypes.{is_type, are_types, int, truth};
 ghost use Rattle.lb_check.specs.StoredTypes.{view_type};
 
-use lb_syntax::tree::Kind;
+use lb_syntax::Kind;
 use std::alloc::{AllocError, Global};
 
 /// A type: a kind and the lengths of an array of it, the outermost last; a scalar has none.

@@ -12,9 +12,9 @@ ghost use Rattle.lb_static.specs.Names.{keeps_names};
 ghost use Rattle.lb_static.specs.ReachedNodes.{IsReached};
 
 use crate::used_nodes::used_nodes;
-use lb_static::reach::{NodeId, Reached};
-use lb_static::resolved::{CallSite, ResolvedNode, ResolvedStatement, Term, VariableId};
-use lb_static::table::Table;
+use lb_static::{
+    CallSite, NodeId, Reached, ResolvedNode, ResolvedStatement, Table, Term, VariableId,
+};
 use std::alloc::{AllocError, Global};
 
 /// Counts the places of some left variables: 0, 1, and 2 for any more.

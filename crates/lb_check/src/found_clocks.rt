@@ -4,7 +4,7 @@ ghost use Rattle.std.specs.Prelude.{◌≡◌, OnOk};
 ghost use Rattle.lb_check.specs.PlacedClocks as placed_mirror;
 
 use crate::own_clock::Clock;
-use lb_static::resolved::VariableId;
+use lb_static::VariableId;
 use std::alloc::AllocError;
 
 /// A variable of a callee, and that of its caller which stands for it.

@@ -5,7 +5,7 @@ ghost use Rattle.lb_check.specs.PlacedTypes as placed_mirror;
 ghost use Rattle.lb_check.specs.StoredTypes.{view_type};
 
 use crate::data_type::DataType;
-use lb_syntax::tree::Kind;
+use lb_syntax::Kind;
 use std::alloc::{AllocError, Global};
 
 /// The greatest size of a program.

@@ -8,7 +8,7 @@ ghost use Rattle.lb_check.specs.StoredClocks.{given_in};
 use crate::call_clock::{Given, parameters};
 use crate::clock_set::Operand;
 use crate::found_clocks::GivenVariable;
-use lb_static::resolved::{ResolvedNode, Sampling, VariableId};
+use lb_static::{ResolvedNode, Sampling, VariableId};
 use std::alloc::{AllocError, Global};
 
 /// Whether a clock waits for the variable at this place.

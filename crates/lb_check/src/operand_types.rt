@@ -8,7 +8,7 @@ ghost use Rattle.lb_check.specs.Types as types;
 
 use crate::array_types;
 use crate::data_type::{DataType, Signature};
-use lb_syntax::tree::{BinaryOperator, Kind, UnaryOperator};
+use lb_syntax::{BinaryOperator, Kind, UnaryOperator};
 use std::alloc::{AllocError, Global};
 
 /// What is given, where the operands fit.

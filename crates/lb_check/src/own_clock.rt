@@ -10,7 +10,7 @@ ghost use Rattle.lb_check.specs.StoredClocks.{clock_above};
 ghost use Rattle.lb_check.specs.TermClocks as mirror;
 ghost use Rattle.lb_static.specs.declared.resolved.ResolvedNode as resolved;
 
-use lb_static::resolved::{ResolvedNode, Sampling, VariableId};
+use lb_static::{ResolvedNode, Sampling, VariableId};
 
 /// A clock of a node. The clock above `On(x, _)` is always the declared clock of `x`, so that two
 /// clocks are the same if their variables and signs are.

@@ -12,8 +12,7 @@ use crate::found_clocks::{CallClock, NodeClocks};
 use crate::given_variables::given_variables;
 use crate::own_clock::Clock;
 use crate::term_clock::{ClockEnv, infer_clock, operands_of};
-use lb_static::reach::Reached;
-use lb_static::resolved::{CallId, ResolvedNode, ResolvedStatement, Term, VariableId};
+use lb_static::{CallId, Reached, ResolvedNode, ResolvedStatement, Term, VariableId};
 use std::alloc::{AllocError, Global};
 
 /// The clock that a set determines, or the base clock where it determines none.

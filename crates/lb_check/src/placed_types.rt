@@ -8,9 +8,7 @@ ghost use Rattle.lb_check.specs.TermTypes as mirror;
 use crate::found_types::NodeTypes;
 use crate::type_env::TypeEnv;
 use crate::types::results;
-use lb_static::reach::Reached;
-use lb_static::resolved::{ResolvedStatement, Term};
-use lb_static::table::{Specialization, Table};
+use lb_static::{Reached, ResolvedStatement, Specialization, Table, Term};
 use std::alloc::{AllocError, Global};
 
 /// The greatest size of a program.

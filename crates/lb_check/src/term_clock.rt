@@ -7,8 +7,7 @@ ghost use Rattle.lb_check.specs.TermClocks as mirror;
 use crate::call_clock::{call_clock_set, is_base_clocked, variable_of};
 use crate::clock_set::{ClockSet, Operand, together};
 use crate::own_clock::{Clock, declared_clock, parent};
-use lb_static::reach::Reached;
-use lb_static::resolved::{CallId, ResolvedNode, Term, VariableId};
+use lb_static::{CallId, Reached, ResolvedNode, Term, VariableId};
 use std::alloc::{AllocError, Global};
 
 /// A node whose clocks are judged, among the reached nodes.
@@ -32,9 +31,7 @@ impl<'a, 's> ClockEnv<'a, 's> {
     pub fn callee(&self, c: CallId) -> Option<&'a ResolvedNode<'s>>
         ensures { option_map (λ n. n.now) result ≡ (context_in self.now).callee c }
     {
-        let site = self.node.calls.get(c.0 as usize)?;
-        let id = self.reached.called(site)?;
-        self.reached.nodes.get(id.0 as usize)
+        self.reached.callee(self.node, c)
     }
 
     /// Where `current` of a term that stands there may stand: one clock further up.

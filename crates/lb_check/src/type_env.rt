@@ -8,10 +8,10 @@ ghost use Rattle.lb_check.specs.TermTypes as mirror;
 
 use crate::data_type::{DataType, Signature};
 use crate::operand_types::constant_type;
-use lb_static::reach::Reached;
-use lb_static::resolved::{CallId, CallSite, ResolvedNode, StaticId, Variable, VariableId};
-use lb_static::static_value::StaticInt;
-use lb_static::table::{Specialization, Table};
+use lb_static::{
+    CallId, CallSite, Reached, ResolvedNode, Specialization, StaticId, StaticInt, Table, Variable,
+    VariableId,
+};
 use std::alloc::{AllocError, Global};
 
 /// A specialization, with its node, among the reached nodes and the specializations.

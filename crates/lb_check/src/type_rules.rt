@@ -14,9 +14,9 @@ ghost use Rattle.lb_check.specs.TermTypes as mirror;
 use crate::data_type::{DataType, are_same};
 use crate::type_env::TypeEnv;
 use crate::types::{results, type_of};
-use lb_static::reach::{NodeId, Reached};
-use lb_static::resolved::{ResolvedStatement, Term, Variable, VariableId};
-use lb_static::table::{Specialization, Table};
+use lb_static::{
+    NodeId, Reached, ResolvedStatement, Specialization, Table, Term, Variable, VariableId,
+};
 use std::alloc::{AllocError, Global};
 
 /// The types of variables.

@@ -11,8 +11,8 @@ use crate::operand_types::{
     common_type, joined, literal_type, of_operands, one, only, symbol_types, unary_type, when_truth,
 };
 use crate::type_env::TypeEnv;
-use lb_static::resolved::{CallId, Term};
-use lb_syntax::tree::{ArrayIterator, BinaryOperator, Kind};
+use lb_static::{CallId, Term};
+use lb_syntax::{ArrayIterator, BinaryOperator, Kind};
 use std::alloc::{AllocError, Global};
 
 /// The type of an array of operands of these types, as what a row gives.

@@ -3,8 +3,7 @@
 ghost use Rattle.std.specs.Prelude.{◌≡◌, ◌⊎◌, ℕ, Bool, true, false, not, get_or, find, map, IfOk};
 ghost use Rattle.lb_static.specs.declared.reach.NodeId as reach;
 
-use lb_static::reach::NodeId;
-use lb_static::table::Specialization;
+use lb_static::{NodeId, Specialization};
 use std::alloc::{AllocError, Global};
 
 /// Flags a node, and tells whether it was not flagged before. A node past the flags never is.

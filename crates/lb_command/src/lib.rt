@@ -1,6 +1,9 @@
 //! The command line: from the words of a run and its streams to its exit status.
 #![tactic(auto)]
 
-pub mod command;
-pub mod refusal;
+mod refusal;
 mod request;
+mod run;
+
+pub use refusal::Refusal;
+pub use run::{command, refuse};

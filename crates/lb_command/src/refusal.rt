@@ -2,10 +2,7 @@
 
 ghost use Rattle.std.specs.Prelude.{◌≡◌, ◌<◌};
 
-use lb_report::error::BenchError;
-use lb_report::feed::LoadError;
-use lb_report::refusal::word;
-use lb_report::sink::Sent;
+use lb_report::{BenchError, LoadError, Sent, word};
 use std::alloc::AllocError;
 use std::fmt;
 
@@ -19,7 +16,7 @@ pub struct Refusal {
 }
 
 impl Refusal {
-    ghost use Rattle.lb_command.specs.Outcomes.{refusal_status};
+    ghost use Rattle.lb_command.specs.Correct.{refusal_status};
 
     /// E0: memory ran out.
     pub const MEMORY: Refusal = Refusal {

@@ -5,7 +5,7 @@ ghost use Rattle.std.specs.Prelude.{◌≡◌, ◌≤◌, Some, None, IfOk};
 use crate::refusal::Refusal;
 use clap::error::ErrorKind;
 use clap::{Arg, ArgAction, ArgMatches, Command};
-use lb_report::options::Options;
+use lb_report::Options;
 use std::alloc::{AllocError, Global};
 
 /// What the words ask for.

@@ -4,7 +4,7 @@ use Rattle.std.proofs.Common.{List, [], ◌∷◌, sym, ap, subst, arith}
 use Rattle.std.proofs.lemmas.Bool.Decides.{eqb_tells}
 use Rattle.lb_syntax.specs.Lists.{Every, In}
 use Rattle.lb_check.proofs.ApartLists.{Every-at}
-use Rattle.lb_flat.specs.Expanded.{IsOrderingOf}
+use Rattle.lb_flat.specs.Correct.{IsOrderingOf}
 use Rattle.lb_flat.specs.Flat.{FlatEquation}
 use Rattle.lb_flat.specs.Judging.{FlatProgram}
 use Rattle.lb_flat.specs.Reading.{Chain, one_read, more_reads}

@@ -14,7 +14,7 @@ use Rattle.lb_static.specs.declared.resolved.ResolvedStatement.{ResolvedStatemen
 use Rattle.lb_static.specs.declared.table.Table.{Table}
 use Rattle.lb_flat.specs.declared.equation.Clock.{Clock}
 use Rattle.lb_flat.specs.declared.equation.ElementId.{ElementId}
-use Rattle.lb_flat.specs.declared.expand.start.Start.{Start}
+use Rattle.lb_flat.specs.declared.expansion.start.Start.{Start}
 use Rattle.lb_flat.specs.AssembledPrograms.{after_copies, assembled}
 use Rattle.lb_flat.specs.Emit.{State, Emitted, gives, before_instances}
 use Rattle.lb_flat.specs.EmitRows.{bodies}

@@ -14,7 +14,7 @@ use Rattle.std.proofs.lemmas.List.FromFn.{length-map-range_with_len, get_or-map-
 use Rattle.std.proofs.lemmas.List.FromFn.{map-range_with_len_more}
 use Rattle.lb_syntax.specs.declared.tree.ArrayIterator.{ArrayIterator}
 use Rattle.lb_syntax.specs.declared.tree.ArrayIterator.TheVariants.{Map, Red, Fill}
-use Rattle.lb_flat.specs.declared.expand.frame.Callee.{Callee}
+use Rattle.lb_flat.specs.declared.expansion.frame.Callee.{Callee}
 use Rattle.lb_flat.specs.Emit.{State, Emitted, gives, joins, Target, copied}
 use Rattle.lb_flat.specs.EmitTerms.{Context, input_targets, part_copies, accumulator, index_copies}
 use Rattle.lb_flat.specs.EmitTerms.{gathered_at, index_outputs, call_copies, call_outputs}

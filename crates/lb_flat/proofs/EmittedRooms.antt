@@ -14,7 +14,7 @@ use Rattle.lb_check.specs.Scalars.{Boolean, first_value}
 use Rattle.lb_flat.specs.declared.equation.Clock.{Clock}
 use Rattle.lb_flat.specs.declared.equation.ClockId.{ClockId}
 use Rattle.lb_flat.specs.declared.equation.ElementId.{ElementId}
-use Rattle.lb_flat.specs.declared.expand.term_emission.TermEmission.{TermEmission}
+use Rattle.lb_flat.specs.declared.expansion.term_emission.TermEmission.{TermEmission}
 use Rattle.lb_flat.specs.Emit.{State, Emitted, push, add, keep, chained, twice, emit_nor}
 use Rattle.lb_flat.specs.Emit.{emit_at_most_one}
 use Rattle.lb_flat.specs.EmitTerms.{each, memory, pairs, choose, red, symbol}

@@ -14,7 +14,7 @@ use Rattle.lb_static.specs.declared.reach.Reached.{Reached}
 use Rattle.lb_static.specs.declared.resolved.ResolvedNode.{ResolvedNode}
 use Rattle.lb_static.specs.declared.table.Instance as row
 use Rattle.lb_static.specs.declared.table.Table.{Table}
-use Rattle.lb_flat.specs.declared.expand.start.Start.{Start}
+use Rattle.lb_flat.specs.declared.expansion.start.Start.{Start}
 use Rattle.lb_flat.specs.Emit.{State, Emitted, Target, gives, copied, from_inputs}
 use Rattle.lb_flat.specs.EmitRows.{node_in}
 use Rattle.lb_flat.specs.EmitTerms.{Context}

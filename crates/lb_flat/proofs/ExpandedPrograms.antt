@@ -6,7 +6,7 @@ use Rattle.lb_static.specs.Instantiation.{static_refusal}
 use Rattle.lb_check.specs.Acceptance.{check_refusal}
 use Rattle.lb_check.specs.Elements.{program_elements}
 use Rattle.lb_flat.specs.Emit.{expanded}
-use Rattle.lb_flat.specs.Expanded.{IsExpansionOf}
+use Rattle.lb_flat.specs.Correct.{IsExpansionOf}
 use Rattle.lb_flat.specs.Judging.{FlatProgram}
 use Rattle.lb_flat.specs.NumberedLayouts.{layout}
 use Rattle.lb_flat.proofs.AcceptedExpansion.{program_expansion}

@@ -9,7 +9,7 @@ use Rattle.lb_check.specs.Elements.{program_elements}
 use Rattle.lb_check.specs.Needs.{Element, Needs, Reaches, at_once, through, IsCausal, IsCyclic}
 use Rattle.lb_check.proofs.AcceptedNumbers.{number_is}
 use Rattle.lb_check.proofs.OperandTypes.{some_same}
-use Rattle.lb_flat.specs.Expanded.{HasReads, IsExpansionOf, IsOrderingOf}
+use Rattle.lb_flat.specs.Correct.{HasReads, IsExpansionOf, IsOrderingOf}
 use Rattle.lb_flat.specs.Flat.{FlatEquation}
 use Rattle.lb_flat.specs.Judging.{FlatProgram}
 use Rattle.lb_flat.specs.Reading.{Chain, one_read, more_reads, NeedsAt, IsReadCycle, IsCertificate}

@@ -37,7 +37,8 @@ use Rattle.lb_check.specs.LawfulPrograms.{IsChecked}
 use Rattle.lb_check.specs.Occurrences.{Occurrence, node_occurrences}
 use Rattle.lb_check.specs.OwnClocks.{HasClocks, clock_in, is_clock_within, name_in}
 use Rattle.lb_check.specs.Scalars.{Bad, Integer, or_fault}
-use Rattle.lb_check.specs.TermClocks.{callee_in, declared_in}
+use Rattle.lb_static.specs.ReachedNodes.{callee_in}
+use Rattle.lb_check.specs.TermClocks.{declared_in}
 use Rattle.lb_check.specs.declared.checked.Checking.{Checking}
 use Rattle.lb_check.specs.declared.found_clocks.NodeClocks.{NodeClocks}
 use Rattle.lb_check.specs.declared.own_clock.Clock.{Clock}

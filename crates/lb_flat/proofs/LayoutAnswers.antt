@@ -6,7 +6,7 @@ use Rattle.lb_static.specs.declared.elab.Elaboration.{Elaboration}
 use Rattle.lb_flat.specs.declared.error.FlatError.{FlatError}
 use Rattle.lb_flat.specs.declared.error.FlatError.TheVariants as error
 use Rattle.lb_flat.specs.declared.layout.Layout.{Layout}
-use Rattle.lb_flat.specs.Expanded.{IsExpansionAnswer}
+use Rattle.lb_flat.specs.Correct.{IsExpansionAnswer}
 use Rattle.lb_flat.specs.Rows.{element_total}
 use Rattle.lb_flat.proofs.TableSizes.{too_many}
 

@@ -6,7 +6,7 @@ use Rattle.lb_check.specs.Acceptance.{check_refusal}
 use Rattle.lb_check.specs.Elements.{program_elements}
 use Rattle.lb_check.specs.Needs.{Element, Needs}
 use Rattle.lb_flat.specs.Emit.{expanded}
-use Rattle.lb_flat.specs.Expanded.{HasReads, IsExpansionOf}
+use Rattle.lb_flat.specs.Correct.{HasReads, IsExpansionOf}
 use Rattle.lb_flat.specs.GivenOnce.{IsGiven}
 use Rattle.lb_flat.specs.NumberedLayouts.{layout}
 use Rattle.lb_flat.specs.Reading.{Leads, NeedsAt}

@@ -14,8 +14,8 @@ use Rattle.lb_check.proofs.ApartLists.{Every-from}
 use Rattle.lb_check.proofs.NamedClocks.{declared_over}
 use Rattle.lb_check.proofs.OccurrenceClocks.{IsVariable, own_variables}
 use Rattle.lb_flat.specs.Emit.{expanded}
-use Rattle.lb_flat.specs.Expanded.{IsOrderingOf}
-use Rattle.lb_flat.specs.Expanded.{HasReads}
+use Rattle.lb_flat.specs.Correct.{IsOrderingOf}
+use Rattle.lb_flat.specs.Correct.{HasReads}
 use Rattle.lb_flat.specs.Flat.{FlatEquation}
 use Rattle.lb_flat.specs.GivenOnce.{IsGiven}
 use Rattle.lb_flat.specs.Layouts.{flat_clock}

@@ -10,7 +10,7 @@ use Rattle.lb_check.specs.Occurrences.{Occurrence, node_occurrences}
 use Rattle.lb_check.specs.Scalars.{Stream}
 use Rattle.lb_check.specs.Solutions.{Inputs}
 use Rattle.lb_check.specs.Streams.{History}
-use Rattle.lb_flat.specs.Expanded.{IsOrderingOf}
+use Rattle.lb_flat.specs.Correct.{IsOrderingOf}
 use Rattle.lb_flat.specs.Flat.{Operation, FlatEquation, Holds}
 use Rattle.lb_flat.specs.FlatSolutions.{IsCellFit, IsFlatSolution}
 use Rattle.lb_flat.specs.Flattening.{IsWatched}

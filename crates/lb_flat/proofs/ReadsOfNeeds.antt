@@ -20,7 +20,7 @@ use Rattle.lb_check.specs.Solutions.{columns_at}
 use Rattle.lb_check.proofs.AcceptedNumbers.{numbers_below}
 use Rattle.lb_check.proofs.ApartLists.{in_first, in_second, in_either, Every-at, Every-from}
 use Rattle.lb_check.proofs.ApartLists.{of_pieces, to_pieces}
-use Rattle.lb_flat.specs.Expanded.{HasReads}
+use Rattle.lb_flat.specs.Correct.{HasReads}
 use Rattle.lb_flat.proofs.ExpansionReads.{reads_at, cycle_read as cycle_of_reads}
 use Rattle.lb_check.proofs.Numbers.{got_within}
 use Rattle.lb_flat.specs.Flat.{FlatClock, FlatEquation}

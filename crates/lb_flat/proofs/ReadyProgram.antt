@@ -21,7 +21,7 @@ use Rattle.lb_flat.specs.Emit.{expanded}
 use Rattle.lb_flat.specs.EmitRows.{HasRows, IsCounted, bodies}
 use Rattle.lb_flat.specs.EmitTerms.{Context}
 use Rattle.lb_flat.specs.EmitWhole.{IsReady, start_in, whole}
-use Rattle.lb_flat.specs.Expanded.{IsExpansionOf}
+use Rattle.lb_flat.specs.Correct.{IsExpansionOf}
 use Rattle.lb_flat.specs.Judging.{FlatProgram}
 use Rattle.lb_flat.specs.NumberedLayouts.{layout}
 use Rattle.lb_flat.specs.RowFrames.{IsFrameOf, contexts_of, found_row, frame_contexts, is_row}

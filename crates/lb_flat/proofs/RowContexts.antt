@@ -29,7 +29,7 @@ use Rattle.lb_check.specs.Elements.{numbers_of}
 use Rattle.lb_check.specs.OwnClocks.{name_in}
 use Rattle.lb_check.specs.Scalars.{or_fault}
 use Rattle.lb_check.specs.Streams.{number}
-use Rattle.lb_check.specs.TermClocks.{callee_in}
+use Rattle.lb_static.specs.ReachedNodes.{callee_in}
 use Rattle.lb_check.proofs.ApartLists.{Every-at}
 use Rattle.lb_check.proofs.Checks.{names_kept}
 use Rattle.lb_check.proofs.FittedCalls.{node_at, values_at}

@@ -30,7 +30,7 @@ use Rattle.lb_check.specs.Elements.{numbers_of}
 use Rattle.lb_check.specs.Occurrences.{Occurrence, node_occurrences}
 use Rattle.lb_check.specs.OwnClocks.{name_in}
 use Rattle.lb_check.specs.Streams.{data_type, part_count}
-use Rattle.lb_check.specs.TermClocks.{callee_in}
+use Rattle.lb_static.specs.ReachedNodes.{callee_in}
 use Rattle.lb_check.proofs.DeterminedClocks.{count_of}
 use Rattle.lb_check.proofs.DistinctNames.{held_at}
 use Rattle.lb_check.proofs.FittedTypes.{unfound}

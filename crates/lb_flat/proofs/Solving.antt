@@ -20,7 +20,7 @@ use Rattle.lb_flat.specs.Flat.{instants, Holds, FlatSolves}
 use Rattle.lb_flat.specs.Run.{Ready}
 use Rattle.lb_flat.specs.Layouts.{Layout, flat_clock}
 use Rattle.lb_flat.specs.Emit.{expanded}
-use Rattle.lb_flat.specs.Expanded.{IsOrderingOf}
+use Rattle.lb_flat.specs.Correct.{IsOrderingOf}
 use Rattle.lb_flat.specs.Flattening.{history_of, IsTrace}
 use Rattle.lb_flat.proofs.Lists.{Every-in}
 use Rattle.lb_flat.proofs.Counting.{IsTruth}

@@ -8,7 +8,7 @@ use Rattle.lb_check.specs.Scalars.{Stream}
 use Rattle.lb_check.specs.Solutions.{Inputs, Solves, AreSame}
 use Rattle.lb_check.specs.Streams.{History}
 use Rattle.lb_check.specs.Verdicts.{HasVerdict, IsOnlyVerdict}
-use Rattle.lb_flat.specs.Expanded.{IsOrderingOf, IsOrderOf}
+use Rattle.lb_flat.specs.Correct.{IsOrderingOf, IsOrderOf}
 use Rattle.lb_flat.specs.Fitting.{IsFitting}
 use Rattle.lb_flat.specs.Flat.{FlatEquation}
 use Rattle.lb_flat.specs.FlatPrograms.{IsFlatOf}

@@ -16,7 +16,7 @@ use Rattle.lb_check.specs.Scalars.{Scalar, or_fault}
 use Rattle.lb_check.specs.Streams.{number}
 use Rattle.lb_check.specs.Types.{data_types}
 use Rattle.lb_check.proofs.DeterminedClocks.{count_of}
-use Rattle.lb_flat.specs.declared.expand.frame.Callee.{Callee}
+use Rattle.lb_flat.specs.declared.expansion.frame.Callee.{Callee}
 use Rattle.lb_flat.specs.EmitTerms.{Context}
 use Rattle.lb_flat.specs.Layouts.{Layout, flat_clock}
 

@@ -20,7 +20,7 @@ use Rattle.lb_static.specs.declared.resolved.Term.{Join', Array', AtMostOne', No
 use Rattle.lb_static.specs.declared.resolved.Term.{IterateNode', IterateSymbol', Row_of-Term}
 use Rattle.lb_static.specs.declared.resolved.Term.{end_of-Term, more_of-Term}
 use Rattle.lb_check.specs.Scalars.{Scalar, Integer, Boolean, Bad, first_value}
-use Rattle.lb_flat.specs.declared.expand.frame.Callee.{Callee}
+use Rattle.lb_flat.specs.declared.expansion.frame.Callee.{Callee}
 use Rattle.lb_flat.specs.Flat.{FlatClock, Operation, Constant, ApplyUnary, ApplyBinary}
 use Rattle.lb_flat.specs.Flat.{FirstThen, Previous, Latest, Sample, FlatEquation}
 use Rattle.lb_flat.specs.Emit.{State, Emitted, gives, add, keep, assert, joins, chosen_by, chained}

@@ -13,7 +13,7 @@ use Rattle.lb_static.specs.declared.table.Instance as row
 use Rattle.lb_static.specs.declared.table.Origin.{Origin}
 use Rattle.lb_static.specs.declared.table.Origin.TheVariants as origin
 use Rattle.lb_static.specs.declared.table.Table.{Table}
-use Rattle.lb_flat.specs.declared.expand.start.Start.{Start}
+use Rattle.lb_flat.specs.declared.expansion.start.Start.{Start}
 use Rattle.lb_flat.specs.ClockUses.{clock_numbers}
 use Rattle.lb_flat.specs.Emit.{Target, copied, from_inputs, before_instances}
 use Rattle.lb_flat.specs.EmitRows.{node_in, bodies}

@@ -2,8 +2,8 @@
 -- This file says what data of the program mean; no definition of the language stands on it.
 use Rattle.std.specs.Prelude.{ℕ, ◌+◌, ◌<◌, ◌≤◌, ◌^◌, List, ◌++◌, map}
 use Rattle.std.specs.List.{range_with_len}
-use Rattle.lb_flat.specs.declared.expand.frame.Elements.{Elements}
-use Rattle.lb_flat.specs.declared.expand.frame.Place.{Place as CodePlace}
+use Rattle.lb_flat.specs.declared.expansion.frame.Elements.{Elements}
+use Rattle.lb_flat.specs.declared.expansion.frame.Place.{Place as CodePlace}
 use Rattle.lb_flat.specs.Emit.{State, Target}
 use Rattle.lb_flat.specs.EmitTerms.{Place, PlacedEmitted, PlacedState, placed}
 use Rattle.lb_flat.specs.Flat.{FlatClock, FlatEquation, Copy}

@@ -19,7 +19,7 @@ pub mod PreparedParts
 pub mod InOrder
 pub mod Inputs
 pub mod GivenOnce
-pub mod Expanded
+pub mod Correct
 pub mod Prefixes
 pub mod Ordering
 pub mod EmitTerms

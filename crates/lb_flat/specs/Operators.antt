@@ -2,10 +2,10 @@
 -- This file says what data of the program mean; no definition of the language stands on it.
 use Rattle.std.specs.Prelude.{ℕ, ◌<◌, false}
 use Rattle.lb_check.specs.Scalars.{first_value}
-use Rattle.lb_flat.specs.declared.expand.operators.Unary.{Unary}
-use Rattle.lb_flat.specs.declared.expand.operators.Unary.TheVariants as unary
-use Rattle.lb_flat.specs.declared.expand.operators.Pair.{Pair}
-use Rattle.lb_flat.specs.declared.expand.operators.Pair.TheVariants as pair
+use Rattle.lb_flat.specs.declared.expansion.operators.Unary.{Unary}
+use Rattle.lb_flat.specs.declared.expansion.operators.Unary.TheVariants as unary
+use Rattle.lb_flat.specs.declared.expansion.operators.Pair.{Pair}
+use Rattle.lb_flat.specs.declared.expansion.operators.Pair.TheVariants as pair
 use Rattle.lb_flat.specs.Flat as flat
 
 -- on one operand

@@ -7,9 +7,9 @@ use Rattle.lb_static.specs.declared.resolved.ResolvedNode.{ResolvedNode}
 use Rattle.lb_static.specs.declared.table.Specialization.{Specialization}
 use Rattle.lb_static.specs.declared.table.Table.{Table}
 use Rattle.lb_check.specs.Scalars.{Scalar, or_fault}
-use Rattle.lb_check.specs.TermClocks.{callee_in}
+use Rattle.lb_static.specs.ReachedNodes.{callee_in}
 use Rattle.lb_check.specs.TermTypes.{count_at, repeats_at}
-use Rattle.lb_flat.specs.declared.expand.frame.Callee.{Callee}
+use Rattle.lb_flat.specs.declared.expansion.frame.Callee.{Callee}
 use Rattle.lb_flat.specs.EmitTerms.{Context}
 use Rattle.lb_flat.specs.Flat.{FlatClock}
 use Rattle.lb_flat.specs.Rows.{row_numbers, child_numbers}

@@ -9,7 +9,8 @@ use Rattle.lb_static.specs.declared.resolved.ResolvedNode.{ResolvedNode}
 use Rattle.lb_static.specs.declared.table.Specialization.{Specialization}
 use Rattle.lb_check.specs.PlacedTypes.{found_in, parts_of}
 use Rattle.lb_check.specs.Scalars.{Scalar, Integer, Bad}
-use Rattle.lb_check.specs.TermClocks.{callee_in, declared_in}
+use Rattle.lb_static.specs.ReachedNodes.{callee_in}
+use Rattle.lb_check.specs.TermClocks.{declared_in}
 use Rattle.lb_check.specs.declared.checked.Checking.{Checking}
 use Rattle.lb_check.specs.declared.found_types.NodeTypes.{NodeTypes}
 use Rattle.lb_check.specs.declared.own_clock.Clock.{Clock}
@@ -17,7 +18,7 @@ use Rattle.lb_check.specs.declared.own_clock.Clock.TheVariants.{Base, On}
 use Rattle.lb_flat.specs.declared.children.Children.{Children}
 use Rattle.lb_flat.specs.declared.clocks.Clocks.{Clocks}
 use Rattle.lb_flat.specs.declared.equation.ClockId.{ClockId}
-use Rattle.lb_flat.specs.declared.expand.frame.Callee.{Callee}
+use Rattle.lb_flat.specs.declared.expansion.frame.Callee.{Callee}
 use Rattle.lb_flat.specs.declared.layout.Layout.{Layout}
 use Rattle.lb_flat.specs.declared.row_frame.RowFrame.{RowFrame}
 use Rattle.lb_flat.specs.EmitTerms.{Context}

@@ -3,7 +3,7 @@
 use Rattle.std.specs.Prelude.{ℕ, List, [], ◌∷◌, ◌++◌, take, drop}
 use Rattle.std.specs.List.{slice_range}
 use Rattle.lb_flat.specs.declared.equation.ElementId.{ElementId}
-use Rattle.lb_flat.specs.declared.expand.term_emission.TermEmission.{TermEmission}
+use Rattle.lb_flat.specs.declared.expansion.term_emission.TermEmission.{TermEmission}
 use Rattle.lb_flat.specs.Emit.{State, Emitted, push, add}
 use Rattle.lb_flat.specs.Flat as flat
 use Rattle.lb_flat.specs.Flat.{FlatClock}

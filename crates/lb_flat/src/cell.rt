@@ -13,8 +13,8 @@ ghost use Rattle.lb_flat.specs.Run.{chosen_cell};
 ghost use Rattle.lb_flat.specs.Values.{scalar_of, cell_of};
 
 use crate::scalar::Scalar;
-use lb_static::arithmetic::{arithmetic, negated};
-use lb_syntax::tree::{BinaryOperator, UnaryOperator};
+use lb_static::{arithmetic, negated};
+use lb_syntax::{BinaryOperator, UnaryOperator};
 
 /// What an element holds at an instant: nothing, or a scalar.
 #[derive(Clone, Copy, PartialEq, Eq)]

@@ -1,7 +1,6 @@
 //! Which row of the table of instances is what a row calls.
 
-use lb_static::resolved::CallId;
-use lb_static::table::{InstanceId, Origin, Table};
+use lb_static::{CallId, InstanceId, Origin, Table};
 use std::alloc::{AllocError, Global};
 use std::collections::HashMap;
 

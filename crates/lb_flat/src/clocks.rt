@@ -18,12 +18,8 @@ ghost use Rattle.lb_flat.specs.TableClocks.{sources_of};
 
 use crate::equation::{Clock, ClockId, ElementId};
 use crate::layout::Layout;
-use lb_check::checked::Checked;
-use lb_check::found_clocks::{CallClock, GivenVariable};
-use lb_check::own_clock::{self, declared_clock};
-use lb_static::reach::Reached;
-use lb_static::resolved::{CallId, ResolvedNode, VariableId};
-use lb_static::table::{Instance, InstanceId, Origin, Table};
+use lb_check::{CallClock, Checked, GivenVariable, declared_clock};
+use lb_static::{CallId, Instance, InstanceId, Origin, Reached, ResolvedNode, Table, VariableId};
 use std::alloc::{AllocError, Global};
 
 /// The most variables of an accepted program.
@@ -52,13 +48,13 @@ fn clock_id(
     layout: &Layout,
     runs: &[Option<ClockId>],
     row: InstanceId,
-    clock: own_clock::Clock,
+    clock: lb_check::Clock,
 ) -> Option<ClockId>
     ensures { result ≡ mirror.clock_id layout.now.variables.items runs.now row.0 clock }
 {
     match clock {
-        own_clock::Clock::Base => runs.get(row.0 as usize).copied().unwrap_or(None),
-        own_clock::Clock::On(x, sign) => {
+        lb_check::Clock::Base => runs.get(row.0 as usize).copied().unwrap_or(None),
+        lb_check::Clock::On(x, sign) => {
             let first = 2 * variable_number(layout, row, x.0) as u32;
             Some(ClockId(if sign { first + 1 } else { first }))
         }
@@ -371,7 +367,7 @@ impl Clocks {
         &self,
         layout: &Layout,
         row: InstanceId,
-        clock: own_clock::Clock,
+        clock: lb_check::Clock,
     ) -> Option<ClockId>
         ensures { result ≡ mirror.clock_id layout.now.variables.items self.now.runs.items row.0
             clock }

@@ -10,7 +10,7 @@
 //! ```
 
 use crate::scalar::Scalar;
-use lb_syntax::tree::{BinaryOperator, UnaryOperator};
+use lb_syntax::{BinaryOperator, UnaryOperator};
 
 /// An element of a flat program, by its number.
 #[derive(Clone, Copy, Debug, PartialEq, Eq)]

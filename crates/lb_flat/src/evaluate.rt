@@ -21,7 +21,7 @@ use crate::instant_verdict::instant_verdict;
 use crate::prepared::Prepared;
 use crate::program::FlatProgram;
 use crate::scratch::Scratch;
-use lb_check::verdict::Verdict;
+use lb_check::Verdict;
 
 /// The instants of one trace.
 pub trait Instants {

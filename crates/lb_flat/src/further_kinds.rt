@@ -8,7 +8,7 @@ ghost use Rattle.lb_flat.specs.declared.equation.Clock.{Clock};
 
 use crate::equation::{ElementId, Equation, Operation};
 use crate::scalar::Scalar;
-use lb_syntax::tree::{BinaryOperator, Kind, UnaryOperator};
+use lb_syntax::{BinaryOperator, Kind, UnaryOperator};
 use std::alloc::AllocError;
 
 /// The kind of an element; of one that has none yet any.

@@ -10,7 +10,7 @@ ghost use Rattle.lb_flat.specs.Programs.{numbers_of, program_of, IsInRange};
 use crate::cell::Cell;
 use crate::equation::ElementId;
 use crate::program::FlatProgram;
-use lb_check::verdict::Verdict;
+use lb_check::Verdict;
 
 // A present fault.
 fn is_bad(x: Cell) -> bool

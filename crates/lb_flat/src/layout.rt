@@ -12,10 +12,7 @@ ghost use Rattle.lb_static.specs.Specialized.{size_of, times_sizes};
 ghost use Rattle.lb_flat.specs.Rows.{sum_of, declared_width, widths_in, AreAdded};
 
 use crate::error::FlatError;
-use lb_static::reach::Reached;
-use lb_static::resolved::{Variable, VariableId};
-use lb_static::static_value::StaticInt;
-use lb_static::table::{Instance, InstanceId, Table};
+use lb_static::{Instance, InstanceId, Reached, StaticInt, Table, Variable, VariableId};
 use std::alloc::Global;
 use std::ops::Range;
 

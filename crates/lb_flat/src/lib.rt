@@ -2,29 +2,39 @@
 //! order, and evaluated on one trace; and the recorded traces that they run on.
 #![tactic(auto)]
 
-pub mod cell;
+mod cell;
 mod children;
 mod clocks;
-pub mod equation;
-pub mod error;
-pub mod evaluate;
-pub mod expand;
-pub mod flat;
+mod equation;
+mod error;
+mod evaluate;
+mod expansion;
+mod flat;
 mod further_kinds;
 mod instant;
 mod instant_verdict;
 mod layout;
 mod names;
-pub mod order;
 mod prepare;
-pub mod prepared;
-pub mod program;
-pub mod recorded;
+mod prepared;
+mod program;
+mod recorded;
 mod row_columns;
 mod row_frame;
-pub mod scalar;
-pub mod scratch;
+mod scalar;
+mod scheduling;
+mod scratch;
 mod table_size;
-pub mod trace_run;
-pub mod traces;
+mod trace_run;
+mod traces;
 mod variable_kinds;
+
+pub use equation::{Clock, ClockId, ElementId, Equation, InputId, InputPlace, Operation};
+pub use error::{FlatError, OrderError};
+pub use expansion::expand;
+pub use flat::{Flat, Ordered};
+pub use program::FlatProgram;
+pub use scalar::Scalar;
+pub use scheduling::order;
+pub use trace_run::eval_trace;
+pub use traces::{TraceRows, TraceSet, is_trace_name};

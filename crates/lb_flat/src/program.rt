@@ -1,7 +1,7 @@
 //! Flat programs.
 
 use crate::equation::{Clock, ElementId, Equation};
-use lb_syntax::tree::Kind;
+use lb_syntax::Kind;
 
 /// A program expanded into equations on scalar elements.
 ///

@@ -12,7 +12,8 @@ use crate::cell::Cell;
 use crate::equation::{InputId, InputPlace};
 use crate::evaluate::Instants;
 use crate::traces::TraceSet;
-use lb_static::signature::{Kind, Signature};
+use lb_static::Signature;
+use lb_syntax::Kind;
 use std::alloc::{AllocError, Global};
 
 // The input of an instant of a trace at a place of the signature.

@@ -4,7 +4,8 @@ ghost use Rattle.std.specs.Prelude.{IfOk};
 ghost use Rattle.lb_static.specs.Signature.{kinds_of};
 ghost use Rattle.lb_flat.specs.Packed.{AreColumns};
 
-use lb_static::signature::{Kind, Signature};
+use lb_static::Signature;
+use lb_syntax::Kind;
 use std::alloc::{AllocError, Global};
 
 /// The columns of a signature.

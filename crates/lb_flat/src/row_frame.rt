@@ -1,8 +1,7 @@
 //! What the numbers in the text of a row's node stand for.
 
-ghost use Rattle.std.specs.Prelude.{◌≡◌, ◌<◌, ◌+◌, ◌^◌, option_map};
+ghost use Rattle.std.specs.Prelude.{◌≡◌, ◌<◌, ◌+◌, ◌^◌};
 ghost use Rattle.std.specs.Option.{ForSome};
-ghost use Rattle.lb_check.specs.TermClocks.{callee_in};
 ghost use Rattle.lb_flat.specs.Frames.{elements_of, AreBefore};
 ghost use Rattle.lb_flat.specs.RowContexts.{size_at, times_at};
 ghost use Rattle.lb_flat.specs.RowFrames as mirror;
@@ -13,16 +12,13 @@ ghost use Rattle.lb_flat.specs.Within.{IsClock};
 use crate::children::Children;
 use crate::clocks::{Clocks, node_at};
 use crate::equation::ClockId;
-use crate::expand::frame::{Callee, Elements, Frame, TableFrame};
+use crate::expansion::frame::{Callee, Elements, Frame, TableFrame};
 use crate::layout::Layout;
 use crate::scalar::Scalar;
-use lb_check::checked::Checked;
-use lb_check::found_types::NodeTypes;
-use lb_check::own_clock::{self, declared_clock};
-use lb_static::reach::Reached;
-use lb_static::resolved::{CallId, ResolvedNode, StaticId, VariableId};
-use lb_static::static_value::StaticInt;
-use lb_static::table::{InstanceId, Specialization};
+use lb_check::{Checked, NodeTypes, declared_clock};
+use lb_static::{
+    CallId, InstanceId, ResolvedNode, Specialization, StaticId, StaticInt, VariableId,
+};
 
 /// A row of the table of instances, with what is known of all rows.
 #[derive(Clone, Copy)]
@@ -35,7 +31,7 @@ pub(crate) struct RowFrame<'a, 's> {
     pub(crate) node: &'a ResolvedNode<'s>,
     pub(crate) specialization: &'a Specialization,
     /// The clock on which each term of the node stands.
-    pub(crate) term_clocks: &'a [own_clock::Clock],
+    pub(crate) term_clocks: &'a [lb_check::Clock],
     /// The types of the terms, where the program is not too large for them.
     pub(crate) types: Option<&'a NodeTypes>,
 }
@@ -86,20 +82,6 @@ fn times_at(node: &ResolvedNode, specialization: &Specialization, call: usize) -
         },
         None => 0,
     }
-}
-
-/// What a call calls.
-fn callee_at<'a, 's>(
-    reached: &'a Reached<'s>,
-    node: &ResolvedNode<'s>,
-    call: usize,
-) -> Option<&'a ResolvedNode<'s>>
-    ensures { option_map (λ n. n.now) result
-        ≡ callee_in reached.now node.now (record { 0 = call }) }
-{
-    let site = node.calls.get(call)?;
-    let id = reached.called(site)?;
-    reached.nodes.get(id.0)
 }
 
 /// How many inputs and outputs a node has, where they are among its variables.
@@ -203,7 +185,7 @@ impl<'a, 's> RowFrame<'a, 's> {
     }
 
     /// The place of a clock of a row.
-    fn id(&self, row: InstanceId, clock: own_clock::Clock) -> Option<ClockId>
+    fn id(&self, row: InstanceId, clock: lb_check::Clock) -> Option<ClockId>
         ensures { result ≡ mirror.read_id (mirror.read_of self.now) row.0 clock }
     {
         self.clocks.of(self.layout, row, clock)
@@ -239,7 +221,7 @@ impl Frame for RowFrame<'_, '_> {
     }
 
     fn sampled(&self, variable: VariableId, sign: bool) -> Option<ClockId> {
-        self.held(self.id(self.row, own_clock::Clock::On(variable, sign)))
+        self.held(self.id(self.row, lb_check::Clock::On(variable, sign)))
     }
 
     fn value(&self, value: StaticId) -> Scalar {
@@ -255,7 +237,7 @@ impl Frame for RowFrame<'_, '_> {
             .term_clocks
             .get(term)
             .copied()
-            .unwrap_or(own_clock::Clock::Base);
+            .unwrap_or(lb_check::Clock::Base);
         self.held(self.id(self.row, clock))
     }
 
@@ -267,7 +249,8 @@ impl Frame for RowFrame<'_, '_> {
     }
 
     fn callee(&self, call: usize) -> Option<Callee> {
-        parameters(callee_at(self.checked.elab().reached(), self.node, call)?)
+        let reached = self.checked.elab().reached();
+        parameters(reached.callee(self.node, CallId(call))?)
     }
 
     fn repeats(&self, call: usize) -> u32 {

@@ -6,8 +6,8 @@ ghost use Rattle.lb_check.specs.TypeRules as rules;
 ghost use Rattle.lb_flat.specs.Rows.{element_total};
 ghost use Rattle.lb_flat.specs.TableSizes.{lent_size};
 
-use lb_check::checked::Checked;
-use lb_static::table::Instance;
+use lb_check::Checked;
+use lb_static::Instance;
 
 /// The greatest size of a program.
 const MOST: u32 = 65536;

@@ -1,12 +1,7 @@
 //! The verdict of a recorded trace.
 
-ghost use Rattle.std.specs.Prelude.{◌≡◌, ◌<◌, length, IfOk, OnOk};
-ghost use Rattle.lb_static.specs.Instances.{Program};
-ghost use Rattle.lb_static.specs.DataTypes.{signature};
-ghost use Rattle.lb_check.specs.Solutions.{HasOneHistory};
-ghost use Rattle.lb_check.specs.Verdicts.{IsOnlyVerdict};
-ghost use Rattle.lb_flat.specs.FlatPrograms.{IsFlatOf};
-ghost use Rattle.lb_flat.specs.Inputs.{inputs_of};
+ghost use Rattle.std.specs.Prelude.{◌<◌, length, IfOk};
+ghost use Rattle.lb_flat.specs.Correct.{IsVerdictOf};
 ghost use Rattle.lb_flat.specs.PreparedParts.{IsRoomFor, program_in, recording_in};
 ghost use Rattle.lb_flat.specs.Programs.{program_of};
 
@@ -16,7 +11,7 @@ use crate::prepared::Prepared;
 use crate::recorded::{Recorded, RecordedTrace};
 use crate::scratch::Scratch;
 use crate::traces::TraceSet;
-use lb_check::verdict::Verdict;
+use lb_check::Verdict;
 use std::alloc::{AllocError, Global};
 
 /// The one verdict that a prepared program has on a trace, computed instant by instant in the room
@@ -37,12 +32,8 @@ pub fn eval_prepared(
     requires trace { k < length (recording_in recorded.now).traces }
     requires room { IsRoomFor prepared.now scratch.old }
     ensures room { IsRoomFor prepared.now scratch.new }
-    ensures verdict { (P : Program) → IsFlatOf P (program_of (program_in prepared.now)) →
-        signature P ≡ (recording_in recorded.now).signature →
-        IsOnlyVerdict P (inputs_of (recording_in recorded.now) k) result }
-    ensures alone { (P : Program) → IsFlatOf P (program_of (program_in prepared.now)) →
-        signature P ≡ (recording_in recorded.now).signature →
-        HasOneHistory P (inputs_of (recording_in recorded.now) k) }
+    ensures verdict { IsVerdictOf (program_of (program_in prepared.now)) (recording_in recorded.now) k
+        result }
 {
     let set = recorded.set;
     let kinds = recorded.kinds.as_slice();
@@ -64,12 +55,7 @@ pub fn eval_trace(
     k: u32,
 ) -> Result<Verdict, AllocError>
     requires { k < length set.now.traces }
-    ensures verdict { IfOk result (λ v.
-        (P : Program) → IsFlatOf P (program_of ordered.now.program) →
-        signature P ≡ set.now.signature → IsOnlyVerdict P (inputs_of set.now k) v) }
-    ensures alone { OnOk result (
-        (P : Program) → IsFlatOf P (program_of ordered.now.program) →
-        signature P ≡ set.now.signature → HasOneHistory P (inputs_of set.now k)) }
+    ensures { IfOk result (IsVerdictOf (program_of ordered.now.program) set.now k) }
 {
     let prepared = Prepared::new(alloc, ordered)?;
     let recorded = Recorded::new(alloc, set)?;

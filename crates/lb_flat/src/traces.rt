@@ -26,7 +26,8 @@ ghost use Rattle.lb_flat.specs.Packed.{truth_in, numbers_in, HasPushed};
 use crate::names::Names;
 pub use crate::names::is_trace_name;
 use crate::row_columns::{RowColumns, row_columns};
-use lb_static::signature::{Kind, Signature};
+use lb_static::Signature;
+use lb_syntax::Kind;
 use std::alloc::{AllocError, Global};
 use std::marker::Model;
 

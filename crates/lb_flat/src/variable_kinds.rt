@@ -4,11 +4,8 @@ ghost use Rattle.std.specs.Prelude.{◌≡◌, ◌++◌, flat_map, replicate, If
 ghost use Rattle.lb_flat.specs.RowKinds.{declared_kinds, kinds_in, table_kinds};
 
 use crate::layout::width;
-use lb_static::reach::Reached;
-use lb_static::resolved::Variable;
-use lb_static::static_value::StaticInt;
-use lb_static::table::{Instance, Table};
-use lb_syntax::tree::Kind;
+use lb_static::{Instance, Reached, StaticInt, Table, Variable};
+use lb_syntax::Kind;
 use std::alloc::{AllocError, Global};
 
 /// Adds a kind so many times.

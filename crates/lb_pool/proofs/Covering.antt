@@ -14,10 +14,9 @@ use Rattle.lb_check.specs.declared.verdict.Verdict.{Verdict}
 use Rattle.lb_flat.specs.Programs.{program_of}
 use Rattle.lb_flat.specs.Traces.{Recording}
 use Rattle.lb_flat.specs.declared.program.FlatProgram.{FlatProgram}
-use Rattle.lb_sim.specs.BatchLanes.{IsVerdictOf}
 use Rattle.lb_pool.specs.Draws.{times, once_below, AreAllBelow}
 use Rattle.lb_pool.specs.Plans.{numbers_in, IsLawful}
-use Rattle.lb_pool.specs.Runs.{IsVerdict, numbers_drawn}
+use Rattle.lb_pool.specs.Runs.{numbers_drawn}
 use Rattle.lb_pool.proofs.Claiming.{times_append}
 
 -- ## All numbers are those of traces
@@ -66,15 +65,6 @@ pub batch_few :
 batch_few batches lawful i below =
     let wide = lawful.plan.not_wider i below in
     omega (arith, wide, lawful.at_most_64)
-
--- what is the verdict of the flat program's traces is the verdict here
-pub is_verdict :
-    (p : FlatProgram) (r : Recording) (k : ℕ) (v : Verdict) → IsVerdictOf (program_of p) r k v →
-    IsVerdict p r k v
-is_verdict p r k v h = record {
-  only_verdict = h.only_verdict;
-  has_one_history = h.has_one_history;
-}
 
 -- ## Each trace is in a batch
 

@@ -11,7 +11,8 @@ use Rattle.lb_check.specs.declared.verdict.Verdict.TheVariants.{Passed}
 use Rattle.lb_flat.specs.Traces.{Recording}
 use Rattle.lb_flat.specs.declared.program.FlatProgram.{FlatProgram}
 use Rattle.lb_pool.specs.declared.batch.Judged.{Judged}
-use Rattle.lb_pool.specs.Runs.{IsVerdict, AreVerdicts, IsJudged, AreJudged, numbers_of, placed}
+use Rattle.lb_pool.specs.Correct.{IsVerdict, AreVerdicts}
+use Rattle.lb_pool.specs.Runs.{IsJudged, AreJudged, numbers_of, placed}
 
 pub length_placed :
     (verdicts : List Verdict) (js : List Judged) → length (placed verdicts js) ≡ length verdicts

@@ -4,5 +4,6 @@ pub mod Draws
 pub mod Views
 pub mod Claims
 pub mod Seats
+pub mod Correct
 pub mod Runs
 pub mod Workers

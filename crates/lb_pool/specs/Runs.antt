@@ -1,38 +1,12 @@
--- What a run of a plan answers.
+-- Verdicts as they come in, in any order, and where they are put.
 -- Source: this project's rule.
 use Rattle.std.specs.Prelude.{◌≡◌, ℕ, ◌<◌, List, [], ◌∷◌, length, map, get_or, flat_map, slice_set}
 use Rattle.std.specs.Prelude.{All}
-use Rattle.lb_static.specs.Instances.{Program}
-use Rattle.lb_static.specs.DataTypes.{signature}
-use Rattle.lb_check.specs.Solutions.{HasOneHistory}
-use Rattle.lb_check.specs.Verdicts.{IsOnlyVerdict}
 use Rattle.lb_check.specs.declared.verdict.Verdict.{Verdict}
-use Rattle.lb_check.specs.declared.verdict.Verdict.TheVariants.{Passed}
-use Rattle.lb_flat.specs.FlatPrograms.{IsFlatOf}
-use Rattle.lb_flat.specs.Inputs.{inputs_of}
-use Rattle.lb_flat.specs.Programs.{program_of}
 use Rattle.lb_flat.specs.Traces.{Recording}
 use Rattle.lb_flat.specs.declared.program.FlatProgram.{FlatProgram}
+use Rattle.lb_pool.specs.Correct.{IsVerdict}
 use Rattle.lb_pool.specs.declared.batch.Judged.{Judged}
-
--- ## Verdicts
-
--- v is the verdict of trace k: that of each program that the flat one stands for, where the traces
--- have its signature, by the one history that solves it
-pub record IsVerdict (p : FlatProgram) (r : Recording) (k : ℕ) (v : Verdict) : Type 0 where
-  pub only_verdict :
-      (P : Program) → IsFlatOf P (program_of p) → signature P ≡ r.signature →
-      IsOnlyVerdict P (inputs_of r k) v
-  pub has_one_history :
-      (P : Program) → IsFlatOf P (program_of p) → signature P ≡ r.signature →
-      HasOneHistory P (inputs_of r k)
-
--- a verdict for each trace, in the traces' order
-pub record AreVerdicts (p : FlatProgram) (r : Recording) (verdicts : List Verdict) : Type 0 where
-  pub count : length verdicts ≡ length r.traces
-  pub each : (k : ℕ) → k < length r.traces → IsVerdict p r k (get_or verdicts k Passed)
-
--- ## In any order
 
 -- traces and their verdicts
 pub record IsJudged (p : FlatProgram) (r : Recording) (j : Judged) : Type 0 where

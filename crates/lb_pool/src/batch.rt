@@ -3,15 +3,14 @@
 ghost use Rattle.std.specs.Prelude.{◌≡◌, ℕ, ◌<◌, ◌++◌, [], length, get_or, All, Contains, IfOk};
 ghost use Rattle.std.specs.Prelude.{OnOk};
 ghost use Rattle.lb_pool.specs.Plans.{numbers_in};
-ghost use Rattle.lb_pool.specs.Runs.{numbers_of, AreJudged, AreVerdicts, placed};
+ghost use Rattle.lb_pool.specs.Correct.{AreVerdicts};
+ghost use Rattle.lb_pool.specs.Runs.{numbers_of, AreJudged, placed};
 ghost use Rattle.lb_sim.specs.BatchRooms.{IsRoomFor};
 
 use crate::plan::Plan;
-use lb_check::verdict::Verdict;
-use lb_flat::traces::TraceSet;
-use lb_sim::batch::run_batch_in;
-use lb_sim::program::LaneProgram;
-use lb_sim::room::BatchRoom;
+use lb_check::Verdict;
+use lb_flat::TraceSet;
+use lb_sim::{BatchRoom, LaneProgram, run_batch_in};
 use std::alloc::{AllocError, Global};
 
 /// A trace and its verdict.

@@ -5,7 +5,7 @@ ghost use Rattle.std.specs.Thread.{IsSync};
 ghost use Rattle.lb_flat.specs.Traces.{Recording};
 ghost use Rattle.lb_flat.specs.declared.program.FlatProgram.{FlatProgram};
 ghost use Rattle.lb_pool.specs.Plans.{numbers_in};
-ghost use Rattle.lb_pool.specs.Runs.{AreVerdicts};
+ghost use Rattle.lb_pool.specs.Correct.{AreVerdicts};
 ghost use Rattle.lb_pool.specs.Seats.{limit_of, IsSeatOf, shares_of, drawn_of};
 ghost use Rattle.lb_pool.specs.Workers.{HasDone, IsBoth};
 
@@ -13,12 +13,9 @@ use crate::batch::{Judged, Work, run_batch, verdicts_of};
 use crate::board::{ClaimBoard, ClaimSeat};
 use crate::gate::Gate;
 use crate::plan::Plan;
-use lb_check::verdict::Verdict;
-use lb_flat::flat::Ordered;
-use lb_flat::traces::TraceSet;
-use lb_sim::compile::compile;
-use lb_sim::program::LaneProgram;
-use lb_sim::room::BatchRoom;
+use lb_check::Verdict;
+use lb_flat::{Ordered, TraceSet};
+use lb_sim::{BatchRoom, LaneProgram, compile};
 use std::alloc::{AllocError, Global};
 use std::thread::{Threads, join};
 

@@ -3,9 +3,15 @@
 #![tactic(auto)]
 
 mod batch;
-pub mod board;
-pub mod claims;
-pub mod gate;
-pub mod plan;
-pub mod spread;
+mod board;
+mod claims;
+mod gate;
+mod plan;
+mod spread;
 mod views;
+
+pub use board::{ClaimBoard, ClaimSeat};
+pub use claims::run_claims;
+pub use gate::{Gate, NoGate};
+pub use plan::Plan;
+pub use spread::run_spread;

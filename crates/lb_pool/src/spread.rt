@@ -3,17 +3,15 @@
 ghost use Rattle.std.specs.Prelude.{◌≡◌, ◌<◌, [], length, flat_map, IfOk};
 ghost use Rattle.std.specs.List.{AllZip, range_with_len};
 ghost use Rattle.lb_pool.specs.Plans.{numbers_in};
-ghost use Rattle.lb_pool.specs.Runs.{AreVerdicts, IsBatchOf};
+ghost use Rattle.lb_pool.specs.Correct.{AreVerdicts};
+ghost use Rattle.lb_pool.specs.Runs.{IsBatchOf};
 ghost use Rattle.lb_sim.specs.BatchRooms.{IsRoomFor};
 
 use crate::batch::{Judged, Work, run_batch, verdicts_of};
 use crate::plan::Plan;
-use lb_check::verdict::Verdict;
-use lb_flat::flat::Ordered;
-use lb_flat::traces::TraceSet;
-use lb_sim::compile::compile;
-use lb_sim::program::LaneProgram;
-use lb_sim::room::BatchRoom;
+use lb_check::Verdict;
+use lb_flat::{Ordered, TraceSet};
+use lb_sim::{BatchRoom, LaneProgram, compile};
 use rayon::prelude::*;
 use std::alloc::{AllocError, Global};
 use std::thread::Threads;

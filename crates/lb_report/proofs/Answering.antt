@@ -10,13 +10,13 @@ use Rattle.lb_syntax.specs.Refusals.{Refusal, E1, E2, E3, E4, E5, E6, E7, E8, E9
 use Rattle.lb_syntax.specs.Refusals.{E13, refusal_number, unless}
 use Rattle.lb_syntax.specs.declared.error.SyntaxError.{SyntaxError}
 use Rattle.lb_syntax.specs.declared.error.SyntaxError.TheVariants as syntax
-use Rattle.lb_static.specs.Elaborates.{IsStaticFault}
+use Rattle.lb_static.specs.Correct.{IsStaticFault}
 use Rattle.lb_static.specs.Instances.{Program}
 use Rattle.lb_static.specs.Instantiation.{static_refusal}
 use Rattle.lb_static.specs.declared.error.StaticError.{StaticError}
 use Rattle.lb_static.specs.declared.error.StaticError.TheVariants as static
 use Rattle.lb_check.specs.Acceptance.{check_refusal, refusal, IsFirst}
-use Rattle.lb_check.specs.Checked.{IsAnswer}
+use Rattle.lb_check.specs.Correct.{IsAnswer}
 use Rattle.lb_check.specs.TypeRules.{is_small}
 use Rattle.lb_check.specs.declared.error.CheckError.{CheckError}
 use Rattle.lb_check.specs.declared.error.CheckError.TheVariants as check

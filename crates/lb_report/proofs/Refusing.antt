@@ -11,7 +11,7 @@ use Rattle.lb_static.specs.Instantiation.{static_refusal}
 use Rattle.lb_check.specs.Acceptance.{check_refusal, refusal, IsAccepted}
 use Rattle.lb_check.specs.Needs.{IsCausal}
 use Rattle.lb_check.specs.TypeRules.{is_small}
-use Rattle.lb_flat.specs.Expanded.{IsCycleFound, IsExpansionAnswer, IsExpansionOf, IsOrderOf}
+use Rattle.lb_flat.specs.Correct.{IsCycleFound, IsExpansionAnswer, IsExpansionOf, IsOrderOf}
 use Rattle.lb_flat.specs.FlatPrograms.{IsFlatOf}
 use Rattle.lb_flat.specs.Judging.{FlatProgram}
 use Rattle.lb_flat.specs.Programs.{numbers_of}

@@ -6,7 +6,7 @@ use Rattle.lb_static.specs.DataTypes.{signature}
 use Rattle.lb_check.specs.Acceptance.{IsAccepted}
 use Rattle.lb_flat.specs.FlatPrograms.{IsFlatOf}
 use Rattle.lb_flat.specs.Programs as flat
-use Rattle.lb_report.specs.declared.bench.AcceptedProgram.{AcceptedProgram}
+use Rattle.lb_report.specs.declared.answer.AcceptedProgram.{AcceptedProgram}
 
 -- it is ready to run this program, which is accepted
 pub record IsAcceptedProgram (p : AcceptedProgram) (P : Program) : Type 0 where

@@ -7,12 +7,12 @@ use Rattle.lb_syntax.specs.Tree.{Source}
 use Rattle.lb_syntax.specs.Tokens.{Text}
 use Rattle.lb_syntax.specs.Correct.{IsOnlyProgram, Parses}
 use Rattle.lb_syntax.specs.Refusals.{E12, E13}
-use Rattle.lb_static.specs.Elaborates.{Elaborates}
+use Rattle.lb_static.specs.Correct.{Elaborates}
 use Rattle.lb_static.specs.Instances.{Program}
 use Rattle.lb_static.specs.DataTypes.{signature}
 use Rattle.lb_static.specs.Instantiation.{static_refusal}
 use Rattle.lb_check.specs.Acceptance.{refusal, IsAccepted, IsFirst}
-use Rattle.lb_check.specs.Checked.{IsAnswer}
+use Rattle.lb_check.specs.Correct.{IsAnswer}
 use Rattle.lb_check.specs.Solutions.{HasOneHistory}
 use Rattle.lb_check.specs.Verdicts.{IsOnlyVerdict}
 use Rattle.lb_check.specs.declared.verdict.Verdict.{Verdict}

@@ -4,11 +4,11 @@ ghost use Rattle.std.specs.Prelude.{◌≡◌, ◌<◌};
 ghost use Rattle.lb_report.specs.Refusals as spec;
 
 use crate::refusal::word;
-use lb_check::error::CheckError;
-use lb_flat::error::{FlatError, OrderError};
-use lb_static::error::StaticError;
-use lb_syntax::error::SyntaxError;
-use lb_trace::error::TraceError;
+use lb_check::CheckError;
+use lb_flat::{FlatError, OrderError};
+use lb_static::StaticError;
+use lb_syntax::SyntaxError;
+use lb_trace::TraceError;
 use std::alloc::AllocError;
 use std::fmt;
 use thiserror::Error;

@@ -1,11 +1,20 @@
 //! The report: from a source and its traces to the text that lists each trace's verdict.
 #![tactic(auto)]
 
-pub mod bench;
-pub mod case;
-pub mod error;
-pub mod feed;
-pub mod options;
-pub mod refusal;
-pub mod sink;
-pub mod text;
+mod answer;
+mod case;
+mod error;
+mod feed;
+mod options;
+mod refusal;
+mod sink;
+mod text;
+
+pub use answer::{bench, run_case};
+pub use case::split_case;
+pub use error::BenchError;
+pub use feed::{Feed, FeedFailed, LoadError, Reader, load};
+pub use options::Options;
+pub use refusal::word;
+pub use sink::{Sent, Sink, SinkFailed, Writer, send};
+pub use text::{Report, report_text, status};

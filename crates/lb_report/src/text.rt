@@ -11,8 +11,8 @@ ghost use Rattle.lb_flat.specs.Traces.{trace_names};
 ghost use Rattle.lb_report.specs.Reports as spec;
 
 use itoa::{Buffer, Integer};
-use lb_check::verdict::Verdict;
-use lb_flat::traces::TraceSet;
+use lb_check::Verdict;
+use lb_flat::TraceSet;
 use std::alloc::{AllocError, Global};
 
 /// How many words there are for verdicts.

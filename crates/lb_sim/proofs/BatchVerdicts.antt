@@ -11,7 +11,7 @@ use Rattle.lb_flat.specs.Run.{Ready}
 use Rattle.lb_flat.specs.Traces.{Recording, IsRecording}
 use Rattle.lb_flat.proofs.RecordedInputs.{trace_given}
 use Rattle.lb_flat.proofs.StandingRuns.{standing_determined, standing_recorded}
-use Rattle.lb_sim.specs.BatchLanes.{IsVerdictOf}
+use Rattle.lb_flat.specs.Correct.{IsVerdictOf}
 
 pub verdict_of :
     (f : FlatProgram) (r : Recording) (k : ℕ) (v : Verdict) → Ready f.size [] f.equations →

@@ -1,16 +1,9 @@
--- Which lanes of a batch have an instant, and what the verdicts of a batch are.
+-- Which lanes of a batch have an instant.
 -- Source: this project's rule. No lane occurs beside another.
 use Rattle.std.specs.Prelude.{◌≡◌, ◌≢◌, ℕ, ◌<◌, ◌≤◌, ◌⊎◌, Bool, true, false, List, length, get_or}
 use Rattle.std.specs.Prelude.{nat_lt}
-use Rattle.lb_static.specs.Instances.{Program}
-use Rattle.lb_static.specs.DataTypes.{signature}
-use Rattle.lb_check.specs.Solutions.{HasOneHistory}
-use Rattle.lb_check.specs.Verdicts.{IsOnlyVerdict}
 use Rattle.lb_check.specs.declared.verdict.Verdict.{Verdict}
 use Rattle.lb_check.specs.declared.verdict.Verdict.TheVariants.{Passed}
-use Rattle.lb_flat.specs.FlatPrograms.{IsFlatOf}
-use Rattle.lb_flat.specs.Inputs.{inputs_of}
-use Rattle.lb_flat.specs.Judging.{FlatProgram}
 use Rattle.lb_flat.specs.Traces.{Recording, trace_at}
 use Rattle.lb_lanes.specs.Planes.{on}
 
@@ -35,12 +28,3 @@ pub record IsAt (verdict : Verdict) (active : Bool) (as_long n t : ℕ) : Type 0
   pub within : n ≤ as_long
   pub now : active ≡ true → n ≡ t
   pub ended : active ≡ false → (n ≡ as_long) ⊎ (verdict ≢ Passed)
-
--- v is the verdict of a trace: that of each program that the flat one stands for, where the traces
--- have its signature, by the one history that solves it
-pub record IsVerdictOf (f : FlatProgram) (r : Recording) (k : ℕ) (v : Verdict) : Type 0 where
-  pub only_verdict :
-      (P : Program) → IsFlatOf P f → signature P ≡ r.signature →
-      IsOnlyVerdict P (inputs_of r k) v
-  pub has_one_history :
-      (P : Program) → IsFlatOf P f → signature P ≡ r.signature → HasOneHistory P (inputs_of r k)

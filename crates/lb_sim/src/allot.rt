@@ -18,11 +18,9 @@ ghost use Rattle.lb_sim.specs.Presets.{IsConstantAt, IsFixed, IsMore};
 
 use crate::place::{Holding, Value};
 use crate::preset::Preset;
-use lb_flat::equation::Operation;
-use lb_flat::program::FlatProgram;
-use lb_flat::scalar::Scalar;
+use lb_flat::{FlatProgram, Operation, Scalar};
 use lb_machine::{EVERYWHERE, NOWHERE, PlaneId, ZERO};
-use lb_syntax::tree::Kind;
+use lb_syntax::Kind;
 use std::alloc::{AllocError, Global};
 
 /// Where nothing stands.

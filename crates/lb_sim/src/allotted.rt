@@ -9,7 +9,7 @@ use crate::allot::input_values;
 use crate::memories::{constants, memories};
 use crate::place::{Holding, Value};
 use crate::preset::Preset;
-use lb_flat::program::FlatProgram;
+use lb_flat::FlatProgram;
 use std::alloc::{AllocError, Global};
 
 /// Where inputs, constants and memories stand, in this order, and what the planes and words before

@@ -10,7 +10,7 @@ ghost use Rattle.lb_flat.specs.Inputs.{inputs_of};
 ghost use Rattle.lb_flat.specs.Judging.{flat_verdict};
 ghost use Rattle.lb_flat.specs.Programs.{program_of};
 ghost use Rattle.lb_check.specs.declared.verdict.Verdict.TheVariants.{Passed};
-ghost use Rattle.lb_sim.specs.BatchLanes.{IsVerdictOf};
+ghost use Rattle.lb_flat.specs.Correct.{IsVerdictOf};
 ghost use Rattle.lb_sim.specs.BatchRooms.{IsRoomFor};
 ghost use Rattle.lb_sim.specs.BatchRuns.{IsFresh, verdict_at};
 
@@ -19,11 +19,11 @@ use crate::inputs::Inputs;
 use crate::program::LaneProgram;
 use crate::room::{BatchRoom, is_kind};
 use crate::running::{longest, running_at, still};
-use lb_check::verdict::Verdict;
-use lb_flat::traces::TraceSet;
+use lb_check::Verdict;
+use lb_flat::TraceSet;
 use lb_lanes::Plane;
-use lb_static::signature::Signature;
-use lb_syntax::tree::Kind;
+use lb_static::Signature;
+use lb_syntax::Kind;
 use std::alloc::{AllocError, Global};
 
 /// The members of a batch that was run, and the verdict of each.

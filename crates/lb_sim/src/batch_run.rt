@@ -17,7 +17,7 @@ use crate::inputs::Inputs;
 use crate::instant::{advance, first_lanes, pass_all, start};
 use crate::lane_bits::zeros;
 use crate::program::LaneProgram;
-use lb_check::verdict::Verdict;
+use lb_check::Verdict;
 use lb_lanes::{IntLanes, Plane};
 use std::alloc::{AllocError, Global};
 

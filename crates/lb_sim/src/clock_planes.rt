@@ -11,8 +11,7 @@ ghost use Rattle.lb_sim.specs.Showing.{row_at};
 
 use crate::picks::sign_plane;
 use crate::place::Place;
-use lb_flat::equation::{Clock, ClockId};
-use lb_flat::program::FlatProgram;
+use lb_flat::{Clock, ClockId, FlatProgram};
 use lb_machine::{Code, EVERYWHERE, PlaneId};
 use std::alloc::AllocError;
 

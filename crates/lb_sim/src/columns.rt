@@ -5,7 +5,7 @@ ghost use Rattle.lb_sim.specs.InputRows.{places_of, truth_columns, number_column
 
 use crate::place::Value;
 use lb_machine::{PlaneId, WordId};
-use lb_syntax::tree::Kind;
+use lb_syntax::Kind;
 use std::alloc::{AllocError, Global};
 
 /// The columns of a signature: a plane for each Boolean and a word for each integer, in its order.

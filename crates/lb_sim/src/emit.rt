@@ -17,9 +17,9 @@ ghost use Rattle.lb_sim.specs.declared.place.Value.{Value};
 use crate::operators::{one_holding, two_holdings};
 use crate::picks::{choose, pick};
 use crate::place::{Holding, Place, Value};
-use lb_flat::equation::{ElementId, InputId, Operation};
+use lb_flat::{ElementId, InputId, Operation};
 use lb_machine::{Code, NOWHERE, PlaneId, ZERO};
-use lb_syntax::tree::Kind;
+use lb_syntax::Kind;
 use std::alloc::AllocError;
 
 // What an element holds.

@@ -18,7 +18,7 @@ ghost use Rattle.lb_sim.specs.States.{no_place, holding_of, IsShownBy};
 use crate::clock_planes::known_plane;
 use crate::emit::emit;
 use crate::place::{Holding, Place, Value};
-use lb_flat::program::FlatProgram;
+use lb_flat::FlatProgram;
 use lb_machine::{Code, NOWHERE, PlaneId};
 use std::alloc::{AllocError, Global};
 

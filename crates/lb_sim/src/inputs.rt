@@ -13,10 +13,9 @@ ghost use Rattle.lb_sim.specs.Showing.{value_at};
 use crate::columns::Columns;
 use crate::lane_bits::{copy_planes, copy_words, zeros};
 use crate::loads::{Instant, load_numbers, load_truths};
-use lb_flat::program::FlatProgram;
-use lb_flat::traces::TraceSet;
+use lb_flat::{FlatProgram, TraceSet};
 use lb_lanes::{IntLanes, Plane};
-use lb_syntax::tree::Kind;
+use lb_syntax::Kind;
 use std::alloc::{AllocError, Global};
 
 /// A row of inputs for each lane: a plane for each Boolean of the signature, and a word for each

@@ -21,7 +21,7 @@ use crate::inputs::Inputs;
 use crate::lane_bits::{copy_planes, with_lane};
 use crate::place::Watched;
 use crate::program::{LaneCode, LaneProgram};
-use lb_check::verdict::Verdict;
+use lb_check::Verdict;
 use lb_lanes::{IntLanes, Plane};
 use lb_machine::{PlaneId, carry_planes, carry_words};
 

@@ -17,7 +17,7 @@ ghost use Rattle.lb_lanes.specs.Planes.{on};
 ghost use Rattle.lb_sim.specs.InputRows.{HaveInstant, member_cell};
 
 use crate::lane_bits::{groups_of, put_numbers, size_of_group, turn_group};
-use lb_flat::traces::TraceSet;
+use lb_flat::TraceSet;
 use lb_lanes::{IntLanes, Plane};
 
 /// An instant of the members of a batch, in the lanes that are live.

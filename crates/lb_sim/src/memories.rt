@@ -11,7 +11,7 @@ ghost use Rattle.lb_sim.specs.States.{no_holding};
 use crate::allot::{NOTHING, constant, first_memory, watched_elements};
 use crate::place::Holding;
 use crate::preset::Preset;
-use lb_flat::program::FlatProgram;
+use lb_flat::FlatProgram;
 use std::alloc::{AllocError, Global};
 
 // Fills a table with what elements hold that are constants.

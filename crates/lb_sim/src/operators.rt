@@ -14,7 +14,7 @@ use crate::place::{Holding, Value};
 use crate::truths::{compared, not_plane, two_truths};
 use lb_lanes::IntOperator;
 use lb_machine::{Code, PlaneId, PlaneOperator, WordId};
-use lb_syntax::tree::{BinaryOperator, UnaryOperator};
+use lb_syntax::{BinaryOperator, UnaryOperator};
 use std::alloc::AllocError;
 
 // A truth value that is nil and a fault where its operands are.

@@ -6,7 +6,7 @@ ghost use Rattle.lb_flat.specs.Programs.{flat_equations, program_of, IsInRange};
 ghost use Rattle.lb_sim.specs.Codes.{IsCodeOf};
 
 use crate::place::{Holding, Place, Value, Watched};
-use lb_flat::program::FlatProgram;
+use lb_flat::FlatProgram;
 use lb_machine::{Code, PlaneId, WordId};
 
 /// What an instant does: code, where it finds each element, what it decides, and what memories take

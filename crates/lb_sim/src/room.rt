@@ -8,9 +8,9 @@ use crate::batch_run::BatchRun;
 use crate::inputs::Inputs;
 use crate::lane_bits::zeros;
 use crate::program::LaneProgram;
-use lb_check::verdict::Verdict;
+use lb_check::Verdict;
 use lb_lanes::IntLanes;
-use lb_syntax::tree::Kind;
+use lb_syntax::Kind;
 use std::alloc::{AllocError, Global};
 
 /// Planes, words, verdicts and inputs for a program. What they hold from one batch tells nothing of

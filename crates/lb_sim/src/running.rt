@@ -6,7 +6,7 @@ ghost use Rattle.lb_lanes.specs.Planes.{on};
 ghost use Rattle.lb_sim.specs.BatchLanes.{length_in, AreOn, AreRunning};
 
 use crate::lane_bits::with_lane;
-use lb_flat::traces::TraceSet;
+use lb_flat::TraceSet;
 
 /// Some lanes, and up to which instant they are the ones whose traces go on.
 #[derive(Clone, Copy)]

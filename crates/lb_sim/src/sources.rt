@@ -19,8 +19,7 @@ ghost use Rattle.lb_sim.specs.Steady.{AreHeldFor};
 use crate::allotted::Allotted;
 use crate::picks::pick;
 use crate::place::{Holding, Place, Value};
-use lb_flat::equation::Operation;
-use lb_flat::program::FlatProgram;
+use lb_flat::{FlatProgram, Operation};
 use lb_machine::{Code, EVERYWHERE, NOWHERE, PlaneId, PlaneOperator, WordId, ZERO};
 use std::alloc::{AllocError, Global};
 

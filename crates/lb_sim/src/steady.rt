@@ -13,8 +13,7 @@ ghost use Rattle.lb_sim.specs.Steady.{IsNotNil, IsSteadyFor, IsTableOf};
 use crate::allot::NOTHING;
 use crate::allotted::Allotted;
 use crate::place::{Holding, Value};
-use lb_flat::equation::Operation;
-use lb_flat::program::FlatProgram;
+use lb_flat::{FlatProgram, Operation};
 use lb_machine::{EVERYWHERE, NOWHERE, PlaneId};
 use std::alloc::{AllocError, Global};
 

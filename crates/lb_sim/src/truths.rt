@@ -8,7 +8,7 @@ ghost use Rattle.lb_machine.specs.Growing.{IsGrown, IsPlaneFor};
 ghost use Rattle.lb_machine.specs.Meaning.{Lane, HasRun};
 
 use lb_machine::{Code, Comparison, EVERYWHERE, NOWHERE, PlaneId, PlaneOperator, WordId};
-use lb_syntax::tree::BinaryOperator;
+use lb_syntax::BinaryOperator;
 use std::alloc::AllocError;
 
 /// A plane that is true where another is not.

@@ -12,7 +12,7 @@ ghost use Rattle.lb_sim.specs.Watching.{is_sought};
 
 use crate::picks::sign_plane;
 use crate::place::Place;
-use lb_flat::equation::ElementId;
+use lb_flat::ElementId;
 use lb_machine::{Code, EVERYWHERE, PlaneId, PlaneOperator};
 use std::alloc::AllocError;
 

@@ -11,7 +11,7 @@ ghost use Rattle.lb_sim.specs.Watching.{AreWatched};
 
 use crate::place::{Place, Watched};
 use crate::watch::{Sought, false_plane, first_bad, nil_plane, some_sought};
-use lb_flat::program::FlatProgram;
+use lb_flat::FlatProgram;
 use lb_machine::{Code, NOWHERE, PlaneId, PlaneOperator};
 use std::alloc::AllocError;
 

@@ -8,7 +8,8 @@ use Rattle.lb_static.specs.declared.error.StaticError.TheVariants.{Memory, Name 
 use Rattle.lb_static.specs.declared.error.StaticError.TheVariants.{Recursion, Root as Root_fault}
 use Rattle.lb_static.specs.declared.error.StaticError.TheVariants.{Value, Range, Instances}
 use Rattle.lb_static.specs.CallGraphs.{IsCallsAnswer}
-use Rattle.lb_static.specs.Elaborates.{IsStaticFault, IsTableAnswer}
+use Rattle.lb_static.specs.Correct.{IsStaticFault}
+use Rattle.lb_static.specs.TableAnswers.{IsTableAnswer}
 use Rattle.lb_static.specs.InstanceTable.{HasStarts, IsTable}
 use Rattle.lb_static.specs.LinkedSpecializations.{AreSpecialized}
 use Rattle.lb_static.specs.InstanceRows.{AreInstances}

@@ -10,7 +10,8 @@ pub mod Elaborated
 pub mod WorkedTrees
 pub mod Scopes
 pub mod SourceNames
-pub mod Elaborates
+pub mod Correct
+pub mod TableAnswers
 pub mod StaticRange
 pub mod ConstantValues
 pub mod HeldValues

@@ -10,6 +10,7 @@ use Rattle.lb_static.specs.Names.{reached_nodes}
 use Rattle.lb_static.specs.ResolvedNodes.{IsResolved, node_of}
 use Rattle.lb_static.specs.declared.reach.NodeId.{NodeId}
 use Rattle.lb_static.specs.declared.reach.Reached.{Reached}
+use Rattle.lb_static.specs.declared.resolved.CallId.{CallId}
 use Rattle.lb_static.specs.declared.resolved.CallSite.{CallSite}
 use Rattle.lb_static.specs.declared.resolved.NodePlace.{NodePlace}
 use Rattle.lb_static.specs.declared.resolved.ResolvedNode.{ResolvedNode}
@@ -29,6 +30,13 @@ tree_at r id = slice_get (trees r) id.0
 -- where a node of the source stands among them
 abbrev pub id_at : Reached → NodePlace → Option NodeId
 id_at r place = slice_get r.ids.items place.0 >>= λ id. id
+
+-- the node that a call of a node calls
+abbrev pub callee_in : Reached → ResolvedNode → CallId → Option ResolvedNode
+callee_in r n c =
+    slice_get n.calls.items c.0 >>= λ site.
+    id_at r site.callee >>= λ id.
+    slice_get r.nodes.items id.0
 
 -- what a call calls is among them
 abbrev pub is_linked : Reached → CallSite → Bool

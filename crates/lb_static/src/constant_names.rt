@@ -22,7 +22,7 @@ use crate::globals::{Globals, refused_name};
 use crate::resolved::{ResolvedNode, StaticPart, StaticText};
 use crate::scope::Scope;
 use crate::work_list::WorkList;
-use lb_syntax::tree::{Name, Source, Static};
+use lb_syntax::{Name, Source, Static};
 use std::alloc::{AllocError, Global};
 
 /// Visits the constant of a name, if it is one and is not hidden.

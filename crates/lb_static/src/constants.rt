@@ -22,7 +22,7 @@ ghost use Rattle.lb_static.specs.StaticValues.{constant_value};
 
 use crate::scope::Scope;
 use crate::static_value::{StaticInt, Values, static_value};
-use lb_syntax::tree::{Constant, Static};
+use lb_syntax::{Constant, Static};
 use std::alloc::{AllocError, Global};
 
 /// The values of the constants of a source.

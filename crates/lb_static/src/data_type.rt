@@ -18,7 +18,7 @@ ghost use Rattle.lb_static.specs.StaticValues.{natural};
 use crate::error::StaticError;
 use crate::resolved::Variable;
 use crate::static_value::StaticInt;
-use lb_syntax::tree::Kind;
+use lb_syntax::Kind;
 use std::alloc::Global;
 
 /// A type: a kind and the sizes of an array of it, the outermost first; a scalar has none.

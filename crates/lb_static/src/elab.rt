@@ -6,7 +6,7 @@ ghost use Rattle.lb_static.specs.Elaborated.{IsLawful};
 use crate::reach::Reached;
 use crate::signature::Signature;
 use crate::table::Table;
-use lb_syntax::tree::Source;
+use lb_syntax::Source;
 use std::marker::Model;
 
 /// A program, by its source and the names of its node under test and its observer, and what is

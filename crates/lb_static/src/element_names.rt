@@ -6,7 +6,7 @@ ghost use Rattle.lb_static.specs.DataTypes.{element_names, index_text, product};
 
 use crate::data_type::DataType;
 use crate::signature::Signature;
-use lb_syntax::tree::{Kind, Name};
+use lb_syntax::{Kind, Name};
 use std::alloc::{AllocError, Global};
 
 /// The name of the element at an index: `x[1]`.

@@ -12,7 +12,7 @@ ghost use Rattle.lb_static.specs.NamedConstants.{constant_place};
 
 use crate::error::StaticError;
 use crate::scope::Scope;
-use lb_syntax::tree::{Name, Source};
+use lb_syntax::{Name, Source};
 use std::alloc::Global;
 
 /// The global names of a source, each of them once: first those of the constants.

@@ -6,7 +6,7 @@ ghost use Rattle.std.specs.List.{zip};
 
 use crate::constants::Constants;
 use crate::static_value::{StaticInt, Values};
-use lb_syntax::tree::Name;
+use lb_syntax::Name;
 
 /// The values of names in an instance of a node.
 #[derive(Clone, Copy)]

@@ -11,7 +11,7 @@ use crate::resolved::{ResolvedNode, Variable};
 use crate::signature::Signature;
 use crate::static_value::StaticInt;
 use crate::valued_node::interface_variables;
-use lb_syntax::tree::{Name, Node};
+use lb_syntax::{Name, Node};
 use std::alloc::{AllocError, Global};
 
 /// Whether none of these variables has a clock of its own.

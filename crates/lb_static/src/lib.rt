@@ -1,37 +1,50 @@
 //! Names, static values and instances: what a source stands for before any type is looked at.
 #![tactic(auto)]
 
-pub mod arithmetic;
 mod check_interface;
 mod check_recursion;
 mod constant_names;
 mod constants;
 mod cycle;
 mod data_type;
-pub mod elab;
-pub mod elaborate;
+mod elab;
+mod elaboration;
 mod element_names;
-pub mod error;
+mod error;
 mod globals;
 mod instance_values;
 mod instantiate;
+mod int_arithmetic;
 mod interface;
 mod node_builder;
 mod node_scope;
-pub mod reach;
+mod reach;
 mod reaching;
 mod resolve_names;
-pub mod resolved;
+mod resolved;
 mod resolving_nodes;
 mod resolving_parts;
 mod resolving_statements;
 mod resolving_terms;
 mod resolving_variables;
 mod scope;
-pub mod signature;
+mod signature;
 mod specializations;
 mod specialize;
-pub mod static_value;
-pub mod table;
+mod static_value;
+mod table;
 mod valued_node;
 mod work_list;
+
+pub use elab::Elab;
+pub use elaboration::elaborate;
+pub use error::StaticError;
+pub use int_arithmetic::{arithmetic, negated};
+pub use reach::{NodeId, Reached};
+pub use resolved::{
+    CallId, CallSite, ResolvedNode, ResolvedStatement, Sampling, StaticId, Term, Variable,
+    VariableId,
+};
+pub use signature::{Kind, Signature};
+pub use static_value::StaticInt;
+pub use table::{Instance, InstanceId, Origin, Specialization, SpecializationId, Table};

@@ -15,7 +15,7 @@ use crate::node_scope::NodeScope;
 use crate::resolved::{
     CallId, CallSite, ResolvedNode, ResolvedStatement, StaticId, StaticPart, Variable,
 };
-use lb_syntax::tree::Node;
+use lb_syntax::Node;
 use std::alloc::Global;
 
 /// What is resolved of a node so far: its static expressions, its calls and its variables.

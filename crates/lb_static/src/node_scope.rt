@@ -13,7 +13,7 @@ use crate::error::StaticError;
 use crate::globals::{Globals, declare_new, refused_name};
 use crate::resolved::{NodePlace, VariableId};
 use crate::scope::Scope;
-use lb_syntax::tree::{Declarations, Name, Node, Source, Static};
+use lb_syntax::{Declarations, Name, Node, Source, Static};
 use std::alloc::Global;
 
 /// What the names of a node stand for.

@@ -1,9 +1,9 @@
 //! The nodes that are reached by name from the node under test and the observer.
 
-ghost use Rattle.std.specs.Prelude.{◌≡◌};
-ghost use Rattle.lb_static.specs.ReachedNodes.{id_at};
+ghost use Rattle.std.specs.Prelude.{◌≡◌, option_map};
+ghost use Rattle.lb_static.specs.ReachedNodes.{callee_in, id_at};
 
-use crate::resolved::{CallSite, ResolvedNode};
+use crate::resolved::{CallId, CallSite, ResolvedNode};
 
 /// The place of a node among those that are reached.
 #[derive(Clone, Copy, PartialEq, Eq, Hash, Debug)]
@@ -21,11 +21,20 @@ pub struct Reached<'s> {
     pub observer: Option<NodeId>,
 }
 
-impl Reached<'_> {
+impl<'s> Reached<'s> {
     /// The node that a call site calls, if it is among those that are reached.
     pub fn called(&self, site: &CallSite) -> Option<NodeId>
         ensures { result ≡ id_at self.now site.now.callee }
     {
         *self.ids.get(site.callee.0)?
+    }
+
+    /// The node that a call of a node calls.
+    pub fn callee(&self, node: &ResolvedNode<'s>, call: CallId) -> Option<&ResolvedNode<'s>>
+        ensures { option_map (λ n. n.now) result ≡ callee_in self.now node.now call }
+    {
+        let site = node.calls.get(call.0)?;
+        let id = self.called(site)?;
+        self.nodes.get(id.0)
     }
 }

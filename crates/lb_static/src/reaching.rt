@@ -19,7 +19,7 @@ use crate::reach::{NodeId, Reached};
 use crate::resolved::{CallSite, ResolvedNode};
 use crate::resolving_nodes::resolve_node;
 use crate::work_list::WorkList;
-use lb_syntax::tree::Source;
+use lb_syntax::Source;
 use std::alloc::{AllocError, Global};
 
 /// The place of the node of a name.

@@ -13,7 +13,7 @@ use crate::error::StaticError;
 use crate::globals::Globals;
 use crate::reach::Reached;
 use crate::reaching::reach;
-use lb_syntax::tree::Source;
+use lb_syntax::Source;
 use std::alloc::Global;
 
 /// The nodes that are reached by name, with their names resolved, where the names of the source are

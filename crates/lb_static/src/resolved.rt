@@ -6,7 +6,7 @@
 //! place among those of its node. What the numbers stand for is kept beside the node's body, and
 //! its tree stays at hand.
 
-use lb_syntax::tree::{ArrayIterator, BinaryOperator, Kind, Name, Node, Static, UnaryOperator};
+use lb_syntax::{ArrayIterator, BinaryOperator, Kind, Name, Node, Static, UnaryOperator};
 
 /// The place of a variable among the inputs, outputs and locals of its node, in this order.
 #[derive(Clone, Copy, PartialEq, Eq, Debug)]

@@ -15,7 +15,7 @@ use crate::node_scope::NodeScope;
 use crate::resolved::{ResolvedNode, ResolvedStatement};
 use crate::resolving_statements::resolve_statements;
 use crate::resolving_variables::resolve_groups;
-use lb_syntax::tree::{Node, Source};
+use lb_syntax::{Node, Source};
 use std::alloc::Global;
 
 /// The parts of a node with their names resolved.

@@ -15,7 +15,7 @@ use crate::error::StaticError;
 use crate::globals::refused_name;
 use crate::node_builder::NodeBuilder;
 use crate::resolved::{CallId, CallSite, Role, StaticId, StaticPart, StaticText, Term, VariableId};
-use lb_syntax::tree::{Name, Static};
+use lb_syntax::{Name, Static};
 use std::alloc::Global;
 
 /// The place of the variable of a name.

@@ -16,7 +16,7 @@ use crate::node_builder::NodeBuilder;
 use crate::resolved::{ResolvedStatement, VariableId};
 use crate::resolving_parts::variable;
 use crate::resolving_terms::term;
-use lb_syntax::tree::{Name, Statement};
+use lb_syntax::{Name, Statement};
 use std::alloc::Global;
 
 /// The places of the variables on a left side.

@@ -10,7 +10,7 @@ use crate::error::StaticError;
 use crate::node_builder::NodeBuilder;
 use crate::resolved::{CallId, Role, StaticId, Term, VariableId};
 use crate::resolving_parts::{call, named, one_static, variable};
-use lb_syntax::tree::{ArrayIterator, BinaryOperator, Expr, Operator, UnaryOperator};
+use lb_syntax::{ArrayIterator, BinaryOperator, Expr, Operator, UnaryOperator};
 use std::alloc::Global;
 
 /// What stands before the last operand of an expression, and after it.

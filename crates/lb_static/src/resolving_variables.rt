@@ -15,15 +15,14 @@ use crate::error::StaticError;
 use crate::node_builder::NodeBuilder;
 use crate::resolved::{Role, Sampling, Variable};
 use crate::resolving_parts::{all_statics, variable};
-use lb_syntax::tree;
-use lb_syntax::tree::{Declarations, Name};
+use lb_syntax::{Declarations, Name};
 use std::alloc::Global;
 
 /// The clock of some variables.
 fn sampling(
     alloc: Global,
     here: &NodeBuilder,
-    clock: &Option<tree::Sampling>,
+    clock: &Option<lb_syntax::Sampling>,
 ) -> Result<Option<Sampling>, StaticError>
     ensures stands { IfOk result (ClockStands (progress here.now) (view_clock clock.now)) }
     ensures fit { IfOk result (λ _. clock_fits (progress here.now) (view_clock clock.now) ≡ true) }

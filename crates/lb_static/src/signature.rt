@@ -4,7 +4,7 @@ ghost use Rattle.std.specs.Prelude.{◌≡◌, ◌<◌, ◌≤◌, ◌++◌, ◌
 ghost use Rattle.std.specs.Prelude.{OnOk, OnErr, IfOk, string_bytes};
 ghost use Rattle.lb_static.specs.Signature.{names_of, kinds_of};
 
-pub use lb_syntax::tree::Kind;
+pub use lb_syntax::Kind;
 use std::alloc::{AllocError, Global};
 use std::marker::Model;
 

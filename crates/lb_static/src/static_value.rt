@@ -9,7 +9,7 @@ ghost use Rattle.lb_static.specs.Arithmetic.{arithmetic, is_divisible, lawful};
 ghost use Rattle.lb_static.specs.StaticRange.{IsWithinWord};
 ghost use Rattle.lb_static.specs.StaticValues.{value_under};
 
-use lb_syntax::tree::{BinaryOperator, Static};
+use lb_syntax::{BinaryOperator, Static};
 use std::marker::Model;
 
 /// A whole number that a static expression stands for.

@@ -19,7 +19,7 @@ pub mod LimitLaws
 pub mod Spans
 pub mod ListLaws
 pub mod Names
-pub mod Declarations
+pub mod DeclarationLaws
 pub mod Nodes
 pub mod Sources
 pub mod PartTurns

@@ -17,7 +17,7 @@ use Rattle.lb_syntax.proofs.Spans.{made_is, mark_reads, name_reads, Takes, takes
 use Rattle.lb_syntax.proofs.Spans.{takes_nothing, takes_then, takes_may, takes_list, takes_less}
 use Rattle.lb_syntax.proofs.Spans.{takes_any}
 use Rattle.lb_syntax.proofs.ListLaws.{GoWith, list_read, list_reads}
-use Rattle.lb_syntax.proofs.Declarations.{mark_end, takes_static, Anywhere, named_at, at_name_is}
+use Rattle.lb_syntax.proofs.DeclarationLaws.{mark_end, takes_static, Anywhere, named_at, at_name_is}
 use Rattle.lb_syntax.proofs.Nodes.{IsAfterNode, node_read, node_reads, takes_rest}
 use Rattle.lb_syntax.proofs.Sound.{static_read}
 use Rattle.lb_syntax.proofs.StaticComplete.{static_reads}

@@ -4,7 +4,7 @@
 
 mod climb;
 mod declaration;
-pub mod error;
+mod error;
 mod expression;
 mod level;
 mod lex;
@@ -12,12 +12,19 @@ mod limits;
 mod list;
 mod lookahead;
 mod node;
-pub mod parse;
+mod parser;
 mod place;
 mod program;
 mod read;
 mod reader;
 mod statement;
 mod statics;
-pub mod token;
-pub mod tree;
+mod token;
+mod tree;
+
+pub use error::SyntaxError;
+pub use parser::parse;
+pub use tree::{
+    ArrayIterator, BinaryOperator, Constant, Declarations, Expr, Kind, Name, Node, Operator,
+    Sampling, Source, Statement, Static, UnaryOperator,
+};

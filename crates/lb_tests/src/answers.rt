@@ -1,10 +1,7 @@
 //! What is answered on a case text: the report and the status, or why there is none.
 
-use lb_check::error::CheckError;
-use lb_report::bench::run_case;
-use lb_report::error::BenchError;
-use lb_report::options::Options;
-use lb_report::text::Report;
+use lb_check::CheckError;
+use lb_report::{BenchError, Options, Report, run_case};
 use std::alloc::{AllocError, Global};
 use std::rt::Runtime;
 use std::thread::Threads;

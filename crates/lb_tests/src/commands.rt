@@ -1,7 +1,7 @@
 //! Runs of the program: what they print, and their exit statuses.
 
 use crate::tables::{Asks, Table, check};
-use lb_command::command::command;
+use lb_command::command;
 use std::alloc::{AllocError, Global};
 use std::rt::Runtime;
 use std::test::Fail;

@@ -15,6 +15,8 @@ mod elaboration;
 #[cfg(test)]
 mod forms;
 #[cfg(test)]
+mod lane_words;
+#[cfg(test)]
 mod lanes;
 #[cfg(test)]
 mod machine;

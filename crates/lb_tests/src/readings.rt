@@ -1,10 +1,10 @@
 //! Trace texts: what is read of them, whichever way their records end and their cells are written.
 
 use crate::tables::{Asks, Table, check};
-use lb_flat::traces::TraceSet;
-use lb_static::signature::{Kind, Signature};
-use lb_trace::error::TraceError;
-use lb_trace::{read_traces, read_traces_by};
+use lb_flat::TraceSet;
+use lb_static::Signature;
+use lb_syntax::Kind;
+use lb_trace::{TraceError, read_traces, read_traces_by};
 use std::alloc::{AllocError, Global};
 use std::rt::Runtime;
 use std::thread::Threads;
@@ -215,8 +215,8 @@ fn push_words(set: &TraceSet, said: &mut String) -> Result<(), AllocError> {
     Ok(())
 }
 
-// Columns `c0`, `c1` and so on, of integers where a letter is `i` and of Booleans elsewhere, and the
-// header of their texts.
+// Columns `c0`, `c1` and so on, of integers where a letter is `i` and of Booleans elsewhere, and
+// the header of their texts.
 fn signature_of(alloc: Global, kinds: &str, text: &mut String) -> Result<Signature, AllocError> {
     let mut signature = Signature::new(alloc);
     text.push_str("trace")?;
@@ -266,6 +266,60 @@ bb a,1,0 b,0,1 b,1,1 c,0,0 => a: ( 1 );b: ( 2 ) ( 3 );c: ( 0 );
 #[test]
 fn bits(rt: HostRuntime) -> Result<(), AllocError> {
     check(&rt, &Table::of_lines(Asks::Bits, BITS))
+}
+
+// Booleans in groups of many sizes, each followed by its opposite; one that is spelled out at each
+// place of a group; and a cell that is no value, at each place.
+const TRUTHS: &str = "\
+{5 b} a,1,1,1,0,0 a,0,0,0,1,1 bc,1,0,0,0,1 => a: ( 7 ) ( 24 );bc: ( 17 );
+{7 b} a,1,0,0,1,1,0,0 a,0,1,1,0,0,1,1 bc,1,0,0,0,0,0,1 => a: ( 25 ) ( 102 );bc: ( 65 );
+{8 b} a,0,1,1,0,0,0,0,0 a,1,0,0,1,1,1,1,1 bc,1,0,0,0,0,0,0,1 => a: ( 6 ) ( 249 );bc: ( 129 );
+{9 b} a,0,0,0,1,1,1,0,0,1 a,1,1,1,0,0,0,1,1,0 bc,1,0,0,0,0,0,0,0,1 => \
+a: ( 312 ) ( 199 );bc: ( 257 );
+{12 b} a,1,0,0,1,1,1,0,1,1,0,1,0 a,0,1,1,0,0,0,1,0,0,1,0,1 bc,1,0,0,0,0,0,0,0,0,0,0,1 => \
+a: ( 1465 ) ( 2630 );bc: ( 2049 );
+{15 b} a,0,0,1,0,1,1,0,0,0,0,0,0,1,1,1 a,1,1,0,1,0,0,1,1,1,1,1,1,0,0,0 \
+bc,1,0,0,0,0,0,0,0,0,0,0,0,0,0,1 => \
+a: ( 28724 ) ( 4043 );bc: ( 16385 );
+{16 b} a,1,0,0,1,1,0,1,1,0,1,0,0,0,0,0,0 a,0,1,1,0,0,1,0,0,1,0,1,1,1,1,1,1 \
+bc,1,0,0,0,0,0,0,0,0,0,0,0,0,0,0,1 => \
+a: ( 729 ) ( 64806 );bc: ( 32769 );
+{17 b} a,1,1,0,0,1,0,0,1,1,0,1,1,0,0,1,1,0 a,0,0,1,1,0,1,1,0,0,1,0,0,1,1,0,0,1 \
+bc,1,0,0,0,0,0,0,0,0,0,0,0,0,0,0,0,1 => \
+a: ( 52627 ) ( 78444 );bc: ( 65537 );
+{16 b} a,true,0,0,0,0,0,0,0,0,0,0,0,0,0,0,0 a,false,1,1,1,1,1,1,1,1,1,1,1,1,1,1,1 => \
+a: ( 1 ) ( 65534 );
+{16 b} a,0,0,0,true,0,0,0,0,0,0,0,0,0,0,0,0 a,1,1,1,false,1,1,1,1,1,1,1,1,1,1,1,1 => \
+a: ( 8 ) ( 65527 );
+{16 b} a,0,0,0,0,0,0,0,true,0,0,0,0,0,0,0,0 a,1,1,1,1,1,1,1,false,1,1,1,1,1,1,1,1 => \
+a: ( 128 ) ( 65407 );
+{16 b} a,0,0,0,0,0,0,0,0,true,0,0,0,0,0,0,0 a,1,1,1,1,1,1,1,1,false,1,1,1,1,1,1,1 => \
+a: ( 256 ) ( 65279 );
+{16 b} a,0,0,0,0,0,0,0,0,0,0,0,0,0,0,0,true a,1,1,1,1,1,1,1,1,1,1,1,1,1,1,1,false => \
+a: ( 32768 ) ( 32767 );
+{9 b} a,0,0,0,0,0,0,0,0,0 a,2,1,1,1,1,1,1,1,1 a,1,1,1,1,1,1,1,1,1 => \
+E16 the cell of record 2 in column 0 is no value of it
+{9 b} a,0,0,0,0,0,0,0,0,0 a,1,1,1,,1,1,1,1,1 a,1,1,1,1,1,1,1,1,1 => \
+E16 the cell of record 2 in column 3 is no value of it
+{9 b} a,0,0,0,0,0,0,0,0,0 a,1,1,1,1,1,1,01,1,1 a,1,1,1,1,1,1,1,1,1 => \
+E16 the cell of record 2 in column 6 is no value of it
+{9 b} a,0,0,0,0,0,0,0,0,0 a,1,1,1,1,1,1,1,2,1 a,1,1,1,1,1,1,1,1,1 => \
+E16 the cell of record 2 in column 7 is no value of it
+{9 b} a,0,0,0,0,0,0,0,0,0 a,1,1,1,1,1,1,1,1,x a,1,1,1,1,1,1,1,1,1 => \
+E16 the cell of record 2 in column 8 is no value of it
+{9 b} a,0,0,0,0,0,0,0,0,0 a,1,1,1,1,1,1,1,-1,1 a,1,1,1,1,1,1,1,1,1 => \
+E16 the cell of record 2 in column 7 is no value of it
+{9 b} a,0,0,0,0,0,0,0,0,0 a,1,1,1,1,1,1,1,1_,1 a,1,1,1,1,1,1,1,1,1 => \
+E16 the cell of record 2 in column 7 is no value of it
+{8 b} a,1,1,1,1,1,1,1,1 a,1,1,1,1,1,1,1 => E15 record 2 has 7 cells, and the header 8
+{8 b} a,1,1,1,1,1,1,1,1 a,1,1,1,1,1,1,1,1,1 => E15 record 2 has 9 cells, and the header 8
+{8 b}i{8 b} a,1,0,1,1,0,0,1,0,-12,0,1,1,1,0,0,0,1 b,0,0,0,0,0,0,0,1,345678,1,0,0,0,0,0,0,0 => \
+a: ( 36429 );b: ( 384 );
+bbbi{5 b} a,1,0,1,2147483647,1,1,0,1,0 a,0,1,0,0,0,0,1,0,1 => a: ( 93 ) ( 162 );";
+
+#[test]
+fn truths(rt: HostRuntime) -> Result<(), AllocError> {
+    check(&rt, &Table::of_lines(Asks::Bits, TRUTHS))
 }
 
 // Texts of twenty records and of few, in parts that are cut at each of their lines: within a trace,

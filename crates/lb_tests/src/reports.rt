@@ -1,10 +1,8 @@
 //! Case texts in their two parts, statuses and options.
 
 use crate::tables::{Asks, Table, check};
-use lb_check::verdict::Verdict;
-use lb_report::case::split_case;
-use lb_report::options::Options;
-use lb_report::text::status;
+use lb_check::Verdict;
+use lb_report::{Options, split_case, status};
 use std::alloc::AllocError;
 
 /// The source and the traces of a case text, each with a `|` at its end.

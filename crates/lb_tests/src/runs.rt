@@ -2,9 +2,9 @@
 
 use crate::answers::push_refusal;
 use crate::tables::{Asks, Table, check};
-use lb_report::error::BenchError;
-use lb_syntax::error::SyntaxError;
-use lb_trace::error::TraceError;
+use lb_report::BenchError;
+use lb_syntax::SyntaxError;
+use lb_trace::TraceError;
 use std::alloc::AllocError;
 use std::process::Abort;
 use std::rt::Runtime;

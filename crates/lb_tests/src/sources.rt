@@ -4,12 +4,8 @@
 //! a comma. Of a text its constants and nodes are counted; of a program its instances and its
 //! specializations, before the nodes that are reached and the scalar inputs.
 
-use lb_static::elab::Elab;
-use lb_static::elaborate::elaborate;
-use lb_static::error::StaticError;
-use lb_syntax::error::SyntaxError;
-use lb_syntax::parse::parse;
-use lb_syntax::tree::Source;
+use lb_static::{Elab, StaticError, elaborate};
+use lb_syntax::{Source, SyntaxError, parse};
 use std::alloc::{AllocError, Global};
 
 /// `7 of 4: main f g | x: Int`

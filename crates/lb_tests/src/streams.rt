@@ -1,7 +1,6 @@
 //! Reading an input and writing an output, where they work and where they fail.
 
-use lb_report::feed::{Feed, LoadError, Reader, load};
-use lb_report::sink::{Sent, Sink, Writer, send};
+use lb_report::{Feed, LoadError, Reader, Sent, Sink, Writer, load, send};
 use std::alloc::{AllocError, Global};
 use std::io::{ErrorKind, Read, Write};
 use std::process::Abort;

@@ -13,7 +13,8 @@
 //! `{2 x@, }` stands for `x0, x1, `, `{3 a}` for `aaa`, and `{1..2 x@ @, }` for `x1 1, x2 2, `.
 
 use crate::{
-    answers, batches, commands, lanes, machine, pool, programs, readings, reports, sources,
+    answers, batches, commands, lane_words, lanes, machine, pool, programs, readings, reports,
+    sources,
 };
 use std::alloc::AllocError;
 use std::process::Abort;
@@ -55,6 +56,8 @@ pub enum Asks<'a> {
     Parted,
     /// A kernel on integers, and its operands.
     Ints,
+    /// A kernel on words of 64 integers, and its operands.
+    Words,
     /// A kernel on planes, and its operands.
     Planes,
     /// The rows of a matrix of bits.
@@ -168,6 +171,7 @@ fn push_answer<R: Runtime + AllocGlobal + Threads + Sync>(
         Asks::Batches => batches::push_lanes_of(rt.alloc(), asked, said),
         Asks::Parted => readings::push_by_workers(rt, asked, said),
         Asks::Ints => lanes::push_ints(asked, said),
+        Asks::Words => lane_words::push_words(asked, said),
         Asks::Planes => lanes::push_plane(asked, said),
         Asks::Matrices => lanes::push_transposed(asked, said),
         Asks::Codes => machine::push_results(rt.alloc(), asked, said),

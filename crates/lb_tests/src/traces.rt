@@ -1,7 +1,8 @@
 //! Traces that are put together, row after row.
 
-use lb_flat::traces::{TraceRows, is_trace_name};
-use lb_static::signature::{Kind, Signature};
+use lb_flat::{TraceRows, is_trace_name};
+use lb_static::Signature;
+use lb_syntax::Kind;
 use std::test::Fail;
 
 #[test]

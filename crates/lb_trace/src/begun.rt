@@ -10,7 +10,7 @@ use crate::copied::copy_record;
 use crate::scan::skip_line_ends;
 use crate::table::{Table, table_of};
 use csv::ByteRecord;
-use lb_static::signature::Signature;
+use lb_static::Signature;
 use std::alloc::{AllocError, Global};
 
 /// A text whose header has been read: its table, and what follows it.

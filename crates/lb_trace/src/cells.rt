@@ -6,7 +6,7 @@ ghost use Rattle.std.specs.Prelude.{◌≡◌, ◌<◌, ◌≤◌, length, min, 
 ghost use Rattle.std.specs.Option.{option_and_then};
 ghost use Rattle.lb_trace.specs.Cells.{bool_of, cell_value, int_of, natural_of, signed};
 
-use lb_static::signature::Kind;
+use lb_syntax::Kind;
 
 // More than any number that an `int` cell may spell.
 const TOO_LARGE: u64 = 1 << 32;

@@ -11,7 +11,8 @@ ghost use Rattle.lb_trace.specs.Mirrors.{column_of};
 
 use crate::record::{cell, width};
 use csv::ByteRecord;
-use lb_static::signature::{Kind, Signature};
+use lb_static::Signature;
+use lb_syntax::Kind;
 use std::alloc::{AllocError, Global};
 
 /// Where the cells of a scalar input stand, and what they hold.

@@ -9,7 +9,7 @@ ghost use Rattle.lb_trace.specs.Spelling.{instants};
 
 use crate::error::TraceError;
 use crate::recorder::Recorder;
-use lb_flat::traces::TraceSet;
+use lb_flat::TraceSet;
 use std::alloc::{AllocError, Global};
 
 // Whether the limits have room for so many more instants of the last trace.

@@ -21,7 +21,7 @@ ghost use Rattle.lb_trace.specs.Mirrors.{is_below, knows, rises_to};
 ghost use Rattle.lb_trace.specs.Refusals.{is_trace_name as lawful_name};
 
 use crate::error::TraceError;
-use lb_flat::traces::{TraceSet, is_trace_name};
+use lb_flat::{TraceSet, is_trace_name};
 use std::alloc::{AllocError, Global};
 use std::collections::HashSet;
 

@@ -5,7 +5,7 @@ mod add_lines;
 mod begun;
 mod cells;
 mod copied;
-pub mod error;
+mod error;
 mod front;
 mod header;
 mod joined;
@@ -26,4 +26,5 @@ mod spread;
 mod table;
 mod truths;
 
+pub use error::TraceError;
 pub use read::{read_traces, read_traces_by};

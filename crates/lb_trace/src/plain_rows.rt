@@ -11,7 +11,7 @@ use crate::header::Column;
 use crate::scan::next_cell;
 use crate::small::{Value, small_cell};
 use crate::truths::four_cells;
-use lb_static::signature::Kind;
+use lb_syntax::Kind;
 use std::alloc::AllocError;
 
 /// Reads the cells of a record into `row`, one for each column, and gives what stands after the

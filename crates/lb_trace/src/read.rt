@@ -16,8 +16,8 @@ use crate::record::width;
 use crate::recorder::Recorder;
 use crate::spread::read_spread;
 use csv::{ByteRecord, Reader};
-use lb_flat::traces::TraceSet;
-use lb_static::signature::Signature;
+use lb_flat::TraceSet;
+use lb_static::Signature;
 use std::alloc::{AllocError, Global};
 use std::thread::Threads;
 

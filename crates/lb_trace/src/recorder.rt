@@ -25,8 +25,8 @@ use crate::rows::read_row;
 use crate::scan::next_cell;
 use crate::table::Table;
 use csv::ByteRecord;
-use lb_flat::traces::{TraceRows, TraceSet};
-use lb_static::signature::Signature;
+use lb_flat::{TraceRows, TraceSet};
+use lb_static::Signature;
 use std::alloc::{AllocError, Global};
 
 /// The most cells of all traces together.

@@ -9,7 +9,7 @@ ghost use Rattle.lb_trace.specs.Scan.{ends_cell};
 
 use crate::front::{count_after, value_of};
 use crate::scan::end_of;
-use lb_static::signature::Kind;
+use lb_syntax::Kind;
 
 /// The value of a cell, what stands after it, and whether it is the last one of its record.
 #[derive(Clone, Copy)]

@@ -10,7 +10,7 @@ ghost use Rattle.lb_trace.specs.Tables.{IsTable};
 use crate::header::{Column, columns_of};
 use crate::record::width;
 use csv::ByteRecord;
-use lb_static::signature::Signature;
+use lb_static::Signature;
 use std::alloc::{AllocError, Global};
 
 /// The columns of the scalar inputs.

@@ -5,7 +5,7 @@ ghost use Rattle.lb_trace.specs.TruthCells.{AreTruths, GoesOn};
 
 use crate::header::Column;
 use crate::small::bit_of;
-use lb_static::signature::Kind;
+use lb_syntax::Kind;
 use std::simd::prelude::*;
 
 /// The values of the first four cells, where their columns are Booleans, each cell is one digit,

@@ -1,8 +1,7 @@
 //! The program: one node over many recorded traces, one verdict for each.
 #![tactic(auto)]
 
-use lb_command::command::{command, refuse};
-use lb_command::refusal::Refusal;
+use lb_command::{Refusal, command, refuse};
 use std::alloc::Global;
 use std::env;
 use std::io::{self, ErrorKind, Read, Write};

@@ -13,16 +13,16 @@ ready : (p : Prepared) → Ready p.program.now.size [] (program_of p.program.now
 ready p = ready_of p.program.now.size (program_of p.program.now).equations p.in_order
 
 pub returns-clause-verdict : goal.returns-clause-verdict
-returns-clause-verdict c = λ P flat same.
+returns-clause-verdict c =
     let p = c.args.prepared.now in
-    standing_recorded P (program_of p.program.now) flat (ready p) c.args.recorded.now.set.now
-    c.args.k same c.signature.ensures.lawful c.requires.trace c.evaluate.result
-    c.evaluate.ensures.verdict
-
-pub returns-clause-alone : goal.returns-clause-alone
-returns-clause-alone c = λ P flat same.
-    let p = c.args.prepared.now in
-    let determined = standing_determined P (program_of p.program.now) flat (ready p) in
-    determined.one (inputs_of c.args.recorded.now.set.now c.args.k)
-    (trace_given P c.args.recorded.now.set.now c.args.k same c.signature.ensures.lawful
-    c.requires.trace)
+    record {
+      only_verdict = λ P flat same.
+          standing_recorded P (program_of p.program.now) flat (ready p) c.args.recorded.now.set.now
+          c.args.k same c.signature.ensures.lawful c.requires.trace c.evaluate.result
+          c.evaluate.ensures.verdict;
+      has_one_history = λ P flat same.
+          let determined = standing_determined P (program_of p.program.now) flat (ready p) in
+          determined.one (inputs_of c.args.recorded.now.set.now c.args.k)
+          (trace_given P c.args.recorded.now.set.now c.args.k same c.signature.ensures.lawful
+          c.requires.trace);
+    }

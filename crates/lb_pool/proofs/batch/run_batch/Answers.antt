@@ -7,8 +7,9 @@ use Rattle.std.proofs.lemmas.List.Elements.{All-push}
 use Rattle.lb_check.specs.declared.verdict.Verdict.{Verdict}
 use Rattle.lb_pool.specs.Plans.{IsLawful}
 use Rattle.lb_pool.specs.declared.batch.Judged.{Judged}
-use Rattle.lb_pool.specs.Runs.{IsJudged, IsVerdict, AreJudged, numbers_of}
-use Rattle.lb_pool.proofs.Covering.{batch_below, batch_few, is_verdict}
+use Rattle.lb_pool.specs.Correct.{IsVerdict}
+use Rattle.lb_pool.specs.Runs.{IsJudged, AreJudged, numbers_of}
+use Rattle.lb_pool.proofs.Covering.{batch_below, batch_few}
 use Rattle.lb_pool.proofs.batch.run_batch.Goals as goal
 
 pub run_batch_in-done-requires-clause-few : goal.run_batch_in-done-requires-clause-few
@@ -51,7 +52,7 @@ loop-j-preserved c =
       is_trace = below j 0 inside;
       is_verdict =
           subst (λ (v : Verdict). IsVerdict p r trace v) (sym c.verdict-verdict.ensures)
-          (is_verdict p r trace _ (c.run_batch_in-done.ensures.verdicts j inside));
+          (c.run_batch_in-done.ensures.verdicts j inside);
     } in (
       ap numbers_of pushed
           ∙ map-append (λ (j : Judged). j.trace) before (judged ∷ [])

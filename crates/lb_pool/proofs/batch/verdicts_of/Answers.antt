@@ -1,7 +1,7 @@
 -- Each trace has been judged, so all verdicts stand in their places.
 use Rattle.std.proofs.Common.{◌≡◌, length, drop, vec_len, sym, ap, ◌∙◌, subst, arith, rules}
 use Rattle.std.proofs.lemmas.List.{take_at}
-use Rattle.lb_pool.specs.Runs.{AreVerdicts}
+use Rattle.lb_pool.specs.Correct.{AreVerdicts}
 use Rattle.lb_pool.proofs.Placed.{all_placed}
 use Rattle.lb_pool.proofs.batch.verdicts_of.Goals as goal
 

@@ -2,7 +2,7 @@
 use Rattle.std.proofs.Common.{subst}
 use Rattle.std.proofs.lemmas.Result.{IfOk-weaker}
 use Rattle.lb_flat.specs.declared.program.FlatProgram.{FlatProgram}
-use Rattle.lb_pool.specs.Runs.{AreVerdicts}
+use Rattle.lb_pool.specs.Correct.{AreVerdicts}
 use Rattle.lb_pool.proofs.claims.run_claims.Goals as goal
 
 pub returns : goal.returns

@@ -4,7 +4,7 @@ use Rattle.std.proofs.lemmas.List.{get_or-take, length-take-le}
 use Rattle.lb_check.specs.declared.verdict.Verdict.{Verdict}
 use Rattle.lb_check.specs.declared.verdict.Verdict.TheVariants.{Passed}
 use Rattle.lb_flat.specs.Programs.{program_of}
-use Rattle.lb_sim.specs.BatchLanes.{IsVerdictOf}
+use Rattle.lb_flat.specs.Correct.{IsVerdictOf}
 use Rattle.lb_sim.proofs.batch.run_batch.Goals as goal
 
 pub returns-clause-count : goal.returns-clause-count

@@ -2,7 +2,7 @@
 use Rattle.std.proofs.Common.{get_or, sym, ◌∙◌, subst}
 use Rattle.lb_check.specs.declared.verdict.Verdict.TheVariants.{Passed}
 use Rattle.lb_flat.specs.Programs.{program_of}
-use Rattle.lb_sim.specs.BatchLanes.{IsVerdictOf}
+use Rattle.lb_flat.specs.Correct.{IsVerdictOf}
 use Rattle.lb_sim.specs.BatchRooms.{IsRoomFor}
 use Rattle.lb_sim.specs.BatchRuns.{verdict_at}
 use Rattle.lb_sim.specs.declared.program.LaneProgram.{LaneProgram}

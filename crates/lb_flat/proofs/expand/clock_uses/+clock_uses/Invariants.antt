@@ -1,7 +1,0 @@
-use Rattle.std.proofs.Common.{◌≡◌, ◌++◌, flat_map, take}
-use Rattle.lb_flat.specs.ClockUses.{whens_in}
-use Rattle.lb_flat.proofs.expand.clock_uses.+clock_uses.Given as goal
-
-abbrev pub invariant-push_terms-loop-term : goal.invariant-push_terms-loop-term
-invariant-push_terms-loop-term l =
-    l.names.items ≡ l.fn.names.items ++ flat_map whens_in (take l.term-index l.terms)

@@ -1,6 +1,0 @@
-use Rattle.std.proofs.Common.{take, length}
-use Rattle.lb_flat.specs.ClockUses.{HasFlags}
-use Rattle.lb_flat.proofs.expand.clock_uses.mark.Given as goal
-
-abbrev pub invariant-loop-name : goal.invariant-loop-name
-invariant-loop-name l = HasFlags (length l.fn.flags) (take l.name-index l.names) l.flags

@@ -1,8 +1,0 @@
-use Rattle.std.proofs.Common.{◌≡◌, ◌++◌, flat_map, take}
-use Rattle.lb_flat.specs.ClockUses.{declared_when}
-use Rattle.lb_flat.proofs.expand.clock_uses.push_variables.Given as goal
-
-abbrev pub invariant-loop-variable : goal.invariant-loop-variable
-invariant-loop-variable l =
-    l.names.items
-    ≡ l.fn.names.items ++ flat_map declared_when (take l.variable-index l.variables)

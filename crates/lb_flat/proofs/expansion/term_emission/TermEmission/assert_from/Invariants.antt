@@ -1,0 +1,15 @@
+use Rattle.std.proofs.Common.{◌≡◌, drop}
+use Rattle.lb_flat.specs.Programs.{numbers_of}
+use Rattle.lb_flat.specs.TermEmissions.{state_of, with_asserted}
+use Rattle.lb_flat.proofs.expansion.term_emission.TermEmission.assert_from.Given as goal
+
+abbrev pub invariant-loop-i : goal.invariant-loop-i
+invariant-loop-i l =
+    let all = numbers_of l.fn.self.found.items in
+    record {
+      rest : with_asserted (state_of l.self) (drop l.i all)
+          ≡ with_asserted (state_of l.fn.self) (drop l.from all);
+      found : l.self.found ≡ l.fn.self.found;
+      next : l.self.next ≡ l.fn.self.next;
+      clocks : l.self.clocks ≡ l.fn.self.clocks;
+    }

@@ -1,0 +1,17 @@
+use Rattle.std.proofs.Common.{◌≡◌, ◌≤◌, drop, length}
+use Rattle.lb_syntax.specs.Lists.{copies}
+use Rattle.lb_flat.specs.Emit.{gives}
+use Rattle.lb_flat.specs.Programs.{numbers_of}
+use Rattle.lb_flat.specs.TermEmissions.{state_of, emitted_of, onto}
+use Rattle.lb_flat.proofs.expansion.term_emission.TermEmission.copies.Given as goal
+
+abbrev pub invariant-loop-i : goal.invariant-loop-i
+invariant-loop-i l =
+    let all = numbers_of l.fn.self.found.items in
+    record {
+      emitted : emitted_of l.self
+          ≡ onto all (gives (state_of l.fn.self) (copies l.i (drop l.from all)));
+      length : length l.fn.self.found.items ≤ length l.self.found.items;
+      next : l.self.next ≡ l.fn.self.next;
+      clocks : l.self.clocks ≡ l.fn.self.clocks;
+    }

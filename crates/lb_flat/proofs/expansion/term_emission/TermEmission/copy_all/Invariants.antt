@@ -1,0 +1,22 @@
+use Rattle.std.proofs.Common.{◌≡◌, drop}
+use Rattle.std.specs.Prelude.{flat_map}
+use Rattle.std.specs.List.{range_with_len}
+use Rattle.lb_flat.specs.EmitTerms.{index_copies}
+use Rattle.lb_flat.specs.Frames.{with_copies}
+use Rattle.lb_flat.specs.Programs.{numbers_of}
+use Rattle.lb_flat.specs.TermEmissions.{state_of}
+use Rattle.lb_flat.proofs.expansion.term_emission.TermEmission.copy_all.Given as goal
+
+abbrev pub invariant-loop-index : goal.invariant-loop-index
+invariant-loop-index g l =
+    let ctx = g.F.Frame.context l.frame in
+    let m = ctx.repeats l.call in
+    let all = numbers_of l.fn.self.found.items in
+    let f = index_copies ctx l.call m l.fn.iterator l.callee (drop l.from all) in
+    record {
+      rest : with_copies (state_of l.self) (flat_map f (drop l.index (range_with_len 0 m)))
+          ≡ with_copies (state_of l.fn.self) (flat_map f (range_with_len 0 m));
+      found : l.self.found ≡ l.fn.self.found;
+      next : l.self.next ≡ l.fn.self.next;
+      clocks : l.self.clocks ≡ l.fn.self.clocks;
+    }

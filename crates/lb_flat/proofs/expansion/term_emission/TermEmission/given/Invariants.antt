@@ -1,0 +1,17 @@
+use Rattle.std.proofs.Common.{◌≡◌, length}
+use Rattle.lb_flat.specs.Emit.{from_inputs}
+use Rattle.lb_flat.specs.EmitWhole.{parameter_targets}
+use Rattle.lb_flat.specs.Frames.{with_copies}
+use Rattle.lb_flat.specs.TermEmissions.{state_of}
+use Rattle.lb_flat.proofs.expansion.term_emission.TermEmission.given.Given as goal
+
+abbrev pub invariant-loop-x : goal.invariant-loop-x
+invariant-loop-x g l =
+    let ts = parameter_targets (g.F.Frame.context l.frame) l.x in
+    record {
+      state : state_of l.self ≡ with_copies (state_of l.fn.self) (from_inputs 0 ts);
+      number : l.input ≡ length ts;
+      found : l.self.found ≡ l.fn.self.found;
+      next : l.self.next ≡ l.fn.self.next;
+      clocks : l.self.clocks ≡ l.fn.self.clocks;
+    }

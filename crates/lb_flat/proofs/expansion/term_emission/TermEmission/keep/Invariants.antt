@@ -1,0 +1,14 @@
+use Rattle.std.proofs.Common.{◌≡◌, drop}
+use Rattle.lb_flat.specs.Programs.{numbers_of}
+use Rattle.lb_flat.specs.TermEmissions.{emitted_of, kept, with_kept}
+use Rattle.lb_flat.proofs.expansion.term_emission.TermEmission.keep.Given as goal
+
+abbrev pub invariant-loop-i : goal.invariant-loop-i
+invariant-loop-i l =
+    let all = numbers_of l.fn.self.found.items in
+    record {
+      rest : with_kept (emitted_of l.self) (drop l.i all) ≡ kept l.from (emitted_of l.fn.self);
+      found : l.self.found ≡ l.fn.self.found;
+      next : l.self.next ≡ l.fn.self.next;
+      clocks : l.self.clocks ≡ l.fn.self.clocks;
+    }

@@ -1,0 +1,25 @@
+use Rattle.std.proofs.Common.{◌≡◌, ◌≤◌, ◌+◌, ◌-◌, length, take, arith, ap, ◌∙◌}
+use Rattle.std.proofs.lemmas.List.{length-map}
+use Rattle.lb_flat.specs.declared.equation.ElementId.{ElementId}
+use Rattle.lb_flat.specs.Emit.{gives}
+use Rattle.lb_flat.specs.TermEmissions.{emitted_of, state_of}
+use Rattle.lb_flat.specs.Programs.{numbers_of}
+use Rattle.lb_flat.proofs.EmittedCuts.{pick_is}
+use Rattle.lb_flat.proofs.expansion.term_emission.TermEmission.pick.Goals as goal
+
+pub returns-clause-emitted : goal.returns-clause-emitted
+returns-clause-emitted c =
+    let from = c.args.from in
+    let old = c.args.self.now in
+    let mid = c.remove.new.self in
+    let over = c.len.result - from in
+    let size = length-map old.found.items (λ (a : ElementId). a.0) in
+    let within : from ≤ length (numbers_of old.found.items) =
+    omega (arith, size, c.requires.from) in
+    let above : over ≡ length (numbers_of old.found.items) - from =
+    omega (arith, size, c.len.ensures) in
+    let cut = c.cut.ensures.emitted
+    ∙ ap (λ n. gives (state_of mid) (take (from + n) (numbers_of mid.found.items))) c.min.ensures in
+    pick_is from c.args.start c.args.count over c.min-skipped.result (emitted_of old)
+    (emitted_of mid) (emitted_of c.cut.new.self) within above c.min-skipped.ensures
+    c.remove.ensures.emitted cut

@@ -1,0 +1,18 @@
+use Rattle.std.proofs.Common.{◌≡◌}
+use Rattle.std.specs.Prelude.{flat_map}
+use Rattle.std.specs.List.{range_with_len}
+use Rattle.lb_flat.specs.Emit.{gives}
+use Rattle.lb_flat.specs.Programs.{numbers_of}
+use Rattle.lb_flat.specs.TermEmissions.{state_of, emitted_of, onto}
+use Rattle.lb_flat.proofs.expansion.term_emission.TermEmission.put_each.Given as goal
+
+abbrev pub invariant-loop-index : goal.invariant-loop-index
+invariant-loop-index g l =
+    let ctx = g.F.Frame.context l.frame in
+    record {
+      emitted : emitted_of l.self
+          ≡ onto (numbers_of l.fn.self.found.items) (gives (state_of l.fn.self)
+          (flat_map (λ i. ctx.child l.call i l.variable) (range_with_len 0 l.index)));
+      next : l.self.next ≡ l.fn.self.next;
+      clocks : l.self.clocks ≡ l.fn.self.clocks;
+    }

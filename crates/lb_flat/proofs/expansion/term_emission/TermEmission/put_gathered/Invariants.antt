@@ -1,0 +1,19 @@
+use Rattle.std.proofs.Common.{◌≡◌, ◌-◌, ◌≤◌}
+use Rattle.std.specs.List.{range_with_len}
+use Rattle.lb_flat.specs.Emit.{gives}
+use Rattle.lb_flat.specs.EmitTerms.{gathered_at}
+use Rattle.lb_flat.specs.Programs.{numbers_of}
+use Rattle.lb_flat.specs.TermEmissions.{state_of, emitted_of, onto}
+use Rattle.lb_flat.proofs.expansion.term_emission.TermEmission.put_gathered.Given as goal
+
+abbrev pub invariant-loop-x : goal.invariant-loop-x
+invariant-loop-x g l =
+    let ctx = g.F.Frame.context l.frame in
+    record {
+      emitted : emitted_of l.self
+          ≡ onto (numbers_of l.fn.self.found.items) (gives (state_of l.fn.self)
+          (gathered_at ctx l.call l.repeats (range_with_len l.first (l.x - l.first))));
+      within : l.x - l.first ≤ l.end - l.first;
+      next : l.self.next ≡ l.fn.self.next;
+      clocks : l.self.clocks ≡ l.fn.self.clocks;
+    }

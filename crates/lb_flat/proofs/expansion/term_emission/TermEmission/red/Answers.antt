@@ -1,0 +1,31 @@
+use Rattle.std.proofs.Common.{◌<◌, ℕ, List, length, arith}
+use Rattle.std.proofs.Common.{Vec, Global, ap, ◌∙◌}
+use Rattle.std.proofs.lemmas.List.{length-map}
+use Rattle.lb_flat.specs.declared.equation.ElementId.{ElementId}
+use Rattle.lb_flat.specs.Programs.{numbers_of}
+use Rattle.lb_flat.specs.TermEmissions.{emitted_of}
+use Rattle.lb_flat.specs.Values.{clock_of}
+use Rattle.lb_flat.proofs.EmittedCuts.{red_is, red_none}
+use Rattle.lb_flat.proofs.EmittedStacks.{number_at}
+use Rattle.lb_flat.proofs.expansion.term_emission.TermEmission.red.Goals as goal
+
+pub returns-in_ok-replace-clause-emitted : goal.returns-in_ok-replace-clause-emitted
+returns-in_ok-replace-clause-emitted c =
+    let from = c.args.from in
+    let old = c.args.self.now in
+    let numbers : Vec ElementId Global → List ℕ = λ xs. numbers_of xs.items in
+    let size = length-map old.found.items (λ (a : ElementId). a.0) in
+    let lt : from < length (numbers old.found) =
+    omega (arith, size, c.if-from-len.true, c.len.ensures) in
+    red_is (clock_of old.clocks.items c.args.clock) c.args.operator from _ c.in_ok-last.last.0
+    (emitted_of old) (emitted_of c.chain.new.self) (emitted_of c.replace.new.self) lt
+    (ap (λ (a : ElementId). a.0) c.index-init.ensures
+    ∙ number_at old.found.items from c.index-init.result.now lt) c.in_ok-last.ensures.chained
+    c.in_ok-replace.ensures.emitted (ap numbers c.in_ok-last.ensures.found)
+
+pub returns-else-from-len-clause-emitted : goal.returns-else-from-len-clause-emitted
+returns-else-from-len-clause-emitted c =
+    let old = c.args.self.now in
+    let size = length-map old.found.items (λ (a : ElementId). a.0) in
+    red_none (clock_of old.clocks.items c.args.clock) c.args.operator c.args.from (emitted_of old)
+    (omega (arith, size, c.if-from-len.false, c.len.ensures))

@@ -1,6 +1,0 @@
-use Rattle.std.proofs.Common.{length, take}
-use Rattle.lb_flat.specs.Ordering.{IsTableOf}
-use Rattle.lb_flat.proofs.order.table.enter.Given as goal
-
-abbrev pub invariant-loop-i : goal.invariant-loop-i
-invariant-loop-i l = IsTableOf (length l.fn.table) (take l.i l.equations) l.table

@@ -1,5 +1,0 @@
-use Rattle.lb_flat.specs.Ordering.{IsScheduled}
-use Rattle.lb_flat.proofs.order.topological_sort.schedule_stack.Given as goal
-
-abbrev pub invariant-visits : goal.invariant-visits
-invariant-visits l = IsScheduled l.clocks l.table l.done l.out.items

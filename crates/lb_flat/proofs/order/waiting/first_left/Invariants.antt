@@ -1,9 +1,0 @@
-use Rattle.std.proofs.Common.{◌≡◌, drop}
-use Rattle.lb_flat.specs.Ordering.{first_left}
-use Rattle.lb_flat.specs.Programs.{numbers_of}
-use Rattle.lb_flat.proofs.order.waiting.first_left.Given as goal
-
-abbrev pub invariant-loop-a : goal.invariant-loop-a
-invariant-loop-a l =
-    first_left l.done (numbers_of (drop l.a-index l.elements))
-    ≡ first_left l.done (numbers_of l.elements)

@@ -1,0 +1,6 @@
+use Rattle.std.proofs.Common.{◌≡◌, ◌<◌, ℕ, true}
+use Rattle.lb_flat.specs.InOrder.{is_done}
+use Rattle.lb_flat.proofs.scheduling.schedule.schedule_table.Given as goal
+
+abbrev pub invariant-loop-e : goal.invariant-loop-e
+invariant-loop-e l = (k : ℕ) → k < l.e → is_done l.done k ≡ true

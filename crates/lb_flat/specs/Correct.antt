@@ -1,0 +1,84 @@
+-- What `expand`, `order` and `eval_trace` promise.
+-- This file says what data of the program mean; no definition of the language stands on it.
+use Rattle.std.specs.Prelude.{◌≡◌, ℕ, ◌<◌, true, false, Some, slice_get, List, [], Result, Ok, Err}
+use Rattle.lb_syntax.specs.Lists.{In}
+use Rattle.lb_static.specs.Instances.{Program}
+use Rattle.lb_static.specs.DataTypes.{signature}
+use Rattle.lb_check.specs.Elements.{program_elements}
+use Rattle.lb_check.specs.Needs.{Element, Needs}
+use Rattle.lb_check.specs.Solutions.{HasOneHistory}
+use Rattle.lb_check.specs.TypeRules.{is_small}
+use Rattle.lb_check.specs.Verdicts.{IsOnlyVerdict}
+use Rattle.lb_check.specs.declared.verdict.Verdict.{Verdict}
+use Rattle.lb_flat.specs.declared.flat.Flat.{Flat}
+use Rattle.lb_flat.specs.declared.error.FlatError.{FlatError}
+use Rattle.lb_flat.specs.declared.error.FlatError.TheVariants as error
+use Rattle.lb_flat.specs.declared.error.OrderError.{OrderError}
+use Rattle.lb_flat.specs.declared.error.OrderError.TheVariants as order_error
+use Rattle.lb_flat.specs.Flat.{FlatEquation}
+use Rattle.lb_flat.specs.FlatPrograms.{IsFlatOf}
+use Rattle.lb_flat.specs.GivenOnce.{IsGiven}
+use Rattle.lb_flat.specs.Inputs.{inputs_of}
+use Rattle.lb_flat.specs.Judging.{FlatProgram}
+use Rattle.lb_flat.specs.Programs.{numbers_of, program_of}
+use Rattle.lb_flat.specs.Reading.{Leads, Chain, NeedsAt, IsReadCycle, IsCertificate}
+use Rattle.lb_flat.specs.Run.{Ready}
+use Rattle.lb_flat.specs.Traces.{Recording}
+
+-- ## Expansion
+
+-- an element of a program reads another, by their numbers
+pub record HasReads (P : Program) (f : FlatProgram) (x y : Element) : Type 0 where
+  pub one : ℕ
+  pub other : ℕ
+  pub is_one : slice_get (program_elements P) one ≡ Some x
+  pub is_other : slice_get (program_elements P) other ≡ Some y
+  pub chain : Chain f other one
+
+-- a flat program stands for a program, and gives each element once; an element of a variable that
+-- reads that of another by way of further elements needs it at the same instant, and what an
+-- element needs it reads
+pub record IsExpansionOf (P : Program) (f : FlatProgram) : Type 0 where
+  pub flat : IsFlatOf P f
+  pub given : IsGiven f
+  pub needs :
+      (i j : ℕ) → i < f.variables → j < f.variables → Leads f j i → NeedsAt P i j
+  pub reads : (x y : Element) → Needs P x y → HasReads P f x y
+
+-- the answer to an accepted program is its expansion, unless it is too large or memory ran out
+abbrev pub IsExpansionAnswer : Program → Result Flat FlatError → Type 0
+IsExpansionAnswer P (Ok f) = (is_small P ≡ true) × IsExpansionOf P (program_of f.program)
+IsExpansionAnswer P (Err error.Memory) = Unit {0}
+IsExpansionAnswer P (Err error.Large) = is_small P ≡ false
+
+-- ## Order
+
+-- the same equations in another order
+pub record IsOrderingOf (Q Q' : List FlatEquation) : Type 0 where
+  pub there : (q : FlatEquation) → In q Q → In q Q'
+  pub back : (q : FlatEquation) → In q Q' → In q Q
+
+-- the same flat program, with its equations in an order in which they can be computed
+pub record IsOrderOf (f g : FlatProgram) : Type 0 where
+  pub same : g ≡ record f { equations = g.equations }
+  pub ordering : IsOrderingOf f.equations g.equations
+  pub ready : Ready g.size [] g.equations
+
+-- why equations have no order: elements of variables read one another in a cycle, and in each
+-- program that the equations are of, each of these elements needs the next; unless memory ran out
+abbrev pub IsCycleFound : FlatProgram → OrderError → Type 0
+IsCycleFound f order_error.Memory = Unit {0}
+IsCycleFound f (order_error.Cycle is) =
+    IsReadCycle f (numbers_of is.items)
+    × ((P : Program) → IsExpansionOf P f → IsCertificate P (numbers_of is.items))
+
+-- ## Verdicts
+
+-- v is the verdict of trace k: that of each program that the flat one stands for, where the traces
+-- have its signature, by the one history that solves it
+pub record IsVerdictOf (f : FlatProgram) (r : Recording) (k : ℕ) (v : Verdict) : Type 0 where
+  pub only_verdict :
+      (P : Program) → IsFlatOf P f → signature P ≡ r.signature →
+      IsOnlyVerdict P (inputs_of r k) v
+  pub has_one_history :
+      (P : Program) → IsFlatOf P f → signature P ≡ r.signature → HasOneHistory P (inputs_of r k)

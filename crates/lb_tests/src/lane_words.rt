@@ -1,0 +1,125 @@
+//! Worked values of lane words, from the rules of the operators and not from the kernels.
+
+use crate::lanes::operator;
+use crate::tables::{Asks, Table, check};
+use lb_lanes::{LaneWord, Plane};
+use std::alloc::AllocError;
+
+// Puts the value of `lane:value` into its lane.
+fn set_lane(word: &mut LaneWord, spelled: &str) -> Option<()> {
+    let (lane, value) = spelled.split_once(':')?;
+    let lane = lane.parse::<u32>().ok()?;
+    let value = value.parse::<i32>().ok()?;
+    if lane < 64 {
+        word.set(lane, value);
+    }
+    Some(())
+}
+
+// The word of `4,1:-4,63:0`: 4 in each lane, but -4 in lane 1 and 0 in lane 63.
+fn word_of(spelled: &str) -> Option<LaneWord> {
+    let mut parts = spelled.split(',');
+    let mut word = LaneWord::splat(parts.next()?.parse::<i32>().ok()?);
+    for part in parts {
+        set_lane(&mut word, part)?;
+    }
+    Some(word)
+}
+
+// The plane of a number, or of `all`.
+fn plane_of(spelled: &str) -> Option<Plane> {
+    if spelled == "all" {
+        return Some(Plane(u64::MAX));
+    }
+    Some(Plane(spelled.parse::<u64>().ok()?))
+}
+
+// What a kernel puts into `out`, and the plane that it gives.
+fn put(kernel: &[u8], a: &LaneWord, b: &LaneWord, active: Plane, out: &mut LaneWord) -> Plane {
+    match kernel {
+        [b'=', ..] => return a.eq(b),
+        [b'<', ..] => return a.lt(b),
+        [b'l', ..] => return a.le(b),
+        [b'c', ..] => out.copy_from(a),
+        [b's', ..] => out.set_blend(active, a, b),
+        [sign, ..] => return a.operate(operator(*sign), b, active, out),
+        [] => {}
+    }
+    Plane(0)
+}
+
+// What the kernel of a row makes of its two words; it puts it into lanes that hold 0.
+fn put_row(asked: &str) -> Option<(LaneWord, Plane)> {
+    let mut words = asked.split(' ');
+    let kernel = words.next()?;
+    let a = word_of(words.next()?)?;
+    let b = word_of(words.next()?)?;
+    let active = plane_of(words.next()?)?;
+    let mut out = LaneWord::splat(0);
+    let plane = put(kernel.as_bytes(), &a, &b, active, &mut out);
+    Some((out, plane))
+}
+
+/// Lanes 0, 1, 31 and 63 of what a kernel makes of two words, and its plane.
+pub fn push_words(asked: &str, said: &mut String) -> Result<(), AllocError> {
+    match put_row(asked) {
+        Some((out, plane)) => {
+            for lane in [0u32, 1, 31, 63] {
+                write!(said, "{} ", out.get(lane))?;
+            }
+            write!(said, "{}", plane.0)
+        }
+        None => said.push_str("no numbers"),
+    }
+}
+
+// Kernels, two words, and the lanes that count or are taken; then lanes 0, 1, 31 and 63 of the
+// result, and the faults or where it holds.
+const WORDS: &str = "\
++ 5,63:2147483647 7,63:1 all => 12 12 12 0 9223372036854775808
++ 5,63:2147483647 7,63:1 9223372036854775807 => 12 12 12 0 0
++ -2147483648,1:3 -1,1:4 3 => 0 7 0 0 1
++ 2147483647,0:1,31:-5 1,31:-2147483644 all => 2 0 0 0 18446744073709551614
+- -2147483648,1:2,63:-3 1,63:2147483647 all => 0 1 0 0 18446744073709551613
+- 0,31:2147483647 -2147483648,31:-1 2147483651 => 0 0 0 0 2147483651
+- 9 4 0 => 0 0 0 0 0
+* 65536,1:-65536,31:46340,63:3 32768,31:46340,63:-7 all => \
+0 -2147483648 2147395600 -21 9223372034707292157
+* -2147483648,1:0 -1,63:1 all => 0 0 0 -2147483648 9223372036854775805
+* 46341 46341 5 => 0 0 0 0 5
+* -46341,63:-1 46340,63:-2147483648 9223372036854775809 => -2147441940 0 0 0 9223372036854775808
+/ 7,0:-7,1:2147483647,31:-2147483648 2 all => -3 1073741823 -1073741824 3 0
+/ 7,0:-7,1:2147483647,31:-2147483648 -2 all => 3 -1073741823 1073741824 -3 0
+/ 7,0:-7,1:2147483647,31:-2147483648 -1 all => 7 -2147483647 0 -7 2147483648
+/ 7,0:-7,1:2147483647,31:-2147483648 1 all => -7 2147483647 -2147483648 7 0
+/ 7,0:-7,1:2147483647,31:-2147483648 0 all => 0 0 0 0 18446744073709551615
+/ 7,0:-7,1:2147483647,31:-2147483648 0 0 => 0 0 0 0 0
+/ -2147483647,1:2147483647,31:-2147483648,63:9 2147483647 all => -1 1 -1 0 0
+/ -2147483647,1:2147483647,31:-2147483648,63:9 -2147483648 all => 0 0 1 0 0
+/ 699,0:-700,1:700,31:-2147483648,63:2147483647 7 all => -100 100 -306783378 306783378 0
+/ 699,0:-700,1:700,31:-2147483648,63:2147483647 -641 all => 1 -1 3350208 -3350208 0
+/ 1000000006,0:1000000007,1:-1000000007,31:-2147483648,63:2147483647 1000000007 all => \
+1 -1 -2 2 0
+% 7,0:-7,1:2147483647,31:-2147483648 2 all => -1 1 0 1 0
+% 7,0:-7,1:2147483647,31:-2147483648 -1 all => 0 0 0 0 2147483648
+% 7,0:-7,1:2147483647,31:-2147483648 0 6 => 0 0 0 0 6
+% 699,0:-699,1:701,31:-2147483648,63:2147483647 7 all => -6 1 -2 1 0
+% 699,0:-699,1:701,31:-2147483648,63:2147483647 -641 all => -58 60 -320 319 0
+% -2147483647,1:2147483647,31:-2147483648,63:9 -2147483648 all => -2147483647 2147483647 0 9 0
+/ 100,1:-2147483648 9,1:-1,63:0 9223372036854775805 => 11 0 11 0 0
+/ 100,1:-2147483648 9,1:-1,63:0 all => 11 0 11 0 9223372036854775810
+/ 100,0:-100,63:100 9,0:3,1:-3,31:0 all => -33 -33 0 11 2147483648
+% 100,1:-2147483648 9,1:-1,63:0 all => 1 0 1 0 9223372036854775810
+% 100,0:-100,63:100 9,0:3,1:-3,31:0 9223372036854775807 => -1 1 0 0 2147483648
+= 4,1:-4,63:0 4 0 => 0 0 0 0 9223372036854775805
+< 4,1:-2147483648,63:2147483647 4 0 => 0 0 0 0 2
+< -1 0,31:-2147483648 0 => 0 0 0 0 18446744071562067967
+le 4,1:-2147483648,63:2147483647 4 0 => 0 0 0 0 9223372036854775807
+set 1,63:2 3,1:-4 9223372036854775809 => 1 -4 3 2 0
+set 1,63:2 3,1:-4 all => 1 1 1 2 0
+copy -1,31:2147483647,63:-2147483648 0 0 => -1 -1 2147483647 -2147483648 0";
+
+#[test]
+fn lane_words(rt: HostRuntime) -> Result<(), AllocError> {
+    check(&rt, &Table::of_lines(Asks::Words, WORDS))
+}
