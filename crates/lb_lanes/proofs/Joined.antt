@@ -2,10 +2,11 @@
 -- they were.
 use Rattle.std.proofs.Common.{◌≡◌, ℕ, ◌<◌, ◌≤◌, ◌+◌, ◌-◌, ◌⊎◌, inl, inr, ◌||◌, Bool, true, false}
 use Rattle.std.proofs.Common.{List, get_or, refl, sym, ap, ap₂, ◌∙◌, subst, arith, ◌≢◌, length, set}
-use Rattle.std.proofs.Common.{below_more}
+use Rattle.std.proofs.Common.{below_more, add-zero, lit<, ◌^◌}
 use Rattle.std.proofs.lemmas.Bool.{cases_lt}
 use Rattle.std.proofs.lemmas.List.{get_or-set_same, get_or-set_other}
 use lib.Bits.{bit_or}
+use mir.Val.{bool_byte}
 use Rattle.lb_lanes.specs.Planes.{on}
 use Rattle.lb_lanes.proofs.OnPlanes.{on-or, on-above, on-shl_low, on-shl_high, shl}
 
@@ -23,35 +24,59 @@ on-inside : (f x k j : ℕ) → k + j < 64 → on f (k + j) ≡ false
 on-inside f x k j h none = on-or f (shl k x) (k + j)
     ∙ ap₂ (λ a b. a || b) none (on-shl_high k j x h)
 
-on-after : (f x k i : ℕ) → x < 256 → k + 8 ≤ i → i < 64 → on f i ≡ false
+on-after : (n f x k i : ℕ) → x < 2 ^ n → k + n ≤ i → i < 64 → on f i ≡ false
     → on (bit_or f (shl k x)) i ≡ false
-on-after f x k i small le h none =
+on-after n f x k i small le h none =
     let j = i - k in
     let e : k + j ≡ i = omega arith in
-    subst (λ n. on (bit_or f (shl k x)) n ≡ false) e
-    (on-inside f x k j (omega (arith, e)) (subst (λ n. on f n ≡ false) (sym e) none)
-    ∙ on-above x 8 j small (omega arith))
+    subst (λ l. on (bit_or f (shl k x)) l ≡ false) e
+    (on-inside f x k j (omega (arith, e)) (subst (λ l. on f l ≡ false) (sym e) none)
+    ∙ on-above x n j small (omega arith))
 
 -- the lanes of a plane below k pass the test, and no later one is set
 pub record DoneBelow (test : ℕ → Bool) (k plane : ℕ) : Type 0 where
   pub done : (i : ℕ) → i < k → on plane i ≡ test i
   pub rest : (i : ℕ) → k ≤ i → i < 64 → on plane i ≡ false
 
-pub plane_joined : (test : ℕ → Bool) (f x k : ℕ) → k + 8 ≤ 64 → x < 256 → DoneBelow test k f
-    → ((j : ℕ) → j < 8 → on x j ≡ test (k + j)) → DoneBelow test (k + 8) (bit_or f (shl k x))
-plane_joined test f x k room small before new = record {
+-- n more lanes
+pub lanes_joined : (n : ℕ) (test : ℕ → Bool) (f x k : ℕ) → k + n ≤ 64 → x < 2 ^ n
+    → DoneBelow test k f → ((j : ℕ) → j < n → on x j ≡ test (k + j))
+    → DoneBelow test (k + n) (bit_or f (shl k x))
+lanes_joined n test f x k room small before new = record {
   done = λ i h. at i h (cases_lt i k);
-  rest = λ i le h. on-after f x k i small le h (before.rest i (omega arith) h);
+  rest = λ i le h. on-after n f x k i small le h (before.rest i (omega arith) h);
 }
   where
-    at : (i : ℕ) → i < k + 8 → (i < k) ⊎ (k ≤ i) → on (bit_or f (shl k x)) i ≡ test i
+    at : (i : ℕ) → i < k + n → (i < k) ⊎ (k ≤ i) → on (bit_or f (shl k x)) i ≡ test i
     at i h (inl l) = on-below f x k i l (omega arith) ∙ before.done i l
     at i h (inr le) =
         let j = i - k in
         let e : k + j ≡ i = omega arith in
-        subst (λ n. on (bit_or f (shl k x)) n ≡ test n) e
+        subst (λ l. on (bit_or f (shl k x)) l ≡ test l) e
         (on-inside f x k j (omega (arith, e)) (before.rest (k + j) (omega arith) (omega (arith, e)))
         ∙ new j (omega arith))
+
+pub plane_joined : (test : ℕ → Bool) (f x k : ℕ) → k + 8 ≤ 64 → x < 256 → DoneBelow test k f
+    → ((j : ℕ) → j < 8 → on x j ≡ test (k + j)) → DoneBelow test (k + 8) (bit_or f (shl k x))
+plane_joined = lanes_joined 8
+
+-- one more lane
+on-bit : (b : Bool) → on (bool_byte b) 0 ≡ b
+unfolding on
+on-bit true = refl
+on-bit false = refl
+
+bit_small : (b : Bool) → bool_byte b < 2 ^ 1
+bit_small true = lit< tt
+bit_small false = lit< tt
+
+pub lane_joined : (test : ℕ → Bool) (f x k : ℕ) (b : Bool) → k < 64 → DoneBelow test k f
+    → x ≡ bool_byte b → b ≡ test k → DoneBelow test (k + 1) (bit_or f (shl k x))
+lane_joined test f x k b h before is passes =
+    lanes_joined 1 test f x k (omega (arith, h)) (subst (λ n. n < 2) (sym is) (bit_small b)) before
+    (λ j l. let z : j ≡ 0 = omega (arith, l) in
+    subst (λ i. on x i ≡ test (k + i)) (sym z)
+    (ap (λ n. on n 0) is ∙ on-bit b ∙ passes ∙ ap test (sym (add-zero k))))
 
 -- the words below k are as P says, and each later one is as at first
 pub record WrittenBelow (P : ℕ → ℕ → Type 0) (k : ℕ) (first words : List ℕ) : Type 0 where

@@ -6,3 +6,5 @@ pub mod Joined
 pub mod Views
 pub mod Rounds
 pub mod Composed
+pub mod WordViews
+pub mod Checks

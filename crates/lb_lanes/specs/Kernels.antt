@@ -1,7 +1,7 @@
 -- What the kernels on 64 integer lanes do, lane by lane. All of it is this project's rule.
 use Rattle.std.specs.Prelude.{◌≡◌, ℕ, ◌<◌, Bool, true, false, Option, Some, None, List, [], ℤ, pos}
 use Rattle.std.specs.Prelude.{IsTrue, EachIndex, slice_index_or, if◌then◌else◌}
-use Rattle.std.specs.Int.{cast_signed, w64}
+use Rattle.std.specs.Int.{cast_signed, w32, w64}
 use Rattle.lb_lanes.specs.Operators.{is_int}
 use Rattle.lb_lanes.specs.Planes.{on}
 
@@ -12,6 +12,10 @@ lane_of xs i = slice_index_or xs i (pos 0)
 -- lane i of the words that hold integers
 abbrev pub word_lane : List ℕ → ℕ → ℤ
 word_lane words i = cast_signed w64 (slice_index_or words i 0)
+
+-- lane i of the words of 32 bits that hold integers
+abbrev pub bits_lane : List ℕ → ℕ → ℤ
+bits_lane words i = cast_signed w32 (slice_index_or words i 0)
 
 -- what a lane holds after an operator: the value, if the lane is active and has one, and else 0
 abbrev pub kept : Bool → Option ℤ → ℤ

@@ -7,7 +7,9 @@
 
 mod chunks;
 mod comparisons;
+mod exact_words;
 mod int_operator;
+mod lane_words;
 mod lanes;
 mod operators;
 mod planes;
@@ -15,6 +17,7 @@ mod slices;
 mod transposes;
 
 pub use int_operator::IntOperator;
+pub use lane_words::LaneWord;
 pub use lanes::IntLanes;
 pub use planes::Plane;
 pub use slices::{and_slices, any_outside, commit_ints, commit_planes, or_slices, xor_slices};

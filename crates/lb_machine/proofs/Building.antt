@@ -1,5 +1,5 @@
 -- Code that has one more instruction.
-use Rattle.std.proofs.Common.{◌≡◌, ℕ, ◌+◌, ◌<◌, ◌≤◌, List, [], ◌∷◌, ◌++◌, sym, ap, ◌∙◌}
+use Rattle.std.proofs.Common.{◌≡◌, ℕ, ◌<◌, ◌≤◌, List, [], ◌∷◌, ◌++◌, sym, ap, ◌∙◌}
 use Rattle.std.proofs.Common.{subst, cond, refl, Bool, true, false, ℤ}
 use Rattle.std.specs.List.{AllByRecursion}
 use Rattle.lb_machine.specs.declared.code.Code.{Code}

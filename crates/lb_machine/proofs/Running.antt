@@ -1,11 +1,11 @@
 -- What the run of straight code keeps: all that was done stays done, since later instructions write
 -- places that no earlier one reads or writes.
 use Rattle.std.proofs.Common.{◌≡◌, ℕ, suc, ◌+◌, ◌<◌, ◌≤◌, List, [], ◌∷◌, length, get_or}
-use Rattle.std.proofs.Common.{drop, cond, refl, sym, ap, ap₂, ◌∙◌, subst, arith, ℤ, All, add-one}
+use Rattle.std.proofs.Common.{drop, cond, refl, sym, ap, ap₂, ◌∙◌, subst, arith, ℤ, add-one}
 use Rattle.std.proofs.Math.Seq.{drop-cons}
 use Rattle.std.proofs.Math.ListN.{drop_of_length-le}
 use Rattle.std.specs.List.{AllByRecursion}
-use Rattle.lb_lanes.specs.Kernels.{AreInts, lane_of, kept, faulty}
+use Rattle.lb_lanes.specs.Kernels.{lane_of, kept, faulty}
 use Rattle.lb_lanes.specs.Operators.{result_of}
 use Rattle.lb_lanes.specs.Planes.{on}
 use Rattle.lb_machine.specs.declared.instruction.Instruction.{Instruction}
@@ -133,7 +133,6 @@ pub record IsRunning (first_plane first_word : ℕ) (code : List Instruction) (P
   pub straight : IsStraight next_plane next_word (drop i code) P W
   pub planes_long : P ≤ length planes
   pub words_long : W ≤ length words
-  pub ints : All AreInts words
   pub more_planes : first_plane ≤ next_plane
   pub more_words : first_word ≤ next_word
   pub first_planes : (k : ℕ) → k < first_plane → get_or planes k 0 ≡ get_or planes0 k 0
@@ -145,15 +144,14 @@ pub record IsRunning (first_plane first_word : ℕ) (code : List Instruction) (P
 
 pub starts :
     (p w : ℕ) (code : List Instruction) (P W : ℕ) (planes : List ℕ) (words : List (List ℤ)) →
-    IsStraight p w code P W → P ≤ length planes → W ≤ length words → All AreInts words →
+    IsStraight p w code P W → P ≤ length planes → W ≤ length words →
     IsRunning p w code P W planes planes words words 0
-starts p w code P W planes words h lp lw ints = record {
+starts p w code P W planes words h lp lw = record {
   next_plane = p;
   next_word = w;
   straight = h;
   planes_long = lp;
   words_long = lw;
-  ints = ints;
   more_planes = omega arith;
   more_words = omega arith;
   first_planes = λ k lt. refl;
@@ -201,18 +199,17 @@ module _ (p w : ℕ) (code : List Instruction) (P W : ℕ) (planes0 planes : Lis
 
     pub goes_on :
         (planes' : List ℕ) (words' : List (List ℤ)) → length planes' ≡ length planes →
-        length words' ≡ length words → All AreInts words' →
+        length words' ≡ length words →
         ((lane : ℕ) → lane < 64 → IsDone (lane_at planes' words' lane) x) →
         ((k : ℕ) → KeepsPlane x k → get_or planes' k 0 ≡ get_or planes k 0) →
         ((k : ℕ) → KeepsWord x k → get_or words' k [] ≡ get_or words k []) →
         IsRunning p w code P W planes0 planes' words0 words' (i + 1)
-    goes_on planes' words' lp lw ints done planes_same words_same = record {
+    goes_on planes' words' lp lw done planes_same words_same = record {
       next_plane = planes_after h.next_plane here;
       next_word = words_after h.next_word here;
       straight = parts.1;
       planes_long = omega (arith, lp, h.planes_long);
       words_long = omega (arith, lw, h.words_long);
-      ints = ints;
       more_planes = omega (arith, h.more_planes, grown_planes);
       more_words = omega (arith, h.more_words, grown_words);
       first_planes = λ k l.

@@ -5,10 +5,9 @@ ghost use Rattle.std.specs.Prelude.{[], All};
 ghost use Rattle.std.specs.Prelude.{◌≢◌, get_or};
 ghost use Rattle.lb_machine.specs.declared.instruction.PlaneId.{PlaneId};
 ghost use Rattle.lb_machine.specs.declared.instruction.WordId.{WordId};
-ghost use Rattle.lb_lanes.specs.Kernels.{AreInts};
 
 use crate::instruction::{PlaneId, WordId};
-use lb_lanes::IntLanes;
+use lb_lanes::LaneWord;
 
 /// Copies planes from behind some that lie side by side into these.
 pub fn carry_planes(planes: &mut [u64], first: u32, sources: &[PlaneId])
@@ -28,12 +27,10 @@ pub fn carry_planes(planes: &mut [u64], first: u32, sources: &[PlaneId])
 }
 
 // Copies a word from behind another into that.
-fn copy_back(words: &mut [IntLanes], to: usize, from: usize)
+fn copy_back(words: &mut [LaneWord], to: usize, from: usize)
     requires order { to < from }
     requires room { from < length words.old }
-    requires ints { All AreInts words.old }
     ensures words { length words.new ≡ length words.old }
-    ensures ints { All AreInts words.new }
     ensures copied { slice_index_or words.new to [] ≡ slice_index_or words.old from [] }
     ensures others { (k : ℕ) → k ≢ to
         → slice_index_or words.new k [] ≡ slice_index_or words.old k [] }
@@ -43,13 +40,11 @@ fn copy_back(words: &mut [IntLanes], to: usize, from: usize)
 }
 
 /// Copies words from behind some that lie side by side into these.
-pub fn carry_words(words: &mut [IntLanes], first: u32, sources: &[WordId])
+pub fn carry_words(words: &mut [LaneWord], first: u32, sources: &[WordId])
     requires sources { All (λ s. first + length sources.now ≤ s.0 × s.0 < length words.old)
         sources.now }
     requires room { first + length sources.now ≤ length words.old }
-    requires ints { All AreInts words.old }
     ensures words { length words.new ≡ length words.old }
-    ensures ints { All AreInts words.new }
     ensures carried { (j : ℕ) (s : WordId) → j < length sources.now
         → slice_index_or words.new (first + j) []
         ≡ slice_index_or words.old (get_or sources.now j s).0 [] }

@@ -1,8 +1,8 @@
 //! The run of code in all lanes at once.
 
-ghost use Rattle.std.specs.Prelude.{◌≡◌, ◌≢◌, ℕ, ◌<◌, ◌≤◌, length, slice_index, slice_index_or, [], All};
+ghost use Rattle.std.specs.Prelude.{◌≡◌, ◌≢◌, ℕ, ◌<◌, ◌≤◌, length, slice_index, slice_index_or, []};
 ghost use Rattle.std.specs.List.{AllByRecursion};
-ghost use Rattle.lb_lanes.specs.Kernels.{AreInts, IsBlend, IsKernel, lane_of};
+ghost use Rattle.lb_lanes.specs.Kernels.{IsBlend, IsKernel, lane_of};
 ghost use Rattle.lb_lanes.specs.Operators.{result_of};
 ghost use Rattle.lb_lanes.specs.Planes.{IsPlaneOf, on};
 ghost use Rattle.lb_machine.specs.Meaning.{compared, lane_at, IsDone};
@@ -10,7 +10,7 @@ ghost use Rattle.lb_machine.specs.Straight.{IsFit, KeepsPlane, KeepsWord};
 
 use crate::code::Code;
 use crate::instruction::{Comparison, Instruction, PlaneId, WordId};
-use lb_lanes::{IntLanes, IntOperator, Plane};
+use lb_lanes::{IntOperator, LaneWord, Plane};
 
 // A plane by its number.
 fn plane(planes: &[u64], p: PlaneId) -> Plane
@@ -20,7 +20,7 @@ fn plane(planes: &[u64], p: PlaneId) -> Plane
     Plane(planes[p.0 as usize])
 }
 
-fn compared(c: Comparison, a: &IntLanes, b: &IntLanes) -> Plane
+fn compared(c: Comparison, a: &LaneWord, b: &LaneWord) -> Plane
     ensures { IsPlaneOf (λ i. compared c (lane_of a.now i) (lane_of b.now i)) result.0 }
 {
     match c {
@@ -37,14 +37,12 @@ fn operate(
     b: WordId,
     active: Plane,
     out: WordId,
-    words: &mut [IntLanes],
+    words: &mut [LaneWord],
 ) -> Plane
     requires left { a.0 < out.0 }
     requires right { b.0 < out.0 }
     requires room { out.0 < length words.old }
-    requires ints { All AreInts words.old }
     ensures words { length words.new ≡ length words.old }
-    ensures ints { All AreInts words.new }
     ensures lanes { IsKernel (result_of op) (slice_index_or words.old a.0 [])
         (slice_index_or words.old b.0 []) active.0 (slice_index_or words.new out.0 []) result.0 }
     ensures others { (k : ℕ) → k ≢ out.0
@@ -55,13 +53,11 @@ fn operate(
 }
 
 // Blends two words into one behind them.
-fn blend(mask: Plane, a: WordId, b: WordId, out: WordId, words: &mut [IntLanes])
+fn blend(mask: Plane, a: WordId, b: WordId, out: WordId, words: &mut [LaneWord])
     requires left { a.0 < out.0 }
     requires right { b.0 < out.0 }
     requires room { out.0 < length words.old }
-    requires ints { All AreInts words.old }
     ensures words { length words.new ≡ length words.old }
-    ensures ints { All AreInts words.new }
     ensures lanes { IsBlend mask.0 (slice_index_or words.old a.0 [])
         (slice_index_or words.old b.0 []) (slice_index_or words.new out.0 []) }
     ensures others { (k : ℕ) → k ≢ out.0
@@ -72,12 +68,10 @@ fn blend(mask: Plane, a: WordId, b: WordId, out: WordId, words: &mut [IntLanes])
 }
 
 // Does one instruction in all lanes.
-fn execute(i: Instruction, planes: &mut [u64], words: &mut [IntLanes])
-    requires fits { IsFit (length planes.old) (length words.old) i }
-    requires ints { All AreInts words.old }
+fn execute(i: Instruction, planes: &mut [u64], words: &mut [LaneWord])
+    requires { IsFit (length planes.old) (length words.old) i }
     ensures planes { length planes.new ≡ length planes.old }
     ensures words { length words.new ≡ length words.old }
-    ensures ints { All AreInts words.new }
     ensures done { (lane : ℕ) → lane < 64 → IsDone (lane_at planes.new words.new lane) i }
     ensures other_planes { (k : ℕ) → KeepsPlane i k
         → slice_index planes.new k ≡ slice_index planes.old k }
@@ -104,13 +98,11 @@ fn execute(i: Instruction, planes: &mut [u64], words: &mut [IntLanes])
 impl Code {
     /// Runs the code in all lanes, in room that may be larger: afterwards each instruction is done in
     /// each of them, and what was there before the code is as it was.
-    pub fn run(&self, planes: &mut [u64], words: &mut [IntLanes])
+    pub fn run(&self, planes: &mut [u64], words: &mut [LaneWord])
         requires planes { self.now.planes ≤ length planes.old }
         requires words { self.now.words ≤ length words.old }
-        requires ints { All AreInts words.old }
         ensures planes { length planes.new ≡ length planes.old }
         ensures words { length words.new ≡ length words.old }
-        ensures ints { All AreInts words.new }
         ensures done { (lane : ℕ) → lane < 64 →
             AllByRecursion (IsDone (lane_at planes.new words.new lane))
             self.now.instructions.items }

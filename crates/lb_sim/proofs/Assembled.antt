@@ -316,7 +316,6 @@ module _ (f : FlatProgram) (known : Allotted) (a : AreAllotted f known) where
         words_behind = sources.words_behind;
         start_planes_room = sym planes;
         start_words_room = sym words;
-        start_ints = known.preset.ints;
         start_constants = starts;
         start_state = a.memories.start;
       }

@@ -5,10 +5,6 @@ use Rattle.std.proofs.Common.{[], ◌∷◌, ◌++◌, ℤ, pos, cond, length, r
 use Rattle.std.proofs.Common.{inl, inr, arith}
 use Rattle.std.specs.Prelude.{slice_index, slice_index_or}
 use Rattle.std.proofs.lemmas.List.{get_or_append_left, get_or_push, length_push}
-use Rattle.std.proofs.lemmas.List.Elements.{All-push}
-use Rattle.std.proofs.Common.{All, w32, w64, SFits, to_z, of_z}
-use Rattle.std.proofs.lemmas.Int.{ints, to_z-of_z}
-use Rattle.std.specs.Prelude.{IsTrue}
 use Rattle.lb_syntax.specs.declared.tree.Kind.{Kind}
 use Rattle.lb_syntax.specs.declared.tree.Kind.TheVariants.{Int as Int_kind, Bool as Bool_kind}
 use Rattle.lb_check.specs.Scalars.{Scalar, Integer, Boolean, Nil, Bad}
@@ -23,8 +19,6 @@ use Rattle.lb_lanes.specs.Planes.{on}
 use Rattle.lb_lanes.proofs.OnPlanes.{on-flip, on-zero}
 use Rattle.lb_machine.specs.declared.instruction.PlaneId.{PlaneId}
 use Rattle.lb_machine.specs.declared.instruction.WordId.{WordId}
-use Rattle.lb_lanes.proofs.Words.{int_fits}
-use Rattle.lb_lanes.specs.Operators.{is_int}
 use Rattle.lb_sim.specs.Homes.{plane_in, word_in, is_nil_scalar, is_bad_scalar, IsRow}
 use Rattle.lb_sim.specs.Presets.{IsMore, IsFirstValue, IsFirstHolding, IsFirstMemory, first_lane}
 use Rattle.lb_sim.specs.Showing.{shown, value_at, scalar_at}
@@ -54,36 +48,6 @@ placed_on items old x n i b is long lt e =
     ∙ chosen_on b i lt
 
 -- ## Words
-
-zero_is_int : is_int (pos 0) ≡ true
-unfolding is_int
-zero_is_int = refl
-
-pub one_zero : All (λ v. IsTrue (is_int v)) (pos 0 ∷ [])
-one_zero =
-    All-push (λ v. IsTrue (is_int v)) [] (pos 0) (λ k d lt. absurd (omega (arith, lt))) zero_is_int
-
-pub more_ints : (words : List ℤ) (v : ℤ) → SFits w32 v → All (λ v. IsTrue (is_int v)) words →
-    All (λ v. IsTrue (is_int v)) (words ++ v ∷ [])
-more_ints words v fits all =
-    All-push (λ v. IsTrue (is_int v)) words v all (int_fits v fits)
-
-widen : (v : ℤ) → SFits w32 v → SFits w64 v
-widen v f = search (arith, ints)
-
--- a word of 32 bits that is pushed as one of 64 is the same integer
-pub word_same : (v r : ℤ) → SFits w32 v → r ≡ to_z w32 (of_z w32 v) → to_z w64 (of_z w64 r) ≡ v
-word_same v r f e =
-    let same : r ≡ v = e ∙ to_z-of_z w32 v f in
-    ap (λ z. to_z w64 (of_z w64 z)) same ∙ to_z-of_z w64 v (widen v f)
-
-pub ints_kept :
-    (t : Bool) (items old : List ℤ) (x v : ℤ) → items ≡ cond t (old ++ x ∷ []) old → x ≡ v →
-    SFits w32 v → All (λ v. IsTrue (is_int v)) old → All (λ v. IsTrue (is_int v)) items
-ints_kept true items old x v is e fits all =
-    subst (All (λ v. IsTrue (is_int v))) (sym (is ∙ ap (λ z. old ++ z ∷ []) e))
-    (more_ints old v fits all)
-ints_kept false items old x v is e fits all = subst (All (λ v. IsTrue (is_int v))) (sym is) all
 
 pub zero_kept :
     (t : Bool) (items old : List ℤ) (x : ℤ) → items ≡ cond t (old ++ x ∷ []) old →

@@ -1,8 +1,10 @@
 -- The columns of a signature, one after the other, and the row that a lane shows of them.
-use Rattle.std.proofs.Common.{◌≡◌, ℕ, zero, suc, ◌+◌, ◌<◌, ◌≤◌, Bool, false, List, [], ◌∷◌, ◌++◌}
-use Rattle.std.proofs.Common.{ℤ, pos, get_or, length, map, take, drop, refl, sym, ap, ap₂, ◌∙◌}
+use Rattle.std.proofs.Common.{◌≡◌, ℕ, suc, ◌+◌, ◌<◌, Bool, false, List, [], ◌∷◌, ◌++◌}
+use Rattle.std.proofs.Common.{ℤ, pos, get_or, length, map, drop, cond, refl, sym, ap, ap₂, ◌∙◌}
 use Rattle.std.proofs.Common.{arith}
-use Rattle.std.proofs.lemmas.List.{take_more, drop_more, length-take-le}
+use Rattle.std.proofs.lemmas.List.{drop_more}
+use Rattle.std.proofs.lemmas.List.Recursion.{is_count_by}
+use Rattle.std.specs.List.{count_by}
 use Rattle.std.specs.Prelude.{int_le}
 use Rattle.lb_syntax.specs.declared.tree.Kind.{Kind}
 use Rattle.lb_syntax.specs.declared.tree.Kind.TheVariants.{Int as Int_kind, Bool as Bool_kind}
@@ -10,9 +12,8 @@ use Rattle.lb_syntax.specs.Lists.{zip2}
 use Rattle.lb_check.specs.Scalars.{Scalar, Integer, Boolean}
 use Rattle.lb_flat.specs.Inputs.{scalar_in}
 use Rattle.lb_machine.specs.Meaning.{Lane}
-use Rattle.lb_sim.specs.InputRows.{places_of, truth_columns, number_columns, zero_of}
+use Rattle.lb_sim.specs.InputRows.{is_truth, places_of, truth_columns, number_columns, zero_of}
 use Rattle.lb_sim.specs.Showing.{value_at}
-use Rattle.lb_sim.specs.declared.place.Value.{Value}
 use Rattle.lb_sim.specs.declared.place.Value.TheVariants.{Truth, Number}
 
 -- ## One column more
@@ -79,101 +80,32 @@ numbers_push j (Int_kind ∷ kinds) k =
     (numbers_push (suc j) kinds k
     ∙ ap (λ a. number_columns (suc j) kinds ++ number_columns a (k ∷ [])) e)
 
--- the columns of some kinds
-pub record AreColumns (kinds : List Kind) (places : List Value) (truths numbers : List ℕ) :
-    Type 0 where
-  pub placed : places ≡ places_of 0 0 kinds
-  pub all_truths : truths ≡ truth_columns 0 kinds
-  pub all_numbers : numbers ≡ number_columns 0 kinds
+-- as many columns hold Booleans, wherever they begin
+same_truths :
+    (j k : ℕ) (kinds : List Kind) → length (truth_columns j kinds) ≡ length (truth_columns k kinds)
+same_truths j k [] = refl
+same_truths j k (Bool_kind ∷ kinds) = ap suc (same_truths (suc j) (suc k) kinds)
+same_truths j k (Int_kind ∷ kinds) = same_truths (suc j) (suc k) kinds
 
--- there are no more columns of a sort than columns
-pub few_truths : (j : ℕ) (kinds : List Kind) → length (truth_columns j kinds) ≤ length kinds
-few_truths j [] = omega arith
-few_truths j (Bool_kind ∷ kinds) = omega (arith, few_truths (suc j) kinds)
-few_truths j (Int_kind ∷ kinds) = omega (arith, few_truths (suc j) kinds)
+-- they are those that are counted, and the others hold integers
+pub truths_counted :
+    (kinds : List Kind) → length (truth_columns 0 kinds) ≡ count_by is_truth kinds
+truths_counted = is_count_by (λ ks. length (truth_columns 0 ks)) is_truth refl more
+  where
+    more : (k : Kind) (ks : List Kind) →
+        length (truth_columns 0 (k ∷ ks))
+        ≡ cond (is_truth k) (1 + length (truth_columns 0 ks)) (length (truth_columns 0 ks))
+    more Bool_kind ks = let e = same_truths 1 0 ks in omega (arith, e)
+    more Int_kind ks = same_truths 1 0 ks
 
-pub few_numbers : (j : ℕ) (kinds : List Kind) → length (number_columns j kinds) ≤ length kinds
-few_numbers j [] = omega arith
-few_numbers j (Bool_kind ∷ kinds) = omega (arith, few_numbers (suc j) kinds)
-few_numbers j (Int_kind ∷ kinds) = omega (arith, few_numbers (suc j) kinds)
-
-module _ (kinds : List Kind) (j : ℕ) (places : List Value) (truths numbers : List ℕ)
-    (h : AreColumns (take j kinds) places truths numbers) (lt : j < length kinds) where
-  long : length (take j kinds) ≡ j
-  long = length-take-le j kinds (omega arith)
-
-  at_end : 0 + length (take j kinds) ≡ j
-  at_end = omega (arith, long)
-
-  one_more : (k : Kind) → get_or kinds j Int_kind ≡ k → take (j + 1) kinds ≡ take j kinds ++ k ∷ []
-  one_more k is = take_more kinds j Int_kind lt ∙ ap (λ x. take j kinds ++ x ∷ []) is
-
-  -- no more of a sort than columns so far
-  pub truths_few : length truths ≤ j
-  truths_few =
-      let count : length truths ≡ length (truth_columns 0 (take j kinds)) =
-      ap length h.all_truths in
-      omega (arith, count, few_truths 0 (take j kinds), long)
-
-  pub numbers_few : length numbers ≤ j
-  numbers_few =
-      let count : length numbers ≡ length (number_columns 0 (take j kinds)) =
-      ap length h.all_numbers in
-      omega (arith, count, few_numbers 0 (take j kinds), long)
-
-  pub columns_truth :
-      (n : ℕ) → get_or kinds j Int_kind ≡ Bool_kind → n ≡ length truths →
-      AreColumns (take (j + 1) kinds) (places ++ Truth (record { 0 = n }) ∷ [])
-      (truths ++ j ∷ []) numbers
-  columns_truth n is e =
-      let front = take j kinds in
-      let more = sym (one_more Bool_kind is) in
-      let count : n ≡ length (truth_columns 0 front) = e ∙ ap length h.all_truths in
-      let there : n ≡ 0 + length (truth_columns 0 front) = omega (arith, count) in
-      record {
-        placed =
-            ap (λ l. l ++ Truth (record { 0 = n }) ∷ []) h.placed
-            ∙ ap (λ a. places_of 0 0 front ++ Truth (record { 0 = a }) ∷ []) there
-            ∙ sym (places_push 0 0 0 front Bool_kind)
-            ∙ ap (places_of 0 0) more;
-        all_truths =
-            ap (λ l. l ++ j ∷ []) h.all_truths
-            ∙ ap (λ a. truth_columns 0 front ++ a ∷ []) (sym at_end)
-            ∙ sym (truths_push 0 front Bool_kind)
-            ∙ ap (truth_columns 0) more;
-        all_numbers =
-            h.all_numbers
-            ∙ sym (nothing_more (number_columns 0 front))
-            ∙ sym (numbers_push 0 front Bool_kind)
-            ∙ ap (number_columns 0) more;
-      }
-
-  pub columns_number :
-      (n : ℕ) → get_or kinds j Int_kind ≡ Int_kind → n ≡ length numbers →
-      AreColumns (take (j + 1) kinds) (places ++ Number (record { 0 = n }) ∷ [])
-      truths (numbers ++ j ∷ [])
-  columns_number n is e =
-      let front = take j kinds in
-      let more = sym (one_more Int_kind is) in
-      let count : n ≡ length (number_columns 0 front) = e ∙ ap length h.all_numbers in
-      let there : n ≡ 0 + length (number_columns 0 front) = omega (arith, count) in
-      record {
-        placed =
-            ap (λ l. l ++ Number (record { 0 = n }) ∷ []) h.placed
-            ∙ ap (λ a. places_of 0 0 front ++ Number (record { 0 = a }) ∷ []) there
-            ∙ sym (places_push 0 0 0 front Int_kind)
-            ∙ ap (places_of 0 0) more;
-        all_truths =
-            h.all_truths
-            ∙ sym (nothing_more (truth_columns 0 front))
-            ∙ sym (truths_push 0 front Int_kind)
-            ∙ ap (truth_columns 0) more;
-        all_numbers =
-            ap (λ l. l ++ j ∷ []) h.all_numbers
-            ∙ ap (λ a. number_columns 0 front ++ a ∷ []) (sym at_end)
-            ∙ sym (numbers_push 0 front Int_kind)
-            ∙ ap (number_columns 0) more;
-      }
+pub columns_counted :
+    (j : ℕ) (kinds : List Kind) →
+    length (truth_columns j kinds) + length (number_columns j kinds) ≡ length kinds
+columns_counted j [] = refl
+columns_counted j (Bool_kind ∷ kinds) =
+    let e = columns_counted (suc j) kinds in omega (arith, e)
+columns_counted j (Int_kind ∷ kinds) =
+    let e = columns_counted (suc j) kinds in omega (arith, e)
 
 -- ## The row of a lane
 

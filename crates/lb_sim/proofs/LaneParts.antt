@@ -1,6 +1,6 @@
 -- The parts of an instant of a batch, as to what each of them makes of one lane.
 use Rattle.std.proofs.Common.{◌≡◌, ◌≢◌, ◌<◌, ◌≤◌, ◌+◌, ℕ, true, false}
-use Rattle.std.proofs.Common.{List, [], map, length, get_or, set, All, ℤ, pos, sym}
+use Rattle.std.proofs.Common.{List, [], map, length, get_or, set, ℤ, pos, sym}
 use Rattle.std.proofs.Common.{ap, ◌∙◌, arith, below_more, length-set}
 use Rattle.std.proofs.Math.Logic.{∥∥₁_elim}
 use Rattle.std.proofs.lemmas.List.{get_or-set_same, get_or-set_other}
@@ -11,7 +11,7 @@ use Rattle.lb_check.specs.Scalars.{Scalar}
 use Rattle.lb_check.specs.declared.verdict.Verdict.{Verdict}
 use Rattle.lb_check.specs.declared.verdict.Verdict.TheVariants.{Passed}
 use Rattle.lb_flat.specs.Programs.{program_of}
-use Rattle.lb_lanes.specs.Kernels.{AreInts, lane_of}
+use Rattle.lb_lanes.specs.Kernels.{lane_of}
 use Rattle.lb_lanes.specs.Planes.{IsPlaneOf, on}
 use Rattle.lb_lanes.proofs.OnPlanes.{on-zero}
 use Rattle.lb_machine.specs.Meaning.{Lane, IsDone, HasConstants, lane_at}
@@ -36,7 +36,6 @@ lanes_none i h = on-zero i ∙ sym (is_past i 0 (omega arith))
 -- the first words hold in each lane what a program starts with
 pub record StartPut (start : List ℤ) (old new : List (List ℤ)) (n : ℕ) : Type 0 where
   pub as_long : length new ≡ length old
-  pub ints : All AreInts new
   pub put :
       (k i : ℕ) → k < n → i < 64 →
       lane_of (slice_index_or new k []) i ≡ slice_index_or start k (pos 0)

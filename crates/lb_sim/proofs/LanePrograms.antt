@@ -3,7 +3,6 @@ use Rattle.std.proofs.Common.{◌≡◌, ◌<◌, ◌≤◌, ◌+◌, ℕ, List,
 use Rattle.std.proofs.Common.{arith, Bool, true, false, [], get_or, sym, subst, ◌∙◌}
 use Rattle.std.proofs.Math.Logic.{∥∥₁_elim}
 use Rattle.std.proofs.Props.{props}
-use Rattle.std.specs.Prelude.{IsTrue}
 use Rattle.lb_check.specs.Scalars.{Scalar}
 use Rattle.lb_check.specs.Solutions.{Inputs}
 use Rattle.lb_check.specs.declared.verdict.Verdict.{Verdict}
@@ -12,7 +11,6 @@ use Rattle.lb_flat.specs.PreparedPrograms.{prepared_props}
 use Rattle.lb_flat.specs.Programs.{program_of}
 use Rattle.lb_flat.specs.Run.{Ready}
 use Rattle.lb_flat.proofs.InOrder.{ready_of}
-use Rattle.lb_lanes.specs.Operators.{is_int}
 use Rattle.lb_machine.specs.Meaning.{Lane}
 use Rattle.lb_machine.specs.declared.instruction.PlaneId.{PlaneId}
 use Rattle.lb_sim.specs.InputRows.{truth_columns, number_columns}
@@ -54,9 +52,6 @@ module _ (p : LaneProgram) where
 
   pub constants_words : p.constant_word ≤ p.memory_word
   constants_words = ∥∥₁_elim p.general_law (Prim.hlevel props) (λ h. h.laid_out.constants_words)
-
-  pub start_ints : All (λ v. IsTrue (is_int v)) p.start_words.items
-  start_ints = ∥∥₁_elim p.general_law (Prim.hlevel props) (λ h. h.laid_out.start_ints)
 
   module _ (c : LaneCode) (law : IsCodeIn p c) where
     -- there is a place for each plane of the code

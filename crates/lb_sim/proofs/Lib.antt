@@ -15,6 +15,7 @@ pub mod LaneBits
 pub mod InputColumns
 pub mod ZeroLanes
 pub mod Loading
+pub mod IntegerLoads
 pub mod Batches
 pub mod RowsLoaded
 pub mod RunningLanes

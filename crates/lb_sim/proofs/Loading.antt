@@ -1,18 +1,13 @@
--- The cells of an instant go into lanes one by one.
-use Rattle.std.proofs.Common.{◌≡◌, ℕ, ◌+◌, ◌*◌, ◌/◌, ◌%◌, ◌<◌, ◌≤◌, ◌==◌, Bool, true}
-use Rattle.std.proofs.Common.{List, [], ℤ, pos, cond, get_or, set, length, refl, sym, ap, ◌≢◌}
+-- The Booleans of an instant go into planes.
+use Rattle.std.proofs.Common.{◌≡◌, ℕ, ◌+◌, ◌*◌, ◌/◌, ◌%◌, ◌<◌, ◌≤◌, Bool, true}
+use Rattle.std.proofs.Common.{List, pos, get_or, set, length, refl, ap, ◌≢◌}
 use Rattle.std.proofs.Common.{◌∙◌, subst, arith, below_more, ◌⊎◌, inl, inr, length-set}
-use Rattle.std.proofs.lemmas.Bool.{cases_lt, cases_eq}
+use Rattle.std.proofs.lemmas.Bool.{cases_lt}
 use Rattle.std.proofs.lemmas.List.{get_or-set_same, get_or-set_other}
-use Rattle.std.proofs.lemmas.List.Elements.{All-set}
-use Rattle.std.specs.List.{All}
-use Rattle.std.specs.Prelude.{int_le, IsTrue}
+use Rattle.std.specs.Prelude.{int_le}
 use Rattle.lb_flat.specs.Traces.{Recording}
-use Rattle.lb_lanes.specs.Kernels.{AreInts, lane_of}
-use Rattle.lb_lanes.specs.Operators.{is_int}
 use Rattle.lb_lanes.specs.Planes.{on}
 use Rattle.lb_sim.specs.InputRows.{member_cell}
-use Rattle.lb_sim.proofs.LaneBits.{no_number}
 
 -- ## Booleans, words for each lane
 
@@ -122,45 +117,6 @@ module _ (r : Recording) (members : List ℕ) (t live : ℕ) (columns : List ℕ
       subst (λ k. on (get_or planes k 0) i ≡ truth_at i k) same
       (turned g c i lc l within ∙ gathered i g c l e lc inside)
 
-  -- ## Integers
-
-  pub record Numbers (words : List (List ℤ)) (n : ℕ) : Type 0 where
-    pub as_long : length words ≡ length columns
-    pub ints : All AreInts words
-    pub done :
-        (i w : ℕ) → i < n → i < 64 → on live i ≡ true → w < length columns →
-        lane_of (get_or words w []) i ≡ member_cell r members t i (get_or columns w 0)
-
-  pub numbers_none :
-      (words : List (List ℤ)) → length words ≡ length columns → All AreInts words →
-      Numbers words 0
-  numbers_none words long ints = record {
-    as_long = long;
-    ints = ints;
-    done = λ i w h. absurd (omega (arith, h));
-  }
-
-  pub numbers_more :
-      (words words' : List (List ℤ)) (n : ℕ) → Numbers words n →
-      length words' ≡ length words → All AreInts words' →
-      (on live n ≡ true → (w : ℕ) → w < length columns →
-      lane_of (get_or words' w []) n ≡ member_cell r members t n (get_or columns w 0)) →
-      ((w i : ℕ) → w < length columns → i < 64 → i ≢ n →
-      lane_of (get_or words' w []) i ≡ lane_of (get_or words w []) i) →
-      Numbers words' (n + 1)
-  numbers_more words words' n h long ints put others = record {
-    as_long = long ∙ h.as_long;
-    ints = ints;
-    done = λ i w l. below_more
-        (λ j. j < 64 → on live j ≡ true → w < length columns →
-        lane_of (get_or words' w []) j ≡ member_cell r members t j (get_or columns w 0)) n
-        (λ j m l e lw.
-        let ne : j ≢ n = λ f. absurd (omega (arith, m, f)) in
-        others w j lw l ne ∙ h.done j w m l e lw)
-        (λ l e lw. put e w lw)
-        i l;
-  }
-
 -- ## The words of all lanes, turned
 
 module _ (rows old : List ℕ) where
@@ -195,80 +151,3 @@ module _ (rows old : List ℕ) where
         (λ lc li lb. put c i (all c lc (omega (arith, lb, h.as_long))) li)
         g l;
   }
-
--- ## One lane of words
-
-pub record LanePut (numbers : List ℤ) (lane : ℕ) (old new : List (List ℤ)) (n : ℕ) :
-    Type 0 where
-  pub as_long : length new ≡ length old
-  pub ints : All AreInts new
-  pub put :
-      (w : ℕ) → w < n →
-      lane_of (get_or new w []) lane ≡ get_or numbers w (pos 0)
-  pub others :
-      (w i : ℕ) → i < 64 → i ≢ lane →
-      lane_of (get_or new w []) i ≡ lane_of (get_or old w []) i
-
-pub lane_put_none :
-    (numbers : List ℤ) (lane : ℕ) (old : List (List ℤ)) → All AreInts old →
-    LanePut numbers lane old old 0
-lane_put_none numbers lane old ints = record {
-  as_long = refl;
-  ints = ints;
-  put = λ w h. absurd (omega (arith, h));
-  others = λ w i h ne. refl;
-}
-
-same_number : (a : ℕ) → (a == a) ≡ true
-same_number a = grind arith
-
-module _ (numbers : List ℤ) (lane : ℕ) (old new : List (List ℤ)) (n : ℕ)
-    (word : List ℤ) (v : ℤ) (h : LanePut numbers lane old new n) (room : n < length old)
-    (within : lane < 64) (is_v : v ≡ get_or numbers n (pos 0))
-    (in_range : IsTrue (is_int v))
-    (is : (i : ℕ) → i < 64 →
-    lane_of word i ≡ cond (i == lane) v (lane_of (get_or new n []) i)) where
-  at_lane : lane_of word lane ≡ v
-  at_lane =
-      is lane within ∙ ap (λ b. cond b v (lane_of (get_or new n []) lane)) (same_number lane)
-
-  at_other : (i : ℕ) → i < 64 → i ≢ lane → lane_of word i ≡ lane_of (get_or new n []) i
-  at_other i l ne =
-      is i l ∙ ap (λ b. cond b v (lane_of (get_or new n []) i)) (no_number i lane ne)
-
-  word_ints : AreInts (get_or new n []) → AreInts word
-  word_ints before i l = by (cases_eq i lane)
-    where
-      by : (i ≡ lane) ⊎ (i ≡ lane → ⊥) → IsTrue (is_int (lane_of word i))
-      by (inl e) =
-          subst (λ k. IsTrue (is_int (lane_of word k))) (sym e)
-          (subst (λ x. IsTrue (is_int x)) (sym at_lane) in_range)
-      by (inr ne) = subst (λ x. IsTrue (is_int x)) (sym (at_other i l ne)) (before i l)
-
-  pub lane_put_more : LanePut numbers lane old (set new n word) (n + 1)
-  lane_put_more =
-      let there : n < length new = omega (arith, h.as_long, room) in
-      record {
-        as_long = length-set new n word ∙ h.as_long;
-        ints = All-set AreInts new n word (word_ints (h.ints n [] there)) h.ints;
-        put =
-            below_more
-            (λ w. lane_of (get_or (set new n word) w []) lane
-            ≡ get_or numbers w (pos 0)) n
-            (λ w l.
-            let ne : w ≢ n = λ e. absurd (omega (arith, l, e)) in
-            ap (λ x. lane_of x lane) (get_or-set_other new n w word [] ne) ∙ h.put w l)
-            (ap (λ x. lane_of x lane) (get_or-set_same new n word [] there) ∙ at_lane ∙ is_v);
-        others = λ w i l ne. by w i l ne (cases_eq w n);
-      }
-    where
-      by : (w i : ℕ) → i < 64 → i ≢ lane → (w ≡ n) ⊎ (w ≡ n → ⊥) →
-          lane_of (get_or (set new n word) w []) i ≡ lane_of (get_or old w []) i
-      by w i l ne (inl e) =
-          let there : n < length new = omega (arith, h.as_long, room) in
-          subst (λ k. lane_of (get_or (set new n word) k []) i ≡ lane_of (get_or old k []) i)
-          (sym e)
-          (ap (λ x. lane_of x i) (get_or-set_same new n word [] there)
-          ∙ at_other i l ne ∙ h.others n i l ne)
-      by w i l ne (inr d) =
-          ap (λ x. lane_of x i) (get_or-set_other new n w word [] d) ∙ h.others w i l ne

@@ -71,9 +71,9 @@ module _ (r : Recording) (members : List ℕ) (t i : ℕ) (kinds : List Kind) (p
 
 -- the row of a lane that was handed over: behind two planes and a word
 module _ (i : ℕ) (kinds : List Kind) (planes planes' from : List ℕ)
-    (words words' words_from : List (List ℤ)) (truths numbers : List ℕ)
-    (is_truths : truths ≡ truth_columns 0 kinds) (is_numbers : numbers ≡ number_columns 0 kinds)
-    (planes_room : length planes ≡ length truths) (words_room : length words ≡ length numbers)
+    (words words' words_from : List (List ℤ))
+    (planes_room : length planes ≡ length (truth_columns 0 kinds))
+    (words_room : length words ≡ length (number_columns 0 kinds))
     (is_from : from ≡ planes) (is_words : words_from ≡ words)
     (put : (c : ℕ) → c < length from → get_or planes' (2 + c) 0 ≡ get_or from c 0)
     (put_words : (c : ℕ) → c < length words_from →
@@ -83,7 +83,7 @@ module _ (i : ℕ) (kinds : List Kind) (planes planes' from : List ℕ)
   bits_handed b l =
       let e : b ≡ 0 + b = omega arith in
       let long : length from ≡ length (truth_columns 0 kinds) =
-      ap length is_from ∙ planes_room ∙ ap length is_truths in
+      ap length is_from ∙ planes_room in
       ap (λ w. on w i) (put b (omega (arith, l, long)))
       ∙ ap (λ xs. on (get_or xs b 0) i) is_from
       ∙ ap (λ n. on (get_or planes n 0) i) e
@@ -93,7 +93,7 @@ module _ (i : ℕ) (kinds : List Kind) (planes planes' from : List ℕ)
   ints_handed c l =
       let e : c ≡ 0 + c = omega arith in
       let long : length words_from ≡ length (number_columns 0 kinds) =
-      ap length is_words ∙ words_room ∙ ap length is_numbers in
+      ap length is_words ∙ words_room in
       ap (λ w. lane_of w i) (put_words c (omega (arith, l, long)))
       ∙ ap (λ xs. lane_of (get_or xs c []) i) is_words
       ∙ ap (λ n. lane_of (get_or words n []) i) e

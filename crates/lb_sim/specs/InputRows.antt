@@ -1,7 +1,7 @@
 -- The inputs of an instant in each lane: a plane for each Boolean of a signature and a word for
 -- each integer, in its order.
 -- Source: this project's rule. No lane occurs beside another.
-use Rattle.std.specs.Prelude.{◌≡◌, ℕ, suc, ◌<◌, true, false, List, [], ◌∷◌, ℤ, pos, length, map}
+use Rattle.std.specs.Prelude.{◌≡◌, ℕ, suc, ◌<◌, Bool, true, false, List, [], ◌∷◌, ℤ, pos, length, map}
 use Rattle.std.specs.Prelude.{get_or, slice_index_or}
 use Rattle.lb_syntax.specs.declared.tree.Kind.{Kind}
 use Rattle.lb_syntax.specs.declared.tree.Kind.TheVariants.{Int as Int_kind, Bool as Bool_kind}
@@ -14,6 +14,11 @@ use Rattle.lb_machine.specs.Meaning.{lane_at}
 use Rattle.lb_sim.specs.Showing.{value_at}
 use Rattle.lb_sim.specs.declared.place.Value.{Value}
 use Rattle.lb_sim.specs.declared.place.Value.TheVariants.{Truth, Number}
+
+-- whether a column of a kind holds Booleans
+abbrev pub is_truth : Kind → Bool
+is_truth Bool_kind = true
+is_truth Int_kind = false
 
 -- where inputs of these kinds stand, from a plane and a word on
 abbrev pub places_of : ℕ → ℕ → List Kind → List Value

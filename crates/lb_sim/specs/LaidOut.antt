@@ -1,10 +1,9 @@
 -- How a lane program lies over planes and words: what is the same everywhere, the inputs, the
 -- memories, and behind them what the code writes; and what the first of them hold at the start.
 -- Source: this project's rule.
-use Rattle.std.specs.Prelude.{◌≡◌, ◌≤◌, ◌<◌, ◌+◌, ℕ, List, length, map, All, ℤ, pos, IsTrue}
+use Rattle.std.specs.Prelude.{◌≡◌, ◌≤◌, ◌<◌, ◌+◌, ℕ, List, length, map, All, ℤ, pos}
 use Rattle.std.specs.Prelude.{slice_index, slice_index_or}
 use Rattle.lb_flat.specs.Judging.{FlatProgram}
-use Rattle.lb_lanes.specs.Operators.{is_int}
 use Rattle.lb_lanes.specs.Planes.{on}
 use Rattle.lb_machine.specs.Meaning.{Lane, HasConstants}
 use Rattle.lb_machine.specs.declared.code.Code.{Code}
@@ -36,7 +35,6 @@ pub record IsLaidOut (f : FlatProgram) (code : Code) (inputs : List Value) (kept
       All (λ (w : WordId). code.first_word ≤ w.0 × w.0 < code.words) word_sources
   pub start_planes_room : length start_planes ≡ code.first_plane
   pub start_words_room : length start_words ≡ code.first_word
-  pub start_ints : All (λ v. IsTrue (is_int v)) start_words
   pub start_constants : (i : ℕ) → i < 64 → HasConstants (start_lane start_planes start_words i)
   pub start_state :
       (i : ℕ) → i < 64 →

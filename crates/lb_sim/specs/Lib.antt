@@ -1,5 +1,6 @@
 pub mod Showing
 pub mod InputRows
+pub mod Loads
 pub mod Inputs
 pub mod BatchLanes
 pub mod Holdings

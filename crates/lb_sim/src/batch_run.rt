@@ -1,13 +1,12 @@
 //! Up to 64 traces of a program, instant by instant.
 
 ghost use Rattle.std.specs.Prelude.{◌≡◌, ◌≢◌, ℕ, ◌<◌, ◌≤◌, ◌+◌, ◌++◌, ◌∷◌, [], true, false, ◌&&◌};
-ghost use Rattle.std.specs.Prelude.{length, All, get_or, IfOk};
+ghost use Rattle.std.specs.Prelude.{length, get_or, IfOk};
 ghost use Rattle.lb_check.specs.Solutions.{Inputs as InputRows};
 ghost use Rattle.lb_check.specs.declared.verdict.Verdict.TheVariants.{Passed};
 ghost use Rattle.lb_flat.specs.Fitting.{IsFitting};
 ghost use Rattle.lb_flat.specs.Flat.{FlatClock};
 ghost use Rattle.lb_flat.specs.FurtherKinds.{kind_among};
-ghost use Rattle.lb_lanes.specs.Kernels.{AreInts};
 ghost use Rattle.lb_lanes.specs.Planes.{IsPlaneOf, on};
 ghost use Rattle.lb_machine.specs.Meaning.{HasConstants, lane_at};
 ghost use Rattle.lb_sim.specs.Compiled.{HasConstantWords};
@@ -18,7 +17,7 @@ use crate::instant::{advance, first_lanes, pass_all, start};
 use crate::lane_bits::zeros;
 use crate::program::LaneProgram;
 use lb_check::Verdict;
-use lb_lanes::{IntLanes, Plane};
+use lb_lanes::{LaneWord, Plane};
 use std::alloc::{AllocError, Global};
 
 /// The lanes of a batch: what their planes and words hold, and their verdicts so far.
@@ -31,7 +30,7 @@ use std::alloc::{AllocError, Global};
 pub struct BatchRun<'a> {
     pub program: &'a LaneProgram<'a>,
     pub planes: Vec<u64>,
-    pub words: Vec<IntLanes>,
+    pub words: Vec<LaneWord>,
     pub verdicts: Vec<Verdict>,
     /// The lanes that were live in the last step, and those of them that have passed so far.
     pub live: Plane,
@@ -39,7 +38,6 @@ pub struct BatchRun<'a> {
     pub steps: u32,
     pub ghost planes_room: { length planes.items ≡ program.now.planes },
     pub ghost words_room: { length words.items ≡ program.now.words },
-    pub ghost ints: { All AreInts words.items },
     pub ghost verdicts_room: { length verdicts.items ≡ 64 },
     pub ghost constants: { (i : ℕ) → i < 64 → HasConstants
         (lane_at planes.items words.items i) },
@@ -75,13 +73,12 @@ impl<'a> BatchRun<'a> {
     pub(crate) fn begun(
         program: &'a LaneProgram<'a>,
         mut planes: Vec<u64>,
-        mut words: Vec<IntLanes>,
+        mut words: Vec<LaneWord>,
         mut verdicts: Vec<Verdict>,
         lanes: u32,
     ) -> BatchRun<'a>
         requires planes { length planes.items ≡ program.now.planes }
         requires words { length words.items ≡ program.now.words }
-        requires ints { All AreInts words.items }
         requires verdicts { length verdicts.items ≡ 64 }
         requires few { lanes ≤ 64 }
         ensures fresh { IsFresh result lanes }

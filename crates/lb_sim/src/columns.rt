@@ -1,10 +1,8 @@
-//! Which columns of a signature hold Booleans and which hold integers, and where they are found.
+//! How many columns of a signature hold Booleans, and how many hold integers.
 
-ghost use Rattle.std.specs.Prelude.{◌≡◌, ◌<◌, length, IfOk};
-ghost use Rattle.lb_sim.specs.InputRows.{places_of, truth_columns, number_columns};
+ghost use Rattle.std.specs.Prelude.{◌≡◌, ◌+◌, length, count_by, IfOk};
+ghost use Rattle.lb_sim.specs.InputRows.{is_truth, truth_columns, number_columns};
 
-use crate::place::Value;
-use lb_machine::{PlaneId, WordId};
 use lb_syntax::Kind;
 use std::alloc::{AllocError, Global};
 
@@ -13,45 +11,41 @@ use std::alloc::{AllocError, Global};
 pub struct Columns {
     /// What each column holds.
     pub kinds: Vec<Kind>,
-    /// Where each column is found.
-    pub places: Vec<Value>,
-    /// The column of each plane and of each word.
-    pub truths: Vec<u32>,
-    pub numbers: Vec<u32>,
-    pub ghost placed: { places.items ≡ places_of 0 0 kinds.items },
-    pub ghost all_truths: { truths.items ≡ truth_columns 0 kinds.items },
-    pub ghost all_numbers: { numbers.items ≡ number_columns 0 kinds.items },
-    pub ghost few: { length kinds.items < 4294967295 },
+    /// How many hold Booleans, and how many hold integers.
+    pub truths: usize,
+    pub numbers: usize,
+    pub ghost all_truths: { truths ≡ length (truth_columns 0 kinds.items) },
+    pub ghost all_numbers: { numbers ≡ length (number_columns 0 kinds.items) },
+}
+
+// Whether a column holds Booleans.
+fn is_truth(kind: &Kind) -> bool
+    ensures { result ≡ is_truth kind.now }
+{
+    match kind {
+        Kind::Bool => true,
+        Kind::Int => false,
+    }
+}
+
+// How many columns hold Booleans.
+fn count_truths(kinds: &[Kind]) -> usize
+    ensures { result ≡ count_by is_truth kinds.now }
+{
+    kinds.iter().filter(|kind| is_truth(kind)).count()
 }
 
 impl Columns {
-    /// The columns of these kinds. More than numbers go is more than any memory holds.
+    /// The columns of these kinds. It fails only where memory was refused (E0).
     pub fn new(alloc: Global, signature: &[Kind]) -> Result<Columns, AllocError>
         ensures { IfOk result (λ x. x.kinds.items ≡ signature.now) }
     {
-        if signature.len() >= u32::MAX as usize {
-            return Err(AllocError);
-        }
         let mut kinds = Vec::new(alloc);
         kinds.extend_from_slice(signature)?;
-        let mut places = Vec::new(alloc);
-        let mut truths: Vec<u32> = Vec::new(alloc);
-        let mut numbers: Vec<u32> = Vec::new(alloc);
-        for j in 0..signature.len() {
-            match signature[j] {
-                Kind::Bool => {
-                    places.push(Value::Truth(PlaneId(truths.len() as u32)))?;
-                    truths.push(j as u32)?;
-                }
-                Kind::Int => {
-                    places.push(Value::Number(WordId(numbers.len() as u32)))?;
-                    numbers.push(j as u32)?;
-                }
-            }
-        }
+        let truths = count_truths(signature);
+        let numbers = signature.len() - truths;
         Ok(Columns {
             kinds,
-            places,
             truths,
             numbers,
         })

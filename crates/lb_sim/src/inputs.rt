@@ -4,17 +4,17 @@ ghost use Rattle.std.specs.Prelude.{◌≡◌, ℕ, ◌<◌, ◌≤◌, ◌+◌,
 ghost use Rattle.std.specs.Prelude.{[], slice_index, slice_index_or};
 ghost use Rattle.lb_static.specs.Signature.{kinds_of};
 ghost use Rattle.lb_flat.specs.Inputs.{inputs_of};
-ghost use Rattle.lb_lanes.specs.Kernels.{AreInts};
 ghost use Rattle.lb_lanes.specs.Planes.{on};
 ghost use Rattle.lb_machine.specs.Meaning.{lane_at};
 ghost use Rattle.lb_sim.specs.InputRows.{HaveInstant, places_of, zero_of};
 ghost use Rattle.lb_sim.specs.Showing.{value_at};
 
 use crate::columns::Columns;
+use crate::integer_loads::load_numbers;
 use crate::lane_bits::{copy_planes, copy_words, zeros};
-use crate::loads::{Instant, load_numbers, load_truths};
+use crate::loads::{Instant, load_truths};
 use lb_flat::{FlatProgram, TraceSet};
-use lb_lanes::{IntLanes, Plane};
+use lb_lanes::{LaneWord, Plane};
 use lb_syntax::Kind;
 use std::alloc::{AllocError, Global};
 
@@ -24,13 +24,12 @@ use std::alloc::{AllocError, Global};
 pub struct Inputs {
     pub columns: Columns,
     pub planes: Vec<u64>,
-    pub words: Vec<IntLanes>,
+    pub words: Vec<LaneWord>,
     /// The Booleans of each lane, a word for 64 of them; see `loads`.
     pub rows: Vec<u64>,
-    pub ghost planes_room: { length planes.items ≡ length columns.truths.items },
-    pub ghost words_room: { length words.items ≡ length columns.numbers.items },
-    pub ghost rows_room: { length columns.truths.items + 63 ≤ length rows.items },
-    pub ghost ints: { All AreInts words.items },
+    pub ghost planes_room: { length planes.items ≡ columns.truths },
+    pub ghost words_room: { length words.items ≡ columns.numbers },
+    pub ghost rows_room: { columns.truths + 63 ≤ length rows.items },
 }
 
 impl Inputs {
@@ -52,9 +51,9 @@ impl Inputs {
             (i : ℕ) → i < 64 → inputs_row x i ≡ map zero_of kinds.now) }
     {
         let columns = Columns::new(alloc, kinds)?;
-        let planes = vec![in alloc; 0u64; columns.truths.len()]?;
-        let words = zeros(alloc, columns.numbers.len())?;
-        let rows = vec![in alloc; 0u64; columns.truths.len() + 63]?;
+        let planes = vec![in alloc; 0u64; columns.truths]?;
+        let words = zeros(alloc, columns.numbers)?;
+        let rows = vec![in alloc; 0u64; columns.truths + 63]?;
         Ok(Inputs {
             columns,
             planes,
@@ -85,13 +84,11 @@ impl Inputs {
     }
 
     // Copies the rows to where a lane program has its inputs: behind what is the same everywhere.
-    pub(crate) fn hand_over(&self, planes: &mut [u64], words: &mut [IntLanes])
+    pub(crate) fn hand_over(&self, planes: &mut [u64], words: &mut [LaneWord])
         requires planes_room { 2 + length self.now.planes.items ≤ length planes.old }
         requires words_room { 1 + length self.now.words.items ≤ length words.old }
-        requires ints { All AreInts words.old }
         ensures planes { length planes.new ≡ length planes.old }
         ensures words { length words.new ≡ length words.old }
-        ensures ints { All AreInts words.new }
         ensures rows { (i : ℕ) → i < 64
             → map (value_at (lane_at planes.new words.new i))
             (places_of 2 1 self.now.columns.kinds.items) ≡ inputs_row self.now i }

@@ -1,12 +1,11 @@
 //! The parts of an instant of a batch: its start, the run of its code, what it decides, and the
 //! memories of the next instant.
 
-ghost use Rattle.std.specs.Prelude.{◌≡◌, ℕ, ◌<◌, ◌≤◌, not, ◌&&◌, [], length, All, get_or};
-ghost use Rattle.std.specs.Prelude.{nat_lt, pos, slice_index, slice_index_or, IsTrue};
+ghost use Rattle.std.specs.Prelude.{◌≡◌, ℕ, ◌<◌, ◌≤◌, not, ◌&&◌, [], length, get_or};
+ghost use Rattle.std.specs.Prelude.{nat_lt, pos, slice_index, slice_index_or};
 ghost use Rattle.std.specs.Prelude.{if◌then◌else◌};
 ghost use Rattle.lb_check.specs.declared.verdict.Verdict.TheVariants.{Passed};
-ghost use Rattle.lb_lanes.specs.Kernels.{AreInts, lane_of};
-ghost use Rattle.lb_lanes.specs.Operators.{is_int};
+ghost use Rattle.lb_lanes.specs.Kernels.{lane_of};
 ghost use Rattle.lb_lanes.specs.Planes.{IsPlaneOf, on};
 ghost use Rattle.lb_machine.specs.Meaning.{HasConstants, lane_at};
 ghost use Rattle.lb_sim.specs.Compiled.{HasConstantWords};
@@ -22,7 +21,7 @@ use crate::lane_bits::{copy_planes, with_lane};
 use crate::place::Watched;
 use crate::program::{LaneCode, LaneProgram};
 use lb_check::Verdict;
-use lb_lanes::{IntLanes, Plane};
+use lb_lanes::{LaneWord, Plane};
 use lb_machine::{PlaneId, carry_planes, carry_words};
 
 // The first so many lanes.
@@ -38,28 +37,23 @@ pub(crate) fn first_lanes(lanes: u32) -> Plane
 }
 
 // Puts numbers into the first words, each in all lanes.
-fn put_start(words: &mut [IntLanes], start: &[i64])
-    requires room { length start.now ≤ length words.old }
-    requires ints { All AreInts words.old }
-    requires start { All (λ v. IsTrue (is_int v)) start.now }
+fn put_start(words: &mut [LaneWord], start: &[i32])
+    requires { length start.now ≤ length words.old }
     ensures words { length words.new ≡ length words.old }
-    ensures ints { All AreInts words.new }
     ensures put { (k i : ℕ) → k < length start.now → i < 64
         → lane_of (slice_index_or words.new k []) i ≡ slice_index_or start.now k (pos 0) }
 {
     for k in 0..start.len() {
-        words[k] = IntLanes::splat(start[k]);
+        words[k] = LaneWord::splat(start[k]);
     }
 }
 
 // Puts what a program starts with into the first places of all lanes. The rest may hold anything.
-pub(crate) fn start(program: &LaneProgram, planes: &mut [u64], words: &mut [IntLanes])
+pub(crate) fn start(program: &LaneProgram, planes: &mut [u64], words: &mut [LaneWord])
     requires planes { length planes.old ≡ program.now.planes }
     requires words { length words.old ≡ program.now.words }
-    requires ints { All AreInts words.old }
     ensures planes { length planes.new ≡ length planes.old }
     ensures words { length words.new ≡ length words.old }
-    ensures ints { All AreInts words.new }
     ensures first_planes { (k : ℕ) → k < length program.now.start_planes.items
         → slice_index planes.new k ≡ slice_index program.now.start_planes.items k }
     ensures first_words { (k i : ℕ) → k < length program.now.start_words.items → i < 64
@@ -86,12 +80,11 @@ fn compute(
     code: &LaneCode,
     inputs: &Inputs,
     planes: &mut [u64],
-    words: &mut [IntLanes],
+    words: &mut [LaneWord],
 )
     requires law { IsCodeIn program.now code.now }
     requires planes { length planes.old ≡ program.now.planes }
     requires words { length words.old ≡ program.now.words }
-    requires ints { All AreInts words.old }
     requires signature { inputs.now.columns.kinds.items ≡ program.now.program.now.inputs.items }
     requires constants { (i : ℕ) → i < 64 → HasConstants (lane_at planes.old words.old i) }
     requires constant_words { (i : ℕ) → i < 64 → HasConstantWords program.now.constant_word
@@ -99,7 +92,6 @@ fn compute(
         (lane_at planes.old words.old i) }
     ensures planes { length planes.new ≡ length planes.old }
     ensures words { length words.new ≡ length words.old }
-    ensures ints { All AreInts words.new }
     ensures computed { (i : ℕ) → i < 64 → IsComputed program.now code.now (inputs_row inputs.now i)
         (lane_at planes.old words.old i) (lane_at planes.new words.new i) }
 {
@@ -198,14 +190,12 @@ fn judge(code: &LaneCode, planes: &[u64], verdicts: &mut [Verdict], going: Plane
 }
 
 // The memories take over what the instant gives them.
-fn commit(program: &LaneProgram, code: &LaneCode, planes: &mut [u64], words: &mut [IntLanes])
+fn commit(program: &LaneProgram, code: &LaneCode, planes: &mut [u64], words: &mut [LaneWord])
     requires law { IsCodeIn program.now code.now }
     requires planes { length planes.old ≡ program.now.planes }
     requires words { length words.old ≡ program.now.words }
-    requires ints { All AreInts words.old }
     ensures planes { length planes.new ≡ length planes.old }
     ensures words { length words.new ≡ length words.old }
-    ensures ints { All AreInts words.new }
     ensures carried { (i : ℕ) → IsCarriedOver program.now.memory_plane program.now.memory_word
         code.now.plane_sources.items code.now.word_sources.items
         (lane_at planes.old words.old i) (lane_at planes.new words.new i) }
@@ -219,7 +209,7 @@ pub(crate) fn advance(
     program: &LaneProgram,
     inputs: &Inputs,
     planes: &mut [u64],
-    words: &mut [IntLanes],
+    words: &mut [LaneWord],
     verdicts: &mut [Verdict],
     active: Plane,
     live: Plane,
@@ -227,7 +217,6 @@ pub(crate) fn advance(
 ) -> Plane
     requires planes { length planes.old ≡ program.now.planes }
     requires words { length words.old ≡ program.now.words }
-    requires ints { All AreInts words.old }
     requires verdicts { length verdicts.old ≡ 64 }
     requires signature { inputs.now.columns.kinds.items ≡ program.now.program.now.inputs.items }
     requires constants { (i : ℕ) → i < 64 → HasConstants (lane_at planes.old words.old i) }
@@ -236,7 +225,6 @@ pub(crate) fn advance(
         (lane_at planes.old words.old i) }
     ensures planes { length planes.new ≡ length planes.old }
     ensures words { length words.new ≡ length words.old }
-    ensures ints { All AreInts words.new }
     ensures verdicts { length verdicts.new ≡ 64 }
     ensures moved { (i : ℕ) → i < 64 → IsMovedOn program.now (inputs_row inputs.now i)
         (lane_at planes.old words.old i) (lane_at planes.new words.new i)

@@ -1,14 +1,13 @@
 //! Planes and words, lane by lane.
 
 ghost use Rattle.std.specs.Prelude.{◌≡◌, ◌≢◌, ℕ, ◌<◌, ◌≤◌, ◌+◌, ◌*◌, ◌==◌, ◌||◌};
-ghost use Rattle.std.specs.Prelude.{length, IsTrue};
-ghost use Rattle.std.specs.Prelude.{slice_index, slice_index_or, get_or, [], pos, All, IfOk};
-ghost use Rattle.lb_lanes.specs.Kernels.{AreInts, lane_of};
-ghost use Rattle.lb_lanes.specs.Operators.{is_int};
+ghost use Rattle.std.specs.Prelude.{length};
+ghost use Rattle.std.specs.Prelude.{slice_index, slice_index_or, get_or, [], pos, IfOk};
+ghost use Rattle.lb_lanes.specs.Kernels.{lane_of};
 ghost use Rattle.lb_lanes.specs.Planes.{on};
 ghost use Rattle.lb_sim.specs.InputRows.{AreZero};
 
-use lb_lanes::{IntLanes, transpose};
+use lb_lanes::{LaneWord, transpose};
 use std::alloc::{AllocError, Global};
 
 /// The plane with one more lane.
@@ -17,15 +16,6 @@ pub(crate) fn with_lane(plane: u64, lane: u32) -> u64
     ensures { (i : ℕ) → i < 64 → on result i ≡ ((i == lane) || on plane i) }
 {
     plane | (1u64 << lane)
-}
-
-// One of some integers.
-fn integer_of(numbers: &[i32], w: usize) -> i64
-    requires { w < length numbers.now }
-    ensures value { result ≡ get_or numbers.now w (pos 0) }
-    ensures in_range { IsTrue (is_int result) }
-{
-    i64::from(numbers[w])
 }
 
 /// How many words the bits of so many columns take.
@@ -90,31 +80,28 @@ fn put_planes(planes: &mut [u64], first: usize, words: &[u64; 64], count: usize)
 }
 
 /// Puts some integers into a lane of words, one each.
-pub(crate) fn put_numbers(words: &mut [IntLanes], lane: u32, numbers: &[i32])
+pub(crate) fn put_numbers(words: &mut [LaneWord], lane: u32, numbers: &[i32])
     requires lane { lane < 64 }
     requires room { length words.old ≡ length numbers.now }
-    requires ints { All AreInts words.old }
     ensures words { length words.new ≡ length words.old }
-    ensures ints { All AreInts words.new }
     ensures put { (w : ℕ) → w < length numbers.now
         → lane_of (slice_index_or words.new w []) lane ≡ get_or numbers.now w (pos 0) }
     ensures others { (w i : ℕ) → w < length numbers.now → i < 64 → i ≢ lane
         → lane_of (slice_index_or words.new w []) i ≡ lane_of (slice_index_or words.old w []) i }
 {
     for w in 0..numbers.len() {
-        let number = integer_of(numbers, w);
-        words[w].set(lane, number);
+        words[w].set(lane, numbers[w]);
     }
 }
 
 /// Words that are 0 in each lane.
-pub(crate) fn zeros(alloc: Global, count: usize) -> Result<Vec<IntLanes>, AllocError>
+pub(crate) fn zeros(alloc: Global, count: usize) -> Result<Vec<LaneWord>, AllocError>
     ensures count { IfOk result (λ words. length words.items ≡ count) }
     ensures zero { IfOk result (λ words. AreZero words.items) }
 {
     let mut words = Vec::new(alloc);
     for _ in 0..count {
-        words.push(IntLanes::splat(0))?;
+        words.push(LaneWord::splat(0))?;
     }
     Ok(words)
 }
@@ -135,12 +122,9 @@ pub(crate) fn copy_planes(planes: &mut [u64], first: usize, from: &[u64])
 }
 
 /// Copies words to places that lie side by side.
-pub(crate) fn copy_words(words: &mut [IntLanes], first: usize, from: &[IntLanes])
+pub(crate) fn copy_words(words: &mut [LaneWord], first: usize, from: &[LaneWord])
     requires room { first + length from.now ≤ length words.old }
-    requires ints { All AreInts words.old }
-    requires from { All AreInts from.now }
     ensures words { length words.new ≡ length words.old }
-    ensures ints { All AreInts words.new }
     ensures put { (c : ℕ) → c < length from.now
         → slice_index_or words.new (first + c) [] ≡ slice_index_or from.now c [] }
     ensures below { (k : ℕ) → k < first

@@ -1,24 +1,22 @@
-//! The cells of an instant, from recorded traces into planes and words.
+//! The Booleans of an instant, from recorded traces into planes.
 //!
 //! Of 64 Boolean columns a trace set keeps the cells of a row as the bits of one word. The words of
-//! all lanes stand side by side, and a transposition turns them into planes. Integers go into their
-//! words one by one.
+//! all lanes stand side by side, and a transposition turns them into planes.
 //!
 //! ```text
 //! rows    lane 0, lane 1, ... lane 63 of the first 64 columns, then those of the next 64
 //! ```
 
 ghost use Rattle.std.specs.Prelude.{◌≡◌, ◌≢◌, ℕ, ◌<◌, ◌≤◌, ◌+◌, ◌*◌, true, length, All, get_or};
-ghost use Rattle.std.specs.Prelude.{pos, int_le, slice_index, slice_index_or, []};
+ghost use Rattle.std.specs.Prelude.{pos, int_le, slice_index};
 ghost use Rattle.lb_static.specs.Signature.{kinds_of};
-ghost use Rattle.lb_flat.specs.Packed.{truth_columns, number_columns};
-ghost use Rattle.lb_lanes.specs.Kernels.{AreInts, lane_of};
+ghost use Rattle.lb_flat.specs.Packed.{truth_columns};
 ghost use Rattle.lb_lanes.specs.Planes.{on};
 ghost use Rattle.lb_sim.specs.InputRows.{HaveInstant, member_cell};
 
-use crate::lane_bits::{groups_of, put_numbers, size_of_group, turn_group};
+use crate::lane_bits::{groups_of, size_of_group, turn_group};
 use lb_flat::TraceSet;
-use lb_lanes::{IntLanes, Plane};
+use lb_lanes::Plane;
 
 /// An instant of the members of a batch, in the lanes that are live.
 #[derive(Clone, Copy)]
@@ -110,45 +108,4 @@ pub(crate) fn load_truths(at: &Instant<'_, '_>, rows: &mut [u64], planes: &mut [
 {
     gather(at, rows);
     turn(rows, planes);
-}
-
-// Puts the integers of a member into its lane if that is live.
-fn put_member(at: &Instant<'_, '_>, i: usize, words: &mut [IntLanes])
-    requires member { i < length at.now.members.now }
-    requires room { length words.old
-        ≡ length (number_columns 0 (kinds_of at.now.set.now.signature)) }
-    requires ints { All AreInts words.old }
-    ensures words { length words.new ≡ length words.old }
-    ensures ints { All AreInts words.new }
-    ensures put { on at.now.live.0 i ≡ true → (w : ℕ)
-        → w < length (number_columns 0 (kinds_of at.now.set.now.signature))
-        → lane_of (slice_index_or words.new w []) i
-        ≡ member_cell at.now.set.now at.now.members.now at.now.t i
-        (get_or (number_columns 0 (kinds_of at.now.set.now.signature)) w 0) }
-    ensures others { (w k : ℕ)
-        → w < length (number_columns 0 (kinds_of at.now.set.now.signature)) → k < 64 → k ≢ i
-        → lane_of (slice_index_or words.new w []) k ≡ lane_of (slice_index_or words.old w []) k }
-{
-    if !at.live.get(i as u32) {
-        return;
-    }
-    put_numbers(words, i as u32, at.set.numbers(at.members[i], at.t));
-}
-
-/// Puts the integers of the signature into words.
-pub(crate) fn load_numbers(at: &Instant<'_, '_>, words: &mut [IntLanes])
-    requires room { length words.old
-        ≡ length (number_columns 0 (kinds_of at.now.set.now.signature)) }
-    requires ints { All AreInts words.old }
-    ensures words { length words.new ≡ length words.old }
-    ensures ints { All AreInts words.new }
-    ensures put { (i w : ℕ) → i < 64 → on at.now.live.0 i ≡ true
-        → w < length (number_columns 0 (kinds_of at.now.set.now.signature))
-        → lane_of (slice_index_or words.new w []) i
-        ≡ member_cell at.now.set.now at.now.members.now at.now.t i
-        (get_or (number_columns 0 (kinds_of at.now.set.now.signature)) w 0) }
-{
-    for i in 0..at.members.len() {
-        put_member(at, i, words);
-    }
 }

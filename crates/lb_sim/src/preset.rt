@@ -1,8 +1,7 @@
 //! The planes and words that are there before the code runs.
 
-ghost use Rattle.std.specs.Prelude.{◌≡◌, ℕ, ◌+◌, ◌<◌, ◌≤◌, pos, length, All, IfOk, OnOk, IsTrue};
+ghost use Rattle.std.specs.Prelude.{◌≡◌, ℕ, ◌+◌, ◌<◌, ◌≤◌, pos, length, IfOk, OnOk};
 ghost use Rattle.std.specs.Prelude.{slice_index, slice_index_or};
-ghost use Rattle.lb_lanes.specs.Operators.{is_int};
 ghost use Rattle.lb_lanes.specs.Planes.{on};
 
 use lb_machine::{PlaneId, WordId};
@@ -13,7 +12,7 @@ use std::alloc::{AllocError, Global};
 #[derive(Drop)]
 pub(crate) struct Preset {
     pub(crate) planes: Vec<u64>,
-    pub(crate) words: Vec<i64>,
+    pub(crate) words: Vec<i32>,
     pub(crate) ghost nowhere: { slice_index planes.items 0 ≡ 0 },
     pub(crate) ghost everywhere: { slice_index planes.items 1 ≡ 18446744073709551615 },
     pub(crate) ghost zero: { slice_index_or words.items 0 (pos 0) ≡ pos 0 },
@@ -21,7 +20,6 @@ pub(crate) struct Preset {
     pub(crate) ghost one_word: { 1 ≤ length words.items },
     pub(crate) ghost few_planes: { length planes.items ≤ 4294967295 },
     pub(crate) ghost few_words: { length words.items ≤ 4294967295 },
-    pub(crate) ghost ints: { All (λ v. IsTrue (is_int v)) words.items },
 }
 
 impl Preset {
@@ -36,7 +34,7 @@ impl Preset {
         planes.push(0u64)?;
         planes.push(u64::MAX)?;
         let mut words = Vec::new(alloc);
-        words.push(0i64)?;
+        words.push(0i32)?;
         Ok(Preset { planes, words })
     }
 
@@ -72,7 +70,7 @@ impl Preset {
         if id >= u32::MAX as usize {
             return Err(AllocError);
         }
-        self.words.push(i64::from(value))?;
+        self.words.push(value)?;
         Ok(WordId(id as u32))
     }
 }

@@ -47,7 +47,7 @@ pub struct LaneProgram<'a> {
     pub kept: Vec<Holding>,
     /// What the planes and the words before the code hold before the first instant, in each lane.
     pub start_planes: Vec<u64>,
-    pub start_words: Vec<i64>,
+    pub start_words: Vec<i32>,
     /// The first word of the constants, and the first plane and the first word of the memories.
     pub constant_word: u32,
     pub memory_plane: u32,

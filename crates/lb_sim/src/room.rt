@@ -1,15 +1,14 @@
 //! The room of a worker: planes, words, verdicts and inputs, which it takes once for all batches.
 
-ghost use Rattle.std.specs.Prelude.{◌≡◌, ◌≢◌, ◌<◌, ◌≤◌, true, false, length, All, get_or, IfOk};
+ghost use Rattle.std.specs.Prelude.{◌≡◌, ◌≢◌, ◌<◌, ◌≤◌, true, false, length, get_or, IfOk};
 ghost use Rattle.lb_check.specs.declared.verdict.Verdict.TheVariants.{Passed};
-ghost use Rattle.lb_lanes.specs.Kernels.{AreInts};
 
 use crate::batch_run::BatchRun;
 use crate::inputs::Inputs;
 use crate::lane_bits::zeros;
 use crate::program::LaneProgram;
 use lb_check::Verdict;
-use lb_lanes::IntLanes;
+use lb_lanes::LaneWord;
 use lb_syntax::Kind;
 use std::alloc::{AllocError, Global};
 
@@ -24,10 +23,9 @@ use std::alloc::{AllocError, Global};
 #[derive(Drop)]
 pub struct BatchRoom {
     pub(crate) planes: Vec<u64>,
-    pub(crate) words: Vec<IntLanes>,
+    pub(crate) words: Vec<LaneWord>,
     pub(crate) verdicts: Vec<Verdict>,
     pub(crate) inputs: Inputs,
-    pub(crate) ghost ints: { All AreInts words.items },
     pub(crate) ghost verdicts_room: { length verdicts.items ≡ 64 },
 }
 

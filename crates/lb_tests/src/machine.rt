@@ -1,12 +1,11 @@
 //! Code over planes and words: what its places hold once it has run. What is wanted was worked out
 //! apart.
 
-ghost use Rattle.std.specs.Prelude.{◌≡◌, ◌<◌, ◌≤◌, ◌+◌, All, IfOk, IfSome, length};
-ghost use Rattle.lb_lanes.specs.Kernels.{AreInts};
+ghost use Rattle.std.specs.Prelude.{◌≡◌, ◌<◌, ◌≤◌, ◌+◌, IfSome, length};
 
-use crate::lanes::{number, operator, pair};
+use crate::lanes::{number, operator};
 use crate::tables::{Asks, Table, check};
-use lb_lanes::{IntLanes, IntOperator};
+use lb_lanes::{IntOperator, LaneWord};
 use lb_machine::{Code, Comparison, PlaneId, PlaneOperator, WordId, carry_planes, carry_words};
 use std::alloc::{AllocError, Global};
 use std::process::Abort;
@@ -130,23 +129,27 @@ fn built(alloc: Global, commands: &str) -> Result<(Code, Vec<Made>), AllocError>
     Ok((code, all))
 }
 
+// The two integers in lanes 0 and 1, and 0 elsewhere.
+fn pair(first: i32, second: i32) -> LaneWord {
+    let mut word = LaneWord::splat(0);
+    word.set(0, first);
+    word.set(1, second);
+    word
+}
+
 // The word 0, two further ones, and words of 0 behind them.
 fn words_for(
     alloc: Global,
-    first: IntLanes,
-    second: IntLanes,
+    first: LaneWord,
+    second: LaneWord,
     count: u32,
-) -> Result<Vec<IntLanes>, AllocError>
-    requires first { AreInts first }
-    requires second { AreInts second }
-    ensures { IfOk result (λ words. All AreInts words.items) }
-{
+) -> Result<Vec<LaneWord>, AllocError> {
     let mut words = Vec::new(alloc);
-    words.push(IntLanes::splat(0))?;
+    words.push(LaneWord::splat(0))?;
     words.push(first)?;
     words.push(second)?;
     for _ in 3..count {
-        words.push(IntLanes::splat(0))?;
+        words.push(LaneWord::splat(0))?;
     }
     Ok(words)
 }
@@ -171,7 +174,7 @@ fn push_plane(planes: &[u64], p: PlaneId, said: &mut String) -> Result<(), Alloc
     }
 }
 
-fn push_word(words: &[IntLanes], w: WordId, said: &mut String) -> Result<(), AllocError> {
+fn push_word(words: &[LaneWord], w: WordId, said: &mut String) -> Result<(), AllocError> {
     match words.get(w.0 as usize) {
         Some(word) => {
             write!(
@@ -190,7 +193,7 @@ fn push_word(words: &[IntLanes], w: WordId, said: &mut String) -> Result<(), All
 // What stands where the commands said.
 fn push_made(
     planes: &[u64],
-    words: &[IntLanes],
+    words: &[LaneWord],
     all: &[Made],
     said: &mut String,
 ) -> Result<(), AllocError> {
@@ -212,12 +215,10 @@ fn push_made(
 fn push_run(
     code: &Code,
     planes: &mut [u64],
-    words: &mut [IntLanes],
+    words: &mut [LaneWord],
     all: &[Made],
     said: &mut String,
-) -> Result<(), AllocError>
-    requires { All AreInts words.old }
-{
+) -> Result<(), AllocError> {
     if planes.len() != code.planes as usize || words.len() != code.words as usize {
         return said.push_str("no room");
     }

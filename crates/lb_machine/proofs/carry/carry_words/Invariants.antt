@@ -1,11 +1,7 @@
-use Rattle.std.proofs.Common.{[], All}
-use Rattle.lb_lanes.specs.Kernels.{AreInts}
+use Rattle.std.proofs.Common.{[]}
 use Rattle.lb_machine.specs.declared.instruction.WordId.{WordId}
 use Rattle.lb_machine.proofs.Carrying.{IsCarried}
 use Rattle.lb_machine.proofs.carry.carry_words.Given as goal
 
 abbrev pub invariant-loop-j : goal.invariant-loop-j
-invariant-loop-j l = record {
-  carried : IsCarried [] (λ (s : WordId). s.0) l.first l.sources l.fn.words l.words l.j;
-  ints : All AreInts l.words;
-}
+invariant-loop-j l = IsCarried [] (λ (s : WordId). s.0) l.first l.sources l.fn.words l.words l.j

@@ -11,10 +11,10 @@ returns-clause-computed c i h =
     let r = c.run.ensures in
     computed p c.args.code.now c.requires.law (length x.planes.items) (length x.words.items)
     (x.planes_room
-    ∙ ap length x.columns.all_truths
+    ∙ x.columns.all_truths
     ∙ ap (λ ks. length (truth_columns 0 ks)) c.requires.signature)
     (x.words_room
-    ∙ ap length x.columns.all_numbers
+    ∙ x.columns.all_numbers
     ∙ ap (λ ks. length (number_columns 0 ks)) c.requires.signature)
     c.args.planes.now c.hand_over.new.planes c.run.new.planes c.args.words.now
     c.hand_over.new.words c.run.new.words e.first_planes e.other_planes e.first_words

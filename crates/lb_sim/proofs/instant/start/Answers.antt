@@ -1,13 +1,7 @@
-use Rattle.std.proofs.Common.{◌≡◌, ◌<◌, ◌+◌, All, length, pos, sym, ap, ◌∙◌, subst, arith}
-use Rattle.std.specs.Prelude.{IsTrue, slice_index, slice_index_or}
-use Rattle.lb_lanes.specs.Operators.{is_int}
-use Rattle.lb_sim.proofs.LanePrograms.{start_ints, start_planes_room, start_words_room}
+use Rattle.std.proofs.Common.{◌≡◌, ◌<◌, ◌+◌, length, pos, ap, ◌∙◌, subst, arith}
+use Rattle.std.specs.Prelude.{slice_index, slice_index_or}
+use Rattle.lb_sim.proofs.LanePrograms.{start_planes_room, start_words_room}
 use Rattle.lb_sim.proofs.instant.start.Goals as goal
-
-pub put_start-requires-clause-start : goal.put_start-requires-clause-start
-put_start-requires-clause-start c =
-    subst (λ xs. All (λ v. IsTrue (is_int v)) xs) (sym c.as_slice-2.ensures.value)
-    (start_ints c.args.program.now)
 
 pub returns-clause-first_planes : goal.returns-clause-first_planes
 returns-clause-first_planes c k h =

@@ -1,8 +1,7 @@
-use Rattle.std.proofs.Common.{All, List, length, get_or, refl, sym, ap, ◌∙◌, subst, arith, rules}
+use Rattle.std.proofs.Common.{List, length, get_or, refl, ap, ◌∙◌, arith, rules}
 use Rattle.std.proofs.lemmas.List.{with_items_is, places}
 use Rattle.lb_check.specs.declared.verdict.Verdict.{Verdict}
 use Rattle.lb_check.specs.declared.verdict.Verdict.TheVariants.{Passed}
-use Rattle.lb_lanes.specs.Kernels.{AreInts}
 use Rattle.lb_sim.proofs.BatchSteps.{started_as, begun_constants, begun_constant_words}
 use Rattle.lb_sim.proofs.BatchSteps.{begun_stands, all_passed}
 use Rattle.lb_sim.proofs.batch_run.BatchRun.begun.Goals as goal
@@ -59,11 +58,6 @@ invariant_of-result-clause-words_room c =
     ∙ c.start.ensures.words
     ∙ ap length c.as_mut_slice-2.ensures.value
     ∙ c.requires.words
-
-pub invariant_of-result-clause-ints : goal.invariant_of-result-clause-ints
-invariant_of-result-clause-ints c =
-    let words_are = with_items_is c.args.words c.start.new.words (search (rules, places)) in
-    subst (λ xs. All AreInts xs) (sym words_are) c.start.ensures.ints
 
 pub invariant_of-result-clause-verdicts_room : goal.invariant_of-result-clause-verdicts_room
 invariant_of-result-clause-verdicts_room c =

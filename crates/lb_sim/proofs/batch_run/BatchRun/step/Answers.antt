@@ -1,6 +1,5 @@
-use Rattle.std.proofs.Common.{All, length, sym, ap, ◌∙◌, subst, rules}
+use Rattle.std.proofs.Common.{length, sym, ap, ◌∙◌, rules}
 use Rattle.std.proofs.lemmas.List.{with_items_is, places}
-use Rattle.lb_lanes.specs.Kernels.{AreInts}
 use Rattle.lb_sim.specs.Inputs.{inputs_row}
 use Rattle.lb_sim.proofs.BatchSteps.{moved_as, run_moves, run_settled, run_going}
 use Rattle.lb_sim.proofs.batch_run.BatchRun.step.Goals as goal
@@ -112,12 +111,6 @@ invariant_of-self-clause-words_room c =
     ∙ c.advance-passed.ensures.words
     ∙ ap length c.as_mut_slice-2.ensures.value
     ∙ run.words_room
-
-pub invariant_of-self-clause-ints : goal.invariant_of-self-clause-ints
-invariant_of-self-clause-ints c =
-    let run = c.args.self.now in
-    let words_are = with_items_is run.words c.advance-passed.new.words (search (rules, places)) in
-    subst (λ xs. All AreInts xs) (sym words_are) c.advance-passed.ensures.ints
 
 pub invariant_of-self-clause-verdicts_room : goal.invariant_of-self-clause-verdicts_room
 invariant_of-self-clause-verdicts_room c =

@@ -1,3 +1,4 @@
+use Rattle.std.proofs.Common.{◌∙◌}
 use Rattle.lb_sim.proofs.RowsLoaded.{row_handed}
 use Rattle.lb_sim.proofs.inputs.Inputs.hand_over.Goals as goal
 
@@ -5,6 +6,6 @@ pub returns-clause-rows : goal.returns-clause-rows
 returns-clause-rows c i h =
     let x = c.args.self.now in
     row_handed i x.columns.kinds.items x.planes.items c.copy_planes.new.planes _ x.words.items
-    c.copy_words.new.words _ x.columns.truths.items x.columns.numbers.items x.columns.all_truths
-    x.columns.all_numbers x.planes_room x.words_room c.as_slice.ensures.value
+    c.copy_words.new.words _ (x.planes_room ∙ x.columns.all_truths)
+    (x.words_room ∙ x.columns.all_numbers) c.as_slice.ensures.value
     c.as_slice-2.ensures.value c.copy_planes.ensures.put c.copy_words.ensures.put

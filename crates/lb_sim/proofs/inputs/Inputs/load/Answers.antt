@@ -9,15 +9,15 @@ load_truths-requires-clause-room c =
     let x = c.args.self.now in
     let same : length c.as_mut_slice-2.result.now ≡ length c.args.self.now.planes.items =
     search rules in
-    same ∙ x.planes_room ∙ ap length x.columns.all_truths
+    same ∙ x.planes_room ∙ x.columns.all_truths
     ∙ ap (λ kinds. length (truth_columns 0 kinds)) (sym c.requires.kinds)
 
-pub load_numbers-requires-clause-room : goal.load_numbers-requires-clause-room
-load_numbers-requires-clause-room c =
+pub load_numbers-requires : goal.load_numbers-requires
+load_numbers-requires c =
     let x = c.args.self.now in
     let same : length c.as_mut_slice-3.result.now ≡ length c.args.self.now.words.items =
     search rules in
-    same ∙ x.words_room ∙ ap length x.columns.all_numbers
+    same ∙ x.words_room ∙ x.columns.all_numbers
     ∙ ap (λ kinds. length (number_columns 0 kinds)) (sym c.requires.kinds)
 
 pub returns-clause-rows : goal.returns-clause-rows

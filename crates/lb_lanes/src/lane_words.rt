@@ -1,0 +1,115 @@
+//! Lane words: 64 integers of 32 bits side by side.
+
+ghost use Rattle.std.specs.Prelude.{◌≡◌, ℕ, ◌<◌, ◌==◌, List, ℤ, map, int_lt, int_le};
+ghost use Rattle.std.specs.Prelude.{if◌then◌else◌};
+ghost use Rattle.std.specs.Int.{cast_signed, w32};
+ghost use Rattle.std.specs.Ordering.{int_eq};
+ghost use Rattle.lb_lanes.specs.Kernels.{AreInts, IsBlend, IsKernel, lane_of};
+ghost use Rattle.lb_lanes.specs.Operators.{result_of};
+ghost use Rattle.lb_lanes.specs.Planes.{IsPlaneOf};
+
+use crate::exact_words::{AtMost, Below, Equal, blend_each, run_each, tested_each};
+use crate::int_operator::IntOperator;
+use crate::planes::Plane;
+use std::marker::Model;
+
+/// 64 integers in the range of `int`, a lane each.
+///
+/// The operators compute in the lanes of the active plane alone, and give the lanes with a fault as
+/// a plane. No lane can be out of the range of `int`.
+#[derive(Drop)]
+pub struct LaneWord {
+    lanes: [u32; 64],
+}
+
+impl Model for LaneWord {
+    ghost Value = { List ℤ };
+
+    ghost view = { λ s. map (cast_signed w32) s.lanes };
+}
+
+impl LaneWord {
+    /// The value in every lane.
+    pub fn splat(value: i32) -> LaneWord
+        ensures { (i : ℕ) → i < 64 → lane_of result i ≡ value }
+    {
+        LaneWord {
+            lanes: [value.cast_unsigned(); 64],
+        }
+    }
+
+    /// Tells a proof that every lane is in the range of `int`. It does nothing when it runs.
+    pub fn are_ints(&self)
+        ensures { AreInts self.now }
+    {
+        let _ = &self.lanes;
+    }
+
+    /// The lane, a number below 64.
+    pub fn get(&self, lane: u32) -> i32
+        requires { lane < 64 }
+        ensures { result ≡ lane_of self.now lane }
+    {
+        self.lanes[lane as usize].cast_signed()
+    }
+
+    /// Puts the value into the lane, a number below 64.
+    pub fn set(&mut self, lane: u32, value: i32)
+        requires { lane < 64 }
+        ensures { (i : ℕ) → i < 64
+            → lane_of self.new i ≡ (if i == lane then value else lane_of self.old i) }
+    {
+        self.lanes[lane as usize] = value.cast_unsigned();
+    }
+
+    /// The lanes that are equal in both.
+    pub fn eq(&self, other: &LaneWord) -> Plane
+        ensures { IsPlaneOf (λ i. int_eq (lane_of self.now i) (lane_of other.now i)) result.0 }
+    {
+        Plane(tested_each::<Equal>(&self.lanes, &other.lanes))
+    }
+
+    /// The lanes that are below those of `other`.
+    pub fn lt(&self, other: &LaneWord) -> Plane
+        ensures { IsPlaneOf (λ i. int_lt (lane_of self.now i) (lane_of other.now i)) result.0 }
+    {
+        Plane(tested_each::<Below>(&self.lanes, &other.lanes))
+    }
+
+    /// The lanes that are at most those of `other`.
+    pub fn le(&self, other: &LaneWord) -> Plane
+        ensures { IsPlaneOf (λ i. int_le (lane_of self.now i) (lane_of other.now i)) result.0 }
+    {
+        Plane(tested_each::<AtMost>(&self.lanes, &other.lanes))
+    }
+
+    /// Takes over all lanes of another word.
+    pub fn copy_from(&mut self, other: &LaneWord)
+        ensures { self.new ≡ other.now }
+    {
+        self.lanes = other.lanes;
+    }
+
+    /// Takes over the lanes of `a` where the mask is true, and those of `b` where it is not.
+    pub fn set_blend(&mut self, mask: Plane, a: &LaneWord, b: &LaneWord)
+        ensures { IsBlend mask.0 a.now b.now self.new }
+    {
+        blend_each(mask.0, &a.lanes, &b.lanes, &mut self.lanes);
+    }
+
+    /// Puts the lanes after an operator into `out`, and gives the faults: where the operator has no
+    /// result, or one out of the range of `int`.
+    ///
+    /// A lane that is not active, or has a fault, gets 0.
+    pub fn operate(
+        &self,
+        op: IntOperator,
+        other: &LaneWord,
+        active: Plane,
+        out: &mut LaneWord,
+    ) -> Plane
+        ensures lanes { IsKernel (result_of op) self.now other.now active.0 out.new result.0 }
+    {
+        Plane(run_each(op, &self.lanes, &other.lanes, active.0, &mut out.lanes))
+    }
+}

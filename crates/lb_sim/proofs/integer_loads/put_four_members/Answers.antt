@@ -1,0 +1,21 @@
+use Rattle.std.proofs.Common.{◌∙◌, arith, get_or}
+use Rattle.lb_static.specs.Signature.{kinds_of}
+use Rattle.lb_flat.specs.Packed.{number_columns}
+use Rattle.lb_sim.specs.InputRows.{member_cell}
+use Rattle.lb_sim.proofs.IntegerLoads.{four_are}
+use Rattle.lb_sim.proofs.integer_loads.put_four_members.Goals as goal
+
+pub returns : goal.returns
+returns c =
+    let at = c.args.at.now in
+    let columns = number_columns 0 (kinds_of at.set.now.signature) in
+    record {
+      words = c.put_four.ensures.words;
+      put = λ i w ge lt e l.
+          c.put_four.ensures.put w i (omega (arith, l, c.requires.room)) ge lt
+          ∙ four_are c.args.first i _ _ _ _
+          (λ k. member_cell at.set.now at.members.now at.t k (get_or columns w 0))
+          (c.numbers_of.ensures.numbers w l) (c.numbers_of-2.ensures.numbers w l)
+          (c.numbers_of-3.ensures.numbers w l) (c.numbers_of-4.ensures.numbers w l) ge lt;
+      others = λ i w h o l. c.put_four.ensures.others w i h o;
+    }

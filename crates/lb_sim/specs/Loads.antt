@@ -1,0 +1,26 @@
+-- The integers of some members of a batch, in the lanes of words.
+-- Source: this project's rule.
+use Rattle.std.specs.Prelude.{◌≡◌, ℕ, ◌<◌, ◌≤◌, ◌+◌, ◌⊎◌, ◌==◌, true, List, [], ℤ, length}
+use Rattle.std.specs.Prelude.{get_or, slice_index_or, if◌then◌else◌}
+use Rattle.lb_flat.specs.Traces.{Recording}
+use Rattle.lb_lanes.specs.Kernels.{lane_of}
+use Rattle.lb_lanes.specs.Planes.{on}
+use Rattle.lb_sim.specs.InputRows.{member_cell}
+
+-- the one of four integers that stands at a lane, where they stand side by side from a first one on
+abbrev pub one_of_four : ℕ → ℤ → ℤ → ℤ → ℤ → ℕ → ℤ
+one_of_four first a b c d i =
+    if i == first + 3 then d
+    else if i == first + 2 then c else if i == first + 1 then b else a
+
+-- the lanes of the members from a first one up to an end have their integers, where they are live,
+-- a word for each of these columns; no other lane has changed
+pub record AreLoaded (r : Recording) (members : List ℕ) (t live : ℕ) (columns : List ℕ)
+    (first end : ℕ) (old new : List (List ℤ)) : Type 0 where
+  pub words : length new ≡ length old
+  pub put :
+      (i w : ℕ) → first ≤ i → i < end → on live i ≡ true → w < length columns →
+      lane_of (slice_index_or new w []) i ≡ member_cell r members t i (get_or columns w 0)
+  pub others :
+      (i w : ℕ) → i < 64 → (i < first) ⊎ (end ≤ i) → w < length columns →
+      lane_of (slice_index_or new w []) i ≡ lane_of (slice_index_or old w []) i

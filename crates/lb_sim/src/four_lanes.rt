@@ -1,0 +1,56 @@
+//! Integers of four members at a time, into four lanes of words that lie side by side.
+//!
+//! ```text
+//! member 8   1 2 3        word 0, lanes 8 to 11   1 4 7 0
+//! member 9   4 5 6    =>  word 1, lanes 8 to 11   2 5 8 0
+//! member 10  7 8 9        word 2, lanes 8 to 11   3 6 9 0
+//! member 11  0 0 0
+//! ```
+
+ghost use Rattle.std.specs.Prelude.{◌≡◌, ℕ, ◌<◌, ◌≤◌, ◌+◌, ◌⊎◌, length, slice_index_or, get_or};
+ghost use Rattle.std.specs.Prelude.{[], pos};
+ghost use Rattle.lb_lanes.specs.Kernels.{lane_of};
+ghost use Rattle.lb_sim.specs.Loads.{one_of_four};
+
+use lb_lanes::LaneWord;
+
+// Puts four integers into lanes of a word that lie side by side.
+fn set_four(word: &mut LaneWord, first: u32, a: i32, b: i32, c: i32, d: i32)
+    requires { first + 4 ≤ 64 }
+    ensures put { (i : ℕ) → first ≤ i → i < first + 4
+        → lane_of word.new i ≡ one_of_four first a b c d i }
+    ensures others { (i : ℕ) → i < 64 → (i < first) ⊎ (first + 4 ≤ i)
+        → lane_of word.new i ≡ lane_of word.old i }
+{
+    word.set(first, a);
+    word.set(first + 1, b);
+    word.set(first + 2, c);
+    word.set(first + 3, d);
+}
+
+/// Puts the integers of four rows into four lanes of words, one each.
+pub(crate) fn put_four(
+    words: &mut [LaneWord],
+    first: u32,
+    a: &[i32],
+    b: &[i32],
+    c: &[i32],
+    d: &[i32],
+)
+    requires lanes { first + 4 ≤ 64 }
+    requires row_a { length a.now ≡ length words.old }
+    requires row_b { length b.now ≡ length words.old }
+    requires row_c { length c.now ≡ length words.old }
+    requires row_d { length d.now ≡ length words.old }
+    ensures words { length words.new ≡ length words.old }
+    ensures put { (w i : ℕ) → w < length words.old → first ≤ i → i < first + 4
+        → lane_of (slice_index_or words.new w []) i
+        ≡ one_of_four first (get_or a.now w (pos 0)) (get_or b.now w (pos 0))
+        (get_or c.now w (pos 0)) (get_or d.now w (pos 0)) i }
+    ensures others { (w i : ℕ) → i < 64 → (i < first) ⊎ (first + 4 ≤ i)
+        → lane_of (slice_index_or words.new w []) i ≡ lane_of (slice_index_or words.old w []) i }
+{
+    for w in 0..words.len() {
+        set_four(&mut words[w], first, a[w], b[w], c[w], d[w]);
+    }
+}

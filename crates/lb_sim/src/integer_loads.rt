@@ -1,0 +1,109 @@
+//! The integers of an instant, from recorded traces into words.
+//!
+//! Each row goes into a lane of the words of its integers: those of four members at a time, where
+//! all four have the instant, and else one by one.
+
+ghost use Rattle.std.specs.Prelude.{◌≡◌, ◌≢◌, ℕ, ◌<◌, ◌≤◌, ◌+◌, true, length, get_or};
+ghost use Rattle.std.specs.Prelude.{pos, slice_index_or, []};
+ghost use Rattle.lb_static.specs.Signature.{kinds_of};
+ghost use Rattle.lb_flat.specs.Packed.{number_columns};
+ghost use Rattle.lb_lanes.specs.Kernels.{lane_of};
+ghost use Rattle.lb_lanes.specs.Planes.{on};
+ghost use Rattle.lb_sim.specs.InputRows.{member_cell};
+ghost use Rattle.lb_sim.specs.Loads.{AreLoaded};
+
+use crate::four_lanes::put_four;
+use crate::lane_bits::put_numbers;
+use crate::loads::Instant;
+use lb_lanes::LaneWord;
+
+// The integers of a member whose lane is live.
+fn numbers_of<'a>(at: &Instant<'a, '_>, i: usize) -> &'a [i32]
+    requires member { i < length at.now.members.now }
+    requires live { on at.now.live.0 i ≡ true }
+    ensures count { length result.now
+        ≡ length (number_columns 0 (kinds_of at.now.set.now.signature)) }
+    ensures numbers { (w : ℕ) → w < length (number_columns 0 (kinds_of at.now.set.now.signature))
+        → get_or result.now w (pos 0) ≡ member_cell at.now.set.now at.now.members.now at.now.t i
+        (get_or (number_columns 0 (kinds_of at.now.set.now.signature)) w 0) }
+{
+    at.set.numbers(at.members[i], at.t)
+}
+
+// Puts the integers of a member into its lane if that is live.
+fn put_member(at: &Instant<'_, '_>, i: usize, words: &mut [LaneWord])
+    requires member { i < length at.now.members.now }
+    requires room { length words.old
+        ≡ length (number_columns 0 (kinds_of at.now.set.now.signature)) }
+    ensures { AreLoaded at.now.set.now at.now.members.now at.now.t at.now.live.0
+        (number_columns 0 (kinds_of at.now.set.now.signature)) i (i + 1) words.old words.new }
+{
+    if !at.live.get(i as u32) {
+        return;
+    }
+    put_numbers(words, i as u32, numbers_of(at, i));
+}
+
+// Puts the integers of the members from one on into the lanes that are live, one by one.
+fn put_each(at: &Instant<'_, '_>, first: usize, end: usize, words: &mut [LaneWord])
+    requires order { first ≤ end }
+    requires members { end ≤ length at.now.members.now }
+    requires room { length words.old
+        ≡ length (number_columns 0 (kinds_of at.now.set.now.signature)) }
+    ensures { AreLoaded at.now.set.now at.now.members.now at.now.t at.now.live.0
+        (number_columns 0 (kinds_of at.now.set.now.signature)) first end words.old words.new }
+{
+    for i in first..end {
+        put_member(at, i, words);
+    }
+}
+
+// Whether four lanes are live, from one on.
+fn are_live(at: &Instant<'_, '_>, first: u32) -> bool
+    requires { first + 4 ≤ 64 }
+    ensures { result ≡ true → (i : ℕ) → first ≤ i → i < first + 4 → on at.now.live.0 i ≡ true }
+{
+    at.live.get(first) && at.live.get(first + 1) && at.live.get(first + 2) && at.live.get(first + 3)
+}
+
+// Puts the integers of four members into their lanes.
+fn put_four_members(at: &Instant<'_, '_>, first: usize, words: &mut [LaneWord])
+    requires members { first + 4 ≤ length at.now.members.now }
+    requires room { length words.old
+        ≡ length (number_columns 0 (kinds_of at.now.set.now.signature)) }
+    ensures { AreLoaded at.now.set.now at.now.members.now at.now.t at.now.live.0
+        (number_columns 0 (kinds_of at.now.set.now.signature)) first (first + 4)
+        words.old words.new }
+{
+    if !are_live(at, first as u32) {
+        put_each(at, first, first + 4, words);
+        return;
+    }
+    put_four(
+        words,
+        first as u32,
+        numbers_of(at, first),
+        numbers_of(at, first + 1),
+        numbers_of(at, first + 2),
+        numbers_of(at, first + 3),
+    );
+}
+
+/// Puts the integers of the signature into words.
+pub(crate) fn load_numbers(at: &Instant<'_, '_>, words: &mut [LaneWord])
+    requires { length words.old
+        ≡ length (number_columns 0 (kinds_of at.now.set.now.signature)) }
+    ensures words { length words.new ≡ length words.old }
+    ensures put { (i w : ℕ) → i < 64 → on at.now.live.0 i ≡ true
+        → w < length (number_columns 0 (kinds_of at.now.set.now.signature))
+        → lane_of (slice_index_or words.new w []) i
+        ≡ member_cell at.now.set.now at.now.members.now at.now.t i
+        (get_or (number_columns 0 (kinds_of at.now.set.now.signature)) w 0) }
+{
+    let count = at.members.len();
+    let fours = count / 4;
+    for f in 0..fours {
+        put_four_members(at, 4 * f, words);
+    }
+    put_each(at, 4 * fours, count, words);
+}
