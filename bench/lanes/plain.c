@@ -89,3 +89,53 @@ int plain_any_outside(const int64_t *values, size_t n) {
             return 1;
     return 0;
 }
+
+// The same on lanes of 32 bits.
+#define WORD_OPERATOR(name, exact)                                                                \
+    uint64_t name(const int32_t *a, const int32_t *b, uint64_t active, int32_t *out) {            \
+        uint64_t faults = 0;                                                                      \
+        for (int i = 0; i < 64; i++) {                                                            \
+            int64_t value = exact;                                                                \
+            int live = (active >> i) & 1;                                                         \
+            int bad = value < LEAST || value > MOST;                                              \
+            out[i] = live && !bad ? (int32_t)value : 0;                                           \
+            faults |= (uint64_t)(live && bad) << i;                                               \
+        }                                                                                         \
+        return faults;                                                                            \
+    }
+
+WORD_OPERATOR(plain_word_add, (int64_t)a[i] + b[i])
+WORD_OPERATOR(plain_word_sub, (int64_t)a[i] - b[i])
+WORD_OPERATOR(plain_word_mul, (int64_t)a[i] * b[i])
+
+#define WORD_DIVISION(name, operator)                                                             \
+    uint64_t name(const int32_t *a, const int32_t *b, uint64_t active, int32_t *out) {            \
+        uint64_t faults = 0;                                                                      \
+        for (int i = 0; i < 64; i++) {                                                            \
+            int live = (active >> i) & 1;                                                         \
+            int bad = b[i] == 0 || (a[i] == LEAST && b[i] == -1);                                 \
+            out[i] = live && !bad ? a[i] operator b[i] : 0;                                       \
+            faults |= (uint64_t)(live && bad) << i;                                               \
+        }                                                                                         \
+        return faults;                                                                            \
+    }
+
+WORD_DIVISION(plain_word_div, /)
+WORD_DIVISION(plain_word_rem, %)
+
+#define WORD_TEST(name, operator)                                                                 \
+    uint64_t name(const int32_t *a, const int32_t *b) {                                           \
+        uint64_t plane = 0;                                                                       \
+        for (int i = 0; i < 64; i++)                                                              \
+            plane |= (uint64_t)(a[i] operator b[i]) << i;                                         \
+        return plane;                                                                             \
+    }
+
+WORD_TEST(plain_word_eq, ==)
+WORD_TEST(plain_word_lt, <)
+WORD_TEST(plain_word_le, <=)
+
+void plain_word_blend(uint64_t mask, const int32_t *a, const int32_t *b, int32_t *out) {
+    for (int i = 0; i < 64; i++)
+        out[i] = (mask >> i) & 1 ? a[i] : b[i];
+}

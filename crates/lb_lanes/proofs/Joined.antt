@@ -83,23 +83,31 @@ pub record WrittenBelow (P : ℕ → ℕ → Type 0) (k : ℕ) (first words : Li
   pub done : (i : ℕ) → i < k → P i (get_or words i 0)
   pub rest : (i : ℕ) → k ≤ i → get_or words i 0 ≡ get_or first i 0
 
+pub more_words_joined : (n : ℕ) (P : ℕ → ℕ → Type 0) (first words words' : List ℕ) (k : ℕ)
+    → WrittenBelow P k first words
+    → ((i : ℕ) → i < k → get_or words' i 0 ≡ get_or words i 0)
+    → ((i : ℕ) → k + n ≤ i → get_or words' i 0 ≡ get_or words i 0)
+    → ((j : ℕ) → j < n → P (k + j) (get_or words' (k + j) 0))
+    → WrittenBelow P (k + n) first words'
+more_words_joined n P first words words' k before below above new = record {
+  done = λ i h. at i h (cases_lt i k);
+  rest = λ i le. above i le ∙ before.rest i (omega arith);
+}
+  where
+    at : (i : ℕ) → i < k + n → (i < k) ⊎ (k ≤ i) → P i (get_or words' i 0)
+    at i h (inl l) = subst (P i) (sym (below i l)) (before.done i l)
+    at i h (inr le) =
+        let j = i - k in
+        let e : k + j ≡ i = omega arith in
+        subst (λ m. P m (get_or words' m 0)) e (new j (omega arith))
+
 pub words_joined : (P : ℕ → ℕ → Type 0) (first words words' : List ℕ) (k : ℕ)
     → WrittenBelow P k first words
     → ((i : ℕ) → i < k → get_or words' i 0 ≡ get_or words i 0)
     → ((i : ℕ) → k + 8 ≤ i → get_or words' i 0 ≡ get_or words i 0)
     → ((j : ℕ) → j < 8 → P (k + j) (get_or words' (k + j) 0))
     → WrittenBelow P (k + 8) first words'
-words_joined P first words words' k before below above new = record {
-  done = λ i h. at i h (cases_lt i k);
-  rest = λ i le. above i le ∙ before.rest i (omega arith);
-}
-  where
-    at : (i : ℕ) → i < k + 8 → (i < k) ⊎ (k ≤ i) → P i (get_or words' i 0)
-    at i h (inl l) = subst (P i) (sym (below i l)) (before.done i l)
-    at i h (inr le) =
-        let j = i - k in
-        let e : k + j ≡ i = omega arith in
-        subst (λ n. P n (get_or words' n 0)) e (new j (omega arith))
+words_joined = more_words_joined 8
 
 -- a step of the loop over the rest: the word at k is new
 pub word_joined : (P : ℕ → ℕ → Type 0) (first words : List ℕ) (k v : ℕ) → k < length words

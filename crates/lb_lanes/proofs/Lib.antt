@@ -8,3 +8,9 @@ pub mod Rounds
 pub mod Composed
 pub mod WordViews
 pub mod Checks
+pub mod WordVectors
+pub mod WordArithmetic
+pub mod LaneCases
+pub mod WordProducts
+pub mod ByReciprocals
+pub mod SignedDivisions

@@ -69,14 +69,17 @@ pub on-above : (x k i : ℕ) → x < 2 ^ k → k ≤ i → on x i ≡ false
 unfolding on
 on-above x k i h le = ap (λ n. n == 1) (bit_at_above x k i h le)
 
-pub on-mod : (n i : ℕ) → i < 64 → on (n % 2 ^ 64) i ≡ on n i
+pub on-mod_at : (w n i : ℕ) → i < w → on (n % 2 ^ w) i ≡ on n i
 unfolding on
-on-mod n i h =
-    let m = 63 - i in
-    let e : m + 1 + i ≡ 64 = omega arith in
+on-mod_at w n i h =
+    let m = w - 1 - i in
+    let e : m + 1 + i ≡ w = omega (arith, h) in
     ap (λ x. x == 1)
     (subst (λ w. bit_at (n % 2 ^ w) i ≡ bit_at n i) e (ap (λ x. x % 2) (field n (m + 1) i)
     ∙ mod-mod-pow (n / 2 ^ i) m 1))
+
+pub on-mod : (n i : ℕ) → i < 64 → on (n % 2 ^ 64) i ≡ on n i
+on-mod n i h = on-mod_at 64 n i h
 
 pub on-shr : (x k j : ℕ) → on (x / 2 ^ k) j ≡ on x (k + j)
 unfolding on
@@ -132,7 +135,7 @@ lane_mask_by p h b l =
     same_one : (c : ℕ) → nat_eq (1 * c) c ≡ true
     same_one c = grind arith
 
-lane_mask-on : (keep k : ℕ) → lane_mask keep k ≡ on keep k
+pub lane_mask-on : (keep k : ℕ) → lane_mask keep k ≡ on keep k
 unfolding on
 lane_mask-on keep k =
     ap (λ n. top 63 (cond (nat_eq n (2 ^ k)) 18446744073709551615 0)) (and_pow keep k)

@@ -39,7 +39,7 @@ sum_fits a b f g = search (arith, ints)
 difference_fits : (a b : ℤ) → SFits w32 a → SFits w32 b → SFits w64 (a -ℤ b)
 difference_fits a b f g = search (arith, ints)
 
-abs_int : (v : ℤ) → SFits w32 v → unsigned_abs v ≤ 2147483648
+pub abs_int : (v : ℤ) → SFits w32 v → unsigned_abs v ≤ 2147483648
 abs_int v f = nat_abs-le v f.sfits
 
 -- what the 64-bit sum, difference and product of two words are, as integers

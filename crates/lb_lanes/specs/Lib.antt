@@ -2,3 +2,4 @@ pub mod Operators
 pub mod Planes
 pub mod Kernels
 pub mod Transposes
+pub mod Reciprocals

@@ -8,9 +8,13 @@ ghost use Rattle.lb_lanes.specs.Kernels.{AreInts, IsBlend, IsKernel, lane_of};
 ghost use Rattle.lb_lanes.specs.Operators.{result_of};
 ghost use Rattle.lb_lanes.specs.Planes.{IsPlaneOf};
 
-use crate::exact_words::{AtMost, Below, Equal, blend_each, run_each, tested_each};
 use crate::int_operator::IntOperator;
+use crate::operators::{Quotient, Remainder};
 use crate::planes::Plane;
+use crate::word_divisions::run_division;
+use crate::word_kernels::{Difference, Sum, blend, run};
+use crate::word_products::run_product;
+use crate::word_tests::{AtMost, Below, Equal, tested};
 use std::marker::Model;
 
 /// 64 integers in the range of `int`, a lane each.
@@ -66,21 +70,21 @@ impl LaneWord {
     pub fn eq(&self, other: &LaneWord) -> Plane
         ensures { IsPlaneOf (λ i. int_eq (lane_of self.now i) (lane_of other.now i)) result.0 }
     {
-        Plane(tested_each::<Equal>(&self.lanes, &other.lanes))
+        Plane(tested::<Equal>(&self.lanes, &other.lanes))
     }
 
     /// The lanes that are below those of `other`.
     pub fn lt(&self, other: &LaneWord) -> Plane
         ensures { IsPlaneOf (λ i. int_lt (lane_of self.now i) (lane_of other.now i)) result.0 }
     {
-        Plane(tested_each::<Below>(&self.lanes, &other.lanes))
+        Plane(tested::<Below>(&self.lanes, &other.lanes))
     }
 
     /// The lanes that are at most those of `other`.
     pub fn le(&self, other: &LaneWord) -> Plane
         ensures { IsPlaneOf (λ i. int_le (lane_of self.now i) (lane_of other.now i)) result.0 }
     {
-        Plane(tested_each::<AtMost>(&self.lanes, &other.lanes))
+        Plane(tested::<AtMost>(&self.lanes, &other.lanes))
     }
 
     /// Takes over all lanes of another word.
@@ -94,7 +98,7 @@ impl LaneWord {
     pub fn set_blend(&mut self, mask: Plane, a: &LaneWord, b: &LaneWord)
         ensures { IsBlend mask.0 a.now b.now self.new }
     {
-        blend_each(mask.0, &a.lanes, &b.lanes, &mut self.lanes);
+        blend(mask.0, &a.lanes, &b.lanes, &mut self.lanes);
     }
 
     /// Puts the lanes after an operator into `out`, and gives the faults: where the operator has no
@@ -110,6 +114,13 @@ impl LaneWord {
     ) -> Plane
         ensures lanes { IsKernel (result_of op) self.now other.now active.0 out.new result.0 }
     {
-        Plane(run_each(op, &self.lanes, &other.lanes, active.0, &mut out.lanes))
+        let (a, b, out) = (&self.lanes, &other.lanes, &mut out.lanes);
+        Plane(match op {
+            IntOperator::Add => run::<Sum>(a, b, active.0, out),
+            IntOperator::Sub => run::<Difference>(a, b, active.0, out),
+            IntOperator::Mul => run_product(a, b, active.0, out),
+            IntOperator::Div => run_division::<Quotient>(a, b, active.0, out),
+            IntOperator::Rem => run_division::<Remainder>(a, b, active.0, out),
+        })
     }
 }

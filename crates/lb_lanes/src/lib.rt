@@ -7,14 +7,19 @@
 
 mod chunks;
 mod comparisons;
-mod exact_words;
 mod int_operator;
 mod lane_words;
 mod lanes;
 mod operators;
 mod planes;
+mod reciprocals;
 mod slices;
 mod transposes;
+mod word_chunks;
+mod word_divisions;
+mod word_kernels;
+mod word_products;
+mod word_tests;
 
 pub use int_operator::IntOperator;
 pub use lane_words::LaneWord;

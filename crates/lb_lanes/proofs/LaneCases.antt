@@ -1,0 +1,130 @@
+-- What a lane holds after an operator, by cases.
+use Rattle.std.proofs.Common.{◌≡◌, Bool, true, false, not, ◌&&◌, ℤ, pos, cond, refl, sym, ap, ◌∙◌}
+use Rattle.std.specs.Prelude.{Option, Some, None}
+use Rattle.lb_lanes.specs.Kernels.{kept, faulty}
+use Rattle.lb_lanes.specs.Operators.{is_int, lawful, can_divide, divided_by}
+
+-- a lane with a fault holds 0
+pub kept_at_fault : (live : Bool) (r : Option ℤ) → faulty live r ≡ true → kept live r ≡ pos 0
+kept_at_fault true (Some v) e = cc
+kept_at_fault true None e = refl
+kept_at_fault false r e = refl
+
+lawful_where : (v : ℤ) → is_int v ≡ true → lawful v ≡ Some v
+lawful_where v e = ap (λ b. cond b (Some v) None) e
+
+-- a result in the range of `int`
+pub kept_lawful : (live : Bool) (v : ℤ) → is_int v ≡ true
+    → kept live (lawful v) ≡ cond live v (pos 0)
+kept_lawful live v e = ap (kept live) (lawful_where v e) ∙ by live
+  where
+    by : (b : Bool) → kept b (Some v) ≡ cond b v (pos 0)
+    by true = refl
+    by false = refl
+
+pub faulty_lawful : (live : Bool) (v : ℤ) → is_int v ≡ true → faulty live (lawful v) ≡ false
+faulty_lawful live v e = ap (faulty live) (lawful_where v e) ∙ by live
+  where
+    by : (b : Bool) → faulty b (Some v) ≡ false
+    by true = refl
+    by false = refl
+
+zero_is_int : is_int (pos 0) ≡ true
+unfolding is_int
+zero_is_int = refl
+
+-- an operator on masked operands: 0 and 0 where the lane is not live
+pub masked_value : (f : ℤ → ℤ → ℤ) (live : Bool) (a b r : ℤ) → f (pos 0) (pos 0) ≡ pos 0
+    → (is_int (f (cond live a (pos 0)) (cond live b (pos 0))) ≡ true
+    → r ≡ f (cond live a (pos 0)) (cond live b (pos 0)))
+    → faulty live (lawful (f a b)) ≡ false → r ≡ kept live (lawful (f a b))
+masked_value f false a b r z value e =
+    value (ap is_int z ∙ zero_is_int) ∙ z
+masked_value f true a b r z value e = by (is_int (f a b)) refl
+  where
+    by : (t : Bool) → is_int (f a b) ≡ t → r ≡ kept true (lawful (f a b))
+    by true i = value i ∙ sym (kept_lawful true (f a b) i)
+    by false i =
+        let bad : faulty true (lawful (f a b)) ≡ true =
+        ap (λ t. faulty true (cond t (Some (f a b)) None)) i in
+        cc
+
+pub masked_fault : (f : ℤ → ℤ → ℤ) (live : Bool) (a b : ℤ) → f (pos 0) (pos 0) ≡ pos 0
+    → not (is_int (f (cond live a (pos 0)) (cond live b (pos 0)))) ≡ faulty live (lawful (f a b))
+masked_fault f false a b z = ap (λ v. not (is_int v)) z ∙ ap not zero_is_int
+masked_fault f true a b z = by (is_int (f a b)) refl
+  where
+    by : (t : Bool) → is_int (f a b) ≡ t
+        → not (is_int (f a b)) ≡ faulty true (lawful (f a b))
+    by true i = ap not i ∙ sym (faulty_lawful true (f a b) i)
+    by false i = ap not i ∙ sym (ap (λ t. faulty true (cond t (Some (f a b)) None)) i)
+
+-- a lane that is made 0 where it has a fault
+pub cleared : (t live : Bool) (r : Option ℤ) (z v o : ℤ) → t ≡ faulty live r → o ≡ cond t z v
+    → z ≡ pos 0 → (faulty live r ≡ false → v ≡ kept live r) → o ≡ kept live r
+cleared true live r z v o e w zero value = w ∙ zero ∙ sym (kept_at_fault live r (sym e))
+cleared false live r z v o e w zero value = w ∙ value (sym e)
+
+-- an operator on a masked first operand, whose result is an integer of 32 bits
+pub one_masked : (f : ℤ → ℤ → ℤ) (live : Bool) (a b r : ℤ) → f (pos 0) b ≡ pos 0
+    → is_int r ≡ true → r ≡ f (cond live a (pos 0)) b
+    → (r ≡ kept live (lawful (f a b))) × (faulty live (lawful (f a b)) ≡ false)
+one_masked f true a b r z i e =
+    let within : is_int (f a b) ≡ true = ap is_int (sym e) ∙ i in
+    (e ∙ sym (kept_lawful true (f a b) within), faulty_lawful true (f a b) within)
+one_masked f false a b r z i e = (e ∙ z, refl)
+
+-- a division, where the two can be divided
+pub kept_divided : (live can : Bool) (v : ℤ)
+    → cond (live && can) v (pos 0) ≡ kept live (cond can (Some v) None)
+kept_divided true true v = refl
+kept_divided true false v = refl
+kept_divided false can v = refl
+
+pub faulty_divided : (live can : Bool) (v : ℤ)
+    → (live && not can) ≡ faulty live (cond can (Some v) None)
+faulty_divided true true v = refl
+faulty_divided true false v = refl
+faulty_divided false can v = refl
+
+pub and_right : (a b : Bool) → (a && b) ≡ true → b ≡ true
+and_right true b e = e
+and_right false b e = cc
+
+-- a lane that can be divided where it is live
+pub kept_common : (f : ℤ → ℤ → ℤ) (live : Bool) (a b r : ℤ)
+    → (live ≡ true → (r ≡ f a b) × (can_divide a b ≡ true))
+    → cond live r (pos 0) ≡ kept live (divided_by f a b)
+kept_common f true a b r h =
+    let here = h refl in
+    here.0 ∙ sym (ap (λ t. kept true (cond t (Some (f a b)) None)) here.1)
+kept_common f false a b r h = refl
+
+pub faulty_common : (f : ℤ → ℤ → ℤ) (live : Bool) (a b : ℤ) → (live ≡ true → can_divide a b ≡ true)
+    → false ≡ faulty live (divided_by f a b)
+faulty_common f true a b h = sym (ap (λ t. faulty true (cond t (Some (f a b)) None)) (h refl))
+faulty_common f false a b h = refl
+
+-- an operator on a masked first operand, kept where its result is in the range of `int`
+pub apart_value : (f : ℤ → ℤ → ℤ) (live w : Bool) (a b r o : ℤ) → f (pos 0) b ≡ pos 0
+    → w ≡ is_int (f (cond live a (pos 0)) b)
+    → (is_int (f (cond live a (pos 0)) b) ≡ true → r ≡ f (cond live a (pos 0)) b)
+    → o ≡ cond w r (pos 0) → o ≡ kept live (lawful (f a b))
+apart_value f false w a b r o z e v is =
+    let within : is_int (f (pos 0) b) ≡ true = ap is_int z ∙ zero_is_int in
+    is ∙ ap (λ t. cond t r (pos 0)) (e ∙ within) ∙ v within ∙ z
+apart_value f true w a b r o z e v is = by (is_int (f a b)) refl
+  where
+    by : (t : Bool) → is_int (f a b) ≡ t → o ≡ kept true (lawful (f a b))
+    by true i = is ∙ ap (λ t. cond t r (pos 0)) (e ∙ i) ∙ v i ∙ sym (kept_lawful true (f a b) i)
+    by false i = is ∙ ap (λ t. cond t r (pos 0)) (e ∙ i)
+        ∙ sym (ap (λ t. kept true (cond t (Some (f a b)) None)) i)
+
+pub apart_fault : (f : ℤ → ℤ → ℤ) (live w : Bool) (a b : ℤ) → f (pos 0) b ≡ pos 0
+    → w ≡ is_int (f (cond live a (pos 0)) b) → not w ≡ faulty live (lawful (f a b))
+apart_fault f false w a b z e = ap not (e ∙ ap is_int z ∙ zero_is_int)
+apart_fault f true w a b z e = by (is_int (f a b)) refl
+  where
+    by : (t : Bool) → is_int (f a b) ≡ t → not w ≡ faulty true (lawful (f a b))
+    by true i = ap not (e ∙ i) ∙ sym (faulty_lawful true (f a b) i)
+    by false i = ap not (e ∙ i) ∙ sym (ap (λ t. faulty true (cond t (Some (f a b)) None)) i)

@@ -1,0 +1,69 @@
+//! Division of 32 bits by a multiplication and a shift, for a divisor that serves many lanes.
+//!
+//! A divisor d has a whole number that is 2 ^ s / d rounded up. It is at most 2 ^ 32, so that one
+//! less fits a word, and the products of it with numbers up to 2 ^ 31 have the quotients on top:
+//!
+//! ```text
+//! d = 10    s = 35    2 ^ 35 / 10 = 3435973836.8    rounded up 3435973837
+//! 57 * 3435973837 = 195850508709 = 5 * 2 ^ 35 + 24051816869      57 / 10 = 5
+//! ```
+//!
+//! That the quotient is right for each number and each divisor is proved, not tried.
+
+ghost use Rattle.std.specs.Prelude.{◌≡◌, ◌<◌, ◌≤◌, ◌/◌, IsTrue, int_div, unsigned_abs};
+ghost use Rattle.std.specs.Int.{cast_signed, w32};
+ghost use Rattle.lb_lanes.specs.Operators.{can_divide};
+ghost use Rattle.lb_lanes.specs.Planes.{differ};
+ghost use Rattle.lb_lanes.specs.Reciprocals.{IsReciprocal, is_below_zero};
+
+// The reciprocal of a divisor: one less than the multiplier, and the shift.
+pub(crate) fn reciprocal(d: u32) -> (u32, u32)
+    requires positive { 0 < d }
+    requires bound { d ≤ 2147483648 }
+    ensures { IsReciprocal d result.0 result.1 }
+{
+    let shift = 32 + d.ilog2();
+    let less = ((1u64 << shift) - 1) / u64::from(d);
+    (less as u32, shift)
+}
+
+// A number up to 2 ^ 31, divided by the divisor of this reciprocal.
+fn size_divided(n: u32, d: u32, less: u32, shift: u32) -> u32
+    requires bound { n ≤ 2147483648 }
+    requires reciprocal { IsReciprocal d less shift }
+    ensures { result ≡ n / d }
+{
+    let _divisor = d;
+    ((u64::from(n) * u64::from(less) + u64::from(n)) >> shift) as u32
+}
+
+// Whether just one of the two integers is below 0.
+fn differs_in_sign(x: u32, y: u32) -> bool
+    ensures { result
+        ≡ differ (is_below_zero (cast_signed w32 x)) (is_below_zero (cast_signed w32 y)) }
+{
+    if x < 2147483648 {
+        y >= 2147483648
+    } else {
+        y < 2147483648
+    }
+}
+
+// The integer of the first word, divided by that of the second.
+pub(crate) fn word_divided(x: u32, divisor: u32, less: u32, shift: u32) -> u32
+    requires reciprocal { IsReciprocal (unsigned_abs (cast_signed w32 divisor)) less shift }
+    requires divisible { IsTrue (can_divide (cast_signed w32 x) (cast_signed w32 divisor)) }
+    ensures { cast_signed w32 result ≡ int_div (cast_signed w32 x) (cast_signed w32 divisor) }
+{
+    let size = size_divided(
+        x.cast_signed().unsigned_abs(),
+        divisor.cast_signed().unsigned_abs(),
+        less,
+        shift,
+    );
+    if differs_in_sign(x, divisor) {
+        0u32.wrapping_sub(size)
+    } else {
+        size
+    }
+}

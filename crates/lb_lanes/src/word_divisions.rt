@@ -1,0 +1,129 @@
+//! Quotients and remainders of 64 integers of 32 bits, under a plane of active lanes.
+//!
+//! The divisor is mostly the same in all active lanes, as a constant is. Then each lane takes a
+//! multiplication and a shift. Else each lane is divided by itself, with 1 for a divisor where the
+//! lane is not active or cannot be divided, and made 0 there:
+//!
+//! ```text
+//! active      1    1    0    1
+//! dividends   7    8    9    5
+//! divisors    2    0    0    3         2 1 1 3
+//! quotients   3    0    0    1         3 8 9 1, and the active lanes that can be divided kept
+//! faults      0    1    0    0
+//! ```
+
+ghost use Rattle.std.specs.Prelude.{◌≡◌, ℕ, ◌<◌, true, IsTrue, pos, ℤ, int_div, MatchOption};
+ghost use Rattle.std.specs.Int.{cast_signed, w32};
+ghost use Rattle.lb_lanes.specs.Kernels.{IsKernelBelow, bits_lane};
+ghost use Rattle.lb_lanes.specs.Operators.{can_divide, divided_by};
+ghost use Rattle.lb_lanes.specs.Planes.{on};
+
+use crate::operators::{Division, Quotient, Remainder};
+use crate::reciprocals::{reciprocal, word_divided};
+use crate::word_kernels::blend;
+use crate::word_tests::{Divisible, Equal, tested};
+
+// Puts the results of lanes that can all be divided.
+fn divide_all<K: Division>(a: &[u32; 64], divisors: &[u32; 64], out: &mut [u32; 64])
+    requires { (i : ℕ) → i < 64
+        → IsTrue (can_divide (bits_lane a.now i) (bits_lane divisors.now i)) }
+    ensures { (i : ℕ) → i < 64
+        → bits_lane out.new i ≡ K.divided (bits_lane a.now i) (bits_lane divisors.now i) }
+{
+    for i in 0..64usize {
+        let divided = K::divide(a[i].cast_signed(), divisors[i].cast_signed());
+        out[i] = divided.cast_unsigned();
+    }
+}
+
+// Puts the 64 lanes after the division into `out`, each divided by itself, and gives their faults.
+fn run_each_division<K: Division>(
+    a: &[u32; 64],
+    b: &[u32; 64],
+    active: u64,
+    out: &mut [u32; 64],
+) -> u64
+    ensures { IsKernelBelow 64 (divided_by K.divided) (bits_lane a.now) (bits_lane b.now) active
+        (bits_lane out.new) result }
+{
+    let divisible = tested::<Divisible>(a, b);
+    let divides = active & divisible;
+    let mut divisors = [1u32; 64];
+    blend(divides, b, &[1; 64], &mut divisors);
+    let mut results = [0u32; 64];
+    divide_all::<K>(a, &divisors, &mut results);
+    blend(divides, &results, &[0; 64], out);
+    active & !divisible
+}
+
+// The divisor of all active lanes, if it is one that divides each integer.
+fn common_divisor(b: &[u32; 64], active: u64) -> Option<u32>
+    ensures { MatchOption result (Unit {0}) (λ d.
+        ((i : ℕ) → i < 64 → on active i ≡ true → bits_lane b.now i ≡ cast_signed w32 d)
+        × ((v : ℤ) → IsTrue (can_divide v (cast_signed w32 d)))) }
+{
+    let divisor = b[(active.trailing_zeros() % 64) as usize];
+    if divisor == 0 || divisor == 4294967295 {
+        return None;
+    }
+    let others = active & !tested::<Equal>(b, &[divisor; 64]);
+    if others == 0 { Some(divisor) } else { None }
+}
+
+/// A division that follows from the quotient.
+pub(crate) trait FromQuotient: Division {
+    // The result, by the quotient of the two.
+    fn from_quotient(x: u32, divisor: u32, quotient: u32) -> u32
+        requires divisible { IsTrue (can_divide (cast_signed w32 x) (cast_signed w32 divisor)) }
+        requires quotient { cast_signed w32 quotient
+            ≡ int_div (cast_signed w32 x) (cast_signed w32 divisor) }
+        ensures { cast_signed w32 result
+            ≡ Self.divided (cast_signed w32 x) (cast_signed w32 divisor) };
+}
+
+impl FromQuotient for Quotient {
+    fn from_quotient(x: u32, divisor: u32, quotient: u32) -> u32 {
+        let _ = (x, divisor);
+        quotient
+    }
+}
+
+impl FromQuotient for Remainder {
+    fn from_quotient(x: u32, divisor: u32, quotient: u32) -> u32 {
+        x.wrapping_sub(quotient.wrapping_mul(divisor))
+    }
+}
+
+// Puts the results of lanes that are all divided by one divisor.
+fn divide_by_one<K: FromQuotient>(a: &[u32; 64], divisor: u32, out: &mut [u32; 64])
+    requires { (v : ℤ) → IsTrue (can_divide v (cast_signed w32 divisor)) }
+    ensures { (i : ℕ) → i < 64
+        → bits_lane out.new i ≡ K.divided (bits_lane a.now i) (cast_signed w32 divisor) }
+{
+    let (less, shift) = reciprocal(divisor.cast_signed().unsigned_abs());
+    for i in 0..64usize {
+        let quotient = word_divided(a[i], divisor, less, shift);
+        out[i] = K::from_quotient(a[i], divisor, quotient);
+    }
+}
+
+// Puts the 64 lanes after the division into `out`, and gives their faults.
+pub(crate) fn run_division<K: FromQuotient>(
+    a: &[u32; 64],
+    b: &[u32; 64],
+    active: u64,
+    out: &mut [u32; 64],
+) -> u64
+    ensures { IsKernelBelow 64 (divided_by K.divided) (bits_lane a.now) (bits_lane b.now) active
+        (bits_lane out.new) result }
+{
+    match common_divisor(b, active) {
+        Some(divisor) => {
+            let mut results = [0u32; 64];
+            divide_by_one::<K>(a, divisor, &mut results);
+            blend(active, &results, &[0; 64], out);
+            0
+        }
+        None => run_each_division::<K>(a, b, active, out),
+    }
+}

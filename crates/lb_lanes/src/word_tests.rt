@@ -1,0 +1,94 @@
+//! Tests of two integers of 32 bits, sixteen lanes at a time, to a plane.
+//!
+//! ```text
+//! lanes    0..15    16..31    32..47    48..63
+//! passes   0xffff   0x0001    0x0000    0x8000     sixteen bits of each chunk
+//! plane    0x8000_0000_0001_ffff
+//! ```
+
+ghost use Rattle.std.specs.Prelude.{◌≡◌, ℕ, ◌<◌, Bool, ℤ, int_lt, int_le};
+ghost use Rattle.std.specs.Ordering.{int_eq};
+ghost use Rattle.lb_lanes.specs.Kernels.{bits_lane};
+ghost use Rattle.lb_lanes.specs.Operators.{can_divide};
+ghost use Rattle.lb_lanes.specs.Planes.{IsPlaneOf, on};
+
+use crate::word_chunks::load16;
+use std::simd::prelude::*;
+
+/// A test of two integers.
+pub(crate) trait WordTest {
+    /// Whether two integers pass.
+    ghost passes: { ℤ → ℤ → Bool };
+
+    // The lanes that pass.
+    fn test16(x: u32x16, y: u32x16) -> u64
+        ensures lanes { (i : ℕ) → i < 16 → on result i ≡ passes (bits_lane x i) (bits_lane y i) }
+        ensures within { result < 65536 };
+}
+
+pub(crate) struct Equal;
+
+impl WordTest for Equal {
+    ghost passes = { int_eq };
+
+    fn test16(x: u32x16, y: u32x16) -> u64 {
+        x.simd_eq(y).to_bitmask()
+    }
+}
+
+// Integers are in the order of their words, once half of all words was added to each.
+const HALF: u32 = 2147483648;
+
+pub(crate) struct Below;
+
+impl WordTest for Below {
+    ghost passes = { int_lt };
+
+    fn test16(x: u32x16, y: u32x16) -> u64 {
+        let half = u32x16::splat(HALF);
+        (x + half).simd_lt(y + half).to_bitmask()
+    }
+}
+
+pub(crate) struct AtMost;
+
+impl WordTest for AtMost {
+    ghost passes = { int_le };
+
+    fn test16(x: u32x16, y: u32x16) -> u64 {
+        let half = u32x16::splat(HALF);
+        (x + half).simd_le(y + half).to_bitmask()
+    }
+}
+
+// The words of the least `int` and of -1.
+const LEAST: u32 = 2147483648;
+
+const MINUS_ONE: u32 = 4294967295;
+
+/// Whether the two can be divided.
+pub(crate) struct Divisible;
+
+impl WordTest for Divisible {
+    ghost passes = { can_divide };
+
+    fn test16(x: u32x16, y: u32x16) -> u64 {
+        let not_zero = y.simd_ne(u32x16::splat(0)).to_bitmask();
+        let not_least = x.simd_ne(u32x16::splat(LEAST)).to_bitmask();
+        let not_minus_one = y.simd_ne(u32x16::splat(MINUS_ONE)).to_bitmask();
+        not_zero & (not_least | not_minus_one)
+    }
+}
+
+// The lanes of the two that pass.
+pub(crate) fn tested<K: WordTest>(a: &[u32; 64], b: &[u32; 64]) -> u64
+    ensures { IsPlaneOf (λ i. K.passes (bits_lane a.now i) (bits_lane b.now i)) result }
+{
+    let mut plane = 0u64;
+    for c in 0..4usize {
+        let at = 16 * c;
+        let passed = K::test16(load16(a, at), load16(b, at));
+        plane |= passed << (at as u64);
+    }
+    plane
+}
