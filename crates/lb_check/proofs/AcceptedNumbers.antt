@@ -2,6 +2,7 @@
 use Rattle.std.proofs.Common.{◌≡◌, ℕ, ◌<◌, None, Some, length, flat_map}
 use Rattle.std.specs.Prelude.{slice_get}
 use Rattle.std.specs.List.{range_with_len}
+use Rattle.std.proofs.lemmas.Option.{slice_get_within}
 use Rattle.lb_syntax.specs.Lists.{Every, In}
 use Rattle.lb_syntax.specs.Tree.{Name}
 use Rattle.lb_static.specs.DataTypes.{variables, width}
@@ -12,8 +13,8 @@ use Rattle.lb_check.specs.Elements.{program_elements, numbers_of}
 use Rattle.lb_check.specs.Needs.{Element}
 use Rattle.lb_check.proofs.ApartLists.{Every-from}
 use Rattle.lb_check.proofs.InstanceNames.{variables_distinct}
-use Rattle.lb_check.proofs.Numbers.{got_within, numbers_walk as walk, numbers_width as widths}
-use Rattle.lb_check.proofs.Numbers.{number_is as is, number_of as of}
+use Rattle.lb_check.proofs.Numbers.{numbers_walk as walk, numbers_width as widths, number_is as is}
+use Rattle.lb_check.proofs.Numbers.{number_of as of}
 
 module _ (P : Program) (accepted : static_refusal P ≡ None) where
   -- the numbers of all variables, in the order of instantiation, are those from 0 on
@@ -53,5 +54,5 @@ module _ (P : Program) (accepted : static_refusal P ≡ None) where
   numbers_below p x =
       Every-from (λ i. i < length (program_elements P)) (numbers_of P p x) (λ i j.
       let k = place_in (numbers_of P p x) i j in
-      got_within (program_elements P) i (record { path = p; variable = x; index = k.0 })
+      slice_get_within (program_elements P) i (record { path = p; variable = x; index = k.0 })
       (number_of p x k.0 i k.1))

@@ -3,6 +3,7 @@ use Rattle.std.proofs.Common.{◌≡◌, ℕ, suc, Bool, true, None, List, [], �
 use Rattle.std.specs.List.{list_all}
 use Rattle.lb_syntax.specs.Lists.{Every, In}
 use Rattle.lb_syntax.specs.Refusals.{E5, E6, E9, E10, E11, E12, unless}
+use Rattle.lb_syntax.proofs.TruthValues.{and_first}
 use Rattle.lb_static.specs.Instances.{Program, Instance, instances}
 use Rattle.lb_static.specs.Instantiation.{static_refusal, has_values, is_in_range, may_enter}
 use Rattle.lb_static.specs.Instantiation.{instance_refusal, instantiation_refusal}
@@ -13,7 +14,6 @@ use Rattle.lb_check.specs.TypeRules.{is_typed}
 use Rattle.lb_check.proofs.ApartLists.{Every-at}
 use Rattle.lb_check.proofs.Checks.{first_none, second_none, kept, instantiation_kept}
 use Rattle.lb_check.proofs.Every.{Every-map, Every-tested}
-use Rattle.lb_check.proofs.TruthValues.{and_first}
 
 -- the static values of an instance are there, and are in range
 pub record IsValued (P : Program) (here : Instance) : Type 0 where

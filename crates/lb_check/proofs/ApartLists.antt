@@ -1,6 +1,6 @@
 -- What stands in a list, and lists in which nothing stands twice.
 use Rattle.std.proofs.Common.{◌≡◌, ◌⊎◌, inl, inr, ℕ, zero, suc, ◌+◌, ◌<◌, ◌≤◌, Option, Some, None}
-use Rattle.std.proofs.Common.{List, [], ◌∷◌, ◌++◌, map, length, flat_map, refl, sym, ap, ◌∙◌, subst}
+use Rattle.std.proofs.Common.{List, [], ◌∷◌, ◌++◌, map, flat_map, refl, sym, ap, ◌∙◌, subst}
 use Rattle.std.proofs.Common.{arith}
 use Rattle.std.specs.List.{range_with_len}
 pub use Rattle.lb_syntax.specs.Lists.{AreApart}
@@ -79,21 +79,6 @@ module _ {A : Type 0} where
       neither (inl i) = h.0 i
       neither (inr i) = f x (inl refl) i
 
-  pub apart_first : (xs ys : List A) → AreApart (xs ++ ys) → AreApart xs
-  apart_first [] ys h = tt
-  apart_first (x ∷ xs) ys h = (λ i. h.0 (in_first x xs ys i), apart_first xs ys h.1)
-
-  pub apart_second : (xs ys : List A) → AreApart (xs ++ ys) → AreApart ys
-  apart_second [] ys h = h
-  apart_second (x ∷ xs) ys h = apart_second xs ys h.1
-
-  -- nothing stands on both sides
-  pub apart_across : (x : A) (xs ys : List A) → AreApart (xs ++ ys) → In x xs → In x ys → ⊥
-  apart_across x [] ys h i j = i
-  apart_across x (z ∷ xs) ys h (inl e) j =
-      h.0 (in_second z xs ys (subst (λ y. In y ys) (sym e) j))
-  apart_across x (z ∷ xs) ys h (inr i) j = apart_across x xs ys h.1 i j
-
 module _ {A B : Type 0} (f : A → B) where
   -- what is mapped to one thing is one
   pub apart_single :
@@ -151,21 +136,6 @@ module _ {A B : Type 0} (f : A → List B) where
       in_first b (f y) (flat_map f xs) (subst (λ z. In b (f z)) (sym e) j)
   to_pieces b x (y ∷ xs) (inr i) j = in_second b (f y) (flat_map f xs) (to_pieces b x xs i j)
 
-  -- where the pieces are apart, what shares something is one
-  pub apart_sources :
-      (b : B) (x y : A) (xs : List A) → AreApart (flat_map f xs) → In x xs → In y xs →
-      In b (f x) → In b (f y) → x ≡ y
-  apart_sources b x y [] h i j p q = absurd i
-  apart_sources b x y (z ∷ xs) h (inl e) (inl g) p q = sym e ∙ g
-  apart_sources b x y (z ∷ xs) h (inl e) (inr j) p q =
-      absurd (apart_across b (f z) (flat_map f xs) h (subst (λ z. In b (f z)) (sym e) p)
-      (to_pieces b y xs j q))
-  apart_sources b x y (z ∷ xs) h (inr i) (inl g) p q =
-      absurd (apart_across b (f z) (flat_map f xs) h (subst (λ z. In b (f z)) (sym g) q)
-      (to_pieces b x xs i p))
-  apart_sources b x y (z ∷ xs) h (inr i) (inr j) p q =
-      apart_sources b x y xs (apart_second (f z) (flat_map f xs) h) i j p q
-
   pub apart_pieces :
       (xs : List A) → AreApart xs → ((x : A) → In x xs → AreApart (f x)) →
       ((b : B) (x y : A) → In x xs → In y xs → In b (f x) → In b (f y) → x ≡ y) →
@@ -185,11 +155,6 @@ pub range_above : (a n i : ℕ) → In i (range_with_len a n) → a ≤ i
 range_above a zero i h = absurd h
 range_above a (suc n) i (inl e) = omega (arith, e)
 range_above a (suc n) i (inr h) = omega (arith, range_above (a + 1) n i h)
-
-pub range_below : (a n i : ℕ) → In i (range_with_len a n) → i < a + n
-range_below a zero i h = absurd h
-range_below a (suc n) i (inl e) = omega (arith, e)
-range_below a (suc n) i (inr h) = let below = range_below (a + 1) n i h in omega (arith, below)
 
 pub range_apart : (a n : ℕ) → AreApart (range_with_len a n)
 range_apart a zero = tt

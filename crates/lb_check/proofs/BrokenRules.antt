@@ -5,6 +5,7 @@ use Rattle.std.specs.Prelude.{◌&&◌, IfOk, IfSome, Result, Ok, Err, find, is_
 use Rattle.std.specs.Prelude.{slice_get}
 use Rattle.std.specs.List.{list_all}
 use Rattle.std.proofs.lemmas.Option.{slice_get-map}
+use Rattle.std.proofs.lemmas.Bool.{not-false, not-true}
 use Rattle.lb_syntax.specs.Lists.{holds, listed}
 use Rattle.lb_syntax.specs.Tree.{Name, Node}
 use Rattle.lb_static.specs.InstanceTable.{instance_of, specialized_at}
@@ -20,8 +21,6 @@ use Rattle.lb_check.specs.TermTypes.{is_specialization_typed}
 use Rattle.lb_check.specs.TypeRules.{is_typed}
 use Rattle.lb_check.proofs.TableRows.{has_instance}
 use Rattle.lb_check.proofs.TypedSpecializations.{specialization_typed}
-use Rattle.lb_check.proofs.UsedNodes.{is_true}
-use Rattle.lb_check.proofs.TruthValues.{not_true}
 
 -- ## What is found in a list
 
@@ -132,7 +131,7 @@ module _ (P : Program) (r : Reached) where
           h.2,
           ap (tree_at r) (sym s.2) ∙ tree_is h.0 s.0 h.1 h.3,
           specialization_typed P r t j f.0 s.0 f.1 h.0 h.1 h.3
-              ∙ not_true (is_specialization_typed r t s.0) f.2,
+              ∙ not-true (is_specialization_typed r t s.0) f.2,
         )
 
     pub types_named : (found : Option NodeId) →
@@ -167,10 +166,10 @@ module _ (P : Program) (r : Reached) where
             let f = found_at (λ id. not (code id)) (map (λ s. s.node) ss) id (sym e ∙ is) in
             let s = mapped (λ s. s.node) (slice_get ss f.0) id
             (sym (slice_get-map (λ s. s.node) ss f.0) ∙ f.1) in
-            let broken = subst (λ k. code k ≡ false) (sym s.2) (not_true (code id) f.2) in
+            let broken = subst (λ k. code k ≡ false) (sym s.2) (not-true (code id) f.2) in
             let earlier = λ (k : ℕ) (m : Specialization) (lt : k < f.0)
             (at : slice_get ss k ≡ Some m).
-            is_true (code m.node) (f.3 k m.node lt
+            not-false (code m.node) (f.3 k m.node lt
             (slice_get-map (λ s. s.node) ss k ∙ ap (option_map (λ s. s.node)) at)) in
             subst (IsBroken (λ here. rule here.node) P r) s.2
             (node_broken rule f.0 s.0 s.1 (first f.0 s.0 s.1 broken earlier))

@@ -7,9 +7,13 @@ use Rattle.std.specs.List.{list_all}
 use Rattle.std.proofs.lemmas.Bool.Decides.{nat_tests}
 use Rattle.std.proofs.lemmas.List.{append-nil}
 use Rattle.std.proofs.lemmas.Option.{slice_get_within}
+use Rattle.std.proofs.Math.Bool.{and-true}
+use Rattle.std.proofs.lemmas.Bool.{and_from, false_from_ne_true}
 use Rattle.lb_syntax.specs.Lists.{◌>>=◌, either_or, listed}
 use Rattle.lb_syntax.specs.Tree as text
-use Rattle.lb_syntax.specs.Tree.{Name, Expr, Declaration}
+use Rattle.lb_syntax.specs.Tree.{Expr, Declaration}
+use Rattle.lb_syntax.proofs.TruthValues.{and_first, and_second, both_ways}
+use Rattle.lb_syntax.proofs.ListPlaces.{mapped_from}
 use Rattle.lb_static.specs.Instances.{Program, Site, node_named}
 use Rattle.lb_static.specs.ResolvedNodes.{node_of, texts_of, counts_of}
 use Rattle.lb_static.specs.ResolvedTerms.{expr_of, exprs_of, is_within, is_unhidden}
@@ -40,9 +44,8 @@ use Rattle.lb_check.proofs.CallOperands.{clock_there, clock_from, inputs_seen, i
 use Rattle.lb_check.proofs.CallOperands.{code_known, same_fits}
 use Rattle.lb_check.proofs.FittingClocks.{IsGiven, IsWithin, base_found, fits_on, fit_some}
 use Rattle.lb_check.proofs.FittingClocks.{fit_none, base_within, base_is, expects}
-use Rattle.lb_check.proofs.TruthValues.{and_first, and_second, and_true, both_true, both_ways}
 use Rattle.lb_check.proofs.GivenNames.{term_at, clock_set_at, input_held, output_at, variable_held}
-use Rattle.lb_check.proofs.ListPairs.{never, get_mapped, mapped_from, get_taken, each_pair, pair_at}
+use Rattle.lb_check.proofs.ListPairs.{get_mapped, get_taken, each_pair, pair_at}
 use Rattle.lb_check.proofs.ClockTests.{clock_same}
 use Rattle.lb_check.proofs.OuterClocks.{stood, clock_equal, above_outer, place_name, variable_at}
 use Rattle.lb_check.proofs.OuterClocks.{seen, expected_on, AreGiven}
@@ -120,7 +123,7 @@ module _ (P : Program) (here callee : ResolvedNode) (h : HasClocks here) (hc : H
       (listed (λ n. n ∷ []) o) in
       ap (λ o. first o && rest o) named
       ∙ ap (λ b. b && rest (Some (node_of callee)))
-      (and_true (is_call_clocked (node_of here) k args (node_of callee)))
+      (and-true (is_call_clocked (node_of here) k args (node_of callee)))
       ∙ ap (λ b. is_call_clocked (node_of here) k args (node_of callee) && b)
       (each_stood P here ctx es stand (argument_clocks k (node_of callee) args) (n + 1))
 
@@ -182,7 +185,7 @@ module _ (P : Program) (here callee : ResolvedNode) (h : HasClocks here) (hc : H
         (λ m. g && (not (nat_eq m 1)
         || are_clocks (result_clocks k (node_of callee) args []) (k ∷ []))) many
         ∙ ap (λ ks. g && are_clocks ks (k ∷ [])) (results_seen k)
-        ∙ ap (λ b. g && b) (and_true (is_clock (seen callee given (up k) callee.inputs) k))
+        ∙ ap (λ b. g && b) (and-true (is_clock (seen callee given (up k) callee.inputs) k))
 
     -- a call on a clock
     called : (k : tree.Clock) (n : ℕ) → is_clocked_on P here k n call_of
@@ -376,7 +379,7 @@ module _ (P : Program) (here callee : ResolvedNode) (h : HasClocks here) (hc : H
 
       nowhere : ((b : tree.Clock) → fits b ≡ true → ⊥) → IsClockSet P here call_of NoClock
       nowhere misfit k n =
-          on_clock k n ∙ never _ (λ t. misfit (up k)
+          on_clock k n ∙ false_from_ne_true _ (λ t. misfit (up k)
           (and_second (is_clock (seen callee given (up k) callee.inputs) k) _ t))
 
       -- on one clock: the base clock of the callee is known
@@ -400,7 +403,7 @@ module _ (P : Program) (here callee : ResolvedNode) (h : HasClocks here) (hc : H
           back t =
               let on : k ≡ seen callee given b callee.inputs = clock_same k _ t in
               let same : up k ≡ b = ap up on ∙ up_seen b in
-              both_true _ (fits (up k))
+              and_from _ (fits (up k))
               (clock_equal _ k (ap (λ c. seen callee given c callee.inputs) same ∙ sym on))
               (ap fits same ∙ ok)
 
@@ -431,7 +434,7 @@ module _ (P : Program) (here callee : ResolvedNode) (h : HasClocks here) (hc : H
           let itself = λ (k : tree.Clock). subst
           (λ c. outer (above (depth c) k) given c ≡ k) base refl in (
             call_clock ∙ ap (option_map (λ k. seen callee given k callee.inputs)) none,
-            λ k n. on_clock k n ∙ both_true _ (fits (up k)) (clock_equal _ k (itself k))
+            λ k n. on_clock k n ∙ and_from _ (fits (up k)) (clock_equal _ k (itself k))
                 (ok (up k)),
           )
 

@@ -18,6 +18,10 @@ use Rattle.lb_static.specs.Parts.{among}
 use Rattle.lb_static.specs.Names.{are_distinct}
 use Rattle.lb_static.specs.StaticValues.{named}
 use Rattle.std.specs.List.{list_all}
+use Rattle.std.proofs.Math.Bool.{and-true}
+use Rattle.std.proofs.lemmas.Bool.{not-true}
+use Rattle.lb_syntax.proofs.ListPlaces.{get_first, item_at}
+use Rattle.lb_syntax.proofs.TruthValues.{and_first, and_second, or_first, or_second}
 use Rattle.lb_static.specs.ResolvedTerms.{Texts, Counts, declaration_of, exprs_of, named_value}
 use Rattle.lb_static.specs.ResolvedTerms.{name_at, static_at, expr_of, is_variable, is_within}
 use Rattle.lb_static.specs.ResolvedTerms.{is_unhidden, is_no_variable}
@@ -31,10 +35,7 @@ use Rattle.lb_check.proofs.ClockedNodes.{get_name, among_first, zip_split, first
 use Rattle.lb_check.proofs.ClockedNodes.{same_taken, as_many_names, within_names}
 use Rattle.lb_check.specs.ClockRules.{is_given_variable, are_given_variables}
 use Rattle.lb_check.specs.ClockDepths.{waits_below}
-use Rattle.lb_check.proofs.TruthValues.{and_first, and_second, and_true, not_true, or_first}
-use Rattle.lb_check.proofs.TruthValues.{or_second}
 use Rattle.lb_check.proofs.DistinctNames.{not_among, unequal, distinct_first}
-use Rattle.lb_check.proofs.NodePlaces.{held}
 use Rattle.lb_check.proofs.ClockTests.{among_at}
 
 -- ## Names
@@ -46,7 +47,7 @@ is_own names e = holds (λ y. among y names) (as_variable e)
 module _ (texts : Texts) (n : Counts) (as_many : n.variables ≡ length texts.variables) where
   own_value : (s : Static) → is_no_variable texts.variables s ≡ true →
       is_own texts.variables (named_value s) ≡ false
-  own_value (tree.Named x) e = not_true (among x texts.variables) e
+  own_value (tree.Named x) e = not-true (among x texts.variables) e
   own_value (tree.Whole m) e = refl
   own_value (tree.Negated s) e = refl
   own_value (tree.Combined op s t) e = refl
@@ -56,7 +57,7 @@ module _ (texts : Texts) (n : Counts) (as_many : n.variables ≡ length texts.va
       is_own texts.variables (tree.Variable (name_at texts.variables x)) ≡ true
   own_variable x w =
       let lt : x.0 < length texts.variables = grind (arith, nat_tests) in
-      let z = held texts.variables x.0 lt in
+      let z = item_at texts.variables x.0 lt in
       ap (λ o. among (either_or o []) texts.variables) z.1 ∙ among_at texts.variables x.0 z.0 z.1
 
   -- what the code finds to be a variable is one of the node
@@ -101,7 +102,7 @@ module _ (texts : Texts) (n : Counts) (as_many : n.variables ≡ length texts.va
   given_at (c ∷ ds) [] y d u e w v = refl
   given_at (c ∷ ds) (t ∷ es) zero d u e w v =
       let same : c ≡ d = cc in
-      let a = not_true _ (and_first (not (among c.name (map (λ d. d.name) ds))) _ u) in
+      let a = not-true _ (and_first (not (among c.name (map (λ d. d.name) ds))) _ u) in
       let here : bytes_eq c.name d.name ≡ true =
       (bytes_eq-Decides c.name d.name).1 (ap (λ z. z.name) same) in
       let gone : among d.name (map (λ d. d.name) ds) ≡ false =
@@ -111,7 +112,7 @@ module _ (texts : Texts) (n : Counts) (as_many : n.variables ≡ length texts.va
       ∙ own_term texts n as_many t (and_first (is_within n t) _ w)
       (and_first (is_unhidden texts t) _ v)
   given_at (c ∷ ds) (t ∷ es) (suc y) d u e w v =
-      let a = not_true _ (and_first (not (among c.name (map (λ d. d.name) ds))) _ u) in
+      let a = not-true _ (and_first (not (among c.name (map (λ d. d.name) ds))) _ u) in
       let other = not_among c.name (map (λ d. d.name) ds) y d.name a (get_name ds y d e) in
       ap (holds (λ g. among g.1 texts.variables))
       (skipped (as_variable (expr_of texts t)) c.name d.name
@@ -120,12 +121,6 @@ module _ (texts : Texts) (n : Counts) (as_many : n.variables ≡ length texts.va
       (and_second (is_within n t) _ w) (and_second (is_unhidden texts t) _ v)
 
 -- ## Parameters that wait for an input
-
-get_first : {A : Type 0} (xs ys : List A) (i : ℕ) (x : A) → slice_get xs i ≡ Some x →
-    slice_get (xs ++ ys) i ≡ Some x
-get_first [] ys i x e = absurd cc
-get_first (z ∷ xs) ys zero x e = e
-get_first (z ∷ xs) ys (suc i) x e = get_first xs ys i x e
 
 module _ (here callee : ResolvedNode) (nodes : List Name) (ec : IsResolved nodes callee)
     (distinct : are_distinct (variable_names (node_of callee)) ≡ true)
@@ -156,7 +151,7 @@ module _ (here callee : ResolvedNode) (nodes : List Name) (ec : IsResolved nodes
       → holds (λ g. among g.1 (variable_names (node_of here)))
       (named (λ g. g.0) (name_at names y) given) ≡ is_variable_at es y.0
   input_given y lt =
-      let d = held (node_of callee).inputs y.0 lt in
+      let d = item_at (node_of callee).inputs y.0 lt in
       let whole = get_first (node_of callee).inputs others y.0 d.0 d.1 in
       let name : name_at names y ≡ d.0.name =
       ap (λ o. either_or o []) (get_name (variables (node_of callee)) y.0 d.0 whole) in
@@ -186,7 +181,7 @@ module _ (here callee : ResolvedNode) (nodes : List Name) (ec : IsResolved nodes
       let y = s.variable in
       let below : nat_lt y.0 (length names) ≡ true = rw is at b in
       let less : y.0 < length names = grind (arith, nat_tests) in
-      let z = held names y.0 less in
+      let z = item_at names y.0 less in
       let found : among (name_at names y) (map (λ i. i.name) (node_of callee).inputs) ≡ nat_lt y.0
       (length (node_of callee).inputs) =
       ap (λ o. among (either_or o []) (map (λ i. i.name) (node_of callee).inputs)) z.1
@@ -194,7 +189,7 @@ module _ (here callee : ResolvedNode) (nodes : List Name) (ec : IsResolved nodes
       ∙ among_first names (length (node_of callee).inputs) y.0 z.0 distinct z.1 in
       rw is
       (ap (λ b. b && true) (given_by y (nat_lt y.0 (length (node_of callee).inputs)) refl found)
-      ∙ and_true _)
+      ∙ and-true _)
 
   given_list : (xs : List Name) (vs : List Declared) → length xs ≡ length vs →
       list_all (waits_below (length names)) vs ≡ true

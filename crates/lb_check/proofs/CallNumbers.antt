@@ -1,14 +1,19 @@
 -- The call of a number in the text of a node, and the left variables of the equation whose whole
 -- right side is this call.
 use Rattle.std.proofs.Common.{◌≡◌, ◌⊎◌, inl, inr, ℕ, ◌+◌, ◌<◌, ◌≤◌, Bool, true, false, Option, Some}
-use Rattle.std.proofs.Common.{None, List, [], ◌∷◌, length, zip, refl, ap, sym, subst, ◌∙◌, arith}
+use Rattle.std.proofs.Common.{None, List, [], ◌∷◌, length, zip, refl, ap, sym, ◌∙◌, arith}
 use Rattle.std.specs.Prelude.{◌&&◌, nat_eq, find}
 use Rattle.std.proofs.lemmas.Bool.Decides.{nat_tests}
+use Rattle.std.proofs.lemmas.Bool.{eqb-true, and_from}
+use Rattle.std.proofs.lemmas.Option.{same_Some}
+use Rattle.std.proofs.Math.Bool.{and-false}
 use Rattle.lb_syntax.specs.Lists.{Every, In, listed}
-use Rattle.lb_syntax.specs.Tree.{Name, Node_named, Symbol, Expr, Literal, Truth, Variable, Group}
+use Rattle.lb_syntax.specs.Tree.{Node_named, Symbol, Expr, Literal, Truth, Variable, Group}
 use Rattle.lb_syntax.specs.Tree.{Unary, Binary, If, Arrow, Fby, Pre, Current, When, Replicate}
 use Rattle.lb_syntax.specs.Tree.{Index, Slice, Join, Array, AtMostOne, Nor, Call, Iterate, Node}
 use Rattle.lb_syntax.specs.Tree.{Statement, Equation, Assertion}
+use Rattle.lb_syntax.proofs.SameNames.{same_number}
+use Rattle.lb_syntax.proofs.TruthValues.{and_first, and_second}
 use Rattle.lb_static.specs.Instances.{Program, sites, statement_sites}
 use Rattle.lb_static.specs.Parts.{right_side, left_names}
 use Rattle.lb_check.specs.Clocks.{Clock, Base, ungrouped}
@@ -19,14 +24,6 @@ use Rattle.lb_check.proofs.ApartLists.{Every-at, to_pieces}
 use Rattle.lb_check.proofs.Every.{Every-map, Every-both}
 use Rattle.lb_check.proofs.OccurrenceSites.{site_of_call, numbered_below, find_here, find_next}
 use Rattle.lb_check.proofs.OccurrenceSites.{calls_of, node_calls}
-use Rattle.lb_check.proofs.OperandTypes.{some_same}
-use Rattle.lb_check.proofs.TruthValues.{and_first, and_second, and_false, both_true}
-
-same_number : (m n : ℕ) → nat_eq m n ≡ true → m ≡ n
-same_number m n e = grind (arith, nat_tests)
-
-its_number : (n : ℕ) → nat_eq n n ≡ true
-its_number n = grind (arith, nat_tests)
 
 -- what is found stands there and passes the test
 pub found_in : {A : Type 0} (test : A → Bool) (xs : List A) (x : A) → find test xs ≡ Some x →
@@ -37,7 +34,7 @@ found_in test (y ∷ ys) x e = by (test y) refl (found_in test ys x)
     by : (b : Bool) → test y ≡ b → (find test ys ≡ Some x → In x ys × (test x ≡ true)) →
         In x (y ∷ ys) × (test x ≡ true)
     by true is again =
-        let same = some_same y x (sym (find_here test y ys is) ∙ e) in
+        let same = same_Some y x (sym (find_here test y ys is) ∙ e) in
         (inl same, ap test (sym same) ∙ is)
     by false is again =
         let later = again (sym (find_next test y ys is) ∙ e) in
@@ -51,29 +48,6 @@ zip_second {A = A} {B = B} (x ∷ xs) (y ∷ ys) t (inl e) = inl (ap (λ (u : A 
 zip_second (x ∷ xs) (y ∷ ys) t (inr i) = inr (zip_second xs ys t i)
 
 -- ## What stands in parentheses
-
-ungrouped_sites : (e : Expr) → sites (ungrouped e) ≡ sites e
-ungrouped_sites (Literal m) = refl
-ungrouped_sites (Truth b) = refl
-ungrouped_sites (Variable x) = refl
-ungrouped_sites (Group a) = ungrouped_sites a
-ungrouped_sites (Unary op a) = refl
-ungrouped_sites (Binary op a b) = refl
-ungrouped_sites (If c a b) = refl
-ungrouped_sites (Arrow a b) = refl
-ungrouped_sites (Fby a b) = refl
-ungrouped_sites (Pre a) = refl
-ungrouped_sites (Current a) = refl
-ungrouped_sites (When a x sign) = refl
-ungrouped_sites (Replicate a m) = refl
-ungrouped_sites (Index a i) = refl
-ungrouped_sites (Slice a i j) = refl
-ungrouped_sites (Join a b) = refl
-ungrouped_sites (Array es) = refl
-ungrouped_sites (AtMostOne es) = refl
-ungrouped_sites (Nor es) = refl
-ungrouped_sites (Call f statics es) = refl
-ungrouped_sites (Iterate it op m es) = refl
 
 module _ (P : Program) (here : Node) where
   -- an expression is the first of its occurrences
@@ -170,7 +144,7 @@ module _ (P : Program) (here : Node) where
       let first : Statement × Occurrence =
       (s, at (statement_clock P here s) n (right_side s)) in
       let rest = numbered_statements (n + length (statement_sites s)) ss in (
-        λ is. find_here (λ u. is_right_side n u.1) first rest (both_true _ _ (its_number n) is),
+        λ is. find_here (λ u. is_right_side n u.1) first rest (and_from _ _ (same_number n) is),
         Every-map _ _
             (λ t h is. find_next (λ u. is_right_side t.1.calls_before u.1) first rest (other t h.0)
             ∙ h.1 is) rest
@@ -185,7 +159,7 @@ module _ (P : Program) (here : Node) where
           by : (b : Bool) → is_site (ungrouped (right_side s)) ≡ b →
               (nat_eq n t.1.calls_before && is_site (ungrouped (right_side s))) ≡ false
           by false e =
-              ap (λ b. nat_eq n t.1.calls_before && b) e ∙ and_false (nat_eq n t.1.calls_before)
+              ap (λ b. nat_eq n t.1.calls_before && b) e ∙ and-false (nat_eq n t.1.calls_before)
           by true e =
               let some = statement_has_site s e in
               let differs : nat_eq n t.1.calls_before ≡ false = grind (arith, nat_tests) in
@@ -233,12 +207,12 @@ module _ (P : Program) (here : Node) where
       by None e = inr (ap (listed (λ s. left_names s.0)) e)
       by (Some t) e =
           let there = found_in (λ s. is_right_side o.calls_before s.1) (statements P here) t e in
-          let number = same_number t.1.calls_before o.calls_before
+          let number = eqb-true t.1.calls_before o.calls_before
           (and_first (nat_eq t.1.calls_before o.calls_before) _ there.1) in
           let call = and_second (nat_eq t.1.calls_before o.calls_before) _ there.1 in
           let right = at t.1.clock t.1.calls_before (ungrouped t.1.expr) in
           let one = call_of right (right_in t there.0) call in
-          let same = some_same right o
+          let same = same_Some right o
           (sym one ∙ (ap (call_at P here) number ∙ call_of o i is)) in
           inl (
             record {

@@ -8,6 +8,8 @@ use Rattle.std.proofs.lemmas.Bool.Decides.{nat_tests}
 use Rattle.std.proofs.lemmas.List.Folds.{list_all-append}
 use Rattle.lb_syntax.specs.Lists.{either_or}
 use Rattle.lb_syntax.specs.Tree.{Expr, Declaration}
+use Rattle.lb_syntax.proofs.TruthValues.{and_first, and_second, both_ways}
+use Rattle.lb_syntax.proofs.ListPlaces.{all_at, mapped_from}
 use Rattle.lb_static.specs.Instances.{Program}
 use Rattle.lb_static.specs.ResolvedNodes.{node_of, texts_of, counts_of}
 use Rattle.lb_static.specs.ResolvedTerms.{expr_of, exprs_of, is_within, is_unhidden, is_variable}
@@ -16,13 +18,12 @@ use Rattle.lb_static.specs.declared.resolved.Sampling.{Sampling}
 use Rattle.lb_static.specs.declared.resolved.Term.{Term}
 use Rattle.lb_static.specs.declared.resolved.Variable.{Variable as Declared}
 use Rattle.lb_static.specs.declared.resolved.VariableId.{VariableId}
-use Rattle.lb_check.specs.CallClocks.{variable_of, is_variable_at, waits_for_given}
+use Rattle.lb_check.specs.CallClocks.{is_variable_at, waits_for_given}
 use Rattle.lb_check.specs.CallClocks as code
 use Rattle.lb_check.specs.ClockDepths.{waits_below}
 use Rattle.lb_check.specs.ClockRules.{is_occurrence_clocked, are_given_variables, is_clocked_by}
 use Rattle.lb_check.specs.Clocks as tree
-use Rattle.lb_check.specs.Clocks.{clock_of, each_clock, given_inputs, given_name, outer}
-use Rattle.lb_check.specs.Clocks.{declared_clock, depth}
+use Rattle.lb_check.specs.Clocks.{clock_of, each_clock, given_inputs, outer, declared_clock, depth}
 use Rattle.lb_check.specs.Occurrences.{call_count, occurrences, occurrences_each}
 use Rattle.lb_check.specs.OwnClocks.{HasClocks, clock_in}
 use Rattle.lb_check.specs.ClockSets.{IsClockSet, AreClockSets, is_clocked_on}
@@ -33,13 +34,11 @@ use Rattle.lb_check.specs.declared.clock_set.ClockSet.TheVariants.{NoClock, AnyC
 use Rattle.lb_check.proofs.CallClocks.{all_given}
 use Rattle.lb_check.proofs.ClockedNodes.{as_many_names, inputs_clocked, outputs_clocked}
 use Rattle.lb_check.proofs.FittingClocks.{IsGiven, IsWithin, fits_on}
-use Rattle.lb_check.proofs.TruthValues.{and_first, and_second, both_ways}
 use Rattle.lb_check.proofs.GivenNames.{operand_at, clock_set_at, term_at, variable_stands}
 use Rattle.lb_check.proofs.GivenNames.{variable_within, input_held, input_at, variable_held}
 use Rattle.lb_check.proofs.GivenNames.{given_in}
-use Rattle.lb_check.proofs.NodePlaces.{all_at}
-use Rattle.lb_check.proofs.ListPairs.{taken, get_taken, get_mapped, mapped_from, each_pair, pair_at}
-use Rattle.lb_check.proofs.ListPairs.{pairs_from, get_dropped}
+use Rattle.lb_check.proofs.ListPairs.{taken, get_taken, get_mapped, each_pair, pair_at, pairs_from}
+use Rattle.lb_check.proofs.ListPairs.{get_dropped}
 use Rattle.lb_check.proofs.ClockTests.{clock_same}
 use Rattle.lb_check.proofs.OuterClocks.{stood, place_name, variable_at, seen, expected_on, AreGiven}
 use Rattle.lb_check.proofs.OuterClocks.{StandFor, HaveNames, outer_all}

@@ -1,16 +1,19 @@
 -- In an accepted program each call in the text of an instance has its instances: as many as it is
 -- iterated, each of the node that it names, below the instance.
-use Rattle.std.proofs.Common.{◌≡◌, inl, inr, ℕ, ◌<◌, Bool, true, Option, Some, None, ℤ, List, []}
-use Rattle.std.proofs.Common.{◌∷◌, ◌++◌, map, flat_map, refl, ap, ap₂, sym, ◌∙◌, subst, arith}
+use Rattle.std.proofs.Common.{◌≡◌, ℕ, ◌<◌, true, Option, Some, None, ℤ, List, []}
+use Rattle.std.proofs.Common.{◌∷◌, ◌++◌, map, flat_map, refl, ap, ap₂, sym, subst, arith}
 use Rattle.std.specs.Prelude.{◌&&◌, is_some, option_map}
 use Rattle.std.specs.List.{list_all, zip}
+use Rattle.std.proofs.lemmas.Option.{same_Some}
 use Rattle.lb_syntax.specs.Lists.{◌>>=◌, In, all_some, either_or}
-use Rattle.lb_syntax.specs.Tree.{Name, Static, Node_named, Symbol, Expr, Call, Iterate, Node}
-use Rattle.lb_static.specs.Instances.{Program, Instance, Child, Site, call_site, node_named}
+use Rattle.lb_syntax.specs.Tree.{Static, Node_named, Symbol, Expr, Call, Iterate, Node}
+use Rattle.lb_syntax.proofs.ListPlaces.{all_in}
+use Rattle.lb_syntax.proofs.TruthValues.{and_first}
+use Rattle.lb_static.specs.Instances.{Program, Instance, Child, Site, node_named}
 use Rattle.lb_static.specs.Instances.{static_value, instance_count, callee_of, instances, children}
 use Rattle.lb_static.specs.Instantiation.{static_refusal}
 use Rattle.lb_static.specs.Parts.{node_parts, node_sizes, node_indexes, node_statics, own_arguments}
-use Rattle.lb_static.proofs.Members.{in_map, all_in, from_all}
+use Rattle.lb_static.proofs.Members.{in_map, from_all}
 use Rattle.lb_check.specs.Acceptance.{check_refusal}
 use Rattle.lb_check.specs.Occurrences.{Occurrence, node_occurrences}
 use Rattle.lb_check.proofs.AcceptedRules.{valued, typed}
@@ -20,8 +23,6 @@ use Rattle.lb_check.proofs.DeterminedClocks.{count_of}
 use Rattle.lb_check.proofs.InstancePaths.{child_in, kept_children}
 use Rattle.lb_check.proofs.OccurrenceParts.{node_occurrence_parts}
 use Rattle.lb_check.proofs.OccurrenceSites.{own_site, site_is}
-use Rattle.lb_check.proofs.OperandTypes.{some_same}
-use Rattle.lb_check.proofs.TruthValues.{and_first}
 
 -- all are there where each is
 all_there :
@@ -42,9 +43,9 @@ all_there {A = A} {B = B} f (x ∷ xs) e = by (f x) (all_there f xs) e
     by (Some y) rest e = more y (all_some (map f xs)) (rest e)
 
 own_are : (e : Expr) (s : Site) → own_site e ≡ Some s → own_arguments e ≡ s.arguments
-own_are (Call f statics es) s e = ap (λ (t : Site). t.arguments) (some_same _ s e)
+own_are (Call f statics es) s e = ap (λ (t : Site). t.arguments) (same_Some _ s e)
 own_are (Iterate it (Node_named f statics) m es) s e =
-    ap (λ (t : Site). t.arguments) (some_same _ s e)
+    ap (λ (t : Site). t.arguments) (same_Some _ s e)
 own_are (Iterate it (Symbol op) m es) s e = absurd cc
 own_are _ s e = absurd cc
 

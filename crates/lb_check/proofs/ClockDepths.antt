@@ -7,6 +7,7 @@ use Rattle.std.proofs.Math.ListN.{set, length-set}
 use Rattle.std.proofs.Math.Seq.{take-append_seam}
 use Rattle.std.proofs.lemmas.Option.{slice_get-get_or}
 use Rattle.lb_syntax.specs.Lists.{◌>>=◌}
+use Rattle.lb_syntax.proofs.ListPlaces.{set_here}
 use Rattle.lb_static.specs.declared.resolved.Variable.{Variable}
 use Rattle.lb_static.specs.declared.resolved.Sampling.{Sampling}
 use Rattle.lb_check.specs.ClockDepths.{awaited, LeadsTo, HasDepth, depth_within, AreDepths, IsKnown}
@@ -58,48 +59,37 @@ stands_top : (vs : List Variable) (x : ℕ) → awaited vs x ≡ None → HasDep
 unfolding HasDepth
 stands_top vs x e = e
 
-leads_down : (vs : List Variable) (k x y d : ℕ) → LeadsTo vs k x y → HasDepth vs d y →
-    HasDepth vs (k + d) x
-unfolding LeadsTo HasDepth
-leads_down vs zero x y d l s = let same : d ≡ 0 + d = omega arith in
-    subst (λ m. HasDepth vs m x) same (subst (HasDepth vs d) (sym l) s)
-leads_down vs (suc k) x y d l s =
-    let same : suc (k + d) ≡ suc k + d = omega arith in
-    subst (λ m. HasDepth vs m x) same (l.0, l.1, leads_down vs k l.0 y d l.2 s)
-
 pub stands_below : (vs : List Variable) (k x y d : ℕ) → LeadsTo vs k x y → HasDepth vs d y →
     HasDepth vs (k + d) x
-stands_below vs k x y d l s = leads_down vs k x y d l s
+unfolding LeadsTo HasDepth
+stands_below vs zero x y d l s = let same : d ≡ 0 + d = omega arith in
+    subst (λ m. HasDepth vs m x) same (subst (HasDepth vs d) (sym l) s)
+stands_below vs (suc k) x y d l s =
+    let same : suc (k + d) ≡ suc k + d = omega arith in
+    subst (λ m. HasDepth vs m x) same (l.0, l.1, stands_below vs k l.0 y d l.2 s)
 
 pub stands_here : (vs : List Variable) (k x y : ℕ) → LeadsTo vs k x y → awaited vs y ≡ None →
     HasDepth vs k x
 stands_here vs k x y l e =
     let same : k + 0 ≡ k = omega arith in
-    subst (λ m. HasDepth vs m x) same (leads_down vs k x y 0 l (stands_top vs y e))
+    subst (λ m. HasDepth vs m x) same (stands_below vs k x y 0 l (stands_top vs y e))
 
 -- what stands so deep has no depth within less
-too_deep : (vs : List Variable) (n x d : ℕ) → HasDepth vs d x → n ≤ d → depth_within n vs x ≡ None
-unfolding HasDepth depth_within
-too_deep vs zero x d s le = refl
-too_deep vs (suc n) x zero s le = absurd (omega arith)
-too_deep vs (suc n) x (suc d) s le =
-    rw (s.1) (ap (option_map suc) (too_deep vs n s.0 d s.2 (omega arith)))
-
-deep_enough : (vs : List Variable) (n x d : ℕ) → HasDepth vs d x → d < n →
-    depth_within n vs x ≡ Some d
-unfolding HasDepth depth_within
-deep_enough vs zero x d s lt = absurd (omega arith)
-deep_enough vs (suc n) x zero s lt = rw s refl
-deep_enough vs (suc n) x (suc d) s lt =
-    rw (s.1) (ap (option_map suc) (deep_enough vs n s.0 d s.2 (omega arith)))
-
 pub no_depth : (vs : List Variable) (n x d : ℕ) → HasDepth vs d x → n ≤ d →
     depth_within n vs x ≡ None
-no_depth vs n x d s le = too_deep vs n x d s le
+unfolding HasDepth depth_within
+no_depth vs zero x d s le = refl
+no_depth vs (suc n) x zero s le = absurd (omega arith)
+no_depth vs (suc n) x (suc d) s le =
+    rw (s.1) (ap (option_map suc) (no_depth vs n s.0 d s.2 (omega arith)))
 
 pub its_depth : (vs : List Variable) (n x d : ℕ) → HasDepth vs d x → d < n →
     depth_within n vs x ≡ Some d
-its_depth vs n x d s lt = deep_enough vs n x d s lt
+unfolding HasDepth depth_within
+its_depth vs zero x d s lt = absurd (omega arith)
+its_depth vs (suc n) x zero s lt = rw s refl
+its_depth vs (suc n) x (suc d) s lt =
+    rw (s.1) (ap (option_map suc) (its_depth vs n s.0 d s.2 (omega arith)))
 
 -- a variable from which so many steps lead on has no depth within as many
 pub no_end : (vs : List Variable) (k x y : ℕ) → LeadsTo vs k x y → depth_within k vs x ≡ None
@@ -117,12 +107,6 @@ set_get (x ∷ xs) zero (suc j) a b e = inr e
 set_get (x ∷ xs) (suc i) zero a b e = inr e
 set_get (x ∷ xs) (suc i) (suc j) a b e =
     elim (set_get xs i j a b e) [ inl s ↦ inl (ap suc s.0, s.1) | inr s ↦ inr s ]
-
-set_here : {A : Type 0} (xs : List A) (i : ℕ) (a : A) → i < length xs →
-    slice_get (set xs i a) i ≡ Some a
-set_here [] i a lt = absurd (omega arith)
-set_here (x ∷ xs) zero a lt = refl
-set_here (x ∷ xs) (suc i) a lt = set_here xs i a (omega arith)
 
 set_keeps : {A : Type 0} (xs : List A) (i j : ℕ) (a b : A) → slice_get xs j ≡ Some b →
     ((i ≡ j) × (slice_get (set xs i a) j ≡ Some a)) ⊎ (slice_get (set xs i a) j ≡ Some b)

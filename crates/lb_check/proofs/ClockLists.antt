@@ -3,9 +3,10 @@ use Rattle.std.proofs.Common.{◌≡◌, ℕ, zero, suc, ◌+◌, ◌-◌, ◌<�
 use Rattle.std.proofs.Common.{false, List, [], ◌∷◌, length, Some, refl, ap, sym, ◌∙◌, arith}
 use Rattle.std.specs.Prelude.{slice_get, nat_lt}
 use Rattle.std.proofs.lemmas.Bool.Decides.{nat_tests}
+use Rattle.std.proofs.lemmas.Bool.{and_from}
+use Rattle.lb_syntax.proofs.TruthValues.{and_first, and_second}
 use Rattle.lb_check.specs.ClockRules.{is_clock, are_clocks}
 use Rattle.lb_check.specs.Clocks as tree
-use Rattle.lb_check.proofs.TruthValues.{and_first, and_second, both_true}
 
 -- ## Clocks of two lists
 
@@ -36,13 +37,8 @@ clocks_from [] [] e h = refl
 clocks_from [] (l ∷ ls) e h = absurd (omega (arith, e))
 clocks_from (k ∷ ks) [] e h = absurd (omega (arith, e))
 clocks_from (k ∷ ks) (l ∷ ls) e h =
-    both_true (is_clock k l) (are_clocks ks ls) (h 0 k l refl refl)
+    and_from (is_clock k l) (are_clocks ks ls) (h 0 k l refl refl)
     (clocks_from ks ls (omega (arith, e)) (λ j x y p q. h (suc j) x y p q))
-
--- a list without items
-pub nil_of : {A : Type 0} (xs : List A) → length xs ≡ 0 → xs ≡ []
-nil_of [] e = refl
-nil_of (x ∷ xs) e = absurd (omega (arith, e))
 
 -- ## Places of inputs, and of outputs
 
@@ -56,12 +52,5 @@ place_split i m n lt = by (nat_lt i m) refl
         let low : m ≤ i = grind (arith, nat_tests) in
         inr (i - m, omega arith, omega arith)
 
--- tests of places, as the code makes them
-pub small_place : (i m : ℕ) → i < m → nat_lt i m ≡ true
-small_place i m lt = grind (arith, nat_tests)
-
 pub later_place : (m j : ℕ) → nat_lt (m + j) m ≡ false
 later_place m j = grind (arith, nat_tests)
-
-pub less_place : (m j : ℕ) → m + j - m ≡ j
-less_place m j = omega arith

@@ -1,5 +1,5 @@
 -- A row of terms in a tree is the list in the vector, and so are its operands.
-use Rattle.std.proofs.Common.{◌≡◌, inl, inr, List, ◌∷◌, Vec, Global, refl, ap, ◌∙◌}
+use Rattle.std.proofs.Common.{◌≡◌, inl, inr, List, Vec, Global, ap, ◌∙◌}
 use mathlib.Core.Former.{Count}
 use Rattle.lb_syntax.specs.Lists.{holds}
 use Rattle.lb_syntax.specs.declared.tree.ArrayIterator.{ArrayIterator}
@@ -10,19 +10,12 @@ use Rattle.lb_static.specs.declared.resolved.VariableId.{VariableId}
 use Rattle.lb_static.specs.declared.resolved.Term.{Term, Array, AtMostOne, Nor, Call, IterateNode}
 use Rattle.lb_static.specs.declared.resolved.Term.{IterateSymbol, Array', AtMostOne', Nor', Call'}
 use Rattle.lb_static.specs.declared.resolved.Term.{IterateNode', IterateSymbol', Row_of-Term}
-use Rattle.lb_static.specs.declared.resolved.Term.{end_of-Term, more_of-Term, items-the_row-Term}
+use Rattle.lb_static.specs.declared.resolved.Term.{end_of-Term, items-the_row-Term}
 use Rattle.lb_static.specs.declared.resolved.Term.{items_hidden-the_row-Term-0}
-use Rattle.lb_check.specs.TermClocks.{Context, is_call_clocked, is_equation_clocked, operand_of}
-use Rattle.lb_check.specs.TermClocks.{operands_in, operands_of, row_clock_set, infer_clock}
-use Rattle.lb_check.specs.declared.clock_set.Operand.{Operand}
+use Rattle.lb_check.specs.TermClocks.{Context, is_call_clocked, is_equation_clocked, operands_in}
+use Rattle.lb_check.specs.TermClocks.{operands_of, row_clock_set, infer_clock}
 use Rattle.lb_check.proofs.TypeRows.{IsRow}
-
-operands_items : (ctx : Context) (n : _) (row : Row_of-Term n) →
-    operands_in ctx row ≡ operands_of ctx (items-the_row-Term n row)
-unfolding infer_clock
-operands_items ctx n end_of-Term = refl
-operands_items ctx n (more_of-Term e rest) =
-    ap (λ (os : List Operand). operand_of ctx e ∷ os) (operands_items ctx _ rest)
+use Rattle.lb_check.proofs.TermClockSets.{operands_items}
 
 abbrev pub row_in : Term → (n : Count) × Row_of-Term n
 row_in (Array' _ row) = (_, row)

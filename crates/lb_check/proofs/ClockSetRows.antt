@@ -7,6 +7,7 @@ use Rattle.std.proofs.lemmas.List.{drop_all, drop_more}
 use Rattle.std.proofs.lemmas.Option.{slice_get_past}
 use mathlib.Core.Bool.{beq}
 use Rattle.lb_syntax.specs.Lists.{or_else}
+use Rattle.lb_syntax.proofs.TruthValues.{and_first, and_second}
 use Rattle.lb_static.specs.ResolvedNodes.{node_of}
 use Rattle.lb_static.specs.declared.resolved.ResolvedNode.{ResolvedNode}
 use Rattle.lb_static.specs.declared.resolved.Sampling.{Sampling}
@@ -23,16 +24,9 @@ use Rattle.lb_check.specs.declared.own_clock.Clock.TheVariants.{Base, On}
 use Rattle.lb_check.specs.declared.clock_set.Operand.{Operand}
 use Rattle.lb_check.specs.declared.clock_set.ClockSet.{ClockSet}
 use Rattle.lb_check.specs.declared.clock_set.ClockSet.TheVariants.{NoClock, AnyClock, OneClock}
-use Rattle.lb_check.proofs.OwnClocks.{clock_of_free, clock_of_waiting}
-use Rattle.lb_check.proofs.TruthValues.{and_first, and_second}
+use Rattle.lb_check.proofs.OwnClocks.{clock_of_free, clock_of_waiting, beq_same}
 
 -- ## Clocks
-
-beq_same : (a b : Bool) → beq a b ≡ same a b
-beq_same true true = refl
-beq_same true false = refl
-beq_same false true = refl
-beq_same false false = refl
 
 -- clocks on one variable are the same if their signs are
 pub same_variable : (left right : Clock) (x y : VariableId) (sign other : Bool) → left ≡ On x sign →
@@ -66,7 +60,7 @@ pub declared_nowhere : (r : ResolvedNode) (x : VariableId) → length r.variable
     Base ≡ declared_in r x
 declared_nowhere r x le = rw (slice_get_past r.variables.items x.0 le) refl
 
-same_is : (a b : Bool) → same a b ≡ true → a ≡ b
+pub same_is : (a b : Bool) → same a b ≡ true → a ≡ b
 same_is true true e = refl
 same_is true false e = absurd cc
 same_is false true e = absurd cc

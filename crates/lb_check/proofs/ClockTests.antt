@@ -1,14 +1,16 @@
 -- When two clocks of a node are the same, and the declared clock of a variable.
 use Rattle.std.proofs.Common.{◌≡◌, ◌≢◌, ℕ, zero, suc, ◌<◌, Bool, true, false, List, [], ◌∷◌, ◌++◌}
 use Rattle.std.proofs.Common.{length, Option, Some, None, refl, ap, sym, ◌∙◌, subst, arith}
-use Rattle.std.specs.Prelude.{◌&&◌, ◌||◌, is_some, slice_get, nat_eq}
+use Rattle.std.specs.Prelude.{◌&&◌, is_some, slice_get, nat_eq}
 use Rattle.std.specs.List.{list_all}
 use Rattle.std.specs.Str.{bytes_eq}
-use mathlib.Core.Bool.{beq}
 use Rattle.std.proofs.lemmas.Bool.Decides.{nat_tests}
 use Rattle.std.proofs.lemmas.Slice.Eq.{bytes_eq-Decides}
+use Rattle.std.proofs.Math.Bool.{and_self, or-true}
 use Rattle.lb_syntax.specs.Lists.{◌>>=◌, either_or}
 use Rattle.lb_syntax.specs.Tree.{Name}
+use Rattle.lb_syntax.proofs.ListPlaces.{all_at, item_at}
+use Rattle.lb_syntax.proofs.TruthValues.{and_first, and_second, both_ways}
 use Rattle.lb_static.specs.Parts.{among, variable_names}
 use Rattle.lb_static.specs.ResolvedTerms.{is_variable, is_declared_within, is_sampling_within}
 use Rattle.lb_static.specs.ResolvedTerms.{are_statics}
@@ -25,17 +27,11 @@ use Rattle.lb_check.specs.TermClocks.{clock_with, declared_in, is_same}
 use Rattle.lb_check.specs.declared.own_clock.Clock.{Clock as Compared}
 use Rattle.lb_check.specs.declared.own_clock.Clock.TheVariants as code
 use Rattle.lb_check.proofs.ClockedNodes.{as_many_names}
-use Rattle.lb_check.proofs.NodePlaces.{all_at, held}
 use Rattle.lb_check.proofs.OwnClocks.{clock_of_free, clock_of_waiting, same_signs, other_variable}
-use Rattle.lb_check.proofs.TruthValues.{and_first, and_second, both_ways}
+use Rattle.lb_check.proofs.OwnClocks.{beq_same}
+use Rattle.lb_check.proofs.ClockSetRows.{same_is as same_one}
 
 -- ## Clocks of a text
-
-same_one : (a b : Bool) → same a b ≡ true → a ≡ b
-same_one true true e = refl
-same_one true false e = absurd cc
-same_one false true e = absurd cc
-same_one false false e = refl
 
 same_itself : (a : Bool) → same a a ≡ true
 same_itself true = refl
@@ -66,11 +62,7 @@ clock_turned k l = both_ways (is_clock k l) (is_clock l k) (turned k l) (turned 
 -- a clock that is each of two clocks is the first, where they are one
 pub on_one : (k c d : Clock) → is_clock c d ≡ true → (is_clock k c && is_clock k d) ≡ is_clock k c
 on_one k c d e = subst (λ m. (is_clock k c && is_clock k m) ≡ is_clock k c) (clock_same c d e)
-    (twice (is_clock k c))
-  where
-    twice : (b : Bool) → (b && b) ≡ b
-    twice true = refl
-    twice false = refl
+    (and_self (is_clock k c))
 
 -- no clock is each of two others
 pub on_two : (k c d : Clock) → is_clock c d ≡ false → (is_clock k c && is_clock k d) ≡ false
@@ -82,23 +74,13 @@ on_two k c d e = by (is_clock k c) refl
 
 -- ## Clocks of a node
 
-beq_same : (a b : Bool) → beq a b ≡ same a b
-beq_same true true = refl
-beq_same true false = refl
-beq_same false true = refl
-beq_same false false = refl
-
 pub among_at : (xs : List Name) (i : ℕ) (x : Name) → slice_get xs i ≡ Some x → among x xs ≡ true
 among_at [] i x e = absurd cc
 among_at (n ∷ xs) zero x e =
     let one : n ≡ x = cc in
     let z : bytes_eq x n ≡ true = (bytes_eq-Decides x n).1 (sym one) in
     rw z refl
-among_at (n ∷ xs) (suc i) x e = rw (among_at xs i x e) (or_true (bytes_eq x n))
-  where
-    or_true : (b : Bool) → (b || true) ≡ true
-    or_true true = refl
-    or_true false = refl
+among_at (n ∷ xs) (suc i) x e = rw (among_at xs i x e) (or-true (bytes_eq x n))
 
 some_is : (o : Option Clock) → is_some o ≡ true → o ≡ Some (clock_or o)
 some_is None e = absurd cc
@@ -129,14 +111,14 @@ module _ (r : ResolvedNode) (h : HasClocks r) where
     below = grind (arith, nat_tests)
 
     variable : (v : Variable) × (slice_get r.variables.items x.0 ≡ Some v)
-    variable = held r.variables.items x.0 below
+    variable = item_at r.variables.items x.0 below
 
     name_there : slice_get (variable_names (node_of r)) x.0 ≡ Some (name_in r x)
     name_there =
         let names = variable_names (node_of r) in
         let as_many = as_many_names h.nodes r h.resolved h.distinct in
         let lt = below in
-        let z = held names x.0 (omega (arith, as_many, lt)) in
+        let z = item_at names x.0 (omega (arith, as_many, lt)) in
         z.1 ∙ ap Some (sym (ap (λ o. either_or o []) z.1))
 
     -- a variable of the node is among its names

@@ -10,8 +10,12 @@ use Rattle.std.proofs.lemmas.Slice.Eq.{bytes_eq-Decides}
 use Rattle.std.proofs.lemmas.Option.{slice_get_within}
 use Rattle.std.proofs.lemmas.List.{length-take, length-drop, length-map, length-append}
 use Rattle.std.proofs.lemmas.List.{append_assoc, drop_more}
+use Rattle.std.proofs.Math.Bool.{and-true, and-false}
+use Rattle.std.proofs.lemmas.Bool.{not-true}
 use Rattle.lb_syntax.specs.Lists.{◌>>=◌, zip2, either_or}
 use Rattle.lb_syntax.specs.Tree.{Name, Static, Declaration, Node}
+use Rattle.lb_syntax.proofs.ListPlaces.{all_from, item_at}
+use Rattle.lb_syntax.proofs.TruthValues.{and_first, and_second}
 use Rattle.lb_static.specs.StaticValues.{named}
 use Rattle.lb_static.specs.Names.{are_distinct}
 use Rattle.lb_static.specs.Parts.{among, variable_names}
@@ -26,9 +30,7 @@ use Rattle.lb_check.specs.Clocks.{Clock, On, clock_within, sampled, depth, varia
 use Rattle.lb_check.specs.ClockDepths.{awaited, AreAwaited, AreFound, depth_within, waits_below}
 use Rattle.lb_check.specs.ClockRules.{is_clocked_by, are_declared_clocks}
 use Rattle.lb_check.proofs.ClockDepths.{its_depth}
-use Rattle.lb_check.proofs.TruthValues.{and_first, and_second, and_true, and_false, not_true}
 use Rattle.lb_check.proofs.DistinctNames.{not_among, unequal}
-use Rattle.lb_check.proofs.NodePlaces.{held}
 
 -- ## A place and its name
 
@@ -48,7 +50,7 @@ found_at (c ∷ ds) zero d u e =
     let z = (bytes_eq-Decides d.name d.name).1 refl in
     subst (λ (w : Declaration). named (λ d. d.name) d.name (w ∷ ds) ≡ Some d) (sym same) (rw z refl)
 found_at (c ∷ ds) (suc i) d u e =
-    let a = not_true _ (and_first (not (among c.name (map (λ d. d.name) ds))) _ u) in
+    let a = not-true _ (and_first (not (among c.name (map (λ d. d.name) ds))) _ u) in
     let no = not_among c.name (map (λ d. d.name) ds) i d.name a (get_name ds i d e) in
     rw no (found_at ds i d (and_second (not (among c.name (map (λ d. d.name) ds))) _ u) e)
 
@@ -79,7 +81,7 @@ among_first (n ∷ names) (suc k) zero x u e =
     let z : bytes_eq x n ≡ true = (bytes_eq-Decides x n).1 (sym same) in
     rw z (grind (arith, nat_tests))
 among_first (n ∷ names) (suc k) (suc y) x u e =
-    let a = not_true _ (and_first (not (among n names)) _ u) in
+    let a = not-true _ (and_first (not (among n names)) _ u) in
     let no : bytes_eq x n ≡ false = unequal n x (not_among n names y x a e) in
     let next = among_first names k y x (and_second (not (among n names)) _ u) e in
     let shift : nat_lt y k ≡ nat_lt (suc y) (suc k) = grind (arith, nat_tests) in
@@ -128,8 +130,8 @@ module _ (names : List Name) (statics : List Static) (vs : List Variable) (ds : 
       let aw : awaited vs i ≡ Some y = rw (h, is) refl in
       let lt : y < length vs = there i y aw in
       let less : y < length names = omega arith in
-      let w = held vs y lt in
-      let z = held names y less in
+      let w = item_at vs y lt in
+      let z = item_at names y less in
       let decl = declaration_of names statics z.0 w.0 in
       let here : named (λ d. d.name) (name_at names s.variable) ds ≡ Some decl =
       ap (λ o. named (λ d. d.name) (either_or o []) ds) z.1
@@ -157,7 +159,7 @@ module _ (names : List Name) (statics : List Static) (vs : List Variable) (ds : 
       → option_map depth (named (λ d. d.name) x ds >>= clock_within (suc (length ds)) ds) ≡
       depth_within (suc (length ds)) vs i
   place_depth i x lt e =
-      let v = held vs i lt in
+      let v = item_at vs i lt in
       let decl = declaration_of names statics x v.0 in
       ap (λ o. option_map depth (o >>= clock_within (suc (length ds)) ds))
       (at_name i decl (at_place i x v.0 e v.1))
@@ -171,12 +173,12 @@ module _ (names : List Name) (statics : List Static) (vs : List Variable) (ds : 
   clocked_one k allowed x v (Some s) is first w =
       let lt : nat_lt s.variable.0 (length names) ≡ true = rw is at w in
       let less : s.variable.0 < length names = grind (arith, nat_tests) in
-      let z = held names s.variable.0 less in
+      let z = item_at names s.variable.0 less in
       let found : among (name_at names s.variable)
       (map (λ d. d.name) allowed) ≡ nat_lt s.variable.0 k =
       ap (λ o. among (either_or o []) (map (λ d. d.name) allowed)) z.1 ∙ ap (among z.0) first
       ∙ among_first names k s.variable.0 z.0 distinct z.1 in
-      rw is (ap (λ b. b && true) found ∙ and_true (nat_lt s.variable.0 k))
+      rw is (ap (λ b. b && true) found ∙ and-true (nat_lt s.variable.0 k))
 
   clocked_list : (k : ℕ) (allowed : List Declaration) (xs : List Name) (us : List Variable) →
       length xs ≡ length us → map (λ d. d.name) allowed ≡ take k names
@@ -201,16 +203,11 @@ waits_next k vs i d lt = ap (list_all (waits_below k)) (drop_more vs i d lt)
 
 -- ## Nodes
 
-all_true : {A : Type 0} (f : A → Bool) (xs : List A) →
-    ((i : ℕ) (x : A) → slice_get xs i ≡ Some x → f x ≡ true) → list_all f xs ≡ true
-all_true f [] each = refl
-all_true f (x ∷ xs) each = rw (each 0 x refl) (all_true f xs (λ i y e. each (suc i) y e))
-
 one_false : {A : Type 0} (f : A → Bool) (xs : List A) (i : ℕ) (x : A) → slice_get xs i ≡ Some x →
     f x ≡ false → list_all f xs ≡ false
 one_false f [] i x e not_so = absurd cc
 one_false f (y ∷ xs) zero x e not_so = let same : y ≡ x = cc in rw same (rw not_so refl)
-one_false f (y ∷ xs) (suc i) x e not_so = rw (one_false f xs i x e not_so) (and_false (f y))
+one_false f (y ∷ xs) (suc i) x e not_so = rw (one_false f xs i x e not_so) (and-false (f y))
 
 pub first_names : (xs ys : List Declaration) →
     take (length xs) (map (λ d. d.name) (xs ++ ys)) ≡ map (λ d. d.name) xs
@@ -233,7 +230,7 @@ pub same_taken : {A B : Type 0} (k : ℕ) (xs : List A) (ys : List B) → length
     length (take k xs) ≡ length (take k ys)
 same_taken k xs ys e = length-take k xs ∙ ap (min k) e ∙ sym (length-take k ys)
 
-same_dropped : {A B : Type 0} (k : ℕ) (xs : List A) (ys : List B) → length xs ≡ length ys →
+pub same_dropped : {A B : Type 0} (k : ℕ) (xs : List A) (ys : List B) → length xs ≡ length ys →
     length (drop k xs) ≡ length (drop k ys)
 same_dropped k xs ys e = length-drop k xs ∙ ap (λ n. n - k) e ∙ sym (length-drop k ys)
 
@@ -385,7 +382,7 @@ module _ (nodes : List Name) (r : ResolvedNode) (e : IsResolved nodes r)
 
   each_ends : (depths : List (Option ℕ)) → AreFound r.variables.items (Some depths) →
       list_all (λ x. is_some (variable_clock (node_of r) x)) names_here ≡ true
-  each_ends depths found = all_true _ names_here (λ i x h.
+  each_ends depths found = all_from _ names_here (λ i x h.
       let less = slice_get_within names_here i x h in
       let lt : i < length r.variables.items = omega (arith, as_many_names) in
       let known = found.1 i lt in
@@ -399,7 +396,7 @@ module _ (nodes : List Name) (r : ResolvedNode) (e : IsResolved nodes r)
   one_runs found =
       let lt = found.1 in
       let less : found.0 < length names_here = omega (arith, as_many_names) in
-      let x = held names_here found.0 less in
+      let x = item_at names_here found.0 less in
       one_false _ names_here found.0 x.0 x.1
       (place_some found.0 x.0 found.1 x.1 ∙ ap is_some found.2)
 
@@ -434,7 +431,7 @@ module _ (nodes : List Name) (r : ResolvedNode) (e : IsResolved nodes r)
       → ls ≡ r.variables.items → false ≡ are_declared_clocks (node_of r)
   outputs_refused ls found same =
       sym (clocks_kept ∙ rw (outputs_found false ls found same)
-      (and_false (list_all (waits_below r.inputs) (take r.inputs r.variables.items))))
+      (and-false (list_all (waits_below r.inputs) (take r.inputs r.variables.items))))
 
   -- the answer for one whose inputs and outputs wait for such as they may
   clocks_answer : (o : Option (List (Option ℕ))) (ls ms : List Variable) →

@@ -5,8 +5,10 @@ use Rattle.std.proofs.Common.{arith}
 use Rattle.std.specs.Prelude.{◌&&◌, cond, filter, is_some, nat_eq, slice_get}
 use Rattle.std.specs.List.{list_all}
 use Rattle.std.proofs.lemmas.Bool.Decides.{nat_tests}
+use Rattle.std.proofs.lemmas.Bool.{and_from}
 use Rattle.lb_syntax.specs.Lists.{In, some_of}
 use Rattle.lb_syntax.specs.Tree.{Node}
+use Rattle.lb_syntax.proofs.TruthValues.{and_first, and_second}
 use Rattle.lb_static.specs.DataTypes.{variables}
 use Rattle.lb_static.specs.Instances.{Program, Instance, Site, node_sites, numbered_sites}
 use Rattle.lb_static.proofs.Members.{in_filter, place_in}
@@ -17,7 +19,6 @@ use Rattle.lb_check.proofs.CallNumbers.{found_in}
 use Rattle.lb_check.proofs.ListPairs.{cons_same}
 use Rattle.lb_check.proofs.OccurrenceSites.{own_site, site_test}
 use Rattle.lb_check.proofs.SiteOccurrences.{own_call, calls_among, AreCallsOf, body_calls}
-use Rattle.lb_check.proofs.TruthValues.{and_first, and_second, both_true}
 
 abbrev pub is_call : Occurrence → Bool
 is_call o = is_site o.expr
@@ -64,7 +65,7 @@ numbered_counted n (o ∷ os) ss e =
         let number : o.calls_before ≡ n = ap (λ (c : ℕ × Site). c.0) both.0 in
         let own : nat_eq o.calls_before n ≡ true = grind (arith, nat_tests) in
         ap (λ b. counted_from n (cond b (o ∷ calls_in os) (calls_in os))) is
-        ∙ both_true (nat_eq o.calls_before n) _ own (later (suc n) ts both.1)
+        ∙ and_from (nat_eq o.calls_before n) _ own (later (suc n) ts both.1)
 
 -- so are those of a node of which an instance keeps the rules of types
 pub node_counted :

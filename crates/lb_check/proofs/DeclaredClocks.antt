@@ -1,10 +1,12 @@
 -- The declared clocks of a node: how deep they stand, and that the clock of a variable waits for
 -- the declared clock of the variable that it waits for.
-use Rattle.std.proofs.Common.{◌≡◌, inl, inr, ℕ, zero, suc, ◌+◌, ◌*◌, ◌<◌, ◌≤◌, Bool, Option, Some}
+use Rattle.std.proofs.Common.{◌≡◌, ℕ, zero, suc, ◌*◌, ◌<◌, ◌≤◌, Option, Some}
 use Rattle.std.proofs.Common.{None, List, [], ◌∷◌, length, map, refl, ap, sym, ◌∙◌, subst, arith}
 use Rattle.std.specs.Str.{bytes_eq}
+use Rattle.std.proofs.lemmas.Option.{same_Some}
 use Rattle.lb_syntax.specs.Lists.{◌>>=◌, In}
 use Rattle.lb_syntax.specs.Tree.{Name, Declaration, Sampling, Node}
+use Rattle.lb_syntax.proofs.Readers.{bind_some}
 use Rattle.lb_static.specs.DataTypes.{variables}
 use Rattle.lb_static.specs.Parts.{variable_names}
 use Rattle.lb_static.specs.StaticValues.{named}
@@ -12,10 +14,8 @@ use Rattle.lb_static.proofs.Members.{in_map}
 use Rattle.lb_check.specs.Clocks.{Clock, Base, On, sampled, clock_within, variable_clock, clock_or}
 use Rattle.lb_check.specs.Clocks.{declared_clock, depth, above, base_from, base_clock, own_depth}
 use Rattle.lb_check.proofs.InstanceNames.{find_in}
-use Rattle.lb_check.proofs.NamedClocks.{bound}
 use Rattle.lb_check.proofs.OccurrenceClocks.{IsVariable}
-use Rattle.lb_check.proofs.OperandTypes.{some_same}
-use Rattle.lb_check.proofs.TypedCalls.{named_there, found_name}
+use Rattle.lb_check.proofs.TypedCalls.{found_name}
 
 -- ## How far clocks are followed
 
@@ -33,9 +33,9 @@ module _ (vars : List Declaration) where
           sampled (clock_within (suc m) vars) vars o ≡ Some k
       by again None h = h
       by again (Some s) h =
-          let v = bound (named (λ v. v.name) s.variable vars)
+          let v = bind_some (named (λ v. v.name) s.variable vars)
           (λ v. clock_within m vars v >>= λ l. Some (On l s.variable s.sign)) k h in
-          let up = bound (clock_within m vars v.0) (λ l. Some (On l s.variable s.sign)) k v.2 in
+          let up = bind_some (clock_within m vars v.0) (λ l. Some (On l s.variable s.sign)) k v.2 in
           ap (λ o. o >>= λ v. clock_within (suc m) vars v >>= λ l. Some (On l s.variable
           s.sign)) v.1
           ∙ ap (λ o. o >>= λ l. Some (On l s.variable s.sign)) (again v.0 up.0 up.1) ∙ up.2
@@ -50,14 +50,14 @@ module _ (vars : List Declaration) where
           (o : Option Sampling) → sampled (clock_within m vars) vars o ≡ Some k →
           depth k < suc m
       by again None h =
-          let base : Base ≡ k = some_same Base k h in
+          let base : Base ≡ k = same_Some Base k h in
           let none : 0 ≡ depth k = ap depth base in
           omega (arith, none)
       by again (Some s) h =
-          let v = bound (named (λ v. v.name) s.variable vars)
+          let v = bind_some (named (λ v. v.name) s.variable vars)
           (λ v. clock_within m vars v >>= λ l. Some (On l s.variable s.sign)) k h in
-          let up = bound (clock_within m vars v.0) (λ l. Some (On l s.variable s.sign)) k v.2 in
-          let on : On up.0 s.variable s.sign ≡ k = some_same _ k up.2 in
+          let up = bind_some (clock_within m vars v.0) (λ l. Some (On l s.variable s.sign)) k v.2 in
+          let on : On up.0 s.variable s.sign ≡ k = same_Some _ k up.2 in
           let deep : suc (depth up.0) ≡ depth k = ap depth on in
           let below = again v.0 up.0 up.1 in
           omega (arith, deep, below)
@@ -85,20 +85,20 @@ module _ (n : Node) where
       by : (o : Option Sampling) →
           sampled (clock_within (length (variables n)) (variables n)) (variables n) o ≡ Some k →
           IsOwn k
-      by None h = subst IsOwn (some_same Base k h) tt
+      by None h = subst IsOwn (same_Some Base k h) tt
       by (Some s) h =
           let vars = variables n in
           let m = length (variables n) in
-          let v = bound (named (λ v. v.name) s.variable vars)
+          let v = bind_some (named (λ v. v.name) s.variable vars)
           (λ v. clock_within m vars v >>= λ l. Some (On l s.variable s.sign)) k h in
-          let up = bound (clock_within m vars v.0) (λ l. Some (On l s.variable s.sign)) k v.2 in
+          let up = bind_some (clock_within m vars v.0) (λ l. Some (On l s.variable s.sign)) k v.2 in
           let more = within_more vars m v.0 up.0 up.1 in
           let found : variable_clock n s.variable ≡ Some up.0 =
           ap (λ o. o >>= clock_within (suc m) vars) v.1 ∙ more in
           let declared : up.0 ≡ declared_clock n s.variable = sym (ap clock_or found) in
           let own : IsOwn (On up.0 s.variable s.sign) =
           (declared, found_variable s.variable v.0 v.1) in
-          subst IsOwn (some_same (On up.0 s.variable s.sign) k up.2) own
+          subst IsOwn (same_Some (On up.0 s.variable s.sign) k up.2) own
 
   -- a declared clock is one of these
   pub declared_own : (x : Name) → IsOwn (declared_clock n x)

@@ -8,6 +8,7 @@ use Rattle.lb_syntax.specs.Tree.{Name, Node_named, Symbol, Expr, Literal, Truth,
 use Rattle.lb_syntax.specs.Tree.{Unary, Binary, If, Arrow, Fby, Pre, Current, When, Replicate}
 use Rattle.lb_syntax.specs.Tree.{Index, Slice, Join, Array, AtMostOne, Nor, Call, Iterate, Exprs}
 use Rattle.lb_syntax.specs.Tree.{Nil, Cons, Declaration, Node}
+use Rattle.lb_syntax.proofs.TruthValues.{and_first}
 use Rattle.lb_static.specs.Instances.{Program, Instance, Site, sites, sites_in, numbered_sites}
 use Rattle.lb_static.specs.Instances.{node_named, instance_count, callee_of, static_count}
 use Rattle.lb_static.specs.DataTypes.{DataType, variables}
@@ -26,7 +27,6 @@ use Rattle.lb_check.proofs.NamedClocks.{either, IsOver, above_over, parent_over,
 use Rattle.lb_check.proofs.NamedClocks.{when_over, result_over}
 use Rattle.lb_check.proofs.OperandTypes.{bound, one, two, from_true, first_of_all, placed}
 use Rattle.lb_check.proofs.OperandTypes.{one_output}
-use Rattle.lb_check.proofs.TruthValues.{and_first}
 
 -- how many instances a call has, and none where its count has no value
 abbrev pub count_of : Program → Instance → Site → ℕ

@@ -5,10 +5,11 @@ use Rattle.std.specs.Prelude.{not, nat_lt, slice_get, ◌==◌}
 use Rattle.std.specs.Str.{bytes_eq}
 use Rattle.std.proofs.lemmas.Bool.Decides.{nat_tests}
 use Rattle.std.proofs.lemmas.Slice.Eq.{bytes_eq-Decides}
+use Rattle.std.proofs.lemmas.Bool.{not-true}
 use Rattle.lb_syntax.specs.Tree.{Name}
+use Rattle.lb_syntax.proofs.TruthValues.{and_first, and_second, or_first, or_second}
 use Rattle.lb_static.specs.Parts.{among}
 use Rattle.lb_static.specs.Names.{are_distinct}
-use Rattle.lb_check.proofs.TruthValues.{and_first, and_second, not_true, or_first, or_second}
 
 among_append : (x : Name) (ys zs : List Name) → among x (ys ++ zs) ≡ false → among x ys ≡ false
 among_append x [] zs e = refl
@@ -20,7 +21,7 @@ among_append x (y ∷ ys) zs e =
 pub distinct_first : (xs ys : List Name) → are_distinct (xs ++ ys) ≡ true → are_distinct xs ≡ true
 distinct_first [] ys e = refl
 distinct_first (x ∷ xs) ys e =
-    let a = among_append x xs ys (not_true _ (and_first _ (are_distinct (xs ++ ys)) e)) in
+    let a = among_append x xs ys (not-true _ (and_first _ (are_distinct (xs ++ ys)) e)) in
     rw a (distinct_first xs ys (and_second (not (among x (xs ++ ys))) _ e))
 
 pub not_among : (x : Name) (ys : List Name) (i : ℕ) (y : Name) → among x ys ≡ false →
@@ -64,11 +65,11 @@ distinct_at (z ∷ xs) zero zero x y d p q =
     let same : x ≡ y = sym s ∙ t in (bytes_eq-Decides x y).1 same
 distinct_at (z ∷ xs) zero (suc j) x y d p q =
     let s : z ≡ x = cc in
-    let no = not_among z xs j y (not_true _ (and_first _ (are_distinct xs) d)) q in
+    let no = not_among z xs j y (not-true _ (and_first _ (are_distinct xs) d)) q in
     subst (λ w. bytes_eq w y ≡ false) s no ∙ sym (zero_suc j)
 distinct_at (z ∷ xs) (suc i) zero x y d p q =
     let s : z ≡ y = cc in
-    let no = not_among z xs i x (not_true _ (and_first _ (are_distinct xs) d)) p in
+    let no = not_among z xs i x (not-true _ (and_first _ (are_distinct xs) d)) p in
     subst (λ w. bytes_eq x w ≡ false) s (unequal z x no) ∙ sym (suc_zero i)
 distinct_at (z ∷ xs) (suc i) (suc j) x y d p q =
     distinct_at xs i j x y (and_second (not (among z xs)) _ d) p q ∙ same_suc i j

@@ -8,8 +8,12 @@ use Rattle.std.specs.Str.{bytes_eq}
 use Rattle.std.specs.List.{range_with_len}
 use Rattle.std.proofs.lemmas.List.{length-replicate}
 use Rattle.std.proofs.lemmas.Slice.Eq.{bytes_eq-Decides}
+use Rattle.std.proofs.lemmas.Option.{slice_get_within, same_Some}
+use Rattle.std.proofs.lemmas.Bool.{not-true}
 use Rattle.lb_syntax.specs.Lists.{Every, In}
 use Rattle.lb_syntax.specs.Tree.{Name, Declaration}
+use Rattle.lb_syntax.proofs.ListPlaces.{get_first, get_later, mapped_from, item_at}
+use Rattle.lb_syntax.proofs.TruthValues.{and_first, and_second}
 use Rattle.lb_static.specs.DataTypes.{variables, width}
 use Rattle.lb_static.specs.Instances.{Program, Instance, instances}
 use Rattle.lb_static.specs.Instantiation.{static_refusal}
@@ -23,11 +27,7 @@ use Rattle.lb_check.proofs.ApartLists.{Every-at, Every-from, AreApart, apart_sin
 use Rattle.lb_check.proofs.Every.{Every-all}
 use Rattle.lb_check.proofs.InstanceNames.{variables_distinct}
 use Rattle.lb_check.proofs.InstancePaths.{at_path, same_instance}
-use Rattle.lb_check.proofs.ListPairs.{get_first, get_later, mapped_from}
-use Rattle.lb_check.proofs.NodePlaces.{held}
-use Rattle.lb_check.proofs.Numbers.{got_within, length_elements, range_get}
-use Rattle.lb_check.proofs.OperandTypes.{some_same}
-use Rattle.lb_check.proofs.TruthValues.{and_first, and_second, not_true}
+use Rattle.lb_check.proofs.Numbers.{length_elements, range_get}
 
 -- ## Lists of pieces that are as long
 
@@ -74,9 +74,9 @@ module _ {A B C : Type 0} (f : A → List B) (g : A → List C) where
     where
       here : slice_get (f x) i ≡ Some b → IsBeside b i (x ∷ xs)
       here at =
-          let within = got_within (f x) i b at in
+          let within = slice_get_within (f x) i b at in
           let long = h.0 in
-          let other = held (g x) i (omega (arith, within, long)) in
+          let other = item_at (g x) i (omega (arith, within, long)) in
           record {
             source = x;
             is_in = inl refl;
@@ -119,7 +119,7 @@ distinct_apart (x ∷ xs) e = (
 )
   where
     once : among x xs ≡ false
-    once = not_true (among x xs) (and_first (not (among x xs)) _ e)
+    once = not-true (among x xs) (and_first (not (among x xs)) _ e)
 
     twice : among x xs ≡ true → ⊥
     twice again = absurd cc
@@ -191,9 +191,9 @@ module _ (P : Program) {A : Type 0} (of : Instance → Declaration → A) where
       let m = mapped_from (λ k. record { path = here.path; variable = d.name; index = k })
       (range_with_len 0 w) i x e in
       let long = length_elements P here d in
-      let within = got_within (elements P here d) i x e in
+      let within = slice_get_within (elements P here d) i x e in
       let below : i < w = omega (arith, long, within) in
-      let number : 0 + i ≡ m.0 = some_same (0 + i) m.0 (sym (range_get 0 w i below) ∙ m.1) in
+      let number : 0 + i ≡ m.0 = same_Some (0 + i) m.0 (sym (range_get 0 w i below) ∙ m.1) in
       record {
         path = sym (ap (λ (z : Element). z.path) m.2);
         name = sym (ap (λ (z : Element). z.variable) m.2);

@@ -5,10 +5,15 @@ use Rattle.std.proofs.Common.{refl, ap, sym, ◌∙◌, subst, arith}
 use Rattle.std.specs.Prelude.{◌&&◌, ◌||◌, not, slice_get, nat_eq, nat_lt, if◌then◌else◌}
 use Rattle.std.specs.List.{list_all}
 use Rattle.std.proofs.lemmas.Bool.Decides.{nat_tests}
-use Rattle.std.proofs.lemmas.List.{length-map}
+use Rattle.std.proofs.lemmas.List.{length-map, nil_from_length}
+use Rattle.std.proofs.lemmas.Bool.{lt-ltb, and_from}
+use Rattle.std.proofs.Math.Nat.{add-sub_cancel_left}
+use Rattle.std.proofs.Math.Bool.{and-true}
 use Rattle.lb_syntax.specs.Lists.{either_or, listed, or_else}
 use Rattle.lb_syntax.specs.Tree as text
 use Rattle.lb_syntax.specs.Tree.{Name, Expr, Declaration}
+use Rattle.lb_syntax.proofs.TruthValues.{and_first, and_second, both_ways}
+use Rattle.lb_syntax.proofs.ListPlaces.{item_at, all_at, mapped_from}
 use Rattle.lb_static.specs.Instances.{Program, Site, node_named}
 use Rattle.lb_static.specs.ResolvedNodes.{node_of, texts_of, counts_of}
 use Rattle.lb_static.specs.ResolvedTerms.{exprs_of, is_within, is_unhidden, is_variable}
@@ -32,20 +37,18 @@ use Rattle.lb_check.specs.declared.own_clock.Clock.{Clock}
 use Rattle.lb_check.specs.declared.own_clock.Clock.TheVariants.{Base}
 use Rattle.lb_check.specs.declared.clock_set.ClockSet.{ClockSet}
 use Rattle.lb_check.specs.declared.clock_set.ClockSet.TheVariants.{OneClock}
-use Rattle.lb_check.proofs.ClockLists.{clocks_length, clocks_at, clocks_from, nil_of, place_split}
-use Rattle.lb_check.proofs.ClockLists.{small_place, later_place, less_place}
+use Rattle.lb_check.proofs.ClockLists.{clocks_length, clocks_at, clocks_from, place_split}
+use Rattle.lb_check.proofs.ClockLists.{later_place}
 use Rattle.lb_check.proofs.CallOperands.{are_given_is, own_inputs, clock_set_within, waited_given}
 use Rattle.lb_check.proofs.CallOperands.{input_waits, output_waits, inputs_seen, inputs_is_given}
 use Rattle.lb_check.proofs.CallOperands.{code_known, code_stand, same_fits}
 use Rattle.lb_check.proofs.CallClockSets as one
 use Rattle.lb_check.proofs.FittingClocks.{IsGiven, IsWithin, fits_on, fit_some, fit_none}
 use Rattle.lb_check.proofs.FittingClocks.{base_within, base_is}
-use Rattle.lb_check.proofs.TruthValues.{and_first, and_second, and_true, both_true, both_ways}
 use Rattle.lb_check.proofs.GivenNames.{given_in, given_out, found_before, output_at, output_held}
 use Rattle.lb_check.proofs.GivenNames.{variable_held}
-use Rattle.lb_check.proofs.NodePlaces.{held, all_at}
-use Rattle.lb_check.proofs.ListPairs.{get_mapped, mapped_from, get_taken, taken, get_dropped}
-use Rattle.lb_check.proofs.ListPairs.{each_pair, pair_at, pairs_from}
+use Rattle.lb_check.proofs.ListPairs.{get_mapped, get_taken, taken, get_dropped, each_pair, pair_at}
+use Rattle.lb_check.proofs.ListPairs.{pairs_from}
 use Rattle.lb_check.proofs.ClockTests.{clock_same, clock_turned}
 use Rattle.lb_check.proofs.OuterClocks.{stood, clock_equal, above_outer, declared_is, place_name}
 use Rattle.lb_check.proofs.OuterClocks.{variable_at, seen, expected_on, AreGiven, StandFor}
@@ -74,20 +77,20 @@ module _ (P : Program) (here callee : ResolvedNode) (h : HasClocks here) (hc : H
   Y = stands_for callee.inputs (operands_of ctx es) lefts
 
   pub Y_in : (i : ℕ) → i < callee.inputs → Y i ≡ given_at (operands_of ctx es) i
-  Y_in i lt = rw (small_place i callee.inputs lt) refl
+  Y_in i lt = rw (lt-ltb i callee.inputs lt) refl
 
   Y_out : (j : ℕ) → Y (callee.inputs + j) ≡ slice_get lefts j
-  Y_out j = rw (later_place callee.inputs j, less_place callee.inputs j) refl
+  Y_out j = rw (later_place callee.inputs j, add-sub_cancel_left callee.inputs j) refl
 
   -- where what stands for a variable of the callee may stand
   abbrev S : ℕ → Option ClockSet
   S i = if nat_lt i callee.inputs then slice_get ss i else slice_get ls (i - callee.inputs)
 
   S_in : (i : ℕ) → i < callee.inputs → S i ≡ slice_get ss i
-  S_in i lt = rw (small_place i callee.inputs lt) refl
+  S_in i lt = rw (lt-ltb i callee.inputs lt) refl
 
   S_out : (j : ℕ) → S (callee.inputs + j) ≡ slice_get ls j
-  S_out j = rw (later_place callee.inputs j, less_place callee.inputs j) refl
+  S_out j = rw (later_place callee.inputs j, add-sub_cancel_left callee.inputs j) refl
 
   abbrev inner : tree.Given
   inner = given_inputs (node_of callee).inputs args
@@ -212,7 +215,7 @@ module _ (P : Program) (here callee : ResolvedNode) (h : HasClocks here) (hc : H
                 (y.0, Y_in s.variable.0 less ∙ y.1)
             | inr p ↦
                 let small = p.2 in
-                let y = held lefts p.0 (omega (arith, many)) in
+                let y = item_at lefts p.0 (omega (arith, many)) in
                 (y.0, ap Y p.1 ∙ Y_out p.0 ∙ y.1)
           ],
         )
@@ -459,7 +462,7 @@ module _ (P : Program) (here callee : ResolvedNode) (h : HasClocks here) (hc : H
         let count : length (node_of callee).outputs ≡ 0 =
         sym (ap length (sym none) ∙ many ∙ hc.resolved.outputs) in
         ap (λ l. base_clock (clock_on l) (node_of callee)) none
-        ∙ ap (base_from tree.Base (node_of callee)) (nil_of (node_of callee).outputs count)
+        ∙ ap (base_from tree.Base (node_of callee)) (nil_from_length (node_of callee).outputs count)
 
     base_first : (k : tree.Clock) (ds : List Declaration) (d : Declaration) →
         slice_get ds 0 ≡ Some d → base_from k (node_of callee) ds ≡ above
@@ -565,7 +568,7 @@ module _ (P : Program) (here callee : ResolvedNode) (h : HasClocks here) (hc : H
           (one.results_seen P here callee h hc site named ctx declares es w u stand single k)
           ∙ ap (λ c. is_clock (seen callee inner c callee.inputs) k && true)
           (sym (one.base_up P here callee h hc site named ctx declares es w u stand single k))
-          ∙ and_true (is_clock (seen callee inner from_left callee.inputs) k)
+          ∙ and-true (is_clock (seen callee inner from_left callee.inputs) k)
           ∙ clock_equal (seen callee inner from_left callee.inputs) k (sym on)
 
     -- the rule for one result says nothing more
@@ -623,7 +626,7 @@ module _ (P : Program) (here callee : ResolvedNode) (h : HasClocks here) (hc : H
       (one.clocked_call P here callee h hc site named ctx declares es w u stand k m)
       ∙ ap (λ b. ((b && kept_one) && kept_in) && are_on_results P (node_of here) k xs whole)
       (are_given_is P here callee h hc ctx declares es w u stand)
-      ∙ ap (λ b. ((g && kept_one) && kept_in) && b) (ap results named ∙ and_true kept_out)
+      ∙ ap (λ b. ((g && kept_one) && kept_in) && b) (ap results named ∙ and-true kept_out)
 
   as_many : kept_out ≡ true → length lefts ≡ callee.outputs
   as_many out =
@@ -647,7 +650,7 @@ module _ (P : Program) (here callee : ResolvedNode) (h : HasClocks here) (hc : H
       let outside = to_out all many (from_left all many) inside out in
       let z = to_code all many lefts refl inside outside in
       let count : nat_eq (length lefts) callee.outputs ≡ true = grind (arith, nat_tests) in
-      both_true _ _ count (both_true g _ all (both_true fit_in fit_out z.0 z.1))
+      and_from _ _ count (and_from g _ all (and_from fit_in fit_out z.0 z.1))
 
   text_kept : (nat_eq (length lefts) callee.outputs && (g && (fit_in && fit_out))) ≡ true →
       (((g && kept_one) && kept_in) && kept_out) ≡ true
@@ -660,8 +663,8 @@ module _ (P : Program) (here callee : ResolvedNode) (h : HasClocks here) (hc : H
       let z = from_code all many lefts refl (and_first fit_in fit_out fit)
       (and_second fit_in fit_out fit) in
       let out = from_out all many (from_left all many) z.0 z.1 in
-      both_true _ kept_out
-      (both_true (g && kept_one) kept_in (both_true g kept_one all (one_kept all many z.0 z.1))
+      and_from _ kept_out
+      (and_from (g && kept_one) kept_in (and_from g kept_one all (one_kept all many z.0 z.1))
       (in_same all many (from_left all many) ∙ z.0))
       out
 
@@ -674,7 +677,7 @@ module _ (P : Program) (here callee : ResolvedNode) (h : HasClocks here) (hc : H
   module _ (m : ℕ) (whole_kept : is_clocked_on P here k m whole ≡ true)
       (on_results : are_on_results P (node_of here) k xs whole ≡ true) where
     judged : (((g && kept_one) && kept_in) && kept_out) ≡ true
-    judged = sym (rules m) ∙ both_true (is_clocked_on P here k m whole) _ whole_kept on_results
+    judged = sym (rules m) ∙ and_from (is_clocked_on P here k m whole) _ whole_kept on_results
 
     front : ((g && kept_one) && kept_in) ≡ true
     front = and_first ((g && kept_one) && kept_in) kept_out judged

@@ -1,10 +1,11 @@
 -- What holds of each item of a list.
 use Rattle.std.proofs.Common.{◌≡◌, ℕ, zero, suc, ◌+◌, ◌<◌, Bool, true, false, cond, List, [], ◌∷◌}
-use Rattle.std.proofs.Common.{◌++◌, Option, Some, None, map, flat_map, refl, ap₂, subst, arith}
-use Rattle.std.specs.Prelude.{◌||◌, IfSome}
+use Rattle.std.proofs.Common.{◌++◌, Option, Some, None, map, flat_map, refl, sym, ap₂, subst, arith}
+use Rattle.std.specs.Prelude.{◌||◌, reverse, IfSome}
 use Rattle.std.specs.List.{list_all, list_any, filter, range_with_len}
+use Rattle.std.proofs.lemmas.List.{reverse-append}
 use Rattle.lb_syntax.specs.Lists.{Every, some_of}
-use Rattle.lb_check.proofs.TruthValues.{and_first, and_second}
+use Rattle.lb_syntax.proofs.TruthValues.{and_first, and_second}
 
 pub Every-map :
     {A : Type 0} (P Q : A → Type 0) → ((a : A) → P a → Q a) → (xs : List A) →
@@ -120,3 +121,9 @@ pub flat_same :
     flat_map f xs ≡ flat_map g xs
 flat_same f g [] h = refl
 flat_same f g (x ∷ xs) h = ap₂ (λ ys zs. ys ++ zs) h.0 (flat_same f g xs h.1)
+
+pub Every-reverse : {A : Type 0} (Q : A → Type 0) (xs : List A) → Every Q xs → Every Q (reverse xs)
+Every-reverse Q [] h = tt
+Every-reverse Q (x ∷ xs) h =
+    subst (Every Q) (sym (reverse-append (x ∷ []) xs))
+    (Every-append Q (reverse xs) (x ∷ []) (Every-reverse Q xs h.1) (h.0, tt))

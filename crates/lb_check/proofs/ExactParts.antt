@@ -1,7 +1,6 @@
 -- In a small program the scalar elements of each element of an array are exactly as many as a
 -- checked program lends.
-use Rattle.std.proofs.Common.{◌≡◌, ℕ, ◌≤◌, min, true, None, Some}
-use Rattle.std.proofs.Common.{ap, sym, ◌∙◌, arith}
+use Rattle.std.proofs.Common.{◌≡◌, ℕ, ◌≤◌, min, true, None, Some, arith}
 use Rattle.std.specs.Prelude.{slice_get}
 use Rattle.lb_syntax.specs.Lists.{In}
 use Rattle.lb_syntax.specs.Tree.{Expr}
@@ -11,27 +10,15 @@ use Rattle.lb_static.specs.Parts.{node_parts}
 use Rattle.lb_static.proofs.Members.{in_at}
 use Rattle.lb_check.specs.Acceptance.{check_refusal}
 use Rattle.lb_check.specs.FoundTerms.{HasTypes}
-use Rattle.lb_check.specs.Occurrences.{Occurrence, node_occurrences}
 use Rattle.lb_check.specs.PlacedTypes.{found_in, parts_of}
 use Rattle.lb_check.specs.Streams.{part_count}
 use Rattle.lb_check.specs.TypeRules.{is_small}
 use Rattle.lb_check.specs.declared.found_types.NodeTypes.{NodeTypes}
-use Rattle.lb_check.proofs.AcceptedRules.{typed}
-use Rattle.lb_check.proofs.ListPairs.{get_mapped}
-use Rattle.lb_check.proofs.OccurrenceParts.{node_occurrence_parts}
 use Rattle.lb_check.proofs.PositiveTypes.{part_small}
 
 module _ (P : Program) (accepted : static_refusal P ≡ None) (checked : check_refusal P ≡ None)
     (small : is_small P ≡ true) (here : Instance) (stands : In here (instances P))
     (f : NodeTypes) (has : HasTypes P here f) where
-  -- the expression of an occurrence has its number
-  expression_at : (i : ℕ) (o : Occurrence) → slice_get (node_occurrences P here.node) i ≡ Some o →
-      slice_get (node_parts here.node) i ≡ Some o.expr
-  expression_at i o e =
-      ap (λ es. slice_get es i)
-      (sym (node_occurrence_parts P here (typed P checked here stands)))
-      ∙ get_mapped (λ o. o.expr) (node_occurrences P here.node) i o e
-
   exactly : (n k : ℕ) → n ≡ min k 65537 → k ≤ 65536 → n ≡ k
   exactly n k e le = omega (arith, e, le)
 
@@ -41,9 +28,3 @@ module _ (P : Program) (accepted : static_refusal P ≡ None) (checked : check_r
   parts_lent i e at =
       exactly (parts_of (found_in f) i) (part_count P here e) (has.parts i e at)
       (part_small P accepted checked here stands small e (in_at (node_parts here.node) i e at))
-
-  -- and by occurrences
-  pub occurrence_parts_lent :
-      (i : ℕ) (o : Occurrence) → slice_get (node_occurrences P here.node) i ≡ Some o →
-      parts_of (found_in f) i ≡ part_count P here o.expr
-  occurrence_parts_lent i o at = parts_lent i o.expr (expression_at i o at)

@@ -1,10 +1,10 @@
 -- The types of what a specialization calls are those that the definitions give it.
-use Rattle.std.proofs.Common.{◌≡◌, ℕ, zero, suc, ◌<◌, List, [], ◌∷◌, length, map, Some, refl, ap}
-use Rattle.std.proofs.Common.{sym, ◌∙◌, subst, arith}
+use Rattle.std.proofs.Common.{◌≡◌, ℕ, ◌<◌, length, map, Some, refl, ap, sym, ◌∙◌, subst, arith}
 use Rattle.std.specs.Prelude.{option_map, slice_get}
 use Rattle.std.proofs.lemmas.Option.{slice_get-map, slice_get_within, get_or_from_slice_get}
 use Rattle.lb_syntax.specs.Lists.{◌>>=◌, either_or}
 use Rattle.lb_syntax.specs.Tree.{Node_named}
+use Rattle.lb_syntax.proofs.ListPlaces.{item_at}
 use Rattle.lb_static.specs.declared.reach.Reached.{Reached}
 use Rattle.lb_static.specs.declared.resolved.CallId.{CallId}
 use Rattle.lb_static.specs.declared.resolved.ResolvedNode.{ResolvedNode}
@@ -19,12 +19,6 @@ use Rattle.lb_check.specs.Types.{operator_types}
 use Rattle.lb_check.specs.TermTypes.{callee_signature, signature_of, signature_at}
 use Rattle.lb_check.proofs.Signatures.{signature, signature_is, same_callee}
 
-pub at_place : {A : Type 0} → (xs : List A) (k : ℕ) → k < length xs →
-    (x : A) × (slice_get xs k ≡ Some x)
-at_place [] k lt = absurd (omega arith)
-at_place (x ∷ xs) zero lt = (x, refl)
-at_place (x ∷ xs) (suc k) lt = at_place xs k (omega arith)
-
 module _ (P : Program) (r : Reached) (t : Table) (reached : IsReached P r)
     (table : IsTable P r t) where
   -- the node of a specialization
@@ -32,7 +26,7 @@ module _ (P : Program) (r : Reached) (t : Table) (reached : IsReached P r)
       → (n : ResolvedNode) × (slice_get r.nodes.items s.node.0 ≡ Some n)
       × IsResolved (source_names P) n
   node_at s sp =
-      let n = at_place r.nodes.items s.node.0 sp.within in (
+      let n = item_at r.nodes.items s.node.0 sp.within in (
         n.0,
         n.1,
         subst (IsResolved (source_names P))
@@ -78,12 +72,12 @@ module _ (P : Program) (r : Reached) (t : Table) (reached : IsReached P r)
       let as_many = sp.0.as_many root root_is in
       let here_lt = slice_get_within (node_sites (node_of n)) c.0 site site_is in
       let called : c.0 < length s.callees.items = omega (arith, as_many, here_lt) in
-      let id = at_place s.callees.items c.0 called in
+      let id = item_at s.callees.items c.0 called in
       let before = sp.1 id.0 (c.0, called, get_or_from_slice_get s.callees.items c.0 id.0 id.0 id.1)
       in
       let last = slice_get_within t.specializations.items i s is in
       let there : id.0.0 < length t.specializations.items = omega (arith, before, last) in
-      let callee = at_place t.specializations.items id.0.0 there in
+      let callee = item_at t.specializations.items id.0.0 there in
       let callee_sp = table.specialized id.0.0 callee.0 callee.1 in
       let callee_n = node_at callee.0 callee_sp.0 in
       let same = sp.0.callees root root_is c.0 site site_is id.0 id.1 callee.0 callee.1 in

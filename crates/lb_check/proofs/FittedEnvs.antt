@@ -3,8 +3,11 @@ use Rattle.std.proofs.Common.{◌≡◌, suc, ℤ, true, List, [], ◌∷◌, le
 use Rattle.std.proofs.Common.{refl, ap, sym, ◌∙◌, subst}
 use Rattle.std.specs.Prelude.{option_map, slice_get, nat_lt}
 use Rattle.std.proofs.lemmas.Option.{slice_get-map}
+use Rattle.std.proofs.lemmas.Bool.{not-true}
 use Rattle.lb_syntax.specs.Lists.{◌>>=◌, either_or}
 use Rattle.lb_syntax.specs.Tree.{Name, Static, Whole, Named, Negated, Combined, Grouped}
+use Rattle.lb_syntax.proofs.ListPlaces.{all_at}
+use Rattle.lb_syntax.proofs.TruthValues.{and_second}
 use Rattle.lb_static.specs.declared.reach.Reached.{Reached}
 use Rattle.lb_static.specs.declared.resolved.CallId.{CallId}
 use Rattle.lb_static.specs.declared.resolved.CallSite.{CallSite}
@@ -28,12 +31,11 @@ use Rattle.lb_static.specs.DataTypes.{DataType, variables, variable_type}
 use Rattle.lb_static.specs.StaticValues.{named}
 use Rattle.lb_check.specs.Types.{constant_type, data_types, name_data_type, singly}
 use Rattle.lb_check.specs.TypeRules.{type_of_name}
-use Rattle.lb_check.specs.TermTypes.{constant_at, count_at, declared_type, variable_at, repeats_of}
-use Rattle.lb_check.specs.TermTypes.{repeats_at}
-use Rattle.lb_check.proofs.FittedTypes.{value_at, count_is, declared_is, declared_at, unfound}
-use Rattle.lb_check.proofs.TableRows.{all_at}
+use Rattle.lb_static.specs.StoredTypes.{declared_type}
+use Rattle.lb_static.proofs.DeclaredTypes.{declared_is}
+use Rattle.lb_check.specs.TermTypes.{constant_at, count_at, variable_at, repeats_of, repeats_at}
+use Rattle.lb_check.proofs.FittedTypes.{value_at, count_is, declared_at, unfound}
 use Rattle.lb_check.proofs.DistinctNames.{held_at}
-use Rattle.lb_check.proofs.TruthValues.{and_second, not_true}
 
 pub length_map : {A B : Type 0} → (f : A → B) (xs : List A) → length (map f xs) ≡ length xs
 length_map f [] = refl
@@ -117,7 +119,7 @@ module _ (P : Program) (r : Reached) (t : Table) (s : Specialization) (n : Resol
       by (Named x) v u e =
           ap (λ o. singly (either_or (option_map (variable_type P here) o)
           (constant_type (name_value P here x))))
-          (unfound x (variables (node_of n)) (not_true _ u))
+          (unfound x (variables (node_of n)) (not-true _ u))
           ∙ ap (λ o. singly (constant_type o)) e
       by (Whole m) v u e = absurd cc
       by (Negated st) v u e = absurd cc

@@ -5,9 +5,12 @@ use Rattle.std.proofs.Common.{◌∙◌, subst}
 use Rattle.std.specs.Prelude.{option_map, slice_get}
 use Rattle.std.specs.List.{list_all}
 use Rattle.std.proofs.lemmas.Option.{slice_get-map}
+use Rattle.std.proofs.lemmas.Bool.{and_from}
 use Rattle.lb_syntax.specs.Lists.{holds}
 use Rattle.lb_syntax.specs.Refusals.{E9, E10, unless}
 use Rattle.lb_syntax.specs.Tree.{Node}
+use Rattle.lb_syntax.proofs.ListPlaces.{mapped_from, all_at}
+use Rattle.lb_syntax.proofs.TruthValues.{and_first, and_second}
 use Rattle.lb_static.specs.Elaborated.{elaborated_program, IsLawful}
 use Rattle.lb_static.specs.Instances.{Program, Instance, instances}
 use Rattle.lb_static.specs.ReachedNodes.{tree_at}
@@ -31,9 +34,8 @@ use Rattle.lb_check.proofs.CallClockSets.{call_stands}
 use Rattle.lb_check.proofs.Checks.{first_none, second_none, kept, judged}
 use Rattle.lb_check.proofs.CountedCalls.{calls_in, counted_from, node_counted}
 use Rattle.lb_check.proofs.EquationClockSets.{equation_stands}
-use Rattle.lb_check.proofs.ListPairs.{get_mapped, mapped_from}
+use Rattle.lb_check.proofs.ListPairs.{get_mapped}
 use Rattle.lb_check.proofs.NodeClocks.{resolved_at}
-use Rattle.lb_check.proofs.NodePlaces.{all_at}
 use Rattle.lb_check.proofs.PlacedNodes.{node_placed}
 use Rattle.lb_check.proofs.PlacedRows.{all_found}
 use Rattle.lb_check.proofs.PlacedWithin.{node_within}
@@ -41,7 +43,6 @@ use Rattle.lb_check.proofs.SingleCalls.{single_statements}
 use Rattle.lb_check.proofs.Specializations.{all_specializations}
 use Rattle.lb_check.proofs.StatementClockSets.{node_clocked}
 use Rattle.lb_check.proofs.TermClockSets.{term_stands}
-use Rattle.lb_check.proofs.TruthValues.{and_first, and_second, both_true}
 use Rattle.lb_check.proofs.WholeClocks.{clocked_node}
 
 -- where each of a list that passes a test passes another
@@ -49,7 +50,7 @@ all_pass : {A : Type 0} (f g : A → Bool) → ((x : A) → f x ≡ true → g x
     list_all f xs ≡ true → list_all g xs ≡ true
 all_pass f g leads [] e = refl
 all_pass f g leads (x ∷ xs) e =
-    both_true (g x) (list_all g xs) (leads x (and_first (f x) (list_all f xs) e))
+    and_from (g x) (list_all g xs) (leads x (and_first (f x) (list_all f xs) e))
     (all_pass f g leads xs (and_second (f x) (list_all f xs) e))
 
 module _ (P : Program) (r : Reached) (t : Table) (j : IsJudged P r t)

@@ -1,10 +1,11 @@
 -- The types that the code finds of the terms of a specialization are those of the expressions of
 -- each of its instances.
-use Rattle.std.proofs.Common.{◌≡◌, ◌≤◌, ℕ, true, Option, Some, None, List, Vec, Global, map}
-use Rattle.std.proofs.Common.{flat_map, ap, sym, ◌∙◌, subst}
+use Rattle.std.proofs.Common.{◌≡◌, ◌≤◌, ℕ, Option, Some, None, List, Vec, Global, map, flat_map, ap}
+use Rattle.std.proofs.Common.{sym, ◌∙◌, subst}
 use Rattle.std.specs.Prelude.{slice_get, sum_by}
+use Rattle.std.proofs.lemmas.Option.{same_Some}
 use Rattle.lb_syntax.specs.Lists.{listed}
-use Rattle.lb_static.specs.DataTypes.{DataType}
+use Rattle.lb_syntax.proofs.ListPlaces.{mapped_from}
 use Rattle.lb_static.specs.Elaborated.{elaborated_program, IsLawful}
 use Rattle.lb_static.specs.InstanceTable.{IsTable, instance_of, specialized_at}
 use Rattle.lb_static.specs.Instances.{Program, Instance, Path}
@@ -21,17 +22,15 @@ use Rattle.lb_check.specs.JudgedPrograms.{IsJudged}
 use Rattle.lb_check.specs.PlacedTypes.{AreFound, FoundTypes, found_in, found_of, node_types}
 use Rattle.lb_check.specs.PlacedTypes.{nothing_found, size_of, specialization_types, with_terms}
 use Rattle.lb_check.specs.TermTypes.{context_of}
-use Rattle.lb_check.specs.TypeRules.{expression_size, is_typed}
+use Rattle.lb_check.specs.TypeRules.{expression_size}
 use Rattle.lb_check.specs.Types.{data_types}
 use Rattle.lb_check.specs.declared.found_types.NodeTypes.{NodeTypes}
 use Rattle.lb_check.proofs.Checks.{judged}
 use Rattle.lb_check.proofs.FittedCalls.{node_at, specialized_instance}
 use Rattle.lb_check.proofs.KeptTypes.{size_within, types_kept}
-use Rattle.lb_check.proofs.ListPairs.{get_mapped, mapped_from}
-use Rattle.lb_check.proofs.OperandTypes.{some_same}
+use Rattle.lb_check.proofs.ListPairs.{get_mapped}
 use Rattle.lb_check.proofs.PlacedTypes.{statements_typed}
 use Rattle.lb_check.proofs.SpecializationSizes.{too_large}
-use Rattle.lb_check.proofs.TypedParts.{node_parts_typed}
 use Rattle.lb_check.proofs.TypedSpecializations.{fits}
 
 module _ (P : Program) (r : Reached) (t : Table) (j : IsJudged P r t) (i : ℕ) (s : Specialization)
@@ -46,16 +45,6 @@ module _ (P : Program) (r : Reached) (t : Table) (j : IsJudged P r t) (i : ℕ) 
       (fits P r t j i s is n at resolved p) n.body.items resolved.body_within resolved.unhidden
       ∙ ap (λ b. map (data_types P here) (flat_map (λ s. parts (right_side s)) b)) resolved.body
 
-  -- where the instance keeps the rules of types they are all there
-  pub types_found : is_typed P (instance_of p (node_of n) s.values.items) ≡ true →
-      (rows : List (List DataType))
-      × (node_types (context_of r t n s) n ≡ map Some rows)
-      × (map (data_types P (instance_of p (node_of n) s.values.items)) (node_parts (node_of n))
-      ≡ map Some rows)
-  types_found typed =
-      let all = node_parts_typed P (instance_of p (node_of n) s.values.items) typed in
-      (all.rows, types_are ∙ all.are, all.are)
-
 -- ## What is kept of each specialization
 
 module _ (P : Program) (r : Reached) (t : Table) (j : IsJudged P r t) where
@@ -67,7 +56,7 @@ module _ (P : Program) (r : Reached) (t : Table) (j : IsJudged P r t) where
       ≡ map (data_types P (instance_of p (node_of n) s.values.items)) (node_parts (node_of n))
   of_specialization i s is n at p =
       let known = node_at P r t j.reached j.table s (j.table.specialized i s is).0 in
-      let same = some_same known.0 n (sym known.1 ∙ at) in
+      let same = same_Some known.0 n (sym known.1 ∙ at) in
       ap (listed (λ (m : ResolvedNode). node_types (context_of r t m s) m)) at
       ∙ types_are P r t j i s is n at (subst (IsResolved (source_names P)) same known.2) p
 
@@ -78,7 +67,7 @@ module _ (P : Program) (r : Reached) (t : Table) (j : IsJudged P r t) where
   size_fits i s is p here e =
       let known = node_at P r t j.reached j.table s (j.table.specialized i s is).0 in
       let own = instance_of p (node_of known.0) s.values.items in
-      let same = some_same own here
+      let same = same_Some own here
       (sym (specialized_instance P r t j.reached j.table s known.0 p known.1) ∙ e) in
       subst (λ (c : Instance).
       size_of (found_of r t s) ≤ sum_by (expression_size P c) (node_parts c.node)) same
@@ -112,7 +101,7 @@ pub types_lent :
 types_lent P r t reached table found has i s there p here e =
     let known = node_at P r t reached table s (table.specialized i s there).0 in
     let own = instance_of p (node_of known.0) s.values.items in
-    let same = some_same own here
+    let same = same_Some own here
     (sym (specialized_instance P r t reached table s known.0 p known.1) ∙ e) in
     let f = has i s known.0 there known.1 in
     (f.0, f.1, subst (λ (c : Instance). HasTypes P c f.0) same (f.2 p))

@@ -8,9 +8,12 @@ use Rattle.std.proofs.lemmas.Bool.Decides.{nat_tests}
 use Rattle.std.proofs.lemmas.List.{length-append, map-append}
 use Rattle.std.proofs.lemmas.Option.{slice_get_within}
 use Rattle.std.proofs.lemmas.Slice.Eq.{bytes_eq-Decides}
+use Rattle.std.proofs.lemmas.Bool.{not-true}
 use Rattle.lb_syntax.specs.Lists.{either_or, listed}
 use Rattle.lb_syntax.specs.Tree as tree
-use Rattle.lb_syntax.specs.Tree.{Name, Expr, Declaration, Node}
+use Rattle.lb_syntax.specs.Tree.{Name, Declaration}
+use Rattle.lb_syntax.proofs.ListPlaces.{item_at, get_first, get_later}
+use Rattle.lb_syntax.proofs.TruthValues.{and_first, and_second}
 use Rattle.lb_static.specs.Names.{are_distinct}
 use Rattle.lb_static.specs.Parts.{among, variable_names}
 use Rattle.lb_static.specs.ResolvedNodes.{node_of, texts_of}
@@ -22,6 +25,7 @@ use Rattle.lb_static.specs.declared.resolved.ResolvedNode.{ResolvedNode}
 use Rattle.lb_static.specs.declared.resolved.Term.{Term, Variable, Group'}
 use Rattle.lb_static.specs.declared.resolved.Variable.{Variable as Declared}
 use Rattle.lb_static.specs.declared.resolved.VariableId.{VariableId}
+use Rattle.lb_static.proofs.ReachedPlaces.{distinct_last}
 use Rattle.lb_check.specs.CallClocks.{variable_of}
 use Rattle.lb_check.specs.Clocks.{Given, as_variable, given_inputs, given_outputs}
 use Rattle.lb_check.specs.OwnClocks.{HasClocks, name_in}
@@ -30,10 +34,7 @@ use Rattle.lb_check.specs.declared.clock_set.ClockSet.{ClockSet}
 use Rattle.lb_check.specs.declared.clock_set.ClockSet.TheVariants.{OneClock}
 use Rattle.lb_check.proofs.CallClocks.{skipped, none_given}
 use Rattle.lb_check.proofs.ClockedNodes.{get_name, among_first, first_names}
-use Rattle.lb_check.proofs.NodePlaces.{held, distinct_second}
-use Rattle.lb_check.proofs.ListPairs.{get_first, get_later}
 use Rattle.lb_check.proofs.OuterClocks.{place_name}
-use Rattle.lb_check.proofs.TruthValues.{and_first, and_second, not_true}
 use Rattle.lb_check.proofs.DistinctNames.{distinct_first, not_among}
 
 -- ## Operands that are variables
@@ -148,7 +149,7 @@ named_input texts (c ∷ ds) (a ∷ es) zero d t y u p q e =
     (name_at texts.variables y) here
     (variable_as texts a y (subst (λ z. variable_of z ≡ Some y) term e))
 named_input texts (c ∷ ds) (a ∷ es) (suc i) d t y u p q e =
-    let out = not_true _ (and_first (not (among c.name (map (λ d. d.name) ds))) _ u) in
+    let out = not-true _ (and_first (not (among c.name (map (λ d. d.name) ds))) _ u) in
     let other = not_among c.name (map (λ d. d.name) ds) i d.name out (get_name ds i d p) in
     ap (option_map (λ g. g.1)) (skipped (as_variable (expr_of texts a)) c.name d.name
     (given_inputs ds (exprs_of texts es)) other)
@@ -167,7 +168,7 @@ named_output (c ∷ ds) (z ∷ xs) zero d x u p q =
     (bytes_eq-Decides c.name d.name).1 (ap (λ z. z.name) same) in
     found_first (c.name, z) (given_outputs ds xs) d.name here ∙ q
 named_output (c ∷ ds) (z ∷ xs) (suc j) d x u p q =
-    let out = not_true _ (and_first (not (among c.name (map (λ d. d.name) ds))) _ u) in
+    let out = not-true _ (and_first (not (among c.name (map (λ d. d.name) ds))) _ u) in
     let other = not_among c.name (map (λ d. d.name) ds) j d.name out (get_name ds j d p) in
     found_next (c.name, z) (given_outputs ds xs) d.name other
     ∙ named_output ds xs j d x (and_second (not (among c.name (map (λ d. d.name) ds))) _ u) p q
@@ -204,11 +205,11 @@ module _ (callee : ResolvedNode) (hc : HasClocks callee) where
 
   pub input_held : (i : ℕ) → i < callee.inputs →
       (d : Declaration) × (slice_get (node_of callee).inputs i ≡ Some d)
-  input_held i lt = held (node_of callee).inputs i (subst (λ m. i < m) hc.resolved.inputs lt)
+  input_held i lt = item_at (node_of callee).inputs i (subst (λ m. i < m) hc.resolved.inputs lt)
 
   pub output_held : (j : ℕ) → j < callee.outputs →
       (d : Declaration) × (slice_get (node_of callee).outputs j ≡ Some d)
-  output_held j lt = held (node_of callee).outputs j (subst (λ m. j < m) hc.resolved.outputs lt)
+  output_held j lt = item_at (node_of callee).outputs j (subst (λ m. j < m) hc.resolved.outputs lt)
 
   -- each input and output is among the variables
   pub all_variables : callee.inputs + callee.outputs ≤ length callee.variables.items
@@ -221,7 +222,7 @@ module _ (callee : ResolvedNode) (hc : HasClocks callee) where
   -- each input and each output is declared
   pub variable_held : (i : ℕ) → i < callee.inputs + callee.outputs →
       (v : Declared) × (slice_get callee.variables.items i ≡ Some v)
-  variable_held i lt = let few = all_variables in held callee.variables.items i (omega arith)
+  variable_held i lt = let few = all_variables in item_at callee.variables.items i (omega arith)
 
   names_split : are_distinct (map (λ d. d.name) (node_of callee).inputs
       ++ (map (λ d. d.name) (node_of callee).outputs ++ map (λ d. d.name) (node_of callee).locals))
@@ -239,7 +240,7 @@ module _ (callee : ResolvedNode) (hc : HasClocks callee) where
 
   outputs_distinct : are_distinct (map (λ d. d.name) (node_of callee).outputs) ≡ true
   outputs_distinct = distinct_first (map (λ d. d.name) (node_of callee).outputs) _
-      (distinct_second (map (λ d. d.name) (node_of callee).inputs) _ names_split)
+      (distinct_last (map (λ d. d.name) (node_of callee).inputs) _ names_split)
 
   -- an output has the name of no input
   not_input : (j : ℕ) (d : Declaration) → slice_get (node_of callee).outputs j ≡ Some d →

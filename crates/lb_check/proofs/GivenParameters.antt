@@ -1,23 +1,25 @@
 -- The clocks of the parameters of what a call calls: each variable that such a clock waits for is
 -- a clock parameter, and the call gives it a variable of the caller.
-use Rattle.std.proofs.Common.{◌≡◌, ◌⊎◌, inl, inr, ℕ, zero, suc, Bool, true, false, cond, Option}
+use Rattle.std.proofs.Common.{◌≡◌, ◌⊎◌, inl, inr, ℕ, suc, Bool, true, false, cond, Option}
 use Rattle.std.proofs.Common.{Some, None, List, [], ◌∷◌, ◌++◌, length, map, refl, ap, ap₂, sym, ◌∙◌}
 use Rattle.std.proofs.Common.{subst, arith}
-use Rattle.std.specs.Prelude.{◌&&◌, ◌||◌, not, is_some, option_map, filter}
-use Rattle.std.specs.List.{list_all, list_any}
+use Rattle.std.specs.Prelude.{◌||◌, not, is_some, option_map, filter}
+use Rattle.std.specs.List.{list_all}
 use Rattle.std.specs.Str.{bytes_eq}
 use Rattle.std.proofs.lemmas.List.{append_assoc, map-append}
 use Rattle.std.proofs.lemmas.Slice.Eq.{bytes_eq-Decides}
 use Rattle.lb_syntax.specs.Lists.{◌>>=◌, In, either_or, holds, listed}
 use Rattle.lb_syntax.specs.Tree.{Name, Exprs, Declaration, Sampling, Node}
+use Rattle.lb_syntax.proofs.ListPlaces.{all_in}
+use Rattle.lb_syntax.proofs.TruthValues.{and_first, and_second}
 use Rattle.lb_static.specs.DataTypes.{variables}
 use Rattle.lb_static.specs.Instances.{Program, Instance, Path, Child, instance_at}
 use Rattle.lb_static.specs.Parts.{among, variable_names}
 use Rattle.lb_static.specs.StaticValues.{named}
-use Rattle.lb_static.proofs.Members.{any_in, all_in}
+use Rattle.lb_static.proofs.Members.{any_in}
 use Rattle.lb_check.specs.ClockRules.{if_clocked, is_clocked_by, are_declared_clocks}
 use Rattle.lb_check.specs.ClockRules.{is_given_variable, are_given_variables, is_base_clocked_node}
-use Rattle.lb_check.specs.Clocks.{Clock, Base, On, Given, variable_clock, clock_or, declared_clock}
+use Rattle.lb_check.specs.Clocks.{Clock, Base, On, Given, variable_clock, declared_clock}
 use Rattle.lb_check.specs.Clocks.{given_name, outer, given_inputs, given_outputs}
 use Rattle.lb_check.specs.Needs.{WholeClock, Always, Where, is_clock_parameter, call_at, given_to}
 use Rattle.lb_check.specs.Needs.{given_at, serves, serving, whole_clock, site_clock, runs_on}
@@ -27,7 +29,6 @@ use Rattle.lb_check.proofs.CallClocks.{none_given}
 use Rattle.lb_check.proofs.NamedClocks.{IsOver, found_first, named_over, clock_or_over, own_names}
 use Rattle.lb_check.proofs.NamedClocks.{input_over, output_over}
 use Rattle.lb_check.proofs.OccurrenceSites.{find_first}
-use Rattle.lb_check.proofs.TruthValues.{and_first, and_second}
 
 -- ## What is found by its name
 

@@ -1,18 +1,22 @@
 -- The variables that the code finds to stand for clock parameters of a callee are those that the
 -- text gives.
-use Rattle.std.proofs.Common.{◌≡◌, ℕ, zero, suc, ◌+◌, ◌-◌, ◌<◌, ◌≤◌, Bool, true, false, List, []}
+use Rattle.std.proofs.Common.{◌≡◌, ℕ, zero, suc, ◌+◌, ◌<◌, Bool, true, false, List, []}
 use Rattle.std.proofs.Common.{◌∷◌, ◌++◌, length, map, take, Option, Some, None, refl, ap, ap₂, sym}
 use Rattle.std.proofs.Common.{◌∙◌, subst, arith}
-use Rattle.std.specs.Prelude.{◌&&◌, ◌||◌, ◌==◌, cond, filter, not, is_some, option_map, nat_eq}
+use Rattle.std.specs.Prelude.{◌||◌, ◌==◌, cond, filter, not, is_some, option_map, nat_eq}
 use Rattle.std.specs.Prelude.{nat_lt, slice_get, if◌then◌else◌}
 use Rattle.std.specs.List.{list_all, list_any}
 use Rattle.std.specs.Str.{bytes_eq}
 use Rattle.std.proofs.lemmas.Bool.Decides.{nat_tests}
-use Rattle.std.proofs.lemmas.List.{append_assoc, length-append, map-append}
+use Rattle.std.proofs.lemmas.List.{append_assoc, length-append, map-append, length-take-le}
 use Rattle.std.proofs.lemmas.Option.{slice_get_within}
+use Rattle.std.proofs.lemmas.List.Elements.{filter-append}
+use Rattle.std.proofs.Math.Nat.{add-sub_cancel_left}
+use Rattle.std.proofs.lemmas.Bool.{lt-ltb}
 use Rattle.lb_syntax.specs.Lists.{either_or, holds, listed, zip2}
-use Rattle.lb_syntax.specs.Tree.{Name, Declaration, Node}
-use Rattle.lb_syntax.specs.Tree as tree
+use Rattle.lb_syntax.specs.Tree.{Name, Declaration}
+use Rattle.lb_syntax.proofs.ListPlaces.{item_at}
+use Rattle.lb_syntax.proofs.TruthValues.{and_first, and_second}
 use Rattle.lb_static.specs.Parts.{variable_names}
 use Rattle.lb_static.specs.ResolvedNodes.{node_of, statics_of, texts_of}
 use Rattle.lb_static.specs.ResolvedTerms.{declaration_of, expr_of, exprs_of, name_at}
@@ -32,30 +36,15 @@ use Rattle.lb_check.specs.PlacedClocks.{pair_at, waits_at}
 use Rattle.lb_check.specs.TermClocks.{Context, are_given, given_at, is_given, operands_of}
 use Rattle.lb_check.specs.TermClocks.{stands_for}
 use Rattle.lb_check.specs.declared.found_clocks.GivenVariable.{GivenVariable}
-use Rattle.lb_check.proofs.ClockLists.{later_place, less_place, small_place}
-use Rattle.lb_check.proofs.ClockedNodes.{as_many_names, get_name, same_taken, within_names}
+use Rattle.lb_check.proofs.ClockLists.{later_place}
+use Rattle.lb_check.proofs.ClockedNodes.{as_many_names, same_taken, within_names}
 use Rattle.lb_check.proofs.ClockedNodes.{all_taken, zip_split}
 use Rattle.lb_check.proofs.DistinctNames.{distinct_at}
 use Rattle.lb_check.proofs.GivenNames.{all_variables, input_at, output_at, variable_as}
 use Rattle.lb_check.proofs.GivenNames.{variable_held}
-use Rattle.lb_check.proofs.NodePlaces.{held}
 use Rattle.lb_check.proofs.OuterClocks.{place_name}
-use Rattle.lb_check.proofs.PlacedArguments.{length-taken}
-use Rattle.lb_check.proofs.TruthValues.{and_first, and_second}
 
 -- ## Lists
-
--- what passes a test in two lists
-pub filtered : {A : Type 0} (f : A → Bool) (xs ys : List A) →
-    filter f (xs ++ ys) ≡ filter f xs ++ filter f ys
-filtered f [] ys = refl
-filtered f (x ∷ xs) ys = by (f x) (filtered f xs ys)
-  where
-    by : (b : Bool) → filter f (xs ++ ys) ≡ filter f xs ++ filter f ys →
-        cond b (x ∷ filter f (xs ++ ys)) (filter f (xs ++ ys))
-        ≡ cond b (x ∷ filter f xs) (filter f xs) ++ filter f ys
-    by true e = ap (λ l. x ∷ l) e
-    by false e = e
 
 abbrev no_pair : Option GivenVariable
 no_pair = None
@@ -101,7 +90,7 @@ module _ (callee : ResolvedNode) (hc : HasClocks callee) where
     where
       there : bytes_eq (name_at (variable_names (node_of callee)) y) x ≡ (i == y.0)
       there =
-          let z = held names y.0 less in
+          let z = item_at names y.0 less in
           let own : slice_get names y.0 ≡ Some (name_at names y) =
           z.1 ∙ ap (λ o. Some (either_or o [])) (sym z.1) in
           distinct_at names y.0 i (name_at names y) x hc.distinct own at
@@ -264,7 +253,7 @@ module _ (callee : ResolvedNode) (hc : HasClocks callee) where
         ∙ ap (λ i. is_some (Y i)) e
         ∙ all 0 (omega arith) (sym (ap (is_awaited callee) e) ∙ b) in
         let is = first_awaited a d ds s in
-        filtered IsParameter (listed_pair d.name (as_variable (expr_of (texts_of here) t)))
+        filter-append IsParameter (listed_pair d.name (as_variable (expr_of (texts_of here) t)))
         (given_inputs ds (exprs_of (texts_of here) es))
         ∙ ap₂ (λ l m. l ++ m)
         (one_given a d.name (as_variable (expr_of (texts_of here) t)) (Y a) (is_awaited callee a) is
@@ -296,7 +285,7 @@ module _ (callee : ResolvedNode) (hc : HasClocks callee) where
         let e : a ≡ a + 0 = omega arith in
         let p : Y a ≡ Some x = ap Y e ∙ ys 0 (omega arith) in
         let is = first_awaited a d ds s in
-        filtered IsParameter (one_pair (name_in here x) d.name)
+        filter-append IsParameter (one_pair (name_in here x) d.name)
         (given_outputs ds (map (name_in here) lefts))
         ∙ ap₂ (λ l m. l ++ m)
         (one_given a d.name (Some (name_in here x)) (Y a) (is_awaited callee a) is refl
@@ -332,7 +321,7 @@ module _ (callee : ResolvedNode) (hc : HasClocks callee) where
         let v = variable_held callee hc i lt in
         let many = as_many_names hc.nodes callee hc.resolved hc.distinct in
         let there = slice_get_within callee.variables.items i v.0 v.1 in
-        let z = held names i (omega (arith, many, there)) in
+        let z = item_at names i (omega (arith, many, there)) in
         z.1 ∙ ap (λ o. Some (either_or o [])) (sym z.1)
 
     inputs_stand : StandFrom 0 (node_of callee).inputs
@@ -367,12 +356,12 @@ module _ (callee : ResolvedNode) (hc : HasClocks callee) where
 
       Y_in : (j : ℕ) → j < callee.inputs →
           stands_for callee.inputs (operands_of ctx es) lefts j ≡ given_at (operands_of ctx es) j
-      Y_in j lt = rw (small_place j callee.inputs lt) refl
+      Y_in j lt = rw (lt-ltb j callee.inputs lt) refl
 
       Y_out : (j : ℕ) →
           stands_for callee.inputs (operands_of ctx es) lefts (callee.inputs + j)
           ≡ slice_get lefts j
-      Y_out j = rw (later_place callee.inputs j, less_place callee.inputs j) refl
+      Y_out j = rw (later_place callee.inputs j, add-sub_cancel_left callee.inputs j) refl
 
       -- what waits for an input is given a variable
       waited_some : (i : ℕ) → i < callee.inputs → is_awaited callee i ≡ true →
@@ -390,14 +379,14 @@ module _ (callee : ResolvedNode) (hc : HasClocks callee) where
           by (Some s) w g =
               let waits : nat_eq s.variable.0 i ≡ true = w in
               let same : s.variable.0 ≡ i = grind (arith, nat_tests) in
-              let less : nat_lt i callee.inputs ≡ true = small_place i callee.inputs lt in
+              let less : nat_lt i callee.inputs ≡ true = lt-ltb i callee.inputs lt in
               sym (ap (λ j. not (nat_lt j callee.inputs)
               || is_some (given_at (operands_of ctx es) j)) same
               ∙ ap (λ c. not c || is_some (given_at (operands_of ctx es) i)) less) ∙ g
 
       as_many : length (take (callee.inputs + callee.outputs) callee.variables.items)
           ≡ callee.inputs + callee.outputs
-      as_many = length-taken (callee.inputs + callee.outputs) callee.variables.items
+      as_many = length-take-le (callee.inputs + callee.outputs) callee.variables.items
           (all_variables callee hc)
 
       -- the pairs that the code finds are those that the caller gives
@@ -409,7 +398,7 @@ module _ (callee : ResolvedNode) (hc : HasClocks callee) where
           let ins = given_inputs (node_of callee).inputs (exprs_of (texts_of here) es) in
           let outs = given_outputs (node_of callee).outputs (map (name_in here) lefts) in
           let zeroth : 0 + callee.inputs ≡ callee.inputs = omega arith in
-          filtered IsParameter ins outs
+          filter-append IsParameter ins outs
           ∙ ap₂ (λ l m. l ++ m)
           (inputs_given ctx Y 0 (node_of callee).inputs es inputs_stand
           (λ j lt. let e : 0 + j ≡ j = omega arith in

@@ -4,7 +4,7 @@ use Rattle.std.proofs.Common.{List, [], ◌∷◌, ◌++◌, map, length, flat_m
 use Rattle.std.proofs.Common.{sym, ap, ap₂, ◌∙◌, subst}
 use Rattle.std.specs.List.{range_with_len}
 use Rattle.std.proofs.lemmas.Grind.{flat_map-append}
-use Rattle.std.proofs.lemmas.List.{length-replicate}
+use Rattle.std.proofs.lemmas.List.{length-replicate, append_assoc, map-append}
 use Rattle.std.proofs.Math.Seq.{take-append_seam}
 use Rattle.lb_syntax.specs.declared.tree.Kind.{Kind}
 use Rattle.lb_syntax.specs.Lists.{In, either_or, listed, all_some}
@@ -23,7 +23,6 @@ use Rattle.lb_check.proofs.ElementValues.{pieces_count}
 use Rattle.lb_check.proofs.Every.{Every-map, Every-first}
 use Rattle.lb_check.proofs.InstancePaths.{path_is}
 use Rattle.lb_check.proofs.ListPairs.{cons_same}
-use Rattle.lb_check.proofs.Numbers.{map_append}
 
 -- ## Lists
 
@@ -35,10 +34,6 @@ range_first a zero (x ∷ xs) ys e = absurd cc
 range_first a (suc n) (x ∷ xs) ys e =
     let both = cons_same x a (xs ++ ys) (range_with_len (a + 1) n) e in
     ap₂ (λ y zs. y ∷ zs) both.0 (range_first (a + 1) n xs ys both.1)
-
-append_assoc : {A : Type 0} (xs ys zs : List A) → (xs ++ ys) ++ zs ≡ xs ++ (ys ++ zs)
-append_assoc [] ys zs = refl
-append_assoc (x ∷ xs) ys zs = ap (λ us. x ∷ us) (append_assoc xs ys zs)
 
 -- ## Kinds of inputs
 
@@ -67,7 +62,7 @@ module _ (P : Program) (here : Instance) where
       kinds_of (flat_map (scalar_elements P here) ds) ≡ kinds_in P here ds
   variables_kinds [] = refl
   variables_kinds (d ∷ ds) =
-      map_append (λ e. e.1) (scalar_elements P here d) (flat_map (scalar_elements P here) ds)
+      map-append (λ e. e.1) (scalar_elements P here d) (flat_map (scalar_elements P here) ds)
       ∙ ap₂ (λ xs ys. xs ++ ys) (variable_kinds d) (variables_kinds ds)
 
 -- ## The node under test comes first

@@ -6,8 +6,12 @@ use Rattle.std.specs.Prelude.{◌||◌, not, find, slice_get}
 use Rattle.std.specs.Str.{bytes_eq}
 use Rattle.std.specs.List.{list_all, list_any, range_with_len}
 use Rattle.std.proofs.lemmas.Slice.Eq.{bytes_eq-Decides}
+use Rattle.std.proofs.lemmas.Bool.{or_left, or_right}
+use Rattle.std.proofs.lemmas.Option.{same_Some}
 use Rattle.lb_syntax.specs.Lists.{Every, In, listed, all_some}
 use Rattle.lb_syntax.specs.Tree.{Name, Node}
+use Rattle.lb_syntax.proofs.ListPlaces.{all_in}
+use Rattle.lb_syntax.proofs.TruthValues.{and_first, and_second}
 use Rattle.lb_static.specs.Instances.{Program, Instance, Path, Root, Observer, Site, node_sites}
 use Rattle.lb_static.specs.Instances.{numbered_sites, node_named, static_value, instance_count}
 use Rattle.lb_static.specs.Instances.{callee_of, start_at, instance_at, site_instances, children}
@@ -16,17 +20,15 @@ use Rattle.lb_static.specs.Instantiation.{static_refusal}
 use Rattle.lb_static.specs.Names.{are_distinct, calls, declares_once, is_named, keeps_names}
 use Rattle.lb_static.specs.Names.{reached_nodes, reached_within, start_names}
 use Rattle.lb_static.specs.Parts.{among, variable_names}
-use Rattle.lb_static.proofs.Members.{in_at, in_filter, any_in, in_any, all_in}
+use Rattle.lb_static.proofs.Members.{in_at, in_filter, any_in, in_any}
 use Rattle.lb_static.proofs.Saturation.{enough_calls}
 use Rattle.lb_static.proofs.TestedItems.{found_passes}
-use Rattle.lb_static.proofs.WorkLists.{or_left, or_right}
 use Rattle.lb_check.proofs.Checks.{names_kept}
 use Rattle.lb_check.proofs.DistinctNames.{distinct_first}
 use Rattle.lb_check.proofs.Every.{Every-map, Every-all, Every-append, Every-of_pieces, Every-found}
 use Rattle.lb_check.proofs.InstancePaths.{numbered_stand}
 use Rattle.lb_check.proofs.NamedClocks.{if_some}
-use Rattle.lb_check.proofs.OperandTypes.{bound, some_same}
-use Rattle.lb_check.proofs.TruthValues.{and_first, and_second}
+use Rattle.lb_check.proofs.OperandTypes.{bound}
 
 -- what a search finds is there
 pub find_in : {A : Type 0} (p : A → Bool) (xs : List A) (x : A) → find p xs ≡ Some x → In x xs
@@ -35,7 +37,7 @@ find_in p (y ∷ xs) x e = by (p y) (find_in p xs x) e
   where
     by : (b : Bool) → (find p xs ≡ Some x → In x xs) → cond b (Some y) (find p xs) ≡ Some x →
         In x (y ∷ xs)
-    by true next h = inl (some_same y x h)
+    by true next h = inl (same_Some y x h)
     by false next h = inr (next h)
 
 module _ (P : Program) where
@@ -87,7 +89,7 @@ module _ (P : Program) where
   callee_node here site call index c e =
       let n = bound (node_named P site.callee) _ c e in
       let values = bound (all_some (map (static_value P here) site.arguments)) _ c n.gives in
-      n.is ∙ ap Some (ap (λ (i : Instance). i.node) (some_same _ _ values.gives))
+      n.is ∙ ap Some (ap (λ (i : Instance). i.node) (same_Some _ _ values.gives))
 
   site_reached :
       (here : Instance) (s : ℕ × Site) → HasReached here →
@@ -125,7 +127,7 @@ module _ (P : Program) where
       by : (o : Option Node) → option_map (λ n. record { path = p; node = n; values = [] }) o
           ≡ Some c → o ≡ Some c.node
       by None h = absurd cc
-      by (Some n) h = ap Some (ap (λ (i : Instance). i.node) (some_same _ _ h))
+      by (Some n) h = ap Some (ap (λ (i : Instance). i.node) (same_Some _ _ h))
 
   root_reached : (c : Instance) → instance_at P Root ≡ Some c → HasReached c
   root_reached c e =

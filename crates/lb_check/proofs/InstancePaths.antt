@@ -1,40 +1,38 @@
 -- Instances by their paths: each stands where its path says, each that stands at a path is among
 -- the instances, and no path has two.
 use Rattle.std.proofs.Common.{◌≡◌, ◌⊎◌, inl, inr, ℕ, zero, suc, ◌+◌, ◌<◌, ◌≤◌, Bool, true, false}
-use Rattle.std.proofs.Common.{Option, Some, None, option_map, List, [], ◌∷◌, ◌++◌, flat_map, map}
+use Rattle.std.proofs.Common.{Option, Some, None, option_map, List, [], ◌∷◌}
 use Rattle.std.proofs.Common.{refl, ap, ap₂, sym, subst, ◌∙◌, arith}
-use Rattle.std.specs.Prelude.{◌&&◌, nat_eq, nat_lt, slice_get, IfSome, if◌then◌else◌}
+use Rattle.std.specs.Prelude.{nat_eq, nat_lt, slice_get, IfSome, if◌then◌else◌}
 use Rattle.std.specs.List.{range_with_len}
 use Rattle.std.proofs.lemmas.Bool.Decides.{nat_tests}
-use Rattle.lb_syntax.specs.Lists.{Every, In, listed, some_of, all_some}
+use Rattle.std.proofs.lemmas.Bool.{eqb-true, ltb-true, and_from}
+use Rattle.std.proofs.lemmas.Option.{same_Some}
+use Rattle.lb_syntax.specs.Lists.{Every, In, listed}
 use Rattle.lb_syntax.specs.Tree.{Name, Node}
+use Rattle.lb_syntax.proofs.SameNames.{same_number}
+use Rattle.lb_syntax.proofs.TruthValues.{and_first, and_second}
 use Rattle.lb_static.specs.Instances.{Program, Instance, Path, Root, Observer, Child, is_path, Site}
 use Rattle.lb_static.specs.Instances.{node_sites, numbered_sites, node_named, instance_count}
 use Rattle.lb_static.specs.Instances.{callee_of, start_at, instance_at, site_instances, children}
 use Rattle.lb_static.specs.Instances.{instances_from, instances}
 use Rattle.lb_static.specs.Instantiation.{level, instantiation_refusal}
-use Rattle.lb_check.proofs.Every.{Every-map, Every-both, Every-all, Every-append, Every-of_pieces}
+use Rattle.lb_check.proofs.Every.{Every-map, Every-both, Every-append, Every-of_pieces}
 use Rattle.lb_check.proofs.Every.{Every-found, Every-of_range}
 use Rattle.lb_check.proofs.NamedClocks.{if_some}
-use Rattle.lb_check.proofs.OperandTypes.{bound, some_same}
+use Rattle.lb_check.proofs.OperandTypes.{bound}
 use Rattle.lb_check.proofs.SameInstances.{callee_path, all_entered, all_children}
-use Rattle.lb_check.proofs.TruthValues.{and_first, and_second, both_true}
 use Rattle.lb_check.proofs.ApartLists.{in_first, in_second, Every-at, Every-from, in_some, some_in}
 use Rattle.lb_check.proofs.ApartLists.{AreApart, apart-append, some_apart, IsPiece, of_pieces}
 use Rattle.lb_check.proofs.ApartLists.{to_pieces, apart_pieces, range_apart, in_range}
 
 -- ## Equal paths
 
-nat_same : (m n : ℕ) → nat_eq m n ≡ true → m ≡ n
-nat_same m n e = grind (arith, nat_tests)
-
-nat_is : (n : ℕ) → nat_eq n n ≡ true
-nat_is n = grind (arith, nat_tests)
-
 pub is_path-same : (p : Path) → is_path p p ≡ true
 is_path-same Root = refl
 is_path-same Observer = refl
-is_path-same (Child p c i) = both_true _ _ (nat_is c) (both_true _ _ (nat_is i) (is_path-same p))
+is_path-same (Child p c i) =
+    and_from _ _ (same_number c) (and_from _ _ (same_number i) (is_path-same p))
 
 pub same_path : (p q : Path) → is_path p q ≡ true → p ≡ q
 same_path Root Root e = refl
@@ -46,9 +44,9 @@ same_path Observer (Child q d j) e = absurd cc
 same_path (Child p c i) Root e = absurd cc
 same_path (Child p c i) Observer e = absurd cc
 same_path (Child p c i) (Child q d j) e =
-    let call = nat_same c d (and_first (nat_eq c d) _ e) in
+    let call = eqb-true c d (and_first (nat_eq c d) _ e) in
     let rest = and_second (nat_eq c d) _ e in
-    let index = nat_same i j (and_first (nat_eq i j) _ rest) in
+    let index = eqb-true i j (and_first (nat_eq i j) _ rest) in
     let above = same_path p q (and_second (nat_eq i j) _ rest) in
     rw call (rw index (rw above refl))
 
@@ -104,9 +102,6 @@ if_true : {A : Type 0} (b : Bool) (o : Option A) (x : A) → (if b then o else N
 if_true true o x e = (refl, e)
 if_true false o x e = absurd cc
 
-below_count : (i n : ℕ) → nat_lt i n ≡ true → i < n
-below_count i n e = grind (arith, nat_tests)
-
 module _ (P : Program) where
   -- ## What stands at a path
 
@@ -140,7 +135,7 @@ module _ (P : Program) where
         stands = s.is;
         count = n.value;
         counts = n.is;
-        lower = below_count index n.value t.0;
+        lower = ltb-true index n.value t.0;
         gives = t.1;
       }
 
@@ -150,7 +145,7 @@ module _ (P : Program) where
       by : (o : Option Node) → option_map (λ n. record { path = p; node = n; values = [] }) o
           ≡ Some c → c.path ≡ p
       by None h = absurd cc
-      by (Some n) h = sym (ap (λ (i : Instance). i.path) (some_same _ _ h))
+      by (Some n) h = sym (ap (λ (i : Instance). i.path) (same_Some _ _ h))
 
   pub path_is : (p : Path) (c : Instance) → instance_at P p ≡ Some c → c.path ≡ p
   path_is Root c e = started Root P.root c e
@@ -239,7 +234,7 @@ module _ (P : Program) where
 
   pub same_instance : (c d : Instance) → IsAt c → IsAt d → c.path ≡ d.path → c ≡ d
   same_instance c d at_c at_d e =
-      some_same c d (sym at_c ∙ (ap (instance_at P) e ∙ at_d))
+      same_Some c d (sym at_c ∙ (ap (instance_at P) e ∙ at_d))
 
   -- ## What an instance calls is an instance
 
@@ -367,7 +362,7 @@ module _ (P : Program) where
           let is_t = Every-at (λ u. slice_get sites u.0 ≡ Some u.1) (numbered_sites 0 sites) t
           (numbered_stand sites) j in
           pair_same s t call
-          (some_same s.1 t.1 (sym is_s ∙ (ap (slice_get sites) call ∙ is_t)))
+          (same_Some s.1 t.1 (sym is_s ∙ (ap (slice_get sites) call ∙ is_t)))
 
   from_apart : (n : ℕ) (here : Instance) → IsAt here → AreApart (instances_from P n here)
   from_apart zero here at = tt

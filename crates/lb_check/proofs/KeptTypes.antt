@@ -1,10 +1,8 @@
 -- What is kept of the types of terms gives the type of each.
-use Rattle.std.proofs.Common.{◌≡◌, ℕ, zero, suc, ◌+◌, ◌*◌, ◌-◌, ◌<◌, ◌≤◌, ◌^◌, min, Bool, true}
-use Rattle.std.proofs.Common.{false}
+use Rattle.std.proofs.Common.{◌≡◌, ℕ, zero, suc, ◌+◌, ◌-◌, ◌<◌, ◌≤◌, min}
 use Rattle.std.proofs.Common.{Some, None, List, [], ◌∷◌, ◌++◌, map, flat_map, take, drop}
 use Rattle.std.proofs.Common.{length, get_or, reverse, refl, ap, ap₂, sym, ◌∙◌, subst, arith}
-use Rattle.std.specs.Prelude.{nat_le, slice_get, sum_by}
-use Rattle.std.proofs.lemmas.Bool.Decides.{nat_tests}
+use Rattle.std.specs.Prelude.{slice_get, sum_by}
 use Rattle.std.proofs.lemmas.List.{append_assoc, append-nil, length-append, reverse-append}
 use Rattle.std.proofs.lemmas.List.{reverse-reverse}
 use Rattle.std.proofs.lemmas.List.Sums.{sum_by-cons, sum_by-take-le, sum_by_more}
@@ -12,81 +10,22 @@ use Rattle.lb_syntax.specs.Lists.{◌>>=◌, either_or, listed, tail_of}
 use Rattle.lb_syntax.specs.Tree.{Expr}
 use Rattle.lb_syntax.specs.declared.tree.Kind.{Kind}
 use Rattle.lb_syntax.specs.declared.tree.Kind.TheVariants.{Int as Int_kind}
-use Rattle.lb_static.specs.DataTypes.{DataType, int, element_count, product}
+use Rattle.lb_static.specs.DataTypes.{DataType, int, product}
 use Rattle.lb_static.specs.Instances.{Program, Instance}
 use Rattle.lb_static.specs.Parts.{node_parts}
+use Rattle.lb_static.proofs.TypeViews.{product_reverse}
 use Rattle.lb_check.specs.FoundTerms.{HasTypes}
-use Rattle.lb_check.specs.PlacedTypes.{FoundNode, FoundTypes, count_of, found_in, lengths_of}
-use Rattle.lb_check.specs.PlacedTypes.{nothing_found, parts_of, size_of, times_lengths, type_among}
+use Rattle.lb_check.specs.PlacedTypes.{FoundNode, FoundTypes, found_in, sizes_of}
+use Rattle.lb_check.specs.PlacedTypes.{nothing_found, parts_of, size_of, type_among}
 use Rattle.lb_check.specs.PlacedTypes.{with_row, with_term, with_terms, with_types}
-use Rattle.lb_check.specs.StoredTypes.{view_type}
+use Rattle.lb_static.specs.StoredTypes.{view_type}
 use Rattle.lb_check.specs.Streams.{data_type}
-use Rattle.lb_check.specs.TypeRules.{expression_size, total}
+use Rattle.lb_check.specs.TypeRules.{expression_size}
+use Rattle.lb_static.specs.DataTypes.{total}
 use Rattle.lb_check.specs.Types.{data_types, only}
-use Rattle.lb_check.specs.declared.data_type.DataType as stored
+use Rattle.lb_static.specs.declared.data_type.DataType as stored
 use Rattle.lb_check.specs.declared.found_types.NodeTypes.{NodeTypes}
 use Rattle.lb_check.specs.declared.found_types.TermType.{TermType}
-
--- ## Products as far as 65,537
-
-above : (m e k : ℕ) → m ≤ e → m ≤ e * suc k
-above m e k h = let f : e * suc k ≡ e * k + e = grind arith in omega arith
-
-bounded : (e s : ℕ) → min (min e 65537 * s) 65537 ≡ min (e * s) 65537
-bounded e zero =
-    let f : min e 65537 * 0 ≡ 0 = grind arith in
-    let g : e * 0 ≡ 0 = grind arith in rw (f, g) refl
-bounded e (suc k) = by (nat_le e 65537) refl
-  where
-    past : (a b : ℕ) → 65537 ≤ a → 65537 ≤ b → min a 65537 ≡ min b 65537
-    past a b g l = omega arith
-
-    by : (b : Bool) → nat_le e 65537 ≡ b → min (min e 65537 * suc k) 65537 ≡ min (e * suc k) 65537
-    by true h =
-        let le : e ≤ 65537 = grind (arith, nat_tests) in
-        let same : min e 65537 ≡ e = omega arith in
-        ap (λ n. min (n * suc k) 65537) same
-    by false h =
-        let gt : 65537 ≤ e = grind (arith, nat_tests) in
-        let same : min e 65537 ≡ 65537 = omega arith in
-        ap (λ n. min (n * suc k) 65537) same
-        ∙ past (65537 * suc k) (e * suc k) (above 65537 65537 k (omega arith)) (above 65537 e k gt)
-
--- the product of lengths, as far as 65,537
-pub times_are :
-    (n : ℕ) (ms : List ℕ) → n ≤ 65537 → times_lengths n ms ≡ min (n * product ms) 65537
-times_are n [] le = omega (arith, le)
-times_are n (m ∷ ms) le =
-    times_are (min (min (n * m) (2 ^ 64 - 1)) 65537) ms (at_most (n * m))
-    ∙ ap (λ k. min (k * product ms) 65537) (as_far (n * m)) ∙ bounded (n * m) (product ms)
-    ∙ ap (λ k. min k 65537) (regroup n m (product ms))
-  where
-    at_most : (k : ℕ) → min (min k (2 ^ 64 - 1)) 65537 ≤ 65537
-    at_most k = omega arith
-
-    as_far : (k : ℕ) → min (min k (2 ^ 64 - 1)) 65537 ≡ min k 65537
-    as_far k = omega arith
-
-    regroup : (a b c : ℕ) → (a * b) * c ≡ a * (b * c)
-    regroup a b c = grind arith
-
-pub count_is : (ms : List ℕ) → times_lengths 1 ms ≡ min (product ms) 65537
-count_is ms =
-    let e : 1 * product ms ≡ product ms = omega arith in
-    times_are 1 ms (omega arith) ∙ ap (λ k. min k 65537) e
-
-product_append : (ns ms : List ℕ) → product (ns ++ ms) ≡ product ns * product ms
-product_append [] ms = omega arith
-product_append (n ∷ ns) ms = ap (λ m. n * m) (product_append ns ms) ∙ grind arith
-
-pub product_reverse : (ns : List ℕ) → product (reverse ns) ≡ product ns
-product_reverse [] = refl
-product_reverse (n ∷ ns) =
-    ap product (reverse-append (n ∷ []) ns) ∙ product_append (reverse ns) (n ∷ [])
-    ∙ ap (λ m. m * product (n ∷ [])) (product_reverse ns) ∙ front (product ns)
-  where
-    front : (m : ℕ) → m * (n * 1) ≡ n * m
-    front m = grind arith
 
 take_seam : {A : Type 0} (xs ys : List A) → take (length xs) (xs ++ ys) ≡ xs
 take_seam [] ys = refl
@@ -96,7 +35,7 @@ drop_seam : {A : Type 0} (xs ys : List A) → drop (length xs) (xs ++ ys) ≡ ys
 drop_seam [] ys = refl
 drop_seam (x ∷ xs) ys = drop_seam xs ys
 
--- all lengths but the outermost
+-- all sizes but the outermost
 inner_product :
     (ns : List ℕ) →
     product (take (length (reverse ns) - 1) (reverse ns)) ≡ product (tail_of ns)
@@ -117,68 +56,68 @@ types_in o = either_or o []
 abbrev type_in : FoundTypes → DataType
 type_in o = type_among (types_in o)
 
-abbrev lengths_in : FoundTypes → List ℕ
-lengths_in o = reverse (type_in o).sizes
+abbrev sizes_in : FoundTypes → List ℕ
+sizes_in o = reverse (type_in o).sizes
 
 abbrev row_of : ℕ → FoundTypes → TermType
 row_of n o = record {
   kind = (type_in o).kind;
   elements = min (total (types_in o)) 65537;
   first = n;
-  rank = length (lengths_in o);
+  rank = length (sizes_in o);
 }
 
 abbrev rows_from : ℕ → List FoundTypes → List TermType
 rows_from n [] = []
-rows_from n (o ∷ os) = row_of n o ∷ rows_from (n + length (lengths_in o)) os
+rows_from n (o ∷ os) = row_of n o ∷ rows_from (n + length (sizes_in o)) os
 
 abbrev node_with : List TermType → List ℕ → FoundNode
-node_with ts ns = record { terms = ts; lengths = ns }
+node_with ts ns = record { terms = ts; sizes = ns }
 
 kept : (f : FoundNode) (os : List FoundTypes) →
     with_terms f os
-    ≡ node_with (f.terms ++ rows_from (length f.lengths) os) (f.lengths ++ flat_map lengths_in os)
-kept f [] = ap₂ node_with (sym (append-nil f.terms)) (sym (append-nil f.lengths))
+    ≡ node_with (f.terms ++ rows_from (length f.sizes) os) (f.sizes ++ flat_map sizes_in os)
+kept f [] = ap₂ node_with (sym (append-nil f.terms)) (sym (append-nil f.sizes))
 kept f (o ∷ os) =
     kept (with_term f o) os
     ∙ ap₂ node_with
-    (append_assoc f.terms (row_of (length f.lengths) o ∷ [])
-    (rows_from (length (f.lengths ++ lengths_in o)) os)
-    ∙ ap (λ n. f.terms ++ (row_of (length f.lengths) o ∷ rows_from n os))
-    (length-append f.lengths (lengths_in o)))
-    (append_assoc f.lengths (lengths_in o) (flat_map lengths_in os))
+    (append_assoc f.terms (row_of (length f.sizes) o ∷ [])
+    (rows_from (length (f.sizes ++ sizes_in o)) os)
+    ∙ ap (λ n. f.terms ++ (row_of (length f.sizes) o ∷ rows_from n os))
+    (length-append f.sizes (sizes_in o)))
+    (append_assoc f.sizes (sizes_in o) (flat_map sizes_in os))
 
 abbrev all_kept : List FoundTypes → FoundNode
-all_kept os = node_with (rows_from 0 os) (flat_map lengths_in os)
+all_kept os = node_with (rows_from 0 os) (flat_map sizes_in os)
 
 kept_all : (os : List FoundTypes) → with_terms nothing_found os ≡ all_kept os
 kept_all os = kept nothing_found os
 
--- the lengths of a term, where these stand before those of the row
-lengths_there :
+-- the sizes of a term, where these stand before those of the row
+sizes_there :
     (before : List ℕ) (os : List FoundTypes) (i : ℕ) (o : FoundTypes) → slice_get os i ≡ Some o →
-    listed (λ (t : TermType). take t.rank (drop t.first (before ++ flat_map lengths_in os)))
+    listed (λ (t : TermType). take t.rank (drop t.first (before ++ flat_map sizes_in os)))
     (slice_get (rows_from (length before) os) i)
-    ≡ lengths_in o
-lengths_there before [] i o e = absurd cc
-lengths_there before (p ∷ os) zero o e =
+    ≡ sizes_in o
+sizes_there before [] i o e = absurd cc
+sizes_there before (p ∷ os) zero o e =
     let same : p ≡ o = cc in
-    ap (take (length (lengths_in p))) (drop_seam before (lengths_in p ++ flat_map lengths_in os))
-    ∙ take_seam (lengths_in p) (flat_map lengths_in os) ∙ ap lengths_in same
-lengths_there before (p ∷ os) (suc i) o e =
+    ap (take (length (sizes_in p))) (drop_seam before (sizes_in p ++ flat_map sizes_in os))
+    ∙ take_seam (sizes_in p) (flat_map sizes_in os) ∙ ap sizes_in same
+sizes_there before (p ∷ os) (suc i) o e =
     ap (λ l. listed (λ (t : TermType). take t.rank (drop t.first l))
-    (slice_get (rows_from (length before + length (lengths_in p)) os) i))
-    (sym (append_assoc before (lengths_in p) (flat_map lengths_in os)))
+    (slice_get (rows_from (length before + length (sizes_in p)) os) i))
+    (sym (append_assoc before (sizes_in p) (flat_map sizes_in os)))
     ∙ ap (λ n. listed (λ (t : TermType).
-    take t.rank (drop t.first ((before ++ lengths_in p) ++ flat_map lengths_in os)))
-    (slice_get (rows_from n os) i)) (sym (length-append before (lengths_in p)))
-    ∙ lengths_there (before ++ lengths_in p) os i o e
+    take t.rank (drop t.first ((before ++ sizes_in p) ++ flat_map sizes_in os)))
+    (slice_get (rows_from n os) i)) (sym (length-append before (sizes_in p)))
+    ∙ sizes_there (before ++ sizes_in p) os i o e
 
-lengths_kept :
+sizes_kept :
     (f : FoundNode) (os : List FoundTypes) (i : ℕ) (o : FoundTypes) →
-    f ≡ with_terms nothing_found os → slice_get os i ≡ Some o → lengths_of f i ≡ lengths_in o
-lengths_kept f os i o is e =
-    ap (λ g. lengths_of g i) (is ∙ kept_all os) ∙ lengths_there [] os i o e
+    f ≡ with_terms nothing_found os → slice_get os i ≡ Some o → sizes_of f i ≡ sizes_in o
+sizes_kept f os i o is e =
+    ap (λ g. sizes_of g i) (is ∙ kept_all os) ∙ sizes_there [] os i o e
 
 parts_kept :
     (f : FoundNode) (os : List FoundTypes) (i : ℕ) (o : FoundTypes) →
@@ -186,26 +125,13 @@ parts_kept :
     parts_of f i ≡ min (product (tail_of (type_in o).sizes)) 65537
 parts_kept f os i o is e =
     let ns = (type_in o).sizes in
-    ap (λ l. times_lengths 1 (take (length l - 1) l)) (lengths_kept f os i o is e)
-    ∙ count_is (take (length (reverse ns) - 1) (reverse ns))
+    ap (λ l. min (product (take (length l - 1) l)) 65537) (sizes_kept f os i o is e)
     ∙ ap (λ k. min k 65537) (inner_product ns)
 
 -- ## One more term
 
-total_is : (ts : List stored.DataType) → total (map view_type ts) ≡ sum_by count_of ts
-total_is [] = refl
-total_is (t ∷ ts) =
-    let rest = total_is ts in
-    let s = sum_by-cons element_count (view_type t) (map view_type ts) in
-    let u = sum_by-cons count_of t ts in
-    let own = product_reverse t.lengths.items in
-    omega (arith, rest, s, u, own)
-
 module _ (f : FoundNode) (ts : List stored.DataType) (n : ℕ)
-    (counted : n ≡ min (sum_by count_of ts) 65537) where
-  all_counted : n ≡ min (total (map view_type ts)) 65537
-  all_counted = counted ∙ ap (λ k. min k 65537) (sym (total_is ts))
-
+    (counted : n ≡ min (total (map view_type ts)) 65537) where
   abbrev Notes : Kind → List ℕ → List stored.DataType → Type 0
   Notes kind ls ts =
       n ≡ min (total (map view_type ts)) 65537 → with_row f kind ls n
@@ -214,29 +140,29 @@ module _ (f : FoundNode) (ts : List stored.DataType) (n : ℕ)
   -- a term with one result
   pub one_noted :
       (t : stored.DataType) (ls : List ℕ) → 1 ≤ length ts → length ts < 2 → t ≡ get_or ts 0 t →
-      ls ≡ t.lengths.items → with_row f t.kind ls n ≡ with_types f (map view_type ts)
-  one_noted t ls some few is own = by ts some few is all_counted
+      ls ≡ t.sizes.items → with_row f t.kind ls n ≡ with_types f (map view_type ts)
+  one_noted t ls some few is own = by ts some few is counted
     where
       by : (ts : List stored.DataType) → 1 ≤ length ts → length ts < 2 → t ≡ get_or ts 0 t →
           Notes t.kind ls ts
       by [] some few is e = absurd (omega (arith, some))
       by (s ∷ []) some few is e =
           ap₂ (λ (u : stored.DataType) (ms : List ℕ). with_row f u.kind ms n) is
-          (own ∙ ap (λ (u : stored.DataType). u.lengths.items) is
-          ∙ sym (reverse-reverse s.lengths.items))
-          ∙ ap (with_row f s.kind (reverse (reverse s.lengths.items))) e
+          (own ∙ ap (λ (u : stored.DataType). u.sizes.items) is
+          ∙ sym (reverse-reverse s.sizes.items))
+          ∙ ap (with_row f s.kind (reverse (reverse s.sizes.items))) e
       by (s ∷ (u ∷ ts)) some few is e = absurd (omega (arith, few))
 
   -- a term with none, or with several
   pub none_noted : length ts < 1 → with_row f Int_kind [] n ≡ with_types f (map view_type ts)
-  none_noted few = by ts few all_counted
+  none_noted few = by ts few counted
     where
       by : (ts : List stored.DataType) → length ts < 1 → Notes Int_kind [] ts
       by [] few e = ap (with_row f Int_kind []) e
       by (s ∷ ts) few e = absurd (omega (arith, few))
 
   pub several_noted : 2 ≤ length ts → with_row f Int_kind [] n ≡ with_types f (map view_type ts)
-  several_noted many = by ts many all_counted
+  several_noted many = by ts many counted
     where
       by : (ts : List stored.DataType) → 2 ≤ length ts → Notes Int_kind [] ts
       by [] many e = absurd (omega (arith, many))
@@ -280,7 +206,7 @@ module _ (P : Program) (here : Instance) where
   kinds_kept n (e ∷ es) =
       ap₂ (λ (k : Kind) (ks : List Kind). k ∷ ks)
       (ap (λ (t : DataType). t.kind) (type_is (data_types P here e)))
-      (kinds_kept (n + length (lengths_in (data_types P here e))) es)
+      (kinds_kept (n + length (sizes_in (data_types P here e))) es)
 
   elements_kept : (n : ℕ) (es : List Expr) →
       map (λ (t : TermType). t.elements) (rows_from n (rows_of es))
@@ -288,7 +214,7 @@ module _ (P : Program) (here : Instance) where
   elements_kept n [] = refl
   elements_kept n (e ∷ es) =
       ap (λ (ks : List ℕ). min (expression_size P here e) 65537 ∷ ks)
-      (elements_kept (n + length (lengths_in (data_types P here e))) es)
+      (elements_kept (n + length (sizes_in (data_types P here e))) es)
 
   got : (es : List Expr) (i : ℕ) (e : Expr) → slice_get es i ≡ Some e →
       slice_get (rows_of es) i ≡ Some (data_types P here e)
@@ -309,8 +235,8 @@ module _ (P : Program) (here : Instance) where
         elements =
             ap (λ (g : FoundNode). map (λ (t : TermType). t.elements) g.terms) all
             ∙ elements_kept 0 es;
-        lengths = λ i e at.
-            lengths_kept (found_in f) (rows_of es) i (data_types P here e) is (got es i e at)
+        sizes = λ i e at.
+            sizes_kept (found_in f) (rows_of es) i (data_types P here e) is (got es i e at)
             ∙ ap (λ (t : DataType). reverse t.sizes) (type_is (data_types P here e));
         parts = λ i e at.
             parts_kept (found_in f) (rows_of es) i (data_types P here e) is (got es i e at)
@@ -359,7 +285,7 @@ module _ (P : Program) (here : Instance) where
   no_more n [] = omega arith
   no_more n (e ∷ es) =
       let row = row_of n (data_types P here e) in
-      let m = n + length (lengths_in (data_types P here e)) in
+      let m = n + length (sizes_in (data_types P here e)) in
       by (expression_size P here e)
       (sum_by (λ (t : TermType). t.elements) (rows_from m (rows_of es)))
       (sum_by (expression_size P here) es) _ _ (no_more m es)

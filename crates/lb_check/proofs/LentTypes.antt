@@ -3,6 +3,7 @@
 use Rattle.std.proofs.Common.{◌≡◌, ℕ, false, Option, None, Some, Vec, Global}
 use Rattle.std.proofs.Common.{sym, ◌∙◌, subst}
 use Rattle.std.specs.Prelude.{slice_get}
+use Rattle.std.proofs.lemmas.Option.{same_Some}
 use Rattle.lb_syntax.specs.Lists.{◌>>=◌}
 use Rattle.lb_static.specs.Instances.{Program, Instance, Path}
 use Rattle.lb_static.specs.InstanceTable.{IsTable, specialized_at}
@@ -15,7 +16,6 @@ use Rattle.lb_check.specs.TypeRules.{is_small}
 use Rattle.lb_check.specs.declared.found_types.NodeTypes.{NodeTypes}
 use Rattle.lb_check.proofs.FittedCalls.{node_at}
 use Rattle.lb_check.proofs.FoundTypes.{types_lent}
-use Rattle.lb_check.proofs.OperandTypes.{some_same}
 
 module _ (P : Program) (r : Reached) (t : Table) (reached : IsReached P r) (table : IsTable P r t)
     (i : ℕ) (s : Specialization) (there : slice_get t.specializations.items i ≡ Some s) where
@@ -33,7 +33,7 @@ module _ (P : Program) (r : Reached) (t : Table) (reached : IsReached P r) (tabl
   types_read None has p here e f is = absurd cc
   types_read (Some found) has p here e f is =
       let l = types_lent P r t reached table found has i s there p here e in
-      subst (HasTypes P here) (some_same l.0 f (sym l.1 ∙ is)) l.2
+      subst (HasTypes P here) (same_Some l.0 f (sym l.1 ∙ is)) l.2
 
   -- and where nothing is lent of one that is there, the program is too large
   pub none_read : (found : Types) → HasFoundTypes P r t found → lent found ≡ None →

@@ -1,35 +1,15 @@
 -- What two lists hold, place by place.
-use Rattle.std.proofs.Common.{◌≡◌, ℕ, zero, suc, ◌+◌, ◌<◌, Bool, true, false, List, [], ◌∷◌, ◌++◌}
-use Rattle.std.proofs.Common.{take, drop, length, map, Some, refl, ap, sym, ◌∙◌, arith}
+use Rattle.std.proofs.Common.{◌≡◌, ℕ, zero, suc, ◌+◌, ◌<◌, Bool, true, List, [], ◌∷◌, take, drop}
+use Rattle.std.proofs.Common.{map, Some, refl, ap, sym, ◌∙◌, arith}
 use Rattle.std.specs.Prelude.{◌&&◌, slice_get}
-use Rattle.lb_check.proofs.TruthValues.{and_first, and_second, both_true}
-
--- ## Truth values
-
--- two tests of which each follows from the other are one
--- what cannot be true is false
-pub never : (b : Bool) → (b ≡ true → ⊥) → b ≡ false
-never true f = absurd (f refl)
-never false f = refl
+use Rattle.std.proofs.lemmas.Bool.{and_from}
+use Rattle.lb_syntax.proofs.TruthValues.{and_first, and_second}
 
 -- ## Lists
 
 -- what stands first in the same lists is the same, and so is the rest
 pub cons_same : {A : Type 0} (x y : A) (xs ys : List A) → x ∷ xs ≡ y ∷ ys → (x ≡ y) × (xs ≡ ys)
 cons_same x y xs ys e = (cc, cc)
-
-pub get_first : {A : Type 0} (xs ys : List A) (i : ℕ) (x : A) → slice_get xs i ≡ Some x →
-    slice_get (xs ++ ys) i ≡ Some x
-get_first [] ys i x e = absurd cc
-get_first (z ∷ xs) ys zero x e = e
-get_first (z ∷ xs) ys (suc i) x e = get_first xs ys i x e
-
-pub get_later : {A : Type 0} (xs ys : List A) (j : ℕ) →
-    slice_get (xs ++ ys) (length xs + j) ≡ slice_get ys j
-get_later [] ys j = let e : 0 + j ≡ j = omega arith in ap (slice_get ys) e
-get_later (x ∷ xs) ys j =
-    let e : suc (length xs) + j ≡ suc (length xs + j) = omega arith in
-    ap (slice_get (x ∷ (xs ++ ys))) e ∙ get_later xs ys j
 
 pub get_dropped : {A : Type 0} (m : ℕ) (xs : List A) (j : ℕ) →
     slice_get (drop m xs) j ≡ slice_get xs (m + j)
@@ -61,12 +41,6 @@ get_mapped f [] i x e = absurd cc
 get_mapped f (y ∷ xs) zero x e = let same : y ≡ x = cc in ap (λ z. Some (f z)) same
 get_mapped f (y ∷ xs) (suc i) x e = get_mapped f xs i x e
 
-pub mapped_from : {A B : Type 0} (f : A → B) (xs : List A) (i : ℕ) (y : B) →
-    slice_get (map f xs) i ≡ Some y → (x : A) × (slice_get xs i ≡ Some x) × (f x ≡ y)
-mapped_from f [] i y e = absurd cc
-mapped_from f (x ∷ xs) zero y e = (x, refl, cc)
-mapped_from f (x ∷ xs) (suc i) y e = mapped_from f xs i y e
-
 -- ## Tests of two lists
 
 -- place by place, as far as both go
@@ -92,7 +66,7 @@ pub pairs_from : {A B : Type 0} (f : A → B → Bool) (xs : List A) (ys : List 
 pairs_from f [] ys h = refl
 pairs_from f (x ∷ xs) [] h = refl
 pairs_from f (x ∷ xs) (y ∷ ys) h =
-    both_true (f x y) (each_pair f xs ys) (h 0 x y refl refl)
+    and_from (f x y) (each_pair f xs ys) (h 0 x y refl refl)
     (pairs_from f xs ys (λ i a b p q. h (suc i) a b p q))
 
 -- two tests that say the same of each place

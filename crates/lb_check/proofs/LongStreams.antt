@@ -4,11 +4,13 @@ use Rattle.std.proofs.Common.{◌≡◌, ℕ, zero, suc, ◌+◌, ◌<◌, Bool,
 use Rattle.std.proofs.Common.{List, [], ◌∷◌, length, replicate, refl, ap, sym, ◌∙◌, subst, arith}
 use Rattle.std.proofs.lemmas.List.{length-replicate}
 use Rattle.std.proofs.lemmas.Slice.Eq.{bytes_eq-Decides}
+use Rattle.std.proofs.lemmas.Option.{same_Some}
 use Rattle.lb_syntax.specs.declared.tree.Kind.{Kind}
 use Rattle.lb_syntax.specs.declared.tree.ArrayIterator.{ArrayIterator}
 use Rattle.lb_syntax.specs.Lists.{◌>>=◌, Every, zip2, either_or}
 use Rattle.lb_syntax.specs.Tree.{Name, Node_named, Symbol, Expr, Call, Iterate, Exprs, Declaration}
 use Rattle.lb_syntax.specs.Tree.{Sampling, Node}
+use Rattle.lb_syntax.proofs.TruthValues.{and_second}
 use Rattle.lb_static.specs.DataTypes.{variables}
 use Rattle.lb_static.specs.Instances.{Program, Instance, Path, Root, Observer, Child, Site}
 use Rattle.lb_static.specs.Instances.{call_site, node_sites, node_named, instance_count, callee_of}
@@ -34,15 +36,14 @@ use Rattle.lb_check.proofs.InheritedProperties.{Passes, IsPassed, inherited}
 use Rattle.lb_check.proofs.InstancePaths.{path_is}
 use Rattle.lb_check.proofs.NamedClocks.{named_every, IsOver, base_over}
 use Rattle.lb_check.proofs.OccurrenceSites.{own_site}
-use Rattle.lb_check.proofs.OperandTypes.{bound, some_same}
+use Rattle.lb_check.proofs.OperandTypes.{bound}
 use Rattle.lb_check.proofs.OwnClocks.{more_steps}
 use Rattle.lb_check.proofs.SameInstances.{callee_path}
 use Rattle.lb_check.proofs.StandingParts.{Stands, node_stands}
-use Rattle.lb_check.proofs.TruthValues.{and_second}
 
 -- ## Lengths
 
-fits_length : (kind : Kind) (bs : List Bool) (xs : Stream) → fits kind bs xs ≡ true →
+pub fits_length : (kind : Kind) (bs : List Bool) (xs : Stream) → fits kind bs xs ≡ true →
     length xs ≡ length bs
 fits_length kind [] [] e = refl
 fits_length kind [] (x ∷ xs) e = absurd cc
@@ -54,7 +55,7 @@ fits_length kind (true ∷ bs) (Some v ∷ xs) e =
 fits_length kind (false ∷ bs) (None ∷ xs) e = ap suc (fits_length kind bs xs e)
 fits_length kind (false ∷ bs) (Some v ∷ xs) e = absurd cc
 
-length-both : {A B C : Type 0} (f : A → B → C) (n : ℕ) (xs : List A) (ys : List B) →
+pub length-both : {A B C : Type 0} (f : A → B → C) (n : ℕ) (xs : List A) (ys : List B) →
     length xs ≡ n → length ys ≡ n → length (zip2 f xs ys) ≡ n
 length-both f n [] ys p q = p
 length-both f n (x ∷ xs) [] p q = q
@@ -110,7 +111,7 @@ module _ (P : Program) (H : History) (count : ℕ) where
         ((v : Declaration) (k : Clock) → clock_within m vars v ≡ Some k → IsLongClock k) →
         (o : Option Sampling) (k : Clock) → sampled (clock_within m vars) vars o ≡ Some k →
         IsLongClock k
-    sampled_long j m e next None k g = subst IsLongClock (some_same Base k g) ticks
+    sampled_long j m e next None k g = subst IsLongClock (same_Some Base k g) ticks
     sampled_long j m e next (Some s) k g =
         let v = bound (named (λ v. v.name) s.variable vars) _ k g in
         let up = bound (clock_within m vars v.value) _ k v.gives in
@@ -131,7 +132,7 @@ module _ (P : Program) (H : History) (count : ℕ) where
         (presence H here.path (declared_clock here.node v.value.name))
         (H.columns here.path v.value.name)
         (ap (λ l. length (presence H here.path l)) declared ∙ inner) found.0.cells in
-        subst IsLongClock (some_same (On up.value s.variable s.sign) k up.gives)
+        subst IsLongClock (same_Some (On up.value s.variable s.sign) k up.gives)
         (length-signed count (presence H here.path up.value) s.sign
         (H.columns here.path s.variable) inner (subst IsLongName name cells))
 
@@ -202,7 +203,7 @@ module _ (P : Program) (H : History) (count : ℕ) where
     joined_long k n (Call f statics es) s is over j i c lt gives =
         subst (λ t. i < either_or (instance_count P here t.count) 0 →
         callee_of P here t n i ≡ Some c → length (H.ticks (Child here.path n i)) ≡ count)
-        (some_same (call_site f statics) s is)
+        (same_Some (call_site f statics) s is)
         (λ lt gives.
         let callee = callee_named (call_site f statics) n i c gives in
         let one : i < 1 = lt in
@@ -214,7 +215,7 @@ module _ (P : Program) (H : History) (count : ℕ) where
         let own : Site = record { callee = f; arguments = statics; count = Some m } in
         subst (λ t. i < either_or (instance_count P here t.count) 0 →
         callee_of P here t n i ≡ Some c → length (H.ticks (Child here.path n i)) ≡ count)
-        (some_same own s is)
+        (same_Some own s is)
         (λ lt gives.
         let callee = callee_named own n i c gives in
         iterator_long k n it (number P here m) es (node_named P f) callee.0 callee.1 over j i lt)

@@ -4,6 +4,7 @@ use Rattle.std.proofs.Common.{ap, sym, ◌∙◌}
 use Rattle.std.specs.Prelude.{◌&&◌, pos}
 use Rattle.lb_syntax.specs.Lists.{◌>>=◌, where_true, either_or}
 use Rattle.lb_syntax.specs.Tree.{Whole, Node_named}
+use Rattle.lb_syntax.proofs.TruthValues.{and_first, and_second}
 use Rattle.lb_static.specs.declared.resolved.Term.{Term, Literal, Truth, Variable, Value, Group'}
 use Rattle.lb_static.specs.declared.resolved.Term.{Unary', Binary', If', Arrow', Fby', Pre'}
 use Rattle.lb_static.specs.declared.resolved.Term.{Current', When', Replicate', Index', Slice'}
@@ -22,33 +23,29 @@ use Rattle.lb_check.specs.Types.{index_type, slice_type, join_type, list_type, s
 use Rattle.lb_check.specs.Types.{iterator_types}
 use Rattle.lb_check.specs.Types.{from_one, from_two, from_truths, singly, only}
 use Rattle.lb_check.specs.TermTypes.{Context, type_of, types_in, results, when_both, when_truth}
-use Rattle.lb_check.proofs.TruthValues.{and_first, and_second}
+use Rattle.lb_check.proofs.OneType.{only_singly}
 
 -- ## One type of several
 
-one_of : (o : Option DataType) → (singly o >>= only) ≡ o
-one_of None = refl
-one_of (Some t) = refl
-
 pub results_only : (ctx : Context) (t : Term) → (results ctx t >>= only) ≡ type_of ctx t
 unfolding type_of results
-results_only ctx (Literal n) = one_of (constant_type (Some (pos n)))
+results_only ctx (Literal n) = only_singly (constant_type (Some (pos n)))
 results_only ctx (Truth b) = refl
-results_only ctx (Variable x) = one_of (ctx.variable x)
-results_only ctx (Value i) = one_of (ctx.constant i)
+results_only ctx (Variable x) = only_singly (ctx.variable x)
+results_only ctx (Value i) = only_singly (ctx.constant i)
 results_only ctx (Group' p e) = results_only ctx e
-results_only ctx (Unary' op p a) = one_of (type_of ctx (Unary' op p a))
-results_only ctx (Binary' op p a q b) = one_of (type_of ctx (Binary' op p a q b))
-results_only ctx (If' p c q a r b) = one_of (type_of ctx (If' p c q a r b))
-results_only ctx (Arrow' p a q b) = one_of (type_of ctx (Arrow' p a q b))
-results_only ctx (Fby' p a q b) = one_of (type_of ctx (Fby' p a q b))
-results_only ctx (Pre' p e) = one_of (type_of ctx (Pre' p e))
-results_only ctx (Current' p e) = one_of (type_of ctx (Current' p e))
-results_only ctx (When' p e x sign) = one_of (type_of ctx (When' p e x sign))
-results_only ctx (Replicate' p e n) = one_of (type_of ctx (Replicate' p e n))
-results_only ctx (Index' p e i) = one_of (type_of ctx (Index' p e i))
-results_only ctx (Slice' p e i j) = one_of (type_of ctx (Slice' p e i j))
-results_only ctx (Join' p a q b) = one_of (type_of ctx (Join' p a q b))
+results_only ctx (Unary' op p a) = only_singly (type_of ctx (Unary' op p a))
+results_only ctx (Binary' op p a q b) = only_singly (type_of ctx (Binary' op p a q b))
+results_only ctx (If' p c q a r b) = only_singly (type_of ctx (If' p c q a r b))
+results_only ctx (Arrow' p a q b) = only_singly (type_of ctx (Arrow' p a q b))
+results_only ctx (Fby' p a q b) = only_singly (type_of ctx (Fby' p a q b))
+results_only ctx (Pre' p e) = only_singly (type_of ctx (Pre' p e))
+results_only ctx (Current' p e) = only_singly (type_of ctx (Current' p e))
+results_only ctx (When' p e x sign) = only_singly (type_of ctx (When' p e x sign))
+results_only ctx (Replicate' p e n) = only_singly (type_of ctx (Replicate' p e n))
+results_only ctx (Index' p e i) = only_singly (type_of ctx (Index' p e i))
+results_only ctx (Slice' p e i j) = only_singly (type_of ctx (Slice' p e i j))
+results_only ctx (Join' p a q b) = only_singly (type_of ctx (Join' p a q b))
 results_only ctx (Array' arity all) = refl
 results_only ctx (AtMostOne' arity all) = refl
 results_only ctx (Nor' arity all) = refl

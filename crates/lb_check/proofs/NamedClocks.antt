@@ -5,27 +5,24 @@ use Rattle.std.specs.Prelude.{◌&&◌, ◌||◌, not, IfSome, option_map}
 use Rattle.std.specs.List.{list_all}
 use Rattle.std.specs.Str.{bytes_eq}
 use Rattle.std.proofs.lemmas.Slice.Eq.{bytes_eq-Decides}
+use Rattle.std.proofs.lemmas.Bool.{or_right}
 use Rattle.lb_syntax.specs.Lists.{◌>>=◌, Every, either_or, holds, listed, or_else}
 use Rattle.lb_syntax.specs.Tree.{Name, Exprs, Declaration, Sampling, Node}
+use Rattle.lb_syntax.proofs.Readers.{bind_some}
+use Rattle.lb_syntax.proofs.SameNames.{name_same}
+use Rattle.lb_syntax.proofs.TruthValues.{and_first, and_second}
 use Rattle.lb_static.specs.Parts.{among, variable_names}
 use Rattle.lb_static.specs.DataTypes.{variables}
 use Rattle.lb_static.specs.StaticValues.{named}
 use Rattle.lb_check.specs.Clocks.{Clock, Base, On, Given, sampled, clock_within, variable_clock}
 use Rattle.lb_check.specs.Clocks.{clock_or, declared_clock, parent, above, own_depth, given_name}
-use Rattle.lb_check.specs.Clocks.{outer, given_inputs, base_from, base_clock, base_from_arguments}
-use Rattle.lb_check.specs.Clocks.{first_result_clock, argument_clocks}
+use Rattle.lb_check.specs.Clocks.{outer, given_inputs, base_from, base_clock, first_result_clock}
+use Rattle.lb_check.specs.Clocks.{argument_clocks}
 use Rattle.lb_check.specs.ClockRules.{if_clocked, is_clocked_by, are_declared_clocks}
 use Rattle.lb_check.specs.ClockRules.{is_given_variable, are_given_variables}
 use Rattle.lb_check.proofs.Every.{Every-tested, Every-both, Every-first, Every-second}
-use Rattle.lb_check.proofs.TruthValues.{and_first, and_second}
 
 -- ## Options
-
-pub bound :
-    {A B : Type 0} (o : Option A) (f : A → Option B) (b : B) → (o >>= f) ≡ Some b →
-    (a : A) × (o ≡ Some a) × (f a ≡ Some b)
-bound None f b e = absurd cc
-bound (Some a) f b e = (a, refl, e)
 
 pub either :
     {A : Type 0} (Q : A → Type 0) (o p : Option A) → IfSome o Q → IfSome p Q →
@@ -39,9 +36,6 @@ if_some Q None h = tt
 if_some Q (Some a) h = h a refl
 
 -- ## What is found by its name
-
-name_is : (x y : Name) → bytes_eq x y ≡ true → x ≡ y
-name_is x y e = (bytes_eq-Decides x y).0 e
 
 -- what is found by its name has this, where all have it
 pub named_every :
@@ -68,7 +62,7 @@ module _ (V : Name → Type 0) where
     where
       by : (among x (map (λ d. d.name) ds) ≡ true → V x) → (b : Bool) → bytes_eq x d.name ≡ b →
           (b || among x (map (λ d. d.name) ds)) ≡ true → V x
-      by rest true same h = subst V (sym (name_is x d.name same)) all.0
+      by rest true same h = subst V (sym (name_same x d.name same)) all.0
       by rest false other h = rest h
 
   pub named_has :
@@ -76,11 +70,11 @@ module _ (V : Name → Type 0) where
       named (λ d. d.name) x ds ≡ Some v → V x
   named_has x ds v all e =
       let found = named_every (λ d. V d.name) x ds v all e in
-      subst V (name_is v.name x found.1) found.0
+      subst V (name_same v.name x found.1) found.0
 
 turned : (x y : Name) → bytes_eq x y ≡ false → bytes_eq y x ≡ true → ⊥
 turned x y e f =
-    let same = (bytes_eq-Decides x y).1 (sym (name_is y x f)) in
+    let same = (bytes_eq-Decides x y).1 (sym (name_same y x f)) in
     absurd cc
 
 -- a name among the first of some declarations is that of one of these
@@ -127,7 +121,7 @@ found_next x (c ∷ ds) d rest e is =
         ∙ next h
 
 same_turned : (x y : Name) → bytes_eq x y ≡ true → bytes_eq y x ≡ true
-same_turned x y e = (bytes_eq-Decides y x).1 (sym (name_is x y e))
+same_turned x y e = (bytes_eq-Decides y x).1 (sym (name_same x y e))
 
 -- a name among some declarations and one more, and among none of the first, is that of the last
 last_name :
@@ -152,10 +146,6 @@ last_name x (c ∷ ds) d none e = by (last_name x ds d) (bytes_eq x c.name) none
 pub own_names : (ds : List Declaration) → Every (λ d. among d.name (map (λ d. d.name) ds) ≡ true) ds
 own_names ds = from ds (λ x e. e)
   where
-    or_true : (b c : Bool) → c ≡ true → (b || c) ≡ true
-    or_true true c e = refl
-    or_true false c e = e
-
     from : (cs : List Declaration) →
         ((x : Name) → among x (map (λ d. d.name) cs) ≡ true →
         among x (map (λ d. d.name) ds) ≡ true) →
@@ -164,7 +154,7 @@ own_names ds = from ds (λ x e. e)
     from (c ∷ cs) h = (
       h c.name (ap (λ b. b || among c.name (map (λ d. d.name) cs))
           ((bytes_eq-Decides c.name c.name).1 refl)),
-      from cs (λ x e. h x (or_true (bytes_eq x c.name) _ e)),
+      from cs (λ x e. h x (or_right (bytes_eq x c.name) _ e)),
     )
 
 -- a declaration that waits for one of these
@@ -211,14 +201,6 @@ module _ (V : Name → Type 0) where
       by [] = h
       by (d ∷ ds) = above_over (own_depth n d) k h
 
-  pub base_arguments_over :
-      (n : Node) (ds : List Declaration) (ks : List (Option Clock)) →
-      Every (λ o. IfSome o (IsOver V)) ks → IfSome (base_from_arguments n ds ks) (IsOver V)
-  base_arguments_over n [] ks h = tt
-  base_arguments_over n (d ∷ ds) [] h = tt
-  base_arguments_over n (d ∷ ds) (Some k ∷ ks) h = above_over (own_depth n d) k h.0
-  base_arguments_over n (d ∷ ds) (None ∷ ks) h = base_arguments_over n ds ks h.1
-
 -- ## Declared clocks
 
 -- where this holds of what a variable waits for, it does so of all that its clock waits for
@@ -235,9 +217,9 @@ module _ (V : Name → Type 0) (vars : List Declaration) (E : Declaration → Ty
           sampled (clock_within n vars) vars o ≡ Some k → IsOver V k
       by next None is g = let base : Base ≡ k = cc in subst (IsOver V) base tt
       by next (Some s) is g =
-          let v = bound (named (λ v. v.name) s.variable vars)
+          let v = bind_some (named (λ v. v.name) s.variable vars)
           (λ v. clock_within n vars v >>= λ k. Some (On k s.variable s.sign)) k g in
-          let up = bound (clock_within n vars v.0) (λ k. Some (On k s.variable s.sign)) k v.2 in
+          let up = bind_some (clock_within n vars v.0) (λ k. Some (On k s.variable s.sign)) k v.2 in
           let w = waits d s v.0 h is v.1 in
           let on : On up.0 s.variable s.sign ≡ k = cc in
           subst (IsOver V) on (next v.0 up.0 w.1 up.1, w.0)
@@ -247,7 +229,7 @@ module _ (V : Name → Type 0) (vars : List Declaration) (E : Declaration → Ty
       IfSome (named (λ v. v.name) x vars >>= clock_within n vars) (IsOver V)
   named_over n x h =
       if_some (IsOver V) (named (λ v. v.name) x vars >>= clock_within n vars) (λ k e.
-      let v = bound (named (λ v. v.name) x vars) (clock_within n vars) k e in
+      let v = bind_some (named (λ v. v.name) x vars) (clock_within n vars) k e in
       within_over n v.0 k (h v.0 v.1) v.2)
 
 module _ (V : Name → Type 0) (n : Node) (all : Every (λ d. V d.name) (variables n)) where
@@ -270,7 +252,7 @@ module _ (V : Name → Type 0) (n : Node) (all : Every (λ d. V d.name) (variabl
           IfSome (option_map (λ k. On k x sign) o) (IsOver V)
       by None is h = tt
       by (Some k) is h =
-          let v = bound (named (λ d. d.name) x (variables n))
+          let v = bind_some (named (λ d. d.name) x (variables n))
           (clock_within (suc (length (variables n))) (variables n)) k is in
           (h, named_has V x (variables n) v.0 all v.1)
 

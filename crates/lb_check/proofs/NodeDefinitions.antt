@@ -1,7 +1,7 @@
 -- The rules of definitions of a node with resolved names are what the code finds.
-use Rattle.std.proofs.Common.{length-append, ◌≡◌, ℕ, zero, suc, ◌+◌, ◌-◌, ◌<◌, ◌≤◌, Bool, true}
-use Rattle.std.proofs.Common.{false, cond, List, [], ◌∷◌, ◌++◌, length, map, Option, Some, None}
-use Rattle.std.proofs.Common.{refl, ap, sym, ◌∙◌, subst, arith}
+use Rattle.std.proofs.Common.{length-append, ◌≡◌, ℕ, zero, ◌+◌, ◌-◌, ◌<◌, ◌≤◌, Bool, true, false}
+use Rattle.std.proofs.Common.{cond, List, [], ◌∷◌, ◌++◌, length, map, Option, Some, None, refl, ap}
+use Rattle.std.proofs.Common.{sym, ◌∙◌, subst, arith}
 use Rattle.std.specs.Prelude.{◌&&◌, ◌||◌, not, nat_lt, nat_eq, option_map, slice_get, flat_map}
 use Rattle.std.specs.Prelude.{◌==◌, ◌↔◌, IfOk, IsTrue, Result, Ok, Err}
 use Rattle.std.specs.List.{list_all}
@@ -11,9 +11,13 @@ use Rattle.std.proofs.lemmas.List.{length-map}
 use Rattle.std.proofs.lemmas.List.Folds.{list_all-append}
 use Rattle.std.proofs.lemmas.List.Recursion.{is_count_by}
 use Rattle.std.proofs.lemmas.Option.{slice_get-map, slice_get_within, get_or_from_slice_get}
+use Rattle.std.proofs.lemmas.Bool.{ltb-true, eq-eqb, eqb-true, lt-ltb, le-ltb}
+use Rattle.std.proofs.Math.Bool.{and-true, and-false}
 use Rattle.lb_syntax.specs.Lists.{◌>>=◌, either_or, holds, listed}
 use Rattle.lb_syntax.specs.Tree.{Name, Node, Declaration, Expr, Static}
 use Rattle.lb_syntax.specs.Tree as tree
+use Rattle.lb_syntax.proofs.ListPlaces.{get_first, get_later, item_at, all_at, all_from}
+use Rattle.lb_syntax.proofs.TruthValues.{and_first, and_second}
 use Rattle.lb_static.specs.declared.reach.NodeId.{NodeId}
 use Rattle.lb_static.specs.declared.reach.Reached.{Reached}
 use Rattle.lb_static.specs.declared.resolved.CallSite.{CallSite}
@@ -45,8 +49,7 @@ use Rattle.lb_check.specs.NodeDefinitions.{count_left, count_statement, count_st
 use Rattle.lb_check.specs.NodeDefinitions.{DefinesEach, has_memory, row_memory, statement_memory}
 use Rattle.lb_check.specs.NodeDefinitions.{statements_memory, calls_function, call_functions}
 use Rattle.lb_check.specs.NodeDefinitions.{keeps_function_rules, is_defined_at}
-use Rattle.lb_check.proofs.NodePlaces.{held, all_at, all_from, named_at, distinct_variables}
-use Rattle.lb_check.proofs.TruthValues.{and_first, and_second}
+use Rattle.lb_check.proofs.NodePlaces.{named_at, distinct_variables}
 use Rattle.lb_check.proofs.DistinctNames.{distinct_at}
 
 -- ## Memory
@@ -180,9 +183,6 @@ one_or_none : (b : Bool) (m n : ℕ) → m ≡ n → cond b (1 + m) m ≡ cond b
 one_or_none true m n e = ap (λ z. 1 + z) e
 one_or_none false m n e = e ∙ omega arith
 
-is_below : (i n : ℕ) → nat_lt i n ≡ true → i < n
-is_below i n e = grind (arith, nat_tests)
-
 module _ (t : Texts) (k : Counts) (as_many : k.variables ≡ length t.variables)
     (distinct : are_distinct t.variables ≡ true)
     (i : ℕ) (x : Name) (at : slice_get t.variables i ≡ Some x) where
@@ -190,8 +190,8 @@ module _ (t : Texts) (k : Counts) (as_many : k.variables ≡ length t.variables)
       name_count x (map (name_at t.variables) xs) ≡ count_left i xs
   lefts_counted [] w = refl
   lefts_counted (y ∷ xs) w =
-      let below = is_below y.0 k.variables (and_first _ (list_all (is_variable k) xs) w) in
-      let h = held t.variables y.0 (omega (arith, as_many, below)) in
+      let lt = ltb-true y.0 k.variables (and_first _ (list_all (is_variable k) xs) w) in
+      let h = item_at t.variables y.0 (omega (arith, as_many, lt)) in
       let same = distinct_at t.variables i y.0 x h.0 distinct at h.1 in
       let rest = lefts_counted xs (and_second (is_variable k y) _ w) in
       ap (λ o. cond (bytes_eq x (either_or o [])) (1 + name_count x (map (name_at t.variables) xs))
@@ -223,31 +223,6 @@ module _ (t : Texts) (k : Counts) (as_many : k.variables ≡ length t.variables)
 
 -- ## Two lists place by place
 
-get_before : {A : Type 0} (xs ys : List A) (i : ℕ) (x : A) → slice_get xs i ≡ Some x →
-    slice_get (xs ++ ys) i ≡ Some x
-get_before [] ys i x e = absurd cc
-get_before (z ∷ xs) ys zero x e = e
-get_before (z ∷ xs) ys (suc i) x e = get_before xs ys i x e
-
-get_after : {A : Type 0} (xs ys : List A) (i : ℕ) →
-    slice_get (xs ++ ys) (length xs + i) ≡ slice_get ys i
-get_after [] ys i = ap (slice_get ys) (omega arith)
-get_after (x ∷ xs) ys i =
-    let e : suc (length xs) + i ≡ suc (length xs + i) = omega arith in
-    ap (slice_get (x ∷ (xs ++ ys))) e ∙ get_after xs ys i
-
-equal_is : (m n : ℕ) → m ≡ n → nat_eq m n ≡ true
-equal_is m n e = grind (arith, nat_tests)
-
-is_equal : (m n : ℕ) → nat_eq m n ≡ true → m ≡ n
-is_equal m n e = grind (arith, nat_tests)
-
-below : (i a : ℕ) → i < a → nat_lt i a ≡ true
-below i a lt = grind (arith, nat_tests)
-
-above : (i a : ℕ) → a ≤ i → nat_lt i a ≡ false
-above i a le = grind (arith, nat_tests)
-
 -- a count is 0 of each of a list, and 1 of each of a second, where it is that of the place
 module _ {A : Type 0} (xs ys : List A) (c : A → ℕ) (k : ℕ → ℕ) (count : ℕ)
     (as_many : count ≡ length (xs ++ ys))
@@ -264,15 +239,15 @@ module _ {A : Type 0} (xs ys : List A) (c : A → ℕ) (k : ℕ → ℕ) (count 
   from_each : Each → (list_all once ys && list_all never xs) ≡ true
   from_each each =
       let rest = all_from once ys (λ i d e.
-      let at = get_after xs ys i ∙ e in
+      let at = get_later xs ys i ∙ e in
       let lt = slice_get_within (xs ++ ys) (length xs + i) d at in
-      equal_is _ 1 (same (length xs + i) d at ∙ each (length xs + i) (omega (arith, as_many, lt))
-      ∙ ap (λ b. cond b 0 1) (above (length xs + i) (length xs) (omega arith)))) in
+      eq-eqb _ 1 (same (length xs + i) d at ∙ each (length xs + i) (omega (arith, as_many, lt))
+      ∙ ap (λ b. cond b 0 1) (le-ltb (length xs + i) (length xs) (omega arith)))) in
       let ins = all_from never xs (λ i d e.
-      let at = get_before xs ys i d e in
+      let at = get_first xs ys i d e in
       let lt = slice_get_within (xs ++ ys) i d at in
-      equal_is _ 0 (same i d at ∙ each i (omega (arith, as_many, lt))
-      ∙ ap (λ b. cond b 0 1) (below i (length xs) (slice_get_within xs i d e)))) in
+      eq-eqb _ 0 (same i d at ∙ each i (omega (arith, as_many, lt))
+      ∙ ap (λ b. cond b 0 1) (lt-ltb i (length xs) (slice_get_within xs i d e)))) in
       rw rest ins
 
   to_each : (list_all once ys && list_all never xs) ≡ true → Each
@@ -280,18 +255,18 @@ module _ {A : Type 0} (xs ys : List A) (c : A → ℕ) (k : ℕ → ℕ) (count 
     where
       by : (b : Bool) → nat_lt i (length xs) ≡ b → k i ≡ cond (nat_lt i (length xs)) 0 1
       by true is =
-          let h = held xs i (is_below i (length xs) is) in
+          let h = item_at xs i (ltb-true i (length xs) is) in
           let zero = all_at never xs i h.0 (and_second (list_all once ys) _ all) h.1 in
-          sym (same i h.0 (get_before xs ys i h.0 h.1)) ∙ is_equal _ 0 zero
+          sym (same i h.0 (get_first xs ys i h.0 h.1)) ∙ eqb-true _ 0 zero
           ∙ sym (ap (λ b. cond b 0 1) is)
       by false is =
           let le : length xs ≤ i = grind (arith, nat_tests) in
           let sum : length xs + (i - length xs) ≡ i = omega arith in
           let whole : length (xs ++ ys) ≡ length xs + length ys = length-append xs ys in
-          let h = held ys (i - length xs) (omega (arith, as_many, lt, whole, le)) in
+          let h = item_at ys (i - length xs) (omega (arith, as_many, lt, whole, le)) in
           let one = all_at once ys (i - length xs) h.0 (and_first _ (list_all never xs) all) h.1 in
-          let at = ap (slice_get (xs ++ ys)) (sym sum) ∙ get_after xs ys (i - length xs) ∙ h.1 in
-          sym (same i h.0 at) ∙ is_equal _ 1 one ∙ sym (ap (λ b. cond b 0 1) is)
+          let at = ap (slice_get (xs ++ ys)) (sym sum) ∙ get_later xs ys (i - length xs) ∙ h.1 in
+          sym (same i h.0 at) ∙ eqb-true _ 1 one ∙ sym (ap (λ b. cond b 0 1) is)
 
 -- ## A node that is reached
 
@@ -309,11 +284,7 @@ module _ (P : Program) (r : Reached) (names : keeps_names P ≡ true) (reached :
       found_function : (n : Node) → node_named P n.name ≡ Some n →
           if_node P (λ n. n.is_function) n.name ≡ n.is_function
       found_function n e = ap (λ o. list_all (λ n. n.is_function) (listed (λ n. n ∷ []) o)) e
-          ∙ and_true n.is_function
-        where
-          and_true : (b : Bool) → (b && true) ≡ b
-          and_true true = refl
-          and_true false = refl
+          ∙ and-true n.is_function
 
       call_is : (c : CallSite) (o : Option NodeId) → id_at r c.callee ≡ o →
           holds (λ id. nat_lt id.0 (length r.nodes.items)) (id_at r c.callee) ≡ true
@@ -322,9 +293,9 @@ module _ (P : Program) (r : Reached) (names : keeps_names P ≡ true) (reached :
       call_is c None is l = absurd
           (let e = sym (ap (holds (λ id. nat_lt id.0 (length r.nodes.items))) is) ∙ l in cc)
       call_is c (Some id) is l =
-          let lt = is_below id.0 (length r.nodes.items)
+          let lt = ltb-true id.0 (length r.nodes.items)
           (sym (ap (holds (λ id. nat_lt id.0 (length r.nodes.items))) is) ∙ l) in
-          let h = held r.nodes.items id.0 lt in
+          let h = item_at r.nodes.items id.0 lt in
           let n = node_of h.0 in
           let tree_is : tree_at r id ≡ Some n = slice_get-map node_of r.nodes.items id.0
           ∙ ap (option_map node_of) h.1 in
@@ -406,23 +377,15 @@ module _ (P : Program) (r : Reached) (names : keeps_names P ≡ true) (reached :
     -- what the code answers
     pub rules_broken : keeps_function_rules r n ≡ false → false ≡ is_defined_at P r id
     rules_broken e = sym (defined_is ∙ ap (λ b. defines_once here && b) e
-        ∙ and_false (defines_once here))
-      where
-        and_false : (b : Bool) → (b && false) ≡ false
-        and_false true = refl
-        and_false false = refl
+        ∙ and-false (defines_once here))
 
     pub rules_kept : {E : Type 0} → keeps_function_rules r n ≡ true → (result : Result Bool E) →
         IfOk result (λ b. IsTrue b ↔ Defined)
         → IfOk result (λ b. b ≡ is_defined_at P r id)
     rules_kept e (Err x) all = all
     rules_kept e (Ok b) all = by b (defines_once here) all refl
-        ∙ sym (defined_is ∙ ap (λ k. defines_once here && k) e ∙ and_true (defines_once here))
+        ∙ sym (defined_is ∙ ap (λ k. defines_once here && k) e ∙ and-true (defines_once here))
       where
-        and_true : (b : Bool) → (b && true) ≡ b
-        and_true true = refl
-        and_true false = refl
-
         by : (b d : Bool) → (IsTrue b ↔ Defined) → defines_once here ≡ d → b ≡ defines_once here
         by true d all is = sym (once_from (all.0 refl))
         by false true all is = absurd (let e = all.1 (from_once is) in cc)

@@ -3,29 +3,30 @@
 use Rattle.std.proofs.Common.{◌≡◌, inl, inr, ℕ, zero, suc, ◌+◌, ◌<◌, Bool, true, false, Option}
 use Rattle.std.proofs.Common.{Some, None, List, [], ◌∷◌, ◌++◌, flat_map, map, length, refl, ap, ap₂}
 use Rattle.std.proofs.Common.{sym, subst, ◌∙◌, arith}
-use Rattle.std.specs.Prelude.{◌||◌, not, slice_get}
+use Rattle.std.specs.Prelude.{not, slice_get}
 use Rattle.std.specs.Str.{bytes_eq}
 use Rattle.std.specs.List.{range_with_len}
-use Rattle.std.proofs.lemmas.List.{length-append, length-map}
+use Rattle.std.proofs.lemmas.List.{length-append, length-map, map-append}
 use Rattle.std.proofs.lemmas.List.FromFn.{length-range_with_len}
 use Rattle.std.proofs.lemmas.Slice.Eq.{bytes_eq-Decides}
+use Rattle.std.proofs.lemmas.Option.{slice_get_within, same_Some}
+use Rattle.std.proofs.lemmas.Bool.{false_from_ne_true, not-true}
 use Rattle.lb_syntax.specs.Lists.{Every, In, listed}
 use Rattle.lb_syntax.specs.Tree.{Name, Declaration}
+use Rattle.lb_syntax.proofs.TruthValues.{and_first, and_second, or_first, or_second}
 use Rattle.lb_static.specs.DataTypes.{variables, width}
 use Rattle.lb_static.specs.Instances.{Program, Instance, Path, is_path, instances}
 use Rattle.lb_static.specs.Names.{are_distinct}
 use Rattle.lb_static.specs.Parts.{among}
-use Rattle.lb_static.proofs.Members.{place_in, in_at, in_map}
+use Rattle.lb_static.proofs.Members.{place_in, in_map}
 use Rattle.lb_check.specs.Elements.{instance_elements, program_elements, found_from, numbers_from}
 use Rattle.lb_check.specs.Elements.{numbers_of}
 use Rattle.lb_check.specs.Needs.{Element, elements}
 use Rattle.lb_check.proofs.Every.{Every-map, Every-all, flat_same}
-use Rattle.lb_check.proofs.ListPairs.{never, get_mapped}
-use Rattle.lb_check.proofs.OperandTypes.{some_same}
-use Rattle.lb_check.proofs.TruthValues.{and_first, and_second, not_true, or_first, or_second}
-use Rattle.lb_check.proofs.ApartLists.{in_first, in_second, Every-at, Every-from, AreApart}
+use Rattle.lb_check.proofs.ListPairs.{get_mapped}
+use Rattle.lb_check.proofs.ApartLists.{Every-at, Every-from, AreApart}
 use Rattle.lb_check.proofs.ApartLists.{to_pieces, in_range}
-use Rattle.lb_check.proofs.InstancePaths.{is_path-same, same_path, IsAt, all_at, at_path}
+use Rattle.lb_check.proofs.InstancePaths.{is_path-same, same_path, IsAt, all_at}
 use Rattle.lb_check.proofs.InstancePaths.{same_instance, instances_apart}
 
 -- ## Ranges and places
@@ -41,11 +42,6 @@ range_append a (suc m) n =
     let count : suc (m + n) ≡ suc m + n = omega arith in
     ap (λ b. a ∷ (range_with_len (a + 1) m ++ range_with_len b n)) from
     ∙ (ap (λ is. a ∷ is) (range_append (a + 1) m n) ∙ ap (range_with_len a) count)
-
-pub map_append : {A B : Type 0} (f : A → B) (xs ys : List A)
-    → map f (xs ++ ys) ≡ map f xs ++ map f ys
-map_append f [] ys = refl
-map_append f (x ∷ xs) ys = ap (λ zs. f x ∷ zs) (map_append f xs ys)
 
 -- what stands at the places of a list, from one place on
 places_from : {A : Type 0} (xs all : List A) (n : ℕ) →
@@ -69,12 +65,6 @@ range_get a (suc n) zero lt = let e : a ≡ a + 0 = omega arith in ap (λ j. Som
 range_get a (suc n) (suc i) lt =
     let e : (a + 1) + i ≡ a + suc i = omega arith in
     range_get (a + 1) n i (omega arith) ∙ ap (λ j. Some j) e
-
-pub got_within : {A : Type 0} (xs : List A) (i : ℕ) (x : A) → slice_get xs i ≡ Some x
-    → i < length xs
-got_within [] i x e = absurd cc
-got_within (y ∷ xs) zero x e = omega arith
-got_within (y ∷ xs) (suc i) x e = let below = got_within xs i x e in omega (arith, below)
 
 -- ## The variables of an instance
 
@@ -104,7 +94,7 @@ module _ (P : Program) (here : Instance) where
       → are_distinct (map (λ d. d.name) (d ∷ ds)) ≡ true →
       Every (λ e. bytes_eq d.name e.name ≡ false) ds
   others d ds e =
-      not_among d.name ds (not_true _ (and_first (not (among d.name (map (λ d. d.name) ds))) _ e))
+      not_among d.name ds (not-true _ (and_first (not (among d.name (map (λ d. d.name) ds))) _ e))
 
   pub distinct_rest : (d : Declaration) (ds : List Declaration) →
       are_distinct (map (λ d. d.name) (d ∷ ds)) ≡ true → are_distinct (map (λ d. d.name) ds) ≡ true
@@ -172,7 +162,7 @@ module _ (P : Program) (here : Instance) where
           ap (λ y. slice_get (numbers_from P here n (d ∷ ds) y) k) same ∙ e in
           let got : slice_get (range_with_len n (width P here d)) k ≡ Some i =
           ap (λ ns. slice_get ns k) (sym (numbers_first n d ds)) ∙ there in
-          let below = got_within (range_with_len n (width P here d)) k i got in
+          let below = slice_get_within (range_with_len n (width P here d)) k i got in
           let count = length-range_with_len n (width P here d) in
           (d, inl refl, same, omega (arith, below, count))
       by false is again =
@@ -240,7 +230,7 @@ module _ (P : Program) where
           let path = same_path c.path p at in
           let found : Some (n, c) ≡ Some (m, here) =
           sym (found_first n c is) ∙ (ap (found_from P n (c ∷ is)) path ∙ e) in
-          let same = ap (λ (s : ℕ × Instance). s.1) (some_same (n, c) (m, here) found) in
+          let same = ap (λ (s : ℕ × Instance). s.1) (same_Some (n, c) (m, here) found) in
           (inl same, ap (λ (d : Instance). d.path) (sym same) ∙ path)
       by false at again =
           let k = again (sym (found_later n c is p at) ∙ e) in
@@ -285,7 +275,7 @@ module _ (P : Program) where
       where
         differs : (d : Instance) → In d is → is_path c.path d.path ≡ false
         differs d i =
-            never (is_path c.path d.path)
+            false_from_ne_true (is_path c.path d.path)
             (λ e.
             let path = same_path c.path d.path e in
             let equal = same_instance P c d at.0 (Every-at (IsAt P) is d at.1 i) path in
@@ -339,9 +329,9 @@ module _ (P : Program) where
             ≡ map (λ i. Some i) (flat_map (λ d. numbers_of P here.path d.name) ds)
         by [] h = refl
         by (d ∷ ds) h =
-            map_append number_at (elements P here d) (flat_map (elements P here) ds)
+            map-append number_at (elements P here d) (flat_map (elements P here) ds)
             ∙ (ap₂ (λ xs ys. xs ++ ys) (of_one d h.0) (by ds h.1)
-            ∙ sym (map_append (λ i. Some i) (numbers_of P here.path d.name)
+            ∙ sym (map-append (λ i. Some i) (numbers_of P here.path d.name)
             (flat_map (λ d. numbers_of P here.path d.name) ds)))
 
     all_numbered :
@@ -350,9 +340,9 @@ module _ (P : Program) where
         ≡ map (λ i. Some i) (flat_map own_numbers is)
     all_numbered [] h = refl
     all_numbered (c ∷ is) h =
-        map_append number_at (instance_elements P c) (flat_map (instance_elements P) is)
+        map-append number_at (instance_elements P c) (flat_map (instance_elements P) is)
         ∙ (ap₂ (λ xs ys. xs ++ ys) (own_numbered c h.0) (all_numbered is h.1)
-        ∙ sym (map_append (λ i. Some i) (own_numbers c) (flat_map own_numbers is)))
+        ∙ sym (map-append (λ i. Some i) (own_numbers c) (flat_map own_numbers is)))
 
     numbered : map number_at (program_elements P)
         ≡ map (λ i. Some i) (range_with_len 0 (length (program_elements P)))
@@ -366,12 +356,12 @@ module _ (P : Program) where
         (i : ℕ) (x : Element) → slice_get (program_elements P) i ≡ Some x →
         slice_get (numbers_of P x.path x.variable) x.index ≡ Some i
     number_is i x e =
-        let below = got_within (program_elements P) i x e in
+        let below = slice_get_within (program_elements P) i x e in
         let one = get_mapped number_at (program_elements P) i x e in
         let there = range_get 0 (length (program_elements P)) i below in
         let other = get_mapped (λ j. Some j) (range_with_len 0 (length (program_elements P))) i
         (0 + i) there in
-        let same = some_same (number_at x) (Some (0 + i))
+        let same = same_Some (number_at x) (Some (0 + i))
         (sym one ∙ (ap (λ xs. slice_get xs i) numbered ∙ other)) in
         let number : 0 + i ≡ i = omega arith in
         same ∙ ap (λ j. Some j) number
@@ -390,7 +380,7 @@ module _ (P : Program) where
             slice_get (program_elements P) i ≡ Some (wanted p x k)
         placed h =
             let at = place_in (program_elements P) (wanted p x k) h in
-            let same = some_same at.0 i (sym (number_is at.0 (wanted p x k) at.1) ∙ e) in
+            let same = same_Some at.0 i (sym (number_is at.0 (wanted p x k) at.1) ∙ e) in
             ap (slice_get (program_elements P)) (sym same) ∙ at.1
 
         element_in : (here : Instance) (d : Declaration) → In here (instances P) →

@@ -1,6 +1,6 @@
 -- In an accepted program each occurrence in the text of an instance has types, and its clock waits
 -- for variables of the instance alone.
-use Rattle.std.proofs.Common.{◌≡◌, true, Some, None, List, map}
+use Rattle.std.proofs.Common.{◌≡◌, true, Some, None, List}
 use Rattle.lb_syntax.specs.Lists.{Every, In}
 use Rattle.lb_syntax.specs.Tree.{Name, Node}
 use Rattle.lb_static.specs.DataTypes.{DataType, variables}

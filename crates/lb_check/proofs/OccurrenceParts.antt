@@ -1,16 +1,16 @@
 -- The occurrences of a node whose types are right are its parts, in text order.
-use Rattle.std.proofs.Common.{◌≡◌, ℕ, suc, ◌+◌, Bool, true, false, Option, Some, None, List, []}
-use Rattle.std.proofs.Common.{◌∷◌, ◌++◌, map, flat_map, length, refl, ap, ap₂, sym, ◌∙◌, subst}
+use Rattle.std.proofs.Common.{◌≡◌, ℕ, suc, ◌+◌, true, Option, Some, None, List, []}
+use Rattle.std.proofs.Common.{◌∷◌, ◌++◌, map, flat_map, length, refl, ap, ap₂, sym, ◌∙◌}
 use Rattle.std.proofs.Common.{arith}
-use Rattle.std.specs.Prelude.{◌&&◌}
 use Rattle.std.specs.List.{list_all}
 use Rattle.std.proofs.lemmas.List.{length-map, map-append}
 use Rattle.lb_syntax.specs.Lists.{all_some}
 use Rattle.lb_syntax.specs.Tree.{Name, Static, Node_named, Symbol, Expr, Literal, Truth, Variable}
 use Rattle.lb_syntax.specs.Tree.{Group, Unary, Binary, If, Arrow, Fby, Pre, Current, When}
 use Rattle.lb_syntax.specs.Tree.{Replicate, Index, Slice, Join, Array, AtMostOne, Nor, Call}
-use Rattle.lb_syntax.specs.Tree.{Iterate, Exprs, Nil, Cons, Declaration, Node, Statement, Equation}
+use Rattle.lb_syntax.specs.Tree.{Iterate, Exprs, Nil, Cons, Statement, Equation}
 use Rattle.lb_syntax.specs.Tree.{Assertion}
+use Rattle.lb_syntax.proofs.TruthValues.{and_first, and_second}
 use Rattle.lb_static.specs.DataTypes.{DataType, truth, is_type, are_types, variable_type, variables}
 use Rattle.lb_static.specs.Instances.{Program, Instance, statement_sites, node_named, static_count}
 use Rattle.lb_static.specs.Instantiation.{are_same}
@@ -27,7 +27,6 @@ use Rattle.lb_check.specs.Types.{from_truths, unary_type, binary_type, common_ty
 use Rattle.lb_check.specs.Types.{index_type, slice_type, join_type, operator_types}
 use Rattle.lb_check.proofs.OperandTypes.{bound, one, two, from_true, truly, first_of_all, called}
 use Rattle.lb_check.proofs.OperandTypes.{placed}
-use Rattle.lb_check.proofs.TruthValues.{and_first, and_second}
 
 -- as many types as those that they are compared with
 pub as_many_types : (ss ts : List DataType) → are_types ss ts ≡ true → length ss ≡ length ts

@@ -5,6 +5,8 @@ use Rattle.std.proofs.Common.{Some, None, List, [], ◌∷◌, ◌++◌, length,
 use Rattle.std.proofs.Common.{subst, ◌∙◌, arith}
 use Rattle.std.specs.Prelude.{◌&&◌, nat_eq, is_some, find, slice_get}
 use Rattle.std.proofs.lemmas.Bool.Decides.{nat_tests}
+use Rattle.std.proofs.Math.Bool.{and-false}
+use Rattle.std.proofs.lemmas.Bool.{and_from}
 use Rattle.lb_syntax.specs.Lists.{Every, In}
 use Rattle.lb_syntax.specs.Tree.{Node_named, Symbol, Expr, Literal, Truth, Variable, Group, Unary}
 use Rattle.lb_syntax.specs.Tree.{Binary, If, Arrow, Fby, Pre, Current, When, Replicate, Index}
@@ -21,7 +23,6 @@ use Rattle.lb_check.specs.Occurrences.{right_sides, node_occurrences}
 use Rattle.lb_check.proofs.ApartLists.{in_first, in_second, Every-at}
 use Rattle.lb_check.proofs.Every.{Every-map, Every-append, Every-both}
 use Rattle.lb_check.proofs.InstancePaths.{numbered_stand}
-use Rattle.lb_check.proofs.TruthValues.{and_false, both_true}
 
 -- ## The call that an expression is
 
@@ -131,7 +132,7 @@ is_numbered call o = nat_eq o.calls_before call && is_site o.expr
 is_own : (o : Occurrence) → is_site o.expr ≡ true → is_numbered o.calls_before o ≡ true
 is_own o e =
     let same : nat_eq o.calls_before o.calls_before ≡ true = grind (arith, nat_tests) in
-    both_true _ _ same e
+    and_from _ _ same e
 
 other_number : (call : ℕ) (o : Occurrence) → nat_eq o.calls_before call ≡ false →
     is_numbered call o ≡ false
@@ -139,7 +140,7 @@ other_number call o e = ap (λ b. b && is_site o.expr) e
 
 not_call : (call : ℕ) (o : Occurrence) → is_site o.expr ≡ false → is_numbered call o ≡ false
 not_call call o e =
-    ap (λ b. nat_eq o.calls_before call && b) e ∙ and_false (nat_eq o.calls_before call)
+    ap (λ b. nat_eq o.calls_before call && b) e ∙ and-false (nat_eq o.calls_before call)
 
 -- the calls of some occurrences are among these sites, counted from n, and each is the first that
 -- has its number

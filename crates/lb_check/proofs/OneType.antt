@@ -1,7 +1,8 @@
 -- The one type of a term is that of its results, and so an equation of one variable is judged by
 -- types alone, with no list of them.
-use Rattle.std.proofs.Common.{◌≡◌, Bool, true, false, ◌&&◌, List, [], ◌∷◌, Option, Some, None}
-use Rattle.std.proofs.Common.{inl, Vec, Global, refl, ap, sym, ◌∙◌}
+use Rattle.std.proofs.Common.{◌≡◌, Bool, List, [], ◌∷◌, Option, Some, None, inl, Vec, Global, refl}
+use Rattle.std.proofs.Common.{ap, sym, ◌∙◌}
+use Rattle.std.proofs.Math.Bool.{and-true, and-false}
 use Rattle.lb_syntax.specs.Lists.{◌>>=◌, all_some, holds}
 use Rattle.lb_static.specs.declared.resolved.Term.{Term, Array, Literal, Value, Truth}
 use Rattle.lb_static.specs.declared.resolved.Term.{Variable, Group'}
@@ -10,7 +11,7 @@ use Rattle.lb_static.specs.declared.resolved.Term.{Current', When', Replicate', 
 use Rattle.lb_static.specs.declared.resolved.Term.{Join', Array', AtMostOne', Nor', Call'}
 use Rattle.lb_static.specs.declared.resolved.Term.{IterateNode', IterateSymbol'}
 use Rattle.lb_static.specs.declared.resolved.VariableId.{VariableId}
-use Rattle.lb_static.specs.DataTypes.{DataType, is_type, are_types}
+use Rattle.lb_static.specs.DataTypes.{DataType, is_type}
 use Rattle.lb_check.specs.Types.{list_type, only, singly}
 use Rattle.lb_check.specs.TermTypes.{Context, type_of, types_of, results, row_results, are_equal}
 use Rattle.lb_check.specs.TermTypes.{is_equation_typed}
@@ -65,14 +66,6 @@ type_array_list ctx t es is =
 abbrev pub are_one : Option DataType → Option DataType → Bool
 are_one o p = holds (λ s. holds (λ t. is_type s t) p) o
 
-and_true : (b : Bool) → (b && true) ≡ b
-and_true true = refl
-and_true false = refl
-
-and_false : (b : Bool) → (b && false) ≡ false
-and_false true = refl
-and_false false = refl
-
 equal_one :
     (o : Option (List DataType)) (v : Option DataType) →
     are_equal o (all_some (v ∷ [])) ≡ are_one (o >>= only) v
@@ -80,9 +73,9 @@ equal_one None v = refl
 equal_one (Some []) None = refl
 equal_one (Some []) (Some t) = refl
 equal_one (Some (s ∷ [])) None = refl
-equal_one (Some (s ∷ [])) (Some t) = and_true (is_type s t)
+equal_one (Some (s ∷ [])) (Some t) = and-true (is_type s t)
 equal_one (Some (s ∷ u ∷ us)) None = refl
-equal_one (Some (s ∷ u ∷ us)) (Some t) = and_false (is_type s t)
+equal_one (Some (s ∷ u ∷ us)) (Some t) = and-false (is_type s t)
 
 -- an equation of one variable, where types are found for both sides or not
 pub equation_of_one :

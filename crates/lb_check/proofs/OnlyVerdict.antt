@@ -1,9 +1,10 @@
 -- A trace on which a program has one history has one verdict.
-use Rattle.std.proofs.Common.{◌≡◌, ℕ, zero, suc, ◌<◌, ◌⊎◌, inl, inr, Bool, true, false, Option}
-use Rattle.std.proofs.Common.{Some, None, length, flat_map, refl, ap, ap₂, sym, ◌∙◌, arith}
+use Rattle.std.proofs.Common.{◌≡◌, ℕ, zero, suc, ◌<◌, ◌⊎◌, inl, inr, Option, Some, None, length}
+use Rattle.std.proofs.Common.{flat_map, refl, ap, ap₂, sym, ◌∙◌, arith}
 use Rattle.std.specs.Prelude.{◌||◌, IfSome}
 use Rattle.lb_syntax.specs.Lists.{listed}
 use Rattle.lb_syntax.specs.Tree.{Name}
+use Rattle.lb_syntax.proofs.TruthValues.{contrary}
 use Rattle.lb_static.specs.Instances.{Program, Instance, Root, Observer, instance_at, instances}
 use Rattle.lb_static.specs.DataTypes.{variables}
 use Rattle.lb_static.specs.Instantiation.{static_refusal, instantiation_refusal}
@@ -91,7 +92,7 @@ module _ (P : Program) (H G : History) (same : AreSame P H G) where
 
 -- ## Verdicts
 
-compared : (t u : ℕ) → (t < u) ⊎ (t ≡ u) ⊎ (u < t)
+pub compared : (t u : ℕ) → (t < u) ⊎ (t ≡ u) ⊎ (u < t)
 compared zero zero = inr (inl refl)
 compared zero (suc u) = inl (omega arith)
 compared (suc t) zero = inr (inr (omega arith))
@@ -100,10 +101,6 @@ compared (suc t) (suc u) =
       | inl lt ↦ inl (omega arith)
       | inr r ↦ elim r [ inl e ↦ inr (inl (ap suc e)) | inr lt ↦ inr (inr (omega arith)) ]
     ]
-
-contrary : (b : Bool) → b ≡ true → b ≡ false → ⊥
-contrary true e f = cc
-contrary false e f = cc
 
 module _ (P : Program) (H G : History) (count : ℕ) (alike : DecideAlike P H G) where
   decides_same : (t : ℕ) → decides P H t ≡ decides P G t

@@ -2,6 +2,7 @@
 use Rattle.std.proofs.Common.{◌≡◌, ℕ, Bool, true, false, ℤ, Option, Some, None, option_map, List}
 use Rattle.std.proofs.Common.{[], ◌∷◌, map, refl, sym, ap, ap₂, ◌∙◌}
 use Rattle.std.specs.List.{list_all, zip}
+use Rattle.std.proofs.lemmas.Option.{same_Some}
 use Rattle.lb_syntax.specs.Lists.{◌>>=◌, all_some, where_true}
 use Rattle.lb_syntax.specs.Tree.{Name, Static, Node_named, Expr, Exprs, Call, Cons, Declaration}
 use Rattle.lb_syntax.specs.Tree.{Node}
@@ -24,9 +25,6 @@ pub bound :
 bound None f y e = absurd cc
 bound (Some x) f y e = record { value = x; is = refl; gives = e }
 
-pub some_same : {A : Type 0} (x y : A) → Some x ≡ Some y → x ≡ y
-some_same x y e = cc
-
 pub single : (ts : List DataType) (t : DataType) → only ts ≡ Some t → ts ≡ t ∷ []
 single [] t e = absurd cc
 single (s ∷ []) t e = cc
@@ -39,14 +37,14 @@ pub record Single (o : Option DataType) (ts : List DataType) : Type 0 where
 
 pub alone : (o : Option DataType) (ts : List DataType) → singly o ≡ Some ts → Single o ts
 alone None ts e = absurd cc
-alone (Some t) ts e = record { data_type = t; is = refl; all = sym (some_same _ _ e) }
+alone (Some t) ts e = record { data_type = t; is = refl; all = sym (same_Some _ _ e) }
 
 pub record Truly {A : Type 0} (b : Bool) (x y : A) : Type 0 where
   pub holds : b ≡ true
   pub same : x ≡ y
 
 pub truly : {A : Type 0} (b : Bool) (x y : A) → where_true b x ≡ Some y → Truly b x y
-truly true x y e = record { holds = refl; same = some_same x y e }
+truly true x y e = record { holds = refl; same = same_Some x y e }
 truly false x y e = absurd cc
 
 -- a result from an operand with one result
@@ -136,7 +134,7 @@ called P here f statics types e =
     let c = bound (callee_of P here (call_site f statics) 0 0) _ types e in
     let ins = bound (input_types P c.value) _ types c.gives in
     let outs = bound (output_types P c.value) _ types ins.gives in
-    let same : (ins.value, outs.value) ≡ types = some_same _ _ outs.gives in
+    let same : (ins.value, outs.value) ≡ types = same_Some _ _ outs.gives in
     record {
       callee = c.value;
       is = c.is;
@@ -159,7 +157,7 @@ placed P here f statics c e =
     let n = bound (node_named P f) _ c e in
     let values = all_some (map (static_value P here) statics) in
     let v = bound values _ c n.gives in
-    let same = some_same _ _ v.gives in
+    let same = same_Some _ _ v.gives in
     record {
       node = n.is ∙ ap (λ (d : Instance). Some d.node) same;
       at = λ call index.
@@ -194,7 +192,7 @@ module _ (P : Program) (here : Instance) where
         rest = r.value;
         is = a.is ∙ ap Some (single a.value b.value a.gives);
         others = r.is;
-        all = sym (some_same _ _ r.gives);
+        all = sym (same_Some _ _ r.gives);
       }
 
 -- ## One result

@@ -6,6 +6,7 @@ use Rattle.std.proofs.lemmas.Bool.Decides.{nat_tests}
 use Rattle.std.proofs.lemmas.Option.{slice_get_within}
 use Rattle.lb_syntax.specs.Lists.{either_or}
 use Rattle.lb_syntax.specs.Tree.{Name}
+use Rattle.lb_syntax.proofs.ListPlaces.{item_at}
 use Rattle.lb_static.specs.Parts.{variable_names}
 use Rattle.lb_static.specs.ResolvedNodes.{node_of, counts_of}
 use Rattle.lb_static.specs.ResolvedTerms.{is_variable}
@@ -26,7 +27,6 @@ use Rattle.lb_check.specs.declared.clock_set.ClockSet.{ClockSet}
 use Rattle.lb_check.specs.declared.clock_set.ClockSet.TheVariants.{NoClock, AnyClock, OneClock}
 use Rattle.lb_check.proofs.ClockTests.{clock_itself, clock_same}
 use Rattle.lb_check.proofs.ClockedNodes.{are_awaited}
-use Rattle.lb_check.proofs.NodePlaces.{held}
 use Rattle.lb_check.proofs.OwnClocks.{clock_of_free, clock_of_waiting, same_clock}
 
 -- ## Clocks of the text
@@ -36,7 +36,7 @@ pub above_outer : (b : tree.Clock) (given : Given) (k : tree.Clock) →
 above_outer b given tree.Base = refl
 above_outer b given (tree.On k x sign) = above_outer b given k
 
-same_turned : (a b : Bool) → same a b ≡ same b a
+pub same_turned : (a b : Bool) → same a b ≡ same b a
 same_turned true true = refl
 same_turned true false = refl
 same_turned false true = refl
@@ -91,7 +91,7 @@ module _ (here : ResolvedNode) (h : HasClocks here) where
       × (is_clock_within here (declared_in here y) ≡ true)
   declared_is y w =
       let lt : y.0 < length here.variables.items = grind (arith, nat_tests) in
-      let v = held here.variables.items y.0 lt in
+      let v = item_at here.variables.items y.0 lt in
       declared_by y v.0 v.0.clock v.1 lt refl
 
   pub same_is : (k l : Clock) → is_clock_within here k ≡ true → is_clock_within here l ≡ true →
@@ -193,7 +193,7 @@ module _ (here callee : ResolvedNode) (h : HasClocks here) (hc : HasClocks calle
       let aw : awaited callee.variables.items x.0 ≡ Some s.variable.0 = rw (e, is) refl in
       let lt : s.variable.0 < length callee.variables.items =
       are_awaited hc.nodes callee hc.resolved x.0 s.variable.0 aw in
-      let w = held callee.variables.items s.variable.0 lt in
+      let w = item_at callee.variables.items s.variable.0 lt in
       (w.0, w.1, lt)
 
   -- one that is waited for, where its own clock is known

@@ -1,5 +1,5 @@
 -- The clock of a declared variable stands one step below that of the variable that it waits for.
-use Rattle.std.proofs.Common.{◌≡◌, ◌≢◌, ℕ, zero, suc, ◌<◌, Bool, true, false, List, [], ◌∷◌, ◌++◌}
+use Rattle.std.proofs.Common.{◌≡◌, ◌≢◌, ℕ, zero, suc, ◌<◌, Bool, true, false, List, [], ◌++◌}
 use Rattle.std.proofs.Common.{length, Option, Some, None, refl, ap, sym, ◌∙◌, subst, arith}
 use Rattle.std.specs.Prelude.{◌&&◌, ◌==◌, is_some, option_map, slice_get, nat_eq}
 use Rattle.std.specs.Str.{bytes_eq}
@@ -7,9 +7,12 @@ use Rattle.std.proofs.lemmas.Slice.Eq.{bytes_eq-Decides}
 use mathlib.Core.Bool.{beq}
 use Rattle.std.specs.List.{list_all}
 use Rattle.std.proofs.lemmas.Bool.Decides.{nat_tests}
+use Rattle.std.proofs.Math.Bool.{and-true}
 use Rattle.lb_syntax.specs.Lists.{◌>>=◌, either_or}
 use Rattle.lb_syntax.specs.Tree as tree
-use Rattle.lb_syntax.specs.Tree.{Name, Declaration, Node}
+use Rattle.lb_syntax.specs.Tree.{Name, Declaration}
+use Rattle.lb_syntax.proofs.ListPlaces.{all_at, item_at}
+use Rattle.lb_syntax.proofs.TruthValues.{and_second}
 use Rattle.lb_static.specs.StaticValues.{named}
 use Rattle.lb_static.specs.Parts.{variable_names}
 use Rattle.lb_static.specs.DataTypes.{variables}
@@ -29,21 +32,12 @@ use Rattle.lb_check.specs.declared.own_clock.Clock.{Clock as Compared}
 use Rattle.lb_check.specs.declared.own_clock.Clock.TheVariants as code
 use Rattle.lb_check.proofs.DistinctNames.{distinct_at}
 use Rattle.lb_check.proofs.ClockedNodes.{at_place, at_name, as_many_names, are_awaited}
-use Rattle.lb_check.proofs.TruthValues.{and_first, and_second, and_true}
-use Rattle.lb_check.proofs.NodePlaces.{held}
 
-beq_same : (a b : Bool) → beq a b ≡ same a b
+pub beq_same : (a b : Bool) → beq a b ≡ same a b
 beq_same true true = refl
 beq_same true false = refl
 beq_same false true = refl
 beq_same false false = refl
-
-all_at : {A : Type 0} (f : A → Bool) (xs : List A) (i : ℕ) (x : A) → list_all f xs ≡ true →
-    slice_get xs i ≡ Some x → f x ≡ true
-all_at f [] i x all e = absurd cc
-all_at f (y ∷ xs) zero x all e = let same : y ≡ x = cc in
-    subst (λ z. f z ≡ true) same (and_first (f y) _ all)
-all_at f (y ∷ xs) (suc i) x all e = all_at f xs i x (and_second (f y) _ all) e
 
 -- ## A clock within more steps
 
@@ -108,7 +102,7 @@ module _ (r : ResolvedNode) (h : HasClocks r) where
       (declaration_of names (statics_of r) (name_in r x) v))
   name_of_place x v e lt =
       let less : x.0 < length names = omega (arith, as_many) in
-      let z = held names x.0 less in
+      let z = item_at names x.0 less in
       let same : z.0 ≡ name_in r x = sym (ap (λ o. either_or o []) z.1) in
       let here = subst (λ y. slice_get names x.0 ≡ Some y) same z.1 in
       let decl = declaration_of names (statics_of r) (name_in r x) v in
@@ -147,7 +141,7 @@ module _ (r : ResolvedNode) (h : HasClocks r) where
       let size = length ds in
       let aw : awaited vs x.0 ≡ Some y.0 = rw (e, is) refl in
       let less : y.0 < length vs = are_awaited h.nodes r h.resolved x.0 y.0 aw in
-      let w = held vs y.0 less in
+      let w = item_at vs y.0 less in
       let there = name_of_place y w.0 w.1 less in
       let decl = declaration_of names (statics_of r) (name_in r y) w.0 in
       let here = name_of_place x v e lt in
@@ -172,8 +166,8 @@ module _ (r : ResolvedNode) (h : HasClocks r) where
   same_variable x y wx wy =
       let lx : x.0 < length r.variables.items = grind (arith, nat_tests) in
       let ly : y.0 < length r.variables.items = grind (arith, nat_tests) in
-      let v = held vs x.0 lx in
-      let w = held vs y.0 ly in
+      let v = item_at vs x.0 lx in
+      let w = item_at vs y.0 ly in
       distinct_at names x.0 y.0 (name_in r x) (name_in r y) h.distinct
       (name_of_place x v.0 v.1 lx).0 (name_of_place y w.0 w.1 ly).0
 
@@ -194,7 +188,7 @@ module _ (r : ResolvedNode) (h : HasClocks r) where
       let k = declared_clock (node_of r) (name_in r x) in
       let itself : is_clock k (declared_clock (node_of r) (name_in r y)) ≡ true =
       subst (λ z. is_clock k (declared_clock (node_of r) z) ≡ true) one (clock_itself k) in
-      rw (e, itself) (sym (and_true (same sign other)))
+      rw (e, itself) (sym (and-true (same sign other)))
 
   pub same_clock : (x y : VariableId) (sign other : Bool) → is_variable (counts_of r) x ≡ true →
       is_variable (counts_of r) y ≡ true

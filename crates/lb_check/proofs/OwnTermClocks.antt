@@ -1,7 +1,6 @@
 -- The clocks that are found of a node are the base clock or those of one of its variables.
-use Rattle.std.proofs.Common.{◌≡◌, Bool, None, List, [], ◌∷◌, map, refl, ap, sym, subst}
+use Rattle.std.proofs.Common.{◌≡◌, None, List, [], ◌∷◌, map, refl, sym, subst}
 use Rattle.lb_syntax.specs.Lists.{Every, In}
-use Rattle.lb_syntax.specs.Tree.{Node}
 use Rattle.lb_static.specs.Instances.{Program, Instance, instances}
 use Rattle.lb_static.specs.Instantiation.{static_refusal}
 use Rattle.lb_static.specs.ResolvedNodes.{node_of}

@@ -1,8 +1,8 @@
 -- Two lists of which each item stands for that at its place in the other.
-use Rattle.std.proofs.Common.{◌≡◌, ℕ, zero, suc, List, [], ◌∷◌, ◌++◌, Bool, true, false, Option}
-use Rattle.std.proofs.Common.{Some, None, refl, ap, sym, subst, ◌∙◌}
-use Rattle.std.specs.Prelude.{cond, filter, flat_map, slice_get}
-use Rattle.lb_syntax.specs.Lists.{Every, listed}
+use Rattle.std.proofs.Common.{◌≡◌, ℕ, zero, suc, List, [], ◌∷◌, ◌++◌}
+use Rattle.std.proofs.Common.{Some, refl, subst}
+use Rattle.std.specs.Prelude.{slice_get}
+use Rattle.lb_syntax.specs.Lists.{Every}
 
 abbrev pub Pairs : {A B : Type 0} → (A → B → Type 0) → List A → List B → Type 0
 Pairs R [] [] = Unit {0}

@@ -1,16 +1,17 @@
 -- The clocks on which the code places the arguments of a call are those that the caller sees.
-use Rattle.std.proofs.Common.{◌≡◌, ℕ, zero, suc, ◌+◌, ◌<◌, ◌≤◌, Bool, true, false, List, [], ◌∷◌}
-use Rattle.std.proofs.Common.{take, length, map, Option, Some, None, refl, ap, ap₂, sym, ◌∙◌, subst}
+use Rattle.std.proofs.Common.{◌≡◌, ℕ, zero, suc, ◌<◌, ◌≤◌, true, List, [], ◌∷◌}
+use Rattle.std.proofs.Common.{take, length, map, Option, Some, None, refl, ap, ap₂, sym, ◌∙◌}
 use Rattle.std.proofs.Common.{arith}
-use Rattle.std.specs.Prelude.{◌&&◌, option_map, slice_get}
+use Rattle.std.specs.Prelude.{option_map, slice_get}
 use Rattle.std.specs.List.{list_all}
-use Rattle.std.proofs.lemmas.List.{length-map}
+use Rattle.std.proofs.lemmas.List.{length-map, length-take-le}
 use Rattle.std.proofs.lemmas.Option.{slice_get_within}
 use Rattle.lb_syntax.specs.Lists.{either_or}
 use Rattle.lb_syntax.specs.Tree.{Declaration}
+use Rattle.lb_syntax.proofs.ListPlaces.{mapped_from}
 use Rattle.lb_static.specs.Instances.{Program}
 use Rattle.lb_static.specs.ResolvedNodes.{node_of, texts_of, counts_of}
-use Rattle.lb_static.specs.ResolvedTerms.{exprs_of, is_variable, is_within, is_unhidden}
+use Rattle.lb_static.specs.ResolvedTerms.{exprs_of, is_within, is_unhidden}
 use Rattle.lb_static.specs.declared.resolved.ResolvedNode.{ResolvedNode}
 use Rattle.lb_static.specs.declared.resolved.Sampling.{Sampling}
 use Rattle.lb_static.specs.declared.resolved.Term.{Term}
@@ -29,8 +30,8 @@ use Rattle.lb_check.proofs.CallOperands.{waited_given, input_waits, inputs_seen,
 use Rattle.lb_check.proofs.CallOperands.{code_known}
 use Rattle.lb_check.proofs.FittingClocks.{IsGiven, fits_on}
 use Rattle.lb_check.proofs.GivenNames.{input_at, variable_held}
-use Rattle.lb_check.proofs.ListPairs.{get_mapped, mapped_from, get_taken, taken}
-use Rattle.lb_check.proofs.OuterClocks.{expected_on, variable_at, seen, AreGiven}
+use Rattle.lb_check.proofs.ListPairs.{get_mapped, get_taken}
+use Rattle.lb_check.proofs.OuterClocks.{expected_on, variable_at, AreGiven}
 
 -- two lists of one length with the same item at each place
 pub same_items :
@@ -42,11 +43,6 @@ same_items (x ∷ xs) [] long same = absurd (omega (arith, long))
 same_items (x ∷ xs) (y ∷ ys) long same =
     ap₂ (λ z zs. z ∷ zs) (same 0 x y refl refl)
     (same_items xs ys (omega (arith, long)) (λ i a b p q. same (suc i) a b p q))
-
-pub length-taken : {A : Type 0} (n : ℕ) (xs : List A) → n ≤ length xs → length (take n xs) ≡ n
-length-taken zero xs le = refl
-length-taken (suc n) [] le = absurd (omega (arith, le))
-length-taken (suc n) (x ∷ xs) le = ap suc (length-taken n xs (omega (arith, le)))
 
 -- the clock of a parameter in the text of the caller
 pub clock_expected :
@@ -126,6 +122,6 @@ module _ (P : Program) (here callee : ResolvedNode) (h : HasClocks here) (hc : H
       (map (clock_in here) (map placed_of params))
       (length-map (node_of callee).inputs seen_of ∙ sym hc.resolved.inputs
       ∙ sym (length-map (map placed_of params) (clock_in here) ∙ length-map params placed_of
-      ∙ length-taken callee.inputs callee.variables.items
+      ∙ length-take-le callee.inputs callee.variables.items
       (variables_there callee.inputs (omega arith))))
       one_placed

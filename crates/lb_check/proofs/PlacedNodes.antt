@@ -1,16 +1,17 @@
 -- What the code finds of the terms of a node, clock by clock and call by call, is what the
 -- occurrences in its text say.
 use Rattle.std.proofs.Common.{◌≡◌, ℕ, ◌+◌, ◌<◌, ◌≤◌, Bool, true, false, List, [], ◌∷◌, ◌++◌, length}
-use Rattle.std.proofs.Common.{map, flat_map, Option, Some, None, Vec, Global, refl, ap, ap₂, sym}
-use Rattle.std.proofs.Common.{◌∙◌, subst, arith}
-use Rattle.std.specs.Prelude.{◌&&◌, cond, nat_eq, slice_get}
+use Rattle.std.proofs.Common.{map, flat_map, Option, Some, None, refl, ap, ap₂, sym}
+use Rattle.std.proofs.Common.{◌∙◌, subst}
+use Rattle.std.specs.Prelude.{◌&&◌, cond, nat_eq}
 use Rattle.std.specs.List.{list_all, zip}
 use Rattle.std.proofs.lemmas.List.Folds.{list_all-append}
 use mathlib.Core.Former.{Count}
 use Rattle.lb_syntax.specs.Lists.{◌>>=◌, Every, either_or, listed}
 use Rattle.lb_syntax.specs.Tree as tree
-use Rattle.lb_syntax.specs.Tree.{Name, Expr, Node, Statement}
-use Rattle.lb_static.specs.Instances.{Program, instances, node_named, statement_sites}
+use Rattle.lb_syntax.specs.Tree.{Name, Expr, Statement}
+use Rattle.lb_syntax.proofs.TruthValues.{and_first, and_second}
+use Rattle.lb_static.specs.Instances.{Program, node_named, statement_sites}
 use Rattle.lb_static.specs.Parts.{left_names, right_side, variable_names}
 use Rattle.lb_static.specs.ResolvedNodes.{node_of, texts_of, counts_of}
 use Rattle.lb_static.specs.ResolvedTerms.{Texts, expr_of, exprs_of, named_value, row_of, static_at}
@@ -71,7 +72,6 @@ use Rattle.lb_check.proofs.RightCalls.{statement_below, statements_from}
 use Rattle.lb_check.proofs.SiteCallees.{callee_found}
 use Rattle.lb_check.proofs.TermClockSets.{row_items, within_items, unhidden_items, operands_items}
 use Rattle.lb_check.proofs.TermClockSets.{term_stands, row_stands}
-use Rattle.lb_check.proofs.TruthValues.{and_first, and_second}
 
 abbrev no_names : List Name
 no_names = []
@@ -259,10 +259,6 @@ module _ (P : Program) (r : Reached) (here : ResolvedNode) (sees : SeesClocks P 
         relabel_call (f o.calls_before) (g o.calls_before) o t.call
             (same o known) is.1,
       )) os ts q h
-
-  -- the left variables of a right side, for the call that is all of it
-  abbrev left_names_of : List VariableId → List Name
-  left_names_of lefts = map (name_in here) lefts
 
   abbrev own : List VariableId → ℕ → Expr → ℕ → List Name
   own lefts n e = own_lefts P (node_of here) n e (map (name_in here) lefts)

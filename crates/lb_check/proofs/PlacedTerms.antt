@@ -2,14 +2,15 @@
 -- occurrences say.
 use Rattle.std.proofs.Common.{◌≡◌, ℕ, ◌+◌, Bool, true, false, List, [], ◌∷◌, ◌++◌, map, Option}
 use Rattle.std.proofs.Common.{Some, None, refl, ap, ap₂, sym, ◌∙◌, subst, arith}
-use Rattle.std.specs.Prelude.{◌&&◌, option_map, nat_eq}
+use Rattle.std.specs.Prelude.{◌&&◌, nat_eq}
 use Rattle.std.specs.List.{list_all}
 use Rattle.std.proofs.lemmas.Bool.Decides.{nat_tests}
 use Rattle.std.proofs.lemmas.List.Folds.{list_all-append}
 use mathlib.Core.Former.{Count}
 use Rattle.lb_syntax.specs.Lists.{◌>>=◌, either_or, holds, listed}
 use Rattle.lb_syntax.specs.Tree as tree
-use Rattle.lb_syntax.specs.Tree.{Name, Static, Expr, Exprs, Node}
+use Rattle.lb_syntax.specs.Tree.{Name, Static, Expr, Node}
+use Rattle.lb_syntax.proofs.TruthValues.{and_first, and_second}
 use Rattle.lb_static.specs.Instances.{Program, node_named}
 use Rattle.lb_static.specs.Parts.{variable_names}
 use Rattle.lb_static.specs.ResolvedNodes.{node_of, texts_of, counts_of}
@@ -25,7 +26,6 @@ use Rattle.lb_static.specs.declared.resolved.Term.{Current', When', Replicate', 
 use Rattle.lb_static.specs.declared.resolved.Term.{Join', Array', AtMostOne', Nor', Call'}
 use Rattle.lb_static.specs.declared.resolved.Term.{IterateNode', IterateSymbol', Row_of-Term}
 use Rattle.lb_static.specs.declared.resolved.Term.{end_of-Term, more_of-Term, items-the_row-Term}
-use Rattle.lb_static.specs.declared.resolved.VariableId.{VariableId}
 use Rattle.lb_check.specs.Clocks as clocks
 use Rattle.lb_check.specs.Clocks.{Given, clock_of, clock_or, declared_clock, given_inputs, outer}
 use Rattle.lb_check.specs.ClockRules.{is_occurrence_clocked}
@@ -34,11 +34,11 @@ use Rattle.lb_check.specs.Needs.{given_parameters, is_site, site_clock}
 use Rattle.lb_check.specs.Occurrences.{Occurrence, at, call_count, occurrences, occurrences_in}
 use Rattle.lb_check.specs.Occurrences.{occurrences_each}
 use Rattle.lb_check.specs.Occurrences as text
-use Rattle.lb_check.specs.OwnClocks.{HasClocks, name_in, clock_in}
-use Rattle.lb_check.specs.ClockSets.{AreClockSets, IsClockSet, SeesClocks, is_clocked_on, is_single}
+use Rattle.lb_check.specs.OwnClocks.{name_in, clock_in}
+use Rattle.lb_check.specs.ClockSets.{IsClockSet, SeesClocks, is_clocked_on, is_single}
 use Rattle.lb_check.specs.ClockSets.{are_single, calls_single}
 use Rattle.lb_check.specs.PlacedClocks.{FoundCall, FoundTerm, part, placed_terms, placed_row}
-use Rattle.lb_check.specs.PlacedClocks.{placed_arguments, argument_clocks, call_base, call_clocks}
+use Rattle.lb_check.specs.PlacedClocks.{placed_arguments, argument_clocks, call_clocks}
 use Rattle.lb_check.specs.PlacedClocks.{determined_clock, given_variables, nested_call}
 use Rattle.lb_static.specs.ReachedNodes.{callee_in}
 use Rattle.lb_check.specs.TermClocks.{Context, context_of, declared_in, infer_clock}
@@ -58,7 +58,6 @@ use Rattle.lb_check.proofs.PlacedWithin.{are_among, parameters_within}
 use Rattle.lb_check.proofs.SiteCallees.{callee_found}
 use Rattle.lb_check.proofs.TermClockSets.{row_items, within_items, unhidden_items, operands_items}
 use Rattle.lb_check.proofs.TermClockSets.{term_stands, row_stands}
-use Rattle.lb_check.proofs.TruthValues.{and_first, and_second}
 
 -- ## What is found of an occurrence
 

@@ -1,20 +1,19 @@
 -- The types that the code finds of the parts of a term are those of the parts of its text.
-use Rattle.std.proofs.Common.{◌≡◌, Bool, true, List, [], ◌∷◌, ◌++◌, map, flat_map, Option, Some}
-use Rattle.std.proofs.Common.{None, refl, ap, ap₂, sym, ◌∙◌, subst}
+use Rattle.std.proofs.Common.{◌≡◌, true, List, [], ◌∷◌, ◌++◌, map, flat_map}
+use Rattle.std.proofs.Common.{refl, ap, ap₂, sym, ◌∙◌}
 use Rattle.std.specs.Prelude.{◌&&◌}
 use Rattle.std.specs.List.{list_all}
 use Rattle.std.proofs.lemmas.List.{map-append}
 use mathlib.Core.Former.{Count}
 use Rattle.lb_syntax.specs.Tree as tree
-use Rattle.lb_syntax.specs.Tree.{Expr, Exprs, Static}
-use Rattle.lb_static.specs.DataTypes.{DataType}
+use Rattle.lb_syntax.specs.Tree.{Expr, Static}
+use Rattle.lb_syntax.proofs.TruthValues.{and_first, and_second}
 use Rattle.lb_static.specs.Instances.{Program, Instance}
-use Rattle.lb_static.specs.Parts.{node_parts, parts, parts_in, right_side}
+use Rattle.lb_static.specs.Parts.{parts, parts_in, right_side}
 use Rattle.lb_static.specs.ResolvedTerms.{Texts, Counts, expr_of, row_of, named_value, static_at}
 use Rattle.lb_static.specs.ResolvedTerms.{statement_of, is_variable, is_static, is_call, is_within}
 use Rattle.lb_static.specs.ResolvedTerms.{are_within, is_unhidden, are_unhidden}
 use Rattle.lb_static.specs.ResolvedTerms.{is_statement_within, is_statement_unhidden}
-use Rattle.lb_static.specs.declared.resolved.ResolvedNode.{ResolvedNode}
 use Rattle.lb_static.specs.declared.resolved.ResolvedStatement.{ResolvedStatement}
 use Rattle.lb_static.specs.declared.resolved.ResolvedStatement.TheVariants as statement
 use Rattle.lb_static.specs.declared.resolved.Term.{Term, Literal, Truth, Variable, Value, Group'}
@@ -27,14 +26,9 @@ use Rattle.lb_check.specs.PlacedTypes.{FoundTypes, placed_types, placed_row_type
 use Rattle.lb_check.specs.TermTypes.{Context, results}
 use Rattle.lb_check.specs.Types.{data_types}
 use Rattle.lb_check.proofs.MirroredTypes.{Fits, term_results}
-use Rattle.lb_check.proofs.TruthValues.{and_first, and_second}
 
 module _ (P : Program) (here : Instance) (texts : Texts) (n : Counts) (ctx : Context)
     (fits : Fits P here texts n ctx) where
-  -- the types of some expressions
-  abbrev types_of : List Expr → List FoundTypes
-  types_of es = map (data_types P here) es
-
   abbrev Places : List FoundTypes → List Expr → Type 0
   Places ts es = ts ≡ map (data_types P here) es
 

@@ -8,8 +8,11 @@ use Rattle.std.specs.List.{list_all}
 use Rattle.std.proofs.lemmas.Bool.Decides.{nat_tests}
 use Rattle.std.proofs.lemmas.List.{length-take}
 use mathlib.Core.Former.{Count}
+use Rattle.std.proofs.lemmas.Bool.{and_from}
 use Rattle.lb_syntax.specs.Lists.{◌>>=◌, Every, either_or, holds, listed, or_else}
 use Rattle.lb_syntax.specs.Tree.{Node}
+use Rattle.lb_syntax.proofs.ListPlaces.{all_at}
+use Rattle.lb_syntax.proofs.TruthValues.{and_first, and_second}
 use Rattle.lb_static.specs.Parts.{variable_names}
 use Rattle.lb_static.specs.ResolvedNodes.{node_of, counts_of}
 use Rattle.lb_static.specs.ResolvedTerms.{is_variable, is_static, is_call, is_within, are_within}
@@ -33,7 +36,8 @@ use Rattle.lb_check.specs.FoundTerms.{is_call_within}
 use Rattle.lb_check.specs.OwnClocks.{HasClocks, is_clock_within}
 use Rattle.lb_check.specs.PlacedClocks.{FoundCall, FoundTerm, argument_clocks, call_base}
 use Rattle.lb_check.specs.PlacedClocks.{call_clocks, determined_clock, given_from, given_variable}
-use Rattle.lb_check.specs.PlacedClocks.{given_variables, is_awaited, nested_call, node_terms, pair_at}
+use Rattle.lb_check.specs.PlacedClocks.{given_variables, is_awaited, nested_call, node_terms}
+use Rattle.lb_check.specs.PlacedClocks.{pair_at}
 use Rattle.lb_check.specs.PlacedClocks.{placed_arguments, placed_row, placed_side}
 use Rattle.lb_check.specs.PlacedClocks.{placed_statement, placed_terms, side_base, side_call}
 use Rattle.lb_check.specs.PlacedClocks.{side_clocks}
@@ -52,9 +56,7 @@ use Rattle.lb_check.specs.declared.own_clock.Clock.{Clock}
 use Rattle.lb_check.specs.declared.own_clock.Clock.TheVariants.{Base, On}
 use Rattle.lb_check.proofs.ClockedNodes.{as_many_names}
 use Rattle.lb_check.proofs.Every.{Every-append}
-use Rattle.lb_check.proofs.NodePlaces.{all_at}
 use Rattle.lb_check.proofs.PlacedRows.{calls_among, clocks_among}
-use Rattle.lb_check.proofs.TruthValues.{and_first, and_second, both_true}
 
 -- ## Variables of a callee
 
@@ -68,7 +70,7 @@ all_append :
     list_all f (xs ++ ys) ≡ true
 all_append f [] ys p q = q
 all_append f (x ∷ xs) ys p q =
-    both_true (f x) (list_all f (xs ++ ys)) (and_first (f x) (list_all f xs) p)
+    and_from (f x) (list_all f (xs ++ ys)) (and_first (f x) (list_all f xs) p)
     (all_append f xs ys (and_second (f x) (list_all f xs) p) q)
 
 module _ (count : ℕ) where
@@ -88,7 +90,7 @@ module _ (count : ℕ) where
           (listed (λ g. g ∷ []) (if b then option_map (pair_at i) o else None)) ≡ true
       by false o = refl
       by true None = refl
-      by true (Some y) = both_true (nat_lt i count) true (low i lt) refl
+      by true (Some y) = and_from (nat_lt i count) true (low i lt) refl
 
   from_low :
       (n : ResolvedNode) (given : ℕ → Option VariableId) (i m : ℕ) → i + m ≤ count →
@@ -116,9 +118,6 @@ parameters_within callee hc os lefts =
 module _ (here : ResolvedNode) where
   abbrev IsIn : Clock → Type 0
   IsIn k = is_clock_within here k ≡ true
-
-  abbrev IsVariable : VariableId → Type 0
-  IsVariable x = is_variable (counts_of here) x ≡ true
 
   -- the variable that there is
   abbrev IsFound : Option VariableId → Type 0
@@ -232,7 +231,7 @@ module _ (here : ResolvedNode) where
           AreCallers (listed (λ g. g ∷ []) (if b then option_map (pair_at i) o else None))
       by false o p = refl
       by true None p = refl
-      by true (Some y) p = both_true (is_variable (counts_of here) y) true p refl
+      by true (Some y) p = and_from (is_variable (counts_of here) y) true p refl
 
   variable_in : (t : Term) → is_within (counts_of here) t ≡ true → IsFound (variable_of t)
   unfolding variable_of
@@ -375,9 +374,9 @@ module _ (here : ResolvedNode) where
     nested_in :
         (k : Clock) → IsIn k → (os : List Operand) → AreOperands os → (o : Option ResolvedNode) →
         is_call_within here (nested_call k os o) ≡ true
-    nested_in k p os h None = both_true (is_clock_within here k) true p refl
+    nested_in k p os h None = and_from (is_clock_within here k) true p refl
     nested_in k p os h (Some n) =
-        both_true (is_clock_within here (call_base k n os))
+        and_from (is_clock_within here (call_base k n os))
         (list_all (λ g. is_variable (counts_of here) g.caller) (given_variables n os []))
         (call_base_in k p os h n)
         (callers_in n (stands_for n.inputs os []) (stands_in n.inputs os h [] refl) 0
@@ -471,7 +470,7 @@ module _ (here : ResolvedNode) where
                 (ctx.callee c)) all wa,
           )
       placed_in k h (IterateNode' it c arity all) w = (
-        (h, both_true (is_clock_within here k) true h refl),
+        (h, and_from (is_clock_within here k) true h refl),
         row_placed_in k h all (and_second (is_call (counts_of here) c) _ w),
       )
       placed_in k h (IterateSymbol' it op i arity all) w = (
@@ -529,9 +528,9 @@ module _ (here : ResolvedNode) where
           (os : List Operand) → AreOperands os → (o : Option ResolvedNode) →
           is_call_within here (side_call ctx lefts os o) ≡ true
       side_call_in os h None =
-          both_true (is_clock_within here (left_clock ctx lefts)) true (left_in lefts) refl
+          and_from (is_clock_within here (left_clock ctx lefts)) true (left_in lefts) refl
       side_call_in os h (Some n) =
-          both_true (is_clock_within here (side_base ctx n os lefts))
+          and_from (is_clock_within here (side_base ctx n os lefts))
           (list_all (λ g. is_variable (counts_of here) g.caller) (given_variables n os lefts))
           (side_base_in n os h lefts)
           (callers_in n (stands_for n.inputs os lefts) (stands_in n.inputs os h lefts wl) 0
@@ -584,7 +583,7 @@ module _ (here : ResolvedNode) where
         list_all (is_clock_within here) (clocks_among ts) ≡ true
     clocks_in [] h = refl
     clocks_in (t ∷ ts) h =
-        both_true (is_clock_within here t.clock) (list_all (is_clock_within here) (clocks_among ts))
+        and_from (is_clock_within here t.clock) (list_all (is_clock_within here) (clocks_among ts))
         h.0.0 (clocks_in ts h.1)
 
     calls_all : (ts : List FoundTerm) → AreFound ts →
@@ -597,7 +596,7 @@ module _ (here : ResolvedNode) where
         by : (o : Option FoundCall) → IsCallIn o →
             list_all (is_call_within here) (listed (λ c. c ∷ []) o) ≡ true
         by None p = refl
-        by (Some c) p = both_true (is_call_within here c) true p refl
+        by (Some c) p = and_from (is_call_within here c) true p refl
 
 module _ (r : Reached) (here : ResolvedNode)
     (declared : list_all (is_declared_within (counts_of here)) here.variables.items ≡ true) where

@@ -9,6 +9,7 @@ use Rattle.std.specs.Str.{bytes_eq}
 use Rattle.std.proofs.lemmas.Bool.Decides.{nat_tests}
 use Rattle.std.proofs.Math.Nat.{suc-mul}
 use Rattle.std.proofs.lemmas.List.Sums.{sum_by-cons}
+use Rattle.std.proofs.lemmas.Option.{same_Some}
 use Rattle.lb_syntax.specs.Lists.{◌>>=◌, Every, In, all_some, either_or, holds, tail_of}
 use Rattle.lb_syntax.specs.Lists.{where_true}
 use Rattle.lb_syntax.specs.Tree.{Name, Static, Node_named, Symbol, Expr, Literal, Truth, Variable}
@@ -21,6 +22,8 @@ use Rattle.lb_syntax.specs.declared.tree.BinaryOperator.{BinaryOperator}
 use Rattle.lb_syntax.specs.declared.tree.UnaryOperator.{UnaryOperator}
 use Rattle.lb_syntax.specs.declared.tree.UnaryOperator.TheVariants.{Not, Negate}
 use Rattle.lb_syntax.specs.declared.tree.Kind.{Kind}
+use Rattle.lb_syntax.proofs.ListPlaces.{all_in}
+use Rattle.lb_syntax.proofs.TruthValues.{and_first}
 use Rattle.lb_static.specs.Arithmetic.{is_int}
 use Rattle.lb_static.specs.DataTypes.{DataType, int, truth, product, element_count, variables}
 use Rattle.lb_static.specs.DataTypes.{is_type, variable_type, width}
@@ -30,11 +33,12 @@ use Rattle.lb_static.specs.Instantiation.{static_refusal, is_between}
 use Rattle.lb_static.specs.Parts.{declared_sizes, node_parts, node_sizes, own_sizes, parts}
 use Rattle.lb_static.specs.Parts.{parts_in, right_side}
 use Rattle.lb_static.specs.StaticValues.{named}
-use Rattle.lb_static.proofs.Members.{all_in, map_in}
+use Rattle.lb_static.proofs.Members.{map_in}
 use Rattle.lb_check.specs.Acceptance.{check_refusal}
 use Rattle.lb_check.specs.Occurrences.{node_occurrences}
 use Rattle.lb_check.specs.Streams.{part_count}
-use Rattle.lb_check.specs.TypeRules.{expression_size, instance_size, is_small, size, total}
+use Rattle.lb_check.specs.TypeRules.{expression_size, instance_size, is_small, size}
+use Rattle.lb_static.specs.DataTypes.{total}
 use Rattle.lb_check.specs.Types.{constant_type}
 use Rattle.lb_check.specs.Types.{data_types, all_types, only, singly, name_data_type, from_one}
 use Rattle.lb_check.specs.Types.{from_truths, unary_type, binary_type, common_type, array_of}
@@ -48,9 +52,8 @@ use Rattle.lb_check.proofs.Every.{Every-append}
 use Rattle.lb_check.proofs.OccurrenceParts.{node_occurrence_parts}
 use Rattle.lb_check.proofs.OccurrenceSites.{own_site}
 use Rattle.lb_check.proofs.OperandTypes.{alone, bound, called, first_of_all, from_true, one, placed}
-use Rattle.lb_check.proofs.OperandTypes.{some_same, truly, two}
-use Rattle.lb_check.proofs.PositiveWidths.{width_positive}
-use Rattle.lb_check.proofs.TruthValues.{and_first}
+use Rattle.lb_check.proofs.OperandTypes.{truly, two}
+use Rattle.lb_check.proofs.PositiveWidths.{width_positive, at_least_one}
 
 -- ## Types without a length that is 0
 
@@ -97,9 +100,6 @@ common_wide s t u e w = subst IsWide (truly _ t u e).same w
 
 -- ## Arrays
 
-at_least_one : (n : ℕ) → nat_le 1 n ≡ true → 0 < n
-at_least_one n e = grind (arith, nat_tests)
-
 array_wide : (n : ℕ) (t u : DataType) → array_of n t ≡ Some u → IsWide t → IsWide u
 array_wide n t u e w =
     let i = truly (nat_le 1 n && nat_le n 4096) _ u e in
@@ -113,7 +113,7 @@ element_wide t a e w = by t.kind t.sizes a e w
         element_of (record { kind = k; sizes = ns }) ≡ Some a → Every (λ n. 0 < n) ns → IsWide a.1
     by k [] a e w = absurd cc
     by k (n ∷ ns) a e w =
-        subst (λ (b : ℕ × DataType). IsWide b.1) (some_same _ a e) w.1
+        subst (λ (b : ℕ × DataType). IsWide b.1) (same_Some _ a e) w.1
 
 index_wide : (i : ℕ) (t u : DataType) → index_type i t ≡ Some u → IsWide t → IsWide u
 index_wide i t u e w =
@@ -169,14 +169,14 @@ first_of (Some t) os ts e = by (all_some os) refl e
       rest = us;
       is = refl;
       others = is;
-      all = sym (some_same _ ts e);
+      all = sym (same_Some _ ts e);
     }
 
 all_wide :
     {A : Type 0} (f : A → Option DataType) (xs : List A) (ts : List DataType) →
     ((x : A) → In x xs → (t : DataType) → f x ≡ Some t → IsWide t) →
     all_some (map f xs) ≡ Some ts → AreWide ts
-all_wide f [] ts wide e = subst AreWide (some_same [] ts e) tt
+all_wide f [] ts wide e = subst AreWide (same_Some [] ts e) tt
 all_wide f (x ∷ xs) ts wide e =
     let i = first_of (f x) (map f xs) ts e in
     subst AreWide (sym i.all)
@@ -222,7 +222,7 @@ named_in x d (c ∷ ds) e = by (bytes_eq c.name x) e (named_in x d ds)
   where
     by : (b : Bool) → cond b (Some c) (named (λ (d : Declaration). d.name) x ds) ≡ Some d →
         (named (λ (d : Declaration). d.name) x ds ≡ Some d → In d ds) → In d (c ∷ ds)
-    by true e next = inl (some_same c d e)
+    by true e next = inl (same_Some c d e)
     by false e next = inr (next e)
 
 module _ (P : Program) (accepted : static_refusal P ≡ None) where
@@ -249,7 +249,7 @@ module _ (P : Program) (accepted : static_refusal P ≡ None) where
             where_true (is_logical op) (truth ∷ truth ∷ [], truth ∷ [])) ≡ Some types →
             AreWide types.1
         by true e =
-            subst (λ (o : List DataType × List DataType). AreWide o.1) (some_same _ types e)
+            subst (λ (o : List DataType × List DataType). AreWide o.1) (same_Some _ types e)
             (tt, tt)
         by false e =
             subst (λ (o : List DataType × List DataType). AreWide o.1)
@@ -283,7 +283,7 @@ module _ (P : Program) (accepted : static_refusal P ≡ None) where
         (ap own_site o.2 ∙ site) q.node lt in
         let moved : Instance =
         record (c.callee) { path = Child here.path o.0.calls_before 0 } in
-        let same = some_same there.instance moved (sym there.is ∙ q.at o.0.calls_before 0) in
+        let same = same_Some there.instance moved (sym there.is ∙ q.at o.0.calls_before 0) in
         let known = subst (λ (z : Instance). In z (instances P)) same there.stands in
         all_wide (variable_type P c.callee) c.callee.node.outputs types.1
         (λ d i t g. variable_wide moved known d
@@ -308,13 +308,9 @@ module _ (P : Program) (accepted : static_refusal P ≡ None) where
     abbrev Stands : List Expr → Type 0
     Stands es = (x : Expr) → In x es → In x (node_parts here.node)
 
-    abbrev IsPositive : Expr → Type 0
-    IsPositive e =
-        Stands (parts e) → (ts : List DataType) → data_types P here e ≡ Some ts → AreWide ts
-
     -- where the operand gives the type
     same_wide : (a : Expr) (t u : DataType) → Some t ≡ Some u → AreWide (t ∷ []) → IsWide u
-    same_wide a t u e w = subst IsWide (some_same t u e) w.0
+    same_wide a t u e w = subst IsWide (same_Some t u e) w.0
 
     mutual
       positive :
@@ -323,7 +319,7 @@ module _ (P : Program) (accepted : static_refusal P ≡ None) where
       positive (Literal m) on ts e =
           let a = alone (constant_type (Some (pos m))) ts e in
           one_wide ts a.data_type a.all (constant_wide (Some (pos m)) a.data_type a.is)
-      positive (Truth b) on ts e = subst AreWide (some_same (truth ∷ []) ts e) (tt, tt)
+      positive (Truth b) on ts e = subst AreWide (same_Some (truth ∷ []) ts e) (tt, tt)
       positive (Variable x) on ts e =
           let a = alone (name_data_type P here x) ts e in
           one_wide ts a.data_type a.all (name_wide x a.data_type a.is)
@@ -419,7 +415,7 @@ module _ (P : Program) (accepted : static_refusal P ≡ None) where
       all_positive :
           (es : Exprs) → Stands (parts_in es) → (ts : List DataType) →
           all_types P here es ≡ Some ts → AreWide ts
-      all_positive Nil on ts e = subst AreWide (some_same [] ts e) tt
+      all_positive Nil on ts e = subst AreWide (same_Some [] ts e) tt
       all_positive (Cons a es) on ts e =
           let i = first_of_all P here a es ts e in
           let w = positive a (λ x l. on x (in_first x (parts a) (parts_in es) l))

@@ -1,37 +1,27 @@
 -- In an accepted program each variable has an element, since no size is 0.
 use Rattle.std.proofs.Common.{◌≡◌, ℕ, zero, suc, ◌*◌, ◌<◌, true, Option, Some, None, option_map}
-use Rattle.std.proofs.Common.{List, [], ◌∷◌, map, flat_map, reverse, length, sym, subst, arith}
-use Rattle.std.specs.Prelude.{◌&&◌, nat_le, slice_get}
+use Rattle.std.proofs.Common.{List, [], ◌∷◌, map, flat_map, reverse, arith}
+use Rattle.std.specs.Prelude.{◌&&◌, nat_le}
 use Rattle.std.proofs.lemmas.Bool.Decides.{nat_tests}
-use Rattle.std.proofs.lemmas.List.{reverse-append}
 use Rattle.std.proofs.Math.Nat.{suc-mul}
 use Rattle.lb_syntax.specs.Lists.{Every, In, holds, either_or, all_some}
 use Rattle.lb_syntax.specs.Tree.{Static, Declaration}
+use Rattle.lb_syntax.proofs.ListPlaces.{all_in}
+use Rattle.lb_syntax.proofs.TruthValues.{and_first}
 use Rattle.lb_static.specs.DataTypes.{product, element_count, variables, width}
 use Rattle.lb_static.specs.Instances.{Program, Instance, static_count, instances}
 use Rattle.lb_static.specs.Instantiation.{static_refusal, is_between}
 use Rattle.lb_static.specs.Parts.{declared_sizes, node_sizes, own_sizes, node_parts}
-use Rattle.lb_static.proofs.Members.{all_in}
-use Rattle.lb_check.specs.Elements.{numbers_of}
-use Rattle.lb_check.proofs.AcceptedNumbers.{numbers_width}
 use Rattle.lb_check.proofs.ApartLists.{in_first, to_pieces, Every-at, Every-from}
 use Rattle.lb_check.proofs.Checks.{instantiation_kept}
-use Rattle.lb_check.proofs.Every.{Every-append}
-use Rattle.lb_check.proofs.NodePlaces.{held}
+use Rattle.lb_check.proofs.Every.{Every-reverse}
 use Rattle.lb_check.proofs.SameInstances.{IsEntered, all_entered}
-use Rattle.lb_check.proofs.TruthValues.{and_first}
 
-every_reverse : {A : Type 0} (Q : A → Type 0) (xs : List A) → Every Q xs → Every Q (reverse xs)
-every_reverse Q [] h = tt
-every_reverse Q (x ∷ xs) h =
-    subst (Every Q) (sym (reverse-append (x ∷ []) xs))
-    (Every-append Q (reverse xs) (x ∷ []) (every_reverse Q xs h.1) (h.0, tt))
-
-positive_times : (n m : ℕ) → 0 < n → 0 < m → 0 < n * m
+pub positive_times : (n m : ℕ) → 0 < n → 0 < m → 0 < n * m
 positive_times zero m p q = absurd (omega arith)
 positive_times (suc n) m p q = let e = suc-mul n m in omega (arith, q, e)
 
-at_least_one : (n : ℕ) → nat_le 1 n ≡ true → 0 < n
+pub at_least_one : (n : ℕ) → nat_le 1 n ≡ true → 0 < n
 at_least_one n e = grind (arith, nat_tests)
 
 module _ (P : Program) (here : Instance) where
@@ -81,15 +71,4 @@ module _ (P : Program) (accepted : static_refusal P ≡ None) where
       (in_first s (declared_sizes here.node) others
       (to_pieces (λ (c : Declaration). c.sizes) s d (variables here.node) j k))) in
       width_of P here d (all_some (map (static_count P here) (reverse d.sizes)))
-      (sizes_positive P here (reverse d.sizes) (every_reverse (IsPositive P here) d.sizes sizes))
-
-  -- each variable has a first number
-  pub number_first :
-      (here : Instance) → In here (instances P) → (d : Declaration) →
-      In d (variables here.node) →
-      (n : ℕ) × (slice_get (numbers_of P here.path d.name) 0 ≡ Some n)
-  number_first here i d j =
-      let wide = Every-at (λ c. length (numbers_of P here.path c.name) ≡ width P here c)
-      (variables here.node) d (numbers_width P accepted here i) j in
-      let some = width_positive here i d j in
-      held (numbers_of P here.path d.name) 0 (subst (λ w. 0 < w) (sym wide) some)
+      (sizes_positive P here (reverse d.sizes) (Every-reverse (IsPositive P here) d.sizes sizes))

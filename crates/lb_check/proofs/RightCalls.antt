@@ -1,8 +1,9 @@
 -- The left variables of the call of a number, statement by statement.
-use Rattle.std.proofs.Common.{◌≡◌, inl, inr, ℕ, ◌+◌, ◌<◌, ◌≤◌, Bool, true, false, Option, Some}
-use Rattle.std.proofs.Common.{None, List, [], ◌∷◌, length, zip, refl, ap, sym, ◌∙◌, subst, arith}
+use Rattle.std.proofs.Common.{◌≡◌, ℕ, ◌+◌, ◌<◌, ◌≤◌, Bool, true, false, Some}
+use Rattle.std.proofs.Common.{None, List, [], ◌∷◌, length, zip, refl, ap, sym, ◌∙◌, arith}
 use Rattle.std.specs.Prelude.{◌&&◌, cond, find, nat_eq}
 use Rattle.std.proofs.lemmas.Bool.Decides.{nat_tests}
+use Rattle.std.proofs.Math.Bool.{and-false}
 use Rattle.lb_syntax.specs.Lists.{Every, In, listed}
 use Rattle.lb_syntax.specs.Tree.{Name, Expr, Exprs, Node, Statement}
 use Rattle.lb_static.specs.Instances.{Program, Site, sites_in, statement_sites, numbered_sites}
@@ -16,7 +17,6 @@ use Rattle.lb_check.proofs.Every.{Every-map}
 use Rattle.lb_check.proofs.OccurrenceSites.{AreCalls, body_calls, body_occurrences, calls_each}
 use Rattle.lb_check.proofs.OccurrenceSites.{calls_in, find_here, find_next, numbered_below}
 use Rattle.lb_check.proofs.OccurrenceSites.{numbered_from, own_site, site_of_call, statement_calls}
-use Rattle.lb_check.proofs.TruthValues.{and_false}
 
 -- calls have numbers from one on
 abbrev pub AreFrom : ℕ → List Occurrence → Type 0
@@ -130,7 +130,7 @@ module _ (P : Program) (here : Node) where
     where
       by : (b : Bool) → is_site (ungrouped (right_side s)) ≡ b →
           (nat_eq n call && is_site (ungrouped (right_side s))) ≡ false
-      by false e = ap (λ b. nat_eq n call && b) e ∙ and_false (nat_eq n call)
+      by false e = ap (λ b. nat_eq n call && b) e ∙ and-false (nat_eq n call)
       by true e =
           let some = statement_has_site P here s e in
           let differs : nat_eq n call ≡ false = grind (arith, nat_tests) in
@@ -147,7 +147,7 @@ module _ (P : Program) (here : Node) where
       is_site (ungrouped e) ≡ false → [] ≡ own_lefts n e lefts call
   no_own n e lefts call is =
       sym (ap (λ b. cond (nat_eq n call && b) lefts []) is
-      ∙ ap (λ b. cond b lefts []) (and_false (nat_eq n call)))
+      ∙ ap (λ b. cond b lefts []) (and-false (nat_eq n call)))
 
   pub no_more : (n : ℕ) (e : Expr) (lefts : List Name) (call : ℕ) → n + 1 ≤ call →
       [] ≡ own_lefts n e lefts call

@@ -5,9 +5,11 @@ use Rattle.std.proofs.Common.{option_map, List, [], ◌∷◌, map, refl, ap, sy
 use Rattle.std.specs.Prelude.{◌&&◌, nat_le, nat_lt, IfSome}
 use Rattle.std.specs.List.{list_all, range_with_len}
 use Rattle.std.proofs.lemmas.Bool.Decides.{nat_tests}
+use Rattle.std.proofs.lemmas.Option.{same_Some}
 use Rattle.lb_syntax.specs.Lists.{Every, either_or, holds, listed, all_some}
 use Rattle.lb_syntax.specs.Refusals.{E5, E6, E9, E10, E12, unless}
 use Rattle.lb_syntax.specs.Tree.{Name, Static, Node}
+use Rattle.lb_syntax.proofs.TruthValues.{and_first, and_second}
 use Rattle.lb_static.specs.Instances.{Program, Instance, Path, Root, Observer, Child, Site}
 use Rattle.lb_static.specs.Instances.{node_sites, numbered_sites, node_named, static_value}
 use Rattle.lb_static.specs.Instances.{static_count, instance_count, callee_of, start_at}
@@ -28,10 +30,9 @@ use Rattle.lb_check.proofs.Every.{Every-map, Every-both, Every-tested, Every-all
 use Rattle.lb_check.proofs.Every.{Every-first, Every-second, Every-piece, Every-of_pieces}
 use Rattle.lb_check.proofs.Every.{Every-found, Every-finds, Every-range}
 use Rattle.lb_check.proofs.NamedClocks.{if_some}
-use Rattle.lb_check.proofs.OperandTypes.{bound, some_same}
+use Rattle.lb_check.proofs.OperandTypes.{bound}
 use Rattle.lb_check.proofs.SamePlaces.{SamePlaces, same_places}
 use Rattle.lb_check.proofs.SameStreams.{IsSame}
-use Rattle.lb_check.proofs.TruthValues.{and_first, and_second}
 
 -- ## What is refused nowhere
 
@@ -67,7 +68,7 @@ pub callee_path :
 callee_path P here site call index c e =
     let n = bound (node_named P site.callee) _ c e in
     let values = bound (all_some (map (static_value P here) site.arguments)) _ c n.gives in
-    sym (ap (λ (i : Instance). i.path) (some_same _ _ values.gives))
+    sym (ap (λ (i : Instance). i.path) (same_Some _ _ values.gives))
 
 module _ (P : Program) where
   pub deeper : (here : Instance) →
@@ -116,7 +117,7 @@ module _ (P : Program) where
         by : (o : Option Node) → option_map (λ n. record { path = p; node = n; values = [] }) o
             ≡ Some c → c.path ≡ p
         by None h = absurd cc
-        by (Some n) h = sym (ap (λ (i : Instance). i.path) (some_same _ _ h))
+        by (Some n) h = sym (ap (λ (i : Instance). i.path) (same_Some _ _ h))
 
     abbrev pub CallSuch : List Instance → Type 0
     CallSuch is = Every (λ i. Every Q (children P i)) is

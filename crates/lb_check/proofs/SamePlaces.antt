@@ -6,6 +6,7 @@ use Rattle.std.specs.Prelude.{IfSome}
 use Rattle.std.specs.List.{list_all}
 use Rattle.lb_syntax.specs.Lists.{Every}
 use Rattle.lb_syntax.specs.Tree.{Name, Expr, Statement, Equation, Assertion}
+use Rattle.lb_syntax.proofs.TruthValues.{and_first, and_second}
 use Rattle.lb_static.specs.Instances.{Program, Instance, sites, statement_sites, node_sites}
 use Rattle.lb_static.specs.Parts.{among, clock_names}
 use Rattle.lb_static.specs.DataTypes.{DataType, truth, is_type, variables}
@@ -26,7 +27,6 @@ use Rattle.lb_check.proofs.DeterminedClocks.{determined}
 use Rattle.lb_check.proofs.Every.{Every-append, Every-filter, Every-found, Every-tested, flat_same}
 use Rattle.lb_check.proofs.NamedClocks.{IsOver, clock_or_over, declared_over}
 use Rattle.lb_check.proofs.SameStreams.{Same, IsSame, SitesHold, AreLawful, KeepsSame, same_streams}
-use Rattle.lb_check.proofs.TruthValues.{and_first, and_second}
 
 -- ## The types of right sides
 

@@ -12,6 +12,7 @@ use Rattle.lb_syntax.specs.Tree.{Name, Static, Node_named, Symbol, Expr, Literal
 use Rattle.lb_syntax.specs.Tree.{Group, Unary, Binary, If, Arrow, Fby, Pre, Current, When}
 use Rattle.lb_syntax.specs.Tree.{Replicate, Index, Slice, Join, Array, AtMostOne, Nor, Call}
 use Rattle.lb_syntax.specs.Tree.{Iterate, Exprs, Nil, Cons, Declaration, Node}
+use Rattle.lb_syntax.proofs.TruthValues.{and_first}
 use Rattle.lb_static.specs.Instances.{Program, Instance, Child, Site, call_site, sites, sites_in}
 use Rattle.lb_static.specs.Instances.{node_named, name_value, static_count}
 use Rattle.lb_static.specs.DataTypes.{DataType, variables}
@@ -41,7 +42,6 @@ use Rattle.lb_check.proofs.Every.{flat_same}
 use Rattle.lb_check.proofs.NamedClocks.{if_some, named_every, IsOver, clock_or_over, arguments_over}
 use Rattle.lb_check.proofs.OperandTypes.{bound, one, two, from_true, first_of_all, Placed, called}
 use Rattle.lb_check.proofs.OperandTypes.{placed}
-use Rattle.lb_check.proofs.TruthValues.{and_first}
 
 -- ## Iterators
 

@@ -1,28 +1,28 @@
 -- The variables that clocks of an accepted program wait for, as the whole program sees them, are
 -- variables of instances, each with a first element.
-use Rattle.std.proofs.Common.{◌≡◌, ◌⊎◌, inl, inr, ℕ, zero, suc, ◌+◌, ◌*◌, ◌<◌, ◌≤◌, Bool, true}
-use Rattle.std.proofs.Common.{false, cond, Option, Some, None, List, [], ◌∷◌, ◌++◌, length, map}
-use Rattle.std.proofs.Common.{flat_map, zip, refl, ap, sym, ◌∙◌, subst, arith}
-use Rattle.std.specs.Prelude.{◌&&◌, ◌||◌, not, nat_le, nat_eq, option_map, reverse, filter}
-use Rattle.std.specs.Prelude.{slice_get}
+use Rattle.std.proofs.Common.{◌≡◌, ◌⊎◌, inl, inr, ℕ, ◌<◌, Bool, true, false, cond, Option, Some}
+use Rattle.std.proofs.Common.{None, List, [], ◌∷◌, ◌++◌, length, map, flat_map, zip, refl, ap, sym}
+use Rattle.std.proofs.Common.{◌∙◌, subst, arith}
+use Rattle.std.specs.Prelude.{◌&&◌, ◌||◌, not, nat_eq, filter, slice_get}
 use Rattle.std.specs.List.{list_all}
 use Rattle.std.specs.Str.{bytes_eq}
-use Rattle.std.proofs.lemmas.Bool.Decides.{nat_tests}
-use Rattle.std.proofs.lemmas.List.{reverse-append}
 use Rattle.std.proofs.lemmas.Slice.Eq.{bytes_eq-Decides}
-use Rattle.lb_syntax.specs.Lists.{◌>>=◌, Every, In, all_some, either_or, holds, listed}
-use Rattle.lb_syntax.specs.Tree.{Name, Static, Node_named, Symbol, Expr, Call, Iterate, Exprs}
+use Rattle.std.proofs.lemmas.Bool.{eqb-true}
+use Rattle.std.proofs.lemmas.Option.{same_Some}
+use Rattle.lb_syntax.specs.Lists.{◌>>=◌, In, either_or, holds, listed}
+use Rattle.lb_syntax.specs.Tree.{Name, Static, Expr, Call, Exprs}
 use Rattle.lb_syntax.specs.Tree.{Declaration, Sampling, Node, Statement}
-use Rattle.lb_static.specs.DataTypes.{element_count, product, variables, variable_type, width}
+use Rattle.lb_syntax.proofs.ListPlaces.{all_in, item_at}
+use Rattle.lb_syntax.proofs.TruthValues.{and_first, and_second}
+use Rattle.lb_static.specs.DataTypes.{variables, width}
 use Rattle.lb_static.specs.Instances.{Program, Instance, Path, Root, Observer, Child, instance_at}
-use Rattle.lb_static.specs.Instances.{instances, node_named, node_sites, static_count}
-use Rattle.lb_static.specs.Instantiation.{static_refusal, is_between}
+use Rattle.lb_static.specs.Instances.{instances, node_named, node_sites}
+use Rattle.lb_static.specs.Instantiation.{static_refusal}
 use Rattle.lb_static.specs.Names.{declares_once, is_callable, is_known, is_static_name, is_named}
 use Rattle.lb_static.specs.Names.{is_variable}
-use Rattle.lb_static.specs.Parts.{among, variable_names, node_sizes, declared_sizes, left_names}
-use Rattle.lb_static.specs.Parts.{clock_names, node_names, node_static_names}
-use Rattle.lb_static.proofs.Members.{map_in, all_in, in_any, filter_in, some_at}
-use Rattle.lb_static.proofs.SizesInRange.{all_or_none, all_some-cons}
+use Rattle.lb_static.specs.Parts.{among, variable_names, left_names, clock_names, node_names}
+use Rattle.lb_static.specs.Parts.{node_static_names}
+use Rattle.lb_static.proofs.Members.{map_in, in_any, filter_in}
 use Rattle.lb_static.proofs.TestedItems.{found_passes}
 use Rattle.lb_check.specs.Acceptance.{check_refusal}
 use Rattle.lb_check.specs.ClockRules.{are_given_variables, is_given_variable, is_call_clocked}
@@ -32,58 +32,21 @@ use Rattle.lb_check.specs.Elements.{numbers_of}
 use Rattle.lb_check.specs.Needs.{WholeClock, Always, Where, is_clock_parameter, is_site, call_at}
 use Rattle.lb_check.specs.Needs.{lefts_at, given_parameters, given_to, given_at, serves, serving}
 use Rattle.lb_check.specs.Needs.{whole_clock, site_clock, runs_on}
-use Rattle.lb_check.specs.Occurrences.{Occurrence, at, node_occurrences, statements}
+use Rattle.lb_check.specs.Occurrences.{Occurrence, at, node_occurrences}
 use Rattle.lb_check.proofs.AcceptedNumbers.{numbers_width}
-use Rattle.lb_check.proofs.AcceptedRules.{valued, clocked}
-use Rattle.lb_check.proofs.ApartLists.{in_first, in_second, Every-at, Every-from, to_pieces}
+use Rattle.lb_check.proofs.AcceptedRules.{clocked}
+use Rattle.lb_check.proofs.ApartLists.{in_second, Every-at, to_pieces}
 use Rattle.lb_check.proofs.CallClocks.{none_given}
 use Rattle.lb_check.proofs.CallNumbers.{IsRightSide, lefts_are}
 use Rattle.lb_check.proofs.Checks.{instantiation_kept, names_kept}
 use Rattle.lb_check.proofs.DeterminedClocks.{called_passes}
-use Rattle.lb_check.proofs.Every.{Every-append}
 use Rattle.lb_check.proofs.GivenParameters.{found_in, found_filtered, given_after, one_clock}
 use Rattle.lb_check.proofs.GivenParameters.{same_before}
 use Rattle.lb_check.proofs.InstanceNames.{find_in, instances_named}
 use Rattle.lb_check.proofs.InstancePaths.{called, path_is, in_instances}
 use Rattle.lb_check.proofs.NamedClocks.{IsOver, base_over}
 use Rattle.lb_check.proofs.OccurrenceClocks.{IsVariable, occurrence_fits}
-use Rattle.lb_check.proofs.OperandTypes.{some_same}
-use Rattle.lb_check.proofs.TruthValues.{and_first, and_second}
-
--- ## Widths
-
-Every-reverse : {A : Type 0} (Q : A → Type 0) (xs : List A) → Every Q xs → Every Q (reverse xs)
-Every-reverse Q [] h = tt
-Every-reverse Q (x ∷ xs) h =
-    subst (Every Q) (sym (reverse-append (x ∷ []) xs))
-    (Every-append Q (reverse xs) (x ∷ []) (Every-reverse Q xs h.1) (h.0, tt))
-
-times_some : (m n : ℕ) → 0 < m → 0 < n → 0 < m * n
-times_some zero n p q = absurd (omega (arith, p))
-times_some (suc m) zero p q = absurd (omega (arith, q))
-times_some (suc m) (suc n) p q =
-    let e : suc m * suc n ≡ m * suc n + suc n = grind arith in omega (arith, e)
-
--- the product of sizes that each are 1 or more
-product_some :
-    (f : Static → Option ℕ) (ss : List Static) →
-    Every (λ s. holds (λ n. nat_le 1 n && nat_le n 4096) (f s) ≡ true) ss →
-    0 < either_or (option_map product (all_some (map f ss))) 0
-product_some f [] h = omega arith
-product_some f (s ∷ ss) h =
-    subst (λ o. 0 < either_or (option_map product o) 0) (sym (all_some-cons (f s) (map f ss)))
-    (by (f s) (all_some (map f ss)) h.0 (product_some f ss h.1))
-  where
-    by : (o : Option ℕ) (p : Option (List ℕ)) →
-        holds (λ n. nat_le 1 n && nat_le n 4096) o ≡ true →
-        0 < either_or (option_map product p) 0 →
-        0 < either_or (option_map product (all_or_none o p)) 0
-    by None p e lt = absurd cc
-    by (Some n) None e lt = absurd (omega (arith, lt))
-    by (Some n) (Some ns) e lt =
-        let one = and_first (nat_le 1 n) (nat_le n 4096) e in
-        let some : 0 < n = grind (arith, nat_tests) in
-        times_some n (product ns) some lt
+use Rattle.lb_check.proofs.PositiveWidths.{width_positive}
 
 -- ## Names
 
@@ -114,21 +77,18 @@ output_value (d ∷ ds) (y ∷ xs) x g e =
   where
     by : (b : Bool) → (found_in (given_outputs ds xs) x ≡ Some g → In g.1 xs) →
         cond b (Some (d.name, y)) (found_in (given_outputs ds xs) x) ≡ Some g → In g.1 (y ∷ xs)
-    by true later h = inl (ap (λ (u : Name × Name). u.1) (some_same (d.name, y) g h))
+    by true later h = inl (ap (λ (u : Name × Name). u.1) (same_Some (d.name, y) g h))
     by false later h = inr (later h)
 
 held : (x : Name) (names : List Name) (o : Option (Name × Name)) (g : Name × Name) →
     holds (λ g. among g.1 names) o ≡ true → o ≡ Some g → In g.1 names
 held x names None g e is = absurd cc
 held x names (Some h) g e is =
-    among_in g.1 names (subst (λ (u : Name × Name). among u.1 names ≡ true) (some_same h g is) e)
+    among_in g.1 names (subst (λ (u : Name × Name). among u.1 names ≡ true) (same_Some h g is) e)
 
 implied : (a b : Bool) → a ≡ true → (not a || b) ≡ true → b ≡ true
 implied true b e f = f
 implied false b e f = absurd cc
-
-same_number : (m n : ℕ) → nat_eq m n ≡ true → m ≡ n
-same_number m n e = grind (arith, nat_tests)
 
 -- what waits for a name, and waits
 waits_here : (x : Name) (o : Option Sampling) → holds (λ s. bytes_eq s.variable x) o ≡ true →
@@ -137,30 +97,6 @@ waits_here x None e = absurd cc
 waits_here x (Some s) e = (s, refl, (bytes_eq-Decides s.variable x).0 e)
 
 module _ (P : Program) (accepted : static_refusal P ≡ None) where
-  -- each variable has an element
-  pub width_some :
-      (here : Instance) → In here (instances P) → (d : Declaration) → In d (variables here.node) →
-      0 < width P here d
-  width_some here stands d i =
-      subst (λ n. 0 < n) (by (all_some (map (static_count P here) (reverse d.sizes))))
-      (product_some (static_count P here) (reverse d.sizes)
-      (Every-reverse (λ s. is_between P here 1 4096 s ≡ true) d.sizes
-      (Every-from (λ s. is_between P here 1 4096 s ≡ true) d.sizes each)))
-    where
-      each : (s : Static) → In s d.sizes → is_between P here 1 4096 s ≡ true
-      each s on =
-          all_in (is_between P here 1 4096) (node_sizes here.node) s
-          (and_first _ _ (valued P accepted here stands).in_range)
-          (in_first s (declared_sizes here.node) _
-          (to_pieces (λ d. d.sizes) s d (variables here.node) i on))
-
-      by : (o : Option (List ℕ)) →
-          either_or (option_map product o) 0
-          ≡ either_or (option_map element_count
-          (option_map (λ ns. record { kind = d.kind; sizes = ns }) o)) 0
-      by None = refl
-      by (Some ns) = refl
-
   -- a variable, with its path, has a first number
   abbrev pub HasFirst : Path → Name → Type 0
   HasFirst p x = (i : ℕ) × (slice_get (numbers_of P p x) 0 ≡ Some i)
@@ -173,10 +109,10 @@ module _ (P : Program) (accepted : static_refusal P ≡ None) where
       let d = map_in (λ d. d.name) (variables here.node) x i in
       let wide = Every-at (λ d. length (numbers_of P here.path d.name) ≡ width P here d)
       (variables here.node) d.0 (numbers_width P accepted here stands) d.1 in
-      let some = width_some here stands d.0 d.1 in
+      let some = width_positive P accepted here stands d.0 d.1 in
       let long : 0 < length (numbers_of P here.path x) =
       subst (λ y. 0 < length (numbers_of P here.path y)) d.2 (omega (arith, wide, some)) in
-      some_at (numbers_of P here.path x) 0 long
+      item_at (numbers_of P here.path x) 0 long
 
   -- each variable of a clock has one
   abbrev pub IsNumbered : WholeClock → Type 0
@@ -323,7 +259,7 @@ module _ (P : Program) (accepted : static_refusal P ≡ None) where
       call_found n o e =
           let test = λ (o : Occurrence). nat_eq o.calls_before n && is_site o.expr in (
             find_in test (node_occurrences P here.node) o e,
-            same_number o.calls_before n (and_first _ _
+            eqb-true o.calls_before n (and_first _ _
                 (found_passes test (node_occurrences P here.node) o e)),
           )
 

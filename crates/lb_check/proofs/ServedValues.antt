@@ -3,6 +3,7 @@
 use Rattle.std.proofs.Common.{◌≡◌, ◌⊎◌, inl, inr, ℕ, ◌<◌, Option, Some, None, List, [], ◌∷◌, ◌++◌}
 use Rattle.std.proofs.Common.{refl, ap, ap₂, sym, ◌∙◌, subst, arith}
 use Rattle.std.specs.Prelude.{slice_get}
+use Rattle.std.proofs.lemmas.Option.{same_Some}
 use Rattle.lb_syntax.specs.Lists.{In, listed}
 use Rattle.lb_syntax.specs.Tree.{Name, Static, Expr, Call, Exprs, Declaration, Node, Statement}
 use Rattle.lb_syntax.specs.Tree.{Equation, Assertion}
@@ -23,7 +24,6 @@ use Rattle.lb_check.proofs.InstanceNames.{callee_node}
 use Rattle.lb_check.proofs.InstancePaths.{called, path_is, in_instances}
 use Rattle.lb_check.proofs.OccurrenceClocks.{IsVariable}
 use Rattle.lb_check.proofs.OccurrenceSites.{own_site, site_is}
-use Rattle.lb_check.proofs.OperandTypes.{some_same}
 use Rattle.lb_check.proofs.ServedNumbers.{all_found, given_variable, call_found}
 
 none_given : (ds : List Declaration) (x : Name) (g : Name × Name) →
@@ -142,10 +142,10 @@ module _ (P : Program) (accepted : static_refusal P ≡ None) (checked : check_r
         (site ≡ call_site f statics) × (index ≡ 0)
     only_index here o i f statics es is site count index at_site counts lower =
         let there = site_is P here.node o (call_site f statics) i (ap own_site is) in
-        let same : site ≡ call_site f statics = some_same _ _ (sym at_site ∙ there) in
+        let same : site ≡ call_site f statics = same_Some _ _ (sym at_site ∙ there) in
         let one : Some count ≡ Some 1 =
         sym counts ∙ ap (λ (s : Site). instance_count P here s.count) same in
-        let single = some_same count 1 one in
+        let single = same_Some count 1 one in
         (same, omega (arith, lower, single))
 
     -- ## What serves
@@ -171,7 +171,7 @@ module _ (P : Program) (accepted : static_refusal P ≡ None) (checked : check_r
           subst (λ z. In z (node_occurrences P here.node))
           (ap₂ (λ m z. at o.clock m z) number e) on in
           let node = callee_node P here (call_site f statics) call 0 c gives_it in
-          let same : callee ≡ c.node = some_same callee c.node (sym named ∙ node) in
+          let same : callee ≡ c.node = same_Some callee c.node (sym named ∙ node) in
           by_call here o.clock call f statics es c
           (record { stands = stands; occurs = occurs; callee_stands = c_stands; gives = gives_it })
           node x g

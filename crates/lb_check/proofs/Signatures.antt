@@ -3,7 +3,7 @@ use Rattle.std.proofs.Common.{◌≡◌, ℕ, suc, List, [], ◌∷◌, ◌++◌
 use Rattle.std.proofs.Common.{Some, None, refl, ap, sym, ◌∙◌}
 use Rattle.std.specs.Prelude.{ℤ}
 use Rattle.std.proofs.lemmas.List.{take-map, drop-map}
-use Rattle.lb_syntax.specs.Lists.{◌>>=◌, all_some, zip2}
+use Rattle.lb_syntax.specs.Lists.{◌>>=◌, all_some}
 use Rattle.lb_syntax.specs.Tree.{Name, Node}
 use Rattle.lb_static.specs.declared.resolved.ResolvedNode.{ResolvedNode}
 use Rattle.lb_static.specs.declared.resolved.Variable.{Variable as Declared}
@@ -12,10 +12,10 @@ use Rattle.lb_static.specs.Instances.{Program, Instance, Path, Child, Site, stat
 use Rattle.lb_static.specs.Instances.{call_site, node_named}
 use Rattle.lb_static.specs.Parts.{variable_names}
 use Rattle.lb_static.specs.ResolvedNodes.{IsResolved, node_of, statics_of}
-use Rattle.lb_static.specs.ResolvedTerms.{declaration_of}
 use Rattle.lb_static.specs.DataTypes.{DataType, variables, variable_type, input_types, output_types}
-use Rattle.lb_check.specs.TermTypes.{Signature, declared_type, declared_types, signature_of}
-use Rattle.lb_check.proofs.FittedTypes.{declared_is}
+use Rattle.lb_static.specs.StoredTypes.{declared_type, declared_types}
+use Rattle.lb_static.proofs.DeclaredTypes.{types_are}
+use Rattle.lb_check.specs.TermTypes.{Signature, signature_of}
 
 take_first : {A B : Type 0} → (f : A → B) (xs ys : List A) →
     take (length xs) (map f (xs ++ ys)) ≡ map f xs
@@ -39,17 +39,6 @@ module _ (P : Program) (names : List Name) (n : ResolvedNode) (resolved : IsReso
   abbrev types : List Declared → List (Option DataType)
   types vs = map (declared_type values) vs
 
-  each_declared : (all xs : List Name) (vs : List Declared) → length vs ≡ length xs
-      → map (variable_type P here) (zip2 (declaration_of all (statics_of n)) xs vs) ≡ types vs
-  each_declared all [] [] e = refl
-  each_declared all [] (v ∷ vs) e = absurd cc
-  each_declared all (x ∷ xs) [] e = absurd cc
-  each_declared all (x ∷ xs) (v ∷ vs) e =
-      let rest : length vs ≡ length xs = cc in
-      rw (declared_is P here (statics_of n) values valued all x v)
-      (ap (λ (l : List (Option DataType)). declared_type values v ∷ l)
-      (each_declared all xs vs rest))
-
   length_map : {A B : Type 0} → (f : A → B) (xs : List A) → length (map f xs) ≡ length xs
   length_map f [] = refl
   length_map f (x ∷ xs) = ap suc (length_map f xs)
@@ -57,8 +46,9 @@ module _ (P : Program) (names : List Name) (n : ResolvedNode) (resolved : IsReso
   all_declared : map (variable_type P here) (variables (node_of n)) ≡ types n.variables.items
   all_declared =
       ap (map (variable_type P here)) (sym resolved.declared)
-      ∙ each_declared (variable_names (node_of n)) (variable_names (node_of n)) n.variables.items
-      (resolved.as_many ∙ sym (length_map (λ d. d.name) (variables (node_of n))))
+      ∙ sym (types_are P here (statics_of n) values valued (variable_names (node_of n))
+      (variable_names (node_of n)) n.variables.items
+      (length_map (λ d. d.name) (variables (node_of n)) ∙ sym resolved.as_many))
 
   inputs_are : map (variable_type P here) (node_of n).inputs
       ≡ types (take n.inputs n.variables.items)

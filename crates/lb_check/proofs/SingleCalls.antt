@@ -1,13 +1,17 @@
 -- Where the rules of types hold each call has one result, but for one that is a whole right side.
-use Rattle.std.proofs.Common.{◌≡◌, ℕ, suc, Bool, true, false, List, [], ◌∷◌, ◌++◌, length, map}
-use Rattle.std.proofs.Common.{take, drop, Option, Some, None, refl, ap, sym, ◌∙◌, arith}
-use Rattle.std.proofs.Common.{length-append, length-take, length-drop}
-use Rattle.std.specs.Prelude.{◌&&◌, is_some, option_map, slice_get, nat_eq, ℤ}
+use Rattle.std.proofs.Common.{◌≡◌, ℕ, Bool, true, false, List, [], ◌∷◌, ◌++◌, length, map, take}
+use Rattle.std.proofs.Common.{drop, Option, Some, None, refl, ap, sym, ◌∙◌, arith, length-append}
+use Rattle.std.proofs.Common.{length-take, length-drop}
+use Rattle.std.specs.Prelude.{◌&&◌, is_some, slice_get, nat_eq, ℤ}
 use Rattle.std.specs.List.{list_all}
 use Rattle.std.proofs.lemmas.Bool.Decides.{nat_tests}
 use Rattle.std.proofs.lemmas.List.{length-map}
+use Rattle.std.proofs.lemmas.Bool.{and_from}
 use Rattle.lb_syntax.specs.Lists.{◌>>=◌, all_some, holds, where_true}
 use Rattle.lb_syntax.specs.Tree.{Node}
+use Rattle.lb_syntax.proofs.Readers.{bind_some}
+use Rattle.lb_syntax.proofs.ListPlaces.{all_at}
+use Rattle.lb_syntax.proofs.TruthValues.{and_first, and_second}
 use Rattle.lb_static.specs.declared.reach.Reached.{Reached}
 use Rattle.lb_static.specs.declared.resolved.CallId.{CallId}
 use Rattle.lb_static.specs.declared.resolved.ResolvedNode.{ResolvedNode}
@@ -33,7 +37,9 @@ use Rattle.lb_static.specs.DataTypes.{DataType, truth, is_type, are_types}
 use Rattle.lb_check.specs.JudgedPrograms.{IsJudged}
 use Rattle.lb_check.specs.ClockSets.{is_single, are_single, calls_single, is_single_within}
 use Rattle.lb_check.specs.ClockSets.{is_statement_single}
-use Rattle.lb_check.specs.TermTypes.{Context, Signature, context_of, declared_type, declared_types}
+use Rattle.lb_static.specs.StoredTypes.{declared_type, declared_types}
+use Rattle.lb_static.proofs.Options.{length-all_some}
+use Rattle.lb_check.specs.TermTypes.{Context, Signature, context_of}
 use Rattle.lb_check.specs.TermTypes.{signature_of, callee_signature, signature_at}
 use Rattle.lb_check.specs.TermTypes.{are_typed, is_specialization_typed, is_variable_typed}
 use Rattle.lb_check.specs.TermTypes.{is_resolved_statement_typed, is_node_typed, are_equal, results}
@@ -41,10 +47,7 @@ use Rattle.lb_check.specs.TermTypes.{type_of, types_in, when_truth}
 use Rattle.lb_check.specs.Types.{only, singly}
 use Rattle.lb_check.proofs.FittedCalls.{specialized_instance}
 use Rattle.lb_check.proofs.MirroredTypes.{results_only}
-use Rattle.lb_check.proofs.NamedClocks.{bound}
-use Rattle.lb_check.proofs.NodePlaces.{all_at}
 use Rattle.lb_check.proofs.SiteCallees.{callee_found, node_resolved, site_found}
-use Rattle.lb_check.proofs.TruthValues.{and_first, and_second, both_true}
 
 -- ## What is there
 
@@ -107,19 +110,6 @@ equal_some (Some ts) p e = refl
 
 -- ## As many outputs as their types
 
-as_many_there : {A : Type 0} (os : List (Option A)) (xs : List A) → all_some os ≡ Some xs →
-    length xs ≡ length os
-as_many_there [] xs e = let same : [] ≡ xs = cc in ap length (sym same)
-as_many_there (None ∷ os) xs e = absurd cc
-as_many_there (Some x ∷ os) xs e = by (all_some os) (as_many_there os) e
-  where
-    by : (o : Option (List _)) → ((ys : List _) → o ≡ Some ys → length ys ≡ length os) →
-        option_map (λ l. x ∷ l) o ≡ Some xs → length xs ≡ suc (length os)
-    by None each f = absurd cc
-    by (Some ys) each f =
-        let same : x ∷ ys ≡ xs = cc in
-        ap length (sym same) ∙ ap suc (each ys refl)
-
 outputs_there : (names : _) (n : ResolvedNode) → IsResolved names n →
     length (take n.outputs (drop n.inputs n.variables.items)) ≡ n.outputs
 outputs_there names n resolved =
@@ -135,13 +125,13 @@ outputs_there names n resolved =
 signature_outputs : (statics : List ℤ) (names : _) (n : ResolvedNode) (g : Signature) →
     IsResolved names n → signature_of statics n ≡ Some g → length g.1 ≡ n.outputs
 signature_outputs statics names n g resolved e =
-    let ins = bound (declared_types statics (take n.inputs n.variables.items))
+    let ins = bind_some (declared_types statics (take n.inputs n.variables.items))
     (λ ins. declared_types statics
     (take n.outputs (drop n.inputs n.variables.items)) >>= λ outs. Some (ins, outs)) g e in
-    let outs = bound (declared_types statics (take n.outputs (drop n.inputs n.variables.items)))
+    let outs = bind_some (declared_types statics (take n.outputs (drop n.inputs n.variables.items)))
     (λ outs. Some (ins.0, outs)) g ins.2 in
     let same : outs.0 ≡ g.1 = second_of ins.0 outs.0 g outs.2 in
-    ap length (sym same) ∙ as_many_there
+    ap length (sym same) ∙ length-all_some
     (map (declared_type statics) (take n.outputs (drop n.inputs n.variables.items))) outs.0
     outs.1
     ∙ length-map (take n.outputs (drop n.inputs n.variables.items)) (declared_type statics)
@@ -175,10 +165,10 @@ module _ (P : Program) (r : Reached) (t : Table) (j : IsJudged P r t) (i : ℕ) 
   call_single : (c : CallId) → is_call (counts_of n) c ≡ true → (g : Signature) →
       signature_at r t s c ≡ Some g → length g.1 ≡ 1 → calls_single r n c ≡ true
   call_single c w g typed one =
-      let called = bound (called_by t s c) (callee_signature r) g typed in
-      let id = bound (slice_get s.callees.items c.0)
+      let called = bind_some (called_by t s c) (callee_signature r) g typed in
+      let id = bind_some (slice_get s.callees.items c.0)
       (λ id. slice_get t.specializations.items id.0) called.0 called.1 in
-      let m = bound (slice_get r.nodes.items called.0.node.0)
+      let m = bind_some (slice_get r.nodes.items called.0.node.0)
       (signature_of called.0.statics.items) g called.2 in
       let resolved = node_resolved P r j.names j.reached called.0.node.0 m.0 m.1 in
       let outs : m.0.outputs ≡ 1 =
@@ -227,27 +217,27 @@ module _ (P : Program) (r : Reached) (t : Table) (j : IsJudged P r t) (i : ℕ) 
     term_single (Group' p e) w h = term_single e w h
     term_single (Unary' op p a) w h = term_single a w (first_some (type_of ctx a) _ h)
     term_single (Binary' op p a q b) w h =
-        both_true _ _ (term_single a (and_first _ (is_within (counts_of n) b) w)
+        and_from _ _ (term_single a (and_first _ (is_within (counts_of n) b) w)
         (first_some (type_of ctx a) _ h))
         (term_single b (and_second (is_within (counts_of n) a) _ w)
         (second_some (type_of ctx a) (type_of ctx b) _ h))
     term_single (If' p c q a r' b) w h =
         let rest = under_truth (type_of ctx c) _ h in
         let wab = and_second (is_within (counts_of n) c) _ w in
-        both_true _ _ (term_single c
+        and_from _ _ (term_single c
         (and_first _ (is_within (counts_of n) a && is_within (counts_of n) b) w)
         (first_some (type_of ctx c) _ h))
-        (both_true _ _ (term_single a (and_first _ (is_within (counts_of n) b) wab)
+        (and_from _ _ (term_single a (and_first _ (is_within (counts_of n) b) wab)
         (first_some (type_of ctx a) _ rest))
         (term_single b (and_second (is_within (counts_of n) a) _ wab)
         (second_some (type_of ctx a) (type_of ctx b) _ rest)))
     term_single (Arrow' p a q b) w h =
-        both_true _ _ (term_single a (and_first _ (is_within (counts_of n) b) w)
+        and_from _ _ (term_single a (and_first _ (is_within (counts_of n) b) w)
         (first_some (type_of ctx a) _ h))
         (term_single b (and_second (is_within (counts_of n) a) _ w)
         (second_some (type_of ctx a) (type_of ctx b) _ h))
     term_single (Fby' p a q b) w h =
-        both_true _ _ (term_single a (and_first _ (is_within (counts_of n) b) w)
+        and_from _ _ (term_single a (and_first _ (is_within (counts_of n) b) w)
         (first_some (type_of ctx a) _ h))
         (term_single b (and_second (is_within (counts_of n) a) _ w)
         (second_some (type_of ctx a) (type_of ctx b) _ h))
@@ -267,7 +257,7 @@ module _ (P : Program) (r : Reached) (t : Table) (j : IsJudged P r t) (i : ℕ) 
         (and_second (is_static (counts_of n) k) _ w))
         (third_some (ctx.count k) (ctx.count l) (type_of ctx e) _ h)
     term_single (Join' p a q b) w h =
-        both_true _ _ (term_single a (and_first _ (is_within (counts_of n) b) w)
+        and_from _ _ (term_single a (and_first _ (is_within (counts_of n) b) w)
         (first_some (type_of ctx a) _ h))
         (term_single b (and_second (is_within (counts_of n) a) _ w)
         (second_some (type_of ctx a) (type_of ctx b) _ h))
@@ -278,7 +268,7 @@ module _ (P : Program) (r : Reached) (t : Table) (j : IsJudged P r t) (i : ℕ) 
     term_single (Nor' arity all) w h =
         row_single all w (first_some (types_in ctx all) _ (first_some _ only h))
     term_single (Call' c arity all) w h =
-        both_true _ _ (typed_call c (and_first _ (are_within (counts_of n) all) w)
+        and_from _ _ (typed_call c (and_first _ (are_within (counts_of n) all) w)
         (types_in ctx all) h)
         (row_single all (and_second (is_call (counts_of n) c) _ w)
         (first_some (types_in ctx all) _ (first_some _ only h)))
@@ -293,7 +283,7 @@ module _ (P : Program) (r : Reached) (t : Table) (j : IsJudged P r t) (i : ℕ) 
         is_some (types_in ctx row) ≡ true → are_single r n row ≡ true
     row_single end_of-Term w h = refl
     row_single (more_of-Term e rest) w h =
-        both_true _ _ (term_single e (and_first _ (are_within (counts_of n) rest) w)
+        and_from _ _ (term_single e (and_first _ (are_within (counts_of n) rest) w)
         (first_some (type_of ctx e) _ h))
         (row_single rest (and_second (is_within (counts_of n) e) _ w)
         (second_some (type_of ctx e) (types_in ctx rest) _ h))
@@ -333,7 +323,7 @@ module _ (P : Program) (r : Reached) (t : Table) (j : IsJudged P r t) (i : ℕ) 
       → list_all (is_statement_single r n) ss ≡ true
   statements_single [] w h = refl
   statements_single (st ∷ ss) w h =
-      both_true _ _ (statement_single st
+      and_from _ _ (statement_single st
       (and_first _ (list_all (is_statement_within (counts_of n)) ss) w)
       (and_first _ (list_all (is_resolved_statement_typed ctx) ss) h))
       (statements_single ss (and_second (is_statement_within (counts_of n) st) _ w)

@@ -4,6 +4,7 @@ use Rattle.std.proofs.Common.{subst}
 use Rattle.std.specs.Prelude.{option_map, slice_get, nat_lt, length}
 use Rattle.std.proofs.lemmas.Option.{slice_get-map, slice_get_within, get_or_from_slice_get}
 use Rattle.lb_syntax.specs.Lists.{◌>>=◌, either_or, holds}
+use Rattle.lb_syntax.proofs.ListPlaces.{all_at}
 use Rattle.lb_static.specs.declared.reach.Reached.{Reached}
 use Rattle.lb_static.specs.declared.resolved.CallId.{CallId}
 use Rattle.lb_static.specs.declared.resolved.CallSite.{CallSite}
@@ -16,7 +17,7 @@ use Rattle.lb_static.specs.ResolvedNodes.{IsResolved, node_of, statics_of, count
 use Rattle.lb_static.specs.ResolvedTerms.{is_call, no_site, site_at, site_of}
 use Rattle.lb_static.specs.ReachedNodes.{callee_in}
 use Rattle.lb_check.proofs.DistinctNames.{held_at}
-use Rattle.lb_check.proofs.NodePlaces.{all_at, named_at}
+use Rattle.lb_check.proofs.NodePlaces.{named_at}
 
 passing : {A : Type 0} (test : A → Bool) (o : Option A) → holds test o ≡ true →
     (x : A) × (o ≡ Some x) × (test x ≡ true)

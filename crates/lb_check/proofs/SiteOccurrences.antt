@@ -5,11 +5,13 @@ use Rattle.std.proofs.Common.{[], ◌∷◌, ◌++◌, length, map, flat_map, re
 use Rattle.std.proofs.Common.{arith}
 use Rattle.std.specs.Prelude.{slice_get}
 use Rattle.std.specs.List.{list_all}
+use Rattle.std.proofs.lemmas.Option.{same_Some}
 use Rattle.lb_syntax.specs.Lists.{In, some_of}
 use Rattle.lb_syntax.specs.Tree.{Node_named, Symbol, Expr, Literal, Truth, Variable}
 use Rattle.lb_syntax.specs.Tree.{Group, Unary, Binary, If, Arrow, Fby, Pre, Current, When}
 use Rattle.lb_syntax.specs.Tree.{Replicate, Index, Slice, Join, Array, AtMostOne, Nor, Call}
 use Rattle.lb_syntax.specs.Tree.{Iterate, Exprs, Nil, Cons, Statement, Equation, Assertion}
+use Rattle.lb_syntax.proofs.TruthValues.{and_first, and_second}
 use Rattle.lb_static.specs.DataTypes.{DataType, are_types, variables}
 use Rattle.lb_static.specs.Instances.{Program, Instance, Site, call_site, sites, sites_in}
 use Rattle.lb_static.specs.Instances.{statement_sites, node_sites, numbered_sites, node_named}
@@ -29,8 +31,7 @@ use Rattle.lb_check.proofs.ApartLists.{some_in}
 use Rattle.lb_check.proofs.InstancePaths.{numbered_in}
 use Rattle.lb_check.proofs.OccurrenceParts.{as_many_clocks, right_typed}
 use Rattle.lb_check.proofs.OccurrenceSites.{own_site, numbered_append, body_occurrences}
-use Rattle.lb_check.proofs.OperandTypes.{bound, one, two, from_true, truly, first_of_all, some_same}
-use Rattle.lb_check.proofs.TruthValues.{and_first, and_second}
+use Rattle.lb_check.proofs.OperandTypes.{bound, one, two, from_true, truly, first_of_all}
 
 -- the number and the site of a call
 abbrev pub own_call : Occurrence → Option (ℕ × Site)
@@ -253,7 +254,7 @@ call_occurs P here typed n s numbered =
         IsCallAt P here n s
     by o i None is e = absurd cc
     by o i (Some t) is e =
-        let same = some_same (o.calls_before, t) (n, s) e in
+        let same = same_Some (o.calls_before, t) (n, s) e in
         record {
           occurrence = o;
           stands = i;

@@ -10,6 +10,7 @@ use Rattle.std.proofs.lemmas.List.{take_all}
 use Rattle.std.proofs.lemmas.List.Sums.{sum_by-cons, sum_by_more}
 use Rattle.std.proofs.lemmas.Option.{get_or_from_slice_get}
 use Rattle.lb_syntax.specs.Lists.{either_or, zip2}
+use Rattle.lb_syntax.proofs.ListPlaces.{item_at}
 use Rattle.lb_static.specs.DataTypes.{variables, width}
 use Rattle.lb_static.specs.Instances.{Program, Instance, Path, instances}
 use Rattle.lb_static.specs.InstanceTable.{IsTable, paths_of, row_at, specialized_at}
@@ -18,9 +19,9 @@ use Rattle.lb_static.specs.declared.reach.Reached.{Reached}
 use Rattle.lb_static.specs.declared.table.Instance as row
 use Rattle.lb_static.specs.declared.table.Specialization.{Specialization}
 use Rattle.lb_static.specs.declared.table.Table.{Table}
+use Rattle.lb_static.proofs.InstanceRows.{paths_length}
 use Rattle.lb_check.specs.TypeRules.{expression_size, instance_size, is_small, size}
-use Rattle.lb_check.proofs.FittedCalls.{at_place}
-use Rattle.lb_check.proofs.TableRows.{paths_length, row_held}
+use Rattle.lb_check.proofs.TableRows.{row_held}
 
 -- ## Sums over places
 
@@ -93,7 +94,7 @@ module _ {A : Type 0} (f : A → ℕ) (xs : List A) where
     sum_spread zero le = omega arith
     sum_spread (suc n) le =
         let rest = sum_spread n (omega (arith, le)) in
-        let there = at_place xs n (omega (arith, le)) in
+        let there = item_at xs n (omega (arith, le)) in
         let c = used n (omega (arith, le)) in
         let raised = sum_raised (below n) (below (n + 1)) (more_below n) js c.0 n c.1 c.2 in
         let more = sum_by_more f xs n there.0 (omega (arith, le)) in

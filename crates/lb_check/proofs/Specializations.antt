@@ -1,11 +1,13 @@
 -- What holds of the node of each specialization holds of the node of each instance, and the other
 -- way round.
-use Rattle.std.proofs.Common.{◌≡◌, Bool, true, false, List, [], ◌∷◌, map, Option, Some, None, refl}
-use Rattle.std.proofs.Common.{ap, sym, ◌∙◌}
+use Rattle.std.proofs.Common.{◌≡◌, Bool, true, List, [], ◌∷◌, map, Option, Some, None, refl, ap}
+use Rattle.std.proofs.Common.{sym, ◌∙◌}
 use Rattle.std.specs.Prelude.{option_map, slice_get}
 use Rattle.std.specs.List.{list_all}
 use Rattle.lb_syntax.specs.Lists.{either_or, holds, zip2}
 use Rattle.lb_syntax.specs.Tree.{Node}
+use Rattle.lb_syntax.proofs.ListPlaces.{all_at, all_from, all_in}
+use Rattle.lb_syntax.proofs.TruthValues.{both_ways}
 use Rattle.lb_static.specs.Instances.{Program, Instance, Path, instances}
 use Rattle.lb_static.specs.InstanceTable.{IsTable, instance_of, specialized_at, paths_of, row_at}
 use Rattle.lb_static.specs.ReachedNodes.{tree_at}
@@ -13,8 +15,7 @@ use Rattle.lb_static.specs.declared.reach.Reached.{Reached}
 use Rattle.lb_static.specs.declared.table.Instance as row
 use Rattle.lb_static.specs.declared.table.Specialization.{Specialization}
 use Rattle.lb_static.specs.declared.table.Table.{Table}
-use Rattle.lb_check.proofs.NodePlaces.{all_at, all_from}
-use Rattle.lb_check.proofs.TableRows.{all_in, has_instance}
+use Rattle.lb_check.proofs.TableRows.{has_instance}
 
 module _ (P : Program) (r : Reached) (t : Table) (table : IsTable P r t) (f : Node → Bool) where
   abbrev of_one : Specialization → Bool
@@ -69,10 +70,6 @@ module _ (P : Program) (r : Reached) (t : Table) (table : IsTable P r t) (f : No
   pub all_specializations : list_all of_one t.specializations.items ≡ list_all (λ here. f here.node)
       (instances P)
   all_specializations =
-      both (list_all of_one t.specializations.items) (list_all (λ here. f here.node) (instances P))
+      both_ways (list_all of_one t.specializations.items)
+      (list_all (λ here. f here.node) (instances P))
       (all_rows (paths_of t) t.instances.items (instances P) table.instances) from_instances
-    where
-      both : (a b : Bool) → (a ≡ true → b ≡ true) → (b ≡ true → a ≡ true) → a ≡ b
-      both true b h k = sym (h refl)
-      both false true h k = k refl
-      both false false h k = refl

@@ -1,7 +1,7 @@
 -- Each part of a text that keeps the rules of types and clocks keeps them where it stands, and its
 -- clock is over names of which something holds, where it holds of the variables of the node.
-use Rattle.std.proofs.Common.{◌≡◌, ℕ, ◌+◌, true, false, Option, Some, None, List, [], ◌∷◌, ◌++◌}
-use Rattle.std.proofs.Common.{map, flat_map, zip, refl, sym, subst, arith}
+use Rattle.std.proofs.Common.{◌≡◌, ℕ, ◌+◌, true, Option, Some, None, List, [], ◌∷◌, ◌++◌, map}
+use Rattle.std.proofs.Common.{flat_map, zip, refl, sym, subst, arith}
 use Rattle.std.specs.Prelude.{option_map}
 use Rattle.std.specs.List.{list_all}
 use Rattle.lb_syntax.specs.Lists.{Every, all_some}
@@ -9,16 +9,17 @@ use Rattle.lb_syntax.specs.Tree.{Name, Static, Node_named, Symbol, Expr, Literal
 use Rattle.lb_syntax.specs.Tree.{Group, Unary, Binary, If, Arrow, Fby, Pre, Current, When}
 use Rattle.lb_syntax.specs.Tree.{Replicate, Index, Slice, Join, Array, AtMostOne, Nor, Call}
 use Rattle.lb_syntax.specs.Tree.{Iterate, Exprs, Nil, Cons, Statement, Equation, Assertion}
+use Rattle.lb_syntax.proofs.TruthValues.{and_first, and_second}
 use Rattle.lb_static.specs.Instances.{Program, Instance, Child, call_site, sites, sites_in}
 use Rattle.lb_static.specs.Instances.{statement_sites, node_sites, node_named, static_count}
-use Rattle.lb_static.specs.DataTypes.{DataType, truth, is_type, variables, variable_type}
+use Rattle.lb_static.specs.DataTypes.{DataType, variables, variable_type}
 use Rattle.lb_static.specs.Instantiation.{are_same}
 use Rattle.lb_static.specs.Parts.{left_names}
 use Rattle.lb_static.specs.StaticValues.{named}
 use Rattle.lb_check.specs.ClockRules.{are_declared_clocks, are_given_variables, is_call_clocked}
 use Rattle.lb_check.specs.ClockRules.{is_on_clock, is_clocked, is_occurrence_clocked}
 use Rattle.lb_check.specs.Clocks.{Clock, On, clock_of, clock_or, declared_clock}
-use Rattle.lb_check.specs.Occurrences.{Occurrence, at, call_count, call_clocks, occurrences}
+use Rattle.lb_check.specs.Occurrences.{Occurrence, call_count, call_clocks, occurrences}
 use Rattle.lb_check.specs.Occurrences.{occurrences_in, occurrences_each, statement_clock}
 use Rattle.lb_check.specs.Occurrences.{right_sides, statements, node_occurrences}
 use Rattle.lb_check.specs.TypeRules.{type_of_name, is_statement_typed, is_clock_typed, is_typed}
@@ -34,7 +35,7 @@ use Rattle.lb_check.proofs.NamedClocks.{IsOver, clock_or_over, declared_over, ar
 use Rattle.lb_check.proofs.NamedClocks.{named_has}
 use Rattle.lb_check.proofs.OperandTypes.{bound, one, two, from_true, first_of_all, Placed, called}
 use Rattle.lb_check.proofs.OperandTypes.{placed}
-use Rattle.lb_check.proofs.TruthValues.{and_first, and_second}
+use Rattle.lb_check.proofs.SamePlaces.{typed_truth}
 
 -- ## The types of statements
 
@@ -44,14 +45,6 @@ same_some :
 same_some P None p e = absurd cc
 same_some P (Some ts) None e = absurd cc
 same_some P (Some ts) (Some us) e = (ts, refl, us, refl)
-
-one_truth :
-    (P : Program) (o : Option (List DataType)) → are_same P o (Some (truth ∷ [])) ≡ true →
-    (t : DataType) × (o ≡ Some (t ∷ []))
-one_truth P None e = absurd cc
-one_truth P (Some []) e = absurd cc
-one_truth P (Some (t ∷ [])) e = (t, refl)
-one_truth P (Some (t ∷ (u ∷ ts))) e = let end = and_second (is_type t truth) false e in absurd cc
 
 module _ (P : Program) (here : Instance) (V : Name → Type 0)
     (all : Every (λ d. V d.name) (variables here.node)) (Q : Instance → Type 0)
@@ -351,7 +344,7 @@ module _ (P : Program) (here : Instance) (V : Name → Type 0)
       let oa = occurrences P here.node k n e in
       let ob = parts_of (right_sides P here.node m rest) in
       let S = OfCalled P here Q in
-      let t = one_truth P (data_types P here e)
+      let t = typed_truth P (data_types P here e)
       (and_first (is_statement_typed P here (Assertion e)) _ typed) in
       let legal = fore P here Q oa ob h in
       let sited = sited_first S n (sites e) (flat_map statement_sites rest) s in

@@ -6,9 +6,12 @@ use Rattle.std.specs.List.{list_all, zip}
 use Rattle.std.proofs.lemmas.Bool.Decides.{nat_tests}
 use Rattle.std.proofs.lemmas.List.Folds.{list_all-append}
 use Rattle.std.proofs.lemmas.Option.{slice_get_within, get_or_from_slice_get}
+use Rattle.std.proofs.Math.Bool.{and-true}
 use Rattle.lb_syntax.specs.Lists.{◌>>=◌, holds}
 use Rattle.lb_syntax.specs.Tree as tree
 use Rattle.lb_syntax.specs.Tree.{Name, Node, Expr, Exprs, Cons, Static, Statement}
+use Rattle.lb_syntax.proofs.ListPlaces.{all_at}
+use Rattle.lb_syntax.proofs.TruthValues.{and_first, and_second}
 use Rattle.lb_static.specs.Instances.{Program, Site, node_named, node_sites, statement_sites}
 use Rattle.lb_static.specs.Parts.{right_side}
 use Rattle.lb_static.specs.ReachedNodes.{source_names}
@@ -52,10 +55,9 @@ use Rattle.lb_check.specs.declared.clock_set.Operand.{Operand}
 use Rattle.lb_check.specs.declared.clock_set.ClockSet.{ClockSet}
 use Rattle.lb_check.specs.declared.clock_set.ClockSet.TheVariants.{NoClock, AnyClock, OneClock}
 use Rattle.lb_check.proofs.DistinctNames.{held_at}
-use Rattle.lb_check.proofs.NodePlaces.{all_at}
 use Rattle.lb_check.proofs.SiteCallees.{callee_found}
 use Rattle.lb_check.proofs.OwnClocks.{clock_of_free, clock_of_waiting, same_clock, clock_itself}
-use Rattle.lb_check.proofs.TruthValues.{and_first, and_second, and_true}
+use Rattle.lb_check.proofs.OuterClocks.{same_turned}
 
 regrouped : (a b c d : Bool) → ((a && b) && (c && d)) ≡ ((a && c) && (b && d))
 regrouped true true c d = refl
@@ -71,19 +73,13 @@ nat_swapped m n = grind (arith, nat_tests)
 nat_other : (m n : ℕ) → nat_eq m n ≡ (n == m)
 nat_other m n = grind (arith, nat_tests)
 
-sign_swapped : (a b : Bool) → same a b ≡ same b a
-sign_swapped true true = refl
-sign_swapped true false = refl
-sign_swapped false true = refl
-sign_swapped false false = refl
-
 same_swapped : (k l : Clock) → is_same k l ≡ is_same l k
 same_swapped Base Base = refl
 same_swapped Base (On y other) = refl
 same_swapped (On x sign) Base = refl
 same_swapped (On x sign) (On y other) =
     ap (λ b. b && same sign other) (nat_swapped x.0 y.0)
-    ∙ ap (λ b. nat_eq y.0 x.0 && b) (sign_swapped sign other)
+    ∙ ap (λ b. nat_eq y.0 x.0 && b) (same_turned sign other)
 
 -- ## A row of terms
 
@@ -390,7 +386,7 @@ module _ (P : Program) (r : Reached) (here : ResolvedNode) (sees : SeesClocks P 
         (side_clocked lefts.items wl n e
         (and_second (list_all (is_variable (counts_of here)) lefts.items) _ w) u s)
     statement_clocked n (statement.Assertion e) w u s =
-        and_true _ ∙ asserted (infer_clock ctx e) (expr_of t e) (term_stands e w u s) n
+        and-true _ ∙ asserted (infer_clock ctx e) (expr_of t e) (term_stands e w u s) n
 
     statements_clocked : (n : ℕ) (ss : List ResolvedStatement) →
         list_all (is_statement_within (counts_of here)) ss ≡ true →

@@ -1,47 +1,20 @@
 -- A rule that looks at a specialization alone holds of each instance where it holds of each
 -- specialization.
-use Rattle.std.proofs.Common.{◌≡◌, ℕ, zero, suc, ◌+◌, ◌<◌, Bool, true, List, [], ◌∷◌, ◌++◌, length}
-use Rattle.std.proofs.Common.{map, Option, Some, None, refl, inl, inr, ap, sym, ◌∙◌, subst, arith}
-use Rattle.std.proofs.Common.{length-append}
+use Rattle.std.proofs.Common.{◌≡◌, ℕ, zero, suc, ◌<◌, Bool, true, List, [], ◌∷◌, length, map}
+use Rattle.std.proofs.Common.{Option, Some, None, refl, inl, inr, ap, sym, ◌∙◌, subst, arith}
 use Rattle.std.specs.Prelude.{option_map, slice_get, slice_index_or}
 use Rattle.std.specs.List.{list_all}
 use Rattle.std.proofs.lemmas.Option.{slice_get_within}
 use Rattle.lb_syntax.specs.Lists.{In, either_or, zip2}
+use Rattle.lb_syntax.proofs.ListPlaces.{all_at, all_in, all_from}
+use Rattle.lb_syntax.proofs.TruthValues.{both_ways}
 use Rattle.lb_static.specs.declared.reach.Reached.{Reached}
 use Rattle.lb_static.specs.declared.table.Instance as row
 use Rattle.lb_static.specs.declared.table.Specialization.{Specialization}
 use Rattle.lb_static.specs.declared.table.Table.{Table}
-use Rattle.lb_static.specs.InstanceTable.{IsTable, path_from, paths_after, paths_of, row_at}
-use Rattle.lb_static.specs.InstanceTable.{specialized_at}
+use Rattle.lb_static.specs.InstanceTable.{IsTable, paths_of, row_at, specialized_at}
 use Rattle.lb_static.specs.Instances.{Program, Instance, Path, instances}
-use Rattle.lb_check.proofs.TruthValues.{and_first, and_second, both_ways}
-
-pub all_at : {A : Type 0} → (good : A → Bool) (xs : List A) (i : ℕ) (x : A) →
-    list_all good xs ≡ true → slice_get xs i ≡ Some x → good x ≡ true
-all_at good [] i x all e = absurd cc
-all_at good (y ∷ xs) zero x all e =
-    let same : y ≡ x = cc in subst (λ z. good z ≡ true) same (and_first (good y) _ all)
-all_at good (y ∷ xs) (suc i) x all e = all_at good xs i x (and_second (good y) _ all) e
-
-pub all_in : {A : Type 0} → (good : A → Bool) (xs : List A) (x : A) → list_all good xs ≡ true →
-    In x xs → good x ≡ true
-all_in good [] x all on = absurd on
-all_in good (y ∷ xs) x all (inl is) = subst (λ z. good z ≡ true) is (and_first (good y) _ all)
-all_in good (y ∷ xs) x all (inr on) = all_in good xs x (and_second (good y) _ all) on
-
-all_from : {A : Type 0} → (good : A → Bool) (xs : List A) →
-    ((i : ℕ) (x : A) → slice_get xs i ≡ Some x → good x ≡ true) → list_all good xs ≡ true
-all_from good [] each = refl
-all_from good (x ∷ xs) each = rw (each 0 x refl) (all_from good xs (λ i y e. each (suc i) y e))
-
--- there are as many paths as rows
-pub paths_length : (before : List Path) (rows : List row.Instance) →
-    length (paths_after before rows) ≡ length before + length rows
-paths_length before [] = omega arith
-paths_length before (i ∷ rows) =
-    let more = paths_length (before ++ path_from before i.origin ∷ []) rows in
-    let longer = length-append before (path_from before i.origin ∷ []) in
-    omega (arith, more, longer)
+use Rattle.lb_static.proofs.InstanceRows.{paths_length}
 
 -- where a number stands among those that rows give
 place_of : (f : row.Instance → ℕ) (rows : List row.Instance) (k i : ℕ) → k < length (map f rows) →

@@ -8,10 +8,13 @@ use Rattle.std.proofs.lemmas.List.{append_assoc}
 use Rattle.std.proofs.lemmas.List.Folds.{list_all-append}
 use Rattle.std.proofs.lemmas.Bool.Decides.{nat_tests}
 use mathlib.Core.Former.{Count}
+use Rattle.std.proofs.Math.Bool.{and-true, and-false}
+use Rattle.std.proofs.lemmas.Bool.{not-true}
 use Rattle.lb_syntax.specs.Lists.{◌>>=◌, either_or, holds, or_else, listed, zip2}
 use Rattle.lb_syntax.specs.Tree as tree
-use Rattle.lb_syntax.specs.Tree.{Name, Static, Expr, Exprs, Node}
+use Rattle.lb_syntax.specs.Tree.{Name, Static, Expr, Node}
 use Rattle.lb_syntax.specs.declared.tree.ArrayIterator.{ArrayIterator}
+use Rattle.lb_syntax.proofs.TruthValues.{and_first, and_second}
 use Rattle.lb_static.specs.declared.reach.Reached.{Reached}
 use Rattle.lb_static.specs.declared.resolved.CallId.{CallId}
 use Rattle.lb_static.specs.declared.resolved.ResolvedNode.{ResolvedNode}
@@ -34,8 +37,7 @@ use Rattle.lb_static.specs.ResolvedTerms.{is_no_variable, is_within, are_within,
 use Rattle.lb_static.specs.ResolvedTerms.{are_unhidden}
 use Rattle.lb_static.specs.DataTypes.{variables}
 use Rattle.lb_check.specs.Clocks as clocks
-use Rattle.lb_check.specs.Clocks.{clock_of, clock_or, clock_within, declared_clock, variable_clock}
-use Rattle.lb_check.specs.Clocks.{parent}
+use Rattle.lb_check.specs.Clocks.{clock_of, clock_or, clock_within, declared_clock, parent}
 use Rattle.lb_check.specs.ClockRules.{is_clock, is_just_below, is_occurrence_clocked}
 use Rattle.lb_check.specs.ClockRules.{is_base_clocked_node, if_node}
 use Rattle.lb_check.specs.Occurrences.{at, call_count, occurrences, occurrences_in}
@@ -55,7 +57,6 @@ use Rattle.lb_check.proofs.ClockTests.{name_among, declared_is, declared_within,
 use Rattle.lb_check.proofs.ClockedNodes.{as_many_names, same_taken, zip_split}
 use Rattle.lb_check.proofs.FittedTypes.{unfound}
 use Rattle.lb_check.proofs.SiteCallees.{callee_found}
-use Rattle.lb_check.proofs.TruthValues.{and_first, and_second, and_true, and_false, not_true}
 
 both_are : (a b c d : Bool) → a ≡ c → b ≡ d → (a && b) ≡ (c && d)
 both_are a b c d e f = ap (λ x. x && b) e ∙ ap (λ x. c && x) f
@@ -126,11 +127,11 @@ module _ (P : Program) (here : ResolvedNode) (own : HasClocks here) where
     λ k n. ed k n ∙ both_are _ _ true (is_clock k (clock_in here c)) (ha.1 k n) (hb.2 k (n + m)),
   )
   two_parts a b d m (OneClock c) NoClock ha hb ec ed =
-      λ k n. ed k n ∙ ap (λ x. accepts a k n && x) (hb k (n + m)) ∙ and_false (accepts a k n)
+      λ k n. ed k n ∙ ap (λ x. accepts a k n && x) (hb k (n + m)) ∙ and-false (accepts a k n)
   two_parts a b d m (OneClock c) AnyClock ha hb ec ed = (
     ha.0,
     ec ∙ ap (λ o. or_else o (clock_of P node b)) ha.1,
-    λ k n. ed k n ∙ ap (λ x. accepts a k n && x) (hb.1 k (n + m)) ∙ and_true (accepts a k n)
+    λ k n. ed k n ∙ ap (λ x. accepts a k n && x) (hb.1 k (n + m)) ∙ and-true (accepts a k n)
         ∙ ha.2 k n,
   )
   two_parts a b d m (OneClock c) (OneClock e) ha hb ec ed = by (is_same c e) refl
@@ -160,13 +161,13 @@ module _ (P : Program) (here : ResolvedNode) (own : HasClocks here) where
         declared_within here own x w,
         has_declared here own x w ∙ ap Some (sym is),
         λ k n. ap (λ b. (not b || is_clock k declared) && true) inside
-            ∙ and_true (is_clock k declared) ∙ ap (is_clock k) (sym is),
+            ∙ and-true (is_clock k declared) ∙ ap (is_clock k) (sym is),
       )
 
   value_stands : (s : Static) → is_no_variable (variable_names node) s ≡ true →
       IsClockSet P here (named_value s) AnyClock
   value_stands (tree.Named x) u =
-      let out = not_true (among x (variable_names node)) u in (
+      let out = not-true (among x (variable_names node)) u in (
         ap (λ o. o >>= clock_within (suc (length (variables node))) (variables node))
             (unfound x (variables node) out),
         λ k n. ap (λ b. (not b || is_clock k (declared_clock node x)) && true) out,
@@ -188,13 +189,13 @@ module _ (P : Program) (here : ResolvedNode) (own : HasClocks here) where
     when_stands a x sign NoClock w ha =
         let declared = declared_clock node (name_in here x) in
         λ k n. ap (λ b. is_clock k (clocks.On declared (name_in here x) sign) && b) (ha declared n)
-        ∙ and_false _
+        ∙ and-false _
     when_stands a x sign AnyClock w ha =
         let declared = declared_clock node (name_in here x) in (
           w,
           ap (option_map (λ k. clocks.On k (name_in here x) sign)) (has_declared here own x w),
           λ k n. ap (λ b. is_clock k (clocks.On declared (name_in here x) sign) && b)
-              (ha.1 declared n) ∙ and_true _,
+              (ha.1 declared n) ∙ and-true _,
         )
     when_stands a x sign (OneClock l) w ha = by (is_same l (declared_in here x)) refl
       where
@@ -215,18 +216,18 @@ module _ (P : Program) (here : ResolvedNode) (own : HasClocks here) where
           ap (option_map (λ k. clocks.On k (name_in here x) sign)) (has_declared here own x w),
           λ k n. ap
               (λ b. is_clock k (clocks.On (declared_clock node (name_in here x))
-              (name_in here x) sign) && b) (operand n ∙ is) ∙ and_true _,
+              (name_in here x) sign) && b) (operand n ∙ is) ∙ and-true _,
         )
         by false is =
             λ k n. ap
             (λ b. is_clock k (clocks.On (declared_clock node (name_in here x))
-            (name_in here x) sign) && b) (operand n ∙ is) ∙ and_false _
+            (name_in here x) sign) && b) (operand n ∙ is) ∙ and-false _
 
     current_stands : (a : Expr) (s : ClockSet) → IsClockSet P here a s →
         IsClockSet P here (tree.Current a) (raised env s)
     current_stands a NoClock ha =
         λ k n. ap (λ b. is_just_below k (clock_of P node a) && b)
-        (ha (clock_or (clock_of P node a)) n) ∙ and_false _
+        (ha (clock_or (clock_of P node a)) n) ∙ and-false _
     current_stands a AnyClock ha =
         λ k n. ap (λ o. is_just_below k o && accepts a (clock_or (clock_of P node a)) n) ha.0
     current_stands a (OneClock Base) ha =
@@ -240,7 +241,7 @@ module _ (P : Program) (here : ResolvedNode) (own : HasClocks here) where
           λ k n. ap (λ o. is_just_below k o && accepts a (clock_or o) n) ha.1
               ∙ ap (λ b. is_clock k declared && b)
               (ha.2 sampled_clock n ∙ clock_itself sampled_clock)
-              ∙ and_true (is_clock k declared) ∙ ap (is_clock k) (sym is),
+              ∙ and-true (is_clock k declared) ∙ ap (is_clock k) (sym is),
         )
 
 -- ## Rows
@@ -426,7 +427,7 @@ module _ (P : Program) (r : Reached) (here : ResolvedNode) (sees : SeesClocks P 
       let callee = callee_at c wc in
       let site = site_at texts.calls c in
       let test : if_node P is_base_clocked_node site.callee ≡ is_base_clocked callee.0 =
-      ap (λ o. list_all is_base_clocked_node (listed (λ n. n ∷ []) o)) callee.2 ∙ and_true _
+      ap (λ o. list_all is_base_clocked_node (listed (λ n. n ∷ []) o)) callee.2 ∙ and-true _
       ∙ base_clocked_is callee.0 (sees.callees c callee.0 callee.1) in
       let same : if_node P is_base_clocked_node site.callee
       ≡ holds is_base_clocked (callee_in r here c) =

@@ -1,20 +1,22 @@
 -- The types of a call in the text of an instance of an accepted program, and of an equation whose
 -- whole right side it is.
-use Rattle.std.proofs.Common.{◌≡◌, inl, inr, ℕ, ◌+◌, Bool, true, false, cond, Option, Some, None}
+use Rattle.std.proofs.Common.{◌≡◌, inl, inr, ℕ, Bool, true, false, cond, Option, Some, None}
 use Rattle.std.proofs.Common.{List, [], ◌∷◌, map, refl, ap, sym, ◌∙◌, subst}
 use Rattle.std.specs.Str.{bytes_eq}
 use Rattle.std.proofs.lemmas.Slice.Eq.{bytes_eq-Decides}
-use Rattle.lb_syntax.specs.Lists.{◌>>=◌, In, all_some}
+use Rattle.std.proofs.lemmas.Option.{same_Some}
+use Rattle.lb_syntax.specs.Lists.{In, all_some}
 use Rattle.lb_syntax.specs.Tree.{Name, Static, Node_named, Expr, Literal, Truth, Variable, Group}
 use Rattle.lb_syntax.specs.Tree.{Unary, Binary, If, Arrow, Fby, Pre, Current, When, Replicate}
 use Rattle.lb_syntax.specs.Tree.{Index, Slice, Join, Array, AtMostOne, Nor, Call, Iterate, Exprs}
-use Rattle.lb_syntax.specs.Tree.{Declaration, Node, Statement, Equation}
-use Rattle.lb_static.specs.DataTypes.{DataType, are_types, variables, variable_type}
+use Rattle.lb_syntax.specs.Tree.{Declaration, Equation}
+use Rattle.lb_syntax.proofs.ListPlaces.{all_in}
+use Rattle.lb_syntax.proofs.TruthValues.{and_second}
+use Rattle.lb_static.specs.DataTypes.{DataType, are_types, variable_type}
 use Rattle.lb_static.specs.Instances.{Program, Instance, Child, call_site, callee_of, node_named}
 use Rattle.lb_static.specs.Instances.{instances}
 use Rattle.lb_static.specs.Instantiation.{static_refusal, are_same}
 use Rattle.lb_static.specs.StaticValues.{named}
-use Rattle.lb_static.proofs.Members.{all_in}
 use Rattle.lb_static.proofs.TestedItems.{found_passes}
 use Rattle.lb_check.specs.Acceptance.{check_refusal}
 use Rattle.lb_check.specs.Clocks.{Clock, ungrouped}
@@ -23,8 +25,7 @@ use Rattle.lb_check.specs.TypeRules.{type_of_name, is_statement_typed}
 use Rattle.lb_check.specs.Types.{data_types, all_types, operator_types}
 use Rattle.lb_check.proofs.AcceptedRules.{typed}
 use Rattle.lb_check.proofs.OccurrenceClocks.{occurrence_fits}
-use Rattle.lb_check.proofs.OperandTypes.{bound, some_same, truly, called, placed}
-use Rattle.lb_check.proofs.TruthValues.{and_second}
+use Rattle.lb_check.proofs.OperandTypes.{bound, truly, called, placed}
 
 -- ## Names
 
@@ -99,7 +100,7 @@ compared :
 compared P None p ts is e = absurd cc
 compared P (Some ss) None ts is e = absurd cc
 compared P (Some ss) (Some us) ts is e =
-    (us, refl, subst (λ xs. are_types xs us ≡ true) (some_same ss ts is) e)
+    (us, refl, subst (λ xs. are_types xs us ≡ true) (same_Some ss ts is) e)
 
 module _ (P : Program) (accepted : static_refusal P ≡ None) (checked : check_refusal P ≡ None)
     (here : Instance) (stands : In here (instances P)) where
@@ -117,7 +118,7 @@ module _ (P : Program) (accepted : static_refusal P ≡ None) (checked : check_r
       let d = called P here f statics t.value t.is in
       let p = placed P here f statics d.callee d.is in
       let it : record d.callee { path = Child here.path n 0 } ≡ c =
-      some_same _ c (sym (p.at n 0) ∙ gives) in
+      same_Some _ c (sym (p.at n 0) ∙ gives) in
       record {
         ins = t.value.0;
         outs = t.value.1;

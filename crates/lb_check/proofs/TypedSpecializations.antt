@@ -4,8 +4,10 @@ use Rattle.std.proofs.Common.{Option, Some, None, refl, ap, sym, ◌∙◌, subs
 use Rattle.std.specs.Prelude.{◌&&◌, option_map, slice_get, slice_index_or}
 use Rattle.std.specs.List.{list_all}
 use Rattle.std.proofs.lemmas.Option.{slice_get-map, slice_get_within, get_or_from_slice_get}
+use Rattle.std.proofs.Math.Bool.{and-true}
 use Rattle.lb_syntax.specs.Lists.{all_some, holds, listed, zip2}
 use Rattle.lb_syntax.specs.Tree.{Name, Node}
+use Rattle.lb_syntax.proofs.TruthValues.{and_first, and_second}
 use Rattle.lb_static.specs.declared.reach.Reached.{Reached}
 use Rattle.lb_static.specs.declared.resolved.ResolvedNode.{ResolvedNode}
 use Rattle.lb_static.specs.declared.resolved.Sampling.{Sampling}
@@ -30,14 +32,13 @@ use Rattle.lb_static.specs.Instantiation.{are_same}
 use Rattle.lb_check.specs.JudgedPrograms.{IsJudged}
 use Rattle.lb_check.specs.TypeRules.{type_of_name, is_statement_typed, is_clock_typed, is_typed}
 use Rattle.lb_check.specs.TermTypes as mirror
-use Rattle.lb_check.specs.TermTypes.{Context, context_of, results, variable_at, are_equal}
+use Rattle.lb_check.specs.TermTypes.{Context, context_of, results, are_equal}
 use Rattle.lb_check.proofs.FittedCalls.{node_at, specialized_instance, values_at, call_is}
 use Rattle.lb_check.proofs.FittedEnvs.{length_map, variable_is, left_is, value_is, static_is}
 use Rattle.lb_check.proofs.FittedEnvs.{repeats_is, call_at}
 use Rattle.lb_check.proofs.MirroredTypes.{Fits, term_results}
 use Rattle.lb_check.proofs.DistinctNames.{distinct_first}
 use Rattle.lb_check.proofs.TableRows.{each_judged}
-use Rattle.lb_check.proofs.TruthValues.{and_first, and_second, and_true}
 
 -- ## Distinct names
 
@@ -152,7 +153,7 @@ module _ (P : Program) (r : Reached) (t : Table) (j : IsJudged P r t) (i : ℕ) 
       (listed (λ c. c ∷ []) (option_map (sampling_of names) o))
       ≡ mirror.is_clock_typed ctx o
   clock_is None w = refl
-  clock_is (Some c) w = and_true
+  clock_is (Some c) w = and-true
       (holds (is_type truth) (type_of_name P here (name_at names c.variable)))
       ∙ ap (holds (is_type truth)) (left c.variable w)
 

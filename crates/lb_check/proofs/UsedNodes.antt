@@ -4,27 +4,17 @@ use Rattle.std.proofs.Common.{length, drop, get_or, refl, ap, sym, ◌∙◌, su
 use Rattle.std.specs.Prelude.{◌&&◌, ◌++◌, Some, cond, find, map, not}
 use Rattle.std.specs.List.{list_all}
 use Rattle.std.proofs.lemmas.List.{append_assoc, drop_more}
+use Rattle.std.proofs.Math.Bool.{and_assoc, and-true}
+use Rattle.std.proofs.lemmas.Bool.{not-false}
+use Rattle.lb_syntax.proofs.TruthValues.{and_first, and_second}
 use Rattle.lb_static.specs.declared.reach.NodeId.{NodeId}
 use Rattle.lb_static.specs.declared.table.Specialization.{Specialization}
-use Rattle.lb_check.proofs.TruthValues.{and_first, and_second}
-
-and_moved : (a b c : Bool) → ((a && b) && c) ≡ (a && (b && c))
-and_moved true b c = refl
-and_moved false b c = refl
-
-pub is_true : (b : Bool) → not b ≡ false → b ≡ true
-is_true true e = refl
-is_true false e = absurd cc
-
-and_end : (a : Bool) → (a && true) ≡ a
-and_end true = refl
-and_end false = refl
 
 with_last : (f : NodeId → Bool) (ids : List NodeId) (x : NodeId) →
     list_all f (ids ++ x ∷ []) ≡ (list_all f ids && f x)
-with_last f [] x = and_end (f x)
+with_last f [] x = and-true (f x)
 with_last f (y ∷ ids) x = ap (λ b. f y && b) (with_last f ids x)
-    ∙ sym (and_moved (f y) (list_all f ids) (f x))
+    ∙ sym (and_assoc (f y) (list_all f ids) (f x))
 
 same_node : (k x : NodeId) → k.0 ≡ x.0 → x ≡ k
 same_node k x e = ap id_of (sym e)
@@ -90,12 +80,12 @@ module _ (ids : List NodeId) (old new : List Bool) (ss : List Specialization) (i
     pub known_first : AreFirst ids i ss → AreFirst ids (i + 1) ss
     known_first first f =
         not_found f ids s.node (nodes_in (drop (i + 1) ss))
-        (there s.node (is_true (get_or old s.node.0 false) known) (λ k. not (f k)))
+        (there s.node (not-false (get_or old s.node.0 false) known) (λ k. not (f k)))
         ∙ ap (λ ks. find f (ids ++ ks)) (sym next_node) ∙ first f
 
     pub known_there : AreThere ids new
     known_there k seen f all = elim (flagged k.0 seen) [
       | inl same ↦ subst (λ x. f x ≡ true) (same_node k s.node same)
-          (there s.node (is_true (get_or old s.node.0 false) known) f all)
+          (there s.node (not-false (get_or old s.node.0 false) known) f all)
       | inr was ↦ there k was f all
     ]

@@ -4,8 +4,11 @@ use Rattle.std.proofs.Common.{Option, Some, None, refl, ap, sym, ◌∙◌, subs
 use Rattle.std.specs.Prelude.{◌&&◌, ℤ, option_map, slice_get}
 use Rattle.std.specs.List.{list_all, zip}
 use Rattle.std.proofs.lemmas.Option.{slice_get-map, slice_get_within, get_or_from_slice_get}
+use Rattle.std.proofs.lemmas.Bool.{and_left}
 use Rattle.lb_syntax.specs.Lists.{◌>>=◌, all_some, either_or, holds}
 use Rattle.lb_syntax.specs.Tree.{Node}
+use Rattle.lb_syntax.proofs.ListPlaces.{item_at, all_at}
+use Rattle.lb_syntax.proofs.TruthValues.{and_first}
 use Rattle.lb_static.specs.declared.reach.NodeId.{NodeId}
 use Rattle.lb_static.specs.declared.reach.Reached.{Reached}
 use Rattle.lb_static.specs.declared.resolved.CallId.{CallId}
@@ -28,21 +31,16 @@ use Rattle.lb_static.specs.ReachedNodes.{callee_in}
 use Rattle.lb_check.specs.TermClocks.{is_body_clocked}
 use Rattle.lb_check.specs.TermTypes.{are_typed}
 use Rattle.lb_check.specs.TypeRules.{is_typed}
-use Rattle.lb_check.proofs.FittedCalls.{at_place, node_at, specialized_instance}
+use Rattle.lb_check.proofs.FittedCalls.{node_at, specialized_instance}
 use Rattle.lb_check.proofs.NodeClocks.{resolved_at, clocks_at}
-use Rattle.lb_check.proofs.NodePlaces.{all_at, named_at}
+use Rattle.lb_check.proofs.NodePlaces.{named_at}
 use Rattle.lb_check.proofs.Specializations.{all_specializations}
 use Rattle.lb_check.proofs.TypedSpecializations.{instances_typed}
-use Rattle.lb_check.proofs.TruthValues.{and_first}
 
 both_ways : (a b : Bool) → (a ≡ true → a ≡ b) → (b ≡ true → a ≡ b) → a ≡ b
 both_ways true b f g = f refl
 both_ways false true f g = g refl
 both_ways false false f g = refl
-
-and_false : (a b : Bool) → a ≡ false → (a && b) ≡ false
-and_false true b e = absurd cc
-and_false false b e = refl
 
 -- two tests that agree at each place of a list
 same_all : {A : Type 0} (f g : A → Bool) (xs : List A) →
@@ -133,12 +131,12 @@ module _ (P : Program) (r : Reached) (t : Table) (j : IsJudged P r t) where
       let as_many = sp.0.as_many root root_is in
       let here_lt = slice_get_within (node_sites (node_of n)) c.0 site site_is in
       let called : c.0 < length s.callees.items = omega (arith, as_many, here_lt) in
-      let id = at_place s.callees.items c.0 called in
+      let id = item_at s.callees.items c.0 called in
       let before = sp.1 id.0 (c.0, called, get_or_from_slice_get s.callees.items c.0 id.0 id.0 id.1)
       in
       let last = slice_get_within t.specializations.items i s is in
       let there : id.0.0 < length t.specializations.items = omega (arith, before, last) in
-      let callee = at_place t.specializations.items id.0.0 there in
+      let callee = item_at t.specializations.items id.0.0 there in
       let callee_sp = j.table.specialized id.0.0 callee.0 callee.1 in
       let callee_n = node_at P r t j.reached j.table callee.0 callee_sp.0 in
       let below = Child Root c.0 0 in
@@ -284,6 +282,6 @@ module _ (P : Program) (r : Reached) (t : Table) (j : IsJudged P r t) where
 
         by : (b : Bool) → are_declared_clocks (node_of n.0) ≡ b → by_tree s ≡ false
         by false e = ap (holds (is_clocked P)) (tree_of s n.0 n.1)
-            ∙ and_false (are_declared_clocks (node_of n.0)) _ e
+            ∙ and_left (are_declared_clocks (node_of n.0)) _ e
         by true e = sym (one_is i (λ k m lt at. is_declared m (earlier k m lt at)) s is
             (declared e)) ∙ broken

@@ -1,7 +1,7 @@
 -- The scalar elements of a program in a row, and their numbers.
 -- Source: this project's rule: instances in the order of instantiation, in each its inputs, outputs
 -- and locals, of an array the first index slowest.
-use Rattle.std.specs.Prelude.{ℕ, ◌+◌, Option, Some, None, List, [], ◌∷◌, map, length, replicate}
+use Rattle.std.specs.Prelude.{ℕ, ◌+◌, Option, Some, None, List, [], ◌∷◌, length, replicate}
 use Rattle.std.specs.Prelude.{flat_map, if◌then◌else◌}
 use Rattle.std.specs.Str.{bytes_eq}
 use Rattle.std.specs.List.{range_with_len}

@@ -21,7 +21,7 @@ use Rattle.lb_check.specs.Needs.{call_at, given_to, site_clock}
 use Rattle.lb_check.specs.Occurrences.{Occurrence, node_occurrences}
 use Rattle.lb_check.specs.OwnClocks.{clock_in, is_clock_within, name_in}
 use Rattle.lb_check.specs.PlacedClocks.{FoundCall, call_in}
-use Rattle.lb_check.specs.PlacedTypes.{found_in, lengths_of, parts_of}
+use Rattle.lb_check.specs.PlacedTypes.{found_in, sizes_of, parts_of}
 use Rattle.lb_check.specs.Streams.{data_type, part_count}
 use Rattle.lb_check.specs.TypeRules.{expression_size, is_small}
 use Rattle.lb_check.specs.declared.found_clocks.GivenVariable.{GivenVariable}
@@ -86,7 +86,7 @@ pub record HasFoundClocks (P : Program) (r : Reached) (t : Table)
 -- ## Types
 
 -- the types that are found of an instance are those of its expressions: their kinds, how many
--- scalar elements they have (as far as 65,537), their lengths, the outermost last, and how many
+-- scalar elements they have (as far as 65,537), their sizes, the outermost last, and how many
 -- scalar elements each element of an array has (as far as 65,537)
 pub record HasTypes (P : Program) (here : Instance) (f : NodeTypes) : Type 0 where
   pub kinds :
@@ -95,8 +95,8 @@ pub record HasTypes (P : Program) (here : Instance) (f : NodeTypes) : Type 0 whe
   pub elements :
       map (λ t. t.elements) f.terms.items
       ≡ map (λ e. min (expression_size P here e) 65537) (node_parts here.node)
-  pub lengths : (i : ℕ) (e : Expr) → slice_get (node_parts here.node) i ≡ Some e →
-      lengths_of (found_in f) i ≡ reverse (data_type P here e).sizes
+  pub sizes : (i : ℕ) (e : Expr) → slice_get (node_parts here.node) i ≡ Some e →
+      sizes_of (found_in f) i ≡ reverse (data_type P here e).sizes
   pub parts : (i : ℕ) (e : Expr) → slice_get (node_parts here.node) i ≡ Some e →
       parts_of (found_in f) i ≡ min (part_count P here e) 65537
 

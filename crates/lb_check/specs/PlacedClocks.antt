@@ -23,7 +23,7 @@ use Rattle.lb_check.specs.TermClocks.{Context, context_of, input_clocks, clock_s
 use Rattle.lb_check.specs.TermClocks.{expected, given_at, stands_for, result_base, infer_clock}
 use Rattle.lb_check.specs.TermClocks.{operands_in, left_clock}
 use Rattle.lb_check.specs.declared.clock_set.ClockSet.{ClockSet}
-use Rattle.lb_check.specs.declared.clock_set.ClockSet.TheVariants.{NoClock, AnyClock, OneClock}
+use Rattle.lb_check.specs.declared.clock_set.ClockSet.TheVariants.{OneClock}
 use Rattle.lb_check.specs.declared.clock_set.Operand.{Operand}
 use Rattle.lb_check.specs.declared.found_clocks.CallClock.{CallClock}
 use Rattle.lb_check.specs.declared.found_clocks.GivenVariable.{GivenVariable}

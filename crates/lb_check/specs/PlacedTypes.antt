@@ -2,7 +2,7 @@
 -- kept of them.
 -- This file mirrors code (src/placed_types.rt, src/found_types.rt); no definition of the language
 -- stands on it.
-use Rattle.std.specs.Prelude.{◌≡◌, ℕ, ◌*◌, ◌-◌, ◌^◌, ◌<◌, min, Option, Some, None, List, Vec}
+use Rattle.std.specs.Prelude.{◌≡◌, ℕ, ◌-◌, ◌<◌, min, Option, Some, None, List, Vec}
 use Rattle.std.specs.Prelude.{[], ◌∷◌, ◌++◌, flat_map, length, map, reverse, take, drop, slice_get}
 use Rattle.std.specs.Prelude.{sum_by}
 use Rattle.std.specs.Global.{Global}
@@ -11,7 +11,7 @@ use Rattle.lb_syntax.specs.declared.tree.Kind.{Kind}
 use Rattle.lb_static.specs.declared.reach.Reached.{Reached}
 use Rattle.lb_static.specs.declared.table.Specialization.{Specialization}
 use Rattle.lb_static.specs.declared.table.Table.{Table}
-use Rattle.lb_static.specs.DataTypes.{DataType, int, product}
+use Rattle.lb_static.specs.DataTypes.{DataType, int, product, total}
 use Rattle.lb_static.specs.declared.resolved.ResolvedNode.{ResolvedNode}
 use Rattle.lb_static.specs.declared.resolved.ResolvedStatement.{ResolvedStatement}
 use Rattle.lb_static.specs.declared.resolved.ResolvedStatement.TheVariants as statement
@@ -22,9 +22,7 @@ use Rattle.lb_static.specs.declared.resolved.Term.{Join', Array', AtMostOne', No
 use Rattle.lb_static.specs.declared.resolved.Term.{IterateNode', IterateSymbol', Row_of-Term}
 use Rattle.lb_static.specs.declared.resolved.Term.{end_of-Term, more_of-Term}
 use Rattle.lb_check.specs.TermTypes.{Context, context_of, results}
-use Rattle.lb_check.specs.TypeRules.{total}
 use Rattle.lb_check.specs.Types.{only}
-use Rattle.lb_check.specs.declared.data_type.DataType as stored
 use Rattle.lb_check.specs.declared.found_types.NodeTypes.{NodeTypes}
 use Rattle.lb_check.specs.declared.found_types.TermType.{TermType}
 
@@ -94,26 +92,18 @@ specialization_types r t s =
 
 -- ## What is kept of types
 
--- so many elements, and arrays of these lengths of them, as far as 65,537
-abbrev pub times_lengths : ℕ → List ℕ → ℕ
-times_lengths n [] = n
-times_lengths n (m ∷ ms) = times_lengths (min (min (n * m) (2 ^ 64 - 1)) 65537) ms
-
-abbrev pub count_of : stored.DataType → ℕ
-count_of t = product t.lengths.items
-
--- the rows of terms, and the lengths of their types
+-- the rows of terms, and the sizes of their types
 pub record FoundNode : Type 0 where
   pub terms : List TermType
-  pub lengths : List ℕ
+  pub sizes : List ℕ
 
 abbrev pub found_in : NodeTypes → FoundNode
-found_in f = record { terms = f.terms.items; lengths = f.lengths.items }
+found_in f = record { terms = f.terms.items; sizes = f.sizes.items }
 
 abbrev pub nothing_found : FoundNode
-nothing_found = record { terms = []; lengths = [] }
+nothing_found = record { terms = []; sizes = [] }
 
--- one more term, of this kind, with these lengths, the outermost last, and so many elements
+-- one more term, of this kind, with these sizes, the outermost last, and so many elements
 abbrev pub with_row : FoundNode → Kind → List ℕ → ℕ → FoundNode
 with_row f kind ns n = record {
   terms =
@@ -121,10 +111,10 @@ with_row f kind ns n = record {
       ++ (record {
         kind = kind;
         elements = n;
-        first = length f.lengths;
+        first = length f.sizes;
         rank = length ns;
       } ∷ []);
-  lengths = f.lengths ++ ns;
+  sizes = f.sizes ++ ns;
 }
 
 -- the one type of a term, or `int`
@@ -160,11 +150,11 @@ AreFound r t (Some all) =
 
 -- ## What is read of it
 
--- the lengths of the type of the term at a place
-abbrev pub lengths_of : FoundNode → ℕ → List ℕ
-lengths_of f i =
-    listed (λ (t : TermType). take t.rank (drop t.first f.lengths)) (slice_get f.terms i)
+-- the sizes of the type of the term at a place
+abbrev pub sizes_of : FoundNode → ℕ → List ℕ
+sizes_of f i =
+    listed (λ (t : TermType). take t.rank (drop t.first f.sizes)) (slice_get f.terms i)
 
 -- how many scalar elements each of its elements has
 abbrev pub parts_of : FoundNode → ℕ → ℕ
-parts_of f i = times_lengths 1 (take (length (lengths_of f i) - 1) (lengths_of f i))
+parts_of f i = min (product (take (length (sizes_of f i) - 1) (sizes_of f i))) 65537

@@ -1,7 +1,7 @@
 -- The types of a term, as the code finds them.
 -- This file mirrors code (src/types.rt); no definition of the language stands on it.
 use Rattle.std.specs.Prelude.{ℕ, ℤ, pos, Bool, true, ◌&&◌, Option, Some, None, option_map, List, []}
-use Rattle.std.specs.Prelude.{◌∷◌, map, take, drop, reverse, slice_get}
+use Rattle.std.specs.Prelude.{◌∷◌, map, take, drop, slice_get}
 use Rattle.std.specs.List.{list_all}
 use Rattle.lb_syntax.specs.declared.tree.ArrayIterator.{ArrayIterator}
 use Rattle.lb_syntax.specs.declared.tree.BinaryOperator.{BinaryOperator}
@@ -27,6 +27,7 @@ use Rattle.lb_static.specs.declared.table.Table.{Table}
 use Rattle.lb_static.specs.CalledSpecializations.{called_by}
 use Rattle.lb_static.specs.DataTypes.{DataType, truth, is_type, are_types}
 use Rattle.lb_static.specs.StaticValues.{natural}
+use Rattle.lb_static.specs.StoredTypes.{declared_type, declared_types}
 use Rattle.lb_check.specs.Types.{constant_type, unary_type, binary_type, common_type, array_of}
 use Rattle.lb_check.specs.Types.{index_type, slice_type, join_type, list_type, symbol_types}
 use Rattle.lb_check.specs.Types.{iterator_types, only, singly}
@@ -52,22 +53,6 @@ constant_at statics i = constant_type (slice_get statics i.0)
 -- a size or an index
 abbrev pub count_at : List ℤ → StaticId → Option ℕ
 count_at statics i = slice_get statics i.0 >>= natural
-
-abbrev pub wholes : List ℤ → Option (List ℕ)
-wholes values = all_some (map natural values)
-
--- the sizes that stand from one on, so many
-abbrev pub sizes_at : List ℤ → StaticId → ℕ → Option (List ℕ)
-sizes_at statics first count = wholes (take count (drop first.0 statics))
-
--- the type of a variable
-abbrev pub declared_type : List ℤ → Declared → Option DataType
-declared_type statics v =
-    option_map (λ ns. record { kind = v.kind; sizes = reverse ns })
-    (sizes_at statics v.first_size v.sizes)
-
-abbrev pub declared_types : List ℤ → List Declared → Option (List DataType)
-declared_types statics vs = all_some (map (declared_type statics) vs)
 
 abbrev pub variable_at : ResolvedNode → Specialization → VariableId → Option DataType
 variable_at n s x = slice_get n.variables.items x.0 >>= declared_type s.statics.items

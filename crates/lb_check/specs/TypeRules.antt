@@ -1,14 +1,14 @@
 -- The rules of types, as a test (E9), and the size of a program (E12).
 -- Source: Lustre V6 reference manual, typing of equations and assertions. The size is this
 -- project's rule.
-use Rattle.std.specs.Prelude.{ℕ, ◌+◌, Bool, ◌&&◌, nat_le, Option, Some, List, [], ◌∷◌, map, sum_by}
+use Rattle.std.specs.Prelude.{ℕ, ◌+◌, Bool, ◌&&◌, nat_le, Option, Some, [], ◌∷◌, map, sum_by}
 use Rattle.std.specs.List.{list_all}
 use Rattle.lb_syntax.specs.Lists.{◌>>=◌, either_or, holds, listed, all_some}
 use Rattle.lb_syntax.specs.Tree.{Name, Expr, Declaration, Statement, Equation, Assertion}
 use Rattle.lb_static.specs.StaticValues.{named}
 use Rattle.lb_static.specs.Instances.{Program, Instance, instances}
-use Rattle.lb_static.specs.DataTypes.{DataType, truth, is_type, element_count, variables}
-use Rattle.lb_static.specs.DataTypes.{variable_type, width}
+use Rattle.lb_static.specs.DataTypes.{DataType, truth, is_type, total, variables, variable_type}
+use Rattle.lb_static.specs.DataTypes.{width}
 use Rattle.lb_static.specs.Parts.{node_parts}
 use Rattle.lb_static.specs.Instantiation.{are_same}
 use Rattle.lb_check.specs.Types.{data_types}
@@ -37,9 +37,6 @@ is_typed P here =
     && list_all (is_statement_typed P here) here.node.body
 
 -- ## Size
-
-abbrev pub total : List DataType → ℕ
-total ts = sum_by element_count ts
 
 -- the scalar elements of an expression itself, its parts apart; a call counts all its results
 abbrev pub expression_size : Program → Instance → Expr → ℕ

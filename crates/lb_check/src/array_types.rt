@@ -1,14 +1,16 @@
 //! The types of arrays, and of calls over arrays.
 
 ghost use Rattle.std.specs.Prelude.{◌≡◌, ◌∷◌, [], ◌++◌, ◌&&◌, map, option_map, IfOk};
+ghost use Rattle.std.specs.List.{list_all};
 ghost use Rattle.lb_syntax.specs.Lists as lists;
 ghost use Rattle.lb_syntax.specs.Lists.{all_some};
 ghost use Rattle.lb_static.specs.DataTypes.{is_type, are_types};
-ghost use Rattle.lb_check.specs.StoredTypes.{view_type, view_types};
+ghost use Rattle.lb_static.specs.StoredTypes.{view_type, view_types};
 ghost use Rattle.lb_check.specs.Types as types;
 
-use crate::data_type::{DataType, Signature, all_are, are_same};
 use crate::operand_types::one;
+use crate::signature::Signature;
+use lb_static::{DataType, are_same};
 use lb_syntax::ArrayIterator;
 use std::alloc::{AllocError, Global};
 
@@ -17,15 +19,15 @@ const LONGEST: u64 = 4096;
 
 /// An array of so many of these, where it is not too long.
 #[tactic(auto, using(crate::proofs::TypeLists::outermost))]
-pub fn array_of(length: u64, element: DataType) -> Result<Option<DataType>, AllocError>
+pub fn array_of(size: u64, element: DataType) -> Result<Option<DataType>, AllocError>
     ensures { IfOk result (λ o.
-        option_map view_type o ≡ types.array_of length (view_type element)) }
+        option_map view_type o ≡ types.array_of size (view_type element)) }
 {
-    if length < 1 || LONGEST < length {
+    if size < 1 || LONGEST < size {
         return Ok(None);
     }
     let mut array = element;
-    array.lengths.push(length)?;
+    array.sizes.push(size)?;
     Ok(Some(array))
 }
 
@@ -35,8 +37,8 @@ pub fn index_type(index: u64, array: DataType) -> Option<DataType>
     ensures { option_map view_type result ≡ types.index_type index (view_type array) }
 {
     let mut element = array;
-    let length = element.lengths.pop()?;
-    if index < length { Some(element) } else { None }
+    let size = element.sizes.pop()?;
+    if index < size { Some(element) } else { None }
 }
 
 /// The type of a slice with these ends.
@@ -46,10 +48,10 @@ pub fn slice_type(start: u64, end: u64, array: DataType) -> Result<Option<DataTy
         option_map view_type o ≡ types.slice_type start end (view_type array)) }
 {
     let mut element = array;
-    let Some(length) = element.lengths.pop() else {
+    let Some(size) = element.sizes.pop() else {
         return Ok(None);
     };
-    if start <= end && end < length {
+    if start <= end && end < size {
         array_of(end - start + 1, element)
     } else {
         Ok(None)
@@ -64,7 +66,7 @@ pub fn join_type(left: DataType, right: DataType) -> Result<Option<DataType>, Al
 {
     let mut first = left;
     let mut second = right;
-    let (Some(m), Some(n)) = (first.lengths.pop(), second.lengths.pop()) else {
+    let (Some(m), Some(n)) = (first.sizes.pop(), second.sizes.pop()) else {
         return Ok(None);
     };
     if !first.equals(&second) || LONGEST < m || LONGEST < n {
@@ -74,15 +76,12 @@ pub fn join_type(left: DataType, right: DataType) -> Result<Option<DataType>, Al
 }
 
 /// The type of an array of so many of these, if it is known how many.
-pub fn replicate_type(
-    length: Option<u64>,
-    element: DataType,
-) -> Result<Option<DataType>, AllocError>
+pub fn replicate_type(size: Option<u64>, element: DataType) -> Result<Option<DataType>, AllocError>
     ensures { IfOk result (λ o.
-        option_map view_type o ≡ lists.◌>>=◌ length (λ n. types.array_of n (view_type element))) }
+        option_map view_type o ≡ lists.◌>>=◌ size (λ n. types.array_of n (view_type element))) }
 {
-    match length {
-        Some(length) => array_of(length, element),
+    match size {
+        Some(size) => array_of(size, element),
         None => Ok(None),
     }
 }
@@ -114,21 +113,34 @@ pub fn part_type(
 /// These types, and then arrays of so many of each of those.
 fn arrays_onto(
     before: Vec<DataType>,
-    length: u64,
+    size: u64,
     elements: &[DataType],
 ) -> Result<Option<Vec<DataType>>, AllocError>
     ensures { IfOk result (λ o. option_map view_types o
         ≡ option_map (λ ts. view_types before ++ ts)
-        (all_some (map (types.array_of length) (map view_type elements.now)))) }
+        (all_some (map (types.array_of size) (map view_type elements.now)))) }
 {
     let mut arrays = before;
     for element in elements {
-        match array_of(length, element.copy()?)? {
+        match array_of(size, element.copy()?)? {
             Some(array) => arrays.push(array)?,
             None => return Ok(None),
         }
     }
     Ok(Some(arrays))
+}
+
+/// Whether each of some types is this one.
+#[tactic(auto, using(crate::proofs::TypeLists::are_next))]
+fn all_are(wanted: &DataType, all: &[DataType]) -> bool
+    ensures { result ≡ list_all (is_type (view_type wanted.now)) (map view_type all.now) }
+{
+    for one in all {
+        if !wanted.equals(one) {
+            return false;
+        }
+    }
+    true
 }
 
 /// The type of a list of elements of these types.
@@ -148,22 +160,22 @@ pub fn list_type(elements: &[DataType]) -> Result<Option<DataType>, AllocError>
 /// The types of what `map` gives, over a node with these inputs and outputs.
 fn map_types(
     alloc: Global,
-    length: u64,
+    size: u64,
     inputs: &[DataType],
     outputs: &[DataType],
     given: &[DataType],
 ) -> Result<Option<Vec<DataType>>, AllocError>
     ensures { IfOk result (λ o. option_map view_types o
-        ≡ types.map_types length (map view_type inputs.now) (map view_type outputs.now)
+        ≡ types.map_types size (map view_type inputs.now) (map view_type outputs.now)
         (map view_type given.now)) }
 {
-    let Some(wanted) = arrays_onto(Vec::new(alloc), length, inputs)? else {
+    let Some(wanted) = arrays_onto(Vec::new(alloc), size, inputs)? else {
         return Ok(None);
     };
     if !are_same(&wanted, given) {
         return Ok(None);
     }
-    arrays_onto(Vec::new(alloc), length, outputs)
+    arrays_onto(Vec::new(alloc), size, outputs)
 }
 
 /// Whether `red` takes these operands: its accumulator has the type of the output and of the first
@@ -186,7 +198,7 @@ fn fits_red(
 /// output.
 fn red_results(
     alloc: Global,
-    length: u64,
+    size: u64,
     accumulator: &DataType,
     inputs: &[DataType],
     output: &DataType,
@@ -194,10 +206,10 @@ fn red_results(
     given: &[DataType],
 ) -> Result<Option<Vec<DataType>>, AllocError>
     ensures { IfOk result (λ o. option_map view_types o
-        ≡ types.red_types length (view_type accumulator.now ∷ map view_type inputs.now)
+        ≡ types.red_types size (view_type accumulator.now ∷ map view_type inputs.now)
         (view_type output.now ∷ []) (view_type start.now ∷ map view_type given.now)) }
 {
-    let Some(wanted) = arrays_onto(Vec::new(alloc), length, inputs)? else {
+    let Some(wanted) = arrays_onto(Vec::new(alloc), size, inputs)? else {
         return Ok(None);
     };
     if !fits_red(accumulator, output, start, &wanted, given) {
@@ -210,18 +222,18 @@ fn red_results(
 /// type.
 fn red_types(
     alloc: Global,
-    length: u64,
+    size: u64,
     inputs: &[DataType],
     outputs: &[DataType],
     given: &[DataType],
 ) -> Result<Option<Vec<DataType>>, AllocError>
     ensures { IfOk result (λ o. option_map view_types o
-        ≡ types.red_types length (map view_type inputs.now) (map view_type outputs.now)
+        ≡ types.red_types size (map view_type inputs.now) (map view_type outputs.now)
         (map view_type given.now)) }
 {
     match (inputs, outputs, given) {
         ([accumulator, inputs @ ..], [output], [start, given @ ..]) => {
-            red_results(alloc, length, accumulator, inputs, output, start, given)
+            red_results(alloc, size, accumulator, inputs, output, start, given)
         }
         _ => Ok(None),
     }
@@ -230,14 +242,14 @@ fn red_types(
 /// The types of what `fill` gives, over a node with an accumulator, this first output and others.
 fn fill_results(
     alloc: Global,
-    length: u64,
+    size: u64,
     accumulator: &DataType,
     output: &DataType,
     others: &[DataType],
     start: &DataType,
 ) -> Result<Option<Vec<DataType>>, AllocError>
     ensures { IfOk result (λ o. option_map view_types o
-        ≡ lists.◌>>=◌ (all_some (map (types.array_of length) (map view_type others.now)))
+        ≡ lists.◌>>=◌ (all_some (map (types.array_of size) (map view_type others.now)))
         (λ arrays. lists.where_true (is_type (view_type accumulator.now) (view_type output.now)
         && is_type (view_type accumulator.now) (view_type start.now))
         (view_type output.now ∷ arrays))) }
@@ -247,20 +259,20 @@ fn fill_results(
     }
     let mut results = Vec::new(alloc);
     results.push(output.copy()?)?;
-    arrays_onto(results, length, others)
+    arrays_onto(results, size, others)
 }
 
 /// The types of what `fill` gives: the one input is the accumulator, the first output has its
 /// type, and there are more.
 fn fill_types(
     alloc: Global,
-    length: u64,
+    size: u64,
     inputs: &[DataType],
     outputs: &[DataType],
     given: &[DataType],
 ) -> Result<Option<Vec<DataType>>, AllocError>
     ensures { IfOk result (λ o. option_map view_types o
-        ≡ types.fill_types length (map view_type inputs.now) (map view_type outputs.now)
+        ≡ types.fill_types size (map view_type inputs.now) (map view_type outputs.now)
         (map view_type given.now)) }
 {
     let ([accumulator], [output, others @ ..], [start]) = (inputs, outputs, given) else {
@@ -269,26 +281,26 @@ fn fill_types(
     if others.is_empty() {
         return Ok(None);
     }
-    fill_results(alloc, length, accumulator, output, others, start)
+    fill_results(alloc, size, accumulator, output, others, start)
 }
 
 /// The types of what an iterator gives, over a node with these inputs and outputs.
 pub fn iterator_types(
     alloc: Global,
     iterator: ArrayIterator,
-    length: u64,
+    size: u64,
     callee: &Signature,
     given: &[DataType],
 ) -> Result<Option<Vec<DataType>>, AllocError>
     ensures { IfOk result (λ o. option_map view_types o
-        ≡ types.iterator_types iterator length (view_types callee.now.inputs)
+        ≡ types.iterator_types iterator size (view_types callee.now.inputs)
         (view_types callee.now.outputs) (map view_type given.now)) }
 {
     let inputs = &callee.inputs;
     let outputs = &callee.outputs;
     match iterator {
-        ArrayIterator::Map => map_types(alloc, length, inputs, outputs, given),
-        ArrayIterator::Red => red_types(alloc, length, inputs, outputs, given),
-        ArrayIterator::Fill => fill_types(alloc, length, inputs, outputs, given),
+        ArrayIterator::Map => map_types(alloc, size, inputs, outputs, given),
+        ArrayIterator::Red => red_types(alloc, size, inputs, outputs, given),
+        ArrayIterator::Fill => fill_types(alloc, size, inputs, outputs, given),
     }
 }

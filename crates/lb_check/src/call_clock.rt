@@ -10,8 +10,7 @@ ghost use Rattle.lb_check.specs.TermClocks as mirror;
 use crate::clock_set::{ClockSet, Operand};
 use crate::own_clock::Clock;
 use crate::term_clock::ClockEnv;
-use crate::type_env::variables_at;
-use lb_static::{ResolvedNode, Sampling, Term, Variable, VariableId};
+use lb_static::{ResolvedNode, Sampling, Term, Variable, VariableId, part_of};
 use std::alloc::{AllocError, Global};
 
 /// The variable that a term is, in parentheses or not.
@@ -65,7 +64,7 @@ impl Given<'_> {
 fn variables_from<'t>(node: &'t ResolvedNode, first: usize, count: usize) -> &'t [Variable]
     ensures { result.now ≡ take count (drop first node.now.variables.items) }
 {
-    variables_at(&node.variables, first, count)
+    part_of(&node.variables, first, count)
 }
 
 /// The inputs and outputs of a node.

@@ -1,10 +1,10 @@
 //! What is found of the terms of a specialization when its types are judged.
 
-ghost use Rattle.std.specs.Prelude.{◌≡◌, ◌≤◌, drop, map, min, sum_by, take, OnOk};
+ghost use Rattle.std.specs.Prelude.{◌≡◌, map, min, sum_by, OnOk};
+ghost use Rattle.lb_static.specs.StoredTypes.{view_type};
 ghost use Rattle.lb_check.specs.PlacedTypes as placed_mirror;
-ghost use Rattle.lb_check.specs.StoredTypes.{view_type};
 
-use crate::data_type::DataType;
+use lb_static::{DataType, element_count, part_of, size_product};
 use lb_syntax::Kind;
 use std::alloc::{AllocError, Global};
 
@@ -18,9 +18,9 @@ pub struct TermType {
     /// How many scalar elements the term has, or 65,537 for more than 65,536: of a call with
     /// several results those of all.
     pub elements: u32,
-    /// Where the lengths of its type stand among those of all terms.
+    /// Where the sizes of its type stand among those of all terms.
     pub first: usize,
-    /// How many lengths its type has.
+    /// How many sizes its type has.
     pub rank: usize,
 }
 
@@ -29,61 +29,23 @@ pub struct TermType {
 #[derive(Drop)]
 pub struct NodeTypes {
     pub terms: Vec<TermType>,
-    /// The lengths of all types, one type behind another, of each the outermost last.
-    pub lengths: Vec<u64>,
-}
-
-/// How many scalar elements an array of these lengths has, or 65,537 for more than 65,536.
-fn element_count(lengths: &[u64]) -> u32
-    ensures value { result ≡ placed_mirror.times_lengths 1 lengths.now }
-    ensures within { result ≤ 65537 }
-{
-    let mut elements: u64 = 1;
-    for size in lengths {
-        elements = elements.saturating_mul(*size).min(u64::from(MOST) + 1);
-    }
-    elements as u32
-}
-
-/// How many scalar elements types have together, or 65,537 for more than 65,536.
-fn elements_of(types: &[DataType]) -> u32
-    ensures { result ≡ min (sum_by placed_mirror.count_of types.now) 65537 }
-{
-    let mut left = MOST + 1;
-    for data_type in types {
-        left = left.saturating_sub(element_count(&data_type.lengths));
-    }
-    MOST + 1 - left
-}
-
-/// So many lengths, from one on.
-fn lengths_at(lengths: &[u64], first: usize, count: usize) -> &[u64]
-    ensures { result.now ≡ take count (drop first lengths.now) }
-{
-    if lengths.len() <= first {
-        return &lengths[..0];
-    }
-    let rest = &lengths[first..];
-    if rest.len() <= count {
-        rest
-    } else {
-        &rest[..count]
-    }
+    /// The sizes of all types, one type behind another, of each the outermost last.
+    pub sizes: Vec<u64>,
 }
 
 impl NodeTypes {
-    /// Notes the kind of a term, its lengths and how many scalar elements it has.
-    fn note_type(&mut self, kind: Kind, lengths: &[u64], elements: u32) -> Result<(), AllocError>
+    /// Notes the kind of a term, its sizes and how many scalar elements it has.
+    fn note_type(&mut self, kind: Kind, sizes: &[u64], elements: u32) -> Result<(), AllocError>
         ensures { OnOk result (placed_mirror.found_in self.new
-            ≡ placed_mirror.with_row (placed_mirror.found_in self.old) kind lengths.now elements) }
+            ≡ placed_mirror.with_row (placed_mirror.found_in self.old) kind sizes.now elements) }
     {
         self.terms.push(TermType {
             kind,
             elements,
-            first: self.lengths.len(),
-            rank: lengths.len(),
+            first: self.sizes.len(),
+            rank: sizes.len(),
         })?;
-        self.lengths.extend_from_slice(lengths)?;
+        self.sizes.extend_from_slice(sizes)?;
         Ok(())
     }
 
@@ -93,10 +55,10 @@ impl NodeTypes {
             ≡ placed_mirror.with_types (placed_mirror.found_in self.old)
             (map view_type types.now)) }
     {
-        let elements = elements_of(types);
+        let elements = element_count(types);
         match types {
             [] => self.note_type(Kind::Int, &[], elements),
-            [only] => self.note_type(only.kind, &only.lengths, elements),
+            [only] => self.note_type(only.kind, &only.sizes, elements),
             _ => self.note_type(Kind::Int, &[], elements),
         }
     }
@@ -112,12 +74,12 @@ impl NodeTypes {
         MOST + 1 - left
     }
 
-    /// The lengths of the type of a term, the outermost last: none of a term that is not there.
-    pub fn lengths(&self, term: usize) -> &[u64]
-        ensures { result.now ≡ placed_mirror.lengths_of (placed_mirror.found_in self.now) term }
+    /// The sizes of the type of a term, the outermost last: none of a term that is not there.
+    pub fn sizes(&self, term: usize) -> &[u64]
+        ensures { result.now ≡ placed_mirror.sizes_of (placed_mirror.found_in self.now) term }
     {
         match self.terms.get(term) {
-            Some(found) => lengths_at(&self.lengths, found.first, found.rank),
+            Some(found) => part_of(&self.sizes, found.first, found.rank),
             None => &[],
         }
     }
@@ -127,7 +89,7 @@ impl NodeTypes {
     pub fn part_count(&self, term: usize) -> u32
         ensures { result ≡ placed_mirror.parts_of (placed_mirror.found_in self.now) term }
     {
-        let lengths = self.lengths(term);
-        element_count(&lengths[..lengths.len().saturating_sub(1)])
+        let sizes = self.sizes(term);
+        size_product(&sizes[..sizes.len().saturating_sub(1)])
     }
 }

@@ -2,12 +2,14 @@
 
 ghost use Rattle.std.specs.Prelude.{◌≡◌, pos, Some, map, option_map, IfOk};
 ghost use Rattle.lb_syntax.specs.Lists as lists;
-ghost use Rattle.lb_check.specs.StoredTypes.{view_type, view_types, signature_in};
+ghost use Rattle.lb_static.specs.StoredTypes.{view_type, view_types};
+ghost use Rattle.lb_check.specs.StoredTypes.{signature_in};
 ghost use Rattle.lb_check.specs.TermTypes as mirror;
 ghost use Rattle.lb_check.specs.Types as types;
 
 use crate::array_types;
-use crate::data_type::{DataType, Signature};
+use crate::signature::Signature;
+use lb_static::DataType;
 use lb_syntax::{BinaryOperator, Kind, UnaryOperator};
 use std::alloc::{AllocError, Global};
 

@@ -119,7 +119,7 @@ fn node_types(alloc: Global, env: &TypeEnv) -> Result<NodeTypes, AllocError>
 {
     let mut found = NodeTypes {
         terms: Vec::new(alloc),
-        lengths: Vec::new(alloc),
+        sizes: Vec::new(alloc),
     };
     for statement in &env.node.body {
         place_statement(alloc, env, statement, &mut found)?;
@@ -149,7 +149,7 @@ fn specialization_types(
         ),
         None => Ok(NodeTypes {
             terms: Vec::new(alloc),
-            lengths: Vec::new(alloc),
+            sizes: Vec::new(alloc),
         }),
     }
 }

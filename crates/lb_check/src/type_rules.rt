@@ -7,15 +7,15 @@ ghost use Rattle.lb_static.specs.Instances.{Program, instances};
 ghost use Rattle.lb_check.specs.BrokenRules.{IsBroken};
 ghost use Rattle.lb_check.specs.JudgedPrograms.{IsJudged};
 ghost use Rattle.lb_check.specs.TypeRules.{is_typed};
-ghost use Rattle.lb_static.specs.DataTypes.{are_types, truth};
-ghost use Rattle.lb_check.specs.StoredTypes.{view_type, view_types, context_in};
+ghost use Rattle.lb_static.specs.StoredTypes.{view_types};
+ghost use Rattle.lb_check.specs.StoredTypes.{context_in};
 ghost use Rattle.lb_check.specs.TermTypes as mirror;
 
-use crate::data_type::{DataType, are_same};
 use crate::type_env::TypeEnv;
 use crate::types::{results, type_of};
 use lb_static::{
-    NodeId, Reached, ResolvedStatement, Specialization, Table, Term, Variable, VariableId,
+    DataType, NodeId, Reached, ResolvedStatement, Specialization, Table, Term, Variable,
+    VariableId, are_same,
 };
 use std::alloc::{AllocError, Global};
 
@@ -36,16 +36,6 @@ fn left_types(
         }
     }
     Ok(Some(types))
-}
-
-/// Whether the types of an assertion are one truth.
-fn is_assertion_typed(types: &[DataType]) -> bool
-    ensures { result ≡ are_types (map view_type types.now) (truth ∷ []) }
-{
-    match types {
-        [only] => only.is_truth(),
-        _ => false,
-    }
 }
 
 /// Whether the left variable of an equation has the type of its right side.
@@ -94,7 +84,7 @@ fn is_one_truth(alloc: Global, env: &TypeEnv, term: &Term) -> Result<bool, Alloc
     ensures { IfOk result (λ kept. kept ≡ mirror.is_one_truth (context_in env.now) term.now) }
 {
     match results(alloc, env, term)? {
-        Some(types) => Ok(is_assertion_typed(&types)),
+        Some(types) => Ok(lb_static::is_one_truth(&types)),
         None => Ok(false),
     }
 }

@@ -1,17 +1,19 @@
 //! The types of terms (E9).
 
 ghost use Rattle.std.specs.Prelude.{◌≡◌, map, option_map, IfOk};
-ghost use Rattle.lb_check.specs.StoredTypes.{view_type, view_types, context_in};
+ghost use Rattle.std.specs.List.{list_all};
+ghost use Rattle.lb_static.specs.DataTypes.{is_type, truth};
+ghost use Rattle.lb_static.specs.StoredTypes.{view_type, view_types};
+ghost use Rattle.lb_check.specs.StoredTypes.{context_in};
 ghost use Rattle.lb_check.specs.TermTypes as mirror;
 ghost use Rattle.lb_check.specs.Types.{list_type, singly};
 
 use crate::array_types::{element_type, iterator_types, list_type, part_type, replicate_type};
-use crate::data_type::{DataType, all_truths, are_same};
 use crate::operand_types::{
     common_type, joined, literal_type, of_operands, one, only, symbol_types, unary_type, when_truth,
 };
 use crate::type_env::TypeEnv;
-use lb_static::{CallId, Term};
+use lb_static::{CallId, DataType, Term, are_same};
 use lb_syntax::{ArrayIterator, BinaryOperator, Kind};
 use std::alloc::{AllocError, Global};
 
@@ -24,6 +26,19 @@ fn list_results(alloc: Global, types: &[DataType]) -> Result<Option<Vec<DataType
         Some(data_type) => one(alloc, data_type),
         None => Ok(None),
     }
+}
+
+/// Whether each of some types is `bool`.
+#[tactic(auto, using(crate::proofs::TypeLists::are_next))]
+fn all_truths(all: &[DataType]) -> bool
+    ensures { result ≡ list_all (is_type truth) (map view_type all.now) }
+{
+    for one in all {
+        if !one.is_truth() {
+            return false;
+        }
+    }
+    true
 }
 
 /// The type of an operator on truths, where its operands are truths.

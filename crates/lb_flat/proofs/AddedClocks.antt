@@ -9,6 +9,7 @@ use Rattle.std.proofs.lemmas.List.{length-append, get_or_append_left, get_or-app
 use Rattle.std.proofs.lemmas.Option.{slice_get_within, get_or_from_slice_get}
 use Rattle.std.proofs.lemmas.List.FromFn.{length-map-range_with_len, get_or-map-range_with_len}
 use Rattle.lb_syntax.specs.Lists.{either_or, listed}
+use Rattle.lb_syntax.proofs.ListPlaces.{get_later, item_at}
 use Rattle.lb_static.specs.declared.resolved.CallId.{CallId}
 use Rattle.lb_static.specs.declared.resolved.ResolvedNode.{ResolvedNode}
 use Rattle.lb_static.specs.declared.table.Instance as row
@@ -18,7 +19,6 @@ use Rattle.lb_check.specs.TermClocks.{declared_in}
 use Rattle.lb_check.specs.declared.found_clocks.CallClock.{CallClock}
 use Rattle.lb_check.specs.declared.own_clock.Clock.{Clock}
 use Rattle.lb_check.specs.declared.own_clock.Clock.TheVariants.{Base, On}
-use Rattle.lb_check.proofs.NodePlaces.{held}
 use Rattle.lb_flat.specs.ClockTables.{sign_place}
 use Rattle.lb_flat.specs.Rows.{count_at}
 use Rattle.lb_flat.specs.TableClocks.{Sources, added_after, variable_number, clock_id, found_call}
@@ -72,13 +72,6 @@ module _ {B : Type 0} (u v : ℕ → B) where
       ∙ pairs_second (a + 1) n more x (omega (arith, lt)) (2 * x + 1) refl
       ∙ ap (λ i. Some (v i)) same
 
-skipped :
-    {B : Type 0} (xs ys : List B) (m : ℕ) → slice_get (xs ++ ys) (length xs + m) ≡ slice_get ys m
-skipped [] ys m = let same : 0 + m ≡ m = omega arith in ap (slice_get ys) same
-skipped (x ∷ xs) ys m =
-    let next : suc (length xs) + m ≡ suc (length xs + m) = omega arith in
-    ap (slice_get (x ∷ (xs ++ ys))) next ∙ skipped xs ys m
-
 -- ## What is filled
 
 -- the rows have so many variables, one row after the other
@@ -115,7 +108,7 @@ module _ (from : Sources) (counted : AreCounted from) where
       length (table_runs from (take k from.table.instances.items)) ≡ k
   runs_long zero le = refl
   runs_long (suc k) le =
-      let i = held rows k (omega (arith, le)) in
+      let i = item_at rows k (omega (arith, le)) in
       let done = table_runs from (take k rows) in
       let y = row_runs from done (get_or rows k i.0).origin in
       let long = length-append done (y ∷ []) in
@@ -196,7 +189,7 @@ module _ (from : Sources) (counted : AreCounted from) where
       ≡ get_or from.variables k 0
   serving_long zero le = sym counted.first
   serving_long (suc k) le =
-      let i = held rows k (omega (arith, le)) in
+      let i = item_at rows k (omega (arith, le)) in
       let done = table_serving from (take k rows) in
       let o = (get_or rows k i.0).origin in
       let long = length-append done (row_serving from k o done) in
@@ -294,7 +287,7 @@ module _ (from : Sources) (counted : AreCounted from) where
         ≡ 2 * get_or from.variables k 0
     clocks_long zero le = let none = counted.first in omega (arith, none)
     clocks_long (suc k) le =
-        let i = held rows k (omega (arith, le)) in
+        let i = item_at rows k (omega (arith, le)) in
         let done = clocks_among from runs serving (take k rows) in
         let j = get_or rows k i.0 in
         let same : j ≡ i.0 = get_or_from_slice_get rows k i.0 i.0 i.1 in
@@ -331,7 +324,7 @@ module _ (from : Sources) (counted : AreCounted from) where
         ∙ ap (λ o. slice_get (done ++ (listed (node_clocks from.variables runs serving k) o ++ s.0))
         (2 * (before k + x) + sign_place sign)) is
         ∙ ap (slice_get (done ++ (own ++ s.0))) here
-        ∙ skipped done (own ++ s.0) (2 * x + sign_place sign)
+        ∙ get_later done (own ++ s.0) (2 * x + sign_place sign)
         ∙ by s.0 sign
       where
         by : (more : List table.Clock) (sign : Bool) →

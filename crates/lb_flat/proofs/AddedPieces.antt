@@ -1,6 +1,6 @@
 -- Lists to which rows add pieces one after another, each with a sight of what is there by then.
-use Rattle.std.proofs.Common.{◌≡◌, ℕ, zero, suc, ◌+◌, ◌<◌, List, [], ◌∷◌, ◌++◌, length, map}
-use Rattle.std.proofs.Common.{flat_map, take, drop, get_or, refl, ap, sym, ◌∙◌, arith}
+use Rattle.std.proofs.Common.{◌≡◌, ℕ, suc, ◌+◌, ◌<◌, List, [], ◌∷◌, ◌++◌, length, map, flat_map}
+use Rattle.std.proofs.Common.{take, drop, get_or, refl, ap, sym, ◌∙◌, arith}
 use Rattle.std.specs.Prelude.{Some, slice_get}
 use Rattle.std.specs.List.{range_with_len}
 use Rattle.std.proofs.lemmas.Option.{slice_get_within, get_or_from_slice_get}
@@ -8,6 +8,7 @@ use Rattle.std.proofs.lemmas.List.{append_assoc, append-nil, length-take-le}
 use Rattle.std.proofs.lemmas.List.{map-append, take_more, take-append-drop}
 use Rattle.std.proofs.lemmas.Grind.{flat_map-append}
 use Rattle.lb_flat.specs.TableClocks.{added_after}
+use Rattle.lb_flat.proofs.EmittedCalls.{range_last}
 
 -- ## One row more
 
@@ -102,16 +103,6 @@ module _ {A B : Type 0} (piece : ℕ → A → List B → List B) where
 
 -- ## Pieces made of items
 
-range_more : (a n : ℕ) → range_with_len a (n + 1) ≡ range_with_len a n ++ (a + n) ∷ []
-range_more a n =
-    let next : n + 1 ≡ suc n = omega arith in ap (range_with_len a) next ∙ last a n
-  where
-    last : (a n : ℕ) → range_with_len a (suc n) ≡ range_with_len a n ++ (a + n) ∷ []
-    last a zero = let same : a ≡ a + 0 = omega arith in ap (λ m. m ∷ []) same
-    last a (suc n) =
-        let same : (a + 1) + n ≡ a + suc n = omega arith in
-        ap (λ l. a ∷ l) (last (a + 1) n ∙ ap (λ m. range_with_len (a + 1) n ++ m ∷ []) same)
-
 -- one item more
 pub item_added :
     {B : Type 0} (f : ℕ → B) (before after more : List B) (n : ℕ) →
@@ -122,7 +113,7 @@ item_added f before after more n known e =
     e ∙ ap (λ l. l ++ f n ∷ []) known
     ∙ append_assoc before (map f (range_with_len 0 n)) (f n ∷ [])
     ∙ ap (λ l. before ++ l)
-    (sym (ap (map f) (range_more 0 n ∙ ap (λ m. range_with_len 0 n ++ m ∷ []) start)
+    (sym (ap (map f) (range_last 0 n ∙ ap (λ m. range_with_len 0 n ++ m ∷ []) start)
     ∙ map-append f (range_with_len 0 n) (n ∷ [])))
 
 -- some items more
@@ -136,7 +127,7 @@ items_added f before after more n known e =
     e ∙ ap (λ l. l ++ f n) known
     ∙ append_assoc before done (f n)
     ∙ ap (λ l. before ++ l)
-    (sym (ap (flat_map f) (range_more 0 n ∙ ap (λ m. range_with_len 0 n ++ m ∷ []) start)
+    (sym (ap (flat_map f) (range_last 0 n ∙ ap (λ m. range_with_len 0 n ++ m ∷ []) start)
     ∙ flat_map-append f (range_with_len 0 n) (n ∷ [])
     ∙ ap (λ l. done ++ l) (append-nil (f n))))
 
@@ -147,6 +138,3 @@ front_taken xs ys zs e = ap (take (length xs)) e ∙ front xs ys
     front : {B : Type 0} (xs ys : List B) → take (length xs) (xs ++ ys) ≡ xs
     front [] ys = refl
     front (x ∷ xs) ys = ap (λ l. x ∷ l) (front xs ys)
-
-pub nothing_added : {B : Type 0} (xs : List B) → xs ≡ xs ++ []
-nothing_added xs = sym (append-nil xs)

@@ -1,50 +1,40 @@
 -- A variable that a call gives to an input of what it calls is copied as it is, and so is an output
 -- to its left variable: both have as many elements.
-use Rattle.std.proofs.Common.{◌≡◌, ◌&&◌, inl, inr, ℕ, ◌+◌, Bool, true, false, cond}
-use Rattle.std.proofs.Common.{Option, Some, None, option_map, List, [], ◌∷◌, ◌++◌, length, map}
-use Rattle.std.proofs.Common.{flat_map, refl, sym, ap, ap₂, ◌∙◌, subst, arith}
+use Rattle.std.proofs.Common.{◌≡◌, ◌&&◌, inl, inr, ℕ, ◌+◌, Bool, true, false, cond, Option, Some}
+use Rattle.std.proofs.Common.{None, option_map, List, [], ◌∷◌, ◌++◌, length, map, flat_map, refl}
+use Rattle.std.proofs.Common.{sym, ap, ap₂, ◌∙◌, subst}
 use Rattle.std.specs.Str.{bytes_eq}
 use Rattle.std.proofs.lemmas.List.{length-map}
 use Rattle.std.proofs.lemmas.Slice.Eq.{bytes_eq-Decides}
+use Rattle.std.proofs.lemmas.Option.{same_Some}
 use Rattle.lb_syntax.specs.Lists.{Every, In, all_some, either_or, listed}
 use Rattle.lb_syntax.specs.Tree.{Name, Static, Expr, Literal, Truth, Variable, Group}
 use Rattle.lb_syntax.specs.Tree.{Unary, Binary, If, Arrow, Fby, Pre, Current, When, Replicate}
 use Rattle.lb_syntax.specs.Tree.{Index, Slice, Join, Array, AtMostOne, Nor, Call, Iterate, Exprs}
 use Rattle.lb_syntax.specs.Tree.{Nil, Cons, Declaration, Node}
+use Rattle.lb_syntax.proofs.TruthValues.{and_first, and_second}
 use Rattle.lb_static.specs.DataTypes.{DataType, is_type, are_types, variables}
 use Rattle.lb_static.specs.DataTypes.{variable_type, width}
 use Rattle.lb_static.specs.Instances.{Program, Instance, Path, Child, name_value}
 use Rattle.lb_static.specs.StaticValues.{named}
-use Rattle.lb_check.specs.Clocks.{Clock, as_variable, declared_clock, given_inputs, given_outputs}
-use Rattle.lb_check.specs.Clocks.{ungrouped}
+use Rattle.lb_check.specs.Clocks.{Clock, as_variable, given_inputs, given_outputs, ungrouped}
 use Rattle.lb_check.specs.Occurrences.{call_count}
 use Rattle.lb_check.specs.Streams.{outputs_of}
 use Rattle.lb_check.specs.TypeRules.{type_of_name}
 use Rattle.lb_check.specs.Types.{data_types, all_types, singly, constant_type}
 use Rattle.lb_check.proofs.Every.{Every-first, Every-second}
 use Rattle.lb_check.proofs.GivenParameters.{found_in}
-use Rattle.lb_check.proofs.OperandTypes.{bound, some_same, first_of_all}
-use Rattle.lb_check.proofs.TruthValues.{and_first, and_second}
+use Rattle.lb_check.proofs.OperandTypes.{bound, first_of_all}
 use Rattle.lb_check.proofs.TypedCalls.{found_name}
-use Rattle.lb_flat.specs.Flat.{Copy, FlatEquation}
-use Rattle.lb_flat.specs.Layouts.{Layout, flat_clock}
-use Rattle.lb_flat.specs.Emit.{State, Target, joins, targets, copied, received, emit_name, emit}
-use Rattle.lb_flat.specs.Emit.{emit_each}
+use Rattle.lb_flat.specs.Flat.{FlatEquation}
+use Rattle.lb_flat.specs.Layouts.{Layout}
+use Rattle.lb_flat.specs.Emit.{State, joins, targets, copied, received, emit_name, emit, emit_each}
 use Rattle.lb_flat.proofs.CallCopies.{Within}
 use Rattle.lb_flat.proofs.OutputWidths.{each, width_of}
 use Rattle.lb_flat.proofs.TypeFacts.{same_count}
+use Rattle.lb_flat.proofs.ReceivedInputs.{copied_append}
 
 -- ## Copies of several variables
-
-copied_two :
-    (ts us : List Target) (is js : List ℕ) → length ts ≡ length is →
-    copied (ts ++ us) (is ++ js) ≡ copied ts is ++ copied us js
-copied_two [] us [] js e = refl
-copied_two [] us (i ∷ is) js e = absurd (omega (arith, e))
-copied_two (t ∷ ts) us [] js e = absurd (omega (arith, e))
-copied_two (t ∷ ts) us (i ∷ is) js e =
-    ap (λ qs. record { element = t.place; clock = t.clock; operation = Copy i } ∷ qs)
-    (copied_two ts us is js (omega (arith, e)))
 
 module _ (Y : Layout) (P : Program) (here : Instance) where
   -- ## What is found of a variable
@@ -55,7 +45,7 @@ module _ (Y : Layout) (P : Program) (here : Instance) where
       (emit Y P here k n s e).found ≡ Y.places here.path x
   unfolding emit
   emit_variable k n s (Variable z) x d e is =
-      let same = some_same z x e in
+      let same = same_Some z x e in
       ap (λ o. (emit_name Y P here k s z o).found)
       (ap (λ y. named (λ d. d.name) y (variables here.node)) same ∙ is)
       ∙ ap (Y.places here.path) (found_name x (variables here.node) d is)
@@ -111,7 +101,7 @@ module _ (Y : Layout) (P : Program) (here : Instance) where
       named (λ d. d.name) x (variables here.node) ≡ Some v →
       data_types P here e ≡ singly (variable_type P here v)
   variable_types (Variable z) x v e is =
-      let same = some_same z x e in
+      let same = same_Some z x e in
       ap (λ o. singly (either_or (option_map (variable_type P here) o)
       (constant_type (name_value P here z))))
       (ap (λ y. named (λ d. d.name) y (variables here.node)) same ∙ is)
@@ -120,7 +110,7 @@ module _ (Y : Layout) (P : Program) (here : Instance) where
 
   singled : (o : Option DataType) (t : DataType) → singly o ≡ Some (t ∷ []) → o ≡ Some t
   singled None t e = absurd cc
-  singled (Some u) t e = ap Some (heads_same u t [] [] (some_same (u ∷ []) (t ∷ []) e))
+  singled (Some u) t e = ap Some (heads_same u t [] [] (same_Some (u ∷ []) (t ∷ []) e))
     where
       heads_same : (a b : DataType) (xs ys : List DataType) → a ∷ xs ≡ b ∷ ys → a ≡ b
       heads_same a b xs ys e = cc
@@ -199,7 +189,7 @@ module _ (Y : Layout) (P : Program) (here : Instance) where
             cond b (Some (d.name, y)) (found_in (given_inputs ds es) x) ≡ Some g →
             IsArgument (d ∷ ds) x v g.1
         by_name y var true name e =
-            this y var ((bytes_eq-Decides d.name x).0 name) (some_same (d.name, y) g e)
+            this y var ((bytes_eq-Decides d.name x).0 name) (same_Some (d.name, y) g e)
         by_name y var false name e = further d ds x v g.1 (again e)
 
         by : (o : Option Name) → as_variable a ≡ o →
@@ -263,11 +253,6 @@ module _ (Y : Layout) (P : Program) (here : Instance) where
       copies = h.copies;
     }
 
-    -- the elements of a variable of an instance
-    abbrev pub AreWide : Instance → Type 0
-    AreWide i =
-        Every (λ d. length (Y.places i.path d.name) ≡ width P i d) (variables i.node)
-
     pub target_count : (n : Node) (p : Path) (x : Name) →
         length (targets Y n p x) ≡ length (Y.places p x)
     target_count n p x = length-map (Y.places p x) _
@@ -301,7 +286,7 @@ module _ (Y : Layout) (P : Program) (here : Instance) where
         by : (b : Bool) → bytes_eq d.name x ≡ b →
             cond b (Some (d.name, y)) (found_in (given_outputs ds xs) x) ≡ Some g →
             IsResult (d ∷ ds) x g.1
-        by true name e = this ((bytes_eq-Decides d.name x).0 name) (some_same (d.name, y) g e)
+        by true name e = this ((bytes_eq-Decides d.name x).0 name) (same_Some (d.name, y) g e)
         by false name e = further_result d ds x g.1 (again e)
 
     -- an output is copied to its left variable as it is
@@ -337,26 +322,10 @@ module _ (Y : Layout) (P : Program) (here : Instance) where
         let as_long : length ts ≡ length is =
         target_count here.node here.path y ∙ own v.value y v.is ∙ sym width_same ∙ sym wide.0 in
         let split : Within Y P cs (copied ts is ++ copied us js) =
-        subst (Within Y P cs) (copied_two ts us is js as_long) w in
+        subst (Within Y P cs) (copied_append ts us is js as_long) w in
         first_result d ds y xs v.value v.is width_same x g
         (Every-first (λ q. In q cs) (copied ts is) (copied us js) split)
         (λ later. result_copied ds xs h.rest i.rest wide.1 own h.others i.others
         (and_second (is_type h.first i.first) _ same) x g later
         (Every-second (λ q. In q cs) (copied ts is) (copied us js) split))
         found
-
-  -- the first element of what is copied is copied to the first element
-  pub head_copied :
-      (cs : List FlatEquation) (n : Node) (p : Path) (x : Name) (js : List ℕ) (a b : ℕ)
-      (others more : List ℕ) → Y.places p x ≡ a ∷ others → js ≡ b ∷ more →
-      Within Y P cs (copied (targets Y n p x) js) →
-      In (record {
-        element = a;
-        clock = flat_clock Y p (declared_clock n x);
-        operation = Copy b;
-      }) cs
-  head_copied cs n p x js a b others more e f w =
-      let target : ℕ → Target =
-      λ i. record { place = i; clock = flat_clock Y p (declared_clock n x) } in
-      let first = subst (λ is. Within Y P cs (copied (map target is) js)) e w in
-      (subst (λ ks. Within Y P cs (copied (map target (a ∷ others)) ks)) f first).0

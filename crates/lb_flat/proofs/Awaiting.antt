@@ -4,7 +4,7 @@ use Rattle.std.proofs.Common.{cond, Option, Some, None, List, [], ◌∷◌, len
 use Rattle.std.proofs.Common.{sym, ap, ◌∙◌, inl, inr, arith}
 use Rattle.std.specs.List.{list_all}
 use Rattle.std.specs.Option.{option_map, is_some}
-use Rattle.std.proofs.lemmas.Option.{slice_get-get_or}
+use Rattle.std.proofs.lemmas.Option.{slice_get-get_or, same_Some}
 use Rattle.lb_syntax.specs.Lists.{In}
 use Rattle.lb_flat.specs.declared.equation.ClockId.{ClockId}
 use Rattle.lb_flat.specs.declared.equation.Clock.{Clock}
@@ -14,7 +14,6 @@ use Rattle.lb_flat.specs.Ordering.{first_left}
 use Rattle.lb_flat.specs.Run.{clock_reads}
 use Rattle.lb_flat.specs.Values.{clock_within, clock_from}
 use Rattle.lb_flat.specs.Within.{IsClock, AreClocks}
-use Rattle.lb_flat.proofs.TypeFacts.{some_same}
 
 -- ## The first that is not done
 
@@ -46,7 +45,7 @@ module _ (done : List Bool) where
           In a (i ∷ is) × (is_done done a ≡ false)
       by true e h again = let r = again h in (inr r.0, r.1)
       by false e h again =
-          let same : i ≡ a = some_same i a h in (inl same, ap (is_done done) (sym same) ∙ e)
+          let same : i ≡ a = same_Some i a h in (inl same, ap (is_done done) (sym same) ∙ e)
 
 -- what is found has the number that is found
 pub found_none :
@@ -54,12 +53,6 @@ pub found_none :
     p ≡ None
 found_none None p e h = sym e
 found_none (Some a) p e h = absurd (cc)
-
-pub found_some :
-    (o : Option ElementId) (p : Option ℕ) → option_map (λ a. a.0) o ≡ p → is_some o ≡ true →
-    p ≡ None → ⊥
-found_some None p e h g = absurd (cc)
-found_some (Some a) p e h g = absurd (cc)
 
 -- ## The climb up a clock
 

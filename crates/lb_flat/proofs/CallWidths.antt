@@ -2,10 +2,12 @@
 -- as wide as the inputs that it is for.
 use Rattle.std.proofs.Common.{◌≡◌, ℕ, ◌+◌, ◌*◌, ◌<◌, ◌&&◌, Some, List, [], ◌∷◌, map, length, sym}
 use Rattle.std.proofs.Common.{ap, ap₂, ◌∙◌, subst, arith}
+use Rattle.std.proofs.lemmas.Option.{same_Some}
 use Rattle.lb_syntax.specs.declared.tree.ArrayIterator.{ArrayIterator}
 use Rattle.lb_syntax.specs.declared.tree.ArrayIterator.TheVariants.{Map, Red, Fill}
 use Rattle.lb_syntax.specs.Lists.{Every, all_some, where_true}
 use Rattle.lb_syntax.specs.Tree.{Name, Static, Node_named, Call, Iterate, Exprs, Declaration, Node}
+use Rattle.lb_syntax.proofs.TruthValues.{and_first, and_second}
 use Rattle.lb_static.specs.Instances.{Program, Instance, Path, Child, static_count, node_named}
 use Rattle.lb_static.specs.DataTypes.{DataType, width, variable_type, element_count, is_type}
 use Rattle.lb_static.specs.DataTypes.{are_types}
@@ -14,14 +16,14 @@ use Rattle.lb_check.specs.Occurrences.{call_clocks, occurrences_in, occurrences_
 use Rattle.lb_check.specs.Streams.{History, number}
 use Rattle.lb_check.specs.Types.{data_types, all_types, array_of, operator_types, iterator_types}
 use Rattle.lb_check.proofs.OccurrenceParts.{as_many_clocks}
+use Rattle.lb_check.proofs.OperandTypes.{truly}
 use Rattle.lb_flat.specs.Emit.{State, emit_all, emit_each}
 use Rattle.lb_flat.specs.Layouts.{Layout}
 use Rattle.lb_flat.proofs.FoundWidths.{all_as_many, each_as_many}
 use Rattle.lb_flat.proofs.OutputWidths.{each, width_of}
 use Rattle.lb_flat.proofs.PlacedCalls.{inputs_at}
 use Rattle.lb_flat.proofs.ReceivedInputs.{widths, AreFed, HasAccumulator}
-use Rattle.lb_flat.proofs.TypeFacts.{bound, truly, are_counts, same_count, array_count, and_first}
-use Rattle.lb_flat.proofs.TypeFacts.{and_second, some_same}
+use Rattle.lb_flat.proofs.TypeFacts.{bound, are_counts, same_count, array_count}
 use Rattle.lb_flat.proofs.TypedBodies.{arguments_wide}
 use Rattle.lb_flat.proofs.Widths.{called, placed, AreVariablesWide, IsCalleeWide, IsOccurrenceWide}
 use Rattle.lb_flat.proofs.Widths.{number_is, all_wide}
@@ -31,7 +33,7 @@ use Rattle.lb_flat.proofs.Widths.{number_is, all_wide}
 arrays_wide :
     (m : ℕ) (us ts : List DataType) → all_some (map (array_of m) us) ≡ Some ts →
     map element_count ts ≡ map (λ w. m * w) (map element_count us)
-arrays_wide m [] ts e = ap (map element_count) (sym (some_same _ _ e))
+arrays_wide m [] ts e = ap (map element_count) (sym (same_Some _ _ e))
 arrays_wide m (u ∷ us) ts e =
     let h = each (array_of m u) (map (array_of m) us) ts e in
     ap (map element_count) h.all
@@ -99,7 +101,7 @@ module _ (Y : Layout) (P : Program) (H : History) (here : Instance)
       (c : Instance) (p : Path) (ds : List Declaration) (us : List DataType) →
       Every (λ d. length (H.columns p d.name) ≡ width P c d) ds →
       all_some (map (variable_type P c) ds) ≡ Some us → widths Y p ds ≡ map element_count us
-  widths_are c p [] us w e = ap (map element_count) (some_same _ _ e)
+  widths_are c p [] us w e = ap (map element_count) (same_Some _ _ e)
   widths_are c p (d ∷ ds) us w e =
       let h = each (variable_type P c d) (map (variable_type P c) ds) us e in
       ap₂ (λ n ns. n ∷ ns) (same p d.name ∙ w.0 ∙ width_of P c d h.first h.is)
@@ -132,7 +134,7 @@ module _ (Y : Layout) (P : Program) (H : History) (here : Instance)
       let t = truly (are_types o.value.0 a.value) o.value.1 ts a.gives in
       let c = called P here f statics o.value o.is in
       let p = placed P here f statics c.callee c.is in
-      let one : c.callee.node ≡ callee = some_same _ _ (sym p.node ∙ named) in
+      let one : c.callee.node ≡ callee = same_Some _ _ (sym p.node ∙ named) in
       let ks = call_clocks k (node_named P f) es in
       let clocks = as_many_clocks P here k f statics es ts a.value o.value o.is t.holds in
       record {
@@ -175,7 +177,7 @@ module _ (Y : Layout) (P : Program) (H : History) (here : Instance)
       (number_is P H here m size.value size.is) ∙ a.gives in
       let c = called P here f statics o.value o.is in
       let p = placed P here f statics c.callee c.is in
-      let one : c.callee.node ≡ callee = some_same _ _ (sym p.node ∙ named) in
+      let one : c.callee.node ≡ callee = same_Some _ _ (sym p.node ∙ named) in
       let widths_found = all_as_many Y P H here same k (n + 1) s es
       ∙ all_wide P H here variables_wide k (n + 1) es a.value a.is parts in
       let by_types = fed_by_types it (number P here m) o.value.0 o.value.1 a.value ts types in

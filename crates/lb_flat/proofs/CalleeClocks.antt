@@ -7,10 +7,11 @@ use Rattle.lb_syntax.specs.Lists.{◌>>=◌, Every, In, either_or, listed}
 use Rattle.lb_syntax.specs.declared.tree.ArrayIterator.{ArrayIterator}
 use Rattle.lb_syntax.specs.Tree.{Name, Static, Node_named, Symbol, Expr, Call, Iterate, Exprs}
 use Rattle.lb_syntax.specs.Tree.{Declaration, Node, Statement, Equation, Assertion}
+use Rattle.lb_syntax.proofs.ListPlaces.{all_in}
+use Rattle.lb_syntax.proofs.TruthValues.{and_first, and_second}
 use Rattle.lb_static.specs.Instances.{Program, Instance, Child, Site, call_site, node_named}
 use Rattle.lb_static.specs.Instances.{instances}
 use Rattle.lb_static.specs.Instantiation.{static_refusal}
-use Rattle.lb_static.proofs.Members.{all_in}
 use Rattle.lb_check.specs.Acceptance.{check_refusal}
 use Rattle.lb_check.specs.ClockRules.{is_clock, are_clocks, are_declared_clocks}
 use Rattle.lb_check.specs.ClockRules.{are_given_variables, is_call_clocked, is_base_clocked_node}
@@ -33,7 +34,6 @@ use Rattle.lb_check.proofs.GivenParameters.{over_parameters, on_base, input_give
 use Rattle.lb_check.proofs.GivenParameters.{parameter_given, over_served, called_runs, called_clock}
 use Rattle.lb_check.proofs.InstancePaths.{at_path}
 use Rattle.lb_check.proofs.NamedClocks.{IsOver}
-use Rattle.lb_check.proofs.TruthValues.{and_first, and_second}
 use Rattle.lb_flat.specs.Layouts.{Layout, flat_clock}
 use Rattle.lb_flat.specs.NumberedLayouts.{numbered_clock, layout}
 use Rattle.lb_flat.proofs.NumberedPlaces.{flat_is}

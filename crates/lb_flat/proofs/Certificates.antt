@@ -1,13 +1,13 @@
 -- A cycle of reads is a certificate where reading is needing, and a certificate is a cycle.
 use Rattle.std.proofs.Common.{◌≡◌, ℕ, ◌<◌, Some, List, [], ◌∷◌, sym, subst, ◌∙◌}
 use Rattle.std.specs.Prelude.{slice_get}
+use Rattle.std.proofs.lemmas.Option.{same_Some}
 use Rattle.lb_syntax.specs.Lists.{Every}
 use Rattle.lb_static.specs.Instances.{Program}
 use Rattle.lb_check.specs.Elements.{program_elements}
 use Rattle.lb_check.specs.Needs.{Element, Reaches, at_once, through, IsCyclic}
 use Rattle.lb_flat.specs.Judging.{FlatProgram}
 use Rattle.lb_flat.specs.Reading.{Leads, AreLinked, IsReadCycle, NeedsAt, IsCertificate}
-use Rattle.lb_flat.proofs.TypeFacts.{some_same}
 
 -- numbers that are linked by one relation are by another that follows below a number
 linked_by :
@@ -51,7 +51,7 @@ reach_once P i j h = record {
 
 reach_through : (P : Program) (i j k : ℕ) → NeedsAt P i j → ReachesAt P j k → ReachesAt P i k
 reach_through P i j k h g =
-    let same : g.one ≡ h.other = some_same g.one h.other (sym g.is_one ∙ h.is_other) in
+    let same : g.one ≡ h.other = same_Some g.one h.other (sym g.is_one ∙ h.is_other) in
     record {
       one = h.one;
       other = g.other;
@@ -72,5 +72,5 @@ pub cyclic_of : (P : Program) (is : List ℕ) → IsCertificate P is → IsCycli
 cyclic_of P [] h = absurd h
 cyclic_of P (i ∷ is) h =
     let r = linked_reach P i i is h in
-    let same : r.other ≡ r.one = some_same r.other r.one (sym r.is_other ∙ r.is_one) in
+    let same : r.other ≡ r.one = same_Some r.other r.one (sym r.is_other ∙ r.is_one) in
     (r.one, subst (λ y. Reaches P y r.one) same r.reaches)

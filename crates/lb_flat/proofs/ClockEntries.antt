@@ -3,11 +3,12 @@ use Rattle.std.proofs.Common.{◌≡◌, ◌⊎◌, inl, inr, ℕ, zero, suc, �
 use Rattle.std.proofs.Common.{false, Option, Some, None, List, [], ◌∷◌, length, get_or, refl}
 use Rattle.std.proofs.Common.{ap, sym, ◌∙◌, subst, arith}
 use Rattle.std.specs.Prelude.{nat_lt, slice_get}
-use Rattle.std.proofs.lemmas.Bool.Decides.{nat_tests}
 use Rattle.std.proofs.lemmas.List.{length-map, take_all}
-use Rattle.std.proofs.lemmas.Option.{get_or_from_slice_get, slice_get_within}
+use Rattle.std.proofs.lemmas.Option.{get_or_from_slice_get, slice_get_within, same_Some}
+use Rattle.std.proofs.lemmas.Bool.{ltb-true, ltb-false}
 use Rattle.lb_syntax.specs.Lists.{Every, In}
 use Rattle.lb_syntax.specs.Tree.{Name, Declaration}
+use Rattle.lb_syntax.proofs.ListPlaces.{item_at}
 use Rattle.lb_static.specs.DataTypes.{variables}
 use Rattle.lb_static.specs.Elaborated.{elaborated_program}
 use Rattle.lb_static.specs.Instances.{Program, Instance, Path, Root, Observer, Child, instance_at}
@@ -26,8 +27,6 @@ use Rattle.lb_check.specs.declared.checked.Checking.{Checking}
 use Rattle.lb_check.proofs.AcceptedNumbers.{numbers_below}
 use Rattle.lb_check.proofs.DeclaredClocks.{IsOwn, declared_own}
 use Rattle.lb_check.proofs.InstancePaths.{at_path, path_is}
-use Rattle.lb_check.proofs.NodePlaces.{held}
-use Rattle.lb_check.proofs.OperandTypes.{some_same}
 use Rattle.lb_flat.specs.ClockPlaces.{path_place, path_runs, path_before}
 use Rattle.lb_flat.specs.ClockTables.{sign_place, clock_place, IsClockTable}
 use Rattle.lb_flat.specs.Rows.{count_at, element_total}
@@ -61,7 +60,7 @@ module _ (P : Program) (accepted : static_refusal P ≡ None) (checked : check_r
       let z = is.rows here on x h.1 sign in
       let low = slice_get_within clocks (place here.path x + sign_place sign) z.row z.stands in
       λ n e. subst (λ (i : ClockId). i.0 < length clocks)
-      (some_same (record { 0 = place here.path x + sign_place sign }) n e) low
+      (same_Some (record { 0 = place here.path x + sign_place sign }) n e) low
 
   base_within : IsClock clocks None
   base_within n e = absurd cc
@@ -87,7 +86,7 @@ module _ (P : Program) (accepted : static_refusal P ≡ None) (checked : check_r
   first_below : (n : ℕ) (xs : List ℕ) (i : ℕ) → Every (λ j. j < n) xs → slice_get xs 0 ≡ Some i →
       i < n
   first_below n [] i h e = absurd cc
-  first_below n (x ∷ xs) i h e = subst (λ j. j < n) (some_same x i e) h.0
+  first_below n (x ∷ xs) i h e = subst (λ j. j < n) (same_Some x i e) h.0
 
   -- each entry of the table is in range
   pub entry_within :
@@ -97,7 +96,7 @@ module _ (P : Program) (accepted : static_refusal P ≡ None) (checked : check_r
       IsTableClock (length (program_elements P)) clocks c
   entry_within here on at x on_x sign c stands =
       let z = is.rows here on x on_x sign in
-      let same = some_same z.row c (sym z.stands ∙ stands) in
+      let same = same_Some z.row c (sym z.stands ∙ stands) in
       let signs = sym (ap (λ (ns : List ℕ). slice_get ns 0) (signs_are P here on x)) ∙ z.serves in
       subst (IsTableClock (length (program_elements P)) clocks) same
       (record {
@@ -123,12 +122,6 @@ halved (suc (suc m)) = by (halved m)
     by (v, inl e) = (v + 1, inl (omega (arith, e)))
     by (v, inr e) = (v + 1, inr (omega (arith, e)))
 
-before_test : (i n : ℕ) → nat_lt i n ≡ true → i < n
-before_test i n e = grind (arith, nat_tests)
-
-after_test : (i n : ℕ) → nat_lt i n ≡ false → n ≤ i
-after_test i n e = grind (arith, nat_tests)
-
 module _ (vars : List ℕ) (first : get_or vars 0 0 ≡ 0) where
   -- a variable of all is one of a row
   record IsOf (n v : ℕ) : Type 0 where
@@ -150,12 +143,12 @@ module _ (vars : List ℕ) (first : get_or vars 0 0 ≡ 0) where
       by : (b : Bool) → nat_lt v (get_or vars n 0) ≡ b → (v < get_or vars n 0 → IsOf n v) →
           IsOf (suc n) v
       by true e again =
-          let low = before_test v (get_or vars n 0) e in
+          let low = ltb-true v (get_or vars n 0) e in
           let o = again low in
           let below = o.row in
           record { k = o.k; x = o.x; row = omega (arith, below); is = o.is; low = o.low }
       by false e again =
-          let high = after_test v (get_or vars n 0) e in
+          let high = ltb-false v (get_or vars n 0) e in
           let more = next n (omega arith) in
           let same : get_or vars (n + 1) 0 ≡ get_or vars (suc n) 0 =
           let one : n + 1 ≡ suc n = omega arith in ap (λ m. get_or vars m 0) one in
@@ -206,7 +199,7 @@ module _ (c : Checking) (lawful : IsChecked c) (l : Layout)
   at_variable v sign lt e stands =
       let o = row_of_variable l.variables.items own_counted.first
       (length c.elab.table.instances.items) own_counted.next v lt in
-      let i = held c.elab.table.instances.items o.k o.row in
+      let i = item_at c.elab.table.instances.items o.k o.row in
       let s = row_shown P c.elab.reached c.elab.table lawful.elaborated.table o.k i.0 i.1 in
       of o.k o.x i.0 s.0 s.1 o.is o.low
     where
@@ -221,7 +214,7 @@ module _ (c : Checking) (lawful : IsChecked c) (l : Layout)
           lawful.elaborated.table lawful.elaborated.accepted l.variables.items laid.variables k i
           here is in
           let names = length-map (variables here.node) (λ (d : Declaration). d.name) in
-          let y = held (variable_names here.node) x (omega (arith, many, names, low)) in
+          let y = item_at (variable_names here.node) x (omega (arith, many, names, low)) in
           let row_is = row_number_is P c.elab.reached c.elab.table lawful.elaborated.table k i here
           is in
           let distinct = apart P c.elab.reached c.elab.table lawful.elaborated.reached
@@ -250,7 +243,7 @@ module _ (c : Checking) (lawful : IsChecked c) (l : Layout)
   pub filled_within : AreClocks l.count (all_clocks (sources_of c l))
   filled_within m d lt =
       let h = halved m in
-      let e = held C m lt in
+      let e = item_at C m lt in
       let size : length (program_elements P) ≡ l.count =
       sym (laid.count ∙ element_total_is P c.elab.reached c.elab.table lawful.elaborated.reached
       lawful.elaborated.table) in

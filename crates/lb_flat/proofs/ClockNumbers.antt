@@ -2,6 +2,7 @@
 use Rattle.std.proofs.Common.{◌≡◌, inl, inr, ℕ, Bool, Some, None, List, [], ◌∷◌, refl, ap, sym, ◌∙◌}
 use Rattle.std.proofs.Common.{subst}
 use Rattle.std.specs.Prelude.{slice_get}
+use Rattle.std.proofs.lemmas.Option.{same_Some}
 use Rattle.lb_syntax.specs.Lists.{Every, In}
 use Rattle.lb_syntax.specs.Tree.{Name}
 use Rattle.lb_static.specs.Instances.{Program, Instance, Path, instances}
@@ -15,7 +16,6 @@ use Rattle.lb_check.proofs.AcceptedNumbers.{number_of}
 use Rattle.lb_check.proofs.InstancePaths.{at_path}
 use Rattle.lb_check.proofs.NamedClocks.{IsOver}
 use Rattle.lb_check.proofs.OccurrenceClocks.{IsVariable}
-use Rattle.lb_check.proofs.OperandTypes.{some_same}
 use Rattle.lb_check.proofs.ServedNumbers.{IsNumbered, whole_numbered, runs_numbered}
 use Rattle.lb_flat.specs.Flat.{FlatClock}
 use Rattle.lb_flat.specs.Layouts.{flat_clock, where_signed}
@@ -76,7 +76,7 @@ module _ (P : Program) (accepted : static_refusal P ≡ None) where
       (record { path = p; variable = x; index = 0 } ∷ xs)
   first_read k sign [] p x xs i e is h = absurd cc
   first_read k sign (j ∷ js) p x xs i e is h =
-      (ap (slice_get (program_elements P)) (some_same j i e) ∙ is, h)
+      (ap (slice_get (program_elements P)) (same_Some j i e) ∙ is, h)
 
   -- the numbers that a clock of the whole program reads
   pub numbered_reads :

@@ -3,6 +3,7 @@ use Rattle.std.proofs.Common.{◌≡◌, ℕ, zero, suc, ◌+◌, ◌*◌, ◌�
 use Rattle.std.proofs.Common.{Option, Some, None, List, [], ◌∷◌, length, refl, ap, ap₂, sym, ◌∙◌}
 use Rattle.std.proofs.Common.{subst, arith}
 use Rattle.std.specs.Prelude.{slice_get}
+use Rattle.std.proofs.lemmas.Option.{same_Some}
 use Rattle.lb_syntax.specs.Lists.{◌>>=◌, Every, In, either_or}
 use Rattle.lb_syntax.specs.Tree.{Name, Expr, Call, Node}
 use Rattle.lb_static.specs.Instances.{Program, Instance, Path, Root, Observer, Child, instance_at}
@@ -21,7 +22,6 @@ use Rattle.lb_check.proofs.DeclaredClocks.{IsOwn, declared_own, own_deep, base_o
 use Rattle.lb_check.proofs.GivenParameters.{called_runs}
 use Rattle.lb_check.proofs.InstancePaths.{called, path_is, at_path, in_instances}
 use Rattle.lb_check.proofs.OccurrenceSites.{call_of_site}
-use Rattle.lb_check.proofs.OperandTypes.{some_same}
 use Rattle.lb_check.proofs.SiteOccurrences.{site_occurs}
 use Rattle.lb_flat.specs.declared.equation.Clock as table
 use Rattle.lb_flat.specs.declared.equation.ClockId.{ClockId}
@@ -73,7 +73,7 @@ first_signed :
     (k : FlatClock) (sign : Bool) (is : List ℕ) (i : ℕ) → slice_get is 0 ≡ Some i →
     where_signed k sign is ≡ Where k i sign
 first_signed k sign [] i e = absurd cc
-first_signed k sign (j ∷ js) i e = ap (λ n. Where k n sign) (some_same j i e)
+first_signed k sign (j ∷ js) i e = ap (λ n. Where k n sign) (same_Some j i e)
 
 module _ (P : Program) where
   numbered_deep : (w : WholeClock) → flat_depth (numbered_clock P w) ≤ whole_depth w

@@ -96,7 +96,7 @@ length-numbered :
 length-numbered n k [] = refl
 length-numbered n k (o ∷ os) = ap suc (length-numbered (suc n) k os)
 
-after_is : (n : ℕ) (os : List Operation) → after n os ≡ n + length os
+pub after_is : (n : ℕ) (os : List Operation) → after n os ≡ n + length os
 after_is n [] = omega arith
 after_is n (o ∷ os) = omega (arith, after_is (suc n) os)
 

@@ -6,11 +6,11 @@ use Rattle.lb_check.specs.Scalars.{Scalar, Stream}
 use Rattle.lb_check.specs.Streams.{held, choice, previous, first_then, latest, newest, first_cell}
 use Rattle.lb_check.specs.Solutions.{Inputs}
 use Rattle.lb_syntax.specs.Lists.{tail_of}
+use Rattle.lb_check.proofs.LongStreams.{length-both}
 use Rattle.lb_flat.specs.Flat.{FlatClock, Always, Where, Operation, Input, Constant, Copy}
 use Rattle.lb_flat.specs.Flat.{ApplyUnary, ApplyBinary, Choose, FirstThen, Previous, Latest, Sample}
 use Rattle.lb_flat.specs.Flat.{column, instants, operate, AreLong}
 use Rattle.lb_flat.specs.Run.{chosen_cell}
-use Rattle.lb_flat.proofs.Lists.{length-zips}
 
 -- ## One instant of `choice` and `latest`
 
@@ -79,7 +79,7 @@ module _ (X : Inputs) where
     pub instants_long : (k : FlatClock) → length (instants X F k) ≡ length X
     instants_long Always = length-replicate (length X) true
     instants_long (Where k i sign) =
-        length-zips _ (length X) _ _ (instants_long k) (column_long F long i)
+        length-both _ (length X) _ _ (instants_long k) (column_long F long i)
 
     pub operate_long : (k : FlatClock) (o : Operation) → length (operate X F k o) ≡ length X
     operate_long k (Input j) = length-map X _
@@ -87,7 +87,7 @@ module _ (X : Inputs) where
     operate_long k (Copy a) = column_long F long a
     operate_long k (ApplyUnary op a) = length-map (column X F a) _ ∙ column_long F long a
     operate_long k (ApplyBinary op a b) =
-        length-zips _ _ _ _ (column_long F long a) (column_long F long b)
+        length-both _ _ _ _ (column_long F long a) (column_long F long b)
     operate_long k (Choose c a b) =
         length-choice _ _ _ _ (column_long F long c) (column_long F long a) (column_long F long b)
     operate_long k (FirstThen true a b) = column_long F long b
@@ -98,4 +98,4 @@ module _ (X : Inputs) where
     operate_long k (Latest v a) =
         length-latest _ v _ _ (instants_long k) (column_long F long a)
     operate_long k (Sample a) =
-        length-zips _ _ _ _ (instants_long k) (column_long F long a)
+        length-both _ _ _ _ (instants_long k) (column_long F long a)

@@ -4,7 +4,9 @@ use Rattle.std.proofs.Common.{◌≡◌, ◌⊎◌, inl, inr, ℕ, ◌+◌, true
 use Rattle.std.proofs.Common.{Some, None, List, [], ◌∷◌, ◌++◌, map, length, flat_map, zip, refl}
 use Rattle.std.proofs.Common.{sym, ap, ◌∙◌, subst, arith}
 use Rattle.std.specs.List.{list_all}
-use Rattle.std.proofs.lemmas.List.{append-nil, length-map}
+use Rattle.std.proofs.lemmas.List.{append-nil, length-map, append_assoc}
+use Rattle.std.proofs.lemmas.Option.{same_Some}
+use Rattle.std.proofs.lemmas.Grind.{flat_map-append}
 use Rattle.lb_syntax.specs.declared.tree.ArrayIterator.{ArrayIterator}
 use Rattle.lb_syntax.specs.declared.tree.ArrayIterator.TheVariants.{Map, Red, Fill}
 use Rattle.lb_syntax.specs.Lists.{Every, In, all_some, where_true}
@@ -12,10 +14,12 @@ use Rattle.lb_syntax.specs.Tree.{Name, Node_named, Symbol, Expr, Literal, Truth,
 use Rattle.lb_syntax.specs.Tree.{Group, Unary, Binary, If, Arrow, Fby, Pre, Current, When}
 use Rattle.lb_syntax.specs.Tree.{Replicate, Index, Slice, Join, Array, AtMostOne, Nor, Call}
 use Rattle.lb_syntax.specs.Tree.{Iterate, Statement, Equation, Assertion}
+use Rattle.lb_syntax.proofs.TruthValues.{and_first, and_second}
 use Rattle.lb_static.specs.Instances.{Program, Instance, Path, Child, static_count}
 use Rattle.lb_static.specs.Instances.{node_named}
 use Rattle.lb_static.specs.DataTypes.{DataType, are_types}
 use Rattle.lb_static.specs.Instantiation.{are_same}
+use Rattle.lb_static.proofs.Options.{length-all_some}
 use Rattle.lb_check.specs.Types.{data_types, unary_type, binary_type, common_type, array_of}
 use Rattle.lb_check.specs.Types.{index_type, slice_type, join_type, list_type, iterator_types}
 use Rattle.lb_check.specs.Types.{all_types, name_data_type, singly, from_one, from_truths}
@@ -29,6 +33,7 @@ use Rattle.lb_check.specs.Occurrences.{Occurrence, at, call_count, call_clocks, 
 use Rattle.lb_check.specs.Occurrences.{statement_clock, right_sides, statements, node_occurrences}
 use Rattle.lb_check.specs.Streams.{History, number, outputs_of, iterated}
 use Rattle.lb_check.proofs.ApartLists.{in_first, in_second, in_either}
+use Rattle.lb_check.proofs.OperandTypes.{truly}
 use Rattle.lb_flat.specs.Flat.{FlatClock, Always, FlatEquation}
 use Rattle.lb_flat.specs.Layouts.{Layout, flat_clock}
 use Rattle.lb_flat.specs.Emit.{State, Target, targets, copied, joins, assert, call_copies}
@@ -37,16 +42,15 @@ use Rattle.lb_flat.specs.Emit.{emit_instances}
 use Rattle.lb_flat.proofs.Lists.{Every-append, Every-first, Every-second}
 use Rattle.lb_flat.proofs.Bodies.{assert_equations, assert_copies, occurrences_of}
 use Rattle.lb_flat.proofs.Emission.{joins_equations, joins_copies}
-use Rattle.lb_flat.proofs.PlacedCalls.{length-all, lengths_same}
-use Rattle.lb_flat.proofs.TypeFacts.{bound, one, two, from_true, alone, truly, some_same}
-use Rattle.lb_flat.proofs.TypeFacts.{are_counts, and_first, and_second, constant, symbolic}
+use Rattle.lb_flat.proofs.PlacedCalls.{lengths_same}
+use Rattle.lb_flat.proofs.TypeFacts.{bound, one, two, from_true, alone, are_counts, constant}
+use Rattle.lb_flat.proofs.TypeFacts.{symbolic}
 use Rattle.lb_flat.proofs.Widths.{called, placed, AreVariablesWide}
 use Rattle.lb_flat.proofs.LinkSymbols.{iterated_pairs, joins_found, red_out}
 use Rattle.lb_flat.proofs.LinkWords.{Pairs, pairs-append, AllMeet, AreLinks, Link, variable_links}
 use Rattle.lb_flat.proofs.LinkTerms.{AreNumbered, IsKnown, outputs_numbered, each_output, linked}
 use Rattle.lb_flat.proofs.CopiedDefinitions.{AreMatched, matched-none, matched-append}
-use Rattle.lb_flat.proofs.CopiedDefinitions.{matched-moved, matched-pairs, pieces-append}
-use Rattle.lb_flat.proofs.CopiedDefinitions.{IsDefinedBy}
+use Rattle.lb_flat.proofs.CopiedDefinitions.{matched-moved, matched-pairs, IsDefinedBy}
 use Rattle.lb_flat.proofs.CopiedCalls.{IsPassed, ArePassed, called_by, Defines, calls_defined}
 
 -- ## Expressions with several results
@@ -72,7 +76,7 @@ too_many :
     all_some (map (type_of_name P here) (x ∷ (y ∷ lefts))) ≡ Some left →
     are_types right left ≡ true → length right ≡ 1 → ⊥
 too_many P here x y lefts right left e like one =
-    let count = length-all (map (type_of_name P here) (x ∷ (y ∷ lefts))) left e in
+    let count = length-all_some (map (type_of_name P here) (x ∷ (y ∷ lefts))) left e in
     let names = length-map (x ∷ (y ∷ lefts)) (type_of_name P here) in
     let many = lengths_same right left (are_counts right left like) in
     absurd (omega (arith, count, names, many, one))
@@ -84,7 +88,7 @@ symbol_single n Map ins outs args ts one e =
     let w = bound (all_some (map (array_of n) ins)) _ ts e in
     let b = bound (where_true (are_types w.value args) outs) _ ts w.gives in
     let h = truly (are_types w.value args) outs b.value b.is in
-    length-all (map (array_of n) b.value) ts b.gives
+    length-all_some (map (array_of n) b.value) ts b.gives
     ∙ (length-map b.value (array_of n) ∙ (ap length (sym h.same) ∙ one))
 symbol_single n Red ins outs args ts one e = ap length (red_out n ins outs args ts e) ∙ one
 symbol_single n Fill [] outs args ts one e = absurd cc
@@ -98,7 +102,7 @@ one_or_call :
     (P : Program) (here : Instance) (e : Expr) (ts : List DataType) →
     data_types P here e ≡ Some ts → (is_site (ungrouped e) ≡ true) ⊎ (length ts ≡ 1)
 one_or_call P here (Literal m) ts e = inr (ap length (constant (Some (pos m)) ts e).all)
-one_or_call P here (Truth b) ts e = inr (ap length (sym (some_same _ _ e)))
+one_or_call P here (Truth b) ts e = inr (ap length (sym (same_Some _ _ e)))
 one_or_call P here (Variable x) ts e =
     let i = alone (name_data_type P here x) ts e in inr (ap length i.all)
 one_or_call P here (Group a) ts e = one_or_call P here a ts e
@@ -419,10 +423,6 @@ module _ (Y : Layout) (P : Program) (H : History)
         back : (d : Definition) → In d ((qs ++ es) ++ (cs ++ ds)) → In d (cs ++ (qs ++ (es ++ ds)))
         back d i = to_all d (in_either d (qs ++ es) (cs ++ ds) i)
 
-    assoc : (as' bs cs : List FlatEquation) → (as' ++ bs) ++ cs ≡ as' ++ (bs ++ cs)
-    assoc [] bs cs = refl
-    assoc (a ∷ as') bs cs = ap (λ qs. a ∷ qs) (assoc as' bs cs)
-
     -- one statement before the others
     joined_body :
         (s t u v : State) (os os' : List Occurrence) (qs : List FlatEquation)
@@ -436,9 +436,10 @@ module _ (Y : Layout) (P : Program) (H : History)
       new = a.new ++ (qs ++ r.new);
       copies = r.copies
           ∙ (ap (λ cs. cs ++ r.new) (e ∙ ap (λ cs. cs ++ qs) a.copies)
-          ∙ (assoc (s.copies ++ a.new) qs r.new ∙ assoc s.copies a.new (qs ++ r.new)));
+          ∙ (append_assoc (s.copies ++ a.new) qs r.new
+          ∙ append_assoc s.copies a.new (qs ++ r.new)));
       matched = subst (λ cs. AreMatched Defined (a.new ++ (qs ++ r.new)) ((own ++ es) ++ cs))
-          (sym (pieces-append (λ o. call_definitions P here o.calls_before o.expr) os os'))
+          (sym (flat_map-append (λ o. call_definitions P here o.calls_before o.expr) os os'))
           (shuffled (calls_of os) own es (calls_of os') (a.new ++ (qs ++ r.new))
           (matched-append Defined a.new (qs ++ r.new) (calls_of os)
           (own ++ (es ++ calls_of os')) a.matched
@@ -544,7 +545,7 @@ module _ (Y : Layout) (P : Program) (H : History)
         new = a.new ++ r.new;
         copies = r.copies
             ∙ (ap (λ cs. cs ++ r.new) a.copies
-            ∙ assoc here h.0.wide h.0.numbered s.copies a.new r.new);
+            ∙ append_assoc s.copies a.new r.new);
         matched = matched-append Defined a.new r.new (made_by here) (flat_map made_by rest)
             a.matched r.matched;
       }

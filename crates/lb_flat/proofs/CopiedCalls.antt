@@ -3,7 +3,8 @@
 use Rattle.std.proofs.Common.{◌≡◌, ℕ, zero, suc, ◌+◌, ◌<◌, ◌≤◌, false, Option, Some, None, List, []}
 use Rattle.std.proofs.Common.{◌∷◌, ◌++◌, map, length, flat_map, refl, sym, ap, ◌∙◌, subst, arith}
 use Rattle.std.specs.List.{range_with_len}
-use Rattle.std.proofs.lemmas.List.{append-nil}
+use Rattle.std.proofs.lemmas.List.{append-nil, append_assoc}
+use Rattle.std.proofs.lemmas.Grind.{flat_map-append}
 use Rattle.lb_syntax.specs.declared.tree.ArrayIterator.{ArrayIterator}
 use Rattle.lb_syntax.specs.Lists.{Every, zip2, joined, listed}
 use Rattle.lb_syntax.specs.Tree.{Name, Static, Node_named, Symbol, Expr, Literal, Truth, Variable}
@@ -48,9 +49,9 @@ use Rattle.lb_flat.proofs.LinkWords.{nor_gives, at_most_one_gives}
 use Rattle.lb_flat.proofs.LinkTerms.{AreNumbered, IsKnown, outputs_numbered, linked, all_linked}
 use Rattle.lb_flat.proofs.LinkTerms.{each_before}
 use Rattle.lb_flat.proofs.CopiedDefinitions.{AreMatched, matched-none, matched-append}
-use Rattle.lb_flat.proofs.CopiedDefinitions.{matched-crossed, matched-pairs, pieces-append}
-use Rattle.lb_flat.proofs.CopiedDefinitions.{IsDefinedBy, AreDeclared, AreFed, received_paired}
-use Rattle.lb_flat.proofs.CopiedDefinitions.{fed_of, inputs_linked}
+use Rattle.lb_flat.proofs.CopiedDefinitions.{matched-crossed, matched-pairs, IsDefinedBy}
+use Rattle.lb_flat.proofs.CopiedDefinitions.{AreDeclared, AreFed, received_paired, fed_of}
+use Rattle.lb_flat.proofs.CopiedDefinitions.{inputs_linked}
 
 -- item by item over numbers in order
 range_pairs :
@@ -129,18 +130,14 @@ module _ (Y : Layout) (P : Program) (H : History)
   defines_after s t u ds a e =
       record { new = a.new; copies = e ∙ a.copies; matched = a.matched }
 
-  assoc : (qs rs ts : List FlatEquation) → (qs ++ rs) ++ ts ≡ qs ++ (rs ++ ts)
-  assoc [] rs ts = refl
-  assoc (q ∷ qs) rs ts = ap (λ us. q ∷ us) (assoc qs rs ts)
-
   defines_two :
       (s t u : State) (os os' : List Occurrence) → Defines s t (called_by os) →
       Defines t u (called_by os') → Defines s u (called_by (os ++ os'))
   defines_two s t u os os' a b = record {
     new = a.new ++ b.new;
-    copies = b.copies ∙ (ap (λ qs. qs ++ b.new) a.copies ∙ assoc s.copies a.new b.new);
+    copies = b.copies ∙ (ap (λ qs. qs ++ b.new) a.copies ∙ append_assoc s.copies a.new b.new);
     matched = subst (AreMatched Defined (a.new ++ b.new))
-        (sym (pieces-append (λ o. call_definitions P here o.calls_before o.expr) os os'))
+        (sym (flat_map-append (λ o. call_definitions P here o.calls_before o.expr) os os'))
         (matched-append Defined a.new b.new (called_by os) (called_by os') a.matched b.matched);
   }
 
@@ -150,7 +147,7 @@ module _ (Y : Layout) (P : Program) (H : History)
       u.copies ≡ t.copies ++ qs → AreMatched Defined qs own → Defines s u (own ++ ds)
   defines_call s t u qs own ds a e m = record {
     new = a.new ++ qs;
-    copies = e ∙ (ap (λ rs. rs ++ qs) a.copies ∙ assoc s.copies a.new qs);
+    copies = e ∙ (ap (λ rs. rs ++ qs) a.copies ∙ append_assoc s.copies a.new qs);
     matched = matched-crossed Defined a.new qs ds own a.matched m;
   }
 

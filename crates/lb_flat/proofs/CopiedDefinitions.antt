@@ -105,12 +105,6 @@ again : {B : Type 0} (us vs ws : List B) → us ++ (vs ++ ws) ≡ (us ++ vs) ++ 
 again [] vs ws = refl
 again (u ∷ us) vs ws = ap (λ zs. u ∷ zs) (again us vs ws)
 
-pub pieces-append : {A B : Type 0} (f : A → List B) (xs ys : List A) →
-    flat_map f (xs ++ ys) ≡ flat_map f xs ++ flat_map f ys
-pieces-append f [] ys = refl
-pieces-append f (x ∷ xs) ys =
-    ap (λ zs. f x ++ zs) (pieces-append f xs ys) ∙ again (f x) (flat_map f xs) (flat_map f ys)
-
 module _ (Y : Layout) (P : Program) (H : History)
     (same : (p : Path) (x : Name) → length (Y.places p x) ≡ length (H.columns p x))
     (IsAt : Element → ℕ → Type 0) (Under : ℕ → ℕ → Type 0) (Left : ℕ → Type 0) where

@@ -1,14 +1,10 @@
 -- The equations of an expansion give elements of the program: copies those of variables, and the
 -- further ones those after them.
-use Rattle.std.proofs.Common.{◌≡◌, ℕ, suc, ◌+◌, ◌<◌, ◌≤◌, false, Option, Some, None, List, [], ◌∷◌}
-use Rattle.std.proofs.Common.{◌++◌, map, length, flat_map, refl, sym, ◌∙◌, subst, arith}
+use Rattle.std.proofs.Common.{◌≡◌, ℕ, suc, ◌+◌, ◌<◌, ◌≤◌, Option, Some, None, List, [], ◌∷◌, ◌++◌}
+use Rattle.std.proofs.Common.{map, length, flat_map, refl, sym, subst, arith}
 use Rattle.std.specs.List.{range_with_len}
-use Rattle.lb_syntax.specs.declared.tree.UnaryOperator.TheVariants.{Not}
-use Rattle.lb_syntax.specs.declared.tree.BinaryOperator.{BinaryOperator}
-use Rattle.lb_syntax.specs.declared.tree.BinaryOperator.TheVariants.{Or, And}
 use Rattle.lb_syntax.specs.declared.tree.ArrayIterator.{ArrayIterator}
-use Rattle.lb_syntax.specs.declared.tree.ArrayIterator.TheVariants.{Map, Red}
-use Rattle.lb_syntax.specs.Lists.{Every, zip2}
+use Rattle.lb_syntax.specs.Lists.{Every}
 use Rattle.lb_syntax.specs.Tree.{Name, Node_named, Symbol, Expr, Literal, Truth, Variable, Group}
 use Rattle.lb_syntax.specs.Tree.{Unary, Binary, If, Arrow, Fby, Pre, Current, When, Replicate}
 use Rattle.lb_syntax.specs.Tree.{Index, Slice, Join, Array, AtMostOne, Nor, Call, Iterate, Exprs}
@@ -17,15 +13,12 @@ use Rattle.lb_static.specs.Instances.{Program, Instance, Path, Root, Observer, C
 use Rattle.lb_static.specs.Instances.{instance_at, instances}
 use Rattle.lb_check.specs.Clocks.{Clock, declared_clock}
 use Rattle.lb_check.specs.Occurrences.{call_count, call_clocks, statement_clock}
-use Rattle.lb_check.specs.Scalars.{Boolean}
 use Rattle.lb_check.specs.Solutions.{iterator_inputs}
 use Rattle.lb_check.specs.Streams.{number}
-use Rattle.lb_flat.specs.Emit.{State, Emitted, Target, add, push, chained, twice, emit_nor}
-use Rattle.lb_flat.specs.Emit.{emit_at_most_one, keep, assert, joins, copied, targets, received}
-use Rattle.lb_flat.specs.Emit.{call_copies, iterator_copies, emit_symbol, emit_name, emit, emit_all}
-use Rattle.lb_flat.specs.Emit.{emit_each, emit_body, emit_instances, from_inputs, input_targets}
-use Rattle.lb_flat.specs.Emit.{given_inputs, observed, observed_places, before_instances, expanded}
-use Rattle.lb_flat.specs.Flat.{FlatClock, Operation, Constant, ApplyUnary, ApplyBinary}
+use Rattle.lb_flat.specs.Emit.{State, Target, assert, joins, copied, targets, received, call_copies}
+use Rattle.lb_flat.specs.Emit.{iterator_copies, emit_name, emit, emit_all, emit_each, emit_body}
+use Rattle.lb_flat.specs.Emit.{emit_instances, from_inputs, input_targets, given_inputs, observed}
+use Rattle.lb_flat.specs.Emit.{observed_places, before_instances, expanded}
 use Rattle.lb_flat.specs.Flat.{FlatEquation}
 use Rattle.lb_flat.specs.Layouts.{Layout, flat_clock}
 use Rattle.lb_flat.proofs.Bodies.{IsLaidOut, assert_copies, all_closed}
@@ -33,56 +26,8 @@ use Rattle.lb_flat.proofs.Closing.{Closed, Below}
 use Rattle.lb_flat.proofs.Emission.{joins_copies}
 use Rattle.lb_flat.proofs.Filling.{Fresh}
 use Rattle.lb_flat.proofs.Lists.{Every-map, Every-append, Every-pieces}
-
--- ## What copies nothing
-
-add_copied : (k : FlatClock) (s : State) (os : List Operation) →
-    (add k s os).state.copies ≡ s.copies
-unfolding add
-add_copied k s os = refl
-
-keep_copied : (x : Emitted) → (keep x).state.copies ≡ x.state.copies
-unfolding keep
-keep_copied x = refl
-
-chained_copied :
-    (k : FlatClock) (op : BinaryOperator) (s : State) (init : ℕ) (ys : List ℕ) →
-    (chained k op s init ys).state.copies ≡ s.copies
-unfolding chained
-chained_copied k op s init [] = refl
-chained_copied k op s init (y ∷ ys) =
-    chained_copied k op (push k s (ApplyBinary op init y)) s.next ys
-
-twice_copied :
-    (k : FlatClock) (s : State) (any two : ℕ) (xs : List ℕ) →
-    (twice k s any two xs).state.copies ≡ s.copies
-unfolding twice
-twice_copied k s any two [] = refl
-twice_copied k s any two (x ∷ xs) =
-    let t = push k s (ApplyBinary And any x) in
-    let u = push k t (ApplyBinary Or two s.next) in
-    twice_copied k (push k u (ApplyBinary Or any x)) u.next t.next xs
-
-nor_copied : (k : FlatClock) (s : State) (is : List ℕ) →
-    (emit_nor k s is).state.copies ≡ s.copies
-nor_copied k s is =
-    let t = push k s (Constant (Boolean false)) in
-    let r = chained k Or t s.next is in
-    add_copied k r.state (map (ApplyUnary Not) r.found) ∙ chained_copied k Or t s.next is
-
-at_most_one_copied : (k : FlatClock) (s : State) (is : List ℕ) →
-    (emit_at_most_one k s is).state.copies ≡ s.copies
-at_most_one_copied k s is =
-    let t = push k s (Constant (Boolean false)) in
-    let r = twice k t s.next s.next is in
-    add_copied k r.state (map (ApplyUnary Not) r.found) ∙ twice_copied k t s.next s.next is
-
-symbol_copied :
-    (k : FlatClock) (op : BinaryOperator) (s : State) (it : ArrayIterator)
-    (found : List (List ℕ)) → (emit_symbol k op s it found).state.copies ≡ s.copies
-symbol_copied k op s Map (xs ∷ (ys ∷ [])) = add_copied k s (zip2 (ApplyBinary op) xs ys)
-symbol_copied k op s Red ((init ∷ []) ∷ (ys ∷ [])) = chained_copied k op s init ys
-symbol_copied k op s it found = refl
+use Rattle.lb_flat.proofs.EmittedCopies.{add_copies, keep_copies, nor_copies, at_most_one_copies}
+use Rattle.lb_flat.proofs.EmittedCopies.{symbol_copies}
 
 -- ## Copies
 
@@ -154,42 +99,42 @@ module _ (V : ℕ) (Y : Layout) (P : Program)
         (k : Clock) (s : State) (x : Name) (d : Option Declaration) →
         (emit_name Y P here k s x d).state.copies ≡ s.copies
     name_copied k s x (Some d) = refl
-    name_copied k s x None = add_copied (flat_clock Y here.path k) s _
+    name_copied k s x None = add_copies (flat_clock Y here.path k) s _
 
     mutual
       unfolding emit
 
       copies_below : (k : Clock) (n : ℕ) (s : State) (e : Expr) → AllBelow s.copies →
           AllBelow (emit Y P here k n s e).state.copies
-      copies_below k n s (Literal m) h = on _ _ (add_copied _ s _) h
-      copies_below k n s (Truth b) h = on _ _ (add_copied _ s _) h
+      copies_below k n s (Literal m) h = on _ _ (add_copies _ s _) h
+      copies_below k n s (Truth b) h = on _ _ (add_copies _ s _) h
       copies_below k n s (Variable x) h = on _ _ (name_copied k s x _) h
       copies_below k n s (Group a) h = copies_below k n s a h
-      copies_below k n s (Unary op a) h = on _ _ (add_copied _ _ _) (copies_below k n s a h)
+      copies_below k n s (Unary op a) h = on _ _ (add_copies _ _ _) (copies_below k n s a h)
       copies_below k n s (Binary op a b) h =
-          on _ _ (add_copied _ _ _) (copies_below k _ _ b (copies_below k n s a h))
+          on _ _ (add_copies _ _ _) (copies_below k _ _ b (copies_below k n s a h))
       copies_below k n s (If c a b) h =
-          on _ _ (add_copied _ _ _)
+          on _ _ (add_copies _ _ _)
           (copies_below k _ _ b (copies_below k _ _ a (copies_below k n s c h)))
       copies_below k n s (Arrow a b) h =
-          on _ _ (add_copied _ _ _) (copies_below k _ _ b (copies_below k n s a h))
+          on _ _ (add_copies _ _ _) (copies_below k _ _ b (copies_below k n s a h))
       copies_below k n s (Fby a b) h =
-          on _ _ (add_copied _ _ _) (on _ _ (add_copied _ _ _) (on _ _ (keep_copied _)
+          on _ _ (add_copies _ _ _) (on _ _ (add_copies _ _ _) (on _ _ (keep_copies _)
           (copies_below k _ _ b (copies_below k n s a h))))
       copies_below k n s (Pre a) h =
-          on _ _ (add_copied _ _ _) (on _ _ (keep_copied _) (copies_below k n s a h))
+          on _ _ (add_copies _ _ _) (on _ _ (keep_copies _) (copies_below k n s a h))
       copies_below k n s (Current a) h =
-          on _ _ (add_copied _ _ _) (on _ _ (keep_copied _) (copies_below _ n s a h))
+          on _ _ (add_copies _ _ _) (on _ _ (keep_copies _) (copies_below _ n s a h))
       copies_below k n s (When a x sign) h =
-          on _ _ (add_copied _ _ _) (copies_below _ n s a h)
+          on _ _ (add_copies _ _ _) (copies_below _ n s a h)
       copies_below k n s (Replicate a m) h = copies_below k n s a h
       copies_below k n s (Index a m) h = copies_below k n s a h
       copies_below k n s (Slice a m l) h = copies_below k n s a h
       copies_below k n s (Join a b) h = copies_below k _ _ b (copies_below k n s a h)
       copies_below k n s (Array es) h = all_below k n s es h
       copies_below k n s (AtMostOne es) h =
-          on _ _ (at_most_one_copied _ _ _) (all_below k n s es h)
-      copies_below k n s (Nor es) h = on _ _ (nor_copied _ _ _) (all_below k n s es h)
+          on _ _ (at_most_one_copies _ _ _) (all_below k n s es h)
+      copies_below k n s (Nor es) h = on _ _ (nor_copies _ _ _) (all_below k n s es h)
       copies_below k n s (Call f statics es) h =
           let r = emit_each Y P here (call_clocks k (node_named P f) es) (n + 1) s es in
           joins_below r.state (call_copies Y (Child here.path n 0) (node_named P f) r.found) _
@@ -202,7 +147,7 @@ module _ (V : ℕ) (Y : Layout) (P : Program)
           (iterator_below here.path n it (number P here m) (node_named P f) r.found)
           (all_below k (n + 1) s es h)
       copies_below k n s (Iterate it (Symbol op) m es) h =
-          on _ _ (symbol_copied _ op _ it _) (all_below k n s es h)
+          on _ _ (symbol_copies _ op _ it _) (all_below k n s es h)
 
       all_below : (k : Clock) (n : ℕ) (s : State) (es : Exprs) → AllBelow s.copies →
           AllBelow (emit_all Y P here k n s es).state.copies

@@ -10,6 +10,7 @@ use Rattle.std.proofs.lemmas.List.Sums.{sum_by-append, sum_by-cons}
 use Rattle.std.proofs.lemmas.Option.{slice_get_within, get_or_from_slice_get}
 use Rattle.lb_syntax.specs.Lists.{Every}
 use Rattle.lb_syntax.specs.Tree.{Declaration}
+use Rattle.lb_syntax.proofs.ListPlaces.{item_at}
 use Rattle.lb_static.specs.DataTypes.{variables, width}
 use Rattle.lb_static.specs.Instances.{Program, Instance, instances}
 use Rattle.lb_static.specs.Instantiation.{static_refusal}
@@ -20,8 +21,7 @@ use Rattle.lb_static.specs.declared.table.Instance as row
 use Rattle.lb_static.specs.declared.table.Table.{Table}
 use Rattle.lb_static.proofs.Members.{in_at}
 use Rattle.lb_check.proofs.ApartLists.{Every-from}
-use Rattle.lb_check.proofs.NodePlaces.{held}
-use Rattle.lb_check.proofs.ServedNumbers.{width_some}
+use Rattle.lb_check.proofs.PositiveWidths.{width_positive}
 use Rattle.lb_flat.specs.Rows.{sum_of, widths_in, variables_before, element_total, count_at}
 use Rattle.lb_flat.proofs.NumberedRows.{row_widths_are}
 use Rattle.lb_flat.proofs.RowInstances.{IsRow, row_shown}
@@ -86,7 +86,7 @@ module _ (P : Program) (r : Reached) (t : Table) (reached : IsReached P r)
       let here = s.0 in
       let stands = in_at (instances P) k here s.1.instance_is in
       let some = Every-from (λ d. 0 < width P here d) (variables here.node)
-      (λ d on. width_some P accepted here stands d on) in
+      (λ d on. width_positive P accepted here stands d on) in
       subst (λ ws. length ws ≤ sum_of ws)
       (sym (row_widths_are P r t reached table k i here s.1))
       (some_wide (width P here) (variables here.node) some)
@@ -122,7 +122,7 @@ module _ (P : Program) (r : Reached) (t : Table) (reached : IsReached P r)
         get_or held_variables (k + 1) 0
         ≡ get_or held_variables k 0 + count_at held_variables k
     count_next k lt =
-        let i = held t.instances.items k lt in
+        let i = item_at t.instances.items k lt in
         let s = row_shown P r t table k i.0 i.1 in
         let next = next_before k i.0 s.0 s.1 in
         let own = row_count k i.0 s.0 s.1 in

@@ -170,7 +170,7 @@ tails_truths : (xss : List Stream) → AllTruths xss → AllTruths (map tail_of 
 tails_truths [] t = tt
 tails_truths (xs ∷ xss) t = (tail_truths xs t.0, tails_truths xss t.1)
 
-tail_long : (n : ℕ) (xs : Stream) → length xs ≡ suc n → length (tail_of xs) ≡ n
+pub tail_long : (n : ℕ) (xs : Stream) → length xs ≡ suc n → length (tail_of xs) ≡ n
 tail_long n [] e = absurd (omega arith)
 tail_long n (x ∷ xs) e = omega arith
 

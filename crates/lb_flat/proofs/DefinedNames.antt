@@ -8,8 +8,11 @@ use Rattle.std.specs.List.{list_all}
 use Rattle.std.specs.Str.{bytes_eq}
 use Rattle.std.proofs.lemmas.List.Sums.{sum_by-cons}
 use Rattle.std.proofs.lemmas.Slice.Eq.{bytes_eq-Decides}
+use Rattle.std.proofs.lemmas.List.{map-append}
+use Rattle.std.proofs.lemmas.Bool.{eqb-true}
 use Rattle.lb_syntax.specs.Lists.{In, all_some}
 use Rattle.lb_syntax.specs.Tree.{Name, Declaration, Node, Statement, Equation, Assertion}
+use Rattle.lb_syntax.proofs.TruthValues.{and_first, and_second}
 use Rattle.lb_static.specs.StaticValues.{named}
 use Rattle.lb_static.specs.Instances.{Program, Instance}
 use Rattle.lb_static.specs.DataTypes.{DataType, variables}
@@ -24,12 +27,9 @@ use Rattle.lb_check.specs.Types.{data_types}
 use Rattle.lb_check.proofs.ApartLists.{in_either, Every-at}
 use Rattle.lb_check.proofs.Every.{Every-tested}
 use Rattle.lb_check.proofs.InstanceNames.{find_in}
-use Rattle.lb_check.proofs.Numbers.{map_append}
 use Rattle.lb_check.proofs.OperandTypes.{bound}
-use Rattle.lb_check.proofs.TruthValues.{and_first, and_second}
 use Rattle.lb_flat.proofs.OutputWidths.{each}
-use Rattle.lb_flat.proofs.Totals.{total, total-append, same_number, is_name, named_in}
-use Rattle.lb_flat.proofs.Totals.{in_named}
+use Rattle.lb_flat.proofs.Totals.{total, total-append, is_name, named_in, in_named}
 
 -- ## How often a name stands in a list
 
@@ -132,7 +132,7 @@ module _ (n : Node) (distinct : are_distinct (variable_names n) ≡ true)
   split : (x : Name) →
       total (is_name x) (variable_names n) ≡ total (is_name x) ins + total (is_name x) inner
   split x =
-      ap (total (is_name x)) (map_append (λ d. d.name) n.inputs (n.outputs ++ n.locals))
+      ap (total (is_name x)) (map-append (λ d. d.name) n.inputs (n.outputs ++ n.locals))
       ∙ total-append (is_name x) ins inner
 
   defined : (x : Name) (m : ℕ) (ds : List Declaration) →
@@ -142,7 +142,7 @@ module _ (n : Node) (distinct : are_distinct (variable_names n) ≡ true)
       let d = map_in (λ d. d.name) ds x i in
       let test = Every-at (λ d. nat_eq (definition_count n d.name) m ≡ true) ds d.0
       (Every-tested (λ d. nat_eq (definition_count n d.name) m) ds all) d.1 in
-      let count = same_number (definition_count n d.0.name) m test in
+      let count = eqb-true (definition_count n d.0.name) m test in
       subst (λ y. total (is_name y) lefts ≡ m) d.2 (sym (count_is d.0.name lefts) ∙ count)
 
   -- the left variables are the outputs and locals, each once

@@ -1,14 +1,16 @@
 -- The elements of a flat program are few: at most five times as many as the size of its program.
-use Rattle.std.proofs.Common.{◌≡◌, ℕ, zero, suc, ◌+◌, ◌*◌, ◌≤◌, false, true, pos, Option, Some}
-use Rattle.std.proofs.Common.{None, option_map, List, [], ◌∷◌, ◌++◌, map, length, flat_map, refl}
-use Rattle.std.proofs.Common.{sym, ap, ◌∙◌, subst, arith, length-append}
+use Rattle.std.proofs.Common.{◌≡◌, ℕ, ◌+◌, ◌*◌, ◌≤◌, false, true, pos, Option, Some, None}
+use Rattle.std.proofs.Common.{option_map, List, [], ◌∷◌, ◌++◌, map, length, flat_map, refl, sym, ap}
+use Rattle.std.proofs.Common.{◌∙◌, subst, arith, length-append}
 use Rattle.std.specs.Prelude.{sum_by}
 use Rattle.std.specs.List.{list_all, range_with_len}
 use Rattle.std.proofs.lemmas.List.{length-map}
 use Rattle.std.proofs.lemmas.List.Sums.{sum_by-cons, sum_by-append}
+use Rattle.std.proofs.lemmas.List.FromFn.{length-range_with_len}
+use Rattle.std.proofs.lemmas.Option.{same_Some}
 use Rattle.lb_syntax.specs.declared.tree.UnaryOperator.TheVariants.{Not}
 use Rattle.lb_syntax.specs.declared.tree.BinaryOperator.{BinaryOperator}
-use Rattle.lb_syntax.specs.declared.tree.BinaryOperator.TheVariants.{Or, And}
+use Rattle.lb_syntax.specs.declared.tree.BinaryOperator.TheVariants.{Or}
 use Rattle.lb_syntax.specs.declared.tree.ArrayIterator.{ArrayIterator}
 use Rattle.lb_syntax.specs.declared.tree.ArrayIterator.TheVariants.{Map, Red}
 use Rattle.lb_syntax.specs.Lists.{Every, zip2, joined, either_or}
@@ -16,6 +18,7 @@ use Rattle.lb_syntax.specs.Tree.{Name, Node_named, Symbol, Expr, Literal, Truth,
 use Rattle.lb_syntax.specs.Tree.{Unary, Binary, If, Arrow, Fby, Pre, Current, When, Replicate}
 use Rattle.lb_syntax.specs.Tree.{Index, Slice, Join, Array, AtMostOne, Nor, Call, Iterate, Exprs}
 use Rattle.lb_syntax.specs.Tree.{Nil, Cons, Declaration, Statement, Equation, Assertion}
+use Rattle.lb_syntax.proofs.TruthValues.{and_first, and_second}
 use Rattle.lb_static.specs.DataTypes.{DataType, element_count, variables, variable_type, width}
 use Rattle.lb_static.specs.Instances.{Program, Instance, name_value, node_named, static_count}
 use Rattle.lb_static.specs.Instances.{instances}
@@ -29,16 +32,16 @@ use Rattle.lb_check.specs.Occurrences.{Occurrence, call_count, call_clocks, occu
 use Rattle.lb_check.specs.Occurrences.{occurrences_in, occurrences_each, statement_clock}
 use Rattle.lb_check.specs.Occurrences.{right_sides, node_occurrences}
 use Rattle.lb_check.specs.Scalars.{Boolean, first_value}
-use Rattle.lb_check.specs.TypeRules.{is_clock_typed, is_statement_typed, is_typed, total}
+use Rattle.lb_static.specs.DataTypes.{total}
+use Rattle.lb_check.specs.TypeRules.{is_clock_typed, is_statement_typed, is_typed}
 use Rattle.lb_check.specs.TypeRules.{expression_size, instance_size, size}
 use Rattle.lb_check.specs.Types.{data_types, all_types, singly, name_data_type, from_one}
 use Rattle.lb_check.specs.Types.{from_truths, unary_type, binary_type, common_type, array_of}
 use Rattle.lb_check.specs.Types.{index_type, slice_type, join_type, operator_types, constant_type}
 use Rattle.lb_check.proofs.AcceptedRules.{all_typed}
 use Rattle.lb_check.proofs.OccurrenceParts.{right_typed}
-use Rattle.lb_check.proofs.OperandTypes.{bound, one, two, from_true, first_of_all, some_same}
-use Rattle.lb_check.proofs.TruthValues.{and_first, and_second}
-use Rattle.lb_flat.specs.Emit.{State, Emitted, numbers, after, add, push, chained, twice, emit_nor}
+use Rattle.lb_check.proofs.OperandTypes.{bound, one, two, from_true, first_of_all}
+use Rattle.lb_flat.specs.Emit.{State, Emitted, add, push, chained, twice, emit_nor}
 use Rattle.lb_flat.specs.Emit.{emit_at_most_one, keep, assert, joins, copied, targets, chosen_by}
 use Rattle.lb_flat.specs.Emit.{emit_symbol, emit_name, emit, emit_all, emit_each, emit_body}
 use Rattle.lb_flat.specs.Emit.{emit_instances, before_instances, expanded}
@@ -48,34 +51,11 @@ use Rattle.lb_flat.specs.Layouts.{Layout, flat_clock}
 use Rattle.lb_flat.proofs.Bodies.{occurrences_of}
 use Rattle.lb_flat.proofs.Lists.{Every-map, Every-both, Every-first, Every-second}
 use Rattle.lb_flat.proofs.TypeFacts.{elements_in, constant}
+use Rattle.lb_flat.proofs.EmittedNumbers.{next_of_add, next_of_keep}
+use Rattle.lb_flat.proofs.FoundWidths.{keep_count}
+use Rattle.lb_flat.proofs.EmittedRooms.{chained_next, chained_one, twice_next, twice_one}
 
 -- ## New elements
-
-after_is : (i : ℕ) (os : List Operation) → after i os ≡ i + length os
-after_is i [] = omega arith
-after_is i (o ∷ os) = let e = after_is (suc i) os in omega (arith, e)
-
-add_next : (k : FlatClock) (s : State) (os : List Operation) →
-    (add k s os).state.next ≡ s.next + length os
-unfolding add
-add_next k s os = after_is s.next os
-
-keep_next : (x : Emitted) → (keep x).state.next ≡ x.state.next
-unfolding keep
-keep_next x = refl
-
-keep_count : (x : Emitted) → length (keep x).found ≡ length x.found
-unfolding keep
-keep_count x = refl
-
-numbers_count : (i : ℕ) (os : List Operation) → length (numbers i os) ≡ length os
-numbers_count i [] = refl
-numbers_count i (o ∷ os) = ap suc (numbers_count (suc i) os)
-
-add_count : (k : FlatClock) (s : State) (os : List Operation) →
-    length (add k s os).found ≡ length os
-unfolding add
-add_count k s os = numbers_count s.next os
 
 joins_next : (s : State) (qs : List FlatEquation) (is : List ℕ) →
     (joins s qs is).state.next ≡ s.next
@@ -96,53 +76,15 @@ chosen_few : (cs xs ys : List ℕ) → length (chosen_by cs xs ys) ≤ length xs
 chosen_few [] xs ys = omega arith
 chosen_few (c ∷ cs) xs ys = zip_few (Choose c) xs ys
 
-chained_next :
-    (k : FlatClock) (op : BinaryOperator) (s : State) (init : ℕ) (ys : List ℕ) →
-    (chained k op s init ys).state.next ≡ s.next + length ys
-unfolding chained
-chained_next k op s init [] = omega arith
-chained_next k op s init (y ∷ ys) =
-    let e = chained_next k op (push k s (ApplyBinary op init y)) s.next ys in
-    omega (arith, e)
-
-chained_count :
-    (k : FlatClock) (op : BinaryOperator) (s : State) (init : ℕ) (ys : List ℕ) →
-    length (chained k op s init ys).found ≡ 1
-unfolding chained
-chained_count k op s init [] = refl
-chained_count k op s init (y ∷ ys) =
-    chained_count k op (push k s (ApplyBinary op init y)) s.next ys
-
-twice_next :
-    (k : FlatClock) (s : State) (any two : ℕ) (xs : List ℕ) →
-    (twice k s any two xs).state.next ≡ s.next + 3 * length xs
-unfolding twice
-twice_next k s any two [] = omega arith
-twice_next k s any two (x ∷ xs) =
-    let t = push k s (ApplyBinary And any x) in
-    let u = push k t (ApplyBinary Or two s.next) in
-    let e = twice_next k (push k u (ApplyBinary Or any x)) u.next t.next xs in
-    omega (arith, e)
-
-twice_count :
-    (k : FlatClock) (s : State) (any two : ℕ) (xs : List ℕ) →
-    length (twice k s any two xs).found ≡ 1
-unfolding twice
-twice_count k s any two [] = refl
-twice_count k s any two (x ∷ xs) =
-    let t = push k s (ApplyBinary And any x) in
-    let u = push k t (ApplyBinary Or two s.next) in
-    twice_count k (push k u (ApplyBinary Or any x)) u.next t.next xs
-
 nor_next : (k : FlatClock) (s : State) (is : List ℕ) →
     (emit_nor k s is).state.next ≡ s.next + length is + 2
 nor_next k s is =
     let t = push k s (Constant (Boolean false)) in
     let r = chained k Or t s.next is in
-    let a = add_next k r.state (map (ApplyUnary Not) r.found) in
+    let a = next_of_add k r.state (map (ApplyUnary Not) r.found) in
     let b = chained_next k Or t s.next is in
     let c = length-map r.found (ApplyUnary Not) in
-    let d = chained_count k Or t s.next is in
+    let d = chained_one k Or t s.next is in
     omega (arith, a, b, c, d)
 
 at_most_one_next : (k : FlatClock) (s : State) (is : List ℕ) →
@@ -150,10 +92,10 @@ at_most_one_next : (k : FlatClock) (s : State) (is : List ℕ) →
 at_most_one_next k s is =
     let t = push k s (Constant (Boolean false)) in
     let r = twice k t s.next s.next is in
-    let a = add_next k r.state (map (ApplyUnary Not) r.found) in
+    let a = next_of_add k r.state (map (ApplyUnary Not) r.found) in
     let b = twice_next k t s.next s.next is in
     let c = length-map r.found (ApplyUnary Not) in
-    let d = twice_count k t s.next s.next is in
+    let d = twice_one k t s.next s.next is in
     omega (arith, a, b, c, d)
 
 symbol_next :
@@ -161,7 +103,7 @@ symbol_next :
     (found : List (List ℕ)) →
     (emit_symbol k op s it found).state.next ≤ s.next + length (joined found)
 symbol_next k op s Map (xs ∷ (ys ∷ [])) =
-    let a = add_next k s (zip2 (ApplyBinary op) xs ys) in
+    let a = next_of_add k s (zip2 (ApplyBinary op) xs ys) in
     let b = zip_few (ApplyBinary op) xs ys in
     let c = length-append xs (ys ++ []) in
     omega (arith, a, b, c)
@@ -242,10 +184,6 @@ later : (end mid kept next a b : ℕ) → end ≡ mid + b → mid ≡ kept + a �
     end ≡ next + (a + b)
 later end mid kept next a b e f g = omega (arith, e, f, g)
 
-length-range : (a n : ℕ) → length (range_with_len a n) ≡ n
-length-range a zero = refl
-length-range a (suc n) = ap suc (length-range (a + 1) n)
-
 module _ (P : Program) (here : Instance) where
   -- the scalar elements of some expressions
   abbrev pub weight : List Expr → ℕ
@@ -292,7 +230,7 @@ module _ (P : Program) (here : Instance) where
         IsFew s.next (add k s (o ∷ [])).state.next (elements_in ts) (weight (e ∷ []))
     constant_few k s o e ts typed single =
         by s.next (add k s (o ∷ [])).state.next (elements_in ts) (weight (e ∷ []))
-        (add_next k s (o ∷ [])) (own_weight e ts [] typed) single
+        (next_of_add k s (o ∷ [])) (own_weight e ts [] typed) single
       where
         by : (before next many weighs : ℕ) → next ≡ before + 1 → weighs ≡ many + 0 → many ≡ 1 →
             IsFew before next many weighs
@@ -326,7 +264,8 @@ module _ (P : Program) (here : Instance) where
         length-map x.found f ∙ counted own n s a us is_us w in
         after_one s.next x.state.next (elements_in us) (weight (parts a)) (elements_in ts)
         (length (map f x.found)) (add c x.state (map f x.found)).state.next (weight (e ∷ parts a)) h
-        (add_next c x.state (map f x.found)) (omega (arith, many)) (own_weight e ts (parts a) is_ts)
+        (next_of_add c x.state (map f x.found)) (omega (arith, many))
+        (own_weight e ts (parts a) is_ts)
 
     one_kept :
         (k own : Clock) (n : ℕ) (s : State) (a e : Expr) (us ts : List DataType)
@@ -342,7 +281,7 @@ module _ (P : Program) (here : Instance) where
         let many : length os ≡ elements_in us =
         length-map (keep x).found f ∙ keep_count x ∙ counted own n s a us is_us w in
         let next : (add c (keep x).state os).state.next ≡ x.state.next + length os =
-        add_next c (keep x).state os ∙ ap (λ m. m + length os) (keep_next x) in
+        next_of_add c (keep x).state os ∙ ap (λ m. m + length os) (next_of_keep x) in
         after_one s.next x.state.next (elements_in us) (weight (parts a)) (elements_in ts)
         (length os) (add c (keep x).state os).state.next (weight (e ∷ parts a)) h next
         (omega (arith, many)) (own_weight e ts (parts a) is_ts)
@@ -375,7 +314,7 @@ module _ (P : Program) (here : Instance) where
         after_two s.next x.state.next y.state.next (elements_in us) (elements_in vs)
         (weight (parts a)) (weight (parts b)) (elements_in ts) (length os)
         (add c y.state os).state.next (weight (e ∷ (parts a ++ parts b))) g h
-        (add_next c y.state os) (omega (arith, le, many))
+        (next_of_add c y.state os) (omega (arith, le, many))
         (two_weights e ts (parts a) (parts b) is_ts)
 
     -- the results of several operands
@@ -384,7 +323,7 @@ module _ (P : Program) (here : Instance) where
         all_types P here es ≡ Some ts → AllHave (occurrences_in P here.node k n es) →
         length (joined (emit_all Y P here k n s es).found) ≡ elements_in ts
     unfolding emit
-    all_counted k n s Nil ts e w = ap elements_in (some_same [] ts e)
+    all_counted k n s Nil ts e w = ap elements_in (same_Some [] ts e)
     all_counted k n s (Cons a es) ts e w =
         let i = first_of_all P here a es ts e in
         let oa = parts_at k n a in
@@ -412,7 +351,7 @@ module _ (P : Program) (here : Instance) where
           (ap elements_in (constant (Some (pos m)) ts e).all)
       few k n s (Truth b) ts e w =
           constant_few (flat_clock Y here.path k) s _ (Truth b) ts e
-          (ap elements_in (sym (some_same _ _ e)))
+          (ap elements_in (sym (same_Some _ _ e)))
       few k n s (Variable x) ts e w =
           name_few k s x ts e (named (λ d. d.name) x (variables here.node)) e
       few k n s (Group a) ts e w = few k n s a ts e w
@@ -460,7 +399,7 @@ module _ (P : Program) (here : Instance) where
           (weight (If c a b ∷ (parts c ++ (parts a ++ parts b))))
           (few k n s c zs z.is wc) (few k na w.state a us i.is_first wa)
           (few k nb x.state b vs i.is_second wb)
-          (add_next (flat_clock Y here.path k) y.state os) (omega (arith, le, many))
+          (next_of_add (flat_clock Y here.path k) y.state os) (omega (arith, le, many))
           (two_weights (If c a b) ts (parts c) (parts a ++ parts b) e
           ∙ ap (λ n. elements_in ts + (weight (parts c) + n))
           (sum_by-append (expression_size P here) (parts a) (parts b)))
@@ -495,8 +434,9 @@ module _ (P : Program) (here : Instance) where
           let le = zip_few (FirstThen false) x.found z.found in
           let next : (add c z.state os).state.next ≡ y.state.next + (length before + length os) =
           later (add c z.state os).state.next z.state.next (keep y).state.next y.state.next
-          (length before) (length os) (add_next c z.state os) (add_next c (keep y).state before)
-          (keep_next y) in
+          (length before) (length os) (next_of_add c z.state os)
+          (next_of_add c (keep y).state before)
+          (next_of_keep y) in
           after_two s.next x.state.next y.state.next (elements_in us) (elements_in vs)
           (weight (parts a)) (weight (parts b)) (elements_in ts) (length before + length os)
           (add c z.state os).state.next (weight (Fby a b ∷ (parts a ++ parts b)))
@@ -628,7 +568,7 @@ module _ (P : Program) (here : Instance) where
           IsFew s.next (emit_all Y P here k n s es).state.next (elements_in ts)
           (weight (parts_in es))
       few_all k n s Nil ts e w =
-          subst (λ m. IsFew s.next s.next m 0) (ap elements_in (some_same [] ts e)) (omega arith)
+          subst (λ m. IsFew s.next s.next m 0) (ap elements_in (same_Some [] ts e)) (omega arith)
       few_all k n s (Cons a es) ts e w =
           let i = first_of_all P here a es ts e in
           let oa = parts_at k n a in
@@ -729,7 +669,7 @@ length-elements P here (d ∷ ds) =
     (length (flat_map (elements P here) ds)) (width P here d) (sum_by (width P here) ds)
     (sum_by (width P here) (d ∷ ds))
     (length-append (elements P here d) (flat_map (elements P here) ds))
-    (length-map (range_with_len 0 (width P here d)) _ ∙ length-range 0 (width P here d))
+    (length-map (range_with_len 0 (width P here d)) _ ∙ length-range_with_len 0 (width P here d))
     (length-elements P here ds) (sum_by-cons (width P here) d ds)
   where
     by : (l a b m n t : ℕ) → l ≡ a + b → a ≡ m → b ≡ n → t ≡ m + n → l ≡ t

@@ -31,6 +31,7 @@ use Rattle.lb_flat.proofs.Adding.{each_choice, nor_sound, at_most_one_sound, sym
 use Rattle.lb_flat.proofs.Placing.{Agrees, IsPlaced, presence_flat, constantly_flat}
 use Rattle.lb_flat.proofs.Joining.{call_sound, call_holds, iterator_sound, iterator_holds}
 use Rattle.lb_flat.proofs.Joining.{iterated_flat}
+use Rattle.lb_flat.proofs.LinkSymbols.{joins_found}
 
 pub joins_equations :
     (s : State) (qs : List FlatEquation) (is : List ℕ) →
@@ -43,11 +44,6 @@ pub joins_copies :
     (joins s qs is).state.copies ≡ s.copies ++ qs
 unfolding joins
 joins_copies s qs is = refl
-
-joins_found :
-    (s : State) (qs : List FlatEquation) (is : List ℕ) → (joins s qs is).found ≡ is
-unfolding joins
-joins_found s qs is = refl
 
 choices_equal :
     (bs cs xss yss zss wss : List Stream) → bs ≡ cs → xss ≡ yss → zss ≡ wss →

@@ -1,7 +1,7 @@
 -- What begins a flat program, which of its elements are watched, and the whole of it.
-use Rattle.std.proofs.Common.{◌≡◌, ◌<◌, ◌≤◌, ℕ, ◌+◌, ◌-◌, List, [], ◌++◌, length, take}
-use Rattle.std.proofs.Common.{get_or, arith, Option, Some, None, All, Bool, false, true, sym, ap}
-use Rattle.std.proofs.Common.{ap₂, subst, subst₂, ◌∙◌}
+use Rattle.std.proofs.Common.{◌≡◌, ◌<◌, ◌≤◌, ℕ, ◌+◌, ◌-◌, List, [], ◌++◌, length, take, get_or}
+use Rattle.std.proofs.Common.{arith, Option, Some, None, Bool, false, true, sym, ap, ap₂, subst}
+use Rattle.std.proofs.Common.{subst₂, ◌∙◌}
 use Rattle.std.specs.Option.{ForSome}
 use Rattle.std.proofs.Math.Seq.{take-append_seam}
 use Rattle.std.proofs.lemmas.List.{append_assoc, append-nil, get_or-append-add, get_or_past}
@@ -108,12 +108,6 @@ clocks_later n m clocks h le =
       element = omega (arith, w.element);
       parent = w.parent;
     }) clocks h
-
-pub elements_later : (n m : ℕ) (items : List ElementId) → All (λ a. a.0 < n) items → n ≤ m →
-    All (λ a. a.0 < m) items
-elements_later n m items h le =
-    All-weaker (λ (a : ElementId). a.0 < n) (λ (a : ElementId). a.0 < m)
-    (λ a lt. omega (arith, lt)) items h
 
 -- each element has a kind
 pub kinds_counted :

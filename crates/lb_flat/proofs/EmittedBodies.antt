@@ -5,6 +5,7 @@ use Rattle.std.proofs.Common.{sym, ap, ap₂, ◌∙◌, subst}
 use Rattle.std.specs.List.{list_all}
 use Rattle.lb_syntax.specs.Tree as tree
 use Rattle.lb_syntax.specs.Tree.{Name, Statement}
+use Rattle.lb_syntax.proofs.TruthValues.{and_first, and_second}
 use Rattle.lb_static.specs.Instances.{Program, Instance, Path, node_sites, sites, statement_sites}
 use Rattle.lb_static.specs.ResolvedTerms.{Texts, Counts, expr_of, name_at, statement_of}
 use Rattle.lb_static.specs.ResolvedTerms.{is_variable, is_within, is_statement_within}
@@ -16,7 +17,6 @@ use Rattle.lb_check.specs.Occurrences.{Occurrence, call_count, occurrences, node
 use Rattle.lb_check.specs.Occurrences.{statement_clock}
 use Rattle.lb_check.specs.Streams.{History}
 use Rattle.lb_check.proofs.OccurrenceSites.{body_occurrences}
-use Rattle.lb_check.proofs.TruthValues.{and_first, and_second}
 use Rattle.lb_flat.specs.Emit.{State, Target, assert, copied, emit, emit_body, joins, targets}
 use Rattle.lb_flat.specs.EmitTerms.{Context, Place, PlacedEmitted, emit_statement, emit_statements}
 use Rattle.lb_flat.specs.EmitTerms.{first_place, left_targets}

@@ -19,14 +19,14 @@ pub keep_copies : (x : Emitted) → (keep x).state.copies ≡ x.state.copies
 unfolding keep
 keep_copies x = refl
 
-chained_copies : (k : FlatClock) (op : BinaryOperator) (s : State) (init : ℕ) (ys : List ℕ) →
+pub chained_copies : (k : FlatClock) (op : BinaryOperator) (s : State) (init : ℕ) (ys : List ℕ) →
     (chained k op s init ys).state.copies ≡ s.copies
 unfolding chained
 chained_copies k op s init [] = refl
 chained_copies k op s init (y ∷ ys) =
     chained_copies k op (push k s (ApplyBinary op init y)) s.next ys
 
-twice_copies : (k : FlatClock) (s : State) (any two : ℕ) (xs : List ℕ) →
+pub twice_copies : (k : FlatClock) (s : State) (any two : ℕ) (xs : List ℕ) →
     (twice k s any two xs).state.copies ≡ s.copies
 unfolding twice
 twice_copies k s any two [] = refl

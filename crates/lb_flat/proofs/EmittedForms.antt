@@ -1,8 +1,8 @@
 -- What a term does with its operands, form by form, in the words of the code that expands resolved
 -- terms.
-use Rattle.std.proofs.Common.{◌≡◌, ◌<◌, ◌≤◌, ℕ, zero, suc, ◌+◌, ◌-◌, ◌*◌, List, [], ◌∷◌, ◌++◌}
-use Rattle.std.proofs.Common.{length, take, drop, get_or, min, Vec, Box, Global, arith, false}
-use Rattle.std.proofs.Common.{refl, sym, ap, ap₂, ◌∙◌}
+use Rattle.std.proofs.Common.{◌≡◌, ◌<◌, ◌≤◌, ℕ, zero, suc, ◌+◌, ◌-◌, List, [], ◌∷◌, ◌++◌, length}
+use Rattle.std.proofs.Common.{take, drop, get_or, min, Vec, Box, Global, arith, false, refl, sym}
+use Rattle.std.proofs.Common.{ap, ap₂, ◌∙◌}
 use Rattle.std.specs.Prelude.{Bool}
 use Rattle.std.specs.List.{slice_range}
 use Rattle.std.proofs.lemmas.List.{drop-drop, take-take, drop-append-le, drop-take}
@@ -10,22 +10,17 @@ use Rattle.std.proofs.lemmas.List.{length-drop, length-take-le, append-nil}
 use Rattle.std.proofs.lemmas.List.{take-append-drop, take-append-le, drop_more, take_min}
 use Rattle.std.proofs.lemmas.List.{drop_min}
 use Rattle.std.proofs.Math.Seq.{drop-append_seam}
-use Rattle.lb_syntax.specs.Lists.{copies}
-use Rattle.lb_syntax.specs.declared.tree.ArrayIterator.{ArrayIterator}
-use Rattle.lb_syntax.specs.declared.tree.ArrayIterator.TheVariants.{Map, Fill}
+use Rattle.lb_syntax.specs.declared.tree.ArrayIterator.TheVariants.{Map}
 use Rattle.lb_syntax.specs.declared.tree.BinaryOperator.{BinaryOperator}
 use Rattle.lb_syntax.specs.declared.tree.UnaryOperator.{UnaryOperator}
 use Rattle.lb_check.specs.Scalars.{first_value}
-use Rattle.lb_static.specs.declared.resolved.CallId.{CallId}
-use Rattle.lb_static.specs.declared.resolved.StaticId.{StaticId}
 use Rattle.lb_static.specs.declared.resolved.VariableId.{VariableId}
 use Rattle.lb_static.specs.declared.resolved.Term.{Term, Unary, Binary, Arrow, Fby, Pre, Current}
-use Rattle.lb_static.specs.declared.resolved.Term.{When, Replicate, Index, Slice, Join, Array}
-use Rattle.lb_static.specs.declared.resolved.Term.{AtMostOne, Nor, Call, IterateNode, IterateSymbol}
+use Rattle.lb_static.specs.declared.resolved.Term.{When, Join, Array, AtMostOne, Nor}
 use Rattle.lb_flat.specs.Emit.{Emitted, gives, emit_nor}
 use Rattle.lb_flat.specs.Emit.{emit_at_most_one}
-use Rattle.lb_flat.specs.EmitTerms.{Context, Place, each, memory, pairs, choose, picked}
-use Rattle.lb_flat.specs.EmitTerms.{symbol, call, iterate, with_one, with_two, with_all}
+use Rattle.lb_flat.specs.EmitTerms.{Context, Place, each, memory, pairs, choose, symbol, with_one}
+use Rattle.lb_flat.specs.EmitTerms.{with_two, with_all}
 use Rattle.lb_flat.specs.Flat as flat
 use Rattle.lb_flat.specs.Flat.{FlatClock, ApplyUnary, ApplyBinary, FirstThen, Previous, Latest}
 use Rattle.lb_flat.specs.Flat.{Sample, Choose}
@@ -51,26 +46,6 @@ module _ (ctx : Context) (at : Place) (t : Term) (e : Box Term Global) (k : Flat
       (x : Emitted) → with_one ctx at t x ≡ each k Sample x
   when_form y sign is clock x = rw (is, clock) refl
 
-  pub copies_form : (n : StaticId) (count : ℕ) → t ≡ Replicate e n → count ≡ ctx.count n.0 →
-      (x : Emitted) → with_one ctx at t x ≡ gives x.state (copies count x.found)
-  copies_form n count is size x = rw (is, size) refl
-
-  pub index_form : (i : StaticId) (parts start : ℕ) → t ≡ Index e i →
-      parts ≡ ctx.parts (suc at.term) → start ≡ ctx.count i.0 → (x : Emitted) →
-      with_one ctx at t x ≡ picked (parts * start) parts x
-  index_form i parts start is many from x = rw (is, many, from) refl
-
-  pub slice_form : (i j : StaticId) (parts start count : ℕ) → t ≡ Slice e i j →
-      parts ≡ ctx.parts (suc at.term) → start ≡ ctx.count i.0 →
-      count ≡ suc (ctx.count j.0) - ctx.count i.0 → (x : Emitted) →
-      with_one ctx at t x ≡ picked (parts * start) (parts * count) x
-  slice_form i j parts start count is many from size x = rw (is, many, from, size) refl
-
--- what a word leaves is what the form does
-pub on_form : (from : ℕ) (f g : Emitted → Emitted) (x y : Emitted) →
-    ((z : Emitted) → f z ≡ g z) → y ≡ on_top from g x → y ≡ on_top from f x
-on_form from f g x y is e = e ∙ sym (ap (onto (take from x.found)) (is (above from x)))
-
 -- the same, of the words
 pub top_form : (from : ℕ) (f g : Emitted → Emitted) (x : Emitted) →
     ((z : Emitted) → f z ≡ g z) → on_top from g x ≡ on_top from f x
@@ -95,13 +70,6 @@ module _ (ctx : Context) (at : Place) (t : Term) (a b : Box Term Global) (k : Fl
   pub join_form : t ≡ Join a b → (xs : List ℕ) (y : Emitted) →
       with_two ctx at t xs y ≡ gives y.state (xs ++ y.found)
   join_form is xs y = rw is refl
-
-pub on_two_form : (from middle : ℕ) (f g : List ℕ → Emitted → Emitted) (x y : Emitted) →
-    ((xs : List ℕ) (z : Emitted) → f xs z ≡ g xs z) → y ≡ on_two from middle g x →
-    y ≡ on_two from middle f x
-on_two_form from middle f g x y is e =
-    e ∙ sym (ap (onto (take from x.found))
-    (is (slice_range x.found from middle) (above middle x)))
 
 pub two_form : (from middle : ℕ) (f g : List ℕ → Emitted → Emitted) (x : Emitted) →
     ((xs : List ℕ) (z : Emitted) → f xs z ≡ g xs z) →
@@ -179,19 +147,6 @@ module _ (ctx : Context) (at : Place) (t : Term) (es : Vec Term Global) (k : Fla
       with_all ctx at t r ≡ emit_nor k r.state r.found
   nor_form is clock r = rw (is, clock) refl
 
-  pub call_form : (c : CallId) → t ≡ Call c es → (r : Emitted) →
-      with_all ctx at t r ≡ call ctx at.call r
-  call_form c is r = rw is refl
-
-  pub node_form : (it : ArrayIterator) (c : CallId) → t ≡ IterateNode it c es → (r : Emitted) →
-      with_all ctx at t r ≡ iterate ctx at.call it r
-  node_form it c is r = rw is refl
-
-  pub symbol_form : (it : ArrayIterator) (op : BinaryOperator) (n : StaticId) (count : ℕ) →
-      t ≡ IterateSymbol it op n es → k ≡ ctx.clock at.term → count ≡ ctx.count n.0 →
-      (r : Emitted) → with_all ctx at t r ≡ symbol k op count it r
-  symbol_form it op n count is clock size r = rw (is, clock, size) refl
-
   pub array_form : t ≡ Array es → (r : Emitted) → with_all ctx at t r ≡ r
   array_form is r = rw is refl
 
@@ -268,9 +223,3 @@ map_is k op from middle n x le is =
   where
     gap : (a b m : ℕ) → b ≡ a + m → b - a ≡ m
     gap a b m e = omega (arith, e)
-
--- nothing comes of `fill`
-pub fill_is : (k : FlatClock) (op : BinaryOperator) (from n : ℕ) (x : Emitted) →
-    gives x.state (take from x.found) ≡ on_top from (symbol k op n Fill) x
-fill_is k op from n x = ap (λ (is : List ℕ). gives x.state is)
-    (sym (append-nil (take from x.found)))

@@ -1,6 +1,6 @@
 -- What is emitted takes new numbers alone: the next free element never goes down.
-use Rattle.std.proofs.Common.{◌≡◌, ◌≤◌, ℕ, suc, ◌+◌, List, [], ◌∷◌, false}
-use Rattle.std.proofs.Common.{length, map, flat_map, arith, refl}
+use Rattle.std.proofs.Common.{◌≡◌, ◌≤◌, ℕ, ◌+◌, List, [], ◌∷◌, false, length, map, flat_map, arith}
+use Rattle.std.proofs.Common.{refl}
 use Rattle.lb_syntax.specs.declared.tree.BinaryOperator.{BinaryOperator}
 use Rattle.lb_syntax.specs.declared.tree.BinaryOperator.TheVariants.{Or, And}
 use Rattle.lb_syntax.specs.declared.tree.ArrayIterator.{ArrayIterator}
@@ -18,19 +18,15 @@ use Rattle.lb_syntax.specs.Lists.{zip2}
 use Rattle.lb_check.specs.Scalars.{Boolean, first_value}
 use Rattle.lb_flat.specs.Flat.{FlatClock, Operation, Constant, ApplyUnary, ApplyBinary, FirstThen}
 use Rattle.lb_flat.specs.Flat.{Previous}
-use Rattle.lb_flat.specs.Emit.{State, Emitted, after, add, keep, assert, joins, copied, chosen_by}
-use Rattle.lb_flat.specs.Emit.{push, chained, twice, emit_nor, emit_at_most_one}
+use Rattle.lb_flat.specs.Emit.{State, Emitted, add, keep, assert, joins, copied, chosen_by, push}
+use Rattle.lb_flat.specs.Emit.{chained, twice, emit_nor, emit_at_most_one}
 use Rattle.lb_flat.specs.EmitTerms.{Context, Place, PlacedEmitted, first_place, next_term}
 use Rattle.lb_flat.specs.EmitTerms.{next_call, left_targets, memory, choose, red, symbol, with_one}
 use Rattle.lb_flat.specs.EmitTerms.{with_two, with_all, emit_term, emit_row, emit_list}
 use Rattle.lb_flat.specs.EmitTerms.{emit_statement, emit_statements, emit_rows}
+use Rattle.lb_flat.proofs.Closing.{after_is}
 
 -- ## Words
-
-after_is : (i : ℕ) (os : List Operation) → after i os ≡ i + length os
-after_is i [] = omega arith
-after_is i (o ∷ os) =
-    let e = after_is (suc i) os in omega (arith, e)
 
 -- one number for each operation
 pub next_of_add : (k : FlatClock) (s : State) (os : List Operation) →

@@ -5,6 +5,7 @@ use Rattle.std.proofs.Common.{take, drop, Box, Global, arith, refl, sym, ap, ap�
 use Rattle.std.specs.List.{slice_range}
 use Rattle.std.proofs.Math.Seq.{take-append_seam, drop-append_seam}
 use Rattle.std.proofs.lemmas.List.{append_assoc, length-append}
+use Rattle.std.proofs.Math.Nat.{add-sub_cancel_left}
 use Rattle.lb_static.specs.declared.resolved.Term.{Term, If}
 use Rattle.lb_flat.specs.Emit.{State, Emitted}
 use Rattle.lb_flat.specs.EmitTerms.{Context, Place, PlacedEmitted, placed, next_term}
@@ -23,11 +24,8 @@ slice_seam a b c =
     let split = append_assoc a b c in
     let rest = ap (drop (length a)) split ∙ drop-append_seam a (b ++ c) in
     let size : length (a ++ b) - length a ≡ length b =
-    ap (λ n. n - length a) (length-append a b) ∙ plus_less (length a) (length b) in
+    ap (λ n. n - length a) (length-append a b) ∙ add-sub_cancel_left (length a) (length b) in
     ap₂ (λ (n : ℕ) (is : List ℕ). take n is) size rest ∙ take-append_seam b c
-  where
-    plus_less : (m n : ℕ) → m + n - m ≡ n
-    plus_less m n = omega arith
 
 -- a word on three operands leaves what stands below them
 pub on_three_onto :

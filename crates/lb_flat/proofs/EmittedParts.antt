@@ -1,6 +1,6 @@
 -- Each part of a text is emitted from some state, and the equations that are emitted for it stay.
 use Rattle.std.proofs.Common.{◌≡◌, inl, inr, ℕ, ◌+◌, false, Option, Some, None, List, [], ◌∷◌, ◌++◌}
-use Rattle.std.proofs.Common.{map, flat_map, refl, sym, subst}
+use Rattle.std.proofs.Common.{map, flat_map, sym, subst}
 use Rattle.lb_syntax.specs.declared.tree.UnaryOperator.TheVariants.{Not}
 use Rattle.lb_syntax.specs.declared.tree.BinaryOperator.{BinaryOperator}
 use Rattle.lb_syntax.specs.declared.tree.BinaryOperator.TheVariants.{Or, And}
@@ -26,6 +26,7 @@ use Rattle.lb_flat.specs.Emit.{emit_name, emit, emit_all, emit_each, emit_body, 
 use Rattle.lb_flat.proofs.Bodies.{occurrences_of, assert_equations}
 use Rattle.lb_flat.proofs.Emission.{joins_equations}
 use Rattle.lb_flat.proofs.Lists.{Every-append}
+use Rattle.lb_flat.proofs.LinkSymbols.{keep_equations}
 
 -- ## What stays
 
@@ -100,15 +101,6 @@ symbol_stays :
 symbol_stays k op s Map (xs ∷ (ys ∷ [])) = add_stays k s (zip2 (ApplyBinary op) xs ys)
 symbol_stays k op s Red ((init ∷ []) ∷ (ys ∷ [])) = chained_stays k op s init ys
 symbol_stays k op s it found = λ q i. i
-
-keep_equations : (x : Emitted) → (keep x).state.equations ≡ x.state.equations
-unfolding keep
-keep_equations x = refl
-
--- what is kept is what was found
-pub keep_found : (x : Emitted) → (keep x).found ≡ x.found
-unfolding keep
-keep_found x = refl
 
 -- and it leaves the equations as they were
 pub keep_stays : (x : Emitted) → Stay x.state.equations (keep x).state.equations

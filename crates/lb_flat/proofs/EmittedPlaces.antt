@@ -15,7 +15,7 @@ pub record IsNotAfter (from to : Place) : Type 0 where
   pub term : from.term ≤ to.term
   pub call : from.call ≤ to.call
 
-same_place : (at : Place) → IsNotAfter at at
+pub same_place : (at : Place) → IsNotAfter at at
 same_place at = record { term = omega arith; call = omega arith }
 
 pub one_later : (at : Place) → IsNotAfter at (next_term at)

@@ -56,20 +56,20 @@ pub chosen_next : (k : FlatClock) (c : ℕ) (cs xs : List ℕ) (y : Emitted) →
     (choose k (c ∷ cs) xs y).state.next ≡ y.state.next + min (length xs) (length y.found)
 chosen_next k c cs xs y = pairs_next k (Choose c) xs y
 
-chained_next : (k : FlatClock) (op : BinaryOperator) (s : State) (init : ℕ) (ys : List ℕ) →
+pub chained_next : (k : FlatClock) (op : BinaryOperator) (s : State) (init : ℕ) (ys : List ℕ) →
     (chained k op s init ys).state.next ≡ s.next + length ys
 unfolding chained
 chained_next k op s init [] = omega arith
 chained_next k op s init (y ∷ ys) =
     let h = chained_next k op (push k s (ApplyBinary op init y)) s.next ys in omega (arith, h)
 
-chained_one : (k : FlatClock) (op : BinaryOperator) (s : State) (init : ℕ) (ys : List ℕ) →
+pub chained_one : (k : FlatClock) (op : BinaryOperator) (s : State) (init : ℕ) (ys : List ℕ) →
     length (chained k op s init ys).found ≡ 1
 unfolding chained
 chained_one k op s init [] = refl
 chained_one k op s init (y ∷ ys) = chained_one k op (push k s (ApplyBinary op init y)) s.next ys
 
-twice_next : (k : FlatClock) (s : State) (any two : ℕ) (xs : List ℕ) →
+pub twice_next : (k : FlatClock) (s : State) (any two : ℕ) (xs : List ℕ) →
     (twice k s any two xs).state.next ≡ s.next + 3 * length xs
 unfolding twice
 twice_next k s any two [] = omega arith
@@ -79,7 +79,7 @@ twice_next k s any two (x ∷ xs) =
     let h = twice_next k (push k u (ApplyBinary Or any x)) u.next t.next xs in
     omega (arith, h)
 
-twice_one : (k : FlatClock) (s : State) (any two : ℕ) (xs : List ℕ) →
+pub twice_one : (k : FlatClock) (s : State) (any two : ℕ) (xs : List ℕ) →
     length (twice k s any two xs).found ≡ 1
 unfolding twice
 twice_one k s any two [] = refl

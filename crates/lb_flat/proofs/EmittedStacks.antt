@@ -3,7 +3,7 @@
 use Rattle.std.proofs.Common.{◌≡◌, ◌<◌, ◌≤◌, ℕ, suc, ◌+◌, List, [], ◌∷◌, ◌++◌, length, map}
 use Rattle.std.proofs.Common.{take, drop, get_or, min, ◌-◌, Option, arith, All, refl, sym}
 use Rattle.std.proofs.Common.{ap, ap₂, subst, ◌∙◌}
-use Rattle.std.proofs.Math.Seq.{take-append_seam, drop-append_seam, take-length}
+use Rattle.std.proofs.Math.Seq.{take-append_seam, drop-append_seam}
 use Rattle.std.proofs.lemmas.List.{append_assoc, append-nil, drop_more, drop_all, drop-map}
 use Rattle.std.proofs.lemmas.List.{take-map, get_or-map, get_or-take, get_or-drop, length-append}
 use Rattle.std.proofs.lemmas.List.{length-map, length-take, length-drop, take-append-le}
@@ -28,6 +28,7 @@ use Rattle.lb_flat.specs.Within.{IsClock, IsWithin}
 use Rattle.lb_flat.proofs.Emitting.{below_later, reads_below, keeps_below, elements_later}
 use Rattle.lb_flat.proofs.Emitting.{elements_push, numbers_push}
 use Rattle.std.proofs.lemmas.List.{map-append}
+use Rattle.std.proofs.Math.Nat.{add-sub_cancel_left}
 
 -- ## One equation more, under a table of clocks
 
@@ -96,15 +97,12 @@ on_two_onto f below xs y =
     ap (drop (length below)) split ∙ drop-append_seam below (xs ++ y.found) in
     let size : length (below ++ xs) - length below ≡ length xs =
     ap (λ n. n - length below) (length-append below xs)
-    ∙ plus_less (length below) (length xs) in
+    ∙ add-sub_cancel_left (length below) (length xs) in
     let second : slice_range all (length below) (length (below ++ xs)) ≡ xs =
     ap₂ (λ (n : ℕ) (is : List ℕ). take n is) size rest ∙ take-append_seam xs y.found in
     let third = drop-append_seam (below ++ xs) y.found in
     ap₂ onto first
     (ap₂ (λ (is js : List ℕ). f is (record { state = y.state; found = js })) second third)
-  where
-    plus_less : (m n : ℕ) → m + n - m ≡ n
-    plus_less m n = omega arith
 
 -- elements for operations, one by one
 pub added_none : (k : FlatClock) (x : Emitted) → added k [] x ≡ x
@@ -133,10 +131,6 @@ pub record IsAdding (k : FlatClock) (old new : Emitted) (left all : List flat.Op
     Type 0 where
   pub below : take (length old.found) new.found ≡ old.found
   pub rest : added k left new ≡ added k all old
-
-pub adding_starts : (k : FlatClock) (x : Emitted) (all : List flat.Operation) →
-    IsAdding k x x all all
-adding_starts k x all = record { below = take-length x.found; rest = refl }
 
 still_below : (xs ys : List ℕ) (i : ℕ) → take (length xs) ys ≡ xs →
     take (length xs) (ys ++ i ∷ []) ≡ xs

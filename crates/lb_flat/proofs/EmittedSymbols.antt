@@ -9,6 +9,7 @@ use Rattle.lb_syntax.specs.declared.tree.ArrayIterator.TheVariants.{Map, Red, Fi
 use Rattle.lb_syntax.specs.declared.tree.BinaryOperator.{BinaryOperator}
 use Rattle.lb_syntax.specs.Lists.{Every, joined, zip2}
 use Rattle.lb_syntax.specs.Tree.{Name, Static, Symbol, Iterate, Exprs}
+use Rattle.lb_syntax.proofs.ListPlaces.{heads_same}
 use Rattle.lb_static.specs.Instances.{Program, Instance, Path, static_count}
 use Rattle.lb_static.specs.DataTypes.{DataType, int, truth, element_count}
 use Rattle.lb_check.specs.Clocks.{Clock}
@@ -25,12 +26,6 @@ use Rattle.lb_flat.proofs.FoundWidths.{all_as_many}
 use Rattle.lb_flat.proofs.ReceivedInputs.{AreFed}
 use Rattle.lb_flat.proofs.TypeFacts.{bound, symbolic}
 use Rattle.lb_flat.proofs.Widths.{AreVariablesWide, IsOccurrenceWide, number_is, all_wide}
-
-first_number : (a b : ℕ) (as' bs : List ℕ) → a ∷ as' ≡ b ∷ bs → a ≡ b
-first_number a b as' bs e = cc
-
-other_numbers : (a b : ℕ) (as' bs : List ℕ) → a ∷ as' ≡ b ∷ bs → as' ≡ bs
-other_numbers a b as' bs e = cc
 
 -- the operands of a symbol
 abbrev two_scalars : List ℕ
@@ -56,7 +51,7 @@ pub symbol_is :
     symbol k op m it (gives s (joined iss)) ≡ emit_symbol k op s it iss
 symbol_is k op m Map s [] e = cc
 symbol_is k op m Map s (xs ∷ []) e = cc
-symbol_is k op m Map s (xs ∷ (ys ∷ [])) e = zipped k op m s xs ys (first_number _ _ _ _ e)
+symbol_is k op m Map s (xs ∷ (ys ∷ [])) e = zipped k op m s xs ys (heads_same _ _ _ _ e)
 symbol_is k op m Map s (xs ∷ (ys ∷ (zs ∷ iss))) e = cc
 symbol_is k op m Red s [] e = absurd e
 symbol_is k op m Red s ([] ∷ iss) e = absurd (omega (arith, e.0))

@@ -31,19 +31,17 @@ use Rattle.lb_check.proofs.ApartLists.{Every-at}
 use Rattle.lb_check.proofs.OccurrenceParts.{node_occurrence_parts}
 use Rattle.lb_check.proofs.OccurrenceSites.{site_is}
 use Rattle.lb_check.proofs.TypedOccurrences.{HasTypes, occurrences_typed}
-use Rattle.lb_flat.specs.Emit.{State, emit_body, emit_instances}
-use Rattle.lb_flat.specs.EmitTerms.{Context, emit_rows, emit_statements, first_place}
+use Rattle.lb_flat.specs.Emit.{State, emit_body}
+use Rattle.lb_flat.specs.EmitTerms.{Context, emit_statements, first_place}
 use Rattle.lb_flat.specs.Layouts.{flat_clock}
 use Rattle.lb_flat.specs.NumberedLayouts.{layout}
-use Rattle.lb_flat.specs.RowBodies.{row_bodies}
-use Rattle.lb_flat.specs.RowContexts.{RowClocks, row_context}
+use Rattle.lb_flat.specs.RowContexts.{RowClocks}
 use Rattle.lb_flat.proofs.EmittedBodies.{body_is, body_place_is}
 use Rattle.lb_flat.proofs.EmittedTerms.{IsSmall, IsTermAt}
 use Rattle.lb_flat.proofs.NumberedPlaces.{places_width}
-use Rattle.lb_flat.proofs.RowBodies.{rows_emit}
 use Rattle.lb_flat.proofs.RowContexts.{own_resolved}
 use Rattle.lb_flat.proofs.RowInstances.{IsRow}
-use Rattle.lb_flat.proofs.RowTexts.{AreRowClocks, context_is}
+use Rattle.lb_flat.proofs.RowTexts.{AreRowClocks}
 use Rattle.lb_flat.proofs.TermContexts.{IsContext}
 use Rattle.lb_flat.proofs.TermPlaces.{Along, along_from, past}
 use Rattle.lb_flat.proofs.WideInstances.{all_typed, calls_wide}
@@ -189,29 +187,3 @@ module _ (P : Program) (accepted : static_refusal P ≡ None) (checked : check_r
         instance_place_is here (in_at (instances P) k here is.instance_is) (texts_of is.node)
         (counts_of is.node) ctx h.context h.terms is.node.body.items
         (own.body ∙ ap (λ (m : Node). m.body) (sym node)) own.body_within own.unhidden s
-
-    module _ (unhidden : (names : List Name) (s : Static) → is_no_variable names s ≡ true →
-        (x : Name) × (s ≡ Named x)) (ks : ℕ → RowClocks)
-        (clocks : (k : ℕ) (i : row.Instance) (here : Instance)
-        (is : IsRow P r t table k i here) → AreRowClocks P r is.node here (ks k)) where
-      own_row_is :
-          (k : ℕ) (i : row.Instance) (here : Instance) (is : IsRow P r t table k i here)
-          (s : State) →
-          (emit_statements (row_context r t (ks k) k is.node is.specialization) first_place s
-          is.node.body.items).state
-          ≡ emit_body (layout P) P here 0 s here.node.body
-      own_row_is k i here is s =
-          let own = clocks k i here is in
-          row_body_is k i here is (row_context r t (ks k) k is.node is.specialization)
-          (record {
-            context =
-                context_is P r t reached table accepted unhidden k i here is (ks k) own;
-            terms = record { clock = own.clock; parts = own.parts };
-          }) s
-
-      -- all rows give what all instances give
-      pub table_emits :
-          (s : State) →
-          emit_rows s (row_bodies r t ks 0 t.instances.items)
-          ≡ emit_instances (layout P) P s (instances P)
-      table_emits s = rows_emit P r t table (layout P) ks own_row_is s

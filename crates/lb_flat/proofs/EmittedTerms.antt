@@ -8,6 +8,7 @@ use Rattle.lb_syntax.specs.declared.tree.ArrayIterator.{ArrayIterator}
 use Rattle.lb_syntax.specs.Lists.{◌>>=◌, Every, copies, either_or, joined}
 use Rattle.lb_syntax.specs.Tree as tree
 use Rattle.lb_syntax.specs.Tree.{Name, Static, Expr, Exprs}
+use Rattle.lb_syntax.proofs.TruthValues.{and_first, and_second}
 use Rattle.lb_static.specs.DataTypes.{DataType, int, variables}
 use Rattle.lb_static.specs.Instances.{Program, Instance, Path, Site, static_count, call_site, sites}
 use Rattle.lb_static.specs.Instances.{sites_in, node_named, node_sites}
@@ -33,7 +34,6 @@ use Rattle.lb_check.specs.Types.{data_types, all_types, index_type, only, slice_
 use Rattle.lb_check.proofs.OccurrenceParts.{never_as_many, one_less}
 use Rattle.lb_check.proofs.OccurrenceSites.{own_site}
 use Rattle.lb_check.proofs.OperandTypes.{first_of_all}
-use Rattle.lb_check.proofs.TruthValues.{and_first, and_second}
 use Rattle.lb_flat.specs.Emit.{State, Emitted, EmittedAll, emit, emit_all, emit_each, emit_name}
 use Rattle.lb_flat.specs.Emit.{emit_at_most_one, emit_nor, gives, joins}
 use Rattle.lb_flat.specs.EmitTerms.{Context, Place, PlacedEmitted, call, choose, constant, each}

@@ -18,7 +18,7 @@ use Rattle.lb_flat.specs.Flat.{FlatClock, Constant}
 use Rattle.lb_flat.specs.TermEmissions.{onto, above, on_top, on_two, pushed}
 use Rattle.lb_flat.proofs.EmittedNumbers.{next_grows, list_grows, one_grows, two_grows, all_grows}
 use Rattle.lb_flat.proofs.EmittedNumbers.{add_grows, next_of_add}
-use Rattle.lb_flat.proofs.EmittedPlaces.{IsNotAfter, place_grows, list_later}
+use Rattle.lb_flat.proofs.EmittedPlaces.{IsNotAfter, place_grows, list_later, same_place}
 use Rattle.lb_flat.specs.TermForms.{IsSingle, IsPair, IsRow}
 use Rattle.lb_flat.proofs.EmittedRows.{emitted_single, emitted_pair, emitted_if, emitted_all}
 use Rattle.lb_flat.proofs.EmittedRows.{listed_onto, listed_more}
@@ -38,9 +38,6 @@ room_before x y le h g =
       elements = omega (arith, le, g.elements);
       places = places_before x.place y.place h g.places;
     }
-
-same_place : (at : Place) → IsNotAfter at at
-same_place at = record { term = omega arith; call = omega arith }
 
 module _ (ctx : Context) (at : Place) (s : State) (t : Term) where
   -- a term with one operand

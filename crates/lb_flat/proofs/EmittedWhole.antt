@@ -1,24 +1,26 @@
 -- The whole flat program that is emitted from the rows of the table of instances is the expansion
 -- of the program, where the numbers of a row's variables are those of its instance.
 use Rattle.std.proofs.Common.{◌≡◌, ℕ, zero, suc, ◌+◌, Bool, true, false, cond, Option}
-use Rattle.std.proofs.Common.{Some, None, IfSome, option_map, List, [], ◌∷◌, ◌++◌, map, length, flat_map}
+use Rattle.std.proofs.Common.{Some, None, IfSome, option_map, List, [], ◌∷◌, ◌++◌, map, length}
+use Rattle.std.proofs.Common.{flat_map}
 use Rattle.std.proofs.Common.{get_or, refl, ap, ap₂, sym, ◌∙◌, subst, arith}
 use Rattle.std.specs.Prelude.{slice_get, if◌then◌else◌}
 use Rattle.std.specs.List.{range_with_len, filter}
 use Rattle.std.proofs.lemmas.List.{append_assoc, length-append, length-map}
+use Rattle.std.proofs.lemmas.Option.{same_Some}
 use Rattle.lb_syntax.specs.Lists.{◌>>=◌, or_else, listed}
 use Rattle.lb_syntax.specs.Tree.{Name, Declaration, Node}
+use Rattle.lb_syntax.proofs.ListPlaces.{get_first, get_later}
 use Rattle.lb_static.specs.DataTypes.{variables, input_kinds}
 use Rattle.lb_static.specs.Instances.{Program, Instance, Path, Root, Observer, Child, instance_at}
 use Rattle.lb_static.specs.Instances.{start_at, instances}
 use Rattle.lb_static.specs.Instantiation.{static_refusal}
 use Rattle.lb_static.specs.InstanceTable.{IsTable, paths_of}
 use Rattle.lb_static.specs.Parts.{among, clock_names}
-use Rattle.lb_static.specs.ReachedNodes.{IsReached, source_names}
-use Rattle.lb_static.specs.ResolvedNodes.{IsResolved, node_of}
+use Rattle.lb_static.specs.ReachedNodes.{IsReached}
+use Rattle.lb_static.specs.ResolvedNodes.{node_of}
 use Rattle.lb_static.specs.declared.reach.Reached.{Reached}
 use Rattle.lb_static.specs.declared.resolved.ResolvedNode.{ResolvedNode}
-use Rattle.lb_static.specs.declared.resolved.ResolvedStatement.{ResolvedStatement}
 use Rattle.lb_static.specs.declared.table.Instance as row
 use Rattle.lb_static.specs.declared.table.Origin.{Origin}
 use Rattle.lb_static.specs.declared.table.Origin.TheVariants as origin
@@ -30,49 +32,34 @@ use Rattle.lb_check.specs.Solutions.{columns_at}
 use Rattle.lb_check.specs.Streams.{History}
 use Rattle.lb_check.specs.Verdicts.{property_path, clock_variables}
 use Rattle.lb_check.proofs.Checks.{instantiation_kept}
-use Rattle.lb_check.proofs.FittedCalls.{node_at}
 use Rattle.lb_check.proofs.InstancePaths.{at_path, in_instances, path_is}
-use Rattle.lb_check.proofs.ListPairs.{get_first, get_later}
-use Rattle.lb_check.proofs.OperandTypes.{some_same}
 use Rattle.lb_flat.specs.ClockUses.{clocks_named, is_among, clock_numbers}
 use Rattle.lb_flat.specs.Emit.{State, Target, targets, copied, received, from_inputs, given_inputs}
 use Rattle.lb_flat.specs.Emit.{observed, property_places}
 use Rattle.lb_flat.specs.Emit.{clock_places, before_instances, emit_instances, expanded}
-use Rattle.lb_flat.specs.EmitRows.{node_in, with_body, body_in, bodies}
+use Rattle.lb_flat.specs.EmitRows.{node_in, bodies}
 use Rattle.lb_flat.specs.EmitTerms.{Context, emit_rows}
 use Rattle.lb_flat.specs.EmitWhole.{variable_targets, parameter_targets, places_from, is_start}
 use Rattle.lb_flat.specs.EmitWhole.{start_of, start_from, start_in, given_at, observed_at}
 use Rattle.lb_flat.specs.EmitWhole.{outputs_at, clocks_in, row_clocks, whole}
 use Rattle.lb_flat.specs.Flat.{FlatEquation, column}
 use Rattle.lb_flat.specs.Flattening.{history_of}
-use Rattle.lb_flat.specs.Frames.{targets_of, copy_of}
+use Rattle.lb_flat.specs.Frames.{targets_of}
 use Rattle.lb_flat.specs.FurtherKinds.{kinds_from}
 use Rattle.lb_flat.specs.Judging.{FlatProgram}
 use Rattle.lb_flat.specs.Layouts.{Layout, flat_clock}
 use Rattle.lb_flat.specs.NumberedLayouts.{layout}
-use Rattle.lb_flat.specs.RowBodies.{node_body, specialized_body, row_body, row_bodies}
-use Rattle.lb_flat.specs.RowContexts.{RowClocks, row_context}
 use Rattle.lb_flat.proofs.ObserverWidths.{observer_wide}
 use Rattle.lb_flat.proofs.Placing.{AreAsWide}
 use Rattle.lb_flat.proofs.PropertyOutput.{property_of}
+use Rattle.lb_flat.proofs.RowContexts.{own_resolved}
 use Rattle.lb_flat.proofs.RowInstances.{IsRow, rows_many, row_shown, row_of, root_path}
 use Rattle.lb_flat.proofs.RowInstances.{observer_path, origin_path}
+use Rattle.lb_flat.proofs.ReceivedInputs.{by_number, copied_append}
 
 -- ## Lists by number
 
 module _ {A D : Type 0} where
-  -- what is given for numbers in a row is what is given for the things that have these numbers
-  by_number :
-      (f : ℕ → List A) (g : D → List A) (j : ℕ) (ds : List D) →
-      ((q : ℕ) (d : D) → slice_get ds q ≡ Some d → f (j + q) ≡ g d) →
-      flat_map f (range_with_len j (length ds)) ≡ flat_map g ds
-  by_number f g j [] same = refl
-  by_number f g j (d ∷ ds) same =
-      let first : j ≡ j + 0 = omega arith in
-      ap₂ (λ (xs ys : List A). xs ++ ys) (ap f first ∙ same 0 d refl)
-      (by_number f g (j + 1) ds (λ q e at.
-      let next : (j + 1) + q ≡ j + suc q = omega arith in ap f next ∙ same (suc q) e at))
-
   filtered : (p : ℕ → Bool) (q : D → Bool) (f : ℕ → List A) (g : D → List A) (j : ℕ) (d : D)
       (is : List ℕ) (ds : List D) → p j ≡ q d → f j ≡ g d →
       flat_map f (filter p is) ≡ flat_map g (filter q ds) →
@@ -108,16 +95,6 @@ module _ {A D : Type 0} where
 
 -- ## What the observer receives
 
-copied_both :
-    (ts us : List Target) (is js : List ℕ) → length ts ≡ length is →
-    copied (ts ++ us) (is ++ js) ≡ copied ts is ++ copied us js
-copied_both [] us [] js e = refl
-copied_both [] us (i ∷ is) js e = absurd (omega (arith, e))
-copied_both (t ∷ ts) us [] js e = absurd (omega (arith, e))
-copied_both (t ∷ ts) us (i ∷ is) js e =
-    ap (λ (qs : List FlatEquation). copy_of t.clock t.place i ∷ qs)
-    (copied_both ts us is js (omega (arith, e)))
-
 module _ (Y : Layout) where
   abbrev still : History
   still = history_of Y [] []
@@ -146,7 +123,7 @@ module _ (Y : Layout) where
       let right = length-map is (column [] []) in
       let wide : length (targets Y n p d.name) ≡ length is =
       one ∙ (sym left ∙ (h.0 ∙ right)) in
-      copied_both (targets Y n p d.name) (inputs_at n p ds) is (places_at q es) wide
+      copied_append (targets Y n p d.name) (inputs_at n p ds) is (places_at q es) wide
       ∙ ap (λ (qs : List FlatEquation). copied (targets Y n p d.name) is ++ qs)
       (received_is n p q ds es h.1)
 
@@ -205,7 +182,7 @@ module _ (r : Reached) (t : Table) (b : Bool) where
   first_start j [] k i e h = absurd cc
   first_start j (x ∷ is) zero i e h =
       first_here j x is
-      (subst (λ (i : row.Instance). is_start b i.origin ≡ true) (sym (some_same x i e)) h)
+      (subst (λ (i : row.Instance). is_start b i.origin ≡ true) (sym (same_Some x i e)) h)
   first_start j (x ∷ is) (suc k) i e h =
       or_later j x is (is_start b x.origin) refl (first_start (suc j) is k i e h)
 
@@ -240,14 +217,6 @@ pub record HasVariables (P : Program) (here : Instance) (ctx : Context) : Type 0
 
 module _ (P : Program) (r : Reached) (t : Table) (reached : IsReached P r)
     (table : IsTable P r t) (accepted : static_refusal P ≡ None) where
-  own_resolved :
-      (k : ℕ) (i : row.Instance) (here : Instance) (is : IsRow P r t table k i here) →
-      IsResolved (source_names P) is.node
-  own_resolved k i here is =
-      let sp = table.specialized i.specialization.0 is.specialization is.specialized in
-      let m = node_at P r t reached table is.specialization sp.0 in
-      subst (IsResolved (source_names P)) (some_same m.0 is.node (sym m.1 ∙ is.resolved)) m.2
-
   own_node : (k : ℕ) (i : row.Instance) (here : Instance) (is : IsRow P r t table k i here) →
       node_of is.node ≡ here.node
   own_node k i here is = sym (ap (λ (c : Instance). c.node) is.same)
@@ -281,7 +250,7 @@ module _ (P : Program) (r : Reached) (t : Table) (reached : IsReached P r)
     where
       apart : (p q : Path) → slice_get (paths_of t) k ≡ Some p → slice_get (paths_of t) k ≡ Some q →
           p ≡ q
-      apart p q e f = some_same p q (sym e ∙ f)
+      apart p q e f = same_Some p q (sym e ∙ f)
 
       by : (b : Bool) (o : Origin) → i.origin ≡ o →
           slice_get (paths_of t) k ≡ Some (start_path b) → is_start b i.origin ≡ true
@@ -319,7 +288,7 @@ module _ (P : Program) (r : Reached) (t : Table) (reached : IsReached P r)
   begun b k i e h =
       let there = row_shown P r t table k i e in
       let path : there.0.path ≡ start_path b =
-      some_same there.0.path (start_path b)
+      same_Some there.0.path (start_path b)
       (sym there.1.path_is ∙ path_of_start b k i e h) in
       let at = at_path P there.0 (in_at (instances P) k there.0 there.1.instance_is) in
       (there.0, there.1, ap (instance_at P) (sym path) ∙ at, path)
@@ -336,7 +305,7 @@ module _ (P : Program) (r : Reached) (t : Table) (reached : IsReached P r)
       (line.1.path_is ∙ ap (λ p. Some p) path) in
       let f = first_start r t b 0 t.instances.items at.0 line.0 line.1.row_is stands in
       let one = begun b f.place f.first f.stands f.starts in
-      let same : one.0 ≡ here = some_same one.0 here (sym one.2 ∙ e) in
+      let same : one.0 ≡ here = same_Some one.0 here (sym one.2 ∙ e) in
       let own : IsRow P r t table f.place f.first here =
       subst (IsRow P r t table f.place f.first) same one.1 in
       let zero_more : 0 + f.place ≡ f.place = omega arith in
@@ -368,12 +337,12 @@ module _ (P : Program) (r : Reached) (t : Table) (reached : IsReached P r)
 
       inputs_many : is.node.inputs ≡ length here.node.inputs
       inputs_many =
-          (own_resolved k i here is).inputs
+          (own_resolved P r t reached table accepted k i here is).inputs
           ∙ ap (λ (n : Node). length n.inputs) (own_node k i here is)
 
       outputs_many : is.node.outputs ≡ length here.node.outputs
       outputs_many =
-          (own_resolved k i here is).outputs
+          (own_resolved P r t reached table accepted k i here is).outputs
           ∙ ap (λ (n : Node). length n.outputs) (own_node k i here is)
 
       -- the inputs of a row are those of its instance
@@ -524,7 +493,7 @@ module _ (P : Program) (r : Reached) (t : Table) (reached : IsReached P r)
       row_clocks_are k i here is =
           let own = has k i here is in
           let many : length is.node.variables.items ≡ length (variables here.node) =
-          (own_resolved k i here is).as_many
+          (own_resolved P r t reached table accepted k i here is).as_many
           ∙ ap (λ (n : Node). length (variables n)) (own_node k i here is) in
           let p = is_among (clocks_named is.node) in
           ap (listed (λ (n : ResolvedNode). flat_map (cs k).places (clock_numbers n)))
@@ -562,7 +531,7 @@ module _ (P : Program) (r : Reached) (t : Table) (reached : IsReached P r)
           IsRow P r t table (0 + k) i here
       each_row k i here e f =
           let shown = row_shown P r t table k i e in
-          let same = some_same shown.0 here (sym shown.1.instance_is ∙ f) in
+          let same = same_Some shown.0 here (sym shown.1.instance_is ∙ f) in
           let number : k ≡ 0 + k = omega arith in
           subst (λ m. IsRow P r t table m i here) number
           (subst (IsRow P r t table k i) same shown.1)
@@ -609,43 +578,4 @@ module _ (P : Program) (r : Reached) (t : Table) (reached : IsReached P r)
           (emits (before_instances count))
           ∙ (ap (λ (is : List ℕ). assembled count given' seen' s' is outs) clocks_are
           ∙ ap (λ (is : List ℕ). assembled count given' seen' s' clocks' is) property_is)))
-
-  -- ## Bodies
-
-  module _ (ks : ℕ → RowClocks) (cs : ℕ → Context)
-      (same : (k : ℕ) (i : row.Instance) (here : Instance) (is : IsRow P r t table k i here) →
-      cs k ≡ row_context r t (ks k) k is.node is.specialization) where
-    one_body :
-        (k : ℕ) (i : row.Instance) (here : Instance) (is : IsRow P r t table k i here) →
-        body_in r t cs k i ≡ row_body r t (ks k) k i
-    one_body k i here is =
-        ap (listed (with_body (cs k))) (node_found k i here is)
-        ∙ (ap (λ (c : Context). with_body c is.node) (same k i here is)
-        ∙ sym (ap (listed (specialized_body r t (ks k) k)) is.specialized
-        ∙ ap (listed (node_body r t (ks k) k is.specialization)) is.resolved))
-
-    bodies_from :
-        (j : ℕ) (rows : List row.Instance) →
-        ((k : ℕ) (i : row.Instance) → slice_get rows k ≡ Some i →
-        (here : Instance) × IsRow P r t table (j + k) i here) →
-        bodies r t cs j rows ≡ row_bodies r t ks j rows
-    unfolding bodies row_bodies
-    bodies_from j [] each = refl
-    bodies_from j (i ∷ rows) each =
-        let start : j + 0 ≡ j = omega arith in
-        let at = each 0 i refl in
-        let own = subst (λ k. IsRow P r t table k i at.0) start at.1 in
-        ap₂ (λ (xs ys : List (Context × List ResolvedStatement)). xs ++ ys)
-        (one_body j i at.0 own)
-        (bodies_from (suc j) rows (λ k l e.
-        let next : j + suc k ≡ suc j + k = omega arith in
-        let there = each (suc k) l e in
-        (there.0, subst (λ m. IsRow P r t table m l there.0) next there.1)))
-
-    -- the statements of the rows, where the numbers stand for what rows give them
-    pub bodies_are : bodies r t cs 0 t.instances.items ≡ row_bodies r t ks 0 t.instances.items
-    bodies_are =
-        bodies_from 0 t.instances.items (λ k i e.
-        let zero_k : k ≡ 0 + k = omega arith in
-        let there = row_shown P r t table k i e in
-        (there.0, subst (λ m. IsRow P r t table m i there.0) zero_k there.1))
+      -- ## Bodies

@@ -3,18 +3,18 @@
 -- needs.
 use Rattle.std.proofs.Common.{◌≡◌, ℕ, None, Some, List, [], sym, ◌∙◌, subst}
 use Rattle.std.specs.Prelude.{slice_get}
+use Rattle.std.proofs.lemmas.Option.{same_Some}
 use Rattle.lb_static.specs.Instances.{Program}
 use Rattle.lb_static.specs.Instantiation.{static_refusal}
 use Rattle.lb_check.specs.Elements.{program_elements}
-use Rattle.lb_check.specs.Needs.{Element, Needs, Reaches, at_once, through, IsCausal, IsCyclic}
+use Rattle.lb_check.specs.Needs.{Element, Needs, Reaches, at_once, through, IsCausal}
 use Rattle.lb_check.proofs.AcceptedNumbers.{number_is}
-use Rattle.lb_check.proofs.OperandTypes.{some_same}
 use Rattle.lb_flat.specs.Correct.{HasReads, IsExpansionOf, IsOrderingOf}
 use Rattle.lb_flat.specs.Flat.{FlatEquation}
 use Rattle.lb_flat.specs.Judging.{FlatProgram}
-use Rattle.lb_flat.specs.Reading.{Chain, one_read, more_reads, NeedsAt, IsReadCycle, IsCertificate}
+use Rattle.lb_flat.specs.Reading.{Chain, one_read, more_reads, IsReadCycle, IsCertificate}
 use Rattle.lb_flat.specs.Run.{Ready}
-use Rattle.lb_flat.proofs.Certificates.{certificate_of, cyclic_of}
+use Rattle.lb_flat.proofs.Certificates.{certificate_of}
 use Rattle.lb_flat.proofs.ChainOrders.{no_cycle}
 
 -- one chain after another
@@ -28,18 +28,10 @@ pub one_number :
     (P : Program) → static_refusal P ≡ None → (i m : ℕ) (x : Element) →
     slice_get (program_elements P) i ≡ Some x → slice_get (program_elements P) m ≡ Some x → i ≡ m
 one_number P accepted i m x e g =
-    some_same i m (sym (number_is P accepted i x e) ∙ number_is P accepted m x g)
+    same_Some i m (sym (number_is P accepted i x e) ∙ number_is P accepted m x g)
 
 module _ (P : Program) (accepted : static_refusal P ≡ None) (f : FlatProgram)
     (reads : (x y : Element) → Needs P x y → HasReads P f x y) where
-  -- where an element needs another, its number reads that of the other
-  pub reads_at : (i j : ℕ) → NeedsAt P i j → Chain f j i
-  reads_at i j n =
-      let r = reads n.one n.other n.needs in
-      let at : r.one ≡ i = one_number P accepted r.one i n.one r.is_one n.is_one in
-      let other : r.other ≡ j = one_number P accepted r.other j n.other r.is_other n.is_other in
-      subst (Chain f j) at (subst (λ m. Chain f m r.one) other r.chain)
-
   -- what reaches another reads it
   reaches_read : (y x : Element) → Reaches P y x → HasReads P f x y
   reaches_read y _ (at_once x n) = reads x y n
@@ -73,7 +65,3 @@ module _ (P : Program) (f : FlatProgram) (e : IsExpansionOf P f) where
   -- elements of variables that read one another in a cycle are a certificate of it
   pub expansion_certified : (is : List ℕ) → IsReadCycle f is → IsCertificate P is
   expansion_certified is cycle = certificate_of P f is e.needs cycle
-
-  -- so that the program is cyclic
-  pub expansion_cyclic : (is : List ℕ) → IsReadCycle f is → IsCyclic P
-  expansion_cyclic is cycle = cyclic_of P is (expansion_certified is cycle)

@@ -7,9 +7,12 @@ use Rattle.std.specs.Prelude.{find, nat_eq, nat_lt, option_map, slice_get}
 use Rattle.std.specs.List.{list_all}
 use Rattle.std.proofs.lemmas.Bool.Decides.{nat_tests}
 use Rattle.std.proofs.lemmas.List.{length-map, take_all}
-use Rattle.std.proofs.lemmas.Option.{slice_get_within}
+use Rattle.std.proofs.lemmas.Option.{slice_get_within, same_Some}
+use Rattle.std.proofs.lemmas.Bool.{lt-ltb}
 use Rattle.lb_syntax.specs.Lists.{◌>>=◌, Every, In, holds, listed}
 use Rattle.lb_syntax.specs.Tree.{Name, Expr, Call, Declaration, Node}
+use Rattle.lb_syntax.proofs.ListPlaces.{all_in, mapped_from, all_at}
+use Rattle.lb_syntax.proofs.TruthValues.{and_first, and_second}
 use Rattle.lb_static.specs.DataTypes.{variables}
 use Rattle.lb_static.specs.Instances.{Program, Instance, Path, Root, Observer, Child, instance_at}
 use Rattle.lb_static.specs.Instances.{instances, node_named, node_sites, Site, call_site}
@@ -31,7 +34,7 @@ use Rattle.lb_static.specs.declared.table.Origin.{Origin}
 use Rattle.lb_static.specs.declared.table.Origin.TheVariants as origin
 use Rattle.lb_static.specs.declared.table.Specialization.{Specialization}
 use Rattle.lb_static.specs.declared.table.Table.{Table}
-use Rattle.lb_static.proofs.Members.{all_in, in_at, place_in}
+use Rattle.lb_static.proofs.Members.{in_at, place_in}
 use Rattle.lb_check.specs.Acceptance.{check_refusal}
 use Rattle.lb_check.specs.ClockRules.{are_declared_clocks}
 use Rattle.lb_check.specs.Clocks.{Given, declared_clock}
@@ -56,14 +59,10 @@ use Rattle.lb_check.proofs.ClockedNodes.{get_name}
 use Rattle.lb_check.proofs.DeclaredClocks.{IsOwn}
 use Rattle.lb_check.proofs.InstanceNames.{callee_node, find_in}
 use Rattle.lb_check.proofs.InstancePaths.{called, path_is, at_path, in_instances}
-use Rattle.lb_check.proofs.ListPairs.{mapped_from}
-use Rattle.lb_check.proofs.NodePlaces.{all_at}
 use Rattle.lb_check.proofs.OccurrenceSites.{call_of_site, own_site}
-use Rattle.lb_check.proofs.OperandTypes.{some_same}
 use Rattle.lb_check.proofs.OwnTermClocks.{term_clocks_own}
 use Rattle.lb_check.proofs.ServedNumbers.{has_first}
 use Rattle.lb_check.proofs.SiteOccurrences.{site_occurs}
-use Rattle.lb_check.proofs.TruthValues.{and_first, and_second}
 use Rattle.lb_flat.specs.ClockPlaces as places
 use Rattle.lb_flat.specs.ClockPlaces.{row_number, variable_place}
 use Rattle.lb_flat.specs.ClockTables.{sign_place, clock_place, IsClockRow, IsClockTable}
@@ -105,9 +104,6 @@ no_observer p c i e = absurd cc
 
 later : (j k : ℕ) → j ≤ k → (d : ℕ) × (j + d ≡ k)
 later j k le = (k - j, omega (arith, le))
-
-tested : (i n : ℕ) → i < n → nat_lt i n ≡ true
-tested i n e = grind (arith, nat_tests)
 
 -- what is given for a name
 abbrev by_name : Name → Given → Option (Name × Name)
@@ -251,7 +247,7 @@ module _ (P : Program) (r : Reached) (t : Table) (reached : IsReached P r)
   runs_are k i here is = by i.origin refl
     where
       at_path_of : (p : Path) → slice_get (paths_of t) k ≡ Some p → here.path ≡ p
-      at_path_of p e = some_same here.path p (sym is.path_is ∙ e)
+      at_path_of p e = same_Some here.path p (sym is.path_is ∙ e)
 
       by : (o : Origin) → i.origin ≡ o →
           get_or (all_runs filled) k None ≡ path_runs here.path
@@ -431,14 +427,14 @@ module _ (P : Program) (r : Reached) (t : Table) (reached : IsReached P r)
           let caller_at : instance_at P p ≡ Some u.caller =
           ap (instance_at P) (sym u.path)
           ∙ at_path P u.caller (stands u.j u.up u.caller u.above) in
-          let one = some_same h.caller u.caller (sym h.above ∙ caller_at) in
+          let one = same_Some h.caller u.caller (sym h.above ∙ caller_at) in
           let site = site_occurs P checked u.caller (stands u.j u.up u.caller u.above) call h.site
           (ap (λ (c : Instance). slice_get (node_sites c.node) call) (sym one) ∙ h.stands) in
           let own_call = ap (call_at P u.caller.node) (sym site.number)
           ∙ call_of P u.caller.node site.occurrence site.stands
           (call_of_site site.occurrence.expr h.site site.site) in
-          let occurrence = some_same site.occurrence u.occurrence (sym own_call ∙ u.occurs) in
-          let same_site = some_same h.site u.site
+          let occurrence = same_Some site.occurrence u.occurrence (sym own_call ∙ u.occurs) in
+          let same_site = same_Some h.site u.site
           (sym site.site ∙ ap (λ (o : Occurrence). own_site o.expr) occurrence ∙ u.site_is) in
           ap (node_named P) (sym (ap (λ (s : Site). s.callee) same_site ∙ e))
           ∙ callee_node P h.caller h.site call index here h.gives
@@ -459,7 +455,7 @@ module _ (P : Program) (r : Reached) (t : Table) (reached : IsReached P r)
       by (Call f statics es) site law low =
           let gs = u.call_found.given.items in
           let callee = callee_is f
-          (ap (λ (s : Site). s.callee) (sym (some_same (call_site f statics) u.site site))) in
+          (ap (λ (s : Site). s.callee) (sym (same_Some (call_site f statics) u.site site))) in
           let names = variable_names here.node in
           ap (by_name (name_in is.node y))
           (law ∙ ap (λ o. listed (λ (c : Node).
@@ -496,7 +492,7 @@ module _ (P : Program) (r : Reached) (t : Table) (reached : IsReached P r)
       none (origin.Called caller call index) e =
           let up = origin_path P r t table k i is.row_is caller call index e in
           absurd (start up.above call.0 index
-          (some_same here.path (Child up.above call.0 index) (sym is.path_is ∙ up.path)))
+          (same_Some here.path (Child up.above call.0 index) (sym is.path_is ∙ up.path)))
 
   all_serves :
       (p : Path) (k : ℕ) (i : row.Instance) (here : Instance) (is : IsRow P r t table k i here) →
@@ -604,9 +600,9 @@ module _ (P : Program) (r : Reached) (t : Table) (reached : IsReached P r)
           let long = length-map (variables here.node) (λ (d : Declaration). d.name) in
           let within = slice_get_within (variable_names here.node) y x at in
           let w : is_variable (counts_of is.node) id ≡ true =
-          tested y (length is.node.variables.items) (omega (arith, many, long, within)) in
+          lt-ltb y (length is.node.variables.items) (omega (arith, many, long, within)) in
           let name : name_in is.node id ≡ x =
-          some_same (name_in is.node id) x (sym (name_stands k i here is id w) ∙ at) in
+          same_Some (name_in is.node id) x (sym (name_stands k i here is id w) ∙ at) in
           let lower = variable_low k i here is id w in
           let number = number_is k (row_within k i here is) y lower in
           let hc = own_clocks k i here is in
@@ -654,8 +650,8 @@ module _ (P : Program) (r : Reached) (t : Table) (reached : IsReached P r)
       let u = called_row k.0 w.0 c w.1 p call index path in
       let up_at : instance_at P p ≡ Some u.caller =
       ap (instance_at P) (sym u.path) ∙ at_path P u.caller (stands u.j u.up u.caller u.above) in
-      let one = some_same u.caller caller (sym up_at ∙ above) in
-      let same = some_same u.occurrence o
+      let one = same_Some u.caller caller (sym up_at ∙ above) in
+      let same = same_Some u.occurrence o
       (sym (ap (λ (c : Instance). call_at P c.node call) (sym one) ∙ u.occurs) ∙ occurs) in
       let place : found_call t found u.caller_id.0 u.call_id.0 ≡ Some u.call_found =
       ap₂ (found_call t found) u.caller_is u.call_is ∙ u.found_is in
@@ -687,7 +683,7 @@ module _ (P : Program) (r : Reached) (t : Table) (reached : IsReached P r)
       let u = called_row k.0 w.0 c w.1 p call index path in
       let up_at : instance_at P p ≡ Some u.caller =
       ap (instance_at P) (sym u.path) ∙ at_path P u.caller (stands u.j u.up u.caller u.above) in
-      let one : u.caller ≡ caller = some_same u.caller caller (sym up_at ∙ above) in
+      let one : u.caller ≡ caller = same_Some u.caller caller (sym up_at ∙ above) in
       let long : length (variables u.caller.node) ≡ length (variables caller.node) =
       ap (λ (c : Instance). length (variables c.node)) one in
       let next = next_before P r t reached table accepted vars kept u.j u.up u.caller u.above in

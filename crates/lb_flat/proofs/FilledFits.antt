@@ -3,8 +3,10 @@
 use Rattle.std.proofs.Common.{◌≡◌, ℕ, suc, ◌+◌, ◌<◌, Bool, true, false, ◌&&◌, inl, inr, Some, None}
 use Rattle.std.proofs.Common.{is_some, List, [], ◌∷◌, ◌++◌, map, length, replicate, refl, sym, ap}
 use Rattle.std.proofs.Common.{ap₂, ◌∙◌, subst, arith}
+use Rattle.std.proofs.lemmas.Bool.{cases_lt}
 use Rattle.lb_syntax.specs.declared.tree.Kind.{Kind}
 use Rattle.lb_syntax.specs.Lists.{Every, zip2, tail_of}
+use Rattle.lb_syntax.proofs.TruthValues.{and_second}
 use Rattle.lb_check.specs.Scalars.{Scalar, Stream, two_scalars, one_scalar}
 use Rattle.lb_check.specs.Streams.{constantly, along, along_two, choice, previous, first_then}
 use Rattle.lb_check.specs.Streams.{sample, sampled_at, latest, newest, shows, first_cell}
@@ -17,11 +19,10 @@ use Rattle.lb_flat.specs.FlatSolutions.{IsCellFit}
 use Rattle.lb_flat.proofs.Columns.{choice_step, latest_step, column_long, instants_long}
 use Rattle.lb_flat.proofs.FilledKinds.{StreamOf, fits_of, operate_of}
 use Rattle.lb_flat.proofs.Filling.{Fresh}
-use Rattle.lb_flat.proofs.Fitting.{KindFits, compared, all_given}
+use Rattle.lb_flat.proofs.Fitting.{KindFits, all_given}
 use Rattle.lb_flat.proofs.Lists.{Every-map, Every-both, Every-first, Every-second}
 use Rattle.lb_flat.proofs.OnClock.{OperandsFit, ClockFits, held_present, one_present, two_present}
 use Rattle.lb_flat.proofs.OnClock.{choice_present, kept_present}
-use Rattle.lb_flat.proofs.TypeFacts.{and_second}
 
 -- ## Where a stream is present
 
@@ -250,7 +251,7 @@ module _ (inputs : List Kind) (K : ℕ → FlatClock) (N : ℕ → Kind) (X : In
 
       next : (i : ℕ) → i < suc n → ElementFits i
       next i lt =
-          elim (compared i n) [
+          elim (cases_lt i n) [
             | inl less ↦ below i less
             | inr le ↦
                 let same : n ≡ i = omega arith in

@@ -2,10 +2,12 @@
 -- operands that have to be truth values are.
 use Rattle.std.proofs.Common.{◌≡◌, ℕ, suc, ◌<◌, Bool, true, false, ℤ, inl, inr, Some, None, List}
 use Rattle.std.proofs.Common.{[], ◌∷◌, ◌++◌, sym, ◌∙◌, slice_get, subst, arith}
+use Rattle.std.proofs.lemmas.Bool.{cases_lt}
 use Rattle.lb_syntax.specs.declared.tree.Kind.{Kind}
 use Rattle.lb_syntax.specs.declared.tree.Kind.TheVariants.{Bool as Truth}
 use Rattle.lb_syntax.specs.declared.tree.BinaryOperator.TheVariants.{Or, And}
 use Rattle.lb_syntax.specs.Lists.{Every, zip2, tail_of}
+use Rattle.lb_syntax.proofs.TruthValues.{and_first, and_second}
 use Rattle.lb_check.specs.Scalars.{Scalar, Integer, Boolean, Nil, Bad, Stream, two_scalars}
 use Rattle.lb_check.specs.Scalars.{one_scalar, is_of_kind}
 use Rattle.lb_check.specs.Streams.{constantly, along, along_two, choice, previous, first_then}
@@ -20,10 +22,9 @@ use Rattle.lb_flat.proofs.Counting.{IsTruth}
 use Rattle.lb_flat.proofs.Adding.{HasTruths}
 use Rattle.lb_flat.proofs.Columns.{choice_step, latest_step}
 use Rattle.lb_flat.proofs.Filling.{Fresh}
-use Rattle.lb_flat.proofs.TypeFacts.{and_first, and_second}
 use Rattle.lb_flat.proofs.ScalarKinds.{IsOf, unary_of, binary_of}
-use Rattle.lb_flat.proofs.Fitting.{OperandKinds, KindFits, CellOf, compared, held_of, kept_of}
-use Rattle.lb_flat.proofs.Fitting.{newest_of, one_of, two_of, chosen_cell_of, given_kind}
+use Rattle.lb_flat.proofs.Fitting.{OperandKinds, KindFits, CellOf, held_of, kept_of, newest_of}
+use Rattle.lb_flat.proofs.Fitting.{one_of, two_of, chosen_cell_of, given_kind}
 use Rattle.lb_flat.proofs.Solving.{second_of_or, second_of_and}
 
 -- a stream holds scalars of a kind where it is present
@@ -230,7 +231,7 @@ module _ (inputs : List Kind) (N : ℕ → Kind) (X : Inputs)
 
       next : (i : ℕ) → i < suc n → ElementOf i
       next i lt =
-          elim (compared i n) [
+          elim (cases_lt i n) [
             | inl less ↦ below i less
             | inr le ↦
                 let same : n ≡ i = omega arith in

@@ -4,9 +4,11 @@ use Rattle.std.proofs.Common.{map, length, flat_map, replicate, zip, slice_get, 
 use Rattle.std.proofs.Common.{subst, subst₂, arith}
 use Rattle.std.specs.List.{list_all}
 use Rattle.std.proofs.lemmas.List.{length-map, length-replicate}
+use Rattle.std.proofs.lemmas.Option.{slice_get_within}
 use Rattle.lb_syntax.specs.declared.tree.Kind.{Kind}
 use Rattle.lb_syntax.specs.Lists.{Every, all_some}
 use Rattle.lb_syntax.specs.Tree.{Declaration, Statement, Equation, Assertion}
+use Rattle.lb_syntax.proofs.TruthValues.{and_first, and_second}
 use Rattle.lb_static.specs.Instances.{Program, Instance}
 use Rattle.lb_static.specs.Instantiation.{are_same}
 use Rattle.lb_static.specs.DataTypes.{DataType, truth, is_type, are_types, width, variable_type}
@@ -14,7 +16,6 @@ use Rattle.lb_check.specs.Types.{data_types}
 use Rattle.lb_check.specs.TypeRules.{type_of_name, is_statement_typed}
 use Rattle.lb_check.specs.Clocks.{Base, declared_clock}
 use Rattle.lb_check.specs.Occurrences.{call_count, occurrences, statement_clock, right_sides}
-use Rattle.lb_check.proofs.Numbers.{got_within}
 use Rattle.lb_flat.specs.Flat.{FlatClock, Always, FlatEquation}
 use Rattle.lb_flat.specs.Layouts.{Layout, flat_clock}
 use Rattle.lb_flat.specs.Emit.{State, Emitted, Target, targets, copied, joins, assert, emit}
@@ -22,7 +23,6 @@ use Rattle.lb_flat.specs.Emit.{emit_body, emit_instances, from_inputs}
 use Rattle.lb_flat.proofs.Lists.{Every-append, Every-first, Every-second}
 use Rattle.lb_flat.proofs.Bodies.{occurrences_of, assert_equations}
 use Rattle.lb_flat.proofs.Emission.{joins_equations}
-use Rattle.lb_flat.proofs.TypeFacts.{and_first, and_second}
 use Rattle.lb_flat.proofs.OutputWidths.{each}
 use Rattle.lb_flat.proofs.KindFacts.{type_kind, variable_kind}
 use Rattle.lb_flat.proofs.FitWords.{Sorts, IsOn, AreOn, AllSorted, IsFit, AllFit, Grown, not_grown}
@@ -153,7 +153,7 @@ module _ (S : Sorts) (Y : Layout) (P : Program) where
       let next : j + suc i ≡ suc j + i = omega arith in
       subst (λ l. slice_get S.inputs l ≡ Some d) next (at (suc i) d e) in (
         record {
-          clocks = record { own = a.1.0; operands = (a.0, got_within S.inputs j c own) };
+          clocks = record { own = a.1.0; operands = (a.0, slice_get_within S.inputs j c own) };
           kinds = own ∙ ap Some (sym a.1.1);
         },
         inputs_fit (suc j) ts cs a.2 later,

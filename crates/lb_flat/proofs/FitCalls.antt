@@ -3,35 +3,33 @@ use Rattle.std.proofs.Common.{◌≡◌, ℕ, zero, suc, ◌+◌, ◌-◌, ◌/�
 use Rattle.std.proofs.Common.{None, List, [], ◌∷◌, ◌++◌, map, length, flat_map, drop, refl, sym, ap}
 use Rattle.std.proofs.Common.{◌∙◌, subst, arith}
 use Rattle.std.specs.List.{range_with_len}
+use Rattle.std.proofs.lemmas.Option.{same_Some}
 use Rattle.lb_syntax.specs.declared.tree.ArrayIterator.{ArrayIterator}
 use Rattle.lb_syntax.specs.declared.tree.ArrayIterator.TheVariants.{Map, Red, Fill}
 use Rattle.lb_syntax.specs.declared.tree.Kind.{Kind}
 use Rattle.lb_syntax.specs.Lists.{Every, part, all_some, where_true, listed}
 use Rattle.lb_syntax.specs.Tree.{Name, Static, Node_named, Exprs, Declaration, Node}
+use Rattle.lb_syntax.proofs.ListPlaces.{heads_same, tails_same}
+use Rattle.lb_syntax.proofs.TruthValues.{and_first, and_second}
 use Rattle.lb_static.specs.Instances.{Program, Instance, Child, node_named}
 use Rattle.lb_static.specs.DataTypes.{DataType, is_type, are_types, variable_type}
 use Rattle.lb_check.specs.Types.{array_of, operator_types, iterator_types}
 use Rattle.lb_check.specs.Clocks.{Clock, declared_clock}
 use Rattle.lb_check.specs.Streams.{outputs_of, gathered, last_of, iterated}
 use Rattle.lb_check.specs.Solutions.{accumulated, iterator_inputs}
+use Rattle.lb_check.proofs.OperandTypes.{truly}
 use Rattle.lb_flat.specs.Flat.{FlatClock}
 use Rattle.lb_flat.specs.Layouts.{Layout, flat_clock}
 use Rattle.lb_flat.specs.Emit.{targets, copied, received, call_copies, iterator_copies}
 use Rattle.lb_flat.proofs.Lists.{Every-append, Every-first, Every-second, Every-take, Every-drop}
 use Rattle.lb_flat.proofs.Lists.{Every-of_pieces, Every-of_range}
-use Rattle.lb_flat.proofs.TypeFacts.{bound, some_same, truly, and_first, and_second}
+use Rattle.lb_flat.proofs.TypeFacts.{bound}
 use Rattle.lb_flat.proofs.OutputWidths.{each}
 use Rattle.lb_flat.proofs.Widths.{called, placed}
 use Rattle.lb_flat.proofs.KindFacts.{type_kind, array_kind, variable_kind}
 use Rattle.lb_flat.proofs.FitWords.{Sorts, AreOn, IsFit, AllFit, copy_fit}
 use Rattle.lb_flat.proofs.FitPlaces.{IsVariableOn, AreVariablesOn, IsCalleeOn, seen_clock, IsCallOn}
 use Rattle.lb_flat.proofs.FitPlaces.{IsIteratorOn}
-
-pub heads_same : {A : Type 0} (x y : A) (xs ys : List A) → x ∷ xs ≡ y ∷ ys → x ≡ y
-heads_same x y xs ys e = cc
-
-pub tails_same : {A : Type 0} (x y : A) (xs ys : List A) → x ∷ xs ≡ y ∷ ys → xs ≡ ys
-tails_same x y xs ys e = cc
 
 pub nothing_same : {A : Type 0} {B : Type 0} (x : A) (xs : List A) → [] ≡ x ∷ xs → B
 nothing_same x xs e = absurd cc
@@ -149,7 +147,7 @@ module _ (S : Sorts) (Y : Layout) (P : Program) where
           (ds : List Declaration) (u : DataType) (us : List DataType) (init : List ℕ) →
           AreOutputsOn k outputs m ds → AreTypes ds (u ∷ us) →
           AreOn S (flat_clock Y here.path k) u.kind (accumulated outputs ds init (suc j))
-      first_on k outputs m j lt [] u us init w o = nothing_same u us (some_same _ _ o)
+      first_on k outputs m j lt [] u us init w o = nothing_same u us (same_Some _ _ o)
       first_on k outputs m j lt (d ∷ ds) u us init w o =
           let h = each (variable_type P c d) (map (variable_type P c) ds) (u ∷ us) o in
           let same : u ≡ h.first = heads_same _ _ _ _ h.all in
@@ -183,7 +181,7 @@ module _ (S : Sorts) (Y : Layout) (P : Program) where
       parts_on k n m i [] wanted [] (is ∷ iss) o same g = absurd g
       parts_on k n m i [] wanted (t ∷ args) iss o same g =
           let none : are_types [] (t ∷ args) ≡ true =
-          subst (λ vs. are_types vs (t ∷ args) ≡ true) (sym (some_same _ _ o)) same in
+          subst (λ vs. are_types vs (t ∷ args) ≡ true) (sym (same_Some _ _ o)) same in
           absurd cc
       parts_on k n m i (u ∷ ins) wanted [] iss o same g =
           let h = each (array_of n u) (map (array_of n) ins) wanted o in
@@ -372,7 +370,7 @@ module _ (S : Sorts) (Y : Layout) (P : Program) where
               Every (λ d. AreOn S (flat_clock Y here.path k) d.kind (outputs i d.name))
               c.node.outputs
           outputs_at c named i lt =
-              let same : a.callee.node ≡ c.node = some_same _ _ (sym a.node ∙ named) in
+              let same : a.callee.node ≡ c.node = same_Some _ _ (sym a.node ∙ named) in
               subst (λ (e : Node). Every (λ d.
               AreOn S (flat_clock Y here.path k) d.kind (outputs i d.name)) e.outputs) same
               (by a.callee.node.outputs (outputs_in a.callee a.variables_on)
@@ -409,7 +407,7 @@ module _ (S : Sorts) (Y : Layout) (P : Program) where
           instance_fit it number i lt args ts iss e g callee named =
               let a = is_at f statics types n i is_operator (w i lt).0 in
               let node = a.callee.node in
-              let same : node ≡ callee = some_same _ _ (sym a.node ∙ named) in
+              let same : node ≡ callee = same_Some _ _ (sym a.node ∙ named) in
               let at = λ (d : Declaration). k in
               let given = inputs_on a.callee k outputs number m i lt it node.outputs types.0 types.1
               args ts iss (outputs_at a.callee a.node) a.outputs e g in

@@ -5,7 +5,8 @@ use Rattle.std.proofs.Common.{◌∷◌, ◌++◌, map, length, flat_map, zip, r
 use Rattle.std.proofs.Common.{subst₂, arith}
 use Rattle.std.specs.List.{range_with_len}
 use Rattle.std.specs.Str.{bytes_eq}
-use Rattle.std.proofs.lemmas.List.{length-map}
+use Rattle.std.proofs.lemmas.List.{length-map, append-nil}
+use Rattle.std.proofs.lemmas.Option.{same_Some}
 use Rattle.lb_syntax.specs.declared.tree.ArrayIterator.{ArrayIterator}
 use Rattle.lb_syntax.specs.declared.tree.ArrayIterator.TheVariants.{Map, Red, Fill}
 use Rattle.lb_syntax.specs.Lists.{Every, joined, all_some, where_true, listed}
@@ -13,6 +14,8 @@ use Rattle.lb_syntax.specs.Tree.{Name, Static, Node_named, Symbol, Expr, Literal
 use Rattle.lb_syntax.specs.Tree.{Group, Unary, Binary, If, Arrow, Fby, Pre, Current, When}
 use Rattle.lb_syntax.specs.Tree.{Replicate, Index, Slice, Join, Array, AtMostOne, Nor, Call}
 use Rattle.lb_syntax.specs.Tree.{Iterate, Declaration, Node}
+use Rattle.lb_syntax.proofs.TruthValues.{and_first, and_second}
+use Rattle.lb_syntax.proofs.SameNames.{name_same}
 use Rattle.lb_static.specs.StaticValues.{named}
 use Rattle.lb_static.specs.Instances.{Program, Instance, Child, static_count, node_named}
 use Rattle.lb_static.specs.DataTypes.{DataType, int, truth, is_type, are_types, variables, width}
@@ -25,14 +28,14 @@ use Rattle.lb_check.specs.TypeRules.{type_of_name}
 use Rattle.lb_check.specs.Clocks.{Clock, declared_clock, ungrouped}
 use Rattle.lb_check.specs.Needs.{is_site}
 use Rattle.lb_check.specs.Streams.{outputs_of, gathered}
-use Rattle.lb_flat.specs.Flat.{Copy}
+use Rattle.lb_check.proofs.OperandTypes.{truly}
 use Rattle.lb_flat.specs.Layouts.{Layout, flat_clock}
 use Rattle.lb_flat.specs.Emit.{Target, targets, copied}
 use Rattle.lb_flat.proofs.Lists.{Every-append, Every-map}
-use Rattle.lb_flat.proofs.TypeFacts.{bound, some_same, alone, one, two, from_true, truly, and_first}
-use Rattle.lb_flat.proofs.TypeFacts.{and_second, same_count, array_count, constant, symbolic}
+use Rattle.lb_flat.proofs.TypeFacts.{bound, alone, one, two, from_true, same_count, array_count}
+use Rattle.lb_flat.proofs.TypeFacts.{constant, symbolic}
 use Rattle.lb_flat.proofs.OutputWidths.{found_in, each, width_of, length-range}
-use Rattle.lb_flat.proofs.TypedBodies.{name_same, found_passes}
+use Rattle.lb_flat.proofs.TypedBodies.{found_passes}
 use Rattle.lb_flat.proofs.Widths.{called, placed}
 use Rattle.lb_flat.proofs.KindFacts.{type_kind, array_kind, variable_kind}
 use Rattle.lb_flat.proofs.FitWords.{Sorts, AreOn, AllFit, IsFit}
@@ -40,6 +43,7 @@ use Rattle.lb_flat.proofs.FitPlaces.{IsVariableOn, AreVariablesOn, IsCalleeOn, I
 use Rattle.lb_flat.proofs.FitPlaces.{AreLeftsOn}
 use Rattle.lb_flat.proofs.FitCalls.{copied_fit, as_kind, as_clock, outputs_in, outputs_at}
 use Rattle.lb_flat.proofs.FitCalls.{output_on}
+use Rattle.lb_flat.proofs.ReceivedInputs.{copied_append}
 
 -- ## Expressions that are no calls have one result
 
@@ -56,7 +60,7 @@ symbol_one n Map u ins args ts e =
     let h = truly (are_types wanted.value args) (u ∷ []) b.value b.is in
     let gives = subst (λ us. all_some (map (array_of n) us) ≡ Some ts) (sym h.same) b.gives in
     let first = each (array_of n u) [] ts gives in
-    let none : [] ≡ first.rest = some_same _ _ first.others in
+    let none : [] ≡ first.rest = same_Some _ _ first.others in
     (first.first, first.all ∙ ap (λ us. first.first ∷ us) (sym none))
 symbol_one n Red u [] args ts e = cc
 symbol_one n Red u (a ∷ ins) [] ts e = cc
@@ -73,7 +77,7 @@ module _ (P : Program) (here : Instance) where
       (e : Expr) (ts : List DataType) → is_site (ungrouped e) ≡ false →
       data_types P here e ≡ Some ts → IsOneOf ts
   one_result (Literal m) ts s e = (int, (constant (Some (pos m)) ts e).all)
-  one_result (Truth b) ts s e = (truth, sym (some_same _ _ e))
+  one_result (Truth b) ts s e = (truth, sym (same_Some _ _ e))
   one_result (Variable x) ts s e =
       let a = alone (name_data_type P here x) ts e in (a.data_type, a.all)
   one_result (Group a) ts s e = one_result a ts s e
@@ -128,20 +132,6 @@ module _ (P : Program) (here : Instance) where
       (ap (λ us. iterator_types it c.value o.value.0 us a.value) (sym outs) ∙ a.gives)
 
 -- ## Lists of pieces
-
-append_none : {A : Type 0} (xs : List A) → xs ++ [] ≡ xs
-append_none [] = refl
-append_none (x ∷ xs) = ap (λ ys. x ∷ ys) (append_none xs)
-
-copied_append :
-    (ts us : List Target) (is js : List ℕ) → length ts ≡ length is →
-    copied (ts ++ us) (is ++ js) ≡ copied ts is ++ copied us js
-copied_append [] us [] js e = refl
-copied_append [] us (i ∷ is) js e = absurd (omega (arith, e))
-copied_append (t ∷ ts) us [] js e = absurd (omega (arith, e))
-copied_append (t ∷ ts) us (i ∷ is) js e =
-    ap (λ qs. record { element = t.place; clock = t.clock; operation = Copy i } ∷ qs)
-    (copied_append ts us is js (omega (arith, e)))
 
 pub joined_pieces :
     {A B : Type 0} (f : B → List A) (bs : List B) → flat_map f bs ≡ joined (map f bs)
@@ -231,7 +221,7 @@ module _ (S : Sorts) (Y : Layout) (P : Program) (here : Instance)
       let first = and_first (is_type t h.first) (are_types [] h.rest) all in
       let own = left x h.first h.is in
       let ps = targets Y here.node here.path x in
-      subst (λ ts. AllFit S (copied ts is)) (sym (append_none ps))
+      subst (λ ts. AllFit S (copied ts is)) (sym (append-nil ps))
       (copied_fit S Y P (flat_clock Y here.path (declared_clock here.node x)) t.kind
       (Y.places here.path x) is
       (as_kind S Y P _ h.first.kind t.kind _ (sym (type_kind t h.first first)) own.elements)
@@ -257,16 +247,16 @@ module _ (S : Sorts) (Y : Layout) (P : Program) (here : Instance)
       ≡ flat_clock Y here.path (declared_clock here.node u.1)) (zip ds lefts) →
       AreResults lefts ts (map (λ d. Y.places c.path d.name) ds)
   each_result c [] ts us [] o e same v k =
-      subst (λ vs. AreResults [] vs []) (some_same _ _ o) tt
+      subst (λ vs. AreResults [] vs []) (same_Some _ _ o) tt
   each_result c [] ts us (x ∷ xs) o e same v k =
       let h = each (type_of_name P here x) (map (type_of_name P here) xs) us e in
       let none : are_types [] (h.first ∷ h.rest) ≡ true =
-      subst₂ (λ vs ws. are_types vs ws ≡ true) (sym (some_same _ _ o)) h.all same in
+      subst₂ (λ vs ws. are_types vs ws ≡ true) (sym (same_Some _ _ o)) h.all same in
       absurd cc
   each_result c (d ∷ ds) ts us [] o e same v k =
       let h = each (variable_type P c d) (map (variable_type P c) ds) ts o in
       let none : are_types (h.first ∷ h.rest) [] ≡ true =
-      subst₂ (λ vs ws. are_types vs ws ≡ true) h.all (sym (some_same _ _ e)) same in
+      subst₂ (λ vs ws. are_types vs ws ≡ true) h.all (sym (same_Some _ _ e)) same in
       absurd cc
   each_result c (d ∷ ds) ts us (x ∷ xs) o e same v k =
       let h = each (variable_type P c d) (map (variable_type P c) ds) ts o in
@@ -320,22 +310,22 @@ module _ (S : Sorts) (Y : Layout) (P : Program) (here : Instance)
         (length (g d) ≡ m * width P c d) × AreOn S (flat_clock Y here.path k) d.kind (g d)) ds →
         Every (λ x. k ≡ declared_clock here.node x) lefts → AreResults lefts ts (map g ds)
     each_array c k m g [] outs ts us [] o a e same v w =
-        let none = subst (λ vs. all_some (map (array_of m) vs) ≡ Some ts) (sym (some_same _ _ o)) a
+        let none = subst (λ vs. all_some (map (array_of m) vs) ≡ Some ts) (sym (same_Some _ _ o)) a
         in
-        subst (λ vs. AreResults [] vs []) (some_same _ _ none) tt
+        subst (λ vs. AreResults [] vs []) (same_Some _ _ none) tt
     each_array c k m g [] outs ts us (x ∷ xs) o a e same v w =
-        let none = subst (λ vs. all_some (map (array_of m) vs) ≡ Some ts) (sym (some_same _ _ o)) a
+        let none = subst (λ vs. all_some (map (array_of m) vs) ≡ Some ts) (sym (same_Some _ _ o)) a
         in
         let h = each (type_of_name P here x) (map (type_of_name P here) xs) us e in
         let never : are_types [] (h.first ∷ h.rest) ≡ true =
-        subst₂ (λ vs ws. are_types vs ws ≡ true) (sym (some_same _ _ none)) h.all same in
+        subst₂ (λ vs ws. are_types vs ws ≡ true) (sym (same_Some _ _ none)) h.all same in
         absurd cc
     each_array c k m g (d ∷ ds) outs ts us [] o a e same v w =
         let h = each (variable_type P c d) (map (variable_type P c) ds) outs o in
         let arrays = subst (λ vs. all_some (map (array_of m) vs) ≡ Some ts) h.all a in
         let b = each (array_of m h.first) (map (array_of m) h.rest) ts arrays in
         let never : are_types (b.first ∷ b.rest) [] ≡ true =
-        subst₂ (λ vs ws. are_types vs ws ≡ true) b.all (sym (some_same _ _ e)) same in
+        subst₂ (λ vs ws. are_types vs ws ≡ true) b.all (sym (same_Some _ _ e)) same in
         absurd cc
     each_array c k m g (d ∷ ds) outs ts us (x ∷ xs) o a e same v w =
         let h = each (variable_type P c d) (map (variable_type P c) ds) outs o in

@@ -2,11 +2,14 @@
 use Rattle.std.proofs.Common.{◌≡◌, ℕ, ◌-◌, ◌<◌, Bool, true, false, Some, List, [], ◌∷◌, ◌++◌}
 use Rattle.std.proofs.Common.{map, length, flat_map, refl, sym, ap, ◌∙◌, subst, arith}
 use Rattle.std.specs.List.{range_with_len, list_all}
+use Rattle.std.proofs.lemmas.Option.{same_Some}
 use Rattle.lb_syntax.specs.declared.tree.ArrayIterator.{ArrayIterator}
 use Rattle.lb_syntax.specs.declared.tree.ArrayIterator.TheVariants.{Map, Red, Fill}
 use Rattle.lb_syntax.specs.Lists.{Every, all_some, either_or, where_true, listed}
 use Rattle.lb_syntax.specs.Tree.{Name, Static, Node_named, Expr, Group, Call, Iterate, Declaration}
 use Rattle.lb_syntax.specs.Tree.{Node}
+use Rattle.lb_syntax.proofs.TruthValues.{and_first, and_second}
+use Rattle.lb_syntax.proofs.ListPlaces.{heads_same, tails_same}
 use Rattle.lb_static.specs.Instances.{Program, Instance, Child, static_count, node_named}
 use Rattle.lb_static.specs.DataTypes.{DataType, is_type, are_types, width, variable_type}
 use Rattle.lb_static.specs.DataTypes.{element_count}
@@ -18,27 +21,23 @@ use Rattle.lb_check.specs.Needs.{is_site}
 use Rattle.lb_check.specs.Occurrences.{occurrences}
 use Rattle.lb_check.specs.Streams.{number, outputs_of, iterated}
 use Rattle.lb_check.proofs.ClockTests.{clock_same}
-use Rattle.lb_flat.specs.Flat.{FlatEquation}
+use Rattle.lb_check.proofs.OperandTypes.{truly}
 use Rattle.lb_flat.specs.Layouts.{Layout, flat_clock}
-use Rattle.lb_flat.specs.Emit.{State, copied, joins, emit}
-use Rattle.lb_flat.proofs.TypeFacts.{bound, some_same, truly, and_first, and_second}
+use Rattle.lb_flat.specs.Emit.{State, copied, emit}
+use Rattle.lb_flat.proofs.TypeFacts.{bound}
 use Rattle.lb_flat.proofs.OutputWidths.{Each, each, width_of}
 use Rattle.lb_flat.proofs.Widths.{called, placed}
 use Rattle.lb_flat.proofs.KindFacts.{variable_kind}
 use Rattle.lb_flat.proofs.FitWords.{Sorts, AreOn, AllFit}
 use Rattle.lb_flat.proofs.FitPlaces.{AreVariablesOn, IsCalleeOn, IsIteratorOn, AreCallLeftsOn}
 use Rattle.lb_flat.proofs.FitPlaces.{IsSet}
-use Rattle.lb_flat.proofs.FitCalls.{heads_same, tails_same, as_kind, as_clock, iterator_found}
+use Rattle.lb_flat.proofs.FitCalls.{as_kind, as_clock, iterator_found}
 use Rattle.lb_flat.proofs.FitTerms.{TermFits}
 use Rattle.lb_flat.proofs.FitResults.{one_result, joined_pieces, left_targets, results_fit}
 use Rattle.lb_flat.proofs.FitResults.{result_fit, call_results, each_array, the_callee, wide_at}
 use Rattle.lb_flat.proofs.FitResults.{on_at, pieces, map_results}
 use Rattle.lb_flat.proofs.IteratedTypes.{Filled, red_of, fill_of}
-
-joins_found :
-    (s : State) (qs : List FlatEquation) (is : List ℕ) → (joins s qs is).found ≡ is
-unfolding joins
-joins_found s qs is = refl
+use Rattle.lb_flat.proofs.LinkSymbols.{joins_found}
 
 -- the length of an iterator in its types is the number of its instances
 number_is :
@@ -98,7 +97,7 @@ module _ (S : Sorts) (Y : Layout) (P : Program) (here : Instance)
           AllFit S
           (copied (left_targets S Y P here variables_on lefts) (iterated outputs m Fill ds))
       fill_results [] outs ts z o same h g on =
-          let none : [] ≡ z.out ∷ z.others = some_same _ _ o ∙ z.outs_is in
+          let none : [] ≡ z.out ∷ z.others = same_Some _ _ o ∙ z.outs_is in
           absurd cc
       fill_results (d ∷ ds) outs ts z o same h g on = by lefts us typed on all
         where

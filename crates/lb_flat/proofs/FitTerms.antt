@@ -5,6 +5,7 @@ use Rattle.std.proofs.Common.{◌⊎◌, inl, inr, Option, Some, None, IfSome, o
 use Rattle.std.proofs.Common.{◌++◌, map, refl, sym, ap, ◌∙◌, subst, subst₂}
 use Rattle.std.specs.Str.{bytes_eq}
 use Rattle.std.proofs.lemmas.Slice.Eq.{bytes_eq-Decides}
+use Rattle.std.proofs.lemmas.Option.{same_Some}
 use Rattle.lb_syntax.specs.declared.tree.BinaryOperator.{BinaryOperator}
 use Rattle.lb_syntax.specs.declared.tree.BinaryOperator.TheVariants.{Or, Xor, And, Implies, Equal}
 use Rattle.lb_syntax.specs.declared.tree.BinaryOperator.TheVariants.{Unequal, Less, AtMost, Greater}
@@ -19,6 +20,8 @@ use Rattle.lb_syntax.specs.Tree.{Name, Node_named, Symbol, Expr, Literal, Truth,
 use Rattle.lb_syntax.specs.Tree.{Unary, Binary, If, Arrow, Fby, Pre, Current, When, Replicate}
 use Rattle.lb_syntax.specs.Tree.{Index, Slice, Join, Array, AtMostOne, Nor, Call, Iterate, Exprs}
 use Rattle.lb_syntax.specs.Tree.{Nil, Cons, Declaration}
+use Rattle.lb_syntax.proofs.TruthValues.{implied, and_first, and_second}
+use Rattle.lb_syntax.proofs.SameNames.{name_same}
 use Rattle.lb_static.specs.StaticValues.{named}
 use Rattle.lb_static.specs.Instances.{Program, Instance, static_count, node_named, name_value}
 use Rattle.lb_static.specs.DataTypes.{DataType, int, truth, is_type, are_types, variables}
@@ -35,6 +38,7 @@ use Rattle.lb_check.specs.Occurrences.{Occurrence, call_count, call_clocks, occu
 use Rattle.lb_check.specs.Occurrences.{occurrences_in, occurrences_each}
 use Rattle.lb_check.specs.Streams.{number}
 use Rattle.lb_check.proofs.ClockTests.{clock_same}
+use Rattle.lb_check.proofs.OperandTypes.{truly}
 use Rattle.lb_flat.specs.Flat.{FlatClock, Where, Constant, ApplyUnary, ApplyBinary, FirstThen}
 use Rattle.lb_flat.specs.Flat.{Previous, Latest, Sample, FlatEquation}
 use Rattle.lb_flat.specs.Layouts.{Layout, where_signed, flat_clock}
@@ -44,10 +48,10 @@ use Rattle.lb_flat.proofs.Lists.{Every-append, Every-first, Every-second, Every-
 use Rattle.lb_flat.proofs.Lists.{Every-copies, Every-joined}
 use Rattle.lb_flat.proofs.Emission.{joins_equations}
 use Rattle.lb_flat.proofs.ScalarKinds.{IsOf, nil_of, binary_kind}
-use Rattle.lb_flat.proofs.TypeFacts.{bound, some_same, single, alone, one, two, from_true, truly}
-use Rattle.lb_flat.proofs.TypeFacts.{Symbolic, constant, symbolic, and_first, and_second}
+use Rattle.lb_flat.proofs.TypeFacts.{bound, single, alone, one, two, from_true, Symbolic, constant}
+use Rattle.lb_flat.proofs.TypeFacts.{symbolic}
 use Rattle.lb_flat.proofs.OutputWidths.{found_in, each}
-use Rattle.lb_flat.proofs.TypedBodies.{name_same, found_passes}
+use Rattle.lb_flat.proofs.TypedBodies.{found_passes}
 use Rattle.lb_flat.proofs.KindFacts.{AllOf, type_kind, kinds_alike, arrays_alike, unary_kinds}
 use Rattle.lb_flat.proofs.KindFacts.{binary_kinds, common_kinds, array_kind, index_kind, slice_kind}
 use Rattle.lb_flat.proofs.KindFacts.{join_kinds, list_kinds, variable_kind}
@@ -83,7 +87,7 @@ first_typed P here e es ts h =
       rest = d.value;
       is = a.is ∙ ap Some (single a.value c.value a.gives);
       others = d.is;
-      all = sym (some_same _ _ d.gives);
+      all = sym (same_Some _ _ d.gives);
     }
 
 arithmetic_kind :
@@ -140,13 +144,6 @@ symbol_kind op types y w = by y.of
 
 head_same : (s t : DataType) (ss ts : List DataType) → s ∷ ss ≡ t ∷ ts → s ≡ t
 head_same s t ss ts e = cc
-
-tail_same : (s t : DataType) (ss ts : List DataType) → s ∷ ss ≡ t ∷ ts → ss ≡ ts
-tail_same s t ss ts e = cc
-
-not_or : (a b : Bool) → (not a || b) ≡ true → a ≡ true → b ≡ true
-not_or true b e h = e
-not_or false b e h = cc
 
 -- a variable that is found by a name is among the names
 among_first :
@@ -250,7 +247,7 @@ module _ (S : Sorts) (Y : Layout) (P : Program) (here : Instance)
       (subst (λ o. IfSome o (λ d. test d ≡ true)) is
       (found_passes test (variables here.node))) in
       let clock : k ≡ declared_clock here.node x = clock_same k (declared_clock here.node x)
-      (not_or (among x (variable_names here.node)) _ c
+      (implied (among x (variable_names here.node)) _ c
       (found_among (variables here.node) x d is)) in
       let same : declared_clock here.node d.name ≡ k =
       ap (declared_clock here.node) name ∙ sym clock in
@@ -386,7 +383,7 @@ module _ (S : Sorts) (Y : Layout) (P : Program) (here : Instance)
         (constant (Some (pos m)) ts e).all h
     fits_term k n s (Truth b) ts e w h =
         constant_fits k s (Boolean b) truth ts (boolean_gives S (flat k) b)
-        (sym (some_same _ _ e)) h
+        (sym (same_Some _ _ e)) h
     fits_term k n s (Variable x) ts e w h =
         name_fits k s x _ ts refl w.0.at_it w.0.clocked e h
     fits_term k n s (Group a) ts e w h = fits_term k n s a ts e w h
@@ -464,7 +461,7 @@ module _ (S : Sorts) (Y : Layout) (P : Program) (here : Instance)
         (λ x p. previous_sorted S (flat k) (flat k) c first_value (nil_of c) x p)
         (λ g. keep_fit S s _ (flat k) c
         (λ g. fit_of s _ k i.data_type c
-        (ap (λ (t : DataType). t.kind) (some_same _ _ i.gives))
+        (ap (λ (t : DataType). t.kind) (same_Some _ _ i.gives))
         (fits_term k n s a (i.data_type ∷ []) i.is w.1 g)) g) h) i.all
     fits_term k n s (Current a) ts e w h =
         let own = clock_or (clock_of P here.node a) in
@@ -475,7 +472,7 @@ module _ (S : Sorts) (Y : Layout) (P : Program) (here : Instance)
         (λ x p. latest_sorted S (flat k) (flat own) c first_value (nil_of c) x p)
         (λ g. keep_fit S s _ (flat own) c
         (λ g. fit_of s _ own i.data_type c
-        (ap (λ (t : DataType). t.kind) (some_same _ _ i.gives))
+        (ap (λ (t : DataType). t.kind) (same_Some _ _ i.gives))
         (fits_term own n s a (i.data_type ∷ []) i.is w.1 g)) g) h) i.all
     fits_term k n s (When a x sign) ts e w h =
         let own = declared_clock here.node x in
@@ -492,7 +489,7 @@ module _ (S : Sorts) (Y : Layout) (P : Program) (here : Instance)
         (λ x p. subst (λ l. Gives S l c (Sample x)) (sym sampled)
         (sample_sorted S (flat own) c at_it.0 sign x p))
         (λ g. fit_of s _ own i.data_type c
-        (ap (λ (t : DataType). t.kind) (some_same _ _ i.gives))
+        (ap (λ (t : DataType). t.kind) (same_Some _ _ i.gives))
         (fits_term own n s a (i.data_type ∷ []) i.is w.1 g)) h)) i.all
     fits_term k n s (Replicate a m) ts e w h =
         let c = bound (static_count P here m) _ ts e in
@@ -605,7 +602,7 @@ module _ (S : Sorts) (Y : Layout) (P : Program) (here : Instance)
         AllFitOn s (emit_all Y P here k n s es) k ts
     fits_all k n s Nil ts e w h = record {
       grown = not_grown S s h;
-      found = subst (λ us. AllOn S Y P here k us []) (some_same _ _ e) tt;
+      found = subst (λ us. AllOn S Y P here k us []) (same_Some _ _ e) tt;
     }
     fits_all k n s (Cons e es) ts is w h =
         let m = n + call_count e in

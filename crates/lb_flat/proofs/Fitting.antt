@@ -1,10 +1,11 @@
 -- In a solution of a flat program whose clocks and kinds fit, each element is present exactly at
 -- the instants of its clock, with scalars of its kind.
-use Rattle.std.proofs.Common.{◌≡◌, ℕ, zero, suc, ◌<◌, ◌≤◌, ◌⊎◌, Bool, true, false, ◌&&◌, inl, inr}
-use Rattle.std.proofs.Common.{Some, None, IfSome, is_some, List, [], ◌∷◌, map, length, slice_get}
-use Rattle.std.proofs.Common.{refl, sym, ap₂, ◌∙◌, subst, arith}
+use Rattle.std.proofs.Common.{◌≡◌, ℕ, zero, suc, ◌<◌, Bool, true, false, ◌&&◌, inl, inr, Some, None}
+use Rattle.std.proofs.Common.{IfSome, is_some, List, [], ◌∷◌, map, length, slice_get, refl, sym}
+use Rattle.std.proofs.Common.{ap₂, ◌∙◌, subst, arith}
 use Rattle.std.proofs.Math.ListN.{get_or-eq_default}
 use Rattle.std.proofs.lemmas.List.{length-map}
+use Rattle.std.proofs.lemmas.Bool.{and_parts, cases_lt}
 use Rattle.lb_syntax.specs.declared.tree.Kind.{Kind}
 use Rattle.lb_syntax.specs.Lists.{Every, In}
 use Rattle.lb_check.specs.Scalars.{Scalar, Integer, Boolean, Nil, Bad, Cell, Stream, two_scalars}
@@ -67,10 +68,6 @@ chosen_cell_of kind (Some c) (Some v) (Some w) h g = chosen_of kind c v w h g
 
 -- ## A row of the trace
 
-both : (a b : Bool) → (a && b) ≡ true → (a ≡ true) × (b ≡ true)
-both true b e = (refl, e)
-both false b e = cc
-
 given_of : (kind : Kind) (v : Scalar) → is_given kind v ≡ true → IsOf kind v
 given_of kind (Integer z) e = e
 given_of kind (Boolean b) e = e
@@ -84,7 +81,7 @@ all_given [] given e j lt = absurd (omega arith)
 all_given (k ∷ kinds) [] e j lt = cc
 all_given (k ∷ kinds) (v ∷ given) e zero lt = refl
 all_given (k ∷ kinds) (v ∷ given) e (suc j) lt =
-    all_given kinds given (both (is_given k v) _ e).1 j (omega arith)
+    all_given kinds given (and_parts (is_given k v) _ e).1 j (omega arith)
 
 pub given_kind :
     (kinds : List Kind) (given : List Scalar) → is_row kinds given ≡ true → (j : ℕ)
@@ -93,9 +90,9 @@ given_kind [] given e j kind at = cc
 given_kind (k ∷ kinds) [] e j kind at = cc
 given_kind (k ∷ kinds) (v ∷ given) e zero kind at =
     let same : k ≡ kind = cc in
-    subst (λ l. IsOf l v) same (given_of k v (both (is_given k v) _ e).0)
+    subst (λ l. IsOf l v) same (given_of k v (and_parts (is_given k v) _ e).0)
 given_kind (k ∷ kinds) (v ∷ given) e (suc j) kind at =
-    given_kind kinds given (both (is_given k v) _ e).1 j kind at
+    given_kind kinds given (and_parts (is_given k v) _ e).1 j kind at
 
 -- ## One row
 
@@ -229,13 +226,6 @@ fits_nothing kind [] [] p q = refl
 fits_nothing kind [] (x ∷ xs) p q = absurd (omega arith)
 fits_nothing kind (b ∷ bs) xs p q = absurd (omega arith)
 
-pub compared : (i n : ℕ) → (i < n) ⊎ (n ≤ i)
-compared zero zero = inr (omega arith)
-compared zero (suc n) = inl (omega arith)
-compared (suc i) zero = inr (omega arith)
-compared (suc i) (suc n) =
-    elim (compared i n) [ inl lt ↦ inl (omega arith) | inr le ↦ inr (omega arith) ]
-
 module _ (inputs : List Kind) (K : ℕ → FlatClock) (N : ℕ → Kind) (size : ℕ) where
   pub solution_fits :
       (X : Inputs) (Q : List FlatEquation) (F : List Stream) → Ready size [] Q →
@@ -267,7 +257,7 @@ module _ (inputs : List Kind) (K : ℕ → FlatClock) (N : ℕ → Kind) (size :
 
       kinds : (j : ℕ) → CellOf (N j) (cell row j)
       kinds j =
-          elim (compared j size) [
+          elim (cases_lt j size) [
             | inl less ↦
                 row_kinds inputs N given row rows.0 size [] Q (λ j p. absurd p) ready
                 halves.holds_now fit.kinds j less

@@ -7,7 +7,6 @@ use Rattle.std.proofs.lemmas.List.{get_or_read, get_or-take, get_or-drop, length
 use Rattle.std.proofs.lemmas.List.{same_lists}
 use Rattle.std.proofs.lemmas.List.FromFn.{length-map-range_with_len, get_or-map-range_with_len}
 use Rattle.std.proofs.lemmas.Option.{get_or_from_slice_get, slice_get_within}
-use Rattle.std.proofs.Math.Nat.{mul-le-mul_right}
 use Rattle.std.specs.Prelude.{int_le, ◌↔◌, IsTrue}
 use Rattle.std.specs.Int.{bit_at}
 use Rattle.std.specs.List.{range_with_len}
@@ -22,16 +21,11 @@ use Rattle.lb_flat.specs.Packed.{truth_columns, number_columns, places_from, wor
 use Rattle.lb_flat.specs.Packed.{truth_cell, cell_held, numbers_of, words_of, nth_row}
 use Rattle.lb_flat.specs.Packed.{cells_of, IsSet}
 use Rattle.lb_flat.proofs.Ledgers.{place-le-last}
-use Rattle.lb_flat.proofs.StoredRows.{trace_at-stored}
+use Rattle.lb_flat.proofs.StoredRows.{trace_at-stored, row_within}
 use Rattle.lb_flat.proofs.Storing.{count_of, instants_at}
 use Rattle.lb_flat.proofs.KindColumns.{length-places, int_column, bool_column, int_place}
 use Rattle.lb_flat.proofs.KindColumns.{bool_place}
 use Rattle.lb_flat.proofs.HeldRows.{length-kinds, cell_of_row, row_of-held}
-
-part_within : (width r last : ℕ) → r < last → r * width + width ≤ last * width
-part_within width r last below =
-    let h : (r + 1) * width ≤ last * width = mul-le-mul_right width (omega arith) in
-    omega (arith, h)
 
 -- a Boolean is true where its cell is 1
 pub truth_is : (b : Bool) (v : ℤ) → v ≡ truth_cell b → IsTrue b ↔ (v ≡ pos 1)
@@ -192,7 +186,7 @@ module _ (old : Recording) (elements : Elements) (names : List (List ℕ)) (numb
         let wide : length integers ≡ numbers_of kinds = ap length is.columns.integers_are in
         let fit : (from + t) * length integers + length integers
         ≤ last_place ends * length integers =
-        part_within (length integers) (from + t) (last_place ends) row_below in
+        row_within (length integers) (from + t) (last_place ends) row_below in
         let all : length numbers ≡ last_place ends * length integers =
         is.filled.numbers_long ∙ ap (λ w. last_place ends * w) (sym wide) in
         omega (arith, fit, all)
@@ -205,7 +199,7 @@ module _ (old : Recording) (elements : Elements) (names : List (List ℕ)) (numb
         let count = words_of_row (length truths) in
         let fit : (from + t) * words_of_row (length truths) + words_of_row (length truths)
         ≤ last_place ends * words_of_row (length truths) =
-        part_within (words_of_row (length truths)) (from + t) (last_place ends) row_below in
+        row_within (words_of_row (length truths)) (from + t) (last_place ends) row_below in
         let all : length words ≡ last_place ends * words_of_row (length truths) =
         is.filled.words_long ∙ ap (λ w. last_place ends * w) (sym wide) in
         omega (arith, fit, all)

@@ -7,7 +7,7 @@ use Rattle.std.specs.List.{range_with_len}
 use Rattle.std.proofs.lemmas.List.{length-map}
 use Rattle.lb_syntax.specs.declared.tree.UnaryOperator.TheVariants.{Not}
 use Rattle.lb_syntax.specs.declared.tree.BinaryOperator.{BinaryOperator}
-use Rattle.lb_syntax.specs.declared.tree.BinaryOperator.TheVariants.{Or, And}
+use Rattle.lb_syntax.specs.declared.tree.BinaryOperator.TheVariants.{Or}
 use Rattle.lb_syntax.specs.declared.tree.ArrayIterator.{ArrayIterator}
 use Rattle.lb_syntax.specs.declared.tree.ArrayIterator.TheVariants.{Map, Red, Fill}
 use Rattle.lb_syntax.specs.Lists.{zip2, copies, joined, part, tail_of, either_or}
@@ -15,6 +15,7 @@ use Rattle.lb_syntax.specs.Tree.{Name, Node_named, Symbol, Expr, Literal, Truth,
 use Rattle.lb_syntax.specs.Tree.{Unary, Binary, If, Arrow, Fby, Pre, Current, When, Replicate}
 use Rattle.lb_syntax.specs.Tree.{Index, Slice, Join, Array, AtMostOne, Nor, Call, Iterate, Exprs}
 use Rattle.lb_syntax.specs.Tree.{Nil, Cons, Declaration}
+use Rattle.lb_syntax.proofs.ListPlaces.{heads_same, tails_same}
 use Rattle.lb_static.specs.StaticValues.{named}
 use Rattle.lb_static.specs.Instances.{Program, Instance, Path, Child, name_value, node_named}
 use Rattle.lb_static.specs.DataTypes.{variables}
@@ -25,19 +26,15 @@ use Rattle.lb_check.specs.Streams.{History, presence, constantly, choice, choice
 use Rattle.lb_check.specs.Streams.{last_of, iterated, symbols, streams, all_streams}
 use Rattle.lb_check.specs.Streams.{argument_streams, number, part_count, outputs_of}
 use Rattle.lb_check.specs.Solutions.{accumulated, iterator_inputs}
+use Rattle.lb_check.proofs.ClockedNodes.{same_taken, same_dropped}
 use Rattle.lb_flat.specs.Flat.{FlatClock, Operation, Constant, ApplyUnary, ApplyBinary, Choose}
 use Rattle.lb_flat.specs.Layouts.{Layout, flat_clock}
 use Rattle.lb_flat.specs.Emit.{State, Emitted, numbers, add, joins, keep, chosen_by, push, chained}
 use Rattle.lb_flat.specs.Emit.{twice, negated, emit_nor, emit_at_most_one, emit_symbol, emit_name}
 use Rattle.lb_flat.specs.Emit.{emit, emit_all, emit_each}
+use Rattle.lb_flat.proofs.EmittedRooms.{chained_one, twice_one}
 
 -- ## Lists of one length
-
-first_same : (a b : ℕ) (as' bs : List ℕ) → a ∷ as' ≡ b ∷ bs → a ≡ b
-first_same a b as' bs e = cc
-
-rest_same : (a b : ℕ) (as' bs : List ℕ) → a ∷ as' ≡ b ∷ bs → as' ≡ bs
-rest_same a b as' bs e = cc
 
 length-zip :
     {A B C D E F : Type 0} (f : A → B → C) (g : D → E → F) (xs : List A) (ys : List B)
@@ -53,22 +50,6 @@ length-zip f g (x ∷ xs) (y ∷ ys) (u ∷ us) (v ∷ vs) p q =
     ap suc (length-zip f g xs ys us vs (omega arith) (omega arith))
 
 module _ {A B : Type 0} where
-  length-taken : (n : ℕ) (xs : List A) (ys : List B) → length xs ≡ length ys →
-      length (take n xs) ≡ length (take n ys)
-  length-taken zero xs ys e = refl
-  length-taken (suc n) [] [] e = refl
-  length-taken (suc n) [] (y ∷ ys) e = absurd (omega arith)
-  length-taken (suc n) (x ∷ xs) [] e = absurd (omega arith)
-  length-taken (suc n) (x ∷ xs) (y ∷ ys) e = ap suc (length-taken n xs ys (omega arith))
-
-  length-dropped : (n : ℕ) (xs : List A) (ys : List B) → length xs ≡ length ys →
-      length (drop n xs) ≡ length (drop n ys)
-  length-dropped zero xs ys e = e
-  length-dropped (suc n) [] [] e = refl
-  length-dropped (suc n) [] (y ∷ ys) e = absurd (omega arith)
-  length-dropped (suc n) (x ∷ xs) [] e = absurd (omega arith)
-  length-dropped (suc n) (x ∷ xs) (y ∷ ys) e = length-dropped n xs ys (omega arith)
-
   length-copied : (n : ℕ) (xs : List A) (ys : List B) → length xs ≡ length ys →
       length (copies n xs) ≡ length (copies n ys)
   length-copied zero xs ys e = refl
@@ -84,16 +65,16 @@ module _ {A B : Type 0} where
   length-joins (xs ∷ xss) [] e = absurd cc
   length-joins (xs ∷ xss) (ys ∷ yss) e =
       length-append xs (joined xss)
-      ∙ ap₂ (λ a b. a + b) (first_same _ _ _ _ e) (length-joins xss yss (rest_same _ _ _ _ e))
+      ∙ ap₂ (λ a b. a + b) (heads_same _ _ _ _ e) (length-joins xss yss (tails_same _ _ _ _ e))
       ∙ sym (length-append ys (joined yss))
 
   length-parted : (n i : ℕ) (xs : List A) (ys : List B) → length xs ≡ length ys →
       length (part n i xs) ≡ length (part n i ys)
   length-parted n i xs ys e =
       ap (λ l. length (take (l / n) (drop ((l / n) * i) xs))) e
-      ∙ length-taken (length ys / n) (drop ((length ys / n) * i) xs)
+      ∙ same_taken (length ys / n) (drop ((length ys / n) * i) xs)
       (drop ((length ys / n) * i) ys)
-      (length-dropped ((length ys / n) * i) xs ys e)
+      (same_dropped ((length ys / n) * i) xs ys e)
 
   length-parts : (n i : ℕ) (xss : List (List A)) (yss : List (List B)) →
       map length xss ≡ map length yss →
@@ -102,8 +83,8 @@ module _ {A B : Type 0} where
   length-parts n i [] (ys ∷ yss) e = absurd cc
   length-parts n i (xs ∷ xss) [] e = absurd cc
   length-parts n i (xs ∷ xss) (ys ∷ yss) e =
-      ap₂ (λ a b. a ∷ b) (length-parted n i xs ys (first_same _ _ _ _ e))
-      (length-parts n i xss yss (rest_same _ _ _ _ e))
+      ap₂ (λ a b. a ∷ b) (length-parted n i xs ys (heads_same _ _ _ _ e))
+      (length-parts n i xss yss (tails_same _ _ _ _ e))
 
   pub length-pieces :
       {C : Type 0} (f : C → List A) (g : C → List B) → ((c : C) → length (f c) ≡ length (g c)) →
@@ -155,17 +136,17 @@ module _ {A B : Type 0} where
     length-inputs n Red outs [] (ys ∷ yss) i e = absurd cc
     length-inputs n Red outs (xs ∷ xss) [] i e = absurd cc
     length-inputs n Red outs (xs ∷ xss) (ys ∷ yss) i e =
-        ap₂ (λ a b. a ∷ b) (length-accumulated outs xs ys i (first_same _ _ _ _ e))
-        (length-parts n i xss yss (rest_same _ _ _ _ e))
+        ap₂ (λ a b. a ∷ b) (length-accumulated outs xs ys i (heads_same _ _ _ _ e))
+        (length-parts n i xss yss (tails_same _ _ _ _ e))
     length-inputs n Fill outs [] [] i e = refl
     length-inputs n Fill outs [] (ys ∷ yss) i e = absurd cc
     length-inputs n Fill outs (xs ∷ xss) [] i e = absurd cc
     length-inputs n Fill outs (xs ∷ xss) (ys ∷ yss) i e =
-        ap (λ a. a ∷ []) (length-accumulated outs xs ys i (first_same _ _ _ _ e))
+        ap (λ a. a ∷ []) (length-accumulated outs xs ys i (heads_same _ _ _ _ e))
 
 -- ## The small words of expansion
 
-numbers_count : (n : ℕ) (os : List Operation) → length (numbers n os) ≡ length os
+pub numbers_count : (n : ℕ) (os : List Operation) → length (numbers n os) ≡ length os
 numbers_count n [] = refl
 numbers_count n (o ∷ os) = ap suc (numbers_count (suc n) os)
 
@@ -174,7 +155,7 @@ pub add_count : (k : FlatClock) (s : State) (os : List Operation) →
 unfolding add
 add_count k s os = numbers_count s.next os
 
-keep_count : (x : Emitted) → length (keep x).found ≡ length x.found
+pub keep_count : (x : Emitted) → length (keep x).found ≡ length x.found
 unfolding keep
 keep_count x = refl
 
@@ -188,22 +169,6 @@ choices_count (z ∷ cs) xs ys [] vs ws c p q = absurd (omega arith)
 choices_count (z ∷ cs) xs ys (u ∷ us) vs ws c p q =
     length-zip (Choose z) (choice u) xs ys vs ws p q
 
-chained_count : (k : FlatClock) (op : BinaryOperator) (s : State) (init : ℕ) (ys : List ℕ) →
-    length (chained k op s init ys).found ≡ 1
-unfolding chained
-chained_count k op s init [] = refl
-chained_count k op s init (y ∷ ys) =
-    chained_count k op (push k s (ApplyBinary op init y)) s.next ys
-
-twice_count : (k : FlatClock) (s : State) (any two : ℕ) (xs : List ℕ) →
-    length (twice k s any two xs).found ≡ 1
-unfolding twice
-twice_count k s any two [] = refl
-twice_count k s any two (x ∷ xs) =
-    let t : State = push k s (ApplyBinary And any x) in
-    let u : State = push k t (ApplyBinary Or two s.next) in
-    twice_count k (push k u (ApplyBinary Or any x)) u.next t.next xs
-
 negated_count : (k : FlatClock) (x : Emitted) → length (negated k x).found ≡ length x.found
 negated_count k x =
     add_count k x.state (map (ApplyUnary Not) x.found) ∙ length-map x.found (ApplyUnary Not)
@@ -211,13 +176,13 @@ negated_count k x =
 nor_count : (k : FlatClock) (s : State) (is : List ℕ) → length (emit_nor k s is).found ≡ 1
 nor_count k s is =
     let t : State = push k s (Constant (Boolean false)) in
-    negated_count k (chained k Or t s.next is) ∙ chained_count k Or t s.next is
+    negated_count k (chained k Or t s.next is) ∙ chained_one k Or t s.next is
 
 at_most_one_count : (k : FlatClock) (s : State) (is : List ℕ) →
     length (emit_at_most_one k s is).found ≡ 1
 at_most_one_count k s is =
     let t : State = push k s (Constant (Boolean false)) in
-    negated_count k (twice k t s.next s.next is) ∙ twice_count k t s.next s.next is
+    negated_count k (twice k t s.next s.next is) ∙ twice_one k t s.next s.next is
 
 symbol_count :
     (k : FlatClock) (op : BinaryOperator) (s : State) (it : ArrayIterator)
@@ -231,8 +196,8 @@ symbol_count k op s Map (x ∷ []) (v ∷ (w ∷ yss)) e = absurd cc
 symbol_count k op s Map (x ∷ (y ∷ xss)) (v ∷ []) e = absurd cc
 symbol_count k op s Map (x ∷ (y ∷ [])) (v ∷ (w ∷ [])) e =
     add_count k s (zip2 (ApplyBinary op) x y)
-    ∙ length-zip (ApplyBinary op) _ x y v w (first_same _ _ _ _ e)
-    (first_same _ _ _ _ (rest_same _ _ _ _ e))
+    ∙ length-zip (ApplyBinary op) _ x y v w (heads_same _ _ _ _ e)
+    (heads_same _ _ _ _ (tails_same _ _ _ _ e))
 symbol_count k op s Map (x ∷ (y ∷ [])) (v ∷ (w ∷ (z ∷ yss))) e = absurd cc
 symbol_count k op s Map (x ∷ (y ∷ (z ∷ xss))) (v ∷ (w ∷ [])) e = absurd cc
 symbol_count k op s Map (x ∷ (y ∷ (z ∷ xss))) (v ∷ (w ∷ (u ∷ yss))) e = refl
@@ -249,7 +214,7 @@ symbol_count k op s Red ((i ∷ []) ∷ xss) ((v ∷ (w ∷ vs)) ∷ yss) e = ab
 symbol_count k op s Red ((i ∷ (j ∷ is)) ∷ xss) ((v ∷ []) ∷ yss) e = absurd cc
 symbol_count k op s Red ((i ∷ (j ∷ is)) ∷ xss) ((v ∷ (w ∷ vs)) ∷ yss) e = refl
 symbol_count k op s Red ((i ∷ []) ∷ (y ∷ [])) ((v ∷ []) ∷ (w ∷ [])) e =
-    chained_count k op s i y
+    chained_one k op s i y
 symbol_count k op s Red ((i ∷ []) ∷ (y ∷ [])) ((v ∷ []) ∷ (w ∷ (z ∷ yss))) e = absurd cc
 symbol_count k op s Red ((i ∷ []) ∷ (y ∷ (z ∷ xss))) ((v ∷ []) ∷ (w ∷ [])) e = absurd cc
 symbol_count k op s Red ((i ∷ []) ∷ (y ∷ (z ∷ xss))) ((v ∷ []) ∷ (w ∷ (u ∷ yss))) e = refl
@@ -341,12 +306,12 @@ module _ (Y : Layout) (P : Program) (H : History) (here : Instance)
         length-copied (number P here m) (emit Y P here k n s a).found (streams P H here k n a)
         (as_many k n s a)
     as_many k n s (Index a i) =
-        length-taken (part_count P here a) _ _
-        (length-dropped (part_count P here a * number P here i) (emit Y P here k n s a).found
+        same_taken (part_count P here a) _ _
+        (same_dropped (part_count P here a * number P here i) (emit Y P here k n s a).found
         (streams P H here k n a) (as_many k n s a))
     as_many k n s (Slice a i j) =
-        length-taken (part_count P here a * (suc (number P here j) - number P here i)) _ _
-        (length-dropped (part_count P here a * number P here i) (emit Y P here k n s a).found
+        same_taken (part_count P here a * (suc (number P here j) - number P here i)) _ _
+        (same_dropped (part_count P here a * number P here i) (emit Y P here k n s a).found
         (streams P H here k n a) (as_many k n s a))
     as_many k n s (Join a b) =
         let x = emit Y P here k n s a in

@@ -1,17 +1,19 @@
 -- What is read of a row of a checked program, by a frame of the row, is what stands for the numbers
 -- in its text.
-use Rattle.std.proofs.Common.{◌≡◌, ℕ, zero, suc, ◌+◌, ◌<◌, ◌≤◌, Bool, true, false, Option, Some, None}
+use Rattle.std.proofs.Common.{◌≡◌, ℕ, zero, suc, ◌+◌, ◌<◌, ◌≤◌, Bool, true, false, Option, Some}
+use Rattle.std.proofs.Common.{None}
 use Rattle.std.proofs.Common.{List, [], ◌∷◌, ◌++◌, length, flat_map, take, get_or, option_map}
 use Rattle.std.proofs.Common.{refl, ap, ap₂, sym, ◌∙◌, subst, arith}
-use Rattle.std.specs.Prelude.{ℤ, nat_le, nat_lt, slice_get, if◌then◌else◌}
+use Rattle.std.specs.Prelude.{ℤ, nat_le, slice_get, if◌then◌else◌}
 use Rattle.std.specs.List.{range_with_len}
-use Rattle.std.proofs.lemmas.Bool.Decides.{nat_tests}
 use Rattle.std.proofs.lemmas.List.{length-append}
 use Rattle.std.proofs.lemmas.List.FromFn.{length-range_with_len}
 use Rattle.std.proofs.lemmas.List.Sums.{sum_by-append, sum_by-cons}
-use Rattle.std.proofs.lemmas.Option.{get_or_from_slice_get}
+use Rattle.std.proofs.lemmas.Option.{get_or_from_slice_get, same_Some}
 use mathlib.Core.Path.{fun_ext}
+use Rattle.std.proofs.lemmas.Bool.{le-leb, lt-ltb}
 use Rattle.lb_syntax.specs.Lists.{◌>>=◌, either_or, In, listed}
+use Rattle.lb_syntax.proofs.ListPlaces.{mapped_from, all_at}
 use Rattle.lb_static.specs.Arithmetic.{is_int}
 use Rattle.lb_static.specs.DataTypes.{variables}
 use Rattle.lb_static.specs.Elaborated.{elaborated_program}
@@ -47,10 +49,8 @@ use Rattle.lb_check.proofs.CalledInstances.{instance_there}
 use Rattle.lb_check.proofs.Checks.{names_kept}
 use Rattle.lb_check.proofs.ClockTests.{declared_is, declared_within}
 use Rattle.lb_check.proofs.DeterminedClocks.{count_of}
-use Rattle.lb_check.proofs.ListPairs.{mapped_from, get_mapped}
+use Rattle.lb_check.proofs.ListPairs.{get_mapped}
 use Rattle.lb_check.proofs.NodeClocks.{resolved_at}
-use Rattle.lb_check.proofs.NodePlaces.{all_at}
-use Rattle.lb_check.proofs.OperandTypes.{some_same}
 use Rattle.lb_check.proofs.SiteOccurrences.{site_occurs}
 use Rattle.lb_flat.specs.Layouts.{flat_clock}
 use Rattle.lb_flat.specs.NumberedLayouts.{layout}
@@ -61,7 +61,8 @@ use Rattle.lb_flat.specs.RowFrames.{found_row, found_terms, input_id, int_value,
 use Rattle.lb_flat.specs.RowFrames.{row_found_context, row_read}
 use Rattle.lb_flat.specs.Rows.{sum_of, widths_in, row_widths, first_of_row}
 use Rattle.lb_flat.specs.Rows.{row_numbers, numbers_at, called_row, child_row, child_numbers}
-use Rattle.lb_flat.specs.TableClocks.{IsLayoutOf, sources_of, all_clocks, all_runs, clock_id, node_at}
+use Rattle.lb_flat.specs.TableClocks.{IsLayoutOf, sources_of, all_clocks, all_runs, clock_id}
+use Rattle.lb_flat.specs.TableClocks.{node_at}
 use Rattle.lb_flat.specs.Values.{clock_of}
 use Rattle.lb_flat.specs.declared.children.Children.{Children}
 use Rattle.lb_flat.specs.declared.clocks.Clocks.{Clocks}
@@ -75,7 +76,7 @@ use Rattle.lb_flat.proofs.RowInstances.{IsRow, row_of}
 
 -- ## Numbers of elements
 
-past_end : (ws : List ℕ) (x : ℕ) → length ws ≤ x → get_or ws x 0 ≡ 0
+pub past_end : (ws : List ℕ) (x : ℕ) → length ws ≤ x → get_or ws x 0 ≡ 0
 past_end [] x le = refl
 past_end (w ∷ ws) zero le = absurd (omega (arith, le))
 past_end (w ∷ ws) (suc x) le = past_end ws x (omega (arith, le))
@@ -121,17 +122,15 @@ range_below count start (suc w) h =
     length-range_with_len start (suc w) in
     let low = h (omega arith) in
     let test : nat_le (start + length (range_with_len start (suc w))) count ≡ true =
-    tested (start + length (range_with_len start (suc w))) count (omega (arith, long, low)) in
+    le-leb (start + length (range_with_len start (suc w))) count (omega (arith, long, low)) in
     ap (λ b. if b then range_with_len start (suc w) else []) test
-  where
-    tested : (m n : ℕ) → m ≤ n → nat_le m n ≡ true
-    tested m n le = grind (arith, nat_tests)
 
 module _ (r : Reached) (t : Table) (l : Layout) (laid : IsLayoutOf r t l) where
   -- the elements of a variable of a row are among all
   numbers_below :
       (j x : ℕ) →
-      held_below l.count (row_numbers r t j (record { 0 = x })) ≡ row_numbers r t j (record { 0 = x })
+      held_below l.count (row_numbers r t j (record { 0 = x }))
+      ≡ row_numbers r t j (record { 0 = x })
   numbers_below j x =
       let ws = row_widths r t j in
       let own = own_sum ws x in
@@ -169,12 +168,9 @@ module _ (P : Program) (r : Reached) (names : keeps_names P ≡ true) (reached :
       let first = length-append n.inputs (n.outputs ++ n.locals) in
       let later = length-append n.outputs n.locals in
       let test : nat_le (m.inputs + m.outputs) (length m.variables.items) ≡ true =
-      tested (m.inputs + m.outputs) (length m.variables.items)
+      le-leb (m.inputs + m.outputs) (length m.variables.items)
       (omega (arith, ins, outs, many, first, later)) in
       ap (λ b. if b then Some (parameters_of m) else None) test
-    where
-      tested : (m n : ℕ) → m ≤ n → nat_le m n ≡ true
-      tested m n le = grind (arith, nat_tests)
 
   found_callee :
       (o : Option NodeId) →
@@ -370,8 +366,9 @@ module _ (c : Checking) (lawful : IsChecked c) (l : Layout) (all : Children) (k 
     input_read m e site callee at lt found x low =
         let table = lawful.elaborated.table in
         let accepted = lawful.elaborated.accepted in
-        let called = callee_is P r t lawful.elaborated.reached table accepted j i here is m site at in
-        let own_callee = some_same called.callee callee (sym called.found ∙ found) in
+        let called =
+        callee_is P r t lawful.elaborated.reached table accepted j i here is m site at in
+        let own_callee = same_Some called.callee callee (sym called.found ∙ found) in
         let named : node_named P site.callee ≡ Some (node_of callee) =
         called.named ∙ ap (λ (n : ResolvedNode). Some (node_of n)) own_callee in
         let o = site_occurs P lawful.accepted here there m site at in
@@ -407,7 +404,7 @@ module _ (c : Checking) (lawful : IsChecked c) (l : Layout) (all : Children) (k 
             let same_count : length (variables inner.node) ≡ length (variables (node_of callee)) =
             ap (λ n. length (variables n)) node in
             let w : is_variable (counts_of n) x ≡ true =
-            tested x.0 (length n.variables.items) (omega (
+            lt-ltb x.0 (length n.variables.items) (omega (
               arith,
               low,
               ins,
@@ -441,6 +438,3 @@ module _ (c : Checking) (lawful : IsChecked c) (l : Layout) (all : Children) (k 
             ∙ ap₂ (flat_clock (layout P)) path
             (declared_is n hc x w
             ∙ ap (λ m. declared_clock m (name_at (variable_names m) x)) tree_is)
-          where
-            tested : (m n : ℕ) → m < n → nat_lt m n ≡ true
-            tested m n lt = grind (arith, nat_tests)

@@ -1,8 +1,7 @@
 -- Lists of the clocks and kinds of elements of variables, and equations that give further elements
 -- one after another, give every element a clock and a kind, further ones those of their equations.
 use Rattle.std.proofs.Common.{◌≡◌, ℕ, zero, suc, ◌<◌, Some, List, [], ◌∷◌, ◌++◌, map, length}
-use Rattle.std.proofs.Common.{take, get_or, slice_get, refl, sym, ap, ◌∙◌, subst, arith}
-use Rattle.std.proofs.Common.{length-append}
+use Rattle.std.proofs.Common.{get_or, slice_get, refl, sym, ap, ◌∙◌, subst, arith, length-append}
 use Rattle.lb_syntax.specs.declared.tree.Kind.{Kind}
 use Rattle.lb_syntax.specs.declared.tree.Kind.TheVariants.{Int}
 use Rattle.lb_syntax.specs.Lists.{Every}
@@ -136,11 +135,3 @@ length-kinds_from kinds [] = refl
 length-kinds_from kinds (q ∷ Q) =
     ap suc
     (length-kinds_from (kinds ++ (operation_kind (kind_among kinds) q.operation ∷ [])) Q)
-
--- the first of two lists, taken from both
-pub taken_first : {A : Type 0} (xs ys : List A) (n : ℕ) → length xs ≡ n → take n (xs ++ ys) ≡ xs
-taken_first [] ys zero e = refl
-taken_first [] ys (suc n) e = absurd (omega (arith, e))
-taken_first (x ∷ xs) ys zero e = absurd (omega (arith, e))
-taken_first (x ∷ xs) ys (suc n) e =
-    ap (λ zs. x ∷ zs) (taken_first xs ys n (omega (arith, e)))

@@ -1,20 +1,23 @@
 -- The streams of a program's variables in the order of instantiation, from a history that solves
 -- the program, and
 -- those that the further equations fill in from them.
-use Rattle.std.proofs.Common.{◌≡◌, ℕ, zero, suc, ◌+◌, ◌<◌, Bool, true, false, Some, None, List, []}
-use Rattle.std.proofs.Common.{◌∷◌, ◌++◌, length, flat_map, refl, sym, ap, ap₂, ◌∙◌, subst, arith}
+use Rattle.std.proofs.Common.{◌≡◌, ℕ, zero, suc, ◌+◌, ◌<◌, Bool, true, List, [], ◌∷◌, ◌++◌, length}
+use Rattle.std.proofs.Common.{flat_map, refl, sym, ap, ap₂, ◌∙◌, subst, arith}
 use Rattle.std.specs.List.{range_with_len}
 use Rattle.std.proofs.lemmas.List.{length-map}
+use Rattle.std.proofs.lemmas.List.FromFn.{length-range_with_len}
 use Rattle.lb_syntax.specs.declared.tree.Kind.{Kind}
 use Rattle.lb_syntax.specs.Lists.{Every}
 use Rattle.lb_syntax.specs.Tree.{Declaration}
 use Rattle.lb_static.specs.Instances.{Program, Instance, instances}
 use Rattle.lb_static.specs.DataTypes.{variables, input_kinds}
-use Rattle.lb_check.specs.Scalars.{Stream, is_of_kind}
+use Rattle.lb_check.specs.Scalars.{Stream}
 use Rattle.lb_check.specs.Streams.{History}
 use Rattle.lb_check.specs.Verdicts.{variable_columns}
 use Rattle.lb_check.specs.Solutions.{Inputs, fits, variable_presence, Fits, SolvesAt, Solves}
 use Rattle.lb_check.proofs.ListPairs.{cons_same}
+use Rattle.lb_check.proofs.LongStreams.{fits_length}
+use Rattle.lb_check.proofs.ElementValues.{pieces_count}
 use Rattle.lb_flat.specs.Flat.{FlatClock, column, AreLong}
 use Rattle.lb_flat.specs.Layouts.{Layout}
 use Rattle.lb_flat.specs.Emit.{State, before_instances, emit_instances}
@@ -26,8 +29,6 @@ use Rattle.lb_flat.proofs.Bodies.{all_closed}
 use Rattle.lb_flat.proofs.Whole.{all_streams_of}
 use Rattle.lb_flat.proofs.Fitting.{KindFits}
 use Rattle.lb_flat.proofs.Observing.{all_places}
-use Rattle.lb_flat.proofs.TypeFacts.{and_second}
-use Rattle.lb_flat.proofs.RootWidths.{pieces_count}
 use Rattle.lb_flat.proofs.Solving.{IsElement, IsVariablePlaced, IsPlacing}
 use Rattle.lb_flat.proofs.FilledKinds.{StreamOf, ElementOf, fits_of, fresh_truths}
 
@@ -89,25 +90,6 @@ module _ (X : Inputs) where
   columns_same F G n same [] h = refl
   columns_same F G n same (i ∷ is) h =
       ap₂ (λ y ys. y ∷ ys) (same i h.0) (columns_same F G n same is h.1)
-
--- ## Lengths
-
-fits_long :
-    (kind : Kind) (bs : List Bool) (xs : Stream) → fits kind bs xs ≡ true →
-    length xs ≡ length bs
-fits_long kind [] [] e = refl
-fits_long kind [] (x ∷ xs) e = cc
-fits_long kind (true ∷ bs) [] e = cc
-fits_long kind (false ∷ bs) [] e = cc
-fits_long kind (true ∷ bs) (None ∷ xs) e = cc
-fits_long kind (true ∷ bs) (Some v ∷ xs) e =
-    ap suc (fits_long kind bs xs (and_second (is_of_kind kind v) (fits kind bs xs) e))
-fits_long kind (false ∷ bs) (None ∷ xs) e = ap suc (fits_long kind bs xs e)
-fits_long kind (false ∷ bs) (Some v ∷ xs) e = cc
-
-length-range : (a n : ℕ) → length (range_with_len a n) ≡ n
-length-range a zero = refl
-length-range a (suc n) = ap suc (length-range (a + 1) n)
 
 -- ## The streams of all variables
 
@@ -176,7 +158,7 @@ module _ (P : Program) (Y : Layout) (count : ℕ) (K : ℕ → FlatClock) (N : �
       sym (pieces_count (of_instance F) (variable_columns H) (instances P)
       (widths_same F (instances P) placing.variables s.instances))
       ∙ ap length (places_flat F) ∙ length-map (all_places Y P) (column X F)
-      ∙ ap length instance_order ∙ length-range 0 count
+      ∙ ap length instance_order ∙ length-range_with_len 0 count
 
   -- ## Columns of variables
 
@@ -213,7 +195,7 @@ module _ (P : Program) (Y : Layout) (count : ℕ) (K : ℕ → FlatClock) (N : �
       Every (λ xs. fits kind bs xs ≡ true) xss → AreLong X xss
   cells_long kind bs [] e h = tt
   cells_long kind bs (xs ∷ xss) e h =
-      (fits_long kind bs xs h.0 ∙ e, cells_long kind bs xss e h.1)
+      (fits_length kind bs xs h.0 ∙ e, cells_long kind bs xss e h.1)
 
   each_long :
       (here : Instance) (ds : List Declaration) → Every (IsPresent here) ds →

@@ -11,11 +11,13 @@ use Rattle.lb_syntax.specs.Tree.{Name, Static, Node_named, Symbol, Expr, Literal
 use Rattle.lb_syntax.specs.Tree.{Group, Unary, Binary, If, Arrow, Fby, Pre, Current, When}
 use Rattle.lb_syntax.specs.Tree.{Replicate, Index, Slice, Join, Array, AtMostOne, Nor, Call}
 use Rattle.lb_syntax.specs.Tree.{Iterate, Exprs, Nil, Cons, Declaration, Node}
+use Rattle.lb_syntax.proofs.ListPlaces.{heads_same, tails_same}
 use Rattle.lb_static.specs.StaticValues.{named}
 use Rattle.lb_static.specs.Instances.{Program, Instance, Path, Child, Site, sites, sites_in}
 use Rattle.lb_static.specs.Instances.{call_site, numbered_sites, static_count, instance_count}
 use Rattle.lb_static.specs.Instances.{callee_of, site_instances, node_named}
 use Rattle.lb_static.specs.DataTypes.{DataType, variables, variable_type, are_types}
+use Rattle.lb_static.proofs.Options.{length-all_some}
 use Rattle.lb_check.specs.Types.{data_types, all_types, operator_types}
 use Rattle.lb_check.specs.Scalars.{Stream}
 use Rattle.lb_check.specs.Clocks.{Clock, On, clock_of, clock_or, declared_clock, argument_clocks}
@@ -24,7 +26,7 @@ use Rattle.lb_check.specs.Occurrences.{occurrences_in, occurrences_each}
 use Rattle.lb_check.specs.Streams.{History, all_streams, number}
 use Rattle.lb_check.specs.Solutions.{iterator_inputs}
 use Rattle.lb_check.proofs.OccurrenceSites.{numbered_append}
-use Rattle.lb_check.proofs.OperandTypes.{first_of_all}
+use Rattle.lb_check.proofs.OperandTypes.{first_of_all, truly}
 use Rattle.lb_flat.specs.Flat.{FlatClock, FlatEquation}
 use Rattle.lb_flat.specs.Layouts.{Layout, flat_clock}
 use Rattle.lb_flat.specs.Emit.{State, Target, targets, copied, received, call_copies}
@@ -32,9 +34,9 @@ use Rattle.lb_flat.specs.Emit.{iterator_copies, add, keep, emit_name, emit, emit
 use Rattle.lb_flat.proofs.Lists.{map-pieces, Every-first, Every-second, Every-of_range}
 use Rattle.lb_flat.proofs.Placing.{AreAsWide}
 use Rattle.lb_flat.proofs.Emission.{joins_copies}
-use Rattle.lb_flat.proofs.TypeFacts.{bound, truly, are_counts}
+use Rattle.lb_flat.proofs.TypeFacts.{bound, are_counts}
 use Rattle.lb_flat.proofs.Widths.{called, placed, number_is, AreVariablesWide, IsOccurrenceWide}
-use Rattle.lb_flat.proofs.PlacedCalls.{call_as_wide, iterator_as_wide, length-all, lengths_same}
+use Rattle.lb_flat.proofs.PlacedCalls.{call_as_wide, iterator_as_wide, lengths_same}
 use Rattle.lb_flat.proofs.TypedParts.{IsTypedAt}
 use Rattle.lb_flat.proofs.FoundWidths.{length-inputs, all_as_many, each_as_many}
 use Rattle.lb_flat.proofs.EmittedCopies.{add_copies, keep_copies, nor_copies, at_most_one_copies}
@@ -60,12 +62,6 @@ copied_gives [] js e = refl
 copied_gives (t ∷ ts) [] e = absurd (omega arith)
 copied_gives (t ∷ ts) (j ∷ js) e = ap (λ is. t.place ∷ is) (copied_gives ts js (omega arith))
 
-counts_first : (a b : ℕ) (as' bs : List ℕ) → a ∷ as' ≡ b ∷ bs → a ≡ b
-counts_first a b as' bs e = cc
-
-counts_rest : (a b : ℕ) (as' bs : List ℕ) → a ∷ as' ≡ b ∷ bs → as' ≡ bs
-counts_rest a b as' bs e = cc
-
 -- what is found for each is something
 some_all : {A B : Type 0} (f : A → Option B) (g : A → B) → ((a : A) → f a ≡ Some (g a)) →
     (xs : List A) → some_of (map f xs) ≡ map g xs
@@ -88,11 +84,11 @@ module _ (Y : Layout) (H : History)
       let ts = targets Y callee p d.name in
       let as_long : length ts ≡ length is =
       length-map (Y.places p d.name) _ ∙ (same p d.name
-      ∙ (w.0 ∙ sym (counts_first _ _ _ _ e))) in
+      ∙ (w.0 ∙ sym (heads_same _ _ _ _ e))) in
       map-append (λ q. q.element) (copied ts is) (received Y callee p ds iss)
       ∙ ap₂ (λ xs ys. xs ++ ys)
       (copied_gives ts is as_long ∙ sym (target_places k (Y.places p d.name)))
-      (received_gives callee p ds iss xsss w.1 (counts_rest _ _ _ _ e))
+      (received_gives callee p ds iss xsss w.1 (tails_same _ _ _ _ e))
 
 -- ## Calls
 
@@ -192,7 +188,7 @@ module _ (Y : Layout) (P : Program) (H : History) (here : Instance)
       let counts = are_counts o.value.0 a.value t.holds in
       let as_many : length a.value ≡ length c.callee.node.inputs =
       sym (lengths_same o.value.0 a.value counts)
-      ∙ length-all (map (variable_type P c.callee) c.callee.node.inputs) o.value.0 c.inputs
+      ∙ length-all_some (map (variable_type P c.callee) c.callee.node.inputs) o.value.0 c.inputs
       ∙ length-map c.callee.node.inputs (variable_type P c.callee) in
       let clocks : length (call_clocks k (node_named P f) es) ≡ length c.callee.node.inputs =
       ap (λ o. length (call_clocks k o es)) p.node ∙ length-map c.callee.node.inputs _ in

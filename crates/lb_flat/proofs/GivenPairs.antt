@@ -8,6 +8,7 @@ use Rattle.std.specs.Str.{bytes_eq}
 use Rattle.std.proofs.lemmas.Bool.Decides.{nat_tests}
 use Rattle.lb_syntax.specs.Lists.{either_or}
 use Rattle.lb_syntax.specs.Tree.{Name}
+use Rattle.lb_syntax.proofs.TruthValues.{and_first, and_second}
 use Rattle.lb_static.specs.Names.{are_distinct}
 use Rattle.lb_static.specs.ResolvedTerms.{name_at}
 use Rattle.lb_static.specs.StaticValues.{named}
@@ -16,7 +17,6 @@ use Rattle.lb_static.specs.declared.resolved.VariableId.{VariableId}
 use Rattle.lb_check.specs.FoundTerms.{pair_names}
 use Rattle.lb_check.specs.declared.found_clocks.GivenVariable.{GivenVariable}
 use Rattle.lb_check.proofs.DistinctNames.{distinct_at}
-use Rattle.lb_check.proofs.TruthValues.{and_first, and_second}
 
 -- the pair that is found by name is that which is found by number
 module _ (names : List Name) (apart : are_distinct names ≡ true) (n : ResolvedNode) (y : ℕ)

@@ -9,6 +9,7 @@ use Rattle.std.proofs.lemmas.List.{length-map}
 use Rattle.lb_syntax.specs.Lists.{Every, In, listed, holds}
 use Rattle.lb_syntax.specs.Refusals.{E4, E7, E8, E9, E10, E11, unless}
 use Rattle.lb_syntax.specs.Tree.{Name, Declaration}
+use Rattle.lb_syntax.proofs.TruthValues.{and_first, and_second}
 use Rattle.lb_static.specs.DataTypes.{variables, width}
 use Rattle.lb_static.specs.Instances.{Program, Instance, Path, Root, Observer, instance_at}
 use Rattle.lb_static.specs.Instances.{children, instances}
@@ -32,7 +33,6 @@ use Rattle.lb_check.proofs.Every.{Every-first, Every-second}
 use Rattle.lb_check.proofs.InstanceNames.{variables_distinct}
 use Rattle.lb_check.proofs.InstancePaths.{path_is}
 use Rattle.lb_check.proofs.SameInstances.{IsEntered, all_entered}
-use Rattle.lb_check.proofs.TruthValues.{and_first, and_second}
 use Rattle.lb_flat.specs.Flat.{FlatEquation, column}
 use Rattle.lb_flat.specs.Flattening.{history_of}
 use Rattle.lb_flat.specs.GivenOnce.{IsGiven}

@@ -4,9 +4,9 @@ use Rattle.std.proofs.Common.{◌≡◌, ℕ, zero, suc, ◌+◌, ◌-◌, ◌<�
 use Rattle.std.proofs.Common.{None, List, [], length, get_or, refl, ap, sym, ◌∙◌, arith}
 use Rattle.std.specs.Prelude.{nat_le, if◌then◌else◌}
 use Rattle.std.specs.List.{range_with_len}
-use Rattle.std.proofs.lemmas.Bool.Decides.{nat_tests}
 use Rattle.std.proofs.lemmas.List.FromFn.{length-range_with_len}
 use Rattle.std.proofs.lemmas.Option.{slice_get_past}
+use Rattle.std.proofs.lemmas.Bool.{le-leb, lt-leb}
 use Rattle.lb_flat.specs.RowFrames.{held_below}
 use Rattle.lb_flat.specs.Rows.{numbers_between}
 use Rattle.lb_flat.specs.Values.{clock_from, clock_within, clock_of}
@@ -23,12 +23,6 @@ past_clock clocks i le = by (length clocks)
     by zero = refl
     by (suc n) = sym (ap (clock_from (clock_within n clocks)) (slice_get_past clocks i.0 le))
 
-tested : (m n : ℕ) → m ≤ n → nat_le m n ≡ true
-tested m n le = grind (arith, nat_tests)
-
-failed : (m n : ℕ) → n < m → nat_le m n ≡ false
-failed m n lt = grind (arith, nat_tests)
-
 first_is : (start w : ℕ) → 0 < w → get_or (range_with_len start w) 0 0 ≡ start
 first_is start zero lt = absurd (omega (arith, lt))
 first_is start (suc w) lt = refl
@@ -42,7 +36,7 @@ held_before ns start end count is lt le =
     let long = length-range_with_len start (end - start) in
     let first = first_is start (end - start) (omega (arith, lt)) in
     let test : nat_le (get_or own 0 0 + length own) count ≡ true =
-    tested (get_or own 0 0 + length own) count (omega (arith, long, first, lt, le)) in
+    le-leb (get_or own 0 0 + length own) count (omega (arith, long, first, lt, le)) in
     sym (ap (λ b. if b then own else []) test) ∙ ap (held_below count) is
 
 -- some that do not
@@ -54,7 +48,7 @@ held_past ns start end count is lt past =
     let long = length-range_with_len start (end - start) in
     let first = first_is start (end - start) (omega (arith, lt)) in
     let test : nat_le (get_or own 0 0 + length own) count ≡ false =
-    failed (get_or own 0 0 + length own) count (omega (arith, long, first, lt, past)) in
+    lt-leb (get_or own 0 0 + length own) count (omega (arith, long, first, lt, past)) in
     sym (ap (λ b. if b then own else []) test) ∙ ap (held_below count) is
 
 -- none

@@ -6,12 +6,13 @@ use Rattle.std.proofs.Common.{length-append}
 use Rattle.std.proofs.lemmas.List.{get_or_append_left, get_or-append-add, get_or-drop, get_or-map}
 use Rattle.std.proofs.lemmas.Bool.{cases_lt}
 use Rattle.std.proofs.lemmas.List.{same_lists, length-map, get_or_default}
-use Rattle.std.proofs.Math.Nat.{mul-le-mul_right}
 use Rattle.std.specs.Prelude.{int_le}
 use Rattle.std.specs.Int.{bit_at}
+use Rattle.std.proofs.lemmas.Simd.{get_or-zip2}
 use Rattle.lb_syntax.specs.declared.tree.Kind.{Kind}
 use Rattle.lb_syntax.specs.declared.tree.Kind.TheVariants.{Int as Int_kind, Bool as Bool_kind}
 use Rattle.lb_static.specs.Signature.{Element, Elements, kinds_of}
+use Rattle.lb_check.proofs.LongStreams.{length-both}
 use Rattle.lb_flat.specs.Traces.{Row, IsRow, IsCell}
 use Rattle.lb_flat.specs.Stored.{row_of}
 use Rattle.lb_flat.specs.Packed.{truth_columns, number_columns, places_from, words_of_row, bit_in}
@@ -19,9 +20,7 @@ use Rattle.lb_flat.specs.Packed.{truth_in, ArePacked, numbers_in, truth_cell, ce
 use Rattle.lb_flat.specs.Packed.{numbers_of, words_of, nth_row, cells_held, AreFilled}
 use Rattle.lb_flat.proofs.KindColumns.{length-places, int_place, bool_place, rows_agree}
 use Rattle.lb_flat.proofs.KindColumns.{all_columns}
-use Rattle.lb_flat.proofs.Lists.{length-zips}
-use Rattle.lb_flat.proofs.RecordedInputs.{get_or-zips}
-use Rattle.lb_flat.proofs.StoredRows.{row_of-append, row_of-grown}
+use Rattle.lb_flat.proofs.StoredRows.{row_of-append, row_of-grown, row_within}
 use Rattle.lb_flat.proofs.Storing.{length-row}
 
 pub length-kinds : (elements : Elements) → length (kinds_of elements) ≡ length elements
@@ -33,7 +32,7 @@ pub length-row_held :
     (kinds : List Kind) (numbers : List ℤ) (words : List ℕ) →
     length (row_held kinds numbers words) ≡ length kinds
 length-row_held kinds numbers words =
-    length-zips (cell_held numbers words) (length kinds) kinds (places_from 0 0 kinds) refl
+    length-both (cell_held numbers words) (length kinds) kinds (places_from 0 0 kinds) refl
     (length-places 0 0 kinds)
 
 -- the cell in a column
@@ -42,7 +41,7 @@ pub cell_of_row :
     get_or (row_held kinds numbers words) c d
     ≡ cell_held numbers words (get_or kinds c Int_kind) (get_or (places_from 0 0 kinds) c 0)
 cell_of_row kinds numbers words c d l =
-    get_or-zips (cell_held numbers words) kinds (places_from 0 0 kinds) c Int_kind 0 d l
+    get_or-zip2 (cell_held numbers words) kinds (places_from 0 0 kinds) c Int_kind 0 d l
     (omega (arith, l, length-places 0 0 kinds))
 
 -- the same integers and words hold the same row
@@ -57,18 +56,13 @@ same_held kinds n n' w w' ints words =
     let inside : p / 64 < words_of_row (length (truth_columns 0 kinds)) = omega (arith, l) in
     ap (λ x. truth_cell (bit_at x (p % 64) == 1)) (words (p / 64) inside))
 
-part_within : (width r last : ℕ) → r < last → r * width + width ≤ last * width
-part_within width r last below =
-    let h : (r + 1) * width ≤ last * width = mul-le-mul_right width (omega arith) in
-    omega (arith, h)
-
 -- what stands at a place of a part stands there after more has come
 kept_at :
     {A : Type 0} (xs more : List A) (width rows r p : ℕ) (d : A) → length xs ≡ rows * width →
     r < rows → p < width →
     get_or (drop (r * width) (xs ++ more)) p d ≡ get_or (drop (r * width) xs) p d
 kept_at xs more width rows r p d long l lp =
-    let inside : r * width + p < length xs = omega (arith, part_within width r rows l, long, lp) in
+    let inside : r * width + p < length xs = omega (arith, row_within width r rows l, long, lp) in
     get_or-drop (r * width) (xs ++ more) p d
     ∙ get_or_append_left xs more d (r * width + p) inside
     ∙ sym (get_or-drop (r * width) xs p d)
@@ -247,7 +241,7 @@ row_of-held kinds numbers words (suc n) r l =
     ≡ nth_row kinds numbers words k) n
     (λ k m.
     row_of-append (length kinds) (cells_held kinds numbers words n)
-    (nth_row kinds numbers words n) k (omega (arith, part_within (length kinds) k n m, all))
+    (nth_row kinds numbers words n) k (omega (arith, row_within (length kinds) k n m, all))
     ∙ row_of-held kinds numbers words n k m)
     (row_of-grown (length kinds) (cells_held kinds numbers words n)
     (nth_row kinds numbers words n) n (sym all)

@@ -3,28 +3,15 @@ use Rattle.std.proofs.Common.{◌≡◌, ℕ, zero, suc, ◌<◌, Bool, true, fa
 use Rattle.std.proofs.Common.{[], ◌∷◌, length, replicate, set, All, refl, sym, subst, ◌∙◌, arith}
 use Rattle.std.proofs.Common.{inl, inr, ⊎_elim, length-set}
 use Rattle.std.specs.List.{list_all}
-use Rattle.std.proofs.lemmas.Bool.{cases_eq, ltb-true, lt-ltb, not-true, not_from_false}
+use Rattle.std.proofs.lemmas.Bool.{cases_eq, ltb-true, lt-ltb, not-true, not_from_false, and_from}
 use Rattle.std.proofs.lemmas.List.{get_or-set_same, get_or-set_other, length-replicate}
 use Rattle.lb_syntax.specs.Lists.{Every, In}
+use Rattle.lb_syntax.proofs.TruthValues.{and_first, and_second, contrary}
 use Rattle.lb_flat.specs.Flat.{FlatEquation}
 use Rattle.lb_flat.specs.InOrder.{is_done, is_next, is_in_order}
 use Rattle.lb_flat.specs.Run.{IsNext, Ready, equation_reads, keeps}
 
 -- ## Tests
-
-pub and_first : (a b : Bool) → (a && b) ≡ true → a ≡ true
-and_first true b h = refl
-and_first false b h = h
-
-pub and_second : (a b : Bool) → (a && b) ≡ true → b ≡ true
-and_second true b h = h
-and_second false b h = absurd (cc)
-
-pub and_both : (a b : Bool) → a ≡ true → b ≡ true → (a && b) ≡ true
-and_both a b p q = cc
-
-pub true_false : (b : Bool) → b ≡ true → b ≡ false → ⊥
-true_false b p q = cc
 
 pub unmarked : (size i : ℕ) → is_done (replicate size false) i ≡ false
 unmarked zero i = refl
@@ -44,7 +31,7 @@ module _ {A : Type 0} (test : A → Bool) (P : A → Type 0) where
       ((a : A) → P a → test a ≡ true) → (xs : List A) → Every P xs → list_all test xs ≡ true
   test_of-Every says [] h = refl
   test_of-Every says (a ∷ xs) h =
-      and_both (test a) (list_all test xs) (says a h.0) (test_of-Every says xs h.1)
+      and_from (test a) (list_all test xs) (says a h.0) (test_of-Every says xs h.1)
 
 pub Every-of_All :
     {A : Type 0} (P : A → Type 0) (xs : List A) → All P xs → Every P xs
@@ -94,11 +81,11 @@ module _ (done : List Bool) (q : FlatEquation) where
       Every (λ i. i < length done) (keeps q.operation) → q.element < length done →
       is_done done q.element ≡ false → is_next done q ≡ true
   passes all_read kept lt new =
-      and_both _ _ all_read
-      (and_both _ _
+      and_from _ _ all_read
+      (and_from _ _
       (test_of-Every (λ i. nat_lt i (length done)) (λ i. i < length done)
       (λ i. lt-ltb i (length done)) (keeps q.operation) kept)
-      (and_both _ _ (lt-ltb q.element (length done) lt) (not_from_false _ new)))
+      (and_from _ _ (lt-ltb q.element (length done) lt) (not_from_false _ new)))
 
   module _ (h : is_next done q ≡ true) where
     next_element : (nat_lt q.element (length done) && not (is_done done q.element)) ≡ true
@@ -118,7 +105,7 @@ module _ (done : List Bool) (q : FlatEquation) where
           (and_first _ _ (and_second _ _ h));
       is_element = next_below;
       is_new = λ old.
-          true_false (is_done done q.element) (marks.marked q.element old)
+          contrary (is_done done q.element) (marks.marked q.element old)
           (not-true (is_done done q.element) (and_second _ _ next_element));
     }
 
@@ -127,7 +114,7 @@ marked_all :
     list_all (λ b. b) done ≡ true
 marked_all [] all = refl
 marked_all (b ∷ done) all =
-    and_both b _ (all 0 (omega arith))
+    and_from b _ (all 0 (omega arith))
     (marked_all done (λ i lt. all (suc i) (omega arith)))
 
 -- each mark of a list of marks that are all set
@@ -156,7 +143,7 @@ ready_of_test (q ∷ Q) done before size long marks h =
 
 no_marks : (size : ℕ) → AreMarks (replicate size false) []
 no_marks size = record {
-  given = λ i is. absurd (true_false _ is (unmarked size i));
+  given = λ i is. absurd (contrary _ is (unmarked size i));
   marked = λ i is. absurd is;
 }
 
@@ -179,4 +166,4 @@ pub goes_before :
     (done : List Bool) (q : FlatEquation) (Q : List FlatEquation) → is_next done q ≡ true →
     is_in_order (set done q.element true) Q ≡ true → is_in_order done (q ∷ Q) ≡ true
 unfolding is_in_order
-goes_before done q Q next rest = and_both _ _ next rest
+goes_before done q Q next rest = and_from _ _ next rest

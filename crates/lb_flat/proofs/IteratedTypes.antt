@@ -3,7 +3,8 @@ use Rattle.std.proofs.Common.{◌≡◌, ℕ, Some, List, [], ◌∷◌, map, re
 use Rattle.lb_syntax.specs.Lists.{all_some}
 use Rattle.lb_static.specs.DataTypes.{DataType}
 use Rattle.lb_check.specs.Types.{array_of, red_types, fill_types}
-use Rattle.lb_flat.proofs.TypeFacts.{bound, truly}
+use Rattle.lb_check.proofs.OperandTypes.{truly}
+use Rattle.lb_flat.proofs.TypeFacts.{bound}
 
 -- the one type of what `red` gives is that of the output
 pub record Reduced (outs ts : List DataType) : Type 0 where

@@ -17,6 +17,8 @@ use Rattle.lb_check.specs.Solutions.{Inputs}
 use Rattle.lb_check.specs.Streams.{History}
 use Rattle.lb_check.specs.Types.{data_types, common_type}
 use Rattle.lb_check.proofs.TypedOccurrences.{HasTypes, occurrences_typed}
+use Rattle.lb_check.proofs.LongStreams.{length-both}
+use Rattle.lb_check.proofs.ApartLists.{Every-from}
 use Rattle.lb_flat.specs.Emit.{State, Emitted, numbered, numbers, add, keep, emit, before_instances}
 use Rattle.lb_flat.specs.Emit.{emit_instances}
 use Rattle.lb_flat.specs.Flat.{FlatClock, Operation, FirstThen, Previous, Latest, FlatEquation}
@@ -29,18 +31,17 @@ use Rattle.lb_flat.specs.MemoryPlaces.{equations_at, HoldStreams, KeepsOperand, 
 use Rattle.lb_flat.specs.MemoryPlaces.{HasMemories, HasAllMemories}
 use Rattle.lb_flat.proofs.Adding.{columns, IsMet, AllMet}
 use Rattle.lb_flat.proofs.Bodies.{IsSound}
-use Rattle.lb_flat.proofs.EmittedParts.{Stay, second_stays, add_stays, keep_stays, keep_found}
-use Rattle.lb_flat.proofs.EmittedParts.{emit_stays, AreInside, fore, aft, IsEmitted}
-use Rattle.lb_flat.proofs.EmittedParts.{all_parts_emitted}
+use Rattle.lb_flat.proofs.EmittedParts.{Stay, second_stays, add_stays, keep_stays, emit_stays}
+use Rattle.lb_flat.proofs.EmittedParts.{AreInside, fore, aft, IsEmitted, all_parts_emitted}
 use Rattle.lb_flat.proofs.Emission.{sound}
-use Rattle.lb_flat.proofs.FoundWidths.{as_many}
-use Rattle.lb_flat.proofs.Lists.{Every-map, Every-both, Every-in, length-zips}
+use Rattle.lb_flat.proofs.FoundWidths.{as_many, add_count}
+use Rattle.lb_flat.proofs.Lists.{Every-map, Every-both, Every-in}
 use Rattle.lb_flat.proofs.Placing.{Agrees, IsPlaced}
-use Rattle.lb_flat.proofs.Solving.{Every-of_in}
 use Rattle.lb_flat.proofs.SoundInstances.{RunsAt}
 use Rattle.lb_flat.proofs.SoundPrograms.{history_wide, program_sound, all_wide}
 use Rattle.lb_flat.proofs.TypeFacts.{elements_in, two, alike}
 use Rattle.lb_flat.proofs.Widths.{AreVariablesWide, IsOccurrenceWide, wide}
+use Rattle.lb_flat.proofs.LinkSymbols.{keep_found}
 
 -- ## New equations
 
@@ -49,10 +50,6 @@ numbered_at : (k : FlatClock) (i : ℕ) (os : List Operation) →
 numbered_at k i [] = refl
 numbered_at k i (o ∷ os) =
     ap (λ qs. record { element = i; clock = k; operation = o } ∷ qs) (numbered_at k (suc i) os)
-
-length-numbers : (i : ℕ) (os : List Operation) → length (numbers i os) ≡ length os
-length-numbers i [] = refl
-length-numbers i (o ∷ os) = ap suc (length-numbers (suc i) os)
 
 add_found : (k : FlatClock) (s : State) (os : List Operation) →
     (add k s os).found ≡ numbers s.next os
@@ -72,12 +69,8 @@ added_there :
 added_there final k s os stay =
     subst (λ is. Every (λ q. In q final) (equations_at k is os)) (sym (add_found k s os))
     (subst (Every (λ q. In q final)) (numbered_at k s.next os)
-    (Every-of_in (λ q. In q final) (numbered s.next k os)
+    (Every-from (λ q. In q final) (numbered s.next k os)
     (λ q i. stay q (add_new k s os q i))))
-
-length-added : (k : FlatClock) (s : State) (os : List Operation) →
-    length (add k s os).found ≡ length os
-length-added k s os = ap length (add_found k s os) ∙ length-numbers s.next os
 
 -- ## One instance
 
@@ -116,9 +109,9 @@ module _ (P : Program) (Y : Layout) (kinds : ℕ → Kind) (f : FlatProgram)
         let os = occurrences P here.node k n e in
         let qs = (emit Y P here k n s e).state.equations in
         (sound Y P X H F solution.equations.as_long agrees here k n s e
-        (Every-of_in (IsPlaced Y P H here) os
+        (Every-from (IsPlaced Y P H here) os
         (λ p i. Every-in (IsPlaced Y P H here) p all r.placed (inside p i)))
-        (Every-of_in (IsMet X F) qs
+        (Every-from (IsMet X F) qs
         (λ q i. Every-in (IsMet X F) q final r.met (stay q i)))).found
 
     -- and are as many as its types have scalar elements
@@ -131,7 +124,7 @@ module _ (P : Program) (Y : Layout) (kinds : ℕ → Kind) (f : FlatProgram)
         let os = occurrences P here.node k n e in
         as_many Y P H here (λ p x. sym (length-map (Y.places p x) (column [] []))) k n s e
         ∙ wide P H here variables_wide k n e ts typed
-        (Every-of_in (IsOccurrenceWide P H here) os
+        (Every-from (IsOccurrenceWide P H here) os
         (λ p i. Every-in (IsOccurrenceWide P H here) p all calls_wide (inside p i)))
 
     -- two operands of one type are as many
@@ -172,7 +165,7 @@ module _ (P : Program) (Y : Layout) (kinds : ℕ → Kind) (f : FlatProgram)
         let os = map o (keep x).found in record {
           places = (add own (keep x).state os).found;
           operands = (keep x).found;
-          as_many = length-added own (keep x).state os ∙ length-map (keep x).found o;
+          as_many = add_count own (keep x).state os ∙ length-map (keep x).found o;
           equations = all_there (equations_at own (add own (keep x).state os).found os)
               (added_there final own (keep x).state os stay);
           streams = kept_held a x h;
@@ -192,8 +185,8 @@ module _ (P : Program) (Y : Layout) (kinds : ℕ → Kind) (f : FlatProgram)
           places = (add own s os).found;
           firsts = firsts;
           thens = thens;
-          as_many = length-added own s os
-              ∙ length-zips (FirstThen false) (length firsts) firsts thens refl both;
+          as_many = add_count own s os
+              ∙ length-both (FirstThen false) (length firsts) firsts thens refl both;
           both = both;
           equations =
               all_there (equations_at own (add own s os).found os)
@@ -254,7 +247,7 @@ module _ (P : Program) (Y : Layout) (kinds : ℕ → Kind) (f : FlatProgram)
         let in_b = aft Y P here final all oa ob both in
         let as_many = as_many_found k n s a b i.first i.second i.result i.is_first i.is_second
         i.gives stay_a in_a stay_b in_b in
-        let kept = length-added own (keep y).state before
+        let kept = add_count own (keep y).state before
         ∙ length-map (keep y).found (Previous Nil) ∙ ap length (keep_found y) in (
           operand_kept k (at k m b) (Previous Nil) y stay_z (held k m x.state b stay_b in_b),
           flag_kept k (at k n a) z.state x.found z.found stay (kept ∙ as_many)
@@ -310,7 +303,7 @@ module _ (P : Program) (elaborated : static_refusal P ≡ None) (checked : check
   -- the memories of all operators stand in the flat program
   pub memories_are : HasAllMemories P Y kinds f
   memories_are =
-      Every-of_in (λ here.
+      Every-from (λ here.
       Every (λ o. HasMemories P Y kinds f here o.clock o.calls_before o.expr)
       (node_occurrences P here.node)) (instances P)
       (λ here i.

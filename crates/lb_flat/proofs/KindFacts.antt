@@ -3,6 +3,7 @@ use Rattle.std.proofs.Common.{◌≡◌, ℕ, suc, ◌+◌, ◌-◌, Bool, true,
 use Rattle.std.proofs.Common.{Option, Some, None, option_map, List, [], ◌∷◌, map, length, refl, sym}
 use Rattle.std.proofs.Common.{ap, ap₂, ◌∙◌, subst}
 use Rattle.std.specs.List.{list_all}
+use Rattle.std.proofs.lemmas.Option.{same_Some}
 use Rattle.lb_syntax.specs.declared.tree.UnaryOperator.{UnaryOperator}
 use Rattle.lb_syntax.specs.declared.tree.UnaryOperator.TheVariants.{Not, Negate}
 use Rattle.lb_syntax.specs.declared.tree.BinaryOperator.{BinaryOperator}
@@ -14,14 +15,16 @@ use Rattle.lb_syntax.specs.declared.tree.Kind.{Kind}
 use Rattle.lb_syntax.specs.declared.tree.Kind.TheVariants.{Int, Bool as Truth}
 use Rattle.lb_syntax.specs.Lists.{Every, all_some, where_true}
 use Rattle.lb_syntax.specs.Tree.{Declaration}
+use Rattle.lb_syntax.proofs.TruthValues.{and_first, and_second}
 use Rattle.lb_static.specs.Instances.{Program, Instance}
 use Rattle.lb_static.specs.DataTypes.{DataType, int, truth, is_kind, is_type, are_types, same_sizes}
 use Rattle.lb_static.specs.DataTypes.{variable_type}
 use Rattle.lb_check.specs.Types.{are_ints, are_truths, unary_type, binary_type, common_type}
 use Rattle.lb_check.specs.Types.{array_of, element_with, element_of, index_type, slice_type}
 use Rattle.lb_check.specs.Types.{join_type, list_type}
+use Rattle.lb_check.proofs.OperandTypes.{truly}
 use Rattle.lb_flat.proofs.ScalarKinds.{binary_kind, unary_kind}
-use Rattle.lb_flat.proofs.TypeFacts.{bound, some_same, truly, and_first, and_second}
+use Rattle.lb_flat.proofs.TypeFacts.{bound}
 use Rattle.lb_flat.proofs.OutputWidths.{each}
 
 -- ## The same kind
@@ -35,9 +38,6 @@ same_kind Truth Truth e = refl
 pub type_kind : (s t : DataType) → is_type s t ≡ true → s.kind ≡ t.kind
 type_kind s t e =
     same_kind s.kind t.kind (and_first (is_kind s.kind t.kind) (same_sizes s.sizes t.sizes) e)
-
-pub truth_kind : (t : DataType) → is_type truth t ≡ true → t.kind ≡ Truth
-truth_kind t e = sym (type_kind truth t e)
 
 -- ## Operators
 
@@ -125,7 +125,7 @@ with_kind :
     (k : Kind) (ns : List ℕ) (a : ℕ × DataType) → element_with k ns ≡ Some a → k ≡ a.1.kind
 with_kind k [] a e = cc
 with_kind k (n ∷ ns) a e =
-    let same : (n, record { kind = k; sizes = ns }) ≡ a = some_same _ _ e in
+    let same : (n, record { kind = k; sizes = ns }) ≡ a = same_Some _ _ e in
     ap (λ (b : ℕ × DataType). b.1.kind) same
 
 element_kind : (t : DataType) (a : ℕ × DataType) → element_of t ≡ Some a → t.kind ≡ a.1.kind
@@ -186,7 +186,7 @@ pub arrays_alike :
 arrays_alike n c [] wanted [] a o same = tt
 arrays_alike n c [] wanted (t ∷ args) a o same =
     let none : are_types [] (t ∷ args) ≡ true =
-    subst (λ vs. are_types vs (t ∷ args) ≡ true) (sym (some_same _ _ o)) same in
+    subst (λ vs. are_types vs (t ∷ args) ≡ true) (sym (same_Some _ _ o)) same in
     absurd cc
 arrays_alike n c (u ∷ ins) wanted [] a o same = tt
 arrays_alike n c (u ∷ ins) wanted (t ∷ args) a o same =
@@ -210,4 +210,4 @@ variable_kind P here d t e = by _ e
         (o : Option (List ℕ)) →
         option_map (λ ns. record { kind = d.kind; sizes = ns }) o ≡ Some t → t.kind ≡ d.kind
     by None e = cc
-    by (Some ns) e = ap (λ (s : DataType). s.kind) (sym (some_same _ _ e))
+    by (Some ns) e = ap (λ (s : DataType). s.kind) (sym (same_Some _ _ e))

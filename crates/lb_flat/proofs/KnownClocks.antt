@@ -1,9 +1,8 @@
 -- What is known of the clocks of the occurrences in the text of an instance of an accepted program,
 -- from the clocks of what it calls and the numbers that clocks read.
-use Rattle.std.proofs.Common.{◌≡◌, inl, ℕ, zero, suc, ◌+◌, ◌-◌, ◌<◌, ◌≤◌, Bool, true, false}
-use Rattle.std.proofs.Common.{Option, Some, None, List, [], ◌∷◌, ◌++◌, flat_map, refl, sym, ap}
-use Rattle.std.proofs.Common.{ap₂, ◌∙◌, subst, arith}
-use Rattle.std.specs.Prelude.{◌||◌, not, slice_get}
+use Rattle.std.proofs.Common.{◌≡◌, inl, ℕ, zero, suc, ◌+◌, ◌-◌, ◌<◌, ◌≤◌, true, Option, Some, None}
+use Rattle.std.proofs.Common.{List, [], ◌∷◌, ◌++◌, flat_map, refl, sym, ap, ap₂, ◌∙◌, subst, arith}
+use Rattle.std.specs.Prelude.{slice_get}
 use Rattle.std.specs.List.{range_with_len}
 use Rattle.std.specs.Str.{bytes_eq}
 use Rattle.std.proofs.lemmas.Slice.Eq.{bytes_eq-Decides}
@@ -12,13 +11,15 @@ use Rattle.lb_syntax.specs.declared.tree.ArrayIterator.TheVariants.{Map, Red, Fi
 use Rattle.lb_syntax.specs.Lists.{Every, In, tail_of, listed}
 use Rattle.lb_syntax.specs.Tree.{Name, Static, Node_named, Symbol, Expr, Variable, Group, Current}
 use Rattle.lb_syntax.specs.Tree.{When, Call, Iterate, Exprs, Declaration, Node}
+use Rattle.lb_syntax.proofs.TruthValues.{implied, and_first, and_second}
+use Rattle.lb_syntax.proofs.ListPlaces.{all_in}
 use Rattle.lb_static.specs.DataTypes.{variables}
 use Rattle.lb_static.specs.Instances.{Program, Instance, Path, Child, Site, call_site}
 use Rattle.lb_static.specs.Instances.{node_named, instances}
 use Rattle.lb_static.specs.Instantiation.{static_refusal}
 use Rattle.lb_static.specs.Parts.{among, variable_names}
 use Rattle.lb_static.specs.StaticValues.{named}
-use Rattle.lb_static.proofs.Members.{in_map, any_in, all_in}
+use Rattle.lb_static.proofs.Members.{in_map, any_in}
 use Rattle.lb_static.proofs.TestedItems.{found_passes}
 use Rattle.lb_check.specs.Acceptance.{check_refusal}
 use Rattle.lb_check.specs.ClockRules.{are_declared_clocks, is_clock, is_on_clock}
@@ -41,7 +42,6 @@ use Rattle.lb_check.proofs.OccurrenceClocks.{occurrence_fits}
 use Rattle.lb_check.proofs.OperandOccurrences.{OperandHas, operands_have}
 use Rattle.lb_check.proofs.OperandTypes.{one_output, placed}
 use Rattle.lb_check.proofs.SameInstances.{callee_path}
-use Rattle.lb_check.proofs.TruthValues.{and_first, and_second}
 use Rattle.lb_flat.specs.Flat.{FlatClock}
 use Rattle.lb_flat.specs.Flattening.{history_of}
 use Rattle.lb_flat.specs.Layouts.{Layout, flat_clock}
@@ -58,10 +58,6 @@ no_numbers :
     {A B : Type 0} (R : A → B → Type 0) (Q : A → Type 0) (xs : List A) → Pairs R xs [] → Every Q xs
 no_numbers R Q [] h = tt
 no_numbers R Q (x ∷ xs) h = absurd h
-
-or_second : (a b : Bool) → (not a || b) ≡ true → a ≡ true → b ≡ true
-or_second true b e is = e
-or_second false b e is = absurd cc
 
 -- ## What iterated nodes give, item by item
 
@@ -185,7 +181,7 @@ module _ (P : Program) (accepted : static_refusal P ≡ None) (checked : check_r
       (subst (λ y. In y (variable_names here.node)) name own) ((bytes_eq-Decides x x).1 refl) in
       let clock : k ≡ declared_clock here.node x =
       clock_same k (declared_clock here.node x)
-      (or_second (among x (variable_names here.node))
+      (implied (among x (variable_names here.node))
       (is_clock k (declared_clock here.node x)) rule known) in
       subst (λ y. Every (IsRunAt (flat k)) (numbers_of P here.path y)) name
       (own_runs here stands d is_in (flat k)

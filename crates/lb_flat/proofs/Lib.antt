@@ -90,7 +90,6 @@ pub mod TableSizes
 pub mod FoundSizes
 pub mod RowContexts
 pub mod RowKinds
-pub mod RowBodies
 pub mod FilledFits
 pub mod RunSolutions
 pub mod SoundPrograms
@@ -190,3 +189,4 @@ pub mod ReadyProgram
 pub mod OperandValues
 pub mod UsedClocks
 pub mod SomeLists
+pub mod BitRows

@@ -12,11 +12,12 @@ use Rattle.lb_static.specs.DataTypes.{DataType, int, truth}
 use Rattle.lb_check.specs.Types.{array_of, is_arithmetic, is_logical, red_types, symbol_types}
 use Rattle.lb_check.specs.Needs.{Element, symbol_needs}
 use Rattle.lb_check.specs.Streams.{gathered, last_of, iterated}
+use Rattle.lb_check.proofs.OperandTypes.{truly}
 use Rattle.lb_flat.specs.Flat.{FlatClock, FlatEquation, ApplyBinary}
 use Rattle.lb_flat.specs.Run.{clock_reads}
 use Rattle.lb_flat.specs.Layouts.{where_signed}
 use Rattle.lb_flat.specs.Emit.{State, Emitted, keep, joins, emit_symbol}
-use Rattle.lb_flat.proofs.TypeFacts.{elements_in, bound, truly, symbolic}
+use Rattle.lb_flat.proofs.TypeFacts.{elements_in, bound, symbolic}
 use Rattle.lb_flat.proofs.LinkWords.{Pairs, pairs-append, pairs-pieces, AllMeet, AreLinks, added}
 use Rattle.lb_flat.proofs.LinkWords.{each_two, all_links, two_links, step, chained_gives}
 use Rattle.lb_flat.proofs.SomeLists.{SomeOf}

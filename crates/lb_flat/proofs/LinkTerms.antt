@@ -7,6 +7,7 @@ use Rattle.std.specs.List.{list_all}
 use Rattle.std.specs.Str.{bytes_eq}
 use Rattle.std.proofs.lemmas.Slice.Eq.{bytes_eq-Decides}
 use Rattle.std.proofs.lemmas.List.{length-map}
+use Rattle.std.proofs.lemmas.Option.{same_Some}
 use Rattle.lb_static.proofs.TestedItems.{found_passes}
 use Rattle.lb_syntax.specs.declared.tree.UnaryOperator.TheVariants.{Not}
 use Rattle.lb_syntax.specs.declared.tree.BinaryOperator.{BinaryOperator}
@@ -17,6 +18,7 @@ use Rattle.lb_syntax.specs.Tree.{Name, Static, Node_named, Symbol, Expr, Literal
 use Rattle.lb_syntax.specs.Tree.{Group, Unary, Binary, If, Arrow, Fby, Pre, Current, When}
 use Rattle.lb_syntax.specs.Tree.{Replicate, Index, Slice, Join, Array, AtMostOne, Nor, Call}
 use Rattle.lb_syntax.specs.Tree.{Iterate, Exprs, Nil, Cons, Declaration}
+use Rattle.lb_syntax.proofs.TruthValues.{and_first}
 use Rattle.lb_static.specs.StaticValues.{named}
 use Rattle.lb_static.specs.Instances.{Program, Instance, Path, Child, call_site, callee_of}
 use Rattle.lb_static.specs.Instances.{static_count, name_value, node_named}
@@ -42,7 +44,6 @@ use Rattle.lb_flat.proofs.Lists.{Every-append, Every-take, Every-drop, Every-cop
 use Rattle.lb_flat.proofs.Lists.{Every-first, Every-second}
 use Rattle.lb_flat.proofs.Emission.{joins_equations}
 use Rattle.lb_flat.proofs.TypeFacts.{elements_in, bound, one, two, from_true, alike, truth_is}
-use Rattle.lb_flat.proofs.TypeFacts.{some_same, and_first}
 use Rattle.lb_flat.proofs.Widths.{called, placed, AreVariablesWide, IsOccurrenceWide, wide}
 use Rattle.lb_flat.proofs.TypedParts.{IsTypedAt}
 use Rattle.lb_flat.proofs.FoundWidths.{as_many, add_count}
@@ -80,9 +81,6 @@ module _ (Y : Layout) (P : Program) (H : History)
 
   abbrev pub RunOn : Clock → List ℕ → Type 0
   RunOn k is = Every (IsRunAt k) is
-
-  abbrev Met : State → Type 0
-  Met s = AllMeet IsAt Under Left s.equations
 
   -- what is found without a new element for it has the clock on which the expression stands
   abbrev pub IsRunning : Clock → ℕ → Expr → Type 0
@@ -387,7 +385,7 @@ module _ (Y : Layout) (P : Program) (H : History)
         let condition : is_type truth z.data_type ≡ true =
         and_first (is_type truth z.data_type) true
         (ap (λ us. list_all (is_type truth) us)
-        (sym (z.all ∙ ap (λ u. u ∷ []) (sym (some_same _ _ z.gives)))) ∙ truths.truths) in
+        (sym (z.all ∙ ap (λ u. u ∷ []) (sym (same_Some _ _ z.gives)))) ∙ truths.truths) in
         counted k n s c (z.data_type ∷ []) z.is
         (Every-first (IsOccurrenceWide P H here) oc others t.parts.1)
         ∙ (ap (λ m. m + 0) (truth_is z.data_type condition) ∙ omega arith)

@@ -1,8 +1,8 @@
 -- What `map`, `zip2`, `take`, `joined` and `Every` do together.
-use Rattle.std.proofs.Common.{◌≡◌, ℕ, zero, suc, List, [], ◌∷◌, ◌++◌, map, length, take}
-use Rattle.std.proofs.Common.{drop, flat_map, inl, inr, refl, sym, ap, ap₂, ◌∙◌, subst, arith}
+use Rattle.std.proofs.Common.{◌≡◌, ℕ, zero, suc, List, [], ◌∷◌, ◌++◌, map, take, drop, flat_map}
+use Rattle.std.proofs.Common.{inl, inr, refl, sym, ap, ap₂, ◌∙◌, subst}
 use Rattle.std.proofs.lemmas.List.{map-append}
-use Rattle.lb_syntax.specs.Lists.{Every, In, zip2, copies, joined}
+use Rattle.lb_syntax.specs.Lists.{Every, In, copies, joined}
 pub use Rattle.lb_check.proofs.Every.{Every-map, Every-both, Every-append, Every-first}
 pub use Rattle.lb_check.proofs.Every.{Every-second, Every-piece, Every-of_pieces, Every-range}
 pub use Rattle.lb_check.proofs.Every.{Every-of_range}
@@ -43,15 +43,6 @@ pub map-maps :
     map f (map g xs) ≡ map (λ x. f (g x)) xs
 map-maps f g [] = refl
 map-maps f g (x ∷ xs) = ap (λ zs. f (g x) ∷ zs) (map-maps f g xs)
-
-pub length-zips :
-    {A B C : Type 0} (f : A → B → C) (n : ℕ) (xs : List A) (ys : List B) →
-    length xs ≡ n → length ys ≡ n → length (zip2 f xs ys) ≡ n
-length-zips f n [] ys p q = p
-length-zips f n (x ∷ xs) [] p q = q
-length-zips f zero (x ∷ xs) (y ∷ ys) p q = absurd (omega arith)
-length-zips f (suc n) (x ∷ xs) (y ∷ ys) p q =
-    ap suc (length-zips f n xs ys (omega arith) (omega arith))
 
 -- ## `Every`
 

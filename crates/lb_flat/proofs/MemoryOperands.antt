@@ -5,6 +5,7 @@ use Rattle.std.proofs.Common.{◌∷◌, ◌++◌, map, flat_map, refl, sym, ap,
 use Rattle.std.specs.List.{list_any}
 use Rattle.std.proofs.lemmas.List.{map-append}
 use Rattle.std.proofs.lemmas.List.Folds.{list_any-append}
+use Rattle.std.proofs.Math.Bool.{or_assoc}
 use Rattle.lb_syntax.specs.declared.tree.UnaryOperator.TheVariants.{Not}
 use Rattle.lb_syntax.specs.declared.tree.BinaryOperator.{BinaryOperator}
 use Rattle.lb_syntax.specs.declared.tree.BinaryOperator.TheVariants.{Or, And}
@@ -15,6 +16,7 @@ use Rattle.lb_syntax.specs.Tree.{Name, Node_named, Symbol, Expr, Literal, Truth,
 use Rattle.lb_syntax.specs.Tree.{Unary, Binary, If, Arrow, Fby, Pre, Current, When, Replicate}
 use Rattle.lb_syntax.specs.Tree.{Index, Slice, Join, Array, AtMostOne, Nor, Call, Iterate, Exprs}
 use Rattle.lb_syntax.specs.Tree.{Nil, Cons, Declaration}
+use Rattle.lb_syntax.proofs.TruthValues.{or_nothing}
 use Rattle.lb_static.specs.Instances.{Program, Instance, node_named}
 use Rattle.lb_check.specs.Scalars.{Stream, Boolean, first_value}
 use Rattle.lb_check.specs.Clocks.{Clock}
@@ -34,14 +36,7 @@ use Rattle.lb_flat.proofs.Adding.{columns, AllMet, add_sound, nor_sound, at_most
 use Rattle.lb_flat.proofs.Adding.{symbol_sound}
 use Rattle.lb_flat.proofs.Placing.{Agrees, IsPlaced}
 use Rattle.lb_flat.proofs.Emission.{joins_equations, sound, sound_all, sound_each}
-
-pub or_false : (a : Bool) → a ≡ (a || false)
-or_false true = refl
-or_false false = refl
-
-pub or_assoc : (a b c : Bool) → ((a || b) || c) ≡ (a || (b || c))
-or_assoc true b c = refl
-or_assoc false b c = refl
+use Rattle.lb_flat.proofs.LinkSymbols.{keep_equations}
 
 or_swap : (a b c : Bool) → ((a || b) || c) ≡ (a || (c || b))
 or_swap true b c = refl
@@ -112,10 +107,6 @@ keep_kept : (x : Emitted) → (keep x).state.memory_operands ≡ x.state.memory_
 unfolding keep
 keep_kept x = refl
 
-keep_equations : (x : Emitted) → (keep x).state.equations ≡ x.state.equations
-unfolding keep
-keep_equations x = refl
-
 module _ (Y : Layout) (P : Program) (X : Inputs) (H : History) (F : List Stream)
     (long : AreLong X F) (agrees : Agrees Y X H F) (here : Instance) where
   -- ## The operands of some occurrences
@@ -165,7 +156,7 @@ module _ (Y : Layout) (P : Program) (X : Inputs) (H : History) (F : List Stream)
       → t.memory_operands ≡ s.memory_operands → Keeps s t os
   keeps_nothing s t os q e = record {
     same = λ test.
-        ap (passes test) e ∙ or_false (passes test s.memory_operands)
+        ap (passes test) e ∙ or_nothing (passes test s.memory_operands)
         ∙ ap (λ xss. passes test s.memory_operands || list_any test xss) (sym q);
   }
 

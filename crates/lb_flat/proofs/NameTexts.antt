@@ -1,12 +1,12 @@
 -- Names in one text: one more name, and a name on its own.
-use Rattle.std.proofs.Common.{ℕ, ◌≡◌, ◌+◌, ◌*◌, ◌<◌, ◌≤◌, List, [], ◌∷◌, ◌++◌, length, get_or, ◌∙◌}
-use Rattle.std.proofs.Common.{arith, length-append, IsTrue}
+use Rattle.std.proofs.Common.{ℕ, ◌≡◌, ◌+◌, ◌*◌, ◌<◌, ◌≤◌, List, [], ◌∷◌, ◌++◌, length, ◌∙◌, arith}
+use Rattle.std.proofs.Common.{length-append, IsTrue}
 use Rattle.std.proofs.lemmas.List.{length_push}
 use Rattle.std.proofs.lemmas.List.Elements.{All-weaker}
 use Rattle.std.proofs.lemmas.Str.{IsAscii-append}
 use Rattle.std.proofs.lemmas.Str.Ascii.{IsAscii-from_all}
 use Rattle.std.proofs.lemmas.Bool.Decides.{nat_tests}
-use Rattle.std.specs.Str.{IsAscii, IsCharBoundary}
+use Rattle.std.specs.Str.{IsAscii}
 use Rattle.lb_flat.specs.Traces.{IsTraceName, is_name_byte}
 use Rattle.lb_flat.specs.Ledger.{last_place}
 use Rattle.lb_flat.specs.Stored.{AreNames}
@@ -37,11 +37,3 @@ AreNames-push text ends name e names lawful room grown =
       short = omega arith;
       count = omega arith;
     }
-
--- an ASCII text may be cut anywhere
-pub boundary : (text : List ℕ) (i : ℕ) → IsAscii text → i ≤ length text → IsCharBoundary text i
-boundary text i ascii within = (
-  within,
-  λ _ high. let low : get_or text i 0 < 128 = ascii i in
-      omega arith,
-)

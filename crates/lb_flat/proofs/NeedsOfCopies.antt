@@ -6,6 +6,7 @@ use Rattle.std.specs.Prelude.{slice_get}
 use Rattle.std.specs.List.{range_with_len}
 use Rattle.lb_syntax.specs.Lists.{Every, In}
 use Rattle.lb_syntax.specs.Tree.{Declaration}
+use Rattle.lb_syntax.proofs.ListPlaces.{item_at}
 use Rattle.lb_static.specs.DataTypes.{variables, width}
 use Rattle.lb_static.specs.Instances.{Program, Instance, Root, Observer, instance_at, instances}
 use Rattle.lb_static.specs.Instantiation.{static_refusal}
@@ -21,7 +22,6 @@ use Rattle.lb_check.proofs.AcceptedNumbers.{number_in}
 use Rattle.lb_check.proofs.ApartLists.{in_first, in_second, in_either, Every-at, Every-from}
 use Rattle.lb_check.proofs.ApartLists.{of_pieces, to_pieces}
 use Rattle.lb_check.proofs.NamedClocks.{declared_over}
-use Rattle.lb_check.proofs.NodePlaces.{held}
 use Rattle.lb_check.proofs.OccurrenceClocks.{IsVariable, own_variables}
 use Rattle.lb_flat.specs.Emit.{State, Target, from_inputs, input_targets, given_inputs, observed}
 use Rattle.lb_flat.specs.Emit.{before_instances, emit_instances, expanded}
@@ -89,7 +89,7 @@ element_of :
     (P : Program) → static_refusal P ≡ None → (i : ℕ) → i < length (program_elements P) →
     IsElementOf P i
 element_of P accepted i lt =
-    let x = held (program_elements P) i lt in
+    let x = item_at (program_elements P) i lt in
     let here = of_pieces (instance_elements P) x.0 (instances P)
     (element_in P x.0 (in_at (program_elements P) i x.0 x.1)) in
     let c = here.source in

@@ -1,7 +1,8 @@
 -- Where a variable's element reads another by way of further elements, it needs it.
-use Rattle.std.proofs.Common.{◌≡◌, ◌⊎◌, inl, inr, ℕ, zero, suc, ◌<◌, ◌≤◌, Some, List, [], ◌∷◌}
-use Rattle.std.proofs.Common.{length, refl, subst, sym, arith}
+use Rattle.std.proofs.Common.{◌≡◌, ◌⊎◌, inl, inr, ℕ, ◌<◌, ◌≤◌, Some, length, refl, subst, sym}
+use Rattle.std.proofs.Common.{arith}
 use Rattle.std.specs.Prelude.{slice_get}
+use Rattle.std.proofs.lemmas.Option.{slice_get_within}
 use Rattle.lb_syntax.specs.Lists.{In}
 use Rattle.lb_static.specs.Instances.{Program}
 use Rattle.lb_check.specs.Elements.{program_elements}
@@ -36,12 +37,6 @@ abbrev pub ReadsNeeds : Program → FlatProgram → (ℕ → Type 0) → Type 0
 ReadsNeeds P f Left =
     (q : FlatEquation) → In q f.equations → q.element < f.variables →
     SomeOf Left (equation_reads q) → IsNeeding P Left q.element
-
-got_below :
-    {A : Type 0} (xs : List A) (i : ℕ) (x : A) → slice_get xs i ≡ Some x → i < length xs
-got_below [] i x e = absurd (cc)
-got_below (y ∷ xs) zero x e = omega arith
-got_below (y ∷ xs) (suc i) x e = omega (arith, got_below xs i x e)
 
 module _ (P : Program) (f : FlatProgram) (given : IsGiven f)
     (count : f.variables ≡ length (program_elements P))
@@ -94,7 +89,7 @@ module _ (P : Program) (f : FlatProgram) (given : IsGiven f)
       let y = in_some (HasNumber P Left) n.definition.needed n.needed in
       let number = y.2.0 in
       let same : number ≡ j =
-      is_one number (got_below (program_elements P) number y.0 y.2.1) y.2.2 in
+      is_one number (slice_get_within (program_elements P) number y.0 y.2.1) y.2.2 in
       record {
         one = n.definition.element;
         other = y.0;

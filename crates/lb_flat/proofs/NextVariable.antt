@@ -1,7 +1,7 @@
 -- Where an element that is left leads to: one that is left too.
 use Rattle.std.proofs.Common.{◌≡◌, ℕ, zero, suc, ◌<◌, ◌≤◌, Bool, false, Option, Some, None, List}
 use Rattle.std.proofs.Common.{length, get_or, All, refl, sym, subst, ◌∙◌, arith}
-use Rattle.std.proofs.lemmas.Option.{slice_get-get_or}
+use Rattle.std.proofs.lemmas.Option.{slice_get-get_or, same_Some}
 use Rattle.std.specs.Prelude.{slice_get}
 use Rattle.lb_syntax.specs.Lists.{Every, In}
 use Rattle.lb_flat.specs.declared.equation.ClockId.{ClockId}
@@ -20,8 +20,7 @@ use Rattle.lb_flat.specs.Within.{AreClocks, IsClock, IsWithin}
 use Rattle.lb_flat.proofs.Awaiting.{some_left}
 use Rattle.lb_flat.proofs.InOrder.{Every-of_All}
 use Rattle.lb_flat.proofs.Lists.{Every-append, Every-in}
-use Rattle.lb_flat.proofs.Ordering.{In-All, In-get_or, In-map, entry}
-use Rattle.lb_flat.proofs.TypeFacts.{some_same}
+use Rattle.lb_flat.proofs.Ordering.{In-All, In-get_or, In-map}
 
 -- ## What an equation reads
 
@@ -42,7 +41,7 @@ module _ (size : ℕ) (clocks : List Clock) (table : AreClocks size clocks) wher
       is_tick t e =
           let lt : id.0 < length clocks = is id refl in
           let same : get_or clocks id.0 t ≡ t =
-          some_same (get_or clocks id.0 t) t (sym (slice_get-get_or clocks id.0 t lt) ∙ e) in
+          same_Some (get_or clocks id.0 t) t (sym (slice_get-get_or clocks id.0 t lt) ∙ e) in
           let w = table id.0 t lt in
           subst (λ (u : Clock). (u.element.0 < size) × IsClock clocks u.parent) same
           (w.element, w.parent)
@@ -76,19 +75,6 @@ number_below n ids i d h lt =
 
 module _ (p : FlatProgram) (table : List (Option Equation)) (done : List Bool)
     (s : IsStuckAt p table done) (from : ℕ) (l : IsLeft p done from) where
-  pub in_table : from < length table
-  in_table = let lt = l.is_element in let many = s.table.entries in omega arith
-
-  pub has_entry : get_or table from None ≡ None → ⊥
-  has_entry none =
-      let e = entry p table done s from l.is_element in
-      let both : Some e.equation ≡ None = sym e.stands ∙ none in
-      cc
-
-  pub marks_clocks : AreClocks (length done) p.clocks.items
-  marks_clocks =
-      subst (λ n. AreClocks n p.clocks.items) (sym (s.marks ∙ s.table.entries)) s.in_range.clocks
-
   module _ (q : Equation) (at : get_or table from None ≡ Some q) where
     is_within : IsWithin p.size p.clocks.items q
     is_within =
@@ -98,9 +84,6 @@ module _ (p : FlatProgram) (table : List (Option Equation)) (done : List Bool)
     pub marks_within : IsWithin (length done) p.clocks.items q
     marks_within =
         subst (λ n. IsWithin n p.clocks.items q) (sym (s.marks ∙ s.table.entries)) is_within
-
-    pub waits : awaited p.clocks.items done q ≡ None → ⊥
-    waits = s.stuck from in_table l.is_left q at
 
     module _ (a : ℕ) (found : awaited p.clocks.items done q ≡ Some a) where
       abbrev x : FlatEquation

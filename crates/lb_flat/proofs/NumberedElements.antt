@@ -8,8 +8,10 @@ use Rattle.std.specs.List.{range_with_len}
 use Rattle.std.specs.Str.{bytes_eq}
 use Rattle.std.proofs.lemmas.List.FromFn.{length-range_with_len}
 use Rattle.std.proofs.lemmas.Slice.Eq.{bytes_eq-Decides}
+use Rattle.std.proofs.lemmas.Option.{slice_get_within, same_Some}
 use Rattle.lb_syntax.specs.Lists.{Every, In, listed}
 use Rattle.lb_syntax.specs.Tree.{Name, Declaration}
+use Rattle.lb_syntax.proofs.ListPlaces.{mapped_from}
 use Rattle.lb_static.specs.DataTypes.{variables, width}
 use Rattle.lb_static.specs.Instances.{Program, Instance, instances}
 use Rattle.lb_static.specs.Instantiation.{static_refusal}
@@ -23,9 +25,7 @@ use Rattle.lb_check.proofs.AcceptedNumbers.{numbers_width, number_of}
 use Rattle.lb_check.proofs.ApartLists.{Every-at, Every-from}
 use Rattle.lb_check.proofs.ElementValues.{same_declaration}
 use Rattle.lb_check.proofs.InstanceNames.{find_in, variables_distinct}
-use Rattle.lb_check.proofs.ListPairs.{mapped_from}
-use Rattle.lb_check.proofs.Numbers.{got_within, range_get, length_elements, numbers_some, found_at}
-use Rattle.lb_check.proofs.OperandTypes.{some_same}
+use Rattle.lb_check.proofs.Numbers.{range_get, length_elements, numbers_some, found_at}
 use Rattle.lb_flat.proofs.LinkWords.{Pairs}
 
 -- ## Lists
@@ -64,18 +64,14 @@ module _ (P : Program) (c : Instance) where
       record { path = c.path; variable = d.name; index = i } in z in
       let m = mapped_from f (range_with_len 0 (width P c d)) k y e in
       let count = length-range_with_len 0 (width P c d) in
-      let within = got_within (range_with_len 0 (width P c d)) k m.0 m.1 in
+      let within = slice_get_within (range_with_len 0 (width P c d)) k m.0 m.1 in
       let index : 0 + k ≡ m.0 =
-      some_same (0 + k) m.0 (sym (range_get 0 (width P c d) k (omega (arith, within, count))) ∙ m.1)
+      same_Some (0 + k) m.0 (sym (range_get 0 (width P c d) k (omega (arith, within, count))) ∙ m.1)
       in
       let start : k ≡ 0 + k = omega arith in
       sym m.2 ∙ ap f (sym (start ∙ index))
 
 module _ (P : Program) (accepted : static_refusal P ≡ None) where
-  -- an element has a number
-  abbrev pub IsNumber : Element → ℕ → Type 0
-  IsNumber y i = slice_get (program_elements P) i ≡ Some y
-
   -- the elements of a name have its numbers
   pub elements_numbered :
       (c : Instance) → In c (instances P) → (x : Name) →

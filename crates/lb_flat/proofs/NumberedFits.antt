@@ -6,11 +6,15 @@ use Rattle.std.proofs.Common.{arith, length-append}
 use Rattle.std.specs.Prelude.{nat_le, pos, slice_get}
 use Rattle.std.specs.List.{list_all}
 use Rattle.std.proofs.lemmas.Bool.Decides.{nat_tests}
+use Rattle.std.proofs.lemmas.Option.{same_Some}
+use Rattle.std.proofs.lemmas.List.{take_at}
 use Rattle.lb_syntax.specs.declared.tree.Kind.{Kind}
 use Rattle.lb_syntax.specs.declared.tree.Kind.TheVariants.{Int, Bool as Truth_kind}
 use Rattle.lb_syntax.specs.Lists.{Every, In, either_or, holds}
 use Rattle.lb_syntax.specs.Tree.{Static, Node_named, Symbol, Expr, Literal, Variable, When, Call}
 use Rattle.lb_syntax.specs.Tree.{Iterate, Declaration, Statement, Equation, Assertion}
+use Rattle.lb_syntax.proofs.ListPlaces.{all_in}
+use Rattle.lb_syntax.proofs.TruthValues.{and_first, and_second}
 use Rattle.lb_static.specs.DataTypes.{variables, width, signature, input_kinds}
 use Rattle.lb_static.specs.Instances.{Program, Instance, Path, Root, Observer, Site, call_site}
 use Rattle.lb_static.specs.Instances.{callee_of, name_value, node_named, static_count, instance_at}
@@ -19,7 +23,6 @@ use Rattle.lb_static.specs.Instantiation.{static_refusal, is_between, has_plain_
 use Rattle.lb_static.specs.Instantiation.{has_property, fits_observer, is_root}
 use Rattle.lb_static.specs.StaticValues.{named}
 use Rattle.lb_static.specs.Parts.{node_sizes, declared_sizes, own_sizes, node_parts}
-use Rattle.lb_static.proofs.Members.{all_in}
 use Rattle.lb_check.specs.Acceptance.{check_refusal}
 use Rattle.lb_check.specs.ClockRules.{are_declared_clocks, is_occurrence_clocked}
 use Rattle.lb_check.specs.ClockRules.{is_statement_clocked}
@@ -46,7 +49,6 @@ use Rattle.lb_check.proofs.NamedClocks.{IsOver}
 use Rattle.lb_check.proofs.OccurrenceClocks.{IsVariable, occurrence_fits}
 use Rattle.lb_check.proofs.OccurrenceSites.{own_site}
 use Rattle.lb_check.proofs.ServedNumbers.{serving_first}
-use Rattle.lb_check.proofs.TruthValues.{and_first, and_second}
 use Rattle.lb_flat.specs.Emit.{emit_instances, before_instances, expanded}
 use Rattle.lb_flat.specs.Flat.{FlatClock, Always, FlatEquation}
 use Rattle.lb_flat.specs.FurtherKinds.{kinds_from}
@@ -61,10 +63,9 @@ use Rattle.lb_flat.proofs.NumberedPlaces.{places_width, signs_are, is_laid_out}
 use Rattle.lb_flat.proofs.NumberedPlacing.{clock_on}
 use Rattle.lb_flat.proofs.ScalarKinds.{IsOf, binary_kind}
 use Rattle.lb_flat.proofs.SoundPrograms.{root_kept}
-use Rattle.lb_flat.proofs.TypeFacts.{bound, some_same}
+use Rattle.lb_flat.proofs.TypeFacts.{bound}
 use Rattle.lb_flat.proofs.FitWords.{Sorts, AllSorted}
 use Rattle.lb_flat.proofs.FurtherSorts.{got_first, sorts_of, further_sorted, length-kinds_from}
-use Rattle.lb_flat.proofs.FurtherSorts.{taken_first}
 use Rattle.lb_flat.proofs.FitPlaces.{IsVariableOn, AreVariablesOn, IsSetAt, CallLefts}
 use Rattle.lb_flat.proofs.FitPlaces.{IsInstanceSet}
 use Rattle.lb_flat.proofs.FitProgram.{IsStartSet, IsProgramSet, whole_fits}
@@ -96,7 +97,7 @@ AreScalars P =
 
 first_of : (xs : List ℕ) (i : ℕ) → slice_get xs 0 ≡ Some i → (rest : List ℕ) × (xs ≡ i ∷ rest)
 first_of [] i e = absurd cc
-first_of (x ∷ xs) i e = (xs, ap (λ y. y ∷ xs) (some_same x i e))
+first_of (x ∷ xs) i e = (xs, ap (λ y. y ∷ xs) (same_Some x i e))
 
 module _ (P : Program) (accepted : static_refusal P ≡ None) where
   abbrev count : ℕ
@@ -171,7 +172,7 @@ module _ (P : Program) (accepted : static_refusal P ≡ None) where
       (element_kinds P ++ kinds_from (element_kinds P) (further P))
       ≡ element_kinds P
   variable_kinds_taken =
-      taken_first (element_kinds P) (kinds_from (element_kinds P) (further P))
+      take_at (element_kinds P) (kinds_from (element_kinds P) (further P))
       (length (program_elements P)) (length_kinds P)
 
   -- ## The node under test and the observer
@@ -228,7 +229,7 @@ module _ (P : Program) (accepted : static_refusal P ≡ None) where
         callee_on o s index on own lt c e =
             let n = bound (node_named P s.callee) _ c e in
             let there = instance_there P accepted checked here i o s n.value index on own n.is lt in
-            let same = some_same there.instance c (sym there.is ∙ e) in
+            let same = same_Some there.instance c (sym there.is ∙ e) in
             subst (AreVariablesOn (program_sorts P) (layout P) P) same
             (variables_on there.instance there.stands)
 

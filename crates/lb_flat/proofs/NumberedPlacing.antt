@@ -1,13 +1,13 @@
 -- The layout of an accepted program by numbers gives each variable elements on its clock and of its
 -- kind, the property one element, and the inputs of the node under test those of the signature.
-use Rattle.std.proofs.Common.{◌≡◌, ℕ, ◌<◌, ◌≤◌, Some, None, IfSome, List, [], ◌∷◌, ◌++◌, length}
-use Rattle.std.proofs.Common.{flat_map, get_or, refl, ap, ◌∙◌, subst, arith}
+use Rattle.std.proofs.Common.{◌≡◌, ℕ, ◌<◌, ◌≤◌, Some, None, List, [], ◌∷◌, ◌++◌, length, flat_map}
+use Rattle.std.proofs.Common.{get_or, refl, ap, ◌∙◌, arith}
 use Rattle.std.specs.Prelude.{slice_get}
 use Rattle.lb_syntax.specs.declared.tree.Kind.{Kind}
-use Rattle.lb_syntax.specs.Lists.{Every, In, listed}
+use Rattle.lb_syntax.specs.Lists.{In, listed}
 use Rattle.lb_syntax.specs.Tree.{Declaration}
-use Rattle.lb_static.specs.DataTypes.{variables, width, input_kinds}
-use Rattle.lb_static.specs.Instances.{Program, Instance, Root, instance_at, instances}
+use Rattle.lb_static.specs.DataTypes.{variables, width}
+use Rattle.lb_static.specs.Instances.{Program, Instance, instances}
 use Rattle.lb_static.specs.Instantiation.{static_refusal}
 use Rattle.lb_check.specs.Clocks.{declared_clock}
 use Rattle.lb_check.specs.Elements.{program_elements, element_kinds, numbers_of}
@@ -17,9 +17,8 @@ use Rattle.lb_check.proofs.ApartLists.{Every-at, Every-from}
 use Rattle.lb_check.proofs.Checks.{instantiation_kept}
 use Rattle.lb_check.proofs.ElementKinds.{kinds_at_numbers}
 use Rattle.lb_check.proofs.ElementValues.{element_values, values_at_numbers}
-use Rattle.lb_check.proofs.InstancePaths.{in_instances, path_is}
-use Rattle.lb_check.proofs.NamedClocks.{if_some}
-use Rattle.lb_flat.specs.Emit.{property_places, input_targets, before_instances, expanded}
+use Rattle.lb_check.proofs.InstancePaths.{in_instances}
+use Rattle.lb_flat.specs.Emit.{property_places, before_instances, expanded}
 use Rattle.lb_flat.specs.Flat.{FlatClock}
 use Rattle.lb_flat.specs.Layouts.{flat_clock}
 use Rattle.lb_flat.specs.NumberedLayouts.{layout}
@@ -28,7 +27,6 @@ use Rattle.lb_flat.proofs.Lists.{Every-first, Every-second}
 use Rattle.lb_flat.proofs.NumberedPlaces.{places_walk, places_width, is_laid_out}
 use Rattle.lb_flat.proofs.Observing.{IsInOrder}
 use Rattle.lb_flat.proofs.PropertyOutput.{output_width, property_of}
-use Rattle.lb_flat.proofs.RootWidths.{inputs_count}
 use Rattle.lb_flat.proofs.Solving.{IsVariablePlaced, IsPlacing}
 
 -- the clock of a variable
@@ -116,24 +114,4 @@ module _ (P : Program) (accepted : static_refusal P ≡ None) where
     variables = places_walk P accepted;
     property = only_one (property_places (layout P) P) property_one;
   }
-
   -- ## Inputs
-
-  -- the elements of the inputs are as many as the scalar inputs
-  pub inputs_placed :
-      IfSome (instance_at P Root) (λ root.
-      length (input_targets (layout P) root) ≡ length (input_kinds P))
-  inputs_placed =
-      inputs_count (layout P) P (instance_at P Root) refl
-      (if_some (λ root.
-      Every (λ d. length (numbers_of P Root d.name) ≡ width P root d) root.node.inputs)
-      (instance_at P Root) wide)
-    where
-      wide : (root : Instance) → instance_at P Root ≡ Some root →
-          Every (λ d. length (numbers_of P Root d.name) ≡ width P root d) root.node.inputs
-      wide root e =
-          let is_in = in_instances P (instantiation_kept P accepted) Root root e in
-          subst (λ p. Every (λ d. length (numbers_of P p d.name) ≡ width P root d)
-          root.node.inputs) (path_is P Root root e)
-          (Every-first _ root.node.inputs (root.node.outputs ++ root.node.locals)
-          (places_width P accepted root is_in))

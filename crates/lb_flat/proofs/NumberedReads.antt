@@ -1,7 +1,7 @@
 -- What the elements of the flat program of an accepted program read, in the layout by numbers, is
 -- what its elements need: each is given once, a read from variable to variable is a need, a need is
 -- a chain of reads, a program with an order is causal, and a cycle of reads is a certificate.
-use Rattle.std.proofs.Common.{◌≡◌, ℕ, ◌<◌, None, List, [], length}
+use Rattle.std.proofs.Common.{◌≡◌, ℕ, ◌<◌, None, [], length}
 use Rattle.lb_syntax.specs.Lists.{Every, In}
 use Rattle.lb_static.specs.DataTypes.{variables, input_kinds}
 use Rattle.lb_static.specs.Instances.{Program, Instance, instances}
@@ -9,22 +9,18 @@ use Rattle.lb_static.specs.Instantiation.{static_refusal}
 use Rattle.lb_check.specs.Acceptance.{check_refusal}
 use Rattle.lb_check.specs.Clocks.{declared_clock}
 use Rattle.lb_check.specs.Elements.{program_elements, numbers_of}
-use Rattle.lb_check.specs.Needs.{Element, Needs, Reaches, IsCausal, IsCyclic, waits_for}
+use Rattle.lb_check.specs.Needs.{Element, Needs, waits_for}
 use Rattle.lb_check.proofs.ApartLists.{Every-from}
 use Rattle.lb_check.proofs.NamedClocks.{declared_over}
 use Rattle.lb_check.proofs.OccurrenceClocks.{IsVariable, own_variables}
 use Rattle.lb_flat.specs.Emit.{expanded}
-use Rattle.lb_flat.specs.Correct.{IsOrderingOf}
 use Rattle.lb_flat.specs.Correct.{HasReads}
-use Rattle.lb_flat.specs.Flat.{FlatEquation}
 use Rattle.lb_flat.specs.GivenOnce.{IsGiven}
 use Rattle.lb_flat.specs.Layouts.{flat_clock}
 use Rattle.lb_flat.specs.NumberedLayouts.{layout}
-use Rattle.lb_flat.specs.Reading.{Leads, Chain, NeedsAt, IsReadCycle, IsCertificate}
-use Rattle.lb_flat.specs.Run.{clock_reads, Ready}
+use Rattle.lb_flat.specs.Reading.{Leads, NeedsAt}
+use Rattle.lb_flat.specs.Run.{clock_reads}
 use Rattle.std.specs.Prelude.{slice_get, Some}
-use Rattle.lb_flat.proofs.Certificates.{certificate_of, cyclic_of}
-use Rattle.lb_flat.proofs.ChainOrders.{no_cycle}
 use Rattle.lb_flat.proofs.ClockNumbers.{waits_read}
 use Rattle.lb_flat.proofs.FitPlaces.{IsVariableOn}
 use Rattle.lb_flat.proofs.FitWords.{IsOn}
@@ -35,7 +31,7 @@ use Rattle.lb_flat.proofs.NeedsOfCopies.{needs_by_copies}
 use Rattle.lb_flat.proofs.NumberedFits.{AreScalars, program_sorts, program_fits, variables_on}
 use Rattle.lb_flat.proofs.ObserverWidths.{observer_wide}
 use Rattle.lb_flat.proofs.OnClock.{ClockFits}
-use Rattle.lb_flat.proofs.ReadsOfNeeds.{reads_of, needs_read, cycle_read}
+use Rattle.lb_flat.proofs.ReadsOfNeeds.{needs_read}
 
 module _ (P : Program) (accepted : static_refusal P ≡ None) (checked : check_refusal P ≡ None)
   where
@@ -97,16 +93,6 @@ module _ (P : Program) (accepted : static_refusal P ≡ None) (checked : check_r
           Leads (expanded (layout P) P (length (program_elements P))) j i → NeedsAt P i j
       needs_are = needs_by_copies P accepted checked (program_sorts P).clock_of own declared
 
-      -- where an element needs another, it reads it by way of any elements
-      pub reads_are :
-          (i j : ℕ) → NeedsAt P i j →
-          Chain (expanded (layout P) P (length (program_elements P))) j i
-      reads_are =
-          reads_of P accepted checked (observer_wide P accepted [] [])
-          (λ Under Left here runs j. clocks_known P accepted checked Under Left here runs j)
-          given_once
-          (program_sorts P).clock_of own declared awaited
-
       -- what an element needs, its number reads
       pub needs_reads :
           (x y : Element) → Needs P x y →
@@ -116,36 +102,3 @@ module _ (P : Program) (accepted : static_refusal P ≡ None) (checked : check_r
           (λ Under Left here runs j. clocks_known P accepted checked Under Left here runs j)
           given_once
           (program_sorts P).clock_of own declared awaited
-
-      -- what reaches itself by needs reads itself
-      pub cycle_reads :
-          (x : Element) → Reaches P x x →
-          (i : ℕ) × Chain (expanded (layout P) P (length (program_elements P))) i i
-      cycle_reads =
-          cycle_read P accepted checked (observer_wide P accepted [] [])
-          (λ Under Left here runs j. clocks_known P accepted checked Under Left here runs j)
-          given_once
-          (program_sorts P).clock_of own declared awaited
-
-      -- where the equations have an order in which they can be computed, the program is causal
-      pub causal_of :
-          (Q : List FlatEquation) →
-          IsOrderingOf (expanded (layout P) P (length (program_elements P))).equations Q →
-          Ready (expanded (layout P) P (length (program_elements P))).size [] Q → IsCausal P
-      causal_of Q ordering ready = λ x reaches.
-          let loop = cycle_reads x reaches in
-          no_cycle (expanded (layout P) P (length (program_elements P))) Q ordering ready loop.0
-          loop.1
-
-      -- elements of variables that read one another in a cycle are a certificate of it
-      pub certified :
-          (is : List ℕ) → IsReadCycle (expanded (layout P) P (length (program_elements P))) is →
-          IsCertificate P is
-      certified is cycle =
-          certificate_of P (expanded (layout P) P (length (program_elements P))) is needs_are cycle
-
-      -- so that the program is cyclic
-      pub cyclic :
-          (is : List ℕ) → IsReadCycle (expanded (layout P) P (length (program_elements P))) is →
-          IsCyclic P
-      cyclic is cycle = cyclic_of P is (certified is cycle)

@@ -1,16 +1,17 @@
 -- The numbers that are had by counting the rows of the table are the numbers of elements.
-use Rattle.std.proofs.Common.{◌≡◌, ℕ, zero, suc, ◌+◌, ◌<◌, true, false, List, [], ◌∷◌, ◌++◌, map}
+use Rattle.std.proofs.Common.{◌≡◌, ℕ, zero, suc, ◌+◌, true, false, List, [], ◌∷◌, ◌++◌, map}
 use Rattle.std.proofs.Common.{flat_map, take, get_or, length, Some, None, option_map, refl, ap, ap₂}
 use Rattle.std.proofs.Common.{sym, ◌∙◌, subst, arith}
-use Rattle.std.specs.Prelude.{ℤ, slice_get, nat_lt}
+use Rattle.std.specs.Prelude.{ℤ, slice_get}
 use Rattle.std.specs.Str.{bytes_eq}
 use Rattle.std.specs.List.{range_with_len}
-use Rattle.std.proofs.lemmas.Bool.Decides.{nat_tests}
 use Rattle.std.proofs.lemmas.List.{length-append}
 use Rattle.std.proofs.lemmas.List.Sums.{sum_by-append, sum_by-cons}
-use Rattle.std.proofs.lemmas.Option.{get_or_from_slice_get}
+use Rattle.std.proofs.lemmas.Option.{get_or_from_slice_get, same_Some}
+use Rattle.std.proofs.lemmas.Bool.{ltb-true, false_from_ne_true}
 use Rattle.lb_syntax.specs.Lists.{Every, In, either_or, listed, zip2}
 use Rattle.lb_syntax.specs.Tree.{Name, Static, Declaration}
+use Rattle.lb_syntax.proofs.ListPlaces.{item_at}
 use Rattle.lb_static.specs.DataTypes.{element_count, variables, width}
 use Rattle.lb_static.specs.Instances.{Program, Instance, Path, is_path, instances, static_value}
 use Rattle.lb_static.specs.Instantiation.{static_refusal}
@@ -34,28 +35,23 @@ use Rattle.lb_check.specs.OwnClocks.{name_in}
 use Rattle.lb_check.proofs.ApartLists.{AreApart, Every-at}
 use Rattle.lb_check.proofs.ClockedNodes.{get_name}
 use Rattle.lb_check.proofs.FittedCalls.{node_at, values_at}
-use Rattle.lb_check.proofs.FittedTypes.{declared_is}
+use Rattle.lb_static.proofs.DeclaredTypes.{declared_is}
 use Rattle.lb_check.proofs.InstanceNames.{variables_distinct}
 use Rattle.lb_check.proofs.InstancePaths.{IsAt, all_at, same_path, same_instance, instances_apart}
-use Rattle.lb_check.proofs.ListPairs.{never, get_mapped}
+use Rattle.lb_check.proofs.ListPairs.{get_mapped}
 use Rattle.lb_check.proofs.Numbers.{length_elements, numbers_first, numbers_later, others}
 use Rattle.lb_check.proofs.Numbers.{distinct_rest, found_first, found_later, numbers_at}
-use Rattle.lb_check.proofs.NodePlaces.{held}
-use Rattle.lb_check.proofs.OperandTypes.{some_same}
 use Rattle.lb_flat.specs.Rows.{sum_of, declared_width, widths_of, widths_in, first_of_row}
 use Rattle.lb_flat.specs.Rows.{row_numbers}
 use Rattle.lb_flat.proofs.RowInstances.{IsRow, rows_many, row_shown}
 
 -- ## Sums
 
-sum_cons : (n : ℕ) (ns : List ℕ) → sum_of (n ∷ ns) ≡ n + sum_of ns
+pub sum_cons : (n : ℕ) (ns : List ℕ) → sum_of (n ∷ ns) ≡ n + sum_of ns
 sum_cons n ns = sum_by-cons (λ k. k) n ns
 
-sum_append : (ns ms : List ℕ) → sum_of (ns ++ ms) ≡ sum_of ns + sum_of ms
+pub sum_append : (ns ms : List ℕ) → sum_of (ns ++ ms) ≡ sum_of ns + sum_of ms
 sum_append ns ms = sum_by-append (λ k. k) ns ms
-
-below_count : (i n : ℕ) → nat_lt i n ≡ true → i < n
-below_count i n e = grind (arith, nat_tests)
 
 -- ## Widths
 
@@ -92,7 +88,7 @@ module _ (P : Program) (here : Instance) where
       ≡ range_with_len (m + sum_of (take x (map (width P here) ds))) (width P here d)
   numbered_at m [] apart x d e = absurd cc
   numbered_at m (c ∷ ds) apart zero d e =
-      let same : c ≡ d = some_same c d e in
+      let same : c ≡ d = same_Some c d e in
       let start : m ≡ m + 0 = omega arith in
       subst (λ z. numbers_from P here m (c ∷ ds) z.name ≡ range_with_len (m + 0) (width P here z))
       same
@@ -118,7 +114,7 @@ module _ (P : Program) where
       ≡ Some (n + length (flat_map (instance_elements P) (take k is)), here)
   found_place n [] k here at apart e = absurd cc
   found_place n (c ∷ is) zero here at apart e =
-      let same : c ≡ here = some_same c here e in
+      let same : c ≡ here = same_Some c here e in
       let start : n ≡ n + 0 = omega arith in
       subst (λ z. found_from P n (c ∷ is) z.path ≡ Some (n + 0, z)) same
       (found_first P n c is ∙ ap (λ m. Some (m, c)) start)
@@ -133,7 +129,7 @@ module _ (P : Program) where
     where
       differs : is_path c.path here.path ≡ false
       differs =
-          never (is_path c.path here.path) (λ p.
+          false_from_ne_true (is_path c.path here.path) (λ p.
           let path = same_path c.path here.path p in
           let there = in_at is k here e in
           let equal = same_instance P c here at.0 (Every-at (IsAt P) is here at.1 there) path in
@@ -171,7 +167,7 @@ module _ (P : Program) (r : Reached) (t : Table) (reached : IsReached P r)
       ≡ map (width P (instance_of p (node_of n) s.values.items)) (variables (node_of n))
   specialized_widths p s n sp at =
       let m = node_at P r t reached table s sp in
-      let resolved = subst (IsResolved (source_names P)) (some_same m.0 n (sym m.1 ∙ at)) m.2 in
+      let resolved = subst (IsResolved (source_names P)) (same_Some m.0 n (sym m.1 ∙ at)) m.2 in
       subst (λ ds. map (declared_width s.statics.items) n.variables.items
       ≡ map (width P (instance_of p (node_of n) s.values.items)) ds) resolved.declared
       (declared_widths P (instance_of p (node_of n) s.values.items) (variable_names (node_of n))
@@ -201,7 +197,7 @@ module _ (P : Program) (r : Reached) (t : Table) (reached : IsReached P r)
       let sp = table.specialized i.specialization.0 is.specialization is.specialized in
       let m = node_at P r t reached table is.specialization sp.0 in
       let resolved = subst (IsResolved (source_names P))
-      (some_same m.0 is.node (sym m.1 ∙ is.resolved)) m.2 in
+      (same_Some m.0 is.node (sym m.1 ∙ is.resolved)) m.2 in
       let same = ap (λ (c : Instance). c.node) is.same in (
         resolved.as_many ∙ ap (λ n. length (variables n)) (sym same),
         ap variable_names (sym same),
@@ -220,7 +216,7 @@ module _ (P : Program) (r : Reached) (t : Table) (reached : IsReached P r)
           sum_of (widths_in r t i) ≡ length (instance_elements P here)
       one j i here e f =
           let shown = row_shown P r t table j i e in
-          let same = some_same shown.0 here (sym shown.1.instance_is ∙ f) in
+          let same = same_Some shown.0 here (sym shown.1.instance_is ∙ f) in
           let is = subst (IsRow P r t table j i) same shown.1 in
           ap sum_of (row_widths_are j i here is)
           ∙ sym (elements_wide P here (variables here.node))
@@ -265,8 +261,8 @@ module _ (P : Program) (r : Reached) (t : Table) (reached : IsReached P r)
         is_variable (counts_of m) x ≡ true → IsVariable here m x
     variable_there here m x many same within =
         let long = many ∙ ap (λ n. length (variables n)) (sym same) in
-        let lower = below_count x.0 (length m.variables.items) within in
-        let d = held (variables here.node) x.0 (omega (arith, long, lower)) in
+        let lower = ltb-true x.0 (length m.variables.items) within in
+        let d = item_at (variables here.node) x.0 (omega (arith, long, lower)) in
         record {
           declaration = d.0;
           stands = d.1;

@@ -1,6 +1,5 @@
 -- The flat program of an accepted program, in the layout by numbers, stands for it.
 use Rattle.std.proofs.Common.{◌≡◌, ℕ, None, List, [], ◌++◌, length, refl, subst, sym}
-use Rattle.lb_syntax.specs.declared.tree.Kind.{Kind}
 use Rattle.lb_syntax.specs.Lists.{Every, In}
 use Rattle.lb_syntax.specs.Tree.{Name, Declaration}
 use Rattle.lb_static.specs.DataTypes.{variables, input_kinds}
@@ -9,7 +8,7 @@ use Rattle.lb_static.specs.Instances.{instances}
 use Rattle.lb_static.specs.Instantiation.{static_refusal}
 use Rattle.lb_static.proofs.Members.{map_in}
 use Rattle.lb_check.specs.Acceptance.{check_refusal}
-use Rattle.lb_check.specs.Elements.{program_elements, element_kinds}
+use Rattle.lb_check.specs.Elements.{program_elements}
 use Rattle.lb_check.specs.Occurrences.{node_occurrences}
 use Rattle.lb_check.specs.Scalars.{Stream}
 use Rattle.lb_check.specs.Solutions.{Inputs, Solves}
@@ -22,7 +21,6 @@ use Rattle.lb_flat.specs.Emit.{given_inputs, observed, before_instances, emit_in
 use Rattle.lb_flat.specs.Flat.{FlatEquation, Holds, instants}
 use Rattle.lb_flat.specs.FlatPrograms.{IsFlatOf}
 use Rattle.lb_flat.specs.FlatSolutions.{IsFlatSolution}
-use Rattle.lb_flat.specs.FurtherKinds.{kinds_from}
 use Rattle.lb_flat.specs.NumberedLayouts.{layout}
 use Rattle.lb_flat.proofs.Adding.{columns}
 use Rattle.lb_flat.proofs.CallCopies.{HasCopies, all_copied}
@@ -30,19 +28,14 @@ use Rattle.lb_flat.proofs.CalleeClocks.{runs_at}
 use Rattle.lb_flat.proofs.FlatStanding.{StandsFor, stands_for}
 use Rattle.lb_flat.proofs.Gathering.{all_gathered, filled_columns}
 use Rattle.lb_flat.proofs.GivenProgram.{given_whole}
-use Rattle.lb_flat.proofs.NumberedFits.{program_sorts, further, AreScalars, clocks_first}
-use Rattle.lb_flat.proofs.NumberedFits.{kinds_first, all_kinds_counted, variable_kinds_taken}
-use Rattle.lb_flat.proofs.NumberedFits.{program_fits}
+use Rattle.lb_flat.proofs.NumberedFits.{program_sorts, AreScalars, clocks_first, kinds_first}
+use Rattle.lb_flat.proofs.NumberedFits.{all_kinds_counted, variable_kinds_taken, program_fits}
 use Rattle.lb_flat.proofs.NumberedPlacing.{count_within, is_placing, is_in_order}
 use Rattle.lb_flat.proofs.ObserverWidths.{observer_wide}
 use Rattle.lb_flat.proofs.SignHistories.{signs_history, runs_history}
 use Rattle.lb_flat.proofs.SignStreams.{signs_flat}
 use Rattle.lb_flat.proofs.Solving.{IsPlacing}
 use Rattle.lb_flat.proofs.SoundInstances.{RunsAt}
-
--- the kinds of all elements
-abbrev pub program_kinds : Program → List Kind
-program_kinds P = element_kinds P ++ kinds_from (element_kinds P) (further P)
 
 module _ (P : Program) (accepted : static_refusal P ≡ None)
     (checked : check_refusal P ≡ None) where

@@ -5,6 +5,7 @@ use Rattle.std.proofs.Common.{◌++◌, map, flat_map, slice_get, refl, sym, ap,
 use Rattle.std.specs.List.{list_any, range_with_len}
 use Rattle.std.proofs.lemmas.List.{map-append}
 use Rattle.std.proofs.lemmas.List.Folds.{list_any-append}
+use Rattle.std.proofs.Math.Bool.{or-true}
 use Rattle.lb_syntax.specs.Lists.{Every, listed}
 use Rattle.lb_syntax.specs.Tree.{Declaration}
 use Rattle.lb_static.specs.Instances.{Program, Instance, instance_at, instances}
@@ -25,16 +26,12 @@ use Rattle.lb_flat.proofs.Placing.{Agrees}
 use Rattle.lb_flat.proofs.Bodies.{IsSound}
 use Rattle.lb_flat.proofs.Watching.{Watched, all_watched}
 
-or_true : (a : Bool) → (a || true) ≡ true
-or_true true = refl
-or_true false = refl
-
 three :
     (a b c d e g : Bool) →
     ((a || (b || c)) || (d || (e || g))) ≡ ((a || d) || ((b || e) || (c || g)))
 three true b c d e g = refl
-three false true c d e g = sym (or_true d)
-three false false true d e g = sym (ap (λ x. d || x) (or_true e) ∙ or_true d)
+three false true c d e g = sym (or-true d)
+three false false true d e g = sym (ap (λ x. d || x) (or-true e) ∙ or-true d)
 three false false false d e g = refl
 
 -- a test of three lists of each of some things

@@ -3,6 +3,7 @@ use Rattle.std.proofs.Common.{◌≡◌, ℤ, ℕ, true, false, Option, Some, No
 use Rattle.std.proofs.Common.{sym, ◌∙◌, subst}
 use Rattle.std.specs.Prelude.{slice_get, nat_lt, option_map}
 use Rattle.std.proofs.lemmas.List.{length-map}
+use Rattle.std.proofs.lemmas.Bool.{not-true}
 use Rattle.lb_syntax.specs.Lists.{either_or, holds}
 use Rattle.lb_syntax.specs.Tree.{Named, Whole, Node}
 use Rattle.lb_static.specs.Arithmetic.{is_int}
@@ -23,7 +24,6 @@ use Rattle.lb_check.specs.Scalars.{Integer, or_fault}
 use Rattle.lb_check.specs.Types.{constant_type, data_types, singly}
 use Rattle.lb_check.proofs.DistinctNames.{held_at}
 use Rattle.lb_check.proofs.FittedTypes.{unfound}
-use Rattle.lb_check.proofs.TruthValues.{not_true}
 use Rattle.lb_flat.proofs.RowContexts.{value_are}
 use Rattle.lb_flat.proofs.RowInstances.{IsRow}
 use Rattle.lb_flat.proofs.TableProgram.{value_named}
@@ -63,7 +63,7 @@ module _ (P : Program) (r : Reached) (t : Table) (reached : IsReached P r)
       let at : slice_get (statics_of is.node) j.0 ≡ Some (Named z.0) =
       y.1 ∙ ap Some (sym (ap (λ o. either_or o (Whole 0)) y.1) ∙ z.1) in
       let other : among z.0 names ≡ false =
-      not_true _ (sym (ap (is_no_variable names) z.1) ∙ u) in
+      not-true _ (sym (ap (is_no_variable names) z.1) ∙ u) in
       let node : here.node ≡ node_of is.node = ap (λ (c : Instance). c.node) is.same in
       let none : named (λ d. d.name) z.0 (variables here.node) ≡ None =
       ap (λ (m : Node). named (λ d. d.name) z.0 (variables m)) node

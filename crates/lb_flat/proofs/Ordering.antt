@@ -3,9 +3,10 @@ use Rattle.std.proofs.Common.{◌≡◌, ℕ, zero, suc, ◌+◌, ◌<◌, ◌�
 use Rattle.std.proofs.Common.{Some, None, List, [], ◌∷◌, ◌++◌, length, map, replicate, get_or, set}
 use Rattle.std.proofs.Common.{All, refl, sym, ap, subst, ◌∙◌, arith, inl, inr, ◌⊎◌, ⊎_elim}
 use Rattle.std.proofs.Common.{below_more, length-set, append_assoc}
-use Rattle.std.proofs.lemmas.Bool.{cases_eq}
+use Rattle.std.proofs.lemmas.Bool.{cases_eq, cases_Bool}
 use Rattle.std.proofs.lemmas.List.{get_or-set_other, map-append, append-nil}
 use Rattle.lb_syntax.specs.Lists.{Every, In}
+use Rattle.lb_check.proofs.ApartLists.{in_first}
 use Rattle.lb_flat.specs.declared.equation.Clock.{Clock}
 use Rattle.lb_flat.specs.declared.equation.Equation.{Equation}
 use Rattle.lb_flat.specs.Flat.{FlatEquation}
@@ -22,11 +23,6 @@ use Rattle.lb_flat.proofs.InOrder.{Every-of_All, passes, ends_order, goes_before
 -- ## Lists
 
 module _ {A : Type 0} where
-  pub In-left : (a : A) (xs ys : List A) → In a xs → In a (xs ++ ys)
-  In-left a [] ys h = absurd h
-  In-left a (x ∷ xs) ys (inl e) = inl e
-  In-left a (x ∷ xs) ys (inr h) = inr (In-left a xs ys h)
-
   pub In-last : (a : A) (xs : List A) → In a (xs ++ a ∷ [])
   In-last a [] = inl refl
   In-last a (x ∷ xs) = inr (In-last a xs)
@@ -130,7 +126,7 @@ module _ (clocks : List Clock) (table : List (Option Equation)) (done : List Boo
         let equal : q ≡ p = cc in
         subst (λ x. In x (out ++ q ∷ [])) equal (In-last q out))
         (λ (other : i ≡ e → ⊥).
-        In-left p out (q ∷ [])
+        in_first p out (q ∷ [])
         (h.holds i p (sym (get_or-set_other done e i true false other) ∙ is) stands))
         (cases_eq i e);
   }
@@ -144,10 +140,6 @@ pub record IsPassing (clocks : List Clock) (table : List (Option Equation))
   pub unchanged : some ≡ false → done ≡ first
   pub stuck : some ≡ false → (k : ℕ) → k < e → IsNotNext clocks table first k
 
-true_or_false : (b : Bool) → (b ≡ true) ⊎ (b ≡ false)
-true_or_false true = inl refl
-true_or_false false = inr refl
-
 module _ (clocks : List Clock) (table : List (Option Equation)) (first done : List Bool)
     (some : Bool) (e : ℕ) (h : IsPassing clocks table first done some e) (after : List Bool) where
   at_most : left done ≤ left first
@@ -156,7 +148,7 @@ module _ (clocks : List Clock) (table : List (Option Equation)) (first done : Li
       (λ (is : some ≡ true). let less : left done < left first = h.scheduled is in omega arith)
       (λ (is : some ≡ false).
       let same : left done ≡ left first = ap left (h.unchanged is) in omega arith)
-      (true_or_false some)
+      (cases_Bool some)
 
   pub one_settled :
       suc (left after) ≡ left done → IsPassing clocks table first after true (e + 1)

@@ -6,6 +6,7 @@ use Rattle.std.proofs.Common.{length-append}
 use Rattle.std.specs.List.{range_with_len}
 use Rattle.std.proofs.Math.Nat.{mul-le-mul_right}
 use Rattle.std.proofs.lemmas.List.{length-take-le, length-drop}
+use Rattle.std.proofs.lemmas.Option.{same_Some}
 use Rattle.lb_syntax.specs.Lists.{Every, copies, all_some, either_or}
 use Rattle.lb_syntax.specs.Tree.{Name, Declaration}
 use Rattle.lb_static.specs.Instances.{Program, Instance}
@@ -13,8 +14,8 @@ use Rattle.lb_static.specs.DataTypes.{DataType, width, variable_type, element_co
 use Rattle.lb_check.specs.Types.{array_of}
 use Rattle.lb_check.specs.Scalars.{Stream}
 use Rattle.lb_check.specs.Streams.{choice, choices, gathered, last_of}
-use Rattle.lb_flat.proofs.Lists.{length-zips}
-use Rattle.lb_flat.proofs.TypeFacts.{elements_in, array_count, some_same}
+use Rattle.lb_check.proofs.LongStreams.{length-both}
+use Rattle.lb_flat.proofs.TypeFacts.{elements_in, array_count}
 
 -- ## Lists
 
@@ -26,7 +27,7 @@ pub length-choices :
     (cs xss yss : List Stream) (n : ℕ) → length cs ≡ 1 → length xss ≡ n → length yss ≡ n →
     length (choices cs xss yss) ≡ n
 length-choices [] xss yss n c p q = absurd (omega arith)
-length-choices (z ∷ []) xss yss n c p q = length-zips (choice z) n xss yss p q
+length-choices (z ∷ []) xss yss n c p q = length-both (choice z) n xss yss p q
 length-choices (z ∷ (w ∷ cs)) xss yss n c p q = absurd (omega arith)
 
 -- a part of a list of parts of one length
@@ -92,13 +93,13 @@ each (Some x) os ys e = from (all_some os) refl e
         Each (Some x) os ys
     from None q g = cc
     from (Some xs) q g =
-        record { first = x; rest = xs; is = refl; others = q; all = sym (some_same _ _ g) }
+        record { first = x; rest = xs; is = refl; others = q; all = sym (same_Some _ _ g) }
 
 -- arrays of n of these types
 pub arrays_count :
     (n : ℕ) (us ts : List DataType) → all_some (map (array_of n) us) ≡ Some ts →
     elements_in ts ≡ n * elements_in us
-arrays_count n [] ts e = ap elements_in (sym (some_same _ _ e)) ∙ omega arith
+arrays_count n [] ts e = ap elements_in (sym (same_Some _ _ e)) ∙ omega arith
 arrays_count n (u ∷ us) ts e =
     let h = each (array_of n u) (map (array_of n) us) ts e in
     let one = array_count n u h.first h.is in
@@ -120,7 +121,7 @@ module _ (P : Program) (c : Instance) where
       (f : Declaration → List Stream) (ds : List Declaration) (ts : List DataType) →
       AreOutputs f ds → all_some (map (variable_type P c) ds) ≡ Some ts →
       length (flat_map f ds) ≡ elements_in ts
-  outputs_wide f [] ts w e = ap elements_in (some_same _ _ e)
+  outputs_wide f [] ts w e = ap elements_in (same_Some _ _ e)
   outputs_wide f (d ∷ ds) ts w e =
       let h = each (variable_type P c d) (map (variable_type P c) ds) ts e in
       let first = w.0 ∙ width_of d h.first h.is in
@@ -136,7 +137,7 @@ module _ (P : Program) (c : Instance) where
         (ds : List Declaration) (us : List DataType) → AllOutputs ds →
         all_some (map (variable_type P c) ds) ≡ Some us →
         length (gathered outputs n ds) ≡ n * elements_in us
-    gathered_wide [] us w e = let none = some_same _ _ e in
+    gathered_wide [] us w e = let none = same_Some _ _ e in
         omega arith ∙ ap (λ vs. n * elements_in vs) none
     gathered_wide (d ∷ ds) us w e =
         let h = each (variable_type P c d) (map (variable_type P c) ds) us e in

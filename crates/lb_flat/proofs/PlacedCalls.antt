@@ -1,39 +1,33 @@
 -- In an expression that is typed, the inputs of what is called are as wide as what they receive.
-use Rattle.std.proofs.Common.{◌≡◌, ℕ, zero, suc, ◌+◌, ◌*◌, ◌/◌, ◌<◌, ◌&&◌, Option, Some, List, []}
-use Rattle.std.proofs.Common.{◌∷◌, ◌++◌, map, length, take, drop, refl, sym, ap, ap₂, ◌∙◌, subst}
-use Rattle.std.proofs.Common.{arith}
+use Rattle.std.proofs.Common.{◌≡◌, ℕ, zero, suc, ◌+◌, ◌*◌, ◌/◌, ◌<◌, ◌&&◌, Some, List, [], ◌∷◌}
+use Rattle.std.proofs.Common.{◌++◌, map, length, take, drop, refl, sym, ap, ap₂, ◌∙◌, subst, arith}
 use Rattle.std.proofs.lemmas.List.{length-map}
 use Rattle.std.proofs.Math.Nat.{mul-div_cancel_left}
+use Rattle.std.proofs.lemmas.Option.{same_Some}
 use Rattle.lb_syntax.specs.declared.tree.ArrayIterator.{ArrayIterator}
 use Rattle.lb_syntax.specs.declared.tree.ArrayIterator.TheVariants.{Map, Red, Fill}
 use Rattle.lb_syntax.specs.Lists.{Every, part, all_some, where_true}
 use Rattle.lb_syntax.specs.Tree.{Name, Static, Node_named, Call, Iterate, Exprs, Declaration, Node}
+use Rattle.lb_syntax.proofs.TruthValues.{and_first, and_second}
 use Rattle.lb_static.specs.Instances.{Program, Instance, Child, static_count, node_named}
 use Rattle.lb_static.specs.DataTypes.{DataType, width, variable_type, element_count, is_type}
 use Rattle.lb_static.specs.DataTypes.{are_types}
+use Rattle.lb_static.proofs.Options.{length-all_some}
 use Rattle.lb_check.specs.Types.{data_types, all_types, array_of, operator_types, iterator_types}
 use Rattle.lb_check.specs.Scalars.{Stream}
 use Rattle.lb_check.specs.Clocks.{Clock, argument_clocks}
 use Rattle.lb_check.specs.Occurrences.{occurrences_in, occurrences_each}
 use Rattle.lb_check.specs.Streams.{History, all_streams, argument_streams, number}
 use Rattle.lb_check.specs.Solutions.{accumulated, iterator_inputs}
+use Rattle.lb_check.proofs.OperandTypes.{truly}
 use Rattle.lb_flat.proofs.Lists.{Every-first}
 use Rattle.lb_flat.proofs.Placing.{AreAsWide}
-use Rattle.lb_flat.proofs.TypeFacts.{bound, truly, are_counts, same_count, array_count, and_first}
-use Rattle.lb_flat.proofs.TypeFacts.{and_second, some_same}
+use Rattle.lb_flat.proofs.TypeFacts.{bound, are_counts, same_count, array_count}
 use Rattle.lb_flat.proofs.OutputWidths.{each, width_of, length-index}
 use Rattle.lb_flat.proofs.Widths.{called, Placed, placed, AreVariablesWide, IsCalleeWide}
 use Rattle.lb_flat.proofs.Widths.{IsOccurrenceWide, number_is, same_first, same_rest, all_wide}
 use Rattle.lb_flat.proofs.Widths.{outputs_at}
 use Rattle.lb_flat.proofs.TypedBodies.{arguments_wide, inputs_as_wide}
-
-pub length-all :
-    {A : Type 0} (os : List (Option A)) (ys : List A) → all_some os ≡ Some ys →
-    length ys ≡ length os
-length-all [] ys e = let none : [] ≡ ys = some_same _ _ e in ap length (sym none)
-length-all (o ∷ os) ys e =
-    let h = each o os ys e in
-    ap length h.all ∙ ap suc (length-all os h.rest h.others)
 
 pub lengths_same :
     (ss ts : List DataType) → map element_count ss ≡ map element_count ts → length ss ≡ length ts
@@ -84,7 +78,7 @@ parts_wide :
     all_some (map (array_of n) us) ≡ Some ts → map length xsss ≡ map element_count ts →
     map length (map (part n i) xsss) ≡ map element_count us
 parts_wide n i lt [] ts xsss o e =
-    let none : [] ≡ ts = some_same _ _ o in
+    let none : [] ≡ ts = same_Some _ _ o in
     no_parts xsss (e ∙ ap (map element_count) (sym none))
   where
     no_parts : (yss : List (List Stream)) → map length yss ≡ [] →
@@ -142,11 +136,11 @@ module _ (P : Program) (H : History) (here : Instance)
       let t = truly (are_types o.value.0 a.value) o.value.1 ts a.gives in
       let c = called P here f statics o.value o.is in
       let p = placed P here f statics c.callee c.is in
-      let same : callee ≡ c.callee.node = some_same _ _ (sym named ∙ p.node) in
+      let same : callee ≡ c.callee.node = same_Some _ _ (sym named ∙ p.node) in
       let counts = are_counts o.value.0 a.value t.holds in
       let as_many : length a.value ≡ length callee.inputs =
       sym (lengths_same o.value.0 a.value counts)
-      ∙ length-all (map (variable_type P c.callee) c.callee.node.inputs) o.value.0 c.inputs
+      ∙ length-all_some (map (variable_type P c.callee) c.callee.node.inputs) o.value.0 c.inputs
       ∙ length-map c.callee.node.inputs (variable_type P c.callee)
       ∙ ap (λ (n : Node). length n.inputs) (sym same) in
       let ks = argument_clocks k callee es in
@@ -236,7 +230,7 @@ module _ (P : Program) (H : History) (here : Instance)
       (number_is P H here m size.value size.is) ∙ a.gives in
       let c = called P here f statics o.value o.is in
       let p = placed P here f statics c.callee c.is in
-      let same : callee ≡ c.callee.node = some_same _ _ (sym named ∙ p.node) in
+      let same : callee ≡ c.callee.node = same_Some _ _ (sym named ∙ p.node) in
       let outputs = λ (i : ℕ) (x : Name). H.columns (Child here.path n i) x in
       let args = all_streams P H here k (n + 1) es in
       let widths = all_wide P H here variables_wide k (n + 1) es a.value a.is parts in

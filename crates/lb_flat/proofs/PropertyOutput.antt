@@ -6,6 +6,7 @@ use Rattle.std.specs.List.{list_all}
 use Rattle.lb_syntax.specs.Lists.{◌>>=◌, Every, holds, either_or, listed, all_some}
 use Rattle.lb_syntax.specs.Refusals.{E4, E7, E8, unless}
 use Rattle.lb_syntax.specs.Tree.{Name, Node, Declaration}
+use Rattle.lb_syntax.proofs.TruthValues.{and_first, and_second}
 use Rattle.lb_static.specs.DataTypes.{DataType, truth, is_kind, same_sizes, product, element_count}
 use Rattle.lb_static.specs.DataTypes.{variable_type, width, output_types, signature}
 use Rattle.lb_static.specs.Instances.{Program, Instance, Root, Observer, node_named, start_at}
@@ -16,7 +17,6 @@ use Rattle.lb_static.specs.Instantiation.{is_one_truth, is_root}
 use Rattle.lb_static.specs.Names.{keeps_names, starts, is_well_founded}
 use Rattle.lb_check.specs.Verdicts.{property_path}
 use Rattle.lb_check.proofs.Checks.{second_none, kept, names_kept}
-use Rattle.lb_check.proofs.TruthValues.{and_first, and_second}
 
 module _ (P : Program) where
   scalar_width :

@@ -1,14 +1,14 @@
 -- Reads one after another, the paths of them, and where a path closes.
-use Rattle.std.proofs.Common.{◌≡◌, ℕ, zero, suc, ◌<◌, ◌≤◌, Option, Some, None, List, [], ◌∷◌}
-use Rattle.std.proofs.Common.{◌++◌, length, map, drop, get_or, set, replicate, refl, sym, ap, subst}
-use Rattle.std.proofs.Common.{◌∙◌, arith, ⊎_elim, length-append, length-set}
+use Rattle.std.proofs.Common.{◌≡◌, ℕ, zero, suc, ◌<◌, ◌≤◌, Option, Some, None, List, [], ◌∷◌, ◌++◌}
+use Rattle.std.proofs.Common.{length, drop, get_or, set, refl, sym, ap, subst, ◌∙◌, arith, ⊎_elim}
+use Rattle.std.proofs.Common.{length-append, length-set}
 use Rattle.std.proofs.lemmas.Bool.{cases_eq}
-use Rattle.std.proofs.lemmas.List.{get_or-set_same, get_or-set_other, length-replicate}
+use Rattle.std.proofs.lemmas.List.{get_or-set_same, get_or-set_other}
+use Rattle.std.proofs.lemmas.Option.{same_Some}
 use Rattle.lb_syntax.specs.Lists.{Every}
 use Rattle.lb_flat.specs.Judging.{FlatProgram}
 use Rattle.lb_flat.specs.Reading.{Leads, reads_it, by_way, AreLinked, IsReadCycle}
 use Rattle.lb_flat.proofs.Lists.{Every-append}
-use Rattle.lb_flat.proofs.TypeFacts.{some_same}
 
 -- what leads to a further element leads on
 pub leads_on :
@@ -75,12 +75,6 @@ every_drop Q zero xs h = h
 every_drop Q (suc k) [] h = tt
 every_drop Q (suc k) (x ∷ xs) h = every_drop Q k xs h.1
 
-pub map_drop :
-    {A B : Type 0} (f : A → B) (k : ℕ) (xs : List A) → drop k (map f xs) ≡ map f (drop k xs)
-map_drop f zero xs = refl
-map_drop f (suc k) [] = refl
-map_drop f (suc k) (x ∷ xs) = map_drop f k xs
-
 -- ## Places on a path
 
 -- a table notes the place of each number on a path, where it has one
@@ -114,14 +108,6 @@ at_earlier [] i k lt = absurd (omega arith)
 at_earlier (j ∷ is) i zero lt = refl
 at_earlier (j ∷ is) i (suc k) lt = at_earlier is i k (omega arith)
 
-nowhere : (n i k : ℕ) → get_or (replicate {A = Option ℕ} n None) i None ≡ Some k → ⊥
-nowhere zero i k h = cc
-nowhere (suc n) zero k h = cc
-nowhere (suc n) (suc i) k h = nowhere n i k h
-
-pub none_noted : (n : ℕ) → AreNoted (replicate n None) []
-none_noted n i k h = absurd (nowhere n i k h)
-
 -- one more is noted
 pub noted_more :
     (places : List (Option ℕ)) (is : List ℕ) (i : ℕ) → i < length places → AreNoted places is →
@@ -132,7 +118,7 @@ noted_more places is i lt noted j k h =
     let here : Some (length is) ≡ Some k =
     sym (get_or-set_same places i (Some (length is)) None lt)
     ∙ ap (λ m. get_or (set places i (Some (length is))) m None) (sym same) ∙ h in
-    let last : length is ≡ k = some_same (length is) k here in (
+    let last : length is ≡ k = same_Some (length is) k here in (
       omega (arith, last, length-append is (i ∷ [])),
       ap (λ m. get_or (is ++ i ∷ []) m 0) (sym last) ∙ at_last is i ∙ sym same,
     ))
@@ -168,16 +154,6 @@ module _ (f : FlatProgram) where
     pub is_variable : at < f.variables
     pub as_many : length places ≡ f.variables
     pub noted : AreNoted places is
-
-  pub way_begins :
-      (n at : ℕ) → n ≡ f.variables → at < f.variables → IsWay [] (replicate n None) at
-  way_begins n at e lt = record {
-    path = tt;
-    below = tt;
-    is_variable = lt;
-    as_many = length-replicate n None ∙ e;
-    noted = none_noted n;
-  }
 
   module _ (is : List ℕ) (places : List (Option ℕ)) (at : ℕ) (w : IsWay is places at) where
     -- from a number that stood before on, the path is a cycle

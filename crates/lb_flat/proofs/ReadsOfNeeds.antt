@@ -3,6 +3,7 @@
 use Rattle.std.proofs.Common.{◌≡◌, ◌⊎◌, inl, inr, ℕ, ◌<◌, Some, None, IfSome, List, [], ◌∷◌}
 use Rattle.std.proofs.Common.{◌++◌, length, flat_map, refl, sym, ap, ◌∙◌, subst, arith}
 use Rattle.std.specs.Prelude.{slice_get}
+use Rattle.std.proofs.lemmas.Option.{slice_get_within}
 use Rattle.lb_syntax.specs.Lists.{Every, In}
 use Rattle.lb_syntax.specs.Tree.{Declaration}
 use Rattle.lb_static.specs.DataTypes.{variables}
@@ -14,22 +15,20 @@ use Rattle.lb_check.specs.Clocks.{declared_clock}
 use Rattle.lb_check.specs.Elements.{program_elements, numbers_of}
 use Rattle.lb_check.specs.Needs.{Element, Definition, elements, definitions_at}
 use Rattle.lb_check.specs.Needs.{observer_definitions, equation_definitions, call_definitions}
-use Rattle.lb_check.specs.Needs.{clock_definitions, waits_for, Needs, Reaches}
+use Rattle.lb_check.specs.Needs.{clock_definitions, waits_for, Needs}
 use Rattle.lb_check.specs.Occurrences.{statements, node_occurrences}
 use Rattle.lb_check.specs.Solutions.{columns_at}
 use Rattle.lb_check.proofs.AcceptedNumbers.{numbers_below}
 use Rattle.lb_check.proofs.ApartLists.{in_first, in_second, in_either, Every-at, Every-from}
 use Rattle.lb_check.proofs.ApartLists.{of_pieces, to_pieces}
 use Rattle.lb_flat.specs.Correct.{HasReads}
-use Rattle.lb_flat.proofs.ExpansionReads.{reads_at, cycle_read as cycle_of_reads}
-use Rattle.lb_check.proofs.Numbers.{got_within}
 use Rattle.lb_flat.specs.Flat.{FlatClock, FlatEquation}
 use Rattle.lb_flat.specs.Flattening.{history_of}
 use Rattle.lb_flat.specs.GivenOnce.{IsGiven}
 use Rattle.lb_flat.specs.Judging.{FlatProgram}
 use Rattle.lb_flat.specs.Layouts.{Layout, flat_clock}
 use Rattle.lb_flat.specs.NumberedLayouts.{layout}
-use Rattle.lb_flat.specs.Reading.{Chain, one_read, more_reads, NeedsAt}
+use Rattle.lb_flat.specs.Reading.{Chain, one_read, more_reads}
 use Rattle.lb_flat.specs.Run.{clock_reads, reads, equation_reads}
 use Rattle.lb_flat.specs.Emit.{State, before_instances, emit_instances, given_inputs, observed}
 use Rattle.lb_flat.specs.Emit.{expanded}
@@ -256,7 +255,7 @@ module _ (P : Program) (accepted : static_refusal P ≡ None) (checked : check_r
       × (slice_get (program_elements P) i ≡ Some y))
       (waits_for P c (declared_clock c.node d.name))) (variables c.node) v (awaited c k) of)
       names in
-      let q = own_reads n.0 (got_within (program_elements P) n.0 x n.2) in
+      let q = own_reads n.0 (slice_get_within (program_elements P) n.0 x n.2) in
       let own_clock : flat_clock Y c.path (declared_clock c.node v.name) ≡ q.0.clock =
       sym clock ∙ (sym (ap K q.2)
       ∙ Every-at (λ q. K q.element ≡ q.clock) f.equations q.0 own q.1) in
@@ -337,11 +336,3 @@ module _ (P : Program) (accepted : static_refusal P ≡ None) (checked : check_r
           instance_read n.by y p.source p.is_in p.holds n.names
       by (inr h) =
           by_copy n.by y (in_second n.by (flat_map made_at (instances P)) of_observer h) n.names
-
-  -- where an element needs another, its number reads that of the other
-  pub reads_of : (i j : ℕ) → NeedsAt P i j → Chain f j i
-  reads_of i j n = reads_at P accepted f needs_read i j n
-
-  -- what reaches itself by needs reads itself
-  pub cycle_read : (x : Element) → Reaches P x x → (i : ℕ) × Chain f i i
-  cycle_read x r = cycle_of_reads P accepted f needs_read x r

@@ -1,7 +1,7 @@
 -- The rows of a checked program that is small can be emitted from a frame of one of them, and what
 -- is emitted is the expansion of the program.
-use Rattle.std.proofs.Common.{Result, Ok, Err, IfOk, Option, Some, refl}
-use Rattle.std.proofs.Common.{◌≡◌, ◌<◌, ℕ, None, Bool, true, List, length, ap, sym, ◌∙◌, subst}
+use Rattle.std.proofs.Common.{Option, Some, refl, ◌≡◌, ◌<◌, ℕ, None, Bool, true, List, length, ap}
+use Rattle.std.proofs.Common.{sym, ◌∙◌, subst}
 use Rattle.std.specs.Prelude.{◌^◌}
 use Rattle.std.specs.Option.{ForSome, MatchOption}
 use Rattle.lb_syntax.specs.declared.tree.Kind.{Kind}
@@ -220,13 +220,6 @@ frame_emittable c l all k j f at r er t et inputs ei kinds ek count en = record 
   kinds = ek;
   count = en;
 }
-
--- what follows of an answer where there is one
-pub then_ok :
-    {A E : Type 0} (r : Result A E) (Q R : A → Type 0) → ((x : A) → Q x → R x) → IfOk r Q →
-    IfOk r R
-then_ok (Ok x) Q R f h = f x h
-then_ok (Err e) Q R f h = h
 
 -- what is said of an answer that is none
 pub no_frame :

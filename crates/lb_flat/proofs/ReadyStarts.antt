@@ -10,9 +10,12 @@ use Rattle.std.proofs.lemmas.List.{length-append, length-map}
 use Rattle.std.proofs.lemmas.List.Concat.{flat_map-append}
 use Rattle.std.proofs.lemmas.List.FromFn.{length-range_with_len}
 use Rattle.std.proofs.lemmas.List.Sums.{sum_by-append, sum_by-cons}
+use Rattle.std.proofs.lemmas.Option.{same_Some}
+use Rattle.std.proofs.lemmas.Bool.{leb-true}
 use Rattle.lb_syntax.specs.declared.tree.Kind.{Kind}
 use Rattle.lb_syntax.specs.Lists.{Every, In}
 use Rattle.lb_syntax.specs.Tree.{Declaration, Node}
+use Rattle.lb_syntax.proofs.ListPlaces.{item_at}
 use Rattle.lb_static.specs.DataTypes.{input_kinds, width}
 use Rattle.lb_static.specs.Instances.{Program, Instance, instances, instance_at}
 use Rattle.lb_static.specs.Instantiation.{static_refusal}
@@ -33,9 +36,7 @@ use Rattle.lb_check.proofs.Checks.{instantiation_kept}
 use Rattle.lb_check.proofs.ElementKinds.{length_kinds}
 use Rattle.lb_check.proofs.Every.{Every-all, Every-first}
 use Rattle.lb_check.proofs.InstancePaths.{in_instances}
-use Rattle.lb_check.proofs.NodePlaces.{held}
 use Rattle.lb_check.proofs.Numbers.{length_elements}
-use Rattle.lb_check.proofs.OperandTypes.{some_same}
 use Rattle.lb_flat.specs.Emit.{Target, expanded, targets}
 use Rattle.lb_flat.specs.EmitRows.{HasRows}
 use Rattle.lb_flat.specs.EmitTerms.{Context}
@@ -55,7 +56,7 @@ use Rattle.lb_flat.proofs.ReadyRows.{kept_few}
 use Rattle.lb_flat.proofs.RowContexts.{own_resolved}
 use Rattle.lb_flat.proofs.RowInstances.{IsRow, row_of}
 use Rattle.lb_flat.proofs.RowKinds.{table_kinds_are}
-use Rattle.lb_flat.proofs.SmallTerms.{at_most, in_sum}
+use Rattle.lb_flat.proofs.SmallTerms.{in_sum}
 use Rattle.lb_flat.proofs.TableProgram.{has}
 use Rattle.lb_flat.proofs.TableSizes.{element_total_is}
 
@@ -83,7 +84,7 @@ inputs_few P here there small =
     let part = sum_by-append (width P here) here.node.inputs
     (here.node.outputs ++ here.node.locals) in
     let own = in_sum (instance_size P) (instances P) here there in
-    let all = at_most (size P) 65536 small in
+    let all = leb-true (size P) 65536 small in
     omega (arith, part, own, all)
 
 -- ## Rows that start
@@ -133,7 +134,7 @@ module _ (P : Program) (accepted : static_refusal P ≡ None) (checked : check_r
             let st = started P r t reached table accepted b here h in
             let found = node_found P r t reached table accepted st.number st.line here st.at in
             let same : start_of st.number st.at.node ≡ s =
-            some_same (start_of st.number st.at.node) s (sym st.found ∙ e) in
+            same_Some (start_of st.number st.at.node) s (sym st.found ∙ e) in
             subst (IsReady cs is_row) same
             (record {
               there = rows st.number st.line st.at.row_is st.at.node found;
@@ -249,7 +250,7 @@ module _ (P : Program) (accepted : static_refusal P ≡ None) where
     pub first_found :
         (is_row : ℕ → Bool) → HasRows r t is_row → is_row 0 ≡ true
     first_found is_row rows =
-        let first = held (instances P) 0 instances_some in
+        let first = item_at (instances P) 0 instances_some in
         let line = row_of P r t table 0 first.0 first.1 in
         rows 0 line.0 line.1.row_is line.1.node
         (node_found P r t reached table accepted 0 line.0 first.0 line.1)

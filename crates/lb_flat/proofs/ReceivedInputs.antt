@@ -13,12 +13,12 @@ use Rattle.lb_syntax.specs.declared.tree.ArrayIterator.{ArrayIterator}
 use Rattle.lb_syntax.specs.declared.tree.ArrayIterator.TheVariants.{Map, Red, Fill}
 use Rattle.lb_syntax.specs.Lists.{joined, part, listed}
 use Rattle.lb_syntax.specs.Tree.{Name, Declaration, Node}
+use Rattle.lb_syntax.proofs.ListPlaces.{heads_same, tails_same, get_first, get_later}
 use Rattle.lb_static.specs.Instances.{Program, Instance, Path, Child, Site, node_named}
 use Rattle.lb_check.specs.Clocks.{declared_clock}
 use Rattle.lb_check.specs.Solutions.{accumulated, iterator_inputs}
 use Rattle.lb_check.specs.Streams.{gathered, iterated, outputs_of}
 use Rattle.lb_check.proofs.DeterminedClocks.{count_of}
-use Rattle.lb_check.proofs.ListPairs.{get_first, get_later}
 use Rattle.lb_flat.specs.Emit.{Target, targets, copied, received, call_copies, iterator_copies}
 use Rattle.lb_flat.specs.EmitTerms as terms
 use Rattle.lb_flat.specs.EmitTerms.{Context, input_targets, part_copies, accumulator, index_copies}
@@ -61,12 +61,6 @@ module _ {A : Type 0} where
       (range_alike f g (a + 1) n (λ i lt.
       let next : a + suc i ≡ (a + 1) + i = omega arith in
       subst (λ j. f j ≡ g j) next (same (suc i) (omega (arith, lt)))))
-
-first_number : (a b : ℕ) (as' bs : List ℕ) → a ∷ as' ≡ b ∷ bs → a ≡ b
-first_number a b as' bs e = cc
-
-other_numbers : (a b : ℕ) (as' bs : List ℕ) → a ∷ as' ≡ b ∷ bs → as' ≡ bs
-other_numbers a b as' bs e = cc
 
 -- ## Copies
 
@@ -169,9 +163,9 @@ module _ (Y : Layout) where
   received_joined callee p (d ∷ ds) [] e = cc
   received_joined callee p (d ∷ ds) (is ∷ iss) e =
       copied_append (targets Y callee p d.name) (inputs_at callee p ds) is (joined iss)
-      (targets_many callee p d.name ∙ sym (first_number _ _ _ _ e))
+      (targets_many callee p d.name ∙ sym (heads_same _ _ _ _ e))
       ∙ ap (λ (qs : List FlatEquation). copied (targets Y callee p d.name) is ++ qs)
-      (received_joined callee p ds iss (other_numbers _ _ _ _ e))
+      (received_joined callee p ds iss (tails_same _ _ _ _ e))
 
   module _ (P : Program) (here : Instance) (ctx : Context) (c : ℕ) (site : Site)
       (own : IsCallContext Y P here ctx c site) where
@@ -256,7 +250,7 @@ module _ (Y : Layout) where
         let first : j + 0 ≡ j = omega arith in
         let is_first = ap (input_targets ctx c i) (sym first) ∙ same 0 d refl in
         let long : length is ≡ m * length ts =
-        first_number _ _ _ _ e ∙ ap (λ w. m * w) (sym (targets_many callee (at i) d.name)) in
+        heads_same _ _ _ _ e ∙ ap (λ w. m * w) (sym (targets_many callee (at i) d.name)) in
         let rest = range_with_len (j + 1) (length ds) in
         ap (λ (ts : List Target).
         copied ts (drop (length ts * i) (is ++ joined iss))
@@ -267,7 +261,7 @@ module _ (Y : Layout) where
         ∙ ap (λ (qs : List FlatEquation). copied ts (part m i is) ++ qs)
         (parts_received m i lt (j + 1) ds iss (λ q e at.
         let next : (j + 1) + q ≡ j + suc q = omega arith in
-        ap (input_targets ctx c i) next ∙ same (suc q) e at) (other_numbers _ _ _ _ e))
+        ap (input_targets ctx c i) next ∙ same (suc q) e at) (tails_same _ _ _ _ e))
 
     -- the accumulator of the instance at an index
     accumulator_received :

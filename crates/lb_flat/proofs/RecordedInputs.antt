@@ -1,11 +1,12 @@
 -- The rows of a recorded trace are a trace of a program with its signature.
-use Rattle.std.proofs.Common.{◌≡◌, ℕ, zero, suc, ◌<◌, ◌≤◌, Bool as Truth, true, ◌&&◌, ℤ, pos, List}
-use Rattle.std.proofs.Common.{[], ◌∷◌, map, length, get_or, slice_get, Some, None, refl, sym, ap}
-use Rattle.std.proofs.Common.{ap₂, subst, ◌∙◌, arith}
+use Rattle.std.proofs.Common.{◌≡◌, ℕ, ◌<◌, ◌≤◌, true, ℤ, pos, List, [], ◌∷◌, map, length, get_or}
+use Rattle.std.proofs.Common.{slice_get, Some, None, refl, sym, ap, subst, ◌∙◌, arith}
 use Rattle.std.specs.List.{All}
 use Rattle.std.proofs.lemmas.Int.{ints}
 use Rattle.std.proofs.lemmas.Option.{slice_get-get_or, slice_get_past}
 use Rattle.std.proofs.lemmas.List.Elements.{All-head, All-tail}
+use Rattle.std.proofs.lemmas.Simd.{get_or-zip2}
+use Rattle.std.proofs.lemmas.Bool.{and_from}
 use Rattle.lb_syntax.specs.declared.tree.Kind.{Kind}
 use Rattle.lb_syntax.specs.declared.tree.Kind.TheVariants.{Int, Bool}
 use Rattle.lb_syntax.specs.Lists.{Every, zip2}
@@ -16,43 +17,31 @@ use Rattle.lb_static.specs.Signature.{Elements, kinds_of}
 use Rattle.lb_check.specs.Scalars as scalars
 use Rattle.lb_check.specs.Scalars.{is_given}
 use Rattle.lb_check.specs.Solutions.{is_row}
+use Rattle.lb_check.proofs.LongStreams.{length-both}
 use Rattle.lb_flat.specs.Traces.{Row, Recording, trace_at, IsCell, IsInt, IsRow, IsRecording}
 use Rattle.lb_flat.specs.Inputs.{scalar_in, scalars_in, inputs_of}
 use Rattle.lb_flat.specs.Flattening.{IsTrace}
-use Rattle.lb_flat.proofs.Lists.{length-zips}
 
 -- ## The scalars of a row, one after the other
-
-pub get_or-zips :
-    {A B C : Type 0} (f : A → B → C) (xs : List A) (ys : List B) (i : ℕ) (a : A) (b : B) (c : C) →
-    i < length xs → i < length ys → get_or (zip2 f xs ys) i c ≡ f (get_or xs i a) (get_or ys i b)
-get_or-zips f [] ys i a b c p q = absurd (omega arith)
-get_or-zips f (x ∷ xs) [] i a b c p q = absurd (omega arith)
-get_or-zips f (x ∷ xs) (y ∷ ys) zero a b c p q = refl
-get_or-zips f (x ∷ xs) (y ∷ ys) (suc i) a b c p q =
-    get_or-zips f xs ys i a b c (omega arith) (omega arith)
 
 module _ (kinds : List Kind) (row : List ℤ) (i : ℕ) (same : length row ≡ length kinds) where
   abbrev wanted : List scalars.Scalar
   wanted = zip2 scalar_in kinds row
 
   long : length wanted ≡ length kinds
-  long = length-zips scalar_in (length kinds) kinds row refl same
+  long = length-both scalar_in (length kinds) kinds row refl same
 
   pub scalar_there :
       i < length kinds →
       slice_get wanted i ≡ Some (scalar_in (get_or kinds i Int) (get_or row i (pos 0)))
   scalar_there lt =
       slice_get-get_or wanted i scalars.Bad (omega (arith, long))
-      ∙ ap Some (get_or-zips scalar_in kinds row i Int (pos 0) scalars.Bad lt (omega (arith, same)))
+      ∙ ap Some (get_or-zip2 scalar_in kinds row i Int (pos 0) scalars.Bad lt (omega (arith, same)))
 
   pub no_scalar : length kinds ≤ i → None ≡ slice_get wanted i
   no_scalar le = sym (slice_get_past wanted i (omega (arith, long)))
 
 -- ## Each row is one of the program's kinds
-
-both : (a b : Truth) → a ≡ true → b ≡ true → (a && b) ≡ true
-both a b p q = ap₂ (λ c d. c && d) p q
 
 in_range : (v : ℤ) → IsInt v → is_int v ≡ true
 in_range v h = grind (arith, ints)
@@ -68,7 +57,7 @@ row_given [] [] h = refl
 row_given [] (v ∷ row) h = absurd h
 row_given (e ∷ elements) [] h = absurd h
 row_given (e ∷ elements) (v ∷ row) h =
-    both _ _ (is_given_in e.1 v h.0) (row_given elements row h.1)
+    and_from _ _ (is_given_in e.1 v h.0) (row_given elements row h.1)
 
 pub rows_given :
     (elements : Elements) (rows : List Row) → All (IsRow elements) rows →

@@ -1,51 +1,32 @@
 -- The inputs of the node under test have as many elements as the signature, and the observer's are
 -- as wide as what it observes.
-use Rattle.std.proofs.Common.{◌≡◌, ℕ, ◌+◌, Option, Some, None, IfSome, option_map, List, [], ◌∷◌}
-use Rattle.std.proofs.Common.{◌++◌, map, length, flat_map, refl, sym, ap, ◌∙◌, arith, length-append}
+use Rattle.std.proofs.Common.{◌≡◌, Option, Some, None, IfSome, option_map, List, [], ◌∷◌, map}
+use Rattle.std.proofs.Common.{length, flat_map, refl, sym, ap, ◌∙◌}
 use Rattle.std.proofs.lemmas.List.{length-map}
 use Rattle.lb_syntax.specs.declared.tree.Kind.{Kind}
 use Rattle.lb_syntax.specs.Lists.{Every, either_or, listed}
 use Rattle.lb_syntax.specs.Tree.{Name, Declaration}
 use Rattle.lb_static.specs.Instances.{Program, Instance, Root, instance_at}
-use Rattle.lb_static.specs.DataTypes.{DataType, width, variable_type, element_count, product}
-use Rattle.lb_static.specs.DataTypes.{element_names, index_text, scalar_elements, signature}
-use Rattle.lb_static.specs.DataTypes.{input_kinds}
+use Rattle.lb_static.specs.DataTypes.{DataType, width, variable_type, element_count, element_names}
+use Rattle.lb_static.specs.DataTypes.{scalar_elements, signature, input_kinds}
+use Rattle.lb_static.proofs.ElementNames.{length-element_names}
+use Rattle.lb_check.proofs.ElementValues.{pieces_count}
 use Rattle.lb_flat.specs.Layouts.{Layout}
 use Rattle.lb_flat.specs.Emit.{targets, input_targets}
-use Rattle.lb_flat.proofs.OutputWidths.{length-range}
 
 -- ## The signature
-
-names_count : (x : Name) (ns : List ℕ) → length (element_names x ns) ≡ product ns
-names_count x [] = refl
-names_count x (n ∷ ns) =
-    length-range (λ i. element_names (x ++ index_text i) ns) (product ns) 0 n
-    (λ i lt. names_count (x ++ index_text (0 + i)) ns)
 
 elements_count :
     (x : Name) (o : Option DataType) →
     length {A = Name × Kind} (listed (λ t. map (λ y. (y, t.kind)) (element_names x t.sizes)) o)
     ≡ either_or (option_map element_count o) 0
 elements_count x None = refl
-elements_count x (Some t) = length-map (element_names x t.sizes) _ ∙ names_count x t.sizes
+elements_count x (Some t) = length-map (element_names x t.sizes) _ ∙ length-element_names x t.sizes
 
 scalars_count :
     (P : Program) (here : Instance) (d : Declaration) →
     length (scalar_elements P here d) ≡ width P here d
 scalars_count P here d = elements_count d.name (variable_type P here d)
-
-pub pieces_count :
-    {A B C : Type 0} (f : A → List B) (g : A → List C) (xs : List A) →
-    Every (λ x. length (f x) ≡ length (g x)) xs → length (flat_map f xs) ≡ length (flat_map g xs)
-pieces_count f g [] h = refl
-pieces_count f g (x ∷ xs) h =
-    omega (
-      arith,
-      h.0,
-      pieces_count f g xs h.1,
-      length-append (f x) (flat_map f xs),
-      length-append (g x) (flat_map g xs),
-    )
 
 module _ (Y : Layout) (P : Program) where
   -- the variables of an instance at a root have the elements of their types

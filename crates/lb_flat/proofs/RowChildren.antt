@@ -3,8 +3,11 @@
 use Rattle.std.proofs.Common.{◌≡◌, ℕ, zero, suc, Bool, true, false, List, [], ◌∷◌, length, Option}
 use Rattle.std.proofs.Common.{Some, None, option_map, refl, ap, ap₂, sym, ◌∙◌, arith}
 use Rattle.std.specs.Prelude.{◌&&◌, nat_eq, slice_get, if◌then◌else◌}
-use Rattle.std.proofs.lemmas.Bool.Decides.{nat_tests}
+use Rattle.std.proofs.lemmas.Bool.{eqb-true, eq-eqb, and_from}
+use Rattle.std.proofs.lemmas.Option.{slice_get_within, same_Some}
 use Rattle.lb_syntax.specs.Lists.{listed}
+use Rattle.lb_syntax.proofs.ListPlaces.{item_at}
+use Rattle.lb_syntax.proofs.TruthValues.{and_first, and_second}
 use Rattle.lb_static.specs.DataTypes.{variables}
 use Rattle.lb_static.specs.Instances.{Program, Instance, Path, Root, Observer, Child, instance_at}
 use Rattle.lb_static.specs.Instances.{instances}
@@ -26,10 +29,7 @@ use Rattle.lb_static.proofs.Members.{in_at, place_in}
 use Rattle.lb_check.specs.Elements.{found_from, numbers_from, numbers_of}
 use Rattle.lb_check.specs.OwnClocks.{name_in}
 use Rattle.lb_check.proofs.InstancePaths.{at_path}
-use Rattle.lb_check.proofs.NodePlaces.{held}
-use Rattle.lb_check.proofs.Numbers.{found_some, got_within}
-use Rattle.lb_check.proofs.OperandTypes.{some_same}
-use Rattle.lb_check.proofs.TruthValues.{and_first, and_second, both_true}
+use Rattle.lb_check.proofs.Numbers.{found_some}
 use Rattle.lb_flat.specs.Rows.{is_called, place_where, child_row, row_numbers, child_numbers}
 use Rattle.lb_flat.proofs.NumberedRows.{row_numbers_are}
 use Rattle.lb_flat.proofs.RowInstances.{IsRow, origin_path, root_path, observer_path, row_shown}
@@ -56,7 +56,7 @@ place_holds test (x ∷ xs) k e = by (test x) refl e (λ j h. place_holds test x
     later None is h again = absurd cc
     later (Some j) is h again =
         let p = again j is in
-        let next : suc j ≡ k = some_same (suc j) k h in
+        let next : suc j ≡ k = same_Some (suc j) k h in
         record {
           item = p.item;
           stands = ap (slice_get (x ∷ xs)) (sym next) ∙ p.stands;
@@ -67,7 +67,7 @@ place_holds test (x ∷ xs) k e = by (test x) refl e (λ j h. place_holds test x
         (if b then Some 0 else option_map suc (place_where test xs)) ≡ Some k →
         ((j : ℕ) → place_where test xs ≡ Some j → IsPlace test xs j) → IsPlace test (x ∷ xs) k
     by true is h again =
-        let first : 0 ≡ k = some_same 0 k h in
+        let first : 0 ≡ k = same_Some 0 k h in
         record { item = x; stands = ap (slice_get (x ∷ xs)) (sym first); passes = is }
     by false is h again = later (place_where test xs) refl h again
 
@@ -77,7 +77,7 @@ pub place_found :
     test x ≡ true → (j : ℕ) × (place_where test xs ≡ Some j)
 place_found test [] k x e h = absurd cc
 place_found test (y ∷ xs) zero x e h =
-    let same : y ≡ x = some_same y x e in
+    let same : y ≡ x = same_Some y x e in
     let first : test y ≡ true = ap test same ∙ h in
     (0, ap (λ b. if b then Some 0 else option_map suc (place_where test xs)) first)
 place_found test (y ∷ xs) (suc k) x e h = by (test y) refl (place_found test xs k x e h)
@@ -93,12 +93,6 @@ place_found test (y ∷ xs) (suc k) x e h = by (test y) refl (place_found test x
     )
 
 -- ## Origins
-
-equal : (n m : ℕ) → nat_eq n m ≡ true → n ≡ m
-equal n m e = grind (arith, nat_tests)
-
-equally : (n m : ℕ) → n ≡ m → nat_eq n m ≡ true
-equally n m e = grind (arith, nat_tests)
 
 -- an origin is the call of this number of the row with another, at an index
 pub record IsCallOf (j c i : ℕ) (o : Origin) : Type 0 where
@@ -121,9 +115,9 @@ called_is j c i (origin.Called caller call index) e =
       call = call;
       index = index;
       is = refl;
-      caller_is = equal caller.0 j (and_first (nat_eq caller.0 j) (nat_eq call.0 c) both);
-      call_is = equal call.0 c (and_second (nat_eq caller.0 j) (nat_eq call.0 c) both);
-      index_is = equal index i
+      caller_is = eqb-true caller.0 j (and_first (nat_eq caller.0 j) (nat_eq call.0 c) both);
+      call_is = eqb-true call.0 c (and_second (nat_eq caller.0 j) (nat_eq call.0 c) both);
+      index_is = eqb-true index i
           (and_second (nat_eq caller.0 j && nat_eq call.0 c) (nat_eq index i) e);
     }
 
@@ -145,10 +139,10 @@ module _ (P : Program) (r : Reached) (t : Table) (table : IsTable P r t) where
       let o = called_is j c i place.item.origin place.passes in
       let at = origin_path P r t table k place.item place.stands o.caller o.call o.index o.is in
       let shown = row_shown P r t table k place.item place.stands in
-      let above : at.above ≡ here.path = some_same at.above here.path
+      let above : at.above ≡ here.path = same_Some at.above here.path
       (sym at.caller_path ∙ (ap (slice_get (paths_of t)) o.caller_is ∙ is.path_is)) in
       let path : shown.0.path ≡ Child at.above o.call.0 o.index =
-      some_same shown.0.path (Child at.above o.call.0 o.index)
+      same_Some shown.0.path (Child at.above o.call.0 o.index)
       (sym shown.1.path_is ∙ at.path) in
       record {
         row_there = place.item;
@@ -184,31 +178,31 @@ module _ (P : Program) (r : Reached) (t : Table) (table : IsTable P r t) where
     where
       by : (o : Origin) → row_there.origin ≡ o → is_called j c i o ≡ true
       by origin.UnderTest e =
-          absurd (no_root here.path c i (some_same Root (Child here.path c i)
+          absurd (no_root here.path c i (same_Some Root (Child here.path c i)
           (sym (root_path P r t table k row_there at.row_is e)
           ∙ (at.path_is ∙ ap (λ p. Some p) path))))
       by origin.Observer e =
-          absurd (no_observer here.path c i (some_same Observer (Child here.path c i)
+          absurd (no_observer here.path c i (same_Some Observer (Child here.path c i)
           (sym (observer_path P r t table k row_there at.row_is e)
           ∙ (at.path_is ∙ ap (λ p. Some p) path))))
       by (origin.Called caller call index) e =
           let up = origin_path P r t table k row_there at.row_is caller call index e in
           let same : Child up.above call.0 index ≡ Child here.path c i =
-          some_same (Child up.above call.0 index) (Child here.path c i)
+          same_Some (Child up.above call.0 index) (Child here.path c i)
           (sym up.path ∙ (at.path_is ∙ ap (λ p. Some p) path)) in
           let low = up.before in
-          let within = got_within t.instances.items k row_there at.row_is in
-          let first = held t.instances.items caller.0 (omega (arith, low, within)) in
+          let within = slice_get_within t.instances.items k row_there at.row_is in
+          let first = item_at t.instances.items caller.0 (omega (arith, low, within)) in
           let shown = row_shown P r t table caller.0 first.0 first.1 in
           let above : shown.0.path ≡ here.path =
-          some_same shown.0.path up.above (sym shown.1.path_is ∙ up.caller_path)
+          same_Some shown.0.path up.above (sym shown.1.path_is ∙ up.caller_path)
           ∙ same_above up.above here.path call.0 index c i same in
           let one : caller.0 ≡ j = one_place P r t table caller.0 j shown.0 here
           shown.1.instance_is is.instance_is above in
-          both_true (nat_eq caller.0 j && nat_eq call.0 c) (nat_eq index i)
-          (both_true (nat_eq caller.0 j) (nat_eq call.0 c) (equally caller.0 j one)
-          (equally call.0 c (one_call up.above here.path call.0 index c i same)))
-          (equally index i (one_index up.above here.path call.0 index c i same))
+          and_from (nat_eq caller.0 j && nat_eq call.0 c) (nat_eq index i)
+          (and_from (nat_eq caller.0 j) (nat_eq call.0 c) (eq-eqb caller.0 j one)
+          (eq-eqb call.0 c (one_call up.above here.path call.0 index c i same)))
+          (eq-eqb index i (one_index up.above here.path call.0 index c i same))
 
   -- the instance at the path below is that of the row that is found
   pub child_found :

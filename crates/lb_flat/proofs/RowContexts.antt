@@ -1,11 +1,11 @@
 -- What the numbers in the text of a row's node stand for is what its instance gives them: elements,
 -- static values and calls.
-use Rattle.std.proofs.Common.{◌≡◌, ℕ, ◌<◌, true, List, length, map, Option, Some, None, option_map}
-use Rattle.std.proofs.Common.{ap, sym, ◌∙◌, subst, arith}
-use Rattle.std.specs.Prelude.{slice_get, nat_lt}
-use Rattle.std.proofs.lemmas.Bool.Decides.{nat_tests}
+use Rattle.std.proofs.Common.{◌≡◌, ℕ, true, List, length, map, Option, Some, None, option_map, ap}
+use Rattle.std.proofs.Common.{sym, ◌∙◌, subst, arith}
+use Rattle.std.specs.Prelude.{slice_get}
 use Rattle.std.proofs.lemmas.List.{length-map}
-use Rattle.std.proofs.lemmas.Option.{slice_get-map, slice_get_within}
+use Rattle.std.proofs.lemmas.Option.{slice_get-map, slice_get_within, same_Some}
+use Rattle.std.proofs.lemmas.Bool.{lt-ltb}
 use Rattle.lb_syntax.specs.Lists.{either_or}
 use Rattle.lb_syntax.specs.Tree.{Name, Named, Whole}
 use Rattle.lb_static.specs.Instances.{Program, Instance, Child, Site, name_value, static_value}
@@ -36,11 +36,9 @@ use Rattle.lb_check.proofs.FittedCalls.{node_at, values_at}
 use Rattle.lb_check.proofs.FittedEnvs.{static_is, repeats_is}
 use Rattle.lb_check.proofs.InstanceNames.{variables_distinct, callee_node}
 use Rattle.lb_check.proofs.InstancePaths.{at_path, called}
-use Rattle.lb_check.proofs.OperandTypes.{some_same}
 use Rattle.lb_check.proofs.SiteCallees.{callee_found}
 use Rattle.lb_flat.specs.RowContexts.{value_at, size_at, times_at}
-use Rattle.lb_flat.specs.Rows.{row_numbers, child_numbers}
-use Rattle.lb_flat.proofs.NumberedRows.{own_numbers_are}
+use Rattle.lb_flat.specs.Rows.{child_numbers}
 use Rattle.lb_flat.proofs.RowChildren.{child_numbers_are}
 use Rattle.lb_flat.proofs.RowInstances.{IsRow}
 
@@ -58,9 +56,6 @@ module _ {A : Type 0} where
       (sym (slice_get-map Some xs i)
       ∙ (ap (λ (l : List (Option A)). slice_get l i) e ∙ at))
 
-below : (i n : ℕ) → i < n → nat_lt i n ≡ true
-below i n e = grind (arith, nat_tests)
-
 module _ (P : Program) (r : Reached) (t : Table) (reached : IsReached P r)
     (table : IsTable P r t) (accepted : static_refusal P ≡ None) (k : ℕ) (i : row.Instance)
     (here : Instance) (is : IsRow P r t table k i here) where
@@ -69,7 +64,7 @@ module _ (P : Program) (r : Reached) (t : Table) (reached : IsReached P r)
   own_resolved =
       let sp = table.specialized i.specialization.0 is.specialization is.specialized in
       let m = node_at P r t reached table is.specialization sp.0 in
-      subst (IsResolved (source_names P)) (some_same m.0 is.node (sym m.1 ∙ is.resolved)) m.2
+      subst (IsResolved (source_names P)) (same_Some m.0 is.node (sym m.1 ∙ is.resolved)) m.2
 
   own_values :
       map Some is.specialization.statics.items
@@ -86,12 +81,6 @@ module _ (P : Program) (r : Reached) (t : Table) (reached : IsReached P r)
       subst (λ (c : Instance). are_distinct (variable_names c.node) ≡ true) is.same
       (Every-at (λ (c : Instance). are_distinct (variable_names c.node) ≡ true) (instances P) here
       (variables_distinct P accepted) (in_at (instances P) k here is.instance_is))
-
-  -- the elements of a variable
-  pub places_are :
-      (x : VariableId) → is_variable (counts_of is.node) x ≡ true →
-      row_numbers r t k x ≡ numbers_of P here.path (name_in is.node x)
-  places_are x within = own_numbers_are P r t reached table accepted k i here is x within
 
   -- the value of a name that is no variable
   pub value_are :
@@ -127,7 +116,7 @@ module _ (P : Program) (r : Reached) (t : Table) (reached : IsReached P r)
       let many = ap length own_resolved.calls in
       let long = length-map is.node.calls.items
       (site_of (source_names P) (statics_of is.node)) in
-      below c (length is.node.calls.items) (omega (arith, within, same, many, long))
+      lt-ltb c (length is.node.calls.items) (omega (arith, within, same, many, long))
 
   own_site :
       (c : ℕ) (site : Site) → slice_get (node_sites here.node) c ≡ Some site →
@@ -175,16 +164,16 @@ module _ (P : Program) (r : Reached) (t : Table) (reached : IsReached P r)
       child_numbers r t k c index x ≡ numbers_of P (Child here.path c index) (name_in m x)
   child_are c site e m found index x within =
       let own = callee_is c site e in
-      let same = some_same own.callee m (sym own.found ∙ found) in
+      let same = same_Some own.callee m (sym own.found ∙ found) in
       child_numbers_are P r t table reached accepted k i here is c index m
       (subst (IsResolved (source_names P)) same own.resolved).as_many
       (λ there at.
       let by = called P here.path c index there at in
-      let caller = some_same by.caller here
+      let caller = same_Some by.caller here
       (sym by.above ∙ at_path P here (in_at (instances P) k here is.instance_is)) in
-      let one = some_same by.site site
+      let one = same_Some by.site site
       (sym by.stands ∙ (ap (λ (d : Instance). slice_get (node_sites d.node) c) caller ∙ e)) in
-      some_same there.node (node_of m)
+      same_Some there.node (node_of m)
       (sym (callee_node P by.caller by.site c index there by.gives)
       ∙ (ap (λ (z : Site). node_named P z.callee) one
       ∙ (own.named ∙ ap (λ n. Some (node_of n)) same))))

@@ -4,8 +4,10 @@ use Rattle.std.proofs.Common.{◌≡◌, ℕ, zero, suc, ◌+◌, ◌<◌, List,
 use Rattle.std.proofs.Common.{Some, None, option_map, refl, ap, sym, ◌∙◌, subst, arith}
 use Rattle.std.specs.Prelude.{slice_get}
 use Rattle.std.proofs.lemmas.List.{length-append, length-map}
+use Rattle.std.proofs.lemmas.Option.{slice_get_within, same_Some}
 use Rattle.lb_syntax.specs.Lists.{In, either_or, zip2}
 use Rattle.lb_syntax.specs.Tree.{Node}
+use Rattle.lb_syntax.proofs.ListPlaces.{get_later, mapped_from, item_at}
 use Rattle.lb_static.specs.Instances.{Program, Instance, Path, Root, Observer, Child, instances}
 use Rattle.lb_static.specs.InstanceTable.{IsTable, CallerStandsBefore, instance_of, specialized_at}
 use Rattle.lb_static.specs.InstanceTable.{path_from, paths_after, paths_of, row_at}
@@ -20,13 +22,10 @@ use Rattle.lb_static.specs.declared.table.Origin.TheVariants as origin
 use Rattle.lb_static.specs.declared.table.Specialization.{Specialization}
 use Rattle.lb_static.specs.declared.table.Table.{Table}
 use Rattle.lb_static.proofs.Members.{in_at}
+use Rattle.lb_static.proofs.InstanceRows.{paths_kept, paths_length}
 use Rattle.lb_check.proofs.ApartLists.{AreApart}
 use Rattle.lb_check.proofs.InstancePaths.{at_path, same_instance, instances_apart}
-use Rattle.lb_check.proofs.ListPairs.{get_first, get_later, mapped_from}
-use Rattle.lb_check.proofs.NodePlaces.{held}
-use Rattle.lb_check.proofs.Numbers.{got_within}
-use Rattle.lb_check.proofs.OperandTypes.{some_same}
-use Rattle.lb_check.proofs.TableRows.{paths_length, row_held}
+use Rattle.lb_check.proofs.TableRows.{row_held}
 
 -- ## Paths of rows
 
@@ -39,20 +38,12 @@ record StandsAfter (before : List Path) (rows : List row.Instance) (k : ℕ) (i 
       slice_get (paths_after before rows) m ≡ Some p
   path : slice_get (paths_after before rows) (length before + k) ≡ Some (path_from front i.origin)
 
-paths_kept :
-    (before : List Path) (rows : List row.Instance) (m : ℕ) (p : Path) →
-    slice_get before m ≡ Some p → slice_get (paths_after before rows) m ≡ Some p
-paths_kept before [] m p e = e
-paths_kept before (i ∷ rows) m p e =
-    let added = path_from before i.origin ∷ [] in
-    paths_kept (before ++ added) rows m p (get_first before added m p e)
-
 stands_after :
     (before : List Path) (rows : List row.Instance) (k : ℕ) (i : row.Instance) →
     slice_get rows k ≡ Some i → StandsAfter before rows k i
 stands_after before [] k i e = absurd cc
 stands_after before (j ∷ rows) zero i e =
-    let same : j ≡ i = some_same j i e in
+    let same : j ≡ i = same_Some j i e in
     let added = path_from before j.origin ∷ [] in
     let last : slice_get (before ++ added) (length before + 0) ≡ Some (path_from before j.origin) =
     get_later before added 0 in
@@ -95,7 +86,7 @@ module _ (P : Program) (r : Reached) (t : Table) (table : IsTable P r t) where
       let lower : caller.0 < k =
       subst (CallerStandsBefore k) is (table.before k i e) in
       let long = at.long in
-      let there = held at.front caller.0 (omega (arith, long, lower)) in
+      let there = item_at at.front caller.0 (omega (arith, long, lower)) in
       record {
         above = there.0;
         before = lower;
@@ -155,7 +146,7 @@ module _ (P : Program) (r : Reached) (t : Table) (table : IsTable P r t) where
   shown [] (j ∷ rows) heres k i long e at = absurd (omega (arith, long))
   shown (p ∷ ps) (j ∷ rows) [] k i long e at = absurd cc
   shown (p ∷ ps) (j ∷ rows) (h ∷ heres) zero i long e at =
-      let same : j ≡ i = some_same j i at in
+      let same : j ≡ i = same_Some j i at in
       let one : row_at r t p j ≡ Some h = cc in
       record {
         place = p;
@@ -213,7 +204,7 @@ module _ (P : Program) (r : Reached) (t : Table) (table : IsTable P r t) where
             node = from.0;
             resolved = from.1;
             same = ap (λ m. instance_of p m s.values.items) from.2
-                ∙ some_same (instance_of p n s.values.items) here h;
+                ∙ same_Some (instance_of p n s.values.items) here h;
           }
 
   -- each row stands for an instance, at its place and at its path
@@ -244,11 +235,11 @@ module _ (P : Program) (r : Reached) (t : Table) (table : IsTable P r t) where
       (k : ℕ) (here : Instance) → slice_get (instances P) k ≡ Some here →
       (i : row.Instance) × IsRow k i here
   row_of k here e =
-      let below = got_within (instances P) k here e in
+      let below = slice_get_within (instances P) k here e in
       let many = rows_many in
-      let there = held t.instances.items k (omega (arith, below, many)) in
+      let there = item_at t.instances.items k (omega (arith, below, many)) in
       let s = row_shown k there.0 there.1 in
-      let same = some_same s.0 here (sym s.1.instance_is ∙ e) in
+      let same = same_Some s.0 here (sym s.1.instance_is ∙ e) in
       (there.0, subst (IsRow k there.0) same s.1)
 
   -- two instances at one path stand at one place
@@ -267,10 +258,10 @@ module _ (P : Program) (r : Reached) (t : Table) (table : IsTable P r t) where
       places [] j k here apart e f = absurd cc
       places (c ∷ is) zero zero here apart e f = refl
       places (c ∷ is) zero (suc k) here apart e f =
-          let same : c ≡ here = some_same c here e in
+          let same : c ≡ here = same_Some c here e in
           absurd (apart.0 (subst (λ z. In z is) (sym same) (in_at is k here f)))
       places (c ∷ is) (suc j) zero here apart e f =
-          let same : c ≡ here = some_same c here f in
+          let same : c ≡ here = same_Some c here f in
           absurd (apart.0 (subst (λ z. In z is) (sym same) (in_at is j here e)))
       places (c ∷ is) (suc j) (suc k) here apart e f =
           ap suc (places is j k here apart.1 e f)

@@ -7,10 +7,12 @@ use Rattle.std.specs.List.{list_all}
 use Rattle.std.proofs.lemmas.Bool.Decides.{nat_tests}
 use Rattle.std.proofs.lemmas.Grind.{flat_map-append}
 use Rattle.std.proofs.lemmas.List.{append_assoc, append-nil, take_more}
+use Rattle.std.proofs.lemmas.Option.{same_Some}
 use Rattle.lb_syntax.specs.declared.tree.Kind.{Kind}
 use Rattle.lb_syntax.specs.Lists.{Every, either_or, listed, zip2}
 use Rattle.lb_syntax.specs.Refusals.{E5, E6, E12, unless}
 use Rattle.lb_syntax.specs.Tree.{Name, Static, Declaration}
+use Rattle.lb_syntax.proofs.TruthValues.{and_first, and_second}
 use Rattle.lb_static.specs.DataTypes.{element_count, variables, width}
 use Rattle.lb_static.specs.Instances.{Program, Instance, Path, instances, static_value}
 use Rattle.lb_static.specs.Instantiation.{static_refusal, instantiation_refusal, instance_refusal}
@@ -31,9 +33,7 @@ use Rattle.lb_check.specs.Elements.{element_kinds}
 use Rattle.lb_check.proofs.ApartLists.{Every-at}
 use Rattle.lb_check.proofs.Checks.{first_none, second_none, kept, instantiation_kept}
 use Rattle.lb_check.proofs.FittedCalls.{node_at, values_at}
-use Rattle.lb_check.proofs.FittedTypes.{declared_is}
-use Rattle.lb_check.proofs.OperandTypes.{some_same}
-use Rattle.lb_check.proofs.TruthValues.{and_first, and_second}
+use Rattle.lb_static.proofs.DeclaredTypes.{declared_is}
 use Rattle.lb_flat.specs.RowKinds.{declared_kinds, kinds_of, kinds_in, table_kinds}
 use Rattle.lb_flat.proofs.RowInstances.{IsRow, rows_many, row_shown}
 
@@ -153,7 +153,7 @@ module _ (P : Program) (r : Reached) (t : Table) (reached : IsReached P r)
       ≡ capped_kinds P (instance_of p (node_of n) s.values.items) (variables (node_of n))
   specialized_kinds p s n sp at =
       let m = node_at P r t reached table s sp in
-      let resolved = subst (IsResolved (source_names P)) (some_same m.0 n (sym m.1 ∙ at)) m.2 in
+      let resolved = subst (IsResolved (source_names P)) (same_Some m.0 n (sym m.1 ∙ at)) m.2 in
       subst (λ ds. flat_map (declared_kinds s.statics.items) n.variables.items
       ≡ capped_kinds P (instance_of p (node_of n) s.values.items) ds) resolved.declared
       (declared_kinds_are P (instance_of p (node_of n) s.values.items)
@@ -191,5 +191,5 @@ module _ (P : Program) (r : Reached) (t : Table) (reached : IsReached P r)
           kinds_in r t i ≡ variable_kinds P here (variables here.node)
       one j i here e f =
           let shown = row_shown P r t table j i e in
-          let same = some_same shown.0 here (sym shown.1.instance_is ∙ f) in
+          let same = same_Some shown.0 here (sym shown.1.instance_is ∙ f) in
           row_kinds_are j i here (subst (IsRow P r t table j i) same shown.1)

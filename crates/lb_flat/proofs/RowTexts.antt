@@ -6,10 +6,12 @@ use Rattle.std.specs.Prelude.{slice_get, nat_lt}
 use Rattle.std.specs.Str.{bytes_eq}
 use Rattle.std.proofs.lemmas.Bool.Decides.{nat_tests}
 use Rattle.std.proofs.lemmas.List.{length-map}
-use Rattle.std.proofs.lemmas.Option.{slice_get-map, slice_get_within}
+use Rattle.std.proofs.lemmas.Option.{slice_get-map, slice_get_within, same_Some}
 use Rattle.std.proofs.lemmas.Slice.Eq.{bytes_eq-Decides}
+use Rattle.std.proofs.lemmas.Bool.{not-true}
 use Rattle.lb_syntax.specs.Lists.{Every, either_or}
 use Rattle.lb_syntax.specs.Tree.{Name, Static, Named, Whole, Expr, Declaration, Node}
+use Rattle.lb_syntax.proofs.ListPlaces.{get_first}
 use Rattle.lb_static.specs.DataTypes.{variables}
 use Rattle.lb_static.specs.Instances.{Program, Instance, Child, Site, node_sites}
 use Rattle.lb_static.specs.Instantiation.{static_refusal}
@@ -34,15 +36,13 @@ use Rattle.lb_static.specs.ReachedNodes.{callee_in}
 use Rattle.lb_check.proofs.DeterminedClocks.{count_of}
 use Rattle.lb_check.proofs.DistinctNames.{held_at}
 use Rattle.lb_check.proofs.FittedTypes.{unfound}
-use Rattle.lb_check.proofs.ListPairs.{get_first}
 use Rattle.lb_check.proofs.NamedClocks.{named_every}
-use Rattle.lb_check.proofs.OperandTypes.{some_same}
-use Rattle.lb_check.proofs.TruthValues.{not_true}
 use Rattle.lb_flat.specs.EmitTerms.{Context}
 use Rattle.lb_flat.specs.Layouts.{flat_clock}
 use Rattle.lb_flat.specs.NumberedLayouts.{layout}
 use Rattle.lb_flat.specs.RowContexts.{RowClocks, parameters_of, row_context}
-use Rattle.lb_flat.proofs.RowContexts.{callee_is, child_are, own_resolved, places_are, size_are}
+use Rattle.lb_flat.proofs.NumberedRows.{own_numbers_are}
+use Rattle.lb_flat.proofs.RowContexts.{callee_is, child_are, own_resolved, size_are}
 use Rattle.lb_flat.proofs.RowContexts.{times_are, value_are}
 use Rattle.lb_flat.proofs.RowInstances.{IsRow}
 use Rattle.lb_flat.proofs.TermContexts.{IsCallContext, IsContext, IsDeclared, IsValue}
@@ -55,7 +55,7 @@ declared_there :
     (d : Declaration) × (named (λ d. d.name) x ds ≡ Some d)
 declared_there x [] i e = absurd cc
 declared_there x (d ∷ ds) zero e =
-    let same : d.name ≡ x = some_same d.name x e in
+    let same : d.name ≡ x = same_Some d.name x e in
     let found = (bytes_eq-Decides d.name x).1 same in
     (d, rw found refl)
 declared_there x (d ∷ ds) (suc i) e = by (declared_there x ds i e) (bytes_eq d.name x) refl
@@ -150,7 +150,7 @@ module _ (P : Program) (r : Reached) (t : Table) (reached : IsReached P r)
       let at : slice_get (statics_of is.node) j.0 ≡ Some (Named z.0) =
       y.1 ∙ ap Some (sym (ap (λ o. either_or o (Whole 0)) y.1) ∙ z.1) in
       let other : among z.0 names ≡ false =
-      not_true _ (sym (ap (is_no_variable names) z.1) ∙ u) in
+      not-true _ (sym (ap (is_no_variable names) z.1) ∙ u) in
       record {
         name = z.0;
         is = z.1;
@@ -201,7 +201,7 @@ module _ (P : Program) (r : Reached) (t : Table) (reached : IsReached P r)
       IsContext (layout P) P here (texts_of is.node) (counts_of is.node) own_context
   context_is = record {
     named = variable_there;
-    places = λ x w. places_are P r t reached table accepted k i here is x w;
+    places = λ x w. own_numbers_are P r t reached table accepted k i here is x w;
     declared = λ x w. clocks.declared x w;
     sampled = λ x sign w. clocks.sampled x sign w;
     value = λ j w u ts e. value_there j w u;

@@ -13,8 +13,9 @@ use Rattle.lb_flat.specs.Run.{Row, remembered, advanced, clock_reads, reads, kee
 use Rattle.lb_flat.specs.Run.{row_of, run, streams_of}
 use Rattle.lb_flat.proofs.Columns.{column_long, operate_long}
 use Rattle.lb_flat.proofs.Stepping.{HoldsNow, first_row, after_first, NowAndLater, now_and_later}
-use Rattle.lb_flat.proofs.Stepping.{from_now_and_later}
+use Rattle.lb_flat.proofs.Stepping.{from_now_and_later, one_off}
 use Rattle.lb_flat.proofs.Rows.{row_is, row_holds, length-row_of}
+use Rattle.lb_flat.proofs.Counting.{tail_long}
 
 -- ## The order stays
 
@@ -66,10 +67,6 @@ ready_advanced size row done (q ∷ Q) ready = (
 
 -- ## One instant off, and on again
 
-tail_long : (n : ℕ) (xs : Stream) → length xs ≡ suc n → length (tail_of xs) ≡ n
-tail_long n [] e = absurd (omega arith)
-tail_long n (x ∷ xs) e = omega arith
-
 after_long :
     (given : List Scalar) (X : Inputs) (F : List Stream) → AreLong (given ∷ X) F →
     AreLong X (after_first F)
@@ -79,10 +76,6 @@ after_long given X (xs ∷ F) h = (tail_long (length X) xs h.0, after_long given
 -- a row before streams
 abbrev before : Row → List Stream → List Stream
 before row F = zip2 (λ x xs. x ∷ xs) row F
-
-one_off : (n : ℕ) (xs : Stream) → length xs ≡ suc n → xs ≡ first_cell xs ∷ tail_of xs
-one_off n [] e = absurd (omega arith)
-one_off n (x ∷ xs) e = refl
 
 rejoined :
     (given : List Scalar) (X : Inputs) (F : List Stream) → AreLong (given ∷ X) F →

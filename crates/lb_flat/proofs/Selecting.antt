@@ -4,10 +4,10 @@ use Rattle.std.proofs.Common.{◌∷◌, length, set, refl, sym, ap, ◌∙◌, 
 use Rattle.std.specs.List.{filter}
 use Rattle.std.proofs.lemmas.List.{get_or-set_same, get_or-set_other, set-get_or}
 use Rattle.lb_syntax.specs.Lists.{Every, In}
+use Rattle.lb_syntax.proofs.TruthValues.{contrary}
 use Rattle.lb_check.specs.Scalars.{Scalar}
 use Rattle.lb_flat.specs.Flat.{FlatEquation}
 use Rattle.lb_flat.specs.Run.{Row, cell, now, Ready, filled}
-use Rattle.lb_flat.proofs.InOrder.{true_false}
 use Rattle.lb_flat.proofs.Lists.{Every-map, Every-both}
 use Rattle.lb_flat.proofs.Stepping.{HoldsNow}
 
@@ -72,7 +72,7 @@ module _ (given : List Scalar) (size : ℕ) (p : FlatEquation → Bool) where
   others_kept done (q ∷ Q) row ready =
       by_test (p q)
       (λ e. (
-        (λ no. absurd (true_false (p q) e no)),
+        (λ no. absurd (contrary (p q) e no)),
         Every-map _ (IsKept (some_filled row (q ∷ Q)) row)
             (λ r h no. ap (λ s. cell s r.element) (fill_yes row q Q e) ∙ h.0 no
             ∙ kept_beside row q r h.1) Q
@@ -112,7 +112,7 @@ module _ (given : List Scalar) (size : ℕ) (p : FlatEquation → Bool) where
               (omega (arith, length-set row q.element (now given row q.clock q.operation)))),
         ))
         (λ e. (
-          (λ yes. absurd (true_false (p q) yes e)),
+          (λ yes. absurd (contrary (p q) yes e)),
           Every-map (IsFilled (some_filled row Q)) (IsFilled (some_filled row (q ∷ Q)))
               (λ r h yes. subst (λ s. HoldsNow given s r) (sym (fill_no row q Q e)) (h yes)) Q
               (some_hold (q.element ∷ done) Q row ready.1 le),

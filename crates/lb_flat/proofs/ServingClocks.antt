@@ -10,6 +10,7 @@ use Rattle.std.proofs.lemmas.Option.{slice_get-map}
 use Rattle.lb_syntax.specs.Lists.{Every, either_or, listed, some_of, zip2}
 use Rattle.lb_syntax.specs.Tree.{Name, Static, Whole, Named as Named_static, Negated, Combined}
 use Rattle.lb_syntax.specs.Tree.{Grouped, Expr, Declaration}
+use Rattle.lb_syntax.proofs.TruthValues.{and_first, and_second}
 use Rattle.lb_static.specs.DataTypes.{variables}
 use Rattle.lb_static.specs.Names.{are_distinct}
 use Rattle.lb_static.specs.Parts.{parts, parts_in, right_side, own_clock_names, among, clock_names}
@@ -32,7 +33,6 @@ use Rattle.lb_static.specs.declared.resolved.Term.{Join', Array', AtMostOne', No
 use Rattle.lb_static.specs.declared.resolved.Term.{IterateNode', IterateSymbol', Row_of-Term}
 use Rattle.lb_static.specs.declared.resolved.Term.{end_of-Term, more_of-Term}
 use Rattle.lb_check.proofs.DistinctNames.{distinct_at, held_at}
-use Rattle.lb_check.proofs.TruthValues.{and_first, and_second}
 use Rattle.lb_flat.specs.ClockUses.{whens_in, whens_in_row, statement_whens, declared_when}
 use Rattle.lb_flat.specs.ClockUses.{clocks_named, is_among}
 

@@ -7,11 +7,13 @@ use Rattle.std.proofs.Common.{flat_map, refl, ap, ap₂, sym, ◌∙◌, subst, 
 use Rattle.std.specs.Prelude.{◌&&◌}
 use Rattle.std.specs.Str.{bytes_eq}
 use Rattle.std.proofs.lemmas.Slice.Eq.{bytes_eq-Decides}
+use Rattle.std.proofs.lemmas.Option.{same_Some}
 use Rattle.lb_syntax.specs.Lists.{◌>>=◌, Every, In, all_some, either_or, listed}
 use Rattle.lb_syntax.specs.Tree.{Name, Static, Node_named, Symbol, Expr, Literal, Truth, Variable}
 use Rattle.lb_syntax.specs.Tree.{Group, Unary, Binary, If, Arrow, Fby, Pre, Current, When}
 use Rattle.lb_syntax.specs.Tree.{Replicate, Index, Slice, Join, Array, AtMostOne, Nor, Call}
 use Rattle.lb_syntax.specs.Tree.{Iterate, Exprs, Nil, Cons, Declaration, Node, Statement, Equation}
+use Rattle.lb_syntax.proofs.TruthValues.{and_first, and_second}
 use Rattle.lb_static.specs.DataTypes.{DataType, is_type, are_types, variables}
 use Rattle.lb_static.specs.DataTypes.{variable_type, width}
 use Rattle.lb_static.specs.Instances.{Program, Instance, Path, Root, Observer, Child, Site}
@@ -19,22 +21,21 @@ use Rattle.lb_static.specs.Instances.{call_site, instance_at, instances, instanc
 use Rattle.lb_static.specs.Instances.{name_value, node_named}
 use Rattle.lb_static.specs.Instantiation.{static_refusal}
 use Rattle.lb_static.specs.StaticValues.{named}
-use Rattle.lb_static.proofs.Members.{in_map}
 use Rattle.lb_check.specs.Acceptance.{check_refusal}
 use Rattle.lb_check.specs.Clocks.{Clock, Base, On, as_variable, declared_clock}
 use Rattle.lb_check.specs.Clocks.{given_inputs, given_outputs, ungrouped, outer, base_clock}
 use Rattle.lb_check.specs.Elements.{found_from}
-use Rattle.lb_check.specs.Needs.{serving, site_clock}
+use Rattle.lb_check.specs.Needs.{site_clock}
 use Rattle.lb_check.specs.Occurrences.{Occurrence, at, call_count, node_occurrences, statements}
 use Rattle.lb_check.specs.Scalars.{Stream, or_fault}
 use Rattle.lb_check.specs.Solutions.{Inputs, Receives, iterator_inputs, IsCallJoined}
 use Rattle.lb_check.specs.Solutions.{IsIteratorJoined, IsJoinedAt, IsJoined, AreEqual, Fits}
-use Rattle.lb_check.specs.Solutions.{SolvesAt, Solves, AgreeAt}
+use Rattle.lb_check.specs.Solutions.{SolvesAt, Solves}
 use Rattle.lb_check.specs.Streams.{History, presence, signed, constantly, streams, all_streams}
 use Rattle.lb_check.specs.Streams.{argument_streams, outputs_of, number}
 use Rattle.lb_check.specs.TypeRules.{type_of_name}
 use Rattle.lb_check.specs.Types.{data_types}
-use Rattle.lb_check.proofs.ApartLists.{Every-at, Every-from}
+use Rattle.lb_check.proofs.ApartLists.{Every-at}
 use Rattle.lb_check.proofs.CallNumbers.{own_right}
 use Rattle.lb_check.proofs.Checks.{instantiation_kept}
 use Rattle.lb_check.proofs.Every.{Every-first, Every-second, Every-range}
@@ -45,15 +46,13 @@ use Rattle.lb_check.proofs.NamedClocks.{IsOver}
 use Rattle.lb_check.proofs.Numbers.{found_some}
 use Rattle.lb_check.proofs.OccurrenceClocks.{IsVariable, occurrence_fits}
 use Rattle.lb_check.proofs.OccurrenceSites.{own_site, call_of_site}
-use Rattle.lb_check.proofs.OperandTypes.{bound, some_same}
+use Rattle.lb_check.proofs.OperandTypes.{bound}
 use Rattle.lb_check.proofs.ServedNumbers.{zip_first, output_value, left_variable, site_over}
 use Rattle.lb_check.proofs.ServedValues.{IsCallOf, IsRightOf, serving_same}
 use Rattle.lb_check.proofs.SiteOccurrences.{site_occurs}
-use Rattle.lb_check.proofs.TruthValues.{and_first, and_second}
 use Rattle.lb_check.proofs.TypedCalls.{named_there, found_name, ungrouped_types, call_typed}
 use Rattle.lb_check.proofs.TypedCalls.{left_types}
 use Rattle.lb_flat.specs.Flat.{FlatClock, instants}
-use Rattle.lb_flat.specs.Flattening.{history_of}
 use Rattle.lb_flat.specs.Layouts.{flat_clock, where_signed}
 use Rattle.lb_flat.specs.NumberedLayouts.{layout}
 use Rattle.lb_flat.proofs.Adding.{columns}
@@ -117,7 +116,7 @@ module _ (P : Program) (H : History) (here : Instance) where
       named (λ d. d.name) x (variables here.node) ≡ Some v →
       streams P H here k n e ≡ H.columns here.path x
   variable_streams k n (Variable z) x v e is =
-      let same = some_same z x e in
+      let same = same_Some z x e in
       ap (λ o.
       either_or (option_map (λ d. H.columns here.path d.name) o)
       (constantly (or_fault (name_value P here z)) (presence H here.path k) ∷ []))
@@ -165,7 +164,7 @@ module _ (P : Program) (H : History) (here : Instance) where
           cond b (Some (d.name, y)) (found_in (given_inputs ds es) x) ≡ Some g →
           H.columns p x ≡ H.columns here.path g.1
       by_name y var true name e =
-          let same = some_same (d.name, y) g e in
+          let same = same_Some (d.name, y) g e in
           let value = ap (λ (u : Name × Name). u.1) same in
           ap (H.columns p) (sym ((bytes_eq-Decides d.name x).0 name)) ∙ own
           ∙ variable_streams k n a g.1 v (var ∙ ap (λ z. Some z) value) is
@@ -232,7 +231,7 @@ module _ (P : Program) (H : History) (here : Instance) where
           cond b (Some (d.name, y)) (found_in (given_outputs ds xs) x) ≡ Some g →
           H.columns c.path x ≡ H.columns here.path g.1
       by true name first later e =
-          let value = ap (λ (u : Name × Name). u.1) (some_same (d.name, y) g e) in
+          let value = ap (λ (u : Name × Name). u.1) (same_Some (d.name, y) g e) in
           ap (H.columns c.path) (sym ((bytes_eq-Decides d.name x).0 name)) ∙ sym first
           ∙ ap (H.columns here.path) value
       by false name first later e = later e
@@ -315,13 +314,6 @@ module _ (P : Program) (accepted : static_refusal P ≡ None) (checked : check_r
       results_same P H here c c.node.outputs lefts t.outs types.0
       (output_widths c call.callee_stands c.node.outputs outputs_fit) (own_width here call.stands)
       t.outputs types.1 types.2 results x g found
-
-  -- a variable has the streams of what serves for it in a clock
-  pub serving_streams :
-      (p : Path) (here : Instance) → instance_at P p ≡ Some here → (x : Name) →
-      H.columns p x ≡ H.columns (serving P p x).0 (serving P p x).1
-  serving_streams p here at x =
-      serving_same P accepted checked (λ q y. H.columns q y) of_argument of_result p here at x
 
   -- ## Streams of flat elements
 
@@ -410,10 +402,10 @@ module _ (P : Program) (accepted : static_refusal P ≡ None) (checked : check_r
         index < count → callee_of P here s n index ≡ Some c → IsJoinedAt P H here k n e →
         H.ticks (Child here.path n index) ≡ presence H here.path (site_clock P k e)
     joined_runs here k n index (Call f statics es) s count c is counts lower gives joined =
-        let site = some_same (call_site f statics) s is in
+        let site = same_Some (call_site f statics) s is in
         let one : Some 1 ≡ Some count =
         ap (λ (t : Site). instance_count P here t.count) site ∙ counts in
-        let single = some_same 1 count one in
+        let single = same_Some 1 count one in
         let first : index ≡ 0 = omega (arith, lower, single) in
         let node : node_named P f ≡ Some c.node =
         ap (λ (t : Site). node_named P t.callee) site ∙ callee_node P here s n index c gives in
@@ -423,7 +415,7 @@ module _ (P : Program) (accepted : static_refusal P ≡ None) (checked : check_r
         (sym (ap (λ z. either_or (z >>= λ m. Some (base_clock k m)) k) node))
     joined_runs here k n index (Iterate it (Node_named f statics) m es) s count c is counts lower
         gives joined =
-        let site = some_same _ s is in
+        let site = same_Some _ s is in
         let node : node_named P f ≡ Some c.node =
         ap (λ (t : Site). node_named P t.callee) site ∙ callee_node P here s n index c gives in
         let many : number P here m ≡ count =
@@ -479,15 +471,3 @@ module _ (P : Program) (accepted : static_refusal P ≡ None) (checked : check_r
         ∙ clock_instants here up own clock over
         ∙ ap (instants X F) (sym runs)
         ∙ ap₂ (λ q n. instants X F ((layout P).runs (Child q n index))) above o.number
-
-    -- so the history is that of the flat streams, on all instances and their variables
-    pub agree_history :
-        (here : Instance) → In here (instances P) → AgreeAt H (history_of (layout P) X F) here
-    agree_history here stands = record {
-      ticks = runs_history here.path here (at_path P here stands);
-      columns =
-          Every-from (λ d. H.columns here.path d.name ≡ columns X F ((layout P).places here.path
-          d.name))
-          (variables here.node)
-          (λ d i. sym (same here stands d.name (in_map (λ d. d.name) (variables here.node) d i)));
-    }

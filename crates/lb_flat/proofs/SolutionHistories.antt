@@ -4,6 +4,7 @@ use Rattle.std.proofs.Common.{◌≡◌, ℕ, ◌<◌, ◌≤◌, true, inl, inr
 use Rattle.std.proofs.Common.{length, replicate, refl, sym, ap, ap₂, ◌∙◌, subst, arith}
 use Rattle.std.proofs.Math.ListN.{get_or-eq_default}
 use Rattle.std.proofs.lemmas.List.{length-map}
+use Rattle.std.proofs.lemmas.Bool.{cases_lt}
 use Rattle.lb_syntax.specs.declared.tree.BinaryOperator.TheVariants.{Or, And}
 use Rattle.lb_syntax.specs.declared.tree.Kind.{Kind}
 use Rattle.lb_syntax.specs.declared.tree.Kind.TheVariants.{Bool as Truth}
@@ -26,7 +27,7 @@ use Rattle.lb_flat.specs.Layouts.{Layout, flat_clock}
 use Rattle.lb_flat.proofs.Adding.{columns, IsMet, AllMet, HasTruths}
 use Rattle.lb_flat.proofs.Bodies.{IsSolvedAt}
 use Rattle.lb_flat.proofs.Counting.{IsTruth}
-use Rattle.lb_flat.proofs.Fitting.{OperandKinds, KindFits, IsFitting, compared}
+use Rattle.lb_flat.proofs.Fitting.{OperandKinds, KindFits, IsFitting}
 use Rattle.lb_flat.proofs.Lists.{Every-map, Every-both, Every-second}
 use Rattle.lb_flat.proofs.Observing.{IsInOrder, is_watched}
 use Rattle.lb_flat.proofs.OnClock.{ClockFits}
@@ -59,7 +60,7 @@ module _ (wanted : List Kind) (K : ℕ → FlatClock) (N : ℕ → Kind) (f : Fl
 
   truths_at : (i : ℕ) → N i ≡ Truth → Every IsTruth (column X F i)
   truths_at i e =
-      elim (compared i f.size) [
+      elim (cases_lt i f.size) [
         | inl lt ↦
             fits_truths (instants X F (K i)) (column X F i)
             (subst (λ k. fits k (instants X F (K i)) (column X F i) ≡ true) e (element_fits i lt))

@@ -5,6 +5,7 @@ use Rattle.std.specs.List.{list_all}
 use Rattle.lb_syntax.specs.Lists.{Every, all_some}
 use Rattle.lb_syntax.specs.Tree.{Node_named, Expr, Call, Iterate, Node, Statement, Equation}
 use Rattle.lb_syntax.specs.Tree.{Assertion}
+use Rattle.lb_syntax.proofs.TruthValues.{and_first, and_second}
 use Rattle.lb_static.specs.Instances.{Program, Instance, Child, node_named}
 use Rattle.lb_static.specs.DataTypes.{DataType, truth, variables}
 use Rattle.lb_check.specs.Types.{data_types}
@@ -18,7 +19,6 @@ use Rattle.lb_flat.specs.Layouts.{Layout, flat_clock}
 use Rattle.lb_flat.proofs.Lists.{Every-map, Every-both, Every-append, Every-first, Every-second}
 use Rattle.lb_flat.proofs.Placing.{IsCallPlaced, IsIteratorPlaced, IsPlacedAt, IsPlaced}
 use Rattle.lb_flat.proofs.Bodies.{IsSound, occurrences_of}
-use Rattle.lb_flat.proofs.TypeFacts.{and_first, and_second}
 use Rattle.lb_flat.proofs.Widths.{AreVariablesWide, IsOccurrenceWide}
 use Rattle.lb_flat.proofs.TypedBodies.{Typed, typed_same, body_wide}
 use Rattle.lb_flat.proofs.TypedParts.{IsTypedAt, typed}

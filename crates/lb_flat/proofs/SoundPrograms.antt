@@ -4,9 +4,11 @@ use Rattle.std.proofs.Common.{◌≡◌, ℕ, true, Option, Some, None, IfSome, 
 use Rattle.std.proofs.Common.{map, length, refl, sym, ap, ap₂, ◌∙◌, subst}
 use Rattle.std.specs.Prelude.{nat_le}
 use Rattle.std.proofs.lemmas.List.{length-map}
+use Rattle.std.proofs.lemmas.Option.{same_Some}
 use Rattle.lb_syntax.specs.Lists.{Every, all_some, holds}
 use Rattle.lb_syntax.specs.Refusals.{E4, E7, E8, unless}
 use Rattle.lb_syntax.specs.Tree.{Declaration}
+use Rattle.lb_syntax.proofs.TruthValues.{and_first, and_second}
 use Rattle.lb_static.specs.Instances.{Program, Instance, Path, Root, Observer}
 use Rattle.lb_static.specs.Instances.{instance_at, instances}
 use Rattle.lb_static.specs.DataTypes.{DataType, are_types, element_count, variable_type, variables}
@@ -18,7 +20,7 @@ use Rattle.lb_static.specs.Names.{keeps_names, is_well_founded}
 use Rattle.lb_check.specs.Acceptance.{check_refusal}
 use Rattle.lb_check.specs.Occurrences.{node_occurrences}
 use Rattle.lb_check.specs.Scalars.{Stream}
-use Rattle.lb_check.specs.Solutions.{Inputs, Solves, SolvesAt, Fits, columns_at}
+use Rattle.lb_check.specs.Solutions.{Inputs, columns_at}
 use Rattle.lb_check.specs.Streams.{History}
 use Rattle.lb_check.proofs.AcceptedRules.{all_typed}
 use Rattle.lb_check.proofs.ApartLists.{Every-at, Every-from}
@@ -35,7 +37,7 @@ use Rattle.lb_flat.proofs.OutputWidths.{each, width_of}
 use Rattle.lb_flat.proofs.Placing.{AreAsWide}
 use Rattle.lb_flat.proofs.RootWidths.{inputs_count}
 use Rattle.lb_flat.proofs.SoundInstances.{RunsAt, instance_sound}
-use Rattle.lb_flat.proofs.TypeFacts.{and_first, and_second, are_counts, some_same}
+use Rattle.lb_flat.proofs.TypeFacts.{are_counts}
 use Rattle.lb_flat.proofs.Whole.{IsProgramSound}
 use Rattle.lb_flat.proofs.WideInstances.{calls_wide}
 use Rattle.lb_flat.proofs.Widths.{AreVariablesWide, IsOccurrenceWide}
@@ -65,7 +67,7 @@ module _ (P : Program) where
       (c : Instance) (ds : List Declaration) (ts : List DataType) →
       all_some (map (variable_type P c) ds) ≡ Some ts →
       map (width P c) ds ≡ map element_count ts
-  widths_are c [] ts e = ap (map element_count) (some_same [] ts e)
+  widths_are c [] ts e = ap (map element_count) (same_Some [] ts e)
   widths_are c (d ∷ ds) ts e =
       let h = each (variable_type P c d) (map (variable_type P c) ds) ts e in
       ap₂ (λ n ns. n ∷ ns) (width_of P c d h.first h.is) (widths_are c ds h.rest h.others)
@@ -182,16 +184,6 @@ module _ (P : Program) (elaborated : static_refusal P ≡ None)
       observer = observer_wide P elaborated H wide;
     }
 
-  -- the variables of a solution are as wide as their types
-  pub solution_wide :
-      (X : Inputs) (H : History) → Solves P X H →
-      Every (λ here. AreVariablesWide P H here here) (instances P)
-  solution_wide X H h =
-      Every-map (SolvesAt P H) (λ here. AreVariablesWide P H here here)
-      (λ here s. Every-map (Fits P H here)
-      (λ d. length (H.columns here.path d.name) ≡ width P here d) (λ d f. f.width)
-      (variables here.node) s.variables) (instances P) h.instances
-
   module _ (Y : Layout)
       (placed : Every (λ here. Every (λ d. length (Y.places here.path d.name) ≡ width P here d)
       (variables here.node)) (instances P))
@@ -227,8 +219,3 @@ module _ (P : Program) (elaborated : static_refusal P ≡ None)
     program_sound X F =
         sound_where_wide (history_of Y X F) (history_wide X F) Y (runs (history_of Y X F))
         inputs_placed
-
-    -- and in each that solves it
-    pub solution_sound : (X : Inputs) (H : History) → Solves P X H → IsProgramSound Y P H
-    solution_sound X H h =
-        sound_where_wide H (solution_wide X H h) Y (runs H) inputs_placed

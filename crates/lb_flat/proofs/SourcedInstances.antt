@@ -11,6 +11,7 @@ use Rattle.lb_syntax.specs.Tree.{Name, Static, Node_named, Symbol, Expr, Literal
 use Rattle.lb_syntax.specs.Tree.{Group, Unary, Binary, If, Arrow, Fby, Pre, Current, When}
 use Rattle.lb_syntax.specs.Tree.{Replicate, Index, Slice, Join, Array, AtMostOne, Nor, Call}
 use Rattle.lb_syntax.specs.Tree.{Iterate, Exprs}
+use Rattle.lb_syntax.proofs.TruthValues.{and_second}
 use Rattle.lb_static.specs.DataTypes.{variables, width}
 use Rattle.lb_static.specs.Instances.{Program, Instance, Path, Site, call_site, callee_of}
 use Rattle.lb_static.specs.Instances.{node_sites, numbered_sites, children, instances}
@@ -29,7 +30,6 @@ use Rattle.lb_check.proofs.DeterminedClocks.{OfCalled}
 use Rattle.lb_check.proofs.Every.{Every-map, Every-both, Every-first}
 use Rattle.lb_check.proofs.OccurrenceSites.{own_site, node_calls}
 use Rattle.lb_check.proofs.SameInstances.{IsEntered, all_entered, all_children, all_called}
-use Rattle.lb_check.proofs.TruthValues.{and_second}
 use Rattle.lb_flat.specs.Flat.{column}
 use Rattle.lb_flat.specs.Flattening.{history_of}
 use Rattle.lb_flat.specs.Layouts.{Layout, flat_clock}

@@ -24,7 +24,7 @@ first_row F = map first_cell F
 abbrev pub after_first : List Stream → List Stream
 after_first F = map tail_of F
 
-one_off :
+pub one_off :
     (n : ℕ) (xs : Stream) → length xs ≡ suc n → xs ≡ first_cell xs ∷ tail_of xs
 one_off n [] e = absurd (omega arith)
 one_off n (x ∷ xs) e = refl

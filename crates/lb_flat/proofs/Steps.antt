@@ -1,5 +1,5 @@
 -- What an iteration of the evaluator's loops keeps.
-use Rattle.std.proofs.Common.{◌≡◌, ◌<◌, ◌≤◌, ℕ, zero, suc, ◌+◌, ◌-◌, Bool, true, false, ◌&&◌, ◌||◌}
+use Rattle.std.proofs.Common.{◌≡◌, ◌<◌, ◌≤◌, ℕ, zero, suc, ◌+◌, ◌-◌, true, false, ◌&&◌, ◌||◌}
 use Rattle.std.proofs.Common.{Option, Some, None, List, [], ◌∷◌, length, map, drop, set, get_or}
 use Rattle.std.proofs.Common.{refl, sym, ap, ◌∙◌, subst, arith, All, add-one, length-set}
 use Rattle.std.proofs.Math.Seq.{drop-cons}
@@ -8,6 +8,7 @@ use Rattle.std.proofs.lemmas.Option.{slice_get-get_or}
 use Rattle.std.proofs.Math.ListN.{drop_of_length-le}
 use Rattle.std.proofs.lemmas.List.{get_or-map, length-map}
 use Rattle.std.proofs.lemmas.List.Elements.{All-set}
+use Rattle.std.proofs.Math.Bool.{and-false, and-true}
 use Rattle.lb_syntax.specs.Lists.{Every}
 use Rattle.lb_check.specs.Scalars as scalars
 use Rattle.lb_check.specs.Verdicts.{is_bad}
@@ -29,14 +30,6 @@ use Rattle.lb_flat.specs.Values.{cell_of, clock_within, clock_from, clock_of, op
 use Rattle.lb_flat.specs.Values.{equation_of}
 
 -- ## Clocks
-
-and_false : (b : Bool) → (b && false) ≡ false
-and_false true = refl
-and_false false = refl
-
-and_true : (b : Bool) → (b && true) ≡ b
-and_true true = refl
-and_true false = refl
 
 -- one clock further up
 pub is_now_step :
@@ -93,7 +86,7 @@ module _ (row : Row) (clocks : List Clock) (clock rest : Option ClockId) (depth 
     ends_hidden hidden =
         let n = length clocks - (depth + 1) in
         let b = is_now row (clock_within n clocks (get_or clocks id.0 d).parent) in
-        sym (ap (λ c. b && c) hidden ∙ and_false b) ∙ above n (omega arith)
+        sym (ap (λ c. b && c) hidden ∙ and-false b) ∙ above n (omega arith)
 
     pub parent_in_table :
         (size : ℕ) → AreClocks size clocks → IsClock clocks (get_or clocks id.0 d).parent
@@ -106,7 +99,7 @@ module _ (row : Row) (clocks : List Clock) (clock rest : Option ClockId) (depth 
         ≡ is_now row (clock_of clocks clock)
     goes_on shown n count =
         let b = is_now row (clock_within n clocks (get_or clocks id.0 d).parent) in
-        sym (ap (λ c. b && c) shown ∙ and_true b) ∙ above n count
+        sym (ap (λ c. b && c) shown ∙ and-true b) ∙ above n count
 
 -- ## Computing
 

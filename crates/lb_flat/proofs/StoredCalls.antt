@@ -4,15 +4,15 @@ use Rattle.std.proofs.Common.{◌++◌, take, get_or, length, Option, Some, None
 use Rattle.std.proofs.Common.{sym, ◌∙◌, arith}
 use Rattle.std.specs.Prelude.{◌&&◌, nat_eq, is_some, if◌then◌else◌}
 use Rattle.std.specs.HashMap.{HashMap, get}
-use Rattle.std.proofs.lemmas.Bool.Decides.{nat_tests}
 use Rattle.std.proofs.lemmas.List.{take_more}
+use Rattle.std.proofs.lemmas.Bool.{eqb-true}
 use Rattle.lb_syntax.specs.Lists.{or_else}
+use Rattle.lb_syntax.proofs.TruthValues.{and_first, and_second}
 use Rattle.lb_static.specs.declared.resolved.CallId.{CallId}
 use Rattle.lb_static.specs.declared.table.Instance as row
 use Rattle.lb_static.specs.declared.table.InstanceId.{InstanceId}
 use Rattle.lb_static.specs.declared.table.Origin.{Origin}
 use Rattle.lb_static.specs.declared.table.Origin.TheVariants as origin
-use Rattle.lb_check.proofs.TruthValues.{and_first, and_second}
 use Rattle.lb_flat.specs.Rows.{same_call, is_called, place_where, called_row}
 
 -- ## The first place among one item more
@@ -63,15 +63,12 @@ place_next test xs k x lt is =
 
 -- ## Calls
 
-equal : (n m : ℕ) → nat_eq n m ≡ true → n ≡ m
-equal n m e = grind (arith, nat_tests)
-
 same_key : (x y : ℕ × ℕ × ℕ) → same_call x y ≡ true → x ≡ y
 same_key (a, b, c) (d, e, f) h =
     let both = and_first (nat_eq a d && nat_eq b e) (nat_eq c f) h in
-    let p = equal a d (and_first (nat_eq a d) (nat_eq b e) both) in
-    let q = equal b e (and_second (nat_eq a d) (nat_eq b e) both) in
-    let s = equal c f (and_second (nat_eq a d && nat_eq b e) (nat_eq c f) h) in
+    let p = eqb-true a d (and_first (nat_eq a d) (nat_eq b e) both) in
+    let q = eqb-true b e (and_second (nat_eq a d) (nat_eq b e) both) in
+    let s = eqb-true c f (and_second (nat_eq a d && nat_eq b e) (nat_eq c f) h) in
     rw p (rw q (rw s refl))
 
 no_more : (o : Option ℕ) → o ≡ or_else o None

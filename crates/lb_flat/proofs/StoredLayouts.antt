@@ -6,12 +6,11 @@ use Rattle.std.proofs.Common.{length, Option, Some, None, option_map, refl, ap, 
 use Rattle.std.proofs.Common.{subst, arith}
 use Rattle.std.specs.Prelude.{ℤ, slice_get, sum_by, nat_lt, if◌then◌else◌}
 use Rattle.std.specs.List.{range_with_len}
-use Rattle.std.proofs.lemmas.Bool.Decides.{nat_tests}
 use Rattle.std.proofs.lemmas.Grind.{flat_map-append}
 use Rattle.std.proofs.lemmas.List.{length-append, append_assoc, append-nil, map-append, take_more}
 use Rattle.std.proofs.lemmas.List.{take_all}
-use Rattle.std.proofs.lemmas.List.Sums.{sum_by-append, sum_by-cons, sum_by_more, sum_by-take-le}
-use Rattle.std.proofs.lemmas.Option.{get_or_from_slice_get}
+use Rattle.std.proofs.lemmas.List.Sums.{sum_by-cons, sum_by_more, sum_by-take-le}
+use Rattle.std.proofs.lemmas.Bool.{ltb-true, ltb-false, lt-ltb, le-ltb}
 use Rattle.lb_syntax.specs.Lists.{all_some, either_or, listed}
 use Rattle.lb_static.specs.DataTypes.{element_count, product}
 use Rattle.lb_static.specs.Specialized.{times_sizes}
@@ -19,9 +18,12 @@ use Rattle.lb_static.specs.StaticValues.{natural}
 use Rattle.lb_static.specs.declared.resolved.Variable.{Variable as Declared}
 use Rattle.lb_static.proofs.Widths.{product_is, product_reverse, sizes_product, product_naturals}
 use Rattle.lb_static.proofs.Widths.{times_are}
-use Rattle.lb_check.proofs.FittedTypes.{all_reversed}
+use Rattle.lb_static.proofs.Options.{all_some-reverse}
 use Rattle.lb_flat.specs.Rows.{sum_of, declared_width, sums_after, AreAdded, numbers_between}
 use Rattle.lb_flat.specs.Rows.{numbers_at}
+use Rattle.lb_flat.proofs.CountedRows.{piece_long}
+use Rattle.lb_flat.proofs.NumberedRows.{sum_cons, sum_append}
+use Rattle.lb_flat.proofs.FramedRows.{past_end}
 
 -- ## The width of a variable
 
@@ -40,7 +42,7 @@ width_product statics v =
     let vs = take v.sizes (drop v.first_size.0 statics) in
     let os = map natural vs in
     typed_count v (all_some os)
-    ∙ (ap (λ o. either_or (option_map product o) 0) (sym (all_reversed os))
+    ∙ (ap (λ o. either_or (option_map product o) 0) (sym (all_some-reverse os))
     ∙ (product_is (reverse os) ∙ (product_reverse os ∙ product_naturals vs)))
 
 -- the sizes give the width, as far as 65,537
@@ -55,12 +57,6 @@ capped statics v =
     ∙ (ap (λ n. min n 65537) once ∙ ap (λ n. min n 65537) (sym (width_product statics v)))
 
 -- ## Sums
-
-sum_cons : (n : ℕ) (ns : List ℕ) → sum_of (n ∷ ns) ≡ n + sum_of ns
-sum_cons n ns = sum_by-cons (λ k. k) n ns
-
-sum_append : (ns ms : List ℕ) → sum_of (ns ++ ms) ≡ sum_of ns + sum_of ms
-sum_append ns ms = sum_by-append (λ k. k) ns ms
 
 sum_one : (n : ℕ) → sum_of (n ∷ []) ≡ n
 sum_one n = omega (arith, sum_cons n [])
@@ -88,11 +84,6 @@ sums_at n (w ∷ ws) (suc k) le =
     let e : (n + w) + sum_of (take k ws) ≡ n + sum_of (w ∷ take k ws) =
     let more = sum_cons w (take k ws) in omega (arith, more) in
     sums_at (n + w) ws k (omega arith) ∙ e
-
-past_end : (ns : List ℕ) (k : ℕ) → length ns ≤ k → get_or ns k 0 ≡ 0
-past_end [] k le = refl
-past_end (n ∷ ns) zero le = absurd (omega arith)
-past_end (n ∷ ns) (suc k) le = past_end ns k (omega arith)
 
 sums_past :
     (n : ℕ) (ws : List ℕ) (k : ℕ) → length ws < k → get_or (n ∷ sums_after n ws) k 0 ≡ 0
@@ -123,10 +114,6 @@ lengths_sum f [] = refl
 lengths_sum f (x ∷ xs) =
     sum_cons (length (f x)) (map (λ x. length (f x)) xs)
     ∙ (ap (λ n. length (f x) + n) (lengths_sum f xs) ∙ sym (length-append (f x) (flat_map f xs)))
-
-next_item : {A : Type 0} (xs : List A) (i : ℕ) (x : A) → i < length xs → x ≡ get_or xs i x →
-    take (i + 1) xs ≡ take i xs ++ x ∷ []
-next_item xs i x lt is = take_more xs i x lt ∙ ap (λ y. take i xs ++ y ∷ []) (sym is)
 
 -- ## One variable more
 
@@ -249,18 +236,6 @@ module _ {A : Type 0} (f : A → List ℕ) where
 
 -- ## What is read
 
-below_count : (i n : ℕ) → nat_lt i n ≡ true → i < n
-below_count i n e = grind (arith, nat_tests)
-
-at_least : (i n : ℕ) → nat_lt i n ≡ false → n ≤ i
-at_least i n e = grind (arith, nat_tests)
-
-count_below : (i n : ℕ) → i < n → nat_lt i n ≡ true
-count_below i n e = grind (arith, nat_tests)
-
-count_past : (i n : ℕ) → n ≤ i → nat_lt i n ≡ false
-count_past i n e = grind (arith, nat_tests)
-
 -- the numbers between two places, where a variable is among so many
 abbrev chosen_numbers : List ℕ → ℕ → ℕ → ℕ → List ℕ
 chosen_numbers elements x first next =
@@ -275,7 +250,7 @@ module _ (variables elements : List ℕ) (j x first next : ℕ) where
   nothing le e g =
       ap₂ (chosen_numbers elements x) e g
       ∙ ap (λ b. if b then numbers_between (get_or elements (first + x) 0)
-      (get_or elements (first + x + 1) 0) else []) (count_past x (next - first) (omega (arith, le)))
+      (get_or elements (first + x + 1) 0) else []) (le-ltb x (next - first) (omega (arith, le)))
 
   something :
       first + x < next → get_or variables j 0 ≡ first → get_or variables (j + 1) 0 ≡ next →
@@ -285,7 +260,7 @@ module _ (variables elements : List ℕ) (j x first next : ℕ) where
       ap₂ (chosen_numbers elements x) e g
       ∙ ap (λ b. if b then numbers_between (get_or elements (first + x) 0)
       (get_or elements (first + x + 1) 0) else [])
-      (count_below x (next - first) (omega (arith, lt)))
+      (lt-ltb x (next - first) (omega (arith, lt)))
 
 module _ {A : Type 0} (f : A → List ℕ) where
   take_first : (xs ys : List ℕ) (n : ℕ) → n ≤ length xs → take n (xs ++ ys) ≡ take n xs
@@ -359,17 +334,6 @@ module _ {A : Type 0} (f : A → List ℕ) where
       let few = length_taken (length before + length (f x)) (flat_map f xs) in
       omega (arith, front, same, few)
 
-  next_pieces :
-      (xs : List A) (j : ℕ) (x : A) → slice_get xs j ≡ Some x →
-      length (flat_map f (take (j + 1) xs)) ≡ length (flat_map f (take j xs)) + length (f x)
-  next_pieces xs j x e =
-      let lt = within_rows xs j x e in
-      let at : x ≡ get_or xs j x = sym (get_or_from_slice_get xs j x x e) in
-      ap (λ l. length (flat_map f l)) (next_item xs j x lt at)
-      ∙ (ap length (flat_map-append f (take j xs) (x ∷ [])
-      ∙ ap (λ l. flat_map f (take j xs) ++ l) (append-nil (f x)))
-      ∙ length-append (flat_map f (take j xs)) (f x))
-
   module _ (xs : List A) (variables elements : List ℕ) (count : ℕ)
       (h : IsStored f xs variables elements count) where
     -- before each row stand so many variables
@@ -417,8 +381,8 @@ module _ {A : Type 0} (f : A → List ℕ) where
         by false is =
             let first = length (flat_map f (take j xs)) in
             let below = within_rows xs j row e in
-            let end = next_pieces xs j row e in
-            let le = at_least x (length (f row)) is in
+            let end = piece_long f xs j row e in
+            let le = ltb-false x (length (f row)) is in
             let no : get_or (f row) x 0 ≡ 0 = past_end (f row) x le in
             nothing variables elements j x first (first + length (f row)) (omega (arith, le))
             (starts j (omega (arith, below))) (starts (j + 1) (omega (arith, below)) ∙ end)
@@ -428,8 +392,8 @@ module _ {A : Type 0} (f : A → List ℕ) where
             let first = length (flat_map f (take j xs)) in
             let sum = sum_of (flat_map f (take j xs)) in
             let below = within_rows xs j row e in
-            let end = next_pieces xs j row e in
-            let lt = below_count x (length (f row)) is in
+            let end = piece_long f xs j row e in
+            let lt = ltb-true x (length (f row)) is in
             let from = element_start j row e x (omega (arith, lt)) in
             let next : first + x + 1 ≡ first + (x + 1) = omega arith in
             let to = ap (λ n. get_or elements n 0) next

@@ -1,15 +1,14 @@
 -- Rows that lie one after the other: what stands at a place, and all traces after one more row.
 use Rattle.std.proofs.Common.{ℕ, zero, suc, ◌≡◌, ◌+◌, ◌-◌, ◌*◌, ◌<◌, ◌≤◌, List, [], ◌∷◌, ◌++◌}
-use Rattle.std.proofs.Common.{length, map, get_or, set, take, drop, refl, sym, ap, ◌∙◌, ℤ, pos}
-use Rattle.std.proofs.Common.{arith, length-append, length-drop, length-set, get_or-set_same}
+use Rattle.std.proofs.Common.{length, map, get_or, set, take, drop, refl, sym, ap, ◌∙◌, ℤ, arith}
+use Rattle.std.proofs.Common.{length-append, length-drop, length-set, get_or-set_same}
 use Rattle.std.proofs.lemmas.List.{get_or_append_left, get_or_push, length_push, drop_at, take_all}
-use Rattle.std.proofs.lemmas.List.{take-append-le, drop-append-le, get_or-take, get_or-drop}
-use Rattle.std.proofs.lemmas.List.{same_lists}
+use Rattle.std.proofs.lemmas.List.{take-append-le, drop-append-le, same_lists}
 use Rattle.std.proofs.lemmas.List.FromFn.{length-map-range_with_len, get_or-map-range_with_len}
 use Rattle.std.proofs.lemmas.List.FromFn.{map-range_with_len_more, sum_by-map-range_with_len_more}
 use Rattle.std.proofs.Math.Nat.{mul-le-mul_right}
 use Rattle.std.specs.List.{range_with_len}
-use Rattle.lb_flat.specs.Traces.{Row, Trace, cell_at, trace_at, with_row, with_trace, instants_of}
+use Rattle.lb_flat.specs.Traces.{Row, Trace, trace_at, with_row, with_trace, instants_of}
 use Rattle.lb_flat.specs.Ledger.{IsLedger, place, last_place}
 use Rattle.lb_flat.specs.Stored.{row_of, rows_between, stored_traces, AreRows}
 use Rattle.lb_flat.proofs.Ledgers.{IsLedger-push, last_place-push, place-push_before, place-le-last}
@@ -17,7 +16,7 @@ use Rattle.lb_flat.proofs.Ledgers.{map-range-agree, place-set_before, last_place
 use Rattle.lb_flat.proofs.Recordings.{with_row-push}
 
 -- a row from a place on ends within a list that holds the rows after it
-row_within : (width r last : ℕ) → r < last → r * width + width ≤ last * width
+pub row_within : (width r last : ℕ) → r < last → r * width + width ≤ last * width
 row_within width r last below = let h : (r + 1) * width ≤ last * width =
     mul-le-mul_right width (omega arith) in omega (arith, h)
 
@@ -90,32 +89,6 @@ length-stored width names cells ends =
       get_or names k [],
       rows_between width cells (place ends k) (place ends (k + 1)),
     )) 0 (length names)
-
--- the cell at a place
-pub cell_at-stored : (width : ℕ) (names : List (List ℕ)) (cells : List ℤ) (ends : List ℕ)
-    (k t column : ℕ) → k < length names
-    → t < place ends (k + 1) - place ends k → column < width
-    → cell_at (stored_traces width names cells ends) k t column
-    ≡ get_or cells ((place ends k + t) * width + column) (pos 0)
-cell_at-stored width names cells ends k t column below inside within =
-    ap (λ u. get_or (get_or u.1 t []) column (pos 0))
-    (trace_at-stored width names cells ends k below)
-    ∙ ap (λ row. get_or row column (pos 0)) (get_or-map-range_with_len (row_of width cells)
-    (place ends k) (place ends (k + 1) - place ends k) t (place ends k + t) [] inside refl)
-    ∙ get_or-take width (drop ((place ends k + t) * width) cells) column (pos 0) within
-    ∙ get_or-drop ((place ends k + t) * width) cells column (pos 0)
-
--- where that cell lies
-pub cell_within : (width : ℕ) (names : List (List ℕ)) (cells : List ℤ) (ends : List ℕ)
-    (k t column : ℕ) → AreRows width names cells ends
-    → k < length names → t < place ends (k + 1) - place ends k → column < width →
-    (place ends k + t) * width + column < length cells
-cell_within width names cells ends k t column rows below inside within =
-    let most : place ends (k + 1) ≤ last_place ends =
-    place-le-last ends rows.ledger (k + 1) (omega (arith, rows.paired)) in
-    let fits : (place ends k + t) * width + width ≤ last_place ends * width =
-    row_within width (place ends k + t) (last_place ends) (omega arith) in
-    omega (arith, rows.all, fits)
 
 -- how many instants the first traces have
 instants-front : (width : ℕ) (names : List (List ℕ)) (cells : List ℤ) (ends : List ℕ) →

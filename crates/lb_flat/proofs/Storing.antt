@@ -1,20 +1,20 @@
 -- What a set holds, after one more trace and after one more row.
 use Rattle.std.proofs.Common.{ℕ, ◌≡◌, ◌+◌, ◌-◌, ◌*◌, ◌<◌, ◌≤◌, List, [], ◌∷◌, ◌++◌, length, get_or}
-use Rattle.std.proofs.Common.{set, sym, ap, ◌∙◌, subst, ℤ, pos, arith}
+use Rattle.std.proofs.Common.{set, sym, ap, ◌∙◌, subst, ℤ, arith}
 use Rattle.std.proofs.lemmas.List.{get_or_read}
 use Rattle.std.proofs.lemmas.Slice.Zip.{AllZip-long}
 use Rattle.std.proofs.Math.Nat.{mul-le-mul_left}
 use Rattle.std.specs.List.{Contains}
 use Rattle.lb_static.specs.Signature.{Elements}
 use Rattle.lb_flat.specs.Traces.{Row, Trace, Traces, Recording, IsRecording, IsTrace, IsTraceName}
-use Rattle.lb_flat.specs.Traces.{IsRow, IsCell, HasRoom, trace_names, trace_at, cell_at}
-use Rattle.lb_flat.specs.Traces.{instants_of, cells_of_instant, last_rows, with_row, with_trace}
+use Rattle.lb_flat.specs.Traces.{IsRow, IsCell, HasRoom, trace_names, trace_at, instants_of}
+use Rattle.lb_flat.specs.Traces.{cells_of_instant, last_rows, with_row, with_trace}
 use Rattle.lb_flat.specs.Ledger.{place, last_place}
 use Rattle.lb_flat.specs.Stored.{stored, stored_traces, IsStored}
 use Rattle.lb_flat.proofs.Recordings.{IsRecording-trace, IsRecording-row}
 use Rattle.lb_flat.proofs.StoredRows.{stored-trace, stored-row, AreRows-trace, AreRows-row}
 use Rattle.lb_flat.proofs.StoredRows.{instants-stored, length-stored, trace_at-stored}
-use Rattle.lb_flat.proofs.StoredRows.{length-rows_between, cell_at-stored, cell_within}
+use Rattle.lb_flat.proofs.StoredRows.{length-rows_between}
 
 -- a row that follows a signature is as long as it
 pub length-row : (elements : Elements) (row : Row) → IsRow elements row →
@@ -194,17 +194,6 @@ instants_at old elements names cells ends k view below =
     ∙ ap (λ (t : Trace). length t.1) (trace_at-stored (length elements) names cells ends k below)
     ∙ length-rows_between (length elements) cells (place ends k) (place ends (k + 1))
 
--- a cell of a trace
-pub cell_of : (old : Recording) (elements : Elements) (names : List (List ℕ)) (cells : List ℤ)
-    (ends : List ℕ) (k t column : ℕ)
-    → stored elements names cells ends ≡ old → k < length names →
-    t < place ends (k + 1) - place ends k → column < length elements
-    → cell_at old.traces k t column ≡ get_or cells ((place ends k + t) * length elements + column)
-    (pos 0)
-cell_of old elements names cells ends k t column view below inside within =
-    ap (λ (r : Recording). cell_at r.traces k t column) (sym view)
-    ∙ cell_at-stored (length elements) names cells ends k t column below inside within
-
 -- what the places around a trace say: they part at least one row and at most 1,000,000
 pub record PartsTrace (instants from to : ℕ) : Type 0 where
   pub rises : from < to
@@ -230,38 +219,6 @@ parts old elements names cells ends k from to view is below read_from read_to =
     (subst IsRecording view is.lawful).each k ([], []) below in
     let limit : length (trace_at old.traces k).1 ≤ 1000000 = lawful.instants in
     record { rises = omega arith; count = omega arith; limit = omega arith }
-
--- where a cell lies, and what it is
-pub record FindsCell (cells : List ℤ) (at : ℕ) (cell : ℤ) : Type 0 where
-  pub within : at < length cells
-  pub value : get_or cells at (pos 0) ≡ cell
-
-pub finds : (old : Recording) (elements : Elements) (names : List (List ℕ)) (cells : List ℤ)
-    (ends : List ℕ) (k t column from width : ℕ)
-    → stored elements names cells ends ≡ old → IsStored elements names cells ends →
-    k < length old.traces
-    → t < length (trace_at old.traces k).1 → column < length old.signature →
-    from ≡ get_or ends k from → width ≡ length elements
-    → FindsCell cells ((from + t) * width + column) (cell_at old.traces k t column)
-finds old elements names cells ends k t column from width view is below inside within read_from
-    wide =
-    let count : length old.traces ≡ length names = count_of old elements names cells ends view in
-    let paired : length ends ≡ length names + 1 = is.rows.paired in
-    let named : k < length names = omega arith in
-    let from_is : from ≡ place ends k = get_or_read ends k from (omega arith) read_from 0 in
-    let long : length (trace_at old.traces k).1 ≡ place ends (k + 1) - place ends k =
-    instants_at old elements names cells ends k view named in
-    let same_width : length old.signature ≡ length elements =
-    ap (λ (r : Recording). length r.signature) (sym view) in
-    let at_is : (from + t) * width + column ≡ (place ends k + t) * length elements + column =
-    ap (λ a. (a + t) * width + column) from_is ∙ ap (λ w. (place ends k + t) * w + column) wide in
-    record {
-      within = rw at_is (cell_within (length elements) names cells ends k t column is.rows named
-          (omega arith) (omega arith));
-      value = ap (λ a. get_or cells a (pos 0)) at_is
-          ∙ sym (cell_of old elements names cells ends k t column view named (omega arith)
-          (omega arith));
-    }
 
 -- a lawful recording has no more instants than cells
 pub few_instants : (r : Recording) → IsRecording r → instants_of r.traces ≤ 67108864

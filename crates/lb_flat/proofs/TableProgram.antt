@@ -4,7 +4,7 @@ use Rattle.std.proofs.Common.{◌≡◌, ◌≤◌, ℕ, suc, ◌+◌, true, Som
 use Rattle.std.proofs.Common.{option_map, refl, ap, sym, ◌∙◌, subst, arith}
 use Rattle.std.specs.Prelude.{slice_get, nat_le, pos}
 use Rattle.std.proofs.lemmas.Bool.Decides.{nat_tests}
-use Rattle.std.proofs.lemmas.Option.{slice_get-map, slice_get_within}
+use Rattle.std.proofs.lemmas.Option.{slice_get-map, slice_get_within, same_Some}
 use Rattle.lb_syntax.specs.Lists.{◌>>=◌, Every, either_or, listed}
 use Rattle.lb_syntax.specs.Tree as tree
 use Rattle.lb_syntax.specs.Tree.{Name, Static, Named, Expr, Declaration, Node}
@@ -31,7 +31,6 @@ use Rattle.lb_check.specs.OwnClocks.{name_in}
 use Rattle.lb_check.proofs.ApartLists.{Every-at}
 use Rattle.lb_check.proofs.Every.{Every-map}
 use Rattle.lb_check.proofs.InstanceNames.{variables_distinct}
-use Rattle.lb_check.proofs.OperandTypes.{some_same}
 use Rattle.lb_flat.specs.ClockUses.{clocks_named, is_among}
 use Rattle.lb_flat.specs.Emit.{State, emit_body, emit_instances, expanded}
 use Rattle.lb_flat.specs.EmitRows.{bodies, body_in, with_body}
@@ -190,7 +189,7 @@ module _ (P : Program) (accepted : static_refusal P ≡ None) (checked : check_r
         rows_from 0 t.instances.items (instances P) (rows_many P r t table)
         (λ k i here e f.
         let shown = row_shown P r t table k i e in
-        let same = some_same shown.0 here (sym shown.1.instance_is ∙ f) in
+        let same = same_Some shown.0 here (sym shown.1.instance_is ∙ f) in
         let number : k ≡ 0 + k = omega arith in
         subst (λ m. IsRow P r t table m i here) number
         (subst (IsRow P r t table k i) same shown.1)) s

@@ -6,6 +6,7 @@ use Rattle.std.specs.Prelude.{◌-◌, slice_get, sum_by, nat_le, nat_lt}
 use Rattle.std.proofs.lemmas.Bool.Decides.{nat_tests}
 use Rattle.std.proofs.lemmas.List.{length-append, take_all}
 use Rattle.std.proofs.lemmas.List.Sums.{sum_by-cons, sum_by_more}
+use Rattle.std.proofs.lemmas.Option.{same_Some}
 use Rattle.lb_static.specs.DataTypes.{variables, width}
 use Rattle.lb_static.specs.Instances.{Program, Instance, instances}
 use Rattle.lb_static.specs.InstanceTable.{IsTable}
@@ -17,7 +18,6 @@ use Rattle.lb_static.specs.declared.table.Table.{Table}
 use Rattle.lb_check.specs.Elements.{instance_elements, program_elements}
 use Rattle.lb_check.specs.TypeRules.{expression_size, size, is_small}
 use Rattle.lb_check.proofs.FittedCalls.{specialized_instance}
-use Rattle.lb_check.proofs.OperandTypes.{some_same}
 use Rattle.lb_flat.specs.Rows.{sum_of, widths_in, element_total}
 use Rattle.lb_flat.specs.TableSizes.{term_total, HasTermSizes}
 use Rattle.lb_flat.proofs.NumberedRows.{elements_wide, first_is}
@@ -163,7 +163,7 @@ module _ (P : Program) where
             sizes i.specialization.0 ≡ min (parts_size here) 65537
         one j i here e f =
             let shown = row_shown P r t table j i e in
-            let same = some_same shown.0 here (sym shown.1.instance_is ∙ f) in
+            let same = same_Some shown.0 here (sym shown.1.instance_is ∙ f) in
             let is = subst (IsRow P r t table j i) same shown.1 in
             has i.specialization.0 is.specialization is.specialized here.path here
             (specialized_instance P r t reached table is.specialization is.node here.path

@@ -5,6 +5,7 @@ use Rattle.std.proofs.Common.{sym, ap, subst, ◌∙◌, arith, inl, inr, ⊎_el
 use Rattle.std.proofs.lemmas.Bool.{cases_eq}
 use Rattle.std.proofs.lemmas.List.{get_or-set_same, get_or-set_other, take_more}
 use Rattle.lb_syntax.specs.Lists.{AreApart, In}
+use Rattle.lb_check.proofs.ApartLists.{in_first}
 use Rattle.lb_flat.specs.declared.equation.Clock.{Clock}
 use Rattle.lb_flat.specs.declared.equation.Equation.{Equation}
 use Rattle.lb_flat.specs.declared.program.FlatProgram.{FlatProgram}
@@ -15,8 +16,7 @@ use Rattle.lb_flat.specs.Ordering.{AreOrdered, AreScheduled, IsTable, IsTableOf}
 use Rattle.lb_flat.specs.Programs.{flat_equations, program_of, IsInRange}
 use Rattle.lb_flat.specs.Values.{equation_of}
 use Rattle.lb_flat.specs.Within.{IsWithin, AreClocks}
-use Rattle.lb_flat.proofs.Ordering.{In-left, In-last, In-cases, In-get_or, In-map, In-All, All-In}
-use Rattle.lb_flat.proofs.Ordering.{from_map}
+use Rattle.lb_flat.proofs.Ordering.{In-last, In-cases, In-get_or, In-map, In-All, All-In, from_map}
 
 -- ## Equations of different elements
 
@@ -100,7 +100,7 @@ module _ (size : ℕ) (qs : List Equation) (table : List (Option Equation)) (q :
         (λ (same : e ≡ q.element.0).
         subst (λ x. In x (qs ++ q ∷ [])) (at e p same h) (In-last q qs))
         (λ (other : e ≡ q.element.0 → ⊥).
-        In-left p qs (q ∷ []) (t.listed e p (sym (elsewhere e other) ∙ h)))
+        in_first p qs (q ∷ []) (t.listed e p (sym (elsewhere e other) ∙ h)))
         (cases_eq e q.element.0);
     own = λ e p h.
         ⊎_elim

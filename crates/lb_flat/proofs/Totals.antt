@@ -5,11 +5,12 @@ use Rattle.std.proofs.Common.{cond, nat_eq, List, [], ◌∷◌, ◌++◌, map, 
 use Rattle.std.proofs.Common.{refl, sym, ap, ap₂, ◌∙◌, subst, arith}
 use Rattle.std.specs.List.{range_with_len}
 use Rattle.std.specs.Str.{bytes_eq}
-use Rattle.std.proofs.lemmas.Bool.{cases_lt}
-use Rattle.std.proofs.lemmas.Bool.Decides.{nat_tests}
+use Rattle.std.proofs.lemmas.Bool.{cases_lt, eqb-true, ne_eqb}
 use Rattle.std.proofs.lemmas.Slice.Eq.{bytes_eq-Decides}
+use Rattle.std.proofs.Math.Numerals.{one-add}
 use Rattle.lb_syntax.specs.Lists.{AreApart, Every, In}
 use Rattle.lb_syntax.specs.Tree.{Name}
+use Rattle.lb_syntax.proofs.SameNames.{same_number}
 
 -- ## Sums
 
@@ -52,29 +53,13 @@ module _ {A B : Type 0} where
 abbrev pub times : ℕ → List ℕ → ℕ
 times i is = total (λ j. cond (nat_eq i j) 1 0) is
 
-self : (i : ℕ) → nat_eq i i ≡ true
-self i = grind (arith, nat_tests)
-
-pub same_number : (i j : ℕ) → nat_eq i j ≡ true → i ≡ j
-same_number i j e = grind (arith, nat_tests)
-
-other : (i j : ℕ) → (i ≡ j → ⊥) → nat_eq i j ≡ false
-other i j f = by (nat_eq i j) refl
-  where
-    by : (b : Bool) → nat_eq i j ≡ b → b ≡ false
-    by true e = absurd (f (same_number i j e))
-    by false e = refl
-
-one_more : (n : ℕ) → 1 + n ≡ suc n
-one_more n = omega arith
-
 counted_here : (i j n : ℕ) → i ≡ j → cond (nat_eq i j) 1 0 + n ≡ suc n
 counted_here i j n e =
-    let z : nat_eq i j ≡ true = subst (λ j. nat_eq i j ≡ true) e (self i) in
-    ap (λ b. cond b 1 0 + n) z ∙ one_more n
+    let z : nat_eq i j ≡ true = subst (λ j. nat_eq i j ≡ true) e (same_number i) in
+    ap (λ b. cond b 1 0 + n) z ∙ one-add n
 
 counted_there : (i j n : ℕ) → (i ≡ j → ⊥) → cond (nat_eq i j) 1 0 + n ≡ n
-counted_there i j n f = ap (λ b. cond b 1 0 + n) (other i j f) ∙ omega arith
+counted_there i j n f = ap (λ b. cond b 1 0 + n) (ne_eqb i j f) ∙ omega arith
 
 -- what stands in a list stands there at least once
 pub times_of : (i : ℕ) (is : List ℕ) → In i is → 1 ≤ times i is
@@ -89,7 +74,7 @@ of_times i (j ∷ is) le = by (nat_eq i j) refl le (of_times i is)
   where
     by : (b : Bool) → nat_eq i j ≡ b → 1 ≤ cond b 1 0 + times i is →
         (1 ≤ times i is → In i is) → In i (j ∷ is)
-    by true e lt again = inl (sym (same_number i j e))
+    by true e lt again = inl (sym (eqb-true i j e))
     by false e lt again = inr (again (omega (arith, lt)))
 
 -- where each stands at most once, nothing stands twice
@@ -126,7 +111,7 @@ range_once a (suc n) i le lt = by (nat_eq i a) refl (range_once (a + 1) n i)
   where
     differs : nat_eq i a ≡ false → i ≡ a → ⊥
     differs e same =
-        let both : true ≡ false = sym (self i) ∙ (ap (nat_eq i) same ∙ e) in absurd cc
+        let both : true ≡ false = sym (same_number i) ∙ (ap (nat_eq i) same ∙ e) in absurd cc
 
     above : (i ≡ a → ⊥) → a + 1 ≤ i
     above z = by_order (cases_lt a i)
@@ -139,7 +124,7 @@ range_once a (suc n) i le lt = by (nat_eq i a) refl (range_once (a + 1) n i)
         (a + 1 ≤ i → i < (a + 1) + n → times i (range_with_len (a + 1) n) ≡ 1) →
         times i (range_with_len a (suc n)) ≡ 1
     by true e again =
-        let same = same_number i a e in
+        let same = eqb-true i a e in
         counted_here i a (times i (range_with_len (a + 1) n)) same
         ∙ ap suc (range_low (a + 1) n i (omega (arith, same)))
     by false e again =

@@ -1,15 +1,17 @@
 -- What the types of an expression say of its parts, and how many scalar elements they have.
 use Rattle.std.proofs.Common.{◌≡◌, ◌⊎◌, inl, inr, ℤ, ℕ, suc, ◌+◌, ◌-◌, ◌*◌, ◌<◌, ◌≤◌, Bool, true}
-use Rattle.std.proofs.Common.{false, ◌&&◌, ◌||◌}
-use Rattle.std.proofs.Common.{nat_eq, nat_le, nat_lt, Option, Some, List, [], ◌∷◌, map, refl}
-use Rattle.std.proofs.Common.{sym, ap, ap₂, ◌∙◌, arith, add-mul, if◌then◌else◌}
+use Rattle.std.proofs.Common.{false, ◌&&◌, ◌||◌, nat_eq, nat_le, nat_lt, Option, Some, List, []}
+use Rattle.std.proofs.Common.{◌∷◌, map, refl, sym, ap, ap₂, ◌∙◌, add-mul, if◌then◌else◌}
+use Rattle.std.proofs.lemmas.Bool.{eqb-true, ltb-true, leb-true}
+use Rattle.std.proofs.lemmas.Option.{same_Some}
 use Rattle.lb_syntax.specs.declared.tree.UnaryOperator.{UnaryOperator}
 use Rattle.lb_syntax.specs.declared.tree.UnaryOperator.TheVariants.{Not, Negate}
-pub use Rattle.lb_check.proofs.OperandTypes.{Bound, bound, some_same, single, Single, alone}
-pub use Rattle.lb_check.proofs.OperandTypes.{One, one, Two, two, Truths, from_true}
+pub use Rattle.lb_check.proofs.OperandTypes.{Bound, bound, single, Single, alone, One, one, Two}
+pub use Rattle.lb_check.proofs.OperandTypes.{two, Truths, from_true}
 use Rattle.lb_syntax.specs.declared.tree.BinaryOperator.{BinaryOperator}
 use Rattle.lb_syntax.specs.declared.tree.Kind.{Kind}
 use Rattle.lb_syntax.specs.Lists.{holds, where_true}
+use Rattle.lb_syntax.proofs.TruthValues.{and_first, and_second}
 use Rattle.lb_static.specs.Arithmetic.{is_int as is_in_range}
 use Rattle.lb_static.specs.DataTypes.{DataType, int, truth, is_kind, is_type, are_types, same_sizes}
 use Rattle.lb_static.specs.DataTypes.{product, element_count}
@@ -17,6 +19,7 @@ use Rattle.lb_check.specs.Types.{is_arithmetic, is_logical, is_equality, are_int
 use Rattle.lb_check.specs.Types.{unary_type, binary_type, common_type, array_of, element_with}
 use Rattle.lb_check.specs.Types.{element_of, index_type, slice_type, join_type, singly}
 use Rattle.lb_check.specs.Types.{constant_type, symbol_types}
+use Rattle.lb_check.proofs.OperandTypes.{truly}
 
 -- the scalar elements of some results
 abbrev pub elements_in : List DataType → ℕ
@@ -24,14 +27,6 @@ elements_in [] = 0
 elements_in (t ∷ ts) = element_count t + elements_in ts
 
 -- ## Tests
-
-pub record Truly {A : Type 0} (b : Bool) (x y : A) : Type 0 where
-  pub holds : b ≡ true
-  pub same : x ≡ y
-
-pub truly : {A : Type 0} (b : Bool) (x y : A) → where_true b x ≡ Some y → Truly b x y
-truly true x y e = record { holds = refl; same = some_same x y e }
-truly false x y e = cc
 
 -- a number has the type `int`, and is in its range
 pub record Constant (o : Option ℤ) (ts : List DataType) : Type 0 where
@@ -62,18 +57,10 @@ symbolic op types e = by (is_arithmetic op) (is_logical op) refl refl e
         else where_true b (truth ∷ (truth ∷ []), truth ∷ []))
         ≡ Some types → Symbolic op types
     by true b p q e =
-        record { data_type = int; are = sym (some_same _ _ e); of = inl (p, refl) }
+        record { data_type = int; are = sym (same_Some _ _ e); of = inl (p, refl) }
     by false b p q e =
         let t = truly b _ types e in
         record { data_type = truth; are = sym t.same; of = inr (q ∙ t.holds, refl) }
-
-pub and_first : (a b : Bool) → (a && b) ≡ true → a ≡ true
-and_first true b e = refl
-and_first false b e = cc
-
-pub and_second : (a b : Bool) → (a && b) ≡ true → b ≡ true
-and_second true b e = e
-and_second false b e = cc
 
 -- ## Scalars
 
@@ -155,15 +142,12 @@ binary_count op s t r e =
 
 -- ## Types that are the same
 
-equal : (n m : ℕ) → nat_eq n m ≡ true → n ≡ m
-equal n m e = grind arith
-
 sizes_same : (ns ms : List ℕ) → same_sizes ns ms ≡ true → product ns ≡ product ms
 sizes_same [] [] e = refl
 sizes_same [] (m ∷ ms) e = cc
 sizes_same (n ∷ ns) [] e = cc
 sizes_same (n ∷ ns) (m ∷ ms) e =
-    ap₂ (λ a b. a * b) (equal n m (and_first (nat_eq n m) (same_sizes ns ms) e))
+    ap₂ (λ a b. a * b) (eqb-true n m (and_first (nat_eq n m) (same_sizes ns ms) e))
     (sizes_same ns ms (and_second (nat_eq n m) (same_sizes ns ms) e))
 
 pub same_count : (s t : DataType) → is_type s t ≡ true → element_count s ≡ element_count t
@@ -207,18 +191,12 @@ parts_with :
     ns ≡ a.0 ∷ a.1.sizes
 parts_with k [] a e = cc
 parts_with k (n ∷ ns) a e =
-    let same : (n, record { kind = k; sizes = ns }) ≡ a = some_same _ _ e in
+    let same : (n, record { kind = k; sizes = ns }) ≡ a = same_Some _ _ e in
     ap (λ (b : ℕ × DataType). b.0 ∷ b.1.sizes) same
 
 pub element_is :
     (t : DataType) (a : ℕ × DataType) → element_of t ≡ Some a → t.sizes ≡ a.0 ∷ a.1.sizes
 element_is t a e = parts_with t.kind t.sizes a e
-
-pub less : (n m : ℕ) → nat_lt n m ≡ true → n < m
-less n m e = grind arith
-
-pub at_most : (n m : ℕ) → nat_le n m ≡ true → n ≤ m
-at_most n m e = grind arith
 
 pub record Indexed (i : ℕ) (t r : DataType) : Type 0 where
   pub count : ℕ
@@ -232,7 +210,7 @@ indexed i t r e =
     record {
       count = a.value.0;
       sizes = element_is t a.value a.is ∙ ap (λ (s : DataType). a.value.0 ∷ s.sizes) h.same;
-      within = less i a.value.0 h.holds;
+      within = ltb-true i a.value.0 h.holds;
     }
 
 pub record Sliced (i j : ℕ) (t r : DataType) : Type 0 where
@@ -252,8 +230,8 @@ sliced i j t r e =
       count = a.value.0;
       element = c.value;
       sizes = element_is t a.value a.is ∙ ap (λ (s : DataType). a.value.0 ∷ s.sizes) h.same;
-      ordered = at_most i j (and_first (nat_le i j) (nat_lt j a.value.0) h.holds);
-      within = less j a.value.0 (and_second (nat_le i j) (nat_lt j a.value.0) h.holds);
+      ordered = leb-true i j (and_first (nat_le i j) (nat_lt j a.value.0) h.holds);
+      within = ltb-true j a.value.0 (and_second (nat_le i j) (nat_lt j a.value.0) h.holds);
       result = array_count (suc j - i) c.value r c.gives;
     }
 

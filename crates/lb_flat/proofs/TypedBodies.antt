@@ -1,13 +1,15 @@
 -- In an instance that is typed, the left variables of each equation are as wide as its right side,
 -- and the inputs of a call as its arguments.
-use Rattle.std.proofs.Common.{◌≡◌, ℕ, ◌+◌, ◌≤◌, Bool, true, false, nat_eq, Option, Some, None}
-use Rattle.std.proofs.Common.{IfSome, List, [], ◌∷◌, map, length, flat_map, zip, cond, find, refl}
-use Rattle.std.proofs.Common.{sym, ap, ap₂, ◌∙◌, subst, arith, length-append}
+use Rattle.std.proofs.Common.{◌≡◌, ℕ, ◌+◌, ◌≤◌, Bool, true, false, Option, Some, None, IfSome, List}
+use Rattle.std.proofs.Common.{[], ◌∷◌, map, length, flat_map, zip, cond, find, refl, sym, ap, ap₂}
+use Rattle.std.proofs.Common.{◌∙◌, subst, arith, length-append}
 use Rattle.std.specs.List.{list_all}
 use Rattle.std.specs.Str.{bytes_eq}
 use Rattle.lb_syntax.specs.Lists.{Every, all_some}
 use Rattle.lb_syntax.specs.Tree.{Name, Expr, Exprs, Nil, Cons, Declaration, Statement, Equation}
 use Rattle.lb_syntax.specs.Tree.{Assertion}
+use Rattle.lb_syntax.proofs.SameNames.{name_same}
+use Rattle.lb_syntax.proofs.TruthValues.{and_first, and_second}
 use Rattle.lb_static.specs.StaticValues.{named}
 use Rattle.lb_static.specs.Instances.{Program, Instance, Path}
 use Rattle.lb_static.specs.DataTypes.{DataType, variables, width, variable_type, element_count}
@@ -23,22 +25,11 @@ use Rattle.lb_check.proofs.OperandTypes.{first_of_all}
 use Rattle.lb_flat.proofs.Lists.{Every-first, Every-second}
 use Rattle.lb_flat.proofs.Placing.{AreAsWide}
 use Rattle.lb_flat.proofs.Bodies.{IsWide, occurrences_of}
-use Rattle.lb_flat.proofs.TypeFacts.{elements_in, bound, are_counts, and_first, and_second}
+use Rattle.lb_flat.proofs.TypeFacts.{elements_in, bound, are_counts}
 use Rattle.lb_flat.proofs.OutputWidths.{found_in, each, width_of}
 use Rattle.lb_flat.proofs.Widths.{AreVariablesWide, IsOccurrenceWide, only_one, wide}
 
 -- ## Names
-
-number_same : (n m : ℕ) → nat_eq n m ≡ true → n ≡ m
-number_same n m e = grind arith
-
-pub name_same : (x y : Name) → bytes_eq x y ≡ true → x ≡ y
-name_same [] [] e = refl
-name_same [] (m ∷ y) e = cc
-name_same (n ∷ x) [] e = cc
-name_same (n ∷ x) (m ∷ y) e =
-    ap₂ (λ a b. a ∷ b) (number_same n m (and_first (nat_eq n m) (bytes_eq x y) e))
-    (name_same x y (and_second (nat_eq n m) (bytes_eq x y) e))
 
 tested :
     {A : Type 0} (test : A → Bool) (b : Bool) (x : A) (o : Option A) → test x ≡ b →

@@ -7,6 +7,8 @@ use Rattle.std.proofs.lemmas.Bool.Decides.{nat_tests}
 use Rattle.std.proofs.lemmas.List.{append_assoc, take_more, length-set, length-replicate}
 use Rattle.std.proofs.lemmas.List.{get_or-set_same, get_or-set_other}
 use mathlib.Core.Former.{Count}
+use Rattle.std.proofs.lemmas.Bool.{eqb-true}
+use Rattle.std.proofs.Math.Bool.{or-true, or-false}
 use Rattle.lb_syntax.specs.declared.tree.UnaryOperator.{UnaryOperator}
 use Rattle.lb_static.specs.declared.resolved.StaticId.{StaticId}
 use Rattle.lb_static.specs.declared.resolved.VariableId.{VariableId}
@@ -110,22 +112,11 @@ tail_added before mid xs ys all h e =
 
 -- ## Flags
 
-same_number : (m x : ℕ) → (m == x) ≡ true → m ≡ x
-same_number m x e = grind (arith, nat_tests)
-
 other_number : (m x : ℕ) → (m == x) ≡ false → (x ≡ m → ⊥)
 other_number m x e is = absurd (grind (arith, nat_tests))
 
-or_true : (a : Bool) → (a || true) ≡ true
-or_true true = refl
-or_true false = refl
-
-or_false : (a : Bool) → (a || false) ≡ a
-or_false true = refl
-or_false false = refl
-
 among_last : (xs : List ℕ) (m x : ℕ) → is_among (xs ++ m ∷ []) x ≡ (is_among xs x || (m == x))
-among_last [] m x = or_false (m == x)
+among_last [] m x = or-false (m == x)
 among_last (y ∷ xs) m x =
     ap (λ b. (y == x) || b) (among_last xs m x) ∙ sym (or_assoc (y == x) (is_among xs x) (m == x))
   where
@@ -154,13 +145,13 @@ flag_set count names i m d flags lt e below h =
     by : (x : ℕ) → x < count → (b : Bool) → (m == x) ≡ b →
         get_or (set flags m true) x false ≡ (is_among (take i names) x || (m == x))
     by x less true q =
-        let same = same_number m x q in
+        let same = eqb-true m x q in
         subst (λ y. get_or (set flags m true) y false ≡ true) same
         (get_or-set_same flags m true false (inside_of h.long))
-        ∙ sym (ap (λ b. is_among (take i names) x || b) q ∙ or_true (is_among (take i names) x))
+        ∙ sym (ap (λ b. is_among (take i names) x || b) q ∙ or-true (is_among (take i names) x))
     by x less false q =
         get_or-set_other flags m x true false (other_number m x q) ∙ (h.flag x less
-        ∙ sym (ap (λ b. is_among (take i names) x || b) q ∙ or_false (is_among (take i names) x)))
+        ∙ sym (ap (λ b. is_among (take i names) x || b) q ∙ or-false (is_among (take i names) x)))
 
 -- one that has none
 pub flag_past :
@@ -175,7 +166,7 @@ flag_past count names i m d flags lt e past h =
       flag = λ x less. h.flag x less ∙ sym (ap (λ xs. is_among xs x) last
           ∙ (among_last (take i names) m x
           ∙ (ap (λ b. is_among (take i names) x || b) (differs x less)
-          ∙ or_false (is_among (take i names) x))));
+          ∙ or-false (is_among (take i names) x))));
     }
   where
     differs : (x : ℕ) → x < count → (m == x) ≡ false

@@ -1,20 +1,11 @@
 -- A history ends with the verdict that is found by looking at one instant after another.
-use Rattle.std.proofs.Common.{◌≡◌, ℕ, zero, suc, ◌+◌, ◌<◌, ◌⊎◌, inl, inr, Bool, true, false, refl}
-use Rattle.std.proofs.Common.{sym, ap, subst, arith}
+use Rattle.std.proofs.Common.{◌≡◌, ℕ, zero, suc, ◌+◌, ◌<◌, inl, inr, Bool, true, false, refl, sym}
+use Rattle.std.proofs.Common.{subst, arith}
 use Rattle.lb_static.specs.Instances.{Program}
 use Rattle.lb_check.specs.Streams.{History}
 use Rattle.lb_check.specs.Verdicts.{is_fault, is_undefined, is_failed, is_violated, decides, Ends}
 use Rattle.lb_check.specs.Verdicts.{judged, or_later, verdict_from}
-
-compared : (t u : ℕ) → (t < u) ⊎ (t ≡ u) ⊎ (u < t)
-compared zero zero = inr (inl refl)
-compared zero (suc u) = inl (omega arith)
-compared (suc t) zero = inr (inr (omega arith))
-compared (suc t) (suc u) =
-    elim (compared t u) [
-      | inl lt ↦ inl (omega arith)
-      | inr r ↦ elim r [ inl e ↦ inr (inl (ap suc e)) | inr lt ↦ inr (inr (omega arith)) ]
-    ]
+use Rattle.lb_check.proofs.OnlyVerdict.{compared}
 
 module _ (P : Program) (H : History) (count : ℕ) where
   -- nothing happens before instant t

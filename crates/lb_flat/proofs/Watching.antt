@@ -5,8 +5,10 @@ use Rattle.std.proofs.Common.{refl, sym, ap, ap₂, ◌∙◌, subst}
 use Rattle.std.specs.List.{list_any}
 use Rattle.std.proofs.lemmas.List.{map-append}
 use Rattle.std.proofs.lemmas.List.Folds.{list_any-append}
+use Rattle.std.proofs.Math.Bool.{or_assoc}
 use Rattle.lb_syntax.specs.Lists.{Every, some_of}
 use Rattle.lb_syntax.specs.Tree.{Statement, Equation, Assertion}
+use Rattle.lb_syntax.proofs.TruthValues.{or_nothing}
 use Rattle.lb_static.specs.Instances.{Program, Instance}
 use Rattle.lb_check.specs.Scalars.{Stream}
 use Rattle.lb_check.specs.Occurrences.{Occurrence, call_count, occurrences, statement_clock}
@@ -24,8 +26,7 @@ use Rattle.lb_flat.proofs.Placing.{Agrees, IsPlaced}
 use Rattle.lb_flat.proofs.Emission.{joins_equations, sound}
 use Rattle.lb_flat.proofs.Bodies.{IsWide, IsSound, occurrences_of, assert_equations, body_sound}
 use Rattle.lb_flat.proofs.Bodies.{all_sound}
-use Rattle.lb_flat.proofs.MemoryOperands.{or_assoc, or_false, joins_kept, append_assoc, Keeps}
-use Rattle.lb_flat.proofs.MemoryOperands.{keeps, keeps_two}
+use Rattle.lb_flat.proofs.MemoryOperands.{joins_kept, append_assoc, Keeps, keeps, keeps_two}
 use Rattle.lb_flat.proofs.Asserting.{joins_asserted, assert_asserted, assert_kept, asserts}
 
 -- an element of a list that has none
@@ -64,7 +65,7 @@ module _ (Y : Layout) (P : Program) (X : Inputs) (H : History) (F : List Stream)
     unfolding emit_body
     body_watched n s [] wide w h = record {
       memory_operands = record
-          { same = λ test. or_false (list_any test (columns X F s.memory_operands)) };
+          { same = λ test. or_nothing (list_any test (columns X F s.memory_operands)) };
       asserted = append_nothing (columns X F s.asserted);
     }
     body_watched n s (Assertion e ∷ rest) wide w h =
@@ -134,8 +135,8 @@ module _ (Y : Layout) (P : Program) (X : Inputs) (H : History) (F : List Stream)
       Watched s (emit_instances Y P s instances) instances
   unfolding emit_instances
   all_watched s [] ok h = record {
-    memory_operands = λ test. or_false (list_any test (columns X F s.memory_operands));
-    asserted = λ test. or_false (list_any test (columns X F s.asserted));
+    memory_operands = λ test. or_nothing (list_any test (columns X F s.memory_operands));
+    asserted = λ test. or_nothing (list_any test (columns X F s.asserted));
   }
   all_watched s (here ∷ rest) ok h =
       let t = emit_body Y P here 0 s here.node.body in

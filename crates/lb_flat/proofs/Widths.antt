@@ -6,6 +6,7 @@ use Rattle.std.proofs.Common.{length-append}
 use Rattle.std.specs.List.{list_all}
 use Rattle.std.specs.Str.{bytes_eq}
 use Rattle.std.proofs.lemmas.List.{length-map}
+use Rattle.std.proofs.lemmas.Option.{same_Some}
 use Rattle.lb_syntax.specs.declared.tree.BinaryOperator.{BinaryOperator}
 use Rattle.lb_syntax.specs.declared.tree.ArrayIterator.{ArrayIterator}
 use Rattle.lb_syntax.specs.declared.tree.ArrayIterator.TheVariants.{Map, Red, Fill}
@@ -15,6 +16,7 @@ use Rattle.lb_syntax.specs.Tree.{Name, Static, Node_named, Symbol, Expr, Literal
 use Rattle.lb_syntax.specs.Tree.{Group, Unary, Binary, If, Arrow, Fby, Pre, Current, When}
 use Rattle.lb_syntax.specs.Tree.{Replicate, Index, Slice, Join, Array, AtMostOne, Nor, Call}
 use Rattle.lb_syntax.specs.Tree.{Iterate, Exprs, Nil, Cons, Declaration, Node}
+use Rattle.lb_syntax.proofs.TruthValues.{and_first, and_second}
 use Rattle.lb_static.specs.Instances.{Program, Instance, Child, static_count, call_site, callee_of}
 use Rattle.lb_static.specs.Instances.{node_named, name_value}
 use Rattle.lb_static.specs.DataTypes.{DataType, int, truth, variables, width, variable_type}
@@ -30,13 +32,14 @@ use Rattle.lb_check.specs.Occurrences.{Occurrence, call_count, occurrences, occu
 use Rattle.lb_check.specs.Streams.{History, presence, constantly, gathered, last_of, iterated}
 use Rattle.lb_check.specs.Streams.{symbols, streams, all_streams, number, part_count, outputs_of}
 use Rattle.lb_check.specs.Streams.{data_type}
-use Rattle.lb_check.proofs.OperandTypes.{first_of_all}
+use Rattle.lb_check.proofs.OperandTypes.{first_of_all, truly}
 pub use Rattle.lb_check.proofs.OperandTypes.{Called, called, Placed, placed}
-use Rattle.lb_flat.proofs.Lists.{length-zips, Every-first, Every-second}
+use Rattle.lb_check.proofs.LongStreams.{length-both}
+use Rattle.lb_flat.proofs.Lists.{Every-first, Every-second}
 use Rattle.lb_flat.proofs.TypeFacts.{One, elements_in, bound, alone, one, two, from_true}
 use Rattle.lb_flat.proofs.TypeFacts.{unary_count, binary_count, alike, array_count, indexed, sliced}
-use Rattle.lb_flat.proofs.TypeFacts.{joined_count, truth_is, some_same, same_count, and_first}
-use Rattle.lb_flat.proofs.TypeFacts.{and_second, truly, are_counts, Symbolic, constant, symbolic}
+use Rattle.lb_flat.proofs.TypeFacts.{joined_count, truth_is, same_count, are_counts, Symbolic}
+use Rattle.lb_flat.proofs.TypeFacts.{constant, symbolic}
 use Rattle.lb_flat.proofs.OutputWidths.{length-copies, length-choices, length-part, length-index}
 use Rattle.lb_flat.proofs.OutputWidths.{found_in, each, arrays_count, width_of, outputs_wide}
 use Rattle.lb_flat.proofs.OutputWidths.{gathered_wide, last_wide}
@@ -210,7 +213,7 @@ module _ (P : Program) (H : History) (here : Instance) where
       (last_wide P c outputs n positive ds r.out [] w (o ∙ ap Some r.outs_is)) r.ts_is
   iterated_by c outputs n positive Fill [] ins outs args ts w o e =
       let f = fill_of n ins outs args ts e in
-      let same : [] ≡ outs = some_same _ _ o in
+      let same : [] ≡ outs = same_Some _ _ o in
       let none : [] ≡ f.out ∷ f.others = same ∙ f.outs_is in
       absurd cc
   iterated_by c outputs n positive Fill (d ∷ ds) ins outs args ts w o e =
@@ -269,7 +272,7 @@ module _ (P : Program) (H : History) (here : Instance) where
   zipped op n [] e = cc
   zipped op n (xs ∷ []) e = cc
   zipped op n (xs ∷ (ys ∷ [])) e =
-      length-zips _ n xs ys (same_first _ _ _ _ e) (same_first _ _ _ _ (same_rest _ _ _ _ e))
+      length-both _ n xs ys (same_first _ _ _ _ e) (same_first _ _ _ _ (same_rest _ _ _ _ e))
   zipped op n (xs ∷ (ys ∷ (zs ∷ xsss))) e = cc
 
   -- an initial value and one operand
@@ -295,7 +298,7 @@ module _ (P : Program) (H : History) (here : Instance) where
       let t = truly (are_types w.value args) (k ∷ []) b.value b.is in
       let first = each (array_of n k) (array_of n k ∷ []) w.value w.is in
       let second = each (array_of n k) [] first.rest first.others in
-      let nothing : [] ≡ second.rest = some_same _ _ second.others in
+      let nothing : [] ≡ second.rest = same_Some _ _ second.others in
       let one : element_count first.first ≡ n =
       omega (arith, array_count n k first.first first.is, ap (λ c. n * c) scalar) in
       let two : element_count second.first ≡ n =
@@ -319,7 +322,7 @@ module _ (P : Program) (H : History) (here : Instance) where
       let t = truly (is_type k k && both) (k ∷ []) ts w.gives in
       let inner = and_second (is_type k k) (is_type k i && are_types w.value args) t.holds in
       let first = each (array_of n k) [] w.value w.is in
-      let nothing : [] ≡ first.rest = some_same _ _ first.others in
+      let nothing : [] ≡ first.rest = same_Some _ _ first.others in
       let initial : element_count i ≡ 1 =
       sym (same_count k i (and_first (is_type k i) (are_types w.value args) inner)) ∙ scalar in
       let counts : map element_count args ≡ element_count first.first ∷ [] =
@@ -379,7 +382,7 @@ module _ (P : Program) (H : History) (here : Instance) where
           length (streams P H here k n e) ≡ elements_in ts
       wide k n (Literal m) ts e w =
           sym (ap elements_in (constant (Some (pos m)) ts e).all)
-      wide k n (Truth b) ts e w = ap elements_in (some_same _ _ e)
+      wide k n (Truth b) ts e w = ap elements_in (same_Some _ _ e)
       wide k n (Variable x) ts e w =
           names_wide variables_wide k x _
           (found_in _ (λ d. bytes_eq d.name x) (variables here.node) variables_wide) ts e
@@ -396,7 +399,7 @@ module _ (P : Program) (H : History) (here : Instance) where
           let oa = occurrences P here.node k n a in let ob = occurrences P here.node k m b in
           let s = binary_count op i.first i.second i.result i.gives in
           just_one _ i.result ts
-          (length-zips _ 1 (streams P H here k n a) (streams P H here k m b)
+          (length-both _ 1 (streams P H here k n a) (streams P H here k m b)
           (only_one _ i.first (wide k n a _ i.is_first (fore oa ob w.1)) ∙ s.first)
           (only_one _ i.second (wide k m b _ i.is_second (aft oa ob w.1)) ∙ s.second)
           ∙ sym s.result) i.all
@@ -414,7 +417,7 @@ module _ (P : Program) (H : History) (here : Instance) where
           let condition : is_type truth z.data_type ≡ true =
           and_first (is_type truth z.data_type) true
           (ap (λ us. list_all (is_type truth) us)
-          (sym (z.all ∙ ap (λ u. u ∷ []) (sym (some_same _ _ z.gives)))) ∙ truths.truths) in
+          (sym (z.all ∙ ap (λ u. u ∷ []) (sym (same_Some _ _ z.gives)))) ∙ truths.truths) in
           just_one _ i.result ts
           (length-choices (streams P H here k n c) (streams P H here k na a)
           (streams P H here k nb b) (element_count i.result)
@@ -429,7 +432,7 @@ module _ (P : Program) (H : History) (here : Instance) where
           let oa = occurrences P here.node k n a in let ob = occurrences P here.node k m b in
           let same = alike i.first i.second i.result i.gives in
           just_one _ i.result ts
-          (length-zips _ (element_count i.result) (streams P H here k n a) (streams P H here k m b)
+          (length-both _ (element_count i.result) (streams P H here k n a) (streams P H here k m b)
           (only_one _ i.first (wide k n a _ i.is_first (fore oa ob w.1)) ∙ same.first)
           (only_one _ i.second (wide k m b _ i.is_second (aft oa ob w.1)) ∙ same.second)) i.all
       wide k n (Fby a b) ts e w =
@@ -438,7 +441,7 @@ module _ (P : Program) (H : History) (here : Instance) where
           let oa = occurrences P here.node k n a in let ob = occurrences P here.node k m b in
           let same = alike i.first i.second i.result i.gives in
           just_one _ i.result ts
-          (length-zips _ (element_count i.result) (streams P H here k n a) _
+          (length-both _ (element_count i.result) (streams P H here k n a) _
           (only_one _ i.first (wide k n a _ i.is_first (fore oa ob w.1)) ∙ same.first)
           (length-map (streams P H here k m b) _
           ∙ only_one _ i.second (wide k m b _ i.is_second (aft oa ob w.1))
@@ -448,7 +451,7 @@ module _ (P : Program) (H : History) (here : Instance) where
           just_one _ i.result ts
           (length-map (streams P H here k n a) _
           ∙ only_one _ i.data_type (wide k n a (i.data_type ∷ []) i.is w.1)
-          ∙ ap element_count (some_same _ _ i.gives)) i.all
+          ∙ ap element_count (same_Some _ _ i.gives)) i.all
       wide k n (When a x sign) ts e w =
           let t = bound (from_truths (singly (name_data_type P here x))) _ ts e in
           let i = one (data_types P here a) Some ts t.gives in
@@ -456,14 +459,14 @@ module _ (P : Program) (H : History) (here : Instance) where
           (length-map (streams P H here (declared_clock here.node x) n a) _
           ∙ only_one _ i.data_type
           (wide (declared_clock here.node x) n a (i.data_type ∷ []) i.is w.1)
-          ∙ ap element_count (some_same _ _ i.gives)) i.all
+          ∙ ap element_count (same_Some _ _ i.gives)) i.all
       wide k n (Current a) ts e w =
           let own = clock_or (clock_of P here.node a) in
           let i = one (data_types P here a) Some ts e in
           just_one _ i.result ts
           (length-map (streams P H here own n a) _
           ∙ only_one _ i.data_type (wide own n a (i.data_type ∷ []) i.is w.1)
-          ∙ ap element_count (some_same _ _ i.gives)) i.all
+          ∙ ap element_count (same_Some _ _ i.gives)) i.all
       wide k n (Replicate a m) ts e w =
           let c = bound (static_count P here m) _ ts e in
           let i = one (data_types P here a) (array_of c.value) ts c.gives in
@@ -530,7 +533,7 @@ module _ (P : Program) (H : History) (here : Instance) where
           (k : Clock) (n : ℕ) (es : Exprs) (ts : List DataType) → all_types P here es ≡ Some ts →
           AllWide (occurrences_in P here.node k n es) →
           map length (all_streams P H here k n es) ≡ map element_count ts
-      all_wide k n Nil ts e w = ap (map element_count) (some_same _ _ e)
+      all_wide k n Nil ts e w = ap (map element_count) (same_Some _ _ e)
       all_wide k n (Cons e es) ts h w =
           let m = n + call_count e in
           let oa = occurrences P here.node k n e in

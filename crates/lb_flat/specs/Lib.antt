@@ -47,3 +47,4 @@ pub mod ClockPlaces
 pub mod RowFrames
 pub mod EquationKinds
 pub mod AssembledPrograms
+pub mod BitRows

@@ -17,7 +17,7 @@ use Rattle.lb_static.specs.declared.table.Origin.{Origin}
 use Rattle.lb_static.specs.declared.table.Origin.TheVariants as origin
 use Rattle.lb_static.specs.declared.table.Specialization.{Specialization}
 use Rattle.lb_static.specs.declared.table.Table.{Table}
-use Rattle.lb_check.specs.TermTypes.{declared_type}
+use Rattle.lb_static.specs.StoredTypes.{declared_type}
 
 -- the sum of numbers
 abbrev pub sum_of : List ℕ → ℕ

@@ -283,7 +283,7 @@ fn push_clocks(
 }
 
 /// Adds the clocks of the variables of a row, if it is of a node.
-#[tactic(auto, using(crate::proofs::AddedPieces::nothing_added))]
+#[tactic(auto, using(lb_syntax::proofs::ListPlaces::nothing_added))]
 fn push_row(
     clocks: &mut Vec<Clock>,
     layout: &Layout,

@@ -10,8 +10,8 @@
 //!                                           row ends  0 2 3
 //! ```
 
-ghost use Rattle.std.specs.Prelude.{◌≡◌, ◌≢◌, ◌==◌, ℕ, ◌<◌, ◌≤◌, ◌+◌, ◌*◌, ◌||◌, ◌↔◌, IsTrue};
-ghost use Rattle.std.specs.Prelude.{false, [], ◌∷◌, ◌++◌, length, get_or, slice_get, vec_len};
+ghost use Rattle.std.specs.Prelude.{◌≡◌, ◌≢◌, ◌==◌, ℕ, ◌<◌, ◌≤◌, ◌+◌, ◌*◌, ◌^◌, ◌||◌, ◌↔◌};
+ghost use Rattle.std.specs.Prelude.{IsTrue, false, [], ◌∷◌, ◌++◌, length, get_or, slice_get, vec_len};
 ghost use Rattle.std.specs.Prelude.{vec_capacity, Some, IfOk, OnOk, OnErr, pos, int_le, All};
 ghost use Rattle.std.specs.Int.{bit_at};
 ghost use Rattle.std.specs.List.{Contains};
@@ -22,6 +22,7 @@ ghost use Rattle.lb_flat.specs.Traces.{IsRow, HasRoom, HasRoomFor, last_rows, wi
 ghost use Rattle.lb_flat.specs.Traces.{with_rows, rows_from, IsRecording, IsInt};
 ghost use Rattle.lb_flat.specs.Packed.{truth_columns, number_columns, words_of_row, bit_in};
 ghost use Rattle.lb_flat.specs.Packed.{truth_in, numbers_in, HasPushed};
+ghost use Rattle.lb_flat.specs.BitRows.{AreTruths, row_of_bits};
 
 use crate::names::Names;
 pub use crate::names::is_trace_name;
@@ -312,6 +313,24 @@ impl TraceSet {
         Ok(())
     }
 
+    // One more row of the last trace, of Booleans alone that are the bits of a word.
+    fn push_bits(&mut self, word: u64) -> Result<(), AllocError>
+        requires started { 0 < length self.old.traces }
+        requires truths { AreTruths self.old.signature }
+        requires small { word < 2 ^ length self.old.signature }
+        requires instants { length (last_rows self.old.traces) < 1000000 }
+        requires room { HasRoom self.old }
+        ensures ok { OnOk result (self.new ≡ record self.old {
+          traces = with_row self.old.traces (row_of_bits (length self.old.signature) word);
+        }) }
+        ensures err { OnErr result (self.new ≡ self.old) }
+    {
+        self.words.push(word)?;
+        let last = self.row_ends.len() - 1;
+        self.row_ends[last] += 1;
+        Ok(())
+    }
+
     // The rows of a trace of another set, from one on, at the end of the last trace.
     fn extend(&mut self, set: &TraceSet, k: u32, from: u32) -> Result<(), AllocError>
         requires started { 0 < length self.old.traces }
@@ -420,6 +439,23 @@ impl TraceRows {
         ensures err { OnErr result (self.new ≡ self.old) }
     {
         self.set.push(row)
+    }
+
+    /// One more row of the last trace, whose cells are Booleans alone, at most 64: the bits of a
+    /// word, the first of the signature the lowest, with no bit past the last. Where memory is
+    /// refused the traces stay as they were.
+    pub fn push_bits(&mut self, word: u64) -> Result<(), AllocError>
+        requires started { 0 < length self.old.traces }
+        requires truths { AreTruths self.old.signature }
+        requires small { word < 2 ^ length self.old.signature }
+        requires instants { length (last_rows self.old.traces) < 1000000 }
+        requires room { HasRoom self.old }
+        ensures ok { OnOk result (self.new ≡ record self.old {
+          traces = with_row self.old.traces (row_of_bits (length self.old.signature) word);
+        }) }
+        ensures err { OnErr result (self.new ≡ self.old) }
+    {
+        self.set.push_bits(word)
     }
 
     /// The rows of a trace of another set under the same signature, from one on, at the end of the

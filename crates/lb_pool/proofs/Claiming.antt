@@ -12,6 +12,7 @@ use lib.ListN.{get_elem?}
 use Rattle.atomic_table.specs.Table.{State, Me, Allows, Splits, Joins, step}
 use Rattle.atomic_table.specs.Table.Act.{keeps}
 use Rattle.atomic_table.proofs.Lists.{at_set, at_snoc, set_else}
+use Rattle.lb_syntax.proofs.TruthValues.{contrary}
 use Rattle.lb_pool.specs.declared.views.View.{View}
 use Rattle.lb_pool.specs.Views.{larger_half, smaller_half, both, spent}
 use Rattle.lb_pool.specs.Draws.{times, once_below, AreAllBelow}
@@ -158,14 +159,11 @@ module _ (n id w : ℕ) (v : View) (views : List View) (has : 0 < v.shares)
             let a = k.bound in
             omega (arith, s, a, h);
         each = others u (record {
-          none_left = λ e. absurd (true_false v.told e not_told);
+          none_left = λ e. absurd (contrary v.told e not_told);
           spent = λ e. absurd (omega (arith, e, has));
           limit = λ p. limit_is;
         });
       }
-    where
-      true_false : (b : Bool) → b ≡ true → b ≡ false → ⊥
-      true_false b p q = false≢true (sym q ∙ p)
 
   -- past the limit the view is told
   tells : n ≤ w → AreLawfulViews n (w + 1) (set views id (claimed false v w))

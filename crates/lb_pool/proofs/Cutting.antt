@@ -1,15 +1,14 @@
 -- The batches that a width cuts from a list of numbers are a plan.
-use Rattle.std.proofs.Common.{◌≡◌, ℕ, zero, suc, ◌+◌, ◌-◌, ◌*◌, ◌%◌, ◌^◌, ◌<◌, ◌≤◌, ◌⊎◌, inl, inr}
-use Rattle.std.proofs.Common.{List, [], ◌∷◌, ◌++◌, length, get_or, take, drop, map, min, sym, ap}
-use Rattle.std.proofs.Common.{◌∙◌, subst, arith}
+use Rattle.std.proofs.Common.{◌≡◌, ℕ, zero, suc, ◌+◌, ◌-◌, ◌*◌, ◌%◌, ◌^◌, ◌<◌, ◌≤◌, List, [], ◌∷◌}
+use Rattle.std.proofs.Common.{◌++◌, length, get_or, take, drop, map, min, sym, ap, ◌∙◌, subst}
+use Rattle.std.proofs.Common.{arith}
 use Rattle.std.specs.List.{range_with_len}
 use Rattle.std.specs.List.Sorted.{IsPermutation}
-use Rattle.std.proofs.lemmas.Bool.{cases_lt}
 use Rattle.std.proofs.lemmas.List.{length-take, length-drop, map-id, append-nil, take_all, take_min}
 use Rattle.std.proofs.lemmas.List.Concat.{flat_map-append}
 use Rattle.std.proofs.lemmas.List.FromFn.{get_or-map-range_with_len, length-map-range_with_len}
 use Rattle.std.proofs.lemmas.List.FromFn.{map-range_with_len_more}
-use Rattle.std.proofs.Math.Nat.{mul-le-mul_left, mul-le-mul_right}
+use Rattle.std.proofs.Math.Nat.{mul-le-mul_right}
 use lib.Seq.{take-add}
 use Rattle.lb_pool.specs.Plans.{numbers_in, IsPlan, IsLawful}
 use Rattle.lb_pool.specs.Cuts.{count_of, batch_of, batches_of, IsCut}
@@ -35,17 +34,6 @@ begins w n i some below =
     let q = counted w n some in
     let more : (i + 1) * w ≤ count_of w n * w = mul-le-mul_right w (omega arith) in
     omega (arith, q.below, q.is, more)
-
-pub few_batches : (w n : ℕ) → 0 < w → count_of w n ≤ n
-few_batches w n some = by (cases_lt n (count_of w n))
-  where
-    by : (n < count_of w n) ⊎ (count_of w n ≤ n) → count_of w n ≤ n
-    by (inl more) =
-        let inside = begins w n n some more in
-        let one : 1 ≤ w = omega arith in
-        let whole : n * 1 ≤ n * w = mul-le-mul_left n one in
-        absurd (omega (arith, inside, whole))
-    by (inr le) = le
 
 -- ## What they hold
 

@@ -1,12 +1,11 @@
 -- Reports, line by line.
 use Rattle.std.proofs.Common.{◌≡◌, ℕ, ◌+◌, ◌<◌, List, [], ◌∷◌, ◌++◌, length, drop, get_or, flat_map}
-use Rattle.std.proofs.Common.{suc, ap, sym, ◌∙◌, append-nil, append_assoc, add-one, arith}
+use Rattle.std.proofs.Common.{suc, ap, sym, ◌∙◌, append-nil, append_assoc, add-one}
 use Rattle.std.proofs.Math.Seq.{drop-cons}
-use Rattle.std.proofs.lemmas.List.{map-id}
 use Rattle.std.proofs.lemmas.Grind.{flat_map-append}
-use Rattle.std.proofs.lemmas.List.FromFn.{map-range_with_len_more}
 use Rattle.std.specs.List.{range_with_len}
 use Rattle.lb_check.specs.declared.verdict.Verdict.{Verdict}
+use Rattle.lb_pool.proofs.Cutting.{range_more}
 use Rattle.lb_report.specs.Reports.{line, lines}
 
 -- the lines from a trace on are its own and those of the traces after it
@@ -22,13 +21,6 @@ lines-drop names verdicts k n v named judged =
     ap (λ rest. lines rest (drop k verdicts)) (drop-cons names k n named)
     ∙ ap (λ rest. lines (name ∷ drop (suc k) names) rest) (drop-cons verdicts k v judged)
     ∙ ap (λ j. line name verdict ++ lines (drop j names) (drop j verdicts)) (sym (add-one k))
-
--- the numbers below one number more
-range_more : (n : ℕ) → range_with_len 0 (n + 1) ≡ range_with_len 0 n ++ n ∷ []
-range_more n =
-    sym (map-id (range_with_len 0 (n + 1)))
-    ∙ map-range_with_len_more (λ k. k) 0 n n (omega arith)
-    ∙ ap (λ ks. ks ++ n ∷ []) (map-id (range_with_len 0 n))
 
 pub flat_map-range_more : {A : Type 0} (f : ℕ → List A) (n : ℕ)
     → flat_map f (range_with_len 0 (n + 1)) ≡ flat_map f (range_with_len 0 n) ++ f n

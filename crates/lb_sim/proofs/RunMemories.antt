@@ -9,11 +9,12 @@ use Rattle.std.proofs.lemmas.List.{length-replicate}
 use Rattle.lb_syntax.specs.Lists.{In, zip2}
 use Rattle.lb_check.specs.Scalars.{Scalar, Cell, Stream}
 use Rattle.lb_check.specs.Solutions.{Inputs}
+use Rattle.lb_check.proofs.LongStreams.{length-both as length-zips}
 use Rattle.lb_flat.specs.Flat.{FlatClock, Operation, Input, Constant, Copy, ApplyUnary, ApplyBinary}
 use Rattle.lb_flat.specs.Flat.{Choose, FirstThen, Previous, Latest, Sample, FlatEquation, column}
 use Rattle.lb_flat.specs.MemoryPlaces.{newest_of, after_rows, cells_in, remembers}
 use Rattle.lb_flat.specs.Run.{Row, cell, started_by, remembered, advanced, row_of, run, streams_of}
-use Rattle.lb_flat.proofs.Lists.{map-maps, length-zips}
+use Rattle.lb_flat.proofs.Lists.{map-maps}
 use Rattle.lb_flat.proofs.Rows.{length-row_of}
 
 -- ## After some rows

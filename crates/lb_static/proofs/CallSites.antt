@@ -1,15 +1,17 @@
 -- The instances that a call site of an instance calls.
-use Rattle.std.proofs.Common.{◌≡◌, ℕ, suc, zero, ◌<◌, ℤ, pos, negsuc, Bool, true, false, cond, List}
-use Rattle.std.proofs.Common.{[], ◌∷◌, ◌++◌, map, length, take, drop, get_or, Option, Some, None}
-use Rattle.std.proofs.Common.{option_map, refl, ap, ap₂, sym, ◌∙◌, subst, arith}
-use Rattle.std.specs.Prelude.{◌||◌, not, slice_get, find}
+use Rattle.std.proofs.Common.{◌≡◌, ℕ, suc, zero, ◌<◌, ℤ, pos, negsuc, true, false, cond, List, []}
+use Rattle.std.proofs.Common.{◌∷◌, map, length, take, drop, get_or, Option, Some, None, option_map}
+use Rattle.std.proofs.Common.{refl, ap, ap₂, sym, ◌∙◌, subst, arith}
+use Rattle.std.specs.Prelude.{not, slice_get, find}
 use Rattle.std.specs.List.{range_with_len, zip}
 use Rattle.std.specs.Str.{bytes_eq}
 use Rattle.std.proofs.lemmas.Option.{slice_get-map, slice_get-get_or, get_or_from_slice_get}
 use Rattle.std.proofs.lemmas.List.{take-map, drop-map, length-map}
 use Rattle.std.proofs.lemmas.Slice.Eq.{bytes_eq-Decides}
+use Rattle.std.proofs.lemmas.Bool.{not-true}
 use Rattle.lb_syntax.specs.Lists.{◌>>=◌, all_some, some_of, either_or, listed}
 use Rattle.lb_syntax.specs.Tree.{Name, Static, Whole, Node}
+use Rattle.lb_syntax.proofs.TruthValues.{and_first, and_second, or_first, or_second}
 use Rattle.lb_static.specs.Instances.{Program, Instance, Path, Child, Site, static_value}
 use Rattle.lb_static.specs.Instances.{node_named, instance_count, callee_of, node_sites}
 use Rattle.lb_static.specs.Instances.{site_instances}
@@ -28,7 +30,7 @@ use Rattle.lb_static.specs.declared.reach.Reached.{Reached}
 use Rattle.lb_static.specs.declared.resolved.CallSite.{CallSite}
 use Rattle.lb_static.specs.declared.resolved.ResolvedNode.{ResolvedNode}
 use Rattle.lb_static.specs.declared.resolved.StaticId.{StaticId}
-use Rattle.lb_static.proofs.Lists.{and_first, and_second}
+use Rattle.lb_static.proofs.ReachedPlaces.{distinct_last}
 
 -- ## The node of a name
 
@@ -37,19 +39,7 @@ no_match : (x : Name) (ks : List Node) (i : ℕ) (k : Node) → slice_get ks i �
 no_match x [] i k e h = absurd cc
 no_match x (j ∷ js) zero k e h =
     let same : j ≡ k = cc in subst (λ l. bytes_eq x l.name ≡ false) same (or_first _ _ h)
-  where
-    or_first : (a b : Bool) → (a || b) ≡ false → a ≡ false
-    or_first true b f = absurd cc
-    or_first false b f = refl
 no_match x (j ∷ js) (suc i) k e h = no_match x js i k e (or_second (bytes_eq x j.name) _ h)
-  where
-    or_second : (a b : Bool) → (a || b) ≡ false → b ≡ false
-    or_second true b f = absurd cc
-    or_second false b f = f
-
-not_true : (b : Bool) → not b ≡ true → b ≡ false
-not_true true e = absurd cc
-not_true false e = refl
 
 -- of nodes with distinct names each is found by its name
 found_by_name : (ks : List Node) (i : ℕ) (k : Node) → are_distinct (map (λ n. n.name) ks) ≡ true
@@ -64,13 +54,9 @@ found_by_name (j ∷ js) zero k d e =
     ∙ ap (λ (n : Node). Some n) same
 found_by_name (j ∷ js) (suc i) k d e =
     let other = no_match j.name js i k e
-    (not_true _ (and_first _ (are_distinct (map (λ n. n.name) js)) d)) in
+    (not-true _ (and_first _ (are_distinct (map (λ n. n.name) js)) d)) in
     ap (λ b. cond b (Some j) (find (λ n. bytes_eq n.name k.name) js)) other
     ∙ found_by_name js i k (and_second (not (among j.name (map (λ n. n.name) js))) _ d) e
-
-distinct_back : (xs ys : List Name) → are_distinct (xs ++ ys) ≡ true → are_distinct ys ≡ true
-distinct_back [] ys d = d
-distinct_back (x ∷ xs) ys d = distinct_back xs ys (and_second (not (among x (xs ++ ys))) _ d)
 
 -- ## Lists
 
@@ -155,7 +141,7 @@ module _ (P : Program) (r : Reached) (c : Constants) (w : IsInstantiable P r c) 
       ap (λ (o : Option Name). either_or o [])
       (slice_get-map (λ (k : Node). k.name) P.source.nodes s.callee.0
       ∙ ap (option_map (λ (k : Node). k.name)) source) in
-      let distinct = distinct_back (map (λ k. k.name) P.source.constants) (source_names P)
+      let distinct = distinct_last (map (λ k. k.name) P.source.constants) (source_names P)
       (and_first (are_distinct (global_names P)) _ w.names) in
       ap (node_named P) name ∙ found_by_name P.source.nodes s.callee.0 (node_of m) distinct source
 

@@ -10,10 +10,15 @@ use Rattle.std.proofs.lemmas.List.{length-map}
 use Rattle.std.proofs.lemmas.List.Elements.{All-push}
 use Rattle.std.proofs.lemmas.Option.{slice_get-map, slice_get-get_or, slice_get_within}
 use Rattle.std.proofs.lemmas.Slice.Eq.{bytes_eq-Decides}
+use Rattle.std.proofs.lemmas.List.Folds.{list_all-append}
+use Rattle.std.proofs.lemmas.Bool.{and_from}
+use Rattle.std.proofs.lemmas.Map.Keys.{any_passes_from_place}
 use Rattle.lb_syntax.specs.Lists.{holds, either_or}
 use Rattle.lb_syntax.specs.SourceView.{view_node}
 use Rattle.lb_syntax.specs.Tree.{Name, Node, Source}
 use Rattle.lb_syntax.specs.declared.tree.Node as written
+use Rattle.lb_syntax.proofs.TruthValues.{and_first, and_second}
+use Rattle.lb_syntax.proofs.ListPlaces.{all_at, all_from, get_before, get_last}
 use Rattle.lb_static.specs.CalledNodes.{AreResolved, are_called, called, callees}
 use Rattle.lb_static.specs.Instances.{node_sites}
 use Rattle.lb_static.specs.NameFaults.{IsNameFault, named_in}
@@ -27,10 +32,9 @@ use Rattle.lb_static.specs.declared.resolved.CallSite.{CallSite}
 use Rattle.lb_static.specs.declared.resolved.ResolvedNode.{ResolvedNode}
 use Rattle.lb_static.proofs.Faults.{fault_within}
 use Rattle.lb_static.proofs.Reachability.{reachable_by, reachable_next, reachable_visits, within_is}
-use Rattle.lb_static.proofs.Lists.{all_append, and_first, and_second, both, map_next}
-use Rattle.lb_static.proofs.TestedItems.{all_weaker}
-use Rattle.lb_static.proofs.WorkLists.{all_at, at_all, at_any, append_before, append_last}
+use Rattle.lb_static.proofs.Lists.{map_next}
 use Rattle.lb_static.proofs.WorkLists.{grows_all, grows_both, visited_all}
+use Rattle.lb_static.proofs.Growth.{all_on}
 
 -- ## Look-ups
 
@@ -58,7 +62,7 @@ pub sites_within : (nodes : ℕ) (n : Counts) (sites : List CallSite)
     → list_all (is_site_within nodes n) sites ≡ true
     → list_all (λ s. nat_lt s.callee.0 nodes) sites ≡ true
 sites_within nodes n sites e =
-    all_weaker _ _ sites (λ s h. and_first (nat_lt s.callee.0 nodes) _ h) e
+    all_on _ _ sites (λ s h. and_first (nat_lt s.callee.0 nodes) _ h) e
 
 -- the name at the place of a node
 name_there : (ns : List Node) (p : ℕ) (a : Node) → slice_get ns p ≡ Some a
@@ -76,7 +80,7 @@ called_there s r h j c a at is =
     ap (λ l. slice_get l j) (sym h.calls)
     ∙ slice_get-map (site_of names (statics_of r)) r.calls.items j
     ∙ ap (option_map (site_of names (statics_of r))) at in
-    at_any (λ t. bytes_eq t.callee a.name) (node_sites (node_of r)) j
+    any_passes_from_place (λ t. bytes_eq t.callee a.name) (node_sites (node_of r)) j
     (site_of names (statics_of r) c) site
     ((bytes_eq-Decides _ a.name).1 (name_there s.nodes c.callee.0 a is))
 
@@ -129,7 +133,7 @@ module _ (s : Source) (before order : List ℕ) (nodes : List ResolvedNode) (r :
       by true e =
           let lt : turn < length nodes = grind (arith, nat_tests) in
           slice_get-map node_of (nodes ++ r ∷ []) turn
-          ∙ ap (option_map node_of) (append_before nodes (r ∷ []) turn lt)
+          ∙ ap (option_map node_of) (get_before nodes (r ∷ []) turn lt)
           ∙ sym (slice_get-map node_of nodes turn) ∙ h.stands turn p lt before_at
       by false e =
           let past : length nodes ≤ turn = grind (arith, nat_tests) in
@@ -138,7 +142,7 @@ module _ (s : Source) (before order : List ℕ) (nodes : List ResolvedNode) (r :
           let here : p ≡ place = cc in
           slice_get-map node_of (nodes ++ r ∷ []) turn
           ∙ ap (λ t. option_map node_of (slice_get (nodes ++ r ∷ []) t)) last
-          ∙ ap (option_map node_of) (append_last nodes r) ∙ sym at
+          ∙ ap (option_map node_of) (get_last nodes r) ∙ sym at
           ∙ ap (slice_get s.nodes) (sym here)
 
   -- what stands at the place is had
@@ -168,23 +172,23 @@ module _ (s : Source) (before order : List ℕ) (nodes : List ResolvedNode) (r :
   pub more_resolved : named_in s (node_of r) ≡ true → AreResolved s before after (nodes ++ r ∷ [])
   more_resolved named = record {
     resolved = All-push (IsResolved (map (λ n. n.name) s.nodes)) nodes r h.resolved is;
-    named = all_append (λ n. named_in s (node_of n)) nodes (r ∷ [])
-        ∙ both _ _ h.named (both _ _ named refl);
+    named = list_all-append (λ n. named_in s (node_of n)) nodes (r ∷ [])
+        ∙ and_from _ _ h.named (and_from _ _ named refl);
     few = omega (arith, below, grown.longer, length-append nodes (r ∷ []));
     stands = stands_more;
     grows = grows_both before order after h.grows grown;
     linked =
-        all_append (are_called after) nodes (r ∷ [])
-        ∙ both _ _ (all_weaker (are_called order) (are_called after) nodes
-        (λ n. all_weaker _ _ n.calls.items (λ c. grown.still c.callee.0)) h.linked)
-        (both _ _ (sym (all_map (is_visited after) (λ c. c.callee.0) r.calls.items)
+        list_all-append (are_called after) nodes (r ∷ [])
+        ∙ and_from _ _ (all_on (are_called order) (are_called after) nodes
+        (λ n. all_on _ _ n.calls.items (λ c. grown.still c.callee.0)) h.linked)
+        (and_from _ _ (sym (all_map (is_visited after) (λ c. c.callee.0) r.calls.items)
         ∙ visited_all order places) refl);
     reachable = λ start e.
         reachable_visits s.nodes start called (length order) order places (omega arith)
         (h.reachable start e)
         (all_map (λ p. holds (is_reachable s.nodes start called (suc (length order)))
         (slice_get s.nodes p)) (λ c. c.callee.0) r.calls.items
-        ∙ at_all (λ c. holds (is_reachable s.nodes start called (suc (length order)))
+        ∙ all_from (λ c. holds (is_reachable s.nodes start called (suc (length order)))
         (slice_get s.nodes c.callee.0)) r.calls.items (callee_reachable start e));
   }
 

@@ -9,8 +9,12 @@ use Rattle.std.proofs.lemmas.Bool.Decides.{nat_tests}
 use Rattle.std.proofs.lemmas.List.{length-map}
 use Rattle.std.proofs.lemmas.Option.{slice_get-map, slice_get_within}
 use Rattle.std.proofs.lemmas.Slice.Eq.{bytes_eq-Decides}
+use Rattle.std.proofs.lemmas.Bool.{and_from}
+use Rattle.std.proofs.lemmas.Map.Keys.{any_passes_from_place}
 use Rattle.lb_syntax.specs.Lists.{either_or, holds, listed}
 use Rattle.lb_syntax.specs.Tree.{Name, Constant, Source}
+use Rattle.lb_syntax.proofs.TruthValues.{and_first}
+use Rattle.lb_syntax.proofs.ListPlaces.{all_at, get_before, all_from}
 use Rattle.lb_static.specs.CalledNodes.{program_in}
 use Rattle.lb_static.specs.SourceNames.{constants_in, names_in_source}
 use Rattle.lb_static.specs.NameFaults.{IsNameFault}
@@ -27,11 +31,11 @@ use Rattle.lb_static.proofs.CalledNodes.{grown_at, reachable_passes, refuted, th
 use Rattle.lb_static.proofs.ConstantPlaces.{constant_found, constant_known}
 use Rattle.lb_static.proofs.Reachability.{closed_has, reachable_by, reachable_next}
 use Rattle.lb_static.proofs.Reachability.{reachable_visits, within_is}
-use Rattle.lb_static.proofs.Lists.{and_first, both}
-use Rattle.lb_static.proofs.TestedItems.{all_flat, all_weaker}
+use Rattle.lb_static.proofs.TestedItems.{all_flat}
 use Rattle.lb_static.proofs.ReachedPlaces.{filtered_from, mapped_from}
-use Rattle.lb_static.proofs.WorkLists.{all_at, any_at, append_before, at_all, at_any, at_visited}
-use Rattle.lb_static.proofs.WorkLists.{grows_all, grows_both, visited_all, visited_at}
+use Rattle.lb_static.proofs.WorkLists.{any_at, at_visited, grows_all, grows_both, visited_all}
+use Rattle.lb_static.proofs.WorkLists.{visited_at}
+use Rattle.lb_static.proofs.Growth.{all_on}
 
 -- the value of the first constant names the second
 abbrev pub names_constant : Constant → Constant → Bool
@@ -62,7 +66,7 @@ module _ (s : Source) (g : Globals) (names : g.names ≡ names_in_source s)
         let below : p < length (constants_in s) =
         omega (arith, f.below, count, length-map s.constants (λ k. k.name)) in
         let is = sym (slice_get-map (λ k. k.name) s.constants p ∙ ap (option_map (λ k. k.name)) at)
-        ∙ (sym (append_before (constants_in s) (map (λ n. n.name) s.nodes) p below)
+        ∙ (sym (get_before (constants_in s) (map (λ n. n.name) s.nodes) p below)
         ∙ ap (λ l. slice_get l p) (sym names) ∙ f.at) in
         let same : Some c.name ≡ Some x = is in
         ap (λ o. either_or o x) same
@@ -76,7 +80,7 @@ module _ (s : Source) (g : Globals) (names : g.names ≡ names_in_source s)
         let early : p < g.constants = omega (arith, inside, count) in
         constant_known g.names g.constants c.name p (ap are_distinct names ∙ once) early
         (ap (λ l. slice_get l p) names
-        ∙ append_before (constants_in s) (map (λ n. n.name) s.nodes) p below
+        ∙ get_before (constants_in s) (map (λ n. n.name) s.nodes) p below
         ∙ slice_get-map (λ k. k.name) s.constants p ∙ ap (option_map (λ k. k.name)) at)
 
     -- a name is that of a constant where its place is found
@@ -91,8 +95,8 @@ module _ (s : Source) (g : Globals) (names : g.names ≡ names_in_source s)
             let f = constant_found g.names g.constants x p at in
             let below : p < length (constants_in s) =
             omega (arith, f.below, count, length-map s.constants (λ k. k.name)) in
-            at_any (bytes_eq x) (constants_in s) p x
-            (sym (append_before (constants_in s) (map (λ n. n.name) s.nodes) p below)
+            any_passes_from_place (bytes_eq x) (constants_in s) p x
+            (sym (get_before (constants_in s) (map (λ n. n.name) s.nodes) p below)
             ∙ ap (λ l. slice_get l p) (sym names) ∙ f.at) ((bytes_eq-Decides x x).1 refl)
 
     known_from : (x : Name) → is_constant (program_in s) x ≡ true
@@ -130,7 +134,7 @@ module _ (s : Source) (g : Globals) (names : g.names ≡ names_in_source s)
           (slice_get s.constants p)) places ≡ true
       named_reachable start e =
           all_flat (had_there start) (place_named g []) (static_names c.value)
-          ∙ at_all (λ x. list_all (had_there start) (place_named g [] x)) (static_names c.value)
+          ∙ all_from (λ x. list_all (had_there start) (place_named g [] x)) (static_names c.value)
           (λ i x is. by x i is (constant_place g.names g.constants x) refl)
         where
           here : is_reachable s.constants start names_constant (length order) c ≡ true
@@ -148,12 +152,12 @@ module _ (s : Source) (g : Globals) (names : g.names ≡ names_in_source s)
               let lt : nat_lt p (length s.constants)
               ≡ true = (let below : p < length s.constants =
               omega (arith, f.below, count) in grind (arith, nat_tests)) in
-              both _ _ (there s.constants p
+              and_from _ _ (there s.constants p
               (is_reachable s.constants start names_constant (suc (length order))) lt
               (λ a found_at. reachable_next s.constants start names_constant (length order) place a
               c at
               here
-              (at_any (bytes_eq a.name) (static_names c.value) i x is
+              (any_passes_from_place (bytes_eq a.name) (static_names c.value) i x is
               ((bytes_eq-Decides a.name x).1 (name_of_place x p a found found_at))))) refl
 
       earlier : (turn p : ℕ) → turn < suc done → slice_get after turn ≡ Some p
@@ -189,7 +193,7 @@ module _ (s : Source) (g : Globals) (names : g.names ≡ names_in_source s)
         judged = more_judged_at (λ d. is_judged g (static_names d.value) ≡ true) good h.judged;
         linked = more_judged_at (λ d. list_all (is_visited after)
             (places_named g [] (static_names d.value)) ≡ true) (visited_all order places)
-            (λ turn p d below found is. all_weaker (is_visited order) (is_visited after)
+            (λ turn p d below found is. all_on (is_visited order) (is_visited after)
             (places_named g [] (static_names d.value)) grown.still
             (h.linked turn p d below found is));
         reachable = λ start e. reachable_visits s.constants start names_constant (length order)
@@ -216,7 +220,7 @@ module _ (s : Source) (g : Globals) (names : g.names ≡ names_in_source s)
     starts_reachable : (xs : List Name) (before : List ℕ) → AreNamed s xs before
         → AreReachable s.constants (begins xs) names_constant before
     starts_reachable xs before n =
-        at_all (λ p. holds (is_reachable s.constants (begins xs) names_constant (length before))
+        all_from (λ p. holds (is_reachable s.constants (begins xs) names_constant (length before))
         (slice_get s.constants p)) before
         (λ turn p at. there s.constants p
         (is_reachable s.constants (begins xs) names_constant (length before))
@@ -229,7 +233,7 @@ module _ (s : Source) (g : Globals) (names : g.names ≡ names_in_source s)
         → AreJudged s g before after done → length after ≤ done → AreNamed s xs before
         → keeps_constants s xs ≡ true
     all_judged before after done xs h all n =
-        at_all is_good (constants_within (program_in s) xs (length s.constants)) (λ i c at.
+        all_from is_good (constants_within (program_in s) xs (length s.constants)) (λ i c at.
         let k = filtered_from (is_reachable s.constants (begins xs) names_constant
         (length s.constants))
         s.constants i c
@@ -242,7 +246,7 @@ module _ (s : Source) (g : Globals) (names : g.names ≡ names_in_source s)
         let t = visited_at after k.place came in
         let below : t.turn < done =
         omega (arith, slice_get_within after t.turn k.place t.at, all) in
-        all_weaker (λ x. is_some (constant_place g.names g.constants x))
+        all_on (λ x. is_some (constant_place g.names g.constants x))
         (is_constant (program_in s))
         (static_names c.value) known_is (h.judged t.turn k.place c below t.at k.at))
       where
@@ -279,7 +283,7 @@ module _ (s : Source) (g : Globals) (names : g.names ≡ names_in_source s)
         next in
         fault_within e false (keeps_constants s xs) fault
         (λ no. refuted (is_judged g (static_names c.value)) (keeps_constants s xs)
-        (λ all. all_weaker (is_constant (program_in s))
+        (λ all. all_on (is_constant (program_in s))
         (λ x. is_some (constant_place g.names g.constants x)) (static_names c.value) known_from
         (reachable_passes s.constants (begins xs) names_constant is_good (length order)
         (length s.constants)

@@ -8,8 +8,11 @@ use Rattle.std.specs.List.{list_any}
 use Rattle.std.specs.Str.{bytes_eq}
 use Rattle.std.proofs.lemmas.Bool.Decides.{nat_tests}
 use Rattle.std.proofs.Math.ListN.{drop_of_length-le}
-use Rattle.std.proofs.lemmas.List.{drop_more}
+use Rattle.std.proofs.lemmas.List.{drop_more, append-nil}
 use Rattle.std.proofs.lemmas.Slice.Eq.{bytes_eq-Decides}
+use Rattle.std.proofs.lemmas.Grind.{flat_map-append}
+use Rattle.std.proofs.Math.Bool.{or-false, or_assoc}
+use Rattle.std.proofs.lemmas.Map.Keys.{any_passes_from_place}
 use Rattle.lb_syntax.specs.Lists.{◌>>=◌, listed, where_true}
 use Rattle.lb_syntax.specs.Tree.{Name}
 use Rattle.lb_static.specs.NamedConstants.{constant_place, part_constants, place_named}
@@ -21,10 +24,10 @@ use Rattle.lb_static.specs.declared.resolved.StaticPart.{StaticPart}
 use Rattle.lb_static.specs.Scopes.{declared_after}
 use Rattle.lb_static.specs.WorkLists.{visited_after, visited_after_all}
 use Rattle.lb_static.specs.declared.globals.Globals.{Globals}
-use Rattle.lb_static.proofs.Lists.{append_assoc, none_passes, some_passes}
+use Rattle.lb_static.proofs.Lists.{none_passes, some_passes}
 use Rattle.lb_static.proofs.ReachedPlaces.{distinct_places}
 use Rattle.lb_static.proofs.Scopes.{among_append, name_at_place}
-use Rattle.lb_static.proofs.WorkLists.{at_any, visit_append}
+use Rattle.lb_static.proofs.WorkLists.{visit_append}
 
 -- ## Visits of names
 
@@ -59,17 +62,6 @@ visit_unknown order g hidden x e at =
     ∙ ap (λ b. visited_after_all order
     (if b then [] else listed (λ q. q ∷ []) (constant_place g.names g.constants x))) (sym e)
 
-pub flat_append : {A B : Type 0} (f : A → List B) (xs ys : List A)
-    → flat_map f (xs ++ ys) ≡ flat_map f xs ++ flat_map f ys
-flat_append f [] ys = refl
-flat_append f (x ∷ xs) ys =
-    ap (λ l. f x ++ l) (flat_append f xs ys)
-    ∙ sym (append_assoc (f x) (flat_map f xs) (flat_map f ys))
-
-append_none : {A : Type 0} (xs : List A) → xs ++ [] ≡ xs
-append_none [] = refl
-append_none (x ∷ xs) = ap (λ l. x ∷ l) (append_none xs)
-
 pub visit_no_names : (order : List ℕ) (g : Globals) (hidden : List Name)
     → order ≡ visited_after_all order (places_named g hidden [])
 unfolding visited_after_all
@@ -79,7 +71,7 @@ pub visit_one_name : (order : List ℕ) (g : Globals) (hidden : List Name) (x : 
     → visited_after_all order (place_named g hidden x)
     ≡ visited_after_all order (places_named g hidden (x ∷ []))
 visit_one_name order g hidden x =
-    ap (visited_after_all order) (sym (append_none (place_named g hidden x)))
+    ap (visited_after_all order) (sym (append-nil (place_named g hidden x)))
 
 pub visit_both_names : (order middle after : List ℕ) (g : Globals) (hidden xs ys : List Name)
     → middle ≡ visited_after_all order (places_named g hidden xs)
@@ -88,7 +80,7 @@ pub visit_both_names : (order middle after : List ℕ) (g : Globals) (hidden xs 
 visit_both_names order middle after g hidden xs ys e f =
     f ∙ ap (λ o. visited_after_all o (places_named g hidden ys)) e
     ∙ sym (visit_append order (places_named g hidden xs) (places_named g hidden ys))
-    ∙ ap (visited_after_all order) (sym (flat_append (place_named g hidden) xs ys))
+    ∙ ap (visited_after_all order) (sym (flat_map-append (place_named g hidden) xs ys))
 
 -- ## Visits of the items of a list
 
@@ -109,14 +101,6 @@ visit_end f order all xs i past inv =
 
 -- ## Parameters
 
-or_false : (b : Bool) → (b || false) ≡ b
-or_false true = refl
-or_false false = refl
-
-or_assoc : (a b c : Bool) → ((a || b) || c) ≡ (a || (b || c))
-or_assoc true b c = refl
-or_assoc false b c = refl
-
 among_after : (x y : Name) (names : List Name)
     → among x (declared_after names y) ≡ (among x names || bytes_eq x y)
 among_after x y names = by (among y names) refl
@@ -133,7 +117,7 @@ among_after x y names = by (among y names) refl
         → among x (if b then names else names ++ y ∷ []) ≡ (among x names || bytes_eq x y)
     by true e = absorbed (among x names) (bytes_eq x y) (seen e)
     by false e = among_append x names (y ∷ [])
-        ∙ ap (λ b. among x names || b) (or_false (bytes_eq x y))
+        ∙ ap (λ b. among x names || b) (or-false (bytes_eq x y))
 
 pub parameter_more : (x : Name) (names after all : List Name) (ys : List Name) (i : ℕ) (d : Name)
     → i < length ys → after ≡ declared_after names (get_or ys i d)
@@ -148,7 +132,7 @@ parameter_more x names after all ys i d below e inv =
 pub parameters_end : (x : Name) (names all : List Name) (ys : List Name) (i : ℕ) → length ys ≤ i
     → (among x names || among x (drop i ys)) ≡ among x all → among x names ≡ among x all
 parameters_end x names all ys i past inv =
-    sym (or_false (among x names))
+    sym (or-false (among x names))
     ∙ ap (λ l. among x names || among x l) (sym (drop_of_length-le ys past)) ∙ inv
 
 -- what is hidden decides alone
@@ -209,7 +193,8 @@ constant_known names count x place d below at = by (position (bytes_eq x) names)
         → constant_place names count x ≡ Some place
     by None e =
         let none = none_passes (bytes_eq x) names e in
-        let some = at_any (bytes_eq x) names place x at ((bytes_eq-Decides x x).1 refl) in
+        let some =
+        any_passes_from_place (bytes_eq x) names place x at ((bytes_eq-Decides x x).1 refl) in
         absurd cc
     by (Some i) e =
         let same = distinct_places names i place x d (name_at_place x names i e) at in

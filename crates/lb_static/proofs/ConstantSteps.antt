@@ -7,7 +7,8 @@ use Rattle.std.specs.Borrow.{Bor}
 use Rattle.std.specs.List.{position_or_len}
 use Rattle.std.specs.Str.{bytes_eq}
 use Rattle.std.proofs.lemmas.Bool.Decides.{nat_tests}
-use Rattle.std.proofs.lemmas.List.{length-map, length-set, get_or-set_same, length-replicate}
+use Rattle.std.proofs.lemmas.List.{length-map, length-set, get_or-set_same, map-append}
+use Rattle.std.proofs.lemmas.List.{append_assoc}
 use Rattle.std.proofs.lemmas.List.Folds.{find_at}
 use Rattle.std.proofs.lemmas.List.Sums.{sum_by-set, count_by-le-length}
 use Rattle.std.proofs.lemmas.Option.{slice_get-map, slice_get_past, slice_get_within}
@@ -25,7 +26,8 @@ use Rattle.lb_static.specs.Parts.{among, static_names}
 use Rattle.lb_static.specs.Scopes.{declared_after}
 use Rattle.lb_static.specs.StaticValues.{named, value_under, constant_value}
 use Rattle.lb_static.specs.Tasks.{waiting}
-use Rattle.lb_static.proofs.Lists.{append_assoc, map_next}
+use Rattle.lb_static.proofs.Lists.{map_next}
+use Rattle.lb_static.proofs.Scopes.{bytes_eq-symmetric}
 
 -- ## What has a value keeps it where more names have one
 
@@ -85,22 +87,12 @@ steps_keep cs n m le x v e =
 
 -- ## What a name stands for
 
-symmetric : (x y : Name) → bytes_eq x y ≡ bytes_eq y x
-symmetric x y = by (bytes_eq x y) (bytes_eq y x) refl refl
-  where
-    by : (a b : Bool) → bytes_eq x y ≡ a → bytes_eq y x ≡ b → a ≡ b
-    by true true p q = refl
-    by false false p q = refl
-    by true false p q = let e =
-        (bytes_eq-Decides y x).1 (sym ((bytes_eq-Decides x y).0 p)) in absurd cc
-    by false true p q = let e =
-        (bytes_eq-Decides x y).1 (sym ((bytes_eq-Decides y x).0 q)) in absurd cc
-
 place_is : (x : Name) (cs : List Constant)
     → position_or_len (bytes_eq x) (names_of cs) ≡ position_or_len (λ c. bytes_eq c.name x) cs
 place_is x [] = refl
 place_is x (c ∷ cs) =
-    ap (λ b. cond (not b) (1 + position_or_len (bytes_eq x) (names_of cs)) 0) (symmetric x c.name)
+    ap (λ b. cond (not b) (1 + position_or_len (bytes_eq x) (names_of cs)) 0)
+    (bytes_eq-symmetric x c.name)
     ∙ ap (λ n. cond (not (bytes_eq c.name x)) (1 + n) 0) (place_is x cs)
 
 -- the first constant of a name is the one at its place
@@ -202,20 +194,6 @@ held_none : (n : ℕ) (i : ℕ) → (slice_get (replicate {A = Option ℤ} n Non
 held_none zero i = refl
 held_none (suc n) zero = refl
 held_none (suc n) (suc i) = held_none n i
-
-pub sound_first : (cs : List Constant) (vs : List (Option ℤ)) → vs ≡ replicate (length cs) None
-    → IsSound cs vs
-sound_first cs vs e = record {
-  as_many = ap length e ∙ length-replicate (length cs) None;
-  is_value = λ x w held. by x w (position (bytes_eq x) (names_of cs))
-      (ap (λ us. value_held (names_of cs) us x) (sym e) ∙ held);
-}
-  where
-    by : (x : Name) (w : ℤ) (o : Option ℕ)
-        → (o >>= λ i. slice_get (replicate (length cs) None) i >>= λ u. u) ≡ Some w
-        → constant_value cs (known vs) x ≡ Some w
-    by x w None held = absurd cc
-    by x w (Some i) held = let none = held_none (length cs) i in absurd cc
 
 -- ## When all values are held
 
@@ -417,10 +395,6 @@ all_values ks ds names vs same first few sound stable =
 
 -- ## The first constants one by one
 
-map_append : {A B : Type 0} (f : A → B) (xs ys : List A) → map f (xs ++ ys) ≡ map f xs ++ map f ys
-map_append f [] ys = refl
-map_append f (x ∷ xs) ys = ap (λ zs. f x ∷ zs) (map_append f xs ys)
-
 next_are : (fs : List Constant) (ks : List written.Constant) (i : ℕ) (k : written.Constant)
     → i < length ks → k ≡ get_or ks i k
     → fs ++ map view_constant (drop i ks) ≡ fs ++ view_constant k
@@ -450,11 +424,11 @@ first_taken fs gs r ks i names after below is same first declared fresh taken = 
     appended false e = refl
 
     read_after : read_constants gs ≡ read_constants fs ++ view_constant r.now ∷ []
-    read_after = ap read_constants taken ∙ map_append (λ k. view_constant k.now) fs (r ∷ [])
+    read_after = ap read_constants taken ∙ map-append (λ k. view_constant k.now) fs (r ∷ [])
 
     names_after : names_of (read_constants gs) ≡ names_of (read_constants fs) ++ r.now.name ∷ []
     names_after = ap names_of read_after
-        ∙ map_append (λ c. c.name) (read_constants fs) (view_constant r.now ∷ [])
+        ∙ map-append (λ c. c.name) (read_constants fs) (view_constant r.now ∷ [])
 
     all_after : read_constants gs ++ map view_constant (drop (i + 1) ks) ≡ read_constants fs
         ++ map view_constant (drop i ks)

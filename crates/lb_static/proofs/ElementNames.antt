@@ -9,17 +9,20 @@ use Rattle.std.proofs.Math.Numerals.{suc-eq-add-one}
 use Rattle.std.proofs.Common.{◌<◌, ◌≤◌, Bor, drop, get_or, min, ⊎_elim}
 use Rattle.std.proofs.lemmas.Bool.{cases_lt}
 use Rattle.std.proofs.lemmas.List.{drop_more, drop_all}
-use Rattle.lb_static.specs.Interfaces.{view_type, view_types, elements_in_all, elements_named}
-use Rattle.lb_static.specs.declared.data_type.DataType as seen
+use Rattle.lb_static.specs.Interfaces.{elements_named}
+use Rattle.lb_static.specs.StoredTypes.{view_type}
+use Rattle.lb_static.specs.declared.data_type.DataType as stored
 use Rattle.std.proofs.lemmas.List.{map-id}
 use Rattle.lb_syntax.specs.Grammar.{declared, declarations}
 use Rattle.lb_syntax.specs.SourceView.{view_clock, view_group, view_groups}
 use Rattle.lb_syntax.specs.View.{view_statics}
 use Rattle.lb_syntax.specs.declared.tree.Declarations.{Declarations}
 use Rattle.lb_static.proofs.Lists.{map_map}
+use Rattle.lb_static.proofs.TypeViews.{total_from}
 use Rattle.lb_syntax.specs.Tree.{Name, Declaration}
 use Rattle.lb_syntax.specs.declared.tree.Kind.{Kind}
-use Rattle.lb_static.specs.DataTypes.{DataType, element_names, product, index_text}
+use Rattle.lb_static.specs.DataTypes.{DataType, element_count, element_names, product, index_text}
+use Rattle.lb_static.specs.DataTypes.{total}
 use Rattle.lb_static.specs.Signature.{Elements}
 
 -- parts of one length
@@ -84,28 +87,28 @@ count_more kind inner first before after i element so_far pushed =
 -- ## Variables with names and types
 
 -- the variables from a place on
-abbrev pub named_from : List (Bor Name) → List seen.DataType → ℕ → Elements
+abbrev pub named_from : List (Bor Name) → List stored.DataType → ℕ → Elements
 named_from names data_types k =
-    elements_named (map (λ x. x.now) (drop k names)) (view_types (drop k data_types))
+    elements_named (map (λ x. x.now) (drop k names)) (map view_type (drop k data_types))
 
 abbrev pub elements_of : Name → DataType → Elements
 elements_of x s = map (λ n. (n, s.kind)) (element_names x s.sizes)
 
-first_of : (names : List (Bor Name)) (data_types : List seen.DataType) (k : ℕ) (name : Bor Name)
-    (data_type : seen.DataType) → k < length names → k < length data_types
+first_of : (names : List (Bor Name)) (data_types : List stored.DataType) (k : ℕ) (name : Bor Name)
+    (data_type : stored.DataType) → k < length names → k < length data_types
     → name ≡ get_or names k name → data_type ≡ get_or data_types k data_type
     → named_from names data_types k ≡ elements_of name.now (view_type data_type)
     ++ named_from names data_types (k + 1)
 first_of names data_types k name data_type below within is same =
-    ap (λ l. elements_named (map (λ x. x.now) l) (view_types (drop k data_types)))
+    ap (λ l. elements_named (map (λ x. x.now) l) (map view_type (drop k data_types)))
     (drop_more names k name below ∙ ap (λ x. x ∷ drop (k + 1) names) (sym is))
-    ∙ ap (λ l. elements_named (name.now ∷ map (λ x. x.now) (drop (k + 1) names)) (view_types l))
+    ∙ ap (λ l. elements_named (name.now ∷ map (λ x. x.now) (drop (k + 1) names)) (map view_type l))
     (drop_more data_types k data_type within ∙ ap (λ x. x ∷ drop (k + 1) data_types) (sym same))
 
 -- one variable more
-pub one_variable : (names : List (Bor Name)) (data_types : List seen.DataType) (k : ℕ)
+pub one_variable : (names : List (Bor Name)) (data_types : List stored.DataType) (k : ℕ)
     (name : Bor Name)
-    (data_type : seen.DataType) (before after all : Elements)
+    (data_type : stored.DataType) (before after all : Elements)
     → k < length names → k < length data_types → name ≡ get_or names k name
     → data_type ≡ get_or data_types k data_type → before ++ named_from names data_types k ≡ all
     → after ≡ before ++ elements_of name.now (view_type data_type)
@@ -117,33 +120,25 @@ one_variable names data_types k name data_type before after all below within is 
     ∙ ap (λ l. before ++ l) (sym (first_of names data_types k name data_type below within is same))
     ∙ so_far
 
-count_from : (data_types : List seen.DataType) (k : ℕ) (data_type : seen.DataType)
-    → k < length data_types
-    → data_type ≡ get_or data_types k data_type
-    → elements_in_all (view_types (drop k data_types)) ≡ product data_type.sizes.items
-    + elements_in_all (view_types (drop (k + 1) data_types))
-count_from data_types k data_type within same =
-    ap (λ l. elements_in_all (view_types l))
-    (drop_more data_types k data_type within ∙ ap (λ x. x ∷ drop (k + 1) data_types) (sym same))
-
 -- there is room for the variables after one more
-pub has_room_after : (data_types : List seen.DataType) (k : ℕ) (name : Bor Name)
-    (data_type : seen.DataType)
+pub has_room_after : (data_types : List stored.DataType) (k : ℕ) (name : Bor Name)
+    (data_type : stored.DataType)
     (before after : Elements) → k < length data_types → data_type ≡ get_or data_types k data_type
-    → length before + elements_in_all (view_types (drop k data_types)) ≤ 1023
+    → length before + total (map view_type (drop k data_types)) ≤ 1023
     → after ≡ before ++ elements_of name.now (view_type data_type)
-    → length after + elements_in_all (view_types (drop (k + 1) data_types)) ≤ 1023
+    → length after + total (map view_type (drop (k + 1) data_types)) ≤ 1023
 has_room_after data_types k name data_type before after within same room pushed =
-    let e = count_from data_types k data_type within same in
+    let e = total_from data_types k data_type within same in
     let f : length after ≡ length before + length (elements_of name.now (view_type data_type)) =
     ap length pushed ∙ length-append before (elements_of name.now (view_type data_type)) in
     let g : length (elements_of name.now (view_type data_type))
-    ≡ product data_type.sizes.items = length-map (element_names name.now data_type.sizes.items)
-    (λ x. (x, data_type.kind)) ∙ length-element_names name.now data_type.sizes.items in
+    ≡ element_count (view_type data_type) =
+    length-map (element_names name.now (view_type data_type).sizes)
+    (λ x. (x, data_type.kind)) ∙ length-element_names name.now (view_type data_type).sizes in
     omega arith
 
 -- all variables
-pub all_variables : (names : List (Bor Name)) (data_types : List seen.DataType) (k : ℕ)
+pub all_variables : (names : List (Bor Name)) (data_types : List stored.DataType) (k : ℕ)
     (before all : Elements) → k ≡ min (length names) (length data_types)
     → before ++ named_from names data_types k ≡ all → before ≡ all
 all_variables names data_types k before all past so_far =
@@ -157,13 +152,13 @@ all_variables names data_types k before all past so_far =
     no_names : length names < length data_types → named_from names data_types k ≡ []
     no_names h =
         let e : length names ≤ k = omega arith in
-        ap (λ l. elements_named (map (λ x. x.now) l) (view_types (drop k data_types)))
+        ap (λ l. elements_named (map (λ x. x.now) l) (map view_type (drop k data_types)))
         (drop_all k names e)
 
     no_data_types : length data_types ≤ length names → named_from names data_types k ≡ []
     no_data_types h =
         let e : length data_types ≤ k = omega arith in
-        ap (λ l. elements_named (map (λ x. x.now) (drop k names)) (view_types l))
+        ap (λ l. elements_named (map (λ x. x.now) (drop k names)) (map view_type l))
         (drop_all k data_types e) ∙ ends (map (λ x. x.now) (drop k names))
 
 -- ## The names of a group

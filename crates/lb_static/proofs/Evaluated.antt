@@ -4,8 +4,9 @@ use Rattle.std.proofs.Common.{length, take, drop, Option, Some, None, option_map
 use Rattle.std.proofs.Common.{sym, ◌∙◌, arith}
 use Rattle.std.specs.Prelude.{◌&&◌, flat_map, is_some, nat_le}
 use Rattle.std.specs.List.{list_all}
-use Rattle.std.proofs.lemmas.List.{length-map, reverse-append, take-map, drop-map, map-append}
-use Rattle.std.proofs.lemmas.List.Folds.{list_all-map}
+use Rattle.std.proofs.lemmas.List.{length-map, take-map, drop-map}
+use Rattle.std.proofs.lemmas.List.Folds.{list_all-map, list_all-append}
+use Rattle.std.proofs.Math.Bool.{and-true, and-false}
 use Rattle.lb_syntax.specs.Lists.{◌>>=◌, all_some, either_or, zip2}
 use Rattle.lb_syntax.specs.SourceView.{view_node}
 use Rattle.lb_syntax.specs.Tree.{Name, Declaration}
@@ -27,18 +28,13 @@ use Rattle.lb_static.specs.declared.resolved.Variable.{Variable as Declared}
 use Rattle.lb_static.proofs.Evaluations.{some_each}
 use Rattle.lb_static.proofs.ValuedInstances.{instance_with, values_judged, variables_declared}
 use Rattle.lb_static.proofs.ValuedInstances.{groups_of}
-use Rattle.lb_static.proofs.Lists.{all_append, map_map}
+use Rattle.lb_static.proofs.Lists.{map_map}
 use Rattle.lb_static.proofs.NodeRanges.{pass_after, ranges_are, node_ranges, body_passes, is_size}
 use Rattle.lb_static.proofs.NodeRanges.{is_index, is_slice}
 use Rattle.lb_static.proofs.NodeValues.{some_all, sizes_in}
 use Rattle.lb_static.proofs.OwnParts.{body_is}
 use Rattle.lb_static.proofs.Widths.{narrow_is}
-
-map_reverse : {A B : Type 0} (f : A → B) (xs : List A) → map f (reverse xs) ≡ reverse (map f xs)
-map_reverse f [] = refl
-map_reverse f (x ∷ xs) =
-    ap (map f) (reverse-append (x ∷ []) xs) ∙ map-append f (reverse xs) (x ∷ [])
-    ∙ ap (λ l. l ++ f x ∷ []) (map_reverse f xs) ∙ sym (reverse-append (f x ∷ []) (map f xs))
+use Rattle.lb_static.proofs.Options.{map_reverse}
 
 all_zipped : {A B C : Type 0} (f : A → B → C) (q : C → Bool) (p : B → Bool) (xs : List A)
     (ys : List B) → length xs ≡ length ys
@@ -134,16 +130,8 @@ module _ (P : Program) (p : Path) (r : ResolvedNode) (values : List (Name × ℤ
       && body_passes given variable (node_parts here.node)) (variables_declared w)
 
   regroup : (d s i l w : Bool) → ((d && (s && (i && l))) && w) ≡ ((d && s) && (w && (i && l)))
-  regroup true true i l true = and_true (i && l)
-    where
-      and_true : (b : Bool) → (b && true) ≡ b
-      and_true true = refl
-      and_true false = refl
-  regroup true true i l false = and_false (i && l)
-    where
-      and_false : (b : Bool) → (b && false) ≡ false
-      and_false true = refl
-      and_false false = refl
+  regroup true true i l true = and-true (i && l)
+  regroup true true i l false = and-false (i && l)
   regroup true false i l w = refl
   regroup false s i l w = refl
 
@@ -160,7 +148,7 @@ module _ (P : Program) (p : Path) (r : ResolvedNode) (values : List (Name × ℤ
       (list_all (λ d. nat_le (width P here d) 65536) (variables here.node))
       ∙ ap (λ b. b && (list_all (λ d. nat_le (width P here d) 65536) (variables here.node)
       && (indexes && slices)))
-      (sym (all_append (is_size given) (declared_sizes here.node) (flat_map own_sizes es)))
+      (sym (list_all-append (is_size given) (declared_sizes here.node) (flat_map own_sizes es)))
 
   pub values_held : (vs : List ℤ) → part_values given r.statics.items ≡ Some vs
       → map (λ v. Some v) vs ≡ map (static_value P here) (statics_of r)

@@ -2,19 +2,19 @@
 use Rattle.std.proofs.Common.{◌≡◌, ℕ, ◌+◌, ◌<◌, ◌≤◌, ℤ, true, List, [], ◌∷◌, ◌++◌, length, drop}
 use Rattle.std.proofs.Common.{map, get_or, Option, Some, None, option_map, refl, ap, sym, ◌∙◌}
 use Rattle.std.proofs.Common.{subst}
-use Rattle.std.proofs.lemmas.List.{drop_more, append-nil, length-map}
+use Rattle.std.proofs.lemmas.List.{drop_more, append-nil, length-map, append_assoc}
 use Rattle.std.specs.Prelude.{nat_le}
 use Rattle.std.specs.List.{list_all}
 use Rattle.std.proofs.Math.ListN.{drop_of_length-le}
 use Rattle.lb_syntax.specs.Lists.{all_some}
 use Rattle.lb_syntax.specs.Tree.{Name}
+use Rattle.lb_syntax.proofs.TruthValues.{and_first}
 use Rattle.lb_static.specs.Specialized.{part_value, part_values}
 use Rattle.lb_static.specs.ResolvedNodes.{counts_of}
 use Rattle.lb_static.specs.ResolvedTerms.{is_declared_within, is_sampling_within}
 use Rattle.lb_static.specs.declared.resolved.ResolvedNode.{ResolvedNode}
 use Rattle.lb_static.specs.declared.resolved.StaticPart.{StaticPart}
-use Rattle.lb_static.proofs.Lists.{append_assoc, and_first}
-use Rattle.lb_static.proofs.TestedItems.{all_weaker}
+use Rattle.lb_static.proofs.Growth.{all_on}
 
 -- ## All values, one after another
 
@@ -89,7 +89,7 @@ pub sizes_stand : (n : ResolvedNode) (count : ℕ) → count ≡ length n.static
 sizes_stand n count e h =
     subst (λ k. list_all (λ v. nat_le (v.first_size.0 + v.sizes) k) n.variables.items ≡ true)
     (sym e)
-    (all_weaker (is_declared_within (counts_of n))
+    (all_on (is_declared_within (counts_of n))
     (λ v. nat_le (v.first_size.0 + v.sizes) (length n.statics.items)) n.variables.items
     (λ v g. and_first (nat_le (v.first_size.0 + v.sizes) (length n.statics.items))
     (is_sampling_within (counts_of n) v.clock) g) h)

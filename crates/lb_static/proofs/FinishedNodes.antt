@@ -5,7 +5,7 @@ use Rattle.std.specs.Prelude.{flat_map, Vec}
 use Rattle.std.specs.declared.alloc.Global.{Global}
 use Rattle.std.specs.List.{list_all}
 use Rattle.std.proofs.lemmas.Grind.{flat_map-append}
-use Rattle.std.proofs.lemmas.List.{length-map, map-append}
+use Rattle.std.proofs.lemmas.List.{length-map, map-append, append_assoc}
 use Rattle.lb_syntax.specs.Grammar.{Group, declared}
 use Rattle.lb_syntax.specs.Lists.{zip2}
 use Rattle.lb_syntax.specs.SourceView.{view_group, view_groups, view_node, view_source}
@@ -35,7 +35,7 @@ use Rattle.lb_static.specs.declared.node_scope.NodeScope.{NodeScope}
 use Rattle.lb_static.specs.declared.resolved.ResolvedNode.{ResolvedNode}
 use Rattle.lb_static.specs.declared.resolved.ResolvedStatement.{ResolvedStatement}
 use Rattle.lb_static.specs.declared.resolved.Variable.{Variable}
-use Rattle.lb_static.proofs.Lists.{append_assoc, map_map}
+use Rattle.lb_static.proofs.Lists.{map_map}
 
 -- ## What is found of a node
 

@@ -1,16 +1,19 @@
 -- What stands for a part of a node stands for it when more is found.
-use Rattle.std.proofs.Common.{◌≡◌, ℕ, zero, suc, ◌+◌, ◌<◌, ◌≤◌, Bool, true, false, cond, List, []}
-use Rattle.std.proofs.Common.{◌∷◌, ◌++◌, length, take, drop, map, Option, Some, None, option_map}
-use Rattle.std.proofs.Common.{refl, ap, sym, subst, ◌∙◌, arith, length-append, length-drop, ◌-◌}
+use Rattle.std.proofs.Common.{◌≡◌, ℕ, ◌+◌, ◌<◌, ◌≤◌, Bool, true, false, cond, List, [], ◌∷◌, ◌++◌}
+use Rattle.std.proofs.Common.{length, take, drop, map, Option, Some, None, option_map, refl, ap}
+use Rattle.std.proofs.Common.{sym, subst, ◌∙◌, arith, length-append, length-drop, ◌-◌}
 use Rattle.std.specs.Prelude.{◌&&◌, nat_lt, nat_le, slice_get}
 use Rattle.std.specs.List.{list_all}
 use Rattle.std.proofs.lemmas.Bool.Decides.{nat_tests}
 use Rattle.std.proofs.lemmas.List.{append-nil, map-append, length-map, drop-append-le}
 use Rattle.std.proofs.lemmas.List.{take-append-le}
+use Rattle.std.proofs.lemmas.Bool.{ltb-true, leb-true, and_from}
 use Rattle.lb_syntax.specs.Lists.{either_or}
 use Rattle.lb_syntax.specs.SourceView.{view_source}
 use Rattle.lb_syntax.specs.Tree as tree
-use Rattle.lb_syntax.specs.Tree.{Name, Static, Whole, Declaration, Exprs}
+use Rattle.lb_syntax.specs.Tree.{Name, Static, Whole}
+use Rattle.lb_syntax.proofs.ListPlaces.{get_before}
+use Rattle.lb_syntax.proofs.TruthValues.{and_first, and_second}
 use Rattle.lb_static.specs.Instances.{Site}
 use Rattle.lb_static.specs.NodeProgress.{counts_in, counts_kept, texts_in, kept, grown}
 use Rattle.lb_static.specs.NodeProgress.{with_variable, IsKept}
@@ -35,27 +38,15 @@ use Rattle.lb_static.specs.declared.resolved.Term.{Current', When', Replicate', 
 use Rattle.lb_static.specs.declared.resolved.Term.{Join', Array', AtMostOne', Nor', Call'}
 use Rattle.lb_static.specs.declared.resolved.Term.{IterateNode', IterateSymbol', Row_of-Term}
 use Rattle.lb_static.specs.declared.resolved.Term.{end_of-Term, more_of-Term}
-use Rattle.lb_static.proofs.Lists.{and_first, and_second, both, map_map}
+use Rattle.lb_static.proofs.Lists.{map_map}
 
 -- ## Lists with more at the end
-
-pub slice_get_more : {A : Type 0} (xs ys : List A) (i : ℕ) → i < length xs
-    → slice_get (xs ++ ys) i ≡ slice_get xs i
-slice_get_more [] ys i below = absurd (omega arith)
-slice_get_more (x ∷ xs) ys zero below = refl
-slice_get_more (x ∷ xs) ys (suc i) below = slice_get_more xs ys i (omega arith)
 
 below_more : (i m k : ℕ) → nat_lt i m ≡ true → nat_lt i (m + k) ≡ true
 below_more i m k e = let less : i < m = grind (arith, nat_tests) in grind (arith, nat_tests)
 
 upto_more : (i m k : ℕ) → nat_le i m ≡ true → nat_le i (m + k) ≡ true
 upto_more i m k e = let less : i ≤ m = grind (arith, nat_tests) in grind (arith, nat_tests)
-
-less_of : (i m : ℕ) → nat_lt i m ≡ true → i < m
-less_of i m e = grind (arith, nat_tests)
-
-most_of : (i m : ℕ) → nat_le i m ≡ true → i ≤ m
-most_of i m e = grind (arith, nat_tests)
 
 pub same_on : {A B : Type 0} (p : A → Bool) (f g : A → B) (xs : List A)
     → ((x : A) → p x ≡ true → f x ≡ g x) → list_all p xs ≡ true → map f xs ≡ map g xs
@@ -68,7 +59,7 @@ pub all_on : {A : Type 0} (p q : A → Bool) (xs : List A) → ((x : A) → p x 
     → list_all p xs ≡ true → list_all q xs ≡ true
 all_on p q [] h e = refl
 all_on p q (x ∷ xs) h e =
-    both _ _ (h x (and_first _ (list_all p xs) e)) (all_on p q xs h (and_second (p x) _ e))
+    and_from _ _ (h x (and_first _ (list_all p xs) e)) (all_on p q xs h (and_second (p x) _ e))
 
 -- the same, where a second test holds too
 pub both_on : {A : Type 0} (p u q : A → Bool) (xs : List A)
@@ -76,7 +67,7 @@ pub both_on : {A : Type 0} (p u q : A → Bool) (xs : List A)
     → list_all q xs ≡ true
 both_on p u q [] h e g = refl
 both_on p u q (x ∷ xs) h e g =
-    both _ _ (h x (and_first _ (list_all p xs) e) (and_first _ (list_all u xs) g))
+    and_from _ _ (h x (and_first _ (list_all p xs) e) (and_first _ (list_all u xs) g))
     (both_on p u q xs h (and_second (p x) _ e) (and_second (u x) _ g))
 
 -- ## Static expressions
@@ -84,12 +75,12 @@ both_on p u q (x ∷ xs) h e g =
 module _ (S X : List Static) where
   pub static_stays : (i : StaticId) → nat_lt i.0 (length S) ≡ true
       → static_at (S ++ X) i ≡ static_at S i
-  static_stays i e = ap (λ o. either_or o (Whole 0)) (slice_get_more S X i.0 (less_of _ _ e))
+  static_stays i e = ap (λ o. either_or o (Whole 0)) (get_before S X i.0 (ltb-true _ _ e))
 
   pub statics_stay : (i : StaticId) (count : ℕ) → nat_le (i.0 + count) (length S) ≡ true
       → statics_at (S ++ X) i count ≡ statics_at S i count
   statics_stay i count e =
-      let most : i.0 + count ≤ length S = most_of _ _ e in
+      let most : i.0 + count ≤ length S = leb-true _ _ e in
       let first : i.0 ≤ length S = omega arith in
       let long : length (drop i.0 S) ≡ length S - i.0 = length-drop i.0 S in
       let rest : count ≤ length (drop i.0 S) = omega arith in
@@ -145,7 +136,7 @@ module _ (n m : Counts) (k l : ℕ) (variables : m.variables ≡ n.variables)
   pub declared_still : (v : Declared) → is_declared_within n v ≡ true
       → is_declared_within m v ≡ true
   declared_still v e =
-      both _ _ (statics_still (v.first_size.0 + v.sizes)
+      and_from _ _ (statics_still (v.first_size.0 + v.sizes)
       (and_first (are_statics n v.first_size v.sizes) _ e))
       (by v.clock (and_second (are_statics n v.first_size v.sizes) _ e))
     where
@@ -157,8 +148,8 @@ module _ (n m : Counts) (k l : ℕ) (variables : m.variables ≡ n.variables)
       → is_site_within nodes m s ≡ true
   site_still nodes s e =
       let f = and_second (nat_lt s.callee.0 nodes) _ e in
-      both _ _ (and_first (nat_lt s.callee.0 nodes) _ e)
-      (both _ _ (statics_still (s.first_argument.0 + s.arguments)
+      and_from _ _ (and_first (nat_lt s.callee.0 nodes) _ e)
+      (and_from _ _ (statics_still (s.first_argument.0 + s.arguments)
       (and_first (are_statics n s.first_argument s.arguments) _ f))
       (by s.count (and_second (are_statics n s.first_argument s.arguments) _ f)))
     where
@@ -168,7 +159,7 @@ module _ (n m : Counts) (k l : ℕ) (variables : m.variables ≡ n.variables)
 
   two_still : (a b c d : Bool) → (a ≡ true → c ≡ true) → (b ≡ true → d ≡ true) → (a && b) ≡ true
       → (c && d) ≡ true
-  two_still a b c d f g e = both c d (f (and_first a b e)) (g (and_second a b e))
+  two_still a b c d f g e = and_from c d (f (and_first a b e)) (g (and_second a b e))
 
   mutual
     pub still_within : (t : Term) → is_within n t ≡ true → is_within m t ≡ true
@@ -229,7 +220,7 @@ module _ (t : Texts) (X : List Static) (Y : List Site) where
 
   pub call_stays : (c : CallId) → nat_lt c.0 (length t.calls) ≡ true
       → site_at (t.calls ++ Y) c ≡ site_at t.calls c
-  call_stays c e = ap (λ o. either_or o no_site) (slice_get_more t.calls Y c.0 (less_of _ _ e))
+  call_stays c e = ap (λ o. either_or o no_site) (get_before t.calls Y c.0 (ltb-true _ _ e))
 
   mutual
     pub expr_stays : (a : Term) → is_within (counts_in t) a ≡ true → expr_of later a ≡ expr_of t a

@@ -2,13 +2,13 @@
 use Rattle.std.proofs.Common.{◌≡◌, ℕ, suc, zero, List, [], ◌∷◌, ◌++◌, length, Some, refl, ap, sym}
 use Rattle.std.proofs.Common.{◌∙◌, subst}
 use Rattle.std.specs.Prelude.{slice_get}
+use Rattle.std.proofs.lemmas.List.{append_assoc}
 use Rattle.lb_static.specs.InstanceTable.{CallerStandsBefore, CallersStandBefore}
 use Rattle.lb_static.specs.InstanceRows.{begun_row, HasUsed, IsSpecializedRow}
 use Rattle.lb_static.specs.declared.table.Instance as row
 use Rattle.lb_static.specs.declared.table.Origin.{Origin}
 use Rattle.lb_static.specs.declared.table.Specialization.{Specialization}
 use Rattle.lb_static.specs.declared.table.SpecializationId.{SpecializationId}
-use Rattle.lb_static.proofs.Lists.{append_assoc}
 
 -- ## What is said of the place and the origin of each row
 

@@ -1,11 +1,11 @@
 -- The instances below an instance, call by call and index by index.
 use Rattle.std.proofs.Common.{◌≡◌, ℕ, suc, zero, ◌+◌, ◌-◌, ◌<◌, ◌≤◌, ℤ, List, [], ◌∷◌, ◌++◌, map}
 use Rattle.std.proofs.Common.{length, take, drop, get_or, Option, Some, None, refl, ap, sym, ◌∙◌}
-use Rattle.std.proofs.Common.{subst, add-one, arith}
+use Rattle.std.proofs.Common.{subst, arith}
 use Rattle.std.specs.Prelude.{flat_map}
 use Rattle.std.specs.List.{range_with_len}
 use Rattle.std.proofs.lemmas.Grind.{flat_map-append}
-use Rattle.std.proofs.lemmas.List.{append-nil, length-append}
+use Rattle.std.proofs.lemmas.List.{append-nil, length-append, take_more, append_assoc}
 use Rattle.std.proofs.lemmas.List.FromFn.{map-range_with_len_more}
 use Rattle.lb_syntax.specs.Lists.{or_else}
 use Rattle.lb_syntax.specs.Refusals.{Refusal}
@@ -18,7 +18,6 @@ use Rattle.lb_static.specs.Instantiated.{IsRefusal, AreEntered}
 use Rattle.lb_static.specs.declared.error.StaticError.{StaticError}
 use Rattle.lb_static.specs.declared.error.StaticError.TheVariants as error
 use Rattle.lb_static.specs.declared.resolved.ResolvedNode.{ResolvedNode}
-use Rattle.lb_static.proofs.Lists.{append_assoc}
 
 -- ## Refusals of instances, one after another
 
@@ -91,16 +90,6 @@ split_at : {A : Type 0} (xs : List A) (i : ℕ) (d : A) → i < length xs
 split_at [] i d h = absurd (omega arith)
 split_at (x ∷ xs) zero d h = refl
 split_at (x ∷ xs) (suc i) d h = ap (λ l. x ∷ l) (split_at xs i d (omega arith))
-
-take_next : {A : Type 0} (xs : List A) (i : ℕ) (d : A) → i < length xs
-    → take (suc i) xs ≡ take i xs ++ get_or xs i d ∷ []
-take_next [] i d g = absurd (omega arith)
-take_next (x ∷ xs) zero d g = refl
-take_next (x ∷ xs) (suc i) d g = ap (λ l. x ∷ l) (take_next xs i d (omega arith))
-
-take_more : {A : Type 0} (xs : List A) (i : ℕ) (d : A) → i < length xs
-    → take (i + 1) xs ≡ take i xs ++ get_or xs i d ∷ []
-take_more xs i d h = rw add-one (take_next xs i d h)
 
 take_past : {A : Type 0} (xs : List A) (i : ℕ) → length xs ≤ i → take i xs ≡ xs
 take_past [] zero h = refl

@@ -1,13 +1,15 @@
 -- The rows that instantiation adds to its table, and the instances that they stand for.
-use Rattle.std.proofs.Common.{◌≡◌, ℕ, suc, zero, ◌+◌, ◌<◌, ◌≤◌, ℤ, List, [], ◌∷◌, ◌++◌, map, length}
-use Rattle.std.proofs.Common.{set, get_or, Option, Some, None, option_map, refl, ap, ap₂, sym, ◌∙◌}
+use Rattle.std.proofs.Common.{◌≡◌, ℕ, ◌+◌, ◌<◌, ◌≤◌, ℤ, List, [], ◌∷◌, ◌++◌, map, length, set}
+use Rattle.std.proofs.Common.{get_or, Option, Some, None, option_map, refl, ap, ap₂, sym, ◌∙◌}
 use Rattle.std.proofs.Common.{subst, inl, inr, ◌⊎◌, arith}
 use Rattle.std.specs.Prelude.{slice_get}
 use Rattle.std.specs.List.{Contains}
-use Rattle.std.proofs.lemmas.List.{append-nil, length-append, map-append, set_at}
+use Rattle.std.proofs.lemmas.List.{append-nil, length-append, map-append, set_at, append_assoc}
 use Rattle.std.proofs.lemmas.Option.{get_or_from_slice_get}
 use Rattle.std.proofs.lemmas.List.Elements.{Contains-append_left, Contains-append_right}
+use Rattle.std.proofs.lemmas.Bool.{cases_lt}
 use Rattle.lb_syntax.specs.Lists.{either_or, zip2}
+use Rattle.lb_syntax.proofs.ListPlaces.{get_first}
 use Rattle.lb_static.specs.Instances.{Program, Instance, Path, Root, Child, instances}
 use Rattle.lb_static.specs.InstanceTable.{instance_of, specialized_at, path_from, paths_after}
 use Rattle.lb_static.specs.InstanceTable.{row_at, rows_of, CallersStandBefore}
@@ -26,29 +28,12 @@ use Rattle.lb_static.specs.declared.table.Origin.TheVariants as origin
 use Rattle.lb_static.specs.declared.table.Specialization.{Specialization}
 use Rattle.lb_static.specs.declared.table.SpecializationId.{SpecializationId}
 use Rattle.lb_static.specs.declared.table.Table.{Table}
-use Rattle.lb_static.proofs.Lists.{append_assoc}
 
 -- ## Lists
-
-got_front : {A : Type 0} (xs ys : List A) (i : ℕ) (x : A) → slice_get xs i ≡ Some x
-    → slice_get (xs ++ ys) i ≡ Some x
-got_front [] ys i x e = absurd cc
-got_front (y ∷ xs) ys zero x e = e
-got_front (y ∷ xs) ys (suc i) x e = got_front xs ys i x e
 
 got_next : {A : Type 0} (xs ys : List A) (x : A) → slice_get (xs ++ x ∷ ys) (length xs) ≡ Some x
 got_next [] ys x = refl
 got_next (y ∷ xs) ys x = got_next xs ys x
-
-below_or_from : (i n : ℕ) → (i < n) ⊎ (n ≤ i)
-below_or_from zero zero = inr (omega arith)
-below_or_from zero (suc n) = inl (omega arith)
-below_or_from (suc i) zero = inr (omega arith)
-below_or_from (suc i) (suc n) =
-    elim (below_or_from i n) [
-      | inl h ↦ inl (omega arith)
-      | inr h ↦ inr (omega arith)
-    ]
 
 -- ## Paths
 
@@ -57,7 +42,7 @@ paths_append : (before : List Path) (xs ys : List row.Instance)
 paths_append before [] ys = refl
 paths_append before (x ∷ xs) ys = paths_append (before ++ path_from before x.origin ∷ []) xs ys
 
-paths_length : (before : List Path) (xs : List row.Instance)
+pub paths_length : (before : List Path) (xs : List row.Instance)
     → length (paths_after before xs) ≡ length before + length xs
 paths_length before [] = omega arith
 paths_length before (x ∷ xs) =
@@ -66,12 +51,12 @@ paths_length before (x ∷ xs) =
     length-append before (path_from before x.origin ∷ []) in
     omega (arith, paths_length next xs)
 
-paths_kept : (before : List Path) (xs : List row.Instance) (i : ℕ) (p : Path)
+pub paths_kept : (before : List Path) (xs : List row.Instance) (i : ℕ) (p : Path)
     → slice_get before i ≡ Some p → slice_get (paths_after before xs) i ≡ Some p
 paths_kept before [] i p e = e
 paths_kept before (x ∷ xs) i p e =
     paths_kept (before ++ path_from before x.origin ∷ []) xs i p
-    (got_front before (path_from before x.origin ∷ []) i p e)
+    (get_first before (path_from before x.origin ∷ []) i p e)
 
 -- the paths of the rows that are added
 paths_added : List Path → List row.Instance → List Path
@@ -254,7 +239,7 @@ used_more first middle last before now after h k = record {
   added = h.added ++ k.added;
   whole = k.whole ∙ ap (λ l. l ++ k.added) h.whole ∙ append_assoc before h.added k.added;
   used = λ i from within. used_added h.added k.added i
-      (elim (below_or_from i (length middle)) as
+      (elim (cases_lt i (length middle)) as
       (λ _. Contains (places_of h.added) i ⊎ Contains (places_of k.added) i) [
         | inl below ↦ inl (h.used i from below)
         | inr above ↦ inr (k.used i above within)
@@ -274,7 +259,7 @@ used_specialized first middle last before now after from place id at h linked_ca
       whole = linked_calls before h.added (begun_row from) (sym at)
           (h.whole ∙ append_assoc before (begun_row from ∷ []) h.added);
       used = λ i from within. used_added (specialized_row ∷ []) h.added i
-          (elim (below_or_from i (length middle)) as
+          (elim (cases_lt i (length middle)) as
           (λ _. Contains (places_of (specialized_row ∷ [])) i ⊎ Contains (places_of h.added) i) [
             | inl below ↦ inr (h.used i from below)
             | inr above ↦ let e : i ≡ id.0 = more i above within in inl

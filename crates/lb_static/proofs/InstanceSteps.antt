@@ -1,17 +1,18 @@
 -- The instantiation of a program, step by step.
 use Rattle.std.proofs.Common.{◌≡◌, ℕ, suc, zero, ◌<◌, ◌≤◌, ℤ, pos, Bool, true, false, List, [], ◌∷◌}
-use Rattle.std.proofs.Common.{◌++◌, length, get_or, Option, Some, None, Ok, Err, Result, Vec, All}
-use Rattle.std.proofs.Common.{refl, ap, sym, ◌∙◌, subst, inl, inr, ◌⊎◌, arith}
+use Rattle.std.proofs.Common.{◌++◌, length, get_or, Option, Some, None, Ok, Err, Result, Vec, refl}
+use Rattle.std.proofs.Common.{ap, sym, ◌∙◌, subst, inl, inr, ◌⊎◌, arith}
 use Rattle.std.specs.Prelude.{is_some, nat_lt, nat_le, option_map, slice_get, IfOk, IfErr, IfSome}
 use Rattle.std.specs.List.{zip}
 use Rattle.std.specs.Borrow.{Bor}
 use Rattle.std.specs.declared.alloc.Global.{Global}
-use Rattle.std.proofs.lemmas.Option.{slice_get_within, slice_get_read, get_or_from_slice_get}
-use Rattle.std.proofs.lemmas.List.Elements.{All-get_or}
+use Rattle.std.proofs.lemmas.Option.{slice_get_read, get_or_from_slice_get}
 use Rattle.std.proofs.lemmas.Bool.Decides.{nat_tests}
+use Rattle.std.proofs.lemmas.Bool.{and_from}
 use Rattle.lb_syntax.specs.Lists.{either_or, or_else}
 use Rattle.lb_syntax.specs.Refusals.{E5, E6, E12, unless}
 use Rattle.lb_syntax.specs.Tree.{Name}
+use Rattle.lb_syntax.proofs.TruthValues.{and_second}
 use Rattle.lb_static.specs.HeldValues.{value_of}
 use Rattle.lb_static.specs.Instances.{Program, Instance, Path, name_value}
 use Rattle.lb_static.specs.InstanceTable.{instance_of}
@@ -37,16 +38,11 @@ use Rattle.lb_static.specs.declared.resolved.ResolvedNode.{ResolvedNode}
 use Rattle.lb_static.specs.declared.resolved.StaticId.{StaticId}
 use Rattle.lb_static.specs.declared.static_value.StaticInt.{StaticInt}
 use Rattle.lb_static.specs.declared.instantiate.Begun.{Begun}
-use Rattle.lb_static.proofs.Lists.{and_second, both}
 use Rattle.lb_static.proofs.Evaluations.{as_many_values}
 use Rattle.lb_static.proofs.Evaluated.{values_had, in_range_had, values_held}
+use Rattle.lb_static.proofs.ReachedPlaces.{all_item}
 
 -- ## What the evaluation of a node says of an instance
-
-pub element_all : {A : Type 0} (p : A → Type 0) (xs : List A) (i : ℕ) (x : A) → All p xs
-    → slice_get xs i ≡ Some x → p x
-element_all p xs i x all e =
-    subst p (get_or_from_slice_get xs i x x e) (All-get_or p xs i x (slice_get_within xs i x e) all)
 
 module _ (P : Program) (p : Path) (n : ResolvedNode) (values : List ℤ) where
   abbrev here : Instance
@@ -82,7 +78,7 @@ module _ (P : Program) (p : Path) (n : ResolvedNode) (values : List ℤ) where
       → IsEvaluated (value_given (value_of c) (node_of n).parameters values) n result
       → IsJudgement P n here result
   judgement r c w i at result e =
-      let is = element_all (IsResolved (source_names P)) r.nodes.items i n w.reached.resolved at in
+      let is = all_item (IsResolved (source_names P)) r.nodes.items i n w.reached.resolved at in
       judged (source_names P) is result
       (subst (λ f. IsEvaluated (value_given f (node_of n).parameters values) n result) w.values e)
 
@@ -103,7 +99,7 @@ module _ (P : Program) (k : ℕ) (here : Instance) where
   may_be_entered few low =
       let a : nat_lt k 4096 ≡ true = grind (arith, nat_tests) in
       let b : nat_le (level P here.path) 64 ≡ true = grind (arith, nat_tests) in
-      both (nat_lt k 4096) (nat_le (level P here.path) 64) a b
+      and_from (nat_lt k 4096) (nat_le (level P here.path) 64) a b
 
   by_tests : (a b c : Bool) → may_enter P k here ≡ a → has_values P here ≡ b
       → is_in_range P here ≡ c

@@ -5,21 +5,23 @@ use Rattle.std.proofs.Common.{length-append, subst}
 use Rattle.std.specs.Prelude.{◌&&◌, nat_le, is_some}
 use Rattle.std.specs.List.{flat_map}
 use Rattle.std.proofs.lemmas.List.{length-map, map-append, take_at, drop_at}
+use Rattle.std.proofs.lemmas.List.Sums.{sum_by-cons}
 use Rattle.std.proofs.lemmas.Option.{same_Some}
 use Rattle.std.proofs.Common.{◌<◌, ◌≤◌, min}
 use Rattle.std.proofs.lemmas.Bool.{false≢true}
 use Rattle.std.proofs.lemmas.Bool.Decides.{nat_tests}
+use Rattle.std.proofs.Math.Bool.{and-false}
 use Rattle.lb_syntax.specs.Lists.{◌>>=◌, all_some, listed, holds, either_or}
 use Rattle.lb_syntax.specs.Tree.{Name, Declaration}
 use Rattle.lb_static.specs.Instances.{Program, Instance, Root, Observer, instances, instance_at}
 use Rattle.lb_static.specs.Interfaces.{InterfaceView, valued_node_in, interface_under, inputs_of}
 use Rattle.lb_static.specs.Interfaces.{outputs_of, is_one_truth_in, observes, property_by}
-use Rattle.lb_static.specs.Interfaces.{property_in, elements_named, elements_in_all}
+use Rattle.lb_static.specs.Interfaces.{property_in, elements_named}
 use Rattle.lb_static.specs.InstanceTable.{HasStarts, specialized_instance_at}
 use Rattle.lb_static.specs.ReachedNodes.{IsReached, source_names}
 use Rattle.lb_static.specs.DataTypes.{DataType, are_types, element_count, element_names}
 use Rattle.lb_static.specs.DataTypes.{input_types, output_types, scalar_elements, variable_type}
-use Rattle.lb_static.specs.DataTypes.{signature}
+use Rattle.lb_static.specs.DataTypes.{is_type, signature, total, truth}
 use Rattle.lb_static.specs.Instantiation.{are_same, fits_observer, has_plain_clocks, has_property}
 use Rattle.lb_static.specs.Instantiation.{is_one_truth, is_root, instantiation_refusal}
 use Rattle.lb_static.specs.declared.reach.Reached.{Reached}
@@ -144,7 +146,7 @@ elements_are P here (d ∷ ds) ss e =
         ∙ ap (elements_named (d.name ∷ map name_of ds)) (same_Some (t ∷ xs) ss g)
 
 length-elements : (xs : List Name) (ss : List DataType) → length xs ≡ length ss
-    → length (elements_named xs ss) ≡ elements_in_all ss
+    → length (elements_named xs ss) ≡ total ss
 length-elements [] [] e = refl
 length-elements [] (s ∷ ss) e = absurd (omega (arith, e))
 length-elements (x ∷ xs) [] e = absurd (omega (arith, e))
@@ -154,6 +156,7 @@ length-elements (x ∷ xs) (s ∷ ss) e =
     ∙ ap (λ k. k + length (elements_named xs ss))
     (length-map (element_names x s.sizes) (λ n. (n, s.kind)) ∙ length-element_names x s.sizes)
     ∙ ap (λ k. element_count s + k) (length-elements xs ss others)
+    ∙ sym (sum_by-cons element_count s ss)
 
 signature_is : (P : Program) (here : Instance) (f : InterfaceView) → instance_at P Root ≡ Some here
     → Typed P here f → signature P ≡ elements_named (map name_of f.node.inputs) (inputs_of f)
@@ -163,7 +166,7 @@ signature_is P here f is t =
     ∙ ap (λ n. elements_named (map name_of n.inputs) (inputs_of f)) t.node
 
 count_is : (P : Program) (here : Instance) (f : InterfaceView) → instance_at P Root ≡ Some here
-    → Typed P here f → length (signature P) ≡ elements_in_all (inputs_of f)
+    → Typed P here f → length (signature P) ≡ total (inputs_of f)
 count_is P here f is t =
     ap length (signature_is P here f is t)
     ∙ length-elements (map name_of f.node.inputs) (inputs_of f)
@@ -175,8 +178,16 @@ count_is P here f is t =
 
 one_truth_is : (P : Program) (ss : List DataType) → is_one_truth P (Some ss) ≡ is_one_truth_in ss
 one_truth_is P [] = refl
-one_truth_is P (s ∷ []) = refl
-one_truth_is P (s ∷ (t ∷ ss)) = refl
+one_truth_is P (s ∷ []) = by (is_type s truth)
+  where
+    by : (b : Bool) → b ≡ (b && true)
+    by true = refl
+    by false = refl
+one_truth_is P (s ∷ (t ∷ ss)) = by (is_type s truth)
+  where
+    by : (b : Bool) → false ≡ (b && false)
+    by true = refl
+    by false = refl
 
 -- with an observer that has types
 observed : (P : Program) (here other : Instance) (f o : InterfaceView) → Typed P here f
@@ -204,19 +215,15 @@ unobserved P here other e =
     ∙ ap all_some (sym (map-append (variable_type P other) other.node.inputs other.node.outputs))
     ∙ e)
   where
-    nothing : (b : Bool) → (b && false) ≡ false
-    nothing true = refl
-    nothing false = refl
-
     by : (b : Bool) (i o : Option (List DataType)) → (i >>= λ a. option_map (λ c. a ++ c) o) ≡ None
         → (b && (are_same P i (all_some
         (map (variable_type P here) (here.node.inputs ++ here.node.outputs))) && is_one_truth P o))
         ≡ false
-    by b None o g = nothing b
+    by b None o g = and-false b
     by b (Some a) None g = ap (λ c. b && c)
-        (nothing (are_same P (Some a)
+        (and-false (are_same P (Some a)
         (all_some (map (variable_type P here) (here.node.inputs ++ here.node.outputs)))))
-        ∙ nothing b
+        ∙ and-false b
     by b (Some a) (Some c) g = absurd cc
 
 -- a test that is known to pass
@@ -272,7 +279,7 @@ pub root_is : (P : Program) (r : Reached) (t : Table) (n : ResolvedNode) (static
     (f : InterfaceView) → IsReached P r → HasStarts P r t
     → valued_node_in r t t.root ≡ Some (n, statics) → interface_under n statics ≡ Some f
     → (holds (is_root P) (instance_at P Root)
-    ≡ (f.is_plain && (nat_le (elements_in_all (inputs_of f)) 1023 && is_so (property_in r t f))))
+    ≡ (f.is_plain && (nat_le (total (inputs_of f)) 1023 && is_so (property_in r t f))))
     × (signature P ≡ elements_named (map name_of f.node.inputs) (inputs_of f))
 root_is P r t n statics f reached table found there_is =
     let there = stands P r t Root t.root n statics reached table found in
@@ -285,17 +292,17 @@ root_is P r t n statics f reached table found there_is =
           && has_property P here (instance_at P Observer))) root.plain
           ∙ ap (λ k. f.is_plain && (nat_le k 1023 && has_property P here (instance_at P Observer)))
           (count_is P here f is root)
-          ∙ ap (λ b. f.is_plain && (nat_le (elements_in_all (inputs_of f)) 1023 && b))
+          ∙ ap (λ b. f.is_plain && (nat_le (total (inputs_of f)) 1023 && b))
           (property_is P r t here f reached table root),
       signature_is P here f is root,
     )
 
 -- ## How many scalar inputs
 
-pub too_many : (n counted : ℕ) → counted ≡ min n 4294967295 → 1023 < counted → nat_le n 1023 ≡ false
+pub too_many : (n counted : ℕ) → counted ≡ min n 65537 → 1023 < counted → nat_le n 1023 ≡ false
 too_many n counted e over = let more : 1023 < n = omega arith in grind (arith, nat_tests)
 
-pub few_enough : (n counted : ℕ) → counted ≡ min n 4294967295 → counted ≤ 1023
+pub few_enough : (n counted : ℕ) → counted ≡ min n 65537 → counted ≤ 1023
     → (n ≤ 1023) × (nat_le n 1023 ≡ true)
 few_enough n counted e within =
     let less : n ≤ 1023 = omega arith in (less, grind (arith, nat_tests))

@@ -1,37 +1,35 @@
 -- The types of the inputs and outputs of an instance, against the definitions.
 use Rattle.std.proofs.Common.{◌≡◌, ℕ, ◌+◌, ◌≤◌, ℤ, Bool, true, false, List, [], ◌∷◌, ◌++◌, length}
-use Rattle.std.proofs.Common.{take, drop, map, Option, Some, None, option_map, refl, ap, sym, ◌∙◌}
+use Rattle.std.proofs.Common.{take, map, Option, Some, None, option_map, refl, ap, sym, ◌∙◌}
 use Rattle.std.proofs.Common.{arith, length-append}
-use Rattle.std.specs.Prelude.{nat_le, not, is_some, reverse}
+use Rattle.std.specs.Prelude.{nat_le, not, is_some}
 use Rattle.std.specs.List.{list_all}
 use Rattle.std.proofs.lemmas.Bool.Decides.{nat_tests}
-use Rattle.std.proofs.lemmas.List.{length-map, length-take-le, take-map, drop-map, take_at}
+use Rattle.std.proofs.lemmas.List.{length-map, length-take-le, take-map, take_at}
 use Rattle.std.proofs.lemmas.List.{append_assoc}
 use Rattle.std.proofs.lemmas.List.Folds.{list_all-map}
 use Rattle.lb_syntax.specs.Lists.{◌>>=◌, all_some, where_true, zip2}
-use Rattle.lb_syntax.specs.declared.tree.Kind.{Kind}
 use Rattle.lb_syntax.specs.Tree.{Name, Static, Node, Declaration}
 use Rattle.lb_static.specs.Instances.{Program, Instance, static_value}
-use Rattle.lb_static.specs.Interfaces.{InterfaceView, has_no_clock, type_under, types_under}
-use Rattle.lb_static.specs.Interfaces.{view_types, view_type, interface_variables, interface_under}
+use Rattle.lb_static.specs.Interfaces.{InterfaceView, has_no_clock, interface_variables}
+use Rattle.lb_static.specs.Interfaces.{interface_under}
 use Rattle.lb_static.specs.Parts.{variable_names}
-use Rattle.lb_static.specs.ResolvedNodes.{IsResolved, node_of, statics_of, counts_of}
-use Rattle.lb_static.specs.ResolvedTerms.{Counts, declaration_of, sampling_of, static_of}
-use Rattle.lb_static.specs.ResolvedTerms.{is_declared_within, is_sampling_within}
+use Rattle.lb_static.specs.ResolvedNodes.{IsResolved, node_of, statics_of}
+use Rattle.lb_static.specs.ResolvedTerms.{declaration_of, sampling_of}
 use Rattle.lb_static.specs.DataTypes.{DataType, variables, variable_type}
-use Rattle.lb_static.specs.StaticValues.{natural}
+use Rattle.lb_static.specs.StoredTypes.{view_type, declared_type, declared_types}
 use Rattle.lb_static.specs.Instantiation.{is_base_clocked, has_plain_clocks}
 use Rattle.lb_static.specs.declared.resolved.ResolvedNode.{ResolvedNode}
 use Rattle.lb_static.specs.declared.resolved.Sampling.{Sampling}
 use Rattle.lb_static.specs.declared.resolved.Variable.{Variable}
-use Rattle.lb_static.specs.declared.data_type.DataType as seen
-use Rattle.lb_static.proofs.Lists.{and_first, and_second}
-use Rattle.lb_static.proofs.Options.{map_reverse, length-all_some}
+use Rattle.lb_static.specs.declared.data_type.DataType as stored
+use Rattle.lb_static.proofs.DeclaredTypes.{types_are}
+use Rattle.lb_static.proofs.Options.{length-all_some}
 
 -- the types of the inputs are among those of inputs and outputs
 pub inputs_fit : (n : ResolvedNode) (statics : List ℤ) (vs : List Variable)
-    (data_types : List seen.DataType) → Some vs ≡ interface_variables n
-    → types_under statics vs ≡ Some (view_types data_types) → n.inputs ≤ length data_types
+    (data_types : List stored.DataType) → Some vs ≡ interface_variables n
+    → declared_types statics vs ≡ Some (map view_type data_types) → n.inputs ≤ length data_types
 inputs_fit n statics vs data_types found there =
     by (nat_le (n.inputs + n.outputs) (length n.variables.items)) refl found
   where
@@ -42,81 +40,14 @@ inputs_fit n statics vs data_types found there =
     by true e f =
         let same : vs ≡ take (n.inputs + n.outputs) n.variables.items = cc in
         let within : n.inputs + n.outputs ≤ length n.variables.items = grind (arith, nat_tests) in
-        let a = length-all_some (map (type_under statics) vs) (view_types data_types) there in
-        let b = length-map vs (type_under statics) in
+        let a = length-all_some (map (declared_type statics) vs) (map view_type data_types) there in
+        let b = length-map vs (declared_type statics) in
         let d = length-map data_types view_type in
         let f : length vs ≡ n.inputs + n.outputs =
         ap length same ∙ length-take-le (n.inputs + n.outputs) n.variables.items within in
         omega arith
 
--- ## The types of variables
-
--- values that are those of some texts
-each_value : {A B C : Type 0} (g : A → Option B) (h : B → Option C) (ts : List A) (vs : List B)
-    → map Some vs ≡ map g ts → map (λ s. g s >>= h) ts ≡ map h vs
-each_value g h [] [] e = refl
-each_value g h [] (v ∷ vs) e = absurd cc
-each_value g h (t ∷ ts) [] e = absurd cc
-each_value g h (t ∷ ts) (v ∷ vs) e =
-    let first : Some v ≡ g t = cc in
-    let rest : map Some vs ≡ map g ts = cc in
-    ap (λ o. (o >>= h) ∷ map (λ s. g s >>= h) ts) (sym first)
-    ∙ ap (λ l. h v ∷ l) (each_value g h ts vs rest)
-
-part_values : {A B : Type 0} (g : A → Option B) (first count : ℕ) (ts : List A) (vs : List B)
-    → map Some vs ≡ map g ts
-    → map Some (reverse (take count (drop first vs))) ≡ map g (reverse (take count (drop first ts)))
-part_values g first count ts vs e =
-    map_reverse Some (take count (drop first vs))
-    ∙ ap reverse (sym (take-map Some count (drop first vs))
-    ∙ ap (take count) (sym (drop-map Some first vs)) ∙ ap (λ l. take count (drop first l)) e
-    ∙ ap (take count) (drop-map g first ts) ∙ take-map g count (drop first ts))
-    ∙ sym (map_reverse g (take count (drop first ts)))
-
-as_many : {A B : Type 0} (g : A → Option B) (ts : List A) (vs : List B) → map Some vs ≡ map g ts
-    → length vs ≡ length ts
-as_many g ts vs e = sym (length-map vs Some) ∙ ap length e ∙ length-map ts g
-
-abbrev type_with : Kind → Option (List ℕ) → Option DataType
-type_with k o = option_map (λ ns. record { kind = k; sizes = ns }) o
-
-type_is : (P : Program) (here : Instance) (texts : List Static) (statics : List ℤ)
-    (names : List Name) (x : Name) (v : Variable)
-    → map Some statics ≡ map (static_value P here) texts
-    → nat_le (v.first_size.0 + v.sizes) (length texts) ≡ true
-    → type_under statics v ≡ variable_type P here (declaration_of names texts x v)
-type_is P here texts statics names x v e within =
-    ap (λ b. where_true b (take v.sizes (drop v.first_size.0 statics)) >>= λ values. type_with
-    v.kind (all_some (map natural (reverse values))))
-    (ap (nat_le (v.first_size.0 + v.sizes)) (as_many (static_value P here) texts statics e)
-    ∙ within)
-    ∙ ap (λ l. type_with v.kind (all_some l))
-    (sym (each_value (static_value P here) natural
-    (reverse (take v.sizes (drop v.first_size.0 texts)))
-    (reverse (take v.sizes (drop v.first_size.0 statics)))
-    (part_values (static_value P here) v.first_size.0 v.sizes texts statics e)))
-
-types_are : (P : Program) (here : Instance) (texts : List Static) (statics : List ℤ) (n : Counts)
-    (all names : List Name) (vs : List Variable)
-    → map Some statics ≡ map (static_value P here) texts
-    → n.statics ≡ length texts → list_all (is_declared_within n) vs ≡ true
-    → length names ≡ length vs
-    → map (type_under statics) vs
-    ≡ map (variable_type P here) (zip2 (declaration_of all texts) names vs)
-types_are P here texts statics n all [] [] e few within same = refl
-types_are P here texts statics n all [] (v ∷ vs) e few within same = absurd (omega (arith, same))
-types_are P here texts statics n all (x ∷ xs) [] e few within same = absurd (omega (arith, same))
-types_are P here texts statics n all (x ∷ xs) (v ∷ vs) e few within same =
-    let first = and_first (is_declared_within n v) (list_all (is_declared_within n) vs) within in
-    let rest = and_second (is_declared_within n v) (list_all (is_declared_within n) vs) within in
-    let fits : nat_le (v.first_size.0 + v.sizes) (length texts) ≡ true =
-    ap (nat_le (v.first_size.0 + v.sizes)) (sym few)
-    ∙ and_first (nat_le (v.first_size.0 + v.sizes) n.statics) (is_sampling_within n v.clock)
-    first in
-    let others : length xs ≡ length vs = omega arith in
-    ap (λ o. o ∷ map (type_under statics) vs) (type_is P here texts statics all x v e fits)
-    ∙ ap (λ l. variable_type P here (declaration_of all texts x v) ∷ l)
-    (types_are P here texts statics n all xs vs e few rest others)
+-- ## Clocks
 
 clocks_are : (P : Program) (texts : List Static) (all names : List Name) (vs : List Variable)
     → length names ≡ length vs
@@ -180,11 +111,10 @@ face_is P names here n statics s =
     length-map (variables node) (λ d. d.name) ∙ sym s.resolved.as_many in
     let within : k ≤ length vs = omega (arith, s.resolved.as_many) in
     let fits : nat_le k (length vs) ≡ true = grind (arith, nat_tests) in
-    let data_types : map (type_under statics) (take k vs)
+    let data_types : map (declared_type statics) (take k vs)
     ≡ map (variable_type P here) (interface_of node) =
-    sym (take-map (type_under statics) k vs)
-    ∙ ap (take k) (types_are P here texts statics (counts_of n) all all vs s.values
-    (sym (length-map n.statics.items (λ p. static_of p.text))) s.resolved.declared_within long
+    sym (take-map (declared_type statics) k vs)
+    ∙ ap (take k) (types_are P here texts statics s.values all all vs long
     ∙ ap (map (variable_type P here)) s.resolved.declared)
     ∙ take-map (variable_type P here) k (variables node)
     ∙ ap (λ j. map (variable_type P here) (take j (variables node))) count
@@ -200,7 +130,7 @@ face_is P names here n statics s =
     ∙ ap (map (is_base_clocked P)) (interface_is node))
     ∙ list_all-map (λ b. b) (is_base_clocked P) (interface_of node) in
     ap (λ b. where_true b (take k vs) >>= λ vs. face_by node n.inputs (list_all has_no_clock vs)
-    (types_under statics vs)) fits
+    (declared_types statics vs)) fits
     ∙ ap (λ l. face_by node n.inputs (list_all has_no_clock (take k vs)) (all_some l)) data_types
     ∙ ap (λ b. face_by node n.inputs b (all_some (map (variable_type P here) (interface_of node))))
     clocks

@@ -3,7 +3,11 @@ use Rattle.std.proofs.Common.{◌≡◌, ℕ, zero, suc, Bool, true, List, lengt
 use Rattle.std.specs.Prelude.{◌||◌, filter, flat_map, is_some}
 use Rattle.std.specs.List.{list_all, list_any, Contains}
 use Rattle.std.specs.Str.{bytes_eq}
+use Rattle.std.proofs.lemmas.Bool.{and_from, and_right}
+use Rattle.std.proofs.lemmas.Map.Keys.{any_passes_from_place}
 use Rattle.lb_syntax.specs.Tree.{Name}
+use Rattle.lb_syntax.proofs.TruthValues.{and_first, and_second, both_ways}
+use Rattle.lb_syntax.proofs.ListPlaces.{all_at, all_from}
 use Rattle.lb_static.specs.CalledNodes.{are_named, program_in}
 use Rattle.lb_static.specs.Instances.{Program}
 use Rattle.lb_static.specs.NamedConstants.{keeps_constants}
@@ -18,11 +22,10 @@ use Rattle.lb_static.specs.declared.error.StaticError.{StaticError}
 use Rattle.lb_static.specs.declared.reach.Reached.{Reached}
 use Rattle.lb_static.proofs.Faults.{fault_within}
 use Rattle.lb_static.proofs.CalledNodes.{all_map}
-use Rattle.lb_static.proofs.Lists.{and_first, and_second, both, false_second}
 use Rattle.lb_static.proofs.Mentions.{any_flat}
 use Rattle.lb_static.proofs.ReachedPlaces.{contained, place_of}
 use Rattle.lb_static.proofs.TestedItems.{filter_same}
-use Rattle.lb_static.proofs.WorkLists.{all_at, any_at, at_all, at_any, same_test}
+use Rattle.lb_static.proofs.WorkLists.{any_at}
 
 -- two lists with the same items have some item that passes alike
 any_alike : {A : Type 0} (p : A → Bool) (xs ys : List A) → ((x : A) → Contains xs x → Contains ys x)
@@ -30,7 +33,7 @@ any_alike : {A : Type 0} (p : A → Bool) (xs ys : List A) → ((x : A) → Cont
 any_alike p xs ys same e =
     let f = any_at p xs e in
     let k = place_of ys f.item (same f.item (contained xs f.place f.item f.at)) in
-    at_any p ys k.place f.item k.at f.passes
+    any_passes_from_place p ys k.place f.item k.at f.passes
 
 constants_alike : (P : Program) (xs ys : List Name) → ((x : Name) → among x xs ≡ among x ys)
     → (k : ℕ) → constants_within P xs k ≡ constants_within P ys k
@@ -59,7 +62,7 @@ module _ (P : Program) (r : Reached) (reached : IsReached P r) where
       ≡ among x (flat_map (named_constants P) (reached_nodes P))
   named_alike x =
       any_flat (bytes_eq x) (named_constants P) (trees r)
-      ∙ same_test _ _ (any_alike (λ n. among x (named_constants P n)) (trees r) (reached_nodes P)
+      ∙ both_ways _ _ (any_alike (λ n. among x (named_constants P n)) (trees r) (reached_nodes P)
       (λ n. (reached.same n).0))
       (any_alike (λ n. among x (named_constants P n)) (reached_nodes P) (trees r)
       (λ n. (reached.same n).1))
@@ -83,17 +86,17 @@ module _ (P : Program) (r : Reached) (reached : IsReached P r) where
       let all = and_second (list_all is_some (starts P)) (list_all (is_named P) (reached_nodes P))
       e in
       sym (all_map (named_in P.source) node_of r.nodes.items)
-      ∙ at_all (named_in P.source) (trees r) (λ i n at.
+      ∙ all_from (named_in P.source) (trees r) (λ i n at.
       let k = place_of (reached_nodes P) n ((reached.same n).0 (contained (trees r) i n at)) in
       all_at (is_named P) (reached_nodes P) k.place n all k.at)
 
   pub names_kept : are_distinct (global_names P) ≡ true → are_named P ≡ true → constants_kept ≡ true
       → keeps_names P ≡ true
   names_kept d e f =
-      both (are_distinct (global_names P)) _ d
-      (both (list_all is_some (starts P)) _
+      and_from (are_distinct (global_names P)) _ d
+      (and_from (list_all is_some (starts P)) _
       (and_first (list_all is_some (starts P)) (list_all (is_named P) (reached_nodes P)) e)
-      (both (list_all (is_named P) (reached_nodes P)) _
+      (and_from (list_all (is_named P) (reached_nodes P)) _
       (and_second (list_all is_some (starts P)) (list_all (is_named P) (reached_nodes P)) e)
       (sym constants_are ∙ f)))
 
@@ -101,6 +104,6 @@ module _ (P : Program) (r : Reached) (reached : IsReached P r) where
       → IsNameFault e (keeps_names P)
   fault_constants e h =
       fault_within e constants_kept (keeps_names P) h (λ no.
-      false_second (are_distinct (global_names P)) _
-      (false_second (list_all is_some (starts P)) _
-      (false_second (list_all (is_named P) (reached_nodes P)) _ (sym constants_are ∙ no))))
+      and_right (are_distinct (global_names P)) _
+      (and_right (list_all is_some (starts P)) _
+      (and_right (list_all (is_named P) (reached_nodes P)) _ (sym constants_are ∙ no))))

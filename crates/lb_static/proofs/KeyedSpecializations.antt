@@ -8,15 +8,16 @@ use Rattle.std.proofs.lemmas.Slice.Eq.{slice_eq-Decides}
 use Rattle.std.proofs.lemmas.Option.{slice_get-map, slice_get-get_or}
 use Rattle.std.proofs.lemmas.List.Elements.{All-push}
 use Rattle.indexmap.specs.IndexMap.{insert_entry}
+use Rattle.lb_syntax.proofs.ListPlaces.{mapped_from}
+use Rattle.lb_syntax.proofs.TruthValues.{and_first, and_second}
 use Rattle.lb_static.specs.KeyedSpecializations.{AreKeyed, IsUnknown}
 use Rattle.lb_static.specs.Instantiated.{IsKnown}
 use Rattle.lb_static.specs.declared.reach.NodeId.{NodeId}
 use Rattle.lb_static.specs.declared.specializations.Key.{Key}
 use Rattle.lb_static.specs.declared.table.Specialization.{Specialization}
-use Rattle.lb_static.proofs.Lists.{and_first, and_second}
 use Rattle.lb_static.proofs.NodeScopes.{find_placed, find_none, position_within}
 use Rattle.lb_static.proofs.TestedItems.{found_passes}
-use Rattle.lb_static.proofs.InstanceSteps.{element_all}
+use Rattle.lb_static.proofs.ReachedPlaces.{all_item}
 
 -- ## What is found
 
@@ -61,13 +62,6 @@ key_same a b node values =
 
 -- ## Entries
 
--- what stands at a place of a view is seen from an entry
-seen_from : {A B : Type 0} (f : A → B) (xs : List A) (i : ℕ) (y : B)
-    → slice_get (map f xs) i ≡ Some y → (x : A) × (slice_get xs i ≡ Some x) × (f x ≡ y)
-seen_from f [] i y at = absurd cc
-seen_from f (x ∷ xs) zero y at = let same : f x ≡ y = cc in (x, refl, same)
-seen_from f (x ∷ xs) (suc i) y at = seen_from f xs i y at
-
 module _ (es : List (Key × Specialization)) where
   abbrev keys : List Key
   keys = map (λ e. e.0) es
@@ -87,9 +81,9 @@ module _ (es : List (Key × Specialization)) where
           let there = slice_get-get_or keys i k (position_within (key_eq k) keys i e) in
           absurd cc
       by (Some f) is =
-          let entry = seen_from (λ (e : Key × Specialization). e.0) es i f
+          let entry = mapped_from (λ (e : Key × Specialization). e.0) es i f
           (find_placed (key_eq k) keys i e ∙ is) in
-          let own = element_all (λ (e : Key × Specialization). (e.0.node ≡ e.1.node)
+          let own = all_item (λ (e : Key × Specialization). (e.0.node ≡ e.1.node)
           × (e.0.values.items ≡ e.1.values.items)) es i entry.0 keyed entry.1 in
           let same = same_key k f (found_passes (key_eq k) keys f is) in (
             entry.0.1,
@@ -103,8 +97,8 @@ module _ (es : List (Key × Specialization)) where
   pub unknown : AreKeyed es → (k : Key) → position (key_eq k) keys ≡ None
       → IsUnknown specializations k.node k.values.items
   unknown keyed k e id known =
-      let entry = seen_from (λ (e : Key × Specialization). e.1) es id.0 known.0 known.1 in
-      let own = element_all (λ (e : Key × Specialization). (e.0.node ≡ e.1.node)
+      let entry = mapped_from (λ (e : Key × Specialization). e.1) es id.0 known.0 known.1 in
+      let own = all_item (λ (e : Key × Specialization). (e.0.node ≡ e.1.node)
       × (e.0.values.items ≡ e.1.values.items)) es id.0 entry.0 keyed entry.1 in
       let there : slice_get keys id.0
       ≡ Some entry.0.0 = slice_get-map (λ (e : Key × Specialization). e.0) es id.0

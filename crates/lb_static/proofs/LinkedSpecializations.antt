@@ -6,6 +6,7 @@ use Rattle.std.specs.Prelude.{slice_get}
 use Rattle.std.proofs.lemmas.List.{length-map, take_more, take_all}
 use Rattle.std.proofs.lemmas.Option.{slice_get-map, slice_get_within, get_or_from_slice_get}
 use Rattle.lb_syntax.specs.Lists.{In}
+use Rattle.lb_syntax.proofs.ListPlaces.{item_at}
 use Rattle.lb_static.specs.Instances.{Program, Instance, Path, Root, Child, Site, callee_of}
 use Rattle.lb_static.specs.Instances.{node_sites}
 use Rattle.lb_static.specs.InstanceTable.{instance_of, specialized_at, IsSpecialized}
@@ -25,8 +26,9 @@ use Rattle.lb_static.specs.declared.table.SpecializationId.{SpecializationId}
 use Rattle.lb_static.specs.declared.table.Table.{Table}
 use Rattle.lb_static.proofs.CallSites.{callee_read}
 use Rattle.lb_static.proofs.Members.{contains_in}
-use Rattle.lb_static.proofs.InstanceSteps.{element_all, grown_more}
-use Rattle.lb_static.proofs.WholeInstantiation.{statics_had, tree_is, there_is}
+use Rattle.lb_static.proofs.InstanceSteps.{grown_more}
+use Rattle.lb_static.proofs.WholeInstantiation.{statics_had, tree_is}
+use Rattle.lb_static.proofs.ReachedPlaces.{all_item}
 
 -- ## What the calls of an instance call
 
@@ -200,7 +202,7 @@ module _ (P : Program) (r : Reached) (c : Constants) (w : IsInstantiable P r c) 
   module _ (i : ℕ) (s : Specialization) (found : slice_get t.specializations.items i ≡ Some s)
       (n : ResolvedNode) (at : slice_get r.nodes.items s.node.0 ≡ Some n) where
     is : IsResolved (source_names P) n
-    is = element_all (IsResolved (source_names P)) r.nodes.items s.node.0 n w.reached.resolved at
+    is = all_item (IsResolved (source_names P)) r.nodes.items s.node.0 n w.reached.resolved at
 
     abbrev here : Instance
     here = instance_of Root (node_of n) s.values.items
@@ -217,7 +219,7 @@ module _ (P : Program) (r : Reached) (c : Constants) (w : IsInstantiable P r c) 
         let both : Some told.0 ≡ Some callee = sym told.1 ∙ at_callee in cc in
         let node = told.2 ∙ ap (λ (q : Specialization). Some q.node) same in
         let given = ap (λ (q : Specialization). q.values.items) (sym same) ∙ told.3 in
-        let seen = there_is r.nodes.items callee.node.0 (judged id.0 callee at_callee).0 in
+        let seen = item_at r.nodes.items callee.node.0 (judged id.0 callee at_callee).0 in
         let m = seen.0 in
         ap (λ q. callee_of P here q call 0) (sym k.2)
         ∙ callee_read P r c w Root n s.values.items s.statics.items
@@ -246,5 +248,5 @@ module _ (P : Program) (r : Reached) (c : Constants) (w : IsInstantiable P r c) 
 
   pub are_specialized : AreSpecialized P r t
   are_specialized i s found =
-      let seen = there_is r.nodes.items s.node.0 (judged i s found).0 in
+      let seen = item_at r.nodes.items s.node.0 (judged i s found).0 in
       (specialized i s found seen.0 seen.1, (linked_calls i s found).before)

@@ -1,52 +1,15 @@
 -- Lists: the items from a place on, tests of each item, and the place of the first that passes.
-use Rattle.std.proofs.Common.{◌≡◌, ℕ, zero, suc, ◌+◌, ◌<◌, ◌≤◌, Bool, true, false, cond, List, []}
-use Rattle.std.proofs.Common.{◌∷◌, ◌++◌, length, take, drop, map, get_or, Some, None, refl, ap, sym}
-use Rattle.std.proofs.Common.{◌∙◌, arith}
+use Rattle.std.proofs.Common.{◌≡◌, ℕ, zero, suc, ◌+◌, ◌<◌, Bool, true, false, cond, List, [], ◌∷◌}
+use Rattle.std.proofs.Common.{◌++◌, length, take, drop, map, get_or, Some, None, refl, ap, sym, ◌∙◌}
+use Rattle.std.proofs.Common.{arith}
 use Rattle.std.specs.Prelude.{◌&&◌, ◌||◌, not, nat_lt, position}
-use Rattle.std.specs.List.{list_any, list_all, position_or_len}
+use Rattle.std.specs.List.{list_any, position_or_len}
 use Rattle.std.proofs.lemmas.Bool.Decides.{nat_tests}
-use Rattle.std.proofs.lemmas.List.{drop_more, append-nil}
-use Rattle.std.proofs.Math.ListN.{drop_of_length-le}
+use Rattle.std.proofs.lemmas.List.{drop_more}
 
 pub map_next : {A B : Type 0} (f : A → B) (xs : List A) (i : ℕ) (d : A) → i < length xs
     → map f (drop i xs) ≡ f (get_or xs i d) ∷ map f (drop (i + 1) xs)
 map_next f xs i d below = ap (map f) (drop_more xs i d below)
-
-pub append_assoc : {A : Type 0} (xs ys zs : List A) → (xs ++ ys) ++ zs ≡ xs ++ (ys ++ zs)
-append_assoc [] ys zs = refl
-append_assoc (x ∷ xs) ys zs = ap (λ l. x ∷ l) (append_assoc xs ys zs)
-
--- ## Tests
-
-pub and_first : (a b : Bool) → (a && b) ≡ true → a ≡ true
-and_first true b e = refl
-and_first false b e = absurd cc
-
-pub and_second : (a b : Bool) → (a && b) ≡ true → b ≡ true
-and_second true b e = e
-and_second false b e = absurd cc
-
-pub false_first : (a b : Bool) → a ≡ false → (a && b) ≡ false
-false_first true b e = absurd cc
-false_first false b e = refl
-
-pub false_second : (a b : Bool) → b ≡ false → (a && b) ≡ false
-false_second true b e = e
-false_second false b e = refl
-
-pub both : (a b : Bool) → a ≡ true → b ≡ true → (a && b) ≡ true
-both true b e f = f
-both false b e f = absurd cc
-
-pub and_assoc : (a b c : Bool) → ((a && b) && c) ≡ (a && (b && c))
-and_assoc true b c = refl
-and_assoc false b c = refl
-
-pub all_append : {A : Type 0} (p : A → Bool) (xs ys : List A)
-    → list_all p (xs ++ ys) ≡ (list_all p xs && list_all p ys)
-all_append p [] ys = refl
-all_append p (x ∷ xs) ys =
-    ap (λ b. p x && b) (all_append p xs ys) ∙ sym (and_assoc (p x) (list_all p xs) (list_all p ys))
 
 -- ## The first place
 
@@ -116,12 +79,6 @@ pub map_map : {A B C : Type 0} (f : A → B) (g : B → C) (xs : List A)
     → map g (map f xs) ≡ map (λ x. g (f x)) xs
 map_map f g [] = refl
 map_map f g (x ∷ xs) = ap (λ l. g (f x) ∷ l) (map_map f g xs)
-
--- a loop that has gone over all
-pub finished : {A C : Type 0} (f : A → C) (before : List C) (xs : List A) (i : ℕ) (all : List C)
-    → length xs ≤ i → before ++ map f (drop i xs) ≡ all → before ≡ all
-finished f before xs i all past e =
-    sym (append-nil before) ∙ ap (λ l. before ++ map f l) (sym (drop_of_length-le xs past)) ∙ e
 
 pub any_is : {A : Type 0} (p : A → Bool) (xs : List A)
     → list_any p xs ≡ nat_lt (position_or_len p xs) (length xs)

@@ -1,11 +1,10 @@
 -- What stands in a list, and in what is made of it.
-use Rattle.std.proofs.Common.{◌≡◌, ℕ, zero, suc, ◌<◌, Bool, true, false, cond, List, [], ◌∷◌}
-use Rattle.std.proofs.Common.{length, map, Option, Some, None, refl, ap, sym, ◌∙◌, inl, inr, arith}
+use Rattle.std.proofs.Common.{◌≡◌, ℕ, zero, suc, Bool, true, false, cond, List, [], ◌∷◌, map}
+use Rattle.std.proofs.Common.{Option, Some, None, refl, ap, sym, ◌∙◌, inl, inr}
 use Rattle.std.specs.Prelude.{◌&&◌, ◌||◌, filter, slice_get}
 use Rattle.std.specs.List.{list_all, list_any, cons_option, filter_map, Contains}
 use Rattle.std.proofs.lemmas.Option.{slice_get-get_or, slice_get_within, get_or_from_slice_get}
 use Rattle.lb_syntax.specs.Lists.{In}
-use Rattle.lb_static.proofs.Lists.{and_first, and_second}
 
 -- ## What stands in a list
 
@@ -18,12 +17,6 @@ pub place_in : {A : Type 0} (xs : List A) (x : A) → In x xs → (i : ℕ) × (
 place_in [] x on = absurd on
 place_in (y ∷ xs) x (inl is) = (0, ap Some is)
 place_in (y ∷ xs) x (inr on) = let at = place_in xs x on in (suc at.0, at.1)
-
-pub some_at : {A : Type 0} (xs : List A) (i : ℕ) → i < length xs
-    → (x : A) × (slice_get xs i ≡ Some x)
-some_at [] i below = absurd (omega arith)
-some_at (y ∷ xs) zero below = (y, refl)
-some_at (y ∷ xs) (suc i) below = some_at xs i (omega arith)
 
 pub in_contains : {A : Type 0} (xs : List A) (x : A) → In x xs → Contains xs x
 in_contains xs x on =
@@ -114,12 +107,6 @@ in_any p (y ∷ xs) e = by (λ h. let rest = in_any p xs h in (rest.0, inr rest.
         → (b || list_any p xs) ≡ true → (x : _) × In x (y ∷ xs) × (p x ≡ true)
     by later true at h = (y, inl refl, at)
     by later false at h = later h
-
-pub all_in : {A : Type 0} (p : A → Bool) (xs : List A) (x : A) → list_all p xs ≡ true → In x xs
-    → p x ≡ true
-all_in p [] x e on = absurd on
-all_in p (y ∷ xs) x e (inl is) = ap p (sym is) ∙ and_first (p y) (list_all p xs) e
-all_in p (y ∷ xs) x e (inr on) = all_in p xs x (and_second (p y) (list_all p xs) e) on
 
 pub from_all : {A : Type 0} (p : A → Bool) (xs : List A) → ((x : A) → In x xs → p x ≡ true)
     → list_all p xs ≡ true

@@ -7,13 +7,16 @@ use Rattle.std.specs.List.{list_any}
 use Rattle.std.specs.Str.{bytes_eq}
 use Rattle.std.proofs.lemmas.List.Folds.{list_any-append}
 use Rattle.std.proofs.lemmas.Slice.Eq.{bytes_eq-Decides}
+use Rattle.std.proofs.Math.Bool.{or-false, or_assoc}
+use Rattle.std.proofs.lemmas.List.{map-append, append_assoc}
+use Rattle.std.proofs.lemmas.Grind.{flat_map-append}
 use Rattle.lb_syntax.specs.Grammar.{Group, declarations, declared}
 use Rattle.lb_syntax.specs.SourceView.{view_group, view_groups, view_node}
 use Rattle.lb_syntax.specs.Tree as tree
-use Rattle.lb_syntax.specs.Tree.{Name, Static, Operator, Node_named, Symbol, Declaration, Expr}
-use Rattle.lb_syntax.specs.Tree.{Literal, Truth, Variable, Unary, Binary, If, Arrow, Fby, Pre}
-use Rattle.lb_syntax.specs.Tree.{Current, When, Replicate, Slice, Join, Array, AtMostOne, Nor, Call}
-use Rattle.lb_syntax.specs.Tree.{Iterate, Exprs, Nil, Cons, Node}
+use Rattle.lb_syntax.specs.Tree.{Name, Static, Node_named, Symbol, Declaration, Expr, Literal}
+use Rattle.lb_syntax.specs.Tree.{Truth, Variable, Unary, Binary, If, Arrow, Fby, Pre, Current, When}
+use Rattle.lb_syntax.specs.Tree.{Replicate, Slice, Join, Array, AtMostOne, Nor, Call, Iterate}
+use Rattle.lb_syntax.specs.Tree.{Exprs, Nil, Cons, Node}
 use Rattle.lb_syntax.specs.declared.tree.Node as written
 use Rattle.lb_static.specs.Parts.{among, own_arguments, own_indexes, own_names, own_sizes, parts}
 use Rattle.lb_static.specs.Parts.{parts_in as exprs_in, static_names}
@@ -21,8 +24,6 @@ use Rattle.lb_static.specs.DataTypes.{variables}
 use Rattle.lb_static.specs.StaticParts.{Part, arguments_of, group_parts, if_named, parts_of}
 use Rattle.lb_static.specs.StaticParts.{parts_in}
 use Rattle.lb_static.specs.declared.resolved.Role.TheVariants.{Argument, Size, Value}
-use Rattle.lb_static.proofs.ConstantPlaces.{flat_append}
-use Rattle.lb_static.proofs.Lists.{append_assoc}
 
 -- ## Some item of a list
 
@@ -62,14 +63,6 @@ pub any_and : {A : Type 0} (p : A → Bool) (k : Bool) (xs : List A)
     → list_any (λ x. p x && k) xs ≡ (list_any p xs && k)
 any_and p k [] = refl
 any_and p k (x ∷ xs) = ap (λ b. (p x && k) || b) (any_and p k xs) ∙ and_or (p x) (list_any p xs) k
-
-or_false : (b : Bool) → (b || false) ≡ b
-or_false true = refl
-or_false false = refl
-
-or_assoc : (a b c : Bool) → ((a || b) || c) ≡ (a || (b || c))
-or_assoc true b c = refl
-or_assoc false b c = refl
 
 module _ (x : Name) (variable : Name → Bool) where
   -- the name stands in a static expression
@@ -117,7 +110,7 @@ module _ (x : Name) (variable : Name → Bool) where
           ≡ list_any stands (Variable y ∷ [])
       by true e = sym (ap (λ b. (b || false) || false) (no e))
       by false e = ap (λ b. b || false) (yes e)
-          ∙ sym (or_false (((bytes_eq x y || false) && not (variable x)) || false))
+          ∙ sym (or-false (((bytes_eq x y || false) && not (variable x)) || false))
 
   alone : (s : Bool) → s ≡ ((s || false) || false)
   alone true = refl
@@ -269,26 +262,22 @@ module _ (x : Name) (variable : Name → Bool) where
       ∙ ap (λ b. b || list_any in_part (flat_map group_parts gs)) (group_stands g)
       ∙ ap (λ b. list_any in_static (flat_map (λ d. d.sizes) (declarations g)) || b)
       (groups_stand gs)
-      ∙ sym (ap (list_any in_static) (flat_append (λ d. d.sizes) (declarations g) (declared gs))
+      ∙ sym (ap (list_any in_static) (flat_map-append (λ d. d.sizes) (declarations g) (declared gs))
       ∙ list_any-append in_static (flat_map (λ d. d.sizes) (declarations g))
       (flat_map (λ d. d.sizes) (declared gs)))
 
-declared_append : (gs hs : List Group) → declared (gs ++ hs) ≡ declared gs ++ declared hs
+pub declared_append : (gs hs : List Group) → declared (gs ++ hs) ≡ declared gs ++ declared hs
 declared_append [] hs = refl
 declared_append (g ∷ gs) hs = ap (λ l. declarations g ++ l) (declared_append gs hs)
     ∙ sym (append_assoc (declarations g) (declared gs) (declared hs))
-
-map_append : {A B : Type 0} (f : A → B) (xs ys : List A) → map f (xs ++ ys) ≡ map f xs ++ map f ys
-map_append f [] ys = refl
-map_append f (x ∷ xs) ys = ap (λ l. f x ∷ l) (map_append f xs ys)
 
 -- the declarations of a node, from its groups
 pub variables_are : (n : written.Node)
     → declared (view_groups (n.inputs.items ++ (n.outputs.items ++ n.locals.items)))
     ≡ variables (view_node n)
 variables_are n =
-    ap declared (map_append view_group n.inputs.items (n.outputs.items ++ n.locals.items))
+    ap declared (map-append view_group n.inputs.items (n.outputs.items ++ n.locals.items))
     ∙ declared_append (view_groups n.inputs.items) (view_groups (n.outputs.items ++ n.locals.items))
     ∙ ap (λ l. declared (view_groups n.inputs.items) ++ l)
-    (ap declared (map_append view_group n.outputs.items n.locals.items)
+    (ap declared (map-append view_group n.outputs.items n.locals.items)
     ∙ declared_append (view_groups n.outputs.items) (view_groups n.locals.items))

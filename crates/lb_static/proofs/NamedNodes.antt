@@ -3,8 +3,12 @@ use Rattle.std.proofs.Common.{◌≡◌, Bool, true, false, List, [], ◌∷◌,
 use Rattle.std.proofs.Common.{option_map, refl, ap, sym, ◌∙◌}
 use Rattle.std.specs.Prelude.{◌&&◌, flat_map}
 use Rattle.std.specs.List.{list_all}
+use Rattle.std.proofs.lemmas.List.Folds.{list_all-append}
+use Rattle.std.proofs.Math.Bool.{and_assoc}
+use Rattle.std.proofs.lemmas.Bool.{and_from, and_left, and_right}
 use Rattle.lb_syntax.specs.Lists.{some_of}
 use Rattle.lb_syntax.specs.Tree.{Name, Node, Declaration, Sampling, Static, Expr}
+use Rattle.lb_syntax.proofs.TruthValues.{both_ways, and_first, and_second}
 use Rattle.lb_static.specs.Instances.{Program, node_sites}
 use Rattle.lb_static.specs.NameFaults.{IsNameFault}
 use Rattle.lb_static.specs.Names.{are_distinct, is_callable, is_known, is_static_name, is_variable}
@@ -19,23 +23,16 @@ use Rattle.lb_static.specs.Parts.{clock_names}
 use Rattle.lb_static.specs.DataTypes.{variables}
 use Rattle.lb_static.specs.declared.error.StaticError.{StaticError}
 use Rattle.lb_static.proofs.Faults.{fault_within}
-use Rattle.lb_static.proofs.Lists.{all_append, and_assoc, and_first, and_second, both, false_first}
-use Rattle.lb_static.proofs.Lists.{false_second}
 use Rattle.lb_static.proofs.NodeNameRules.{all_and, body_is, own}
 use Rattle.lb_static.proofs.TestedItems.{all_flat}
 
 -- ## Tests
 
-same_truth : (a b : Bool) → (a ≡ true → b ≡ true) → (b ≡ true → a ≡ true) → a ≡ b
-same_truth true b f g = sym (f refl)
-same_truth false true f g = g refl
-same_truth false false f g = refl
-
 -- the parts of the rule of names, as the rule has them and as the code finds them
 arranged : (c k s t d e l : Bool)
     → (c && (k && ((s && t) && ((d && e) && l)))) ≡ ((s && d) && (l && ((k && (e && t)) && c)))
 arranged c k s t d e l =
-    same_truth _ _
+    both_ways _ _
     (λ h.
     let c' = and_first c _ h in
     let h' = and_second c _ h in
@@ -44,9 +41,10 @@ arranged c k s t d e l =
     let st = and_first (s && t) _ g in
     let del = and_second (s && t) _ g in
     let de = and_first (d && e) l del in
-    both (s && d) _ (both s d (and_first s t st) (and_first d e de))
-    (both l _ (and_second (d && e) l del)
-    (both (k && (e && t)) c (both k (e && t) k' (both e t (and_second d e de) (and_second s t st)))
+    and_from (s && d) _ (and_from s d (and_first s t st) (and_first d e de))
+    (and_from l _ (and_second (d && e) l del)
+    (and_from (k && (e && t)) c
+    (and_from k (e && t) k' (and_from e t (and_second d e de) (and_second s t st)))
     c')))
     (λ h.
     let sd = and_first (s && d) _ h in
@@ -55,10 +53,10 @@ arranged c k s t d e l =
     let ketc = and_second l _ g in
     let ket = and_first (k && (e && t)) c ketc in
     let et = and_second k (e && t) ket in
-    both c _ (and_second (k && (e && t)) c ketc)
-    (both k _ (and_first k (e && t) ket)
-    (both (s && t) _ (both s t (and_first s d sd) (and_second e t et))
-    (both (d && e) l (both d e (and_second s d sd) (and_first e t et)) l'))))
+    and_from c _ (and_second (k && (e && t)) c ketc)
+    (and_from k _ (and_first k (e && t) ket)
+    (and_from (s && t) _ (and_from s t (and_first s d sd) (and_second e t et))
+    (and_from (d && e) l (and_from d e (and_second s d sd) (and_first e t et)) l'))))
 
 -- ## The parts of a node, one after the other
 
@@ -71,38 +69,38 @@ module _ (here : Progress) (n : Node) where
 
   declarations_are : fit (variables n) ≡ (fit n.inputs && (fit n.outputs && fit n.locals))
   declarations_are =
-      all_append (declaration_fits here) n.inputs (n.outputs ++ n.locals)
-      ∙ ap (λ b. fit n.inputs && b) (all_append (declaration_fits here) n.outputs n.locals)
+      list_all-append (declaration_fits here) n.inputs (n.outputs ++ n.locals)
+      ∙ ap (λ b. fit n.inputs && b) (list_all-append (declaration_fits here) n.outputs n.locals)
 
   pub all_fit : fit n.inputs ≡ true → fit n.outputs ≡ true → fit n.locals ≡ true
       → statements_fit ≡ true → node_fits here n ≡ true
   all_fit ins outs locals body =
-      both _ _ (declarations_are ∙ both _ _ ins (both _ _ outs locals)) body
+      and_from _ _ (declarations_are ∙ and_from _ _ ins (and_from _ _ outs locals)) body
 
   declarations_fault : (f : StaticError) (b : Bool) → (b ≡ false → fit (variables n) ≡ false)
       → IsNameFault f b → IsNameFault f (node_fits here n)
   declarations_fault f b within h =
-      fault_within f _ _ h (λ e. false_first _ statements_fit (within e))
+      fault_within f _ _ h (λ e. and_left _ statements_fit (within e))
 
   pub inputs_fault : (f : StaticError) → IsNameFault f (fit n.inputs)
       → IsNameFault f (node_fits here n)
-  inputs_fault f h = declarations_fault f _ (λ e. declarations_are ∙ false_first _ _ e) h
+  inputs_fault f h = declarations_fault f _ (λ e. declarations_are ∙ and_left _ _ e) h
 
   pub outputs_fault : (f : StaticError) → IsNameFault f (fit n.outputs)
       → IsNameFault f (node_fits here n)
   outputs_fault f h =
       declarations_fault f _ (λ e. declarations_are
-      ∙ false_second (fit n.inputs) _ (false_first _ (fit n.locals) e)) h
+      ∙ and_right (fit n.inputs) _ (and_left _ (fit n.locals) e)) h
 
   pub locals_fault : (f : StaticError) → IsNameFault f (fit n.locals)
       → IsNameFault f (node_fits here n)
   locals_fault f h =
       declarations_fault f _ (λ e. declarations_are
-      ∙ false_second (fit n.inputs) _ (false_second (fit n.outputs) _ e)) h
+      ∙ and_right (fit n.inputs) _ (and_right (fit n.outputs) _ e)) h
 
   pub body_fault : (f : StaticError) → IsNameFault f statements_fit
       → IsNameFault f (node_fits here n)
-  body_fault f h = fault_within f _ _ h (λ e. false_second (fit (variables n)) _ e)
+  body_fault f h = fault_within f _ _ h (λ e. and_right (fit (variables n)) _ e)
 
 -- ## The rule of names
 
@@ -170,11 +168,11 @@ module _ (here : Progress) where
       let arguments = flat_map own_arguments (node_parts n) in
       let test = static_passes P n in
       all_flat (is_static_name P n) static_names (node_statics n)
-      ∙ all_append test (declared_sizes n ++ sizes) (indexes ++ arguments)
+      ∙ list_all-append test (declared_sizes n ++ sizes) (indexes ++ arguments)
       ∙ ap (λ b. b && list_all test (indexes ++ arguments))
-      (all_append test (declared_sizes n) sizes)
+      (list_all-append test (declared_sizes n) sizes)
       ∙ ap (λ b. (list_all test (declared_sizes n) && list_all test sizes) && b)
-      (all_append test indexes arguments)
+      (list_all-append test indexes arguments)
       ∙ and_assoc (list_all test (declared_sizes n)) (list_all test sizes) _
       ∙ ap (λ b. b && (list_all test sizes && (list_all test indexes && list_all test arguments)))
       (all_flat test (λ (d : Declaration). d.sizes) (variables n))
@@ -198,8 +196,8 @@ module _ (here : Progress) where
       let declared = some_of (map clock_name (variables n)) in
       let clocks = flat_map own_clock_names (node_parts n) in
       let lefts = flat_map left_names n.body in
-      all_append test (clock_names n) lefts
-      ∙ ap (λ b. b && list_all test lefts) (all_append test declared clocks)
+      list_all-append test (clock_names n) lefts
+      ∙ ap (λ b. b && list_all test lefts) (list_all-append test declared clocks)
       ∙ ap (λ b. (b && list_all test clocks) && list_all test lefts) (clocks_fit (variables n))
       ∙ ap (λ b. (list_all (λ (d : Declaration). clock_fits here d.clock) (variables n) && b)
       && list_all test lefts) (all_flat test own_clock_names (node_parts n))
@@ -239,9 +237,9 @@ module _ (here : Progress) where
 
   pub all_named : are_distinct (declared_names n) ≡ true → node_fits here n ≡ true
       → is_named P n ≡ true
-  all_named once fit = named_is ∙ both _ _ once fit
+  all_named once fit = named_is ∙ and_from _ _ once fit
 
   pub node_fault : (f : StaticError) → IsNameFault f (node_fits here n)
       → IsNameFault f (is_named P n)
   node_fault f h = fault_within f _ _ h
-      (λ e. named_is ∙ false_second (are_distinct (declared_names n)) _ e)
+      (λ e. named_is ∙ and_right (are_distinct (declared_names n)) _ e)

@@ -5,11 +5,15 @@ use Rattle.std.specs.Prelude.{◌&&◌, ◌||◌, flat_map, nat_eq, nat_lt, not,
 use Rattle.std.specs.List.{list_all, list_any}
 use Rattle.std.specs.Str.{bytes_eq}
 use Rattle.std.proofs.lemmas.Bool.Decides.{nat_tests}
-use Rattle.std.proofs.lemmas.List.Folds.{list_any-append}
+use Rattle.std.proofs.lemmas.List.Folds.{list_any-append, list_all-append}
 use Rattle.std.proofs.lemmas.Slice.Eq.{bytes_eq-Decides}
+use Rattle.std.proofs.lemmas.Bool.{and_from, or_left}
+use Rattle.std.proofs.Math.Bool.{and-true, and-false}
 use Rattle.lb_syntax.specs.Lists.{listed}
 use Rattle.lb_syntax.specs.SourceView.{view_groups}
 use Rattle.lb_syntax.specs.Tree.{Name, Constant, Node, Source, Static}
+use Rattle.lb_syntax.proofs.TruthValues.{or_nothing, and_first, and_second, both_ways}
+use Rattle.lb_syntax.proofs.ListPlaces.{all_at, all_from}
 use Rattle.lb_static.specs.CalledNodes.{program_in}
 use Rattle.lb_static.specs.SourceNames.{names_in_source}
 use Rattle.lb_static.specs.NamedConstants.{AreNamed, constant_place, node_constants, part_constants}
@@ -30,13 +34,12 @@ use Rattle.lb_static.specs.declared.resolved.ResolvedNode.{ResolvedNode}
 use Rattle.lb_static.proofs.ConstantPlaces.{constant_found}
 use Rattle.lb_static.proofs.Reachability.{any_filter}
 use Rattle.lb_static.proofs.CheckedConstants.{name_of_place, place_of_constant}
-use Rattle.lb_static.proofs.Lists.{all_append, and_first, and_second, both}
 use Rattle.lb_static.proofs.Mentions.{any_and, any_flat, any_map, any_stands, expression_stands}
 use Rattle.lb_static.proofs.Mentions.{groups_stand, in_part, in_static, stands, variables_are}
 use Rattle.lb_static.proofs.TestedItems.{all_flat}
 use Rattle.lb_static.proofs.ReachedPlaces.{all_item}
 use Rattle.lb_static.proofs.Scopes.{among_append}
-use Rattle.lb_static.proofs.WorkLists.{all_at, any_at, at_all, or_left, same_test}
+use Rattle.lb_static.proofs.WorkLists.{any_at}
 
 -- ## The names in the static expressions of a node
 
@@ -125,7 +128,8 @@ all_visit q order (p ∷ ps) e f =
   where
     by : (b : Bool) → list_all q (if b then order else order ++ p ∷ []) ≡ true
     by true = e
-    by false = all_append q order (p ∷ []) ∙ both _ _ e (both _ _ (and_first (q p) _ f) refl)
+    by false =
+        list_all-append q order (p ∷ []) ∙ and_from _ _ e (and_from _ _ (and_first (q p) _ f) refl)
 
 or_known : (a b : Bool) → (b ≡ true → a ≡ true) → a ≡ (a || (b || false))
 or_known true b f = refl
@@ -148,15 +152,11 @@ or_assoc true b c = refl
 or_assoc false true c = refl
 or_assoc false false c = refl
 
-or_none : (a : Bool) → a ≡ (a || false)
-or_none true = refl
-or_none false = refl
-
 visited_is : (order places : List ℕ) (p : ℕ)
     → is_visited (visited_after_all order places) p
     ≡ (is_visited order p || list_any (nat_eq p) places)
 unfolding visited_after_all
-visited_is order [] p = or_none (is_visited order p)
+visited_is order [] p = or_nothing (is_visited order p)
 visited_is order (q ∷ places) p =
     visited_is (visited_after order q) places p
     ∙ ap (λ b. b || list_any (nat_eq p) places) (visited_once order p q)
@@ -197,17 +197,17 @@ module _ (s : Source) (g : Globals) (names : g.names ≡ names_in_source s)
                 ∙ place_of_constant s g names count once p c at in absurd cc
             test false h = refl
         by false e (Some q) found =
-            same_test (nat_eq p q || false) (bytes_eq c.name y && not (among c.name params)) there
+            both_ways (nat_eq p q || false) (bytes_eq c.name y && not (among c.name params)) there
             back
           where
             there : (nat_eq p q || false) ≡ true
                 → (bytes_eq c.name y && not (among c.name params)) ≡ true
             there h =
-                let eq : nat_eq p q ≡ true = or_none (nat_eq p q) ∙ h in
+                let eq : nat_eq p q ≡ true = or_nothing (nat_eq p q) ∙ h in
                 let one : p ≡ q = grind (arith, nat_tests) in
                 let is = name_of_place s g names count once y q c found
                 (ap (slice_get s.constants) (sym one) ∙ at) in
-                both (bytes_eq c.name y) (not (among c.name params))
+                and_from (bytes_eq c.name y) (not (among c.name params))
                 ((bytes_eq-Decides c.name y).1 is) (ap (λ z. not (among z params)) is ∙ ap not e)
 
             back : (bytes_eq c.name y && not (among c.name params)) ≡ true
@@ -253,23 +253,15 @@ module _ (s : Source) (g : Globals) (names : g.names ≡ names_in_source s)
         ∙ ap (λ b. (among x (node_names n) || among x (node_static_names n)) && not b)
         (among_append x (variable_names n) n.parameters)
       where
-        none : (b : Bool) → (b && false) ≡ false
-        none true = refl
-        none false = refl
-
-        all_true : (b : Bool) → (b && true) ≡ b
-        all_true true = refl
-        all_true false = refl
-
         test : (y : Name) → (not (among y (declared_names n)) && bytes_eq x y)
             ≡ (bytes_eq x y && not (among x (declared_names n)))
         test y = by (bytes_eq x y) refl
           where
             by : (b : Bool) → bytes_eq x y ≡ b
                 → (not (among y (declared_names n)) && b) ≡ (b && not (among x (declared_names n)))
-            by true h = all_true (not (among y (declared_names n)))
+            by true h = and-true (not (among y (declared_names n)))
                 ∙ ap (λ z. not (among z (declared_names n))) (sym ((bytes_eq-Decides x y).0 h))
-            by false h = none (not (among y (declared_names n)))
+            by false h = and-false (not (among y (declared_names n)))
 
     -- a variable stands in no static expression
     no_variable : (x : Name) (n : Node) → named_in s n ≡ true → among x (variable_names n) ≡ true
@@ -310,13 +302,13 @@ module _ (s : Source) (g : Globals) (names : g.names ≡ names_in_source s)
     named_places nodes resolved named = record {
       within = all_visit (in_source s) [] (flat_map (node_constants g) nodes) refl
           (all_flat (in_source s) (node_constants g) nodes
-          ∙ at_all (λ r. list_all (in_source s) (node_constants g r)) nodes (λ i r at.
+          ∙ all_from (λ r. list_all (in_source s) (node_constants g r)) nodes (λ i r at.
           all_flat (in_source s) (part_constants g (node_of r).parameters) r.statics.items
-          ∙ at_all (λ t. list_all (in_source s) (part_constants g (node_of r).parameters t))
+          ∙ all_from (λ t. list_all (in_source s) (part_constants g (node_of r).parameters t))
           r.statics.items (λ j t is.
           all_flat (in_source s) (place_named g (node_of r).parameters)
           (static_names (static_of t.text))
-          ∙ at_all (λ y. list_all (in_source s) (place_named g (node_of r).parameters y))
+          ∙ all_from (λ y. list_all (in_source s) (place_named g (node_of r).parameters y))
           (static_names (static_of t.text)) (λ k y has.
           inside (among y (node_of r).parameters) y (constant_place g.names g.constants y) refl))));
       visited = λ p c at.
@@ -336,7 +328,7 @@ module _ (s : Source) (g : Globals) (names : g.names ≡ names_in_source s)
         inside false y (Some p) found =
             let f = constant_found g.names g.constants y p found in
             let below : p < length s.constants = omega (arith, f.below, count) in
-            both (in_source s p) true (grind (arith, nat_tests)) refl
+            and_from (in_source s p) true (grind (arith, nat_tests)) refl
 
         alike : (p : ℕ) (c : Constant) → slice_get s.constants p ≡ Some c
             → (i : ℕ) (r : ResolvedNode)

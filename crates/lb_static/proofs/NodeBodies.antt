@@ -4,9 +4,13 @@ use Rattle.std.proofs.Common.{map, Ok, ap, sym, subst, refl, ◌∙◌}
 use Rattle.std.specs.Prelude.{flat_map}
 use Rattle.std.specs.List.{list_all}
 use Rattle.std.proofs.lemmas.List.{map-append, take_more}
+use Rattle.std.proofs.lemmas.List.Folds.{list_all-append}
+use Rattle.std.proofs.lemmas.Bool.{and_from}
+use Rattle.std.proofs.Math.Bool.{and-true}
 use Rattle.lb_syntax.specs.SourceView.{view_statement}
 use Rattle.lb_syntax.specs.Tree as tree
 use Rattle.lb_syntax.specs.declared.tree.Statement.{Statement}
+use Rattle.lb_syntax.proofs.TruthValues.{and_first, and_second}
 use Rattle.lb_static.specs.Instances.{Site, sites, statement_sites}
 use Rattle.lb_static.specs.NameFaults.{IsNameFault}
 use Rattle.lb_static.specs.NodeProgress.{Progress, texts, counts_in, grown, is_variable_of}
@@ -21,16 +25,15 @@ use Rattle.lb_static.specs.declared.resolved.ResolvedStatement.{ResolvedStatemen
 use Rattle.lb_static.specs.declared.resolved.ResolvedStatement.TheVariants.{Equation, Assertion}
 use Rattle.lb_static.proofs.Faults.{fault_within}
 use Rattle.lb_static.proofs.Growth.{same_on, all_on, both_on, same_two}
-use Rattle.lb_static.proofs.Lists.{all_append, and_first, and_second, both}
-use Rattle.lb_static.proofs.Resolutions.{and_true, expr_grown, within_grown, unhidden_grown}
-use Rattle.lb_static.proofs.Resolutions.{flat_more, grown_twice, one_fails}
+use Rattle.lb_static.proofs.Resolutions.{expr_grown, within_grown, unhidden_grown, flat_more}
+use Rattle.lb_static.proofs.Resolutions.{grown_twice, one_fails}
 
 module _ (s : Progress) (P : List Part) (C : List Site) where
   still : (statement : ResolvedStatement)
       → is_statement_within (counts_in (texts s)) statement ≡ true
       → is_statement_within (counts_in (texts (grown s P C))) statement ≡ true
   still (Equation lefts e) h =
-      both _ _ (and_first (list_all (is_variable (counts_in (texts s))) lefts.items)
+      and_from _ _ (and_first (list_all (is_variable (counts_in (texts s))) lefts.items)
       (is_within (counts_in (texts s)) e) h)
       (within_grown s P C e (and_second (list_all (is_variable (counts_in (texts s))) lefts.items) _
       h))
@@ -98,14 +101,14 @@ one_more_step start before after xs statements x statement d g =
       (
         map-append (statement_of (texts after)) statements (statement ∷ [])
             ∙ same_two (λ (l : List tree.Statement) y. l ++ y ∷ []) _ _ _ _ old.0 h.1.0,
-        all_append (is_statement_within (counts_in (texts after))) statements (statement ∷ [])
-            ∙ both _ _ old.1 (and_true (is_statement_within (counts_in (texts after)) statement)
+        list_all-append (is_statement_within (counts_in (texts after))) statements (statement ∷ [])
+            ∙ and_from _ _ old.1 (and-true (is_statement_within (counts_in (texts after)) statement)
             ∙ h.1.1),
-        all_append (is_statement_unhidden (texts after)) statements (statement ∷ [])
-            ∙ both _ _ old.2 (and_true (is_statement_unhidden (texts after) statement) ∙ h.1.2),
+        list_all-append (is_statement_unhidden (texts after)) statements (statement ∷ [])
+            ∙ and_from _ _ old.2 (and-true (is_statement_unhidden (texts after) statement) ∙ h.1.2),
       ),
-      all_append (statement_fits start) xs (x ∷ [])
-          ∙ both _ _ d.2 (and_true (statement_fits start x) ∙ h.2),
+      list_all-append (statement_fits start) xs (x ∷ [])
+          ∙ and_from _ _ d.2 (and-true (statement_fits start x) ∙ h.2),
     )
   where
     sites_of : (y : tree.Statement) → statement_sites y ≡ sites (right_side y)

@@ -3,6 +3,7 @@ use Rattle.std.proofs.Common.{◌≡◌, Bool, true, false, List, [], ◌∷◌,
 use Rattle.std.proofs.Common.{sym, ◌∙◌}
 use Rattle.std.specs.Prelude.{◌&&◌, flat_map}
 use Rattle.std.specs.List.{list_all}
+use Rattle.std.proofs.lemmas.List.Folds.{list_all-append}
 use Rattle.lb_syntax.specs.Tree.{Node, Statement, Equation, Assertion, Node_named, Symbol, Expr}
 use Rattle.lb_syntax.specs.Tree.{Literal, Truth, Variable, Group, Unary, Binary, If, Arrow, Fby}
 use Rattle.lb_syntax.specs.Tree.{Pre, Current, When, Replicate, Index, Slice, Join, Array}
@@ -13,7 +14,6 @@ use Rattle.lb_static.specs.NodeNames.{passes, all_pass, static_passes, statics_p
 use Rattle.lb_static.specs.NodeNames.{statement_passes}
 use Rattle.lb_static.specs.Parts.{parts, parts_in, right_side, left_names, own_names, own_sizes}
 use Rattle.lb_static.specs.Parts.{own_indexes, own_arguments, own_clock_names}
-use Rattle.lb_static.proofs.Lists.{all_append}
 
 -- ## Tests
 
@@ -72,9 +72,9 @@ module _ (P : Program) (n : Node) where
   joined a b xs ys e f g h =
       ap (λ x. x && b) g ∙ ap (λ x. (list_all own xs && called (sites e)) && x) h
       ∙ swap (list_all own xs) (list_all own ys) (called (sites e)) (called (sites f))
-      ∙ ap (λ x. x && (called (sites e) && called (sites f))) (sym (all_append own xs ys))
+      ∙ ap (λ x. x && (called (sites e) && called (sites f))) (sym (list_all-append own xs ys))
       ∙ ap (λ x. list_all own (xs ++ ys) && x)
-      (sym (all_append (is_callable P) (sites e) (sites f)))
+      (sym (list_all-append (is_callable P) (sites e) (sites f)))
 
   mutual
     passes_is : (e : Expr) → passes P n e ≡ (list_all own (parts e) && called (sites e))
@@ -91,9 +91,9 @@ module _ (P : Program) (n : Node) where
         ∙ swap (list_all own (parts c)) (list_all own (parts a ++ parts b)) (called (sites c))
         (called (sites a ++ sites b))
         ∙ ap (λ x. x && (called (sites c) && called (sites a ++ sites b)))
-        (sym (all_append own (parts c) (parts a ++ parts b)))
+        (sym (list_all-append own (parts c) (parts a ++ parts b)))
         ∙ ap (λ x. list_all own (parts c ++ (parts a ++ parts b)) && x)
-        (sym (all_append (is_callable P) (sites c) (sites a ++ sites b)))
+        (sym (list_all-append (is_callable P) (sites c) (sites a ++ sites b)))
     passes_is (Arrow a b) = joined _ _ (parts a) (parts b) a b (passes_is a) (passes_is b)
     passes_is (Fby a b) = joined _ _ (parts a) (parts b) a b (passes_is a) (passes_is b)
     passes_is (Pre a) = passes_is a
@@ -134,9 +134,9 @@ module _ (P : Program) (n : Node) where
         ∙ swap (list_all own (parts e)) (list_all own (parts_in es)) (called (sites e))
         (called (sites_in es))
         ∙ ap (λ x. x && (called (sites e) && called (sites_in es)))
-        (sym (all_append own (parts e) (parts_in es)))
+        (sym (list_all-append own (parts e) (parts_in es)))
         ∙ ap (λ x. list_all own (parts e ++ parts_in es) && x)
-        (sym (all_append (is_callable P) (sites e) (sites_in es)))
+        (sym (list_all-append (is_callable P) (sites e) (sites_in es)))
 
   statement_is : (s : Statement)
       → statement_passes P n s
@@ -161,8 +161,8 @@ module _ (P : Program) (n : Node) where
       ∙ swap (v (left_names s)) (v (flat_map left_names body)) (list_all own xs && called cs)
       (list_all own ys && called ds)
       ∙ ap (λ b. b && ((list_all own xs && called cs) && (list_all own ys && called ds)))
-      (sym (all_append (is_variable P n) (left_names s) (flat_map left_names body)))
+      (sym (list_all-append (is_variable P n) (left_names s) (flat_map left_names body)))
       ∙ ap (λ b. v (left_names s ++ flat_map left_names body) && b)
       (swap (list_all own xs) (list_all own ys) (called cs) (called ds)
-      ∙ ap (λ b. b && (called cs && called ds)) (sym (all_append own xs ys))
-      ∙ ap (λ b. list_all own (xs ++ ys) && b) (sym (all_append (is_callable P) cs ds)))
+      ∙ ap (λ b. b && (called cs && called ds)) (sym (list_all-append own xs ys))
+      ∙ ap (λ b. list_all own (xs ++ ys) && b) (sym (list_all-append (is_callable P) cs ds)))

@@ -2,15 +2,17 @@
 use Rattle.std.proofs.Common.{◌≡◌, ℕ, zero, suc, ◌+◌, ◌-◌, Bool, true, false, cond, List, [], ◌∷◌}
 use Rattle.std.proofs.Common.{length, drop, Option, Some, None, option_map, refl, ap, sym, ◌∙◌}
 use Rattle.std.proofs.Common.{arith}
-use Rattle.std.specs.Prelude.{◌||◌, not, nat_lt, nat_le, position}
+use Rattle.std.specs.Prelude.{not, nat_lt, nat_le, position}
 use Rattle.std.specs.List.{list_any, position_or_len}
 use Rattle.std.specs.Str.{bytes_eq}
 use Rattle.std.proofs.lemmas.Bool.Decides.{nat_tests}
 use Rattle.std.proofs.lemmas.Slice.Eq.{bytes_eq-Decides}
+use Rattle.std.proofs.lemmas.Bool.{not-true}
 use Rattle.lb_syntax.specs.Tree.{Name}
+use Rattle.lb_syntax.proofs.TruthValues.{and_first, and_second, or_second}
 use Rattle.lb_static.specs.Names.{are_distinct}
 use Rattle.lb_static.specs.Parts.{among}
-use Rattle.lb_static.proofs.Lists.{and_first, and_second, any_is}
+use Rattle.lb_static.proofs.Lists.{any_is}
 
 -- the place among those from one on
 abbrev pub later : ℕ → Option ℕ → Option ℕ
@@ -62,11 +64,7 @@ none_in_rest : (x : Name) (k : ℕ) (ys : List Name) → among x ys ≡ false
     → among x (drop k ys) ≡ false
 none_in_rest x zero ys e = e
 none_in_rest x (suc k) [] e = e
-none_in_rest x (suc k) (y ∷ ys) e = none_in_rest x k ys (second (bytes_eq x y) (among x ys) e)
-  where
-    second : (a b : Bool) → (a || b) ≡ false → b ≡ false
-    second true b e = absurd cc
-    second false b e = e
+none_in_rest x (suc k) (y ∷ ys) e = none_in_rest x k ys (or_second (bytes_eq x y) (among x ys) e)
 
 no_place : {A : Type 0} (p : A → Bool) (xs : List A) → list_any p xs ≡ false → position p xs ≡ None
 no_place p xs e = by (nat_lt (position_or_len p xs) (length xs)) (position_or_len p xs)
@@ -83,17 +81,13 @@ later_place x (suc k) [] d = refl
 later_place x (suc k) (y ∷ ys) d =
     by (bytes_eq x y) refl (later_place x k ys (and_second (not (among y ys)) (are_distinct ys) d))
   where
-    opposite : (b : Bool) → not b ≡ true → b ≡ false
-    opposite true e = absurd cc
-    opposite false e = refl
-
     by : (b : Bool) → bytes_eq x y ≡ b
         → later k (position (bytes_eq x) ys) ≡ position (bytes_eq x) (drop k ys)
         → later (suc k) (position (bytes_eq x) (y ∷ ys)) ≡ position (bytes_eq x) (drop k ys)
     by true e rest =
         let same : x ≡ y = (bytes_eq-Decides x y).0 e in
         let alone : among x ys ≡ false = ap (λ z. among z ys) same
-        ∙ opposite (among y ys) (and_first (not (among y ys)) (are_distinct ys) d) in
+        ∙ not-true (among y ys) (and_first (not (among y ys)) (are_distinct ys) d) in
         let before : nat_le (suc k) 0 ≡ false = grind (arith, nat_tests) in
         ap (later (suc k)) (at_first (bytes_eq x) y ys e) ∙ later_found (suc k) 0 false before
         ∙ sym (no_place (bytes_eq x) (drop k ys) (none_in_rest x k ys alone))

@@ -3,7 +3,9 @@ use Rattle.std.proofs.Common.{◌≡◌, ℤ, Bool, true, false, cond, List, [],
 use Rattle.std.proofs.Common.{Some, refl, ap, ap₂, sym, ◌∙◌}
 use Rattle.std.specs.Prelude.{◌&&◌, flat_map}
 use Rattle.std.specs.List.{list_all}
-use Rattle.std.proofs.lemmas.List.Folds.{list_all-map}
+use Rattle.std.proofs.lemmas.List.Folds.{list_all-map, list_all-append}
+use Rattle.std.proofs.Math.Bool.{and_assoc}
+use Rattle.std.proofs.lemmas.List.{append_assoc}
 use Rattle.lb_syntax.specs.Grammar.{Group as Declarations, declared}
 use Rattle.lb_syntax.specs.Tree as tree
 use Rattle.lb_syntax.specs.Tree.{Name, Static, Node_named, Symbol, Expr, Literal, Truth, Variable}
@@ -17,7 +19,6 @@ use Rattle.lb_static.specs.StaticValues.{value_under}
 use Rattle.lb_static.specs.ResolvedNodes.{part_of}
 use Rattle.lb_static.specs.declared.resolved.Role.TheVariants.{Size, Value}
 use Rattle.lb_static.specs.declared.resolved.StaticPart.{StaticPart}
-use Rattle.lb_static.proofs.Lists.{all_append, and_assoc, append_assoc}
 use Rattle.lb_static.proofs.NodeValues.{all_and, groups_sizes, sizes_in}
 use Rattle.lb_static.proofs.OwnParts.{own_parts}
 use Rattle.lb_static.proofs.TestedItems.{all_flat}
@@ -92,7 +93,8 @@ module _ (given : Name → Option ℤ) where
       (list_all size_passes (flat_map group_parts gs) && b) (after_groups gs ps b e) before
       ∙ sym (and_assoc (list_all size_passes (group_parts g))
       (list_all size_passes (flat_map group_parts gs)) b)
-      ∙ ap (λ c. c && b) (sym (all_append size_passes (group_parts g) (flat_map group_parts gs)))
+      ∙ ap (λ c. c && b)
+      (sym (list_all-append size_passes (group_parts g) (flat_map group_parts gs)))
 
   -- what stands in an expression itself is in range
   abbrev pub own_passes : Expr → Bool

@@ -7,7 +7,7 @@ use Rattle.std.specs.List.{position_or_len}
 use Rattle.std.specs.Str.{bytes_eq}
 use Rattle.std.proofs.lemmas.Option.{slice_get_past, slice_get-map, slice_get_read}
 use Rattle.std.proofs.lemmas.Bool.Decides.{nat_tests}
-use Rattle.std.proofs.lemmas.List.{length-map, map-append}
+use Rattle.std.proofs.lemmas.List.{length-map, map-append, append_assoc}
 use Rattle.std.proofs.Math.Seq.{drop-append_seam, take-append_seam}
 use Rattle.std.proofs.lemmas.Slice.Eq.{bytes_eq-Decides}
 use Rattle.lb_syntax.specs.Lists.{either_or, holds}
@@ -19,6 +19,7 @@ use Rattle.lb_syntax.specs.SourceView.{view_source, view_node, view_group, view_
 use Rattle.lb_syntax.specs.declared.tree.Declarations.{Declarations}
 use Rattle.lb_syntax.specs.declared.tree.Kind.{Kind}
 use Rattle.lb_syntax.specs.Tree.{Name, Node, Declaration, Static, Sampling}
+use Rattle.lb_syntax.proofs.TruthValues.{or_first}
 use Rattle.lb_static.specs.declared.node_scope.NodeScope.{NodeScope}
 use Rattle.lb_static.specs.declared.error.StaticError.{StaticError}
 use Rattle.lb_static.specs.SourceNames.{constants_in, names_in, names_in_source}
@@ -29,7 +30,7 @@ use Rattle.lb_static.specs.Parts.{among, declared_names, variable_names}
 use Rattle.lb_static.proofs.Faults.{fault_within}
 use Rattle.lb_static.proofs.Groups.{groups_next}
 use Rattle.lb_static.proofs.TestedItems.{found_passes}
-use Rattle.lb_static.proofs.Lists.{append_assoc, none_passes, some_passes, position_take}
+use Rattle.lb_static.proofs.Lists.{none_passes, some_passes, position_take}
 use Rattle.lb_static.proofs.Scopes.{among_append, bytes_eq-symmetric, position_map, doubled_before}
 use Rattle.lb_static.proofs.Scopes.{name_at_place}
 
@@ -204,13 +205,9 @@ module _ (here : NodeScope) where
       → is_variable (program_in here) n x ≡ false
   no_variable x y at same =
       ap (is_variable (program_in here) n) (sym same)
-      ∙ by (among y (variable_names n)) (among y n.parameters)
+      ∙ or_first (among y (variable_names n)) (among y n.parameters)
       (sym (among_append y (variable_names n) n.parameters) ∙ ap (among y) (sym here.names_are)
       ∙ none_passes (bytes_eq y) here.declared (sym at))
-    where
-      by : (v p : Bool) → (v || p) ≡ false → v ≡ false
-      by true p e = absurd cc
-      by false p e = refl
 
 -- ## Nodes by name
 

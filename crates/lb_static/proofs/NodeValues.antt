@@ -4,7 +4,8 @@ use Rattle.std.proofs.Common.{None, refl, ap, ap₂, sym, ◌∙◌}
 use Rattle.std.specs.Prelude.{◌&&◌, ◌||◌, flat_map, is_some, option_map}
 use Rattle.std.specs.List.{list_all}
 use Rattle.std.proofs.lemmas.Grind.{flat_map-append}
-use Rattle.std.proofs.lemmas.List.Folds.{list_all-map}
+use Rattle.std.proofs.lemmas.List.Folds.{list_all-map, list_all-append}
+use Rattle.std.proofs.Math.Bool.{and-true}
 use Rattle.lb_syntax.specs.Grammar.{Group as Declarations, declarations, declared}
 use Rattle.lb_syntax.specs.Lists.{all_some}
 use Rattle.lb_syntax.specs.Tree as tree
@@ -16,7 +17,6 @@ use Rattle.lb_static.specs.Parts.{own_sizes, own_indexes, own_arguments, own_nam
 use Rattle.lb_static.specs.StaticParts.{Part, group_parts, if_named}
 use Rattle.lb_static.specs.StaticValues.{value_under}
 use Rattle.lb_static.specs.declared.resolved.Role.TheVariants.{Size, Value, Argument}
-use Rattle.lb_static.proofs.Lists.{all_append}
 use Rattle.lb_static.proofs.OwnParts.{own_parts}
 use Rattle.lb_static.proofs.TestedItems.{all_flat}
 
@@ -59,15 +59,11 @@ twice : (b c : Bool) → c ≡ b → (b && c) ≡ b
 twice true c e = e
 twice false c e = refl
 
-and_true : (b : Bool) → (b && true) ≡ b
-and_true true = refl
-and_true false = refl
-
 of_group : (p : Static → Bool) (g : Declarations) (x : Name) (xs : List Name)
     → list_all p (sizes_in (declarations (record g { names = x ∷ xs }))) ≡ list_all p g.sizes
-of_group p g x [] = all_append p g.sizes [] ∙ and_true (list_all p g.sizes)
+of_group p g x [] = list_all-append p g.sizes [] ∙ and-true (list_all p g.sizes)
 of_group p g x (y ∷ xs) =
-    all_append p g.sizes (sizes_in (declarations (record g { names = y ∷ xs })))
+    list_all-append p g.sizes (sizes_in (declarations (record g { names = y ∷ xs })))
     ∙ twice (list_all p g.sizes) _ (of_group p g y xs)
 
 pub group_sizes : (p : Static → Bool) (g : Declarations)
@@ -86,9 +82,9 @@ groups_sizes p [] = refl
 groups_sizes p (g ∷ gs) =
     ap (list_all p) (flat_map-append (λ (d : tree.Declaration). d.sizes) (declarations g)
     (declared gs))
-    ∙ all_append p (sizes_in (declarations g)) (sizes_in (declared gs))
+    ∙ list_all-append p (sizes_in (declarations g)) (sizes_in (declared gs))
     ∙ ap₂ (λ a b. a && b) (group_sizes p g) (groups_sizes p gs)
-    ∙ sym (all_append (λ (q : Part). p q.1) (group_parts g) (flat_map group_parts gs))
+    ∙ sym (list_all-append (λ (q : Part). p q.1) (group_parts g) (flat_map group_parts gs))
 
 -- ## Expressions
 

@@ -3,7 +3,9 @@ use Rattle.std.proofs.Common.{◌≡◌, ℕ, zero, suc, ◌+◌, ◌<◌, Bool,
 use Rattle.std.proofs.Common.{length, take, get_or, map, Option, refl, ap, sym, subst, ◌∙◌, arith}
 use Rattle.std.specs.Prelude.{◌&&◌, nat_eq, flat_map}
 use Rattle.std.specs.List.{list_all}
-use Rattle.std.proofs.lemmas.List.{append-nil, map-append, take_more}
+use Rattle.std.proofs.lemmas.List.{append-nil, map-append, take_more, append_assoc}
+use Rattle.std.proofs.lemmas.Bool.{and_from, and_left, and_right}
+use Rattle.std.proofs.lemmas.List.Folds.{list_all-append}
 use Rattle.lb_syntax.specs.Grammar.{Group, declarations, declared}
 use Rattle.lb_syntax.specs.SourceView.{view_group, view_groups}
 use Rattle.lb_syntax.specs.Tree.{Name, Declaration}
@@ -21,8 +23,7 @@ use Rattle.lb_static.specs.declared.resolved.Sampling as resolved
 use Rattle.lb_static.specs.declared.resolved.StaticId.{StaticId}
 use Rattle.lb_static.specs.declared.resolved.Variable.{Variable}
 use Rattle.lb_static.proofs.Faults.{fault_within}
-use Rattle.lb_static.proofs.Lists.{append_assoc, map_map, both, all_append, false_first}
-use Rattle.lb_static.proofs.Lists.{false_second}
+use Rattle.lb_static.proofs.Lists.{map_map}
 use Rattle.lb_static.proofs.Resolutions.{flat_more}
 
 -- ## Variables that are all alike
@@ -78,32 +79,32 @@ group_fits_of : (s : Progress) (g : Group) (names : List Name)
     → (statics_fit s g.sizes && clock_fits s g.clock) ≡ true
     → list_all (declaration_fits s) (map (alike g) names) ≡ true
 group_fits_of s g [] h = refl
-group_fits_of s g (x ∷ names) h = both _ _ h (group_fits_of s g names h)
+group_fits_of s g (x ∷ names) h = and_from _ _ h (group_fits_of s g names h)
 
 pub group_fits : (s : Progress) (g : Group) → statics_fit s g.sizes ≡ true
     → clock_fits s g.clock ≡ true → list_all (declaration_fits s) (declarations g) ≡ true
-group_fits s g h k = group_fits_of s g g.names (both _ _ h k)
+group_fits s g h k = group_fits_of s g g.names (and_from _ _ h k)
 
 group_fails : (s : Progress) (g : Group) (names : List Name) → nat_eq (length names) 0 ≡ false
     → (statics_fit s g.sizes && clock_fits s g.clock) ≡ false
     → list_all (declaration_fits s) (map (alike g) names) ≡ false
 group_fails s g [] e h = absurd cc
 group_fails s g (x ∷ names) e h =
-    false_first _ (list_all (declaration_fits s) (map (alike g) names)) h
+    and_left _ (list_all (declaration_fits s) (map (alike g) names)) h
 
 pub clock_fault : (f : StaticError) (s : Progress) (g : Group) → nat_eq (length g.names) 0 ≡ false
     → IsNameFault f (clock_fits s g.clock)
     → IsNameFault f (list_all (declaration_fits s) (declarations g))
 clock_fault f s g some h =
     fault_within f _ _ h (λ e. group_fails s g g.names some
-    (false_second (statics_fit s g.sizes) _ e))
+    (and_right (statics_fit s g.sizes) _ e))
 
 pub sizes_fault : (f : StaticError) (s : Progress) (g : Group) → nat_eq (length g.names) 0 ≡ false
     → IsNameFault f (statics_fit s g.sizes)
     → IsNameFault f (list_all (declaration_fits s) (declarations g))
 sizes_fault f s g some h =
     fault_within f _ _ h (λ e. group_fails s g g.names some
-    (false_first _ (clock_fits s g.clock) e))
+    (and_left _ (clock_fits s g.clock) e))
 
 pub group_done : (s mid after : Progress) (g : Group) (first : StaticId) (count : ℕ)
     (clock : Option resolved.Sampling) → nat_eq (length g.names) 0 ≡ false
@@ -206,7 +207,8 @@ next_fits start here gs i g below is at old new =
     subst (λ k. list_all (declaration_fits k) (declarations v) ≡ true) at new in
     subst (λ l. list_all (declaration_fits start) (declared l) ≡ true) (taken gs i g below is)
     (ap (list_all (declaration_fits start)) (groups_more before v)
-    ∙ all_append (declaration_fits start) (declared before) (declarations v) ∙ both _ _ old h)
+    ∙ list_all-append (declaration_fits start) (declared before) (declarations v)
+    ∙ and_from _ _ old h)
 
 group_among : (p : Declaration → Bool) (gs : List Declarations) (i : ℕ) (g : Declarations)
     → i < length gs → g ≡ get_or gs i g
@@ -214,11 +216,11 @@ group_among : (p : Declaration → Bool) (gs : List Declarations) (i : ℕ) (g :
     → list_all p (declared (view_groups gs)) ≡ false
 group_among p [] i g below is e = absurd (omega arith)
 group_among p (h ∷ gs) zero g below is e =
-    all_append p (declarations (view_group h)) (declared (view_groups gs))
-    ∙ false_first _ _ (ap (λ x. list_all p (declarations (view_group x))) (sym is) ∙ e)
+    list_all-append p (declarations (view_group h)) (declared (view_groups gs))
+    ∙ and_left _ _ (ap (λ x. list_all p (declarations (view_group x))) (sym is) ∙ e)
 group_among p (h ∷ gs) (suc i) g below is e =
-    all_append p (declarations (view_group h)) (declared (view_groups gs))
-    ∙ false_second _ _ (group_among p gs i g (omega arith) is e)
+    list_all-append p (declarations (view_group h)) (declared (view_groups gs))
+    ∙ and_right _ _ (group_among p gs i g (omega arith) is e)
 
 pub group_fault : (f : StaticError) (start here : Progress) (gs : List Declarations) (i : ℕ)
     (g : Declarations) → i < length gs → g ≡ get_or gs i g

@@ -1,10 +1,9 @@
 -- All things of a list, if each is there: item by item, in the other order, and two lists one
 -- after the other.
-use Rattle.std.proofs.Common.{◌≡◌, ℕ, suc, ◌+◌, ◌<◌, ◌≤◌, List, [], ◌∷◌, ◌++◌, length, drop, map}
-use Rattle.std.proofs.Common.{get_or, Option, Some, None, option_map, refl, ap, sym, ◌∙◌}
+use Rattle.std.proofs.Common.{◌≡◌, ℕ, suc, ◌+◌, ◌<◌, List, [], ◌∷◌, ◌++◌, length, drop, map, get_or}
+use Rattle.std.proofs.Common.{Option, Some, None, option_map, refl, ap, sym, ◌∙◌}
 use Rattle.std.specs.Prelude.{reverse}
-use Rattle.std.proofs.lemmas.List.{append-nil, reverse-append, map-append}
-use Rattle.std.proofs.Math.ListN.{drop_of_length-le}
+use Rattle.std.proofs.lemmas.List.{reverse-append, map-append}
 use Rattle.lb_syntax.specs.Lists.{◌>>=◌, all_some}
 use Rattle.lb_static.proofs.Lists.{map_next}
 
@@ -24,19 +23,6 @@ left : {A B : Type 0} (f : A → Option B) (done : List B) (xs : List A) (i : �
 left f done xs i x below is so_far =
     ap (λ y. option_map (λ l. done ++ l) (all_some (f y ∷ map f (drop (i + 1) xs)))) is
     ∙ ap (λ m. option_map (λ l. done ++ l) (all_some m)) (sym (map_next f xs i x below)) ∙ so_far
-
-pub one_missing : {A B : Type 0} (f : A → Option B) (done : List B) (xs : List A) (i : ℕ) (x : A)
-    → i < length xs → x ≡ get_or xs i x → f x ≡ None
-    → IsSoFar f done xs i → all_some (map f xs) ≡ None
-one_missing f done xs i x below is there so_far =
-    sym (ap (λ o. option_map (λ l. done ++ l) (all_some (o ∷ map f (drop (i + 1) xs)))) (sym there)
-    ∙ left f done xs i x below is so_far)
-
-pub all_there : {A B : Type 0} (f : A → Option B) (done : List B) (xs : List A) (i : ℕ)
-    → length xs ≤ i → IsSoFar f done xs i → all_some (map f xs) ≡ Some done
-all_there f done xs i past so_far =
-    sym so_far ∙ ap (λ l. option_map (λ r. done ++ r) (all_some (map f l)))
-    (drop_of_length-le xs past) ∙ ap Some (append-nil done)
 
 -- ## Two lists, one after the other
 

@@ -8,6 +8,7 @@ use Rattle.lb_syntax.specs.Tree.{Name, Node_named, Symbol, Expr, Literal, Truth,
 use Rattle.lb_syntax.specs.Tree.{Unary, Binary, If, Arrow, Fby, Pre, Current, When, Replicate}
 use Rattle.lb_syntax.specs.Tree.{Slice, Join, Array, AtMostOne, Nor, Call, Iterate, Exprs, Nil}
 use Rattle.lb_syntax.specs.Tree.{Cons, Statement}
+use Rattle.lb_syntax.proofs.ListPlaces.{nothing_added}
 use Rattle.lb_static.specs.Parts as of
 use Rattle.lb_static.specs.Parts.{parts, right_side}
 use Rattle.lb_static.specs.StaticParts.{Part, arguments_of, parts_of, parts_in}
@@ -25,10 +26,6 @@ own_parts variable (Iterate it (Node_named f statics) n es) = (Size, n) ∷ argu
 own_parts variable (Iterate it (Symbol op) n es) = (Size, n) ∷ []
 own_parts variable _ = []
 
-append_none : {A : Type 0} (xs : List A) → xs ≡ xs ++ []
-append_none [] = refl
-append_none (x ∷ xs) = ap (λ l. x ∷ l) (append_none xs)
-
 module _ (variable : Name → Bool) where
   abbrev own_of : List Expr → List Part
   own_of es = flat_map (own_parts variable) es
@@ -41,7 +38,7 @@ module _ (variable : Name → Bool) where
     parts_are : (e : Expr) → parts_of variable e ≡ own_of (parts e)
     parts_are (Literal n) = refl
     parts_are (Truth b) = refl
-    parts_are (Variable x) = append_none (cond (variable x) [] ((Value, tree.Named x) ∷ []))
+    parts_are (Variable x) = nothing_added (cond (variable x) [] ((Value, tree.Named x) ∷ []))
     parts_are (Group a) = parts_are a
     parts_are (Unary op a) = parts_are a
     parts_are (Binary op a b) = two _ _ (parts a) (parts b) (parts_are a) (parts_are b)

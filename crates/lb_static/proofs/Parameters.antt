@@ -1,8 +1,8 @@
 -- The first static parameter of a name, and its value.
-use Rattle.std.proofs.Common.{◌≡◌, ℕ, zero, suc, ◌+◌, ◌<◌, ◌≤◌, ℤ, true, false, cond, List, [], ◌∷◌}
+use Rattle.std.proofs.Common.{◌≡◌, ℕ, zero, suc, ◌+◌, ◌<◌, ◌≤◌, ℤ, false, cond, List, [], ◌∷◌}
 use Rattle.std.proofs.Common.{length, drop, get_or, Option, Some, None, refl, ap, sym, ◌∙◌, subst}
 use Rattle.std.proofs.Common.{arith, add-one}
-use Rattle.std.specs.Prelude.{option_map, slice_get, find}
+use Rattle.std.specs.Prelude.{option_map, find}
 use Rattle.std.specs.List.{zip}
 use Rattle.std.specs.Str.{bytes_eq}
 use Rattle.std.proofs.Math.ListN.{drop_of_length-le}
@@ -16,17 +16,6 @@ none_left : (x : Name) (names : List Name) → value_among x names [] ≡ None
 none_left x [] = refl
 none_left x (n ∷ ns) = refl
 
-at_front : (x : Name) (names : List Name) (values : List ℤ) (i : ℕ) (d : Name) → i < length names
-    → bytes_eq (get_or names i d) x ≡ true
-    → slice_get values i ≡ value_among x (drop i names) (drop i values)
-at_front x [] values i d below e = absurd (omega arith)
-at_front x (n ∷ ns) [] zero d below e = refl
-at_front x (n ∷ ns) (v ∷ vs) zero d below e = sym
-    (ap (λ b. option_map (λ (w : Name × ℤ). w.1)
-    (cond b (Some (n, v)) (find (λ w. bytes_eq w.0 x) (zip ns vs)))) e)
-at_front x (n ∷ ns) [] (suc i) d below e = sym (none_left x (drop i ns))
-at_front x (n ∷ ns) (v ∷ vs) (suc i) d below e = at_front x ns vs i d (omega arith) e
-
 one_on : (x : Name) (names : List Name) (values : List ℤ) (i : ℕ) (d : Name) → i < length names
     → bytes_eq (get_or names i d) x ≡ false
     → value_among x (drop (suc i) names) (drop (suc i) values)
@@ -39,13 +28,6 @@ one_on x (n ∷ ns) (v ∷ vs) zero d below e = sym
 one_on x (n ∷ ns) [] (suc i) d below e =
     none_left x (drop (suc i) ns) ∙ sym (none_left x (drop i ns))
 one_on x (n ∷ ns) (v ∷ vs) (suc i) d below e = one_on x ns vs i d (omega arith) e
-
-pub value_seen : (x : Name) (names : List Name) (values : List ℤ) (i : ℕ) (n : Name)
-    → i < length names → n ≡ get_or names i n → bytes_eq n x ≡ true
-    → value_among x (drop i names) (drop i values) ≡ value_among x names values
-    → slice_get values i ≡ value_among x names values
-value_seen x names values i n below is e h =
-    at_front x names values i n below (subst (λ m. bytes_eq m x ≡ true) is e) ∙ h
 
 pub value_passed : (x : Name) (names : List Name) (values : List ℤ) (i : ℕ) (n : Name)
     → i < length names → n ≡ get_or names i n → bytes_eq n x ≡ false

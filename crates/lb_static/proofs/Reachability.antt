@@ -5,12 +5,15 @@ use Rattle.std.proofs.Common.{◌∷◌, ◌++◌, length, Option, Some, None, r
 use Rattle.std.proofs.Common.{length-append}
 use Rattle.std.specs.Prelude.{◌||◌, ◌&&◌, filter, slice_get, if◌then◌else◌}
 use Rattle.std.specs.List.{list_all, list_any}
+use Rattle.std.proofs.lemmas.List.Folds.{list_all-append}
+use Rattle.std.proofs.lemmas.Bool.{and_from, or_left, or_right}
+use Rattle.std.proofs.lemmas.Map.Keys.{any_passes_from_place}
 use Rattle.lb_syntax.specs.Lists.{holds}
+use Rattle.lb_syntax.proofs.TruthValues.{and_first, and_second}
 use Rattle.lb_static.specs.WorkLists.{AreReachable, is_reachable, is_visited, visited_after}
 use Rattle.lb_static.specs.WorkLists.{visited_after_all, within}
-use Rattle.lb_static.proofs.Lists.{all_append, and_first, and_second, both}
-use Rattle.lb_static.proofs.TestedItems.{all_weaker}
-use Rattle.lb_static.proofs.WorkLists.{any_at, at_any, grows_once, or_left, or_right}
+use Rattle.lb_static.proofs.WorkLists.{any_at, grows_once}
+use Rattle.lb_static.proofs.Growth.{all_on}
 
 pub any_filter : {A : Type 0} (f p : A → Bool) (xs : List A)
     → list_any f (filter p xs) ≡ list_any (λ x. p x && f x) xs
@@ -47,7 +50,7 @@ module _ {A : Type 0} (items : List A) (start : A → Bool) (step : A → A → 
       → is_reachable items start step (suc k) a ≡ true
   reachable_next k q a b at reachable s =
       or_right (start a) _ (stepped k a
-      ∙ at_any (from_reachable k a) items q b at (both _ _ reachable s))
+      ∙ any_passes_from_place (from_reachable k a) items q b at (and_from _ _ reachable s))
 
   reachable_once : (k : ℕ) (a : A) → is_reachable items start step k a ≡ true
       → is_reachable items start step (suc k) a ≡ true
@@ -91,13 +94,13 @@ module _ {A : Type 0} (items : List A) (start : A → Bool) (step : A → A → 
       fresh =
           let more = length-append order (place ∷ []) in
           let n = length (order ++ place ∷ []) in
-          all_append (λ p. holds (is_reachable items start step n) (slice_get items p)) order
+          list_all-append (λ p. holds (is_reachable items start step n) (slice_get items p)) order
           (place ∷ [])
-          ∙ both _ _ (all_weaker _ _ order
+          ∙ and_from _ _ (all_on _ _ order
           (λ p h. holds_more _ _ (slice_get items p)
           (λ a. reachable_by (length order) n a (omega arith))
           h) reachable)
-          (both _ _ (holds_more _ _ (slice_get items place)
+          (and_from _ _ (holds_more _ _ (slice_get items place)
           (λ a. reachable_by (suc k) n a (omega arith))
           e) refl)
 

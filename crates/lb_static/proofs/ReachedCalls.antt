@@ -1,5 +1,5 @@
 -- A node reaches itself where its place lies on a cycle of calls, and there alone.
-use Rattle.std.proofs.Common.{◌≡◌, ℕ, zero, suc, ◌<◌, Bool, true, false, cond, List, [], ◌∷◌, ◌++◌}
+use Rattle.std.proofs.Common.{◌≡◌, ℕ, zero, suc, ◌<◌, Bool, true, false, cond, List, [], ◌∷◌}
 use Rattle.std.proofs.Common.{length, map, Option, Some, None, refl, ap, sym, subst, ◌∙◌, ◌⊎◌, inl}
 use Rattle.std.proofs.Common.{inr, arith}
 use Rattle.std.specs.Prelude.{◌||◌, not, nat_lt, slice_get, option_map, Err}
@@ -10,8 +10,12 @@ use Rattle.std.proofs.lemmas.List.{length-map}
 use Rattle.std.proofs.lemmas.List.Elements.{All-contains}
 use Rattle.std.proofs.lemmas.Option.{slice_get-map, slice_get_within}
 use Rattle.std.proofs.lemmas.Slice.Eq.{bytes_eq-Decides}
+use Rattle.std.proofs.lemmas.Bool.{or_right}
 use Rattle.lb_syntax.specs.Lists.{◌>>=◌, either_or, holds, In}
 use Rattle.lb_syntax.specs.Tree.{Name, Static, Node}
+use Rattle.lb_syntax.proofs.SameNames.{same_name}
+use Rattle.lb_syntax.proofs.TruthValues.{and_first, and_second}
+use Rattle.lb_syntax.proofs.ListPlaces.{item_at, all_in}
 use Rattle.lb_static.specs.CallGraphs.{AreWithin, IsCallsAnswer, IsCycleNamed, IsOnCycle, IsOrder}
 use Rattle.lb_static.specs.CallGraphs.{IsOrdered, Leads, TellsRecursion, called, callee_of}
 use Rattle.lb_static.specs.CallGraphs.{callees_of, graph_of}
@@ -29,21 +33,13 @@ use Rattle.lb_static.specs.declared.reach.NodeId.{NodeId}
 use Rattle.lb_static.specs.declared.reach.Reached.{Reached}
 use Rattle.lb_static.specs.declared.resolved.CallSite.{CallSite}
 use Rattle.lb_static.specs.declared.resolved.ResolvedNode.{ResolvedNode}
-use Rattle.lb_static.proofs.Lists.{and_first, and_second}
-use Rattle.lb_static.proofs.Members.{in_at, place_in, some_at, in_contains, contains_in, in_map}
-use Rattle.lb_static.proofs.Members.{map_in, in_filter, filter_in, in_filter_map, filter_map_in}
-use Rattle.lb_static.proofs.Members.{any_in, in_any, all_in, from_all}
+use Rattle.lb_static.proofs.Members.{in_at, place_in, in_contains, contains_in, in_map, map_in}
+use Rattle.lb_static.proofs.Members.{in_filter, filter_in, in_filter_map, filter_map_in, any_in}
+use Rattle.lb_static.proofs.Members.{in_any, from_all}
 use Rattle.lb_static.proofs.Saturation.{enough_calls}
+use Rattle.lb_static.proofs.ReachedPlaces.{distinct_last}
 
 -- ## Names that are distinct
-
-same_bytes : (x y : Name) → x ≡ y → bytes_eq x y ≡ true
-same_bytes x y e = (bytes_eq-Decides x y).1 e
-
-distinct_end : (xs ys : List Name) → are_distinct (xs ++ ys) ≡ true → are_distinct ys ≡ true
-distinct_end [] ys e = e
-distinct_end (x ∷ xs) ys e =
-    distinct_end xs ys (and_second (not (among x (xs ++ ys))) (are_distinct (xs ++ ys)) e)
 
 -- of nodes with distinct names two of one name are one
 same_named : (ns : List Node) (a b : Node) → are_distinct (map (λ n. n.name) ns) ≡ true → In a ns
@@ -61,7 +57,7 @@ same_named (n ∷ ns) a b e on other same =
         (are_distinct (map (λ k. k.name) ns)) e in
         let twice : among n.name (map (λ k. k.name) ns)
         ≡ true = any_in (bytes_eq n.name) (map (λ k. k.name) ns) m.name
-        (in_map (λ k. k.name) ns m on) (same_bytes n.name m.name is) in
+        (in_map (λ k. k.name) ns m on) (same_name n.name m.name is) in
         let both : not true ≡ true = ap not (sym twice) ∙ first in
         cc
 
@@ -72,12 +68,8 @@ same_named (n ∷ ns) a b e on other same =
     by next (inr later) (inr also) = next later also
 
 names_distinct : (P : Program) → keeps_names P ≡ true → are_distinct (source_names P) ≡ true
-names_distinct P e = distinct_end (map (λ c. c.name) P.source.constants) (source_names P)
+names_distinct P e = distinct_last (map (λ c. c.name) P.source.constants) (source_names P)
     (and_first (are_distinct (global_names P)) _ e)
-
-or_second : (a b : Bool) → b ≡ true → (a || b) ≡ true
-or_second true b e = refl
-or_second false b e = e
 
 -- ## A call, and the arrow that stands for it
 
@@ -159,7 +151,7 @@ module _ (P : Program) (r : Reached) (is : IsReached P r) where
       let id = id_found r s j e in
       let long = length-map r.nodes.items node_of in
       let below : j < length (trees r) = omega (arith, long, id.3) in
-      let m = some_at (trees r) j below in
+      let m = item_at (trees r) j below in
       (m.0, m.1, sym (is.found s.callee id.0 id.1) ∙ ap (slice_get (trees r)) id.2 ∙ m.1)
 
   site_name : (s : CallSite) (statics : List Static) (m : Node)
@@ -183,7 +175,7 @@ module _ (P : Program) (r : Reached) (is : IsReached P r) where
         m.1,
         in_at P.source.nodes s.0.callee.0 m.0 m.2,
         any_in (λ t. bytes_eq t.callee m.0.name)
-            (node_sites n) _ here (same_bytes _ m.0.name (site_name s.0 (statics_of rn.0) m.0 m.2)),
+            (node_sites n) _ here (same_name _ m.0.name (site_name s.0 (statics_of rn.0) m.0 m.2)),
       )
 
   arrow_in : (i j : ℕ) (rn : ResolvedNode) (s : CallSite) → slice_get r.nodes.items i ≡ Some rn
@@ -258,21 +250,21 @@ module _ (P : Program) (r : Reached) (is : IsReached P r) where
         suc k,
         in_filter (λ h. start h || list_any (λ l. calls P l h) (reached_within P start k))
             P.source.nodes m (subst (λ h. In h P.source.nodes) same next.2)
-            (or_second (start m) _ any),
+            (or_right (start m) _ any),
       )
   reached_along (i' ∷ ks) i j n m leads at to start k on =
       let next = arrow_calls i i' n at leads.0 in
       let any = any_in (λ h. calls P h next.0) (reached_within P start k) n on next.3 in
       reached_along ks i' j next.0 m leads.1 next.1 to start (suc k)
       (in_filter (λ h. start h || list_any (λ l. calls P l h) (reached_within P start k))
-      P.source.nodes next.0 next.2 (or_second (start next.0) _ any))
+      P.source.nodes next.0 next.2 (or_right (start next.0) _ any))
 
   recursive_from : (n : Node) (k : ℕ) → In n (reached_within P (calls P n) k)
       → is_recursive P n ≡ true
   recursive_from n k on =
       enough_calls P (calls P n) (λ m. bytes_eq m.name n.name) k
       (any_in (λ m. bytes_eq m.name n.name) (reached_within P (calls P n) k) n on
-      (same_bytes n.name n.name refl))
+      (same_name n.name n.name refl))
 
   -- a node whose place is on a cycle reaches itself
   cycle_recursive : (i : ℕ) (n : Node) → IsOnCycle (graph_of r) i → slice_get (trees r) i ≡ Some n

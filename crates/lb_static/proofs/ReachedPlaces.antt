@@ -10,8 +10,12 @@ use Rattle.std.proofs.lemmas.List.{length-map}
 use Rattle.std.proofs.lemmas.Option.{slice_get-map, slice_get-get_or, slice_get_within}
 use Rattle.std.proofs.lemmas.Option.{get_or_from_slice_get}
 use Rattle.std.proofs.lemmas.Slice.Eq.{bytes_eq-Decides}
+use Rattle.std.proofs.lemmas.Bool.{and_from, or_left, or_right}
+use Rattle.std.proofs.lemmas.Map.Keys.{any_passes_from_place}
 use Rattle.lb_syntax.specs.Lists.{◌>>=◌, holds, either_or}
 use Rattle.lb_syntax.specs.Tree.{Name, Node, Source}
+use Rattle.lb_syntax.proofs.TruthValues.{and_first, and_second}
+use Rattle.lb_syntax.proofs.ListPlaces.{all_at, all_from}
 use Rattle.lb_static.specs.CalledNodes.{AreResolved, AreStarts, IsStart, are_called, are_named}
 use Rattle.lb_static.specs.CalledNodes.{called, ids_of, node_at, program_in}
 use Rattle.lb_static.specs.SourceNames.{constants_in, names_in_source}
@@ -30,17 +34,16 @@ use Rattle.lb_static.specs.declared.resolved.CallSite.{CallSite}
 use Rattle.lb_static.specs.declared.resolved.NodePlace.{NodePlace}
 use Rattle.lb_static.specs.declared.resolved.ResolvedNode.{ResolvedNode}
 use Rattle.lb_static.proofs.Reachability.{closed_has, reachable_by, reachable_visit, within_is}
-use Rattle.lb_static.proofs.Lists.{and_first, and_second, both}
-use Rattle.lb_static.proofs.TestedItems.{all_weaker, found_passes}
-use Rattle.lb_static.proofs.WorkLists.{all_at, any_at, as_few, at_all, at_any, at_visited}
-use Rattle.lb_static.proofs.WorkLists.{grows_once, or_left, or_right, visited_at}
+use Rattle.lb_static.proofs.TestedItems.{found_passes}
+use Rattle.lb_static.proofs.WorkLists.{any_at, as_few, at_visited, grows_once, visited_at}
+use Rattle.lb_static.proofs.Growth.{all_on}
 
 -- ## Distinct names
 
 one_place : (x : Name) (xs : List Name) (i : ℕ) → not (among x xs) ≡ true → slice_get xs i ≡ Some x
     → ⊥
 one_place x xs i e at = by (among x xs) e
-    (at_any (bytes_eq x) xs i x at ((bytes_eq-Decides x x).1 refl))
+    (any_passes_from_place (bytes_eq x) xs i x at ((bytes_eq-Decides x x).1 refl))
   where
     by : (b : Bool) → not b ≡ true → b ≡ true → ⊥
     by true e f = absurd cc
@@ -377,8 +380,8 @@ module _ (P : Program) (before order : List ℕ) (nodes : List ResolvedNode) (ro
   same n = (to_reached n, from_reached n)
 
   pub named : are_named P ≡ true
-  named = both _ _ begun.there
-      (at_all (is_named P) (reached_nodes P)
+  named = and_from _ _ begun.there
+      (all_from (is_named P) (reached_nodes P)
       (λ i n at. passes n (from_reached n (contained (reached_nodes P) i n at))))
     where
       passes : (n : Node) → Contains (map node_of nodes) n → is_named P n ≡ true
@@ -494,7 +497,7 @@ module _ (P : Program) (before order : List ℕ) (r : Reached) (turns : List (Op
         observer = observer_is r.observer refl begun.at_observer;
         as_many = ap length ids ∙ length-map turns (λ t. option_map number t) ∙ many;
         found = found_is;
-        linked = all_weaker (are_called order) (are_linked r) r.nodes.items
-            (λ n. all_weaker (λ s. is_visited order s.callee.0) (is_linked r) n.calls.items
+        linked = all_on (are_called order) (are_linked r) r.nodes.items
+            (λ n. all_on (λ s. is_visited order s.callee.0) (is_linked r) n.calls.items
             linked_is) h.linked;
       }

@@ -6,14 +6,18 @@ use Rattle.std.specs.Prelude.{◌&&◌, ◌||◌, not, nat_le, nat_lt, slice_get
 use Rattle.std.specs.Prelude.{IfOk, IfErr, option_map, Option, None, Some}
 use Rattle.std.specs.List.{list_all}
 use Rattle.std.proofs.lemmas.List.{append-nil, map-append, length-map, take_more, take_all}
+use Rattle.std.proofs.lemmas.List.{append_assoc}
 use Rattle.std.proofs.Math.Seq.{drop-append_seam}
 use Rattle.std.proofs.lemmas.Bool.Decides.{nat_tests}
 use mathlib.Core.Former.{Count}
+use Rattle.std.proofs.Math.Bool.{and-true}
+use Rattle.std.proofs.lemmas.Bool.{and_from, and_left, and_right}
+use Rattle.std.proofs.lemmas.List.Folds.{list_all-append}
 use Rattle.lb_syntax.specs.Reading.{exprs}
 use Rattle.lb_syntax.specs.Lists.{either_or}
 use Rattle.lb_syntax.specs.Tree as tree
 use Rattle.lb_syntax.specs.Tree.{Name, Static, Expr, Exprs}
-use Rattle.lb_syntax.specs.View.{view, view_row, view_static, view_statics, view_operator}
+use Rattle.lb_syntax.specs.View.{view, view_static, view_statics, view_operator}
 use Rattle.lb_syntax.specs.declared.tree.Operator.{Operator}
 use Rattle.lb_syntax.specs.declared.tree.Operator.TheVariants.{Node as Node_operator}
 use Rattle.lb_syntax.specs.declared.tree.Operator.TheVariants.{Symbol as Symbol_operator}
@@ -22,8 +26,10 @@ use Rattle.lb_syntax.specs.declared.tree.ArrayIterator.{ArrayIterator}
 use Rattle.lb_syntax.specs.declared.tree.BinaryOperator.{BinaryOperator}
 use Rattle.lb_syntax.specs.declared.tree.Expr as source
 use Rattle.lb_syntax.specs.declared.tree.Expr.{Array', AtMostOne', Nor', Call', Iterate'}
-use Rattle.lb_syntax.specs.declared.tree.Expr.{Row_of-Expr, end_of-Expr, more_of-Expr}
-use Rattle.lb_syntax.specs.declared.tree.Expr.{items-the_row-Expr, items_hidden-the_row-Expr-0}
+use Rattle.lb_syntax.specs.declared.tree.Expr.{Row_of-Expr, end_of-Expr}
+use Rattle.lb_syntax.specs.declared.tree.Expr.{items_hidden-the_row-Expr-0}
+use Rattle.lb_syntax.proofs.Views.{view_row-items}
+use Rattle.lb_syntax.proofs.ListPlaces.{get_last}
 use Rattle.lb_static.specs.Instances.{Site, sites, sites_in}
 use Rattle.lb_static.specs.NameFaults.{IsNameFault}
 use Rattle.lb_static.specs.NodeNames.{all_pass, IsCallee}
@@ -52,7 +58,6 @@ use Rattle.lb_static.proofs.Faults.{fault_within}
 use Rattle.lb_static.proofs.Growth.{expr_stays, unhidden_stays, still_within, static_stays}
 use Rattle.lb_static.proofs.Growth.{static_still, call_stays, call_still, count_stays, same_on}
 use Rattle.lb_static.proofs.Growth.{all_on, both_on, same_two}
-use Rattle.lb_static.proofs.Lists.{append_assoc, both, false_first, false_second, all_append}
 use Rattle.lb_static.proofs.Lists.{map_map}
 use Rattle.lb_static.proofs.Scopes.{among_append}
 
@@ -155,7 +160,7 @@ two_done before mid after e f t u d g =
       h.0 ∙ grown_twice before _ _ _ _,
       first,
       h.1,
-      both (expr_passes before e)
+      and_from (expr_passes before e)
           (expr_passes before f) d.2 h.2,
     )
 
@@ -178,7 +183,7 @@ three_done before mid after c e f s t u d g =
       first,
       h.1,
       h.2,
-      both (expr_passes before c)
+      and_from (expr_passes before c)
           (expr_passes before e && expr_passes before f) d.2 h.3,
     )
 
@@ -201,7 +206,7 @@ static_done before mid after role x e id t d g =
       h.0 ∙ grown_twice before ((role, x) ∷ []) (parts_of (is_variable_of before) e) [] (sites e),
       first,
       h.1,
-      both (static_fits before x) (expr_passes before e) d.2 h.2,
+      and_from (static_fits before x) (expr_passes before e) d.2 h.2,
     )
 
 abbrev pub WithStatics : (before after : Progress) (r q : Role) (x y : Static) (e : Expr)
@@ -224,7 +229,7 @@ statics_done before mid after r q x y e i j t d g =
       first,
       h.1,
       h.2,
-      both (static_fits before x) (static_fits before y && expr_passes before e) d.2 h.3,
+      and_from (static_fits before x) (static_fits before y && expr_passes before e) d.2 h.3,
     )
 
 -- expressions after a call, or after a static expression
@@ -252,7 +257,7 @@ call_done before mid after x es id ts d g =
           (flat_map (parts_of (is_variable_of before)) es) (x ∷ []) (flat_map sites es),
       first,
       h.1,
-      both (call_fits before x) (exprs_pass before es) d.2 h.2,
+      and_from (call_fits before x) (exprs_pass before es) d.2 h.2,
     )
 
 abbrev pub WithSize : (before after : Progress) (role : Role) (y : Static) (es : List Expr)
@@ -276,7 +281,7 @@ size_done before mid after role y es i ts d g =
           (flat_map sites es),
       first,
       h.1,
-      both (static_fits before y) (exprs_pass before es) d.2 h.2,
+      and_from (static_fits before y) (exprs_pass before es) d.2 h.2,
     )
 
 abbrev pub WithSizedCall : (before after : Progress) (role : Role) (y : Static) (x : Site)
@@ -300,15 +305,10 @@ sized_call_done before mid after role y x es i id ts d g =
           (x ∷ flat_map sites es),
       h.1,
       h.2,
-      both (static_fits before y) (call_fits before x && exprs_pass before es) d.2 h.3,
+      and_from (static_fits before y) (call_fits before x && exprs_pass before es) d.2 h.3,
     )
 
 -- ## The expressions of a vector
-
-views_row : (n : _) (row : Row_of-Expr n)
-    → view_row row ≡ exprs (map view (items-the_row-Expr n row))
-views_row n end_of-Expr = refl
-views_row n (more_of-Expr e rest) = ap (λ (es : Exprs). tree.Cons (view e) es) (views_row _ rest)
 
 abbrev source_row : source.Expr → (n : Count) × Row_of-Expr n
 source_row (Array' _ row) = (_, row)
@@ -323,21 +323,21 @@ pub view_array : (es : Vec source.Expr Global)
 view_array es =
     let row = source_row (source.Array es) in
     ap (λ (z : Exprs). tree.Array z)
-    (views_row row.0 row.1 ∙ ap (λ z. exprs (map view z)) (items_hidden-the_row-Expr-0 es))
+    (view_row-items row.0 row.1 ∙ ap (λ z. exprs (map view z)) (items_hidden-the_row-Expr-0 es))
 
 pub view_at_most_one : (es : Vec source.Expr Global)
     → view (source.AtMostOne es) ≡ tree.AtMostOne (exprs (map view es.items))
 view_at_most_one es =
     let row = source_row (source.AtMostOne es) in
     ap (λ (z : Exprs). tree.AtMostOne z)
-    (views_row row.0 row.1 ∙ ap (λ z. exprs (map view z)) (items_hidden-the_row-Expr-0 es))
+    (view_row-items row.0 row.1 ∙ ap (λ z. exprs (map view z)) (items_hidden-the_row-Expr-0 es))
 
 pub view_nor : (es : Vec source.Expr Global)
     → view (source.Nor es) ≡ tree.Nor (exprs (map view es.items))
 view_nor es =
     let row = source_row (source.Nor es) in
     ap (λ (z : Exprs). tree.Nor z)
-    (views_row row.0 row.1 ∙ ap (λ z. exprs (map view z)) (items_hidden-the_row-Expr-0 es))
+    (view_row-items row.0 row.1 ∙ ap (λ z. exprs (map view z)) (items_hidden-the_row-Expr-0 es))
 
 pub view_call : (f : Name) (args : Vec Static' Global) (es : Vec source.Expr Global)
     → view (source.Call f args es)
@@ -345,7 +345,7 @@ pub view_call : (f : Name) (args : Vec Static' Global) (es : Vec source.Expr Glo
 view_call f args es =
     let row = source_row (source.Call f args es) in
     ap (λ (z : Exprs). tree.Call f (view_statics args.items) z)
-    (views_row row.0 row.1 ∙ ap (λ z. exprs (map view z)) (items_hidden-the_row-Expr-0 es))
+    (view_row-items row.0 row.1 ∙ ap (λ z. exprs (map view z)) (items_hidden-the_row-Expr-0 es))
 
 pub view_iterate : (it : ArrayIterator) (o : Operator) (n : Static') (es : Vec source.Expr Global)
     → view (source.Iterate it o n es)
@@ -353,7 +353,7 @@ pub view_iterate : (it : ArrayIterator) (o : Operator) (n : Static') (es : Vec s
 view_iterate it o n es =
     let row = source_row (source.Iterate it o n es) in
     ap (λ (z : Exprs). tree.Iterate it (view_operator o) (view_static n) z)
-    (views_row row.0 row.1 ∙ ap (λ z. exprs (map view z)) (items_hidden-the_row-Expr-0 es))
+    (view_row-items row.0 row.1 ∙ ap (λ z. exprs (map view z)) (items_hidden-the_row-Expr-0 es))
 
 -- ## The terms of a vector
 
@@ -496,7 +496,7 @@ module _ (before after : Progress) (es : Vec source.Expr Global) (ts : Vec Term 
             (ap (λ l. site_for f args.items None ∷ l) (sym (sites_exprs (map view es.items)))),
         (
           same_two (λ (s : Site) z. tree.Call s.callee s.arguments z) _ _ _ _ h.1.0 r.stands,
-          both _
+          and_from _
               _ h.1.1 r.within,
           r.unhidden,
         ),
@@ -522,7 +522,11 @@ module _ (before after : Progress) (es : Vec source.Expr Global) (ts : Vec Term 
             (ap (λ l. (Size, view_static n) ∷ (arguments_of statics ++ l))
             (sym (parts_exprs (is_variable_of before) (map view es.items))))
             (ap (λ l. here ∷ l) (sym (sites_exprs (map view es.items)))),
-        (same_two (iterate_expr it) _ _ _ _ h.1.0 r.stands, both _ _ h.1.1 r.within, r.unhidden),
+        (
+          same_two (iterate_expr it) _ _ _ _ h.1.0 r.stands,
+          and_from _ _ h.1.1 r.within,
+          r.unhidden,
+        ),
         ap (λ b. static_fits before (view_static n) && (call_fits before here && b))
             (pass_exprs before (map view es.items)) ∙ h.3,
       )
@@ -543,7 +547,7 @@ module _ (before after : Progress) (es : Vec source.Expr Global) (ts : Vec Term 
             (sym (sites_exprs (map view es.items))),
         (
           same_two (tree.Iterate it (tree.Symbol op)) _ _ _ _ h.1.0 r.stands,
-          both _ _ h.1.1
+          and_from _ _ h.1.1
               r.within,
           r.unhidden,
         ),
@@ -561,7 +565,7 @@ fault_after_call s m f x args es P C is h =
     let g : IsNameFault f (exprs_pass s (map view es.items)) =
     subst (λ k. IsNameFault f (exprs_pass k (map view es.items))) is h in
     subst (λ e. IsNameFault f (expr_passes s e)) (sym (view_call x args es))
-    (fault_within f _ _ g (λ e. false_second (call_fits s (site_for x args.items None)) _
+    (fault_within f _ _ g (λ e. and_right (call_fits s (site_for x args.items None)) _
     (pass_exprs s (map view es.items) ∙ e)))
 
 pub fault_after_node : (s m : Progress) (f : StaticError) (it : ArrayIterator) (x : Name)
@@ -573,8 +577,8 @@ fault_after_node s m f it x args n es P C is h =
     let g : IsNameFault f (exprs_pass s (map view es.items)) =
     subst (λ k. IsNameFault f (exprs_pass k (map view es.items))) is h in
     subst (λ e. IsNameFault f (expr_passes s e)) (sym (view_iterate it (Node_operator x args) n es))
-    (fault_within f _ _ g (λ e. false_second (static_fits s (view_static n)) _
-    (false_second (call_fits s (site_for x args.items (Some (view_static n)))) _
+    (fault_within f _ _ g (λ e. and_right (static_fits s (view_static n)) _
+    (and_right (call_fits s (site_for x args.items (Some (view_static n)))) _
     (pass_exprs s (map view es.items) ∙ e))))
 
 pub fault_after_symbol : (s m : Progress) (f : StaticError) (it : ArrayIterator)
@@ -586,7 +590,7 @@ fault_after_symbol s m f it op n es P C is h =
     let g : IsNameFault f (exprs_pass s (map view es.items)) =
     subst (λ k. IsNameFault f (exprs_pass k (map view es.items))) is h in
     subst (λ e. IsNameFault f (expr_passes s e)) (sym (view_iterate it (Symbol_operator op) n es))
-    (fault_within f _ _ g (λ e. false_second (static_fits s (view_static n)) _
+    (fault_within f _ _ g (λ e. and_right (static_fits s (view_static n)) _
     (pass_exprs s (map view es.items) ∙ e)))
 
 -- ## Loops
@@ -601,10 +605,6 @@ pub flat_more : {A B : Type 0} (f : A → List B) (xs : List A) (x : A)
 flat_more f [] x = append-nil (f x)
 flat_more f (y ∷ xs) x =
     ap (λ l. f y ++ l) (flat_more f xs x) ∙ sym (append_assoc (f y) (flat_map f xs) (f x))
-
-pub and_true : (b : Bool) → (b && true) ≡ b
-and_true true = refl
-and_true false = refl
 
 pub one_more_done : (start before after : Progress) (es : List Expr) (ts : List Term) (e : Expr)
     (t : Term) → SoFar start before es ts → Done before after e t
@@ -623,13 +623,13 @@ one_more_done start before after es ts e t d g =
       (
         map-append (expr_of (texts after)) ts (t ∷ [])
             ∙ same_two (λ (l : List Expr) x. l ++ x ∷ []) _ _ _ _ old.0 h.1.0,
-        all_append (is_within (counts_in (texts after))) ts (t ∷ [])
-            ∙ both _ _ old.1 (and_true (is_within (counts_in (texts after)) t) ∙ h.1.1),
-        all_append (is_unhidden (texts after)) ts (t ∷ [])
-            ∙ both _ _ old.2 (and_true (is_unhidden (texts after) t) ∙ h.1.2),
+        list_all-append (is_within (counts_in (texts after))) ts (t ∷ [])
+            ∙ and_from _ _ old.1 (and-true (is_within (counts_in (texts after)) t) ∙ h.1.1),
+        list_all-append (is_unhidden (texts after)) ts (t ∷ [])
+            ∙ and_from _ _ old.2 (and-true (is_unhidden (texts after) t) ∙ h.1.2),
       ),
-      all_append (expr_passes start) es (e ∷ [])
-          ∙ both _ _ d.2 (and_true (expr_passes start e) ∙ h.2),
+      list_all-append (expr_passes start) es (e ∷ [])
+          ∙ and_from _ _ d.2 (and-true (expr_passes start e) ∙ h.2),
     )
 
 pub next_done : (start before after : Progress) (ts : List Term) (es : List source.Expr) (i : ℕ)
@@ -648,9 +648,9 @@ next_done start before after ts es i e t below is d g =
 pub one_fails : {A B : Type 0} (p : B → Bool) (f : A → B) (xs : List A) (i : ℕ) (x : A)
     → i < length xs → x ≡ get_or xs i x → p (f x) ≡ false → list_all p (map f xs) ≡ false
 one_fails p f [] i x below is e = absurd (omega arith)
-one_fails p f (y ∷ xs) zero x below is e = false_first (p (f y)) _ (ap (λ z. p (f z)) (sym is) ∙ e)
+one_fails p f (y ∷ xs) zero x below is e = and_left (p (f y)) _ (ap (λ z. p (f z)) (sym is) ∙ e)
 one_fails p f (y ∷ xs) (suc i) x below is e =
-    false_second (p (f y)) _ (one_fails p f xs i x (omega arith) is e)
+    and_right (p (f y)) _ (one_fails p f xs i x (omega arith) is e)
 
 pub fault_of_item : (start here : Progress) (f : StaticError) (es : List source.Expr) (i : ℕ)
     (e : source.Expr) → i < length es → e ≡ get_or es i e
@@ -706,16 +706,12 @@ statics_placed start here role xs first count is at long =
 
 -- ## Names and calls
 
-at_end : {A : Type 0} (xs : List A) (y : A) → slice_get (xs ++ y ∷ []) (length xs) ≡ Some y
-at_end [] y = refl
-at_end (x ∷ xs) y = at_end xs y
-
 pub call_placed : (s : Progress) (P : List Part) (x : Site) (id : CallId) → id.0 ≡ length s.calls
     → CallStands (grown s P (x ∷ [])) x id
 call_placed s P x id e =
     let long : length (s.calls ++ x ∷ []) ≡ length s.calls + 1 = length-append s.calls (x ∷ []) in (
       ap (λ k. either_or (slice_get (s.calls ++ x ∷ []) k) no_site) e
-          ∙ ap (λ o. either_or o no_site) (at_end s.calls x),
+          ∙ ap (λ o. either_or o no_site) (get_last s.calls x),
       grind (arith, nat_tests),
     )
 
@@ -730,7 +726,7 @@ static_placed s p C id e =
     let within : nat_lt id.0 (length (found ++ p.1 ∷ [])) ≡ true = grind (arith, nat_tests) in (
       ap (λ l. either_or (slice_get l id.0) (tree.Whole 0)) all
           ∙ ap (λ k. either_or (slice_get (found ++ p.1 ∷ []) k) (tree.Whole 0)) at
-          ∙ ap (λ o. either_or o (tree.Whole 0)) (at_end found p.1),
+          ∙ ap (λ o. either_or o (tree.Whole 0)) (get_last found p.1),
       ap (λ l. nat_lt id.0 (length l)) all ∙ within,
     )
 
@@ -808,6 +804,6 @@ module _ (before after : Progress) (f : Name) (args : List Static) (place : Stat
             ∙ ap (λ l. grown before l (wanted ∷ [])) (append-nil (arguments_of args)),
         subst (λ m. CallStands m wanted id) (sym now)
             (call_placed after_arguments [] wanted id here),
-        both (is_callable (program_of before) wanted) (statics_fit before args) called.2 fit,
+        and_from (is_callable (program_of before) wanted) (statics_fit before args) called.2 fit,
       )
   call_resolved mid (Err e) is h fit grew at err = fault_within e true _ err (λ n. absurd cc)

@@ -1,6 +1,6 @@
 -- Why the node under test or the observer is refused.
 use Rattle.std.proofs.Common.{◌≡◌, Bool, true, false, Option, Some, None, Result, Ok, Err}
-use Rattle.std.proofs.Common.{option_map, refl, ap, sym, ◌∙◌, subst}
+use Rattle.std.proofs.Common.{option_map, ap, sym, ◌∙◌}
 use Rattle.std.specs.Prelude.{ok_or}
 use Rattle.lb_syntax.specs.Lists.{holds, where_true}
 use Rattle.lb_static.specs.Instances.{Program, Root, instance_at}
@@ -11,13 +11,6 @@ use Rattle.lb_static.specs.Signature.{Elements}
 use Rattle.lb_static.specs.Instantiation.{is_root}
 use Rattle.lb_static.specs.declared.error.StaticError.{StaticError}
 use Rattle.lb_static.specs.declared.error.StaticError.TheVariants as error
-
--- the refusal of a thing that is not there
-pub missing : {A P : Type 0} (o : Option A) (e : StaticError) (r : Result A StaticError)
-    → r ≡ ok_or o error.Root → r ≡ Err e → (o ≡ None → P) → IsRootFault P e
-missing {A = A} {P = P} None e r is err reason =
-    let same : error.Root ≡ e = cc in subst (λ f. IsRootFault P f) same (reason refl)
-missing (Some x) e r is err reason = absurd cc
 
 -- a thing that is there
 pub there : {A E : Type 0} (o : Option A) (x : A) (e : E) → Ok x ≡ ok_or o e → o ≡ Some x

@@ -3,6 +3,7 @@ use Rattle.std.proofs.Common.{◌≡◌, ℕ, zero, suc, ◌+◌, ◌<◌, ◌�
 use Rattle.std.proofs.Common.{◌∷◌, length, refl, ap, sym, subst, ◌∙◌, ◌⊎◌, inl, inr, arith}
 use Rattle.std.specs.Prelude.{◌||◌, filter}
 use Rattle.std.specs.List.{list_any}
+use Rattle.std.proofs.lemmas.Bool.{or_right}
 use Rattle.lb_syntax.specs.Tree.{Node}
 use Rattle.lb_static.specs.Instances.{Program}
 use Rattle.lb_static.specs.Names.{calls, reached_within}
@@ -39,10 +40,6 @@ any_more f p q more (x ∷ xs) e = by (p x) (q x) (more x) (any_more f p q more 
     either true r s next e = refl
     either false r s next e = next e
 
-    later : (b s : Bool) → s ≡ true → (b || s) ≡ true
-    later true s e = refl
-    later false s e = e
-
     by : (a b : Bool) → (a ≡ true → b ≡ true)
         → (list_any f (filter p xs) ≡ true → list_any f (filter q xs) ≡ true)
         → list_any f (cond a (x ∷ filter p xs) (filter p xs)) ≡ true
@@ -50,7 +47,7 @@ any_more f p q more (x ∷ xs) e = by (p x) (q x) (more x) (any_more f p q more 
     by true true h next e = either (f x) (list_any f (filter p xs)) (list_any f (filter q xs)) next
         e
     by true false h next e = absurd (let g = h refl in cc)
-    by false true h next e = later (f x) (list_any f (filter q xs)) (next e)
+    by false true h next e = or_right (f x) (list_any f (filter q xs)) (next e)
     by false false h next e = next e
 
 filter_few : {A : Type 0} (p : A → Bool) (xs : List A) → length (filter p xs) ≤ length xs

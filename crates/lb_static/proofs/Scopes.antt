@@ -1,19 +1,18 @@
 -- Names that are declared once each: one more declaration, and the place of a name.
-use Rattle.std.proofs.Common.{◌≡◌, ℕ, suc, ◌+◌, ◌<◌, Bool, true, false, cond, List, [], ◌∷◌, ◌++◌}
-use Rattle.std.proofs.Common.{length, drop, get_or, map, Some, None, refl, ap, sym, ◌∙◌, subst}
-use Rattle.std.proofs.Common.{arith}
+use Rattle.std.proofs.Common.{◌≡◌, ℕ, suc, ◌+◌, Bool, true, false, cond, List, [], ◌∷◌, ◌++◌}
+use Rattle.std.proofs.Common.{length, map, Some, None, refl, ap, sym, ◌∙◌, subst, arith}
 use Rattle.std.specs.Prelude.{◌&&◌, ◌||◌, not, nat_lt, position, slice_get, if◌then◌else◌}
 use Rattle.std.proofs.lemmas.Bool.Decides.{nat_tests}
-use Rattle.std.proofs.lemmas.List.{drop_more}
+use Rattle.std.proofs.lemmas.List.{length-map, map-append, append_assoc}
 use Rattle.std.specs.List.{list_any, prefix_len, position_or_len}
 use Rattle.std.specs.Str.{bytes_eq}
 use Rattle.std.proofs.lemmas.Slice.Eq.{bytes_eq-Decides}
-use Rattle.std.proofs.lemmas.List.{length-map}
+use Rattle.std.proofs.Math.Bool.{or_assoc, or-false}
+use Rattle.std.proofs.lemmas.Bool.{and_right}
 use Rattle.lb_syntax.specs.Tree.{Name}
 use Rattle.lb_static.specs.Parts.{among}
 use Rattle.lb_static.specs.Names.{are_distinct}
 use Rattle.lb_static.specs.Scopes.{declared_after}
-use Rattle.lb_static.proofs.Lists.{append_assoc, false_second}
 
 -- ## A list under a view
 
@@ -36,14 +35,10 @@ position_map p g xs =
 
 -- ## One more name
 
-map_append : {A B : Type 0} (g : A → B) (xs ys : List A) → map g (xs ++ ys) ≡ map g xs ++ map g ys
-map_append g [] ys = refl
-map_append g (x ∷ xs) ys = ap (λ zs. g x ∷ zs) (map_append g xs ys)
-
 after_view : {A : Type 0} (g : A → Name) (ks : List A) (k : A) (b : Bool)
     → map g (if b then ks else ks ++ k ∷ []) ≡ (if b then map g ks else map g ks ++ g k ∷ [])
 after_view g ks k true = refl
-after_view g ks k false = map_append g ks (k ∷ [])
+after_view g ks k false = map-append g ks (k ∷ [])
 
 -- the view of the keys after one more insertion
 pub view_declared : {A : Type 0} (g : A → Name) (ks after : List A) (k : A)
@@ -63,14 +58,6 @@ bytes_eq-symmetric x y = by (bytes_eq x y) (bytes_eq y x) refl refl
         (bytes_eq-Decides y x).1 (sym ((bytes_eq-Decides x y).0 p)) in absurd cc
     by false true p q = let e =
         (bytes_eq-Decides x y).1 (sym ((bytes_eq-Decides y x).0 q)) in absurd cc
-
-or_assoc : (a b c : Bool) → ((a || b) || c) ≡ (a || (b || c))
-or_assoc true b c = refl
-or_assoc false b c = refl
-
-or_false : (a : Bool) → (a || false) ≡ a
-or_false true = refl
-or_false false = refl
 
 pub among_append : (x : Name) (ys zs : List Name) → among x (ys ++ zs) ≡ (among x ys || among x zs)
 among_append x [] zs = refl
@@ -93,7 +80,7 @@ distinct_more [] x = refl
 distinct_more (y ∷ xs) x =
     ap (λ b. not b && are_distinct (xs ++ x ∷ []))
     (among_append y xs (x ∷ [])
-    ∙ ap (λ b. among y xs || b) (or_false (bytes_eq y x) ∙ bytes_eq-symmetric y x))
+    ∙ ap (λ b. among y xs || b) (or-false (bytes_eq y x) ∙ bytes_eq-symmetric y x))
     ∙ ap (λ b. not (among y xs || bytes_eq x y) && b) (distinct_more xs x)
     ∙ distinct_step (among y xs) (among x xs) (bytes_eq x y) (are_distinct xs)
 
@@ -129,27 +116,8 @@ pub doubled_here : (xs ys all : List Name) (x : Name) → xs ++ x ∷ ys ≡ all
     → not (among x xs) ≡ false → are_distinct all ≡ false
 doubled_here xs ys all x e d =
     let first : are_distinct (xs ++ x ∷ []) ≡ false = distinct_more xs x
-    ∙ ap (λ b. are_distinct xs && b) d ∙ false_second (are_distinct xs) false refl in
+    ∙ ap (λ b. are_distinct xs && b) d ∙ and_right (are_distinct xs) false refl in
     doubled_before (xs ++ x ∷ []) ys all (append_assoc xs (x ∷ []) ys ∙ e) first
-
--- the names from a place on
-among_next : (name x : Name) (ns : List Name) (i : ℕ) (b : Bool) → i < length ns → x ≡ get_or ns i x
-    → bytes_eq x name ≡ b
-    → among name (drop i ns) ≡ (b || among name (drop (i + 1) ns))
-among_next name x ns i b below is e =
-    ap (among name) (drop_more ns i x below)
-    ∙ ap (λ y. bytes_eq name y || among name (drop (i + 1) ns)) (sym is)
-    ∙ ap (λ c. c || among name (drop (i + 1) ns)) (bytes_eq-symmetric name x ∙ e)
-
-pub among_seen : (name x : Name) (ns : List Name) (i : ℕ) → i < length ns → x ≡ get_or ns i x
-    → bytes_eq x name ≡ true
-    → among name ns ≡ among name (drop i ns) → true ≡ among name ns
-among_seen name x ns i below is e before = sym (before ∙ among_next name x ns i true below is e)
-
-pub among_passed : (name x : Name) (ns : List Name) (i : ℕ) → i < length ns → x ≡ get_or ns i x
-    → bytes_eq x name ≡ false
-    → among name ns ≡ among name (drop i ns) → among name ns ≡ among name (drop (i + 1) ns)
-among_passed name x ns i below is e before = before ∙ among_next name x ns i false below is e
 
 -- the name at the place that is found
 pub name_at_place : (x : Name) (ns : List Name) (i : ℕ) → position (bytes_eq x) ns ≡ Some i

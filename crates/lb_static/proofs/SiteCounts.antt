@@ -7,11 +7,14 @@ use Rattle.std.specs.List.{list_all}
 use Rattle.std.proofs.lemmas.Grind.{flat_map-append}
 use Rattle.std.proofs.lemmas.Option.{slice_get-map}
 use Rattle.std.proofs.lemmas.Bool.Decides.{nat_tests}
+use Rattle.std.proofs.lemmas.Bool.{and_from}
+use Rattle.std.proofs.lemmas.List.Folds.{list_all-append}
 use Rattle.lb_syntax.specs.Lists.{◌>>=◌, holds, either_or}
 use Rattle.lb_syntax.specs.Tree.{Static, Node_named, Symbol, Expr, Literal, Truth, Variable, Group}
 use Rattle.lb_syntax.specs.Tree.{Unary, Binary, If, Arrow, Fby, Pre, Current, When, Replicate}
 use Rattle.lb_syntax.specs.Tree.{Index, Slice, Join, Array, AtMostOne, Nor, Call, Iterate, Exprs}
 use Rattle.lb_syntax.specs.Tree.{Nil, Cons, Node, Statement, Equation, Assertion}
+use Rattle.lb_syntax.proofs.TruthValues.{and_first, and_second}
 use Rattle.lb_static.specs.Instances.{Program, Path, Site, sites, sites_in, statement_sites}
 use Rattle.lb_static.specs.Instances.{node_sites}
 use Rattle.lb_static.specs.InstanceTable.{instance_of}
@@ -29,7 +32,6 @@ use Rattle.lb_static.specs.declared.reach.Reached.{Reached}
 use Rattle.lb_static.specs.declared.resolved.CallSite.{CallSite}
 use Rattle.lb_static.specs.declared.resolved.ResolvedNode.{ResolvedNode}
 use Rattle.lb_static.specs.declared.resolved.StaticId.{StaticId}
-use Rattle.lb_static.proofs.Lists.{and_first, and_second, both, all_append}
 use Rattle.lb_static.proofs.CallSites.{value_read}
 
 -- ## The counts of the calls in a text are among its sizes
@@ -51,15 +53,15 @@ module _ (q : Static → Bool) where
   split : (xs ys : List Expr) → Sized (xs ++ ys)
       → (list_all q (flat_map own_sizes xs) && list_all q (flat_map own_sizes ys)) ≡ true
   split xs ys h =
-      sym (all_append q (flat_map own_sizes xs) (flat_map own_sizes ys))
+      sym (list_all-append q (flat_map own_sizes xs) (flat_map own_sizes ys))
       ∙ ap (list_all q) (sym (flat_map-append own_sizes xs ys)) ∙ h
 
   two : (ss ts : List Site) (xs ys : List Expr) → (Sized xs → Counted ss) → (Sized ys → Counted ts)
       → Sized (xs ++ ys) → Counted (ss ++ ts)
   two ss ts xs ys f g h =
       let s = split xs ys h in
-      all_append counted ss ts
-      ∙ both (list_all counted ss) (list_all counted ts)
+      list_all-append counted ss ts
+      ∙ and_from (list_all counted ss) (list_all counted ts)
       (f (and_first (list_all q (flat_map own_sizes xs)) (list_all q (flat_map own_sizes ys)) s))
       (g (and_second (list_all q (flat_map own_sizes xs)) (list_all q (flat_map own_sizes ys)) s))
 
@@ -91,7 +93,7 @@ module _ (q : Static → Bool) where
     sites_count (AtMostOne es) h = row_counts es h
     sites_count (Nor es) h = row_counts es h
     sites_count (Call f statics es) h = row_counts es h
-    sites_count (Iterate it (Node_named f statics) n es) h = both (q n)
+    sites_count (Iterate it (Node_named f statics) n es) h = and_from (q n)
         (list_all counted (sites_in es)) (and_first (q n) _ h)
         (row_counts es (and_second (q n) _ h))
     sites_count (Iterate it (Symbol op) n es) h = row_counts es (and_second (q n) _ h)
@@ -116,7 +118,7 @@ module _ (q : Static → Bool) where
   node_counts k h =
       body_counts k.body
       (and_second (list_all q (declared_sizes k)) (list_all q (flat_map own_sizes (node_parts k)))
-      (sym (all_append q (declared_sizes k) (flat_map own_sizes (node_parts k))) ∙ h))
+      (sym (list_all-append q (declared_sizes k) (flat_map own_sizes (node_parts k))) ∙ h))
 
   one_counted : (ss : List Site) (i : ℕ) (s : Site) → Counted ss → slice_get ss i ≡ Some s
       → passes s.count ≡ true

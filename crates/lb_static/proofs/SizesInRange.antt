@@ -3,16 +3,18 @@ use Rattle.std.proofs.Common.{◌≡◌, ℕ, Bool, true, false, List, [], ◌�
 use Rattle.std.proofs.Common.{None, option_map, refl, ap, sym, ◌∙◌}
 use Rattle.std.specs.Prelude.{◌&&◌, nat_le, is_some, reverse}
 use Rattle.std.specs.List.{list_all, flat_map}
+use Rattle.std.proofs.lemmas.List.Folds.{list_all-append}
+use Rattle.std.proofs.lemmas.List.{append_assoc}
 use Rattle.lb_syntax.specs.Lists.{all_some, listed, or_else, holds}
 use Rattle.lb_syntax.specs.Refusals.{Refusal, E5, E6, E12, unless}
 use Rattle.lb_syntax.specs.Tree.{Static, Declaration}
+use Rattle.lb_syntax.proofs.TruthValues.{and_first, and_second}
 use Rattle.lb_static.specs.Instances.{Program, Instance, Root, Observer, children, instances}
 use Rattle.lb_static.specs.Instances.{instances_from, instance_at, static_count}
 use Rattle.lb_static.specs.Parts.{declared_sizes, node_sizes}
 use Rattle.lb_static.specs.DataTypes.{variables, variable_type}
 use Rattle.lb_static.specs.Instantiation.{has_values, is_between, is_in_range, may_enter}
 use Rattle.lb_static.specs.Instantiation.{instantiation_refusal}
-use Rattle.lb_static.proofs.Lists.{and_first, and_second, all_append, append_assoc}
 use Rattle.lb_static.proofs.Options.{all_some-map-reverse}
 
 -- ## The first instance
@@ -92,7 +94,7 @@ sized : (P : Program) (here : Instance) (ds : List Declaration)
     ≡ list_all (is_sized P here) ds
 sized P here [] = refl
 sized P here (d ∷ ds) =
-    all_append (is_between P here 1 4096) d.sizes (flat_map (λ d. d.sizes) ds)
+    list_all-append (is_between P here 1 4096) d.sizes (flat_map (λ d. d.sizes) ds)
     ∙ ap (λ b. is_sized P here d && b) (sized P here ds)
 
 -- the inputs and outputs of the node under test have types
@@ -105,10 +107,10 @@ root_has_types P here is instantiated =
     let all = and_first (list_all between (node_sizes n)) _
     (root_in_range P here is instantiated) in
     let declared = and_first (list_all between (declared_sizes n)) _
-    (sym (all_append between (declared_sizes n) _) ∙ all) in
+    (sym (list_all-append between (declared_sizes n) _) ∙ all) in
     let of_variables = sym (sized P here (variables n)) ∙ declared in
     let of_interface = and_first (list_all (is_sized P here) (n.inputs ++ n.outputs)) _
-    (sym (all_append (is_sized P here) (n.inputs ++ n.outputs) n.locals)
+    (sym (list_all-append (is_sized P here) (n.inputs ++ n.outputs) n.locals)
     ∙ ap (list_all (is_sized P here)) (append_assoc n.inputs n.outputs n.locals) ∙ of_variables) in
     all_present (variable_type P here) (is_sized P here) (has_type P here) (n.inputs ++ n.outputs)
     of_interface

@@ -16,7 +16,6 @@ use Rattle.lb_static.specs.InstanceRows.{AreInstances}
 use Rattle.lb_static.specs.declared.reach.Reached.{Reached}
 use Rattle.lb_static.specs.declared.table.Table.{Table}
 use Rattle.lb_static.specs.Instances.{Program, Root, instance_at, instances}
-use Rattle.lb_static.specs.NameFaults.{IsNameFault}
 use Rattle.lb_static.specs.Names.{is_well_founded, keeps_names}
 use Rattle.lb_static.specs.RootAnswers.{IsRootAnswer}
 use Rattle.lb_static.specs.Instantiation.{has_no_parameters, is_root, static_refusal}
@@ -69,27 +68,11 @@ at_none true true false d o e f g h k = absurd cc
 at_none true false c d o e f g h k = absurd cc
 at_none false b c d o e f g h k = absurd cc
 
-at_names : (a b c d : Bool) (o : Option Refusal) → a ≡ false → first_of_five a b c d o ≡ Some E4
-at_names false b c d o e = refl
-at_names true b c d o e = absurd cc
-
 -- whether the node under test has its interface
 abbrev has_data_type : Program → Bool
 has_data_type P = holds (is_root P) (instance_at P Root)
 
 -- ## Faults of the parts
-
-pub names_fault : (P : Program) (e : StaticError) → IsNameFault e (keeps_names P)
-    → IsStaticFault P e
-names_fault P Memory h = h
-names_fault P (Name_fault x) h =
-    at_names (keeps_names P) (is_well_founded P) (has_no_parameters P) (has_data_type P)
-    (instantiation_refusal P 0 (instances P)) h
-names_fault P (Recursion x) h = absurd h
-names_fault P Root_fault h = absurd h
-names_fault P (Value x) h = absurd h
-names_fault P (Range x) h = absurd h
-names_fault P Instances h = absurd h
 
 pub calls_fault : (P : Program) (e : StaticError) → keeps_names P ≡ true → IsCallsAnswer P (Err e)
     → IsStaticFault P e

@@ -3,18 +3,12 @@ use Rattle.std.proofs.Common.{◌≡◌, Bool, true, false, cond, List, [], ◌�
 use Rattle.std.proofs.Common.{subst, ◌∙◌}
 use Rattle.std.specs.Prelude.{◌&&◌, find, filter, flat_map}
 use Rattle.std.specs.List.{list_all}
-use Rattle.lb_static.proofs.Lists.{and_first, and_second, both, all_append}
-
-pub all_weaker : {A : Type 0} (p q : A → Bool) (xs : List A) → ((x : A) → p x ≡ true → q x ≡ true)
-    → list_all p xs ≡ true → list_all q xs ≡ true
-all_weaker p q [] w e = refl
-all_weaker p q (x ∷ xs) w e =
-    both _ _ (w x (and_first _ (list_all p xs) e)) (all_weaker p q xs w (and_second (p x) _ e))
+use Rattle.std.proofs.lemmas.List.Folds.{list_all-append}
 
 pub all_flat : {A B : Type 0} (p : B → Bool) (f : A → List B) (xs : List A)
     → list_all p (flat_map f xs) ≡ list_all (λ x. list_all p (f x)) xs
 all_flat p f [] = refl
-all_flat p f (x ∷ xs) = all_append p (f x) (flat_map f xs)
+all_flat p f (x ∷ xs) = list_all-append p (f x) (flat_map f xs)
     ∙ ap (λ b. list_all p (f x) && b) (all_flat p f xs)
 
 found_step : {A : Type 0} (p : A → Bool) (b : Bool) (x y : A) (o : Option A) → p x ≡ b

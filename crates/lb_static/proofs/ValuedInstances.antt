@@ -1,10 +1,11 @@
 -- An instance has values, and they are in range, where those of the static expressions of its
 -- node are.
-use Rattle.std.proofs.Common.{◌≡◌, ℤ, Bool, true, false, List, [], ◌∷◌, ◌++◌, Option, refl, ap, ap₂}
-use Rattle.std.proofs.Common.{sym, ◌∙◌}
+use Rattle.std.proofs.Common.{◌≡◌, ℤ, Bool, true, false, List, ◌++◌, Option, refl, ap, ap₂, sym}
+use Rattle.std.proofs.Common.{◌∙◌}
 use Rattle.std.specs.Prelude.{◌&&◌, flat_map, is_some}
 use Rattle.std.specs.List.{list_all}
 use Rattle.std.proofs.lemmas.List.{map-append}
+use Rattle.std.proofs.lemmas.List.Folds.{list_all-append}
 use Rattle.lb_syntax.specs.Grammar.{Group, declarations, declared}
 use Rattle.lb_syntax.specs.SourceView.{view_group, view_groups, view_node}
 use Rattle.lb_syntax.specs.Tree.{Name}
@@ -17,15 +18,9 @@ use Rattle.lb_static.specs.DataTypes.{variables}
 use Rattle.lb_static.specs.StaticParts.{Part, group_parts, node_static_parts}
 use Rattle.lb_static.specs.StaticValues.{value_under}
 use Rattle.lb_static.specs.Instantiation.{has_values}
-use Rattle.lb_static.proofs.Lists.{all_append, append_assoc}
 use Rattle.lb_static.proofs.NodeValues.{sizes_in, groups_sizes, has, name_has, body_values}
 use Rattle.lb_static.proofs.OwnParts.{body_is}
-
-declared_append : (gs hs : List Group) → declared (gs ++ hs) ≡ declared gs ++ declared hs
-declared_append [] hs = refl
-declared_append (g ∷ gs) hs =
-    ap (λ l. declarations g ++ l) (declared_append gs hs)
-    ∙ sym (append_assoc (declarations g) (declared gs) (declared hs))
+use Rattle.lb_static.proofs.Mentions.{declared_append}
 
 viewed_append : (xs ys : List Declarations)
     → declared (view_groups (xs ++ ys)) ≡ declared (view_groups xs) ++ declared (view_groups ys)
@@ -67,10 +62,10 @@ module _ (P : Program) (p : Path) (w : written.Node) (values : List (Name × ℤ
       let es = node_parts node in
       let h = has is_variable given in
       ap₂ (λ a b. a && b)
-      (all_append h (declared_sizes node ++ flat_map own_sizes es)
+      (list_all-append h (declared_sizes node ++ flat_map own_sizes es)
       (flat_map own_indexes es ++ flat_map own_arguments es)
-      ∙ ap₂ (λ a b. a && b) (all_append h (declared_sizes node) (flat_map own_sizes es))
-      (all_append h (flat_map own_indexes es) (flat_map own_arguments es)))
+      ∙ ap₂ (λ a b. a && b) (list_all-append h (declared_sizes node) (flat_map own_sizes es))
+      (list_all-append h (flat_map own_indexes es) (flat_map own_arguments es)))
       refl
       ∙ regroup (list_all h (declared_sizes node)) (list_all h (flat_map own_sizes es))
       (list_all h (flat_map own_indexes es)) (list_all h (flat_map own_arguments es))
@@ -80,4 +75,4 @@ module _ (P : Program) (p : Path) (w : written.Node) (values : List (Name × ℤ
       ∙ groups_sizes h (groups_of w))
       (body_values is_variable given es
       ∙ ap (list_all part_has) (sym (body_is is_variable node.body)))
-      ∙ sym (all_append part_has (flat_map group_parts (groups_of w)) _)
+      ∙ sym (list_all-append part_has (flat_map group_parts (groups_of w)) _)

@@ -1,13 +1,10 @@
 -- The whole instantiation: the instances below the node under test, and then those below the
 -- observer.
-use Rattle.std.proofs.Common.{◌≡◌, ℕ, zero, suc, ◌<◌, ℤ, true, List, [], ◌∷◌, ◌++◌, map, length}
-use Rattle.std.proofs.Common.{get_or, Option, Some, None, option_map, refl, ap, sym, ◌∙◌, subst}
-use Rattle.std.proofs.Common.{arith}
+use Rattle.std.proofs.Common.{◌≡◌, ℕ, ℤ, true, List, [], ◌∷◌, ◌++◌, map, length, Option, Some, None}
+use Rattle.std.proofs.Common.{option_map, refl, ap, sym, ◌∙◌, subst}
 use Rattle.std.specs.Prelude.{slice_get}
-use Rattle.std.specs.List.{list_all, zip}
-use Rattle.std.proofs.lemmas.List.{length-map, append-nil}
-use Rattle.std.proofs.lemmas.List.Elements.{All-get_or}
-use Rattle.std.proofs.lemmas.List.Sums.{AllPass-from_list_all}
+use Rattle.std.specs.List.{zip}
+use Rattle.std.proofs.lemmas.List.{append-nil}
 use Rattle.std.proofs.lemmas.Option.{slice_get-map}
 use Rattle.lb_syntax.specs.Lists.{◌>>=◌, listed}
 use Rattle.lb_syntax.specs.Tree.{Name, Node}
@@ -17,13 +14,12 @@ use Rattle.lb_static.specs.Instances.{node_named, start_at, instance_at, instanc
 use Rattle.lb_static.specs.InstanceTable.{instance_of, specialized_at, specialized_instance_at}
 use Rattle.lb_static.specs.InstanceTable.{HasStatics, HasStarts}
 use Rattle.lb_static.specs.Names.{keeps_names}
-use Rattle.lb_static.specs.ReachedNodes.{IsReached, source_names, tree_at, are_linked}
-use Rattle.lb_static.specs.ResolvedNodes.{IsResolved, node_of, counts_of, statics_of}
-use Rattle.lb_static.specs.ResolvedTerms.{is_site_within}
+use Rattle.lb_static.specs.ReachedNodes.{IsReached, tree_at}
+use Rattle.lb_static.specs.ResolvedNodes.{node_of, statics_of}
 use Rattle.lb_static.specs.StaticValues.{constant_value}
 use Rattle.lb_static.specs.Instantiation.{instantiation_refusal}
-use Rattle.lb_static.specs.Instantiated.{AreSound, IsRefusal, AreEntered, AreJudged, IsJudgedAt}
-use Rattle.lb_static.specs.Instantiated.{IsKnown, IsInstantiable}
+use Rattle.lb_static.specs.Instantiated.{IsRefusal, AreEntered, AreJudged, IsJudgedAt, IsKnown}
+use Rattle.lb_static.specs.Instantiated.{IsInstantiable}
 use Rattle.lb_static.specs.declared.constants.Constants.{Constants}
 use Rattle.lb_static.specs.declared.error.StaticError.{StaticError}
 use Rattle.lb_static.specs.declared.reach.NodeId.{NodeId}
@@ -33,19 +29,6 @@ use Rattle.lb_static.specs.declared.table.Specialization.{Specialization}
 use Rattle.lb_static.specs.declared.table.SpecializationId.{SpecializationId}
 use Rattle.lb_static.specs.declared.table.Table.{Table}
 use Rattle.lb_static.proofs.InstanceCalls.{entered_none, entered_more, refused_later}
-
-pub sound_nodes : (P : Program) (r : Reached) → IsReached P r → AreSound r
-sound_nodes P r w = λ k d within.
-    let n = get_or r.nodes.items k d in
-    let is = All-get_or (IsResolved (source_names P)) r.nodes.items k d within w.resolved in
-    let as_many = length-map P.source.nodes (λ (m : Node). m.name) ∙ sym w.as_many in
-    record {
-      declared = is.declared_within;
-      calls = subst (λ (m : ℕ). list_all (is_site_within m (counts_of n)) n.calls.items ≡ true)
-          as_many is.calls_within;
-      linked = All-get_or (λ m. are_linked r m ≡ true) r.nodes.items k d within
-          (AllPass-from_list_all (are_linked r) r.nodes.items w.linked);
-    }
 
 pub instantiable : (P : Program) (r : Reached) (c : Constants) → keeps_names P ≡ true
     → IsReached P r
@@ -188,9 +171,3 @@ module _ (P : Program) (root : Instance) (at_root : instance_at P Root ≡ Some 
         subst (λ l. IsRefusal (instantiation_refusal P 0 l) e)
         (ap (λ l. of_root ++ l) (append-nil (instances_from P 65 observer)) ∙ sym both_are)
         (refused_later P 0 of_root (instances_from P 65 observer) [] k e a h)
-
-pub there_is : {A : Type 0} (xs : List A) (i : ℕ) → i < length xs
-    → (x : A) × (slice_get xs i ≡ Some x)
-there_is [] i h = absurd (omega arith)
-there_is (x ∷ xs) zero h = (x, refl)
-there_is (x ∷ xs) (suc i) h = there_is xs i (omega arith)

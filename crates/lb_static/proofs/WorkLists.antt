@@ -10,45 +10,15 @@ use Rattle.std.proofs.lemmas.Bool.Decides.{nat_tests}
 use Rattle.std.proofs.lemmas.List.Folds.{list_any-append}
 use Rattle.std.proofs.lemmas.List.Sums.{sum_by-set, count_by-le-length}
 use Rattle.std.proofs.lemmas.Option.{slice_get_within, slice_get_read, get_or_from_slice_get}
+use Rattle.std.proofs.lemmas.Bool.{or_left, or_right, eqb-true, and_from}
+use Rattle.std.proofs.lemmas.Map.Keys.{any_passes_from_place}
+use Rattle.std.proofs.Math.Bool.{or-false}
 use Rattle.lb_syntax.specs.Lists.{holds}
+use Rattle.lb_syntax.proofs.ListPlaces.{get_before, get_last, set_here}
+use Rattle.lb_syntax.proofs.SameNames.{same_number}
 use Rattle.lb_static.specs.WorkLists.{Grows, HasTurns, is_visited, visited_after, visited_after_all}
-use Rattle.lb_static.proofs.Lists.{and_first, and_second, both}
 
 -- ## Tests and items
-
-pub or_left : (a b : Bool) → a ≡ true → (a || b) ≡ true
-or_left true b e = refl
-or_left false b e = absurd cc
-
-pub or_right : (a b : Bool) → b ≡ true → (a || b) ≡ true
-or_right true b e = refl
-or_right false b e = e
-
-pub same_test : (a b : Bool) → (a ≡ true → b ≡ true) → (b ≡ true → a ≡ true) → a ≡ b
-same_test true true f g = refl
-same_test false false f g = refl
-same_test true false f g = sym (f refl)
-same_test false true f g = g refl
-
--- a test of an item that is there
-pub all_at : {A : Type 0} (p : A → Bool) (xs : List A) (i : ℕ) (x : A) → list_all p xs ≡ true
-    → slice_get xs i ≡ Some x → p x ≡ true
-all_at p [] i x e h = absurd cc
-all_at p (y ∷ ys) zero x e h =
-    let same : y ≡ x = cc in subst (λ z. p z ≡ true) same (and_first (p y) (list_all p ys) e)
-all_at p (y ∷ ys) (suc i) x e h = all_at p ys i x (and_second (p y) _ e) h
-
-pub at_all : {A : Type 0} (p : A → Bool) (xs : List A)
-    → ((i : ℕ) (x : A) → slice_get xs i ≡ Some x → p x ≡ true) → list_all p xs ≡ true
-at_all p [] f = refl
-at_all p (y ∷ ys) f = both _ _ (f 0 y refl) (at_all p ys (λ i. f (suc i)))
-
-pub at_any : {A : Type 0} (p : A → Bool) (xs : List A) (i : ℕ) (x : A) → slice_get xs i ≡ Some x
-    → p x ≡ true → list_any p xs ≡ true
-at_any p [] i x h e = absurd cc
-at_any p (y ∷ ys) zero x h e =
-    let same : x ≡ y = cc in or_left (p y) _ (subst (λ z. p z ≡ true) same e)
-at_any p (y ∷ ys) (suc i) x h e = or_right (p y) _ (at_any p ys i x h e)
 
 pub record Witness {A : Type 0} (p : A → Bool) (xs : List A) : Type 0 where
   pub place : ℕ
@@ -74,38 +44,12 @@ past_end [] i e = omega arith
 past_end (x ∷ xs) zero e = absurd cc
 past_end (x ∷ xs) (suc i) e = let le = past_end xs i e in omega (arith, le)
 
--- ## One more item
-
-pub append_before : {A : Type 0} (xs ys : List A) (i : ℕ) → i < length xs
-    → slice_get (xs ++ ys) i ≡ slice_get xs i
-append_before [] ys i below = absurd (omega (arith, below))
-append_before (x ∷ xs) ys zero below = refl
-append_before (x ∷ xs) ys (suc i) below = append_before xs ys i (omega arith)
-
-pub append_last : {A : Type 0} (xs : List A) (x : A) → slice_get (xs ++ x ∷ []) (length xs) ≡ Some x
-append_last [] x = refl
-append_last (y ∷ ys) x = append_last ys x
-
--- what stands at a place of a list with one more item stood there, or is that item
-pub snoc_at : {A : Type 0} (xs : List A) (x : A) (C : ℕ → A → Type 0)
-    → ((i : ℕ) (y : A) → slice_get xs i ≡ Some y → C i y) → C (length xs) x
-    → (i : ℕ) (y : A) → slice_get (xs ++ x ∷ []) i ≡ Some y → C i y
-snoc_at [] x C f g zero y e = let same : x ≡ y = cc in subst (C 0) same g
-snoc_at [] x C f g (suc i) y e = absurd cc
-snoc_at (z ∷ zs) x C f g zero y e = f 0 y e
-snoc_at (z ∷ zs) x C f g (suc i) y e = snoc_at zs x (λ j. C (suc j)) (λ j. f (suc j)) g i y e
-
 -- ## Places
-
-eq_refl : (n : ℕ) → nat_eq n n ≡ true
-eq_refl n = grind (arith, nat_tests)
-
-eq_same : (m n : ℕ) → nat_eq m n ≡ true → m ≡ n
-eq_same m n e = grind (arith, nat_tests)
 
 pub at_visited : (order : List ℕ) (turn place : ℕ) → slice_get order turn ≡ Some place
     → is_visited order place ≡ true
-at_visited order turn place e = at_any (nat_eq place) order turn place e (eq_refl place)
+at_visited order turn place e =
+    any_passes_from_place (nat_eq place) order turn place e (same_number place)
 
 pub record Turn (order : List ℕ) (place : ℕ) : Type 0 where
   pub turn : ℕ
@@ -114,7 +58,7 @@ pub record Turn (order : List ℕ) (place : ℕ) : Type 0 where
 pub visited_at : (order : List ℕ) (place : ℕ) → is_visited order place ≡ true → Turn order place
 visited_at order place e =
     let f = any_at (nat_eq place) order e in
-    record { turn = f.place; at = f.at ∙ ap Some (sym (eq_same place f.item f.passes)) }
+    record { turn = f.place; at = f.at ∙ ap Some (sym (eqb-true place f.item f.passes)) }
 
 pub grows_none : (order : List ℕ) → Grows order order
 grows_none order = record { longer = omega arith; kept = λ turn place e. e; still = λ place e. e }
@@ -129,7 +73,7 @@ grows_both xs ys zs f g = record {
 grows_append : (order : List ℕ) (place : ℕ) → Grows order (order ++ place ∷ [])
 grows_append order place = record {
   longer = omega (arith, length-append order (place ∷ []));
-  kept = λ turn p e. append_before order (place ∷ []) turn (slice_get_within order turn p e) ∙ e;
+  kept = λ turn p e. get_before order (place ∷ []) turn (slice_get_within order turn p e) ∙ e;
   still = λ p e. list_any-append (nat_eq p) order (place ∷ []) ∙ or_left (is_visited order p) _ e;
 }
 
@@ -146,7 +90,7 @@ visited_now order place = by (is_visited order place) refl
     by : (b : Bool) → is_visited order place ≡ b
         → is_visited (if b then order else order ++ place ∷ []) place ≡ true
     by true e = e
-    by false e = at_visited (order ++ place ∷ []) (length order) place (append_last order place)
+    by false e = at_visited (order ++ place ∷ []) (length order) place (get_last order place)
 
 pub grows_all : (order places : List ℕ) → Grows order (visited_after_all order places)
 unfolding visited_after_all
@@ -159,7 +103,7 @@ pub visited_all : (order places : List ℕ)
 unfolding visited_after_all
 visited_all order [] = refl
 visited_all order (p ∷ ps) =
-    both _ _ ((grows_all (visited_after order p) ps).still p (visited_now order p))
+    and_from _ _ ((grows_all (visited_after order p) ps).still p (visited_now order p))
     (visited_all (visited_after order p) ps)
 
 pub visit_append : (order ps qs : List ℕ)
@@ -200,12 +144,6 @@ turns_none n turns e =
       found = none_found n;
     })
 
-set_here : {A : Type 0} (xs : List A) (i : ℕ) (x : A) → i < length xs
-    → slice_get (set xs i x) i ≡ Some x
-set_here [] i x below = absurd (omega (arith, below))
-set_here (y ∷ ys) zero x below = refl
-set_here (y ∷ ys) (suc i) x below = set_here ys i x (omega arith)
-
 set_elsewhere : {A : Type 0} (xs : List A) (i j : ℕ) (x : A) → j ≢ i
     → slice_get (set xs i x) j ≡ slice_get xs j
 set_elsewhere [] i j x other = refl
@@ -241,7 +179,7 @@ turns_more order turns place has none = record {
         → is_visited (order ++ place ∷ []) p
         ≡ holds is_some (slice_get (set turns place (Some (length order))) p)
     seen p true e =
-        let same = eq_same p place e in
+        let same = eqb-true p place e in
         let here = ap (λ q. slice_get (set turns place (Some (length order))) q) same
         ∙ set_here turns place (Some (length order)) below in
         list_any-append (nat_eq p) order (place ∷ [])
@@ -250,29 +188,25 @@ turns_more order turns place has none = record {
     seen p false e =
         let other : p ≢ place = grind (arith, nat_tests) in
         list_any-append (nat_eq p) order (place ∷ [])
-        ∙ ap (λ b. is_visited order p || (b || false)) e ∙ or_false (is_visited order p)
+        ∙ ap (λ b. is_visited order p || (b || false)) e ∙ or-false (is_visited order p)
         ∙ has.seen p ∙ ap (holds is_some)
         (sym (set_elsewhere turns place p (Some (length order)) other))
-      where
-        or_false : (b : Bool) → (b || false) ≡ b
-        or_false true = refl
-        or_false false = refl
 
     found : (p turn : ℕ) (b : Bool) → nat_eq p place ≡ b
         → slice_get (set turns place (Some (length order))) p ≡ Some (Some turn)
         → slice_get (order ++ place ∷ []) turn ≡ Some p
     found p turn true e h =
-        let same = eq_same p place e in
+        let same = eqb-true p place e in
         let here = sym (ap (λ q. slice_get (set turns place (Some (length order))) q) same
         ∙ set_here turns place (Some (length order)) below) ∙ h in
         let last : length order ≡ turn = cc in
-        ap (λ t. slice_get (order ++ place ∷ []) t) (sym last) ∙ append_last order place
+        ap (λ t. slice_get (order ++ place ∷ []) t) (sym last) ∙ get_last order place
         ∙ ap Some (sym same)
     found p turn false e h =
         let other : p ≢ place = grind (arith, nat_tests) in
         let before = has.found p turn
         (sym (set_elsewhere turns place p (Some (length order)) other) ∙ h) in
-        append_before order (place ∷ []) turn (slice_get_within order turn p before) ∙ before
+        get_before order (place ∷ []) turn (slice_get_within order turn p before) ∙ before
 
 -- a place that came up is one of those that there are
 pub visited_within : (order : List ℕ) (turns : List (Option ℕ)) (turn place : ℕ)

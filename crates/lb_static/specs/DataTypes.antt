@@ -2,7 +2,7 @@
 -- Source: Lustre V6 reference manual, types and arrays. The order and the names of scalar elements
 -- are this project's rule.
 use Rattle.std.specs.Prelude.{ℕ, ◌*◌, nat_eq, Bool, true, false, ◌&&◌, Option, option_map, List, []}
-use Rattle.std.specs.Prelude.{◌∷◌, ◌++◌, map, reverse, flat_map, codes}
+use Rattle.std.specs.Prelude.{◌∷◌, ◌++◌, map, reverse, flat_map, codes, sum_by}
 use Rattle.std.specs.Fmt.{decimal}
 use Rattle.std.specs.List.{range_with_len}
 use Rattle.lb_syntax.specs.Lists.{all_some, either_or, listed}
@@ -52,6 +52,10 @@ product (n ∷ ns) = n * product ns
 -- how many scalar elements a type has
 abbrev pub element_count : DataType → ℕ
 element_count t = product t.sizes
+
+-- how many some types have together
+abbrev pub total : List DataType → ℕ
+total ts = sum_by element_count ts
 
 -- `[i]`
 abbrev pub index_text : ℕ → Name

@@ -1,24 +1,22 @@
 -- The types of the inputs and outputs of an instance, as the code finds them.
 -- This file says what data of the program mean; no definition of the language stands on it.
-use Rattle.std.specs.Prelude.{◌≡◌, ℕ, ◌+◌, ℤ, Bool, false, ◌&&◌, not, nat_le, Option, None, Some}
-use Rattle.std.specs.Prelude.{is_some, option_map, List, [], ◌∷◌, ◌++◌, map, reverse, take, drop}
-use Rattle.std.specs.Prelude.{length, slice_get, Result, Ok, Err}
+use Rattle.std.specs.Prelude.{◌≡◌, ℕ, ◌+◌, ℤ, Bool, ◌&&◌, not, nat_le, Option, None, Some}
+use Rattle.std.specs.Prelude.{is_some, option_map, List, [], ◌∷◌, ◌++◌, map, take, drop, length}
+use Rattle.std.specs.Prelude.{slice_get, Result, Ok, Err}
 use Rattle.std.specs.List.{list_all}
-use Rattle.lb_syntax.specs.Lists.{◌>>=◌, all_some, where_true}
+use Rattle.lb_syntax.specs.Lists.{◌>>=◌, where_true}
 use Rattle.lb_syntax.specs.SourceView.{view_node}
 use Rattle.lb_syntax.specs.Tree.{Name, Node}
 use Rattle.lb_static.specs.ResolvedNodes.{node_of}
-use Rattle.lb_static.specs.DataTypes.{DataType, truth, element_count, element_names, is_type}
-use Rattle.lb_static.specs.DataTypes.{are_types}
+use Rattle.lb_static.specs.DataTypes.{DataType, truth, element_names, are_types}
 use Rattle.lb_static.specs.Signature.{Elements}
-use Rattle.lb_static.specs.StaticValues.{natural}
+use Rattle.lb_static.specs.StoredTypes.{view_types, declared_types}
 use Rattle.lb_static.specs.declared.error.StaticError.{StaticError}
 use Rattle.lb_static.specs.declared.error.StaticError.TheVariants as error
 use Rattle.lb_static.specs.declared.interface.Interface.{Interface}
 use Rattle.lb_static.specs.declared.reach.Reached.{Reached}
 use Rattle.lb_static.specs.declared.resolved.ResolvedNode.{ResolvedNode}
 use Rattle.lb_static.specs.declared.resolved.Variable.{Variable}
-use Rattle.lb_static.specs.declared.data_type.DataType as seen
 use Rattle.lb_static.specs.declared.table.SpecializationId.{SpecializationId}
 use Rattle.lb_static.specs.declared.table.Table.{Table}
 
@@ -32,35 +30,6 @@ IsRootFault Reason _ = ⊥
 abbrev pub Answers : {A B : Type 0} → (A → B) → Option B → Result A StaticError → Type 0
 Answers seen_as o (Ok a) = o ≡ Some (seen_as a)
 Answers seen_as o (Err e) = IsRootFault (o ≡ None) e
-
--- the type that a value of the code stands for
-abbrev pub view_type : seen.DataType → DataType
-view_type s = record { kind = s.kind; sizes = s.sizes.items }
-
-abbrev pub view_types : List seen.DataType → List DataType
-view_types = map view_type
-
--- the values of a variable's sizes, the innermost first, by those of the static expressions
-abbrev pub sizes_in : List ℤ → Variable → Option (List ℤ)
-sizes_in statics v =
-    where_true (nat_le (v.first_size.0 + v.sizes) (length statics))
-    (take v.sizes (drop v.first_size.0 statics))
-
--- the type of a variable
-abbrev pub type_under : List ℤ → Variable → Option DataType
-type_under statics v =
-    sizes_in statics v >>= λ values.
-    option_map (λ ns. record { kind = v.kind; sizes = ns })
-    (all_some (map natural (reverse values)))
-
--- the types of some variables
-abbrev pub types_under : List ℤ → List Variable → Option (List DataType)
-types_under statics vs = all_some (map (type_under statics) vs)
-
--- how many scalar elements there are in all
-abbrev pub elements_in_all : List DataType → ℕ
-elements_in_all [] = 0
-elements_in_all (s ∷ ss) = element_count s + elements_in_all ss
 
 -- ## The inputs and outputs of an instance
 
@@ -79,7 +48,7 @@ abbrev pub view_interface : Interface → InterfaceView
 view_interface i = record {
   node = view_node i.tree.now;
   inputs = i.inputs;
-  data_types = view_types i.data_types.items;
+  data_types = view_types i.data_types;
   is_plain = i.is_plain;
 }
 
@@ -100,7 +69,7 @@ interface_under n statics =
       data_types = ss;
       is_plain = list_all has_no_clock vs;
     })
-    (types_under statics vs)
+    (declared_types statics vs)
 
 -- the types of the inputs, and those of the outputs
 abbrev pub inputs_of : InterfaceView → List DataType
@@ -117,8 +86,7 @@ valued_node_in r t id =
 
 -- the property of one that observes another, and of one alone
 abbrev pub is_one_truth_in : List DataType → Bool
-is_one_truth_in (t ∷ []) = is_type t truth
-is_one_truth_in _ = false
+is_one_truth_in ts = are_types ts (truth ∷ [])
 
 abbrev pub observes : InterfaceView → InterfaceView → Bool
 observes observer root =

@@ -29,6 +29,7 @@ pub mod CalledSpecializations
 pub mod LinkedSpecializations
 pub mod CallGraphs
 pub mod CycleSearch
+pub mod StoredTypes
 pub mod Interfaces
 pub mod RootAnswers
 pub mod NameFaults

@@ -5,10 +5,9 @@ use Rattle.std.specs.Prelude.{Option, Result, Ok, Err}
 use Rattle.std.specs.List.{list_all}
 use Rattle.lb_syntax.specs.Lists.{either_or, holds, some_of, where_true}
 use Rattle.lb_static.specs.Instances.{Program, Root, instance_at}
-use Rattle.lb_static.specs.Interfaces.{InterfaceView, elements_in_all, elements_named, inputs_of}
-use Rattle.lb_static.specs.Interfaces.{property_in}
+use Rattle.lb_static.specs.Interfaces.{InterfaceView, elements_named, inputs_of, property_in}
 use Rattle.lb_static.specs.ReachedNodes.{tree_at}
-use Rattle.lb_static.specs.DataTypes.{signature}
+use Rattle.lb_static.specs.DataTypes.{signature, total}
 use Rattle.lb_static.specs.Signature.{Elements}
 use Rattle.lb_static.specs.Instantiation.{is_root}
 use Rattle.lb_static.specs.declared.error.StaticError.{StaticError}
@@ -26,7 +25,7 @@ has_no_parameters_at r id =
 abbrev pub is_root_in : Reached → Table → InterfaceView → Bool
 is_root_in r t f =
     f.is_plain
-    && (nat_le (elements_in_all (inputs_of f)) 1023 && either_or (property_in r t f) false)
+    && (nat_le (total (inputs_of f)) 1023 && either_or (property_in r t f) false)
 
 -- the scalar inputs of a node under test with these inputs and outputs, where it has that interface
 abbrev pub signature_in : Reached → Table → InterfaceView → Option Elements

@@ -1,79 +1,93 @@
-//! The types of variables, as values.
+//! Types, as values.
 
-ghost use Rattle.std.specs.Prelude.{◌≡◌, option_map, min, map, reverse};
-ghost use Rattle.lb_syntax.specs.Lists.{all_some};
-ghost use Rattle.lb_static.specs.Interfaces.{
-  Answers,
-  view_type,
-  view_types,
-  sizes_in,
-  type_under,
-  types_under,
-  elements_in_all,
-  is_one_truth_in,
-};
-ghost use Rattle.lb_static.specs.DataTypes.{element_count, is_type, are_types, truth};
-ghost use Rattle.lb_static.specs.StaticValues.{natural};
+ghost use Rattle.std.specs.Prelude.{◌≡◌, ◌∷◌, [], ◌≤◌, option_map, min, map, take, drop, IfOk};
+ghost use Rattle.lb_static.specs.DataTypes.{element_count, int, is_type, are_types, product};
+ghost use Rattle.lb_static.specs.DataTypes.{total, truth};
+ghost use Rattle.lb_static.specs.StoredTypes.{view_type, view_types, naturals};
+ghost use Rattle.lb_static.specs.StoredTypes.{declared_type, declared_types};
 
-use crate::error::StaticError;
 use crate::resolved::Variable;
+use crate::slices::part_of;
 use crate::static_value::StaticInt;
 use lb_syntax::Kind;
-use std::alloc::Global;
+use std::alloc::{AllocError, Global};
 
-/// A type: a kind and the sizes of an array of it, the outermost first; a scalar has none.
+/// More scalar elements than a program may have: so many and more are counted as these.
+const TOO_MANY: u32 = 65_537;
+
+/// A type: a kind and the sizes of an array of it, the outermost last; a scalar has none.
 #[derive(PartialEq, Drop)]
 pub struct DataType {
     pub kind: Kind,
-    pub sizes: Vec<u32>,
+    pub sizes: Vec<u64>,
 }
 
-/// A size as a number, where it is one without a sign.
-fn size(value: StaticInt) -> Option<u32>
-    ensures { result ≡ natural value }
+/// Values as numbers, in their order, if all are without a sign.
+fn naturals(alloc: Global, values: &[StaticInt]) -> Result<Option<Vec<u64>>, AllocError>
+    ensures { IfOk result (λ o. option_map (λ numbers. numbers.items) o ≡ naturals values.now) }
 {
-    u32::try_from(value.get()).ok()
-}
-
-/// The values of a variable's sizes, the innermost first.
-fn size_values<'t>(variable: &Variable, statics: &'t [StaticInt]) -> Option<&'t [StaticInt]>
-    ensures { option_map (λ values. values.now) result ≡ sizes_in statics.now variable.now }
-{
-    let first = variable.first_size.0;
-    statics.get(first..first.checked_add(variable.sizes)?)
-}
-
-/// Sizes as numbers, the outermost first, from their values, the innermost first.
-///
-/// A size that is no number without a sign is none: `Root`.
-fn outermost_first(alloc: Global, values: &[StaticInt]) -> Result<Vec<u32>, StaticError>
-    ensures { Answers (λ sizes. sizes.items) (all_some (map natural (reverse values.now))) result }
-{
-    let mut sizes = Vec::new(alloc);
+    let mut numbers = Vec::new(alloc);
     for value in values {
-        sizes.push(size(*value).ok_or(StaticError::Root)?)?;
+        match value.natural() {
+            Some(number) => numbers.push(number)?,
+            None => return Ok(None),
+        }
     }
-    sizes.reverse();
-    Ok(sizes)
+    Ok(Some(numbers))
+}
+
+/// How many scalar elements an array of these sizes has, or 65,537 for more than 65,536.
+pub fn size_product(sizes: &[u64]) -> u32
+    ensures { result ≡ min (product sizes.now) 65537 }
+{
+    let mut elements: u64 = 1;
+    for size in sizes {
+        elements = elements.saturating_mul(*size).min(u64::from(TOO_MANY));
+    }
+    elements as u32
 }
 
 impl DataType {
-    /// The type of a variable, by the values of the static expressions of its node.
-    ///
-    /// Where a size is no number without a sign there is no type: `Root`.
+    /// A scalar of this kind.
+    pub fn scalar(alloc: Global, kind: Kind) -> DataType
+        ensures { view_type result ≡ record { kind = kind; sizes = [] } }
+    {
+        DataType {
+            kind,
+            sizes: Vec::new(alloc),
+        }
+    }
+
+    /// The type of a variable, by the values of the static expressions of its node, or none where a
+    /// size has a sign.
     pub fn of(
         alloc: Global,
         variable: &Variable,
         statics: &[StaticInt],
-    ) -> Result<DataType, StaticError>
-        ensures { Answers view_type (type_under statics.now variable.now) result }
+    ) -> Result<Option<DataType>, AllocError>
+        ensures { IfOk result (λ o.
+            option_map view_type o ≡ declared_type statics.now variable.now) }
     {
-        let values = size_values(variable, statics).ok_or(StaticError::Root)?;
-        let sizes = outermost_first(alloc, values)?;
-        Ok(DataType {
-            kind: variable.kind,
-            sizes,
-        })
+        let kind = variable.kind;
+        let values = part_of(statics, variable.first_size.0, variable.sizes);
+        match naturals(alloc, values)? {
+            Some(sizes) => Ok(Some(DataType { kind, sizes })),
+            None => Ok(None),
+        }
+    }
+
+    /// Whether two types are the same.
+    pub fn equals(&self, other: &DataType) -> bool
+        ensures { result ≡ is_type (view_type self.now) (view_type other.now) }
+    {
+        self == other
+    }
+
+    /// Whether it is a scalar `int`.
+    pub fn is_int(&self) -> bool
+        ensures { result ≡ is_type (view_type self.now) int }
+    {
+        self.kind == Kind::Int && self.sizes.is_empty()
     }
 
     /// Whether it is a scalar `bool`.
@@ -83,44 +97,54 @@ impl DataType {
         self.kind == Kind::Bool && self.sizes.is_empty()
     }
 
-    /// How many scalar elements it has; of more than 32 bits hold, the most that they hold.
+    /// How many scalar elements it has, or 65,537 for more than 65,536.
     pub fn element_count(&self) -> u32
-        ensures { result ≡ min (element_count (view_type self.now)) 4294967295 }
+        ensures { result ≡ min (element_count (view_type self.now)) 65537 }
     {
-        let mut count: u32 = 1;
-        for size in &self.sizes {
-            count = count.saturating_mul(*size);
-        }
-        count
+        size_product(&self.sizes)
+    }
+
+    /// The same type again.
+    pub fn copy(&self) -> Result<DataType, AllocError>
+        ensures { IfOk result (λ again. view_type again ≡ view_type self.now) }
+    {
+        Ok(DataType {
+            kind: self.kind,
+            sizes: self.sizes.clone()?,
+        })
     }
 }
 
-/// The types of some variables of a node, by the values of its static expressions.
+/// The types of some variables of a node, by the values of its static expressions, or none where a
+/// size has a sign.
 pub fn data_types(
     alloc: Global,
     variables: &[Variable],
     statics: &[StaticInt],
-) -> Result<Vec<DataType>, StaticError>
-    ensures { Answers (λ found. view_types found.items)
-        (types_under statics.now variables.now) result }
+) -> Result<Option<Vec<DataType>>, AllocError>
+    ensures { IfOk result (λ o.
+        option_map view_types o ≡ declared_types statics.now variables.now) }
 {
     let mut found = Vec::new(alloc);
     for variable in variables {
-        found.push(DataType::of(alloc, variable, statics)?)?;
+        match DataType::of(alloc, variable, statics)? {
+            Some(data_type) => found.push(data_type)?,
+            None => return Ok(None),
+        }
     }
-    Ok(found)
+    Ok(Some(found))
 }
 
 /// Whether these are the same types in the same order.
 pub fn are_same(data_types: &[DataType], others: &[DataType]) -> bool
-    ensures { result ≡ are_types (view_types data_types.now) (view_types others.now) }
+    ensures { result ≡ are_types (map view_type data_types.now) (map view_type others.now) }
 {
     data_types == others
 }
 
 /// Whether there is one type, a scalar `bool`.
 pub fn is_one_truth(data_types: &[DataType]) -> bool
-    ensures { result ≡ is_one_truth_in (view_types data_types.now) }
+    ensures { result ≡ are_types (map view_type data_types.now) (truth ∷ []) }
 {
     match data_types {
         [data_type] => data_type.is_truth(),
@@ -128,14 +152,13 @@ pub fn is_one_truth(data_types: &[DataType]) -> bool
     }
 }
 
-/// How many scalar elements some types have in all; of more than 32 bits hold, the most that they
-/// hold.
+/// How many scalar elements some types have together, or 65,537 for more than 65,536.
 pub fn element_count(data_types: &[DataType]) -> u32
-    ensures { result ≡ min (elements_in_all (view_types data_types.now)) 4294967295 }
+    ensures { result ≡ min (total (map view_type data_types.now)) 65537 }
 {
     let mut count: u32 = 0;
     for data_type in data_types {
-        count = count.saturating_add(data_type.element_count());
+        count = (count + data_type.element_count()).min(TOO_MANY);
     }
     count
 }

@@ -1,8 +1,9 @@
 //! The names of the scalar elements of a variable.
 
-ghost use Rattle.std.specs.Prelude.{◌≡◌, ◌≤◌, ◌+◌, ◌++◌, map, length, string_bytes, OnOk, IfOk};
-ghost use Rattle.lb_static.specs.Interfaces.{elements_in_all, elements_named, view_types};
-ghost use Rattle.lb_static.specs.DataTypes.{element_names, index_text, product};
+ghost use Rattle.std.specs.Prelude.{◌≡◌, ◌≤◌, ◌+◌, ◌++◌, map, length, reverse, string_bytes, OnOk, IfOk};
+ghost use Rattle.lb_static.specs.Interfaces.{elements_named};
+ghost use Rattle.lb_static.specs.DataTypes.{element_names, index_text, product, total};
+ghost use Rattle.lb_static.specs.StoredTypes.{view_type};
 
 use crate::data_type::DataType;
 use crate::signature::Signature;
@@ -10,28 +11,28 @@ use lb_syntax::{Kind, Name};
 use std::alloc::{AllocError, Global};
 
 /// The name of the element at an index: `x[1]`.
-fn name_at(alloc: Global, name: &str, index: u32) -> Result<String, AllocError>
+fn name_at(alloc: Global, name: &str, index: u64) -> Result<String, AllocError>
     ensures { IfOk result (λ named. string_bytes named ≡ name.now ++ index_text index) }
 {
     format!(in alloc; "{name}[{index}]")
 }
 
-/// Adds the scalar elements of a variable of this name, kind and sizes, the outermost first: `x`
+/// Adds the scalar elements of a variable of this name, kind and sizes, the outermost last: `x`
 /// alone for a scalar, and else `x[0]`, `x[1]` ..., the first index slowest.
 pub fn push_elements(
     alloc: Global,
     signature: &mut Signature,
     name: &str,
     kind: Kind,
-    sizes: &[u32],
+    sizes: &[u64],
 ) -> Result<(), AllocError>
-    requires { length signature.old + product sizes.now ≤ 1023 }
+    requires { length signature.old + product (reverse sizes.now) ≤ 1023 }
     ensures { OnOk result (signature.new
-        ≡ signature.old ++ map (λ x. (x, kind)) (element_names name.now sizes.now)) }
+        ≡ signature.old ++ map (λ x. (x, kind)) (element_names name.now (reverse sizes.now))) }
 {
     match sizes {
         [] => signature.push(String::from_str(alloc, name)?, kind),
-        [size, inner @ ..] => {
+        [inner @ .., size] => {
             for i in 0..*size {
                 let element = name_at(alloc, name, i)?;
                 push_elements(alloc, signature, element.as_str(), kind, inner)?;
@@ -47,9 +48,9 @@ pub fn elements(
     names: &[&Name],
     data_types: &[DataType],
 ) -> Result<Signature, AllocError>
-    requires { elements_in_all (view_types data_types.now) ≤ 1023 }
+    requires { total (map view_type data_types.now) ≤ 1023 }
     ensures { IfOk result (λ signature. signature
-        ≡ elements_named (map (λ x. x.now) names.now) (view_types data_types.now)) }
+        ≡ elements_named (map (λ x. x.now) names.now) (map view_type data_types.now)) }
 {
     let mut signature = Signature::new(alloc);
     for (name, data_type) in names.iter().zip(data_types) {

@@ -44,10 +44,10 @@ impl<'s> Interface<'s> {
       outputs_of,
       observes,
       is_one_truth_in,
-      view_types,
-      elements_in_all,
       elements_named,
     };
+    ghost use Rattle.lb_static.specs.DataTypes.{total};
+    ghost use Rattle.lb_static.specs.StoredTypes.{view_type};
 
     /// The inputs and outputs of a node. Where a size is no number there are no types: `Root`.
     pub fn new(
@@ -58,7 +58,8 @@ impl<'s> Interface<'s> {
         ensures { Answers view_interface (interface_under node.now statics.now) result }
     {
         let variables = interface_variables(node).ok_or(StaticError::Root)?;
-        let data_types = data_types(alloc, variables, statics)?;
+        let found = data_types(alloc, variables, statics)?;
+        let data_types = found.ok_or(StaticError::Root)?;
         let tree = node.tree;
         Ok(Interface {
             tree,
@@ -70,7 +71,7 @@ impl<'s> Interface<'s> {
 
     /// The types of the inputs.
     pub fn inputs(&self) -> &[DataType]
-        ensures { view_types result.now ≡ inputs_of (view_interface self.now) }
+        ensures { map view_type result.now ≡ inputs_of (view_interface self.now) }
     {
         &self.data_types[..self.inputs]
     }
@@ -90,16 +91,16 @@ impl<'s> Interface<'s> {
         self.is_plain && are_same(self.inputs(), &root.data_types) && self.has_property()
     }
 
-    /// How many scalar inputs there are; of more than 32 bits hold, the most that they hold.
+    /// How many scalar inputs there are, or 65,537 for more than 65,536.
     pub fn scalar_inputs(&self) -> u32
-        ensures { result ≡ min (elements_in_all (inputs_of (view_interface self.now))) 4294967295 }
+        ensures { result ≡ min (total (inputs_of (view_interface self.now))) 65537 }
     {
         element_count(self.inputs())
     }
 
     /// The scalar elements of the inputs, in order.
     pub fn signature(&self, alloc: Global) -> Result<Signature, AllocError>
-        requires { elements_in_all (inputs_of (view_interface self.now)) ≤ 1023 }
+        requires { total (inputs_of (view_interface self.now)) ≤ 1023 }
         ensures { IfOk result (λ signature. signature ≡ elements_named
             (map (λ d. d.name) (view_interface self.now).node.inputs)
             (inputs_of (view_interface self.now))) }

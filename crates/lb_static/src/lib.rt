@@ -29,6 +29,7 @@ mod resolving_terms;
 mod resolving_variables;
 mod scope;
 mod signature;
+mod slices;
 mod specializations;
 mod specialize;
 mod static_value;
@@ -36,6 +37,7 @@ mod table;
 mod valued_node;
 mod work_list;
 
+pub use data_type::{DataType, are_same, data_types, element_count, is_one_truth, size_product};
 pub use elab::Elab;
 pub use elaboration::elaborate;
 pub use error::StaticError;
@@ -45,6 +47,7 @@ pub use resolved::{
     CallId, CallSite, ResolvedNode, ResolvedStatement, Sampling, StaticId, Term, Variable,
     VariableId,
 };
-pub use signature::{Kind, Signature};
+pub use signature::Signature;
+pub use slices::part_of;
 pub use static_value::StaticInt;
 pub use table::{Instance, InstanceId, Origin, Specialization, SpecializationId, Table};

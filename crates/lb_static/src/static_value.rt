@@ -7,7 +7,7 @@ ghost use Rattle.std.specs.Prelude.{◌≡◌, pos};
 ghost use Rattle.lb_syntax.specs.View.{view_static};
 ghost use Rattle.lb_static.specs.Arithmetic.{arithmetic, is_divisible, lawful};
 ghost use Rattle.lb_static.specs.StaticRange.{IsWithinWord};
-ghost use Rattle.lb_static.specs.StaticValues.{value_under};
+ghost use Rattle.lb_static.specs.StaticValues.{value_under, natural};
 
 use lb_syntax::{BinaryOperator, Static};
 use std::marker::Model;
@@ -48,6 +48,13 @@ impl StaticInt {
         ensures within { IsWithinWord result }
     {
         self.value
+    }
+
+    /// The number, if it is without a sign.
+    pub fn natural(self) -> Option<u64>
+        ensures { result ≡ natural self }
+    {
+        u64::try_from(self.value).ok()
     }
 }
 

@@ -29,8 +29,7 @@ use Rattle.lb_syntax.proofs.Rows.{is_row}
 use Rattle.lb_syntax.proofs.Ends.{form_level, next_level, IsClear, Ends, EndsStatic, expect_other}
 use Rattle.lb_syntax.proofs.Ends.{ends_mark, ends_close, ends_close_bracket, ends_comma, ends_then}
 use Rattle.lb_syntax.proofs.Ends.{ends_else, form_next, form_clear}
-pub use Rattle.lb_syntax.proofs.StaticComplete.{static_reads, statics_reads, size_reads}
-pub use Rattle.lb_syntax.proofs.StaticComplete.{clock_reads, EndsStatics}
+pub use Rattle.lb_syntax.proofs.StaticComplete.{static_reads, size_reads, clock_reads}
 use Rattle.lb_syntax.proofs.StaticComplete.{len, bracketed_reads, applied_reads}
 use Rattle.lb_syntax.proofs.Places.{IsBelow, below_left, below_none, last_one, level_last}
 use Rattle.lb_syntax.proofs.Rooms.{depth, depth_all, depth_one, spine, room, expr_shorter}

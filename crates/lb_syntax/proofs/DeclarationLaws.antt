@@ -1,6 +1,7 @@
 -- What is read of declarations is spelled, what is spelled is read.
 use Rattle.std.proofs.Common.{◌≡◌, ◌⊎◌, inl, inr, Bool, true, false, List, [], ◌∷◌, Option, Some}
 use Rattle.std.proofs.Common.{None, refl, ap, sym, ◌∙◌, subst, arith}
+use Rattle.std.proofs.lemmas.Option.{cond_some}
 use Rattle.lb_syntax.specs.declared.token.Mark.{Mark}
 use Rattle.lb_syntax.specs.declared.token.Mark.TheVariants as m
 use Rattle.lb_syntax.specs.declared.token.Token.{Token}
@@ -17,7 +18,7 @@ use Rattle.lb_syntax.specs.ListReading.{at_next_local, any_at}
 use Rattle.lb_syntax.specs.Programs.{names_at, kind_by, kind_at, when_by, when_at, group_at}
 use Rattle.lb_syntax.specs.Programs.{groups_at, inputs_by, inputs_at, closed_group_at, locals_by}
 use Rattle.lb_syntax.specs.Programs.{locals_at}
-use Rattle.lb_syntax.proofs.Readers.{some, bind_some, cond_some, expect_is, name_read}
+use Rattle.lb_syntax.proofs.Readers.{some, bind_some, expect_is, name_read}
 use Rattle.lb_syntax.proofs.Spans.{made_is, mark_reads, name_reads, Takes, takes_mark, takes_name}
 use Rattle.lb_syntax.proofs.Spans.{takes_nothing, takes_then, takes_either, takes_may, takes_tail}
 use Rattle.lb_syntax.proofs.Spans.{takes_list, takes_less, takes_any}

@@ -1,12 +1,9 @@
 -- A list after some items.
 use Rattle.std.proofs.Common.{◌≡◌, ℕ, suc, List, [], ◌∷◌, ◌++◌, map, Option, Some, None, refl, ap}
+use Rattle.std.proofs.lemmas.List.{append-nil}
 use Rattle.lb_syntax.specs.declared.token.Token.{Token}
 use Rattle.lb_syntax.specs.Readers.{◌>>=◌, Reader}
 use Rattle.lb_syntax.specs.Reading.{with_front, tail_at}
-
-append-nil : {A : Type 0} (xs : List A) → xs ++ [] ≡ xs
-append-nil [] = refl
-append-nil (x ∷ xs) = ap (λ z. x ∷ z) (append-nil xs)
 
 -- nothing more
 pub front_end : {A : Type 0} (front : List A) (rest : List Token) →

@@ -1,3 +1,6 @@
+pub mod TruthValues
+pub mod SameNames
+pub mod ListPlaces
 pub mod Readers
 pub mod Turns
 pub mod Fronts

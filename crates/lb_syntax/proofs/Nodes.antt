@@ -28,6 +28,7 @@ use Rattle.lb_syntax.proofs.Sound.{expression_read}
 use Rattle.lb_syntax.proofs.Ends.{ends_mark, ends_semicolon}
 use Rattle.lb_syntax.proofs.Complete.{expression_reads}
 use Rattle.lb_syntax.proofs.Rooms.{expr_shorter}
+use Rattle.lb_syntax.proofs.Steps.{separator_reads}
 
 -- ---- static parameters
 
@@ -70,18 +71,13 @@ either_is : (ts start : List Token) (o p : Option (List Token)) → expect m.Com
 either_is ts start (Some rest) p is not h = inl (expect_is m.Comma ts start (is ∙ h))
 either_is ts start None p is not h = inr (expect_is m.Semicolon ts start (not ∙ h))
 
-either_reads : (ts start : List Token) → IsSeparator ts start → separator ts ≡ Some start
-unfolding at_next_statement separator expect
-either_reads ts start (inl s) = rw s refl
-either_reads ts start (inr s) = rw s refl
-
 parameter_laws : GoWith IsSeparator IsParameter Anywhere separator parameter_at
 unfolding at_next_statement separator
 parameter_laws = record {
   next_is = λ ts start h.
       either_is ts start (expect m.Comma ts) (expect m.Semicolon ts) refl refl h;
   item_is = parameter_read;
-  goes_on = λ x ts start rest s i. either_reads ts start s;
+  goes_on = λ x ts start rest s i. separator_reads ts start s;
   closed = λ x ts start rest s i. tt;
   reads = λ x ts rest s c. parameter_reads x ts rest s;
   shorter = λ x ts start rest s i.

@@ -1,7 +1,7 @@
 -- What a reader that did not fail has read.
-use Rattle.std.proofs.Common.{◌≡◌, Bool, true, false, cond, List, [], ◌∷◌, Option, Some, None, refl}
-use Rattle.std.proofs.Common.{ap, rules}
+use Rattle.std.proofs.Common.{◌≡◌, List, [], ◌∷◌, Option, Some, None, refl, ap, rules}
 use denote.Enum.Bare.{sameb, same_true, true_same}
+use Rattle.std.proofs.lemmas.Option.{cond_some}
 use Rattle.lb_syntax.specs.contracts.token.Mark.{the_type}
 use Rattle.lb_syntax.specs.declared.token.Mark.{Mark}
 use Rattle.lb_syntax.specs.declared.token.Token.{Token}
@@ -19,11 +19,6 @@ pub bind_some : {A B : Type 0} (o : Option A) (f : A → Option B) (y : B) →
     (o >>= f) ≡ Some y → (x : A) × (o ≡ Some x) × (f x ≡ Some y)
 bind_some (Some x) f y e = (x, refl, e)
 bind_some None f y e = absurd cc
-
-pub cond_some : {A : Type 0} (b : Bool) (x y : A) → cond b (Some x) None ≡ Some y
-    → (b ≡ true) × (x ≡ y)
-cond_some true x y h = (refl, cc)
-cond_some false x y h = absurd cc
 
 pub expect_is : (m : Mark) (ts rest : List Token) → expect m ts ≡ Some rest
     → ts ≡ token.Mark m ∷ rest

@@ -231,11 +231,6 @@ static_reads s ts rest is ends =
 
 -- ---- lists of static expressions, sizes and clocks
 
--- nothing that goes on with a list of static expressions
-pub record EndsStatics (rest : List Token) : Type 0 where
-  pub none : EndsStatic rest
-  pub last : separator rest ≡ None
-
 pub static_shorter : (s : Static) (ts rest : List Token) → IsStatic s ts rest
     → length rest < length ts
 static_shorter s ts rest is = omega (arith, static_room s ts rest is, static_depth_one s)
@@ -259,10 +254,6 @@ statics_at_reads ss ts rest is ends last =
     separator_ends separator_room
     (λ s us vs p. let lt = static_shorter s us vs p in omega arith)
     (λ s us vs _ p e. static_reads s us vs p e) ss ts rest (any_statics ss) is ends last
-
-pub statics_reads : (ss : List Static) (ts rest : List Token) → AreStatics ss ts rest →
-    EndsStatics rest → statics_at ts ≡ Some (ss, rest)
-statics_reads ss ts rest is ends = statics_at_reads ss ts rest is ends.none ends.last
 
 pub size_reads : (n : Static) (ts rest : List Token) → IsSize n ts rest →
     size_at ts ≡ Some (n, rest)

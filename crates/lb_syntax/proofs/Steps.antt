@@ -3,7 +3,6 @@ use Rattle.std.proofs.Common.{◌≡◌, ℕ, suc, zero, ◌≤◌, ◌<◌, Boo
 use Rattle.std.proofs.Common.{Option, Some, None, inl, inr, refl, ap, subst, ◌∙◌, arith}
 use Rattle.std.specs.Prelude.{◌≢◌, bytes_eq}
 use Rattle.std.proofs.lemmas.Bool.Decides.{nat_tests}
-use Rattle.std.proofs.lemmas.Slice.Eq.{bytes_eq-Decides}
 use Rattle.lb_syntax.specs.declared.token.Mark.TheVariants as m
 use Rattle.lb_syntax.specs.declared.token.Token.{Token}
 use Rattle.lb_syntax.specs.declared.token.Token.TheVariants as token
@@ -15,6 +14,7 @@ use Rattle.lb_syntax.specs.Reading.{Step, Stop, More, Fault, grown, goes_on, cli
 use Rattle.lb_syntax.specs.Reading.{separator, static_takes, takes, arithmetic_at, form_at}
 use Rattle.lb_syntax.specs.Reading.{iterator_of}
 use Rattle.lb_syntax.proofs.Readers.{some, some_is, expect_is, expect_same}
+use Rattle.lb_syntax.proofs.SameNames.{name_same, same_name}
 
 -- ---- climbs
 
@@ -118,14 +118,8 @@ separator_reads ts rest (inr e) =
 
 -- ---- names of iterators
 
-same_bytes : (x y : Name) → bytes_eq x y ≡ true → x ≡ y
-same_bytes x y = (bytes_eq-Decides x y).0
-
-bytes_same : (x y : Name) → x ≡ y → bytes_eq x y ≡ true
-bytes_same x y = (bytes_eq-Decides x y).1
-
 other_bytes : (x y : Name) → bytes_eq x y ≡ false → x ≢ y
-other_bytes x y h e = let t = bytes_same x y e in absurd cc
+other_bytes x y h e = let t = same_name x y e in absurd cc
 
 abbrev choose : Bool → Bool → Bool → Option ArrayIterator
 choose a b c = cond a (Some Map) (cond b (Some Red) (cond c (Some Fill) None))
@@ -133,10 +127,10 @@ choose a b c = cond a (Some Map) (cond b (Some Red) (cond c (Some Fill) None))
 chosen : (x : Name) (i : ArrayIterator) (a b c : Bool) → bytes_eq x (iterator_name Map) ≡ a →
     bytes_eq x (iterator_name Red) ≡ b → bytes_eq x (iterator_name Fill) ≡ c →
     choose a b c ≡ Some i → x ≡ iterator_name i
-chosen x i true b c p q r h = subst (λ z. x ≡ iterator_name z) (some_is h) (same_bytes x _ p)
-chosen x i false true c p q r h = subst (λ z. x ≡ iterator_name z) (some_is h) (same_bytes x _ q)
+chosen x i true b c p q r h = subst (λ z. x ≡ iterator_name z) (some_is h) (name_same x _ p)
+chosen x i false true c p q r h = subst (λ z. x ≡ iterator_name z) (some_is h) (name_same x _ q)
 chosen x i false false true p q r h =
-    subst (λ z. x ≡ iterator_name z) (some_is h) (same_bytes x _ r)
+    subst (λ z. x ≡ iterator_name z) (some_is h) (name_same x _ r)
 chosen x i false false false p q r h = absurd cc
 
 pub iterator_read : (x : Name) (i : ArrayIterator) → iterator_of x ≡ Some i → x ≡ iterator_name i

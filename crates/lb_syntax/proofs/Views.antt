@@ -12,7 +12,7 @@ use Rattle.lb_syntax.specs.Tree as tree
 use Rattle.lb_syntax.specs.View.{view, view_row, view_static, view_statics, view_operator}
 use Rattle.lb_syntax.specs.Reading.{exprs}
 
-view_row-items : (n : _) (row : Row_of-Expr n) → view_row row
+pub view_row-items : (n : _) (row : Row_of-Expr n) → view_row row
     ≡ exprs (map view (items-the_row-Expr n row))
 view_row-items n end_of-Expr = refl
 view_row-items n (more_of-Expr e rest) =

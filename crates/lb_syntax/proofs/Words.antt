@@ -1,12 +1,13 @@
 -- Words that are looked up among those of their length, symbols, and the values of literals.
-use Rattle.std.proofs.Common.{◌≡◌, ℕ, ◌+◌, ◌-◌, ◌*◌, ◌<◌, ◌≤◌, min, ◌==◌, Bool, true, false, ◌&&◌}
-use Rattle.std.proofs.Common.{List, [], ◌∷◌, ◌++◌, filter, fold, length, take, get_or, slice_index}
-use Rattle.std.proofs.Common.{Option, Some, None, bytes_eq, refl, ap, sym, ◌∙◌, inl, inr, arith}
+use Rattle.std.proofs.Common.{◌≡◌, ℕ, ◌+◌, ◌-◌, ◌*◌, ◌<◌, ◌≤◌, min, ◌==◌, Bool, true, List, [], ◌∷◌}
+use Rattle.std.proofs.Common.{◌++◌, filter, fold, length, take, get_or, slice_index, Option, Some}
+use Rattle.std.proofs.Common.{None, bytes_eq, refl, ap, sym, ◌∙◌, inl, inr, arith}
 use Rattle.std.specs.List.{list_all}
 use Rattle.std.proofs.lemmas.Bool.{eq-eqb, eqb-true, and_parts, cases_Bool, both_ways}
 use Rattle.std.proofs.lemmas.List.Sums.{fold_more}
 use lib.Pointwise.{pointwise_long}
 use lib.Dec.{eqb}
+use Rattle.std.proofs.Math.Bool.{and-false}
 use Rattle.lb_syntax.specs.declared.token.Mark.{Mark}
 use Rattle.lb_syntax.specs.declared.token.Token.TheVariants as token
 use Rattle.lb_syntax.specs.Tokens.{Text, Piece, Lexeme, Wrong, words, lookup, word, word_by}
@@ -61,13 +62,9 @@ symbol_by_lookup n (entry ∷ table) later text all =
           (and_parts (length entry.0 == n) (are_long n table) all).1)
     ]
 
-false_after : (b : Bool) → (b && false) ≡ false
-false_after true = refl
-false_after false = refl
-
 -- no symbol of two bytes ends in 0, and none has one byte
 no_pair : (b : ℕ) → lookup pairs (b ∷ []) ≡ lookup pairs (b ∷ 0 ∷ [])
-no_pair b = simp false_after
+no_pair b = simp and-false
 
 first_two : (text : Text) → 0 < length text →
     lookup pairs (take 2 text) ≡ lookup pairs (slice_index text 0 ∷ slice_index text 1 ∷ [])

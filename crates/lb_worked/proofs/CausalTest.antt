@@ -3,7 +3,7 @@
 use Rattle.std.proofs.Common.{◌≡◌, ℕ, zero, suc, ◌<◌, inl, inr, Bool, true, ◌&&◌, ◌||◌, not, nat_lt}
 use Rattle.std.proofs.Common.{if◌then◌else◌, List, [], ◌∷◌, length, map, Some, refl, subst, arith}
 use Rattle.std.specs.List.{list_all, list_any}
-use Rattle.std.proofs.lemmas.Bool.{and_parts}
+use Rattle.std.proofs.lemmas.Bool.{and_parts, ltb-true}
 use Rattle.lb_syntax.specs.Lists.{Every, In}
 use Rattle.lb_syntax.specs.Refusals.{E13}
 use Rattle.lb_syntax.specs.Tree.{Name}
@@ -59,9 +59,6 @@ one_of f x [] h i = absurd i
 one_of f x (y ∷ ys) h (inl e) = subst (λ z. f z ≡ true) e (and_parts (f y) (list_all f ys) h).0
 one_of f x (y ∷ ys) h (inr i) = one_of f x ys (and_parts (f y) (list_all f ys) h).1 i
 
-is_less : (n m : ℕ) → nat_lt n m ≡ true → n < m
-is_less n m e = grind arith
-
 module _ (rank : Element → ℕ) where
   -- a definition's element stands above all that it needs
   abbrev stands_above : Definition → Bool
@@ -76,7 +73,7 @@ module _ (P : Program) (rank : Element → ℕ) (h : is_ranked rank (definitions
       let d = n.by in
       let above = one_of (stands_above rank) d (definitions P) h n.stands in
       let less = one_of (λ y. nat_lt (rank y) (rank d.element)) y d.needed above n.names in
-      subst (λ z. rank y < rank z) n.is_of (is_less (rank y) (rank d.element) less)
+      subst (λ z. rank y < rank z) n.is_of (ltb-true (rank y) (rank d.element) less)
 
   far_below : (y x : Element) → Reaches P y x → rank y < rank x
   far_below y _ (at_once x n) = below x y n

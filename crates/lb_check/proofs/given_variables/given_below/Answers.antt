@@ -1,4 +1,4 @@
-use Rattle.std.proofs.Common.{sym, ap, ◌∙◌, arith}
+use Rattle.std.proofs.Common.{sym, arith}
 use Rattle.lb_check.specs.StoredClocks.{given_in}
 use Rattle.lb_check.proofs.GivenRows.{given_more, given_end}
 use Rattle.lb_check.proofs.given_variables.given_below.Goals as goal

@@ -1,6 +1,7 @@
-use Rattle.std.proofs.Common.{◌≡◌, None, refl, ap, sym, ◌∙◌}
+use Rattle.std.proofs.Common.{None, refl, ap, sym, ◌∙◌}
 use Rattle.std.specs.Prelude.{option_map}
-use Rattle.lb_check.specs.StoredTypes.{view_type, context_in}
+use Rattle.lb_static.specs.StoredTypes.{view_type}
+use Rattle.lb_check.specs.StoredTypes.{context_in}
 use Rattle.lb_check.proofs.OneType.{equation_of_one}
 use Rattle.lb_check.proofs.type_rules.is_variable_equal.Goals as goal
 

@@ -1,6 +1,7 @@
 use Rattle.std.proofs.Common.{ap, sym, ◌∙◌}
 use Rattle.std.specs.Prelude.{option_map}
-use Rattle.lb_check.specs.StoredTypes.{context_in, view_type}
+use Rattle.lb_static.specs.StoredTypes.{view_type}
+use Rattle.lb_check.specs.StoredTypes.{context_in}
 use Rattle.lb_check.specs.TermTypes.{left_types}
 use Rattle.lb_check.proofs.TypeLists.{gathers_more}
 use Rattle.lb_check.proofs.type_rules.left_types.Goals as goal

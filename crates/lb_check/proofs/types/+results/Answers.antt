@@ -1,6 +1,7 @@
 use Rattle.std.proofs.Common.{◌≡◌, IfOk, ap, sym, subst, ◌∙◌}
 use Rattle.std.specs.Prelude.{option_map}
-use Rattle.lb_check.specs.StoredTypes.{view_types, context_in}
+use Rattle.lb_static.specs.StoredTypes.{view_types}
+use Rattle.lb_check.specs.StoredTypes.{context_in}
 use Rattle.lb_check.specs.TermTypes as mirror
 use Rattle.lb_check.proofs.TypeRows.{results_of_row}
 use Rattle.lb_check.proofs.types.+results.Goals as goal

@@ -1,7 +1,8 @@
 use Rattle.std.proofs.Common.{◌≡◌, IfOk, Some, None, inr, map, ap, sym, subst, ◌∙◌}
 use Rattle.std.specs.Prelude.{option_map}
 use Rattle.lb_syntax.specs.Lists.{◌>>=◌}
-use Rattle.lb_check.specs.StoredTypes.{view_type, view_types, context_in}
+use Rattle.lb_static.specs.StoredTypes.{view_type, view_types}
+use Rattle.lb_check.specs.StoredTypes.{context_in}
 use Rattle.lb_check.specs.TermTypes as mirror
 use Rattle.lb_check.specs.TermTypes.{type_of, types_of}
 use Rattle.lb_check.specs.Types.{list_type, only, singly}

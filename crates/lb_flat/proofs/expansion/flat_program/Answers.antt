@@ -1,6 +1,7 @@
 -- What is emitted from the rows of a checked program is its expansion.
 use Rattle.std.proofs.Common.{◌≡◌, ℕ, ap, ap₂, refl, rules, sym, subst, ◌∙◌}
 use Rattle.std.specs.Prelude.{false, true}
+use Rattle.std.proofs.lemmas.Result.{IfOk-weaker as then_ok}
 use Rattle.lb_static.specs.Elaborated.{elaborated_program}
 use Rattle.lb_static.specs.Signature.{kinds_of}
 use Rattle.lb_static.specs.declared.table.Table.{Table}
@@ -11,8 +12,8 @@ use Rattle.lb_flat.specs.Rows.{called_row, child_row}
 use Rattle.lb_flat.specs.Within.{AreClocks}
 use Rattle.lb_flat.specs.declared.clocks.Clocks.{Clocks}
 use Rattle.lb_flat.specs.declared.layout.Layout.{Layout}
-use Rattle.lb_flat.proofs.ReadyProgram.{first_there, frame_emittable, framed_emit}
-use Rattle.lb_flat.proofs.ReadyProgram.{framed_expansion, no_frame, then_ok}
+use Rattle.lb_flat.proofs.ReadyProgram.{first_there, frame_emittable, framed_emit, framed_expansion}
+use Rattle.lb_flat.proofs.ReadyProgram.{no_frame}
 use Rattle.lb_flat.proofs.expansion.flat_program.Goals as goal
 
 pub unreachable-requires : goal.unreachable-requires

@@ -2,8 +2,8 @@ use Rattle.std.proofs.Common.{◌≡◌, Bool, true, false, map, Some, refl, ap,
 use Rattle.std.specs.Prelude.{◌&&◌, nat_le}
 use Rattle.std.proofs.lemmas.Result.{err_from_is_err_and}
 use Rattle.lb_syntax.specs.Lists.{either_or, where_true}
-use Rattle.lb_static.specs.Interfaces.{view_interface, inputs_of, elements_in_all, elements_named}
-use Rattle.lb_static.specs.Interfaces.{property_in}
+use Rattle.lb_static.specs.DataTypes.{total}
+use Rattle.lb_static.specs.Interfaces.{view_interface, inputs_of, elements_named, property_in}
 use Rattle.lb_static.proofs.RootFaults.{fault_for}
 use Rattle.lb_static.proofs.InterfaceRules.{too_many, few_enough}
 use Rattle.lb_static.proofs.check_interface.interface_signature.Goals as goal
@@ -26,12 +26,12 @@ returns-then-not-root c =
     let elements = elements_named (map (λ d. d.name) root.node.inputs) (inputs_of root) in
     elim c.then-not-root.branch [
       | then-not-root-via-then-not-root w ↦ ap
-          (λ b. where_true (b && (nat_le (elements_in_all (inputs_of root)) 1023 && so)) elements)
+          (λ b. where_true (b && (nat_le (total (inputs_of root)) 1023 && so)) elements)
           w.if-not-root.true
       | then-not-root-via-else-not-root+then-scalar_inputs-gt-MOST w ↦
           ap (λ b. where_true b elements)
           (ap (λ b. root.is_plain && (b && so))
-          (too_many (elements_in_all (inputs_of root)) w.scalar_inputs.result
+          (too_many (total (inputs_of root)) w.scalar_inputs.result
           w.scalar_inputs.ensures w.if-scalar_inputs-gt-MOST.true)
           ∙ few root.is_plain so)
     ]
@@ -40,7 +40,7 @@ pub returns-in_err-has_property : goal.returns-in_err-has_property
 returns-in_err-has_property c =
     let p = err_from_is_err_and c.from_residual.result c.from_residual.ensures.1 in
     let root = view_interface c.args.root.now in
-    let within = nat_le (elements_in_all (inputs_of root)) 1023 in
+    let within = nat_le (total (inputs_of root)) 1023 in
     let elements = elements_named (map (λ d. d.name) root.node.inputs) (inputs_of root) in
     rw (p.1, p.2) (fault_for c.in_err-has_property.field-0.0 c.in_err-has_property.ensures
     (λ e. ap (λ b. where_true b elements)
@@ -49,7 +49,7 @@ returns-in_err-has_property c =
 pub returns-then-not-branch : goal.returns-then-not-branch
 returns-then-not-branch c =
     let root = view_interface c.args.root.now in
-    let within = nat_le (elements_in_all (inputs_of root)) 1023 in
+    let within = nat_le (total (inputs_of root)) 1023 in
     let elements = elements_named (map (λ d. d.name) root.node.inputs) (inputs_of root) in
     ap (λ b. where_true b elements)
     (ap (λ o. root.is_plain && (within && either_or o false)) c.in_ok-has_property.ensures
@@ -59,12 +59,12 @@ pub returns : goal.returns
 returns c =
     let root = view_interface c.args.root.now in
     let elements = elements_named (map (λ d. d.name) root.node.inputs) (inputs_of root) in
-    let within = few_enough (elements_in_all (inputs_of root)) c.scalar_inputs.result
+    let within = few_enough (total (inputs_of root)) c.scalar_inputs.result
     c.scalar_inputs.ensures c.if-scalar_inputs-gt-MOST.false in
     let passes =
-    ap (λ o. root.is_plain && (nat_le (elements_in_all (inputs_of root)) 1023 && either_or o false))
+    ap (λ o. root.is_plain && (nat_le (total (inputs_of root)) 1023 && either_or o false))
     c.in_ok-has_property.ensures
-    ∙ ap (λ b. b && (nat_le (elements_in_all (inputs_of root)) 1023
+    ∙ ap (λ b. b && (nat_le (total (inputs_of root)) 1023
     && c.in_ok-has_property.field-0)) c.if-not-root.false
     ∙ ap (λ b. b && c.in_ok-has_property.field-0) within.1 ∙ c.if-not-branch.false in
     ap (λ b. where_true b elements) passes ∙ ap (λ s. Some s) (sym c.in_ok-signature.ensures)

@@ -1,10 +1,11 @@
-use Rattle.std.proofs.Common.{◌-◌, length, take, drop, ◌∙◌}
+use Rattle.std.proofs.Common.{◌-◌, length, take, ◌∙◌}
+use Rattle.std.specs.Prelude.{reverse}
 use Rattle.lb_static.proofs.ElementNames.{one_index, count_more}
 use Rattle.lb_static.proofs.element_names.+push_elements.Goals as goal
 
 pub loop-i-preserved : goal.loop-i-preserved
 loop-i-preserved t c =
-    let inner = take (length c.args.sizes.now - 1) (drop 1 c.args.sizes.now) in
+    let inner = reverse (take (length c.args.sizes.now - 1) c.args.sizes.now) in
     let first = c.args.signature.now in
     let before = c.loop-i.signature in
     let after = c.push_elements.new.signature in

@@ -1,11 +1,12 @@
 use Rattle.std.proofs.Common.{◌≡◌, ℕ, ◌+◌, ◌++◌, ◌≤◌, List, length, drop, map, ap, ◌∙◌, sym, subst}
+use Rattle.std.specs.Prelude.{reverse}
 use Rattle.std.specs.Slice.Iter.{iter_rest}
 use Rattle.std.specs.Iterator.Adapters.{zip_first, zip_second}
 use Rattle.std.proofs.lemmas.List.{length_push}
 use Rattle.std.proofs.lemmas.Slice.Zip.{zip_turn, zip_end}
 use Rattle.lb_syntax.specs.Tree.{Name}
-use Rattle.lb_static.specs.DataTypes.{element_names}
-use Rattle.lb_static.specs.Interfaces.{elements_in_all, view_types}
+use Rattle.lb_static.specs.DataTypes.{element_names, total}
+use Rattle.lb_static.specs.StoredTypes.{view_type}
 use Rattle.lb_static.proofs.ElementNames.{named_from, one_variable, has_room_after, all_variables}
 use Rattle.lb_static.proofs.element_names.elements.Goals as goal
 
@@ -28,7 +29,7 @@ loop-name-preserved c =
     c.in-Some.is c.next.ensures.steps in
     let more = length_push c.loop-name.yielded (c.in-Some.name, c.in-Some.data_type) in
     let element = λ (x : Name) (ns : List ℕ). c.loop-name.signature
-    ++ map (λ n. (n, c.in-Some.data_type.now.kind)) (element_names x ns) in
+    ++ map (λ n. (n, c.in-Some.data_type.now.kind)) (element_names x (reverse ns)) in
     let pushed : c.push_elements.new.signature
     ≡ element c.in-Some.name.now.now c.in-Some.data_type.now.sizes.items =
     c.in_ok-push_elements.ensures ∙ ap (λ x. element x c.deref.result.now) c.as_str.ensures
@@ -47,7 +48,7 @@ loop-name-preserved c =
       subst (λ i. c.push_elements.new.signature ++ named_from names data_types i
           ≡ named_from names data_types 0) (sym more) so_far,
       subst (λ i. length c.push_elements.new.signature
-          + elements_in_all (view_types (drop i data_types)) ≤ 1023) (sym more) room,
+          + total (map view_type (drop i data_types)) ≤ 1023) (sym more) room,
     )
 
 pub returns : goal.returns

@@ -4,7 +4,7 @@ use Rattle.std.proofs.Common.{Vec, ℕ, List, refl, ap, sym, subst, ◌∙◌, a
 use Rattle.std.specs.Prelude.{slice_get, IfSome, option_map}
 use Rattle.std.specs.List.{list_all}
 use Rattle.std.specs.declared.alloc.Global.{Global}
-use Rattle.std.proofs.lemmas.List.{length-append, length-map, append-nil}
+use Rattle.std.proofs.lemmas.List.{length-append, length-map, append-nil, append_assoc}
 use Rattle.std.proofs.lemmas.List.Elements.{All-get_or}
 use Rattle.std.proofs.lemmas.List.Sums.{AllPass-from_list_all}
 use Rattle.std.proofs.lemmas.Option.{get_or_from_slice_get, slice_get-get_or, slice_get-map}
@@ -23,9 +23,7 @@ use Rattle.lb_static.specs.InstanceRows.{begun_row, HasRows}
 use Rattle.lb_static.specs.declared.resolved.CallSite.{CallSite}
 use Rattle.lb_static.specs.declared.resolved.ResolvedNode.{ResolvedNode}
 use Rattle.lb_static.specs.declared.table.SpecializationId.{SpecializationId}
-use Rattle.lb_static.proofs.Lists.{append_assoc}
-use Rattle.lb_static.proofs.InstanceSteps.{element_all, elsewhere, memory_alone, ok_when}
-use Rattle.lb_static.proofs.InstanceSteps.{some_known_later}
+use Rattle.lb_static.proofs.InstanceSteps.{elsewhere, memory_alone, ok_when, some_known_later}
 use Rattle.lb_static.proofs.InstanceCalls.{entered_none, entered_more, refused_here, refused_below}
 use Rattle.lb_static.proofs.InstanceCalls.{all_entered, of_calls, below, of_indexes, index_step}
 use Rattle.lb_static.proofs.InstanceCalls.{call_step, calls_all}
@@ -39,6 +37,7 @@ use Rattle.lb_static.proofs.LinkedSpecializations.{called_next, all_called}
 use Rattle.lb_static.proofs.SiteCounts.{entered_once}
 use Rattle.lb_static.proofs.instantiate.+enter.Goals as goal
 use Rattle.lb_static.proofs.instantiate.+enter.Goals.{in-Some+in_ok-push, in_default}
+use Rattle.lb_static.proofs.ReachedPlaces.{all_item as element_all}
 
 -- what stands past the calls
 abbrev no_call : CallSite

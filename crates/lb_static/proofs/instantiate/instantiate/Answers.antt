@@ -5,6 +5,7 @@ use Rattle.std.proofs.lemmas.Result.{err_from_is_err_and}
 use Rattle.std.proofs.lemmas.Option.{slice_get_past, slice_get-map}
 use Rattle.std.specs.Prelude.{slice_get, option_map}
 use Rattle.lb_syntax.specs.Lists.{◌>>=◌}
+use Rattle.lb_syntax.proofs.ListPlaces.{item_at as there_is}
 use Rattle.lb_static.specs.Instances.{Program, Root, Observer, instances_from}
 use Rattle.lb_static.specs.InstanceTable.{instance_of, CallersStandBefore}
 use Rattle.lb_static.specs.ReachedNodes.{tree_at}
@@ -19,9 +20,8 @@ use Rattle.lb_static.proofs.LinkedSpecializations.{none_linked, are_specialized}
 use Rattle.lb_static.proofs.InstanceSteps.{known_later}
 use Rattle.lb_static.proofs.WholeInstantiation.{instantiable, none_judged, root_is, observer_is}
 use Rattle.lb_static.proofs.WholeInstantiation.{no_observer, refused_first, refused_second}
-use Rattle.lb_static.proofs.WholeInstantiation.{instantiated_alone, instantiated_both, there_is}
-use Rattle.lb_static.proofs.WholeInstantiation.{has_starts, observer_stands, none_stands, alone_are}
-use Rattle.lb_static.proofs.WholeInstantiation.{both_are}
+use Rattle.lb_static.proofs.WholeInstantiation.{instantiated_alone, instantiated_both, has_starts}
+use Rattle.lb_static.proofs.WholeInstantiation.{observer_stands, none_stands, alone_are, both_are}
 use Rattle.lb_static.proofs.instantiate.instantiate.Goals as goal
 use Rattle.lb_static.proofs.instantiate.instantiate.Goals.{in-Some+in_ok-id-in-Some, in_default-2}
 use Rattle.lb_static.proofs.instantiate.instantiate.Goals.{in_default, In_ok-root}

@@ -2,6 +2,8 @@
 use Rattle.std.proofs.Common.{◌≡◌, true, Ok, Vec, Global, List, map, ap, sym, subst}
 use Rattle.std.specs.List.{list_all}
 use Rattle.std.proofs.lemmas.Result.{err_from_is_err_and}
+use Rattle.std.proofs.lemmas.Bool.{and_from as both, and_left as false_first}
+use Rattle.std.proofs.lemmas.Bool.{and_right as false_second}
 use Rattle.lb_syntax.specs.Tree as tree
 use Rattle.lb_syntax.specs.Tree.{Name}
 use Rattle.lb_syntax.specs.View.{view}
@@ -17,7 +19,6 @@ use Rattle.lb_static.specs.declared.resolved.Term.{Term}
 use Rattle.lb_static.specs.declared.resolved.VariableId.{VariableId}
 use Rattle.lb_static.proofs.Faults.{fault_within}
 use Rattle.lb_static.proofs.Growth.{same_two}
-use Rattle.lb_static.proofs.Lists.{both, false_first, false_second}
 use Rattle.lb_static.proofs.resolving_statements.resolve_statement.Goals as goal
 
 -- an equation, of the places of its left side and of the term of its right side

@@ -3,6 +3,8 @@ use Rattle.std.proofs.Common.{◌≡◌, ◌+◌, Bool, Ok, refl, Vec, Global, O
 use Rattle.std.proofs.Common.{take, ap, sym, subst, ◌∙◌}
 use Rattle.std.proofs.lemmas.Result.{err_from_is_err_and}
 use Rattle.std.specs.Prelude.{◌&&◌, Box, Err, IsErrAnd, Result, length, nat_lt}
+use Rattle.std.proofs.lemmas.Bool.{and_from as both, and_left as false_first}
+use Rattle.std.proofs.lemmas.Bool.{and_right as false_second}
 use Rattle.lb_syntax.specs.Tree as tree
 use Rattle.lb_syntax.specs.Tree.{Name}
 use Rattle.lb_syntax.specs.View.{view, view_operator, view_static}
@@ -31,7 +33,6 @@ use Rattle.lb_static.specs.Progressed.{progress}
 use Rattle.lb_static.specs.declared.resolved.Term.{Term}
 use Rattle.lb_static.proofs.Faults.{fault_within}
 use Rattle.lb_static.proofs.Growth.{same_two}
-use Rattle.lb_static.proofs.Lists.{both, false_first, false_second}
 use Rattle.lb_static.proofs.Resolutions.{Done, AllDone, SoFar, site_for, call_done, size_done}
 use Rattle.lb_static.proofs.Resolutions.{sized_call_done, call_term_done, iterate_node_done}
 use Rattle.lb_static.proofs.Resolutions.{iterate_symbol_done, fault_after_call, fault_after_node}

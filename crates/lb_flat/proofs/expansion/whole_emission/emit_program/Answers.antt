@@ -11,11 +11,11 @@ use Rattle.lb_flat.specs.Judging.{FlatProgram}
 use Rattle.lb_flat.specs.Programs.{numbers_of, flat_equations, program_of}
 use Rattle.lb_flat.specs.TermEmissions.{state_of}
 use Rattle.lb_flat.specs.Within.{IsWithin, AreClocks}
-use Rattle.lb_flat.proofs.EmittedBeginning.{clocks_later, elements_later, kinds_counted}
-use Rattle.lb_flat.proofs.EmittedBeginning.{whole_made}
+use Rattle.lb_flat.proofs.EmittedBeginning.{clocks_later, kinds_counted, whole_made}
 use Rattle.lb_flat.proofs.EmittedNumbers.{rows_grow}
 use Rattle.lb_flat.proofs.EmittedStacks.{equations_later}
 use Rattle.lb_flat.proofs.expansion.whole_emission.emit_program.Goals as goal
+use Rattle.lb_flat.proofs.Emitting.{elements_later}
 
 pub rows-requires-clause-clocks : goal.rows-requires-clause-clocks
 rows-requires-clause-clocks g c =

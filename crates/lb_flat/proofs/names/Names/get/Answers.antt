@@ -4,9 +4,9 @@ use Rattle.std.specs.Prelude.{string_bytes}
 use Rattle.std.specs.List.{slice_range}
 use Rattle.lb_flat.specs.Ledger.{cut, place}
 use Rattle.lb_flat.proofs.Ledgers.{length-pieces, get_or-pieces, place-le-last}
-use Rattle.lb_flat.proofs.NameTexts.{boundary}
 use Rattle.lb_flat.proofs.names.Names.get.Goals as goal
 use Rattle.std.proofs.lemmas.List.{get_or_read}
+use Rattle.std.proofs.lemmas.Str.{IsCharBoundary-from_ascii as boundary}
 
 pub index-requires : goal.index-requires
 index-requires c =

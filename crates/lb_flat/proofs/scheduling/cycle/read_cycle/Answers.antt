@@ -1,11 +1,11 @@
 use Rattle.std.proofs.Common.{◌≡◌, ◌∙◌, Some, [], ◌∷◌, ◌++◌, drop, length, set, vec_len, ap, sym}
 use Rattle.std.proofs.Common.{subst, arith}
-use Rattle.std.proofs.lemmas.List.{length-map, map-append}
+use Rattle.std.proofs.lemmas.List.{length-map, map-append, drop-map as map_drop}
 use Rattle.lb_flat.specs.declared.equation.ElementId.{ElementId}
 use Rattle.lb_flat.specs.Programs.{numbers_of, program_of}
 use Rattle.lb_flat.specs.Reading.{IsReadCycle}
-use Rattle.lb_flat.proofs.ReadCycles.{IsWay, map_drop, way_closes, way_place, way_noted, way_less}
-use Rattle.lb_flat.proofs.ReadCycles.{way_free, way_more}
+use Rattle.lb_flat.proofs.ReadCycles.{IsWay, way_closes, way_place, way_noted, way_less, way_free}
+use Rattle.lb_flat.proofs.ReadCycles.{way_more}
 use Rattle.lb_flat.proofs.scheduling.cycle.read_cycle.Goals as goal
 
 pub split_at-requires : goal.split_at-requires

@@ -1,5 +1,6 @@
 use Rattle.lb_static.proofs.RootFaults.{seen_there}
 use Rattle.std.proofs.Common.{sym}
+use Rattle.lb_static.specs.StoredTypes.{view_types}
 use Rattle.lb_static.proofs.InterfaceTypes.{inputs_fit}
 use Rattle.lb_static.proofs.interface.Interface.new.Goals as goal
 
@@ -10,5 +11,6 @@ invariant_of-result c =
     record {
       inputs_fit = inputs_fit c.args.node.now c.args.statics.now
           c.in_ok-variables.variables.now c.in_ok-data_types.data_types.items (sym found)
-          c.in_ok-data_types.ensures;
+          (seen_there view_types c.in_ok-found.found c.in_ok-data_types.data_types _ _
+          c.in_ok-found.ensures c.in_ok-data_types.ensures.value);
     }

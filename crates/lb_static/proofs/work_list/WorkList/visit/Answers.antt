@@ -3,8 +3,9 @@ use Rattle.std.proofs.Common.{◌≡◌, ◌<◌, ◌++◌, ◌∷◌, [], Some,
 use Rattle.std.proofs.Common.{rules}
 use Rattle.std.specs.Prelude.{slice_get}
 use Rattle.std.proofs.lemmas.Option.{slice_get_read}
+use Rattle.lb_syntax.proofs.ListPlaces.{get_last as append_last}
 use Rattle.lb_static.specs.WorkLists.{HasTurns, visited_after}
-use Rattle.lb_static.proofs.WorkLists.{turns_more, after_new, append_last}
+use Rattle.lb_static.proofs.WorkLists.{turns_more, after_new}
 use Rattle.lb_static.proofs.work_list.WorkList.visit.Goals as goal
 
 pub invariant_of-self-2 : goal.invariant_of-self-2

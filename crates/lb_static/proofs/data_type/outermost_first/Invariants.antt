@@ -1,6 +1,0 @@
-use Rattle.lb_static.specs.StaticValues.{natural}
-use Rattle.lb_static.proofs.Options.{IsSoFar}
-use Rattle.lb_static.proofs.data_type.outermost_first.Given as goal
-
-abbrev pub invariant-loop-value : goal.invariant-loop-value
-invariant-loop-value l = IsSoFar natural l.sizes.items l.values l.value-index
