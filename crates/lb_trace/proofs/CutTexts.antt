@@ -1,15 +1,18 @@
--- The records of a text that is cut at the end of a line.
-use Rattle.std.proofs.Common.{ℕ, ◌≡◌, ◌+◌, ◌-◌, ◌<◌, Bool, true, false, List, [], ◌∷◌, ◌++◌}
+-- The records of a text that is cut at the end of a line, and where its quotes stand.
+use Rattle.std.proofs.Common.{ℕ, ◌≡◌, ◌+◌, ◌-◌, ◌<◌, ◌||◌, Bool, true, false, List, [], ◌∷◌, ◌++◌}
 use Rattle.std.proofs.Common.{length, get_or, map, take, drop, refl, sym, ap, ◌∙◌, arith}
 use Rattle.std.proofs.Common.{append_assoc}
 use Rattle.std.specs.Prelude.{flat_map}
 use Rattle.std.specs.Borrow.{Bor}
-use Rattle.std.specs.List.{filter}
+use Rattle.std.specs.List.{filter, list_any}
+use Rattle.std.proofs.lemmas.Bool.Decides.{nat_tests}
+use Rattle.std.proofs.lemmas.List.Folds.{list_any-append}
 use Rattle.std.proofs.lemmas.List.{append-nil, drop_all, drop_more, map-append, take-append-drop}
 use Rattle.std.proofs.lemmas.List.{take_rest}
 use Rattle.std.proofs.lemmas.List.Elements.{filter-append}
 use Rattle.std.proofs.lemmas.Grind.{flat_map-append}
-use Rattle.lb_trace.specs.Plain.{at_front, ends_line, is_comma, is_filled, plain_records, split_at}
+use Rattle.lb_trace.specs.Plain.{at_front, ends_line, has_quote, is_comma, is_filled, is_quote}
+use Rattle.lb_trace.specs.Plain.{plain_records, split_at}
 use Rattle.lb_trace.proofs.Lines.{plain-none}
 
 front-append : (x : ℕ) (parts more : List (List ℕ)) → 0 < length parts
@@ -47,7 +50,7 @@ split-append picks (b ∷ before) c after e = by (picks b) refl (split-append pi
         ∙ front-append b (split_at picks before) (split_at picks after) (split-some picks before))
 
 -- the records before the end of a line, and those after it
-plain-cut : (before : List ℕ) (c : ℕ) (after : List ℕ) → ends_line c ≡ true
+pub plain-cut : (before : List ℕ) (c : ℕ) (after : List ℕ) → ends_line c ≡ true
     → plain_records (before ++ c ∷ after) ≡ plain_records before ++ plain_records after
 unfolding plain_records
 plain-cut before c after e =
@@ -57,6 +60,24 @@ plain-cut before c after e =
     (filter-append is_filled (split_at ends_line before) (split_at ends_line after))
     ∙ map-append (split_at is_comma) (filter is_filled (split_at ends_line before))
     (filter is_filled (split_at ends_line after))
+
+or-none : (a : Bool) → (a || false) ≡ a
+or-none true = refl
+or-none false = refl
+
+or-assoc : (a b c : Bool) → ((a || b) || c) ≡ (a || (b || c))
+or-assoc true b c = refl
+or-assoc false b c = refl
+
+end-no-quote : (b : ℕ) → ends_line b ≡ true → is_quote b ≡ false
+end-no-quote b e = grind (arith, nat_tests)
+
+-- the end of a line is no quote
+quote-cut : (before : List ℕ) (c : ℕ) (after : List ℕ) → ends_line c ≡ true
+    → has_quote (before ++ c ∷ after) ≡ (has_quote before || has_quote after)
+quote-cut before c after e =
+    list_any-append is_quote before (c ∷ after)
+    ∙ ap (λ q. has_quote before || (q || has_quote after)) (end-no-quote c e)
 
 -- the same of the parts of a text as slices give them
 pub cut-found : (text : List ℕ) (i b : ℕ) → i < length text → b ≡ get_or text i 0
@@ -81,6 +102,26 @@ cut-none text =
     (take_rest text (length text) ∙ drop_all (length text) text (omega arith))
     ∙ ap (λ rest. plain_records text ++ rest) plain-none
     ∙ append-nil (plain_records text))
+
+pub quote-found : (text : List ℕ) (i b : ℕ) → i < length text → b ≡ get_or text i 0
+    → ends_line b ≡ true
+    → has_quote text
+    ≡ (has_quote (take i text)
+    || has_quote (take (length text - (i + 1)) (drop (i + 1) text)))
+quote-found text i b below is end =
+    ap has_quote (sym (take-append-drop i text))
+    ∙ ap (λ rest. has_quote (take i text ++ rest))
+    (drop_more text i 0 below ∙ ap (λ x. x ∷ drop (i + 1) text) (sym is))
+    ∙ quote-cut (take i text) b (drop (i + 1) text) end
+    ∙ ap (λ rest. has_quote (take i text) || has_quote rest) (sym (take_rest text (i + 1)))
+
+pub quote-none : (text : List ℕ)
+    → has_quote text
+    ≡ (has_quote text || has_quote (take (length text - length text) (drop (length text) text)))
+quote-none text =
+    sym (ap (λ rest. has_quote text || has_quote rest)
+    (take_rest text (length text) ∙ drop_all (length text) text (omega arith))
+    ∙ or-none (has_quote text))
 
 records_in : Bor (List ℕ) → List (List (List ℕ))
 records_in part = plain_records part.now
@@ -109,3 +150,30 @@ parts-all parts text part so_far =
     so_far
     ∙ ap (λ rs. flat_map records_in parts ++ rs) (sym (append-nil (plain_records part.now)))
     ∙ sym (flat_map-append records_in parts (part ∷ []))
+
+quote_in : Bor (List ℕ) → Bool
+quote_in part = has_quote part.now
+
+-- the quotes of one more part
+pub quotes-more : (parts : List (Bor (List ℕ))) (text rest : List ℕ) (part : Bor (List ℕ))
+    (after : List ℕ)
+    → has_quote text ≡ (list_any (λ p. has_quote p.now) parts || has_quote rest)
+    → has_quote rest ≡ (has_quote part.now || has_quote after)
+    → has_quote text
+    ≡ (list_any (λ p. has_quote p.now) (parts ++ part ∷ []) || has_quote after)
+unfolding quote_in
+quotes-more parts text rest part after so_far cut =
+    so_far ∙ ap (λ q. list_any quote_in parts || q) cut
+    ∙ sym (or-assoc (list_any quote_in parts) (has_quote part.now) (has_quote after))
+    ∙ ap (λ q. (list_any quote_in parts || q) || has_quote after)
+    (sym (or-none (has_quote part.now)))
+    ∙ ap (λ q. q || has_quote after) (sym (list_any-append quote_in parts (part ∷ [])))
+
+pub quotes-all : (parts : List (Bor (List ℕ))) (text : List ℕ) (part : Bor (List ℕ))
+    → has_quote text ≡ (list_any (λ p. has_quote p.now) parts || has_quote part.now)
+    → has_quote text ≡ list_any (λ p. has_quote p.now) (parts ++ part ∷ [])
+unfolding quote_in
+quotes-all parts text part so_far =
+    so_far
+    ∙ ap (λ q. list_any quote_in parts || q) (sym (or-none (has_quote part.now)))
+    ∙ sym (list_any-append quote_in parts (part ∷ []))

@@ -1,21 +1,18 @@
 -- The digits at the front of a text, counted at once and added up one after the other.
-use Rattle.std.proofs.Common.{ℕ, zero, suc, pow-suc, ◌≡◌, ◌+◌, ◌-◌, ◌*◌, ◌/◌, ◌%◌, ◌<◌, ◌≤◌, ◌^◌}
-use Rattle.std.proofs.Common.{Bool, true, false, not, cond, leb, nat_lt, if◌then◌else◌, List, []}
-use Rattle.std.proofs.Common.{◌∷◌, ◌++◌, length, get_or, map, min, take, drop, replicate, Fits, w8}
+use Rattle.std.proofs.Common.{ℕ, zero, suc, ◌≡◌, ◌+◌, ◌-◌, ◌*◌, ◌/◌, ◌%◌, ◌<◌, ◌≤◌, ◌^◌}
+use Rattle.std.proofs.Common.{Bool, true, false, not, cond, if◌then◌else◌, List, []}
+use Rattle.std.proofs.Common.{◌∷◌, length, get_or, map, take, drop, replicate, Fits, w8}
 use Rattle.std.proofs.Common.{refl, sym, ap, ap₂, ◌∙◌, subst, arith}
-use Rattle.std.proofs.lemmas.Bool.{agree_below, agree_below_at, cases_lt}
+use Rattle.std.proofs.lemmas.Bool.{agree_below, agree_below_at}
 use Rattle.std.proofs.lemmas.Bool.Decides.{nat_tests}
-use Rattle.std.proofs.lemmas.List.{length-map, length-take-le, take-take, take_more, take_rest}
-use Rattle.std.proofs.lemmas.List.Folds.{list_all_at}
-use Rattle.std.proofs.lemmas.List.Sums.{fold-append}
+use Rattle.std.proofs.lemmas.List.{length-map, length-take-le, take-take, take_rest}
 use Rattle.std.proofs.lemmas.Simd.{map-map, mask_l-mod, trailing_mask_l}
 use Rattle.std.specs.Char.{is_ascii_digit}
 use Rattle.std.specs.List.{list_all, prefix_len}
 use lib.Count.{count_trailing_zeros}
 use lib.Lanes.{mask_l, top, zip2}
-use Rattle.lb_trace.specs.Cells.{decimal}
-use Rattle.lb_trace.specs.Fronts.{CountsDigits, HasValue, others, past_sign, sign_len}
-use Rattle.lb_trace.proofs.SmallNumbers.{and-parts, below}
+use Rattle.lb_trace.specs.Fronts.{CountsDigits, others, past_sign, sign_len}
+use Rattle.lb_trace.proofs.SmallNumbers.{and-parts}
 
 abbrev other : ℕ → Bool
 other b = not (is_ascii_digit b)
@@ -150,12 +147,7 @@ digits-long negative text digits some is =
     ap (λ (d : List ℕ). length d + sign_len negative) is
     ∙ past-long negative text (omega arith)
 
--- no byte spells 0
-pub value-none : (text : List ℕ) (count : ℕ) → HasValue text (min 0 count) 0
-value-none text count =
-    let none : min 0 count ≡ 0 = omega arith in rw none (refl, omega arith)
-
-digit-least : (b : ℕ) → is_ascii_digit b ≡ true → (48 ≤ b) × (b - 48 < 10)
+pub digit-least : (b : ℕ) → is_ascii_digit b ≡ true → (48 ≤ b) × (b - 48 < 10)
 digit-least b e = (grind (arith, nat_tests), grind (arith, nat_tests))
 
 -- a byte among the digits is one
@@ -170,47 +162,3 @@ digit-at (b ∷ rest) (suc at) (suc count) room all few =
     digit-at rest at count (omega (arith, room))
     (and-parts (is_ascii_digit b) (list_all is_ascii_digit (take count rest)) all).1
     (omega (arith, few))
-
-power-more : (n : ℕ) → 10 ^ (n + 1) ≡ 10 ^ n * 10
-power-more n =
-    let next : n + 1 ≡ suc n = omega arith in ap (λ m. 10 ^ m) next ∙ pow-suc 10 n
-
--- so few digits leave room for one more
-pub value-small : (text : List ℕ) (at count value : ℕ) → at < 7
-    → HasValue text (min at count) value → value < 100000000
-value-small text at count value few has =
-    below value (min at count) 8 has.1 (omega (arith, few))
-
--- a byte with which the digits go on
-pub digit-from : (text : List ℕ) (at count : ℕ) → at < length text
-    → list_all is_ascii_digit (take count text) ≡ true → nat_lt at count ≡ true
-    → 48 ≤ get_or text at 0
-digit-from text at count room all more =
-    (digit-least (get_or text at 0)
-    (digit-at text at count room all (grind (arith, nat_tests)))).0
-
--- one more byte
-pub value-more : (text : List ℕ) (at count value next : ℕ) (more : Bool) → at < length text
-    → list_all is_ascii_digit (take count text) ≡ true → HasValue text (min at count) value
-    → more ≡ nat_lt at count
-    → next ≡ (if more then value * 10 + (get_or text at 0 - 48) else value)
-    → HasValue text (min (at + 1) count) next
-value-more text at count value next true room all has is grown =
-    let within : at < count = grind (arith, nat_tests, is) in
-    let so_far : min at count ≡ at = omega (arith, within) in
-    let after : min (at + 1) count ≡ at + 1 = omega (arith, within) in
-    let b : ℕ = get_or text at 0 in
-    let digit = digit-least b (digit-at text at count room all within) in
-    let had = rw so_far at has in
-    rw after (
-      grown ∙ ap (λ n. n * 10 + (b - 48)) had.0
-          ∙ sym (fold-append (λ n d. n * 10 + (d - 48)) 0 (take at text) (b ∷ []))
-          ∙ ap decimal (sym (take_more text at 0 room)),
-      omega (arith, grown, digit.1, had.1, power-more at),
-    )
-value-more text at count value next false room all has is grown =
-    let past : count ≤ at = grind (arith, nat_tests, is) in
-    let so_far : min at count ≡ count = omega (arith, past) in
-    let after : min (at + 1) count ≡ count = omega (arith, past) in
-    let had = rw so_far at has in
-    rw (after, grown) had

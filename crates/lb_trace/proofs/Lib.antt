@@ -25,3 +25,7 @@ pub mod SpreadReadings
 pub mod Fronts
 pub mod TruthCells
 pub mod KnownNames
+pub mod JoinedDigits
+pub mod TruthBits
+pub mod TruthRows
+pub mod Nexts

@@ -4,6 +4,11 @@ use Rattle.std.proofs.Common.{if◌then◌else◌, ◌==◌, ◌||◌, List, [],
 use Rattle.std.proofs.Common.{drop, ◌-◌, IsTrue, Option, Some, refl, sym, ap, ◌∙◌, arith}
 use Rattle.std.proofs.Common.{append_assoc}
 use Rattle.std.proofs.lemmas.List.{append-nil, take_all, take_rest}
+use Rattle.std.proofs.Common.{map}
+use Rattle.std.specs.Borrow.{Bor}
+use Rattle.std.specs.List.{All, list_any}
+use Rattle.std.specs.Prelude.{MatchBool}
+use Rattle.rayon.proofs.ToStd.{slice-All}
 use Rattle.csv.specs.declared.parser.Action.TheVariants as act
 use Rattle.csv.specs.declared.parser.State.{State}
 use Rattle.csv.specs.declared.parser.State.TheVariants as st
@@ -240,6 +245,28 @@ pub plain_tested : (found : Bool) (text : List ℕ) (i : ℕ) → found ≡ has_
     → records default_config text ≡ plain_records text
 plain_tested true text i e l t = cc t
 plain_tested false text i e l t = plain_text text (ap has_quote (sym (take_all i text l)) ∙ sym e)
+
+not_true : (b : Bool) → true ≡ not b → b ≡ false
+not_true true e = cc e
+not_true false e = refl
+
+none_quoted : (parts : List (Bor (List ℕ)))
+    → All (λ (part : Bor (List ℕ)). true ≡ not (has_quote part.now)) parts
+    → list_any (λ part. has_quote part.now) parts ≡ false
+none_quoted [] each = refl
+none_quoted (part ∷ more) each =
+    rw (not_true (has_quote part.now) (each 0 part (omega arith)))
+    (none_quoted more (λ k d below. each (suc k) d (omega (arith, below))))
+
+-- the same of parts, from a test of each
+pub plain_parts : (Q : Type 0) (b : Bool) (seen : List (Bor (Bor (List ℕ))))
+    (parts : List (Bor (List ℕ))) → map (λ one. one.now) seen ≡ parts
+    → MatchBool b (All (λ (one : Bor (Bor (List ℕ))). true ≡ not (has_quote one.now.now)) seen) Q
+    → IsTrue b → list_any (λ part. has_quote part.now) parts ≡ false
+plain_parts Q true seen parts shown each holds =
+    none_quoted parts
+    (slice-All seen parts shown (λ (part : Bor (List ℕ)). true ≡ not (has_quote part.now)) each)
+plain_parts Q false seen parts shown each holds = cc holds
 
 -- the byte order mark, by the first three bytes of a text
 pub bom-none : (text : List ℕ) → length text < 3 → text ≡ strip_bom text

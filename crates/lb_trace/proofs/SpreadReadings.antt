@@ -1,9 +1,10 @@
 -- What is read of the parts of a text is what the text spells.
-use Rattle.std.proofs.Common.{ℕ, ◌≡◌, ◌≤◌, true, List, [], ◌∷◌, ◌++◌, length, Result, Ok}
-use Rattle.std.proofs.Common.{map, sym, ap, ◌∙◌, subst}
+use Rattle.std.proofs.Common.{ℕ, ◌≡◌, ◌≤◌, true, false, List, [], ◌∷◌, ◌++◌, length, Result, Ok}
+use Rattle.std.proofs.Common.{map, sym, ap, ◌∙◌, subst, get_or, take, drop, ◌-◌, arith}
+use Rattle.std.proofs.lemmas.List.{take_rest}
 use Rattle.std.specs.Prelude.{flat_map, IfOk}
 use Rattle.std.specs.Borrow.{Bor}
-use Rattle.std.specs.List.{All, AllZip}
+use Rattle.std.specs.List.{All, AllZip, list_any}
 use Rattle.std.proofs.lemmas.List.Elements.{All-cons, All-nil}
 use Rattle.lb_static.specs.Signature.{Elements}
 use Rattle.csv.specs.Reading.{default_config, records as records_by, strip_bom}
@@ -13,12 +14,14 @@ use Rattle.lb_flat.proofs.Recordings.{IsRecording-none}
 use Rattle.lb_trace.specs.declared.recorder.Recorder.{Recorder}
 use Rattle.lb_trace.specs.declared.table.Table.{Table}
 use Rattle.lb_trace.specs.Mirrors.{knows}
-use Rattle.lb_trace.specs.Plain.{plain_records}
+use Rattle.lb_trace.specs.Parts.{HaveRecordsOf}
+use Rattle.lb_trace.specs.Plain.{has_quote, plain_records}
 use Rattle.lb_trace.specs.Refusals.{with_records}
 use Rattle.lb_trace.specs.Spelling.{Record, SpelledBy, Spells, SpellsInstant}
 use Rattle.lb_trace.specs.Spelling.{instants, is_header, records_of}
 use Rattle.lb_trace.specs.Tables.{IsReadBy, IsReadOf, columns_in}
 use Rattle.lb_trace.proofs.Outcomes.{complete_text}
+use Rattle.lb_trace.proofs.PlainRecords.{plain_text}
 use Rattle.lb_trace.proofs.Soundness.{Sound, sound}
 
 -- two lists of lists, one after the other
@@ -81,25 +84,21 @@ same_signatures elements table parts read each =
     parts read each (λ part one h. (h.0.0, h.1))
 
 -- a text whose parts were read and joined spells what they spell
-pub spread_spells : (elements : Elements) (table : Table) (text rest : List ℕ)
+pub spread_spells : (elements : Elements) (table : Table) (text : List ℕ)
     (parts : List (Bor (List ℕ))) (read : List Recorder) (set : Recording)
     → length text ≤ 1073741824
     → is_header elements (fields_of table.header) ≡ true
-    → records_of text ≡ fields_of table.header ∷ plain_records rest
-    → plain_records rest ≡ flat_map (λ part. plain_records part.now) parts
+    → records_of text ≡ fields_of table.header ∷ flat_map (λ part. plain_records part.now) parts
     → AllZip (λ part one. IsReadBy elements table (plain_records part.now) one) parts read
     → set.signature ≡ elements → IsRecording set
     → instants set.traces ≡ flat_map (λ one. instants one.rows.traces) read
     → Spells elements text set.traces
 unfolding SpelledBy
-spread_spells elements table text rest parts read set short headed all cut each same lawful
-    joined =
+spread_spells elements table text parts read set short headed all each same lawful joined =
     let records : Bor (List ℕ) → List Record = λ part. plain_records part.now in
-    let spelled : AllZip (SpellsInstant elements (columns_in table)) (plain_records rest)
+    let spelled : AllZip (SpellsInstant elements (columns_in table)) (flat_map records parts)
     (instants set.traces) =
-    subst (λ rs. AllZip (SpellsInstant elements (columns_in table)) rs (instants set.traces))
-    (sym cut)
-    (subst (AllZip (SpellsInstant elements (columns_in table)) (flat_map records parts))
+    subst (AllZip (SpellsInstant elements (columns_in table)) (flat_map records parts))
     (sym joined)
     (zip-flat (SpellsInstant elements (columns_in table)) records
     (λ (one : Recorder). instants one.rows.traces) parts read
@@ -107,12 +106,30 @@ spread_spells elements table text rest parts read set short headed all cut each 
     IsReadBy elements table (plain_records part.now) one)
     (λ (part : Bor (List ℕ)) (one : Recorder).
     AllZip (SpellsInstant elements (columns_in table)) (records part) (instants one.rows.traces))
-    parts read each (λ part one h. h.0.1)))) in
+    parts read each (λ part one h. h.0.1))) in
     record {
       short = short;
       spelled = subst (SpelledBy elements set.traces) (sym all) (headed, spelled);
       lawful = subst (λ e. IsRecording record { signature = e; traces = set.traces }) same lawful;
     }
+
+-- the records of parts whose first one begins with the header
+pub headed_records : (header : Record) (text : List ℕ) (d rest : Bor (List ℕ))
+    (parts rests : List (Bor (List ℕ))) → 1 ≤ length parts
+    → HaveRecordsOf text parts
+    → list_any (λ part. has_quote part.now) parts ≡ false
+    → plain_records (get_or parts 0 d).now ≡ header ∷ plain_records rest.now
+    → rests ≡ rest ∷ take (length parts - 1) (drop 1 parts)
+    → records_of text ≡ header ∷ flat_map (λ part. plain_records part.now) rests
+headed_records header text d rest [] rests some have none begun left =
+    absurd (omega (arith, some))
+headed_records header text d rest (part ∷ others) rests some have none begun left =
+    let records : Bor (List ℕ) → List Record = λ one. plain_records one.now in
+    have none
+    ∙ ap (λ (rs : List Record). rs ++ flat_map records others) begun
+    ∙ ap (λ (ps : List (Bor (List ℕ))). header ∷ flat_map records (rest ∷ ps))
+    (sym (take_rest (part ∷ others) 1))
+    ∙ ap (λ (ps : List (Bor (List ℕ))). header ∷ flat_map records ps) (sym left)
 
 -- the traces of some records alone
 pub read_of : (elements : Elements) (table : Table) (records : List Record) (set : Recording)
@@ -144,6 +161,17 @@ pub records_after_bom : (text body : List ℕ) → body ≡ strip_bom text
     → records_by default_config body ≡ plain_records body → records_of text ≡ plain_records body
 unfolding records_of
 records_after_bom text body is plain = ap (records_by default_config) (sym is) ∙ plain
+
+-- the parts of what follows the byte order mark
+pub cut_records : (text body : List ℕ) (parts shown : List (Bor (List ℕ))) → body ≡ strip_bom text
+    → plain_records body ≡ flat_map (λ part. plain_records part.now) parts
+    → has_quote body ≡ list_any (λ part. has_quote part.now) parts
+    → shown ≡ parts → HaveRecordsOf text shown
+cut_records text body parts shown is cut quotes same none =
+    records_after_bom text body is
+    (plain_text body
+    (quotes ∙ ap (list_any (λ (part : Bor (List ℕ)). has_quote part.now)) (sym same) ∙ none))
+    ∙ cut ∙ ap (flat_map (λ (part : Bor (List ℕ)). plain_records part.now)) (sym same)
 
 -- a text spells one list of traces
 pub only_spelled : (elements : Elements) (text : List ℕ) (traces : Traces)

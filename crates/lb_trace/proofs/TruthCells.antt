@@ -3,7 +3,7 @@ use Rattle.std.proofs.Common.{ℕ, ◌≡◌, ◌+◌, ◌*◌, ◌%◌, ◌^◌
 use Rattle.std.proofs.Common.{false, cond, eqb, if◌then◌else◌, ◌==◌, ◌||◌, List, [], ◌∷◌, ◌++◌}
 use Rattle.std.proofs.Common.{length, get_or, map, take, drop, ℤ, pos, Fits, w8, refl, sym, ap}
 use Rattle.std.proofs.Common.{◌∙◌, subst, arith, append_assoc}
-use Rattle.std.proofs.lemmas.Bool.{agree_below, agree_below_at}
+use Rattle.std.proofs.lemmas.Bool.{agree_below_at}
 use Rattle.std.proofs.lemmas.Bool.Decides.{nat_tests}
 use Rattle.std.proofs.lemmas.List.{drop-drop, take_rest}
 use Rattle.std.proofs.lemmas.Simd.{mask_l-mod}
@@ -23,7 +23,7 @@ use Rattle.lb_trace.proofs.SmallNumbers.{bool-ended}
 abbrev pub truth_at : List ℕ → ℕ → ℤ
 truth_at text i = if get_or text i 0 == 49 then pos 1 else pos 0
 
-truth-begins : (text : List ℕ) → 1 < length text → IsTruth text 0
+pub truth-begins : (text : List ℕ) → 1 < length text → IsTruth text 0
     → BeginsWith kind.Bool text (truth_at text 0) (drop 2 text) false
 truth-begins text long is =
     subst (λ rest. BeginsWith kind.Bool text (truth_at text 0) rest false) (take_rest text 2)

@@ -1,10 +1,9 @@
 -- The digits at the front of a text.
-use Rattle.std.specs.Prelude.{ℕ, ◌≡◌, ◌<◌, ◌≤◌, ◌+◌, ◌^◌, Bool, true, false, not, List, map, take}
-use Rattle.std.specs.Prelude.{drop}
+use Rattle.std.specs.Prelude.{ℕ, ◌≡◌, ◌<◌, ◌≤◌, ◌+◌, ◌-◌, ◌*◌, Bool, true, false, not, List, ◌++◌}
+use Rattle.std.specs.Prelude.{map, take, drop, replicate}
 use Rattle.std.specs.Char.{is_ascii_digit}
-use Rattle.std.specs.List.{list_all}
-use lib.Lanes.{mask_l}
-use Rattle.lb_trace.specs.Cells.{decimal}
+use Rattle.std.specs.List.{fold, list_all}
+use lib.Lanes.{digits_l, mask_l, number_l}
 
 -- the bytes that are no digits, as the bits of a number
 abbrev pub others : List ℕ → ℕ
@@ -27,6 +26,18 @@ CountsDigits negative text count =
     → (count + sign_len negative < 8)
     × (list_all is_ascii_digit (take count (past_sign negative text)) ≡ true)
 
--- so many bytes at the front of a text spell a value
-abbrev pub HasValue : List ℕ → ℕ → ℕ → Type 0
-HasValue text n value = (value ≡ decimal (take n text)) × (value < 10 ^ n)
+-- the eight bytes of a number of 64 bits, the lowest one first
+unfoldable pub bytes_of : ℕ → List ℕ
+bytes_of n = digits_l 256 8 n
+
+-- so many digits at the front of a text, after as many digits 0 as make them eight
+unfoldable pub lone : ℕ → List ℕ → List ℕ
+lone count text = replicate (8 - count) 0 ++ map (λ b. b - 48) (take count text)
+
+-- the number of some digits
+unfoldable pub joined : List ℕ → ℕ
+joined digits = fold (λ n digit. n * 10 + digit) 0 digits
+
+-- the number with these bytes, the lowest one first
+unfoldable pub number_of : List ℕ → ℕ
+number_of bytes = number_l 256 bytes

@@ -5,9 +5,12 @@ pub mod Errors
 pub mod Mirrors
 pub mod Readers
 pub mod Plain
+pub mod Parts
 pub mod Lines
 pub mod Scan
 pub mod PlainRows
 pub mod Tables
 pub mod Fronts
 pub mod TruthCells
+pub mod TruthBits
+pub mod Nexts

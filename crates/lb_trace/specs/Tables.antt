@@ -8,6 +8,7 @@ use Rattle.lb_trace.specs.declared.recorder.Recorder.{Recorder}
 use Rattle.lb_trace.specs.declared.table.Table.{Table}
 use Rattle.lb_trace.specs.Mirrors.{column_of, knows}
 use Rattle.lb_trace.specs.PlainRows.{AreInOrder, ArePlaced}
+use Rattle.lb_trace.specs.TruthBits.{AreTruthTable}
 use Rattle.lb_trace.specs.Spelling.{Record, SpellsInstant, after_first, instants, is_header}
 
 -- the columns that the header of a table names
@@ -22,6 +23,8 @@ pub record IsTable (elements : Elements) (table : Table) : Type 0 where
       → (length table.columns.items ≡ table.count) × AreInOrder 0 table.columns.items
   pub placed : IsTrue table.is_placed
       → (length table.placed.items ≡ table.count) × ArePlaced table.placed.items table.columns.items
+  pub truths : IsTrue table.are_truths
+      → AreTruthTable elements table.columns.items table.count
 
 -- whether some records begin with a header
 abbrev pub has_header : Elements → List Record → Truth

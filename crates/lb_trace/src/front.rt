@@ -1,15 +1,15 @@
-//! The digits at the front of a text, counted at once and added up without a branch.
+//! The digits at the front of a text, counted at once and added up by pairs without a branch.
 //!
 //! A processor guesses badly how many digits the next number has, so nothing here depends on it but
 //! what is selected. The digits after a sign are counted from the sign on, so that the next number
 //! need not wait for the test of the sign.
 
-ghost use Rattle.std.specs.Prelude.{◌≡◌, ◌<◌, ◌+◌, ◌-◌, ◌*◌, ◌/◌, ◌≤◌, ◌^◌, true, if◌then◌else◌};
-ghost use Rattle.std.specs.Prelude.{length, map, min, take};
+ghost use Rattle.std.specs.Prelude.{◌≡◌, ◌<◌, ◌/◌, ◌≤◌, ◌^◌, true, if◌then◌else◌, length, take};
+ghost use Rattle.std.specs.Prelude.{All};
 ghost use Rattle.std.specs.Char.{is_ascii_digit};
 ghost use Rattle.std.specs.List.{list_all};
 ghost use Rattle.lb_trace.specs.Cells.{decimal};
-ghost use Rattle.lb_trace.specs.Fronts.{CountsDigits, HasValue, others};
+ghost use Rattle.lb_trace.specs.Fronts.{CountsDigits, bytes_of, joined, lone, number_of, others};
 
 use std::simd::prelude::*;
 
@@ -48,40 +48,53 @@ fn without_sign(is_negative: bool, others: u64) -> u64
 /// The number that so many digits at the front of a text spell.
 #[inline(always)]
 pub(crate) fn value_of(text: &[u8], count: usize) -> u32
-    requires room { 7 ≤ length text.now }
+    requires room { 7 < length text.now }
+    requires some { 0 < count }
     requires few { count ≤ 7 }
     requires digits { list_all is_ascii_digit (take count text.now) ≡ true }
     ensures spelled { result ≡ decimal (take count text.now) }
     ensures small { result < 10 ^ count }
 {
-    let one = with_byte(text, 0, count, 0);
-    let two = with_byte(text, 1, count, one);
-    let three = with_byte(text, 2, count, two);
-    let four = with_byte(text, 3, count, three);
-    let five = with_byte(text, 4, count, four);
-    let six = with_byte(text, 5, count, five);
-    with_byte(text, 6, count, six)
+    joined(lone(text, count))
 }
 
-// The number with one more byte, if that is one of the digits.
+// The ASCII bytes of eight digits 0.
+const ZEROS: u64 = 0x3030_3030_3030_3030;
+
+// So many digits at the front of a text as the highest bytes of a number, the last one the highest.
 #[inline(always)]
-fn with_byte(text: &[u8], at: usize, count: usize, value: u32) -> u32
-    requires place { at < length text.now }
-    requires few { at < 7 }
+fn lone(text: &[u8], count: usize) -> u64
+    requires room { 7 < length text.now }
+    requires some { 0 < count }
+    requires few { count ≤ 7 }
     requires digits { list_all is_ascii_digit (take count text.now) ≡ true }
-    requires value { HasValue text.now (min at count) value }
-    ensures { HasValue text.now (min (at + 1) count) result }
+    ensures { bytes_of result ≡ lone count text.now }
 {
-    with_digit(at < count, value, text[at])
+    let others = 64 - 8 * count;
+    (first_eight(text) << others) - (ZEROS << others)
 }
 
-// A number with one more digit at its end.
+// The first eight bytes of a text as those of a number, the first one the lowest.
 #[inline(always)]
-fn with_digit(is_more: bool, n: u32, digit: u8) -> u32
-    requires small { n < 100000000 }
-    requires digit { is_more ≡ true → 48 ≤ digit }
-    ensures { result ≡ (if is_more then n * 10 + (digit - 48) else n) }
+fn first_eight(text: &[u8]) -> u64
+    requires { 7 < length text.now }
+    ensures { result ≡ number_of (take 8 text.now) }
 {
-    let more = (n * 10 + u32::from(digit)).wrapping_sub(48);
-    if is_more { more } else { n }
+    u64::from_le_bytes([
+        text[0], text[1], text[2], text[3], text[4], text[5], text[6], text[7],
+    ])
+}
+
+// The number of eight digits, which are the bytes of a number, the first one the lowest.
+#[inline(always)]
+fn joined(digits: u64) -> u32
+    requires { All (λ digit. digit < 10) (bytes_of digits) }
+    ensures { result ≡ joined (bytes_of digits) }
+{
+    let pairs = digits * 10 + digits / 0x100;
+    let first = pairs % 0x100;
+    let second = pairs / 0x1_0000 % 0x100;
+    let third = pairs / 0x1_0000_0000 % 0x100;
+    let fourth = pairs / 0x1_0000_0000_0000 % 0x100;
+    (first * 1_000_000 + second * 10_000 + third * 100 + fourth) as u32
 }

@@ -10,6 +10,7 @@ mod front;
 mod header;
 mod joined;
 mod known;
+mod named;
 mod parts;
 mod placed_rows;
 mod plain;
@@ -24,6 +25,7 @@ mod scan;
 mod small;
 mod spread;
 mod table;
+mod truth_bits;
 mod truths;
 
 pub use error::TraceError;

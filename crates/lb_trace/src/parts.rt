@@ -1,7 +1,8 @@
 //! A text in parts, which can be read side by side.
 
-ghost use Rattle.std.specs.Prelude.{◌≡◌, ◌++◌, IfOk, flat_map};
-ghost use Rattle.lb_trace.specs.Plain.{plain_records};
+ghost use Rattle.std.specs.Prelude.{◌≡◌, ◌||◌, ◌++◌, IfOk, flat_map};
+ghost use Rattle.std.specs.List.{list_any};
+ghost use Rattle.lb_trace.specs.Plain.{has_quote, plain_records};
 
 use crate::scan::ends_line;
 use std::alloc::{AllocError, Global};
@@ -13,14 +14,17 @@ struct Cut<'t> {
     rest: &'t [u8],
 }
 
-/// A text in so many parts, whose records, one part after the other, are those of the text.
+/// A text in so many parts. Their records, one part after the other, are those of the text, and a
+/// quote stands in it where it stands in one of them.
 pub(crate) fn parts_of<'t>(
     alloc: Global,
     text: &'t [u8],
     count: u32,
 ) -> Result<Vec<&'t [u8]>, AllocError>
-    ensures { IfOk result (λ parts. plain_records text.now
+    ensures records { IfOk result (λ parts. plain_records text.now
         ≡ flat_map (λ part. plain_records part.now) parts.items) }
+    ensures quotes { IfOk result (λ parts. has_quote text.now
+        ≡ list_any (λ part. has_quote part.now) parts.items) }
 {
     let size = text.len() / count.max(1) as usize;
     let mut parts = Vec::new(alloc);
@@ -36,8 +40,10 @@ pub(crate) fn parts_of<'t>(
 
 // Cuts a text at the first end of a line from this place on.
 fn cut_at<'t>(text: &'t [u8], from: usize) -> Cut<'t>
-    ensures { plain_records text.now
+    ensures records { plain_records text.now
         ≡ plain_records result.part.now ++ plain_records result.rest.now }
+    ensures quotes { has_quote text.now
+        ≡ (has_quote result.part.now || has_quote result.rest.now) }
 {
     for i in from..text.len() {
         if ends_line(text[i]) {

@@ -1,8 +1,12 @@
 //! Whether a text is free of quotes, and of a byte order mark at its start.
 
-ghost use Rattle.std.specs.Prelude.{◌≡◌, IsTrue, not};
+ghost use Rattle.std.specs.Prelude.{◌≡◌, IsTrue, false, not};
 ghost use Rattle.csv.specs.Reading.{default_config, is_bom, records, strip_bom};
+ghost use Rattle.std.specs.List.{list_any};
 ghost use Rattle.lb_trace.specs.Plain.{has_quote, plain_records};
+
+use rayon::prelude::*;
+use std::thread::Threads;
 
 /// Whether the byte `"` stands nowhere in a text, so that its records are its lines cut at commas.
 pub(crate) fn is_plain(text: &[u8]) -> bool
@@ -14,6 +18,22 @@ pub(crate) fn is_plain(text: &[u8]) -> bool
         has_quote = has_quote | (*b == b'"');
     }
     !has_quote
+}
+
+/// Whether all of some parts are free of quotes. Threads look through them.
+pub(crate) fn are_plain<R: Threads + Sync>(rt: &R, parts: &[&[u8]]) -> bool
+    ensures { IsTrue result → list_any (λ part. has_quote part.now) parts.now ≡ false }
+{
+    parts
+        .par_iter()
+        // A part is worth a thread of its own, however few there are.
+        .with_min_len(1)
+        .all(
+            rt,
+            |part: &&[u8]| -> bool
+                ensures { result ≡ not (has_quote part.now.now) }
+            { is_plain(part) },
+        )
 }
 
 /// A text without the byte order mark at its start, if it has one.

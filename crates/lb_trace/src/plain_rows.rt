@@ -30,7 +30,7 @@ pub(crate) fn read_line<'t>(
     row.clear();
     let mut rest = text;
     let mut i = 0;
-    while i < columns.len() {
+    while columns.len() - i > 1 {
         if let Some(values) = four_cells(&columns[i..], rest) {
             row.extend_from_slice(&values)?;
             rest = &rest[8..];
@@ -43,18 +43,15 @@ pub(crate) fn read_line<'t>(
         row.push(cell.value)?;
         i += 1;
         if cell.is_last {
-            if i != columns.len() {
-                return Ok(None);
-            }
-            return Ok(Some(cell.rest));
+            return Ok(None);
         }
         rest = cell.rest;
     }
-    Ok(None)
+    other_row(&columns[i..], rest, row)
 }
 
-// The same for cells of any length, after the values that `row` has already. It stays a call, so
-// that the loop over small cells keeps what it has in registers.
+// The same for the last cell, and for cells of any length, after the values that `row` has already.
+// It stays a call, so that the loop over inner cells keeps what it has in registers.
 #[inline(never)]
 fn other_row<'t>(
     columns: &[Column],

@@ -9,6 +9,7 @@ ghost use Rattle.lb_trace.specs.Spelling.{Spells};
 
 use crate::error::TraceError;
 use crate::header::columns_of;
+use crate::parts::parts_of;
 use crate::plain::{is_plain, strip_bom};
 use crate::read_plain::read_plain;
 use crate::reader::{next, reader_of};
@@ -85,14 +86,13 @@ pub fn read_traces_by<R: Threads + Sync>(
     if workers == 1 || text.len() > MOST_BYTES {
         return read_traces(alloc, signature, text);
     }
-    let body = strip_bom(text);
-    if !is_plain(body) {
+    let count = if workers == 0 { MOST_PARTS } else { workers };
+    let Ok(parts) = parts_of(alloc, strip_bom(text), count) else {
         return read_traces(alloc, signature, text);
-    }
-    let parts = if workers == 0 { MOST_PARTS } else { workers };
-    match read_spread(rt, alloc, signature, text, body, parts) {
+    };
+    match read_spread(rt, alloc, signature, &parts) {
         Some(set) => Ok(set),
-        // What is refused, or does not join, is judged by one worker.
+        // What has a quote, is refused, or does not join, is judged by one worker.
         None => read_traces(alloc, signature, text),
     }
 }

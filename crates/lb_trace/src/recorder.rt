@@ -1,29 +1,34 @@
 //! The traces of the records that have been read.
 
-ghost use Rattle.std.specs.Prelude.{◌≡◌, ◌<◌, ◌≤◌, ◌+◌, ◌*◌, nat_le, nat_lt, [], length, map, Ok};
-ghost use Rattle.std.specs.Prelude.{IfOk, IfErr, OnOk, IsTrue, IfSome, None, Some};
+ghost use Rattle.std.specs.Prelude.{◌≡◌, ◌<◌, ◌≤◌, ◌+◌, ◌*◌, ◌^◌, nat_le, nat_lt, [], length, map};
+ghost use Rattle.std.specs.Prelude.{Ok, IfOk, IfErr, OnOk, IsTrue, IfSome, None, Some};
 ghost use Rattle.std.specs.List.{Contains};
 ghost use Rattle.csv.specs.Records.{fields_of};
+ghost use Rattle.lb_flat.specs.BitRows.{AreTruths, row_of_bits};
 ghost use Rattle.lb_flat.specs.Traces.{IsRecording, IsTraceName, cells_of_instant, instants_of};
 ghost use Rattle.lb_flat.specs.Traces.{IsRow, last_rows, trace_names};
 ghost use Rattle.lb_trace.specs.Errors.{IsRefusal};
 ghost use Rattle.lb_trace.specs.Mirrors.{RowsFollow, add_by, go_on_by, knows, record_by, row_by};
 ghost use Rattle.lb_trace.specs.Lines.{after_line, record_of};
 ghost use Rattle.lb_trace.specs.Mirrors.{start_by, start_cells};
+ghost use Rattle.lb_trace.specs.Nexts.{HasName, IsNext};
 ghost use Rattle.lb_trace.specs.PlainRows.{AreInOrder, ArePlaced};
 ghost use Rattle.lb_trace.specs.Refusals.{is_last};
 ghost use Rattle.lb_trace.specs.Refusals.{has_room};
 ghost use Rattle.lb_trace.specs.Spelling.{after_first};
+ghost use Rattle.lb_trace.specs.TruthBits.{AreTruthTable};
 
 use crate::copied::copy_record;
 use crate::error::TraceError;
 use crate::header::Column;
 use crate::known::Known;
+use crate::named::name_of;
 use crate::placed_rows::read_cells;
 use crate::record::width;
 use crate::rows::read_row;
-use crate::scan::next_cell;
+use crate::scan::Cell;
 use crate::table::Table;
+use crate::truth_bits::read_truths;
 use csv::ByteRecord;
 use lb_flat::{TraceRows, TraceSet};
 use lb_static::Signature;
@@ -41,8 +46,8 @@ pub(crate) struct Recorder {
     values: Vec<i32>,
 }
 
-// Whether the last trace has this name.
-fn is_last(set: &TraceSet, name: &[u8]) -> bool
+/// Whether the last trace has this name.
+pub(crate) fn is_last(set: &TraceSet, name: &[u8]) -> bool
     ensures { result ≡ is_last name.now set.now.traces }
 {
     let count = set.len();
@@ -91,6 +96,28 @@ pub(crate) fn push_to(rows: &mut TraceRows, row: &[i32], number: u64) -> Result<
         });
     }
     rows.push(row).map_err(TraceError::Memory)
+}
+
+// One more row of the last trace, of Booleans alone that are the bits of a word, where the limits
+// have room for it.
+#[inline]
+fn push_bits_to(rows: &mut TraceRows, bits: u64, number: u64) -> Result<(), TraceError>
+    requires started { 0 < length rows.old.traces }
+    requires truths { AreTruths rows.old.signature }
+    requires small { bits < 2 ^ length rows.old.signature }
+    ensures ok { OnOk result (go_on_by rows.old.signature rows.old.traces
+        (Some (row_of_bits (length rows.old.signature) bits)) ≡ Ok rows.new.traces) }
+    ensures signature { OnOk result (rows.new.signature ≡ rows.old.signature) }
+    ensures err { IfErr result (IsRefusal (go_on_by rows.old.signature rows.old.traces
+        (Some (row_of_bits (length rows.old.signature) bits)))) }
+{
+    let set = rows.set();
+    if !has_instants(set) || !has_cells(set) {
+        return Err(TraceError::Limit {
+            record: Some(number),
+        });
+    }
+    rows.push_bits(bits).map_err(TraceError::Memory)
 }
 
 impl Recorder {
@@ -187,6 +214,8 @@ impl Recorder {
         requires placed { IsTrue table.now.is_placed
             → (length table.now.placed.items ≡ table.now.count)
             × ArePlaced table.now.placed.items table.now.columns.items }
+        requires truths { IsTrue table.now.are_truths
+            → AreTruthTable self.old.rows.signature table.now.columns.items table.now.count }
         ensures ok { IfOk result (λ rest. record_by self.old.rows.signature table.now.columns.items
             table.now.count self.old.rows.traces (record_of text.now) ≡ Ok self.new.rows.traces) }
         ensures after { IfOk result (λ rest. rest.now ≡ after_line text.now) }
@@ -224,6 +253,8 @@ impl Recorder {
         requires placed { IsTrue table.now.is_placed
             → (length table.now.placed.items ≡ table.now.count)
             × ArePlaced table.now.placed.items table.now.columns.items }
+        requires truths { IsTrue table.now.are_truths
+            → AreTruthTable self.old.rows.signature table.now.columns.items table.now.count }
         ensures ok { IfOk result (λ found. IfSome found (λ rest.
             record_by self.old.rows.signature table.now.columns.items table.now.count
             self.old.rows.traces (record_of text.now) ≡ Ok self.new.rows.traces)) }
@@ -236,10 +267,87 @@ impl Recorder {
         ensures err { IfErr result (IsRefusal (record_by self.old.rows.signature
             table.now.columns.items table.now.count self.old.rows.traces (record_of text.now))) }
     {
-        let name = next_cell(text);
-        if name.is_last {
+        let name = name_of(self.rows.set(), text);
+        if name.cell.is_last {
             return Ok(None);
         }
+        if name.is_same && table.are_truths {
+            return self.add_truths(alloc, table, text, name.cell, number);
+        }
+        self.add_cells(alloc, table, text, name.cell, number)
+    }
+
+    // The same of a record of the last trace with this name, by a table of Booleans alone.
+    fn add_truths<'t>(
+        &mut self,
+        alloc: Global,
+        table: &Table,
+        text: &[u8],
+        name: Cell<'t>,
+        number: u64,
+    ) -> Result<Option<&'t [u8]>, TraceError>
+        requires names { knows self.old.names self.old.rows.traces }
+        requires lawful { IsRecording self.old.rows }
+        requires kinds { RowsFollow table.now.columns.items self.old.rows.signature }
+        requires order { IsTrue table.now.in_order
+            → (length table.now.columns.items ≡ table.now.count)
+            × AreInOrder 0 table.now.columns.items }
+        requires placed { IsTrue table.now.is_placed
+            → (length table.now.placed.items ≡ table.now.count)
+            × ArePlaced table.now.placed.items table.now.columns.items }
+        requires next { IsNext self.old.rows.traces text.now name.bytes.now name.rest.now }
+        requires truths { AreTruthTable self.old.rows.signature table.now.columns.items
+            table.now.count }
+        ensures ok { IfOk result (λ found. IfSome found (λ rest.
+            record_by self.old.rows.signature table.now.columns.items table.now.count
+            self.old.rows.traces (record_of text.now) ≡ Ok self.new.rows.traces)) }
+        ensures after { IfOk result
+            (λ found. IfSome found (λ rest. rest.now ≡ after_line text.now)) }
+        ensures names { IfOk result (λ found. knows self.new.names self.new.rows.traces) }
+        ensures rows { IfOk result (λ found. found ≡ None → self.new.rows ≡ self.old.rows) }
+        ensures signature { IfOk result
+            (λ found. self.new.rows.signature ≡ self.old.rows.signature) }
+        ensures err { IfErr result (IsRefusal (record_by self.old.rows.signature
+            table.now.columns.items table.now.count self.old.rows.traces (record_of text.now))) }
+    {
+        let Some(truths) = read_truths(name.rest, table.count) else {
+            return self.add_cells(alloc, table, text, name, number);
+        };
+        push_bits_to(&mut self.rows, truths.bits, number)?;
+        Ok(Some(truths.rest))
+    }
+
+    // The same of a record with this name, whose cells stand after it.
+    fn add_cells<'t>(
+        &mut self,
+        alloc: Global,
+        table: &Table,
+        text: &[u8],
+        name: Cell<'t>,
+        number: u64,
+    ) -> Result<Option<&'t [u8]>, TraceError>
+        requires names { knows self.old.names self.old.rows.traces }
+        requires lawful { IsRecording self.old.rows }
+        requires kinds { RowsFollow table.now.columns.items self.old.rows.signature }
+        requires order { IsTrue table.now.in_order
+            → (length table.now.columns.items ≡ table.now.count)
+            × AreInOrder 0 table.now.columns.items }
+        requires placed { IsTrue table.now.is_placed
+            → (length table.now.placed.items ≡ table.now.count)
+            × ArePlaced table.now.placed.items table.now.columns.items }
+        requires first { HasName text.now name.bytes.now name.rest.now }
+        ensures ok { IfOk result (λ found. IfSome found (λ rest.
+            record_by self.old.rows.signature table.now.columns.items table.now.count
+            self.old.rows.traces (record_of text.now) ≡ Ok self.new.rows.traces)) }
+        ensures after { IfOk result
+            (λ found. IfSome found (λ rest. rest.now ≡ after_line text.now)) }
+        ensures names { IfOk result (λ found. knows self.new.names self.new.rows.traces) }
+        ensures rows { IfOk result (λ found. found ≡ None → self.new.rows ≡ self.old.rows) }
+        ensures signature { IfOk result
+            (λ found. self.new.rows.signature ≡ self.old.rows.signature) }
+        ensures err { IfErr result (IsRefusal (record_by self.old.rows.signature
+            table.now.columns.items table.now.count self.old.rows.traces (record_of text.now))) }
+    {
         let Ok(line) = read_cells(table, name.rest, &mut self.values, &mut self.row) else {
             return Err(TraceError::Memory(AllocError));
         };

@@ -28,8 +28,8 @@ struct Number<'t> {
 }
 
 /// The value of the first cell, where it is a number of at most nine digits or a Boolean of one,
-/// and its end stands in the text: a comma, or the end of a line if not `inner`. None says nothing
-/// of the text.
+/// and its end stands in the text. An `inner` one ends in a comma, and has at most seven digits.
+/// None says nothing of the text.
 #[inline(always)]
 pub(crate) fn small_cell<'t>(kind: Kind, text: &'t [u8], inner: bool) -> Option<Value<'t>>
     ensures { IfSome result (λ v. BeginsWith kind text.now v.value v.rest.now v.is_last) }
@@ -101,7 +101,11 @@ fn any_number<'t>(
     if let Some(number) = long_number(is_negative, text, digits, inner) {
         return Some(number);
     }
-    small_number(digits, inner)
+    // A loop over inner cells leaves the others to a call of its own.
+    if inner {
+        return None;
+    }
+    small_number(digits)
 }
 
 // A number of at most seven digits, which stand after the sign of a text. No branch depends on how
@@ -116,7 +120,8 @@ fn long_number<'t>(
     requires { digits.now ≡ past_sign is_negative text.now }
     ensures { IfSome result (λ n. BeginsWithNumber digits.now n.value n.rest.now n.is_last) }
 {
-    if text.len() < 8 {
+    // The digits are at least eight bytes, after a sign too.
+    if text.len() < 9 {
         return None;
     }
     let count = count_after(is_negative, text);
@@ -137,7 +142,7 @@ fn long_number<'t>(
 // A number of at most nine digits. It stays a call, since few are so long or stand so near to the
 // end of a text.
 #[inline(never)]
-fn small_number<'t>(text: &'t [u8], inner: bool) -> Option<Number<'t>>
+fn small_number<'t>(text: &'t [u8]) -> Option<Number<'t>>
     ensures { IfSome result (λ n. BeginsWithNumber text.now n.value n.rest.now n.is_last) }
 {
     let mut n: u32 = 0;
@@ -146,7 +151,7 @@ fn small_number<'t>(text: &'t [u8], inner: bool) -> Option<Number<'t>>
             if i == 0 {
                 return None;
             }
-            let is_last = cell_end(*b, inner)?;
+            let is_last = end_of(*b)?;
             return Some(Number {
                 value: n,
                 rest: &text[i + 1..],
@@ -179,8 +184,9 @@ fn small_bool<'t>(text: &'t [u8], inner: bool) -> Option<Value<'t>>
     })
 }
 
+/// Whether a byte is a digit 0 or 1.
 #[inline(always)]
-fn is_bit(b: u8) -> bool
+pub(crate) fn is_bit(b: u8) -> bool
     ensures { result ≡ ((b == 48) || (b == 49)) }
 {
     b == b'0' || b == b'1'

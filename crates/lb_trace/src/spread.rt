@@ -1,17 +1,18 @@
 //! A text without quotes, read in parts side by side.
 
-ghost use Rattle.std.specs.Prelude.{◌≡◌, All, IfOk, IfSome, OnOk, flat_map};
+ghost use Rattle.std.specs.Prelude.{◌≡◌, ◌∷◌, ℕ, List, All, IfOk, IfSome, OnOk, flat_map};
 ghost use Rattle.std.specs.List.{AllZip};
 ghost use Rattle.lb_flat.specs.Traces.{IsRecording};
 ghost use Rattle.lb_trace.specs.Plain.{plain_records};
-ghost use Rattle.lb_trace.specs.Spelling.{Spells, instants, records_of};
+ghost use Rattle.lb_trace.specs.Parts.{HaveRecordsOf};
+ghost use Rattle.lb_trace.specs.Spelling.{Spells, instants};
 ghost use Rattle.lb_trace.specs.Mirrors.{knows};
 ghost use Rattle.lb_trace.specs.Tables.{IsReadBy, IsTable};
 ghost use Rattle.std.specs.Prelude.{◌≤◌, length};
 
 use crate::begun::begin;
 use crate::error::TraceError;
-use crate::parts::parts_of;
+use crate::plain::are_plain;
 use crate::recorder::Recorder;
 use crate::table::Table;
 use csv::ByteRecord;
@@ -87,28 +88,45 @@ fn joined(alloc: Global, signature: &Signature, parts: Vec<Recorder>) -> Option<
     Some(set)
 }
 
-/// The traces that a text without quotes spells, read in so many parts by threads; `body` is the
-/// text after its byte order mark. None says nothing of the text.
+// Parts with another one in place of the first.
+fn with_first<'t>(
+    alloc: Global,
+    first: &'t [u8],
+    others: &[&'t [u8]],
+) -> Result<Vec<&'t [u8]>, AllocError>
+    ensures { IfOk result (λ parts. parts.items ≡ first.entry ∷ others.now) }
+{
+    let mut parts = Vec::with_capacity(alloc, others.len().saturating_add(1))?;
+    parts.push(first)?;
+    parts.extend_from_slice(others)?;
+    Ok(parts)
+}
+
+/// The traces that a text spells whose records these parts have, read by threads. None says nothing
+/// of the text.
 pub(crate) fn read_spread<R: Threads + Sync>(
     rt: &R,
     alloc: Global,
     signature: &Signature,
-    text: &[u8],
-    body: &[u8],
-    count: u32,
+    parts: &[&[u8]],
 ) -> Option<TraceSet>
-    requires short { length text.now ≤ 1073741824 }
-    requires plain { records_of text.now ≡ plain_records body.now }
     ensures signature { IfSome result (λ set. set.signature ≡ signature.now) }
-    ensures spelled { IfSome result (λ set. Spells signature.now text.now set.traces) }
+    ensures spelled { IfSome result (λ set. (text : List ℕ) → length text ≤ 1073741824
+        → HaveRecordsOf text parts.now → Spells signature.now text set.traces) }
 {
-    let Ok(Some(begun)) = begin(alloc, signature, body) else {
+    let [first, others @ ..] = parts else {
         return None;
     };
-    let Ok(parts) = parts_of(alloc, begun.rest, count) else {
+    if !are_plain(rt, parts) {
+        return None;
+    }
+    let Ok(Some(begun)) = begin(alloc, signature, first) else {
         return None;
     };
-    let Ok(Ok(read)) = read_parts(rt, alloc, signature, &begun.table, &parts) else {
+    let Ok(rests) = with_first(alloc, begun.rest, others) else {
+        return None;
+    };
+    let Ok(Ok(read)) = read_parts(rt, alloc, signature, &begun.table, &rests) else {
         return None;
     };
     joined(alloc, signature, read)

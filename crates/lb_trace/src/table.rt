@@ -3,12 +3,14 @@
 ghost use Rattle.std.specs.Prelude.{◌≡◌, ◌<◌, ◌≤◌, IsTrue, IfOk, IfSome, MatchOption, false};
 ghost use Rattle.std.specs.Prelude.{length, true};
 ghost use Rattle.csv.specs.Records.{fields_of};
+ghost use Rattle.lb_flat.specs.BitRows.{AreTruths};
 ghost use Rattle.lb_trace.specs.PlainRows.{AreInOrder, ArePlaced, IsPlaced};
 ghost use Rattle.lb_trace.specs.Spelling.{is_header};
 ghost use Rattle.lb_trace.specs.Tables.{IsTable};
 
 use crate::header::{Column, columns_of};
 use crate::record::width;
+use crate::truths::is_bool;
 use csv::ByteRecord;
 use lb_static::Signature;
 use std::alloc::{AllocError, Global};
@@ -28,6 +30,8 @@ pub(crate) struct Table {
     pub(crate) placed: Vec<Column>,
     /// Whether these are all columns, and each of the others has one of its kind at its place.
     pub(crate) is_placed: bool,
+    /// Whether they stand in the order of the signature and are Booleans alone, at most 64.
+    pub(crate) are_truths: bool,
 }
 
 /// The table of a header; None where the record is not `trace` and then the name of each scalar
@@ -56,7 +60,25 @@ pub(crate) fn table_of(
         in_order,
         placed,
         is_placed,
+        are_truths: are_truths(signature, in_order),
     }))
+}
+
+// Whether columns stand in the order of a signature of Booleans alone, so few that one word holds a
+// row.
+fn are_truths(signature: &Signature, in_order: bool) -> bool
+    ensures { IsTrue result → IsTrue in_order × AreTruths signature.now }
+{
+    let count = signature.len();
+    if !in_order || count == 0 || count > 64 {
+        return false;
+    }
+    for i in 0..count {
+        if !is_bool(signature.kind(i)) {
+            return false;
+        }
+    }
+    true
 }
 
 // Whether each column stands at its place in the order of the signature, with none beside them.

@@ -35,8 +35,9 @@ pub(crate) fn four_cells(columns: &[Column], text: &[u8]) -> Option<[i32; 4]>
     ])
 }
 
+/// Whether columns of a kind hold Booleans.
 #[inline(always)]
-fn is_bool(kind: Kind) -> bool
+pub(crate) fn is_bool(kind: Kind) -> bool
     ensures { IsTrue result → kind ≡ Kind.Bool }
 {
     match kind {

@@ -1,9 +1,10 @@
-use Rattle.std.proofs.Common.{◌+◌, ◌∙◌, ap, sym, refl, drop, arith, rules, Some}
+use Rattle.std.proofs.Common.{◌+◌, ◌<◌, ◌∙◌, List, ap, sym, refl, subst, drop, length, length-drop}
+use Rattle.std.proofs.Common.{arith, rules}
 use Rattle.std.proofs.lemmas.List.{take_rest}
+use Rattle.lb_trace.specs.declared.header.Column.{Column}
 use Rattle.lb_trace.specs.Lines.{record_of}
 use Rattle.lb_trace.specs.PlainRows.{onto, plain_row}
-use Rattle.lb_trace.proofs.PlainValues.{after-last, after-more, onto-start, pushed-value, row-full}
-use Rattle.lb_trace.proofs.PlainValues.{row-long, row-more, row-short}
+use Rattle.lb_trace.proofs.PlainValues.{after-more, onto-start, pushed-value, row-more, row-short}
 use Rattle.lb_trace.proofs.TruthCells.{goes-on-from}
 use Rattle.lb_trace.proofs.plain_rows.read_line.Goals as goal
 
@@ -16,6 +17,10 @@ loop-i-preserved-in-Some c =
     record {
       cells = c.loop-i.invariant.cells ∙ on.0;
       after = c.loop-i.invariant.after ∙ on.1;
+      within =
+          let some = subst (λ (ks : List Column). 3 < length ks)
+          (take_rest c.args.columns.now c.loop-i.i) four.1 in
+          omega (arith, some, length-drop c.loop-i.i c.args.columns.now);
     }
 
 pub loop-i-preserved : goal.loop-i-preserved
@@ -27,40 +32,21 @@ loop-i-preserved c =
     record {
       cells = c.loop-i.invariant.cells
           ∙ row-more columns i _ _ c.loop-i.rest.now cell.rest.now cell.value c.loop-i.row.items
-          cell.is_last c.loop-i-test.true refl spelled c.if-cell.false
+          cell.is_last (omega (arith, c.loop-i-test.true)) refl spelled c.if-cell.false
           ∙ ap (λ r. onto r (plain_row (drop (i + 1) columns) (record_of cell.rest.now)))
           (sym (pushed-value _ c.loop-i.row.items cell.value (search rules)
           c.in_ok-push.ensures.items));
       after = c.loop-i.invariant.after
           ∙ after-more _ c.loop-i.rest.now cell.rest.now cell.value cell.is_last spelled
           c.if-cell.false;
+      within = omega (arith, c.loop-i-test.true);
     }
-
-pub returns-then-i-columns : goal.returns-then-i-columns
-returns-then-i-columns c =
-    let cell = c.in-Some-small_cell.cell in
-    let spelled = c.in-Some-small_cell.ensures in
-    onto-start _ _ c.clear.ensures.items ∙ c.loop-i.invariant.cells
-    ∙ row-short c.args.columns.now c.loop-i.i _ _ c.loop-i.rest.now cell.rest.now cell.value
-    c.loop-i.row.items cell.is_last c.loop-i-test.true refl spelled c.if-cell.true
-    (omega arith)
 
 pub returns-then-cell : goal.returns-then-cell
 returns-then-cell c =
     let cell = c.in-Some-small_cell.cell in
-    let spelled = c.in-Some-small_cell.ensures in (
-      onto-start _ _ c.clear.ensures.items ∙ c.loop-i.invariant.cells
-          ∙ row-full c.args.columns.now c.loop-i.i _ _ c.loop-i.rest.now cell.rest.now cell.value
-          c.loop-i.row.items cell.is_last c.loop-i-test.true refl spelled c.if-cell.true
-          (omega arith)
-          ∙ ap Some (sym (pushed-value _ c.loop-i.row.items cell.value (search rules)
-          c.in_ok-push.ensures.items)),
-      after-last _ c.loop-i.rest.now cell.rest.now cell.value cell.is_last spelled
-          c.if-cell.true ∙ sym c.loop-i.invariant.after,
-    )
-
-pub returns : goal.returns
-returns c =
+    let spelled = c.in-Some-small_cell.ensures in
     onto-start _ _ c.clear.ensures.items ∙ c.loop-i.invariant.cells
-    ∙ row-long c.args.columns.now c.loop-i.i c.loop-i.rest.now c.loop-i.row.items
-    c.loop-i-test.false
+    ∙ row-short c.args.columns.now c.loop-i.i _ _ c.loop-i.rest.now cell.rest.now cell.value
+    c.loop-i.row.items cell.is_last (omega (arith, c.loop-i-test.true)) refl spelled
+    c.if-cell.true (omega (arith, c.loop-i-test.true))

@@ -1,4 +1,4 @@
-use Rattle.std.proofs.Common.{◌≡◌, ◌-◌, drop, length}
+use Rattle.std.proofs.Common.{◌≡◌, ◌≤◌, ◌-◌, drop, length}
 use Rattle.lb_trace.specs.Lines.{after_line, record_of}
 use Rattle.lb_trace.specs.PlainRows.{onto, plain_row}
 use Rattle.lb_trace.proofs.plain_rows.read_line.Given as goal
@@ -8,6 +8,7 @@ invariant-loop-i l = record {
   cells : onto l.initial.row.items (plain_row l.columns (record_of l.text))
       ≡ onto l.row.items (plain_row (drop l.i l.columns) (record_of l.rest));
   after : after_line l.text ≡ after_line l.rest;
+  within : l.i ≤ length l.columns;
 }
 
 abbrev pub decreases-loop-i : goal.decreases-loop-i

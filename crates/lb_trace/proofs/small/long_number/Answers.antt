@@ -10,7 +10,7 @@ returns c =
     let count = c.count_after-count.result in
     let found = c.count_after-count.ensures (omega (arith, c.if-count-gt7.false)) in
     let long = digits-long c.args.is_negative c.args.text.now c.args.digits.now
-    (omega (arith, c.if-text-lt8.false)) c.requires in
+    (omega (arith, c.if-text-lt9.false)) c.requires in
     number-ended c.args.digits.now count c.value_of.result c.in_ok-is_last.is_last
     (omega (arith, found.0, long)) (omega (arith, c.if-count-eq0.false))
     (omega (arith, c.if-count-gt7.false)) c.value_of.ensures.small

@@ -1,17 +1,26 @@
 -- A header has its table of columns.
 use Rattle.std.proofs.Common.{refl}
+use Rattle.csv.specs.Records.{fields_of}
+use Rattle.lb_trace.specs.Spelling.{after_first}
+use Rattle.lb_trace.proofs.Nexts.{truth-table}
 use Rattle.lb_trace.proofs.table.table_of.Goals as goal
 
 pub returns : goal.returns
 returns c =
-    let headed = rw c.in-Some.is at c.in_ok-columns.ensures in (
+    let headed = rw c.in-Some.is at c.in_ok-columns.ensures in
+    let order = rw c.deref.ensures.value at c.are_in_order-in_order.ensures in (
       headed.0,
       refl,
       record {
         columns = headed.1;
         count = c.width-count.ensures;
-        order = rw c.deref.ensures.value at c.are_in_order-in_order.ensures;
+        order = order;
         placed = rw (c.deref-3.ensures.value, c.deref-4.ensures.value) at
             c.are_placed-is_placed.ensures;
+        truths = λ told.
+            let both = c.are_truths.ensures told in
+            truth-table c.args.signature.now c.in-Some.columns.items
+            (after_first (fields_of c.args.header)) c.width-count.result headed.1 (order both.0)
+            both.1;
       },
     )

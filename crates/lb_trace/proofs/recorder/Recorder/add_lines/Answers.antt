@@ -1,10 +1,12 @@
 -- One record after the other is added.
 use Rattle.std.proofs.Common.{◌+◌, refl, sym, ap, ◌∙◌, subst}
 use Rattle.std.proofs.lemmas.Result.{err_from_is_err_and}
+use Rattle.lb_static.specs.Signature.{Elements}
 use Rattle.lb_flat.specs.Traces.{Recording, instants_of}
 use Rattle.lb_trace.specs.Lines.{record_of}
 use Rattle.lb_trace.specs.Mirrors.{RowsFollow}
 use Rattle.lb_trace.specs.Tables.{columns_in}
+use Rattle.lb_trace.specs.TruthBits.{AreTruthTable}
 use Rattle.lb_trace.proofs.LineReadings.{lines-counted, lines-end, lines-more, lines-refused}
 use Rattle.lb_trace.proofs.Readings.{rows_follow}
 use Rattle.lb_trace.proofs.recorder.Recorder.add_lines.Goals as goal
@@ -31,6 +33,13 @@ add_line-requires-clause-kinds c =
     subst (RowsFollow c.args.table.now.columns.items) (sym c.loop-number.invariant.follows)
     (rows_follow c.args.self.now.rows.signature (columns_in c.args.table.now)
     c.args.table.now.columns.items c.requires.table.columns)
+
+pub add_line-requires-clause-truths : goal.add_line-requires-clause-truths
+add_line-requires-clause-truths c are =
+    subst
+    (λ (elements : Elements).
+    AreTruthTable elements c.args.table.now.columns.items c.args.table.now.count)
+    (sym c.loop-number.invariant.follows) (c.requires.table.truths are)
 
 pub returns-in_err-rest-clause-err : goal.returns-in_err-rest-clause-err
 returns-in_err-rest-clause-err c =

@@ -1,35 +1,24 @@
--- A record that was read in one pass is one more instant of its trace.
-use Rattle.std.proofs.Common.{◌≡◌, Some, sym, ◌∙◌, subst}
-use Rattle.std.proofs.lemmas.Result.{err_from_is_err_and}
-use Rattle.lb_trace.specs.Errors.{IsRefusal}
-use Rattle.lb_trace.specs.Lines.{record_of}
-use Rattle.lb_trace.specs.Mirrors.{add_by, record_by}
-use Rattle.lb_trace.proofs.PlacedRows.{line_added}
+-- The name of a record is its first cell, and may be that of the last trace.
+use Rattle.std.proofs.Common.{◌≡◌, sym, subst, true, ◌∙◌}
+use Rattle.lb_flat.specs.Traces.{Recording}
+use Rattle.lb_trace.specs.Refusals.{is_last}
+use Rattle.lb_trace.proofs.Nexts.{has-name}
 use Rattle.lb_trace.proofs.recorder.Recorder.add_row.Goals as goal
 
-pub returns-in_err-add_read-clause-err : goal.returns-in_err-add_read-clause-err
-returns-in_err-add_read-clause-err c =
-    let read = rw c.in-Some.is at c.in-Ok.ensures in
-    let name = c.next_cell-name.result in
-    let added : record_by c.args.self.now.rows.signature c.args.table.now.columns.items
-    c.args.table.now.count c.args.self.now.rows.traces (record_of c.args.text.now)
-    ≡ add_by c.args.self.now.rows.signature name.bytes.now c.args.self.now.rows.traces
-    (Some c.read_cells.new.row.items) =
-    line_added c.args.self.now.rows.signature c.args.table.now.columns.items
-    c.args.table.now.count c.args.self.now.rows.traces c.args.text.now name.bytes.now name.rest.now
-    name.is_last c.read_cells.new.row.items c.next_cell-name.ensures.cells c.if-name.false
-    c.requires.lawful.each read.0 read.1 in
-    let p = err_from_is_err_and c.from_residual.result c.from_residual.ensures.1 in
-    rw (p.1, p.2)
-    (subst (λ o. IsRefusal o c.in_err-add_read.field-0.0) (sym added)
-    c.in_err-add_read.ensures.err)
+pub add_truths-requires-clause-next : goal.add_truths-requires-clause-next
+add_truths-requires-clause-next c =
+    let cell = c.name_of-name.result.cell in
+    record {
+      has =
+          has-name c.args.text.now cell.bytes.now cell.rest.now cell.is_last
+          c.name_of-name.ensures.cells c.name_of-name.ensures.after c.if-name.false;
+      same =
+          subst (λ (r : Recording). is_last cell.bytes.now r.traces ≡ true) c.set.ensures
+          (sym c.name_of-name.ensures.same ∙ c.if-name-2.true);
+    }
 
-pub returns-clause-ok : goal.returns-clause-ok
-returns-clause-ok c =
-    let read = rw c.in-Some.is at c.in-Ok.ensures in
-    let name = c.next_cell-name.result in
-    line_added c.args.self.now.rows.signature c.args.table.now.columns.items
-    c.args.table.now.count c.args.self.now.rows.traces c.args.text.now name.bytes.now name.rest.now
-    name.is_last c.read_cells.new.row.items c.next_cell-name.ensures.cells c.if-name.false
-    c.requires.lawful.each read.0 read.1
-    ∙ c.in_ok-add_read.ensures.ok
+pub add_cells-requires-clause-first : goal.add_cells-requires-clause-first
+add_cells-requires-clause-first c =
+    let cell = c.name_of-name.result.cell in
+    has-name c.args.text.now cell.bytes.now cell.rest.now cell.is_last
+    c.name_of-name.ensures.cells c.name_of-name.ensures.after c.if-name.false
