@@ -5,7 +5,7 @@
 #
 #     bench/workers/run.sh [RECORDS]
 set -euo pipefail
-records=${1:-570000}
+records=${1:-1600000}
 here=$(cd "$(dirname "$0")" && pwd)
 top=$(cd "$here/../.." && pwd)
 lbench=$top/crates/lbench
@@ -52,7 +52,7 @@ awk -v records="$records" '
             reading = least["reading-" numbers[i]]
             rest = whole - reading
             printf "%-8s %9.3f %9.3f %14.3f %14.1f %9.2f\n", numbers[i], whole / 1e6,
-                reading / 1e6, rest / 1e6, rest * 1e3 / records, rest > 0 ? alone / rest : 0
+                reading / 1e6, rest / 1e6, rest * 1e3 / records, (rest > 0 ? alone / rest : 0)
         }
     }' "$work/times"
 awk '

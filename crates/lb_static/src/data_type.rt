@@ -69,6 +69,9 @@ impl DataType {
             option_map view_type o ≡ declared_type statics.now variable.now) }
     {
         let kind = variable.kind;
+        if variable.sizes == 0 {
+            return Ok(Some(DataType::scalar(alloc, kind)));
+        }
         let values = part_of(statics, variable.first_size.0, variable.sizes);
         match naturals(alloc, values)? {
             Some(sizes) => Ok(Some(DataType { kind, sizes })),
