@@ -1,15 +1,15 @@
 -- One more record, by its parts.
-use Rattle.std.proofs.Common.{ℕ, ◌≡◌, ◌≢◌, ◌+◌, ◌*◌, Bool, true, false, ◌&&◌, ◌||◌, ◌==◌, not}
+use Rattle.std.proofs.Common.{ℕ, ◌≡◌, ◌≢◌, Bool, true, false, ◌&&◌, ◌||◌, ◌==◌, not}
 use Rattle.std.proofs.Common.{if◌then◌else◌, List, [], ◌∷◌, ◌++◌, length, Option, Some, None}
-use Rattle.std.proofs.Common.{Result, Ok, Err, refl, sym, ap, ◌∙◌, eq-eqb, nat_le, nat_lt}
+use Rattle.std.proofs.Common.{Result, Err, refl, sym, ap, ◌∙◌, eq-eqb}
 use Rattle.std.proofs.lemmas.Bool.{eqb-true, false_from_ne_true}
 use Rattle.std.proofs.lemmas.List.Folds.{list_any-append}
 use Rattle.std.specs.List.{All, list_any}
 use Rattle.std.specs.Str.{bytes_eq}
 use Rattle.csv.specs.Records.{field_at}
 use Rattle.lb_static.specs.Signature.{Elements}
-use Rattle.lb_flat.specs.Traces.{IsTrace, IsTraceName, Row, Trace, Traces, cells_of_instant}
-use Rattle.lb_flat.specs.Traces.{instants_of, last_rows, with_row, with_trace}
+use Rattle.lb_flat.specs.Traces.{IsTrace, IsTraceName, Row, Trace, Traces}
+use Rattle.lb_flat.specs.Traces.{with_row, with_trace}
 use Rattle.lb_trace.specs.declared.header.Column.{Column}
 use Rattle.lb_trace.specs.Mirrors.{add_by, go_on_by, record_by, row_by, start_by}
 use Rattle.lb_trace.specs.Mirrors.{start_cells}

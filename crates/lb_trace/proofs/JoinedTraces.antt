@@ -15,7 +15,7 @@ use Rattle.lb_flat.specs.Traces.{IsRecording, IsRow, Recording, Row, Trace, Trac
 use Rattle.lb_flat.specs.Traces.{cells_of_instant, instants_of, last_rows, trace_at, with_row}
 use Rattle.lb_flat.specs.Traces.{with_rows, with_trace}
 use Rattle.lb_trace.specs.declared.recorder.Recorder.{Recorder}
-use Rattle.lb_trace.specs.Mirrors.{add_by, go_on_by, start_by, start_cells}
+use Rattle.lb_trace.specs.Mirrors.{add_by, start_cells}
 use Rattle.lb_trace.specs.Refusals.{is_last, is_trace_name, with_instant}
 use Rattle.lb_trace.specs.Spelling.{Instant, instants}
 use Rattle.lb_trace.proofs.Names.{bytes_eq-same, is_last-push}
@@ -157,22 +157,6 @@ traces-more traces before after next k below so_far more =
     ∙ ap (λ is. before ++ is)
     (sym (flat_map-append rows_in (take k traces) (trace_at traces k ∷ [])))
     ∙ ap (λ ts. before ++ instants ts) (sym (take_more traces k ([], []) below))
-
--- one more part
-pub parts-more : (parts : List Recorder) (before after next : List Instant) (k : ℕ) (d : Recorder)
-    → k < length parts
-    → after ≡ before ++ flat_map (λ part. instants part.rows.traces) (take k parts)
-    → next ≡ after ++ instants (get_or parts k d).rows.traces
-    → next ≡ before ++ flat_map (λ part. instants part.rows.traces) (take (k + 1) parts)
-parts-more parts before after next k d below so_far more =
-    let all_in : Recorder → List Instant = λ part. instants part.rows.traces in
-    let one : List Instant = all_in (get_or parts k d) in
-    more ∙ ap (λ is. is ++ one) so_far
-    ∙ append_assoc before (flat_map all_in (take k parts)) one
-    ∙ ap (λ is. before ++ (flat_map all_in (take k parts) ++ is)) (sym (append-nil one))
-    ∙ ap (λ is. before ++ is)
-    (sym (flat_map-append all_in (take k parts) (get_or parts k d ∷ [])))
-    ∙ ap (λ ps. before ++ flat_map all_in ps) (sym (take_more parts k d below))
 
 -- the first part, and the others
 pub parts-whole : (parts rest : List Recorder) (first : Recorder) (all : List Instant)

@@ -1,6 +1,6 @@
 -- What is read of the records of a text without quotes, one after the other.
 use Rattle.std.proofs.Common.{ℕ, ◌≡◌, ◌+◌, ◌≤◌, ◌==◌, true, false, List, [], ◌∷◌, length, map}
-use Rattle.std.proofs.Common.{Result, Ok, Err, refl, sym, ap, ◌∙◌, inl, inr, ◌⊎◌, ⊎_elim}
+use Rattle.std.proofs.Common.{Result, Ok, Err, refl, sym, ap, ◌∙◌, inl, inr, ⊎_elim}
 use Rattle.lb_static.specs.Signature.{Elements}
 use Rattle.lb_flat.specs.Traces.{Recording, Traces, instants_of}
 use Rattle.lb_trace.specs.declared.error.TraceError.{TraceError}

@@ -80,7 +80,7 @@ fn joined(alloc: Global, signature: &Signature, parts: Vec<Recorder>) -> Option<
         return None;
     }
     let mut all = others.remove(0);
-    let Ok(()) = all.join_all(alloc, &others) else {
+    let Ok(()) = all.join_all(alloc, others) else {
         return None;
     };
     let set = all.rows.into_set();

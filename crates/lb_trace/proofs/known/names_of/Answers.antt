@@ -1,5 +1,5 @@
 -- One name after the other is put into the set.
-use Rattle.std.proofs.Common.{ap, ◌∙◌, arith, List}
+use Rattle.std.proofs.Common.{ap, ◌∙◌, arith}
 use Rattle.std.proofs.lemmas.List.{take_all}
 use Rattle.std.specs.HashSet.{contains_text}
 use Rattle.std.specs.List.{list_any}

@@ -1,5 +1,5 @@
 -- A name that is put into a set is there.
-use Rattle.std.proofs.Common.{◌≡◌, ◌||◌, not, true, false, Bool, sym, ap, ◌∙◌, refl, cond}
+use Rattle.std.proofs.Common.{◌≡◌, ◌||◌, not, true, false, Bool, ap, ◌∙◌, refl, cond}
 use Rattle.std.proofs.Common.{string_bytes}
 use Rattle.std.specs.Str.{bytes_eq}
 use Rattle.std.specs.HashSet.{contains_text}

@@ -1,5 +1,5 @@
 -- The name of the last trace is that at the last place.
-use Rattle.std.proofs.Common.{arith, ◌-◌, ◌<◌, length, sym, ap, ◌∙◌}
+use Rattle.std.proofs.Common.{arith, ◌-◌, ◌<◌, length, ap, ◌∙◌}
 use Rattle.lb_trace.specs.Mirrors.{is_below}
 use Rattle.lb_trace.proofs.KnownNames.{rises-none, rises_at}
 use Rattle.lb_trace.proofs.known.rises_to.Goals as goal

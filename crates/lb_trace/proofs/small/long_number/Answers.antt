@@ -1,4 +1,4 @@
-use Rattle.std.proofs.Common.{ap, sym, subst, ◌∙◌, arith, take, List, ℕ, ◌≡◌, true}
+use Rattle.std.proofs.Common.{ap, ◌∙◌, arith, take, List, ℕ}
 use Rattle.std.specs.Char.{is_ascii_digit}
 use Rattle.std.specs.List.{list_all}
 use Rattle.lb_trace.proofs.Fronts.{digits-long}

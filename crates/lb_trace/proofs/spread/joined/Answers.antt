@@ -1,5 +1,5 @@
 -- The others are put to the first.
-use Rattle.std.proofs.Common.{◌≡◌, ◌<◌, List, sym, ap, ◌∙◌, arith, length}
+use Rattle.std.proofs.Common.{◌≡◌, ◌<◌, sym, ap, ◌∙◌, arith, length}
 use Rattle.std.proofs.lemmas.Bool.Decides.{nat_tests}
 use Rattle.lb_flat.specs.Traces.{Recording}
 use Rattle.lb_trace.specs.declared.recorder.Recorder.{Recorder}
@@ -25,7 +25,7 @@ join_all-requires-clause-same c =
     c.remove-all.result some c.remove-all.ensures.value
     (λ k d below. (c.requires k d below).0) in
     parts-others (λ (part : Recorder). part.rows.signature ≡ c.remove-all.result.rows.signature)
-    c.args.parts.items c.deref.result.now (c.deref.ensures.value ∙ c.remove-all.ensures.items)
+    c.args.parts.items c.remove-all.new.self.items c.remove-all.ensures.items
     (λ k d below. (c.requires k d below).0 ∙ sym first)
 
 pub returns : goal.returns
@@ -40,7 +40,7 @@ returns c =
           ∙ first,
       c.signature.ensures.lawful,
       ap (λ (r : Recording). instants r.traces) c.into_set-set.ensures
-          ∙ parts-whole c.args.parts.items c.deref.result.now c.remove-all.result _ some
-          c.remove-all.ensures.value (c.deref.ensures.value ∙ c.remove-all.ensures.items)
+          ∙ parts-whole c.args.parts.items c.remove-all.new.self.items c.remove-all.result _ some
+          c.remove-all.ensures.value c.remove-all.ensures.items
           c.in-Ok.ensures.instants,
     )

@@ -1,5 +1,4 @@
 -- All names are in the set.
-use Rattle.std.proofs.Common.{refl}
 use Rattle.lb_trace.proofs.known.Known.gather.Goals as goal
 
 pub returns-then-not-self-clause-names : goal.returns-then-not-self-clause-names

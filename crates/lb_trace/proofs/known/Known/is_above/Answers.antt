@@ -1,5 +1,5 @@
 -- The names rise, or they do not.
-use Rattle.std.proofs.Common.{◌≡◌, ◌&&◌, false, true, sym, ap, ◌∙◌}
+use Rattle.std.proofs.Common.{◌&&◌, sym, ap, ◌∙◌}
 use Rattle.lb_trace.specs.Mirrors.{rises_to}
 use Rattle.lb_trace.proofs.known.Known.is_above.Goals as goal
 

@@ -1,12 +1,11 @@
 -- A lawful name is text, and it is new if it rises above the last one or the set has it not.
 use Rattle.std.proofs.Common.{◌≡◌, ◌||◌, ◌&&◌, not, true, false, Bool, List, ℕ, sym, ap, ◌∙◌, refl}
-use Rattle.std.proofs.Common.{subst}
 use Rattle.std.specs.HashSet.{contains_text}
 use Rattle.std.specs.List.{list_any}
 use Rattle.std.specs.Str.{bytes_eq}
 use Rattle.std.proofs.lemmas.Bool.{false_from_ne_true}
 use Rattle.std.proofs.lemmas.Str.{IsUtf8-from_ascii}
-use Rattle.lb_flat.specs.Traces.{Row, Trace, with_trace}
+use Rattle.lb_flat.specs.Traces.{Trace}
 use Rattle.lb_flat.proofs.NameTexts.{IsAscii-name}
 use Rattle.lb_trace.specs.Mirrors.{rises_to}
 use Rattle.lb_trace.specs.Refusals.{is_trace_name}

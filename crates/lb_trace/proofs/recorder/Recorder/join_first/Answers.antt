@@ -1,5 +1,5 @@
 -- The first row of a trace is copied and added.
-use Rattle.std.proofs.Common.{◌≡◌, ◌++◌, true, Ok, Some, sym, ap, ◌∙◌, arith}
+use Rattle.std.proofs.Common.{◌≡◌, ◌++◌, Ok, Some, sym, ap, ◌∙◌, arith}
 use Rattle.std.proofs.lemmas.Result.{on_ok_weaker}
 use Rattle.std.specs.Prelude.{[], get_or}
 use Rattle.lb_flat.specs.Traces.{Row, trace_at}

@@ -1,5 +1,5 @@
 -- The first row of a trace, and the others.
-use Rattle.std.proofs.Common.{◌≡◌, ap, ◌∙◌}
+use Rattle.std.proofs.Common.{◌≡◌}
 use Rattle.std.proofs.lemmas.Result.{on_ok_weaker}
 use Rattle.std.specs.Prelude.{◌++◌, drop, map}
 use Rattle.lb_flat.specs.Traces.{Row, trace_at}
