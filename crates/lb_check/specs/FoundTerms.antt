@@ -1,7 +1,8 @@
 -- What is found of the expressions in a text, number by number: an expression has the number of its
 -- place among all that stand in its node, in text order, parentheses apart.
 -- This file says what data of the program mean; no definition of the language stands on it.
-use Rattle.std.specs.Prelude.{◌≡◌, ℕ, Bool, true, false, ◌&&◌, min, nat_lt, Option, Some, None, List}
+use Rattle.std.specs.Prelude.{◌≡◌, ℕ, Bool, true, false, ◌&&◌, min, nat_lt, Option, Some, None}
+use Rattle.std.specs.Prelude.{List}
 use Rattle.std.specs.Prelude.{Vec, [], map, length, reverse, slice_get}
 use Rattle.std.specs.Global.{Global}
 use Rattle.std.specs.List.{list_all}

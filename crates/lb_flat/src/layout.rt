@@ -12,7 +12,7 @@ ghost use Rattle.lb_static.specs.Specialized.{size_of, times_sizes};
 ghost use Rattle.lb_flat.specs.Rows.{sum_of, declared_width, widths_in, AreAdded};
 
 use crate::error::FlatError;
-use lb_static::{Instance, InstanceId, Reached, StaticInt, Table, Variable, VariableId};
+use lb_static::{Instance, InstanceId, Reached, StaticInt, Table, Variable, VariableId, part_of};
 use std::alloc::Global;
 use std::ops::Range;
 
@@ -51,26 +51,11 @@ fn element_count(sizes: &[StaticInt]) -> u64
     elements
 }
 
-/// So many static values, from one on.
-fn values_at(statics: &[StaticInt], first: usize, count: usize) -> &[StaticInt]
-    ensures { result.now ≡ take count (drop first statics.now) }
-{
-    if statics.len() <= first {
-        return &statics[..0];
-    }
-    let rest = &statics[first..];
-    if rest.len() <= count {
-        rest
-    } else {
-        &rest[..count]
-    }
-}
-
 /// How many elements a variable has under these static values, or 65,537 for more than 65,536.
 pub(crate) fn width(statics: &[StaticInt], variable: &Variable) -> u32
     ensures { result ≡ min (declared_width statics.now variable.now) 65537 }
 {
-    let sizes = values_at(statics, variable.first_size.0, variable.sizes);
+    let sizes = part_of(statics, variable.first_size.0, variable.sizes);
     element_count(sizes) as u32
 }
 

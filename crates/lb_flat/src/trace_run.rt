@@ -32,8 +32,8 @@ pub fn eval_prepared(
     requires trace { k < length (recording_in recorded.now).traces }
     requires room { IsRoomFor prepared.now scratch.old }
     ensures room { IsRoomFor prepared.now scratch.new }
-    ensures verdict { IsVerdictOf (program_of (program_in prepared.now)) (recording_in recorded.now) k
-        result }
+    ensures verdict { IsVerdictOf (program_of (program_in prepared.now))
+        (recording_in recorded.now) k result }
 {
     let set = recorded.set;
     let kinds = recorded.kinds.as_slice();

@@ -11,7 +11,8 @@
 //! ```
 
 ghost use Rattle.std.specs.Prelude.{◌≡◌, ◌≢◌, ◌==◌, ℕ, ◌<◌, ◌≤◌, ◌+◌, ◌*◌, ◌^◌, ◌||◌, ◌↔◌};
-ghost use Rattle.std.specs.Prelude.{IsTrue, false, [], ◌∷◌, ◌++◌, length, get_or, slice_get, vec_len};
+ghost use Rattle.std.specs.Prelude.{IsTrue, false, [], ◌∷◌, ◌++◌, length, get_or, slice_get};
+ghost use Rattle.std.specs.Prelude.{vec_len};
 ghost use Rattle.std.specs.Prelude.{vec_capacity, Some, IfOk, OnOk, OnErr, pos, int_le, All};
 ghost use Rattle.std.specs.Int.{bit_at};
 ghost use Rattle.std.specs.List.{Contains};

@@ -1,6 +1,7 @@
 //! The names of the scalar elements of a variable.
 
-ghost use Rattle.std.specs.Prelude.{◌≡◌, ◌≤◌, ◌+◌, ◌++◌, map, length, reverse, string_bytes, OnOk, IfOk};
+ghost use Rattle.std.specs.Prelude.{◌≡◌, ◌≤◌, ◌+◌, ◌++◌, map, length, reverse, string_bytes};
+ghost use Rattle.std.specs.Prelude.{OnOk, IfOk};
 ghost use Rattle.lb_static.specs.Interfaces.{elements_named};
 ghost use Rattle.lb_static.specs.DataTypes.{element_names, index_text, product, total};
 ghost use Rattle.lb_static.specs.StoredTypes.{view_type};

@@ -19,11 +19,11 @@ use Rattle.lb_syntax.proofs.Spans.{made_is, mark_reads, name_reads, Takes, takes
 use Rattle.lb_syntax.proofs.Spans.{takes_nothing, takes_then, takes_either, takes_may}
 use Rattle.lb_syntax.proofs.Spans.{takes_separator, takes_tail, takes_list, takes_less, takes_any}
 use Rattle.lb_syntax.proofs.ListLaws.{GoWith, any_read, list_read, any_reads, list_reads}
-use Rattle.lb_syntax.proofs.DeclarationLaws.{Anywhere, IsNamed, names_read, names_reads, takes_names}
+use Rattle.lb_syntax.proofs.DeclarationLaws.{Anywhere, IsNamed, names_read, names_reads}
 use Rattle.lb_syntax.proofs.DeclarationLaws.{named_no_mark, skip_read, skip_reads, groups_read}
 use Rattle.lb_syntax.proofs.DeclarationLaws.{groups_reads, inputs_read, inputs_reads, locals_read}
-use Rattle.lb_syntax.proofs.DeclarationLaws.{locals_reads, takes_declared, takes_inputs, takes_locals}
-use Rattle.lb_syntax.proofs.DeclarationLaws.{names_begin}
+use Rattle.lb_syntax.proofs.DeclarationLaws.{locals_reads, takes_declared, takes_inputs}
+use Rattle.lb_syntax.proofs.DeclarationLaws.{takes_locals, takes_names, names_begin}
 use Rattle.lb_syntax.proofs.Sound.{expression_read}
 use Rattle.lb_syntax.proofs.Ends.{ends_mark, ends_semicolon}
 use Rattle.lb_syntax.proofs.Complete.{expression_reads}

@@ -257,8 +257,8 @@ pub fn push_results(alloc: Global, asked: &str, said: &mut String) -> Result<(),
 // Two planes, then lanes 0 and 1 of two words, and commands; how many instructions that takes, and
 // the places that they give. `~` is "and not", `?` chooses a plane, `l` is "at most", and `b`
 // chooses a word; behind the operands of an operator stands the plane of its lanes, and its faults
-// follow its results. Where what is asked is there already, no instruction is made; `^` first makes a
-// plane that is not the second one.
+// follow its results. Where what is asked is there already, no instruction is made; `^` first makes
+// a plane that is not the second one.
 const CODES: &str = "\
 12 10 0 0 0 0 | & 2 3, | 2 3, ^ 2 3, ~ 2 3, ~ 3 2, ~ 1 2 => \
 7: 4=8 5=14 7=6 8=4 9=2 10=18446744073709551603

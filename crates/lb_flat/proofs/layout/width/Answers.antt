@@ -7,4 +7,4 @@ use Rattle.lb_flat.proofs.layout.width.Goals as goal
 pub returns : goal.returns
 returns c =
     c.element_count.ensures.value
-    ∙ (ap (times_sizes 1) c.values_at-sizes.ensures ∙ capped c.args.statics.now c.args.variable.now)
+    ∙ (ap (times_sizes 1) c.part_of-sizes.ensures ∙ capped c.args.statics.now c.args.variable.now)

@@ -4,8 +4,12 @@ use Rattle.std.proofs.lemmas.Option.{get_or_from_slice_get, slice_get_within}
 use Rattle.lb_syntax.specs.declared.tree.Kind.TheVariants.{Int as Int_kind, Bool as Bool_kind}
 use Rattle.lb_static.specs.Signature.{kinds_of}
 use Rattle.lb_flat.proofs.KindColumns.{truths_few, integers_few, columns_truth, columns_integer}
-use Rattle.lb_flat.proofs.row_columns.row_columns.Goals.{in-Bool+in_ok-push-in-Bool+in_ok-push-in-Bool-2}
-use Rattle.lb_flat.proofs.row_columns.row_columns.Goals.{in-Int+in_ok-push-in-Int+in_ok-push-in-Int-2}
+use Rattle.lb_flat.proofs.row_columns.row_columns.Goals.{
+  in-Bool+in_ok-push-in-Bool+in_ok-push-in-Bool-2,
+}
+use Rattle.lb_flat.proofs.row_columns.row_columns.Goals.{
+  in-Int+in_ok-push-in-Int+in_ok-push-in-Int-2,
+}
 use Rattle.lb_flat.proofs.row_columns.row_columns.Goals as goal
 
 pub overflow_cast-len : goal.overflow_cast-len

@@ -1,6 +1,6 @@
 -- One more trace has been judged.
-use Rattle.std.proofs.Common.{◌≡◌, ◌++◌, ◌∷◌, [], ◌<◌, ◌≤◌, List, ℕ, length, get_or, take, sym, ap, ◌∙◌}
-use Rattle.std.proofs.Common.{subst, arith, append_assoc}
+use Rattle.std.proofs.Common.{◌≡◌, ◌++◌, ◌∷◌, [], ◌<◌, ◌≤◌, List, ℕ, length, get_or, take, sym}
+use Rattle.std.proofs.Common.{ap, ◌∙◌, subst, arith, append_assoc}
 use Rattle.std.specs.List.{All}
 use Rattle.std.proofs.lemmas.List.{map-append, take_more, take_all}
 use Rattle.std.proofs.lemmas.List.Elements.{All-push}
@@ -70,4 +70,5 @@ returns-clause-numbers c =
     let old = numbers_of c.args.judged.now.items in
     c.loop-j.invariant.0
     ∙ ap (λ (l : List ℕ). old ++ l)
-    (take_all c.loop-j.j batch (omega (arith, c.loop-j-test.false)) ∙ c.batch-numbers.ensures.numbers)
+    (take_all c.loop-j.j batch (omega (arith, c.loop-j-test.false))
+    ∙ c.batch-numbers.ensures.numbers)

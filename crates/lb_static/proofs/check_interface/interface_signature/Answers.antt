@@ -7,8 +7,12 @@ use Rattle.lb_static.specs.Interfaces.{view_interface, inputs_of, elements_named
 use Rattle.lb_static.proofs.RootFaults.{fault_for}
 use Rattle.lb_static.proofs.InterfaceRules.{too_many, few_enough}
 use Rattle.lb_static.proofs.check_interface.interface_signature.Goals as goal
-use Rattle.lb_static.proofs.check_interface.interface_signature.Goals.{then-not-root-via-then-not-root}
-use Rattle.lb_static.proofs.check_interface.interface_signature.Goals.{then-not-root-via-else-not-root+then-scalar_inputs-gt-MOST}
+use Rattle.lb_static.proofs.check_interface.interface_signature.Goals.{
+  then-not-root-via-then-not-root,
+}
+use Rattle.lb_static.proofs.check_interface.interface_signature.Goals.{
+  then-not-root-via-else-not-root+then-scalar_inputs-gt-MOST,
+}
 
 none : (a b : Bool) → (a && (b && false)) ≡ false
 none true true = refl

@@ -6,7 +6,9 @@ use Rattle.lb_static.specs.ResolvedTerms.{static_of}
 use Rattle.lb_static.specs.WorkLists.{visited_after_all}
 use Rattle.lb_static.proofs.ConstantPlaces.{visit_end, visit_item, visit_one_name}
 use Rattle.lb_static.proofs.constant_names.visit_parts.Goals as goal
-use Rattle.lb_static.proofs.constant_names.visit_parts.Goals.{in-Written+in_ok-visit_names-in-Written}
+use Rattle.lb_static.proofs.constant_names.visit_parts.Goals.{
+  in-Written+in_ok-visit_names-in-Written,
+}
 use Rattle.lb_static.proofs.constant_names.visit_parts.Goals.{in-Named+in_ok-visit_name-in-Named}
 
 pub loop-part-preserved : goal.loop-part-preserved

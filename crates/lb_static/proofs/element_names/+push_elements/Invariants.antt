@@ -11,6 +11,7 @@ abbrev pub invariant-loop-i : goal.invariant-loop-i
 invariant-loop-i l = record {
   names : l.signature ≡ l.fn.signature
       ++ map (λ x. (x, l.kind))
-      (flat_map (λ i. element_names (l.name ++ index_text i) (reverse l.inner)) (range_with_len 0 l.i));
+      (flat_map (λ i. element_names (l.name ++ index_text i) (reverse l.inner))
+      (range_with_len 0 l.i));
   count : length l.signature ≡ length l.fn.signature + l.i * product (reverse l.inner);
 }

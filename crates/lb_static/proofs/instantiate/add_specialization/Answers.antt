@@ -13,7 +13,9 @@ use Rattle.lb_static.proofs.InstanceSteps.{judged_more, added_known, grown_more}
 use Rattle.lb_static.proofs.InstanceRows.{row_set}
 use Rattle.lb_static.proofs.instantiate.add_specialization.Goals as goal
 use Rattle.lb_static.proofs.instantiate.add_specialization.Goals.{in-Some}
-use Rattle.lb_static.proofs.instantiate.add_specialization.Goals.{in-None+in_ok-values-in-None+in_ok-id-in-None}
+use Rattle.lb_static.proofs.instantiate.add_specialization.Goals.{
+  in-None+in_ok-values-in-None+in_ok-id-in-None,
+}
 
 pub returns-clause-grown : goal.returns-clause-grown
 returns-clause-grown c =

@@ -7,8 +7,9 @@ use Rattle.lb_flat.specs.Programs.{numbers_of}
 use Rattle.lb_flat.specs.TermEmissions.{state_of, emitted_of}
 use Rattle.lb_flat.proofs.ClockElements.{flag_put, flag_skipped}
 use Rattle.lb_flat.proofs.expansion.term_emission.TermEmission.put_flagged.Goals as goal
-use Rattle.lb_flat.proofs.expansion.term_emission.TermEmission.put_flagged.Goals.{}
-use Rattle.lb_flat.proofs.expansion.term_emission.TermEmission.put_flagged.Goals.{then-flags-x+in_ok-put}
+use Rattle.lb_flat.proofs.expansion.term_emission.TermEmission.put_flagged.Goals.{
+  then-flags-x+in_ok-put,
+}
 use Rattle.lb_flat.proofs.expansion.term_emission.TermEmission.put_flagged.Goals.{else-flags-x}
 
 pub loop-x-init : goal.loop-x-init

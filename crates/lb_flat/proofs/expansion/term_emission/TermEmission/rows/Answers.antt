@@ -106,5 +106,6 @@ returns-clause-state g c =
     let is = t.instances.items in
     let cs = g.F.TableFrame.contexts c.args.frame.now in
     rows_end r t cs (state_of l.self) (emit_rows (state_of c.args.self.now) (bodies r t cs 0 is))
-    is l.number (omega (arith, c.loop-number-test.false, l.auto.number-end, c.len-number-end.ensures))
+    is l.number
+    (omega (arith, c.loop-number-test.false, l.auto.number-end, c.len-number-end.ensures))
     l.invariant.rest
