@@ -1,6 +1,5 @@
 -- The verdict of the flat program on a recorded trace is that of each program that it stands for.
-use Rattle.std.proofs.Common.{◌≡◌, ◌≢◌, ℕ, ◌<◌, [], length, sym, ap, ◌∙◌}
-use Rattle.lb_static.specs.Signature.{Elements, kinds_of}
+use Rattle.std.proofs.Common.{◌≡◌, ℕ, ◌<◌, [], length}
 use Rattle.lb_check.specs.declared.verdict.Verdict.{Verdict}
 use Rattle.lb_flat.specs.Fitting.{IsFitting}
 use Rattle.lb_flat.specs.Flat.{FlatClock}
@@ -26,15 +25,4 @@ verdict_of f r k v ready lawful below is = record {
   has_one_history = λ P flat same.
       let determined = standing_determined P f flat ready in
       determined.one (inputs_of r k) (trace_given P r k same lawful below);
-}
-
--- where the kinds are others, no program has both
-pub no_verdict :
-    (f : FlatProgram) (r : Recording) (k : ℕ) (v : Verdict) →
-    kinds_of r.signature ≢ f.inputs → IsVerdictOf f r k v
-no_verdict f r k v other = record {
-  only_verdict = λ P flat same.
-      absurd (other (ap (λ (e : Elements). kinds_of e) (sym same) ∙ sym flat.signature));
-  has_one_history = λ P flat same.
-      absurd (other (ap (λ (e : Elements). kinds_of e) (sym same) ∙ sym flat.signature));
 }

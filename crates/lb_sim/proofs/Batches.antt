@@ -18,20 +18,6 @@ use Rattle.lb_sim.specs.BatchLanes.{IsAt}
 
 -- ## A verdict that has been found stays
 
-or_later_still : (u v w : Verdict) → or_later (or_later u v) w ≡ or_later u (or_later v w)
-or_later_still Passed v w = refl
-or_later_still (Fault t) v w = refl
-or_later_still (Undefined t) v w = refl
-or_later_still (Assertion t) v w = refl
-or_later_still (False t) v w = refl
-
-or_later_found : (u v : Verdict) → u ≢ Passed → or_later u v ≡ u
-or_later_found Passed v found = absurd (found refl)
-or_later_found (Fault t) v found = refl
-or_later_found (Undefined t) v found = refl
-or_later_found (Assertion t) v found = refl
-or_later_found (False t) v found = refl
-
 judged_found : (f : FlatProgram) (t : ℕ) (rows more : List Row) → rows_judged f t rows ≢ Passed →
     rows_judged f t (rows ++ more) ≡ rows_judged f t rows
 judged_found f t [] more found = absurd (found refl)

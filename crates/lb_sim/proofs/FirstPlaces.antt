@@ -1,28 +1,19 @@
 -- What is there before the code: one more plane or word, and what a memory holds at first.
-use Rattle.std.proofs.Common.{◌≡◌, ◌≢◌, ℕ, suc, ◌+◌, ◌<◌, ◌⊎◌, ◌||◌, Bool, true, false, not}
-use Rattle.std.proofs.Common.{List}
-use Rattle.std.proofs.Common.{[], ◌∷◌, ◌++◌, ℤ, pos, cond, length, refl, sym, ap, ap₂, ◌∙◌, subst}
-use Rattle.std.proofs.Common.{inl, inr, arith}
+use Rattle.std.proofs.Common.{◌≡◌, ◌≢◌, ℕ, suc, ◌+◌, ◌<◌, ◌⊎◌, Bool, true, false, not, List, []}
+use Rattle.std.proofs.Common.{◌∷◌, ◌++◌, ℤ, pos, cond, length, refl, sym, ap, ap₂, ◌∙◌, subst, inl}
+use Rattle.std.proofs.Common.{inr, arith}
 use Rattle.std.specs.Prelude.{slice_index, slice_index_or}
-use Rattle.std.proofs.lemmas.List.{get_or_append_left, get_or_push, length_push}
+use Rattle.std.proofs.lemmas.List.{get_or_append_left, get_or_push}
 use Rattle.lb_syntax.specs.declared.tree.Kind.{Kind}
-use Rattle.lb_syntax.specs.declared.tree.Kind.TheVariants.{Int as Int_kind, Bool as Bool_kind}
 use Rattle.lb_check.specs.Scalars.{Scalar, Integer, Boolean, Nil, Bad}
-use Rattle.lb_flat.specs.Fitting.{IsOf}
-use Rattle.lb_flat.specs.Flat.{FirstThen, Previous, Latest}
-use Rattle.lb_flat.specs.declared.equation.Operation as code
-use Rattle.lb_flat.specs.declared.equation.Operation.TheVariants as variants
-use Rattle.lb_flat.specs.declared.equation.ElementId.{ElementId}
-use Rattle.lb_flat.specs.declared.scalar.Scalar as code_scalars
-use Rattle.lb_flat.specs.Values.{operation_of}
+use Rattle.lb_flat.specs.Flat.{FirstThen}
 use Rattle.lb_lanes.specs.Planes.{on}
 use Rattle.lb_lanes.proofs.OnPlanes.{on-flip, on-zero}
 use Rattle.lb_machine.specs.declared.instruction.PlaneId.{PlaneId}
-use Rattle.lb_machine.specs.declared.instruction.WordId.{WordId}
 use Rattle.lb_sim.specs.Homes.{plane_in, word_in, is_nil_scalar, is_bad_scalar, IsRow}
 use Rattle.lb_sim.specs.Presets.{IsMore, IsFirstValue, IsFirstHolding, IsFirstMemory, first_lane}
 use Rattle.lb_sim.specs.Showing.{shown, value_at, scalar_at}
-use Rattle.lb_sim.specs.States.{flag_of, no_holding}
+use Rattle.lb_sim.specs.States.{flag_of}
 use Rattle.lb_sim.specs.declared.place.Holding.{Holding}
 use Rattle.lb_sim.specs.declared.place.Value.{Value}
 use Rattle.lb_sim.specs.declared.place.Value.TheVariants.{Truth, Number}
@@ -77,36 +68,6 @@ more_then a b c h g = record {
 }
 
 module _ (old new : Preset) where
-  pub more_planes : (x : ℕ) → new.planes.items ≡ old.planes.items ++ x ∷ [] →
-      new.words.items ≡ old.words.items → IsMore old new
-  more_planes x planes words =
-      let longer : length new.planes.items ≡ length old.planes.items + 1 =
-      ap length planes ∙ length_push old.planes.items x in
-      let as_long : length new.words.items ≡ length old.words.items = ap length words in
-      record {
-        planes = omega (arith, longer);
-        words = omega (arith, as_long);
-        same_planes = λ k lt.
-            ap (λ l. slice_index l k) planes
-            ∙ get_or_append_left old.planes.items (x ∷ []) 0 k lt;
-        same_words = λ k lt. ap (λ l. slice_index_or l k (pos 0)) words;
-      }
-
-  pub more_words : (x : ℤ) → new.words.items ≡ old.words.items ++ x ∷ [] →
-      new.planes.items ≡ old.planes.items → IsMore old new
-  more_words x words planes =
-      let longer : length new.words.items ≡ length old.words.items + 1 =
-      ap length words ∙ length_push old.words.items x in
-      let as_long : length new.planes.items ≡ length old.planes.items = ap length planes in
-      record {
-        planes = omega (arith, as_long);
-        words = omega (arith, longer);
-        same_planes = λ k lt. ap (λ l. slice_index l k) planes;
-        same_words = λ k lt.
-            ap (λ l. slice_index_or l k (pos 0)) words
-            ∙ get_or_append_left old.words.items (x ∷ []) (pos 0) k lt;
-      }
-
   -- what stands at places that were there holds what it held
   pub value_more : IsMore old new → (i : ℕ) (x : Value) → plane_in x < length old.planes.items →
       word_in x < length old.words.items →
@@ -126,58 +87,6 @@ module _ (old new : Preset) where
       (shown (on (slice_index old.planes.items h.bad.0) i)
       (on (slice_index old.planes.items h.nil.0) i))
       (value_more m i h.value plane word)
-
--- ## A value
-
-pub int_kind : (kind : Kind) (z : ℤ) → IsOf kind (Integer z) → Int_kind ≡ kind
-int_kind Int_kind z e = refl
-int_kind Bool_kind z e = absurd (cc)
-
-pub truth_kind : (kind : Kind) (b : Bool) → IsOf kind (Boolean b) → Bool_kind ≡ kind
-truth_kind Bool_kind b e = refl
-truth_kind Int_kind b e = absurd (cc)
-
-module _ (old new : Preset) (kind : Kind) (v : Scalar) where
-  pub truth_value :
-      (p : PlaneId) → p.0 ≡ length old.planes.items →
-      length new.planes.items ≡ length old.planes.items + 1 →
-      new.words.items ≡ old.words.items → (IsOf kind v → Bool_kind ≡ kind) →
-      ((i : ℕ) → i < 64 → is_nil_scalar v ≡ false → is_bad_scalar v ≡ false →
-      Boolean (on (slice_index new.planes.items p.0) i) ≡ v) →
-      IsFirstValue old new kind v (Truth p)
-  truth_value p at planes words kind_is start =
-      let next : suc (length old.planes.items) ≡ length new.planes.items =
-      omega (arith, planes) in
-      record {
-        kind_is = kind_is;
-        is_set = λ e. absurd (omega (arith, e, at, old.two_planes));
-        planes = inr (at, next);
-        words = inl (refl, sym (ap length words));
-        start = start;
-      }
-
-  pub number_value :
-      (w : WordId) → w.0 ≡ length old.words.items →
-      length new.words.items ≡ length old.words.items + 1 →
-      new.planes.items ≡ old.planes.items → (IsOf kind v → Int_kind ≡ kind) →
-      ((i : ℕ) → i < 64 → is_nil_scalar v ≡ false → is_bad_scalar v ≡ false →
-      Integer (slice_index_or new.words.items w.0 (pos 0)) ≡ v) →
-      IsFirstValue old new kind v (Number w)
-  number_value w at words planes kind_is start =
-      let next : suc (length old.words.items) ≡ length new.words.items = omega (arith, words) in
-      record {
-        kind_is = kind_is;
-        is_set = λ e. absurd (omega (arith, e, at, old.one_word));
-        planes = inl (refl, sym (ap length planes));
-        words = inr (at, next);
-        start = start;
-      }
-
--- where a scalar is nil or a fault, no value is wanted
-pub no_start : {A : Type 0} (a b : Bool) → (a || b) ≡ true → a ≡ false → b ≡ false → A
-no_start true b e f g = absurd (cc)
-no_start false true e f g = absurd (cc)
-no_start false false e f g = absurd (cc)
 
 -- ## A holding
 
@@ -267,79 +176,3 @@ module _ (old new : Preset) (kind : Kind) (watched : ℕ → Type 0) where
             (λ x. flag_of (shown x x (Boolean (on (slice_index new.planes.items p.0) i)))) nowhere
             ∙ is i lt);
       }
-
-  pub first_previous :
-      (v : Scalar) (a : ℕ) (h : Holding) → IsFirstHolding old new kind (watched a) v h →
-      IsFirstMemory old new kind watched (Previous v a) h
-  first_previous v a h g = record {
-    memory = g.cell;
-    planes = g.planes;
-    words = g.words;
-    start = λ i lt. ap (λ m. Previous m a) (g.start i lt);
-  }
-
-  pub first_latest :
-      (v : Scalar) (a : ℕ) (h : Holding) → IsFirstHolding old new kind (watched a) v h →
-      IsFirstMemory old new kind watched (Latest v a) h
-  first_latest v a h g = record {
-    memory = g.cell;
-    planes = g.planes;
-    words = g.words;
-    start = λ i lt. ap (λ m. Latest m a) (g.start i lt);
-  }
-
-module _ (old : Preset) (kind : Kind) (watched : ℕ → Type 0) where
-  none_taken : (p : ℕ) → IsRow p (0 ∷ 0 ∷ 0 ∷ []) p
-  none_taken p = inl (refl, inl (refl, inl (refl, refl)))
-
-  pub no_first :
-      (o : code.Operation) →
-      ((s : Bool) (a b : ElementId) → o ≡ variants.FirstThen s a b → ⊥) →
-      ((v : code_scalars.Scalar) (a : ElementId) → o ≡ variants.Previous v a → ⊥) →
-      ((v : code_scalars.Scalar) (a : ElementId) → o ≡ variants.Latest v a → ⊥) →
-      IsFirstMemory old old kind watched (operation_of o) no_holding
-  no_first (variants.Input j) f p l = record {
-    memory = tt;
-    planes = none_taken (length old.planes.items);
-    words = inl (refl, refl);
-    start = λ i lt. refl;
-  }
-  no_first (variants.Constant v) f p l = record {
-    memory = tt;
-    planes = none_taken (length old.planes.items);
-    words = inl (refl, refl);
-    start = λ i lt. refl;
-  }
-  no_first (variants.Copy a) f p l = record {
-    memory = tt;
-    planes = none_taken (length old.planes.items);
-    words = inl (refl, refl);
-    start = λ i lt. refl;
-  }
-  no_first (variants.ApplyUnary op a) f p l = record {
-    memory = tt;
-    planes = none_taken (length old.planes.items);
-    words = inl (refl, refl);
-    start = λ i lt. refl;
-  }
-  no_first (variants.ApplyBinary op a b) f p l = record {
-    memory = tt;
-    planes = none_taken (length old.planes.items);
-    words = inl (refl, refl);
-    start = λ i lt. refl;
-  }
-  no_first (variants.Choose c a b) f p l = record {
-    memory = tt;
-    planes = none_taken (length old.planes.items);
-    words = inl (refl, refl);
-    start = λ i lt. refl;
-  }
-  no_first (variants.FirstThen s a b) f p l = absurd (f s a b refl)
-  no_first (variants.Previous v a) f p l = absurd (p v a refl)
-  no_first (variants.Latest v a) f p l = absurd (l v a refl)
-  no_first (variants.Sample a) f p l = record {
-    memory = tt;
-    planes = none_taken (length old.planes.items);
-    words = inl (refl, refl);
-    start = λ i lt. refl;
-  }

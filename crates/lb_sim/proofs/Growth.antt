@@ -1,9 +1,8 @@
 -- Code that grows more than once, and what was there before.
-use Rattle.std.proofs.Common.{◌≡◌, ◌<◌, ℕ, zero, suc, List, [], ◌∷◌, length, get_or}
-use Rattle.std.proofs.Common.{not, ◌&&◌, refl, ap, ◌∙◌, arith}
-use Rattle.lb_machine.specs.Growing.{IsGrown, IsPlaneFor}
+use Rattle.std.proofs.Common.{◌≡◌, ◌<◌, ℕ, zero, suc, List, [], ◌∷◌, length, get_or, refl, ◌∙◌}
+use Rattle.std.proofs.Common.{arith}
+use Rattle.lb_machine.specs.Growing.{IsGrown}
 use Rattle.lb_machine.specs.declared.code.Code.{Code}
-use Rattle.lb_machine.specs.declared.instruction.PlaneId.{PlaneId}
 use Rattle.lb_sim.specs.Holdings.{IsIn, IsValueIn, IsPlaceIn}
 use Rattle.lb_sim.specs.declared.place.Value.{Value}
 use Rattle.lb_sim.specs.declared.place.Value.TheVariants.{Truth, Number}
@@ -44,16 +43,6 @@ pub place_grown : (a b : Code) (p : Place) → IsGrown a b → IsPlaceIn a p →
 place_grown a b p g w = record {
   holding = holding_grown a b p.holding g w.holding;
   present = omega (arith, w.present, g.planes);
-}
-
--- where a plane is not is where the one that is everywhere is, and it is not
-pub negation_for :
-    (code : Code) (a p : PlaneId) →
-    IsPlaneFor code (λ s. s.bits 1 && not (s.bits a.0)) p →
-    IsPlaneFor code (λ s. not (s.bits a.0)) p
-negation_for code a p h = record {
-  within = h.within;
-  means = λ s r. h.means s r ∙ ap (λ b. b && not (s.bits a.0)) r.constants.everywhere;
 }
 
 -- what stands at a place of a list

@@ -18,10 +18,6 @@ use Rattle.lb_sim.specs.declared.place.Value.TheVariants.{Truth, Number}
 
 -- ## One column more
 
-nothing_more : {A : Type 0} (xs : List A) → xs ++ [] ≡ xs
-nothing_more [] = refl
-nothing_more (x ∷ xs) = ap (λ l. x ∷ l) (nothing_more xs)
-
 pub places_push :
     (j p w : ℕ) (kinds : List Kind) (k : Kind) →
     places_of p w (kinds ++ k ∷ [])

@@ -1,9 +1,8 @@
 -- Where inputs stand: one after the other, each in the next plane or the next word. And the marks
 -- of the elements at which a fault counts.
-use Rattle.std.proofs.Common.{◌≡◌, ℕ, zero, suc, ◌+◌, ◌<◌, ◌≤◌, Bool, true, false, List, [], ◌∷◌}
-use Rattle.std.proofs.Common.{◌++◌}
-use Rattle.std.proofs.Common.{get_or, set, length, take, refl, sym, ap, ap₂, ◌∙◌, subst, arith}
-use Rattle.std.proofs.Common.{inl, inr, ⊎_elim, length-set, take_all}
+use Rattle.std.proofs.Common.{◌≡◌, ℕ, zero, suc, ◌+◌, ◌<◌, Bool, true, false, List, [], ◌∷◌, ◌++◌}
+use Rattle.std.proofs.Common.{get_or, set, length, take, sym, ap, ap₂, ◌∙◌, subst, arith, inl, inr}
+use Rattle.std.proofs.Common.{⊎_elim, length-set}
 use Rattle.std.proofs.lemmas.Bool.{cases_eq}
 use Rattle.std.proofs.lemmas.List.{take_more, length-append, get_or-set_other}
 use Rattle.lb_syntax.specs.Lists.{In}
@@ -22,10 +21,6 @@ pub record AreInputs (kinds : List Kind) (values : List Value) (planes words : �
   pub values_are : values ≡ places_of 2 1 kinds
   pub planes_are : planes ≡ 2 + length (truth_columns 0 kinds)
   pub words_are : words ≡ 1 + length (number_columns 0 kinds)
-
-pub inputs_none : (planes words : ℕ) → planes ≡ 2 → words ≡ 1 → AreInputs [] [] planes words
-inputs_none planes words p w =
-    record { values_are = refl; planes_are = omega (arith, p); words_are = omega (arith, w) }
 
 module _ (kinds : List Kind) (j : ℕ) (values : List Value) (planes words : ℕ)
     (h : AreInputs (take j kinds) values planes words) (lt : j < length kinds) where
@@ -89,23 +84,12 @@ inputs_same kinds values values' planes planes' words words' v p w h = record {
   words_are = w ∙ h.words_are;
 }
 
-pub inputs_all : (kinds : List Kind) (j : ℕ) (values : List Value) (planes words : ℕ) →
-    length kinds ≤ j → AreInputs (take j kinds) values planes words →
-    AreInputs kinds values planes words
-inputs_all kinds j values planes words le h =
-    subst (λ ks. AreInputs ks values planes words) (take_all j kinds le) h
-
 -- ## Marks
 
 -- the marks are on elements of a list
 pub record AreMarked (elements : List ℕ) (marks : List Bool) (size : ℕ) : Type 0 where
   pub as_long : length marks ≡ size
   pub marked : (a : ℕ) → get_or marks a false ≡ true → In a elements
-
-pub there_in : (xs : List ℕ) (j d : ℕ) → j < length xs → In (get_or xs j d) xs
-there_in [] j d lt = absurd (omega (arith, lt))
-there_in (x ∷ xs) zero d lt = inl refl
-there_in (x ∷ xs) (suc j) d lt = inr (there_in xs j d (omega (arith, lt)))
 
 pub number_in : (xs : List ElementId) (j : ℕ) (x : ElementId) → j < length xs →
     get_or xs j x ≡ x → In x.0 (numbers_of xs)

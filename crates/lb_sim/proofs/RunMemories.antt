@@ -1,18 +1,17 @@
 -- What the memories of a flat program hold after rows, and so after a run, from the cells of the
 -- elements that they keep.
-use Rattle.std.proofs.Common.{◌≡◌, inl, inr, ℕ, zero, suc, Bool, true, false, Some, None, List, []}
-use Rattle.std.proofs.Common.{◌∷◌, ◌++◌, map, length, get_or, replicate, refl, sym, ap, ap₂, ◌∙◌}
-use Rattle.std.proofs.Common.{subst, arith}
+use Rattle.std.proofs.Common.{◌≡◌, ℕ, zero, suc, Bool, true, false, Some, None, List, [], ◌∷◌, ◌++◌}
+use Rattle.std.proofs.Common.{map, length, get_or, replicate, refl, sym, ap, ap₂, ◌∙◌, arith}
 use Rattle.std.specs.Prelude.{◌||◌, is_some}
 use Rattle.std.specs.List.{list_any}
 use Rattle.std.proofs.lemmas.List.{length-replicate}
-use Rattle.lb_syntax.specs.Lists.{In, zip2}
-use Rattle.lb_check.specs.Scalars.{Scalar, Cell, Stream}
+use Rattle.lb_syntax.specs.Lists.{zip2}
+use Rattle.lb_check.specs.Scalars.{Cell, Stream}
 use Rattle.lb_check.specs.Solutions.{Inputs}
 use Rattle.lb_check.proofs.LongStreams.{length-both as length-zips}
 use Rattle.lb_flat.specs.Flat.{FlatClock, Operation, Input, Constant, Copy, ApplyUnary, ApplyBinary}
 use Rattle.lb_flat.specs.Flat.{Choose, FirstThen, Previous, Latest, Sample, FlatEquation, column}
-use Rattle.lb_flat.specs.MemoryPlaces.{newest_of, after_rows, cells_in, remembers}
+use Rattle.lb_flat.specs.MemoryPlaces.{after_rows, cells_in, remembers}
 use Rattle.lb_flat.specs.Run.{Row, cell, started_by, remembered, advanced, row_of, run, streams_of}
 use Rattle.lb_flat.proofs.Lists.{map-maps}
 use Rattle.lb_flat.proofs.Rows.{length-row_of}
@@ -83,17 +82,6 @@ after_is (row ∷ rows) Q =
     (λ q. ap (λ o. record { element = q.element; clock = q.clock; operation = o })
     (remembers_more row rows q.operation)) Q
 
-in_map : {A B : Type 0} (f : A → B) (x : A) (xs : List A) → In x xs → In (f x) (map f xs)
-in_map f x [] i = absurd i
-in_map f x (y ∷ ys) (inl e) = inl (ap f e)
-in_map f x (y ∷ ys) (inr i) = inr (in_map f x ys i)
-
--- an equation stands after the rows with what it has kept
-pub memory_after : (rows : List Row) (Q : List FlatEquation) (q : FlatEquation) → In q Q →
-    In (equation_after rows q) (after_rows Q rows)
-memory_after rows Q q i =
-    subst (In (equation_after rows q)) (sym (after_is rows Q)) (in_map (equation_after rows) q Q i)
-
 -- ## The rows of a run
 
 module _ (size : ℕ) where
@@ -138,32 +126,5 @@ module _ (size : ℕ) where
       ap (λ rows. row ∷ rows) (run_appended X Z (map (advanced row) Q))
 
   module _ (X : Inputs) (Q : List FlatEquation) (i : ℕ) (k : FlatClock) where
-    -- the streams that a run computes
-    abbrev own : List Stream
-    own = streams_of size (run size Q X)
-
     abbrev at : Operation → FlatEquation
     at o = record { element = i; clock = k; operation = o }
-
-    -- after a run `pre` and `fby` hold the newest scalar of what they keep
-    pub previous_after : (v : Scalar) (j : ℕ) → In (at (Previous v j)) Q →
-        In (at (Previous (newest_of v (column X own j)) j)) (after_rows Q (run size Q X))
-    previous_after v j h =
-        subst (λ xs. In (at (Previous (newest_of v xs) j)) (after_rows Q (run size Q X)))
-        (sym (run_cells X Q j)) (memory_after (run size Q X) Q (at (Previous v j)) h)
-
-    -- and so does `current`
-    pub latest_after : (v : Scalar) (j : ℕ) → In (at (Latest v j)) Q →
-        In (at (Latest (newest_of v (column X own j)) j)) (after_rows Q (run size Q X))
-    latest_after v j h =
-        subst (λ xs. In (at (Latest (newest_of v xs) j)) (after_rows Q (run size Q X)))
-        (sym (run_cells X Q j)) (memory_after (run size Q X) Q (at (Latest v j)) h)
-
-    -- and `->` knows whether its first operand was ever present
-    pub flag_after : (started : Bool) (a b : ℕ) → In (at (FirstThen started a b)) Q →
-        In (at (FirstThen (started || list_any is_some (column X own a)) a b))
-        (after_rows Q (run size Q X))
-    flag_after started a b h =
-        subst (λ xs. In (at (FirstThen (started || list_any is_some xs) a b))
-        (after_rows Q (run size Q X)))
-        (sym (run_cells X Q a)) (memory_after (run size Q X) Q (at (FirstThen started a b)) h)

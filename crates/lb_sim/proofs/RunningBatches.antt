@@ -178,10 +178,6 @@ module _ (p : LaneProgram) (old new : BatchRun) (r : Recording) (members : List 
         (active_is i lt);
   }
 
-  both_false : (b : Bool) → (b && false) ≡ false
-  both_false true = refl
-  both_false false = refl
-
   -- where no lane takes part, all have their verdicts
   pub all_rest : AreRunTo p old r members t → live ≡ 0 → (K : ℕ → FlatClock) →
       IsFitting (program_of p.program.now).inputs K

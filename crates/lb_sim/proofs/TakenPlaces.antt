@@ -46,14 +46,6 @@ plane_source_grown a b next p g h = record {
   means = λ s r. h.means s (g.runs s r);
 }
 
-pub word_source_grown : (a b : Code) (next : ℕ) (w : WordId) → IsGrown a b →
-    IsWordSource a next w → IsWordSource b next w
-word_source_grown a b next w g h = record {
-  own = omega (arith, h.own, g.first_word);
-  within = omega (arith, h.within, g.words);
-  means = λ s r. h.means s (g.runs s r);
-}
-
 pub copies_grown : (a b : Code) (c : Copies) → IsGrown a b → AreCopies a c → AreCopies b c
 copies_grown a b c g h = record {
   nowhere = plane_source_grown a b 0 c.nowhere g h.nowhere;

@@ -1,17 +1,14 @@
 -- What a cell that a lane shows passes, plane by plane; and a test of some elements, one after the
 -- other.
-use Rattle.std.proofs.Common.{arith, suc, ◌+◌, ◌-◌, ◌<◌, ◌≤◌, [], ◌∷◌, drop, length, add-one}
-use Rattle.std.proofs.Common.{◌≡◌, ℕ, Bool, true, false, not, ◌&&◌, ◌||◌}
-use Rattle.std.proofs.Common.{Option}
-use Rattle.std.proofs.Common.{Some, None, List, get_or, refl, sym, ap}
-use Rattle.std.proofs.Common.{◌∙◌}
+use Rattle.std.proofs.Common.{arith, suc, ◌+◌, ◌-◌, ◌<◌, ◌≤◌, [], ◌∷◌, drop, length, add-one, ◌≡◌}
+use Rattle.std.proofs.Common.{ℕ, Bool, true, false, ◌||◌, Option, Some, None, List, get_or, refl}
+use Rattle.std.proofs.Common.{sym, ap, ◌∙◌}
 use Rattle.std.proofs.Math.Seq.{drop-cons}
 use Rattle.std.proofs.Math.ListN.{drop_of_length-le}
 use Rattle.std.specs.List.{range_with_len}
 use Rattle.std.proofs.lemmas.List.{get_or-map}
-use Rattle.lb_check.specs.Scalars.{Scalar, Integer, Boolean, Nil, Bad, Cell}
-use Rattle.lb_check.specs.Streams.{held, shows}
-use Rattle.lb_check.specs.Verdicts.{is_bad, is_nil, is_false}
+use Rattle.lb_check.specs.Scalars.{Cell}
+use Rattle.lb_check.specs.Streams.{shows}
 use Rattle.lb_flat.specs.Judging.{some_in}
 use Rattle.lb_flat.specs.Programs.{numbers_of}
 use Rattle.lb_flat.specs.Run.{cell}
@@ -20,57 +17,9 @@ use Rattle.lb_machine.specs.Growing.{IsGrown, IsPlaneFor}
 use Rattle.lb_machine.specs.Meaning.{Lane, HasRun}
 use Rattle.lb_machine.specs.declared.code.Code.{Code}
 use Rattle.lb_machine.specs.declared.instruction.PlaneId.{PlaneId}
-use Rattle.lb_sim.specs.Showing.{shown, value_at, cell_at, row_at}
+use Rattle.lb_sim.specs.Showing.{cell_at, row_at}
 use Rattle.lb_sim.specs.declared.place.Place.{Place}
-use Rattle.lb_sim.specs.declared.place.Value.{Value}
-use Rattle.lb_sim.specs.declared.place.Value.TheVariants.{Truth, Number}
 use Rattle.lb_sim.proofs.Growth.{grown_none, grown_then}
-
--- ## One cell
-
-value_sound : (s : Lane) (v : Value) → is_bad (Some (Some (value_at s v))) ≡ false
-value_sound s (Truth p) = refl
-value_sound s (Number w) = refl
-
-value_known : (s : Lane) (v : Value) → is_nil (Some (Some (value_at s v))) ≡ false
-value_known s (Truth p) = refl
-value_known s (Number w) = refl
-
-bad_cases : (p b n : Bool) (v : Scalar) → is_bad (Some (Some v)) ≡ false →
-    (p && b) ≡ is_bad (Some (held (shown b n v) p))
-bad_cases false b n v e = refl
-bad_cases true true n v e = refl
-bad_cases true false true v e = refl
-bad_cases true false false v e = sym e
-
-pub bad_seen : (s : Lane) (p b n : Bool) (v : Value) →
-    (p && b) ≡ is_bad (Some (held (shown b n (value_at s v)) p))
-bad_seen s p b n v = bad_cases p b n (value_at s v) (value_sound s v)
-
-nil_cases : (p b n : Bool) (v : Scalar) → is_nil (Some (Some v)) ≡ false →
-    (p && (n && not b)) ≡ is_nil (Some (held (shown b n v) p))
-nil_cases false b n v e = refl
-nil_cases true true true v e = refl
-nil_cases true true false v e = refl
-nil_cases true false true v e = refl
-nil_cases true false false v e = sym e
-
-pub nil_seen : (s : Lane) (p b n sound : Bool) (v : Value) → sound ≡ (n && not b) →
-    (p && sound) ≡ is_nil (Some (held (shown b n (value_at s v)) p))
-nil_seen s p b n sound v e =
-    ap (λ x. p && x) e ∙ nil_cases p b n (value_at s v) (value_known s v)
-
-false_shows : (x : Cell) → shows false x ≡ is_false (Some x)
-false_shows None = refl
-false_shows (Some (Integer z)) = refl
-false_shows (Some (Boolean true)) = refl
-false_shows (Some (Boolean false)) = refl
-false_shows (Some Nil) = refl
-false_shows (Some Bad) = refl
-
-pub false_seen : (x : Cell) (everywhere : Bool) → everywhere ≡ true →
-    (everywhere && shows false x) ≡ is_false (Some x)
-false_seen x everywhere e = ap (λ b. b && shows false x) e ∙ false_shows x
 
 -- ## Some elements
 
