@@ -11,7 +11,7 @@ use Rattle.lb_flat.specs.Packed.{truth_columns, number_columns, places_from, Are
 
 -- ## One column more
 
-truths_push :
+pub truths_push :
     (j : ℕ) (kinds : List Kind) (k : Kind) →
     truth_columns j (kinds ++ k ∷ [])
     ≡ truth_columns j kinds ++ truth_columns (j + length kinds) (k ∷ [])
@@ -28,7 +28,7 @@ truths_push j (Int_kind ∷ kinds) k =
     truths_push (suc j) kinds k
     ∙ ap (λ a. truth_columns (suc j) kinds ++ truth_columns a (k ∷ [])) e
 
-numbers_push :
+pub numbers_push :
     (j : ℕ) (kinds : List Kind) (k : Kind) →
     number_columns j (kinds ++ k ∷ [])
     ≡ number_columns j kinds ++ number_columns (j + length kinds) (k ∷ [])

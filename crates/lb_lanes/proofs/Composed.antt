@@ -1,7 +1,7 @@
 -- The rounds, one after another.
 use Rattle.std.proofs.Common.{◌≡◌, ℕ, zero, suc, ◌<◌, ◌≤◌, Bool, true, ◌&&◌, List, [], ◌∷◌, get_or}
 use Rattle.std.proofs.Common.{refl, ap, ap₂, ◌∙◌, subst, arith, nat_eq, ltb, ◌⊎◌, inl, inr}
-use Rattle.std.proofs.lemmas.Bool.{and_parts, cases_lt}
+use Rattle.std.proofs.lemmas.Bool.{and_parts, cases_lt, ltb-true, eqb-true}
 use Rattle.lb_lanes.specs.Planes.{on}
 use Rattle.lb_lanes.specs.Transposes.{IsRound, IsMask, IsTransposed, is_masked, row_from}
 use Rattle.lb_lanes.specs.Transposes.{column_from}
@@ -37,12 +37,6 @@ pub AreRounds : List ℕ → List ℕ → List ℕ → Type 0
 AreRounds [] old new = new ≡ old
 AreRounds (s ∷ ss) old new = (between : List ℕ) × AreRounds ss old between × IsRound s between new
 
-ltb_lt : (a b : ℕ) → ltb a b ≡ true → a < b
-ltb_lt a b e = grind arith
-
-eq_same : (a b : ℕ) → nat_eq a b ≡ true → a ≡ b
-eq_same a b e = grind arith
-
 follow : (ss old new : List ℕ) → AreRounds ss old new → (r c r' c' : ℕ) → r < 64 → c < 64
     → arrives ss r c r' c' ≡ true
     → on (get_or new r 0) c ≡ on (get_or old r' 0) c'
@@ -50,20 +44,21 @@ unfolding arrives AreRounds
 follow [] old new same r c r' c' hr hc e =
     let parts = and_parts (nat_eq r r') (nat_eq c c') e in
     ap (λ ws. on (get_or ws r 0) c) same
-    ∙ ap₂ (λ i k. on (get_or old i 0) k) (eq_same r r' parts.0) (eq_same c c' parts.1)
+    ∙ ap₂ (λ i k. on (get_or old i 0) k) (eqb-true r r' parts.0) (eqb-true c c' parts.1)
 follow (s ∷ ss) old new rounds r c r' c' hr hc e =
     let i = row_from s r c in
     let k = column_from s r c in
     let parts = and_parts (ltb i 64 && ltb k 64) (arrives ss i k r' c') e in
     let within = and_parts (ltb i 64) (ltb k 64) parts.0 in
     rounds.2 r c hr hc
-    ∙ follow ss old rounds.0 rounds.1 i k r' c' (ltb_lt i 64 within.0) (ltb_lt k 64 within.1)
+    ∙ follow ss old rounds.0 rounds.1 i k r' c' (ltb-true i 64 within.0) (ltb-true k 64 within.1)
     parts.1
 
 abbrev shifts : List ℕ
 shifts = 1 ∷ 2 ∷ 4 ∷ 8 ∷ 16 ∷ 32 ∷ []
 
--- from each place they lead to the place on the other side of the diagonal, as trying all 4,096 shows
+-- from each place they lead to the place on the other side of the diagonal, as trying all 4,096
+-- shows
 all_arrive : every (λ r. every (λ c. arrives shifts c r r c) 64) 64 ≡ true
 unfolding every arrives
 all_arrive = refl

@@ -1,13 +1,13 @@
 -- One lane of a plane, through each operation on words.
 use Rattle.std.proofs.Common.{◌≡◌, ℕ, zero, suc, ◌+◌, ◌-◌, ◌*◌, ◌/◌, ◌%◌, ◌^◌, ◌<◌, ◌≤◌, min, max}
 use Rattle.std.proofs.Common.{Bool, true, false, not, ◌&&◌, ◌||◌, ◌==◌, List, get_or, cond, refl}
-use Rattle.std.proofs.Common.{sym, ap, ap₂, ◌∙◌, subst, arith, nat_eq, zero-add, w64, mod-lt}
-use Rattle.std.proofs.Common.{zero-lt-suc, le_of_suc-le-suc, not-suc-le-zero, mul_assoc, map, ◌⊎◌}
-use Rattle.std.proofs.Common.{inl, inr}
+use Rattle.std.proofs.Common.{sym, ap, ap₂, ◌∙◌, subst, arith, nat_eq, zero-add, w64}
+use Rattle.std.proofs.Common.{le_of_suc-le-suc, not-suc-le-zero, mul_assoc, map, ◌⊎◌, inl, inr}
 use Rattle.std.specs.Int.{bit_at, trailing_zeros}
 use Rattle.std.specs.List.{range_with_len}
 use Rattle.std.proofs.lemmas.Nat.Bits.{and_pow, bit_at_and, bit_at_or, bit_at_xor, bit_at_not}
 use Rattle.std.proofs.lemmas.Nat.Bits.{bit_at-zero, bit_at_above, bit_at-trailing_zeros}
+use Rattle.std.proofs.lemmas.Nat.Bits.{bit_at-lt}
 use Rattle.std.proofs.lemmas.Nat.{pow_pos}
 use Rattle.std.proofs.lemmas.Simd.{bit_mask_l}
 use Rattle.std.proofs.lemmas.List.FromFn.{get_or-map-range_with_len}
@@ -22,16 +22,13 @@ bit_cases P p q zero h = p
 bit_cases P p q (suc zero) h = q
 bit_cases P p q (suc (suc r)) h = absurd (not-suc-le-zero (le_of_suc-le-suc (le_of_suc-le-suc h)))
 
-bit_lt : (n i : ℕ) → bit_at n i < 2
-bit_lt n i = mod-lt (n / 2 ^ i) (zero-lt-suc 1)
-
 two_bits : (P : ℕ → ℕ → Type 0) → P 0 0 → P 0 1 → P 1 0 → P 1 1 → (a b i : ℕ)
     → P (bit_at a i) (bit_at b i)
 two_bits P p q r s a b i =
     bit_cases (λ x. P x (bit_at b i))
-    (bit_cases (P 0) p q (bit_at b i) (bit_lt b i))
-    (bit_cases (P 1) r s (bit_at b i) (bit_lt b i))
-    (bit_at a i) (bit_lt a i)
+    (bit_cases (P 0) p q (bit_at b i) (bit_at-lt b i))
+    (bit_cases (P 1) r s (bit_at b i) (bit_at-lt b i))
+    (bit_at a i) (bit_at-lt a i)
 
 pub on-and : (a b i : ℕ) → on (bit_and a b) i ≡ (on a i && on b i)
 unfolding on
@@ -59,7 +56,7 @@ pub on-flip : (a i : ℕ) → a < 2 ^ 64 → i < 64 → on (flip a) i ≡ not (o
 unfolding on
 on-flip a i ha hi =
     ap (λ n. n == 1) (bit_at_not w64 a i ha hi)
-    ∙ bit_cases (λ x. ((1 - x) == 1) ≡ not (x == 1)) refl refl (bit_at a i) (bit_lt a i)
+    ∙ bit_cases (λ x. ((1 - x) == 1) ≡ not (x == 1)) refl refl (bit_at a i) (bit_at-lt a i)
 
 pub on-zero : (i : ℕ) → on 0 i ≡ false
 unfolding on
@@ -139,7 +136,7 @@ pub lane_mask-on : (keep k : ℕ) → lane_mask keep k ≡ on keep k
 unfolding on
 lane_mask-on keep k =
     ap (λ n. top 63 (cond (nat_eq n (2 ^ k)) 18446744073709551615 0)) (and_pow keep k)
-    ∙ lane_mask_by (2 ^ k) (pow_pos k) (bit_at keep k) (bit_lt keep k)
+    ∙ lane_mask_by (2 ^ k) (pow_pos k) (bit_at keep k) (bit_at-lt keep k)
 
 pub lane_masks-on : (keep i : ℕ) → i < 8
     → get_or (map (lane_mask keep) (range_with_len 0 8)) i false ≡ on keep i

@@ -1,52 +1,49 @@
--- Lanes of the integers that words stand for.
-use Rattle.std.proofs.Common.{◌≡◌, ◌≢◌, ℕ, zero, suc, ◌<◌, ◌==◌, Bool, true, false, List, [], ◌∷◌}
-use Rattle.std.proofs.Common.{ℤ, cond, map, set, replicate, length, refl, sym, ap, ◌∙◌, subst}
-use Rattle.std.proofs.Common.{arith, w64, SFits, to_z, of_z}
+-- Lanes of the integers that words of one width stand for.
+use Rattle.std.proofs.Common.{◌≡◌, ℕ, zero, suc, ◌<◌, ◌==◌, Bool, true, false, List, [], ◌∷◌, ℤ}
+use Rattle.std.proofs.Common.{pos, cond, map, set, get_or, replicate, length, refl, sym, ap, ◌∙◌, subst}
+use Rattle.std.proofs.Common.{arith, SFits, to_z, of_z}
+use Rattle.std.specs.Int.{Width}
+use Rattle.std.proofs.lemmas.Bool.{eqb-true, eqb-false}
 use Rattle.std.proofs.lemmas.List.{get_or-set_same, get_or-set_other}
 use Rattle.std.proofs.lemmas.Simd.{get_or-replicate}
 use Rattle.std.proofs.lemmas.Int.{to_z-of_z}
-use Rattle.lb_lanes.specs.Kernels.{lane_of, word_lane}
+use Rattle.lb_lanes.specs.Kernels.{lane_of}
 
--- lane i of the integers that the words stand for
-pub lane-view : (bits : List ℕ) (i : ℕ) → lane_of (map (to_z w64) bits) i ≡ word_lane bits i
-lane-view [] i = refl
-lane-view (n ∷ bits) zero = refl
-lane-view (n ∷ bits) (suc i) = lane-view bits i
+module _ (w : Width) (at_zero : to_z w 0 ≡ pos 0) where
+  -- lane i of the integers that the words stand for
+  pub lane-view : (bits : List ℕ) (i : ℕ) → lane_of (map (to_z w) bits) i ≡ to_z w (get_or bits i 0)
+  lane-view [] i = sym at_zero
+  lane-view (n ∷ bits) zero = refl
+  lane-view (n ∷ bits) (suc i) = lane-view bits i
 
--- the same, where the integers are known by another name
-pub view_lane : (bits : List ℕ) (now : List ℤ) (i : ℕ) → map (to_z w64) bits ≡ now
-    → word_lane bits i ≡ lane_of now i
-view_lane bits now i is = sym (lane-view bits i) ∙ ap (λ l. lane_of l i) is
+  -- the same, where the integers are known by another name
+  pub view_lane : (bits : List ℕ) (now : List ℤ) (i : ℕ) → map (to_z w) bits ≡ now →
+      to_z w (get_or bits i 0) ≡ lane_of now i
+  view_lane bits now i is = sym (lane-view bits i) ∙ ap (λ l. lane_of l i) is
 
-same : (a b : ℕ) → (a == b) ≡ true → a ≡ b
-same a b e = grind arith
+  pub lane-set : (bits : List ℕ) (k i n : ℕ) → length bits ≡ 64 → k < 64 →
+      lane_of (map (to_z w) (set bits k n)) i
+      ≡ cond (i == k) (to_z w n) (lane_of (map (to_z w) bits) i)
+  lane-set bits k i n long hk =
+      lane-view (set bits k n) i ∙ by (i == k) refl
+    where
+      by : (b : Bool) → (i == k) ≡ b →
+          to_z w (get_or (set bits k n) i 0)
+          ≡ cond b (to_z w n) (lane_of (map (to_z w) bits) i)
+      by true e =
+          subst (λ j. to_z w (get_or (set bits k n) j 0) ≡ to_z w n) (sym (eqb-true i k e))
+          (ap (to_z w) (get_or-set_same bits k n 0 (omega (arith, long, hk))))
+      by false e =
+          ap (to_z w) (get_or-set_other bits k i n 0 (eqb-false i k e)) ∙ sym (lane-view bits i)
 
-other : (a b : ℕ) → (a == b) ≡ false → a ≢ b
-other a b e = grind arith
-
-pub lane-set : (bits : List ℕ) (k i n : ℕ) → length bits ≡ 64 → k < 64
-    → lane_of (map (to_z w64) (set bits k n)) i
-    ≡ cond (i == k) (to_z w64 n) (lane_of (map (to_z w64) bits) i)
-lane-set bits k i n long hk =
-    lane-view (set bits k n) i ∙ by (i == k) refl
-  where
-    by : (b : Bool) → (i == k) ≡ b
-        → word_lane (set bits k n) i ≡ cond b (to_z w64 n) (lane_of (map (to_z w64) bits) i)
-    by true e =
-        let is = same i k e in
-        subst (λ j. word_lane (set bits k n) j ≡ to_z w64 n) (sym is)
-        (ap (to_z w64) (get_or-set_same bits k n 0 (omega (arith, long, hk))))
-    by false e =
-        let ne = other i k e in
-        ap (to_z w64) (get_or-set_other bits k i n 0 ne) ∙ sym (lane-view bits i)
-
-pub lane-splat : (n i : ℕ) → i < 64 → lane_of (map (to_z w64) (replicate 64 n)) i ≡ to_z w64 n
-lane-splat n i h =
-    lane-view (replicate 64 n) i ∙ ap (to_z w64) (get_or-replicate 64 i n 0 h)
+  pub lane-splat : (n i : ℕ) → i < 64 → lane_of (map (to_z w) (replicate 64 n)) i ≡ to_z w n
+  lane-splat n i h =
+      lane-view (replicate 64 n) i ∙ ap (to_z w) (get_or-replicate 64 i n 0 h)
 
 -- the integer of a word that a cast made
-pub word_of : (n : ℕ) (v : ℤ) → SFits w64 v → n ≡ of_z w64 (to_z w64 (of_z w64 v)) → to_z w64 n ≡ v
-word_of n v f e = ap (to_z w64) (e ∙ ap (of_z w64) (to_z-of_z w64 v f)) ∙ to_z-of_z w64 v f
+pub word_of :
+    (w : Width) (n : ℕ) (v : ℤ) → SFits w v → n ≡ of_z w (to_z w (of_z w v)) → to_z w n ≡ v
+word_of w n v f e = ap (to_z w) (e ∙ ap (of_z w) (to_z-of_z w v f)) ∙ to_z-of_z w v f
 
 -- what holds of the first eight numbers
 pub below8 : (P : ℕ → Type 0) → P 0 → P 1 → P 2 → P 3 → P 4 → P 5 → P 6 → P 7 → (i : ℕ) → i < 8

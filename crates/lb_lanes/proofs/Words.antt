@@ -1,8 +1,8 @@
 -- One word as the integer of its bits, through each operation.
 use Rattle.std.proofs.Common.{◌≡◌, ℕ, ◌<◌, ◌≤◌, ◌+◌, ◌%◌, ◌^◌, Bool, true, false, not, ℤ, pos}
 use Rattle.std.proofs.Common.{negsuc, ◌+ℤ◌, ◌-ℤ◌, ◌*ℤ◌, neg_ℤ, ◌*◌, ◌/◌, ◌-◌, suc, nat_eq, lit<}
-use Rattle.std.proofs.Common.{refl, sym, ap, ◌∙◌, arith, w32, w64, T, leb, ltb, leb→le, SFits, to_z}
-use Rattle.std.proofs.Common.{cond, subst}
+use Rattle.std.proofs.Common.{refl, sym, ap, ◌∙◌, arith, w32, w64, leb, ltb, leb→le, SFits, to_z}
+use Rattle.std.proofs.Common.{cond}
 use Rattle.std.proofs.Math.Bool.{and-true}
 use Rattle.std.specs.Int.Signed.{nat_abs-le}
 use Rattle.std.specs.Int.RustNames.{unsigned_abs, int_lt, int_le}
@@ -10,13 +10,11 @@ use Rattle.std.specs.Ordering.{int_eq}
 use mir.Val.{sel}
 use Rattle.std.proofs.lemmas.Int.{ints, wrapping_add-bits, wrapping_sub-bits, wrapping_mul-bits}
 use Rattle.std.proofs.lemmas.Int.{fits_signed_mul, int_wrap_fits}
+use Rattle.std.proofs.lemmas.Float.{T_from_true}
 use Rattle.lb_lanes.specs.Operators.{is_int}
 
-true_T : (b : Bool) → b ≡ true → T b
-true_T b e = subst T (sym e) tt
-
 below : (n : ℕ) → leb n 2147483647 ≡ true → n < 2147483648
-below n e = let h = leb→le n 2147483647 (true_T (leb n 2147483647) e) in omega (arith, h)
+below n e = let h = leb→le n 2147483647 (T_from_true (leb n 2147483647) e) in omega (arith, h)
 
 -- an integer in the range of `int` fits 32 bits
 pub fits_int : (v : ℤ) → is_int v ≡ true → SFits w32 v
@@ -68,7 +66,7 @@ product_of_words m n p q f g =
     (fits_signed_mul w64 (to_z w64 m) (to_z w64 n) 2147483648 2147483648 (abs_int _ (fits_int _ f))
     (abs_int _ (fits_int _ g)) (lit< tt))
 
-zero_minus : (a : ℤ) → pos 0 -ℤ a ≡ neg_ℤ a
+pub zero_minus : (a : ℤ) → pos 0 -ℤ a ≡ neg_ℤ a
 zero_minus a = omega (arith, ints)
 
 pub negation_of_word : (m : ℕ) → m < 2 ^ 64 → is_int (to_z w64 m) ≡ true

@@ -8,9 +8,9 @@ abbrev pub IsTransposed : List ℕ → List ℕ → Type 0
 IsTransposed old new =
     (r c : ℕ) → r < 64 → c < 64 → on (slice_index new c) r ≡ on (slice_index old r) c
 
--- A round with the shift s, a power of 2, turns the six bits of the row's number by one place to the
--- left. In place of the bit that leaves at the top comes the bit of weight s of the column's number,
--- and the other way round. So the bit at row r and column c comes from this row and column:
+-- A round with the shift s, a power of 2, turns the six bits of the row's number by one place to
+-- the left. In place of the bit that leaves at the top comes the bit of weight s of the column's
+-- number, and the other way round. So the bit at row r and column c comes from this row and column:
 abbrev pub row_from : ℕ → ℕ → ℕ → ℕ
 row_from s r c = r / 2 + 32 * (c / s % 2)
 

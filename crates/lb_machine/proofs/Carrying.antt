@@ -1,8 +1,7 @@
 -- Places that are copied one after the other from behind them.
-use Rattle.std.proofs.Common.{◌≡◌, ◌≢◌, ℕ, zero, suc, ◌+◌, ◌<◌, ◌≤◌, List, length, get_or, set}
-use Rattle.std.proofs.Common.{refl}
-use Rattle.std.proofs.Common.{ap, ◌∙◌, subst, arith, below_more, ◌∷◌, [], length-set}
-use Rattle.std.proofs.lemmas.List.{get_or-set_same, get_or-set_other}
+use Rattle.std.proofs.Common.{◌≡◌, ◌≢◌, ℕ, ◌+◌, ◌<◌, ◌≤◌, List, length, get_or, set, refl, ap, ◌∙◌}
+use Rattle.std.proofs.Common.{subst, arith, below_more, length-set}
+use Rattle.std.proofs.lemmas.List.{get_or-set_same, get_or-set_other, get_or_default}
 
 -- the first i places have what their sources had, and no other place has changed
 pub record IsCarried {A S : Type 0} (z : A) (source : S → ℕ) (first : ℕ) (sources : List S)
@@ -23,13 +22,6 @@ nothing_carried z source first sources old = record {
   above = λ k h. refl;
   carried = λ j h s. absurd (omega (arith, h));
 }
-
--- what stands at a place of a list
-same_there : {S : Type 0} (xs : List S) (i : ℕ) (s d : S) → i < length xs →
-    get_or xs i s ≡ get_or xs i d
-same_there [] i s d lt = absurd (omega (arith, lt))
-same_there (x ∷ xs) zero s d lt = refl
-same_there (x ∷ xs) (suc i) s d lt = same_there xs i s d (omega (arith, lt))
 
 -- one more
 pub one_carried :
@@ -54,9 +46,9 @@ one_carried {A} {S} z source first sources old new new' i d h lt behind long cop
           others (first + j) ne ∙ h.carried j l s)
           (λ s.
           copied
-          ∙ ap (λ x. get_or new (source x) z) (same_there sources i d s lt)
+          ∙ ap (λ x. get_or new (source x) z) (get_or_default sources i d s lt)
           ∙ h.above (source (get_or sources i s))
-          (subst (λ x. first + i ≤ source x) (same_there sources i d s lt)
+          (subst (λ x. first + i ≤ source x) (get_or_default sources i d s lt)
           (omega (arith, behind, lt))));
     }
 

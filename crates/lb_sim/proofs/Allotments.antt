@@ -6,7 +6,7 @@ use Rattle.std.proofs.Common.{inr}
 use Rattle.std.proofs.Common.{take_all, ◌⊎◌}
 use Rattle.std.proofs.Common.{replicate}
 use Rattle.std.proofs.lemmas.List.{get_or-replicate, length-replicate}
-use Rattle.std.proofs.lemmas.List.Elements.{All-set}
+use Rattle.std.proofs.lemmas.List.Elements.{All-set, All-weaker}
 use Rattle.lb_syntax.specs.Lists.{Every, In}
 use Rattle.lb_syntax.specs.declared.tree.Kind.{Kind}
 use Rattle.lb_check.specs.Scalars.{Scalar}
@@ -30,10 +30,6 @@ use Rattle.lb_sim.proofs.Filling.{IsFilling, filling_none, filling_more, laws_mo
 use Rattle.lb_sim.proofs.Filling.{words_more, all_filled}
 use Rattle.lb_sim.proofs.FirstPlaces.{more_none, more_then, scalar_more}
 use Rattle.lb_sim.proofs.HomeRows.{home_below, in_wider, in_none, in_row}
-
-All-weaker_to : {A : Type 0} (P R : A → Type 0) → ((x : A) → P x → R x) → (xs : List A) →
-    All P xs → All R xs
-All-weaker_to P R f xs h = λ k d lt. f _ (h k d lt)
 
 -- ## Constants
 
@@ -127,7 +123,7 @@ module _ (f : FlatProgram) (old : Preset) where
       planes = planes ∙ h.planes;
       fixed =
           All-set (IsFixed (length next.words.items)) table q.element g fixed
-          (All-weaker_to (IsFixed (length preset.words.items)) (IsFixed (length next.words.items))
+          (All-weaker (IsFixed (length preset.words.items)) (IsFixed (length next.words.items))
           (fixed_more (length preset.words.items) (length next.words.items) m.words) table h.fixed);
       constants =
           laws_more f.size f.equations table i h.filling q lt is g (constant_law preset)
@@ -329,7 +325,7 @@ module _ (f : FlatProgram) (old : Preset) where
           more = more_then old preset next h.more m;
           homes =
               All-set (home_law next) table q.element g home
-              (All-weaker_to (home_law preset) (home_law next) (home_more preset next m) table
+              (All-weaker (home_law preset) (home_law next) (home_more preset next m) table
               h.homes);
           planes =
               planes_more f.size f.equations table i h.filling q lt is g _ _ _ h.planes

@@ -2,6 +2,7 @@
 use Rattle.std.proofs.Common.{◌≡◌, ◌≢◌, ◌<◌, ◌+◌, ℕ, Bool, true, false, not, ◌&&◌, List, []}
 use Rattle.std.proofs.Common.{◌∷◌, ◌++◌, get_or, length, ℤ, pos, refl, sym, ap, ap₂, ◌∙◌}
 use Rattle.std.proofs.Common.{subst, inl, inr, arith}
+use Rattle.std.proofs.Math.Bool.{and-true, and-false}
 use Rattle.std.proofs.Math.Logic.{∥∥₁_elim}
 use Rattle.std.proofs.Props.{props}
 use Rattle.std.specs.Prelude.{slice_index, slice_index_or, if◌then◌else◌}
@@ -249,11 +250,7 @@ module _ (p : LaneProgram) (rows : ℕ → List Scalar) (planes planes' : List �
       (moved i h).settled
       (was i h
       ∙ ap (λ b. on live0 i && b) (not_passed (get_or verdicts i Passed) ne)
-      ∙ nothing (on live0 i))
-    where
-      nothing : (b : Bool) → (b && false) ≡ false
-      nothing true = refl
-      nothing false = refl
+      ∙ and-false (on live0 i))
 
   module _ (shrinks : (i : ℕ) → i < 64 → on live i ≡ true → on live0 i ≡ true) where
     active_was :
@@ -296,8 +293,4 @@ all_passed verdicts vs live same none i h =
     sym
     (ap (λ v. on live i && is_passed v)
     (ap (λ (us : List Verdict). get_or us i Passed) same ∙ none i)
-    ∙ nothing_less (on live i))
-  where
-    nothing_less : (b : Bool) → (b && true) ≡ b
-    nothing_less true = refl
-    nothing_less false = refl
+    ∙ and-true (on live i))

@@ -2,7 +2,7 @@
 use Rattle.std.proofs.Common.{◌≡◌, ◌≢◌, ℕ, suc, ◌+◌, ◌<◌, ◌≤◌, ◌&&◌, Bool, true, false, List}
 use Rattle.std.proofs.Common.{[], ◌∷◌, ◌++◌, length, get_or, take, drop, refl, sym, ap, ◌∙◌}
 use Rattle.std.proofs.Common.{arith, ◌⊎◌, inl, inr}
-use Rattle.std.proofs.lemmas.Bool.{true≢false}
+use Rattle.std.proofs.lemmas.Bool.{true≢false, and_parts, ltb-false}
 use Rattle.std.proofs.lemmas.List.{take_all, take_more, take-append-drop}
 use Rattle.std.specs.Prelude.{nat_lt}
 use Rattle.lb_check.specs.Solutions.{Inputs}
@@ -67,10 +67,6 @@ pub one_more : (X : Inputs) (n t : ℕ) → n ≡ t → t < length X →
 one_more X n t e lt =
     ap (λ k. take k X ++ get_or X t [] ∷ []) e ∙ sym (take_more X t [] lt)
 
-both_true : (a b : Bool) → (a && b) ≡ true → (a ≡ true) × (b ≡ true)
-both_true true b e = (refl, e)
-both_true false b e = absurd (true≢false (sym e))
-
 not_second : (a b : Bool) → a ≡ true → (a && b) ≡ false → b ≡ false
 not_second true b is e = e
 not_second false b is e = absurd (true≢false (sym is))
@@ -78,7 +74,7 @@ not_second false b is e = absurd (true≢false (sym is))
 -- where a lane has an instant, it is there, and is active
 pub moves_on : (active running live : Bool) → live ≡ (active && running) → live ≡ true →
     (active ≡ true) × (running ≡ true)
-moves_on active running live is e = both_true active running (sym is ∙ e)
+moves_on active running live is e = and_parts active running (sym is ∙ e)
 
 -- a lane that had the instant
 pub at_next : (v : Verdict) (active passed : Bool) (as_long t : ℕ) → t < as_long →
@@ -118,12 +114,6 @@ at_end v v' active running live active' as_long n t h is off runs rests same = r
         or_decided (inl k) = inl k
         or_decided (inr found) = inr (decided found)
 
-is_past : (t n : ℕ) → nat_lt t n ≡ false → n ≤ t
-is_past t n e = grind arith
-
-pub is_below : (t n : ℕ) → nat_lt t n ≡ true → t < n
-is_below t n e = grind arith
-
 -- the verdict of a lane whose trace has ended, or has been decided
 pub verdict_at_rest : (f : FlatProgram) (X : Inputs) (v : Verdict) (active : Bool) (n t : ℕ) →
     v ≡ flat_verdict f (take n X) → IsAt v active (length X) n t →
@@ -141,6 +131,6 @@ verdict_at_rest f X v active n t is h rest = by active refl
     by true e =
         let here : n ≡ t = h.now e in
         let past : length X ≤ t =
-        is_past t (length X) (not_second active (nat_lt t (length X)) e rest) in
+        ltb-false t (length X) (not_second active (nat_lt t (length X)) e rest) in
         whole (omega (arith, here, past, h.within))
     by false e = or_found (h.ended e)

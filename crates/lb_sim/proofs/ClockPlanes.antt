@@ -3,6 +3,7 @@ use Rattle.std.proofs.Common.{◌≡◌, ◌<◌, ◌≤◌, ℕ, zero, suc, ◌
 use Rattle.std.proofs.Common.{Option, Some}
 use Rattle.std.proofs.Common.{None, List, length, get_or, refl, sym, ap, ◌∙◌, subst, arith}
 use Rattle.std.proofs.lemmas.List.{get_or-map}
+use Rattle.std.proofs.Math.Bool.{and-true}
 use Rattle.lb_check.specs.Streams.{shows}
 use Rattle.lb_flat.specs.Run.{cell, is_now}
 use Rattle.lb_flat.specs.Values.{clock_within, clock_of}
@@ -17,10 +18,6 @@ use Rattle.lb_machine.specs.declared.instruction.PlaneId.{PlaneId}
 use Rattle.lb_sim.specs.Showing.{cell_at, row_at}
 use Rattle.lb_sim.specs.declared.place.Place.{Place}
 use Rattle.lb_sim.proofs.Growth.{grown_none, grown_then}
-
-and_true : (b : Bool) → (b && true) ≡ b
-and_true true = refl
-and_true false = refl
 
 sign_last : (a b c : Bool) → ((a && b) && c) ≡ (a && (c && b))
 sign_last true true true = refl
@@ -77,7 +74,7 @@ module _ (before code : Code) (clocks : List Clock) (places : List Place)
         let base : is_now (row_at s places) (clock_within n clocks rest) ≡ true =
         ap (λ k. is_now (row_at s places) (clock_within n clocks k)) e
         ∙ base_is_now s places clocks n in
-        sym (and_true (s.bits plane.0)) ∙ ap (λ b. s.bits plane.0 && b) (sym base)
+        sym (and-true (s.bits plane.0)) ∙ ap (λ b. s.bits plane.0 && b) (sym base)
         ∙ h.means s r n (omega arith);
   }
 
@@ -87,7 +84,7 @@ module _ (before code : Code) (clocks : List Clock) (places : List Place)
   ends_past le ge = record {
     within = h.within;
     means = λ s r.
-        sym (and_true (s.bits plane.0))
+        sym (and-true (s.bits plane.0))
         ∙ ap (λ b. s.bits plane.0 && b) (sym (all_is_now s places clocks rest))
         ∙ h.means s r 0 (omega arith);
   }

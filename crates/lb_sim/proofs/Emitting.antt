@@ -1,8 +1,8 @@
 -- What was shown of equations is shown still when an element that none of them reads or gives gets
 -- its place.
-use Rattle.std.proofs.Common.{◌≡◌, ◌≢◌, ℕ, zero, suc, ◌<◌, ◌&&◌, None, List, []}
-use Rattle.std.proofs.Common.{◌∷◌, map, set, length, get_or, cond, refl, sym, ap, ap₂, ◌∙◌, subst}
-use Rattle.std.proofs.lemmas.List.{get_or-set_same, get_or-set_other}
+use Rattle.std.proofs.Common.{◌≡◌, ◌≢◌, ℕ, ◌<◌, ◌&&◌, None, List, [], ◌∷◌, set, length, get_or}
+use Rattle.std.proofs.Common.{cond, refl, sym, ap, ap₂, ◌∙◌, subst}
+use Rattle.std.proofs.lemmas.List.{get_or-set_same, get_or-set_other, map-set}
 use Rattle.lb_syntax.specs.Lists.{Every, In}
 use Rattle.lb_check.specs.Scalars.{Scalar, two_scalars, one_scalar, chosen}
 use Rattle.lb_check.specs.Streams.{shows}
@@ -17,12 +17,6 @@ use Rattle.lb_sim.specs.States.{no_place, holding_of, present_at, kept_at, flag_
 use Rattle.lb_sim.specs.States.{IsShownBy}
 use Rattle.lb_sim.specs.declared.place.Holding.{Holding}
 use Rattle.lb_sim.specs.declared.place.Place.{Place}
-
-map-set : {A B : Type 0} (f : A → B) (xs : List A) (i : ℕ) (x : A) →
-    map f (set xs i x) ≡ set (map f xs) i (f x)
-map-set f [] i x = refl
-map-set f (y ∷ xs) zero x = refl
-map-set f (y ∷ xs) (suc i) x = ap (λ ys. f y ∷ ys) (map-set f xs i x)
 
 module _ (given : List Scalar) (s : Lane) (places : List Place) (e : ℕ) (p : Place) where
   abbrev after : List Place

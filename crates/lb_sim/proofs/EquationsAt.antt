@@ -1,6 +1,7 @@
 -- An equation of a program at its place, what is in range there, and its memory.
 use Rattle.std.proofs.Common.{◌≡◌, ℕ, zero, suc, ◌<◌, ◌≤◌, List, [], ◌∷◌, get_or, length, All}
 use Rattle.std.proofs.Common.{sym, ap, ◌∙◌, subst, arith}
+use Rattle.std.proofs.lemmas.List.{get_or_default}
 use Rattle.lb_syntax.specs.Lists.{Every}
 use Rattle.lb_syntax.specs.declared.tree.Kind.{Kind}
 use Rattle.lb_syntax.specs.declared.tree.Kind.TheVariants.{Int as Int_kind}
@@ -22,7 +23,6 @@ use Rattle.lb_sim.specs.declared.place.Holding.{Holding}
 use Rattle.lb_sim.specs.declared.place.Place.{Place}
 use Rattle.lb_sim.specs.declared.preset.Preset.{Preset}
 use Rattle.lb_sim.proofs.Committing.{IsKeptIn}
-use Rattle.lb_sim.proofs.Growth.{same_there}
 
 pub equation_there :
     (clocks : List Clock) (qs : List Equation) (i : ℕ) (x : Equation) → i < length qs →
@@ -81,7 +81,7 @@ module _ (p : code_programs.FlatProgram) (range : IsInRange p) (i : ℕ) (x : Eq
       kind ≡ get_or p.kinds.items x.element.0 kind → kind ≡ kind_among p.kinds.items x.element.0
   kind_there kind lt e is =
       is
-      ∙ same_there p.kinds.items x.element.0 kind Int_kind
+      ∙ get_or_default p.kinds.items x.element.0 kind Int_kind
       (omega (arith, element_there lt e, range.kinds))
 
 -- ## Its memory
@@ -90,7 +90,7 @@ pub home_there :
     (kept : List Holding) (e : ℕ) (home : Holding) (size : ℕ) → length kept ≡ size → e < size →
     home ≡ get_or kept e home → home ≡ kept_at kept e
 home_there kept e home size long lt is =
-    is ∙ same_there kept e home no_holding (omega (arith, lt, long))
+    is ∙ get_or_default kept e home no_holding (omega (arith, lt, long))
 
 every_at : {A : Type 0} (P : A → Type 0) (xs : List A) (i : ℕ) (x : A) → i < length xs →
     get_or xs i x ≡ x → Every P xs → P x

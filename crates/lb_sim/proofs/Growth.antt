@@ -1,6 +1,5 @@
 -- Code that grows more than once, and what was there before.
-use Rattle.std.proofs.Common.{◌≡◌, ◌<◌, ℕ, zero, suc, List, [], ◌∷◌, length, get_or, refl, ◌∙◌}
-use Rattle.std.proofs.Common.{arith}
+use Rattle.std.proofs.Common.{refl, ◌∙◌, arith}
 use Rattle.lb_machine.specs.Growing.{IsGrown}
 use Rattle.lb_machine.specs.declared.code.Code.{Code}
 use Rattle.lb_sim.specs.Holdings.{IsIn, IsValueIn, IsPlaceIn}
@@ -44,10 +43,3 @@ place_grown a b p g w = record {
   holding = holding_grown a b p.holding g w.holding;
   present = omega (arith, w.present, g.planes);
 }
-
--- what stands at a place of a list
-pub same_there : {A : Type 0} (xs : List A) (i : ℕ) (d e : A) → i < length xs →
-    get_or xs i d ≡ get_or xs i e
-same_there [] i d e lt = absurd (omega (arith, lt))
-same_there (x ∷ xs) zero d e lt = refl
-same_there (x ∷ xs) (suc i) d e lt = same_there xs i d e (omega (arith, lt))

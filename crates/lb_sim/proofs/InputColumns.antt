@@ -42,40 +42,6 @@ places_push j p w (Int_kind ∷ kinds) k =
     (places_push (suc j) p (suc w) kinds k
     ∙ ap (λ a. places_of p (suc w) kinds ++ places_of (p + n) a (k ∷ [])) e)
 
-pub truths_push :
-    (j : ℕ) (kinds : List Kind) (k : Kind) →
-    truth_columns j (kinds ++ k ∷ [])
-    ≡ truth_columns j kinds ++ truth_columns (j + length kinds) (k ∷ [])
-truths_push j [] k =
-    let e : j ≡ j + 0 = omega arith in
-    ap (λ a. truth_columns a (k ∷ [])) e
-truths_push j (Bool_kind ∷ kinds) k =
-    let e : suc j + length kinds ≡ j + suc (length kinds) = omega arith in
-    ap (λ l. j ∷ l)
-    (truths_push (suc j) kinds k
-    ∙ ap (λ a. truth_columns (suc j) kinds ++ truth_columns a (k ∷ [])) e)
-truths_push j (Int_kind ∷ kinds) k =
-    let e : suc j + length kinds ≡ j + suc (length kinds) = omega arith in
-    truths_push (suc j) kinds k
-    ∙ ap (λ a. truth_columns (suc j) kinds ++ truth_columns a (k ∷ [])) e
-
-pub numbers_push :
-    (j : ℕ) (kinds : List Kind) (k : Kind) →
-    number_columns j (kinds ++ k ∷ [])
-    ≡ number_columns j kinds ++ number_columns (j + length kinds) (k ∷ [])
-numbers_push j [] k =
-    let e : j ≡ j + 0 = omega arith in
-    ap (λ a. number_columns a (k ∷ [])) e
-numbers_push j (Bool_kind ∷ kinds) k =
-    let e : suc j + length kinds ≡ j + suc (length kinds) = omega arith in
-    numbers_push (suc j) kinds k
-    ∙ ap (λ a. number_columns (suc j) kinds ++ number_columns a (k ∷ [])) e
-numbers_push j (Int_kind ∷ kinds) k =
-    let e : suc j + length kinds ≡ j + suc (length kinds) = omega arith in
-    ap (λ l. j ∷ l)
-    (numbers_push (suc j) kinds k
-    ∙ ap (λ a. number_columns (suc j) kinds ++ number_columns a (k ∷ [])) e)
-
 -- as many columns hold Booleans, wherever they begin
 same_truths :
     (j k : ℕ) (kinds : List Kind) → length (truth_columns j kinds) ≡ length (truth_columns k kinds)

@@ -8,13 +8,15 @@ use Rattle.std.proofs.lemmas.List.{take_more, length-append, get_or-set_other}
 use Rattle.lb_syntax.specs.Lists.{In}
 use Rattle.lb_syntax.specs.declared.tree.Kind.{Kind}
 use Rattle.lb_syntax.specs.declared.tree.Kind.TheVariants.{Int as Int_kind, Bool as Bool_kind}
+use Rattle.lb_syntax.proofs.TruthValues.{contrary}
 use Rattle.lb_flat.specs.declared.equation.ElementId.{ElementId}
 use Rattle.lb_flat.specs.Judging.{FlatProgram, named_elements}
 use Rattle.lb_flat.specs.Programs.{numbers_of}
+use Rattle.lb_flat.proofs.KindColumns.{truths_push, numbers_push}
 use Rattle.lb_sim.specs.InputRows.{places_of, truth_columns, number_columns}
 use Rattle.lb_sim.specs.declared.place.Value.{Value}
 use Rattle.lb_sim.specs.declared.place.Value.TheVariants.{Truth, Number}
-use Rattle.lb_sim.proofs.InputColumns.{places_push, truths_push, numbers_push}
+use Rattle.lb_sim.proofs.InputColumns.{places_push}
 
 -- so many planes and words are there behind inputs of these kinds, which stand at these places
 pub record AreInputs (kinds : List Kind) (values : List Value) (planes words : ℕ) : Type 0 where
@@ -97,14 +99,11 @@ number_in [] j x lt e = absurd (omega (arith, lt))
 number_in (y ∷ xs) zero x lt e = inl (ap (λ (z : ElementId). z.0) e)
 number_in (y ∷ xs) (suc j) x lt e = inr (number_in xs j x (omega (arith, lt)) e)
 
-no_mark : (b : Bool) → b ≡ true → b ≡ false → ⊥
-no_mark b p q = cc
-
 pub marked_none : (elements : List ℕ) (marks : List Bool) (size : ℕ) → length marks ≡ size →
     ((a : ℕ) → get_or marks a false ≡ false) → AreMarked elements marks size
 marked_none elements marks size long none = record {
   as_long = long;
-  marked = λ a e. absurd (no_mark (get_or marks a false) e (none a));
+  marked = λ a e. absurd (contrary (get_or marks a false) e (none a));
 }
 
 pub marked_more :

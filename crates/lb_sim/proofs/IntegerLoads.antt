@@ -1,7 +1,7 @@
 -- The integers of members go into the lanes of words.
-use Rattle.std.proofs.Common.{◌≡◌, ◌≢◌, ℕ, ◌+◌, ◌<◌, ◌≤◌, ◌==◌, ◌⊎◌, inl, inr, Bool, true, false}
-use Rattle.std.proofs.Common.{List, [], ℤ, cond, get_or, length, refl, sym, ap, ◌∙◌, arith}
-use Rattle.std.proofs.lemmas.Bool.{cases_lt}
+use Rattle.std.proofs.Common.{◌≡◌, ℕ, ◌+◌, ◌<◌, ◌≤◌, ◌==◌, ◌⊎◌, inl, inr, Bool, true, false, List}
+use Rattle.std.proofs.Common.{[], ℤ, cond, get_or, length, refl, sym, ap, ◌∙◌, arith}
+use Rattle.std.proofs.lemmas.Bool.{cases_lt, eqb-true, eqb-false}
 use Rattle.lb_flat.specs.Traces.{Recording}
 use Rattle.lb_lanes.specs.Kernels.{lane_of}
 use Rattle.lb_lanes.specs.Planes.{on}
@@ -23,12 +23,6 @@ module _ (first count : ℕ) (value : ℕ → ℕ → ℤ) (old : List (List ℤ
 
 -- ## Four lanes of a word
 
-same_number : (a b : ℕ) → (a == b) ≡ true → a ≡ b
-same_number a b e = grind arith
-
-other_number : (a b : ℕ) → (a == b) ≡ false → a ≢ b
-other_number a b e = grind arith
-
 -- four integers that are those of their lanes
 pub four_are :
     (first i : ℕ) (a b c d : ℤ) (f : ℕ → ℤ) → a ≡ f first → b ≡ f (first + 1) →
@@ -39,13 +33,13 @@ four_are first i a b c d f ea eb ec ed ge lt =
   where
     by : (x y z : Bool) → (i == first + 3) ≡ x → (i == first + 2) ≡ y → (i == first + 1) ≡ z →
         cond x d (cond y c (cond z b a)) ≡ f i
-    by true y z ex ey ez = ed ∙ ap f (sym (same_number i (first + 3) ex))
-    by false true z ex ey ez = ec ∙ ap f (sym (same_number i (first + 2) ey))
-    by false false true ex ey ez = eb ∙ ap f (sym (same_number i (first + 1) ez))
+    by true y z ex ey ez = ed ∙ ap f (sym (eqb-true i (first + 3) ex))
+    by false true z ex ey ez = ec ∙ ap f (sym (eqb-true i (first + 2) ey))
+    by false false true ex ey ez = eb ∙ ap f (sym (eqb-true i (first + 1) ez))
     by false false false ex ey ez =
-        let n3 = other_number i (first + 3) ex in
-        let n2 = other_number i (first + 2) ey in
-        let n1 = other_number i (first + 1) ez in
+        let n3 = eqb-false i (first + 3) ex in
+        let n2 = eqb-false i (first + 2) ey in
+        let n1 = eqb-false i (first + 1) ez in
         let same : first ≡ i = omega (arith, ge, lt, n3, n2, n1) in
         ea ∙ ap f same
 

@@ -6,6 +6,7 @@ use Rattle.std.proofs.Common.{refl, sym, ap, ap₂, ◌∙◌, subst, inl, inr, 
 use Rattle.std.specs.List.{list_any}
 use Rattle.lb_syntax.specs.Lists.{Every, In, zip2}
 use Rattle.lb_syntax.specs.declared.tree.Kind.{Kind}
+use Rattle.lb_syntax.proofs.ListPlaces.{heads_same, tails_same}
 use Rattle.lb_static.specs.Instances.{Program, Instance}
 use Rattle.lb_static.specs.DataTypes.{input_kinds}
 use Rattle.lb_check.specs.Clocks.{Clock}
@@ -28,20 +29,13 @@ use Rattle.lb_sim.specs.Showing.{scalar_at}
 use Rattle.lb_sim.specs.States.{kept_at, flag_at, with_memory, equation_in, IsStateAfter}
 use Rattle.lb_sim.specs.declared.place.Holding.{Holding}
 
--- lists that are equal through two maps are so at each of their elements
-heads : {A : Type 0} (x y : A) (xs ys : List A) → x ∷ xs ≡ y ∷ ys → x ≡ y
-heads x y xs ys e = cc
-
-tails : {A : Type 0} (x y : A) (xs ys : List A) → x ∷ xs ≡ y ∷ ys → xs ≡ ys
-tails x y xs ys e = cc
-
 same_at : {A B : Type 0} (g h : A → B) (xs : List A) → map g xs ≡ map h xs → (x : A) → In x xs →
     g x ≡ h x
 same_at g h [] e x i = absurd i
 same_at g h (y ∷ xs) e x (inl p) =
-    subst (λ z. g z ≡ h z) p (heads (g y) (h y) (map g xs) (map h xs) e)
+    subst (λ z. g z ≡ h z) p (heads_same (g y) (h y) (map g xs) (map h xs) e)
 same_at g h (y ∷ xs) e x (inr r) =
-    same_at g h xs (tails (g y) (h y) (map g xs) (map h xs) e) x r
+    same_at g h xs (tails_same (g y) (h y) (map g xs) (map h xs) e) x r
 
 previous_memory : (v w : Scalar) (a b : ℕ) → Previous v a ≡ Previous w b → v ≡ w
 previous_memory v w a b e = cc

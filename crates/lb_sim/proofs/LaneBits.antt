@@ -7,6 +7,7 @@ use Rattle.std.proofs.lemmas.Bool.{cases_lt}
 use Rattle.std.proofs.lemmas.List.{get_or-set_same, get_or-set_other}
 use Rattle.std.specs.Prelude.{bit_or}
 use Rattle.std.specs.Int.{bit_at}
+use Rattle.std.proofs.Math.Bool.{or_comm}
 use Rattle.lb_flat.specs.Packed.{bit_in}
 use Rattle.lb_lanes.specs.Planes.{on}
 use Rattle.lb_lanes.proofs.OnPlanes.{on-or, on-above, shl, on-shl_high, on-shl_low}
@@ -20,7 +21,7 @@ one_first = refl
 one_other : (j : ℕ) → on 1 (suc j) ≡ false
 one_other j = on-above 1 1 (suc j) (omega arith) (omega arith)
 
-same_number : (a : ℕ) → (a == a) ≡ true
+pub same_number : (a : ℕ) → (a == a) ≡ true
 same_number a = grind arith
 
 pub no_number : (a b : ℕ) → a ≢ b → (a == b) ≡ false
@@ -46,19 +47,13 @@ on-bit k i hk hi = by (cases_lt i k)
         let lt : k + j < 64 = omega (arith, e, hi) in
         subst (λ n. on (shl k 1) n ≡ (n == k)) e (on-shl_high k j 1 lt ∙ one_there k j)
 
-or_other : (a b : Bool) → (a || b) ≡ (b || a)
-or_other true true = refl
-or_other true false = refl
-or_other false true = refl
-or_other false false = refl
-
 -- a plane with one more lane
 pub lane_more : (plane k i : ℕ) → k < 64 → i < 64 →
     on (bit_or plane (shl k 1)) i ≡ ((i == k) || on plane i)
 lane_more plane k i hk hi =
     on-or plane (shl k 1) i
     ∙ ap (λ b. on plane i || b) (on-bit k i hk hi)
-    ∙ or_other (on plane i) (i == k)
+    ∙ or_comm (on plane i) (i == k)
 
 -- ## Booleans as the bits of words
 

@@ -4,6 +4,7 @@ use Rattle.std.proofs.Common.{◌≡◌, ◌<◌, ◌≤◌, ◌+◌, ℕ, suc, 
 use Rattle.std.proofs.Common.{[], ◌∷◌, map, length, All, refl, sym, ap, ap₂, ◌∙◌, inl, inr}
 use Rattle.std.proofs.Common.{arith}
 use Rattle.std.specs.Prelude.{if◌then◌else◌}
+use Rattle.std.proofs.Math.Bool.{and-true, and-false}
 use Rattle.lb_syntax.specs.declared.tree.Kind.{Kind}
 use Rattle.lb_syntax.specs.declared.tree.Kind.TheVariants.{Int as Int_kind, Bool as Bool_kind}
 use Rattle.lb_check.specs.Scalars.{Scalar, Integer, Boolean}
@@ -74,14 +75,6 @@ stands_empty f code mp mw kept homes start s same first active = record {
 
 -- ## Verdicts and activity
 
-and_true : (b : Bool) → (b && true) ≡ b
-and_true true = refl
-and_true false = refl
-
-and_false : (b : Bool) → (b && false) ≡ false
-and_false true = refl
-and_false false = refl
-
 once : (j v : Verdict) (b c : Bool) →
     (if b && not (b && c) then j else v) ≡ (if b && not c then j else v)
 once j v true c = refl
@@ -108,14 +101,14 @@ module _ (v j v' : Verdict) (active live passed : Bool)
   live_passed on was =
       is_p
       ∙ ap (λ b. (active && b) && is_passed j) on
-      ∙ ap (λ b. b && is_passed j) (and_true active)
+      ∙ ap (λ b. b && is_passed j) (and-true active)
       ∙ ap (λ b. b && is_passed j) was
 
   pub live_verdict : live ≡ true → active ≡ is_passed v → v' ≡ settled (is_passed v) j v
   live_verdict on was =
       is_v
       ∙ ap (λ b. if (active && b) && not passed then j else v) on
-      ∙ ap (λ b. if b && not passed then j else v) (and_true active)
+      ∙ ap (λ b. if b && not passed then j else v) (and-true active)
       ∙ ap₂ (λ b c. if b && not c then j else v) was (live_passed on was)
       ∙ once j v (is_passed v) (is_passed j)
 
@@ -128,10 +121,10 @@ module _ (v j v' : Verdict) (active live passed : Bool)
   resting_passed off =
       is_p
       ∙ ap (λ b. (active && b) && is_passed j) off
-      ∙ ap (λ b. b && is_passed j) (and_false active)
+      ∙ ap (λ b. b && is_passed j) (and-false active)
 
   pub resting_verdict : live ≡ false → v' ≡ v
   resting_verdict off =
       is_v
       ∙ ap (λ b. if (active && b) && not passed then j else v) off
-      ∙ ap (λ b. if b && not passed then j else v) (and_false active)
+      ∙ ap (λ b. if b && not passed then j else v) (and-false active)

@@ -6,6 +6,7 @@ use Rattle.std.proofs.Math.Logic.{∥∥₁_elim}
 use Rattle.std.proofs.lemmas.List.{get_or-set_same, get_or-set_other}
 use Rattle.std.specs.List.{AllByRecursion}
 use Rattle.std.specs.Prelude.{nat_lt, slice_index, slice_index_or, if◌then◌else◌}
+use Rattle.std.proofs.lemmas.Bool.{le-ltb}
 use Rattle.lb_syntax.specs.declared.tree.Kind.{Kind}
 use Rattle.lb_check.specs.Scalars.{Scalar}
 use Rattle.lb_check.specs.declared.verdict.Verdict.{Verdict}
@@ -27,11 +28,8 @@ use Rattle.lb_sim.proofs.LanePrograms.{inputs_words, constants_words}
 
 -- ## The start
 
-is_past : (s n : ℕ) → n ≤ s → nat_lt s n ≡ false
-is_past s n h = grind arith
-
 pub lanes_none : IsPlaneOf (λ i. nat_lt i 0) 0
-lanes_none i h = on-zero i ∙ sym (is_past i 0 (omega arith))
+lanes_none i h = on-zero i ∙ sym (le-ltb i 0 (omega arith))
 
 -- the first words hold in each lane what a program starts with
 pub record StartPut (start : List ℤ) (old new : List (List ℤ)) (n : ℕ) : Type 0 where

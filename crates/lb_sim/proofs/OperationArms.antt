@@ -1,9 +1,10 @@
 -- What the code of one equation makes its element show: an input, and a holding of the kind of its
 -- element.
-use Rattle.std.proofs.Common.{◌≡◌, ℕ, false, Option, Some, None, List, map}
-use Rattle.std.proofs.Common.{slice_get, option_map, refl, sym, ap, ap₂, ◌∙◌, subst}
-use Rattle.std.proofs.lemmas.Option.{slice_get-map, none-some, same_Some}
+use Rattle.std.proofs.Common.{◌≡◌, false, Some, List, slice_get, option_map, sym, ap, ap₂, ◌∙◌}
+use Rattle.std.proofs.Common.{subst}
+use Rattle.std.proofs.lemmas.Option.{slice_get-map}
 use Rattle.lb_syntax.specs.declared.tree.Kind.{Kind}
+use Rattle.lb_syntax.proofs.ListPlaces.{mapped_from}
 use Rattle.lb_flat.specs.Values.{operation_of}
 use Rattle.lb_flat.specs.declared.equation.InputId.{InputId}
 use Rattle.lb_flat.specs.declared.equation.Operation.{Operation}
@@ -23,22 +24,6 @@ pub input_shows :
     value_at s v ≡ scalar_at s h
 input_shows s v h nowhere e =
     sym (ap (scalar_at s) e ∙ ap₂ (λ b n. shown b n (value_at s v)) nowhere nowhere)
-
--- what a list has at a place, where a map of it has something there
-pub mapped_at :
-    {A B : Type 0} (f : A → B) (xs : List A) (i : ℕ) (y : B) → slice_get (map f xs) i ≡ Some y →
-    (x : A) × (slice_get xs i ≡ Some x) × (f x ≡ y)
-mapped_at {A} {B} f xs i y e = by (slice_get xs i) refl
-  where
-    by : (o : Option A) → slice_get xs i ≡ o →
-        (x : A) × (slice_get xs i ≡ Some x) × (f x ≡ y)
-    by None is =
-        absurd (none-some y (sym (slice_get-map f xs i ∙ ap (option_map f) is) ∙ e))
-    by (Some x) is = (
-      x,
-      is,
-      same_Some (f x) y (sym (slice_get-map f xs i ∙ ap (option_map f) is) ∙ e),
-    )
 
 module _ (code : Code) (places : List Place) (inputs : List Value) (constant kept : Holding) where
   abbrev Emitted : Operation → Kind → Holding → Type 0
@@ -66,7 +51,7 @@ module _ (code : Code) (places : List Place) (inputs : List Value) (constant kep
       Emitted (Input j) kind h
   input_form j kind h made N fit read kinds =
       let found : (v : Value) × (slice_get inputs j.0 ≡ Some v) × (value_kind v ≡ kind) =
-      mapped_at value_kind inputs j.0 kind fit in
+      mapped_from value_kind inputs j.0 kind fit in
       let v : Value = found.0 in
       let is = made v found.1 in
       record {

@@ -1,10 +1,10 @@
 -- The loop over the equations of a program: code for each of them, a place for its element, and the
 -- planes of the clocks so far.
-use Rattle.std.proofs.Common.{◌≡◌, ◌≢◌, ◌<◌, ◌≤◌, ◌+◌, ℕ, zero, suc, Option, Some, None, List}
-use Rattle.std.proofs.Common.{[], ◌∷◌, set, length, get_or, replicate, All, sym, ap}
-use Rattle.std.proofs.Common.{◌∙◌, subst, inl, inr, ⊎_elim, arith, false, true}
+use Rattle.std.proofs.Common.{◌≡◌, ◌≢◌, ◌<◌, ◌≤◌, ◌+◌, ℕ, Option, Some, None, List, [], ◌∷◌, set}
+use Rattle.std.proofs.Common.{length, get_or, replicate, All, sym, ap, ◌∙◌, subst, inl, inr, ⊎_elim}
+use Rattle.std.proofs.Common.{arith, false, true}
 use Rattle.std.proofs.lemmas.List.{get_or-map, get_or-set_same, get_or-set_other, length-map}
-use Rattle.std.proofs.lemmas.List.{length-replicate}
+use Rattle.std.proofs.lemmas.List.{length-replicate, get_or_default}
 use Rattle.std.proofs.lemmas.List.Elements.{All-set, All-replicate}
 use Rattle.lb_syntax.specs.Lists.{Every, In}
 use Rattle.lb_syntax.specs.declared.tree.Kind.{Kind}
@@ -22,6 +22,7 @@ use Rattle.lb_flat.specs.declared.equation.Equation.{Equation}
 use Rattle.lb_flat.specs.declared.program.FlatProgram.{FlatProgram}
 use Rattle.lb_flat.proofs.InOrder.{ready_of}
 use Rattle.lb_flat.proofs.Lists.{Every-first, Every-second}
+use Rattle.lb_flat.proofs.Memories.{every_at}
 use Rattle.lb_machine.specs.Growing.{IsGrown}
 use Rattle.lb_machine.specs.Meaning.{Lane, HasRun}
 use Rattle.lb_machine.specs.declared.code.Code.{Code}
@@ -38,16 +39,10 @@ use Rattle.lb_sim.specs.declared.place.Value.{Value}
 use Rattle.lb_sim.proofs.Compiling as compiling
 use Rattle.lb_sim.proofs.Compiling.{IsCompiling}
 use Rattle.lb_sim.proofs.Emitting.{now_stays, apart_from}
-use Rattle.lb_sim.proofs.Growth.{grown_none, grown_then, place_grown, same_there}
+use Rattle.lb_sim.proofs.Growth.{grown_none, grown_then, place_grown}
 use Rattle.lb_sim.proofs.KnownClocks.{none_at_first}
 
 -- ## Lists
-
-every_at : {A : Type 0} (P : A → Type 0) (xs : List A) (i : ℕ) (d : A) → Every P xs →
-    i < length xs → P (get_or xs i d)
-every_at P [] i d h lt = absurd (omega (arith, lt))
-every_at P (x ∷ xs) zero d h lt = h.0
-every_at P (x ∷ xs) (suc i) d h lt = every_at P xs i d h.1 (omega (arith, lt))
 
 every_in : (P Q : ℕ → Type 0) (is : List ℕ) → ((i : ℕ) → P i → Q i) → Every P is → Every Q is
 every_in P Q [] f h = tt
@@ -161,7 +156,7 @@ module _ (P : FlatProgram) (before code : Code) (inputs : List Value)
   held_in : (e : ℕ) → e < P.size → (table : List Holding) → length table ≡ P.size →
       (d : Holding) → get_or table e d ≡ kept_at table e
   held_in e lt table long d =
-      same_there table e d no_holding (subst (λ n. e < n) (sym long) lt)
+      get_or_default table e d no_holding (subst (λ n. e < n) (sym long) lt)
 
   module _ (d x : Equation) (here : get_or P.equations.items i d ≡ x)
       (lt : i < length P.equations.items) where
@@ -222,7 +217,7 @@ module _ (P : FlatProgram) (before code : Code) (inputs : List Value)
       is_kind : kind ≡ kind_among P.kinds.items e
       is_kind =
           kind_there
-          ∙ same_there P.kinds.items e kind Int
+          ∙ get_or_default P.kinds.items e kind Int
           (subst (λ n. e < n) (sym range.kinds) within_next.element)
 
       new : In e h.done → ⊥

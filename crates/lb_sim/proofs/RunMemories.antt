@@ -5,6 +5,7 @@ use Rattle.std.proofs.Common.{map, length, get_or, replicate, refl, sym, ap, ap�
 use Rattle.std.specs.Prelude.{◌||◌, is_some}
 use Rattle.std.specs.List.{list_any}
 use Rattle.std.proofs.lemmas.List.{length-replicate}
+use Rattle.std.proofs.Math.Bool.{or-false}
 use Rattle.lb_syntax.specs.Lists.{zip2}
 use Rattle.lb_check.specs.Scalars.{Cell, Stream}
 use Rattle.lb_check.specs.Solutions.{Inputs}
@@ -22,10 +23,6 @@ use Rattle.lb_flat.proofs.Rows.{length-row_of}
 abbrev pub equation_after : List Row → FlatEquation → FlatEquation
 equation_after rows q = record q { operation = remembers rows q.operation }
 
-or_nothing : (b : Bool) → (b || false) ≡ b
-or_nothing true = refl
-or_nothing false = refl
-
 remembers_nothing : (o : Operation) → remembers [] o ≡ o
 remembers_nothing (Input j) = refl
 remembers_nothing (Constant v) = refl
@@ -33,7 +30,7 @@ remembers_nothing (Copy a) = refl
 remembers_nothing (ApplyUnary op a) = refl
 remembers_nothing (ApplyBinary op a b) = refl
 remembers_nothing (Choose c a b) = refl
-remembers_nothing (FirstThen started a b) = ap (λ s. FirstThen s a b) (or_nothing started)
+remembers_nothing (FirstThen started a b) = ap (λ s. FirstThen s a b) (or-false started)
 remembers_nothing (Previous v a) = refl
 remembers_nothing (Latest v a) = refl
 remembers_nothing (Sample a) = refl

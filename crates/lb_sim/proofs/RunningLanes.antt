@@ -2,22 +2,13 @@
 use Rattle.std.proofs.Common.{◌≡◌, ◌≢◌, ℕ, ◌+◌, ◌<◌, ◌≤◌, ◌==◌, ◌||◌, ◌&&◌, Bool, true, false, List}
 use Rattle.std.proofs.Common.{refl, sym, ap, ap₂, ◌∙◌, arith, below_more, length, ◌⊎◌, inl, inr}
 use Rattle.std.proofs.Common.{max}
-use Rattle.std.proofs.lemmas.Bool.{cases_lt}
+use Rattle.std.proofs.lemmas.Bool.{cases_lt, lt-ltb, le-ltb}
 use Rattle.std.specs.Prelude.{nat_lt}
 use Rattle.lb_flat.specs.Traces.{Recording}
 use Rattle.lb_lanes.specs.Planes.{on}
 use Rattle.lb_lanes.proofs.OnPlanes.{on-zero}
-use Rattle.lb_sim.proofs.LaneBits.{no_number}
+use Rattle.lb_sim.proofs.LaneBits.{no_number, same_number}
 use Rattle.lb_sim.specs.BatchLanes.{length_in, AreOn, AreRunning}
-
-same_number : (a : ℕ) → (a == a) ≡ true
-same_number a = grind arith
-
-is_below : (s n : ℕ) → s < n → nat_lt s n ≡ true
-is_below s n h = grind arith
-
-is_past : (s n : ℕ) → n ≤ s → nat_lt s n ≡ false
-is_past s n h = grind arith
 
 neither : (a b : Bool) → ((a && false) || b) ≡ b
 neither true b = refl
@@ -75,11 +66,11 @@ module _ (r : Recording) (members : List ℕ) (t : ℕ) where
 
       same : (s : ℕ) → t ≤ s → s < until' → (t < end) ⊎ (end ≤ t) → nat_lt t end ≡ nat_lt s end
       same s m k (inl goes) =
-          is_below t end goes
-          ∙ sym (is_below s end (omega (arith, k, below_end goes)))
+          lt-ltb t end goes
+          ∙ sym (lt-ltb s end (omega (arith, k, below_end goes)))
       same s m k (inr past) =
-          is_past t end past
-          ∙ sym (is_past s end (omega (arith, m, past)))
+          le-ltb t end past
+          ∙ sym (le-ltb s end (omega (arith, m, past)))
 
       this : (s : ℕ) → t ≤ s → s < until' → on lanes' n ≡ nat_lt s (length_in r members n)
       this s m k = here ∙ same s m k (cases_lt t end) ∙ ap (nat_lt s) is_end

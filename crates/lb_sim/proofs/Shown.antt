@@ -1,7 +1,6 @@
 -- Each operation of the language on what three planes and a value show.
-use Rattle.std.proofs.Common.{◌≡◌, Bool, true, false, ℤ, pos, ◌-ℤ◌, neg_ℤ, Option, Some, None, cond}
-use Rattle.std.proofs.Common.{refl, ap, ◌∙◌, arith}
-use Rattle.std.proofs.lemmas.Int.{ints}
+use Rattle.std.proofs.Common.{◌≡◌, Bool, true, false, ℤ, pos, Option, Some, None, cond, refl, ap}
+use Rattle.std.proofs.Common.{◌∙◌}
 use Rattle.lb_syntax.specs.declared.tree.BinaryOperator.TheVariants.{Plus, Minus, Times, Divide}
 use Rattle.lb_syntax.specs.declared.tree.BinaryOperator.TheVariants.{Modulo}
 use Rattle.lb_syntax.specs.declared.tree.UnaryOperator.TheVariants.{Negate}
@@ -12,6 +11,7 @@ use Rattle.lb_lanes.specs.Operators.{is_int, can_divide, sum_of, difference_of, 
 use Rattle.lb_lanes.specs.Operators.{quotient_of, remainder_of, result_of}
 use Rattle.lb_lanes.specs.declared.int_operator.IntOperator.{IntOperator}
 use Rattle.lb_lanes.specs.declared.int_operator.IntOperator.TheVariants.{Add, Sub, Mul, Div, Rem}
+use Rattle.lb_lanes.proofs.Words.{zero_minus}
 use Rattle.lb_sim.specs.Showing.{shown, operator_of}
 
 -- ## Integers
@@ -48,9 +48,6 @@ operator_is Sub a b = ap or_fault (difference_is a b)
 operator_is Mul a b = ap or_fault (product_is a b)
 operator_is Div a b = ap or_fault (quotient_is a b)
 operator_is Rem a b = ap or_fault (remainder_is a b)
-
-zero_minus : (a : ℤ) → pos 0 -ℤ a ≡ neg_ℤ a
-zero_minus a = omega (arith, ints)
 
 pub negated_is : (a : ℤ) → difference_of (pos 0) a ≡ negated a
 negated_is a = difference_is (pos 0) a ∙ ap (λ z. where_true (in_range z) z) (zero_minus a)

@@ -7,6 +7,7 @@ use Rattle.std.proofs.Math.Seq.{drop-cons}
 use Rattle.std.proofs.Math.ListN.{drop_of_length-le}
 use Rattle.std.specs.List.{range_with_len}
 use Rattle.std.proofs.lemmas.List.{get_or-map}
+use Rattle.std.proofs.Math.Bool.{or-false}
 use Rattle.lb_check.specs.Scalars.{Cell}
 use Rattle.lb_check.specs.Streams.{shows}
 use Rattle.lb_flat.specs.Judging.{some_in}
@@ -26,10 +27,6 @@ use Rattle.lb_sim.proofs.Growth.{grown_none, grown_then}
 or_further : (a b c : Bool) → ((a || b) || c) ≡ (a || (b || c))
 or_further true b c = refl
 or_further false b c = refl
-
-or_none : (a : Bool) → (a || false) ≡ a
-or_none true = refl
-or_none false = refl
 
 -- a plane holds the test of some elements, and the rest is still to come
 pub record IsWatching (test : Option Cell → Bool) (before code : Code) (places : List Place)
@@ -56,7 +53,7 @@ module _ (test : Option Cell → Bool) (before code : Code) (places : List Place
   watching_last e = record {
     within = h.within;
     means = λ s r.
-        sym (or_none (s.bits plane.0))
+        sym (or-false (s.bits plane.0))
         ∙ ap (λ is. s.bits plane.0 || some_in test (row_at s places) is) (sym e)
         ∙ h.means s r;
   }

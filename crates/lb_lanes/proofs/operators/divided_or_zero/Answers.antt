@@ -1,4 +1,4 @@
-use Rattle.std.proofs.Common.{refl, ap, ap₂, ◌∙◌, w32, SFits}
+use Rattle.std.proofs.Common.{refl, ap, ap₂, ◌∙◌, w32, SFits, w64}
 use Rattle.std.proofs.lemmas.Int.{to_z-of_z}
 use Rattle.lb_lanes.specs.Operators.{can_divide, is_int}
 use Rattle.lb_lanes.proofs.Words.{int_fits}
@@ -13,7 +13,7 @@ pub returns-then-divides-clause-in_range : goal.returns-then-divides-clause-in_r
 returns-then-divides-clause-in_range g c =
     let small : SFits w32 c.divide.result = record { sfits = c.divide.type_inv } in
     ap is_int
-    (word_of c.cast_unsigned-divided.result c.from.result
+    (word_of w64 c.cast_unsigned-divided.result c.from.result
     (record { sfits = c.from.type_inv }) c.cast_unsigned-divided.ensures
     ∙ c.from.ensures ∙ to_z-of_z w32 c.divide.result small)
     ∙ int_fits c.divide.result small

@@ -1,6 +1,7 @@
 use Rattle.std.proofs.Common.{refl, arith}
+use Rattle.std.proofs.lemmas.List.{get_or_default}
 use Rattle.lb_sim.proofs.ClockPlanes.{at_first, ends_base, ends_past, goes_on}
-use Rattle.lb_sim.proofs.Growth.{place_grown, same_there}
+use Rattle.lb_sim.proofs.Growth.{place_grown}
 use Rattle.lb_sim.proofs.clock_planes.clock_plane.Goals as goal
 
 pub loop-depth-init : goal.loop-depth-init
@@ -35,7 +36,7 @@ pub loop-depth-preserved : goal.loop-depth-preserved
 loop-depth-preserved c =
     goes_on _ _ _ _ _ _ _ _ c.loop-depth.invariant _ _ c.in-Some.is c.loop-depth-test.true
     c.requires.table _ _ _ c.in_ok-next.ensures.grown
-    (same_there _ _ _ _
+    (get_or_default _ _ _ _
     ((c.requires.table _ _ (c.loop-depth.invariant.in_table _ c.in-Some.is)).element))
     c.in_ok-next.ensures.plane
 

@@ -1,4 +1,5 @@
 use Rattle.std.proofs.Common.{◌<◌, ◌≤◌, length, sym, ◌∙◌, subst, [], arith}
+use Rattle.std.proofs.lemmas.List.{get_or_default}
 use Rattle.lb_flat.specs.Programs.{program_of}
 use Rattle.lb_flat.specs.Values.{equation_of}
 use Rattle.lb_sim.specs.Homes.{IsRow, plane_row, word_row}
@@ -6,7 +7,7 @@ use Rattle.lb_sim.specs.States.{no_holding}
 use Rattle.lb_sim.proofs.CommitLoop.{IsCommitting, committing_none, commits, all_committed}
 use Rattle.lb_sim.proofs.EquationsAt.{equation_there, equation_within, all_within}
 use Rattle.lb_sim.proofs.EquationsAt.{home_there, memory_there, operands_there, element_there}
-use Rattle.lb_sim.proofs.Growth.{grown_then, holding_grown, place_grown, same_there}
+use Rattle.lb_sim.proofs.Growth.{grown_then, holding_grown, place_grown}
 use Rattle.lb_sim.proofs.TakenPlaces.{copies_grown}
 use Rattle.lb_sim.proofs.sources.all_sources.Goals as goal
 
@@ -84,7 +85,7 @@ loop-i-preserved c =
     (omega (arith, c.requires.behind_planes)) (omega (arith, c.requires.behind_words))
     (equation_of p.clocks.items x) (equation_within p.clocks.items p.equations.items l.i lt)
     (equation_there p.clocks.items p.equations.items l.i x lt there) home _ c.in_ok-next.next at
-    (same_there c.args.held.now x.element.0 _ no_holding inside_held) c.next_holding.new.code
+    (get_or_default c.args.held.now x.element.0 _ no_holding inside_held) c.next_holding.new.code
     c.push_sources.new.code next.grown pushed.grown c.push_sources.new.planes.items
     c.push_sources.new.words.items pushed.taken
     (λ e small. c.requires.kinds e (omega (arith, small, c.requires.elements)))

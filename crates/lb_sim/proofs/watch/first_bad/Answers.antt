@@ -1,7 +1,8 @@
 use Rattle.std.proofs.Common.{◌<◌, length, subst, arith}
 use Rattle.std.specs.List.{range_with_len}
+use Rattle.std.proofs.lemmas.List.{get_or_default}
 use Rattle.lb_check.specs.Verdicts.{is_bad}
-use Rattle.lb_sim.proofs.Growth.{place_grown, same_there}
+use Rattle.lb_sim.proofs.Growth.{place_grown}
 use Rattle.lb_sim.proofs.Watching.{IsWatching, watching_first, watching_next, watching_last}
 use Rattle.lb_sim.proofs.Watching.{range_cut, range_end, range_all}
 use Rattle.lb_sim.proofs.watch.first_bad.Goals as goal
@@ -31,7 +32,7 @@ loop-i-preserved c =
     omega (arith, c.requires.count, c.loop-i-test.true) in
     watching_next is_bad _ _ _ _ _ _ _ c.loop-i.invariant _ _ _
     (range_cut c.loop-i.i c.args.count c.loop-i-test.true)
-    lt (same_there _ _ _ _ lt) _ _ _ _
+    lt (get_or_default _ _ _ _ lt) _ _ _ _
     c.in_ok-here.ensures.grown c.in_ok-here.ensures.plane c.in_ok-next.ensures.grown
     c.in_ok-next.ensures.plane
 

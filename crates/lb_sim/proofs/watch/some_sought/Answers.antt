@@ -1,7 +1,8 @@
 use Rattle.std.proofs.Common.{arith}
+use Rattle.std.proofs.lemmas.List.{get_or_default}
 use Rattle.lb_flat.specs.Programs.{numbers_of}
 use Rattle.lb_sim.specs.Watching.{is_sought}
-use Rattle.lb_sim.proofs.Growth.{place_grown, same_there}
+use Rattle.lb_sim.proofs.Growth.{place_grown}
 use Rattle.lb_sim.proofs.Watching.{watching_first, watching_next, watching_last, numbers_cut}
 use Rattle.lb_sim.proofs.Watching.{numbers_end}
 use Rattle.lb_sim.proofs.watch.some_sought.Goals as goal
@@ -25,7 +26,7 @@ loop-i-preserved c =
     watching_next (is_sought c.args.sought) _ _ _ _ _ _ _ c.loop-i.invariant _ _ _
     (numbers_cut c.args.elements.now c.loop-i.i _ c.loop-i-test.true)
     (c.requires.elements _ _ c.loop-i-test.true)
-    (same_there _ _ _ _ (c.requires.elements _ _ c.loop-i-test.true)) _ _ _ _
+    (get_or_default _ _ _ _ (c.requires.elements _ _ c.loop-i-test.true)) _ _ _ _
     c.in_ok-here.ensures.grown c.in_ok-here.ensures.plane c.in_ok-next.ensures.grown
     c.in_ok-next.ensures.plane
 
