@@ -2,7 +2,7 @@
 use Rattle.std.proofs.Common.{◌≡◌, ◌≢◌, ℕ, ◌+◌, ◌<◌, ◌≤◌, ◌&&◌, Bool, true, false, List, []}
 use Rattle.std.proofs.Common.{◌∷◌, ◌++◌}
 use Rattle.std.proofs.Common.{length, get_or, take, refl, sym, ap, ◌∙◌, subst, arith, ◌⊎◌, inl, inr}
-use Rattle.std.proofs.lemmas.Bool.{true≢false, cases_lt}
+use Rattle.std.proofs.lemmas.Bool.{true≢false, cases_lt, lt-ltb, ltb-true}
 use Rattle.std.proofs.lemmas.List.{length-map}
 use Rattle.std.specs.Prelude.{nat_lt}
 use Rattle.lb_check.specs.Scalars.{Scalar}
@@ -17,14 +17,16 @@ use Rattle.lb_flat.specs.Judging.{flat_verdict}
 use Rattle.lb_flat.specs.Programs.{program_of}
 use Rattle.lb_flat.specs.Traces.{Recording, trace_at}
 use Rattle.lb_lanes.specs.Planes.{IsPlaneOf, on}
+use Rattle.lb_lanes.specs.declared.planes.Plane.{Plane}
 use Rattle.lb_lanes.proofs.OnPlanes.{on-zero}
 use Rattle.lb_sim.specs.BatchLanes.{length_in, AreRunning, IsAt}
-use Rattle.lb_sim.specs.BatchRuns.{IsFresh, Stands, flat_of, verdict_at}
+use Rattle.lb_sim.specs.BatchRuns.{flat_of, verdict_at}
+use Rattle.lb_sim.specs.Correct.{IsFresh, IsStep, Stands}
 use Rattle.lb_sim.specs.InputRows.{HaveInstant}
 use Rattle.lb_sim.specs.LaneStates.{is_passed}
 use Rattle.lb_sim.specs.declared.batch_run.BatchRun.{BatchRun}
 use Rattle.lb_sim.specs.declared.program.LaneProgram.{LaneProgram}
-use Rattle.lb_sim.proofs.Batches.{one_more, moves_on, at_next, at_end, verdict_at_rest, is_below}
+use Rattle.lb_sim.proofs.Batches.{one_more, moves_on, at_next, at_end, verdict_at_rest}
 
 -- ## One lane
 
@@ -56,7 +58,7 @@ lane_goes_on old new X i t lane running given h is runs row moves stays settled 
     by true e =
         let both = moves_on (on old.active.0 i) running lane is e in
         let here : h.n ≡ t = h.here.now both.0 in
-        let below : t < length X = is_below t (length X) (sym runs ∙ both.1) in
+        let below : t < length X = ltb-true t (length X) (sym runs ∙ both.1) in
         let path : take h.n X ++ given ∷ [] ≡ take (t + 1) X =
         ap (λ (g : List Scalar). take h.n X ++ g ∷ []) (row e) ∙ one_more X h.n t here below in
         record {
@@ -108,9 +110,6 @@ pub record AreRunTo (p : LaneProgram) (run : BatchRun) (r : Recording) (members 
       (i : ℕ) → i < length members →
       IsRunTo run (inputs_of r (get_or members i 0)) i t
 
-is_lane : (i n : ℕ) → i < n → nat_lt i n ≡ true
-is_lane i n h = grind arith
-
 pub all_begin : (run : BatchRun) (r : Recording) (members : List ℕ) → length members ≤ 64 →
     IsFresh run (length members) → AreRunTo run.program.now run r members 0
 all_begin run r members few fresh = record {
@@ -118,7 +117,7 @@ all_begin run r members few fresh = record {
   steps_are = fresh.none;
   each = λ K fits i l.
       lane_begins run (inputs_of r (get_or members i 0)) i (fresh.empty i l)
-      (fresh.all i (omega (arith, l, few)) ∙ is_lane i (length members) l);
+      (fresh.all i (omega (arith, l, few)) ∙ lt-ltb i (length members) l);
 }
 
 -- a lane takes part where it is active and its trace goes on
@@ -127,7 +126,7 @@ pub have_instant :
     length members ≤ 64 → AreRunning r members t lanes until →
     IsPlaneOf (λ i. on active i && on lanes i) live → HaveInstant r members t live
 have_instant r members t active lanes until live few runs is i l e =
-    (inside, is_below t (length_in r members i) (sym (at inside) ∙ running))
+    (inside, ltb-true t (length_in r members i) (sym (at inside) ∙ running))
   where
     running : on lanes i ≡ true
     running = (moves_on (on active i) (on lanes i) (on live i) (is i l) e).1
@@ -143,26 +142,18 @@ have_instant r members t active lanes until live few runs is i l e =
     inside = by (cases_lt i (length members))
 
 module _ (p : LaneProgram) (old new : BatchRun) (r : Recording) (members : List ℕ)
-    (t lanes until live : ℕ) (rows : ℕ → List Scalar) (few : length members ≤ 64)
+    (t lanes until : ℕ) (live : Plane) (rows : ℕ → List Scalar) (few : length members ≤ 64)
     (runs : AreRunning r members t lanes until)
-    (is : IsPlaneOf (λ i. on old.active.0 i && on lanes i) live) where
+    (is : IsPlaneOf (λ i. on old.active.0 i && on lanes i) live.0) where
   -- and one instant more
   pub all_go_on :
       AreRunTo p old r members t →
-      ((i : ℕ) → i < 64 → on live i ≡ true →
+      ((i : ℕ) → i < 64 → on live.0 i ≡ true →
       rows i ≡ get_or (inputs_of r (get_or members i 0)) t []) →
-      ((K : ℕ → FlatClock) →
-      IsFitting (flat_of old).inputs K (kind_among (flat_of old).kinds) (flat_of old).equations →
-      (i : ℕ) (X : Inputs) → i < 64 → on live i ≡ true → Stands old i X →
-      Stands new i (X ++ rows i ∷ [])) →
-      ((i : ℕ) (X : Inputs) → i < 64 → on live i ≡ false → Stands old i X → Stands new i X) →
-      ((i : ℕ) → i < 64 → verdict_at old i ≢ Passed → verdict_at new i ≡ verdict_at old i) →
-      IsPlaneOf (λ i. on live i && is_passed (verdict_at new i)) new.active.0 →
-      new.steps ≡ old.steps + 1 → new.program.now ≡ old.program.now →
-      AreRunTo p new r members (t + 1)
-  all_go_on h row moves stays settled active_is steps program = record {
-    program_is = program ∙ h.program_is;
-    steps_are = steps ∙ ap (λ n. n + 1) h.steps_are;
+      IsStep old new rows live → AreRunTo p new r members (t + 1)
+  all_go_on h row step = record {
+    program_is = step.program ∙ h.program_is;
+    steps_are = step.steps ∙ ap (λ n. n + 1) h.steps_are;
     each = λ K fits i l.
         let lt : i < 64 = omega (arith, l, few) in
         let fits_old = subst
@@ -170,16 +161,16 @@ module _ (p : LaneProgram) (old new : BatchRun) (r : Recording) (members : List 
         IsFitting (program_of q.program.now).inputs K
         (kind_among (program_of q.program.now).kinds) (program_of q.program.now).equations)
         (sym h.program_is) fits in
-        lane_goes_on old new (inputs_of r (get_or members i 0)) i t (on live i) (on lanes i)
+        lane_goes_on old new (inputs_of r (get_or members i 0)) i t (on live.0 i) (on lanes i)
         (rows i) (h.each K fits i l) (is i lt)
         (runs.lanes.members_on i t l (omega arith) runs.later
         ∙ ap (nat_lt t) (sym (as_long r members i)))
-        (row i lt) (λ Y. moves K fits_old i Y lt) (λ Y. stays i Y lt) (settled i lt)
-        (active_is i lt);
+        (row i lt) (λ Y. step.moves K fits_old i Y lt) (λ Y. step.stays i Y lt)
+        (step.settled i lt) (step.active i lt);
   }
 
   -- where no lane takes part, all have their verdicts
-  pub all_rest : AreRunTo p old r members t → live ≡ 0 → (K : ℕ → FlatClock) →
+  pub all_rest : AreRunTo p old r members t → live.0 ≡ 0 → (K : ℕ → FlatClock) →
       IsFitting (program_of p.program.now).inputs K
       (kind_among (program_of p.program.now).kinds) (program_of p.program.now).equations →
       (i : ℕ) → i < length members →

@@ -1,8 +1,8 @@
 -- The inputs of an instant in each lane: a plane for each Boolean of a signature and a word for
 -- each integer, in its order.
 -- Source: this project's rule. No lane occurs beside another.
-use Rattle.std.specs.Prelude.{◌≡◌, ℕ, suc, ◌<◌, Bool, true, false, List, [], ◌∷◌, ℤ, pos, length, map}
-use Rattle.std.specs.Prelude.{get_or, slice_index_or}
+use Rattle.std.specs.Prelude.{◌≡◌, ℕ, suc, ◌<◌, Bool, true, false, List, [], ◌∷◌, ℤ, pos, length}
+use Rattle.std.specs.Prelude.{map, get_or, slice_index_or}
 use Rattle.lb_syntax.specs.declared.tree.Kind.{Kind}
 use Rattle.lb_syntax.specs.declared.tree.Kind.TheVariants.{Int as Int_kind, Bool as Bool_kind}
 use Rattle.lb_check.specs.Scalars.{Scalar, Integer, Boolean}

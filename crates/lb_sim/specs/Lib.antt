@@ -22,3 +22,4 @@ pub mod Homes
 pub mod Presets
 pub mod Passing
 pub mod Layouts
+pub mod Correct

@@ -9,10 +9,9 @@ ghost use Rattle.lb_flat.specs.FurtherKinds.{kind_among};
 ghost use Rattle.lb_flat.specs.Inputs.{inputs_of};
 ghost use Rattle.lb_flat.specs.Judging.{flat_verdict};
 ghost use Rattle.lb_flat.specs.Programs.{program_of};
-ghost use Rattle.lb_check.specs.declared.verdict.Verdict.TheVariants.{Passed};
-ghost use Rattle.lb_flat.specs.Correct.{IsVerdictOf};
 ghost use Rattle.lb_sim.specs.BatchRooms.{IsRoomFor};
-ghost use Rattle.lb_sim.specs.BatchRuns.{IsFresh, verdict_at};
+ghost use Rattle.lb_sim.specs.BatchRuns.{verdict_at};
+ghost use Rattle.lb_sim.specs.Correct.{HaveVerdicts, IsFresh};
 
 use crate::batch_run::BatchRun;
 use crate::inputs::Inputs;
@@ -107,9 +106,8 @@ fn run_members(run: &mut BatchRun<'_>, inputs: &mut Inputs, set: &TraceSet, memb
     requires fresh { IsFresh run.old (length members.now) }
     ensures program { run.new.program.now ≡ run.old.program.now }
     ensures columns { inputs.new.columns ≡ inputs.old.columns }
-    ensures verdicts { (i : ℕ) → i < length members.now
-        → IsVerdictOf (program_of run.old.program.now.program.now) set.now
-        (get_or members.now i 0) (verdict_at run.new i) }
+    ensures verdicts { HaveVerdicts (program_of run.old.program.now.program.now) set.now members.now
+        run.new.verdicts.items }
 {
     if !has_kinds(set.signature(), inputs.columns.kinds.as_slice()) {
         return;
@@ -129,9 +127,8 @@ pub fn run_batch_in(
     requires few { length members.now ≤ 64 }
     requires members { All (λ k. k < length set.now.traces) members.now }
     ensures room { IsRoomFor program.now result }
-    ensures verdicts { (i : ℕ) → i < length members.now
-        → IsVerdictOf (program_of program.now.program.now) set.now
-        (get_or members.now i 0) (get_or result.verdicts.items i Passed) }
+    ensures verdicts { HaveVerdicts (program_of program.now.program.now) set.now members.now
+        result.verdicts.items }
 {
     let (mut run, mut inputs) = room.begin(program, members.len() as u32);
     run_members(&mut run, &mut inputs, set, members);
@@ -167,9 +164,8 @@ pub fn run_batch(
     requires members { All (λ k. k < length set.now.traces) members.now }
     ensures members { IfOk result (λ d. d.members.items ≡ members.now) }
     ensures count { IfOk result (λ d. length d.verdicts.items ≡ length members.now) }
-    ensures verdicts { IfOk result (λ d. (i : ℕ) → i < length members.now
-        → IsVerdictOf (program_of program.now.program.now) set.now
-        (get_or members.now i 0) (get_or d.verdicts.items i Passed)) }
+    ensures verdicts { IfOk result (λ d. HaveVerdicts (program_of program.now.program.now) set.now
+        members.now d.verdicts.items) }
 {
     let mut all = Vec::new(alloc);
     all.extend_from_slice(members)?;

@@ -1,12 +1,7 @@
 //! Up to 64 traces of a program, instant by instant.
 
-ghost use Rattle.std.specs.Prelude.{◌≡◌, ◌≢◌, ℕ, ◌<◌, ◌≤◌, ◌+◌, ◌++◌, ◌∷◌, [], true, false, ◌&&◌};
-ghost use Rattle.std.specs.Prelude.{length, get_or, IfOk};
-ghost use Rattle.lb_check.specs.Solutions.{Inputs as InputRows};
+ghost use Rattle.std.specs.Prelude.{◌≡◌, ℕ, ◌<◌, ◌≤◌, true, ◌&&◌, length, get_or, IfOk};
 ghost use Rattle.lb_check.specs.declared.verdict.Verdict.TheVariants.{Passed};
-ghost use Rattle.lb_flat.specs.Fitting.{IsFitting};
-ghost use Rattle.lb_flat.specs.Flat.{FlatClock};
-ghost use Rattle.lb_flat.specs.FurtherKinds.{kind_among};
 ghost use Rattle.lb_lanes.specs.Planes.{IsPlaneOf, on};
 ghost use Rattle.lb_machine.specs.Meaning.{HasConstants, lane_at};
 ghost use Rattle.lb_sim.specs.Compiled.{HasConstantWords};
@@ -49,7 +44,8 @@ pub struct BatchRun<'a> {
 }
 
 impl<'a> BatchRun<'a> {
-    ghost use Rattle.lb_sim.specs.BatchRuns.{IsFresh, Stands, flat_of, verdict_at};
+    ghost use Rattle.lb_sim.specs.BatchRuns.{flat_of, verdict_at};
+    ghost use Rattle.lb_sim.specs.Correct.{IsFresh, IsStep};
     ghost use Rattle.lb_sim.specs.Inputs.{inputs_row};
 
     /// A run of 1 to 64 lanes, before the first instant.
@@ -105,20 +101,7 @@ impl<'a> BatchRun<'a> {
             → on self.old.live.0 i ≡ true }
         requires few { self.old.steps < 1000000 }
         requires signature { inputs.now.columns.kinds.items ≡ (flat_of self.old).inputs }
-        ensures moves { (K : ℕ → FlatClock)
-            → IsFitting (flat_of self.old).inputs K (kind_among (flat_of self.old).kinds)
-            (flat_of self.old).equations → (i : ℕ) → (X : InputRows) → i < 64
-            → on live.0 i ≡ true → Stands self.old i X
-            → Stands self.new i (X ++ inputs_row inputs.now i ∷ []) }
-        ensures stays { (i : ℕ) → (X : InputRows) → i < 64 → on live.0 i ≡ false
-            → Stands self.old i X → Stands self.new i X }
-        ensures settled { (i : ℕ) → i < 64 → verdict_at self.old i ≢ Passed
-            → verdict_at self.new i ≡ verdict_at self.old i }
-        ensures active { IsPlaneOf (λ i. on live.0 i && is_passed (verdict_at self.new i))
-            self.new.active.0 }
-        ensures live { self.new.live ≡ live }
-        ensures steps { self.new.steps ≡ self.old.steps + 1 }
-        ensures program { self.new.program.now ≡ self.old.program.now }
+        ensures { IsStep self.old self.new (inputs_row inputs.now) live }
     {
         let passed = advance(
             self.program,

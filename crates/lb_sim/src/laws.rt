@@ -7,8 +7,9 @@ ghost use Rattle.lb_check.specs.Solutions.{Inputs as InputRows};
 ghost use Rattle.lb_flat.specs.FlatPrograms.{IsFlatOf};
 ghost use Rattle.lb_flat.specs.Flattening.{IsTrace};
 ghost use Rattle.lb_lanes.specs.Planes.{on};
-ghost use Rattle.lb_sim.specs.BatchLaws.{KeepsMemories, StandsForTrace};
-ghost use Rattle.lb_sim.specs.BatchRuns.{Stands, flat_of};
+ghost use Rattle.lb_sim.specs.BatchLaws.{KeepsMemories};
+ghost use Rattle.lb_sim.specs.BatchRuns.{flat_of};
+ghost use Rattle.lb_sim.specs.Correct.{Stands, StandsForTrace};
 ghost use Rattle.lb_sim.specs.declared.batch_run.BatchRun.{BatchRun};
 
 /// A lane that stands for a trace of a flat program stands for it in the terms of each program that

@@ -63,7 +63,7 @@ fn are_kinds(columns: &[Kind], kinds: &[Kind]) -> bool
 
 impl BatchRoom {
     ghost use Rattle.lb_sim.specs.BatchRooms.{IsRoomFor};
-    ghost use Rattle.lb_sim.specs.BatchRuns.{IsFresh};
+    ghost use Rattle.lb_sim.specs.Correct.{IsFresh};
 
     /// Room for a program.
     pub fn new(alloc: Global, program: &LaneProgram<'_>) -> Result<BatchRoom, AllocError>

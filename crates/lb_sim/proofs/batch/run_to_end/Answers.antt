@@ -37,17 +37,15 @@ loop-t-preserved c =
     let set = c.args.set.now in
     let members = c.args.members.now in
     let lanes = c.still-next.result.lanes in
-    let live = c.and-live.result.0 in
-    let live_is : IsPlaneOf (λ i. on run.active.0 i && on lanes i) live =
-    subst (λ (p : Plane). IsPlaneOf (λ i. on p.0 i && on lanes i) live) c.active.ensures
+    let live = c.and-live.result in
+    let live_is : IsPlaneOf (λ i. on run.active.0 i && on lanes i) live.0 =
+    subst (λ (p : Plane). IsPlaneOf (λ i. on p.0 i && on lanes i) live.0) c.active.ensures
     c.and-live.ensures in
-    let e = c.step.ensures in
     record {
       done =
           all_go_on c.args.run.now.program.now run c.step.new.self set members c.loop-t.t lanes
-          c.still-next.result.until live (λ i. inputs_row c.load.new.self i) c.requires.few
-          c.still-next.ensures live_is c.loop-t.invariant.done c.load.ensures.rows e.moves e.stays
-          e.settled e.active e.steps e.program;
+          c.still-next.result.until live (inputs_row c.load.new.self) c.requires.few
+          c.still-next.ensures live_is c.loop-t.invariant.done c.load.ensures.rows c.step.ensures;
       lanes =
           on_later set members c.loop-t.t lanes c.still-next.result.until
           c.still-next.ensures.lanes;
@@ -70,9 +68,9 @@ pub returns-then-live-eq0-clause-verdicts : goal.returns-then-live-eq0-clause-ve
 returns-then-live-eq0-clause-verdicts c =
     let run = c.loop-t.run in
     let lanes = c.still-next.result.lanes in
-    let live = c.and-live.result.0 in
-    let live_is : IsPlaneOf (λ i. on run.active.0 i && on lanes i) live =
-    subst (λ (p : Plane). IsPlaneOf (λ i. on p.0 i && on lanes i) live) c.active.ensures
+    let live = c.and-live.result in
+    let live_is : IsPlaneOf (λ i. on run.active.0 i && on lanes i) live.0 =
+    subst (λ (p : Plane). IsPlaneOf (λ i. on p.0 i && on lanes i) live.0) c.active.ensures
     c.and-live.ensures in
     all_rest c.args.run.now.program.now run run c.args.set.now c.args.members.now c.loop-t.t lanes
     c.still-next.result.until live (λ i. []) c.requires.few c.still-next.ensures live_is

@@ -1,11 +1,11 @@
-use Rattle.std.proofs.Common.{length, sym, ap, ◌∙◌, rules}
+use Rattle.std.proofs.Common.{length, refl, sym, ap, ◌∙◌, rules}
 use Rattle.std.proofs.lemmas.List.{with_items_is, places}
 use Rattle.lb_sim.specs.Inputs.{inputs_row}
 use Rattle.lb_sim.proofs.BatchSteps.{moved_as, run_moves, run_settled, run_going}
 use Rattle.lb_sim.proofs.batch_run.BatchRun.step.Goals as goal
 
-pub returns-clause-moves : goal.returns-clause-moves
-returns-clause-moves c K fits i X h there stands =
+pub returns : goal.returns
+returns c =
     let run = c.args.self.now in
     let p = run.program.now in
     let rows = inputs_row c.args.inputs.now in
@@ -18,41 +18,21 @@ returns-clause-moves c K fits i X h there stands =
     moved_as p rows _ _ _ _ _ _ _ _ _ _ _ _ _ _ _ _ (sym c.as_mut_slice.ensures.value) planes_are
     (sym c.as_mut_slice-2.ensures.value) words_are (sym c.as_mut_slice-3.ensures.value)
     verdicts_are c.advance-passed.ensures.moved in
-    run_moves p rows _ _ _ _ _ _ run.live.0 run.active.0 c.args.live.0 _ run.steps moved run.going
-    c.requires.shrinks K fits i X h there stands
-
-pub returns-clause-stays : goal.returns-clause-stays
-returns-clause-stays c i X h off stands =
-    let run = c.args.self.now in
-    let p = run.program.now in
-    let rows = inputs_row c.args.inputs.now in
-    let planes_are =
-    with_items_is run.planes c.advance-passed.new.planes (search (rules, places)) in
-    let words_are = with_items_is run.words c.advance-passed.new.words (search (rules, places)) in
-    let verdicts_are =
-    with_items_is run.verdicts c.advance-passed.new.verdicts (search (rules, places)) in
-    let moved =
-    moved_as p rows _ _ _ _ _ _ _ _ _ _ _ _ _ _ _ _ (sym c.as_mut_slice.ensures.value) planes_are
-    (sym c.as_mut_slice-2.ensures.value) words_are (sym c.as_mut_slice-3.ensures.value)
-    verdicts_are c.advance-passed.ensures.moved in
-    (moved i h).stays off X stands
-
-pub returns-clause-settled : goal.returns-clause-settled
-returns-clause-settled c =
-    let run = c.args.self.now in
-    let p = run.program.now in
-    let rows = inputs_row c.args.inputs.now in
-    let planes_are =
-    with_items_is run.planes c.advance-passed.new.planes (search (rules, places)) in
-    let words_are = with_items_is run.words c.advance-passed.new.words (search (rules, places)) in
-    let verdicts_are =
-    with_items_is run.verdicts c.advance-passed.new.verdicts (search (rules, places)) in
-    let moved =
-    moved_as p rows _ _ _ _ _ _ _ _ _ _ _ _ _ _ _ _ (sym c.as_mut_slice.ensures.value) planes_are
-    (sym c.as_mut_slice-2.ensures.value) words_are (sym c.as_mut_slice-3.ensures.value)
-    verdicts_are c.advance-passed.ensures.moved in
-    run_settled p rows _ _ _ _ _ _ run.live.0 run.active.0 c.args.live.0 _ run.steps moved
-    run.going
+    record {
+      moves =
+          run_moves p rows _ _ _ _ _ _ run.live.0 run.active.0 c.args.live.0 _ run.steps moved
+          run.going c.requires.shrinks;
+      stays = λ i X h off stands. (moved i h).stays off X stands;
+      settled =
+          run_settled p rows _ _ _ _ _ _ run.live.0 run.active.0 c.args.live.0 _ run.steps moved
+          run.going;
+      active =
+          run_going p rows _ _ _ _ _ _ run.live.0 run.active.0 c.args.live.0 _ run.steps moved
+          run.going c.requires.shrinks;
+      live_is = refl;
+      steps = refl;
+      program = refl;
+    }
 
 pub invariant_of-self-clause-constants : goal.invariant_of-self-clause-constants
 invariant_of-self-clause-constants c i h =

@@ -1,0 +1,76 @@
+-- What masked lanes promise: each lane stands for a trace, whatever the others hold, and a batch
+-- gives each of its members its own verdict.
+-- This file says what data of the program mean; no definition of the language stands on it.
+use Rattle.std.specs.Prelude.{◌≡◌, ◌≢◌, ◌<◌, ◌+◌, ◌++◌, ◌∷◌, ◌&&◌, ℕ, true, false, List, [], length}
+use Rattle.std.specs.Prelude.{get_or, nat_lt}
+use Rattle.lb_static.specs.Instances.{Program}
+use Rattle.lb_check.specs.Scalars.{Scalar}
+use Rattle.lb_check.specs.Solutions.{Inputs}
+use Rattle.lb_check.specs.declared.verdict.Verdict.{Verdict}
+use Rattle.lb_check.specs.declared.verdict.Verdict.TheVariants.{Passed}
+use Rattle.lb_flat.specs.Correct.{IsVerdictOf}
+use Rattle.lb_flat.specs.Fitting.{IsFitting}
+use Rattle.lb_flat.specs.Flat.{FlatClock}
+use Rattle.lb_flat.specs.FlatPrograms.{IsFlatOf}
+use Rattle.lb_flat.specs.FurtherKinds.{kind_among}
+use Rattle.lb_flat.specs.Judging.{FlatProgram}
+use Rattle.lb_flat.specs.NumberedLayouts.{layout}
+use Rattle.lb_flat.specs.Traces.{Recording}
+use Rattle.lb_lanes.specs.Planes.{IsPlaneOf, on}
+use Rattle.lb_lanes.specs.declared.planes.Plane.{Plane}
+use Rattle.lb_sim.specs.BatchRuns.{flat_of, flag_in, lane_in, memory_at, verdict_at}
+use Rattle.lb_sim.specs.LaneStates.{StandsAt, is_passed}
+use Rattle.lb_sim.specs.Promise.{StandsFor}
+use Rattle.lb_sim.specs.declared.batch_run.BatchRun.{BatchRun}
+
+-- ## A lane
+
+-- a lane stands for a trace of a flat program: its verdict is that of the trace, and while it is
+-- active it has had all instants of it and holds the memories after it
+abbrev pub Stands : BatchRun → ℕ → Inputs → Type 0
+Stands run i X =
+    StandsAt (flat_of run) run.program.now.kept.items (lane_in run i) (verdict_at run i)
+    (on run.active.0 i) run.steps X
+
+-- and in the terms of a program that the flat one is of: its verdict is the one of the trace, and
+-- while it is active its memories are those of the one history that solves the program
+abbrev pub StandsForTrace :
+    (P : Program) (run : BatchRun) → IsFlatOf P (flat_of run) → ℕ → Inputs → Type 0
+StandsForTrace P run flat i X =
+    StandsFor P (layout P) (kind_among (flat_of run).kinds) (flat_of run) flat.memories
+    (verdict_at run i) (on run.active.0 i) run.steps (memory_at run i) (flag_in run i) X
+
+-- ## A run
+
+-- before the first instant the first n lanes are active, and each stands for the empty trace
+pub record IsFresh (run : BatchRun) (n : ℕ) : Type 0 where
+  pub empty : (i : ℕ) → i < n → Stands run i []
+  pub all : IsPlaneOf (λ i. nat_lt i n) run.active.0
+  pub none : run.steps ≡ 0
+
+-- an instant of the lanes that are live, of which each is given a row of inputs: a lane that is live
+-- stands for its trace with its row added, where the equations have kinds and clocks, and a lane that
+-- is not for what it stood for; a verdict that was found stays, and active are the live lanes that
+-- have passed so far
+pub record IsStep (old new : BatchRun) (rows : ℕ → List Scalar) (live : Plane) : Type 0 where
+  pub moves :
+      (K : ℕ → FlatClock) →
+      IsFitting (flat_of old).inputs K (kind_among (flat_of old).kinds) (flat_of old).equations →
+      (i : ℕ) (X : Inputs) → i < 64 → on live.0 i ≡ true → Stands old i X →
+      Stands new i (X ++ rows i ∷ [])
+  pub stays :
+      (i : ℕ) (X : Inputs) → i < 64 → on live.0 i ≡ false → Stands old i X → Stands new i X
+  pub settled :
+      (i : ℕ) → i < 64 → verdict_at old i ≢ Passed → verdict_at new i ≡ verdict_at old i
+  pub active : IsPlaneOf (λ i. on live.0 i && is_passed (verdict_at new i)) new.active.0
+  pub live_is : new.live ≡ live
+  pub steps : new.steps ≡ old.steps + 1
+  pub program : new.program.now ≡ old.program.now
+
+-- ## A batch
+
+-- each member of a batch has its own verdict, in their order
+abbrev pub HaveVerdicts : FlatProgram → Recording → List ℕ → List Verdict → Type 0
+HaveVerdicts f r members verdicts =
+    (i : ℕ) → i < length members →
+    IsVerdictOf f r (get_or members i 0) (get_or verdicts i Passed)
