@@ -3,7 +3,8 @@ use Rattle.std.proofs.Common.{◌≡◌, ℕ, zero, suc, ◌<◌, ◌≤◌, Boo
 use Rattle.std.proofs.Common.{refl, ap, ap₂, ◌∙◌, subst, arith, nat_eq, ltb, ◌⊎◌, inl, inr}
 use Rattle.std.proofs.lemmas.Bool.{and_parts, cases_lt, ltb-true, eqb-true}
 use Rattle.lb_lanes.specs.Planes.{on}
-use Rattle.lb_lanes.specs.Transposes.{IsRound, IsMask, IsTransposed, is_masked, row_from}
+use Rattle.lb_lanes.specs.Correct.{IsTransposed}
+use Rattle.lb_lanes.specs.Transposes.{IsRound, IsMask, is_masked, row_from}
 use Rattle.lb_lanes.specs.Transposes.{column_from}
 
 -- a test that holds of each number below n, which is found by trying each

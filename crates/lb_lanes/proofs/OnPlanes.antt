@@ -15,7 +15,8 @@ use Rattle.std.proofs.lemmas.Bool.{cases_lt}
 use lib.Bits.{bit_and, bit_or, bit_xor, shifted_even}
 use lib.Lanes.{mask_l, top}
 use lib.Pow.{field, mod-mod-pow, shr-shr, shl-shr, pow-add}
-use Rattle.lb_lanes.specs.Planes.{on, differ, IsSelection}
+use Rattle.lb_lanes.specs.Correct.{IsSelection}
+use Rattle.lb_lanes.specs.Planes.{on, differ}
 
 bit_cases : (P : ℕ → Type 0) → P 0 → P 1 → (x : ℕ) → x < 2 → P x
 bit_cases P p q zero h = p

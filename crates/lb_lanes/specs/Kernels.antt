@@ -1,6 +1,6 @@
--- What the kernels on 64 integer lanes do, lane by lane. All of it is this project's rule.
-use Rattle.std.specs.Prelude.{◌≡◌, ℕ, ◌<◌, Bool, true, false, Option, Some, None, List, [], ℤ, pos}
-use Rattle.std.specs.Prelude.{IsTrue, EachIndex, slice_index_or, if◌then◌else◌}
+-- What integer lanes are, and what kernels do of the first so many. This project's rule.
+use Rattle.std.specs.Prelude.{◌≡◌, ℕ, ◌<◌, Bool, true, false, Option, Some, None, List, ℤ, pos}
+use Rattle.std.specs.Prelude.{IsTrue, slice_index_or, if◌then◌else◌}
 use Rattle.std.specs.Int.{cast_signed, w32, w64}
 use Rattle.lb_lanes.specs.Operators.{is_int}
 use Rattle.lb_lanes.specs.Planes.{on}
@@ -44,22 +44,6 @@ pub record IsKernelBelow (n : ℕ) (op : ℤ → ℤ → Option ℤ) (a b : ℕ 
   pub values : (i : ℕ) → i < n → out i ≡ kept (on active i) (op (a i) (b i))
   pub fault_bits : (i : ℕ) → i < n → on faults i ≡ faulty (on active i) (op (a i) (b i))
 
--- all 64 lanes, and their faults, are what the operator gives
-abbrev pub IsKernel : (ℤ → ℤ → Option ℤ) → List ℤ → List ℤ → ℕ → List ℤ → ℕ → Type 0
-IsKernel op a b active out faults =
-    IsKernelBelow 64 op (lane_of a) (lane_of b) active (lane_of out) faults
-
 -- the first n lanes are those of a where the mask is true, and those of b where it is not
 abbrev pub IsBlendBelow : ℕ → ℕ → (ℕ → ℤ) → (ℕ → ℤ) → (ℕ → ℤ) → Type 0
 IsBlendBelow n mask a b out = (i : ℕ) → i < n → out i ≡ (if on mask i then a i else b i)
-
--- the same of all 64 lanes
-abbrev pub IsBlend : ℕ → List ℤ → List ℤ → List ℤ → Type 0
-IsBlend mask a b out = IsBlendBelow 64 mask (lane_of a) (lane_of b) (lane_of out)
-
--- each element has the lanes of the new one where the mask is true, and is as it was elsewhere
-abbrev pub CommitsInts : ℕ → List (List ℤ) → List (List ℤ) → List (List ℤ) → Type 0
-CommitsInts mask old new out =
-    EachIndex out
-    (λ k.
-    IsBlend mask (slice_index_or new k []) (slice_index_or old k []) (slice_index_or out k []))

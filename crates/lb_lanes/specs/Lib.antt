@@ -3,3 +3,4 @@ pub mod Planes
 pub mod Kernels
 pub mod Transposes
 pub mod Reciprocals
+pub mod Correct

@@ -1,12 +1,7 @@
--- The transposition of 64 words of 64 bits, and one round of it.
+-- One round of the transposition of 64 words of 64 bits.
 use Rattle.std.specs.Prelude.{◌≡◌, ℕ, ◌+◌, ◌-◌, ◌*◌, ◌/◌, ◌%◌, ◌<◌, ◌==◌, ◌&&◌, ◌||◌, Bool, true}
 use Rattle.std.specs.Prelude.{not, List, nat_le, nat_lt, slice_index, if◌then◌else◌}
 use Rattle.lb_lanes.specs.Planes.{on}
-
--- bit r of the new word c is bit c of the old word r
-abbrev pub IsTransposed : List ℕ → List ℕ → Type 0
-IsTransposed old new =
-    (r c : ℕ) → r < 64 → c < 64 → on (slice_index new c) r ≡ on (slice_index old r) c
 
 -- A round with the shift s, a power of 2, turns the six bits of the row's number by one place to
 -- the left. In place of the bit that leaves at the top comes the bit of weight s of the column's

@@ -4,7 +4,8 @@ ghost use Rattle.std.specs.Prelude.{◌≡◌, ℕ, ◌<◌, ◌==◌, not, List
 ghost use Rattle.std.specs.Prelude.{if◌then◌else◌};
 ghost use Rattle.std.specs.Int.{cast_signed, w64};
 ghost use Rattle.std.specs.Ordering.{int_eq};
-ghost use Rattle.lb_lanes.specs.Kernels.{AreInts, IsBlend, IsKernel, lane_of};
+ghost use Rattle.lb_lanes.specs.Correct.{IsBlend, IsKernel};
+ghost use Rattle.lb_lanes.specs.Kernels.{AreInts, lane_of};
 ghost use Rattle.lb_lanes.specs.Operators.{difference_of, divided_by, is_int, lawful, negation_of};
 ghost use Rattle.lb_lanes.specs.Operators.{product_of, quotient_of, remainder_of, result_of};
 ghost use Rattle.lb_lanes.specs.Operators.{sum_of};

@@ -1,7 +1,8 @@
 //! Planes: 64 Booleans in one word.
 
 ghost use Rattle.std.specs.Prelude.{◌≡◌, ℕ, ◌<◌, not, ◌&&◌, ◌||◌};
-ghost use Rattle.lb_lanes.specs.Planes.{IsPlaneOf, IsSelection, differ, on};
+ghost use Rattle.lb_lanes.specs.Correct.{IsSelection};
+ghost use Rattle.lb_lanes.specs.Planes.{IsPlaneOf, differ, on};
 
 /// 64 Booleans. Bit i of the word is lane i.
 #[derive(Clone, Copy, Debug, PartialEq, Eq)]

@@ -3,9 +3,9 @@
 ghost use Rattle.std.specs.Prelude.{◌≡◌, ℕ, ◌+◌, ◌<◌, ◌≤◌, not, ℤ, pos, length, slice_index};
 ghost use Rattle.std.specs.Prelude.{slice_index_or, bit_and, bit_or, bit_xor};
 ghost use Rattle.std.specs.List.{list_any};
-ghost use Rattle.lb_lanes.specs.Kernels.{CommitsInts, word_lane};
+ghost use Rattle.lb_lanes.specs.Correct.{CommitsInts, CommitsPlanes, IsSelection, IsWordwise};
+ghost use Rattle.lb_lanes.specs.Kernels.{word_lane};
 ghost use Rattle.lb_lanes.specs.Operators.{is_int};
-ghost use Rattle.lb_lanes.specs.Planes.{CommitsPlanes, IsSelection, IsWordwise};
 
 use crate::chunks::{load8, outside8, store8};
 use crate::lanes::IntLanes;

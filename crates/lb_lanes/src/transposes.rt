@@ -1,7 +1,8 @@
 //! The transposition of a matrix of 64 rows and 64 columns of bits, a row in a word.
 
 ghost use Rattle.std.specs.Prelude.{◌<◌};
-ghost use Rattle.lb_lanes.specs.Transposes.{IsMask, IsRound, IsTransposed};
+ghost use Rattle.lb_lanes.specs.Correct.{IsTransposed};
+ghost use Rattle.lb_lanes.specs.Transposes.{IsMask, IsRound};
 
 // One round of the transposition: of each pair of words that are 32 apart, the columns of the one
 // that are not under the mask change places with those of the other that are. The new pair stands

@@ -6,7 +6,7 @@ use Rattle.lb_machine.specs.declared.code.Code.{Code}
 use Rattle.lb_machine.specs.declared.instruction.Instruction.{Instruction}
 use Rattle.lb_machine.specs.declared.instruction.PlaneId.{PlaneId}
 use Rattle.lb_machine.specs.declared.instruction.WordId.{WordId}
-use Rattle.lb_machine.specs.Growing.{IsGrown, IsPlaneFor, IsWordFor}
+use Rattle.lb_machine.specs.Correct.{IsGrown, IsPlaneFor, IsWordFor}
 use Rattle.lb_machine.specs.Meaning.{Lane, IsDone, HasRun}
 use Rattle.lb_machine.specs.Straight.{IsNext, planes_after, words_after, IsStraight}
 

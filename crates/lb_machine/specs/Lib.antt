@@ -1,4 +1,4 @@
 pub mod Meaning
 pub mod Straight
 pub mod Knowing
-pub mod Growing
+pub mod Correct

@@ -16,7 +16,7 @@ use lb_lanes::IntOperator;
 use std::alloc::{AllocError, Global};
 
 impl Code {
-    ghost use Rattle.lb_machine.specs.Growing.{AreResultsFor, IsGrown, IsPlaneFor, IsWordFor};
+    ghost use Rattle.lb_machine.specs.Correct.{AreResultsFor, IsGrown, IsPlaneFor, IsWordFor};
 
     /// No instruction, beside planes and words that are there before.
     pub fn new(alloc: Global, first_plane: u32, first_word: u32) -> Code

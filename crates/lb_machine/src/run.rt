@@ -1,8 +1,8 @@
 //! The run of code in all lanes at once.
 
 ghost use Rattle.std.specs.Prelude.{◌≡◌, ◌≢◌, ℕ, ◌<◌, ◌≤◌, length, slice_index, slice_index_or, []};
-ghost use Rattle.std.specs.List.{AllByRecursion};
-ghost use Rattle.lb_lanes.specs.Kernels.{IsBlend, IsKernel, lane_of};
+ghost use Rattle.lb_lanes.specs.Correct.{IsBlend, IsKernel};
+ghost use Rattle.lb_lanes.specs.Kernels.{lane_of};
 ghost use Rattle.lb_lanes.specs.Operators.{result_of};
 ghost use Rattle.lb_lanes.specs.Planes.{IsPlaneOf, on};
 ghost use Rattle.lb_machine.specs.Meaning.{compared, lane_at, IsDone};
@@ -96,16 +96,16 @@ fn execute(i: Instruction, planes: &mut [u64], words: &mut [LaneWord])
 }
 
 impl Code {
-    /// Runs the code in all lanes, in room that may be larger: afterwards each instruction is done in
-    /// each of them, and what was there before the code is as it was.
+    ghost use Rattle.lb_machine.specs.Correct.{AreDoneInAllLanes};
+
+    /// Runs the code in all lanes, in room that may be larger: afterwards each instruction is done
+    /// in each of them, and what was there before the code is as it was.
     pub fn run(&self, planes: &mut [u64], words: &mut [LaneWord])
         requires planes { self.now.planes ≤ length planes.old }
         requires words { self.now.words ≤ length words.old }
         ensures planes { length planes.new ≡ length planes.old }
         ensures words { length words.new ≡ length words.old }
-        ensures done { (lane : ℕ) → lane < 64 →
-            AllByRecursion (IsDone (lane_at planes.new words.new lane))
-            self.now.instructions.items }
+        ensures done { AreDoneInAllLanes self.now.instructions.items planes.new words.new }
         ensures first_planes { (k : ℕ) → k < self.now.first_plane
             → slice_index planes.new k ≡ slice_index planes.old k }
         ensures first_words { (k : ℕ) → k < self.now.first_word

@@ -14,7 +14,7 @@ use Rattle.lb_flat.specs.FurtherKinds.{kind_among}
 use Rattle.lb_flat.specs.Judging.{FlatProgram}
 use Rattle.lb_lanes.specs.Planes.{on}
 use Rattle.lb_lanes.proofs.OnPlanes.{on-zero}
-use Rattle.lb_machine.specs.Growing.{IsGrown, IsPlaneFor}
+use Rattle.lb_machine.specs.Correct.{IsGrown, IsPlaneFor}
 use Rattle.lb_machine.specs.Meaning.{Lane, HasRun, HasConstants}
 use Rattle.lb_machine.specs.declared.code.Code.{Code}
 use Rattle.lb_machine.specs.declared.instruction.PlaneId.{PlaneId}

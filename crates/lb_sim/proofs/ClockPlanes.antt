@@ -11,7 +11,7 @@ use Rattle.lb_flat.specs.Within.{IsClock, AreClocks}
 use Rattle.lb_flat.specs.declared.equation.Clock.{Clock}
 use Rattle.lb_flat.specs.declared.equation.ClockId.{ClockId}
 use Rattle.lb_flat.proofs.Steps.{is_now_step}
-use Rattle.lb_machine.specs.Growing.{IsGrown, IsPlaneFor}
+use Rattle.lb_machine.specs.Correct.{IsGrown, IsPlaneFor}
 use Rattle.lb_machine.specs.Meaning.{Lane, HasRun}
 use Rattle.lb_machine.specs.declared.code.Code.{Code}
 use Rattle.lb_machine.specs.declared.instruction.PlaneId.{PlaneId}

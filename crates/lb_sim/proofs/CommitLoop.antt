@@ -11,7 +11,7 @@ use Rattle.lb_flat.specs.Flat.{FlatEquation}
 use Rattle.lb_flat.specs.FurtherKinds.{kind_among}
 use Rattle.lb_flat.specs.Judging.{FlatProgram, some_in, named_elements}
 use Rattle.lb_flat.proofs.Lists.{Every-append, Every-drop}
-use Rattle.lb_machine.specs.Growing.{IsGrown}
+use Rattle.lb_machine.specs.Correct.{IsGrown}
 use Rattle.lb_machine.specs.Meaning.{Lane, HasRun}
 use Rattle.lb_machine.specs.declared.code.Code.{Code}
 use Rattle.lb_machine.specs.declared.instruction.PlaneId.{PlaneId}

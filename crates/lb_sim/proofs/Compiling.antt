@@ -11,7 +11,7 @@ use Rattle.lb_check.specs.Scalars.{Scalar}
 use Rattle.lb_flat.specs.Flat.{FlatEquation}
 use Rattle.lb_flat.specs.Run.{IsNext, Ready, is_now, reads, clock_reads, equation_reads}
 use Rattle.lb_flat.proofs.Lists.{Every-append, Every-first, Every-second}
-use Rattle.lb_machine.specs.Growing.{IsGrown}
+use Rattle.lb_machine.specs.Correct.{IsGrown}
 use Rattle.lb_machine.specs.Meaning.{Lane, HasRun}
 use Rattle.lb_machine.specs.declared.code.Code.{Code}
 use Rattle.lb_sim.specs.Compiled.{given_at}

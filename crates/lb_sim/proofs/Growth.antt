@@ -1,6 +1,6 @@
 -- Code that grows more than once, and what was there before.
 use Rattle.std.proofs.Common.{refl, ◌∙◌, arith}
-use Rattle.lb_machine.specs.Growing.{IsGrown}
+use Rattle.lb_machine.specs.Correct.{IsGrown}
 use Rattle.lb_machine.specs.declared.code.Code.{Code}
 use Rattle.lb_sim.specs.Holdings.{IsIn, IsValueIn, IsPlaceIn}
 use Rattle.lb_sim.specs.declared.place.Value.{Value}

@@ -23,7 +23,7 @@ use Rattle.lb_flat.specs.declared.program.FlatProgram.{FlatProgram}
 use Rattle.lb_flat.proofs.InOrder.{ready_of}
 use Rattle.lb_flat.proofs.Lists.{Every-first, Every-second}
 use Rattle.lb_flat.proofs.Memories.{every_at}
-use Rattle.lb_machine.specs.Growing.{IsGrown}
+use Rattle.lb_machine.specs.Correct.{IsGrown}
 use Rattle.lb_machine.specs.Meaning.{Lane, HasRun}
 use Rattle.lb_machine.specs.declared.code.Code.{Code}
 use Rattle.lb_machine.specs.declared.instruction.PlaneId.{PlaneId}

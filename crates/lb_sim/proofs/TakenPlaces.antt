@@ -14,7 +14,7 @@ use Rattle.lb_flat.specs.Fitting.{IsOf, OperandKinds}
 use Rattle.lb_flat.specs.Flat.{Operation, Input, Constant, Copy, ApplyUnary, ApplyBinary, Choose}
 use Rattle.lb_flat.specs.Flat.{FirstThen, Previous, Latest, Sample}
 use Rattle.lb_flat.specs.Judging.{some_in}
-use Rattle.lb_machine.specs.Growing.{IsGrown}
+use Rattle.lb_machine.specs.Correct.{IsGrown}
 use Rattle.lb_machine.specs.Meaning.{Lane, HasRun}
 use Rattle.lb_machine.specs.declared.code.Code.{Code}
 use Rattle.lb_machine.specs.declared.instruction.PlaneId.{PlaneId}

@@ -14,7 +14,7 @@ use Rattle.lb_flat.specs.Judging.{some_in}
 use Rattle.lb_flat.specs.Programs.{numbers_of}
 use Rattle.lb_flat.specs.Run.{cell}
 use Rattle.lb_flat.specs.declared.equation.ElementId.{ElementId}
-use Rattle.lb_machine.specs.Growing.{IsGrown, IsPlaneFor}
+use Rattle.lb_machine.specs.Correct.{IsGrown, IsPlaneFor}
 use Rattle.lb_machine.specs.Meaning.{Lane, HasRun}
 use Rattle.lb_machine.specs.declared.code.Code.{Code}
 use Rattle.lb_machine.specs.declared.instruction.PlaneId.{PlaneId}

@@ -9,7 +9,7 @@ use Rattle.lb_flat.specs.Run.{reads, is_now}
 use Rattle.lb_flat.specs.Values.{clock_of}
 use Rattle.lb_flat.specs.declared.equation.Clock.{Clock}
 use Rattle.lb_flat.specs.declared.equation.ClockId.{ClockId}
-use Rattle.lb_machine.specs.Growing.{IsPlaneFor}
+use Rattle.lb_machine.specs.Correct.{IsPlaneFor}
 use Rattle.lb_machine.specs.Meaning.{Lane, HasRun}
 use Rattle.lb_machine.specs.declared.code.Code.{Code}
 use Rattle.lb_machine.specs.declared.instruction.PlaneId.{PlaneId}

@@ -7,7 +7,7 @@ use Rattle.lb_check.specs.declared.verdict.Verdict.{Verdict}
 use Rattle.lb_check.specs.declared.verdict.Verdict.TheVariants.{Passed, Fault, Undefined, Assertion}
 use Rattle.lb_check.specs.declared.verdict.Verdict.TheVariants.{False}
 use Rattle.lb_flat.specs.Judging.{FlatProgram, some_in, named_elements, truth_elements}
-use Rattle.lb_machine.specs.Growing.{IsPlaneFor}
+use Rattle.lb_machine.specs.Correct.{IsPlaneFor}
 use Rattle.lb_machine.specs.Meaning.{Lane}
 use Rattle.lb_machine.specs.declared.code.Code.{Code}
 use Rattle.lb_sim.specs.Showing.{row_at}

@@ -4,7 +4,7 @@ ghost use Rattle.std.specs.Prelude.{◌≡◌, ◌<◌, length, All, IfOk, OnOk}
 ghost use Rattle.lb_flat.specs.Run.{is_now};
 ghost use Rattle.lb_flat.specs.Values.{clock_of};
 ghost use Rattle.lb_flat.specs.Within.{AreClocks, IsClock};
-ghost use Rattle.lb_machine.specs.Growing.{IsGrown, IsPlaneFor};
+ghost use Rattle.lb_machine.specs.Correct.{IsGrown, IsPlaneFor};
 ghost use Rattle.lb_sim.specs.Emitted.{AreKnown, IsKnownAfter};
 ghost use Rattle.lb_sim.specs.Holdings.{IsPlaceIn};
 ghost use Rattle.lb_sim.specs.Showing.{row_at};

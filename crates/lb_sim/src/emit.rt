@@ -5,7 +5,7 @@ ghost use Rattle.std.specs.Prelude.{if◌then◌else◌};
 ghost use Rattle.lb_syntax.specs.declared.tree.Kind.{Kind};
 ghost use Rattle.lb_flat.specs.Run.{reads};
 ghost use Rattle.lb_flat.specs.Values.{operation_of};
-ghost use Rattle.lb_machine.specs.Growing.{IsGrown};
+ghost use Rattle.lb_machine.specs.Correct.{IsGrown};
 ghost use Rattle.lb_machine.specs.declared.code.Code.{Code};
 ghost use Rattle.lb_sim.specs.Allotted.{IsFlagHolding};
 ghost use Rattle.lb_sim.specs.Emitted.{IsEmitted};

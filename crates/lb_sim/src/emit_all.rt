@@ -7,7 +7,7 @@ ghost use Rattle.lb_flat.specs.Fitting.{KindFits};
 ghost use Rattle.lb_flat.specs.FurtherKinds.{kind_among};
 ghost use Rattle.lb_flat.specs.InOrder.{is_in_order};
 ghost use Rattle.lb_flat.specs.Programs.{flat_equations, program_of, IsInRange};
-ghost use Rattle.lb_machine.specs.Growing.{IsGrown};
+ghost use Rattle.lb_machine.specs.Correct.{IsGrown};
 ghost use Rattle.lb_machine.specs.Meaning.{Lane, HasRun};
 ghost use Rattle.lb_sim.specs.Allotted.{IsAllotted, HasAllConstants};
 ghost use Rattle.lb_sim.specs.Compiled.{given_at};

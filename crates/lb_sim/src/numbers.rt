@@ -5,7 +5,7 @@ ghost use Rattle.lb_syntax.specs.declared.tree.Kind.TheVariants.{Int as Int_kind
 ghost use Rattle.lb_syntax.specs.declared.tree.UnaryOperator.TheVariants.{Negate};
 ghost use Rattle.lb_check.specs.Scalars.{Integer, one_scalar, or_fault, two_integers};
 ghost use Rattle.lb_lanes.specs.Operators.{result_of};
-ghost use Rattle.lb_machine.specs.Growing.{IsGrown};
+ghost use Rattle.lb_machine.specs.Correct.{IsGrown};
 ghost use Rattle.lb_sim.specs.Holdings.{IsFor, IsIn};
 ghost use Rattle.lb_sim.specs.Showing.{operator_of, shown};
 

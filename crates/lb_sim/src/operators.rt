@@ -4,7 +4,7 @@ ghost use Rattle.std.specs.Prelude.{◌≡◌, ◌<◌, Some, IfOk, OnOk};
 ghost use Rattle.lb_syntax.specs.declared.tree.Kind.{Kind};
 ghost use Rattle.lb_check.specs.Scalars.{one_scalar, two_integers, two_scalars};
 ghost use Rattle.lb_flat.specs.Fitting.{binary_kind, integers_kind, unary_kind};
-ghost use Rattle.lb_machine.specs.Growing.{IsGrown};
+ghost use Rattle.lb_machine.specs.Correct.{IsGrown};
 ghost use Rattle.lb_sim.specs.Holdings.{IsFor, IsIn};
 ghost use Rattle.lb_sim.specs.Showing.{kind_of, scalar_at, shown};
 ghost use Rattle.lb_sim.specs.declared.place.Value.TheVariants.{Truth};

@@ -3,7 +3,7 @@
 ghost use Rattle.std.specs.Prelude.{◌≡◌, ◌<◌, ◌&&◌, IfOk, OnOk, if◌then◌else◌};
 ghost use Rattle.lb_check.specs.Scalars.{chosen};
 ghost use Rattle.lb_check.specs.Streams.{shows};
-ghost use Rattle.lb_machine.specs.Growing.{IsGrown, IsPlaneFor};
+ghost use Rattle.lb_machine.specs.Correct.{IsGrown, IsPlaneFor};
 ghost use Rattle.lb_sim.specs.Holdings.{IsFor, IsIn, IsPlaceIn, IsValueFor, IsValueIn};
 ghost use Rattle.lb_sim.specs.Showing.{cell_at, kind_of, scalar_at, value_at, value_kind};
 

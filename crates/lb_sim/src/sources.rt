@@ -5,7 +5,7 @@ ghost use Rattle.lb_flat.specs.Programs.{program_of, IsInRange};
 ghost use Rattle.lb_flat.specs.FurtherKinds.{kind_among};
 ghost use Rattle.lb_flat.specs.Run.{keeps, reads};
 ghost use Rattle.lb_flat.specs.Values.{operation_of};
-ghost use Rattle.lb_machine.specs.Growing.{IsGrown};
+ghost use Rattle.lb_machine.specs.Correct.{IsGrown};
 ghost use Rattle.lb_sim.specs.Holdings.{IsIn, IsPlaceIn};
 ghost use Rattle.lb_sim.specs.Homes.{plane_in, word_in};
 ghost use Rattle.lb_sim.specs.Passing.{AreCopies, AreSources, AreTaken, IsNextOf, IsPlaneSource};

@@ -4,7 +4,7 @@ ghost use Rattle.std.specs.Prelude.{◌≡◌, ◌<◌, not, Some, IfOk, OnOk};
 ghost use Rattle.lb_syntax.specs.declared.tree.Kind.TheVariants.{Bool as Bool_kind};
 ghost use Rattle.lb_check.specs.Scalars.{Boolean, two_booleans, two_integers};
 ghost use Rattle.lb_flat.specs.Fitting.{integers_kind, truths_kind};
-ghost use Rattle.lb_machine.specs.Growing.{IsGrown, IsPlaneFor};
+ghost use Rattle.lb_machine.specs.Correct.{IsGrown, IsPlaneFor};
 ghost use Rattle.lb_machine.specs.Meaning.{Lane, HasRun};
 
 use lb_machine::{Code, Comparison, EVERYWHERE, NOWHERE, PlaneId, PlaneOperator, WordId};

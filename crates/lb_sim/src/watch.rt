@@ -5,7 +5,7 @@ ghost use Rattle.std.specs.List.{range_with_len};
 ghost use Rattle.lb_check.specs.Verdicts.{is_bad, is_nil, is_false};
 ghost use Rattle.lb_flat.specs.Judging.{some_in};
 ghost use Rattle.lb_flat.specs.Programs.{numbers_of};
-ghost use Rattle.lb_machine.specs.Growing.{IsGrown, IsPlaneFor};
+ghost use Rattle.lb_machine.specs.Correct.{IsGrown, IsPlaneFor};
 ghost use Rattle.lb_sim.specs.Holdings.{IsPlaceIn};
 ghost use Rattle.lb_sim.specs.Showing.{cell_at, row_at};
 ghost use Rattle.lb_sim.specs.Watching.{is_sought};

@@ -4,7 +4,7 @@ ghost use Rattle.std.specs.Prelude.{◌≡◌, length, All, IfOk, OnOk};
 ghost use Rattle.lb_check.specs.Verdicts.{is_bad, is_nil};
 ghost use Rattle.lb_flat.specs.Judging.{named_elements, some_in, truth_elements};
 ghost use Rattle.lb_flat.specs.Programs.{program_of, IsInRange};
-ghost use Rattle.lb_machine.specs.Growing.{IsGrown, IsPlaneFor};
+ghost use Rattle.lb_machine.specs.Correct.{IsGrown, IsPlaneFor};
 ghost use Rattle.lb_sim.specs.Holdings.{IsPlaceIn};
 ghost use Rattle.lb_sim.specs.Showing.{row_at};
 ghost use Rattle.lb_sim.specs.Watching.{AreWatched};

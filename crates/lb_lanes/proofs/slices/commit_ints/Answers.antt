@@ -1,7 +1,7 @@
 use Rattle.std.proofs.Common.{◌≡◌, ◌≢◌, List, ℤ, [], get_or, set, sym, ◌∙◌, subst, arith}
 use Rattle.std.proofs.Common.{below_more, not-suc-le-zero, refl}
 use Rattle.std.proofs.lemmas.List.{get_or-set_same, get_or-set_other, get_or_default}
-use Rattle.lb_lanes.specs.Kernels.{IsBlend}
+use Rattle.lb_lanes.specs.Correct.{IsBlend}
 use Rattle.lb_lanes.proofs.slices.commit_ints.Goals as goal
 
 pub loop-k-preserved : goal.loop-k-preserved

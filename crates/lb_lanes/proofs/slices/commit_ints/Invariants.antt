@@ -1,5 +1,5 @@
 use Rattle.std.proofs.Common.{◌≡◌, ℕ, ◌<◌, ◌≤◌, get_or, []}
-use Rattle.lb_lanes.specs.Kernels.{IsBlend}
+use Rattle.lb_lanes.specs.Correct.{IsBlend}
 use Rattle.lb_lanes.proofs.slices.commit_ints.Given as goal
 
 abbrev pub invariant-loop-k : goal.invariant-loop-k

@@ -1,6 +1,6 @@
 use Rattle.std.proofs.Common.{◌≡◌, ℕ, ◌*◌, ◌+◌, refl, sym, ◌∙◌, subst, arith, not-suc-le-zero}
 use Rattle.std.proofs.Common.{get_or, rules}
-use Rattle.lb_lanes.specs.Planes.{IsSelection}
+use Rattle.lb_lanes.specs.Correct.{IsSelection}
 use Rattle.lb_lanes.proofs.Joined.{WrittenBelow, words_joined}
 use Rattle.lb_lanes.proofs.slices.commit_planes.Goals as goal
 

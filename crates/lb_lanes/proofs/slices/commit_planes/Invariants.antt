@@ -1,5 +1,5 @@
 use Rattle.std.proofs.Common.{◌≡◌, ◌*◌, length, get_or}
-use Rattle.lb_lanes.specs.Planes.{IsSelection}
+use Rattle.lb_lanes.specs.Correct.{IsSelection}
 use Rattle.lb_lanes.proofs.Joined.{WrittenBelow}
 use Rattle.lb_lanes.proofs.slices.commit_planes.Given as goal
 

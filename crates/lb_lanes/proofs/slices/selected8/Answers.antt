@@ -1,7 +1,7 @@
 use Rattle.std.proofs.Common.{◌≡◌, ℕ, ◌<◌, List, get_or, replicate, length, subst, sym, ◌∙◌, ap₂}
 use lib.Bits.{bit_and, bit_or}
 use lib.Lanes.{zip2}
-use Rattle.lb_lanes.specs.Planes.{IsSelection}
+use Rattle.lb_lanes.specs.Correct.{IsSelection}
 use Rattle.lb_lanes.proofs.OnPlanes.{selection_on, flip}
 use Rattle.lb_lanes.proofs.Vectors.{lane-op, lane-splat_op, length-op, splat_long}
 use Rattle.lb_lanes.proofs.slices.selected8.Goals as goal

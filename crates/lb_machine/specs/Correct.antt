@@ -1,11 +1,23 @@
--- What code that grows keeps, and what its new places mean.
--- This file says what data of the program mean.
-use Rattle.std.specs.Prelude.{◌≡◌, ◌<◌, ◌≤◌, Bool, Option, ℤ}
+-- What code promises: run in all lanes at once, it is done in each of them; and as it is put together,
+-- each place that a call gives holds what the call names, in every lane in which the code is done.
+-- This file says what data of the program mean. No lane occurs beside another.
+use Rattle.std.specs.Prelude.{◌≡◌, ◌<◌, ◌≤◌, ℕ, Bool, Option, List, ℤ}
+use Rattle.std.specs.List.{AllByRecursion}
+use Rattle.lb_lanes.specs.Kernels.{kept, faulty}
+use Rattle.lb_machine.specs.Meaning.{Lane, HasRun, IsDone, lane_at}
 use Rattle.lb_machine.specs.declared.code.Code.{Code}
+use Rattle.lb_machine.specs.declared.instruction.Instruction.{Instruction}
 use Rattle.lb_machine.specs.declared.instruction.PlaneId.{PlaneId}
 use Rattle.lb_machine.specs.declared.instruction.WordId.{WordId}
-use Rattle.lb_machine.specs.Meaning.{Lane, HasRun}
-use Rattle.lb_lanes.specs.Kernels.{kept, faulty}
+
+-- ## Code that is run
+
+-- in each of the 64 lanes of planes and words each instruction has been done
+abbrev pub AreDoneInAllLanes : List Instruction → List ℕ → List (List ℤ) → Type 0
+AreDoneInAllLanes code planes words =
+    (lane : ℕ) → lane < 64 → AllByRecursion (IsDone (lane_at planes words lane)) code
+
+-- ## Code that is put together
 
 -- the code has all its instructions still, and maybe more
 pub record IsGrown (before after : Code) : Type 0 where
