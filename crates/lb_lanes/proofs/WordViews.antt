@@ -1,5 +1,5 @@
 -- Every word of 32 bits stands for an integer in the range of `int`.
-use Rattle.std.proofs.Common.{◌≡◌, ℕ, suc, ◌<◌, ◌-◌, Bool, true, false, List, ℤ, pos, negsuc, map}
+use Rattle.std.proofs.Common.{◌≡◌, ℕ, suc, ◌-◌, Bool, true, false, List, ℤ, pos, negsuc, map}
 use Rattle.std.proofs.Common.{refl, ap, ◌∙◌, w32, SFits, to_z, of_z, ltb, arith}
 use mir.Val.{sel}
 use Rattle.lb_lanes.specs.Kernels.{AreInts}

@@ -1,12 +1,8 @@
 -- Planes of clocks that are known: one more of them is known after each equation.
-use Rattle.std.proofs.Common.{◌≡◌, ℕ, zero, suc, Option, Some, None, List, get_or, replicate, refl}
+use Rattle.std.proofs.Common.{◌≡◌, ℕ, zero, suc, Option, Some, None, get_or, replicate, refl}
 use Rattle.std.proofs.Common.{sym, ◌∙◌}
-use Rattle.lb_flat.specs.declared.equation.Clock.{Clock}
 use Rattle.lb_flat.specs.declared.equation.ClockId.{ClockId}
-use Rattle.lb_machine.specs.declared.code.Code.{Code}
 use Rattle.lb_machine.specs.declared.instruction.PlaneId.{PlaneId}
-use Rattle.lb_sim.specs.Emitted.{AreKnown}
-use Rattle.lb_sim.specs.declared.place.Place.{Place}
 
 abbrev no_plane : Option PlaneId
 no_plane = None

@@ -9,7 +9,6 @@ use Rattle.std.specs.List.{range_with_len}
 use Rattle.std.proofs.lemmas.List.{get_or-map}
 use Rattle.std.proofs.Math.Bool.{or-false}
 use Rattle.lb_check.specs.Scalars.{Cell}
-use Rattle.lb_check.specs.Streams.{shows}
 use Rattle.lb_flat.specs.Judging.{some_in}
 use Rattle.lb_flat.specs.Programs.{numbers_of}
 use Rattle.lb_flat.specs.Run.{cell}
