@@ -1,7 +1,7 @@
 #!/usr/bin/env bash
-# Times lbench on a large trace text, beside a program that reads the records of the same text with
-# csv, counts their cells and does nothing else. Both are proved and built by LLVM as the merge gate
-# builds them. Needs rt, awk and GNU time on the path.
+# Times lbench on large trace texts, with one worker and with four, beside a program that reads the
+# records of the same texts with csv, counts their cells and does nothing else. Both are proved and
+# built by LLVM as the merge gate builds them. Needs rt, awk and GNU time on the path.
 #
 #     bench/run/run.sh [RECORDS]
 set -euo pipefail
@@ -14,39 +14,60 @@ workspace "count_cells: csv anyhow" "$here/count_cells"
 (cd "$work/crates/count_cells" && quietly rt run)
 (cd "$lbench" && quietly rt run -- --help)
 
-awk -v records="$records" -f "$here/make_traces.awk" > "$work/tank_farm.csv"
+make_text() { awk -v records="$records" "${@:2}" -f "$here/make_traces.awk" > "$work/$1.csv"; }
+make_text integers
+make_text quoted -v quoted=1
+make_text booleans -v booleans=1
 
-# Runs a program, and keeps what it wrote, its seconds and its peak of memory in KiB.
+# Runs a program on a text, and keeps what it wrote, its seconds and its peak of memory in KiB.
 timed() {
-    local name=$1
-    shift
-    env time -f "$name %e %M" -o "$work/times" -a "$@" > "$work/$name.out"
+    local text=$1 name=$2
+    shift 2
+    env time -f "$text $name %e %M" -o "$work/times" -a "$@" "$work/$text.csv" \
+        > "$work/$text.$name.out"
 }
 
-# The two take turns, so that what else the machine does falls on both.
+# They take turns, so that what else the machine does falls on all.
 for _ in 1 2 3 4 5; do
-    timed count_cells "$work/crates/count_cells/out/count_cells" "$work/tank_farm.csv"
-    timed lbench "$lbench/out/lbench" "$here/tank_farm.lus" "$work/tank_farm.csv"
+    for text in integers quoted booleans; do
+        source=$here/tank_farm.lus
+        [ $text != booleans ] || source=$here/doors.lus
+        timed $text count_cells "$work/crates/count_cells/out/count_cells"
+        timed $text lbench "$lbench/out/lbench" "$source"
+        timed $text four_workers "$lbench/out/lbench" --workers 4 "$source"
+    done
 done
 
-# The bench has judged each trace, and the other program has seen each cell.
-tail -n 1 "$work/lbench.out"
-bytes=$(wc -c < "$work/tank_farm.csv")
-awk -v bytes="$bytes" -v records="$records" -v counted="$(cat "$work/count_cells.out")" '
+# The bench has judged each trace, the same by one worker and by four, and the other program has
+# seen each cell.
+for text in integers quoted booleans; do
+    cmp "$work/$text.lbench.out" "$work/$text.four_workers.out"
+    echo "$text $(wc -c < "$work/$text.csv") $(cat "$work/$text.count_cells.out")" >> "$work/texts"
+    echo "$text: $(tail -n 1 "$work/$text.lbench.out")"
+done
+awk -v records="$records" '
+    NR == FNR { bytes[$1] = $2; counted[$1] = $3; next }
     {
-        if (!($1 in least) || $2 < least[$1]) least[$1] = $2
-        if ($3 > peak[$1]) peak[$1] = $3
+        if (!(($1, $2) in least) || $3 < least[$1, $2]) least[$1, $2] = $3
+        if ($4 > peak[$1, $2]) peak[$1, $2] = $4
     }
     END {
-        if (counted != (records + 1) * 21) print "count_cells counted " counted " cells"
-        printf "%-12s %10s %10s %12s\n", "", "seconds", "MB/s", "peak MB"
-        for (i = 1; i <= split("count_cells lbench", names, " "); i++) {
-            name = names[i]
-            speed = least[name] > 0 ? bytes / 1e6 / least[name] : 0
-            printf "%-12s %10.2f %10.0f %12.0f\n", name, least[name], speed, peak[name] * 1024 / 1e6
+        printf "%-9s %-12s %8s %8s %9s %9s %s\n", "", "", "seconds", "MB/s", "peak MB", "ratio",
+            "wanted"
+        for (t = 1; t <= split("integers quoted booleans", texts, " "); t++) {
+            text = texts[t]
+            columns = text == "booleans" ? 40 : 20
+            if (counted[text] != (records + 1) * (columns + 1))
+                print "count_cells counted " counted[text] " cells of " text
+            beside = least[text, "count_cells"]
+            for (i = 1; i <= split("count_cells lbench four_workers", names, " "); i++) {
+                name = names[i]
+                seconds = least[text, name]
+                printf "%-9s %-12s %8.2f %8.0f %9.0f %9.2f %s\n", text, name, seconds,
+                    seconds > 0 ? bytes[text] / 1e6 / seconds : 0, peak[text, name] * 1024 / 1e6,
+                    beside > 0 ? seconds / beside : 0, name == "lbench" ? "at most 3" : ""
+            }
+            cells = (columns == 20 ? 4 : 0.25) * columns * records
+            printf "%-9s peak wanted at most %.0f MB\n", text, (bytes[text] + cells) / 1e6 + 20
         }
-        if (least["count_cells"] > 0)
-            printf "ratio %.2f, wanted at most 3\n", least["lbench"] / least["count_cells"]
-        printf "peak of lbench %.0f MB, wanted at most %.0f\n", peak["lbench"] * 1024 / 1e6,
-            (bytes + 8 * 20 * records) / 1e6 + 100
-    }' "$work/times"
+    }' "$work/texts" "$work/times"
