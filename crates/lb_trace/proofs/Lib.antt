@@ -22,6 +22,7 @@ pub mod CutTexts
 pub mod LineReadings
 pub mod JoinedTraces
 pub mod SpreadReadings
+pub mod ChunkTexts
 pub mod Fronts
 pub mod TruthCells
 pub mod KnownNames

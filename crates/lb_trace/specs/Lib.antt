@@ -6,6 +6,7 @@ pub mod Mirrors
 pub mod Readers
 pub mod Plain
 pub mod Parts
+pub mod Chunks
 pub mod Lines
 pub mod Scan
 pub mod PlainRows

@@ -4,6 +4,7 @@
 mod add_lines;
 mod begun;
 mod cells;
+mod chunks;
 mod copied;
 mod error;
 mod front;
@@ -28,5 +29,6 @@ mod table;
 mod truth_bits;
 mod truths;
 
+pub use chunks::read_chunks;
 pub use error::TraceError;
 pub use read::{read_traces, read_traces_by};

@@ -23,7 +23,7 @@ use std::alloc::{AllocError, Global};
 use std::thread::Threads;
 
 /// The most bytes of a trace text.
-const MOST_BYTES: usize = 1_073_741_824;
+pub(crate) const MOST_BYTES: usize = 1_073_741_824;
 
 /// The parts of a text that is read by as many workers as there are processors.
 const MOST_PARTS: u32 = 64;

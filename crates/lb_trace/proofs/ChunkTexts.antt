@@ -1,0 +1,255 @@
+-- The text of chunks, of which each but the last ends with a line.
+use Rattle.std.proofs.Common.{ℕ, zero, suc, ◌≡◌, ◌+◌, ◌-◌, ◌<◌, ◌≤◌, ◌||◌, Bool, true, false}
+use Rattle.std.proofs.Common.{List, [], ◌∷◌, ◌++◌, length, refl, sym, ap, ◌∙◌, arith}
+use Rattle.std.proofs.Common.{get_or, map, take, drop}
+use Rattle.std.proofs.Common.{append_assoc, if◌then◌else◌, length-append, subst, ⊎_elim}
+use Rattle.std.specs.Prelude.{Vec, flat_map}
+use Rattle.std.specs.Borrow.{Bor}
+use Rattle.std.specs.Global.{Global}
+use Rattle.std.specs.List.{list_any}
+use Rattle.std.proofs.lemmas.Bool.Decides.{nat_tests}
+use Rattle.std.proofs.lemmas.Grind.{flat_map-append}
+use Rattle.std.proofs.lemmas.Bool.{cases_lt}
+use Rattle.std.proofs.lemmas.List.{append-nil, drop_all, drop_more, map-append, take-append-drop}
+use Rattle.std.proofs.lemmas.List.{length-map, take_all, take_more, take_rest}
+use Rattle.std.proofs.lemmas.List.Folds.{list_any-append}
+use Rattle.csv.specs.Reading.{default_config, is_bom, records as records_by, strip_bom}
+use Rattle.lb_trace.specs.Chunks.{is_ended, text_of}
+use Rattle.lb_trace.specs.Parts.{HaveRecordsOf}
+use Rattle.lb_trace.specs.Plain.{ends_line, has_quote, is_quote, plain_records}
+use Rattle.lb_trace.specs.Spelling.{records_of}
+use Rattle.lb_trace.proofs.CutTexts.{plain-cut}
+use Rattle.lb_trace.proofs.Lines.{plain-none}
+use Rattle.lb_trace.proofs.PlainRecords.{plain_text}
+use Rattle.lb_trace.proofs.SpreadReadings.{records_after_bom}
+
+-- the bytes of some texts, one text after the other
+abbrev joined : List (List ℕ) → List ℕ
+joined texts = flat_map (λ text. text) texts
+
+-- each text but the last one ends with a line
+abbrev pub AreEnded : List (List ℕ) → Type 0
+AreEnded texts = (k : ℕ) → k + 1 < length texts → is_ended (get_or texts k []) ≡ true
+
+-- the texts, without the byte order mark at the start of the first
+abbrev pub bodies_of : List (List ℕ) → List (List ℕ)
+bodies_of [] = []
+bodies_of (text ∷ more) = strip_bom text ∷ more
+
+ended-some : (text : List ℕ) → is_ended text ≡ true → 0 < length text
+ended-some [] e = cc e
+ended-some (b ∷ rest) e = omega arith
+
+-- a text that ends with a line, and its last byte
+ended-last : (text : List ℕ) → is_ended text ≡ true
+    → text ≡ take (length text - 1) text ++ get_or text (length text - 1) 0 ∷ []
+ended-last text e =
+    let some : 0 < length text = ended-some text e in
+    let below : length text - 1 < length text = omega arith in
+    sym (take-append-drop (length text - 1) text)
+    ∙ ap (λ rest. take (length text - 1) text ++ rest)
+    (drop_more text (length text - 1) 0 below
+    ∙ ap (λ rest. get_or text (length text - 1) 0 ∷ rest)
+    (drop_all (length text - 1 + 1) text (omega arith)))
+
+-- the records of what ends with a line, and of what follows it
+plain-after : (text rest : List ℕ) → is_ended text ≡ true
+    → plain_records (text ++ rest) ≡ plain_records text ++ plain_records rest
+plain-after text rest e =
+    let before : List ℕ = take (length text - 1) text in
+    let last : ℕ = get_or text (length text - 1) 0 in
+    let whole : text ≡ before ++ last ∷ [] = ended-last text e in
+    let alone : plain_records text ≡ plain_records before =
+    ap plain_records whole ∙ plain-cut before last [] e
+    ∙ ap (λ rs. plain_records before ++ rs) plain-none ∙ append-nil (plain_records before) in
+    ap (λ t. plain_records (t ++ rest)) whole
+    ∙ ap plain_records (append_assoc before (last ∷ []) rest)
+    ∙ plain-cut before last rest e
+    ∙ ap (λ rs. rs ++ plain_records rest) (sym alone)
+
+joined-records : (texts : List (List ℕ)) → AreEnded texts
+    → plain_records (joined texts) ≡ flat_map plain_records texts
+joined-records [] each = plain-none
+joined-records (text ∷ []) each =
+    ap plain_records (append-nil text) ∙ sym (append-nil (plain_records text))
+joined-records (text ∷ next ∷ more) each =
+    plain-after text (joined (next ∷ more)) (each 0 (omega arith))
+    ∙ ap (λ rs. plain_records text ++ rs)
+    (joined-records (next ∷ more) (λ k below. each (suc k) (omega (arith, below))))
+
+joined-quotes : (texts : List (List ℕ)) → has_quote (joined texts) ≡ list_any has_quote texts
+joined-quotes [] = refl
+joined-quotes (text ∷ more) =
+    list_any-append is_quote text (joined more)
+    ∙ ap (λ q. has_quote text || q) (joined-quotes more)
+
+-- the byte order mark stands in the first text
+strip-first : (text rest : List ℕ) → 2 < length text
+    → strip_bom (text ++ rest) ≡ strip_bom text ++ rest
+unfolding strip_bom
+strip-first [] rest long = absurd (omega (arith, long))
+strip-first (a ∷ []) rest long = absurd (omega (arith, long))
+strip-first (a ∷ b ∷ []) rest long = absurd (omega (arith, long))
+strip-first (a ∷ b ∷ c ∷ more) rest long = by (is_bom a b c) refl
+  where
+    by : (t : Bool) → is_bom a b c ≡ t
+        → strip_bom ((a ∷ b ∷ c ∷ more) ++ rest) ≡ strip_bom (a ∷ b ∷ c ∷ more) ++ rest
+    by true is = rw is refl
+    by false is = rw is refl
+
+-- what stands after the mark ends as the text does
+strip-ended : (text : List ℕ) → 2 < length text → is_ended text ≡ true
+    → is_ended (strip_bom text) ≡ true
+unfolding strip_bom
+strip-ended [] long e = absurd (omega (arith, long))
+strip-ended (a ∷ []) long e = absurd (omega (arith, long))
+strip-ended (a ∷ b ∷ []) long e = absurd (omega (arith, long))
+strip-ended (a ∷ b ∷ c ∷ more) long e = by (is_bom a b c) refl
+  where
+    rest-ended : (left : List ℕ) → is_bom a b c ≡ true → is_ended (a ∷ b ∷ c ∷ left) ≡ true
+        → is_ended left ≡ true
+    rest-ended [] is end = absurd (grind (arith, nat_tests))
+    rest-ended (d ∷ left) is end =
+        let at : length (a ∷ b ∷ c ∷ d ∷ left) - 1 ≡ suc (suc (suc (length (d ∷ left) - 1))) =
+        omega arith in
+        ap (λ i. ends_line (get_or (a ∷ b ∷ c ∷ d ∷ left) i 0)) (sym at) ∙ end
+
+    by : (t : Bool) → is_bom a b c ≡ t → is_ended (strip_bom (a ∷ b ∷ c ∷ more)) ≡ true
+    by true is = rw is (rest-ended more is e)
+    by false is = rw is e
+
+bodies-ended : (text : List ℕ) (more : List (List ℕ)) → 2 < length text → AreEnded (text ∷ more)
+    → AreEnded (strip_bom text ∷ more)
+bodies-ended text more long each zero below = strip-ended text long (each 0 (omega (arith, below)))
+bodies-ended text more long each (suc k) below = each (suc k) (omega (arith, below))
+
+-- the texts have the records of what they are one after the other
+bodies-records : (texts : List (List ℕ)) → 2 < length (get_or texts 0 []) → AreEnded texts
+    → list_any has_quote (bodies_of texts) ≡ false
+    → records_of (joined texts) ≡ flat_map plain_records (bodies_of texts)
+bodies-records [] long each none = absurd (omega (arith, long))
+bodies-records (text ∷ more) long each none =
+    let body : List ℕ = joined (strip_bom text ∷ more) in
+    records_after_bom (joined (text ∷ more)) body (sym (strip-first text (joined more) long))
+    (plain_text body (joined-quotes (strip_bom text ∷ more) ∙ none))
+    ∙ joined-records (strip_bom text ∷ more) (bodies-ended text more long each)
+
+-- the same of chunks, and of what slices show of their bodies
+chunks-joined : (chunks : List (Vec ℕ Global))
+    → text_of chunks ≡ joined (map (λ (chunk : Vec ℕ Global). chunk.items) chunks)
+chunks-joined [] = refl
+chunks-joined (chunk ∷ more) = ap (λ rest. chunk.items ++ rest) (chunks-joined more)
+
+shown-records : (parts : List (Bor (List ℕ)))
+    → flat_map plain_records (map (λ (part : Bor (List ℕ)). part.now) parts)
+    ≡ flat_map (λ (part : Bor (List ℕ)). plain_records part.now) parts
+shown-records [] = refl
+shown-records (part ∷ more) = ap (λ rs. plain_records part.now ++ rs) (shown-records more)
+
+shown-quotes : (parts : List (Bor (List ℕ)))
+    → list_any has_quote (map (λ (part : Bor (List ℕ)). part.now) parts)
+    ≡ list_any (λ (part : Bor (List ℕ)). has_quote part.now) parts
+shown-quotes [] = refl
+shown-quotes (part ∷ more) = ap (λ q. has_quote part.now || q) (shown-quotes more)
+
+pub bodies-have : (chunks : List (Vec ℕ Global)) (parts : List (Bor (List ℕ)))
+    → 2 < length (get_or (map (λ chunk. chunk.items) chunks) 0 [])
+    → ((k : ℕ) → k + 1 < length chunks
+    → is_ended (get_or (map (λ chunk. chunk.items) chunks) k []) ≡ true)
+    → map (λ part. part.now) parts ≡ bodies_of (map (λ chunk. chunk.items) chunks)
+    → HaveRecordsOf (text_of chunks) parts
+bodies-have chunks parts long each shown none =
+    let items : Vec ℕ Global → List ℕ = λ chunk. chunk.items in
+    let texts : List (List ℕ) = map items chunks in
+    ap records_of (chunks-joined chunks)
+    ∙ bodies-records texts long
+    (λ k below. each k (subst (λ (n : ℕ). k + 1 < n) (length-map chunks items) below))
+    (ap (list_any has_quote) (sym shown) ∙ shown-quotes parts ∙ none)
+    ∙ ap (flat_map plain_records) (sym shown) ∙ shown-records parts
+
+-- so many of them
+pub text-more : (chunks : List (Vec ℕ Global)) (k : ℕ) (d : Vec ℕ Global) → k < length chunks
+    → length (text_of (take (k + 1) chunks))
+    ≡ length (text_of (take k chunks)) + length (get_or chunks k d).items
+text-more chunks k d below =
+    let items : Vec ℕ Global → List ℕ = λ chunk. chunk.items in
+    ap (λ (cs : List (Vec ℕ Global)). length (text_of cs)) (take_more chunks k d below)
+    ∙ ap length (flat_map-append items (take k chunks) (get_or chunks k d ∷ []))
+    ∙ ap (λ (last : List ℕ). length (text_of (take k chunks) ++ last))
+    (append-nil (items (get_or chunks k d)))
+    ∙ length-append (text_of (take k chunks)) (items (get_or chunks k d))
+
+-- one chunk more, at the end
+pub text-push : (chunks : List (Vec ℕ Global)) (chunk : Vec ℕ Global)
+    → text_of (chunks ++ chunk ∷ []) ≡ text_of chunks ++ chunk.items
+text-push chunks chunk =
+    let items : Vec ℕ Global → List ℕ = λ one. one.items in
+    flat_map-append items chunks (chunk ∷ [])
+    ∙ ap (λ (last : List ℕ). text_of chunks ++ last) (append-nil (items chunk))
+
+item-at : (chunks : List (Vec ℕ Global)) (k : ℕ) (d : Vec ℕ Global) → k < length chunks
+    → get_or (map (λ chunk. chunk.items) chunks) k [] ≡ (get_or chunks k d).items
+item-at [] k d below = absurd (omega (arith, below))
+item-at (chunk ∷ more) zero d below = refl
+item-at (chunk ∷ more) (suc k) d below = item-at more k d (omega (arith, below))
+
+-- one chunk more ends with a line
+pub ended-more : (chunks : List (Vec ℕ Global)) (k : ℕ) (chunk : Vec ℕ Global) → 0 < k
+    → k - 1 < length chunks → chunk ≡ get_or chunks (k - 1) chunk → is_ended chunk.items ≡ true
+    → ((j : ℕ) → j + 1 < k → is_ended (get_or (map (λ one. one.items) chunks) j []) ≡ true)
+    → (j : ℕ) → j + 1 < k + 1 → is_ended (get_or (map (λ one. one.items) chunks) j []) ≡ true
+ended-more chunks k chunk some below is e before j within =
+    ⊎_elim (λ less. before j less)
+    (λ most.
+    let at : k - 1 ≡ j = omega (arith, most, within, some) in
+    let found : is_ended (get_or (map (λ (one : Vec ℕ Global). one.items) chunks) (k - 1) [])
+    ≡ true =
+    ap is_ended (item-at chunks (k - 1) chunk below
+    ∙ ap (λ (one : Vec ℕ Global). one.items) (sym is)) ∙ e in
+    subst (λ (i : ℕ). is_ended (get_or (map (λ (one : Vec ℕ Global). one.items) chunks) i [])
+    ≡ true) at found)
+    (cases_lt (j + 1) k)
+
+-- the body of one chunk more
+pub shown-more : (before parts : List (Bor (List ℕ))) (chunks : List (Vec ℕ Global))
+    (part : Bor (List ℕ)) (chunk : Vec ℕ Global) (k : ℕ) → k < length chunks
+    → chunk ≡ get_or chunks k chunk → part.now ≡ chunk.items
+    → map (λ one. one.now) parts
+    ≡ map (λ one. one.now) before ++ map (λ one. one.items) (take k chunks)
+    → map (λ one. one.now) (parts ++ part ∷ [])
+    ≡ map (λ one. one.now) before ++ map (λ one. one.items) (take (k + 1) chunks)
+shown-more before parts chunks part chunk k below is shows so_far =
+    let now : Bor (List ℕ) → List ℕ = λ one. one.now in
+    let items : Vec ℕ Global → List ℕ = λ one. one.items in
+    map-append now parts (part ∷ [])
+    ∙ ap (λ (ts : List (List ℕ)). ts ++ part.now ∷ []) so_far
+    ∙ append_assoc (map now before) (map items (take k chunks)) (part.now ∷ [])
+    ∙ ap (λ (t : List ℕ). map now before ++ (map items (take k chunks) ++ t ∷ []))
+    (shows ∙ ap items is)
+    ∙ ap (λ (ts : List (List ℕ)). map now before ++ ts)
+    (sym (map-append items (take k chunks) (get_or chunks k chunk ∷ [])))
+    ∙ ap (λ (cs : List (Vec ℕ Global)). map now before ++ map items cs)
+    (sym (take_more chunks k chunk below))
+
+-- the bodies of all chunks
+pub all-shown : (chunks : List (Vec ℕ Global)) (first : Vec ℕ Global)
+    (start : List (Bor (List ℕ))) (body : Bor (List ℕ)) (all : List (Bor (List ℕ))) (k : ℕ)
+    → 1 ≤ length chunks → first ≡ get_or chunks 0 first → start ≡ body ∷ []
+    → body.now ≡ strip_bom first.items
+    → length (take (length chunks - 1) (drop 1 chunks)) ≤ k
+    → map (λ one. one.now) all
+    ≡ map (λ one. one.now) start
+    ++ map (λ one. one.items) (take k (take (length chunks - 1) (drop 1 chunks)))
+    → map (λ one. one.now) all ≡ bodies_of (map (λ one. one.items) chunks)
+all-shown [] first start body all k some is begun shows most shown = absurd (omega (arith, some))
+all-shown (chunk ∷ more) first start body all k some is begun shows most shown =
+    let now : Bor (List ℕ) → List ℕ = λ one. one.now in
+    let items : Vec ℕ Global → List ℕ = λ one. one.items in
+    let others : List (Vec ℕ Global) =
+    take (length (chunk ∷ more) - 1) (drop 1 (chunk ∷ more)) in
+    shown
+    ∙ ap (λ (s : List (Bor (List ℕ))). map now s ++ map items (take k others)) begun
+    ∙ ap (λ (t : List ℕ). t ∷ map items (take k others))
+    (shows ∙ ap (λ (one : Vec ℕ Global). strip_bom one.items) is)
+    ∙ ap (λ (cs : List (Vec ℕ Global)). strip_bom chunk.items ∷ map items cs)
+    (take_all k others most ∙ take_rest (chunk ∷ more) 1)
