@@ -12,12 +12,14 @@ ghost use Rattle.std.specs.Prelude.{◌≡◌, ◌≤◌, IfOk, IfErr, length};
 ghost use Rattle.lb_syntax.specs.Correct.{IsOnlyProgram};
 ghost use Rattle.lb_syntax.specs.SourceView.{view_source};
 ghost use Rattle.lb_syntax.specs.Tokens.{Text};
+ghost use Rattle.lb_trace.specs.Chunks.{text_of};
 ghost use Rattle.lb_pool.specs.Plans.{numbers_in};
 ghost use Rattle.lb_pool.specs.Correct.{AreVerdicts};
 ghost use Rattle.lb_report.specs.Bench.{IsBenchReport, IsRefused, OnlyProgram, program_of};
 ghost use Rattle.lb_report.specs.Cases.{parts_of};
 ghost use Rattle.lb_report.specs.Correct.{IsBenchAnswer};
 ghost use Rattle.lb_report.specs.AcceptedPrograms.{IsAcceptedProgram};
+ghost use Rattle.lb_report.specs.Readings.{IsOnlyReading};
 ghost use Rattle.lb_report.specs.declared.options.Options.{Options as Asked};
 
 use crate::case::split_case;
@@ -29,7 +31,7 @@ use lb_flat::{Ordered, TraceSet, expand, order};
 use lb_pool::{NoGate, Plan, run_claims, run_spread};
 use lb_static::{Signature, elaborate};
 use lb_syntax::{Source, parse};
-use lb_trace::read_traces_by;
+use lb_trace::{TraceError, read_chunks, read_traces_by};
 use std::alloc::{AllocError, Global};
 use std::rt::Runtime;
 use std::thread::Threads;
@@ -114,22 +116,25 @@ fn verdicts_of<R: Threads + Sync>(
     run_plan(rt, alloc, ordered, set, &plan, options.workers)
 }
 
-/// The report of a program on the traces that a text spells, whatever source the program is of.
+/// The report of a program on the traces that were read of a text, whatever that text is and
+/// whatever source the program is of.
 fn report_on<R: Threads + Sync>(
     rt: &R,
     alloc: Global,
     program: &AcceptedProgram,
-    traces: &[u8],
+    read: Result<TraceSet, TraceError>,
     options: &Options,
 ) -> Result<Report, BenchError>
-    ensures report { IfOk result (λ report. (source : Text) → (asked : Asked) →
+    ensures report { IfOk result (λ report. (source traces : Text) → (asked : Asked) →
         OnlyProgram source asked (IsAcceptedProgram program.now) →
-        IsBenchReport source traces.now asked report) }
-    ensures refused { IfErr result (λ e. (source : Text) → (asked : Asked) →
+        IsOnlyReading program.now.signature traces read →
+        IsBenchReport source traces asked report) }
+    ensures refused { IfErr result (λ e. (source traces : Text) → (asked : Asked) →
         OnlyProgram source asked (IsAcceptedProgram program.now) →
-        IsRefused source traces.now asked e) }
+        IsOnlyReading program.now.signature traces read →
+        IsRefused source traces asked e) }
 {
-    let set = read_traces_by(rt, alloc, &program.signature, traces, options.workers)?;
+    let set = read?;
     let verdicts = verdicts_of(rt, alloc, &program.ordered, &set, options)?;
     Ok(Report::new(alloc, &set, verdicts.as_slice())?)
 }
@@ -146,7 +151,24 @@ fn bench_in<R: Threads + Sync>(
     ensures refused { IfErr result (IsRefused source.now traces.now options.now) }
 {
     let program = accept(alloc, source, options)?;
-    report_on(rt, alloc, &program, traces, options)
+    let read = read_traces_by(rt, alloc, &program.signature, traces, options.workers);
+    report_on(rt, alloc, &program, read, options)
+}
+
+/// The report of a source on the traces that the text of chunks spells.
+fn bench_chunks_in<R: Threads + Sync>(
+    rt: &R,
+    alloc: Global,
+    source: &[u8],
+    chunks: Vec<Vec<u8>>,
+    options: &Options,
+) -> Result<Report, BenchError>
+    ensures report { IfOk result (IsBenchReport source.now (text_of chunks.items) options.now) }
+    ensures refused { IfErr result (IsRefused source.now (text_of chunks.items) options.now) }
+{
+    let program = accept(alloc, source, options)?;
+    let read = read_chunks(rt, alloc, &program.signature, chunks, options.workers);
+    report_on(rt, alloc, &program, read, options)
 }
 
 /// Runs a node of a source over the traces of a text, and reports the verdict of each.
@@ -164,6 +186,18 @@ pub fn bench<R: Runtime + AllocGlobal + Threads + Sync>(
     ensures { IsBenchAnswer source.now traces.now options.now result }
 {
     bench_in(rt, rt.alloc(), source, traces, options)
+}
+
+/// As [`bench`] of a trace text that comes in chunks, one after the other.
+pub fn bench_chunks<R: Runtime + AllocGlobal + Threads + Sync>(
+    rt: &R,
+    source: &[u8],
+    chunks: Vec<Vec<u8>>,
+    options: &Options,
+) -> Result<Report, BenchError>
+    ensures { IsBenchAnswer source.now (text_of chunks.items) options.now result }
+{
+    bench_chunks_in(rt, rt.alloc(), source, chunks, options)
 }
 
 /// Runs a case text: its first part is the source, its second part the traces.

@@ -6,15 +6,17 @@ mod case;
 mod error;
 mod feed;
 mod options;
+mod ranges;
 mod refusal;
 mod sink;
 mod text;
 
-pub use answer::{bench, run_case};
+pub use answer::{bench, bench_chunks, run_case};
 pub use case::split_case;
 pub use error::BenchError;
 pub use feed::{Feed, FeedFailed, LoadError, Reader, load};
 pub use options::Options;
+pub use ranges::load_file;
 pub use refusal::word;
 pub use sink::{Sent, Sink, SinkFailed, Writer, send};
 pub use text::{Report, report_text, status};

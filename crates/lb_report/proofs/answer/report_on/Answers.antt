@@ -5,6 +5,7 @@ use Rattle.lb_flat.specs.Traces.{Traces, trace_names}
 use Rattle.lb_trace.specs.Errors.{Refuses}
 use Rattle.lb_trace.specs.Spelling.{Spells}
 use Rattle.lb_report.specs.Bench.{program_of}
+use Rattle.lb_report.specs.Readings.{IsOnlyReading}
 use Rattle.lb_report.specs.Reports.{IsReport}
 use Rattle.lb_report.proofs.VerdictLists.{are_verdicts}
 use Rattle.lb_report.proofs.answer.report_on.Goals as goal
@@ -13,12 +14,11 @@ pub new-requires : goal.new-requires
 new-requires g c = ap length c.as_slice.ensures.value ∙ c.in_ok-verdicts.ensures.count
 
 pub returns-clause-report : goal.returns-clause-report
-returns-clause-report g c = λ source options found.
-    let read = c.in_ok-set.ensures in
+returns-clause-report g c = λ source text options found reading.
+    let read = subst (IsOnlyReading c.args.program.now.signature text) c.in_ok-set.was reading in
     let P = program_of found.tree options in
     let elements : c.args.program.now.signature ≡ signature P = sym found.holds.inputs in
     let same : c.in_ok-set.set.signature ≡ signature P = read.signature ∙ elements in
-    let text = c.args.traces.now in
     let traces = c.in_ok-set.set.traces in
     record {
       tree = found.tree;
@@ -49,12 +49,13 @@ pub returns-in_err-set-clause-refused : goal.returns-in_err-set-clause-refused
 returns-in_err-set-clause-refused g c =
     let p = err_from_is_err_and c.from_residual.result c.from_residual.ensures.1 in
     let e = c.in_err-set.field-0.0 in
-    let refused = c.in_err-set.ensures.refused in
-    rw (p.1, p.2) (λ source options found. record {
+    rw (p.1, p.2) (λ source text options found reading.
+    let read = subst (IsOnlyReading c.args.program.now.signature text) c.in_err-set.was reading in
+    record {
       tree = found.tree;
       spelled = found.spelled;
       holds = (
         found.holds.accepted,
-        subst (λ es. Refuses es c.args.traces.now e) (sym found.holds.inputs) refused,
+        subst (λ es. Refuses es text e) (sym found.holds.inputs) read.refused,
       );
     })
