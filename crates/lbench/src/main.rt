@@ -25,6 +25,7 @@ const STACK: usize = 2 << 20;
 fn run<R, I, W, E>(rt: &R, reader: &mut I, writer: &mut W, errors: &mut E) -> u8
 where
     R: Runtime + AllocGlobal + Threads + Sync,
+    R::File: Send,
     I: Read,
     W: Write,
     E: Write,
