@@ -21,7 +21,7 @@ pub struct ElementId(pub u32);
 pub struct ClockId(pub u32);
 
 /// An input of the node under test, by its place in the signature.
-#[derive(Clone, Copy, PartialEq, Eq)]
+#[derive(Clone, Copy)]
 pub struct InputId(pub u32);
 
 /// A clock: the instants of another one, or of the base clock where there is none, at which an
@@ -34,7 +34,7 @@ pub struct Clock {
 }
 
 /// How an element is had from others. What a memory holds is part of its operation.
-#[derive(Clone, Copy, PartialEq, Eq)]
+#[derive(Clone, Copy)]
 pub enum Operation {
     /// A scalar of the trace.
     Input(InputId),
