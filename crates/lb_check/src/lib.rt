@@ -17,6 +17,7 @@ mod operand_types;
 mod own_clock;
 mod placed_clock;
 mod placed_types;
+mod shared;
 mod signature;
 mod term_clock;
 mod type_env;

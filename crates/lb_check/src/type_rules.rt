@@ -1,16 +1,19 @@
 //! The rules of types of a program (E9).
 
 ghost use Rattle.std.specs.Prelude.{◌≡◌, ◌∷◌, [], find, is_some, map, not, option_map};
-ghost use Rattle.std.specs.Prelude.{IfOk, IfSome};
+ghost use Rattle.std.specs.Prelude.{IfOk, IfSome, slice_get};
+ghost use Rattle.lb_syntax.specs.Lists.{holds};
 ghost use Rattle.std.specs.List.{list_all};
 ghost use Rattle.lb_static.specs.Instances.{Program, instances};
 ghost use Rattle.lb_check.specs.BrokenRules.{IsBroken};
 ghost use Rattle.lb_check.specs.JudgedPrograms.{IsJudged};
 ghost use Rattle.lb_check.specs.TypeRules.{is_typed};
 ghost use Rattle.lb_static.specs.StoredTypes.{view_types};
+ghost use Rattle.lb_check.specs.SharedTypes.{AreJudgedParts, AreSettled};
 ghost use Rattle.lb_check.specs.StoredTypes.{context_in};
 ghost use Rattle.lb_check.specs.TermTypes as mirror;
 
+use crate::shared::{SharedPart, settled_statements, shared_parts};
 use crate::type_env::TypeEnv;
 use crate::types::{results, type_of};
 use lb_static::{
@@ -91,7 +94,7 @@ fn is_one_truth(alloc: Global, env: &TypeEnv, term: &Term) -> Result<bool, Alloc
 
 /// Whether a statement keeps the rules of types: the left variables have the types of the results,
 /// and an assertion is a truth.
-fn is_resolved_statement_typed(
+pub fn is_resolved_statement_typed(
     alloc: Global,
     env: &TypeEnv,
     statement: &ResolvedStatement,
@@ -136,16 +139,28 @@ fn are_variables_typed(
     Ok(true)
 }
 
-/// Whether each statement keeps the rules of types.
+/// Whether a statement is settled.
+fn is_settled(settled: &[bool], k: usize) -> bool
+    ensures { result ≡ holds (λ b. b) (slice_get settled.now k) }
+{
+    matches!(settled.get(k), Some(true))
+}
+
+/// Whether each statement keeps the rules of types: those that are settled are not looked at.
 fn are_statements_typed(
     alloc: Global,
     env: &TypeEnv,
     body: &[ResolvedStatement],
+    settled: &[bool],
 ) -> Result<bool, AllocError>
+    requires { AreSettled (context_in env.now) settled.now body.now }
     ensures { IfOk result (λ kept.
         kept ≡ list_all (mirror.is_resolved_statement_typed (context_in env.now)) body.now) }
 {
-    for statement in body {
+    for (k, statement) in body.iter().enumerate() {
+        if is_settled(settled, k) {
+            continue;
+        }
         if !is_resolved_statement_typed(alloc, env, statement)? {
             return Ok(false);
         }
@@ -158,8 +173,10 @@ fn is_specialization_typed(
     alloc: Global,
     reached: &Reached,
     table: &Table,
+    parts: &[SharedPart],
     specialization: &Specialization,
 ) -> Result<bool, AllocError>
+    requires { AreJudgedParts reached.now table.now parts.now }
     ensures { IfOk result (λ kept.
         kept ≡ mirror.is_specialization_typed reached.now table.now specialization.now) }
 {
@@ -175,7 +192,8 @@ fn is_specialization_typed(
     if !are_variables_typed(alloc, &env, &node.variables)? {
         return Ok(false);
     }
-    are_statements_typed(alloc, &env, &node.body)
+    let settled = settled_statements(parts, table, specialization);
+    are_statements_typed(alloc, &env, &node.body, settled)
 }
 
 /// The node of the first specialization that breaks the rules of types.
@@ -188,8 +206,9 @@ fn first_ill_typed(
         (find (λ s. not (mirror.is_specialization_typed reached.now table.now s))
         table.now.specializations.items)) }
 {
+    let parts = shared_parts(alloc, reached, table)?;
     for specialization in &table.specializations {
-        if !is_specialization_typed(alloc, reached, table, specialization)? {
+        if !is_specialization_typed(alloc, reached, table, &parts, specialization)? {
             return Ok(Some(specialization.node));
         }
     }

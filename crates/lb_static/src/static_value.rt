@@ -42,6 +42,15 @@ impl StaticInt {
         StaticInt { value: 0 }
     }
 
+    /// A number that is an `int`.
+    pub fn from_int(number: i32) -> StaticInt
+        ensures { result ≡ number }
+    {
+        StaticInt {
+            value: i64::from(number),
+        }
+    }
+
     /// The number.
     pub fn get(self) -> i64
         ensures value { result ≡ self }

@@ -1,0 +1,248 @@
+//! What the specializations of a node share. What keeps the rules of types by that alone is judged
+//! once for the node.
+//!
+//! ```text
+//! static values of f<<3>>:     3    9    4
+//! static values of f<<5>>:     5    9    4
+//! what they share:            -1    9    4
+//! ```
+
+ghost use Rattle.std.specs.Prelude.{◌≡◌, ◌&&◌, map, IfOk, slice_get};
+ghost use Rattle.std.specs.List.{list_all, zip};
+ghost use Rattle.lb_static.specs.Arithmetic.{is_int};
+ghost use Rattle.lb_static.specs.declared.reach.Reached.{Reached as ReachedNodes};
+ghost use Rattle.lb_static.specs.declared.resolved.ResolvedNode.{ResolvedNode as Node};
+ghost use Rattle.lb_check.specs.SharedTypes as mirror;
+ghost use Rattle.lb_check.specs.StoredTypes.{context_in};
+ghost use Rattle.lb_check.specs.TermTypes.{context_of, is_resolved_statement_typed};
+
+use crate::type_env::TypeEnv;
+use crate::type_rules::is_resolved_statement_typed;
+use lb_static::{NodeId, Reached, Specialization, SpecializationId, StaticInt, Table};
+use std::alloc::{AllocError, Global};
+
+/// What the specializations of a node share.
+#[derive(Drop)]
+pub struct SharedPart {
+    /// As a specialization of the node: -1, which is no size and no index, stands for static values
+    /// that differ, and a place past all specializations for callees that do.
+    pub part: Specialization,
+    /// For each statement of the node, in text order, whether it keeps the rules of types by what
+    /// is shared.
+    pub settled: Vec<bool>,
+}
+
+/// What two static values share.
+fn shared_value(one: StaticInt, other: StaticInt) -> StaticInt {
+    if one.get() == other.get() {
+        one
+    } else {
+        StaticInt::from_int(-1)
+    }
+}
+
+/// What two callees share.
+fn shared_callee(one: SpecializationId, other: SpecializationId) -> SpecializationId {
+    if one.0 == other.0 {
+        one
+    } else {
+        SpecializationId(u32::MAX)
+    }
+}
+
+/// Leaves of what is shared what this specialization shares too.
+fn narrow(shared: &mut Specialization, specialization: &Specialization) {
+    for (value, other) in shared.statics.iter_mut().zip(specialization.statics.iter()) {
+        *value = shared_value(*value, *other);
+    }
+    for (callee, other) in shared.callees.iter_mut().zip(specialization.callees.iter()) {
+        *callee = shared_callee(*callee, *other);
+    }
+}
+
+/// A specialization again, without the values of its static parameters.
+fn copy(alloc: Global, specialization: &Specialization) -> Result<Specialization, AllocError> {
+    Ok(Specialization {
+        node: specialization.node,
+        values: Vec::new(alloc),
+        statics: specialization.statics.clone()?,
+        callees: specialization.callees.clone()?,
+    })
+}
+
+/// A specialization of a node of which nothing is known yet.
+fn blank(alloc: Global, node: NodeId) -> Specialization {
+    Specialization {
+        node,
+        values: Vec::new(alloc),
+        statics: Vec::new(alloc),
+        callees: Vec::new(alloc),
+    }
+}
+
+/// What the specializations of each reached node share. Nothing is promised of it: a specialization
+/// for which it does not stand is judged by itself.
+fn shared_specializations(
+    alloc: Global,
+    reached: &Reached,
+    table: &Table,
+) -> Result<Vec<Specialization>, AllocError> {
+    let mut all = Vec::new(alloc);
+    for k in 0..reached.nodes.len() {
+        all.push(blank(alloc, NodeId(k)))?;
+    }
+    for specialization in &table.specializations {
+        if let Some(shared) = all.get_mut(specialization.node.0) {
+            if shared.statics.is_empty() && shared.callees.is_empty() {
+                *shared = copy(alloc, specialization)?;
+            } else {
+                narrow(shared, specialization);
+            }
+        }
+    }
+    Ok(all)
+}
+
+/// Which statements of a node keep the rules of types.
+fn typed_statements(alloc: Global, env: &TypeEnv) -> Result<Vec<bool>, AllocError>
+    ensures { IfOk result (λ settled. settled.items
+        ≡ map (is_resolved_statement_typed (context_in env.now)) env.now.node.now.body.items) }
+{
+    let mut settled = Vec::new(alloc);
+    for statement in &env.node.body {
+        settled.push(is_resolved_statement_typed(alloc, env, statement)?)?;
+    }
+    Ok(settled)
+}
+
+/// What is shared, and what keeps the rules of types by it.
+fn judged_part(
+    alloc: Global,
+    reached: &Reached,
+    table: &Table,
+    part: Specialization,
+) -> Result<SharedPart, AllocError>
+    ensures { IfOk result (mirror.IsJudgedPart reached.now table.now) }
+{
+    let settled = match reached.nodes.get(part.node.0) {
+        Some(node) => typed_statements(
+            alloc,
+            &TypeEnv {
+                reached,
+                table,
+                node,
+                specialization: &part,
+            },
+        )?,
+        None => Vec::new(alloc),
+    };
+    Ok(SharedPart { part, settled })
+}
+
+/// What the specializations of each reached node share, and what keeps the rules of types by it.
+pub fn shared_parts(
+    alloc: Global,
+    reached: &Reached,
+    table: &Table,
+) -> Result<Vec<SharedPart>, AllocError>
+    ensures { IfOk result (λ parts. mirror.AreJudgedParts reached.now table.now parts.items) }
+{
+    let mut parts = Vec::new(alloc);
+    for part in shared_specializations(alloc, reached, table)? {
+        parts.push(judged_part(alloc, reached, table, part)?)?;
+    }
+    Ok(parts)
+}
+
+/// Whether a number is in the range of `int`.
+fn is_int(value: i64) -> bool
+    ensures { result ≡ is_int value }
+{
+    i64::from(i32::MIN) <= value && value <= i64::from(i32::MAX)
+}
+
+/// Whether what is shared stands for this static value: it is the value, or both are an `int` and
+/// what is shared has a sign.
+fn is_value_shared(shared: StaticInt, value: StaticInt) -> bool
+    ensures { result ≡ mirror.is_value_shared shared value }
+{
+    shared.get() == value.get()
+        || (shared.natural().is_none() && (is_int(shared.get()) && is_int(value.get())))
+}
+
+/// Whether what is shared stands for each of these static values, as far as both go.
+fn all_values_shared(shared: &[StaticInt], values: &[StaticInt]) -> bool
+    ensures { result ≡ list_all (λ p. mirror.is_value_shared p.0 p.1) (zip shared.now values.now) }
+{
+    shared
+        .iter()
+        .zip(values.iter())
+        .all(|(one, value)| is_value_shared(*one, *value))
+}
+
+/// Whether what is shared stands for each of these static values.
+fn are_values_shared(shared: &[StaticInt], values: &[StaticInt]) -> bool
+    ensures { result ≡ mirror.all_paired mirror.is_value_shared shared.now values.now }
+{
+    all_values_shared(shared, values) && shared.len() == values.len()
+}
+
+/// Whether what is shared stands for this callee: it is the callee, or the place of none.
+fn is_callee_shared(table: &Table, shared: SpecializationId, callee: SpecializationId) -> bool
+    ensures { result ≡ mirror.is_callee_shared table.now shared callee }
+{
+    shared.0 == callee.0 || table.specializations.len() <= shared.0 as usize
+}
+
+/// Whether what is shared stands for each of these callees, as far as both go.
+fn all_callees_shared(
+    table: &Table,
+    shared: &[SpecializationId],
+    callees: &[SpecializationId],
+) -> bool
+    ensures { result ≡ list_all (λ p. mirror.is_callee_shared table.now p.0 p.1)
+        (zip shared.now callees.now) }
+{
+    shared
+        .iter()
+        .zip(callees.iter())
+        .all(|(one, callee)| is_callee_shared(table, *one, *callee))
+}
+
+/// Whether what is shared stands for each of these callees.
+fn are_callees_shared(
+    table: &Table,
+    shared: &[SpecializationId],
+    callees: &[SpecializationId],
+) -> bool
+    ensures { result
+        ≡ mirror.all_paired (mirror.is_callee_shared table.now) shared.now callees.now }
+{
+    all_callees_shared(table, shared, callees) && shared.len() == callees.len()
+}
+
+/// Whether what is shared stands for this specialization.
+fn is_part_shared(table: &Table, shared: &Specialization, specialization: &Specialization) -> bool
+    ensures { result ≡ mirror.is_part_shared table.now shared.now specialization.now }
+{
+    shared.node.0 == specialization.node.0
+        && (are_values_shared(&shared.statics, &specialization.statics)
+            && are_callees_shared(table, &shared.callees, &specialization.callees))
+}
+
+/// Which statements of a specialization are known to keep the rules of types by what is shared, in
+/// text order.
+pub fn settled_statements<'a>(
+    parts: &'a [SharedPart],
+    table: &Table,
+    specialization: &Specialization,
+) -> &'a [bool]
+    ensures { (r : ReachedNodes) (n : Node) → mirror.AreJudgedParts r table.now parts.now →
+        slice_get r.nodes.items specialization.now.node.0 ≡ Some n →
+        mirror.AreSettled (context_of r table.now n specialization.now) result.now n.body.items }
+{
+    match parts.get(specialization.node.0) {
+        Some(shared) if is_part_shared(table, &shared.part, specialization) => &shared.settled,
+        _ => &[],
+    }
+}
