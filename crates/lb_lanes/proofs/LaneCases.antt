@@ -1,14 +1,8 @@
 -- What a lane holds after an operator, by cases.
 use Rattle.std.proofs.Common.{◌≡◌, Bool, true, false, not, ◌&&◌, ℤ, pos, cond, refl, sym, ap, ◌∙◌}
-use Rattle.std.specs.Prelude.{Option, Some, None}
+use Rattle.std.specs.Prelude.{Some, None}
 use Rattle.lb_lanes.specs.Kernels.{kept, faulty}
 use Rattle.lb_lanes.specs.Operators.{is_int, lawful, can_divide, divided_by}
-
--- a lane with a fault holds 0
-pub kept_at_fault : (live : Bool) (r : Option ℤ) → faulty live r ≡ true → kept live r ≡ pos 0
-kept_at_fault true (Some v) e = cc
-kept_at_fault true None e = refl
-kept_at_fault false r e = refl
 
 lawful_where : (v : ℤ) → is_int v ≡ true → lawful v ≡ Some v
 lawful_where v e = ap (λ b. cond b (Some v) None) e
@@ -33,46 +27,18 @@ zero_is_int : is_int (pos 0) ≡ true
 unfolding is_int
 zero_is_int = refl
 
--- an operator on masked operands: 0 and 0 where the lane is not live
-pub masked_value : (f : ℤ → ℤ → ℤ) (live : Bool) (a b r : ℤ) → f (pos 0) (pos 0) ≡ pos 0
-    → (is_int (f (cond live a (pos 0)) (cond live b (pos 0))) ≡ true
-    → r ≡ f (cond live a (pos 0)) (cond live b (pos 0)))
-    → faulty live (lawful (f a b)) ≡ false → r ≡ kept live (lawful (f a b))
-masked_value f false a b r z value e =
-    value (ap is_int z ∙ zero_is_int) ∙ z
-masked_value f true a b r z value e = by (is_int (f a b)) refl
-  where
-    by : (t : Bool) → is_int (f a b) ≡ t → r ≡ kept true (lawful (f a b))
-    by true i = value i ∙ sym (kept_lawful true (f a b) i)
-    by false i =
-        let bad : faulty true (lawful (f a b)) ≡ true =
-        ap (λ t. faulty true (cond t (Some (f a b)) None)) i in
-        cc
+-- a lane that is kept where it is live and its result is in the range of `int`
+pub masked_kept : (live t : Bool) (v w : ℤ) → is_int v ≡ t → (is_int v ≡ true → w ≡ v)
+    → cond (live && not (not t)) w (pos 0) ≡ kept live (lawful v)
+masked_kept true true v w e value = value e ∙ sym (kept_lawful true v e)
+masked_kept true false v w e value = sym (ap (λ t. kept true (cond t (Some v) None)) e)
+masked_kept false t v w e value = refl
 
-pub masked_fault : (f : ℤ → ℤ → ℤ) (live : Bool) (a b : ℤ) → f (pos 0) (pos 0) ≡ pos 0
-    → not (is_int (f (cond live a (pos 0)) (cond live b (pos 0)))) ≡ faulty live (lawful (f a b))
-masked_fault f false a b z = ap (λ v. not (is_int v)) z ∙ ap not zero_is_int
-masked_fault f true a b z = by (is_int (f a b)) refl
-  where
-    by : (t : Bool) → is_int (f a b) ≡ t
-        → not (is_int (f a b)) ≡ faulty true (lawful (f a b))
-    by true i = ap not i ∙ sym (faulty_lawful true (f a b) i)
-    by false i = ap not i ∙ sym (ap (λ t. faulty true (cond t (Some (f a b)) None)) i)
-
--- a lane that is made 0 where it has a fault
-pub cleared : (t live : Bool) (r : Option ℤ) (z v o : ℤ) → t ≡ faulty live r → o ≡ cond t z v
-    → z ≡ pos 0 → (faulty live r ≡ false → v ≡ kept live r) → o ≡ kept live r
-cleared true live r z v o e w zero value = w ∙ zero ∙ sym (kept_at_fault live r (sym e))
-cleared false live r z v o e w zero value = w ∙ value (sym e)
-
--- an operator on a masked first operand, whose result is an integer of 32 bits
-pub one_masked : (f : ℤ → ℤ → ℤ) (live : Bool) (a b r : ℤ) → f (pos 0) b ≡ pos 0
-    → is_int r ≡ true → r ≡ f (cond live a (pos 0)) b
-    → (r ≡ kept live (lawful (f a b))) × (faulty live (lawful (f a b)) ≡ false)
-one_masked f true a b r z i e =
-    let within : is_int (f a b) ≡ true = ap is_int (sym e) ∙ i in
-    (e ∙ sym (kept_lawful true (f a b) within), faulty_lawful true (f a b) within)
-one_masked f false a b r z i e = (e ∙ z, refl)
+pub masked_faulty : (live t : Bool) (v : ℤ) → is_int v ≡ t
+    → (live && not t) ≡ faulty live (lawful v)
+masked_faulty true true v e = sym (faulty_lawful true v e)
+masked_faulty true false v e = sym (ap (λ t. faulty true (cond t (Some v) None)) e)
+masked_faulty false t v e = refl
 
 -- a division, where the two can be divided
 pub kept_divided : (live can : Bool) (v : ℤ)
@@ -86,6 +52,12 @@ pub faulty_divided : (live can : Bool) (v : ℤ)
 faulty_divided true true v = refl
 faulty_divided true false v = refl
 faulty_divided false can v = refl
+
+pub none_faulty : (live can : Bool) (v : ℤ) → (live && can) ≡ true
+    → faulty live (cond can (Some v) None) ≡ false
+none_faulty true true v e = refl
+none_faulty true false v e = cc
+none_faulty false can v e = refl
 
 pub and_right : (a b : Bool) → (a && b) ≡ true → b ≡ true
 and_right true b e = e

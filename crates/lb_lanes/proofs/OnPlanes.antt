@@ -3,6 +3,7 @@ use Rattle.std.proofs.Common.{◌≡◌, ℕ, zero, suc, ◌+◌, ◌-◌, ◌*�
 use Rattle.std.proofs.Common.{Bool, true, false, not, ◌&&◌, ◌||◌, ◌==◌, List, get_or, cond, refl}
 use Rattle.std.proofs.Common.{sym, ap, ap₂, ◌∙◌, subst, arith, nat_eq, zero-add, w64}
 use Rattle.std.proofs.Common.{le_of_suc-le-suc, not-suc-le-zero, mul_assoc, map, ◌⊎◌, inl, inr}
+use Rattle.std.proofs.Common.{lit<}
 use Rattle.std.specs.Int.{bit_at, trailing_zeros}
 use Rattle.std.specs.List.{range_with_len}
 use Rattle.std.proofs.lemmas.Nat.Bits.{and_pow, bit_at_and, bit_at_or, bit_at_xor, bit_at_not}
@@ -62,6 +63,10 @@ on-flip a i ha hi =
 pub on-zero : (i : ℕ) → on 0 i ≡ false
 unfolding on
 on-zero i = ap (λ n. n == 1) (bit_at-zero i)
+
+-- the word of all ones
+pub on-ones : (a i : ℕ) → a ≡ 2 ^ 64 - 1 → i < 64 → on a i ≡ true
+on-ones a i e h = ap (λ n. on n i) e ∙ on-flip 0 i (lit< tt) h ∙ ap not (on-zero i)
 
 pub on-above : (x k i : ℕ) → x < 2 ^ k → k ≤ i → on x i ≡ false
 unfolding on

@@ -90,6 +90,6 @@ pub product_look : (n x y : ℕ) (p q : ℤ) → p ≡ to_z w32 x → q ≡ to_z
     ≡ is_int (to_z w32 x *ℤ to_z w32 y)
 product_look n x y p q e f h is = look_is n h ∙ ap is_int (exact_is n x y p q e f is)
 
--- a look below 2 ^ 32
-pub below_look : (n : ℕ) → n < 4294967296 → (n / 4294967296 == 0) ≡ true
-below_look n h = grind arith
+-- an upper half that is 0
+pub is_zero : (n : ℕ) → n ≡ 0 → (n == 0) ≡ true
+is_zero n h = grind arith

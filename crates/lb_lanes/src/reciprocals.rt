@@ -10,7 +10,7 @@
 //!
 //! That the quotient is right for each number and each divisor is proved, not tried.
 
-ghost use Rattle.std.specs.Prelude.{◌≡◌, ◌<◌, ◌≤◌, ◌/◌, IsTrue, int_div, unsigned_abs};
+ghost use Rattle.std.specs.Prelude.{◌≡◌, ◌<◌, ◌≤◌, ◌/◌, ◌^◌, IsTrue, int_div, unsigned_abs};
 ghost use Rattle.std.specs.Int.{cast_signed, w32};
 ghost use Rattle.lb_lanes.specs.Operators.{can_divide};
 ghost use Rattle.lb_lanes.specs.Planes.{differ};
@@ -49,6 +49,30 @@ fn differs_in_sign(x: u32, y: u32) -> bool
     }
 }
 
+// The size of a quotient with the sign that it has for these two.
+fn signed(x: u32, divisor: u32, size: u32) -> u32
+    requires size { size
+        ≡ unsigned_abs (cast_signed w32 x) / unsigned_abs (cast_signed w32 divisor) }
+    requires divisible { IsTrue (can_divide (cast_signed w32 x) (cast_signed w32 divisor)) }
+    ensures { cast_signed w32 result ≡ int_div (cast_signed w32 x) (cast_signed w32 divisor) }
+{
+    if differs_in_sign(x, divisor) {
+        0u32.wrapping_sub(size)
+    } else {
+        size
+    }
+}
+
+// The integer of a word, divided by one whose size is a power of 2.
+pub(crate) fn word_shifted(x: u32, divisor: u32, shift: u32) -> u32
+    requires short { shift < 32 }
+    requires power { unsigned_abs (cast_signed w32 divisor) ≡ 2 ^ shift }
+    requires divisible { IsTrue (can_divide (cast_signed w32 x) (cast_signed w32 divisor)) }
+    ensures { cast_signed w32 result ≡ int_div (cast_signed w32 x) (cast_signed w32 divisor) }
+{
+    signed(x, divisor, x.cast_signed().unsigned_abs() >> shift)
+}
+
 // The integer of the first word, divided by that of the second.
 pub(crate) fn word_divided(x: u32, divisor: u32, less: u32, shift: u32) -> u32
     requires reciprocal { IsReciprocal (unsigned_abs (cast_signed w32 divisor)) less shift }
@@ -61,9 +85,5 @@ pub(crate) fn word_divided(x: u32, divisor: u32, less: u32, shift: u32) -> u32
         less,
         shift,
     );
-    if differs_in_sign(x, divisor) {
-        0u32.wrapping_sub(size)
-    } else {
-        size
-    }
+    signed(x, divisor, size)
 }

@@ -1,8 +1,9 @@
 //! Quotients and remainders of 64 integers of 32 bits, under a plane of active lanes.
 //!
 //! The divisor is mostly the same in all active lanes, as a constant is. Then each lane takes a
-//! multiplication and a shift. Else each lane is divided by itself, with 1 for a divisor where the
-//! lane is not active or cannot be divided, and made 0 there:
+//! multiplication and a shift, or a shift alone where the divisor is a power of 2. Else each lane
+//! is divided by itself, with 1 for a divisor where the lane is not active or cannot be divided, and
+//! made 0 there:
 //!
 //! ```text
 //! active      1    1    0    1
@@ -12,15 +13,16 @@
 //! faults      0    1    0    0
 //! ```
 
-ghost use Rattle.std.specs.Prelude.{◌≡◌, ℕ, ◌<◌, true, IsTrue, pos, ℤ, int_div, MatchOption};
+ghost use Rattle.std.specs.Prelude.{◌≡◌, ℕ, ◌<◌, ◌^◌, true, IsTrue, pos, ℤ, int_div, unsigned_abs};
+ghost use Rattle.std.specs.Prelude.{MatchOption};
 ghost use Rattle.std.specs.Int.{cast_signed, w32};
 ghost use Rattle.lb_lanes.specs.Kernels.{IsKernelBelow, bits_lane};
 ghost use Rattle.lb_lanes.specs.Operators.{can_divide, divided_by};
 ghost use Rattle.lb_lanes.specs.Planes.{on};
 
 use crate::operators::{Division, Quotient, Remainder};
-use crate::reciprocals::{reciprocal, word_divided};
-use crate::word_kernels::blend;
+use crate::reciprocals::{reciprocal, word_divided, word_shifted};
+use crate::word_kernels::{blend, keep};
 use crate::word_tests::{Divisible, Equal, tested};
 
 // Puts the results of lanes that can all be divided.
@@ -48,6 +50,10 @@ fn run_each_division<K: Division>(
 {
     let divisible = tested::<Divisible>(a, b);
     let divides = active & divisible;
+    if divides == u64::MAX {
+        divide_all::<K>(a, b, out);
+        return 0;
+    }
     let mut divisors = [1u32; 64];
     blend(divides, b, &[1; 64], &mut divisors);
     let mut results = [0u32; 64];
@@ -64,6 +70,10 @@ fn common_divisor(b: &[u32; 64], active: u64) -> Option<u32>
 {
     let divisor = b[(active.trailing_zeros() % 64) as usize];
     if divisor == 0 || divisor == 4294967295 {
+        return None;
+    }
+    // Divisors that are not the same mostly differ in the first and the last active lane.
+    if b[63 - (active.leading_zeros() % 64) as usize] != divisor {
         return None;
     }
     let others = active & !tested::<Equal>(b, &[divisor; 64]);
@@ -94,13 +104,33 @@ impl FromQuotient for Remainder {
     }
 }
 
+// Puts the results of lanes that are all divided by one divisor, whose size is a power of 2.
+fn divide_by_power<K: FromQuotient>(a: &[u32; 64], divisor: u32, shift: u32, out: &mut [u32; 64])
+    requires short { shift < 32 }
+    requires power { unsigned_abs (cast_signed w32 divisor) ≡ 2 ^ shift }
+    requires divisible { (v : ℤ) → IsTrue (can_divide v (cast_signed w32 divisor)) }
+    ensures { (i : ℕ) → i < 64
+        → bits_lane out.new i ≡ K.divided (bits_lane a.now i) (cast_signed w32 divisor) }
+{
+    for i in 0..64usize {
+        let quotient = word_shifted(a[i], divisor, shift);
+        out[i] = K::from_quotient(a[i], divisor, quotient);
+    }
+}
+
 // Puts the results of lanes that are all divided by one divisor.
 fn divide_by_one<K: FromQuotient>(a: &[u32; 64], divisor: u32, out: &mut [u32; 64])
     requires { (v : ℤ) → IsTrue (can_divide v (cast_signed w32 divisor)) }
     ensures { (i : ℕ) → i < 64
         → bits_lane out.new i ≡ K.divided (bits_lane a.now i) (cast_signed w32 divisor) }
 {
-    let (less, shift) = reciprocal(divisor.cast_signed().unsigned_abs());
+    let size = divisor.cast_signed().unsigned_abs();
+    let zeros = size.trailing_zeros() % 32;
+    if 1u32 << zeros == size {
+        divide_by_power::<K>(a, divisor, zeros, out);
+        return;
+    }
+    let (less, shift) = reciprocal(size);
     for i in 0..64usize {
         let quotient = word_divided(a[i], divisor, less, shift);
         out[i] = K::from_quotient(a[i], divisor, quotient);
@@ -119,9 +149,8 @@ pub(crate) fn run_division<K: FromQuotient>(
 {
     match common_divisor(b, active) {
         Some(divisor) => {
-            let mut results = [0u32; 64];
-            divide_by_one::<K>(a, divisor, &mut results);
-            blend(active, &results, &[0; 64], out);
+            divide_by_one::<K>(a, divisor, out);
+            keep(active, out);
             0
         }
         None => run_each_division::<K>(a, b, active, out),

@@ -1,19 +1,20 @@
 //! Choices, sums and differences of 64 integers of 32 bits, under a plane of lanes.
 //!
 //! A sum of 32 bits wraps. It is out of the range of `int` just where its sign is neither
-//! operand's, so that one bit of each lane tells. Lanes that are not active count as 0 and 0:
+//! operand's, so that one bit of each lane tells:
 //!
 //! ```text
-//! operands   7fffffff + 00000001    00000003 + 00000004    (not active)
-//! sum        80000000               00000007               00000000
-//! top bits   0 + 0 = 1: a fault     0 + 0 = 0              0 + 0 = 0
+//! operands   7fffffff + 00000001    00000003 + 00000004
+//! sum        80000000               00000007
+//! top bits   0 + 0 = 1: beyond      0 + 0 = 0
 //! ```
 //!
-//! The lanes with a fault are known in the same pass, and are made 0 afterwards, if there are any.
+//! All lanes are computed alike. Those that are not active, or are out of the range, are made 0
+//! afterwards, if there are any.
 
-ghost use Rattle.std.specs.Prelude.{◌≡◌, ℕ, ◌<◌, false, not, IsTrue, ℤ, pos, ◌+ℤ◌, ◌-ℤ◌};
-ghost use Rattle.std.specs.Prelude.{slice_index};
-ghost use Rattle.lb_lanes.specs.Kernels.{IsBlendBelow, IsKernelBelow, bits_lane, faulty, kept};
+ghost use Rattle.std.specs.Prelude.{◌≡◌, ℕ, ◌<◌, not, IsTrue, ℤ, pos, ◌+ℤ◌, ◌-ℤ◌};
+ghost use Rattle.std.specs.Prelude.{slice_index, if◌then◌else◌};
+ghost use Rattle.lb_lanes.specs.Kernels.{IsBlendBelow, IsKernelBelow, bits_lane};
 ghost use Rattle.lb_lanes.specs.Operators.{is_int, lawful};
 ghost use Rattle.lb_lanes.specs.Planes.{IsPlaneOf, on};
 
@@ -31,6 +32,18 @@ pub(crate) fn blend(mask: u64, a: &[u32; 64], b: &[u32; 64], out: &mut [u32; 64]
     }
 }
 
+// Makes the lanes 0 where the mask is not true.
+pub(crate) fn keep(mask: u64, lanes: &mut [u32; 64])
+    ensures { (i : ℕ) → i < 64 → bits_lane lanes.new i
+        ≡ (if on mask i then bits_lane lanes.old i else pos 0) }
+{
+    if mask == u64::MAX {
+        return;
+    }
+    let all = *lanes;
+    blend(mask, &all, &[0; 64], lanes);
+}
+
 /// A sum or a difference.
 pub(crate) trait Wrapping {
     /// The exact result.
@@ -44,8 +57,7 @@ pub(crate) trait Wrapping {
             → bits_lane result.0 i ≡ exact (bits_lane x i) (bits_lane y i) }
         ensures look { (i : ℕ) → i < 16
             → on (slice_index result.1 i) 31
-            ≡ not (is_int (exact (bits_lane x i) (bits_lane y i))) }
-        ensures at_zero { exact (pos 0) (pos 0) ≡ pos 0 };
+            ≡ not (is_int (exact (bits_lane x i) (bits_lane y i))) };
 }
 
 pub(crate) struct Sum;
@@ -70,40 +82,23 @@ impl Wrapping for Difference {
     }
 }
 
-// Sixteen lanes after the operator, right where there is no fault, and their faults.
-fn run16<K: Wrapping>(x: u32x16, y: u32x16, live: u64) -> (u32x16, u64)
-    ensures values { (i : ℕ) → i < 16
-        → faulty (on live i) (lawful (K.exact (bits_lane x i) (bits_lane y i))) ≡ false
-        → bits_lane result.0 i
-        ≡ kept (on live i) (lawful (K.exact (bits_lane x i) (bits_lane y i))) }
-    ensures fault_bits { (i : ℕ) → i < 16
-        → on result.1 i ≡ faulty (on live i) (lawful (K.exact (bits_lane x i) (bits_lane y i))) }
-    ensures within { result.1 < 65536 }
-{
-    let zero = u32x16::splat(0);
-    let (value, look) = K::wrapped16(blended16(live, x, zero), blended16(live, y, zero));
-    (value, tops16(look))
-}
-
-// Puts the 64 lanes after the operator into `out`, right where there is no fault, and gives the
-// faults.
-fn run_wrapped<K: Wrapping>(a: &[u32; 64], b: &[u32; 64], active: u64, out: &mut [u32; 64]) -> u64
+// Puts the 64 lanes after the operator into `out`, right where they are in the range of `int`, and
+// gives the lanes that are not.
+fn run_wrapped<K: Wrapping>(a: &[u32; 64], b: &[u32; 64], out: &mut [u32; 64]) -> u64
     ensures values { (i : ℕ) → i < 64
-        → faulty (on active i) (lawful (K.exact (bits_lane a.now i) (bits_lane b.now i))) ≡ false
-        → bits_lane out.new i
-        ≡ kept (on active i) (lawful (K.exact (bits_lane a.now i) (bits_lane b.now i))) }
-    ensures fault_bits { IsPlaneOf (λ i. faulty (on active i)
-        (lawful (K.exact (bits_lane a.now i) (bits_lane b.now i)))) result }
+        → IsTrue (is_int (K.exact (bits_lane a.now i) (bits_lane b.now i)))
+        → bits_lane out.new i ≡ K.exact (bits_lane a.now i) (bits_lane b.now i) }
+    ensures beyond { IsPlaneOf
+        (λ i. not (is_int (K.exact (bits_lane a.now i) (bits_lane b.now i)))) result }
 {
-    let mut faults = 0u64;
+    let mut beyond = 0u64;
     for c in 0..4usize {
         let at = 16 * c;
-        let shift = at as u64;
-        let (value, bad) = run16::<K>(load16(a, at), load16(b, at), active >> shift);
+        let (value, look) = K::wrapped16(load16(a, at), load16(b, at));
         store16(out, at, value);
-        faults |= bad << shift;
+        beyond |= tops16(look) << (at as u64);
     }
-    faults
+    beyond
 }
 
 // Puts the 64 lanes after the operator into `out`, and gives their faults.
@@ -116,10 +111,7 @@ pub(crate) fn run<K: Wrapping>(
     ensures { IsKernelBelow 64 (λ x y. lawful (K.exact x y)) (bits_lane a.now) (bits_lane b.now)
         active (bits_lane out.new) result }
 {
-    let faults = run_wrapped::<K>(a, b, active, out);
-    if faults != 0 {
-        let wrapped = *out;
-        blend(faults, &[0; 64], &wrapped, out);
-    }
-    faults
+    let beyond = run_wrapped::<K>(a, b, out);
+    keep(active & !beyond, out);
+    active & beyond
 }

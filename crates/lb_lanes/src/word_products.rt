@@ -1,50 +1,50 @@
 //! Products of 64 integers of 32 bits, under a plane of active lanes.
 //!
-//! Each product is exact in 64 bits. One look over all lanes tells whether all are in the range of
-//! `int`: with 2 ^ 31 added, such a product is a word below 2 ^ 32, and so is the union of such
-//! words. A lane that is not active counts as 0, and is in the range whatever it holds:
+//! Each product is exact in 64 bits. With 2 ^ 31 added, its upper half is 0 just where the product
+//! is in the range of `int`. One look at the union of the upper halves tells whether all are:
 //!
 //! ```text
 //! product    ffffffff_fffffff6    00000000_00000014    00000001_00000000
-//! + 2 ^ 31   00000000_7ffffff6 |  00000000_80000014 |  00000001_80000000 = 00000001_fffffff6
+//! + 2 ^ 31   00000000_7ffffff6    00000000_80000014    00000001_80000000
+//! upper      00000000           | 00000000           | 00000001          = 00000001
 //! ```
 //!
-//! Only where some product is out of the range a second pass tells which: it keeps the upper half
-//! of each such word, which is 0 just where the product is in the range.
+//! Lanes that are not active are made 0 afterwards. Only where some product is out of the range a
+//! second pass tells which: there a lane that is not active counts as 0.
 
-ghost use Rattle.std.specs.Prelude.{◌≡◌, ℕ, ◌<◌, ◌/◌, ◌==◌, IsTrue, ◌*ℤ◌, slice_index};
+ghost use Rattle.std.specs.Prelude.{◌≡◌, ℕ, ◌<◌, ◌==◌, IsTrue, ◌*ℤ◌, slice_index};
 ghost use Rattle.std.specs.Int.{cast_signed, w32};
 ghost use Rattle.lb_lanes.specs.Kernels.{IsKernelBelow, bits_lane};
 ghost use Rattle.lb_lanes.specs.Operators.{is_int, product_of};
 
-use crate::word_kernels::blend;
+use crate::word_kernels::{blend, keep};
 use crate::word_tests::{Equal, tested};
 
-// The low 32 bits of a product, and a word that is below 2 ^ 32 just where the product is in the
-// range of `int`.
-fn product(x: u32, y: u32) -> (u32, u64)
+// The low 32 bits of a product, and a word that is 0 just where the product is in the range of
+// `int`.
+fn product(x: u32, y: u32) -> (u32, u32)
     ensures value { IsTrue (is_int (cast_signed w32 x *ℤ cast_signed w32 y))
         → cast_signed w32 result.0 ≡ cast_signed w32 x *ℤ cast_signed w32 y }
-    ensures look { (result.1 / 4294967296 == 0)
-        ≡ is_int (cast_signed w32 x *ℤ cast_signed w32 y) }
+    ensures look { (result.1 == 0) ≡ is_int (cast_signed w32 x *ℤ cast_signed w32 y) }
 {
     let exact = (i64::from(x.cast_signed()) * i64::from(y.cast_signed())).cast_unsigned();
     let low = (exact % 4294967296) as u32;
-    (low, exact.wrapping_add(2147483648))
+    let raised = exact.wrapping_add(2147483648);
+    (low, (raised >> 32u64) as u32)
 }
 
-// Puts the products' low 32 bits into the first operands, and tells whether all are the products.
-fn multiply(lanes: &mut [u32; 64], by: &[u32; 64]) -> bool
+// Puts the products' low 32 bits into `out`, and tells whether all are the products.
+fn multiply(a: &[u32; 64], b: &[u32; 64], out: &mut [u32; 64]) -> bool
     ensures { IsTrue result → (i : ℕ) → i < 64
-        → bits_lane lanes.new i ≡ bits_lane lanes.old i *ℤ bits_lane by.now i }
+        → bits_lane out.new i ≡ bits_lane a.now i *ℤ bits_lane b.now i }
 {
-    let mut look = 0u64;
+    let mut look = 0u32;
     for i in 0..64usize {
-        let (low, seen) = product(lanes[i], by[i]);
-        look |= seen;
-        lanes[i] = low;
+        let (low, beyond) = product(a[i], b[i]);
+        look |= beyond;
+        out[i] = low;
     }
-    look < 4294967296
+    look == 0
 }
 
 // Puts the products' low 32 bits into the first operands, and words that are 0 just where the
@@ -58,8 +58,8 @@ fn multiply_apart(lanes: &mut [u32; 64], by: &[u32; 64], beyond: &mut [u32; 64])
         ≡ is_int (bits_lane lanes.old i *ℤ bits_lane by.now i) }
 {
     for i in 0..64usize {
-        let (low, seen) = product(lanes[i], by[i]);
-        beyond[i] = (seen >> 32u64) as u32;
+        let (low, upper) = product(lanes[i], by[i]);
+        beyond[i] = upper;
         lanes[i] = low;
     }
 }
@@ -84,8 +84,8 @@ pub(crate) fn run_product(a: &[u32; 64], b: &[u32; 64], active: u64, out: &mut [
     ensures { IsKernelBelow 64 product_of (bits_lane a.now) (bits_lane b.now) active
         (bits_lane out.new) result }
 {
-    blend(active, a, &[0; 64], out);
-    if multiply(out, b) {
+    if multiply(a, b, out) {
+        keep(active, out);
         return 0;
     }
     run_apart(a, b, active, out)

@@ -1,7 +1,8 @@
 -- What the run of straight code keeps: all that was done stays done, since later instructions write
 -- places that no earlier one reads or writes.
 use Rattle.std.proofs.Common.{◌≡◌, ℕ, suc, ◌+◌, ◌<◌, ◌≤◌, List, [], ◌∷◌, length, get_or}
-use Rattle.std.proofs.Common.{drop, cond, refl, sym, ap, ap₂, ◌∙◌, subst, arith, ℤ, add-one}
+use Rattle.std.proofs.Common.{not, ◌||◌, drop, cond, refl, sym, ap, ap₂, ◌∙◌, subst, arith, ℤ}
+use Rattle.std.proofs.Common.{add-one}
 use Rattle.std.proofs.Math.Seq.{drop-cons}
 use Rattle.std.proofs.Math.ListN.{drop_of_length-le}
 use Rattle.std.specs.List.{AllByRecursion}
@@ -24,7 +25,7 @@ straight_planes p w (Select m a b out ∷ is) P W h =
     let le = straight_planes (suc p) w is P W h.1 in omega (arith, le)
 straight_planes p w (Compare c a b out ∷ is) P W h =
     let le = straight_planes (suc p) w is P W h.1 in omega (arith, le)
-straight_planes p w (Operate op a b active out faults ∷ is) P W h =
+straight_planes p w (Operate op a b idle bad out faults ∷ is) P W h =
     let le = straight_planes (suc p) (suc w) is P W h.1 in omega (arith, le)
 straight_planes p w (Blend m a b out ∷ is) P W h = straight_planes p (suc w) is P W h.1
 
@@ -33,7 +34,7 @@ straight_words :
 straight_words p w [] P W h = omega (arith, h.1)
 straight_words p w (Select m a b out ∷ is) P W h = straight_words (suc p) w is P W h.1
 straight_words p w (Compare c a b out ∷ is) P W h = straight_words (suc p) w is P W h.1
-straight_words p w (Operate op a b active out faults ∷ is) P W h =
+straight_words p w (Operate op a b idle bad out faults ∷ is) P W h =
     let le = straight_words (suc p) (suc w) is P W h.1 in omega (arith, le)
 straight_words p w (Blend m a b out ∷ is) P W h =
     let le = straight_words p (suc w) is P W h.1 in omega (arith, le)
@@ -42,13 +43,13 @@ straight_words p w (Blend m a b out ∷ is) P W h =
 more_planes_after : (p : ℕ) (i : Instruction) → p ≤ planes_after p i
 more_planes_after p (Select m a b out) = omega arith
 more_planes_after p (Compare c a b out) = omega arith
-more_planes_after p (Operate op a b active out faults) = omega arith
+more_planes_after p (Operate op a b idle bad out faults) = omega arith
 more_planes_after p (Blend m a b out) = omega arith
 
 more_words_after : (w : ℕ) (i : Instruction) → w ≤ words_after w i
 more_words_after w (Select m a b out) = omega arith
 more_words_after w (Compare c a b out) = omega arith
-more_words_after w (Operate op a b active out faults) = omega arith
+more_words_after w (Operate op a b idle bad out faults) = omega arith
 more_words_after w (Blend m a b out) = omega arith
 
 -- an instruction that can be done next fits
@@ -63,12 +64,13 @@ next_fits p w P W (Select m a b out) n hp hw = (
 )
 next_fits p w P W (Compare c a b out) n hp hw =
     (omega (arith, n.0, hw), omega (arith, n.1, hw), omega (arith, n.2, hp))
-next_fits p w P W (Operate op a b active out faults) n hp hw = (
-  omega (arith, n.0, n.3),
-  omega (arith, n.1, n.3),
-  omega (arith, n.2, n.4),
-  omega (arith, n.3, hw),
-  omega (arith, n.4, hp),
+next_fits p w P W (Operate op a b idle bad out faults) n hp hw = (
+  omega (arith, n.0, n.4),
+  omega (arith, n.1, n.4),
+  omega (arith, n.2, n.5),
+  omega (arith, n.3, n.5),
+  omega (arith, n.4, hw),
+  omega (arith, n.5, hp),
 )
 next_fits p w P W (Blend m a b out) n hp hw = (
   omega (arith, n.0, hp),
@@ -81,13 +83,13 @@ next_fits p w P W (Blend m a b out) n hp hw = (
 plane_kept : (p w : ℕ) (i : Instruction) (k : ℕ) → IsNext p w i → k < p → KeepsPlane i k
 plane_kept p w (Select m a b out) k n h = λ e. omega (arith, n.3, h, e)
 plane_kept p w (Compare c a b out) k n h = λ e. omega (arith, n.2, h, e)
-plane_kept p w (Operate op a b active out faults) k n h = λ e. omega (arith, n.4, h, e)
+plane_kept p w (Operate op a b idle bad out faults) k n h = λ e. omega (arith, n.5, h, e)
 plane_kept p w (Blend m a b out) k n h = tt
 
 word_kept : (p w : ℕ) (i : Instruction) (k : ℕ) → IsNext p w i → k < w → KeepsWord i k
 word_kept p w (Select m a b out) k n h = tt
 word_kept p w (Compare c a b out) k n h = tt
-word_kept p w (Operate op a b active out faults) k n h = λ e. omega (arith, n.3, h, e)
+word_kept p w (Operate op a b idle bad out faults) k n h = λ e. omega (arith, n.4, h, e)
 word_kept p w (Blend m a b out) k n h = λ e. omega (arith, n.3, h, e)
 
 -- ## What was done stays done
@@ -108,13 +110,15 @@ stays_done p w s s' (Select m a b out) n h d =
 stays_done p w s s' (Compare c a b out) n h d =
     h.planes out.0 (omega (arith, n.2)) ∙ d
     ∙ sym (ap₂ (compared c) (h.words a.0 (omega (arith, n.0))) (h.words b.0 (omega (arith, n.1))))
-stays_done p w s s' (Operate op a b active out faults) n h d =
+stays_done p w s s' (Operate op a b idle bad out faults) n h d =
     let ea = h.words a.0 (omega (arith, n.0)) in
     let eb = h.words b.0 (omega (arith, n.1)) in
-    let on_active = h.planes active.0 (omega (arith, n.2)) in
+    let before = h.planes bad.0 (omega (arith, n.3)) in
+    let active = ap₂ (λ x y. not (x || y)) (h.planes idle.0 (omega (arith, n.2))) before in
     let r = ap₂ (result_of op) ea eb in (
-      h.words out.0 (omega (arith, n.3)) ∙ d.0 ∙ sym (ap₂ kept on_active r),
-      h.planes faults.0 (omega (arith, n.4)) ∙ d.1 ∙ sym (ap₂ faulty on_active r),
+      h.words out.0 (omega (arith, n.4)) ∙ d.0 ∙ sym (ap₂ kept active r),
+      h.planes faults.0 (omega (arith, n.5)) ∙ d.1
+          ∙ sym (ap₂ (λ x y. x || y) before (ap₂ faulty active r)),
     )
 stays_done p w s s' (Blend m a b out) n h d =
     h.words out.0 (omega (arith, n.3)) ∙ d

@@ -1,7 +1,8 @@
 -- What code promises: run in all lanes at once, it is done in each of them; and as it is put together,
 -- each place that a call gives holds what the call names, in every lane in which the code is done.
 -- This file says what data of the program mean. No lane occurs beside another.
-use Rattle.std.specs.Prelude.{◌≡◌, ◌<◌, ◌≤◌, ℕ, Bool, Option, List, ℤ}
+use Rattle.std.specs.Prelude.{◌≡◌, ◌<◌, ◌≤◌, ℕ, Bool, not, ◌||◌, Option, List}
+use Rattle.std.specs.Prelude.{ℤ}
 use Rattle.std.specs.List.{AllByRecursion}
 use Rattle.lb_lanes.specs.Kernels.{kept, faulty}
 use Rattle.lb_machine.specs.Meaning.{Lane, HasRun, IsDone, lane_at}
@@ -37,14 +38,15 @@ pub record IsWordFor (code : Code) (value : Lane → ℤ) (w : WordId) : Type 0 
   pub within : w.0 < code.words
   pub means : (s : Lane) → HasRun code.instructions.items s → s.ints w.0 ≡ value s
 
--- a word holds what an operator gives in the lanes that are active, and a plane its faults
-pub record AreResultsFor (code : Code) (value : Lane → Option ℤ) (active : PlaneId)
+-- a word holds what an operator gives in the lanes where neither of two planes is true, and a plane
+-- where the second one is true or the operator has a fault
+pub record AreResultsFor (code : Code) (value : Lane → Option ℤ) (idle bad : PlaneId)
     (w : WordId) (p : PlaneId) : Type 0 where
   pub word_within : w.0 < code.words
   pub plane_within : p.0 < code.planes
   pub result :
       (s : Lane) → HasRun code.instructions.items s →
-      s.ints w.0 ≡ kept (s.bits active.0) (value s)
+      s.ints w.0 ≡ kept (not (s.bits idle.0 || s.bits bad.0)) (value s)
   pub faults :
       (s : Lane) → HasRun code.instructions.items s →
-      s.bits p.0 ≡ faulty (s.bits active.0) (value s)
+      s.bits p.0 ≡ (s.bits bad.0 || faulty (not (s.bits idle.0 || s.bits bad.0)) (value s))

@@ -44,9 +44,10 @@ abbrev pub IsDone : Lane → Instruction → Type 0
 IsDone s (Select m a b out) =
     s.bits out.0 ≡ (if s.bits m.0 then s.bits a.0 else s.bits b.0)
 IsDone s (Compare c a b out) = s.bits out.0 ≡ compared c (s.ints a.0) (s.ints b.0)
-IsDone s (Operate op a b active out faults) =
-    (s.ints out.0 ≡ kept (s.bits active.0) (result_of op (s.ints a.0) (s.ints b.0)))
-    × (s.bits faults.0 ≡ faulty (s.bits active.0) (result_of op (s.ints a.0) (s.ints b.0)))
+IsDone s (Operate op a b idle bad out faults) =
+    let active = not (s.bits idle.0 || s.bits bad.0) in
+    let value = result_of op (s.ints a.0) (s.ints b.0) in
+    (s.ints out.0 ≡ kept active value) × (s.bits faults.0 ≡ (s.bits bad.0 || faulty active value))
 IsDone s (Blend m a b out) =
     s.ints out.0 ≡ (if s.bits m.0 then s.ints a.0 else s.ints b.0)
 

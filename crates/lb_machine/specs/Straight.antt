@@ -12,8 +12,8 @@ use Rattle.lb_machine.specs.declared.instruction.Instruction.TheVariants.{Operat
 abbrev pub IsNext : ℕ → ℕ → Instruction → Type 0
 IsNext p w (Select m a b out) = (m.0 < p) × (a.0 < p) × (b.0 < p) × (out.0 ≡ p)
 IsNext p w (Compare c a b out) = (a.0 < w) × (b.0 < w) × (out.0 ≡ p)
-IsNext p w (Operate op a b active out faults) =
-    (a.0 < w) × (b.0 < w) × (active.0 < p) × (out.0 ≡ w) × (faults.0 ≡ p)
+IsNext p w (Operate op a b idle bad out faults) =
+    (a.0 < w) × (b.0 < w) × (idle.0 < p) × (bad.0 < p) × (out.0 ≡ w) × (faults.0 ≡ p)
 IsNext p w (Blend m a b out) = (m.0 < p) × (a.0 < w) × (b.0 < w) × (out.0 ≡ w)
 
 -- how many planes, and how many words, there are after it
@@ -22,7 +22,7 @@ planes_after p (Blend m a b out) = p
 planes_after p i = suc p
 
 abbrev pub words_after : ℕ → Instruction → ℕ
-words_after w (Operate op a b active out faults) = suc w
+words_after w (Operate op a b idle bad out faults) = suc w
 words_after w (Blend m a b out) = suc w
 words_after w i = w
 
@@ -40,7 +40,7 @@ same_prop i j = Prim.hlevel props
 next_prop : (p w : ℕ) (i : Instruction) → IsProp (IsNext p w i)
 next_prop p w (Select m a b out) = Prim.hlevel props
 next_prop p w (Compare c a b out) = Prim.hlevel props
-next_prop p w (Operate op a b active out faults) = Prim.hlevel props
+next_prop p w (Operate op a b idle bad out faults) = Prim.hlevel props
 next_prop p w (Blend m a b out) = Prim.hlevel props
 
 pub straight_prop :
@@ -55,18 +55,19 @@ straight_prop p w (i ∷ is) P W =
 abbrev pub IsFit : ℕ → ℕ → Instruction → Type 0
 IsFit P W (Select m a b out) = (m.0 < out.0) × (a.0 < out.0) × (b.0 < out.0) × (out.0 < P)
 IsFit P W (Compare c a b out) = (a.0 < W) × (b.0 < W) × (out.0 < P)
-IsFit P W (Operate op a b active out faults) =
-    (a.0 < out.0) × (b.0 < out.0) × (active.0 < faults.0) × (out.0 < W) × (faults.0 < P)
+IsFit P W (Operate op a b idle bad out faults) =
+    (a.0 < out.0) × (b.0 < out.0) × (idle.0 < faults.0) × (bad.0 < faults.0) × (out.0 < W)
+    × (faults.0 < P)
 IsFit P W (Blend m a b out) = (m.0 < P) × (a.0 < out.0) × (b.0 < out.0) × (out.0 < W)
 
 -- a plane, and a word, that an instruction leaves as it was
 abbrev pub KeepsPlane : Instruction → ℕ → Type 0
 KeepsPlane (Select m a b out) k = k ≢ out.0
 KeepsPlane (Compare c a b out) k = k ≢ out.0
-KeepsPlane (Operate op a b active out faults) k = k ≢ faults.0
+KeepsPlane (Operate op a b idle bad out faults) k = k ≢ faults.0
 KeepsPlane (Blend m a b out) k = Unit {0}
 
 abbrev pub KeepsWord : Instruction → ℕ → Type 0
-KeepsWord (Operate op a b active out faults) k = k ≢ out.0
+KeepsWord (Operate op a b idle bad out faults) k = k ≢ out.0
 KeepsWord (Blend m a b out) k = k ≢ out.0
 KeepsWord i k = Unit {0}

@@ -175,26 +175,28 @@ impl Code {
         Ok(out)
     }
 
-    /// A word that holds what an operator on two gives in the lanes that are active, and a plane
-    /// that holds its faults.
+    /// A word that holds what an operator on two gives in the lanes where neither plane is true,
+    /// and a plane that is true where `bad` is, or where the operator has a fault.
     pub fn operate(
         &mut self,
         op: IntOperator,
         a: WordId,
         b: WordId,
-        active: PlaneId,
+        idle: PlaneId,
+        bad: PlaneId,
     ) -> Result<(WordId, PlaneId), AllocError>
         requires left { a.0 < self.old.words }
         requires right { b.0 < self.old.words }
-        requires active { active.0 < self.old.planes }
+        requires idle { idle.0 < self.old.planes }
+        requires bad { bad.0 < self.old.planes }
         ensures grown { OnOk result (IsGrown self.old self.new) }
         ensures results { IfOk result (λ r. AreResultsFor self.new
-            (λ s. result_of op (s.ints a.0) (s.ints b.0)) active r.0 r.1) }
+            (λ s. result_of op (s.ints a.0) (s.ints b.0)) idle bad r.0 r.1) }
     {
         let out = self.next_word()?;
         let faults = self.next_plane()?;
         self.instructions
-            .push(Instruction::Operate(op, a, b, active, out, faults))?;
+            .push(Instruction::Operate(op, a, b, idle, bad, out, faults))?;
         self.planes += 1;
         self.words += 1;
         Ok((out, faults))

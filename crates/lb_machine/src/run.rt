@@ -87,8 +87,10 @@ fn execute(i: Instruction, planes: &mut [u64], words: &mut [LaneWord])
             let made = compared(c, &words[a.0 as usize], &words[b.0 as usize]);
             planes[out.0 as usize] = made.0;
         }
-        Instruction::Operate(op, a, b, active, out, faults) => {
-            let made = operate(op, a, b, plane(planes, active), out, words);
+        Instruction::Operate(op, a, b, idle, bad, out, faults) => {
+            let before = plane(planes, bad);
+            let active = plane(planes, idle).or(before).not();
+            let made = before.or(operate(op, a, b, active, out, words));
             planes[faults.0 as usize] = made.0;
         }
         Instruction::Blend(mask, a, b, out) => blend(plane(planes, mask), a, b, out, words),

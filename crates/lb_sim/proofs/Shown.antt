@@ -1,12 +1,12 @@
 -- Each operation of the language on what three planes and a value show.
 use Rattle.std.proofs.Common.{◌≡◌, Bool, true, false, ℤ, pos, Option, Some, None, cond, refl, ap}
-use Rattle.std.proofs.Common.{◌∙◌}
+use Rattle.std.proofs.Common.{ap₂, ◌∙◌}
 use Rattle.lb_syntax.specs.declared.tree.BinaryOperator.TheVariants.{Plus, Minus, Times, Divide}
 use Rattle.lb_syntax.specs.declared.tree.BinaryOperator.TheVariants.{Modulo}
 use Rattle.lb_syntax.specs.declared.tree.UnaryOperator.TheVariants.{Negate}
 use Rattle.lb_syntax.specs.Lists.{where_true}
 use Rattle.lb_static.specs.Arithmetic.{arithmetic, negated, is_int as in_range}
-use Rattle.lb_check.specs.Scalars.{Integer, or_fault, two_integers, one_scalar}
+use Rattle.lb_check.specs.Scalars.{Scalar, Integer, chosen, or_fault, two_integers, one_scalar}
 use Rattle.lb_lanes.specs.Operators.{is_int, can_divide, sum_of, difference_of, product_of}
 use Rattle.lb_lanes.specs.Operators.{quotient_of, remainder_of, result_of}
 use Rattle.lb_lanes.specs.declared.int_operator.IntOperator.{IntOperator}
@@ -61,3 +61,12 @@ negate_cases r x false false e = ap or_fault e
 pub negate_shown : (x : ℤ) (b n : Bool) →
     shown b n (or_fault (difference_of (pos 0) x)) ≡ one_scalar Negate (shown b n (Integer x))
 negate_shown x b n = negate_cases (difference_of (pos 0) x) x b n (negated_is x)
+
+-- ## Choices
+
+-- what is chosen is a fault where the condition is, whatever the two are there
+pub chosen_within :
+    (bc nc : Bool) (c x y v w : Scalar) → (bc ≡ false → v ≡ x) → (bc ≡ false → w ≡ y) →
+    chosen (shown bc nc c) v w ≡ chosen (shown bc nc c) x y
+chosen_within true nc c x y v w e f = refl
+chosen_within false nc c x y v w e f = ap₂ (chosen (shown false nc c)) (e refl) (f refl)

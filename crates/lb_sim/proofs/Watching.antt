@@ -2,7 +2,7 @@
 -- other.
 use Rattle.std.proofs.Common.{arith, suc, ◌+◌, ◌-◌, ◌<◌, ◌≤◌, [], ◌∷◌, drop, length, add-one, ◌≡◌}
 use Rattle.std.proofs.Common.{ℕ, Bool, true, false, ◌||◌, Option, Some, None, List, get_or, refl}
-use Rattle.std.proofs.Common.{sym, ap, ◌∙◌}
+use Rattle.std.proofs.Common.{sym, ap, ◌∙◌, zero, replicate, ◌⊎◌, inl, inr}
 use Rattle.std.proofs.Math.Seq.{drop-cons}
 use Rattle.std.proofs.Math.ListN.{drop_of_length-le}
 use Rattle.std.specs.List.{range_with_len}
@@ -18,6 +18,7 @@ use Rattle.lb_machine.specs.Meaning.{Lane, HasRun}
 use Rattle.lb_machine.specs.declared.code.Code.{Code}
 use Rattle.lb_machine.specs.declared.instruction.PlaneId.{PlaneId}
 use Rattle.lb_sim.specs.Showing.{cell_at, row_at}
+use Rattle.lb_sim.specs.Watching.{AreWithin}
 use Rattle.lb_sim.specs.declared.place.Place.{Place}
 use Rattle.lb_sim.proofs.Growth.{grown_none, grown_then}
 
@@ -80,6 +81,57 @@ module _ (test : Option Cell → Bool) (before code : Code) (places : List Place
         ∙ ap (λ is. s.bits plane.0 || some_in test row is) (sym e)
         ∙ h.means s (g₁.runs s r₁);
   }
+
+-- ## Marked planes
+
+-- planes that are within a plane are so still, where the code has grown
+pub within_grown : (a b : Code) (marked : List Bool) (p : PlaneId) → IsGrown a b →
+    AreWithin a marked p → AreWithin b marked p
+within_grown a b marked p g h = record { within = λ k e s r. h.within k e s (g.runs s r) }
+
+none_marked : (n k : ℕ) → get_or (replicate n false) k false ≡ false
+none_marked zero k = refl
+none_marked (suc n) zero = refl
+none_marked (suc n) (suc k) = none_marked n k
+
+pub none_within : (code : Code) (n : ℕ) (p : PlaneId) → AreWithin code (replicate n false) p
+none_within code n p = record {
+  within = λ k e s r on. absurd (no (get_or (replicate n false) k false) (none_marked n k) e);
+}
+  where
+    no : (b : Bool) → b ≡ false → b ≡ true → ⊥
+    no b e f = cc
+
+-- a plane within another one adds nothing
+pub or_within : (a b : Bool) → (b ≡ true → a ≡ true) → a ≡ (a || b)
+or_within true b h = refl
+or_within false true h = h refl
+or_within false false h = refl
+
+or_left : (a b : Bool) → a ≡ true → (a || b) ≡ true
+or_left true b e = refl
+or_left false b e = cc
+
+or_right : (a b : Bool) → b ≡ true → (a || b) ≡ true
+or_right true b e = refl
+or_right false b e = e
+
+-- one more plane is marked, and is within the new plane
+pub within_more :
+    (a b : Code) (old new : List Bool) (plane here both : PlaneId) → IsGrown a b →
+    AreWithin a old plane →
+    IsPlaneFor b (λ s. s.bits plane.0 || s.bits here.0) both →
+    ((k : ℕ) → get_or new k false ≡ true → (k ≡ here.0) ⊎ (get_or old k false ≡ true)) →
+    AreWithin b new both
+within_more a b old new plane here both g h made more = record {
+  within = λ k e s r on. made.means s r ∙ by k s r on (more k e);
+}
+  where
+    by :
+        (k : ℕ) (s : Lane) → HasRun b.instructions.items s → s.bits k ≡ true →
+        (k ≡ here.0) ⊎ (get_or old k false ≡ true) → (s.bits plane.0 || s.bits here.0) ≡ true
+    by k s r on (inl e) = or_right _ _ (ap s.bits (sym e) ∙ on)
+    by k s r on (inr e) = or_left _ _ (h.within k e s (g.runs s r) on)
 
 -- ## What is still to come
 

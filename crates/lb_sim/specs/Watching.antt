@@ -1,6 +1,7 @@
 -- The planes of what an instant decides in each lane, and the verdict that they give.
 -- Source: this project's rule.
-use Rattle.std.specs.Prelude.{ℕ, Bool, Option, List, [], ◌∷◌, if◌then◌else◌}
+use Rattle.std.specs.Prelude.{◌≡◌, ℕ, Bool, true, false, Option, List, [], ◌∷◌, slice_index_or}
+use Rattle.std.specs.Prelude.{if◌then◌else◌}
 use Rattle.lb_check.specs.Scalars.{Cell}
 use Rattle.lb_check.specs.Verdicts.{is_bad, is_nil, is_false}
 use Rattle.lb_check.specs.declared.verdict.Verdict.{Verdict}
@@ -8,8 +9,9 @@ use Rattle.lb_check.specs.declared.verdict.Verdict.TheVariants.{Passed, Fault, U
 use Rattle.lb_check.specs.declared.verdict.Verdict.TheVariants.{False}
 use Rattle.lb_flat.specs.Judging.{FlatProgram, some_in, named_elements, truth_elements}
 use Rattle.lb_machine.specs.Correct.{IsPlaneFor}
-use Rattle.lb_machine.specs.Meaning.{Lane}
+use Rattle.lb_machine.specs.Meaning.{Lane, HasRun}
 use Rattle.lb_machine.specs.declared.code.Code.{Code}
+use Rattle.lb_machine.specs.declared.instruction.PlaneId.{PlaneId}
 use Rattle.lb_sim.specs.Showing.{row_at}
 use Rattle.lb_sim.specs.declared.place.Place.{Place}
 use Rattle.lb_sim.specs.declared.place.Watched.{Watched}
@@ -21,6 +23,12 @@ abbrev pub is_sought : Sought → Option Cell → Bool
 is_sought Faults x = is_bad x
 is_sought Nils x = is_nil x
 is_sought Falses x = is_false x
+
+-- planes that are marked by their numbers are within one plane, wherever the code has been run
+pub record AreWithin (code : Code) (marked : List Bool) (plane : PlaneId) : Type 0 where
+  pub within :
+      (p : ℕ) → slice_index_or marked p false ≡ true → (s : Lane) →
+      HasRun code.instructions.items s → s.bits p ≡ true → s.bits plane.0 ≡ true
 
 -- planes of the code hold in each lane what its row shows at the elements that are watched
 pub record AreWatched (code : Code) (f : FlatProgram) (places : List Place) (w : Watched) :

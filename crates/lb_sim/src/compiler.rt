@@ -47,7 +47,7 @@ fn lane_code(
     let mut code = Code::new(alloc, first_plane, first_word);
     let (inputs, constants) = (known.inputs.as_slice(), known.constants.as_slice());
     let places = emit_all(alloc, &mut code, program, inputs, constants, held)?;
-    let watched = watched(&mut code, program, places.as_slice())?;
+    let watched = watched(alloc, &mut code, program, places.as_slice())?;
     let sources = all_sources(alloc, &mut code, program, places.as_slice(), known, held)?;
     Ok(LaneCode {
         code,

@@ -10,9 +10,8 @@ ghost use Rattle.lb_sim.specs.Holdings.{IsFor, IsIn};
 ghost use Rattle.lb_sim.specs.Showing.{operator_of, shown};
 
 use crate::place::{Holding, Value};
-use crate::truths::not_plane;
 use lb_lanes::IntOperator;
-use lb_machine::{Code, PlaneId, PlaneOperator, WordId, ZERO};
+use lb_machine::{Code, PlaneId, WordId, ZERO};
 use std::alloc::AllocError;
 
 /// An operator on two integers, whose faults are counted in the lanes alone where no operand is nil
@@ -35,12 +34,13 @@ pub(crate) fn two_numbers(
     ensures holding { IfOk result (IsFor code.new Int_kind (λ s.
         shown (s.bits bad.0) (s.bits nil.0) (or_fault (result_of op (s.ints a.0) (s.ints b.0))))) }
 {
-    let idle = code.combine(PlaneOperator::Or, nil, bad)?;
-    let active = not_plane(code, idle)?;
-    let (number, faults) = code.operate(op, a, b, active)?;
-    let bad = code.combine(PlaneOperator::Or, bad, faults)?;
+    let (number, faults) = code.operate(op, a, b, nil, bad)?;
     let value = Value::Number(number);
-    Ok(Holding { value, nil, bad })
+    Ok(Holding {
+        value,
+        nil,
+        bad: faults,
+    })
 }
 
 /// An operator of the language on two integers.

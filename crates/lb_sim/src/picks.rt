@@ -1,9 +1,11 @@
 //! Choices between what places hold, and the planes of clocks.
 
-ghost use Rattle.std.specs.Prelude.{◌≡◌, ◌<◌, ◌&&◌, IfOk, OnOk, if◌then◌else◌};
+ghost use Rattle.std.specs.Prelude.{◌≡◌, ◌<◌, ◌&&◌, false, IfOk, OnOk, if◌then◌else◌};
 ghost use Rattle.lb_check.specs.Scalars.{chosen};
 ghost use Rattle.lb_check.specs.Streams.{shows};
 ghost use Rattle.lb_machine.specs.Correct.{IsGrown, IsPlaneFor};
+ghost use Rattle.lb_machine.specs.Meaning.{Lane};
+ghost use Rattle.lb_machine.specs.declared.code.Code.{Code};
 ghost use Rattle.lb_sim.specs.Holdings.{IsFor, IsIn, IsPlaceIn, IsValueFor, IsValueIn};
 ghost use Rattle.lb_sim.specs.Showing.{cell_at, kind_of, scalar_at, value_at, value_kind};
 
@@ -54,10 +56,26 @@ pub(crate) fn pick(
     Ok(Holding { value, nil, bad })
 }
 
-/// `if`: the chosen one of two of a kind, where the other may be faulty or nil; nil where the
-/// condition is.
+// A holding without the faults of another plane, where they are just those.
+fn without_faults(h: Holding, bad: PlaneId) -> Holding
+    ensures kind { kind_of result ≡ kind_of h }
+    ensures within { (code : Code) → IsIn code h → IsIn code result }
+    ensures same { (s : Lane) → s.bits 0 ≡ false → s.bits bad.0 ≡ false
+        → scalar_at s result ≡ scalar_at s h }
+{
+    if h.bad.0 != bad.0 {
+        return h;
+    }
+    Holding {
+        value: h.value,
+        nil: h.nil,
+        bad: NOWHERE,
+    }
+}
+
+// The chosen one of two of a kind, whatever planes hold their faults.
 #[tactic(auto, using(crate::proofs::Growth::grown_then, crate::proofs::Growth::grown_none))]
-pub(crate) fn choose(
+fn choose_any(
     code: &mut Code,
     condition: Holding,
     a: Holding,
@@ -90,6 +108,29 @@ pub(crate) fn choose(
         nil,
         bad,
     })
+}
+
+/// `if`: the chosen one of two of a kind, where the other may be faulty or nil; nil where the
+/// condition is. Faults of the condition count in any case, and are not looked for in the two.
+pub(crate) fn choose(
+    code: &mut Code,
+    condition: Holding,
+    a: Holding,
+    b: Holding,
+) -> Result<Holding, AllocError>
+    requires condition { IsIn code.old condition }
+    requires left { IsIn code.old a }
+    requires right { IsIn code.old b }
+    ensures grown { OnOk result (IsGrown code.old code.new) }
+    ensures within { IfOk result (IsIn code.new) }
+    ensures holding { IfOk result (λ h. kind_of a ≡ kind_of b →
+        IsFor code.new (kind_of a)
+        (λ s. chosen (scalar_at s condition) (scalar_at s a) (scalar_at s b)) h) }
+{
+    let left = without_faults(a, condition.bad);
+    let right = without_faults(b, condition.bad);
+    let chosen = choose_any(code, condition, left, right)?;
+    Ok(chosen)
 }
 
 /// The plane of the lanes in which a place shows a sign, within those of another plane.

@@ -1,6 +1,7 @@
 //! Planes of the lanes in which some watched element shows something.
 
-ghost use Rattle.std.specs.Prelude.{◌<◌, ◌≤◌, ◌||◌, Some, length, All, IfOk, OnOk};
+ghost use Rattle.std.specs.Prelude.{◌≡◌, ◌<◌, ◌≤◌, ◌||◌, ◌⊎◌, ℕ, true, false, Some, length, All};
+ghost use Rattle.std.specs.Prelude.{IfOk, OnOk, slice_index_or};
 ghost use Rattle.std.specs.List.{range_with_len};
 ghost use Rattle.lb_check.specs.Verdicts.{is_bad, is_nil, is_false};
 ghost use Rattle.lb_flat.specs.Judging.{some_in};
@@ -8,7 +9,7 @@ ghost use Rattle.lb_flat.specs.Programs.{numbers_of};
 ghost use Rattle.lb_machine.specs.Correct.{IsGrown, IsPlaneFor};
 ghost use Rattle.lb_sim.specs.Holdings.{IsPlaceIn};
 ghost use Rattle.lb_sim.specs.Showing.{cell_at, row_at};
-ghost use Rattle.lb_sim.specs.Watching.{is_sought};
+ghost use Rattle.lb_sim.specs.Watching.{AreWithin, is_sought};
 
 use crate::picks::sign_plane;
 use crate::place::Place;
@@ -57,24 +58,69 @@ pub(crate) fn false_plane(code: &mut Code, place: Place) -> Result<PlaneId, Allo
     Ok(plane)
 }
 
-/// Where one of the first elements shows the value of a fault, or a plane is true.
+// Whether a plane is marked.
+fn is_marked(marked: &[bool], p: PlaneId) -> bool
+    ensures { result ≡ true → slice_index_or marked.now p.0 false ≡ true }
+{
+    let at = p.0 as usize;
+    at < marked.len() && marked[at]
+}
+
+// Marks a plane, where there is room for it.
+fn mark(marked: &mut [bool], p: PlaneId)
+    ensures { (k : ℕ) → slice_index_or marked.new k false ≡ true
+        → (k ≡ p.0) ⊎ (slice_index_or marked.old k false ≡ true) }
+{
+    let at = p.0 as usize;
+    if at < marked.len() {
+        marked[at] = true;
+    }
+}
+
+// Where one of two planes is true. Nothing is added for the second one where it is marked.
+fn joined(
+    code: &mut Code,
+    plane: PlaneId,
+    here: PlaneId,
+    marked: &mut [bool],
+) -> Result<PlaneId, AllocError>
+    requires plane { plane.0 < code.old.planes }
+    requires here { here.0 < code.old.planes }
+    requires marked { AreWithin code.old marked.old plane }
+    ensures grown { OnOk result (IsGrown code.old code.new) }
+    ensures plane { IfOk result (IsPlaneFor code.new (λ s. s.bits plane.0 || s.bits here.0)) }
+    ensures marked { IfOk result (λ p. AreWithin code.new marked.new p) }
+{
+    if is_marked(marked, here) {
+        return Ok(plane);
+    }
+    let both = code.combine(PlaneOperator::Or, plane, here)?;
+    mark(marked, here);
+    Ok(both)
+}
+
+/// Where one of the first elements shows the value of a fault, or a plane is true. Marked planes
+/// are within that plane, before and afterwards.
 pub(crate) fn first_bad(
     code: &mut Code,
     places: &[Place],
     count: u32,
     above: PlaneId,
+    marked: &mut [bool],
 ) -> Result<PlaneId, AllocError>
     requires count { count ≤ length places.now }
     requires places { All (IsPlaceIn code.old) places.now }
     requires above { above.0 < code.old.planes }
+    requires marked { AreWithin code.old marked.old above }
     ensures grown { OnOk result (IsGrown code.old code.new) }
     ensures plane { IfOk result (IsPlaneFor code.new (λ s. s.bits above.0
         || some_in is_bad (row_at s places.now) (range_with_len 0 count))) }
+    ensures marked { IfOk result (λ p. AreWithin code.new marked.new p) }
 {
     let mut plane = above;
     for i in 0..count {
         let here = bad_plane(code, places[i as usize])?;
-        let next = code.combine(PlaneOperator::Or, plane, here)?;
+        let next = joined(code, plane, here, marked)?;
         plane = next;
     }
     Ok(plane)
@@ -94,25 +140,29 @@ fn sought_plane(code: &mut Code, sought: Sought, place: Place) -> Result<PlaneId
     }
 }
 
-/// Where one of these elements shows what is looked for, or a plane is true.
+/// Where one of these elements shows what is looked for, or a plane is true. Marked planes are
+/// within that plane, before and afterwards.
 pub(crate) fn some_sought(
     code: &mut Code,
     places: &[Place],
     elements: &[ElementId],
     sought: Sought,
     above: PlaneId,
+    marked: &mut [bool],
 ) -> Result<PlaneId, AllocError>
     requires elements { All (λ a. a.0 < length places.now) elements.now }
     requires places { All (IsPlaceIn code.old) places.now }
     requires above { above.0 < code.old.planes }
+    requires marked { AreWithin code.old marked.old above }
     ensures grown { OnOk result (IsGrown code.old code.new) }
     ensures plane { IfOk result (IsPlaneFor code.new (λ s. s.bits above.0
         || some_in (is_sought sought) (row_at s places.now) (numbers_of elements.now))) }
+    ensures marked { IfOk result (λ p. AreWithin code.new marked.new p) }
 {
     let mut plane = above;
     for i in 0..elements.len() {
         let here = sought_plane(code, sought, places[elements[i].0 as usize])?;
-        let next = code.combine(PlaneOperator::Or, plane, here)?;
+        let next = joined(code, plane, here, marked)?;
         plane = next;
     }
     Ok(plane)

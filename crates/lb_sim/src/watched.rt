@@ -7,17 +7,44 @@ ghost use Rattle.lb_flat.specs.Programs.{program_of, IsInRange};
 ghost use Rattle.lb_machine.specs.Correct.{IsGrown, IsPlaneFor};
 ghost use Rattle.lb_sim.specs.Holdings.{IsPlaceIn};
 ghost use Rattle.lb_sim.specs.Showing.{row_at};
-ghost use Rattle.lb_sim.specs.Watching.{AreWatched};
+ghost use Rattle.lb_sim.specs.Watching.{AreWatched, AreWithin};
 
 use crate::place::{Place, Watched};
 use crate::watch::{Sought, false_plane, first_bad, nil_plane, some_sought};
 use lb_flat::FlatProgram;
 use lb_machine::{Code, NOWHERE, PlaneId, PlaneOperator};
-use std::alloc::AllocError;
+use std::alloc::{AllocError, Global};
+
+// Where an element at which a fault counts holds one. No plane is marked before.
+#[tactic(auto, using(crate::proofs::Growth::grown_then, crate::proofs::Growth::grown_none))]
+fn faults_by(
+    code: &mut Code,
+    program: &FlatProgram,
+    places: &[Place],
+    marked: &mut [bool],
+) -> Result<PlaneId, AllocError>
+    requires in_range { IsInRange program.now }
+    requires elements { length places.now ≡ program.now.size }
+    requires places { All (IsPlaceIn code.old) places.now }
+    requires marked { AreWithin code.old marked.old (record { 0 = 0 }) }
+    ensures grown { OnOk result (IsGrown code.old code.new) }
+    ensures plane { IfOk result (IsPlaneFor code.new (λ s.
+        some_in is_bad (row_at s places.now) (named_elements (program_of program.now)))) }
+{
+    let variables = first_bad(code, places, program.variables, NOWHERE, marked)?;
+    let kept = program.memory_operands.as_slice();
+    let operands = some_sought(code, places, kept, Sought::Faults, variables, marked)?;
+    let asserted = program.asserted.as_slice();
+    some_sought(code, places, asserted, Sought::Faults, operands, marked)
+}
 
 // Where an element at which a fault counts holds one.
-#[tactic(auto, using(crate::proofs::Growth::grown_then, crate::proofs::Growth::grown_none))]
-fn faults(code: &mut Code, program: &FlatProgram, places: &[Place]) -> Result<PlaneId, AllocError>
+fn faults(
+    alloc: Global,
+    code: &mut Code,
+    program: &FlatProgram,
+    places: &[Place],
+) -> Result<PlaneId, AllocError>
     requires in_range { IsInRange program.now }
     requires elements { length places.now ≡ program.now.size }
     requires places { All (IsPlaceIn code.old) places.now }
@@ -25,11 +52,9 @@ fn faults(code: &mut Code, program: &FlatProgram, places: &[Place]) -> Result<Pl
     ensures plane { IfOk result (IsPlaneFor code.new (λ s.
         some_in is_bad (row_at s places.now) (named_elements (program_of program.now)))) }
 {
-    let variables = first_bad(code, places, program.variables, NOWHERE)?;
-    let kept = program.memory_operands.as_slice();
-    let operands = some_sought(code, places, kept, Sought::Faults, variables)?;
-    let asserted = program.asserted.as_slice();
-    some_sought(code, places, asserted, Sought::Faults, operands)
+    let mut marked = vec![in alloc; false; code.planes as usize]?;
+    let plane = faults_by(code, program, places, marked.as_mut_slice())?;
+    Ok(plane)
 }
 
 // Where an element at which a truth is wanted is nil.
@@ -47,9 +72,9 @@ fn undefined(
         some_in is_nil (row_at s places.now) (truth_elements (program_of program.now)))) }
 {
     let clocks = program.clock_elements.as_slice();
-    let of_clocks = some_sought(code, places, clocks, Sought::Nils, NOWHERE)?;
+    let of_clocks = some_sought(code, places, clocks, Sought::Nils, NOWHERE, &mut [])?;
     let asserted = program.asserted.as_slice();
-    let further = some_sought(code, places, asserted, Sought::Nils, of_clocks)?;
+    let further = some_sought(code, places, asserted, Sought::Nils, of_clocks, &mut [])?;
     let property = nil_plane(code, places[program.property.0 as usize])?;
     let plane = code.combine(PlaneOperator::Or, further, property)?;
     Ok(plane)
@@ -58,6 +83,7 @@ fn undefined(
 /// The planes of what an instant decides in each lane.
 #[tactic(auto, using(crate::proofs::Growth::grown_then, crate::proofs::Growth::grown_none))]
 pub(crate) fn watched(
+    alloc: Global,
     code: &mut Code,
     program: &FlatProgram,
     places: &[Place],
@@ -68,10 +94,10 @@ pub(crate) fn watched(
     ensures grown { OnOk result (IsGrown code.old code.new) }
     ensures planes { IfOk result (AreWatched code.new (program_of program.now) places.now) }
 {
-    let faults = faults(code, program, places)?;
+    let faults = faults(alloc, code, program, places)?;
     let undefined = undefined(code, program, places)?;
     let asserted = program.asserted.as_slice();
-    let failed = some_sought(code, places, asserted, Sought::Falses, NOWHERE)?;
+    let failed = some_sought(code, places, asserted, Sought::Falses, NOWHERE, &mut [])?;
     let violated = false_plane(code, places[program.property.0 as usize])?;
     Ok(Watched {
         faults,

@@ -6,7 +6,10 @@ ghost use Rattle.std.specs.Prelude.{◌≡◌, ◌<◌, ◌≤◌, ◌+◌, IfSo
 use crate::lanes::{number, operator};
 use crate::tables::{Asks, Table, check};
 use lb_lanes::{IntOperator, LaneWord};
-use lb_machine::{Code, Comparison, PlaneId, PlaneOperator, WordId, carry_planes, carry_words};
+use lb_machine::{
+    Code, Comparison, EVERYWHERE, NOWHERE, PlaneId, PlaneOperator, WordId, carry_planes,
+    carry_words,
+};
 use std::alloc::{AllocError, Global};
 use std::process::Abort;
 
@@ -58,8 +61,9 @@ fn operated(
     b: u32,
     active: u32,
 ) -> Result<Made, AllocError> {
-    if active < code.planes && a < code.words && b < code.words {
-        let made = code.operate(op, WordId(a), WordId(b), PlaneId(active))?;
+    if 0 < active && active < code.planes && a < code.words && b < code.words {
+        let idle = code.combine(PlaneOperator::AndNot, EVERYWHERE, PlaneId(active))?;
+        let made = code.operate(op, WordId(a), WordId(b), idle, NOWHERE)?;
         return Ok(Made::Both(made.0, made.1));
     }
     Ok(Made::Nothing)
@@ -258,7 +262,7 @@ pub fn push_results(alloc: Global, asked: &str, said: &mut String) -> Result<(),
 // the places that they give. `~` is "and not", `?` chooses a plane, `l` is "at most", and `b`
 // chooses a word; behind the operands of an operator stands the plane of its lanes, and its faults
 // follow its results. Where what is asked is there already, no instruction is made; `^` first makes
-// a plane that is not the second one.
+// a plane that is not the second one, and an operator one of the lanes that are not its own.
 const CODES: &str = "\
 12 10 0 0 0 0 | & 2 3, | 2 3, ^ 2 3, ~ 2 3, ~ 3 2, ~ 1 2 => \
 7: 4=8 5=14 7=6 8=4 9=2 10=18446744073709551603
@@ -274,13 +278,13 @@ const CODES: &str = "\
 1 2 3 -4 5 7 | b 2 1 2, b 3 1 2, b 1 1 2, b 0 1 2, b 2 1 1 => \
 2: w3=3,7,0 w4=5,-4,0 w1=3,-4,0 w2=5,7,0 w1=3,-4,0
 3 1 2147483647 -7 1 2 | + 1 2 2, + 1 2 3, - 1 2 2, * 1 2 2, / 1 2 2, % 1 2 2 => \
-6: w3=0,-5,0 4=1 w4=0,0,0 5=1 w5=2147483646,-9,0 6=0 w6=2147483647,-14,0 7=0 w7=2147483647,-3,0 \
-8=0 w8=0,-1,0 9=0
+12: w3=0,-5,0 5=1 w4=0,0,0 7=1 w5=2147483646,-9,0 9=0 w6=2147483647,-14,0 11=0 \
+w7=2147483647,-3,0 13=0 w8=0,-1,0 15=0
 3 2 9 -2147483648 0 -1 | / 1 2 2, / 1 2 3, % 1 2 1, - 0 1 2 => \
-4: w3=0,0,0 4=3 w4=0,0,0 5=2 w5=0,0,0 6=18446744073709551615 w6=-9,0,0 7=2
+7: w3=0,0,0 5=3 w4=0,0,0 7=2 w5=0,0,0 8=18446744073709551615 w6=-9,0,0 10=2
 6 5 2 3 4 5 | p 2, w 1, p 0, w 0, & 4 3, + 3 2 1 => 6: 4=6 w3=2,3,0 5=0 w4=0,0,0 6=4 w5=6,8,0 7=0
-3 0 1 10 2 20 | + 1 2 2, + 3 3 2, < 2 4, & 6 2, b 6 4 0, | 4 5, p 6 => \
-7: w3=3,30,0 4=0 w4=6,60,0 5=0 6=3 7=3 w5=6,60,0 8=0 9=3";
+3 0 1 10 2 20 | + 1 2 2, + 3 3 2, < 2 4, & 8 2, b 8 4 0, | 5 7, p 8 => \
+9: w3=3,30,0 5=0 w4=6,60,0 7=0 8=3 9=3 w5=6,60,0 10=0 11=3";
 
 #[test]
 fn codes(rt: HostRuntime) -> Result<(), AllocError> {

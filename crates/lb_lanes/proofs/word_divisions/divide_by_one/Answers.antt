@@ -9,8 +9,9 @@ use Rattle.lb_lanes.proofs.word_divisions.divide_by_one.Goals as goal
 pub reciprocal-less-requires-clause-positive : goal.reciprocal-less-requires-clause-positive
 reciprocal-less-requires-clause-positive g c =
     subst (λ n. 0 < n)
-    (sym (abs_of c.args.divisor c.unsigned_abs.result c.cast_signed.result
-    (record { sfits = c.cast_signed.type_inv }) c.cast_signed.ensures c.unsigned_abs.ensures.value))
+    (sym (abs_of c.args.divisor c.unsigned_abs-size.result c.cast_signed.result
+    (record { sfits = c.cast_signed.type_inv }) c.cast_signed.ensures
+    c.unsigned_abs-size.ensures.value))
     (abs_positive (pos 0) _ (c.requires (pos 0)))
 
 pub loop-i-init : goal.loop-i-init
@@ -20,8 +21,9 @@ pub word_divided-quotient-requires-clause-reciprocal :
     goal.word_divided-quotient-requires-clause-reciprocal
 word_divided-quotient-requires-clause-reciprocal g c =
     subst (λ n. IsReciprocal n c.reciprocal-less.result.0 c.reciprocal-less.result.1)
-    (abs_of c.args.divisor c.unsigned_abs.result c.cast_signed.result
-    (record { sfits = c.cast_signed.type_inv }) c.cast_signed.ensures c.unsigned_abs.ensures.value)
+    (abs_of c.args.divisor c.unsigned_abs-size.result c.cast_signed.result
+    (record { sfits = c.cast_signed.type_inv }) c.cast_signed.ensures
+    c.unsigned_abs-size.ensures.value)
     c.reciprocal-less.ensures
 
 pub loop-i-preserved : goal.loop-i-preserved

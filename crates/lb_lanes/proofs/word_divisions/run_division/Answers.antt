@@ -1,6 +1,5 @@
-use Rattle.std.proofs.Common.{◌≡◌, ℕ, ◌<◌, true, ℤ, cond, ap, ◌∙◌, sym}
+use Rattle.std.proofs.Common.{◌≡◌, ℕ, ◌<◌, true, ℤ, ap, ◌∙◌, sym}
 use Rattle.std.proofs.Common.{w32, to_z}
-use Rattle.std.proofs.lemmas.Simd.{get_or-replicate}
 use Rattle.lb_lanes.specs.Kernels.{bits_lane}
 use Rattle.lb_lanes.specs.Operators.{can_divide}
 use Rattle.lb_lanes.specs.Planes.{on}
@@ -23,9 +22,7 @@ returns-in-Some g c =
     = λ i h e. ap (can_divide (a i)) (common i h e) ∙ c.in-Some.ensures.1 (a i) in
     record {
       values = λ i h.
-          c.blend.ensures i h
-          ∙ ap (cond (live i) (bits_lane c.divide_by_one.new.out i))
-          (ap (to_z w32) (get_or-replicate 64 i 0 0 h))
+          c.keep.ensures i h
           ∙ kept_common f (live i) (a i) (b i) (bits_lane c.divide_by_one.new.out i)
           (λ e. (c.divide_by_one.ensures i h ∙ ap (f (a i)) (sym (common i h e)), can i h e));
       fault_bits = λ i h. on-zero i ∙ faulty_common f (live i) (a i) (b i) (can i h);

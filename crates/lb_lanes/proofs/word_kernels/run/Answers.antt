@@ -1,26 +1,27 @@
-use Rattle.std.proofs.Common.{ap, ◌∙◌, sym, w32, to_z}
-use Rattle.std.proofs.lemmas.Simd.{get_or-replicate}
+use Rattle.std.proofs.Common.{ℕ, not, ◌&&◌, cond, pos, refl, ap, ◌∙◌}
+use Rattle.lb_lanes.specs.Kernels.{bits_lane}
+use Rattle.lb_lanes.specs.Operators.{is_int}
 use Rattle.lb_lanes.specs.Planes.{on}
-use Rattle.lb_lanes.proofs.OnPlanes.{on-zero}
-use Rattle.lb_lanes.proofs.LaneCases.{cleared}
+use Rattle.lb_lanes.proofs.LaneCases.{masked_kept, masked_faulty}
+use Rattle.lb_lanes.proofs.OnPlanes.{on-and, on-flip, flip}
 use Rattle.lb_lanes.proofs.word_kernels.run.Goals as goal
 
-pub returns-then-faults-ne0 : goal.returns-then-faults-ne0
-returns-then-faults-ne0 g c = record {
-  values = λ i h.
-      cleared (on c.run_wrapped-faults.result i) (on c.args.active i) _ _ _ _
-      (c.run_wrapped-faults.ensures.fault_bits i h) (c.blend.ensures i h)
-      (ap (to_z w32) (get_or-replicate 64 i 0 0 h))
-      (c.run_wrapped-faults.ensures.values i h);
-  fault_bits = λ i h. c.run_wrapped-faults.ensures.fault_bits i h;
-}
-
-pub returns-else-faults-ne0 : goal.returns-else-faults-ne0
-returns-else-faults-ne0 g c = record {
-  values = λ i h.
-      c.run_wrapped-faults.ensures.values i h
-      (sym (c.run_wrapped-faults.ensures.fault_bits i h)
-      ∙ ap (λ n. on n i) c.if-faults-ne0.false
-      ∙ on-zero i);
-  fault_bits = λ i h. c.run_wrapped-faults.ensures.fault_bits i h;
-}
+pub returns : goal.returns
+returns g c =
+    let active = c.args.active in
+    let beyond = c.run_wrapped-beyond.result in
+    let v = λ (i : ℕ). g.K.Wrapping.exact (bits_lane c.args.a.now i) (bits_lane c.args.b.now i) in
+    record {
+      values = λ i h.
+          c.keep.ensures i h
+          ∙ ap (λ t. cond t (bits_lane c.run_wrapped-beyond.new.out i) (pos 0))
+          (on-and active (flip beyond) i
+          ∙ ap (λ t. on active i && t) (on-flip beyond i c.run_wrapped-beyond.type_inv h
+          ∙ ap not (c.run_wrapped-beyond.ensures.beyond i h)))
+          ∙ masked_kept (on active i) (is_int (v i)) (v i)
+          (bits_lane c.run_wrapped-beyond.new.out i) refl (c.run_wrapped-beyond.ensures.values i h);
+      fault_bits = λ i h.
+          on-and active beyond i
+          ∙ ap (λ t. on active i && t) (c.run_wrapped-beyond.ensures.beyond i h)
+          ∙ masked_faulty (on active i) (is_int (v i)) (v i) refl;
+    }

@@ -1,4 +1,4 @@
-use Rattle.std.proofs.Common.{◌≡◌, ◌≢◌, ℕ, ◌==◌, ◌/◌, ◌*ℤ◌, ap, ◌∙◌, arith, refl}
+use Rattle.std.proofs.Common.{◌≡◌, ◌≢◌, ℕ, ◌==◌, ◌*ℤ◌, ap, ◌∙◌, arith, refl}
 use Rattle.std.proofs.Common.{not-suc-le-zero, below_more, set, get_or, w32, to_z, true}
 use Rattle.std.proofs.lemmas.List.{get_or-set_same, get_or-set_other}
 use Rattle.lb_lanes.specs.Kernels.{bits_lane}
@@ -16,7 +16,7 @@ pub loop-i-preserved : goal.loop-i-preserved
 loop-i-preserved c =
     let i = c.loop-i.i in
     let v = c.product-low.result.0 in
-    let u = c.product-low.result.1 / 4294967296 in
+    let u = c.product-low.result.1 in
     let lanes = c.loop-i.lanes in
     let beyond = c.loop-i.beyond in
     let exact = λ (k : ℕ). bits_lane c.args.lanes.now k *ℤ bits_lane c.args.by.now k in

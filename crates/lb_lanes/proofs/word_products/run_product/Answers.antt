@@ -1,10 +1,9 @@
-use Rattle.std.proofs.Common.{◌≡◌, ℕ, ◌<◌, ◌*ℤ◌, false, cond, ap, ◌∙◌, sym}
-use Rattle.lb_lanes.specs.Kernels.{bits_lane, kept, faulty}
-use Rattle.lb_lanes.specs.Operators.{lawful}
+use Rattle.std.proofs.Common.{◌≡◌, ℕ, ◌<◌, ◌*ℤ◌, true, cond, pos, ap, ◌∙◌, sym}
+use Rattle.lb_lanes.specs.Kernels.{bits_lane}
+use Rattle.lb_lanes.specs.Operators.{is_int}
 use Rattle.lb_lanes.specs.Planes.{on}
 use Rattle.lb_lanes.proofs.OnPlanes.{on-zero}
-use Rattle.lb_lanes.proofs.LaneCases.{one_masked}
-use Rattle.lb_lanes.proofs.WordArithmetic.{zero_word_at, zero_times}
+use Rattle.lb_lanes.proofs.LaneCases.{kept_lawful, faulty_lawful}
 use Rattle.lb_lanes.proofs.WordViews.{word_is_int}
 use Rattle.lb_lanes.proofs.word_products.run_product.Goals as goal
 
@@ -13,15 +12,13 @@ returns-then-multiply c =
     let live = λ (i : ℕ). on c.args.active i in
     let a = λ (i : ℕ). bits_lane c.args.a.now i in
     let b = λ (i : ℕ). bits_lane c.args.b.now i in
-    let out = c.multiply.new.lanes in
-    let each : (i : ℕ) → i < 64
-    → (bits_lane out i ≡ kept (live i) (lawful (a i *ℤ b i)))
-    × (faulty (live i) (lawful (a i *ℤ b i)) ≡ false)
-    = λ i h. one_masked (λ x y. x *ℤ y) (live i) (a i) (b i) (bits_lane out i)
-    (zero_times (b i)) (word_is_int _)
-    (c.multiply.ensures c.if-multiply.true i h
-    ∙ ap (λ v. v *ℤ b i) (c.blend.ensures i h ∙ ap (cond (live i) (a i)) (zero_word_at i h))) in
+    let exact : (i : ℕ) → i < 64 → bits_lane c.multiply.new.out i ≡ a i *ℤ b i
+    = c.multiply.ensures c.if-multiply.true in
+    let within : (i : ℕ) → i < 64 → is_int (a i *ℤ b i) ≡ true
+    = λ i h. ap is_int (sym (exact i h)) ∙ word_is_int _ in
     record {
-      values = λ i h. (each i h).0;
-      fault_bits = λ i h. on-zero i ∙ sym ((each i h).1);
+      values = λ i h.
+          c.keep.ensures i h ∙ ap (λ v. cond (live i) v (pos 0)) (exact i h)
+          ∙ sym (kept_lawful (live i) (a i *ℤ b i) (within i h));
+      fault_bits = λ i h. on-zero i ∙ sym (faulty_lawful (live i) (a i *ℤ b i) (within i h));
     }

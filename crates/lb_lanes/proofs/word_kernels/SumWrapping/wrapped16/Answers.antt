@@ -1,4 +1,4 @@
-use Rattle.std.proofs.Common.{ℕ, ◌+◌, ◌%◌, List, get_or, length, ◌≡◌, ◌<◌, ap, ap₂, ◌∙◌, refl, w32}
+use Rattle.std.proofs.Common.{ℕ, ◌+◌, ◌%◌, List, get_or, length, ◌≡◌, ◌<◌, ap, ap₂, ◌∙◌, w32}
 use Rattle.std.proofs.Common.{to_z}
 use lib.Bits.{bit_and, bit_xor}
 use lib.Lanes.{zip2}
@@ -38,6 +38,3 @@ returns-clause-look c i h =
     let y = c.args.y in
     ap (λ n. on n 31) (look_at x y i c.fits-x.0 c.fits-y.0 h)
     ∙ sum_look_is _ _ (word_fits x i c.fits-x h) (word_fits y i c.fits-y h)
-
-pub returns-clause-at_zero : goal.returns-clause-at_zero
-returns-clause-at_zero c = refl

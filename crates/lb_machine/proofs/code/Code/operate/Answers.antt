@@ -9,7 +9,8 @@ pub invariant_of-self-2 : goal.invariant_of-self-2
 invariant_of-self-2 c =
     let before = c.args.self.now in
     let i : Instruction =
-    Operate c.args.op c.args.a c.args.b c.args.active c.in_ok-out.out c.in_ok-faults.faults in
+    Operate c.args.op c.args.a c.args.b c.args.idle c.args.bad c.in_ok-out.out
+    c.in_ok-faults.faults in
     record {
       straight =
           subst
@@ -21,7 +22,8 @@ invariant_of-self-2 c =
           before.planes before.words i before.straight (
             c.requires.left,
             c.requires.right,
-            c.requires.active,
+            c.requires.idle,
+            c.requires.bad,
             c.in_ok-out.ensures.0,
             c.in_ok-faults.ensures.0,
           ) (before.planes + 1) (before.words + 1) (omega arith) (omega arith));
@@ -34,7 +36,8 @@ invariant_of-self-2 c =
 pub returns-clause-grown : goal.returns-clause-grown
 returns-clause-grown c =
     let i : Instruction =
-    Operate c.args.op c.args.a c.args.b c.args.active c.in_ok-out.out c.in_ok-faults.faults in
+    Operate c.args.op c.args.a c.args.b c.args.idle c.args.bad c.in_ok-out.out
+    c.in_ok-faults.faults in
     record {
       first_plane = refl;
       first_word = refl;
@@ -47,7 +50,8 @@ returns-clause-grown c =
 pub returns-clause-results : goal.returns-clause-results
 returns-clause-results c =
     let i : Instruction =
-    Operate c.args.op c.args.a c.args.b c.args.active c.in_ok-out.out c.in_ok-faults.faults in
+    Operate c.args.op c.args.a c.args.b c.args.idle c.args.bad c.in_ok-out.out
+    c.in_ok-faults.faults in
     let is = c.args.self.now.instructions.items in
     record {
       word_within = omega (arith, c.in_ok-out.ensures.0);
