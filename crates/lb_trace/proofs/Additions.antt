@@ -1,8 +1,7 @@
 -- One more record, by its parts.
-use Rattle.std.proofs.Common.{ℕ, ◌≡◌, ◌≢◌, Bool, true, false, ◌&&◌, ◌||◌, ◌==◌, not}
+use Rattle.std.proofs.Common.{ℕ, ◌≡◌, Bool, true, false, ◌&&◌, ◌||◌, ◌==◌, not}
 use Rattle.std.proofs.Common.{if◌then◌else◌, List, [], ◌∷◌, ◌++◌, length, Option, Some, None}
 use Rattle.std.proofs.Common.{Result, Err, refl, sym, ap, ◌∙◌, eq-eqb}
-use Rattle.std.proofs.lemmas.Bool.{eqb-true, false_from_ne_true}
 use Rattle.std.proofs.lemmas.List.Folds.{list_any-append}
 use Rattle.std.specs.List.{All, list_any}
 use Rattle.std.specs.Str.{bytes_eq}
@@ -25,19 +24,6 @@ pub record_by-none : (elements : Elements) (table : List Column) (width : ℕ) (
 unfolding field_at
 record_by-none elements table width traces [] missing = refl
 record_by-none elements table width traces (name ∷ cells) missing = cc missing
-
--- a record of another length
-pub record_by-length : (elements : Elements) (table : List Column) (width : ℕ) (traces : Traces)
-    (fields : Record) (name : List ℕ)
-    → field_at fields 0 ≡ Some name → length (after_first fields) ≢ width
-    → record_by elements table width traces fields ≡ Err 15
-unfolding field_at
-record_by-length elements table width traces [] name found other = cc found
-record_by-length elements table width traces (first ∷ cells) name found other =
-    let no : (length cells == width)
-    ≡ false = false_from_ne_true (length cells == width)
-    (λ same. other (eqb-true (length cells) width same)) in
-    rw no refl
 
 go_on_cells : (elements : Elements) (name : List ℕ) (traces : Traces) (row : Option Row)
     → is_last name traces ≡ true

@@ -84,7 +84,7 @@ digits-before (x ∷ xs) = by (is_ascii_digit x) refl (digits-before xs)
     by false e more = rw e refl
 
 -- the digits at the front of some bytes, of which one is no digit
-front-counted : (xs : List ℕ) (count : ℕ) → length xs ≤ 64 → 0 < others xs
+pub front-counted : (xs : List ℕ) (count : ℕ) → length xs ≤ 64 → 0 < others xs
     → count ≡ count_trailing_zeros 64 (others xs)
     → (count < length xs) × (list_all is_ascii_digit (take count xs) ≡ true)
 front-counted xs count few some is =

@@ -1,7 +1,8 @@
 -- Eight digits as the bytes of a number, and the number that they spell.
 use Rattle.std.proofs.Common.{ℕ, zero, suc, ◌≡◌, ◌+◌, ◌-◌, ◌*◌, ◌/◌, ◌%◌, ◌<◌, ◌≤◌, ◌^◌, true}
 use Rattle.std.proofs.Common.{List, [], ◌∷◌, ◌++◌, length, get_or, map, take, replicate, All, Fits}
-use Rattle.std.proofs.Common.{drop, pow-suc, w8, w64, refl, sym, ap, ◌∙◌, subst, arith}
+use Rattle.std.proofs.Common.{drop, pow-suc, w8, w64, refl, sym, ap, ap₂, ◌∙◌, subst, arith}
+use Rattle.std.proofs.lemmas.Nat.{and_block, and_mask}
 use Rattle.std.proofs.Math.Nat.{mul-le-mul_right}
 use Rattle.std.proofs.lemmas.List.{length-take-le, get_or-take}
 use Rattle.std.proofs.lemmas.List.Elements.{All-append, All-from_get_or, All-map, All-replicate}
@@ -9,6 +10,7 @@ use Rattle.std.proofs.lemmas.List.Folds.{fold-map}
 use Rattle.std.specs.Int.{from_le_bytes}
 use Rattle.std.specs.Char.{is_ascii_digit}
 use Rattle.std.specs.List.{fold, list_all}
+use lib.Bits.{bit_and}
 use lib.Lanes.{number_l}
 use Rattle.lb_trace.specs.Cells.{decimal}
 use Rattle.lb_trace.specs.Fronts.{bytes_of, joined, lone, number_of}
@@ -32,27 +34,67 @@ bytes-eight a b c d e f g h x is la lb lc ld le lf lg lh =
     let ph : x / 256 / 256 / 256 / 256 / 256 / 256 / 256 % 256 ≡ h = omega arith in
     λ i. pa i ∷ pb i ∷ pc i ∷ pd i ∷ pe i ∷ pf i ∷ pg i ∷ ph i ∷ []
 
+-- the bytes 0 and 4 of a number
+pair-bytes : (y : ℕ) → bit_and y 1095216660735 ≡ y % 256 + y / 4294967296 % 256 * 4294967296
+pair-bytes y =
+    let upper : ℕ = y / 4294967296 in
+    let lower : ℕ = y % 4294967296 in
+    let whole : y ≡ upper * 2 ^ 32 + lower = omega arith in
+    ap (λ n. bit_and n 1095216660735) whole
+    ∙ and_block 32 upper 255 lower 255 (omega arith) (omega arith)
+    ∙ ap₂ (λ a b. a * 2 ^ 32 + b) (and_mask upper 8) (and_mask lower 8)
+    ∙ omega arith
+
+-- four pairs of digits by two products, the sum of which stands from bit 32 on
+pair-sums : (y p q r s : ℕ) → y % 256 ≡ p → y / 65536 % 256 ≡ q → y / 4294967296 % 256 ≡ r
+    → y / 281474976710656 % 256 ≡ s → p < 100 → q < 100 → r < 100 → s < 100
+    → (bit_and y 1095216660735 * 4294967296000100 % 2 ^ 64
+    + bit_and (y / 65536) 1095216660735 * 42949672960001 % 2 ^ 64 < 2 ^ 64)
+    × ((bit_and y 1095216660735 * 4294967296000100 % 2 ^ 64
+    + bit_and (y / 65536) 1095216660735 * 42949672960001 % 2 ^ 64) / 4294967296
+    ≡ p * 1000000 + q * 10000 + r * 100 + s)
+pair-sums y p q r s ep eq er es lp lq lr ls =
+    let outer : bit_and y 1095216660735 ≡ p + r * 4294967296 =
+    omega (arith, pair-bytes y, ep, er) in
+    let inner : bit_and (y / 65536) 1095216660735 ≡ q + s * 4294967296 =
+    omega (arith, pair-bytes (y / 65536), eq, es) in
+    let one : bit_and y 1095216660735 * 4294967296000100 % 18446744073709551616
+    ≡ p * 100 + (p * 1000000 + r * 100) * 4294967296 = omega (arith, outer, lp, lr) in
+    let two : bit_and (y / 65536) 1095216660735 * 42949672960001 % 18446744073709551616
+    ≡ q + (q * 10000 + s) * 4294967296 = omega (arith, inner, lq, ls) in (
+      omega (arith, one, two, lp, lq, lr, ls),
+      omega (arith, one, two, lp, lq, lr, ls),
+    )
+
+-- what the two products are made of
+abbrev pub outer_of : ℕ → ℕ
+outer_of y = bit_and y 1095216660735 * 4294967296000100 % 2 ^ 64
+
+abbrev pub inner_of : ℕ → ℕ
+inner_of y = bit_and (y / 65536) 1095216660735 * 42949672960001 % 2 ^ 64
+
 -- the number of eight digits is found by pairs
 eight-joined : (x a b c d e f g h y : ℕ)
     → x ≡ a + 256 * (b + 256 * (c + 256 * (d + 256 * (e + 256 * (f + 256 * (g + 256 * h))))))
     → a < 10 → b < 10 → c < 10 → d < 10 → e < 10 → f < 10 → g < 10 → h < 10
     → y ≡ x * 10 + x / 256
-    → y % 256 * 1000000 + y / 65536 % 256 * 10000 + y / 4294967296 % 256 * 100
-    + y / 281474976710656 % 256
-    ≡ joined (a ∷ b ∷ c ∷ d ∷ e ∷ f ∷ g ∷ h ∷ [])
+    → (outer_of y + inner_of y < 2 ^ 64)
+    × ((outer_of y + inner_of y) / 4294967296 ≡ joined (a ∷ b ∷ c ∷ d ∷ e ∷ f ∷ g ∷ h ∷ []))
 unfolding joined
 eight-joined x a b c d e f g h y is la lb lc ld le lf lg lh sum =
     let p : y % 256 ≡ a * 10 + b = omega arith in
     let q : y / 65536 % 256 ≡ c * 10 + d = omega arith in
     let r : y / 4294967296 % 256 ≡ e * 10 + f = omega arith in
     let s : y / 281474976710656 % 256 ≡ g * 10 + h = omega arith in
-    omega (arith, p, q, r, s)
+    let both = pair-sums y (a * 10 + b) (c * 10 + d) (e * 10 + f) (g * 10 + h) p q r s
+    (omega arith) (omega arith) (omega arith) (omega arith) in
+    (both.0, both.1 ∙ omega arith)
 
 -- the pairs of a number whose bytes are digits
 pub pairs-joined : (x : ℕ) → x < 2 ^ 64 → All (λ digit. digit < 10) (bytes_of x)
     → (x * 10 + x / 256 < 2 ^ 64)
-    × ((x * 10 + x / 256) % 256 * 1000000 + (x * 10 + x / 256) / 65536 % 256 * 10000
-    + (x * 10 + x / 256) / 4294967296 % 256 * 100 + (x * 10 + x / 256) / 281474976710656 % 256
+    × (outer_of (x * 10 + x / 256) + inner_of (x * 10 + x / 256) < 2 ^ 64)
+    × ((outer_of (x * 10 + x / 256) + inner_of (x * 10 + x / 256)) / 4294967296
     ≡ joined (bytes_of x))
 unfolding bytes_of
 pairs-joined x fits small =
@@ -74,10 +116,9 @@ pairs-joined x fits small =
     let lh : h < 10 = small 7 0 (omega arith) in
     let is : x ≡ a
     + 256 * (b + 256 * (c + 256 * (d + 256 * (e + 256 * (f + 256 * (g + 256 * h)))))) =
-    omega (arith, fits) in (
-      omega (arith, is, la, lb, lc, ld, le, lf, lg, lh),
-      eight-joined x a b c d e f g h (x * 10 + x / 256) is la lb lc ld le lf lg lh refl,
-    )
+    omega (arith, fits) in
+    let both = eight-joined x a b c d e f g h (x * 10 + x / 256) is la lb lc ld le lf lg lh refl
+    in (omega (arith, is, la, lb, lc, ld, le, lf, lg, lh), both.0, both.1)
 
 abbrev zeros : ℕ
 zeros = 3472328296227680304

@@ -1,11 +1,10 @@
 -- The instants of traces that are put together.
 use Rattle.std.proofs.Common.{ℕ, suc, ◌≡◌, ◌+◌, ◌-◌, ◌*◌, ◌<◌, Bool, true, false, not, ◌||◌, ◌&&◌}
-use Rattle.std.proofs.Common.{if◌then◌else◌, List, [], ◌∷◌, ◌++◌, length, get_or, map, take, drop}
+use Rattle.std.proofs.Common.{if◌then◌else◌, List, [], ◌∷◌, ◌++◌, length, get_or, map, drop}
 use Rattle.std.proofs.Common.{Some}
 use Rattle.std.proofs.Common.{Result, Ok, Err, refl, sym, ap, ◌∙◌, subst, append_assoc, arith}
 use Rattle.std.proofs.Common.{nat_le, nat_lt}
-use Rattle.std.proofs.lemmas.List.{append-nil, map-append, take_more}
-use Rattle.std.proofs.lemmas.Grind.{flat_map-append}
+use Rattle.std.proofs.lemmas.List.{append-nil, map-append}
 use Rattle.std.specs.Prelude.{flat_map}
 use Rattle.std.specs.List.{All, list_any}
 use Rattle.std.specs.Str.{bytes_eq}
@@ -142,21 +141,6 @@ trace-whole name before first after (row ∷ rows) some one others =
     let f : Row → Instant = λ r. (name, r) in
     others ∙ ap (λ is. is ++ map f rows) one
     ∙ append_assoc before ((name, row) ∷ []) (map f rows)
-
--- one more trace
-pub traces-more : (traces : Traces) (before after next : List Instant) (k : ℕ)
-    → k < length traces → after ≡ before ++ instants (take k traces)
-    → next ≡ after ++ map (λ row. ((trace_at traces k).0, row)) (trace_at traces k).1
-    → next ≡ before ++ instants (take (k + 1) traces)
-traces-more traces before after next k below so_far more =
-    let rows_in : Trace → List Instant = λ t. map (λ (row : Row). (t.0, row)) t.1 in
-    let one : List Instant = rows_in (trace_at traces k) in
-    more ∙ ap (λ is. is ++ one) so_far
-    ∙ append_assoc before (instants (take k traces)) one
-    ∙ ap (λ is. before ++ (instants (take k traces) ++ is)) (sym (append-nil one))
-    ∙ ap (λ is. before ++ is)
-    (sym (flat_map-append rows_in (take k traces) (trace_at traces k ∷ [])))
-    ∙ ap (λ ts. before ++ instants ts) (sym (take_more traces k ([], []) below))
 
 -- the first part, and the others
 pub parts-whole : (parts rest : List Recorder) (first : Recorder) (all : List Instant)

@@ -30,3 +30,4 @@ pub mod JoinedDigits
 pub mod TruthBits
 pub mod TruthRows
 pub mod Nexts
+pub mod FoundNumbers

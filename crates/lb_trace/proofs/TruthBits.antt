@@ -177,15 +177,6 @@ bits-found text count past truths ones few long is truths_are full ones_are =
     subst (λ n. HasBits text count (n % past)) (sym ones_are)
     (bits-in text count past few long is (subst (λ n. n % past ≡ past - 1) truths_are full))
 
-pub no-bits : (text : List ℕ) → HasBits text 0 0
-no-bits text = record {
-  within = omega arith;
-  digits = λ k l. absurd (omega (arith, l));
-  inner = λ k l. absurd (omega (arith, l));
-  bits_are = λ k l. absurd (omega (arith, l));
-  small = omega arith;
-}
-
 pub bits-fit : (bits group done more : ℕ) → bits < 2 ^ done → group < 2 ^ more → done + more ≤ 64
     → (group * 2 ^ done % 2 ^ 64 ≡ group * 2 ^ done)
     × (bits + group * 2 ^ done < 2 ^ (done + more)) × (bits + group * 2 ^ done < 2 ^ 64)

@@ -40,7 +40,8 @@ one-goes_on column columns text long bool is =
       after-more column.kind text (drop 2 text) (truth_at text 0) false begins refl,
     )
 
-both-go_on : (ks ls ms : List Column) (text rest last : List ℕ) (vs ws : List ℤ)
+-- some cells, and then others
+pub both-go_on : (ks ls ms : List Column) (text rest last : List ℕ) (vs ws : List ℤ)
     → GoesOn ks text vs ls rest → GoesOn ls rest ws ms last → GoesOn ks text (vs ++ ws) ms last
 both-go_on ks ls ms text rest last vs ws one two = (
   λ row. one.0 row ∙ two.0 (row ++ vs)
@@ -132,17 +133,17 @@ four-read columns p q r s text x y z w more long kp kq kr ks are ex ey ez ew =
     )
 
 -- the same of the columns from one on, with the values after a row
-pub goes-on-from : (columns some : List Column) (i : ℕ) (text rest : List ℕ)
-    (values row next : List ℤ) → some ≡ drop i columns → rest ≡ drop 8 text
-    → next ≡ row ++ values → GoesOn some text values (drop 4 some) (drop 8 text)
+pub goes-on-from : (columns some : List Column) (i : ℕ) (text rest further : List ℕ)
+    (values row next : List ℤ) → some ≡ drop i columns → rest ≡ further
+    → next ≡ row ++ values → GoesOn some text values (drop 4 some) further
     → (onto row (plain_row (drop i columns) (record_of text))
     ≡ onto next (plain_row (drop (i + 4) columns) (record_of rest)))
     × (after_line text ≡ after_line rest)
-goes-on-from columns some i text rest values row next is past added on =
+goes-on-from columns some i text rest further values row next is past added on =
     let left : drop 4 some ≡ drop (i + 4) columns = ap (drop 4) is ∙ drop-drop 4 i columns in (
       ap (λ ks. onto row (plain_row ks (record_of text))) (sym is) ∙ on.0 row
-          ∙ ap (λ r. onto r (plain_row (drop 4 some) (record_of (drop 8 text)))) (sym added)
-          ∙ ap (λ ks. onto next (plain_row ks (record_of (drop 8 text)))) left
+          ∙ ap (λ r. onto r (plain_row (drop 4 some) (record_of further))) (sym added)
+          ∙ ap (λ ks. onto next (plain_row ks (record_of further))) left
           ∙ ap (λ t. onto next (plain_row (drop (i + 4) columns) (record_of t))) (sym past),
       on.1 ∙ ap after_line (sym past),
     )

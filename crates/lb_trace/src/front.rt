@@ -85,6 +85,15 @@ fn first_eight(text: &[u8]) -> u64
     ])
 }
 
+// The bytes 0 and 4 of a number.
+const PAIRS: u64 = 0x0000_00FF_0000_00FF;
+
+// What two pairs of digits at these bytes count, where the sum stands from bit 32 on: the first and
+// the third pair of four, and the second and the fourth.
+const OUTER: u64 = 0x000F_4240_0000_0064;
+
+const INNER: u64 = 0x0000_2710_0000_0001;
+
 // The number of eight digits, which are the bytes of a number, the first one the lowest.
 #[inline(always)]
 fn joined(digits: u64) -> u32
@@ -92,9 +101,7 @@ fn joined(digits: u64) -> u32
     ensures { result ≡ joined (bytes_of digits) }
 {
     let pairs = digits * 10 + digits / 0x100;
-    let first = pairs % 0x100;
-    let second = pairs / 0x1_0000 % 0x100;
-    let third = pairs / 0x1_0000_0000 % 0x100;
-    let fourth = pairs / 0x1_0000_0000_0000 % 0x100;
-    (first * 1_000_000 + second * 10_000 + third * 100 + fourth) as u32
+    let outer = (pairs & PAIRS).wrapping_mul(OUTER);
+    let inner = (pairs / 0x1_0000 & PAIRS).wrapping_mul(INNER);
+    ((outer + inner) / 0x1_0000_0000) as u32
 }

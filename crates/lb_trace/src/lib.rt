@@ -12,6 +12,7 @@ mod header;
 mod joined;
 mod known;
 mod named;
+mod numbers;
 mod parts;
 mod placed_rows;
 mod plain;

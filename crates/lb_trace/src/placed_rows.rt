@@ -68,9 +68,21 @@ fn take_places(columns: &[Column], values: &[i32], row: &mut Vec<i32>) -> Result
     ensures { OnOk result
         (row.new.items ≡ map (λ column. get_or values.now column.at (pos 0)) columns.now) }
 {
-    row.clear();
-    for column in columns {
-        row.push(values[column.at])?;
+    if row.len() != columns.len() {
+        row.clear();
+        row.resize(columns.len(), 0)?;
     }
+    fill_places(columns, values, row.as_mut_slice());
     Ok(())
+}
+
+// Takes them into a row that has a cell for each column.
+fn fill_places(columns: &[Column], values: &[i32], row: &mut [i32])
+    requires within { All (λ column. column.at < length values.now) columns.now }
+    requires room { length row.old ≡ length columns.now }
+    ensures { row.new ≡ map (λ column. get_or values.now column.at (pos 0)) columns.now }
+{
+    for (i, column) in columns.iter().enumerate() {
+        row[i] = values[column.at];
+    }
 }

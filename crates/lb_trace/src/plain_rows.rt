@@ -8,6 +8,7 @@ ghost use Rattle.lb_trace.specs.Scan.{cell_of};
 
 use crate::cells::cell_value;
 use crate::header::Column;
+use crate::numbers::{cell_at, four_numbers, others_in};
 use crate::scan::next_cell;
 use crate::small::{Value, small_cell};
 use crate::truths::four_cells;
@@ -30,10 +31,16 @@ pub(crate) fn read_line<'t>(
     row.clear();
     let mut rest = text;
     let mut i = 0;
-    while columns.len() - i > 1 {
+    while columns.len() - i > 4 {
         if let Some(values) = four_cells(&columns[i..], rest) {
             row.extend_from_slice(&values)?;
             rest = &rest[8..];
+            i += 4;
+            continue;
+        }
+        if let Some(numbers) = four_numbers(&columns[i..], rest) {
+            row.extend_from_slice(&numbers.values)?;
+            rest = numbers.rest;
             i += 4;
             continue;
         }
@@ -47,10 +54,45 @@ pub(crate) fn read_line<'t>(
         }
         rest = cell.rest;
     }
-    other_row(&columns[i..], rest, row)
+    last_numbers(&columns[i..], rest, row)
 }
 
-// The same for the last cell, and for cells of any length, after the values that `row` has already.
+// The same for the last few cells, after the values that `row` has already; from the first on that
+// is no short number they are left to `other_row`.
+#[inline(always)]
+fn last_numbers<'t>(
+    columns: &[Column],
+    text: &'t [u8],
+    row: &mut Vec<i32>,
+) -> Result<Option<&'t [u8]>, AllocError>
+    ensures { IfOk result (λ after. MatchOption after
+        (onto row.old.items (plain_row columns.now (record_of text.now)) ≡ None)
+        (λ rest. (onto row.old.items (plain_row columns.now (record_of text.now))
+        ≡ Some row.new.items)
+        × (rest.now ≡ after_line text.now))) }
+{
+    if text.len() < 64 {
+        return other_row(columns, text, row);
+    }
+    let stops = others_in(text);
+    let mut at = 0;
+    for (i, column) in columns.iter().enumerate() {
+        let Some(cell) = cell_at(column.kind, text, stops, at, i + 1 < columns.len()) else {
+            return other_row(&columns[i..], &text[at..], row);
+        };
+        row.push(cell.value)?;
+        at = cell.end;
+        if cell.is_last {
+            if i + 1 != columns.len() {
+                return Ok(None);
+            }
+            return Ok(Some(&text[at..]));
+        }
+    }
+    Ok(None)
+}
+
+// The same for cells of any length, after the values that `row` has already.
 // It stays a call, so that the loop over inner cells keeps what it has in registers.
 #[inline(never)]
 fn other_row<'t>(

@@ -22,7 +22,7 @@ use crate::copied::copy_record;
 use crate::error::TraceError;
 use crate::header::Column;
 use crate::known::Known;
-use crate::named::name_of;
+use crate::named::{Named, name_of};
 use crate::placed_rows::read_cells;
 use crate::record::width;
 use crate::rows::read_row;
@@ -274,7 +274,7 @@ impl Recorder {
         if name.is_same && table.are_truths {
             return self.add_truths(alloc, table, text, name.cell, number);
         }
-        self.add_cells(alloc, table, text, name.cell, number)
+        self.add_cells(alloc, table, text, name, number)
     }
 
     // The same of a record of the last trace with this name, by a table of Booleans alone.
@@ -311,7 +311,11 @@ impl Recorder {
             table.now.columns.items table.now.count self.old.rows.traces (record_of text.now))) }
     {
         let Some(truths) = read_truths(name.rest, table.count) else {
-            return self.add_cells(alloc, table, text, name, number);
+            let same = Named {
+                cell: name,
+                is_same: true,
+            };
+            return self.add_cells(alloc, table, text, same, number);
         };
         push_bits_to(&mut self.rows, truths.bits, number)?;
         Ok(Some(truths.rest))
@@ -323,7 +327,7 @@ impl Recorder {
         alloc: Global,
         table: &Table,
         text: &[u8],
-        name: Cell<'t>,
+        name: Named<'t>,
         number: u64,
     ) -> Result<Option<&'t [u8]>, TraceError>
         requires names { knows self.old.names self.old.rows.traces }
@@ -335,7 +339,8 @@ impl Recorder {
         requires placed { IsTrue table.now.is_placed
             → (length table.now.placed.items ≡ table.now.count)
             × ArePlaced table.now.placed.items table.now.columns.items }
-        requires first { HasName text.now name.bytes.now name.rest.now }
+        requires first { HasName text.now name.cell.bytes.now name.cell.rest.now }
+        requires same { name.is_same ≡ is_last name.cell.bytes.now self.old.rows.traces }
         ensures ok { IfOk result (λ found. IfSome found (λ rest.
             record_by self.old.rows.signature table.now.columns.items table.now.count
             self.old.rows.traces (record_of text.now) ≡ Ok self.new.rows.traces)) }
@@ -348,13 +353,13 @@ impl Recorder {
         ensures err { IfErr result (IsRefusal (record_by self.old.rows.signature
             table.now.columns.items table.now.count self.old.rows.traces (record_of text.now))) }
     {
-        let Ok(line) = read_cells(table, name.rest, &mut self.values, &mut self.row) else {
+        let Ok(line) = read_cells(table, name.cell.rest, &mut self.values, &mut self.row) else {
             return Err(TraceError::Memory(AllocError));
         };
         let Some(rest) = line else {
             return Ok(None);
         };
-        self.add_read(alloc, name.bytes, number)?;
+        self.add_named(alloc, name.cell.bytes, name.is_same, number)?;
         Ok(Some(rest))
     }
 
@@ -377,7 +382,32 @@ impl Recorder {
             (add_by self.old.rows.signature name.now self.old.rows.traces
             (Some self.old.row.items))) }
     {
-        if is_last(self.rows.set(), name) {
+        let is_same = is_last(self.rows.set(), name);
+        self.add_named(alloc, name, is_same, number)
+    }
+
+    // The same where it is known whether the last trace has the name.
+    fn add_named(
+        &mut self,
+        alloc: Global,
+        name: &[u8],
+        is_same: bool,
+        number: u64,
+    ) -> Result<(), TraceError>
+        requires names { knows self.old.names self.old.rows.traces }
+        requires lawful { IsRecording self.old.rows }
+        requires same { is_same ≡ is_last name.now self.old.rows.traces }
+        requires row { IsRow self.old.rows.signature self.old.row.items }
+        ensures ok { OnOk result
+            (add_by self.old.rows.signature name.now self.old.rows.traces
+            (Some self.old.row.items) ≡ Ok self.new.rows.traces) }
+        ensures names { OnOk result (knows self.new.names self.new.rows.traces) }
+        ensures signature { OnOk result (self.new.rows.signature ≡ self.old.rows.signature) }
+        ensures err { IfErr result (IsRefusal
+            (add_by self.old.rows.signature name.now self.old.rows.traces
+            (Some self.old.row.items))) }
+    {
+        if is_same {
             self.push_row(number)
         } else {
             self.start_row(alloc, name, number)

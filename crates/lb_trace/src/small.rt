@@ -40,9 +40,10 @@ pub(crate) fn small_cell<'t>(kind: Kind, text: &'t [u8], inner: bool) -> Option<
     }
 }
 
-// Whether the record ends too before a byte that ends the cell; None says nothing of the byte.
+/// Whether the record ends too before a byte that ends the cell, an `inner` one with a comma; None
+/// says nothing of the byte.
 #[inline(always)]
-fn cell_end(b: u8, inner: bool) -> Option<bool>
+pub(crate) fn cell_end(b: u8, inner: bool) -> Option<bool>
     ensures { IfSome result (λ last. (ends_cell b ≡ true) × (last ≡ ends_line b)) }
 {
     if b == b',' {
@@ -79,8 +80,9 @@ fn after_sign<'t>(is_negative: bool, text: &'t [u8], rest: &'t [u8]) -> &'t [u8]
     if is_negative { rest } else { text }
 }
 
+/// A number after its sign, if it has one.
 #[inline(always)]
-fn signed(is_negative: bool, n: u32) -> i32
+pub(crate) fn signed(is_negative: bool, n: u32) -> i32
     requires { n < 1000000000 }
     ensures { signed is_negative n ≡ Some result }
 {

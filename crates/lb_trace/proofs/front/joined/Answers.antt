@@ -10,5 +10,13 @@ pub overflow_add-pairs : goal.overflow_add-pairs
 overflow_add-pairs c =
     omega (arith, (pairs-joined c.args.digits c.ranges.digits.fits c.requires).0)
 
+pub overflow_add-result : goal.overflow_add-result
+overflow_add-result c =
+    omega (arith, (pairs-joined c.args.digits c.ranges.digits.fits c.requires).1)
+
 pub returns : goal.returns
-returns c = (pairs-joined c.args.digits c.ranges.digits.fits c.requires).1
+returns c = (pairs-joined c.args.digits c.ranges.digits.fits c.requires).2
+
+pub overflow_cast-result : goal.overflow_cast-result
+overflow_cast-result c =
+    omega (arith, (pairs-joined c.args.digits c.ranges.digits.fits c.requires).1)

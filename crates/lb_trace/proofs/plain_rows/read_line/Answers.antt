@@ -11,7 +11,8 @@ use Rattle.lb_trace.proofs.plain_rows.read_line.Goals as goal
 pub loop-i-preserved-in-Some : goal.loop-i-preserved-in-Some
 loop-i-preserved-in-Some c =
     let four = c.in-Some.ensures in
-    let on = goes-on-from c.args.columns.now _ c.loop-i.i c.loop-i.rest.now _ _ c.loop-i.row.items _
+    let on = goes-on-from c.args.columns.now _ c.loop-i.i c.loop-i.rest.now _ _ _
+    c.loop-i.row.items _
     (take_rest c.args.columns.now c.loop-i.i) (take_rest c.loop-i.rest.now 8)
     c.in_ok-extend_from_slice.ensures.items four.2 in
     record {
@@ -20,6 +21,22 @@ loop-i-preserved-in-Some c =
       within =
           let some = subst (λ (ks : List Column). 3 < length ks)
           (take_rest c.args.columns.now c.loop-i.i) four.1 in
+          omega (arith, some, length-drop c.loop-i.i c.args.columns.now);
+    }
+
+pub loop-i-preserved-in-Some-four_numbers : goal.loop-i-preserved-in-Some-four_numbers
+loop-i-preserved-in-Some-four_numbers c =
+    let numbers = c.in-Some-four_numbers.ensures in
+    let on = goes-on-from c.args.columns.now _ c.loop-i.i c.loop-i.rest.now _ _ _
+    c.loop-i.row.items _
+    (take_rest c.args.columns.now c.loop-i.i) refl c.in_ok-extend_from_slice-2.ensures.items
+    numbers.1 in
+    record {
+      cells = c.loop-i.invariant.cells ∙ on.0;
+      after = c.loop-i.invariant.after ∙ on.1;
+      within =
+          let some = subst (λ (ks : List Column). 3 < length ks)
+          (take_rest c.args.columns.now c.loop-i.i) numbers.0 in
           omega (arith, some, length-drop c.loop-i.i c.args.columns.now);
     }
 

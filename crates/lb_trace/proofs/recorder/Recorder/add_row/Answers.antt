@@ -22,3 +22,10 @@ add_cells-requires-clause-first c =
     let cell = c.name_of-name.result.cell in
     has-name c.args.text.now cell.bytes.now cell.rest.now cell.is_last
     c.name_of-name.ensures.cells c.name_of-name.ensures.after c.if-name.false
+
+pub add_cells-requires-clause-same : goal.add_cells-requires-clause-same
+add_cells-requires-clause-same c =
+    let cell = c.name_of-name.result.cell in
+    subst
+    (λ (r : Recording). c.name_of-name.result.is_same ≡ is_last cell.bytes.now r.traces)
+    c.set.ensures c.name_of-name.ensures.same

@@ -44,3 +44,6 @@ returns-clause-names c =
     go_on_by-knows c.args.self.now.names elements c.args.self.now.rows.traces _
     (Some (row_of_bits (length elements) c.in-Some.truths.bits)) c.in_ok-push_bits_to.ensures.ok
     c.requires.names
+
+pub add_cells-requires-clause-same : goal.add_cells-requires-clause-same
+add_cells-requires-clause-same c = sym c.requires.next.same
