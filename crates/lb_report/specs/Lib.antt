@@ -6,3 +6,4 @@ pub mod Bench
 pub mod Correct
 pub mod AcceptedPrograms
 pub mod Readings
+pub mod Ranges

@@ -34,7 +34,7 @@ use lb_syntax::{Source, parse};
 use lb_trace::{TraceError, read_chunks, read_traces_by};
 use std::alloc::{AllocError, Global};
 use std::rt::Runtime;
-use std::thread::Threads;
+use std::thread::{Threads, join};
 
 /// A program that keeps all rules: its signature is that of its traces, its equations run.
 #[derive(Drop)]
@@ -167,8 +167,18 @@ fn bench_chunks_in<R: Threads + Sync>(
     ensures refused { IfErr result (IsRefused source.now (text_of chunks.items) options.now) }
 {
     let program = accept(alloc, source, options)?;
-    let read = read_chunks(rt, alloc, &program.signature, chunks, options.workers);
-    report_on(rt, alloc, &program, read, options)
+    let mut left = chunks;
+    let read = read_chunks(rt, alloc, &program.signature, &mut left, options.workers);
+    if left.is_empty() {
+        return report_on(rt, alloc, &program, read, options);
+    }
+    // A text takes a while to let go of: its traces are judged meanwhile.
+    let (_, report) = join(
+        rt,
+        move || drop(left),
+        || report_on(rt, alloc, &program, read, options),
+    );
+    report
 }
 
 /// Runs a node of a source over the traces of a text, and reports the verdict of each.

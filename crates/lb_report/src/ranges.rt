@@ -5,6 +5,10 @@
 //! range  0 ................ | 1 ........    each but the last ends with a line
 //! ```
 
+ghost use Rattle.std.specs.Prelude.{◌≡◌, ◌≤◌, Ok, IfOk, get_or, length, map};
+ghost use Rattle.lb_trace.specs.Chunks.{text_of};
+ghost use Rattle.lb_report.specs.Ranges.{Ascends};
+
 use crate::feed::{INPUT_LIMIT, LoadError, Reader, load};
 use std::alloc::{AllocError, Global};
 use std::fs::{File, OpenFile};
@@ -37,6 +41,7 @@ pub fn load_file<R>(rt: &R, path: &str, workers: u32) -> Result<Vec<Vec<u8>>, Lo
 where
     R: Files + AllocGlobal + Threads + Sync,
     R::File: Send,
+    ensures limit { IfOk result (λ chunks. length (text_of chunks.items) ≤ INPUT_LIMIT) }
 {
     let alloc = rt.alloc();
     let mut file = open(rt, path)?;
@@ -67,7 +72,10 @@ fn line_starts<F: OpenFile + Read + Seek>(
     alloc: Global,
     file: &mut F,
     workers: u32,
-) -> Result<Vec<u64>, AllocError> {
+) -> Result<Vec<u64>, AllocError>
+    ensures ascends { IfOk result (λ starts. Ascends starts.items) }
+    ensures first { IfOk result (λ starts. get_or starts.items 0 0 ≡ 0) }
+{
     let mut starts = Vec::new(alloc);
     let size = size_of(file);
     let count = if workers == 0 {
@@ -80,9 +88,13 @@ fn line_starts<F: OpenFile + Read + Seek>(
         return Ok(starts);
     }
     starts.push(0)?;
+    let mut last = 0;
     for k in 1..count {
-        if let Some(start) = line_start(file, size / count * k) {
+        if let Some(start) = line_start(file, size / count * k)
+            && start > last
+        {
             starts.push(start)?;
+            last = start;
         }
     }
     Ok(starts)
@@ -164,10 +176,10 @@ fn read_range<F: Read + Drop>(alloc: Global, range: Range<F>) -> Result<Vec<u8>,
 }
 
 /// The bytes of all ranges, or the first error. More bytes than an input may have are an error.
-fn gathered(
-    alloc: Global,
-    read: Vec<Result<Vec<u8>, LoadError>>,
-) -> Result<Vec<Vec<u8>>, LoadError> {
+fn gathered(alloc: Global, read: Vec<Result<Vec<u8>, LoadError>>) -> Result<Vec<Vec<u8>>, LoadError>
+    ensures order { IfOk result (λ chunks. map (λ chunk. Ok chunk) chunks.items ≡ read.items) }
+    ensures limit { IfOk result (λ chunks. length (text_of chunks.items) ≤ INPUT_LIMIT) }
+{
     let mut chunks = Vec::new(alloc);
     let mut left = INPUT_LIMIT;
     for one in read {

@@ -22,7 +22,10 @@ pub fn push_answer<R: Runtime + AllocGlobal + Threads + Sync>(
     rt: &R,
     asked: &str,
     said: &mut String,
-) -> Result<(), AllocError> {
+) -> Result<(), AllocError>
+where
+    R::File: Send,
+{
     let (line, input) = asked.split_once('\n').unwrap_or((asked, ""));
     let words = words_of(rt.alloc(), line)?;
     let mut output: Vec<u8> = Vec::new(rt.alloc());

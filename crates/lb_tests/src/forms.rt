@@ -9,6 +9,7 @@ use std::thread::Threads;
 fn check_forms<R>(rt: &R) -> Result<(), AllocError>
 where
     R: Runtime + AllocGlobal + Threads + Sync + Abort,
+    R::File: Send,
 {
     check(
         rt,

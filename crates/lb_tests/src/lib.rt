@@ -13,6 +13,8 @@ mod commands;
 #[cfg(test)]
 mod elaboration;
 #[cfg(test)]
+mod files;
+#[cfg(test)]
 mod forms;
 #[cfg(test)]
 mod lane_words;

@@ -251,7 +251,10 @@ fn push_output<R: Runtime + AllocGlobal + Threads + Sync>(
     line: &str,
     case: &str,
     said: &mut String,
-) -> Result<(), AllocError> {
+) -> Result<(), AllocError>
+where
+    R::File: Send,
+{
     let words = words_of(rt.alloc(), line)?;
     let mut output: Vec<u8> = Vec::new(rt.alloc());
     let mut errors: Vec<u8> = Vec::new(rt.alloc());
@@ -267,7 +270,10 @@ fn push_other<R: Runtime + AllocGlobal + Threads + Sync>(
     case: &str,
     said: &mut String,
     other: &mut String,
-) -> Result<(), AllocError> {
+) -> Result<(), AllocError>
+where
+    R::File: Send,
+{
     for line in LINES.split('\n') {
         other.clear();
         push_output(rt, line, case, other)?;
@@ -283,7 +289,10 @@ pub fn push_spread<R: Runtime + AllocGlobal + Threads + Sync>(
     rt: &R,
     asked: &str,
     said: &mut String,
-) -> Result<(), AllocError> {
+) -> Result<(), AllocError>
+where
+    R::File: Send,
+{
     let mut case = String::new(rt.alloc());
     let mut other = String::new(rt.alloc());
     push_case(&mut case, asked)?;

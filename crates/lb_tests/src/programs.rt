@@ -27,6 +27,7 @@ pub fn push_answer<R: Runtime + AllocGlobal + Threads + Sync>(
 fn check_tables<R>(rt: &R) -> Result<(), AllocError>
 where
     R: Runtime + AllocGlobal + Threads + Sync + Abort,
+    R::File: Send,
 {
     check(rt, &Table::of_lines(Asks::Programs(MAIN), RULES))?;
     check(rt, &Table::of_lines(Asks::Programs(CLOCKED), STATEMENTS))?;

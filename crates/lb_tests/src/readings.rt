@@ -4,7 +4,7 @@ use crate::tables::{Asks, Table, check};
 use lb_flat::TraceSet;
 use lb_static::Signature;
 use lb_syntax::Kind;
-use lb_trace::{TraceError, read_traces, read_traces_by};
+use lb_trace::{TraceError, read_chunks, read_traces, read_traces_by};
 use std::alloc::{AllocError, Global};
 use std::rt::Runtime;
 use std::thread::Threads;
@@ -88,8 +88,54 @@ fn push_outcome(
     }
 }
 
+// Three chunks of a text: what stands before a place, the line that begins there, and the rest.
+fn chunks_at(alloc: Global, text: &[u8], at: usize) -> Result<Vec<Vec<u8>>, AllocError> {
+    let mut chunks = Vec::new(alloc);
+    let mut first = Vec::new(alloc);
+    let mut line = Vec::new(alloc);
+    let mut rest = Vec::new(alloc);
+    let mut is_behind = false;
+    for (i, b) in text.iter().enumerate() {
+        if i < at {
+            first.push(*b)?;
+        } else if is_behind {
+            rest.push(*b)?;
+        } else {
+            line.push(*b)?;
+            is_behind = *b == b'\n';
+        }
+    }
+    chunks.push(first)?;
+    chunks.push(line)?;
+    if is_behind {
+        chunks.push(rest)?;
+    }
+    Ok(chunks)
+}
+
+// What is read of a text in chunks, cut at each of its places, where that is not what was said.
+fn push_by_chunks<R: Threads + Sync>(
+    rt: &R,
+    alloc: Global,
+    signature: &Signature,
+    body: &[u8],
+    said: &mut String,
+) -> Result<(), AllocError> {
+    let mut other = String::new(alloc);
+    for at in 0..body.len() {
+        let mut chunks = chunks_at(alloc, body, at)?;
+        other.clear();
+        let read = read_chunks(rt, alloc, signature, &mut chunks, 4);
+        push_outcome(alloc, &read, &mut other)?;
+        if other.as_str() != said.as_str() {
+            return write!(said, " and cut at {at} {other}");
+        }
+    }
+    Ok(())
+}
+
 /// What is read of a text whose columns are an integer `x` and a Boolean `c`, or its refusal, by
-/// each number of workers; or the first number that makes a difference.
+/// each number of workers and in chunks; or the first that makes a difference.
 pub fn push_by_workers<R: Runtime + AllocGlobal + Threads + Sync>(
     rt: &R,
     asked: &str,
@@ -116,7 +162,7 @@ pub fn push_by_workers<R: Runtime + AllocGlobal + Threads + Sync>(
             return Ok(());
         }
     }
-    Ok(())
+    push_by_chunks(rt, alloc, &signature, body, said)
 }
 
 // Records that end in each way, with and without an end of the last; empty lines; a byte order

@@ -13,6 +13,7 @@ use std::thread::Threads;
 fn check_cases<R>(rt: &R, rows: &str) -> Result<(), AllocError>
 where
     R: Runtime + AllocGlobal + Threads + Sync + Abort,
+    R::File: Send,
 {
     check(
         rt,

@@ -395,7 +395,10 @@ fn check_rows<R: Runtime + AllocGlobal + Threads + Sync + Abort>(
     rt: &R,
     front: &str,
     rows: &str,
-) -> Result<(), AllocError> {
+) -> Result<(), AllocError>
+where
+    R::File: Send,
+{
     check(
         rt,
         &Table {

@@ -153,7 +153,10 @@ fn push_answer<R: Runtime + AllocGlobal + Threads + Sync>(
     asks: &Asks<'_>,
     asked: &str,
     said: &mut String,
-) -> Result<(), AllocError> {
+) -> Result<(), AllocError>
+where
+    R::File: Send,
+{
     match asks {
         Asks::Sources => sources::push_answer(rt.alloc(), asked, said),
         Asks::Places(front) => sources::push_place(rt.alloc(), front, asked, said),
@@ -185,7 +188,10 @@ fn is_right<R: Runtime + AllocGlobal + Threads + Sync>(
     table: &Table<'_>,
     row: &str,
     said: &mut String,
-) -> Result<bool, AllocError> {
+) -> Result<bool, AllocError>
+where
+    R::File: Send,
+{
     said.clear();
     let Some((asked, wanted)) = row.rsplit_once(table.mark) else {
         return Ok(false);
@@ -200,7 +206,10 @@ fn check_rows<R: Runtime + AllocGlobal + Threads + Sync + Abort>(
     table: &Table<'_>,
     row: &mut String,
     said: &mut String,
-) -> Result<(), AllocError> {
+) -> Result<(), AllocError>
+where
+    R::File: Send,
+{
     for short in table.rows.split(table.between) {
         let is_whole = write_out(row, short)?;
         assert!(rt; is_whole, "{short}: a brace without a number of turns");
@@ -214,7 +223,10 @@ fn check_rows<R: Runtime + AllocGlobal + Threads + Sync + Abort>(
 pub fn check<R: Runtime + AllocGlobal + Threads + Sync + Abort>(
     rt: &R,
     table: &Table<'_>,
-) -> Result<(), AllocError> {
+) -> Result<(), AllocError>
+where
+    R::File: Send,
+{
     let mut row = String::new(rt.alloc());
     let mut said = String::new(rt.alloc());
     check_rows(rt, table, &mut row, &mut said)

@@ -16,34 +16,42 @@ use crate::spread::read_spread;
 use lb_flat::TraceSet;
 use lb_static::Signature;
 use std::alloc::{AllocError, Global};
+use std::mem::replace;
 use std::thread::Threads;
 
-/// As [`read_traces_by`] of a text that comes in chunks, one after the other, which it lets go of.
+/// As [`read_traces_by`] of a text that comes in chunks, one after the other.
 ///
 /// Where there are several, and each but the last ends with a line, each is read by a thread of its
-/// own where there are no quotes. Else they are put together first, and read by so many workers if
-/// there is one chunk, by one if there are more.
+/// own where there are no quotes, and they stay. Else they are taken and put together, and read by
+/// so many workers if there is one chunk, by one if there are more.
 pub fn read_chunks<R: Threads + Sync>(
     rt: &R,
     alloc: Global,
     signature: &Signature,
-    chunks: Vec<Vec<u8>>,
+    chunks: &mut Vec<Vec<u8>>,
     workers: u32,
 ) -> Result<TraceSet, TraceError>
     ensures signature { IfOk result (λ set. set.signature ≡ signature.now) }
     ensures spelled { IfOk result
-        (λ set. Spells signature.now (text_of chunks.items) set.traces) }
+        (λ set. Spells signature.now (text_of chunks.old.items) set.traces) }
     ensures only { IfOk result (λ set. (other : Traces)
-        → Spells signature.now (text_of chunks.items) other → other ≡ set.traces) }
-    ensures refused { IfErr result (Refuses signature.now (text_of chunks.items)) }
+        → Spells signature.now (text_of chunks.old.items) other → other ≡ set.traces) }
+    ensures refused { IfErr result (Refuses signature.now (text_of chunks.old.items)) }
 {
     if chunks.len() == 1 {
-        return read_joined(rt, alloc, signature, chunks, workers);
+        return read_joined(rt, alloc, signature, take(alloc, chunks), workers);
     }
-    if let Some(set) = read_each(rt, alloc, signature, &chunks) {
+    if let Some(set) = read_each(rt, alloc, signature, chunks.as_slice()) {
         return Ok(set);
     }
-    read_joined(rt, alloc, signature, chunks, 1)
+    read_joined(rt, alloc, signature, take(alloc, chunks), 1)
+}
+
+// All chunks, of which none is left.
+fn take(alloc: Global, chunks: &mut Vec<Vec<u8>>) -> Vec<Vec<u8>>
+    ensures { result.items ≡ chunks.old.items }
+{
+    replace(chunks, Vec::new(alloc))
 }
 
 // The same of chunks that are put together.

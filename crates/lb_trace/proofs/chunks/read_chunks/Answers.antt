@@ -6,6 +6,6 @@ use Rattle.lb_trace.proofs.chunks.read_chunks.Goals as goal
 
 pub returns-in-Some-clause-only : goal.returns-in-Some-clause-only
 returns-in-Some-clause-only g c =
-    only_spelled c.args.signature.now (text_of c.args.chunks.items) c.in-Some.set.traces
+    only_spelled c.args.signature.now (text_of c.args.chunks.now.items) c.in-Some.set.traces
     (subst (λ chunks. Spells c.args.signature.now (text_of chunks) c.in-Some.set.traces)
-    c.deref.ensures.value c.in-Some.ensures.spelled)
+    c.as_slice.ensures.value c.in-Some.ensures.spelled)
