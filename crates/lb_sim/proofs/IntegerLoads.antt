@@ -10,13 +10,13 @@ use Rattle.lb_sim.specs.Loads.{AreLoaded, one_of_four}
 
 -- ## Lanes that lie side by side, word by word
 
-module _ (first count : ℕ) (value : ℕ → ℕ → ℤ) (old : List (List ℤ)) where
-  -- in the first n words the lanes hold their values
+module _ (first count : ℕ) (value : ℕ → ℕ → ℤ) (places : List ℕ) (old : List (List ℤ)) where
+  -- in the words at the first n places the lanes hold their values
   pub record LanesPut (new : List (List ℤ)) (n : ℕ) : Type 0 where
     pub as_long : length new ≡ length old
     pub put :
-        (w i : ℕ) → w < n → first ≤ i → i < first + count →
-        lane_of (get_or new w []) i ≡ value i w
+        (k i : ℕ) → k < n → first ≤ i → i < first + count →
+        lane_of (get_or new (get_or places k 0) []) i ≡ value i (get_or places k 0)
     pub others :
         (w i : ℕ) → i < 64 → (i < first) ⊎ (first + count ≤ i) →
         lane_of (get_or new w []) i ≡ lane_of (get_or old w []) i
@@ -45,15 +45,15 @@ four_are first i a b c d f ea eb ec ed ge lt =
 
 -- ## Members one after the other
 
-module _ (r : Recording) (members : List ℕ) (t live : ℕ) (columns : List ℕ) where
+module _ (r : Recording) (members : List ℕ) (t live : ℕ) (columns places : List ℕ) where
   abbrev Loaded : (first end : ℕ) → (old new : List (List ℤ)) → Type 0
-  Loaded = AreLoaded r members t live columns
+  Loaded = AreLoaded r members t live columns places
 
   pub loaded_none : (first : ℕ) (words : List (List ℤ)) → Loaded first first words words
   loaded_none first words = record {
     words = refl;
-    put = λ i w ge lt. absurd (omega (arith, ge, lt));
-    others = λ i w h o l. refl;
+    put = λ i k ge lt. absurd (omega (arith, ge, lt));
+    others = λ i w h o. refl;
   }
 
   -- members, and then those behind them
@@ -62,20 +62,22 @@ module _ (r : Recording) (members : List ℕ) (t live : ℕ) (columns : List ℕ
       Loaded b c y z → Loaded a c x z
   loaded_then a b c x y z le le' few h g = record {
     words = g.words ∙ h.words;
-    put = λ i w ge lt e l. put i w ge lt e l (cases_lt i b);
-    others = λ i w li o l. others i w li l o;
+    put = λ i k ge lt e l. put i k ge lt e l (cases_lt i b);
+    others = λ i w li o. others i w li o;
   }
     where
-      put : (i w : ℕ) → a ≤ i → i < c → on live i ≡ true → w < length columns →
+      put : (i k : ℕ) → a ≤ i → i < c → on live i ≡ true → k < length places →
           (i < b) ⊎ (b ≤ i) →
-          lane_of (get_or z w []) i ≡ member_cell r members t i (get_or columns w 0)
-      put i w ge lt e l (inl before) =
-          g.others i w (omega (arith, lt, few)) (inl before) l ∙ h.put i w ge before e l
-      put i w ge lt e l (inr behind) = g.put i w behind lt e l
+          lane_of (get_or z (get_or places k 0) []) i
+          ≡ member_cell r members t i (get_or columns (get_or places k 0) 0)
+      put i k ge lt e l (inl before) =
+          g.others i (get_or places k 0) (omega (arith, lt, few)) (inl before)
+          ∙ h.put i k ge before e l
+      put i k ge lt e l (inr behind) = g.put i k behind lt e l
 
-      others : (i w : ℕ) → i < 64 → w < length columns → (i < a) ⊎ (c ≤ i) →
+      others : (i w : ℕ) → i < 64 → (i < a) ⊎ (c ≤ i) →
           lane_of (get_or z w []) i ≡ lane_of (get_or x w []) i
-      others i w li l (inl before) =
-          g.others i w li (inl (omega (arith, before, le))) l ∙ h.others i w li (inl before) l
-      others i w li l (inr behind) =
-          g.others i w li (inr behind) l ∙ h.others i w li (inr (omega (arith, behind, le'))) l
+      others i w li (inl before) =
+          g.others i w li (inl (omega (arith, before, le))) ∙ h.others i w li (inl before)
+      others i w li (inr behind) =
+          g.others i w li (inr behind) ∙ h.others i w li (inr (omega (arith, behind, le')))

@@ -45,3 +45,5 @@ pub mod Assembled
 pub mod EquationsAt
 pub mod RunningBatches
 pub mod Choosing
+mod AlikeRuns
+mod ReadElements

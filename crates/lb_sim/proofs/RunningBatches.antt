@@ -4,6 +4,8 @@ use Rattle.std.proofs.Common.{◌∷◌, ◌++◌}
 use Rattle.std.proofs.Common.{length, get_or, take, refl, sym, ap, ◌∙◌, subst, arith, ◌⊎◌, inl, inr}
 use Rattle.std.proofs.lemmas.Bool.{true≢false, cases_lt, lt-ltb, ltb-true}
 use Rattle.std.proofs.lemmas.List.{length-map}
+use Rattle.std.proofs.Math.Logic.{∥∥₁_elim}
+use Rattle.std.proofs.Props.{props}
 use Rattle.std.specs.Prelude.{nat_lt}
 use Rattle.lb_check.specs.Scalars.{Scalar}
 use Rattle.lb_check.specs.Solutions.{Inputs}
@@ -22,18 +24,52 @@ use Rattle.lb_lanes.proofs.OnPlanes.{on-zero}
 use Rattle.lb_sim.specs.BatchLanes.{length_in, AreRunning, IsAt}
 use Rattle.lb_sim.specs.BatchRuns.{flat_of, verdict_at}
 use Rattle.lb_sim.specs.Correct.{IsFresh, IsStep, Stands}
-use Rattle.lb_sim.specs.InputRows.{HaveInstant}
+use Rattle.lb_sim.specs.InputRows.{HaveInstant, places_of}
 use Rattle.lb_sim.specs.LaneStates.{is_passed}
+use Rattle.lb_sim.specs.ReadInputs.{AreAlike, AreAllAlike}
 use Rattle.lb_sim.specs.declared.batch_run.BatchRun.{BatchRun}
 use Rattle.lb_sim.specs.declared.program.LaneProgram.{LaneProgram}
+use Rattle.lb_sim.proofs.AlikeRuns.{verdict_alike}
 use Rattle.lb_sim.proofs.Batches.{one_more, moves_on, at_next, at_end, verdict_at_rest}
+
+-- ## Traces that are alike where they are read
+
+-- a row and another one, and two traces, are alike in what a lane program loads
+abbrev pub AreRowsAlike : LaneProgram → List Scalar → List Scalar → Type 0
+AreRowsAlike p given other =
+    AreAlike (places_of 2 1 p.program.now.inputs.items) p.read.numbers.items p.read.truths given
+    other
+
+abbrev pub AreTracesAlike : LaneProgram → Inputs → Inputs → Type 0
+AreTracesAlike p X Y =
+    AreAllAlike (places_of 2 1 p.program.now.inputs.items) p.read.numbers.items p.read.truths X Y
+
+one_row_more : (p : LaneProgram) (X Y : Inputs) (given other : List Scalar) →
+    AreTracesAlike p X Y → AreRowsAlike p given other →
+    AreTracesAlike p (X ++ given ∷ []) (Y ++ other ∷ [])
+one_row_more p [] [] given other h row = (row, tt)
+one_row_more p [] (y ∷ Y) given other h row = absurd h
+one_row_more p (x ∷ X) [] given other h row = absurd h
+one_row_more p (x ∷ X) (y ∷ Y) given other h row = (h.0, one_row_more p X Y given other h.1 row)
+
+-- so they have one verdict
+same_verdict : (p : LaneProgram) (X Y : Inputs) → AreTracesAlike p X Y →
+    flat_verdict (program_of p.program.now) X ≡ flat_verdict (program_of p.program.now) Y
+same_verdict p X Y h =
+    ∥∥₁_elim p.read_law (hlevel props)
+    (λ law.
+    verdict_alike (program_of p.program.now) (places_of 2 1 p.program.now.inputs.items)
+    p.read.numbers.items p.read.truths law X Y h)
 
 -- ## One lane
 
--- a lane has been run to an instant of its trace, when instant t is the next one
-pub record IsRunTo (run : BatchRun) (X : Inputs) (i t : ℕ) : Type 0 where
+-- a lane has been run to an instant of its trace, when instant t is the next one: it stands for one
+-- that is alike
+pub record IsRunTo (p : LaneProgram) (run : BatchRun) (X : Inputs) (i t : ℕ) : Type 0 where
   pub n : ℕ
-  pub stands : Stands run i (take n X)
+  pub trace : Inputs
+  pub alike : AreTracesAlike p trace (take n X)
+  pub stands : Stands run i trace
   pub here : IsAt (verdict_at run i) (on run.active.0 i) (length X) n t
 
 passed_is : (v : Verdict) → v ≡ Passed → is_passed v ≡ true
@@ -41,29 +77,32 @@ passed_is v e = ap is_passed e
 
 -- one instant more
 pub lane_goes_on :
-    (old new : BatchRun) (X : Inputs) (i t : ℕ) (lane running : Bool) (given : List Scalar) →
-    IsRunTo old X i t → lane ≡ (on old.active.0 i && running) → running ≡ nat_lt t (length X) →
-    (lane ≡ true → given ≡ get_or X t []) →
+    (p : LaneProgram) (old new : BatchRun) (X : Inputs) (i t : ℕ) (lane running : Bool)
+    (given : List Scalar) → IsRunTo p old X i t → lane ≡ (on old.active.0 i && running) →
+    running ≡ nat_lt t (length X) →
+    (lane ≡ true → AreRowsAlike p given (get_or X t [])) →
     ((Y : Inputs) → lane ≡ true → Stands old i Y → Stands new i (Y ++ given ∷ [])) →
     ((Y : Inputs) → lane ≡ false → Stands old i Y → Stands new i Y) →
     (verdict_at old i ≢ Passed → verdict_at new i ≡ verdict_at old i) →
-    on new.active.0 i ≡ (lane && is_passed (verdict_at new i)) → IsRunTo new X i (t + 1)
-lane_goes_on old new X i t lane running given h is runs row moves stays settled active_is =
+    on new.active.0 i ≡ (lane && is_passed (verdict_at new i)) → IsRunTo p new X i (t + 1)
+lane_goes_on p old new X i t lane running given h is runs row moves stays settled active_is =
     by lane refl
   where
     found : is_passed (verdict_at new i) ≡ false → verdict_at new i ≢ Passed
     found off e = true≢false (sym (passed_is (verdict_at new i) e) ∙ off)
 
-    by : (b : Bool) → lane ≡ b → IsRunTo new X i (t + 1)
+    by : (b : Bool) → lane ≡ b → IsRunTo p new X i (t + 1)
     by true e =
         let both = moves_on (on old.active.0 i) running lane is e in
         let here : h.n ≡ t = h.here.now both.0 in
         let below : t < length X = ltb-true t (length X) (sym runs ∙ both.1) in
-        let path : take h.n X ++ given ∷ [] ≡ take (t + 1) X =
-        ap (λ (g : List Scalar). take h.n X ++ g ∷ []) (row e) ∙ one_more X h.n t here below in
         record {
           n = t + 1;
-          stands = subst (λ (Y : Inputs). Stands new i Y) path (moves (take h.n X) e h.stands);
+          trace = h.trace ++ given ∷ [];
+          alike =
+              subst (AreTracesAlike p (h.trace ++ given ∷ [])) (one_more X h.n t here below)
+              (one_row_more p h.trace (take h.n X) given (get_or X t []) h.alike (row e));
+          stands = moves h.trace e h.stands;
           here =
               at_next (verdict_at new i) (on new.active.0 i) (is_passed (verdict_at new i))
               (length X) t below
@@ -71,7 +110,9 @@ lane_goes_on old new X i t lane running given h is runs row moves stays settled 
         }
     by false e = record {
       n = h.n;
-      stands = stays (take h.n X) e h.stands;
+      trace = h.trace;
+      alike = h.alike;
+      stands = stays h.trace e h.stands;
       here =
           at_end (verdict_at old i) (verdict_at new i) (on old.active.0 i) running lane
           (on new.active.0 i) (length X) h.n t h.here is e runs
@@ -79,10 +120,12 @@ lane_goes_on old new X i t lane running given h is runs row moves stays settled 
     }
 
 -- before the first instant
-pub lane_begins : (run : BatchRun) (X : Inputs) (i : ℕ) → Stands run i [] →
-    on run.active.0 i ≡ true → IsRunTo run X i 0
-lane_begins run X i stands active = record {
+pub lane_begins : (p : LaneProgram) (run : BatchRun) (X : Inputs) (i : ℕ) → Stands run i [] →
+    on run.active.0 i ≡ true → IsRunTo p run X i 0
+lane_begins p run X i stands active = record {
   n = 0;
+  trace = [];
+  alike = tt;
   stands = stands;
   here = record {
     within = omega arith;
@@ -90,6 +133,17 @@ lane_begins run X i stands active = record {
     ended = λ e. absurd (true≢false (sym active ∙ e));
   };
 }
+
+-- its verdict is that of the trace so far
+verdict_of :
+    (p : LaneProgram) (run : BatchRun) (X : Inputs) (i t : ℕ) → run.program.now ≡ p →
+    (h : IsRunTo p run X i t) →
+    verdict_at run i ≡ flat_verdict (program_of p.program.now) (take h.n X)
+verdict_of p run X i t is h =
+    subst
+    (λ (q : LaneProgram). verdict_at run i ≡ flat_verdict (program_of q.program.now) h.trace) is
+    h.stands.verdict_is
+    ∙ same_verdict p h.trace (take h.n X) h.alike
 
 -- ## All lanes of a batch
 
@@ -108,7 +162,7 @@ pub record AreRunTo (p : LaneProgram) (run : BatchRun) (r : Recording) (members 
       IsFitting (program_of p.program.now).inputs K
       (kind_among (program_of p.program.now).kinds) (program_of p.program.now).equations →
       (i : ℕ) → i < length members →
-      IsRunTo run (inputs_of r (get_or members i 0)) i t
+      IsRunTo p run (inputs_of r (get_or members i 0)) i t
 
 pub all_begin : (run : BatchRun) (r : Recording) (members : List ℕ) → length members ≤ 64 →
     IsFresh run (length members) → AreRunTo run.program.now run r members 0
@@ -116,7 +170,7 @@ all_begin run r members few fresh = record {
   program_is = refl;
   steps_are = fresh.none;
   each = λ K fits i l.
-      lane_begins run (inputs_of r (get_or members i 0)) i (fresh.empty i l)
+      lane_begins run.program.now run (inputs_of r (get_or members i 0)) i (fresh.empty i l)
       (fresh.all i (omega (arith, l, few)) ∙ lt-ltb i (length members) l);
 }
 
@@ -149,7 +203,7 @@ module _ (p : LaneProgram) (old new : BatchRun) (r : Recording) (members : List 
   pub all_go_on :
       AreRunTo p old r members t →
       ((i : ℕ) → i < 64 → on live.0 i ≡ true →
-      rows i ≡ get_or (inputs_of r (get_or members i 0)) t []) →
+      AreRowsAlike p (rows i) (get_or (inputs_of r (get_or members i 0)) t [])) →
       IsStep old new rows live → AreRunTo p new r members (t + 1)
   all_go_on h row step = record {
     program_is = step.program ∙ h.program_is;
@@ -161,7 +215,7 @@ module _ (p : LaneProgram) (old new : BatchRun) (r : Recording) (members : List 
         IsFitting (program_of q.program.now).inputs K
         (kind_among (program_of q.program.now).kinds) (program_of q.program.now).equations)
         (sym h.program_is) fits in
-        lane_goes_on old new (inputs_of r (get_or members i 0)) i t (on live.0 i) (on lanes i)
+        lane_goes_on p old new (inputs_of r (get_or members i 0)) i t (on live.0 i) (on lanes i)
         (rows i) (h.each K fits i l) (is i lt)
         (runs.lanes.members_on i t l (omega arith) runs.later
         ∙ ap (nat_lt t) (sym (as_long r members i)))
@@ -185,11 +239,8 @@ module _ (p : LaneProgram) (old new : BatchRun) (r : Recording) (members : List 
       let none : (on old.active.0 i && nat_lt t (length X)) ≡ false =
       ap (λ b. on old.active.0 i && b) (sym runs_on) ∙ sym (is i lt) ∙ ap (λ n. on n i) off
       ∙ on-zero i in
-      subst
-      (λ (q : LaneProgram).
-      verdict_at old i ≡ flat_verdict (program_of q.program.now) X) h.program_is
-      (verdict_at_rest (flat_of old) X (verdict_at old i) (on old.active.0 i) here.n t
-      here.stands.verdict_is here.here none)
+      verdict_at_rest (program_of p.program.now) X (verdict_at old i) (on old.active.0 i) here.n t
+      (verdict_of p old X i t h.program_is here) here.here none
 
 none_left : (b : Bool) (t n : ℕ) → n ≤ t → (b && nat_lt t n) ≡ false
 none_left true t n h = grind arith
@@ -208,9 +259,6 @@ all_ended p run r members t h past K fits i l =
     let X = inputs_of r (get_or members i 0) in
     let here = h.each K fits i l in
     let long : length X ≡ length_in r members i = as_long r members i in
-    subst
-    (λ (q : LaneProgram). verdict_at run i ≡ flat_verdict (program_of q.program.now) X)
-    h.program_is
-    (verdict_at_rest (flat_of run) X (verdict_at run i) (on run.active.0 i) here.n t
-    here.stands.verdict_is here.here
-    (none_left (on run.active.0 i) t (length X) (omega (arith, long, past i l))))
+    verdict_at_rest (program_of p.program.now) X (verdict_at run i) (on run.active.0 i) here.n t
+    (verdict_of p run X i t h.program_is here) here.here
+    (none_left (on run.active.0 i) t (length X) (omega (arith, long, past i l)))

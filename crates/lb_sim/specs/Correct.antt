@@ -48,10 +48,10 @@ pub record IsFresh (run : BatchRun) (n : ℕ) : Type 0 where
   pub all : IsPlaneOf (λ i. nat_lt i n) run.active.0
   pub none : run.steps ≡ 0
 
--- an instant of the lanes that are live, of which each is given a row of inputs: a lane that is live
--- stands for its trace with its row added, where the equations have kinds and clocks, and a lane that
--- is not for what it stood for; a verdict that was found stays, and active are the live lanes that
--- have passed so far
+-- an instant of the lanes that are live, of which each is given a row of inputs: a lane that is
+-- live stands for its trace with its row added, where the equations have kinds and clocks, and a
+-- lane that is not for what it stood for; a verdict that was found stays, and active are the live
+-- lanes that have passed so far
 pub record IsStep (old new : BatchRun) (rows : ℕ → List Scalar) (live : Plane) : Type 0 where
   pub moves :
       (K : ℕ → FlatClock) →

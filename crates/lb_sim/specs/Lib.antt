@@ -23,3 +23,4 @@ pub mod Presets
 pub mod Passing
 pub mod Layouts
 pub mod Correct
+pub mod ReadInputs

@@ -1,7 +1,7 @@
 -- The integers of some members of a batch, in the lanes of words.
 -- Source: this project's rule.
-use Rattle.std.specs.Prelude.{◌≡◌, ℕ, ◌<◌, ◌≤◌, ◌+◌, ◌⊎◌, ◌==◌, true, List, [], ℤ, length}
-use Rattle.std.specs.Prelude.{get_or, slice_index_or, if◌then◌else◌}
+use Rattle.std.specs.Prelude.{◌≡◌, ℕ, ◌<◌, ◌≤◌, ◌+◌, ◌⊎◌, ◌==◌, true, List, [], ℤ, pos}
+use Rattle.std.specs.Prelude.{length, get_or, slice_index, slice_index_or, if◌then◌else◌}
 use Rattle.lb_flat.specs.Traces.{Recording}
 use Rattle.lb_lanes.specs.Kernels.{lane_of}
 use Rattle.lb_lanes.specs.Planes.{on}
@@ -13,14 +13,22 @@ one_of_four first a b c d i =
     if i == first + 3 then d
     else if i == first + 2 then c else if i == first + 1 then b else a
 
--- the lanes of the members from a first one up to an end have their integers, where they are live,
--- a word for each of these columns; no other lane has changed
-pub record AreLoaded (r : Recording) (members : List ℕ) (t live : ℕ) (columns : List ℕ)
+-- that of four rows, each at a place
+abbrev pub four_at : ℕ → List ℤ → List ℤ → List ℤ → List ℤ → ℕ → ℕ → ℤ
+four_at first a b c d w i =
+    one_of_four first (get_or a w (pos 0)) (get_or b w (pos 0)) (get_or c w (pos 0))
+    (get_or d w (pos 0)) i
+
+-- the lanes of the members from a first one up to an end have their integers, where they are live:
+-- those at some places, a word for each, of the columns that hold integers; no other lane has
+-- changed
+pub record AreLoaded (r : Recording) (members : List ℕ) (t live : ℕ) (columns places : List ℕ)
     (first end : ℕ) (old new : List (List ℤ)) : Type 0 where
   pub words : length new ≡ length old
   pub put :
-      (i w : ℕ) → first ≤ i → i < end → on live i ≡ true → w < length columns →
-      lane_of (slice_index_or new w []) i ≡ member_cell r members t i (get_or columns w 0)
+      (i k : ℕ) → first ≤ i → i < end → on live i ≡ true → k < length places →
+      lane_of (slice_index_or new (slice_index places k) []) i
+      ≡ member_cell r members t i (get_or columns (slice_index places k) 0)
   pub others :
-      (i w : ℕ) → i < 64 → (i < first) ⊎ (end ≤ i) → w < length columns →
+      (i w : ℕ) → i < 64 → (i < first) ⊎ (end ≤ i) →
       lane_of (slice_index_or new w []) i ≡ lane_of (slice_index_or old w []) i

@@ -91,7 +91,7 @@ fn run_to_end(run: &mut BatchRun<'_>, inputs: &mut Inputs, set: &TraceSet, membe
         if live.0 == 0 {
             return;
         }
-        inputs.load(set, members, t, live);
+        inputs.load_read(&run.program.read, set, members, t, live);
         run.step(inputs, live);
     }
 }

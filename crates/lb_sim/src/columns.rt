@@ -1,6 +1,7 @@
 //! How many columns of a signature hold Booleans, and how many hold integers.
 
 ghost use Rattle.std.specs.Prelude.{◌≡◌, ◌+◌, length, count_by, IfOk};
+ghost use Rattle.std.specs.List.{range_with_len};
 ghost use Rattle.lb_sim.specs.InputRows.{is_truth, truth_columns, number_columns};
 
 use lb_syntax::Kind;
@@ -14,6 +15,9 @@ pub struct Columns {
     /// How many hold Booleans, and how many hold integers.
     pub truths: usize,
     pub numbers: usize,
+    /// The places of all integers among the integers.
+    pub(crate) every_number: Vec<usize>,
+    pub(crate) ghost in_order: { every_number.items ≡ range_with_len 0 numbers },
     pub ghost all_truths: { truths ≡ length (truth_columns 0 kinds.items) },
     pub ghost all_numbers: { numbers ≡ length (number_columns 0 kinds.items) },
 }
@@ -35,6 +39,17 @@ fn count_truths(kinds: &[Kind]) -> usize
     kinds.iter().filter(|kind| is_truth(kind)).count()
 }
 
+// The numbers below a count, in order.
+fn numbers_below(alloc: Global, count: usize) -> Result<Vec<usize>, AllocError>
+    ensures { IfOk result (λ v. v.items ≡ range_with_len 0 count) }
+{
+    let mut numbers = Vec::new(alloc);
+    for n in 0..count {
+        numbers.push(n)?;
+    }
+    Ok(numbers)
+}
+
 impl Columns {
     /// The columns of these kinds. It fails only where memory was refused (E0).
     pub fn new(alloc: Global, signature: &[Kind]) -> Result<Columns, AllocError>
@@ -44,10 +59,12 @@ impl Columns {
         kinds.extend_from_slice(signature)?;
         let truths = count_truths(signature);
         let numbers = signature.len() - truths;
+        let every_number = numbers_below(alloc, numbers)?;
         Ok(Columns {
             kinds,
             truths,
             numbers,
+            every_number,
         })
     }
 }

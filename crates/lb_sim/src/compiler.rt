@@ -11,6 +11,7 @@ use crate::allotted::{Allotted, allot_places};
 use crate::emit_all::emit_all;
 use crate::place::Holding;
 use crate::program::{LaneCode, LaneProgram};
+use crate::read_inputs::read_inputs;
 use crate::sources::all_sources;
 use crate::steady::{SteadyTable, steady_table};
 use crate::watched::watched;
@@ -70,6 +71,7 @@ pub fn compile<'a>(alloc: Global, ordered: &'a Ordered) -> Result<LaneProgram<'a
 {
     let program = &ordered.program;
     let known = allot_places(alloc, program)?;
+    let read = read_inputs(alloc, program, known.inputs.as_slice())?;
     let (none, no_more) = (Vec::new(alloc), Vec::new(alloc));
     let kept = known.kept.as_slice();
     let general = lane_code(alloc, program, &known, kept, none, no_more)?;
@@ -92,5 +94,6 @@ pub fn compile<'a>(alloc: Global, ordered: &'a Ordered) -> Result<LaneProgram<'a
         constant_word: known.constant_word,
         memory_plane: known.memory_plane,
         memory_word: known.memory_word,
+        read,
     })
 }

@@ -7,10 +7,10 @@
 //! member 11  0 0 0
 //! ```
 
-ghost use Rattle.std.specs.Prelude.{◌≡◌, ℕ, ◌<◌, ◌≤◌, ◌+◌, ◌⊎◌, length, slice_index_or, get_or};
-ghost use Rattle.std.specs.Prelude.{[], pos};
+ghost use Rattle.std.specs.Prelude.{◌≡◌, ℕ, ◌<◌, ◌≤◌, ◌+◌, ◌⊎◌, length, slice_index, [], All};
+ghost use Rattle.std.specs.Prelude.{slice_index_or};
 ghost use Rattle.lb_lanes.specs.Kernels.{lane_of};
-ghost use Rattle.lb_sim.specs.Loads.{one_of_four};
+ghost use Rattle.lb_sim.specs.Loads.{four_at, one_of_four};
 
 use lb_lanes::LaneWord;
 
@@ -28,7 +28,8 @@ fn set_four(word: &mut LaneWord, first: u32, a: i32, b: i32, c: i32, d: i32)
     word.set(first + 3, d);
 }
 
-/// Puts the integers of four rows into four lanes of words, one each.
+/// Puts some integers of four rows, those at these places, into four lanes of the words at the same
+/// places, a lane for each row.
 pub(crate) fn put_four(
     words: &mut [LaneWord],
     first: u32,
@@ -36,21 +37,23 @@ pub(crate) fn put_four(
     b: &[i32],
     c: &[i32],
     d: &[i32],
+    places: &[usize],
 )
     requires lanes { first + 4 ≤ 64 }
     requires row_a { length a.now ≡ length words.old }
     requires row_b { length b.now ≡ length words.old }
     requires row_c { length c.now ≡ length words.old }
     requires row_d { length d.now ≡ length words.old }
+    requires within { All (λ w. w < length words.old) places.now }
     ensures words { length words.new ≡ length words.old }
-    ensures put { (w i : ℕ) → w < length words.old → first ≤ i → i < first + 4
-        → lane_of (slice_index_or words.new w []) i
-        ≡ one_of_four first (get_or a.now w (pos 0)) (get_or b.now w (pos 0))
-        (get_or c.now w (pos 0)) (get_or d.now w (pos 0)) i }
+    ensures put { (k i : ℕ) → k < length places.now → first ≤ i → i < first + 4
+        → lane_of (slice_index_or words.new (slice_index places.now k) []) i
+        ≡ four_at first a.now b.now c.now d.now (slice_index places.now k) i }
     ensures others { (w i : ℕ) → i < 64 → (i < first) ⊎ (first + 4 ≤ i)
         → lane_of (slice_index_or words.new w []) i ≡ lane_of (slice_index_or words.old w []) i }
 {
-    for w in 0..words.len() {
+    for k in 0..places.len() {
+        let w = places[k];
         set_four(&mut words[w], first, a[w], b[w], c[w], d[w]);
     }
 }

@@ -6,13 +6,15 @@ ghost use Rattle.lb_static.specs.Signature.{kinds_of};
 ghost use Rattle.lb_flat.specs.Inputs.{inputs_of};
 ghost use Rattle.lb_lanes.specs.Planes.{on};
 ghost use Rattle.lb_machine.specs.Meaning.{lane_at};
-ghost use Rattle.lb_sim.specs.InputRows.{HaveInstant, places_of, zero_of};
+ghost use Rattle.lb_sim.specs.InputRows.{HaveInstant, number_columns, places_of, zero_of};
+ghost use Rattle.lb_sim.specs.ReadInputs.{AreAlike};
 ghost use Rattle.lb_sim.specs.Showing.{value_at};
 
 use crate::columns::Columns;
 use crate::integer_loads::load_numbers;
 use crate::lane_bits::{copy_planes, copy_words, zeros};
-use crate::loads::{Instant, load_truths};
+use crate::loads::{Instant, load_truths, load_wanted_truths};
+use crate::read_inputs::ReadInputs;
 use lb_flat::{FlatProgram, TraceSet};
 use lb_lanes::{LaneWord, Plane};
 use lb_syntax::Kind;
@@ -80,7 +82,43 @@ impl Inputs {
             live,
         };
         load_truths(&at, self.rows.as_mut_slice(), self.planes.as_mut_slice());
-        load_numbers(&at, self.words.as_mut_slice());
+        let columns = &self.columns;
+        let places = columns.every_number.as_slice();
+        load_numbers(&at, places, self.words.as_mut_slice());
+    }
+
+    // Of the cells of instant `t` those that a program reads; other inputs of the rows may be
+    // anything.
+    pub(crate) fn load_read(
+        &mut self,
+        read: &ReadInputs,
+        set: &TraceSet,
+        members: &[u32],
+        t: u32,
+        live: Plane,
+    )
+        requires kinds { kinds_of set.now.signature ≡ self.old.columns.kinds.items }
+        requires members { All (λ k. k < length set.now.traces) members.now }
+        requires few { length members.now ≤ 64 }
+        requires live { HaveInstant set.now members.now t live.0 }
+        requires within { All (λ w. w < length (number_columns 0 self.old.columns.kinds.items))
+            read.now.numbers.items }
+        ensures rows { (i : ℕ) → i < 64 → on live.0 i ≡ true
+            → AreAlike (places_of 2 1 self.old.columns.kinds.items) read.now.numbers.items
+            read.now.truths (inputs_row self.new i)
+            (get_or (inputs_of set.now (get_or members.now i 0)) t []) }
+        ensures kinds { self.new.columns ≡ self.old.columns }
+    {
+        let _ = set.signature();
+        let at = Instant {
+            set,
+            members,
+            t,
+            live,
+        };
+        let (rows, planes) = (self.rows.as_mut_slice(), self.planes.as_mut_slice());
+        load_wanted_truths(&at, read.truths, rows, planes);
+        load_numbers(&at, read.numbers.as_slice(), self.words.as_mut_slice());
     }
 
     // Copies the rows to where a lane program has its inputs: behind what is the same everywhere.

@@ -1,10 +1,11 @@
 //! The integers of an instant, from recorded traces into words.
 //!
 //! Each row goes into a lane of the words of its integers: those of four members at a time, where
-//! all four have the instant, and else one by one.
+//! all four have the instant, and else one by one. Of its integers those are loaded that stand at
+//! some places.
 
 ghost use Rattle.std.specs.Prelude.{◌≡◌, ◌≢◌, ℕ, ◌<◌, ◌≤◌, ◌+◌, true, length, get_or};
-ghost use Rattle.std.specs.Prelude.{pos, slice_index_or, []};
+ghost use Rattle.std.specs.Prelude.{pos, slice_index, slice_index_or, [], All};
 ghost use Rattle.lb_static.specs.Signature.{kinds_of};
 ghost use Rattle.lb_flat.specs.Packed.{number_columns};
 ghost use Rattle.lb_lanes.specs.Kernels.{lane_of};
@@ -31,30 +32,40 @@ fn numbers_of<'a>(at: &Instant<'a, '_>, i: usize) -> &'a [i32]
 }
 
 // Puts the integers of a member into its lane if that is live.
-fn put_member(at: &Instant<'_, '_>, i: usize, words: &mut [LaneWord])
+fn put_member(at: &Instant<'_, '_>, places: &[usize], i: usize, words: &mut [LaneWord])
     requires member { i < length at.now.members.now }
     requires room { length words.old
         ≡ length (number_columns 0 (kinds_of at.now.set.now.signature)) }
+    requires within { All (λ w. w < length words.old) places.now }
     ensures { AreLoaded at.now.set.now at.now.members.now at.now.t at.now.live.0
-        (number_columns 0 (kinds_of at.now.set.now.signature)) i (i + 1) words.old words.new }
+        (number_columns 0 (kinds_of at.now.set.now.signature)) places.now i (i + 1) words.old
+        words.new }
 {
     if !at.live.get(i as u32) {
         return;
     }
-    put_numbers(words, i as u32, numbers_of(at, i));
+    put_numbers(words, i as u32, numbers_of(at, i), places);
 }
 
 // Puts the integers of the members from one on into the lanes that are live, one by one.
-fn put_each(at: &Instant<'_, '_>, first: usize, end: usize, words: &mut [LaneWord])
+fn put_each(
+    at: &Instant<'_, '_>,
+    places: &[usize],
+    first: usize,
+    end: usize,
+    words: &mut [LaneWord],
+)
     requires order { first ≤ end }
     requires members { end ≤ length at.now.members.now }
     requires room { length words.old
         ≡ length (number_columns 0 (kinds_of at.now.set.now.signature)) }
+    requires within { All (λ w. w < length words.old) places.now }
     ensures { AreLoaded at.now.set.now at.now.members.now at.now.t at.now.live.0
-        (number_columns 0 (kinds_of at.now.set.now.signature)) first end words.old words.new }
+        (number_columns 0 (kinds_of at.now.set.now.signature)) places.now first end words.old
+        words.new }
 {
     for i in first..end {
-        put_member(at, i, words);
+        put_member(at, places, i, words);
     }
 }
 
@@ -67,16 +78,17 @@ fn are_live(at: &Instant<'_, '_>, first: u32) -> bool
 }
 
 // Puts the integers of four members into their lanes.
-fn put_four_members(at: &Instant<'_, '_>, first: usize, words: &mut [LaneWord])
+fn put_four_members(at: &Instant<'_, '_>, places: &[usize], first: usize, words: &mut [LaneWord])
     requires members { first + 4 ≤ length at.now.members.now }
     requires room { length words.old
         ≡ length (number_columns 0 (kinds_of at.now.set.now.signature)) }
+    requires within { All (λ w. w < length words.old) places.now }
     ensures { AreLoaded at.now.set.now at.now.members.now at.now.t at.now.live.0
-        (number_columns 0 (kinds_of at.now.set.now.signature)) first (first + 4)
+        (number_columns 0 (kinds_of at.now.set.now.signature)) places.now first (first + 4)
         words.old words.new }
 {
     if !are_live(at, first as u32) {
-        put_each(at, first, first + 4, words);
+        put_each(at, places, first, first + 4, words);
         return;
     }
     put_four(
@@ -86,24 +98,26 @@ fn put_four_members(at: &Instant<'_, '_>, first: usize, words: &mut [LaneWord])
         numbers_of(at, first + 1),
         numbers_of(at, first + 2),
         numbers_of(at, first + 3),
+        places,
     );
 }
 
-/// Puts the integers of the signature into words.
-pub(crate) fn load_numbers(at: &Instant<'_, '_>, words: &mut [LaneWord])
-    requires { length words.old
+/// Puts the integers of the signature that stand at these places into words.
+pub(crate) fn load_numbers(at: &Instant<'_, '_>, places: &[usize], words: &mut [LaneWord])
+    requires room { length words.old
         ≡ length (number_columns 0 (kinds_of at.now.set.now.signature)) }
+    requires within { All (λ w. w < length words.old) places.now }
     ensures words { length words.new ≡ length words.old }
-    ensures put { (i w : ℕ) → i < 64 → on at.now.live.0 i ≡ true
-        → w < length (number_columns 0 (kinds_of at.now.set.now.signature))
-        → lane_of (slice_index_or words.new w []) i
+    ensures put { (i k : ℕ) → i < 64 → on at.now.live.0 i ≡ true → k < length places.now
+        → lane_of (slice_index_or words.new (slice_index places.now k) []) i
         ≡ member_cell at.now.set.now at.now.members.now at.now.t i
-        (get_or (number_columns 0 (kinds_of at.now.set.now.signature)) w 0) }
+        (get_or (number_columns 0 (kinds_of at.now.set.now.signature))
+        (slice_index places.now k) 0) }
 {
     let count = at.members.len();
     let fours = count / 4;
     for f in 0..fours {
-        put_four_members(at, 4 * f, words);
+        put_four_members(at, places, 4 * f, words);
     }
-    put_each(at, 4 * fours, count, words);
+    put_each(at, places, 4 * fours, count, words);
 }

@@ -1,7 +1,7 @@
 //! Planes and words, lane by lane.
 
 ghost use Rattle.std.specs.Prelude.{◌≡◌, ◌≢◌, ℕ, ◌<◌, ◌≤◌, ◌+◌, ◌*◌, ◌==◌, ◌||◌};
-ghost use Rattle.std.specs.Prelude.{length};
+ghost use Rattle.std.specs.Prelude.{length, All};
 ghost use Rattle.std.specs.Prelude.{slice_index, slice_index_or, get_or, [], pos, IfOk};
 ghost use Rattle.lb_lanes.specs.Kernels.{lane_of};
 ghost use Rattle.lb_lanes.specs.Planes.{on};
@@ -79,18 +79,21 @@ fn put_planes(planes: &mut [u64], first: usize, words: &[u64; 64], count: usize)
     }
 }
 
-/// Puts some integers into a lane of words, one each.
-pub(crate) fn put_numbers(words: &mut [LaneWord], lane: u32, numbers: &[i32])
+/// Puts some integers of a row, those at these places, into a lane of the words at the same places.
+pub(crate) fn put_numbers(words: &mut [LaneWord], lane: u32, row: &[i32], places: &[usize])
     requires lane { lane < 64 }
-    requires room { length words.old ≡ length numbers.now }
+    requires room { length words.old ≡ length row.now }
+    requires within { All (λ w. w < length words.old) places.now }
     ensures words { length words.new ≡ length words.old }
-    ensures put { (w : ℕ) → w < length numbers.now
-        → lane_of (slice_index_or words.new w []) lane ≡ get_or numbers.now w (pos 0) }
-    ensures others { (w i : ℕ) → w < length numbers.now → i < 64 → i ≢ lane
+    ensures put { (k : ℕ) → k < length places.now
+        → lane_of (slice_index_or words.new (slice_index places.now k) []) lane
+        ≡ get_or row.now (slice_index places.now k) (pos 0) }
+    ensures others { (w i : ℕ) → i < 64 → i ≢ lane
         → lane_of (slice_index_or words.new w []) i ≡ lane_of (slice_index_or words.old w []) i }
 {
-    for w in 0..numbers.len() {
-        words[w].set(lane, numbers[w]);
+    for k in 0..places.len() {
+        let w = places[k];
+        words[w].set(lane, row[w]);
     }
 }
 

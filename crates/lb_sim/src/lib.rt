@@ -25,6 +25,7 @@ mod picks;
 mod place;
 mod preset;
 mod program;
+mod read_inputs;
 mod room;
 mod running;
 mod sources;

@@ -109,3 +109,26 @@ pub(crate) fn load_truths(at: &Instant<'_, '_>, rows: &mut [u64], planes: &mut [
     gather(at, rows);
     turn(rows, planes);
 }
+
+/// Puts the Booleans of the signature into planes, if they are wanted.
+pub(crate) fn load_wanted_truths(
+    at: &Instant<'_, '_>,
+    wanted: bool,
+    rows: &mut [u64],
+    planes: &mut [u64],
+)
+    requires rows_room { length planes.old + 63 ≤ length rows.old }
+    requires room { length planes.old
+        ≡ length (truth_columns 0 (kinds_of at.now.set.now.signature)) }
+    ensures rows { length rows.new ≡ length rows.old }
+    ensures planes { length planes.new ≡ length planes.old }
+    ensures put { wanted ≡ true → (i b : ℕ) → i < 64 → on at.now.live.0 i ≡ true
+        → b < length (truth_columns 0 (kinds_of at.now.set.now.signature))
+        → on (slice_index planes.new b) i ≡ int_le (pos 1)
+        (member_cell at.now.set.now at.now.members.now at.now.t i
+        (get_or (truth_columns 0 (kinds_of at.now.set.now.signature)) b 0)) }
+{
+    if wanted {
+        load_truths(at, rows, planes);
+    }
+}

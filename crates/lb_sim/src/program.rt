@@ -1,11 +1,14 @@
 //! Lane programs.
 
-ghost use Rattle.std.specs.Prelude.{◌≡◌, [], true, false, replicate};
+ghost use Rattle.std.specs.Prelude.{◌≡◌, ◌<◌, [], true, false, length, replicate, All};
 ghost use Rattle.lb_flat.specs.InOrder.{is_in_order};
 ghost use Rattle.lb_flat.specs.Programs.{flat_equations, program_of, IsInRange};
 ghost use Rattle.lb_sim.specs.Codes.{IsCodeOf};
+ghost use Rattle.lb_sim.specs.InputRows.{number_columns, places_of};
+ghost use Rattle.lb_sim.specs.ReadInputs.{LoadsReads};
 
 use crate::place::{Holding, Place, Value, Watched};
+use crate::read_inputs::ReadInputs;
 use lb_flat::FlatProgram;
 use lb_machine::{Code, PlaneId, WordId};
 
@@ -52,6 +55,12 @@ pub struct LaneProgram<'a> {
     pub constant_word: u32,
     pub memory_plane: u32,
     pub memory_word: u32,
+    /// The inputs that it reads.
+    pub(crate) read: ReadInputs,
+    pub(crate) ghost read_within: { All (λ w. w < length (number_columns 0
+        program.now.inputs.items)) read.numbers.items },
+    pub(crate) ghost read_law: { ∥ LoadsReads (program_of program.now)
+        (places_of 2 1 program.now.inputs.items) read.numbers.items read.truths ∥₁ },
     pub ghost in_range: { IsInRange program.now },
     pub ghost in_order: { is_in_order (replicate program.now.size false)
         (flat_equations program.now.clocks.items program.now.equations.items) ≡ true },

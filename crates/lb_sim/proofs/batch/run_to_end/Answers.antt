@@ -1,10 +1,18 @@
 -- Each lane comes an instant further in its trace, until no lane takes part.
-use Rattle.std.proofs.Common.{◌≡◌, ◌&&◌, [], sym, ap, ◌∙◌, subst, arith, refl, true}
+use Rattle.std.proofs.Common.{◌≡◌, ◌<◌, ◌&&◌, ℕ, List, [], get_or, sym, ap, ◌∙◌, subst, arith, refl}
+use Rattle.std.proofs.Common.{true}
+use Rattle.lb_syntax.specs.declared.tree.Kind.{Kind}
+use Rattle.lb_flat.specs.Inputs.{inputs_of}
 use Rattle.lb_lanes.specs.Planes.{IsPlaneOf, on}
 use Rattle.lb_lanes.specs.declared.planes.Plane.{Plane}
+use Rattle.lb_sim.specs.InputRows.{places_of}
 use Rattle.lb_sim.specs.Inputs.{inputs_row}
+use Rattle.lb_sim.specs.ReadInputs.{AreAlike}
+use Rattle.lb_sim.specs.declared.columns.Columns.{Columns}
+use Rattle.lb_sim.specs.declared.program.LaneProgram.{LaneProgram}
 use Rattle.lb_sim.proofs.Batches.{moves_on}
 use Rattle.lb_sim.proofs.RunningBatches.{all_begin, all_go_on, all_rest, all_ended, have_instant}
+use Rattle.lb_sim.proofs.RunningBatches.{AreRowsAlike}
 use Rattle.lb_sim.proofs.RunningLanes.{on_later}
 use Rattle.lb_sim.proofs.batch.run_to_end.Goals as goal
 
@@ -16,8 +24,8 @@ loop-t-init c = record {
   columns = refl;
 }
 
-pub load-requires-clause-live : goal.load-requires-clause-live
-load-requires-clause-live c =
+pub load_read-requires-clause-live : goal.load_read-requires-clause-live
+load_read-requires-clause-live c =
     have_instant c.args.set.now c.args.members.now c.loop-t.t c.active.result.0
     c.still-next.result.lanes c.still-next.result.until c.and-live.result.0 c.requires.few
     c.still-next.ensures c.and-live.ensures
@@ -41,15 +49,34 @@ loop-t-preserved c =
     let live_is : IsPlaneOf (λ i. on run.active.0 i && on lanes i) live.0 =
     subst (λ (p : Plane). IsPlaneOf (λ i. on p.0 i && on lanes i) live.0) c.active.ensures
     c.and-live.ensures in
+    let p = c.args.run.now.program.now in
+    let kinds_are = ap (λ (x : Columns). x.kinds.items) c.loop-t.invariant.columns
+    ∙ c.requires.inputs in
+    let rows : (i : ℕ) → i < 64 → on live.0 i ≡ true →
+    AreRowsAlike p (inputs_row c.load_read.new.self i)
+    (get_or (inputs_of set (get_or members i 0)) c.loop-t.t []) =
+    λ i l e.
+    subst
+    (λ (q : LaneProgram).
+    AreAlike (places_of 2 1 p.program.now.inputs.items) q.read.numbers.items q.read.truths
+    (inputs_row c.load_read.new.self i)
+    (get_or (inputs_of set (get_or members i 0)) c.loop-t.t []))
+    c.loop-t.invariant.done.program_is
+    (subst
+    (λ (kinds : List Kind).
+    AreAlike (places_of 2 1 kinds) run.program.now.read.numbers.items run.program.now.read.truths
+    (inputs_row c.load_read.new.self i)
+    (get_or (inputs_of set (get_or members i 0)) c.loop-t.t []))
+    kinds_are (c.load_read.ensures.rows i l e)) in
     record {
       done =
           all_go_on c.args.run.now.program.now run c.step.new.self set members c.loop-t.t lanes
-          c.still-next.result.until live (inputs_row c.load.new.self) c.requires.few
-          c.still-next.ensures live_is c.loop-t.invariant.done c.load.ensures.rows c.step.ensures;
+          c.still-next.result.until live (inputs_row c.load_read.new.self) c.requires.few
+          c.still-next.ensures live_is c.loop-t.invariant.done rows c.step.ensures;
       lanes =
           on_later set members c.loop-t.t lanes c.still-next.result.until
           c.still-next.ensures.lanes;
-      columns = c.load.ensures.kinds ∙ c.loop-t.invariant.columns;
+      columns = c.load_read.ensures.kinds ∙ c.loop-t.invariant.columns;
     }
 
 pub returns-clause-program : goal.returns-clause-program

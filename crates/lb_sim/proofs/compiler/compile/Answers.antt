@@ -1,4 +1,4 @@
-use Rattle.std.proofs.Common.{◌≤◌, [], length, sym, subst, rules}
+use Rattle.std.proofs.Common.{◌≤◌, ◌∙◌, [], length, sym, subst, rules}
 use Rattle.lb_flat.proofs.InOrder.{ready_of}
 use Rattle.lb_flat.specs.Programs.{flat_equations, program_of}
 use Rattle.lb_sim.specs.Steady.{IsTableOf}
@@ -10,6 +10,13 @@ pub allot_places-requires-clause-in_order : goal.allot_places-requires-clause-in
 allot_places-requires-clause-in_order c =
     let p = c.args.ordered.now.program in
     ready_of p.size (flat_equations p.clocks.items p.equations.items) c.args.ordered.now.in_order
+
+pub read_inputs-requires-clause-inputs : goal.read_inputs-requires-clause-inputs
+read_inputs-requires-clause-inputs c =
+    c.as_slice.ensures.value ∙ c.in_ok-known.ensures.inputs_at
+
+pub invariant_of-result-clause-read_law : goal.invariant_of-result-clause-read_law
+invariant_of-result-clause-read_law c = ∣ c.in_ok-read.ensures.loads ∣₁
 
 pub steady_table-requires-clause-in_order : goal.steady_table-requires-clause-in_order
 steady_table-requires-clause-in_order c =

@@ -1,4 +1,4 @@
-use Rattle.std.proofs.Common.{◌∙◌, arith, get_or}
+use Rattle.std.proofs.Common.{◌<◌, ◌∙◌, get_or, length, subst}
 use Rattle.lb_static.specs.Signature.{kinds_of}
 use Rattle.lb_flat.specs.Packed.{number_columns}
 use Rattle.lb_sim.specs.InputRows.{member_cell}
@@ -11,11 +11,14 @@ returns c =
     let columns = number_columns 0 (kinds_of at.set.now.signature) in
     record {
       words = c.put_four.ensures.words;
-      put = λ i w ge lt e l.
-          c.put_four.ensures.put w i (omega (arith, l, c.requires.room)) ge lt
+      put = λ i k ge lt e l.
+          let w = get_or c.args.places.now k 0 in
+          let inside : w < length columns =
+          subst (λ n. w < n) c.requires.room (c.requires.within k 0 l) in
+          c.put_four.ensures.put k i l ge lt
           ∙ four_are c.args.first i _ _ _ _
-          (λ k. member_cell at.set.now at.members.now at.t k (get_or columns w 0))
-          (c.numbers_of.ensures.numbers w l) (c.numbers_of-2.ensures.numbers w l)
-          (c.numbers_of-3.ensures.numbers w l) (c.numbers_of-4.ensures.numbers w l) ge lt;
-      others = λ i w h o l. c.put_four.ensures.others w i h o;
+          (λ m. member_cell at.set.now at.members.now at.t m (get_or columns w 0))
+          (c.numbers_of.ensures.numbers w inside) (c.numbers_of-2.ensures.numbers w inside)
+          (c.numbers_of-3.ensures.numbers w inside) (c.numbers_of-4.ensures.numbers w inside) ge lt;
+      others = λ i w h o. c.put_four.ensures.others w i h o;
     }

@@ -12,6 +12,7 @@ invariant_of-result c =
     let rest : length kinds - c.count_truths-truths.result ≡ length (number_columns 0 kinds) =
     omega (arith, counted, columns_counted 0 kinds) in
     record {
+      in_order = c.in_ok-every_number.ensures;
       all_truths = counted ∙ ap (λ ks. length (truth_columns 0 ks)) (sym same);
       all_numbers = rest ∙ ap (λ ks. length (number_columns 0 ks)) (sym same);
     }

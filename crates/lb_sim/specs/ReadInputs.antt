@@ -1,0 +1,118 @@
+-- Which inputs a flat program reads, and rows of inputs that are alike where they are read.
+-- Source: this project's rule.
+use Rattle.std.specs.Prelude.{◌≡◌, ◌<◌, ◌+◌, ◌++◌, ◌∷◌, ℕ, Bool, true, false, Some, None, List}
+use Rattle.std.specs.Prelude.{[], Option, length, get_or, slice_get}
+use Rattle.lb_syntax.specs.Lists.{Every}
+use Rattle.lb_check.specs.Scalars.{Scalar}
+use Rattle.lb_check.specs.Verdicts.{is_bad}
+use Rattle.lb_flat.specs.Flat.{Operation, Input, FlatEquation}
+use Rattle.lb_flat.specs.Judging.{FlatProgram, truth_elements}
+use Rattle.lb_flat.specs.Programs.{program_of}
+use Rattle.lb_flat.specs.Run.{clock_reads, keeps, reads}
+use Rattle.lb_flat.specs.Values.{operation_of}
+use Rattle.lb_flat.specs.declared.equation.Clock.{Clock}
+use Rattle.lb_flat.specs.declared.equation.ClockId.{ClockId}
+use Rattle.lb_flat.specs.declared.equation.Equation.{Equation}
+use Rattle.lb_flat.specs.declared.program.FlatProgram as declared
+use Rattle.lb_sim.specs.declared.place.Value.{Value}
+use Rattle.lb_sim.specs.declared.place.Value.TheVariants.{Truth, Number}
+
+-- ## Elements that are read
+
+-- a test of elements finds those that an operation reads, now or for its memory
+abbrev pub FindsOperands : (ℕ → Bool) → Operation → Type 0
+FindsOperands read o = Every (λ e. read e ≡ true) (reads o ++ keeps o)
+
+-- and those that a clock reads
+abbrev pub FindsClock : (ℕ → Bool) → FlatEquation → Type 0
+FindsClock read q = Every (λ e. read e ≡ true) (clock_reads q.clock)
+
+-- it finds all elements that a program reads, and those at which a truth is wanted
+pub record FindsReads (f : FlatProgram) (read : ℕ → Bool) : Type 0 where
+  pub operands : Every (λ q. FindsOperands read q.operation) f.equations
+  pub clocks : Every (FindsClock read) f.equations
+  pub truths : Every (λ e. read e ≡ true) (truth_elements f)
+
+-- marks on some elements, beside those that were there
+pub record AreMarkedToo (old new : List Bool) (elements : List ℕ) : Type 0 where
+  pub as_long : length new ≡ length old
+  pub still : (e : ℕ) → get_or old e false ≡ true → get_or new e false ≡ true
+  pub marked : Every (λ e. get_or new e false ≡ true) elements
+
+-- the element that a clock of a table waits for is marked
+abbrev pub IsClockMarked : List Clock → List Bool → Option ClockId → Type 0
+IsClockMarked clocks marks k =
+    (i : ClockId) (t : Clock) → k ≡ Some i → slice_get clocks i.0 ≡ Some t →
+    get_or marks t.element.0 false ≡ true
+
+-- marks are on all elements that a program of the code reads, and at which a truth is wanted
+pub record MarksReads (p : declared.FlatProgram) (marks : List Bool) : Type 0 where
+  pub as_long : length marks ≡ p.size
+  pub clocks :
+      (i : ℕ) (t : Clock) → slice_get p.clocks.items i ≡ Some t →
+      IsClockMarked p.clocks.items marks t.parent
+  pub ticks :
+      (i : ℕ) (q : Equation) → slice_get p.equations.items i ≡ Some q →
+      IsClockMarked p.clocks.items marks q.clock
+  pub operands :
+      (i : ℕ) (q : Equation) → slice_get p.equations.items i ≡ Some q →
+      FindsOperands (λ e. get_or marks e false) (operation_of q.operation)
+  pub truths :
+      Every (λ e. get_or marks e false ≡ true) (truth_elements (program_of p))
+
+-- ## Inputs that are loaded
+
+-- an input that stands at a place is loaded: of integers some, by their places among all of them,
+-- and Booleans all or none
+abbrev pub IsLoadedAt : List ℕ → Bool → Value → Type 0
+IsLoadedAt numbers truths (Truth p) = truths ≡ true
+IsLoadedAt numbers truths (Number w) =
+    (k : ℕ) × (k < length numbers) × (get_or numbers k 0 + 1 ≡ w.0)
+
+-- what was loaded is loaded still
+abbrev pub LoadsStill : (old new : List ℕ) → (old_truths new_truths : Bool) → Type 0
+LoadsStill old new old_truths new_truths =
+    (v : Value) → IsLoadedAt old old_truths v → IsLoadedAt new new_truths v
+
+-- an input stands at a plane, or at a word that is not the first
+abbrev pub IsInputPlace : Value → Type 0
+IsInputPlace (Truth p) = Unit {0}
+IsInputPlace (Number w) = 0 < w.0
+
+-- where the element of an input is read, the input is loaded
+abbrev pub IsLoadedFor :
+    (read : Bool) → List Value → (numbers : List ℕ) → (truths : Bool) → Operation → Type 0
+IsLoadedFor read inputs numbers truths (Input j) =
+    read ≡ true → (v : Value) → slice_get inputs j ≡ Some v → IsLoadedAt numbers truths v
+IsLoadedFor read inputs numbers truths o = Unit {0}
+
+-- all inputs that a program reads are loaded
+pub record LoadsReads (f : FlatProgram) (inputs : List Value) (numbers : List ℕ) (truths : Bool) :
+    Type 0 where
+  pub read : ℕ → Bool
+  pub finds : FindsReads f read
+  pub loads :
+      Every
+      (λ (q : FlatEquation).
+      IsLoadedFor (read q.element) inputs numbers truths q.operation)
+      f.equations
+
+-- ## Rows
+
+-- two rows have the same inputs where they are loaded, and no fault in one alone
+pub record AreAlike (places : List Value) (numbers : List ℕ) (truths : Bool)
+    (given other : List Scalar) : Type 0 where
+  pub same :
+      (j : ℕ) (v : Value) → slice_get places j ≡ Some v → IsLoadedAt numbers truths v →
+      slice_get given j ≡ slice_get other j
+  pub bad : (j : ℕ) → is_bad (Some (slice_get given j)) ≡ is_bad (Some (slice_get other j))
+  pub there : (j : ℕ) → slice_get places j ≡ None → slice_get given j ≡ slice_get other j
+
+-- traces, instant by instant
+abbrev pub AreAllAlike :
+    List Value → (numbers : List ℕ) → (truths : Bool) → (X Y : List (List Scalar)) → Type 0
+AreAllAlike places numbers truths [] [] = Unit {0}
+AreAllAlike places numbers truths [] (other ∷ Y) = ⊥
+AreAllAlike places numbers truths (given ∷ X) [] = ⊥
+AreAllAlike places numbers truths (given ∷ X) (other ∷ Y) =
+    AreAlike places numbers truths given other × AreAllAlike places numbers truths X Y
