@@ -63,9 +63,11 @@ awk -v records="$records" '
             for (i = 1; i <= split("count_cells lbench four_workers", names, " "); i++) {
                 name = names[i]
                 seconds = least[text, name]
-                printf "%-9s %-12s %8.2f %8.0f %9.0f %9.2f %s\n", text, name, seconds,
-                    seconds > 0 ? bytes[text] / 1e6 / seconds : 0, peak[text, name] * 1024 / 1e6,
-                    beside > 0 ? seconds / beside : 0, name == "lbench" ? "at most 3" : ""
+                speed = seconds ? bytes[text] / 1e6 / seconds : 0
+                ratio = beside ? seconds / beside : 0
+                wanted = name == "lbench" ? "at most 3" : ""
+                printf "%-9s %-12s %8.2f %8.0f %9.0f %9.2f %s\n", text, name, seconds, speed,
+                    peak[text, name] * 1024 / 1e6, ratio, wanted
             }
             cells = (columns == 20 ? 4 : 0.25) * columns * records
             printf "%-9s peak wanted at most %.0f MB\n", text, (bytes[text] + cells) / 1e6 + 20
