@@ -7,6 +7,7 @@ use Rattle.lb_machine.specs.declared.instruction.Instruction.{Instruction}
 use Rattle.lb_machine.specs.declared.instruction.PlaneId.{PlaneId}
 use Rattle.lb_machine.specs.declared.instruction.WordId.{WordId}
 use Rattle.lb_machine.specs.Correct.{IsGrown, IsPlaneFor, IsWordFor}
+use Rattle.lb_machine.specs.Listed.{listed}
 use Rattle.lb_machine.specs.Meaning.{Lane, IsDone, HasRun}
 use Rattle.lb_machine.specs.Straight.{IsNext, planes_after, words_after, IsStraight}
 
@@ -56,35 +57,35 @@ pub grown_by :
     (before after : Code) (i : Instruction) → after.first_plane ≡ before.first_plane →
     after.first_word ≡ before.first_word → before.planes ≤ after.planes →
     before.words ≤ after.words →
-    after.instructions.items ≡ before.instructions.items ++ i ∷ [] → IsGrown before after
+    (listed after.instructions) ≡ (listed before.instructions) ++ i ∷ [] → IsGrown before after
 grown_by before after i fp fw hp hw e = record {
   first_plane = fp;
   first_word = fw;
   planes = hp;
   words = hw;
-  runs = run_before before.instructions.items after.instructions.items i e;
+  runs = run_before (listed before.instructions) (listed after.instructions) i e;
 }
 
 -- and a plane that the instruction writes is for what it means
 pub plane_by :
     (before after : Code) (i : Instruction) (value : Lane → Bool) (p : PlaneId) →
-    after.instructions.items ≡ before.instructions.items ++ i ∷ [] → p.0 < after.planes →
+    (listed after.instructions) ≡ (listed before.instructions) ++ i ∷ [] → p.0 < after.planes →
     ((s : Lane) → IsDone s i → s.bits p.0 ≡ value s) → IsPlaneFor after value p
 plane_by before after i value p e lt means = record {
   within = lt;
   means = λ s h.
-      means s (run_last before.instructions.items after.instructions.items i e s h);
+      means s (run_last (listed before.instructions) (listed after.instructions) i e s h);
 }
 
 -- the same of a word
 pub word_by :
     (before after : Code) (i : Instruction) (value : Lane → ℤ) (w : WordId) →
-    after.instructions.items ≡ before.instructions.items ++ i ∷ [] → w.0 < after.words →
+    (listed after.instructions) ≡ (listed before.instructions) ++ i ∷ [] → w.0 < after.words →
     ((s : Lane) → IsDone s i → s.ints w.0 ≡ value s) → IsWordFor after value w
 word_by before after i value w e lt means = record {
   within = lt;
   means = λ s h.
-      means s (run_last before.instructions.items after.instructions.items i e s h);
+      means s (run_last (listed before.instructions) (listed after.instructions) i e s h);
 }
 
 -- ## Copies

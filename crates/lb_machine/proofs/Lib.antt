@@ -1,3 +1,4 @@
 pub mod Running
 pub mod Carrying
 pub mod Building
+pub mod Listing

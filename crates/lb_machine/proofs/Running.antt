@@ -1,6 +1,6 @@
 -- What the run of straight code keeps: all that was done stays done, since later instructions write
 -- places that no earlier one reads or writes.
-use Rattle.std.proofs.Common.{◌≡◌, ℕ, suc, ◌+◌, ◌<◌, ◌≤◌, List, [], ◌∷◌, length, get_or}
+use Rattle.std.proofs.Common.{◌≡◌, ℕ, suc, ◌+◌, ◌<◌, ◌≤◌, List, [], ◌∷◌, ◌++◌, length, get_or, map}
 use Rattle.std.proofs.Common.{not, ◌||◌, drop, cond, refl, sym, ap, ap₂, ◌∙◌, subst, arith, ℤ}
 use Rattle.std.proofs.Common.{add-one}
 use Rattle.std.proofs.Math.Seq.{drop-cons}
@@ -12,6 +12,9 @@ use Rattle.lb_lanes.specs.Planes.{on}
 use Rattle.lb_machine.specs.declared.instruction.Instruction.{Instruction}
 use Rattle.lb_machine.specs.declared.instruction.Instruction.TheVariants.{Select, Compare}
 use Rattle.lb_machine.specs.declared.instruction.Instruction.TheVariants.{Operate, Blend}
+use Rattle.lb_machine.specs.declared.instructions.Block.{Block}
+use Rattle.lb_machine.specs.declared.instructions.Choice.{Choice}
+use Rattle.lb_machine.specs.Listed.{select_of, unpacked}
 use Rattle.lb_machine.specs.Meaning.{Lane, lane_at, compared, IsDone}
 use Rattle.lb_machine.specs.Straight.{IsNext, planes_after, words_after, IsStraight, IsFit}
 use Rattle.lb_machine.specs.Straight.{KeepsPlane, KeepsWord}
@@ -126,15 +129,48 @@ stays_done p w s s' (Blend m a b out) n h d =
     ∙ ap₂ (cond (s.bits m.0)) (h.words a.0 (omega (arith, n.1)))
     (h.words b.0 (omega (arith, n.2))))
 
+-- ## What is left of listed code
+
+pub next_block :
+    (blocks : List Block) (choices : List Choice) (j : ℕ) (d b : Block) → b ≡ get_or blocks j d →
+    j < length blocks →
+    unpacked (drop j blocks) choices
+    ≡ map select_of b.choices.items ++ b.last ∷ unpacked (drop (j + 1) blocks) choices
+next_block blocks choices j d b is lt =
+    let cut : drop j blocks ≡ get_or blocks j d ∷ drop (j + 1) blocks =
+    rw (add-one, drop-cons blocks j d) in
+    ap (λ bs. unpacked bs choices) (cut ∙ ap (λ x. x ∷ drop (j + 1) blocks) (sym is))
+
+pub no_block :
+    (blocks : List Block) (choices : List Choice) (j : ℕ) → length blocks ≤ j →
+    unpacked (drop j blocks) choices ≡ map select_of choices
+no_block blocks choices j le = ap (λ bs. unpacked bs choices) (drop_of_length-le blocks le)
+
+pub next_choice :
+    (choices : List Choice) (more : List Instruction) (k : ℕ) (d c : Choice) →
+    c ≡ get_or choices k d → k < length choices →
+    map select_of (drop k choices) ++ more
+    ≡ select_of c ∷ (map select_of (drop (k + 1) choices) ++ more)
+next_choice choices more k d c is lt =
+    let cut : drop k choices ≡ get_or choices k d ∷ drop (k + 1) choices =
+    rw (add-one, drop-cons choices k d) in
+    ap (λ cs. map select_of cs ++ more) (cut ∙ ap (λ x. x ∷ drop (k + 1) choices) (sym is))
+
+pub no_choice :
+    (choices : List Choice) (more : List Instruction) (k : ℕ) → length choices ≤ k →
+    map select_of (drop k choices) ++ more ≡ more
+no_choice choices more k le = ap (λ cs. map select_of cs ++ more) (drop_of_length-le choices le)
+
 -- ## The run
 
--- before instruction i: the rest goes on from what is there, and where it has been done, in a lane
--- that is as this one up to there, all has been done
+-- with this rest of the code to do: it goes on from what is there, and where it has been done, in a
+-- lane that is as this one up to there, all has been done
 pub record IsRunning (first_plane first_word : ℕ) (code : List Instruction) (P W : ℕ)
-    (planes0 planes : List ℕ) (words0 words : List (List ℤ)) (i : ℕ) : Type 0 where
+    (planes0 planes : List ℕ) (words0 words : List (List ℤ)) (rest : List Instruction) :
+    Type 0 where
   pub next_plane : ℕ
   pub next_word : ℕ
-  pub straight : IsStraight next_plane next_word (drop i code) P W
+  pub straight : IsStraight next_plane next_word rest P W
   pub planes_long : P ≤ length planes
   pub words_long : W ≤ length words
   pub more_planes : first_plane ≤ next_plane
@@ -144,12 +180,12 @@ pub record IsRunning (first_plane first_word : ℕ) (code : List Instruction) (P
   pub finishing :
       (lane : ℕ) → lane < 64 → (s : Lane) →
       AreAlike next_plane next_word (lane_at planes words lane) s →
-      AllByRecursion (IsDone s) (drop i code) → AllByRecursion (IsDone s) code
+      AllByRecursion (IsDone s) rest → AllByRecursion (IsDone s) code
 
 pub starts :
     (p w : ℕ) (code : List Instruction) (P W : ℕ) (planes : List ℕ) (words : List (List ℤ)) →
     IsStraight p w code P W → P ≤ length planes → W ≤ length words →
-    IsRunning p w code P W planes planes words words 0
+    IsRunning p w code P W planes planes words words code
 starts p w code P W planes words h lp lw = record {
   next_plane = p;
   next_word = w;
@@ -164,36 +200,27 @@ starts p w code P W planes words h lp lw = record {
 }
 
 module _ (p w : ℕ) (code : List Instruction) (P W : ℕ) (planes0 planes : List ℕ)
-    (words0 words : List (List ℤ)) (i : ℕ)
-    (h : IsRunning p w code P W planes0 planes words0 words i) where
+    (words0 words : List (List ℤ)) (rest : List Instruction)
+    (h : IsRunning p w code P W planes0 planes words0 words rest) where
   -- at the end all has been done
   pub ends :
-      length code ≤ i → (lane : ℕ) → lane < 64 →
+      rest ≡ [] → (lane : ℕ) → lane < 64 →
       AllByRecursion (IsDone (lane_at planes words lane)) code
-  ends le lane lt =
+  ends none lane lt =
       h.finishing lane lt (lane_at planes words lane)
       (record { planes = λ k l. refl; words = λ k l. refl })
-      (subst (AllByRecursion (IsDone (lane_at planes words lane)))
-      (sym (drop_of_length-le code le)) tt)
+      (subst (AllByRecursion (IsDone (lane_at planes words lane))) (sym none) tt)
 
-  module _ (d x : Instruction) (is : x ≡ get_or code i d) (lt : i < length code) where
-    abbrev here : Instruction
-    here = get_or code i d
-
-    cut : drop i code ≡ here ∷ drop (i + 1) code
-    cut = rw (add-one, drop-cons code i d)
-
+  module _ (here : Instruction) (more : List Instruction) (cut : rest ≡ here ∷ more) where
     parts :
         IsNext h.next_plane h.next_word here
-        × IsStraight (planes_after h.next_plane here) (words_after h.next_word here)
-        (drop (i + 1) code) P W
+        × IsStraight (planes_after h.next_plane here) (words_after h.next_word here) more P W
     parts = subst (λ is. IsStraight h.next_plane h.next_word is P W) cut h.straight
 
-    pub fits : IsFit (length planes) (length words) x
+    pub fits : IsFit (length planes) (length words) here
     fits =
-        subst (IsFit (length planes) (length words)) (sym is)
-        (next_fits h.next_plane h.next_word (length planes) (length words) here parts.0
-        (omega (arith, room_planes, h.planes_long)) (omega (arith, room_words, h.words_long)))
+        next_fits h.next_plane h.next_word (length planes) (length words) here parts.0
+        (omega (arith, room_planes, h.planes_long)) (omega (arith, room_words, h.words_long))
       where
         room_planes : planes_after h.next_plane here ≤ P
         room_planes = straight_planes _ _ _ _ _ parts.1
@@ -204,10 +231,10 @@ module _ (p w : ℕ) (code : List Instruction) (P W : ℕ) (planes0 planes : Lis
     pub goes_on :
         (planes' : List ℕ) (words' : List (List ℤ)) → length planes' ≡ length planes →
         length words' ≡ length words →
-        ((lane : ℕ) → lane < 64 → IsDone (lane_at planes' words' lane) x) →
-        ((k : ℕ) → KeepsPlane x k → get_or planes' k 0 ≡ get_or planes k 0) →
-        ((k : ℕ) → KeepsWord x k → get_or words' k [] ≡ get_or words k []) →
-        IsRunning p w code P W planes0 planes' words0 words' (i + 1)
+        ((lane : ℕ) → lane < 64 → IsDone (lane_at planes' words' lane) here) →
+        ((k : ℕ) → KeepsPlane here k → get_or planes' k 0 ≡ get_or planes k 0) →
+        ((k : ℕ) → KeepsWord here k → get_or words' k [] ≡ get_or words k []) →
+        IsRunning p w code P W planes0 planes' words0 words' more
     goes_on planes' words' lp lw done planes_same words_same = record {
       next_plane = planes_after h.next_plane here;
       next_word = words_after h.next_word here;
@@ -217,28 +244,22 @@ module _ (p w : ℕ) (code : List Instruction) (P W : ℕ) (planes0 planes : Lis
       more_planes = omega (arith, h.more_planes, grown_planes);
       more_words = omega (arith, h.more_words, grown_words);
       first_planes = λ k l.
-          same_planes k (plane_kept h.next_plane h.next_word here k parts.0
+          planes_same k (plane_kept h.next_plane h.next_word here k parts.0
           (omega (arith, l, h.more_planes)))
           ∙ h.first_planes k l;
       first_words = λ k l.
-          same_words k (word_kept h.next_plane h.next_word here k parts.0
+          words_same k (word_kept h.next_plane h.next_word here k parts.0
           (omega (arith, l, h.more_words)))
           ∙ h.first_words k l;
-      finishing = λ lane l s alike rest.
+      finishing = λ lane l s alike after.
           h.finishing lane l s (back lane s alike)
           (subst (AllByRecursion (IsDone s)) (sym cut) (
             stays_done h.next_plane h.next_word (lane_at planes' words' lane) s here parts.0 alike
-                (subst (IsDone (lane_at planes' words' lane)) is (done lane l)),
-            rest,
+                (done lane l),
+            after,
           ));
     }
       where
-        same_planes : (k : ℕ) → KeepsPlane here k → get_or planes' k 0 ≡ get_or planes k 0
-        same_planes k keeps = planes_same k (subst (λ y. KeepsPlane y k) (sym is) keeps)
-
-        same_words : (k : ℕ) → KeepsWord here k → get_or words' k [] ≡ get_or words k []
-        same_words k keeps = words_same k (subst (λ y. KeepsWord y k) (sym is) keeps)
-
         grown_planes : h.next_plane ≤ planes_after h.next_plane here
         grown_planes = more_planes_after h.next_plane here
 
@@ -253,10 +274,10 @@ module _ (p w : ℕ) (code : List Instruction) (P W : ℕ) (planes0 planes : Lis
         back lane s alike = record {
           planes = λ k l.
               alike.planes k (omega (arith, l, grown_planes))
-              ∙ ap (λ x. on x lane) (same_planes k (plane_kept h.next_plane h.next_word here k
+              ∙ ap (λ x. on x lane) (planes_same k (plane_kept h.next_plane h.next_word here k
               parts.0 l));
           words = λ k l.
               alike.words k (omega (arith, l, grown_words))
-              ∙ ap (λ x. lane_of x lane) (same_words k (word_kept h.next_plane h.next_word here k
+              ∙ ap (λ x. lane_of x lane) (words_same k (word_kept h.next_plane h.next_word here k
               parts.0 l));
         }

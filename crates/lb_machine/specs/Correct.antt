@@ -1,9 +1,11 @@
--- What code promises: run in all lanes at once, it is done in each of them; and as it is put together,
--- each place that a call gives holds what the call names, in every lane in which the code is done.
+-- What code promises: run in all lanes at once, it is done in each of them; and as it is put
+-- together, each place that a call gives holds what the call names, in every lane in which the code
+-- is done.
 -- This file says what data of the program mean. No lane occurs beside another.
 use Rattle.std.specs.Prelude.{◌≡◌, ◌<◌, ◌≤◌, ℕ, Bool, not, ◌||◌, Option, List}
 use Rattle.std.specs.Prelude.{ℤ}
 use Rattle.std.specs.List.{AllByRecursion}
+use Rattle.lb_machine.specs.Listed.{listed}
 use Rattle.lb_lanes.specs.Kernels.{kept, faulty}
 use Rattle.lb_machine.specs.Meaning.{Lane, HasRun, IsDone, lane_at}
 use Rattle.lb_machine.specs.declared.code.Code.{Code}
@@ -26,17 +28,18 @@ pub record IsGrown (before after : Code) : Type 0 where
   pub first_word : after.first_word ≡ before.first_word
   pub planes : before.planes ≤ after.planes
   pub words : before.words ≤ after.words
-  pub runs : (s : Lane) → HasRun after.instructions.items s → HasRun before.instructions.items s
+  pub runs :
+      (s : Lane) → HasRun (listed after.instructions) s → HasRun (listed before.instructions) s
 
 -- a plane of the code holds this in each lane in which the code has been run
 pub record IsPlaneFor (code : Code) (value : Lane → Bool) (p : PlaneId) : Type 0 where
   pub within : p.0 < code.planes
-  pub means : (s : Lane) → HasRun code.instructions.items s → s.bits p.0 ≡ value s
+  pub means : (s : Lane) → HasRun (listed code.instructions) s → s.bits p.0 ≡ value s
 
 -- and a word this
 pub record IsWordFor (code : Code) (value : Lane → ℤ) (w : WordId) : Type 0 where
   pub within : w.0 < code.words
-  pub means : (s : Lane) → HasRun code.instructions.items s → s.ints w.0 ≡ value s
+  pub means : (s : Lane) → HasRun (listed code.instructions) s → s.ints w.0 ≡ value s
 
 -- a word holds what an operator gives in the lanes where neither of two planes is true, and a plane
 -- where the second one is true or the operator has a fault
@@ -45,8 +48,8 @@ pub record AreResultsFor (code : Code) (value : Lane → Option ℤ) (idle bad :
   pub word_within : w.0 < code.words
   pub plane_within : p.0 < code.planes
   pub result :
-      (s : Lane) → HasRun code.instructions.items s →
+      (s : Lane) → HasRun (listed code.instructions) s →
       s.ints w.0 ≡ kept (not (s.bits idle.0 || s.bits bad.0)) (value s)
   pub faults :
-      (s : Lane) → HasRun code.instructions.items s →
+      (s : Lane) → HasRun (listed code.instructions) s →
       s.bits p.0 ≡ (s.bits bad.0 || faulty (not (s.bits idle.0 || s.bits bad.0)) (value s))

@@ -3,6 +3,7 @@
 
 ghost use Rattle.std.specs.Prelude.{◌≡◌, ◌<◌, ◌≤◌, ◌+◌, ◌++◌, [], ◌∷◌, IfOk, OnOk, if◌then◌else◌};
 ghost use Rattle.lb_lanes.specs.Operators.{result_of};
+ghost use Rattle.lb_machine.specs.Listed.{listed};
 ghost use Rattle.lb_machine.specs.Meaning.{combined, compared};
 ghost use Rattle.lb_machine.specs.Straight.{planes_after, words_after, IsNext};
 ghost use Rattle.lb_machine.specs.declared.instruction.PlaneOperator.TheVariants.{Xor};
@@ -11,6 +12,7 @@ use crate::code::Code;
 use crate::instruction::{
     Comparison, EVERYWHERE, Instruction, NOWHERE, PlaneId, PlaneOperator, WordId,
 };
+use crate::instructions::Instructions;
 use crate::known::{known_blend, known_choice};
 use lb_lanes::IntOperator;
 use std::alloc::{AllocError, Global};
@@ -26,14 +28,14 @@ impl Code {
         ensures first_word { result.first_word ≡ first_word }
         ensures planes { result.planes ≡ first_plane }
         ensures words { result.words ≡ first_word }
-        ensures none { result.instructions.items ≡ [] }
+        ensures none { listed result.instructions ≡ [] }
     {
         Code {
             first_plane,
             first_word,
             planes: first_plane,
             words: first_word,
-            instructions: Vec::new(alloc),
+            instructions: Instructions::new(alloc),
         }
     }
 
@@ -67,8 +69,8 @@ impl Code {
         ensures first_word { self.new.first_word ≡ self.old.first_word }
         ensures planes { OnOk result (self.new.planes ≡ self.old.planes + 1) }
         ensures words { self.new.words ≡ self.old.words }
-        ensures last { OnOk result (self.new.instructions.items
-            ≡ self.old.instructions.items ++ i ∷ []) }
+        ensures last { OnOk result (listed self.new.instructions
+            ≡ listed self.old.instructions ++ i ∷ []) }
     {
         self.instructions.push(i)?;
         self.planes += 1;
@@ -85,8 +87,8 @@ impl Code {
         ensures first_word { self.new.first_word ≡ self.old.first_word }
         ensures planes { self.new.planes ≡ self.old.planes }
         ensures words { OnOk result (self.new.words ≡ self.old.words + 1) }
-        ensures last { OnOk result (self.new.instructions.items
-            ≡ self.old.instructions.items ++ i ∷ []) }
+        ensures last { OnOk result (listed self.new.instructions
+            ≡ listed self.old.instructions ++ i ∷ []) }
     {
         self.instructions.push(i)?;
         self.words += 1;

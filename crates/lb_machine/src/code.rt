@@ -1,9 +1,10 @@
 //! Code that has been put together.
 
 ghost use Rattle.std.specs.Prelude.{◌≤◌};
+ghost use Rattle.lb_machine.specs.Listed.{listed};
 ghost use Rattle.lb_machine.specs.Straight.{IsStraight, straight_prop};
 
-use crate::instruction::Instruction;
+use crate::instructions::Instructions;
 
 /// Instructions, each of which writes the next plane or the next word, or one of each.
 ///
@@ -16,10 +17,10 @@ pub struct Code {
     /// How many planes and words there are once it has run.
     pub planes: u32,
     pub words: u32,
-    pub instructions: Vec<Instruction>,
-    pub ghost straight: { IsStraight first_plane first_word instructions.items planes
-        words } by { straight_prop first_plane first_word instructions.items planes
-            words },
+    pub instructions: Instructions,
+    pub ghost straight: { IsStraight first_plane first_word (listed instructions)
+        planes words } by { straight_prop first_plane first_word (listed instructions)
+            planes words },
     pub ghost constants: { 2 ≤ first_plane },
     pub ghost zero: { 1 ≤ first_word },
     pub ghost more_planes: { first_plane ≤ planes },

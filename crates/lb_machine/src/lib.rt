@@ -12,6 +12,7 @@ mod build;
 mod carry;
 mod code;
 mod instruction;
+mod instructions;
 mod known;
 mod run;
 
@@ -20,3 +21,4 @@ pub use code::Code;
 pub use instruction::{
     Comparison, EVERYWHERE, Instruction, NOWHERE, PlaneId, PlaneOperator, WordId, ZERO,
 };
+pub use instructions::{Block, Choice, Instructions};

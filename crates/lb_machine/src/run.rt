@@ -5,11 +5,13 @@ ghost use Rattle.lb_lanes.specs.Correct.{IsBlend, IsKernel};
 ghost use Rattle.lb_lanes.specs.Kernels.{lane_of};
 ghost use Rattle.lb_lanes.specs.Operators.{result_of};
 ghost use Rattle.lb_lanes.specs.Planes.{IsPlaneOf, on};
+ghost use Rattle.lb_machine.specs.Listed.{listed, select_of};
 ghost use Rattle.lb_machine.specs.Meaning.{compared, lane_at, IsDone};
 ghost use Rattle.lb_machine.specs.Straight.{IsFit, KeepsPlane, KeepsWord};
 
 use crate::code::Code;
 use crate::instruction::{Comparison, Instruction, PlaneId, WordId};
+use crate::instructions::Choice;
 use lb_lanes::{IntOperator, LaneWord, Plane};
 
 // A plane by its number.
@@ -67,6 +69,22 @@ fn blend(mask: Plane, a: WordId, b: WordId, out: WordId, words: &mut [LaneWord])
     after[0].set_blend(mask, &before[a.0 as usize], &before[b.0 as usize]);
 }
 
+// Does a choice in all lanes.
+fn choose(c: Choice, planes: &mut [u64])
+    requires { IsFit (length planes.old) 0 (select_of c) }
+    ensures planes { length planes.new ≡ length planes.old }
+    ensures done { (lane : ℕ) → lane < 64 → IsDone (lane_at planes.new [] lane) (select_of c) }
+    ensures other_planes { (k : ℕ) → k ≢ c.out.0
+        → slice_index planes.new k ≡ slice_index planes.old k }
+{
+    let made = Plane::select(
+        plane(planes, c.mask),
+        plane(planes, c.a),
+        plane(planes, c.b),
+    );
+    planes[c.out.0 as usize] = made.0;
+}
+
 // Does one instruction in all lanes.
 fn execute(i: Instruction, planes: &mut [u64], words: &mut [LaneWord])
     requires { IsFit (length planes.old) (length words.old) i }
@@ -79,10 +97,7 @@ fn execute(i: Instruction, planes: &mut [u64], words: &mut [LaneWord])
         → slice_index_or words.new k [] ≡ slice_index_or words.old k [] }
 {
     match i {
-        Instruction::Select(mask, a, b, out) => {
-            let made = Plane::select(plane(planes, mask), plane(planes, a), plane(planes, b));
-            planes[out.0 as usize] = made.0;
-        }
+        Instruction::Select(mask, a, b, out) => choose(Choice { mask, a, b, out }, planes),
         Instruction::Compare(c, a, b, out) => {
             let made = compared(c, &words[a.0 as usize], &words[b.0 as usize]);
             planes[out.0 as usize] = made.0;
@@ -107,14 +122,21 @@ impl Code {
         requires words { self.now.words ≤ length words.old }
         ensures planes { length planes.new ≡ length planes.old }
         ensures words { length words.new ≡ length words.old }
-        ensures done { AreDoneInAllLanes self.now.instructions.items planes.new words.new }
+        ensures done { AreDoneInAllLanes (listed self.now.instructions) planes.new words.new }
         ensures first_planes { (k : ℕ) → k < self.now.first_plane
             → slice_index planes.new k ≡ slice_index planes.old k }
         ensures first_words { (k : ℕ) → k < self.now.first_word
             → slice_index_or words.new k [] ≡ slice_index_or words.old k [] }
     {
-        for i in 0..self.instructions.len() {
-            execute(self.instructions[i], planes, words);
+        'outer: for j in 0..self.instructions.blocks.len() {
+            let block = &self.instructions.blocks[j];
+            'choices: for k in 0..block.choices.len() {
+                choose(block.choices[k], planes);
+            }
+            execute(block.last, planes, words);
+        }
+        'rest: for k in 0..self.instructions.choices.len() {
+            choose(self.instructions.choices[k], planes);
         }
     }
 }

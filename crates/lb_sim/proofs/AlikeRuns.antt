@@ -1,8 +1,7 @@
 -- Two traces that are alike where their inputs are read have the same verdict.
 use Rattle.std.proofs.Common.{◌≡◌, ◌+◌, ◌&&◌, ◌||◌, ◌++◌, ◌∷◌, ℕ, zero, suc, Bool, true, false}
-use Rattle.std.proofs.Common.{List, [], Option, Some, None, map, set, replicate, refl, sym, ap, ap₂, ◌∙◌}
+use Rattle.std.proofs.Common.{List, [], Option, Some, None, map, set, replicate, refl, ap, ap₂, ◌∙◌}
 use Rattle.std.proofs.Common.{subst, arith}
-use Rattle.std.specs.List.{list_any}
 use Rattle.std.specs.Prelude.{slice_get}
 use Rattle.lb_syntax.specs.Lists.{Every}
 use Rattle.lb_check.specs.Scalars.{Scalar, Cell, one_scalar, two_scalars}

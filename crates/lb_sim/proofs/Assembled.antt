@@ -15,6 +15,7 @@ use Rattle.lb_flat.specs.Judging.{FlatProgram}
 use Rattle.lb_lanes.specs.Planes.{on}
 use Rattle.lb_lanes.proofs.OnPlanes.{on-zero}
 use Rattle.lb_machine.specs.Correct.{IsGrown, IsPlaneFor}
+use Rattle.lb_machine.specs.Listed.{listed}
 use Rattle.lb_machine.specs.Meaning.{Lane, HasRun, HasConstants}
 use Rattle.lb_machine.specs.declared.code.Code.{Code}
 use Rattle.lb_machine.specs.declared.instruction.PlaneId.{PlaneId}
@@ -158,7 +159,7 @@ abbrev pub ShowAll : FlatProgram → Code → List Place → (inputs : List Valu
     (constants held : List Holding) → Type 0
 ShowAll f emitted places inputs constants held =
     Every (KindFits f.inputs (kind_among f.kinds)) f.equations →
-    (s : Lane) → HasRun emitted.instructions.items s →
+    (s : Lane) → HasRun (listed emitted.instructions) s →
     HasAllConstants s constants f.equations →
     Every (IsShownBy (given_at s inputs) s places held) f.equations
 

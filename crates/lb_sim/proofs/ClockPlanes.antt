@@ -12,6 +12,7 @@ use Rattle.lb_flat.specs.declared.equation.Clock.{Clock}
 use Rattle.lb_flat.specs.declared.equation.ClockId.{ClockId}
 use Rattle.lb_flat.proofs.Steps.{is_now_step}
 use Rattle.lb_machine.specs.Correct.{IsGrown, IsPlaneFor}
+use Rattle.lb_machine.specs.Listed.{listed}
 use Rattle.lb_machine.specs.Meaning.{Lane, HasRun}
 use Rattle.lb_machine.specs.declared.code.Code.{Code}
 use Rattle.lb_machine.specs.declared.instruction.PlaneId.{PlaneId}
@@ -43,7 +44,7 @@ pub record IsAtDepth (before code : Code) (clocks : List Clock) (places : List P
   pub within : plane.0 < code.planes
   pub in_table : IsClock clocks rest
   pub means :
-      (s : Lane) → HasRun code.instructions.items s → (n : ℕ) → n + depth ≡ length clocks →
+      (s : Lane) → HasRun (listed code.instructions) s → (n : ℕ) → n + depth ≡ length clocks →
       (s.bits plane.0 && is_now (row_at s places) (clock_within n clocks rest))
       ≡ is_now (row_at s places) (clock_of clocks clock)
 

@@ -12,6 +12,7 @@ use Rattle.lb_flat.specs.FurtherKinds.{kind_among}
 use Rattle.lb_flat.specs.Judging.{FlatProgram, some_in, named_elements}
 use Rattle.lb_flat.proofs.Lists.{Every-append, Every-drop}
 use Rattle.lb_machine.specs.Correct.{IsGrown}
+use Rattle.lb_machine.specs.Listed.{listed}
 use Rattle.lb_machine.specs.Meaning.{Lane, HasRun}
 use Rattle.lb_machine.specs.declared.code.Code.{Code}
 use Rattle.lb_machine.specs.declared.instruction.PlaneId.{PlaneId}
@@ -100,7 +101,7 @@ module _ (code : Code) (home next : Holding) (mp mw : ℕ) (P P' : List PlaneId)
         taken_row (IsWordSource code (word_in next.value)) mw (word_in home.value) W W' taken.word
         words end_w lt_w row_w
 
-    module _ (s s' : Lane) (run : HasRun code.instructions.items s)
+    module _ (s s' : Lane) (run : HasRun (listed code.instructions) s)
         (over : IsCarriedOver mp mw P' W' s s') where
       carried_nil : (j : ℕ) (d : PlaneId) → j < length taken.after_nil →
           s'.bits (mp + j) ≡ s.bits (get_or taken.after_nil j d).0
@@ -172,7 +173,7 @@ module _ (f : FlatProgram) (places : List Place) (kept held : List Holding) (mp 
     pub words : IsRow (mw + length W) (word_row kept (drop i f.equations)) code.first_word
     pub moved :
         Every (KindFits f.inputs (kind_among f.kinds)) f.equations →
-        (s s' : Lane) → HasRun code.instructions.items s →
+        (s s' : Lane) → HasRun (listed code.instructions) s →
         ShowsMemories s kept held f.equations → IsCarriedOver mp mw P W s s' → IsQuiet s →
         AreMoved s s' (take i f.equations)
 

@@ -12,6 +12,7 @@ use Rattle.lb_flat.specs.Flat.{FlatEquation}
 use Rattle.lb_flat.specs.Run.{IsNext, Ready, is_now, reads, clock_reads, equation_reads}
 use Rattle.lb_flat.proofs.Lists.{Every-append, Every-first, Every-second}
 use Rattle.lb_machine.specs.Correct.{IsGrown}
+use Rattle.lb_machine.specs.Listed.{listed}
 use Rattle.lb_machine.specs.Meaning.{Lane, HasRun}
 use Rattle.lb_machine.specs.declared.code.Code.{Code}
 use Rattle.lb_sim.specs.Compiled.{given_at}
@@ -86,7 +87,7 @@ pub record IsCompiling (wanted : Lane → FlatEquation → Type 0) (size : ℕ) 
   pub ready : Ready size done (drop i Q)
   pub as_long : length places ≡ size
   pub emitted :
-      (s : Lane) → HasRun code.instructions.items s →
+      (s : Lane) → HasRun (listed code.instructions) s →
       Every (IsEmitted (wanted s) (given_at s inputs) s places kept done) (take i Q)
 
 module _ (wanted : Lane → FlatEquation → Type 0) (size : ℕ) (Q : List FlatEquation) (code : Code)
@@ -115,7 +116,7 @@ module _ (wanted : Lane → FlatEquation → Type 0) (size : ℕ) (Q : List Flat
 
     pub goes_on :
         (code' : Code) (p : Place) → IsGrown code code' →
-        ((s : Lane) → HasRun code'.instructions.items s → wanted s q →
+        ((s : Lane) → HasRun (listed code'.instructions) s → wanted s q →
         (s.bits p.present.0 ≡ is_now (row_at s places) q.clock)
         × IsShown (given_at s inputs) s places (kept_at kept q.element) q.operation
         (scalar_at s p.holding)) →
@@ -150,7 +151,7 @@ module _ (wanted : Lane → FlatEquation → Type 0) (size : ℕ) (Q : List Flat
 
   -- at the end each equation that is wanted shows its element
   pub ends :
-      length Q ≤ i → (s : Lane) → HasRun code.instructions.items s → Every (wanted s) Q →
+      length Q ≤ i → (s : Lane) → HasRun (listed code.instructions) s → Every (wanted s) Q →
       Every (IsShownBy (given_at s inputs) s places kept) Q
   ends le s r w =
       all_shown (wanted s) (given_at s inputs) s Q

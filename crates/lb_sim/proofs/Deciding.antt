@@ -3,6 +3,7 @@ use Rattle.std.proofs.Common.{◌≡◌, ℕ, List, ap, ap₂, ◌∙◌}
 use Rattle.lb_check.specs.Verdicts.{is_bad, is_nil}
 use Rattle.lb_flat.specs.Judging.{FlatProgram, some_in, row_judged, named_elements}
 use Rattle.lb_flat.specs.Judging.{truth_elements}
+use Rattle.lb_machine.specs.Listed.{listed}
 use Rattle.lb_machine.specs.Meaning.{Lane, HasRun}
 use Rattle.lb_machine.specs.declared.code.Code.{Code}
 use Rattle.lb_sim.specs.Showing.{row_at}
@@ -13,7 +14,7 @@ use Rattle.lb_sim.specs.declared.place.Watched.{Watched}
 -- the verdict
 pub decides :
     (code : Code) (f : FlatProgram) (places : List Place) (w : Watched) (t : ℕ) (s : Lane) →
-    AreWatched code f places w → HasRun code.instructions.items s →
+    AreWatched code f places w → HasRun (listed code.instructions) s →
     lane_judged w t s ≡ row_judged f t (row_at s places)
 decides code f places w t s h r =
     let row = row_at s places in

@@ -14,6 +14,7 @@ use Rattle.lb_flat.specs.Flat.{ApplyUnary}
 use Rattle.lb_flat.specs.Flat.{ApplyBinary, Choose, FirstThen, Previous, Latest, Sample}
 use Rattle.lb_flat.specs.Judging.{FlatProgram, some_in, named_elements, row_judged, flat_verdict}
 use Rattle.lb_flat.specs.Run.{Row, Ready, reads, keeps, clock_reads, row_of, run}
+use Rattle.lb_machine.specs.Listed.{listed}
 use Rattle.lb_machine.specs.Meaning.{Lane, HasRun}
 use Rattle.lb_machine.specs.declared.code.Code.{Code}
 use Rattle.lb_machine.specs.declared.instruction.PlaneId.{PlaneId}
@@ -87,7 +88,7 @@ module _ (f : FlatProgram) (code : Code) (inputs : List Value) (places : List Pl
     memory_plane memory_word plane_sources word_sources Suited)
     (ready : Ready f.size [] f.equations) (K : ℕ → FlatClock)
     (fits : IsFitting f.inputs K (kind_among f.kinds) f.equations) (s : Lane)
-    (has_run : HasRun code.instructions.items s)
+    (has_run : HasRun (listed code.instructions) s)
     (constants : HasConstantWords constant_word memory_word start_words s) (suits : Suited s)
     (X : Inputs) (state : IsStateAfter f kept s X) where
   abbrev given : List Scalar

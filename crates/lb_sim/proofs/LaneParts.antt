@@ -15,6 +15,7 @@ use Rattle.lb_flat.specs.Programs.{program_of}
 use Rattle.lb_lanes.specs.Kernels.{lane_of}
 use Rattle.lb_lanes.specs.Planes.{IsPlaneOf, on}
 use Rattle.lb_lanes.proofs.OnPlanes.{on-zero}
+use Rattle.lb_machine.specs.Listed.{listed}
 use Rattle.lb_machine.specs.Meaning.{Lane, IsDone, HasConstants, lane_at}
 use Rattle.lb_sim.specs.Compiled.{HasConstantWords, given_at}
 use Rattle.lb_sim.specs.InputRows.{places_of, truth_columns, number_columns}
@@ -130,7 +131,7 @@ module _ (p : LaneProgram) (c : LaneCode) (law : IsCodeIn p c) (np nw : ℕ)
       (kinds : List Kind) (row : List Scalar) → kinds ≡ (program_of p.program.now).inputs →
       map (value_at s1) (places_of 2 1 kinds) ≡ row → HasConstants s0 →
       HasConstantWords p.constant_word p.memory_word p.start_words.items s0 →
-      AllByRecursion (IsDone s2) c.code.instructions.items → IsComputed p c row s0 s2
+      AllByRecursion (IsDone s2) (listed c.code.instructions) → IsComputed p c row s0 s2
   computed kinds row same is constants words done = record {
     run = record { constants = constants_same constants; done = done };
     constants = constant_words_same words;

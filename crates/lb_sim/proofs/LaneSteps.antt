@@ -16,6 +16,7 @@ use Rattle.lb_flat.specs.FurtherKinds.{kind_among}
 use Rattle.lb_flat.specs.Judging.{FlatProgram, flat_verdict, rows_judged, row_judged}
 use Rattle.lb_flat.specs.MemoryPlaces.{after_rows}
 use Rattle.lb_flat.specs.Run.{Ready, row_of, run}
+use Rattle.lb_machine.specs.Listed.{listed}
 use Rattle.lb_machine.specs.Meaning.{Lane, HasRun}
 use Rattle.lb_machine.specs.declared.code.Code.{Code}
 use Rattle.lb_machine.specs.declared.instruction.PlaneId.{PlaneId}
@@ -144,7 +145,7 @@ module _ (f : FlatProgram) (code : Code) (inputs : List Value) (places : List Pl
     memory_plane memory_word plane_sources word_sources Suited)
     (ready : Ready f.size [] f.equations) (K : ℕ → FlatClock)
     (fits : IsFitting f.inputs K (kind_among f.kinds) f.equations) (before s after : Lane)
-    (has_run : HasRun code.instructions.items s)
+    (has_run : HasRun (listed code.instructions) s)
     (constants : HasConstantWords constant_word memory_word start_words s)
     (same : HoldSame code memory_plane memory_word before s)
     (carried : IsCarriedOver memory_plane memory_word plane_sources word_sources s after)

@@ -24,6 +24,7 @@ use Rattle.lb_flat.proofs.InOrder.{ready_of}
 use Rattle.lb_flat.proofs.Lists.{Every-first, Every-second}
 use Rattle.lb_flat.proofs.Memories.{every_at}
 use Rattle.lb_machine.specs.Correct.{IsGrown}
+use Rattle.lb_machine.specs.Listed.{listed}
 use Rattle.lb_machine.specs.Meaning.{Lane, HasRun}
 use Rattle.lb_machine.specs.declared.code.Code.{Code}
 use Rattle.lb_machine.specs.declared.instruction.PlaneId.{PlaneId}
@@ -142,7 +143,7 @@ module _ (P : FlatProgram) (before code : Code) (inputs : List Value)
 
     pub shown_at_end :
         Every (KindFits P.inputs.items (kind_among P.kinds.items)) (program_of P).equations →
-        (s : Lane) → HasRun code.instructions.items s →
+        (s : Lane) → HasRun (listed code.instructions) s →
         HasAllConstants s constants (program_of P).equations →
         Every (IsShownBy (given_at s inputs) s places kept) (program_of P).equations
     shown_at_end fits s r c =

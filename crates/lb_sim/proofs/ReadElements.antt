@@ -1,5 +1,5 @@
 -- The elements that a program reads are marked, and the inputs among them are loaded.
-use Rattle.std.proofs.Common.{◌≡◌, ◌≢◌, ◌+◌, ◌++◌, ◌∷◌, ◌<◌, ◌≤◌, ℕ, zero, suc, Bool, true, false}
+use Rattle.std.proofs.Common.{◌≡◌, ◌+◌, ◌++◌, ◌∷◌, ◌<◌, ◌≤◌, ℕ, zero, suc, Bool, true, false}
 use Rattle.std.proofs.Common.{List, [], Option, Some, None, get_or, set, length, refl, sym, ap, ◌∙◌}
 use Rattle.std.proofs.Common.{◌⊎◌, subst, arith, inl, inr, ⊎_elim, length-set}
 use Rattle.std.proofs.lemmas.Bool.{cases_eq, cases_lt}

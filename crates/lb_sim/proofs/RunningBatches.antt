@@ -22,7 +22,7 @@ use Rattle.lb_lanes.specs.Planes.{IsPlaneOf, on}
 use Rattle.lb_lanes.specs.declared.planes.Plane.{Plane}
 use Rattle.lb_lanes.proofs.OnPlanes.{on-zero}
 use Rattle.lb_sim.specs.BatchLanes.{length_in, AreRunning, IsAt}
-use Rattle.lb_sim.specs.BatchRuns.{flat_of, verdict_at}
+use Rattle.lb_sim.specs.BatchRuns.{verdict_at}
 use Rattle.lb_sim.specs.Correct.{IsFresh, IsStep, Stands}
 use Rattle.lb_sim.specs.InputRows.{HaveInstant, places_of}
 use Rattle.lb_sim.specs.LaneStates.{is_passed}

@@ -15,6 +15,7 @@ use Rattle.lb_flat.specs.Flat.{Operation, Input, Constant, Copy, ApplyUnary, App
 use Rattle.lb_flat.specs.Flat.{FirstThen, Previous, Latest, Sample}
 use Rattle.lb_flat.specs.Judging.{some_in}
 use Rattle.lb_machine.specs.Correct.{IsGrown}
+use Rattle.lb_machine.specs.Listed.{listed}
 use Rattle.lb_machine.specs.Meaning.{Lane, HasRun}
 use Rattle.lb_machine.specs.declared.code.Code.{Code}
 use Rattle.lb_machine.specs.declared.instruction.PlaneId.{PlaneId}
@@ -215,8 +216,8 @@ flag_is s h f e =
 pub flag_holding : (h : Holding) → IsFlagHome h → IsFlagHolding h
 flag_holding h f = record { kind_is = f.kind_is; no_nil = f.nil; no_bad = f.bad }
 
-module _ (code : Code) (s s' : Lane) (run : HasRun code.instructions.items s) (places : List Place)
-    (named : List ℕ) (quiet : some_in is_bad (row_at s places) named ≡ false) (N : ℕ → Kind)
+module _ (code : Code) (s s' : Lane) (run : HasRun (listed code.instructions) s)
+    (places : List Place) (named : List ℕ) (quiet : some_in is_bad (row_at s places) named ≡ false) (N : ℕ → Kind)
     (kinds : (e : ℕ) → e < length places → kind_of (holding_of places e) ≡ N e) where
   cell_moves :
       (kind : Kind) (v : Scalar) (a : ℕ) (h held g : Holding) → a < length places → N a ≡ kind →

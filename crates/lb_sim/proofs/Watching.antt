@@ -14,6 +14,7 @@ use Rattle.lb_flat.specs.Programs.{numbers_of}
 use Rattle.lb_flat.specs.Run.{cell}
 use Rattle.lb_flat.specs.declared.equation.ElementId.{ElementId}
 use Rattle.lb_machine.specs.Correct.{IsGrown, IsPlaneFor}
+use Rattle.lb_machine.specs.Listed.{listed}
 use Rattle.lb_machine.specs.Meaning.{Lane, HasRun}
 use Rattle.lb_machine.specs.declared.code.Code.{Code}
 use Rattle.lb_machine.specs.declared.instruction.PlaneId.{PlaneId}
@@ -34,7 +35,7 @@ pub record IsWatching (test : Option Cell → Bool) (before code : Code) (places
   pub grown : IsGrown before code
   pub within : plane.0 < code.planes
   pub means :
-      (s : Lane) → HasRun code.instructions.items s →
+      (s : Lane) → HasRun (listed code.instructions) s →
       (s.bits plane.0 || some_in test (row_at s places) rest)
       ≡ (s.bits above.0 || some_in test (row_at s places) elements)
 
@@ -128,7 +129,7 @@ within_more a b old new plane here both g h made more = record {
 }
   where
     by :
-        (k : ℕ) (s : Lane) → HasRun b.instructions.items s → s.bits k ≡ true →
+        (k : ℕ) (s : Lane) → HasRun (listed b.instructions) s → s.bits k ≡ true →
         (k ≡ here.0) ⊎ (get_or old k false ≡ true) → (s.bits plane.0 || s.bits here.0) ≡ true
     by k s r on (inl e) = or_right _ _ (ap s.bits (sym e) ∙ on)
     by k s r on (inr e) = or_left _ _ (h.within k e s (g.runs s r) on)

@@ -10,6 +10,7 @@ use Rattle.lb_flat.specs.FurtherKinds.{kind_among}
 use Rattle.lb_flat.specs.Fitting.{IsFitting}
 use Rattle.lb_flat.specs.Flat.{FlatClock}
 use Rattle.lb_flat.specs.Judging.{FlatProgram, some_in, named_elements}
+use Rattle.lb_machine.specs.Listed.{listed}
 use Rattle.lb_machine.specs.Meaning.{Lane, HasRun}
 use Rattle.lb_machine.specs.declared.code.Code.{Code}
 use Rattle.lb_machine.specs.declared.instruction.PlaneId.{PlaneId}
@@ -59,13 +60,13 @@ pub record IsCompiled (f : FlatProgram) (code : Code) (inputs : List Value) (pla
   pub words_room : memory_word + length word_sources ≡ code.first_word
   pub shown :
       (K : ℕ → FlatClock) → IsFitting f.inputs K (kind_among f.kinds) f.equations →
-      (s : Lane) → HasRun code.instructions.items s →
+      (s : Lane) → HasRun (listed code.instructions) s →
       HasConstantWords constant_word memory_word start_words s → Suited s →
       Every (IsShownBy (given_at s inputs) s places kept) f.equations
   pub watches : AreWatched code f places watched
   pub moved :
       (K : ℕ → FlatClock) → IsFitting f.inputs K (kind_among f.kinds) f.equations →
-      (s s' : Lane) → HasRun code.instructions.items s →
+      (s s' : Lane) → HasRun (listed code.instructions) s →
       HasConstantWords constant_word memory_word start_words s → Suited s →
       IsCarriedOver memory_plane memory_word plane_sources word_sources s s' →
       some_in is_bad (row_at s places) (named_elements f) ≡ false →

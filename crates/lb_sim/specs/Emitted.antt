@@ -10,6 +10,7 @@ use Rattle.lb_flat.specs.Values.{clock_of}
 use Rattle.lb_flat.specs.declared.equation.Clock.{Clock}
 use Rattle.lb_flat.specs.declared.equation.ClockId.{ClockId}
 use Rattle.lb_machine.specs.Correct.{IsPlaneFor}
+use Rattle.lb_machine.specs.Listed.{listed}
 use Rattle.lb_machine.specs.Meaning.{Lane, HasRun}
 use Rattle.lb_machine.specs.declared.code.Code.{Code}
 use Rattle.lb_machine.specs.declared.instruction.PlaneId.{PlaneId}
@@ -29,7 +30,7 @@ pub record IsHeld (code : Code) (places : List Place) (inputs : List Value)
     (constant kept : Holding) (o : Operation) (kind : Kind) (h : Holding) : Type 0 where
   pub kind_is : kind_of h ≡ kind
   pub shows :
-      (s : Lane) → HasRun code.instructions.items s → HasConstant s o constant →
+      (s : Lane) → HasRun (listed code.instructions) s → HasConstant s o constant →
       IsShown (given_at s inputs) s places kept o (scalar_at s h)
 
 -- this is so where the kinds of the operands fit the operation

@@ -3,6 +3,7 @@
 use Rattle.std.specs.Prelude.{◌≡◌, ◌<◌}
 use Rattle.lb_syntax.specs.declared.tree.Kind.{Kind}
 use Rattle.lb_check.specs.Scalars.{Scalar}
+use Rattle.lb_machine.specs.Listed.{listed}
 use Rattle.lb_machine.specs.Meaning.{Lane, HasRun}
 use Rattle.lb_machine.specs.declared.code.Code.{Code}
 use Rattle.lb_sim.specs.Showing.{scalar_at, kind_of, value_at, value_kind}
@@ -25,13 +26,13 @@ pub record IsIn (code : Code) (h : Holding) : Type 0 where
 -- it is of a kind, and holds this in each lane in which the code has been run
 pub record IsFor (code : Code) (kind : Kind) (scalar : Lane → Scalar) (h : Holding) : Type 0 where
   pub kind_is : kind_of h ≡ kind
-  pub means : (s : Lane) → HasRun code.instructions.items s → scalar_at s h ≡ scalar s
+  pub means : (s : Lane) → HasRun (listed code.instructions) s → scalar_at s h ≡ scalar s
 
 -- the same of a value alone
 pub record IsValueFor (code : Code) (kind : Kind) (scalar : Lane → Scalar) (v : Value) :
     Type 0 where
   pub kind_is : value_kind v ≡ kind
-  pub means : (s : Lane) → HasRun code.instructions.items s → value_at s v ≡ scalar s
+  pub means : (s : Lane) → HasRun (listed code.instructions) s → value_at s v ≡ scalar s
 
 -- a place of the code
 pub record IsPlaceIn (code : Code) (p : Place) : Type 0 where

@@ -8,6 +8,7 @@ use Rattle.lb_check.specs.declared.verdict.Verdict.TheVariants.{Passed}
 use Rattle.lb_flat.specs.Judging.{FlatProgram, flat_verdict}
 use Rattle.lb_flat.specs.Programs.{program_of}
 use Rattle.lb_check.specs.Scalars.{Scalar}
+use Rattle.lb_machine.specs.Listed.{listed}
 use Rattle.lb_machine.specs.Meaning.{Lane, HasRun}
 use Rattle.lb_machine.specs.declared.code.Code.{Code}
 use Rattle.lb_sim.specs.Codes.{IsCodeOf}
@@ -47,7 +48,7 @@ IsCodeIn p c =
 -- those of the lane before
 pub record IsComputed (p : LaneProgram) (c : LaneCode) (row : List Scalar) (before s : Lane) :
     Type 0 where
-  pub run : HasRun c.code.instructions.items s
+  pub run : HasRun (listed c.code.instructions) s
   pub constants : HasConstantWords p.constant_word p.memory_word p.start_words.items s
   pub given : given_at s p.inputs.items ≡ row
   pub same : HoldSame c.code p.memory_plane p.memory_word before s

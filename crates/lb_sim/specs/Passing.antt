@@ -11,6 +11,7 @@ use Rattle.lb_flat.specs.Fitting.{KindFits}
 use Rattle.lb_flat.specs.Flat.{Operation, FirstThen, Previous, Latest, FlatEquation}
 use Rattle.lb_flat.specs.FurtherKinds.{kind_among}
 use Rattle.lb_flat.specs.Judging.{FlatProgram, some_in, named_elements}
+use Rattle.lb_machine.specs.Listed.{listed}
 use Rattle.lb_machine.specs.Meaning.{Lane, HasRun}
 use Rattle.lb_machine.specs.declared.code.Code.{Code}
 use Rattle.lb_machine.specs.declared.instruction.PlaneId.{PlaneId}
@@ -28,12 +29,12 @@ use Rattle.lb_sim.specs.declared.sources.Copies.{Copies}
 pub record IsPlaneSource (code : Code) (next : ℕ) (p : PlaneId) : Type 0 where
   pub own : code.first_plane ≤ p.0
   pub within : p.0 < code.planes
-  pub means : (s : Lane) → HasRun code.instructions.items s → s.bits p.0 ≡ s.bits next
+  pub means : (s : Lane) → HasRun (listed code.instructions) s → s.bits p.0 ≡ s.bits next
 
 pub record IsWordSource (code : Code) (next : ℕ) (w : WordId) : Type 0 where
   pub own : code.first_word ≤ w.0
   pub within : w.0 < code.words
-  pub means : (s : Lane) → HasRun code.instructions.items s → s.ints w.0 ≡ s.ints next
+  pub means : (s : Lane) → HasRun (listed code.instructions) s → s.ints w.0 ≡ s.ints next
 
 -- two planes that the code writes: one that is false everywhere, and one that is true
 pub record AreCopies (code : Code) (c : Copies) : Type 0 where
@@ -67,7 +68,7 @@ pub record AreTaken (code : Code) (home next : Holding) (planes planes' : List P
 pub record IsNextFlag (code : Code) (held : Holding) (present : ℕ) (g : Holding) : Type 0 where
   pub kind_is : kind_of g ≡ Bool_kind
   pub means :
-      (s : Lane) → HasRun code.instructions.items s →
+      (s : Lane) → HasRun (listed code.instructions) s →
       s.bits (plane_in g.value) ≡ (s.bits (plane_in held.value) || s.bits present)
 
 -- what the memory of an operation is to hold next, where a holding shows what it holds now
@@ -97,7 +98,7 @@ pub record AreSources (f : FlatProgram) (code : Code) (places : List Place)
       All (λ (w : WordId). code.first_word ≤ w.0 × w.0 < code.words) words
   pub moved :
       Every (KindFits f.inputs (kind_among f.kinds)) f.equations →
-      (s s' : Lane) → HasRun code.instructions.items s →
+      (s s' : Lane) → HasRun (listed code.instructions) s →
       ShowsMemories s kept held f.equations → IsCarriedOver plane word planes words s s' →
       some_in is_bad (row_at s places) (named_elements f) ≡ false →
       Every (λ (q : FlatEquation). IsMoved s s' places (kept_at kept q.element) q.operation)

@@ -9,6 +9,7 @@ use Rattle.lb_check.specs.declared.verdict.Verdict.TheVariants.{Passed, Fault, U
 use Rattle.lb_check.specs.declared.verdict.Verdict.TheVariants.{False}
 use Rattle.lb_flat.specs.Judging.{FlatProgram, some_in, named_elements, truth_elements}
 use Rattle.lb_machine.specs.Correct.{IsPlaneFor}
+use Rattle.lb_machine.specs.Listed.{listed}
 use Rattle.lb_machine.specs.Meaning.{Lane, HasRun}
 use Rattle.lb_machine.specs.declared.code.Code.{Code}
 use Rattle.lb_machine.specs.declared.instruction.PlaneId.{PlaneId}
@@ -28,7 +29,7 @@ is_sought Falses x = is_false x
 pub record AreWithin (code : Code) (marked : List Bool) (plane : PlaneId) : Type 0 where
   pub within :
       (p : ℕ) → slice_index_or marked p false ≡ true → (s : Lane) →
-      HasRun code.instructions.items s → s.bits p ≡ true → s.bits plane.0 ≡ true
+      HasRun (listed code.instructions) s → s.bits p ≡ true → s.bits plane.0 ≡ true
 
 -- planes of the code hold in each lane what its row shows at the elements that are watched
 pub record AreWatched (code : Code) (f : FlatProgram) (places : List Place) (w : Watched) :

@@ -8,6 +8,7 @@ ghost use Rattle.lb_flat.specs.FurtherKinds.{kind_among};
 ghost use Rattle.lb_flat.specs.InOrder.{is_in_order};
 ghost use Rattle.lb_flat.specs.Programs.{flat_equations, program_of, IsInRange};
 ghost use Rattle.lb_machine.specs.Correct.{IsGrown};
+ghost use Rattle.lb_machine.specs.Listed.{listed};
 ghost use Rattle.lb_machine.specs.Meaning.{Lane, HasRun};
 ghost use Rattle.lb_sim.specs.Allotted.{IsAllotted, HasAllConstants};
 ghost use Rattle.lb_sim.specs.Compiled.{given_at};
@@ -48,7 +49,7 @@ fn emit_each(
     ensures shown { OnOk result (
         Every (KindFits program.now.inputs.items (kind_among program.now.kinds.items))
         (program_of program.now).equations →
-        (s : Lane) → HasRun code.new.instructions.items s →
+        (s : Lane) → HasRun (listed code.new.instructions) s →
         HasAllConstants s constants.now (program_of program.now).equations →
         Every (IsShownBy (given_at s inputs.now) s places.new kept.now)
         (program_of program.now).equations) }
@@ -88,7 +89,7 @@ pub(crate) fn emit_all(
     ensures shown { IfOk result (λ places.
         Every (KindFits program.now.inputs.items (kind_among program.now.kinds.items))
         (program_of program.now).equations →
-        (s : Lane) → HasRun code.new.instructions.items s →
+        (s : Lane) → HasRun (listed code.new.instructions) s →
         HasAllConstants s constants.now (program_of program.now).equations →
         Every (IsShownBy (given_at s inputs.now) s places.items kept.now)
         (program_of program.now).equations) }

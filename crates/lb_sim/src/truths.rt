@@ -5,6 +5,7 @@ ghost use Rattle.lb_syntax.specs.declared.tree.Kind.TheVariants.{Bool as Bool_ki
 ghost use Rattle.lb_check.specs.Scalars.{Boolean, two_booleans, two_integers};
 ghost use Rattle.lb_flat.specs.Fitting.{integers_kind, truths_kind};
 ghost use Rattle.lb_machine.specs.Correct.{IsGrown, IsPlaneFor};
+ghost use Rattle.lb_machine.specs.Listed.{listed};
 ghost use Rattle.lb_machine.specs.Meaning.{Lane, HasRun};
 
 use lb_machine::{Code, Comparison, EVERYWHERE, NOWHERE, PlaneId, PlaneOperator, WordId};
@@ -34,7 +35,7 @@ pub(crate) fn two_truths(
     ensures grown { OnOk result (IsGrown code.old code.new) }
     ensures within { IfOk result (λ p. p.0 < code.new.planes) }
     ensures means { IfOk result (λ p. truths_kind op ≡ Some Bool_kind →
-        (s : Lane) → HasRun code.new.instructions.items s →
+        (s : Lane) → HasRun (listed code.new.instructions) s →
         Boolean (s.bits p.0) ≡ two_booleans op (s.bits a.0) (s.bits b.0)) }
 {
     match op {
@@ -70,7 +71,7 @@ pub(crate) fn compared(
     ensures grown { OnOk result (IsGrown code.old code.new) }
     ensures within { IfOk result (λ p. p.0 < code.new.planes) }
     ensures means { IfOk result (λ p. integers_kind op ≡ Some Bool_kind →
-        (s : Lane) → HasRun code.new.instructions.items s →
+        (s : Lane) → HasRun (listed code.new.instructions) s →
         Boolean (s.bits p.0) ≡ two_integers op (s.ints a.0) (s.ints b.0)) }
 {
     match op {

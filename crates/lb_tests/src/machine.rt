@@ -215,6 +215,15 @@ fn push_made(
     Ok(())
 }
 
+// How many instructions code has.
+fn instructions(code: &Code) -> usize {
+    let mut count = code.instructions.choices.len();
+    for block in &code.instructions.blocks {
+        count = count.saturating_add(block.choices.len()).saturating_add(1);
+    }
+    count
+}
+
 // Runs code, if there is just its room, and tells what it made.
 fn push_run(
     code: &Code,
@@ -227,7 +236,7 @@ fn push_run(
         return said.push_str("no room");
     }
     code.run(planes, words);
-    write!(said, "{}:", code.instructions.len())?;
+    write!(said, "{}:", instructions(code))?;
     push_made(planes, words, all, said)
 }
 

@@ -1,8 +1,7 @@
-use Rattle.std.proofs.Common.{List, ap, arith, subst, sym}
-use Rattle.std.specs.List.{All}
+use Rattle.std.proofs.Common.{List, ap, arith, sym}
 use Rattle.lb_flat.specs.Programs.{numbers_of}
 use Rattle.lb_flat.specs.declared.equation.ElementId.{ElementId}
-use Rattle.lb_sim.proofs.ReadElements.{clocks_next, operands_next, reads_marked, MarksClocks}
+use Rattle.lb_sim.proofs.ReadElements.{clocks_next, operands_next, reads_marked}
 use Rattle.lb_sim.proofs.read_inputs.mark_reads.Goals as goal
 
 pub loop-i-init : goal.loop-i-init

@@ -1,5 +1,6 @@
 use Rattle.std.proofs.Common.{◌+◌, refl, sym, subst, arith}
 use Rattle.lb_machine.specs.Straight.{IsStraight}
+use Rattle.lb_machine.specs.Listed.{listed}
 use Rattle.lb_machine.specs.declared.instruction.Instruction.{Instruction}
 use Rattle.lb_machine.specs.declared.instruction.Instruction.TheVariants.{Operate}
 use Rattle.lb_machine.proofs.Building.{straight_more, run_before, run_last}
@@ -18,7 +19,7 @@ invariant_of-self-2 c =
           IsStraight before.first_plane before.first_word is (before.planes + 1)
           (before.words + 1))
           (sym c.in_ok-push.ensures.items)
-          (straight_more before.first_plane before.first_word before.instructions.items
+          (straight_more before.first_plane before.first_word (listed before.instructions)
           before.planes before.words i before.straight (
             c.requires.left,
             c.requires.right,
@@ -44,7 +45,7 @@ returns-clause-grown c =
       planes = omega arith;
       words = omega arith;
       runs = λ s h.
-          run_before c.args.self.now.instructions.items _ i c.in_ok-push.ensures.items s h;
+          run_before (listed c.args.self.now.instructions) _ i c.in_ok-push.ensures.items s h;
     }
 
 pub returns-clause-results : goal.returns-clause-results
@@ -52,7 +53,7 @@ returns-clause-results c =
     let i : Instruction =
     Operate c.args.op c.args.a c.args.b c.args.idle c.args.bad c.in_ok-out.out
     c.in_ok-faults.faults in
-    let is = c.args.self.now.instructions.items in
+    let is = (listed c.args.self.now.instructions) in
     record {
       word_within = omega (arith, c.in_ok-out.ensures.0);
       plane_within = omega (arith, c.in_ok-faults.ensures.0);

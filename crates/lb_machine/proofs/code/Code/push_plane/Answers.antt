@@ -1,5 +1,6 @@
 use Rattle.std.proofs.Common.{◌+◌, sym, subst, arith}
 use Rattle.lb_machine.specs.Straight.{IsStraight}
+use Rattle.lb_machine.specs.Listed.{listed}
 use Rattle.lb_machine.proofs.Building.{straight_more}
 use Rattle.lb_machine.proofs.code.Code.push_plane.Goals as goal
 
@@ -12,7 +13,7 @@ invariant_of-self-2 c =
           (λ is. IsStraight before.first_plane before.first_word is (before.planes + 1)
           before.words)
           (sym c.in_ok-push.ensures.items)
-          (straight_more before.first_plane before.first_word before.instructions.items
+          (straight_more before.first_plane before.first_word (listed before.instructions)
           before.planes before.words c.args.i before.straight c.requires.next (before.planes + 1)
           before.words c.requires.plane c.requires.no_word);
       constants = before.constants;

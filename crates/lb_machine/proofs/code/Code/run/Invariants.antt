@@ -1,7 +1,24 @@
+use Rattle.std.proofs.Common.{◌+◌, ◌∷◌, ◌++◌, [], drop, map}
+use Rattle.lb_machine.specs.Listed.{listed, select_of, unpacked}
 use Rattle.lb_machine.proofs.Running.{IsRunning}
 use Rattle.lb_machine.proofs.code.Code.run.Given as goal
 
-abbrev pub invariant-loop-i : goal.invariant-loop-i
-invariant-loop-i l =
-    IsRunning l.self.first_plane l.self.first_word l.self.instructions.items l.self.planes
-    l.self.words l.fn.planes l.planes l.fn.words l.words l.i
+abbrev pub invariant-outer : goal.invariant-outer
+invariant-outer l =
+    IsRunning l.self.first_plane l.self.first_word (listed l.self.instructions) l.self.planes
+    l.self.words l.fn.planes l.planes l.fn.words l.words
+    (unpacked (drop l.j l.self.instructions.blocks.items) l.self.instructions.choices.items)
+
+abbrev pub invariant-choices : goal.invariant-choices
+invariant-choices l =
+    IsRunning l.self.first_plane l.self.first_word (listed l.self.instructions) l.self.planes
+    l.self.words l.fn.planes l.planes l.fn.words l.words
+    (map select_of (drop l.k l.block.choices.items) ++ l.block.last
+    ∷ unpacked (drop (l.j + 1) l.self.instructions.blocks.items)
+    l.self.instructions.choices.items)
+
+abbrev pub invariant-rest : goal.invariant-rest
+invariant-rest l =
+    IsRunning l.self.first_plane l.self.first_word (listed l.self.instructions) l.self.planes
+    l.self.words l.fn.planes l.planes l.fn.words l.words
+    (map select_of (drop l.k l.self.instructions.choices.items) ++ [])
