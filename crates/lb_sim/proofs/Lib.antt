@@ -16,6 +16,7 @@ pub mod InputColumns
 pub mod ZeroLanes
 pub mod Loading
 pub mod IntegerLoads
+pub mod AheadLoads
 pub mod Batches
 pub mod RowsLoaded
 pub mod RunningLanes

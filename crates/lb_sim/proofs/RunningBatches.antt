@@ -195,6 +195,23 @@ have_instant r members t active lanes until live few runs is i l e =
     inside : i < length members
     inside = by (cases_lt i (length members))
 
+-- and so with the instants that follow, while the lanes are the same
+pub have_instants :
+    (r : Recording) (members : List ℕ) (t active lanes until live : ℕ) →
+    length members ≤ 64 → AreRunning r members t lanes until →
+    IsPlaneOf (λ i. on active i && on lanes i) live → (s : ℕ) → t ≤ s → s < until →
+    HaveInstant r members s live
+have_instants r members t active lanes until live few runs is s ge lt =
+    have_instant r members s active lanes until live few
+    (record {
+      later = lt;
+      lanes = record {
+        members_on = λ i q l m. runs.lanes.members_on i q l (omega (arith, ge, m));
+        others_off = runs.lanes.others_off;
+      };
+    })
+    is
+
 module _ (p : LaneProgram) (old new : BatchRun) (r : Recording) (members : List ℕ)
     (t lanes until : ℕ) (live : Plane) (rows : ℕ → List Scalar) (few : length members ≤ 64)
     (runs : AreRunning r members t lanes until)

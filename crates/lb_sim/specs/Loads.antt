@@ -1,6 +1,6 @@
 -- The integers of some members of a batch, in the lanes of words.
 -- Source: this project's rule.
-use Rattle.std.specs.Prelude.{◌≡◌, ℕ, ◌<◌, ◌≤◌, ◌+◌, ◌⊎◌, ◌==◌, true, List, [], ℤ, pos}
+use Rattle.std.specs.Prelude.{◌≡◌, ℕ, ◌<◌, ◌≤◌, ◌+◌, ◌*◌, ◌⊎◌, ◌==◌, true, List, [], ℤ, pos}
 use Rattle.std.specs.Prelude.{length, get_or, slice_index, slice_index_or, if◌then◌else◌}
 use Rattle.lb_flat.specs.Traces.{Recording}
 use Rattle.lb_lanes.specs.Kernels.{lane_of}
@@ -32,3 +32,16 @@ pub record AreLoaded (r : Recording) (members : List ℕ) (t live : ℕ) (column
   pub others :
       (i w : ℕ) → i < 64 → (i < first) ⊎ (end ≤ i) →
       lane_of (slice_index_or new w []) i ≡ lane_of (slice_index_or old w []) i
+
+-- instants of some lanes are loaded, from a first one up to another: for each place and each of 64
+-- instants there is a word
+pub record AreAhead (r : Recording) (members : List ℕ) (first until lanes : ℕ)
+    (columns places : List ℕ) (room : List (List ℤ)) : Type 0 where
+  pub cells :
+      (i d k : ℕ) → i < 64 → on lanes i ≡ true → first + d < until → k < length places →
+      lane_of (slice_index_or room (64 * k + d) []) i
+      ≡ member_cell r members (first + d) i (get_or columns (slice_index places k) 0)
+
+-- each lane of a plane is one of another plane
+abbrev pub AreAmong : ℕ → ℕ → Type 0
+AreAmong plane other = (i : ℕ) → i < 64 → on plane i ≡ true → on other i ≡ true

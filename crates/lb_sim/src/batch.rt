@@ -13,8 +13,10 @@ ghost use Rattle.lb_sim.specs.BatchRooms.{IsRoomFor};
 ghost use Rattle.lb_sim.specs.BatchRuns.{verdict_at};
 ghost use Rattle.lb_sim.specs.Correct.{HaveVerdicts, IsFresh};
 
+use crate::ahead::{Stretch, nothing};
 use crate::batch_run::BatchRun;
 use crate::inputs::Inputs;
+use crate::loads::Instant;
 use crate::program::LaneProgram;
 use crate::room::{BatchRoom, is_kind};
 use crate::running::{longest, running_at, still};
@@ -85,13 +87,23 @@ fn run_to_end(run: &mut BatchRun<'_>, inputs: &mut Inputs, set: &TraceSet, membe
 {
     let most = longest(set, members);
     let mut next = running_at(set, members, 0);
+    let mut ahead = nothing();
     for t in 0..most {
         next = still(set, members, t, next);
         let live = run.active().and(Plane(next.lanes));
         if live.0 == 0 {
             return;
         }
-        inputs.load_read(&run.program.read, set, members, t, live);
+        let at = Stretch {
+            at: Instant {
+                set,
+                members,
+                t,
+                live,
+            },
+            until: next.until,
+        };
+        ahead = inputs.load_read(&run.program.read, &at, ahead);
         run.step(inputs, live);
     }
 }

@@ -7,9 +7,11 @@ ghost use Rattle.lb_flat.specs.Inputs.{inputs_of};
 ghost use Rattle.lb_lanes.specs.Planes.{on};
 ghost use Rattle.lb_machine.specs.Meaning.{lane_at};
 ghost use Rattle.lb_sim.specs.InputRows.{HaveInstant, number_columns, places_of, zero_of};
+ghost use Rattle.lb_sim.specs.Loads.{AreAmong};
 ghost use Rattle.lb_sim.specs.ReadInputs.{AreAlike};
 ghost use Rattle.lb_sim.specs.Showing.{value_at};
 
+use crate::ahead::{Ahead, Stretch, load_ahead};
 use crate::columns::Columns;
 use crate::integer_loads::load_numbers;
 use crate::lane_bits::{copy_planes, copy_words, zeros};
@@ -20,6 +22,9 @@ use lb_lanes::{LaneWord, Plane};
 use lb_syntax::Kind;
 use std::alloc::{AllocError, Global};
 
+// How many integers of a row are loaded for some instants together.
+const MOST_AHEAD: usize = 8;
+
 /// A row of inputs for each lane: a plane for each Boolean of the signature, and a word for each
 /// integer, in its order.
 #[derive(Drop)]
@@ -29,13 +34,15 @@ pub struct Inputs {
     pub words: Vec<LaneWord>,
     /// The Booleans of each lane, a word for 64 of them; see `loads`.
     pub rows: Vec<u64>,
+    // Integers of instants that follow one another; see `ahead`.
+    pub(crate) room: Vec<LaneWord>,
     pub ghost planes_room: { length planes.items ≡ columns.truths },
     pub ghost words_room: { length words.items ≡ columns.numbers },
     pub ghost rows_room: { columns.truths + 63 ≤ length rows.items },
 }
 
 impl Inputs {
-    ghost use Rattle.lb_sim.specs.Inputs.{inputs_row};
+    ghost use Rattle.lb_sim.specs.Inputs.{inputs_row, IsAhead};
 
     /// Rows of 0 and false, of the inputs of a program.
     pub fn new(alloc: Global, program: &FlatProgram) -> Result<Inputs, AllocError>
@@ -56,11 +63,13 @@ impl Inputs {
         let planes = vec![in alloc; 0u64; columns.truths]?;
         let words = zeros(alloc, columns.numbers)?;
         let rows = vec![in alloc; 0u64; columns.truths + 63]?;
+        let room = zeros(alloc, 64 * columns.numbers.min(MOST_AHEAD))?;
         Ok(Inputs {
             columns,
             planes,
             words,
             rows,
+            room,
         })
     }
 
@@ -87,38 +96,37 @@ impl Inputs {
         load_numbers(&at, places, self.words.as_mut_slice());
     }
 
-    // Of the cells of instant `t` those that a program reads; other inputs of the rows may be
-    // anything.
+    // Of the cells of an instant those that a program reads; other inputs of the rows may be
+    // anything. The instant may be loaded already; tells what is then.
     pub(crate) fn load_read(
         &mut self,
         read: &ReadInputs,
-        set: &TraceSet,
-        members: &[u32],
-        t: u32,
-        live: Plane,
-    )
-        requires kinds { kinds_of set.now.signature ≡ self.old.columns.kinds.items }
-        requires members { All (λ k. k < length set.now.traces) members.now }
-        requires few { length members.now ≤ 64 }
-        requires live { HaveInstant set.now members.now t live.0 }
+        at: &Stretch<'_, '_>,
+        last: Ahead,
+    ) -> Ahead
+        requires kinds { kinds_of at.now.at.set.now.signature ≡ self.old.columns.kinds.items }
         requires within { All (λ w. w < length (number_columns 0 self.old.columns.kinds.items))
             read.now.numbers.items }
-        ensures rows { (i : ℕ) → i < 64 → on live.0 i ≡ true
+        requires begun { last.first ≤ at.now.at.t }
+        requires last { IsAhead at.now.at.set.now at.now.at.members.now read.now.numbers.items
+            self.old last }
+        requires lanes { at.now.at.t < last.until → AreAmong at.now.at.live.0 last.lanes.0 }
+        ensures rows { (i : ℕ) → i < 64 → on at.now.at.live.0 i ≡ true
             → AreAlike (places_of 2 1 self.old.columns.kinds.items) read.now.numbers.items
             read.now.truths (inputs_row self.new i)
-            (get_or (inputs_of set.now (get_or members.now i 0)) t []) }
+            (get_or (inputs_of at.now.at.set.now (get_or at.now.at.members.now i 0))
+            at.now.at.t []) }
         ensures kinds { self.new.columns ≡ self.old.columns }
+        ensures begun { result.first ≤ at.now.at.t }
+        ensures ahead { IsAhead at.now.at.set.now at.now.at.members.now read.now.numbers.items
+            self.new result }
+        ensures lanes { at.now.at.t < result.until → AreAmong at.now.at.live.0 result.lanes.0 }
     {
-        let _ = set.signature();
-        let at = Instant {
-            set,
-            members,
-            t,
-            live,
-        };
+        let _ = at.at.set.signature();
         let (rows, planes) = (self.rows.as_mut_slice(), self.planes.as_mut_slice());
-        load_wanted_truths(&at, read.truths, rows, planes);
-        load_numbers(&at, read.numbers.as_slice(), self.words.as_mut_slice());
+        load_wanted_truths(&at.at, read.truths, rows, planes);
+        let (room, words) = (self.room.as_mut_slice(), self.words.as_mut_slice());
+        load_ahead(at, read.numbers.as_slice(), room, last, words)
     }
 
     // Copies the rows to where a lane program has its inputs: behind what is the same everywhere.

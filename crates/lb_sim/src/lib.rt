@@ -1,6 +1,7 @@
 //! Masked lanes: up to 64 traces of a program run as one.
 #![tactic(auto)]
 
+mod ahead;
 mod allot;
 mod allotted;
 mod batch;

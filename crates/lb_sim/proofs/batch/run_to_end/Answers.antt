@@ -6,12 +6,15 @@ use Rattle.lb_flat.specs.Inputs.{inputs_of}
 use Rattle.lb_lanes.specs.Planes.{IsPlaneOf, on}
 use Rattle.lb_lanes.specs.declared.planes.Plane.{Plane}
 use Rattle.lb_sim.specs.InputRows.{places_of}
-use Rattle.lb_sim.specs.Inputs.{inputs_row}
+use Rattle.lb_sim.specs.BatchRuns.{verdict_at}
+use Rattle.lb_sim.specs.Inputs.{inputs_row, IsAhead}
+use Rattle.lb_sim.specs.LaneStates.{is_passed}
 use Rattle.lb_sim.specs.ReadInputs.{AreAlike}
 use Rattle.lb_sim.specs.declared.columns.Columns.{Columns}
 use Rattle.lb_sim.specs.declared.program.LaneProgram.{LaneProgram}
 use Rattle.lb_sim.proofs.Batches.{moves_on}
 use Rattle.lb_sim.proofs.RunningBatches.{all_begin, all_go_on, all_rest, all_ended, have_instant}
+use Rattle.lb_sim.proofs.RunningBatches.{have_instants}
 use Rattle.lb_sim.proofs.RunningBatches.{AreRowsAlike}
 use Rattle.lb_sim.proofs.RunningLanes.{on_later}
 use Rattle.lb_sim.proofs.batch.run_to_end.Goals as goal
@@ -22,13 +25,46 @@ loop-t-init c = record {
       all_begin c.args.run.now c.args.set.now c.args.members.now c.requires.few c.requires.fresh;
   lanes = c.running_at-next.ensures.lanes;
   columns = refl;
+  begun = omega (arith, c.nothing-ahead.ensures.first);
+  ahead = record {
+    cells = λ i d k l e lt. absurd (omega (arith, lt, c.nothing-ahead.ensures.until));
+  };
+  active = λ lt. absurd (omega (arith, lt, c.nothing-ahead.ensures.until));
 }
 
-pub load_read-requires-clause-live : goal.load_read-requires-clause-live
-load_read-requires-clause-live c =
+pub invariant_of-at-clause-there : goal.invariant_of-at-clause-there
+invariant_of-at-clause-there c =
     have_instant c.args.set.now c.args.members.now c.loop-t.t c.active.result.0
     c.still-next.result.lanes c.still-next.result.until c.and-live.result.0 c.requires.few
     c.still-next.ensures c.and-live.ensures
+
+pub invariant_of-at-in-loop-t-clause-later : goal.invariant_of-at-in-loop-t-clause-later
+invariant_of-at-in-loop-t-clause-later c = c.still-next.ensures.later
+
+pub invariant_of-at-in-loop-t-clause-further : goal.invariant_of-at-in-loop-t-clause-further
+invariant_of-at-in-loop-t-clause-further c =
+    have_instants c.args.set.now c.args.members.now c.loop-t.t c.active.result.0
+    c.still-next.result.lanes c.still-next.result.until c.and-live.result.0 c.requires.few
+    c.still-next.ensures c.and-live.ensures
+
+pub load_read-ahead-requires-clause-begun : goal.load_read-ahead-requires-clause-begun
+load_read-ahead-requires-clause-begun c = c.loop-t.invariant.begun
+
+pub load_read-ahead-requires-clause-last : goal.load_read-ahead-requires-clause-last
+load_read-ahead-requires-clause-last c =
+    subst
+    (λ (q : LaneProgram).
+    IsAhead c.args.set.now c.args.members.now q.read.numbers.items c.loop-t.inputs
+    c.loop-t.ahead)
+    (sym c.loop-t.invariant.done.program_is) c.loop-t.invariant.ahead
+
+pub load_read-ahead-requires-clause-lanes : goal.load_read-ahead-requires-clause-lanes
+load_read-ahead-requires-clause-lanes c lt i l e =
+    let active : on c.active.result.0 i ≡ true =
+    (moves_on (on c.active.result.0 i) (on c.still-next.result.lanes i) (on c.and-live.result.0 i)
+    (c.and-live.ensures i l) e).0 in
+    c.loop-t.invariant.active lt i l
+    (ap (λ (p : Plane). on p.0 i) (sym c.active.ensures) ∙ active)
 
 pub step-requires-clause-shrinks : goal.step-requires-clause-shrinks
 step-requires-clause-shrinks c i l e =
@@ -53,30 +89,42 @@ loop-t-preserved c =
     let kinds_are = ap (λ (x : Columns). x.kinds.items) c.loop-t.invariant.columns
     ∙ c.requires.inputs in
     let rows : (i : ℕ) → i < 64 → on live.0 i ≡ true →
-    AreRowsAlike p (inputs_row c.load_read.new.self i)
+    AreRowsAlike p (inputs_row c.load_read-ahead.new.self i)
     (get_or (inputs_of set (get_or members i 0)) c.loop-t.t []) =
     λ i l e.
     subst
     (λ (q : LaneProgram).
     AreAlike (places_of 2 1 p.program.now.inputs.items) q.read.numbers.items q.read.truths
-    (inputs_row c.load_read.new.self i)
+    (inputs_row c.load_read-ahead.new.self i)
     (get_or (inputs_of set (get_or members i 0)) c.loop-t.t []))
     c.loop-t.invariant.done.program_is
     (subst
     (λ (kinds : List Kind).
     AreAlike (places_of 2 1 kinds) run.program.now.read.numbers.items run.program.now.read.truths
-    (inputs_row c.load_read.new.self i)
+    (inputs_row c.load_read-ahead.new.self i)
     (get_or (inputs_of set (get_or members i 0)) c.loop-t.t []))
-    kinds_are (c.load_read.ensures.rows i l e)) in
+    kinds_are (c.load_read-ahead.ensures.rows i l e)) in
     record {
       done =
           all_go_on c.args.run.now.program.now run c.step.new.self set members c.loop-t.t lanes
-          c.still-next.result.until live (inputs_row c.load_read.new.self) c.requires.few
+          c.still-next.result.until live (inputs_row c.load_read-ahead.new.self) c.requires.few
           c.still-next.ensures live_is c.loop-t.invariant.done rows c.step.ensures;
       lanes =
           on_later set members c.loop-t.t lanes c.still-next.result.until
           c.still-next.ensures.lanes;
-      columns = c.load_read.ensures.kinds ∙ c.loop-t.invariant.columns;
+      columns = c.load_read-ahead.ensures.kinds ∙ c.loop-t.invariant.columns;
+      begun = omega (arith, c.load_read-ahead.ensures.begun);
+      ahead =
+          subst
+          (λ (q : LaneProgram).
+          IsAhead set members q.read.numbers.items c.load_read-ahead.new.self
+          c.load_read-ahead.result)
+          c.loop-t.invariant.done.program_is c.load_read-ahead.ensures.ahead;
+      active = λ lt i l e.
+          let on_live : on live.0 i ≡ true =
+          (moves_on (on live.0 i) (is_passed (verdict_at c.step.new.self i))
+          (on c.step.new.self.active.0 i) (c.step.ensures.active i l) e).0 in
+          c.load_read-ahead.ensures.lanes (omega (arith, lt)) i l on_live;
     }
 
 pub returns-clause-program : goal.returns-clause-program

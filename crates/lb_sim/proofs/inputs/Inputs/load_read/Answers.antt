@@ -13,22 +13,22 @@ pub returns-clause-rows : goal.returns-clause-rows
 returns-clause-rows c i h e =
     let x = c.args.self.now in
     let read = c.args.read.now in
-    let set = c.args.set.now in
-    let members = c.args.members.now in
-    let t = c.args.t in
+    let set = c.args.at.now.at.set.now in
+    let members = c.args.at.now.at.members.now in
+    let t = c.args.at.now.at.t in
     let kinds = x.columns.kinds.items in
     let planes = c.load_wanted_truths.new.planes in
-    let words : List (List ℤ) = c.load_numbers.new.words in
-    let there = c.requires.live i h e in
+    let words : List (List ℤ) = c.load_ahead.new.words in
+    let there = c.args.at.now.at.there i h e in
     let planes_are = with_items_is x.planes planes (search (rules, places)) in
-    let words_are = with_items_is x.words c.load_numbers.new.words (search (rules, places)) in
+    let words_are = with_items_is x.words c.load_ahead.new.words (search (rules, places)) in
     subst
     (λ given.
     AreAlike (places_of 2 1 kinds) read.numbers.items read.truths given
     (get_or (inputs_of set (get_or members i 0)) t []))
     (sym (ap₂ (λ ps ws. lane_row kinds ps ws i) planes_are words_are))
     (row_alike set members t i kinds planes words read.numbers.items read.truths
-    c.signature.ensures.lawful c.requires.kinds (c.requires.members i 0 there.0) there.1
+    c.signature.ensures.lawful c.requires.kinds (c.args.at.now.at.within i 0 there.0) there.1
     (λ wanted b l.
     subst
     (λ ks.
@@ -49,4 +49,4 @@ returns-clause-rows c i h e =
     lane_of (get_or words (get_or c.as_slice.result.now k 0) []) i
     ≡ member_cell set members t i
     (get_or (number_columns 0 ks) (get_or c.as_slice.result.now k 0) 0))
-    c.requires.kinds (c.load_numbers.ensures.put i k h e l))))
+    c.requires.kinds (c.load_ahead.ensures.put i k h e l))))

@@ -1,0 +1,201 @@
+//! The integers of some instants that follow one another, loaded together.
+//!
+//! The rows of a trace lie side by side in memory, and those of another trace elsewhere. So of each
+//! lane the rows of up to 64 instants are read in one go. Of its integers those are loaded that
+//! stand at some places, if there is room for so many.
+//!
+//! ```text
+//! room    place 0: instant 0, instant 1, ... instant 63; then place 1; each a word of 64 lanes
+//! ```
+
+ghost use Rattle.std.specs.Prelude.{◌≡◌, ◌≢◌, ℕ, ◌<◌, ◌≤◌, ◌+◌, ◌*◌, ◌⊎◌, true, length, get_or};
+ghost use Rattle.std.specs.Prelude.{ℤ, pos, slice_index, slice_index_or, [], All};
+ghost use Rattle.lb_static.specs.Signature.{kinds_of};
+ghost use Rattle.lb_flat.specs.Packed.{number_columns};
+ghost use Rattle.lb_lanes.specs.Kernels.{lane_of};
+ghost use Rattle.lb_lanes.specs.Planes.{on};
+ghost use Rattle.lb_sim.specs.InputRows.{HaveInstant, member_cell};
+ghost use Rattle.lb_sim.specs.Loads.{AreAhead, AreAmong};
+
+use crate::integer_loads::load_numbers;
+use crate::loads::Instant;
+use lb_lanes::{LaneWord, Plane};
+
+/// An instant of the members of a batch, and up to which one the lanes that are live have all that
+/// follow.
+#[derive(Clone, Copy)]
+pub(crate) struct Stretch<'a, 'b> {
+    pub(crate) at: Instant<'a, 'b>,
+    pub(crate) until: u32,
+    pub(crate) ghost later: { at.t < until },
+    pub(crate) ghost further: { (s : ℕ) → at.t ≤ s → s < until
+        → HaveInstant at.set.now at.members.now s at.live.0 },
+}
+
+/// Which instants of which lanes are loaded.
+#[derive(Clone, Copy)]
+pub(crate) struct Ahead {
+    pub(crate) first: u32,
+    pub(crate) until: u32,
+    pub(crate) lanes: Plane,
+    pub(crate) ghost few: { until ≤ first + 64 },
+}
+
+/// No instant is loaded.
+pub(crate) fn nothing() -> Ahead
+    ensures first { result.first ≡ 0 }
+    ensures until { result.until ≡ 0 }
+{
+    Ahead {
+        first: 0,
+        until: 0,
+        lanes: Plane(0),
+    }
+}
+
+// Puts integers of a row, those at some places, into a lane of the words of an instant.
+fn put_row(row: &[i32], lane: u32, d: usize, places: &[usize], room: &mut [LaneWord])
+    requires lane { lane < 64 }
+    requires instant { d < 64 }
+    requires room { 64 * length places.now ≤ length room.old }
+    requires within { All (λ w. w < length row.now) places.now }
+    ensures room { length room.new ≡ length room.old }
+    ensures put { (k : ℕ) → k < length places.now
+        → lane_of (slice_index_or room.new (64 * k + d) []) lane
+        ≡ get_or row.now (slice_index places.now k) (pos 0) }
+    ensures others { (k e i : ℕ) → e < 64 → i < 64 → (e ≢ d) ⊎ (i ≢ lane)
+        → lane_of (slice_index_or room.new (64 * k + e) []) i
+        ≡ lane_of (slice_index_or room.old (64 * k + e) []) i }
+{
+    for k in 0..places.len() {
+        room[64 * k + d].set(lane, row[places[k]]);
+    }
+}
+
+// Puts the integers of so many instants of a member into its lane if that is live.
+fn put_member(at: &Stretch<'_, '_>, i: usize, count: usize, places: &[usize], room: &mut [LaneWord])
+    requires member { i < length at.now.at.members.now }
+    requires count { at.now.at.t + count ≤ at.now.until }
+    requires few { count ≤ 64 }
+    requires room { 64 * length places.now ≤ length room.old }
+    requires within { All (λ w. w < length (number_columns 0
+        (kinds_of at.now.at.set.now.signature))) places.now }
+    ensures room { length room.new ≡ length room.old }
+    ensures put { on at.now.at.live.0 i ≡ true → (d k : ℕ) → d < count → k < length places.now
+        → lane_of (slice_index_or room.new (64 * k + d) []) i
+        ≡ member_cell at.now.at.set.now at.now.at.members.now (at.now.at.t + d) i
+        (get_or (number_columns 0 (kinds_of at.now.at.set.now.signature))
+        (slice_index places.now k) 0) }
+    ensures others { (k e j : ℕ) → e < 64 → j < 64 → j ≢ i
+        → lane_of (slice_index_or room.new (64 * k + e) []) j
+        ≡ lane_of (slice_index_or room.old (64 * k + e) []) j }
+{
+    if !at.at.live.get(i as u32) {
+        return;
+    }
+    for d in 0..count {
+        let row = at.at.set.numbers(at.at.members[i], at.at.t + d as u32);
+        put_row(row, i as u32, d, places, room);
+    }
+}
+
+// Puts the integers of so many instants into the lanes that are live.
+fn fill(at: &Stretch<'_, '_>, count: usize, places: &[usize], room: &mut [LaneWord])
+    requires count { at.now.at.t + count ≤ at.now.until }
+    requires few { count ≤ 64 }
+    requires room { 64 * length places.now ≤ length room.old }
+    requires within { All (λ w. w < length (number_columns 0
+        (kinds_of at.now.at.set.now.signature))) places.now }
+    ensures room { length room.new ≡ length room.old }
+    ensures ahead { AreAhead at.now.at.set.now at.now.at.members.now at.now.at.t
+        (at.now.at.t + count) at.now.at.live.0
+        (number_columns 0 (kinds_of at.now.at.set.now.signature)) places.now room.new }
+{
+    for i in 0..at.at.members.len() {
+        put_member(at, i, count, places, room);
+    }
+}
+
+// What is loaded, with the instant: as before, or from the instant on.
+fn renewed(at: &Stretch<'_, '_>, places: &[usize], room: &mut [LaneWord], last: Ahead) -> Ahead
+    requires room { 64 * length places.now ≤ length room.old }
+    requires within { All (λ w. w < length (number_columns 0
+        (kinds_of at.now.at.set.now.signature))) places.now }
+    requires begun { last.first ≤ at.now.at.t }
+    requires last { AreAhead at.now.at.set.now at.now.at.members.now last.first last.until
+        last.lanes.0 (number_columns 0 (kinds_of at.now.at.set.now.signature)) places.now room.old }
+    requires lanes { at.now.at.t < last.until → AreAmong at.now.at.live.0 last.lanes.0 }
+    ensures room { length room.new ≡ length room.old }
+    ensures begun { result.first ≤ at.now.at.t }
+    ensures until { at.now.at.t < result.until }
+    ensures ahead { AreAhead at.now.at.set.now at.now.at.members.now result.first result.until
+        result.lanes.0 (number_columns 0 (kinds_of at.now.at.set.now.signature)) places.now
+        room.new }
+    ensures lanes { AreAmong at.now.at.live.0 result.lanes.0 }
+{
+    let first = at.at.t;
+    if first < last.until {
+        return last;
+    }
+    let count = (at.until - first).min(64);
+    fill(at, count as usize, places, room);
+    Ahead {
+        first,
+        until: first + count,
+        lanes: at.at.live,
+    }
+}
+
+// Copies the integers of an instant that is loaded to their places.
+fn take(room: &[LaneWord], d: usize, places: &[usize], words: &mut [LaneWord])
+    requires instant { d < 64 }
+    requires room { 64 * length places.now ≤ length room.now }
+    requires within { All (λ w. w < length words.old) places.now }
+    ensures words { length words.new ≡ length words.old }
+    ensures put { (i : ℕ) (value : ℕ → ℤ) → ((k : ℕ) → k < length places.now
+        → lane_of (slice_index_or room.now (64 * k + d) []) i ≡ value (slice_index places.now k))
+        → (k : ℕ) → k < length places.now
+        → lane_of (slice_index_or words.new (slice_index places.now k) []) i
+        ≡ value (slice_index places.now k) }
+{
+    for k in 0..places.len() {
+        words[places[k]].copy_from(&room[64 * k + d]);
+    }
+}
+
+/// Puts the integers of the signature that stand at these places into words, where it may be that
+/// the instant is loaded already, and tells what is loaded then.
+pub(crate) fn load_ahead(
+    at: &Stretch<'_, '_>,
+    places: &[usize],
+    room: &mut [LaneWord],
+    last: Ahead,
+    words: &mut [LaneWord],
+) -> Ahead
+    requires words { length words.old
+        ≡ length (number_columns 0 (kinds_of at.now.at.set.now.signature)) }
+    requires within { All (λ w. w < length words.old) places.now }
+    requires begun { last.first ≤ at.now.at.t }
+    requires last { AreAhead at.now.at.set.now at.now.at.members.now last.first last.until
+        last.lanes.0 (number_columns 0 (kinds_of at.now.at.set.now.signature)) places.now room.old }
+    requires lanes { at.now.at.t < last.until → AreAmong at.now.at.live.0 last.lanes.0 }
+    ensures words { length words.new ≡ length words.old }
+    ensures put { (i k : ℕ) → i < 64 → on at.now.at.live.0 i ≡ true → k < length places.now
+        → lane_of (slice_index_or words.new (slice_index places.now k) []) i
+        ≡ member_cell at.now.at.set.now at.now.at.members.now at.now.at.t i
+        (get_or (number_columns 0 (kinds_of at.now.at.set.now.signature))
+        (slice_index places.now k) 0) }
+    ensures begun { result.first ≤ at.now.at.t }
+    ensures ahead { AreAhead at.now.at.set.now at.now.at.members.now result.first result.until
+        result.lanes.0 (number_columns 0 (kinds_of at.now.at.set.now.signature)) places.now
+        room.new }
+    ensures lanes { at.now.at.t < result.until → AreAmong at.now.at.live.0 result.lanes.0 }
+{
+    if room.len() / 64 < places.len() {
+        load_numbers(&at.at, places, words);
+        return last;
+    }
+    let ahead = renewed(at, places, room, last);
+    take(room, (at.at.t - ahead.first) as usize, places, words);
+    ahead
+}
