@@ -1,7 +1,7 @@
 -- Integers of some instants go into the lanes of words, a word for each place and each instant.
-use Rattle.std.proofs.Common.{◌≡◌, ◌≢◌, ℕ, ◌+◌, ◌*◌, ◌<◌, ◌≤◌, ◌==◌, ◌⊎◌, inl, inr, Bool, true, false}
-use Rattle.std.proofs.Common.{List, [], ℤ, pos, cond, get_or, set, length, length-set, refl, sym, ap}
-use Rattle.std.proofs.Common.{◌∙◌, arith, below_more}
+use Rattle.std.proofs.Common.{◌≡◌, ◌≢◌, ℕ, ◌+◌, ◌*◌, ◌<◌, ◌≤◌, ◌==◌, ◌⊎◌, inl, inr, Bool, true}
+use Rattle.std.proofs.Common.{false, List, [], ℤ, pos, cond, get_or, set, length, length-set, refl}
+use Rattle.std.proofs.Common.{sym, ap, ◌∙◌, arith, below_more}
 use Rattle.std.proofs.lemmas.Bool.{cases_lt, eqb-true, eqb-false}
 use Rattle.std.proofs.lemmas.List.{get_or-set_same, get_or-set_other}
 use Rattle.lb_flat.specs.Traces.{Recording}

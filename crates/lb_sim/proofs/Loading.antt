@@ -8,105 +8,168 @@ use Rattle.std.specs.Prelude.{int_le}
 use Rattle.lb_flat.specs.Traces.{Recording}
 use Rattle.lb_lanes.specs.Planes.{on}
 use Rattle.lb_sim.specs.InputRows.{member_cell}
+use Rattle.lb_sim.specs.Loads.{AreTruthsAhead}
 
--- ## Booleans, words for each lane
+-- ## Booleans, words for each instant of each lane
 
--- places of two groups of 64 are not the same
-apart : (g n k i : ℕ) → k < 64 → g < n → (64 * g + k) ≢ (64 * n + i)
-apart g n k i lk l e = absurd (omega (arith, l, lk, e))
-
-apart_lanes : (g n k i : ℕ) → k < 64 → i < 64 → k ≢ i → (64 * g + k) ≢ (64 * n + i)
-apart_lanes g n k i lk li ne e = first (cases_lt g n)
+-- places of two groups of 64 are not the same, nor those of two instants, nor those of two lanes
+apart : (g n e i k d : ℕ) → e < 8 → k < 64 → d < 8 → i < 64 → (e ≢ d) ⊎ (k ≢ i) →
+    (512 * g + 64 * e + k) ≢ (512 * n + 64 * d + i)
+apart g n e i k d le lk ld li o same = groups (cases_lt g n) (cases_lt n g)
   where
-    second : n ≤ g → (n < g) ⊎ (g ≤ n) → ⊥
-    second le (inl lt) = absurd (omega (arith, lt, li, e))
-    second le (inr ge) =
-        let same : g ≡ n = omega (arith, le, ge) in
-        ne (omega (arith, same, e))
+    lanes : g ≡ n → (e ≢ d) ⊎ (k ≢ i) → (e < d) ⊎ (d ≤ e) → (d < e) ⊎ (e ≤ d) → ⊥
+    lanes eq o (inl lt) x = absurd (omega (arith, eq, lt, same, lk))
+    lanes eq o (inr ge) (inl lt) = absurd (omega (arith, eq, lt, same, li))
+    lanes eq (inl ne) (inr ge) (inr ge') = ne (omega (arith, ge, ge'))
+    lanes eq (inr ne) (inr ge) (inr ge') = ne (omega (arith, ge, ge', eq, same))
 
-    first : (g < n) ⊎ (n ≤ g) → ⊥
-    first (inl lt) = absurd (omega (arith, lt, lk, e))
-    first (inr le) = second le (cases_lt n g)
+    groups : (g < n) ⊎ (n ≤ g) → (n < g) ⊎ (g ≤ n) → ⊥
+    groups (inl lt) x = absurd (omega (arith, lt, same, le, lk))
+    groups (inr ge) (inl lt) = absurd (omega (arith, lt, same, ld, li))
+    groups (inr ge) (inr ge') = lanes (omega (arith, ge, ge')) o (cases_lt e d) (cases_lt d e)
 
--- the words of a lane
-module _ (bits : List ℕ) (i : ℕ) (old : List ℕ) where
+-- the words of a lane for an instant
+module _ (bits : List ℕ) (i d : ℕ) (old : List ℕ) where
   pub record RowPut (new : List ℕ) (n : ℕ) : Type 0 where
     pub as_long : length new ≡ length old
-    pub put : (g : ℕ) → g < n → get_or new (64 * g + i) 0 ≡ get_or bits g 0
+    pub put : (g : ℕ) → g < n → get_or new (512 * g + 64 * d + i) 0 ≡ get_or bits g 0
     pub others :
-        (g k : ℕ) → k < 64 → k ≢ i → get_or new (64 * g + k) 0 ≡ get_or old (64 * g + k) 0
+        (g e k : ℕ) → e < 8 → k < 64 → (e ≢ d) ⊎ (k ≢ i) →
+        get_or new (512 * g + 64 * e + k) 0 ≡ get_or old (512 * g + 64 * e + k) 0
 
   pub row_put_none : RowPut old 0
   row_put_none = record {
     as_long = refl;
     put = λ g h. absurd (omega (arith, h));
-    others = λ g k l ne. refl;
+    others = λ g e k le l o. refl;
   }
 
   pub row_put_more :
-      (new : List ℕ) (n : ℕ) → RowPut new n → i < 64 → 64 * length bits ≤ length old →
-      n < length bits → RowPut (set new (64 * n + i) (get_or bits n 0)) (n + 1)
-  row_put_more new n h li room lt =
+      (new : List ℕ) (n : ℕ) → RowPut new n → i < 64 → d < 8 → 512 * length bits ≤ length old →
+      n < length bits → RowPut (set new (512 * n + 64 * d + i) (get_or bits n 0)) (n + 1)
+  row_put_more new n h li ld room lt =
       let v = get_or bits n 0 in
-      let there : 64 * n + i < length new = omega (arith, h.as_long, room, lt, li) in
+      let there : 512 * n + 64 * d + i < length new = omega (arith, h.as_long, room, lt, li, ld) in
       record {
-        as_long = length-set new (64 * n + i) v ∙ h.as_long;
+        as_long = length-set new (512 * n + 64 * d + i) v ∙ h.as_long;
         put =
             below_more
-            (λ m. get_or (set new (64 * n + i) v) (64 * m + i) 0 ≡ get_or bits m 0) n
+            (λ m. get_or (set new (512 * n + 64 * d + i) v) (512 * m + 64 * d + i) 0
+            ≡ get_or bits m 0) n
             (λ m lm.
-            get_or-set_other new (64 * n + i) (64 * m + i) v 0 (apart m n i i li lm)
-            ∙ h.put m lm)
-            (get_or-set_same new (64 * n + i) v 0 there);
-        others = λ g k lk ne.
-            get_or-set_other new (64 * n + i) (64 * g + k) v 0 (apart_lanes g n k i lk li ne)
-            ∙ h.others g k lk ne;
+            let ne : (512 * m + 64 * d + i) ≢ (512 * n + 64 * d + i) =
+            λ e. absurd (omega (arith, lm, e)) in
+            get_or-set_other new (512 * n + 64 * d + i) (512 * m + 64 * d + i) v 0 ne ∙ h.put m lm)
+            (get_or-set_same new (512 * n + 64 * d + i) v 0 there);
+        others = λ g e k le lk o.
+            get_or-set_other new (512 * n + 64 * d + i) (512 * g + 64 * e + k) v 0
+            (apart g n e i k d le lk ld li o)
+            ∙ h.others g e k le lk o;
       }
 
-module _ (r : Recording) (members : List ℕ) (t live : ℕ) (columns : List ℕ) where
-  -- the truth of a cell of the instant
-  abbrev pub truth_at : ℕ → ℕ → Bool
-  truth_at i b = int_le (pos 1) (member_cell r members t i (get_or columns b 0))
+module _ (r : Recording) (members : List ℕ) (first live : ℕ) (columns : List ℕ) where
+  -- the truth of a cell of an instant
+  abbrev pub truth_at : ℕ → ℕ → ℕ → Bool
+  truth_at i d b = int_le (pos 1) (member_cell r members (first + d) i (get_or columns b 0))
 
-  pub record Gathered (old rows : List ℕ) (n : ℕ) : Type 0 where
+  -- the instants of a member
+  pub record BitsPut (lane : ℕ) (old rows : List ℕ) (n : ℕ) : Type 0 where
     pub as_long : length rows ≡ length old
-    pub done :
-        (i g c : ℕ) → i < n → i < 64 → on live i ≡ true → c < 64 → 64 * g + c < length columns →
-        on (get_or rows (64 * g + i) 0) c ≡ truth_at i (64 * g + c)
+    pub put :
+        (d : ℕ) → d < n → (g c : ℕ) → c < 64 → 64 * g + c < length columns →
+        on (get_or rows (512 * g + 64 * d + lane) 0) c ≡ truth_at lane d (64 * g + c)
+    pub others :
+        (g e k : ℕ) → e < 8 → k < 64 → k ≢ lane →
+        get_or rows (512 * g + 64 * e + k) 0 ≡ get_or old (512 * g + 64 * e + k) 0
 
-  pub gathered_none : (old : List ℕ) → Gathered old old 0
-  gathered_none old = record {
+  pub bits_put_none : (lane : ℕ) (old : List ℕ) → BitsPut lane old old 0
+  bits_put_none lane old = record {
     as_long = refl;
-    done = λ i g c h. absurd (omega (arith, h));
+    put = λ d h. absurd (omega (arith, h));
+    others = λ g e k le l ne. refl;
   }
 
-  pub gathered_more :
-      (old rows rows' : List ℕ) (n : ℕ) → Gathered old rows n → length rows' ≡ length rows →
-      (on live n ≡ true → (g c : ℕ) → c < 64 → 64 * g + c < length columns →
-      on (get_or rows' (64 * g + n) 0) c ≡ truth_at n (64 * g + c)) →
-      ((g k : ℕ) → k < 64 → k ≢ n → get_or rows' (64 * g + k) 0 ≡ get_or rows (64 * g + k) 0) →
-      Gathered old rows' (n + 1)
-  gathered_more old rows rows' n h long put others = record {
+  -- one instant more
+  pub bits_put_more :
+      (lane : ℕ) (old rows rows' : List ℕ) (n : ℕ) → BitsPut lane old rows n → n < 8 → lane < 64 →
+      length rows' ≡ length rows →
+      ((g c : ℕ) → c < 64 → 64 * g + c < length columns →
+      on (get_or rows' (512 * g + 64 * n + lane) 0) c ≡ truth_at lane n (64 * g + c)) →
+      ((g e k : ℕ) → e < 8 → k < 64 → (e ≢ n) ⊎ (k ≢ lane) →
+      get_or rows' (512 * g + 64 * e + k) 0 ≡ get_or rows (512 * g + 64 * e + k) 0) →
+      BitsPut lane old rows' (n + 1)
+  bits_put_more lane old rows rows' n h ln ll long put others = record {
     as_long = long ∙ h.as_long;
-    done = λ i g c l. below_more
-        (λ j. j < 64 → on live j ≡ true → c < 64 → 64 * g + c < length columns →
-        on (get_or rows' (64 * g + j) 0) c ≡ truth_at j (64 * g + c)) n
-        (λ j m lj e lc lb.
-        let ne : j ≢ n = λ f. absurd (omega (arith, m, f)) in
-        ap (λ w. on w c) (others g j lj ne) ∙ h.done j g c m lj e lc lb)
-        (λ lj e lc lb. put e g c lc lb)
-        i l;
+    put =
+        below_more
+        (λ d. (g c : ℕ) → c < 64 → 64 * g + c < length columns →
+        on (get_or rows' (512 * g + 64 * d + lane) 0) c ≡ truth_at lane d (64 * g + c)) n
+        (λ d ld g c lc lb.
+        let ne : d ≢ n = λ e. absurd (omega (arith, ld, e)) in
+        ap (λ w. on w c) (others g d lane (omega (arith, ld, ln)) ll (inl ne))
+        ∙ h.put d ld g c lc lb)
+        put;
+    others = λ g e k le lk ne. others g e k le lk (inr ne) ∙ h.others g e k le lk ne;
   }
 
+  -- and of all members
+  module _ (count : ℕ) where
+    pub record Gathered (old rows : List ℕ) (n : ℕ) : Type 0 where
+      pub as_long : length rows ≡ length old
+      pub done :
+          (i : ℕ) → i < n → i < 64 → on live i ≡ true → (d g c : ℕ) → d < count → c < 64 →
+          64 * g + c < length columns →
+          on (get_or rows (512 * g + 64 * d + i) 0) c ≡ truth_at i d (64 * g + c)
+
+    pub gathered_none : (old : List ℕ) → Gathered old old 0
+    gathered_none old = record {
+      as_long = refl;
+      done = λ i h. absurd (omega (arith, h));
+    }
+
+    pub gathered_more :
+        (old rows rows' : List ℕ) (n : ℕ) → Gathered old rows n → count ≤ 8 →
+        length rows' ≡ length rows →
+        (on live n ≡ true → (d g c : ℕ) → d < count → c < 64 → 64 * g + c < length columns →
+        on (get_or rows' (512 * g + 64 * d + n) 0) c ≡ truth_at n d (64 * g + c)) →
+        ((g e k : ℕ) → e < 8 → k < 64 → k ≢ n →
+        get_or rows' (512 * g + 64 * e + k) 0 ≡ get_or rows (512 * g + 64 * e + k) 0) →
+        Gathered old rows' (n + 1)
+    gathered_more old rows rows' n h few long put others = record {
+      as_long = long ∙ h.as_long;
+      done =
+          below_more
+          (λ j. j < 64 → on live j ≡ true → (d g c : ℕ) → d < count → c < 64 →
+          64 * g + c < length columns →
+          on (get_or rows' (512 * g + 64 * d + j) 0) c ≡ truth_at j d (64 * g + c)) n
+          (λ j m lj e d g c ld lc lb.
+          let ne : j ≢ n = λ f. absurd (omega (arith, m, f)) in
+          ap (λ w. on w c) (others g d j (omega (arith, ld, few)) lj ne)
+          ∙ h.done j m lj e d g c ld lc lb)
+          (λ lj e d g c ld lc lb. put e d g c ld lc lb);
+    }
+
+    -- each lane that is live is that of a member
+    pub all_gathered :
+        (old rows : List ℕ) (n : ℕ) → Gathered old rows n →
+        ((i : ℕ) → i < 64 → on live i ≡ true → i < n) →
+        AreTruthsAhead r members first (first + count) live columns rows
+    all_gathered old rows n h inside = record {
+      cells = λ i d g c l e lt lc lb.
+          h.done i (inside i l e) l e d g c (omega (arith, lt)) lc lb;
+    }
+
+module _ (r : Recording) (members : List ℕ) (t live d : ℕ) (columns : List ℕ) where
   -- the planes of all columns
   pub truths_loaded :
       (rows planes : List ℕ) → length planes ≡ length columns →
       ((i g c : ℕ) → i < 64 → on live i ≡ true → c < 64 → 64 * g + c < length columns →
-      on (get_or rows (64 * g + i) 0) c ≡ truth_at i (64 * g + c)) →
+      on (get_or rows (512 * g + 64 * d + i) 0) c
+      ≡ int_le (pos 1) (member_cell r members t i (get_or columns (64 * g + c) 0))) →
       ((g c i : ℕ) → c < 64 → i < 64 → 64 * g + c < length planes →
-      on (get_or planes (64 * g + c) 0) i ≡ on (get_or rows (64 * g + i) 0) c) →
+      on (get_or planes (64 * g + c) 0) i ≡ on (get_or rows (512 * g + 64 * d + i) 0) c) →
       (i b : ℕ) → i < 64 → on live i ≡ true → b < length columns →
-      on (get_or planes b 0) i ≡ truth_at i b
+      on (get_or planes b 0) i ≡ int_le (pos 1) (member_cell r members t i (get_or columns b 0))
   truths_loaded rows planes long gathered turned i b l e lb =
       let g = b / 64 in
       let c = b % 64 in
@@ -114,17 +177,35 @@ module _ (r : Recording) (members : List ℕ) (t live : ℕ) (columns : List ℕ
       let lc : b % 64 < 64 = omega arith in
       let inside : 64 * g + c < length columns = omega (arith, same, lb) in
       let within : 64 * g + c < length planes = omega (arith, inside, long) in
-      subst (λ k. on (get_or planes k 0) i ≡ truth_at i k) same
+      subst
+      (λ k. on (get_or planes k 0) i
+      ≡ int_le (pos 1) (member_cell r members t i (get_or columns k 0)))
+      same
       (turned g c i lc l within ∙ gathered i g c l e lc inside)
+
+  -- of an instant that is loaded
+  pub truths_there :
+      (first until lanes : ℕ) (rows planes : List ℕ) → length planes ≡ length columns →
+      AreTruthsAhead r members first until lanes columns rows → first + d ≡ t → t < until →
+      ((i : ℕ) → i < 64 → on live i ≡ true → on lanes i ≡ true) →
+      ((g c i : ℕ) → c < 64 → i < 64 → 64 * g + c < length planes →
+      on (get_or planes (64 * g + c) 0) i ≡ on (get_or rows (512 * g + 64 * d + i) 0) c) →
+      (i b : ℕ) → i < 64 → on live i ≡ true → b < length columns →
+      on (get_or planes b 0) i ≡ int_le (pos 1) (member_cell r members t i (get_or columns b 0))
+  truths_there first until lanes rows planes long h here within among =
+      truths_loaded rows planes long
+      (λ i g c l e lc lb.
+      h.cells i d g c l (among i l e) (omega (arith, here, within)) lc lb
+      ∙ ap (λ s. int_le (pos 1) (member_cell r members s i (get_or columns (64 * g + c) 0))) here)
 
 -- ## The words of all lanes, turned
 
-module _ (rows old : List ℕ) where
+module _ (rows : List ℕ) (d : ℕ) (old : List ℕ) where
   pub record Turned (planes : List ℕ) (n : ℕ) : Type 0 where
     pub as_long : length planes ≡ length old
     pub done :
         (g c i : ℕ) → g < n → c < 64 → i < 64 → 64 * g + c < length old →
-        on (get_or planes (64 * g + c) 0) i ≡ on (get_or rows (64 * g + i) 0) c
+        on (get_or planes (64 * g + c) 0) i ≡ on (get_or rows (512 * g + 64 * d + i) 0) c
 
   pub turned_none : Turned old 0
   turned_none = record {
@@ -137,14 +218,14 @@ module _ (rows old : List ℕ) where
       (planes planes' : List ℕ) (n size : ℕ) → Turned planes n → length planes' ≡ length planes →
       ((c : ℕ) → c < 64 → 64 * n + c < length planes → c < size) →
       ((c i : ℕ) → c < size → i < 64 →
-      on (get_or planes' (64 * n + c) 0) i ≡ on (get_or rows (64 * n + i) 0) c) →
+      on (get_or planes' (64 * n + c) 0) i ≡ on (get_or rows (512 * n + 64 * d + i) 0) c) →
       ((k : ℕ) → k < 64 * n → get_or planes' k 0 ≡ get_or planes k 0) →
       Turned planes' (n + 1)
   turned_more planes planes' n size h long all put below = record {
     as_long = long ∙ h.as_long;
     done = λ g c i l. below_more
         (λ m. c < 64 → i < 64 → 64 * m + c < length old →
-        on (get_or planes' (64 * m + c) 0) i ≡ on (get_or rows (64 * m + i) 0) c) n
+        on (get_or planes' (64 * m + c) 0) i ≡ on (get_or rows (512 * m + 64 * d + i) 0) c) n
         (λ m lm lc li lb.
         let under : 64 * m + c < 64 * n = omega (arith, lm, lc) in
         ap (λ w. on w i) (below (64 * m + c) under) ∙ h.done m c i lm lc li lb)

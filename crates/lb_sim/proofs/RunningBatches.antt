@@ -27,7 +27,11 @@ use Rattle.lb_sim.specs.Correct.{IsFresh, IsStep, Stands}
 use Rattle.lb_sim.specs.InputRows.{HaveInstant, places_of}
 use Rattle.lb_sim.specs.LaneStates.{is_passed}
 use Rattle.lb_sim.specs.ReadInputs.{AreAlike, AreAllAlike}
+use Rattle.lb_sim.specs.Inputs.{IsAhead}
+use Rattle.lb_sim.specs.Loads.{AreAmong}
+use Rattle.lb_sim.specs.declared.ahead.Loaded.{Loaded}
 use Rattle.lb_sim.specs.declared.batch_run.BatchRun.{BatchRun}
+use Rattle.lb_sim.specs.declared.inputs.Inputs.{Inputs as Inputs_room}
 use Rattle.lb_sim.specs.declared.program.LaneProgram.{LaneProgram}
 use Rattle.lb_sim.proofs.AlikeRuns.{verdict_alike}
 use Rattle.lb_sim.proofs.Batches.{one_more, moves_on, at_next, at_end, verdict_at_rest}
@@ -279,3 +283,32 @@ all_ended p run r members t h past K fits i l =
     verdict_at_rest (program_of p.program.now) X (verdict_at run i) (on run.active.0 i) here.n t
     (verdict_of p run X i t h.program_is here) here.here
     (none_left (on run.active.0 i) t (length X) (omega (arith, long, past i l)))
+
+-- ## What is loaded ahead
+
+-- fewer lanes, at the same instant or the next one
+pub still_ahead :
+    (r : Recording) (members places : List ℕ) (x : Inputs_room) (t t' live live' : ℕ)
+    (loaded : Loaded) → t ≤ t' → AreAmong live' live → IsAhead r members places x t live loaded →
+    IsAhead r members places x t' live' loaded
+still_ahead r members places x t t' live live' loaded le among h = record {
+  numbers_begun = let b = h.numbers_begun in omega (arith, b, le);
+  numbers = h.numbers;
+  numbers_there = λ lt i l e. h.numbers_there (omega (arith, lt, le)) i l (among i l e);
+  truths_begun = let b = h.truths_begun in omega (arith, b, le);
+  truths = h.truths;
+  truths_there = λ lt i l e. h.truths_there (omega (arith, lt, le)) i l (among i l e);
+}
+
+pub none_ahead :
+    (r : Recording) (members places : List ℕ) (x : Inputs_room) (live : ℕ) (loaded : Loaded) →
+    loaded.numbers.first + loaded.numbers.until ≡ 0 →
+    loaded.truths.first + loaded.truths.until ≡ 0 → IsAhead r members places x 0 live loaded
+none_ahead r members places x live loaded e f = record {
+  numbers_begun = omega (arith, e);
+  numbers = record { cells = λ i d k l on_lane lt. absurd (omega (arith, lt, e)) };
+  numbers_there = λ lt. absurd (omega (arith, lt, e));
+  truths_begun = omega (arith, f);
+  truths = record { cells = λ i d g k l on_lane lt. absurd (omega (arith, lt, f)) };
+  truths_there = λ lt. absurd (omega (arith, lt, f));
+}

@@ -41,15 +41,27 @@ pub(crate) struct Ahead {
     pub(crate) ghost few: { until ≤ first + 64 },
 }
 
+/// What is loaded of the integers, and what of the Booleans.
+#[derive(Clone, Copy)]
+pub(crate) struct Loaded {
+    pub(crate) numbers: Ahead,
+    pub(crate) truths: Ahead,
+    pub(crate) ghost few: { truths.until ≤ truths.first + 8 },
+}
+
 /// No instant is loaded.
-pub(crate) fn nothing() -> Ahead
-    ensures first { result.first ≡ 0 }
-    ensures until { result.until ≡ 0 }
+pub(crate) fn nothing() -> Loaded
+    ensures numbers { result.numbers.first + result.numbers.until ≡ 0 }
+    ensures truths { result.truths.first + result.truths.until ≡ 0 }
 {
-    Ahead {
+    let none = Ahead {
         first: 0,
         until: 0,
         lanes: Plane(0),
+    };
+    Loaded {
+        numbers: none,
+        truths: none,
     }
 }
 

@@ -87,7 +87,7 @@ fn run_to_end(run: &mut BatchRun<'_>, inputs: &mut Inputs, set: &TraceSet, membe
 {
     let most = longest(set, members);
     let mut next = running_at(set, members, 0);
-    let mut ahead = nothing();
+    let mut loaded = nothing();
     for t in 0..most {
         next = still(set, members, t, next);
         let live = run.active().and(Plane(next.lanes));
@@ -103,7 +103,7 @@ fn run_to_end(run: &mut BatchRun<'_>, inputs: &mut Inputs, set: &TraceSet, membe
             },
             until: next.until,
         };
-        ahead = inputs.load_read(&run.program.read, &at, ahead);
+        loaded = inputs.load_read(&run.program.read, &at, loaded);
         run.step(inputs, live);
     }
 }

@@ -1,21 +1,20 @@
 //! The inputs of an instant, lane by lane.
 
-ghost use Rattle.std.specs.Prelude.{◌≡◌, ℕ, ◌<◌, ◌≤◌, ◌+◌, true, length, map, All, get_or, IfOk};
-ghost use Rattle.std.specs.Prelude.{[], slice_index, slice_index_or};
+ghost use Rattle.std.specs.Prelude.{◌≡◌, ℕ, ◌<◌, ◌≤◌, ◌+◌, ◌*◌, true, length, map, All, get_or};
+ghost use Rattle.std.specs.Prelude.{IfOk, [], slice_index, slice_index_or};
 ghost use Rattle.lb_static.specs.Signature.{kinds_of};
 ghost use Rattle.lb_flat.specs.Inputs.{inputs_of};
 ghost use Rattle.lb_lanes.specs.Planes.{on};
 ghost use Rattle.lb_machine.specs.Meaning.{lane_at};
 ghost use Rattle.lb_sim.specs.InputRows.{HaveInstant, number_columns, places_of, zero_of};
-ghost use Rattle.lb_sim.specs.Loads.{AreAmong};
 ghost use Rattle.lb_sim.specs.ReadInputs.{AreAlike};
 ghost use Rattle.lb_sim.specs.Showing.{value_at};
 
-use crate::ahead::{Ahead, Stretch, load_ahead};
+use crate::ahead::{Loaded, Stretch, load_ahead};
 use crate::columns::Columns;
 use crate::integer_loads::load_numbers;
 use crate::lane_bits::{copy_planes, copy_words, zeros};
-use crate::loads::{Instant, load_truths, load_wanted_truths};
+use crate::loads::{Instant, load_truths, load_truths_ahead};
 use crate::read_inputs::ReadInputs;
 use lb_flat::{FlatProgram, TraceSet};
 use lb_lanes::{LaneWord, Plane};
@@ -32,13 +31,13 @@ pub struct Inputs {
     pub columns: Columns,
     pub planes: Vec<u64>,
     pub words: Vec<LaneWord>,
-    /// The Booleans of each lane, a word for 64 of them; see `loads`.
+    /// The Booleans of each lane at some instants, a word for 64 of them; see `loads`.
     pub rows: Vec<u64>,
     // Integers of instants that follow one another; see `ahead`.
     pub(crate) room: Vec<LaneWord>,
     pub ghost planes_room: { length planes.items ≡ columns.truths },
     pub ghost words_room: { length words.items ≡ columns.numbers },
-    pub ghost rows_room: { columns.truths + 63 ≤ length rows.items },
+    pub ghost rows_room: { 8 * (columns.truths + 63) ≤ length rows.items },
 }
 
 impl Inputs {
@@ -62,7 +61,7 @@ impl Inputs {
         let columns = Columns::new(alloc, kinds)?;
         let planes = vec![in alloc; 0u64; columns.truths]?;
         let words = zeros(alloc, columns.numbers)?;
-        let rows = vec![in alloc; 0u64; columns.truths + 63]?;
+        let rows = vec![in alloc; 0u64; 8 * (columns.truths + 63)]?;
         let room = zeros(alloc, 64 * columns.numbers.min(MOST_AHEAD))?;
         Ok(Inputs {
             columns,
@@ -102,31 +101,29 @@ impl Inputs {
         &mut self,
         read: &ReadInputs,
         at: &Stretch<'_, '_>,
-        last: Ahead,
-    ) -> Ahead
+        last: Loaded,
+    ) -> Loaded
         requires kinds { kinds_of at.now.at.set.now.signature ≡ self.old.columns.kinds.items }
         requires within { All (λ w. w < length (number_columns 0 self.old.columns.kinds.items))
             read.now.numbers.items }
-        requires begun { last.first ≤ at.now.at.t }
         requires last { IsAhead at.now.at.set.now at.now.at.members.now read.now.numbers.items
-            self.old last }
-        requires lanes { at.now.at.t < last.until → AreAmong at.now.at.live.0 last.lanes.0 }
+            self.old at.now.at.t at.now.at.live.0 last }
         ensures rows { (i : ℕ) → i < 64 → on at.now.at.live.0 i ≡ true
             → AreAlike (places_of 2 1 self.old.columns.kinds.items) read.now.numbers.items
             read.now.truths (inputs_row self.new i)
             (get_or (inputs_of at.now.at.set.now (get_or at.now.at.members.now i 0))
             at.now.at.t []) }
         ensures kinds { self.new.columns ≡ self.old.columns }
-        ensures begun { result.first ≤ at.now.at.t }
         ensures ahead { IsAhead at.now.at.set.now at.now.at.members.now read.now.numbers.items
-            self.new result }
-        ensures lanes { at.now.at.t < result.until → AreAmong at.now.at.live.0 result.lanes.0 }
+            self.new at.now.at.t at.now.at.live.0 result }
     {
         let _ = at.at.set.signature();
         let (rows, planes) = (self.rows.as_mut_slice(), self.planes.as_mut_slice());
-        load_wanted_truths(&at.at, read.truths, rows, planes);
+        let truths = load_truths_ahead(at, read.truths, rows, last.truths, planes);
         let (room, words) = (self.room.as_mut_slice(), self.words.as_mut_slice());
-        load_ahead(at, read.numbers.as_slice(), room, last, words)
+        let places = read.numbers.as_slice();
+        let numbers = load_ahead(at, places, room, last.numbers, words);
+        Loaded { numbers, truths }
     }
 
     // Copies the rows to where a lane program has its inputs: behind what is the same everywhere.

@@ -48,17 +48,17 @@ fn words_from(rows: &[u64], first: usize) -> [u64; 64]
     words
 }
 
-/// Turns the 64 words from one on, a lane each, into the planes from the same place on.
-pub(crate) fn turn_group(rows: &[u64], first: usize, planes: &mut [u64], count: usize)
+/// Turns the 64 words from one on, a lane each, into the planes from one on.
+pub(crate) fn turn_group(rows: &[u64], from: usize, planes: &mut [u64], first: usize, count: usize)
     requires few { count ≤ 64 }
-    requires rows { first + 64 ≤ length rows.now }
+    requires rows { from + 64 ≤ length rows.now }
     requires room { first + count ≤ length planes.old }
     ensures planes { length planes.new ≡ length planes.old }
     ensures put { (c i : ℕ) → c < count → i < 64
-        → on (slice_index planes.new (first + c)) i ≡ on (slice_index rows.now (first + i)) c }
+        → on (slice_index planes.new (first + c)) i ≡ on (slice_index rows.now (from + i)) c }
     ensures below { (k : ℕ) → k < first → slice_index planes.new k ≡ slice_index planes.old k }
 {
-    let mut words = words_from(rows, first);
+    let mut words = words_from(rows, from);
     transpose(&mut words);
     put_planes(planes, first, &words, count);
 }

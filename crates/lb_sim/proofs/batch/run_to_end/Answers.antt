@@ -1,5 +1,6 @@
 -- Each lane comes an instant further in its trace, until no lane takes part.
 use Rattle.std.proofs.Common.{◌≡◌, ◌<◌, ◌&&◌, ℕ, List, [], get_or, sym, ap, ◌∙◌, subst, arith, refl}
+use Rattle.std.proofs.Common.{◌+◌}
 use Rattle.std.proofs.Common.{true}
 use Rattle.lb_syntax.specs.declared.tree.Kind.{Kind}
 use Rattle.lb_flat.specs.Inputs.{inputs_of}
@@ -14,7 +15,7 @@ use Rattle.lb_sim.specs.declared.columns.Columns.{Columns}
 use Rattle.lb_sim.specs.declared.program.LaneProgram.{LaneProgram}
 use Rattle.lb_sim.proofs.Batches.{moves_on}
 use Rattle.lb_sim.proofs.RunningBatches.{all_begin, all_go_on, all_rest, all_ended, have_instant}
-use Rattle.lb_sim.proofs.RunningBatches.{have_instants}
+use Rattle.lb_sim.proofs.RunningBatches.{have_instants, none_ahead, still_ahead}
 use Rattle.lb_sim.proofs.RunningBatches.{AreRowsAlike}
 use Rattle.lb_sim.proofs.RunningLanes.{on_later}
 use Rattle.lb_sim.proofs.batch.run_to_end.Goals as goal
@@ -25,11 +26,10 @@ loop-t-init c = record {
       all_begin c.args.run.now c.args.set.now c.args.members.now c.requires.few c.requires.fresh;
   lanes = c.running_at-next.ensures.lanes;
   columns = refl;
-  begun = omega (arith, c.nothing-ahead.ensures.first);
-  ahead = record {
-    cells = λ i d k l e lt. absurd (omega (arith, lt, c.nothing-ahead.ensures.until));
-  };
-  active = λ lt. absurd (omega (arith, lt, c.nothing-ahead.ensures.until));
+  ahead =
+      none_ahead c.args.set.now c.args.members.now c.args.run.now.program.now.read.numbers.items
+      c.args.inputs.now c.args.run.now.active.0 c.nothing-loaded.result
+      c.nothing-loaded.ensures.numbers c.nothing-loaded.ensures.truths;
 }
 
 pub invariant_of-at-clause-there : goal.invariant_of-at-clause-there
@@ -47,24 +47,21 @@ invariant_of-at-in-loop-t-clause-further c =
     c.still-next.result.lanes c.still-next.result.until c.and-live.result.0 c.requires.few
     c.still-next.ensures c.and-live.ensures
 
-pub load_read-ahead-requires-clause-begun : goal.load_read-ahead-requires-clause-begun
-load_read-ahead-requires-clause-begun c = c.loop-t.invariant.begun
-
-pub load_read-ahead-requires-clause-last : goal.load_read-ahead-requires-clause-last
-load_read-ahead-requires-clause-last c =
+pub load_read-loaded-requires-clause-last : goal.load_read-loaded-requires-clause-last
+load_read-loaded-requires-clause-last c =
     subst
     (λ (q : LaneProgram).
-    IsAhead c.args.set.now c.args.members.now q.read.numbers.items c.loop-t.inputs
-    c.loop-t.ahead)
-    (sym c.loop-t.invariant.done.program_is) c.loop-t.invariant.ahead
-
-pub load_read-ahead-requires-clause-lanes : goal.load_read-ahead-requires-clause-lanes
-load_read-ahead-requires-clause-lanes c lt i l e =
+    IsAhead c.args.set.now c.args.members.now q.read.numbers.items c.loop-t.inputs c.loop-t.t
+    c.and-live.result.0 c.loop-t.loaded)
+    (sym c.loop-t.invariant.done.program_is)
+    (still_ahead c.args.set.now c.args.members.now _ c.loop-t.inputs c.loop-t.t c.loop-t.t
+    c.loop-t.run.active.0 c.and-live.result.0 c.loop-t.loaded (omega arith)
+    (λ i l e.
     let active : on c.active.result.0 i ≡ true =
     (moves_on (on c.active.result.0 i) (on c.still-next.result.lanes i) (on c.and-live.result.0 i)
     (c.and-live.ensures i l) e).0 in
-    c.loop-t.invariant.active lt i l
-    (ap (λ (p : Plane). on p.0 i) (sym c.active.ensures) ∙ active)
+    ap (λ (p : Plane). on p.0 i) (sym c.active.ensures) ∙ active)
+    c.loop-t.invariant.ahead)
 
 pub step-requires-clause-shrinks : goal.step-requires-clause-shrinks
 step-requires-clause-shrinks c i l e =
@@ -89,42 +86,42 @@ loop-t-preserved c =
     let kinds_are = ap (λ (x : Columns). x.kinds.items) c.loop-t.invariant.columns
     ∙ c.requires.inputs in
     let rows : (i : ℕ) → i < 64 → on live.0 i ≡ true →
-    AreRowsAlike p (inputs_row c.load_read-ahead.new.self i)
+    AreRowsAlike p (inputs_row c.load_read-loaded.new.self i)
     (get_or (inputs_of set (get_or members i 0)) c.loop-t.t []) =
     λ i l e.
     subst
     (λ (q : LaneProgram).
     AreAlike (places_of 2 1 p.program.now.inputs.items) q.read.numbers.items q.read.truths
-    (inputs_row c.load_read-ahead.new.self i)
+    (inputs_row c.load_read-loaded.new.self i)
     (get_or (inputs_of set (get_or members i 0)) c.loop-t.t []))
     c.loop-t.invariant.done.program_is
     (subst
     (λ (kinds : List Kind).
     AreAlike (places_of 2 1 kinds) run.program.now.read.numbers.items run.program.now.read.truths
-    (inputs_row c.load_read-ahead.new.self i)
+    (inputs_row c.load_read-loaded.new.self i)
     (get_or (inputs_of set (get_or members i 0)) c.loop-t.t []))
-    kinds_are (c.load_read-ahead.ensures.rows i l e)) in
+    kinds_are (c.load_read-loaded.ensures.rows i l e)) in
     record {
       done =
           all_go_on c.args.run.now.program.now run c.step.new.self set members c.loop-t.t lanes
-          c.still-next.result.until live (inputs_row c.load_read-ahead.new.self) c.requires.few
+          c.still-next.result.until live (inputs_row c.load_read-loaded.new.self) c.requires.few
           c.still-next.ensures live_is c.loop-t.invariant.done rows c.step.ensures;
       lanes =
           on_later set members c.loop-t.t lanes c.still-next.result.until
           c.still-next.ensures.lanes;
-      columns = c.load_read-ahead.ensures.kinds ∙ c.loop-t.invariant.columns;
-      begun = omega (arith, c.load_read-ahead.ensures.begun);
+      columns = c.load_read-loaded.ensures.kinds ∙ c.loop-t.invariant.columns;
       ahead =
           subst
           (λ (q : LaneProgram).
-          IsAhead set members q.read.numbers.items c.load_read-ahead.new.self
-          c.load_read-ahead.result)
-          c.loop-t.invariant.done.program_is c.load_read-ahead.ensures.ahead;
-      active = λ lt i l e.
-          let on_live : on live.0 i ≡ true =
+          IsAhead set members q.read.numbers.items c.load_read-loaded.new.self (c.loop-t.t + 1)
+          c.step.new.self.active.0 c.load_read-loaded.result)
+          c.loop-t.invariant.done.program_is
+          (still_ahead set members _ c.load_read-loaded.new.self c.loop-t.t (c.loop-t.t + 1) live.0
+          c.step.new.self.active.0 c.load_read-loaded.result (omega arith)
+          (λ i l e.
           (moves_on (on live.0 i) (is_passed (verdict_at c.step.new.self i))
-          (on c.step.new.self.active.0 i) (c.step.ensures.active i l) e).0 in
-          c.load_read-ahead.ensures.lanes (omega (arith, lt)) i l on_live;
+          (on c.step.new.self.active.0 i) (c.step.ensures.active i l) e).0)
+          c.load_read-loaded.ensures.ahead);
     }
 
 pub returns-clause-program : goal.returns-clause-program

@@ -6,4 +6,4 @@ use Rattle.lb_sim.proofs.loads.gather.Given as goal
 abbrev pub invariant-loop-i : goal.invariant-loop-i
 invariant-loop-i l =
     Gathered l.at.set.now l.at.members.now l.at.t l.at.live.0
-    (truth_columns 0 (kinds_of l.at.set.now.signature)) l.fn.rows l.rows l.i
+    (truth_columns 0 (kinds_of l.at.set.now.signature)) l.count l.fn.rows l.rows l.i

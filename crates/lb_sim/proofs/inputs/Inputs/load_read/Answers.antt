@@ -17,11 +17,11 @@ returns-clause-rows c i h e =
     let members = c.args.at.now.at.members.now in
     let t = c.args.at.now.at.t in
     let kinds = x.columns.kinds.items in
-    let planes = c.load_wanted_truths.new.planes in
-    let words : List (List ℤ) = c.load_ahead.new.words in
+    let planes = c.load_truths_ahead-truths.new.planes in
+    let words : List (List ℤ) = c.load_ahead-numbers.new.words in
     let there = c.args.at.now.at.there i h e in
     let planes_are = with_items_is x.planes planes (search (rules, places)) in
-    let words_are = with_items_is x.words c.load_ahead.new.words (search (rules, places)) in
+    let words_are = with_items_is x.words c.load_ahead-numbers.new.words (search (rules, places)) in
     subst
     (λ given.
     AreAlike (places_of 2 1 kinds) read.numbers.items read.truths given
@@ -35,18 +35,18 @@ returns-clause-rows c i h e =
     on (get_or planes b 0) i
     ≡ int_le (pos 1) (member_cell set members t i (get_or (truth_columns 0 ks) b 0)))
     c.requires.kinds
-    (c.load_wanted_truths.ensures.put wanted i b h e
+    (c.load_truths_ahead-truths.ensures.put wanted i b h e
     (subst (λ ks. b < length (truth_columns 0 ks)) (sym c.requires.kinds) l)))
     (subst
     (λ (ns : List ℕ).
     (k : ℕ) → k < length ns →
     lane_of (get_or words (get_or ns k 0) []) i
     ≡ member_cell set members t i (get_or (number_columns 0 kinds) (get_or ns k 0) 0))
-    c.as_slice.ensures.value
+    c.as_slice-places.ensures.value
     (λ k l.
     subst
     (λ ks.
-    lane_of (get_or words (get_or c.as_slice.result.now k 0) []) i
+    lane_of (get_or words (get_or c.as_slice-places.result.now k 0) []) i
     ≡ member_cell set members t i
-    (get_or (number_columns 0 ks) (get_or c.as_slice.result.now k 0) 0))
-    c.requires.kinds (c.load_ahead.ensures.put i k h e l))))
+    (get_or (number_columns 0 ks) (get_or c.as_slice-places.result.now k 0) 0))
+    c.requires.kinds (c.load_ahead-numbers.ensures.put i k h e l))))
