@@ -1,9 +1,8 @@
 -- Listed instructions, with one more behind them.
-use Rattle.std.proofs.Common.{◌≡◌, List, [], ◌∷◌, ◌++◌, map, ap, ◌∙◌, sym, subst}
+use Rattle.std.proofs.Common.{◌≡◌, List, [], ◌∷◌, ◌++◌, map, ap, ◌∙◌, sym}
 use Rattle.std.proofs.Common.{refl}
 use Rattle.std.proofs.lemmas.List.{append_assoc, map-append}
 use Rattle.lb_machine.specs.Listed.{select_of, unpacked}
-use Rattle.lb_machine.specs.declared.instruction.Instruction.{Instruction}
 use Rattle.lb_machine.specs.declared.instructions.Block.{Block}
 use Rattle.lb_machine.specs.declared.instructions.Choice.{Choice}
 

@@ -12,9 +12,8 @@ use Rattle.lb_lanes.specs.Planes.{on}
 use Rattle.lb_machine.specs.declared.instruction.Instruction.{Instruction}
 use Rattle.lb_machine.specs.declared.instruction.Instruction.TheVariants.{Select, Compare}
 use Rattle.lb_machine.specs.declared.instruction.Instruction.TheVariants.{Operate, Blend}
-use Rattle.lb_machine.specs.declared.instructions.Block.{Block}
 use Rattle.lb_machine.specs.declared.instructions.Choice.{Choice}
-use Rattle.lb_machine.specs.Listed.{select_of, unpacked}
+use Rattle.lb_machine.specs.Listed.{select_of}
 use Rattle.lb_machine.specs.Meaning.{Lane, lane_at, compared, IsDone}
 use Rattle.lb_machine.specs.Straight.{IsNext, planes_after, words_after, IsStraight, IsFit}
 use Rattle.lb_machine.specs.Straight.{KeepsPlane, KeepsWord}
@@ -131,21 +130,6 @@ stays_done p w s s' (Blend m a b out) n h d =
 
 -- ## What is left of listed code
 
-pub next_block :
-    (blocks : List Block) (choices : List Choice) (j : ℕ) (d b : Block) → b ≡ get_or blocks j d →
-    j < length blocks →
-    unpacked (drop j blocks) choices
-    ≡ map select_of b.choices.items ++ b.last ∷ unpacked (drop (j + 1) blocks) choices
-next_block blocks choices j d b is lt =
-    let cut : drop j blocks ≡ get_or blocks j d ∷ drop (j + 1) blocks =
-    rw (add-one, drop-cons blocks j d) in
-    ap (λ bs. unpacked bs choices) (cut ∙ ap (λ x. x ∷ drop (j + 1) blocks) (sym is))
-
-pub no_block :
-    (blocks : List Block) (choices : List Choice) (j : ℕ) → length blocks ≤ j →
-    unpacked (drop j blocks) choices ≡ map select_of choices
-no_block blocks choices j le = ap (λ bs. unpacked bs choices) (drop_of_length-le blocks le)
-
 pub next_choice :
     (choices : List Choice) (more : List Instruction) (k : ℕ) (d c : Choice) →
     c ≡ get_or choices k d → k < length choices →
@@ -181,23 +165,6 @@ pub record IsRunning (first_plane first_word : ℕ) (code : List Instruction) (P
       (lane : ℕ) → lane < 64 → (s : Lane) →
       AreAlike next_plane next_word (lane_at planes words lane) s →
       AllByRecursion (IsDone s) rest → AllByRecursion (IsDone s) code
-
-pub starts :
-    (p w : ℕ) (code : List Instruction) (P W : ℕ) (planes : List ℕ) (words : List (List ℤ)) →
-    IsStraight p w code P W → P ≤ length planes → W ≤ length words →
-    IsRunning p w code P W planes planes words words code
-starts p w code P W planes words h lp lw = record {
-  next_plane = p;
-  next_word = w;
-  straight = h;
-  planes_long = lp;
-  words_long = lw;
-  more_planes = omega arith;
-  more_words = omega arith;
-  first_planes = λ k lt. refl;
-  first_words = λ k lt. refl;
-  finishing = λ lane lt s a d. d;
-}
 
 module _ (p w : ℕ) (code : List Instruction) (P W : ℕ) (planes0 planes : List ℕ)
     (words0 words : List (List ℤ)) (rest : List Instruction)

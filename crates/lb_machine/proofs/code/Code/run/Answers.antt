@@ -1,8 +1,7 @@
-use Rattle.std.proofs.Common.{◌≡◌, ◌+◌, ◌<◌, ◌≤◌, [], ◌∷◌, List, drop, length, get_or, arith}
+use Rattle.std.proofs.Common.{◌≡◌, ◌<◌, ◌≤◌, [], length, get_or, arith}
 use Rattle.std.proofs.Common.{refl, rules}
-use Rattle.lb_machine.specs.Listed.{select_of, unpacked}
-use Rattle.lb_machine.specs.declared.instruction.Instruction.{Instruction}
-use Rattle.lb_machine.proofs.Running.{starts, fits, goes_on, ends, next_choice, no_choice}
+use Rattle.lb_machine.specs.Listed.{select_of}
+use Rattle.lb_machine.proofs.Running.{fits, goes_on, ends, next_choice, no_choice}
 use Rattle.lb_machine.proofs.code.Code.run.Goals as goal
 
 pub choose-requires : goal.choose-requires
