@@ -1,8 +1,8 @@
 -- What comes next, and lists of any number of items.
 -- This file mirrors code (src/lookahead.rt, src/list.rt); no definition of the language stands on
 -- it.
-use Rattle.std.specs.Prelude.{Bool, false, true, if◌then◌else◌, List, ◌∷◌, length, Option, Some}
-use Rattle.std.specs.Prelude.{None}
+use Rattle.std.specs.Prelude.{Bool, false, true, if◌then◌else◌, List, [], ◌∷◌, ◌++◌, length}
+use Rattle.std.specs.Prelude.{Option, Some, None}
 use Rattle.lb_syntax.specs.declared.token.Mark.{Mark}
 use Rattle.lb_syntax.specs.declared.token.Mark.TheVariants as m
 use Rattle.lb_syntax.specs.declared.token.Token.{Token}
@@ -45,6 +45,14 @@ at_next_local ts = local_by (expect m.Var ts) ts
 -- these tokens, unless `tel` comes next
 unfoldable pub at_next_statement : List Token → Option (List Token)
 at_next_statement ts = unless (expect m.Tel ts) ts
+
+-- a thing and the tokens after it
+abbrev pub beside : {A : Type 0} → A → List Token → Option (A × List Token)
+beside x ts = Some (x, ts)
+
+-- one more item after some
+abbrev pub pushed : {A : Type 0} → List A → Option (A × List Token) → Option (List A × List Token)
+pushed front read = read >>= λ x. Some (front ++ x.0 ∷ [], x.1)
 
 -- any number of items
 unfoldable pub any_at : {A : Type 0} → (List Token → Option (List Token)) → Reader A →

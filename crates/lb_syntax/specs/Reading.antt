@@ -207,6 +207,14 @@ arguments_by (Some after) ts = do
 unfoldable pub arguments_at : Reader (List Static)
 arguments_at ts = arguments_by (expect m.OpenStatic ts) ts
 
+-- after `f<<`, static arguments up to the operands of a call
+abbrev pub static_arguments_at : Reader (List Static)
+static_arguments_at ts = do
+  ss ← statics_at ts
+  ts ← expect m.CloseStatic ss.1
+  rest ← expect m.Open ts
+  Some (ss.0, rest)
+
 abbrev pub symbol_by : Option BinaryOperator → Reader Operator
 symbol_by (Some op) ts = Some (Symbol op, ts)
 symbol_by None ts = None

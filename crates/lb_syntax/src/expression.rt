@@ -8,7 +8,7 @@
 //! The functions hand on a `Box`, which keeps each level of nesting small on the stack.
 
 ghost use Rattle.std.specs.Prelude.{◌≡◌, ℕ, Option, List, Some, None, map, nat_le, ◌≤◌, IfNone};
-ghost use Rattle.std.specs.Prelude.{IfSome};
+ghost use Rattle.std.specs.Prelude.{IfSome, ◌++◌, ◌∷◌, []};
 ghost use Rattle.lb_syntax.specs.Levels as levels;
 ghost use Rattle.lb_syntax.specs.Nests.{Nests};
 ghost use Rattle.lb_syntax.specs.Reading as reading;
@@ -23,8 +23,8 @@ use crate::climb::{Grower, Growth, climb};
 use crate::level::{
     ANY_LEVEL, ATOM_LEVEL, CHOICE_LEVEL, Form, MEMORY_LEVEL, Row, form_of, row_of, unary_level,
 };
-use crate::list::{Items, list};
-use crate::reader::{ReadError, after, closed, expect};
+use crate::list::{Items, list_onto, whole};
+use crate::reader::{ReadError, after, closed, expect, past};
 use crate::statics::{clock, separator, size, static_expression, statics};
 use crate::token::{Mark, Token};
 use crate::tree::{ArrayIterator, BinaryOperator, Expr, Name, Operator, Static, UnaryOperator};
@@ -74,6 +74,7 @@ fn is_clear(k: u8, e: &Expr) -> bool
 }
 
 /// Whether a form takes a tree on its left, where the least level is wanted.
+#[inline(never)]
 #[tactic(auto, unfolding(crate::specs::Reading::takes))]
 fn takes(least: u8, row: Row, e: &Expr) -> bool
     requires { row.level ≤ 14 }
@@ -126,6 +127,16 @@ fn arguments(alloc: Global, tokens: &[Token]) -> Result<(Vec<Static>, &[Token]),
     }
 }
 
+/// After `f<<`, the static arguments of a call up to its operands.
+#[inline(never)]
+fn static_arguments(alloc: Global, tokens: &[Token]) -> Result<(Vec<Static>, &[Token]), ReadError>
+    ensures { Gives (λ x. (view_statics x.0.items, x.1.now)) result
+        (reading.static_arguments_at tokens.now) }
+{
+    let found = closed(statics(alloc, tokens), Mark::CloseStatic);
+    closed(found, Mark::Open)
+}
+
 /// What an iterator applies.
 #[tactic(auto, unfolding(crate::specs::Reading::operator_at))]
 fn operator(alloc: Global, tokens: &[Token]) -> Result<(Operator, &[Token]), ReadError>
@@ -158,6 +169,7 @@ fn expect_separator(tokens: &[Token]) -> Result<&[Token], ReadError>
 }
 
 /// After `<<`, what an iterator applies and how often.
+#[inline(never)]
 #[tactic(auto, unfolding(crate::specs::Reading::applied_at))]
 fn applied(alloc: Global, tokens: &[Token]) -> Result<(Operator, Static, &[Token]), ReadError>
     ensures { Gives (λ x. ((view_operator x.0, view_static x.1), x.2.now)) result
@@ -170,6 +182,7 @@ fn applied(alloc: Global, tokens: &[Token]) -> Result<(Operator, Static, &[Token
 }
 
 /// After `e[`, an index or a slice of it.
+#[inline(never)]
 #[tactic(auto, unfolding(crate::specs::Reading::element_at))]
 fn element(
     alloc: Global,
@@ -204,6 +217,67 @@ fn boxed_before<'t>(
     Ok((Box::new(alloc, e)?, rest))
 }
 
+/// A literal, and the tokens after it.
+#[inline(never)]
+fn literal(alloc: Global, n: u32, rest: &[Token]) -> Result<(Box<Expr>, &[Token]), ReadError>
+    ensures { Gives {Y = tree.Expr × List AToken} (λ x. (view_box x.0, x.1.now)) result
+        (Some (tree.Literal n, rest.now)) }
+{
+    boxed_before(alloc, Expr::Literal(n), rest)
+}
+
+/// A truth, and the tokens after it.
+#[inline(never)]
+fn truth(alloc: Global, b: bool, rest: &[Token]) -> Result<(Box<Expr>, &[Token]), ReadError>
+    ensures { Gives {Y = tree.Expr × List AToken} (λ x. (view_box x.0, x.1.now)) result
+        (Some (tree.Truth b, rest.now)) }
+{
+    boxed_before(alloc, Expr::Truth(b), rest)
+}
+
+/// A variable, and the tokens after it.
+#[inline(never)]
+fn variable<'t>(
+    alloc: Global,
+    name: &Name,
+    rest: &'t [Token],
+) -> Result<(Box<Expr>, &'t [Token]), ReadError>
+    ensures { Gives {Y = tree.Expr × List AToken} (λ x. (view_box x.0, x.1.now)) result
+        (Some (tree.Variable name.now, rest.now)) }
+{
+    boxed_before(alloc, Expr::Variable(name.copy(alloc)?), rest)
+}
+
+/// After `e when`, the clock and the tokens after it.
+#[inline(never)]
+fn sampled(
+    alloc: Global,
+    e: Box<Expr>,
+    tokens: &[Token],
+) -> Result<(Box<Expr>, &[Token]), ReadError>
+    ensures { Gives {Y = tree.Expr × List AToken} (λ x. (view_box x.0, x.1.now)) result
+        (readers.◌>>=◌ (reading.clock_at tokens.now)
+        (λ c. Some (tree.When (view_box e) c.0.0 c.0.1, c.1))) }
+{
+    let (c, rest) = clock(alloc, tokens)?;
+    boxed_before(alloc, Expr::When(e, c.variable, c.sign), rest)
+}
+
+/// After `e ^`, the size and the tokens after it.
+#[inline(never)]
+fn replicated(
+    alloc: Global,
+    e: Box<Expr>,
+    tokens: &[Token],
+) -> Result<(Box<Expr>, &[Token]), ReadError>
+    ensures { Gives {Y = tree.Expr × List AToken} (λ x. (view_box x.0, x.1.now)) result
+        (readers.◌>>=◌ (reading.size_at tokens.now)
+        (λ n. Some (tree.Replicate (view_box e) n.0, n.1))) }
+{
+    let (n, rest) = size(alloc, tokens)?;
+    boxed_before(alloc, Expr::Replicate(e, n), rest)
+}
+
 /// A form that begins with a mark and has one tree inside.
 #[derive(Clone, Copy)]
 enum Single {
@@ -229,6 +303,7 @@ enum Listed {
 }
 
 /// The tree of a form and of what was read inside, and the tokens after it.
+#[inline(never)]
 fn with_one<'t>(
     alloc: Global,
     form: Single,
@@ -248,6 +323,7 @@ fn with_one<'t>(
 }
 
 /// The tree of a form and of the list that was read inside, and the tokens after it.
+#[inline(never)]
 #[tactic(auto, using(crate::proofs::Views::lists))]
 fn with_list<'t>(
     alloc: Global,
@@ -265,17 +341,19 @@ fn with_list<'t>(
     }
 }
 
-/// The tree of an infix form and its two operands, and the tokens after it.
+/// The tree of an infix form, its left operand and the right one that was read, and the tokens
+/// after it.
+#[inline(never)]
 fn joined<'t>(
     alloc: Global,
     form: Form,
     a: Box<Expr>,
-    b: Box<Expr>,
-    rest: &'t [Token],
+    read: Result<(Box<Expr>, &'t [Token]), ReadError>,
 ) -> Result<(Box<Expr>, &'t [Token]), ReadError>
-    ensures { Gives {Y = tree.Expr × List AToken} (λ x. (view_box x.0, x.1.now)) result
-        (Some (reading.joined form (view_box a) (view_box b), rest.now)) }
+    ensures { GoesOn {Y = tree.Expr × List AToken} (λ y. (view_box y.0, y.1.now)) read.entry
+        (λ x. Some (reading.joined form (view_box a) (view_box x.0), x.1.now)) result }
 {
+    let (b, rest) = read?;
     let e = match form {
         Form::Data(op) => Expr::Binary(op, a, b),
         Form::Arrow => Expr::Arrow(a, b),
@@ -285,45 +363,93 @@ fn joined<'t>(
     boxed_before(alloc, e, rest)
 }
 
-/// A call, and the tokens after it.
+/// A tree, the one that was read after it, and the tokens after both.
+#[inline(never)]
+fn followed<'t>(
+    c: Box<Expr>,
+    read: Result<(Box<Expr>, &'t [Token]), ReadError>,
+) -> Result<(Box<Expr>, Box<Expr>, &'t [Token]), ReadError>
+    ensures { GoesOn {Y = (tree.Expr × tree.Expr) × List AToken}
+        (λ y. ((view_box y.0, view_box y.1), y.2.now)) read.entry
+        (λ x. Some ((view_box c, view_box x.0), x.1.now)) result }
+{
+    let (a, rest) = read?;
+    Ok((c, a, rest))
+}
+
+/// The tree of a choice, its condition, its first branch and the last one that was read, and the
+/// tokens after it.
+#[inline(never)]
+fn chosen<'t>(
+    alloc: Global,
+    c: Box<Expr>,
+    a: Box<Expr>,
+    read: Result<(Box<Expr>, &'t [Token]), ReadError>,
+) -> Result<(Box<Expr>, &'t [Token]), ReadError>
+    ensures { GoesOn {Y = tree.Expr × List AToken} (λ y. (view_box y.0, y.1.now)) read.entry
+        (λ x. Some (tree.If (view_box c) (view_box a) (view_box x.0), x.1.now)) result }
+{
+    let (b, rest) = read?;
+    boxed_before(alloc, Expr::If(c, a, b), rest)
+}
+
+/// A call with the operands that were read, and the tokens after it.
+#[inline(never)]
 fn call<'t>(
     alloc: Global,
-    name: Name,
+    name: &Name,
     statics: Vec<Static>,
-    operands: Vec<Expr>,
-    rest: &'t [Token],
+    read: Result<(Vec<Expr>, &'t [Token]), ReadError>,
 ) -> Result<(Box<Expr>, &'t [Token]), ReadError>
-    ensures { Gives {Y = tree.Expr × List AToken} (λ x. (view_box x.0, x.1.now)) result
-        (Some (
-          tree.Call name (view_statics statics.items)
-              (reading.exprs (map view operands.items)),
-          rest.now,
-        )) }
+    ensures { GoesOn {Y = tree.Expr × List AToken} (λ y. (view_box y.0, y.1.now)) read.entry
+        (λ x. Some (
+          tree.Call name.now (view_statics statics.items)
+              (reading.exprs (map view x.0.items)),
+          x.1.now,
+        )) result }
 {
+    let (operands, rest) = read?;
+    let name = name.copy(alloc)?;
     boxed_before(alloc, Expr::Call(name, statics, operands), rest)
 }
 
-/// What an iterator makes of arrays, and the tokens after it.
+/// What an iterator makes of the arrays that were read, and the tokens after it.
+#[inline(never)]
 fn iterate<'t>(
     alloc: Global,
     iterator: ArrayIterator,
     operator: Operator,
     size: Static,
-    operands: Vec<Expr>,
-    rest: &'t [Token],
+    read: Result<(Vec<Expr>, &'t [Token]), ReadError>,
 ) -> Result<(Box<Expr>, &'t [Token]), ReadError>
-    ensures { Gives {Y = tree.Expr × List AToken} (λ x. (view_box x.0, x.1.now)) result
-        (Some (
+    ensures { GoesOn {Y = tree.Expr × List AToken} (λ y. (view_box y.0, y.1.now)) read.entry
+        (λ x. Some (
           tree.Iterate iterator (view_operator operator) (view_static size)
-              (reading.exprs (map view operands.items)),
-          rest.now,
-        )) }
+              (reading.exprs (map view x.0.items)),
+          x.1.now,
+        )) result }
 {
+    let (operands, rest) = read?;
     boxed_before(
         alloc,
         Expr::Iterate(iterator, operator, size, operands),
         rest,
     )
+}
+
+/// Puts the tree that was read behind those that were found, and gives the tokens after it.
+#[inline(never)]
+fn push_tree<'t>(
+    found: &mut Vec<Expr>,
+    read: Result<(Box<Expr>, &'t [Token]), ReadError>,
+) -> Result<&'t [Token], ReadError>
+    ensures { GoesOn {Y = List tree.Expr × List AToken}
+        (λ rest. (map view found.new.items, rest.now)) read.entry
+        (λ x. Some (map view found.old.items ++ view_box x.0 ∷ [], x.1.now)) result }
+{
+    let (e, rest) = read?;
+    found.push(Box::into_inner(e))?;
+    Ok(rest)
 }
 
 /// The reader of what stands inside an expression, to one depth less, is handed in, so that each
@@ -379,8 +505,8 @@ impl<F: Fn(Global, usize, u8, &[Token]) -> Result<(Box<Expr>, &[Token]), ReadErr
             return Err(ReadError::Syntax(tokens.len()));
         };
         match token {
-            Token::Literal(n) => boxed_before(self.alloc, Expr::Literal(*n), rest),
-            Token::Name(x) => self.named(x.copy(self.alloc)?, rest),
+            Token::Literal(n) => literal(self.alloc, *n, rest),
+            Token::Name(x) => self.named(x, rest),
             Token::Mark(mark) => self.marked(*mark, tokens.len(), rest),
         }
     }
@@ -399,27 +525,78 @@ impl<F: Fn(Global, usize, u8, &[Token]) -> Result<(Box<Expr>, &[Token]), ReadErr
     {
         let alloc = self.alloc;
         match mark {
-            Mark::True => boxed_before(alloc, Expr::Truth(true), tokens),
-            Mark::False => boxed_before(alloc, Expr::Truth(false), tokens),
-            Mark::Open => with_one(alloc, Single::Group, self.until(Mark::Close, tokens)),
+            Mark::True => truth(alloc, true, tokens),
+            Mark::False => truth(alloc, false, tokens),
+            Mark::Open => self.group(tokens),
             Mark::Not => self.unary(UnaryOperator::Not, tokens),
             Mark::Minus => self.unary(UnaryOperator::Negate, tokens),
-            Mark::Pre => with_one(alloc, Single::Pre, self.inner(MEMORY_LEVEL, tokens)),
-            Mark::Current => with_one(alloc, Single::Current, self.inner(MEMORY_LEVEL, tokens)),
+            Mark::Pre => self.memory(Single::Pre, tokens),
+            Mark::Current => self.memory(Single::Current, tokens),
             Mark::If => self.choice(tokens),
-            Mark::OpenBracket => {
-                with_list(
-                    alloc,
-                    Listed::Array,
-                    self.list_until(Mark::CloseBracket, tokens),
-                )
-            }
-            Mark::Hash => with_list(alloc, Listed::AtMostOne, self.items(tokens)),
-            Mark::Nor => with_list(alloc, Listed::Nor, self.items(tokens)),
+            Mark::OpenBracket => self.array(tokens),
+            Mark::Hash => self.tuple(Listed::AtMostOne, tokens),
+            Mark::Nor => self.tuple(Listed::Nor, tokens),
             _ => Err(ReadError::Syntax(left)),
         }
     }
 
+    /// What `(` begins.
+    #[inline(always)]
+    fn group<'t>(&self, tokens: &'t [Token]) -> Result<(Box<Expr>, &'t [Token]), ReadError>
+        requires { Nests self.now.depth (F.pre self.now.inner) (F.post self.now.inner) }
+        ensures { Gives {Y = tree.Expr × List AToken} (λ x. (view_box x.0, x.1.now)) result
+            (readers.◌>>=◌ (reading.until (reading.tree_at self.now.depth) m.Close tokens.now)
+            (λ x. Some (tree.Group x.0, x.1))) }
+    {
+        with_one(self.alloc, Single::Group, self.until(Mark::Close, tokens))
+    }
+
+    /// What `pre` or `current` begins.
+    #[inline(always)]
+    fn memory<'t>(
+        &self,
+        form: Single,
+        tokens: &'t [Token],
+    ) -> Result<(Box<Expr>, &'t [Token]), ReadError>
+        requires { Nests self.now.depth (F.pre self.now.inner) (F.post self.now.inner) }
+        ensures { Gives (λ x. (view_box x.0, x.1.now)) result
+            (reading.prefixed (reading.tree_at self.now.depth) (reading.single form)
+            levels.memory_level tokens.now) }
+    {
+        with_one(self.alloc, form, self.inner(MEMORY_LEVEL, tokens))
+    }
+
+    /// What `[` begins where an operand is wanted.
+    #[inline(always)]
+    fn array<'t>(&self, tokens: &'t [Token]) -> Result<(Box<Expr>, &'t [Token]), ReadError>
+        requires { Nests self.now.depth (F.pre self.now.inner) (F.post self.now.inner) }
+        ensures { Gives {Y = tree.Expr × List AToken} (λ x. (view_box x.0, x.1.now)) result
+            (readers.◌>>=◌ (reading.list_until (reading.tree_at self.now.depth) m.CloseBracket
+            tokens.now) (λ x. Some (tree.Array (reading.exprs x.0), x.1))) }
+    {
+        with_list(
+            self.alloc,
+            Listed::Array,
+            self.list_until(Mark::CloseBracket, tokens),
+        )
+    }
+
+    /// What `#` or `nor` begins.
+    #[inline(always)]
+    fn tuple<'t>(
+        &self,
+        form: Listed,
+        tokens: &'t [Token],
+    ) -> Result<(Box<Expr>, &'t [Token]), ReadError>
+        requires { Nests self.now.depth (F.pre self.now.inner) (F.post self.now.inner) }
+        ensures { Gives {Y = tree.Expr × List AToken} (λ x. (view_box x.0, x.1.now)) result
+            (readers.◌>>=◌ (reading.items (reading.tree_at self.now.depth) tokens.now)
+            (λ x. Some (reading.listed form (reading.exprs x.0), x.1))) }
+    {
+        with_list(self.alloc, form, self.items(tokens))
+    }
+
+    #[inline(always)]
     fn unary<'t>(
         &self,
         op: UnaryOperator,
@@ -438,6 +615,7 @@ impl<F: Fn(Global, usize, u8, &[Token]) -> Result<(Box<Expr>, &[Token]), ReadErr
     }
 
     /// Any expression, and then a mark.
+    #[inline(always)]
     #[tactic(auto, unfolding(crate::specs::Reading::until))]
     fn until<'t>(
         &self,
@@ -451,6 +629,7 @@ impl<F: Fn(Global, usize, u8, &[Token]) -> Result<(Box<Expr>, &[Token]), ReadErr
         closed(self.inner(ANY_LEVEL, tokens), mark)
     }
 
+    #[inline(always)]
     #[tactic(auto, unfolding(crate::specs::Reading::choice))]
     fn choice<'t>(&self, tokens: &'t [Token]) -> Result<(Box<Expr>, &'t [Token]), ReadError>
         requires { Nests self.now.depth (F.pre self.now.inner) (F.post self.now.inner) }
@@ -458,25 +637,24 @@ impl<F: Fn(Global, usize, u8, &[Token]) -> Result<(Box<Expr>, &[Token]), ReadErr
             (reading.choice (reading.tree_at self.now.depth) tokens.now) }
     {
         let (c, rest) = self.until(Mark::Then, tokens)?;
-        let (a, rest) = self.until(Mark::Else, rest)?;
-        let (b, rest) = self.inner(CHOICE_LEVEL, rest)?;
-        boxed_before(self.alloc, Expr::If(c, a, b), rest)
+        let (c, a, rest) = followed(c, self.until(Mark::Else, rest))?;
+        chosen(self.alloc, c, a, self.inner(CHOICE_LEVEL, rest))
     }
 
     /// What a name begins.
     #[tactic(auto, unfolding(crate::specs::Reading::named))]
     fn named<'t>(
         &self,
-        name: Name,
+        name: &Name,
         tokens: &'t [Token],
     ) -> Result<(Box<Expr>, &'t [Token]), ReadError>
         requires { Nests self.now.depth (F.pre self.now.inner) (F.post self.now.inner) }
         ensures { Gives (λ x. (view_box x.0, x.1.now)) result
-            (reading.named (reading.tree_at self.now.depth) name tokens.now) }
+            (reading.named (reading.tree_at self.now.depth) name.now tokens.now) }
     {
         match after(Mark::OpenStatic, tokens) {
             None => self.plain(name, tokens),
-            Some(next) => match iterator_of(&name) {
+            Some(next) => match iterator_of(name) {
                 Some(i) => self.iterate(i, next),
                 None => self.static_call(name, next),
             },
@@ -486,21 +664,17 @@ impl<F: Fn(Global, usize, u8, &[Token]) -> Result<(Box<Expr>, &[Token]), ReadErr
     /// A variable, or a call without static arguments.
     fn plain<'t>(
         &self,
-        name: Name,
+        name: &Name,
         tokens: &'t [Token],
     ) -> Result<(Box<Expr>, &'t [Token]), ReadError>
         requires { Nests self.now.depth (F.pre self.now.inner) (F.post self.now.inner) }
         ensures { Gives (λ x. (view_box x.0, x.1.now)) result
-            (reading.plain_by (reading.tree_at self.now.depth) name
+            (reading.plain_by (reading.tree_at self.now.depth) name.now
             (readers.expect m.Open tokens.now) tokens.now) }
     {
         match after(Mark::Open, tokens) {
-            None => boxed_before(self.alloc, Expr::Variable(name), tokens),
-            Some(next) => {
-                let (es, rest) = self.operands(next)?;
-                let none = Vec::new(self.alloc);
-                call(self.alloc, name, none, es, rest)
-            }
+            None => variable(self.alloc, name, tokens),
+            Some(next) => call(self.alloc, name, Vec::new(self.alloc), self.operands(next)),
         }
     }
 
@@ -516,28 +690,27 @@ impl<F: Fn(Global, usize, u8, &[Token]) -> Result<(Box<Expr>, &[Token]), ReadErr
             (reading.iterate (reading.tree_at self.now.depth) i tokens.now) }
     {
         let (f, n, rest) = applied(self.alloc, tokens)?;
-        let (es, rest) = self.items(rest)?;
-        iterate(self.alloc, i, f, n, es, rest)
+        iterate(self.alloc, i, f, n, self.items(rest))
     }
 
     /// After `f<<`.
+    #[inline(never)]
     #[tactic(auto, unfolding(crate::specs::Reading::static_call))]
     fn static_call<'t>(
         &self,
-        name: Name,
+        name: &Name,
         tokens: &'t [Token],
     ) -> Result<(Box<Expr>, &'t [Token]), ReadError>
         requires { Nests self.now.depth (F.pre self.now.inner) (F.post self.now.inner) }
         ensures { Gives (λ x. (view_box x.0, x.1.now)) result
-            (reading.static_call (reading.tree_at self.now.depth) name tokens.now) }
+            (reading.static_call (reading.tree_at self.now.depth) name.now tokens.now) }
     {
-        let found = closed(statics(self.alloc, tokens), Mark::CloseStatic);
-        let (found, rest) = closed(found, Mark::Open)?;
-        let (es, rest) = self.operands(rest)?;
-        call(self.alloc, name, found, es, rest)
+        let (found, rest) = static_arguments(self.alloc, tokens)?;
+        call(self.alloc, name, found, self.operands(rest))
     }
 
     /// After `f(`, operands of which there may be none.
+    #[inline(always)]
     #[tactic(auto, unfolding(crate::specs::Reading::operands))]
     fn operands<'t>(&self, tokens: &'t [Token]) -> Result<(Vec<Expr>, &'t [Token]), ReadError>
         requires { Nests self.now.depth (F.pre self.now.inner) (F.post self.now.inner) }
@@ -551,6 +724,7 @@ impl<F: Fn(Global, usize, u8, &[Token]) -> Result<(Box<Expr>, &[Token]), ReadErr
     }
 
     /// One expression or more in parentheses.
+    #[inline(always)]
     #[tactic(auto, unfolding(crate::specs::Reading::items))]
     fn items<'t>(&self, tokens: &'t [Token]) -> Result<(Vec<Expr>, &'t [Token]), ReadError>
         requires { Nests self.now.depth (F.pre self.now.inner) (F.post self.now.inner) }
@@ -562,7 +736,8 @@ impl<F: Fn(Global, usize, u8, &[Token]) -> Result<(Box<Expr>, &[Token]), ReadErr
     }
 
     /// One expression or more, and then a mark.
-    #[tactic(auto, unfolding(crate::specs::Reading::list_until))]
+    #[inline(always)]
+    #[tactic(auto, unfolding(crate::specs::Reading::list_until), using(crate::proofs::Fronts::nothing))]
     fn list_until<'t>(
         &self,
         mark: Mark,
@@ -572,7 +747,9 @@ impl<F: Fn(Global, usize, u8, &[Token]) -> Result<(Box<Expr>, &[Token]), ReadErr
         ensures { Gives (λ x. (map view x.0.items, x.1.now)) result
             (reading.list_until (reading.tree_at self.now.depth) mark tokens.now) }
     {
-        closed(list(self.alloc, self, tokens), mark)
+        let mut found = Vec::new(self.alloc);
+        let end = list_onto(self, &mut found, tokens);
+        whole(found, past(end, mark))
     }
 
     /// The tree that a form makes of its left operand and what follows its mark.
@@ -588,14 +765,8 @@ impl<F: Fn(Global, usize, u8, &[Token]) -> Result<(Box<Expr>, &[Token]), ReadErr
     {
         let alloc = self.alloc;
         match form {
-            Form::When => {
-                let (c, rest) = clock(alloc, tokens)?;
-                boxed_before(alloc, Expr::When(left, c.variable, c.sign), rest)
-            }
-            Form::Replicate => {
-                let (n, rest) = size(alloc, tokens)?;
-                boxed_before(alloc, Expr::Replicate(left, n), rest)
-            }
+            Form::When => sampled(alloc, left, tokens),
+            Form::Replicate => replicated(alloc, left, tokens),
             Form::Element => element(alloc, left, tokens),
             _ => self.infix(left, form, tokens),
         }
@@ -613,8 +784,12 @@ impl<F: Fn(Global, usize, u8, &[Token]) -> Result<(Box<Expr>, &[Token]), ReadErr
         ensures { Gives (λ x. (view_box x.0, x.1.now)) result
             (reading.infix_at (reading.tree_at self.now.depth) (view_box left) form tokens.now) }
     {
-        let (right, rest) = self.inner(row_of(form).right, tokens)?;
-        joined(self.alloc, form, left, right, rest)
+        joined(
+            self.alloc,
+            form,
+            left,
+            self.inner(row_of(form).right, tokens),
+        )
     }
 }
 
@@ -635,6 +810,15 @@ impl<F: Fn(Global, usize, u8, &[Token]) -> Result<(Box<Expr>, &[Token]), ReadErr
     fn item<'t>(&self, tokens: &'t [Token]) -> Result<(Expr, &'t [Token]), ReadError> {
         let (e, rest) = self.inner(ANY_LEVEL, tokens)?;
         Ok((Box::into_inner(e), rest))
+    }
+
+    #[inline(always)]
+    fn push_item<'t>(
+        &self,
+        found: &mut Vec<Expr>,
+        tokens: &'t [Token],
+    ) -> Result<&'t [Token], ReadError> {
+        push_tree(found, self.inner(ANY_LEVEL, tokens))
     }
 
     fn separator<'t>(&self, tokens: &'t [Token]) -> Option<&'t [Token]> {

@@ -4,7 +4,7 @@ ghost use Rattle.std.specs.Prelude.{◌≡◌, List, Option, Some, None, map, le
 ghost use Rattle.lb_syntax.specs.declared.token.Token.{Token as AToken};
 ghost use Rattle.lb_syntax.specs.ListReading as lists;
 ghost use Rattle.lb_syntax.specs.Reading as reading;
-ghost use Rattle.lb_syntax.specs.Readers.{Gives, Reader};
+ghost use Rattle.lb_syntax.specs.Readers.{Gives, GoesOn, Reader};
 
 use crate::reader::ReadError;
 use crate::token::Token;
@@ -34,6 +34,21 @@ pub trait Items {
         requires { can_read self.now }
         ensures { Gives (λ x. (view x.0, x.1.now)) result (item_at self.now tokens.now) };
 
+    /// Puts an item behind those that were found, and gives the tokens after it.
+    fn push_item<'t>(
+        &self,
+        found: &mut Vec<Self::Item>,
+        tokens: &'t [Token],
+    ) -> Result<&'t [Token], ReadError>
+        requires { can_read self.now }
+        ensures { Gives (λ rest. (map view found.new.items, rest.now)) result
+            (lists.pushed (map view found.old.items) (item_at self.now tokens.now)) }
+    {
+        let (item, rest) = self.item(tokens)?;
+        found.push(item)?;
+        Ok(rest)
+    }
+
     /// The tokens after a separator, if one comes next.
     fn separator<'t>(&self, tokens: &'t [Token]) -> Option<&'t [Token]>
         ensures none { IfNone result (separator_at self.now tokens.now ≡ None) }
@@ -43,7 +58,8 @@ pub trait Items {
 /// One item or more with a separator between two, and the tokens after them.
 ///
 /// Errors: those of the reader of an item, and `Memory`.
-#[tactic(auto, unfolding(crate::specs::Reading::list_at))]
+#[inline(always)]
+#[tactic(auto, using(crate::proofs::Fronts::nothing))]
 pub fn list<'t, I: Items>(
     alloc: Global,
     items: &I,
@@ -53,38 +69,64 @@ pub fn list<'t, I: Items>(
     ensures { Gives (λ x. (map I.view x.0.items, x.1.now)) result
         (reading.list_at (I.separator_at items.now) (I.item_at items.now) tokens.now) }
 {
-    let (first, rest) = items.item(tokens)?;
     let mut found = Vec::new(alloc);
-    found.push(first)?;
+    let end = list_onto(items, &mut found, tokens);
+    whole(found, end)
+}
+
+/// A list and the tokens after it, where its end was read. It stays out of line, so that what
+/// becomes of the items otherwise takes no stack while they are read.
+#[inline(never)]
+pub fn whole<'t, T: Drop>(
+    found: Vec<T>,
+    end: Result<&'t [Token], ReadError>,
+) -> Result<(Vec<T>, &'t [Token]), ReadError>
+    ensures { GoesOn (λ y. (y.0.items, y.1.now)) end.entry
+        (λ rest. lists.beside found.items rest.now) result }
+{
+    let rest = end?;
+    Ok((found, rest))
+}
+
+/// Puts one item or more, with a separator between two, behind those that were found, and gives the
+/// tokens after them.
+///
+/// Errors: those of the reader of an item, and `Memory`.
+#[inline(always)]
+pub fn list_onto<'t, I: Items>(
+    items: &I,
+    found: &mut Vec<I::Item>,
+    tokens: &'t [Token],
+) -> Result<&'t [Token], ReadError>
+    requires { I.can_read items.now }
+    ensures { Gives (λ rest. (map I.view found.new.items, rest.now)) result
+        (reading.with_front (map I.view found.old.items) (reading.list_at
+        (I.separator_at items.now) (I.item_at items.now) tokens.now)) }
+{
+    let rest = items.push_item(found, tokens)?;
     tail(items, found, rest)
 }
 
-/// The items of a list with what follows them. It stays out of line, so that its values take no
-/// stack while the first item is read.
-#[inline(never)]
+/// Puts what follows the items of a list behind them, and gives the tokens after the list.
+#[inline(always)]
 fn tail<'t, I: Items>(
     items: &I,
-    front: Vec<I::Item>,
+    found: &mut Vec<I::Item>,
     tokens: &'t [Token],
-) -> Result<(Vec<I::Item>, &'t [Token]), ReadError>
+) -> Result<&'t [Token], ReadError>
     requires { I.can_read items.now }
-    ensures { Gives (λ x. (map I.view x.0.items, x.1.now)) result
-        (reading.with_front (map I.view front.items) (reading.tail_at (I.separator_at items.now)
-        (I.item_at items.now) (length tokens.now) tokens.now)) }
+    ensures { Gives (λ rest. (map I.view found.new.items, rest.now)) result
+        (reading.with_front (map I.view found.old.items) (reading.tail_at
+        (I.separator_at items.now) (I.item_at items.now) (length tokens.now) tokens.now)) }
 {
-    let mut found = front;
     let mut rest = tokens;
     for _turn in 0..tokens.len() {
         match items.separator(rest) {
-            None => return Ok((found, rest)),
-            Some(next) => {
-                let (item, next) = items.item(next)?;
-                found.push(item)?;
-                rest = next;
-            }
+            None => return Ok(rest),
+            Some(next) => rest = items.push_item(found, next)?,
         }
     }
-    Ok((found, rest))
+    Ok(rest)
 }
 
 /// Any number of items, each after a separator, and the tokens after them.
@@ -98,5 +140,7 @@ pub fn any<'t, I: Items>(
     ensures { Gives (λ x. (map I.view x.0.items, x.1.now)) result
         (lists.any_at (I.separator_at items.now) (I.item_at items.now) tokens.now) }
 {
-    tail(items, Vec::new(alloc), tokens)
+    let mut found = Vec::new(alloc);
+    let end = tail(items, &mut found, tokens);
+    whole(found, end)
 }

@@ -74,6 +74,7 @@ pub fn expect(mark: Mark, tokens: &[Token]) -> Result<&[Token], ReadError>
 /// A thing that was read, where this mark comes next, and the tokens after the mark.
 ///
 /// Errors: the one that was met when it was read, and `Syntax` where the mark does not come next.
+#[inline(never)]
 pub fn closed<'t, T: Drop>(
     read: Result<(T, &'t [Token]), ReadError>,
     mark: Mark,
@@ -84,6 +85,16 @@ pub fn closed<'t, T: Drop>(
     let (found, rest) = read?;
     let rest = expect(mark, rest)?;
     Ok((found, rest))
+}
+
+/// The tokens after this mark, where it comes next after what was read.
+///
+/// Errors: as of `closed`.
+#[inline(never)]
+pub fn past<'t>(read: Result<&'t [Token], ReadError>, mark: Mark) -> Result<&'t [Token], ReadError>
+    ensures { GoesOn (λ rest. rest.now) read.entry (λ ts. reading.expect mark ts.now) result }
+{
+    expect(mark, read?)
 }
 
 /// A name, and the tokens after it.

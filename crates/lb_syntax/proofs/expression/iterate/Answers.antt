@@ -1,14 +1,9 @@
-use Rattle.std.proofs.Common.{List, Some, subst}
-use Rattle.lb_syntax.specs.declared.token.Token.{Token}
-use Rattle.lb_syntax.specs.Readers.{Gives}
-use Rattle.lb_syntax.specs.Tree as tree
-use Rattle.lb_syntax.specs.View.{view_box}
+use Rattle.std.proofs.Common.{rules, arith}
+use Rattle.std.proofs.lemmas.Grind.{common_steps}
 use Rattle.lb_syntax.proofs.Views.{view_iterate}
 use Rattle.lb_syntax.proofs.expression.iterate.Goals as goal
 
 pub returns : goal.returns
 returns c =
-    subst (λ (z : tree.Expr). Gives {Y = tree.Expr × List Token} (λ x. (view_box x.0, x.1.now))
-    c.boxed_before.result (Some (z, c.args.rest.now)))
-    (view_iterate c.args.iterator c.args.operator c.args.size c.args.operands)
-    c.boxed_before.ensures
+    let e = view_iterate c.args.iterator c.args.operator c.args.size c.in_ok-operands.operands in
+    first_of (search rules, grind (arith, common_steps))

@@ -4,7 +4,7 @@ use Rattle.lb_syntax.proofs.list.tail.Given as goal
 
 abbrev pub invariant-loop-turn : goal.invariant-loop-turn
 invariant-loop-turn g l =
-    with_front (map g.I.Items.view l.fn.front.items)
+    with_front (map g.I.Items.view l.fn.found.items)
     (tail_at (g.I.Items.separator_at l.items) (g.I.Items.item_at l.items)
     (length l.tokens) l.tokens)
     ≡ with_front (map g.I.Items.view l.found.items)
