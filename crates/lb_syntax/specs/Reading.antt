@@ -1,12 +1,12 @@
 -- Reading expressions from the front of the tokens, from left to right.
--- This file mirrors code (src/statics.rt, src/expression.rt); no definition of the language stands
--- on it.
+-- This file mirrors code (src/statics.rt, src/expression.rt, src/forms.rt); no definition of the
+-- language stands on it.
 use Rattle.std.specs.Prelude.{ℕ, zero, suc, Bool, true, false, ◌&&◌, if◌then◌else◌, nat_le}
 use Rattle.std.specs.Prelude.{bytes_eq, List, [], ◌∷◌, ◌++◌, length, Option, Some, None}
-use Rattle.lb_syntax.specs.declared.expression.Listed.{Listed}
-use Rattle.lb_syntax.specs.declared.expression.Listed.TheVariants as many
-use Rattle.lb_syntax.specs.declared.expression.Single.{Single}
-use Rattle.lb_syntax.specs.declared.expression.Single.TheVariants as one
+use Rattle.lb_syntax.specs.declared.forms.Listed.{Listed}
+use Rattle.lb_syntax.specs.declared.forms.Listed.TheVariants as many
+use Rattle.lb_syntax.specs.declared.forms.Single.{Single}
+use Rattle.lb_syntax.specs.declared.forms.Single.TheVariants as one
 use Rattle.lb_syntax.specs.declared.level.Form.TheVariants as form
 use Rattle.lb_syntax.specs.declared.token.Mark.{Mark}
 use Rattle.lb_syntax.specs.declared.token.Mark.TheVariants as m

@@ -7,25 +7,28 @@
 //!
 //! The functions hand on a `Box`, which keeps each level of nesting small on the stack.
 
-ghost use Rattle.std.specs.Prelude.{◌≡◌, ℕ, Option, List, Some, None, map, nat_le, ◌≤◌, IfNone};
-ghost use Rattle.std.specs.Prelude.{IfSome, ◌++◌, ◌∷◌, []};
+ghost use Rattle.std.specs.Prelude.{◌≡◌, ℕ, Option, List, Some, None, map, nat_le, ◌≤◌};
 ghost use Rattle.lb_syntax.specs.Levels as levels;
 ghost use Rattle.lb_syntax.specs.Nests.{Nests};
 ghost use Rattle.lb_syntax.specs.Reading as reading;
 ghost use Rattle.lb_syntax.specs.Readers as readers;
-ghost use Rattle.lb_syntax.specs.Readers.{Gives, GoesOn};
+ghost use Rattle.lb_syntax.specs.Readers.{Gives};
 ghost use Rattle.lb_syntax.specs.Tree as tree;
 ghost use Rattle.lb_syntax.specs.View.{view, view_box, view_static, view_statics, view_operator};
 ghost use Rattle.lb_syntax.specs.declared.token.Mark.TheVariants as m;
 ghost use Rattle.lb_syntax.specs.declared.token.Token.{Token as AToken};
 
 use crate::climb::{Grower, Growth, climb};
+use crate::forms::{
+    Listed, Single, call, chosen, element, followed, iterate, joined, literal, push_tree,
+    replicated, sampled, truth, variable, with_list, with_one,
+};
 use crate::level::{
     ANY_LEVEL, ATOM_LEVEL, CHOICE_LEVEL, Form, MEMORY_LEVEL, Row, form_of, row_of, unary_level,
 };
 use crate::list::{Items, list_onto, whole};
 use crate::reader::{ReadError, after, closed, expect, past};
-use crate::statics::{clock, separator, size, static_expression, statics};
+use crate::statics::{separator, static_expression, statics};
 use crate::token::{Mark, Token};
 use crate::tree::{ArrayIterator, BinaryOperator, Expr, Name, Operator, Static, UnaryOperator};
 use std::alloc::{AllocError, Global};
@@ -179,277 +182,6 @@ fn applied(alloc: Global, tokens: &[Token]) -> Result<(Operator, Static, &[Token
     let rest = expect_separator(rest)?;
     let (n, rest) = closed(static_expression(alloc, rest), Mark::CloseStatic)?;
     Ok((f, n, rest))
-}
-
-/// After `e[`, an index or a slice of it.
-#[inline(never)]
-#[tactic(auto, unfolding(crate::specs::Reading::element_at))]
-fn element(
-    alloc: Global,
-    e: Box<Expr>,
-    tokens: &[Token],
-) -> Result<(Box<Expr>, &[Token]), ReadError>
-    ensures { Gives (λ x. (view_box x.0, x.1.now)) result
-        (reading.element_at (view_box e) tokens.now) }
-{
-    let (i, rest) = static_expression(alloc, tokens)?;
-    match after(Mark::DotDot, rest) {
-        None => {
-            let rest = expect(Mark::CloseBracket, rest)?;
-            boxed_before(alloc, Expr::Index(e, i), rest)
-        }
-        Some(next) => {
-            let (j, rest) = closed(static_expression(alloc, next), Mark::CloseBracket)?;
-            boxed_before(alloc, Expr::Slice(e, i, j), rest)
-        }
-    }
-}
-
-/// The tree in a box, and the tokens after it.
-fn boxed_before<'t>(
-    alloc: Global,
-    e: Expr,
-    rest: &'t [Token],
-) -> Result<(Box<Expr>, &'t [Token]), ReadError>
-    ensures { Gives {Y = tree.Expr × List AToken} (λ x. (view_box x.0, x.1.now)) result
-        (Some (view e, rest.now)) }
-{
-    Ok((Box::new(alloc, e)?, rest))
-}
-
-/// A literal, and the tokens after it.
-#[inline(never)]
-fn literal(alloc: Global, n: u32, rest: &[Token]) -> Result<(Box<Expr>, &[Token]), ReadError>
-    ensures { Gives {Y = tree.Expr × List AToken} (λ x. (view_box x.0, x.1.now)) result
-        (Some (tree.Literal n, rest.now)) }
-{
-    boxed_before(alloc, Expr::Literal(n), rest)
-}
-
-/// A truth, and the tokens after it.
-#[inline(never)]
-fn truth(alloc: Global, b: bool, rest: &[Token]) -> Result<(Box<Expr>, &[Token]), ReadError>
-    ensures { Gives {Y = tree.Expr × List AToken} (λ x. (view_box x.0, x.1.now)) result
-        (Some (tree.Truth b, rest.now)) }
-{
-    boxed_before(alloc, Expr::Truth(b), rest)
-}
-
-/// A variable, and the tokens after it.
-#[inline(never)]
-fn variable<'t>(
-    alloc: Global,
-    name: &Name,
-    rest: &'t [Token],
-) -> Result<(Box<Expr>, &'t [Token]), ReadError>
-    ensures { Gives {Y = tree.Expr × List AToken} (λ x. (view_box x.0, x.1.now)) result
-        (Some (tree.Variable name.now, rest.now)) }
-{
-    boxed_before(alloc, Expr::Variable(name.copy(alloc)?), rest)
-}
-
-/// After `e when`, the clock and the tokens after it.
-#[inline(never)]
-fn sampled(
-    alloc: Global,
-    e: Box<Expr>,
-    tokens: &[Token],
-) -> Result<(Box<Expr>, &[Token]), ReadError>
-    ensures { Gives {Y = tree.Expr × List AToken} (λ x. (view_box x.0, x.1.now)) result
-        (readers.◌>>=◌ (reading.clock_at tokens.now)
-        (λ c. Some (tree.When (view_box e) c.0.0 c.0.1, c.1))) }
-{
-    let (c, rest) = clock(alloc, tokens)?;
-    boxed_before(alloc, Expr::When(e, c.variable, c.sign), rest)
-}
-
-/// After `e ^`, the size and the tokens after it.
-#[inline(never)]
-fn replicated(
-    alloc: Global,
-    e: Box<Expr>,
-    tokens: &[Token],
-) -> Result<(Box<Expr>, &[Token]), ReadError>
-    ensures { Gives {Y = tree.Expr × List AToken} (λ x. (view_box x.0, x.1.now)) result
-        (readers.◌>>=◌ (reading.size_at tokens.now)
-        (λ n. Some (tree.Replicate (view_box e) n.0, n.1))) }
-{
-    let (n, rest) = size(alloc, tokens)?;
-    boxed_before(alloc, Expr::Replicate(e, n), rest)
-}
-
-/// A form that begins with a mark and has one tree inside.
-#[derive(Clone, Copy)]
-enum Single {
-    /// `(e)`
-    Group,
-    /// `not a`, `- a`
-    Unary(UnaryOperator),
-    /// `pre a`
-    Pre,
-    /// `current a`
-    Current,
-}
-
-/// A form that begins with a mark and has a list of trees inside.
-#[derive(Clone, Copy)]
-enum Listed {
-    /// `[a, b]`
-    Array,
-    /// `#(a, b)`
-    AtMostOne,
-    /// `nor(a, b)`
-    Nor,
-}
-
-/// The tree of a form and of what was read inside, and the tokens after it.
-#[inline(never)]
-fn with_one<'t>(
-    alloc: Global,
-    form: Single,
-    read: Result<(Box<Expr>, &'t [Token]), ReadError>,
-) -> Result<(Box<Expr>, &'t [Token]), ReadError>
-    ensures { GoesOn {Y = tree.Expr × List AToken} (λ y. (view_box y.0, y.1.now)) read.entry
-        (λ x. Some (reading.single form (view_box x.0), x.1.now)) result }
-{
-    let (e, rest) = read?;
-    let tree = match form {
-        Single::Group => Expr::Group(e),
-        Single::Unary(op) => Expr::Unary(op, e),
-        Single::Pre => Expr::Pre(e),
-        Single::Current => Expr::Current(e),
-    };
-    boxed_before(alloc, tree, rest)
-}
-
-/// The tree of a form and of the list that was read inside, and the tokens after it.
-#[inline(never)]
-#[tactic(auto, using(crate::proofs::Views::lists))]
-fn with_list<'t>(
-    alloc: Global,
-    form: Listed,
-    read: Result<(Vec<Expr>, &'t [Token]), ReadError>,
-) -> Result<(Box<Expr>, &'t [Token]), ReadError>
-    ensures { GoesOn {Y = tree.Expr × List AToken} (λ y. (view_box y.0, y.1.now)) read.entry
-        (λ x. Some (reading.listed form (reading.exprs (map view x.0.items)), x.1.now)) result }
-{
-    let (es, rest) = read?;
-    match form {
-        Listed::Array => boxed_before(alloc, Expr::Array(es), rest),
-        Listed::AtMostOne => boxed_before(alloc, Expr::AtMostOne(es), rest),
-        Listed::Nor => boxed_before(alloc, Expr::Nor(es), rest),
-    }
-}
-
-/// The tree of an infix form, its left operand and the right one that was read, and the tokens
-/// after it.
-#[inline(never)]
-fn joined<'t>(
-    alloc: Global,
-    form: Form,
-    a: Box<Expr>,
-    read: Result<(Box<Expr>, &'t [Token]), ReadError>,
-) -> Result<(Box<Expr>, &'t [Token]), ReadError>
-    ensures { GoesOn {Y = tree.Expr × List AToken} (λ y. (view_box y.0, y.1.now)) read.entry
-        (λ x. Some (reading.joined form (view_box a) (view_box x.0), x.1.now)) result }
-{
-    let (b, rest) = read?;
-    let e = match form {
-        Form::Data(op) => Expr::Binary(op, a, b),
-        Form::Arrow => Expr::Arrow(a, b),
-        Form::Fby => Expr::Fby(a, b),
-        _ => Expr::Join(a, b),
-    };
-    boxed_before(alloc, e, rest)
-}
-
-/// A tree, the one that was read after it, and the tokens after both.
-#[inline(never)]
-fn followed<'t>(
-    c: Box<Expr>,
-    read: Result<(Box<Expr>, &'t [Token]), ReadError>,
-) -> Result<(Box<Expr>, Box<Expr>, &'t [Token]), ReadError>
-    ensures { GoesOn {Y = (tree.Expr × tree.Expr) × List AToken}
-        (λ y. ((view_box y.0, view_box y.1), y.2.now)) read.entry
-        (λ x. Some ((view_box c, view_box x.0), x.1.now)) result }
-{
-    let (a, rest) = read?;
-    Ok((c, a, rest))
-}
-
-/// The tree of a choice, its condition, its first branch and the last one that was read, and the
-/// tokens after it.
-#[inline(never)]
-fn chosen<'t>(
-    alloc: Global,
-    c: Box<Expr>,
-    a: Box<Expr>,
-    read: Result<(Box<Expr>, &'t [Token]), ReadError>,
-) -> Result<(Box<Expr>, &'t [Token]), ReadError>
-    ensures { GoesOn {Y = tree.Expr × List AToken} (λ y. (view_box y.0, y.1.now)) read.entry
-        (λ x. Some (tree.If (view_box c) (view_box a) (view_box x.0), x.1.now)) result }
-{
-    let (b, rest) = read?;
-    boxed_before(alloc, Expr::If(c, a, b), rest)
-}
-
-/// A call with the operands that were read, and the tokens after it.
-#[inline(never)]
-fn call<'t>(
-    alloc: Global,
-    name: &Name,
-    statics: Vec<Static>,
-    read: Result<(Vec<Expr>, &'t [Token]), ReadError>,
-) -> Result<(Box<Expr>, &'t [Token]), ReadError>
-    ensures { GoesOn {Y = tree.Expr × List AToken} (λ y. (view_box y.0, y.1.now)) read.entry
-        (λ x. Some (
-          tree.Call name.now (view_statics statics.items)
-              (reading.exprs (map view x.0.items)),
-          x.1.now,
-        )) result }
-{
-    let (operands, rest) = read?;
-    let name = name.copy(alloc)?;
-    boxed_before(alloc, Expr::Call(name, statics, operands), rest)
-}
-
-/// What an iterator makes of the arrays that were read, and the tokens after it.
-#[inline(never)]
-fn iterate<'t>(
-    alloc: Global,
-    iterator: ArrayIterator,
-    operator: Operator,
-    size: Static,
-    read: Result<(Vec<Expr>, &'t [Token]), ReadError>,
-) -> Result<(Box<Expr>, &'t [Token]), ReadError>
-    ensures { GoesOn {Y = tree.Expr × List AToken} (λ y. (view_box y.0, y.1.now)) read.entry
-        (λ x. Some (
-          tree.Iterate iterator (view_operator operator) (view_static size)
-              (reading.exprs (map view x.0.items)),
-          x.1.now,
-        )) result }
-{
-    let (operands, rest) = read?;
-    boxed_before(
-        alloc,
-        Expr::Iterate(iterator, operator, size, operands),
-        rest,
-    )
-}
-
-/// Puts the tree that was read behind those that were found, and gives the tokens after it.
-#[inline(never)]
-fn push_tree<'t>(
-    found: &mut Vec<Expr>,
-    read: Result<(Box<Expr>, &'t [Token]), ReadError>,
-) -> Result<&'t [Token], ReadError>
-    ensures { GoesOn {Y = List tree.Expr × List AToken}
-        (λ rest. (map view found.new.items, rest.now)) read.entry
-        (λ x. Some (map view found.old.items ++ view_box x.0 ∷ [], x.1.now)) result }
-{
-    let (e, rest) = read?;
-    found.push(Box::into_inner(e))?;
-    Ok(rest)
 }
 
 /// The reader of what stands inside an expression, to one depth less, is handed in, so that each

@@ -6,6 +6,7 @@ mod climb;
 mod declaration;
 mod error;
 mod expression;
+mod forms;
 mod level;
 mod lex;
 mod limits;

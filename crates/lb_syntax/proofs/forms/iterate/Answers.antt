@@ -1,7 +1,7 @@
 use Rattle.std.proofs.Common.{rules, arith}
 use Rattle.std.proofs.lemmas.Grind.{common_steps}
 use Rattle.lb_syntax.proofs.Views.{view_iterate}
-use Rattle.lb_syntax.proofs.expression.iterate.Goals as goal
+use Rattle.lb_syntax.proofs.forms.iterate.Goals as goal
 
 pub returns : goal.returns
 returns c =
