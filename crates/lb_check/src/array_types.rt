@@ -18,6 +18,7 @@ use std::alloc::{AllocError, Global};
 const LONGEST: u64 = 4096;
 
 /// An array of so many of these, where it is not too long.
+#[inline(always)]
 #[tactic(auto, using(crate::proofs::TypeLists::outermost))]
 pub fn array_of(size: u64, element: DataType) -> Result<Option<DataType>, AllocError>
     ensures { IfOk result (λ o.
@@ -32,6 +33,7 @@ pub fn array_of(size: u64, element: DataType) -> Result<Option<DataType>, AllocE
 }
 
 /// The type of an element at this index.
+#[inline(always)]
 #[tactic(auto, using(crate::proofs::TypeLists::outermost))]
 pub fn index_type(index: u64, array: DataType) -> Option<DataType>
     ensures { option_map view_type result ≡ types.index_type index (view_type array) }
@@ -42,6 +44,7 @@ pub fn index_type(index: u64, array: DataType) -> Option<DataType>
 }
 
 /// The type of a slice with these ends.
+#[inline(always)]
 #[tactic(auto, using(crate::proofs::TypeLists::outermost))]
 pub fn slice_type(start: u64, end: u64, array: DataType) -> Result<Option<DataType>, AllocError>
     ensures { IfOk result (λ o.
@@ -59,6 +62,7 @@ pub fn slice_type(start: u64, end: u64, array: DataType) -> Result<Option<DataTy
 }
 
 /// The type of one array and then another.
+#[inline(always)]
 #[tactic(auto, using(crate::proofs::TypeLists::outermost))]
 pub fn join_type(left: DataType, right: DataType) -> Result<Option<DataType>, AllocError>
     ensures { IfOk result (λ o.
@@ -76,6 +80,7 @@ pub fn join_type(left: DataType, right: DataType) -> Result<Option<DataType>, Al
 }
 
 /// The type of an array of so many of these, if it is known how many.
+#[inline(always)]
 pub fn replicate_type(size: Option<u64>, element: DataType) -> Result<Option<DataType>, AllocError>
     ensures { IfOk result (λ o.
         option_map view_type o ≡ lists.◌>>=◌ size (λ n. types.array_of n (view_type element))) }
@@ -87,6 +92,7 @@ pub fn replicate_type(size: Option<u64>, element: DataType) -> Result<Option<Dat
 }
 
 /// The type of an element at this index, if that is known.
+#[inline(always)]
 pub fn element_type(index: Option<u64>, array: DataType) -> Option<DataType>
     ensures { option_map view_type result
         ≡ lists.◌>>=◌ index (λ i. types.index_type i (view_type array)) }
@@ -95,6 +101,7 @@ pub fn element_type(index: Option<u64>, array: DataType) -> Option<DataType>
 }
 
 /// The type of a slice with these ends, if they are known.
+#[inline(always)]
 pub fn part_type(
     start: Option<u64>,
     end: Option<u64>,
@@ -144,6 +151,7 @@ fn all_are(wanted: &DataType, all: &[DataType]) -> bool
 }
 
 /// The type of a list of elements of these types.
+#[inline(always)]
 pub fn list_type(elements: &[DataType]) -> Result<Option<DataType>, AllocError>
     ensures { IfOk result (λ o.
         option_map view_type o ≡ types.list_type (map view_type elements.now)) }

@@ -14,6 +14,7 @@ use lb_syntax::{BinaryOperator, Kind, UnaryOperator};
 use std::alloc::{AllocError, Global};
 
 /// What is given, where the operands fit.
+#[inline(always)]
 fn given_where(fits: bool, given: DataType) -> Option<DataType>
     ensures { option_map view_type result ≡ lists.where_true fits (view_type given) }
 {
@@ -39,6 +40,7 @@ pub fn literal_type(alloc: Global, number: u32) -> Option<DataType>
 }
 
 /// What an operator gives, where its operand has the type that it takes.
+#[inline(always)]
 pub fn unary_type(alloc: Global, op: UnaryOperator, operand: DataType) -> Option<DataType>
     ensures { option_map view_type result ≡ types.unary_type op (view_type operand) }
 {
@@ -63,6 +65,7 @@ fn are_truths(left: &DataType, right: &DataType) -> bool
 }
 
 /// What an operator gives, where its operands have the types that it takes.
+#[inline(always)]
 fn binary_type(
     alloc: Global,
     op: BinaryOperator,
@@ -94,6 +97,7 @@ fn binary_type(
 }
 
 /// What an operator gives for its operands, if they have types.
+#[inline(always)]
 pub fn of_operands(
     alloc: Global,
     op: BinaryOperator,
@@ -111,6 +115,7 @@ pub fn of_operands(
 }
 
 /// The type of both, if they have one.
+#[inline(always)]
 pub fn common_type(left: Option<DataType>, right: Option<DataType>) -> Option<DataType>
     ensures { option_map view_type result
         ≡ mirror.when_both (option_map view_type left) (option_map view_type right)
@@ -125,6 +130,7 @@ pub fn common_type(left: Option<DataType>, right: Option<DataType>) -> Option<Da
 }
 
 /// The type of one array and then another.
+#[inline(always)]
 pub fn joined(
     left: Option<DataType>,
     right: Option<DataType>,
@@ -140,6 +146,7 @@ pub fn joined(
 }
 
 /// What is given under a condition, if that is a truth.
+#[inline(always)]
 pub fn when_truth(condition: Option<DataType>, given: Option<DataType>) -> Option<DataType>
     ensures { option_map view_type result
         ≡ mirror.when_truth (option_map view_type condition) (option_map view_type given) }
@@ -180,6 +187,7 @@ pub fn one(alloc: Global, data_type: DataType) -> Result<Option<Vec<DataType>>, 
 }
 
 /// The type, where there is one and no more.
+#[inline(always)]
 pub fn only(results: Option<Vec<DataType>>) -> Option<DataType>
     ensures { option_map view_type result ≡ lists.◌>>=◌ (option_map view_types results) types.only }
 {

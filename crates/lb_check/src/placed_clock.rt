@@ -211,6 +211,7 @@ fn clock_at(clocks: &[Clock], place: usize) -> Clock
 }
 
 /// Notes the clocks of terms that stand on this clock.
+#[inline(always)]
 #[cycle(placing)]
 fn place_all(
     alloc: Global,
@@ -230,6 +231,7 @@ fn place_all(
 }
 
 /// Notes the clocks of terms that stand each on a clock of its own.
+#[inline(always)]
 #[cycle(placing)]
 #[tactic(auto, using(crate::proofs::PlacedRows::each_more, crate::proofs::PlacedRows::each_end, crate::proofs::PlacedRows::each_short))]
 fn place_each(

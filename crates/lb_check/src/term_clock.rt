@@ -1,4 +1,7 @@
 //! The clocks that terms accept (E10).
+//!
+//! What `infer_clock` calls of itself is inlined, so that a level of nesting has one frame on the
+//! stack.
 
 ghost use Rattle.std.specs.Prelude.{◌≡◌, option_map, IfOk};
 ghost use Rattle.lb_check.specs.StoredClocks.{context_in};
@@ -79,6 +82,7 @@ fn row_clock_set(env: &ClockEnv, term: &Term, operands: &[Operand]) -> ClockSet
 }
 
 /// The clocks that a term accepts whose one operand accepts these.
+#[inline(always)]
 fn unary_clock_set(env: &ClockEnv, term: &Term, operand: ClockSet) -> ClockSet
     ensures { result ≡ mirror.unary_clock_set (context_in env.now) term.now operand }
 {
@@ -90,6 +94,7 @@ fn unary_clock_set(env: &ClockEnv, term: &Term, operand: ClockSet) -> ClockSet
 }
 
 /// The operands that some terms are.
+#[inline(always)]
 #[cycle(clock_sets)]
 pub fn operands_of(
     alloc: Global,
@@ -111,6 +116,7 @@ pub fn operands_of(
 
 /// Where a term may stand whose two operands, or the branches of whose choice, may stand there
 /// together.
+#[inline(always)]
 #[cycle(clock_sets)]
 fn pair_clock_set(
     alloc: Global,

@@ -1,4 +1,6 @@
 //! The types of terms (E9).
+//!
+//! What `type_of` calls is inlined, so that a level of nesting has one frame on the stack.
 
 ghost use Rattle.std.specs.Prelude.{◌≡◌, map, option_map, IfOk};
 ghost use Rattle.std.specs.List.{list_all};
@@ -110,6 +112,7 @@ fn symbol_results(
 }
 
 /// The types of the results of a term whose operands, in a row, have these types.
+#[inline(always)]
 fn row_results(
     alloc: Global,
     env: &TypeEnv,
@@ -136,6 +139,7 @@ fn row_results(
 }
 
 /// The type of a term with one operand of this type.
+#[inline(always)]
 fn one_type(
     alloc: Global,
     env: &TypeEnv,
@@ -156,6 +160,7 @@ fn one_type(
 }
 
 /// The types of terms.
+#[inline(always)]
 #[cycle(typing)]
 fn types_of(
     alloc: Global,
@@ -176,6 +181,7 @@ fn types_of(
 }
 
 /// The types of the results of a term with these operands in a row.
+#[inline(always)]
 #[cycle(typing)]
 fn operand_results(
     alloc: Global,
@@ -193,6 +199,7 @@ fn operand_results(
 }
 
 /// The type of a term whose two operands, or the branches of whose choice, have these types.
+#[inline(always)]
 #[cycle(typing)]
 fn two_types(
     alloc: Global,

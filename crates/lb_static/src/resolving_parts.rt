@@ -19,6 +19,7 @@ use lb_syntax::{Name, Static};
 use std::alloc::Global;
 
 /// The place of the variable of a name.
+#[inline(always)]
 pub fn variable(alloc: Global, here: &NodeBuilder, name: &Name) -> Result<VariableId, StaticError>
     ensures found { IfOk result (IsVariableAt (progress here.now).node name.now) }
     ensures is_declared { IfOk result (λ _.
@@ -33,6 +34,7 @@ pub fn variable(alloc: Global, here: &NodeBuilder, name: &Name) -> Result<Variab
 }
 
 /// What a name in an expression stands for: a variable, a static parameter or a constant.
+#[inline(always)]
 pub fn named<'s>(
     alloc: Global,
     here: &mut NodeBuilder<'_, 's>,
@@ -54,6 +56,7 @@ pub fn named<'s>(
 }
 
 /// The number of a static expression.
+#[inline(always)]
 pub fn one_static<'s>(
     alloc: Global,
     here: &mut NodeBuilder<'_, 's>,
@@ -71,6 +74,7 @@ pub fn one_static<'s>(
 }
 
 /// The first of some static expressions that stand one after another, and how many there are.
+#[inline(always)]
 pub fn all_statics<'s>(
     alloc: Global,
     here: &mut NodeBuilder<'_, 's>,
@@ -88,6 +92,7 @@ pub fn all_statics<'s>(
 }
 
 /// The number of a call or of an iterated node, which is called so often.
+#[inline(always)]
 pub fn call<'s>(
     alloc: Global,
     here: &mut NodeBuilder<'_, 's>,

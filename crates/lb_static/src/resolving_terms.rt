@@ -1,4 +1,6 @@
 //! Expressions whose names are resolved.
+//!
+//! What `term` calls is inlined, so that a level of nesting has one frame on the stack.
 
 ghost use Rattle.std.specs.Prelude.{map};
 ghost use Rattle.lb_syntax.specs.View.{view};
@@ -43,6 +45,7 @@ enum Head {
 }
 
 /// The term of an expression, in a box.
+#[inline(always)]
 #[cycle(resolving)]
 fn boxed<'s>(
     alloc: Global,
@@ -55,6 +58,7 @@ fn boxed<'s>(
 }
 
 /// The terms of some expressions.
+#[inline(always)]
 #[cycle(resolving)]
 fn terms<'s>(
     alloc: Global,
@@ -71,6 +75,7 @@ fn terms<'s>(
 }
 
 /// The term of an expression with what stands around it.
+#[inline(always)]
 #[cycle(resolving)]
 fn framed<'s>(
     alloc: Global,
@@ -99,6 +104,7 @@ fn framed<'s>(
 }
 
 /// The term of a list of operands with what stands before it.
+#[inline(always)]
 #[cycle(resolving)]
 fn row<'s>(
     alloc: Global,
