@@ -92,7 +92,6 @@ pub fn replicate_type(size: Option<u64>, element: DataType) -> Result<Option<Dat
 }
 
 /// The type of an element at this index, if that is known.
-#[inline(always)]
 pub fn element_type(index: Option<u64>, array: DataType) -> Option<DataType>
     ensures { option_map view_type result
         ≡ lists.◌>>=◌ index (λ i. types.index_type i (view_type array)) }

@@ -14,7 +14,6 @@ use lb_syntax::{BinaryOperator, Kind, UnaryOperator};
 use std::alloc::{AllocError, Global};
 
 /// What is given, where the operands fit.
-#[inline(always)]
 fn given_where(fits: bool, given: DataType) -> Option<DataType>
     ensures { option_map view_type result ≡ lists.where_true fits (view_type given) }
 {
@@ -40,7 +39,6 @@ pub fn literal_type(alloc: Global, number: u32) -> Option<DataType>
 }
 
 /// What an operator gives, where its operand has the type that it takes.
-#[inline(always)]
 pub fn unary_type(alloc: Global, op: UnaryOperator, operand: DataType) -> Option<DataType>
     ensures { option_map view_type result ≡ types.unary_type op (view_type operand) }
 {
@@ -187,7 +185,6 @@ pub fn one(alloc: Global, data_type: DataType) -> Result<Option<Vec<DataType>>, 
 }
 
 /// The type, where there is one and no more.
-#[inline(always)]
 pub fn only(results: Option<Vec<DataType>>) -> Option<DataType>
     ensures { option_map view_type result ≡ lists.◌>>=◌ (option_map view_types results) types.only }
 {

@@ -211,7 +211,6 @@ fn clock_at(clocks: &[Clock], place: usize) -> Clock
 }
 
 /// Notes the clocks of terms that stand on this clock.
-#[inline(always)]
 #[cycle(placing)]
 fn place_all(
     alloc: Global,

@@ -82,7 +82,6 @@ fn row_clock_set(env: &ClockEnv, term: &Term, operands: &[Operand]) -> ClockSet
 }
 
 /// The clocks that a term accepts whose one operand accepts these.
-#[inline(always)]
 fn unary_clock_set(env: &ClockEnv, term: &Term, operand: ClockSet) -> ClockSet
     ensures { result ≡ mirror.unary_clock_set (context_in env.now) term.now operand }
 {
@@ -116,7 +115,6 @@ pub fn operands_of(
 
 /// Where a term may stand whose two operands, or the branches of whose choice, may stand there
 /// together.
-#[inline(always)]
 #[cycle(clock_sets)]
 fn pair_clock_set(
     alloc: Global,

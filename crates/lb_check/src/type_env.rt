@@ -83,7 +83,6 @@ fn callee_signature(
 
 impl TypeEnv<'_, '_> {
     /// The type of a variable.
-    #[inline(always)]
     #[tactic(auto, unfolding(crate::specs::TermTypes::context_of))]
     pub fn variable(&self, alloc: Global, x: VariableId) -> Result<Option<DataType>, AllocError>
         ensures { IfOk result (λ o.

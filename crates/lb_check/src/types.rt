@@ -112,7 +112,6 @@ fn symbol_results(
 }
 
 /// The types of the results of a term whose operands, in a row, have these types.
-#[inline(always)]
 fn row_results(
     alloc: Global,
     env: &TypeEnv,

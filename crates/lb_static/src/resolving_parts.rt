@@ -19,7 +19,6 @@ use lb_syntax::{Name, Static};
 use std::alloc::Global;
 
 /// The place of the variable of a name.
-#[inline(always)]
 pub fn variable(alloc: Global, here: &NodeBuilder, name: &Name) -> Result<VariableId, StaticError>
     ensures found { IfOk result (IsVariableAt (progress here.now).node name.now) }
     ensures is_declared { IfOk result (λ _.
@@ -74,7 +73,6 @@ pub fn one_static<'s>(
 }
 
 /// The first of some static expressions that stand one after another, and how many there are.
-#[inline(always)]
 pub fn all_statics<'s>(
     alloc: Global,
     here: &mut NodeBuilder<'_, 's>,

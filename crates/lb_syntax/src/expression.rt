@@ -172,7 +172,7 @@ fn expect_separator(tokens: &[Token]) -> Result<&[Token], ReadError>
 }
 
 /// After `<<`, what an iterator applies and how often.
-#[inline(never)]
+#[inline(always)]
 #[tactic(auto, unfolding(crate::specs::Reading::applied_at))]
 fn applied(alloc: Global, tokens: &[Token]) -> Result<(Operator, Static, &[Token]), ReadError>
     ensures { Gives (λ x. ((view_operator x.0, view_static x.1), x.2.now)) result

@@ -1,6 +1,6 @@
 //! The tree of each form, made of the parts that were read.
 //!
-//! The functions take what came of the last part, and so see to its error. They stay out of line,
+//! The functions take what came of the last part, and so see to its error. Most stay out of line,
 //! so that what they hold takes no stack while an expression nests.
 
 ghost use Rattle.std.specs.Prelude.{◌≡◌, List, Some, map, ◌++◌, ◌∷◌, []};
@@ -251,7 +251,7 @@ pub fn call<'t>(
 }
 
 /// What an iterator makes of the arrays that were read, and the tokens after it.
-#[inline(never)]
+#[inline(always)]
 pub fn iterate<'t>(
     alloc: Global,
     iterator: ArrayIterator,
