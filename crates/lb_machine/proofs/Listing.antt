@@ -1,25 +1,59 @@
 -- Listed instructions, with one more behind them.
-use Rattle.std.proofs.Common.{◌≡◌, List, [], ◌∷◌, ◌++◌, map, ap, ◌∙◌, sym}
-use Rattle.std.proofs.Common.{refl}
-use Rattle.std.proofs.lemmas.List.{append_assoc, map-append}
-use Rattle.lb_machine.specs.Listed.{select_of, unpacked}
+use Rattle.std.proofs.Common.{◌≡◌, ℕ, ◌+◌, List, [], ◌∷◌, ◌++◌, length, ap, ◌∙◌, sym, arith}
+use Rattle.std.proofs.Common.{refl, ◌⊎◌, inl, inr}
+use Rattle.std.proofs.lemmas.List.{append_assoc}
+use Rattle.lb_machine.specs.Listed.{select_at, selects_from, unpacked}
 use Rattle.lb_machine.specs.declared.instructions.Block.{Block}
 use Rattle.lb_machine.specs.declared.instructions.Choice.{Choice}
 
+choice_behind :
+    (choices : List Choice) (first out : ℕ) (c : Choice) → first + length choices ≡ out →
+    selects_from first (choices ++ c ∷ []) ≡ selects_from first choices ++ select_at out c ∷ []
+choice_behind [] first out c e =
+    let same : first ≡ out = omega (arith, e) in ap (λ n. select_at n c ∷ []) same
+choice_behind (x ∷ choices) first out c e =
+    ap (λ is. select_at first x ∷ is) (choice_behind choices (first + 1) out c (omega (arith, e)))
+
 pub choice_listed :
-    (blocks : List Block) (choices : List Choice) (c : Choice) →
-    unpacked blocks (choices ++ c ∷ []) ≡ unpacked blocks choices ++ select_of c ∷ []
-choice_listed [] choices c = map-append select_of choices (c ∷ [])
-choice_listed (b ∷ blocks) choices c =
-    ap (λ is. map select_of b.choices.items ++ b.last ∷ is) (choice_listed blocks choices c)
-    ∙ sym (append_assoc (map select_of b.choices.items) (b.last ∷ unpacked blocks choices)
-    (select_of c ∷ []))
+    (blocks : List Block) (first : ℕ) (choices : List Choice) (out : ℕ) (c : Choice) →
+    first + length choices ≡ out →
+    unpacked blocks first (choices ++ c ∷ []) ≡ unpacked blocks first choices ++ select_at out c ∷ []
+choice_listed [] first choices out c e = choice_behind choices first out c e
+choice_listed (b ∷ blocks) first choices out c e =
+    ap (λ is. selects_from b.first b.choices.items ++ b.last ∷ is)
+    (choice_listed blocks first choices out c e)
+    ∙ sym (append_assoc (selects_from b.first b.choices.items)
+    (b.last ∷ unpacked blocks first choices) (select_at out c ∷ []))
 
 pub block_listed :
-    (blocks : List Block) (b : Block) →
-    unpacked (blocks ++ b ∷ []) [] ≡ unpacked blocks b.choices.items ++ b.last ∷ []
-block_listed [] b = refl
-block_listed (a ∷ blocks) b =
-    ap (λ is. map select_of a.choices.items ++ a.last ∷ is) (block_listed blocks b)
-    ∙ sym (append_assoc (map select_of a.choices.items)
-    (a.last ∷ unpacked blocks b.choices.items) (b.last ∷ []))
+    (blocks : List Block) (b : Block) (first : ℕ) →
+    unpacked (blocks ++ b ∷ []) first [] ≡ unpacked blocks b.first b.choices.items ++ b.last ∷ []
+block_listed [] b first = refl
+block_listed (a ∷ blocks) b first =
+    ap (λ is. selects_from a.first a.choices.items ++ a.last ∷ is) (block_listed blocks b first)
+    ∙ sym (append_assoc (selects_from a.first a.choices.items)
+    (a.last ∷ unpacked blocks b.first b.choices.items) (b.last ∷ []))
+
+-- where there is no choice, the plane that the first would write is of no account
+pub none_listed :
+    (blocks : List Block) (first first' : ℕ) → unpacked blocks first [] ≡ unpacked blocks first' []
+none_listed [] first first' = refl
+none_listed (a ∷ blocks) first first' =
+    ap (λ is. selects_from a.first a.choices.items ++ a.last ∷ is) (none_listed blocks first first')
+
+-- one choice more, behind choices or as the first
+pub choice_pushed :
+    (blocks : List Block) (first old : ℕ) (choices new : List Choice) (out : ℕ) (c : Choice) →
+    new ≡ choices ++ c ∷ [] → first + length choices ≡ out →
+    (length choices ≡ 0) ⊎ (first ≡ old) →
+    unpacked blocks first new ≡ unpacked blocks old choices ++ select_at out c ∷ []
+choice_pushed blocks first old choices new out c is e from =
+    ap (unpacked blocks first) is
+    ∙ choice_listed blocks first choices out c e
+    ∙ ap (λ l. l ++ select_at out c ∷ []) (by choices from)
+  where
+    by : (cs : List Choice) → (length cs ≡ 0) ⊎ (first ≡ old) →
+        unpacked blocks first cs ≡ unpacked blocks old cs
+    by [] from = none_listed blocks first old
+    by (x ∷ cs) (inl none) = absurd (omega (arith, none))
+    by (x ∷ cs) (inr same) = ap (λ n. unpacked blocks n (x ∷ cs)) same

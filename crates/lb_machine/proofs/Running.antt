@@ -1,6 +1,6 @@
 -- What the run of straight code keeps: all that was done stays done, since later instructions write
 -- places that no earlier one reads or writes.
-use Rattle.std.proofs.Common.{◌≡◌, ℕ, suc, ◌+◌, ◌<◌, ◌≤◌, List, [], ◌∷◌, ◌++◌, length, get_or, map}
+use Rattle.std.proofs.Common.{◌≡◌, ℕ, suc, ◌+◌, ◌<◌, ◌≤◌, List, [], ◌∷◌, ◌++◌, length, get_or}
 use Rattle.std.proofs.Common.{not, ◌||◌, drop, cond, refl, sym, ap, ap₂, ◌∙◌, subst, arith, ℤ}
 use Rattle.std.proofs.Common.{add-one}
 use Rattle.std.proofs.Math.Seq.{drop-cons}
@@ -13,7 +13,7 @@ use Rattle.lb_machine.specs.declared.instruction.Instruction.{Instruction}
 use Rattle.lb_machine.specs.declared.instruction.Instruction.TheVariants.{Select, Compare}
 use Rattle.lb_machine.specs.declared.instruction.Instruction.TheVariants.{Operate, Blend}
 use Rattle.lb_machine.specs.declared.instructions.Choice.{Choice}
-use Rattle.lb_machine.specs.Listed.{select_of}
+use Rattle.lb_machine.specs.Listed.{select_at, selects_from}
 use Rattle.lb_machine.specs.Meaning.{Lane, lane_at, compared, IsDone}
 use Rattle.lb_machine.specs.Straight.{IsNext, planes_after, words_after, IsStraight, IsFit}
 use Rattle.lb_machine.specs.Straight.{KeepsPlane, KeepsWord}
@@ -131,19 +131,23 @@ stays_done p w s s' (Blend m a b out) n h d =
 -- ## What is left of listed code
 
 pub next_choice :
-    (choices : List Choice) (more : List Instruction) (k : ℕ) (d c : Choice) →
-    c ≡ get_or choices k d → k < length choices →
-    map select_of (drop k choices) ++ more
-    ≡ select_of c ∷ (map select_of (drop (k + 1) choices) ++ more)
-next_choice choices more k d c is lt =
+    (choices : List Choice) (more : List Instruction) (first k out : ℕ) (d c : Choice) →
+    c ≡ get_or choices k d → k < length choices → first + k ≡ out →
+    selects_from (first + k) (drop k choices) ++ more
+    ≡ select_at out c ∷ (selects_from (first + (k + 1)) (drop (k + 1) choices) ++ more)
+next_choice choices more first k out d c is lt e =
     let cut : drop k choices ≡ get_or choices k d ∷ drop (k + 1) choices =
     rw (add-one, drop-cons choices k d) in
-    ap (λ cs. map select_of cs ++ more) (cut ∙ ap (λ x. x ∷ drop (k + 1) choices) (sym is))
+    let next : first + k + 1 ≡ first + (k + 1) = omega arith in
+    ap (λ cs. selects_from (first + k) cs ++ more)
+    (cut ∙ ap (λ x. x ∷ drop (k + 1) choices) (sym is))
+    ∙ ap₂ (λ n m. select_at n c ∷ (selects_from m (drop (k + 1) choices) ++ more)) e next
 
 pub no_choice :
-    (choices : List Choice) (more : List Instruction) (k : ℕ) → length choices ≤ k →
-    map select_of (drop k choices) ++ more ≡ more
-no_choice choices more k le = ap (λ cs. map select_of cs ++ more) (drop_of_length-le choices le)
+    (choices : List Choice) (more : List Instruction) (first k : ℕ) → length choices ≤ k →
+    selects_from (first + k) (drop k choices) ++ more ≡ more
+no_choice choices more first k le =
+    ap (λ cs. selects_from (first + k) cs ++ more) (drop_of_length-le choices le)
 
 -- ## The run
 

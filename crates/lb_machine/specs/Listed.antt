@@ -1,21 +1,26 @@
 -- The instructions of code, in their order.
 -- Source: this project's rule.
-use Rattle.std.specs.Prelude.{List, [], ◌∷◌, ◌++◌, map}
+use Rattle.std.specs.Prelude.{ℕ, ◌+◌, List, [], ◌∷◌, ◌++◌}
 use Rattle.lb_machine.specs.declared.instruction.Instruction.{Instruction}
 use Rattle.lb_machine.specs.declared.instruction.Instruction.TheVariants.{Select}
 use Rattle.lb_machine.specs.declared.instructions.Block.{Block}
 use Rattle.lb_machine.specs.declared.instructions.Choice.{Choice}
 use Rattle.lb_machine.specs.declared.instructions.Instructions.{Instructions}
 
--- a choice as an instruction
-abbrev pub select_of : Choice → Instruction
-select_of c = Select c.mask c.a c.b c.out
+-- a choice that writes a plane, as an instruction
+abbrev pub select_at : ℕ → Choice → Instruction
+select_at out c = Select c.mask c.a c.b (record { 0 = out })
+
+-- choices that write the planes from one on
+abbrev pub selects_from : ℕ → List Choice → List Instruction
+selects_from out [] = []
+selects_from out (c ∷ choices) = select_at out c ∷ selects_from (out + 1) choices
 
 -- those of blocks, each with its choices first, and then the choices behind them
-abbrev pub unpacked : List Block → List Choice → List Instruction
-unpacked [] choices = map select_of choices
-unpacked (b ∷ blocks) choices =
-    map select_of b.choices.items ++ b.last ∷ unpacked blocks choices
+abbrev pub unpacked : List Block → ℕ → List Choice → List Instruction
+unpacked [] first choices = selects_from first choices
+unpacked (b ∷ blocks) first choices =
+    selects_from b.first b.choices.items ++ b.last ∷ unpacked blocks first choices
 
 abbrev pub listed : Instructions → List Instruction
-listed is = unpacked is.blocks.items is.choices.items
+listed is = unpacked is.blocks.items is.first is.choices.items

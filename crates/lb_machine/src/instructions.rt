@@ -1,34 +1,35 @@
 //! Instructions as they lie in memory: mostly choices between planes, side by side.
 //!
 //! ```text
-//! 7 := if 4 then 5 else 6     block    choices  4 5 6 7, 7 2 6 8
+//! 7 := if 4 then 5 else 6     block    first 7  choices  4 5 6, 7 2 6
 //! 8 := if 7 then 2 else 6              last     Operate(Add, 1, 2, 0, 0, 3, 9)
 //! word 3 := 1 + 2
-//! 10 := if 9 then 8 else 7    choices  9 8 7 10
+//! 10 := if 9 then 8 else 7    first 10  choices  9 8 7
 //! ```
 //!
-//! A choice takes 16 bytes, any other instruction 28; and in a row of choices none is looked at for
-//! what it is.
+//! The choices of a row write planes that follow one another. A choice takes 12 bytes, any other
+//! instruction 28; and in a row of choices none is looked at for what it is.
 
-ghost use Rattle.std.specs.Prelude.{◌≡◌, [], ◌∷◌, ◌++◌, OnOk, OnErr};
-ghost use Rattle.lb_machine.specs.Listed.{listed};
+ghost use Rattle.std.specs.Prelude.{◌≡◌, [], ◌∷◌, ◌++◌, ◌⊎◌, true, false, length};
+ghost use Rattle.std.specs.Prelude.{IfOk, OnOk, OnErr};
+ghost use Rattle.lb_machine.specs.Listed.{listed, select_at};
 
 use crate::instruction::{Instruction, PlaneId};
 use std::alloc::{AllocError, Global};
 use std::mem::replace;
 
-/// [`Instruction::Select`] alone.
+/// [`Instruction::Select`] alone, without the plane that is written.
 #[derive(Clone, Copy)]
 pub struct Choice {
     pub mask: PlaneId,
     pub a: PlaneId,
     pub b: PlaneId,
-    pub out: PlaneId,
 }
 
-/// Choices, and an instruction after them.
+/// Choices, which write the planes from a first one on, and an instruction after them.
 #[derive(Drop)]
 pub struct Block {
+    pub first: u32,
     pub choices: Vec<Choice>,
     pub last: Instruction,
 }
@@ -37,7 +38,8 @@ pub struct Block {
 #[derive(Drop)]
 pub struct Instructions {
     pub blocks: Vec<Block>,
-    /// The choices behind the last block.
+    /// The choices behind the last block, and the plane that the first of them writes.
+    pub first: u32,
     pub choices: Vec<Choice>,
 }
 
@@ -48,8 +50,54 @@ impl Instructions {
     {
         Instructions {
             blocks: Vec::new(alloc),
+            first: 0,
             choices: Vec::new(alloc),
         }
+    }
+
+    // The plane that the first choice behind the last block writes, if a choice of this plane
+    // follows.
+    fn first_with(&self, out: PlaneId) -> u32
+        ensures { (length self.now.choices.items ≡ 0) ⊎ (result ≡ self.now.first) }
+    {
+        if self.choices.len() == 0 {
+            out.0
+        } else {
+            self.first
+        }
+    }
+
+    // One more choice behind the last block, if the row goes on with the plane that it writes.
+    fn push_choice(&mut self, c: Choice, out: PlaneId) -> Result<bool, AllocError>
+        ensures pushed { IfOk result (λ done. done ≡ true
+            → listed self.new ≡ listed self.old ++ select_at out.0 c ∷ []) }
+        ensures other { IfOk result (λ done. done ≡ false → listed self.new ≡ listed self.old) }
+        ensures same { OnErr result (listed self.new ≡ listed self.old) }
+    {
+        let first = self.first_with(out);
+        if first as usize + self.choices.len() != out.0 as usize {
+            return Ok(false);
+        }
+        self.choices.push(c)?;
+        self.first = first;
+        Ok(true)
+    }
+
+    // One more instruction, which ends the row of choices.
+    fn push_last(&mut self, last: Instruction) -> Result<(), AllocError>
+        ensures items { OnOk result (listed self.new ≡ listed self.old ++ last ∷ []) }
+        ensures same { OnErr result (listed self.new ≡ listed self.old) }
+    {
+        self.blocks.reserve(1)?;
+        let alloc = *self.choices.allocator();
+        let choices = replace(&mut self.choices, Vec::new(alloc));
+        let first = self.first;
+        self.blocks.push_reserved(Block {
+            first,
+            choices,
+            last,
+        });
+        Ok(())
     }
 
     /// One more, behind all.
@@ -57,17 +105,11 @@ impl Instructions {
         ensures items { OnOk result (listed self.new ≡ listed self.old ++ i ∷ []) }
         ensures same { OnErr result (listed self.new ≡ listed self.old) }
     {
-        match i {
-            Instruction::Select(mask, a, b, out) => {
-                self.choices.push(Choice { mask, a, b, out })?;
-            }
-            last => {
-                self.blocks.reserve(1)?;
-                let alloc = *self.choices.allocator();
-                let choices = replace(&mut self.choices, Vec::new(alloc));
-                self.blocks.push_reserved(Block { choices, last });
+        if let Instruction::Select(mask, a, b, out) = i {
+            if self.push_choice(Choice { mask, a, b }, out)? {
+                return Ok(());
             }
         }
-        Ok(())
+        self.push_last(i)
     }
 }

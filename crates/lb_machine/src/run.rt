@@ -5,7 +5,7 @@ ghost use Rattle.lb_lanes.specs.Correct.{IsBlend, IsKernel};
 ghost use Rattle.lb_lanes.specs.Kernels.{lane_of};
 ghost use Rattle.lb_lanes.specs.Operators.{result_of};
 ghost use Rattle.lb_lanes.specs.Planes.{IsPlaneOf, on};
-ghost use Rattle.lb_machine.specs.Listed.{listed, select_of};
+ghost use Rattle.lb_machine.specs.Listed.{listed, select_at};
 ghost use Rattle.lb_machine.specs.Meaning.{compared, lane_at, IsDone};
 ghost use Rattle.lb_machine.specs.Straight.{IsFit, KeepsPlane, KeepsWord};
 
@@ -70,11 +70,11 @@ fn blend(mask: Plane, a: WordId, b: WordId, out: WordId, words: &mut [LaneWord])
 }
 
 // Does a choice in all lanes.
-fn choose(c: Choice, planes: &mut [u64])
-    requires { IsFit (length planes.old) 0 (select_of c) }
+fn choose(c: Choice, out: usize, planes: &mut [u64])
+    requires { IsFit (length planes.old) 0 (select_at out c) }
     ensures planes { length planes.new ≡ length planes.old }
-    ensures done { (lane : ℕ) → lane < 64 → IsDone (lane_at planes.new [] lane) (select_of c) }
-    ensures other_planes { (k : ℕ) → k ≢ c.out.0
+    ensures done { (lane : ℕ) → lane < 64 → IsDone (lane_at planes.new [] lane) (select_at out c) }
+    ensures other_planes { (k : ℕ) → k ≢ out
         → slice_index planes.new k ≡ slice_index planes.old k }
 {
     let made = Plane::select(
@@ -82,7 +82,7 @@ fn choose(c: Choice, planes: &mut [u64])
         plane(planes, c.a),
         plane(planes, c.b),
     );
-    planes[c.out.0 as usize] = made.0;
+    planes[out] = made.0;
 }
 
 // Does one instruction in all lanes.
@@ -97,7 +97,9 @@ fn execute(i: Instruction, planes: &mut [u64], words: &mut [LaneWord])
         → slice_index_or words.new k [] ≡ slice_index_or words.old k [] }
 {
     match i {
-        Instruction::Select(mask, a, b, out) => choose(Choice { mask, a, b, out }, planes),
+        Instruction::Select(mask, a, b, out) => {
+            choose(Choice { mask, a, b }, out.0 as usize, planes);
+        }
         Instruction::Compare(c, a, b, out) => {
             let made = compared(c, &words[a.0 as usize], &words[b.0 as usize]);
             planes[out.0 as usize] = made.0;
@@ -130,13 +132,17 @@ impl Code {
     {
         'outer: for j in 0..self.instructions.blocks.len() {
             let block = &self.instructions.blocks[j];
-            'choices: for k in 0..block.choices.len() {
-                choose(block.choices[k], planes);
+            let first = block.first as usize;
+            let row = block.choices.as_slice();
+            'choices: for k in 0..row.len() {
+                choose(row[k], first + k, planes);
             }
             execute(block.last, planes, words);
         }
-        'rest: for k in 0..self.instructions.choices.len() {
-            choose(self.instructions.choices[k], planes);
+        let start = self.instructions.first as usize;
+        let behind = self.instructions.choices.as_slice();
+        'rest: for k in 0..behind.len() {
+            choose(behind[k], start + k, planes);
         }
     }
 }
