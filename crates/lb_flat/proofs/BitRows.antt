@@ -11,7 +11,6 @@ use Rattle.std.proofs.lemmas.Nat.Bits.{bit_at_above}
 use Rattle.std.specs.Prelude.{int_le}
 use Rattle.std.specs.Int.{bit_at}
 use Rattle.std.specs.List.{All, range_with_len}
-use Rattle.lb_syntax.specs.declared.tree.Kind.{Kind}
 use Rattle.lb_syntax.specs.declared.tree.Kind.TheVariants.{Int as Int_kind, Bool as Bool_kind}
 use Rattle.lb_static.specs.Signature.{Element, Elements, kinds_of}
 use Rattle.lb_flat.specs.BitRows.{AreTruths, row_of_bits}

@@ -6,7 +6,7 @@ use Rattle.std.specs.Prelude.{slice_get}
 use Rattle.std.proofs.lemmas.List.{length-map}
 use Rattle.std.proofs.lemmas.Option.{slice_get-map}
 use Rattle.lb_syntax.specs.Lists.{Every, In}
-use Rattle.lb_syntax.specs.Tree.{Name, Static, Named, Expr, Declaration, Node}
+use Rattle.lb_syntax.specs.Tree.{Name, Expr, Declaration, Node}
 use Rattle.lb_static.specs.DataTypes.{variables, width}
 use Rattle.lb_static.specs.Instances.{Program, Instance, Path, instances, node_sites}
 use Rattle.lb_static.specs.Instantiation.{static_refusal}
@@ -14,7 +14,7 @@ use Rattle.lb_static.specs.InstanceTable.{IsTable}
 use Rattle.lb_static.specs.Parts.{node_parts}
 use Rattle.lb_static.specs.ReachedNodes.{IsReached}
 use Rattle.lb_static.specs.ResolvedNodes.{node_of, counts_of, texts_of}
-use Rattle.lb_static.specs.ResolvedTerms.{is_no_variable, statement_of, Texts, Counts}
+use Rattle.lb_static.specs.ResolvedTerms.{statement_of, Texts, Counts}
 use Rattle.lb_static.specs.ResolvedTerms.{is_statement_within, is_statement_unhidden}
 use Rattle.lb_static.specs.declared.resolved.ResolvedStatement.{ResolvedStatement}
 use Rattle.std.specs.List.{list_all}
@@ -35,13 +35,11 @@ use Rattle.lb_flat.specs.Emit.{State, emit_body}
 use Rattle.lb_flat.specs.EmitTerms.{Context, emit_statements, first_place}
 use Rattle.lb_flat.specs.Layouts.{flat_clock}
 use Rattle.lb_flat.specs.NumberedLayouts.{layout}
-use Rattle.lb_flat.specs.RowContexts.{RowClocks}
 use Rattle.lb_flat.proofs.EmittedBodies.{body_is, body_place_is}
 use Rattle.lb_flat.proofs.EmittedTerms.{IsSmall, IsTermAt}
 use Rattle.lb_flat.proofs.NumberedPlaces.{places_width}
 use Rattle.lb_flat.proofs.RowContexts.{own_resolved}
 use Rattle.lb_flat.proofs.RowInstances.{IsRow}
-use Rattle.lb_flat.proofs.RowTexts.{AreRowClocks}
 use Rattle.lb_flat.proofs.TermContexts.{IsContext}
 use Rattle.lb_flat.proofs.TermPlaces.{Along, along_from, past}
 use Rattle.lb_flat.proofs.WideInstances.{all_typed, calls_wide}

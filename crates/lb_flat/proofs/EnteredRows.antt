@@ -8,11 +8,7 @@ use Rattle.lb_static.specs.declared.table.Instance as row
 use Rattle.lb_static.specs.declared.table.Specialization.{Specialization}
 use Rattle.lb_check.specs.declared.checked.Checking.{Checking}
 use Rattle.lb_flat.specs.EmitRows.{HasRows}
-use Rattle.lb_flat.specs.RowFrames.{IsFrameOf, Read, found_row, is_row, read_of}
-use Rattle.lb_flat.specs.declared.children.Children.{Children}
-use Rattle.lb_flat.specs.declared.clocks.Clocks.{Clocks}
-use Rattle.lb_flat.specs.declared.layout.Layout.{Layout}
-use Rattle.lb_flat.specs.declared.row_frame.RowFrame.{RowFrame}
+use Rattle.lb_flat.specs.RowFrames.{found_row, is_row}
 
 -- ## Rows that are there
 

@@ -7,6 +7,7 @@ use Rattle.std.proofs.lemmas.List.{get_or_read, get_or-take, get_or-drop, length
 use Rattle.std.proofs.lemmas.List.{same_lists}
 use Rattle.std.proofs.lemmas.List.FromFn.{length-map-range_with_len, get_or-map-range_with_len}
 use Rattle.std.proofs.lemmas.Option.{get_or_from_slice_get, slice_get_within}
+use Rattle.std.proofs.Math.Nat.{mul-le-mul_right}
 use Rattle.std.specs.Prelude.{int_le, ◌↔◌, IsTrue}
 use Rattle.std.specs.Int.{bit_at}
 use Rattle.std.specs.List.{range_with_len}
@@ -315,64 +316,119 @@ module _ (old : Recording) (elements : Elements) (names : List (List ℕ)) (numb
         ∙ ap (cell_at old.traces k t) column
         ∙ ap (λ ks. cell_at old.traces k t (get_or (number_columns 0 ks) w 0)) same_kinds
 
-    -- all words of the instant
-    pub words_count :
-        length (take (words_of_row (length truths))
-        (drop ((from + t) * words_of_row (length truths)) words))
-        ≡ words_of_row (length (truth_columns 0 (kinds_of old.signature)))
-    words_count =
-        length-take-le (words_of_row (length truths))
-        (drop ((from + t) * words_of_row (length truths)) words)
-        (omega (arith, words_fit, length-drop ((from + t) * words_of_row (length truths)) words))
-        ∙ ap (λ c. words_of_row (length c)) is.columns.truths_are
-        ∙ ap (λ ks. words_of_row (length (truth_columns 0 ks))) same_kinds
-
-    bit_there :
-        (b : ℕ) → b / 64 < words_of_row (length truths) →
-        bit_in (take (words_of_row (length truths))
-        (drop ((from + t) * words_of_row (length truths)) words)) b
-        ≡ bit_in (drop ((from + t) * words_of_row (length truths)) words) b
-    bit_there b l =
-        ap (λ w. bit_at w (b % 64) == 1)
-        (get_or-take (words_of_row (length truths))
-        (drop ((from + t) * words_of_row (length truths)) words) (b / 64) 0 l)
-
+    -- the Booleans of the instant
     pub bits_found :
         (b : ℕ) → b < length (truth_columns 0 (kinds_of old.signature)) →
-        bit_in (take (words_of_row (length truths))
-        (drop ((from + t) * words_of_row (length truths)) words)) b
+        bit_in (drop ((from + t) * words_of_row (length truths)) words) b
         ≡ int_le (pos 1)
         (cell_at old.traces k t (get_or (truth_columns 0 (kinds_of old.signature)) b 0))
     bits_found b l =
         let lt : b < length (truth_columns 0 kinds) =
         subst (λ ks. b < length (truth_columns 0 ks)) (sym same_kinds) l in
         let f = bool_column 0 0 0 kinds b lt in
-        let few : b < length truths = omega (arith, lt, ap length is.columns.truths_are) in
-        let inside : b / 64 < words_of_row (length truths) = omega (arith, few) in
         let place : get_or (places_from 0 0 kinds) f.column 0 ≡ b = f.place ∙ omega arith in
         let column : f.column ≡ get_or (truth_columns 0 kinds) b 0 = sym (f.is ∙ omega arith) in
-        bit_there b inside
-        ∙ sym (ap (int_le (pos 1)) (bit_is f.column b f.below f.kind place) ∙ cell_truth _)
+        sym (ap (int_le (pos 1)) (bit_is f.column b f.below f.kind place) ∙ cell_truth _)
         ∙ ap (λ c. int_le (pos 1) (cell_at old.traces k t c)) column
         ∙ ap (λ ks. int_le (pos 1) (cell_at old.traces k t (get_or (truth_columns 0 ks) b 0)))
         same_kinds
 
+    -- and the bits past them
     pub past_found :
         (b : ℕ) → length (truth_columns 0 (kinds_of old.signature)) ≤ b →
-        b < 64
-        * length (take (words_of_row (length truths))
-        (drop ((from + t) * words_of_row (length truths)) words)) →
-        bit_in (take (words_of_row (length truths))
-        (drop ((from + t) * words_of_row (length truths)) words)) b ≡ false
+        b < 64 * words_of_row (length truths) →
+        bit_in (drop ((from + t) * words_of_row (length truths)) words) b ≡ false
     past_found b le l =
         let past : length (truth_columns 0 kinds) ≤ b =
         subst (λ ks. length (truth_columns 0 ks) ≤ b) (sym same_kinds) le in
         let wide : words_of_row (length truths) ≡ words_of kinds =
         ap (λ c. words_of_row (length c)) is.columns.truths_are in
-        let long : words_of_row (length (truth_columns 0 (kinds_of old.signature)))
-        ≡ words_of kinds = ap (λ ks. words_of ks) (sym same_kinds) in
-        let all : b < 64 * words_of kinds = omega (arith, l, words_count, long) in
-        let inside : b / 64 < words_of_row (length truths) = omega (arith, all, wide) in
-        bit_there b inside
-        ∙ ap (λ w. bit_in (drop ((from + t) * w) words) b) wide
+        let all : b < 64 * words_of kinds = omega (arith, l, wide) in
+        ap (λ w. bit_in (drop ((from + t) * w) words) b) wide
         ∙ is.filled.past (from + t) b row_below past all
+
+  -- some instants of it
+  module _ (t n from : ℕ) (within : t + n ≤ length (trace_at old.traces k).1)
+      (read : from ≡ get_or ends k from) where
+    abbrev count : ℕ
+    count = words_of_row (length truths)
+
+    -- their words
+    abbrev part : List ℕ
+    part = take (n * count) (drop ((from + t) * count) words)
+
+    count_is : count ≡ words_of_row (length (truth_columns 0 (kinds_of old.signature)))
+    count_is =
+        ap (λ c. words_of_row (length c)) is.columns.truths_are
+        ∙ ap (λ ks. words_of_row (length (truth_columns 0 ks))) same_kinds
+
+    -- lie within all
+    pub part_fits :
+        (width : ℕ) → width ≡ words_of_row (length truths) →
+        ((from + t + n) * width ≤ length words) × ((from + t) * width ≤ (from + t + n) * width)
+    part_fits width same =
+        let rows : from + t + n ≤ last_place ends =
+        omega (arith, rest_fits t from (omega (arith, within)) read, within) in
+        let fit : (from + t + n) * width ≤ last_place ends * width =
+        mul-le-mul_right width rows in
+        let wide : width ≡ words_of kinds =
+        same ∙ ap (λ c. words_of_row (length c)) is.columns.truths_are in
+        let all : length words ≡ last_place ends * width =
+        is.filled.words_long ∙ ap (λ w. last_place ends * w) (sym wide) in
+        (omega (arith, fit, all), mul-le-mul_right width (omega arith))
+
+    pub part_count :
+        length
+        (take (n * words_of_row (length truths))
+        (drop ((from + t) * words_of_row (length truths)) words))
+        ≡ n * words_of_row (length (truth_columns 0 (kinds_of old.signature)))
+    part_count =
+        let split : (from + t + n) * count ≡ (from + t) * count + n * count = omega arith in
+        length-take-le (n * count) (drop ((from + t) * count) words)
+        (omega (arith, (part_fits count refl).0, split, length-drop ((from + t) * count) words))
+        ∙ ap (λ w. n * w) count_is
+
+    -- a bit of one of the instants
+    bit_moved :
+        (d b : ℕ) → d < n → b < 64 * count →
+        bit_in part (64 * (d * count) + b) ≡ bit_in (drop ((from + (t + d)) * count) words) b
+    bit_moved d b ld l =
+        let inside : (d + 1) * count ≤ n * count = mul-le-mul_right count (omega (arith, ld)) in
+        let q : (64 * (d * count) + b) / 64 ≡ d * count + b / 64 = omega arith in
+        let m : (64 * (d * count) + b) % 64 ≡ b % 64 = omega arith in
+        let lt : d * count + b / 64 < n * count = omega (arith, inside, l) in
+        let there : (from + t) * count + (d * count + b / 64)
+        ≡ (from + (t + d)) * count + b / 64 = omega arith in
+        ap₂ (λ x y. bit_at (get_or part x 0) y == 1) q m
+        ∙ ap (λ w. bit_at w (b % 64) == 1)
+        (get_or-take (n * count) (drop ((from + t) * count) words) (d * count + b / 64) 0 lt
+        ∙ get_or-drop ((from + t) * count) words (d * count + b / 64) 0
+        ∙ ap (λ x. get_or words x 0) there
+        ∙ sym (get_or-drop ((from + (t + d)) * count) words (b / 64) 0))
+
+    pub part_bits :
+        (d b : ℕ) → d < n → b < length (truth_columns 0 (kinds_of old.signature)) →
+        bit_in
+        (take (n * words_of_row (length truths))
+        (drop ((from + t) * words_of_row (length truths)) words))
+        (64 * (d * words_of_row (length (truth_columns 0 (kinds_of old.signature)))) + b)
+        ≡ int_le (pos 1)
+        (cell_at old.traces k (t + d) (get_or (truth_columns 0 (kinds_of old.signature)) b 0))
+    part_bits d b ld l =
+        ap (λ w. bit_in part (64 * (d * w) + b)) (sym count_is)
+        ∙ bit_moved d b ld (omega (arith, l, count_is))
+        ∙ bits_found (t + d) from (omega (arith, ld, within)) read b l
+
+    pub part_past :
+        (d b : ℕ) → d < n → length (truth_columns 0 (kinds_of old.signature)) ≤ b →
+        b < 64 * words_of_row (length (truth_columns 0 (kinds_of old.signature))) →
+        bit_in
+        (take (n * words_of_row (length truths))
+        (drop ((from + t) * words_of_row (length truths)) words))
+        (64 * (d * words_of_row (length (truth_columns 0 (kinds_of old.signature)))) + b)
+        ≡ false
+    part_past d b ld le l =
+        let under : b < 64 * count = omega (arith, l, count_is) in
+        ap (λ w. bit_in part (64 * (d * w) + b)) (sym count_is)
+        ∙ bit_moved d b ld under
+        ∙ past_found (t + d) from (omega (arith, ld, within)) read b le under

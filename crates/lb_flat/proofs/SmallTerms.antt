@@ -1,11 +1,9 @@
 -- In a program within the limit of size no array in an expression has elements of more scalars than
 -- the limit, so that a number that stops there is the number itself.
-use Rattle.std.proofs.Common.{◌≡◌, inl, inr, ℕ, ◌≤◌, true, List, [], ◌∷◌, ap, arith}
+use Rattle.std.proofs.Common.{inl, inr, ℕ, ◌≤◌, List, [], ◌∷◌, ap, arith}
 use Rattle.std.specs.Prelude.{sum_by}
 use Rattle.std.proofs.lemmas.List.Sums.{sum_by-cons}
 use Rattle.lb_syntax.specs.Lists.{In}
-use Rattle.lb_static.specs.Instances.{Program, Instance, instances}
-use Rattle.lb_check.specs.TypeRules.{is_small, size}
 
 -- what is summed is at most the sum
 pub in_sum : {A : Type 0} (f : A → ℕ) (xs : List A) (x : A) → In x xs → f x ≤ sum_by f xs

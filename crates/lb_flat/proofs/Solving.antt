@@ -6,22 +6,18 @@ use Rattle.lb_syntax.specs.declared.tree.BinaryOperator.TheVariants.{Or, And}
 use Rattle.lb_syntax.specs.declared.tree.Kind.{Kind}
 use Rattle.lb_syntax.specs.declared.tree.Kind.TheVariants.{Int, Bool as Truth}
 use Rattle.lb_syntax.specs.Lists.{Every, In}
-use Rattle.lb_syntax.specs.Tree.{Name, Declaration}
-use Rattle.lb_static.specs.Instances.{Program, Instance, Path, Root, Observer, instances}
-use Rattle.lb_static.specs.DataTypes.{variables, width, input_kinds}
+use Rattle.lb_syntax.specs.Tree.{Declaration}
+use Rattle.lb_static.specs.Instances.{Program, Instance, Root, Observer, instances}
+use Rattle.lb_static.specs.DataTypes.{variables, width}
 use Rattle.lb_check.specs.Scalars.{Integer, Boolean, Nil, Bad, Stream}
 use Rattle.lb_check.specs.Clocks.{declared_clock}
-use Rattle.lb_check.specs.Solutions.{Inputs, fits, is_row}
+use Rattle.lb_check.specs.Solutions.{fits}
 use Rattle.lb_check.proofs.ApartLists.{Every-from}
-use Rattle.lb_flat.specs.Flat.{FlatClock, Always, FlatEquation, FlatSolves}
-use Rattle.lb_flat.specs.Run.{Ready}
+use Rattle.lb_flat.specs.Flat.{FlatClock, Always, FlatEquation}
 use Rattle.lb_flat.specs.Layouts.{Layout, flat_clock}
-use Rattle.lb_flat.specs.Emit.{expanded}
 use Rattle.lb_flat.specs.Correct.{IsOrderingOf}
-use Rattle.lb_flat.specs.Flattening.{IsTrace}
 use Rattle.lb_flat.proofs.Lists.{Every-in}
 use Rattle.lb_flat.proofs.Counting.{IsTruth}
-use Rattle.lb_flat.proofs.Adding.{columns}
 use Rattle.lb_flat.proofs.Bodies.{IsLaidOut}
 use Rattle.lb_flat.proofs.OnClock.{ClockFits}
 use Rattle.lb_flat.proofs.ScalarKinds.{binary_kind}

@@ -227,22 +227,31 @@ impl TraceSet {
         &self.numbers.as_slice()[start..start + width]
     }
 
-    /// The Booleans of a trace at an instant, in the order of the signature, as the bits of words:
-    /// that with number b is bit b % 64 of word b / 64. The bits past the last are 0.
-    pub fn bits(&self, k: u32, t: u32) -> &[u64]
+    /// The Booleans of a trace at so many instants from one on, in the order of the signature, as
+    /// the bits of words, so many for each instant: that with number b is bit b % 64 of word b / 64
+    /// of its instant. The bits past the last are 0.
+    pub fn bits(&self, k: u32, t: u32, count: u32) -> &[u64]
         requires trace { k < length self.now.traces }
-        requires instant { t < length (trace_at self.now.traces k).1 }
+        requires instants { t + count ≤ length (trace_at self.now.traces k).1 }
         ensures words { length result.now
-            ≡ words_of_row (length (truth_columns 0 (kinds_of self.now.signature))) }
-        ensures bits { (b : ℕ) → b < length (truth_columns 0 (kinds_of self.now.signature))
-            → bit_in result.now b ≡ int_le (pos 1) (cell_at self.now.traces k t
+            ≡ count * words_of_row (length (truth_columns 0 (kinds_of self.now.signature))) }
+        ensures bits { (d b : ℕ) → d < count
+            → b < length (truth_columns 0 (kinds_of self.now.signature))
+            → bit_in result.now (64
+            * (d * words_of_row (length (truth_columns 0 (kinds_of self.now.signature)))) + b)
+            ≡ int_le (pos 1) (cell_at self.now.traces k (t + d)
             (get_or (truth_columns 0 (kinds_of self.now.signature)) b 0)) }
-        ensures past { (b : ℕ) → length (truth_columns 0 (kinds_of self.now.signature)) ≤ b
-            → b < 64 * length result.now → bit_in result.now b ≡ false }
+        ensures past { (d b : ℕ) → d < count
+            → length (truth_columns 0 (kinds_of self.now.signature)) ≤ b
+            → b < 64 * words_of_row (length (truth_columns 0 (kinds_of self.now.signature)))
+            → bit_in result.now (64
+            * (d * words_of_row (length (truth_columns 0 (kinds_of self.now.signature)))) + b)
+            ≡ false }
     {
-        let count = words_of_row(self.columns.truths.len());
-        let first = (self.row_ends[k as usize] as usize + t as usize) * count;
-        &self.words.as_slice()[first..first + count]
+        let width = words_of_row(self.columns.truths.len());
+        let first = self.row_ends[k as usize] as usize + t as usize;
+        let past = first + count as usize;
+        &self.words.as_slice()[first * width..past * width]
     }
 
     /// The cells of a trace at an instant, in the order of the signature, at the end of a row; a

@@ -251,7 +251,7 @@ fn push_words(set: &TraceSet, said: &mut String) -> Result<(), AllocError> {
         write!(said, "{}:", set.name(k))?;
         for t in 0..set.length(k) {
             said.push_str(" (")?;
-            for word in set.bits(k, t) {
+            for word in set.bits(k, t, 1) {
                 write!(said, " {word}")?;
             }
             said.push_str(" )")?;

@@ -1,5 +1,5 @@
 -- The words have grown by one, and the last place too.
-use Rattle.std.proofs.Common.{arith, rules, ◌≡◌, ◌++◌, ◌∷◌, [], length, ◌+◌, ◌-◌, ◌∙◌, set}
+use Rattle.std.proofs.Common.{arith, rules, ◌≡◌, ◌++◌, ◌∷◌, [], length, ◌+◌, ◌-◌, set}
 use Rattle.lb_flat.specs.BitRows.{row_of_bits}
 use Rattle.lb_flat.specs.Ledger.{last_place}
 use Rattle.lb_flat.specs.Packed.{cells_of}
