@@ -2,7 +2,6 @@
 use Rattle.std.proofs.Common.{◌≡◌, ℕ, ◌+◌, ◌*◌, ◌/◌, ◌%◌, ◌<◌, ◌≤◌, Bool, true}
 use Rattle.std.proofs.Common.{List, pos, get_or, set, length, refl, ap, ◌≢◌}
 use Rattle.std.proofs.Common.{◌∙◌, subst, arith, below_more, ◌⊎◌, inl, inr, length-set}
-use Rattle.std.proofs.lemmas.Bool.{cases_lt}
 use Rattle.std.proofs.lemmas.List.{get_or-set_same, get_or-set_other}
 use Rattle.std.specs.Prelude.{int_le}
 use Rattle.lb_flat.specs.Traces.{Recording}
@@ -12,59 +11,51 @@ use Rattle.lb_sim.specs.Loads.{AreTruthsAhead}
 
 -- ## Booleans, words for each instant of each lane
 
--- places of two groups of 64 are not the same, nor those of two instants, nor those of two lanes
-apart : (g n e i k d : ℕ) → e < 8 → k < 64 → d < 8 → i < 64 → (e ≢ d) ⊎ (k ≢ i) →
-    (512 * g + 64 * e + k) ≢ (512 * n + 64 * d + i)
-apart g n e i k d le lk ld li o same = groups (cases_lt g n) (cases_lt n g)
-  where
-    lanes : g ≡ n → (e ≢ d) ⊎ (k ≢ i) → (e < d) ⊎ (d ≤ e) → (d < e) ⊎ (e ≤ d) → ⊥
-    lanes eq o (inl lt) x = absurd (omega (arith, eq, lt, same, lk))
-    lanes eq o (inr ge) (inl lt) = absurd (omega (arith, eq, lt, same, li))
-    lanes eq (inl ne) (inr ge) (inr ge') = ne (omega (arith, ge, ge'))
-    lanes eq (inr ne) (inr ge) (inr ge') = ne (omega (arith, ge, ge', eq, same))
+-- places of two groups of 64 are not the same, nor those of two lanes
+apart : (h g e k d i : ℕ) → e < 8 → k < 64 → d < 8 → i < 64 → (h ≢ g) ⊎ (k ≢ i) →
+    (512 * h + 64 * e + k) ≢ (512 * g + 64 * d + i)
+apart h g e k d i le lk ld li (inl ne) same = ne (omega (arith, same, le, lk, ld, li))
+apart h g e k d i le lk ld li (inr ne) same = ne (omega (arith, same, lk, li))
 
-    groups : (g < n) ⊎ (n ≤ g) → (n < g) ⊎ (g ≤ n) → ⊥
-    groups (inl lt) x = absurd (omega (arith, lt, same, le, lk))
-    groups (inr ge) (inl lt) = absurd (omega (arith, lt, same, ld, li))
-    groups (inr ge) (inr ge') = lanes (omega (arith, ge, ge')) o (cases_lt e d) (cases_lt d e)
-
--- the words of a lane for an instant
-module _ (bits : List ℕ) (i d : ℕ) (old : List ℕ) where
-  pub record RowPut (new : List ℕ) (n : ℕ) : Type 0 where
+-- a word of each of some instants of a trace
+module _ (bits : List ℕ) (g width i : ℕ) (old : List ℕ) where
+  pub record GroupPut (new : List ℕ) (n : ℕ) : Type 0 where
     pub as_long : length new ≡ length old
-    pub put : (g : ℕ) → g < n → get_or new (512 * g + 64 * d + i) 0 ≡ get_or bits g 0
+    pub put :
+        (d : ℕ) → d < n → get_or new (512 * g + 64 * d + i) 0 ≡ get_or bits (d * width + g) 0
     pub others :
-        (g e k : ℕ) → e < 8 → k < 64 → (e ≢ d) ⊎ (k ≢ i) →
-        get_or new (512 * g + 64 * e + k) 0 ≡ get_or old (512 * g + 64 * e + k) 0
+        (h e k : ℕ) → e < 8 → k < 64 → (h ≢ g) ⊎ (k ≢ i) →
+        get_or new (512 * h + 64 * e + k) 0 ≡ get_or old (512 * h + 64 * e + k) 0
 
-  pub row_put_none : RowPut old 0
-  row_put_none = record {
+  pub group_put_none : GroupPut old 0
+  group_put_none = record {
     as_long = refl;
-    put = λ g h. absurd (omega (arith, h));
-    others = λ g e k le l o. refl;
+    put = λ d h. absurd (omega (arith, h));
+    others = λ h e k le l o. refl;
   }
 
-  pub row_put_more :
-      (new : List ℕ) (n : ℕ) → RowPut new n → i < 64 → d < 8 → 512 * length bits ≤ length old →
-      n < length bits → RowPut (set new (512 * n + 64 * d + i) (get_or bits n 0)) (n + 1)
-  row_put_more new n h li ld room lt =
-      let v = get_or bits n 0 in
-      let there : 512 * n + 64 * d + i < length new = omega (arith, h.as_long, room, lt, li, ld) in
+  pub group_put_more :
+      (new : List ℕ) (n : ℕ) → GroupPut new n → i < 64 → n < 8 → g < width →
+      512 * width ≤ length old →
+      GroupPut (set new (512 * g + 64 * n + i) (get_or bits (n * width + g) 0)) (n + 1)
+  group_put_more new n h li ln lg room =
+      let v = get_or bits (n * width + g) 0 in
+      let there : 512 * g + 64 * n + i < length new = omega (arith, h.as_long, room, lg, li, ln) in
       record {
-        as_long = length-set new (512 * n + 64 * d + i) v ∙ h.as_long;
+        as_long = length-set new (512 * g + 64 * n + i) v ∙ h.as_long;
         put =
             below_more
-            (λ m. get_or (set new (512 * n + 64 * d + i) v) (512 * m + 64 * d + i) 0
-            ≡ get_or bits m 0) n
-            (λ m lm.
-            let ne : (512 * m + 64 * d + i) ≢ (512 * n + 64 * d + i) =
-            λ e. absurd (omega (arith, lm, e)) in
-            get_or-set_other new (512 * n + 64 * d + i) (512 * m + 64 * d + i) v 0 ne ∙ h.put m lm)
-            (get_or-set_same new (512 * n + 64 * d + i) v 0 there);
-        others = λ g e k le lk o.
-            get_or-set_other new (512 * n + 64 * d + i) (512 * g + 64 * e + k) v 0
-            (apart g n e i k d le lk ld li o)
-            ∙ h.others g e k le lk o;
+            (λ d. get_or (set new (512 * g + 64 * n + i) v) (512 * g + 64 * d + i) 0
+            ≡ get_or bits (d * width + g) 0) n
+            (λ d ld.
+            let ne : (512 * g + 64 * d + i) ≢ (512 * g + 64 * n + i) =
+            λ e. absurd (omega (arith, ld, e)) in
+            get_or-set_other new (512 * g + 64 * n + i) (512 * g + 64 * d + i) v 0 ne ∙ h.put d ld)
+            (get_or-set_same new (512 * g + 64 * n + i) v 0 there);
+        others = λ m e k le lk o.
+            get_or-set_other new (512 * g + 64 * n + i) (512 * m + 64 * e + k) v 0
+            (apart m g e k n i le lk ln li o)
+            ∙ h.others m e k le lk o;
       }
 
 module _ (r : Recording) (members : List ℕ) (first live : ℕ) (columns : List ℕ) where
@@ -72,48 +63,48 @@ module _ (r : Recording) (members : List ℕ) (first live : ℕ) (columns : List
   abbrev pub truth_at : ℕ → ℕ → ℕ → Bool
   truth_at i d b = int_le (pos 1) (member_cell r members (first + d) i (get_or columns b 0))
 
-  -- the instants of a member
-  pub record BitsPut (lane : ℕ) (old rows : List ℕ) (n : ℕ) : Type 0 where
-    pub as_long : length rows ≡ length old
-    pub put :
-        (d : ℕ) → d < n → (g c : ℕ) → c < 64 → 64 * g + c < length columns →
-        on (get_or rows (512 * g + 64 * d + lane) 0) c ≡ truth_at lane d (64 * g + c)
-    pub others :
-        (g e k : ℕ) → e < 8 → k < 64 → k ≢ lane →
-        get_or rows (512 * g + 64 * e + k) 0 ≡ get_or old (512 * g + 64 * e + k) 0
-
-  pub bits_put_none : (lane : ℕ) (old : List ℕ) → BitsPut lane old old 0
-  bits_put_none lane old = record {
-    as_long = refl;
-    put = λ d h. absurd (omega (arith, h));
-    others = λ g e k le l ne. refl;
-  }
-
-  -- one instant more
-  pub bits_put_more :
-      (lane : ℕ) (old rows rows' : List ℕ) (n : ℕ) → BitsPut lane old rows n → n < 8 → lane < 64 →
-      length rows' ≡ length rows →
-      ((g c : ℕ) → c < 64 → 64 * g + c < length columns →
-      on (get_or rows' (512 * g + 64 * n + lane) 0) c ≡ truth_at lane n (64 * g + c)) →
-      ((g e k : ℕ) → e < 8 → k < 64 → (e ≢ n) ⊎ (k ≢ lane) →
-      get_or rows' (512 * g + 64 * e + k) 0 ≡ get_or rows (512 * g + 64 * e + k) 0) →
-      BitsPut lane old rows' (n + 1)
-  bits_put_more lane old rows rows' n h ln ll long put others = record {
-    as_long = long ∙ h.as_long;
-    put =
-        below_more
-        (λ d. (g c : ℕ) → c < 64 → 64 * g + c < length columns →
-        on (get_or rows' (512 * g + 64 * d + lane) 0) c ≡ truth_at lane d (64 * g + c)) n
-        (λ d ld g c lc lb.
-        let ne : d ≢ n = λ e. absurd (omega (arith, ld, e)) in
-        ap (λ w. on w c) (others g d lane (omega (arith, ld, ln)) ll (inl ne))
-        ∙ h.put d ld g c lc lb)
-        put;
-    others = λ g e k le lk ne. others g e k le lk (inr ne) ∙ h.others g e k le lk ne;
-  }
-
-  -- and of all members
+  -- the words of some instants of a member, so many of each
   module _ (count : ℕ) where
+    pub record BitsPut (lane : ℕ) (old rows : List ℕ) (n : ℕ) : Type 0 where
+      pub as_long : length rows ≡ length old
+      pub put :
+          (g : ℕ) → g < n → (d c : ℕ) → d < count → c < 64 → 64 * g + c < length columns →
+          on (get_or rows (512 * g + 64 * d + lane) 0) c ≡ truth_at lane d (64 * g + c)
+      pub others :
+          (g e k : ℕ) → e < 8 → k < 64 → k ≢ lane →
+          get_or rows (512 * g + 64 * e + k) 0 ≡ get_or old (512 * g + 64 * e + k) 0
+
+    pub bits_put_none : (lane : ℕ) (old : List ℕ) → BitsPut lane old old 0
+    bits_put_none lane old = record {
+      as_long = refl;
+      put = λ g h. absurd (omega (arith, h));
+      others = λ g e k le l ne. refl;
+    }
+
+    -- one word more
+    pub bits_put_more :
+        (lane : ℕ) (old rows rows' : List ℕ) (n : ℕ) → BitsPut lane old rows n → count ≤ 8 →
+        lane < 64 → length rows' ≡ length rows →
+        ((d c : ℕ) → d < count → c < 64 → 64 * n + c < length columns →
+        on (get_or rows' (512 * n + 64 * d + lane) 0) c ≡ truth_at lane d (64 * n + c)) →
+        ((g e k : ℕ) → e < 8 → k < 64 → (g ≢ n) ⊎ (k ≢ lane) →
+        get_or rows' (512 * g + 64 * e + k) 0 ≡ get_or rows (512 * g + 64 * e + k) 0) →
+        BitsPut lane old rows' (n + 1)
+    bits_put_more lane old rows rows' n h few ll long put others = record {
+      as_long = long ∙ h.as_long;
+      put =
+          below_more
+          (λ g. (d c : ℕ) → d < count → c < 64 → 64 * g + c < length columns →
+          on (get_or rows' (512 * g + 64 * d + lane) 0) c ≡ truth_at lane d (64 * g + c)) n
+          (λ g lg d c ld lc lb.
+          let ne : g ≢ n = λ e. absurd (omega (arith, lg, e)) in
+          ap (λ w. on w c) (others g d lane (omega (arith, ld, few)) ll (inl ne))
+          ∙ h.put g lg d c ld lc lb)
+          put;
+      others = λ g e k le lk ne. others g e k le lk (inr ne) ∙ h.others g e k le lk ne;
+    }
+
+    -- and of all members
     pub record Gathered (old rows : List ℕ) (n : ℕ) : Type 0 where
       pub as_long : length rows ≡ length old
       pub done :

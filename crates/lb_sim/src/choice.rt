@@ -17,13 +17,13 @@ fn are_as(planes: &[u64], each: &[PlaneId], one: Plane, lanes: Plane) -> bool
     ensures { result ≡ true → (i : ℕ) → i < 64 → on lanes.0 i ≡ true
         → All (λ (p : PlaneId). on (slice_index planes.now p.0) i ≡ on one.0 i) each.now }
 {
+    let mut other = Plane(0);
     for k in 0..each.len() {
-        let other = Plane(planes[each[k].0 as usize]).xor(one).and(lanes);
-        if other.0 != 0 {
-            return false;
-        }
+        let differing = Plane(planes[each[k].0 as usize]).xor(one);
+        other = other.or(differing);
     }
-    true
+    let there = other.and(lanes);
+    there.0 == 0
 }
 
 // Whether each of these lanes suits the code.

@@ -3,6 +3,7 @@
 ghost use Rattle.std.specs.Prelude.{◌≡◌, ◌≢◌, ℕ, ◌<◌, ◌≤◌, ◌+◌, ◌*◌, ◌==◌, ◌||◌};
 ghost use Rattle.std.specs.Prelude.{length, All};
 ghost use Rattle.std.specs.Prelude.{slice_index, slice_index_or, get_or, [], pos, IfOk};
+ghost use Rattle.lb_flat.specs.Packed.{words_of_row};
 ghost use Rattle.lb_lanes.specs.Kernels.{lane_of};
 ghost use Rattle.lb_lanes.specs.Planes.{on};
 ghost use Rattle.lb_sim.specs.InputRows.{AreZero};
@@ -22,6 +23,7 @@ pub(crate) fn with_lane(plane: u64, lane: u32) -> u64
 pub(crate) fn groups_of(columns: usize) -> usize
     ensures all { columns ≤ 64 * result }
     ensures some { (g : ℕ) → g < result → 64 * g < columns }
+    ensures words { result ≡ words_of_row columns }
 {
     let full = columns / 64;
     if 64 * full < columns { full + 1 } else { full }

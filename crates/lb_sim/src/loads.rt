@@ -15,7 +15,7 @@ ghost use Rattle.std.specs.Prelude.{◌≡◌, ◌≢◌, ℕ, ◌<◌, ◌≤�
 ghost use Rattle.std.specs.Prelude.{get_or};
 ghost use Rattle.std.specs.Prelude.{pos, int_le, slice_index};
 ghost use Rattle.lb_static.specs.Signature.{kinds_of};
-ghost use Rattle.lb_flat.specs.Packed.{truth_columns};
+ghost use Rattle.lb_flat.specs.Packed.{truth_columns, words_of_row};
 ghost use Rattle.lb_lanes.specs.Planes.{on};
 ghost use Rattle.lb_sim.specs.InputRows.{HaveInstant, member_cell};
 ghost use Rattle.lb_sim.specs.Loads.{AreAmong, AreTruthsAhead};
@@ -37,30 +37,35 @@ pub(crate) struct Instant<'a, 'b> {
     pub(crate) ghost there: { HaveInstant set.now members.now t live.0 },
 }
 
-// The words of a row, into the words of a lane for an instant.
-fn put_row(bits: &[u64], i: usize, d: usize, rows: &mut [u64])
+// A word of each of so many instants of a trace, into the words of a lane.
+fn put_group(bits: &[u64], g: usize, width: usize, i: usize, count: usize, rows: &mut [u64])
+    requires group { g < width }
     requires lane { i < 64 }
-    requires instant { d < 8 }
-    requires room { 512 * length bits.now ≤ length rows.old }
+    requires few { count ≤ 8 }
+    requires bits { length bits.now ≡ count * width }
+    requires room { 512 * width ≤ length rows.old }
     ensures rows { length rows.new ≡ length rows.old }
-    ensures put { (g : ℕ) → g < length bits.now
-        → slice_index rows.new (512 * g + 64 * d + i) ≡ slice_index bits.now g }
-    ensures others { (g e k : ℕ) → e < 8 → k < 64 → (e ≢ d) ⊎ (k ≢ i)
-        → slice_index rows.new (512 * g + 64 * e + k)
-        ≡ slice_index rows.old (512 * g + 64 * e + k) }
+    ensures put { (d : ℕ) → d < count
+        → slice_index rows.new (512 * g + 64 * d + i) ≡ slice_index bits.now (d * width + g) }
+    ensures others { (h e k : ℕ) → e < 8 → k < 64 → (h ≢ g) ⊎ (k ≢ i)
+        → slice_index rows.new (512 * h + 64 * e + k)
+        ≡ slice_index rows.old (512 * h + 64 * e + k) }
 {
-    for g in 0..bits.len() {
-        rows[512 * g + 64 * d + i] = bits[g];
+    for d in 0..count {
+        rows[512 * g + 64 * d + i] = bits[d * width + g];
     }
 }
 
-// The Booleans of so many instants of a member, into the words of its lane if that is live.
-fn put_bits(at: &Instant<'_, '_>, i: usize, count: usize, rows: &mut [u64])
+// The Booleans of so many instants of a member, into the words of its lane if that is live; those
+// of an instant take so many words.
+fn put_bits(at: &Instant<'_, '_>, i: usize, count: usize, width: usize, rows: &mut [u64])
     requires member { i < length at.now.members.now }
     requires few { count ≤ 8 }
     requires instants { at.now.t + count ≤ 4294967296 }
     requires there { (d : ℕ) → d < count
         → HaveInstant at.now.set.now at.now.members.now (at.now.t + d) at.now.live.0 }
+    requires width { width
+        ≡ words_of_row (length (truth_columns 0 (kinds_of at.now.set.now.signature))) }
     requires room { 8 * (length (truth_columns 0 (kinds_of at.now.set.now.signature)) + 63)
         ≤ length rows.old }
     ensures rows { length rows.new ≡ length rows.old }
@@ -76,18 +81,20 @@ fn put_bits(at: &Instant<'_, '_>, i: usize, count: usize, rows: &mut [u64])
     if !at.live.get(i as u32) {
         return;
     }
-    for d in 0..count {
-        let bits = at.set.bits(at.members[i], at.t + d as u32);
-        put_row(bits, i, d, rows);
+    let bits = at.set.bits(at.members[i], at.t, count as u32);
+    for g in 0..width {
+        put_group(bits, g, width, i, count, rows);
     }
 }
 
 // The Booleans of so many instants of all members, into the words of the lanes that are live.
-fn gather(at: &Instant<'_, '_>, count: usize, rows: &mut [u64])
+fn gather(at: &Instant<'_, '_>, count: usize, width: usize, rows: &mut [u64])
     requires few { count ≤ 8 }
     requires instants { at.now.t + count ≤ 4294967296 }
     requires there { (d : ℕ) → d < count
         → HaveInstant at.now.set.now at.now.members.now (at.now.t + d) at.now.live.0 }
+    requires width { width
+        ≡ words_of_row (length (truth_columns 0 (kinds_of at.now.set.now.signature))) }
     requires room { 8 * (length (truth_columns 0 (kinds_of at.now.set.now.signature)) + 63)
         ≤ length rows.old }
     ensures rows { length rows.new ≡ length rows.old }
@@ -95,7 +102,7 @@ fn gather(at: &Instant<'_, '_>, count: usize, rows: &mut [u64])
         at.now.live.0 (truth_columns 0 (kinds_of at.now.set.now.signature)) rows.new }
 {
     for i in 0..at.members.len() {
-        put_bits(at, i, count, rows);
+        put_bits(at, i, count, width, rows);
     }
 }
 
@@ -128,12 +135,14 @@ pub(crate) fn load_truths(at: &Instant<'_, '_>, rows: &mut [u64], planes: &mut [
         (get_or (truth_columns 0 (kinds_of at.now.set.now.signature)) b 0)) }
 {
     let _t = at.t;
-    gather(at, 1, rows);
+    gather(at, 1, groups_of(planes.len()), rows);
     turn(rows, 0, planes);
 }
 
 // What is loaded, with the instant: as before, or from the instant on.
-fn renewed(at: &Stretch<'_, '_>, rows: &mut [u64], last: Ahead) -> Ahead
+fn renewed(at: &Stretch<'_, '_>, width: usize, rows: &mut [u64], last: Ahead) -> Ahead
+    requires width { width
+        ≡ words_of_row (length (truth_columns 0 (kinds_of at.now.at.set.now.signature))) }
     requires room { 8 * (length (truth_columns 0 (kinds_of at.now.at.set.now.signature)) + 63)
         ≤ length rows.old }
     requires begun { last.first ≤ at.now.at.t }
@@ -155,7 +164,7 @@ fn renewed(at: &Stretch<'_, '_>, rows: &mut [u64], last: Ahead) -> Ahead
         return last;
     }
     let count = (at.until - first).min(8);
-    gather(&at.at, count as usize, rows);
+    gather(&at.at, count as usize, width, rows);
     Ahead {
         first,
         until: first + count,
@@ -197,7 +206,7 @@ pub(crate) fn load_truths_ahead(
     if !wanted {
         return last;
     }
-    let ahead = renewed(at, rows, last);
+    let ahead = renewed(at, groups_of(planes.len()), rows, last);
     turn(rows, (at.at.t - ahead.first) as usize, planes);
     ahead
 }

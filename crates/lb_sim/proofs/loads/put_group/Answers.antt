@@ -1,17 +1,18 @@
 use Rattle.std.proofs.Common.{arith}
-use Rattle.lb_sim.proofs.Loading.{row_put_none, row_put_more}
-use Rattle.lb_sim.proofs.loads.put_row.Goals as goal
+use Rattle.lb_sim.proofs.Loading.{group_put_none, group_put_more}
+use Rattle.lb_sim.proofs.loads.put_group.Goals as goal
 
-pub loop-g-init : goal.loop-g-init
-loop-g-init c = row_put_none c.args.bits.now c.args.i c.args.d c.args.rows.now
+pub loop-d-init : goal.loop-d-init
+loop-d-init c = group_put_none c.args.bits.now c.args.g c.args.width c.args.i c.args.rows.now
 
-pub loop-g-preserved : goal.loop-g-preserved
-loop-g-preserved c =
-    row_put_more c.args.bits.now c.args.i c.args.d c.args.rows.now c.loop-g.rows c.loop-g.g
-    c.loop-g.invariant c.requires.lane c.requires.instant c.requires.room c.loop-g-test.true
+pub loop-d-preserved : goal.loop-d-preserved
+loop-d-preserved c =
+    group_put_more c.args.bits.now c.args.g c.args.width c.args.i c.args.rows.now c.loop-d.rows
+    c.loop-d.d c.loop-d.invariant c.requires.lane (omega (arith, c.requires.few, c.loop-d-test.true))
+    c.requires.group c.requires.room
 
 pub returns-clause-put : goal.returns-clause-put
-returns-clause-put c g h = c.loop-g.invariant.put g (omega (arith, h, c.loop-g-test.false))
+returns-clause-put c d h = c.loop-d.invariant.put d (omega (arith, h, c.loop-d-test.false))
 
 pub returns-clause-others : goal.returns-clause-others
-returns-clause-others c = c.loop-g.invariant.others
+returns-clause-others c = c.loop-d.invariant.others

@@ -1,5 +1,5 @@
-use Rattle.lb_sim.proofs.Loading.{RowPut}
-use Rattle.lb_sim.proofs.loads.put_row.Given as goal
+use Rattle.lb_sim.proofs.Loading.{GroupPut}
+use Rattle.lb_sim.proofs.loads.put_group.Given as goal
 
-abbrev pub invariant-loop-g : goal.invariant-loop-g
-invariant-loop-g l = RowPut l.bits l.i l.d l.fn.rows l.rows l.g
+abbrev pub invariant-loop-d : goal.invariant-loop-d
+invariant-loop-d l = GroupPut l.bits l.g l.width l.i l.fn.rows l.rows l.d
