@@ -14,3 +14,5 @@ pub mod LaneCases
 pub mod WordProducts
 pub mod ByReciprocals
 pub mod SignedDivisions
+pub mod SmallQuotients
+pub mod FloatGuesses

@@ -1,11 +1,12 @@
 -- The low 32 bits of a word of 64 bits, as integers.
-use Rattle.std.proofs.Common.{◌≡◌, ℕ, ◌==◌, suc, ◌<◌, ◌+◌, ◌-◌, ◌/◌, ◌%◌, ◌^◌, Bool, true, false}
+use Rattle.std.proofs.Common.{◌≡◌, ℕ, ◌==◌, suc, ◌<◌, ◌≤◌, ◌+◌, ◌-◌, ◌*◌, ◌/◌, ◌%◌, ◌^◌, Bool, true, false}
 use Rattle.std.proofs.Common.{not, ℤ, pos}
 use Rattle.std.proofs.Common.{negsuc, ◌*ℤ◌, refl, sym, ap, ap₂, ◌∙◌, arith, w32, w64, ltb, lit<}
 use Rattle.std.proofs.Common.{to_z, of_z, SFits}
 use mir.Val.{sel}
 use Rattle.lb_lanes.specs.Operators.{is_int}
-use Rattle.std.proofs.lemmas.Int.{to_z-of_z, fits_signed_mul}
+use Rattle.std.proofs.lemmas.Int.{to_z-of_z, fits_signed_mul, wrapping_mul-bits, int_wrap_fits}
+use Rattle.std.specs.Int.RustNames.{unsigned_abs}
 use Rattle.lb_lanes.proofs.Words.{outside_is, fits_int, abs_int}
 use Rattle.lb_lanes.proofs.WordViews.{word_is_int}
 
@@ -93,3 +94,23 @@ product_look n x y p q e f h is = look_is n h ∙ ap is_int (exact_is n x y p q 
 -- an upper half that is 0
 pub is_zero : (n : ℕ) → n ≡ 0 → (n == 0) ≡ true
 is_zero n h = grind arith
+
+-- a small word
+small_by : (x : ℕ) (t : Bool) → x < 2 ^ 32 → ltb x 2147483648 ≡ t
+    → (x + 32768) % 4294967296 < 65536
+    → unsigned_abs (sel t (pos x) (negsuc (4294967296 - suc x))) ≤ 32768
+small_by x true h e s = grind arith
+small_by x false h e s = grind arith
+
+small_size : (x : ℕ) → x < 2 ^ 32 → (x + 32768) % 4294967296 < 65536
+    → unsigned_abs (to_z w32 x) ≤ 32768
+small_size x h s = small_by x (ltb x 2147483648) h refl s
+
+pub product_of_small : (x y : ℕ) → x < 2 ^ 32 → y < 2 ^ 32
+    → (x + 32768) % 4294967296 < 65536 → (y + 32768) % 4294967296 < 65536
+    → to_z w32 ((x * y) % 4294967296) ≡ to_z w32 x *ℤ to_z w32 y
+product_of_small x y h k s t =
+    wrapping_mul-bits w32 x y h k
+    ∙ int_wrap_fits w32 (to_z w32 x *ℤ to_z w32 y)
+    (fits_signed_mul w32 (to_z w32 x) (to_z w32 y) 32768 32768 (small_size x h s) (small_size y k t)
+    (lit< tt))

@@ -19,6 +19,7 @@ mod word_chunks;
 mod word_divisions;
 mod word_kernels;
 mod word_products;
+mod word_quotients;
 mod word_tests;
 
 pub use int_operator::IntOperator;

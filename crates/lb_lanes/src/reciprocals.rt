@@ -50,7 +50,7 @@ fn differs_in_sign(x: u32, y: u32) -> bool
 }
 
 // The size of a quotient with the sign that it has for these two.
-fn signed(x: u32, divisor: u32, size: u32) -> u32
+pub(crate) fn signed(x: u32, divisor: u32, size: u32) -> u32
     requires size { size
         ≡ unsigned_abs (cast_signed w32 x) / unsigned_abs (cast_signed w32 divisor) }
     requires divisible { IsTrue (can_divide (cast_signed w32 x) (cast_signed w32 divisor)) }

@@ -23,6 +23,7 @@ ghost use Rattle.lb_lanes.specs.Planes.{on};
 use crate::operators::{Division, Quotient, Remainder};
 use crate::reciprocals::{reciprocal, word_divided, word_shifted};
 use crate::word_kernels::{blend, keep};
+use crate::word_quotients::divide_small;
 use crate::word_tests::{Divisible, Equal, tested};
 
 // Puts the results of lanes that can all be divided.
@@ -39,7 +40,7 @@ fn divide_all<K: Division>(a: &[u32; 64], divisors: &[u32; 64], out: &mut [u32; 
 }
 
 // Puts the 64 lanes after the division into `out`, each divided by itself, and gives their faults.
-fn run_each_division<K: Division>(
+fn run_one_by_one<K: Division>(
     a: &[u32; 64],
     b: &[u32; 64],
     active: u64,
@@ -60,6 +61,28 @@ fn run_each_division<K: Division>(
     divide_all::<K>(a, &divisors, &mut results);
     blend(divides, &results, &[0; 64], out);
     active & !divisible
+}
+
+// Puts the 64 lanes after the division into `out`, each divided by its own divisor, and gives their
+// faults.
+fn run_each_division<K: FromQuotient>(
+    a: &[u32; 64],
+    b: &[u32; 64],
+    active: u64,
+    out: &mut [u32; 64],
+) -> u64
+    ensures { IsKernelBelow 64 (divided_by K.divided) (bits_lane a.now) (bits_lane b.now) active
+        (bits_lane out.new) result }
+{
+    let mut doubts = [0u32; 64];
+    divide_small::<K>(a, b, out, &mut doubts);
+    let doubtful = active & !tested::<Equal>(&doubts, &[0; 64]);
+    let others = doubtful & !tested::<Equal>(b, &[0; 64]);
+    if others == 0 {
+        keep(active, out);
+        return doubtful;
+    }
+    run_one_by_one::<K>(a, b, active, out)
 }
 
 // The divisor of all active lanes, if it is one that divides each integer.

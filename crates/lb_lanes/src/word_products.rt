@@ -1,7 +1,8 @@
 //! Products of 64 integers of 32 bits, under a plane of active lanes.
 //!
-//! Each product is exact in 64 bits. With 2 ^ 31 added, its upper half is 0 just where the product
-//! is in the range of `int`. One look at the union of the upper halves tells whether all are:
+//! Where all operands are small their products fit 32 bits. Else each product is exact in 64 bits.
+//! With 2 ^ 31 added, its upper half is 0 just where the product is in the range of `int`. One look
+//! at the union of the upper halves tells whether all are:
 //!
 //! ```text
 //! product    ffffffff_fffffff6    00000000_00000014    00000001_00000000
@@ -20,6 +21,30 @@ ghost use Rattle.lb_lanes.specs.Operators.{is_int, product_of};
 use crate::word_kernels::{blend, keep};
 use crate::word_tests::{Equal, tested};
 
+// A product of two integers, right where the word beside it is below 2 ^ 16: both lie from -32768 to
+// 32767 then, so that the product fits 32 bits.
+fn small_product(x: u32, y: u32) -> (u32, u32)
+    ensures { result.1 < 65536
+        → cast_signed w32 result.0 ≡ cast_signed w32 x *ℤ cast_signed w32 y }
+{
+    let raised = x.wrapping_add(32768).max(y.wrapping_add(32768));
+    (x.wrapping_mul(y), raised)
+}
+
+// Puts the products in 32 bits into `out`, and tells whether all operands are small.
+fn multiply_small(a: &[u32; 64], b: &[u32; 64], out: &mut [u32; 64]) -> bool
+    ensures { IsTrue result → (i : ℕ) → i < 64
+        → bits_lane out.new i ≡ bits_lane a.now i *ℤ bits_lane b.now i }
+{
+    let mut largest = 0u32;
+    for i in 0..64usize {
+        let (value, raised) = small_product(a[i], b[i]);
+        largest = largest.max(raised);
+        out[i] = value;
+    }
+    largest < 65536
+}
+
 // The low 32 bits of a product, and a word that is 0 just where the product is in the range of
 // `int`.
 fn product(x: u32, y: u32) -> (u32, u32)
@@ -34,7 +59,7 @@ fn product(x: u32, y: u32) -> (u32, u32)
 }
 
 // Puts the products' low 32 bits into `out`, and tells whether all are the products.
-fn multiply(a: &[u32; 64], b: &[u32; 64], out: &mut [u32; 64]) -> bool
+fn multiply_wide(a: &[u32; 64], b: &[u32; 64], out: &mut [u32; 64]) -> bool
     ensures { IsTrue result → (i : ℕ) → i < 64
         → bits_lane out.new i ≡ bits_lane a.now i *ℤ bits_lane b.now i }
 {
@@ -45,6 +70,14 @@ fn multiply(a: &[u32; 64], b: &[u32; 64], out: &mut [u32; 64]) -> bool
         out[i] = low;
     }
     look == 0
+}
+
+// Puts the products into `out`, and tells whether all are in the range of `int`.
+fn multiply(a: &[u32; 64], b: &[u32; 64], out: &mut [u32; 64]) -> bool
+    ensures { IsTrue result → (i : ℕ) → i < 64
+        → bits_lane out.new i ≡ bits_lane a.now i *ℤ bits_lane b.now i }
+{
+    multiply_small(a, b, out) || multiply_wide(a, b, out)
 }
 
 // Puts the products' low 32 bits into the first operands, and words that are 0 just where the

@@ -1,8 +1,8 @@
 use Rattle.std.proofs.Common.{◌≡◌, ℕ, ◌<◌, ◌*ℤ◌}
 use Rattle.lb_lanes.specs.Kernels.{bits_lane}
-use Rattle.lb_lanes.proofs.word_products.multiply.Given as goal
+use Rattle.lb_lanes.proofs.word_products.multiply_small.Given as goal
 
 abbrev pub invariant-loop-i : goal.invariant-loop-i
 invariant-loop-i l =
-    l.look ≡ 0 → (i : ℕ) → i < l.i
+    l.largest < 65536 → (i : ℕ) → i < l.i
     → bits_lane l.out i ≡ bits_lane l.a i *ℤ bits_lane l.b i

@@ -4,7 +4,7 @@ use Rattle.std.proofs.lemmas.List.{get_or-set_same, get_or-set_other}
 use Rattle.std.proofs.lemmas.Nat.{le_or_l, le_or_r}
 use Rattle.lb_lanes.specs.Kernels.{bits_lane}
 use Rattle.lb_lanes.proofs.WordProducts.{is_zero}
-use Rattle.lb_lanes.proofs.word_products.multiply.Goals as goal
+use Rattle.lb_lanes.proofs.word_products.multiply_wide.Goals as goal
 
 pub loop-i-init : goal.loop-i-init
 loop-i-init c none i h = absurd (not-suc-le-zero h)
