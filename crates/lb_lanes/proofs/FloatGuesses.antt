@@ -1,5 +1,6 @@
 -- What the guess at a quotient by floats asks of its lanes.
-use Rattle.std.proofs.Common.{◌≡◌, ℕ, zero, suc, ◌-◌, ◌^◌, ◌≤◌, Bool, true, false, not, List, [], ◌∷◌}
+use Rattle.std.proofs.Common.{◌≡◌, ℕ, zero, suc, ◌-◌, ◌^◌, ◌≤◌}
+use Rattle.std.proofs.Common.{Bool, true, false, not, List, [], ◌∷◌}
 use Rattle.std.proofs.Common.{cond, map, replicate, refl, sym, subst, w32}
 use Rattle.std.specs.Prelude.{T}
 use Rattle.std.proofs.lemmas.Float.{le_left, le_of_eq, T_from_true}

@@ -1,5 +1,6 @@
 -- The low 32 bits of a word of 64 bits, as integers.
-use Rattle.std.proofs.Common.{◌≡◌, ℕ, ◌==◌, suc, ◌<◌, ◌≤◌, ◌+◌, ◌-◌, ◌*◌, ◌/◌, ◌%◌, ◌^◌, Bool, true, false}
+use Rattle.std.proofs.Common.{◌≡◌, ℕ, ◌==◌, suc, ◌<◌, ◌≤◌, ◌+◌, ◌-◌, ◌*◌, ◌/◌, ◌%◌, ◌^◌}
+use Rattle.std.proofs.Common.{Bool, true, false}
 use Rattle.std.proofs.Common.{not, ℤ, pos}
 use Rattle.std.proofs.Common.{negsuc, ◌*ℤ◌, refl, sym, ap, ap₂, ◌∙◌, arith, w32, w64, ltb, lit<}
 use Rattle.std.proofs.Common.{to_z, of_z, SFits}

@@ -1,8 +1,9 @@
 //! Quotients and remainders of 64 integers of 32 bits, under a plane of active lanes.
 //!
 //! The divisor is mostly the same in all active lanes, as a constant is. Then each lane takes a
-//! multiplication and a shift, or a shift alone where the divisor is a power of 2. Else each lane
-//! is divided by itself, with 1 for a divisor where the lane is not active or cannot be divided, and
+//! multiplication and a shift, or a shift alone where the divisor is a power of 2. Else all are
+//! divided as small numbers; and where that leaves a lane in doubt whose divisor is not 0, each is
+//! divided by itself, with 1 for a divisor where the lane is not active or cannot be divided, and
 //! made 0 there:
 //!
 //! ```text

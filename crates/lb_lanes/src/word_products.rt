@@ -21,8 +21,8 @@ ghost use Rattle.lb_lanes.specs.Operators.{is_int, product_of};
 use crate::word_kernels::{blend, keep};
 use crate::word_tests::{Equal, tested};
 
-// A product of two integers, right where the word beside it is below 2 ^ 16: both lie from -32768 to
-// 32767 then, so that the product fits 32 bits.
+// A product of two integers, right where the word beside it is below 2 ^ 16: both lie from -32768
+// to 32767 then, so that the product fits 32 bits.
 fn small_product(x: u32, y: u32) -> (u32, u32)
     ensures { result.1 < 65536
         → cast_signed w32 result.0 ≡ cast_signed w32 x *ℤ cast_signed w32 y }

@@ -11,7 +11,7 @@
 //!
 //! Where quotient and divisor are below 2 ^ 16, their product fits a word. Lanes in doubt get 0.
 
-ghost use Rattle.std.specs.Prelude.{◌≡◌, ℕ, ◌<◌, ◌==◌, ◌/◌, true, false, IsTrue, pos, IfSome, slice_index};
+ghost use Rattle.std.specs.Prelude.{◌≡◌, ℕ, ◌<◌, ◌==◌, ◌/◌, true, pos, IfSome, slice_index};
 ghost use Rattle.std.specs.Prelude.{if◌then◌else◌};
 ghost use Rattle.std.specs.Int.{cast_signed, w32};
 ghost use Rattle.lb_lanes.specs.Kernels.{bits_lane};
