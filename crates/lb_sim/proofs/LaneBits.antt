@@ -1,6 +1,6 @@
 -- Lanes of planes that are set one by one, and words that hold Booleans as bits.
 use Rattle.std.proofs.Common.{◌≡◌, ◌≢◌, ℕ, zero, suc, ◌+◌, ◌-◌, ◌*◌, ◌/◌, ◌%◌, ◌<◌, ◌≤◌, ◌==◌}
-use Rattle.std.proofs.Common.{◌||◌, Bool, true, false, List, get_or, set, length, refl}
+use Rattle.std.proofs.Common.{◌&&◌, ◌||◌, Bool, true, false, List, get_or, set, length, refl}
 use Rattle.std.proofs.Common.{sym, ap, ap₂, ◌∙◌, subst, arith, below_more, ◌⊎◌, inl, inr}
 use Rattle.std.proofs.Common.{length-set}
 use Rattle.std.proofs.lemmas.Bool.{cases_lt}
@@ -10,7 +10,7 @@ use Rattle.std.specs.Int.{bit_at}
 use Rattle.std.proofs.Math.Bool.{or_comm}
 use Rattle.lb_flat.specs.Packed.{bit_in}
 use Rattle.lb_lanes.specs.Planes.{on}
-use Rattle.lb_lanes.proofs.OnPlanes.{on-or, on-above, shl, on-shl_high, on-shl_low}
+use Rattle.lb_lanes.proofs.OnPlanes.{on-or, on-above, on-zero, shl, on-shl_high, on-shl_low}
 
 -- ## One lane
 
@@ -107,3 +107,41 @@ module _ {A : Type 0} (z : A) (first : ℕ) (words old : List A) where
         let ne : k ≢ (first + n) = λ e. absurd (omega (arith, l, e)) in
         get_or-set_other new (first + n) k v z ne ∙ h.above k (omega (arith, l));
   }
+
+-- ## A column of rows
+
+neither : (a b : Bool) → ((a && false) || b) ≡ b
+neither true b = refl
+neither false b = refl
+
+alone : (a : Bool) → ((a && true) || false) ≡ a
+alone true = refl
+alone false = refl
+
+-- the lanes of the first rows
+pub record ColumnSoFar (rows : List ℕ) (from c plane n : ℕ) : Type 0 where
+  pub done : (j : ℕ) → j < n → on plane j ≡ on (get_or rows (from + j) 0) c
+  pub rest : (j : ℕ) → n ≤ j → j < 64 → on plane j ≡ false
+
+pub column_none : (rows : List ℕ) (from c : ℕ) → ColumnSoFar rows from c 0 0
+column_none rows from c = record {
+  done = λ j l. absurd (omega (arith, l));
+  rest = λ j l m. on-zero j;
+}
+
+pub column_more : (rows : List ℕ) (from c plane plane' n : ℕ) (bit : Bool)
+    → ColumnSoFar rows from c plane n → n < 64 → bit ≡ on (get_or rows (from + n) 0) c
+    → ((j : ℕ) → j < 64 → on plane' j ≡ ((bit && (j == n)) || on plane j))
+    → ColumnSoFar rows from c plane' (n + 1)
+column_more rows from c plane plane' n bit h lt e is = record {
+  done = below_more (λ j. on plane' j ≡ on (get_or rows (from + j) 0) c) n
+      (λ j l. other j (omega (arith, l, lt)) (λ f. absurd (omega (arith, l, f))) ∙ h.done j l)
+      (is n lt
+      ∙ ap₂ (λ x y. (bit && x) || y) (same_number n) (h.rest n (omega arith) lt)
+      ∙ alone bit ∙ e);
+  rest = λ j l m. other j m (λ f. absurd (omega (arith, l, f))) ∙ h.rest j (omega (arith, l)) m;
+}
+  where
+    other : (j : ℕ) → j < 64 → j ≢ n → on plane' j ≡ on plane j
+    other j m ne =
+        is j m ∙ ap (λ x. (bit && x) || on plane j) (no_number j n ne) ∙ neither bit (on plane j)

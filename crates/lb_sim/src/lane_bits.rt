@@ -1,14 +1,14 @@
 //! Planes and words, lane by lane.
 
-ghost use Rattle.std.specs.Prelude.{◌≡◌, ◌≢◌, ℕ, ◌<◌, ◌≤◌, ◌+◌, ◌*◌, ◌==◌, ◌||◌};
+ghost use Rattle.std.specs.Prelude.{◌≡◌, ◌≢◌, ℕ, ◌<◌, ◌≤◌, ◌+◌, ◌*◌, ◌==◌, ◌&&◌, ◌||◌};
 ghost use Rattle.std.specs.Prelude.{length, All};
 ghost use Rattle.std.specs.Prelude.{slice_index, slice_index_or, get_or, [], pos, IfOk};
 ghost use Rattle.lb_flat.specs.Packed.{words_of_row};
 ghost use Rattle.lb_lanes.specs.Kernels.{lane_of};
-ghost use Rattle.lb_lanes.specs.Planes.{on};
+ghost use Rattle.lb_lanes.specs.Planes.{IsPlaneOf, on};
 ghost use Rattle.lb_sim.specs.InputRows.{AreZero};
 
-use lb_lanes::{LaneWord, transpose};
+use lb_lanes::{LaneWord, Plane, transpose};
 use std::alloc::{AllocError, Global};
 
 /// The plane with one more lane.
@@ -50,6 +50,45 @@ fn words_from(rows: &[u64], first: usize) -> [u64; 64]
     words
 }
 
+// The plane with one more lane, where the bit is set.
+fn with_bit(plane: u64, lane: u32, bit: bool) -> u64
+    requires { lane < 64 }
+    ensures { (i : ℕ) → i < 64 → on result i ≡ ((bit && (i == lane)) || on plane i) }
+{
+    if bit { with_lane(plane, lane) } else { plane }
+}
+
+// A column of 64 words that lie side by side.
+fn column(rows: &[u64], from: usize, c: u32) -> u64
+    requires rows { from + 64 ≤ length rows.now }
+    requires column { c < 64 }
+    ensures { IsPlaneOf (λ i. on (slice_index rows.now (from + i)) c) result }
+{
+    let mut plane = 0u64;
+    for i in 0..64u32 {
+        let bit = Plane(rows[from + i as usize]).get(c);
+        let more = with_bit(plane, i, bit);
+        plane = more;
+    }
+    plane
+}
+
+// Puts the first columns of 64 words into the planes from one on, one after the other.
+fn put_columns(rows: &[u64], from: usize, planes: &mut [u64], first: usize, count: usize)
+    requires few { count ≤ 64 }
+    requires rows { from + 64 ≤ length rows.now }
+    requires room { first + count ≤ length planes.old }
+    ensures planes { length planes.new ≡ length planes.old }
+    ensures put { (c i : ℕ) → c < count → i < 64
+        → on (slice_index planes.new (first + c)) i ≡ on (slice_index rows.now (from + i)) c }
+    ensures below { (k : ℕ) → k < first → slice_index planes.new k ≡ slice_index planes.old k }
+{
+    for c in 0..count {
+        let plane = column(rows, from, c as u32);
+        planes[first + c] = plane;
+    }
+}
+
 /// Turns the 64 words from one on, a lane each, into the planes from one on.
 pub(crate) fn turn_group(rows: &[u64], from: usize, planes: &mut [u64], first: usize, count: usize)
     requires few { count ≤ 64 }
@@ -60,6 +99,10 @@ pub(crate) fn turn_group(rows: &[u64], from: usize, planes: &mut [u64], first: u
         → on (slice_index planes.new (first + c)) i ≡ on (slice_index rows.now (from + i)) c }
     ensures below { (k : ℕ) → k < first → slice_index planes.new k ≡ slice_index planes.old k }
 {
+    if count < 4 {
+        put_columns(rows, from, planes, first, count);
+        return;
+    }
     let mut words = words_from(rows, from);
     transpose(&mut words);
     put_planes(planes, first, &words, count);
