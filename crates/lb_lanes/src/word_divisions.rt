@@ -24,7 +24,7 @@ ghost use Rattle.lb_lanes.specs.Planes.{on};
 use crate::operators::{Division, Quotient, Remainder};
 use crate::reciprocals::{reciprocal, word_divided, word_shifted};
 use crate::word_kernels::{blend, keep};
-use crate::word_quotients::divide_small;
+use crate::word_quotients::{LARGE, divide_small};
 use crate::word_tests::{Divisible, Equal, tested};
 
 // Puts the results of lanes that can all be divided.
@@ -75,6 +75,11 @@ fn run_each_division<K: FromQuotient>(
     ensures { IsKernelBelow 64 (divided_by K.divided) (bits_lane a.now) (bits_lane b.now) active
         (bits_lane out.new) result }
 {
+    // Where the first active lane has a large dividend, others have mostly, too.
+    let first = (active.trailing_zeros() % 64) as usize;
+    if a[first].cast_signed().unsigned_abs() >= LARGE {
+        return run_one_by_one::<K>(a, b, active, out);
+    }
     let mut doubts = [0u32; 64];
     divide_small::<K>(a, b, out, &mut doubts);
     let doubtful = active & !tested::<Equal>(&doubts, &[0; 64]);

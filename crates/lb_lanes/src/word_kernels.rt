@@ -25,14 +25,6 @@ use std::simd::prelude::*;
 pub(crate) fn blend(mask: u64, a: &[u32; 64], b: &[u32; 64], out: &mut [u32; 64])
     ensures { IsBlendBelow 64 mask (bits_lane a.now) (bits_lane b.now) (bits_lane out.new) }
 {
-    if mask == 0 {
-        *out = *b;
-        return;
-    }
-    if mask == u64::MAX {
-        *out = *a;
-        return;
-    }
     for c in 0..4usize {
         let at = 16 * c;
         let kept = blended16(mask >> (at as u64), load16(a, at), load16(b, at));

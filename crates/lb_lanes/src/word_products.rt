@@ -77,7 +77,11 @@ fn multiply(a: &[u32; 64], b: &[u32; 64], out: &mut [u32; 64]) -> bool
     ensures { IsTrue result → (i : ℕ) → i < 64
         → bits_lane out.new i ≡ bits_lane a.now i *ℤ bits_lane b.now i }
 {
-    multiply_small(a, b, out) || multiply_wide(a, b, out)
+    // Where the operands of a lane are large, others are mostly, too.
+    if small_product(a[0], b[0]).1 < 65536 && multiply_small(a, b, out) {
+        return true;
+    }
+    multiply_wide(a, b, out)
 }
 
 // Puts the products' low 32 bits into the first operands, and words that are 0 just where the

@@ -22,6 +22,9 @@ use crate::word_chunks::{load16, store16};
 use crate::word_divisions::FromQuotient;
 use std::simd::prelude::*;
 
+/// The least size of a dividend whose quotient is not guessed.
+pub(crate) const LARGE: u32 = 8388608;
+
 // The float from which on each is a whole number, and the floats up to twice that.
 const WHOLE: f32 = 12582912.0;
 
@@ -33,7 +36,7 @@ fn sizes16(x: u32x16) -> u32x16 {
 
 // Numbers near the sizes of sixteen quotients: mostly these themselves, where all are small.
 fn near16(x: u32x16, y: u32x16) -> u32x16 {
-    let dividend: f32x16 = (sizes16(x) & u32x16::splat(0x7f_ffff)).cast();
+    let dividend: f32x16 = (sizes16(x) & u32x16::splat(LARGE - 1)).cast();
     let divisor: f32x16 = (sizes16(y) & u32x16::splat(0xffff)).cast();
     let half = f32x16::splat(0.5);
     let whole = f32x16::splat(WHOLE);

@@ -1,8 +1,7 @@
-use Rattle.std.proofs.Common.{◌≡◌, ℕ, ◌*◌, ◌+◌, refl, ap, ap₂, ◌∙◌, sym, subst, arith}
-use Rattle.std.proofs.Common.{not-suc-le-zero, w32, to_z, get_or, cond, Bool, true, false}
-use Rattle.lb_lanes.specs.Kernels.{bits_lane}
+use Rattle.std.proofs.Common.{◌≡◌, ℕ, ◌*◌, ◌+◌, refl, ap, ap₂, ◌∙◌, subst, arith, not-suc-le-zero}
+use Rattle.std.proofs.Common.{w32, to_z, get_or, cond, Bool, true, false}
 use Rattle.lb_lanes.specs.Planes.{on}
-use Rattle.lb_lanes.proofs.OnPlanes.{on-ones, on-shr, on-zero}
+use Rattle.lb_lanes.proofs.OnPlanes.{on-shr}
 use Rattle.lb_lanes.proofs.Joined.{WrittenBelow, more_words_joined}
 use Rattle.lb_lanes.proofs.word_kernels.blend.Goals as goal
 
@@ -30,16 +29,6 @@ loop-c-preserved c =
 bits_by : (t : Bool) (m n : ℕ) → to_z w32 (cond t m n) ≡ cond t (to_z w32 m) (to_z w32 n)
 bits_by true m n = refl
 bits_by false m n = refl
-
-pub returns-then-mask-eq0 : goal.returns-then-mask-eq0
-returns-then-mask-eq0 c i h =
-    ap (λ t. cond t (bits_lane c.args.a.now i) (bits_lane c.args.b.now i))
-    (sym (ap (λ n. on n i) c.if-mask-eq0.true ∙ on-zero i))
-
-pub returns-then-mask-eq18446744073709551615 : goal.returns-then-mask-eq18446744073709551615
-returns-then-mask-eq18446744073709551615 c i h =
-    ap (λ t. cond t (bits_lane c.args.a.now i) (bits_lane c.args.b.now i))
-    (sym (on-ones c.args.mask i c.if-mask-eq18446744073709551615.true h))
 
 pub returns : goal.returns
 returns c i h = ap (to_z w32) (c.loop-c.invariant.done i (omega arith))
