@@ -48,7 +48,8 @@ pub(crate) fn is_kind(a: Kind, b: Kind) -> bool
 
 // Whether columns are of these kinds.
 fn are_kinds(columns: &[Kind], kinds: &[Kind]) -> bool
-    ensures { result ≡ true → columns.now ≡ kinds.now }
+    ensures same { result ≡ true → columns.now ≡ kinds.now }
+    ensures other { result ≡ false → columns.now ≢ kinds.now }
 {
     if columns.len() != kinds.len() {
         return false;
@@ -83,7 +84,8 @@ impl BatchRoom {
 
     /// Whether there is a place for each plane, each word and each input of a program.
     pub fn fits(&self, program: &LaneProgram<'_>) -> bool
-        ensures { result ≡ true → IsRoomFor program.now self.now }
+        ensures fits { result ≡ true → IsRoomFor program.now self.now }
+        ensures other { result ≡ false → ¬ IsRoomFor program.now self.now }
     {
         self.planes.len() == program.planes as usize
             && self.words.len() == program.words as usize
