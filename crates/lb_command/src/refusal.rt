@@ -51,12 +51,18 @@ impl Refusal {
 }
 
 impl From<AllocError> for Refusal {
+    ghost from_gives = { λ _ refusal. refusal.number ≡ 0 };
+
     fn from(_e: AllocError) -> Refusal {
         Refusal::MEMORY
     }
 }
 
 impl From<LoadError> for Refusal {
+    ghost use Rattle.lb_command.specs.Correct.{load_number};
+
+    ghost from_gives = { λ cause refusal. refusal.number ≡ load_number cause };
+
     fn from(cause: LoadError) -> Refusal {
         match cause {
             LoadError::Memory => Refusal::MEMORY,
@@ -66,6 +72,11 @@ impl From<LoadError> for Refusal {
 }
 
 impl From<BenchError> for Refusal {
+    ghost use Rattle.lb_report.specs.Refusals.{number_of, position_of};
+
+    ghost from_gives = { λ cause refusal. (refusal.number ≡ number_of cause)
+        × (refusal.position ≡ position_of cause) };
+
     fn from(cause: BenchError) -> Refusal {
         Refusal {
             number: cause.number(),
