@@ -24,7 +24,7 @@ use Rattle.lb_trace.proofs.PlainRecords.{plain_text}
 use Rattle.lb_trace.proofs.SpreadReadings.{records_after_bom}
 
 -- the bytes of some texts, one text after the other
-abbrev joined : List (List ℕ) → List ℕ
+abbrev pub joined : List (List ℕ) → List ℕ
 joined texts = flat_map (λ text. text) texts
 
 -- each text but the last one ends with a line
@@ -124,7 +124,7 @@ bodies-ended text more long each zero below = strip-ended text long (each 0 (ome
 bodies-ended text more long each (suc k) below = each (suc k) (omega (arith, below))
 
 -- the texts have the records of what they are one after the other
-bodies-records : (texts : List (List ℕ)) → 2 < length (get_or texts 0 []) → AreEnded texts
+pub bodies-records : (texts : List (List ℕ)) → 2 < length (get_or texts 0 []) → AreEnded texts
     → list_any has_quote (bodies_of texts) ≡ false
     → records_of (joined texts) ≡ flat_map plain_records (bodies_of texts)
 bodies-records [] long each none = absurd (omega (arith, long))
@@ -135,7 +135,7 @@ bodies-records (text ∷ more) long each none =
     ∙ joined-records (strip_bom text ∷ more) (bodies-ended text more long each)
 
 -- the same of chunks, and of what slices show of their bodies
-chunks-joined : (chunks : List (Vec ℕ Global))
+pub chunks-joined : (chunks : List (Vec ℕ Global))
     → text_of chunks ≡ joined (map (λ (chunk : Vec ℕ Global). chunk.items) chunks)
 chunks-joined [] = refl
 chunks-joined (chunk ∷ more) = ap (λ rest. chunk.items ++ rest) (chunks-joined more)

@@ -31,3 +31,4 @@ pub mod TruthBits
 pub mod TruthRows
 pub mod Nexts
 pub mod FoundNumbers
+pub mod LoadedChunks

@@ -25,7 +25,7 @@ use Rattle.lb_trace.proofs.PlainRecords.{plain_text}
 use Rattle.lb_trace.proofs.Soundness.{Sound, sound}
 
 -- two lists of lists, one after the other
-zip-append : {A B : Type 0} (R : A → B → Type 0) (xs zs : List A) (ys ws : List B)
+pub zip-append : {A B : Type 0} (R : A → B → Type 0) (xs zs : List A) (ys ws : List B)
     → AllZip R xs ys → AllZip R zs ws → AllZip R (xs ++ zs) (ys ++ ws)
 zip-append R [] zs [] ws h k = k
 zip-append R [] zs (y ∷ ys) ws h k = absurd h
@@ -41,7 +41,7 @@ zip-flat R f g (x ∷ xs) [] h = absurd h
 zip-flat R f g (x ∷ xs) (y ∷ ys) h =
     zip-append R (f x) (flat_map f xs) (g y) (flat_map g ys) h.0 (zip-flat R f g xs ys h.1)
 
-zip-weaker : {X Y : Type 0} (R S : X → Y → Type 0) (xs : List X) (ys : List Y)
+pub zip-weaker : {X Y : Type 0} (R S : X → Y → Type 0) (xs : List X) (ys : List Y)
     → AllZip R xs ys → ((x : X) (y : Y) → R x y → S x y) → AllZip S xs ys
 zip-weaker R S [] [] h go = tt
 zip-weaker R S [] (y ∷ ys) h go = absurd h
@@ -49,7 +49,7 @@ zip-weaker R S (x ∷ xs) [] h go = absurd h
 zip-weaker R S (x ∷ xs) (y ∷ ys) h go = (go x y h.0, zip-weaker R S xs ys h.1 go)
 
 -- what is known of each pair and of its second part alone is known of the second parts
-zip-right : {X Y : Type 0} (R : X → Y → Type 0) (P : Y → Type 0) (xs : List X) (ys : List Y)
+pub zip-right : {X Y : Type 0} (R : X → Y → Type 0) (P : Y → Type 0) (xs : List X) (ys : List Y)
     → AllZip R xs ys → ((x : X) (y : Y) → R x y → P y) → All P ys
 zip-right R P [] [] h go = All-nil P
 zip-right R P [] (y ∷ ys) h go = absurd h

@@ -15,3 +15,4 @@ pub mod Fronts
 pub mod TruthCells
 pub mod TruthBits
 pub mod Nexts
+pub mod Loads

@@ -144,8 +144,8 @@ fn are_lines(chunks: &[Vec<u8>]) -> bool
     true
 }
 
-// Whether the last byte of a text is the end of a line.
-fn is_ended(text: &[u8]) -> bool
+/// Whether the last byte of a text is the end of a line.
+pub(crate) fn is_ended(text: &[u8]) -> bool
     ensures { result ≡ is_ended text.now }
 {
     !text.is_empty() && ends_line(text[text.len() - 1])

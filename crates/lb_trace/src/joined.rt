@@ -37,6 +37,7 @@ impl Recorder {
         ensures instants { OnOk result (instants self.new.rows.traces
             ≡ instants self.old.rows.traces
             ++ flat_map (λ part. instants part.rows.traces) parts.items) }
+        ensures names { OnOk result (knows self.new.names self.new.rows.traces) }
         ensures signature { OnOk result (self.new.rows.signature ≡ self.old.rows.signature) }
     {
         for part in parts {

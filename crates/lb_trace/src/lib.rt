@@ -11,6 +11,7 @@ mod front;
 mod header;
 mod joined;
 mod known;
+mod loaded;
 mod named;
 mod numbers;
 mod parts;
@@ -32,4 +33,5 @@ mod truths;
 
 pub use chunks::read_chunks;
 pub use error::TraceError;
+pub use loaded::read_loaded;
 pub use read::{read_traces, read_traces_by};

@@ -22,8 +22,8 @@ use rayon::prelude::*;
 use std::alloc::{AllocError, Global};
 use std::thread::Threads;
 
-// The traces that the records of a part spell by themselves.
-fn read_part(
+/// The traces that the records of a part spell by themselves.
+pub(crate) fn read_part(
     alloc: Global,
     signature: &Signature,
     table: &Table,

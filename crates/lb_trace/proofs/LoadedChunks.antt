@@ -1,0 +1,268 @@
+-- What is read of chunks, one after the other, is what their text spells.
+use Rattle.std.proofs.Common.{ℕ, zero, suc, ◌≡◌, ◌+◌, ◌*◌, ◌-◌, ◌<◌, ◌≤◌, ◌||◌, true, false}
+use Rattle.std.proofs.Common.{List, [], ◌∷◌, ◌++◌, length, refl, sym, ap, ◌∙◌, arith, get_or, map}
+use Rattle.std.proofs.Common.{append-nil, append_assoc, length-append, subst, Option, Some}
+use Rattle.std.specs.Prelude.{Vec, IfSome, flat_map}
+use Rattle.std.specs.Global.{Global}
+use Rattle.std.proofs.Common.{take, drop}
+use Rattle.std.proofs.lemmas.List.{drop-take, take-append-drop, take-take, take_all}
+use Rattle.std.proofs.lemmas.Option.{IfSome_then}
+use Rattle.std.specs.List.{All, AllZip, list_any}
+use Rattle.std.proofs.lemmas.Grind.{flat_map-append}
+use Rattle.csv.specs.Reading.{strip_bom}
+use Rattle.csv.specs.Records.{fields_of}
+use Rattle.lb_static.specs.Signature.{Elements}
+use Rattle.lb_flat.specs.Traces.{IsRecording, Recording}
+use Rattle.lb_trace.specs.declared.recorder.Recorder.{Recorder}
+use Rattle.lb_trace.specs.declared.table.Table.{Table}
+use Rattle.lb_trace.specs.Chunks.{is_ended, text_of}
+use Rattle.lb_trace.specs.Loads.{AreReadFrom, IsChunk, IsJoined, IsOneRead, IsRecorder, Loading}
+use Rattle.lb_trace.specs.Plain.{has_quote, plain_records}
+use Rattle.lb_trace.specs.Spelling.{Instant, Record, SpelledBy, Spells, SpellsInstant}
+use Rattle.lb_trace.specs.Spelling.{instants, is_header, records_of}
+use Rattle.lb_trace.specs.Tables.{IsReadOf, columns_in}
+use Rattle.lb_trace.proofs.ChunkTexts.{AreEnded, bodies-records, chunks-joined, joined}
+use Rattle.lb_trace.proofs.SpreadReadings.{zip-append, zip-right, zip-weaker}
+
+-- no chunk yet
+pub reads-none : (gives : Loading) (elements : Elements) (table : Table) (most : ℕ)
+    → AreReadFrom gives elements table most [] []
+reads-none gives elements table most = record { chunks = []; given = tt; spelled = tt }
+
+-- chunks, and others after them
+pub reads-append : (gives : Loading) (elements : Elements) (table : Table) (most : ℕ)
+    (ks js : List ℕ) (found more : List Instant)
+    → AreReadFrom gives elements table most ks found
+    → AreReadFrom gives elements table most js more
+    → AreReadFrom gives elements table most (ks ++ js) (found ++ more)
+reads-append gives elements table most ks js found more a b =
+    let records : Vec ℕ Global → List Record = λ chunk. plain_records chunk.items in
+    record {
+      chunks = a.chunks ++ b.chunks;
+      given =
+          zip-append (λ (k : ℕ) (chunk : Vec ℕ Global). gives k chunk × IsChunk most chunk.items)
+          ks js a.chunks b.chunks a.given b.given;
+      spelled =
+          subst
+          (λ (rs : List Record).
+          AllZip (SpellsInstant elements (columns_in table)) rs (found ++ more))
+          (sym (flat_map-append records a.chunks b.chunks))
+          (zip-append (SpellsInstant elements (columns_in table)) (flat_map records a.chunks)
+          (flat_map records b.chunks) found more a.spelled b.spelled);
+    }
+
+-- one chunk
+pub reads-one : (gives : Loading) (elements : Elements) (table : Table) (most k : ℕ)
+    (chunk : Vec ℕ Global) (text : List ℕ) (set : Recording)
+    → gives k chunk → IsChunk most chunk.items → text ≡ chunk.items
+    → IsReadOf elements table (plain_records text) set
+    → AreReadFrom gives elements table most (k ∷ []) (instants set.traces)
+reads-one gives elements table most k chunk text set given is same read = record {
+  chunks = chunk ∷ [];
+  given = ((given, is), tt);
+  spelled =
+      subst
+      (λ (rs : List Record).
+      AllZip (SpellsInstant elements (columns_in table)) rs (instants set.traces))
+      (ap plain_records same ∙ sym (append-nil (plain_records chunk.items))) read.1;
+}
+
+-- chunks that were read side by side
+pub reads-round : (gives : Loading) (elements : Elements) (table : Table) (most : ℕ)
+    (ks : List ℕ) (read : List Recorder)
+    → AllZip (IsOneRead gives elements table most) ks read
+    → AreReadFrom gives elements table most ks (flat_map (λ one. instants one.rows.traces) read)
+reads-round gives elements table most [] [] h = reads-none gives elements table most
+reads-round gives elements table most [] (one ∷ read) h = absurd h
+reads-round gives elements table most (k ∷ ks) [] h = absurd h
+reads-round gives elements table most (k ∷ ks) (one ∷ read) h =
+    reads-append gives elements table most (k ∷ []) ks (instants one.rows.traces)
+    (flat_map (λ (each : Recorder). instants each.rows.traces) read) h.0.0
+    (reads-round gives elements table most ks read h.1)
+
+chunks-ended : (gives : Loading) (most : ℕ) (ks : List ℕ) (chunks : List (Vec ℕ Global))
+    → AllZip (λ k chunk. gives k chunk × IsChunk most chunk.items) ks chunks
+    → AreEnded (map (λ (chunk : Vec ℕ Global). chunk.items) chunks)
+chunks-ended gives most ks [] h k below = absurd (omega (arith, below))
+chunks-ended gives most [] (chunk ∷ chunks) h k below = absurd h
+chunks-ended gives most (j ∷ ks) (chunk ∷ chunks) h zero below = h.0.1.ended
+chunks-ended gives most (j ∷ ks) (chunk ∷ chunks) h (suc k) below =
+    chunks-ended gives most ks chunks h.1 k (omega (arith, below))
+
+first-ended : (first : List ℕ) (texts : List (List ℕ)) → is_ended first ≡ true → AreEnded texts
+    → AreEnded (first ∷ texts)
+first-ended first texts e each zero below = e
+first-ended first texts e each (suc k) below = each k (omega (arith, below))
+
+chunks-plain : (gives : Loading) (most : ℕ) (ks : List ℕ) (chunks : List (Vec ℕ Global))
+    → AllZip (λ k chunk. gives k chunk × IsChunk most chunk.items) ks chunks
+    → list_any has_quote (map (λ (chunk : Vec ℕ Global). chunk.items) chunks) ≡ false
+chunks-plain gives most ks [] h = refl
+chunks-plain gives most [] (chunk ∷ chunks) h = absurd h
+chunks-plain gives most (j ∷ ks) (chunk ∷ chunks) h =
+    ap (λ q. q || list_any has_quote (map (λ (one : Vec ℕ Global). one.items) chunks)) h.0.1.plain
+    ∙ chunks-plain gives most ks chunks h.1
+
+chunks-short : (gives : Loading) (most : ℕ) (ks : List ℕ) (chunks : List (Vec ℕ Global))
+    → AllZip (λ k chunk. gives k chunk × IsChunk most chunk.items) ks chunks
+    → length (text_of chunks) ≤ most * length ks
+chunks-short gives most ks [] h = omega arith
+chunks-short gives most [] (chunk ∷ chunks) h = absurd h
+chunks-short gives most (j ∷ ks) (chunk ∷ chunks) h =
+    let one : length chunk.items ≤ most = h.0.1.short in
+    let others : length (text_of chunks) ≤ most * length ks =
+    chunks-short gives most ks chunks h.1 in
+    let all : length (text_of (chunk ∷ chunks)) ≡ length chunk.items + length (text_of chunks) =
+    length-append chunk.items (text_of chunks) in
+    grind (arith, one, others, all)
+
+chunks-records : (chunks : List (Vec ℕ Global))
+    → flat_map plain_records (map (λ (chunk : Vec ℕ Global). chunk.items) chunks)
+    ≡ flat_map (λ (chunk : Vec ℕ Global). plain_records chunk.items) chunks
+chunks-records [] = refl
+chunks-records (chunk ∷ more) =
+    ap (λ rs. plain_records chunk.items ++ rs) (chunks-records more)
+
+-- the first chunk and what was read of the others are what their text spells
+pub loaded_spells : (gives : Loading) (elements : Elements) (table : Table) (most : ℕ)
+    (first body rest : List ℕ) (ks : List ℕ) (start found : List Instant) (set : Recording)
+    → 2 < length first → is_ended first ≡ true → body ≡ strip_bom first → has_quote body ≡ false
+    → is_header elements (fields_of table.header) ≡ true
+    → plain_records body ≡ fields_of table.header ∷ plain_records rest
+    → AllZip (SpellsInstant elements (columns_in table)) (plain_records rest) start
+    → (reads : AreReadFrom gives elements table most ks found)
+    → length first + most * length ks ≤ 1073741824
+    → set.signature ≡ elements → IsRecording set → instants set.traces ≡ start ++ found
+    → Spells elements (first ++ text_of reads.chunks) set.traces
+unfolding SpelledBy
+loaded_spells gives elements table most first body rest ks start found set long ended stripped none
+    headed begun begins reads few same lawful all =
+    let items : Vec ℕ Global → List ℕ = λ chunk. chunk.items in
+    let records : Vec ℕ Global → List Record = λ chunk. plain_records chunk.items in
+    let texts : List (List ℕ) = map items reads.chunks in
+    let header : Record = fields_of table.header in
+    let plain : list_any has_quote (strip_bom first ∷ texts) ≡ false =
+    ap (λ (t : List ℕ). has_quote t || list_any has_quote texts) (sym stripped)
+    ∙ ap (λ q. q || list_any has_quote texts) none
+    ∙ chunks-plain gives most ks reads.chunks reads.given in
+    let text : joined (first ∷ texts) ≡ first ++ text_of reads.chunks =
+    ap (λ (t : List ℕ). first ++ t) (sym (chunks-joined reads.chunks)) in
+    let whole : records_of (first ++ text_of reads.chunks)
+    ≡ header ∷ (plain_records rest ++ flat_map records reads.chunks) =
+    ap records_of (sym text)
+    ∙ bodies-records (first ∷ texts) long
+    (first-ended first texts ended (chunks-ended gives most ks reads.chunks reads.given)) plain
+    ∙ ap (λ (rs : List Record). rs ++ flat_map plain_records texts)
+    (ap plain_records (sym stripped) ∙ begun)
+    ∙ ap (λ (rs : List Record). header ∷ (plain_records rest ++ rs))
+    (chunks-records reads.chunks) in
+    let spelled : AllZip (SpellsInstant elements (columns_in table))
+    (plain_records rest ++ flat_map records reads.chunks) (instants set.traces) =
+    subst
+    (AllZip (SpellsInstant elements (columns_in table))
+    (plain_records rest ++ flat_map records reads.chunks))
+    (sym all)
+    (zip-append (SpellsInstant elements (columns_in table)) (plain_records rest)
+    (flat_map records reads.chunks) start found begins reads.spelled) in
+    let size : length (first ++ text_of reads.chunks)
+    ≡ length first + length (text_of reads.chunks) =
+    length-append first (text_of reads.chunks) in
+    let within : length (text_of reads.chunks) ≤ most * length ks =
+    chunks-short gives most ks reads.chunks reads.given in
+    record {
+      short = grind (arith, size, within, few);
+      spelled = subst (SpelledBy elements set.traces) (sym whole) (headed, spelled);
+      lawful = subst (λ e. IsRecording record { signature = e; traces = set.traces }) same lawful;
+    }
+
+-- the chunks that were given
+pub given-chunks : (gives : Loading) (elements : Elements) (table : Table) (most : ℕ)
+    (ks : List ℕ) (found : List Instant) (reads : AreReadFrom gives elements table most ks found)
+    → AllZip gives ks reads.chunks
+given-chunks gives elements table most ks found reads =
+    zip-weaker (λ (k : ℕ) (chunk : Vec ℕ Global). gives k chunk × IsChunk most chunk.items) gives
+    ks reads.chunks reads.given (λ k chunk h. h.0)
+
+-- so many numbers, and so many after them
+take-round : (ks : List ℕ) (from past : ℕ) → from ≤ past
+    → take from ks ++ take (past - from) (drop from ks) ≡ take past ks
+take-round ks from past up =
+    let m : ℕ = past - from in
+    let all : from + m ≡ past = omega (arith, up) in
+    ap (λ (t : List ℕ). take from ks ++ t) (sym (drop-take from m ks))
+    ∙ ap (λ (t : List ℕ). t ++ drop from (take (from + m) ks))
+    (sym (take-take from (from + m) ks (omega arith)))
+    ∙ take-append-drop from (take (from + m) ks)
+    ∙ ap (λ (n : ℕ). take n ks) all
+
+-- what was read by these numbers is recorders
+pub recorders-read : (gives : Loading) (elements : Elements) (table : Table) (most : ℕ)
+    (ks : List ℕ) (read : List Recorder) → AllZip (IsOneRead gives elements table most) ks read
+    → All (IsRecorder elements) read
+recorders-read gives elements table most ks read each =
+    zip-right (IsOneRead gives elements table most) (IsRecorder elements) ks read each
+    (λ k one h. h.1)
+
+-- what has been joined and read so far, of so many numbers, behind what it began with
+abbrev pub HaveRead : Loading → Elements → Table → ℕ → List ℕ → List Instant → Recorder
+    → List Recorder → Type 0
+HaveRead gives elements table most ks begun all read =
+    (more : List Instant) × AreReadFrom gives elements table most ks more
+    × (instants all.rows.traces ++ flat_map (λ part. instants part.rows.traces) read
+    ≡ begun ++ more)
+
+-- one round more
+pub round-more : (gives : Loading) (elements : Elements) (table : Table) (most : ℕ)
+    (ks : List ℕ) (from past : ℕ) (begun : List Instant) (all next : Recorder)
+    (read now : List Recorder) → from ≤ past
+    → HaveRead gives elements table most (take from ks) begun all read
+    → IsJoined elements all read next
+    → AllZip (IsOneRead gives elements table most) (take (past - from) (drop from ks)) now
+    → HaveRead gives elements table most (take past ks) begun next now
+round-more gives elements table most ks from past begun all next read now up before joined each =
+    let all_in : List Recorder → List Instant =
+    flat_map (λ part. instants part.rows.traces) in (
+      before.0 ++ all_in now,
+      subst (λ (js : List ℕ). AreReadFrom gives elements table most js (before.0 ++ all_in now))
+          (take-round ks from past up)
+          (reads-append gives elements table most (take from ks)
+          (take (past - from) (drop from ks)) before.0 (all_in now) before.1
+          (reads-round gives elements table most (take (past - from) (drop from ks)) now each)),
+      ap (λ (is : List Instant). is ++ all_in now) (joined.0 ∙ before.2)
+          ∙ append_assoc begun before.0 (all_in now),
+    )
+
+-- a recorder that was joined under its own signature
+pub joined-under : (elements : Elements) (before : Recorder) (parts : List Recorder)
+    (after : Option Recorder) → before.rows.signature ≡ elements
+    → IfSome after (IsJoined before.rows.signature before parts)
+    → IfSome after (IsJoined elements before parts)
+joined-under elements before parts after same h =
+    IfSome_then after h (λ one joined. (joined.0, (joined.1.0 ∙ same, joined.1.1)))
+
+-- no round yet
+pub read-begun : (gives : Loading) (elements : Elements) (table : Table) (most : ℕ)
+    (begun : Recorder) (read : List Recorder) → read ≡ []
+    → HaveRead gives elements table most [] (instants begun.rows.traces) begun read
+read-begun gives elements table most begun read none = (
+  [],
+  reads-none gives elements table most,
+  ap (λ (rs : List Recorder).
+      instants begun.rows.traces ++ flat_map (λ part. instants part.rows.traces) rs) none,
+)
+
+-- after the last round
+pub rounds-whole : (gives : Loading) (elements : Elements) (table : Table) (most : ℕ)
+    (ks : List ℕ) (from : ℕ) (begun : List Instant) (all one : Recorder) (read : List Recorder)
+    → length ks ≤ from
+    → HaveRead gives elements table most (take from ks) begun all read
+    → IsJoined elements all read one
+    → (more : List Instant) × AreReadFrom gives elements table most ks more
+    × (instants one.rows.traces ≡ begun ++ more) × IsRecorder elements one
+rounds-whole gives elements table most ks from begun all one read past before joined = (
+  before.0,
+  subst (λ (js : List ℕ). AreReadFrom gives elements table most js before.0)
+      (take_all from ks past) before.1,
+  joined.0 ∙ before.2,
+  joined.1,
+)
