@@ -6,10 +6,11 @@ ghost use Rattle.lb_command.specs.Correct.{refusal_status};
 
 use crate::refusal::Refusal;
 use crate::request::{Request, Task, read_words};
-use lb_report::{Reader, Report, Writer, bench_chunks, load, load_file, run_case, send};
+use lb_report::{Reader, Report, Writer, bench, bench_file, load, run_case, send};
 use std::alloc::Global;
 use std::fs::File;
 use std::io::{Read, Write};
+use std::os::unix::fs::FileExt;
 use std::rt::Runtime;
 use std::thread::Threads;
 
@@ -33,30 +34,12 @@ where
     }
 }
 
-/// The bytes of the traces of a task, in chunks.
-fn load_traces<R, I>(rt: &R, task: &Task<'_>, reader: &mut I) -> Result<Vec<Vec<u8>>, Refusal>
-where
-    R: Runtime + AllocGlobal + Threads + Sync,
-    R::File: Send,
-    I: Read,
-{
-    if let Some(path) = task.traces {
-        return Ok(load_file(rt, path, task.options.workers)?);
-    }
-    let text = load_input(rt.alloc(), reader)?;
-    let mut chunks = Vec::new(rt.alloc());
-    match chunks.push(text) {
-        Ok(()) => Ok(chunks),
-        Err(_) => Err(Refusal::MEMORY),
-    }
-}
-
 /// The report of a task.
-#[tactic(auto, using(crate::proofs::Statuses::report_status))]
+#[tactic(auto, using(crate::proofs::Statuses::report_status, crate::proofs::Statuses::reported_status))]
 fn report<R, I>(rt: &R, task: &Task<'_>, reader: &mut I) -> Result<Report, Refusal>
 where
     R: Runtime + AllocGlobal + Threads + Sync,
-    R::File: Send,
+    R::File: FileExt + Sync,
     I: Read,
     ensures { IfOk result (λ report. report.status < 2) }
 {
@@ -64,8 +47,13 @@ where
     if task.source.is_none() {
         return Ok(run_case(rt, source.as_slice(), &task.options)?);
     }
-    let traces = load_traces(rt, task, reader)?;
-    Ok(bench_chunks(rt, source.as_slice(), traces, &task.options)?)
+    if let Some(path) = task.traces
+        && let Some(report) = bench_file(rt, source.as_slice(), path, &task.options)
+    {
+        return Ok(report);
+    }
+    let traces = load_from(rt, task.traces, reader)?;
+    Ok(bench(rt, source.as_slice(), traces.as_slice(), &task.options)?)
 }
 
 /// Writes a text to its end, and answers the status that goes with it.
@@ -84,7 +72,7 @@ fn deliver<W: Write>(writer: &mut W, text: &[u8], status: u8) -> Result<u8, Refu
 fn run_task<R, I, W>(rt: &R, task: &Task<'_>, reader: &mut I, writer: &mut W) -> Result<u8, Refusal>
 where
     R: Runtime + AllocGlobal + Threads + Sync,
-    R::File: Send,
+    R::File: FileExt + Sync,
     I: Read,
     W: Write,
     ensures ok { IfOk result (λ status. status < 2) }
@@ -99,7 +87,7 @@ where
 fn run<R, I, W>(rt: &R, words: &[String], reader: &mut I, writer: &mut W) -> Result<u8, Refusal>
 where
     R: Runtime + AllocGlobal + Threads + Sync,
-    R::File: Send,
+    R::File: FileExt + Sync,
     I: Read,
     W: Write,
     ensures ok { IfOk result (λ status. status < 2) }
@@ -138,7 +126,7 @@ pub fn command<R, I, W, E>(
 ) -> u8
 where
     R: Runtime + AllocGlobal + Threads + Sync,
-    R::File: Send,
+    R::File: FileExt + Sync,
     I: Read,
     W: Write,
     E: Write,

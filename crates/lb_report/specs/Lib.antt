@@ -6,4 +6,3 @@ pub mod Bench
 pub mod Correct
 pub mod AcceptedPrograms
 pub mod Readings
-pub mod Ranges

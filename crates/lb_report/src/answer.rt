@@ -8,7 +8,9 @@
 //!                                                  Report
 //! ```
 
-ghost use Rattle.std.specs.Prelude.{◌≡◌, ◌≤◌, IfOk, IfErr, length};
+ghost use Rattle.std.specs.Prelude.{◌≡◌, ◌≤◌, ◌++◌, ℕ, List, Vec, Some, IfOk, IfErr, IfSome, length};
+ghost use Rattle.std.specs.Global.{Global as Heap};
+ghost use Rattle.std.specs.List.{AllZip};
 ghost use Rattle.lb_syntax.specs.Correct.{IsOnlyProgram};
 ghost use Rattle.lb_syntax.specs.SourceView.{view_source};
 ghost use Rattle.lb_syntax.specs.Tokens.{Text};
@@ -24,6 +26,7 @@ ghost use Rattle.lb_report.specs.declared.options.Options.{Options as Asked};
 
 use crate::case::split_case;
 use crate::error::BenchError;
+use crate::file_chunks::{chunk_starts, load_chunk, numbers_after_first};
 use crate::options::Options;
 use crate::text::Report;
 use lb_check::{Verdict, check};
@@ -31,10 +34,15 @@ use lb_flat::{Ordered, TraceSet, expand, order};
 use lb_pool::{NoGate, Plan, run_claims, run_spread};
 use lb_static::{Signature, elaborate};
 use lb_syntax::{Source, parse};
-use lb_trace::{TraceError, read_chunks, read_traces_by};
+use lb_trace::{TraceError, read_loaded, read_traces_by};
 use std::alloc::{AllocError, Global};
+use std::fs::File;
+use std::os::unix::fs::FileExt;
 use std::rt::Runtime;
-use std::thread::{Threads, join};
+use std::thread::Threads;
+
+/// The workers that read a file where there are to be as many as there are processors.
+const MOST_WORKERS: usize = 16;
 
 /// A program that keeps all rules: its signature is that of its traces, its equations run.
 #[derive(Drop)]
@@ -155,32 +163,6 @@ fn bench_in<R: Threads + Sync>(
     report_on(rt, alloc, &program, read, options)
 }
 
-/// The report of a source on the traces that the text of chunks spells.
-fn bench_chunks_in<R: Threads + Sync>(
-    rt: &R,
-    alloc: Global,
-    source: &[u8],
-    chunks: Vec<Vec<u8>>,
-    options: &Options,
-) -> Result<Report, BenchError>
-    ensures report { IfOk result (IsBenchReport source.now (text_of chunks.items) options.now) }
-    ensures refused { IfErr result (IsRefused source.now (text_of chunks.items) options.now) }
-{
-    let program = accept(alloc, source, options)?;
-    let mut left = chunks;
-    let read = read_chunks(rt, alloc, &program.signature, &mut left, options.workers);
-    if left.is_empty() {
-        return report_on(rt, alloc, &program, read, options);
-    }
-    // A text takes a while to let go of: its traces are judged meanwhile.
-    let (_, report) = join(
-        rt,
-        move || drop(left),
-        || report_on(rt, alloc, &program, read, options),
-    );
-    report
-}
-
 /// Runs a node of a source over the traces of a text, and reports the verdict of each.
 ///
 /// The options name the node under test and the observer, and tell how the work is spread: 1 to 64
@@ -198,16 +180,78 @@ pub fn bench<R: Runtime + AllocGlobal + Threads + Sync>(
     bench_in(rt, rt.alloc(), source, traces, options)
 }
 
-/// As [`bench`] of a trace text that comes in chunks, one after the other.
-pub fn bench_chunks<R: Runtime + AllocGlobal + Threads + Sync>(
+/// The report of a source on the traces that a text spells which begins with a chunk and goes on
+/// with those that `load` gives for some numbers. None where there is none by these means.
+fn bench_loaded<R, F>(
     rt: &R,
     source: &[u8],
-    chunks: Vec<Vec<u8>>,
+    first: &[u8],
+    load: &F,
+    numbers: &[usize],
     options: &Options,
-) -> Result<Report, BenchError>
-    ensures { IsBenchAnswer source.now (text_of chunks.items) options.now result }
+) -> Option<Report>
+where
+    R: Runtime + AllocGlobal + Threads + Sync,
+    F: Fn(usize) -> Option<Vec<u8>> + Sync,
+    requires { F.IsAlwaysCallable load.now }
+    ensures { IfSome result (λ report. (chunks : List (Vec ℕ Heap))
+        × AllZip (λ k chunk. F.post load.now k (Some chunk)) numbers.now chunks
+        × IsBenchReport source.now (first.now ++ text_of chunks) options.now report) }
 {
-    bench_chunks_in(rt, rt.alloc(), source, chunks, options)
+    let alloc = rt.alloc();
+    let workers = match options.workers {
+        0 => MOST_WORKERS,
+        count => count as usize,
+    };
+    let Ok(program) = accept(alloc, source, options) else {
+        return None;
+    };
+    let signature = &program.signature;
+    let Some(set) = read_loaded(rt, alloc, signature, first, load, numbers, workers) else {
+        return None;
+    };
+    let Ok(report) = report_on(rt, alloc, &program, Ok(set), options) else {
+        return None;
+    };
+    Some(report)
+}
+
+/// The report of a source on the traces of a large file, which is read in chunks while others are
+/// loaded. None where one worker is to read it, where it is not large, and where anything refuses:
+/// [`bench`] of its bytes then tells which is first.
+pub fn bench_file<R>(rt: &R, source: &[u8], path: &str, options: &Options) -> Option<Report>
+where
+    R: Runtime + AllocGlobal + Threads + Sync,
+    R::File: FileExt + Sync,
+    ensures { IfSome result (λ report. (traces : Text)
+        × IsBenchReport source.now traces options.now report) }
+{
+    if options.workers == 1 {
+        return None;
+    }
+    let alloc = rt.alloc();
+    let Ok(file) = File::open(rt, path) else {
+        return None;
+    };
+    let Ok(starts) = chunk_starts(alloc, &file) else {
+        return None;
+    };
+    let Ok(numbers) = numbers_after_first(alloc, starts.len().saturating_sub(1)) else {
+        return None;
+    };
+    let places = starts.as_slice();
+    let load = |k: usize| -> Option<Vec<u8>> { load_chunk(alloc, &file, places, k) };
+    let Some(first) = load(0) else {
+        return None;
+    };
+    bench_loaded(
+        rt,
+        source,
+        first.as_slice(),
+        &load,
+        numbers.as_slice(),
+        options,
+    )
 }
 
 /// Runs a case text: its first part is the source, its second part the traces.

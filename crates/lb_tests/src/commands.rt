@@ -3,6 +3,7 @@
 use crate::tables::{Asks, Table, check};
 use lb_command::command;
 use std::alloc::{AllocError, Global};
+use std::os::unix::fs::FileExt;
 use std::rt::Runtime;
 use std::test::Fail;
 use std::thread::Threads;
@@ -24,7 +25,7 @@ pub fn push_answer<R: Runtime + AllocGlobal + Threads + Sync>(
     said: &mut String,
 ) -> Result<(), AllocError>
 where
-    R::File: Send,
+    R::File: FileExt + Sync,
 {
     let (line, input) = asked.split_once('\n').unwrap_or((asked, ""));
     let words = words_of(rt.alloc(), line)?;

@@ -1,90 +1,108 @@
-//! Trace files that are read in ranges.
+//! Trace files that are read in chunks while others are loaded.
 
-use lb_report::{LoadError, load_file};
+use lb_report::{Options, Report, bench, bench_file};
 use std::alloc::{AllocError, Global};
+use std::os::unix::fs::FileExt;
 use std::process::Abort;
 use std::rt::Runtime;
 use std::test::Fail;
 use std::thread::Threads;
 use std::{env, fs};
 
-/// A text of so many lines, each with its number and so many bytes behind it.
-fn lines(alloc: Global, count: u32, bytes: usize) -> Result<String, AllocError> {
-    let mut text = String::new(alloc);
+/// A node whose verdict is false where an integer is 12.
+const SOURCE: &str = "node main(x: int) returns (ok: bool); let ok = x < 12; tel";
+
+/// A trace text of so many instants, and what stands behind them.
+fn traces_of(alloc: Global, count: u32, last: &str) -> Result<String, AllocError> {
+    let mut text = String::from_str(alloc, "trace,x\n")?;
     for k in 0..count {
-        write!(text, "{k},")?;
-        for _ in 0..bytes {
-            text.push('x')?;
+        write!(text, "t{},{}\n", k / 700, k % 11)?;
+        if k % 999 == 0 {
+            write!(text, "t{},12\n", k / 700)?;
         }
-        text.push('\n')?;
     }
+    text.push_str(last)?;
     Ok(text)
 }
 
-/// How many chunks a file is read in; none where it is refused, where the chunks are not the text,
-/// or where one before the last does not end with a line.
-fn chunks_of<R>(rt: &R, path: &str, text: &str, workers: u32) -> Option<usize>
-where
-    R: Runtime + AllocGlobal + Threads + Sync,
-    R::File: Send,
-{
-    let Ok(chunks) = load_file(rt, path, workers) else {
-        return None;
-    };
-    let mut rest = text.as_bytes();
-    for chunk in chunks.as_slice() {
-        let more = rest.strip_prefix(chunk.as_slice())?;
-        if !more.is_empty() && chunk.last() != Some(&b'\n') {
-            return None;
-        }
-        rest = more;
+/// What a run by so many workers is asked for.
+fn options_of(alloc: Global, workers: u32) -> Result<Option<Options>, AllocError> {
+    let node = String::from_str(alloc, "main")?;
+    if workers > 64 {
+        return Ok(None);
     }
-    if rest.is_empty() {
-        Some(chunks.len())
-    } else {
-        None
-    }
+    Ok(Some(Options::new(node, None, workers, 64, false)))
 }
 
-/// Numbers of workers, and the chunks of a file of more than 3 MiB whose lines are short.
-const CHUNKS: [(u32, usize); 6] = [(0, 3), (1, 1), (2, 2), (3, 3), (4, 3), (64, 3)];
+/// The report on a trace file by so many workers, where it is read in chunks.
+fn report_of<R>(rt: &R, path: &str, workers: u32) -> Result<Option<Report>, AllocError>
+where
+    R: Runtime + AllocGlobal + Threads + Sync,
+    R::File: FileExt + Sync,
+{
+    let Some(options) = options_of(rt.alloc(), workers)? else {
+        return Ok(None);
+    };
+    Ok(bench_file(rt, SOURCE.as_bytes(), path, &options))
+}
 
-/// Writes texts of short lines, of lines longer than a look for their end, and of none, and reads
-/// each by all numbers of workers.
+/// Whether the report on a trace file by so many workers is that on its text by one.
+fn is_read<R>(rt: &R, path: &str, text: &str, workers: u32) -> Result<bool, AllocError>
+where
+    R: Runtime + AllocGlobal + Threads + Sync,
+    R::File: FileExt + Sync,
+{
+    let Some(options) = options_of(rt.alloc(), 1)? else {
+        return Ok(false);
+    };
+    let Ok(whole) = bench(rt, SOURCE.as_bytes(), text.as_bytes(), &options) else {
+        return Ok(false);
+    };
+    let Some(report) = report_of(rt, path, workers)? else {
+        return Ok(false);
+    };
+    Ok(report.status == whole.status && report.text.as_slice() == whole.text.as_slice())
+}
+
+/// What stands behind a text that is not read in chunks: a name that comes back, and a line that
+/// does not end.
+const LASTS: [&str; 2] = ["t0,1\n", "z,1"];
+
+/// Writes texts that are read in chunks, and texts that are not.
 fn check_files<R>(rt: &R, path: &str) -> Result<(), Fail>
 where
     R: Runtime + AllocGlobal + Threads + Sync + Abort,
-    R::File: Send,
+    R::File: FileExt + Sync,
 {
-    let short = lines(rt.alloc(), 320_000, 4)?;
+    let text = traces_of(rt.alloc(), 320_000, "")?;
+    fs::write(rt, path, text.as_str())?;
+    for workers in [0, 3] {
+        let is_read = is_read(rt, path, text.as_str(), workers)?;
+        assert!(rt; is_read, "{workers} workers");
+    }
+    let report = report_of(rt, path, 1)?;
+    assert!(rt; report.is_none(), "1 worker");
+    for last in LASTS {
+        let text = traces_of(rt.alloc(), 320_000, last)?;
+        fs::write(rt, path, text.as_str())?;
+        let report = report_of(rt, path, 4)?;
+        assert!(rt; report.is_none(), "{last}");
+    }
+    let short = traces_of(rt.alloc(), 100, "")?;
     fs::write(rt, path, short.as_str())?;
-    for (workers, count) in CHUNKS {
-        let found = chunks_of(rt, path, short.as_str(), workers);
-        assert!(rt; found == Some(count), "{workers} workers");
-    }
-    let long = lines(rt.alloc(), 400, 9_000)?;
-    fs::write(rt, path, long.as_str())?;
-    for (workers, _) in CHUNKS {
-        let found = chunks_of(rt, path, long.as_str(), workers);
-        assert!(rt; found.is_some(), "long lines, {workers} workers");
-    }
-    fs::write(rt, path, "")?;
-    for (workers, _) in CHUNKS {
-        assert!(rt;
-            chunks_of(rt, path, "", workers) == Some(1),
-            "no line, {workers} workers"
-        );
-    }
+    let report = report_of(rt, path, 4)?;
+    assert!(rt; report.is_none(), "a short file");
     Ok(())
 }
 
 #[test]
 fn files(rt: HostRuntime) -> Result<(), Fail> {
     let mut path = String::new(rt.alloc());
-    write!(path, "{}/lb_tests_ranges", env::temp_dir(&rt)?.as_str())?;
+    write!(path, "{}/lb_tests_chunks", env::temp_dir(&rt)?.as_str())?;
     let checked = check_files(&rt, path.as_str());
     let _ = fs::remove_file(&rt, path.as_str());
     checked?;
-    assert!(rt; matches!(load_file(&rt, path.as_str(), 4), Err(LoadError::Read)));
+    let report = report_of(&rt, path.as_str(), 4)?;
+    assert!(rt; report.is_none(), "no file");
     Ok(())
 }

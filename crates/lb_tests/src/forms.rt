@@ -2,6 +2,7 @@
 
 use crate::tables::{Asks, Table, check};
 use std::alloc::AllocError;
+use std::os::unix::fs::FileExt;
 use std::process::Abort;
 use std::rt::Runtime;
 use std::thread::Threads;
@@ -9,7 +10,7 @@ use std::thread::Threads;
 fn check_forms<R>(rt: &R) -> Result<(), AllocError>
 where
     R: Runtime + AllocGlobal + Threads + Sync + Abort,
-    R::File: Send,
+    R::File: FileExt + Sync,
 {
     check(
         rt,

@@ -15,6 +15,7 @@ use lb_syntax::{Source, parse};
 use lb_trace::read_traces;
 use std::alloc::{AllocError, Global};
 use std::hint::spin_loop;
+use std::os::unix::fs::FileExt;
 use std::rt::Runtime;
 use std::sync::atomic::{AtomicBool, Ordering};
 use std::thread::Threads;
@@ -253,7 +254,7 @@ fn push_output<R: Runtime + AllocGlobal + Threads + Sync>(
     said: &mut String,
 ) -> Result<(), AllocError>
 where
-    R::File: Send,
+    R::File: FileExt + Sync,
 {
     let words = words_of(rt.alloc(), line)?;
     let mut output: Vec<u8> = Vec::new(rt.alloc());
@@ -272,7 +273,7 @@ fn push_other<R: Runtime + AllocGlobal + Threads + Sync>(
     other: &mut String,
 ) -> Result<(), AllocError>
 where
-    R::File: Send,
+    R::File: FileExt + Sync,
 {
     for line in LINES.split('\n') {
         other.clear();
@@ -291,7 +292,7 @@ pub fn push_spread<R: Runtime + AllocGlobal + Threads + Sync>(
     said: &mut String,
 ) -> Result<(), AllocError>
 where
-    R::File: Send,
+    R::File: FileExt + Sync,
 {
     let mut case = String::new(rt.alloc());
     let mut other = String::new(rt.alloc());

@@ -3,6 +3,7 @@
 use crate::answers;
 use crate::tables::{Asks, Table, check};
 use std::alloc::AllocError;
+use std::os::unix::fs::FileExt;
 use std::process::Abort;
 use std::rt::Runtime;
 use std::thread::Threads;
@@ -27,7 +28,7 @@ pub fn push_answer<R: Runtime + AllocGlobal + Threads + Sync>(
 fn check_tables<R>(rt: &R) -> Result<(), AllocError>
 where
     R: Runtime + AllocGlobal + Threads + Sync + Abort,
-    R::File: Send,
+    R::File: FileExt + Sync,
 {
     check(rt, &Table::of_lines(Asks::Programs(MAIN), RULES))?;
     check(rt, &Table::of_lines(Asks::Programs(CLOCKED), STATEMENTS))?;

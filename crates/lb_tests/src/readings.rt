@@ -4,7 +4,7 @@ use crate::tables::{Asks, Table, check};
 use lb_flat::TraceSet;
 use lb_static::Signature;
 use lb_syntax::Kind;
-use lb_trace::{TraceError, read_chunks, read_traces, read_traces_by};
+use lb_trace::{TraceError, read_loaded, read_traces, read_traces_by};
 use std::alloc::{AllocError, Global};
 use std::rt::Runtime;
 use std::thread::Threads;
@@ -113,7 +113,17 @@ fn chunks_at(alloc: Global, text: &[u8], at: usize) -> Result<Vec<Vec<u8>>, Allo
     Ok(chunks)
 }
 
-// What is read of a text in chunks, cut at each of its places, where that is not what was said.
+// The bytes of one of some chunks.
+fn chunk_at(alloc: Global, chunks: &[Vec<u8>], k: usize) -> Option<Vec<u8>> {
+    let chunk = chunks.get(k)?;
+    let Ok(copy) = chunk.as_slice().to_vec(alloc) else {
+        return None;
+    };
+    Some(copy)
+}
+
+// What is read of a text in chunks, cut at each of its places, where anything is read and that is
+// not what was said.
 fn push_by_chunks<R: Threads + Sync>(
     rt: &R,
     alloc: Global,
@@ -123,10 +133,19 @@ fn push_by_chunks<R: Threads + Sync>(
 ) -> Result<(), AllocError> {
     let mut other = String::new(alloc);
     for at in 0..body.len() {
-        let mut chunks = chunks_at(alloc, body, at)?;
+        let chunks = chunks_at(alloc, body, at)?;
+        let places = chunks.as_slice();
+        let Some(first) = places.first() else {
+            continue;
+        };
+        let numbers: &[usize] = if places.len() > 2 { &[1, 2] } else { &[1] };
+        let load = |k: usize| -> Option<Vec<u8>> { chunk_at(alloc, places, k) };
+        let Some(set) = read_loaded(rt, alloc, signature, first.as_slice(), &load, numbers, 2)
+        else {
+            continue;
+        };
         other.clear();
-        let read = read_chunks(rt, alloc, signature, &mut chunks, 4);
-        push_outcome(alloc, &read, &mut other)?;
+        push_traces(alloc, &set, &mut other)?;
         if other.as_str() != said.as_str() {
             return write!(said, " and cut at {at} {other}");
         }

@@ -6,6 +6,7 @@ use lb_report::BenchError;
 use lb_syntax::SyntaxError;
 use lb_trace::TraceError;
 use std::alloc::AllocError;
+use std::os::unix::fs::FileExt;
 use std::process::Abort;
 use std::rt::Runtime;
 use std::thread::Threads;
@@ -13,7 +14,7 @@ use std::thread::Threads;
 fn check_cases<R>(rt: &R, rows: &str) -> Result<(), AllocError>
 where
     R: Runtime + AllocGlobal + Threads + Sync + Abort,
-    R::File: Send,
+    R::File: FileExt + Sync,
 {
     check(
         rt,

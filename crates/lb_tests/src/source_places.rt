@@ -6,6 +6,7 @@
 
 use crate::tables::{Asks, Table, check};
 use std::alloc::AllocError;
+use std::os::unix::fs::FileExt;
 use std::process::Abort;
 use std::rt::Runtime;
 use std::thread::Threads;
@@ -397,7 +398,7 @@ fn check_rows<R: Runtime + AllocGlobal + Threads + Sync + Abort>(
     rows: &str,
 ) -> Result<(), AllocError>
 where
-    R::File: Send,
+    R::File: FileExt + Sync,
 {
     check(
         rt,

@@ -17,6 +17,7 @@ use crate::{
     sources,
 };
 use std::alloc::AllocError;
+use std::os::unix::fs::FileExt;
 use std::process::Abort;
 use std::rt::Runtime;
 use std::thread::Threads;
@@ -155,7 +156,7 @@ fn push_answer<R: Runtime + AllocGlobal + Threads + Sync>(
     said: &mut String,
 ) -> Result<(), AllocError>
 where
-    R::File: Send,
+    R::File: FileExt + Sync,
 {
     match asks {
         Asks::Sources => sources::push_answer(rt.alloc(), asked, said),
@@ -190,7 +191,7 @@ fn is_right<R: Runtime + AllocGlobal + Threads + Sync>(
     said: &mut String,
 ) -> Result<bool, AllocError>
 where
-    R::File: Send,
+    R::File: FileExt + Sync,
 {
     said.clear();
     let Some((asked, wanted)) = row.rsplit_once(table.mark) else {
@@ -208,7 +209,7 @@ fn check_rows<R: Runtime + AllocGlobal + Threads + Sync + Abort>(
     said: &mut String,
 ) -> Result<(), AllocError>
 where
-    R::File: Send,
+    R::File: FileExt + Sync,
 {
     for short in table.rows.split(table.between) {
         let is_whole = write_out(row, short)?;
@@ -225,7 +226,7 @@ pub fn check<R: Runtime + AllocGlobal + Threads + Sync + Abort>(
     table: &Table<'_>,
 ) -> Result<(), AllocError>
 where
-    R::File: Send,
+    R::File: FileExt + Sync,
 {
     let mut row = String::new(rt.alloc());
     let mut said = String::new(rt.alloc());

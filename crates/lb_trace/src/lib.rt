@@ -4,7 +4,6 @@
 mod add_lines;
 mod begun;
 mod cells;
-mod chunks;
 mod copied;
 mod error;
 mod front;
@@ -31,7 +30,6 @@ mod table;
 mod truth_bits;
 mod truths;
 
-pub use chunks::read_chunks;
 pub use error::TraceError;
 pub use loaded::read_loaded;
 pub use read::{read_traces, read_traces_by};

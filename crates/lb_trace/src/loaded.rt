@@ -1,11 +1,11 @@
 //! A text that is loaded in chunks, round after round.
 //!
 //! ```text
-//! first | a b c d | e f g h | i j      three rounds of four workers
+//! first | a b c d e f | g h i j k l | m n      three rounds of six chunks
 //! ```
 //!
-//! While the chunks of a round are loaded and read, each by a thread, the traces of the round
-//! before are joined. A chunk is let go once it has been read, so that the next one takes its room.
+//! While the chunks of a round are loaded and read by threads, the traces of the round before are
+//! joined. A chunk is let go once it has been read, so that the next one takes its room.
 
 ghost use Rattle.std.specs.Prelude.{◌≡◌, ◌≤◌, ◌+◌, ◌*◌, ◌<◌, ◌++◌, ℕ, List, Vec, Some};
 ghost use Rattle.std.specs.Prelude.{All, IfOk, IfSome, length};
@@ -17,11 +17,11 @@ ghost use Rattle.lb_trace.specs.Spelling.{Instant, Spells, instants};
 ghost use Rattle.lb_trace.specs.Tables.{IsTable};
 
 use crate::begun::begin;
-use crate::chunks::is_ended;
 use crate::error::TraceError;
 use crate::plain::{is_plain, strip_bom};
 use crate::read::MOST_BYTES;
 use crate::recorder::Recorder;
+use crate::scan::is_ended;
 use crate::spread::read_part;
 use crate::table::Table;
 use lb_flat::TraceSet;
@@ -55,7 +55,7 @@ fn read_one<F: Fn(usize) -> Option<Vec<u8>> + Sync>(
     read_part(alloc, signature, table, text)
 }
 
-// The traces of each of some chunks, which threads load and read side by side.
+// The traces of each of some chunks, which so many threads load and read side by side.
 fn read_round<R: Threads + Sync, F: Fn(usize) -> Option<Vec<u8>> + Sync>(
     rt: &R,
     alloc: Global,
@@ -64,17 +64,19 @@ fn read_round<R: Threads + Sync, F: Fn(usize) -> Option<Vec<u8>> + Sync>(
     most: usize,
     load: &F,
     numbers: &[usize],
+    workers: usize,
 ) -> Result<Result<Vec<Recorder>, TraceError>, AllocError>
     requires table { IsTable signature.now table.now }
     requires load { F.IsAlwaysCallable load.now }
+    requires workers { 0 < workers }
     ensures { IfOk result (λ outer. IfOk outer (λ read.
         AllZip (IsOneRead (λ k chunk. F.post load.now k (Some chunk)) signature.now table.now most)
         numbers.now read.items)) }
 {
     numbers
         .par_iter()
-        // A chunk is worth a thread of its own, however few there are.
-        .with_min_len(1)
+        // As many threads as there are workers.
+        .with_min_len(numbers.len() / workers)
         .map(
             |number: &usize| -> Result<Recorder, TraceError>
                 requires { IsTable signature.now table.now × F.IsAlwaysCallable load.now }
@@ -98,6 +100,10 @@ fn with_parts(alloc: Global, begun: Recorder, parts: Vec<Recorder>) -> Option<Re
     Some(all)
 }
 
+/// The rounds in which the chunks of a text are read, about. With more of them less is left to join
+/// after the last one, but the threads wait for one another after each.
+const ROUNDS: usize = 4;
+
 /// What has been joined of a text, and what was read of it since.
 #[derive(Drop)]
 struct Round {
@@ -115,11 +121,13 @@ fn next_round<R: Threads + Sync, F: Fn(usize) -> Option<Vec<u8>> + Sync>(
     load: &F,
     round: Round,
     numbers: &[usize],
+    workers: usize,
 ) -> Option<Round>
     requires table { IsTable signature.now table.now }
     requires load { F.IsAlwaysCallable load.now }
     requires all { IsRecorder signature.now round.all }
     requires read { All (IsRecorder signature.now) round.read.items }
+    requires workers { 0 < workers }
     ensures joined { IfSome result
         (λ next. IsJoined signature.now round.all round.read.items next.all) }
     ensures read { IfSome result (λ next.
@@ -131,11 +139,11 @@ fn next_round<R: Threads + Sync, F: Fn(usize) -> Option<Vec<u8>> + Sync>(
         rt,
         move || with_parts(alloc, all, read),
         || -> Result<Result<Vec<Recorder>, TraceError>, AllocError>
-            requires { IsTable signature.now table.now × F.IsAlwaysCallable load.now }
+            requires { IsTable signature.now table.now × F.IsAlwaysCallable load.now × (0 < workers) }
             ensures { IfOk result (λ outer. IfOk outer (λ read. AllZip (IsOneRead
                 (λ k chunk. F.post load.entry.now k (Some chunk)) signature.entry.now
                 table.entry.now most) numbers.entry.now read.items)) }
-        { read_round(rt, alloc, signature, table, most, load, numbers) },
+        { read_round(rt, alloc, signature, table, most, load, numbers, workers) },
     );
     let Some(all) = joined else {
         return None;
@@ -146,7 +154,8 @@ fn next_round<R: Threads + Sync, F: Fn(usize) -> Option<Vec<u8>> + Sync>(
     Some(Round { all, read })
 }
 
-// The traces of a recorder, and then those of some chunks, round after round of so many.
+// The traces of a recorder, and then those of some chunks, round after round of so many, by so many
+// workers.
 fn read_rounds<R: Threads + Sync, F: Fn(usize) -> Option<Vec<u8>> + Sync>(
     rt: &R,
     alloc: Global,
@@ -156,11 +165,13 @@ fn read_rounds<R: Threads + Sync, F: Fn(usize) -> Option<Vec<u8>> + Sync>(
     load: &F,
     begun: Recorder,
     numbers: &[usize],
+    count: usize,
     workers: usize,
 ) -> Option<Recorder>
     requires table { IsTable signature.now table.now }
     requires load { F.IsAlwaysCallable load.now }
     requires begun { IsRecorder signature.now begun }
+    requires count { 0 < count }
     requires workers { 0 < workers }
     ensures { IfSome result (λ all. (more : List Instant)
         × AreReadFrom (λ k chunk. F.post load.now k (Some chunk)) signature.now table.now most
@@ -174,9 +185,11 @@ fn read_rounds<R: Threads + Sync, F: Fn(usize) -> Option<Vec<u8>> + Sync>(
     };
     let mut from = 0;
     'rounds: while from < numbers.len() {
-        let past = from + workers.min(numbers.len() - from);
+        let past = from + count.min(numbers.len() - from);
         let some = &numbers[from..past];
-        let Some(next) = next_round(rt, alloc, signature, table, most, load, round, some) else {
+        let Some(next) = next_round(
+            rt, alloc, signature, table, most, load, round, some, workers,
+        ) else {
             return None;
         };
         round = next;
@@ -245,6 +258,7 @@ pub fn read_loaded<R: Threads + Sync, F: Fn(usize) -> Option<Vec<u8>> + Sync>(
         load,
         recorder,
         numbers,
+        (numbers.len() / ROUNDS).max(1),
         workers,
     ) else {
         return None;

@@ -1,6 +1,7 @@
 //! One cell of a text after the other.
 
 ghost use Rattle.std.specs.Prelude.{◌≡◌, MatchOption, [], ◌∷◌, if◌then◌else◌, true, false};
+ghost use Rattle.lb_trace.specs.Chunks.{is_ended};
 ghost use Rattle.lb_trace.specs.Lines.{after_line, record_of};
 ghost use Rattle.lb_trace.specs.Plain.{ends_line, plain_records};
 ghost use Rattle.lb_trace.specs.Scan.{after_cell, begun_records, cell_of, ends_cell, is_last_cell};
@@ -34,6 +35,13 @@ pub(crate) fn ends_line(b: u8) -> bool
     ensures { result ≡ ends_line b }
 {
     b == b'\r' || b == b'\n'
+}
+
+/// Whether the last byte of a text is the end of a line.
+pub(crate) fn is_ended(text: &[u8]) -> bool
+    ensures { result ≡ is_ended text.now }
+{
+    !text.is_empty() && ends_line(text[text.len() - 1])
 }
 
 /// The first cell of a text that begins with a record, or within one.

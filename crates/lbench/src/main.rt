@@ -5,6 +5,7 @@ use lb_command::{Refusal, command, refuse};
 use std::alloc::Global;
 use std::env;
 use std::io::{self, ErrorKind, Read, Write};
+use std::os::unix::fs::FileExt;
 use std::process::ExitCode;
 use std::rt::Runtime;
 use std::thread::{Builder, Threads};
@@ -25,7 +26,7 @@ const STACK: usize = 2 << 20;
 fn run<R, I, W, E>(rt: &R, reader: &mut I, writer: &mut W, errors: &mut E) -> u8
 where
     R: Runtime + AllocGlobal + Threads + Sync,
-    R::File: Send,
+    R::File: FileExt + Sync,
     I: Read,
     W: Write,
     E: Write,
