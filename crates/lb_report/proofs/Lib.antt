@@ -6,4 +6,3 @@ pub mod Planning
 pub mod Refusing
 pub mod FirstRefusals
 pub mod Answering
-pub mod Loading

@@ -5,4 +5,3 @@ pub mod FirstRefusals
 pub mod Bench
 pub mod Correct
 pub mod AcceptedPrograms
-pub mod Readings

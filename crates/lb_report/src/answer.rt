@@ -15,13 +15,13 @@ ghost use Rattle.lb_syntax.specs.Correct.{IsOnlyProgram};
 ghost use Rattle.lb_syntax.specs.SourceView.{view_source};
 ghost use Rattle.lb_syntax.specs.Tokens.{Text};
 ghost use Rattle.lb_trace.specs.Chunks.{text_of};
+ghost use Rattle.lb_trace.specs.Correct.{IsTraceReading};
 ghost use Rattle.lb_pool.specs.Plans.{numbers_in};
 ghost use Rattle.lb_pool.specs.Correct.{AreVerdicts};
 ghost use Rattle.lb_report.specs.Bench.{IsBenchReport, IsRefused, OnlyProgram, program_of};
 ghost use Rattle.lb_report.specs.Cases.{parts_of};
 ghost use Rattle.lb_report.specs.Correct.{IsBenchAnswer};
 ghost use Rattle.lb_report.specs.AcceptedPrograms.{IsAcceptedProgram};
-ghost use Rattle.lb_report.specs.Readings.{IsOnlyReading};
 ghost use Rattle.lb_report.specs.declared.options.Options.{Options as Asked};
 
 use crate::case::split_case;
@@ -135,11 +135,11 @@ fn report_on<R: Threads + Sync>(
 ) -> Result<Report, BenchError>
     ensures report { IfOk result (λ report. (source traces : Text) → (asked : Asked) →
         OnlyProgram source asked (IsAcceptedProgram program.now) →
-        IsOnlyReading program.now.signature traces read →
+        IsTraceReading program.now.signature traces read →
         IsBenchReport source traces asked report) }
     ensures refused { IfErr result (λ e. (source traces : Text) → (asked : Asked) →
         OnlyProgram source asked (IsAcceptedProgram program.now) →
-        IsOnlyReading program.now.signature traces read →
+        IsTraceReading program.now.signature traces read →
         IsRefused source traces asked e) }
 {
     let set = read?;

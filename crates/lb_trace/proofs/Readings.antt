@@ -17,6 +17,7 @@ use Rattle.lb_flat.proofs.Recordings.{IsRecording-none, Front, front_of, with_ro
 use Rattle.lb_trace.specs.declared.error.TraceError.{TraceError}
 use Rattle.lb_trace.specs.declared.header.Column.{Column}
 use Rattle.lb_trace.specs.Cells.{cell_value}
+use Rattle.lb_trace.specs.Correct.{IsTraceReading}
 use Rattle.lb_trace.specs.Errors.{IsRefusal, Refuses, error_number}
 use Rattle.lb_trace.specs.Mirrors.{RowsFollow, column_of, record_by, row_by}
 use Rattle.lb_trace.specs.Readers.{Goes, Reaches, TextReader, left}
@@ -243,11 +244,28 @@ pub refused : (elements : Elements) (text : List ℕ) (n : ℕ) → outcome elem
     × ((traces : Traces) → ¬ (Spells elements text traces)))
 refused elements text n is = inr (is, refused_text elements text n is)
 
--- the only traces that a text spells
-pub only : (elements : Elements) (text : List ℕ) (traces : Traces)
-    → outcome elements text ≡ Ok traces
-    → (other : Traces) → Spells elements text other → other ≡ traces
-only elements text traces is other spells = cc (is, complete_text elements text other spells)
+-- what is read of a text that spells these traces
+pub is_reading : (elements : Elements) (text : List ℕ) (r : Recording) → r.signature ≡ elements
+    → Spells elements text r.traces → IsTraceReading elements text (Ok r)
+is_reading elements text r same spells = record {
+  signature = same;
+  spelled = spells;
+  only = λ other also. cc (
+    complete_text elements text r.traces spells,
+    complete_text elements text other also,
+  );
+  refused = tt;
+}
+
+-- an error that tells why a text spells nothing, or that a growth was refused
+pub is_refusal : (elements : Elements) (text : List ℕ) (e : TraceError)
+    → Refuses elements text e → IsTraceReading elements text (Err e)
+is_refusal elements text e refuses = record {
+  signature = tt;
+  spelled = tt;
+  only = tt;
+  refused = refuses;
+}
 
 -- what one read says
 pub goes : (text : List ℕ) (records : List Record) (a b : TextReader) (fields : Record)

@@ -20,7 +20,6 @@ use Rattle.lb_trace.specs.Refusals.{with_records}
 use Rattle.lb_trace.specs.Spelling.{Record, SpelledBy, Spells, SpellsInstant}
 use Rattle.lb_trace.specs.Spelling.{instants, is_header, records_of}
 use Rattle.lb_trace.specs.Tables.{IsReadBy, IsReadOf, columns_in}
-use Rattle.lb_trace.proofs.Outcomes.{complete_text}
 use Rattle.lb_trace.proofs.PlainRecords.{plain_text}
 use Rattle.lb_trace.proofs.Soundness.{Sound, sound}
 
@@ -172,10 +171,3 @@ cut_records text body parts shown is cut quotes same none =
     (plain_text body
     (quotes ∙ ap (list_any (λ (part : Bor (List ℕ)). has_quote part.now)) (sym same) ∙ none))
     ∙ cut ∙ ap (flat_map (λ (part : Bor (List ℕ)). plain_records part.now)) (sym same)
-
--- a text spells one list of traces
-pub only_spelled : (elements : Elements) (text : List ℕ) (traces : Traces)
-    → Spells elements text traces
-    → (other : Traces) → Spells elements text other → other ≡ traces
-only_spelled elements text traces spells other also =
-    cc (complete_text elements text traces spells, complete_text elements text other also)

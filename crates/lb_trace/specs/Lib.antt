@@ -1,3 +1,4 @@
+pub mod Correct
 pub mod Cells
 pub mod Spelling
 pub mod Refusals

@@ -1,11 +1,8 @@
 //! From the bytes of a trace text to a set of traces.
 
-ghost use Rattle.std.specs.Prelude.{◌≡◌, ◌≤◌, [], length, Ok, IfOk, IfErr};
-ghost use Rattle.lb_flat.specs.Traces.{Traces};
-ghost use Rattle.lb_trace.specs.Errors.{IsRefusal, error_number, Refuses};
+ghost use Rattle.std.specs.Prelude.{◌≤◌, [], length};
+ghost use Rattle.lb_trace.specs.Correct.{IsTraceReading};
 ghost use Rattle.lb_trace.specs.Readers.{Reaches};
-ghost use Rattle.lb_trace.specs.Refusals.{outcome};
-ghost use Rattle.lb_trace.specs.Spelling.{Spells};
 
 use crate::error::TraceError;
 use crate::header::columns_of;
@@ -47,14 +44,7 @@ pub fn read_traces(
     signature: &Signature,
     text: &[u8],
 ) -> Result<TraceSet, TraceError>
-    // What is read is what the text spells, and it spells nothing else.
-    ensures signature { IfOk result (λ set. set.signature ≡ signature.now) }
-    ensures spelled { IfOk result (λ set. Spells signature.now text.now set.traces) }
-    ensures only { IfOk result
-        (λ set. (other : Traces) → Spells signature.now text.now other → other ≡ set.traces) }
-
-    // A refusal is the first one of a text that spells nothing, or a growth was refused.
-    ensures refused { IfErr result (Refuses signature.now text.now) }
+    ensures { IsTraceReading signature.now text.now result }
 {
     if text.len() > MOST_BYTES {
         return Err(TraceError::Limit { record: None });
@@ -77,11 +67,7 @@ pub fn read_traces_by<R: Threads + Sync>(
     text: &[u8],
     workers: u32,
 ) -> Result<TraceSet, TraceError>
-    ensures signature { IfOk result (λ set. set.signature ≡ signature.now) }
-    ensures spelled { IfOk result (λ set. Spells signature.now text.now set.traces) }
-    ensures only { IfOk result
-        (λ set. (other : Traces) → Spells signature.now text.now other → other ≡ set.traces) }
-    ensures refused { IfErr result (Refuses signature.now text.now) }
+    ensures { IsTraceReading signature.now text.now result }
 {
     if workers == 1 || text.len() > MOST_BYTES {
         return read_traces(alloc, signature, text);
@@ -108,11 +94,7 @@ fn read_records(
 ) -> Result<TraceSet, TraceError>
     requires short { length text.now ≤ 1073741824 }
     requires reaches { Reaches text.now [] reader.old }
-    ensures signature { IfOk result (λ set. set.signature ≡ signature.now) }
-    ensures spelled { IfOk result (λ set. Spells signature.now text.now set.traces) }
-    ensures only { IfOk result
-        (λ set. (other : Traces) → Spells signature.now text.now other → other ≡ set.traces) }
-    ensures refused { IfErr result (Refuses signature.now text.now) }
+    ensures { IsTraceReading signature.now text.now result }
 {
     if !next(reader, record)? {
         return Err(TraceError::Header);

@@ -1,10 +1,9 @@
 //! From the bytes of a trace text without quotes to a set of traces.
 
-ghost use Rattle.std.specs.Prelude.{◌≡◌, ◌≤◌, length, IfOk, IfErr};
-ghost use Rattle.lb_flat.specs.Traces.{Traces};
-ghost use Rattle.lb_trace.specs.Errors.{Refuses};
+ghost use Rattle.std.specs.Prelude.{◌≡◌, ◌≤◌, length};
+ghost use Rattle.lb_trace.specs.Correct.{IsTraceReading};
 ghost use Rattle.lb_trace.specs.Plain.{plain_records};
-ghost use Rattle.lb_trace.specs.Spelling.{Spells, records_of};
+ghost use Rattle.lb_trace.specs.Spelling.{records_of};
 
 use crate::begun::begin;
 use crate::error::TraceError;
@@ -25,11 +24,7 @@ pub(crate) fn read_plain(
 ) -> Result<TraceSet, TraceError>
     requires short { length text.now ≤ 1073741824 }
     requires plain { records_of text.now ≡ plain_records body.now }
-    ensures signature { IfOk result (λ set. set.signature ≡ signature.now) }
-    ensures spelled { IfOk result (λ set. Spells signature.now text.now set.traces) }
-    ensures only { IfOk result
-        (λ set. (other : Traces) → Spells signature.now text.now other → other ≡ set.traces) }
-    ensures refused { IfErr result (Refuses signature.now text.now) }
+    ensures { IsTraceReading signature.now text.now result }
 {
     let Ok(found) = begin(alloc, signature, body) else {
         return Err(TraceError::Memory(AllocError));

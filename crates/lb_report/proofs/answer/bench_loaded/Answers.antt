@@ -1,7 +1,7 @@
 -- The report is one on the text of the chunks that were loaded.
 use Rattle.std.proofs.Common.{◌++◌}
 use Rattle.lb_trace.specs.Chunks.{text_of}
-use Rattle.lb_report.proofs.Loading.{only_reading}
+use Rattle.lb_trace.proofs.Readings.{is_reading}
 use Rattle.lb_report.proofs.answer.bench_loaded.Goals as goal
 
 pub returns : goal.returns
@@ -12,6 +12,6 @@ returns g c =
       found.1,
       c.in-Ok-report_on.ensures.report c.args.source.now text c.args.options.now
           c.in-Ok.ensures.ok
-          (only_reading c.in-Ok.program.signature text c.in-Some.set c.in-Some.ensures.signature
+          (is_reading c.in-Ok.program.signature text c.in-Some.set c.in-Some.ensures.signature
           found.2),
     )

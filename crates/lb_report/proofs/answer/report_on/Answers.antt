@@ -2,10 +2,10 @@ use Rattle.std.proofs.Common.{◌≡◌, ◌∙◌, length, ap, subst, sym}
 use Rattle.std.proofs.lemmas.Result.{err_from_is_err_and}
 use Rattle.lb_static.specs.DataTypes.{signature}
 use Rattle.lb_flat.specs.Traces.{Traces, trace_names}
+use Rattle.lb_trace.specs.Correct.{IsTraceReading}
 use Rattle.lb_trace.specs.Errors.{Refuses}
 use Rattle.lb_trace.specs.Spelling.{Spells}
 use Rattle.lb_report.specs.Bench.{program_of}
-use Rattle.lb_report.specs.Readings.{IsOnlyReading}
 use Rattle.lb_report.specs.Reports.{IsReport}
 use Rattle.lb_report.proofs.VerdictLists.{are_verdicts}
 use Rattle.lb_report.proofs.answer.report_on.Goals as goal
@@ -15,7 +15,7 @@ new-requires g c = ap length c.as_slice.ensures.value ∙ c.in_ok-verdicts.ensur
 
 pub returns-clause-report : goal.returns-clause-report
 returns-clause-report g c = λ source text options found reading.
-    let read = subst (IsOnlyReading c.args.program.now.signature text) c.in_ok-set.was reading in
+    let read = subst (IsTraceReading c.args.program.now.signature text) c.in_ok-set.was reading in
     let P = program_of found.tree options in
     let elements : c.args.program.now.signature ≡ signature P = sym found.holds.inputs in
     let same : c.in_ok-set.set.signature ≡ signature P = read.signature ∙ elements in
@@ -50,7 +50,7 @@ returns-in_err-set-clause-refused g c =
     let p = err_from_is_err_and c.from_residual.result c.from_residual.ensures.1 in
     let e = c.in_err-set.field-0.0 in
     rw (p.1, p.2) (λ source text options found reading.
-    let read = subst (IsOnlyReading c.args.program.now.signature text) c.in_err-set.was reading in
+    let read = subst (IsTraceReading c.args.program.now.signature text) c.in_err-set.was reading in
     record {
       tree = found.tree;
       spelled = found.spelled;

@@ -3,30 +3,34 @@ use Rattle.std.proofs.Common.{◌≡◌, sym, ap, ◌∙◌, Ok, [], ◌∷◌, 
 use Rattle.std.proofs.lemmas.Result.{err_from_is_err_and}
 use Rattle.csv.specs.Records.{fields_of}
 use Rattle.lb_flat.specs.Traces.{Recording}
+use Rattle.lb_trace.specs.declared.error.TraceError.TheVariants as fault
 use Rattle.lb_trace.specs.Mirrors.{RowsFollow}
 use Rattle.lb_trace.specs.Refusals.{outcome}
 use Rattle.lb_trace.specs.Spelling.{after_first}
 use Rattle.lb_trace.proofs.Outcomes.{sound_text}
-use Rattle.lb_trace.proofs.Readings.{added, lawful_rows, no_header, only, other_header}
+use Rattle.lb_trace.proofs.Readings.{added, is_reading, is_refusal, lawful_rows, no_header}
+use Rattle.lb_trace.proofs.Readings.{other_header}
 use Rattle.lb_trace.proofs.Readings.{progress-end, progress-more, progress-start, refused}
 use Rattle.lb_trace.proofs.Readings.{refused_record, rows_follow}
 use Rattle.lb_trace.proofs.read.read_records.Goals as goal
 
-pub returns-then-not-branch-clause-refused : goal.returns-then-not-branch-clause-refused
-returns-then-not-branch-clause-refused c =
+pub returns-then-not-branch : goal.returns-then-not-branch
+returns-then-not-branch c =
     let none = rw c.if-not-branch.true at
     (c.in_ok-next.ensures.goes c.args.text.now [] c.requires.reaches) in
-    refused c.args.signature.now c.args.text.now 14
-    (no_header c.args.signature.now c.args.text.now c.requires.short none)
+    is_refusal c.args.signature.now c.args.text.now fault.Header
+    (refused c.args.signature.now c.args.text.now 14
+    (no_header c.args.signature.now c.args.text.now c.requires.short none))
 
-pub returns-in_default-header-clause-refused : goal.returns-in_default-header-clause-refused
-returns-in_default-header-clause-refused c =
+pub returns-in_default-header : goal.returns-in_default-header
+returns-in_default-header c =
     let at = rw c.if-not-branch.false at
     (c.in_ok-next.ensures.goes c.args.text.now [] c.requires.reaches) in
     let other = rw c.in_default-header.is at c.in-Ok.ensures in
-    refused c.args.signature.now c.args.text.now 14
+    is_refusal c.args.signature.now c.args.text.now fault.Header
+    (refused c.args.signature.now c.args.text.now 14
     (other_header c.args.signature.now c.args.text.now (fields_of c.next.new.entry)
-    c.next.new.reader at c.requires.short other)
+    c.next.new.reader at c.requires.short other))
 
 pub loop-number-init : goal.loop-number-init
 loop-number-init c =
@@ -40,8 +44,8 @@ loop-number-init c =
       known = c.in-Ok-new.ensures.names;
     }
 
-pub returns-then-not-branch-2-clause-spelled : goal.returns-then-not-branch-2-clause-spelled
-returns-then-not-branch-2-clause-spelled c =
+pub returns-then-not-branch-2 : goal.returns-then-not-branch-2
+returns-then-not-branch-2 c =
     let all = rw c.if-not-branch-2.true at
     (c.in_ok-next-2.ensures.goes c.args.text.now
     (fields_of c.next.new.entry ∷ c.loop-number.invariant.progress.rows)
@@ -52,23 +56,10 @@ returns-then-not-branch-2-clause-spelled c =
     progress-end c.args.signature.now c.args.text.now (fields_of c.next.new.entry)
     c.loop-number.recorder.rows.traces c.loop-number.reader c.loop-number.number
     c.loop-number.invariant.progress c.requires.short headed.0 all in
-    sound_text c.args.signature.now c.args.text.now c.into_set.result.traces
-    (read ∙ ap (λ (r : Recording). Ok r.traces) (sym c.into_set.ensures))
-
-pub returns-then-not-branch-2-clause-only : goal.returns-then-not-branch-2-clause-only
-returns-then-not-branch-2-clause-only c =
-    let all = rw c.if-not-branch-2.true at
-    (c.in_ok-next-2.ensures.goes c.args.text.now
-    (fields_of c.next.new.entry ∷ c.loop-number.invariant.progress.rows)
-    c.loop-number.invariant.progress.reaches) in
-    let headed = rw c.in-Some.is at c.in-Ok.ensures in
-    let read : outcome c.args.signature.now c.args.text.now
-    ≡ Ok c.loop-number.recorder.rows.traces =
-    progress-end c.args.signature.now c.args.text.now (fields_of c.next.new.entry)
-    c.loop-number.recorder.rows.traces c.loop-number.reader c.loop-number.number
-    c.loop-number.invariant.progress c.requires.short headed.0 all in
-    only c.args.signature.now c.args.text.now c.into_set.result.traces
-    (read ∙ ap (λ (r : Recording). Ok r.traces) (sym c.into_set.ensures))
+    is_reading c.args.signature.now c.args.text.now c.into_set.result
+    (ap (λ (r : Recording). r.signature) c.into_set.ensures ∙ c.loop-number.invariant.follows)
+    (sound_text c.args.signature.now c.args.text.now c.into_set.result.traces
+    (read ∙ ap (λ (r : Recording). Ok r.traces) (sym c.into_set.ensures)))
 
 pub add-requires-clause-lawful : goal.add-requires-clause-lawful
 add-requires-clause-lawful c =
@@ -82,8 +73,8 @@ add-requires-clause-kinds c =
     (rows_follow c.args.signature.now (after_first (fields_of c.next.new.entry)) c.deref.result.now
     (c.deref.ensures.value ∙ headed.1))
 
-pub returns-in_err-add-clause-refused : goal.returns-in_err-add-clause-refused
-returns-in_err-add-clause-refused c =
+pub returns-in_err-add : goal.returns-in_err-add
+returns-in_err-add c =
     let further = rw c.if-not-branch-2.false at
     (c.in_ok-next-2.ensures.goes c.args.text.now
     (fields_of c.next.new.entry ∷ c.loop-number.invariant.progress.rows)
@@ -99,7 +90,7 @@ returns-in_err-add-clause-refused c =
     (c.deref.ensures.value ∙ headed.1) c.width-columns.ensures c.in_err-add.ensures.err in
     let p = err_from_is_err_and c.from_residual-in_err-add.result
     c.from_residual-in_err-add.ensures.1 in
-    rw (p.1, p.2) bad
+    rw (p.1, p.2) (is_refusal c.args.signature.now c.args.text.now c.in_err-add.field-0.0 bad)
 
 pub loop-number-preserved : goal.loop-number-preserved
 loop-number-preserved c =

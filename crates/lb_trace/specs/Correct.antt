@@ -1,16 +1,16 @@
--- What was read of a trace text.
--- This file says what data of the program mean; no definition of the language stands on it.
-use Rattle.std.specs.Prelude.{◌≡◌, Result, IfOk, IfErr}
-use Rattle.lb_syntax.specs.Tokens.{Text}
+-- What a reading of a trace text answers: the promise of this crate.
+-- Source: this project's rule.
+use Rattle.std.specs.Prelude.{◌≡◌, ℕ, List, Result, IfOk, IfErr}
 use Rattle.lb_static.specs.Signature.{Elements}
 use Rattle.lb_flat.specs.Traces.{Recording, Traces}
 use Rattle.lb_trace.specs.Errors.{Refuses}
 use Rattle.lb_trace.specs.Spelling.{Spells}
 use Rattle.lb_trace.specs.declared.error.TraceError.{TraceError}
 
--- the traces that a text spells under a signature, and no others; or its first refusal
-pub record IsOnlyReading
-    (elements : Elements) (text : Text) (read : Result Recording TraceError)
+-- the traces that a text spells under a signature, and no others; or its first refusal, where it
+-- spells none, or a growth was refused
+pub record IsTraceReading
+    (elements : Elements) (text : List ℕ) (read : Result Recording TraceError)
     : Type 0 where
   pub signature : IfOk read (λ set. set.signature ≡ elements)
   pub spelled : IfOk read (λ set. Spells elements text set.traces)
