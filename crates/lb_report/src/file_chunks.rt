@@ -31,6 +31,8 @@ fn size_of<F: OpenFile>(file: &F) -> u64 {
 }
 
 /// Where the first line begins behind a place of a file; None where no line ends soon.
+// Out of line, lest its buffer stand on the stack of a whole run.
+#[inline(never)]
 fn line_start<F: FileExt>(file: &F, from: u64) -> Option<u64> {
     let mut probe = [0u8; PROBE];
     let Ok(count) = file.read_at(&mut probe, from) else {
