@@ -110,6 +110,8 @@ fn options(alloc: Global, matches: &ArgMatches<'_>) -> Result<Options, Refusal> 
 }
 
 /// What the words ask for; the first is the program's name. The errors are E0 and E20.
+// Out of line, lest what the command line is made of stand on the stack of a whole run.
+#[inline(never)]
 pub fn read_words(alloc: Global, words: &[String]) -> Result<Request<'_>, Refusal> {
     match command_line(alloc)?.try_get_matches_from(words) {
         Ok(matches) => Ok(Request::Run(Task {
