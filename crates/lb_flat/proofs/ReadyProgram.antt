@@ -1,7 +1,7 @@
 -- The rows of a checked program that is small can be emitted from a frame of one of them, and what
 -- is emitted is the expansion of the program.
-use Rattle.std.proofs.Common.{Option, Some, refl, ◌≡◌, ◌<◌, ℕ, None, Bool, true, List, length, ap}
-use Rattle.std.proofs.Common.{sym, ◌∙◌, subst}
+use Rattle.std.proofs.Common.{Option, Some, refl, ◌≡◌, ◌<◌, ◌≤◌, ℕ, None, Bool, true, List}
+use Rattle.std.proofs.Common.{length, ap, sym, ◌∙◌, subst, arith}
 use Rattle.std.specs.Prelude.{◌^◌}
 use Rattle.std.specs.Option.{ForSome, MatchOption}
 use Rattle.lb_syntax.specs.declared.tree.Kind.{Kind}
@@ -9,7 +9,7 @@ use Rattle.lb_syntax.specs.Lists.{Every}
 use Rattle.lb_static.specs.DataTypes.{input_kinds}
 use Rattle.lb_static.specs.Elaborated.{elaborated_program}
 use Rattle.lb_static.specs.Instances.{Instance}
-use Rattle.lb_static.specs.Signature.{kinds_of}
+use Rattle.lb_static.specs.Signature.{Elements, kinds_of}
 use Rattle.lb_static.specs.declared.reach.Reached.{Reached}
 use Rattle.lb_static.specs.declared.table.Instance as row
 use Rattle.lb_static.specs.declared.table.Table.{Table}
@@ -17,12 +17,14 @@ use Rattle.lb_check.specs.Elements.{element_kinds, program_elements}
 use Rattle.lb_check.specs.LawfulPrograms.{IsChecked}
 use Rattle.lb_check.specs.TypeRules.{is_small}
 use Rattle.lb_check.specs.declared.checked.Checking.{Checking}
+use Rattle.lb_flat.specs.Bounds.{IsBounded}
 use Rattle.lb_flat.specs.Emit.{expanded}
 use Rattle.lb_flat.specs.EmitRows.{HasRows, IsCounted, bodies}
 use Rattle.lb_flat.specs.EmitTerms.{Context}
 use Rattle.lb_flat.specs.EmitWhole.{IsReady, start_in, whole}
 use Rattle.lb_flat.specs.Correct.{IsExpansionOf}
 use Rattle.lb_flat.specs.Judging.{FlatProgram}
+use Rattle.lb_flat.specs.Programs.{program_of}
 use Rattle.lb_flat.specs.NumberedLayouts.{layout}
 use Rattle.lb_flat.specs.RowFrames.{IsFrameOf, contexts_of, found_row, frame_contexts, is_row}
 use Rattle.lb_flat.specs.RowFrames.{is_row_of, read_of}
@@ -32,13 +34,15 @@ use Rattle.lb_flat.specs.TableClocks.{IsLayoutOf, all_clocks, all_runs, sources_
 use Rattle.lb_flat.specs.declared.children.Children.{Children}
 use Rattle.lb_flat.specs.declared.clocks.Clocks.{Clocks}
 use Rattle.lb_flat.specs.declared.layout.Layout.{Layout}
+use Rattle.lb_flat.specs.declared.program.FlatProgram as code
 use Rattle.lb_flat.specs.declared.row_frame.RowFrame.{RowFrame}
 use Rattle.lb_flat.proofs.EmittedTable.{IsRowContext}
 use Rattle.lb_flat.proofs.EnteredRows.{row_not_there, rows_there}
 use Rattle.lb_flat.proofs.ExpandedPrograms.{expansion_of}
 use Rattle.lb_flat.proofs.FramedContexts.{framed_program, framed_row}
 use Rattle.lb_flat.proofs.ReadyRows.{bodies_counted}
-use Rattle.lb_flat.proofs.ReadyStarts.{first_found, kinds_many, start_ready, total_some, whole_few}
+use Rattle.lb_flat.proofs.ReadyStarts.{first_found, kinds_many, signature_few, start_ready}
+use Rattle.lb_flat.proofs.ReadyStarts.{total_some, whole_few}
 use Rattle.lb_flat.proofs.RowInstances.{IsRow}
 use Rattle.lb_flat.proofs.RowKinds.{table_kinds_are}
 use Rattle.lb_flat.proofs.TableSizes.{element_total_is}
@@ -61,13 +65,26 @@ emitted s = whole s.reached s.table s.contexts s.inputs s.kinds s.count
 pub record CanEmit (s : Emittable) : Type 0 where
   pub kinds : length s.kinds ≡ s.count
   pub positive : 0 < s.count
-  pub elements : (emitted s).size < 2 ^ 32
+  pub elements : (emitted s).size ≤ 327680
+  pub inputs : length s.inputs ≤ 65536
   pub places :
       Every IsCounted (bodies s.reached s.table s.contexts 0 s.table.instances.items)
   pub there : HasRows s.reached s.table s.rows
   pub start :
       (observer : Bool) →
       ForSome (start_in s.reached s.table observer) (IsReady s.contexts s.rows)
+
+-- its elements have small numbers
+pub numbers_small : (s : Emittable) → CanEmit s → (emitted s).size < 2 ^ 32
+numbers_small s can = omega (arith, can.elements)
+
+-- and a program that is emitted has few of them
+pub emits_bounded :
+    (s : Emittable) → CanEmit s → (p : code.FlatProgram) → program_of p ≡ emitted s → IsBounded p
+emits_bounded s can p e = record {
+  elements = subst (λ (f : FlatProgram). f.size ≤ 327680) (sym e) can.elements;
+  inputs = subst (λ (f : FlatProgram). length f.inputs ≤ 65536) (sym e) can.inputs;
+}
 
 -- it is had of a checked program
 pub record IsEmittable (c : Checking) (l : Layout) (cs : ℕ → Context) (own_row : ℕ → Bool)
@@ -118,6 +135,9 @@ module _ (c : Checking) (lawful : IsChecked c) (l : Layout)
         positive = subst (λ n. 0 < n) (sym laid.count) (total_some P accepted r t reached table);
         elements = whole_few P accepted lawful.accepted r t reached table small cs contexts framed
             (kinds_of c.elab.signature) (table_kinds r t) l.count laid.count;
+        inputs =
+            subst (λ (s : Elements). length (kinds_of s) ≤ 65536) lawful.elaborated.inputs
+            (signature_few P accepted small);
         places = bodies_counted P accepted lawful.accepted r t reached table c.clocks.items
             lawful.clocks cs contexts;
         there = rows;

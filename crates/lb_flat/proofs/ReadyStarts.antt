@@ -2,7 +2,7 @@
 -- inputs and outputs, and all elements of the program, of which there is one at least.
 use Rattle.std.proofs.Common.{◌≡◌, ◌<◌, ◌≤◌, inl, inr, ℕ, ◌+◌, ◌*◌, Bool, true, Some, None}
 use Rattle.std.proofs.Common.{Option, List, [], ◌∷◌, ◌++◌, length, flat_map, ap, ap₂, sym, ◌∙◌}
-use Rattle.std.proofs.Common.{subst, refl, arith}
+use Rattle.std.proofs.Common.{map, option_map, subst, refl, arith}
 use Rattle.std.specs.Prelude.{◌^◌, sum_by}
 use Rattle.std.specs.List.{range_with_len}
 use Rattle.std.specs.Option.{ForSome}
@@ -13,11 +13,12 @@ use Rattle.std.proofs.lemmas.List.Sums.{sum_by-append, sum_by-cons}
 use Rattle.std.proofs.lemmas.Option.{same_Some}
 use Rattle.std.proofs.lemmas.Bool.{leb-true}
 use Rattle.lb_syntax.specs.declared.tree.Kind.{Kind}
-use Rattle.lb_syntax.specs.Lists.{Every, In}
-use Rattle.lb_syntax.specs.Tree.{Declaration, Node}
+use Rattle.lb_syntax.specs.Lists.{Every, In, either_or, listed}
+use Rattle.lb_syntax.specs.Tree.{Declaration, Name, Node}
 use Rattle.lb_syntax.proofs.ListPlaces.{item_at}
-use Rattle.lb_static.specs.DataTypes.{input_kinds, width}
-use Rattle.lb_static.specs.Instances.{Program, Instance, instances, instance_at}
+use Rattle.lb_static.specs.DataTypes.{DataType, element_count, element_names, input_kinds}
+use Rattle.lb_static.specs.DataTypes.{scalar_elements, signature, variable_type, width}
+use Rattle.lb_static.specs.Instances.{Program, Instance, Root, instances, instance_at}
 use Rattle.lb_static.specs.Instantiation.{static_refusal}
 use Rattle.lb_static.specs.InstanceTable.{IsTable}
 use Rattle.lb_static.specs.ReachedNodes.{IsReached}
@@ -25,6 +26,7 @@ use Rattle.lb_static.specs.ResolvedNodes.{node_of}
 use Rattle.lb_static.specs.declared.reach.Reached.{Reached}
 use Rattle.lb_static.specs.declared.table.Instance as row
 use Rattle.lb_static.specs.declared.table.Table.{Table}
+use Rattle.lb_static.proofs.ElementNames.{length-element_names}
 use Rattle.lb_static.proofs.Members.{in_at}
 use Rattle.lb_check.specs.Acceptance.{check_refusal}
 use Rattle.lb_check.specs.Clocks.{declared_clock}
@@ -87,6 +89,38 @@ inputs_few P here there small =
     let all = leb-true (size P) 65536 small in
     omega (arith, part, own, all)
 
+-- and so has its signature
+scalars_one : (x : Name) (o : Option DataType) →
+    length {A = Name × Kind} (listed (λ t. map (λ y. (y, t.kind)) (element_names x t.sizes)) o)
+    ≡ either_or (option_map element_count o) 0
+scalars_one x None = refl
+scalars_one x (Some t) = length-map (element_names x t.sizes) _ ∙ length-element_names x t.sizes
+
+scalars_long :
+    (P : Program) (here : Instance) (ds : List Declaration) →
+    length (flat_map (scalar_elements P here) ds) ≡ sum_by (width P here) ds
+scalars_long P here [] = refl
+scalars_long P here (d ∷ ds) =
+    length-append (scalar_elements P here d) (flat_map (scalar_elements P here) ds)
+    ∙ (ap₂ (λ a b. a + b) (scalars_one d.name (variable_type P here d)) (scalars_long P here ds)
+    ∙ sym (sum_by-cons (width P here) d ds))
+
+pub signature_few :
+    (P : Program) → static_refusal P ≡ None → is_small P ≡ true → length (input_kinds P) ≤ 65536
+signature_few P accepted small =
+    let long = length-map (signature P) (λ e. e.1) in
+    let few = by (instance_at P Root) refl in
+    omega (arith, long, few)
+  where
+    by : (o : Option Instance) → instance_at P Root ≡ o →
+        length (listed (λ root. flat_map (scalar_elements P root) root.node.inputs) o) ≤ 65536
+    by None is = omega arith
+    by (Some root) is =
+        let there = in_instances P (instantiation_kept P accepted) Root root is in
+        let long = scalars_long P root root.node.inputs in
+        let few = inputs_few P root there small in
+        omega (arith, long, few)
+
 -- ## Rows that start
 
 module _ (P : Program) (accepted : static_refusal P ≡ None) (checked : check_refusal P ≡ None)
@@ -147,7 +181,7 @@ module _ (P : Program) (accepted : static_refusal P ≡ None) (checked : check_r
       ((count : ℕ) →
       whole r t cs (input_kinds P) (element_kinds P) count ≡ expanded (layout P) P count) →
       (inputs kinds : List Kind) (count : ℕ) → count ≡ element_total r t →
-      (whole r t cs inputs kinds count).size < 2 ^ 32
+      (whole r t cs inputs kinds count).size ≤ 327680
   whole_few is inputs kinds count many =
       let all = many ∙ element_total_is P r t reached table in
       let same : (whole r t cs inputs kinds count).size
@@ -155,11 +189,11 @@ module _ (P : Program) (accepted : static_refusal P ≡ None) (checked : check_r
       ap (λ n. (whole r t cs inputs kinds n).size) all
       ∙ ap (λ (f : FlatProgram). f.size) (is (length (program_elements P))) in
       let few = small_few P accepted checked small in
-      subst (λ n. n < 2 ^ 32) (sym same)
-      (below (expanded (layout P) P (length (program_elements P))).size few)
+      subst (λ n. n ≤ 327680) (sym same)
+      (within (expanded (layout P) P (length (program_elements P))).size few)
     where
-      below : (n : ℕ) → n ≤ 5 * 65536 → n < 2 ^ 32
-      below n le = omega (arith, le)
+      within : (n : ℕ) → n ≤ 5 * 65536 → n ≤ 327680
+      within n le = omega (arith, le)
 
 -- ## Elements
 

@@ -13,6 +13,7 @@ pub mod Flattening
 pub mod Values
 pub mod Within
 pub mod Programs
+pub mod Bounds
 pub mod Prepared
 pub mod PreparedPrograms
 pub mod PreparedParts

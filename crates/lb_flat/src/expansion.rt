@@ -3,6 +3,7 @@
 ghost use Rattle.std.specs.Prelude.{◌≡◌, IfOk, true};
 ghost use Rattle.lb_static.specs.Elaborated.{elaborated_program};
 ghost use Rattle.lb_check.specs.TypeRules as rules;
+ghost use Rattle.lb_flat.specs.Bounds.{IsBounded};
 ghost use Rattle.lb_flat.specs.Correct.{IsExpansionAnswer, IsExpansionOf};
 ghost use Rattle.lb_flat.specs.Programs.{program_of, IsInRange};
 ghost use Rattle.lb_flat.specs.TableClocks.{IsLayoutOf};
@@ -47,6 +48,7 @@ fn flat_program(
     ensures expansion { IfOk result (λ p.
         IsExpansionOf (elaborated_program checked.now.elab) (program_of p)) }
     ensures in_range { IfOk result (λ p. IsInRange p) }
+    ensures bounded { IfOk result (λ p. IsBounded p) }
 {
     let elab = checked.elab();
     let table = elab.table();

@@ -1,6 +1,7 @@
 //! The stages of a flat program: expanded, and put in order.
 
 ghost use Rattle.std.specs.Prelude.{◌≡◌, true, false, replicate};
+ghost use Rattle.lb_flat.specs.Bounds.{IsBounded};
 ghost use Rattle.lb_flat.specs.GivenOnce.{IsGiven, given_prop};
 ghost use Rattle.lb_flat.specs.InOrder.{is_in_order};
 ghost use Rattle.lb_flat.specs.Programs.{IsInRange, flat_equations, program_of};
@@ -12,6 +13,7 @@ use crate::program::FlatProgram;
 pub struct Flat {
     pub program: FlatProgram,
     pub ghost in_range: { IsInRange program },
+    pub ghost bounded: { IsBounded program },
     pub ghost given: { IsGiven (program_of program) } by { given_prop (program_of program) },
 }
 
@@ -20,6 +22,7 @@ pub struct Flat {
 pub struct Ordered {
     pub program: FlatProgram,
     pub ghost in_range: { IsInRange program },
+    pub ghost bounded: { IsBounded program },
     pub ghost in_order: { is_in_order (replicate program.size false)
         (flat_equations program.clocks.items program.equations.items) ≡ true },
 }

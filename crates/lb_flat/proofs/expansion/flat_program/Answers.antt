@@ -5,6 +5,7 @@ use Rattle.std.proofs.lemmas.Result.{IfOk-weaker as then_ok}
 use Rattle.lb_static.specs.Elaborated.{elaborated_program}
 use Rattle.lb_static.specs.Signature.{kinds_of}
 use Rattle.lb_static.specs.declared.table.Table.{Table}
+use Rattle.lb_flat.specs.Bounds.{IsBounded}
 use Rattle.lb_flat.specs.Correct.{IsExpansionOf}
 use Rattle.lb_flat.specs.Programs.{program_of}
 use Rattle.lb_flat.specs.RowKinds.{table_kinds}
@@ -12,8 +13,8 @@ use Rattle.lb_flat.specs.Rows.{called_row, child_row}
 use Rattle.lb_flat.specs.Within.{AreClocks}
 use Rattle.lb_flat.specs.declared.clocks.Clocks.{Clocks}
 use Rattle.lb_flat.specs.declared.layout.Layout.{Layout}
-use Rattle.lb_flat.proofs.ReadyProgram.{first_there, frame_emittable, framed_emit, framed_expansion}
-use Rattle.lb_flat.proofs.ReadyProgram.{no_frame}
+use Rattle.lb_flat.proofs.ReadyProgram.{emits_bounded, first_there, frame_emittable, framed_emit}
+use Rattle.lb_flat.proofs.ReadyProgram.{framed_expansion, no_frame, numbers_small}
 use Rattle.lb_flat.proofs.expansion.flat_program.Goals as goal
 
 pub unreachable-requires : goal.unreachable-requires
@@ -49,6 +50,7 @@ emit_program-requires c =
     c.in_ok-kinds.kinds.items (c.in_ok-kinds.ensures ∙ ap₂ table_kinds er et) l.count refl in
     let e = framed_emit x lawful l all k laid kept c.in_ok-clocks.ensures.table
     c.in_ok-clocks.ensures.runs c.requires.small _ are in
+    let below = numbers_small _ e in
     let same : c.extend_from_slice.new.self.items ≡ k.table.items = search rules in
     record {
       table = ap (λ (k : Clocks). k.table.items) at.clocks ∙ sym same;
@@ -56,7 +58,7 @@ emit_program-requires c =
       clocks = subst (AreClocks l.count) (sym same) (c.in_ok-clocks.ensures.within laid);
       kinds = e.kinds;
       positive = e.positive;
-      elements = e.elements;
+      elements = below;
       places = e.places;
       there = e.there;
       root = e.start false;
@@ -86,4 +88,28 @@ returns-clause-expansion c =
     (λ p e.
     framed_expansion x lawful l all k laid kept c.in_ok-clocks.ensures.table
     c.in_ok-clocks.ensures.runs c.requires.small _ are (program_of p) e)
+    c.emit_program.ensures.program
+
+pub returns-clause-bounded : goal.returns-clause-bounded
+returns-clause-bounded c =
+    let x = c.args.checked.now in
+    let l = c.args.layout.now in
+    let lawful = c.elab-elab.ensures.lawful in
+    let elab = c.elab-elab.ensures.value in
+    let all = c.in_ok-children.children in
+    let k = c.in_ok-clocks.clocks in
+    let f = c.in-Some.frame in
+    let laid = c.requires.layout in
+    let et = c.table-table.ensures.value ∙ ap (λ e. e.table) elab in
+    let er = c.reached.ensures.value ∙ ap (λ e. e.reached) elab in
+    let er2 = c.reached-2.ensures.value ∙ ap (λ e. e.reached) elab in
+    let kept : (j n i : ℕ) → called_row all.rows j n i ≡ child_row x.elab.table j n i =
+    λ j n i. c.in_ok-children.ensures j n i ∙ ap (λ (t : Table). child_row t j n i) et in
+    let at = c.in-Some.ensures in
+    let are = frame_emittable x l all k 0 f at c.reached-2.result.now er2 c.table-table.result.now
+    et c.in_ok-inputs.inputs.items (c.in_ok-inputs.ensures ∙ ap kinds_of c.signature.ensures.value)
+    c.in_ok-kinds.kinds.items (c.in_ok-kinds.ensures ∙ ap₂ table_kinds er et) l.count refl in
+    let e = framed_emit x lawful l all k laid kept c.in_ok-clocks.ensures.table
+    c.in_ok-clocks.ensures.runs c.requires.small _ are in
+    then_ok c.emit_program.result _ IsBounded (λ p is. emits_bounded _ e p is)
     c.emit_program.ensures.program
