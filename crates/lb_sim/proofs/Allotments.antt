@@ -78,6 +78,7 @@ module _ (f : FlatProgram) (old : Preset) where
     pub filling : IsFilling f.size f.equations table i
     pub more : IsMore old preset
     pub planes : preset.planes.items ≡ old.planes.items
+    pub few : length preset.words.items ≤ first + i
     pub fixed : All (IsFixed (length preset.words.items)) table
     pub constants :
         Every (λ (q : FlatEquation). constant_law preset (kept_at table q.element) q)
@@ -91,6 +92,7 @@ module _ (f : FlatProgram) (old : Preset) where
     filling = filling_none f.size f.equations table ready long;
     more = more_none old;
     planes = refl;
+    few = omega arith;
     fixed = λ k d lt.
         subst (IsFixed (length old.words.items)) (sym (none k d lt))
         (fixed_none (length old.words.items) (omega (arith, old.one_word)));
@@ -113,14 +115,16 @@ module _ (f : FlatProgram) (old : Preset) where
         (q : FlatEquation) → i < length f.equations → get_or f.equations i q ≡ q →
         (kind : Kind) → kind ≡ kind_among f.kinds q.element → (next : Preset) (g : Holding) →
         IsMore preset next → next.planes.items ≡ preset.planes.items →
+        length next.words.items ≤ length preset.words.items + 1 →
         IsFixed (length next.words.items) g →
         ((m : ℕ) → m ≤ length preset.words.items →
         IsConstant m (length next.words.items) next.words.items kind q.operation g) →
         FillsConstants next (set table q.element g) (i + 1)
-    constants_more q lt is kind is_kind next g m planes fixed law = record {
+    constants_more q lt is kind is_kind next g m planes longer fixed law = record {
       filling = filling_more f.size f.equations table i h.filling q lt is g;
       more = more_then old preset next h.more m;
       planes = planes ∙ h.planes;
+      few = omega (arith, longer, h.few);
       fixed =
           All-set (IsFixed (length next.words.items)) table q.element g fixed
           (All-weaker (IsFixed (length preset.words.items)) (IsFixed (length next.words.items))

@@ -36,6 +36,7 @@ pub mod Placing
 pub mod LatestArms
 pub mod HomeRows
 pub mod FirstPlaces
+pub mod FewPlaces
 pub mod Filling
 pub mod Allotments
 pub mod InputPlaces

@@ -38,6 +38,7 @@ pub(crate) fn input_values(
 ) -> Result<Vec<Value>, AllocError>
     requires planes { length preset.old.planes.items ≡ 2 }
     requires words { length preset.old.words.items ≡ 1 }
+    requires few { length kinds.now ≤ 65536 }
     ensures values { IfOk result (λ v. v.items ≡ places_of 2 1 kinds.now) }
     ensures planes { OnOk result (length preset.new.planes.items
         ≡ 2 + length (truth_columns 0 kinds.now)) }
@@ -80,6 +81,8 @@ fn is_bad(v: Scalar) -> bool
 
 // A value of a kind, where a scalar is nil or a fault.
 fn empty_value(preset: &mut Preset, kind: Kind) -> Result<Value, AllocError>
+    requires planes { length preset.old.planes.items < 4294967295 }
+    requires words { length preset.old.words.items < 4294967295 }
     ensures more { OnOk result (IsMore preset.old preset.new) }
     ensures value { IfOk result (λ x. (v : scalars.Scalar)
         → (is_nil_scalar v || is_bad_scalar v) ≡ true
@@ -99,6 +102,8 @@ fn empty_value(preset: &mut Preset, kind: Kind) -> Result<Value, AllocError>
 
 // A value that holds a scalar; where that is nil or a fault, anything of this kind.
 fn first_value(preset: &mut Preset, v: Scalar, kind: Kind) -> Result<Value, AllocError>
+    requires planes { length preset.old.planes.items < 4294967295 }
+    requires words { length preset.old.words.items < 4294967295 }
     ensures more { OnOk result (IsMore preset.old preset.new) }
     ensures value { IfOk result (IsFirstValue preset.old preset.new kind (scalar_of v)) }
 {
@@ -124,6 +129,7 @@ fn first_value(preset: &mut Preset, v: Scalar, kind: Kind) -> Result<Value, Allo
 
 // A plane of faults, if the operand is not watched for faults or the first value is one.
 fn bad_place(preset: &mut Preset, v: Scalar, watched: bool) -> Result<PlaneId, AllocError>
+    requires { length preset.old.planes.items < 4294967295 }
     ensures more { OnOk result (IsMore preset.old preset.new) }
     ensures words { preset.new.words.items ≡ preset.old.words.items }
     ensures row { IfOk result (λ p. IsRow (length preset.old.planes.items) (p.0 ∷ [])
@@ -147,6 +153,8 @@ fn bad_place(preset: &mut Preset, v: Scalar, watched: bool) -> Result<PlaneId, A
 // The memory of `pre` and of `current`: a value and its nil plane; a plane of faults only where it
 // is needed.
 fn memory(preset: &mut Preset, v: Scalar, kind: Kind, watched: bool) -> Result<Holding, AllocError>
+    requires planes { length preset.old.planes.items + 2 < 4294967295 }
+    requires words { length preset.old.words.items < 4294967295 }
     ensures more { OnOk result (IsMore preset.old preset.new) }
     ensures memory { IfOk result (IsFirstHolding preset.old preset.new kind (watched ≡ true)
         (scalar_of v)) }
@@ -165,6 +173,8 @@ pub(crate) fn first_memory(
     kind: Kind,
     watched: &[bool],
 ) -> Result<Holding, AllocError>
+    requires planes { length preset.old.planes.items + 2 < 4294967295 }
+    requires words { length preset.old.words.items < 4294967295 }
     requires reads { All (λ i. i < length watched.now) (reads (operation_of operation.now)) }
     requires keeps { All (λ i. i < length watched.now) (keeps (operation_of operation.now)) }
     ensures more { OnOk result (IsMore preset.old preset.new) }
@@ -235,8 +245,11 @@ fn no_value(kind: Kind) -> Value
 
 // What a scalar is held as: an integer by a word of its own.
 fn held_constant(preset: &mut Preset, v: Scalar, kind: Kind) -> Result<Holding, AllocError>
+    requires { length preset.old.words.items < 4294967295 }
     ensures more { OnOk result (IsMore preset.old preset.new) }
     ensures planes { preset.new.planes.items ≡ preset.old.planes.items }
+    ensures few { OnOk result (length preset.new.words.items
+        ≤ length preset.old.words.items + 1) }
     ensures fixed { IfOk result (IsFixed (length preset.new.words.items)) }
     ensures constant { IfOk result (λ h. (first : ℕ) → first ≤ length preset.old.words.items
         → IsConstantAt first (length preset.new.words.items) preset.new.words.items kind
@@ -275,8 +288,11 @@ pub(crate) fn constant(
     operation: &Operation,
     kind: Kind,
 ) -> Result<Holding, AllocError>
+    requires { length preset.old.words.items < 4294967295 }
     ensures more { OnOk result (IsMore preset.old preset.new) }
     ensures planes { preset.new.planes.items ≡ preset.old.planes.items }
+    ensures few { OnOk result (length preset.new.words.items
+        ≤ length preset.old.words.items + 1) }
     ensures fixed { IfOk result (IsFixed (length preset.new.words.items)) }
     ensures constant { IfOk result (λ h. (first : ℕ) → first ≤ length preset.old.words.items
         → IsConstant first (length preset.new.words.items) preset.new.words.items kind

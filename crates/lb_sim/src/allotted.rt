@@ -1,6 +1,7 @@
 //! All that is known before the code: inputs, constants and memories.
 
 ghost use Rattle.std.specs.Prelude.{◌≡◌, [], IfOk};
+ghost use Rattle.lb_flat.specs.Bounds.{IsBounded};
 ghost use Rattle.lb_flat.specs.Programs.{flat_equations, program_of, IsInRange};
 ghost use Rattle.lb_flat.specs.Run.{Ready};
 ghost use Rattle.lb_sim.specs.Layouts.{AreAllotted};
@@ -31,6 +32,7 @@ pub(crate) struct Allotted {
 /// Gives places to inputs, to constants, and behind them to memories.
 pub(crate) fn allot_places(alloc: Global, program: &FlatProgram) -> Result<Allotted, AllocError>
     requires in_range { IsInRange program.now }
+    requires bounded { IsBounded program.now }
     requires in_order { Ready program.now.size []
         (flat_equations program.now.clocks.items program.now.equations.items) }
     ensures { IfOk result (AreAllotted (program_of program.now)) }

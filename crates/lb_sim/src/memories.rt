@@ -1,6 +1,7 @@
 //! The tables of what constants hold and of where memories stand, for all equations of a program.
 
-ghost use Rattle.std.specs.Prelude.{◌≡◌, ℕ, true, false, [], length, get_or, replicate, IfOk, OnOk};
+ghost use Rattle.std.specs.Prelude.{◌≡◌, ◌≤◌, ◌+◌, ◌*◌, ℕ, true, false, [], length, get_or, replicate};
+ghost use Rattle.std.specs.Prelude.{IfOk, OnOk};
 ghost use Rattle.lb_syntax.specs.Lists.{In};
 ghost use Rattle.lb_flat.specs.Judging.{named_elements};
 ghost use Rattle.lb_flat.specs.Programs.{flat_equations, program_of, IsInRange};
@@ -24,8 +25,12 @@ fn fill_constants(
     requires in_order { Ready program.now.size []
         (flat_equations program.now.clocks.items program.now.equations.items) }
     requires none { table.old ≡ replicate program.now.size no_holding }
+    requires room { length preset.old.words.items + length program.now.equations.items
+        ≤ 4294967295 }
     ensures more { OnOk result (IsMore preset.old preset.new) }
     ensures planes { OnOk result (preset.new.planes.items ≡ preset.old.planes.items) }
+    ensures few { OnOk result (length preset.new.words.items
+        ≤ length preset.old.words.items + length program.now.equations.items) }
     ensures table { OnOk result (AreConstants (program_of program.now)
         (length preset.old.words.items) (length preset.new.words.items) preset.new.words.items
         table.new) }
@@ -48,8 +53,12 @@ pub(crate) fn constants(
     requires in_range { IsInRange program.now }
     requires in_order { Ready program.now.size []
         (flat_equations program.now.clocks.items program.now.equations.items) }
+    requires room { length preset.old.words.items + length program.now.equations.items
+        ≤ 4294967295 }
     ensures more { OnOk result (IsMore preset.old preset.new) }
     ensures planes { OnOk result (preset.new.planes.items ≡ preset.old.planes.items) }
+    ensures few { OnOk result (length preset.new.words.items
+        ≤ length preset.old.words.items + length program.now.equations.items) }
     ensures table { IfOk result (λ table. AreConstants (program_of program.now)
         (length preset.old.words.items) (length preset.new.words.items) preset.new.words.items
         table.items) }
@@ -70,6 +79,10 @@ fn fill_memories(
     requires in_order { Ready program.now.size []
         (flat_equations program.now.clocks.items program.now.equations.items) }
     requires none { table.old ≡ replicate program.now.size no_holding }
+    requires planes { length preset.old.planes.items + 3 * length program.now.equations.items
+        ≤ 4294967295 }
+    requires words { length preset.old.words.items + length program.now.equations.items
+        ≤ 4294967295 }
     requires marks { length watched.now ≡ program.now.size }
     requires named { (a : ℕ) → get_or watched.now a false ≡ true
         → In a (named_elements (program_of program.now)) }
@@ -95,6 +108,10 @@ pub(crate) fn memories(
     requires in_range { IsInRange program.now }
     requires in_order { Ready program.now.size []
         (flat_equations program.now.clocks.items program.now.equations.items) }
+    requires planes { length preset.old.planes.items + 3 * length program.now.equations.items
+        ≤ 4294967295 }
+    requires words { length preset.old.words.items + length program.now.equations.items
+        ≤ 4294967295 }
     ensures more { OnOk result (IsMore preset.old preset.new) }
     ensures table { IfOk result (λ table. AreMemories (program_of program.now)
         (length preset.old.planes.items) (length preset.old.words.items) preset.new table.items) }

@@ -38,8 +38,9 @@ impl Preset {
         Ok(Preset { planes, words })
     }
 
-    /// One more plane. More than numbers go is more than any memory holds.
+    /// One more plane.
     pub(crate) fn plane(&mut self, value: bool) -> Result<PlaneId, AllocError>
+        requires { length self.old.planes.items < 4294967295 }
         ensures more { OnOk result (IsMore self.old self.new) }
         ensures place { IfOk result (λ p. p.0 ≡ length self.old.planes.items) }
         ensures planes { OnOk result (length self.new.planes.items
@@ -49,15 +50,13 @@ impl Preset {
             → on (slice_index self.new.planes.items p.0) i ≡ value) }
     {
         let id = self.planes.len();
-        if id >= u32::MAX as usize {
-            return Err(AllocError);
-        }
         self.planes.push(if value { u64::MAX } else { 0 })?;
         Ok(PlaneId(id as u32))
     }
 
     /// One more word.
     pub(crate) fn word(&mut self, value: i32) -> Result<WordId, AllocError>
+        requires { length self.old.words.items < 4294967295 }
         ensures more { OnOk result (IsMore self.old self.new) }
         ensures place { IfOk result (λ w. w.0 ≡ length self.old.words.items) }
         ensures planes { self.new.planes.items ≡ self.old.planes.items }
@@ -67,9 +66,6 @@ impl Preset {
             slice_index_or self.new.words.items w.0 (pos 0) ≡ value) }
     {
         let id = self.words.len();
-        if id >= u32::MAX as usize {
-            return Err(AllocError);
-        }
         self.words.push(value)?;
         Ok(WordId(id as u32))
     }

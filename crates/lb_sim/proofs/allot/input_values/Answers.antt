@@ -1,11 +1,24 @@
-use Rattle.std.proofs.Common.{◌<◌, length, ap, ◌∙◌, rules}
+use Rattle.std.proofs.Common.{◌<◌, length, ap, ◌∙◌, arith, rules}
 use Rattle.std.proofs.lemmas.List.{get_or_default}
 use Rattle.lb_syntax.specs.declared.tree.Kind.TheVariants.{Int as Int_kind}
 use Rattle.lb_sim.specs.declared.preset.Preset.{Preset}
+use Rattle.lb_sim.proofs.FewPlaces.{first_numbers_few, first_truths_few}
 use Rattle.lb_sim.proofs.InputPlaces.{inputs_same, inputs_truth, inputs_number}
 use Rattle.lb_sim.proofs.allot.input_values.Goals.{in-Bool+in_ok-plane-in-Bool+in_ok-push-in-Bool}
 use Rattle.lb_sim.proofs.allot.input_values.Goals.{in-Int+in_ok-word-in-Int+in_ok-push-in-Int}
 use Rattle.lb_sim.proofs.allot.input_values.Goals as goal
+
+pub plane-requires : goal.plane-requires
+plane-requires c =
+    let lt : c.loop-j.j < length c.args.kinds.now = search rules in
+    let few = first_truths_few c.args.kinds.now c.loop-j.j in
+    omega (arith, c.loop-j.invariant.planes_are, few, lt, c.requires.few)
+
+pub word-requires : goal.word-requires
+word-requires c =
+    let lt : c.loop-j.j < length c.args.kinds.now = search rules in
+    let few = first_numbers_few c.args.kinds.now c.loop-j.j in
+    omega (arith, c.loop-j.invariant.words_are, few, lt, c.requires.few)
 
 pub loop-j-preserved : goal.loop-j-preserved
 loop-j-preserved c =

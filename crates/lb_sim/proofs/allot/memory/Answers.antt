@@ -1,7 +1,23 @@
-use Rattle.std.proofs.Common.{◌≡◌, true, ◌∙◌}
+use Rattle.std.proofs.Common.{◌≡◌, true, [], ◌∷◌, length, ◌∙◌, arith}
 use Rattle.lb_flat.specs.Values.{scalar_of}
+use Rattle.lb_sim.specs.Homes.{plane_in}
+use Rattle.lb_sim.proofs.FewPlaces.{row_short}
 use Rattle.lb_sim.proofs.FirstPlaces.{first_holding}
 use Rattle.lb_sim.proofs.allot.memory.Goals as goal
+
+pub plane-requires : goal.plane-requires
+plane-requires c =
+    let short = row_short (length c.args.preset.now.planes.items)
+    (length c.first_value.new.preset.planes.items) (plane_in c.in_ok-value.value ∷ [])
+    c.in_ok-value.ensures.value.planes in
+    omega (arith, short, c.requires.planes)
+
+pub bad_place-requires : goal.bad_place-requires
+bad_place-requires c =
+    let short = row_short (length c.args.preset.now.planes.items)
+    (length c.first_value.new.preset.planes.items) (plane_in c.in_ok-value.value ∷ [])
+    c.in_ok-value.ensures.value.planes in
+    omega (arith, short, c.in_ok-nil.ensures.planes, c.requires.planes)
 
 pub returns-clause-memory : goal.returns-clause-memory
 returns-clause-memory c =

@@ -3,7 +3,39 @@ use Rattle.lb_flat.specs.Programs.{program_of}
 use Rattle.lb_sim.specs.InputRows.{places_of, truth_columns, number_columns}
 use Rattle.lb_sim.specs.Presets.{AreConstants, AreMemories}
 use Rattle.lb_sim.proofs.Allotments.{constants_last}
+use Rattle.lb_sim.proofs.FewPlaces.{numbers_few, program_few, truths_few}
 use Rattle.lb_sim.proofs.allotted.allot_places.Goals as goal
+
+pub input_values-requires-clause-few : goal.input_values-requires-clause-few
+input_values-requires-clause-few c =
+    let same = ap length c.as_slice.ensures.value in
+    omega (arith, same, c.requires.bounded.inputs)
+
+pub constants-requires-clause-room : goal.constants-requires-clause-room
+constants-requires-clause-room c =
+    let p = c.args.program.now in
+    let same = ap (λ ks. length (number_columns 0 ks)) c.as_slice.ensures.value in
+    let few = numbers_few 0 p.inputs.items in
+    let all = program_few p c.requires.bounded c.requires.in_order in
+    omega (arith, c.in_ok-inputs.ensures.words, same, few, all, c.requires.bounded.inputs)
+
+pub memories-requires-clause-planes : goal.memories-requires-clause-planes
+memories-requires-clause-planes c =
+    let p = c.args.program.now in
+    let same = ap (λ ks. length (truth_columns 0 ks)) c.as_slice.ensures.value in
+    let kept = ap length c.in_ok-constants.ensures.planes in
+    let few = truths_few 0 p.inputs.items in
+    let all = program_few p c.requires.bounded c.requires.in_order in
+    omega (arith, c.in_ok-inputs.ensures.planes, kept, same, few, all, c.requires.bounded.inputs)
+
+pub memories-requires-clause-words : goal.memories-requires-clause-words
+memories-requires-clause-words c =
+    let p = c.args.program.now in
+    let same = ap (λ ks. length (number_columns 0 ks)) c.as_slice.ensures.value in
+    let more = c.in_ok-constants.ensures.few in
+    let few = numbers_few 0 p.inputs.items in
+    let all = program_few p c.requires.bounded c.requires.in_order in
+    omega (arith, c.in_ok-inputs.ensures.words, more, same, few, all, c.requires.bounded.inputs)
 
 pub returns : goal.returns
 returns c =

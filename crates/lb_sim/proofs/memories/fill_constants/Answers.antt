@@ -10,6 +10,13 @@ loop-i-init c =
     constants_first (program_of c.args.program.now) c.args.preset.now c.args.table.now
     c.requires.in_order c.requires.none
 
+pub constant-requires : goal.constant-requires
+constant-requires c =
+    let l = c.loop-i in
+    let lt : l.i < length c.args.program.now.equations.items =
+    omega (arith, c.loop-i-test.true, l.auto.i-end, c.len-i-end.ensures) in
+    omega (arith, l.invariant.few, lt, c.requires.room)
+
 pub loop-i-preserved : goal.loop-i-preserved
 loop-i-preserved c =
     let p = c.args.program.now in
@@ -24,13 +31,21 @@ loop-i-preserved c =
     c.index-kind.result.now
     (kind_there p c.requires.in_range l.i x c.index-kind.result.now lt (sym c.index.ensures)
     c.index-kind.ensures)
-    c.constant.new.preset c.in_ok-held.held made.more made.planes made.fixed made.constant
+    c.constant.new.preset c.in_ok-held.held made.more made.planes made.few made.fixed
+    made.constant
 
 pub returns-clause-more : goal.returns-clause-more
 returns-clause-more c = c.loop-i.invariant.more
 
 pub returns-clause-planes : goal.returns-clause-planes
 returns-clause-planes c = c.loop-i.invariant.planes
+
+pub returns-clause-few : goal.returns-clause-few
+returns-clause-few c =
+    let l = c.loop-i in
+    let le : l.i ≤ length c.args.program.now.equations.items =
+    omega (arith, l.auto.i-end, c.len-i-end.ensures) in
+    omega (arith, l.invariant.few, le)
 
 pub returns-clause-table : goal.returns-clause-table
 returns-clause-table c =

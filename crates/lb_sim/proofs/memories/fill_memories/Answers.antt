@@ -1,6 +1,7 @@
 use Rattle.std.proofs.Common.{◌≡◌, ℕ, ◌<◌, ◌≤◌, true, false, length, get_or, sym, arith}
 use Rattle.lb_flat.specs.Programs.{program_of}
 use Rattle.lb_flat.specs.Values.{equation_of}
+use Rattle.lb_sim.proofs.FewPlaces.{planes_few, words_few}
 use Rattle.lb_sim.proofs.EquationsAt.{equation_there, equation_within, kind_there, all_within}
 use Rattle.lb_sim.proofs.Allotments.{memories_first, memories_more, memories_all}
 use Rattle.lb_sim.proofs.memories.fill_memories.Goals as goal
@@ -9,6 +10,26 @@ pub loop-i-init : goal.loop-i-init
 loop-i-init c =
     memories_first (program_of c.args.program.now) c.args.preset.now c.args.table.now
     c.requires.in_order c.requires.none
+
+pub first_memory-requires-clause-planes : goal.first_memory-requires-clause-planes
+first_memory-requires-clause-planes c =
+    let p = c.args.program.now in
+    let l = c.loop-i in
+    let lt : l.i < length p.equations.items =
+    omega (arith, c.loop-i-test.true, l.auto.i-end, c.len-i-end.ensures) in
+    let few = planes_few l.table (program_of p).equations l.i
+    (length c.args.preset.now.planes.items) (length l.preset.planes.items) l.invariant.planes in
+    omega (arith, few, lt, c.requires.planes)
+
+pub first_memory-requires-clause-words : goal.first_memory-requires-clause-words
+first_memory-requires-clause-words c =
+    let p = c.args.program.now in
+    let l = c.loop-i in
+    let lt : l.i < length p.equations.items =
+    omega (arith, c.loop-i-test.true, l.auto.i-end, c.len-i-end.ensures) in
+    let few = words_few l.table (program_of p).equations l.i
+    (length c.args.preset.now.words.items) (length l.preset.words.items) l.invariant.words in
+    omega (arith, few, lt, c.requires.words)
 
 pub loop-i-preserved : goal.loop-i-preserved
 loop-i-preserved c =
