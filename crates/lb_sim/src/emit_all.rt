@@ -12,6 +12,7 @@ ghost use Rattle.lb_machine.specs.Listed.{listed};
 ghost use Rattle.lb_machine.specs.Meaning.{Lane, HasRun};
 ghost use Rattle.lb_sim.specs.Allotted.{IsAllotted, HasAllConstants};
 ghost use Rattle.lb_sim.specs.Compiled.{given_at};
+ghost use Rattle.lb_sim.specs.Depths.{AreDepths};
 ghost use Rattle.lb_sim.specs.Holdings.{IsPlaceIn};
 ghost use Rattle.lb_sim.specs.Showing.{kind_of};
 ghost use Rattle.lb_sim.specs.States.{no_place, holding_of, IsShownBy};
@@ -33,6 +34,7 @@ fn emit_each(
     kept: &[Holding],
     places: &mut [Place],
     known: &mut [Option<PlaneId>],
+    depths: &mut [usize],
 ) -> Result<(), AllocError>
     requires in_range { IsInRange program.now }
     requires in_order { is_in_order (replicate program.now.size false)
@@ -41,6 +43,7 @@ fn emit_each(
         kept.now }
     requires places { places.old ≡ replicate program.now.size no_place }
     requires known { known.old ≡ replicate (length program.now.clocks.items) None }
+    requires depths { AreDepths program.now.clocks.items depths.old }
     ensures grown { OnOk result (IsGrown code.old code.new) }
     ensures as_long { length places.new ≡ length places.old }
     ensures within { OnOk result (All (IsPlaceIn code.new) places.new) }
@@ -57,7 +60,7 @@ fn emit_each(
     for i in 0..program.equations.len() {
         let q = program.equations[i];
         let e = q.element.0 as usize;
-        let present = known_plane(code, program, places, known, q.clock)?;
+        let present = known_plane(code, program, places, known, depths, q.clock)?;
         let kind = program.kinds[e];
         let constant = constants[e];
         let memory = kept[e];
@@ -68,6 +71,7 @@ fn emit_each(
 }
 
 /// The code of all equations, in their order, and the places of their elements.
+#[tactic(auto, using(crate::proofs::KnownClocks::deep_at_first))]
 pub(crate) fn emit_all(
     alloc: Global,
     code: &mut Code,
@@ -103,7 +107,9 @@ pub(crate) fn emit_all(
         present: NOWHERE,
     };
     let mut places = vec![in alloc; nowhere; program.size as usize]?;
-    let mut known: Vec<Option<PlaneId>> = vec![in alloc; None; program.clocks.len()]?;
+    let count = program.clocks.len();
+    let mut known: Vec<Option<PlaneId>> = vec![in alloc; None; count]?;
+    let mut depths = vec![in alloc; count; count]?;
     emit_each(
         code,
         program,
@@ -112,6 +118,7 @@ pub(crate) fn emit_all(
         kept,
         places.as_mut_slice(),
         known.as_mut_slice(),
+        depths.as_mut_slice(),
     )?;
     Ok(places)
 }

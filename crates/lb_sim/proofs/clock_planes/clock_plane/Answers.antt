@@ -1,6 +1,8 @@
-use Rattle.std.proofs.Common.{refl, arith}
+use Rattle.std.proofs.Common.{◌+◌, ◌≤◌, Some, length, refl, sym, subst, arith}
 use Rattle.std.proofs.lemmas.List.{get_or_default}
-use Rattle.lb_sim.proofs.ClockPlanes.{at_first, ends_base, ends_past, goes_on}
+use Rattle.lb_sim.specs.Depths.{IsDepth}
+use Rattle.lb_sim.proofs.ClockPlanes.{at_first, deep_base, deep_known, deep_past, ends_base}
+use Rattle.lb_sim.proofs.ClockPlanes.{ends_known, ends_past, goes_on}
 use Rattle.lb_sim.proofs.Growth.{place_grown}
 use Rattle.lb_sim.proofs.clock_planes.clock_plane.Goals as goal
 
@@ -42,6 +44,38 @@ loop-depth-preserved c =
 
 pub returns-clause-grown : goal.returns-clause-grown
 returns-clause-grown c = c.loop-depth.invariant.grown
+
+pub returns-in_default-clause-depth : goal.returns-in_default-clause-depth
+returns-in_default-clause-depth c =
+    deep_base _ _ _ _ _ _ _ _ c.loop-depth.invariant c.loop-depth-test.true c.in_default.is
+
+pub returns-in-Some-known_within-clause-plane : goal.returns-in-Some-known_within-clause-plane
+returns-in-Some-known_within-clause-plane c =
+    let h = c.loop-depth.invariant in
+    let id = c.in-Some.id in
+    let up = c.in-Some-known_within.up in
+    let found = c.in-Some-known_within.ensures in
+    let le : c.loop-depth.depth + c.in-Some-known_within.up.depth ≤ length c.args.clocks.now =
+    omega (arith, found.2, c.loop-depth-test.true) in
+    let deep = subst (IsDepth c.args.clocks.now (Some id)) (sym found.1)
+    (c.requires.depths.each id (h.in_table id c.in-Some.is)) in
+    ends_known _ _ _ _ _ _ _ _ h id c.in-Some.is up.depth deep le up.plane _ _
+    c.in_ok-whole.ensures.grown (c.requires.known id up.plane found.0) c.in_ok-whole.ensures.plane
+
+pub returns-in-Some-known_within-clause-depth : goal.returns-in-Some-known_within-clause-depth
+returns-in-Some-known_within-clause-depth c =
+    let h = c.loop-depth.invariant in
+    let id = c.in-Some.id in
+    let up = c.in-Some-known_within.up in
+    let found = c.in-Some-known_within.ensures in
+    let le : c.loop-depth.depth + c.in-Some-known_within.up.depth ≤ length c.args.clocks.now =
+    omega (arith, found.2, c.loop-depth-test.true) in
+    let deep = subst (IsDepth c.args.clocks.now (Some id)) (sym found.1)
+    (c.requires.depths.each id (h.in_table id c.in-Some.is)) in
+    deep_known _ _ _ _ _ _ _ _ h id c.in-Some.is up.depth deep le
+
+pub returns-clause-depth : goal.returns-clause-depth
+returns-clause-depth c = deep_past c.args.clocks.now c.args.clock
 
 pub returns-clause-plane : goal.returns-clause-plane
 returns-clause-plane c =

@@ -5,11 +5,13 @@ use Rattle.lb_sim.proofs.Placing.{shown_at_end}
 use Rattle.lb_sim.proofs.emit_all.emit_each.Goals as goal
 
 pub loop-i-init : goal.loop-i-init
-loop-i-init c =
-    placing_first c.args.program.now c.args.code.now c.args.inputs.now c.args.constants.now
-    c.args.kept.now no_place (length c.args.program.now.clocks.items) c.args.places.now
-    c.args.known.now (no_place_in c.args.code.now) refl c.requires.places c.requires.known
-    c.requires.in_order
+loop-i-init c = (
+  placing_first c.args.program.now c.args.code.now c.args.inputs.now c.args.constants.now
+      c.args.kept.now no_place (length c.args.program.now.clocks.items) c.args.places.now
+      c.args.known.now (no_place_in c.args.code.now) refl c.requires.places c.requires.known
+      c.requires.in_order,
+  c.requires.depths,
+)
 
 pub loop-i-preserved : goal.loop-i-preserved
 loop-i-preserved c =
@@ -18,13 +20,14 @@ loop-i-preserved c =
     let x = c.index-q.result.now in
     let lt : l.i < length items =
     omega (arith, c.loop-i-test.true, l.auto.i-end, c.len-i-end.ensures) in
-    placing_next c.args.program.now c.args.code.now l.code c.args.inputs.now
-    c.args.constants.now c.args.kept.now l.places l.known l.i l.invariant c.requires.in_range x x
+    let next = placing_next c.args.program.now c.args.code.now l.code c.args.inputs.now
+    c.args.constants.now c.args.kept.now l.places l.known l.i l.invariant.0 c.requires.in_range x x
     (sym c.index-q.ensures) lt c.known_plane.new.code c.emit.new.code c.in_ok-present.present
     c.known_plane.new.known _ _ c.in_ok-holding.holding c.index-kind.result.now
     c.in_ok-present.ensures.grown c.in_ok-holding.ensures.grown c.in_ok-present.ensures.known
     c.in_ok-present.ensures.as_many c.index-kind.ensures c.in_ok-holding.ensures.within
-    c.in_ok-holding.ensures.kind c.in_ok-holding.ensures.emitted c.requires.allotted
+    c.in_ok-holding.ensures.kind c.in_ok-holding.ensures.emitted c.requires.allotted in
+    (next, c.in_ok-present.ensures.depths)
 
 pub returns-clause-kinds : goal.returns-clause-kinds
 returns-clause-kinds c =
@@ -33,7 +36,7 @@ returns-clause-kinds c =
     let le : length items ≤ l.i =
     omega (arith, c.loop-i-test.false, l.auto.i-end, c.len-i-end.ensures) in
     kinds_at_end c.args.program.now c.args.code.now l.code c.args.inputs.now
-    c.args.constants.now c.args.kept.now l.places l.known l.i l.invariant c.requires.in_range le
+    c.args.constants.now c.args.kept.now l.places l.known l.i l.invariant.0 c.requires.in_range le
 
 pub returns-clause-shown : goal.returns-clause-shown
 returns-clause-shown c =
@@ -42,4 +45,4 @@ returns-clause-shown c =
     let le : length items ≤ l.i =
     omega (arith, c.loop-i-test.false, l.auto.i-end, c.len-i-end.ensures) in
     shown_at_end c.args.program.now c.args.code.now l.code c.args.inputs.now
-    c.args.constants.now c.args.kept.now l.places l.known l.i l.invariant c.requires.in_range le
+    c.args.constants.now c.args.kept.now l.places l.known l.i l.invariant.0 c.requires.in_range le
