@@ -7,9 +7,10 @@ use Rattle.std.proofs.Common.{nat_eq, zero-add}
 use Rattle.std.specs.List.{range_with_len}
 use Rattle.std.proofs.lemmas.List.FromFn.{get_or-map-range_with_len}
 use Rattle.std.proofs.lemmas.Simd.{get_or-zip2, get_or-replicate, length-replicate, length-zip2}
+use Rattle.std.proofs.lemmas.Simd.{get_or-sel_l}
 use Rattle.std.proofs.lemmas.Simd.{Each1-get_or, tops_compared, mask_l-lt, mask_l-mod}
 use lib.Bits.{bit_and}
-use lib.Lanes.{zip2, Each1, mask_l, top}
+use lib.Lanes.{zip2, Each1, mask_l, sel_l, top}
 use Rattle.lb_lanes.specs.Planes.{on}
 use Rattle.lb_lanes.proofs.OnPlanes.{on-mod, on-mod_at, on-mask_l, lane_mask-on}
 
@@ -58,6 +59,24 @@ pub word_bitmask_bound : (t : ℕ → ℕ → Bool) (xs ys : List ℕ) → lengt
 word_bitmask_bound t xs ys p q =
     subst (λ l. mask_l l % 18446744073709551616 < 65536) (sym (tops_compared w32 t xs ys))
     (mask_bound (zip2 t xs ys) (length-zip2 t xs ys (omega (arith, p, q)) ∙ p))
+
+-- a choice by a test of two vectors
+pub word_chosen :
+    (t : ℕ → ℕ → Bool) (xs ys us vs : List ℕ) (i : ℕ) → length xs ≡ 16 → length ys ≡ 16
+    → length us ≡ 16 → length vs ≡ 16 → i < 16
+    → get_or
+    (sel_l (map (top 31) (zip2 (λ a b. cond (t a b) 4294967295 0) xs ys)) us vs) i 0
+    ≡ cond (on (word_bitmask t xs ys) i) (get_or us i 0) (get_or vs i 0)
+word_chosen t xs ys us vs i p q r u h =
+    let ms : List Bool = map (top 31) (zip2 (λ a b. cond (t a b) 4294967295 0) xs ys) in
+    let same : ms ≡ zip2 t xs ys = tops_compared w32 t xs ys in
+    let long : length ms ≡ 16 =
+    ap length same ∙ length-zip2 t xs ys (omega (arith, p, q)) ∙ p in
+    get_or-sel_l ms us vs i 0 (omega (arith, long, h)) (omega (arith, r, h)) (omega (arith, u, h))
+    ∙ ap (λ b. cond b (get_or us i 0) (get_or vs i 0))
+    (ap (λ l. get_or l i false) same
+    ∙ get_or-zip2 t xs ys i 0 0 false (omega (arith, p, h)) (omega (arith, q, h))
+    ∙ sym (on-word_bitmask t xs ys i p q h))
 
 -- the words after half of all words was added
 abbrev pub raised_word : ℕ → ℕ

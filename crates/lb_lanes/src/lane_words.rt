@@ -15,7 +15,7 @@ use crate::planes::Plane;
 use crate::word_divisions::run_division;
 use crate::word_kernels::{Difference, Sum, blend, run};
 use crate::word_products::run_product;
-use crate::word_tests::{AtMost, Below, Equal, tested};
+use crate::word_tests::{AtMost, Below, Equal, chosen, tested};
 use std::marker::Model;
 
 /// 64 integers in the range of `int`, a lane each.
@@ -68,6 +68,7 @@ impl LaneWord {
     }
 
     /// The lanes that are equal in both.
+    #[inline(never)]
     pub fn eq(&self, other: &LaneWord) -> Plane
         ensures { IsPlaneOf (λ i. int_eq (lane_of self.now i) (lane_of other.now i)) result.0 }
     {
@@ -75,6 +76,7 @@ impl LaneWord {
     }
 
     /// The lanes that are below those of `other`.
+    #[inline(never)]
     pub fn lt(&self, other: &LaneWord) -> Plane
         ensures { IsPlaneOf (λ i. int_lt (lane_of self.now i) (lane_of other.now i)) result.0 }
     {
@@ -82,6 +84,7 @@ impl LaneWord {
     }
 
     /// The lanes that are at most those of `other`.
+    #[inline(never)]
     pub fn le(&self, other: &LaneWord) -> Plane
         ensures { IsPlaneOf (λ i. int_le (lane_of self.now i) (lane_of other.now i)) result.0 }
     {
@@ -100,6 +103,36 @@ impl LaneWord {
         ensures { IsBlend mask.0 a.now b.now self.new }
     {
         blend(mask.0, &a.lanes, &b.lanes, &mut self.lanes);
+    }
+
+    /// Takes over the lanes of `a` where those of `x` and `y` are equal, and those of `b` where they
+    /// are not; gives the lanes that are equal.
+    #[inline(never)]
+    pub fn set_where_eq(&mut self, x: &LaneWord, y: &LaneWord, a: &LaneWord, b: &LaneWord) -> Plane
+        ensures plane { IsPlaneOf (λ i. int_eq (lane_of x.now i) (lane_of y.now i)) result.0 }
+        ensures lanes { IsBlend result.0 a.now b.now self.new }
+    {
+        Plane(chosen::<Equal>(&x.lanes, &y.lanes, &a.lanes, &b.lanes, &mut self.lanes))
+    }
+
+    /// Takes over the lanes of `a` where those of `x` are below those of `y`, and those of `b` where
+    /// they are not; gives the lanes that are below.
+    #[inline(never)]
+    pub fn set_where_lt(&mut self, x: &LaneWord, y: &LaneWord, a: &LaneWord, b: &LaneWord) -> Plane
+        ensures plane { IsPlaneOf (λ i. int_lt (lane_of x.now i) (lane_of y.now i)) result.0 }
+        ensures lanes { IsBlend result.0 a.now b.now self.new }
+    {
+        Plane(chosen::<Below>(&x.lanes, &y.lanes, &a.lanes, &b.lanes, &mut self.lanes))
+    }
+
+    /// Takes over the lanes of `a` where those of `x` are at most those of `y`, and those of `b` where
+    /// they are not; gives the lanes that are at most.
+    #[inline(never)]
+    pub fn set_where_le(&mut self, x: &LaneWord, y: &LaneWord, a: &LaneWord, b: &LaneWord) -> Plane
+        ensures plane { IsPlaneOf (λ i. int_le (lane_of x.now i) (lane_of y.now i)) result.0 }
+        ensures lanes { IsBlend result.0 a.now b.now self.new }
+    {
+        Plane(chosen::<AtMost>(&x.lanes, &y.lanes, &a.lanes, &b.lanes, &mut self.lanes))
     }
 
     /// Puts the lanes after an operator into `out`, and gives the faults: where the operator has no

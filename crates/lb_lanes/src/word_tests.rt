@@ -8,11 +8,12 @@
 
 ghost use Rattle.std.specs.Prelude.{◌≡◌, ℕ, ◌<◌, Bool, ℤ, int_lt, int_le};
 ghost use Rattle.std.specs.Ordering.{int_eq};
-ghost use Rattle.lb_lanes.specs.Kernels.{bits_lane};
+ghost use Rattle.std.specs.Prelude.{slice_index, if◌then◌else◌};
+ghost use Rattle.lb_lanes.specs.Kernels.{IsBlendBelow, bits_lane};
 ghost use Rattle.lb_lanes.specs.Operators.{can_divide};
 ghost use Rattle.lb_lanes.specs.Planes.{IsPlaneOf, on};
 
-use crate::word_chunks::load16;
+use crate::word_chunks::{load16, store16};
 use std::simd::prelude::*;
 
 /// A test of two integers.
@@ -61,6 +62,40 @@ impl WordTest for AtMost {
     }
 }
 
+/// A test by which one of two integers is chosen.
+pub(crate) trait WordChoice: WordTest {
+    // The lanes of `a` where those of `x` and `y` pass, else those of `b`; and the lanes that pass.
+    fn chosen16(x: u32x16, y: u32x16, a: u32x16, b: u32x16) -> (u32x16, u64)
+        ensures value { (i : ℕ) → i < 16 → slice_index result.0 i
+            ≡ (if on result.1 i then slice_index a i else slice_index b i) }
+        ensures lanes { (i : ℕ) → i < 16
+            → on result.1 i ≡ Self.passes (bits_lane x i) (bits_lane y i) }
+        ensures within { result.1 < 65536 };
+}
+
+impl WordChoice for Equal {
+    fn chosen16(x: u32x16, y: u32x16, a: u32x16, b: u32x16) -> (u32x16, u64) {
+        let passed = x.simd_eq(y);
+        (passed.select(a, b), passed.to_bitmask())
+    }
+}
+
+impl WordChoice for Below {
+    fn chosen16(x: u32x16, y: u32x16, a: u32x16, b: u32x16) -> (u32x16, u64) {
+        let half = u32x16::splat(HALF);
+        let passed = (x + half).simd_lt(y + half);
+        (passed.select(a, b), passed.to_bitmask())
+    }
+}
+
+impl WordChoice for AtMost {
+    fn chosen16(x: u32x16, y: u32x16, a: u32x16, b: u32x16) -> (u32x16, u64) {
+        let half = u32x16::splat(HALF);
+        let passed = (x + half).simd_le(y + half);
+        (passed.select(a, b), passed.to_bitmask())
+    }
+}
+
 // The words of the least `int` and of -1.
 const LEAST: u32 = 2147483648;
 
@@ -88,6 +123,33 @@ pub(crate) fn tested<K: WordTest>(a: &[u32; 64], b: &[u32; 64]) -> u64
     for c in 0..4usize {
         let at = 16 * c;
         let passed = K::test16(load16(a, at), load16(b, at));
+        plane |= passed << (at as u64);
+    }
+    plane
+}
+
+// Puts the lanes of `a` where those of `x` and `y` pass, and those of `b` where they do not, and gives
+// the lanes that pass.
+pub(crate) fn chosen<K: WordChoice>(
+    x: &[u32; 64],
+    y: &[u32; 64],
+    a: &[u32; 64],
+    b: &[u32; 64],
+    out: &mut [u32; 64],
+) -> u64
+    ensures plane { IsPlaneOf (λ i. K.passes (bits_lane x.now i) (bits_lane y.now i)) result }
+    ensures lanes { IsBlendBelow 64 result (bits_lane a.now) (bits_lane b.now)
+        (bits_lane out.new) }
+{
+    let mut plane = 0u64;
+    for c in 0..4usize {
+        let at = 16 * c;
+        let left = load16(x, at);
+        let right = load16(y, at);
+        let first = load16(a, at);
+        let second = load16(b, at);
+        let (value, passed) = K::chosen16(left, right, first, second);
+        store16(out, at, value);
         plane |= passed << (at as u64);
     }
     plane
