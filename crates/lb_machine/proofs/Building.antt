@@ -1,9 +1,12 @@
 -- Code that has one more instruction.
+use Rattle.std.proofs.Common.{arith, ◌+◌}
 use Rattle.std.proofs.Common.{◌≡◌, ℕ, ◌<◌, ◌≤◌, List, [], ◌∷◌, ◌++◌, sym, ap, ◌∙◌}
 use Rattle.std.proofs.Common.{subst, cond, refl, Bool, true, false, ℤ}
 use Rattle.std.specs.List.{AllByRecursion}
 use Rattle.lb_machine.specs.declared.code.Code.{Code}
+use Rattle.lb_machine.specs.declared.instruction.Comparison.{Comparison}
 use Rattle.lb_machine.specs.declared.instruction.Instruction.{Instruction}
+use Rattle.lb_machine.specs.declared.instruction.Instruction.TheVariants.{Compare, Choose}
 use Rattle.lb_machine.specs.declared.instruction.PlaneId.{PlaneId}
 use Rattle.lb_machine.specs.declared.instruction.WordId.{WordId}
 use Rattle.lb_machine.specs.Correct.{IsGrown, IsPlaneFor, IsWordFor}
@@ -87,6 +90,46 @@ word_by before after i value w e lt means = record {
   means = λ s h.
       means s (run_last (listed before.instructions) (listed after.instructions) i e s h);
 }
+
+-- ## A test that chooses, too
+
+module _ (test : Comparison) (x y a b out : WordId) (m : PlaneId) where
+  -- it is straight still
+  pub chosen_straight :
+      (p w : ℕ) (is : List Instruction) (P W W' : ℕ) →
+      IsStraight p w (is ++ Compare test x y m ∷ []) P W → a.0 < W → b.0 < W → out.0 ≡ W →
+      W + 1 ≡ W' → IsStraight p w (is ++ Choose test x y a b m out ∷ []) P W'
+  chosen_straight p w [] P W W' h la lb lo e = (
+    (
+      h.0.0,
+      h.0.1,
+      omega (arith, la, h.1.1),
+      omega (arith, lb, h.1.1),
+      h.0.2,
+      omega (arith, lo, h.1.1),
+    ),
+    (h.1.0, omega (arith, e, h.1.1)),
+  )
+  chosen_straight p w (j ∷ is) P W W' h la lb lo e =
+      (h.0, chosen_straight (planes_after p j) (words_after w j) is P W W' h.1 la lb lo e)
+
+  tested_before :
+      (s : Lane) (is : List Instruction) →
+      AllByRecursion (IsDone s) (is ++ Choose test x y a b m out ∷ []) →
+      AllByRecursion (IsDone s) (is ++ Compare test x y m ∷ [])
+  tested_before s [] d = (d.0.0, tt)
+  tested_before s (j ∷ is) d = (d.0, tested_before s is d.1)
+
+  -- where it has been run, the test alone has been run
+  pub chosen_run :
+      (is js ks : List Instruction) → js ≡ is ++ Compare test x y m ∷ [] →
+      ks ≡ is ++ Choose test x y a b m out ∷ [] → (s : Lane) → HasRun ks s → HasRun js s
+  chosen_run is js ks ej ek s h = record {
+    constants = h.constants;
+    done =
+        subst (AllByRecursion (IsDone s)) (sym ej)
+        (tested_before s is (subst (AllByRecursion (IsDone s)) ek h.done));
+  }
 
 -- ## Copies
 

@@ -1,8 +1,8 @@
 -- Listed instructions, with one more behind them.
 use Rattle.std.proofs.Common.{◌≡◌, ℕ, ◌+◌, List, [], ◌∷◌, ◌++◌, length, ap, ◌∙◌, sym, arith}
-use Rattle.std.proofs.Common.{refl, ◌⊎◌, inl, inr}
+use Rattle.std.proofs.Common.{refl, ◌⊎◌, inl, inr, zero, suc, get_or, set, ap₂, length-set}
 use Rattle.std.proofs.lemmas.List.{append_assoc}
-use Rattle.lb_machine.specs.Listed.{select_at, selects_from, unpacked}
+use Rattle.lb_machine.specs.Listed.{before_last, select_at, selects_from, unpacked}
 use Rattle.lb_machine.specs.declared.instructions.Block.{Block}
 use Rattle.lb_machine.specs.declared.instructions.Choice.{Choice}
 
@@ -57,3 +57,44 @@ choice_pushed blocks first old choices new out c is e from =
     by [] from = none_listed blocks first old
     by (x ∷ cs) (inl none) = absurd (omega (arith, none))
     by (x ∷ cs) (inr same) = ap (λ n. unpacked blocks n (x ∷ cs)) same
+
+-- ## The last instruction
+
+-- all before the last of blocks, and that one
+pub last_listed :
+    (blocks : List Block) (d : Block) (first k : ℕ) → length blocks ≡ k + 1 →
+    unpacked blocks first [] ≡ before_last blocks ++ (get_or blocks k d).last ∷ []
+last_listed [] d first k e = absurd (omega (arith, e))
+last_listed (b ∷ []) d first zero e = refl
+last_listed (b ∷ []) d first (suc k) e = absurd (omega (arith, e))
+last_listed (b ∷ (c ∷ blocks)) d first zero e = absurd (omega (arith, e))
+last_listed (b ∷ (c ∷ blocks)) d first (suc k) e =
+    ap (λ is. selects_from b.first b.choices.items ++ b.last ∷ is)
+    (last_listed (c ∷ blocks) d first k (omega (arith, e)))
+    ∙ sym (append_assoc (selects_from b.first b.choices.items)
+    (b.last ∷ before_last (c ∷ blocks)) ((get_or (c ∷ blocks) k d).last ∷ []))
+
+-- another in its place changes nothing before it
+pub last_set :
+    (blocks : List Block) (d new : Block) (k : ℕ) → length blocks ≡ k + 1 →
+    new.first ≡ (get_or blocks k d).first →
+    new.choices.items ≡ (get_or blocks k d).choices.items →
+    before_last (set blocks k new) ≡ before_last blocks
+last_set [] d new k e f g = absurd (omega (arith, e))
+last_set (b ∷ []) d new zero e f g = ap₂ selects_from f g
+last_set (b ∷ []) d new (suc k) e f g = absurd (omega (arith, e))
+last_set (b ∷ (c ∷ blocks)) d new zero e f g = absurd (omega (arith, e))
+last_set (b ∷ (c ∷ blocks)) d new (suc k) e f g =
+    more (set (c ∷ blocks) k new) (length-set (c ∷ blocks) k new)
+    ∙ ap (λ is. selects_from b.first b.choices.items ++ b.last ∷ is)
+    (last_set (c ∷ blocks) d new k (omega (arith, e)) f g)
+  where
+    more :
+        (bs : List Block) → length bs ≡ length (c ∷ blocks) →
+        before_last (b ∷ bs) ≡ selects_from b.first b.choices.items ++ b.last ∷ before_last bs
+    more [] l = absurd (omega (arith, l))
+    more (x ∷ bs) l = refl
+
+pub no_choices : (choices : List Choice) → length choices ≡ 0 → choices ≡ []
+no_choices [] e = refl
+no_choices (c ∷ choices) e = absurd (omega (arith, e))

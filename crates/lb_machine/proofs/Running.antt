@@ -11,7 +11,7 @@ use Rattle.lb_lanes.specs.Operators.{result_of}
 use Rattle.lb_lanes.specs.Planes.{on}
 use Rattle.lb_machine.specs.declared.instruction.Instruction.{Instruction}
 use Rattle.lb_machine.specs.declared.instruction.Instruction.TheVariants.{Select, Compare}
-use Rattle.lb_machine.specs.declared.instruction.Instruction.TheVariants.{Operate, Blend}
+use Rattle.lb_machine.specs.declared.instruction.Instruction.TheVariants.{Operate, Blend, Choose}
 use Rattle.lb_machine.specs.declared.instructions.Choice.{Choice}
 use Rattle.lb_machine.specs.Listed.{select_at, selects_from}
 use Rattle.lb_machine.specs.Meaning.{Lane, lane_at, compared, IsDone}
@@ -27,32 +27,38 @@ straight_planes p w (Select m a b out ∷ is) P W h =
     let le = straight_planes (suc p) w is P W h.1 in omega (arith, le)
 straight_planes p w (Compare c a b out ∷ is) P W h =
     let le = straight_planes (suc p) w is P W h.1 in omega (arith, le)
-straight_planes p w (Operate op a b idle bad out faults ∷ is) P W h =
+straight_planes p w (Operate op a b idle left right out faults ∷ is) P W h =
     let le = straight_planes (suc p) (suc w) is P W h.1 in omega (arith, le)
 straight_planes p w (Blend m a b out ∷ is) P W h = straight_planes p (suc w) is P W h.1
+straight_planes p w (Choose c x y a b passed out ∷ is) P W h =
+    let le = straight_planes (suc p) (suc w) is P W h.1 in omega (arith, le)
 
 straight_words :
     (p w : ℕ) (is : List Instruction) (P W : ℕ) → IsStraight p w is P W → w ≤ W
 straight_words p w [] P W h = omega (arith, h.1)
 straight_words p w (Select m a b out ∷ is) P W h = straight_words (suc p) w is P W h.1
 straight_words p w (Compare c a b out ∷ is) P W h = straight_words (suc p) w is P W h.1
-straight_words p w (Operate op a b idle bad out faults ∷ is) P W h =
+straight_words p w (Operate op a b idle left right out faults ∷ is) P W h =
     let le = straight_words (suc p) (suc w) is P W h.1 in omega (arith, le)
 straight_words p w (Blend m a b out ∷ is) P W h =
     let le = straight_words p (suc w) is P W h.1 in omega (arith, le)
+straight_words p w (Choose c x y a b passed out ∷ is) P W h =
+    let le = straight_words (suc p) (suc w) is P W h.1 in omega (arith, le)
 
 -- there are never fewer places
 more_planes_after : (p : ℕ) (i : Instruction) → p ≤ planes_after p i
 more_planes_after p (Select m a b out) = omega arith
 more_planes_after p (Compare c a b out) = omega arith
-more_planes_after p (Operate op a b idle bad out faults) = omega arith
+more_planes_after p (Operate op a b idle left right out faults) = omega arith
 more_planes_after p (Blend m a b out) = omega arith
+more_planes_after p (Choose c x y a b passed out) = omega arith
 
 more_words_after : (w : ℕ) (i : Instruction) → w ≤ words_after w i
 more_words_after w (Select m a b out) = omega arith
 more_words_after w (Compare c a b out) = omega arith
-more_words_after w (Operate op a b idle bad out faults) = omega arith
+more_words_after w (Operate op a b idle left right out faults) = omega arith
 more_words_after w (Blend m a b out) = omega arith
+more_words_after w (Choose c x y a b passed out) = omega arith
 
 -- an instruction that can be done next fits
 next_fits :
@@ -66,13 +72,14 @@ next_fits p w P W (Select m a b out) n hp hw = (
 )
 next_fits p w P W (Compare c a b out) n hp hw =
     (omega (arith, n.0, hw), omega (arith, n.1, hw), omega (arith, n.2, hp))
-next_fits p w P W (Operate op a b idle bad out faults) n hp hw = (
-  omega (arith, n.0, n.4),
-  omega (arith, n.1, n.4),
-  omega (arith, n.2, n.5),
-  omega (arith, n.3, n.5),
-  omega (arith, n.4, hw),
-  omega (arith, n.5, hp),
+next_fits p w P W (Operate op a b idle left right out faults) n hp hw = (
+  omega (arith, n.0, n.5),
+  omega (arith, n.1, n.5),
+  omega (arith, n.2, n.6),
+  omega (arith, n.3, n.6),
+  omega (arith, n.4, n.6),
+  omega (arith, n.5, hw),
+  omega (arith, n.6, hp),
 )
 next_fits p w P W (Blend m a b out) n hp hw = (
   omega (arith, n.0, hp),
@@ -80,19 +87,29 @@ next_fits p w P W (Blend m a b out) n hp hw = (
   omega (arith, n.2, n.3),
   omega (arith, n.3, hw),
 )
+next_fits p w P W (Choose c x y a b passed out) n hp hw = (
+  omega (arith, n.0, n.5),
+  omega (arith, n.1, n.5),
+  omega (arith, n.2, n.5),
+  omega (arith, n.3, n.5),
+  omega (arith, n.4, hp),
+  omega (arith, n.5, hw),
+)
 
 -- it leaves the planes and the words that are there
 plane_kept : (p w : ℕ) (i : Instruction) (k : ℕ) → IsNext p w i → k < p → KeepsPlane i k
 plane_kept p w (Select m a b out) k n h = λ e. omega (arith, n.3, h, e)
 plane_kept p w (Compare c a b out) k n h = λ e. omega (arith, n.2, h, e)
-plane_kept p w (Operate op a b idle bad out faults) k n h = λ e. omega (arith, n.5, h, e)
+plane_kept p w (Operate op a b idle left right out faults) k n h = λ e. omega (arith, n.6, h, e)
 plane_kept p w (Blend m a b out) k n h = tt
+plane_kept p w (Choose c x y a b passed out) k n h = λ e. omega (arith, n.4, h, e)
 
 word_kept : (p w : ℕ) (i : Instruction) (k : ℕ) → IsNext p w i → k < w → KeepsWord i k
 word_kept p w (Select m a b out) k n h = tt
 word_kept p w (Compare c a b out) k n h = tt
-word_kept p w (Operate op a b idle bad out faults) k n h = λ e. omega (arith, n.4, h, e)
+word_kept p w (Operate op a b idle left right out faults) k n h = λ e. omega (arith, n.5, h, e)
 word_kept p w (Blend m a b out) k n h = λ e. omega (arith, n.3, h, e)
+word_kept p w (Choose c x y a b passed out) k n h = λ e. omega (arith, n.5, h, e)
 
 -- ## What was done stays done
 
@@ -112,14 +129,16 @@ stays_done p w s s' (Select m a b out) n h d =
 stays_done p w s s' (Compare c a b out) n h d =
     h.planes out.0 (omega (arith, n.2)) ∙ d
     ∙ sym (ap₂ (compared c) (h.words a.0 (omega (arith, n.0))) (h.words b.0 (omega (arith, n.1))))
-stays_done p w s s' (Operate op a b idle bad out faults) n h d =
+stays_done p w s s' (Operate op a b idle left right out faults) n h d =
     let ea = h.words a.0 (omega (arith, n.0)) in
     let eb = h.words b.0 (omega (arith, n.1)) in
-    let before = h.planes bad.0 (omega (arith, n.3)) in
+    let before =
+    ap₂ (λ x y. x || y) (h.planes left.0 (omega (arith, n.3)))
+    (h.planes right.0 (omega (arith, n.4))) in
     let active = ap₂ (λ x y. not (x || y)) (h.planes idle.0 (omega (arith, n.2))) before in
     let r = ap₂ (result_of op) ea eb in (
-      h.words out.0 (omega (arith, n.4)) ∙ d.0 ∙ sym (ap₂ kept active r),
-      h.planes faults.0 (omega (arith, n.5)) ∙ d.1
+      h.words out.0 (omega (arith, n.5)) ∙ d.0 ∙ sym (ap₂ kept active r),
+      h.planes faults.0 (omega (arith, n.6)) ∙ d.1
           ∙ sym (ap₂ (λ x y. x || y) before (ap₂ faulty active r)),
     )
 stays_done p w s s' (Blend m a b out) n h d =
@@ -127,6 +146,16 @@ stays_done p w s s' (Blend m a b out) n h d =
     ∙ sym (ap (λ c. cond c (s'.ints a.0) (s'.ints b.0)) (h.planes m.0 (omega (arith, n.0)))
     ∙ ap₂ (cond (s.bits m.0)) (h.words a.0 (omega (arith, n.1)))
     (h.words b.0 (omega (arith, n.2))))
+stays_done p w s s' (Choose c x y a b passed out) n h d =
+    let there = h.planes passed.0 (omega (arith, n.4)) in (
+      there ∙ d.0
+          ∙ sym (ap₂ (compared c) (h.words x.0 (omega (arith, n.0)))
+          (h.words y.0 (omega (arith, n.1)))),
+      h.words out.0 (omega (arith, n.5)) ∙ d.1
+          ∙ sym (ap (λ t. cond t (s'.ints a.0) (s'.ints b.0)) there
+          ∙ ap₂ (cond (s.bits passed.0)) (h.words a.0 (omega (arith, n.2)))
+          (h.words b.0 (omega (arith, n.3)))),
+    )
 
 -- ## What is left of listed code
 

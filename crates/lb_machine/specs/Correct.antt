@@ -41,15 +41,17 @@ pub record IsWordFor (code : Code) (value : Lane → ℤ) (w : WordId) : Type 0 
   pub within : w.0 < code.words
   pub means : (s : Lane) → HasRun (listed code.instructions) s → s.ints w.0 ≡ value s
 
--- a word holds what an operator gives in the lanes where neither of two planes is true, and a plane
--- where the second one is true or the operator has a fault
-pub record AreResultsFor (code : Code) (value : Lane → Option ℤ) (idle bad : PlaneId)
+-- a word holds what an operator gives in the lanes where none of three planes is true, and a plane
+-- where the second or the third is true or the operator has a fault
+pub record AreResultsFor (code : Code) (value : Lane → Option ℤ) (idle left right : PlaneId)
     (w : WordId) (p : PlaneId) : Type 0 where
   pub word_within : w.0 < code.words
   pub plane_within : p.0 < code.planes
   pub result :
       (s : Lane) → HasRun (listed code.instructions) s →
-      s.ints w.0 ≡ kept (not (s.bits idle.0 || s.bits bad.0)) (value s)
+      s.ints w.0 ≡ kept (not (s.bits idle.0 || (s.bits left.0 || s.bits right.0))) (value s)
   pub faults :
       (s : Lane) → HasRun (listed code.instructions) s →
-      s.bits p.0 ≡ (s.bits bad.0 || faulty (not (s.bits idle.0 || s.bits bad.0)) (value s))
+      s.bits p.0
+      ≡ (s.bits left.0 || s.bits right.0
+      || faulty (not (s.bits idle.0 || (s.bits left.0 || s.bits right.0))) (value s))

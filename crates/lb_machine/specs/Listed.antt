@@ -1,6 +1,6 @@
 -- The instructions of code, in their order.
 -- Source: this project's rule.
-use Rattle.std.specs.Prelude.{ℕ, ◌+◌, List, [], ◌∷◌, ◌++◌}
+use Rattle.std.specs.Prelude.{◌≡◌, ℕ, ◌+◌, ◌<◌, length, List, [], ◌∷◌, ◌++◌}
 use Rattle.lb_machine.specs.declared.instruction.Instruction.{Instruction}
 use Rattle.lb_machine.specs.declared.instruction.Instruction.TheVariants.{Select}
 use Rattle.lb_machine.specs.declared.instructions.Block.{Block}
@@ -22,5 +22,18 @@ unpacked [] first choices = selects_from first choices
 unpacked (b ∷ blocks) first choices =
     selects_from b.first b.choices.items ++ b.last ∷ unpacked blocks first choices
 
+-- the instructions of blocks before the last of them, and before the last of all
+abbrev pub before_last : List Block → List Instruction
+before_last [] = []
+before_last (b ∷ []) = selects_from b.first b.choices.items
+before_last (b ∷ (c ∷ blocks)) =
+    selects_from b.first b.choices.items ++ b.last ∷ before_last (c ∷ blocks)
+
 abbrev pub listed : Instructions → List Instruction
 listed is = unpacked is.blocks.items is.first is.choices.items
+
+-- the last of them is this one, which stands behind a block
+pub record EndsWith (is : Instructions) (i : Instruction) : Type 0 where
+  pub no_choice : length is.choices.items ≡ 0
+  pub some : 0 < length is.blocks.items
+  pub last : listed is ≡ before_last is.blocks.items ++ i ∷ []

@@ -13,7 +13,7 @@ use Rattle.lb_machine.specs.declared.instruction.Comparison.{Comparison}
 use Rattle.lb_machine.specs.declared.instruction.Comparison.TheVariants.{Equal, Below, AtMost}
 use Rattle.lb_machine.specs.declared.instruction.Instruction.{Instruction}
 use Rattle.lb_machine.specs.declared.instruction.Instruction.TheVariants.{Select, Compare}
-use Rattle.lb_machine.specs.declared.instruction.Instruction.TheVariants.{Operate, Blend}
+use Rattle.lb_machine.specs.declared.instruction.Instruction.TheVariants.{Operate, Blend, Choose}
 
 -- what a lane holds: a Boolean at each plane, and an integer at each word
 pub record Lane : Type 0 where
@@ -44,12 +44,16 @@ abbrev pub IsDone : Lane → Instruction → Type 0
 IsDone s (Select m a b out) =
     s.bits out.0 ≡ (if s.bits m.0 then s.bits a.0 else s.bits b.0)
 IsDone s (Compare c a b out) = s.bits out.0 ≡ compared c (s.ints a.0) (s.ints b.0)
-IsDone s (Operate op a b idle bad out faults) =
-    let active = not (s.bits idle.0 || s.bits bad.0) in
+IsDone s (Operate op a b idle left right out faults) =
+    let before = s.bits left.0 || s.bits right.0 in
+    let active = not (s.bits idle.0 || before) in
     let value = result_of op (s.ints a.0) (s.ints b.0) in
-    (s.ints out.0 ≡ kept active value) × (s.bits faults.0 ≡ (s.bits bad.0 || faulty active value))
+    (s.ints out.0 ≡ kept active value) × (s.bits faults.0 ≡ (before || faulty active value))
 IsDone s (Blend m a b out) =
     s.ints out.0 ≡ (if s.bits m.0 then s.ints a.0 else s.ints b.0)
+IsDone s (Choose c x y a b passed out) =
+    (s.bits passed.0 ≡ compared c (s.ints x.0) (s.ints y.0))
+    × (s.ints out.0 ≡ (if s.bits passed.0 then s.ints a.0 else s.ints b.0))
 
 -- a lane in which the first two planes are false and true, and the first word is 0
 pub record HasConstants (s : Lane) : Type 0 where

@@ -6,15 +6,18 @@ use Rattle.std.specs.Coded.{×_prop}
 use Rattle.std.proofs.Props.{props}
 use Rattle.lb_machine.specs.declared.instruction.Instruction.{Instruction}
 use Rattle.lb_machine.specs.declared.instruction.Instruction.TheVariants.{Select, Compare}
-use Rattle.lb_machine.specs.declared.instruction.Instruction.TheVariants.{Operate, Blend}
+use Rattle.lb_machine.specs.declared.instruction.Instruction.TheVariants.{Operate, Blend, Choose}
 
 -- an instruction can be done beside so many planes and words
 abbrev pub IsNext : ℕ → ℕ → Instruction → Type 0
 IsNext p w (Select m a b out) = (m.0 < p) × (a.0 < p) × (b.0 < p) × (out.0 ≡ p)
 IsNext p w (Compare c a b out) = (a.0 < w) × (b.0 < w) × (out.0 ≡ p)
-IsNext p w (Operate op a b idle bad out faults) =
-    (a.0 < w) × (b.0 < w) × (idle.0 < p) × (bad.0 < p) × (out.0 ≡ w) × (faults.0 ≡ p)
+IsNext p w (Operate op a b idle left right out faults) =
+    (a.0 < w) × (b.0 < w) × (idle.0 < p) × (left.0 < p) × (right.0 < p) × (out.0 ≡ w)
+    × (faults.0 ≡ p)
 IsNext p w (Blend m a b out) = (m.0 < p) × (a.0 < w) × (b.0 < w) × (out.0 ≡ w)
+IsNext p w (Choose c x y a b passed out) =
+    (x.0 < w) × (y.0 < w) × (a.0 < w) × (b.0 < w) × (passed.0 ≡ p) × (out.0 ≡ w)
 
 -- how many planes, and how many words, there are after it
 abbrev pub planes_after : ℕ → Instruction → ℕ
@@ -22,8 +25,9 @@ planes_after p (Blend m a b out) = p
 planes_after p i = suc p
 
 abbrev pub words_after : ℕ → Instruction → ℕ
-words_after w (Operate op a b idle bad out faults) = suc w
+words_after w (Operate op a b idle left right out faults) = suc w
 words_after w (Blend m a b out) = suc w
+words_after w (Choose c x y a b passed out) = suc w
 words_after w i = w
 
 -- code leads from so many planes and words to so many
@@ -40,8 +44,9 @@ same_prop i j = Prim.hlevel props
 next_prop : (p w : ℕ) (i : Instruction) → IsProp (IsNext p w i)
 next_prop p w (Select m a b out) = Prim.hlevel props
 next_prop p w (Compare c a b out) = Prim.hlevel props
-next_prop p w (Operate op a b idle bad out faults) = Prim.hlevel props
+next_prop p w (Operate op a b idle left right out faults) = Prim.hlevel props
 next_prop p w (Blend m a b out) = Prim.hlevel props
+next_prop p w (Choose c x y a b passed out) = Prim.hlevel props
 
 pub straight_prop :
     (p w : ℕ) (is : List Instruction) (P W : ℕ) → IsProp (IsStraight p w is P W)
@@ -55,19 +60,23 @@ straight_prop p w (i ∷ is) P W =
 abbrev pub IsFit : ℕ → ℕ → Instruction → Type 0
 IsFit P W (Select m a b out) = (m.0 < out.0) × (a.0 < out.0) × (b.0 < out.0) × (out.0 < P)
 IsFit P W (Compare c a b out) = (a.0 < W) × (b.0 < W) × (out.0 < P)
-IsFit P W (Operate op a b idle bad out faults) =
-    (a.0 < out.0) × (b.0 < out.0) × (idle.0 < faults.0) × (bad.0 < faults.0) × (out.0 < W)
-    × (faults.0 < P)
+IsFit P W (Operate op a b idle left right out faults) =
+    (a.0 < out.0) × (b.0 < out.0) × (idle.0 < faults.0) × (left.0 < faults.0)
+    × (right.0 < faults.0) × (out.0 < W) × (faults.0 < P)
 IsFit P W (Blend m a b out) = (m.0 < P) × (a.0 < out.0) × (b.0 < out.0) × (out.0 < W)
+IsFit P W (Choose c x y a b passed out) =
+    (x.0 < out.0) × (y.0 < out.0) × (a.0 < out.0) × (b.0 < out.0) × (passed.0 < P) × (out.0 < W)
 
 -- a plane, and a word, that an instruction leaves as it was
 abbrev pub KeepsPlane : Instruction → ℕ → Type 0
 KeepsPlane (Select m a b out) k = k ≢ out.0
 KeepsPlane (Compare c a b out) k = k ≢ out.0
-KeepsPlane (Operate op a b idle bad out faults) k = k ≢ faults.0
+KeepsPlane (Operate op a b idle left right out faults) k = k ≢ faults.0
 KeepsPlane (Blend m a b out) k = Unit {0}
+KeepsPlane (Choose c x y a b passed out) k = k ≢ passed.0
 
 abbrev pub KeepsWord : Instruction → ℕ → Type 0
-KeepsWord (Operate op a b idle bad out faults) k = k ≢ out.0
+KeepsWord (Operate op a b idle left right out faults) k = k ≢ out.0
 KeepsWord (Blend m a b out) k = k ≢ out.0
+KeepsWord (Choose c x y a b passed out) k = k ≢ out.0
 KeepsWord i k = Unit {0}

@@ -3,9 +3,10 @@
 
 ghost use Rattle.std.specs.Prelude.{◌≡◌, ◌<◌, ◌≤◌, ◌+◌, ◌++◌, [], ◌∷◌, IfOk, OnOk, if◌then◌else◌};
 ghost use Rattle.lb_lanes.specs.Operators.{result_of};
-ghost use Rattle.lb_machine.specs.Listed.{listed};
+ghost use Rattle.lb_machine.specs.Listed.{listed, EndsWith};
 ghost use Rattle.lb_machine.specs.Meaning.{combined, compared};
 ghost use Rattle.lb_machine.specs.Straight.{planes_after, words_after, IsNext};
+ghost use Rattle.lb_machine.specs.declared.instruction.Instruction.TheVariants.{Compare};
 ghost use Rattle.lb_machine.specs.declared.instruction.PlaneOperator.TheVariants.{Xor};
 
 use crate::code::Code;
@@ -173,32 +174,62 @@ impl Code {
             return Ok(known);
         }
         let out = self.next_word()?;
+        if let Some(test) = self.instructions.last_test(mask) {
+            self.choose_by(test, mask, a, b, out);
+            return Ok(out);
+        }
         self.push_word(Instruction::Blend(mask, a, b, out))?;
         Ok(out)
     }
 
-    /// A word that holds what an operator on two gives in the lanes where neither plane is true,
-    /// and a plane that is true where `bad` is, or where the operator has a fault.
+    // Has the last instruction, a test that writes the mask, choose between two words, too.
+    fn choose_by(
+        &mut self,
+        test: (Comparison, WordId, WordId),
+        mask: PlaneId,
+        a: WordId,
+        b: WordId,
+        out: WordId,
+    )
+        requires ends { EndsWith self.old.instructions (Compare test.0 test.1 test.2 mask) }
+        requires left { a.0 < self.old.words }
+        requires right { b.0 < self.old.words }
+        requires next { out.0 ≡ self.old.words }
+        requires room { self.old.words < 4294967295 }
+        ensures grown { IsGrown self.old self.new }
+        ensures word { IsWordFor self.new (λ s. if s.bits mask.0 then s.ints a.0 else s.ints b.0)
+            out }
+    {
+        let choose = Instruction::Choose(test.0, test.1, test.2, a, b, mask, out);
+        self.instructions.put_last(choose);
+        self.words += 1;
+    }
+
+    /// A word that holds what an operator on two gives in the lanes where none of the three planes
+    /// is true, and a plane that is true where `left` or `right` is, the planes of the operands'
+    /// faults, or where the operator has a fault.
     pub fn operate(
         &mut self,
         op: IntOperator,
         a: WordId,
         b: WordId,
         idle: PlaneId,
-        bad: PlaneId,
+        left: PlaneId,
+        right: PlaneId,
     ) -> Result<(WordId, PlaneId), AllocError>
-        requires left { a.0 < self.old.words }
-        requires right { b.0 < self.old.words }
+        requires a { a.0 < self.old.words }
+        requires b { b.0 < self.old.words }
         requires idle { idle.0 < self.old.planes }
-        requires bad { bad.0 < self.old.planes }
+        requires left { left.0 < self.old.planes }
+        requires right { right.0 < self.old.planes }
         ensures grown { OnOk result (IsGrown self.old self.new) }
         ensures results { IfOk result (λ r. AreResultsFor self.new
-            (λ s. result_of op (s.ints a.0) (s.ints b.0)) idle bad r.0 r.1) }
+            (λ s. result_of op (s.ints a.0) (s.ints b.0)) idle left right r.0 r.1) }
     {
         let out = self.next_word()?;
         let faults = self.next_plane()?;
-        self.instructions
-            .push(Instruction::Operate(op, a, b, idle, bad, out, faults))?;
+        let operate = Instruction::Operate(op, a, b, idle, left, right, out, faults);
+        self.instructions.push(operate)?;
         self.planes += 1;
         self.words += 1;
         Ok((out, faults))

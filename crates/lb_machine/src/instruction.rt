@@ -2,8 +2,8 @@
 //!
 //! ```text
 //! 7 := if 4 then 5 else 6  Select(4, 5, 6, 7)
-//! word 3 := 1 + 2         Operate(Add, 1, 2, 7, 8, 3, 9), where neither of planes 7 and 8 is true;
-//!                         plane 9 is true where plane 8 is, and where there is a fault
+//! word 3 := 1 + 2         Operate(Add, 1, 2, 6, 7, 8, 3, 9), where none of planes 6 to 8 is true;
+//!                         plane 9 is true where 7 or 8 is, and where there is a fault
 //! ```
 
 use lb_lanes::IntOperator;
@@ -50,9 +50,12 @@ pub enum Instruction {
     Select(PlaneId, PlaneId, PlaneId, PlaneId),
     /// A test of two words.
     Compare(Comparison, WordId, WordId, PlaneId),
-    /// An operator on two words, in the lanes where neither plane is true; its result, and a plane
-    /// that is true where the second one is, or where there is a fault.
-    Operate(IntOperator, WordId, WordId, PlaneId, PlaneId, WordId, PlaneId),
+    /// An operator on two words, in the lanes where none of three planes is true; its result, and a
+    /// plane that is true where the second or the third is, or where there is a fault.
+    Operate(IntOperator, WordId, WordId, PlaneId, PlaneId, PlaneId, WordId, PlaneId),
     /// Where the plane is true the first word, and elsewhere the second.
     Blend(PlaneId, WordId, WordId, WordId),
+    /// A test of the first two words, to a plane; and where it passes the third word, and elsewhere
+    /// the fourth.
+    Choose(Comparison, WordId, WordId, WordId, WordId, PlaneId, WordId),
 }

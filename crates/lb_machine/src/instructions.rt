@@ -2,19 +2,20 @@
 //!
 //! ```text
 //! 7 := if 4 then 5 else 6     block    first 7  choices  4 5 6, 7 2 6
-//! 8 := if 7 then 2 else 6              last     Operate(Add, 1, 2, 0, 0, 3, 9)
+//! 8 := if 7 then 2 else 6              last     Operate(Add, 1, 2, 0, 0, 0, 3, 9)
 //! word 3 := 1 + 2
 //! 10 := if 9 then 8 else 7    first 10  choices  9 8 7
 //! ```
 //!
 //! The choices of a row write planes that follow one another. A choice takes 12 bytes, any other
-//! instruction 28; and in a row of choices none is looked at for what it is.
+//! instruction 32; and in a row of choices none is looked at for what it is.
 
-ghost use Rattle.std.specs.Prelude.{◌≡◌, [], ◌∷◌, ◌++◌, ◌⊎◌, true, false, length};
-ghost use Rattle.std.specs.Prelude.{IfOk, OnOk, OnErr};
-ghost use Rattle.lb_machine.specs.Listed.{listed, select_at};
+ghost use Rattle.std.specs.Prelude.{◌≡◌, ℕ, [], ◌∷◌, ◌++◌, ◌⊎◌, true, false, length};
+ghost use Rattle.std.specs.Prelude.{◌<◌, IfOk, IfSome, OnOk, OnErr};
+ghost use Rattle.lb_machine.specs.Listed.{before_last, listed, select_at, unpacked, EndsWith};
+ghost use Rattle.lb_machine.specs.declared.instruction.Instruction.TheVariants.{Compare};
 
-use crate::instruction::{Instruction, PlaneId};
+use crate::instruction::{Comparison, Instruction, PlaneId, WordId};
 use std::alloc::{AllocError, Global};
 use std::mem::replace;
 
@@ -41,6 +42,15 @@ pub struct Instructions {
     /// The choices behind the last block, and the plane that the first of them writes.
     pub first: u32,
     pub choices: Vec<Choice>,
+}
+
+// Puts an instruction in place of the last one of blocks.
+fn put_behind(blocks: &mut [Block], i: Instruction)
+    requires { 0 < length blocks.old }
+    ensures { (first : ℕ) → unpacked blocks.new first [] ≡ before_last blocks.old ++ i ∷ [] }
+{
+    let at = blocks.len() - 1;
+    blocks[at].last = i;
 }
 
 impl Instructions {
@@ -98,6 +108,29 @@ impl Instructions {
             last,
         });
         Ok(())
+    }
+
+    /// The two words of a test that is the last instruction, if it is one that writes this plane.
+    pub(crate) fn last_test(&self, passed: PlaneId) -> Option<(Comparison, WordId, WordId)>
+        ensures { IfSome result (λ t. EndsWith self.now (Compare t.0 t.1 t.2 passed)) }
+    {
+        let count = self.blocks.len();
+        if count == 0 || self.choices.len() != 0 {
+            return None;
+        }
+        match self.blocks[count - 1].last {
+            Instruction::Compare(c, x, y, out) if out.0 == passed.0 => Some((c, x, y)),
+            _ => None,
+        }
+    }
+
+    /// Puts an instruction in place of the last one, which is no choice.
+    pub(crate) fn put_last(&mut self, i: Instruction)
+        requires no_choice { length self.old.choices.items ≡ 0 }
+        requires some { 0 < length self.old.blocks.items }
+        ensures { listed self.new ≡ before_last self.old.blocks.items ++ i ∷ [] }
+    {
+        put_behind(self.blocks.as_mut_slice(), i);
     }
 
     /// One more, behind all.

@@ -69,6 +69,40 @@ fn blend(mask: Plane, a: WordId, b: WordId, out: WordId, words: &mut [LaneWord])
     after[0].set_blend(mask, &before[a.0 as usize], &before[b.0 as usize]);
 }
 
+// Puts one of two words into one behind them, lane by lane, by a test of two others, and gives the
+// lanes that pass.
+fn choose_word(
+    c: Comparison,
+    x: WordId,
+    y: WordId,
+    a: WordId,
+    b: WordId,
+    out: WordId,
+    words: &mut [LaneWord],
+) -> Plane
+    requires first { x.0 < out.0 }
+    requires second { y.0 < out.0 }
+    requires left { a.0 < out.0 }
+    requires right { b.0 < out.0 }
+    requires room { out.0 < length words.old }
+    ensures words { length words.new ≡ length words.old }
+    ensures plane { IsPlaneOf (λ i. compared c (lane_of (slice_index_or words.old x.0 []) i)
+        (lane_of (slice_index_or words.old y.0 []) i)) result.0 }
+    ensures lanes { IsBlend result.0 (slice_index_or words.old a.0 [])
+        (slice_index_or words.old b.0 []) (slice_index_or words.new out.0 []) }
+    ensures others { (k : ℕ) → k ≢ out.0
+        → slice_index_or words.new k [] ≡ slice_index_or words.old k [] }
+{
+    let (before, after) = words.split_at_mut(out.0 as usize);
+    let (x, y) = (&before[x.0 as usize], &before[y.0 as usize]);
+    let (a, b) = (&before[a.0 as usize], &before[b.0 as usize]);
+    match c {
+        Comparison::Equal => after[0].set_where_eq(x, y, a, b),
+        Comparison::Below => after[0].set_where_lt(x, y, a, b),
+        Comparison::AtMost => after[0].set_where_le(x, y, a, b),
+    }
+}
+
 // Does a choice in all lanes.
 fn choose(c: Choice, out: usize, planes: &mut [u64])
     requires { IsFit (length planes.old) 0 (select_at out c) }
@@ -104,13 +138,17 @@ fn execute(i: Instruction, planes: &mut [u64], words: &mut [LaneWord])
             let made = compared(c, &words[a.0 as usize], &words[b.0 as usize]);
             planes[out.0 as usize] = made.0;
         }
-        Instruction::Operate(op, a, b, idle, bad, out, faults) => {
-            let before = plane(planes, bad);
+        Instruction::Operate(op, a, b, idle, left, right, out, faults) => {
+            let before = plane(planes, left).or(plane(planes, right));
             let active = plane(planes, idle).or(before).not();
             let made = before.or(operate(op, a, b, active, out, words));
             planes[faults.0 as usize] = made.0;
         }
         Instruction::Blend(mask, a, b, out) => blend(plane(planes, mask), a, b, out, words),
+        Instruction::Choose(c, x, y, a, b, passed, out) => {
+            let made = choose_word(c, x, y, a, b, out, words);
+            planes[passed.0 as usize] = made.0;
+        }
     }
 }
 

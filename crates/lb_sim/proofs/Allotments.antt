@@ -117,8 +117,7 @@ module _ (f : FlatProgram) (old : Preset) where
         IsMore preset next → next.planes.items ≡ preset.planes.items →
         length next.words.items ≤ length preset.words.items + 1 →
         IsFixed (length next.words.items) g →
-        ((m : ℕ) → m ≤ length preset.words.items →
-        IsConstant m (length next.words.items) next.words.items kind q.operation g) →
+        IsConstant first (length next.words.items) next.words.items kind q.operation g →
         FillsConstants next (set table q.element g) (i + 1)
     constants_more q lt is kind is_kind next g m planes longer fixed law = record {
       filling = filling_more f.size f.equations table i h.filling q lt is g;
@@ -137,7 +136,7 @@ module _ (f : FlatProgram) (old : Preset) where
           h.constants
           (subst (λ k.
           IsConstant first (length next.words.items) next.words.items k q.operation g) is_kind
-          (law first h.more.words));
+          law);
     }
 
     pub constants_all :

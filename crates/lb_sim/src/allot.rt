@@ -9,7 +9,9 @@ ghost use Rattle.lb_flat.specs.Judging.{named_elements};
 ghost use Rattle.lb_flat.specs.Run.{keeps, reads};
 ghost use Rattle.lb_flat.specs.Values.{operation_of, scalar_of};
 ghost use Rattle.lb_lanes.specs.Planes.{on};
+ghost use Rattle.lb_machine.specs.Meaning.{Lane};
 ghost use Rattle.lb_syntax.specs.Lists.{In};
+ghost use Rattle.lb_sim.specs.Compiled.{HasConstantWords};
 ghost use Rattle.lb_sim.specs.Homes.{is_nil_scalar, is_bad_scalar, IsRow, plane_in, word_in};
 ghost use Rattle.lb_sim.specs.Showing.{value_kind};
 ghost use Rattle.lb_sim.specs.InputRows.{places_of, truth_columns, number_columns};
@@ -19,7 +21,7 @@ ghost use Rattle.lb_sim.specs.Presets.{IsConstantAt, IsFixed, IsMore};
 use crate::place::{Holding, Value};
 use crate::preset::Preset;
 use lb_flat::{FlatProgram, Operation, Scalar};
-use lb_machine::{EVERYWHERE, NOWHERE, PlaneId, ZERO};
+use lb_machine::{EVERYWHERE, NOWHERE, PlaneId, WordId, ZERO};
 use lb_syntax::Kind;
 use std::alloc::{AllocError, Global};
 
@@ -243,21 +245,45 @@ fn no_value(kind: Kind) -> Value
     }
 }
 
-// What a scalar is held as: an integer by a word of its own.
-fn held_constant(preset: &mut Preset, v: Scalar, kind: Kind) -> Result<Holding, AllocError>
-    requires { length preset.old.words.items < 4294967295 }
+// The word of a number among those from a first one on, or one more.
+fn number_word(preset: &mut Preset, first: u32, value: i32) -> Result<WordId, AllocError>
+    requires first { first ≤ length preset.old.words.items }
+    requires room { length preset.old.words.items < 4294967295 }
+    ensures more { OnOk result (IsMore preset.old preset.new) }
+    ensures planes { preset.new.planes.items ≡ preset.old.planes.items }
+    ensures few { OnOk result (length preset.new.words.items
+        ≤ length preset.old.words.items + 1) }
+    ensures within { IfOk result (λ w. w.0 < length preset.new.words.items) }
+    ensures number { IfOk result (λ w. (s : Lane) → HasConstantWords first
+        (length preset.new.words.items) preset.new.words.items s → s.ints w.0 ≡ value) }
+{
+    if let Some(word) = preset.word_among(first, value) {
+        return Ok(word);
+    }
+    let word = preset.word(value)?;
+    Ok(word)
+}
+
+// What a scalar is held as: an integer by a word that is the same for equal integers.
+fn held_constant(
+    preset: &mut Preset,
+    first: u32,
+    v: Scalar,
+    kind: Kind,
+) -> Result<Holding, AllocError>
+    requires first { first ≤ length preset.old.words.items }
+    requires room { length preset.old.words.items < 4294967295 }
     ensures more { OnOk result (IsMore preset.old preset.new) }
     ensures planes { preset.new.planes.items ≡ preset.old.planes.items }
     ensures few { OnOk result (length preset.new.words.items
         ≤ length preset.old.words.items + 1) }
     ensures fixed { IfOk result (IsFixed (length preset.new.words.items)) }
-    ensures constant { IfOk result (λ h. (first : ℕ) → first ≤ length preset.old.words.items
-        → IsConstantAt first (length preset.new.words.items) preset.new.words.items kind
-        (scalar_of v) h) }
+    ensures constant { IfOk result (IsConstantAt first (length preset.new.words.items)
+        preset.new.words.items kind (scalar_of v)) }
 {
     match v {
         Scalar::Integer(z) => {
-            let word = preset.word(z)?;
+            let word = number_word(preset, first, z)?;
             Ok(Holding {
                 value: Value::Number(word),
                 nil: NOWHERE,
@@ -282,25 +308,26 @@ fn held_constant(preset: &mut Preset, v: Scalar, kind: Kind) -> Result<Holding, 
     }
 }
 
-/// What an operation holds that is a constant, or nothing.
+/// What an operation holds that is a constant, in the words from a first one on, or nothing.
 pub(crate) fn constant(
     preset: &mut Preset,
+    first: u32,
     operation: &Operation,
     kind: Kind,
 ) -> Result<Holding, AllocError>
-    requires { length preset.old.words.items < 4294967295 }
+    requires first { first ≤ length preset.old.words.items }
+    requires room { length preset.old.words.items < 4294967295 }
     ensures more { OnOk result (IsMore preset.old preset.new) }
     ensures planes { preset.new.planes.items ≡ preset.old.planes.items }
     ensures few { OnOk result (length preset.new.words.items
         ≤ length preset.old.words.items + 1) }
     ensures fixed { IfOk result (IsFixed (length preset.new.words.items)) }
-    ensures constant { IfOk result (λ h. (first : ℕ) → first ≤ length preset.old.words.items
-        → IsConstant first (length preset.new.words.items) preset.new.words.items kind
-        (operation_of operation.now) h) }
+    ensures constant { IfOk result (IsConstant first (length preset.new.words.items)
+        preset.new.words.items kind (operation_of operation.now)) }
 {
     match operation {
         Operation::Constant(v) => {
-            let held = held_constant(preset, *v, kind)?;
+            let held = held_constant(preset, first, *v, kind)?;
             Ok(held)
         }
         _ => Ok(NOTHING),

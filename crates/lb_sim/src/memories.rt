@@ -35,10 +35,11 @@ fn fill_constants(
         (length preset.old.words.items) (length preset.new.words.items) preset.new.words.items
         table.new) }
 {
+    let first = preset.words.len() as u32;
     for i in 0..program.equations.len() {
         let q = program.equations[i];
         let kind = program.kinds[q.element.0 as usize];
-        let held = constant(preset, &q.operation, kind)?;
+        let held = constant(preset, first, &q.operation, kind)?;
         table[q.element.0 as usize] = held;
     }
     Ok(())

@@ -1,6 +1,6 @@
 //! Operators that give integers, and may fault.
 
-ghost use Rattle.std.specs.Prelude.{◌<◌, IfOk, OnOk};
+ghost use Rattle.std.specs.Prelude.{◌<◌, ◌||◌, IfOk, OnOk};
 ghost use Rattle.lb_syntax.specs.declared.tree.Kind.TheVariants.{Int as Int_kind};
 ghost use Rattle.lb_syntax.specs.declared.tree.UnaryOperator.TheVariants.{Negate};
 ghost use Rattle.lb_check.specs.Scalars.{Integer, one_scalar, or_fault, two_integers};
@@ -11,11 +11,11 @@ ghost use Rattle.lb_sim.specs.Showing.{operator_of, shown};
 
 use crate::place::{Holding, Value};
 use lb_lanes::IntOperator;
-use lb_machine::{Code, PlaneId, WordId, ZERO};
+use lb_machine::{Code, NOWHERE, PlaneId, WordId, ZERO};
 use std::alloc::AllocError;
 
 /// An operator on two integers, whose faults are counted in the lanes alone where no operand is nil
-/// or the value of a fault.
+/// or the value of a fault: `left` and `right` have the faults of each.
 #[tactic(auto, using(crate::proofs::Growth::grown_then, crate::proofs::Growth::grown_none))]
 pub(crate) fn two_numbers(
     code: &mut Code,
@@ -23,18 +23,21 @@ pub(crate) fn two_numbers(
     a: WordId,
     b: WordId,
     nil: PlaneId,
-    bad: PlaneId,
+    left: PlaneId,
+    right: PlaneId,
 ) -> Result<Holding, AllocError>
-    requires left { a.0 < code.old.words }
-    requires right { b.0 < code.old.words }
+    requires a { a.0 < code.old.words }
+    requires b { b.0 < code.old.words }
     requires nil { nil.0 < code.old.planes }
-    requires bad { bad.0 < code.old.planes }
+    requires left { left.0 < code.old.planes }
+    requires right { right.0 < code.old.planes }
     ensures grown { OnOk result (IsGrown code.old code.new) }
     ensures within { IfOk result (IsIn code.new) }
     ensures holding { IfOk result (IsFor code.new Int_kind (λ s.
-        shown (s.bits bad.0) (s.bits nil.0) (or_fault (result_of op (s.ints a.0) (s.ints b.0))))) }
+        shown (s.bits left.0 || s.bits right.0) (s.bits nil.0)
+        (or_fault (result_of op (s.ints a.0) (s.ints b.0))))) }
 {
-    let (number, faults) = code.operate(op, a, b, nil, bad)?;
+    let (number, faults) = code.operate(op, a, b, nil, left, right)?;
     let value = Value::Number(number);
     Ok(Holding {
         value,
@@ -50,19 +53,21 @@ pub(crate) fn arithmetic(
     a: WordId,
     b: WordId,
     nil: PlaneId,
-    bad: PlaneId,
+    left: PlaneId,
+    right: PlaneId,
 ) -> Result<Holding, AllocError>
-    requires left { a.0 < code.old.words }
-    requires right { b.0 < code.old.words }
+    requires a { a.0 < code.old.words }
+    requires b { b.0 < code.old.words }
     requires nil { nil.0 < code.old.planes }
-    requires bad { bad.0 < code.old.planes }
+    requires left { left.0 < code.old.planes }
+    requires right { right.0 < code.old.planes }
     ensures grown { OnOk result (IsGrown code.old code.new) }
     ensures within { IfOk result (IsIn code.new) }
     ensures holding { IfOk result (IsFor code.new Int_kind (λ s.
-        shown (s.bits bad.0) (s.bits nil.0)
+        shown (s.bits left.0 || s.bits right.0) (s.bits nil.0)
         (two_integers (operator_of op) (s.ints a.0) (s.ints b.0)))) }
 {
-    let number = two_numbers(code, op, a, b, nil, bad)?;
+    let number = two_numbers(code, op, a, b, nil, left, right)?;
     Ok(number)
 }
 
@@ -81,6 +86,6 @@ pub(crate) fn negated(
     ensures holding { IfOk result (IsFor code.new Int_kind (λ s.
         one_scalar Negate (shown (s.bits bad.0) (s.bits nil.0) (Integer (s.ints a.0))))) }
 {
-    let number = two_numbers(code, IntOperator::Sub, ZERO, a, nil, bad)?;
+    let number = two_numbers(code, IntOperator::Sub, ZERO, a, nil, NOWHERE, bad)?;
     Ok(number)
 }

@@ -1,6 +1,6 @@
 //! Operators of the language on what places hold.
 
-ghost use Rattle.std.specs.Prelude.{◌≡◌, ◌<◌, Some, IfOk, OnOk};
+ghost use Rattle.std.specs.Prelude.{◌≡◌, ◌<◌, ◌||◌, Some, IfOk, OnOk};
 ghost use Rattle.lb_syntax.specs.declared.tree.Kind.{Kind};
 ghost use Rattle.lb_check.specs.Scalars.{one_scalar, two_integers, two_scalars};
 ghost use Rattle.lb_flat.specs.Fitting.{binary_kind, integers_kind, unary_kind};
@@ -28,7 +28,7 @@ fn truth(value: PlaneId, nil: PlaneId, bad: PlaneId) -> Holding
     }
 }
 
-// An operator on two integers.
+// An operator on two integers, of which `left` and `right` have the faults.
 #[tactic(auto, using(crate::proofs::Growth::grown_then, crate::proofs::Growth::grown_none))]
 fn integers(
     code: &mut Code,
@@ -36,25 +36,33 @@ fn integers(
     a: WordId,
     b: WordId,
     nil: PlaneId,
-    bad: PlaneId,
+    left: PlaneId,
+    right: PlaneId,
 ) -> Result<Holding, AllocError>
-    requires left { a.0 < code.old.words }
-    requires right { b.0 < code.old.words }
+    requires a { a.0 < code.old.words }
+    requires b { b.0 < code.old.words }
     requires nil { nil.0 < code.old.planes }
-    requires bad { bad.0 < code.old.planes }
+    requires left { left.0 < code.old.planes }
+    requires right { right.0 < code.old.planes }
     ensures grown { OnOk result (IsGrown code.old code.new) }
     ensures within { IfOk result (IsIn code.new) }
     ensures holding { IfOk result (λ h. (kind : Kind) → integers_kind op ≡ Some kind →
         IsFor code.new kind (λ s.
-        shown (s.bits bad.0) (s.bits nil.0) (two_integers op (s.ints a.0) (s.ints b.0))) h) }
+        shown (s.bits left.0 || s.bits right.0) (s.bits nil.0)
+        (two_integers op (s.ints a.0) (s.ints b.0))) h) }
 {
     match op {
-        BinaryOperator::Plus => Ok(arithmetic(code, IntOperator::Add, a, b, nil, bad)?),
-        BinaryOperator::Minus => Ok(arithmetic(code, IntOperator::Sub, a, b, nil, bad)?),
-        BinaryOperator::Times => Ok(arithmetic(code, IntOperator::Mul, a, b, nil, bad)?),
-        BinaryOperator::Divide => Ok(arithmetic(code, IntOperator::Div, a, b, nil, bad)?),
-        BinaryOperator::Modulo => Ok(arithmetic(code, IntOperator::Rem, a, b, nil, bad)?),
+        BinaryOperator::Plus => { Ok(arithmetic(code, IntOperator::Add, a, b, nil, left, right)?) }
+        BinaryOperator::Minus => { Ok(arithmetic(code, IntOperator::Sub, a, b, nil, left, right)?) }
+        BinaryOperator::Times => { Ok(arithmetic(code, IntOperator::Mul, a, b, nil, left, right)?) }
+        BinaryOperator::Divide => {
+            Ok(arithmetic(code, IntOperator::Div, a, b, nil, left, right)?)
+        }
+        BinaryOperator::Modulo => {
+            Ok(arithmetic(code, IntOperator::Rem, a, b, nil, left, right)?)
+        }
         _ => {
+            let bad = code.combine(PlaneOperator::Or, left, right)?;
             let value = compared(code, op, a, b)?;
             Ok(truth(value, nil, bad))
         }
@@ -78,13 +86,13 @@ pub(crate) fn two_holdings(
         IsFor code.new kind (λ s. two_scalars op (scalar_at s a) (scalar_at s b)) h) }
 {
     let nil = code.combine(PlaneOperator::Or, a.nil, b.nil)?;
-    let bad = code.combine(PlaneOperator::Or, a.bad, b.bad)?;
     match (a.value, b.value) {
         (Value::Truth(x), Value::Truth(y)) => {
+            let bad = code.combine(PlaneOperator::Or, a.bad, b.bad)?;
             let value = two_truths(code, op, x, y)?;
             Ok(truth(value, nil, bad))
         }
-        (Value::Number(x), Value::Number(y)) => Ok(integers(code, op, x, y, nil, bad)?),
+        (Value::Number(x), Value::Number(y)) => { Ok(integers(code, op, x, y, nil, a.bad, b.bad)?) }
         _ => Ok(a),
     }
 }

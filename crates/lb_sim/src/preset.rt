@@ -1,6 +1,6 @@
 //! The planes and words that are there before the code runs.
 
-ghost use Rattle.std.specs.Prelude.{◌≡◌, ℕ, ◌+◌, ◌<◌, ◌≤◌, pos, length, IfOk, OnOk};
+ghost use Rattle.std.specs.Prelude.{◌≡◌, ℕ, ◌+◌, ◌<◌, ◌≤◌, pos, length, IfOk, IfSome, OnOk};
 ghost use Rattle.std.specs.Prelude.{slice_index, slice_index_or};
 ghost use Rattle.lb_lanes.specs.Planes.{on};
 
@@ -52,6 +52,21 @@ impl Preset {
         let id = self.planes.len();
         self.planes.push(if value { u64::MAX } else { 0 })?;
         Ok(PlaneId(id as u32))
+    }
+
+    /// A word from a first one on that holds a number, if it is one of the first 64 of these.
+    pub(crate) fn word_among(&self, first: u32, value: i32) -> Option<WordId>
+        ensures { IfSome result (λ w. (first ≤ w.0) × (w.0 < length self.now.words.items)
+            × (slice_index_or self.now.words.items w.0 (pos 0) ≡ value)) }
+    {
+        let first = first as usize;
+        let last = self.words.len().min(first + 64);
+        for k in first..last {
+            if self.words[k] == value {
+                return Some(WordId(k as u32));
+            }
+        }
+        None
     }
 
     /// One more word.

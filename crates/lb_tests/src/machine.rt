@@ -63,7 +63,7 @@ fn operated(
 ) -> Result<Made, AllocError> {
     if 0 < active && active < code.planes && a < code.words && b < code.words {
         let idle = code.combine(PlaneOperator::AndNot, EVERYWHERE, PlaneId(active))?;
-        let made = code.operate(op, WordId(a), WordId(b), idle, NOWHERE)?;
+        let made = code.operate(op, WordId(a), WordId(b), idle, NOWHERE, NOWHERE)?;
         return Ok(Made::Both(made.0, made.1));
     }
     Ok(Made::Nothing)
@@ -271,7 +271,8 @@ pub fn push_results(alloc: Global, asked: &str, said: &mut String) -> Result<(),
 // the places that they give. `~` is "and not", `?` chooses a plane, `l` is "at most", and `b`
 // chooses a word; behind the operands of an operator stands the plane of its lanes, and its faults
 // follow its results. Where what is asked is there already, no instruction is made; `^` first makes
-// a plane that is not the second one, and an operator one of the lanes that are not its own.
+// a plane that is not the second one, and an operator one of the lanes that are not its own. A test
+// and the choice of a word by it right behind are one instruction.
 const CODES: &str = "\
 12 10 0 0 0 0 | & 2 3, | 2 3, ^ 2 3, ~ 2 3, ~ 3 2, ~ 1 2 => \
 7: 4=8 5=14 7=6 8=4 9=2 10=18446744073709551603
@@ -284,6 +285,8 @@ const CODES: &str = "\
 5 12 3 -4 3 7 | = 1 2, < 1 2, l 1 2, < 2 1, l 2 1, = 1 1 => \
 6: 4=18446744073709551613 5=2 6=18446744073709551615 7=0 8=18446744073709551613 \
 9=18446744073709551615
+5 12 3 -4 3 7 | < 1 2, b 4 1 2, l 2 1, b 5 1 2, = 1 2, b 6 2 1 => \
+3: 4=2 w3=3,-4,0 5=18446744073709551613 w4=3,7,0 6=18446744073709551613 w5=3,-4,0
 1 2 3 -4 5 7 | b 2 1 2, b 3 1 2, b 1 1 2, b 0 1 2, b 2 1 1 => \
 2: w3=3,7,0 w4=5,-4,0 w1=3,-4,0 w2=5,7,0 w1=3,-4,0
 3 1 2147483647 -7 1 2 | + 1 2 2, + 1 2 3, - 1 2 2, * 1 2 2, / 1 2 2, % 1 2 2 => \

@@ -10,7 +10,7 @@ pub invariant_of-self-2 : goal.invariant_of-self-2
 invariant_of-self-2 c =
     let before = c.args.self.now in
     let i : Instruction =
-    Operate c.args.op c.args.a c.args.b c.args.idle c.args.bad c.in_ok-out.out
+    Operate c.args.op c.args.a c.args.b c.args.idle c.args.left c.args.right c.in_ok-out.out
     c.in_ok-faults.faults in
     record {
       straight =
@@ -21,10 +21,11 @@ invariant_of-self-2 c =
           (sym c.in_ok-push.ensures.items)
           (straight_more before.first_plane before.first_word (listed before.instructions)
           before.planes before.words i before.straight (
+            c.requires.a,
+            c.requires.b,
+            c.requires.idle,
             c.requires.left,
             c.requires.right,
-            c.requires.idle,
-            c.requires.bad,
             c.in_ok-out.ensures.0,
             c.in_ok-faults.ensures.0,
           ) (before.planes + 1) (before.words + 1) (omega arith) (omega arith));
@@ -37,7 +38,7 @@ invariant_of-self-2 c =
 pub returns-clause-grown : goal.returns-clause-grown
 returns-clause-grown c =
     let i : Instruction =
-    Operate c.args.op c.args.a c.args.b c.args.idle c.args.bad c.in_ok-out.out
+    Operate c.args.op c.args.a c.args.b c.args.idle c.args.left c.args.right c.in_ok-out.out
     c.in_ok-faults.faults in
     record {
       first_plane = refl;
@@ -51,7 +52,7 @@ returns-clause-grown c =
 pub returns-clause-results : goal.returns-clause-results
 returns-clause-results c =
     let i : Instruction =
-    Operate c.args.op c.args.a c.args.b c.args.idle c.args.bad c.in_ok-out.out
+    Operate c.args.op c.args.a c.args.b c.args.idle c.args.left c.args.right c.in_ok-out.out
     c.in_ok-faults.faults in
     let is = (listed c.args.self.now.instructions) in
     record {
