@@ -38,6 +38,15 @@ pub trait Sink {
         ensures err { OnErr result (failures self.new ≡ failures self.old + 1) }
         ensures kept { OnErr result (Keeps (taken self.old) (taken self.new)) };
 
+    /// Hands on what it keeps back, if it keeps anything back.
+    fn flush(&mut self) -> Result<(), SinkFailed>
+        requires { failures self.old < u64.MAX }
+        ensures ok { OnOk result (failures self.new ≡ failures self.old) }
+        ensures kept { Keeps (taken self.old) (taken self.new) }
+
+        // Each failure is counted.
+        ensures err { OnErr result (failures self.new ≡ failures self.old + 1) };
+
     /// How often it has failed.
     fn failures(&self) -> u64
         ensures { result ≡ failures self.now };
@@ -76,6 +85,16 @@ impl<W: Write> Sink for Writer<W> {
                 }
                 Ok(count)
             }
+            Err(_) => {
+                self.failures += 1;
+                Err(SinkFailed)
+            }
+        }
+    }
+
+    fn flush(&mut self) -> Result<(), SinkFailed> {
+        match self.writer.flush() {
+            Ok(()) => Ok(()),
             Err(_) => {
                 self.failures += 1;
                 Err(SinkFailed)
