@@ -1,1 +1,3 @@
-pub mod Statuses
+pub mod Streams
+pub mod Outcomes
+pub mod Words

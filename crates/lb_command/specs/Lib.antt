@@ -1,1 +1,4 @@
+pub mod Words
+pub mod Lines
+pub mod Streams
 pub mod Correct

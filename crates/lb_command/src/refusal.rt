@@ -2,12 +2,11 @@
 
 ghost use Rattle.std.specs.Prelude.{◌≡◌, ◌<◌};
 
-use lb_report::{BenchError, LoadError, Sent, word};
+use lb_report::{BenchError, LoadError};
 use std::alloc::AllocError;
-use std::fmt;
 
 /// Why the program prints no report: the number of a refusal, 0 to 21, and for E1 to E3 the line
-/// and the column. It prints as its line on standard error.
+/// and the column.
 #[derive(Clone, Copy)]
 pub struct Refusal {
     pub number: u8,
@@ -72,33 +71,14 @@ impl From<LoadError> for Refusal {
 }
 
 impl From<BenchError> for Refusal {
-    ghost use Rattle.lb_report.specs.Refusals.{number_of, position_of};
+    ghost use Rattle.lb_command.specs.Correct.{IsToldBy};
 
-    ghost from_gives = { λ cause refusal. (refusal.number ≡ number_of cause)
-        × (refusal.position ≡ position_of cause) };
+    ghost from_gives = { λ cause refusal. IsToldBy cause refusal };
 
     fn from(cause: BenchError) -> Refusal {
         Refusal {
             number: cause.number(),
             position: cause.position(),
-        }
-    }
-}
-
-impl From<Sent> for Refusal {
-    ghost from_gives = { λ _ refusal. refusal.number ≡ 19 };
-
-    fn from(_cause: Sent) -> Refusal {
-        Refusal::WRITE
-    }
-}
-
-impl fmt::Display for Refusal {
-    fn fmt<W: fmt::Write>(&self, f: &mut fmt::Formatter<W>) -> fmt::Result {
-        write!(f, "refused: E{} {}", self.number, word(self.number))?;
-        match self.position {
-            Some((line, column)) => write!(f, " at {line}:{column}"),
-            None => Ok(()),
         }
     }
 }

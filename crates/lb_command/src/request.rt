@@ -1,10 +1,13 @@
 //! What the words of the command line ask for.
 
-ghost use Rattle.std.specs.Prelude.{◌≡◌, ◌≤◌, Some, None, IfOk};
+ghost use Rattle.std.specs.Prelude.{◌≡◌, ◌≢◌, ◌≤◌, ◌==◌, ◌⊎◌, ℕ, false, IfOk, IfErr, OnOk, OnErr};
+ghost use Rattle.std.specs.Prelude.{map, option_map, slice_index, string_bytes};
+ghost use Rattle.clap.specs.Words.{IsAmong, app_of, first_of, found_of, kind_of, rows_of, rule_of};
+ghost use Rattle.lb_command.specs.Words as spec;
 
 use crate::refusal::Refusal;
 use clap::error::ErrorKind;
-use clap::{Arg, ArgAction, ArgMatches, Command};
+use clap::{Arg, ArgAction, ArgMatches, Command, Error};
 use lb_report::Options;
 use std::alloc::{AllocError, Global};
 
@@ -27,8 +30,8 @@ pub struct Task<'a> {
 
 /// An option with a value: what help calls the value, and what the option is for.
 fn named_argument<'a>(alloc: Global, name: &'a str, value: &'a str, help: &'a str) -> Arg<'a>
-    ensures id { result.id ≡ name.entry }
-    ensures long { result.long ≡ Some name.entry }
+    ensures rule { rule_of result ≡ spec.named name.entry.now }
+    ensures global { result.global ≡ false }
 {
     Arg::new(alloc, name)
         .long(name)
@@ -38,38 +41,58 @@ fn named_argument<'a>(alloc: Global, name: &'a str, value: &'a str, help: &'a st
 
 /// An argument that is told by its place: what help calls it, and what happens without it.
 fn placed_argument<'a>(alloc: Global, name: &'a str, value: &'a str, help: &'a str) -> Arg<'a>
-    ensures id { result.id ≡ name.entry }
-    ensures long { result.long ≡ None }
+    ensures rule { rule_of result ≡ spec.placed name.entry.now }
+    ensures global { result.global ≡ false }
 {
     Arg::new(alloc, name).value_name(value).help(help)
 }
 
+/// An option without a value.
+fn switch_argument<'a>(alloc: Global, name: &'a str, help: &'a str) -> Arg<'a>
+    ensures rule { rule_of result ≡ spec.switch name.entry.now }
+    ensures global { result.global ≡ false }
+{
+    Arg::new(alloc, name)
+        .long(name)
+        .action(ArgAction::SetTrue)
+        .help(help)
+}
+
 /// Adds the options that name a node.
-fn with_nodes<'a>(alloc: Global, command: Command<'a>) -> Result<Command<'a>, AllocError> {
+fn with_nodes<'a>(alloc: Global, command: Command<'a>) -> Result<Command<'a>, AllocError>
+    ensures { IfOk result (λ c. app_of c ≡ spec.with_nodes (app_of command.entry)) }
+{
     let node = named_argument(alloc, "node", "NAME", "the node under test");
     let command = command.arg(node.default_value("main"))?;
     let help = "the node that judges it; without one it judges itself";
     command.arg(named_argument(alloc, "observe", "NAME", help))
 }
 
-/// Adds the options that tell how the work is spread.
-fn with_spread<'a>(alloc: Global, command: Command<'a>) -> Result<Command<'a>, AllocError> {
+/// Adds the options that tell of workers and batches.
+fn with_numbers<'a>(alloc: Global, command: Command<'a>) -> Result<Command<'a>, AllocError>
+    ensures { IfOk result (λ c. app_of c ≡ spec.with_numbers (app_of command.entry)) }
+{
     let help = "how many workers run the batches, 0 to 64";
     let workers = named_argument(alloc, "workers", "N", help);
     let command = command.arg(workers.default_value("1"))?;
     let help = "how many traces are in a batch at most, 1 to 64";
     let batch = named_argument(alloc, "batch", "N", help);
-    let command = command.arg(batch.default_value("64"))?;
-    command.arg(
-        Arg::new(alloc, "by-length")
-            .long("by-length")
-            .action(ArgAction::SetTrue)
-            .help("puts traces of like length into one batch"),
-    )
+    command.arg(batch.default_value("64"))
+}
+
+/// Adds the options that tell how the work is spread.
+fn with_spread<'a>(alloc: Global, command: Command<'a>) -> Result<Command<'a>, AllocError>
+    ensures { IfOk result (λ c. app_of c ≡ spec.with_spread (app_of command.entry)) }
+{
+    let command = with_numbers(alloc, command)?;
+    let help = "puts traces of like length into one batch";
+    command.arg(switch_argument(alloc, "by-length", help))
 }
 
 /// Adds the inputs.
-fn with_inputs<'a>(alloc: Global, command: Command<'a>) -> Result<Command<'a>, AllocError> {
+fn with_inputs<'a>(alloc: Global, command: Command<'a>) -> Result<Command<'a>, AllocError>
+    ensures { IfOk result (λ c. app_of c ≡ spec.with_inputs (app_of command.entry)) }
+{
     let help = "the source; without it standard input holds source and traces";
     let command = command.arg(placed_argument(alloc, "source", "SOURCE", help))?;
     let help = "the traces; without it standard input holds them";
@@ -77,52 +100,131 @@ fn with_inputs<'a>(alloc: Global, command: Command<'a>) -> Result<Command<'a>, A
 }
 
 /// The command line that the program knows.
-fn command_line<'a>(alloc: Global) -> Result<Command<'a>, AllocError> {
+fn command_line<'a>(alloc: Global) -> Result<Command<'a>, AllocError>
+    ensures { IfOk result (λ c. app_of c ≡ spec.command_line) }
+{
     let about = "Runs one node of a Lustre V6 source over recorded traces.";
     let command = with_nodes(alloc, Command::new(alloc, "lbench").about(about))?;
     let command = with_spread(alloc, command)?;
     with_inputs(alloc, command)
 }
 
+/// What the words give for an argument, or what stands for none.
+fn text_of<'a>(matches: &ArgMatches<'a>, id: &str) -> Option<&'a str>
+    ensures { option_map (λ s. s.now) result ≡ first_of id.now (rows_of (found_of matches.now)) }
+{
+    matches.get_str(id)
+}
+
+/// Whether a text has a plus in front.
+fn has_plus(text: &str) -> bool
+    ensures { result ≡ (slice_index text.now 0 == 43) }
+{
+    match text.as_bytes() {
+        [first, ..] => *first == b'+',
+        [] => false,
+    }
+}
+
 /// The number that ASCII digits spell, if it is from `least` to `most`.
 fn number(text: &str, least: u32, most: u32) -> Result<u32, Refusal>
-    ensures least { IfOk result (λ n. least ≤ n) }
-    ensures most { IfOk result (λ n. n ≤ most) }
+    ensures ok { IfOk result (spec.IsNumber text.now least most) }
+    ensures usage { IfErr result (λ refusal. refusal.number ≡ 20) }
+    ensures err { OnErr result ((n : ℕ) → spec.IsNumber text.now least most n → ⊥) }
 {
-    let is_decimal = text.as_bytes().iter().all(|b| b.is_ascii_digit());
+    if has_plus(text) {
+        return Err(Refusal::USAGE);
+    }
     match text.parse::<u32>() {
-        Ok(n) if is_decimal && least <= n && n <= most => Ok(n),
+        Ok(n) if least <= n && n <= most => Ok(n),
         _ => Err(Refusal::USAGE),
     }
 }
 
+/// A number that the words give.
+fn number_of(
+    matches: &ArgMatches<'_>,
+    id: &str,
+    default: &str,
+    least: u32,
+    most: u32,
+) -> Result<u32, Refusal>
+    ensures ok { IfOk result (spec.HasNumber (rows_of (found_of matches.now)) id.now default.now
+        least most) }
+    ensures usage { IfErr result (λ refusal. refusal.number ≡ 20) }
+    ensures err { OnErr result ((n : ℕ) →
+        spec.HasNumber (rows_of (found_of matches.now)) id.now default.now least most n → ⊥) }
+{
+    number(text_of(matches, id).unwrap_or(default), least, most)
+}
+
 /// The options that the words give.
-fn options(alloc: Global, matches: &ArgMatches<'_>) -> Result<Options, Refusal> {
-    let workers = number(matches.get_str("workers").unwrap_or("1"), 0, 64)?;
-    let batch = number(matches.get_str("batch").unwrap_or("64"), 1, 64)?;
+fn options(alloc: Global, matches: &ArgMatches<'_>) -> Result<Options, Refusal>
+    ensures ok { IfOk result (spec.IsOptions (rows_of (found_of matches.now))) }
+    ensures err { IfErr result (λ refusal. (refusal.number ≡ 0)
+        ⊎ ((refusal.number ≡ 20) × spec.IsWrongNumber (rows_of (found_of matches.now)))) }
+{
+    let workers = number_of(matches, "workers", "1", 0, 64)?;
+    let batch = number_of(matches, "batch", "64", 1, 64)?;
     let by_length = matches.get_flag("by-length");
-    let node = String::from_str(alloc, matches.get_str("node").unwrap_or("main"))?;
-    let observer = match matches.get_str("observe") {
+    let node = String::from_str(alloc, text_of(matches, "node").unwrap_or("main"))?;
+    let observer = match text_of(matches, "observe") {
         Some(name) => Some(String::from_str(alloc, name)?),
         None => None,
     };
     Ok(Options::new(node, observer, workers, batch, by_length))
 }
 
+/// The run that the words ask for.
+fn read_task<'a>(alloc: Global, matches: &ArgMatches<'a>) -> Result<Task<'a>, Refusal>
+    ensures ok { IfOk result (spec.IsTask (rows_of (found_of matches.now))) }
+    ensures err { IfErr result (λ refusal. (refusal.number ≡ 0)
+        ⊎ ((refusal.number ≡ 20) × spec.IsWrongNumber (rows_of (found_of matches.now)))) }
+{
+    Ok(Task {
+        options: options(alloc, matches)?,
+        source: text_of(matches, "source"),
+        traces: text_of(matches, "traces"),
+    })
+}
+
+/// The help text, if the error of a command line is that it asks for help.
+fn help(alloc: Global, error: &Error) -> Result<String, Refusal>
+    ensures ok { OnOk result (kind_of error.now ≡ ErrorKind.DisplayHelp) }
+    ensures err { IfErr result (λ refusal. (refusal.number ≡ 0) ⊎ ((refusal.number ≡ 20)
+        × (kind_of error.now ≢ ErrorKind.DisplayHelp)
+        × (kind_of error.now ≢ ErrorKind.OutOfMemory))) }
+{
+    match error.kind() {
+        ErrorKind::DisplayHelp => Ok(format!(in alloc; "{error}")?),
+        ErrorKind::OutOfMemory => Err(Refusal::MEMORY),
+        _ => Err(Refusal::USAGE),
+    }
+}
+
+/// What the parser makes of the words.
+fn parse<'a>(command: Command<'a>, words: &'a [String]) -> Result<ArgMatches<'a>, Error>
+    requires { app_of command ≡ spec.command_line }
+    ensures ok { IfOk result (λ matches.
+        rows_of (found_of matches) ≡ spec.values_of (map string_bytes words.entry.now)) }
+    ensures err { IfErr result (λ error. kind_of error ≢ ErrorKind.OutOfMemory →
+        IsAmong (kind_of error) (spec.faults_of (map string_bytes words.entry.now))) }
+{
+    command.try_get_matches_from(words)
+}
+
 /// What the words ask for; the first is the program's name. The errors are E0 and E20.
 // Out of line, lest what the command line is made of stand on the stack of a whole run.
 #[inline(never)]
-pub fn read_words(alloc: Global, words: &[String]) -> Result<Request<'_>, Refusal> {
-    match command_line(alloc)?.try_get_matches_from(words) {
-        Ok(matches) => Ok(Request::Run(Task {
-            options: options(alloc, &matches)?,
-            source: matches.get_str("source"),
-            traces: matches.get_str("traces"),
-        })),
-        Err(error) => match error.kind() {
-            ErrorKind::DisplayHelp => Ok(Request::Help(format!(in alloc; "{error}")?)),
-            ErrorKind::OutOfMemory => Err(Refusal::MEMORY),
-            _ => Err(Refusal::USAGE),
-        },
+#[tactic(auto, using(crate::proofs::Words::asks_for_help))]
+pub fn read_words(alloc: Global, words: &[String]) -> Result<Request<'_>, Refusal>
+    ensures ok { IfOk result (spec.IsRequest (map string_bytes words.now)) }
+    ensures err { IfErr result (λ refusal. (refusal.number ≡ 0)
+        ⊎ ((refusal.number ≡ 20) × spec.IsUnlawful (map string_bytes words.now))) }
+{
+    let command = command_line(alloc)?;
+    match parse(command, words) {
+        Ok(matches) => Ok(Request::Run(read_task(alloc, &matches)?)),
+        Err(error) => Ok(Request::Help(help(alloc, &error)?)),
     }
 }

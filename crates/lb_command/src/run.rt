@@ -1,112 +1,202 @@
 //! A run of the program, on any streams.
 
-ghost use Rattle.std.specs.Prelude.{◌≡◌, ◌≢◌, ◌<◌, IfOk, IfErr};
-ghost use Rattle.std.specs.Io.KnownBytes.{Keeps};
-ghost use Rattle.lb_command.specs.Correct.{refusal_status};
+ghost use Rattle.std.specs.Prelude.{◌≡◌, ℕ, ◌<◌, List, Err, Ok, IfErr, IfOk, OnErr, OnOk, map};
+ghost use Rattle.std.specs.Prelude.{string_bytes};
+ghost use Rattle.std.specs.Io.KnownBytes.{Appends};
+ghost use Rattle.lb_report.specs.declared.error.BenchError.{BenchError as Cause};
+ghost use Rattle.lb_command.specs.Correct as spec;
+ghost use Rattle.lb_command.specs.Streams.{change};
 
+use crate::line::refuse;
 use crate::refusal::Refusal;
 use crate::request::{Request, Task, read_words};
-use lb_report::{Reader, Report, Writer, bench, bench_file, load, run_case, send};
+use lb_report::{
+    BenchError, Feed, Options, Reader, Report, Sink, SinkFailed, bench, bench_file, load, run_case,
+    send,
+};
 use std::alloc::Global;
 use std::fs::File;
-use std::io::{Read, Write};
 use std::os::unix::fs::FileExt;
 use std::rt::Runtime;
 use std::thread::Threads;
 
-/// The bytes of an input.
-fn load_input<I: Read>(alloc: Global, reader: &mut I) -> Result<Vec<u8>, Refusal> {
-    Ok(load(alloc, &mut Reader::new(reader))?)
+/// What a run has for the output.
+#[derive(Drop)]
+pub enum Answer {
+    /// The report on traces.
+    OfTraces(Report),
+    /// The help text.
+    Help(String),
 }
 
-/// The bytes of a file, or of an input where there is no path.
-fn load_from<R, I>(rt: &R, path: Option<&str>, reader: &mut I) -> Result<Vec<u8>, Refusal>
-where
-    R: Runtime + AllocGlobal,
-    I: Read,
+impl Answer {
+    /// The bytes for the output.
+    fn text(&self) -> &[u8]
+        ensures { result.now ≡ spec.text_of self.now }
+    {
+        match self {
+            Answer::OfTraces(report) => report.text.as_slice(),
+            Answer::Help(text) => text.as_bytes(),
+        }
+    }
+
+    /// The exit status where it goes out.
+    fn status(&self) -> u8
+        ensures { result ≡ spec.status_of self.now }
+    {
+        match self {
+            Answer::OfTraces(report) => report.status,
+            Answer::Help(_) => 0,
+        }
+    }
+}
+
+/// The bytes of an input. The errors are E0 and E21.
+#[tactic(auto, using(crate::proofs::Outcomes::load_unread))]
+fn load_input<F: Feed>(alloc: Global, feed: &mut F) -> Result<Vec<u8>, Refusal>
+    requires { F.failures feed.old < u64.MAX }
+    ensures ok { IfOk result (λ bytes. spec.IsInput (F.coming feed.old) bytes.items) }
+    ensures err { IfErr result spec.IsUnread }
 {
-    let Some(path) = path else {
-        return load_input(rt.alloc(), reader);
-    };
+    Ok(load(alloc, feed)?)
+}
+
+/// The bytes of a file. The errors are E0 and E21.
+fn load_file<R: Runtime + AllocGlobal>(rt: &R, path: &str) -> Result<Vec<u8>, Refusal>
+    ensures { IfErr result spec.IsUnread }
+{
     match File::open(rt, path) {
-        Ok(mut file) => load_input(rt.alloc(), &mut file),
+        Ok(mut file) => load_input(rt.alloc(), &mut Reader::new(&mut file)),
         Err(_) => Err(Refusal::READ),
     }
 }
 
-/// The report of a task.
-#[tactic(auto, using(crate::proofs::Statuses::report_status, crate::proofs::Statuses::reported_status))]
-fn report<R, I>(rt: &R, task: &Task<'_>, reader: &mut I) -> Result<Report, Refusal>
+/// What the bench answers, with its error as the refusal that tells of it.
+fn told(answer: Result<Report, BenchError>) -> Result<Report, Refusal>
+    ensures ok { IfOk result (λ report. answer ≡ Ok report) }
+    ensures err { IfErr result (λ refusal.
+        (e : Cause) × (answer ≡ Err e) × spec.IsToldBy e refusal) }
+{
+    match answer {
+        Ok(report) => Ok(report),
+        Err(cause) => Err(Refusal::from(cause)),
+    }
+}
+
+/// The report on the parts of the input.
+fn report_on_case<R, F>(rt: &R, options: &Options, reader: &mut F) -> Result<Report, Refusal>
+where
+    R: Runtime + AllocGlobal + Threads + Sync,
+    F: Feed,
+    requires { F.failures reader.old < u64.MAX }
+    ensures { spec.IsOutcomeOn (spec.AreParts (F.coming reader.old)) options.now result }
+{
+    let case = load_input(rt.alloc(), reader)?;
+    told(run_case(rt, case.as_slice(), options))
+}
+
+/// The report on a source file and the input.
+fn report_on_input<R, F>(
+    rt: &R,
+    path: &str,
+    options: &Options,
+    reader: &mut F,
+) -> Result<Report, Refusal>
+where
+    R: Runtime + AllocGlobal + Threads + Sync,
+    F: Feed,
+    requires { F.failures reader.old < u64.MAX }
+    ensures { spec.IsOutcomeOn (λ _ traces. spec.IsInput (F.coming reader.old) traces)
+        options.now result }
+{
+    let source = load_file(rt, path)?;
+    let traces = load_input(rt.alloc(), reader)?;
+    told(bench(rt, source.as_slice(), traces.as_slice(), options))
+}
+
+/// The report on a source file and a file of traces.
+fn report_on_files<R>(
+    rt: &R,
+    path: &str,
+    traces_path: &str,
+    options: &Options,
+) -> Result<Report, Refusal>
 where
     R: Runtime + AllocGlobal + Threads + Sync,
     R::File: FileExt + Sync,
-    I: Read,
-    ensures { IfOk result (λ report. report.status < 2) }
+    ensures { spec.IsOutcomeOn (λ _ _. Unit {0}) options.now result }
 {
-    let source = load_from(rt, task.source, reader)?;
-    if task.source.is_none() {
-        return Ok(run_case(rt, source.as_slice(), &task.options)?);
-    }
-    if let Some(path) = task.traces
-        && let Some(report) = bench_file(rt, source.as_slice(), path, &task.options)
-    {
+    let source = load_file(rt, path)?;
+    if let Some(report) = bench_file(rt, source.as_slice(), traces_path, options) {
         return Ok(report);
     }
-    let traces = load_from(rt, task.traces, reader)?;
-    Ok(bench(rt, source.as_slice(), traces.as_slice(), &task.options)?)
+    let traces = load_file(rt, traces_path)?;
+    told(bench(rt, source.as_slice(), traces.as_slice(), options))
 }
 
-/// Writes a text to its end, and answers the status that goes with it.
-fn deliver<W: Write>(writer: &mut W, text: &[u8], status: u8) -> Result<u8, Refusal>
-    ensures ok { IfOk result (λ answer. answer ≡ status) }
-    ensures err { IfErr result (λ refusal. refusal.number ≡ 19) }
+/// The report of a task.
+fn report<R, F>(rt: &R, task: &Task<'_>, reader: &mut F) -> Result<Report, Refusal>
+where
+    R: Runtime + AllocGlobal + Threads + Sync,
+    R::File: FileExt + Sync,
+    F: Feed,
+    requires { F.failures reader.old < u64.MAX }
+    ensures { spec.IsOutcomeOn (spec.AreTexts task.now (F.coming reader.old)) task.now.options
+        result }
 {
-    send(&mut Writer::new(&mut *writer), text)?;
-    match writer.flush() {
-        Ok(()) => Ok(status),
-        Err(_) => Err(Refusal::WRITE),
+    let Some(path) = task.source else {
+        return report_on_case(rt, &task.options, reader);
+    };
+    match task.traces {
+        None => report_on_input(rt, path, &task.options, reader),
+        Some(traces_path) => report_on_files(rt, path, traces_path, &task.options),
     }
 }
 
-/// Does a task, and answers the status of its report where that went out.
-fn run_task<R, I, W>(rt: &R, task: &Task<'_>, reader: &mut I, writer: &mut W) -> Result<u8, Refusal>
+/// What the words ask for.
+fn answer_to<R, F>(rt: &R, words: &[String], reader: &mut F) -> Result<Answer, Refusal>
 where
     R: Runtime + AllocGlobal + Threads + Sync,
     R::File: FileExt + Sync,
-    I: Read,
-    W: Write,
-    ensures ok { IfOk result (λ status. status < 2) }
-    ensures err { IfErr result (λ refusal. refusal.number ≢ 19 →
-        Keeps (W.contents writer.old) (W.contents writer.new)) }
-{
-    let report = report(rt, task, reader)?;
-    deliver(writer, report.text.as_slice(), report.status)
-}
-
-/// Does what the words ask for, and answers the status where a report or the help text went out.
-fn run<R, I, W>(rt: &R, words: &[String], reader: &mut I, writer: &mut W) -> Result<u8, Refusal>
-where
-    R: Runtime + AllocGlobal + Threads + Sync,
-    R::File: FileExt + Sync,
-    I: Read,
-    W: Write,
-    ensures ok { IfOk result (λ status. status < 2) }
-    ensures err { IfErr result (λ refusal. refusal.number ≢ 19 →
-        Keeps (W.contents writer.old) (W.contents writer.new)) }
+    F: Feed,
+    requires { F.failures reader.old < u64.MAX }
+    ensures ok { IfOk result (spec.IsAnswer (map string_bytes words.now) (F.coming reader.old)) }
+    ensures err { IfErr result (spec.IsRefusal (map string_bytes words.now)
+        (F.coming reader.old)) }
 {
     match read_words(rt.alloc(), words)? {
-        Request::Help(text) => deliver(writer, text.as_bytes(), 0),
-        Request::Run(task) => run_task(rt, &task, reader, writer),
+        Request::Help(text) => Ok(Answer::Help(text)),
+        Request::Run(task) => Ok(Answer::OfTraces(report(rt, &task, reader)?)),
     }
 }
 
-/// Prints the line of a refusal, and answers its exit status.
-pub fn refuse<E: Write>(refusal: &Refusal, errors: &mut E) -> u8
-    ensures { result ≡ refusal_status refusal.now.number }
+/// Writes a text to its end, and hands it on.
+fn put<S: Sink>(sink: &mut S, text: &[u8]) -> Result<(), SinkFailed>
+    requires { S.failures sink.old < u64.MAX }
+    ensures all { OnOk result (Appends (S.taken sink.old) (S.taken sink.new) text.now) }
+    ensures ok { OnOk result (S.failures sink.new ≡ S.failures sink.old) }
+    ensures failed { OnErr result (S.failures sink.old < S.failures sink.new) }
 {
-    // Where standard error fails too, the status tells the refusal.
-    let _ = writeln!(errors, "{refusal}");
-    refusal.status()
+    match send(sink, text) {
+        Ok(()) => sink.flush(),
+        Err(_) => Err(SinkFailed),
+    }
+}
+
+/// Writes an answer, and answers the exit status.
+fn deliver<W: Sink, E: Sink>(answer: &Answer, writer: &mut W, errors: &mut E) -> u8
+    requires writer { W.failures writer.old < u64.MAX }
+    requires errors { E.failures errors.old < u64.MAX }
+    ensures { spec.IsDelivered answer.now result
+        (change (W.taken writer.old) (W.taken writer.new)
+        (W.failures writer.old) (W.failures writer.new))
+        (change (E.taken errors.old) (E.taken errors.new)
+        (E.failures errors.old) (E.failures errors.new)) }
+{
+    match put(writer, answer.text()) {
+        Ok(()) => answer.status(),
+        Err(_) => refuse(&Refusal::WRITE, errors),
+    }
 }
 
 /// Runs the program on these words, the program's name first, and answers its exit status.
@@ -117,26 +207,30 @@ pub fn refuse<E: Write>(refusal: &Refusal, errors: &mut E) -> u8
 /// | 1 | a report in which some trace has a fault, is undefined or false |
 /// | 2 | refused: E1 to E18, E20 |
 /// | 3 | E0, E19, E21 |
-pub fn command<R, I, W, E>(
+pub fn command<R, F, W, E>(
     rt: &R,
     words: &[String],
-    reader: &mut I,
+    reader: &mut F,
     writer: &mut W,
     errors: &mut E,
 ) -> u8
 where
     R: Runtime + AllocGlobal + Threads + Sync,
     R::File: FileExt + Sync,
-    I: Read,
-    W: Write,
-    E: Write,
-    ensures known { result < 4 }
-    // A report leaves standard error as it was, and what is refused as E1 to E18 or E20 the output.
-    ensures report { result < 2 → Keeps (E.contents errors.old) (E.contents errors.new) }
-    ensures refused { result ≡ 2 → Keeps (W.contents writer.old) (W.contents writer.new) }
+    F: Feed,
+    W: Sink,
+    E: Sink,
+    requires reader { F.failures reader.old < u64.MAX }
+    requires writer { W.failures writer.old < u64.MAX }
+    requires errors { E.failures errors.old < u64.MAX }
+    ensures { spec.IsRun (map string_bytes words.now) (F.coming reader.old) result
+        (change (W.taken writer.old) (W.taken writer.new)
+        (W.failures writer.old) (W.failures writer.new))
+        (change (E.taken errors.old) (E.taken errors.new)
+        (E.failures errors.old) (E.failures errors.new)) }
 {
-    match run(rt, words, reader, writer) {
-        Ok(status) => status,
+    match answer_to(rt, words, reader) {
+        Ok(answer) => deliver(&answer, writer, errors),
         Err(refusal) => refuse(&refusal, errors),
     }
 }

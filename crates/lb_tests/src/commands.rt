@@ -2,6 +2,7 @@
 
 use crate::tables::{Asks, Table, check};
 use lb_command::command;
+use lb_report::{Reader, Writer};
 use std::alloc::{AllocError, Global};
 use std::os::unix::fs::FileExt;
 use std::rt::Runtime;
@@ -31,8 +32,13 @@ where
     let words = words_of(rt.alloc(), line)?;
     let mut output: Vec<u8> = Vec::new(rt.alloc());
     let mut errors: Vec<u8> = Vec::new(rt.alloc());
-    let mut reader = input.as_bytes();
-    let status = command(rt, words.as_slice(), &mut reader, &mut output, &mut errors);
+    let status = command(
+        rt,
+        words.as_slice(),
+        &mut Reader::new(input.as_bytes()),
+        &mut Writer::new(&mut output),
+        &mut Writer::new(&mut errors),
+    );
     let printed = std::str::from_utf8(errors.as_slice()).unwrap_or("no text");
     let output = if output.is_empty() {
         ""

@@ -9,7 +9,7 @@ use lb_check::{Verdict, check as check_rules};
 use lb_command::command;
 use lb_flat::{Ordered, TraceSet, eval_trace, expand, order};
 use lb_pool::{ClaimBoard, ClaimSeat, Gate, Plan, run_claims};
-use lb_report::{split_case, status};
+use lb_report::{Reader, Writer, split_case, status};
 use lb_static::{Signature, elaborate};
 use lb_syntax::{Source, parse};
 use lb_trace::read_traces;
@@ -259,8 +259,13 @@ where
     let words = words_of(rt.alloc(), line)?;
     let mut output: Vec<u8> = Vec::new(rt.alloc());
     let mut errors: Vec<u8> = Vec::new(rt.alloc());
-    let mut reader = case.as_bytes();
-    let status = command(rt, words.as_slice(), &mut reader, &mut output, &mut errors);
+    let status = command(
+        rt,
+        words.as_slice(),
+        &mut Reader::new(case.as_bytes()),
+        &mut Writer::new(&mut output),
+        &mut Writer::new(&mut errors),
+    );
     let printed = std::str::from_utf8(output.as_slice()).unwrap_or("no text");
     write!(said, "{printed}status {status}")
 }

@@ -1,10 +1,13 @@
 //! The program: one node over many recorded traces, one verdict for each.
 #![tactic(auto)]
 
+ghost use Rattle.std.specs.Prelude.{◌<◌};
+
 use lb_command::{Refusal, command, refuse};
+use lb_report::{Feed, Reader, Sink, Writer};
 use std::alloc::Global;
 use std::env;
-use std::io::{self, ErrorKind, Read, Write};
+use std::io::{self, ErrorKind};
 use std::os::unix::fs::FileExt;
 use std::process::ExitCode;
 use std::rt::Runtime;
@@ -23,13 +26,16 @@ fn words<R: Runtime + AllocGlobal>(rt: &R) -> Result<Vec<String>, Refusal> {
 const STACK: usize = 2 << 20;
 
 /// Runs the program on these streams, and answers its exit status.
-fn run<R, I, W, E>(rt: &R, reader: &mut I, writer: &mut W, errors: &mut E) -> u8
+fn run<R, F, W, E>(rt: &R, reader: &mut F, writer: &mut W, errors: &mut E) -> u8
 where
     R: Runtime + AllocGlobal + Threads + Sync,
     R::File: FileExt + Sync,
-    I: Read,
-    W: Write,
-    E: Write,
+    F: Feed,
+    W: Sink,
+    E: Sink,
+    requires reader { F.failures reader.old < u64.MAX }
+    requires writer { W.failures writer.old < u64.MAX }
+    requires errors { E.failures errors.old < u64.MAX }
 {
     match words(rt) {
         Ok(words) => command(rt, words.as_slice(), reader, writer, errors),
@@ -41,11 +47,17 @@ fn main(rt: HostRuntime) -> ExitCode {
     let builder = Builder::new().stack_size(STACK);
     let status = match builder.spawn(&rt, move || {
         let stderr = rt.stderr();
-        let mut errors = io::writer(&stderr);
-        run(&rt, &mut rt.stdin(), &mut io::writer(&rt), &mut errors)
+        let mut reader = Reader::new(rt.stdin());
+        let mut writer = Writer::new(io::writer(&rt));
+        run(
+            &rt,
+            &mut reader,
+            &mut writer,
+            &mut Writer::new(io::writer(&stderr)),
+        )
     }) {
         Ok(thread) => thread.join(&rt),
-        Err(_) => refuse(&Refusal::MEMORY, &mut io::writer(&rt.stderr())),
+        Err(_) => refuse(&Refusal::MEMORY, &mut Writer::new(io::writer(&rt.stderr()))),
     };
     ExitCode::from(status)
 }

@@ -1,0 +1,65 @@
+-- What the parser of words answers at the command line that the program knows.
+use Rattle.std.proofs.Common.{◌≡◌, ◌≢◌, ◌∙◌, ◌⊎◌, List, Result, Ok, Err, true, ap, subst, refl, sym}
+use Rattle.std.proofs.Common.{ℕ, inl, inr}
+use Rattle.std.specs.Prelude.{IfErr}
+use Rattle.clap.specs.Words.{App, FailsBy, HasMatchesOf, IsAmong, Text, fault_of, found_of}
+use Rattle.clap.specs.Words.{is_simple, is_simple_and_free, kind_of, matches_of, rows_of}
+use Rattle.clap.specs.declared.parser.matches.ArgMatches.{ArgMatches}
+use Rattle.clap.specs.declared.error.Error.{Error}
+use Rattle.clap.specs.declared.error.kind.ErrorKind.TheVariants.{DisplayHelp, OutOfMemory}
+use Rattle.lb_command.specs.Words.{AsksForHelp, IsUnlawful, command_line, faults_of, values_of}
+use Rattle.lb_command.specs.Words.IsUnlawful.{fault}
+
+is_simple_line : is_simple command_line ≡ true
+unfolding command_line
+is_simple_line = refl
+
+is_free_line : is_simple_and_free command_line ≡ true
+unfolding command_line
+is_free_line = refl
+
+-- the values that were found
+pub values_are : (app : App) (words : List Text) (m : ArgMatches) → app ≡ command_line
+    → HasMatchesOf app words m → rows_of (found_of m) ≡ values_of words
+unfolding values_of
+values_are app words m same has =
+    (has (ap is_simple same ∙ is_simple_line)).0 ∙ ap (λ (a : App). matches_of a words) same
+
+-- the kinds of an error
+pub faults_are : {T : Type 0} (app : App) (words : List Text) (r : Result T Error)
+    → app ≡ command_line
+    → (is_simple_and_free app ≡ true → FailsBy (fault_of app words) r)
+    → IfErr r (λ e. kind_of e ≢ OutOfMemory → IsAmong (kind_of e) (faults_of words))
+unfolding faults_of
+faults_are app words (Ok m) same fails = tt
+faults_are app words (Err e) same fails = λ not_memory.
+    subst (λ (a : App). IsAmong (kind_of e) (fault_of a words)) same
+    (elim (fails (ap is_simple_and_free same ∙ is_free_line)) [
+      | inl memory ↦ absurd (not_memory memory)
+      | inr is ↦ is
+    ])
+
+not_memory : (e : Error) → kind_of e ≡ DisplayHelp → kind_of e ≢ OutOfMemory
+not_memory e help memory = let no : DisplayHelp ≡ OutOfMemory = sym help ∙ memory in cc
+
+pub asks_for_help : (words : List Text) (e : Error)
+    → (kind_of e ≢ OutOfMemory → IsAmong (kind_of e) (faults_of words)) → kind_of e ≡ DisplayHelp
+    → AsksForHelp words
+asks_for_help words e among help =
+    subst (λ k. IsAmong k (faults_of words)) help (among (not_memory e help))
+
+is_unlawful : (words : List Text) (e : Error)
+    → (kind_of e ≢ OutOfMemory → IsAmong (kind_of e) (faults_of words))
+    → kind_of e ≢ DisplayHelp → kind_of e ≢ OutOfMemory → IsUnlawful words
+is_unlawful words e among not_help not_memory =
+    fault (kind_of e) (among not_memory) not_help
+
+-- the refusal of words that are no request for help
+pub refused_by : (words : List Text) (e : Error) (number : ℕ)
+    → (kind_of e ≢ OutOfMemory → IsAmong (kind_of e) (faults_of words))
+    → (number ≡ 0)
+    ⊎ ((number ≡ 20) × (kind_of e ≢ DisplayHelp) × (kind_of e ≢ OutOfMemory))
+    → (number ≡ 0) ⊎ ((number ≡ 20) × IsUnlawful words)
+refused_by words e number among (inl memory) = inl memory
+refused_by words e number among (inr (usage, not_help, not_memory)) =
+    inr (usage, is_unlawful words e among not_help not_memory)

@@ -1,0 +1,18 @@
+use Rattle.std.proofs.Common.{◌≡◌, ◌∙◌, ap, codes}
+use Rattle.std.proofs.lemmas.Result.{IfOk-weaker}
+use Rattle.clap.specs.Words.{app_of, new_app}
+use Rattle.clap.specs.Simple.{app_of_fields}
+use Rattle.lb_command.specs.Words.{command_line, with_inputs, with_nodes, with_spread}
+use Rattle.lb_command.proofs.request.command_line.Goals as goal
+
+pub returns : goal.returns
+unfolding command_line
+returns c =
+    let made : app_of c.about.result ≡ new_app (codes "lbench") =
+    ap app_of_fields c.about.ensures ∙ c.new.ensures.app in
+    let both : app_of c.in_ok-command-2.command
+    ≡ with_spread (with_nodes (new_app (codes "lbench"))) =
+    c.in_ok-command-2.ensures
+    ∙ ap with_spread (c.in_ok-command.ensures ∙ ap with_nodes made) in
+    IfOk-weaker c.with_inputs.result _ _ (λ new is. is ∙ ap with_inputs both)
+    c.with_inputs.ensures

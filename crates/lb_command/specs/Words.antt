@@ -1,0 +1,105 @@
+-- The command line that the program knows, and what its words ask for.
+-- Source: this project's rule; what words make of a command line is what the library `clap` says.
+use Rattle.std.specs.Prelude.{◌≡◌, ◌≢◌, ℕ, ◌≤◌, List, [], ◌∷◌, codes, unwrap_or, option_map}
+use Rattle.std.specs.Prelude.{Some, string_bytes}
+use Rattle.std.specs.Str.Parse.{IsNumeral, digits_value}
+use Rattle.clap.specs.Words.{App, IsAmong, Kinds, Row, Rule, Text, fault_of, first_of, matches_of}
+use Rattle.clap.specs.Words.{new_app, new_rule, with_rule}
+use Rattle.clap.specs.declared.builder.action.ArgAction.TheVariants.{SetTrue}
+use Rattle.clap.specs.declared.error.kind.ErrorKind.{ErrorKind}
+use Rattle.clap.specs.declared.error.kind.ErrorKind.TheVariants.{DisplayHelp}
+use Rattle.lb_report.specs.declared.options.Options.{Options}
+use Rattle.lb_command.specs.declared.request.Request.{Request}
+use Rattle.lb_command.specs.declared.request.Request.TheVariants.{Help, Run}
+use Rattle.lb_command.specs.declared.request.Task.{Task}
+
+-- ## The command line
+
+-- an option with a value, and an argument that is told by its place
+abbrev pub named : Text → Rule
+named name = record (new_rule name) { long = Some name; value_names = 1 }
+
+abbrev pub placed : Text → Rule
+placed name = record (new_rule name) { value_names = 1 }
+
+-- with a value that stands for none
+abbrev pub by_default : Text → Rule → Rule
+by_default value rule = record rule { defaults = value ∷ [] }
+
+-- an option without a value
+abbrev pub switch : Text → Rule
+switch name = record (new_rule name) { long = Some name; action = Some SetTrue }
+
+abbrev pub with_nodes : App → App
+with_nodes app =
+    with_rule (with_rule app (by_default (codes "main") (named (codes "node"))))
+    (named (codes "observe"))
+
+abbrev pub with_numbers : App → App
+with_numbers app =
+    with_rule (with_rule app (by_default (codes "1") (named (codes "workers"))))
+    (by_default (codes "64") (named (codes "batch")))
+
+abbrev pub with_spread : App → App
+with_spread app = with_rule (with_numbers app) (switch (codes "by-length"))
+
+abbrev pub with_inputs : App → App
+with_inputs app = with_rule (with_rule app (placed (codes "source"))) (placed (codes "traces"))
+
+-- the command line that the program knows
+unfoldable pub command_line : App
+command_line = with_inputs (with_spread (with_nodes (new_app (codes "lbench"))))
+
+-- what the parser makes of the words, and the kinds of error that it has for them
+unfoldable pub values_of : List Text → List Row
+values_of words = matches_of command_line words
+
+unfoldable pub faults_of : List Text → Kinds
+faults_of words = fault_of command_line words
+
+-- ## What the words ask for
+
+-- ASCII digits alone that spell a number in a range
+pub record IsNumber (text : Text) (least most n : ℕ) : Type 0 where
+  pub digits : IsNumeral 10 text
+  pub value : digits_value 10 text ≡ n
+  pub not_below : least ≤ n
+  pub not_above : n ≤ most
+
+-- of the values that the words give, the one of this argument is a number in a range
+abbrev pub HasNumber : List Row → (id default : Text) → (least most n : ℕ) → Type 0
+HasNumber rows id default least most n =
+    IsNumber (unwrap_or (first_of id rows) default) least most n
+
+-- the options that the values give; whether traces of like length share a batch is not told
+pub record IsOptions (rows : List Row) (options : Options) : Type 0 where
+  pub node : string_bytes options.node ≡ unwrap_or (first_of (codes "node") rows) (codes "main")
+  pub observer : option_map string_bytes options.observer ≡ first_of (codes "observe") rows
+  pub workers : HasNumber rows (codes "workers") (codes "1") 0 64 options.workers
+  pub batch : HasNumber rows (codes "batch") (codes "64") 1 64 options.batch
+
+-- the run that the values ask for
+pub record IsTask (rows : List Row) (task : Task) : Type 0 where
+  pub options : IsOptions rows task.options
+  pub source : option_map (λ s. s.now) task.source ≡ first_of (codes "source") rows
+  pub traces : option_map (λ s. s.now) task.traces ≡ first_of (codes "traces") rows
+
+-- the words ask for help
+abbrev pub AsksForHelp : List Text → Type 0
+AsksForHelp words = IsAmong DisplayHelp (faults_of words)
+
+-- what the words ask for
+abbrev pub IsRequest : List Text → Request → Type 0
+IsRequest words (Help text) = AsksForHelp words
+IsRequest words (Run task) = IsTask (values_of words) task
+
+-- a value is no number in its range
+pub data IsWrongNumber (rows : List Row) : Type 0 where
+  workers : ((n : ℕ) → HasNumber rows (codes "workers") (codes "1") 0 64 n → ⊥) → IsWrongNumber rows
+  batch : ((n : ℕ) → HasNumber rows (codes "batch") (codes "64") 1 64 n → ⊥) → IsWrongNumber rows
+
+-- the words are no command line that the program knows
+pub data IsUnlawful (words : List Text) : Type 0 where
+  fault : (kind : ErrorKind) → IsAmong kind (faults_of words) → kind ≢ DisplayHelp
+      → IsUnlawful words
+  wrong_number : IsWrongNumber (values_of words) → IsUnlawful words

@@ -1,0 +1,94 @@
+//! The line that tells of a refusal.
+
+ghost use Rattle.std.specs.Prelude.{◌≡◌, ◌<◌, OnOk, OnErr, decimal};
+ghost use Rattle.std.specs.Io.KnownBytes.{Appends};
+ghost use Rattle.lb_report.specs.Refusals.{word_of};
+ghost use Rattle.lb_command.specs.Correct.{refusal_status};
+ghost use Rattle.lb_command.specs.Lines as spec;
+ghost use Rattle.lb_command.specs.Streams.{TookOrFailed, change};
+
+use crate::refusal::Refusal;
+use itoa::{Buffer, Integer};
+use lb_report::{Sent, Sink, send, word};
+
+/// Writes a number in decimal.
+fn send_number<S: Sink>(sink: &mut S, n: u32) -> Result<(), Sent>
+    requires { S.failures sink.old < u64.MAX }
+    ensures all { OnOk result (Appends (S.taken sink.old) (S.taken sink.new) (decimal n)) }
+    ensures ok { OnOk result (S.failures sink.new ≡ S.failures sink.old) }
+    ensures failed { OnErr result (S.failures sink.old < S.failures sink.new) }
+{
+    send(sink, Buffer::new().format(n).as_bytes())
+}
+
+/// Writes the word of a refusal.
+fn send_word<S: Sink>(sink: &mut S, number: u8) -> Result<(), Sent>
+    requires number { number < 22 }
+    requires failures { S.failures sink.old < u64.MAX }
+    ensures all { OnOk result (Appends (S.taken sink.old) (S.taken sink.new) (word_of number)) }
+    ensures ok { OnOk result (S.failures sink.new ≡ S.failures sink.old) }
+    ensures failed { OnErr result (S.failures sink.old < S.failures sink.new) }
+{
+    send(sink, word(number).as_bytes())
+}
+
+/// Writes a line and a column.
+fn send_place<S: Sink>(sink: &mut S, line: u32, column: u32) -> Result<(), Sent>
+    requires { S.failures sink.old < u64.MAX }
+    ensures all { OnOk result (Appends (S.taken sink.old) (S.taken sink.new)
+        (spec.place_at line column)) }
+    ensures ok { OnOk result (S.failures sink.new ≡ S.failures sink.old) }
+    ensures failed { OnErr result (S.failures sink.old < S.failures sink.new) }
+{
+    send(sink, b" at ")?;
+    send_number(sink, line)?;
+    send(sink, b":")?;
+    send_number(sink, column)?;
+    Ok(())
+}
+
+/// Writes the place of a refusal, if it has one.
+#[tactic(auto, using(crate::proofs::Streams::takes_nothing))]
+fn send_position<S: Sink>(sink: &mut S, position: Option<(u32, u32)>) -> Result<(), Sent>
+    requires { S.failures sink.old < u64.MAX }
+    ensures all { OnOk result (Appends (S.taken sink.old) (S.taken sink.new)
+        (spec.place position)) }
+    ensures ok { OnOk result (S.failures sink.new ≡ S.failures sink.old) }
+    ensures failed { OnErr result (S.failures sink.old < S.failures sink.new) }
+{
+    match position {
+        Some((line, column)) => send_place(sink, line, column),
+        None => Ok(()),
+    }
+}
+
+/// Writes the line of a refusal.
+fn send_line<S: Sink>(sink: &mut S, refusal: &Refusal) -> Result<(), Sent>
+    requires { S.failures sink.old < u64.MAX }
+    ensures all { OnOk result (Appends (S.taken sink.old) (S.taken sink.new)
+        (spec.line refusal.now.number refusal.now.position)) }
+    ensures ok { OnOk result (S.failures sink.new ≡ S.failures sink.old) }
+    ensures failed { OnErr result (S.failures sink.old < S.failures sink.new) }
+{
+    send(sink, b"refused: E")?;
+    send_number(sink, refusal.number as u32)?;
+    send(sink, b" ")?;
+    send_word(sink, refusal.number)?;
+    send_position(sink, refusal.position)?;
+    send(sink, b"\n")?;
+    Ok(())
+}
+
+/// Writes the line of a refusal to standard error, and answers its exit status. Where standard
+/// error fails too, the status alone tells of the refusal.
+pub fn refuse<E: Sink>(refusal: &Refusal, errors: &mut E) -> u8
+    requires { E.failures errors.old < u64.MAX }
+    ensures status { result ≡ refusal_status refusal.now.number }
+    ensures told { TookOrFailed
+        (change (E.taken errors.old) (E.taken errors.new)
+        (E.failures errors.old) (E.failures errors.new))
+        (spec.line refusal.now.number refusal.now.position) }
+{
+    let _ = send_line(errors, refusal);
+    refusal.status()
+}
