@@ -1,7 +1,7 @@
 -- What the parser of words answers at the command line that the program knows.
 use Rattle.std.proofs.Common.{◌≡◌, ◌≢◌, ◌∙◌, ◌⊎◌, List, Result, Ok, Err, true, ap, subst, refl, sym}
 use Rattle.std.proofs.Common.{ℕ, inl, inr}
-use Rattle.std.specs.Prelude.{IfErr}
+use Rattle.std.specs.Prelude.{[], IfErr, OnOk}
 use Rattle.clap.specs.Words.{App, FailsBy, HasMatchesOf, IsAmong, Text, fault_of, found_of}
 use Rattle.clap.specs.Words.{is_simple, is_simple_and_free, kind_of, matches_of, rows_of}
 use Rattle.clap.specs.declared.parser.matches.ArgMatches.{ArgMatches}
@@ -24,6 +24,17 @@ pub values_are : (app : App) (words : List Text) (m : ArgMatches) → app ≡ co
 unfolding values_of
 values_are app words m same has =
     (has (ap is_simple same ∙ is_simple_line)).0 ∙ ap (λ (a : App). matches_of a words) same
+
+-- where there are values there is no fault
+pub lawful : {T : Type 0} (app : App) (words : List Text) (r : Result T Error)
+    → app ≡ command_line
+    → (is_simple_and_free app ≡ true → FailsBy (fault_of app words) r)
+    → OnOk r (faults_of words ≡ [])
+unfolding faults_of
+lawful app words (Ok m) same fails =
+    sym (ap (λ (a : App). fault_of a words) same)
+    ∙ fails (ap is_simple_and_free same ∙ is_free_line)
+lawful app words (Err e) same fails = tt
 
 -- the kinds of an error
 pub faults_are : {T : Type 0} (app : App) (words : List Text) (r : Result T Error)

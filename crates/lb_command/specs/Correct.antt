@@ -15,7 +15,7 @@ use Rattle.lb_report.specs.declared.text.Report.{Report}
 use Rattle.clap.specs.Words.{Text}
 use Rattle.lb_command.specs.Lines.{line}
 use Rattle.lb_command.specs.Streams.{Change, HasFailed, IsUntouched, Took, TookOrFailed}
-use Rattle.lb_command.specs.Words.{AsksForHelp, IsTask, IsUnlawful, values_of}
+use Rattle.lb_command.specs.Words.{AsksForHelp, IsAsked, IsUnlawful}
 use Rattle.lb_command.specs.declared.refusal.Refusal.{Refusal}
 use Rattle.lb_command.specs.declared.request.Task.{Task}
 use Rattle.lb_command.specs.declared.run.Answer.{Answer}
@@ -100,7 +100,7 @@ refusal_status number = if number == 0 || number == 19 || number == 21 then 3 el
 -- the report on the texts that the words name
 pub record IsReportFor (words : List Text) (known : Option Text) (report : Report) : Type 0 where
   pub task : Task
-  pub asked : IsTask (values_of words) task
+  pub asked : IsAsked words task
   pub reported : IsReportOn (AreTexts task known) task.options report
 
 -- a report on the texts that the words name, or the help text where they ask for it
@@ -112,7 +112,7 @@ IsAnswer words known (Help text) = AsksForHelp words
 pub data IsRefusal (words : List Text) (known : Option Text) (refusal : Refusal) : Type 0 where
   memory : refusal.number ≡ 0 → IsRefusal words known refusal
   usage : refusal.number ≡ 20 → IsUnlawful words → IsRefusal words known refusal
-  texts : (task : Task) → IsTask (values_of words) task
+  texts : (task : Task) → IsAsked words task
       → IsRefusedOn (AreTexts task known) task.options refusal → IsRefusal words known refusal
 
 -- an answer went out whole, and the status is its own; or the output failed, which is E19

@@ -88,10 +88,15 @@ pub record IsTask (rows : List Row) (task : Task) : Type 0 where
 abbrev pub AsksForHelp : List Text → Type 0
 AsksForHelp words = IsAmong DisplayHelp (faults_of words)
 
+-- the words are lawful, and ask for this run
+pub record IsAsked (words : List Text) (task : Task) : Type 0 where
+  pub lawful : faults_of words ≡ []
+  pub given : IsTask (values_of words) task
+
 -- what the words ask for
 abbrev pub IsRequest : List Text → Request → Type 0
 IsRequest words (Help text) = AsksForHelp words
-IsRequest words (Run task) = IsTask (values_of words) task
+IsRequest words (Run task) = IsAsked words task
 
 -- a value is no number in its range
 pub data IsWrongNumber (rows : List Row) : Type 0 where

@@ -1,7 +1,7 @@
 //! What the words of the command line ask for.
 
 ghost use Rattle.std.specs.Prelude.{◌≡◌, ◌≢◌, ◌≤◌, ◌==◌, ◌⊎◌, ℕ, false, IfOk, IfErr, OnOk, OnErr};
-ghost use Rattle.std.specs.Prelude.{map, option_map, slice_index, string_bytes};
+ghost use Rattle.std.specs.Prelude.{[], map, option_map, slice_index, string_bytes};
 ghost use Rattle.clap.specs.Words.{IsAmong, app_of, first_of, found_of, kind_of, rows_of, rule_of};
 ghost use Rattle.lb_command.specs.Words as spec;
 
@@ -207,6 +207,7 @@ fn parse<'a>(command: Command<'a>, words: &'a [String]) -> Result<ArgMatches<'a>
     requires { app_of command ≡ spec.command_line }
     ensures ok { IfOk result (λ matches.
         rows_of (found_of matches) ≡ spec.values_of (map string_bytes words.entry.now)) }
+    ensures lawful { OnOk result (spec.faults_of (map string_bytes words.entry.now) ≡ []) }
     ensures err { IfErr result (λ error. kind_of error ≢ ErrorKind.OutOfMemory →
         IsAmong (kind_of error) (spec.faults_of (map string_bytes words.entry.now))) }
 {

@@ -1,5 +1,5 @@
 use Rattle.std.proofs.lemmas.Result.{IfOk-weaker}
-use Rattle.lb_command.proofs.Words.{faults_are, values_are}
+use Rattle.lb_command.proofs.Words.{faults_are, lawful, values_are}
 use Rattle.lb_command.proofs.request.parse.Goals as goal
 
 pub returns-clause-ok : goal.returns-clause-ok
@@ -10,3 +10,7 @@ returns-clause-ok c =
 pub returns-clause-err : goal.returns-clause-err
 returns-clause-err c =
     faults_are _ _ c.try_get_matches_from.result c.requires c.try_get_matches_from.ensures.kinds
+
+pub returns-clause-lawful : goal.returns-clause-lawful
+returns-clause-lawful c =
+    lawful _ _ c.try_get_matches_from.result c.requires c.try_get_matches_from.ensures.kinds
