@@ -93,10 +93,14 @@ fn runs(rt: HostRuntime) -> Result<(), AllocError> {
 fn failing_output(rt: HostRuntime) -> Result<(), Fail> {
     let words = words_of(rt.alloc(), "lbench --help")?;
     let mut errors: Vec<u8> = Vec::new(rt.alloc());
-    let mut reader: &[u8] = b"";
     let mut room = [0u8; 9];
-    let mut full = room.as_mut_slice();
-    let status = command(&rt, words.as_slice(), &mut reader, &mut full, &mut errors);
+    let status = command(
+        &rt,
+        words.as_slice(),
+        &mut Reader::new(b"".as_slice()),
+        &mut Writer::new(room.as_mut_slice()),
+        &mut Writer::new(&mut errors),
+    );
     assert_eq!(rt; status, 3);
     assert_eq!(rt; errors.as_slice(), b"refused: E19 write\n".as_slice());
     Ok(())
