@@ -1,27 +1,32 @@
 -- What is read of chunks, one after the other, is what their text spells.
 use Rattle.std.proofs.Common.{ℕ, zero, suc, ◌≡◌, ◌+◌, ◌*◌, ◌-◌, ◌<◌, ◌≤◌, ◌||◌, true, false}
 use Rattle.std.proofs.Common.{List, [], ◌∷◌, ◌++◌, length, refl, sym, ap, ◌∙◌, arith, get_or, map}
-use Rattle.std.proofs.Common.{append-nil, append_assoc, length-append, subst, Option, Some}
+use Rattle.std.proofs.Common.{append-nil, append_assoc, length-append, subst, Option, Some, Ok}
 use Rattle.std.specs.Prelude.{Vec, IfSome, flat_map}
 use Rattle.std.specs.Global.{Global}
-use Rattle.std.proofs.Common.{take, drop}
-use Rattle.std.proofs.lemmas.List.{drop-take, take-append-drop, take-take, take_all}
 use Rattle.std.proofs.lemmas.Option.{IfSome_then}
-use Rattle.std.specs.List.{All, AllZip, list_any}
+use Rattle.std.specs.List.{AllZip, list_any}
 use Rattle.std.proofs.lemmas.Grind.{flat_map-append}
+use Rattle.rayon.proofs.ToStd.{chunks_of-concat}
+use Rattle.rayon.specs.Lists.{chunks_of}
 use Rattle.csv.specs.Reading.{strip_bom}
 use Rattle.csv.specs.Records.{fields_of}
 use Rattle.lb_static.specs.Signature.{Elements}
 use Rattle.lb_flat.specs.Traces.{IsRecording, Recording}
+use Rattle.lb_flat.proofs.Recordings.{IsRecording-none}
 use Rattle.lb_trace.specs.declared.recorder.Recorder.{Recorder}
 use Rattle.lb_trace.specs.declared.table.Table.{Table}
 use Rattle.lb_trace.specs.Chunks.{is_ended, text_of}
-use Rattle.lb_trace.specs.Loads.{AreReadFrom, IsChunk, IsJoined, IsOneRead, IsRecorder, Loading}
+use Rattle.lb_trace.specs.Loads.{AreRead, AreReadFrom, IsChunk, IsJoined, IsRead, IsRecorder}
+use Rattle.lb_trace.specs.Loads.{Loading}
+use Rattle.lb_trace.specs.Mirrors.{knows}
 use Rattle.lb_trace.specs.Plain.{has_quote, plain_records}
 use Rattle.lb_trace.specs.Spelling.{Instant, Record, SpelledBy, Spells, SpellsInstant}
 use Rattle.lb_trace.specs.Spelling.{instants, is_header, records_of}
-use Rattle.lb_trace.specs.Tables.{IsReadOf, columns_in}
+use Rattle.lb_trace.specs.Refusals.{with_records}
+use Rattle.lb_trace.specs.Tables.{columns_in}
 use Rattle.lb_trace.proofs.ChunkTexts.{AreEnded, bodies-records, chunks-joined, joined}
+use Rattle.lb_trace.proofs.Soundness.{Sound, sound}
 use Rattle.lb_trace.proofs.SpreadReadings.{zip-append, zip-right, zip-weaker}
 
 -- no chunk yet
@@ -51,34 +56,90 @@ reads-append gives elements table most ks js found more a b =
           (flat_map records b.chunks) found more a.spelled b.spelled);
     }
 
--- one chunk
-pub reads-one : (gives : Loading) (elements : Elements) (table : Table) (most k : ℕ)
-    (chunk : Vec ℕ Global) (text : List ℕ) (set : Recording)
-    → gives k chunk → IsChunk most chunk.items → text ≡ chunk.items
-    → IsReadOf elements table (plain_records text) set
-    → AreReadFrom gives elements table most (k ∷ []) (instants set.traces)
-reads-one gives elements table most k chunk text set given is same read = record {
-  chunks = chunk ∷ [];
-  given = ((given, is), tt);
-  spelled =
-      subst
-      (λ (rs : List Record).
-      AllZip (SpellsInstant elements (columns_in table)) rs (instants set.traces))
-      (ap plain_records same ∙ sym (append-nil (plain_records chunk.items))) read.1;
-}
+-- a recorder has what chunks spell that were given for these numbers, and its traces are lawful
+abbrev pub HasRead : Loading → Elements → Table → ℕ → List ℕ → Recorder → Type 0
+HasRead gives elements table most ks one =
+    IsRead gives elements table most ks one × IsRecording one.rows
 
--- chunks that were read side by side
-pub reads-round : (gives : Loading) (elements : Elements) (table : Table) (most : ℕ)
-    (ks : List ℕ) (read : List Recorder)
-    → AllZip (IsOneRead gives elements table most) ks read
-    → AreReadFrom gives elements table most ks (flat_map (λ one. instants one.rows.traces) read)
-reads-round gives elements table most [] [] h = reads-none gives elements table most
-reads-round gives elements table most [] (one ∷ read) h = absurd h
-reads-round gives elements table most (k ∷ ks) [] h = absurd h
-reads-round gives elements table most (k ∷ ks) (one ∷ read) h =
-    reads-append gives elements table most (k ∷ []) ks (instants one.rows.traces)
+-- no chunk yet
+pub read-none : (gives : Loading) (elements : Elements) (table : Table) (most : ℕ) (one : Recorder)
+    → one.rows ≡ record { signature = elements; traces = [] }
+    → knows one.names one.rows.traces
+    → HasRead gives elements table most [] one
+read-none gives elements table most one none known = (
+  (
+    subst (λ (r : Recording). AreReadFrom gives elements table most [] (instants r.traces))
+        (sym none) (reads-none gives elements table most),
+    (ap (λ (r : Recording). r.signature) none, known),
+  ),
+  subst IsRecording (sym none) (IsRecording-none elements),
+)
+
+-- one chunk more
+pub read-more : (gives : Loading) (elements : Elements) (table : Table) (most : ℕ) (ks : List ℕ)
+    (k : ℕ) (chunk : Vec ℕ Global) (text : List ℕ) (before room after : Recorder)
+    → HasRead gives elements table most ks before → room ≡ before
+    → gives k chunk → IsChunk most text → text ≡ chunk.items
+    → with_records room.rows.signature (columns_in table) room.rows.traces (plain_records text)
+    ≡ Ok after.rows.traces
+    → after.rows.signature ≡ room.rows.signature → knows after.names after.rows.traces
+    → HasRead gives elements table most (ks ++ k ∷ []) after
+read-more gives elements table most ks k chunk text before room after read kept given is same added
+    stays known =
+    let columns : Record = columns_in table in
+    let start : HasRead gives elements table most ks room =
+    subst (HasRead gives elements table most ks) (sym kept) read in
+    let follows : room.rows.signature ≡ elements = start.0.1.0 in
+    let s : Sound elements columns room.rows.traces after.rows.traces (plain_records text) =
+    sound elements columns room.rows.traces after.rows.traces (plain_records text)
+    (subst (λ e. IsRecording record { signature = e; traces = room.rows.traces }) follows start.1)
+    (ap (λ e. with_records e columns room.rows.traces (plain_records text)) (sym follows)
+    ∙ added) in
+    let one : AreReadFrom gives elements table most (k ∷ []) s.more = record {
+      chunks = chunk ∷ [];
+      given = ((given, subst (IsChunk most) same is), tt);
+      spelled =
+          subst (λ (rs : List Record). AllZip (SpellsInstant elements columns) rs s.more)
+          (ap plain_records same ∙ sym (append-nil (plain_records chunk.items))) s.spelled;
+    } in (
+      (
+        subst (AreReadFrom gives elements table most (ks ++ k ∷ [])) (sym s.is)
+            (reads-append gives elements table most ks (k ∷ []) (instants room.rows.traces)
+            s.more start.0.0 one),
+        (stays ∙ follows, known),
+      ),
+      subst (λ e. IsRecording record { signature = e; traces = after.rows.traces })
+          (sym (stays ∙ follows)) s.lawful,
+    )
+
+reads-spans : (gives : Loading) (elements : Elements) (table : Table) (most : ℕ)
+    (spans : List (List ℕ)) (read : List Recorder)
+    → AllZip (IsRead gives elements table most) spans read
+    → AreReadFrom gives elements table most (flat_map (λ span. span) spans)
+    (flat_map (λ one. instants one.rows.traces) read)
+reads-spans gives elements table most [] [] h = reads-none gives elements table most
+reads-spans gives elements table most [] (one ∷ read) h = absurd h
+reads-spans gives elements table most (span ∷ spans) [] h = absurd h
+reads-spans gives elements table most (span ∷ spans) (one ∷ read) h =
+    reads-append gives elements table most span (flat_map (λ (each : List ℕ). each) spans)
+    (instants one.rows.traces)
     (flat_map (λ (each : Recorder). instants each.rows.traces) read) h.0.0
-    (reads-round gives elements table most ks read h.1)
+    (reads-spans gives elements table most spans read h.1)
+
+-- spans of so many numbers that were read side by side
+pub reads-round : (gives : Loading) (elements : Elements) (table : Table) (most size : ℕ)
+    (ks : List ℕ) (read : List Recorder) → 0 < size
+    → AllZip (IsRead gives elements table most) (chunks_of size ks) read
+    → AreRead gives elements table most ks read
+reads-round gives elements table most size ks read some each = (
+  subst
+      (λ (js : List ℕ). AreReadFrom gives elements table most js
+      (flat_map (λ one. instants one.rows.traces) read))
+      (chunks_of-concat size ks some)
+      (reads-spans gives elements table most (chunks_of size ks) read each),
+  zip-right (IsRead gives elements table most) (IsRecorder elements) (chunks_of size ks) read each
+      (λ span one h. h.1),
+)
 
 chunks-ended : (gives : Loading) (most : ℕ) (ks : List ℕ) (chunks : List (Vec ℕ Global))
     → AllZip (λ k chunk. gives k chunk × IsChunk most chunk.items) ks chunks
@@ -183,55 +244,6 @@ given-chunks gives elements table most ks found reads =
     zip-weaker (λ (k : ℕ) (chunk : Vec ℕ Global). gives k chunk × IsChunk most chunk.items) gives
     ks reads.chunks reads.given (λ k chunk h. h.0)
 
--- so many numbers, and so many after them
-take-round : (ks : List ℕ) (from past : ℕ) → from ≤ past
-    → take from ks ++ take (past - from) (drop from ks) ≡ take past ks
-take-round ks from past up =
-    let m : ℕ = past - from in
-    let all : from + m ≡ past = omega (arith, up) in
-    ap (λ (t : List ℕ). take from ks ++ t) (sym (drop-take from m ks))
-    ∙ ap (λ (t : List ℕ). t ++ drop from (take (from + m) ks))
-    (sym (take-take from (from + m) ks (omega arith)))
-    ∙ take-append-drop from (take (from + m) ks)
-    ∙ ap (λ (n : ℕ). take n ks) all
-
--- what was read by these numbers is recorders
-pub recorders-read : (gives : Loading) (elements : Elements) (table : Table) (most : ℕ)
-    (ks : List ℕ) (read : List Recorder) → AllZip (IsOneRead gives elements table most) ks read
-    → All (IsRecorder elements) read
-recorders-read gives elements table most ks read each =
-    zip-right (IsOneRead gives elements table most) (IsRecorder elements) ks read each
-    (λ k one h. h.1)
-
--- what has been joined and read so far, of so many numbers, behind what it began with
-abbrev pub HaveRead : Loading → Elements → Table → ℕ → List ℕ → List Instant → Recorder
-    → List Recorder → Type 0
-HaveRead gives elements table most ks begun all read =
-    (more : List Instant) × AreReadFrom gives elements table most ks more
-    × (instants all.rows.traces ++ flat_map (λ part. instants part.rows.traces) read
-    ≡ begun ++ more)
-
--- one round more
-pub round-more : (gives : Loading) (elements : Elements) (table : Table) (most : ℕ)
-    (ks : List ℕ) (from past : ℕ) (begun : List Instant) (all next : Recorder)
-    (read now : List Recorder) → from ≤ past
-    → HaveRead gives elements table most (take from ks) begun all read
-    → IsJoined elements all read next
-    → AllZip (IsOneRead gives elements table most) (take (past - from) (drop from ks)) now
-    → HaveRead gives elements table most (take past ks) begun next now
-round-more gives elements table most ks from past begun all next read now up before joined each =
-    let all_in : List Recorder → List Instant =
-    flat_map (λ part. instants part.rows.traces) in (
-      before.0 ++ all_in now,
-      subst (λ (js : List ℕ). AreReadFrom gives elements table most js (before.0 ++ all_in now))
-          (take-round ks from past up)
-          (reads-append gives elements table most (take from ks)
-          (take (past - from) (drop from ks)) before.0 (all_in now) before.1
-          (reads-round gives elements table most (take (past - from) (drop from ks)) now each)),
-      ap (λ (is : List Instant). is ++ all_in now) (joined.0 ∙ before.2)
-          ∙ append_assoc begun before.0 (all_in now),
-    )
-
 -- a recorder that was joined under its own signature
 pub joined-under : (elements : Elements) (before : Recorder) (parts : List Recorder)
     (after : Option Recorder) → before.rows.signature ≡ elements
@@ -240,29 +252,26 @@ pub joined-under : (elements : Elements) (before : Recorder) (parts : List Recor
 joined-under elements before parts after same h =
     IfSome_then after h (λ one joined. (joined.0, (joined.1.0 ∙ same, joined.1.1)))
 
--- no round yet
-pub read-begun : (gives : Loading) (elements : Elements) (table : Table) (most : ℕ)
-    (begun : Recorder) (read : List Recorder) → read ≡ []
-    → HaveRead gives elements table most [] (instants begun.rows.traces) begun read
-read-begun gives elements table most begun read none = (
-  [],
-  reads-none gives elements table most,
-  ap (λ (rs : List Recorder).
-      instants begun.rows.traces ++ flat_map (λ part. instants part.rows.traces) rs) none,
-)
-
--- after the last round
-pub rounds-whole : (gives : Loading) (elements : Elements) (table : Table) (most : ℕ)
-    (ks : List ℕ) (from : ℕ) (begun : List Instant) (all one : Recorder) (read : List Recorder)
-    → length ks ≤ from
-    → HaveRead gives elements table most (take from ks) begun all read
-    → IsJoined elements all read one
-    → (more : List Instant) × AreReadFrom gives elements table most ks more
-    × (instants one.rows.traces ≡ begun ++ more) × IsRecorder elements one
-rounds-whole gives elements table most ks from begun all one read past before joined = (
-  before.0,
-  subst (λ (js : List ℕ). AreReadFrom gives elements table most js before.0)
-      (take_all from ks past) before.1,
-  joined.0 ∙ before.2,
-  joined.1,
-)
+-- two rounds, one after the other
+pub rounds-joined : (gives : Loading) (elements : Elements) (table : Table) (most : ℕ)
+    (ks some others : List ℕ) (begun all one : Recorder) (read more : List Recorder)
+    → some ++ others ≡ ks
+    → AreRead gives elements table most some read → IsJoined elements begun read all
+    → AreRead gives elements table most others more → IsJoined elements all more one
+    → (found : List Instant) × AreReadFrom gives elements table most ks found
+    × (instants one.rows.traces ≡ instants begun.rows.traces ++ found) × IsRecorder elements one
+rounds-joined gives elements table most ks some others begun all one read more whole first joined
+    second last =
+    let all_in : List Recorder → List Instant =
+    flat_map (λ part. instants part.rows.traces) in (
+      all_in read ++ all_in more,
+      subst
+          (λ (js : List ℕ). AreReadFrom gives elements table most js (all_in read ++ all_in more))
+          whole
+          (reads-append gives elements table most some others (all_in read) (all_in more)
+          first.0 second.0),
+      last.0
+          ∙ ap (λ (is : List Instant). is ++ all_in more) joined.0
+          ∙ append_assoc (instants begun.rows.traces) (all_in read) (all_in more),
+      last.1,
+    )

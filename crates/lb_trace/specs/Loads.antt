@@ -2,7 +2,7 @@
 -- This file says what data of the program mean; no definition of the language stands on it.
 use Rattle.std.specs.Prelude.{ℕ, ◌≡◌, ◌≤◌, ◌++◌, false, true, List, Vec, [], ◌∷◌, length, flat_map}
 use Rattle.std.specs.Global.{Global}
-use Rattle.std.specs.List.{AllZip}
+use Rattle.std.specs.List.{All, AllZip}
 use Rattle.lb_static.specs.Signature.{Elements}
 use Rattle.lb_trace.specs.declared.recorder.Recorder.{Recorder}
 use Rattle.lb_trace.specs.declared.table.Table.{Table}
@@ -37,11 +37,18 @@ abbrev pub IsRecorder : Elements → Recorder → Type 0
 IsRecorder elements one =
     (one.rows.signature ≡ elements) × knows one.names one.rows.traces
 
--- a recorder has what a chunk spells that was given for a number
-abbrev pub IsOneRead : Loading → Elements → Table → ℕ → ℕ → Recorder → Type 0
-IsOneRead gives elements table most number one =
-    AreReadFrom gives elements table most (number ∷ []) (instants one.rows.traces)
+-- a recorder has what chunks spell that were given for these numbers
+abbrev pub IsRead : Loading → Elements → Table → ℕ → List ℕ → Recorder → Type 0
+IsRead gives elements table most numbers one =
+    AreReadFrom gives elements table most numbers (instants one.rows.traces)
     × IsRecorder elements one
+
+-- the same of recorders, one after the other
+abbrev pub AreRead : Loading → Elements → Table → ℕ → List ℕ → List Recorder → Type 0
+AreRead gives elements table most numbers read =
+    AreReadFrom gives elements table most numbers
+    (flat_map (λ one. instants one.rows.traces) read)
+    × All (IsRecorder elements) read
 
 -- a recorder has what another one has, and then what parts have
 abbrev pub IsJoined : Elements → Recorder → List Recorder → Recorder → Type 0

@@ -1,18 +1,20 @@
-//! A text that is loaded in chunks, round after round.
+//! A text that is loaded in chunks, in two rounds.
 //!
 //! ```text
-//! first | a b c d e f | g h i j k l | m n      three rounds of six chunks
+//! first | a b c | d e f | g h i | j | k | l      two rounds, each of three spans
 //! ```
 //!
-//! While the chunks of a round are loaded and read by threads, the traces of the round before are
-//! joined. A chunk is let go once it has been read, so that the next one takes its room.
+//! Each thread loads and reads a span of chunks, one chunk after the other. While those of the
+//! second round are read, the traces of the first are joined. A chunk is let go once it has been
+//! read, so that the next one takes its room.
 
 ghost use Rattle.std.specs.Prelude.{◌≡◌, ◌≤◌, ◌+◌, ◌*◌, ◌<◌, ◌++◌, ℕ, List, Vec, Some};
-ghost use Rattle.std.specs.Prelude.{All, IfOk, IfSome, length};
+ghost use Rattle.std.specs.Prelude.{All, IfOk, IfSome, IsTrue, length};
 ghost use Rattle.std.specs.Global.{Global as Heap};
 ghost use Rattle.std.specs.List.{AllZip};
 ghost use Rattle.lb_trace.specs.Chunks.{text_of};
-ghost use Rattle.lb_trace.specs.Loads.{AreReadFrom, IsJoined, IsOneRead, IsRecorder};
+ghost use Rattle.lb_trace.specs.Loads.{AreRead, AreReadFrom, IsChunk, IsJoined, IsRead};
+ghost use Rattle.lb_trace.specs.Loads.{IsRecorder};
 ghost use Rattle.lb_trace.specs.Spelling.{Instant, Spells, instants};
 ghost use Rattle.lb_trace.specs.Tables.{IsTable};
 
@@ -24,67 +26,32 @@ use crate::recorder::Recorder;
 use crate::scan::is_ended;
 use crate::spread::read_part;
 use crate::table::Table;
+use csv::ByteRecord;
 use lb_flat::TraceSet;
 use lb_static::Signature;
 use rayon::prelude::*;
 use std::alloc::{AllocError, Global};
 use std::thread::{Threads, join};
 
-// The traces of a chunk by itself, where it ends with a line, has no quote, and is no longer than
-// so many bytes. Any error says nothing of the text.
-fn read_one<F: Fn(usize) -> Option<Vec<u8>> + Sync>(
+/// How the chunks of a text are read: what their records follow, what loads them, and how many
+/// threads are at it.
+#[derive(Drop)]
+struct ChunkReader<'t, F> {
     alloc: Global,
-    signature: &Signature,
-    table: &Table,
+    signature: &'t Signature,
+    table: &'t Table,
+    load: &'t F,
+    /// The most bytes of a chunk.
     most: usize,
-    load: &F,
-    number: usize,
-) -> Result<Recorder, TraceError>
-    requires table { IsTable signature.now table.now }
-    requires load { F.IsAlwaysCallable load.now }
-    ensures { IfOk result (IsOneRead (λ k chunk. F.post load.now k (Some chunk)) signature.now
-        table.now most number) }
-{
-    let Some(chunk) = load(number) else {
-        return Err(TraceError::Memory(AllocError));
-    };
-    let text = chunk.as_slice();
-    if text.len() > most || !is_ended(text) || !is_plain(text) {
-        return Err(TraceError::Memory(AllocError));
-    }
-    read_part(alloc, signature, table, text)
+    workers: usize,
+    ghost some_worker: { 0 < workers },
 }
 
-// The traces of each of some chunks, which so many threads load and read side by side.
-fn read_round<R: Threads + Sync, F: Fn(usize) -> Option<Vec<u8>> + Sync>(
-    rt: &R,
-    alloc: Global,
-    signature: &Signature,
-    table: &Table,
-    most: usize,
-    load: &F,
-    numbers: &[usize],
-    workers: usize,
-) -> Result<Result<Vec<Recorder>, TraceError>, AllocError>
-    requires table { IsTable signature.now table.now }
-    requires load { F.IsAlwaysCallable load.now }
-    requires workers { 0 < workers }
-    ensures { IfOk result (λ outer. IfOk outer (λ read.
-        AllZip (IsOneRead (λ k chunk. F.post load.now k (Some chunk)) signature.now table.now most)
-        numbers.now read.items)) }
-{
-    numbers
-        .par_iter()
-        // As many threads as there are workers.
-        .with_min_len(numbers.len() / workers)
-        .map(
-            |number: &usize| -> Result<Recorder, TraceError>
-                requires { IsTable signature.now table.now × F.IsAlwaysCallable load.now }
-                ensures { IfOk result (IsOneRead (λ k chunk. F.post load.entry.now k (Some chunk))
-                    signature.entry.now table.entry.now most number.now) }
-            { read_one(alloc, signature, table, most, load, *number) },
-        )
-        .collect(rt, alloc)
+/// What has been joined of a text, and what was read of it since.
+#[derive(Drop)]
+struct Round {
+    all: Recorder,
+    read: Vec<Recorder>,
 }
 
 // The traces of one recorder, and then those of others; None where they do not join.
@@ -100,103 +67,164 @@ fn with_parts(alloc: Global, begun: Recorder, parts: Vec<Recorder>) -> Option<Re
     Some(all)
 }
 
-/// The rounds in which the chunks of a text are read, about. With more of them less is left to join
-/// after the last one, but the threads wait for one another after each.
-const ROUNDS: usize = 4;
-
-/// What has been joined of a text, and what was read of it since.
-#[derive(Drop)]
-struct Round {
-    all: Recorder,
-    read: Vec<Recorder>,
+// Whether a chunk ends with a line, has no quote, and is no longer than so many bytes.
+fn is_chunk(text: &[u8], most: usize) -> bool
+    ensures { IsTrue result → IsChunk most text.now }
+{
+    text.len() <= most && is_ended(text) && is_plain(text)
 }
 
-// One more round: what was read is joined, while more chunks are read.
-fn next_round<R: Threads + Sync, F: Fn(usize) -> Option<Vec<u8>> + Sync>(
-    rt: &R,
-    alloc: Global,
-    signature: &Signature,
-    table: &Table,
-    most: usize,
-    load: &F,
-    round: Round,
-    numbers: &[usize],
-    workers: usize,
-) -> Option<Round>
-    requires table { IsTable signature.now table.now }
-    requires load { F.IsAlwaysCallable load.now }
-    requires all { IsRecorder signature.now round.all }
-    requires read { All (IsRecorder signature.now) round.read.items }
-    requires workers { 0 < workers }
-    ensures joined { IfSome result
-        (λ next. IsJoined signature.now round.all round.read.items next.all) }
-    ensures read { IfSome result (λ next.
-        AllZip (IsOneRead (λ k chunk. F.post load.now k (Some chunk)) signature.now table.now most)
-        numbers.now next.read.items) }
-{
-    let Round { all, read } = round;
-    let (joined, next) = join(
-        rt,
-        move || with_parts(alloc, all, read),
-        || -> Result<Result<Vec<Recorder>, TraceError>, AllocError>
-            requires { IsTable signature.now table.now × F.IsAlwaysCallable load.now × (0 < workers) }
-            ensures { IfOk result (λ outer. IfOk outer (λ read. AllZip (IsOneRead
-                (λ k chunk. F.post load.entry.now k (Some chunk)) signature.entry.now
-                table.entry.now most) numbers.entry.now read.items)) }
-        { read_round(rt, alloc, signature, table, most, load, numbers, workers) },
-    );
-    let Some(all) = joined else {
-        return None;
-    };
-    let Ok(Ok(read)) = next else {
-        return None;
-    };
-    Some(Round { all, read })
-}
+impl<F: Fn(usize) -> Option<Vec<u8>> + Sync> ChunkReader<'_, F> {
+    // The traces of some chunks, one after the other. Any error says nothing of the text.
+    fn read_span(&self, numbers: &[usize]) -> Result<Recorder, TraceError>
+        requires load { F.IsAlwaysCallable self.now.load.now }
+        requires table { IsTable self.now.signature.now self.now.table.now }
+        ensures { IfOk result (IsRead (λ k chunk. F.post self.now.load.now k (Some chunk))
+            self.now.signature.now self.now.table.now self.now.most numbers.now) }
+    {
+        let Ok(mut recorder) = Recorder::new(self.alloc, self.signature) else {
+            return Err(TraceError::Memory(AllocError));
+        };
+        let mut entry = ByteRecord::new(self.alloc);
+        'chunks: for (done, number) in numbers.iter().enumerate() {
+            let Some(chunk) = (self.load)(*number) else {
+                return Err(TraceError::Memory(AllocError));
+            };
+            let text = chunk.as_slice();
+            if !is_chunk(text, self.most) {
+                return Err(TraceError::Memory(AllocError));
+            }
+            // The first chunk tells how much room all of them take.
+            recorder.make_room(text.len().saturating_mul(numbers.len() - done));
+            recorder.add_lines(self.alloc, self.table, text, &mut entry)?;
+        }
+        Ok(recorder)
+    }
 
-// The traces of a recorder, and then those of some chunks, round after round of so many, by so many
-// workers.
-fn read_rounds<R: Threads + Sync, F: Fn(usize) -> Option<Vec<u8>> + Sync>(
-    rt: &R,
-    alloc: Global,
-    signature: &Signature,
-    table: &Table,
-    most: usize,
-    load: &F,
-    begun: Recorder,
-    numbers: &[usize],
-    count: usize,
-    workers: usize,
-) -> Option<Recorder>
-    requires table { IsTable signature.now table.now }
-    requires load { F.IsAlwaysCallable load.now }
-    requires begun { IsRecorder signature.now begun }
-    requires count { 0 < count }
-    requires workers { 0 < workers }
-    ensures { IfSome result (λ all. (more : List Instant)
-        × AreReadFrom (λ k chunk. F.post load.now k (Some chunk)) signature.now table.now most
-        numbers.now more
-        × (instants all.rows.traces ≡ instants begun.rows.traces ++ more)
-        × IsRecorder signature.now all) }
-{
-    let mut round = Round {
-        all: begun,
-        read: Vec::new(alloc),
-    };
-    let mut from = 0;
-    'rounds: while from < numbers.len() {
-        let past = from + count.min(numbers.len() - from);
-        let some = &numbers[from..past];
-        let Some(next) = next_round(
-            rt, alloc, signature, table, most, load, round, some, workers,
-        ) else {
+    // The traces of each span of some chunks, which threads load and read side by side.
+    fn read_spans<R: Threads + Sync>(
+        &self,
+        rt: &R,
+        numbers: &[usize],
+    ) -> Result<Result<Vec<Recorder>, TraceError>, AllocError>
+        requires load { F.IsAlwaysCallable self.now.load.now }
+        requires table { IsTable self.now.signature.now self.now.table.now }
+        ensures { IfOk result (λ outer. IfOk outer (λ read.
+            AreRead (λ k chunk. F.post self.now.load.now k (Some chunk)) self.now.signature.now
+            self.now.table.now self.now.most numbers.now read.items)) }
+    {
+        let span = (numbers.len() / self.workers).max(1);
+        numbers
+            .par_chunks(span)
+            // A span is worth a thread of its own, however few there are.
+            .with_min_len(1)
+            .map(
+                |some: &[usize]| -> Result<Recorder, TraceError>
+                    requires { F.IsAlwaysCallable self.now.load.now
+                        × IsTable self.now.signature.now self.now.table.now }
+                    ensures { IfOk result (IsRead
+                        (λ k chunk. F.post self.entry.now.load.now k (Some chunk))
+                        self.entry.now.signature.now self.entry.now.table.now self.entry.now.most
+                        some.now) }
+                { self.read_span(some) },
+            )
+            .collect(rt, self.alloc)
+    }
+
+    // The same, without what stood in the way.
+    fn read_round<R: Threads + Sync>(&self, rt: &R, numbers: &[usize]) -> Option<Vec<Recorder>>
+        requires load { F.IsAlwaysCallable self.now.load.now }
+        requires table { IsTable self.now.signature.now self.now.table.now }
+        ensures { IfSome result (λ read.
+            AreRead (λ k chunk. F.post self.now.load.now k (Some chunk)) self.now.signature.now
+            self.now.table.now self.now.most numbers.now read.items) }
+    {
+        let Ok(Ok(read)) = self.read_spans(rt, numbers) else {
             return None;
         };
-        round = next;
-        from = past;
+        Some(read)
     }
-    let Round { all, read } = round;
-    with_parts(alloc, all, read)
+
+    // One more round: what was read is joined, while more chunks are read.
+    fn next_round<R: Threads + Sync>(
+        &self,
+        rt: &R,
+        round: Round,
+        numbers: &[usize],
+    ) -> Option<Round>
+        requires load { F.IsAlwaysCallable self.now.load.now }
+        requires table { IsTable self.now.signature.now self.now.table.now }
+        requires all { IsRecorder self.now.signature.now round.all }
+        requires read { All (IsRecorder self.now.signature.now) round.read.items }
+        ensures joined { IfSome result
+            (λ next. IsJoined self.now.signature.now round.all round.read.items next.all) }
+        ensures read { IfSome result (λ next.
+            AreRead (λ k chunk. F.post self.now.load.now k (Some chunk)) self.now.signature.now
+            self.now.table.now self.now.most numbers.now next.read.items) }
+    {
+        let Round { all, read } = round;
+        let alloc = self.alloc;
+        let signature = self.signature;
+        let table = self.table;
+        let load = self.load;
+        let most = self.most;
+        let workers = self.workers;
+        let (joined, next) = join(
+            rt,
+            move || with_parts(alloc, all, read),
+            || -> Option<Vec<Recorder>>
+                requires { F.IsAlwaysCallable load.now × IsTable signature.now table.now
+                    × (0 < workers) }
+                ensures { IfSome result (λ read.
+                    AreRead (λ k chunk. F.post load.entry.now k (Some chunk)) signature.entry.now
+                    table.entry.now most numbers.entry.now read.items) }
+            {
+                let reader = ChunkReader {
+                    alloc,
+                    signature,
+                    table,
+                    load,
+                    most,
+                    workers,
+                };
+                reader.read_round(rt, numbers)
+            },
+        );
+        let Some(all) = joined else {
+            return None;
+        };
+        let Some(read) = next else {
+            return None;
+        };
+        Some(Round { all, read })
+    }
+
+    // The traces of a recorder, and then those of some chunks. Three quarters of them are read in
+    // the first round: to join what is read of them takes about as long as to read the others.
+    fn read_rounds<R: Threads + Sync>(
+        &self,
+        rt: &R,
+        begun: Recorder,
+        numbers: &[usize],
+    ) -> Option<Recorder>
+        requires load { F.IsAlwaysCallable self.now.load.now }
+        requires table { IsTable self.now.signature.now self.now.table.now }
+        requires begun { IsRecorder self.now.signature.now begun }
+        ensures { IfSome result (λ all. (more : List Instant)
+            × AreReadFrom (λ k chunk. F.post self.now.load.now k (Some chunk))
+            self.now.signature.now self.now.table.now self.now.most numbers.now more
+            × (instants all.rows.traces ≡ instants begun.rows.traces ++ more)
+            × IsRecorder self.now.signature.now all) }
+    {
+        let (some, others) = numbers.split_at(numbers.len() - numbers.len() / 4);
+        let Some(read) = self.read_round(rt, some) else {
+            return None;
+        };
+        let Some(last) = self.next_round(rt, Round { all: begun, read }, others) else {
+            return None;
+        };
+        with_parts(self.alloc, last.all, last.read)
+    }
 }
 
 // How many bytes each of so many chunks may have at most behind so many bytes, lest the text be too
@@ -249,18 +277,15 @@ pub fn read_loaded<R: Threads + Sync, F: Fn(usize) -> Option<Vec<u8>> + Sync>(
     let Ok(recorder) = read_part(alloc, signature, &begun.table, begun.rest) else {
         return None;
     };
-    let Some(all) = read_rounds(
-        rt,
+    let reader = ChunkReader {
         alloc,
         signature,
-        &begun.table,
-        most,
+        table: &begun.table,
         load,
-        recorder,
-        numbers,
-        (numbers.len() / ROUNDS).max(1),
+        most,
         workers,
-    ) else {
+    };
+    let Some(all) = reader.read_rounds(rt, recorder, numbers) else {
         return None;
     };
     let set = all.rows.into_set();

@@ -146,10 +146,17 @@ impl Recorder {
         ensures names { IfOk result (λ r. knows r.names r.rows.traces) }
     {
         let mut recorder = Recorder::new(alloc, signature)?;
+        recorder.make_room(bytes);
+        Ok(recorder)
+    }
+
+    /// Makes room for the cells of a text of so many bytes.
+    pub(crate) fn make_room(&mut self, bytes: usize)
+        ensures { self.new ≡ self.old }
+    {
         // A cell takes two bytes at least, its end with it. Where there is no such room at once,
         // rows make it one by one.
-        let _ = recorder.rows.reserve((bytes / 2 + 1).min(MOST_CELLS));
-        Ok(recorder)
+        let _ = self.rows.reserve((bytes / 2 + 1).min(MOST_CELLS));
     }
 
     /// Adds a record, of a text whose header has so many columns; `number` is that of the record.
