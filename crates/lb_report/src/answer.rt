@@ -181,8 +181,9 @@ pub fn bench<R: Runtime + AllocGlobal + Threads + Sync>(
 }
 
 /// The report of a source on the traces that a text spells which begins with a chunk and goes on
-/// with those that `load` gives for some numbers. None where there is none by these means.
-fn bench_loaded<R, F>(
+/// with those that `load` gives for some numbers, each of which ends with a line. None where there
+/// is none by these means: [`bench`] of the whole text then tells why.
+pub fn bench_loaded<R, F>(
     rt: &R,
     source: &[u8],
     first: &[u8],
@@ -216,9 +217,8 @@ where
     Some(report)
 }
 
-/// The report of a source on the traces of a large file, which is read in chunks while others are
-/// loaded. None where one worker is to read it, where it is not large, and where anything refuses:
-/// [`bench`] of its bytes then tells which is first.
+/// As [`bench_loaded`] of the chunks of a large file. None also where one worker is to read it, and
+/// where it is not large: [`bench`] of its bytes then tells what refuses first.
 pub fn bench_file<R>(rt: &R, source: &[u8], path: &str, options: &Options) -> Option<Report>
 where
     R: Runtime + AllocGlobal + Threads + Sync,

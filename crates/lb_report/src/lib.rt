@@ -11,7 +11,7 @@ mod refusal;
 mod sink;
 mod text;
 
-pub use answer::{bench, bench_file, run_case};
+pub use answer::{bench, bench_file, bench_loaded, run_case};
 pub use case::split_case;
 pub use error::BenchError;
 pub use feed::{Feed, FeedFailed, LoadError, Reader, load};
