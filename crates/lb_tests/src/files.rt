@@ -1,6 +1,6 @@
 //! Trace files that are read in chunks while others are loaded.
 
-use lb_report::{Options, Report, bench, bench_file};
+use lb_report::{Options, Report, bench, bench_file, bench_loaded};
 use std::alloc::{AllocError, Global};
 use std::os::unix::fs::FileExt;
 use std::process::Abort;
@@ -104,5 +104,43 @@ fn files(rt: HostRuntime) -> Result<(), Fail> {
     checked?;
     let report = report_of(&rt, path.as_str(), 4)?;
     assert!(rt; report.is_none(), "no file");
+    Ok(())
+}
+
+/// Chunks of a trace text. The first one goes on with the trace that was begun, and so does the
+/// second.
+const CHUNKS: [&str; 2] = ["a,12\nb,1\n", "b,2\nc,12\n"];
+
+/// The report on them behind `trace,x` and `a,1`.
+const REPORT: &str = "\
+a false 1
+b passed
+c false 0
+total 3 passed 1 fault 0 undefined 0 assertion 0 false 2
+";
+
+/// The bytes of a chunk.
+fn chunk_of(alloc: Global, k: usize) -> Option<Vec<u8>> {
+    let chunk = CHUNKS.get(k)?;
+    let Ok(copy) = chunk.as_bytes().to_vec(alloc) else {
+        return None;
+    };
+    Some(copy)
+}
+
+#[test]
+fn chunks(rt: HostRuntime) -> Result<(), AllocError> {
+    let alloc = rt.alloc();
+    let load = |k: usize| -> Option<Vec<u8>> { chunk_of(alloc, k) };
+    let first = b"trace,x\na,1\n".as_slice();
+    let report = match options_of(alloc, 2)? {
+        Some(options) => bench_loaded(&rt, SOURCE.as_bytes(), first, &load, &[0, 1], &options),
+        None => None,
+    };
+    let text = match &report {
+        Some(report) => report.text.as_slice(),
+        None => b"".as_slice(),
+    };
+    assert_eq!(rt; text, REPORT.as_bytes());
     Ok(())
 }
