@@ -105,8 +105,8 @@ impl LaneWord {
         blend(mask.0, &a.lanes, &b.lanes, &mut self.lanes);
     }
 
-    /// Takes over the lanes of `a` where those of `x` and `y` are equal, and those of `b` where they
-    /// are not; gives the lanes that are equal.
+    /// Takes over the lanes of `a` where those of `x` and `y` are equal, and those of `b` where
+    /// they are not; gives the lanes that are equal.
     #[inline(never)]
     pub fn set_where_eq(&mut self, x: &LaneWord, y: &LaneWord, a: &LaneWord, b: &LaneWord) -> Plane
         ensures plane { IsPlaneOf (λ i. int_eq (lane_of x.now i) (lane_of y.now i)) result.0 }
@@ -115,8 +115,8 @@ impl LaneWord {
         Plane(chosen::<Equal>(&x.lanes, &y.lanes, &a.lanes, &b.lanes, &mut self.lanes))
     }
 
-    /// Takes over the lanes of `a` where those of `x` are below those of `y`, and those of `b` where
-    /// they are not; gives the lanes that are below.
+    /// Takes over the lanes of `a` where those of `x` are below those of `y`, and those of `b`
+    /// where they are not; gives the lanes that are below.
     #[inline(never)]
     pub fn set_where_lt(&mut self, x: &LaneWord, y: &LaneWord, a: &LaneWord, b: &LaneWord) -> Plane
         ensures plane { IsPlaneOf (λ i. int_lt (lane_of x.now i) (lane_of y.now i)) result.0 }
@@ -125,8 +125,8 @@ impl LaneWord {
         Plane(chosen::<Below>(&x.lanes, &y.lanes, &a.lanes, &b.lanes, &mut self.lanes))
     }
 
-    /// Takes over the lanes of `a` where those of `x` are at most those of `y`, and those of `b` where
-    /// they are not; gives the lanes that are at most.
+    /// Takes over the lanes of `a` where those of `x` are at most those of `y`, and those of `b`
+    /// where they are not; gives the lanes that are at most.
     #[inline(never)]
     pub fn set_where_le(&mut self, x: &LaneWord, y: &LaneWord, a: &LaneWord, b: &LaneWord) -> Plane
         ensures plane { IsPlaneOf (λ i. int_le (lane_of x.now i) (lane_of y.now i)) result.0 }

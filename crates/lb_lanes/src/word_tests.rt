@@ -128,8 +128,8 @@ pub(crate) fn tested<K: WordTest>(a: &[u32; 64], b: &[u32; 64]) -> u64
     plane
 }
 
-// Puts the lanes of `a` where those of `x` and `y` pass, and those of `b` where they do not, and gives
-// the lanes that pass.
+// Puts the lanes of `a` where those of `x` and `y` pass, and those of `b` where they do not, and
+// gives the lanes that pass.
 pub(crate) fn chosen<K: WordChoice>(
     x: &[u32; 64],
     y: &[u32; 64],

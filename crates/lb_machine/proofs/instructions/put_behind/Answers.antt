@@ -1,5 +1,5 @@
-use Rattle.std.proofs.Common.{◌≡◌, ◌∙◌, ◌<◌, ◌+◌, ◌-◌, ◌∷◌, ◌++◌, [], ℕ, length, get_or, set, refl, ap₂}
-use Rattle.std.proofs.Common.{arith, length-set, get_or-set_same}
+use Rattle.std.proofs.Common.{◌≡◌, ◌∙◌, ◌<◌, ◌+◌, ◌-◌, ◌∷◌, ◌++◌, [], ℕ, length, get_or, set}
+use Rattle.std.proofs.Common.{arith, refl, ap₂, length-set, get_or-set_same}
 use Rattle.lb_machine.specs.declared.instructions.Block.{Block}
 use Rattle.lb_machine.proofs.Listing.{last_listed, last_set}
 use Rattle.lb_machine.proofs.instructions.put_behind.Goals as goal

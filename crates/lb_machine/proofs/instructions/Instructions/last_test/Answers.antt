@@ -1,4 +1,5 @@
-use Rattle.std.proofs.Common.{◌≡◌, ◌∙◌, ◌∷◌, ◌++◌, ◌+◌, ◌-◌, [], ℕ, length, get_or, ap, sym, arith, rules}
+use Rattle.std.proofs.Common.{◌≡◌, ◌∙◌, ◌∷◌, ◌++◌, ◌+◌, ◌-◌, [], ℕ, length, get_or, ap, sym}
+use Rattle.std.proofs.Common.{arith, rules}
 use Rattle.lb_machine.specs.Listed.{before_last, unpacked}
 use Rattle.lb_machine.specs.declared.instruction.Instruction.TheVariants.{Compare}
 use Rattle.lb_machine.specs.declared.instruction.PlaneId.{PlaneId}
