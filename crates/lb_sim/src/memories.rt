@@ -1,7 +1,7 @@
 //! The tables of what constants hold and of where memories stand, for all equations of a program.
 
-ghost use Rattle.std.specs.Prelude.{◌≡◌, ◌≤◌, ◌+◌, ◌*◌, ℕ, true, false, [], length, get_or, replicate};
-ghost use Rattle.std.specs.Prelude.{IfOk, OnOk};
+ghost use Rattle.std.specs.Prelude.{◌≡◌, ◌≤◌, ◌+◌, ◌*◌, ℕ, true, false, [], length, get_or};
+ghost use Rattle.std.specs.Prelude.{replicate, IfOk, OnOk};
 ghost use Rattle.lb_syntax.specs.Lists.{In};
 ghost use Rattle.lb_flat.specs.Judging.{named_elements};
 ghost use Rattle.lb_flat.specs.Programs.{flat_equations, program_of, IsInRange};
