@@ -40,6 +40,9 @@ fn put(kernel: &[u8], a: &LaneWord, b: &LaneWord, active: Plane, out: &mut LaneW
         [b'=', ..] => return a.eq(b),
         [b'<', ..] => return a.lt(b),
         [b'l', ..] => return a.le(b),
+        [b'E', ..] => return out.set_where_eq(a, b, a, b),
+        [b'B', ..] => return out.set_where_lt(a, b, a, b),
+        [b'M', ..] => return out.set_where_le(a, b, a, b),
         [b'c', ..] => out.copy_from(a),
         [b's', ..] => out.set_blend(active, a, b),
         [sign, ..] => return a.operate(operator(*sign), b, active, out),
@@ -74,7 +77,8 @@ pub fn push_words(asked: &str, said: &mut String) -> Result<(), AllocError> {
 }
 
 // Kernels, two words, and the lanes that count or are taken; then lanes 0, 1, 31 and 63 of the
-// result, and the faults or where it holds.
+// result, and the faults or where it holds. `E`, `B` and `M` take the first word where it is equal
+// to the second, below it or at most it, and else the second.
 const WORDS: &str = "\
 + 5,63:2147483647 7,63:1 all => 12 12 12 0 9223372036854775808
 + 5,63:2147483647 7,63:1 9223372036854775807 => 12 12 12 0 0
@@ -115,6 +119,9 @@ const WORDS: &str = "\
 < 4,1:-2147483648,63:2147483647 4 0 => 0 0 0 0 2
 < -1 0,31:-2147483648 0 => 0 0 0 0 18446744071562067967
 le 4,1:-2147483648,63:2147483647 4 0 => 0 0 0 0 9223372036854775807
+E 4,1:-4,63:0 4 0 => 4 4 4 4 9223372036854775805
+B 4,1:-4,63:9 4,1:3,63:-9 0 => 4 -4 4 -9 2
+M 4,1:-4,63:9 4,1:3,63:-9 0 => 4 -4 4 -9 9223372036854775807
 set 1,63:2 3,1:-4 9223372036854775809 => 1 -4 3 2 0
 set 1,63:2 3,1:-4 all => 1 1 1 2 0
 copy -1,31:2147483647,63:-2147483648 0 0 => -1 -1 2147483647 -2147483648 0";
