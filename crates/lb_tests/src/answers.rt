@@ -53,12 +53,44 @@ pub fn push_answer<R: Runtime + AllocGlobal + Threads + Sync>(
     push_outcome(said, &run_case(rt, case.as_bytes(), &options))
 }
 
-/// What is answered on a case text after its first line, which may name an observer.
+/// A line of traces with each cell in quotes, if none has a quote or a carriage return.
+fn push_quoted_line(line: &str, quoted: &mut String) -> Result<(), AllocError> {
+    if line.is_empty() || line.split_once('"').is_some() || line.split_once('\r').is_some() {
+        return write!(quoted, "{line}\n");
+    }
+    let mut cells = line.split(',');
+    write!(quoted, "\"{}\"", cells.next().unwrap_or(""))?;
+    for cell in cells {
+        write!(quoted, ",\"{cell}\"")?;
+    }
+    quoted.push('\n')
+}
+
+/// A case text with each cell of its traces in quotes.
+fn push_quoted(case: &str, quoted: &mut String) -> Result<(), AllocError> {
+    let (source, traces) = case.split_once("%traces\n").unwrap_or((case, ""));
+    write!(quoted, "{source}%traces\n")?;
+    for line in traces.split('\n') {
+        push_quoted_line(line, quoted)?;
+    }
+    Ok(())
+}
+
+/// What is answered on a case text after its first line, which may name an observer; and what is
+/// answered with each cell in quotes, where that is something else.
 pub fn push_case<R: Runtime + AllocGlobal + Threads + Sync>(
     rt: &R,
     asked: &str,
     said: &mut String,
 ) -> Result<(), AllocError> {
     let (observer, case) = asked.split_once('\n').unwrap_or(("", asked));
-    push_answer(rt, case, observer.trim(), said)
+    push_answer(rt, case, observer.trim(), said)?;
+    let mut quoted = String::new(rt.alloc());
+    let mut other = String::new(rt.alloc());
+    push_quoted(case, &mut quoted)?;
+    push_answer(rt, quoted.as_str(), observer.trim(), &mut other)?;
+    if other.as_str() != said.as_str() {
+        return write!(said, ", and quoted {other}");
+    }
+    Ok(())
 }
