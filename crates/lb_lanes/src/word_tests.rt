@@ -33,12 +33,9 @@ impl WordTest for Equal {
     ghost passes = { int_eq };
 
     fn test16(x: u32x16, y: u32x16) -> u64 {
-        x.simd_eq(y).to_bitmask()
+        Equal::chosen16(x, y, x, y).1
     }
 }
-
-// Integers are in the order of their words, once half of all words was added to each.
-const HALF: u32 = 2147483648;
 
 pub(crate) struct Below;
 
@@ -46,8 +43,7 @@ impl WordTest for Below {
     ghost passes = { int_lt };
 
     fn test16(x: u32x16, y: u32x16) -> u64 {
-        let half = u32x16::splat(HALF);
-        (x + half).simd_lt(y + half).to_bitmask()
+        Below::chosen16(x, y, x, y).1
     }
 }
 
@@ -57,8 +53,7 @@ impl WordTest for AtMost {
     ghost passes = { int_le };
 
     fn test16(x: u32x16, y: u32x16) -> u64 {
-        let half = u32x16::splat(HALF);
-        (x + half).simd_le(y + half).to_bitmask()
+        AtMost::chosen16(x, y, x, y).1
     }
 }
 
@@ -79,6 +74,9 @@ impl WordChoice for Equal {
         (passed.select(a, b), passed.to_bitmask())
     }
 }
+
+// Integers are in the order of their words, once half of all words was added to each.
+const HALF: u32 = 2147483648;
 
 impl WordChoice for Below {
     fn chosen16(x: u32x16, y: u32x16, a: u32x16, b: u32x16) -> (u32x16, u64) {
