@@ -2,7 +2,7 @@
 -- together, each place that a call gives holds what the call names, in every lane in which the code
 -- is done.
 -- This file says what data of the program mean. No lane occurs beside another.
-use Rattle.std.specs.Prelude.{◌≡◌, ◌<◌, ◌≤◌, ℕ, Bool, not, ◌||◌, Option, List}
+use Rattle.std.specs.Prelude.{◌≡◌, ◌<◌, ◌≤◌, ◌+◌, ℕ, Bool, not, ◌||◌, Option, List}
 use Rattle.std.specs.Prelude.{ℤ}
 use Rattle.std.specs.List.{AllByRecursion}
 use Rattle.lb_machine.specs.Listed.{listed}
@@ -30,6 +30,14 @@ pub record IsGrown (before after : Code) : Type 0 where
   pub words : before.words ≤ after.words
   pub runs :
       (s : Lane) → HasRun (listed after.instructions) s → HasRun (listed before.instructions) s
+
+-- there are numbers for so many more planes and words together
+abbrev pub HasRoom : Code → ℕ → Type 0
+HasRoom code k = code.planes + code.words + k ≤ 4294967295
+
+-- and at most so many have been added
+abbrev pub AddsAtMost : Code → Code → ℕ → Type 0
+AddsAtMost before after k = after.planes + after.words ≤ before.planes + before.words + k
 
 -- a plane of the code holds this in each lane in which the code has been run
 pub record IsPlaneFor (code : Code) (value : Lane → Bool) (p : PlaneId) : Type 0 where

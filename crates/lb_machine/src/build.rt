@@ -19,7 +19,8 @@ use lb_lanes::IntOperator;
 use std::alloc::{AllocError, Global};
 
 impl Code {
-    ghost use Rattle.lb_machine.specs.Correct.{AreResultsFor, IsGrown, IsPlaneFor, IsWordFor};
+    ghost use Rattle.lb_machine.specs.Correct.{AddsAtMost, AreResultsFor, HasRoom};
+    ghost use Rattle.lb_machine.specs.Correct.{IsGrown, IsPlaneFor, IsWordFor};
 
     /// No instruction, beside planes and words that are there before.
     pub fn new(alloc: Global, first_plane: u32, first_word: u32) -> Code
@@ -40,32 +41,12 @@ impl Code {
         }
     }
 
-    // The number of the next plane. More than numbers go is more than any memory holds.
-    fn next_plane(&self) -> Result<PlaneId, AllocError>
-        ensures { IfOk result (λ p. (p.0 ≡ self.now.planes) × (p.0 < 4294967295)) }
-    {
-        if self.planes == u32::MAX {
-            return Err(AllocError);
-        }
-        Ok(PlaneId(self.planes))
-    }
-
-    // The number of the next word.
-    fn next_word(&self) -> Result<WordId, AllocError>
-        ensures { IfOk result (λ w. (w.0 ≡ self.now.words) × (w.0 < 4294967295)) }
-    {
-        if self.words == u32::MAX {
-            return Err(AllocError);
-        }
-        Ok(WordId(self.words))
-    }
-
     // One more instruction, that writes a plane.
     fn push_plane(&mut self, i: Instruction) -> Result<(), AllocError>
         requires next { IsNext self.old.planes self.old.words i }
         requires plane { planes_after self.old.planes i ≡ self.old.planes + 1 }
         requires no_word { words_after self.old.words i ≡ self.old.words }
-        requires room { self.old.planes < 4294967295 }
+        requires room { HasRoom self.old 1 }
         ensures first_plane { self.new.first_plane ≡ self.old.first_plane }
         ensures first_word { self.new.first_word ≡ self.old.first_word }
         ensures planes { OnOk result (self.new.planes ≡ self.old.planes + 1) }
@@ -83,7 +64,7 @@ impl Code {
         requires next { IsNext self.old.planes self.old.words i }
         requires no_plane { planes_after self.old.planes i ≡ self.old.planes }
         requires word { words_after self.old.words i ≡ self.old.words + 1 }
-        requires room { self.old.words < 4294967295 }
+        requires room { HasRoom self.old 1 }
         ensures first_plane { self.new.first_plane ≡ self.old.first_plane }
         ensures first_word { self.new.first_word ≡ self.old.first_word }
         ensures planes { self.new.planes ≡ self.old.planes }
@@ -105,7 +86,9 @@ impl Code {
     ) -> Result<PlaneId, AllocError>
         requires left { a.0 < self.old.planes }
         requires right { b.0 < self.old.planes }
+        requires room { HasRoom self.old 2 }
         ensures grown { OnOk result (IsGrown self.old self.new) }
+        ensures few { OnOk result (AddsAtMost self.old self.new 2) }
         ensures plane { IfOk result (IsPlaneFor self.new
             (λ s. combined op (s.bits a.0) (s.bits b.0))) }
     {
@@ -122,7 +105,9 @@ impl Code {
     fn differ(&mut self, a: PlaneId, b: PlaneId) -> Result<PlaneId, AllocError>
         requires left { a.0 < self.old.planes }
         requires right { b.0 < self.old.planes }
+        requires room { HasRoom self.old 2 }
         ensures grown { OnOk result (IsGrown self.old self.new) }
+        ensures few { OnOk result (AddsAtMost self.old self.new 2) }
         ensures plane { IfOk result (IsPlaneFor self.new
             (λ s. combined Xor (s.bits a.0) (s.bits b.0))) }
     {
@@ -136,14 +121,16 @@ impl Code {
         requires mask { mask.0 < self.old.planes }
         requires left { a.0 < self.old.planes }
         requires right { b.0 < self.old.planes }
+        requires room { HasRoom self.old 1 }
         ensures grown { OnOk result (IsGrown self.old self.new) }
+        ensures few { OnOk result (AddsAtMost self.old self.new 1) }
         ensures plane { IfOk result (IsPlaneFor self.new
             (λ s. if s.bits mask.0 then s.bits a.0 else s.bits b.0)) }
     {
         if let Some(known) = known_choice(mask, a, b) {
             return Ok(known);
         }
-        let out = self.next_plane()?;
+        let out = PlaneId(self.planes);
         self.push_plane(Instruction::Select(mask, a, b, out))?;
         Ok(out)
     }
@@ -152,11 +139,13 @@ impl Code {
     pub fn compare(&mut self, c: Comparison, a: WordId, b: WordId) -> Result<PlaneId, AllocError>
         requires left { a.0 < self.old.words }
         requires right { b.0 < self.old.words }
+        requires room { HasRoom self.old 1 }
         ensures grown { OnOk result (IsGrown self.old self.new) }
+        ensures few { OnOk result (AddsAtMost self.old self.new 1) }
         ensures plane { IfOk result (IsPlaneFor self.new
             (λ s. compared c (s.ints a.0) (s.ints b.0))) }
     {
-        let out = self.next_plane()?;
+        let out = PlaneId(self.planes);
         self.push_plane(Instruction::Compare(c, a, b, out))?;
         Ok(out)
     }
@@ -166,14 +155,16 @@ impl Code {
         requires mask { mask.0 < self.old.planes }
         requires left { a.0 < self.old.words }
         requires right { b.0 < self.old.words }
+        requires room { HasRoom self.old 1 }
         ensures grown { OnOk result (IsGrown self.old self.new) }
+        ensures few { OnOk result (AddsAtMost self.old self.new 1) }
         ensures word { IfOk result (IsWordFor self.new
             (λ s. if s.bits mask.0 then s.ints a.0 else s.ints b.0)) }
     {
         if let Some(known) = known_blend(mask, a, b) {
             return Ok(known);
         }
-        let out = self.next_word()?;
+        let out = WordId(self.words);
         if let Some(test) = self.instructions.last_test(mask) {
             self.choose_by(test, mask, a, b, out);
             return Ok(out);
@@ -195,8 +186,9 @@ impl Code {
         requires left { a.0 < self.old.words }
         requires right { b.0 < self.old.words }
         requires next { out.0 ≡ self.old.words }
-        requires room { self.old.words < 4294967295 }
+        requires room { HasRoom self.old 1 }
         ensures grown { IsGrown self.old self.new }
+        ensures few { AddsAtMost self.old self.new 1 }
         ensures word { IsWordFor self.new (λ s. if s.bits mask.0 then s.ints a.0 else s.ints b.0)
             out }
     {
@@ -222,12 +214,14 @@ impl Code {
         requires idle { idle.0 < self.old.planes }
         requires left { left.0 < self.old.planes }
         requires right { right.0 < self.old.planes }
+        requires room { HasRoom self.old 2 }
         ensures grown { OnOk result (IsGrown self.old self.new) }
+        ensures few { OnOk result (AddsAtMost self.old self.new 2) }
         ensures results { IfOk result (λ r. AreResultsFor self.new
             (λ s. result_of op (s.ints a.0) (s.ints b.0)) idle left right r.0 r.1) }
     {
-        let out = self.next_word()?;
-        let faults = self.next_plane()?;
+        let out = WordId(self.words);
+        let faults = PlaneId(self.planes);
         let operate = Instruction::Operate(op, a, b, idle, left, right, out, faults);
         self.instructions.push(operate)?;
         self.planes += 1;
@@ -237,24 +231,28 @@ impl Code {
 
     /// A plane of the code's own that holds what another one does.
     pub fn copy_plane(&mut self, a: PlaneId) -> Result<PlaneId, AllocError>
-        requires { a.0 < self.old.planes }
+        requires plane { a.0 < self.old.planes }
+        requires room { HasRoom self.old 1 }
         ensures grown { OnOk result (IsGrown self.old self.new) }
+        ensures few { OnOk result (AddsAtMost self.old self.new 1) }
         ensures plane { IfOk result (IsPlaneFor self.new (λ s. s.bits a.0)) }
         ensures own { IfOk result (λ p. self.new.first_plane ≤ p.0) }
     {
-        let out = self.next_plane()?;
+        let out = PlaneId(self.planes);
         self.push_plane(Instruction::Select(EVERYWHERE, a, a, out))?;
         Ok(out)
     }
 
     /// A word of the code's own that holds what another one does.
     pub fn copy_word(&mut self, a: WordId) -> Result<WordId, AllocError>
-        requires { a.0 < self.old.words }
+        requires word { a.0 < self.old.words }
+        requires room { HasRoom self.old 1 }
         ensures grown { OnOk result (IsGrown self.old self.new) }
+        ensures few { OnOk result (AddsAtMost self.old self.new 1) }
         ensures word { IfOk result (IsWordFor self.new (λ s. s.ints a.0)) }
         ensures own { IfOk result (λ w. self.new.first_word ≤ w.0) }
     {
-        let out = self.next_word()?;
+        let out = WordId(self.words);
         self.push_word(Instruction::Blend(NOWHERE, a, a, out))?;
         Ok(out)
     }

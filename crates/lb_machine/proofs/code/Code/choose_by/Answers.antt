@@ -1,5 +1,5 @@
 use Rattle.std.proofs.Common.{◌+◌, refl, sym, subst, arith}
-use Rattle.lb_machine.specs.Listed.{before_last, listed}
+use Rattle.lb_machine.specs.Listed.{before_last}
 use Rattle.lb_machine.specs.Straight.{IsStraight}
 use Rattle.lb_machine.proofs.Building.{chosen_straight, chosen_run, run_last}
 use Rattle.lb_machine.proofs.code.Code.choose_by.Goals as goal

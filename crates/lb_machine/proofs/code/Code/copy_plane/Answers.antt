@@ -10,16 +10,15 @@ returns-clause-grown c =
 
 pub returns-clause-plane : goal.returns-clause-plane
 returns-clause-plane c =
-    plane_by c.args.self.now c.push_plane.new.self _ _ c.in_ok-out.out
+    plane_by c.args.self.now c.push_plane.new.self _ _ _
     c.in_ok-push_plane.ensures.last
-    (omega (arith, c.in_ok-out.ensures.0, c.in_ok-push_plane.ensures.planes))
+    (omega (arith, c.in_ok-push_plane.ensures.planes))
     (λ s d. d ∙ either_plane (s.bits 1) (s.bits c.args.a.0))
 
 pub returns-clause-own : goal.returns-clause-own
 returns-clause-own c =
     omega (
       arith,
-      c.in_ok-out.ensures.0,
       c.in_ok-push_plane.ensures.first_plane,
       c.args.self.now.more_planes,
     )

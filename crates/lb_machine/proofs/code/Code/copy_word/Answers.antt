@@ -1,13 +1,13 @@
-use Rattle.std.proofs.Common.{◌∙◌, arith}
+use Rattle.std.proofs.Common.{◌∙◌, refl, arith}
 use Rattle.lb_machine.proofs.Building.{grown_by, word_by, either_same}
 use Rattle.lb_machine.proofs.code.Code.copy_word.Goals as goal
 
 pub push_word-requires-clause-next : goal.push_word-requires-clause-next
 push_word-requires-clause-next c = (
   omega (arith, c.args.self.now.constants, c.args.self.now.more_planes),
-  c.requires,
-  c.requires,
-  c.in_ok-out.ensures.0,
+  c.requires.word,
+  c.requires.word,
+  refl,
 )
 
 pub returns-clause-grown : goal.returns-clause-grown
@@ -18,16 +18,15 @@ returns-clause-grown c =
 
 pub returns-clause-word : goal.returns-clause-word
 returns-clause-word c =
-    word_by c.args.self.now c.push_word.new.self _ _ c.in_ok-out.out
+    word_by c.args.self.now c.push_word.new.self _ _ _
     c.in_ok-push_word.ensures.last
-    (omega (arith, c.in_ok-out.ensures.0, c.in_ok-push_word.ensures.words))
+    (omega (arith, c.in_ok-push_word.ensures.words))
     (λ s d. d ∙ either_same (s.bits 0) (s.ints c.args.a.0))
 
 pub returns-clause-own : goal.returns-clause-own
 returns-clause-own c =
     omega (
       arith,
-      c.in_ok-out.ensures.0,
       c.in_ok-push_word.ensures.first_word,
       c.args.self.now.more_words,
     )

@@ -10,8 +10,8 @@ pub invariant_of-self-2 : goal.invariant_of-self-2
 invariant_of-self-2 c =
     let before = c.args.self.now in
     let i : Instruction =
-    Operate c.args.op c.args.a c.args.b c.args.idle c.args.left c.args.right c.in_ok-out.out
-    c.in_ok-faults.faults in
+    Operate c.args.op c.args.a c.args.b c.args.idle c.args.left c.args.right
+    (record { 0 = before.words }) (record { 0 = before.planes }) in
     record {
       straight =
           subst
@@ -26,8 +26,8 @@ invariant_of-self-2 c =
             c.requires.idle,
             c.requires.left,
             c.requires.right,
-            c.in_ok-out.ensures.0,
-            c.in_ok-faults.ensures.0,
+            refl,
+            refl,
           ) (before.planes + 1) (before.words + 1) (omega arith) (omega arith));
       constants = before.constants;
       zero = before.zero;
@@ -37,27 +37,21 @@ invariant_of-self-2 c =
 
 pub returns-clause-grown : goal.returns-clause-grown
 returns-clause-grown c =
-    let i : Instruction =
-    Operate c.args.op c.args.a c.args.b c.args.idle c.args.left c.args.right c.in_ok-out.out
-    c.in_ok-faults.faults in
+    let before = c.args.self.now in
     record {
       first_plane = refl;
       first_word = refl;
       planes = omega arith;
       words = omega arith;
-      runs = λ s h.
-          run_before (listed c.args.self.now.instructions) _ i c.in_ok-push.ensures.items s h;
+      runs = run_before (listed before.instructions) _ _ c.in_ok-push.ensures.items;
     }
 
 pub returns-clause-results : goal.returns-clause-results
 returns-clause-results c =
-    let i : Instruction =
-    Operate c.args.op c.args.a c.args.b c.args.idle c.args.left c.args.right c.in_ok-out.out
-    c.in_ok-faults.faults in
-    let is = (listed c.args.self.now.instructions) in
+    let is = listed c.args.self.now.instructions in
     record {
-      word_within = omega (arith, c.in_ok-out.ensures.0);
-      plane_within = omega (arith, c.in_ok-faults.ensures.0);
-      result = λ s h. (run_last is _ i c.in_ok-push.ensures.items s h).0;
-      faults = λ s h. (run_last is _ i c.in_ok-push.ensures.items s h).1;
+      word_within = omega arith;
+      plane_within = omega arith;
+      result = λ s h. (run_last is _ _ c.in_ok-push.ensures.items s h).0;
+      faults = λ s h. (run_last is _ _ c.in_ok-push.ensures.items s h).1;
     }

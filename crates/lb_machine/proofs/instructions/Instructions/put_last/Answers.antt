@@ -1,4 +1,4 @@
-use Rattle.std.proofs.Common.{◌≡◌, ◌∙◌, ◌∷◌, ◌++◌, [], List, length, ap, rules}
+use Rattle.std.proofs.Common.{◌∙◌, ◌∷◌, ◌++◌, [], List, ap, rules}
 use Rattle.std.proofs.lemmas.List.{with_items_is, places}
 use Rattle.lb_machine.specs.Listed.{before_last, unpacked}
 use Rattle.lb_machine.specs.declared.instructions.Block.{Block}
