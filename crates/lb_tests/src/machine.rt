@@ -2,6 +2,7 @@
 //! apart.
 
 ghost use Rattle.std.specs.Prelude.{◌≡◌, ◌<◌, ◌≤◌, ◌+◌, IfSome, length};
+ghost use Rattle.lb_machine.specs.Correct.{HasRoom};
 
 use crate::lanes::{number, operator};
 use crate::tables::{Asks, Table, check};
@@ -15,6 +16,9 @@ use std::process::Abort;
 
 // ## Code
 
+// More planes or words than any line makes.
+const MOST: u32 = 1000;
+
 /// The places that a command gives.
 #[derive(Clone, Copy)]
 enum Made {
@@ -24,14 +28,18 @@ enum Made {
     Nothing,
 }
 
-fn combined(code: &mut Code, op: PlaneOperator, a: u32, b: u32) -> Result<Made, AllocError> {
+fn combined(code: &mut Code, op: PlaneOperator, a: u32, b: u32) -> Result<Made, AllocError>
+    requires { HasRoom code.old 2 }
+{
     if a < code.planes && b < code.planes {
         return Ok(Made::Plane(code.combine(op, PlaneId(a), PlaneId(b))?));
     }
     Ok(Made::Nothing)
 }
 
-fn selected(code: &mut Code, mask: u32, a: u32, b: u32) -> Result<Made, AllocError> {
+fn selected(code: &mut Code, mask: u32, a: u32, b: u32) -> Result<Made, AllocError>
+    requires { HasRoom code.old 1 }
+{
     if mask < code.planes && a < code.planes && b < code.planes {
         let made = code.select(PlaneId(mask), PlaneId(a), PlaneId(b))?;
         return Ok(Made::Plane(made));
@@ -39,14 +47,18 @@ fn selected(code: &mut Code, mask: u32, a: u32, b: u32) -> Result<Made, AllocErr
     Ok(Made::Nothing)
 }
 
-fn compared(code: &mut Code, c: Comparison, a: u32, b: u32) -> Result<Made, AllocError> {
+fn compared(code: &mut Code, c: Comparison, a: u32, b: u32) -> Result<Made, AllocError>
+    requires { HasRoom code.old 1 }
+{
     if a < code.words && b < code.words {
         return Ok(Made::Plane(code.compare(c, WordId(a), WordId(b))?));
     }
     Ok(Made::Nothing)
 }
 
-fn blended(code: &mut Code, mask: u32, a: u32, b: u32) -> Result<Made, AllocError> {
+fn blended(code: &mut Code, mask: u32, a: u32, b: u32) -> Result<Made, AllocError>
+    requires { HasRoom code.old 1 }
+{
     if mask < code.planes && a < code.words && b < code.words {
         let made = code.blend(PlaneId(mask), WordId(a), WordId(b))?;
         return Ok(Made::Word(made));
@@ -60,7 +72,9 @@ fn operated(
     a: u32,
     b: u32,
     active: u32,
-) -> Result<Made, AllocError> {
+) -> Result<Made, AllocError>
+    requires { HasRoom code.old 4 }
+{
     if 0 < active && active < code.planes && a < code.words && b < code.words {
         let idle = code.combine(PlaneOperator::AndNot, EVERYWHERE, PlaneId(active))?;
         let made = code.operate(op, WordId(a), WordId(b), idle, NOWHERE, NOWHERE)?;
@@ -69,14 +83,18 @@ fn operated(
     Ok(Made::Nothing)
 }
 
-fn copied_plane(code: &mut Code, a: u32) -> Result<Made, AllocError> {
+fn copied_plane(code: &mut Code, a: u32) -> Result<Made, AllocError>
+    requires { HasRoom code.old 1 }
+{
     if a < code.planes {
         return Ok(Made::Plane(code.copy_plane(PlaneId(a))?));
     }
     Ok(Made::Nothing)
 }
 
-fn copied_word(code: &mut Code, a: u32) -> Result<Made, AllocError> {
+fn copied_word(code: &mut Code, a: u32) -> Result<Made, AllocError>
+    requires { HasRoom code.old 1 }
+{
     if a < code.words {
         return Ok(Made::Word(code.copy_word(WordId(a))?));
     }
@@ -84,7 +102,9 @@ fn copied_word(code: &mut Code, a: u32) -> Result<Made, AllocError> {
 }
 
 // What a command makes of the numbers behind it.
-fn make(code: &mut Code, letter: u8, a: u32, b: u32, c: u32) -> Result<Made, AllocError> {
+fn make(code: &mut Code, letter: u8, a: u32, b: u32, c: u32) -> Result<Made, AllocError>
+    requires { HasRoom code.old 4 }
+{
     match letter {
         b'&' => combined(code, PlaneOperator::And, a, b),
         b'|' => combined(code, PlaneOperator::Or, a, b),
@@ -109,7 +129,7 @@ fn place(word: Option<&str>) -> u32 {
     }
 }
 
-// What a command makes.
+// What a command makes, beside few places.
 fn make_one(code: &mut Code, command: &str) -> Result<Made, AllocError> {
     let mut words = command.split(' ');
     let letter = match words.next().unwrap_or("").as_bytes() {
@@ -119,6 +139,9 @@ fn make_one(code: &mut Code, command: &str) -> Result<Made, AllocError> {
     let a = place(words.next());
     let b = place(words.next());
     let c = place(words.next());
+    if code.planes > MOST || code.words > MOST {
+        return Ok(Made::Nothing);
+    }
     make(code, letter, a, b, c)
 }
 
