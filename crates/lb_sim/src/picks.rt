@@ -3,7 +3,7 @@
 ghost use Rattle.std.specs.Prelude.{◌≡◌, ◌<◌, ◌&&◌, false, IfOk, OnOk, if◌then◌else◌};
 ghost use Rattle.lb_check.specs.Scalars.{chosen};
 ghost use Rattle.lb_check.specs.Streams.{shows};
-ghost use Rattle.lb_machine.specs.Correct.{IsGrown, IsPlaneFor};
+ghost use Rattle.lb_machine.specs.Correct.{AddsAtMost, HasRoom, IsGrown, IsPlaneFor};
 ghost use Rattle.lb_machine.specs.Meaning.{Lane};
 ghost use Rattle.lb_machine.specs.declared.code.Code.{Code};
 ghost use Rattle.lb_sim.specs.Holdings.{IsFor, IsIn, IsPlaceIn, IsValueFor, IsValueIn};
@@ -20,7 +20,9 @@ fn pick_value(code: &mut Code, mask: PlaneId, a: Value, b: Value) -> Result<Valu
     requires mask { mask.0 < code.old.planes }
     requires left { IsValueIn code.old a }
     requires right { IsValueIn code.old b }
+    requires room { HasRoom code.old 1 }
     ensures grown { OnOk result (IsGrown code.old code.new) }
+    ensures few { OnOk result (AddsAtMost code.old code.new 1) }
     ensures within { IfOk result (IsValueIn code.new) }
     ensures value { IfOk result (λ v. value_kind a ≡ value_kind b →
         IsValueFor code.new (value_kind a)
@@ -44,7 +46,9 @@ pub(crate) fn pick(
     requires mask { mask.0 < code.old.planes }
     requires left { IsIn code.old a }
     requires right { IsIn code.old b }
+    requires room { HasRoom code.old 3 }
     ensures grown { OnOk result (IsGrown code.old code.new) }
+    ensures few { OnOk result (AddsAtMost code.old code.new 3) }
     ensures within { IfOk result (IsIn code.new) }
     ensures holding { IfOk result (λ h. kind_of a ≡ kind_of b →
         IsFor code.new (kind_of a)
@@ -84,7 +88,9 @@ fn choose_any(
     requires condition { IsIn code.old condition }
     requires left { IsIn code.old a }
     requires right { IsIn code.old b }
+    requires room { HasRoom code.old 9 }
     ensures grown { OnOk result (IsGrown code.old code.new) }
+    ensures few { OnOk result (AddsAtMost code.old code.new 9) }
     ensures within { IfOk result (IsIn code.new) }
     ensures holding { IfOk result (λ h. kind_of a ≡ kind_of b →
         IsFor code.new (kind_of a)
@@ -121,7 +127,9 @@ pub(crate) fn choose(
     requires condition { IsIn code.old condition }
     requires left { IsIn code.old a }
     requires right { IsIn code.old b }
+    requires room { HasRoom code.old 9 }
     ensures grown { OnOk result (IsGrown code.old code.new) }
+    ensures few { OnOk result (AddsAtMost code.old code.new 9) }
     ensures within { IfOk result (IsIn code.new) }
     ensures holding { IfOk result (λ h. kind_of a ≡ kind_of b →
         IsFor code.new (kind_of a)
@@ -143,7 +151,9 @@ pub(crate) fn sign_plane(
 ) -> Result<PlaneId, AllocError>
     requires above { above.0 < code.old.planes }
     requires place { IsPlaceIn code.old place }
+    requires room { HasRoom code.old 10 }
     ensures grown { OnOk result (IsGrown code.old code.new) }
+    ensures few { OnOk result (AddsAtMost code.old code.new 10) }
     ensures plane { IfOk result (IsPlaneFor code.new
         (λ s. s.bits above.0 && shows sign (cell_at s place))) }
 {

@@ -4,7 +4,7 @@ ghost use Rattle.std.specs.Prelude.{◌≡◌, ◌<◌, not, Some, IfOk, OnOk};
 ghost use Rattle.lb_syntax.specs.declared.tree.Kind.TheVariants.{Bool as Bool_kind};
 ghost use Rattle.lb_check.specs.Scalars.{Boolean, two_booleans, two_integers};
 ghost use Rattle.lb_flat.specs.Fitting.{integers_kind, truths_kind};
-ghost use Rattle.lb_machine.specs.Correct.{IsGrown, IsPlaneFor};
+ghost use Rattle.lb_machine.specs.Correct.{AddsAtMost, HasRoom, IsGrown, IsPlaneFor};
 ghost use Rattle.lb_machine.specs.Listed.{listed};
 ghost use Rattle.lb_machine.specs.Meaning.{Lane, HasRun};
 
@@ -14,8 +14,10 @@ use std::alloc::AllocError;
 
 /// A plane that is true where another is not.
 pub(crate) fn not_plane(code: &mut Code, a: PlaneId) -> Result<PlaneId, AllocError>
-    requires { a.0 < code.old.planes }
+    requires plane { a.0 < code.old.planes }
+    requires room { HasRoom code.old 2 }
     ensures grown { OnOk result (IsGrown code.old code.new) }
+    ensures few { OnOk result (AddsAtMost code.old code.new 2) }
     ensures plane { IfOk result (IsPlaneFor code.new (λ s. not (s.bits a.0))) }
 {
     let negation = code.combine(PlaneOperator::AndNot, EVERYWHERE, a)?;
@@ -32,7 +34,9 @@ pub(crate) fn two_truths(
 ) -> Result<PlaneId, AllocError>
     requires left { a.0 < code.old.planes }
     requires right { b.0 < code.old.planes }
+    requires room { HasRoom code.old 4 }
     ensures grown { OnOk result (IsGrown code.old code.new) }
+    ensures few { OnOk result (AddsAtMost code.old code.new 4) }
     ensures within { IfOk result (λ p. p.0 < code.new.planes) }
     ensures means { IfOk result (λ p. truths_kind op ≡ Some Bool_kind →
         (s : Lane) → HasRun (listed code.new.instructions) s →
@@ -68,7 +72,9 @@ pub(crate) fn compared(
 ) -> Result<PlaneId, AllocError>
     requires left { a.0 < code.old.words }
     requires right { b.0 < code.old.words }
+    requires room { HasRoom code.old 3 }
     ensures grown { OnOk result (IsGrown code.old code.new) }
+    ensures few { OnOk result (AddsAtMost code.old code.new 3) }
     ensures within { IfOk result (λ p. p.0 < code.new.planes) }
     ensures means { IfOk result (λ p. integers_kind op ≡ Some Bool_kind →
         (s : Lane) → HasRun (listed code.new.instructions) s →
