@@ -5,7 +5,7 @@ ghost use Rattle.std.specs.Prelude.{if◌then◌else◌};
 ghost use Rattle.lb_syntax.specs.declared.tree.Kind.{Kind};
 ghost use Rattle.lb_flat.specs.Run.{reads};
 ghost use Rattle.lb_flat.specs.Values.{operation_of};
-ghost use Rattle.lb_machine.specs.Correct.{IsGrown};
+ghost use Rattle.lb_machine.specs.Correct.{AddsAtMost, HasRoom, IsGrown};
 ghost use Rattle.lb_machine.specs.declared.code.Code.{Code};
 ghost use Rattle.lb_sim.specs.Allotted.{IsFlagHolding};
 ghost use Rattle.lb_sim.specs.Emitted.{IsEmitted};
@@ -83,7 +83,9 @@ fn first_then(code: &mut Code, kept: Holding, a: Holding, b: Holding) -> Result<
     requires kept { IsIn code.old kept }
     requires left { IsIn code.old a }
     requires right { IsIn code.old b }
+    requires room { HasRoom code.old 3 }
     ensures grown { OnOk result (IsGrown code.old code.new) }
+    ensures few { OnOk result (AddsAtMost code.old code.new 3) }
     ensures within { IfOk result (IsIn code.new) }
     ensures holding { IfOk result (λ h. IsFlagHolding kept → kind_of b ≡ kind_of a →
         IsFor code.new (kind_of b)
@@ -112,7 +114,9 @@ fn emit_any(
     requires inputs { All (IsValueIn code.old) inputs.now }
     requires constant { IsIn code.old constant }
     requires kept { IsIn code.old kept }
+    requires room { HasRoom code.old 9 }
     ensures grown { OnOk result (IsGrown code.old code.new) }
+    ensures few { OnOk result (AddsAtMost code.old code.new 9) }
     ensures within { IfOk result (IsIn code.new) }
     ensures emitted { IfOk result (λ h. (kind : Kind) →
         IsEmitted code.new places.now inputs.now constant kept (operation_of operation) kind h) }
@@ -163,7 +167,9 @@ pub(crate) fn emit(
     requires inputs { All (IsValueIn code.old) inputs.now }
     requires constant { IsIn code.old constant }
     requires kept { IsIn code.old kept }
+    requires room { HasRoom code.old 9 }
     ensures grown { OnOk result (IsGrown code.old code.new) }
+    ensures few { OnOk result (AddsAtMost code.old code.new 9) }
     ensures within { IfOk result (IsIn code.new) }
     ensures kind { IfOk result (λ h. kind_of h ≡ kind) }
     ensures emitted { IfOk result

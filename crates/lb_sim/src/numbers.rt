@@ -5,7 +5,7 @@ ghost use Rattle.lb_syntax.specs.declared.tree.Kind.TheVariants.{Int as Int_kind
 ghost use Rattle.lb_syntax.specs.declared.tree.UnaryOperator.TheVariants.{Negate};
 ghost use Rattle.lb_check.specs.Scalars.{Integer, one_scalar, or_fault, two_integers};
 ghost use Rattle.lb_lanes.specs.Operators.{result_of};
-ghost use Rattle.lb_machine.specs.Correct.{IsGrown};
+ghost use Rattle.lb_machine.specs.Correct.{AddsAtMost, HasRoom, IsGrown};
 ghost use Rattle.lb_sim.specs.Holdings.{IsFor, IsIn};
 ghost use Rattle.lb_sim.specs.Showing.{operator_of, shown};
 
@@ -31,7 +31,9 @@ pub(crate) fn two_numbers(
     requires nil { nil.0 < code.old.planes }
     requires left { left.0 < code.old.planes }
     requires right { right.0 < code.old.planes }
+    requires room { HasRoom code.old 2 }
     ensures grown { OnOk result (IsGrown code.old code.new) }
+    ensures few { OnOk result (AddsAtMost code.old code.new 2) }
     ensures within { IfOk result (IsIn code.new) }
     ensures holding { IfOk result (IsFor code.new Int_kind (λ s.
         shown (s.bits left.0 || s.bits right.0) (s.bits nil.0)
@@ -61,7 +63,9 @@ pub(crate) fn arithmetic(
     requires nil { nil.0 < code.old.planes }
     requires left { left.0 < code.old.planes }
     requires right { right.0 < code.old.planes }
+    requires room { HasRoom code.old 2 }
     ensures grown { OnOk result (IsGrown code.old code.new) }
+    ensures few { OnOk result (AddsAtMost code.old code.new 2) }
     ensures within { IfOk result (IsIn code.new) }
     ensures holding { IfOk result (IsFor code.new Int_kind (λ s.
         shown (s.bits left.0 || s.bits right.0) (s.bits nil.0)
@@ -81,7 +85,9 @@ pub(crate) fn negated(
     requires operand { a.0 < code.old.words }
     requires nil { nil.0 < code.old.planes }
     requires bad { bad.0 < code.old.planes }
+    requires room { HasRoom code.old 2 }
     ensures grown { OnOk result (IsGrown code.old code.new) }
+    ensures few { OnOk result (AddsAtMost code.old code.new 2) }
     ensures within { IfOk result (IsIn code.new) }
     ensures holding { IfOk result (IsFor code.new Int_kind (λ s.
         one_scalar Negate (shown (s.bits bad.0) (s.bits nil.0) (Integer (s.ints a.0))))) }

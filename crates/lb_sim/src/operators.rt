@@ -4,7 +4,7 @@ ghost use Rattle.std.specs.Prelude.{◌≡◌, ◌<◌, ◌||◌, Some, IfOk, On
 ghost use Rattle.lb_syntax.specs.declared.tree.Kind.{Kind};
 ghost use Rattle.lb_check.specs.Scalars.{one_scalar, two_integers, two_scalars};
 ghost use Rattle.lb_flat.specs.Fitting.{binary_kind, integers_kind, unary_kind};
-ghost use Rattle.lb_machine.specs.Correct.{IsGrown};
+ghost use Rattle.lb_machine.specs.Correct.{AddsAtMost, HasRoom, IsGrown};
 ghost use Rattle.lb_sim.specs.Holdings.{IsFor, IsIn};
 ghost use Rattle.lb_sim.specs.Showing.{kind_of, scalar_at, shown};
 ghost use Rattle.lb_sim.specs.declared.place.Value.TheVariants.{Truth};
@@ -44,7 +44,9 @@ fn integers(
     requires nil { nil.0 < code.old.planes }
     requires left { left.0 < code.old.planes }
     requires right { right.0 < code.old.planes }
+    requires room { HasRoom code.old 5 }
     ensures grown { OnOk result (IsGrown code.old code.new) }
+    ensures few { OnOk result (AddsAtMost code.old code.new 5) }
     ensures within { IfOk result (IsIn code.new) }
     ensures holding { IfOk result (λ h. (kind : Kind) → integers_kind op ≡ Some kind →
         IsFor code.new kind (λ s.
@@ -79,7 +81,9 @@ pub(crate) fn two_holdings(
 ) -> Result<Holding, AllocError>
     requires left { IsIn code.old a }
     requires right { IsIn code.old b }
+    requires room { HasRoom code.old 8 }
     ensures grown { OnOk result (IsGrown code.old code.new) }
+    ensures few { OnOk result (AddsAtMost code.old code.new 8) }
     ensures within { IfOk result (IsIn code.new) }
     ensures holding { IfOk result (λ h. (kind : Kind) →
         binary_kind op (kind_of a) (kind_of b) ≡ Some kind →
@@ -104,8 +108,10 @@ pub(crate) fn one_holding(
     op: UnaryOperator,
     a: Holding,
 ) -> Result<Holding, AllocError>
-    requires { IsIn code.old a }
+    requires operand { IsIn code.old a }
+    requires room { HasRoom code.old 2 }
     ensures grown { OnOk result (IsGrown code.old code.new) }
+    ensures few { OnOk result (AddsAtMost code.old code.new 2) }
     ensures within { IfOk result (IsIn code.new) }
     ensures holding { IfOk result (λ h. (kind : Kind) → unary_kind op (kind_of a) ≡ Some kind →
         IsFor code.new kind (λ s. one_scalar op (scalar_at s a)) h) }

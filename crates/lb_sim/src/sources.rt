@@ -5,7 +5,7 @@ ghost use Rattle.lb_flat.specs.Programs.{program_of, IsInRange};
 ghost use Rattle.lb_flat.specs.FurtherKinds.{kind_among};
 ghost use Rattle.lb_flat.specs.Run.{keeps, reads};
 ghost use Rattle.lb_flat.specs.Values.{operation_of};
-ghost use Rattle.lb_machine.specs.Correct.{IsGrown};
+ghost use Rattle.lb_machine.specs.Correct.{AddsAtMost, HasRoom, IsGrown};
 ghost use Rattle.lb_sim.specs.Holdings.{IsIn, IsPlaceIn};
 ghost use Rattle.lb_sim.specs.Homes.{plane_in, word_in};
 ghost use Rattle.lb_sim.specs.Passing.{AreCopies, AreSources, AreTaken, IsNextOf, IsPlaneSource};
@@ -54,7 +54,9 @@ pub(crate) struct Copies {
 // Writes the two planes.
 #[tactic(auto, using(crate::proofs::Growth::grown_then, crate::proofs::Growth::grown_none))]
 fn make_copies(code: &mut Code) -> Result<Copies, AllocError>
+    requires { HasRoom code.old 2 }
     ensures grown { OnOk result (IsGrown code.old code.new) }
+    ensures few { OnOk result (AddsAtMost code.old code.new 2) }
     ensures copies { IfOk result (AreCopies code.new) }
 {
     let nowhere = code.copy_plane(NOWHERE)?;
@@ -70,7 +72,9 @@ fn make_copies(code: &mut Code) -> Result<Copies, AllocError>
 fn own_plane(code: &mut Code, p: PlaneId, copies: Copies) -> Result<PlaneId, AllocError>
     requires plane { p.0 < code.old.planes }
     requires copies { AreCopies code.old copies }
+    requires room { HasRoom code.old 1 }
     ensures grown { OnOk result (IsGrown code.old code.new) }
+    ensures few { OnOk result (AddsAtMost code.old code.new 1) }
     ensures source { IfOk result (IsPlaneSource code.new p.0) }
 {
     if p.0 == NOWHERE.0 {
@@ -89,8 +93,10 @@ fn own_plane(code: &mut Code, p: PlaneId, copies: Copies) -> Result<PlaneId, All
 // A word that the code writes, with what this one holds.
 #[tactic(auto, using(crate::proofs::Growth::grown_then, crate::proofs::Growth::grown_none))]
 fn own_word(code: &mut Code, w: WordId) -> Result<WordId, AllocError>
-    requires { w.0 < code.old.words }
+    requires word { w.0 < code.old.words }
+    requires room { HasRoom code.old 1 }
     ensures grown { OnOk result (IsGrown code.old code.new) }
+    ensures few { OnOk result (AddsAtMost code.old code.new 1) }
     ensures source { IfOk result (IsWordSource code.new w.0) }
 {
     if w.0 < code.first_word {
@@ -111,7 +117,9 @@ fn take_plane(
 ) -> Result<(), AllocError>
     requires next { next.0 < code.old.planes }
     requires copies { AreCopies code.old copies }
+    requires room { HasRoom code.old 1 }
     ensures grown { OnOk result (IsGrown code.old code.new) }
+    ensures few { OnOk result (AddsAtMost code.old code.new 1) }
     ensures taken { OnOk result (IsTaken (IsPlaneSource code.new next.0) home.0
         sources.old.items sources.new.items) }
 {
@@ -131,8 +139,10 @@ fn take_word(
     next: WordId,
     sources: &mut Vec<WordId>,
 ) -> Result<(), AllocError>
-    requires { next.0 < code.old.words }
+    requires next { next.0 < code.old.words }
+    requires room { HasRoom code.old 1 }
     ensures grown { OnOk result (IsGrown code.old code.new) }
+    ensures few { OnOk result (AddsAtMost code.old code.new 1) }
     ensures taken { OnOk result (IsTaken (IsWordSource code.new next.0) home.0
         sources.old.items sources.new.items) }
 {
@@ -156,7 +166,9 @@ fn push_sources(
 ) -> Result<(), AllocError>
     requires next { IsIn code.old next }
     requires copies { AreCopies code.old copies }
+    requires room { HasRoom code.old 4 }
     ensures grown { OnOk result (IsGrown code.old code.new) }
+    ensures few { OnOk result (AddsAtMost code.old code.new 4) }
     ensures taken { OnOk result (AreTaken code.new home next planes.old.items planes.new.items
         words.old.items words.new.items) }
 {
@@ -176,7 +188,9 @@ fn push_sources(
 fn next_flag(code: &mut Code, held: Holding, present: PlaneId) -> Result<Holding, AllocError>
     requires held { IsIn code.old held }
     requires present { present.0 < code.old.planes }
+    requires room { HasRoom code.old 2 }
     ensures grown { OnOk result (IsGrown code.old code.new) }
+    ensures few { OnOk result (AddsAtMost code.old code.new 2) }
     ensures within { IfOk result (IsIn code.new) }
     ensures next { IfOk result (IsNextFlag code.new held present.0) }
 {
@@ -201,7 +215,9 @@ fn next_holding(
     requires held { IsIn code.old held }
     requires reads { All (λ i. i < length places.now) (reads (operation_of operation.now)) }
     requires keeps { All (λ i. i < length places.now) (keeps (operation_of operation.now)) }
+    requires room { HasRoom code.old 3 }
     ensures grown { OnOk result (IsGrown code.old code.new) }
+    ensures few { OnOk result (AddsAtMost code.old code.new 3) }
     ensures within { IfOk result (IsIn code.new) }
     ensures next { IfOk result (IsNextOf code.new places.now held
         (operation_of operation.now)) }
