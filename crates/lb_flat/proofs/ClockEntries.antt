@@ -1,7 +1,8 @@
--- The clocks of a table by the formula wait for elements of variables, on clocks of the table.
+-- The clocks of a table by the formula wait for elements of variables, on clocks of the table; each
+-- is the instants of its parent at which its element has its sign.
 use Rattle.std.proofs.Common.{◌≡◌, ◌⊎◌, inl, inr, ℕ, zero, suc, ◌+◌, ◌-◌, ◌*◌, ◌<◌, ◌≤◌, Bool, true}
 use Rattle.std.proofs.Common.{false, Option, Some, None, List, [], ◌∷◌, length, get_or, refl}
-use Rattle.std.proofs.Common.{ap, sym, ◌∙◌, subst, arith}
+use Rattle.std.proofs.Common.{ap, ap₂, sym, ◌∙◌, subst, arith}
 use Rattle.std.specs.Prelude.{nat_lt, slice_get}
 use Rattle.std.proofs.lemmas.List.{length-map, take_all}
 use Rattle.std.proofs.lemmas.Option.{get_or_from_slice_get, slice_get_within, same_Some}
@@ -27,22 +28,27 @@ use Rattle.lb_check.specs.declared.checked.Checking.{Checking}
 use Rattle.lb_check.proofs.AcceptedNumbers.{numbers_below}
 use Rattle.lb_check.proofs.DeclaredClocks.{IsOwn, declared_own}
 use Rattle.lb_check.proofs.InstancePaths.{at_path, path_is}
+use Rattle.lb_flat.specs.Bounds.{AreWhole}
 use Rattle.lb_flat.specs.ClockPlaces.{path_place, path_runs, path_before}
 use Rattle.lb_flat.specs.ClockTables.{sign_place, clock_place, IsClockTable}
+use Rattle.lb_flat.specs.Flat.{Where}
+use Rattle.lb_flat.specs.Layouts.{flat_clock}
+use Rattle.lb_flat.specs.NumberedLayouts.{layout, signs_of}
 use Rattle.lb_flat.specs.Rows.{count_at, element_total}
 use Rattle.lb_flat.specs.TableClocks.{IsLayoutOf, sources_of, all_clocks, all_runs, all_serving}
 use Rattle.lb_flat.specs.TableClocks.{clocks_among}
+use Rattle.lb_flat.specs.Values.{clock_of}
 use Rattle.lb_flat.specs.Within.{IsClock, IsTableClock, AreClocks}
 use Rattle.lb_flat.specs.declared.equation.Clock as table
 use Rattle.lb_flat.specs.declared.equation.ClockId.{ClockId}
 use Rattle.lb_flat.specs.declared.layout.Layout.{Layout}
 use Rattle.lb_flat.proofs.AddedClocks.{AreCounted, clocks_long}
-use Rattle.lb_flat.proofs.ClockTable.{caller_of, site_is_own}
+use Rattle.lb_flat.proofs.ClockTable.{caller_of, clock_row, first_signed, site_is_own}
 use Rattle.lb_flat.proofs.FilledClocks.{filled_table, own_terms, nodes_found, counted, apart}
 use Rattle.lb_flat.proofs.NumberedPlaces.{signs_are}
 use Rattle.lb_flat.proofs.RowInstances.{IsRow, row_shown}
 use Rattle.lb_flat.proofs.RowPlaces.{row_number_is, variable_place_is}
-use Rattle.lb_flat.proofs.CountedRows.{row_count}
+use Rattle.lb_flat.proofs.CountedRows.{row_count, variables_few}
 use Rattle.lb_flat.proofs.TableSizes.{element_total_is}
 
 -- ## One entry
@@ -108,6 +114,29 @@ module _ (P : Program) (accepted : static_refusal P ≡ None) (checked : check_r
             (id_within here on (runs_within here.path here at) (declared_clock here.node x)
             (declared_own here.node x));
       })
+
+  -- and is the instants of its parent at which its element has its sign
+  pub entry_whole :
+      (here : Instance) → In here (instances P) → (x : Name) →
+      (on_x : In x (variable_names here.node)) (sign : Bool) → (k : ClockId) (c : table.Clock) →
+      place here.path x + sign_place sign ≡ k.0 → slice_get clocks k.0 ≡ Some c →
+      clock_of clocks (Some k) ≡ Where (clock_of clocks c.parent) c.element.0 c.sign
+  entry_whole here on x on_x sign k c spot stands =
+      let z = is.rows here on x on_x sign in
+      let own_clock = declared_clock here.node x in
+      let found = clock_row P accepted checked own clocks place runs before is here on in
+      let same = same_Some z.row c (sym z.stands ∙ (ap (slice_get clocks) spot ∙ stands)) in
+      let id : Some k ≡ clock_place place runs here.path (On own_clock x sign) =
+      ap (λ m. Some (record { 0 = m })) (sym spot) in
+      let up : flat_clock (layout P) here.path own_clock ≡ clock_of clocks z.row.parent =
+      sym (ap (clock_of clocks) z.parent ∙ found own_clock (declared_own here.node x)) in
+      subst (λ (t : table.Clock). clock_of clocks (Some k)
+      ≡ Where (clock_of clocks t.parent) t.element.0 t.sign) same
+      (ap (clock_of clocks) id
+      ∙ (found (On own_clock x sign) (refl, on_x)
+      ∙ (first_signed (flat_clock (layout P) here.path own_clock) sign (signs_of P here.path x)
+      z.row.element.0 z.serves
+      ∙ ap₂ (λ l s. Where l z.row.element.0 s) up (sym z.signed))))
 
 -- ## All entries
 
@@ -190,13 +219,21 @@ module _ (c : Checking) (lawful : IsChecked c) (l : Layout)
       lawful.elaborated.accepted lawful.accepted c.clocks.items lawful.clocks l.variables.items
       l.starts.items laid.numbers laid.variables small) n (omega arith)
 
+  -- a row of the table is that of a variable of an instance, for a sign
+  record IsPlaced (m : ℕ) : Type 0 where
+    here : Instance
+    stands : In here (instances (elaborated_program c.elab))
+    x : Name
+    named : In x (variable_names here.node)
+    sign : Bool
+    spot :
+        path_place (elaborated_program c.elab) l.variables.items here.path x + sign_place sign ≡ m
+
   at_variable :
       (v : ℕ) (sign : Bool) →
-      v < get_or l.variables.items (length c.elab.table.instances.items) 0 → (e : table.Clock) →
-      slice_get (all_clocks (sources_of c l)) (2 * v + sign_place sign) ≡ Some e →
-      IsTableClock (length (program_elements (elaborated_program c.elab)))
-      (all_clocks (sources_of c l)) e
-  at_variable v sign lt e stands =
+      v < get_or l.variables.items (length c.elab.table.instances.items) 0 → (m : ℕ) →
+      2 * v + sign_place sign ≡ m → IsPlaced m
+  at_variable v sign lt m there =
       let o = row_of_variable l.variables.items own_counted.first
       (length c.elab.table.instances.items) own_counted.next v lt in
       let i = item_at c.elab.table.instances.items o.k o.row in
@@ -206,8 +243,7 @@ module _ (c : Checking) (lawful : IsChecked c) (l : Layout)
       of : (k x : ℕ) (i : row.Instance) (here : Instance) →
           IsRow (elaborated_program c.elab) c.elab.reached c.elab.table lawful.elaborated.table k i
           here → get_or l.variables.items k 0 + x ≡ v → x < count_at l.variables.items k →
-          IsTableClock (length (program_elements (elaborated_program c.elab)))
-          (all_clocks (sources_of c l)) e
+          IsPlaced m
       of k x i here is number low =
           let on = in_at (instances P) k here is.instance_is in
           let many = row_count P c.elab.reached c.elab.table lawful.elaborated.reached
@@ -224,39 +260,71 @@ module _ (c : Checking) (lawful : IsChecked c) (l : Layout)
           let place_is = variable_place_is P here on distinct x y.0 y.1 in
           let start : path_before P l.variables.items here.path ≡ get_or l.variables.items k 0 =
           ap (λ j. get_or l.variables.items j 0) row_is in
-          let place : 2 * v + sign_place sign
-          ≡ path_place P l.variables.items here.path y.0 + sign_place sign =
-          omega (arith, number, place_is, start) in
-          entry_within P lawful.elaborated.accepted lawful.accepted
-          (own_terms P c.elab.reached c.elab.table lawful.elaborated.reached
-          lawful.elaborated.table lawful.elaborated.accepted lawful.accepted c.clocks.items
-          lawful.clocks l.variables.items l.starts.items laid.numbers laid.variables small) C
-          (path_place P l.variables.items) (path_runs P (all_runs (sources_of c l)))
-          (path_before P l.variables.items)
-          (filled_table P c.elab.reached c.elab.table lawful.elaborated.reached
-          lawful.elaborated.table lawful.elaborated.accepted lawful.accepted c.clocks.items
-          lawful.clocks l.variables.items l.starts.items laid.numbers laid.variables small)
-          here on (at_path P here on) y.0 (in_at (variable_names here.node) x y.0 y.1) sign e
-          (ap (slice_get C) (sym place) ∙ stands)
+          record {
+            here = here;
+            stands = on;
+            x = y.0;
+            named = in_at (variable_names here.node) x y.0 y.1;
+            sign = sign;
+            spot = omega (arith, number, place_is, start, there);
+          }
+
+  placed : (m : ℕ) → m < length (all_clocks (sources_of c l)) → IsPlaced m
+  placed m lt = let h = halved m in by h.0 h.1
+    where
+      by : (v : ℕ) → (m ≡ 2 * v) ⊎ (m ≡ 2 * v + 1) → IsPlaced m
+      by v (inl h) = at_variable v false (omega (arith, h, lt, long)) m (omega (arith, h))
+      by v (inr h) = at_variable v true (omega (arith, h, lt, long)) m (sym h)
+
+  terms_own :
+      (here : Instance) → In here (instances (elaborated_program c.elab)) →
+      Every (λ o. IsOwn here.node o.clock)
+      (node_occurrences (elaborated_program c.elab) here.node)
+  terms_own =
+      own_terms P c.elab.reached c.elab.table lawful.elaborated.reached lawful.elaborated.table
+      lawful.elaborated.accepted lawful.accepted c.clocks.items lawful.clocks l.variables.items
+      l.starts.items laid.numbers laid.variables small
+
+  by_formula :
+      IsClockTable (elaborated_program c.elab) (all_clocks (sources_of c l))
+      (path_place (elaborated_program c.elab) l.variables.items)
+      (path_runs (elaborated_program c.elab) (all_runs (sources_of c l)))
+      (path_before (elaborated_program c.elab) l.variables.items)
+  by_formula =
+      filled_table P c.elab.reached c.elab.table lawful.elaborated.reached lawful.elaborated.table
+      lawful.elaborated.accepted lawful.accepted c.clocks.items lawful.clocks l.variables.items
+      l.starts.items laid.numbers laid.variables small
 
   -- all clocks that are filled are in range
   pub filled_within : AreClocks l.count (all_clocks (sources_of c l))
   filled_within m d lt =
-      let h = halved m in
       let e = item_at C m lt in
+      let w = placed m lt in
       let size : length (program_elements P) ≡ l.count =
       sym (laid.count ∙ element_total_is P c.elab.reached c.elab.table lawful.elaborated.reached
       lawful.elaborated.table) in
       subst (λ n. IsTableClock n C (get_or C m d)) size
       (subst (IsTableClock (length (program_elements P)) C)
-      (sym (get_or_from_slice_get C m e.0 d e.1)) (by h.0 h.1 e.0 e.1))
-    where
-      by : (v : ℕ) → (m ≡ 2 * v) ⊎ (m ≡ 2 * v + 1) → (e : table.Clock) →
-          slice_get (all_clocks (sources_of c l)) m ≡ Some e →
-          IsTableClock (length (program_elements (elaborated_program c.elab)))
-          (all_clocks (sources_of c l)) e
-      by v (inl h) e stands =
-          let same : 2 * v + 0 ≡ m = omega (arith, h) in
-          at_variable v false (omega (arith, h, lt, long)) e (ap (slice_get C) same ∙ stands)
-      by v (inr h) e stands =
-          at_variable v true (omega (arith, h, lt, long)) e (ap (slice_get C) (sym h) ∙ stands)
+      (sym (get_or_from_slice_get C m e.0 d e.1))
+      (entry_within P lawful.elaborated.accepted lawful.accepted terms_own C
+      (path_place P l.variables.items) (path_runs P (all_runs (sources_of c l)))
+      (path_before P l.variables.items) by_formula w.here w.stands (at_path P w.here w.stands) w.x
+      w.named w.sign e.0 (ap (slice_get C) w.spot ∙ e.1)))
+
+  -- each is the instants of its parent at which its element has its sign
+  pub filled_whole : AreWhole (all_clocks (sources_of c l))
+  filled_whole k t stands =
+      let w = placed k.0 (slice_get_within C k.0 t stands) in
+      entry_whole P lawful.elaborated.accepted lawful.accepted terms_own C
+      (path_place P l.variables.items) (path_runs P (all_runs (sources_of c l)))
+      (path_before P l.variables.items) by_formula w.here w.stands w.x w.named w.sign k t w.spot
+      stands
+
+  -- and there are two for each variable, of which there are few
+  pub filled_few : length (all_clocks (sources_of c l)) ≤ 131072
+  filled_few =
+      let n = length c.elab.table.instances.items in
+      let all = laid.variables n (omega arith) in
+      let few = variables_few P c.elab.reached c.elab.table lawful.elaborated.reached
+      lawful.elaborated.table lawful.elaborated.accepted n in
+      omega (arith, long, all, few, small)

@@ -69,7 +69,7 @@ stands_is clocks (suc m) id (Where k i sign) h deep =
     ∙ ap (λ l. Where l c.element.0 c.sign) up
     ∙ ap₂ (λ j s. Where k j s) h.4 h.5
 
-first_signed :
+pub first_signed :
     (k : FlatClock) (sign : Bool) (is : List ℕ) (i : ℕ) → slice_get is 0 ≡ Some i →
     where_signed k sign is ≡ Where k i sign
 first_signed k sign [] i e = absurd cc

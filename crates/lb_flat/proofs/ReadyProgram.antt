@@ -1,7 +1,7 @@
 -- The rows of a checked program that is small can be emitted from a frame of one of them, and what
 -- is emitted is the expansion of the program.
 use Rattle.std.proofs.Common.{Option, Some, refl, ◌≡◌, ◌<◌, ◌≤◌, ℕ, None, Bool, true, List}
-use Rattle.std.proofs.Common.{length, ap, sym, ◌∙◌, subst, arith}
+use Rattle.std.proofs.Common.{Result, Ok, Err, IfOk, length, ap, sym, ◌∙◌, subst, arith}
 use Rattle.std.specs.Prelude.{◌^◌}
 use Rattle.std.specs.Option.{ForSome, MatchOption}
 use Rattle.lb_syntax.specs.declared.tree.Kind.{Kind}
@@ -17,7 +17,7 @@ use Rattle.lb_check.specs.Elements.{element_kinds, program_elements}
 use Rattle.lb_check.specs.LawfulPrograms.{IsChecked}
 use Rattle.lb_check.specs.TypeRules.{is_small}
 use Rattle.lb_check.specs.declared.checked.Checking.{Checking}
-use Rattle.lb_flat.specs.Bounds.{IsBounded}
+use Rattle.lb_flat.specs.Bounds.{AreWhole, IsBounded}
 use Rattle.lb_flat.specs.Emit.{expanded}
 use Rattle.lb_flat.specs.EmitRows.{HasRows, IsCounted, bodies}
 use Rattle.lb_flat.specs.EmitTerms.{Context}
@@ -33,6 +33,7 @@ use Rattle.lb_flat.specs.Rows.{called_row, child_row}
 use Rattle.lb_flat.specs.TableClocks.{IsLayoutOf, all_clocks, all_runs, sources_of}
 use Rattle.lb_flat.specs.declared.children.Children.{Children}
 use Rattle.lb_flat.specs.declared.clocks.Clocks.{Clocks}
+use Rattle.lb_flat.specs.declared.equation.Clock.{Clock}
 use Rattle.lb_flat.specs.declared.layout.Layout.{Layout}
 use Rattle.lb_flat.specs.declared.program.FlatProgram as code
 use Rattle.lb_flat.specs.declared.row_frame.RowFrame.{RowFrame}
@@ -78,12 +79,16 @@ pub record CanEmit (s : Emittable) : Type 0 where
 pub numbers_small : (s : Emittable) → CanEmit s → (emitted s).size < 2 ^ 32
 numbers_small s can = omega (arith, can.elements)
 
--- and a program that is emitted has few of them
+-- and a program that is emitted with these clocks has few of them, and few clocks
 pub emits_bounded :
-    (s : Emittable) → CanEmit s → (p : code.FlatProgram) → program_of p ≡ emitted s → IsBounded p
-emits_bounded s can p e = record {
+    (s : Emittable) → CanEmit s → (clocks : List Clock) → AreWhole clocks →
+    length clocks ≤ 131072 → (p : code.FlatProgram) → program_of p ≡ emitted s →
+    p.clocks.items ≡ clocks → IsBounded p
+emits_bounded s can clocks whole few p e same = record {
   elements = subst (λ (f : FlatProgram). f.size ≤ 327680) (sym e) can.elements;
   inputs = subst (λ (f : FlatProgram). length f.inputs ≤ 65536) (sym e) can.inputs;
+  clocks = subst AreWhole (sym same) whole;
+  clock_count = subst (λ (l : List Clock). length l ≤ 131072) (sym same) few;
 }
 
 -- it is had of a checked program
@@ -240,6 +245,13 @@ frame_emittable c l all k j f at r er t et inputs ei kinds ek count en = record 
   kinds = ek;
   count = en;
 }
+
+-- two things that are said of one answer
+pub both_ok :
+    {X E : Type 0} (r : Result X E) (P Q R : X → Type 0) → ((x : X) → P x → Q x → R x) →
+    IfOk r P → IfOk r Q → IfOk r R
+both_ok (Ok x) P Q R f p q = f x p q
+both_ok (Err e) P Q R f p q = tt
 
 -- what is said of an answer that is none
 pub no_frame :

@@ -1,9 +1,27 @@
--- How large a flat program is at most.
+-- How large a flat program is at most, and that the clocks above each clock of its table end.
 -- Source: this project's rule.
-use Rattle.std.specs.Prelude.{◌≤◌, length}
+use Rattle.std.specs.Prelude.{◌≡◌, ◌≤◌, Some, List, length, slice_get}
+use Rattle.std.proofs.Props.{props}
+use Rattle.lb_flat.specs.declared.equation.Clock.{Clock}
+use Rattle.lb_flat.specs.declared.equation.ClockId.{ClockId}
 use Rattle.lb_flat.specs.declared.program.FlatProgram.{FlatProgram}
+use Rattle.lb_flat.specs.Flat.{FlatClock-set, Where}
+use Rattle.lb_flat.specs.Values.{clock_of}
 
--- a program has few elements, at most five for each of the greatest size, and few inputs
+-- each clock of a table is the instants of the clock that its row names, at which its element has
+-- its sign
+abbrev pub AreWhole : List Clock → Type 0
+AreWhole clocks =
+    (k : ClockId) (t : Clock) → slice_get clocks k.0 ≡ Some t →
+    clock_of clocks (Some k) ≡ Where (clock_of clocks t.parent) t.element.0 t.sign
+
+-- a program has few elements, at most five for each of the greatest size, few inputs, and two
+-- clocks for each variable of an instance, of which each stands on its parent
 pub record IsBounded (p : FlatProgram) : Type 0 where
   pub elements : p.size ≤ 327680
   pub inputs : length p.inputs.items ≤ 65536
+  pub clocks : AreWhole p.clocks.items
+  pub clock_count : length p.clocks.items ≤ 131072
+
+-- what shows that there is one proof of it at most
+pub ruleset bounded_props = (FlatClock-set, props)

@@ -63,6 +63,7 @@ impl TermEmission {
         ensures program { IfOk result (λ p. program_of p ≡ assembled (state_of self) inputs.items
             kinds.items variables (numbers_of clock_elements.items) property.0) }
         ensures in_range { IfOk result (λ p. IsInRange p) }
+        ensures clocks { IfOk result (λ p. p.clocks ≡ self.clocks) }
     {
         let TermEmission {
             clocks,

@@ -117,6 +117,7 @@ pub(crate) fn emit_program<F: TableFrame>(
     ensures program { IfOk result (λ p. program_of p ≡ mirror.whole reached.now table.now
         (F.contexts frame.old) inputs.items kinds.items variables) }
     ensures in_range { IfOk result (λ p. IsInRange p) }
+    ensures clocks { IfOk result (λ p. p.clocks.items ≡ clocks.items) }
 {
     let beginning = Beginning::new(alloc, frame, reached, table, &clocks, variables)?;
     let Beginning {

@@ -10,11 +10,13 @@ use Rattle.lb_flat.specs.Correct.{IsExpansionOf}
 use Rattle.lb_flat.specs.Programs.{program_of}
 use Rattle.lb_flat.specs.RowKinds.{table_kinds}
 use Rattle.lb_flat.specs.Rows.{called_row, child_row}
+use Rattle.lb_flat.specs.TableClocks.{all_clocks, sources_of}
 use Rattle.lb_flat.specs.Within.{AreClocks}
 use Rattle.lb_flat.specs.declared.clocks.Clocks.{Clocks}
 use Rattle.lb_flat.specs.declared.layout.Layout.{Layout}
-use Rattle.lb_flat.proofs.ReadyProgram.{emits_bounded, first_there, frame_emittable, framed_emit}
-use Rattle.lb_flat.proofs.ReadyProgram.{framed_expansion, no_frame, numbers_small}
+use Rattle.lb_flat.proofs.ClockEntries.{filled_few, filled_whole}
+use Rattle.lb_flat.proofs.ReadyProgram.{both_ok, emits_bounded, first_there, frame_emittable}
+use Rattle.lb_flat.proofs.ReadyProgram.{framed_emit, framed_expansion, no_frame, numbers_small}
 use Rattle.lb_flat.proofs.expansion.flat_program.Goals as goal
 
 pub unreachable-requires : goal.unreachable-requires
@@ -111,5 +113,9 @@ returns-clause-bounded c =
     c.in_ok-kinds.kinds.items (c.in_ok-kinds.ensures ∙ ap₂ table_kinds er et) l.count refl in
     let e = framed_emit x lawful l all k laid kept c.in_ok-clocks.ensures.table
     c.in_ok-clocks.ensures.runs c.requires.small _ are in
-    then_ok c.emit_program.result _ IsBounded (λ p is. emits_bounded _ e p is)
-    c.emit_program.ensures.program
+    let same : c.extend_from_slice.new.self.items ≡ k.table.items = search rules in
+    both_ok c.emit_program.result _ _ IsBounded
+    (λ p is clocks.
+    emits_bounded _ e (all_clocks (sources_of x l)) (filled_whole x lawful l laid)
+    (filled_few x lawful l laid) p is (clocks ∙ (same ∙ c.in_ok-clocks.ensures.table)))
+    c.emit_program.ensures.program c.emit_program.ensures.clocks

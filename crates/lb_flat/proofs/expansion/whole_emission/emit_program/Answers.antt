@@ -1,6 +1,7 @@
 use Rattle.std.proofs.Common.{◌≡◌, ◌<◌, ◌^◌, ℕ, Bool, List, ◌++◌, All, Vec}
 use Rattle.std.proofs.Common.{Global, IfOk}
 use Rattle.std.proofs.Common.{arith, sym, ap, ap₂, subst, subst₂, ◌∙◌}
+use Rattle.std.proofs.lemmas.Result.{IfOk-weaker as then_ok}
 use Rattle.lb_syntax.specs.Lists.{Every}
 use Rattle.lb_flat.specs.declared.equation.Clock.{Clock}
 use Rattle.lb_flat.specs.Emit.{State, before_instances}
@@ -174,3 +175,11 @@ returns-clause-program g c =
     c.further_kinds.new.kinds.items (numbers_of b.clock_elements.items) b.property.0
     c.in_ok-whole.ensures.state begun all known c.in_ok-beginning.ensures.clock_elements
     c.in_ok-beginning.ensures.property) c.into_program.ensures.program
+
+pub returns-clause-clocks : goal.returns-clause-clocks
+returns-clause-clocks g c =
+    let clocks = c.in_ok-whole.ensures.clocks ∙ (c.in_ok-rows.ensures.clocks
+    ∙ c.new-emission.ensures.clocks) in
+    then_ok c.into_program.result _ (λ p. p.clocks.items ≡ c.args.clocks.items)
+    (λ p same. ap (λ (cs : Vec Clock Global). cs.items) (same ∙ clocks))
+    c.into_program.ensures.clocks
