@@ -10,13 +10,15 @@ use Rattle.lb_flat.specs.Bounds.{IsBounded}
 use Rattle.lb_flat.specs.Flat.{FlatEquation}
 use Rattle.lb_flat.specs.InOrder.{is_done}
 use Rattle.lb_flat.specs.Ordering.{left}
-use Rattle.lb_flat.specs.Programs.{flat_equations}
+use Rattle.lb_flat.specs.Programs.{flat_equations, program_of}
 use Rattle.lb_flat.specs.Run.{Ready}
 use Rattle.lb_flat.specs.Values.{equation_of}
 use Rattle.lb_flat.specs.declared.program.FlatProgram as code
 use Rattle.lb_flat.proofs.InOrder.{AreMarks, marks_more, unmarked}
 use Rattle.lb_sim.specs.Homes.{IsRow, plane_row, word_row}
 use Rattle.lb_sim.specs.InputRows.{truth_columns, number_columns}
+use Rattle.lb_sim.specs.Layouts.{AreAllotted}
+use Rattle.lb_sim.specs.declared.allotted.Allotted.{Allotted}
 use Rattle.lb_sim.specs.declared.place.Holding.{Holding}
 
 -- ## Rows
@@ -59,6 +61,21 @@ words_few kept Q i first end row =
     let long = word_row_long kept (take i Q) in
     let few = take_short i Q in
     omega (arith, short, long, few)
+
+-- and so do those of all
+pub all_planes_few : (kept : List Holding) (Q : List FlatEquation) (first end : ℕ) →
+    IsRow first (plane_row kept Q) end → end ≤ first + 3 * length Q
+all_planes_few kept Q first end row =
+    let short = row_short first end (plane_row kept Q) row in
+    let long = plane_row_long kept Q in
+    omega (arith, short, long)
+
+pub all_words_few : (kept : List Holding) (Q : List FlatEquation) (first end : ℕ) →
+    IsRow first (word_row kept Q) end → end ≤ first + length Q
+all_words_few kept Q first end row =
+    let short = row_short first end (word_row kept Q) row in
+    let long = word_row_long kept Q in
+    omega (arith, short, long)
 
 -- ## Inputs
 
@@ -141,3 +158,24 @@ program_few p bounded ready =
     let few = equations_few p.size (flat_equations p.clocks.items p.equations.items) ready in
     let long = length-map p.equations.items (equation_of p.clocks.items) in
     omega (arith, few, long, bounded.elements)
+
+-- there is room for the code of a program behind its inputs, constants and memories
+pub room_for_code :
+    (p : code.FlatProgram) → IsBounded p →
+    Ready p.size [] (flat_equations p.clocks.items p.equations.items) →
+    (a : Allotted) → AreAllotted (program_of p) a →
+    length a.preset.planes.items + length a.preset.words.items
+    + (24 * length p.equations.items + 10 * length p.clocks.items + 64 * p.size + 18)
+    ≤ 4294967295
+room_for_code p bounded ready a allotted =
+    let few = program_few p bounded ready in
+    let long = length-map p.equations.items (equation_of p.clocks.items) in
+    omega (
+      arith,
+      few,
+      long,
+      allotted.few,
+      bounded.elements,
+      bounded.inputs,
+      bounded.clock_count,
+    )

@@ -1,17 +1,9 @@
--- Where inputs stand: one after the other, each in the next plane or the next word. And the marks
--- of the elements at which a fault counts.
-use Rattle.std.proofs.Common.{◌≡◌, ℕ, zero, suc, ◌+◌, ◌<◌, Bool, true, false, List, [], ◌∷◌, ◌++◌}
-use Rattle.std.proofs.Common.{get_or, set, length, take, sym, ap, ap₂, ◌∙◌, subst, arith, inl, inr}
-use Rattle.std.proofs.Common.{⊎_elim, length-set}
-use Rattle.std.proofs.lemmas.Bool.{cases_eq}
-use Rattle.std.proofs.lemmas.List.{take_more, length-append, get_or-set_other}
-use Rattle.lb_syntax.specs.Lists.{In}
+-- Where inputs stand: one after the other, each in the next plane or the next word.
+use Rattle.std.proofs.Common.{◌≡◌, ℕ, ◌+◌, ◌<◌, List, [], ◌∷◌, ◌++◌}
+use Rattle.std.proofs.Common.{get_or, length, take, sym, ap, ap₂, ◌∙◌, subst, arith}
+use Rattle.std.proofs.lemmas.List.{take_more, length-append}
 use Rattle.lb_syntax.specs.declared.tree.Kind.{Kind}
 use Rattle.lb_syntax.specs.declared.tree.Kind.TheVariants.{Int as Int_kind, Bool as Bool_kind}
-use Rattle.lb_syntax.proofs.TruthValues.{contrary}
-use Rattle.lb_flat.specs.declared.equation.ElementId.{ElementId}
-use Rattle.lb_flat.specs.Judging.{FlatProgram, named_elements}
-use Rattle.lb_flat.specs.Programs.{numbers_of}
 use Rattle.lb_flat.proofs.KindColumns.{truths_push, numbers_push}
 use Rattle.lb_sim.specs.InputRows.{places_of, truth_columns, number_columns}
 use Rattle.lb_sim.specs.declared.place.Value.{Value}
@@ -85,49 +77,3 @@ inputs_same kinds values values' planes planes' words words' v p w h = record {
   planes_are = p ∙ h.planes_are;
   words_are = w ∙ h.words_are;
 }
-
--- ## Marks
-
--- the marks are on elements of a list
-pub record AreMarked (elements : List ℕ) (marks : List Bool) (size : ℕ) : Type 0 where
-  pub as_long : length marks ≡ size
-  pub marked : (a : ℕ) → get_or marks a false ≡ true → In a elements
-
-pub number_in : (xs : List ElementId) (j : ℕ) (x : ElementId) → j < length xs →
-    get_or xs j x ≡ x → In x.0 (numbers_of xs)
-number_in [] j x lt e = absurd (omega (arith, lt))
-number_in (y ∷ xs) zero x lt e = inl (ap (λ (z : ElementId). z.0) e)
-number_in (y ∷ xs) (suc j) x lt e = inr (number_in xs j x (omega (arith, lt)) e)
-
-pub marked_none : (elements : List ℕ) (marks : List Bool) (size : ℕ) → length marks ≡ size →
-    ((a : ℕ) → get_or marks a false ≡ false) → AreMarked elements marks size
-marked_none elements marks size long none = record {
-  as_long = long;
-  marked = λ a e. absurd (contrary (get_or marks a false) e (none a));
-}
-
-pub marked_more :
-    (elements : List ℕ) (marks : List Bool) (size e : ℕ) → In e elements →
-    AreMarked elements marks size → AreMarked elements (set marks e true) size
-marked_more elements marks size e i h = record {
-  as_long = length-set marks e true ∙ h.as_long;
-  marked = λ a is.
-      ⊎_elim (λ (same : a ≡ e). subst (λ k. In k elements) (sym same) i)
-      (λ (other : a ≡ e → ⊥).
-      h.marked a (sym (get_or-set_other marks e a true false other) ∙ is))
-      (cases_eq a e);
-}
-
-in_second : (xs ys : List ℕ) (a : ℕ) → In a ys → In a (xs ++ ys)
-in_second [] ys a i = i
-in_second (x ∷ xs) ys a i = inr (in_second xs ys a i)
-
-in_first : (xs ys : List ℕ) (a : ℕ) → In a xs → In a (xs ++ ys)
-in_first [] ys a i = absurd i
-in_first (x ∷ xs) ys a (inl e) = inl e
-in_first (x ∷ xs) ys a (inr i) = inr (in_first xs ys a i)
-
--- an operand of a memory is a named element
-pub operand_named : (f : FlatProgram) (a : ℕ) → In a f.memory_operands → In a (named_elements f)
-operand_named f a i =
-    in_second _ (f.memory_operands ++ f.asserted) a (in_first f.memory_operands f.asserted a i)

@@ -40,6 +40,7 @@ pub mod FewPlaces
 pub mod Filling
 pub mod Allotments
 pub mod InputPlaces
+pub mod MarkedElements
 pub mod TakenPlaces
 pub mod SteadyTables
 pub mod CommitLoop

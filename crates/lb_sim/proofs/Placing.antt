@@ -2,7 +2,7 @@
 -- planes of the clocks so far.
 use Rattle.std.proofs.Common.{◌≡◌, ◌≢◌, ◌<◌, ◌≤◌, ◌+◌, ℕ, Option, Some, None, List, [], ◌∷◌, set}
 use Rattle.std.proofs.Common.{length, get_or, replicate, All, sym, ap, ◌∙◌, subst, inl, inr, ⊎_elim}
-use Rattle.std.proofs.Common.{arith, false, true}
+use Rattle.std.proofs.Common.{arith, false, true, refl}
 use Rattle.std.proofs.lemmas.List.{get_or-map, get_or-set_same, get_or-set_other, length-map}
 use Rattle.std.proofs.lemmas.List.{length-replicate, get_or_default}
 use Rattle.std.proofs.lemmas.List.Elements.{All-set, All-replicate}
@@ -21,7 +21,7 @@ use Rattle.lb_flat.specs.declared.equation.ClockId.{ClockId}
 use Rattle.lb_flat.specs.declared.equation.Equation.{Equation}
 use Rattle.lb_flat.specs.declared.program.FlatProgram.{FlatProgram}
 use Rattle.lb_flat.proofs.InOrder.{ready_of}
-use Rattle.lb_flat.proofs.Lists.{Every-first, Every-second}
+use Rattle.lb_flat.proofs.Lists.{Every-first, Every-in, Every-second}
 use Rattle.lb_flat.proofs.Memories.{every_at}
 use Rattle.lb_machine.specs.Correct.{IsGrown}
 use Rattle.lb_machine.specs.Listed.{listed}
@@ -30,7 +30,7 @@ use Rattle.lb_machine.specs.declared.code.Code.{Code}
 use Rattle.lb_machine.specs.declared.instruction.PlaneId.{PlaneId}
 use Rattle.lb_sim.specs.Allotted.{IsAllotted, HasKindsIn, HasConstant, HasAllConstants}
 use Rattle.lb_sim.specs.Compiled.{given_at}
-use Rattle.lb_sim.specs.Emitted.{IsHeld, IsEmitted, AreKnown, IsKnownAfter}
+use Rattle.lb_sim.specs.Emitted.{IsHeld, IsEmitted, AreKnown, IsKnownAfter, IsReadBy}
 use Rattle.lb_sim.specs.Holdings.{IsIn, IsPlaceIn}
 use Rattle.lb_sim.specs.Showing.{kind_of}
 use Rattle.lb_sim.specs.States.{no_holding, no_place, holding_of, kept_at, IsShownBy}
@@ -48,6 +48,12 @@ use Rattle.lb_sim.proofs.KnownClocks.{none_at_first}
 every_in : (P Q : ℕ → Type 0) (is : List ℕ) → ((i : ℕ) → P i → Q i) → Every P is → Every Q is
 every_in P Q [] f h = tt
 every_in P Q (i ∷ is) f h = (f i h.0, every_in P Q is f h.1)
+
+every_read : (P : ℕ → Type 0) (is js : List ℕ) → ((i : ℕ) → In i is → In i js) → Every P js →
+    Every P is
+every_read P [] js f h = tt
+every_read P (i ∷ is) js f h =
+    (Every-in P i js h (f i (inl refl)), every_read P is js (λ a r. f a (inr r)) h)
 
 every_of_both : {A : Type 0} (P Q R : A → Type 0) (xs : List A) →
     ((x : A) → P x → Q x → R x) → Every P xs → Every Q xs → Every R xs
@@ -248,8 +254,9 @@ module _ (P : FlatProgram) (before code : Code) (inputs : List Value)
           Every (λ a. In a h.done) (clock_reads (clock_of P.clocks.items (Some k)))
       clock_done k y is =
           ⊎_elim (λ (old : get_or known k.0 None ≡ Some y). h.known_done k y old)
-          (λ (fresh : x.clock ≡ Some k).
-          subst (λ c. Every (λ a. In a h.done) (clock_reads (clock_of P.clocks.items c))) fresh
+          (λ (read : IsReadBy P.clocks.items x.clock (Some k)).
+          every_read (λ a. In a h.done) (clock_reads (clock_of P.clocks.items (Some k)))
+          (clock_reads q.clock) read
           (Every-second (λ a. In a h.done) (reads q.operation) (clock_reads q.clock)
           next.reads_done))
           (clock.newly k y is)

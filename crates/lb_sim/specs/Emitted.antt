@@ -2,10 +2,10 @@
 -- Source: this project's rule.
 use Rattle.std.specs.Prelude.{◌≡◌, ◌⊎◌, ℕ, Option, Some, None, List, map, get_or}
 use Rattle.lb_syntax.specs.declared.tree.Kind.{Kind}
-use Rattle.lb_syntax.specs.Lists.{Every}
+use Rattle.lb_syntax.specs.Lists.{Every, In}
 use Rattle.lb_flat.specs.Fitting.{OperandKinds}
 use Rattle.lb_flat.specs.Flat.{Operation}
-use Rattle.lb_flat.specs.Run.{reads, is_now}
+use Rattle.lb_flat.specs.Run.{reads, clock_reads, is_now}
 use Rattle.lb_flat.specs.Values.{clock_of}
 use Rattle.lb_flat.specs.declared.equation.Clock.{Clock}
 use Rattle.lb_flat.specs.declared.equation.ClockId.{ClockId}
@@ -49,11 +49,17 @@ AreKnown code places clocks known =
     (k : ClockId) (p : PlaneId) → get_or known k.0 None ≡ Some p →
     IsPlaneFor code (λ s. is_now (row_at s places) (clock_of clocks (Some k))) p
 
--- one clock more, maybe, with its plane
+-- a clock reads no element but those that another one reads
+abbrev pub IsReadBy : List Clock → (clock above : Option ClockId) → Type 0
+IsReadBy clocks clock above =
+    (e : ℕ) → In e (clock_reads (clock_of clocks above)) →
+    In e (clock_reads (clock_of clocks clock))
+
+-- a clock more, maybe, with its plane, and some of those above it
 pub record IsKnownAfter (code : Code) (places : List Place) (clocks : List Clock)
     (clock : Option ClockId) (old new : List (Option PlaneId)) (p : PlaneId) : Type 0 where
   pub plane : IsPlaneFor code (λ s. is_now (row_at s places) (clock_of clocks clock)) p
   pub known : AreKnown code places clocks new
   pub newly :
       (k : ClockId) (q : PlaneId) → get_or new k.0 None ≡ Some q →
-      (get_or old k.0 None ≡ Some q) ⊎ (clock ≡ Some k)
+      (get_or old k.0 None ≡ Some q) ⊎ IsReadBy clocks clock (Some k)

@@ -1,12 +1,12 @@
 -- What is known of a flat program before its code.
 -- This file says what data of the program mean.
-use Rattle.std.specs.Prelude.{◌≡◌, ◌≤◌, ◌+◌, length}
+use Rattle.std.specs.Prelude.{◌≡◌, ◌≤◌, ◌+◌, ◌*◌, length}
 use Rattle.lb_flat.specs.Judging.{FlatProgram}
 use Rattle.lb_sim.specs.InputRows.{places_of, truth_columns, number_columns}
 use Rattle.lb_sim.specs.Presets.{AreConstants, AreMemories}
 use Rattle.lb_sim.specs.declared.allotted.Allotted.{Allotted}
 
--- inputs stand first, then constants, and behind them memories
+-- inputs stand first, then constants, and behind them memories; they are few
 pub record AreAllotted (f : FlatProgram) (a : Allotted) : Type 0 where
   pub inputs_at : a.inputs.items ≡ places_of 2 1 f.inputs
   pub inputs_planes : 2 + length (truth_columns 0 f.inputs) ≤ a.memory_plane
@@ -17,3 +17,6 @@ pub record AreAllotted (f : FlatProgram) (a : Allotted) : Type 0 where
   pub memories : AreMemories f a.memory_plane a.memory_word a.preset a.kept.items
   pub planes_room : a.memory_plane ≤ length a.preset.planes.items
   pub words_room : a.memory_word ≤ length a.preset.words.items
+  pub few :
+      length a.preset.planes.items + length a.preset.words.items
+      ≤ 2 * length f.inputs + 5 * length f.equations + 3

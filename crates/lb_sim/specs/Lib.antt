@@ -17,7 +17,7 @@ pub mod BatchRuns
 pub mod BatchRooms
 pub mod BatchLaws
 pub mod Allotted
-pub mod Depths
+pub mod Climbs
 pub mod Emitted
 pub mod Homes
 pub mod Presets

@@ -2,15 +2,12 @@
 
 ghost use Rattle.std.specs.Prelude.{◌≡◌, ℕ, ◌+◌, ◌<◌, ◌≤◌, ◌≢◌, ◌⊎◌, true, false, length, All};
 ghost use Rattle.std.specs.Prelude.{IfOk};
-ghost use Rattle.std.specs.Prelude.{◌||◌, OnOk, get_or, replicate, [], ◌∷◌, slice_index};
+ghost use Rattle.std.specs.Prelude.{◌||◌, OnOk, get_or, [], ◌∷◌, slice_index};
 ghost use Rattle.lb_check.specs.Scalars as scalars;
-ghost use Rattle.lb_flat.specs.Programs.{program_of, IsInRange};
-ghost use Rattle.lb_flat.specs.Judging.{named_elements};
 ghost use Rattle.lb_flat.specs.Run.{keeps, reads};
 ghost use Rattle.lb_flat.specs.Values.{operation_of, scalar_of};
 ghost use Rattle.lb_lanes.specs.Planes.{on};
 ghost use Rattle.lb_machine.specs.Meaning.{Lane};
-ghost use Rattle.lb_syntax.specs.Lists.{In};
 ghost use Rattle.lb_sim.specs.Compiled.{HasConstantWords};
 ghost use Rattle.lb_sim.specs.Homes.{is_nil_scalar, is_bad_scalar, IsRow, plane_in, word_in};
 ghost use Rattle.lb_sim.specs.Showing.{value_kind};
@@ -20,7 +17,7 @@ ghost use Rattle.lb_sim.specs.Presets.{IsConstantAt, IsFixed, IsMore};
 
 use crate::place::{Holding, Value};
 use crate::preset::Preset;
-use lb_flat::{FlatProgram, Operation, Scalar};
+use lb_flat::{Operation, Scalar};
 use lb_machine::{EVERYWHERE, NOWHERE, PlaneId, WordId, ZERO};
 use lb_syntax::Kind;
 use std::alloc::{AllocError, Global};
@@ -202,35 +199,6 @@ pub(crate) fn first_memory(
         }
         _ => Ok(NOTHING),
     }
-}
-
-// Marks the operands of memories.
-fn mark_operands(marks: &mut [bool], program: &FlatProgram)
-    requires in_range { IsInRange program.now }
-    requires none { marks.old ≡ replicate program.now.size false }
-    ensures elements { length marks.new ≡ program.now.size }
-    ensures named { (a : ℕ) → get_or marks.new a false ≡ true
-        → In a (named_elements (program_of program.now)) }
-{
-    for j in 0..program.memory_operands.len() {
-        let operand = program.memory_operands[j];
-        marks[operand.0 as usize] = true;
-    }
-}
-
-/// A mark for each element at which a fault counts since a memory keeps it.
-pub(crate) fn watched_elements(
-    alloc: Global,
-    program: &FlatProgram,
-) -> Result<Vec<bool>, AllocError>
-    requires in_range { IsInRange program.now }
-    ensures elements { IfOk result (λ marks. length marks.items ≡ program.now.size) }
-    ensures named { IfOk result (λ marks. (a : ℕ) → get_or marks.items a false ≡ true
-        → In a (named_elements (program_of program.now))) }
-{
-    let mut marks = vec![in alloc; false; program.size as usize]?;
-    mark_operands(marks.as_mut_slice(), program);
-    Ok(marks)
 }
 
 // A value of a kind that takes no place.

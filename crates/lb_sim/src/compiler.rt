@@ -1,6 +1,7 @@
 //! From a flat program to a lane program.
 
 ghost use Rattle.std.specs.Prelude.{◌≡◌, true, false, length, replicate, IfOk};
+ghost use Rattle.lb_flat.specs.Bounds.{IsBounded};
 ghost use Rattle.lb_flat.specs.Programs.{flat_equations, program_of, IsInRange};
 ghost use Rattle.lb_flat.specs.InOrder.{is_in_order};
 ghost use Rattle.lb_sim.specs.Codes.{IsCodeOf};
@@ -30,6 +31,7 @@ fn lane_code(
     set: Vec<PlaneId>,
 ) -> Result<LaneCode, AllocError>
     requires in_range { IsInRange program.now }
+    requires bounded { IsBounded program.now }
     requires in_order { is_in_order (replicate program.now.size false)
         (flat_equations program.now.clocks.items program.now.equations.items) ≡ true }
     requires allotted { AreAllotted (program_of program.now) known.now }

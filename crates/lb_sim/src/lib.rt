@@ -19,6 +19,7 @@ mod integer_loads;
 mod lane_bits;
 mod laws;
 mod loads;
+mod marks;
 mod memories;
 mod numbers;
 mod operators;

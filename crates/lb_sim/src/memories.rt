@@ -9,7 +9,8 @@ ghost use Rattle.lb_flat.specs.Run.{Ready};
 ghost use Rattle.lb_sim.specs.Presets.{AreConstants, AreMemories, IsMore};
 ghost use Rattle.lb_sim.specs.States.{no_holding};
 
-use crate::allot::{NOTHING, constant, first_memory, watched_elements};
+use crate::allot::{NOTHING, constant, first_memory};
+use crate::marks::marked_elements;
 use crate::place::Holding;
 use crate::preset::Preset;
 use lb_flat::FlatProgram;
@@ -117,7 +118,8 @@ pub(crate) fn memories(
     ensures table { IfOk result (λ table. AreMemories (program_of program.now)
         (length preset.old.planes.items) (length preset.old.words.items) preset.new table.items) }
 {
-    let watched = watched_elements(alloc, program)?;
+    let operands = program.memory_operands.as_slice();
+    let watched = marked_elements(alloc, operands, program.size as usize)?;
     let mut table = vec![in alloc; NOTHING; program.size as usize]?;
     fill_memories(table.as_mut_slice(), preset, program, watched.as_slice())?;
     Ok(table)

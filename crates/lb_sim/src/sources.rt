@@ -1,6 +1,6 @@
 //! What memories take over after an instant.
 
-ghost use Rattle.std.specs.Prelude.{◌≡◌, ℕ, ◌≤◌, ◌<◌, length, All, IfOk, OnOk};
+ghost use Rattle.std.specs.Prelude.{◌≡◌, ℕ, ◌≤◌, ◌<◌, ◌+◌, ◌*◌, length, All, IfOk, OnOk};
 ghost use Rattle.lb_flat.specs.Programs.{program_of, IsInRange};
 ghost use Rattle.lb_flat.specs.FurtherKinds.{kind_among};
 ghost use Rattle.lb_flat.specs.Run.{keeps, reads};
@@ -272,7 +272,10 @@ pub(crate) fn all_sources(
     requires held { All (IsIn code.old) held.now }
     requires held_for { AreHeldFor allotted.now.kept.items held.now
         (program_of program.now).equations }
+    requires room { HasRoom code.old (8 * length program.now.equations.items + 2) }
     ensures grown { OnOk result (IsGrown code.old code.new) }
+    ensures few { OnOk result (AddsAtMost code.old code.new
+        (8 * length program.now.equations.items + 2)) }
     ensures sources { IfOk result (λ r. AreSources (program_of program.now) code.new places.now
         allotted.now.kept.items held.now allotted.now.memory_plane allotted.now.memory_word
         r.planes.items r.words.items) }

@@ -1,21 +1,22 @@
 //! Planes of the lanes in which some watched element shows something.
 
-ghost use Rattle.std.specs.Prelude.{◌≡◌, ◌<◌, ◌≤◌, ◌||◌, ◌⊎◌, ℕ, true, false, Some, length, All};
-ghost use Rattle.std.specs.Prelude.{IfOk, OnOk, slice_index_or};
+ghost use Rattle.std.specs.Prelude.{◌≡◌, ◌<◌, ◌≤◌, ◌*◌, ◌||◌, ◌⊎◌, ℕ, true, false, Some, length};
+ghost use Rattle.std.specs.Prelude.{All, IfOk, OnOk, slice_index_or};
 ghost use Rattle.std.specs.List.{range_with_len};
 ghost use Rattle.lb_check.specs.Verdicts.{is_bad, is_nil, is_false};
 ghost use Rattle.lb_flat.specs.Judging.{some_in};
 ghost use Rattle.lb_flat.specs.Programs.{numbers_of};
-ghost use Rattle.lb_machine.specs.Correct.{IsGrown, IsPlaneFor};
+ghost use Rattle.lb_machine.specs.Correct.{AddsAtMost, HasRoom, IsGrown, IsPlaneFor};
 ghost use Rattle.lb_sim.specs.Holdings.{IsPlaceIn};
 ghost use Rattle.lb_sim.specs.Showing.{cell_at, row_at};
 ghost use Rattle.lb_sim.specs.Watching.{AreWithin, is_sought};
 
+use crate::marks::marked_elements;
 use crate::picks::sign_plane;
 use crate::place::Place;
 use lb_flat::ElementId;
 use lb_machine::{Code, EVERYWHERE, PlaneId, PlaneOperator};
-use std::alloc::AllocError;
+use std::alloc::{AllocError, Global};
 
 /// What is looked for at elements.
 #[derive(Clone, Copy)]
@@ -27,8 +28,10 @@ pub(crate) enum Sought {
 
 /// Where a place shows the value of a fault.
 pub(crate) fn bad_plane(code: &mut Code, place: Place) -> Result<PlaneId, AllocError>
-    requires { IsPlaceIn code.old place }
+    requires place { IsPlaceIn code.old place }
+    requires room { HasRoom code.old 2 }
     ensures grown { OnOk result (IsGrown code.old code.new) }
+    ensures few { OnOk result (AddsAtMost code.old code.new 2) }
     ensures plane { IfOk result (IsPlaneFor code.new (λ s. is_bad (Some (cell_at s place)))) }
 {
     let plane = code.combine(PlaneOperator::And, place.present, place.holding.bad)?;
@@ -38,8 +41,10 @@ pub(crate) fn bad_plane(code: &mut Code, place: Place) -> Result<PlaneId, AllocE
 /// Where a place shows nil.
 #[tactic(auto, using(crate::proofs::Growth::grown_then, crate::proofs::Growth::grown_none))]
 pub(crate) fn nil_plane(code: &mut Code, place: Place) -> Result<PlaneId, AllocError>
-    requires { IsPlaceIn code.old place }
+    requires place { IsPlaceIn code.old place }
+    requires room { HasRoom code.old 4 }
     ensures grown { OnOk result (IsGrown code.old code.new) }
+    ensures few { OnOk result (AddsAtMost code.old code.new 4) }
     ensures plane { IfOk result (IsPlaneFor code.new (λ s. is_nil (Some (cell_at s place)))) }
 {
     let sound = code.combine(PlaneOperator::AndNot, place.holding.nil, place.holding.bad)?;
@@ -50,8 +55,10 @@ pub(crate) fn nil_plane(code: &mut Code, place: Place) -> Result<PlaneId, AllocE
 /// Where a place shows false.
 #[tactic(auto, using(crate::proofs::Growth::grown_then, crate::proofs::Growth::grown_none))]
 pub(crate) fn false_plane(code: &mut Code, place: Place) -> Result<PlaneId, AllocError>
-    requires { IsPlaceIn code.old place }
+    requires place { IsPlaceIn code.old place }
+    requires room { HasRoom code.old 10 }
     ensures grown { OnOk result (IsGrown code.old code.new) }
+    ensures few { OnOk result (AddsAtMost code.old code.new 10) }
     ensures plane { IfOk result (IsPlaneFor code.new (λ s. is_false (Some (cell_at s place)))) }
 {
     let plane = sign_plane(code, EVERYWHERE, false, place)?;
@@ -87,7 +94,9 @@ fn joined(
     requires plane { plane.0 < code.old.planes }
     requires here { here.0 < code.old.planes }
     requires marked { AreWithin code.old marked.old plane }
+    requires room { HasRoom code.old 2 }
     ensures grown { OnOk result (IsGrown code.old code.new) }
+    ensures few { OnOk result (AddsAtMost code.old code.new 2) }
     ensures plane { IfOk result (IsPlaneFor code.new (λ s. s.bits plane.0 || s.bits here.0)) }
     ensures marked { IfOk result (λ p. AreWithin code.new marked.new p) }
 {
@@ -112,7 +121,9 @@ pub(crate) fn first_bad(
     requires places { All (IsPlaceIn code.old) places.now }
     requires above { above.0 < code.old.planes }
     requires marked { AreWithin code.old marked.old above }
+    requires room { HasRoom code.old (4 * count) }
     ensures grown { OnOk result (IsGrown code.old code.new) }
+    ensures few { OnOk result (AddsAtMost code.old code.new (4 * count)) }
     ensures plane { IfOk result (IsPlaneFor code.new (λ s. s.bits above.0
         || some_in is_bad (row_at s places.now) (range_with_len 0 count))) }
     ensures marked { IfOk result (λ p. AreWithin code.new marked.new p) }
@@ -128,8 +139,10 @@ pub(crate) fn first_bad(
 
 // Where a place shows what is looked for.
 fn sought_plane(code: &mut Code, sought: Sought, place: Place) -> Result<PlaneId, AllocError>
-    requires { IsPlaceIn code.old place }
+    requires place { IsPlaceIn code.old place }
+    requires room { HasRoom code.old 10 }
     ensures grown { OnOk result (IsGrown code.old code.new) }
+    ensures few { OnOk result (AddsAtMost code.old code.new 10) }
     ensures plane { IfOk result (IsPlaneFor code.new
         (λ s. is_sought sought (Some (cell_at s place)))) }
 {
@@ -143,6 +156,7 @@ fn sought_plane(code: &mut Code, sought: Sought, place: Place) -> Result<PlaneId
 /// Where one of these elements shows what is looked for, or a plane is true. Marked planes are
 /// within that plane, before and afterwards.
 pub(crate) fn some_sought(
+    alloc: Global,
     code: &mut Code,
     places: &[Place],
     elements: &[ElementId],
@@ -154,14 +168,20 @@ pub(crate) fn some_sought(
     requires places { All (IsPlaceIn code.old) places.now }
     requires above { above.0 < code.old.planes }
     requires marked { AreWithin code.old marked.old above }
+    requires room { HasRoom code.old (12 * length places.now) }
     ensures grown { OnOk result (IsGrown code.old code.new) }
+    ensures few { OnOk result (AddsAtMost code.old code.new (12 * length places.now)) }
     ensures plane { IfOk result (IsPlaneFor code.new (λ s. s.bits above.0
         || some_in (is_sought sought) (row_at s places.now) (numbers_of elements.now))) }
     ensures marked { IfOk result (λ p. AreWithin code.new marked.new p) }
 {
+    let wanted = marked_elements(alloc, elements, places.len())?;
     let mut plane = above;
-    for i in 0..elements.len() {
-        let here = sought_plane(code, sought, places[elements[i].0 as usize])?;
+    for i in 0..places.len() {
+        if !wanted[i] {
+            continue;
+        }
+        let here = sought_plane(code, sought, places[i])?;
         let next = joined(code, plane, here, marked)?;
         plane = next;
     }

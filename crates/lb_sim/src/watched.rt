@@ -1,10 +1,10 @@
 //! The planes of what an instant decides in each lane.
 
-ghost use Rattle.std.specs.Prelude.{◌≡◌, length, All, IfOk, OnOk};
+ghost use Rattle.std.specs.Prelude.{◌≡◌, ◌+◌, ◌*◌, length, All, IfOk, OnOk};
 ghost use Rattle.lb_check.specs.Verdicts.{is_bad, is_nil};
 ghost use Rattle.lb_flat.specs.Judging.{named_elements, some_in, truth_elements};
 ghost use Rattle.lb_flat.specs.Programs.{program_of, IsInRange};
-ghost use Rattle.lb_machine.specs.Correct.{IsGrown, IsPlaneFor};
+ghost use Rattle.lb_machine.specs.Correct.{AddsAtMost, HasRoom, IsGrown, IsPlaneFor};
 ghost use Rattle.lb_sim.specs.Holdings.{IsPlaceIn};
 ghost use Rattle.lb_sim.specs.Showing.{row_at};
 ghost use Rattle.lb_sim.specs.Watching.{AreWatched, AreWithin};
@@ -18,6 +18,7 @@ use std::alloc::{AllocError, Global};
 // Where an element at which a fault counts holds one. No plane is marked before.
 #[tactic(auto, using(crate::proofs::Growth::grown_then, crate::proofs::Growth::grown_none))]
 fn faults_by(
+    alloc: Global,
     code: &mut Code,
     program: &FlatProgram,
     places: &[Place],
@@ -27,15 +28,25 @@ fn faults_by(
     requires elements { length places.now ≡ program.now.size }
     requires places { All (IsPlaceIn code.old) places.now }
     requires marked { AreWithin code.old marked.old (record { 0 = 0 }) }
+    requires room { HasRoom code.old (28 * program.now.size) }
     ensures grown { OnOk result (IsGrown code.old code.new) }
+    ensures few { OnOk result (AddsAtMost code.old code.new (28 * program.now.size)) }
     ensures plane { IfOk result (IsPlaneFor code.new (λ s.
         some_in is_bad (row_at s places.now) (named_elements (program_of program.now)))) }
 {
     let variables = first_bad(code, places, program.variables, NOWHERE, marked)?;
     let kept = program.memory_operands.as_slice();
-    let operands = some_sought(code, places, kept, Sought::Faults, variables, marked)?;
+    let operands = some_sought(alloc, code, places, kept, Sought::Faults, variables, marked)?;
     let asserted = program.asserted.as_slice();
-    some_sought(code, places, asserted, Sought::Faults, operands, marked)
+    some_sought(
+        alloc,
+        code,
+        places,
+        asserted,
+        Sought::Faults,
+        operands,
+        marked,
+    )
 }
 
 // Where an element at which a fault counts holds one.
@@ -48,18 +59,21 @@ fn faults(
     requires in_range { IsInRange program.now }
     requires elements { length places.now ≡ program.now.size }
     requires places { All (IsPlaceIn code.old) places.now }
+    requires room { HasRoom code.old (28 * program.now.size) }
     ensures grown { OnOk result (IsGrown code.old code.new) }
+    ensures few { OnOk result (AddsAtMost code.old code.new (28 * program.now.size)) }
     ensures plane { IfOk result (IsPlaneFor code.new (λ s.
         some_in is_bad (row_at s places.now) (named_elements (program_of program.now)))) }
 {
     let mut marked = vec![in alloc; false; code.planes as usize]?;
-    let plane = faults_by(code, program, places, marked.as_mut_slice())?;
+    let plane = faults_by(alloc, code, program, places, marked.as_mut_slice())?;
     Ok(plane)
 }
 
 // Where an element at which a truth is wanted is nil.
 #[tactic(auto, using(crate::proofs::Growth::grown_then, crate::proofs::Growth::grown_none))]
 fn undefined(
+    alloc: Global,
     code: &mut Code,
     program: &FlatProgram,
     places: &[Place],
@@ -67,14 +81,24 @@ fn undefined(
     requires in_range { IsInRange program.now }
     requires elements { length places.now ≡ program.now.size }
     requires places { All (IsPlaceIn code.old) places.now }
+    requires room { HasRoom code.old (24 * program.now.size + 6) }
     ensures grown { OnOk result (IsGrown code.old code.new) }
+    ensures few { OnOk result (AddsAtMost code.old code.new (24 * program.now.size + 6)) }
     ensures plane { IfOk result (IsPlaneFor code.new (λ s.
         some_in is_nil (row_at s places.now) (truth_elements (program_of program.now)))) }
 {
     let clocks = program.clock_elements.as_slice();
-    let of_clocks = some_sought(code, places, clocks, Sought::Nils, NOWHERE, &mut [])?;
+    let of_clocks = some_sought(alloc, code, places, clocks, Sought::Nils, NOWHERE, &mut [])?;
     let asserted = program.asserted.as_slice();
-    let further = some_sought(code, places, asserted, Sought::Nils, of_clocks, &mut [])?;
+    let further = some_sought(
+        alloc,
+        code,
+        places,
+        asserted,
+        Sought::Nils,
+        of_clocks,
+        &mut [],
+    )?;
     let property = nil_plane(code, places[program.property.0 as usize])?;
     let plane = code.combine(PlaneOperator::Or, further, property)?;
     Ok(plane)
@@ -91,13 +115,23 @@ pub(crate) fn watched(
     requires in_range { IsInRange program.now }
     requires elements { length places.now ≡ program.now.size }
     requires places { All (IsPlaceIn code.old) places.now }
+    requires room { HasRoom code.old (64 * program.now.size + 16) }
     ensures grown { OnOk result (IsGrown code.old code.new) }
+    ensures few { OnOk result (AddsAtMost code.old code.new (64 * program.now.size + 16)) }
     ensures planes { IfOk result (AreWatched code.new (program_of program.now) places.now) }
 {
     let faults = faults(alloc, code, program, places)?;
-    let undefined = undefined(code, program, places)?;
+    let undefined = undefined(alloc, code, program, places)?;
     let asserted = program.asserted.as_slice();
-    let failed = some_sought(code, places, asserted, Sought::Falses, NOWHERE, &mut [])?;
+    let failed = some_sought(
+        alloc,
+        code,
+        places,
+        asserted,
+        Sought::Falses,
+        NOWHERE,
+        &mut [],
+    )?;
     let violated = false_plane(code, places[program.property.0 as usize])?;
     Ok(Watched {
         faults,

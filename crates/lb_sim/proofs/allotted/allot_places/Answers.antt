@@ -1,9 +1,12 @@
 use Rattle.std.proofs.Common.{◌≡◌, ◌+◌, length, ap, subst, ◌∙◌, arith, rules}
+use Rattle.std.proofs.lemmas.List.{length-map}
 use Rattle.lb_flat.specs.Programs.{program_of}
+use Rattle.lb_flat.specs.Values.{equation_of}
 use Rattle.lb_sim.specs.InputRows.{places_of, truth_columns, number_columns}
 use Rattle.lb_sim.specs.Presets.{AreConstants, AreMemories}
 use Rattle.lb_sim.proofs.Allotments.{constants_last}
-use Rattle.lb_sim.proofs.FewPlaces.{numbers_few, program_few, truths_few}
+use Rattle.lb_sim.proofs.FewPlaces.{all_planes_few, all_words_few, numbers_few, program_few}
+use Rattle.lb_sim.proofs.FewPlaces.{truths_few}
 use Rattle.lb_sim.proofs.allotted.allot_places.Goals as goal
 
 pub input_values-requires-clause-few : goal.input_values-requires-clause-few
@@ -73,4 +76,13 @@ returns c =
           c.in_ok-kept.ensures.table);
       planes_room = omega (arith, c.in_ok-kept.ensures.more.planes, mp);
       words_room = omega (arith, c.in_ok-kept.ensures.more.words, mw);
+      few =
+          let truths = truths_few 0 p.inputs.items in
+          let numbers = numbers_few 0 p.inputs.items in
+          let long = length-map p.equations.items (equation_of p.clocks.items) in
+          let of_planes = all_planes_few kept f.equations (length two.planes.items)
+          (length three.planes.items) c.in_ok-kept.ensures.table.planes in
+          let of_words = all_words_few kept f.equations (length two.words.items)
+          (length three.words.items) c.in_ok-kept.ensures.table.words in
+          omega (arith, truths, numbers, long, of_planes, of_words, planes, words, same, known.few);
     }

@@ -1,50 +1,62 @@
-use Rattle.std.proofs.Common.{◌<◌, Some, length, set, sym, ap, subst, ◌∙◌, arith}
-use Rattle.lb_flat.specs.Run.{is_now}
-use Rattle.lb_flat.specs.Values.{clock_of}
-use Rattle.lb_machine.specs.Correct.{IsPlaneFor}
-use Rattle.lb_sim.specs.Depths.{AreDepths, IsDepth}
-use Rattle.lb_sim.specs.Emitted.{AreKnown, IsKnownAfter}
-use Rattle.lb_sim.specs.Showing.{row_at}
-use Rattle.lb_sim.proofs.KnownClocks.{deep_more, known_more}
+use Rattle.std.proofs.Common.{◌<◌, length, sym, subst, arith, rules}
+use Rattle.std.proofs.lemmas.List.{get_or_default}
+use Rattle.lb_flat.specs.Within.{AreClocks}
+use Rattle.lb_flat.specs.declared.equation.Clock.{Clock}
+use Rattle.lb_sim.proofs.ClockPlanes.{descending_first, descending_next, highest_unknown}
+use Rattle.lb_sim.proofs.ClockPlanes.{highest_within}
 use Rattle.lb_sim.proofs.clock_planes.known_plane.Goals as goal
 
-pub clock_plane-requires-clause-as_many : goal.clock_plane-requires-clause-as_many
-clock_plane-requires-clause-as_many c =
-    c.requires.as_many ∙ ap length (sym c.as_slice-clocks.ensures.value)
+pub loop-id-init : goal.loop-id-init
+loop-id-init c =
+    let made = c.in_ok-waiting.field-0 in
+    descending_first c.args.code.now c.args.places.now c.args.program.now.clocks.items
+    c.args.clock c.args.known.now made.waiting.items made.plane c.requires.known
+    c.in_ok-waiting.ensures
 
-pub clock_plane-requires-clause-known : goal.clock_plane-requires-clause-known
-clock_plane-requires-clause-known c =
-    subst (λ cs. AreKnown c.args.code.now c.args.places.now cs c.args.known.now)
-    (sym c.as_slice-clocks.ensures.value) c.requires.known
+pub index-tick-requires : goal.index-tick-requires
+index-tick-requires c =
+    let lt : c.in-Some.id.0 < length c.args.program.now.clocks.items =
+    highest_within _ _ _ _ _ _ _ _ _ c.loop-id.invariant c.in-Some.id c.pop.new.self.items
+    c.in-Some.ensures.items in
+    search rules
 
-pub clock_plane-requires-clause-depths : goal.clock_plane-requires-clause-depths
-clock_plane-requires-clause-depths c =
-    subst (λ cs. AreDepths cs c.args.depths.now) (sym c.as_slice-clocks.ensures.value)
-    c.requires.depths
-
-pub returns-clause-known : goal.returns-clause-known
-returns-clause-known c =
-    let items = c.args.program.now.clocks.items in
+pub bounds-places-tick : goal.bounds-places-tick
+bounds-places-tick c =
     let id = c.in-Some.id in
-    let p = c.in_ok-made.made.plane in
-    let lt : c.in-Some.id.0 < length c.args.known.now =
-    omega (arith, c.requires.clock id c.in-Some.is, c.requires.as_many) in
-    let own = subst
-    (λ cs. IsPlaneFor c.clock_plane.new.code
-    (λ s. is_now (row_at s c.args.places.now) (clock_of cs (Some id))) p)
-    c.as_slice-clocks.ensures.value c.in_ok-made.ensures.plane in
-    let more = known_more c.args.code.now c.clock_plane.new.code c.args.places.now items
-    c.args.known.now id p c.in_ok-made.ensures.grown c.requires.known lt own in
-    subst
-    (λ k. IsKnownAfter c.clock_plane.new.code c.args.places.now items k c.args.known.now
-    (set c.args.known.now id.0 (Some p)) p) (sym c.in-Some.is) more
+    let t = c.index-tick.result.now in
+    let lt = highest_within _ _ _ _ _ _ _ _ _ c.loop-id.invariant id c.pop.new.self.items
+    c.in-Some.ensures.items in
+    let there = (c.requires.in_range.clocks id.0 t lt).element in
+    let here : c.index-tick.result.now.element.0 < c.args.program.now.size =
+    subst (λ (r : Clock). r.element.0 < c.args.program.now.size) (sym c.index-tick.ensures) there in
+    omega (arith, here, c.requires.elements)
 
-pub returns-clause-depths : goal.returns-clause-depths
-returns-clause-depths c =
-    let items = c.args.program.now.clocks.items in
+pub sign_plane-requires-clause-room : goal.sign_plane-requires-clause-room
+sign_plane-requires-clause-room c =
+    let h = c.loop-id.invariant in
+    let one = highest_unknown _ _ _ _ _ _ _ _ _ h c.in-Some.id c.pop.new.self.items
+    c.in-Some.ensures.items c.requires.as_many in
+    omega (arith, c.requires.room, h.few, one)
+
+pub bounds-known-id : goal.bounds-known-id
+bounds-known-id c =
+    let lt = highest_within _ _ _ _ _ _ _ _ _ c.loop-id.invariant c.in-Some.id
+    c.pop.new.self.items c.in-Some.ensures.items in
+    omega (arith, lt, c.requires.as_many, c.loop-id.invariant.as_many)
+
+pub loop-id-preserved : goal.loop-id-preserved
+loop-id-preserved c =
+    let made = c.in_ok-next.ensures in
+    let table = subst (λ n. AreClocks n c.args.program.now.clocks.items) (sym c.requires.elements)
+    c.requires.in_range.clocks in
     let id = c.in-Some.id in
-    let depth = c.in_ok-made.made.depth in
-    let own = subst (λ cs. IsDepth cs (Some id) depth) c.as_slice-clocks.ensures.value
-    c.in_ok-made.ensures.depth in
-    deep_more items c.args.depths.now id depth c.requires.depths
-    (c.requires.clock id c.in-Some.is) own
+    let t = c.index-tick.result.now in
+    let lt = highest_within _ _ _ _ _ _ _ _ _ c.loop-id.invariant id c.pop.new.self.items
+    c.in-Some.ensures.items in
+    let there : c.index-tick.result.now.element.0 < length c.args.places.now =
+    subst (λ (r : Clock). r.element.0 < length c.args.places.now) (sym c.index-tick.ensures)
+    (table id.0 t lt).element in
+    descending_next _ _ _ _ _ _ _ _ _ c.loop-id.invariant id c.pop.new.self.items
+    c.in-Some.ensures.items c.requires.whole table c.requires.as_many t _
+    c.sign_plane.new.code c.in_ok-next.next c.index-tick.ensures
+    (get_or_default _ _ _ _ there) made.grown made.few made.plane

@@ -1,10 +1,12 @@
 use Rattle.std.proofs.Common.{◌≡◌, length, sym, subst, ◌∙◌, arith, rules}
-use Rattle.lb_flat.specs.Programs.{program_of}
+use Rattle.lb_flat.proofs.InOrder.{ready_of}
+use Rattle.lb_flat.specs.Programs.{flat_equations, program_of}
 use Rattle.lb_sim.specs.Allotted.{IsAllotted}
 use Rattle.lb_sim.specs.Passing.{AreSources}
 use Rattle.lb_sim.specs.Watching.{AreWatched}
 use Rattle.lb_sim.specs.declared.program.LaneCode.{LaneCode}
 use Rattle.lb_sim.proofs.Assembled.{is_allotted, is_code, table_in, ShowAll}
+use Rattle.lb_sim.proofs.FewPlaces.{room_for_code}
 use Rattle.lb_sim.proofs.compiler.lane_code.Goals as goal
 
 pub emit_all-requires-clause-allotted : goal.emit_all-requires-clause-allotted
@@ -24,6 +26,42 @@ emit_all-requires-clause-allotted c =
     (sym c.as_slice-constants.ensures.value)
     (is_allotted f known c.requires.allotted held c.args.clear.items c.args.set.items
     c.requires.table code planes words))
+
+pub emit_all-requires-clause-room : goal.emit_all-requires-clause-room
+emit_all-requires-clause-room c =
+    let p = c.args.program.now in
+    let planes : c.new-code.result.planes ≡ length c.args.known.now.preset.planes.items =
+    search rules in
+    let words : c.new-code.result.words ≡ length c.args.known.now.preset.words.items =
+    search rules in
+    let ready = ready_of p.size (flat_equations p.clocks.items p.equations.items)
+    c.requires.in_order in
+    let room = room_for_code p c.requires.bounded ready c.args.known.now c.requires.allotted in
+    omega (arith, planes, words, room)
+
+pub watched-requires-clause-room : goal.watched-requires-clause-room
+watched-requires-clause-room c =
+    let p = c.args.program.now in
+    let planes : c.new-code.result.planes ≡ length c.args.known.now.preset.planes.items =
+    search rules in
+    let words : c.new-code.result.words ≡ length c.args.known.now.preset.words.items =
+    search rules in
+    let ready = ready_of p.size (flat_equations p.clocks.items p.equations.items)
+    c.requires.in_order in
+    let room = room_for_code p c.requires.bounded ready c.args.known.now c.requires.allotted in
+    omega (arith, planes, words, room, c.in_ok-places.ensures.few)
+
+pub all_sources-requires-clause-room : goal.all_sources-requires-clause-room
+all_sources-requires-clause-room c =
+    let p = c.args.program.now in
+    let planes : c.new-code.result.planes ≡ length c.args.known.now.preset.planes.items =
+    search rules in
+    let words : c.new-code.result.words ≡ length c.args.known.now.preset.words.items =
+    search rules in
+    let ready = ready_of p.size (flat_equations p.clocks.items p.equations.items)
+    c.requires.in_order in
+    let room = room_for_code p c.requires.bounded ready c.args.known.now c.requires.allotted in
+    omega (arith, planes, words, room, c.in_ok-places.ensures.few, c.in_ok-watched.ensures.few)
 
 pub all_sources-requires-clause-held : goal.all_sources-requires-clause-held
 all_sources-requires-clause-held c =

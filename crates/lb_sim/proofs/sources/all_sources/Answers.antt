@@ -22,7 +22,7 @@ loop-i-init c =
     let mp = a.memory_plane in
     let mw = a.memory_word in
     let m = c.requires.memories in
-    subst (λ P. IsCommitting f c.args.places.now kept held mp mw code code P
+    let none = subst (λ P. IsCommitting f c.args.places.now kept held mp mw code code P
     c.new-words.result.items 0)
     (sym c.new-planes.ensures.items)
     (subst (λ W. IsCommitting f c.args.places.now kept held mp mw code code [] W 0)
@@ -31,11 +31,39 @@ loop-i-init c =
     (subst (IsRow mp (plane_row kept f.equations))
     (sym (made.grown.first_plane ∙ c.requires.first_plane)) m.planes)
     (subst (IsRow mw (word_row kept f.equations))
-    (sym (made.grown.first_word ∙ c.requires.first_word)) m.words)))
+    (sym (made.grown.first_word ∙ c.requires.first_word)) m.words))) in
+    record { committing = none; few = omega arith }
+
+pub next_holding-requires-clause-room : goal.next_holding-requires-clause-room
+next_holding-requires-clause-room c =
+    let l = c.loop-i in
+    omega (
+      arith,
+      c.requires.room,
+      c.in_ok-copies.ensures.few,
+      l.invariant.few,
+      c.loop-i-test.true,
+      l.auto.i-end,
+      c.len-i-end.ensures,
+    )
+
+pub push_sources-requires-clause-room : goal.push_sources-requires-clause-room
+push_sources-requires-clause-room c =
+    let l = c.loop-i in
+    omega (
+      arith,
+      c.requires.room,
+      c.in_ok-copies.ensures.few,
+      l.invariant.few,
+      c.in_ok-next.ensures.few,
+      c.loop-i-test.true,
+      l.auto.i-end,
+      c.len-i-end.ensures,
+    )
 
 pub next_holding-requires-clause-places : goal.next_holding-requires-clause-places
 next_holding-requires-clause-places c = λ k d lt.
-    place_grown _ _ _ c.loop-i.invariant.grown
+    place_grown _ _ _ c.loop-i.invariant.committing.grown
     (place_grown _ _ _ c.in_ok-copies.ensures.grown (c.requires.places k d lt))
 
 pub next_holding-requires-clause-held : goal.next_holding-requires-clause-held
@@ -46,7 +74,7 @@ next_holding-requires-clause-held c =
     let lt : l.i < length p.equations.items =
     omega (arith, c.loop-i-test.true, l.auto.i-end, c.len-i-end.ensures) in
     holding_grown c.args.code.now l.code _
-    (grown_then _ _ _ c.in_ok-copies.ensures.grown l.invariant.grown)
+    (grown_then _ _ _ c.in_ok-copies.ensures.grown l.invariant.committing.grown)
     (c.requires.held x.element.0 _
     (omega (
       arith,
@@ -57,7 +85,7 @@ next_holding-requires-clause-held c =
 pub push_sources-requires-clause-copies : goal.push_sources-requires-clause-copies
 push_sources-requires-clause-copies c =
     copies_grown _ _ _
-    (grown_then _ _ _ c.loop-i.invariant.grown c.in_ok-next.ensures.grown)
+    (grown_then _ _ _ c.loop-i.invariant.committing.grown c.in_ok-next.ensures.grown)
     c.in_ok-copies.ensures.copies
 
 pub loop-i-preserved : goal.loop-i-preserved
@@ -80,8 +108,8 @@ loop-i-preserved c =
     omega (arith, within, c.requires.all_held) in
     let inside = operands_there p c.requires.in_range l.i x lt there c.args.places.now
     c.requires.elements in
-    commits f c.args.places.now a.kept.items c.args.held.now a.memory_plane a.memory_word
-    c.make_copies.new.code l.code l.planes.items l.words.items l.i l.invariant
+    let more = commits f c.args.places.now a.kept.items c.args.held.now a.memory_plane a.memory_word
+    c.make_copies.new.code l.code l.planes.items l.words.items l.i l.invariant.committing
     (omega (arith, c.requires.behind_planes)) (omega (arith, c.requires.behind_words))
     (equation_of p.clocks.items x) (equation_within p.clocks.items p.equations.items l.i lt)
     (equation_there p.clocks.items p.equations.items l.i x lt there) home _ c.in_ok-next.next at
@@ -93,11 +121,20 @@ loop-i-preserved c =
     (equation_of p.clocks.items x) l.i
     (equation_within p.clocks.items p.equations.items l.i lt)
     (equation_there p.clocks.items p.equations.items l.i x lt there) home at)
-    c.requires.held_for inside next.next
+    c.requires.held_for inside next.next in
+    record {
+      committing = more;
+      few = omega (arith, l.invariant.few, next.few, pushed.few);
+    }
+
+pub returns-clause-few : goal.returns-clause-few
+returns-clause-few c =
+    let l = c.loop-i in
+    omega (arith, c.in_ok-copies.ensures.few, l.invariant.few, l.auto.i-end, c.len-i-end.ensures)
 
 pub returns-clause-grown : goal.returns-clause-grown
 returns-clause-grown c =
-    grown_then _ _ _ c.in_ok-copies.ensures.grown c.loop-i.invariant.grown
+    grown_then _ _ _ c.in_ok-copies.ensures.grown c.loop-i.invariant.committing.grown
 
 pub returns-clause-sources : goal.returns-clause-sources
 returns-clause-sources c =
@@ -107,6 +144,6 @@ returns-clause-sources c =
     let le : length p.equations.items ≤ l.i =
     omega (arith, c.loop-i-test.false, l.auto.i-end, c.len-i-end.ensures) in
     all_committed (program_of p) c.args.places.now a.kept.items c.args.held.now a.memory_plane
-    a.memory_word c.make_copies.new.code l.code l.planes.items l.words.items l.i l.invariant
+    a.memory_word c.make_copies.new.code l.code l.planes.items l.words.items l.i l.invariant.committing
     (omega (arith, c.requires.behind_planes)) (omega (arith, c.requires.behind_words))
     (all_within p.clocks.items p.equations.items l.i le)

@@ -18,12 +18,27 @@ loop-i-init c = record {
       (watching_first is_bad c.args.code.now c.args.places.now (range_with_len 0 c.args.count)
       c.args.above c.requires.above);
   marked = c.requires.marked;
+  few = omega arith;
 }
 
-pub bad_plane-requires : goal.bad_plane-requires
-bad_plane-requires c =
+pub bad_plane-requires-clause-place : goal.bad_plane-requires-clause-place
+bad_plane-requires-clause-place c =
     place_grown _ _ _ c.loop-i.invariant.watching.grown
     (c.requires.places _ _ (omega (arith, c.requires.count, c.loop-i-test.true)))
+
+pub bad_plane-requires-clause-room : goal.bad_plane-requires-clause-room
+bad_plane-requires-clause-room c =
+    omega (arith, c.requires.room, c.loop-i.invariant.few, c.loop-i-test.true)
+
+pub joined-requires-clause-room : goal.joined-requires-clause-room
+joined-requires-clause-room c =
+    omega (
+      arith,
+      c.requires.room,
+      c.loop-i.invariant.few,
+      c.in_ok-here.ensures.few,
+      c.loop-i-test.true,
+    )
 
 pub joined-requires-clause-plane : goal.joined-requires-clause-plane
 joined-requires-clause-plane c =
@@ -40,6 +55,12 @@ loop-i-preserved c =
           c.in_ok-here.ensures.grown c.in_ok-here.ensures.plane c.in_ok-next.ensures.grown
           c.in_ok-next.ensures.plane;
       marked = c.in_ok-next.ensures.marked;
+      few = omega (
+        arith,
+        c.loop-i.invariant.few,
+        c.in_ok-here.ensures.few,
+        c.in_ok-next.ensures.few,
+      );
     }
 
 pub returns-clause-grown : goal.returns-clause-grown
@@ -56,3 +77,6 @@ joined-requires-clause-marked c =
 
 pub returns-clause-marked : goal.returns-clause-marked
 returns-clause-marked c = c.loop-i.invariant.marked
+
+pub returns-clause-few : goal.returns-clause-few
+returns-clause-few c = omega (arith, c.loop-i.invariant.few, c.loop-i.auto.i-end)
