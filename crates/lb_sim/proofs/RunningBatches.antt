@@ -309,6 +309,9 @@ none_ahead r members places x live loaded e f = record {
   numbers = record { cells = λ i d k l on_lane lt. absurd (omega (arith, lt, e)) };
   numbers_there = λ lt. absurd (omega (arith, lt, e));
   truths_begun = omega (arith, f);
-  truths = record { cells = λ i d g k l on_lane lt. absurd (omega (arith, lt, f)) };
+  truths = record {
+    room = λ d lt. absurd (omega (arith, lt, f));
+    cells = λ i d g k l on_lane lt. absurd (omega (arith, lt, f));
+  };
   truths_there = λ lt. absurd (omega (arith, lt, f));
 }

@@ -3,6 +3,7 @@
 use Rattle.std.specs.Prelude.{◌≡◌, ℕ, ◌<◌, ◌≤◌, ◌+◌, ◌*◌, ◌⊎◌, ◌==◌, true, List, [], ℤ, pos}
 use Rattle.std.specs.Prelude.{length, get_or, slice_index, slice_index_or, if◌then◌else◌}
 use Rattle.std.specs.Prelude.{int_le}
+use Rattle.lb_flat.specs.Packed.{words_of_row}
 use Rattle.lb_flat.specs.Traces.{Recording}
 use Rattle.lb_lanes.specs.Kernels.{lane_of}
 use Rattle.lb_lanes.specs.Planes.{on}
@@ -43,13 +44,16 @@ pub record AreAhead (r : Recording) (members : List ℕ) (first until lanes : �
       lane_of (slice_index_or room (64 * k + d) []) i
       ≡ member_cell r members (first + d) i (get_or columns (slice_index places k) 0)
 
--- and so the Booleans: for each 64 of them and each of 8 instants there is a word of each lane
+-- and so the Booleans: for each instant and each 64 of them there is a word of each lane
 pub record AreTruthsAhead (r : Recording) (members : List ℕ) (first until lanes : ℕ)
     (columns rows : List ℕ) : Type 0 where
+  pub room :
+      (d : ℕ) → first + d < until →
+      72 * (d * words_of_row (length columns) + words_of_row (length columns)) ≤ length rows
   pub cells :
       (i d g c : ℕ) → i < 64 → on lanes i ≡ true → first + d < until → c < 64 →
       64 * g + c < length columns →
-      on (slice_index rows (512 * g + 64 * d + i)) c
+      on (slice_index rows (72 * (d * words_of_row (length columns) + g) + i)) c
       ≡ int_le (pos 1) (member_cell r members (first + d) i (get_or columns (64 * g + c) 0))
 
 -- each lane of a plane is one of another plane

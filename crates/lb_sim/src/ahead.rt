@@ -46,7 +46,6 @@ pub(crate) struct Ahead {
 pub(crate) struct Loaded {
     pub(crate) numbers: Ahead,
     pub(crate) truths: Ahead,
-    pub(crate) ghost few: { truths.until ≤ truths.first + 8 },
 }
 
 /// No instant is loaded.

@@ -4,6 +4,7 @@ ghost use Rattle.std.specs.Prelude.{◌≡◌, ℕ, ◌<◌, ◌≤◌, ◌+◌,
 ghost use Rattle.std.specs.Prelude.{IfOk, [], slice_index, slice_index_or};
 ghost use Rattle.lb_static.specs.Signature.{kinds_of};
 ghost use Rattle.lb_flat.specs.Inputs.{inputs_of};
+ghost use Rattle.lb_flat.specs.Packed.{words_of_row};
 ghost use Rattle.lb_lanes.specs.Planes.{on};
 ghost use Rattle.lb_machine.specs.Meaning.{lane_at};
 ghost use Rattle.lb_sim.specs.InputRows.{HaveInstant, number_columns, places_of, zero_of};
@@ -13,7 +14,7 @@ ghost use Rattle.lb_sim.specs.Showing.{value_at};
 use crate::ahead::{Loaded, Stretch, load_ahead};
 use crate::columns::Columns;
 use crate::integer_loads::load_numbers;
-use crate::lane_bits::{copy_planes, copy_words, zeros};
+use crate::lane_bits::{copy_planes, copy_words, groups_of, zeros};
 use crate::loads::{Instant, load_truths, load_truths_ahead};
 use crate::read_inputs::ReadInputs;
 use lb_flat::{FlatProgram, TraceSet};
@@ -24,6 +25,9 @@ use std::alloc::{AllocError, Global};
 // How many integers of a row are loaded for some instants together.
 const MOST_AHEAD: usize = 8;
 
+// How many words of Booleans a row has at most of which many instants are loaded together.
+const MOST_WORDS: usize = 4;
+
 /// A row of inputs for each lane: a plane for each Boolean of the signature, and a word for each
 /// integer, in its order.
 #[derive(Drop)]
@@ -33,11 +37,25 @@ pub struct Inputs {
     pub words: Vec<LaneWord>,
     /// The Booleans of each lane at some instants, a word for 64 of them; see `loads`.
     pub rows: Vec<u64>,
+    // Of how many instants the Booleans have room there.
+    pub(crate) reach: u32,
     // Integers of instants that follow one another; see `ahead`.
     pub(crate) room: Vec<LaneWord>,
     pub ghost planes_room: { length planes.items ≡ columns.truths },
     pub ghost words_room: { length words.items ≡ columns.numbers },
-    pub ghost rows_room: { 8 * (columns.truths + 63) ≤ length rows.items },
+    pub(crate) ghost some: { 0 < reach },
+    pub(crate) ghost few: { reach ≤ 64 },
+    pub ghost rows_room: { 72 * (reach * words_of_row columns.truths) ≤ length rows.items },
+}
+
+// Of how many instants the Booleans are read in one go, where those of one instant take so many
+// words.
+fn reach_of(width: usize) -> u32
+    ensures some { 0 < result }
+    ensures few { result ≤ 64 }
+    ensures room { result * width ≤ 8 * width + 224 }
+{
+    if width <= MOST_WORDS { 64 } else { 8 }
 }
 
 impl Inputs {
@@ -61,13 +79,16 @@ impl Inputs {
         let columns = Columns::new(alloc, kinds)?;
         let planes = vec![in alloc; 0u64; columns.truths]?;
         let words = zeros(alloc, columns.numbers)?;
-        let rows = vec![in alloc; 0u64; 8 * (columns.truths + 63)]?;
+        let width = groups_of(columns.truths);
+        let reach = reach_of(width);
+        let rows = vec![in alloc; 0u64; 72 * (reach as usize * width)]?;
         let room = zeros(alloc, 64 * columns.numbers.min(MOST_AHEAD))?;
         Ok(Inputs {
             columns,
             planes,
             words,
             rows,
+            reach,
             room,
         })
     }
@@ -118,8 +139,9 @@ impl Inputs {
             self.new at.now.at.t at.now.at.live.0 result }
     {
         let _ = at.at.set.signature();
+        let reach = self.reach;
         let (rows, planes) = (self.rows.as_mut_slice(), self.planes.as_mut_slice());
-        let truths = load_truths_ahead(at, read.truths, rows, last.truths, planes);
+        let truths = load_truths_ahead(at, read.truths, reach, rows, last.truths, planes);
         let (room, words) = (self.room.as_mut_slice(), self.words.as_mut_slice());
         let places = read.numbers.as_slice();
         let numbers = load_ahead(at, places, room, last.numbers, words);

@@ -10,12 +10,12 @@ loop-i-preserved c =
     let e = c.put_bits.ensures in
     gathered_more at.set.now at.members.now at.t at.live.0
     (truth_columns 0 (kinds_of at.set.now.signature)) c.args.count c.args.rows.now c.loop-i.rows
-    c.put_bits.new.rows c.loop-i.i c.loop-i.invariant c.requires.few e.rows e.put e.others
+    c.put_bits.new.rows c.loop-i.i c.loop-i.invariant e.rows e.put e.others
 
 pub returns-clause-put : goal.returns-clause-put
 returns-clause-put c =
     let at = c.args.at.now in
     all_gathered at.set.now at.members.now at.t at.live.0
     (truth_columns 0 (kinds_of at.set.now.signature)) c.args.count c.args.rows.now c.loop-i.rows
-    c.loop-i.i c.loop-i.invariant
+    c.loop-i.i c.loop-i.invariant c.requires.room
     (λ i l e. let inside = (at.there i l e).0 in omega (arith, inside, c.loop-i-test.false))

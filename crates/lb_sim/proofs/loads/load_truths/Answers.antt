@@ -1,4 +1,4 @@
-use Rattle.std.proofs.Common.{◌∙◌, ◌≡◌, ◌+◌, arith, subst}
+use Rattle.std.proofs.Common.{◌≡◌, ◌+◌, arith, subst}
 use Rattle.lb_static.specs.Signature.{kinds_of}
 use Rattle.lb_sim.specs.InputRows.{HaveInstant, truth_columns}
 use Rattle.lb_sim.proofs.Loading.{truths_there}
@@ -15,6 +15,5 @@ returns-clause-put c =
     let at = c.args.at.now in
     truths_there at.set.now at.members.now at.t at.live.0 0
     (truth_columns 0 (kinds_of at.set.now.signature)) at.t (at.t + 1) at.live.0
-    c.gather.new.rows c.turn.new.planes (c.turn.ensures.planes ∙ c.requires.room)
-    c.gather.ensures.put (omega arith) (omega arith) (λ i l e. e)
-    (λ g k i h l lb. c.turn.ensures.put g k i h l (omega (arith, lb, c.turn.ensures.planes)))
+    c.gather.new.rows c.args.planes.now c.turn.new.planes c.turn.ensures.planes c.requires.room
+    c.gather.ensures.put (omega arith) (omega arith) (λ i l e. e) c.turn.ensures.put
