@@ -1,5 +1,6 @@
 pub mod Listed
 pub mod Meaning
 pub mod Straight
+pub mod Within
 pub mod Knowing
 pub mod Correct

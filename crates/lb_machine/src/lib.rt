@@ -15,6 +15,7 @@ mod instruction;
 mod instructions;
 mod known;
 mod run;
+mod within;
 
 pub use carry::{carry_planes, carry_words};
 pub use code::Code;
