@@ -2,16 +2,18 @@
 -- other.
 use Rattle.std.proofs.Common.{arith, suc, ◌+◌, ◌-◌, ◌<◌, ◌≤◌, [], ◌∷◌, drop, length, add-one, ◌≡◌}
 use Rattle.std.proofs.Common.{ℕ, Bool, true, false, ◌||◌, Option, Some, None, List, get_or, refl}
-use Rattle.std.proofs.Common.{sym, ap, ◌∙◌, zero, replicate, ◌⊎◌, inl, inr}
+use Rattle.std.proofs.Common.{sym, ap, ◌∙◌, zero, replicate, ◌⊎◌, inl, inr, All, ◌++◌}
 use Rattle.std.proofs.Math.Seq.{drop-cons}
 use Rattle.std.proofs.Math.ListN.{drop_of_length-le}
 use Rattle.std.specs.List.{range_with_len}
 use Rattle.std.proofs.lemmas.List.{get_or-map}
+use Rattle.std.proofs.lemmas.List.Folds.{list_any-append}
 use Rattle.std.proofs.Math.Bool.{or-false}
 use Rattle.lb_check.specs.Scalars.{Cell}
-use Rattle.lb_flat.specs.Judging.{some_in}
+use Rattle.lb_check.specs.Verdicts.{is_bad}
+use Rattle.lb_flat.specs.Judging.{FlatProgram, named_elements, some_in}
 use Rattle.lb_flat.specs.Programs.{numbers_of}
-use Rattle.lb_flat.specs.Run.{cell}
+use Rattle.lb_flat.specs.Run.{Row, cell}
 use Rattle.lb_flat.specs.declared.equation.ElementId.{ElementId}
 use Rattle.lb_machine.specs.Correct.{IsGrown, IsPlaneFor}
 use Rattle.lb_machine.specs.Listed.{listed}
@@ -160,3 +162,60 @@ pub range_all : (count : ℕ) → range_with_len 0 count ≡ range_with_len 0 (c
 range_all count =
     let e : count ≡ count - 0 = omega arith in
     ap (range_with_len 0) e
+
+-- ## Elements that are among the first
+
+some_here :
+    (test : Option Cell → Bool) (row : Row) (n from i : ℕ) → from ≤ i → i < from + n →
+    test (Some (cell row i)) ≡ true → some_in test row (range_with_len from n) ≡ true
+some_here test row zero from i le lt e = absurd (omega (arith, le, lt))
+some_here test row (suc n) from i le lt e =
+    by (or_more from i le)
+    (λ more. some_here test row n (from + 1) i more (omega (arith, lt)) e)
+  where
+    or_more : (a b : ℕ) → a ≤ b → (a ≡ b) ⊎ (a + 1 ≤ b)
+    or_more a b h = Prim.search (arith, h)
+
+    by :
+        (from ≡ i) ⊎ (from + 1 ≤ i) →
+        (from + 1 ≤ i → some_in test row (range_with_len (from + 1) n) ≡ true) →
+        some_in test row (range_with_len from (suc n)) ≡ true
+    by (inl same) later = or_left _ _ (ap (λ k. test (Some (cell row k))) same ∙ e)
+    by (inr more) later = or_right _ _ (later more)
+
+-- what one of some elements shows, each of which is one of the first, one of the first shows
+pub some_among :
+    (test : Option Cell → Bool) (row : Row) (n : ℕ) (ids : List ElementId) →
+    All (λ a. a.0 < n) ids → some_in test row (numbers_of ids) ≡ true →
+    some_in test row (range_with_len 0 n) ≡ true
+some_among test row n [] all e = absurd (false_not_true e)
+  where
+    false_not_true : false ≡ true → ⊥
+    false_not_true h = cc
+some_among test row n (a ∷ ids) all e =
+    by (test (Some (cell row a.0))) (some_in test row (numbers_of ids)) e
+    (some_here test row n 0 a.0 (omega arith) (omega (arith, all 0 a (omega arith))))
+    (some_among test row n ids (λ k d lt. all (suc k) d (omega (arith, lt))))
+  where
+    by :
+        (x y : Bool) → (x || y) ≡ true →
+        (x ≡ true → some_in test row (range_with_len 0 n) ≡ true) →
+        (y ≡ true → some_in test row (range_with_len 0 n) ≡ true) →
+        some_in test row (range_with_len 0 n) ≡ true
+    by true y f here later = here refl
+    by false y f here later = later f
+
+-- what is within something adds nothing to it
+pub within_or : (a b : Bool) → (a ≡ true → b ≡ true) → (a || b) ≡ b
+within_or true b h = sym (h refl)
+within_or false b h = refl
+
+-- one of the first elements is a named one
+pub some_named : (f : FlatProgram) (row : Row) →
+    some_in is_bad row (range_with_len 0 f.variables) ≡ true →
+    some_in is_bad row (named_elements f) ≡ true
+some_named f row e =
+    let is = range_with_len 0 f.variables in
+    let js = f.memory_operands ++ f.asserted in
+    list_any-append (λ i. is_bad (Some (cell row i))) is js
+    ∙ or_left (some_in is_bad row is) (some_in is_bad row js) e

@@ -23,6 +23,7 @@ mod marks;
 mod memories;
 mod numbers;
 mod operators;
+mod outermost;
 mod picks;
 mod place;
 mod preset;

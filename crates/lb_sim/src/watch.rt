@@ -65,16 +65,16 @@ pub(crate) fn false_plane(code: &mut Code, place: Place) -> Result<PlaneId, Allo
     Ok(plane)
 }
 
-// Whether a plane is marked.
-fn is_marked(marked: &[bool], p: PlaneId) -> bool
+/// Whether a plane is marked.
+pub(crate) fn is_marked(marked: &[bool], p: PlaneId) -> bool
     ensures { result ≡ true → slice_index_or marked.now p.0 false ≡ true }
 {
     let at = p.0 as usize;
     at < marked.len() && marked[at]
 }
 
-// Marks a plane, where there is room for it.
-fn mark(marked: &mut [bool], p: PlaneId)
+/// Marks a plane, where there is room for it.
+pub(crate) fn mark(marked: &mut [bool], p: PlaneId)
     ensures { (k : ℕ) → slice_index_or marked.new k false ≡ true
         → (k ≡ p.0) ⊎ (slice_index_or marked.old k false ≡ true) }
 {

@@ -1,6 +1,6 @@
 //! The planes of what an instant decides in each lane.
 
-ghost use Rattle.std.specs.Prelude.{◌≡◌, ◌+◌, ◌*◌, length, All, IfOk, OnOk};
+ghost use Rattle.std.specs.Prelude.{◌≡◌, ◌<◌, ◌+◌, ◌*◌, ◌||◌, length, All, IfOk, OnOk};
 ghost use Rattle.lb_check.specs.Verdicts.{is_bad, is_nil};
 ghost use Rattle.lb_flat.specs.Judging.{named_elements, some_in, truth_elements};
 ghost use Rattle.lb_flat.specs.Programs.{program_of, IsInRange};
@@ -9,32 +9,36 @@ ghost use Rattle.lb_sim.specs.Holdings.{IsPlaceIn};
 ghost use Rattle.lb_sim.specs.Showing.{row_at};
 ghost use Rattle.lb_sim.specs.Watching.{AreWatched, AreWithin};
 
+use crate::outermost::outer_faults;
 use crate::place::{Place, Watched};
 use crate::watch::{Sought, false_plane, first_bad, nil_plane, some_sought};
 use lb_flat::FlatProgram;
 use lb_machine::{Code, NOWHERE, PlaneId, PlaneOperator};
 use std::alloc::{AllocError, Global};
 
-// Where an element at which a fault counts holds one. No plane is marked before.
+// Where an element at which a fault counts holds one, or a plane is true, within which are those
+// that are marked.
 #[tactic(auto, using(crate::proofs::Growth::grown_then, crate::proofs::Growth::grown_none))]
 fn faults_by(
     alloc: Global,
     code: &mut Code,
     program: &FlatProgram,
     places: &[Place],
+    above: PlaneId,
     marked: &mut [bool],
 ) -> Result<PlaneId, AllocError>
     requires in_range { IsInRange program.now }
     requires elements { length places.now ≡ program.now.size }
     requires places { All (IsPlaceIn code.old) places.now }
-    requires marked { AreWithin code.old marked.old (record { 0 = 0 }) }
+    requires above { above.0 < code.old.planes }
+    requires marked { AreWithin code.old marked.old above }
     requires room { HasRoom code.old (28 * program.now.size) }
     ensures grown { OnOk result (IsGrown code.old code.new) }
     ensures few { OnOk result (AddsAtMost code.old code.new (28 * program.now.size)) }
-    ensures plane { IfOk result (IsPlaneFor code.new (λ s.
-        some_in is_bad (row_at s places.now) (named_elements (program_of program.now)))) }
+    ensures plane { IfOk result (IsPlaneFor code.new (λ s. s.bits above.0
+        || some_in is_bad (row_at s places.now) (named_elements (program_of program.now)))) }
 {
-    let variables = first_bad(code, places, program.variables, NOWHERE, marked)?;
+    let variables = first_bad(code, places, program.variables, above, marked)?;
     let kept = program.memory_operands.as_slice();
     let operands = some_sought(alloc, code, places, kept, Sought::Faults, variables, marked)?;
     let asserted = program.asserted.as_slice();
@@ -50,6 +54,7 @@ fn faults_by(
 }
 
 // Where an element at which a fault counts holds one.
+#[tactic(auto, using(crate::proofs::Growth::grown_then, crate::proofs::Growth::grown_none))]
 fn faults(
     alloc: Global,
     code: &mut Code,
@@ -59,14 +64,16 @@ fn faults(
     requires in_range { IsInRange program.now }
     requires elements { length places.now ≡ program.now.size }
     requires places { All (IsPlaceIn code.old) places.now }
-    requires room { HasRoom code.old (28 * program.now.size) }
+    requires room { HasRoom code.old (40 * program.now.size) }
     ensures grown { OnOk result (IsGrown code.old code.new) }
-    ensures few { OnOk result (AddsAtMost code.old code.new (28 * program.now.size)) }
+    ensures few { OnOk result (AddsAtMost code.old code.new (40 * program.now.size)) }
     ensures plane { IfOk result (IsPlaneFor code.new (λ s.
         some_in is_bad (row_at s places.now) (named_elements (program_of program.now)))) }
 {
     let mut marked = vec![in alloc; false; code.planes as usize]?;
-    let plane = faults_by(alloc, code, program, places, marked.as_mut_slice())?;
+    let all = marked.as_mut_slice();
+    let above = outer_faults(alloc, code, places, program.variables, all)?;
+    let plane = faults_by(alloc, code, program, places, above, all)?;
     Ok(plane)
 }
 
@@ -115,9 +122,9 @@ pub(crate) fn watched(
     requires in_range { IsInRange program.now }
     requires elements { length places.now ≡ program.now.size }
     requires places { All (IsPlaceIn code.old) places.now }
-    requires room { HasRoom code.old (64 * program.now.size + 16) }
+    requires room { HasRoom code.old (76 * program.now.size + 16) }
     ensures grown { OnOk result (IsGrown code.old code.new) }
-    ensures few { OnOk result (AddsAtMost code.old code.new (64 * program.now.size + 16)) }
+    ensures few { OnOk result (AddsAtMost code.old code.new (76 * program.now.size + 16)) }
     ensures planes { IfOk result (AreWatched code.new (program_of program.now) places.now) }
 {
     let faults = faults(alloc, code, program, places)?;

@@ -1,10 +1,7 @@
-use Rattle.std.proofs.Common.{◌+◌, ◌-◌, ◌≡◌, ◌<◌, sym, subst, arith, length, ℕ, List, get_or}
+use Rattle.std.proofs.Common.{◌-◌, ◌≡◌, ◌<◌, sym, subst, arith, length, get_or}
 use Rattle.std.specs.List.{AllByRecursion}
-use Rattle.lb_machine.specs.Listed.{listed, selects_from}
+use Rattle.lb_machine.specs.Listed.{selects_from}
 use Rattle.lb_machine.specs.Meaning.{IsDone}
-use Rattle.lb_machine.specs.declared.instruction.Instruction.{Instruction}
-use Rattle.lb_machine.specs.declared.instructions.Block.{Block}
-use Rattle.lb_machine.specs.declared.instructions.Choice.{Choice}
 use Rattle.lb_machine.proofs.Doing.{behind_done, block_done}
 use Rattle.lb_machine.proofs.code.Code.mark_within.Goals as goal
 
