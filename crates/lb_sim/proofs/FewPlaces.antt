@@ -165,7 +165,7 @@ pub room_for_code :
     Ready p.size [] (flat_equations p.clocks.items p.equations.items) →
     (a : Allotted) → AreAllotted (program_of p) a →
     length a.preset.planes.items + length a.preset.words.items
-    + (24 * length p.equations.items + 10 * length p.clocks.items + 64 * p.size + 18)
+    + (24 * length p.equations.items + 10 * length p.clocks.items + 76 * p.size + 18)
     ≤ 4294967295
 room_for_code p bounded ready a allotted =
     let few = program_few p bounded ready in
