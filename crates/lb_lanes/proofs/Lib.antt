@@ -6,6 +6,7 @@ pub mod Joined
 pub mod Views
 pub mod Rounds
 pub mod Composed
+pub mod TwoRounds
 pub mod WordViews
 pub mod Checks
 pub mod WordVectors

@@ -1,23 +1,57 @@
 //! The transposition of a matrix of 64 rows and 64 columns of bits, a row in a word.
 
-ghost use Rattle.std.specs.Prelude.{◌<◌};
+ghost use Rattle.std.specs.Prelude.{ℕ, ◌<◌, List};
 ghost use Rattle.lb_lanes.specs.Correct.{IsTransposed};
 ghost use Rattle.lb_lanes.specs.Transposes.{IsMask, IsRound};
 
-// One round of the transposition: of each pair of words that are 32 apart, the columns of the one
-// that are not under the mask change places with those of the other that are. The new pair stands
-// side by side.
-fn round(words: &[u64; 64], shift: u32, mask: u64, out: &mut [u64; 64])
+// Of the columns of a word those whose numbers do not have the bit of this weight.
+const MASK_32: u64 = 0x0000_0000_ffff_ffff;
+
+const MASK_16: u64 = 0x0000_ffff_0000_ffff;
+
+const MASK_8: u64 = 0x00ff_00ff_00ff_00ff;
+
+const MASK_4: u64 = 0x0f0f_0f0f_0f0f_0f0f;
+
+const MASK_2: u64 = 0x3333_3333_3333_3333;
+
+const MASK_1: u64 = 0x5555_5555_5555_5555;
+
+// Two rounds of the transposition, one after the other. In each, of the pairs of words that are 32
+// apart, the columns of the one that are not under the mask change places with those of the other
+// that are, and the new pair stands side by side.
+fn two_rounds(
+    words: &[u64; 64],
+    shift: u32,
+    mask: u64,
+    next_shift: u32,
+    next_mask: u64,
+    out: &mut [u64; 64],
+)
     requires shift { shift < 64 }
     requires mask { IsMask shift mask }
-    ensures { IsRound shift words.now out.new }
+    requires next_shift { next_shift < 64 }
+    requires next_mask { IsMask next_shift next_mask }
+    ensures { (between : List ℕ) × IsRound shift words.now between
+        × IsRound next_shift between out.new }
 {
-    for k in 0..32usize {
+    for k in 0..16usize {
         let a = words[k];
-        let b = words[k + 32];
-        let t = ((a >> shift) ^ b) & mask;
-        out[2 * k] = a ^ (t << shift);
-        out[2 * k + 1] = b ^ t;
+        let b = words[k + 16];
+        let c = words[k + 32];
+        let d = words[k + 48];
+        let t = ((a >> shift) ^ c) & mask;
+        let u = ((b >> shift) ^ d) & mask;
+        let even = a ^ (t << shift);
+        let odd = c ^ t;
+        let next_even = b ^ (u << shift);
+        let next_odd = d ^ u;
+        let v = ((even >> next_shift) ^ next_even) & next_mask;
+        let w = ((odd >> next_shift) ^ next_odd) & next_mask;
+        out[4 * k] = even ^ (v << next_shift);
+        out[4 * k + 1] = next_even ^ v;
+        out[4 * k + 2] = odd ^ (w << next_shift);
+        out[4 * k + 3] = next_odd ^ w;
     }
 }
 
@@ -27,11 +61,9 @@ fn round(words: &[u64; 64], shift: u32, mask: u64, out: &mut [u64; 64])
 pub fn transpose(words: &mut [u64; 64])
     ensures { IsTransposed words.old words.new }
 {
-    let mut other = [0u64; 64];
-    round(words, 32, 0x0000_0000_ffff_ffff, &mut other);
-    round(&other, 16, 0x0000_ffff_0000_ffff, words);
-    round(words, 8, 0x00ff_00ff_00ff_00ff, &mut other);
-    round(&other, 4, 0x0f0f_0f0f_0f0f_0f0f, words);
-    round(words, 2, 0x3333_3333_3333_3333, &mut other);
-    round(&other, 1, 0x5555_5555_5555_5555, words);
+    let mut coarse = [0u64; 64];
+    two_rounds(words, 32, MASK_32, 16, MASK_16, &mut coarse);
+    let mut fine = [0u64; 64];
+    two_rounds(&coarse, 8, MASK_8, 4, MASK_4, &mut fine);
+    two_rounds(&fine, 2, MASK_2, 1, MASK_1, words);
 }

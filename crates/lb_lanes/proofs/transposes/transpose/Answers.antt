@@ -3,33 +3,34 @@ use Rattle.lb_lanes.specs.Planes.{on}
 use Rattle.lb_lanes.proofs.Composed.{every, transposed, mask_by}
 use Rattle.lb_lanes.proofs.transposes.transpose.Goals as goal
 
-pub round-requires-clause-mask : goal.round-requires-clause-mask
+pub two_rounds-requires-clause-mask : goal.two_rounds-requires-clause-mask
 unfolding on every
-round-requires-clause-mask c = mask_by _ _ refl
+two_rounds-requires-clause-mask c = mask_by _ _ refl
 
-pub round-requires-2-clause-mask : goal.round-requires-2-clause-mask
+pub two_rounds-requires-clause-next_mask : goal.two_rounds-requires-clause-next_mask
 unfolding on every
-round-requires-2-clause-mask c = mask_by _ _ refl
+two_rounds-requires-clause-next_mask c = mask_by _ _ refl
 
-pub round-requires-3-clause-mask : goal.round-requires-3-clause-mask
+pub two_rounds-requires-2-clause-mask : goal.two_rounds-requires-2-clause-mask
 unfolding on every
-round-requires-3-clause-mask c = mask_by _ _ refl
+two_rounds-requires-2-clause-mask c = mask_by _ _ refl
 
-pub round-requires-4-clause-mask : goal.round-requires-4-clause-mask
+pub two_rounds-requires-2-clause-next_mask : goal.two_rounds-requires-2-clause-next_mask
 unfolding on every
-round-requires-4-clause-mask c = mask_by _ _ refl
+two_rounds-requires-2-clause-next_mask c = mask_by _ _ refl
 
-pub round-requires-5-clause-mask : goal.round-requires-5-clause-mask
+pub two_rounds-requires-3-clause-mask : goal.two_rounds-requires-3-clause-mask
 unfolding on every
-round-requires-5-clause-mask c = mask_by _ _ refl
+two_rounds-requires-3-clause-mask c = mask_by _ _ refl
 
-pub round-requires-6-clause-mask : goal.round-requires-6-clause-mask
+pub two_rounds-requires-3-clause-next_mask : goal.two_rounds-requires-3-clause-next_mask
 unfolding on every
-round-requires-6-clause-mask c = mask_by _ _ refl
+two_rounds-requires-3-clause-next_mask c = mask_by _ _ refl
 
 pub returns : goal.returns
 returns c =
-    transposed c.args.words.now c.round.new.out c.round-2.new.out c.round-3.new.out
-    c.round-4.new.out c.round-5.new.out
-    c.round-6.new.out c.round.ensures c.round-2.ensures c.round-3.ensures c.round-4.ensures
-    c.round-5.ensures c.round-6.ensures
+    let one = c.two_rounds.ensures in
+    let two = c.two_rounds-2.ensures in
+    let three = c.two_rounds-3.ensures in
+    transposed c.args.words.now one.0 c.two_rounds.new.out two.0 c.two_rounds-2.new.out three.0
+    c.two_rounds-3.new.out one.1 one.2 two.1 two.2 three.1 three.2
