@@ -8,13 +8,13 @@ use Rattle.lb_syntax.specs.declared.tree.Kind.TheVariants.{Int as Int_kind, Bool
 use Rattle.lb_syntax.proofs.TruthValues.{contrary}
 use Rattle.lb_flat.specs.Bounds.{IsBounded}
 use Rattle.lb_flat.specs.Flat.{FlatEquation}
-use Rattle.lb_flat.specs.InOrder.{is_done}
+use Rattle.lb_flat.specs.InOrder.{is_done, is_in_order}
 use Rattle.lb_flat.specs.Ordering.{left}
 use Rattle.lb_flat.specs.Programs.{flat_equations, program_of}
 use Rattle.lb_flat.specs.Run.{Ready}
 use Rattle.lb_flat.specs.Values.{equation_of}
 use Rattle.lb_flat.specs.declared.program.FlatProgram as code
-use Rattle.lb_flat.proofs.InOrder.{AreMarks, marks_more, unmarked}
+use Rattle.lb_flat.proofs.InOrder.{AreMarks, marks_more, ready_of, unmarked}
 use Rattle.lb_sim.specs.Homes.{IsRow, plane_row, word_row}
 use Rattle.lb_sim.specs.InputRows.{truth_columns, number_columns}
 use Rattle.lb_sim.specs.Layouts.{AreAllotted}
@@ -145,7 +145,8 @@ equations_few size Q ready =
       given = λ i is. absurd (contrary _ is (unmarked size i));
       marked = λ i is. absurd is;
     } in
-    let few = each_marks size (replicate size false) [] Q (length-replicate size false) none ready in
+    let few = each_marks size (replicate size false) [] Q (length-replicate size false) none
+    ready in
     let all = left_all size in
     omega (arith, few, all)
 
@@ -162,12 +163,14 @@ program_few p bounded ready =
 -- there is room for the code of a program behind its inputs, constants and memories
 pub room_for_code :
     (p : code.FlatProgram) → IsBounded p →
-    Ready p.size [] (flat_equations p.clocks.items p.equations.items) →
+    is_in_order (replicate p.size false) (flat_equations p.clocks.items p.equations.items)
+    ≡ true →
     (a : Allotted) → AreAllotted (program_of p) a →
     length a.preset.planes.items + length a.preset.words.items
     + (24 * length p.equations.items + 10 * length p.clocks.items + 76 * p.size + 18)
     ≤ 4294967295
-room_for_code p bounded ready a allotted =
+room_for_code p bounded order a allotted =
+    let ready = ready_of p.size (flat_equations p.clocks.items p.equations.items) order in
     let few = program_few p bounded ready in
     let long = length-map p.equations.items (equation_of p.clocks.items) in
     omega (

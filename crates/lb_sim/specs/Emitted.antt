@@ -49,7 +49,7 @@ AreKnown code places clocks known =
     (k : ClockId) (p : PlaneId) → get_or known k.0 None ≡ Some p →
     IsPlaneFor code (λ s. is_now (row_at s places) (clock_of clocks (Some k))) p
 
--- a clock reads no element but those that another one reads
+-- a clock reads each element that another one, above it, reads
 abbrev pub IsReadBy : List Clock → (clock above : Option ClockId) → Type 0
 IsReadBy clocks clock above =
     (e : ℕ) → In e (clock_reads (clock_of clocks above)) →

@@ -1,6 +1,5 @@
 use Rattle.std.proofs.Common.{◌≡◌, length, sym, subst, ◌∙◌, arith, rules}
-use Rattle.lb_flat.proofs.InOrder.{ready_of}
-use Rattle.lb_flat.specs.Programs.{flat_equations, program_of}
+use Rattle.lb_flat.specs.Programs.{program_of}
 use Rattle.lb_sim.specs.Allotted.{IsAllotted}
 use Rattle.lb_sim.specs.Passing.{AreSources}
 use Rattle.lb_sim.specs.Watching.{AreWatched}
@@ -34,9 +33,8 @@ emit_all-requires-clause-room c =
     search rules in
     let words : c.new-code.result.words ≡ length c.args.known.now.preset.words.items =
     search rules in
-    let ready = ready_of p.size (flat_equations p.clocks.items p.equations.items)
-    c.requires.in_order in
-    let room = room_for_code p c.requires.bounded ready c.args.known.now c.requires.allotted in
+    let room = room_for_code p c.requires.bounded c.requires.in_order c.args.known.now
+    c.requires.allotted in
     omega (arith, planes, words, room)
 
 pub watched-requires-clause-room : goal.watched-requires-clause-room
@@ -46,9 +44,8 @@ watched-requires-clause-room c =
     search rules in
     let words : c.new-code.result.words ≡ length c.args.known.now.preset.words.items =
     search rules in
-    let ready = ready_of p.size (flat_equations p.clocks.items p.equations.items)
-    c.requires.in_order in
-    let room = room_for_code p c.requires.bounded ready c.args.known.now c.requires.allotted in
+    let room = room_for_code p c.requires.bounded c.requires.in_order c.args.known.now
+    c.requires.allotted in
     omega (arith, planes, words, room, c.in_ok-places.ensures.few)
 
 pub all_sources-requires-clause-room : goal.all_sources-requires-clause-room
@@ -58,9 +55,8 @@ all_sources-requires-clause-room c =
     search rules in
     let words : c.new-code.result.words ≡ length c.args.known.now.preset.words.items =
     search rules in
-    let ready = ready_of p.size (flat_equations p.clocks.items p.equations.items)
-    c.requires.in_order in
-    let room = room_for_code p c.requires.bounded ready c.args.known.now c.requires.allotted in
+    let room = room_for_code p c.requires.bounded c.requires.in_order c.args.known.now
+    c.requires.allotted in
     omega (arith, planes, words, room, c.in_ok-places.ensures.few, c.in_ok-watched.ensures.few)
 
 pub all_sources-requires-clause-held : goal.all_sources-requires-clause-held

@@ -53,8 +53,9 @@ loop-i-preserved c =
     let lt : l.i < length items =
     omega (arith, c.loop-i-test.true, l.auto.i-end, c.len-i-end.ensures) in
     let next = placing_next c.args.program.now c.args.code.now l.code c.args.inputs.now
-    c.args.constants.now c.args.kept.now l.places l.known l.i l.invariant.placing c.requires.in_range x x
-    (sym c.index-q.ensures) lt c.known_plane.new.code c.emit.new.code c.in_ok-present.present
+    c.args.constants.now c.args.kept.now l.places l.known l.i l.invariant.placing
+    c.requires.in_range x x (sym c.index-q.ensures) lt c.known_plane.new.code c.emit.new.code
+    c.in_ok-present.present
     c.known_plane.new.known _ _ c.in_ok-holding.holding c.index-kind.result.now
     c.in_ok-present.ensures.grown c.in_ok-holding.ensures.grown c.in_ok-present.ensures.known
     c.in_ok-present.ensures.as_many c.index-kind.ensures c.in_ok-holding.ensures.within
@@ -81,7 +82,8 @@ returns-clause-kinds c =
     let le : length items ≤ l.i =
     omega (arith, c.loop-i-test.false, l.auto.i-end, c.len-i-end.ensures) in
     kinds_at_end c.args.program.now c.args.code.now l.code c.args.inputs.now
-    c.args.constants.now c.args.kept.now l.places l.known l.i l.invariant.placing c.requires.in_range le
+    c.args.constants.now c.args.kept.now l.places l.known l.i l.invariant.placing
+    c.requires.in_range le
 
 pub returns-clause-shown : goal.returns-clause-shown
 returns-clause-shown c =
@@ -90,4 +92,5 @@ returns-clause-shown c =
     let le : length items ≤ l.i =
     omega (arith, c.loop-i-test.false, l.auto.i-end, c.len-i-end.ensures) in
     shown_at_end c.args.program.now c.args.code.now l.code c.args.inputs.now
-    c.args.constants.now c.args.kept.now l.places l.known l.i l.invariant.placing c.requires.in_range le
+    c.args.constants.now c.args.kept.now l.places l.known l.i l.invariant.placing
+    c.requires.in_range le

@@ -109,8 +109,9 @@ loop-i-preserved c =
     let inside = operands_there p c.requires.in_range l.i x lt there c.args.places.now
     c.requires.elements in
     let more = commits f c.args.places.now a.kept.items c.args.held.now a.memory_plane a.memory_word
-    c.make_copies.new.code l.code l.planes.items l.words.items l.i l.invariant.committing
-    (omega (arith, c.requires.behind_planes)) (omega (arith, c.requires.behind_words))
+    c.make_copies.new.code l.code l.planes.items l.words.items l.i
+    l.invariant.committing (omega (arith, c.requires.behind_planes))
+    (omega (arith, c.requires.behind_words))
     (equation_of p.clocks.items x) (equation_within p.clocks.items p.equations.items l.i lt)
     (equation_there p.clocks.items p.equations.items l.i x lt there) home _ c.in_ok-next.next at
     (get_or_default c.args.held.now x.element.0 _ no_holding inside_held) c.next_holding.new.code
@@ -144,6 +145,7 @@ returns-clause-sources c =
     let le : length p.equations.items ≤ l.i =
     omega (arith, c.loop-i-test.false, l.auto.i-end, c.len-i-end.ensures) in
     all_committed (program_of p) c.args.places.now a.kept.items c.args.held.now a.memory_plane
-    a.memory_word c.make_copies.new.code l.code l.planes.items l.words.items l.i l.invariant.committing
-    (omega (arith, c.requires.behind_planes)) (omega (arith, c.requires.behind_words))
+    a.memory_word c.make_copies.new.code l.code l.planes.items l.words.items l.i
+    l.invariant.committing (omega (arith, c.requires.behind_planes))
+    (omega (arith, c.requires.behind_words))
     (all_within p.clocks.items p.equations.items l.i le)
