@@ -81,7 +81,10 @@ fn run_each_division<K: FromQuotient>(
         return run_one_by_one::<K>(a, b, active, out);
     }
     let mut doubts = [0u32; 64];
-    divide_small::<K>(a, b, out, &mut doubts);
+    if divide_small::<K>(a, b, out, &mut doubts) == 0 {
+        keep(active, out);
+        return 0;
+    }
     let doubtful = active & !tested::<Equal>(&doubts, &[0; 64]);
     let others = doubtful & !tested::<Equal>(b, &[0; 64]);
     if others == 0 {

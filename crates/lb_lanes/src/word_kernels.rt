@@ -32,6 +32,16 @@ pub(crate) fn blend(mask: u64, a: &[u32; 64], b: &[u32; 64], out: &mut [u32; 64]
     }
 }
 
+// Makes the lanes 0 where the mask is not true, which it mostly is in all lanes.
+#[inline(never)]
+fn keep_some(mask: u64, lanes: &mut [u32; 64])
+    ensures { (i : ℕ) → i < 64 → bits_lane lanes.new i
+        ≡ (if on mask i then bits_lane lanes.old i else pos 0) }
+{
+    let all = *lanes;
+    blend(mask, &all, &[0; 64], lanes);
+}
+
 // Makes the lanes 0 where the mask is not true.
 pub(crate) fn keep(mask: u64, lanes: &mut [u32; 64])
     ensures { (i : ℕ) → i < 64 → bits_lane lanes.new i
@@ -40,8 +50,7 @@ pub(crate) fn keep(mask: u64, lanes: &mut [u32; 64])
     if mask == u64::MAX {
         return;
     }
-    let all = *lanes;
-    blend(mask, &all, &[0; 64], lanes);
+    keep_some(mask, lanes);
 }
 
 /// A sum or a difference.

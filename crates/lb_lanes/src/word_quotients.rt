@@ -83,13 +83,14 @@ fn settled<K: FromQuotient>(x: u32, y: u32, guess: u32) -> (u32, u32)
 }
 
 /// Puts the 64 lanes after the division into `out`, or 0 where one is in doubt, and words that are
-/// 0 just where none is.
+/// 0 just where none is. Gives the union of these.
 pub(crate) fn divide_small<K: FromQuotient>(
     a: &[u32; 64],
     b: &[u32; 64],
     out: &mut [u32; 64],
     doubts: &mut [u32; 64],
-)
+) -> u32
+    ensures sure { result ≡ 0 → (i : ℕ) → i < 64 → slice_index doubts.new i ≡ 0 }
     ensures divisible { (i : ℕ) → i < 64 → (slice_index doubts.new i == 0) ≡ true
         → can_divide (bits_lane a.now i) (bits_lane b.now i) ≡ true }
     ensures values { (i : ℕ) → i < 64 → bits_lane out.new i
@@ -97,9 +98,12 @@ pub(crate) fn divide_small<K: FromQuotient>(
         then K.divided (bits_lane a.now i) (bits_lane b.now i) else pos 0) }
 {
     guess_all(a, b, out);
+    let mut union = 0u32;
     for i in 0..64usize {
         let (value, doubt) = settled::<K>(a[i], b[i], out[i]);
+        union |= doubt;
         doubts[i] = doubt;
         out[i] = value;
     }
+    union
 }

@@ -5,6 +5,7 @@ use lib.Bits.{bit_and}
 use Rattle.lb_lanes.specs.Kernels.{bits_lane}
 use Rattle.lb_lanes.specs.Operators.{can_divide}
 use Rattle.lb_lanes.specs.Planes.{on}
+use Rattle.lb_lanes.proofs.LaneCases.{kept_common, faulty_common}
 use Rattle.lb_lanes.proofs.OnPlanes.{on-and, on-flip, on-zero, flip}
 use Rattle.lb_lanes.proofs.SmallQuotients.{kept_guess, faulty_guess}
 use Rattle.lb_lanes.proofs.WordArithmetic.{word_zero_is, zero_word_at}
@@ -40,7 +41,7 @@ returns-then-others-eq0 g c =
     ∙ ap (λ n. on n i) c.if-others-eq0.true ∙ on-zero i in
     record {
       values = λ i h.
-          c.keep.ensures i h
+          c.keep-then-others-eq0.ensures i h
           ∙ kept_guess f (live i) (on sure i) (on zero i) (a i) (b i)
           (bits_lane c.divide_small.new.out i) (can i h)
           (c.divide_small.ensures.values i h
@@ -50,4 +51,28 @@ returns-then-others-eq0 g c =
           open_at i h
           ∙ faulty_guess f (live i) (on sure i) (on zero i) (a i) (b i) (can i h)
           (no_divisor i h) (no_other i h);
+    }
+
+pub returns-then-divide_small-eq0 : goal.returns-then-divide_small-eq0
+returns-then-divide_small-eq0 g c =
+    let live = λ (i : ℕ). on c.args.active i in
+    let doubts = c.divide_small.new.doubts in
+    let a = λ (i : ℕ). bits_lane c.args.a.now i in
+    let b = λ (i : ℕ). bits_lane c.args.b.now i in
+    let f : ℤ → ℤ → ℤ = g.K.Division.divided in
+    let none : (i : ℕ) → i < 64 → (get_or doubts i 0 == 0) ≡ true
+    = λ i h. ap (λ n. n == 0)
+    (c.divide_small.ensures.sure c.if-divide_small-eq0.true i h) in
+    let can : (i : ℕ) → i < 64 → can_divide (a i) (b i) ≡ true
+    = λ i h. c.divide_small.ensures.divisible i h (none i h) in
+    record {
+      values = λ i h.
+          c.keep.ensures i h
+          ∙ kept_common f (live i) (a i) (b i) (bits_lane c.divide_small.new.out i)
+          (λ e. (
+            c.divide_small.ensures.values i h
+                ∙ ap (λ t. cond t (f (a i) (b i)) (pos 0)) (none i h),
+            can i h,
+          ));
+      fault_bits = λ i h. on-zero i ∙ faulty_common f (live i) (a i) (b i) (λ e. can i h);
     }

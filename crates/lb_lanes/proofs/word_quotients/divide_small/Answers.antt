@@ -1,12 +1,14 @@
 use Rattle.std.proofs.Common.{◌≡◌, ◌≢◌, ℕ, ◌==◌, ap, ◌∙◌, sym, arith, cond, pos, true}
 use Rattle.std.proofs.Common.{not-suc-le-zero, below_more, set, get_or, w32, to_z}
 use Rattle.std.proofs.lemmas.List.{get_or-set_same, get_or-set_other}
+use Rattle.std.proofs.lemmas.Nat.{le_or_l, le_or_r}
 use Rattle.lb_lanes.specs.Kernels.{bits_lane}
 use Rattle.lb_lanes.specs.Operators.{can_divide}
 use Rattle.lb_lanes.proofs.word_quotients.divide_small.Goals as goal
 
 pub loop-i-init : goal.loop-i-init
 loop-i-init g c = record {
+  sure = λ none i h. absurd (not-suc-le-zero h);
   divisible = λ i h. absurd (not-suc-le-zero h);
   values = λ i h. absurd (not-suc-le-zero h);
 }
@@ -22,6 +24,14 @@ loop-i-preserved g c =
     let b = λ (k : ℕ). bits_lane c.args.b.now k in
     let exact = λ (k : ℕ). g.K.Division.divided (a k) (b k) in
     record {
+      sure = λ none.
+          let before : c.loop-i.union ≡ 0
+          = omega (arith, none, le_or_l c.loop-i.union u) in
+          let seen : u ≡ 0 = omega (arith, none, le_or_r c.loop-i.union u) in
+          below_more (λ k. get_or (set doubts i u) k 0 ≡ 0) i
+          (λ k l. let ne : k ≢ i = omega arith in
+          get_or-set_other doubts i k u 0 ne ∙ c.loop-i.invariant.sure before k l)
+          (get_or-set_same doubts i u 0 (omega arith) ∙ seen);
       divisible = below_more
           (λ k. (get_or (set doubts i u) k 0 == 0) ≡ true → can_divide (a k) (b k) ≡ true) i
           (λ k l e. let ne : k ≢ i = omega arith in
@@ -47,3 +57,6 @@ returns-clause-divisible g c i h = c.loop-i.invariant.divisible i (omega arith)
 
 pub returns-clause-values : goal.returns-clause-values
 returns-clause-values g c i h = c.loop-i.invariant.values i (omega arith)
+
+pub returns-clause-sure : goal.returns-clause-sure
+returns-clause-sure g c none i h = c.loop-i.invariant.sure none i (omega arith)
