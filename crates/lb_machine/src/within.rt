@@ -13,7 +13,7 @@ ghost use Rattle.lb_machine.specs.Within.{AreUnder};
 
 use crate::code::Code;
 use crate::instruction::{EVERYWHERE, Instruction, PlaneId};
-use crate::instructions::Choice;
+use crate::instructions::{Block, Choice};
 
 // Whether the plane of a number is marked.
 fn is_marked(marked: &[bool], p: usize) -> bool
@@ -77,7 +77,38 @@ fn mark_choices(outer: &[bool], inner: &mut [bool], first: u32, choices: &[Choic
     }
 }
 
+// Whether a choice writes a plane within which another one is.
+fn joins(c: Choice, inner: PlaneId) -> bool
+    ensures { result ≡ true → (s : Lane) (out : ℕ) → HasConstants s → IsDone s (select_at out c)
+        → s.bits inner.0 ≡ true → s.bits out ≡ true }
+{
+    c.a.0 == EVERYWHERE.0 && (c.mask.0 == inner.0 || c.b.0 == inner.0)
+}
+
+// Whether a plane is within one that is written by a choice of a block.
+fn is_joined(block: &Block, inner: PlaneId, outer: PlaneId) -> bool
+    ensures { result ≡ true → (s : Lane) → HasConstants s
+        → AllByRecursion (IsDone s) (selects_from block.now.first block.now.choices.items)
+        → s.bits inner.0 ≡ true → s.bits outer.0 ≡ true }
+{
+    if outer.0 < block.first {
+        return false;
+    }
+    let at = (outer.0 - block.first) as usize;
+    at < block.choices.len() && joins(block.choices[at], inner)
+}
+
 impl Code {
+    /// Whether a plane is within another one, if the last block tells: that one is written by a
+    /// choice before the last instruction of another kind.
+    pub fn is_within(&self, inner: PlaneId, outer: PlaneId) -> bool
+        ensures { result ≡ true → (s : Lane) → HasRun (listed self.now.instructions) s
+            → s.bits inner.0 ≡ true → s.bits outer.0 ≡ true }
+    {
+        let count = self.instructions.blocks.len();
+        count > 0 && is_joined(&self.instructions.blocks[count - 1], inner, outer)
+    }
+
     /// Marks planes that are within one of those that are marked in one list or the other: the
     /// faults of operands, and what is joined by `or`.
     pub fn mark_within(&self, outer: &[bool], inner: &mut [bool])

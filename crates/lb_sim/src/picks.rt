@@ -4,7 +4,8 @@ ghost use Rattle.std.specs.Prelude.{◌≡◌, ◌<◌, ◌&&◌, false, IfOk, O
 ghost use Rattle.lb_check.specs.Scalars.{chosen};
 ghost use Rattle.lb_check.specs.Streams.{shows};
 ghost use Rattle.lb_machine.specs.Correct.{AddsAtMost, HasRoom, IsGrown, IsPlaneFor};
-ghost use Rattle.lb_machine.specs.Meaning.{Lane};
+ghost use Rattle.lb_machine.specs.Listed.{listed};
+ghost use Rattle.lb_machine.specs.Meaning.{Lane, HasRun};
 ghost use Rattle.lb_machine.specs.declared.code.Code.{Code};
 ghost use Rattle.lb_sim.specs.Holdings.{IsFor, IsIn, IsPlaceIn, IsValueFor, IsValueIn};
 ghost use Rattle.lb_sim.specs.Showing.{cell_at, kind_of, scalar_at, value_at, value_kind};
@@ -60,14 +61,14 @@ pub(crate) fn pick(
     Ok(Holding { value, nil, bad })
 }
 
-// A holding without the faults of another plane, where they are just those.
-fn without_faults(h: Holding, bad: PlaneId) -> Holding
+// A holding without the faults of another plane, where they are within those.
+fn without_faults(code: &Code, h: Holding, bad: PlaneId) -> Holding
     ensures kind { kind_of result ≡ kind_of h }
     ensures within { (code : Code) → IsIn code h → IsIn code result }
-    ensures same { (s : Lane) → s.bits 0 ≡ false → s.bits bad.0 ≡ false
-        → scalar_at s result ≡ scalar_at s h }
+    ensures same { (s : Lane) → HasRun (listed code.now.instructions) s
+        → s.bits bad.0 ≡ false → scalar_at s result ≡ scalar_at s h }
 {
-    if h.bad.0 != bad.0 {
+    if h.bad.0 != bad.0 && !code.is_within(h.bad, bad) {
         return h;
     }
     Holding {
@@ -135,8 +136,8 @@ pub(crate) fn choose(
         IsFor code.new (kind_of a)
         (λ s. chosen (scalar_at s condition) (scalar_at s a) (scalar_at s b)) h) }
 {
-    let left = without_faults(a, condition.bad);
-    let right = without_faults(b, condition.bad);
+    let left = without_faults(code, a, condition.bad);
+    let right = without_faults(code, b, condition.bad);
     let chosen = choose_any(code, condition, left, right)?;
     Ok(chosen)
 }

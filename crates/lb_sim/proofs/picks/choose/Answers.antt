@@ -16,6 +16,6 @@ returns-clause-holding c kinds =
           ∙ chosen_within (s.bits c.args.condition.bad.0) (s.bits c.args.condition.nil.0)
           (value_at s c.args.condition.value) (scalar_at s c.args.a) (scalar_at s c.args.b)
           (scalar_at s left.result) (scalar_at s right.result)
-          (λ e. left.ensures.same s r.constants.nowhere e)
-          (λ e. right.ensures.same s r.constants.nowhere e);
+          (λ e. left.ensures.same s (c.in_ok-chosen.ensures.grown.runs s r) e)
+          (λ e. right.ensures.same s (c.in_ok-chosen.ensures.grown.runs s r) e);
     }
