@@ -25,8 +25,8 @@ use Rattle.lb_static.specs.declared.resolved.ResolvedStatement.{ResolvedStatemen
 use Rattle.lb_static.specs.declared.resolved.ResolvedStatement.TheVariants.{Equation, Assertion}
 use Rattle.lb_static.proofs.Faults.{fault_within}
 use Rattle.lb_static.proofs.Growth.{same_on, all_on, both_on, same_two}
-use Rattle.lb_static.proofs.Resolutions.{expr_grown, within_grown, unhidden_grown, flat_more}
-use Rattle.lb_static.proofs.Resolutions.{grown_twice, one_fails}
+use Rattle.lb_static.proofs.GrownNodes.{expr_grown, grown_twice, unhidden_grown, within_grown}
+use Rattle.lb_static.proofs.Resolutions.{flat_more, one_fails}
 
 module _ (s : Progress) (P : List Part) (C : List Site) where
   still : (statement : ResolvedStatement)

@@ -6,7 +6,7 @@ use Rattle.std.specs.Prelude.{◌&&◌, flat_map, is_some}
 use Rattle.std.specs.List.{list_all}
 use Rattle.std.proofs.lemmas.List.{map-append}
 use Rattle.std.proofs.lemmas.List.Folds.{list_all-append}
-use Rattle.lb_syntax.specs.Grammar.{Group, declarations, declared}
+use Rattle.lb_syntax.specs.Grammar.{Group, declared}
 use Rattle.lb_syntax.specs.SourceView.{view_group, view_groups, view_node}
 use Rattle.lb_syntax.specs.Tree.{Name}
 use Rattle.lb_syntax.specs.declared.tree.Declarations.{Declarations}
