@@ -1,6 +1,6 @@
 -- The found elements of an expression come from the elements of the variables that it needs,
 -- element by element, or are left by what its clock reads.
-use Rattle.std.proofs.Common.{◌≡◌, inl, inr, ℕ, suc, ◌+◌, ◌-◌, ◌*◌, ◌<◌, true, false, pos, Option}
+use Rattle.std.proofs.Common.{◌≡◌, ℕ, suc, ◌+◌, ◌-◌, ◌*◌, ◌<◌, true, false, pos, Option}
 use Rattle.std.proofs.Common.{Some, None, List, [], ◌∷◌, ◌++◌, map, length, flat_map, refl, sym, ap}
 use Rattle.std.proofs.Common.{◌∙◌, subst, arith}
 use Rattle.std.specs.List.{list_all}
@@ -51,12 +51,11 @@ use Rattle.lb_flat.proofs.LinkSymbols.{iterated_pairs, keep_found, keep_equation
 use Rattle.lb_flat.proofs.LinkSymbols.{symbol_out, red_out, signed_wider, map_linked, map_before}
 use Rattle.lb_flat.proofs.LinkSymbols.{red_before, red_linked}
 use Rattle.lb_flat.proofs.LinkWords.{Pairs, pairs-append, pairs-take, pairs-drop, pairs-copies}
-use Rattle.lb_flat.proofs.LinkWords.{pairs-joined, Has, AllMeet, AreLinks, Link, New, Waits, Gives}
+use Rattle.lb_flat.proofs.LinkWords.{pairs-joined, AllMeet, AreLinks, Link, New, Waits, Gives}
 use Rattle.lb_flat.proofs.LinkWords.{step, all_links, variable_links, added, each_one, each_two}
 use Rattle.lb_flat.proofs.LinkWords.{each_choice, each_first, memories, each_memory, each_constant}
 use Rattle.lb_flat.proofs.LinkWords.{each_latest, each_sample, pushed, chained_gives, nor_gives}
-use Rattle.lb_flat.proofs.LinkWords.{at_most_one_gives}
-use Rattle.lb_flat.proofs.SomeLists.{SomeOf}
+use Rattle.lb_flat.proofs.LinkWords.{at_most_one_gives, passed}
 
 module _ (Y : Layout) (P : Program) (H : History)
     (same : (p : Path) (x : Name) → length (Y.places p x) ≡ length (H.columns p x))
@@ -137,37 +136,7 @@ module _ (Y : Layout) (P : Program) (H : History)
   pub awaited :
       (k l : Clock) → IsAwaited l →
       Waits IsAt Under Left (flat k) (flat l) (waits_for P here l)
-  awaited k l w = record {
-    there = λ t u. from (waits_for P here l) w.each t u;
-    back = λ g. to (clock_reads (flat l)) w.back g;
-  }
-    where
-      at : (t i : ℕ) (is : List ℕ) → Every (Under t) is → In i is → Under t i
-      at t i [] u j = absurd j
-      at t i (x ∷ is) u (inl e) = subst (Under t) e u.0
-      at t i (x ∷ is) u (inr j) = at t i is u.1 j
-
-      from :
-          (ys : List Element) →
-          Every (λ y. (i : ℕ) × In i (clock_reads (flat l)) × IsAt y i) ys → (t : ℕ) →
-          Every (Under t) (clock_reads (flat l)) → Every (Has IsAt Under Left (Under t)) ys
-      from [] h t u = tt
-      from (y ∷ ys) h t u =
-          ((h.0.0, h.0.2, at t h.0.0 (clock_reads (flat l)) u h.0.1), from ys h.1 t u)
-
-      among : (y : Element) (ys : List Element) → In y ys → Has IsAt Under Left Left y →
-          SomeOf (Has IsAt Under Left Left) ys
-      among y [] j g = absurd j
-      among y (z ∷ ys) (inl e) g = inl (subst (Has IsAt Under Left Left) (sym e) g)
-      among y (z ∷ ys) (inr j) g = inr (among y ys j g)
-
-      to :
-          (is : List ℕ) →
-          Every (λ i. (y : Element) × In y (waits_for P here l) × IsAt y i) is →
-          SomeOf Left is → SomeOf (Has IsAt Under Left Left) (waits_for P here l)
-      to [] h g = absurd g
-      to (i ∷ is) h (inl g) = among h.0.0 (waits_for P here l) h.0.1 (i, h.0.2, g)
-      to (i ∷ is) h (inr g) = to is h.1 g
+  awaited k l w = passed IsAt Under Left (flat k) (flat l) (waits_for P here l) w.each w.back
 
   -- ## Names and calls
 

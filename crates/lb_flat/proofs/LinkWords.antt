@@ -1,11 +1,11 @@
 -- What the found elements of an expression come from, along the equations that the small words of
 -- expansion emit on a clock: the elements of variables that each needs.
 use Rattle.std.proofs.Common.{◌≡◌, ◌⊎◌, inl, inr, ℕ, zero, suc, false, List, [], ◌∷◌, ◌++◌, map}
-use Rattle.std.proofs.Common.{length, take, drop, flat_map, refl, ap, subst, arith}
+use Rattle.std.proofs.Common.{length, take, drop, flat_map, refl, sym, ap, subst, arith}
 use Rattle.lb_syntax.specs.declared.tree.UnaryOperator.TheVariants.{Not}
 use Rattle.lb_syntax.specs.declared.tree.BinaryOperator.{BinaryOperator}
 use Rattle.lb_syntax.specs.declared.tree.BinaryOperator.TheVariants.{Or, And}
-use Rattle.lb_syntax.specs.Lists.{Every, zip2, heads, copies, joined}
+use Rattle.lb_syntax.specs.Lists.{Every, In, zip2, heads, copies, joined}
 use Rattle.lb_check.specs.Scalars.{Boolean}
 use Rattle.lb_check.specs.Needs.{Element, both, itself}
 use Rattle.lb_flat.specs.Flat.{FlatClock, Operation, Constant, ApplyUnary, ApplyBinary, Choose}
@@ -376,6 +376,41 @@ module _ (IsAt : Element → ℕ → Type 0) (Under : ℕ → ℕ → Type 0) (L
     pub record Waits (l : FlatClock) (ps : List Element) : Type 0 where
       pub there : (t : ℕ) → Every (Under t) (clock_reads l) → Every (Has (Under t)) ps
       pub back : SomeOf Left (clock_reads l) → SomeOf (Has Left) ps
+
+    -- where each of the variables has an element that the clock reads, and each of those has one of
+    -- them
+    pub passed :
+        (l : FlatClock) (ps : List Element) →
+        Every (λ y. (i : ℕ) × In i (clock_reads l) × IsAt y i) ps →
+        Every (λ i. (y : Element) × In y ps × IsAt y i) (clock_reads l) → Waits l ps
+    passed l ps each wanted = record {
+      there = λ t u. from ps each t u;
+      back = λ g. to (clock_reads l) wanted g;
+    }
+      where
+        at : (t i : ℕ) (is : List ℕ) → Every (Under t) is → In i is → Under t i
+        at t i [] u j = absurd j
+        at t i (x ∷ is) u (inl e) = subst (Under t) e u.0
+        at t i (x ∷ is) u (inr j) = at t i is u.1 j
+
+        from :
+            (ys : List Element) → Every (λ y. (i : ℕ) × In i (clock_reads l) × IsAt y i) ys →
+            (t : ℕ) → Every (Under t) (clock_reads l) → Every (Has (Under t)) ys
+        from [] h t u = tt
+        from (y ∷ ys) h t u =
+            ((h.0.0, h.0.2, at t h.0.0 (clock_reads l) u h.0.1), from ys h.1 t u)
+
+        among : (y : Element) (ys : List Element) → In y ys → Has Left y → SomeOf (Has Left) ys
+        among y [] j g = absurd j
+        among y (z ∷ ys) (inl e) g = inl (subst (Has Left) (sym e) g)
+        among y (z ∷ ys) (inr j) g = inr (among y ys j g)
+
+        to :
+            (is : List ℕ) → Every (λ i. (y : Element) × In y ps × IsAt y i) is → SomeOf Left is →
+            SomeOf (Has Left) ps
+        to [] h g = absurd g
+        to (i ∷ is) h (inl g) = among h.0.0 ps h.0.1 (i, h.0.2, g)
+        to (i ∷ is) h (inr g) = to is h.1 g
 
     -- `current`: an operand on its clock, whose variables are needed as well
     pub each_latest :

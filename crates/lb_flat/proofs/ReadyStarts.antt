@@ -1,8 +1,8 @@
 -- What a program that is small starts can be entered and counted: the elements of its inputs, its
 -- inputs and outputs, and all elements of the program, of which there is one at least.
-use Rattle.std.proofs.Common.{◌≡◌, ◌<◌, ◌≤◌, inl, inr, ℕ, ◌+◌, ◌*◌, Bool, true, Some, None}
-use Rattle.std.proofs.Common.{Option, List, [], ◌∷◌, ◌++◌, length, flat_map, ap, ap₂, sym, ◌∙◌}
-use Rattle.std.proofs.Common.{map, option_map, subst, refl, arith}
+use Rattle.std.proofs.Common.{◌≡◌, ◌<◌, ◌≤◌, inl, inr, ℕ, ◌+◌, ◌*◌, Bool, true, Some, None, Option}
+use Rattle.std.proofs.Common.{List, [], ◌∷◌, ◌++◌, length, flat_map, ap, ap₂, sym, ◌∙◌, subst, refl}
+use Rattle.std.proofs.Common.{arith}
 use Rattle.std.specs.Prelude.{◌^◌, sum_by}
 use Rattle.std.specs.List.{range_with_len}
 use Rattle.std.specs.Option.{ForSome}
@@ -13,11 +13,10 @@ use Rattle.std.proofs.lemmas.List.Sums.{sum_by-append, sum_by-cons}
 use Rattle.std.proofs.lemmas.Option.{same_Some}
 use Rattle.std.proofs.lemmas.Bool.{leb-true}
 use Rattle.lb_syntax.specs.declared.tree.Kind.{Kind}
-use Rattle.lb_syntax.specs.Lists.{Every, In, either_or, listed}
-use Rattle.lb_syntax.specs.Tree.{Declaration, Name, Node}
+use Rattle.lb_syntax.specs.Lists.{Every, In, listed}
+use Rattle.lb_syntax.specs.Tree.{Declaration, Node}
 use Rattle.lb_syntax.proofs.ListPlaces.{item_at}
-use Rattle.lb_static.specs.DataTypes.{DataType, element_count, element_names, input_kinds}
-use Rattle.lb_static.specs.DataTypes.{scalar_elements, signature, variable_type, width}
+use Rattle.lb_static.specs.DataTypes.{input_kinds, scalar_elements, signature, width}
 use Rattle.lb_static.specs.Instances.{Program, Instance, Root, instances, instance_at}
 use Rattle.lb_static.specs.Instantiation.{static_refusal}
 use Rattle.lb_static.specs.InstanceTable.{IsTable}
@@ -26,7 +25,6 @@ use Rattle.lb_static.specs.ResolvedNodes.{node_of}
 use Rattle.lb_static.specs.declared.reach.Reached.{Reached}
 use Rattle.lb_static.specs.declared.table.Instance as row
 use Rattle.lb_static.specs.declared.table.Table.{Table}
-use Rattle.lb_static.proofs.ElementNames.{length-element_names}
 use Rattle.lb_static.proofs.Members.{in_at}
 use Rattle.lb_check.specs.Acceptance.{check_refusal}
 use Rattle.lb_check.specs.Clocks.{declared_clock}
@@ -57,6 +55,7 @@ use Rattle.lb_flat.proofs.PropertyOutput.{output_width, property_of}
 use Rattle.lb_flat.proofs.ReadyRows.{kept_few}
 use Rattle.lb_flat.proofs.RowContexts.{own_resolved}
 use Rattle.lb_flat.proofs.RowInstances.{IsRow, row_of}
+use Rattle.lb_flat.proofs.RootWidths.{scalars_count}
 use Rattle.lb_flat.proofs.RowKinds.{table_kinds_are}
 use Rattle.lb_flat.proofs.SmallTerms.{in_sum}
 use Rattle.lb_flat.proofs.TableProgram.{has}
@@ -90,19 +89,13 @@ inputs_few P here there small =
     omega (arith, part, own, all)
 
 -- and so has its signature
-scalars_one : (x : Name) (o : Option DataType) →
-    length {A = Name × Kind} (listed (λ t. map (λ y. (y, t.kind)) (element_names x t.sizes)) o)
-    ≡ either_or (option_map element_count o) 0
-scalars_one x None = refl
-scalars_one x (Some t) = length-map (element_names x t.sizes) _ ∙ length-element_names x t.sizes
-
 scalars_long :
     (P : Program) (here : Instance) (ds : List Declaration) →
     length (flat_map (scalar_elements P here) ds) ≡ sum_by (width P here) ds
 scalars_long P here [] = refl
 scalars_long P here (d ∷ ds) =
     length-append (scalar_elements P here d) (flat_map (scalar_elements P here) ds)
-    ∙ (ap₂ (λ a b. a + b) (scalars_one d.name (variable_type P here d)) (scalars_long P here ds)
+    ∙ (ap₂ (λ a b. a + b) (scalars_count P here d) (scalars_long P here ds)
     ∙ sym (sum_by-cons (width P here) d ds))
 
 pub signature_few :

@@ -23,7 +23,8 @@ elements_count :
 elements_count x None = refl
 elements_count x (Some t) = length-map (element_names x t.sizes) _ ∙ length-element_names x t.sizes
 
-scalars_count :
+-- a declaration has as many scalars as elements
+pub scalars_count :
     (P : Program) (here : Instance) (d : Declaration) →
     length (scalar_elements P here d) ≡ width P here d
 scalars_count P here d = elements_count d.name (variable_type P here d)
