@@ -8,7 +8,7 @@ use Rattle.lb_flat.specs.Traces.{Recording}
 use Rattle.lb_lanes.specs.Kernels.{lane_of}
 use Rattle.lb_lanes.specs.Planes.{on}
 use Rattle.lb_sim.specs.InputRows.{member_cell}
-use Rattle.lb_sim.specs.Loads.{AreAhead}
+use Rattle.lb_sim.specs.Loads.{AreAhead, AreLoadedAhead}
 use Rattle.lb_sim.proofs.LaneBits.{same_number, no_number}
 
 -- ## A lane of a word that is set
@@ -111,94 +111,152 @@ module _ (row : List ℤ) (lane d : ℕ) (places : List ℕ) (old : List (List �
           other_lane new (64 * n + d) (64 * k + e) lane i v word inside ne (is i li)
           ∙ h.others k e i le li (inr ne)
 
--- ## The instants of a member
+-- ## Four lanes of the words of an instant
 
-module _ (r : Recording) (members : List ℕ) (first : ℕ) (columns places : List ℕ) where
-  abbrev cell : ℕ → ℕ → ℕ → ℤ
-  cell i d k = member_cell r members (first + d) i (get_or columns (get_or places k 0) 0)
-
-  pub record MemberAhead (lane : ℕ) (old new : List (List ℤ)) (n : ℕ) : Type 0 where
+module _ (first d : ℕ) (value : ℕ → ℕ → ℤ) (places : List ℕ) (old : List (List ℤ)) where
+  pub record FourAhead (new : List (List ℤ)) (n : ℕ) : Type 0 where
     pub as_long : length new ≡ length old
     pub put :
-        (d : ℕ) → d < n → (k : ℕ) → k < length places →
-        lane_of (get_or new (64 * k + d) []) lane ≡ cell lane d k
+        (k i : ℕ) → k < n → first ≤ i → i < first + 4 →
+        lane_of (get_or new (64 * k + d) []) i ≡ value i (get_or places k 0)
     pub others :
-        (k e i : ℕ) → e < 64 → i < 64 → i ≢ lane →
+        (k e i : ℕ) → e < 64 → i < 64 → (e ≢ d) ⊎ ((i < first) ⊎ (first + 4 ≤ i)) →
         lane_of (get_or new (64 * k + e) []) i ≡ lane_of (get_or old (64 * k + e) []) i
 
-  pub member_none : (lane : ℕ) (old : List (List ℤ)) → MemberAhead lane old old 0
-  member_none lane old = record {
+  pub four_none : FourAhead old 0
+  four_none = record {
     as_long = refl;
-    put = λ d h. absurd (omega (arith, h));
-    others = λ k e i le li ne. refl;
+    put = λ k i h. absurd (omega (arith, h));
+    others = λ k e i le li o. refl;
+  }
+
+  -- one place more
+  pub four_more :
+      (new : List (List ℤ)) (n : ℕ) (word : List ℤ) → FourAhead new n → n < length places →
+      64 * length places ≤ length old → d < 64 →
+      ((i : ℕ) → first ≤ i → i < first + 4 → lane_of word i ≡ value i (get_or places n 0)) →
+      ((i : ℕ) → i < 64 → (i < first) ⊎ (first + 4 ≤ i) →
+      lane_of word i ≡ lane_of (get_or new (64 * n + d) []) i) →
+      FourAhead (set new (64 * n + d) word) (n + 1)
+  four_more new n word h lt enough ld are kept =
+      let inside : 64 * n + d < length new = omega (arith, h.as_long, enough, lt, ld) in
+      record {
+        as_long = length-set new (64 * n + d) word ∙ h.as_long;
+        put = λ k i lk ge li.
+            below_more
+            (λ m. lane_of (get_or (set new (64 * n + d) word) (64 * m + d) []) i
+            ≡ value i (get_or places m 0)) n
+            (λ m lm.
+            let ne : (64 * m + d) ≢ (64 * n + d) = λ e. absurd (omega (arith, lm, e)) in
+            ap (λ x. lane_of x i) (get_or-set_other new (64 * n + d) (64 * m + d) word [] ne)
+            ∙ h.put m i lm ge li)
+            (ap (λ x. lane_of x i) (get_or-set_same new (64 * n + d) word [] inside)
+            ∙ are i ge li)
+            k lk;
+        others = λ k e i le li o.
+            by k e i le li inside o (same_or_other (64 * k + e) (64 * n + d));
+      }
+    where
+      by :
+          (k e i : ℕ) → e < 64 → i < 64 → 64 * n + d < length new →
+          (e ≢ d) ⊎ ((i < first) ⊎ (first + 4 ≤ i)) →
+          ((64 * k + e) ≡ (64 * n + d)) ⊎ ((64 * k + e) ≢ (64 * n + d)) →
+          lane_of (get_or (set new (64 * n + d) word) (64 * k + e) []) i
+          ≡ lane_of (get_or old (64 * k + e) []) i
+      by k e i le li inside o (inr ne) =
+          ap (λ x. lane_of x i) (get_or-set_other new (64 * n + d) (64 * k + e) word [] ne)
+          ∙ h.others k e i le li o
+      by k e i le li inside (inl ne) (inl same) =
+          absurd (apart [] 0 d places old k e n le ld ne same)
+      by k e i le li inside (inr out) (inl same) =
+          ap (λ m. lane_of (get_or (set new (64 * n + d) word) m []) i) same
+          ∙ ap (λ x. lane_of x i) (get_or-set_same new (64 * n + d) word [] inside)
+          ∙ kept i li out
+          ∙ ap (λ m. lane_of (get_or new m []) i) (sym same)
+          ∙ h.others k e i le li (inr out)
+
+-- ## Instants of members
+
+module _ (r : Recording) (members : List ℕ) (t live : ℕ) (columns places : List ℕ) where
+  abbrev Filled : (count first end : ℕ) → (old new : List (List ℤ)) → Type 0
+  Filled count = AreLoadedAhead r members t count live columns places
+
+  pub filled_none : (count first : ℕ) (room : List (List ℤ)) → Filled count first first room room
+  filled_none count first room = record {
+    room = refl;
+    put = λ i d k ge lt. absurd (omega (arith, ge, lt));
+    others = λ k e i le li o. refl;
+  }
+
+  -- members, and then those behind them
+  pub filled_then :
+      (count a b c : ℕ) (x y z : List (List ℤ)) → a ≤ b → b ≤ c → c ≤ 64 → count ≤ 64 →
+      Filled count a b x y → Filled count b c y z → Filled count a c x z
+  filled_then count a b c x y z le le' few some h g = record {
+    room = g.room ∙ h.room;
+    put = λ i d k ge lt e ld lk. put i d k ge lt e ld lk (cases_lt i b);
+    others = λ k e i l li o. others k e i l li o;
+  }
+    where
+      put : (i d k : ℕ) → a ≤ i → i < c → on live i ≡ true → d < count → k < length places →
+          (i < b) ⊎ (b ≤ i) →
+          lane_of (get_or z (64 * k + d) []) i
+          ≡ member_cell r members (t + d) i (get_or columns (get_or places k 0) 0)
+      put i d k ge lt e ld lk (inl before) =
+          g.others k d i (omega (arith, ld, some)) (omega (arith, lt, few)) (inl before)
+          ∙ h.put i d k ge before e ld lk
+      put i d k ge lt e ld lk (inr behind) = g.put i d k behind lt e ld lk
+
+      others : (k e i : ℕ) → e < 64 → i < 64 → (i < a) ⊎ (c ≤ i) →
+          lane_of (get_or z (64 * k + e) []) i ≡ lane_of (get_or x (64 * k + e) []) i
+      others k e i l li (inl before) =
+          g.others k e i l li (inl (omega (arith, before, le)))
+          ∙ h.others k e i l li (inl before)
+      others k e i l li (inr behind) =
+          g.others k e i l li (inr behind)
+          ∙ h.others k e i l li (inr (omega (arith, behind, le')))
+
+  pub instants_none : (first end : ℕ) (room : List (List ℤ)) → Filled 0 first end room room
+  instants_none first end room = record {
+    room = refl;
+    put = λ i d k ge lt e ld. absurd (omega (arith, ld));
+    others = λ k e i le li o. refl;
   }
 
   -- one instant more
-  pub member_more :
-      (lane : ℕ) (old rows new : List (List ℤ)) (n : ℕ) → MemberAhead lane old rows n →
-      n < 64 → lane < 64 → length new ≡ length rows →
-      ((k : ℕ) → k < length places → lane_of (get_or new (64 * k + n) []) lane ≡ cell lane n k) →
-      ((k e i : ℕ) → e < 64 → i < 64 → (e ≢ n) ⊎ (i ≢ lane) →
+  pub instant_more :
+      (n first end : ℕ) (old rows new : List (List ℤ)) → Filled n first end old rows → n < 64 →
+      end ≤ 64 → length new ≡ length rows →
+      ((i k : ℕ) → first ≤ i → i < end → on live i ≡ true → k < length places →
+      lane_of (get_or new (64 * k + n) []) i
+      ≡ member_cell r members (t + n) i (get_or columns (get_or places k 0) 0)) →
+      ((k e i : ℕ) → e < 64 → i < 64 → (e ≢ n) ⊎ ((i < first) ⊎ (end ≤ i)) →
       lane_of (get_or new (64 * k + e) []) i ≡ lane_of (get_or rows (64 * k + e) []) i) →
-      MemberAhead lane old new (n + 1)
-  member_more lane old rows new n h ln ll long put others = record {
-    as_long = long ∙ h.as_long;
-    put =
+      Filled (n + 1) first end old new
+  instant_more n first end old rows new h ln few long put others = record {
+    room = long ∙ h.room;
+    put = λ i d k ge lt live_i ld lk.
         below_more
-        (λ d. (k : ℕ) → k < length places →
-        lane_of (get_or new (64 * k + d) []) lane ≡ cell lane d k) n
-        (λ d ld k lk.
-        let ne : d ≢ n = λ e. absurd (omega (arith, ld, e)) in
-        others k d lane (omega (arith, ld, ln)) ll (inl ne) ∙ h.put d ld k lk)
-        put;
-    others = λ k e i le li ne. others k e i le li (inr ne) ∙ h.others k e i le li ne;
+        (λ m. lane_of (get_or new (64 * k + m) []) i
+        ≡ member_cell r members (t + m) i (get_or columns (get_or places k 0) 0)) n
+        (λ m lm.
+        let ne : m ≢ n = λ e. absurd (omega (arith, lm, e)) in
+        others k m i (omega (arith, lm, ln)) (omega (arith, lt, few)) (inl ne)
+        ∙ h.put i m k ge lt live_i lm lk)
+        (put i k ge lt live_i lk)
+        d ld;
+    others = λ k e i le li o. others k e i le li (inr o) ∙ h.others k e i le li o;
   }
 
-  -- ## All members
-
-  module _ (live count : ℕ) where
-    pub record FilledAhead (old new : List (List ℤ)) (n : ℕ) : Type 0 where
-      pub as_long : length new ≡ length old
-      pub put :
-          (i : ℕ) → i < n → i < 64 → on live i ≡ true → (d k : ℕ) → d < count →
-          k < length places → lane_of (get_or new (64 * k + d) []) i ≡ cell i d k
-
-    pub filled_none : (old : List (List ℤ)) → FilledAhead old old 0
-    filled_none old = record {
-      as_long = refl;
-      put = λ i h. absurd (omega (arith, h));
-    }
-
-    -- one member more
-    pub filled_more :
-        (old rows new : List (List ℤ)) (n : ℕ) → FilledAhead old rows n → count ≤ 64 →
-        length new ≡ length rows →
-        (on live n ≡ true → (d k : ℕ) → d < count → k < length places →
-        lane_of (get_or new (64 * k + d) []) n ≡ cell n d k) →
-        ((k e i : ℕ) → e < 64 → i < 64 → i ≢ n →
-        lane_of (get_or new (64 * k + e) []) i ≡ lane_of (get_or rows (64 * k + e) []) i) →
-        FilledAhead old new (n + 1)
-    filled_more old rows new n h few long put others = record {
-      as_long = long ∙ h.as_long;
-      put =
-          below_more
-          (λ i. i < 64 → on live i ≡ true → (d k : ℕ) → d < count → k < length places →
-          lane_of (get_or new (64 * k + d) []) i ≡ cell i d k) n
-          (λ i li l e d k ld lk.
-          let ne : i ≢ n = λ f. absurd (omega (arith, li, f)) in
-          others k d i (omega (arith, ld, few)) l ne ∙ h.put i li l e d k ld lk)
-          (λ l e d k ld lk. put e d k ld lk);
-    }
-
-    -- each lane that is live is that of a member
-    pub all_filled :
-        (old new : List (List ℤ)) (n : ℕ) → FilledAhead old new n →
-        ((i : ℕ) → i < 64 → on live i ≡ true → i < n) →
-        AreAhead r members first (first + count) live columns places new
-    all_filled old new n h inside = record {
-      cells = λ i d k l e lt lk.
-          h.put i (inside i l e) l e d k (omega (arith, lt)) lk;
-    }
+  -- each lane that is live is that of a member
+  pub all_filled :
+      (count n : ℕ) (old new : List (List ℤ)) → Filled count 0 n old new →
+      ((i : ℕ) → i < 64 → on live i ≡ true → i < n) →
+      AreAhead r members t (t + count) live columns places new
+  all_filled count n old new h inside = record {
+    cells = λ i d k l e lt lk.
+        h.put i d k (omega arith) (inside i l e) e (omega (arith, lt)) lk;
+  }
 
 -- ## What is taken from there
 

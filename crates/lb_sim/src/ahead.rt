@@ -1,8 +1,8 @@
 //! The integers of some instants that follow one another, loaded together.
 //!
 //! The rows of a trace lie side by side in memory, and those of another trace elsewhere. So of each
-//! lane the rows of up to 64 instants are read in one go. Of its integers those are loaded that
-//! stand at some places, if there is room for so many.
+//! lane the rows of up to 64 instants are read in one go, those of four lanes at a time. Of its
+//! integers those are loaded that stand at some places, if there is room for so many.
 //!
 //! ```text
 //! room    place 0: instant 0, instant 1, ... instant 63; then place 1; each a word of 64 lanes
@@ -15,9 +15,10 @@ ghost use Rattle.lb_flat.specs.Packed.{number_columns};
 ghost use Rattle.lb_lanes.specs.Kernels.{lane_of};
 ghost use Rattle.lb_lanes.specs.Planes.{on};
 ghost use Rattle.lb_sim.specs.InputRows.{HaveInstant, member_cell};
-ghost use Rattle.lb_sim.specs.Loads.{AreAhead, AreAmong};
+ghost use Rattle.lb_sim.specs.Loads.{AreAhead, AreAmong, AreLoadedAhead};
 
-use crate::integer_loads::load_numbers;
+use crate::four_lanes::put_four_ahead;
+use crate::integer_loads::{are_live, load_numbers};
 use crate::loads::Instant;
 use lb_lanes::{LaneWord, Plane};
 
@@ -83,6 +84,22 @@ fn put_row(row: &[i32], lane: u32, d: usize, places: &[usize], room: &mut [LaneW
     }
 }
 
+// The integers of a member whose lane is live, so many instants later.
+fn row_of<'a>(at: &Stretch<'a, '_>, i: usize, d: usize) -> &'a [i32]
+    requires member { i < length at.now.at.members.now }
+    requires instant { at.now.at.t + d < at.now.until }
+    requires live { on at.now.at.live.0 i ≡ true }
+    ensures count { length result.now
+        ≡ length (number_columns 0 (kinds_of at.now.at.set.now.signature)) }
+    ensures numbers { (w : ℕ)
+        → w < length (number_columns 0 (kinds_of at.now.at.set.now.signature))
+        → get_or result.now w (pos 0)
+        ≡ member_cell at.now.at.set.now at.now.at.members.now (at.now.at.t + d) i
+        (get_or (number_columns 0 (kinds_of at.now.at.set.now.signature)) w 0) }
+{
+    at.at.set.numbers(at.at.members[i], at.at.t + d as u32)
+}
+
 // Puts the integers of so many instants of a member into its lane if that is live.
 fn put_member(at: &Stretch<'_, '_>, i: usize, count: usize, places: &[usize], room: &mut [LaneWord])
     requires member { i < length at.now.at.members.now }
@@ -91,22 +108,77 @@ fn put_member(at: &Stretch<'_, '_>, i: usize, count: usize, places: &[usize], ro
     requires room { 64 * length places.now ≤ length room.old }
     requires within { All (λ w. w < length (number_columns 0
         (kinds_of at.now.at.set.now.signature))) places.now }
-    ensures room { length room.new ≡ length room.old }
-    ensures put { on at.now.at.live.0 i ≡ true → (d k : ℕ) → d < count → k < length places.now
-        → lane_of (slice_index_or room.new (64 * k + d) []) i
-        ≡ member_cell at.now.at.set.now at.now.at.members.now (at.now.at.t + d) i
-        (get_or (number_columns 0 (kinds_of at.now.at.set.now.signature))
-        (slice_index places.now k) 0) }
-    ensures others { (k e j : ℕ) → e < 64 → j < 64 → j ≢ i
-        → lane_of (slice_index_or room.new (64 * k + e) []) j
-        ≡ lane_of (slice_index_or room.old (64 * k + e) []) j }
+    ensures { AreLoadedAhead at.now.at.set.now at.now.at.members.now at.now.at.t count
+        at.now.at.live.0 (number_columns 0 (kinds_of at.now.at.set.now.signature)) places.now
+        i (i + 1) room.old room.new }
 {
     if !at.at.live.get(i as u32) {
         return;
     }
     for d in 0..count {
-        let row = at.at.set.numbers(at.at.members[i], at.at.t + d as u32);
-        put_row(row, i as u32, d, places, room);
+        put_row(row_of(at, i, d), i as u32, d, places, room);
+    }
+}
+
+// Puts the integers of so many instants of the members from one on into the lanes that are live,
+// one by one.
+fn put_each(
+    at: &Stretch<'_, '_>,
+    first: usize,
+    end: usize,
+    count: usize,
+    places: &[usize],
+    room: &mut [LaneWord],
+)
+    requires order { first ≤ end }
+    requires members { end ≤ length at.now.at.members.now }
+    requires count { at.now.at.t + count ≤ at.now.until }
+    requires few { count ≤ 64 }
+    requires room { 64 * length places.now ≤ length room.old }
+    requires within { All (λ w. w < length (number_columns 0
+        (kinds_of at.now.at.set.now.signature))) places.now }
+    ensures { AreLoadedAhead at.now.at.set.now at.now.at.members.now at.now.at.t count
+        at.now.at.live.0 (number_columns 0 (kinds_of at.now.at.set.now.signature)) places.now
+        first end room.old room.new }
+{
+    for i in first..end {
+        put_member(at, i, count, places, room);
+    }
+}
+
+// Puts the integers of so many instants of four members into their lanes.
+fn put_four_members(
+    at: &Stretch<'_, '_>,
+    first: usize,
+    count: usize,
+    places: &[usize],
+    room: &mut [LaneWord],
+)
+    requires members { first + 4 ≤ length at.now.at.members.now }
+    requires count { at.now.at.t + count ≤ at.now.until }
+    requires few { count ≤ 64 }
+    requires room { 64 * length places.now ≤ length room.old }
+    requires within { All (λ w. w < length (number_columns 0
+        (kinds_of at.now.at.set.now.signature))) places.now }
+    ensures { AreLoadedAhead at.now.at.set.now at.now.at.members.now at.now.at.t count
+        at.now.at.live.0 (number_columns 0 (kinds_of at.now.at.set.now.signature)) places.now
+        first (first + 4) room.old room.new }
+{
+    if !are_live(&at.at, first as u32) {
+        put_each(at, first, first + 4, count, places, room);
+        return;
+    }
+    for d in 0..count {
+        put_four_ahead(
+            room,
+            d,
+            first as u32,
+            row_of(at, first, d),
+            row_of(at, first + 1, d),
+            row_of(at, first + 2, d),
+            row_of(at, first + 3, d),
+            places,
+        );
     }
 }
 
@@ -122,9 +194,12 @@ fn fill(at: &Stretch<'_, '_>, count: usize, places: &[usize], room: &mut [LaneWo
         (at.now.at.t + count) at.now.at.live.0
         (number_columns 0 (kinds_of at.now.at.set.now.signature)) places.now room.new }
 {
-    for i in 0..at.at.members.len() {
-        put_member(at, i, count, places, room);
+    let members = at.at.members.len();
+    let fours = members / 4;
+    for f in 0..fours {
+        put_four_members(at, 4 * f, count, places, room);
     }
+    put_each(at, 4 * fours, members, count, places, room);
 }
 
 // What is loaded, with the instant: as before, or from the instant on.

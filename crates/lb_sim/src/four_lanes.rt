@@ -7,8 +7,8 @@
 //! member 11  0 0 0
 //! ```
 
-ghost use Rattle.std.specs.Prelude.{◌≡◌, ℕ, ◌<◌, ◌≤◌, ◌+◌, ◌⊎◌, length, slice_index, [], All};
-ghost use Rattle.std.specs.Prelude.{slice_index_or};
+ghost use Rattle.std.specs.Prelude.{◌≡◌, ◌≢◌, ℕ, ◌<◌, ◌≤◌, ◌+◌, ◌*◌, ◌⊎◌, length, [], All};
+ghost use Rattle.std.specs.Prelude.{slice_index, slice_index_or};
 ghost use Rattle.lb_lanes.specs.Kernels.{lane_of};
 ghost use Rattle.lb_sim.specs.Loads.{four_at, one_of_four};
 
@@ -55,5 +55,39 @@ pub(crate) fn put_four(
     for k in 0..places.len() {
         let w = places[k];
         set_four(&mut words[w], first, a[w], b[w], c[w], d[w]);
+    }
+}
+
+/// Puts some integers of four rows, those at these places, into four lanes of the words of an
+/// instant, a lane for each row. For each place there are the words of 64 instants.
+pub(crate) fn put_four_ahead(
+    room: &mut [LaneWord],
+    instant: usize,
+    first: u32,
+    a: &[i32],
+    b: &[i32],
+    c: &[i32],
+    d: &[i32],
+    places: &[usize],
+)
+    requires instant { instant < 64 }
+    requires lanes { first + 4 ≤ 64 }
+    requires room { 64 * length places.now ≤ length room.old }
+    requires row_a { All (λ w. w < length a.now) places.now }
+    requires row_b { length b.now ≡ length a.now }
+    requires row_c { length c.now ≡ length a.now }
+    requires row_d { length d.now ≡ length a.now }
+    ensures room { length room.new ≡ length room.old }
+    ensures put { (k i : ℕ) → k < length places.now → first ≤ i → i < first + 4
+        → lane_of (slice_index_or room.new (64 * k + instant) []) i
+        ≡ four_at first a.now b.now c.now d.now (slice_index places.now k) i }
+    ensures others { (k e i : ℕ) → e < 64 → i < 64
+        → (e ≢ instant) ⊎ ((i < first) ⊎ (first + 4 ≤ i))
+        → lane_of (slice_index_or room.new (64 * k + e) []) i
+        ≡ lane_of (slice_index_or room.old (64 * k + e) []) i }
+{
+    for k in 0..places.len() {
+        let w = places[k];
+        set_four(&mut room[64 * k + instant], first, a[w], b[w], c[w], d[w]);
     }
 }

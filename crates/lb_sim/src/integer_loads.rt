@@ -69,8 +69,8 @@ fn put_each(
     }
 }
 
-// Whether four lanes are live, from one on.
-fn are_live(at: &Instant<'_, '_>, first: u32) -> bool
+/// Whether four lanes are live, from one on.
+pub(crate) fn are_live(at: &Instant<'_, '_>, first: u32) -> bool
     requires { first + 4 ≤ 64 }
     ensures { result ≡ true → (i : ℕ) → first ≤ i → i < first + 4 → on at.now.live.0 i ≡ true }
 {
