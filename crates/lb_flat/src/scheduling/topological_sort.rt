@@ -26,19 +26,14 @@ fn push_operands(stack: &mut Vec<ElementId>, operation: Operation) -> Result<(),
     }
 }
 
-// Pushes the elements that a clock reads.
+// Pushes the nearest element that a clock reads; the further ones are read by that one's own clock.
 fn push_clock(
     stack: &mut Vec<ElementId>,
     clocks: &[Clock],
     clock: Option<ClockId>,
 ) -> Result<(), AllocError> {
-    let mut rest = clock;
-    for _depth in 0..clocks.len() {
-        let Some(tick) = clock_at(clocks, rest) else {
-            return Ok(());
-        };
+    if let Some(tick) = clock_at(clocks, clock) {
         stack.push(tick.element)?;
-        rest = tick.parent;
     }
     Ok(())
 }
