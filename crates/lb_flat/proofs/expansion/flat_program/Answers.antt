@@ -67,33 +67,8 @@ emit_program-requires c =
       observer = e.start true;
     }
 
-pub returns-clause-expansion : goal.returns-clause-expansion
-returns-clause-expansion c =
-    let x = c.args.checked.now in
-    let l = c.args.layout.now in
-    let lawful = c.elab-elab.ensures.lawful in
-    let elab = c.elab-elab.ensures.value in
-    let all = c.in_ok-children.children in
-    let k = c.in_ok-clocks.clocks in
-    let f = c.in-Some.frame in
-    let laid = c.requires.layout in
-    let et = c.table-table.ensures.value ∙ ap (λ e. e.table) elab in
-    let er = c.reached.ensures.value ∙ ap (λ e. e.reached) elab in
-    let er2 = c.reached-2.ensures.value ∙ ap (λ e. e.reached) elab in
-    let kept : (j n i : ℕ) → called_row all.rows j n i ≡ child_row x.elab.table j n i =
-    λ j n i. c.in_ok-children.ensures j n i ∙ ap (λ (t : Table). child_row t j n i) et in
-    let at = c.in-Some.ensures in
-    let are = frame_emittable x l all k 0 f at c.reached-2.result.now er2 c.table-table.result.now
-    et c.in_ok-inputs.inputs.items (c.in_ok-inputs.ensures ∙ ap kinds_of c.signature.ensures.value)
-    c.in_ok-kinds.kinds.items (c.in_ok-kinds.ensures ∙ ap₂ table_kinds er et) l.count refl in
-    then_ok c.emit_program.result _ (λ p. IsExpansionOf (elaborated_program x.elab) (program_of p))
-    (λ p e.
-    framed_expansion x lawful l all k laid kept c.in_ok-clocks.ensures.table
-    c.in_ok-clocks.ensures.runs c.requires.small _ are (program_of p) e)
-    c.emit_program.ensures.program
-
-pub returns-clause-bounded : goal.returns-clause-bounded
-returns-clause-bounded c =
+pub returns : goal.returns
+returns c =
     let x = c.args.checked.now in
     let l = c.args.layout.now in
     let lawful = c.elab-elab.ensures.lawful in
@@ -114,8 +89,19 @@ returns-clause-bounded c =
     let e = framed_emit x lawful l all k laid kept c.in_ok-clocks.ensures.table
     c.in_ok-clocks.ensures.runs c.requires.small _ are in
     let same : c.extend_from_slice.new.self.items ≡ k.table.items = search rules in
-    both_ok c.emit_program.result _ _ IsBounded
-    (λ p is clocks.
-    emits_bounded _ e (all_clocks (sources_of x l)) (filled_whole x lawful l laid)
-    (filled_few x lawful l laid) p is (clocks ∙ (same ∙ c.in_ok-clocks.ensures.table)))
-    c.emit_program.ensures.program c.emit_program.ensures.clocks
+    record {
+      expansion =
+          then_ok c.emit_program.result _
+          (λ p. IsExpansionOf (elaborated_program x.elab) (program_of p))
+          (λ p is.
+          framed_expansion x lawful l all k laid kept c.in_ok-clocks.ensures.table
+          c.in_ok-clocks.ensures.runs c.requires.small _ are (program_of p) is)
+          c.emit_program.ensures.program;
+      in_range = c.emit_program.ensures.in_range;
+      bounded =
+          both_ok c.emit_program.result _ _ IsBounded
+          (λ p is clocks.
+          emits_bounded _ e (all_clocks (sources_of x l)) (filled_whole x lawful l laid)
+          (filled_few x lawful l laid) p is (clocks ∙ (same ∙ c.in_ok-clocks.ensures.table)))
+          c.emit_program.ensures.program c.emit_program.ensures.clocks;
+    }
