@@ -1,7 +1,7 @@
 //! How code is put together: each call gives the place of a result, by an instruction where it
 //! takes one.
 
-ghost use Rattle.std.specs.Prelude.{◌≡◌, ◌<◌, ◌≤◌, ◌+◌, ◌++◌, [], ◌∷◌, IfOk, OnOk, if◌then◌else◌};
+ghost use Rattle.std.specs.Prelude.{◌≡◌, ◌<◌, ◌≤◌, ◌+◌, ◌++◌, [], ◌∷◌, IfOk, IfSome, OnOk, if◌then◌else◌};
 ghost use Rattle.lb_lanes.specs.Operators.{result_of};
 ghost use Rattle.lb_machine.specs.Listed.{listed, EndsWith};
 ghost use Rattle.lb_machine.specs.Meaning.{combined, compared};
@@ -13,7 +13,7 @@ use crate::code::Code;
 use crate::instruction::{
     Comparison, EVERYWHERE, Instruction, NOWHERE, PlaneId, PlaneOperator, WordId,
 };
-use crate::instructions::Instructions;
+use crate::instructions::{Choice, Instructions};
 use crate::known::{known_blend, known_choice};
 use lb_lanes::IntOperator;
 use std::alloc::{AllocError, Global};
@@ -116,6 +116,17 @@ impl Code {
         Ok(plane)
     }
 
+    // A plane that is known to hold the one of two that a mask chooses.
+    fn known_select(&self, mask: PlaneId, a: PlaneId, b: PlaneId) -> Option<PlaneId>
+        ensures { IfSome result (λ p. p.0 < self.now.planes
+            → IsPlaneFor self.now (λ s. if s.bits mask.0 then s.bits a.0 else s.bits b.0) p) }
+    {
+        if let Some(known) = known_choice(mask, a, b) {
+            return Some(known);
+        }
+        self.instructions.last_choice(Choice { mask, a, b })
+    }
+
     /// A plane that holds the one of two that a mask chooses.
     pub fn select(&mut self, mask: PlaneId, a: PlaneId, b: PlaneId) -> Result<PlaneId, AllocError>
         requires mask { mask.0 < self.old.planes }
@@ -127,8 +138,10 @@ impl Code {
         ensures plane { IfOk result (IsPlaneFor self.new
             (λ s. if s.bits mask.0 then s.bits a.0 else s.bits b.0)) }
     {
-        if let Some(known) = known_choice(mask, a, b) {
-            return Ok(known);
+        if let Some(known) = self.known_select(mask, a, b) {
+            if known.0 < self.planes {
+                return Ok(known);
+            }
         }
         let out = PlaneId(self.planes);
         self.push_plane(Instruction::Select(mask, a, b, out))?;

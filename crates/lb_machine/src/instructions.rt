@@ -12,7 +12,9 @@
 
 ghost use Rattle.std.specs.Prelude.{◌≡◌, ℕ, [], ◌∷◌, ◌++◌, ◌⊎◌, true, false, length};
 ghost use Rattle.std.specs.Prelude.{◌<◌, IfOk, IfSome, OnOk, OnErr};
+ghost use Rattle.std.specs.List.{AllByRecursion};
 ghost use Rattle.lb_machine.specs.Listed.{before_last, listed, select_at, unpacked, EndsWith};
+ghost use Rattle.lb_machine.specs.Meaning.{IsDone, Lane};
 ghost use Rattle.lb_machine.specs.declared.instruction.Instruction.TheVariants.{Compare};
 
 use crate::instruction::{Comparison, Instruction, PlaneId, WordId};
@@ -25,6 +27,14 @@ pub struct Choice {
     pub mask: PlaneId,
     pub a: PlaneId,
     pub b: PlaneId,
+}
+
+// Whether two choices are the same, but for the planes that they write.
+fn are_same(x: Choice, y: Choice) -> bool
+    ensures { result ≡ true → (s : Lane) (out : ℕ) → IsDone s (select_at out x)
+        → IsDone s (select_at out y) }
+{
+    x.mask.0 == y.mask.0 && x.a.0 == y.a.0 && x.b.0 == y.b.0
 }
 
 /// Choices, which write the planes from a first one on, and an instruction after them.
@@ -108,6 +118,22 @@ impl Instructions {
             last,
         });
         Ok(())
+    }
+
+    /// The plane of the same choice among the last 16, if there is one behind the last block.
+    pub(crate) fn last_choice(&self, c: Choice) -> Option<PlaneId>
+        ensures { IfSome result (λ p. (s : Lane) → AllByRecursion (IsDone s) (listed self.now)
+            → IsDone s (select_at p.0 c)) }
+    {
+        let count = self.choices.len();
+        for j in 0..count.min(16) {
+            let k = count - 1 - j;
+            let out = self.first as usize + k;
+            if are_same(self.choices[k], c) && out < 4294967296 {
+                return Some(PlaneId(out as u32));
+            }
+        }
+        None
     }
 
     /// The two words of a test that is the last instruction, if it is one that writes this plane.
