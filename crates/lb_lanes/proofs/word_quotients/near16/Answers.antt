@@ -1,5 +1,5 @@
 use Rattle.std.proofs.Common.{lit≤}
-use Rattle.lb_lanes.proofs.FloatGuesses.{masked_in, selected_numbers, wholes}
+use Rattle.lb_lanes.proofs.FloatGuesses.{masked_in, selected_numbers, beyonds}
 use Rattle.lb_lanes.proofs.word_quotients.near16.Goals as goal
 
 pub int_to_float-dividend : goal.int_to_float-dividend
@@ -9,4 +9,4 @@ pub int_to_float-divisor : goal.int_to_float-divisor
 int_to_float-divisor c = masked_in 16 16 c.sizes16-2.result (lit≤ tt)
 
 pub float_to_bits-result : goal.float_to_bits-result
-float_to_bits-result c = selected_numbers _ _ wholes
+float_to_bits-result c = selected_numbers _ _ beyonds
