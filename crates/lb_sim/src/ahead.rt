@@ -39,7 +39,6 @@ pub(crate) struct Ahead {
     pub(crate) first: u32,
     pub(crate) until: u32,
     pub(crate) lanes: Plane,
-    pub(crate) ghost few: { until ≤ first + 64 },
 }
 
 /// What is loaded of the integers, and what of the Booleans.
@@ -47,6 +46,7 @@ pub(crate) struct Ahead {
 pub(crate) struct Loaded {
     pub(crate) numbers: Ahead,
     pub(crate) truths: Ahead,
+    pub(crate) ghost few: { numbers.until ≤ numbers.first + 64 },
 }
 
 /// No instant is loaded.
@@ -208,12 +208,14 @@ fn renewed(at: &Stretch<'_, '_>, places: &[usize], room: &mut [LaneWord], last: 
     requires within { All (λ w. w < length (number_columns 0
         (kinds_of at.now.at.set.now.signature))) places.now }
     requires begun { last.first ≤ at.now.at.t }
+    requires few { last.until ≤ last.first + 64 }
     requires last { AreAhead at.now.at.set.now at.now.at.members.now last.first last.until
         last.lanes.0 (number_columns 0 (kinds_of at.now.at.set.now.signature)) places.now room.old }
     requires lanes { at.now.at.t < last.until → AreAmong at.now.at.live.0 last.lanes.0 }
     ensures room { length room.new ≡ length room.old }
     ensures begun { result.first ≤ at.now.at.t }
     ensures until { at.now.at.t < result.until }
+    ensures few { result.until ≤ result.first + 64 }
     ensures ahead { AreAhead at.now.at.set.now at.now.at.members.now result.first result.until
         result.lanes.0 (number_columns 0 (kinds_of at.now.at.set.now.signature)) places.now
         room.new }
@@ -262,6 +264,7 @@ pub(crate) fn load_ahead(
         ≡ length (number_columns 0 (kinds_of at.now.at.set.now.signature)) }
     requires within { All (λ w. w < length words.old) places.now }
     requires begun { last.first ≤ at.now.at.t }
+    requires few { last.until ≤ last.first + 64 }
     requires last { AreAhead at.now.at.set.now at.now.at.members.now last.first last.until
         last.lanes.0 (number_columns 0 (kinds_of at.now.at.set.now.signature)) places.now room.old }
     requires lanes { at.now.at.t < last.until → AreAmong at.now.at.live.0 last.lanes.0 }
@@ -272,6 +275,7 @@ pub(crate) fn load_ahead(
         (get_or (number_columns 0 (kinds_of at.now.at.set.now.signature))
         (slice_index places.now k) 0) }
     ensures begun { result.first ≤ at.now.at.t }
+    ensures few { result.until ≤ result.first + 64 }
     ensures ahead { AreAhead at.now.at.set.now at.now.at.members.now result.first result.until
         result.lanes.0 (number_columns 0 (kinds_of at.now.at.set.now.signature)) places.now
         room.new }

@@ -25,9 +25,6 @@ use std::alloc::{AllocError, Global};
 // How many integers of a row are loaded for some instants together.
 const MOST_AHEAD: usize = 8;
 
-// How many words of Booleans a row has at most of which many instants are loaded together.
-const MOST_WORDS: usize = 4;
-
 /// A row of inputs for each lane: a plane for each Boolean of the signature, and a word for each
 /// integer, in its order.
 #[derive(Drop)]
@@ -44,18 +41,20 @@ pub struct Inputs {
     pub ghost planes_room: { length planes.items ≡ columns.truths },
     pub ghost words_room: { length words.items ≡ columns.numbers },
     pub(crate) ghost some: { 0 < reach },
-    pub(crate) ghost few: { reach ≤ 64 },
     pub ghost rows_room: { 72 * (reach * words_of_row columns.truths) ≤ length rows.items },
 }
 
 // Of how many instants the Booleans are read in one go, where those of one instant take so many
-// words.
+// words: of many while there are few, since then the next ones are in the cache already.
 fn reach_of(width: usize) -> u32
     ensures some { 0 < result }
-    ensures few { result ≤ 64 }
-    ensures room { result * width ≤ 8 * width + 224 }
+    ensures room { result * width ≤ 8 * width + 248 }
 {
-    if width <= MOST_WORDS { 64 } else { 8 }
+    match width {
+        0 | 1 => 256,
+        2..=4 => 64,
+        _ => 8,
+    }
 }
 
 impl Inputs {

@@ -132,7 +132,6 @@ pub(crate) fn load_truths(at: &Instant<'_, '_>, rows: &mut [u64], planes: &mut [
 // What is loaded, with the instant: as before, or up to so many instants from it on.
 fn renewed(at: &Stretch<'_, '_>, reach: u32, rows: &mut [u64], last: Ahead) -> Ahead
     requires some { 0 < reach }
-    requires few { reach ≤ 64 }
     requires room { 72 * (reach
         * words_of_row (length (truth_columns 0 (kinds_of at.now.at.set.now.signature))))
         ≤ length rows.old }
@@ -172,7 +171,6 @@ pub(crate) fn load_truths_ahead(
     planes: &mut [u64],
 ) -> Ahead
     requires some { 0 < reach }
-    requires few { reach ≤ 64 }
     requires rows_room { 72 * (reach * words_of_row (length planes.old)) ≤ length rows.old }
     requires room { length planes.old
         ≡ length (truth_columns 0 (kinds_of at.now.at.set.now.signature)) }
