@@ -1,7 +1,8 @@
 -- The Booleans of an instant go into planes.
-use Rattle.std.proofs.Common.{◌≡◌, ℕ, ◌+◌, ◌*◌, ◌/◌, ◌%◌, ◌<◌, ◌≤◌, Bool, true}
+use Rattle.std.proofs.Common.{◌≡◌, ℕ, ◌+◌, ◌*◌, ◌/◌, ◌%◌, ◌<◌, ◌≤◌, true}
 use Rattle.std.proofs.Common.{List, pos, get_or, set, length, refl, ap, ◌≢◌}
-use Rattle.std.proofs.Common.{◌∙◌, subst, arith, below_more, length-set}
+use Rattle.std.proofs.Common.{◌∙◌, subst, arith, below_more, length-set, ◌⊎◌, inl, inr}
+use Rattle.std.proofs.lemmas.Bool.{cases_lt}
 use Rattle.std.proofs.Math.Nat.{mul-le-mul_left}
 use Rattle.std.proofs.lemmas.List.{get_or-set_same, get_or-set_other}
 use Rattle.std.specs.Prelude.{int_le}
@@ -9,7 +10,7 @@ use Rattle.lb_flat.specs.Packed.{words_of_row}
 use Rattle.lb_flat.specs.Traces.{Recording}
 use Rattle.lb_lanes.specs.Planes.{on}
 use Rattle.lb_sim.specs.InputRows.{member_cell}
-use Rattle.lb_sim.specs.Loads.{AreTruthsAhead}
+use Rattle.lb_sim.specs.Loads.{AreFourPut, AreTruthsAhead, AreTruthsLoaded}
 
 -- ## Words of a lane
 
@@ -47,67 +48,238 @@ module _ (bits : List ℕ) (i : ℕ) (old : List ℕ) where
             get_or-set_other new (72 * n + i) (72 * m + k) v 0 apart ∙ h.others m k lk ne;
       }
 
--- ## Booleans, words for each instant of each lane
+-- ## Words of four lanes
 
-module _ (r : Recording) (members : List ℕ) (first live : ℕ) (columns : List ℕ) where
-  -- the truth of a cell of an instant
-  abbrev pub truth_at : ℕ → ℕ → ℕ → Bool
-  truth_at i d b = int_le (pos 1) (member_cell r members (first + d) i (get_or columns b 0))
+pub four_put_none :
+    (a b c d : List ℕ) (first : ℕ) (old : List ℕ) → AreFourPut a b c d first old old 0
+four_put_none a b c d first old = record {
+  as_long = refl;
+  one = λ m h. absurd (omega (arith, h));
+  two = λ m h. absurd (omega (arith, h));
+  three = λ m h. absurd (omega (arith, h));
+  four = λ m h. absurd (omega (arith, h));
+  others = λ m k l o. refl;
+}
 
-  -- the number of a word
-  abbrev pub word_of : ℕ → ℕ → ℕ
-  word_of d g = d * words_of_row (length columns) + g
+-- a word more in one lane
+module _ (new : List ℕ) (n i v : ℕ) where
+  abbrev one_set : List ℕ
+  one_set = set new (72 * n + i) v
 
-  -- the words of some instants of the first members, so many of each
-  module _ (count : ℕ) where
-    pub record Gathered (old rows : List ℕ) (n : ℕ) : Type 0 where
-      pub as_long : length rows ≡ length old
-      pub done :
-          (i : ℕ) → i < n → i < 64 → on live i ≡ true → (d g c : ℕ) → d < count → c < 64 →
-          64 * g + c < length columns →
-          on (get_or rows (72 * word_of d g + i) 0) c ≡ truth_at i d (64 * g + c)
+  long_set : length one_set ≡ length new
+  long_set = length-set new (72 * n + i) v
 
-    pub gathered_none : (old : List ℕ) → Gathered old old 0
-    gathered_none old = record {
-      as_long = refl;
-      done = λ i h. absurd (omega (arith, h));
-    }
+  -- another word of the four, and an earlier one
+  other_set : (m k : ℕ) → k < 64 → i < 64 → k ≢ i →
+      get_or one_set (72 * m + k) 0 ≡ get_or new (72 * m + k) 0
+  other_set m k lk li ne =
+      let apart : (72 * m + k) ≢ (72 * n + i) = λ e. ne (omega (arith, e, lk, li)) in
+      get_or-set_other new (72 * n + i) (72 * m + k) v 0 apart
 
-    pub gathered_more :
-        (old rows rows' : List ℕ) (n : ℕ) → Gathered old rows n → length rows' ≡ length rows →
-        (on live n ≡ true → (d g c : ℕ) → d < count → c < 64 → 64 * g + c < length columns →
-        on (get_or rows' (72 * word_of d g + n) 0) c ≡ truth_at n d (64 * g + c)) →
-        ((m k : ℕ) → k < 64 → k ≢ n →
-        get_or rows' (72 * m + k) 0 ≡ get_or rows (72 * m + k) 0) →
-        Gathered old rows' (n + 1)
-    gathered_more old rows rows' n h long put others = record {
-      as_long = long ∙ h.as_long;
-      done =
-          below_more
-          (λ j. j < 64 → on live j ≡ true → (d g c : ℕ) → d < count → c < 64 →
-          64 * g + c < length columns →
-          on (get_or rows' (72 * word_of d g + j) 0) c ≡ truth_at j d (64 * g + c)) n
-          (λ j m lj e d g c ld lc lb.
-          let ne : j ≢ n = λ f. absurd (omega (arith, m, f)) in
-          ap (λ w. on w c) (others (word_of d g) j lj ne) ∙ h.done j m lj e d g c ld lc lb)
-          (λ lj e d g c ld lc lb. put e d g c ld lc lb);
-    }
+  before_set : (m : ℕ) → m < n → get_or one_set (72 * m + i) 0 ≡ get_or new (72 * m + i) 0
+  before_set m lm =
+      let apart : (72 * m + i) ≢ (72 * n + i) = λ e. absurd (omega (arith, lm, e)) in
+      get_or-set_other new (72 * n + i) (72 * m + i) v 0 apart
 
-    -- each lane that is live is that of a member
-    pub all_gathered :
-        (old rows : List ℕ) (n : ℕ) → Gathered old rows n →
-        72 * (count * words_of_row (length columns)) ≤ length old →
-        ((i : ℕ) → i < 64 → on live i ≡ true → i < n) →
-        AreTruthsAhead r members first (first + count) live columns rows
-    all_gathered old rows n h enough inside = record {
-      room = λ d lt.
-          let width = words_of_row (length columns) in
-          let under : d + 1 ≤ count = omega (arith, lt) in
-          let product : width * (d + 1) ≤ width * count = mul-le-mul_left width under in
-          omega (arith, product, enough, h.as_long);
-      cells = λ i d g c l e lt lc lb.
-          h.done i (inside i l e) l e d g c (omega (arith, lt)) lc lb;
-    }
+  same_set : 72 * n + i < length new → get_or one_set (72 * n + i) 0 ≡ v
+  same_set inside = get_or-set_same new (72 * n + i) v 0 inside
+
+-- one lane of four
+lane_kept :
+    (x : List ℕ) (rows new : List ℕ) (n i : ℕ) →
+    ((m : ℕ) → m < n → get_or new (72 * m + i) 0 ≡ get_or rows (72 * m + i) 0) →
+    get_or new (72 * n + i) 0 ≡ get_or x n 0 →
+    ((m : ℕ) → m < n → get_or rows (72 * m + i) 0 ≡ get_or x m 0) →
+    (m : ℕ) → m < n + 1 → get_or new (72 * m + i) 0 ≡ get_or x m 0
+lane_kept x rows new n i kept here before =
+    below_more (λ m. get_or new (72 * m + i) 0 ≡ get_or x m 0) n
+    (λ m lm. kept m lm ∙ before m lm) here
+
+module _ (a b c d : List ℕ) (first : ℕ) (old rows : List ℕ) (n : ℕ) where
+  abbrev set_one : List ℕ
+  set_one = set rows (72 * n + first) (get_or a n 0)
+
+  abbrev set_two : List ℕ
+  set_two = set set_one (72 * n + (first + 1)) (get_or b n 0)
+
+  abbrev set_three : List ℕ
+  set_three = set set_two (72 * n + (first + 2)) (get_or c n 0)
+
+  abbrev set_four : List ℕ
+  set_four = set set_three (72 * n + (first + 3)) (get_or d n 0)
+
+  module _ (few : first + 4 ≤ 64) where
+    -- what holds of a word in none of these lanes, or of an earlier one
+    after_one : (m k : ℕ) → k < 64 → k ≢ first →
+        get_or set_one (72 * m + k) 0 ≡ get_or rows (72 * m + k) 0
+    after_one m k lk ne = other_set rows n first (get_or a n 0) m k lk (omega (arith, few)) ne
+
+    after_two : (m k : ℕ) → k < 64 → k ≢ (first + 1) →
+        get_or set_two (72 * m + k) 0 ≡ get_or set_one (72 * m + k) 0
+    after_two m k lk ne =
+        other_set set_one n (first + 1) (get_or b n 0) m k lk (omega (arith, few)) ne
+
+    after_three : (m k : ℕ) → k < 64 → k ≢ (first + 2) →
+        get_or set_three (72 * m + k) 0 ≡ get_or set_two (72 * m + k) 0
+    after_three m k lk ne =
+        other_set set_two n (first + 2) (get_or c n 0) m k lk (omega (arith, few)) ne
+
+    after_four : (m k : ℕ) → k < 64 → k ≢ (first + 3) →
+        get_or set_four (72 * m + k) 0 ≡ get_or set_three (72 * m + k) 0
+    after_four m k lk ne =
+        other_set set_three n (first + 3) (get_or d n 0) m k lk (omega (arith, few)) ne
+
+    pub four_put_more :
+        AreFourPut a b c d first old rows n → 72 * n + 64 ≤ length old →
+        AreFourPut a b c d first old set_four (n + 1)
+    four_put_more h room =
+        let l0 : length set_one ≡ length rows = long_set rows n first (get_or a n 0) in
+        let l1 : length set_two ≡ length set_one =
+        long_set set_one n (first + 1) (get_or b n 0) in
+        let l2 : length set_three ≡ length set_two =
+        long_set set_two n (first + 2) (get_or c n 0) in
+        let l3 : length set_four ≡ length set_three =
+        long_set set_three n (first + 3) (get_or d n 0) in
+        let f0 : first < 64 = omega (arith, few) in
+        let f1 : first + 1 < 64 = omega (arith, few) in
+        let f2 : first + 2 < 64 = omega (arith, few) in
+        let f3 : first + 3 < 64 = omega (arith, few) in
+        let n01 : first ≢ (first + 1) = λ e. absurd (omega (arith, e)) in
+        let n02 : first ≢ (first + 2) = λ e. absurd (omega (arith, e)) in
+        let n03 : first ≢ (first + 3) = λ e. absurd (omega (arith, e)) in
+        let n10 : (first + 1) ≢ first = λ e. absurd (omega (arith, e)) in
+        let n12 : (first + 1) ≢ (first + 2) = λ e. absurd (omega (arith, e)) in
+        let n13 : (first + 1) ≢ (first + 3) = λ e. absurd (omega (arith, e)) in
+        let n20 : (first + 2) ≢ first = λ e. absurd (omega (arith, e)) in
+        let n21 : (first + 2) ≢ (first + 1) = λ e. absurd (omega (arith, e)) in
+        let n23 : (first + 2) ≢ (first + 3) = λ e. absurd (omega (arith, e)) in
+        let n30 : (first + 3) ≢ first = λ e. absurd (omega (arith, e)) in
+        let n31 : (first + 3) ≢ (first + 1) = λ e. absurd (omega (arith, e)) in
+        let n32 : (first + 3) ≢ (first + 2) = λ e. absurd (omega (arith, e)) in
+        record {
+          as_long = l3 ∙ l2 ∙ l1 ∙ l0 ∙ h.as_long;
+          one =
+              lane_kept a rows set_four n first
+              (λ m lm.
+              after_four m first f0 n03 ∙ after_three m first f0 n02 ∙ after_two m first f0 n01
+              ∙ before_set rows n first (get_or a n 0) m lm)
+              (after_four n first f0 n03 ∙ after_three n first f0 n02 ∙ after_two n first f0 n01
+              ∙ same_set rows n first (get_or a n 0) (omega (arith, room, h.as_long, few)))
+              h.one;
+          two =
+              lane_kept b rows set_four n (first + 1)
+              (λ m lm.
+              after_four m (first + 1) f1 n13 ∙ after_three m (first + 1) f1 n12
+              ∙ before_set set_one n (first + 1) (get_or b n 0) m lm
+              ∙ after_one m (first + 1) f1 n10)
+              (after_four n (first + 1) f1 n13 ∙ after_three n (first + 1) f1 n12
+              ∙ same_set set_one n (first + 1) (get_or b n 0)
+              (omega (arith, room, h.as_long, few, l0)))
+              h.two;
+          three =
+              lane_kept c rows set_four n (first + 2)
+              (λ m lm.
+              after_four m (first + 2) f2 n23
+              ∙ before_set set_two n (first + 2) (get_or c n 0) m lm
+              ∙ after_two m (first + 2) f2 n21 ∙ after_one m (first + 2) f2 n20)
+              (after_four n (first + 2) f2 n23
+              ∙ same_set set_two n (first + 2) (get_or c n 0)
+              (omega (arith, room, h.as_long, few, l0, l1)))
+              h.three;
+          four =
+              lane_kept d rows set_four n (first + 3)
+              (λ m lm.
+              before_set set_three n (first + 3) (get_or d n 0) m lm
+              ∙ after_three m (first + 3) f3 n32 ∙ after_two m (first + 3) f3 n31
+              ∙ after_one m (first + 3) f3 n30)
+              (same_set set_three n (first + 3) (get_or d n 0)
+              (omega (arith, room, h.as_long, few, l0, l1, l2)))
+              h.four;
+          others = λ m k lk o.
+              after_four m k lk (outside k 3 (omega arith) o)
+              ∙ after_three m k lk (outside k 2 (omega arith) o)
+              ∙ after_two m k lk (outside k 1 (omega arith) o)
+              ∙ after_one m k lk (outside_first k o) ∙ h.others m k lk o;
+        }
+      where
+        outside : (k j : ℕ) → j < 4 → (k < first) ⊎ (first + 4 ≤ k) → k ≢ (first + j)
+        outside k j lj (inl before) e = absurd (omega (arith, before, e))
+        outside k j lj (inr behind) e = absurd (omega (arith, lj, behind, e))
+
+        outside_first : (k : ℕ) → (k < first) ⊎ (first + 4 ≤ k) → k ≢ first
+        outside_first k (inl before) e = absurd (omega (arith, before, e))
+        outside_first k (inr behind) e = absurd (omega (arith, behind, e))
+
+-- what holds in each of four lanes
+pub each_of_four :
+    (P : ℕ → Type 0) (first i : ℕ) → P first → P (first + 1) → P (first + 2) → P (first + 3) →
+    first ≤ i → i < first + 4 → P i
+each_of_four P first i p0 p1 p2 p3 ge lt =
+    by (cases_lt i (first + 1)) (cases_lt i (first + 2)) (cases_lt i (first + 3))
+  where
+    by : (i < first + 1) ⊎ (first + 1 ≤ i) → (i < first + 2) ⊎ (first + 2 ≤ i) →
+        (i < first + 3) ⊎ (first + 3 ≤ i) → P i
+    by (inl a) b c = let e : first ≡ i = omega (arith, ge, a) in subst P e p0
+    by (inr a) (inl b) c = let e : first + 1 ≡ i = omega (arith, a, b) in subst P e p1
+    by (inr a) (inr b) (inl c) = let e : first + 2 ≡ i = omega (arith, b, c) in subst P e p2
+    by (inr a) (inr b) (inr c) = let e : first + 3 ≡ i = omega (arith, c, lt) in subst P e p3
+
+-- ## Booleans of members
+
+module _ (r : Recording) (members : List ℕ) (first live : ℕ) (columns : List ℕ) (count : ℕ) where
+  abbrev Loaded : (a b : ℕ) → (old new : List ℕ) → Type 0
+  Loaded = AreTruthsLoaded r members first count live columns
+
+  pub truths_none : (a : ℕ) (rows : List ℕ) → Loaded a a rows rows
+  truths_none a rows = record {
+    as_long = refl;
+    put = λ i d g c ge lt. absurd (omega (arith, ge, lt));
+    others = λ m k l o. refl;
+  }
+
+  -- members, and then those behind them
+  pub truths_then :
+      (a b c : ℕ) (x y z : List ℕ) → a ≤ b → b ≤ c → c ≤ 64 → Loaded a b x y → Loaded b c y z →
+      Loaded a c x z
+  truths_then a b c x y z le le' few h k = record {
+    as_long = k.as_long ∙ h.as_long;
+    put = λ i d g e ge lt live_i ld le lb. put i d g e ge lt live_i ld le lb (cases_lt i b);
+    others = λ m i li o. others m i li o;
+  }
+    where
+      put :
+          (i d g e : ℕ) → a ≤ i → i < c → on live i ≡ true → d < count → e < 64 →
+          64 * g + e < length columns → (i < b) ⊎ (b ≤ i) →
+          on (get_or z (72 * (d * words_of_row (length columns) + g) + i) 0) e
+          ≡ int_le (pos 1) (member_cell r members (first + d) i (get_or columns (64 * g + e) 0))
+      put i d g e ge lt live_i ld le lb (inl before) =
+          ap (λ w. on w e)
+          (k.others (d * words_of_row (length columns) + g) i (omega (arith, lt, few)) (inl before))
+          ∙ h.put i d g e ge before live_i ld le lb
+      put i d g e ge lt live_i ld le lb (inr behind) = k.put i d g e behind lt live_i ld le lb
+
+      others : (m i : ℕ) → i < 64 → (i < a) ⊎ (c ≤ i) →
+          get_or z (72 * m + i) 0 ≡ get_or x (72 * m + i) 0
+      others m i li (inl before) =
+          k.others m i li (inl (omega (arith, before, le))) ∙ h.others m i li (inl before)
+      others m i li (inr behind) =
+          k.others m i li (inr behind) ∙ h.others m i li (inr (omega (arith, behind, le')))
+
+  -- each lane that is live is that of a member
+  pub all_gathered :
+      (old rows : List ℕ) (n : ℕ) → Loaded 0 n old rows →
+      72 * (count * words_of_row (length columns)) ≤ length old →
+      ((i : ℕ) → i < 64 → on live i ≡ true → i < n) →
+      AreTruthsAhead r members first (first + count) live columns rows
+  all_gathered old rows n h enough inside = record {
+    room = λ d lt.
+        let width = words_of_row (length columns) in
+        let under : d + 1 ≤ count = omega (arith, lt) in
+        let product : width * (d + 1) ≤ width * count = mul-le-mul_left width under in
+        omega (arith, product, enough, h.as_long);
+    cells = λ i d g c l e lt lc lb.
+        h.put i d g c (omega arith) (inside i l e) e (omega (arith, lt)) lc lb;
+  }
 
 module _ (r : Recording) (members : List ℕ) (t live d : ℕ) (columns : List ℕ) where
   -- the planes of all columns

@@ -57,6 +57,32 @@ pub record AreAhead (r : Recording) (members : List ℕ) (first until lanes : �
       lane_of (slice_index_or room (64 * k + d) []) i
       ≡ member_cell r members (first + d) i (get_or columns (slice_index places k) 0)
 
+-- words stand in four lanes of as many words of all lanes, from a first lane on; no other lane has
+-- changed
+pub record AreFourPut (a b c d : List ℕ) (first : ℕ) (old new : List ℕ) (n : ℕ) : Type 0 where
+  pub as_long : length new ≡ length old
+  pub one : (m : ℕ) → m < n → slice_index new (72 * m + first) ≡ slice_index a m
+  pub two : (m : ℕ) → m < n → slice_index new (72 * m + (first + 1)) ≡ slice_index b m
+  pub three : (m : ℕ) → m < n → slice_index new (72 * m + (first + 2)) ≡ slice_index c m
+  pub four : (m : ℕ) → m < n → slice_index new (72 * m + (first + 3)) ≡ slice_index d m
+  pub others :
+      (m k : ℕ) → k < 64 → (k < first) ⊎ (first + 4 ≤ k) →
+      slice_index new (72 * m + k) ≡ slice_index old (72 * m + k)
+
+-- the lanes of the members from a first one up to an end have their Booleans of so many instants,
+-- where they are live; no other lane has changed
+pub record AreTruthsLoaded (r : Recording) (members : List ℕ) (t count live : ℕ)
+    (columns : List ℕ) (first end : ℕ) (old new : List ℕ) : Type 0 where
+  pub as_long : length new ≡ length old
+  pub put :
+      (i d g c : ℕ) → first ≤ i → i < end → on live i ≡ true → d < count → c < 64 →
+      64 * g + c < length columns →
+      on (slice_index new (72 * (d * words_of_row (length columns) + g) + i)) c
+      ≡ int_le (pos 1) (member_cell r members (t + d) i (get_or columns (64 * g + c) 0))
+  pub others :
+      (m k : ℕ) → k < 64 → (k < first) ⊎ (end ≤ k) →
+      slice_index new (72 * m + k) ≡ slice_index old (72 * m + k)
+
 -- and so the Booleans: for each instant and each 64 of them there is a word of each lane
 pub record AreTruthsAhead (r : Recording) (members : List ℕ) (first until lanes : ℕ)
     (columns rows : List ℕ) : Type 0 where

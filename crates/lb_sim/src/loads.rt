@@ -4,7 +4,7 @@
 //! all lanes stand side by side, and a transposition turns them into planes.
 //!
 //! The rows of a trace lie side by side in memory, and those of another trace elsewhere. So of each
-//! lane the words of some instants are read in one go.
+//! lane the words of some instants are read in one go, those of four lanes at a time.
 //!
 //! ```text
 //! rows    lane 0, lane 1, ... lane 63 of an instant, of the first 64 columns, and 8 words that
@@ -20,9 +20,10 @@ ghost use Rattle.lb_static.specs.Signature.{kinds_of};
 ghost use Rattle.lb_flat.specs.Packed.{truth_columns, words_of_row};
 ghost use Rattle.lb_lanes.specs.Planes.{on};
 ghost use Rattle.lb_sim.specs.InputRows.{HaveInstant, member_cell};
-ghost use Rattle.lb_sim.specs.Loads.{AreAmong, AreTruthsAhead};
+ghost use Rattle.lb_sim.specs.Loads.{AreAmong, AreFourPut, AreTruthsAhead, AreTruthsLoaded};
 
 use crate::ahead::{Ahead, Stretch};
+use crate::integer_loads::are_live;
 use crate::lane_bits::{groups_of, size_of_group, turn_group};
 use lb_flat::TraceSet;
 use lb_lanes::Plane;
@@ -54,6 +55,41 @@ fn put_words(bits: &[u64], i: usize, rows: &mut [u64])
     }
 }
 
+// Words into four lanes of as many words of all lanes.
+fn put_four_words(a: &[u64], b: &[u64], c: &[u64], d: &[u64], first: usize, rows: &mut [u64])
+    requires lanes { first + 4 ≤ 64 }
+    requires words_b { length b.now ≡ length a.now }
+    requires words_c { length c.now ≡ length a.now }
+    requires words_d { length d.now ≡ length a.now }
+    requires room { 72 * length a.now ≤ length rows.old }
+    ensures { AreFourPut a.now b.now c.now d.now first rows.old rows.new (length a.now) }
+{
+    for n in 0..a.len() {
+        rows[72 * n + first] = a[n];
+        rows[72 * n + (first + 1)] = b[n];
+        rows[72 * n + (first + 2)] = c[n];
+        rows[72 * n + (first + 3)] = d[n];
+    }
+}
+
+// The Booleans of so many instants of a member whose lane is live.
+fn bits_of<'a>(at: &Instant<'a, '_>, i: usize, count: u32) -> &'a [u64]
+    requires member { i < length at.now.members.now }
+    requires live { on at.now.live.0 i ≡ true }
+    requires there { (d : ℕ) → d < count
+        → HaveInstant at.now.set.now at.now.members.now (at.now.t + d) at.now.live.0 }
+    ensures words { length result.now ≡ count
+        * words_of_row (length (truth_columns 0 (kinds_of at.now.set.now.signature))) }
+    ensures bits { (d g c : ℕ) → d < count → c < 64
+        → 64 * g + c < length (truth_columns 0 (kinds_of at.now.set.now.signature))
+        → on (slice_index result.now (d
+        * words_of_row (length (truth_columns 0 (kinds_of at.now.set.now.signature))) + g)) c
+        ≡ int_le (pos 1) (member_cell at.now.set.now at.now.members.now (at.now.t + d) i
+        (get_or (truth_columns 0 (kinds_of at.now.set.now.signature)) (64 * g + c) 0)) }
+{
+    at.set.bits(at.members[i], at.t, count)
+}
+
 // The Booleans of so many instants of a member, into the words of its lane if that is live.
 fn put_bits(at: &Instant<'_, '_>, i: usize, count: u32, rows: &mut [u64])
     requires member { i < length at.now.members.now }
@@ -62,21 +98,55 @@ fn put_bits(at: &Instant<'_, '_>, i: usize, count: u32, rows: &mut [u64])
     requires room { 72 * (count
         * words_of_row (length (truth_columns 0 (kinds_of at.now.set.now.signature))))
         ≤ length rows.old }
-    ensures rows { length rows.new ≡ length rows.old }
-    ensures put { on at.now.live.0 i ≡ true → (d g c : ℕ) → d < count → c < 64
-        → 64 * g + c < length (truth_columns 0 (kinds_of at.now.set.now.signature))
-        → on (slice_index rows.new (72 * (d
-        * words_of_row (length (truth_columns 0 (kinds_of at.now.set.now.signature))) + g) + i)) c
-        ≡ int_le (pos 1) (member_cell at.now.set.now at.now.members.now (at.now.t + d) i
-        (get_or (truth_columns 0 (kinds_of at.now.set.now.signature)) (64 * g + c) 0)) }
-    ensures others { (n k : ℕ) → k < 64 → k ≢ i
-        → slice_index rows.new (72 * n + k) ≡ slice_index rows.old (72 * n + k) }
+    ensures { AreTruthsLoaded at.now.set.now at.now.members.now at.now.t count at.now.live.0
+        (truth_columns 0 (kinds_of at.now.set.now.signature)) i (i + 1) rows.old rows.new }
 {
     if !at.live.get(i as u32) {
         return;
     }
-    let bits = at.set.bits(at.members[i], at.t, count);
-    put_words(bits, i, rows);
+    put_words(bits_of(at, i, count), i, rows);
+}
+
+// Those of the members from one on, one by one.
+fn put_each(at: &Instant<'_, '_>, first: usize, end: usize, count: u32, rows: &mut [u64])
+    requires order { first ≤ end }
+    requires members { end ≤ length at.now.members.now }
+    requires there { (d : ℕ) → d < count
+        → HaveInstant at.now.set.now at.now.members.now (at.now.t + d) at.now.live.0 }
+    requires room { 72 * (count
+        * words_of_row (length (truth_columns 0 (kinds_of at.now.set.now.signature))))
+        ≤ length rows.old }
+    ensures { AreTruthsLoaded at.now.set.now at.now.members.now at.now.t count at.now.live.0
+        (truth_columns 0 (kinds_of at.now.set.now.signature)) first end rows.old rows.new }
+{
+    for i in first..end {
+        put_bits(at, i, count, rows);
+    }
+}
+
+// Those of four members.
+fn put_four_members(at: &Instant<'_, '_>, first: usize, count: u32, rows: &mut [u64])
+    requires members { first + 4 ≤ length at.now.members.now }
+    requires there { (d : ℕ) → d < count
+        → HaveInstant at.now.set.now at.now.members.now (at.now.t + d) at.now.live.0 }
+    requires room { 72 * (count
+        * words_of_row (length (truth_columns 0 (kinds_of at.now.set.now.signature))))
+        ≤ length rows.old }
+    ensures { AreTruthsLoaded at.now.set.now at.now.members.now at.now.t count at.now.live.0
+        (truth_columns 0 (kinds_of at.now.set.now.signature)) first (first + 4) rows.old rows.new }
+{
+    if !are_live(at, first as u32) {
+        put_each(at, first, first + 4, count, rows);
+        return;
+    }
+    put_four_words(
+        bits_of(at, first, count),
+        bits_of(at, first + 1, count),
+        bits_of(at, first + 2, count),
+        bits_of(at, first + 3, count),
+        first,
+        rows,
+    );
 }
 
 // The Booleans of so many instants of all members, into the words of the lanes that are live.
@@ -90,9 +160,12 @@ fn gather(at: &Instant<'_, '_>, count: u32, rows: &mut [u64])
     ensures put { AreTruthsAhead at.now.set.now at.now.members.now at.now.t (at.now.t + count)
         at.now.live.0 (truth_columns 0 (kinds_of at.now.set.now.signature)) rows.new }
 {
-    for i in 0..at.members.len() {
-        put_bits(at, i, count, rows);
+    let members = at.members.len();
+    let fours = members / 4;
+    for f in 0..fours {
+        put_four_members(at, 4 * f, count, rows);
     }
+    put_each(at, 4 * fours, members, count, rows);
 }
 
 // Turns the words of all lanes for an instant into planes.

@@ -1,9 +1,10 @@
+use Rattle.std.proofs.Common.{◌*◌}
 use Rattle.lb_static.specs.Signature.{kinds_of}
 use Rattle.lb_sim.specs.InputRows.{truth_columns}
-use Rattle.lb_sim.proofs.Loading.{Gathered}
+use Rattle.lb_sim.specs.Loads.{AreTruthsLoaded}
 use Rattle.lb_sim.proofs.loads.gather.Given as goal
 
-abbrev pub invariant-loop-i : goal.invariant-loop-i
-invariant-loop-i l =
-    Gathered l.at.set.now l.at.members.now l.at.t l.at.live.0
-    (truth_columns 0 (kinds_of l.at.set.now.signature)) l.count l.fn.rows l.rows l.i
+abbrev pub invariant-loop-f : goal.invariant-loop-f
+invariant-loop-f l =
+    AreTruthsLoaded l.at.set.now l.at.members.now l.at.t l.count l.at.live.0
+    (truth_columns 0 (kinds_of l.at.set.now.signature)) 0 (4 * l.f) l.fn.rows l.rows
