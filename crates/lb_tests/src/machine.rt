@@ -25,6 +25,10 @@ enum Made {
     Plane(PlaneId),
     Word(WordId),
     Both(WordId, PlaneId),
+    /// Whether a plane is within another one.
+    Within(bool),
+    /// The planes that are marked, a bit for each of the first 64.
+    Marks(u64),
     Nothing,
 }
 
@@ -121,6 +125,24 @@ fn make(code: &mut Code, letter: u8, a: u32, b: u32, c: u32) -> Result<Made, All
     }
 }
 
+// The planes that are within one, a bit for each of the first 64.
+fn marked(alloc: Global, code: &Code, outer: u32) -> Result<Made, AllocError> {
+    let count = code.planes as usize;
+    let mut from = vec![in alloc; false; count]?;
+    if outer < code.planes {
+        from[outer as usize] = true;
+    }
+    let mut inner = vec![in alloc; false; count]?;
+    code.mark_within(from.as_slice(), inner.as_mut_slice());
+    let mut marks = 0;
+    for k in 0..count.min(64) {
+        if inner[k] {
+            marks |= 1u64 << k;
+        }
+    }
+    Ok(Made::Marks(marks))
+}
+
 // A number that a word spells without a sign, or 0.
 fn place(word: Option<&str>) -> u32 {
     match number(word) {
@@ -130,7 +152,7 @@ fn place(word: Option<&str>) -> u32 {
 }
 
 // What a command makes, beside few places.
-fn make_one(code: &mut Code, command: &str) -> Result<Made, AllocError> {
+fn make_one(alloc: Global, code: &mut Code, command: &str) -> Result<Made, AllocError> {
     let mut words = command.split(' ');
     let letter = match words.next().unwrap_or("").as_bytes() {
         [letter, ..] => *letter,
@@ -142,7 +164,11 @@ fn make_one(code: &mut Code, command: &str) -> Result<Made, AllocError> {
     if code.planes > MOST || code.words > MOST {
         return Ok(Made::Nothing);
     }
-    make(code, letter, a, b, c)
+    match letter {
+        b'i' => Ok(Made::Within(code.is_within(PlaneId(a), PlaneId(b)))),
+        b'm' => marked(alloc, code, a),
+        _ => make(code, letter, a, b, c),
+    }
 }
 
 // The code of some commands beside four planes and three words, and what each makes.
@@ -150,7 +176,7 @@ fn built(alloc: Global, commands: &str) -> Result<(Code, Vec<Made>), AllocError>
     let mut code = Code::new(alloc, 4, 3);
     let mut all = Vec::new(alloc);
     for command in commands.split(", ") {
-        let one = make_one(&mut code, command)?;
+        let one = make_one(alloc, &mut code, command)?;
         all.push(one)?;
     }
     Ok((code, all))
@@ -232,6 +258,8 @@ fn push_made(
                 push_word(words, w, said)?;
                 push_plane(planes, p, said)?;
             }
+            Made::Within(is_within) => write!(said, " {is_within}")?,
+            Made::Marks(marks) => write!(said, " {marks:b}")?,
             Made::Nothing => said.push_str(" nothing")?,
         }
     }
@@ -295,7 +323,8 @@ pub fn push_results(alloc: Global, asked: &str, said: &mut String) -> Result<(),
 // chooses a word; behind the operands of an operator stands the plane of its lanes, and its faults
 // follow its results. Where what is asked is there already, no instruction is made; `^` first makes
 // a plane that is not the second one, and an operator one of the lanes that are not its own. A test
-// and the choice of a word by it right behind are one instruction.
+// and the choice of a word by it right behind are one instruction. `i` asks whether a plane is known
+// to be within another one, and `m` for all that are within one, the plane of number 0 last.
 const CODES: &str = "\
 12 10 0 0 0 0 | & 2 3, | 2 3, ^ 2 3, ~ 2 3, ~ 3 2, ~ 1 2 => \
 7: 4=8 5=14 7=6 8=4 9=2 10=18446744073709551603
@@ -319,7 +348,9 @@ w7=2147483647,-3,0 13=0 w8=0,-1,0 15=0
 7: w3=0,0,0 5=3 w4=0,0,0 7=2 w5=0,0,0 8=18446744073709551615 w6=-9,0,0 10=2
 6 5 2 3 4 5 | p 2, w 1, p 0, w 0, & 4 3, + 3 2 1 => 6: 4=6 w3=2,3,0 5=0 w4=0,0,0 6=4 w5=6,8,0 7=0
 3 0 1 10 2 20 | + 1 2 2, + 3 3 2, < 2 4, & 8 2, b 8 4 0, | 5 7, p 8 => \
-9: w3=3,30,0 5=0 w4=6,60,0 7=0 8=3 9=3 w5=6,60,0 10=0 11=3";
+9: w3=3,30,0 5=0 w4=6,60,0 7=0 8=3 9=3 w5=6,60,0 10=0 11=3
+12 10 0 0 0 0 | | 2 3, ^ 2 3, | 4 6, = 1 2, i 2 4, i 4 2, i 6 7, i 5 7, m 7, m 4, m 6 => \
+5: 4=14 6=6 7=14 8=18446744073709551615 true false true false 1011100 1100 0";
 
 #[test]
 fn codes(rt: HostRuntime) -> Result<(), AllocError> {
