@@ -17,7 +17,8 @@ choice_behind (x ∷ choices) first out c e =
 pub choice_listed :
     (blocks : List Block) (first : ℕ) (choices : List Choice) (out : ℕ) (c : Choice) →
     first + length choices ≡ out →
-    unpacked blocks first (choices ++ c ∷ []) ≡ unpacked blocks first choices ++ select_at out c ∷ []
+    unpacked blocks first (choices ++ c ∷ [])
+    ≡ unpacked blocks first choices ++ select_at out c ∷ []
 choice_listed [] first choices out c e = choice_behind choices first out c e
 choice_listed (b ∷ blocks) first choices out c e =
     ap (λ is. selects_from b.first b.choices.items ++ b.last ∷ is)

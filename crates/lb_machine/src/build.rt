@@ -1,7 +1,8 @@
 //! How code is put together: each call gives the place of a result, by an instruction where it
 //! takes one.
 
-ghost use Rattle.std.specs.Prelude.{◌≡◌, ◌<◌, ◌≤◌, ◌+◌, ◌++◌, [], ◌∷◌, IfOk, IfSome, OnOk, if◌then◌else◌};
+ghost use Rattle.std.specs.Prelude.{◌≡◌, ◌<◌, ◌≤◌, ◌+◌, ◌++◌, [], ◌∷◌, IfOk, IfSome, OnOk};
+ghost use Rattle.std.specs.Prelude.{if◌then◌else◌};
 ghost use Rattle.lb_lanes.specs.Operators.{result_of};
 ghost use Rattle.lb_machine.specs.Listed.{listed, EndsWith};
 ghost use Rattle.lb_machine.specs.Meaning.{combined, compared};

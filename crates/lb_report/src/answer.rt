@@ -8,7 +8,8 @@
 //!                                                  Report
 //! ```
 
-ghost use Rattle.std.specs.Prelude.{◌≡◌, ◌≤◌, ◌++◌, ℕ, List, Vec, Some, IfOk, IfErr, IfSome, length};
+ghost use Rattle.std.specs.Prelude.{◌≡◌, ◌≤◌, ◌++◌, ℕ, List, Vec, Some, IfOk, IfErr, IfSome};
+ghost use Rattle.std.specs.Prelude.{length};
 ghost use Rattle.std.specs.Global.{Global as Heap};
 ghost use Rattle.std.specs.List.{AllZip};
 ghost use Rattle.lb_syntax.specs.Correct.{IsOnlyProgram};

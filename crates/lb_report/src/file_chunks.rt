@@ -80,8 +80,8 @@ pub(crate) fn numbers_after_first(alloc: Global, count: usize) -> Result<Vec<usi
     Ok(numbers)
 }
 
-/// The bytes of a chunk of a file, by where all of them begin and the last one ends; None where they
-/// could not be read.
+/// The bytes of a chunk of a file, by where all of them begin and the last one ends; None where
+/// they could not be read.
 pub(crate) fn load_chunk<F: FileExt>(
     alloc: Global,
     file: &F,

@@ -134,11 +134,12 @@ module _ (p : FlatProgram) where
         ticks =
             below_next p.equations.items n q
             (λ (r : Equation). IsClockMarked p.clocks.items new r.clock) at
-            (λ j s is e. m.still s.element.0 (tick j s is e)) (operands_still old new _ n m h).ticks;
+            (λ j s is e. m.still s.element.0 (tick j s is e))
+            (operands_still old new _ n m h).ticks;
         operands =
             below_next p.equations.items n q
-            (λ (r : Equation). FindsOperands (λ e. get_or new e false) (operation_of r.operation)) at
-            m.marked (λ i r lt e. marked_still old new _ _ m (h.operands i r lt e));
+            (λ (r : Equation). FindsOperands (λ e. get_or new e false) (operation_of r.operation))
+            at m.marked (λ i r lt e. marked_still old new _ _ m (h.operands i r lt e));
       }
 
   -- and where those at which a truth is wanted have theirs, all that it reads has

@@ -1,6 +1,7 @@
 -- The row that a lane has after an instant was loaded is that of its trace.
 use Rattle.std.proofs.Common.{◌≡◌, ℕ, zero, suc, ◌+◌, ◌-◌, ◌<◌, ◌≤◌, Bool, true, false, Option}
-use Rattle.std.proofs.Common.{Some, None, List, [], ◌∷◌, ℤ, pos, get_or, length, map, refl, sym, ap, ◌∙◌}
+use Rattle.std.proofs.Common.{Some, None, List, [], ◌∷◌, ℤ, pos, get_or, length, map, refl, sym, ap}
+use Rattle.std.proofs.Common.{◌∙◌}
 use Rattle.std.proofs.Common.{subst, arith}
 use Rattle.std.proofs.lemmas.Option.{slice_get-map}
 use Rattle.std.specs.Option.{option_map}

@@ -217,7 +217,8 @@ pub flag_holding : (h : Holding) → IsFlagHome h → IsFlagHolding h
 flag_holding h f = record { kind_is = f.kind_is; no_nil = f.nil; no_bad = f.bad }
 
 module _ (code : Code) (s s' : Lane) (run : HasRun (listed code.instructions) s)
-    (places : List Place) (named : List ℕ) (quiet : some_in is_bad (row_at s places) named ≡ false) (N : ℕ → Kind)
+    (places : List Place) (named : List ℕ)
+    (quiet : some_in is_bad (row_at s places) named ≡ false) (N : ℕ → Kind)
     (kinds : (e : ℕ) → e < length places → kind_of (holding_of places e) ≡ N e) where
   cell_moves :
       (kind : Kind) (v : Scalar) (a : ℕ) (h held g : Holding) → a < length places → N a ≡ kind →

@@ -323,8 +323,8 @@ pub fn push_results(alloc: Global, asked: &str, said: &mut String) -> Result<(),
 // chooses a word; behind the operands of an operator stands the plane of its lanes, and its faults
 // follow its results. Where what is asked is there already, no instruction is made; `^` first makes
 // a plane that is not the second one, and an operator one of the lanes that are not its own. A test
-// and the choice of a word by it right behind are one instruction. `i` asks whether a plane is known
-// to be within another one, and `m` for all that are within one, the plane of number 0 last.
+// and the choice of a word by it right behind are one instruction. `i` asks whether a plane is
+// known to be within another one, and `m` for all that are within one, the plane of number 0 last.
 const CODES: &str = "\
 12 10 0 0 0 0 | & 2 3, | 2 3, ^ 2 3, ~ 2 3, ~ 3 2, ~ 1 2 => \
 7: 4=8 5=14 7=6 8=4 9=2 10=18446744073709551603

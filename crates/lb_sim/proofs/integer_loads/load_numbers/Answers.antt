@@ -34,8 +34,8 @@ returns-clause-put c i k h e l =
     omega (arith, c.loop-f-test.false, c.loop-f.auto.f-end) in
     let all =
     loaded_then at.set.now at.members.now at.t at.live.0 columns c.args.places.now 0
-    (4 * c.loop-f.f) count c.args.words.now c.loop-f.words c.put_each.new.words (omega arith) (omega (arith, fours))
-    at.few c.loop-f.invariant
+    (4 * c.loop-f.f) count c.args.words.now c.loop-f.words c.put_each.new.words (omega arith)
+    (omega (arith, fours)) at.few c.loop-f.invariant
     (subst
     (λ n. AreLoaded at.set.now at.members.now at.t at.live.0 columns c.args.places.now (4 * n)
     count c.loop-f.words c.put_each.new.words)

@@ -8,7 +8,8 @@ loop-i-init c = column_none c.args.rows.now c.args.from c.args.c
 pub loop-i-preserved : goal.loop-i-preserved
 loop-i-preserved c =
     column_more c.args.rows.now c.args.from c.args.c c.loop-i.plane c.with_bit-more.result
-    c.loop-i.i c.get-bit.result c.loop-i.invariant (omega arith) c.get-bit.ensures c.with_bit-more.ensures
+    c.loop-i.i c.get-bit.result c.loop-i.invariant (omega arith) c.get-bit.ensures
+    c.with_bit-more.ensures
 
 pub returns : goal.returns
 returns c i h = c.loop-i.invariant.done i (omega (arith, h))

@@ -32,7 +32,8 @@ pub loop-i-2-preserved : goal.loop-i-2-preserved
 loop-i-2-preserved c =
     operands_next c.args.program.now c.loop-i-2.marks c.mark_clock-in-loop-i-2.new.marks
     c.mark_operands.new.marks c.loop-i-2.i c.index-equation.result.now
-    (sym c.index-equation.ensures) c.mark_clock-in-loop-i-2.ensures.more c.mark_clock-in-loop-i-2.ensures.marked
+    (sym c.index-equation.ensures) c.mark_clock-in-loop-i-2.ensures.more
+    c.mark_clock-in-loop-i-2.ensures.marked
     c.mark_operands.ensures c.loop-i-2.invariant
 
 pub returns : goal.returns

@@ -24,5 +24,7 @@ loop-j-preserved c s q run outer inner =
     c.mark_choices-in-loop-j.ensures s q run.constants
     (subst (λ choices. AllByRecursion (IsDone s) (selects_from b.first choices))
     (sym c.as_slice-in-loop-j.ensures.value)
-    (subst (λ x. AllByRecursion (IsDone s) (selects_from x.first x.choices.items)) same done.1)) outer
-    (c.mark_operands.ensures s q (subst (λ x. IsDone s x.last) same done.0) outer (c.loop-j.invariant s q run outer inner))
+    (subst (λ x. AllByRecursion (IsDone s) (selects_from x.first x.choices.items)) same done.1))
+    outer
+    (c.mark_operands.ensures s q (subst (λ x. IsDone s x.last) same done.0) outer
+    (c.loop-j.invariant s q run outer inner))

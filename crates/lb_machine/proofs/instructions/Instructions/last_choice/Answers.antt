@@ -9,7 +9,8 @@ returns-then-out-lt4294967296 c s all =
     let is = c.args.self.now in
     let k = c.len-count.result - 1 - c.loop-j.j in
     let lt : k < length is.choices.items =
-    omega (arith, c.len-count.ensures, c.min-j-end.ensures, c.loop-j-test.true, c.loop-j.auto.j-end) in
+    omega
+    (arith, c.len-count.ensures, c.min-j-end.ensures, c.loop-j-test.true, c.loop-j.auto.j-end) in
     c.are_same.ensures c.if-are_same.true s (is.first + k)
     (subst (λ x. IsDone s (select_at (is.first + k) x)) (sym c.index.ensures)
     (choice_done s is.choices.items is.first k (is.first + k) c.index.result.now
