@@ -1,7 +1,7 @@
 -- Lanes of the integers that words of one width stand for.
 use Rattle.std.proofs.Common.{◌≡◌, ℕ, zero, suc, ◌<◌, ◌==◌, Bool, true, false, List, [], ◌∷◌, ℤ}
-use Rattle.std.proofs.Common.{pos, cond, map, set, get_or, replicate, length, refl, sym, ap, ◌∙◌, subst}
-use Rattle.std.proofs.Common.{arith, SFits, to_z, of_z}
+use Rattle.std.proofs.Common.{pos, cond, map, set, get_or, replicate, length, refl, sym, ap, ◌∙◌}
+use Rattle.std.proofs.Common.{subst, arith, SFits, to_z, of_z}
 use Rattle.std.specs.Int.{Width}
 use Rattle.std.proofs.lemmas.Bool.{eqb-true, eqb-false}
 use Rattle.std.proofs.lemmas.List.{get_or-set_same, get_or-set_other}

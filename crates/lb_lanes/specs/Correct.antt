@@ -1,6 +1,6 @@
 -- What the kernels promise: each lane is computed alike, from the same lane of the operands alone.
--- A test of two integers, and an operator on Booleans, gives a plane whose lanes are what it gives of
--- each lane (`IsPlaneOf`); what the other calls give is said here.
+-- A test of two integers, and an operator on Booleans, gives a plane whose lanes are what it gives
+-- of each lane (`IsPlaneOf`); what the other calls give is said here.
 -- Source: this project's rule.
 use Rattle.std.specs.Prelude.{◌≡◌, ℕ, ◌<◌, Option, List, [], ℤ, EachIndex, slice_index}
 use Rattle.std.specs.Prelude.{slice_index_or, if◌then◌else◌}
