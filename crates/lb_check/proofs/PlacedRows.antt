@@ -307,3 +307,5 @@ module _ (ctx : Context) where
       (ap (λ l. side_call ctx lefts l (ctx.callee c)) os)
       (argument_items (side_clocks ctx lefts c (operands_in ctx row)) _ row
       ∙ ap₂ (λ l es. placed_each ctx (side_clocks ctx lefts c l) es) os same)
+
+pub ruleset each = (each_more, each_end, each_short)

@@ -186,7 +186,8 @@ pub fn one(alloc: Global, data_type: DataType) -> Result<Option<Vec<DataType>>, 
 
 /// The type, where there is one and no more.
 pub fn only(results: Option<Vec<DataType>>) -> Option<DataType>
-    ensures { option_map view_type result ≡ lists.◌>>=◌ (option_map view_types results) types.only }
+    ensures { option_map view_type result
+        ≡ lists.◌>>=◌ (option_map view_types results) types.only }
 {
     let mut all = results?;
     let last = all.pop()?;

@@ -232,7 +232,7 @@ fn place_all(
 /// Notes the clocks of terms that stand each on a clock of its own.
 #[inline(always)]
 #[cycle(placing)]
-#[tactic(auto, using(crate::proofs::PlacedRows::each_more, crate::proofs::PlacedRows::each_end, crate::proofs::PlacedRows::each_short))]
+#[tactic(auto, using(crate::proofs::PlacedRows::each))]
 fn place_each(
     alloc: Global,
     env: &ClockEnv,

@@ -19,3 +19,5 @@ pub within_joined :
     (n : ℕ) (clocks : List Clock) (qs rs : List Equation) → All (IsWithin n clocks) qs →
     All (IsWithin n clocks) rs → All (IsWithin n clocks) (qs ++ rs)
 within_joined n clocks qs rs h g = All-append (IsWithin n clocks) qs rs h g
+
+pub ruleset joined = (equations_joined, within_joined)

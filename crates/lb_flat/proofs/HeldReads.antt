@@ -66,3 +66,5 @@ held_none ns start end count is le =
     by : (b : Bool) → (if b then nothing else []) ≡ nothing
     by true = refl
     by false = refl
+
+pub ruleset held = (held_before, held_past, held_none)

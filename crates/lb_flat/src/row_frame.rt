@@ -100,7 +100,7 @@ fn parameters(node: &ResolvedNode) -> Option<Callee>
 }
 
 /// The elements of a variable of a row, where they are among those that there are.
-#[tactic(auto, using(crate::proofs::HeldReads::held_before, crate::proofs::HeldReads::held_past, crate::proofs::HeldReads::held_none))]
+#[tactic(auto, using(crate::proofs::HeldReads::held))]
 fn elements_at(layout: &Layout, row: InstanceId, x: VariableId) -> Elements
     ensures places { elements_of result ≡ mirror.held_below layout.now.count
         (numbers_at layout.now.variables.items layout.now.starts.items row.0 x.0) }

@@ -79,8 +79,8 @@ fn mark_choices(outer: &[bool], inner: &mut [bool], first: u32, choices: &[Choic
 
 // Whether a choice writes a plane within which another one is.
 fn joins(c: Choice, inner: PlaneId) -> bool
-    ensures { result ≡ true → (s : Lane) (out : ℕ) → HasConstants s → IsDone s (select_at out c)
-        → s.bits inner.0 ≡ true → s.bits out ≡ true }
+    ensures { result ≡ true → (s : Lane) (out : ℕ) → HasConstants s
+        → IsDone s (select_at out c) → s.bits inner.0 ≡ true → s.bits out ≡ true }
 {
     c.a.0 == EVERYWHERE.0 && (c.mask.0 == inner.0 || c.b.0 == inner.0)
 }

@@ -65,7 +65,8 @@ impl ClaimBoard {
         ensures shares { shares_of seat.new ≡ shares_of seat.old }
         ensures drawn { MatchOption result
             ((drawn_of seat.new ≡ drawn_of seat.old) × (told_of seat.new ≡ true))
-            (λ k. (drawn_of seat.new ≡ drawn_of seat.old ++ k ∷ []) × (told_of seat.new ≡ false)) }
+            (λ k. (drawn_of seat.new ≡ drawn_of seat.old ++ k ∷ [])
+            × (told_of seat.new ≡ false)) }
         ensures told { told_of seat.old ≡ true → result ≡ None }
         ensures below { MatchOption result (Unit {0}) (λ k. (k < limit_of self.now)
             × (length (drawn_of seat.new) ≤ limit_of self.now)) }

@@ -114,7 +114,7 @@ impl<G: Gate> Worker for GatedWorker<'_, '_, G> {
 }
 
 // Some workers, each with a seat of its own: a seat is split until each has one.
-fn work_together<R: Threads + Sync, W: Worker + Sync>(
+fn divide<R: Threads + Sync, W: Worker + Sync>(
     rt: &R,
     alloc: Global,
     board: &ClaimBoard,
@@ -144,7 +144,7 @@ fn work_together<R: Threads + Sync, W: Worker + Sync>(
             ensures { IfOk result (HasDone board.entry.now (shares_of left)
                 (W.program worker.entry.now) (W.recording worker.entry.now)
                 (W.batches worker.entry.now)) }
-        { work_together(rt, alloc, board, worker, left, workers - half) },
+        { divide(rt, alloc, board, worker, left, workers - half) },
         move || -> Result<Done, AllocError>
             requires { IsSync R.row × IsSync W.row
                 × (limit_of board.now ≡ length (W.batches worker.now))
@@ -153,7 +153,7 @@ fn work_together<R: Threads + Sync, W: Worker + Sync>(
             ensures { IfOk result (HasDone board.entry.now (shares_of right)
                 (W.program worker.entry.now) (W.recording worker.entry.now)
                 (W.batches worker.entry.now)) }
-        { work_together(rt, alloc, board, worker, right, half) },
+        { divide(rt, alloc, board, worker, right, half) },
     );
     both_done(board, one?, other?)
 }
@@ -176,7 +176,7 @@ fn run_workers<'a, 'p, R: Threads + Sync, G: Gate + Sync>(
     let (board, seat) = ClaimBoard::new(alloc, plan.batches())?;
     let work = Work { program, set, plan };
     let worker = GatedWorker { work, gate };
-    let done = work_together(rt, alloc, &board, &worker, seat, workers)?;
+    let done = divide(rt, alloc, &board, &worker, seat, workers)?;
     let Done { seat, judged } = done;
     let told = board.close(seat);
     prove!(told);

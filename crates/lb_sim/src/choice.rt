@@ -30,8 +30,8 @@ fn are_as(planes: &[u64], each: &[PlaneId], one: Plane, lanes: Plane) -> bool
 fn is_usable(planes: &[u64], code: &LaneCode, lanes: Plane) -> bool
     requires clear { All (λ (p : PlaneId). p.0 < length planes.now) code.now.clear.items }
     requires set { All (λ (p : PlaneId). p.0 < length planes.now) code.now.set.items }
-    ensures { result ≡ true → (words : List (List ℤ)) → (i : ℕ) → i < 64 → on lanes.0 i ≡ true
-        → Suits code.now (lane_at planes.now words i) }
+    ensures { result ≡ true → (words : List (List ℤ)) → (i : ℕ) → i < 64
+        → on lanes.0 i ≡ true → Suits code.now (lane_at planes.now words i) }
 {
     if !are_as(planes, code.clear.as_slice(), Plane(0), lanes) {
         return false;

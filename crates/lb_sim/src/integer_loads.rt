@@ -72,7 +72,8 @@ fn put_each(
 /// Whether four lanes are live, from one on.
 pub(crate) fn are_live(at: &Instant<'_, '_>, first: u32) -> bool
     requires { first + 4 ≤ 64 }
-    ensures { result ≡ true → (i : ℕ) → first ≤ i → i < first + 4 → on at.now.live.0 i ≡ true }
+    ensures { result ≡ true → (i : ℕ) → first ≤ i → i < first + 4
+        → on at.now.live.0 i ≡ true }
 {
     at.live.get(first) && at.live.get(first + 1) && at.live.get(first + 2) && at.live.get(first + 3)
 }

@@ -78,7 +78,7 @@ unfolding list_at
 list_fails separates item front ts q =
     front_fails front (item ts) (λ r. tail_at separates item (length r) r) q
 
--- a list after none
-pub nothing : {A : Type 0} (o : Option (List A × List Token)) → with_front [] o ≡ o
-nothing (Some r) = refl
-nothing None = refl
+-- a list after none: the same list
+pub id : {A : Type 0} (o : Option (List A × List Token)) → with_front [] o ≡ o
+id (Some r) = refl
+id None = refl

@@ -469,7 +469,7 @@ impl<F: Fn(Global, usize, u8, &[Token]) -> Result<(Box<Expr>, &[Token]), ReadErr
 
     /// One expression or more, and then a mark.
     #[inline(always)]
-    #[tactic(auto, unfolding(crate::specs::Reading::list_until), using(crate::proofs::Fronts::nothing))]
+    #[tactic(auto, unfolding(crate::specs::Reading::list_until), using(crate::proofs::Fronts::id))]
     fn list_until<'t>(
         &self,
         mark: Mark,

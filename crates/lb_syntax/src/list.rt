@@ -59,7 +59,7 @@ pub trait Items {
 ///
 /// Errors: those of the reader of an item, and `Memory`.
 #[inline(always)]
-#[tactic(auto, using(crate::proofs::Fronts::nothing))]
+#[tactic(auto, using(crate::proofs::Fronts::id))]
 pub fn list<'t, I: Items>(
     alloc: Global,
     items: &I,
@@ -130,7 +130,7 @@ fn tail<'t, I: Items>(
 }
 
 /// Any number of items, each after a separator, and the tokens after them.
-#[tactic(auto, unfolding(crate::specs::ListReading::any_at), using(crate::proofs::Fronts::nothing))]
+#[tactic(auto, unfolding(crate::specs::ListReading::any_at), using(crate::proofs::Fronts::id))]
 pub fn any<'t, I: Items>(
     alloc: Global,
     items: &I,

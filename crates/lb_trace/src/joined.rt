@@ -29,8 +29,8 @@ fn has_room_for(set: &TraceSet, more: u32) -> bool
 
 impl Recorder {
     /// Adds all instants of some parts, one part after the other, and lets go of each. It fails
-    /// where the name of a trace is there already and is not that of the last one, and where a limit
-    /// has no room.
+    /// where the name of a trace is there already and is not that of the last one, and where a
+    /// limit has no room.
     pub(crate) fn join_all(&mut self, alloc: Global, parts: Vec<Recorder>) -> Result<(), TraceError>
         requires names { knows self.old.names self.old.rows.traces }
         requires same { All (λ part. part.rows.signature ≡ self.old.rows.signature) parts.items }

@@ -100,7 +100,8 @@ pub fn the_first_instant_decides()
 
 /// The tables of the operators of truths, of the comparisons, and of `#` and `nor`.
 pub fn operators_of_data()
-    ensures accepted { Every IsAccepted (logic ∷ equality_of_truths ∷ comparisons ∷ counting ∷ []) }
+    ensures accepted { Every IsAccepted
+        (logic ∷ equality_of_truths ∷ comparisons ∷ counting ∷ []) }
     ensures tables_of_logic { HasVerdict logic logic_table Passed }
     ensures equal_truths { HasVerdict equality_of_truths equality_table Passed }
     ensures comparisons_of_integers { HasVerdict comparisons comparison_table Passed }

@@ -46,8 +46,9 @@ pub fn words_and_symbols()
         (0 ∷ 7 ∷ 11 ∷ 14 ∷ 18 ∷ 19 ∷ 22 ∷ []) }
     ensures reserved { tokens reserved_words ≡ Some (map mark reserved) }
     ensures symbols { tokens_of "=><>>=.;:,()[]<>+-*/^|#" ≡ Some (map mark symbols) }
-    ensures starts_of_them { starts_of "=><>>=.;:,()[]<>+-*/^|#" ≡ (0 ∷ 2 ∷ 4 ∷ 6 ∷ 7 ∷ 8 ∷ 9
-        ∷ 10 ∷ 11 ∷ 12 ∷ 13 ∷ 14 ∷ 16 ∷ 17 ∷ 18 ∷ 19 ∷ 20 ∷ 21 ∷ 22 ∷ []) }
+    ensures starts_of_them { starts_of "=><>>=.;:,()[]<>+-*/^|#" ≡
+        (0 ∷ 2 ∷ 4 ∷ 6 ∷ 7 ∷ 8 ∷ 9 ∷ 10 ∷ 11 ∷ 12 ∷ 13 ∷ 14 ∷ 16
+        ∷ 17 ∷ 18 ∷ 19 ∷ 20 ∷ 21 ∷ 22 ∷ []) }
 {}
 
 /// How many tokens of each statement are counted.

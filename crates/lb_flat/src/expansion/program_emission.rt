@@ -14,7 +14,7 @@ use std::alloc::AllocError;
 
 impl TermEmission {
     /// The same, where these equations of elements of variables come before its own.
-    #[tactic(auto, using(crate::proofs::EmittedProgram::equations_joined, crate::proofs::EmittedProgram::within_joined))]
+    #[tactic(auto, using(crate::proofs::EmittedProgram::joined))]
     pub(crate) fn after(self, before: Vec<Equation>) -> Result<TermEmission, AllocError>
         requires within { All (IsWithin self.next self.clocks.items) before.items }
         ensures state { IfOk result (λ e. state_of e ≡ after_copies
@@ -46,7 +46,7 @@ impl TermEmission {
     /// The flat program of what was emitted, on inputs of these kinds: the kinds of its elements,
     /// how many of them are those of variables, those that serve as clocks, and that of the
     /// property.
-    #[tactic(auto, using(crate::proofs::EmittedProgram::equations_joined, crate::proofs::EmittedProgram::within_joined))]
+    #[tactic(auto, using(crate::proofs::EmittedProgram::joined))]
     pub(crate) fn into_program(
         self,
         inputs: Vec<Kind>,
