@@ -1,5 +1,4 @@
--- Pairs of what a length lacks and a number, once sorted, leave the longest traces first, and those
--- of one length by number.
+-- Pairs of a length and a number, once sorted, leave the numbers by length and then by number.
 use Rattle.std.proofs.Common.{◌≡◌, ℕ, zero, suc, ◌+◌, ◌-◌, ◌<◌, ◌≤◌, ◌⊎◌, inl, inr, List, [], ◌∷◌}
 use Rattle.std.proofs.Common.{false, length, get_or, map, refl, ap, subst, arith}
 use Rattle.std.specs.List.{All, AllPairs, range_with_len}
@@ -8,7 +7,6 @@ use Rattle.std.specs.Ordering.{nat_cmp, ordering_then, is_lt}
 use Rattle.std.proofs.lemmas.Bool.{cases_lt}
 use Rattle.std.proofs.lemmas.Bool.Decides.{nat_tests}
 use Rattle.std.proofs.lemmas.List.{get_or-map, length-map}
-use Rattle.std.proofs.lemmas.List.FromFn.{get_or-range_with_len, length-range_with_len}
 use Rattle.std.proofs.lemmas.List.Elements.{All-map}
 use Rattle.std.proofs.lemmas.List.Sorted.{IsPermutation-map, All-permutation}
 use Rattle.lb_pool.specs.Cuts.{measured}
@@ -57,13 +55,9 @@ module _ (ys : List (ℕ × ℕ))
 
 same_numbers :
     (length_at : ℕ → ℕ) (xs : List ℕ) →
-    map (λ (p : ℕ × ℕ). p.1) (map (λ k. (1000000 - length_at k, k)) xs) ≡ xs
+    map (λ (p : ℕ × ℕ). p.1) (map (λ k. (length_at k, k)) xs) ≡ xs
 same_numbers length_at [] = refl
 same_numbers length_at (x ∷ xs) = ap (λ l. x ∷ l) (same_numbers length_at xs)
-
--- what a length lacks and the length are the greatest length together
-abbrev IsLacking : (ℕ → ℕ) → ℕ × ℕ → Type 0
-IsLacking length_at p = p.0 + length_at p.1 ≡ 1000000
 
 module _ (length_at : ℕ → ℕ) (n : ℕ) (ys : List (ℕ × ℕ))
     (moved : IsPermutation (measured length_at n) ys) where
@@ -73,35 +67,24 @@ module _ (length_at : ℕ → ℕ) (n : ℕ) (ys : List (ℕ × ℕ))
       (same_numbers length_at (range_with_len 0 n))
       (IsPermutation-map (λ (p : ℕ × ℕ). p.1) (measured length_at n) ys moved)
 
-  lacking :
-      ((k : ℕ) → k < n → length_at k ≤ 1000000) → (i d : ℕ) → i < length (range_with_len 0 n) →
-      IsLacking length_at
-      (1000000 - length_at (get_or (range_with_len 0 n) i d), get_or (range_with_len 0 n) i d)
-  lacking short i d h =
-      let within : i < n = omega (arith, h, length-range_with_len 0 n) in
-      let here = get_or-range_with_len 0 n i d within in
-      let at_most = short (get_or (range_with_len 0 n) i d) (omega (arith, here, within)) in
-      omega (arith, at_most)
-
-  are_lacking : ((k : ℕ) → k < n → length_at k ≤ 1000000) → All (IsLacking length_at) ys
-  are_lacking short =
-      All-permutation (IsLacking length_at) (measured length_at n) ys moved
-      (All-map (IsLacking length_at) (λ k. (1000000 - length_at k, k)) (range_with_len 0 n)
-      (lacking short))
+  are_measured : All (λ p. p.0 ≡ length_at p.1) ys
+  are_measured =
+      All-permutation (λ (p : ℕ × ℕ). p.0 ≡ length_at p.1) (measured length_at n) ys moved
+      (All-map (λ (p : ℕ × ℕ). p.0 ≡ length_at p.1) (λ k. (length_at k, k)) (range_with_len 0 n)
+      (λ k d h. refl))
 
   of_pairs :
-      (x y : ℕ × ℕ) (a b : ℕ) → a ≡ x.1 → b ≡ y.1 → IsLacking length_at x →
-      IsLacking length_at y → Le x y → Precedes length_at a b
+      (x y : ℕ × ℕ) (a b : ℕ) → a ≡ x.1 → b ≡ y.1 → x.0 ≡ length_at x.1 →
+      y.0 ≡ length_at y.1 → Le x y → Precedes length_at a b
   of_pairs x y a b p q r s (inl h) =
       inl (omega (arith, ap length_at p, ap length_at q, r, s, h))
   of_pairs x y a b p q r s (inr h) =
       inr (omega (arith, ap length_at p, ap length_at q, r, s, h.0), omega (arith, p, q, h.1))
 
   pub by_length :
-      ((k : ℕ) → k < n → length_at k ≤ 1000000) →
       IsSorted (λ x y. ordering_then (nat_cmp x.0 y.0) (nat_cmp x.1 y.1)) ys →
       AllPairs (Precedes length_at) (map (λ p. p.1) ys)
-  by_length short sorted i j d before inside =
+  by_length sorted i j d before inside =
       let e : ℕ × ℕ = (0, d) in
       let long : length (map (λ (p : ℕ × ℕ). p.1) ys) ≡ length ys = length-map ys (λ p. p.1) in
       let here : j < length ys = omega (arith, long, inside) in
@@ -111,4 +94,4 @@ module _ (length_at : ℕ → ℕ) (n : ℕ) (ys : List (ℕ × ℕ))
       of_pairs (get_or ys i e) (get_or ys j e) _ _
       (get_or-map (λ (p : ℕ × ℕ). p.1) ys i e d (omega (arith, here, before)))
       (get_or-map (λ (p : ℕ × ℕ). p.1) ys j e d here)
-      (are_lacking short i e (omega (arith, here, before))) (are_lacking short j e here) le
+      (are_measured i e (omega (arith, here, before))) (are_measured j e here) le

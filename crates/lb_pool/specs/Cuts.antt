@@ -23,6 +23,6 @@ pub record IsCut (width : ℕ) (numbers : List ℕ) : Type 0 where
   pub few : length numbers < 2 ^ 32
   pub each_once : IsPermutation (range_with_len 0 (length numbers)) numbers
 
--- the numbers below n, each behind what its length lacks to the greatest that a trace can have
+-- the numbers below n, each behind its length
 abbrev pub measured : (ℕ → ℕ) → ℕ → List (ℕ × ℕ)
-measured length_at n = map (λ k. (1000000 - length_at k, k)) (range_with_len 0 n)
+measured length_at n = map (λ k. (length_at k, k)) (range_with_len 0 n)

@@ -27,11 +27,11 @@ pub record IsLawful (batches : List (List ℕ)) : Type 0 where
 abbrev pub length_of : Traces → ℕ → ℕ
 length_of traces k = length (trace_at traces k).1
 
--- by these lengths, trace j is longer than trace k, or as long and its number is no greater
+-- by these lengths, trace j is shorter than trace k, or as long and its number is no greater
 abbrev pub Precedes : (ℕ → ℕ) → ℕ → ℕ → Type 0
 Precedes length_at j k =
-    (length_at k < length_at j) ⊎ ((length_at j ≡ length_at k) × (j ≤ k))
+    (length_at j < length_at k) ⊎ ((length_at j ≡ length_at k) × (j ≤ k))
 
--- the numbers of traces, the longest first, and of one length by number
+-- the numbers of traces, by length and then by number
 abbrev pub IsByLength : Traces → List ℕ → Type 0
 IsByLength traces numbers = AllPairs (Precedes (length_of traces)) numbers

@@ -4,11 +4,11 @@
 //! of its own:
 //!
 //! ```text
-//! by length, width 2, traces of 3, 1, 2 and 1 instants:      numbers  0 2 1 3
-//!                                                            batches  0 2 | 1 3
+//! by length, width 2, traces of 3, 1, 2 and 1 instants:      numbers  1 3 2 0
+//!                                                            batches  1 3 | 2 0
 //! ```
 
-ghost use Rattle.std.specs.Prelude.{◌≡◌, ℕ, ◌<◌, ◌≤◌, ◌^◌, [], length, map, get_or, IfOk, OnOk};
+ghost use Rattle.std.specs.Prelude.{◌≡◌, ◌<◌, ◌≤◌, ◌^◌, [], length, map, get_or, IfOk, OnOk};
 ghost use Rattle.std.specs.Prelude.{vec_len};
 ghost use Rattle.std.specs.List.{range_with_len};
 ghost use Rattle.std.specs.List.Sorted.{IsPermutation};
@@ -18,9 +18,6 @@ ghost use Rattle.lb_pool.specs.Plans.{numbers_in, length_of, IsPlan, IsLawful, I
 use lb_flat::TraceSet;
 use std::alloc::{AllocError, Global};
 use std::marker::Model;
-
-// How many instants a trace has at most.
-const MOST_INSTANTS: u32 = 1_000_000;
 
 /// The numbers of some traces in batches of 1 to 64, each number once.
 ///
@@ -62,9 +59,8 @@ impl Plan {
         Ok(Plan::of_numbers(numbers, width))
     }
 
-    /// The traces of a set, the longest first, in batches of a width. Of two traces of one length
-    /// the one with the lower number comes first. A batch goes on to the end of its longest trace,
-    /// so the one that may not be full has the shortest traces.
+    /// The traces of a set, the shortest first, in batches of a width. Of two traces of one length
+    /// the one with the lower number comes first.
     pub fn by_length(alloc: Global, set: &TraceSet, width: u32) -> Result<Plan, AllocError>
         requires width { (0 < width) × (width ≤ 64) }
         ensures plan { IfOk result (IsPlan (length set.now.traces) width) }
@@ -116,30 +112,28 @@ impl Plan {
     }
 }
 
-// The traces of a set, each with what its length lacks to the greatest one before its number.
+// The traces of a set, each with its length before its number.
 fn measured(alloc: Global, set: &TraceSet) -> Result<Vec<(u32, u32)>, AllocError>
     ensures pairs { IfOk result (λ pairs. pairs.items
         ≡ measured (length_of set.now.traces) (length set.now.traces)) }
-    ensures short { OnOk result ((k : ℕ) → k < length set.now.traces
-        → length_of set.now.traces k ≤ MOST_INSTANTS) }
     ensures limit { OnOk result (length set.now.traces ≤ 1000000) }
 {
     let count = set.len();
     let mut pairs = Vec::with_capacity(alloc, count as usize)?;
     for k in 0..count {
-        pairs.push((MOST_INSTANTS - set.length(k), k))?;
+        pairs.push((set.length(k), k))?;
     }
     Ok(pairs)
 }
 
-// The numbers of pairs of what a length lacks and a number.
+// The numbers of pairs of a length and a number.
 fn numbers_of(alloc: Global, pairs: &[(u32, u32)]) -> Result<Vec<u32>, AllocError>
     ensures { IfOk result (λ numbers. numbers.items ≡ map (λ pair. pair.1) pairs.now) }
 {
     pairs.iter().map(|pair| pair.1).collect(alloc)
 }
 
-// The numbers of the traces of a set, the longest first, and of one length by number.
+// The numbers of the traces of a set, by length and then by number.
 fn numbers_by_length(alloc: Global, set: &TraceSet) -> Result<Vec<u32>, AllocError>
     ensures count { IfOk result (λ v. vec_len v ≡ length set.now.traces) }
     ensures limit { OnOk result (length set.now.traces ≤ 1000000) }

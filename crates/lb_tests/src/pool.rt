@@ -90,8 +90,8 @@ const PLANS: &str = "\
 1: 2 2 => 2 of 2: | 0 | 1
 2: 3 1 2 1 => 2 of 4: | 0 1 | 2 3
 3: 3 1 2 1 => 2 of 4: | 0 1 2 | 3
-2 by length: 3 1 2 1 => 2 of 4: | 0 2 | 1 3
-3 by length: 3 1 2 1 => 2 of 4: | 0 2 1 | 3";
+2 by length: 3 1 2 1 => 2 of 4: | 1 3 | 2 0
+3 by length: 3 1 2 1 => 2 of 4: | 1 3 2 | 0";
 
 #[test]
 fn plans(rt: HostRuntime) -> Result<(), AllocError> {

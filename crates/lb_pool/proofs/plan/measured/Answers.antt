@@ -1,5 +1,5 @@
 -- One more pair.
-use Rattle.std.proofs.Common.{◌++◌, ◌∷◌, [], List, ℕ, ◌-◌, sym, ap, ◌∙◌, arith, below_more}
+use Rattle.std.proofs.Common.{◌++◌, ◌∷◌, [], List, ℕ, sym, ap, ◌∙◌, arith}
 use Rattle.std.proofs.lemmas.List.FromFn.{map-range_with_len_more}
 use Rattle.lb_pool.specs.Plans.{length_of}
 use Rattle.lb_pool.proofs.plan.measured.Goals as goal
@@ -9,11 +9,7 @@ loop-k-preserved c =
     let k = c.loop-k.k in
     let before = c.loop-k.pairs.items in
     let length_at = length_of c.args.set.now.traces in
-    let items = c.in_ok-push.ensures.items
-    ∙ ap (λ (n : ℕ). before ++ (1000000 - n, k) ∷ []) c.length.ensures.instants
-    ∙ ap (λ (l : List (ℕ × ℕ)). l ++ (1000000 - length_at k, k) ∷ []) c.loop-k.invariant.0
-    ∙ sym (map-range_with_len_more (λ j. (1000000 - length_at j, j)) 0 k k (omega arith)) in (
-      items,
-      below_more _ _ c.loop-k.invariant.1
-          (omega (arith, c.length.ensures.instants, c.length.ensures.limit)),
-    )
+    c.in_ok-push.ensures.items
+    ∙ ap (λ (n : ℕ). before ++ (n, k) ∷ []) c.length.ensures.instants
+    ∙ ap (λ (l : List (ℕ × ℕ)). l ++ (length_at k, k) ∷ []) c.loop-k.invariant
+    ∙ sym (map-range_with_len_more (λ j. (length_at j, j)) 0 k k (omega arith))

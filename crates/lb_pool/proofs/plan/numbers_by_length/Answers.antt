@@ -29,7 +29,7 @@ returns-clause-order c =
     let out : c.in_ok-numbers.numbers.items ≡ map (λ (p : ℕ × ℕ). p.1) pairs =
     c.in_ok-numbers.ensures ∙ ap (map (λ (p : ℕ × ℕ). p.1)) c.as_slice.ensures.value in
     subst (IsByLength c.args.set.now.traces) (sym out)
-    (by_length length_at n pairs moved c.in_ok-pairs.ensures.short c.sort_unstable.ensures.sorted)
+    (by_length length_at n pairs moved c.sort_unstable.ensures.sorted)
 
 pub returns-clause-count : goal.returns-clause-count
 returns-clause-count c =
