@@ -49,7 +49,7 @@ by_text source syntax.Memory some h = absurd (omega (arith, some))
 by_text source (syntax.Character line column) some h =
     record { refusal = E1; refuses = no_tokens h.short h.has_none; same = refl }
 by_text source (syntax.Syntax line column) some h =
-    record { refusal = E2; refuses = no_tree h; same = refl }
+    record { refusal = E2; refuses = no_tree h.fault; same = refl }
 by_text source (syntax.Size line column) some (inl h) =
     record { refusal = E3; refuses = too_long h.too_long; same = refl }
 by_text source (syntax.Size line column) some (inr (ts, index, h)) = record {

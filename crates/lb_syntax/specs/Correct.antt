@@ -1,11 +1,12 @@
 -- What `parse` promises of a text.
 -- Source: the order of the refusals and the limits are this project's rule.
-use Rattle.std.specs.Prelude.{◌≡◌, List, Some, Result, Ok, Err}
+use Rattle.std.specs.Prelude.{◌≡◌, ℕ, ◌⊎◌, Contains, List, Some, Result, Ok, Err, length}
 use Rattle.lb_syntax.specs.declared.error.SyntaxError.{SyntaxError}
 use Rattle.lb_syntax.specs.declared.error.SyntaxError.TheVariants as error
 use Rattle.lb_syntax.specs.declared.token.Token.{Token}
 use Rattle.lb_syntax.specs.declared.tree.Source.{Source}
 use Rattle.lb_syntax.specs.Grammar.{Spells}
+use Rattle.lb_syntax.specs.Places.{IsPlace, starts}
 use Rattle.lb_syntax.specs.SourceView.{view_source}
 use Rattle.lb_syntax.specs.Texts.{HasTokens, IsCharacterFault, IsSizeFault}
 use Rattle.lb_syntax.specs.Tokens.{Text, tokens}
@@ -25,11 +26,20 @@ pub record IsOnlyProgram (s : tree.Source) (text : Text) : Type 0 where
   pub no_other_is_spelled : (other : tree.Source) → SpellsText other text → s ≡ other
   pub limits_hold : KeepsLimits text
 
--- refused as E2: all that is judged before holds, and the text spells no program; of the place,
--- nothing is said
+-- refused as E2: all that is judged before holds, and the text spells no program
 pub record IsSyntaxFault (text : Text) : Type 0 where
   pub limits_hold : KeepsLimits text
   pub none_is_spelled : (s : tree.Source) → SpellsText s text → ⊥
+
+-- the place of the first byte of a token, or of the end of the text
+abbrev pub IsTokenPlace : (text : Text) (line column : ℕ) → Type 0
+IsTokenPlace text line column = (offset : ℕ)
+    × (Contains (starts text) offset ⊎ (offset ≡ length text)) × IsPlace text offset line column
+
+-- refused as E2 at this place; at which of the tokens is not said
+pub record IsSyntaxFaultAt (text : Text) (line column : ℕ) : Type 0 where
+  pub fault : IsSyntaxFault text
+  pub place : IsTokenPlace text line column
 
 -- what `parse` answers; nothing is said where memory ran out
 abbrev pub Parses : Text → Result Source SyntaxError → Type 0
@@ -37,4 +47,4 @@ Parses text (Ok s) = IsOnlyProgram (view_source s) text
 Parses text (Err error.Memory) = Unit {0}
 Parses text (Err (error.Character line column)) = IsCharacterFault text line column
 Parses text (Err (error.Size line column)) = IsSizeFault text line column
-Parses text (Err (error.Syntax line column)) = IsSyntaxFault text
+Parses text (Err (error.Syntax line column)) = IsSyntaxFaultAt text line column

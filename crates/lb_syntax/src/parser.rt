@@ -3,7 +3,7 @@
 //! The text is judged in this order: its length, whether it has tokens, the limits of its names,
 //! literals and statements, and whether a tree spells the tokens. The first that fails decides.
 
-ghost use Rattle.std.specs.Prelude.{◌<◌, ◌^◌, length};
+ghost use Rattle.std.specs.Prelude.{◌≡◌, ◌<◌, ◌^◌, ◌⊎◌, Contains, length};
 ghost use Rattle.lb_syntax.specs.Correct.{Parses};
 
 use crate::error::SyntaxError;
@@ -17,6 +17,7 @@ use std::alloc::Global;
 /// The offset of the first of the last `left` tokens, or of the end of the text where none is left.
 fn offset_of(text: &[u8], starts: &[u32], left: usize) -> u32
     requires { length text.now < 2 ^ 32 }
+    ensures { Contains starts.now result ⊎ (result ≡ length text.now) }
 {
     match starts.get(starts.len().saturating_sub(left)) {
         Some(start) => *start,
