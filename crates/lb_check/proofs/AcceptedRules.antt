@@ -2,14 +2,13 @@
 use Rattle.std.proofs.Common.{◌≡◌, ℕ, suc, Bool, true, None, List, [], ◌∷◌}
 use Rattle.std.specs.List.{list_all}
 use Rattle.lb_syntax.specs.Lists.{Every, In}
-use Rattle.lb_syntax.specs.Refusals.{E5, E6, E9, E10, E11, E12, unless}
+use Rattle.lb_syntax.specs.Refusals.{E5, E6, E9, E10, E12, unless}
 use Rattle.lb_syntax.proofs.TruthValues.{and_first}
 use Rattle.lb_static.specs.Instances.{Program, Instance, instances}
 use Rattle.lb_static.specs.Instantiation.{static_refusal, has_values, is_in_range, may_enter}
 use Rattle.lb_static.specs.Instantiation.{instance_refusal, instantiation_refusal}
 use Rattle.lb_check.specs.Acceptance.{check_refusal}
 use Rattle.lb_check.specs.ClockRules.{is_clocked, are_declared_clocks}
-use Rattle.lb_check.specs.DefinitionRules.{is_defined}
 use Rattle.lb_check.specs.TypeRules.{is_typed}
 use Rattle.lb_check.proofs.ApartLists.{Every-at}
 use Rattle.lb_check.proofs.Checks.{first_none, second_none, kept, instantiation_kept}
@@ -47,9 +46,6 @@ module _ (P : Program) (checked : check_refusal P ≡ None) where
   abbrev clocks : Instance → Bool
   clocks here = is_clocked P here.node
 
-  abbrev definitions : Instance → Bool
-  definitions here = is_defined P here.node
-
   -- each instance keeps the rules of types
   pub all_typed : Every (λ here. is_typed P here ≡ true) (instances P)
   all_typed =
@@ -70,21 +66,9 @@ module _ (P : Program) (checked : check_refusal P ≡ None) where
       (λ here. are_declared_clocks here.node ≡ true)
       (λ here e. and_first (are_declared_clocks here.node) _ e) (instances P) all_clocked
 
-  -- and those of definitions
-  pub all_defined : Every (λ here. is_defined P here.node ≡ true) (instances P)
-  all_defined =
-      let later = second_none (unless (list_all (is_typed P) (instances P)) E9) _ checked in
-      Every-tested definitions (instances P)
-      (kept (list_all definitions (instances P)) E11
-      (second_none (unless (list_all clocks (instances P)) E10) _ later))
-
   pub typed : (here : Instance) → In here (instances P) → is_typed P here ≡ true
   typed here i = Every-at (λ here. is_typed P here ≡ true) (instances P) here all_typed i
 
   pub clocked : (here : Instance) → In here (instances P) → is_clocked P here.node ≡ true
   clocked here i =
       Every-at (λ here. is_clocked P here.node ≡ true) (instances P) here all_clocked i
-
-  pub defined : (here : Instance) → In here (instances P) → is_defined P here.node ≡ true
-  defined here i =
-      Every-at (λ here. is_defined P here.node ≡ true) (instances P) here all_defined i

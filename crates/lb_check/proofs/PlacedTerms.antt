@@ -9,7 +9,7 @@ use Rattle.std.proofs.lemmas.List.Folds.{list_all-append}
 use mathlib.Core.Former.{Count}
 use Rattle.lb_syntax.specs.Lists.{◌>>=◌, either_or, holds, listed}
 use Rattle.lb_syntax.specs.Tree as tree
-use Rattle.lb_syntax.specs.Tree.{Name, Static, Expr, Node}
+use Rattle.lb_syntax.specs.Tree.{Name, Static, Expr}
 use Rattle.lb_syntax.proofs.TruthValues.{and_first, and_second}
 use Rattle.lb_static.specs.Instances.{Program, node_named}
 use Rattle.lb_static.specs.Parts.{variable_names}
@@ -85,9 +85,6 @@ IsTerm P n lefts o t = (o.clock ≡ clock_in n t.clock) × IsCall P n lefts o t.
 module _ (P : Program) (r : Reached) (here : ResolvedNode) (sees : SeesClocks P r here) where
   abbrev texts : Texts
   texts = texts_of here
-
-  abbrev node : Node
-  node = node_of here
 
   abbrev ctx : Context
   ctx = context_of r here

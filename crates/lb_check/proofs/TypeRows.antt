@@ -147,9 +147,6 @@ results_symbol ctx it op n es =
     ap (λ o. o >>= row_results ctx (IterateSymbol it op n es))
     (types_items ctx row.0 row.1 ∙ ap (types_of ctx) (items_hidden-the_row-Term-0 es))
 
--- what a term with a row of terms says of the list
-pub ruleset rows = (type_array, type_at_most_one, type_nor, type_call, type_node, type_symbol)
-
 -- a term has these operands in a row
 abbrev pub IsRow : Term → Vec Term Global → Type 0
 IsRow t es =

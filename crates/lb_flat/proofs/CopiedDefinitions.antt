@@ -101,10 +101,6 @@ defined-append (x ∷ xs) us (ys ∷ yss) zss e =
     ap (λ ds. record { element = x; needed = ys } ∷ ds)
     (defined-append xs us yss zss (omega arith))
 
-again : {B : Type 0} (us vs ws : List B) → us ++ (vs ++ ws) ≡ (us ++ vs) ++ ws
-again [] vs ws = refl
-again (u ∷ us) vs ws = ap (λ zs. u ∷ zs) (again us vs ws)
-
 module _ (Y : Layout) (P : Program) (H : History)
     (same : (p : Path) (x : Name) → length (Y.places p x) ≡ length (H.columns p x))
     (IsAt : Element → ℕ → Type 0) (Under : ℕ → ℕ → Type 0) (Left : ℕ → Type 0) where

@@ -1,6 +1,6 @@
 -- The flat program of what was emitted.
--- This file mirrors code (src/expand/program_emission.rt); no definition of the language stands on
--- it.
+-- This file mirrors code (src/expansion/program_emission.rt); no definition of the language stands
+-- on it.
 use Rattle.std.specs.Prelude.{ℕ, List, ◌++◌}
 use Rattle.lb_syntax.specs.declared.tree.Kind.{Kind}
 use Rattle.lb_flat.specs.Emit.{State}

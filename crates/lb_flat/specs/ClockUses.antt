@@ -1,6 +1,6 @@
 -- The variables of a node that serve as clocks, by number: some declared clock or some `when` of
 -- the node names them.
--- This file mirrors code (src/expand/clock_uses.rt); no definition of the language stands on it.
+-- This file mirrors code (src/expansion/clock_uses.rt); no definition of the language stands on it.
 use Rattle.std.specs.Prelude.{◌≡◌, ◌<◌, ℕ, ◌==◌, Bool, false, List, [], ◌∷◌, ◌++◌, flat_map}
 use Rattle.std.specs.Prelude.{get_or, length}
 use Rattle.std.specs.List.{range_with_len, list_any, filter}

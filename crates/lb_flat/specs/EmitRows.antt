@@ -1,5 +1,6 @@
 -- The equations that `expand` emits for the rows of the table of instances, in its order.
--- This file mirrors code (src/expand/row_emission.rt); no definition of the language stands on it.
+-- This file mirrors code (src/expansion/row_emission.rt); no definition of the language stands on
+-- it.
 use Rattle.std.specs.Prelude.{◌≡◌, ℕ, suc, Bool, true, Option, Some, List, [], ◌∷◌, ◌++◌}
 use Rattle.std.specs.Prelude.{slice_get}
 use Rattle.lb_syntax.specs.Lists.{◌>>=◌, listed}

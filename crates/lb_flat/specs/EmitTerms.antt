@@ -1,4 +1,4 @@
--- This file mirrors code (src/expand/term_emission.rt and what stands beside it): the equations
+-- This file mirrors code (src/expansion/term_emission.rt and what stands beside it): the equations
 -- that are emitted for resolved terms, where what a number stands for is had from a context.
 -- It is `Emit` with numbers for names. Terms and calls are counted as they come, in text order, and
 -- parentheses are none; the operands of a row give one list of elements.

@@ -1,5 +1,5 @@
 -- The whole flat program that `expand` emits from the rows of the table of instances.
--- This file mirrors code (src/expand/start_emission.rt, begin_emission.rt, clock_emission.rt and
+-- This file mirrors code (src/expansion/start_emission.rt, begin_emission.rt, clock_emission.rt and
 -- whole_emission.rt); no definition of the language stands on it.
 use Rattle.std.specs.Prelude.{◌≡◌, ◌<◌, ℕ, suc, ◌+◌, ◌^◌, Bool, true, false, Option, Some, None}
 use Rattle.std.specs.Prelude.{List, [], ◌∷◌, ◌++◌, map, flat_map, get_or, length, option_map}

@@ -33,7 +33,6 @@ pub mod Rows
 pub mod TableSizes
 pub mod RowContexts
 pub mod RowKinds
-pub mod RowBodies
 pub mod FlatSolutions
 pub mod Fitting
 pub mod FlatPrograms

@@ -1,5 +1,5 @@
 -- What the numbers in the text of a row's node stand for.
--- This file mirrors code (src/expand/frame.rt); no definition of the language stands on it.
+-- This file mirrors code (src/expansion/frame.rt); no definition of the language stands on it.
 use Rattle.std.specs.Prelude.{ℕ, ℤ, Bool, List, slice_get, option_map}
 use Rattle.lb_syntax.specs.Lists.{either_or}
 use Rattle.lb_static.specs.declared.reach.Reached.{Reached}

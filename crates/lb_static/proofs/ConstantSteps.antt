@@ -1,6 +1,6 @@
 -- The values of constants: what more steps keep, and when a table of values is complete.
 use Rattle.std.proofs.Common.{◌≡◌, ◌≢◌, ℕ, zero, suc, ◌+◌, ◌-◌, ◌<◌, ◌≤◌, ℤ, Bool, true, false}
-use Rattle.std.proofs.Common.{cond, List, [], ◌∷◌, ◌++◌, length, map, drop, set, get_or, replicate}
+use Rattle.std.proofs.Common.{cond, List, [], ◌∷◌, ◌++◌, length, map, drop, set, get_or}
 use Rattle.std.proofs.Common.{Option, Some, None, is_some, option_map, refl, ap, sym, ◌∙◌, arith}
 use Rattle.std.specs.Prelude.{not, ◌||◌, if◌then◌else◌, nat_lt, nat_eq, position, slice_get}
 use Rattle.std.specs.Borrow.{Bor}
@@ -188,12 +188,6 @@ sound_more cs vs i c v sound is none has = record {
         → constant_value cs (known (set vs i (Some v))) x ≡ Some w
     by x w None at held = absurd cc
     by x w (Some j) at held = decided x w j (nat_eq j i) refl at held
-
--- no value is held at first
-held_none : (n : ℕ) (i : ℕ) → (slice_get (replicate {A = Option ℤ} n None) i >>= λ u. u) ≡ None
-held_none zero i = refl
-held_none (suc n) zero = refl
-held_none (suc n) (suc i) = held_none n i
 
 -- ## When all values are held
 

@@ -103,10 +103,6 @@ module _ (variable : Name → Bool) (given : Name → Option ℤ) where
       && (list_all has (own_indexes e) && list_all has (own_arguments e)))
       && list_all name_has (own_names e)
 
-  first : (a : Bool) → (a && true) ≡ ((a && true) && true)
-  first true = refl
-  first false = refl
-
   both_ends : (a b : Bool) → (a && (b && true)) ≡ ((true && ((a && (b && true)) && true)) && true)
   both_ends true true = refl
   both_ends true false = refl

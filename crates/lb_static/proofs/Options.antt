@@ -1,11 +1,10 @@
 -- All things of a list, if each is there: item by item, in the other order, and two lists one
 -- after the other.
-use Rattle.std.proofs.Common.{◌≡◌, ℕ, suc, ◌+◌, ◌<◌, List, [], ◌∷◌, ◌++◌, length, drop, map, get_or}
+use Rattle.std.proofs.Common.{◌≡◌, ℕ, suc, List, [], ◌∷◌, ◌++◌, length, drop, map}
 use Rattle.std.proofs.Common.{Option, Some, None, option_map, refl, ap, sym, ◌∙◌}
 use Rattle.std.specs.Prelude.{reverse}
 use Rattle.std.proofs.lemmas.List.{reverse-append, map-append}
 use Rattle.lb_syntax.specs.Lists.{◌>>=◌, all_some}
-use Rattle.lb_static.proofs.Lists.{map_next}
 
 -- so far, and what is left
 abbrev pub IsSoFar : {A B : Type 0} → (A → Option B) → List B → List A → ℕ → Type 0
@@ -15,14 +14,6 @@ IsSoFar f done xs i = option_map (λ l. done ++ l) (all_some (map f (drop i xs))
 nothing_before : {B : Type 0} (o : Option (List B)) → option_map (λ l. [] ++ l) o ≡ o
 nothing_before None = refl
 nothing_before (Some l) = refl
-
--- what is left, with its first
-left : {A B : Type 0} (f : A → Option B) (done : List B) (xs : List A) (i : ℕ) (x : A)
-    → i < length xs → x ≡ get_or xs i x → IsSoFar f done xs i
-    → option_map (λ l. done ++ l) (all_some (f x ∷ map f (drop (i + 1) xs))) ≡ all_some (map f xs)
-left f done xs i x below is so_far =
-    ap (λ y. option_map (λ l. done ++ l) (all_some (f y ∷ map f (drop (i + 1) xs)))) is
-    ∙ ap (λ m. option_map (λ l. done ++ l) (all_some m)) (sym (map_next f xs i x below)) ∙ so_far
 
 -- ## Two lists, one after the other
 

@@ -47,7 +47,7 @@ pub use resolved::{
     CallId, CallSite, ResolvedNode, ResolvedStatement, Sampling, StaticId, Term, Variable,
     VariableId,
 };
-pub use signature::Signature;
+pub use signature::{Kind, Signature};
 pub use slices::part_of;
 pub use static_value::StaticInt;
 pub use table::{Instance, InstanceId, Origin, Specialization, SpecializationId, Table};

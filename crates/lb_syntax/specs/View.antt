@@ -1,5 +1,5 @@
 -- The plain tree that a tree of the program stands for.
-use Rattle.std.specs.Prelude.{Bool, List, [], ◌∷◌, map, Box}
+use Rattle.std.specs.Prelude.{Bool, List, [], map, Box}
 use Rattle.std.specs.declared.alloc.Global.{Global}
 use Rattle.lb_syntax.specs.declared.tree.Static.{Static, Whole, Named, Negated', Combined'}
 use Rattle.lb_syntax.specs.declared.tree.Static.{Grouped'}
@@ -59,11 +59,6 @@ abbrev mutual
   pub view_row : {m : _} → Row_of-Expr m → tree.Exprs
   view_row end_of-Expr = tree.Nil
   view_row (more_of-Expr e rest) = tree.Cons (view e) (view_row rest)
-
--- the trees of a list of expressions
-abbrev pub views : List Expr → tree.Exprs
-views [] = tree.Nil
-views (e ∷ es) = tree.Cons (view e) (views es)
 
 abbrev pub view_box : Box Expr Global → tree.Expr
 view_box b = view b.value
