@@ -29,7 +29,7 @@ mod trace_run;
 mod traces;
 mod variable_kinds;
 
-pub use equation::{Clock, ClockId, ElementId, Equation, InputId, InputPlace, Operation};
+pub use equation::{Clock, ClockId, ElementId, Equation, InputId, Operation};
 pub use error::{FlatError, OrderError};
 pub use expansion::expand;
 pub use flat::{Flat, Ordered};

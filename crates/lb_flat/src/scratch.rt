@@ -1,6 +1,6 @@
 //! The room in which a worker computes instants.
 
-ghost use Rattle.std.specs.Prelude.{◌≡◌, true, IfOk};
+ghost use Rattle.std.specs.Prelude.{◌≡◌, IfOk};
 
 use crate::cell::Cell;
 use crate::equation::Equation;
@@ -27,13 +27,6 @@ impl Scratch {
         let mut row = Vec::new(alloc);
         row.extend_from_slice(prepared.row.as_slice())?;
         Ok(Scratch { steps, row })
-    }
-
-    /// Whether there is a place for each step and each element of a program.
-    pub fn fits(&self, prepared: &Prepared<'_>) -> bool
-        ensures { result ≡ true → IsRoomFor prepared.now self.now }
-    {
-        self.steps.len() == prepared.steps.len() && self.row.len() == prepared.row.len()
     }
 
     // Puts the memories and the row back to what they are before instant 0.
