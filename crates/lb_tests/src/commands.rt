@@ -8,6 +8,7 @@ use std::os::unix::fs::FileExt;
 use std::rt::Runtime;
 use std::test::Fail;
 use std::thread::Threads;
+use std::{env, fs};
 
 /// The words of a command line, as the program gets them.
 pub fn words_of(alloc: Global, line: &str) -> Result<Vec<String>, AllocError> {
@@ -103,5 +104,61 @@ fn failing_output(rt: HostRuntime) -> Result<(), Fail> {
     );
     assert_eq!(rt; status, 3);
     assert_eq!(rt; errors.as_slice(), b"refused: E19 write\n".as_slice());
+    Ok(())
+}
+
+/// A node that does not judge itself, and one that judges it.
+const SOURCE: &str = "\
+node plant(x: int) returns (y: int); let y = 0 -> pre y + x; tel
+node small(x, y: int) returns (ok: bool); let ok = y < 5; tel
+";
+
+const TRACES: &str = "trace,x\na,3\na,4\na,4\nb,5\n";
+
+const REPORT: &str = "\
+a false 2
+b passed
+total 2 passed 1 fault 0 undefined 0 assertion 0 false 1
+";
+
+/// Whether the program reports on the source at a path and these traces, which stand at another
+/// path or in the standard input.
+fn is_reported<R: Runtime + AllocGlobal + Threads + Sync>(
+    rt: &R,
+    source: &str,
+    traces: &str,
+    input: &str,
+) -> Result<bool, AllocError>
+where
+    R::File: FileExt + Sync,
+{
+    let options = "lbench --node plant --observe small";
+    let line = format!(in rt.alloc(); "{options} {source}{traces}")?;
+    let words = words_of(rt.alloc(), line.as_str())?;
+    let mut output: Vec<u8> = Vec::new(rt.alloc());
+    let mut errors: Vec<u8> = Vec::new(rt.alloc());
+    let status = command(
+        rt,
+        words.as_slice(),
+        &mut Reader::new(input.as_bytes()),
+        &mut Writer::new(&mut output),
+        &mut Writer::new(&mut errors),
+    );
+    Ok(status == 1 && errors.is_empty() && output.as_slice() == REPORT.as_bytes())
+}
+
+#[test]
+fn paths(rt: HostRuntime) -> Result<(), Fail> {
+    let folder = env::temp_dir(&rt)?;
+    let source = format!(in rt.alloc(); "{}/lb_tests_source", folder.as_str())?;
+    let traces = format!(in rt.alloc(); "{}/lb_tests_traces", folder.as_str())?;
+    fs::write(&rt, source.as_str(), SOURCE)?;
+    fs::write(&rt, traces.as_str(), TRACES)?;
+    let second = format!(in rt.alloc(); " {}", traces.as_str())?;
+    let by_path = is_reported(&rt, source.as_str(), second.as_str(), "")?;
+    let by_input = is_reported(&rt, source.as_str(), "", TRACES)?;
+    let _ = fs::remove_file(&rt, source.as_str());
+    let _ = fs::remove_file(&rt, traces.as_str());
+    assert!(rt; by_path && by_input);
     Ok(())
 }

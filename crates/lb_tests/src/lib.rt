@@ -11,6 +11,8 @@ mod batches;
 #[cfg(test)]
 mod commands;
 #[cfg(test)]
+mod cycles;
+#[cfg(test)]
 mod elaboration;
 #[cfg(test)]
 mod files;

@@ -158,7 +158,8 @@ const CLAIMS: &str = "\
 1 abab => 0 - - - all
 1 b => 0 not all
 0 ab => - - all
-0 a => - all";
+0 a => - all
+0 => not all";
 
 // Moves the larger half of the second seat's shares to the first, if there are two.
 fn moved(board: &ClaimBoard, first: ClaimSeat, second: ClaimSeat) -> (ClaimSeat, ClaimSeat)

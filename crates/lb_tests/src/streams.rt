@@ -28,20 +28,31 @@ impl Read for FailingInput {
     }
 }
 
-/// Takes one byte a write, and is interrupted at its so manyth write.
+/// How an output fails: a signal interrupts it, or it takes nothing.
+#[derive(Clone, Copy, PartialEq, Eq)]
+enum Fails {
+    Interrupted,
+    Full,
+}
+
+/// Takes one byte a write, and fails at its so manyth write.
 #[derive(Drop)]
 struct FailingOutput {
     writes: u32,
     fails_at: u32,
+    fails: Fails,
 }
 
 impl Write for FailingOutput {
     fn write(&mut self, bytes: &[u8]) -> std::io::Result<usize> {
         self.writes = self.writes.saturating_add(1);
-        if self.writes == self.fails_at {
-            return Err(ErrorKind::Interrupted.into());
+        if self.writes != self.fails_at {
+            return Ok(bytes.len().min(1));
         }
-        Ok(bytes.len().min(1))
+        match self.fails {
+            Fails::Interrupted => Err(ErrorKind::Interrupted.into()),
+            Fails::Full => Ok(0),
+        }
     }
 
     fn flush(&mut self) -> std::io::Result<()> {
@@ -89,12 +100,13 @@ fn inputs(rt: HostRuntime) -> Result<(), AllocError> {
 
 /// How many bytes went out before the output failed, or none where all did, and how often it
 /// failed.
-fn sent(fails_at: u32) -> (Option<usize>, u64) {
+fn sent(bytes: &[u8], fails_at: u32, fails: Fails) -> (Option<usize>, u64) {
     let mut sink = Writer::new(FailingOutput {
         writes: 0,
         fails_at,
+        fails,
     });
-    let failed_after = match send(&mut sink, LINE) {
+    let failed_after = match send(&mut sink, bytes) {
         Ok(()) => None,
         Err(Sent { count }) => Some(count),
     };
@@ -105,6 +117,14 @@ fn sent(fails_at: u32) -> (Option<usize>, u64) {
 fn outputs(rt: HostRuntime) {
     let mut bytes: Vec<u8> = Vec::new(rt.alloc());
     assert!(rt; send(&mut Writer::new(&mut bytes), LINE).is_ok() && bytes.as_slice() == LINE);
-    assert!(rt; sent(0) == (None, 0));
-    assert!(rt; sent(3) == (Some(2), 1));
+    assert!(rt; sent(LINE, 0, Fails::Interrupted) == (None, 0));
+    for k in 0..LINE.len() {
+        for fails in [Fails::Interrupted, Fails::Full] {
+            assert!(rt;
+                sent(LINE, k as u32 + 1, fails) == (Some(k), 1),
+                "write {k}"
+            );
+        }
+    }
+    assert!(rt; sent(b"", 1, Fails::Full) == (None, 0));
 }

@@ -13,8 +13,8 @@
 //! `{2 x@, }` stands for `x0, x1, `, `{3 a}` for `aaa`, and `{1..2 x@ @, }` for `x1 1, x2 2, `.
 
 use crate::{
-    answers, batches, commands, lane_words, lanes, machine, pool, programs, readings, reports,
-    sources,
+    answers, batches, commands, cycles, lane_words, lanes, machine, pool, programs, readings,
+    reports, sources,
 };
 use std::alloc::AllocError;
 use std::os::unix::fs::FileExt;
@@ -37,6 +37,8 @@ pub enum Asks<'a> {
     Parts,
     /// A run of the program: its words, and its standard input.
     Runs,
+    /// A source: its cycle of elements.
+    Cycles,
     /// The plan of a width and the lengths of traces.
     Plans,
     /// What two seats of a board draw in turn.
@@ -165,6 +167,7 @@ where
         Asks::Programs(front) => programs::push_answer(rt, front, asked, said),
         Asks::Parts => reports::push_parts(asked, said),
         Asks::Runs => commands::push_answer(rt, asked, said),
+        Asks::Cycles => cycles::push_answer(rt.alloc(), asked, said),
         Asks::Plans => pool::push_plan(rt.alloc(), asked, said),
         Asks::Claims => pool::push_claims(rt.alloc(), asked, said),
         Asks::Shares => pool::push_shares(rt.alloc(), asked, said),

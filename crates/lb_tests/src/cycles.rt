@@ -1,0 +1,69 @@
+//! The cycles of elements by which `order` refuses a program.
+//!
+//! Elements are numbered as variables are declared, those of arrays one after the other. Each of a
+//! cycle needs the next one at the same instant, and the last one the first.
+
+use crate::tables::{Asks, Table, check};
+use lb_check::check as check_rules;
+use lb_flat::{ElementId, OrderError, expand, order};
+use lb_static::elaborate;
+use lb_syntax::{Source, parse};
+use std::alloc::{AllocError, Global};
+
+// The cycle of a tree, or none where it has an order or is refused sooner.
+fn cycle_of(alloc: Global, tree: &Source) -> Option<Vec<ElementId>> {
+    let elab = elaborate(alloc, tree, "main", None).ok()?;
+    let checked = check_rules(alloc, elab).ok()?;
+    match order(alloc, expand(alloc, &checked).ok()?) {
+        Err(OrderError::Cycle(cycle)) => Some(cycle),
+        _ => None,
+    }
+}
+
+// The place of the least number of a cycle.
+fn least_of(cycle: &[ElementId]) -> usize {
+    let mut least = 0;
+    for (k, element) in cycle.iter().enumerate() {
+        if cycle.get(least).is_some_and(|other| element.0 < other.0) {
+            least = k;
+        }
+    }
+    least
+}
+
+// A cycle from its least number on.
+fn push_cycle(cycle: &[ElementId], said: &mut String) -> Result<(), AllocError> {
+    let (front, rest) = cycle.split_at(least_of(cycle));
+    said.push_str("cycle")?;
+    for element in rest.iter().chain(front) {
+        write!(said, " {}", element.0)?;
+    }
+    Ok(())
+}
+
+/// The cycle of a source.
+pub fn push_answer(alloc: Global, asked: &str, said: &mut String) -> Result<(), AllocError> {
+    let Ok(tree) = &parse(alloc, asked.as_bytes()) else {
+        return said.push_str("refused");
+    };
+    match cycle_of(alloc, tree) {
+        Some(cycle) => push_cycle(cycle.as_slice(), said),
+        None => said.push_str("no cycle"),
+    }
+}
+
+// Sources, and the numbers of the elements of their cycles. The input and the output come first.
+const CYCLES: &str = "\
+node main(c: bool) returns (ok: bool); var x: int; let x = x; ok = c; tel => cycle 2
+node main(c: bool) returns (ok: bool); let ok = not ok; tel => cycle 1
+node main(c: bool) returns (ok: bool); var x, y: int; let x = y; y = x; ok = c; tel => cycle 2 3
+node main(c: bool) returns (ok: bool); var z, y, x: int; \
+let x = y + 1; y = z; z = if c then x else 0; ok = c; tel => cycle 2 4 3
+node main(c: bool) returns (ok: bool); var a: int^3; \
+let a = [1, a[2], a[1]]; ok = c; tel => cycle 3 4
+node main(c: bool) returns (ok: bool); var x: int; let x = 0 -> pre x; ok = c; tel => no cycle";
+
+#[test]
+fn cycles(rt: HostRuntime) -> Result<(), AllocError> {
+    check(&rt, &Table::of_lines(Asks::Cycles, CYCLES))
+}
