@@ -1,6 +1,7 @@
 #!/usr/bin/env bash
-# Refuses each request for memory of a run in turn, with 1 and with 7 workers. Each run has to answer
-# E0 with status 3 and no output, or the whole report where it could do without. Needs rt on the path.
+# Refuses each request for memory of a run in turn, with 1 and with 7 workers. Each run has to
+# answer E0 with status 3 and no output, or the whole report where it could do without. Needs rt on
+# the path.
 #
 #     bench/memory/run.sh
 set -euo pipefail
