@@ -2,7 +2,8 @@
 //! grammar, or the place after the last byte.
 //!
 //! The rows go through the productions, and through the places in each: one text with a wrong token
-//! there, and one that ends there. The place of E2 stands in no contract.
+//! there, and one that ends there. The contract says no more than that E2 stands at a token or at
+//! the end.
 
 use crate::tables::{Asks, Table, check};
 use std::alloc::AllocError;
