@@ -67,8 +67,3 @@ less_fits d l positive least =
     let top : 2 ^ (32 + l) ≡ 4294967296 * 2 ^ l = pow-add 2 32 l in
     div_below (2 ^ (32 + l) - 1) d 4294967296 positive
     (omega (arith, top, least, pow_pos (32 + l)))
-
-pub product_fits : (n less : ℕ) → n ≤ 2147483648 → less < 4294967296
-    → n * less + n < 18446744073709551616
-product_fits n less h l =
-    omega (arith, mul-le n less 2147483648 4294967295 h (omega (arith, l)))

@@ -2,11 +2,10 @@
 -- they were.
 use Rattle.std.proofs.Common.{◌≡◌, ℕ, ◌<◌, ◌≤◌, ◌+◌, ◌-◌, ◌⊎◌, inl, inr, ◌||◌, Bool, true, false}
 use Rattle.std.proofs.Common.{List, get_or, refl, sym, ap, ap₂, ◌∙◌, subst, arith, ◌≢◌, length, set}
-use Rattle.std.proofs.Common.{below_more, add-zero, lit<, ◌^◌}
+use Rattle.std.proofs.Common.{below_more, ◌^◌}
 use Rattle.std.proofs.lemmas.Bool.{cases_lt}
 use Rattle.std.proofs.lemmas.List.{get_or-set_same, get_or-set_other}
 use lib.Bits.{bit_or}
-use mir.Val.{bool_byte}
 use Rattle.lb_lanes.specs.Planes.{on}
 use Rattle.lb_lanes.proofs.OnPlanes.{on-or, on-above, on-shl_low, on-shl_high, shl}
 
@@ -59,24 +58,6 @@ lanes_joined n test f x k room small before new = record {
 pub plane_joined : (test : ℕ → Bool) (f x k : ℕ) → k + 8 ≤ 64 → x < 256 → DoneBelow test k f
     → ((j : ℕ) → j < 8 → on x j ≡ test (k + j)) → DoneBelow test (k + 8) (bit_or f (shl k x))
 plane_joined = lanes_joined 8
-
--- one more lane
-on-bit : (b : Bool) → on (bool_byte b) 0 ≡ b
-unfolding on
-on-bit true = refl
-on-bit false = refl
-
-bit_small : (b : Bool) → bool_byte b < 2 ^ 1
-bit_small true = lit< tt
-bit_small false = lit< tt
-
-pub lane_joined : (test : ℕ → Bool) (f x k : ℕ) (b : Bool) → k < 64 → DoneBelow test k f
-    → x ≡ bool_byte b → b ≡ test k → DoneBelow test (k + 1) (bit_or f (shl k x))
-lane_joined test f x k b h before is passes =
-    lanes_joined 1 test f x k (omega (arith, h)) (subst (λ n. n < 2) (sym is) (bit_small b)) before
-    (λ j l. let z : j ≡ 0 = omega (arith, l) in
-    subst (λ i. on x i ≡ test (k + i)) (sym z)
-    (ap (λ n. on n 0) is ∙ on-bit b ∙ passes ∙ ap test (sym (add-zero k))))
 
 -- the words below k are as P says, and each later one is as at first
 pub record WrittenBelow (P : ℕ → ℕ → Type 0) (k : ℕ) (first words : List ℕ) : Type 0 where

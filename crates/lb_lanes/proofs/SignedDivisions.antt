@@ -1,9 +1,8 @@
 -- Quotients and remainders of words of 32 bits as integers.
 use Rattle.std.proofs.Common.{◌≡◌, ℕ, zero, suc, ◌+◌, ◌-◌, ◌*◌, ◌/◌, ◌%◌, ◌^◌, ◌<◌, ◌≤◌, Bool, true}
 use Rattle.std.proofs.Common.{false}
-use Rattle.std.proofs.Common.{not, ℤ, pos, negsuc, neg_ℤ, ◌+ℤ◌, ◌-ℤ◌, ◌*ℤ◌, refl, ap}
-use Rattle.std.proofs.Common.{◌∙◌, arith, ltb, w32, SFits, to_z}
-use mir.Val.{sel}
+use Rattle.std.proofs.Common.{ℤ, pos, negsuc, neg_ℤ, ◌+ℤ◌, ◌-ℤ◌, ◌*ℤ◌, refl, ap}
+use Rattle.std.proofs.Common.{◌∙◌, arith, w32, SFits, to_z}
 use Rattle.std.specs.Int.{int_wrap}
 use Rattle.std.specs.Int.RustNames.{int_div, int_rem, unsigned_abs}
 use Rattle.std.proofs.lemmas.Int.{ints, to_z_pos, wrapping_sub-bits, wrapping_mul-bits}
@@ -16,14 +15,6 @@ use Rattle.lb_lanes.specs.Reciprocals.{is_below_zero}
 use Rattle.lb_lanes.proofs.Checks.{passed, passed_is}
 use Rattle.lb_lanes.proofs.WordViews.{word_is_int}
 use Rattle.lb_lanes.proofs.Words.{fits_int, abs_int}
-
--- the sign of a word's integer
-pub below_zero_is : (x : ℕ) → is_below_zero (to_z w32 x) ≡ not (ltb x 2147483648)
-below_zero_is x = by (ltb x 2147483648)
-  where
-    by : (b : Bool) → is_below_zero (sel b (pos x) (negsuc (4294967296 - suc x))) ≡ not b
-    by true = refl
-    by false = refl
 
 -- a quotient by its sign and its size
 pub signed_by : Bool → ℕ → ℤ

@@ -109,9 +109,6 @@ never' : (b : Bool) → (not b && b) ≡ false
 never' true = refl
 never' false = refl
 
-swapped_sum : (m k : ℕ) → negsuc k +ℤ pos m ≡ pos m +ℤ negsuc k
-swapped_sum m k = refl
-
 sum_look : (m n : ℕ) → m < 4294967296 → n < 4294967296 → (a b c : Bool)
     → ltb m 2147483648 ≡ a → ltb n 2147483648 ≡ b → ltb (sum_word m n) 2147483648 ≡ c
     → neither a b c ≡ not (is_int (half_of a m +ℤ half_of b n))

@@ -28,9 +28,6 @@ unfolding is_int
 int_fits (pos n) f = let h = f.sfits in grind arith
 int_fits (negsuc n) f = let h = f.sfits in grind arith
 
-widen : (a : ℤ) → SFits w32 a → SFits w64 a
-widen a f = search (arith, ints)
-
 sum_fits : (a b : ℤ) → SFits w32 a → SFits w32 b → SFits w64 (a +ℤ b)
 sum_fits a b f g = search (arith, ints)
 

@@ -18,7 +18,7 @@ use Rattle.lb_machine.specs.Correct.{IsGrown, IsPlaneFor}
 use Rattle.lb_machine.specs.declared.code.Code.{Code}
 use Rattle.lb_machine.specs.declared.instruction.PlaneId.{PlaneId}
 use Rattle.lb_sim.specs.Climbs.{IsClimbed, IsPlaneAt, IsWay, unknown_count}
-use Rattle.lb_sim.specs.Emitted.{AreKnown, IsKnownAfter, IsReadBy}
+use Rattle.lb_sim.specs.Emitted.{AreKnown, IsReadBy}
 use Rattle.lb_sim.specs.Showing.{cell_at, row_at}
 use Rattle.lb_sim.specs.declared.place.Place.{Place}
 use Rattle.lb_sim.proofs.Growth.{grown_none, grown_then}
@@ -181,16 +181,6 @@ module _ (before code : Code) (places : List Place) (clocks : List Clock)
     (clock : Option ClockId) (old known : List (Option PlaneId)) (way : List ClockId)
     (plane : PlaneId)
     (h : IsDescending before code places clocks clock old known way plane) where
-  -- all of them are known
-  pub descending_last :
-      way ≡ [] → IsKnownAfter code places clocks clock old known plane
-  descending_last none = record {
-    plane =
-        subst (λ c. IsPlaneFor code (λ s. is_now (row_at s places) (clock_of clocks c)) plane)
-        (sym (subst (λ w. IsWay clocks known clock w h.above) none h.leads)) h.plane_is;
-    known = h.all_known;
-    newly = h.newly;
-  }
 
   module _ (id : ClockId) (less : List ClockId) (is : way ≡ less ++ id ∷ []) where
     abbrev parted : IsWay clocks known clock less (Some id) × IsHighest clocks known id h.above

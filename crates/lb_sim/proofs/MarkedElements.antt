@@ -2,9 +2,7 @@
 use Rattle.std.proofs.Common.{◌≡◌, ◌↔◌, ℕ, zero, suc, ◌+◌, ◌<◌, ◌≤◌, Bool, true, false, List, []}
 use Rattle.std.proofs.Common.{◌∷◌, ◌++◌, ◌⊎◌, ◌||◌, get_or, set, length, take, drop, replicate}
 use Rattle.std.proofs.Common.{refl, sym, ap, ◌∙◌, subst, arith, inl, inr, ⊎_elim, length-set}
-use Rattle.std.proofs.Common.{add-one}
 use Rattle.std.specs.List.{list_any}
-use Rattle.std.proofs.Math.Seq.{drop-cons}
 use Rattle.std.proofs.Math.ListN.{drop_of_length-le}
 use Rattle.std.proofs.lemmas.Bool.{cases_eq}
 use Rattle.std.proofs.lemmas.List.{get_or-set_other, get_or-set_same, length-replicate}
@@ -101,25 +99,6 @@ abbrev pub marked_from : ℕ → List Bool → List ℕ
 marked_from i [] = []
 marked_from i (true ∷ marks) = i ∷ marked_from (suc i) marks
 marked_from i (false ∷ marks) = marked_from (suc i) marks
-
-rest_of : (marks : List Bool) (i : ℕ) (b : Bool) → i < length marks → get_or marks i false ≡ b →
-    drop i marks ≡ b ∷ drop (i + 1) marks
-rest_of marks i b lt is =
-    let first : drop i marks ≡ get_or marks i false ∷ drop (i + 1) marks =
-    rw (add-one, drop-cons marks i false) in
-    first ∙ ap (λ x. x ∷ drop (i + 1) marks) is
-
-pub marked_here : (marks : List Bool) (i : ℕ) → i < length marks → get_or marks i false ≡ true →
-    marked_from i (drop i marks) ≡ i ∷ marked_from (i + 1) (drop (i + 1) marks)
-marked_here marks i lt is =
-    ap (marked_from i) (rest_of marks i true lt is)
-    ∙ ap (λ k. i ∷ marked_from k (drop (i + 1) marks)) (sym (add-one i))
-
-pub marked_later : (marks : List Bool) (i : ℕ) → i < length marks → get_or marks i false ≡ false →
-    marked_from i (drop i marks) ≡ marked_from (i + 1) (drop (i + 1) marks)
-marked_later marks i lt is =
-    ap (marked_from i) (rest_of marks i false lt is)
-    ∙ ap (λ k. marked_from k (drop (i + 1) marks)) (sym (add-one i))
 
 pub marked_end : (marks : List Bool) (i : ℕ) → length marks ≤ i →
     marked_from i (drop i marks) ≡ []

@@ -10,7 +10,7 @@ use Rattle.lb_syntax.specs.Lists.{zip2}
 use Rattle.lb_check.specs.Scalars.{Cell, Stream}
 use Rattle.lb_check.specs.Solutions.{Inputs}
 use Rattle.lb_check.proofs.LongStreams.{length-both as length-zips}
-use Rattle.lb_flat.specs.Flat.{FlatClock, Operation, Input, Constant, Copy, ApplyUnary, ApplyBinary}
+use Rattle.lb_flat.specs.Flat.{Operation, Input, Constant, Copy, ApplyUnary, ApplyBinary}
 use Rattle.lb_flat.specs.Flat.{Choose, FirstThen, Previous, Latest, Sample, FlatEquation, column}
 use Rattle.lb_flat.specs.MemoryPlaces.{after_rows, cells_in, remembers}
 use Rattle.lb_flat.specs.Run.{Row, cell, started_by, remembered, advanced, row_of, run, streams_of}
@@ -121,7 +121,3 @@ module _ (size : ℕ) where
   run_appended (given ∷ X) Z Q =
       let row = row_of size Q given in
       ap (λ rows. row ∷ rows) (run_appended X Z (map (advanced row) Q))
-
-  module _ (X : Inputs) (Q : List FlatEquation) (i : ℕ) (k : FlatClock) where
-    abbrev at : Operation → FlatEquation
-    at o = record { element = i; clock = k; operation = o }

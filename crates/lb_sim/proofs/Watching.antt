@@ -1,17 +1,13 @@
 -- What a cell that a lane shows passes, plane by plane; and a test of some elements, one after the
 -- other.
-use Rattle.std.proofs.Common.{arith, suc, ◌+◌, ◌-◌, ◌<◌, ◌≤◌, [], ◌∷◌, drop, length, add-one, ◌≡◌}
+use Rattle.std.proofs.Common.{arith, suc, ◌+◌, ◌-◌, ◌<◌, ◌≤◌, [], ◌∷◌, length, ◌≡◌}
 use Rattle.std.proofs.Common.{ℕ, Bool, true, false, ◌||◌, Option, Some, None, List, get_or, refl}
-use Rattle.std.proofs.Common.{sym, ap, ◌∙◌, zero, replicate, ◌⊎◌, inl, inr, All, ◌++◌}
-use Rattle.std.proofs.Math.Seq.{drop-cons}
-use Rattle.std.proofs.Math.ListN.{drop_of_length-le}
+use Rattle.std.proofs.Common.{sym, ap, ◌∙◌, zero, ◌⊎◌, inl, inr, All}
 use Rattle.std.specs.List.{range_with_len}
 use Rattle.std.proofs.lemmas.List.{get_or-map}
-use Rattle.std.proofs.lemmas.List.Folds.{list_any-append}
 use Rattle.std.proofs.Math.Bool.{or-false}
 use Rattle.lb_check.specs.Scalars.{Cell}
-use Rattle.lb_check.specs.Verdicts.{is_bad}
-use Rattle.lb_flat.specs.Judging.{FlatProgram, named_elements, some_in}
+use Rattle.lb_flat.specs.Judging.{some_in}
 use Rattle.lb_flat.specs.Programs.{numbers_of}
 use Rattle.lb_flat.specs.Run.{Row, cell}
 use Rattle.lb_flat.specs.declared.equation.ElementId.{ElementId}
@@ -92,19 +88,6 @@ pub within_grown : (a b : Code) (marked : List Bool) (p : PlaneId) → IsGrown a
     AreWithin a marked p → AreWithin b marked p
 within_grown a b marked p g h = record { within = λ k e s r. h.within k e s (g.runs s r) }
 
-none_marked : (n k : ℕ) → get_or (replicate n false) k false ≡ false
-none_marked zero k = refl
-none_marked (suc n) zero = refl
-none_marked (suc n) (suc k) = none_marked n k
-
-pub none_within : (code : Code) (n : ℕ) (p : PlaneId) → AreWithin code (replicate n false) p
-none_within code n p = record {
-  within = λ k e s r on. absurd (no (get_or (replicate n false) k false) (none_marked n k) e);
-}
-  where
-    no : (b : Bool) → b ≡ false → b ≡ true → ⊥
-    no b e f = cc
-
 -- a plane within another one adds nothing
 pub or_within : (a b : Bool) → (b ≡ true → a ≡ true) → a ≡ (a || b)
 or_within true b h = refl
@@ -137,15 +120,6 @@ within_more a b old new plane here both g h made more = record {
     by k s r on (inr e) = or_left _ _ (h.within k e s (g.runs s r) on)
 
 -- ## What is still to come
-
-pub numbers_cut : (ids : List ElementId) (i : ℕ) (d : ElementId) → i < length ids →
-    numbers_of (drop i ids) ≡ (get_or ids i d).0 ∷ numbers_of (drop (i + 1) ids)
-numbers_cut ids i d lt =
-    let here : drop i ids ≡ get_or ids i d ∷ drop (i + 1) ids = rw (add-one, drop-cons ids i d) in
-    ap numbers_of here
-
-pub numbers_end : (ids : List ElementId) (i : ℕ) → length ids ≤ i → numbers_of (drop i ids) ≡ []
-numbers_end ids i le = ap numbers_of (drop_of_length-le ids le)
 
 pub range_cut : (i count : ℕ) → i < count →
     range_with_len i (count - i) ≡ i ∷ range_with_len (i + 1) (count - (i + 1))
@@ -204,18 +178,3 @@ some_among test row n (a ∷ ids) all e =
         some_in test row (range_with_len 0 n) ≡ true
     by true y f here later = here refl
     by false y f here later = later f
-
--- what is within something adds nothing to it
-pub within_or : (a b : Bool) → (a ≡ true → b ≡ true) → (a || b) ≡ b
-within_or true b h = sym (h refl)
-within_or false b h = refl
-
--- one of the first elements is a named one
-pub some_named : (f : FlatProgram) (row : Row) →
-    some_in is_bad row (range_with_len 0 f.variables) ≡ true →
-    some_in is_bad row (named_elements f) ≡ true
-some_named f row e =
-    let is = range_with_len 0 f.variables in
-    let js = f.memory_operands ++ f.asserted in
-    list_any-append (λ i. is_bad (Some (cell row i))) is js
-    ∙ or_left (some_in is_bad row is) (some_in is_bad row js) e

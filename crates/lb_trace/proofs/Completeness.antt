@@ -18,9 +18,6 @@ use Rattle.lb_trace.proofs.Names.{bytes_eq-same, comes_back-last, comes_back-non
 use Rattle.lb_trace.proofs.Names.{is_last-push, none_named}
 use Rattle.lb_trace.proofs.Steps.{step}
 
-instants_in : Trace → ℕ
-instants_in t = length t.1
-
 -- how many instants there are around one trace
 count_around : (before : Traces) (t : Trace) (after : Traces)
     → instants_of (before ++ t ∷ after) ≡ instants_of before + (length t.1 + instants_of after)
