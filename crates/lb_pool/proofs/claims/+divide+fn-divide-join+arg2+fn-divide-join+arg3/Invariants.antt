@@ -1,5 +1,5 @@
 use Rattle.std.proofs.Common.{◌-◌, ◌+◌, ◌*◌}
-use Rattle.lb_pool.proofs.claims.+fn-divide-join+arg2+fn-divide-join+arg3+divide.Given as goal
+use Rattle.lb_pool.proofs.claims.+divide+fn-divide-join+arg2+fn-divide-join+arg3.Given as goal
 
 abbrev pub decreases-join+arg2 : goal.decreases-join+arg2
 decreases-join+arg2 g l = 2 * (l.workers - l.half) + 1

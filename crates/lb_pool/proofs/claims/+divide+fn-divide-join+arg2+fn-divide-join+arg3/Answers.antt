@@ -4,7 +4,7 @@ use Rattle.std.proofs.lemmas.Result.{IfOk-at_ok, IfOk-weaker}
 use Rattle.lb_pool.specs.Seats.{shares_of}
 use Rattle.lb_pool.specs.Workers.{HasDone, IsBoth}
 use Rattle.lb_pool.proofs.Gathering.{gathered}
-use Rattle.lb_pool.proofs.claims.+fn-divide-join+arg2+fn-divide-join+arg3+divide.Goals as goal
+use Rattle.lb_pool.proofs.claims.+divide+fn-divide-join+arg2+fn-divide-join+arg3.Goals as goal
 
 pub returns : goal.returns
 returns g t c =
