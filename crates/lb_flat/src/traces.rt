@@ -255,19 +255,21 @@ impl TraceSet {
     }
 
     /// The cells of a trace at an instant, in the order of the signature, at the end of a row; a
-    /// Boolean is 0 or 1.
+    /// Boolean is 0 or 1. Where memory is refused the row stays as it was.
     pub fn copy_row(&self, k: u32, t: u32, row: &mut Vec<i32>) -> Result<(), AllocError>
         requires trace { k < length self.now.traces }
         requires instant { t < length (trace_at self.now.traces k).1 }
-        ensures { OnOk result (row.new.items
+        ensures ok { OnOk result (row.new.items
             ≡ row.old.items ++ get_or (trace_at self.now.traces k).1 t []) }
+        ensures err { OnErr result (row.new.items ≡ row.old.items) }
     {
+        row.reserve(self.signature.len() as usize)?;
         for column in 0..self.signature.len() {
             let cell = match self.signature.kind(column) {
                 Kind::Int => self.int_at(k, t, column),
                 Kind::Bool => i32::from(self.bool_at(k, t, column)),
             };
-            row.push(cell)?;
+            row.push_reserved(cell);
         }
         Ok(())
     }

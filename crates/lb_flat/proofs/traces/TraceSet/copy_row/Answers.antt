@@ -4,7 +4,7 @@ use Rattle.std.proofs.Common.{ap, sym, ◌∙◌}
 use Rattle.std.proofs.Common.{Bool as Truth, true, false, inl, inr, refl, subst, arith, w32, to_z}
 use Rattle.std.proofs.lemmas.Bool.{true≢false}
 use Rattle.std.proofs.lemmas.Int.{to_z-of_z}
-use Rattle.std.proofs.lemmas.List.{append_assoc, take_more, take_all}
+use Rattle.std.proofs.lemmas.List.{append-nil, append_assoc, take_more, take_all}
 use Rattle.std.proofs.lemmas.Option.{get_or_from_slice_get}
 use Rattle.std.specs.Int.{from_bool}
 use Rattle.std.specs.Prelude.{◌↔◌, IsTrue}
@@ -33,8 +33,29 @@ grown old row new items column v pushed before l is =
     ∙ ap (λ x. old ++ (take column row ++ x ∷ [])) is
     ∙ ap (λ xs. old ++ xs) (sym (take_more row column (pos 0) l))
 
-pub returns : goal.returns
-returns c =
+pub loop-column-init : goal.loop-column-init
+loop-column-init c =
+    let wide : length c.self.inside.signature ≡ length c.args.self.now.signature =
+    ap (λ (r : Recording). length r.signature) c.self.view_is in
+    record {
+      copied = c.in_ok-reserve.ensures.items ∙ sym (append-nil c.args.row.now.items);
+      room = omega (arith, wide, c.len.ensures.count, c.in_ok-reserve.ensures.ok);
+    }
+
+pub push_reserved-requires : goal.push_reserved-requires
+push_reserved-requires c =
+    let wide : length c.self.inside.signature ≡ length c.args.self.now.signature =
+    ap (λ (r : Recording). length r.signature) c.self.view_is in
+    omega (
+      arith,
+      wide,
+      c.len-column-end.ensures.count,
+      c.loop-column.invariant.room,
+      c.loop-column-test.true,
+    )
+
+pub returns-clause-ok : goal.returns-clause-ok
+returns-clause-ok c =
     let row = get_or (trace_at c.args.self.now.traces c.args.k).1 c.args.t [] in
     let lawful : IsRecording c.args.self.now =
     subst IsRecording c.self.view_is c.self.invariant.parts.lawful in
@@ -44,7 +65,7 @@ returns c =
     length-row c.args.self.now.signature row follows in
     let wide : length c.self.inside.signature ≡ length c.args.self.now.signature =
     ap (λ (r : Recording). length r.signature) c.self.view_is in
-    c.loop-column.invariant
+    c.loop-column.invariant.copied
     ∙ ap (λ xs. c.args.row.now.items ++ xs)
     (take_all c.loop-column.column row
     (omega (arith, long, wide, c.loop-column-test.false, c.len-column-end.ensures.count)))
@@ -79,7 +100,17 @@ loop-column-preserved c =
           ∙ w.in-Bool.is))
           w.bool_at.ensures
     ] in
-    grown c.args.row.now.items row c.push.new.self.items c.loop-column.row.items
-    c.loop-column.column (to_z w32 c.match-kind.cell-bits) c.in_ok-push.ensures.items
-    c.loop-column.invariant l
-    value
+    record {
+      copied =
+          grown c.args.row.now.items row c.push_reserved.new.self.items c.loop-column.row.items
+          c.loop-column.column (to_z w32 c.match-kind.cell-bits) c.push_reserved.ensures.items
+          c.loop-column.invariant.copied l value;
+      room =
+          omega (
+            arith,
+            c.loop-column.invariant.room,
+            c.loop-column-test.true,
+            c.push_reserved.ensures.len,
+            c.push_reserved.ensures.capacity,
+          );
+    }

@@ -13,7 +13,7 @@ add_read-requires-clause-row c =
     row-lawful c.args.set.now c.args.self.now.rows.signature c.args.k 0
     c.copy_row.new.row.items c.requires.lawful c.requires.same c.requires.trace
     (omega (arith, c.length.ensures.instants, c.length.ensures.started))
-    (c.in-Ok.ensures
+    (c.in-Ok.ensures.ok
     ∙ ap (λ (r : Row). r ++ get_or (trace_at c.args.set.now.traces c.args.k).1 0 [])
     c.clear.ensures.items)
 
@@ -27,7 +27,7 @@ returns-clause-instants c =
     instants-copied c.args.self.now.rows.signature c.as_bytes.result.now trace.0
     c.args.self.now.rows.traces c.add_read.new.self.rows.traces c.copy_row.new.row.items
     (get_or trace.1 0 []) good (c.as_bytes.ensures.value ∙ c.name.ensures)
-    (c.in-Ok.ensures ∙ ap (λ (r : Row). r ++ get_or trace.1 0 []) c.clear.ensures.items))
+    (c.in-Ok.ensures.ok ∙ ap (λ (r : Row). r ++ get_or trace.1 0 []) c.clear.ensures.items))
     c.add_read.ensures.ok
 
 pub returns-clause-last : goal.returns-clause-last
