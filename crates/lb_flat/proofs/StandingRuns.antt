@@ -1,8 +1,8 @@
 -- What a flat program that stands for a program says of it: which histories solve it, and what its
 -- verdicts are; and that nothing of it hangs on the order of the equations.
-use Rattle.std.proofs.Common.{◌≡◌, ◌↔◌, ℕ, ◌<◌, true, List, [], length, replicate, sym, subst}
+use Rattle.std.proofs.Common.{◌≡◌, ◌↔◌, ℕ, ◌<◌, List, [], length, sym, subst}
 use Rattle.lb_static.specs.DataTypes.{signature, input_kinds}
-use Rattle.lb_static.specs.Instances.{Program, Observer}
+use Rattle.lb_static.specs.Instances.{Program}
 use Rattle.lb_check.specs.declared.verdict.Verdict.{Verdict}
 use Rattle.lb_check.specs.Scalars.{Stream}
 use Rattle.lb_check.specs.Solutions.{Inputs, Solves, AreSame}
@@ -11,7 +11,7 @@ use Rattle.lb_check.specs.Verdicts.{HasVerdict, IsOnlyVerdict}
 use Rattle.lb_flat.specs.Correct.{IsOrderingOf, IsOrderOf}
 use Rattle.lb_flat.specs.Fitting.{IsFitting}
 use Rattle.lb_flat.specs.Flat.{FlatEquation}
-use Rattle.lb_flat.specs.FlatPrograms.{IsFlatOf}
+use Rattle.lb_flat.specs.FlatPrograms.{IsFlatOf, IsStreamed}
 use Rattle.lb_flat.specs.FlatSolutions.{IsFlatSolution}
 use Rattle.lb_flat.specs.Flattening.{history_of, IsTrace, IsWatched}
 use Rattle.lb_flat.specs.FurtherKinds.{kind_among}
@@ -62,20 +62,15 @@ module _ (P : Program) (f : FlatProgram) (s : IsFlatOf P f) where
 
   -- ## Histories
 
-  -- a history is that of streams that solve the flat program, and an observer runs at every instant
-  abbrev pub IsStreamed : Inputs → History → Type 0
-  IsStreamed X H =
-      (H.ticks Observer ≡ replicate (length X) true)
-      × (F : List Stream) × IsFlatSolution f.inputs (kind_among f.kinds) f X F
-      × AreSame P (history_of (layout P) X F) H
-
-  -- such are exactly the histories that solve the program
-  pub stands : (X : Inputs) (H : History) → Solves P X H ↔ IsStreamed X H
-  stands X H = (
-    λ h. let r = s.solved X H h in (h.observer_runs, r.0, r.1, r.2),
+  -- the histories that solve the program are exactly those of streams that solve the flat program
+  pub solves_streamed : (X : Inputs) (H : History) → Solves P X H ↔ IsStreamed P f X H
+  solves_streamed X H = (
+    λ h.
+        let r = s.solved X H h in
+        record { observer_runs = h.observer_runs; streams = r.0; solution = r.1; same = r.2 },
     λ z.
-        same_solves P s.accepted s.checked X (history_of (layout P) X z.1) H z.3 z.0
-        (s.solves X z.1 z.2),
+        same_solves P s.accepted s.checked X (history_of (layout P) X z.streams) H z.same
+        z.observer_runs (s.solves X z.streams z.solution),
   )
 
   -- ## Runs

@@ -1,8 +1,8 @@
 -- When a flat program stands for a program.
 -- Source: this project's rule.
-use Rattle.std.specs.Prelude.{◌≡◌, ℕ, ◌<◌, None, List, length, take}
+use Rattle.std.specs.Prelude.{◌≡◌, ℕ, ◌<◌, true, None, List, length, replicate, take}
 use Rattle.lb_static.specs.DataTypes.{input_kinds}
-use Rattle.lb_static.specs.Instances.{Program}
+use Rattle.lb_static.specs.Instances.{Program, Observer}
 use Rattle.lb_static.specs.Instantiation.{static_refusal}
 use Rattle.lb_check.specs.Acceptance.{check_refusal}
 use Rattle.lb_check.specs.Elements.{program_elements, element_kinds}
@@ -42,3 +42,10 @@ pub record IsFlatOf (P : Program) (f : FlatProgram) : Type 0 where
       (X : Inputs) (F : List Stream) → IsFlatSolution f.inputs (kind_among f.kinds) f X F →
       (t : ℕ) → t < length X → IsWatched P f X F (history_of (layout P) X F) t
   pub memories : HasAllMemories P (layout P) (kind_among f.kinds) f
+
+-- a history is that of streams that solve a flat program, and an observer runs at every instant
+pub record IsStreamed (P : Program) (f : FlatProgram) (X : Inputs) (H : History) : Type 0 where
+  pub observer_runs : H.ticks Observer ≡ replicate (length X) true
+  pub streams : List Stream
+  pub solution : IsFlatSolution f.inputs (kind_among f.kinds) f X streams
+  pub same : AreSame P (history_of (layout P) X streams) H
