@@ -70,11 +70,11 @@ module _ (P : Program) where
       node_named P s.callee ≡ Some m → IsReached m
   called_reached n m s r i e =
       let named = (bytes_eq-Decides s.callee m.name).1 (sym (name_of s.callee m e)) in
-      let calling : calls P n m ≡ true =
+      let calling : calls n m ≡ true =
       any_in (λ t. bytes_eq t.callee m.name) (node_sites n) s i named in
-      let called = any_in (λ l. calls P l m) (reached_within P is_start r.0) n r.1 calling in (
+      let called = any_in (λ l. calls l m) (reached_within P is_start r.0) n r.1 calling in (
         suc r.0,
-        in_filter (λ l. is_start l || list_any (λ k. calls P k l) (reached_within P is_start r.0))
+        in_filter (λ l. is_start l || list_any (λ k. calls k l) (reached_within P is_start r.0))
             P.source.nodes m (known s.callee m e) (or_right (is_start m) _ called),
       )
 

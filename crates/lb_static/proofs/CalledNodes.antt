@@ -19,7 +19,7 @@ use Rattle.lb_syntax.specs.Tree.{Name, Node, Source}
 use Rattle.lb_syntax.specs.declared.tree.Node as written
 use Rattle.lb_syntax.proofs.TruthValues.{and_first, and_second}
 use Rattle.lb_syntax.proofs.ListPlaces.{all_at, all_from, get_before, get_last}
-use Rattle.lb_static.specs.CalledNodes.{AreResolved, are_called, called, callees}
+use Rattle.lb_static.specs.CalledNodes.{AreResolved, are_called, callees}
 use Rattle.lb_static.specs.Instances.{node_sites}
 use Rattle.lb_static.specs.NameFaults.{IsNameFault, named_in}
 use Rattle.lb_static.specs.ResolvedNodes.{IsResolved, counts_of, node_of, statics_of}
@@ -30,6 +30,7 @@ use Rattle.lb_static.specs.WorkLists.{visited_after_all, within}
 use Rattle.lb_static.specs.declared.error.StaticError.{StaticError}
 use Rattle.lb_static.specs.declared.resolved.CallSite.{CallSite}
 use Rattle.lb_static.specs.declared.resolved.ResolvedNode.{ResolvedNode}
+use Rattle.lb_static.specs.Names.{calls}
 use Rattle.lb_static.proofs.Faults.{fault_within}
 use Rattle.lb_static.proofs.Reachability.{reachable_by, reachable_next, reachable_visits, within_is}
 use Rattle.lb_static.proofs.Lists.{map_next}
@@ -73,7 +74,7 @@ name_there ns p a e = ap (λ o. either_or o [])
 -- the node at the place of a call is called
 called_there : (s : Source) (r : ResolvedNode) → IsResolved (map (λ n. n.name) s.nodes) r
     → (j : ℕ) (c : CallSite) (a : Node) → slice_get r.calls.items j ≡ Some c
-    → slice_get s.nodes c.callee.0 ≡ Some a → called (node_of r) a ≡ true
+    → slice_get s.nodes c.callee.0 ≡ Some a → calls (node_of r) a ≡ true
 called_there s r h j c a at is =
     let names = map (λ n. n.name) s.nodes in
     let site : slice_get (node_sites (node_of r)) j ≡ Some (site_of names (statics_of r) c) =
@@ -146,18 +147,18 @@ module _ (s : Source) (before order : List ℕ) (nodes : List ResolvedNode) (r :
           ∙ ap (slice_get s.nodes) (sym here)
 
   -- what stands at the place is had
-  pub is_reachable_there : (start : Node → Bool) → AreReachable s.nodes start called before
-      → is_reachable s.nodes start called (length order) (node_of r) ≡ true
+  pub is_reachable_there : (start : Node → Bool) → AreReachable s.nodes start calls before
+      → is_reachable s.nodes start calls (length order) (node_of r) ≡ true
   is_reachable_there start e =
-      ap (holds (is_reachable s.nodes start called (length order))) (sym at)
-      ∙ all_at (λ p. holds (is_reachable s.nodes start called (length order)) (slice_get s.nodes p))
+      ap (holds (is_reachable s.nodes start calls (length order))) (sym at)
+      ∙ all_at (λ p. holds (is_reachable s.nodes start calls (length order)) (slice_get s.nodes p))
       order
       (length nodes) place (h.reachable start e) next
 
-  callee_reachable : (start : Node → Bool) → AreReachable s.nodes start called before
+  callee_reachable : (start : Node → Bool) → AreReachable s.nodes start calls before
       → (j : ℕ) (c : CallSite)
       → slice_get r.calls.items j ≡ Some c
-      → holds (is_reachable s.nodes start called (suc (length order)))
+      → holds (is_reachable s.nodes start calls (suc (length order)))
       (slice_get s.nodes c.callee.0)
       ≡ true
   callee_reachable start e j c call =
@@ -165,8 +166,8 @@ module _ (s : Source) (before order : List ℕ) (nodes : List ResolvedNode) (r :
       r.calls.items j c is.calls_within call in
       let lt : nat_lt c.callee.0 (length s.nodes) ≡ true =
       ap (nat_lt c.callee.0) (sym (length-map s.nodes (λ n. n.name))) ∙ and_first _ _ site in
-      there s.nodes c.callee.0 (is_reachable s.nodes start called (suc (length order))) lt
-      (λ a found. reachable_next s.nodes start called (length order) place a (node_of r) at
+      there s.nodes c.callee.0 (is_reachable s.nodes start calls (suc (length order))) lt
+      (λ a found. reachable_next s.nodes start calls (length order) place a (node_of r) at
       (is_reachable_there start e) (called_there s r is j c a call found))
 
   pub more_resolved : named_in s (node_of r) ≡ true → AreResolved s before after (nodes ++ r ∷ [])
@@ -184,11 +185,11 @@ module _ (s : Source) (before order : List ℕ) (nodes : List ResolvedNode) (r :
         (and_from _ _ (sym (all_map (is_visited after) (λ c. c.callee.0) r.calls.items)
         ∙ visited_all order places) refl);
     reachable = λ start e.
-        reachable_visits s.nodes start called (length order) order places (omega arith)
+        reachable_visits s.nodes start calls (length order) order places (omega arith)
         (h.reachable start e)
-        (all_map (λ p. holds (is_reachable s.nodes start called (suc (length order)))
+        (all_map (λ p. holds (is_reachable s.nodes start calls (suc (length order)))
         (slice_get s.nodes p)) (λ c. c.callee.0) r.calls.items
-        ∙ all_from (λ c. holds (is_reachable s.nodes start called (suc (length order)))
+        ∙ all_from (λ c. holds (is_reachable s.nodes start calls (suc (length order)))
         (slice_get s.nodes c.callee.0)) r.calls.items (callee_reachable start e));
   }
 
@@ -231,16 +232,16 @@ reachable_passes items start step f k m p a at le reachable all =
 pub fault_there : (e : StaticError) (s : Source) (before order : List ℕ) (nodes : List ResolvedNode)
     (place : ℕ) (n : Node) (start : Node → Bool) → AreResolved s before order nodes
     → slice_get order (length nodes) ≡ Some place → slice_get s.nodes place ≡ Some n
-    → length order ≤ length s.nodes → AreReachable s.nodes start called before
+    → length order ≤ length s.nodes → AreReachable s.nodes start calls before
     → IsNameFault e (named_in s n)
-    → IsNameFault e (list_all (named_in s) (within s.nodes start called (length s.nodes)))
+    → IsNameFault e (list_all (named_in s) (within s.nodes start calls (length s.nodes)))
 fault_there e s before order nodes place n start h next at few begins fault =
-    let reachable : is_reachable s.nodes start called (length order) n ≡ true =
-    ap (holds (is_reachable s.nodes start called (length order))) (sym at)
-    ∙ all_at (λ p. holds (is_reachable s.nodes start called (length order)) (slice_get s.nodes p))
+    let reachable : is_reachable s.nodes start calls (length order) n ≡ true =
+    ap (holds (is_reachable s.nodes start calls (length order))) (sym at)
+    ∙ all_at (λ p. holds (is_reachable s.nodes start calls (length order)) (slice_get s.nodes p))
     order
     (length nodes) place (h.reachable start begins) next in
     fault_within e _ _ fault
-    (refuted _ _ (reachable_passes s.nodes start called (named_in s) (length order) (length s.nodes)
+    (refuted _ _ (reachable_passes s.nodes start calls (named_in s) (length order) (length s.nodes)
     place
     n at few reachable))

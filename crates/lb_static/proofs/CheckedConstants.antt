@@ -15,9 +15,8 @@ use Rattle.lb_syntax.specs.Lists.{either_or, holds, listed}
 use Rattle.lb_syntax.specs.Tree.{Name, Constant, Source}
 use Rattle.lb_syntax.proofs.TruthValues.{and_first}
 use Rattle.lb_syntax.proofs.ListPlaces.{all_at, get_before, all_from}
-use Rattle.lb_static.specs.CalledNodes.{program_in}
 use Rattle.lb_static.specs.SourceNames.{constants_in, names_in_source}
-use Rattle.lb_static.specs.NameFaults.{IsNameFault}
+use Rattle.lb_static.specs.NameFaults.{IsNameFault, alone}
 use Rattle.lb_static.specs.NamedConstants.{AreNamed, constant_place, is_judged, keeps_constants}
 use Rattle.lb_static.specs.NamedConstants.{place_named, places_named}
 use Rattle.lb_static.specs.Names.{are_distinct, constants_within, is_constant}
@@ -85,11 +84,11 @@ module _ (s : Source) (g : Globals) (names : g.names ≡ names_in_source s)
 
     -- a name is that of a constant where its place is found
     known_is : (x : Name) → is_some (constant_place g.names g.constants x) ≡ true
-        → is_constant (program_in s) x ≡ true
+        → is_constant (alone s) x ≡ true
     known_is x e = by (constant_place g.names g.constants x) refl e
       where
         by : (o : Option ℕ) → constant_place g.names g.constants x ≡ o → is_some o ≡ true
-            → is_constant (program_in s) x ≡ true
+            → is_constant (alone s) x ≡ true
         by None at h = absurd cc
         by (Some p) at h =
             let f = constant_found g.names g.constants x p at in
@@ -99,7 +98,7 @@ module _ (s : Source) (g : Globals) (names : g.names ≡ names_in_source s)
             (sym (get_before (constants_in s) (map (λ n. n.name) s.nodes) p below)
             ∙ ap (λ l. slice_get l p) (sym names) ∙ f.at) ((bytes_eq-Decides x x).1 refl)
 
-    known_from : (x : Name) → is_constant (program_in s) x ≡ true
+    known_from : (x : Name) → is_constant (alone s) x ≡ true
         → is_some (constant_place g.names g.constants x) ≡ true
     known_from x e =
         let f = any_at (bytes_eq x) (constants_in s) e in
@@ -207,10 +206,10 @@ module _ (s : Source) (g : Globals) (names : g.names ≡ names_in_source s)
     begins xs c = among c.name xs
 
     abbrev is_good : Constant → Bool
-    is_good c = list_all (is_constant (program_in s)) (static_names c.value)
+    is_good c = list_all (is_constant (alone s)) (static_names c.value)
 
     within_constants : (xs : List Name) (k : ℕ)
-        → constants_within (program_in s) xs k ≡ within s.constants (begins xs) names_constant k
+        → constants_within (alone s) xs k ≡ within s.constants (begins xs) names_constant k
     within_constants xs zero = refl
     within_constants xs (suc k) =
         ap (λ b. filter (λ c. among c.name xs
@@ -233,7 +232,7 @@ module _ (s : Source) (g : Globals) (names : g.names ≡ names_in_source s)
         → AreJudged s g before after done → length after ≤ done → AreNamed s xs before
         → keeps_constants s xs ≡ true
     all_judged before after done xs h all n =
-        all_from is_good (constants_within (program_in s) xs (length s.constants)) (λ i c at.
+        all_from is_good (constants_within (alone s) xs (length s.constants)) (λ i c at.
         let k = filtered_from (is_reachable s.constants (begins xs) names_constant
         (length s.constants))
         s.constants i c
@@ -247,7 +246,7 @@ module _ (s : Source) (g : Globals) (names : g.names ≡ names_in_source s)
         let below : t.turn < done =
         omega (arith, slice_get_within after t.turn k.place t.at, all) in
         all_on (λ x. is_some (constant_place g.names g.constants x))
-        (is_constant (program_in s))
+        (is_constant (alone s))
         (static_names c.value) known_is (h.judged t.turn k.place c below t.at k.at))
       where
         closed : (p q : ℕ) (a b : Constant) → slice_get s.constants q ≡ Some b
@@ -283,7 +282,7 @@ module _ (s : Source) (g : Globals) (names : g.names ≡ names_in_source s)
         next in
         fault_within e false (keeps_constants s xs) fault
         (λ no. refuted (is_judged g (static_names c.value)) (keeps_constants s xs)
-        (λ all. all_on (is_constant (program_in s))
+        (λ all. all_on (is_constant (alone s))
         (λ x. is_some (constant_place g.names g.constants x)) (static_names c.value) known_from
         (reachable_passes s.constants (begins xs) names_constant is_good (length order)
         (length s.constants)

@@ -8,10 +8,10 @@ use Rattle.std.proofs.lemmas.Map.Keys.{any_passes_from_place}
 use Rattle.lb_syntax.specs.Tree.{Name}
 use Rattle.lb_syntax.proofs.TruthValues.{and_first, and_second, both_ways}
 use Rattle.lb_syntax.proofs.ListPlaces.{all_at, all_from}
-use Rattle.lb_static.specs.CalledNodes.{are_named, program_in}
+use Rattle.lb_static.specs.CalledNodes.{are_named}
 use Rattle.lb_static.specs.Instances.{Program}
 use Rattle.lb_static.specs.NamedConstants.{keeps_constants}
-use Rattle.lb_static.specs.NameFaults.{IsNameFault, named_in}
+use Rattle.lb_static.specs.NameFaults.{IsNameFault, named_in, alone}
 use Rattle.lb_static.specs.Names.{are_distinct, constants_within, global_names, is_constant}
 use Rattle.lb_static.specs.Names.{is_named, keeps_names, named_constants, reached_constants}
 use Rattle.lb_static.specs.Names.{reached_nodes, starts}
@@ -50,7 +50,7 @@ constants_alike P xs ys same (suc k) =
     (constants_within P ys k)) (same c.name))
 
 constants_of : (P : Program) (xs : List Name) (k : ℕ)
-    → constants_within (program_in P.source) xs k ≡ constants_within P xs k
+    → constants_within (alone P.source) xs k ≡ constants_within P xs k
 constants_of P xs zero = refl
 constants_of P xs (suc k) =
     ap (λ b. filter (λ c. among c.name xs || list_any (λ d. among c.name (static_names d.value)) b)
@@ -70,7 +70,7 @@ module _ (P : Program) (r : Reached) (reached : IsReached P r) where
 
   abbrev constants_kept : Bool
   constants_kept = keeps_constants P.source
-      (flat_map (named_constants (program_in P.source)) (trees r))
+      (flat_map (named_constants (alone P.source)) (trees r))
 
   constants_are : constants_kept
       ≡ list_all (λ c. list_all (is_constant P) (static_names c.value)) (reached_constants P)

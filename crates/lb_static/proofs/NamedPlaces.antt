@@ -14,11 +14,10 @@ use Rattle.lb_syntax.specs.SourceView.{view_groups}
 use Rattle.lb_syntax.specs.Tree.{Name, Constant, Node, Source, Static}
 use Rattle.lb_syntax.proofs.TruthValues.{or_nothing, and_first, and_second, both_ways}
 use Rattle.lb_syntax.proofs.ListPlaces.{all_at, all_from}
-use Rattle.lb_static.specs.CalledNodes.{program_in}
 use Rattle.lb_static.specs.SourceNames.{names_in_source}
 use Rattle.lb_static.specs.NamedConstants.{AreNamed, constant_place, node_constants, part_constants}
 use Rattle.lb_static.specs.NamedConstants.{place_named}
-use Rattle.lb_static.specs.NameFaults.{named_in}
+use Rattle.lb_static.specs.NameFaults.{named_in, alone}
 use Rattle.lb_static.specs.Names.{are_distinct, declares_once, is_callable, is_known}
 use Rattle.lb_static.specs.Names.{is_static_name, named_constants}
 use Rattle.lb_static.specs.Parts.{among, declared_names, declared_sizes, node_names, node_parts}
@@ -239,7 +238,7 @@ module _ (s : Source) (g : Globals) (names : g.names ≡ names_in_source s)
         r.statics.items
 
     named_are : (x : Name) (n : Node)
-        → among x (named_constants (program_in s) n)
+        → among x (named_constants (alone s) n)
         ≡ ((among x (node_names n) || among x (node_static_names n))
         && not (among x (variable_names n) || among x n.parameters))
     named_are x n =
@@ -268,18 +267,18 @@ module _ (s : Source) (g : Globals) (names : g.names ≡ names_in_source s)
         → among x (node_static_names n) ≡ false
     no_variable x n named v = by (among x (node_static_names n)) refl
       where
-        static : list_all (is_static_name (program_in s) n) (node_static_names n) ≡ true
+        static : list_all (is_static_name (alone s) n) (node_static_names n) ≡ true
         static =
-            and_first _ _ (and_second (list_all (is_known (program_in s) n) (node_names n)) _
-            (and_second (list_all (is_callable (program_in s)) (node_sites n)) _
-            (and_second (declares_once (program_in s) n) _ named)))
+            and_first _ _ (and_second (list_all (is_known (alone s) n) (node_names n)) _
+            (and_second (list_all (is_callable (alone s)) (node_sites n)) _
+            (and_second (declares_once (alone s) n) _ named)))
 
         by : (b : Bool) → among x (node_static_names n) ≡ b → b ≡ false
         by false e = refl
         by true e =
             let f = any_at (bytes_eq x) (node_static_names n) e in
             let is = and_first (not (among f.item (variable_names n))) _
-            (all_at (is_static_name (program_in s) n) (node_static_names n) f.place f.item static
+            (all_at (is_static_name (alone s) n) (node_static_names n) f.place f.item static
             f.at) in
             let not_x : not (among x (variable_names n))
             ≡ true = ap (λ y. not (among y (variable_names n)))
@@ -297,7 +296,7 @@ module _ (s : Source) (g : Globals) (names : g.names ≡ names_in_source s)
     pub named_places : (nodes : List ResolvedNode)
         → All (IsResolved (map (λ n. n.name) s.nodes)) nodes
         → list_all (λ r. named_in s (node_of r)) nodes ≡ true
-        → AreNamed s (flat_map (named_constants (program_in s)) (map node_of nodes))
+        → AreNamed s (flat_map (named_constants (alone s)) (map node_of nodes))
         (visited_after_all [] (flat_map (node_constants g) nodes))
     named_places nodes resolved named = record {
       within = all_visit (in_source s) [] (flat_map (node_constants g) nodes) refl
@@ -315,10 +314,10 @@ module _ (s : Source) (g : Globals) (names : g.names ≡ names_in_source s)
           visited_is [] (flat_map (node_constants g) nodes) p
           ∙ any_flat (nat_eq p) (node_constants g) nodes
           ∙ any_same_at (λ r. list_any (nat_eq p) (node_constants g r))
-          (λ r. among c.name (named_constants (program_in s) (node_of r))) nodes
+          (λ r. among c.name (named_constants (alone s) (node_of r))) nodes
           (λ i r is. alike p c at i r is)
-          ∙ sym (any_map (λ n. among c.name (named_constants (program_in s) n)) node_of nodes)
-          ∙ sym (any_flat (bytes_eq c.name) (named_constants (program_in s)) (map node_of nodes));
+          ∙ sym (any_map (λ n. among c.name (named_constants (alone s) n)) node_of nodes)
+          ∙ sym (any_flat (bytes_eq c.name) (named_constants (alone s)) (map node_of nodes));
     }
       where
         inside : (b : Bool) (y : Name) (o : Option ℕ) → constant_place g.names g.constants y ≡ o
@@ -334,7 +333,7 @@ module _ (s : Source) (g : Globals) (names : g.names ≡ names_in_source s)
             → (i : ℕ) (r : ResolvedNode)
             → slice_get nodes i ≡ Some r
             → list_any (nat_eq p) (node_constants g r)
-            ≡ among c.name (named_constants (program_in s) (node_of r))
+            ≡ among c.name (named_constants (alone s) (node_of r))
         alike p c at i r is =
             let n = node_of r in
             node_places_are r p c at

@@ -162,7 +162,7 @@ module _ (P : Program) (r : Reached) (is : IsReached P r) where
 
   -- an arrow is a call
   arrow_calls : (i j : ℕ) (n : Node) → slice_get (trees r) i ≡ Some n → In j (called (graph_of r) i)
-      → (m : Node) × (slice_get (trees r) j ≡ Some m) × In m P.source.nodes × (calls P n m ≡ true)
+      → (m : Node) × (slice_get (trees r) j ≡ Some m) × In m P.source.nodes × (calls n m ≡ true)
   arrow_calls i j n at on =
       let rn = node_at r i n at in
       let s = filter_map_in (callee_of r) rn.0.calls.items j
@@ -204,7 +204,7 @@ module _ (P : Program) (r : Reached) (is : IsReached P r) where
 
   -- a call has its arrow
   call_arrow : keeps_names P ≡ true → (i : ℕ) (n m : Node) → slice_get (trees r) i ≡ Some n
-      → In m P.source.nodes → calls P n m ≡ true
+      → In m P.source.nodes → calls n m ≡ true
       → (j : ℕ) × In j (called (graph_of r) i) × (slice_get (trees r) j ≡ Some m)
   call_arrow keeps i n m at known e =
       let rn = node_at r i n at in
@@ -223,7 +223,7 @@ module _ (P : Program) (r : Reached) (is : IsReached P r) where
       → In m P.source.nodes
   within_source start zero m on = (filter_in start P.source.nodes m on).0
   within_source start (suc k) m on =
-      (filter_in (λ n. start n || list_any (λ l. calls P l n) (reached_within P start k))
+      (filter_in (λ n. start n || list_any (λ l. calls l n) (reached_within P start k))
       P.source.nodes m on).0
 
   tree_reached : (i : ℕ) (n : Node) → slice_get (trees r) i ≡ Some n → In n (reached_nodes P)
@@ -245,25 +245,25 @@ module _ (P : Program) (r : Reached) (is : IsReached P r) where
       let next = arrow_calls i j n at leads in
       let both : Some next.0 ≡ Some m = sym next.1 ∙ to in
       let same : next.0 ≡ m = cc in
-      let any = any_in (λ h. calls P h m) (reached_within P start k) n on
-      (subst (λ h. calls P n h ≡ true) same next.3) in (
+      let any = any_in (λ h. calls h m) (reached_within P start k) n on
+      (subst (λ h. calls n h ≡ true) same next.3) in (
         suc k,
-        in_filter (λ h. start h || list_any (λ l. calls P l h) (reached_within P start k))
+        in_filter (λ h. start h || list_any (λ l. calls l h) (reached_within P start k))
             P.source.nodes m (subst (λ h. In h P.source.nodes) same next.2)
             (or_right (start m) _ any),
       )
   reached_along (i' ∷ ks) i j n m leads at to start k on =
       let next = arrow_calls i i' n at leads.0 in
-      let any = any_in (λ h. calls P h next.0) (reached_within P start k) n on next.3 in
+      let any = any_in (λ h. calls h next.0) (reached_within P start k) n on next.3 in
       reached_along ks i' j next.0 m leads.1 next.1 to start (suc k)
-      (in_filter (λ h. start h || list_any (λ l. calls P l h) (reached_within P start k))
+      (in_filter (λ h. start h || list_any (λ l. calls l h) (reached_within P start k))
       P.source.nodes next.0 next.2 (or_right (start next.0) _ any))
 
-  recursive_from : (n : Node) (k : ℕ) → In n (reached_within P (calls P n) k)
+  recursive_from : (n : Node) (k : ℕ) → In n (reached_within P (calls n) k)
       → is_recursive P n ≡ true
   recursive_from n k on =
-      enough_calls P (calls P n) (λ m. bytes_eq m.name n.name) k
-      (any_in (λ m. bytes_eq m.name n.name) (reached_within P (calls P n) k) n on
+      enough_calls P (calls n) (λ m. bytes_eq m.name n.name) k
+      (any_in (λ m. bytes_eq m.name n.name) (reached_within P (calls n) k) n on
       (same_name n.name n.name refl))
 
   -- a node whose place is on a cycle reaches itself
@@ -276,12 +276,12 @@ module _ (P : Program) (r : Reached) (is : IsReached P r) where
           let next = arrow_calls i i n at leads in
           let both : Some next.0 ≡ Some n = sym next.1 ∙ at in
           let same : next.0 ≡ n = cc in
-          recursive_from n 0 (in_filter (calls P n) P.source.nodes n (tree_known i n at)
-          (subst (λ h. calls P n h ≡ true) same next.3))
+          recursive_from n 0 (in_filter (calls n) P.source.nodes n (tree_known i n at)
+          (subst (λ h. calls n h ≡ true) same next.3))
       by (k ∷ ks) leads =
           let next = arrow_calls i k n at leads.0 in
-          let here = reached_along ks k i next.0 n leads.1 next.1 at (calls P n) 0
-          (in_filter (calls P n) P.source.nodes next.0 next.2 next.3) in
+          let here = reached_along ks k i next.0 n leads.1 next.1 at (calls n) 0
+          (in_filter (calls n) P.source.nodes next.0 next.2 next.3) in
           recursive_from n here.0 here.1
 
   -- ## An order
@@ -306,16 +306,16 @@ module _ (P : Program) (r : Reached) (is : IsReached P r) where
   stays_in keeps order ordered start first zero m on =
       let h = filter_in start P.source.nodes m on in first m h.0 h.1
   stays_in keeps order ordered start first (suc k) m on =
-      let h = filter_in (λ n. start n || list_any (λ l. calls P l n) (reached_within P start k))
+      let h = filter_in (λ n. start n || list_any (λ l. calls l n) (reached_within P start k))
       P.source.nodes m on in
       by (λ l. stays_in keeps order ordered start first k l) h.0 (start m) refl h.1
     where
       by : ((l : Node) → In l (reached_within P start k) → StandsIn order l) → In m P.source.nodes
           → (b : Bool) → start m ≡ b
-          → (b || list_any (λ l. calls P l m) (reached_within P start k)) ≡ true → StandsIn order m
+          → (b || list_any (λ l. calls l m) (reached_within P start k)) ≡ true → StandsIn order m
       by before known true e any = first m known e
       by before known false e any =
-          let l = in_any (λ n. calls P n m) (reached_within P start k) any in
+          let l = in_any (λ n. calls n m) (reached_within P start k) any in
           let at = before l.0 l.1 in
           let j = call_arrow keeps at.0 l.0 m at.2 known l.2 in
           (j.0, ordered_closed order at.0 j.0 ordered at.1 j.1, j.2)
@@ -329,11 +329,11 @@ module _ (P : Program) (r : Reached) (is : IsReached P r) where
       not_recursive keeps order ordered.1 i n on at e
   not_recursive keeps (k ∷ order) ordered i n (inl same) at e =
       let m = in_any (λ h. bytes_eq h.name n.name)
-      (reached_within P (calls P n) (length P.source.nodes)) e in
-      let known = within_source (calls P n) (length P.source.nodes) m.0 m.1 in
+      (reached_within P (calls n) (length P.source.nodes)) e in
+      let known = within_source (calls n) (length P.source.nodes) m.0 m.1 in
       let one = same_named P.source.nodes m.0 n (names_distinct P keeps) known (tree_known i n at)
       ((bytes_eq-Decides m.0.name n.name).0 m.2) in
-      let again = stays_in keeps order ordered.1 (calls P n)
+      let again = stays_in keeps order ordered.1 (calls n)
       (λ h on call. let j = call_arrow keeps i n h at on call in
       (j.0, ordered.0 j.0 (subst (λ l. In j.0 (called (graph_of r) l)) (sym same) j.1), j.2))
       (length P.source.nodes) m.0 m.1 in

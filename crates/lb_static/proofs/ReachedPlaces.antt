@@ -17,10 +17,10 @@ use Rattle.lb_syntax.specs.Tree.{Name, Node, Source}
 use Rattle.lb_syntax.proofs.TruthValues.{and_first, and_second}
 use Rattle.lb_syntax.proofs.ListPlaces.{all_at, all_from}
 use Rattle.lb_static.specs.CalledNodes.{AreResolved, AreStarts, IsStart, are_called, are_named}
-use Rattle.lb_static.specs.CalledNodes.{called, ids_of, node_at, program_in}
+use Rattle.lb_static.specs.CalledNodes.{ids_of, node_at}
 use Rattle.lb_static.specs.SourceNames.{constants_in, names_in_source}
 use Rattle.lb_static.specs.Instances.{Program, node_named, node_sites}
-use Rattle.lb_static.specs.NameFaults.{named_in}
+use Rattle.lb_static.specs.NameFaults.{named_in, alone}
 use Rattle.lb_static.specs.Names.{are_distinct, calls, is_named, reached_nodes, reached_within}
 use Rattle.lb_static.specs.Names.{start_names}
 use Rattle.lb_static.specs.Parts.{among}
@@ -87,7 +87,7 @@ begins P n = among n.name (start_names P)
 record Begun (s : Source) (x : Name) (place : ℕ) : Type 0 where
   node : Node
   at : slice_get s.nodes place ≡ Some node
-  found : node_named (program_in s) x ≡ Some node
+  found : node_named (alone s) x ≡ Some node
   name : node.name ≡ x
 
 begun : (s : Source) (x : Name) (before after : List ℕ) (id : NodeId)
@@ -109,20 +109,20 @@ begun s x before after id h = by (slice_get s.nodes h.place) refl
         }) h.within in
         absurd cc
     by (Some n) e = let found = sym h.found
-        ∙ e in record { node = n; at = e; found = found; name = is_name (program_in s) x n found }
+        ∙ e in record { node = n; at = e; found = found; name = is_name (alone s) x n found }
 
 -- one more start is had, if its name is one of the starts
 start_reachable : (P : Program) (x : Name) (before after : List ℕ) (id : NodeId)
     → IsStart P.source x before after id → among x (start_names P) ≡ true
-    → AreReachable P.source.nodes (begins P) called before
-    → AreReachable P.source.nodes (begins P) called after
+    → AreReachable P.source.nodes (begins P) calls before
+    → AreReachable P.source.nodes (begins P) calls after
 start_reachable P x before after id h is reachable =
     let b = begun P.source x before after id h in
     let first : begins P b.node ≡ true = ap (λ y. among y (start_names P)) b.name ∙ is in
-    subst (AreReachable P.source.nodes (begins P) called) (sym h.visited)
-    (reachable_visit P.source.nodes (begins P) called 0 h.place before (omega arith) reachable
-    (ap (holds (is_reachable P.source.nodes (begins P) called 1)) b.at
-    ∙ reachable_by P.source.nodes (begins P) called 0 1 b.node (omega arith) first))
+    subst (AreReachable P.source.nodes (begins P) calls) (sym h.visited)
+    (reachable_visit P.source.nodes (begins P) calls 0 h.place before (omega arith) reachable
+    (ap (holds (is_reachable P.source.nodes (begins P) calls 1)) b.at
+    ∙ reachable_by P.source.nodes (begins P) calls 0 1 b.node (omega arith) first))
 
 -- each node of the name came up
 start_visited : (P : Program) (x : Name) (before after : List ℕ) (id : NodeId)
@@ -136,7 +136,7 @@ start_visited P x before after id h d place n at same =
     ap (is_visited after) here ∙ at_visited after id.0 h.place h.at
 
 start_at : (s : Source) (x : Name) (before after : List ℕ) (id : NodeId)
-    → IsStart s x before after id → node_at s after id ≡ node_named (program_in s) x
+    → IsStart s x before after id → node_at s after id ≡ node_named (alone s) x
 start_at s x before after id h = ap (λ o. o >>= slice_get s.nodes) h.at ∙ h.found
 
 or_cases : {C : Type 0} (a b : Bool) → (a || b) ≡ true → (a ≡ true → C) → (b ≡ true → C) → C
@@ -152,7 +152,7 @@ one_start s x o none after id alone empty d h =
       there = ap (λ p. is_some p && true) (begun s x none after id h).found;
       reachable = start_reachable P x none after id h
           (or_left (bytes_eq x x) _ ((bytes_eq-Decides x x).1 refl))
-          (subst (AreReachable s.nodes (begins P) called) (sym empty) refl);
+          (subst (AreReachable s.nodes (begins P) calls) (sym empty) refl);
       all = λ place n at is. or_cases (bytes_eq n.name x) _ is
           (start_visited P x none after id h d place n at) (λ no. absurd cc);
       at_root = start_at s x none after id h;
@@ -179,7 +179,7 @@ two_starts s x y o none middle after root observer there empty d h k =
           (or_right (bytes_eq y x) _ (or_left (bytes_eq y y) _ ((bytes_eq-Decides y y).1 refl)))
           (start_reachable P x none middle root h
           (or_left (bytes_eq x x) _ ((bytes_eq-Decides x x).1 refl))
-          (subst (AreReachable s.nodes (begins P) called) (sym empty) refl));
+          (subst (AreReachable s.nodes (begins P) calls) (sym empty) refl));
       all = λ place n at is. or_cases (bytes_eq n.name x) _ is
           (λ same. still place (start_visited P x none middle root h d place n at same))
           (λ rest. or_cases (bytes_eq n.name y) _ rest
@@ -221,10 +221,10 @@ called_place s i p a d below name at =
 -- ## What is reached
 
 pub reached_is : (P : Program) (start : Node → Bool) (k : ℕ)
-    → reached_within P start k ≡ within P.source.nodes start called k
+    → reached_within P start k ≡ within P.source.nodes start calls k
 reached_is P start zero = refl
 reached_is P start (suc k) =
-    ap (λ b. filter (λ m. start m || list_any (λ n. calls P n m) b) P.source.nodes)
+    ap (λ b. filter (λ m. start m || list_any (λ n. calls n m) b) P.source.nodes)
     (reached_is P start k)
 
 pub contained : {A : Type 0} (xs : List A) (i : ℕ) (x : A) → slice_get xs i ≡ Some x → Contains xs x
@@ -308,12 +308,12 @@ module _ (P : Program) (before order : List ℕ) (nodes : List ResolvedNode) (ro
       let below : turn < length nodes = omega (arith, slice_get_within order turn place at, all) in
       h.stands turn place below at
 
-  reachable : AreReachable P.source.nodes (begins P) called order
+  reachable : AreReachable P.source.nodes (begins P) calls order
   reachable = h.reachable (begins P) begun.reachable
 
   -- a node that is called came up
   closed : (p q : ℕ) (a b : Node) → slice_get P.source.nodes q ≡ Some b
-      → slice_get P.source.nodes p ≡ Some a → is_visited order q ≡ true → called b a ≡ true
+      → slice_get P.source.nodes p ≡ Some a → is_visited order q ≡ true → calls b a ≡ true
       → is_visited order p ≡ true
   closed p q a b at_b at_a came is_called =
       let t = visited_at order q came in
@@ -340,10 +340,10 @@ module _ (P : Program) (before order : List ℕ) (nodes : List ResolvedNode) (ro
   starts_visited p a at is = h.grows.still p (begun.all p a at is)
 
   same_nodes : reached_nodes P
-      ≡ filter (is_reachable P.source.nodes (begins P) called (length P.source.nodes))
+      ≡ filter (is_reachable P.source.nodes (begins P) calls (length P.source.nodes))
       P.source.nodes
   same_nodes = reached_is P (begins P) (length P.source.nodes)
-      ∙ within_is P.source.nodes (begins P) called (length P.source.nodes)
+      ∙ within_is P.source.nodes (begins P) calls (length P.source.nodes)
 
   to_reached : (n : Node) → Contains (map node_of nodes) n → Contains (reached_nodes P) n
   to_reached n c =
@@ -357,21 +357,21 @@ module _ (P : Program) (before order : List ℕ) (nodes : List ResolvedNode) (ro
       let turn = slice_get-get_or order k.place 0 below in
       let place = get_or order k.place 0 in
       let at = sym (stands k.place place turn) ∙ k.at in
-      let is = ap (holds (is_reachable P.source.nodes (begins P) called (length order))) (sym at)
-      ∙ all_at (λ p. holds (is_reachable P.source.nodes (begins P) called (length order))
+      let is = ap (holds (is_reachable P.source.nodes (begins P) calls (length order))) (sym at)
+      ∙ all_at (λ p. holds (is_reachable P.source.nodes (begins P) calls (length order))
       (slice_get P.source.nodes p)) order k.place place reachable turn in
-      let f = filtered_at (is_reachable P.source.nodes (begins P) called (length P.source.nodes))
+      let f = filtered_at (is_reachable P.source.nodes (begins P) calls (length P.source.nodes))
       P.source.nodes place n at
-      (reachable_by P.source.nodes (begins P) called (length order) (length P.source.nodes) n few
+      (reachable_by P.source.nodes (begins P) calls (length order) (length P.source.nodes) n few
       is) in
       contained (reached_nodes P) f.place n (ap (λ l. slice_get l f.place) same_nodes ∙ f.at)
 
   from_reached : (n : Node) → Contains (reached_nodes P) n → Contains (map node_of nodes) n
   from_reached n c =
       let k = place_of (reached_nodes P) n c in
-      let f = filtered_from (is_reachable P.source.nodes (begins P) called (length P.source.nodes))
+      let f = filtered_from (is_reachable P.source.nodes (begins P) calls (length P.source.nodes))
       P.source.nodes k.place n (ap (λ l. slice_get l k.place) (sym same_nodes) ∙ k.at) in
-      let came = closed_has P.source.nodes (begins P) called order starts_visited closed
+      let came = closed_has P.source.nodes (begins P) calls order starts_visited closed
       (length P.source.nodes) f.place n f.at f.passes in
       let t = visited_at order f.place came in
       contained (map node_of nodes) t.turn n (stands t.turn f.place t.at ∙ f.at)

@@ -63,7 +63,7 @@ module _ (P : Program) (start : Node → Bool) where
   -- the test by which a node is reached in so many calls
   abbrev reaches : ℕ → Node → Bool
   reaches zero m = start m
-  reaches (suc k) m = start m || list_any (λ n. calls P n m) (reached_within P start k)
+  reaches (suc k) m = start m || list_any (λ n. calls n m) (reached_within P start k)
 
   reached_is : (k : ℕ) → reached_within P start k ≡ filter (reaches k) P.source.nodes
   reached_is zero = refl
@@ -74,12 +74,12 @@ module _ (P : Program) (start : Node → Bool) where
   or_more false b c next e = next e
 
   one_more : (k : ℕ) → Implies (reaches k) (reaches (suc k))
-  one_more zero m e = ap (λ b. b || list_any (λ n. calls P n m) (reached_within P start zero)) e
+  one_more zero m e = ap (λ b. b || list_any (λ n. calls n m) (reached_within P start zero)) e
   one_more (suc k) m e =
-      or_more (start m) (list_any (λ n. calls P n m) (reached_within P start k))
-      (list_any (λ n. calls P n m) (reached_within P start (suc k)))
-      (λ h. any_more (λ n. calls P n m) (reaches k) (reaches (suc k)) (one_more k) P.source.nodes
-      (subst (λ l. list_any (λ n. calls P n m) l ≡ true) (reached_is k) h)) e
+      or_more (start m) (list_any (λ n. calls n m) (reached_within P start k))
+      (list_any (λ n. calls n m) (reached_within P start (suc k)))
+      (λ h. any_more (λ n. calls n m) (reaches k) (reaches (suc k)) (one_more k) P.source.nodes
+      (subst (λ l. list_any (λ n. calls n m) l ≡ true) (reached_is k) h)) e
 
   -- one call more reaches more nodes, or the same ones
   grows : (k : ℕ) → (length (reached_within P start k) < length (reached_within P start (suc k)))
@@ -91,7 +91,7 @@ module _ (P : Program) (start : Node → Bool) where
 
   same_after : (k : ℕ) → reached_within P start k ≡ reached_within P start (suc k)
       → reached_within P start (suc k) ≡ reached_within P start (suc (suc k))
-  same_after k e = ap (λ l. filter (λ m. start m || list_any (λ n. calls P n m) l) P.source.nodes) e
+  same_after k e = ap (λ l. filter (λ m. start m || list_any (λ n. calls n m) l) P.source.nodes) e
 
   -- so many calls reach so many nodes, or no more than one call less
   many_or_same : (k : ℕ) → (k < length (reached_within P start (suc k)))

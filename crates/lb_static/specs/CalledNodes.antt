@@ -2,14 +2,13 @@
 -- This file says what data of the program mean; no definition of the language stands on it.
 use Rattle.std.specs.Prelude.{◌≡◌, ◌<◌, ◌≤◌, ℕ, Bool, true, ◌&&◌, [], Option, None, Some, is_some}
 use Rattle.std.specs.Prelude.{option_map, List, map, length, slice_get, All, Result, Ok, Err}
-use Rattle.std.specs.List.{list_all, list_any}
-use Rattle.std.specs.Str.{bytes_eq}
+use Rattle.std.specs.List.{list_all}
 use Rattle.lb_syntax.specs.Lists.{◌>>=◌}
 use Rattle.lb_syntax.specs.Tree.{Name, Node, Source}
-use Rattle.lb_static.specs.Instances.{Program, node_named, node_sites}
-use Rattle.lb_static.specs.Names.{is_named, reached_nodes, start_names, starts}
+use Rattle.lb_static.specs.Instances.{Program, node_named}
+use Rattle.lb_static.specs.Names.{calls, is_named, reached_nodes, start_names, starts}
 use Rattle.lb_static.specs.Parts.{among}
-use Rattle.lb_static.specs.NameFaults.{named_in, IsNameFault}
+use Rattle.lb_static.specs.NameFaults.{alone, named_in, IsNameFault}
 use Rattle.lb_static.specs.ReachedNodes.{IsReached}
 use Rattle.lb_static.specs.ResolvedNodes.{IsResolved, node_of}
 use Rattle.lb_static.specs.WorkLists.{AreReachable, Grows, is_visited, visited_after}
@@ -18,14 +17,6 @@ use Rattle.lb_static.specs.declared.reach.NodeId.{NodeId}
 use Rattle.lb_static.specs.declared.reach.Reached.{Reached}
 use Rattle.lb_static.specs.declared.resolved.CallSite.{CallSite}
 use Rattle.lb_static.specs.declared.resolved.ResolvedNode.{ResolvedNode}
-
--- the program of a source in which no node is under test
-abbrev pub program_in : Source → Program
-program_in s = record { source = s; root = []; observer = None }
-
--- the first node calls or iterates the second
-abbrev pub called : Node → Node → Bool
-called n m = list_any (λ s. bytes_eq s.callee m.name) (node_sites n)
 
 -- the places of the nodes that some calls call
 abbrev pub callees : List CallSite → List ℕ
@@ -46,8 +37,8 @@ pub record AreResolved (s : Source) (before after : List ℕ) (nodes : List Reso
       → slice_get (map node_of nodes) turn ≡ slice_get s.nodes place
   pub grows : Grows before after
   pub linked : list_all (are_called after) nodes ≡ true
-  pub reachable : (start : Node → Bool) → AreReachable s.nodes start called before
-      → AreReachable s.nodes start called after
+  pub reachable : (start : Node → Bool) → AreReachable s.nodes start calls before
+      → AreReachable s.nodes start calls after
 
 -- ## What the walk begins with
 
@@ -57,7 +48,7 @@ pub record IsStart (s : Source) (name : Name) (before after : List ℕ) (id : No
   pub visited : after ≡ visited_after before place
   pub at : slice_get after id.0 ≡ Some place
   pub within : place < length s.nodes
-  pub found : slice_get s.nodes place ≡ node_named (program_in s) name
+  pub found : slice_get s.nodes place ≡ node_named (alone s) name
 
 -- what stands at the place that came up at a turn
 abbrev pub node_at : Source → List ℕ → NodeId → Option Node
@@ -68,7 +59,7 @@ node_at s order id = slice_get order id.0 >>= slice_get s.nodes
 pub record AreStarts (P : Program) (order : List ℕ) (root : NodeId)
     (observer : Option NodeId) : Type 0 where
   pub there : list_all is_some (starts P) ≡ true
-  pub reachable : AreReachable P.source.nodes (λ n. among n.name (start_names P)) called order
+  pub reachable : AreReachable P.source.nodes (λ n. among n.name (start_names P)) calls order
   pub all : (place : ℕ) (n : Node) → slice_get P.source.nodes place ≡ Some n
       → among n.name (start_names P) ≡ true → is_visited order place ≡ true
   pub at_root : node_at P.source order root ≡ node_named P P.root

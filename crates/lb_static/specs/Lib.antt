@@ -40,3 +40,4 @@ pub mod NodeNames
 pub mod NodeProgress
 pub mod Frames
 pub mod Progressed
+pub mod TermForms

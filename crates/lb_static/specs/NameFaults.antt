@@ -17,7 +17,8 @@ IsNameFault (error.Value x) b = ⊥
 IsNameFault (error.Range x) b = ⊥
 IsNameFault error.Instances b = ⊥
 
--- a program of this source: the names of one node are judged by the source alone
+-- the program of a source in which no node is under test: the names of one node are judged by the
+-- source alone
 abbrev pub alone : Source → Program
 alone s = record { source = s; root = []; observer = None }
 

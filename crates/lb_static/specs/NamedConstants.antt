@@ -6,7 +6,7 @@ use Rattle.std.specs.List.{list_all}
 use Rattle.std.specs.Str.{bytes_eq}
 use Rattle.lb_syntax.specs.Lists.{◌>>=◌, listed, where_true}
 use Rattle.lb_syntax.specs.Tree.{Name, Constant, Source}
-use Rattle.lb_static.specs.CalledNodes.{program_in}
+use Rattle.lb_static.specs.NameFaults.{alone}
 use Rattle.lb_static.specs.Names.{constants_within, is_constant, named_constants}
 use Rattle.lb_static.specs.Parts.{among, static_names}
 use Rattle.lb_static.specs.ResolvedNodes.{node_of}
@@ -50,11 +50,11 @@ pub record AreNamed (s : Source) (xs : List Name) (order : List ℕ) : Type 0 wh
 -- each name in the value of a constant that is had from some names is that of a constant
 abbrev pub keeps_constants : Source → List Name → Bool
 keeps_constants s xs =
-    let P = program_in s in
+    let P = alone s in
     list_all (λ c. list_all (is_constant P) (static_names c.value))
     (constants_within P xs (length s.constants))
 
 -- the same of the constants that some nodes name
 abbrev pub keeps_constants_of : Source → List ResolvedNode → Bool
 keeps_constants_of s nodes =
-    keeps_constants s (flat_map (named_constants (program_in s)) (map node_of nodes))
+    keeps_constants s (flat_map (named_constants (alone s)) (map node_of nodes))

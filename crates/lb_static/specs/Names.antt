@@ -15,6 +15,10 @@ abbrev pub are_distinct : List Name → Bool
 are_distinct [] = true
 are_distinct (x ∷ xs) = not (among x xs) && are_distinct xs
 
+-- the first node calls or iterates the second
+abbrev pub calls : Node → Node → Bool
+calls n m = list_any (λ s. bytes_eq s.callee m.name) (node_sites n)
+
 module _ (P : Program) where
   abbrev pub is_constant : Name → Bool
   is_constant x = among x (map (λ c. c.name) P.source.constants)
@@ -61,10 +65,6 @@ module _ (P : Program) where
 
   abbrev pub starts : List (Option Node)
   starts = map (node_named P) start_names
-
-  -- the first node calls or iterates the second
-  abbrev pub calls : Node → Node → Bool
-  calls n m = list_any (λ s. bytes_eq s.callee m.name) (node_sites n)
 
   -- the nodes had from some in at most so many calls
   abbrev pub reached_within : (Node → Bool) → ℕ → List Node

@@ -13,6 +13,7 @@ use Rattle.lb_static.specs.Instances.{Program, Site, node_named}
 use Rattle.lb_static.specs.NameFaults.{alone}
 use Rattle.lb_static.specs.Names.{is_callable, is_known, is_static_name, is_variable}
 use Rattle.lb_static.specs.Parts.{static_names, variable_names}
+use Rattle.lb_static.specs.ReachedNodes.{source_names}
 use Rattle.lb_static.specs.ResolvedTerms.{name_at}
 use Rattle.lb_static.specs.declared.node_scope.NodeScope.{NodeScope}
 use Rattle.lb_static.specs.declared.resolved.NodePlace.{NodePlace}
@@ -36,14 +37,11 @@ IsVariableAt n x place =
 abbrev pub takes : Program → Name → ℕ → Bool
 takes P f count = holds (λ callee. nat_eq count (length callee.parameters)) (node_named P f)
 
-abbrev pub node_names : Program → List Name
-node_names P = map (λ n. n.name) P.source.nodes
-
 -- the place of the node that is called by a name with so many static arguments
 abbrev pub IsCallee : Program → Name → ℕ → NodePlace → Type 0
 IsCallee P f count place =
-    (either_or (slice_get (node_names P) place.0) [] ≡ f)
-    × (nat_lt place.0 (length (node_names P)) ≡ true)
+    (either_or (slice_get (source_names P) place.0) [] ≡ f)
+    × (nat_lt place.0 (length (source_names P)) ≡ true)
     × (takes P f count ≡ true)
 
 -- ## Whether each name has a meaning

@@ -49,5 +49,6 @@ pub use resolved::{
 };
 pub use signature::{Kind, Signature};
 pub use slices::part_of;
+pub use specialize::elements_of;
 pub use static_value::StaticInt;
 pub use table::{Instance, InstanceId, Origin, Specialization, SpecializationId, Table};

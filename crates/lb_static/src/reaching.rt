@@ -8,9 +8,9 @@ ghost use Rattle.lb_syntax.specs.Tree.{Node as TreeNode};
 ghost use Rattle.lb_static.specs.Elaborated.{program_of};
 ghost use Rattle.lb_static.specs.SourceNames.{names_in_source, node_in_source};
 ghost use Rattle.lb_static.specs.NameFaults.{named_in, IsNameFault};
-ghost use Rattle.lb_static.specs.Names.{are_distinct, starts};
+ghost use Rattle.lb_static.specs.Names.{are_distinct, starts, calls};
 ghost use Rattle.lb_static.specs.CalledNodes.{AreResolved, AreStarts, IsStart, Reaches, are_named};
-ghost use Rattle.lb_static.specs.CalledNodes.{called, callees, ids_of};
+ghost use Rattle.lb_static.specs.CalledNodes.{callees, ids_of};
 ghost use Rattle.lb_static.specs.WorkLists.{AreReachable, visited_after_all, within};
 
 use crate::error::StaticError;
@@ -69,9 +69,9 @@ fn resolve_visited<'s>(
     ensures count { OnOk result (work_list.new.count ≡ work_list.old.count) }
     ensures few { OnOk result (length work_list.new.order ≤ work_list.new.count) }
     ensures err { IfErr result (λ e. (start : TreeNode → Bool)
-        → AreReachable (view_source source.now).nodes start called work_list.old.order
+        → AreReachable (view_source source.now).nodes start calls work_list.old.order
         → IsNameFault e (list_all (named_in (view_source source.now))
-        (within (view_source source.now).nodes start called
+        (within (view_source source.now).nodes start calls
         (length (view_source source.now).nodes)))) }
 {
     while let Some(place) = work_list.place(nodes.len()) {

@@ -105,8 +105,9 @@ pub fn size_of(value: StaticInt) -> u64
 }
 
 /// So many elements as the sizes make, or 65,537 for all that are more than 65,536.
-fn elements(sizes: &[StaticInt]) -> u64
-    ensures { result ≡ times_sizes 1 sizes.now }
+pub fn elements_of(sizes: &[StaticInt]) -> u64
+    ensures value { result ≡ times_sizes 1 sizes.now }
+    ensures within { result ≤ 65537 }
 {
     let mut elements = 1;
     for size in sizes {
@@ -123,7 +124,7 @@ fn are_narrow(variables: &[Variable], values: &[StaticInt]) -> bool
 {
     for variable in variables {
         let first = variable.first_size.0;
-        if elements(&values[first..first + variable.sizes]) > WIDEST {
+        if elements_of(&values[first..first + variable.sizes]) > WIDEST {
             return false;
         }
     }

@@ -4,9 +4,8 @@ use Rattle.std.specs.Prelude.{flat_map, map}
 use Rattle.std.proofs.lemmas.List.{length-map}
 use Rattle.lb_syntax.specs.SourceView.{view_constant, view_source}
 use Rattle.lb_syntax.specs.Tree.{Name}
-use Rattle.lb_static.specs.CalledNodes.{program_in}
 use Rattle.lb_static.specs.NamedConstants.{AreNamed, keeps_constants, node_constants}
-use Rattle.lb_static.specs.NameFaults.{IsNameFault}
+use Rattle.lb_static.specs.NameFaults.{IsNameFault, alone}
 use Rattle.lb_static.specs.Names.{named_constants}
 use Rattle.lb_static.specs.ResolvedNodes.{node_of}
 use Rattle.lb_static.specs.WorkLists.{visited_after_all}
@@ -19,7 +18,7 @@ returns-clause-ok c =
     let s = view_source c.args.source.now in
     let g = c.args.globals.now in
     let nodes = c.args.nodes.now in
-    let xs = flat_map (named_constants (program_in s)) (map node_of nodes) in
+    let xs = flat_map (named_constants (alone s)) (map node_of nodes) in
     let count : g.constants ≡ length s.constants =
     c.requires.constants ∙ sym (length-map c.args.source.now.constants.items view_constant) in
     let places = named_places s g c.requires.names count c.requires.once nodes c.requires.resolved
@@ -34,7 +33,7 @@ returns-clause-err c =
     let s = view_source c.args.source.now in
     let g = c.args.globals.now in
     let nodes = c.args.nodes.now in
-    let xs = flat_map (named_constants (program_in s)) (map node_of nodes) in
+    let xs = flat_map (named_constants (alone s)) (map node_of nodes) in
     let count : g.constants ≡ length s.constants =
     c.requires.constants ∙ sym (length-map c.args.source.now.constants.items view_constant) in
     let places = named_places s g c.requires.names count c.requires.once nodes c.requires.resolved

@@ -1,6 +1,6 @@
 use Rattle.std.proofs.Common.{◌≡◌, ◌≤◌, drop}
 use Rattle.lb_static.specs.Specialized.{times_sizes}
-use Rattle.lb_static.proofs.specialize.elements.Given as goal
+use Rattle.lb_static.proofs.specialize.elements_of.Given as goal
 
 abbrev pub invariant-loop-size : goal.invariant-loop-size
 invariant-loop-size l = record {
