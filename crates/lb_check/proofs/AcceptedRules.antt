@@ -3,13 +3,14 @@ use Rattle.std.proofs.Common.{◌≡◌, ℕ, suc, Bool, true, None, List, [], �
 use Rattle.std.specs.List.{list_all}
 use Rattle.lb_syntax.specs.Lists.{Every, In}
 use Rattle.lb_syntax.specs.Refusals.{E5, E6, E9, E10, E12, unless}
-use Rattle.lb_syntax.proofs.TruthValues.{and_first}
+use Rattle.lb_syntax.proofs.TruthValues.{and_first, and_second}
 use Rattle.lb_static.specs.Instances.{Program, Instance, instances}
 use Rattle.lb_static.specs.Instantiation.{static_refusal, has_values, is_in_range, may_enter}
 use Rattle.lb_static.specs.Instantiation.{instance_refusal, instantiation_refusal}
+use Rattle.lb_static.specs.DataTypes.{variables}
 use Rattle.lb_check.specs.Acceptance.{check_refusal}
 use Rattle.lb_check.specs.ClockRules.{is_clocked, are_declared_clocks}
-use Rattle.lb_check.specs.TypeRules.{is_typed}
+use Rattle.lb_check.specs.TypeRules.{is_typed, is_clock_typed, is_statement_typed}
 use Rattle.lb_check.proofs.ApartLists.{Every-at}
 use Rattle.lb_check.proofs.Checks.{first_none, second_none, kept, instantiation_kept}
 use Rattle.lb_check.proofs.Every.{Every-map, Every-tested}
@@ -68,6 +69,12 @@ module _ (P : Program) (checked : check_refusal P ≡ None) where
 
   pub typed : (here : Instance) → In here (instances P) → is_typed P here ≡ true
   typed here i = Every-at (λ here. is_typed P here ≡ true) (instances P) here all_typed i
+
+  pub statements_typed :
+      (here : Instance) → In here (instances P) →
+      list_all (is_statement_typed P here) here.node.body ≡ true
+  statements_typed here i =
+      and_second (list_all (is_clock_typed P here) (variables here.node)) _ (typed here i)
 
   pub clocked : (here : Instance) → In here (instances P) → is_clocked P here.node ≡ true
   clocked here i =

@@ -1,6 +1,5 @@
 -- A row of terms in a tree is the list in the vector, and so are its operands.
 use Rattle.std.proofs.Common.{◌≡◌, inl, inr, List, Vec, Global, ap, ◌∙◌}
-use mathlib.Core.Former.{Count}
 use Rattle.lb_syntax.specs.Lists.{holds}
 use Rattle.lb_syntax.specs.declared.tree.ArrayIterator.{ArrayIterator}
 use Rattle.lb_syntax.specs.declared.tree.BinaryOperator.{BinaryOperator}
@@ -8,23 +7,14 @@ use Rattle.lb_static.specs.declared.resolved.CallId.{CallId}
 use Rattle.lb_static.specs.declared.resolved.StaticId.{StaticId}
 use Rattle.lb_static.specs.declared.resolved.VariableId.{VariableId}
 use Rattle.lb_static.specs.declared.resolved.Term.{Term, Array, AtMostOne, Nor, Call, IterateNode}
-use Rattle.lb_static.specs.declared.resolved.Term.{IterateSymbol, Array', AtMostOne', Nor', Call'}
-use Rattle.lb_static.specs.declared.resolved.Term.{IterateNode', IterateSymbol', Row_of-Term}
-use Rattle.lb_static.specs.declared.resolved.Term.{end_of-Term, items-the_row-Term}
+use Rattle.lb_static.specs.declared.resolved.Term.{IterateSymbol}
+use Rattle.lb_static.specs.declared.resolved.Term.{items-the_row-Term}
 use Rattle.lb_static.specs.declared.resolved.Term.{items_hidden-the_row-Term-0}
+use Rattle.lb_static.specs.TermForms.{IsRow}
 use Rattle.lb_check.specs.TermClocks.{Context, is_call_clocked, is_equation_clocked, operands_in}
 use Rattle.lb_check.specs.TermClocks.{operands_of, row_clock_set, infer_clock}
-use Rattle.lb_check.proofs.TypeRows.{IsRow}
+use Rattle.lb_check.proofs.TypeRows.{row_in}
 use Rattle.lb_check.proofs.TermClockSets.{operands_items}
-
-abbrev pub row_in : Term → (n : Count) × Row_of-Term n
-row_in (Array' _ row) = (_, row)
-row_in (AtMostOne' _ row) = (_, row)
-row_in (Nor' _ row) = (_, row)
-row_in (Call' _ _ row) = (_, row)
-row_in (IterateNode' _ _ _ row) = (_, row)
-row_in (IterateSymbol' _ _ _ _ row) = (_, row)
-row_in _ = (_, end_of-Term)
 
 -- the operands in the row of a term are those that the list in its vector is
 pub same_operands : (ctx : Context) (t : Term) (es : Vec Term Global) →

@@ -28,19 +28,10 @@ use Rattle.lb_check.specs.declared.own_clock.Clock.{Clock as Compared}
 use Rattle.lb_check.specs.declared.own_clock.Clock.TheVariants as code
 use Rattle.lb_check.proofs.ClockedNodes.{as_many_names}
 use Rattle.lb_check.proofs.OwnClocks.{clock_of_free, clock_of_waiting, same_signs, other_variable}
-use Rattle.lb_check.proofs.OwnClocks.{beq_same}
+use Rattle.lb_check.proofs.OwnClocks.{beq_same, clock_itself}
 use Rattle.lb_check.proofs.ClockSetRows.{same_is as same_one}
 
 -- ## Clocks of a text
-
-same_itself : (a : Bool) → same a a ≡ true
-same_itself true = refl
-same_itself false = refl
-
-pub clock_itself : (k : Clock) → is_clock k k ≡ true
-clock_itself Base = refl
-clock_itself (On k x sign) = let e = (bytes_eq-Decides x x).1 refl in
-    rw (e, same_itself sign) (clock_itself k)
 
 pub clock_same : (k l : Clock) → is_clock k l ≡ true → k ≡ l
 clock_same Base Base e = refl

@@ -3,25 +3,23 @@ use Rattle.std.proofs.Common.{◌≡◌, ◌⊎◌, inl, inr, ℕ, ◌+◌, ◌<
 use Rattle.std.proofs.Common.{get_or, Vec, Global, refl, ap, ◌∙◌}
 use Rattle.std.specs.Prelude.{◌&&◌, ◌||◌, if◌then◌else◌, ◌==◌}
 use Rattle.std.proofs.lemmas.List.{drop_more}
-use mathlib.Core.Former.{Count}
-use Rattle.lb_syntax.specs.declared.tree.ArrayIterator.{ArrayIterator}
-use Rattle.lb_syntax.specs.declared.tree.BinaryOperator.{BinaryOperator}
 use Rattle.lb_syntax.specs.declared.tree.UnaryOperator.{UnaryOperator}
 use Rattle.lb_static.specs.declared.reach.Reached.{Reached}
-use Rattle.lb_static.specs.declared.resolved.CallId.{CallId}
 use Rattle.lb_static.specs.declared.resolved.CallSite.{CallSite}
 use Rattle.lb_static.specs.declared.resolved.StaticId.{StaticId}
 use Rattle.lb_static.specs.declared.resolved.VariableId.{VariableId}
 use Rattle.lb_static.specs.declared.resolved.ResolvedStatement.{ResolvedStatement}
 use Rattle.lb_static.specs.declared.resolved.Term.{Term, Group, Unary, When, Replicate, Index}
 use Rattle.lb_static.specs.declared.resolved.Term.{Slice, Array, AtMostOne, Nor, Call, IterateNode}
-use Rattle.lb_static.specs.declared.resolved.Term.{IterateSymbol, Array', AtMostOne', Nor', Call'}
-use Rattle.lb_static.specs.declared.resolved.Term.{IterateNode', IterateSymbol', Row_of-Term}
+use Rattle.lb_static.specs.declared.resolved.Term.{IterateSymbol}
+use Rattle.lb_static.specs.declared.resolved.Term.{Row_of-Term}
 use Rattle.lb_static.specs.declared.resolved.Term.{end_of-Term, more_of-Term, items-the_row-Term}
 use Rattle.lb_static.specs.declared.resolved.Term.{items_hidden-the_row-Term-0}
+use Rattle.lb_static.specs.TermForms.{IsRow}
 use Rattle.lb_check.specs.NodeDefinitions.{count_left, count_statement, count_statements}
 use Rattle.lb_check.specs.NodeDefinitions.{has_memory, row_memory, any_memory, statement_memory}
 use Rattle.lb_check.specs.NodeDefinitions.{statements_memory, calls_function, call_functions}
+use Rattle.lb_check.proofs.TypeRows.{row_in}
 
 pub count_next : (k : ℕ) (xs : List VariableId) (i : ℕ) (d : VariableId) → i < length xs
     → count_left k (drop i xs) ≡ (if (get_or xs i d).0 == k then 1 else 0) + count_left k
@@ -46,24 +44,15 @@ calls_next r ss i d lt = ap (call_functions r) (drop_more ss i d lt)
 
 -- ## The row of terms in a term is the list in its vector
 
-abbrev row_of : Term → (n : Count) × Row_of-Term n
-row_of (Array' _ row) = (_, row)
-row_of (AtMostOne' _ row) = (_, row)
-row_of (Nor' _ row) = (_, row)
-row_of (Call' _ _ row) = (_, row)
-row_of (IterateNode' _ _ _ row) = (_, row)
-row_of (IterateSymbol' _ _ _ _ row) = (_, row)
-row_of _ = (_, end_of-Term)
-
 memory_items : (n : _) (row : Row_of-Term n) →
     row_memory row ≡ any_memory (items-the_row-Term n row)
 unfolding has_memory
 memory_items n end_of-Term = refl
 memory_items n (more_of-Term e rest) = ap (λ b. has_memory e || b) (memory_items _ rest)
 
-memory_hidden : (t : Term) (es : Vec Term Global) → items-the_row-Term _ (row_of t).1 ≡ es.items →
-    row_memory (row_of t).1 ≡ any_memory es.items
-memory_hidden t es e = memory_items _ (row_of t).1 ∙ ap any_memory e
+memory_hidden : (t : Term) (es : Vec Term Global) → items-the_row-Term _ (row_in t).1 ≡ es.items →
+    row_memory (row_in t).1 ≡ any_memory es.items
+memory_hidden t es e = memory_items _ (row_in t).1 ∙ ap any_memory e
 
 -- a term that has memory where this one operand has
 abbrev pub IsAround : Term → Box Term Global → Type 0
@@ -83,15 +72,7 @@ memory_part t e (inr (inr (inr (inl (n, is))))) = rw is refl
 memory_part t e (inr (inr (inr (inr (inl (i, is)))))) = rw is refl
 memory_part t e (inr (inr (inr (inr (inr (i, j, is)))))) = rw is refl
 
--- a term that has a row of terms
-abbrev pub HasRow : Term → Vec Term Global → Type 0
-HasRow t es =
-    (t ≡ Array es) ⊎ ((t ≡ AtMostOne es) ⊎ ((t ≡ Nor es) ⊎ (((c : CallId) × (t ≡ Call c es))
-    ⊎ (((it : ArrayIterator) × (c : CallId) × (t ≡ IterateNode it c es))
-    ⊎ ((it : ArrayIterator) × (op : BinaryOperator) × (n : StaticId)
-    × (t ≡ IterateSymbol it op n es))))))
-
-pub memory_row : (t : Term) (es : Vec Term Global) → HasRow t es →
+pub memory_row : (t : Term) (es : Vec Term Global) → IsRow t es →
     has_memory t ≡ any_memory es.items
 unfolding has_memory
 memory_row t es (inl e) = ap has_memory e

@@ -1,9 +1,10 @@
 -- What the code reads of a specialization is what the definitions say of its instances.
-use Rattle.std.proofs.Common.{◌≡◌, suc, ℤ, true, List, [], ◌∷◌, length, map, Option, Some, None}
+use Rattle.std.proofs.Common.{◌≡◌, ℤ, true, List, [], length, map, Option, Some, None}
 use Rattle.std.proofs.Common.{refl, ap, sym, ◌∙◌, subst}
 use Rattle.std.specs.Prelude.{option_map, slice_get, nat_lt}
 use Rattle.std.proofs.lemmas.Option.{slice_get-map}
 use Rattle.std.proofs.lemmas.Bool.{not-true}
+use Rattle.std.proofs.lemmas.List.{length-map}
 use Rattle.lb_syntax.specs.Lists.{◌>>=◌, either_or}
 use Rattle.lb_syntax.specs.Tree.{Name, Static, Whole, Named, Negated, Combined, Grouped}
 use Rattle.lb_syntax.proofs.ListPlaces.{all_at}
@@ -37,10 +38,6 @@ use Rattle.lb_check.specs.TermTypes.{constant_at, count_at, variable_at, repeats
 use Rattle.lb_check.proofs.FittedTypes.{value_at, count_is, declared_at, unfound}
 use Rattle.lb_check.proofs.DistinctNames.{held_at}
 
-pub length_map : {A B : Type 0} → (f : A → B) (xs : List A) → length (map f xs) ≡ length xs
-length_map f [] = refl
-length_map f (x ∷ xs) = ap suc (length_map f xs)
-
 module _ (P : Program) (r : Reached) (t : Table) (s : Specialization) (n : ResolvedNode) (p : Path)
     (resolved : IsResolved (source_names P) n)
     (distinct : are_distinct (variable_names (node_of n)) ≡ true)
@@ -60,7 +57,7 @@ module _ (P : Program) (r : Reached) (t : Table) (s : Specialization) (n : Resol
   found x w =
       let v = held_at n.variables.items x.0 w in
       let y = held_at names x.0 (subst (λ k. nat_lt x.0 k ≡ true)
-      (resolved.as_many ∙ sym (length_map (λ d. d.name) (variables (node_of n)))) w) in
+      (resolved.as_many ∙ sym (length-map (variables (node_of n)) (λ d. d.name))) w) in
       let at = declared_at names (statics_of n) names n.variables.items x.0 y.0 v.0 distinct y.1 v.1
       in (
         declared_type s.statics.items v.0,

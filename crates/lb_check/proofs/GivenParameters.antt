@@ -4,20 +4,19 @@ use Rattle.std.proofs.Common.{◌≡◌, ◌⊎◌, inl, inr, ℕ, suc, Bool, tr
 use Rattle.std.proofs.Common.{Some, None, List, [], ◌∷◌, ◌++◌, length, map, refl, ap, ap₂, sym, ◌∙◌}
 use Rattle.std.proofs.Common.{subst, arith}
 use Rattle.std.specs.Prelude.{◌||◌, not, is_some, option_map, filter}
-use Rattle.std.specs.List.{list_all}
 use Rattle.std.specs.Str.{bytes_eq}
 use Rattle.std.proofs.lemmas.List.{append_assoc, map-append}
 use Rattle.std.proofs.lemmas.Slice.Eq.{bytes_eq-Decides}
 use Rattle.lb_syntax.specs.Lists.{◌>>=◌, In, either_or, holds, listed}
 use Rattle.lb_syntax.specs.Tree.{Name, Exprs, Declaration, Sampling, Node}
 use Rattle.lb_syntax.proofs.ListPlaces.{all_in}
-use Rattle.lb_syntax.proofs.TruthValues.{and_first, and_second}
+use Rattle.lb_syntax.proofs.TruthValues.{and_first, and_second, implied}
 use Rattle.lb_static.specs.DataTypes.{variables}
 use Rattle.lb_static.specs.Instances.{Program, Instance, Path, Child, instance_at}
 use Rattle.lb_static.specs.Parts.{among, variable_names}
 use Rattle.lb_static.specs.StaticValues.{named}
 use Rattle.lb_static.proofs.Members.{any_in}
-use Rattle.lb_check.specs.ClockRules.{if_clocked, is_clocked_by, are_declared_clocks}
+use Rattle.lb_check.specs.ClockRules.{is_clocked_by, are_declared_clocks}
 use Rattle.lb_check.specs.ClockRules.{is_given_variable, are_given_variables, is_base_clocked_node}
 use Rattle.lb_check.specs.Clocks.{Clock, Base, On, Given, variable_clock, declared_clock}
 use Rattle.lb_check.specs.Clocks.{given_name, outer, given_inputs, given_outputs}
@@ -27,7 +26,7 @@ use Rattle.lb_check.specs.Occurrences.{Occurrence}
 use Rattle.lb_check.proofs.ApartLists.{in_either, Every-at, Every-from}
 use Rattle.lb_check.proofs.CallClocks.{none_given}
 use Rattle.lb_check.proofs.NamedClocks.{IsOver, found_first, named_over, clock_or_over, own_names}
-use Rattle.lb_check.proofs.NamedClocks.{input_over, output_over}
+use Rattle.lb_check.proofs.NamedClocks.{input_over, output_over, one_clock}
 use Rattle.lb_check.proofs.OccurrenceSites.{find_first}
 
 -- ## What is found by its name
@@ -137,13 +136,6 @@ outer_before b given rest (On k x sign) h =
     name_or x o = either_or (option_map (λ g. g.1) o) x
 
 -- ## The clocks of parameters
-
-pub one_clock : (test : Sampling → Bool) (d : Declaration) (s : Sampling) →
-    if_clocked test d ≡ true →
-    d.clock ≡ Some s → test s ≡ true
-one_clock test d s e is =
-    and_first (test s) true
-    (subst (λ o. list_all test (listed (λ s. s ∷ []) o) ≡ true) is e)
 
 among_before : (x : Name) (xs ys : List Name) → among x xs ≡ true → among x (xs ++ ys) ≡ true
 among_before x [] ys e = absurd cc
@@ -268,10 +260,6 @@ module _ (callee : Node) (declared : are_declared_clocks callee ≡ true) where
         output_over (IsGiven inputs_given) here callee es declared is_given (λ x g e m. (g, e))
         d one
 
-    implied : (a b : Bool) → a ≡ true → (not a || b) ≡ true → b ≡ true
-    implied true b e f = f
-    implied false b e f = absurd cc
-
     held : (x : Name) (o : Option (Name × Name)) → found_in inputs_given x ≡ o →
         holds (λ g. among g.1 (variable_names here)) o ≡ true → IsGiven inputs_given x
     held x None is e = absurd cc
@@ -295,7 +283,8 @@ module _ (callee : Node) (declared : are_declared_clocks callee ≡ true) where
               || holds (λ g. among g.1 (variable_names here))
               (named (λ g. g.0) s.variable inputs_given)) d s test is in
               given_before inputs_given (given_outputs callee.outputs lefts) s.variable
-              (held s.variable (found_in inputs_given s.variable) refl (implied _ _ e h))
+              (held s.variable (found_in inputs_given s.variable) refl
+              (implied (among s.variable (names_of callee.inputs)) _ h e))
           by false e =
               let some = subst (λ xs. among s.variable xs ≡ true)
               (map-append (λ d. d.name) callee.inputs callee.outputs) (waited d s i is) in

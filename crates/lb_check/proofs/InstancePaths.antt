@@ -1,7 +1,7 @@
 -- Instances by their paths: each stands where its path says, each that stands at a path is among
 -- the instances, and no path has two.
 use Rattle.std.proofs.Common.{◌≡◌, ◌⊎◌, inl, inr, ℕ, zero, suc, ◌+◌, ◌<◌, ◌≤◌, Bool, true, false}
-use Rattle.std.proofs.Common.{Option, Some, None, option_map, List, [], ◌∷◌}
+use Rattle.std.proofs.Common.{Option, Some, None, List, [], ◌∷◌}
 use Rattle.std.proofs.Common.{refl, ap, ap₂, sym, subst, ◌∙◌, arith}
 use Rattle.std.specs.Prelude.{nat_eq, nat_lt, slice_get, IfSome, if◌then◌else◌}
 use Rattle.std.specs.List.{range_with_len}
@@ -9,11 +9,10 @@ use Rattle.std.proofs.lemmas.Bool.Decides.{nat_tests}
 use Rattle.std.proofs.lemmas.Bool.{eqb-true, ltb-true, and_from}
 use Rattle.std.proofs.lemmas.Option.{same_Some}
 use Rattle.lb_syntax.specs.Lists.{Every, In, listed}
-use Rattle.lb_syntax.specs.Tree.{Name, Node}
 use Rattle.lb_syntax.proofs.SameNames.{same_number}
 use Rattle.lb_syntax.proofs.TruthValues.{and_first, and_second}
 use Rattle.lb_static.specs.Instances.{Program, Instance, Path, Root, Observer, Child, is_path, Site}
-use Rattle.lb_static.specs.Instances.{node_sites, numbered_sites, node_named, instance_count}
+use Rattle.lb_static.specs.Instances.{node_sites, numbered_sites, instance_count}
 use Rattle.lb_static.specs.Instances.{callee_of, start_at, instance_at, site_instances, children}
 use Rattle.lb_static.specs.Instances.{instances_from, instances}
 use Rattle.lb_static.specs.Instantiation.{level, instantiation_refusal}
@@ -21,7 +20,7 @@ use Rattle.lb_check.proofs.Every.{Every-map, Every-both, Every-append, Every-of_
 use Rattle.lb_check.proofs.Every.{Every-found, Every-of_range}
 use Rattle.lb_check.proofs.NamedClocks.{if_some}
 use Rattle.lb_check.proofs.OperandTypes.{bound}
-use Rattle.lb_check.proofs.SameInstances.{callee_path, all_entered, all_children}
+use Rattle.lb_check.proofs.SameInstances.{callee_path, all_entered, all_children, started}
 use Rattle.lb_check.proofs.ApartLists.{in_first, in_second, Every-at, Every-from, in_some, some_in}
 use Rattle.lb_check.proofs.ApartLists.{AreApart, apart-append, some_apart, IsPiece, of_pieces}
 use Rattle.lb_check.proofs.ApartLists.{to_pieces, apart_pieces, range_apart, in_range}
@@ -139,18 +138,10 @@ module _ (P : Program) where
         gives = t.1;
       }
 
-  started : (p : Path) (f : Name) (c : Instance) → start_at P p f ≡ Some c → c.path ≡ p
-  started p f c e = by (node_named P f) e
-    where
-      by : (o : Option Node) → option_map (λ n. record { path = p; node = n; values = [] }) o
-          ≡ Some c → c.path ≡ p
-      by None h = absurd cc
-      by (Some n) h = sym (ap (λ (i : Instance). i.path) (same_Some _ _ h))
-
   pub path_is : (p : Path) (c : Instance) → instance_at P p ≡ Some c → c.path ≡ p
-  path_is Root c e = started Root P.root c e
+  path_is Root c e = started P Root P.root c e
   path_is Observer c e =
-      let f = bound P.observer (start_at P Observer) c e in started Observer f.value c f.gives
+      let f = bound P.observer (start_at P Observer) c e in started P Observer f.value c f.gives
   path_is (Child p call index) c e =
       let k = called p call index c e in
       let path = callee_path P k.caller k.site call index c k.gives in

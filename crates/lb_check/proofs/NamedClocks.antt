@@ -10,7 +10,7 @@ use Rattle.lb_syntax.specs.Lists.{◌>>=◌, Every, either_or, holds, listed, or
 use Rattle.lb_syntax.specs.Tree.{Name, Exprs, Declaration, Sampling, Node}
 use Rattle.lb_syntax.proofs.Readers.{bind_some}
 use Rattle.lb_syntax.proofs.SameNames.{name_same}
-use Rattle.lb_syntax.proofs.TruthValues.{and_first, and_second}
+use Rattle.lb_syntax.proofs.TruthValues.{and_first, and_second, implied}
 use Rattle.lb_static.specs.Parts.{among, variable_names}
 use Rattle.lb_static.specs.DataTypes.{variables}
 use Rattle.lb_static.specs.StaticValues.{named}
@@ -258,6 +258,14 @@ module _ (V : Name → Type 0) (n : Node) (all : Every (λ d. V d.name) (variabl
 
 -- ## What a call is given
 
+-- what is tested of the clock of a declaration holds of the clock that it has
+pub one_clock :
+    (test : Sampling → Bool) (d : Declaration) (s : Sampling) → if_clocked test d ≡ true →
+    d.clock ≡ Some s → test s ≡ true
+one_clock test d s e is =
+    and_first (test s) true
+    (subst (λ o. list_all test (listed (λ s. s ∷ []) o) ≡ true) is e)
+
 -- where this holds of an input for which a variable of the caller is given, it does so of all that
 -- the clock of an input waits for
 module _ (Seen : Name → Type 0) (here callee : Node) (es : Exprs)
@@ -284,23 +292,12 @@ module _ (Seen : Name → Type 0) (here callee : Node) (es : Exprs)
       (Every-tested (is_given_variable here callee given) (callee.inputs ++ callee.outputs)
       is_given))
 
-  one_clock :
-      (test : Sampling → Bool) (d : Declaration) (s : Sampling) → if_clocked test d ≡ true →
-      d.clock ≡ Some s → test s ≡ true
-  one_clock test d s e is =
-      and_first (test s) true
-      (subst (λ o. list_all test (listed (λ s. s ∷ []) o) ≡ true) is e)
-
   -- what stands for an input that is waited for
   given_there :
       (x : Name) (o : Option (Name × Name)) → named (λ g. g.0) x given ≡ o →
       holds (λ g. among g.1 (variable_names here)) o ≡ true → Seen x
   given_there x None is e = absurd cc
   given_there x (Some g) is e = seen x g is e
-
-  implied : (a b : Bool) → a ≡ true → (not a || b) ≡ true → b ≡ true
-  implied true b e f = f
-  implied false b e f = absurd cc
 
   abbrev input_names : List Name
   input_names = map (λ d. d.name) callee.inputs
@@ -312,7 +309,8 @@ module _ (Seen : Name → Type 0) (here callee : Node) (es : Exprs)
       not (among s.variable (map (λ i. i.name) callee.inputs))
       || holds (λ g. among g.1 (variable_names here)) (named (λ g. g.0) s.variable given))
       d s w is in
-      given_there s.variable (named (λ g. g.0) s.variable given) refl (implied _ _ e test)
+      given_there s.variable (named (λ g. g.0) s.variable given) refl
+      (implied (among s.variable input_names) _ test e)
 
   waits :
       (d : Declaration) (s : Sampling) (v : Declaration) → Waits d → d.clock ≡ Some s →

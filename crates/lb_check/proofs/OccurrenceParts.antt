@@ -46,6 +46,13 @@ joined_parts :
     exprs_of (os ++ os') ≡ xs ++ ys
 joined_parts os os' xs ys h g = map-append (λ o. o.expr) os os' ∙ ap₂ (λ xs ys. xs ++ ys) h g
 
+pub never_as_many : (ts : List DataType) → 0 ≡ suc (length ts) → ⊥
+never_as_many ts e = omega (arith, e)
+
+pub one_less : (ks : List Clock) (ts : List DataType) → suc (length ks) ≡ suc (length ts) →
+    length ks ≡ length ts
+one_less ks ts e = omega (arith, e)
+
 module _ (P : Program) (here : Instance) where
   abbrev ArePartsOf : List Occurrence → List Expr → Type 0
   ArePartsOf os es = exprs_of os ≡ es
@@ -66,13 +73,6 @@ module _ (P : Program) (here : Instance) where
       ∙ sym (length-map n.inputs (variable_type P c.callee))
       ∙ sym (length-all_some (map (variable_type P c.callee) n.inputs) types.0 c.inputs)
       ∙ as_many_types types.0 args same
-
-  pub never_as_many : (ts : List DataType) → 0 ≡ suc (length ts) → ⊥
-  never_as_many ts e = omega (arith, e)
-
-  pub one_less : (ks : List Clock) (ts : List DataType) → suc (length ks) ≡ suc (length ts) →
-      length ks ≡ length ts
-  one_less ks ts e = omega (arith, e)
 
   -- those of two operands
   two_parts :

@@ -25,9 +25,9 @@ use Rattle.lb_check.specs.declared.own_clock.Clock.{Clock}
 use Rattle.lb_check.specs.declared.own_clock.Clock.TheVariants.{Base, On}
 use Rattle.lb_check.specs.declared.clock_set.ClockSet.{ClockSet}
 use Rattle.lb_check.specs.declared.clock_set.ClockSet.TheVariants.{NoClock, AnyClock, OneClock}
-use Rattle.lb_check.proofs.ClockTests.{clock_itself, clock_same}
+use Rattle.lb_check.proofs.ClockTests.{clock_same}
 use Rattle.lb_check.proofs.ClockedNodes.{are_awaited}
-use Rattle.lb_check.proofs.OwnClocks.{clock_of_free, clock_of_waiting, same_clock}
+use Rattle.lb_check.proofs.OwnClocks.{clock_of_free, clock_of_waiting, same_clock, clock_itself}
 
 -- ## Clocks of the text
 

@@ -81,6 +81,12 @@ one_below : (m : ℕ) (ds : List Declaration) (d : Declaration) (x : Name) (sign
 one_below m ds d x sign None is e = absurd cc
 one_below m ds d x sign (Some k) is e = rw (more_steps m ds d k is) refl
 
+-- a clock is the same as itself
+pub clock_itself : (k : Clock) → is_clock k k ≡ true
+clock_itself Base = refl
+clock_itself (On k x true) = let e = (bytes_eq-Decides x x).1 refl in rw e (clock_itself k)
+clock_itself (On k x false) = let e = (bytes_eq-Decides x x).1 refl in rw e (clock_itself k)
+
 module _ (r : ResolvedNode) (h : HasClocks r) where
   abbrev names : List Name
   names = variable_names (node_of r)
@@ -170,12 +176,6 @@ module _ (r : ResolvedNode) (h : HasClocks r) where
       let w = item_at vs y.0 ly in
       distinct_at names x.0 y.0 (name_in r x) (name_in r y) h.distinct
       (name_of_place x v.0 v.1 lx).0 (name_of_place y w.0 w.1 ly).0
-
-  -- a clock is the same as itself
-  pub clock_itself : (k : Clock) → is_clock k k ≡ true
-  clock_itself Base = refl
-  clock_itself (On k x true) = let e = (bytes_eq-Decides x x).1 refl in rw e (clock_itself k)
-  clock_itself (On k x false) = let e = (bytes_eq-Decides x x).1 refl in rw e (clock_itself k)
 
   same_or_not : (x y : VariableId) (sign other : Bool) (b : Bool) → (y.0 == x.0) ≡ b →
       bytes_eq (name_in r x) (name_in r y) ≡ b

@@ -7,16 +7,16 @@ use Rattle.std.proofs.lemmas.List.{append_assoc, append-nil, drop_all, drop_more
 use Rattle.lb_syntax.specs.Lists.{listed}
 use Rattle.lb_syntax.specs.declared.tree.ArrayIterator.{ArrayIterator}
 use Rattle.lb_syntax.specs.declared.tree.BinaryOperator.{BinaryOperator}
-use Rattle.lb_syntax.specs.declared.tree.UnaryOperator.{UnaryOperator}
 use Rattle.lb_static.specs.declared.resolved.CallId.{CallId}
 use Rattle.lb_static.specs.declared.resolved.StaticId.{StaticId}
 use Rattle.lb_static.specs.declared.resolved.Term.{Term, Literal, Truth, Variable, Value, Group}
-use Rattle.lb_static.specs.declared.resolved.Term.{Unary, Binary, If, Arrow, Fby, Pre, Current}
-use Rattle.lb_static.specs.declared.resolved.Term.{When, Replicate, Index, Slice, Join, Array}
+use Rattle.lb_static.specs.declared.resolved.Term.{If}
+use Rattle.lb_static.specs.declared.resolved.Term.{Array}
 use Rattle.lb_static.specs.declared.resolved.Term.{AtMostOne, Nor, Call, IterateNode, IterateSymbol}
 use Rattle.lb_static.specs.declared.resolved.Term.{Row_of-Term, end_of-Term, more_of-Term}
 use Rattle.lb_static.specs.declared.resolved.Term.{items-the_row-Term, items_hidden-the_row-Term-0}
 use Rattle.lb_static.specs.declared.resolved.VariableId.{VariableId}
+use Rattle.lb_static.specs.TermForms.{IsSingle, IsPair}
 use Rattle.lb_check.specs.PlacedClocks.{FoundCall, FoundNode, FoundTerm, part, row_term, called}
 use Rattle.lb_check.specs.PlacedClocks.{with_term, with_terms, placed_terms, placed_row}
 use Rattle.lb_check.specs.PlacedClocks.{placed_arguments, placed_all, placed_each, placed_side}
@@ -24,7 +24,8 @@ use Rattle.lb_check.specs.PlacedClocks.{placed_call, operand_clock, call_clocks,
 use Rattle.lb_check.specs.PlacedClocks.{nested_call, side_call, iterated_call}
 use Rattle.lb_check.specs.TermClocks.{Context, infer_clock, operands_in, operands_of, left_clock}
 use Rattle.lb_check.specs.declared.own_clock.Clock.{Clock}
-use Rattle.lb_check.proofs.ClockRows.{row_in, same_operands}
+use Rattle.lb_check.proofs.ClockRows.{same_operands}
+use Rattle.lb_check.proofs.TypeRows.{row_in}
 
 -- ## What is found grows
 
@@ -155,18 +156,7 @@ module _ (ctx : Context) (k : Clock) where
   unfolding placed_terms
   group_placed t e is = rw is refl
 
-  -- a term with this one operand
-  abbrev pub HasOperand : Term → Box Term Global → Type 0
-  HasOperand t e =
-      ((op : UnaryOperator) × (t ≡ Unary op e))
-      ⊎ ((t ≡ Pre e)
-      ⊎ ((t ≡ Current e)
-      ⊎ (((x : VariableId) × (sign : Bool) × (t ≡ When e x sign))
-      ⊎ (((n : StaticId) × (t ≡ Replicate e n))
-      ⊎ (((i : StaticId) × (t ≡ Index e i))
-      ⊎ ((i : StaticId) × (j : StaticId) × (t ≡ Slice e i j)))))))
-
-  pub operand_placed : (t : Term) (e : Box Term Global) → HasOperand t e →
+  pub operand_placed : (t : Term) (e : Box Term Global) → IsSingle t e →
       placed_terms ctx k t
       ≡ part k ∷ placed_terms ctx (operand_clock ctx k t (infer_clock ctx e.value)) e.value
   unfolding placed_terms
@@ -178,13 +168,7 @@ module _ (ctx : Context) (k : Clock) where
   operand_placed t e (inr (inr (inr (inr (inr (inl (i, is))))))) = rw is refl
   operand_placed t e (inr (inr (inr (inr (inr (inr (i, j, is))))))) = rw is refl
 
-  -- a term with these two operands
-  abbrev pub HasOperands : Term → Box Term Global → Box Term Global → Type 0
-  HasOperands t a b =
-      ((op : BinaryOperator) × (t ≡ Binary op a b))
-      ⊎ ((t ≡ Arrow a b) ⊎ ((t ≡ Fby a b) ⊎ (t ≡ Join a b)))
-
-  pub operands_placed : (t : Term) (a b : Box Term Global) → HasOperands t a b →
+  pub operands_placed : (t : Term) (a b : Box Term Global) → IsPair t a b →
       placed_terms ctx k t
       ≡ part k ∷ (placed_terms ctx k a.value ++ placed_terms ctx k b.value)
   unfolding placed_terms

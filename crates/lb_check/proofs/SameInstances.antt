@@ -82,6 +82,15 @@ module _ (P : Program) where
       (Every-all _ (λ i. if_some below (callee_of P here s.1 s.0 i) (λ c e.
       ap (level P) (callee_path P here s.1 s.0 i c e))) _)) _)
 
+  -- an instance of a start has the path of the start
+  pub started : (p : Path) (f : Name) (c : Instance) → start_at P p f ≡ Some c → c.path ≡ p
+  started p f c e = by (node_named P f) e
+    where
+      by : (o : Option Node) → option_map (λ n. record { path = p; node = n; values = [] }) o
+          ≡ Some c → c.path ≡ p
+      by None h = absurd cc
+      by (Some n) h = sym (ap (λ (i : Instance). i.path) (same_Some _ _ h))
+
   module _ (Q : Instance → Type 0) where
     abbrev pub Low : Instance → Type 0
     Low c = (level P c.path ≤ 64) × Q c
@@ -110,14 +119,6 @@ module _ (P : Program) where
       where
         as_deep : (l m n : ℕ) → l + suc (suc n) ≡ 66 → m ≡ suc l → m + suc n ≡ 66
         as_deep l m n e is = omega arith
-
-    started : (p : Path) (f : Name) (c : Instance) → start_at P p f ≡ Some c → c.path ≡ p
-    started p f c e = by (node_named P f) e
-      where
-        by : (o : Option Node) → option_map (λ n. record { path = p; node = n; values = [] }) o
-            ≡ Some c → c.path ≡ p
-        by None h = absurd cc
-        by (Some n) h = sym (ap (λ (i : Instance). i.path) (same_Some _ _ h))
 
     abbrev pub CallSuch : List Instance → Type 0
     CallSuch is = Every (λ i. Every Q (children P i)) is

@@ -13,7 +13,7 @@ use Rattle.lb_syntax.specs.Lists.{◌>>=◌, In, either_or, holds, listed}
 use Rattle.lb_syntax.specs.Tree.{Name, Static, Expr, Call, Exprs}
 use Rattle.lb_syntax.specs.Tree.{Declaration, Sampling, Node, Statement}
 use Rattle.lb_syntax.proofs.ListPlaces.{all_in, item_at}
-use Rattle.lb_syntax.proofs.TruthValues.{and_first, and_second}
+use Rattle.lb_syntax.proofs.TruthValues.{and_first, and_second, implied}
 use Rattle.lb_static.specs.DataTypes.{variables, width}
 use Rattle.lb_static.specs.Instances.{Program, Instance, Path, Root, Observer, Child, instance_at}
 use Rattle.lb_static.specs.Instances.{instances, node_named, node_sites}
@@ -40,11 +40,11 @@ use Rattle.lb_check.proofs.CallClocks.{none_given}
 use Rattle.lb_check.proofs.CallNumbers.{IsRightSide, lefts_are}
 use Rattle.lb_check.proofs.Checks.{instantiation_kept, names_kept}
 use Rattle.lb_check.proofs.DeterminedClocks.{called_passes}
-use Rattle.lb_check.proofs.GivenParameters.{found_in, found_filtered, given_after, one_clock}
+use Rattle.lb_check.proofs.GivenParameters.{found_in, found_filtered, given_after}
 use Rattle.lb_check.proofs.GivenParameters.{same_before}
 use Rattle.lb_check.proofs.InstanceNames.{find_in, instances_named}
 use Rattle.lb_check.proofs.InstancePaths.{called, path_is, in_instances}
-use Rattle.lb_check.proofs.NamedClocks.{IsOver, base_over}
+use Rattle.lb_check.proofs.NamedClocks.{IsOver, base_over, one_clock}
 use Rattle.lb_check.proofs.OccurrenceClocks.{IsVariable, occurrence_fits}
 use Rattle.lb_check.proofs.PositiveWidths.{width_positive}
 
@@ -85,10 +85,6 @@ held : (x : Name) (names : List Name) (o : Option (Name × Name)) (g : Name × N
 held x names None g e is = absurd cc
 held x names (Some h) g e is =
     among_in g.1 names (subst (λ (u : Name × Name). among u.1 names ≡ true) (same_Some h g is) e)
-
-implied : (a b : Bool) → a ≡ true → (not a || b) ≡ true → b ≡ true
-implied true b e f = f
-implied false b e f = absurd cc
 
 -- what waits for a name, and waits
 waits_here : (x : Name) (o : Option Sampling) → holds (λ s. bytes_eq s.variable x) o ≡ true →
@@ -219,8 +215,8 @@ module _ (P : Program) (accepted : static_refusal P ≡ None) where
             not (among s.variable (map (λ i. i.name) callee.inputs))
             || holds (λ g. among g.1 (variable_names here.node))
             (found_in ins s.variable)) d.0 s.0 own_rule s.1 in
-            let held_by = implied _ _
-            (ap (λ y. among y (map (λ d. d.name) callee.inputs)) s.2 ∙ e) h in
+            let held_by = implied (among s.0.variable (map (λ d. d.name) callee.inputs)) _ h
+            (ap (λ y. among y (map (λ d. d.name) callee.inputs)) s.2 ∙ e) in
             input_value (found_in ins x) refl
             (subst (λ y. holds (λ g. among g.1 (variable_names here.node)) (found_in ins y) ≡ true)
             s.2 held_by)

@@ -1,8 +1,8 @@
 -- The types of the inputs and of the outputs of a callee.
-use Rattle.std.proofs.Common.{◌≡◌, ℕ, suc, List, [], ◌∷◌, ◌++◌, length, map, take, drop, Option}
+use Rattle.std.proofs.Common.{◌≡◌, ℕ, List, [], ◌∷◌, ◌++◌, length, map, take, drop, Option}
 use Rattle.std.proofs.Common.{Some, None, refl, ap, sym, ◌∙◌}
 use Rattle.std.specs.Prelude.{ℤ}
-use Rattle.std.proofs.lemmas.List.{take-map, drop-map}
+use Rattle.std.proofs.lemmas.List.{take-map, drop-map, length-map}
 use Rattle.lb_syntax.specs.Lists.{◌>>=◌, all_some}
 use Rattle.lb_syntax.specs.Tree.{Name, Node}
 use Rattle.lb_static.specs.declared.resolved.ResolvedNode.{ResolvedNode}
@@ -39,16 +39,12 @@ module _ (P : Program) (names : List Name) (n : ResolvedNode) (resolved : IsReso
   abbrev types : List Declared → List (Option DataType)
   types vs = map (declared_type values) vs
 
-  length_map : {A B : Type 0} → (f : A → B) (xs : List A) → length (map f xs) ≡ length xs
-  length_map f [] = refl
-  length_map f (x ∷ xs) = ap suc (length_map f xs)
-
   all_declared : map (variable_type P here) (variables (node_of n)) ≡ types n.variables.items
   all_declared =
       ap (map (variable_type P here)) (sym resolved.declared)
       ∙ sym (types_are P here (statics_of n) values valued (variable_names (node_of n))
       (variable_names (node_of n)) n.variables.items
-      (length_map (λ d. d.name) (variables (node_of n)) ∙ sym resolved.as_many))
+      (length-map (variables (node_of n)) (λ d. d.name) ∙ sym resolved.as_many))
 
   inputs_are : map (variable_type P here) (node_of n).inputs
       ≡ types (take n.inputs n.variables.items)

@@ -29,7 +29,7 @@ use Rattle.lb_check.specs.Types.{index_type, slice_type, join_type, operator_typ
 use Rattle.lb_check.proofs.AcceptedRules.{typed}
 use Rattle.lb_check.proofs.ApartLists.{some_in}
 use Rattle.lb_check.proofs.InstancePaths.{numbered_in}
-use Rattle.lb_check.proofs.OccurrenceParts.{as_many_clocks, right_typed}
+use Rattle.lb_check.proofs.OccurrenceParts.{as_many_clocks, right_typed, never_as_many, one_less}
 use Rattle.lb_check.proofs.OccurrenceSites.{own_site, numbered_append, body_occurrences}
 use Rattle.lb_check.proofs.OperandTypes.{bound, one, two, from_true, truly, first_of_all}
 
@@ -67,13 +67,6 @@ first_call :
 first_call n s os ss h =
     let next : n + 1 ≡ suc n = omega arith in
     ap (λ cs. (n, s) ∷ cs) (h ∙ ap (λ m. numbered_sites m ss) next)
-
-never_as_many : (ts : List DataType) → 0 ≡ suc (length ts) → ⊥
-never_as_many ts e = omega (arith, e)
-
-one_less : (ks : List Clock) (ts : List DataType) → suc (length ks) ≡ suc (length ts) →
-    length ks ≡ length ts
-one_less ks ts e = omega (arith, e)
 
 module _ (P : Program) (here : Instance) where
   two_calls :

@@ -182,7 +182,7 @@ module _ (P : Program) (r : Reached) (here : ResolvedNode) (sees : SeesClocks P 
   asserted AnyClock e st n = st.1 _ n
   asserted (OneClock c) e st n =
       st.2 (clock_or (clock_of P node e)) n ∙ ap (λ o. is_clock (clock_or o) (clock_in here c)) st.1
-      ∙ clock_itself here sees.own (clock_in here c)
+      ∙ clock_itself (clock_in here c)
 
   -- ## Left variables
 

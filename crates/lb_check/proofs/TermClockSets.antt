@@ -52,11 +52,12 @@ use Rattle.lb_check.specs.declared.own_clock.Clock.TheVariants.{Base, On}
 use Rattle.lb_check.specs.declared.clock_set.Operand.{Operand}
 use Rattle.lb_check.specs.declared.clock_set.ClockSet.{ClockSet}
 use Rattle.lb_check.specs.declared.clock_set.ClockSet.TheVariants.{NoClock, AnyClock, OneClock}
-use Rattle.lb_check.proofs.ClockTests.{clock_itself, clock_turned, on_one, on_two, same_is}
+use Rattle.lb_check.proofs.ClockTests.{clock_turned, on_one, on_two, same_is}
 use Rattle.lb_check.proofs.ClockTests.{name_among, declared_is, declared_within, has_declared}
 use Rattle.lb_check.proofs.ClockedNodes.{as_many_names, same_taken, zip_split}
 use Rattle.lb_check.proofs.FittedTypes.{unfound}
 use Rattle.lb_check.proofs.SiteCallees.{callee_found}
+use Rattle.lb_check.proofs.OwnClocks.{clock_itself}
 
 both_are : (a b c d : Bool) → a ≡ c → b ≡ d → (a && b) ≡ (c && d)
 both_are a b c d e f = ap (λ x. x && b) e ∙ ap (λ x. c && x) f

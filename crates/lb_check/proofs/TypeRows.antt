@@ -1,5 +1,5 @@
 -- A row of terms in a tree is the list in the vector, and so are its types.
-use Rattle.std.proofs.Common.{◌≡◌, ◌⊎◌, inl, inr, List, ◌∷◌, map, Option, Some, None, Vec, Global}
+use Rattle.std.proofs.Common.{◌≡◌, inl, inr, List, ◌∷◌, map, Option, Some, None, Vec, Global}
 use Rattle.std.proofs.Common.{refl, ap, ◌∙◌}
 use Rattle.std.specs.Prelude.{option_map}
 use mathlib.Core.Former.{Count}
@@ -14,6 +14,7 @@ use Rattle.lb_static.specs.declared.resolved.Term.{IterateNode', IterateSymbol',
 use Rattle.lb_static.specs.declared.resolved.Term.{end_of-Term, more_of-Term, items-the_row-Term}
 use Rattle.lb_static.specs.declared.resolved.Term.{items_hidden-the_row-Term-0}
 use Rattle.lb_static.specs.DataTypes.{DataType}
+use Rattle.lb_static.specs.TermForms.{IsRow}
 use Rattle.lb_check.specs.Types.{only}
 use Rattle.lb_check.specs.TermTypes.{Context, type_of, types_in, types_of, results, row_results}
 
@@ -35,7 +36,8 @@ types_items ctx n (more_of-Term e rest) =
         last None = refl
         last (Some ts) = refl
 
-abbrev row_in : Term → (n : Count) × Row_of-Term n
+-- the row of terms of a term
+abbrev pub row_in : Term → (n : Count) × Row_of-Term n
 row_in (Array' _ row) = (_, row)
 row_in (AtMostOne' _ row) = (_, row)
 row_in (Nor' _ row) = (_, row)
@@ -146,14 +148,6 @@ results_symbol ctx it op n es =
     let row = row_in (IterateSymbol it op n es) in
     ap (λ o. o >>= row_results ctx (IterateSymbol it op n es))
     (types_items ctx row.0 row.1 ∙ ap (types_of ctx) (items_hidden-the_row-Term-0 es))
-
--- a term has these operands in a row
-abbrev pub IsRow : Term → Vec Term Global → Type 0
-IsRow t es =
-    (t ≡ Array es) ⊎ ((t ≡ AtMostOne es) ⊎ ((t ≡ Nor es) ⊎ (((c : CallId) × (t ≡ Call c es))
-    ⊎ (((it : ArrayIterator) × (c : CallId) × (t ≡ IterateNode it c es))
-    ⊎ ((it : ArrayIterator) × (op : BinaryOperator) × (n : StaticId)
-    × (t ≡ IterateSymbol it op n es))))))
 
 pub type_of_row : (ctx : Context) (t : Term) (es : Vec Term Global) → IsRow t es
     → type_of ctx t ≡ (types_of ctx es.items >>= row_results ctx t >>= only)

@@ -6,20 +6,20 @@ use Rattle.std.proofs.Common.{sym, ◌∙◌}
 use Rattle.std.proofs.lemmas.List.{drop_all, drop_more}
 use Rattle.lb_syntax.specs.declared.tree.ArrayIterator.{ArrayIterator}
 use Rattle.lb_syntax.specs.declared.tree.BinaryOperator.{BinaryOperator}
-use Rattle.lb_syntax.specs.declared.tree.UnaryOperator.{UnaryOperator}
 use Rattle.lb_static.specs.declared.resolved.CallId.{CallId}
 use Rattle.lb_static.specs.declared.resolved.StaticId.{StaticId}
 use Rattle.lb_static.specs.declared.resolved.Term.{Term, Literal, Truth, Variable, Value, Group}
-use Rattle.lb_static.specs.declared.resolved.Term.{Unary, Binary, If, Arrow, Fby, Pre, Current}
-use Rattle.lb_static.specs.declared.resolved.Term.{When, Replicate, Index, Slice, Join, Array}
+use Rattle.lb_static.specs.declared.resolved.Term.{If}
+use Rattle.lb_static.specs.declared.resolved.Term.{Array}
 use Rattle.lb_static.specs.declared.resolved.Term.{AtMostOne, Nor, Call, IterateNode, IterateSymbol}
 use Rattle.lb_static.specs.declared.resolved.Term.{Row_of-Term, end_of-Term, more_of-Term}
 use Rattle.lb_static.specs.declared.resolved.Term.{items-the_row-Term, items_hidden-the_row-Term-0}
 use Rattle.lb_static.specs.declared.resolved.VariableId.{VariableId}
+use Rattle.lb_static.specs.TermForms.{IsSingle, IsPair, IsRow}
 use Rattle.lb_check.specs.PlacedTypes.{FoundNode, FoundTypes, with_term, with_terms, placed_types}
 use Rattle.lb_check.specs.PlacedTypes.{placed_row_types, placed_all_types}
 use Rattle.lb_check.specs.TermTypes.{Context, results}
-use Rattle.lb_check.proofs.ClockRows.{row_in}
+use Rattle.lb_check.proofs.TypeRows.{row_in}
 
 -- ## What is kept grows
 
@@ -75,34 +75,6 @@ IsLeaf t =
     ⊎ (((b : Bool) × (t ≡ Truth b))
     ⊎ (((i : StaticId) × (t ≡ Value i)) ⊎ ((x : VariableId) × (t ≡ Variable x))))
 
--- a term with this one operand
-abbrev pub HasOperand : Term → Box Term Global → Type 0
-HasOperand t e =
-    ((op : UnaryOperator) × (t ≡ Unary op e))
-    ⊎ ((t ≡ Pre e)
-    ⊎ ((t ≡ Current e)
-    ⊎ (((x : VariableId) × (sign : Bool) × (t ≡ When e x sign))
-    ⊎ (((n : StaticId) × (t ≡ Replicate e n))
-    ⊎ (((i : StaticId) × (t ≡ Index e i))
-    ⊎ ((i : StaticId) × (j : StaticId) × (t ≡ Slice e i j)))))))
-
--- a term with these two operands
-abbrev pub HasOperands : Term → Box Term Global → Box Term Global → Type 0
-HasOperands t a b =
-    ((op : BinaryOperator) × (t ≡ Binary op a b))
-    ⊎ ((t ≡ Arrow a b) ⊎ ((t ≡ Fby a b) ⊎ (t ≡ Join a b)))
-
--- a term with these operands in a row
-abbrev pub HasRow : Term → Vec Term Global → Type 0
-HasRow t es =
-    (t ≡ Array es)
-    ⊎ ((t ≡ AtMostOne es)
-    ⊎ ((t ≡ Nor es)
-    ⊎ (((c : CallId) × (t ≡ Call c es))
-    ⊎ (((it : ArrayIterator) × (c : CallId) × (t ≡ IterateNode it c es))
-    ⊎ ((it : ArrayIterator) × (op : BinaryOperator) × (n : StaticId)
-    × (t ≡ IterateSymbol it op n es))))))
-
 module _ (ctx : Context) where
   pub leaf_placed : (t : Term) → IsLeaf t → placed_types ctx t ≡ results ctx t ∷ []
   unfolding placed_types
@@ -116,7 +88,7 @@ module _ (ctx : Context) where
   unfolding placed_types
   group_placed t e is = rw is refl
 
-  pub operand_placed : (t : Term) (e : Box Term Global) → HasOperand t e →
+  pub operand_placed : (t : Term) (e : Box Term Global) → IsSingle t e →
       placed_types ctx t ≡ results ctx t ∷ placed_types ctx e.value
   unfolding placed_types
   operand_placed t e (inl (op, is)) = rw is refl
@@ -127,7 +99,7 @@ module _ (ctx : Context) where
   operand_placed t e (inr (inr (inr (inr (inr (inl (i, is))))))) = rw is refl
   operand_placed t e (inr (inr (inr (inr (inr (inr (i, j, is))))))) = rw is refl
 
-  pub operands_placed : (t : Term) (a b : Box Term Global) → HasOperands t a b →
+  pub operands_placed : (t : Term) (a b : Box Term Global) → IsPair t a b →
       placed_types ctx t
       ≡ results ctx t ∷ (placed_types ctx a.value ++ placed_types ctx b.value)
   unfolding placed_types
@@ -198,7 +170,7 @@ module _ (ctx : Context) where
   unfolding placed_types
   symbol_placed it op n es = hidden (IterateSymbol it op n es) es (items_hidden-the_row-Term-0 es)
 
-  pub row_placed : (t : Term) (es : Vec Term Global) → HasRow t es →
+  pub row_placed : (t : Term) (es : Vec Term Global) → IsRow t es →
       placed_types ctx t ≡ results ctx t ∷ placed_all_types ctx es.items
   row_placed t es (inl e) = of_form t (Array es) es e (array_placed es)
   row_placed t es (inr (inl e)) = of_form t (AtMostOne es) es e (at_most_one_placed es)

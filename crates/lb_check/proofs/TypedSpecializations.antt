@@ -4,6 +4,7 @@ use Rattle.std.proofs.Common.{Option, Some, None, refl, ap, sym, ◌∙◌, subs
 use Rattle.std.specs.Prelude.{◌&&◌, option_map, slice_get, slice_index_or}
 use Rattle.std.specs.List.{list_all}
 use Rattle.std.proofs.lemmas.Option.{slice_get-map, slice_get_within, get_or_from_slice_get}
+use Rattle.std.proofs.lemmas.List.{length-map}
 use Rattle.std.proofs.Math.Bool.{and-true}
 use Rattle.lb_syntax.specs.Lists.{all_some, holds, listed, zip2}
 use Rattle.lb_syntax.specs.Tree.{Name, Node}
@@ -34,7 +35,7 @@ use Rattle.lb_check.specs.TypeRules.{type_of_name, is_statement_typed, is_clock_
 use Rattle.lb_check.specs.TermTypes as mirror
 use Rattle.lb_check.specs.TermTypes.{Context, context_of, results, are_equal}
 use Rattle.lb_check.proofs.FittedCalls.{node_at, specialized_instance, values_at, call_is}
-use Rattle.lb_check.proofs.FittedEnvs.{length_map, variable_is, left_is, value_is, static_is}
+use Rattle.lb_check.proofs.FittedEnvs.{variable_is, left_is, value_is, static_is}
 use Rattle.lb_check.proofs.FittedEnvs.{repeats_is, call_at}
 use Rattle.lb_check.proofs.MirroredTypes.{Fits, term_results}
 use Rattle.lb_check.proofs.DistinctNames.{distinct_first}
@@ -178,7 +179,7 @@ module _ (P : Program) (r : Reached) (t : Table) (j : IsJudged P r t) (i : ℕ) 
       let node = node_of n in
       let clocks = ap (list_all (is_clock_typed P here)) (sym resolved.declared)
       ∙ clocks_are names n.variables.items
-      (resolved.as_many ∙ sym (length_map (λ d. d.name) (variables node)))
+      (resolved.as_many ∙ sym (length-map (variables node) (λ d. d.name)))
       resolved.declared_within in
       let statements = ap (list_all (is_statement_typed P here)) (sym resolved.body)
       ∙ resolved_statements_are n.body.items resolved.body_within resolved.unhidden in

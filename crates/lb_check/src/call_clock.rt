@@ -86,7 +86,7 @@ fn is_given(inputs: usize, operands: &[Operand], clock: Option<Sampling>) -> boo
 {
     match clock {
         Some(clock) => {
-            let place = clock.variable.0 as usize;
+            let place = clock.variable.0;
             place >= inputs || given_at(operands, place).is_some()
         }
         None => true,
@@ -140,7 +140,7 @@ pub fn expected(base: Option<Clock>, given: &Given, clock: Option<Sampling>) -> 
 {
     match clock {
         Some(clock) => {
-            let variable = given.at(clock.variable.0 as usize)?;
+            let variable = given.at(clock.variable.0)?;
             Some(Clock::On(variable, clock.sign))
         }
         None => base,

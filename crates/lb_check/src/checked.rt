@@ -72,7 +72,7 @@ impl<'s> Checked<'s> {
             ≡ listed (λ f. f.terms.items) (slice_get self.now.clocks.items node.0) }
         ensures lawful { IsChecked self.now }
     {
-        match self.checking.clocks.get(node.0 as usize) {
+        match self.checking.clocks.get(node.0) {
             Some(found) => &found.terms,
             None => &[],
         }
@@ -84,7 +84,7 @@ impl<'s> Checked<'s> {
             ≡ listed (λ f. f.calls.items) (slice_get self.now.clocks.items node.0) }
         ensures lawful { IsChecked self.now }
     {
-        match self.checking.clocks.get(node.0 as usize) {
+        match self.checking.clocks.get(node.0) {
             Some(found) => &found.calls,
             None => &[],
         }

@@ -23,7 +23,7 @@ fn name_of(alloc: Global, reached: &Reached, id: NodeId) -> Result<String, Alloc
     ensures { IfOk result (λ name.
         string_bytes name ≡ listed (λ n. n.name) (tree_at reached.now id)) }
 {
-    match reached.nodes.get(id.0 as usize) {
+    match reached.nodes.get(id.0) {
         Some(node) => String::from_str(alloc, node.tree.name.as_str()),
         None => Ok(String::new(alloc)),
     }

@@ -37,7 +37,7 @@ fn depth_of(depths: &[Option<usize>], variables: &[Variable], first: usize) -> O
         let Some(clock) = variables[variable].clock else {
             return Some(steps);
         };
-        variable = clock.variable.0 as usize;
+        variable = clock.variable.0;
     }
     None
 }
@@ -62,7 +62,7 @@ fn note_depths(depths: &mut [Option<usize>], variables: &[Variable], first: usiz
         let Some(clock) = variables[variable].clock else {
             return;
         };
-        variable = clock.variable.0 as usize;
+        variable = clock.variable.0;
     }
 }
 
@@ -93,7 +93,7 @@ fn wait_below(variables: &[Variable], count: usize) -> bool
 {
     for variable in variables {
         if let Some(clock) = variable.clock {
-            if clock.variable.0 as usize >= count {
+            if clock.variable.0 >= count {
                 return false;
             }
         }

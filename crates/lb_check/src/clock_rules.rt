@@ -127,7 +127,7 @@ fn is_node_clocked(alloc: Global, reached: &Reached, id: NodeId) -> Result<bool,
     ensures { (P : Program) → keeps_names P ≡ true → IsReached P reached.now
         → IfOk result (λ kept. kept ≡ is_clocked_at reached.now id) }
 {
-    let Some(node) = reached.nodes.get(id.0 as usize) else {
+    let Some(node) = reached.nodes.get(id.0) else {
         return Ok(false);
     };
     if !keeps_declared_clocks(alloc, node)? {

@@ -24,7 +24,7 @@ fn count(counts: &mut [u8], lefts: &[VariableId])
         slice_index counts.old i + mirror.count_left i lefts.now) }
 {
     for x in lefts {
-        let place = x.0 as usize;
+        let place = x.0;
         if place < counts.len() {
             let seen = counts[place];
             if seen < 2 {
@@ -135,7 +135,7 @@ fn calls_function(reached: &Reached, call: &CallSite) -> bool
     let Some(id) = reached.called(call) else {
         return false;
     };
-    match reached.nodes.get(id.0 as usize) {
+    match reached.nodes.get(id.0) {
         Some(node) => node.tree.is_function,
         None => false,
     }
@@ -166,7 +166,7 @@ fn is_node_defined(alloc: Global, reached: &Reached, id: NodeId) -> Result<bool,
     ensures { (P : Program) → keeps_names P ≡ true → IsReached P reached.now
         → IfOk result (λ kept. kept ≡ mirror.is_defined_at P reached.now id) }
 {
-    let Some(node) = reached.nodes.get(id.0 as usize) else {
+    let Some(node) = reached.nodes.get(id.0) else {
         return Ok(false);
     };
     if !keeps_function_rules(reached, node) {

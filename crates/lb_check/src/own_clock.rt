@@ -41,7 +41,7 @@ pub fn declared_clock(node: &ResolvedNode, variable: VariableId) -> Clock
     ensures within { HasClocks node.now → is_variable (counts_of node.now) variable ≡ true →
         is_clock_within node.now result ≡ true }
 {
-    match node.variables.get(variable.0 as usize) {
+    match node.variables.get(variable.0) {
         Some(declared) => clock_with(declared.clock),
         None => Clock::Base,
     }

@@ -137,7 +137,7 @@ fn specialization_types(
     ensures { IfOk result (λ found. placed_mirror.found_in found
         ≡ placed_mirror.found_of reached.now table.now specialization.now) }
 {
-    match reached.nodes.get(specialization.node.0 as usize) {
+    match reached.nodes.get(specialization.node.0) {
         Some(node) => node_types(
             alloc,
             &TypeEnv {

@@ -26,14 +26,14 @@ pub struct TypeEnv<'a, 's> {
 fn constant_at(alloc: Global, statics: &[StaticInt], i: StaticId) -> Option<DataType>
     ensures { option_map view_type result ≡ mirror.constant_at statics.now i }
 {
-    constant_type(alloc, statics.get(i.0 as usize)?.get())
+    constant_type(alloc, statics.get(i.0)?.get())
 }
 
 /// The size or index that stands there.
 fn count_at(statics: &[StaticInt], i: StaticId) -> Option<u64>
     ensures { result ≡ mirror.count_at statics.now i }
 {
-    statics.get(i.0 as usize)?.natural()
+    statics.get(i.0)?.natural()
 }
 
 /// How often what stands at a call site is called, if it is iterated.
@@ -75,7 +75,7 @@ fn callee_signature(
     ensures { IfOk result (λ o.
         option_map signature_in o ≡ mirror.callee_signature reached.now callee.now) }
 {
-    match reached.nodes.get(callee.node.0 as usize) {
+    match reached.nodes.get(callee.node.0) {
         Some(node) => signature_of(alloc, &callee.statics, node),
         None => Ok(None),
     }
@@ -88,7 +88,7 @@ impl TypeEnv<'_, '_> {
         ensures { IfOk result (λ o.
             option_map view_type o ≡ (context_in self.now).variable x) }
     {
-        match self.node.variables.get(x.0 as usize) {
+        match self.node.variables.get(x.0) {
             Some(variable) => DataType::of(alloc, variable, &self.specialization.statics),
             None => Ok(None),
         }
@@ -115,7 +115,7 @@ impl TypeEnv<'_, '_> {
     pub fn repeats(&self, c: CallId) -> Option<u64>
         ensures { result ≡ (context_in self.now).repeats c }
     {
-        let site = *self.node.calls.get(c.0 as usize)?;
+        let site = *self.node.calls.get(c.0)?;
         repeats_of(&self.specialization.statics, site)
     }
 

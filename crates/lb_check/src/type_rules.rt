@@ -180,7 +180,7 @@ fn is_specialization_typed(
     ensures { IfOk result (λ kept.
         kept ≡ mirror.is_specialization_typed reached.now table.now specialization.now) }
 {
-    let Some(node) = reached.nodes.get(specialization.node.0 as usize) else {
+    let Some(node) = reached.nodes.get(specialization.node.0) else {
         return Ok(false);
     };
     let env = TypeEnv {

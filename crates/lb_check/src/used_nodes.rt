@@ -12,7 +12,7 @@ fn flag(seen: &mut [bool], id: NodeId) -> bool
     ensures flagged { (k : ℕ) → get_or seen.new k false ≡ true
         → (k ≡ id.0) ⊎ (get_or seen.old k false ≡ true) }
 {
-    let place = id.0 as usize;
+    let place = id.0;
     if place >= seen.len() {
         return true;
     }

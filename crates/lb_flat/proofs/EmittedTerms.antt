@@ -575,7 +575,7 @@ module _ (Y : Layout) (P : Program) (H : History) (here : Instance) (texts : Tex
         ap (λ p. placed p (gives s [])) (past_none at)
     each_is [] at s (more_of-Term e rest) ts w u typed long h =
         let i = first_of_all P here (expr_of texts e) (row_of texts rest) ts typed in
-        absurd (never_as_many P here i.rest (long ∙ ap length i.all))
+        absurd (never_as_many i.rest (long ∙ ap length i.all))
     each_is (k ∷ ks) at s (more_of-Term e rest) ts w u typed long h =
         let x = expr_of texts e in
         let es = row_of texts rest in
@@ -591,4 +591,4 @@ module _ (Y : Layout) (P : Program) (H : History) (here : Instance) (texts : Tex
         (and_first _ (are_unhidden texts rest) u) (fore at.term os later h))
         (each_is ks (past at os (call_count x)) y.state rest i.rest
         (and_second (is_within n e) _ w) (and_second (is_unhidden texts e) _ u) i.others
-        (one_less P here ks i.rest (long ∙ ap length i.all)) (aft at.term os later h)) refl
+        (one_less ks i.rest (long ∙ ap length i.all)) (aft at.term os later h)) refl
