@@ -1,4 +1,5 @@
 -- A text that comes in chunks.
+-- This file says what the code finds in a text; no definition of the language stands on it.
 use Rattle.std.specs.Prelude.{ℕ, ◌-◌, Bool as Truth, List, Vec, length, get_or, flat_map}
 use Rattle.std.specs.Global.{Global}
 use Rattle.lb_trace.specs.Plain.{ends_line}

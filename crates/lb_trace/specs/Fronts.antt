@@ -1,4 +1,5 @@
 -- The digits at the front of a text.
+-- This file says what the code finds in a text; no definition of the language stands on it.
 use Rattle.std.specs.Prelude.{ℕ, ◌≡◌, ◌<◌, ◌≤◌, ◌+◌, ◌-◌, ◌*◌, Bool, true, false, not, List, ◌++◌}
 use Rattle.std.specs.Prelude.{map, take, drop, replicate}
 use Rattle.std.specs.Char.{is_ascii_digit}

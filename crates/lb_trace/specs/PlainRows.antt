@@ -1,5 +1,6 @@
 -- The row that the cells of a record without quotes spell, in the order of the text, and where the
 -- columns of the signature stand in it.
+-- This file says what the code finds in a text; no definition of the language stands on it.
 use Rattle.std.specs.Prelude.{ℕ, suc, ◌≡◌, Bool, List, [], ◌∷◌, ◌++◌}
 use Rattle.std.specs.Prelude.{Option, Some, None, ℤ, ◌<◌, length, get_or}
 use Rattle.std.specs.List.{All}

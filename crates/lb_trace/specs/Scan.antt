@@ -1,4 +1,5 @@
 -- The first cell of a text, and what comes after it.
+-- This file mirrors code (src/scan.rt); no definition of the language stands on it.
 use Rattle.std.specs.Prelude.{ℕ, Bool, true, ◌||◌, if◌then◌else◌, List, [], ◌∷◌}
 use Rattle.lb_trace.specs.Plain.{ends_line, is_comma, plain_records}
 use Rattle.lb_trace.specs.Lines.{after_line, record_of}

@@ -1,4 +1,5 @@
 -- The table of a header.
+-- This file says what the code finds in a text; no definition of the language stands on it.
 use Rattle.std.specs.Prelude.{Bool as Truth, false, ◌≡◌, IsTrue, List, [], ◌∷◌, length, map}
 use Rattle.std.specs.List.{AllZip}
 use Rattle.csv.specs.Records.{fields_of}

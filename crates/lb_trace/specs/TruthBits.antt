@@ -1,4 +1,5 @@
 -- Cells that are Booleans of one digit, as the bits of a number.
+-- This file says what the code finds in a text; no definition of the language stands on it.
 use Rattle.std.specs.Prelude.{ℕ, Bool, true, ◌≡◌, ◌+◌, ◌*◌, ◌^◌, ◌<◌, ◌≤◌, ◌==◌, ◌||◌, ◌&&◌}
 use Rattle.std.specs.Prelude.{List, map, length, get_or, Some}
 use Rattle.std.specs.Int.{bit_at}

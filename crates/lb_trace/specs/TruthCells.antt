@@ -1,4 +1,5 @@
 -- Four cells that are Booleans, read at once.
+-- This file says what the code finds in a text; no definition of the language stands on it.
 use Rattle.std.specs.Prelude.{ℕ, true, ◌≡◌, ◌+◌, ◌==◌, ◌||◌, List, ◌++◌, ℤ, get_or}
 use Rattle.lb_trace.specs.declared.header.Column.{Column}
 use Rattle.lb_trace.specs.Lines.{after_line, record_of}
