@@ -1,7 +1,7 @@
 //! Definitions, and functions without memory, in all forms of expressions (E11).
 
 ghost use Rattle.std.specs.Prelude.{◌≡◌, ◌+◌, ◌↔◌, true, length, slice_index, find, is_some, not};
-ghost use Rattle.std.specs.Prelude.{IsTrue, IfOk, IfSome};
+ghost use Rattle.std.specs.Prelude.{IsTrue, IfOk, IfSome, min};
 ghost use Rattle.std.specs.List.{list_all};
 ghost use Rattle.lb_check.specs.BrokenRules.{IsBroken};
 ghost use Rattle.lb_check.specs.DefinitionRules.{is_defined};
@@ -17,6 +17,13 @@ use lb_static::{
 };
 use std::alloc::{AllocError, Global};
 
+/// One place more than so many, of which 2 stands for any more.
+fn one_more(seen: u8) -> u8
+    ensures { result ≡ min 2 (seen + 1) }
+{
+    if seen < 2 { seen + 1 } else { 2 }
+}
+
 /// Counts the places of some left variables: 0, 1, and 2 for any more.
 #[tactic(auto, using(crate::proofs::Defining::count_next))]
 fn count(counts: &mut [u8], lefts: &[VariableId])
@@ -26,10 +33,7 @@ fn count(counts: &mut [u8], lefts: &[VariableId])
     for x in lefts {
         let place = x.0;
         if place < counts.len() {
-            let seen = counts[place];
-            if seen < 2 {
-                counts[place] = seen + 1;
-            }
+            counts[place] = one_more(counts[place]);
         }
     }
 }

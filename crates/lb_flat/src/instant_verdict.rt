@@ -1,8 +1,9 @@
 //! What the row of an instant decides.
 
-ghost use Rattle.std.specs.Prelude.{◌≡◌, ◌<◌, ◌≤◌, Some, length, map, All};
+ghost use Rattle.std.specs.Prelude.{◌≡◌, ◌<◌, ◌≤◌, Some, length, map, All, if◌then◌else◌};
 ghost use Rattle.std.specs.List.{range_with_len};
 ghost use Rattle.lb_check.specs.Verdicts.{is_bad, is_nil, is_false};
+ghost use Rattle.lb_check.specs.declared.verdict.Verdict.TheVariants.{Assertion, False, Passed};
 ghost use Rattle.lb_flat.specs.Judging.{some_in, row_judged};
 ghost use Rattle.lb_flat.specs.Values.{cell_of};
 ghost use Rattle.lb_flat.specs.Programs.{numbers_of, program_of, IsInRange};
@@ -94,6 +95,20 @@ fn some_false(row: &[Cell], elements: &[ElementId]) -> bool
     false
 }
 
+// What instant `t` decides where no fault is told and nothing is nil that is wanted as a truth.
+fn truth_verdict(is_assertion_false: bool, is_property_false: bool, t: u32) -> Verdict
+    ensures { result ≡ if is_assertion_false then Assertion t
+        else if is_property_false then False t else Passed }
+{
+    if is_assertion_false {
+        return Verdict::Assertion(t);
+    }
+    if is_property_false {
+        return Verdict::False(t);
+    }
+    Verdict::Passed
+}
+
 /// What the row of instant `t` decides; `Passed` where it decides nothing.
 ///
 /// A fault comes before nil where a truth is wanted, that before a failed assertion, and that
@@ -115,11 +130,7 @@ pub(crate) fn instant_verdict(program: &FlatProgram, row: &[Cell], t: u32) -> Ve
     {
         return Verdict::Undefined(t);
     }
-    if some_false(row, program.asserted.as_slice()) {
-        return Verdict::Assertion(t);
-    }
-    if is_false(row[program.property.0 as usize]) {
-        return Verdict::False(t);
-    }
-    Verdict::Passed
+    let is_assertion_false = some_false(row, program.asserted.as_slice());
+    let is_property_false = is_false(row[program.property.0 as usize]);
+    truth_verdict(is_assertion_false, is_property_false, t)
 }
