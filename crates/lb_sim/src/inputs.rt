@@ -16,8 +16,9 @@ use crate::columns::Columns;
 use crate::integer_loads::load_numbers;
 use crate::lane_bits::{copy_planes, copy_words, groups_of, zeros};
 use crate::loads::{Instant, load_truths, load_truths_ahead};
+use crate::program::LaneProgram;
 use crate::read_inputs::ReadInputs;
-use lb_flat::{FlatProgram, TraceSet};
+use lb_flat::TraceSet;
 use lb_lanes::{LaneWord, Plane};
 use lb_syntax::Kind;
 use std::alloc::{AllocError, Global};
@@ -60,13 +61,14 @@ fn reach_of(width: usize) -> u32
 impl Inputs {
     ghost use Rattle.lb_sim.specs.Inputs.{inputs_row, IsAhead};
 
-    /// Rows of 0 and false, of the inputs of a program.
-    pub fn new(alloc: Global, program: &FlatProgram) -> Result<Inputs, AllocError>
-        ensures kinds { IfOk result (λ x. x.columns.kinds.items ≡ program.now.inputs.items) }
+    /// Rows of 0 and false, of the inputs of the program that was compiled.
+    pub fn new(alloc: Global, program: &LaneProgram<'_>) -> Result<Inputs, AllocError>
+        ensures kinds { IfOk result (λ x.
+            x.columns.kinds.items ≡ program.now.program.now.inputs.items) }
         ensures zero { IfOk result (λ x. (i : ℕ) → i < 64
-            → inputs_row x i ≡ map zero_of program.now.inputs.items) }
+            → inputs_row x i ≡ map zero_of program.now.program.now.inputs.items) }
     {
-        Inputs::of_kinds(alloc, program.inputs.as_slice())
+        Inputs::of_kinds(alloc, program.program.inputs.as_slice())
     }
 
     // Rows of 0 and false, of these kinds.

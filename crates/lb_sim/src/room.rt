@@ -73,7 +73,7 @@ impl BatchRoom {
         let planes = vec![in alloc; 0u64; program.planes as usize]?;
         let words = zeros(alloc, program.words as usize)?;
         let verdicts = vec![in alloc; Verdict::Passed; 64]?;
-        let inputs = Inputs::new(alloc, program.program)?;
+        let inputs = Inputs::new(alloc, program)?;
         Ok(BatchRoom {
             planes,
             words,

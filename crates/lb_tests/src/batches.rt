@@ -258,7 +258,7 @@ fn push_run(
     members: &[u32],
     said: &mut String,
 ) -> Result<(), AllocError> {
-    let mut inputs = Inputs::new(alloc, program.program)?;
+    let mut inputs = Inputs::new(alloc, program)?;
     if !are_members(set, members) {
         return said.push_str("no members");
     }
