@@ -45,7 +45,10 @@ pub trait Sink {
         ensures kept { Keeps (taken self.old) (taken self.new) }
 
         // Each failure is counted.
-        ensures err { OnErr result (failures self.new ≡ failures self.old + 1) };
+        ensures err { OnErr result (failures self.new ≡ failures self.old + 1) }
+    {
+        Ok(())
+    }
 
     /// How often it has failed.
     fn failures(&self) -> u64
