@@ -30,6 +30,7 @@ pub mod BatchVerdicts
 pub mod LanePrograms
 pub mod LaneParts
 pub mod Waiting
+pub mod SoundMemories
 pub mod OperationArms
 pub mod KnownClocks
 pub mod Placing

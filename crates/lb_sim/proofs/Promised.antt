@@ -47,7 +47,7 @@ module _ (P : Program) (f : FlatProgram) (flat : IsFlatOf P f) (ready : Ready f.
       subst (λ l. IsFitting l flat.fitting.0 (kind_among f.kinds) f.equations) flat.signature
       flat.fitting.1
 
-  solution : IsFlatSolution (input_kinds P) (kind_among f.kinds) f X own
+  pub solution : IsFlatSolution (input_kinds P) (kind_among f.kinds) f X own
   solution =
       run_solves (input_kinds P) (kind_among f.kinds) f ready flat.fitting.0 own_fitting X trace
 
@@ -66,7 +66,7 @@ module _ (P : Program) (f : FlatProgram) (flat : IsFlatOf P f) (ready : Ready f.
       HoldsMemories P (layout P) (kind_among f.kinds) f memory flag H here k n e h
 
   -- those of an operator
-  memories_held : (here : Instance) (k : Clock) (n : ℕ) (e : Expr) → Here here k n e
+  pub memories_held : (here : Instance) (k : Clock) (n : ℕ) (e : Expr) → Here here k n e
   memories_held here k n (Pre a) h =
       operand_held f kept s X state P (layout P) (kind_among f.kinds) solution here k (at k n a)
       (Previous Nil) (previous_held f kept s X state (flat_clock (layout P) here.path k)) h

@@ -16,6 +16,7 @@ pub mod LaneMoves
 pub mod BatchRuns
 pub mod BatchRooms
 pub mod BatchLaws
+pub mod SoundMemories
 pub mod Allotted
 pub mod Climbs
 pub mod Emitted

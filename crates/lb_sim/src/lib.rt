@@ -41,7 +41,9 @@ pub use batch::{Done, has_kinds, run_batch, run_batch_in};
 pub use batch_run::BatchRun;
 pub use compiler::compile;
 pub use inputs::Inputs;
-pub use laws::{lanes_stand_for_traces, memories_wait_for_their_clock};
+pub use laws::{
+    active_memories_are_no_faults, lanes_stand_for_traces, memories_wait_for_their_clock,
+};
 pub use place::Watched;
 pub use program::{LaneCode, LaneProgram};
 pub use room::BatchRoom;
