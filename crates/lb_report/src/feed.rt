@@ -134,8 +134,9 @@ fn read_piece<F: Feed>(feed: &mut F, bytes: &mut Vec<u8>, filled: usize) -> Resu
     ensures end { IfOk result (λ n. n ≡ 0 → IsAtEnd (F.coming feed.new)) }
     ensures ok { OnOk result (F.failures feed.new ≡ F.failures feed.old) }
 
-    // The feed failed.
+    // The feed failed, or it did not and memory ran out.
     ensures read { IsErrOf result LoadError.Read → F.failures feed.old < F.failures feed.new }
+    ensures memory { IsErrOf result LoadError.Memory → F.failures feed.new ≡ F.failures feed.old }
 {
     if filled == bytes.len() {
         bytes.resize(filled + PIECE, 0)?;
@@ -158,6 +159,9 @@ pub fn load<F: Feed>(alloc: Global, feed: &mut F) -> Result<Vec<u8>, LoadError>
     // When a read is refused: the feed failed, or it had too many bytes.
     ensures read { IsErrOf result LoadError.Read → IfSome (F.coming feed.old) (λ coming.
         (F.failures feed.old < F.failures feed.new) ⊎ (INPUT_LIMIT < length coming)) }
+
+    // No refusal for want of memory hides a read that failed.
+    ensures memory { IsErrOf result LoadError.Memory → F.failures feed.new ≡ F.failures feed.old }
 {
     let mut bytes = Vec::new(alloc);
     let mut filled = 0;
