@@ -6,7 +6,6 @@ ghost use Rattle.lb_sim.specs.BatchRuns.{flat_of};
 ghost use Rattle.lb_sim.specs.InputRows.{HaveInstant};
 
 use crate::pool::push_case;
-use crate::tables::{Asks, Table, check};
 use crate::{forms, random, runs};
 use lb_check::{Verdict, check as check_rules};
 use lb_flat::{Ordered, TraceSet, eval_trace, expand, order};
@@ -17,7 +16,6 @@ use lb_static::{Signature, elaborate};
 use lb_syntax::{Source, parse};
 use lb_trace::read_traces;
 use std::alloc::{AllocError, Global};
-use std::process::Abort;
 
 // ## What is asked
 
@@ -301,7 +299,7 @@ fn push_on_set(
 }
 
 // The equations of a tree, and the signature of its traces. An empty name is no observer.
-fn ordered_of(alloc: Global, tree: &Source, observer: &str) -> Option<(Signature, Ordered)> {
+pub fn ordered_of(alloc: Global, tree: &Source, observer: &str) -> Option<(Signature, Ordered)> {
     let observer = if observer.is_empty() {
         None
     } else {
@@ -367,7 +365,7 @@ pub fn push_lanes_of(alloc: Global, asked: &str, said: &mut String) -> Result<()
 /// The lanes of one batch in each order; of traces in which a clock ticks first at other instants,
 /// and in which a memory stays nil for other whiles; of sixty-five lengths, so that the second
 /// batch has one trace; of traces of which some end early, one of these replaced, and step by step.
-const BATCHES: &str = "\
+pub const BATCHES: &str = "\
 0 1 2;0 2 1;1 0 2;1 2 0;2 0 1;2 1 0
 node cnt(x: int) returns (n: int); let n = x -> pre n + x; tel
 node main(c: bool; x, e: int) returns (ok: bool);
@@ -601,53 +599,41 @@ start:
 {4..9 @: 0 false 2 1 undefined 0 2 assertion 1 3 fault 0 4 passed 5 passed 6 fault 1
 }";
 
-#[test]
-fn batches(rt: HostRuntime) -> Result<(), AllocError> {
-    check(
-        &rt,
-        &Table {
-            asks: Asks::Batches,
-            rows: BATCHES,
-            between: "%case\n",
-            mark: "%answer\n",
-        },
-    )
-}
-
 // ## The programs of the other tables
 
-// Fails where a trace has another verdict in a lane than alone, or the report of a case has other
-// verdicts.
-fn check_case(
-    rt: &impl Abort,
-    alloc: Global,
-    row: &str,
-    said: &mut String,
-) -> Result<(), AllocError> {
+// Whether each trace of a case has the verdict of its report in its lane, and alone.
+fn is_same_in_lanes(alloc: Global, row: &str, said: &mut String) -> Result<bool, AllocError> {
     let (asked, wanted) = row.split_once("%answer\n").unwrap_or(("", ""));
     let (observer, case) = asked.split_once('\n').unwrap_or(("", asked));
     said.clear();
     push_on_case(alloc, case, observer.trim(), Question::All, said)?;
-    let is_right = match wanted.strip_prefix(said.as_str()) {
+    Ok(match wanted.strip_prefix(said.as_str()) {
         Some(rest) => rest.starts_with("total "),
         None => said.as_str() == "refused" && wanted.starts_with("E"),
-    };
-    assert!(rt; is_right, "{case}, in lanes: {said}");
-    Ok(())
+    })
 }
 
-fn check_cases(rt: &impl Abort, alloc: Global, rows: &str) -> Result<(), AllocError> {
-    let mut said = String::new(alloc);
+// The first of some cases that has other verdicts in lanes, which are said then.
+fn other_in_lanes<'a>(
+    alloc: Global,
+    rows: &'a str,
+    said: &mut String,
+) -> Result<Option<&'a str>, AllocError> {
     for row in rows.split("\n%case") {
-        check_case(rt, alloc, row, &mut said)?;
+        if !is_same_in_lanes(alloc, row, said)? {
+            return Ok(Some(row));
+        }
     }
-    Ok(())
+    Ok(None)
 }
 
 /// Each program of the whole language has the same verdicts in lanes.
 #[test]
 fn programs_in_lanes(rt: HostRuntime) -> Result<(), AllocError> {
-    check_cases(&rt, rt.alloc(), runs::REPORTS)?;
-    check_cases(&rt, rt.alloc(), forms::FORMS)?;
-    check_cases(&rt, rt.alloc(), random::PROGRAMS)
+    let mut said = String::new(rt.alloc());
+    for rows in [runs::REPORTS, forms::FORMS, random::PROGRAMS] {
+        let other = other_in_lanes(rt.alloc(), rows, &mut said)?.unwrap_or("");
+        assert!(rt; other.is_empty(), "{other}, in lanes: {said}");
+    }
+    Ok(())
 }

@@ -1,6 +1,5 @@
 //! Runs of the program: what they print, and their exit statuses.
 
-use crate::tables::{Asks, Table, check};
 use lb_command::command;
 use lb_report::{Reader, Writer};
 use std::alloc::{AllocError, Global};
@@ -11,12 +10,34 @@ use std::thread::Threads;
 use std::{env, fs};
 
 /// The words of a command line, as the program gets them.
-pub fn words_of(alloc: Global, line: &str) -> Result<Vec<String>, AllocError> {
+fn words_of(alloc: Global, line: &str) -> Result<Vec<String>, AllocError> {
     let mut words = Vec::new(alloc);
     for word in line.split(' ') {
         words.push(String::from_str(alloc, word)?)?;
     }
     Ok(words)
+}
+
+/// Runs a command line on an input, and gives its status. What it prints goes behind what stands in
+/// the output and the errors.
+pub fn run_line<R: Runtime + AllocGlobal + Threads + Sync>(
+    rt: &R,
+    line: &str,
+    input: &str,
+    output: &mut Vec<u8>,
+    errors: &mut Vec<u8>,
+) -> Result<u8, AllocError>
+where
+    R::File: FileExt + Sync,
+{
+    let words = words_of(rt.alloc(), line)?;
+    Ok(command(
+        rt,
+        words.as_slice(),
+        &mut Reader::new(input.as_bytes()),
+        &mut Writer::new(output),
+        &mut Writer::new(errors),
+    ))
 }
 
 /// What is printed as an error, the status, and whether there is output, where the first line has
@@ -30,16 +51,9 @@ where
     R::File: FileExt + Sync,
 {
     let (line, input) = asked.split_once('\n').unwrap_or((asked, ""));
-    let words = words_of(rt.alloc(), line)?;
     let mut output: Vec<u8> = Vec::new(rt.alloc());
     let mut errors: Vec<u8> = Vec::new(rt.alloc());
-    let status = command(
-        rt,
-        words.as_slice(),
-        &mut Reader::new(input.as_bytes()),
-        &mut Writer::new(&mut output),
-        &mut Writer::new(&mut errors),
-    );
+    let status = run_line(rt, line, input, &mut output, &mut errors)?;
     let printed = std::str::from_utf8(errors.as_slice()).unwrap_or("no text");
     let output = if output.is_empty() {
         ""
@@ -50,7 +64,7 @@ where
 }
 
 /// Words and inputs, and what is printed.
-const RUNS: &str = "\
+pub const RUNS: &str = "\
 lbench --batch 65 => refused: E20 usage
 status 2
 ----
@@ -76,19 +90,6 @@ node
 status 2
 ----
 lbench --help => status 0 with output";
-
-#[test]
-fn runs(rt: HostRuntime) -> Result<(), AllocError> {
-    check(
-        &rt,
-        &Table {
-            asks: Asks::Runs,
-            rows: RUNS,
-            between: "\n----\n",
-            mark: " => ",
-        },
-    )
-}
 
 #[test]
 fn failing_output(rt: HostRuntime) -> Result<(), Fail> {
@@ -134,16 +135,9 @@ where
 {
     let options = "lbench --node plant --observe small";
     let line = format!(in rt.alloc(); "{options} {source}{traces}")?;
-    let words = words_of(rt.alloc(), line.as_str())?;
     let mut output: Vec<u8> = Vec::new(rt.alloc());
     let mut errors: Vec<u8> = Vec::new(rt.alloc());
-    let status = command(
-        rt,
-        words.as_slice(),
-        &mut Reader::new(input.as_bytes()),
-        &mut Writer::new(&mut output),
-        &mut Writer::new(&mut errors),
-    );
+    let status = run_line(rt, line.as_str(), input, &mut output, &mut errors)?;
     Ok(status == 1 && errors.is_empty() && output.as_slice() == REPORT.as_bytes())
 }
 

@@ -3,8 +3,7 @@
 //! Elements are numbered as variables are declared, those of arrays one after the other. Each of a
 //! cycle needs the next one at the same instant, and the last one the first.
 
-use crate::tables::{Asks, Table, check};
-use lb_check::check as check_rules;
+use lb_check::check;
 use lb_flat::{ElementId, OrderError, expand, order};
 use lb_static::elaborate;
 use lb_syntax::{Source, parse};
@@ -13,7 +12,7 @@ use std::alloc::{AllocError, Global};
 // The cycle of a tree, or none where it has an order or is refused sooner.
 fn cycle_of(alloc: Global, tree: &Source) -> Option<Vec<ElementId>> {
     let elab = elaborate(alloc, tree, "main", None).ok()?;
-    let checked = check_rules(alloc, elab).ok()?;
+    let checked = check(alloc, elab).ok()?;
     match order(alloc, expand(alloc, &checked).ok()?) {
         Err(OrderError::Cycle(cycle)) => Some(cycle),
         _ => None,
@@ -53,7 +52,7 @@ pub fn push_answer(alloc: Global, asked: &str, said: &mut String) -> Result<(), 
 }
 
 // Sources, and the numbers of the elements of their cycles. The input and the output come first.
-const CYCLES: &str = "\
+pub const CYCLES: &str = "\
 node main(c: bool) returns (ok: bool); var x: int; let x = x; ok = c; tel => cycle 2
 node main(c: bool) returns (ok: bool); let ok = not ok; tel => cycle 1
 node main(c: bool) returns (ok: bool); var x, y: int; let x = y; y = x; ok = c; tel => cycle 2 3
@@ -62,8 +61,3 @@ let x = y + 1; y = z; z = if c then x else 0; ok = c; tel => cycle 2 4 3
 node main(c: bool) returns (ok: bool); var a: int^3; \
 let a = [1, a[2], a[1]]; ok = c; tel => cycle 3 4
 node main(c: bool) returns (ok: bool); var x: int; let x = 0 -> pre x; ok = c; tel => no cycle";
-
-#[test]
-fn cycles(rt: HostRuntime) -> Result<(), AllocError> {
-    check(&rt, &Table::of_lines(Asks::Cycles, CYCLES))
-}

@@ -3,10 +3,7 @@
 //! The names that the refusals of names, static values and sizes hold stand in no contract. The
 //! inputs of the last program have 2^32 scalar elements, one more than 32 bits count.
 
-use crate::tables::{Asks, Table, check};
-use std::alloc::AllocError;
-
-const CASES: &str = "node main(x: int) returns (ok: bool); let ok = x > 0; tel
+pub const CASES: &str = "node main(x: int) returns (ok: bool); let ok = x > 0; tel
 main => 1 of 1: main | x: Int
 ----
 node main() returns (ok: bool); let ok = true; tel
@@ -325,8 +322,3 @@ main => 1 of 1: main |{1023  x[@]: Int}
 ----
 node main({65535 x@, }y: int^4096^16) returns (ok: bool); let ok = true; tel
 main => the node that is run, or its observer, has an interface that it may not have";
-
-#[test]
-fn programs_and_their_refusals(rt: HostRuntime) -> Result<(), AllocError> {
-    check(&rt, &Table::of_texts(Asks::Sources, CASES))
-}

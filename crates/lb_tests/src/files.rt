@@ -3,7 +3,6 @@
 use lb_report::{Options, Report, bench, bench_file, bench_loaded};
 use std::alloc::{AllocError, Global};
 use std::os::unix::fs::FileExt;
-use std::process::Abort;
 use std::rt::Runtime;
 use std::test::Fail;
 use std::thread::Threads;
@@ -64,44 +63,59 @@ where
     Ok(report.status == whole.status && report.text.as_slice() == whole.text.as_slice())
 }
 
-/// What stands behind a text that is not read in chunks: a name that comes back, and a line that
-/// does not end.
-const LASTS: [&str; 2] = ["t0,1\n", "z,1"];
+/// Texts that are not read in chunks: with a name that comes back, with a line that does not end,
+/// and a short one.
+const WHOLE: [(u32, &str); 3] = [(320_000, "t0,1\n"), (320_000, "z,1"), (100, "")];
 
-/// Writes texts that are read in chunks, and texts that are not.
-fn check_files<R>(rt: &R, path: &str) -> Result<(), Fail>
+/// Whether a trace text is not read in chunks.
+fn is_read_whole<R>(rt: &R, path: &str, count: u32, last: &str) -> Result<bool, Fail>
 where
-    R: Runtime + AllocGlobal + Threads + Sync + Abort,
+    R: Runtime + AllocGlobal + Threads + Sync,
+    R::File: FileExt + Sync,
+{
+    let text = traces_of(rt.alloc(), count, last)?;
+    fs::write(rt, path, text.as_str())?;
+    Ok(report_of(rt, path, 4)?.is_none())
+}
+
+/// Whether a text is read in chunks, but not by one worker.
+fn is_read_in_chunks<R>(rt: &R, path: &str) -> Result<bool, Fail>
+where
+    R: Runtime + AllocGlobal + Threads + Sync,
     R::File: FileExt + Sync,
 {
     let text = traces_of(rt.alloc(), 320_000, "")?;
     fs::write(rt, path, text.as_str())?;
     for workers in [0, 3] {
-        let is_read = is_read(rt, path, text.as_str(), workers)?;
-        assert!(rt; is_read, "{workers} workers");
+        if !is_read(rt, path, text.as_str(), workers)? {
+            return Ok(false);
+        }
     }
-    let report = report_of(rt, path, 1)?;
-    assert!(rt; report.is_none(), "1 worker");
-    for last in LASTS {
-        let text = traces_of(rt.alloc(), 320_000, last)?;
-        fs::write(rt, path, text.as_str())?;
-        let report = report_of(rt, path, 4)?;
-        assert!(rt; report.is_none(), "{last}");
+    Ok(report_of(rt, path, 1)?.is_none())
+}
+
+/// Whether each text is read in chunks that should be, and no other.
+fn are_read<R>(rt: &R, path: &str) -> Result<bool, Fail>
+where
+    R: Runtime + AllocGlobal + Threads + Sync,
+    R::File: FileExt + Sync,
+{
+    for (count, last) in WHOLE {
+        if !is_read_whole(rt, path, count, last)? {
+            return Ok(false);
+        }
     }
-    let short = traces_of(rt.alloc(), 100, "")?;
-    fs::write(rt, path, short.as_str())?;
-    let report = report_of(rt, path, 4)?;
-    assert!(rt; report.is_none(), "a short file");
-    Ok(())
+    is_read_in_chunks(rt, path)
 }
 
 #[test]
 fn files(rt: HostRuntime) -> Result<(), Fail> {
     let mut path = String::new(rt.alloc());
     write!(path, "{}/lb_tests_chunks", env::temp_dir(&rt)?.as_str())?;
-    let checked = check_files(&rt, path.as_str());
+    let are_read = are_read(&rt, path.as_str());
     let _ = fs::remove_file(&rt, path.as_str());
-    checked?;
+    let are_read = are_read?;
+    assert!(rt; are_read, "chunks");
     let report = report_of(&rt, path.as_str(), 4)?;
     assert!(rt; report.is_none(), "no file");
     Ok(())

@@ -1,33 +1,5 @@
 //! Programs of all forms and what is answered: arrays, calls, iterators, clocks and observers.
 
-use crate::tables::{Asks, Table, check};
-use std::alloc::AllocError;
-use std::os::unix::fs::FileExt;
-use std::process::Abort;
-use std::rt::Runtime;
-use std::thread::Threads;
-
-fn check_forms<R>(rt: &R) -> Result<(), AllocError>
-where
-    R: Runtime + AllocGlobal + Threads + Sync + Abort,
-    R::File: FileExt + Sync,
-{
-    check(
-        rt,
-        &Table {
-            asks: Asks::Cases,
-            rows: FORMS,
-            between: "\n%case",
-            mark: "%answer\n",
-        },
-    )
-}
-
-#[test]
-fn forms(rt: HostRuntime) -> Result<(), AllocError> {
-    check_forms(&rt)
-}
-
 /// Case texts: inputs that are arrays; sizes that are constants; variables and calls on clocks; a
 /// fault of a clock; `current` of `current`; iterators with and without a memory; several results;
 /// an observer; cycles through `current` and through a call; and sizes at the limit and over it.

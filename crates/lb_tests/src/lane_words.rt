@@ -1,7 +1,6 @@
 //! Worked values of lane words, from the rules of the operators and not from the kernels.
 
 use crate::lanes::operator;
-use crate::tables::{Asks, Table, check};
 use lb_lanes::{LaneWord, Plane};
 use std::alloc::AllocError;
 
@@ -79,7 +78,7 @@ pub fn push_words(asked: &str, said: &mut String) -> Result<(), AllocError> {
 // Kernels, two words, and the lanes that count or are taken; then lanes 0, 1, 31 and 63 of the
 // result, and the faults or where it holds. `E`, `B` and `M` take the first word where it is equal
 // to the second, below it or at most it, and else the second.
-const WORDS: &str = "\
+pub const WORDS: &str = "\
 + 5,63:2147483647 7,63:1 all => 12 12 12 0 9223372036854775808
 + 5,63:2147483647 7,63:1 9223372036854775807 => 12 12 12 0 0
 + -2147483648,1:3 -1,1:4 3 => 0 7 0 0 1
@@ -125,8 +124,3 @@ M 4,1:-4,63:9 4,1:3,63:-9 0 => 4 -4 4 -9 9223372036854775807
 set 1,63:2 3,1:-4 9223372036854775809 => 1 -4 3 2 0
 set 1,63:2 3,1:-4 all => 1 1 1 2 0
 copy -1,31:2147483647,63:-2147483648 0 0 => -1 -1 2147483647 -2147483648 0";
-
-#[test]
-fn lane_words(rt: HostRuntime) -> Result<(), AllocError> {
-    check(&rt, &Table::of_lines(Asks::Words, WORDS))
-}

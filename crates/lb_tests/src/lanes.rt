@@ -3,13 +3,11 @@
 ghost use Rattle.std.specs.Prelude.{◌≡◌, length};
 ghost use Rattle.lb_lanes.specs.Kernels.{AreInts};
 
-use crate::tables::{Asks, Table, check};
 use lb_lanes::{
     IntLanes, IntOperator, Plane, and_slices, any_outside, commit_ints, commit_planes, or_slices,
     transpose, xor_slices,
 };
 use std::alloc::{AllocError, Global};
-use std::process::Abort;
 
 /// The two integers in lanes 0 and 1, and 0 elsewhere.
 pub fn pair(first: i32, second: i32) -> IntLanes
@@ -127,7 +125,7 @@ pub fn push_plane(asked: &str, said: &mut String) -> Result<(), AllocError> {
 // Kernels, lanes 0 and 1 of their operands, and the lanes that count or are taken; then lanes 0 and
 // 1 of the result, and the faults or where it holds. All other lanes are 0. Those with `>` put
 // their result into lanes that held something else.
-const INTEGERS: &str = "\
+pub const INTEGERS: &str = "\
 + 2147483647 2 1 3 3 => 0 5 1
 + 2147483647 2 1 3 2 => 0 5 0
 * 65536 65536 32768 32767 3 => 0 2147418112 1
@@ -168,23 +166,12 @@ blend -1 5 1 7 2 => 1 5 0
 >set -1 5 1 7 1 => -1 7 0";
 
 // Kernels and their planes; the last takes lanes 0 and 1 of the first one.
-const PLANES: &str = "\
+pub const PLANES: &str = "\
 & 12 10 => 8
 | 12 10 => 14
 ^ 12 10 => 6
 ! 1 0 => 18446744073709551614
 select 5 12 => 13";
-
-#[test]
-fn integers(rt: HostRuntime) -> Result<(), AllocError> {
-    check(&rt, &Table::of_lines(Asks::Ints, INTEGERS))
-}
-
-#[test]
-fn planes(rt: HostRuntime) -> Result<(), AllocError> {
-    assert!(rt; Plane(4).get(2) && !Plane(4).get(3));
-    check(&rt, &Table::of_lines(Asks::Planes, PLANES))
-}
 
 // Rows that are not 0, each with its number, as `3:5;`. Others stay as they are.
 fn set_rows(words: &mut [u64; 64], asked: &str) {
@@ -211,7 +198,7 @@ pub fn push_transposed(asked: &str, said: &mut String) -> Result<(), AllocError>
 }
 
 // Rows of 64 columns that are not 0, and the columns as rows.
-const MATRICES: &str = "\
+pub const MATRICES: &str = "\
 0:2; => 1:1;
 63:1; => 0:9223372036854775808;
 0:9223372036854775808; => 63:1;
@@ -230,24 +217,23 @@ const MATRICES: &str = "\
 {64 @:9223372036854775808;} => 63:18446744073709551615;
 {64 @:18446744073709551615;} => {64 @:18446744073709551615;}";
 
-#[test]
-fn matrices(rt: HostRuntime) -> Result<(), AllocError> {
-    check(&rt, &Table::of_lines(Asks::Matrices, MATRICES))
-}
-
 // Whether bit `c` of row `r` became bit `r` of row `c`, for all of them.
-fn check_bits(rt: &impl Abort, old: &[u64; 64], new: &[u64; 64]) {
+fn are_transposed(old: &[u64; 64], new: &[u64; 64]) -> bool {
     for r in 0..64u32 {
         for c in 0..64u32 {
             let was = old[r as usize] >> c;
             let is = new[c as usize] >> r;
-            assert!(rt; was % 2 == is % 2, "row {r}, column {c}");
+            if was % 2 != is % 2 {
+                return false;
+            }
         }
     }
+    true
 }
 
 #[test]
 fn a_full_matrix(rt: HostRuntime) {
+    assert!(rt; Plane(4).get(2) && !Plane(4).get(3));
     let mut old = [0; 64];
     let mut seed = 7u64;
     for k in 0..64 {
@@ -258,7 +244,7 @@ fn a_full_matrix(rt: HostRuntime) {
     }
     let mut new = old;
     transpose(&mut new);
-    check_bits(&rt, &old, &new);
+    assert!(rt; are_transposed(&old, &new));
 }
 
 const LENGTHS: [usize; 5] = [0, 1, 63, 64, 65];
@@ -287,17 +273,20 @@ fn word_of(kernel: u8, a: u64, b: u64) -> u64 {
     }
 }
 
-// Each kernel on words, beside a plain loop.
-fn check_words(rt: &impl Abort, a: &[u64], b: &[u64], out: &mut [u64])
+// Whether each kernel on words does what a plain loop does.
+fn are_as_alone(a: &[u64], b: &[u64], out: &mut [u64]) -> bool
     requires left { length a.now ≡ length out.old }
     requires right { length b.now ≡ length out.old }
 {
     for kernel in 0..4 {
         run_words(kernel, a, b, out);
         for k in 0..a.len() {
-            assert_eq!(rt; out[k], word_of(kernel, a[k], b[k]));
+            if out[k] != word_of(kernel, a[k], b[k]) {
+                return false;
+            }
         }
     }
+    true
 }
 
 #[test]
@@ -315,7 +304,8 @@ fn words_of_each_length(rt: HostRuntime) {
     let mut out = [0; 65];
     for n in LENGTHS {
         assert!(rt; n <= 65);
-        check_words(&rt, &a[..n], &b[..n], &mut out[..n]);
+        let are_as_alone = are_as_alone(&a[..n], &b[..n], &mut out[..n]);
+        assert!(rt; are_as_alone, "{n}");
     }
 }
 
@@ -329,29 +319,37 @@ fn counted(alloc: Global, from: i64) -> Result<Vec<IntLanes>, AllocError> {
 }
 
 // Whether lanes 0 and 2 are new.
-fn check_ints(rt: &impl Abort, ints: &[IntLanes]) {
+fn are_new(ints: &[IntLanes]) -> bool {
     let mut old = 0i64;
     for lanes in ints {
         let new = old.wrapping_add(1000);
-        assert_eq!(rt; [lanes.get(0), lanes.get(1), lanes.get(2)], [new, old, new]);
+        if lanes.get(0) != new || lanes.get(1) != old || lanes.get(2) != new {
+            return false;
+        }
         old = old.wrapping_add(1);
     }
+    true
 }
 
-// The commit of the first elements, for each length.
-fn check_commits(rt: &impl Abort, old: &mut [IntLanes], new: &[IntLanes]) {
+// Whether the commit of the first elements is as it should be, for each length.
+fn are_committed(old: &mut [IntLanes], new: &[IntLanes]) -> bool {
     for n in LENGTHS {
-        assert!(rt; n <= old.len() && n <= new.len());
+        if n > old.len() || n > new.len() {
+            return false;
+        }
         commit_ints(&mut old[..n], &new[..n], Plane(5));
-        check_ints(rt, &old[..n]);
+        if !are_new(&old[..n]) {
+            return false;
+        }
     }
+    true
 }
 
 #[test]
 fn ints_of_each_length(rt: HostRuntime) -> Result<(), AllocError> {
     let mut old = counted(rt.alloc(), 0)?;
     let new = counted(rt.alloc(), 1000)?;
-    check_commits(&rt, &mut old, &new);
+    assert!(rt; are_committed(&mut old, &new));
     Ok(())
 }
 

@@ -5,14 +5,12 @@ ghost use Rattle.std.specs.Prelude.{◌≡◌, ◌<◌, ◌≤◌, ◌+◌, IfSo
 ghost use Rattle.lb_machine.specs.Correct.{HasRoom};
 
 use crate::lanes::{number, operator};
-use crate::tables::{Asks, Table, check};
 use lb_lanes::{IntOperator, LaneWord};
 use lb_machine::{
     Code, Comparison, EVERYWHERE, NOWHERE, PlaneId, PlaneOperator, WordId, carry_planes,
     carry_words,
 };
 use std::alloc::{AllocError, Global};
-use std::process::Abort;
 
 // ## Code
 
@@ -325,7 +323,7 @@ pub fn push_results(alloc: Global, asked: &str, said: &mut String) -> Result<(),
 // a plane that is not the second one, and an operator one of the lanes that are not its own. A test
 // and the choice of a word by it right behind are one instruction. `i` asks whether a plane is
 // known to be within another one, and `m` for all that are within one, the plane of number 0 last.
-const CODES: &str = "\
+pub const CODES: &str = "\
 12 10 0 0 0 0 | & 2 3, | 2 3, ^ 2 3, ~ 2 3, ~ 3 2, ~ 1 2 => \
 7: 4=8 5=14 7=6 8=4 9=2 10=18446744073709551603
 12 10 0 0 0 0 | & 2 1, & 0 2, | 2 0, | 2 1, ^ 2 0, ^ 3 3, ~ 2 0, ~ 2 2 => \
@@ -351,11 +349,6 @@ w7=2147483647,-3,0 13=0 w8=0,-1,0 15=0
 9: w3=3,30,0 5=0 w4=6,60,0 7=0 8=3 9=3 w5=6,60,0 10=0 11=3
 12 10 0 0 0 0 | | 2 3, ^ 2 3, | 4 6, = 1 2, i 2 4, i 4 2, i 6 7, i 5 7, m 7, m 4, m 6 => \
 5: 4=14 6=6 7=14 8=18446744073709551615 true false true false 1011100 1100 0";
-
-#[test]
-fn codes(rt: HostRuntime) -> Result<(), AllocError> {
-    check(&rt, &Table::of_lines(Asks::Codes, CODES))
-}
 
 // ## Carrying
 
@@ -407,7 +400,7 @@ pub fn push_carried(asked: &str, said: &mut String) -> Result<(), AllocError> {
 }
 
 // The first place, and the two that are carried there and to the next one; what stands then.
-const CARRIES: &str = "\
+pub const CARRIES: &str = "\
 planes 0 2 3 => now 12 13 12 13 14 15
 planes 0 5 2 => now 15 12 12 13 14 15
 planes 1 4 4 => now 10 14 14 13 14 15
@@ -416,8 +409,3 @@ words 0 2 3 => now 12,-12 13,-13 12,-12 13,-13 14,-14 15,-15
 words 0 5 2 => now 15,-15 12,-12 12,-12 13,-13 14,-14 15,-15
 words 1 4 4 => now 10,-10 14,-14 14,-14 13,-13 14,-14 15,-15
 words 3 5 5 => now 10,-10 11,-11 12,-12 15,-15 15,-15 15,-15";
-
-#[test]
-fn carries(rt: HostRuntime) -> Result<(), AllocError> {
-    check(&rt, &Table::of_lines(Asks::Carries, CARRIES))
-}

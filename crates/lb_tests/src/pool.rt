@@ -3,15 +3,15 @@
 ghost use Rattle.std.specs.Prelude.{◌≡◌};
 ghost use Rattle.lb_pool.specs.Seats.{IsSeatOf, shares_of};
 
-use crate::commands::words_of;
-use crate::tables::{Asks, Table, check, write_out};
-use lb_check::{Verdict, check as check_rules};
-use lb_command::command;
-use lb_flat::{Ordered, TraceSet, eval_trace, expand, order};
+use crate::batches::ordered_of;
+use crate::commands::run_line;
+use crate::tables::write_out;
+use lb_check::Verdict;
+use lb_flat::{Ordered, TraceSet, eval_trace};
 use lb_pool::{ClaimBoard, ClaimSeat, Gate, Plan, run_claims};
-use lb_report::{Reader, Writer, split_case, status};
-use lb_static::{Signature, elaborate};
-use lb_syntax::{Source, parse};
+use lb_report::{split_case, status};
+use lb_static::Signature;
+use lb_syntax::parse;
 use lb_trace::read_traces;
 use std::alloc::{AllocError, Global};
 use std::hint::spin_loop;
@@ -82,7 +82,7 @@ pub fn push_plan(alloc: Global, asked: &str, said: &mut String) -> Result<(), Al
 }
 
 // A width and the lengths of traces, 0 first; how many batches and traces, and the batches.
-const PLANS: &str = "\
+pub const PLANS: &str = "\
 64:{65  1} => 2 of 65: |{64  @} | 64
 64 by length:{65  1} => 2 of 65: |{64  @} | 64
 64: => 0 of 0:
@@ -92,11 +92,6 @@ const PLANS: &str = "\
 3: 3 1 2 1 => 2 of 4: | 0 1 2 | 3
 2 by length: 3 1 2 1 => 2 of 4: | 1 3 | 2 0
 3 by length: 3 1 2 1 => 2 of 4: | 1 3 2 | 0";
-
-#[test]
-fn plans(rt: HostRuntime) -> Result<(), AllocError> {
-    check(&rt, &Table::of_lines(Asks::Plans, PLANS))
-}
 
 // ## Claim boards
 
@@ -149,7 +144,7 @@ pub fn push_claims(alloc: Global, asked: &str, said: &mut String) -> Result<(), 
 
 // How many numbers there are and who claims; what is drawn, and whether the two were told that
 // it is all.
-const CLAIMS: &str = "\
+pub const CLAIMS: &str = "\
 3 ababa => 0 1 2 - - all
 3 abab => 0 1 2 - all
 3 aba => 0 1 2 not all
@@ -214,15 +209,9 @@ pub fn push_shares(alloc: Global, turns: &str, said: &mut String) -> Result<(), 
 
 // Who gives the larger half of its shares to the other; all shares, those of the two halves, and
 // those after each turn. In the second row a seat of three shares is cut.
-const SHARES: &str = "\
+pub const SHARES: &str = "\
 a => 64: 32 32, 16 48
 bbbbaaaaaa => 64: 32 32, 48 16, 56 8, 60 4, 62 2, 31 33, 15 49, 7 57, 3 61, 1 63, 1 63";
-
-#[test]
-fn boards(rt: HostRuntime) -> Result<(), AllocError> {
-    check(&rt, &Table::of_lines(Asks::Claims, CLAIMS))?;
-    check(&rt, &Table::of_lines(Asks::Shares, SHARES))
-}
 
 // ## Runs
 
@@ -257,16 +246,9 @@ fn push_output<R: Runtime + AllocGlobal + Threads + Sync>(
 where
     R::File: FileExt + Sync,
 {
-    let words = words_of(rt.alloc(), line)?;
     let mut output: Vec<u8> = Vec::new(rt.alloc());
     let mut errors: Vec<u8> = Vec::new(rt.alloc());
-    let status = command(
-        rt,
-        words.as_slice(),
-        &mut Reader::new(case.as_bytes()),
-        &mut Writer::new(&mut output),
-        &mut Writer::new(&mut errors),
-    );
+    let status = run_line(rt, line, case, &mut output, &mut errors)?;
     let printed = std::str::from_utf8(output.as_slice()).unwrap_or("no text");
     write!(said, "{printed}status {status}")
 }
@@ -342,7 +324,7 @@ lbench --workers 64 --batch 64 --by-length";
 
 // Sixty-five lengths, so that at width 64 the second batch has one trace; traces of which some end
 // early; the same where one of these passes, so that its line and the last one differ; no trace.
-const SPREADS: &str = "\
+pub const SPREADS: &str = "\
 node main() returns (ok: bool);
 var n: int;
 let n = 0 -> pre n + 1; ok = n < 64; tel
@@ -403,19 +385,6 @@ trace
 total 0 passed 0 fault 0 undefined 0 assertion 0 false 0
 status 0";
 
-#[test]
-fn spreads(rt: HostRuntime) -> Result<(), AllocError> {
-    check(
-        &rt,
-        &Table {
-            asks: Asks::Spreads,
-            rows: SPREADS,
-            between: "\n%case\n",
-            mark: "%answer\n",
-        },
-    )
-}
-
 // ## Two workers at once
 
 /// Holds the worker of batch 0 until another batch has been entered.
@@ -448,16 +417,6 @@ impl Gate for Hold {
             self.is_entered.store(true, Ordering::SeqCst);
         }
     }
-}
-
-// The equations of a tree, and the signature of its traces.
-fn ordered_of(alloc: Global, tree: &Source) -> Option<(Signature, Ordered)> {
-    let elab = elaborate(alloc, tree, "main", None).ok()?;
-    let checked = check_rules(alloc, elab).ok()?;
-    let flat = expand(alloc, &checked).ok();
-    let signature = checked.into_signature();
-    let ordered = order(alloc, flat?).ok()?;
-    Some((signature, ordered))
 }
 
 // The verdict of the last of sixty-five traces, found alone.
@@ -520,7 +479,7 @@ fn push_gated<R: Threads + Sync>(
 ) -> Result<(), AllocError> {
     let (source, traces) = split_case(case.as_bytes());
     match &parse(alloc, source) {
-        Ok(tree) => match &ordered_of(alloc, tree) {
+        Ok(tree) => match &ordered_of(alloc, tree, "") {
             Some(program) => push_gated_traces(rt, alloc, program, traces, gate, said),
             None => said.push_str("no program"),
         },

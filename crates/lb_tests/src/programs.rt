@@ -1,10 +1,7 @@
 //! The rules of types, clocks and definitions, and of traces, one program a row.
 
 use crate::answers;
-use crate::tables::{Asks, Table, check};
 use std::alloc::AllocError;
-use std::os::unix::fs::FileExt;
-use std::process::Abort;
 use std::rt::Runtime;
 use std::thread::Threads;
 
@@ -23,21 +20,6 @@ pub fn push_answer<R: Runtime + AllocGlobal + Threads + Sync>(
         return said.push_str("accepted");
     }
     Ok(())
-}
-
-fn check_tables<R>(rt: &R) -> Result<(), AllocError>
-where
-    R: Runtime + AllocGlobal + Threads + Sync + Abort,
-    R::File: FileExt + Sync,
-{
-    check(rt, &Table::of_lines(Asks::Programs(MAIN), RULES))?;
-    check(rt, &Table::of_lines(Asks::Programs(CLOCKED), STATEMENTS))?;
-    check(rt, &Table::of_texts(Asks::Programs(PLAIN), TRACES))
-}
-
-#[test]
-fn programs(rt: HostRuntime) -> Result<(), AllocError> {
-    check_tables(&rt)
 }
 
 /// What the nodes under test may call.
@@ -63,10 +45,10 @@ function all(c: bool) returns (b: bool); let b = red<<and, 2>>(true, [pre c, c])
 ";
 
 /// The node under test, but for its locals and statements.
-const MAIN: &str = "node main(x, y: int; c, d: bool) returns (ok: bool); ";
+pub const MAIN: &str = "node main(x, y: int; c, d: bool) returns (ok: bool); ";
 
 /// The rules of types, then of clocks and of definitions; their order, and which node is named.
-const RULES: &str = "\
+pub const RULES: &str = "\
 let ok = true; tel => accepted
 let ok = x; tel => E9 type in main
 var z: int; let z = x when y; ok = true; tel => E9 type in main
@@ -154,7 +136,7 @@ let ok = twice(x); tel => E9 type in main
 let ok = mistyped(true); tel => E9 type in mistyped";
 
 /// A node `n` whose inputs are on several clocks, and a node under test that calls it.
-const CLOCKED: &str = "node main(c, d: bool; x, y: int) returns (ok: bool);
+pub const CLOCKED: &str = "node main(c, d: bool; x, y: int) returns (ok: bool);
 var v: int when c; w: int when d; e: bool when c; u: int when e; a: int^2; b: bool^2;
   t: int^2 when c;
 let v = x when c; w = x when d; e = d when c; u = v when e; a = x^2; b = c^2; t = v^2;
@@ -164,7 +146,7 @@ node n(c, d: bool; x, y: int; v: int when c; w: int when d; e: bool when c;
 
 /// Statements of `n`, then calls in it. Where they keep the rules of clocks, the output still has
 /// no definition.
-const STATEMENTS: &str = "\
+pub const STATEMENTS: &str = "\
 v = x when c; tel => E11 definition in n
 v = x when not c; tel => E10 clock in n
 x = x when c; tel => E10 clock in n
@@ -250,12 +232,12 @@ a = map<<+, 2>>(a, a); tel => E11 definition in n
 a = map<<+, 2>>(a, t); tel => E10 clock in n";
 
 /// A program and the line before its traces.
-const PLAIN: &str = "node main(x: int) returns (ok: bool); let ok = true; tel
+pub const PLAIN: &str = "node main(x: int) returns (ok: bool); let ok = true; tel
 %traces
 ";
 
 /// Trace texts.
-const TRACES: &str = "\
+pub const TRACES: &str = "\
 trace,x
 a,1,2 => E15 record
 ----

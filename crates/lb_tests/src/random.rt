@@ -4,34 +4,6 @@
 //! said what is wanted. Out of many these few have, taken together, each form on a clock and off
 //! it.
 
-use crate::tables::{Asks, Table, check};
-use std::alloc::AllocError;
-use std::os::unix::fs::FileExt;
-use std::process::Abort;
-use std::rt::Runtime;
-use std::thread::Threads;
-
-fn check_cases<R>(rt: &R, rows: &str) -> Result<(), AllocError>
-where
-    R: Runtime + AllocGlobal + Threads + Sync + Abort,
-    R::File: FileExt + Sync,
-{
-    check(
-        rt,
-        &Table {
-            asks: Asks::Cases,
-            rows,
-            between: "\n%case",
-            mark: "%answer\n",
-        },
-    )
-}
-
-#[test]
-fn random_programs(rt: HostRuntime) -> Result<(), AllocError> {
-    check_cases(&rt, PROGRAMS)
-}
-
 /// The programs.
 pub const PROGRAMS: &str = "
 const C0 = 1; C1 = 1;

@@ -1,12 +1,10 @@
 //! Trace texts: what is read of them, whichever way their records end and their cells are written.
 
-use crate::tables::{Asks, Table, check};
 use lb_flat::TraceSet;
 use lb_static::Signature;
 use lb_syntax::Kind;
 use lb_trace::{TraceError, read_loaded, read_traces, read_traces_by};
 use std::alloc::{AllocError, Global};
-use std::rt::Runtime;
 use std::thread::Threads;
 
 // The text that a row stands for: `/` is a line feed, `\` a carriage return, `'` the byte `"`, and
@@ -59,11 +57,17 @@ fn push_read(
     )
 }
 
-/// What is read of a text whose columns are an integer `x` and a Boolean `c`, or its refusal.
-pub fn push_answer(alloc: Global, asked: &str, said: &mut String) -> Result<(), AllocError> {
+// An integer `x` and a Boolean `c`.
+fn two_columns(alloc: Global) -> Result<Signature, AllocError> {
     let mut signature = Signature::new(alloc);
     signature.push(String::from_str(alloc, "x")?, Kind::Int)?;
     signature.push(String::from_str(alloc, "c")?, Kind::Bool)?;
+    Ok(signature)
+}
+
+/// What is read of a text whose columns are an integer `x` and a Boolean `c`, or its refusal.
+pub fn push_answer(alloc: Global, asked: &str, said: &mut String) -> Result<(), AllocError> {
+    let signature = two_columns(alloc)?;
     push_read(alloc, &signature, asked, said)
 }
 
@@ -155,15 +159,13 @@ fn push_by_chunks<R: Threads + Sync>(
 
 /// What is read of a text whose columns are an integer `x` and a Boolean `c`, or its refusal, by
 /// each number of workers and in chunks; or the first that makes a difference.
-pub fn push_by_workers<R: Runtime + AllocGlobal + Threads + Sync>(
+pub fn push_by_workers<R: Threads + Sync>(
     rt: &R,
+    alloc: Global,
     asked: &str,
     said: &mut String,
 ) -> Result<(), AllocError> {
-    let alloc = rt.alloc();
-    let mut signature = Signature::new(alloc);
-    signature.push(String::from_str(alloc, "x")?, Kind::Int)?;
-    signature.push(String::from_str(alloc, "c")?, Kind::Bool)?;
+    let signature = two_columns(alloc)?;
     let mut text = String::new(alloc);
     push_text(asked, &mut text)?;
     let body = text.as_str().as_bytes();
@@ -187,7 +189,7 @@ pub fn push_by_workers<R: Runtime + AllocGlobal + Threads + Sync>(
 // Records that end in each way, with and without an end of the last; empty lines; a byte order
 // mark; a quote in the first, a middle and the last cell, and in the last byte; columns in another
 // order; numbers of each length; and refusals, of texts with quotes and without.
-const READINGS: &str = "\
+pub const READINGS: &str = "\
 trace,x,c/a,1,0/a,5,1/b,-7,true/ => a: ( 1 0 ) ( 5 1 );b: ( -7 1 );
 trace,x,c/a,1,0/a,5,1/b,-7,true => a: ( 1 0 ) ( 5 1 );b: ( -7 1 );
 trace,x,c\\/a,1,0\\/a,5,1\\/b,-7,true\\/ => a: ( 1 0 ) ( 5 1 );b: ( -7 1 );
@@ -231,14 +233,9 @@ trace,x,c/a,1,0/b+,1,0/ => E17 the trace name of record 2 is ill-formed or comes
 trace,x,c/a,1,0/b,1,2/ => E16 the cell of record 2 in column 1 is no value of it
 trace,x,c/,1,0/ => E17 the trace name of record 1 is ill-formed or comes back";
 
-#[test]
-fn readings(rt: HostRuntime) -> Result<(), AllocError> {
-    check(&rt, &Table::of_lines(Asks::Readings, READINGS))
-}
-
 // Columns in each of their six orders, with cells of each length and in each place of a trace; and
 // refusals where they stand in another order.
-const ORDERS: &str = "\
+pub const ORDERS: &str = "\
 trace,x,y,c/a,1,2,0/a,30,-4,1/b,500,6000,true/ => a: ( 1 2 0 ) ( 30 -4 1 );b: ( 500 6000 1 );
 trace,x,c,y/a,1,0,2/a,30,1,-4/b,500,true,6000/ => a: ( 1 2 0 ) ( 30 -4 1 );b: ( 500 6000 1 );
 trace,y,x,c/a,2,1,0/a,-4,30,1/b,6000,500,true/ => a: ( 1 2 0 ) ( 30 -4 1 );b: ( 500 6000 1 );
@@ -256,11 +253,6 @@ trace,c,y,x/a,0,2,1/b,0,2,1/a,0,2,1/ => E17 the trace name of record 3 is ill-fo
 trace,c,x,x/a,0,2,1/ => E14 the first record is not `trace` and the name of each scalar input
 trace,c,x/a,0,2/ => E14 the first record is not `trace` and the name of each scalar input
 trace,c,y,x,z/a,0,2,1,3/ => E14 the first record is not `trace` and the name of each scalar input";
-
-#[test]
-fn orders(rt: HostRuntime) -> Result<(), AllocError> {
-    check(&rt, &Table::of_lines(Asks::Orders, ORDERS))
-}
 
 // ## Booleans as bits
 
@@ -318,7 +310,7 @@ pub fn push_bits(alloc: Global, asked: &str, said: &mut String) -> Result<(), Al
 
 // The kinds of columns and some records: no Boolean, one, and some among integers; sixty-four,
 // sixty-five, and a hundred and thirty.
-const BITS: &str = "\
+pub const BITS: &str = "\
 i a,5 a,-5 b,0 => a: ( ) ( );b: ( );
 b a,1 a,0 b,true => a: ( 1 ) ( 0 );b: ( 1 );
 ibib a,7,1,-1,0 a,-7,0,0,1 b,-1,1,-2147483648,1 => a: ( 1 ) ( 2 );b: ( 3 );
@@ -328,14 +320,9 @@ bb a,1,0 b,0,1 b,1,1 c,0,0 => a: ( 1 );b: ( 2 ) ( 3 );c: ( 0 );
 {65 bib} a{65 ,1,-9,0} => a: ( 6148914691236517205 6148914691236517205 1 );
 {65 bib} a{64 ,0,5,0},0,5,1 => a: ( 0 0 2 );";
 
-#[test]
-fn bits(rt: HostRuntime) -> Result<(), AllocError> {
-    check(&rt, &Table::of_lines(Asks::Bits, BITS))
-}
-
 // Booleans in groups of many sizes, each followed by its opposite; one that is spelled out at each
 // place of a group; and a cell that is no value, at each place.
-const TRUTHS: &str = "\
+pub const TRUTHS: &str = "\
 {5 b} a,1,1,1,0,0 a,0,0,0,1,1 bc,1,0,0,0,1 => a: ( 7 ) ( 24 );bc: ( 17 );
 {7 b} a,1,0,0,1,1,0,0 a,0,1,1,0,0,1,1 bc,1,0,0,0,0,0,1 => a: ( 25 ) ( 102 );bc: ( 65 );
 {8 b} a,0,1,1,0,0,0,0,0 a,1,0,0,1,1,1,1,1 bc,1,0,0,0,0,0,0,1 => a: ( 6 ) ( 249 );bc: ( 129 );
@@ -382,14 +369,9 @@ E16 the cell of record 2 in column 7 is no value of it
 a: ( 36429 );b: ( 384 );
 bbbi{5 b} a,1,0,1,2147483647,1,1,0,1,0 a,0,1,0,0,0,0,1,0,1 => a: ( 93 ) ( 162 );";
 
-#[test]
-fn truths(rt: HostRuntime) -> Result<(), AllocError> {
-    check(&rt, &Table::of_lines(Asks::Bits, TRUTHS))
-}
-
 // Texts of twenty records and of few, in parts that are cut at each of their lines: within a trace,
 // between two, before a name that comes back, and within a record with a fault.
-const PARTS: &str = "\
+pub const PARTS: &str = "\
 trace,x,c{19 /a,@,0} => a:{19  ( @ 0 )};
 trace,x,c{19 /t@,@,1}/ => {19 t@: ( @ 1 );}
 trace,x,c{10 /a,@,0}{9 /b,@,1}\\ => a:{10  ( @ 0 )};b:{9  ( @ 1 )};
@@ -404,8 +386,3 @@ trace,x,c =>
 trace,c/ => E14 the first record is not `trace` and the name of each scalar input
 / => E14 the first record is not `trace` and the name of each scalar input
  => E14 the first record is not `trace` and the name of each scalar input";
-
-#[test]
-fn parts(rt: HostRuntime) -> Result<(), AllocError> {
-    check(&rt, &Table::of_lines(Asks::Parted, PARTS))
-}

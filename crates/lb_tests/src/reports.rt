@@ -1,6 +1,5 @@
 //! Case texts in their two parts, statuses and options.
 
-use crate::tables::{Asks, Table, check};
 use lb_check::Verdict;
 use lb_report::{Options, split_case, status};
 use std::alloc::AllocError;
@@ -14,7 +13,7 @@ pub fn push_parts(case: &str, said: &mut String) -> Result<(), AllocError> {
 }
 
 /// Case texts and their parts.
-const CASES: &str = "\
+pub const CASES: &str = "\
 a
 %traces
 b => a
@@ -46,11 +45,6 @@ a
 %traces\r||
 ----
  => ||";
-
-#[test]
-fn parts_of_cases(rt: HostRuntime) -> Result<(), AllocError> {
-    check(&rt, &Table::of_texts(Asks::Parts, CASES))
-}
 
 fn is_as_given(options: &Options) -> bool {
     options.node.as_str() == "main"

@@ -1,37 +1,10 @@
 //! Case texts and what the program answers: the report and the status, or the refusal.
 
 use crate::answers::push_refusal;
-use crate::tables::{Asks, Table, check};
 use lb_report::BenchError;
 use lb_syntax::SyntaxError;
 use lb_trace::TraceError;
 use std::alloc::AllocError;
-use std::os::unix::fs::FileExt;
-use std::process::Abort;
-use std::rt::Runtime;
-use std::thread::Threads;
-
-fn check_cases<R>(rt: &R, rows: &str) -> Result<(), AllocError>
-where
-    R: Runtime + AllocGlobal + Threads + Sync + Abort,
-    R::File: FileExt + Sync,
-{
-    check(
-        rt,
-        &Table {
-            asks: Asks::Cases,
-            rows,
-            between: "\n%case",
-            mark: "%answer\n",
-        },
-    )
-}
-
-#[test]
-fn cases(rt: HostRuntime) -> Result<(), AllocError> {
-    check_cases(&rt, REPORTS)?;
-    check_cases(&rt, REFUSALS)
-}
 
 /// Refusals that no case has.
 #[test]
@@ -438,7 +411,7 @@ total 2 passed 1 fault 0 undefined 0 assertion 0 false 1
 status 1";
 
 /// Refusals, by the first part that refuses.
-const REFUSALS: &str = "
+pub const REFUSALS: &str = "
 %
 %answer
 E1 character at 1:1

@@ -5,15 +5,8 @@
 //! there, and one that ends there. The contract says no more than that E2 stands at a token or at
 //! the end.
 
-use crate::tables::{Asks, Table, check};
-use std::alloc::AllocError;
-use std::os::unix::fs::FileExt;
-use std::process::Abort;
-use std::rt::Runtime;
-use std::thread::Threads;
-
 /// Whole texts.
-const PARTS: &str = "x at 1:1
+pub const PARTS: &str = "x at 1:1
 ; at 1:1
 let at 1:1
 const 3 = 1; at 1:7
@@ -126,8 +119,11 @@ node n() returns (y: int) let tel; . at 1:36
 node n() returns (y: int) let tel. ; at 1:36
 node n() returns (y: int) let tel; x at 1:36";
 
+/// The first line of a text whose second one is within a body.
+pub const BODY: &str = "node n() returns (y: int) let\n";
+
 /// What stands between `let` and the end, on the second line.
-const STATEMENTS: &str = "; tel at 2:1
+pub const STATEMENTS: &str = "; tel at 2:1
 const n = 1; tel at 2:1
 if a then b tel at 2:1
 var a: int; tel at 2:1
@@ -162,8 +158,11 @@ y = 1; = 2; tel at 2:8
 y = 1; let tel at 2:8
 y = 1; at 2:7";
 
+/// The first line of a text whose second one is an expression.
+pub const TERM: &str = "node n() returns (y: int) let y =\n";
+
 /// What stands after `y =`, on the second line.
-const EXPRESSIONS: &str = "a | ; tel at 2:5
+pub const EXPRESSIONS: &str = "a | ; tel at 2:5
 a | at 2:4
 a -> ) tel at 2:6
 a -> at 2:5
@@ -359,8 +358,11 @@ tel at 2:1
 => a; at 2:1
 when c; at 2:1";
 
+/// The first line of a text whose second one is a static expression.
+pub const CONSTANT: &str = "const n =\n";
+
 /// What stands after `const n =`, on the second line.
-const STATICS: &str = "; at 2:1
+pub const STATICS: &str = "; at 2:1
 true; at 2:1
 not 1; at 2:1
 [1]; at 2:1
@@ -392,30 +394,3 @@ not 1; at 2:1
 k (1); at 2:3
 k k; at 2:3
 k ..2; at 2:3";
-
-fn check_rows<R: Runtime + AllocGlobal + Threads + Sync + Abort>(
-    rt: &R,
-    front: &str,
-    rows: &str,
-) -> Result<(), AllocError>
-where
-    R::File: FileExt + Sync,
-{
-    check(
-        rt,
-        &Table {
-            asks: Asks::Places(front),
-            rows,
-            between: "\n",
-            mark: " at ",
-        },
-    )
-}
-
-#[test]
-fn places_of_syntax_errors(rt: HostRuntime) -> Result<(), AllocError> {
-    check_rows(&rt, "", PARTS)?;
-    check_rows(&rt, "node n() returns (y: int) let\n", STATEMENTS)?;
-    check_rows(&rt, "node n() returns (y: int) let y =\n", EXPRESSIONS)?;
-    check_rows(&rt, "const n =\n", STATICS)
-}

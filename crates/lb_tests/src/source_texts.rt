@@ -3,10 +3,7 @@
 //! `no token begins at` is E1, `no tree fits the tokens up to` is E2, `over its limit at` is E3.
 //! The place of E2 stands in no contract.
 
-use crate::tables::{Asks, Table, check};
-use std::alloc::AllocError;
-
-const CASES: &str = "-- nothing
+pub const CASES: &str = "-- nothing
 text => 0 constants, 0 nodes
 ----
 const n = 3; k: int = n;
@@ -332,8 +329,3 @@ let
 y = {200 map<<f<<1>>;3>>(}x{200 )};
 tel
 text => over its limit at 3:2667";
-
-#[test]
-fn texts_and_their_refusals(rt: HostRuntime) -> Result<(), AllocError> {
-    check(&rt, &Table::of_texts(Asks::Sources, CASES))
-}

@@ -1,4 +1,4 @@
-//! Tables of text, and the loop over their rows.
+//! The tables of text, and the loop over their rows.
 //!
 //! A row says what is asked, then after a mark, mostly ` => `, what is wanted.
 //!
@@ -13,18 +13,17 @@
 //! `{2 x@, }` stands for `x0, x1, `, `{3 a}` for `aaa`, and `{1..2 x@ @, }` for `x1 1, x2 2, `.
 
 use crate::{
-    answers, batches, commands, cycles, lane_words, lanes, machine, pool, programs, readings,
-    reports, sources,
+    answers, batches, commands, cycles, elaboration, forms, lane_words, lanes, machine, pool,
+    programs, random, readings, reports, runs, source_places, source_texts, sources,
 };
 use std::alloc::AllocError;
 use std::os::unix::fs::FileExt;
-use std::process::Abort;
 use std::rt::Runtime;
 use std::thread::Threads;
 
 /// What the rows of a table ask about.
-#[derive(Drop)]
-pub enum Asks<'a> {
+#[derive(Clone, Copy)]
+enum Asks<'a> {
     /// A source: its text, or its node under test.
     Sources,
     /// What stands behind this front: the place at which the text is refused as E2.
@@ -71,40 +70,117 @@ pub enum Asks<'a> {
     Carries,
 }
 
-/// A table.
-#[derive(Drop)]
-pub struct Table<'a> {
-    /// What its rows ask about.
-    pub asks: Asks<'a>,
-    /// The rows.
-    pub rows: &'a str,
+/// How the rows of a table stand.
+#[derive(Clone, Copy)]
+struct Form {
     /// What stands between two rows.
-    pub between: &'a str,
+    between: &'static str,
     /// What stands in a row between what is asked and what is wanted.
-    pub mark: &'a str,
+    mark: &'static str,
 }
 
-impl<'a> Table<'a> {
-    /// A table with a row in each line.
-    pub fn of_lines(asks: Asks<'a>, rows: &'a str) -> Table<'a> {
-        Table {
-            asks,
-            rows,
-            between: "\n",
-            mark: " => ",
-        }
-    }
+/// A row in each line.
+const LINES: Form = Form {
+    between: "\n",
+    mark: " => ",
+};
 
-    /// A table with a line of dashes between two rows.
-    pub fn of_texts(asks: Asks<'a>, rows: &'a str) -> Table<'a> {
-        Table {
-            asks,
-            rows,
-            between: "\n----\n",
-            mark: " => ",
-        }
-    }
-}
+/// A row in each line, and the place that is wanted.
+const PLACES: Form = Form {
+    between: "\n",
+    mark: " at ",
+};
+
+/// A line of dashes between two rows.
+const TEXTS: Form = Form {
+    between: "\n----\n",
+    mark: " => ",
+};
+
+/// Cases whose answers end with a line end.
+const BATCHES: Form = Form {
+    between: "%case\n",
+    mark: "%answer\n",
+};
+
+/// Cases whose answers do not.
+const SPREADS: Form = Form {
+    between: "\n%case\n",
+    mark: "%answer\n",
+};
+
+/// The same, with the observer of each in the line of the mark between them.
+const CASES: Form = Form {
+    between: "\n%case",
+    mark: "%answer\n",
+};
+
+/// A table: what its rows ask about, how they stand, and the rows.
+type Table = (Asks<'static>, Form, &'static str);
+
+/// Texts: what is read of them, and where they are refused.
+static TEXT_TABLES: [Table; 7] = [
+    (Asks::Sources, TEXTS, source_texts::CASES),
+    (Asks::Places(""), PLACES, source_places::PARTS),
+    (
+        Asks::Places(source_places::BODY),
+        PLACES,
+        source_places::STATEMENTS,
+    ),
+    (
+        Asks::Places(source_places::TERM),
+        PLACES,
+        source_places::EXPRESSIONS,
+    ),
+    (
+        Asks::Places(source_places::CONSTANT),
+        PLACES,
+        source_places::STATICS,
+    ),
+    (Asks::Sources, TEXTS, elaboration::CASES),
+    (Asks::Parts, TEXTS, reports::CASES),
+];
+
+/// Kernels, code, cycles, batches and what is claimed of them.
+static LANE_TABLES: [Table; 11] = [
+    (Asks::Ints, LINES, lanes::INTEGERS),
+    (Asks::Planes, LINES, lanes::PLANES),
+    (Asks::Matrices, LINES, lanes::MATRICES),
+    (Asks::Words, LINES, lane_words::WORDS),
+    (Asks::Codes, LINES, machine::CODES),
+    (Asks::Carries, LINES, machine::CARRIES),
+    (Asks::Batches, BATCHES, batches::BATCHES),
+    (Asks::Cycles, LINES, cycles::CYCLES),
+    (Asks::Plans, LINES, pool::PLANS),
+    (Asks::Claims, LINES, pool::CLAIMS),
+    (Asks::Shares, LINES, pool::SHARES),
+];
+
+/// Trace texts.
+static TRACE_TABLES: [Table; 5] = [
+    (Asks::Readings, LINES, readings::READINGS),
+    (Asks::Orders, LINES, readings::ORDERS),
+    (Asks::Bits, LINES, readings::BITS),
+    (Asks::Bits, LINES, readings::TRUTHS),
+    (Asks::Parted, LINES, readings::PARTS),
+];
+
+/// Cases, and runs of the program.
+static CASE_TABLES: [Table; 9] = [
+    (Asks::Programs(programs::MAIN), LINES, programs::RULES),
+    (
+        Asks::Programs(programs::CLOCKED),
+        LINES,
+        programs::STATEMENTS,
+    ),
+    (Asks::Programs(programs::PLAIN), TEXTS, programs::TRACES),
+    (Asks::Cases, CASES, runs::REPORTS),
+    (Asks::Cases, CASES, runs::REFUSALS),
+    (Asks::Cases, CASES, forms::FORMS),
+    (Asks::Cases, CASES, random::PROGRAMS),
+    (Asks::Spreads, SPREADS, pool::SPREADS),
+    (Asks::Runs, TEXTS, commands::RUNS),
+];
 
 /// The turns of `a@` from a first number to an end, one after the other.
 fn push_turns(row: &mut String, first: u32, end: u32, turn: &str) -> Result<(), AllocError> {
@@ -153,7 +229,7 @@ pub fn write_out(row: &mut String, short: &str) -> Result<bool, AllocError> {
 /// What is answered on what a row asks.
 fn push_answer<R: Runtime + AllocGlobal + Threads + Sync>(
     rt: &R,
-    asks: &Asks<'_>,
+    asks: Asks<'_>,
     asked: &str,
     said: &mut String,
 ) -> Result<(), AllocError>
@@ -176,7 +252,7 @@ where
         Asks::Orders => readings::push_three(rt.alloc(), asked, said),
         Asks::Bits => readings::push_bits(rt.alloc(), asked, said),
         Asks::Batches => batches::push_lanes_of(rt.alloc(), asked, said),
-        Asks::Parted => readings::push_by_workers(rt, asked, said),
+        Asks::Parted => readings::push_by_workers(rt, rt.alloc(), asked, said),
         Asks::Ints => lanes::push_ints(asked, said),
         Asks::Words => lane_words::push_words(asked, said),
         Asks::Planes => lanes::push_plane(asked, said),
@@ -189,49 +265,85 @@ where
 /// Whether a row is answered as it wants, with the answer. A row without the mark is not.
 fn is_right<R: Runtime + AllocGlobal + Threads + Sync>(
     rt: &R,
-    table: &Table<'_>,
+    table: Table,
     row: &str,
     said: &mut String,
 ) -> Result<bool, AllocError>
 where
     R::File: FileExt + Sync,
 {
+    let (asks, form, _) = table;
     said.clear();
-    let Some((asked, wanted)) = row.rsplit_once(table.mark) else {
+    let Some((asked, wanted)) = row.rsplit_once(form.mark) else {
         return Ok(false);
     };
-    push_answer(rt, &table.asks, asked, said)?;
+    push_answer(rt, asks, asked, said)?;
     Ok(said.as_str() == wanted)
 }
 
-/// Goes over a table, with room for a row and for what is said of it.
-fn check_rows<R: Runtime + AllocGlobal + Threads + Sync + Abort>(
+/// Whether each row of a table is answered as it wants. The first that is not stays in `row`, with
+/// its answer in `said`; a row with a brace without a number of turns is one.
+fn is_answered<R: Runtime + AllocGlobal + Threads + Sync>(
     rt: &R,
-    table: &Table<'_>,
+    table: Table,
     row: &mut String,
     said: &mut String,
-) -> Result<(), AllocError>
+) -> Result<bool, AllocError>
 where
     R::File: FileExt + Sync,
 {
-    for short in table.rows.split(table.between) {
-        let is_whole = write_out(row, short)?;
-        assert!(rt; is_whole, "{short}: a brace without a number of turns");
-        let is_right = is_right(rt, table, row.as_str(), said)?;
-        assert!(rt; is_right, "{row}, and not: {said}");
+    let (_, form, rows) = table;
+    for short in rows.split(form.between) {
+        if !write_out(row, short)? || !is_right(rt, table, row.as_str(), said)? {
+            return Ok(false);
+        }
     }
-    Ok(())
+    Ok(true)
 }
 
-/// Asks each row of a table, and fails at the first that is answered otherwise.
-pub fn check<R: Runtime + AllocGlobal + Threads + Sync + Abort>(
+/// The first row of some tables that is answered otherwise than it wants, and its answer. Nothing
+/// where there is none.
+fn first_wrong<R: Runtime + AllocGlobal + Threads + Sync>(
     rt: &R,
-    table: &Table<'_>,
-) -> Result<(), AllocError>
+    tables: &[Table],
+) -> Result<String, AllocError>
 where
     R::File: FileExt + Sync,
 {
     let mut row = String::new(rt.alloc());
     let mut said = String::new(rt.alloc());
-    check_rows(rt, table, &mut row, &mut said)
+    for table in tables {
+        if !is_answered(rt, *table, &mut row, &mut said)? {
+            return format!(in rt.alloc(); "{row}, and not: {said}");
+        }
+    }
+    Ok(String::new(rt.alloc()))
+}
+
+#[test]
+fn text_tables(rt: HostRuntime) -> Result<(), AllocError> {
+    let wrong = first_wrong(&rt, &TEXT_TABLES)?;
+    assert!(rt; wrong.is_empty(), "{wrong}");
+    Ok(())
+}
+
+#[test]
+fn lane_tables(rt: HostRuntime) -> Result<(), AllocError> {
+    let wrong = first_wrong(&rt, &LANE_TABLES)?;
+    assert!(rt; wrong.is_empty(), "{wrong}");
+    Ok(())
+}
+
+#[test]
+fn trace_tables(rt: HostRuntime) -> Result<(), AllocError> {
+    let wrong = first_wrong(&rt, &TRACE_TABLES)?;
+    assert!(rt; wrong.is_empty(), "{wrong}");
+    Ok(())
+}
+
+#[test]
+fn case_tables(rt: HostRuntime) -> Result<(), AllocError> {
+    let wrong = first_wrong(&rt, &CASE_TABLES)?;
+    assert!(rt; wrong.is_empty(), "{wrong}");
+    Ok(())
 }
