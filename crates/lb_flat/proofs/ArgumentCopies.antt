@@ -4,18 +4,17 @@ use Rattle.std.proofs.Common.{◌≡◌, ◌&&◌, inl, inr, ℕ, ◌+◌, Bool,
 use Rattle.std.proofs.Common.{None, option_map, List, [], ◌∷◌, ◌++◌, length, map, flat_map, refl}
 use Rattle.std.proofs.Common.{sym, ap, ap₂, ◌∙◌, subst}
 use Rattle.std.specs.Str.{bytes_eq}
-use Rattle.std.proofs.lemmas.List.{length-map}
 use Rattle.std.proofs.lemmas.Slice.Eq.{bytes_eq-Decides}
 use Rattle.std.proofs.lemmas.Option.{same_Some}
 use Rattle.lb_syntax.specs.Lists.{Every, In, all_some, either_or, listed}
 use Rattle.lb_syntax.specs.Tree.{Name, Static, Expr, Literal, Truth, Variable, Group}
 use Rattle.lb_syntax.specs.Tree.{Unary, Binary, If, Arrow, Fby, Pre, Current, When, Replicate}
 use Rattle.lb_syntax.specs.Tree.{Index, Slice, Join, Array, AtMostOne, Nor, Call, Iterate, Exprs}
-use Rattle.lb_syntax.specs.Tree.{Nil, Cons, Declaration, Node}
+use Rattle.lb_syntax.specs.Tree.{Nil, Cons, Declaration}
 use Rattle.lb_syntax.proofs.TruthValues.{and_first, and_second}
 use Rattle.lb_static.specs.DataTypes.{DataType, is_type, are_types, variables}
 use Rattle.lb_static.specs.DataTypes.{variable_type, width}
-use Rattle.lb_static.specs.Instances.{Program, Instance, Path, Child, name_value}
+use Rattle.lb_static.specs.Instances.{Program, Instance, Child, name_value}
 use Rattle.lb_static.specs.StaticValues.{named}
 use Rattle.lb_check.specs.Clocks.{Clock, as_variable, given_inputs, given_outputs, ungrouped}
 use Rattle.lb_check.specs.Occurrences.{call_count}
@@ -32,7 +31,7 @@ use Rattle.lb_flat.specs.Emit.{State, joins, targets, copied, received, emit_nam
 use Rattle.lb_flat.proofs.CallCopies.{Within}
 use Rattle.lb_flat.proofs.OutputWidths.{each, width_of}
 use Rattle.lb_flat.proofs.TypeFacts.{same_count}
-use Rattle.lb_flat.proofs.ReceivedInputs.{copied_append}
+use Rattle.lb_flat.proofs.ReceivedInputs.{copied_append, target_count}
 
 -- ## Copies of several variables
 
@@ -253,10 +252,6 @@ module _ (Y : Layout) (P : Program) (here : Instance) where
       copies = h.copies;
     }
 
-    pub target_count : (n : Node) (p : Path) (x : Name) →
-        length (targets Y n p x) ≡ length (Y.places p x)
-    target_count n p x = length-map (Y.places p x) _
-
     -- the first of some outputs, or a further one
     first_result :
         (d : Declaration) (ds : List Declaration) (y : Name) (xs : List Name) (v : Declaration) →
@@ -320,7 +315,7 @@ module _ (Y : Layout) (P : Program) (here : Instance) where
         let us = flat_map (targets Y here.node here.path) xs in
         let js = flat_map (λ o. Y.places c.path o.name) ds in
         let as_long : length ts ≡ length is =
-        target_count here.node here.path y ∙ own v.value y v.is ∙ sym width_same ∙ sym wide.0 in
+        target_count Y here.node here.path y ∙ own v.value y v.is ∙ sym width_same ∙ sym wide.0 in
         let split : Within Y P cs (copied ts is ++ copied us js) =
         subst (Within Y P cs) (copied_append ts us is js as_long) w in
         first_result d ds y xs v.value v.is width_same x g

@@ -63,9 +63,9 @@ pub bits-follow : (elements : Elements) (word : ℕ) → AreTruths elements
 unfolding row_of_bits
 bits-follow elements word are = lawful-bits elements word 0 are.booleans
 
-truth-of : (b : Bool) → int_le (pos 1) (truth_cell b) ≡ b
-truth-of true = refl
-truth-of false = refl
+pub cell_truth : (b : Bool) → int_le (pos 1) (truth_cell b) ≡ b
+cell_truth true = refl
+cell_truth false = refl
 
 module _ (elements : Elements) (word : ℕ) (are : AreTruths elements)
     (small : word < 2 ^ length elements) where
@@ -88,7 +88,7 @@ module _ (elements : Elements) (word : ℕ) (are : AreTruths elements)
       sym (ap (λ j. int_le (pos 1) (get_or row j (pos 0))) column
       ∙ ap (int_le (pos 1))
       (get_or-map-range_with_len (bit_cell word) 0 (length elements) b b (pos 0) l (omega arith))
-      ∙ truth-of (bit_at word b == 1))
+      ∙ cell_truth (bit_at word b == 1))
 
   bit-past : (b : ℕ) → length elements ≤ b → (bit_at word b == 1) ≡ truth_in row columns b
   bit-past b le =

@@ -16,10 +16,10 @@ use Rattle.lb_static.specs.declared.table.Table.{Table}
 use Rattle.lb_flat.specs.ClockUses.{is_among, clocks_named, clock_numbers, flagged, flagged_below}
 use Rattle.lb_flat.specs.ClockUses.{HasFlags}
 use Rattle.lb_flat.specs.Emit.{State, Emitted, gives}
-use Rattle.lb_flat.specs.EmitRows.{node_in}
 use Rattle.lb_flat.specs.EmitTerms.{Context}
 use Rattle.lb_flat.specs.EmitWhole.{clocks_in, row_clocks}
 use Rattle.lb_flat.specs.TermEmissions.{onto}
+use Rattle.lb_flat.specs.TableClocks.{node_at}
 use Rattle.lb_flat.proofs.EmittedCalls.{range_last, putting_more}
 
 -- ## Numbers that pass a test
@@ -99,7 +99,7 @@ module _ (r : Reached) (t : Table) (cs : ℕ → Context) where
   -- those of a row whose node is found
   pub clocks_found :
       (j : ℕ) (i : row.Instance) (n : ResolvedNode) (ctx : Context) (flags : List Bool) →
-      node_in r t i ≡ Some n → ctx ≡ cs j →
+      node_at r t i ≡ Some n → ctx ≡ cs j →
       HasFlags (length n.variables.items) (clocks_named n) flags →
       flat_map ctx.places (flagged flags) ≡ clocks_in cs r t j i
   clocks_found j i n ctx flags e at h =

@@ -3,15 +3,14 @@
 use Rattle.std.proofs.Common.{◌≡◌, ◌<◌, ℕ, ◌+◌, List, [], ◌++◌, length, drop, get_or, Vec, Box}
 use Rattle.std.proofs.Common.{Global, refl, sym, ap, ◌∙◌, inl, inr}
 use Rattle.std.proofs.lemmas.List.{drop_more, append_assoc, append-nil}
-use mathlib.Core.Former.{Count}
 use Rattle.lb_syntax.specs.declared.tree.ArrayIterator.{ArrayIterator}
 use Rattle.lb_syntax.specs.declared.tree.BinaryOperator.{BinaryOperator}
 use Rattle.lb_static.specs.declared.resolved.CallId.{CallId}
 use Rattle.lb_static.specs.declared.resolved.StaticId.{StaticId}
 use Rattle.lb_static.specs.declared.resolved.Term.{Term, If}
 use Rattle.lb_static.specs.declared.resolved.Term.{Array, AtMostOne, Nor, Call, IterateNode}
-use Rattle.lb_static.specs.declared.resolved.Term.{IterateSymbol, Array', AtMostOne', Nor', Call'}
-use Rattle.lb_static.specs.declared.resolved.Term.{IterateNode', IterateSymbol', Row_of-Term}
+use Rattle.lb_static.specs.declared.resolved.Term.{IterateSymbol}
+use Rattle.lb_static.specs.declared.resolved.Term.{Row_of-Term}
 use Rattle.lb_static.specs.declared.resolved.Term.{end_of-Term, more_of-Term, items-the_row-Term}
 use Rattle.lb_static.specs.declared.resolved.Term.{items_hidden-the_row-Term-0}
 use Rattle.lb_flat.specs.Emit.{State, Emitted, gives}
@@ -19,7 +18,8 @@ use Rattle.lb_flat.specs.EmitTerms.{Context, Place, PlacedEmitted, placed, next_
 use Rattle.lb_flat.specs.EmitTerms.{row_place, choose, with_one, with_two, with_all, emit_term}
 use Rattle.lb_flat.specs.EmitTerms.{emit_row, emit_list}
 use Rattle.lb_flat.specs.TermEmissions.{onto}
-use Rattle.lb_flat.specs.TermForms.{IsSingle, IsPair, IsRow}
+use Rattle.lb_static.specs.TermForms.{IsSingle, IsPair, IsRow}
+use Rattle.lb_check.proofs.TypeRows.{row_in}
 
 -- ## One operand, and two
 
@@ -69,15 +69,6 @@ list_of_row ctx at s n (more_of-Term e rest) =
     ap (λ (r : PlacedEmitted).
     placed r.place (gives r.emitted.state (x.emitted.found ++ r.emitted.found)))
     (list_of_row ctx x.place x.emitted.state _ rest)
-
-abbrev row_in : Term → (n : Count) × Row_of-Term n
-row_in (Array' _ row) = (_, row)
-row_in (AtMostOne' _ row) = (_, row)
-row_in (Nor' _ row) = (_, row)
-row_in (Call' _ _ row) = (_, row)
-row_in (IterateNode' _ _ _ row) = (_, row)
-row_in (IterateSymbol' _ _ _ _ row) = (_, row)
-row_in _ = (_, end_of-Term)
 
 -- what a row emits, under what its term does with it
 row_is :

@@ -16,13 +16,13 @@ use Rattle.lb_static.specs.declared.table.Instance as row
 use Rattle.lb_static.specs.declared.table.Table.{Table}
 use Rattle.lb_flat.specs.declared.expansion.start.Start.{Start}
 use Rattle.lb_flat.specs.Emit.{State, Emitted, Target, gives, copied, from_inputs}
-use Rattle.lb_flat.specs.EmitRows.{node_in}
 use Rattle.lb_flat.specs.EmitTerms.{Context}
 use Rattle.lb_flat.specs.EmitWhole.{input_of, variable_targets, parameter_targets, is_start}
 use Rattle.lb_flat.specs.EmitWhole.{start_of, start_from}
 use Rattle.lb_flat.specs.Flat.{FlatClock, FlatEquation}
 use Rattle.lb_flat.specs.Frames.{targets_of, with_copies}
 use Rattle.lb_flat.specs.TermEmissions.{onto}
+use Rattle.lb_flat.specs.TableClocks.{node_at}
 use Rattle.lb_flat.proofs.EmittedCalls.{range_last, range_rest, range_done, copying_more}
 use Rattle.lb_flat.proofs.EmittedCalls.{copying_ends, copied_append, skipped}
 
@@ -188,27 +188,27 @@ module _ (r : Reached) (t : Table) (b : Bool) where
       (is : List row.Instance) (j : ℕ) (d : row.Instance) → j < length is →
       start_from r t b j (drop j is)
       ≡ (if is_start b (get_or is j d).origin
-      then option_map (start_of j) (node_in r t (get_or is j d))
+      then option_map (start_of j) (node_at r t (get_or is j d))
       else start_from r t b (j + 1) (drop (j + 1) is))
   unfolding start_from
   start_more is j d lt =
       let next : suc j ≡ j + 1 = omega arith in
       let i = get_or is j d in
       ap (start_from r t b j) (drop_more is j d lt)
-      ∙ ap (λ k. if is_start b i.origin then option_map (start_of j) (node_in r t i)
+      ∙ ap (λ k. if is_start b i.origin then option_map (start_of j) (node_at r t i)
       else start_from r t b k (drop (j + 1) is)) next
 
   start_next : (is : List row.Instance) (j : ℕ) (i d : row.Instance) (c : Bool) → j < length is →
       i ≡ get_or is j d → is_start b i.origin ≡ c →
       start_from r t b j (drop j is)
-      ≡ (if c then option_map (start_of j) (node_in r t i)
+      ≡ (if c then option_map (start_of j) (node_at r t i)
       else start_from r t b (j + 1) (drop (j + 1) is))
   start_next is j i d c lt e h =
       start_more is j d lt
       ∙ (ap (λ (i : row.Instance). if is_start b i.origin
-      then option_map (start_of j) (node_in r t i)
+      then option_map (start_of j) (node_at r t i)
       else start_from r t b (j + 1) (drop (j + 1) is)) (sym e)
-      ∙ ap (λ c. if c then option_map (start_of j) (node_in r t i)
+      ∙ ap (λ c. if c then option_map (start_of j) (node_at r t i)
       else start_from r t b (j + 1) (drop (j + 1) is)) h)
 
   -- a row that starts nothing
@@ -223,7 +223,7 @@ module _ (r : Reached) (t : Table) (b : Bool) where
   pub start_here :
       (is : List row.Instance) (j : ℕ) (i d : row.Instance) (o : Option ResolvedNode)
       (whole : Option Start) → j < length is → i ≡ get_or is j d →
-      is_start b i.origin ≡ true → node_in r t i ≡ o → start_from r t b j (drop j is) ≡ whole →
+      is_start b i.origin ≡ true → node_at r t i ≡ o → start_from r t b j (drop j is) ≡ whole →
       option_map (start_of j) o ≡ whole
   start_here is j i d o whole lt e h found all =
       sym (start_next is j i d true lt e h ∙ ap (option_map (start_of j)) found) ∙ all

@@ -19,7 +19,7 @@ use Rattle.lb_flat.specs.TermEmissions.{onto, above, on_top, on_two, pushed}
 use Rattle.lb_flat.proofs.EmittedNumbers.{next_grows, list_grows, one_grows, two_grows, all_grows}
 use Rattle.lb_flat.proofs.EmittedNumbers.{add_grows, next_of_add}
 use Rattle.lb_flat.proofs.EmittedPlaces.{IsNotAfter, place_grows, list_later, same_place}
-use Rattle.lb_flat.specs.TermForms.{IsSingle, IsPair, IsRow}
+use Rattle.lb_static.specs.TermForms.{IsSingle, IsPair, IsRow}
 use Rattle.lb_flat.proofs.EmittedRows.{emitted_single, emitted_pair, emitted_if, emitted_all}
 use Rattle.lb_flat.proofs.EmittedRows.{listed_onto, listed_more}
 use Rattle.lb_flat.proofs.EmittedStacks.{on_top_onto, on_two_onto}

@@ -37,7 +37,7 @@ use Rattle.lb_flat.specs.ClockUses.{clocks_named, is_among, clock_numbers}
 use Rattle.lb_flat.specs.Emit.{State, Target, targets, copied, received, from_inputs, given_inputs}
 use Rattle.lb_flat.specs.Emit.{observed, property_places}
 use Rattle.lb_flat.specs.Emit.{clock_places, before_instances, emit_instances, expanded}
-use Rattle.lb_flat.specs.EmitRows.{node_in, bodies}
+use Rattle.lb_flat.specs.EmitRows.{bodies}
 use Rattle.lb_flat.specs.EmitTerms.{Context, emit_rows}
 use Rattle.lb_flat.specs.EmitWhole.{variable_targets, parameter_targets, places_from, is_start}
 use Rattle.lb_flat.specs.EmitWhole.{start_of, start_from, start_in, given_at, observed_at}
@@ -49,6 +49,7 @@ use Rattle.lb_flat.specs.FurtherKinds.{kinds_from}
 use Rattle.lb_flat.specs.Judging.{FlatProgram}
 use Rattle.lb_flat.specs.Layouts.{Layout, flat_clock}
 use Rattle.lb_flat.specs.NumberedLayouts.{layout}
+use Rattle.lb_flat.specs.TableClocks.{node_at}
 use Rattle.lb_flat.proofs.ObserverWidths.{observer_wide}
 use Rattle.lb_flat.proofs.Placing.{AreAsWide}
 use Rattle.lb_flat.proofs.PropertyOutput.{property_of}
@@ -135,15 +136,15 @@ module _ (r : Reached) (t : Table) (b : Bool) where
     first : row.Instance
     stands : slice_get is place ≡ Some first
     starts : is_start b first.origin ≡ true
-    found : start_from r t b j is ≡ option_map (start_of (j + place)) (node_in r t first)
+    found : start_from r t b j is ≡ option_map (start_of (j + place)) (node_at r t first)
 
   step_start : (j : ℕ) (x : row.Instance) (is : List row.Instance) (c : Bool) →
       is_start b x.origin ≡ c →
       start_from r t b j (x ∷ is)
-      ≡ (if c then option_map (start_of j) (node_in r t x) else start_from r t b (suc j) is)
+      ≡ (if c then option_map (start_of j) (node_at r t x) else start_from r t b (suc j) is)
   unfolding start_from
   step_start j x is c e =
-      ap (λ c. if c then option_map (start_of j) (node_in r t x)
+      ap (λ c. if c then option_map (start_of j) (node_at r t x)
       else start_from r t b (suc j) is) e
 
   end_start : (j : ℕ) → start_from r t b j [] ≡ None
@@ -159,7 +160,7 @@ module _ (r : Reached) (t : Table) (b : Bool) where
         first = x;
         stands = refl;
         starts = e;
-        found = step_start j x is true e ∙ ap (λ m. option_map (start_of m) (node_in r t x)) same;
+        found = step_start j x is true e ∙ ap (λ m. option_map (start_of m) (node_at r t x)) same;
       }
 
   or_later : (j : ℕ) (x : row.Instance) (is : List row.Instance) (c : Bool) →
@@ -173,7 +174,7 @@ module _ (r : Reached) (t : Table) (b : Bool) where
         stands = h.stands;
         starts = h.starts;
         found = step_start j x is false e ∙ (h.found
-            ∙ ap (λ m. option_map (start_of m) (node_in r t h.first)) next);
+            ∙ ap (λ m. option_map (start_of m) (node_at r t h.first)) next);
       }
 
   first_start :
@@ -223,7 +224,7 @@ module _ (P : Program) (r : Reached) (t : Table) (reached : IsReached P r)
 
   -- the node of a row is found
   pub node_found : (k : ℕ) (i : row.Instance) (here : Instance) (is : IsRow P r t table k i here) →
-      node_in r t i ≡ Some is.node
+      node_at r t i ≡ Some is.node
   node_found k i here is =
       ap (λ o. o >>= λ s. slice_get r.nodes.items s.node.0) is.specialized ∙ is.resolved
 

@@ -12,10 +12,11 @@ use Rattle.lb_static.specs.declared.table.Instance as row
 use Rattle.lb_static.specs.declared.table.Table.{Table}
 use Rattle.lb_check.proofs.Every.{Every-first, Every-second}
 use Rattle.lb_flat.specs.Emit.{State}
-use Rattle.lb_flat.specs.EmitRows.{node_in, with_body, body_in, bodies, IsCounted}
+use Rattle.lb_flat.specs.EmitRows.{with_body, body_in, bodies, IsCounted}
 use Rattle.lb_flat.specs.EmitTerms.{Context, Place, PlacedState, first_place, emit_statement}
 use Rattle.lb_flat.specs.EmitTerms.{emit_statements, emit_rows}
 use Rattle.lb_flat.specs.Frames.{HasPlaces, placed_state}
+use Rattle.lb_flat.specs.TableClocks.{node_at}
 use Rattle.lb_flat.proofs.EmittedNumbers.{statements_grow, rows_grow}
 use Rattle.lb_flat.proofs.EmittedPlaces.{IsNotAfter, place_grows, then_later}
 use Rattle.lb_flat.proofs.EmittedWalks.{places_before}
@@ -202,26 +203,26 @@ module _ (r : Reached) (t : Table) (cs : ℕ → Context) where
   -- the statements of a row whose node is found
   found_body :
       (j : ℕ) (i : row.Instance) (n : ResolvedNode) (ctx : Context)
-      (xs : List ResolvedStatement) → node_in r t i ≡ Some n → ctx ≡ cs j →
+      (xs : List ResolvedStatement) → node_at r t i ≡ Some n → ctx ≡ cs j →
       xs ≡ n.body.items → body_in r t cs j i ≡ one_body ctx xs
   found_body j i n ctx xs e at is =
       ap (listed (with_body (cs j))) e ∙ sym (ap₂ one_body at is)
 
   pub row_is :
       (s : State) (j : ℕ) (i : row.Instance) (n : ResolvedNode) (ctx : Context)
-      (xs : List ResolvedStatement) → node_in r t i ≡ Some n → ctx ≡ cs j →
+      (xs : List ResolvedStatement) → node_at r t i ≡ Some n → ctx ≡ cs j →
       xs ≡ n.body.items →
       emit_rows s (body_in r t cs j i) ≡ (emit_statements ctx first_place s xs).state
   row_is s j i n ctx xs e at is =
       ap (emit_rows s) (found_body j i n ctx xs e at is) ∙ one_row s ctx xs
 
-  pub row_none : (s : State) (j : ℕ) (i : row.Instance) → node_in r t i ≡ None →
+  pub row_none : (s : State) (j : ℕ) (i : row.Instance) → node_at r t i ≡ None →
       emit_rows s (body_in r t cs j i) ≡ s
   row_none s j i e = ap (λ o. emit_rows s (listed (with_body (cs j)) o)) e ∙ no_row s
 
   pub row_places :
       (s : State) (j : ℕ) (i : row.Instance) (n : ResolvedNode) (ctx : Context)
-      (xs : List ResolvedStatement) → node_in r t i ≡ Some n → ctx ≡ cs j →
+      (xs : List ResolvedStatement) → node_at r t i ≡ Some n → ctx ≡ cs j →
       xs ≡ n.body.items → Every IsCounted (body_in r t cs j i) →
       HasPlaces (emit_statements ctx first_place s xs).place
   row_places s j i n ctx xs e at is h =

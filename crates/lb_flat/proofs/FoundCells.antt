@@ -27,6 +27,7 @@ use Rattle.lb_flat.proofs.Storing.{count_of, instants_at}
 use Rattle.lb_flat.proofs.KindColumns.{length-places, int_column, bool_column, int_place}
 use Rattle.lb_flat.proofs.KindColumns.{bool_place}
 use Rattle.lb_flat.proofs.HeldRows.{length-kinds, cell_of_row, row_of-held}
+use Rattle.lb_flat.proofs.BitRows.{cell_truth}
 
 -- a Boolean is true where its cell is 1
 pub truth_is : (b : Bool) (v : ℤ) → v ≡ truth_cell b → IsTrue b ↔ (v ≡ pos 1)
@@ -35,10 +36,6 @@ truth_is false v e = (
   λ h. absurd (true≢false (sym h)),
   λ h. absurd (true≢false (sym (ap (int_le (pos 1)) (sym e ∙ h)))),
 )
-
-pub cell_truth : (b : Bool) → int_le (pos 1) (truth_cell b) ≡ b
-cell_truth true = refl
-cell_truth false = refl
 
 -- rows that agree one by one
 ranges_agree :

@@ -7,15 +7,15 @@ use Rattle.std.specs.List.{list_all, range_with_len}
 use Rattle.std.proofs.lemmas.Bool.{cases_lt}
 use Rattle.std.proofs.lemmas.List.{length-map}
 use Rattle.lb_syntax.specs.Lists.{Every, In, listed, holds}
-use Rattle.lb_syntax.specs.Refusals.{E4, E7, E8, E9, E10, E11, unless}
+use Rattle.lb_syntax.specs.Refusals.{E9, E10, E11, unless}
 use Rattle.lb_syntax.specs.Tree.{Name, Declaration}
-use Rattle.lb_syntax.proofs.TruthValues.{and_first, and_second}
+use Rattle.lb_syntax.proofs.TruthValues.{and_first}
 use Rattle.lb_static.specs.DataTypes.{variables, width}
 use Rattle.lb_static.specs.Instances.{Program, Instance, Path, Root, Observer, instance_at}
 use Rattle.lb_static.specs.Instances.{children, instances}
-use Rattle.lb_static.specs.Instantiation.{level, static_refusal, has_no_parameters}
-use Rattle.lb_static.specs.Instantiation.{instantiation_refusal, is_root}
-use Rattle.lb_static.specs.Names.{are_distinct, keeps_names, is_well_founded}
+use Rattle.lb_static.specs.Instantiation.{level, static_refusal}
+use Rattle.lb_static.specs.Instantiation.{is_root}
+use Rattle.lb_static.specs.Names.{are_distinct}
 use Rattle.lb_static.specs.Parts.{left_names, variable_names}
 use Rattle.lb_static.proofs.Members.{in_map}
 use Rattle.lb_check.specs.Acceptance.{check_refusal}
@@ -25,7 +25,7 @@ use Rattle.lb_check.specs.DefinitionRules.{defines_once, is_defined}
 use Rattle.lb_check.specs.Elements.{program_elements}
 use Rattle.lb_check.specs.Solutions.{columns_at}
 use Rattle.lb_check.specs.Streams.{History}
-use Rattle.lb_check.specs.TypeRules.{is_clock_typed, is_statement_typed, is_typed}
+use Rattle.lb_check.specs.TypeRules.{is_typed}
 use Rattle.lb_check.proofs.ApartLists.{Every-at, Every-from}
 use Rattle.lb_check.proofs.Checks.{second_none, kept, instantiation_kept}
 use Rattle.lb_check.proofs.Every.{Every-map, Every-tested, Every-all, Every-append}
@@ -33,6 +33,7 @@ use Rattle.lb_check.proofs.Every.{Every-first, Every-second}
 use Rattle.lb_check.proofs.InstanceNames.{variables_distinct}
 use Rattle.lb_check.proofs.InstancePaths.{path_is}
 use Rattle.lb_check.proofs.SameInstances.{IsEntered, all_entered}
+use Rattle.lb_check.proofs.AcceptedRules.{statements_typed}
 use Rattle.lb_flat.specs.Flat.{FlatEquation, column}
 use Rattle.lb_flat.specs.Flattening.{history_of}
 use Rattle.lb_flat.specs.GivenOnce.{IsGiven}
@@ -56,10 +57,11 @@ use Rattle.lb_flat.proofs.Observing.{all_places}
 use Rattle.lb_flat.proofs.Placing.{AreAsWide}
 use Rattle.lb_flat.proofs.SoundInstances.{body_typed}
 use Rattle.lb_flat.proofs.TypedBodies.{body_wide}
-use Rattle.lb_flat.proofs.WideInstances.{all_typed, calls_wide}
+use Rattle.lb_flat.proofs.WideInstances.{calls_wide}
 use Rattle.lb_flat.proofs.Totals.{total, total-append, total-plus, total-same, total-map}
 use Rattle.lb_flat.proofs.Totals.{total-pieces, times, times_of, of_times, once_apart, range_low}
 use Rattle.lb_flat.proofs.Totals.{range_high, range_once, same_sums}
+use Rattle.lb_flat.proofs.PropertyOutput.{rooted}
 
 -- ## Further elements
 
@@ -186,22 +188,17 @@ module _ (P : Program) (accepted : static_refusal P ≡ None) (checked : check_r
   low = Every-map (IsEntered P) _ (λ c h. h.0) (instances P)
       (all_entered P 0 (instances P) (instantiation_kept P accepted))
 
-  typed_at : (here : Instance) → In here (instances P) →
-      list_all (is_statement_typed P here) here.node.body ≡ true
-  typed_at here j =
-      and_second (list_all (is_clock_typed P here) (variables here.node)) _
-      (Every-at (λ here. is_typed P here ≡ true) (instances P) here (all_typed P checked) j)
-
   module _ (i : ℕ) where
     ready : Every (IsReady Y P H same i) (instances P)
     ready =
         Every-from (IsReady Y P H same i) (instances P) (λ here j.
         let of_calls = calls_wide P accepted H wide here j in
         let own = wide here j in
+        let typed = statements_typed P checked here j in
         record {
           variables = own;
-          wide = body_wide P H here own 0 here.node.body (typed_at here j) of_calls;
-          typed = body_typed Y P H here own 0 here.node.body (typed_at here j) of_calls;
+          wide = body_wide P H here own 0 here.node.body typed of_calls;
+          typed = body_typed Y P H here own 0 here.node.body typed of_calls;
         })
 
     -- ## Sums over instances
@@ -221,7 +218,7 @@ module _ (P : Program) (accepted : static_refusal P ≡ None) (checked : check_r
         (variables_distinct P accepted) j)
         (and_first (defines_once here.node) _
         (Every-at (λ here. is_defined P here.node ≡ true) (instances P) here defined j))
-        (lefts_known P here here.node.body (typed_at here j)))
+        (lefts_known P here here.node.body (statements_typed P checked here j)))
 
     abbrev starts : Option Instance → ℕ
     starts o = total (in_inputs Y i) (listed (λ c. c ∷ []) o)
@@ -294,14 +291,6 @@ module _ (P : Program) (accepted : static_refusal P ≡ None) (checked : check_r
         none_more : (m : ℕ) → m ≡ m + 0
         none_more m = omega arith
 
-  rooted : holds (is_root P) (instance_at P Root) ≡ true
-  rooted =
-      let founded = second_none (unless (keeps_names P) E4) _ accepted in
-      let parameters = second_none (unless (is_well_founded P) E7) _ founded in
-      let instantiated = second_none (unless (has_no_parameters P) E8) _ parameters in
-      kept (holds (is_root P) (instance_at P Root)) E8
-      (second_none (instantiation_refusal P 0 (instances P)) _ instantiated)
-
   -- ## All equations
 
   abbrev final : State
@@ -327,7 +316,8 @@ module _ (P : Program) (accepted : static_refusal P ≡ None) (checked : check_r
       ∙ none_before (total (in_instance Y P i) (instances P)) in
       ap₂ (λ a b. a + b) (root_given i (instance_at P Root) refl)
       (ap₂ (λ a b. a + b)
-      (observer_given i (instance_at P Root) (instance_at P Observer) refl rooted observer_wide)
+      (observer_given i (instance_at P Root) (instance_at P Observer) refl
+      (rooted P accepted) observer_wide)
       copied)
       ∙ (sym (places_are i) ∙ ap (times i) (places_walk P accepted))
 

@@ -9,6 +9,7 @@ use Rattle.lb_syntax.specs.declared.tree.ArrayIterator.{ArrayIterator}
 use Rattle.lb_syntax.specs.declared.tree.ArrayIterator.TheVariants.{Map, Red, Fill}
 use Rattle.lb_syntax.specs.Lists.{part, tail_of}
 use Rattle.lb_syntax.specs.Tree.{Name, Exprs, Declaration, Node}
+use Rattle.lb_syntax.proofs.ListPlaces.{heads_same, tails_same}
 use Rattle.lb_static.specs.Instances.{Program, Instance, Path, Child}
 use Rattle.lb_check.specs.Scalars.{Stream}
 use Rattle.lb_check.specs.Clocks.{Clock, base_clock, declared_clock}
@@ -26,12 +27,6 @@ use Rattle.lb_flat.proofs.Lists.{Every-of_range, Every-range}
 use Rattle.lb_flat.proofs.Placing.{Agrees, AreAsWide, IsCalleePlaced, IsCallPlaced}
 use Rattle.lb_flat.proofs.Placing.{IsIteratorPlaced, presence_flat}
 use Rattle.lb_flat.proofs.Adding.{IsMet, columns, AllMet}
-
-firsts_equal : (x y : Stream) (xs ys : List Stream) → x ∷ xs ≡ y ∷ ys → x ≡ y
-firsts_equal x y xs ys e = cc
-
-rests_equal : (x y : Stream) (xs ys : List Stream) → x ∷ xs ≡ y ∷ ys → xs ≡ ys
-rests_equal x y xs ys e = cc
 
 -- ## Copies
 
@@ -55,7 +50,7 @@ module _ (X : Inputs) (F : List Stream) where
   copied_holds [] js e = tt
   copied_holds (t ∷ ts) [] e = tt
   copied_holds (t ∷ ts) (j ∷ js) e =
-      ((firsts_equal _ _ _ _ e, tt), copied_holds ts js (rests_equal _ _ _ _ e))
+      ((heads_same _ _ _ _ e, tt), copied_holds ts js (tails_same _ _ _ _ e))
 
   part_natural :
       (n i : ℕ) (is : List ℕ) → columns X F (part n i is) ≡ part n i (columns X F is)

@@ -9,6 +9,7 @@ use Rattle.lb_syntax.specs.declared.tree.ArrayIterator.TheVariants.{Map, Red, Fi
 use Rattle.lb_syntax.specs.Lists.{Every, part, all_some, where_true}
 use Rattle.lb_syntax.specs.Tree.{Name, Static, Node_named, Call, Iterate, Exprs, Declaration, Node}
 use Rattle.lb_syntax.proofs.TruthValues.{and_first, and_second}
+use Rattle.lb_syntax.proofs.ListPlaces.{heads_same, tails_same}
 use Rattle.lb_static.specs.Instances.{Program, Instance, Child, static_count, node_named}
 use Rattle.lb_static.specs.DataTypes.{DataType, width, variable_type, element_count, is_type}
 use Rattle.lb_static.specs.DataTypes.{are_types}
@@ -25,7 +26,7 @@ use Rattle.lb_flat.proofs.Placing.{AreAsWide}
 use Rattle.lb_flat.proofs.TypeFacts.{bound, are_counts, same_count, array_count}
 use Rattle.lb_flat.proofs.OutputWidths.{each, width_of, length-index}
 use Rattle.lb_flat.proofs.Widths.{called, Placed, placed, AreVariablesWide, IsCalleeWide}
-use Rattle.lb_flat.proofs.Widths.{IsOccurrenceWide, number_is, same_first, same_rest, all_wide}
+use Rattle.lb_flat.proofs.Widths.{IsOccurrenceWide, number_is, all_wide}
 use Rattle.lb_flat.proofs.Widths.{outputs_at}
 use Rattle.lb_flat.proofs.TypedBodies.{arguments_wide, inputs_as_wide}
 
@@ -184,11 +185,11 @@ module _ (P : Program) (H : History) (here : Instance)
       let out = same_count a u (and_first (is_type a u) (is_type a t && arrays) fit.holds) in
       let initial = same_count a t (and_first (is_type a t) arrays inner) in
       let counts = are_counts wanted.value args (and_second (is_type a t) arrays inner) in
-      let first : length x ≡ element_count t = same_first P H here _ _ _ _ h in
+      let first : length x ≡ element_count t = heads_same _ _ _ _ h in
       ap₂ (λ l ls. l ∷ ls)
       (accumulator_wide P c outputs n i lt ds u [] x (first ∙ sym initial ∙ out) w o ∙ sym out)
       (parts_wide n i lt ins wanted.value xsss wanted.is
-      (same_rest P H here _ _ _ _ h ∙ sym counts))
+      (tails_same _ _ _ _ h ∙ sym counts))
   inputs_of_instance c outputs n i lt Fill ds [] outs args ts xsss w o e h = cc
   inputs_of_instance c outputs n i lt Fill ds (a ∷ (b ∷ ins)) outs args ts xsss w o e h = cc
   inputs_of_instance c outputs n i lt Fill ds (a ∷ []) [] args ts xsss w o e h = cc
@@ -205,7 +206,7 @@ module _ (P : Program) (H : History) (here : Instance)
       let fit = truly (is_type a u && is_type a t) (u ∷ arrays.value) ts arrays.gives in
       let out = same_count a u (and_first (is_type a u) (is_type a t) fit.holds) in
       let initial = same_count a t (and_second (is_type a u) (is_type a t) fit.holds) in
-      let first : length x ≡ element_count t = same_first P H here _ _ _ _ h in
+      let first : length x ≡ element_count t = heads_same _ _ _ _ h in
       ap (λ l. l ∷ [])
       (accumulator_wide P c outputs n i lt ds u (v ∷ us) x (first ∙ sym initial ∙ out) w o
       ∙ sym out)

@@ -143,10 +143,10 @@ module _ (Y : Layout) where
   abbrev own_targets : FlatClock → List ℕ → List Target
   own_targets k is = map (λ i. record { place = i; clock = k }) is
 
-  targets_many :
+  pub target_count :
       (callee : Node) (p : Path) (x : Name) →
       length (targets Y callee p x) ≡ length (Y.places p x)
-  targets_many callee p x =
+  target_count callee p x =
       length-map (Y.places p x)
       (λ i. let t : Target = record {
         place = i;
@@ -163,7 +163,7 @@ module _ (Y : Layout) where
   received_joined callee p (d ∷ ds) [] e = cc
   received_joined callee p (d ∷ ds) (is ∷ iss) e =
       copied_append (targets Y callee p d.name) (inputs_at callee p ds) is (joined iss)
-      (targets_many callee p d.name ∙ sym (heads_same _ _ _ _ e))
+      (target_count callee p d.name ∙ sym (heads_same _ _ _ _ e))
       ∙ ap (λ (qs : List FlatEquation). copied (targets Y callee p d.name) is ++ qs)
       (received_joined callee p ds iss (tails_same _ _ _ _ e))
 
@@ -250,7 +250,7 @@ module _ (Y : Layout) where
         let first : j + 0 ≡ j = omega arith in
         let is_first = ap (input_targets ctx c i) (sym first) ∙ same 0 d refl in
         let long : length is ≡ m * length ts =
-        heads_same _ _ _ _ e ∙ ap (λ w. m * w) (sym (targets_many callee (at i) d.name)) in
+        heads_same _ _ _ _ e ∙ ap (λ w. m * w) (sym (target_count callee (at i) d.name)) in
         let rest = range_with_len (j + 1) (length ds) in
         ap (λ (ts : List Target).
         copied ts (drop (length ts * i) (is ++ joined iss))
@@ -298,7 +298,7 @@ module _ (Y : Layout) where
     index_received m i lt Red (d ∷ ds) (o ∷ outs) (is ∷ iss) many given gives fed first =
         let ts = targets Y callee (at i) d.name in
         let init = accumulated (λ j x. Y.places (at j) x) (o ∷ outs) is i in
-        let long : length is ≡ length ts = fed.0 ∙ sym (targets_many callee (at i) d.name) in
+        let long : length is ≡ length ts = fed.0 ∙ sym (target_count callee (at i) d.name) in
         let others : own.parameters.inputs - 1 ≡ length ds = omega (arith, many) in
         ap (λ (ts : List Target).
         copied ts (accumulator ctx c own.parameters i (is ++ joined iss))
@@ -325,7 +325,7 @@ module _ (Y : Layout) where
         ap (λ (ts : List Target). copied ts (accumulator ctx c own.parameters i (is ++ [])))
         (given 0 d refl)
         ∙ accumulator_received i ts o outs is []
-        (fed ∙ sym (targets_many callee (at i) d.name)) (λ j. gives j o refl)
+        (fed ∙ sym (target_count callee (at i) d.name)) (λ j. gives j o refl)
         ∙ sym (copied_end (copied ts init))
 
     first_output :

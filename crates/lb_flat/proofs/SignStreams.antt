@@ -35,11 +35,12 @@ use Rattle.lb_flat.specs.Emit.{Target, targets, copied, received, call_copies, e
 use Rattle.lb_flat.specs.NumberedLayouts.{layout}
 use Rattle.lb_flat.proofs.Adding.{columns}
 use Rattle.lb_flat.proofs.ArgumentCopies.{IsArgument, IsResult, argument_copied, result_copied}
-use Rattle.lb_flat.proofs.ArgumentCopies.{call_found, grouped_found, target_count}
+use Rattle.lb_flat.proofs.ArgumentCopies.{call_found, grouped_found}
 use Rattle.lb_flat.proofs.CallCopies.{Within, HasCopies, IsCopied, IsLeftCopied}
 use Rattle.lb_flat.proofs.Joining.{targeted}
 use Rattle.lb_flat.proofs.Lists.{map-maps}
 use Rattle.lb_flat.proofs.NumberedPlaces.{places_width, places_nowhere, signs_nowhere, signs_are}
+use Rattle.lb_flat.proofs.ReceivedInputs.{target_count}
 
 module _ (P : Program) (accepted : static_refusal P ≡ None) (checked : check_refusal P ≡ None)
     (X : Inputs) (F : List Stream) (cs : List FlatEquation)
@@ -107,7 +108,7 @@ module _ (P : Program) (accepted : static_refusal P ≡ None) (checked : check_r
           ∙ sym (own_count v y is) in
           sym (target_columns c.node c.path x)
           ∙ copied_columns (targets Y c.node c.path x) (Y.places here.path y)
-          (target_count Y P here c cs c.node c.path x ∙ count) h.copies
+          (target_count Y c.node c.path x ∙ count) h.copies
 
       -- an output has those of its left variable
       result_same :
@@ -119,7 +120,7 @@ module _ (P : Program) (accepted : static_refusal P ≡ None) (checked : check_r
           ap (λ z. length (Y.places c.path z)) (sym h.name) ∙ wide ∙ h.wide
           ∙ sym (own_count h.left y h.is_left) in
           sym (copied_columns (targets Y here.node here.path y) (Y.places c.path x)
-          (target_count Y P here c cs here.node here.path y ∙ sym count) h.copies)
+          (target_count Y here.node here.path y ∙ sym count) h.copies)
           ∙ target_columns here.node here.path y
 
   of_argument :

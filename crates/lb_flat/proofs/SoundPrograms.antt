@@ -1,6 +1,6 @@
 -- An accepted program is sound in each history in which the variables of its instances are as wide
 -- as their types, where what is called runs on the clocks of the calls.
-use Rattle.std.proofs.Common.{◌≡◌, ℕ, true, Option, Some, None, IfSome, List, [], ◌∷◌, ◌++◌}
+use Rattle.std.proofs.Common.{◌≡◌, true, Option, Some, None, IfSome, List, [], ◌∷◌, ◌++◌}
 use Rattle.std.proofs.Common.{map, length, refl, sym, ap, ap₂, ◌∙◌, subst}
 use Rattle.std.specs.Prelude.{nat_le}
 use Rattle.std.proofs.lemmas.List.{length-map}
@@ -9,6 +9,7 @@ use Rattle.lb_syntax.specs.Lists.{Every, all_some, holds}
 use Rattle.lb_syntax.specs.Refusals.{E4, E7, E8, unless}
 use Rattle.lb_syntax.specs.Tree.{Declaration}
 use Rattle.lb_syntax.proofs.TruthValues.{and_first, and_second}
+use Rattle.lb_syntax.proofs.ListPlaces.{heads_same, tails_same}
 use Rattle.lb_static.specs.Instances.{Program, Instance, Path, Root, Observer}
 use Rattle.lb_static.specs.Instances.{instance_at, instances}
 use Rattle.lb_static.specs.DataTypes.{DataType, are_types, element_count, variable_type, variables}
@@ -73,12 +74,6 @@ module _ (P : Program) where
       ap₂ (λ n ns. n ∷ ns) (width_of P c d h.first h.is) (widths_are c ds h.rest h.others)
       ∙ sym (ap (map element_count) h.all)
 
-  first_number : (n m : ℕ) (ns ms : List ℕ) → n ∷ ns ≡ m ∷ ms → n ≡ m
-  first_number n m ns ms e = cc
-
-  other_numbers : (n m : ℕ) (ns ms : List ℕ) → n ∷ ns ≡ m ∷ ms → ns ≡ ms
-  other_numbers n m ns ms e = cc
-
   seen_wide :
       (H : History) (o r : Instance) (ds es : List Declaration) →
       map (width P o) ds ≡ map (width P r) es →
@@ -89,8 +84,8 @@ module _ (P : Program) where
   seen_wide H o r [] (e ∷ es) same a b = absurd cc
   seen_wide H o r (d ∷ ds) [] same a b = absurd cc
   seen_wide H o r (d ∷ ds) (e ∷ es) same a b = (
-    a.0 ∙ first_number _ _ _ _ same ∙ sym b.0,
-    seen_wide H o r ds es (other_numbers _ _ _ _ same) a.1 b.1,
+    a.0 ∙ heads_same _ _ _ _ same ∙ sym b.0,
+    seen_wide H o r ds es (tails_same _ _ _ _ same) a.1 b.1,
   )
 
   module _ (elaborated : static_refusal P ≡ None) (H : History)

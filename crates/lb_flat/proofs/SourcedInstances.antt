@@ -1,9 +1,8 @@
 -- In an accepted program whose rules hold, what has to be known of each instance for its copies to
 -- be definitions follows from what is known of its clocks.
-use Rattle.std.proofs.Common.{◌≡◌, ℕ, ◌<◌, ◌≤◌, true, Some, None, List, [], ◌++◌}
+use Rattle.std.proofs.Common.{◌≡◌, ℕ, ◌<◌, ◌≤◌, Some, None, List, [], ◌++◌}
 use Rattle.std.proofs.Common.{length, refl, sym, ◌∙◌}
 use Rattle.std.specs.Prelude.{slice_get}
-use Rattle.std.specs.List.{list_all}
 use Rattle.std.proofs.lemmas.List.{length-map}
 use Rattle.lb_syntax.specs.declared.tree.ArrayIterator.{ArrayIterator}
 use Rattle.lb_syntax.specs.Lists.{Every, In}
@@ -11,7 +10,6 @@ use Rattle.lb_syntax.specs.Tree.{Name, Static, Node_named, Symbol, Expr, Literal
 use Rattle.lb_syntax.specs.Tree.{Group, Unary, Binary, If, Arrow, Fby, Pre, Current, When}
 use Rattle.lb_syntax.specs.Tree.{Replicate, Index, Slice, Join, Array, AtMostOne, Nor, Call}
 use Rattle.lb_syntax.specs.Tree.{Iterate, Exprs}
-use Rattle.lb_syntax.proofs.TruthValues.{and_second}
 use Rattle.lb_static.specs.DataTypes.{variables, width}
 use Rattle.lb_static.specs.Instances.{Program, Instance, Path, Site, call_site, callee_of}
 use Rattle.lb_static.specs.Instances.{node_sites, numbered_sites, children, instances}
@@ -23,13 +21,13 @@ use Rattle.lb_check.specs.Elements.{program_elements}
 use Rattle.lb_check.specs.Needs.{Element}
 use Rattle.lb_check.specs.Occurrences.{Occurrence, at, node_occurrences}
 use Rattle.lb_check.specs.Streams.{History, number}
-use Rattle.lb_check.specs.TypeRules.{is_clock_typed, is_statement_typed, is_typed}
 use Rattle.lb_check.proofs.ApartLists.{Every-at, Every-from}
 use Rattle.lb_check.proofs.Checks.{instantiation_kept}
 use Rattle.lb_check.proofs.DeterminedClocks.{OfCalled}
 use Rattle.lb_check.proofs.Every.{Every-map, Every-both, Every-first}
 use Rattle.lb_check.proofs.OccurrenceSites.{own_site, node_calls}
 use Rattle.lb_check.proofs.SameInstances.{IsEntered, all_entered, all_children, all_called}
+use Rattle.lb_check.proofs.AcceptedRules.{statements_typed}
 use Rattle.lb_flat.specs.Flat.{column}
 use Rattle.lb_flat.specs.Flattening.{history_of}
 use Rattle.lb_flat.specs.Layouts.{Layout, flat_clock}
@@ -42,7 +40,7 @@ use Rattle.lb_flat.proofs.NumberedElements.{elements_numbered, elements_declared
 use Rattle.lb_flat.proofs.NumberedPlaces.{places_width}
 use Rattle.lb_flat.proofs.SoundInstances.{body_typed}
 use Rattle.lb_flat.proofs.TypedParts.{IsTypedAt}
-use Rattle.lb_flat.proofs.WideInstances.{all_typed, calls_wide}
+use Rattle.lb_flat.proofs.WideInstances.{calls_wide}
 use Rattle.lb_flat.proofs.Widths.{AreVariablesWide}
 
 module _ (P : Program) (accepted : static_refusal P ≡ None) (checked : check_refusal P ≡ None)
@@ -207,13 +205,6 @@ module _ (P : Program) (accepted : static_refusal P ≡ None) (checked : check_r
       (node_occurrences P here.node) o (sited here j) i in
       (of_site _ refl).0
 
-  typed_at :
-      (here : Instance) → In here (instances P) →
-      list_all (is_statement_typed P here) here.node.body ≡ true
-  typed_at here j =
-      and_second (list_all (is_clock_typed P here) (variables here.node)) _
-      (Every-at (λ here. is_typed P here ≡ true) (instances P) here (all_typed P checked) j)
-
   -- where the clocks of all occurrences are known, so is what the copies of an instance need
   pub all_sourced :
       ((here : Instance) → In here (instances P) →
@@ -224,7 +215,7 @@ module _ (P : Program) (accepted : static_refusal P ≡ None) (checked : check_r
       let own = wide here j in
       let numbered = elements_numbered P accepted here j in
       let os = node_occurrences P here.node in
-      let of_types = body_typed Y P H here own 0 here.node.body (typed_at here j)
+      let of_types = body_typed Y P H here own 0 here.node.body (statements_typed P checked here j)
       (calls_wide P accepted H wide here j) in
       let passed = λ (o : Occurrence).
       IsPassed Y P H same IsAt Under Left here own numbered o.clock o.calls_before o.expr in
@@ -236,7 +227,7 @@ module _ (P : Program) (accepted : static_refusal P ≡ None) (checked : check_r
       record {
         wide = own;
         numbered = numbered;
-        typed = typed_at here j;
+        typed = statements_typed P checked here j;
         known = Every-map (λ o. IsTypedAt P H here o × (places o × known o))
             (IsKnown Y P H same IsAt Under Left here)
             (λ o h. record {

@@ -6,7 +6,6 @@ use Rattle.std.specs.Prelude.{◌||◌, ◌==◌}
 use Rattle.std.proofs.lemmas.Bool.Decides.{nat_tests}
 use Rattle.std.proofs.lemmas.List.{append_assoc, take_more, length-set, length-replicate}
 use Rattle.std.proofs.lemmas.List.{get_or-set_same, get_or-set_other}
-use mathlib.Core.Former.{Count}
 use Rattle.std.proofs.lemmas.Bool.{eqb-true}
 use Rattle.std.proofs.Math.Bool.{or-true, or-false}
 use Rattle.lb_syntax.specs.declared.tree.UnaryOperator.{UnaryOperator}
@@ -16,12 +15,13 @@ use Rattle.lb_static.specs.declared.resolved.Term.{Term, Group, Unary, If, Pre}
 use Rattle.lb_static.specs.declared.resolved.Term.{Literal, Truth, Variable, Value}
 use Rattle.lb_static.specs.declared.resolved.Term.{Current, When, Replicate, Index, Slice}
 use Rattle.lb_static.specs.declared.resolved.Term.{Array, AtMostOne, Nor, Call, IterateNode}
-use Rattle.lb_static.specs.declared.resolved.Term.{IterateSymbol, Array', AtMostOne', Nor', Call'}
-use Rattle.lb_static.specs.declared.resolved.Term.{IterateNode', IterateSymbol', Row_of-Term}
+use Rattle.lb_static.specs.declared.resolved.Term.{IterateSymbol}
+use Rattle.lb_static.specs.declared.resolved.Term.{Row_of-Term}
 use Rattle.lb_static.specs.declared.resolved.Term.{end_of-Term, more_of-Term, items-the_row-Term}
 use Rattle.lb_static.specs.declared.resolved.Term.{items_hidden-the_row-Term-0}
 use Rattle.lb_flat.specs.ClockUses.{whens_in, whens_in_row, whens_in_all, is_among, HasFlags}
-use Rattle.lb_flat.specs.TermForms.{IsPair, IsRow}
+use Rattle.lb_static.specs.TermForms.{IsPair, IsRow}
+use Rattle.lb_check.proofs.TypeRows.{row_in}
 
 -- ## Names in a term
 
@@ -65,15 +65,6 @@ list_of_row : (n : _) (row : Row_of-Term n) →
 list_of_row n end_of-Term = refl
 list_of_row n (more_of-Term e rest) =
     ap (λ (xs : List ℕ). whens_in e ++ xs) (list_of_row _ rest)
-
-abbrev row_in : Term → (n : Count) × Row_of-Term n
-row_in (Array' _ row) = (_, row)
-row_in (AtMostOne' _ row) = (_, row)
-row_in (Nor' _ row) = (_, row)
-row_in (Call' _ _ row) = (_, row)
-row_in (IterateNode' _ _ _ row) = (_, row)
-row_in (IterateSymbol' _ _ _ _ row) = (_, row)
-row_in _ = (_, end_of-Term)
 
 row_is : (t : Term) (es : Vec Term Global) →
     items-the_row-Term (row_in t).0 (row_in t).1 ≡ es.items →

@@ -6,6 +6,7 @@ use Rattle.std.specs.List.{range_with_len}
 use Rattle.std.proofs.Math.Numerals.{add-one}
 use Rattle.lb_syntax.specs.Lists.{Every}
 use Rattle.lb_syntax.specs.Tree.{Declaration}
+use Rattle.lb_syntax.proofs.ListPlaces.{heads_same, tails_same}
 use Rattle.lb_static.specs.Instances.{Program, Instance, Root, Observer, instance_at, instances}
 use Rattle.lb_static.specs.DataTypes.{input_kinds}
 use Rattle.lb_check.specs.Scalars.{Stream}
@@ -55,12 +56,6 @@ module _ (X : Inputs) (F : List Stream) where
       (from_inputs_sound (suc j) ts h.1
       ∙ ap (λ i. map (column_of X) (range_with_len i (length ts))) e)
 
-  first_equal : (x y : Stream) (xs ys : List Stream) → x ∷ xs ≡ y ∷ ys → x ≡ y
-  first_equal x y xs ys e = cc
-
-  rest_equal : (x y : Stream) (xs ys : List Stream) → x ∷ xs ≡ y ∷ ys → xs ≡ ys
-  rest_equal x y xs ys e = cc
-
   from_inputs_holds :
       (j : ℕ) (ts : List Target) →
       targeted X F ts ≡ map (column_of X) (range_with_len j (length ts)) →
@@ -68,9 +63,9 @@ module _ (X : Inputs) (F : List Stream) where
   from_inputs_holds j [] e = tt
   from_inputs_holds j (t ∷ ts) e =
       let next : j + 1 ≡ suc j = add-one j in (
-        first_equal _ _ _ _ e,
+        heads_same _ _ _ _ e,
         from_inputs_holds (suc j) ts
-            (rest_equal _ _ _ _ e
+            (tails_same _ _ _ _ e
             ∙ ap (λ i. map (column_of X) (range_with_len i (length ts))) next),
       )
 

@@ -17,6 +17,7 @@ use Rattle.lb_syntax.specs.Tree.{Group, Unary, Binary, If, Arrow, Fby, Pre, Curr
 use Rattle.lb_syntax.specs.Tree.{Replicate, Index, Slice, Join, Array, AtMostOne, Nor, Call}
 use Rattle.lb_syntax.specs.Tree.{Iterate, Exprs, Nil, Cons, Declaration, Node}
 use Rattle.lb_syntax.proofs.TruthValues.{and_first, and_second}
+use Rattle.lb_syntax.proofs.ListPlaces.{heads_same, tails_same}
 use Rattle.lb_static.specs.Instances.{Program, Instance, Child, static_count, call_site, callee_of}
 use Rattle.lb_static.specs.Instances.{node_named, name_value}
 use Rattle.lb_static.specs.DataTypes.{DataType, int, truth, variables, width, variable_type}
@@ -148,12 +149,6 @@ module _ (P : Program) (H : History) (here : Instance) where
   only_one n t e = omega (arith, e)
 
   -- the types and the widths of some operands
-  pub same_first : (n m : ℕ) (ns ms : List ℕ) → n ∷ ns ≡ m ∷ ms → n ≡ m
-  same_first n m ns ms e = cc
-
-  pub same_rest : (n m : ℕ) (ns ms : List ℕ) → n ∷ ns ≡ m ∷ ms → ns ≡ ms
-  same_rest n m ns ms e = cc
-
   joined_wide :
       (xsss : List (List Stream)) (ts : List DataType) →
       map length xsss ≡ map element_count ts → length (joined xsss) ≡ elements_in ts
@@ -161,8 +156,8 @@ module _ (P : Program) (H : History) (here : Instance) where
   joined_wide [] (t ∷ ts) e = cc
   joined_wide (xss ∷ xsss) [] e = cc
   joined_wide (xss ∷ xsss) (t ∷ ts) e =
-      let rest = joined_wide xsss ts (same_rest _ _ _ _ e) in
-      let first = same_first _ _ _ _ e in
+      let rest = joined_wide xsss ts (tails_same _ _ _ _ e) in
+      let first = heads_same _ _ _ _ e in
       omega (arith, length-append xss (joined xsss), first, rest)
 
   all_alike :
@@ -272,7 +267,7 @@ module _ (P : Program) (H : History) (here : Instance) where
   zipped op n [] e = cc
   zipped op n (xs ∷ []) e = cc
   zipped op n (xs ∷ (ys ∷ [])) e =
-      length-both _ n xs ys (same_first _ _ _ _ e) (same_first _ _ _ _ (same_rest _ _ _ _ e))
+      length-both _ n xs ys (heads_same _ _ _ _ e) (heads_same _ _ _ _ (tails_same _ _ _ _ e))
   zipped op n (xs ∷ (ys ∷ (zs ∷ xsss))) e = cc
 
   -- an initial value and one operand
@@ -284,7 +279,7 @@ module _ (P : Program) (H : History) (here : Instance) where
   folded op n ((x ∷ []) ∷ []) e = cc
   folded op n ((x ∷ []) ∷ (ys ∷ [])) e = refl
   folded op n ((x ∷ []) ∷ (ys ∷ (zs ∷ xsss))) e = cc
-  folded op n ((x ∷ (y ∷ xs)) ∷ xsss) e = absurd (omega (arith, same_first _ _ _ _ e))
+  folded op n ((x ∷ (y ∷ xs)) ∷ xsss) e = absurd (omega (arith, heads_same _ _ _ _ e))
 
   symbol_wide :
       (op : BinaryOperator) (n : ℕ) (k : DataType) → element_count k ≡ 1 → (it : ArrayIterator)

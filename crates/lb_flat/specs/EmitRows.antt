@@ -1,9 +1,9 @@
 -- The equations that `expand` emits for the rows of the table of instances, in its order.
 -- This file mirrors code (src/expansion/row_emission.rt); no definition of the language stands on
 -- it.
-use Rattle.std.specs.Prelude.{◌≡◌, ℕ, suc, Bool, true, Option, Some, List, [], ◌∷◌, ◌++◌}
+use Rattle.std.specs.Prelude.{◌≡◌, ℕ, suc, Bool, true, Some, List, [], ◌∷◌, ◌++◌}
 use Rattle.std.specs.Prelude.{slice_get}
-use Rattle.lb_syntax.specs.Lists.{◌>>=◌, listed}
+use Rattle.lb_syntax.specs.Lists.{listed}
 use Rattle.lb_static.specs.declared.reach.Reached.{Reached}
 use Rattle.lb_static.specs.declared.resolved.ResolvedNode.{ResolvedNode}
 use Rattle.lb_static.specs.declared.resolved.ResolvedStatement.{ResolvedStatement}
@@ -12,11 +12,7 @@ use Rattle.lb_static.specs.declared.table.Table.{Table}
 use Rattle.lb_flat.specs.Emit.{State}
 use Rattle.lb_flat.specs.EmitTerms.{Context, first_place, emit_statements}
 use Rattle.lb_flat.specs.Frames.{HasPlaces}
-
--- the node of a row
-abbrev pub node_in : Reached → Table → row.Instance → Option ResolvedNode
-node_in r t i =
-    slice_get t.specializations.items i.specialization.0 >>= λ s. slice_get r.nodes.items s.node.0
+use Rattle.lb_flat.specs.TableClocks.{node_at}
 
 -- the statements of a row of this node, with what its numbers stand for
 abbrev pub with_body : Context → ResolvedNode → List (Context × List ResolvedStatement)
@@ -26,7 +22,7 @@ with_body ctx n = (ctx, n.body.items) ∷ []
 abbrev pub body_in :
     Reached → Table → (ℕ → Context) → ℕ → row.Instance →
     List (Context × List ResolvedStatement)
-body_in r t cs j i = listed (with_body (cs j)) (node_in r t i)
+body_in r t cs j i = listed (with_body (cs j)) (node_at r t i)
 
 -- of these rows, the first of which has this number
 unfoldable pub bodies :
@@ -41,7 +37,7 @@ IsCounted row = (s : State) → HasPlaces (emit_statements row.0 first_place s r
 
 -- there is a row with a number, where the row has a node
 abbrev pub HasRow : Reached → Table → (ℕ → Bool) → ℕ → row.Instance → Type 0
-HasRow r t is_row j i = (n : ResolvedNode) → node_in r t i ≡ Some n → is_row j ≡ true
+HasRow r t is_row j i = (n : ResolvedNode) → node_at r t i ≡ Some n → is_row j ≡ true
 
 -- and so are all
 abbrev pub HasRows : Reached → Table → (ℕ → Bool) → Type 0

@@ -16,11 +16,12 @@ use Rattle.lb_static.specs.declared.table.Table.{Table}
 use Rattle.lb_flat.specs.declared.expansion.start.Start.{Start}
 use Rattle.lb_flat.specs.ClockUses.{clock_numbers}
 use Rattle.lb_flat.specs.Emit.{Target, copied, from_inputs, before_instances}
-use Rattle.lb_flat.specs.EmitRows.{node_in, bodies}
+use Rattle.lb_flat.specs.EmitRows.{bodies}
 use Rattle.lb_flat.specs.EmitTerms.{Context, emit_rows}
 use Rattle.lb_flat.specs.Flat.{FlatClock, FlatEquation, Input}
 use Rattle.lb_flat.specs.FurtherKinds.{kinds_from}
 use Rattle.lb_flat.specs.Judging.{FlatProgram}
+use Rattle.lb_flat.specs.TableClocks.{node_at}
 
 -- ## Variables of a row
 
@@ -56,7 +57,7 @@ unfoldable pub start_from :
     Reached → Table → (observer : Bool) → ℕ → List row.Instance → Option Start
 start_from r t b j [] = None
 start_from r t b j (i ∷ rows) =
-    if is_start b i.origin then option_map (start_of j) (node_in r t i)
+    if is_start b i.origin then option_map (start_of j) (node_at r t i)
     else start_from r t b (suc j) rows
 
 abbrev pub start_in : Reached → Table → (observer : Bool) → Option Start
@@ -86,7 +87,7 @@ module _ (cs : ℕ → Context) where
 
   -- the elements of the variables of a row that serve as clocks
   abbrev pub clocks_in : Reached → Table → ℕ → row.Instance → List ℕ
-  clocks_in r t j i = listed (λ n. flat_map (cs j).places (clock_numbers n)) (node_in r t i)
+  clocks_in r t j i = listed (λ n. flat_map (cs j).places (clock_numbers n)) (node_at r t i)
 
 -- a row that starts can be entered, and its inputs and outputs can be counted
 pub record IsReady (cs : ℕ → Context) (is_row : ℕ → Bool) (s : Start) : Type 0 where

@@ -27,7 +27,6 @@ pub mod EmitTerms
 pub mod Operators
 pub mod TermEmissions
 pub mod Frames
-pub mod TermForms
 pub mod Emissions
 pub mod Rows
 pub mod TableSizes

@@ -7,12 +7,13 @@
 //!                              elements before each variable   0 1 3 4
 //! ```
 
-ghost use Rattle.std.specs.Prelude.{◌≡◌, ◌≤◌, ◌<◌, ◌+◌, ◌^◌, min, map, take, drop, IfOk};
-ghost use Rattle.lb_static.specs.Specialized.{size_of, times_sizes};
+ghost use Rattle.std.specs.Prelude.{◌≡◌, ◌≤◌, ◌<◌, ◌+◌, min, map, take, drop, IfOk};
 ghost use Rattle.lb_flat.specs.Rows.{sum_of, declared_width, widths_in, AreAdded};
 
 use crate::error::FlatError;
-use lb_static::{Instance, InstanceId, Reached, StaticInt, Table, Variable, VariableId, part_of};
+use lb_static::{
+    Instance, InstanceId, Reached, StaticInt, Table, Variable, VariableId, elements_of, part_of,
+};
 use std::alloc::Global;
 use std::ops::Range;
 
@@ -30,33 +31,12 @@ pub(crate) struct Layout {
     pub(crate) count: u32,
 }
 
-/// A size as a number; one below 0 counts as 0.
-fn size_of(value: StaticInt) -> u64
-    ensures value { result ≡ size_of value }
-    ensures within { result < 2 ^ 32 }
-{
-    let number = value.get();
-    if number < 0 { 0 } else { number as u64 }
-}
-
-/// So many elements as the sizes make, or 65,537 for all that are more than 65,536.
-fn element_count(sizes: &[StaticInt]) -> u64
-    ensures value { result ≡ times_sizes 1 sizes.now }
-    ensures within { result ≤ 65537 }
-{
-    let mut elements = 1;
-    for size in sizes {
-        elements = (elements * size_of(*size)).min(u64::from(MOST) + 1);
-    }
-    elements
-}
-
 /// How many elements a variable has under these static values, or 65,537 for more than 65,536.
 pub(crate) fn width(statics: &[StaticInt], variable: &Variable) -> u32
     ensures { result ≡ min (declared_width statics.now variable.now) 65537 }
 {
     let sizes = part_of(statics, variable.first_size.0, variable.sizes);
-    element_count(sizes) as u32
+    elements_of(sizes) as u32
 }
 
 /// Adds the starts of some variables behind so many elements; answers how many there are then.

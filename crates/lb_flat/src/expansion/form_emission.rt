@@ -10,7 +10,7 @@ ghost use Rattle.lb_flat.specs.Frames.{HasRoom};
 ghost use Rattle.lb_flat.specs.Programs.{numbers_of};
 ghost use Rattle.lb_flat.specs.TermEmissions.{state_of, emitted_of, with_asserted, above, on_top};
 ghost use Rattle.lb_flat.specs.TermEmissions.{on_two};
-ghost use Rattle.lb_flat.specs.TermForms.{HasOne, HasTwo, HasRow};
+ghost use Rattle.lb_static.specs.TermForms.{HasOne, HasTwo, HasRow};
 ghost use Rattle.lb_flat.specs.Values.{scalar_of};
 
 use crate::equation::{ElementId, Operation};

@@ -6,5 +6,5 @@ use Rattle.lb_flat.proofs.layout.width.Goals as goal
 
 pub returns : goal.returns
 returns c =
-    c.element_count.ensures.value
+    c.elements_of.ensures.value
     ∙ (ap (times_sizes 1) c.part_of-sizes.ensures ∙ capped c.args.statics.now c.args.variable.now)

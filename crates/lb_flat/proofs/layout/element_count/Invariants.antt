@@ -1,9 +1,0 @@
-use Rattle.std.proofs.Common.{◌≡◌, ◌≤◌, drop}
-use Rattle.lb_static.specs.Specialized.{times_sizes}
-use Rattle.lb_flat.proofs.layout.element_count.Given as goal
-
-abbrev pub invariant-loop-size : goal.invariant-loop-size
-invariant-loop-size l = record {
-  same : times_sizes l.elements (drop l.size-index l.sizes) ≡ times_sizes 1 l.sizes;
-  within : l.elements ≤ 65537;
-}
