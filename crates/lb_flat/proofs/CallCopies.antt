@@ -1,13 +1,13 @@
 -- The copies that an instance emits: of each call in its text those into the inputs of what is
 -- called, and of each equation those into its left variables.
-use Rattle.std.proofs.Common.{◌≡◌, ℕ, ◌+◌, false, pos, Option, Some, None, List, []}
-use Rattle.std.proofs.Common.{◌∷◌, ◌++◌, map, flat_map, zip, refl}
+use Rattle.std.proofs.Common.{ℕ, ◌+◌, false, pos, List, []}
+use Rattle.std.proofs.Common.{◌∷◌, ◌++◌, map, flat_map, zip}
 use Rattle.std.proofs.Common.{subst}
 use Rattle.lb_syntax.specs.Lists.{Every, In, zip2, joined}
-use Rattle.lb_syntax.specs.Tree.{Name, Node_named, Symbol, Expr, Literal, Truth, Variable, Group}
+use Rattle.lb_syntax.specs.Tree.{Node_named, Symbol, Expr, Literal, Truth, Variable, Group}
 use Rattle.lb_syntax.specs.Tree.{Unary, Binary, If, Arrow, Fby, Pre, Current, When, Replicate}
 use Rattle.lb_syntax.specs.Tree.{Index, Slice, Join, Array, AtMostOne, Nor, Call, Iterate, Exprs}
-use Rattle.lb_syntax.specs.Tree.{Nil, Cons, Declaration, Statement, Equation, Assertion}
+use Rattle.lb_syntax.specs.Tree.{Nil, Cons, Statement, Equation, Assertion}
 use Rattle.lb_static.specs.DataTypes.{variables}
 use Rattle.lb_static.specs.Instances.{Program, Instance, Child, node_named}
 use Rattle.lb_static.specs.StaticValues.{named}
@@ -23,10 +23,10 @@ use Rattle.lb_flat.specs.Flat.{Previous, Latest, Sample, FlatEquation}
 use Rattle.lb_flat.specs.Layouts.{Layout, flat_clock}
 use Rattle.lb_flat.specs.Emit.{State, Emitted, add, keep, assert, joins}
 use Rattle.lb_flat.specs.Emit.{chosen_by}
-use Rattle.lb_flat.specs.Emit.{targets, copied, call_copies, iterator_copies, emit_name, emit}
+use Rattle.lb_flat.specs.Emit.{targets, copied, call_copies, iterator_copies, emit}
 use Rattle.lb_flat.specs.Emit.{emit_all, emit_each, emit_body, emit_instances}
 use Rattle.lb_flat.proofs.EmittedCopies.{add_copies, keep_copies, nor_copies, at_most_one_copies}
-use Rattle.lb_flat.proofs.EmittedCopies.{symbol_copies}
+use Rattle.lb_flat.proofs.EmittedCopies.{symbol_copies, name_copies}
 use Rattle.lb_flat.proofs.Bodies.{occurrences_of, assert_copies}
 use Rattle.lb_flat.proofs.Emission.{joins_copies}
 
@@ -36,12 +36,6 @@ module _ (Y : Layout) (P : Program) (cs : List FlatEquation) where
   Within qs = Every (λ q. In q cs) qs
 
   module _ (here : Instance) where
-    name_copies :
-        (k : Clock) (s : State) (x : Name) (o : Option Declaration) →
-        (emit_name Y P here k s x o).state.copies ≡ s.copies
-    name_copies k s x (Some d) = refl
-    name_copies k s x None = add_copies (flat_clock Y here.path k) s _
-
     -- the copies of a call, where its arguments are emitted after some state
     abbrev pub CopiedAt : Clock → ℕ → Expr → Type 0
     CopiedAt k n (Call f statics es) =
@@ -112,7 +106,8 @@ module _ (Y : Layout) (P : Program) (cs : List FlatEquation) where
       copies_there k n s (Variable x) h =
           next s (at k n (Variable x)) [] tt
           (nothing s
-          (subst Within (name_copies k s x (named (λ d. d.name) x (variables here.node))) h))
+          (subst Within
+          (name_copies Y P here k s x (named (λ d. d.name) x (variables here.node))) h))
       copies_there k n s (Group a) h = copies_there k n s a h
       copies_there k n s (Unary op a) h =
           let x = emit Y P here k n s a in

@@ -1,7 +1,7 @@
 -- The equations of an expansion give elements of the program: copies those of variables, and the
 -- further ones those after them.
 use Rattle.std.proofs.Common.{◌≡◌, ℕ, suc, ◌+◌, ◌<◌, ◌≤◌, Option, Some, None, List, [], ◌∷◌, ◌++◌}
-use Rattle.std.proofs.Common.{map, length, flat_map, refl, sym, subst, arith}
+use Rattle.std.proofs.Common.{map, length, flat_map, sym, subst, arith}
 use Rattle.std.specs.List.{range_with_len}
 use Rattle.lb_syntax.specs.declared.tree.ArrayIterator.{ArrayIterator}
 use Rattle.lb_syntax.specs.Lists.{Every}
@@ -16,7 +16,7 @@ use Rattle.lb_check.specs.Occurrences.{call_count, call_clocks, statement_clock}
 use Rattle.lb_check.specs.Solutions.{iterator_inputs}
 use Rattle.lb_check.specs.Streams.{number}
 use Rattle.lb_flat.specs.Emit.{State, Target, assert, joins, copied, targets, received, call_copies}
-use Rattle.lb_flat.specs.Emit.{iterator_copies, emit_name, emit, emit_all, emit_each, emit_body}
+use Rattle.lb_flat.specs.Emit.{iterator_copies, emit, emit_all, emit_each, emit_body}
 use Rattle.lb_flat.specs.Emit.{emit_instances, from_inputs, input_targets, given_inputs, observed}
 use Rattle.lb_flat.specs.Emit.{observed_places, before_instances, expanded}
 use Rattle.lb_flat.specs.Flat.{FlatEquation}
@@ -27,7 +27,7 @@ use Rattle.lb_flat.proofs.Emission.{joins_copies}
 use Rattle.lb_flat.proofs.Filling.{Fresh}
 use Rattle.lb_flat.proofs.Lists.{Every-map, Every-append, Every-pieces}
 use Rattle.lb_flat.proofs.EmittedCopies.{add_copies, keep_copies, nor_copies, at_most_one_copies}
-use Rattle.lb_flat.proofs.EmittedCopies.{symbol_copies}
+use Rattle.lb_flat.proofs.EmittedCopies.{symbol_copies, name_copies}
 
 -- ## Copies
 
@@ -95,12 +95,6 @@ module _ (V : ℕ) (Y : Layout) (P : Program)
       (Every-append (λ q. q.element < V) s.copies qs h new)
 
   module _ (here : Instance) where
-    name_copied :
-        (k : Clock) (s : State) (x : Name) (d : Option Declaration) →
-        (emit_name Y P here k s x d).state.copies ≡ s.copies
-    name_copied k s x (Some d) = refl
-    name_copied k s x None = add_copies (flat_clock Y here.path k) s _
-
     mutual
       unfolding emit
 
@@ -108,7 +102,7 @@ module _ (V : ℕ) (Y : Layout) (P : Program)
           AllBelow (emit Y P here k n s e).state.copies
       copies_below k n s (Literal m) h = on _ _ (add_copies _ s _) h
       copies_below k n s (Truth b) h = on _ _ (add_copies _ s _) h
-      copies_below k n s (Variable x) h = on _ _ (name_copied k s x _) h
+      copies_below k n s (Variable x) h = on _ _ (name_copies Y P here k s x _) h
       copies_below k n s (Group a) h = copies_below k n s a h
       copies_below k n s (Unary op a) h = on _ _ (add_copies _ _ _) (copies_below k n s a h)
       copies_below k n s (Binary op a b) h =

@@ -1,19 +1,29 @@
 -- The small words of expansion copy nothing.
-use Rattle.std.proofs.Common.{◌≡◌, ℕ, false, List, [], ◌∷◌, refl, ◌∙◌}
+use Rattle.std.proofs.Common.{◌≡◌, ℕ, false, Option, Some, None, List, [], ◌∷◌, refl, ◌∙◌}
 use Rattle.lb_syntax.specs.declared.tree.BinaryOperator.{BinaryOperator}
 use Rattle.lb_syntax.specs.declared.tree.BinaryOperator.TheVariants.{Or, And}
 use Rattle.lb_syntax.specs.declared.tree.ArrayIterator.{ArrayIterator}
 use Rattle.lb_syntax.specs.declared.tree.ArrayIterator.TheVariants.{Map, Red, Fill}
 use Rattle.lb_syntax.specs.Lists.{zip2}
+use Rattle.lb_syntax.specs.Tree.{Name, Declaration}
+use Rattle.lb_static.specs.Instances.{Program, Instance}
+use Rattle.lb_check.specs.Clocks.{Clock}
 use Rattle.lb_check.specs.Scalars.{Boolean}
 use Rattle.lb_flat.specs.Flat.{FlatClock, Operation, Constant, ApplyBinary}
+use Rattle.lb_flat.specs.Layouts.{Layout, flat_clock}
 use Rattle.lb_flat.specs.Emit.{State, Emitted, add, keep, push, chained, twice}
-use Rattle.lb_flat.specs.Emit.{emit_nor, emit_at_most_one, emit_symbol}
+use Rattle.lb_flat.specs.Emit.{emit_name, emit_nor, emit_at_most_one, emit_symbol}
 
 pub add_copies : (k : FlatClock) (s : State) (os : List Operation) →
     (add k s os).state.copies ≡ s.copies
 unfolding add
 add_copies k s os = refl
+
+pub name_copies :
+    (Y : Layout) (P : Program) (here : Instance) (k : Clock) (s : State) (x : Name)
+    (d : Option Declaration) → (emit_name Y P here k s x d).state.copies ≡ s.copies
+name_copies Y P here k s x (Some d) = refl
+name_copies Y P here k s x None = add_copies (flat_clock Y here.path k) s _
 
 pub keep_copies : (x : Emitted) → (keep x).state.copies ≡ x.state.copies
 unfolding keep
