@@ -3,6 +3,7 @@
 //! The names that the refusals of names, static values and sizes hold stand in no contract. The
 //! inputs of the last program have 2^32 scalar elements, one more than 32 bits count.
 
+/// Sources, each with its node under test, and perhaps an observer, in the last line.
 pub const CASES: &str = "node main(x: int) returns (ok: bool); let ok = x > 0; tel
 main => 1 of 1: main | x: Int
 ----
