@@ -2,9 +2,9 @@
 //!
 //! The divisor is mostly the same in all active lanes, as a constant is. Then each lane takes a
 //! multiplication and a shift, or a shift alone where the divisor is a power of 2. Else all are
-//! divided as small numbers; and where that leaves a lane in doubt whose divisor is not 0, each is
-//! divided by itself, with 1 for a divisor where the lane is not active or cannot be divided, and
-//! made 0 there:
+//! divided as small numbers, and a lane that this leaves in doubt by itself. Where the first
+//! dividend is large, each is divided by itself, with 1 for a divisor where the lane is not active
+//! or cannot be divided, and made 0 there:
 //!
 //! ```text
 //! active      1    1    0    1
@@ -15,13 +15,14 @@
 //! ```
 
 ghost use Rattle.std.specs.Prelude.{◌≡◌, ℕ, ◌<◌, ◌^◌, true, IsTrue, pos, ℤ, int_div, unsigned_abs};
-ghost use Rattle.std.specs.Prelude.{MatchOption};
+ghost use Rattle.std.specs.Prelude.{MatchOption, if◌then◌else◌};
 ghost use Rattle.std.specs.Int.{cast_signed, w32};
 ghost use Rattle.lb_lanes.specs.Kernels.{IsKernelBelow, bits_lane};
 ghost use Rattle.lb_lanes.specs.Operators.{can_divide, divided_by};
 ghost use Rattle.lb_lanes.specs.Planes.{on};
 
 use crate::operators::{Division, Quotient, Remainder};
+use crate::planes::Plane;
 use crate::reciprocals::{reciprocal, word_divided, word_shifted};
 use crate::word_kernels::{blend, keep};
 use crate::word_quotients::{LARGE, divide_small};
@@ -64,6 +65,34 @@ fn run_one_by_one<K: Division>(
     active & !divisible
 }
 
+// The word of the result where a lane is divided, and else what it holds.
+fn divided_or<K: Division>(x: u32, y: u32, divides: bool, held: u32) -> u32
+    requires { IsTrue divides → IsTrue (can_divide (cast_signed w32 x) (cast_signed w32 y)) }
+    ensures { cast_signed w32 result ≡ (if divides
+        then K.divided (cast_signed w32 x) (cast_signed w32 y) else cast_signed w32 held) }
+{
+    if !divides {
+        return held;
+    }
+    K::divide(x.cast_signed(), y.cast_signed()).cast_unsigned()
+}
+
+// Puts the results of some lanes, each divided by itself.
+fn divide_some<K: Division>(a: &[u32; 64], b: &[u32; 64], divides: u64, out: &mut [u32; 64])
+    requires { (i : ℕ) → i < 64 → on divides i ≡ true
+        → IsTrue (can_divide (bits_lane a.now i) (bits_lane b.now i)) }
+    ensures { (i : ℕ) → i < 64 → bits_lane out.new i ≡ (if on divides i
+        then K.divided (bits_lane a.now i) (bits_lane b.now i) else bits_lane out.old i) }
+{
+    if divides == 0 {
+        return;
+    }
+    for i in 0..64usize {
+        let chosen = Plane(divides).get(i as u32);
+        out[i] = divided_or::<K>(a[i], b[i], chosen, out[i]);
+    }
+}
+
 // Puts the 64 lanes after the division into `out`, each divided by its own divisor, and gives their
 // faults.
 fn run_each_division<K: FromQuotient>(
@@ -86,12 +115,10 @@ fn run_each_division<K: FromQuotient>(
         return 0;
     }
     let doubtful = active & !tested::<Equal>(&doubts, &[0; 64]);
-    let others = doubtful & !tested::<Equal>(b, &[0; 64]);
-    if others == 0 {
-        keep(active, out);
-        return doubtful;
-    }
-    run_one_by_one::<K>(a, b, active, out)
+    let divisible = tested::<Divisible>(a, b);
+    keep(active, out);
+    divide_some::<K>(a, b, doubtful & divisible, out);
+    doubtful & !divisible
 }
 
 // The divisor of all active lanes, if it is one that divides each integer.

@@ -28,9 +28,6 @@ pub(crate) const LARGE: u32 = 8388608;
 // The float from which on each is a whole number, and the floats up to twice that.
 const WHOLE: f32 = 12582912.0;
 
-// The first float beyond those of small quotients.
-const BEYOND: f32 = 12648448.0;
-
 // The sizes of sixteen integers.
 fn sizes16(x: u32x16) -> u32x16 {
     x.simd_lt(u32x16::splat(2147483648))
@@ -42,9 +39,9 @@ fn near16(x: u32x16, y: u32x16) -> u32x16 {
     let dividend: f32x16 = (sizes16(x) & u32x16::splat(LARGE - 1)).cast();
     let divisor: f32x16 = (sizes16(y) & u32x16::splat(0xffff)).cast();
     let half = f32x16::splat(0.5);
-    let beyond = f32x16::splat(BEYOND);
+    // No dividend is 0, so that no lane is 0 / 0.
     let near = (dividend + half) / divisor - half + f32x16::splat(WHOLE);
-    near.simd_lt(beyond).select(near, beyond).to_bits()
+    near.to_bits()
 }
 
 // Puts a guess at the size of each quotient.
