@@ -67,7 +67,7 @@ fn small_quotient(n: u32, d: u32, guess: u32) -> Option<u32>
     }
 }
 
-// A lane after the division and 0, or 0 and 1 where the quotient is in doubt.
+// A lane after the division and 0, or 0 and all bits where the quotient is in doubt.
 fn settled<K: FromQuotient>(x: u32, y: u32, guess: u32) -> (u32, u32)
     ensures divisible { (result.1 == 0) ≡ true
         → can_divide (cast_signed w32 x) (cast_signed w32 y) ≡ true }
@@ -78,7 +78,7 @@ fn settled<K: FromQuotient>(x: u32, y: u32, guess: u32) -> (u32, u32)
     let by = y.cast_signed().unsigned_abs();
     match small_quotient(size, by, guess) {
         Some(quotient) => (K::from_quotient(x, y, signed(x, y, quotient)), 0),
-        None => (0, 1),
+        None => (0, u32::MAX),
     }
 }
 
