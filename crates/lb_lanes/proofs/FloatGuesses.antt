@@ -145,7 +145,8 @@ unfolding of_int
 whole_finite n h =
     value_finite (round binary32 false n 1) false n 1
     (round_exact binary32 false n 1 n 149 (lit< tt) h
-    (lt_of_lt_of_le (shl_lt 24 149 h) (pow_mono {i = 173} {j = 277} (lit≤ tt))) (sym (mul-one (n * 2 ^ 149))))
+    (lt_of_lt_of_le (shl_lt 24 149 h) (pow_mono {i = 173} {j = 277} (lit≤ tt)))
+    (sym (mul-one (n * 2 ^ 149))))
 
 abbrev pub half_float : Float
 half_float = of_bits binary32 1056964608

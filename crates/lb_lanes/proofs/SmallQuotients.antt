@@ -65,3 +65,32 @@ faulty_settled f true false true a b h e =
     ap (λ t. faulty true (cond t (Some (f a b)) None)) e
 faulty_settled f true false false a b h e =
     ap (λ t. faulty true (cond t (Some (f a b)) None)) e
+
+-- a divisor that is 0
+not_zero : (a b : ℤ) (none : Bool) → none ≡ int_eq b (pos 0) → not none ≡ false
+    → can_divide a b ≡ false
+unfolding can_divide
+not_zero a b true is h =
+    ap (λ t. not t && not (int_eq a (negsuc 2147483647) && int_eq b (negsuc 0))) (sym is)
+not_zero a b false is h = cc
+
+-- a lane that is sure, or is not live, or has 0 for a divisor
+pub kept_guess : (f : ℤ → ℤ → ℤ) (live sure none : Bool) (a b r : ℤ)
+    → (sure ≡ true → can_divide a b ≡ true) → r ≡ cond sure (f a b) (pos 0)
+    → none ≡ int_eq b (pos 0) → ((live && not sure) && not none) ≡ false
+    → cond live r (pos 0) ≡ kept live (divided_by f a b)
+kept_guess f false sure none a b r can is e h = refl
+kept_guess f true true none a b r can is e h =
+    is ∙ sym (ap (λ t. kept true (cond t (Some (f a b)) None)) (can refl))
+kept_guess f true false none a b r can is e h =
+    is ∙ sym (ap (λ t. kept true (cond t (Some (f a b)) None)) (not_zero a b none e h))
+
+pub faulty_guess : (f : ℤ → ℤ → ℤ) (live sure none : Bool) (a b : ℤ)
+    → (sure ≡ true → can_divide a b ≡ true)
+    → none ≡ int_eq b (pos 0) → ((live && not sure) && not none) ≡ false
+    → (live && not sure) ≡ faulty live (divided_by f a b)
+faulty_guess f false sure none a b can e h = refl
+faulty_guess f true true none a b can e h =
+    sym (ap (λ t. faulty true (cond t (Some (f a b)) None)) (can refl))
+faulty_guess f true false none a b can e h =
+    sym (ap (λ t. faulty true (cond t (Some (f a b)) None)) (not_zero a b none e h))

@@ -2,9 +2,9 @@
 //!
 //! The divisor is mostly the same in all active lanes, as a constant is. Then each lane takes a
 //! multiplication and a shift, or a shift alone where the divisor is a power of 2. Else all are
-//! divided as small numbers, and a lane that this leaves in doubt by itself. Where the first
-//! dividend is large, each is divided by itself, with 1 for a divisor where the lane is not active
-//! or cannot be divided, and made 0 there:
+//! divided as small numbers, and a lane that this leaves in doubt by itself, but where its divisor
+//! is 0. Where the first dividend is large, each is divided by itself, with 1 for a divisor where
+//! the lane is not active or cannot be divided, and made 0 there:
 //!
 //! ```text
 //! active      1    1    0    1
@@ -77,16 +77,14 @@ fn divided_or<K: Division>(x: u32, y: u32, divides: bool, held: u32) -> u32
     K::divide(x.cast_signed(), y.cast_signed()).cast_unsigned()
 }
 
-// Puts the results of some lanes, each divided by itself.
+// Puts the results of some lanes, mostly few, each divided by itself.
+#[inline(never)]
 fn divide_some<K: Division>(a: &[u32; 64], b: &[u32; 64], divides: u64, out: &mut [u32; 64])
     requires { (i : ℕ) → i < 64 → on divides i ≡ true
         → IsTrue (can_divide (bits_lane a.now i) (bits_lane b.now i)) }
     ensures { (i : ℕ) → i < 64 → bits_lane out.new i ≡ (if on divides i
         then K.divided (bits_lane a.now i) (bits_lane b.now i) else bits_lane out.old i) }
 {
-    if divides == 0 {
-        return;
-    }
     for i in 0..64usize {
         let chosen = Plane(divides).get(i as u32);
         out[i] = divided_or::<K>(a[i], b[i], chosen, out[i]);
@@ -95,6 +93,7 @@ fn divide_some<K: Division>(a: &[u32; 64], b: &[u32; 64], divides: u64, out: &mu
 
 // Puts the 64 lanes after the division into `out`, each divided by its own divisor, and gives their
 // faults.
+#[inline(never)]
 fn run_each_division<K: FromQuotient>(
     a: &[u32; 64],
     b: &[u32; 64],
@@ -115,8 +114,12 @@ fn run_each_division<K: FromQuotient>(
         return 0;
     }
     let doubtful = active & !tested::<Equal>(&doubts, &[0; 64]);
-    let divisible = tested::<Divisible>(a, b);
     keep(active, out);
+    let others = doubtful & !tested::<Equal>(b, &[0; 64]);
+    if others == 0 {
+        return doubtful;
+    }
+    let divisible = tested::<Divisible>(a, b);
     divide_some::<K>(a, b, doubtful & divisible, out);
     doubtful & !divisible
 }

@@ -1,16 +1,8 @@
-use Rattle.std.proofs.Common.{◌≡◌, cond, refl, ap, ap₂, ◌∙◌, sym, arith, not-suc-le-zero, w32, to_z}
+use Rattle.std.proofs.Common.{◌≡◌, cond, refl, ap₂, ◌∙◌, sym, arith, not-suc-le-zero, w32, to_z}
 use Rattle.lb_lanes.specs.Kernels.{bits_lane}
 use Rattle.lb_lanes.specs.Planes.{on}
 use Rattle.lb_lanes.proofs.Joined.{word_joined}
-use Rattle.lb_lanes.proofs.OnPlanes.{on-zero}
 use Rattle.lb_lanes.proofs.word_divisions.divide_some.Goals as goal
-
-pub returns-then-divides-eq0 : goal.returns-then-divides-eq0
-returns-then-divides-eq0 g c i h =
-    sym (ap (λ n. cond (on n i) (g.K.Division.divided (bits_lane c.args.a.now i)
-    (bits_lane c.args.b.now i)) (bits_lane c.args.out.now i)) c.if-divides-eq0.true
-    ∙ ap (λ t. cond t (g.K.Division.divided (bits_lane c.args.a.now i)
-    (bits_lane c.args.b.now i)) (bits_lane c.args.out.now i)) (on-zero i))
 
 pub loop-i-init : goal.loop-i-init
 loop-i-init g c = record { done = λ i h. absurd (not-suc-le-zero h); rest = λ i le. refl }
