@@ -24,7 +24,7 @@ use lb_syntax::Kind;
 use std::alloc::{AllocError, Global};
 
 // How many integers of a row are loaded for some instants together.
-const MOST_AHEAD: usize = 8;
+const MOST_AHEAD: usize = 16;
 
 /// A row of inputs for each lane: a plane for each Boolean of the signature, and a word for each
 /// integer, in its order.
