@@ -1,3 +1,4 @@
 pub mod Streams
 pub mod Outcomes
 pub mod Words
+pub mod Inputs

@@ -1,7 +1,7 @@
 -- How a run of the program ends.
 -- Source: this project's rule.
-use Rattle.std.specs.Prelude.{◌≡◌, ℕ, ◌==◌, ◌||◌, ◌⊎◌, if◌then◌else◌, IfSome, List, Option}
-use Rattle.std.specs.Prelude.{Some, None, Result, Ok, Err, string_bytes}
+use Rattle.std.specs.Prelude.{◌≡◌, ◌≢◌, ℕ, ◌==◌, ◌||◌, ◌⊎◌, if◌then◌else◌, IfSome, List, Option}
+use Rattle.std.specs.Prelude.{Some, None, Result, Ok, Err, codes, string_bytes}
 use Rattle.std.specs.Borrow.{Bor}
 use Rattle.lb_report.specs.Bench.{IsBenchReport}
 use Rattle.lb_report.specs.Cases.{parts_of}
@@ -12,10 +12,11 @@ use Rattle.lb_report.specs.declared.feed.LoadError.{LoadError}
 use Rattle.lb_report.specs.declared.feed.LoadError.TheVariants as load
 use Rattle.lb_report.specs.declared.options.Options.{Options}
 use Rattle.lb_report.specs.declared.text.Report.{Report}
-use Rattle.clap.specs.Words.{Text}
+use Rattle.clap.specs.Words.{Text, first_of}
 use Rattle.lb_command.specs.Lines.{line}
-use Rattle.lb_command.specs.Streams.{Change, HasFailed, IsUntouched, Took, TookOrFailed}
-use Rattle.lb_command.specs.Words.{AsksForHelp, IsAsked, IsUnlawful}
+use Rattle.lb_command.specs.Streams.{Change, HasFailed, Input, IsUnreadable, IsUntouched}
+use Rattle.lb_command.specs.Streams.{NeverFailed, Took, TookOrFailed}
+use Rattle.lb_command.specs.Words.{AsksForHelp, IsAsked, IsUnlawful, values_of}
 use Rattle.lb_command.specs.declared.refusal.Refusal.{Refusal}
 use Rattle.lb_command.specs.declared.request.Task.{Task}
 use Rattle.lb_command.specs.declared.run.Answer.{Answer}
@@ -80,6 +81,27 @@ abbrev pub IsOutcomeOn : (Text → Text → Type 0) → Options → Result Repor
 IsOutcomeOn Are options (Ok report) = IsReportOn Are options report
 IsOutcomeOn Are options (Err refusal) = IsRefusedOn Are options refusal
 
+-- ## What a refusal tells of the input
+
+-- E21 comes only where the input could not be read, or where some file is read too; and with any
+-- other number no read of the input has failed
+pub record TellsOfInput (HasFile : Type 0) (i : Input) (refusal : Refusal) : Type 0 where
+  pub read : refusal.number ≡ 21 → HasFile ⊎ IsUnreadable i
+  pub other : refusal.number ≢ 21 → NeverFailed i
+
+-- what an outcome tells of the input
+abbrev pub HasRead : {T : Type 0} → (HasFile : Type 0) → Input → Result T Refusal → Type 0
+HasRead HasFile i (Ok x) = NeverFailed i
+HasRead HasFile i (Err refusal) = TellsOfInput HasFile i refusal
+
+-- the task names a file
+abbrev pub HasPath : Task → Type 0
+HasPath task = (path : Bor Text) × (task.source ≡ Some path)
+
+-- the words name a file
+abbrev pub NamesFile : List Text → Type 0
+NamesFile words = (path : Text) × (first_of (codes "source") (values_of words) ≡ Some path)
+
 -- ## A run
 
 -- the bytes of an answer for the output
@@ -122,14 +144,15 @@ pub data IsDelivered (answer : Answer) (status : ℕ) (output errors : Change) :
   broken : status ≡ refusal_status 19 → HasFailed output → TookOrFailed errors (line 19 None)
       → IsDelivered answer status output errors
 
--- a run with these words, an input that had still to give these bytes, and this exit status: it
--- delivers an answer, or it leaves the output as it was and tells of a refusal
+-- a run with these words, this input and this exit status: no read of the input failed, and it
+-- delivers an answer; or it leaves the output as it was and tells of a refusal
 pub data IsRun
-    (words : List Text) (known : Option Text) (status : ℕ) (output errors : Change)
+    (words : List Text) (i : Input) (status : ℕ) (output errors : Change)
     : Type 0 where
-  answered : (answer : Answer) → IsAnswer words known answer
-      → IsDelivered answer status output errors → IsRun words known status output errors
-  refused : (refusal : Refusal) → IsRefusal words known refusal
+  answered : (answer : Answer) → IsAnswer words i.coming answer → NeverFailed i
+      → IsDelivered answer status output errors → IsRun words i status output errors
+  refused : (refusal : Refusal) → IsRefusal words i.coming refusal
+      → TellsOfInput (NamesFile words) i refusal
       → status ≡ refusal_status refusal.number → IsUntouched output
       → TookOrFailed errors (line refusal.number refusal.position)
-      → IsRun words known status output errors
+      → IsRun words i status output errors

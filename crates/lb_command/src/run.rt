@@ -1,11 +1,11 @@
 //! A run of the program, on any streams.
 
-ghost use Rattle.std.specs.Prelude.{◌≡◌, ℕ, ◌<◌, List, Err, Ok, IfErr, IfOk, OnErr, OnOk, map};
-ghost use Rattle.std.specs.Prelude.{string_bytes};
+ghost use Rattle.std.specs.Prelude.{◌≡◌, ◌≢◌, ℕ, ◌<◌, List, Err, Ok, IfErr, IfOk, OnErr, OnOk};
+ghost use Rattle.std.specs.Prelude.{map, string_bytes};
 ghost use Rattle.std.specs.Io.KnownBytes.{Appends};
 ghost use Rattle.lb_report.specs.declared.error.BenchError.{BenchError as Cause};
 ghost use Rattle.lb_command.specs.Correct as spec;
-ghost use Rattle.lb_command.specs.Streams.{change};
+ghost use Rattle.lb_command.specs.Streams.{change, input};
 
 use crate::line::refuse;
 use crate::refusal::Refusal;
@@ -57,6 +57,8 @@ fn load_input<F: Feed>(alloc: Global, feed: &mut F) -> Result<Vec<u8>, Refusal>
     requires { F.failures feed.old < u64.MAX }
     ensures ok { IfOk result (λ bytes. spec.IsInput (F.coming feed.old) bytes.items) }
     ensures err { IfErr result spec.IsUnread }
+    ensures read { spec.HasRead ⊥
+        (input (F.coming feed.old) (F.failures feed.old) (F.failures feed.new)) result }
 {
     Ok(load(alloc, feed)?)
 }
@@ -72,10 +74,12 @@ fn load_file<R: Runtime + AllocGlobal>(rt: &R, path: &str) -> Result<Vec<u8>, Re
 }
 
 /// What the bench answers, with its error as the refusal that tells of it.
+#[tactic(auto, using(crate::proofs::Inputs::is_not_read))]
 fn told(answer: Result<Report, BenchError>) -> Result<Report, Refusal>
     ensures ok { IfOk result (λ report. answer ≡ Ok report) }
     ensures err { IfErr result (λ refusal.
         (e : Cause) × (answer ≡ Err e) × spec.IsToldBy e refusal) }
+    ensures not_read { IfErr result (λ refusal. refusal.number ≢ 21) }
 {
     match answer {
         Ok(report) => Ok(report),
@@ -89,7 +93,9 @@ where
     R: Runtime + AllocGlobal + Threads + Sync,
     F: Feed,
     requires { F.failures reader.old < u64.MAX }
-    ensures { spec.IsOutcomeOn (spec.AreParts (F.coming reader.old)) options.now result }
+    ensures outcome { spec.IsOutcomeOn (spec.AreParts (F.coming reader.old)) options.now result }
+    ensures read { spec.HasRead ⊥
+        (input (F.coming reader.old) (F.failures reader.old) (F.failures reader.new)) result }
 {
     let case = load_input(rt.alloc(), reader)?;
     told(run_case(rt, case.as_slice(), options))
@@ -106,8 +112,10 @@ where
     R: Runtime + AllocGlobal + Threads + Sync,
     F: Feed,
     requires { F.failures reader.old < u64.MAX }
-    ensures { spec.IsOutcomeOn (λ _ traces. spec.IsInput (F.coming reader.old) traces)
+    ensures outcome { spec.IsOutcomeOn (λ _ traces. spec.IsInput (F.coming reader.old) traces)
         options.now result }
+    ensures read { spec.HasRead (Unit {0})
+        (input (F.coming reader.old) (F.failures reader.old) (F.failures reader.new)) result }
 {
     let source = load_file(rt, path)?;
     let traces = load_input(rt.alloc(), reader)?;
@@ -141,8 +149,10 @@ where
     R::File: FileExt + Sync,
     F: Feed,
     requires { F.failures reader.old < u64.MAX }
-    ensures { spec.IsOutcomeOn (spec.AreTexts task.now (F.coming reader.old)) task.now.options
-        result }
+    ensures outcome { spec.IsOutcomeOn (spec.AreTexts task.now (F.coming reader.old))
+        task.now.options result }
+    ensures read { spec.HasRead (spec.HasPath task.now)
+        (input (F.coming reader.old) (F.failures reader.old) (F.failures reader.new)) result }
 {
     let Some(path) = task.source else {
         return report_on_case(rt, &task.options, reader);
@@ -163,6 +173,8 @@ where
     ensures ok { IfOk result (spec.IsAnswer (map string_bytes words.now) (F.coming reader.old)) }
     ensures err { IfErr result (spec.IsRefusal (map string_bytes words.now)
         (F.coming reader.old)) }
+    ensures read { spec.HasRead (spec.NamesFile (map string_bytes words.now))
+        (input (F.coming reader.old) (F.failures reader.old) (F.failures reader.new)) result }
 {
     match read_words(rt.alloc(), words)? {
         Request::Help(text) => Ok(Answer::Help(text)),
@@ -223,7 +235,8 @@ where
     requires reader { F.failures reader.old < u64.MAX }
     requires writer { W.failures writer.old < u64.MAX }
     requires errors { E.failures errors.old < u64.MAX }
-    ensures { spec.IsRun (map string_bytes words.now) (F.coming reader.old) result
+    ensures { spec.IsRun (map string_bytes words.now)
+        (input (F.coming reader.old) (F.failures reader.old) (F.failures reader.new)) result
         (change (W.taken writer.old) (W.taken writer.new)
         (W.failures writer.old) (W.failures writer.new))
         (change (E.taken errors.old) (E.taken errors.new)

@@ -6,3 +6,4 @@ pub mod Planning
 pub mod Refusing
 pub mod FirstRefusals
 pub mod Answering
+pub mod RefusalNumbers
