@@ -181,7 +181,6 @@ module _ (before code : Code) (places : List Place) (clocks : List Clock)
     (clock : Option ClockId) (old known : List (Option PlaneId)) (way : List ClockId)
     (plane : PlaneId)
     (h : IsDescending before code places clocks clock old known way plane) where
-
   module _ (id : ClockId) (less : List ClockId) (is : way ≡ less ++ id ∷ []) where
     abbrev parted : IsWay clocks known clock less (Some id) × IsHighest clocks known id h.above
     parted =

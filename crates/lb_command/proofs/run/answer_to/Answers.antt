@@ -42,7 +42,7 @@ returns-in_err-report-in-Run-clause-read g c =
     let asked = subst Is c.in-Run.is c.in_ok-text.ensures.ok in
     let failures = g.F.Feed.failures in
     let i = input (g.F.Feed.coming c.args.reader.now) (failures c.args.reader.now)
-        (failures c.report.new.reader) in
+    (failures c.report.new.reader) in
     tells_on (NamesFile words) i exit.result first exit.ensures.1
     (tells_more (HasPath task) (NamesFile words) i first (names_file words task asked)
     c.in_err-report-in-Run.ensures.read)
