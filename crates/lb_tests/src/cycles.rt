@@ -32,9 +32,9 @@ fn least_of(cycle: &[ElementId]) -> usize {
 
 // A cycle from its least number on.
 fn push_cycle(cycle: &[ElementId], said: &mut String) -> Result<(), AllocError> {
-    let (front, rest) = cycle.split_at(least_of(cycle));
+    let least = least_of(cycle);
     said.push_str("cycle")?;
-    for element in rest.iter().chain(front) {
+    for element in cycle.iter().skip(least).chain(cycle.iter().take(least)) {
         write!(said, " {}", element.0)?;
     }
     Ok(())
