@@ -13,8 +13,8 @@ use Rattle.lb_check.specs.Elements.{program_elements, numbers_of}
 use Rattle.lb_check.specs.Needs.{Element}
 use Rattle.lb_check.proofs.ApartLists.{Every-from}
 use Rattle.lb_check.proofs.InstanceNames.{variables_distinct}
-use Rattle.lb_check.proofs.Numbers.{numbers_walk as walk, numbers_width as widths, number_is as is}
-use Rattle.lb_check.proofs.Numbers.{number_of as of}
+use Rattle.lb_check.proofs.Numbers.{numbers_walk as walk, numbers_width as widths}
+use Rattle.lb_check.proofs.Numbers.{number_is as is_number, number_of as of}
 
 module _ (P : Program) (accepted : static_refusal P ≡ None) where
   -- the numbers of all variables, in the order of instantiation, are those from 0 on
@@ -34,7 +34,7 @@ module _ (P : Program) (accepted : static_refusal P ≡ None) where
   pub number_is :
       (i : ℕ) (x : Element) → slice_get (program_elements P) i ≡ Some x →
       slice_get (numbers_of P x.path x.variable) x.index ≡ Some i
-  number_is i x e = is P (variables_distinct P accepted) i x e
+  number_is i x e = is_number P (variables_distinct P accepted) i x e
 
   -- and what has a number is an element, at that place among all
   pub number_of :

@@ -16,8 +16,8 @@ use Rattle.lb_static.specs.ReachedNodes.{IsReached, source_names}
 use Rattle.lb_static.specs.ResolvedNodes.{IsResolved, node_of, statics_of}
 use Rattle.lb_static.specs.ResolvedTerms.{site_at, no_site}
 use Rattle.lb_check.specs.Types.{operator_types}
-use Rattle.lb_check.specs.TermTypes.{callee_signature, signature_of, signature_at}
-use Rattle.lb_check.proofs.Signatures.{signature, signature_is, same_callee}
+use Rattle.lb_check.specs.TermTypes.{callee_types, call_types_of, call_types_at}
+use Rattle.lb_check.proofs.CallTypes.{call_types, call_types_are, same_callee}
 
 module _ (P : Program) (r : Reached) (t : Table) (reached : IsReached P r)
     (table : IsTable P r t) where
@@ -50,12 +50,12 @@ module _ (P : Program) (r : Reached) (t : Table) (reached : IsReached P r)
 
   callee_is : (s : Specialization) (n : ResolvedNode) (p : Path) → IsSpecialized P r t s →
       slice_get r.nodes.items s.node.0 ≡ Some n → IsResolved (source_names P) n
-      → signature P (specialized_at r p s) ≡ callee_signature r s
+      → call_types P (specialized_at r p s) ≡ callee_types r s
   callee_is s n p sp at resolved =
-      ap (signature P) (specialized_instance s n p at)
-      ∙ signature_is P (source_names P) n resolved
+      ap (call_types P) (specialized_instance s n p at)
+      ∙ call_types_are P (source_names P) n resolved
       (instance_of p (node_of n) s.values.items) s.statics.items (values_at s sp n p at) refl
-      ∙ sym (ap (λ o. o >>= signature_of s.statics.items) at)
+      ∙ sym (ap (λ o. o >>= call_types_of s.statics.items) at)
 
   pub call_is : (i : ℕ) (s : Specialization) → slice_get t.specializations.items i ≡ Some s →
       (n : ResolvedNode) (p : Path)
@@ -64,7 +64,7 @@ module _ (P : Program) (r : Reached) (t : Table) (reached : IsReached P r)
       → operator_types P (instance_of p (node_of n) s.values.items)
       (Node_named (site_at (node_sites (node_of n)) c).callee
       (site_at (node_sites (node_of n)) c).arguments)
-      ≡ signature_at r t s c
+      ≡ call_types_at r t s c
   call_is i s is n p at c site site_is =
       let sp = table.specialized i s is in
       let root = instance_of Root (node_of n) s.values.items in
@@ -84,8 +84,8 @@ module _ (P : Program) (r : Reached) (t : Table) (reached : IsReached P r)
       ap (λ o. operator_types P (instance_of p (node_of n) s.values.items)
       (Node_named (either_or o no_site).callee (either_or o no_site).arguments)) site_is
       ∙ same_callee P p Root (node_of n) s.values.items site c.0 0
-      ∙ ap (signature P) same
+      ∙ ap (call_types P) same
       ∙ callee_is callee.0 callee_n.0 (Child Root c.0 0) callee_sp.0 callee_n.1 callee_n.2
-      ∙ sym (ap (λ o. (o >>= λ id. slice_get t.specializations.items id.0) >>= callee_signature r)
+      ∙ sym (ap (λ o. (o >>= λ id. slice_get t.specializations.items id.0) >>= callee_types r)
       id.1
-      ∙ ap (λ o. o >>= callee_signature r) callee.1)
+      ∙ ap (λ o. o >>= callee_types r) callee.1)

@@ -37,7 +37,7 @@ use Rattle.lb_check.specs.SharedTypes.{all_paired, is_value_shared, is_callee_sh
 use Rattle.lb_check.specs.SharedTypes.{is_part_shared, AreSettled}
 use Rattle.lb_check.specs.TermTypes.{Context, type_of, types_in, results, are_equal, row_results}
 use Rattle.lb_check.specs.TermTypes.{when_both, when_truth, context_of, constant_at, count_at}
-use Rattle.lb_check.specs.TermTypes.{repeats_of, callee_signature, is_resolved_statement_typed}
+use Rattle.lb_check.specs.TermTypes.{repeats_of, callee_types, is_resolved_statement_typed}
 use Rattle.lb_check.specs.Types.{constant_type, unary_type, binary_type, common_type, array_of}
 use Rattle.lb_check.specs.Types.{index_type, slice_type, join_type, only, singly, symbol_types}
 use Rattle.lb_check.specs.Types.{iterator_types}
@@ -379,7 +379,7 @@ module _ (r : Reached) (t : Table) (n : ResolvedNode) (p s : Specialization)
         constant = constant_below p.statics.items s.statics.items statics;
         count = count_below p.statics.items s.statics.items statics;
         call = λ f. bound (called_below t p.callees.items s.callees.items callees f.0)
-            (λ callee. same (callee_signature r callee));
+            (λ callee. same (callee_types r callee));
         repeats = λ f. bound (same (slice_get n.calls.items f.0))
             (repeats_below p.statics.items s.statics.items statics);
       }

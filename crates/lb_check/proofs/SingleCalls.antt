@@ -39,8 +39,8 @@ use Rattle.lb_check.specs.ClockSets.{is_single, are_single, calls_single, is_sin
 use Rattle.lb_check.specs.ClockSets.{is_statement_single}
 use Rattle.lb_static.specs.StoredTypes.{declared_type, declared_types}
 use Rattle.lb_static.proofs.Options.{length-all_some}
-use Rattle.lb_check.specs.TermTypes.{Context, Signature, context_of}
-use Rattle.lb_check.specs.TermTypes.{signature_of, callee_signature, signature_at}
+use Rattle.lb_check.specs.TermTypes.{Context, CallTypes, context_of}
+use Rattle.lb_check.specs.TermTypes.{call_types_of, callee_types, call_types_at}
 use Rattle.lb_check.specs.TermTypes.{are_typed, is_specialization_typed, is_variable_typed}
 use Rattle.lb_check.specs.TermTypes.{is_resolved_statement_typed, is_node_typed, are_equal, results}
 use Rattle.lb_check.specs.TermTypes.{type_of, types_in, when_truth}
@@ -85,9 +85,9 @@ only_one (t ∷ []) e = refl
 only_one (t ∷ u ∷ ts) e = absurd cc
 
 -- a call with one type has one result
-one_result : (ts : Option (List DataType)) (o : Option Signature)
+one_result : (ts : Option (List DataType)) (o : Option CallTypes)
     → is_some (ts >>= (λ ts. o >>= λ o. where_true (are_types o.0 ts) o.1) >>= only) ≡ true
-    → (g : Signature) × (o ≡ Some g) × (length g.1 ≡ 1)
+    → (g : CallTypes) × (o ≡ Some g) × (length g.1 ≡ 1)
 one_result None o e = absurd cc
 one_result (Some ts) None e = absurd cc
 one_result (Some ts) (Some g) e = (g, refl, only_one g.1 (by (are_types g.0 ts) e))
@@ -122,9 +122,9 @@ outputs_there names n resolved =
     let taken = length-take n.outputs (drop n.inputs n.variables.items) in
     omega (arith, all, others, ins, outs, rest, taken)
 
-signature_outputs : (statics : List ℤ) (names : _) (n : ResolvedNode) (g : Signature) →
-    IsResolved names n → signature_of statics n ≡ Some g → length g.1 ≡ n.outputs
-signature_outputs statics names n g resolved e =
+call_outputs : (statics : List ℤ) (names : _) (n : ResolvedNode) (g : CallTypes) →
+    IsResolved names n → call_types_of statics n ≡ Some g → length g.1 ≡ n.outputs
+call_outputs statics names n g resolved e =
     let ins = bind_some (declared_types statics (take n.inputs n.variables.items))
     (λ ins. declared_types statics
     (take n.outputs (drop n.inputs n.variables.items)) >>= λ outs. Some (ins, outs)) g e in
@@ -137,9 +137,9 @@ signature_outputs statics names n g resolved e =
     ∙ length-map (take n.outputs (drop n.inputs n.variables.items)) (declared_type statics)
     ∙ outputs_there names n resolved
   where
-    second_of : (a b : List DataType) (g : Signature) →
-        ◌≡◌ {A = Option Signature} (Some (a, b)) (Some g) → b ≡ g.1
-    second_of a b g e = let same : ◌≡◌ {A = Signature} (a, b) g = cc in ap (λ p. p.1) same
+    second_of : (a b : List DataType) (g : CallTypes) →
+        ◌≡◌ {A = Option CallTypes} (Some (a, b)) (Some g) → b ≡ g.1
+    second_of a b g e = let same : ◌≡◌ {A = CallTypes} (a, b) g = cc in ap (λ p. p.1) same
 
 -- ## Calls
 
@@ -162,17 +162,17 @@ module _ (P : Program) (r : Reached) (t : Table) (j : IsJudged P r t) (i : ℕ) 
     (is : slice_get t.specializations.items i ≡ Some s)
     (at : slice_get r.nodes.items s.node.0 ≡ Some n) where
   -- what a call with one type calls has one output
-  call_single : (c : CallId) → is_call (counts_of n) c ≡ true → (g : Signature) →
-      signature_at r t s c ≡ Some g → length g.1 ≡ 1 → calls_single r n c ≡ true
+  call_single : (c : CallId) → is_call (counts_of n) c ≡ true → (g : CallTypes) →
+      call_types_at r t s c ≡ Some g → length g.1 ≡ 1 → calls_single r n c ≡ true
   call_single c w g typed one =
-      let called = bind_some (called_by t s c) (callee_signature r) g typed in
+      let called = bind_some (called_by t s c) (callee_types r) g typed in
       let id = bind_some (slice_get s.callees.items c.0)
       (λ id. slice_get t.specializations.items id.0) called.0 called.1 in
       let m = bind_some (slice_get r.nodes.items called.0.node.0)
-      (signature_of called.0.statics.items) g called.2 in
+      (call_types_of called.0.statics.items) g called.2 in
       let resolved = node_resolved P r j.names j.reached called.0.node.0 m.0 m.1 in
       let outs : m.0.outputs ≡ 1 =
-      sym (signature_outputs called.0.statics.items (source_names P) m.0 g resolved m.2)
+      sym (call_outputs called.0.statics.items (source_names P) m.0 g resolved m.2)
       ∙ one in
       let here = instance_of Root (node_of n) s.values.items in
       let here_is = specialized_instance P r t j.reached j.table s n Root at in
@@ -202,7 +202,7 @@ module _ (P : Program) (r : Reached) (t : Table) (j : IsJudged P r t) (i : ℕ) 
       true → calls_single r n c ≡ true
   unfolding context_of
   typed_call c w ts e =
-      let g = one_result ts (signature_at r t s c) e in
+      let g = one_result ts (call_types_at r t s c) e in
       call_single c w g.0 g.1 g.2
 
   mutual

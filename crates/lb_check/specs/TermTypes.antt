@@ -33,15 +33,15 @@ use Rattle.lb_check.specs.Types.{index_type, slice_type, join_type, list_type, s
 use Rattle.lb_check.specs.Types.{iterator_types, only, singly}
 
 -- the types of the inputs and of the outputs of what is called
-abbrev pub Signature : Type 0
-Signature = List DataType × List DataType
+abbrev pub CallTypes : Type 0
+CallTypes = List DataType × List DataType
 
 -- what stands for the numbers in a term
 pub record Context : Type 0 where
   pub variable : VariableId → Option DataType
   pub constant : StaticId → Option DataType
   pub count : StaticId → Option ℕ
-  pub call : CallId → Option Signature
+  pub call : CallId → Option CallTypes
   pub repeats : CallId → Option ℕ
 
 -- ## What stands for the numbers of a specialization
@@ -58,17 +58,17 @@ abbrev pub variable_at : ResolvedNode → Specialization → VariableId → Opti
 variable_at n s x = slice_get n.variables.items x.0 >>= declared_type s.statics.items
 
 -- the types of the inputs and of the outputs of a node under these static values
-abbrev pub signature_of : List ℤ → ResolvedNode → Option Signature
-signature_of statics n =
+abbrev pub call_types_of : List ℤ → ResolvedNode → Option CallTypes
+call_types_of statics n =
     declared_types statics (take n.inputs n.variables.items) >>= λ ins.
     declared_types statics (take n.outputs (drop n.inputs n.variables.items)) >>= λ outs.
     Some (ins, outs)
 
-abbrev pub callee_signature : Reached → Specialization → Option Signature
-callee_signature r s = slice_get r.nodes.items s.node.0 >>= signature_of s.statics.items
+abbrev pub callee_types : Reached → Specialization → Option CallTypes
+callee_types r s = slice_get r.nodes.items s.node.0 >>= call_types_of s.statics.items
 
-abbrev pub signature_at : Reached → Table → Specialization → CallId → Option Signature
-signature_at r t s c = called_by t s c >>= callee_signature r
+abbrev pub call_types_at : Reached → Table → Specialization → CallId → Option CallTypes
+call_types_at r t s c = called_by t s c >>= callee_types r
 
 abbrev pub repeats_of : List ℤ → CallSite → Option ℕ
 repeats_of statics site = either_or (option_map (count_at statics) site.count) (Some 0)
@@ -81,7 +81,7 @@ context_of r t n s = record {
   variable = variable_at n s;
   constant = constant_at s.statics.items;
   count = count_at s.statics.items;
-  call = signature_at r t s;
+  call = call_types_at r t s;
   repeats = repeats_at n s;
 }
 

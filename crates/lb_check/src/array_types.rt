@@ -8,8 +8,8 @@ ghost use Rattle.lb_static.specs.DataTypes.{is_type, are_types};
 ghost use Rattle.lb_static.specs.StoredTypes.{view_type, view_types};
 ghost use Rattle.lb_check.specs.Types as types;
 
+use crate::call_types::CallTypes;
 use crate::operand_types::one;
-use crate::signature::Signature;
 use lb_static::{DataType, are_same};
 use lb_syntax::ArrayIterator;
 use std::alloc::{AllocError, Global};
@@ -296,7 +296,7 @@ pub fn iterator_types(
     alloc: Global,
     iterator: ArrayIterator,
     size: u64,
-    callee: &Signature,
+    callee: &CallTypes,
     given: &[DataType],
 ) -> Result<Option<Vec<DataType>>, AllocError>
     ensures { IfOk result (λ o. option_map view_types o

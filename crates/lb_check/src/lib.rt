@@ -3,6 +3,7 @@
 
 mod array_types;
 mod call_clock;
+mod call_types;
 mod checked;
 mod checker;
 mod clock;
@@ -18,7 +19,6 @@ mod own_clock;
 mod placed_clock;
 mod placed_types;
 mod shared;
-mod signature;
 mod term_clock;
 mod type_env;
 mod type_rules;

@@ -3,12 +3,12 @@
 ghost use Rattle.std.specs.Prelude.{◌≡◌, pos, Some, map, option_map, IfOk};
 ghost use Rattle.lb_syntax.specs.Lists as lists;
 ghost use Rattle.lb_static.specs.StoredTypes.{view_type, view_types};
-ghost use Rattle.lb_check.specs.StoredTypes.{signature_in};
+ghost use Rattle.lb_check.specs.StoredTypes.{call_types_in};
 ghost use Rattle.lb_check.specs.TermTypes as mirror;
 ghost use Rattle.lb_check.specs.Types as types;
 
 use crate::array_types;
-use crate::signature::Signature;
+use crate::call_types::CallTypes;
 use lb_static::DataType;
 use lb_syntax::{BinaryOperator, Kind, UnaryOperator};
 use std::alloc::{AllocError, Global};
@@ -153,8 +153,8 @@ pub fn when_truth(condition: Option<DataType>, given: Option<DataType>) -> Optio
 }
 
 /// The types of what an iterated data operator takes and gives.
-pub fn symbol_types(alloc: Global, op: BinaryOperator) -> Result<Option<Signature>, AllocError>
-    ensures { IfOk result (λ o. option_map signature_in o ≡ types.symbol_types op) }
+pub fn symbol_types(alloc: Global, op: BinaryOperator) -> Result<Option<CallTypes>, AllocError>
+    ensures { IfOk result (λ o. option_map call_types_in o ≡ types.symbol_types op) }
 {
     let kind = match op {
         BinaryOperator::Plus
@@ -171,7 +171,7 @@ pub fn symbol_types(alloc: Global, op: BinaryOperator) -> Result<Option<Signatur
     inputs.push(DataType::scalar(alloc, kind))?;
     let mut outputs = Vec::new(alloc);
     outputs.push(DataType::scalar(alloc, kind))?;
-    Ok(Some(Signature { inputs, outputs }))
+    Ok(Some(CallTypes { inputs, outputs }))
 }
 
 /// One type.

@@ -2,11 +2,11 @@
 
 ghost use Rattle.std.specs.Prelude.{◌≡◌, option_map, IfOk};
 ghost use Rattle.lb_static.specs.StoredTypes.{view_type};
-ghost use Rattle.lb_check.specs.StoredTypes.{signature_in, context_in};
+ghost use Rattle.lb_check.specs.StoredTypes.{call_types_in, context_in};
 ghost use Rattle.lb_check.specs.TermTypes as mirror;
 
+use crate::call_types::CallTypes;
 use crate::operand_types::constant_type;
-use crate::signature::Signature;
 use lb_static::{
     CallId, CallSite, DataType, Reached, ResolvedNode, Specialization, StaticId, StaticInt, Table,
     VariableId, data_types, part_of,
@@ -47,13 +47,13 @@ fn repeats_of(statics: &[StaticInt], site: CallSite) -> Option<u64>
 }
 
 /// The types of the inputs and of the outputs of a node under these static values.
-fn signature_of(
+fn call_types_of(
     alloc: Global,
     statics: &[StaticInt],
     node: &ResolvedNode,
-) -> Result<Option<Signature>, AllocError>
+) -> Result<Option<CallTypes>, AllocError>
     ensures { IfOk result (λ o.
-        option_map signature_in o ≡ mirror.signature_of statics.now node.now) }
+        option_map call_types_in o ≡ mirror.call_types_of statics.now node.now) }
 {
     let inputs = part_of(&node.variables, 0, node.inputs);
     let Some(inputs) = data_types(alloc, inputs, statics)? else {
@@ -63,20 +63,20 @@ fn signature_of(
     let Some(outputs) = data_types(alloc, outputs, statics)? else {
         return Ok(None);
     };
-    Ok(Some(Signature { inputs, outputs }))
+    Ok(Some(CallTypes { inputs, outputs }))
 }
 
 /// The types of the inputs and of the outputs of a specialization.
-fn callee_signature(
+fn callee_types(
     alloc: Global,
     reached: &Reached,
     callee: &Specialization,
-) -> Result<Option<Signature>, AllocError>
+) -> Result<Option<CallTypes>, AllocError>
     ensures { IfOk result (λ o.
-        option_map signature_in o ≡ mirror.callee_signature reached.now callee.now) }
+        option_map call_types_in o ≡ mirror.callee_types reached.now callee.now) }
 {
     match reached.nodes.get(callee.node.0) {
-        Some(node) => signature_of(alloc, &callee.statics, node),
+        Some(node) => call_types_of(alloc, &callee.statics, node),
         None => Ok(None),
     }
 }
@@ -121,12 +121,12 @@ impl TypeEnv<'_, '_> {
 
     /// The types of the inputs and of the outputs of what is called.
     #[tactic(auto, unfolding(crate::specs::TermTypes::context_of))]
-    pub fn call(&self, alloc: Global, c: CallId) -> Result<Option<Signature>, AllocError>
+    pub fn call(&self, alloc: Global, c: CallId) -> Result<Option<CallTypes>, AllocError>
         ensures { IfOk result (λ o.
-            option_map signature_in o ≡ (context_in self.now).call c) }
+            option_map call_types_in o ≡ (context_in self.now).call c) }
     {
         match self.table.called(self.specialization, c) {
-            Some(callee) => callee_signature(alloc, self.reached, callee),
+            Some(callee) => callee_types(alloc, self.reached, callee),
             None => Ok(None),
         }
     }

@@ -1,5 +1,6 @@
 -- What an outcome tells of the reading of the input.
-use Rattle.std.proofs.Common.{◌≡◌, ◌≢◌, ◌∙◌, List, Result, Ok, Err, Bor, IsErrAnd, ap, arith, inl, inr}
+use Rattle.std.proofs.Common.{◌≡◌, ◌≢◌, ◌∙◌, List, Result, Ok, Err, Bor, IsErrAnd, ap, arith}
+use Rattle.std.proofs.Common.{inl, inr}
 use Rattle.std.proofs.Common.{option_map, subst, sym}
 use Rattle.clap.specs.Words.{Text}
 use Rattle.lb_report.specs.Refusals.{number_of}

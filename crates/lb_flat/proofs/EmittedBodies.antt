@@ -18,7 +18,7 @@ use Rattle.lb_check.specs.Occurrences.{statement_clock}
 use Rattle.lb_check.specs.Streams.{History}
 use Rattle.lb_check.proofs.OccurrenceSites.{body_occurrences}
 use Rattle.lb_flat.specs.Emit.{State, Target, assert, copied, emit, emit_body, joins, targets}
-use Rattle.lb_flat.specs.EmitTerms.{Context, Place, PlacedEmitted, emit_statement, emit_statements}
+use Rattle.lb_flat.specs.EmitTerms.{Context, Cursor, PlacedEmitted, emit_statement, emit_statements}
 use Rattle.lb_flat.specs.EmitTerms.{first_place, left_targets}
 use Rattle.lb_flat.specs.Flat.{FlatClock}
 use Rattle.lb_flat.specs.Layouts.{Layout}
@@ -53,13 +53,13 @@ module _ (Y : Layout) (P : Program) (H : History) (here : Instance) (texts : Tex
 
   -- ## Statements
 
-  abbrev IsBodySame : Place → State → List ResolvedStatement → Type 0
+  abbrev IsBodySame : Cursor → State → List ResolvedStatement → Type 0
   IsBodySame at s ss =
       (emit_statements ctx at s ss).state
       ≡ emit_body Y P here at.call s (map (statement_of texts) ss)
 
   pub statements_are :
-      (at : Place) (s : State) (ss : List ResolvedStatement) →
+      (at : Cursor) (s : State) (ss : List ResolvedStatement) →
       list_all (is_statement_within n) ss ≡ true →
       list_all (is_statement_unhidden texts) ss ≡ true →
       Standing at.term (body_occurrences P here.node at.call (map (statement_of texts) ss)) →
@@ -126,12 +126,12 @@ module _ (Y : Layout) (P : Program) (H : History) (here : Instance) (texts : Tex
   -- ## Places
 
   -- the place after all terms and calls of some statements
-  abbrev past_all : Place → List Statement → Place
+  abbrev past_all : Cursor → List Statement → Cursor
   past_all at ss =
       past at (body_occurrences P here.node at.call ss) (length (flat_map statement_sites ss))
 
   places_are :
-      (at : Place) (s : State) (ss : List ResolvedStatement) →
+      (at : Cursor) (s : State) (ss : List ResolvedStatement) →
       list_all (is_statement_within n) ss ≡ true →
       list_all (is_statement_unhidden texts) ss ≡ true →
       Standing at.term (body_occurrences P here.node at.call (map (statement_of texts) ss)) →

@@ -25,7 +25,7 @@ use Rattle.lb_flat.specs.Emit.{State, Emitted, numbered, after, add, keep, asser
 use Rattle.lb_flat.specs.Emit.{chosen_by}
 use Rattle.lb_flat.specs.Emit.{before_instances}
 use Rattle.lb_flat.specs.Emit.{push, chained, twice, emit_nor, emit_at_most_one}
-use Rattle.lb_flat.specs.EmitTerms.{Context, Place, PlacedEmitted, first_place, next_term}
+use Rattle.lb_flat.specs.EmitTerms.{Context, Cursor, PlacedEmitted, first_place, next_term}
 use Rattle.lb_flat.specs.EmitTerms.{next_call, left_targets, memory, choose, red, symbol, with_one}
 use Rattle.lb_flat.specs.EmitTerms.{with_two, with_all, emit_term, emit_row}
 use Rattle.lb_flat.specs.EmitTerms.{emit_statement, emit_statements, emit_rows}
@@ -126,7 +126,7 @@ memory_adds k f x =
 
 -- ## Terms
 
-one_adds : (ctx : Context) (at : Place) (e : Term) (x : Emitted) →
+one_adds : (ctx : Context) (at : Cursor) (e : Term) (x : Emitted) →
     Adds x.state (with_one ctx at e x).state
 one_adds ctx at (Unary' op p a) x = add_adds _ x.state _
 one_adds ctx at (Pre' p a) x = memory_adds _ _ x
@@ -152,7 +152,7 @@ one_adds ctx at (Call' c arity all) x = refl
 one_adds ctx at (IterateNode' it c arity all) x = refl
 one_adds ctx at (IterateSymbol' it op n arity all) x = refl
 
-two_adds : (ctx : Context) (at : Place) (e : Term) (xs : List ℕ) (y : Emitted) →
+two_adds : (ctx : Context) (at : Cursor) (e : Term) (xs : List ℕ) (y : Emitted) →
     Adds y.state (with_two ctx at e xs y).state
 two_adds ctx at (Binary' op p a q b) xs y = add_adds _ y.state _
 two_adds ctx at (Arrow' p a q b) xs y = add_adds _ y.state _
@@ -183,7 +183,7 @@ two_adds ctx at (Call' c arity all) xs y = refl
 two_adds ctx at (IterateNode' it c arity all) xs y = refl
 two_adds ctx at (IterateSymbol' it op n arity all) xs y = refl
 
-all_adds : (ctx : Context) (at : Place) (e : Term) (r : Emitted) →
+all_adds : (ctx : Context) (at : Cursor) (e : Term) (r : Emitted) →
     Adds r.state (with_all ctx at e r).state
 all_adds ctx at (AtMostOne' arity all) r = at_most_one_adds _ r.state r.found
 all_adds ctx at (Nor' arity all) r = nor_adds _ r.state r.found
@@ -210,13 +210,13 @@ all_adds ctx at (Fby' p a q b) r = refl
 all_adds ctx at (Join' p a q b) r = refl
 
 -- with what the words on its operands take
-one_more : (ctx : Context) (at : Place) (s : State) (e : Term) (x : PlacedEmitted) →
+one_more : (ctx : Context) (at : Cursor) (s : State) (e : Term) (x : PlacedEmitted) →
     Adds s x.emitted.state → Adds s (with_one ctx at e x.emitted).state
 one_more ctx at s e x h =
     then_adds s x.emitted.state (with_one ctx at e x.emitted).state h
     (one_adds ctx at e x.emitted)
 
-two_more : (ctx : Context) (at : Place) (s : State) (e : Term) (x y : PlacedEmitted) →
+two_more : (ctx : Context) (at : Cursor) (s : State) (e : Term) (x y : PlacedEmitted) →
     Adds s x.emitted.state → Adds x.emitted.state y.emitted.state →
     Adds s (with_two ctx at e x.emitted.found y.emitted).state
 two_more ctx at s e x y h g =
@@ -235,7 +235,7 @@ if_more k s z x y h g f =
     (then_adds z.emitted.state x.emitted.state t g
     (then_adds x.emitted.state y.emitted.state t f (add_adds k y.emitted.state os)))
 
-row_more : (ctx : Context) (at : Place) (s : State) (e : Term) (r : PlacedEmitted) →
+row_more : (ctx : Context) (at : Cursor) (s : State) (e : Term) (r : PlacedEmitted) →
     Adds s r.emitted.state → Adds s (with_all ctx at e r.emitted).state
 row_more ctx at s e r h =
     then_adds s r.emitted.state (with_all ctx at e r.emitted).state h
@@ -245,7 +245,7 @@ mutual
   unfolding emit_term
 
   -- a term
-  next_adds : (ctx : Context) (at : Place) (s : State) (e : Term) →
+  next_adds : (ctx : Context) (at : Cursor) (s : State) (e : Term) →
       Adds s (emit_term ctx at s e).emitted.state
   next_adds ctx at s (Literal n) = add_adds _ s _
   next_adds ctx at s (Truth b) = add_adds _ s _
@@ -324,7 +324,7 @@ mutual
       row_more ctx at s (IterateSymbol' it op n arity all) (emit_row ctx (next_term at) s all)
       (row_adds ctx (next_term at) s all)
 
-  row_adds : {m : _} (ctx : Context) (at : Place) (s : State) (row : Row_of-Term m) →
+  row_adds : {m : _} (ctx : Context) (at : Cursor) (s : State) (row : Row_of-Term m) →
       Adds s (emit_row ctx at s row).emitted.state
   row_adds ctx at s end_of-Term = refl
   row_adds ctx at s (more_of-Term e rest) =
@@ -335,7 +335,7 @@ mutual
 
 -- ## Statements and instances
 
-statement_adds : (ctx : Context) (at : Place) (s : State) (x : ResolvedStatement) →
+statement_adds : (ctx : Context) (at : Cursor) (s : State) (x : ResolvedStatement) →
     Adds s (emit_statement ctx at s x).state
 unfolding emit_statement
 statement_adds ctx at s (statement.Equation lefts e) =
@@ -348,7 +348,7 @@ statement_adds ctx at s (statement.Assertion e) =
     then_adds s x.emitted.state (assert x.emitted) (next_adds ctx at s e)
     (assert_adds x.emitted)
 
-statements_add : (ctx : Context) (at : Place) (s : State) (xs : List ResolvedStatement) →
+statements_add : (ctx : Context) (at : Cursor) (s : State) (xs : List ResolvedStatement) →
     Adds s (emit_statements ctx at s xs).state
 unfolding emit_statements
 statements_add ctx at s [] = refl

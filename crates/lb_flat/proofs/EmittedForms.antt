@@ -19,7 +19,7 @@ use Rattle.lb_static.specs.declared.resolved.Term.{Term, Unary, Binary, Arrow, F
 use Rattle.lb_static.specs.declared.resolved.Term.{When, Join, Array, AtMostOne, Nor}
 use Rattle.lb_flat.specs.Emit.{Emitted, gives, emit_nor}
 use Rattle.lb_flat.specs.Emit.{emit_at_most_one}
-use Rattle.lb_flat.specs.EmitTerms.{Context, Place, each, memory, pairs, choose, symbol, with_one}
+use Rattle.lb_flat.specs.EmitTerms.{Context, Cursor, each, memory, pairs, choose, symbol, with_one}
 use Rattle.lb_flat.specs.EmitTerms.{with_two, with_all}
 use Rattle.lb_flat.specs.Flat as flat
 use Rattle.lb_flat.specs.Flat.{FlatClock, ApplyUnary, ApplyBinary, FirstThen, Previous, Latest}
@@ -29,7 +29,7 @@ use Rattle.lb_flat.proofs.EmittedStacks.{added_none, without_operands}
 
 -- ## One operand
 
-module _ (ctx : Context) (at : Place) (t : Term) (e : Box Term Global) (k : FlatClock) where
+module _ (ctx : Context) (at : Cursor) (t : Term) (e : Box Term Global) (k : FlatClock) where
   pub unary_form : (op : UnaryOperator) → t ≡ Unary op e → k ≡ ctx.clock at.term →
       (x : Emitted) → with_one ctx at t x ≡ each k (ApplyUnary op) x
   unary_form op is clock x = rw (is, clock) refl
@@ -53,7 +53,7 @@ top_form from f g x is = sym (ap (onto (take from x.found)) (is (above from x)))
 
 -- ## Two operands
 
-module _ (ctx : Context) (at : Place) (t : Term) (a b : Box Term Global) (k : FlatClock) where
+module _ (ctx : Context) (at : Cursor) (t : Term) (a b : Box Term Global) (k : FlatClock) where
   pub binary_form : (op : BinaryOperator) → t ≡ Binary op a b → k ≡ ctx.clock at.term →
       (xs : List ℕ) (y : Emitted) → with_two ctx at t xs y ≡ pairs k (ApplyBinary op) xs y
   binary_form op is clock xs y = rw (is, clock) refl
@@ -138,7 +138,7 @@ pairs_after k f g from middle x y le within e =
 
 -- ## A row
 
-module _ (ctx : Context) (at : Place) (t : Term) (es : Vec Term Global) (k : FlatClock) where
+module _ (ctx : Context) (at : Cursor) (t : Term) (es : Vec Term Global) (k : FlatClock) where
   pub one_form : t ≡ AtMostOne es → k ≡ ctx.clock at.term → (r : Emitted) →
       with_all ctx at t r ≡ emit_at_most_one k r.state r.found
   one_form is clock r = rw (is, clock) refl

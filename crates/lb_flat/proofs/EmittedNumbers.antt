@@ -20,7 +20,7 @@ use Rattle.lb_flat.specs.Flat.{FlatClock, Operation, Constant, ApplyUnary, Apply
 use Rattle.lb_flat.specs.Flat.{Previous}
 use Rattle.lb_flat.specs.Emit.{State, Emitted, add, keep, assert, joins, copied, chosen_by, push}
 use Rattle.lb_flat.specs.Emit.{chained, twice, emit_nor, emit_at_most_one}
-use Rattle.lb_flat.specs.EmitTerms.{Context, Place, PlacedEmitted, first_place, next_term}
+use Rattle.lb_flat.specs.EmitTerms.{Context, Cursor, PlacedEmitted, first_place, next_term}
 use Rattle.lb_flat.specs.EmitTerms.{next_call, left_targets, memory, choose, red, symbol, with_one}
 use Rattle.lb_flat.specs.EmitTerms.{with_two, with_all, emit_term, emit_row, emit_list}
 use Rattle.lb_flat.specs.EmitTerms.{emit_statement, emit_statements, emit_rows}
@@ -104,7 +104,7 @@ memory_grows k f x =
 
 -- ## Terms
 
-pub one_grows : (ctx : Context) (at : Place) (e : Term) (x : Emitted) →
+pub one_grows : (ctx : Context) (at : Cursor) (e : Term) (x : Emitted) →
     x.state.next ≤ (with_one ctx at e x).state.next
 one_grows ctx at (Unary' op p a) x = add_grows _ x.state _
 one_grows ctx at (Pre' p a) x = memory_grows _ _ x
@@ -130,7 +130,7 @@ one_grows ctx at (Call' c arity all) x = omega arith
 one_grows ctx at (IterateNode' it c arity all) x = omega arith
 one_grows ctx at (IterateSymbol' it op n arity all) x = omega arith
 
-pub two_grows : (ctx : Context) (at : Place) (e : Term) (xs : List ℕ) (y : Emitted) →
+pub two_grows : (ctx : Context) (at : Cursor) (e : Term) (xs : List ℕ) (y : Emitted) →
     y.state.next ≤ (with_two ctx at e xs y).state.next
 two_grows ctx at (Binary' op p a q b) xs y = add_grows _ y.state _
 two_grows ctx at (Arrow' p a q b) xs y = add_grows _ y.state _
@@ -161,7 +161,7 @@ two_grows ctx at (Call' c arity all) xs y = omega arith
 two_grows ctx at (IterateNode' it c arity all) xs y = omega arith
 two_grows ctx at (IterateSymbol' it op n arity all) xs y = omega arith
 
-pub all_grows : (ctx : Context) (at : Place) (e : Term) (r : Emitted) →
+pub all_grows : (ctx : Context) (at : Cursor) (e : Term) (r : Emitted) →
     r.state.next ≤ (with_all ctx at e r).state.next
 all_grows ctx at (AtMostOne' arity all) r = at_most_one_grows _ r.state r.found
 all_grows ctx at (Nor' arity all) r = nor_grows _ r.state r.found
@@ -195,13 +195,13 @@ then_grows : (s t u : State) → Grows s t → Grows t u → Grows s u
 then_grows s t u a b = omega arith
 
 -- with what the words on its operands take
-one_more : (ctx : Context) (at : Place) (s : State) (e : Term) (x : PlacedEmitted) →
+one_more : (ctx : Context) (at : Cursor) (s : State) (e : Term) (x : PlacedEmitted) →
     Grows s x.emitted.state → Grows s (with_one ctx at e x.emitted).state
 one_more ctx at s e x h =
     then_grows s x.emitted.state (with_one ctx at e x.emitted).state h
     (one_grows ctx at e x.emitted)
 
-two_more : (ctx : Context) (at : Place) (s : State) (e : Term) (x y : PlacedEmitted) →
+two_more : (ctx : Context) (at : Cursor) (s : State) (e : Term) (x y : PlacedEmitted) →
     Grows s x.emitted.state → Grows x.emitted.state y.emitted.state →
     Grows s (with_two ctx at e x.emitted.found y.emitted).state
 two_more ctx at s e x y h g =
@@ -220,7 +220,7 @@ if_more k s z x y h g f =
     (then_grows z.emitted.state x.emitted.state t g
     (then_grows x.emitted.state y.emitted.state t f (add_grows k y.emitted.state os)))
 
-row_more : (ctx : Context) (at : Place) (s : State) (e : Term) (r : PlacedEmitted) →
+row_more : (ctx : Context) (at : Cursor) (s : State) (e : Term) (r : PlacedEmitted) →
     Grows s r.emitted.state → Grows s (with_all ctx at e r.emitted).state
 row_more ctx at s e r h =
     then_grows s r.emitted.state (with_all ctx at e r.emitted).state h
@@ -230,7 +230,7 @@ mutual
   unfolding emit_term
 
   -- a term takes new numbers alone
-  pub next_grows : (ctx : Context) (at : Place) (s : State) (e : Term) →
+  pub next_grows : (ctx : Context) (at : Cursor) (s : State) (e : Term) →
       s.next ≤ (emit_term ctx at s e).emitted.state.next
   next_grows ctx at s (Literal n) = add_grows _ s _
   next_grows ctx at s (Truth b) = add_grows _ s _
@@ -309,7 +309,7 @@ mutual
       row_more ctx at s (IterateSymbol' it op n arity all) (emit_row ctx (next_term at) s all)
       (row_grows ctx (next_term at) s all)
 
-  pub row_grows : {m : _} (ctx : Context) (at : Place) (s : State) (row : Row_of-Term m) →
+  pub row_grows : {m : _} (ctx : Context) (at : Cursor) (s : State) (row : Row_of-Term m) →
       s.next ≤ (emit_row ctx at s row).emitted.state.next
   row_grows ctx at s end_of-Term = omega arith
   row_grows ctx at s (more_of-Term e rest) =
@@ -318,7 +318,7 @@ mutual
       then_grows s x.emitted.state r.emitted.state (next_grows ctx at s e)
       (row_grows ctx x.place x.emitted.state rest)
 
-pub list_grows : (ctx : Context) (at : Place) (s : State) (es : List Term) →
+pub list_grows : (ctx : Context) (at : Cursor) (s : State) (es : List Term) →
     s.next ≤ (emit_list ctx at s es).emitted.state.next
 unfolding emit_list
 list_grows ctx at s [] = omega arith
@@ -330,7 +330,7 @@ list_grows ctx at s (e ∷ es) =
 
 -- ## Statements and instances
 
-pub statement_grows : (ctx : Context) (at : Place) (s : State) (x : ResolvedStatement) →
+pub statement_grows : (ctx : Context) (at : Cursor) (s : State) (x : ResolvedStatement) →
     s.next ≤ (emit_statement ctx at s x).state.next
 unfolding emit_statement
 statement_grows ctx at s (statement.Equation lefts e) =
@@ -343,7 +343,7 @@ statement_grows ctx at s (statement.Assertion e) =
     then_grows s x.emitted.state (assert x.emitted) (next_grows ctx at s e)
     (assert_grows x.emitted)
 
-pub statements_grow : (ctx : Context) (at : Place) (s : State) (xs : List ResolvedStatement) →
+pub statements_grow : (ctx : Context) (at : Cursor) (s : State) (xs : List ResolvedStatement) →
     s.next ≤ (emit_statements ctx at s xs).state.next
 unfolding emit_statements
 statements_grow ctx at s [] = omega arith

@@ -8,7 +8,7 @@ use Rattle.std.proofs.lemmas.List.{append_assoc, length-append}
 use Rattle.std.proofs.Math.Nat.{add-sub_cancel_left}
 use Rattle.lb_static.specs.declared.resolved.Term.{Term, If}
 use Rattle.lb_flat.specs.Emit.{State, Emitted}
-use Rattle.lb_flat.specs.EmitTerms.{Context, Place, PlacedEmitted, placed, next_term}
+use Rattle.lb_flat.specs.EmitTerms.{Context, Cursor, PlacedEmitted, placed, next_term}
 use Rattle.lb_flat.specs.EmitTerms.{choose, emit_term, emit_list}
 use Rattle.lb_flat.specs.Flat.{FlatClock}
 use Rattle.lb_flat.specs.Frames.{HasPlaces, HasRoom, stacked}
@@ -54,35 +54,35 @@ on_three_onto f below cs xs y =
 module _ (ctx : Context) where
   -- one operand more, above those that stand there
   pub then_operand :
-      (below : List ℕ) (to up : Place) (mid next : Emitted) (x : PlacedEmitted) (e : Term) →
+      (below : List ℕ) (to up : Cursor) (mid next : Emitted) (x : PlacedEmitted) (e : Term) →
       placed to mid ≡ stacked below x →
       placed up next ≡ stacked mid.found (emit_term ctx to mid.state e) →
       placed up next
       ≡ stacked (below ++ x.emitted.found) (emit_term ctx x.place x.emitted.state e)
   then_operand below to up mid next x e h g =
-      g ∙ ap₂ (λ (at : Place) (z : Emitted). stacked z.found (emit_term ctx at z.state e))
+      g ∙ ap₂ (λ (at : Cursor) (z : Emitted). stacked z.found (emit_term ctx at z.state e))
       (place_in to mid (stacked below x) h) (emitted_in to mid (stacked below x) h)
 
   -- it has room as the mirror says
   pub moved_room :
-      (below : List ℕ) (to : Place) (mid : Emitted) (x : PlacedEmitted) (e : Term) →
+      (below : List ℕ) (to : Cursor) (mid : Emitted) (x : PlacedEmitted) (e : Term) →
       placed to mid ≡ stacked below x → HasRoom (emit_term ctx x.place x.emitted.state e) →
       HasRoom (emit_term ctx to mid.state e)
   moved_room below to mid x e h room =
       subst (λ (r : PlacedEmitted). HasRoom (emit_term ctx r.place r.emitted.state e)) (sym h) room
 
 -- how many elements stand there, and how far the numbers go
-pub left_size : (below : List ℕ) (to : Place) (mid : Emitted) (x : PlacedEmitted) →
+pub left_size : (below : List ℕ) (to : Cursor) (mid : Emitted) (x : PlacedEmitted) →
     placed to mid ≡ stacked below x → length mid.found ≡ length below + length x.emitted.found
 left_size below to mid x h =
     ap (λ (r : PlacedEmitted). length r.emitted.found) h ∙ length-append below x.emitted.found
 
-pub left_next : (below : List ℕ) (to : Place) (mid : Emitted) (x : PlacedEmitted) →
+pub left_next : (below : List ℕ) (to : Cursor) (mid : Emitted) (x : PlacedEmitted) →
     placed to mid ≡ stacked below x → mid.state.next ≡ x.emitted.state.next
 left_next below to mid x h = ap (λ (r : PlacedEmitted). r.emitted.state.next) h
 
 -- the parts of two operands
-module _ (below : List ℕ) (to up : Place) (mid next : Emitted) (x y : PlacedEmitted)
+module _ (below : List ℕ) (to up : Cursor) (mid next : Emitted) (x y : PlacedEmitted)
     (h : placed to mid ≡ stacked below x)
     (g : placed up next ≡ stacked (below ++ x.emitted.found) y) where
   middle_is : length mid.found ≡ length (below ++ x.emitted.found)
@@ -108,8 +108,8 @@ module _ (below : List ℕ) (to up : Place) (mid next : Emitted) (x y : PlacedEm
       subst (λ (z : Emitted). z.state.next < most) (sym (ap₂ f first_part second_part)) lt
 
 -- a choice
-module _ (ctx : Context) (at : Place) (s : State) (below : List ℕ) (c a b : Box Term Global)
-    (to up top : Place) (one mid next : Emitted)
+module _ (ctx : Context) (at : Cursor) (s : State) (below : List ℕ) (c a b : Box Term Global)
+    (to up top : Cursor) (one mid next : Emitted)
     (h : placed to one ≡ stacked below (emit_term ctx (next_term at) s c.value))
     (g : placed up mid ≡ stacked one.found (emit_term ctx to one.state a.value))
     (f : placed top next ≡ stacked mid.found (emit_term ctx up mid.state b.value)) where
@@ -174,42 +174,42 @@ module _ (ctx : Context) (at : Place) (s : State) (below : List ℕ) (c a b : Bo
 
 -- ## Where operands begin
 
-pub start_room : (ctx : Context) (at : Place) (s : State) (e : Term) →
+pub start_room : (ctx : Context) (at : Cursor) (s : State) (e : Term) →
     HasRoom (emit_term ctx at s e) → HasPlaces at
 start_room ctx at s e h =
     places_before at (emit_term ctx at s e).place (place_grows ctx at s e) h.places
 
-pub list_start : (ctx : Context) (at : Place) (s : State) (es : List Term) →
+pub list_start : (ctx : Context) (at : Cursor) (s : State) (es : List Term) →
     HasRoom (emit_list ctx at s es) → HasPlaces at
 list_start ctx at s es h =
     places_before at (emit_list ctx at s es).place (list_later ctx at s es) h.places
 
-pub next_fits : (at : Place) → HasPlaces (next_term at) → at.term + 1 < 2 ^ 64
+pub next_fits : (at : Cursor) → HasPlaces (next_term at) → at.term + 1 < 2 ^ 64
 next_fits at h = let lt = h.terms in omega (arith, lt)
 
 -- the same term at the same place
 pub same_room :
-    (ctx : Context) (p q : Place) (s : State) (e f : Term) → q ≡ p → f ≡ e →
+    (ctx : Context) (p q : Cursor) (s : State) (e f : Term) → q ≡ p → f ≡ e →
     HasRoom (emit_term ctx p s e) → HasRoom (emit_term ctx q s f)
 same_room ctx p q s e f place is h =
     subst HasRoom (sym (ap₂ (λ p e. emit_term ctx p s e) place is)) h
 
 pub same_list :
-    (ctx : Context) (p q : Place) (s : State) (es fs : List Term) → q ≡ p → fs ≡ es →
+    (ctx : Context) (p q : Cursor) (s : State) (es fs : List Term) → q ≡ p → fs ≡ es →
     HasRoom (emit_list ctx p s es) → HasRoom (emit_list ctx q s fs)
 same_list ctx p q s es fs place is h =
     subst HasRoom (sym (ap₂ (λ p es. emit_list ctx p s es) place is)) h
 
 -- what a call of the code left, as what the mirror emits
 pub placed_as :
-    (ctx : Context) (p q to : Place) (s : State) (e f : Term) (below : List ℕ) (x : Emitted) →
+    (ctx : Context) (p q to : Cursor) (s : State) (e f : Term) (below : List ℕ) (x : Emitted) →
     q ≡ p → f ≡ e → placed to x ≡ stacked below (emit_term ctx q s f) →
     placed to x ≡ stacked below (emit_term ctx p s e)
 placed_as ctx p q to s e f below x place is h =
     h ∙ ap₂ (λ p e. stacked below (emit_term ctx p s e)) place is
 
 pub listed_as :
-    (ctx : Context) (p q to : Place) (s : State) (es fs : List Term) (below : List ℕ)
+    (ctx : Context) (p q to : Cursor) (s : State) (es fs : List Term) (below : List ℕ)
     (x : Emitted) → q ≡ p → fs ≡ es → placed to x ≡ stacked below (emit_list ctx q s fs) →
     placed to x ≡ stacked below (emit_list ctx p s es)
 listed_as ctx p q to s es fs below x place is h =

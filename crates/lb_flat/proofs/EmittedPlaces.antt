@@ -7,40 +7,40 @@ use Rattle.lb_static.specs.declared.resolved.Term.{Join', Array', AtMostOne', No
 use Rattle.lb_static.specs.declared.resolved.Term.{IterateNode', IterateSymbol', Row_of-Term}
 use Rattle.lb_static.specs.declared.resolved.Term.{end_of-Term, more_of-Term}
 use Rattle.lb_flat.specs.Emit.{State}
-use Rattle.lb_flat.specs.EmitTerms.{Context, Place, next_term, next_call, emit_term, emit_row}
+use Rattle.lb_flat.specs.EmitTerms.{Context, Cursor, next_term, next_call, emit_term, emit_row}
 use Rattle.lb_flat.specs.EmitTerms.{emit_list}
 
 -- one place is not after another
-pub record IsNotAfter (from to : Place) : Type 0 where
+pub record IsNotAfter (from to : Cursor) : Type 0 where
   pub term : from.term ≤ to.term
   pub call : from.call ≤ to.call
 
-pub same_place : (at : Place) → IsNotAfter at at
+pub same_place : (at : Cursor) → IsNotAfter at at
 same_place at = record { term = omega arith; call = omega arith }
 
-pub one_later : (at : Place) → IsNotAfter at (next_term at)
+pub one_later : (at : Cursor) → IsNotAfter at (next_term at)
 one_later at = record { term = omega arith; call = omega arith }
 
-pub call_later : (at : Place) → IsNotAfter at (next_call at)
+pub call_later : (at : Cursor) → IsNotAfter at (next_call at)
 call_later at = record { term = omega arith; call = omega arith }
 
-pub then_later : (at from to : Place) → IsNotAfter at from → IsNotAfter from to → IsNotAfter at to
+pub then_later : (at from to : Cursor) → IsNotAfter at from → IsNotAfter from to → IsNotAfter at to
 then_later at from to a b =
     record { term = omega (arith, a.term, b.term); call = omega (arith, a.call, b.call) }
 
 -- from the term after one
-after_one : (at to : Place) → IsNotAfter (next_term at) to → IsNotAfter at to
+after_one : (at to : Cursor) → IsNotAfter (next_term at) to → IsNotAfter at to
 after_one at to h = then_later at (next_term at) to (one_later at) h
 
 -- after a first operand
-after_two : (at from to : Place) → IsNotAfter (next_term at) from → IsNotAfter from to →
+after_two : (at from to : Cursor) → IsNotAfter (next_term at) from → IsNotAfter from to →
     IsNotAfter at to
 after_two at from to h g = after_one at to (then_later (next_term at) from to h g)
 
 mutual
   unfolding emit_term
 
-  pub place_grows : (ctx : Context) (at : Place) (s : State) (e : Term) →
+  pub place_grows : (ctx : Context) (at : Cursor) (s : State) (e : Term) →
       IsNotAfter at (emit_term ctx at s e).place
   place_grows ctx at s (Literal n) = one_later at
   place_grows ctx at s (Truth b) = one_later at
@@ -107,7 +107,7 @@ mutual
       then_later at (next_term at) (emit_row ctx (next_term at) s all).place (one_later at)
       (row_later ctx (next_term at) s all)
 
-  pub row_later : {m : _} (ctx : Context) (at : Place) (s : State) (row : Row_of-Term m) →
+  pub row_later : {m : _} (ctx : Context) (at : Cursor) (s : State) (row : Row_of-Term m) →
       IsNotAfter at (emit_row ctx at s row).place
   row_later ctx at s end_of-Term = same_place at
   row_later ctx at s (more_of-Term e rest) =
@@ -115,7 +115,7 @@ mutual
       then_later at x.place (emit_row ctx x.place x.emitted.state rest).place
       (place_grows ctx at s e) (row_later ctx x.place x.emitted.state rest)
 
-pub list_later : (ctx : Context) (at : Place) (s : State) (es : List Term) →
+pub list_later : (ctx : Context) (at : Cursor) (s : State) (es : List Term) →
     IsNotAfter at (emit_list ctx at s es).place
 unfolding emit_list
 list_later ctx at s [] = same_place at

@@ -14,7 +14,7 @@ use Rattle.lb_static.specs.declared.resolved.Term.{Row_of-Term}
 use Rattle.lb_static.specs.declared.resolved.Term.{end_of-Term, more_of-Term, items-the_row-Term}
 use Rattle.lb_static.specs.declared.resolved.Term.{items_hidden-the_row-Term-0}
 use Rattle.lb_flat.specs.Emit.{State, Emitted, gives}
-use Rattle.lb_flat.specs.EmitTerms.{Context, Place, PlacedEmitted, placed, next_term, next_call}
+use Rattle.lb_flat.specs.EmitTerms.{Context, Cursor, PlacedEmitted, placed, next_term, next_call}
 use Rattle.lb_flat.specs.EmitTerms.{row_place, choose, with_one, with_two, with_all, emit_term}
 use Rattle.lb_flat.specs.EmitTerms.{emit_row, emit_list}
 use Rattle.lb_flat.specs.TermEmissions.{onto}
@@ -24,7 +24,7 @@ use Rattle.lb_check.proofs.TypeRows.{row_in}
 -- ## One operand, and two
 
 pub emitted_single :
-    (ctx : Context) (at : Place) (s : State) (t : Term) (e : Box Term Global) (x : PlacedEmitted) →
+    (ctx : Context) (at : Cursor) (s : State) (t : Term) (e : Box Term Global) (x : PlacedEmitted) →
     IsSingle t e → x ≡ emit_term ctx (next_term at) s e.value →
     emit_term ctx at s t ≡ placed x.place (with_one ctx at t x.emitted)
 unfolding emit_term
@@ -37,7 +37,7 @@ emitted_single ctx at s t e x (inr (inr (inr (inr (inr (inl (i, is))))))) h = rw
 emitted_single ctx at s t e x (inr (inr (inr (inr (inr (inr (i, j, is))))))) h = rw (is, h) refl
 
 pub emitted_pair :
-    (ctx : Context) (at : Place) (s : State) (t : Term) (a b : Box Term Global)
+    (ctx : Context) (at : Cursor) (s : State) (t : Term) (a b : Box Term Global)
     (x y : PlacedEmitted) → IsPair t a b → x ≡ emit_term ctx (next_term at) s a.value →
     y ≡ emit_term ctx x.place x.emitted.state b.value →
     emit_term ctx at s t ≡ placed y.place (with_two ctx at t x.emitted.found y.emitted)
@@ -48,7 +48,7 @@ emitted_pair ctx at s t a b x y (inr (inr (inl is))) h g = rw (is, g, h) refl
 emitted_pair ctx at s t a b x y (inr (inr (inr is))) h g = rw (is, g, h) refl
 
 pub emitted_if :
-    (ctx : Context) (at : Place) (s : State) (c a b : Box Term Global) (z x y : PlacedEmitted) →
+    (ctx : Context) (at : Cursor) (s : State) (c a b : Box Term Global) (z x y : PlacedEmitted) →
     z ≡ emit_term ctx (next_term at) s c.value →
     x ≡ emit_term ctx z.place z.emitted.state a.value →
     y ≡ emit_term ctx x.place x.emitted.state b.value →
@@ -60,7 +60,7 @@ emitted_if ctx at s c a b z x y ez ex ey = rw (ey, ex, ez) refl
 -- ## Rows
 
 list_of_row :
-    (ctx : Context) (at : Place) (s : State) (n : _) (row : Row_of-Term n) →
+    (ctx : Context) (at : Cursor) (s : State) (n : _) (row : Row_of-Term n) →
     emit_row ctx at s row ≡ emit_list ctx at s (items-the_row-Term n row)
 unfolding emit_term emit_list
 list_of_row ctx at s n end_of-Term = refl
@@ -72,7 +72,7 @@ list_of_row ctx at s n (more_of-Term e rest) =
 
 -- what a row emits, under what its term does with it
 row_is :
-    (ctx : Context) (at from : Place) (s : State) (t : Term) (es : Vec Term Global) →
+    (ctx : Context) (at from : Cursor) (s : State) (t : Term) (es : Vec Term Global) →
     items-the_row-Term (row_in t).0 (row_in t).1 ≡ es.items →
     (let r = emit_row ctx from s (row_in t).1 in placed r.place (with_all ctx at t r.emitted))
     ≡ (let r = emit_list ctx from s es.items in placed r.place (with_all ctx at t r.emitted))
@@ -81,37 +81,37 @@ row_is ctx at from s t es is =
     ap (λ (r : PlacedEmitted). placed r.place (with_all ctx at t r.emitted))
     (list_of_row ctx from s row.0 row.1 ∙ ap (emit_list ctx from s) is)
 
-abbrev whole_row : Context → Place → State → Term → Vec Term Global → PlacedEmitted
+abbrev whole_row : Context → Cursor → State → Term → Vec Term Global → PlacedEmitted
 whole_row ctx at s t es =
     let r = emit_list ctx (row_place at t) s es.items in
     placed r.place (with_all ctx at t r.emitted)
 
-emitted_array : (ctx : Context) (at : Place) (s : State) (es : Vec Term Global) →
+emitted_array : (ctx : Context) (at : Cursor) (s : State) (es : Vec Term Global) →
     emit_term ctx at s (Array es) ≡ whole_row ctx at s (Array es) es
 unfolding emit_term
 emitted_array ctx at s es =
     row_is ctx at (next_term at) s (Array es) es (items_hidden-the_row-Term-0 es)
 
-emitted_at_most_one : (ctx : Context) (at : Place) (s : State) (es : Vec Term Global) →
+emitted_at_most_one : (ctx : Context) (at : Cursor) (s : State) (es : Vec Term Global) →
     emit_term ctx at s (AtMostOne es) ≡ whole_row ctx at s (AtMostOne es) es
 unfolding emit_term
 emitted_at_most_one ctx at s es =
     row_is ctx at (next_term at) s (AtMostOne es) es (items_hidden-the_row-Term-0 es)
 
-emitted_nor : (ctx : Context) (at : Place) (s : State) (es : Vec Term Global) →
+emitted_nor : (ctx : Context) (at : Cursor) (s : State) (es : Vec Term Global) →
     emit_term ctx at s (Nor es) ≡ whole_row ctx at s (Nor es) es
 unfolding emit_term
 emitted_nor ctx at s es =
     row_is ctx at (next_term at) s (Nor es) es (items_hidden-the_row-Term-0 es)
 
-emitted_call : (ctx : Context) (at : Place) (s : State) (c : CallId) (es : Vec Term Global) →
+emitted_call : (ctx : Context) (at : Cursor) (s : State) (c : CallId) (es : Vec Term Global) →
     emit_term ctx at s (Call c es) ≡ whole_row ctx at s (Call c es) es
 unfolding emit_term
 emitted_call ctx at s c es =
     row_is ctx at (next_call at) s (Call c es) es (items_hidden-the_row-Term-0 es)
 
 emitted_node :
-    (ctx : Context) (at : Place) (s : State) (it : ArrayIterator) (c : CallId)
+    (ctx : Context) (at : Cursor) (s : State) (it : ArrayIterator) (c : CallId)
     (es : Vec Term Global) →
     emit_term ctx at s (IterateNode it c es) ≡ whole_row ctx at s (IterateNode it c es) es
 unfolding emit_term
@@ -119,7 +119,7 @@ emitted_node ctx at s it c es =
     row_is ctx at (next_call at) s (IterateNode it c es) es (items_hidden-the_row-Term-0 es)
 
 emitted_symbol :
-    (ctx : Context) (at : Place) (s : State) (it : ArrayIterator) (op : BinaryOperator)
+    (ctx : Context) (at : Cursor) (s : State) (it : ArrayIterator) (op : BinaryOperator)
     (n : StaticId) (es : Vec Term Global) →
     emit_term ctx at s (IterateSymbol it op n es)
     ≡ whole_row ctx at s (IterateSymbol it op n es) es
@@ -128,7 +128,7 @@ emitted_symbol ctx at s it op n es =
     row_is ctx at (next_term at) s (IterateSymbol it op n es) es (items_hidden-the_row-Term-0 es)
 
 row_form :
-    (ctx : Context) (at : Place) (s : State) (t : Term) (es : Vec Term Global) → IsRow t es →
+    (ctx : Context) (at : Cursor) (s : State) (t : Term) (es : Vec Term Global) → IsRow t es →
     emit_term ctx at s t ≡ whole_row ctx at s t es
 row_form ctx at s t es (inl e) = rw e (emitted_array ctx at s es)
 row_form ctx at s t es (inr (inl e)) = rw e (emitted_at_most_one ctx at s es)
@@ -140,7 +140,7 @@ row_form ctx at s t es (inr (inr (inr (inr (inr (it, op, n, e)))))) =
     rw e (emitted_symbol ctx at s it op n es)
 
 pub emitted_all :
-    (ctx : Context) (at : Place) (s : State) (t : Term) (es : Vec Term Global) (xs : List Term)
+    (ctx : Context) (at : Cursor) (s : State) (t : Term) (es : Vec Term Global) (xs : List Term)
     (r : PlacedEmitted) → IsRow t es → xs ≡ es.items →
     r ≡ emit_list ctx (row_place at t) s xs →
     emit_term ctx at s t ≡ placed r.place (with_all ctx at t r.emitted)
@@ -152,18 +152,18 @@ emitted_all ctx at s t es xs r is items er =
 -- ## A list of terms, one after another
 
 -- what some terms emit, with their elements on a stack
-abbrev pub listed_onto : Context → Place → Emitted → List Term → PlacedEmitted
+abbrev pub listed_onto : Context → Cursor → Emitted → List Term → PlacedEmitted
 listed_onto ctx at x es =
     let r = emit_list ctx at x.state es in placed r.place (onto x.found r.emitted)
 
-pub listed_none : (ctx : Context) (at : Place) (x : Emitted) →
+pub listed_none : (ctx : Context) (at : Cursor) (x : Emitted) →
     listed_onto ctx at x [] ≡ placed at x
 unfolding emit_list
 listed_none ctx at x =
     ap (λ (is : List ℕ). placed at (record { state = x.state; found = is })) (append-nil x.found)
 
 pub listed_more :
-    (ctx : Context) (at : Place) (x : Emitted) (es : List Term) (i : ℕ) (d : Term) →
+    (ctx : Context) (at : Cursor) (x : Emitted) (es : List Term) (i : ℕ) (d : Term) →
     i < length es →
     listed_onto ctx at x (drop i es)
     ≡ (let y = emit_term ctx at x.state (get_or es i d) in
@@ -178,7 +178,7 @@ listed_more ctx at x es i d lt =
 
 -- one term of the list more
 pub listed_step :
-    (ctx : Context) (at after : Place) (x next : Emitted) (es : List Term) (i : ℕ) (e d : Term)
+    (ctx : Context) (at after : Cursor) (x next : Emitted) (es : List Term) (i : ℕ) (e d : Term)
     (whole : PlacedEmitted) → i < length es → e ≡ get_or es i d →
     (let y = emit_term ctx at x.state e in
     placed after next ≡ placed y.place (onto x.found y.emitted)) →

@@ -10,7 +10,7 @@ use Rattle.lb_static.specs.declared.resolved.ResolvedStatement.TheVariants as st
 use Rattle.lb_static.specs.declared.resolved.Term.{Term}
 use Rattle.lb_static.specs.declared.resolved.VariableId.{VariableId}
 use Rattle.lb_flat.specs.Emit.{State, Emitted, assert, joins, copied}
-use Rattle.lb_flat.specs.EmitTerms.{Context, Place, PlacedEmitted, PlacedState, placed}
+use Rattle.lb_flat.specs.EmitTerms.{Context, Cursor, PlacedEmitted, PlacedState, placed}
 use Rattle.lb_flat.specs.EmitTerms.{left_targets, emit_term, emit_statement}
 use Rattle.lb_flat.specs.Frames.{HasPlaces, HasRoom, placed_state, stacked, with_copies}
 use Rattle.lb_flat.specs.TermEmissions.{above, with_asserted}
@@ -55,7 +55,7 @@ module _ (ctx : Context) where
 
   -- the room of a statement is that of its term
   equation_is :
-      (at : Place) (s : State) (x : ResolvedStatement) (lefts : _) (e : Term) →
+      (at : Cursor) (s : State) (x : ResolvedStatement) (lefts : _) (e : Term) →
       x ≡ statement.Equation lefts e →
       emit_statement ctx at s x
       ≡ (let r = emit_term ctx at s e in
@@ -65,14 +65,14 @@ module _ (ctx : Context) where
   equation_is at s x lefts e is = rw is refl
 
   assertion_is :
-      (at : Place) (s : State) (x : ResolvedStatement) (e : Term) → x ≡ statement.Assertion e →
+      (at : Cursor) (s : State) (x : ResolvedStatement) (e : Term) → x ≡ statement.Assertion e →
       emit_statement ctx at s x
       ≡ (let r = emit_term ctx at s e in placed_state r.place (assert r.emitted))
   unfolding emit_statement
   assertion_is at s x e is = rw is refl
 
   pub equation_room :
-      (at : Place) (s : State) (x : ResolvedStatement) (lefts : _) (e : Term) →
+      (at : Cursor) (s : State) (x : ResolvedStatement) (lefts : _) (e : Term) →
       x ≡ statement.Equation lefts e →
       (emit_statement ctx at s x).state.next < 2 ^ 32 →
       HasPlaces (emit_statement ctx at s x).place → HasRoom (emit_term ctx at s e)
@@ -84,7 +84,7 @@ module _ (ctx : Context) where
       }
 
   pub assertion_room :
-      (at : Place) (s : State) (x : ResolvedStatement) (e : Term) → x ≡ statement.Assertion e →
+      (at : Cursor) (s : State) (x : ResolvedStatement) (e : Term) → x ≡ statement.Assertion e →
       (emit_statement ctx at s x).state.next < 2 ^ 32 →
       HasPlaces (emit_statement ctx at s x).place → HasRoom (emit_term ctx at s e)
   unfolding assert
@@ -97,7 +97,7 @@ module _ (ctx : Context) where
 
   -- what a statement leaves
   pub equation_done :
-      (at to : Place) (s t : State) (x : ResolvedStatement) (lefts : _) (e : Term)
+      (at to : Cursor) (s t : State) (x : ResolvedStatement) (lefts : _) (e : Term)
       (below : List ℕ) (mid : Emitted) → x ≡ statement.Equation lefts e →
       placed to mid ≡ stacked below (emit_term ctx at s e) →
       t ≡ with_copies mid.state
@@ -114,7 +114,7 @@ module _ (ctx : Context) where
       ∙ sym (equation_is at s x lefts e is)
 
   pub assertion_done :
-      (at to : Place) (s t : State) (x : ResolvedStatement) (e : Term) (below : List ℕ)
+      (at to : Cursor) (s t : State) (x : ResolvedStatement) (e : Term) (below : List ℕ)
       (mid : Emitted) → x ≡ statement.Assertion e →
       placed to mid ≡ stacked below (emit_term ctx at s e) →
       t ≡ with_asserted mid.state (drop (length below) mid.found) →
@@ -130,7 +130,7 @@ module _ (ctx : Context) where
 
 -- the stack is what it was
 pub stack_kept :
-    (to : Place) (below : List ℕ) (mid : Emitted) (r : PlacedEmitted) →
+    (to : Cursor) (below : List ℕ) (mid : Emitted) (r : PlacedEmitted) →
     placed to mid ≡ stacked below r → take (length below) mid.found ≡ below
 stack_kept to below mid r h =
     ap (λ (z : PlacedEmitted). take (length below) z.emitted.found) h

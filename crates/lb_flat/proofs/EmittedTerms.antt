@@ -36,7 +36,7 @@ use Rattle.lb_check.proofs.OccurrenceSites.{own_site}
 use Rattle.lb_check.proofs.OperandTypes.{first_of_all}
 use Rattle.lb_flat.specs.Emit.{State, Emitted, EmittedAll, emit, emit_all, emit_each, emit_name}
 use Rattle.lb_flat.specs.Emit.{emit_at_most_one, emit_nor, gives, joins}
-use Rattle.lb_flat.specs.EmitTerms.{Context, Place, PlacedEmitted, call, choose, constant, each}
+use Rattle.lb_flat.specs.EmitTerms.{Context, Cursor, PlacedEmitted, call, choose, constant, each}
 use Rattle.lb_flat.specs.EmitTerms.{emit_row, emit_term, iterate, literal, memory, next_call}
 use Rattle.lb_flat.specs.EmitTerms.{next_term, pairs, picked, placed, symbol}
 use Rattle.lb_flat.specs.Flat.{FlatClock, ApplyBinary, ApplyUnary, FirstThen, Latest, Previous}
@@ -93,16 +93,16 @@ module _ (Y : Layout) (P : Program) (H : History) (here : Instance) (texts : Tex
   flat k = flat_clock Y here.path k
 
   -- those from a place on stand for an expression
-  abbrev Stands : Clock → Place → Expr → Type 0
+  abbrev Stands : Clock → Cursor → Expr → Type 0
   Stands k at e = AreTermsAt at.term (on k at.call e)
 
-  abbrev after : Clock → Place → Expr → Place
+  abbrev after : Clock → Cursor → Expr → Cursor
   after k at e = past at (on k at.call e) (call_count e)
 
-  abbrev whole : Clock → Place → State → Expr → PlacedEmitted
+  abbrev whole : Clock → Cursor → State → Expr → PlacedEmitted
   whole k at s e = placed (after k at e) (emit Y P here k at.call s e)
 
-  abbrev IsSame : Clock → Place → State → Term → Type 0
+  abbrev IsSame : Clock → Cursor → State → Term → Type 0
   IsSame k at s e = emit_term ctx at s e ≡ whole k at s (expr_of texts e)
 
   fore : (t : ℕ) (os os' : List Occurrence) → AreTermsAt t (os ++ os') → AreTermsAt t os
@@ -150,7 +150,7 @@ module _ (Y : Layout) (P : Program) (H : History) (here : Instance) (texts : Tex
 
   -- the operands of an index and of a slice are arrays
   indexed_parts :
-      (k : Clock) (at : Place) (a : Expr) (i : Static) → Stands k at (tree.Index a i) →
+      (k : Clock) (at : Cursor) (a : Expr) (i : Static) → Stands k at (tree.Index a i) →
       ctx.parts (suc at.term) ≡ part_count P here a
   indexed_parts k at a i h =
       let own = h.0 in
@@ -162,7 +162,7 @@ module _ (Y : Layout) (P : Program) (H : History) (here : Instance) (texts : Tex
       (typed_as a o.data_type o.is ∙ x.sizes) (omega (arith, within))
 
   sliced_parts :
-      (k : Clock) (at : Place) (a : Expr) (i j : Static) → Stands k at (tree.Slice a i j) →
+      (k : Clock) (at : Cursor) (a : Expr) (i j : Static) → Stands k at (tree.Slice a i j) →
       ctx.parts (suc at.term) ≡ part_count P here a
   sliced_parts k at a i j h =
       let own = h.0 in
@@ -177,7 +177,7 @@ module _ (Y : Layout) (P : Program) (H : History) (here : Instance) (texts : Tex
   -- ## Leaves
 
   -- a term without parts
-  leaf : (at : Place) (o : Occurrence) (x y : Emitted) → x ≡ y →
+  leaf : (at : Cursor) (o : Occurrence) (x y : Emitted) → x ≡ y →
       placed (next_term at) x ≡ placed (past at (o ∷ []) 0) y
   leaf at o x y e = ap₂ placed (past_leaf at o) e
 
@@ -194,7 +194,7 @@ module _ (Y : Layout) (P : Program) (H : History) (here : Instance) (texts : Tex
       ∙ ap (emit_name Y P here k s (name_at texts.variables x)) (sym d.found)
 
   value_typed :
-      (k : Clock) (at : Place) (s : Static) → Stands k at (named_value s) →
+      (k : Clock) (at : Cursor) (s : Static) → Stands k at (named_value s) →
       (ts : List DataType) × (data_types P here (named_value s) ≡ Some ts)
   value_typed k at (tree.Named x) h = (h.0.types, h.0.typed)
   value_typed k at (tree.Whole m) h = (h.0.types, h.0.typed)
@@ -203,7 +203,7 @@ module _ (Y : Layout) (P : Program) (H : History) (here : Instance) (texts : Tex
   value_typed k at (tree.Grouped s) h = (h.0.types, h.0.typed)
 
   value_is :
-      (k : Clock) (at : Place) (s : State) (i : StaticId) (v : IsValue P here ctx texts i) →
+      (k : Clock) (at : Cursor) (s : State) (i : StaticId) (v : IsValue P here ctx texts i) →
       Stands k at (named_value (static_at texts.statics i)) →
       placed (next_term at) (constant (ctx.clock at.term) s (ctx.value i.0))
       ≡ whole k at s (named_value (static_at texts.statics i))
@@ -221,12 +221,12 @@ module _ (Y : Layout) (P : Program) (H : History) (here : Instance) (texts : Tex
 
   -- ## Calls
 
-  abbrev args : Clock → Place → Name → Exprs → List Occurrence
+  abbrev args : Clock → Cursor → Name → Exprs → List Occurrence
   args k at f es = occurrences_each P here.node (call_clocks k (node_named P f) es) at.call es
 
   -- a call, when what is emitted for its operands is the same
   call_is :
-      (k : Clock) (at : Place) (s : State) (f : Name) (statics : List Static) (es : Exprs)
+      (k : Clock) (at : Cursor) (s : State) (f : Name) (statics : List Static) (es : Exprs)
       (r : PlacedEmitted) → Stands k at (tree.Call f statics es) →
       ((ts : List DataType) → all_types P here es ≡ Some ts →
       length (call_clocks k (node_named P f) es) ≡ length ts →
@@ -260,7 +260,7 @@ module _ (Y : Layout) (P : Program) (H : History) (here : Instance) (texts : Tex
 
   -- an iterated node
   iterate_is :
-      (k : Clock) (at : Place) (s : State) (it : ArrayIterator) (f : Name) (statics : List Static)
+      (k : Clock) (at : Cursor) (s : State) (it : ArrayIterator) (f : Name) (statics : List Static)
       (m : Static) (es : Exprs) (r : PlacedEmitted) →
       Stands k at (tree.Iterate it (tree.Node_named f statics) m es) →
       (AreTermsAt (suc at.term) (occurrences_in P here.node k (suc at.call) es) →
@@ -297,12 +297,12 @@ module _ (Y : Layout) (P : Program) (H : History) (here : Instance) (texts : Tex
 
   -- the operands of a form with two
   two_are :
-      (k : Clock) (at : Place) (s : State) (a b : Term) (o : Occurrence) (w : Emitted)
+      (k : Clock) (at : Cursor) (s : State) (a b : Term) (o : Occurrence) (w : Emitted)
       (F : Emitted → Emitted → Emitted) →
       AreTermsAt (suc at.term) (on k at.call (expr_of texts a)
       ++ on k (at.call + call_count (expr_of texts a)) (expr_of texts b)) →
-      ((at : Place) (s : State) → Stands k at (expr_of texts a) → IsSame k at s a) →
-      ((at : Place) (s : State) → Stands k at (expr_of texts b) → IsSame k at s b) →
+      ((at : Cursor) (s : State) → Stands k at (expr_of texts a) → IsSame k at s a) →
+      ((at : Cursor) (s : State) → Stands k at (expr_of texts b) → IsSame k at s b) →
       (let x = emit Y P here k at.call s (expr_of texts a) in
       F x (emit Y P here k (at.call + call_count (expr_of texts a)) x.state (expr_of texts b))
       ≡ w) →
@@ -328,7 +328,7 @@ module _ (Y : Layout) (P : Program) (H : History) (here : Instance) (texts : Tex
     unfolding emit_term emit
 
     pub term_is :
-        (k : Clock) (at : Place) (s : State) (e : Term) → is_within n e ≡ true →
+        (k : Clock) (at : Cursor) (s : State) (e : Term) → is_within n e ≡ true →
         is_unhidden texts e ≡ true → Stands k at (expr_of texts e) → IsSame k at s e
     term_is k at s (Literal m) w u h =
         leaf at (text.at k at.call (tree.Literal m)) _ _
@@ -539,7 +539,7 @@ module _ (Y : Layout) (P : Program) (H : History) (here : Instance) (texts : Tex
         (all_wide (suc at.term) os h.1) s))
 
     row_is :
-        {m : Count} (k : Clock) (at : Place) (s : State) (row : Row_of-Term m) →
+        {m : Count} (k : Clock) (at : Cursor) (s : State) (row : Row_of-Term m) →
         are_within n row ≡ true → are_unhidden texts row ≡ true →
         AreTermsAt at.term (occurrences_in P here.node k at.call (row_of texts row)) →
         emit_row ctx at s row
@@ -563,7 +563,7 @@ module _ (Y : Layout) (P : Program) (H : History) (here : Instance) (texts : Tex
         (and_second (is_unhidden texts e) _ u) (aft at.term os later h)) refl
 
     each_is :
-        {m : Count} (ks : List Clock) (at : Place) (s : State) (row : Row_of-Term m)
+        {m : Count} (ks : List Clock) (at : Cursor) (s : State) (row : Row_of-Term m)
         (ts : List DataType) → are_within n row ≡ true → are_unhidden texts row ≡ true →
         all_types P here (row_of texts row) ≡ Some ts → length ks ≡ length ts →
         AreTermsAt at.term (occurrences_each P here.node ks at.call (row_of texts row)) →

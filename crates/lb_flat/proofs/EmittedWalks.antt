@@ -10,7 +10,7 @@ use Rattle.lb_static.specs.declared.resolved.StaticId.{StaticId}
 use Rattle.lb_static.specs.declared.resolved.VariableId.{VariableId}
 use Rattle.lb_static.specs.declared.resolved.Term.{Term, Literal, Truth, Variable, Value, Group, If}
 use Rattle.lb_flat.specs.Emit.{State, Emitted, gives, add, chosen_by}
-use Rattle.lb_flat.specs.EmitTerms.{Context, Place, PlacedEmitted, placed, next_term, row_place}
+use Rattle.lb_flat.specs.EmitTerms.{Context, Cursor, PlacedEmitted, placed, next_term, row_place}
 use Rattle.lb_flat.specs.EmitTerms.{literal, constant, choose, with_one, with_two, with_all}
 use Rattle.lb_flat.specs.EmitTerms.{emit_term, emit_list}
 use Rattle.lb_flat.specs.Frames.{HasPlaces, HasRoom, stacked}
@@ -26,7 +26,7 @@ use Rattle.lb_flat.proofs.EmittedStacks.{on_top_onto, on_two_onto}
 
 -- ## Room
 
-pub places_before : (from to : Place) → IsNotAfter from to → HasPlaces to → HasPlaces from
+pub places_before : (from to : Cursor) → IsNotAfter from to → HasPlaces to → HasPlaces from
 places_before from to h g =
     record { terms = omega (arith, h.term, g.terms); calls = omega (arith, h.call, g.calls) }
 
@@ -39,7 +39,7 @@ room_before x y le h g =
       places = places_before x.place y.place h g.places;
     }
 
-module _ (ctx : Context) (at : Place) (s : State) (t : Term) where
+module _ (ctx : Context) (at : Cursor) (s : State) (t : Term) where
   -- a term with one operand
   pub single_room : (e : Box Term Global) → IsSingle t e → HasRoom (emit_term ctx at s t) →
       HasRoom (emit_term ctx (next_term at) s e.value)
@@ -98,7 +98,7 @@ module _ (ctx : Context) (at : Place) (s : State) (t : Term) where
       (subst HasRoom (emitted_all ctx at s t es es.items r is refl refl) h).elements
 
 -- a choice
-module _ (ctx : Context) (at : Place) (s : State) (t : Term) (c a b : Box Term Global)
+module _ (ctx : Context) (at : Cursor) (s : State) (t : Term) (c a b : Box Term Global)
     (is : t ≡ If c a b) where
   abbrev first_of_three : PlacedEmitted
   first_of_three = emit_term ctx (next_term at) s c.value
@@ -153,16 +153,16 @@ above_onto below x =
     ap (λ (is : List ℕ). record { state = x.state; found = is }) (drop-append_seam below x.found)
 
 -- the parts of what was placed
-pub place_in : (at : Place) (x : Emitted) (r : PlacedEmitted) → placed at x ≡ r → at ≡ r.place
+pub place_in : (at : Cursor) (x : Emitted) (r : PlacedEmitted) → placed at x ≡ r → at ≡ r.place
 place_in at x r e = ap (λ (r : PlacedEmitted). r.place) e
 
-pub emitted_in : (at : Place) (x : Emitted) (r : PlacedEmitted) → placed at x ≡ r → x ≡ r.emitted
+pub emitted_in : (at : Cursor) (x : Emitted) (r : PlacedEmitted) → placed at x ≡ r → x ≡ r.emitted
 emitted_in at x r e = ap (λ (r : PlacedEmitted). r.emitted) e
 
-module _ (ctx : Context) (at : Place) (s : State) (t : Term) (below : List ℕ) where
+module _ (ctx : Context) (at : Cursor) (s : State) (t : Term) (below : List ℕ) where
   -- one operand, and the word on it
   pub single_done :
-      (e : Box Term Global) (to : Place) (mid new : Emitted) → IsSingle t e →
+      (e : Box Term Global) (to : Cursor) (mid new : Emitted) → IsSingle t e →
       placed to mid ≡ stacked below (emit_term ctx (next_term at) s e.value) →
       new ≡ on_top (length below) (with_one ctx at t) mid →
       placed to new ≡ stacked below (emit_term ctx at s t)
@@ -175,7 +175,7 @@ module _ (ctx : Context) (at : Place) (s : State) (t : Term) (below : List ℕ) 
       ∙ ap (stacked below) (sym (emitted_single ctx at s t e x is refl))
 
   pub single_left :
-      (e : Box Term Global) (to : Place) (mid : Emitted) (most : ℕ) →
+      (e : Box Term Global) (to : Cursor) (mid : Emitted) (most : ℕ) →
       placed to mid ≡ stacked below (emit_term ctx (next_term at) s e.value) →
       (let x = emit_term ctx (next_term at) s e.value in
       (with_one ctx at t x.emitted).state.next < most) →
@@ -188,7 +188,7 @@ module _ (ctx : Context) (at : Place) (s : State) (t : Term) (below : List ℕ) 
 
   -- two operands
   pub pair_done :
-      (a b : Box Term Global) (to up : Place) (mid next new : Emitted) → IsPair t a b →
+      (a b : Box Term Global) (to up : Cursor) (mid next new : Emitted) → IsPair t a b →
       placed to mid ≡ stacked below (emit_term ctx (next_term at) s a.value) →
       placed up next ≡ stacked mid.found (emit_term ctx to mid.state b.value) →
       new ≡ on_two (length below) (length mid.found) (with_two ctx at t) next →
@@ -198,7 +198,7 @@ module _ (ctx : Context) (at : Place) (s : State) (t : Term) (below : List ℕ) 
       let y = emit_term ctx x.place x.emitted.state b.value in
       let first = emitted_in to mid (stacked below x) h in
       let second : placed up next ≡ stacked (below ++ x.emitted.found) y =
-      g ∙ ap₂ (λ (at : Place) (z : Emitted). stacked z.found (emit_term ctx at z.state b.value))
+      g ∙ ap₂ (λ (at : Cursor) (z : Emitted). stacked z.found (emit_term ctx at z.state b.value))
       (place_in to mid (stacked below x) h) first in
       let size = ap (λ (z : Emitted). length z.found) first in
       let leaves = f
@@ -210,7 +210,7 @@ module _ (ctx : Context) (at : Place) (s : State) (t : Term) (below : List ℕ) 
 
   -- a row of operands
   pub row_done :
-      (es : Vec Term Global) (to : Place) (mid new : Emitted) → IsRow t es →
+      (es : Vec Term Global) (to : Cursor) (mid new : Emitted) → IsRow t es →
       placed to mid ≡ stacked below (emit_list ctx (row_place at t) s es.items) →
       new ≡ on_top (length below) (with_all ctx at t) mid →
       placed to new ≡ stacked below (emit_term ctx at s t)
@@ -224,7 +224,7 @@ module _ (ctx : Context) (at : Place) (s : State) (t : Term) (below : List ℕ) 
 
 -- the room of the word on a row
 pub row_left :
-    (ctx : Context) (at : Place) (t : Term) (below : List ℕ) (r : PlacedEmitted) (to : Place)
+    (ctx : Context) (at : Cursor) (t : Term) (below : List ℕ) (r : PlacedEmitted) (to : Cursor)
     (mid : Emitted) (most : ℕ) → placed to mid ≡ stacked below r →
     (with_all ctx at t r.emitted).state.next < most →
     (with_all ctx at t (above (length below) mid)).state.next < most
@@ -237,7 +237,7 @@ row_left ctx at t below r to mid most h lt =
 
 -- a list that has room has room for its first term
 pub listed_room :
-    (ctx : Context) (at : Place) (x : Emitted) (es : List Term) (i : ℕ) (d : Term) →
+    (ctx : Context) (at : Cursor) (x : Emitted) (es : List Term) (i : ℕ) (d : Term) →
     i < length es → HasRoom (listed_onto ctx at x (drop i es)) →
     HasRoom (emit_term ctx at x.state (get_or es i d))
 listed_room ctx at x es i d lt h =
@@ -250,7 +250,7 @@ listed_room ctx at x es i d lt h =
 
 -- ## Terms without parts, and parentheses
 
-module _ (ctx : Context) (at : Place) (s : State) (t : Term) where
+module _ (ctx : Context) (at : Cursor) (s : State) (t : Term) where
   pub literal_is : (n : ℕ) → t ≡ Literal n →
       emit_term ctx at s t
       ≡ placed (next_term at) (constant (ctx.clock at.term) s (literal n))
@@ -281,7 +281,7 @@ module _ (ctx : Context) (at : Place) (s : State) (t : Term) where
 
 -- one new element
 pub leaf_room :
-    (at : Place) (k : FlatClock) (s : State) (v : Scalar) (r : PlacedEmitted) →
+    (at : Cursor) (k : FlatClock) (s : State) (v : Scalar) (r : PlacedEmitted) →
     r ≡ placed at (constant k s v) → HasRoom r → s.next + 1 < 2 ^ 32
 leaf_room at k s v r is h =
     let more = next_of_add k s (Constant v ∷ []) in
@@ -290,11 +290,11 @@ leaf_room at k s v r is h =
     omega (arith, more, same, room)
 
 pub leaf_places :
-    (at : Place) (x : Emitted) (r : PlacedEmitted) → r ≡ placed at x → HasRoom r → HasPlaces at
+    (at : Cursor) (x : Emitted) (r : PlacedEmitted) → r ≡ placed at x → HasRoom r → HasPlaces at
 leaf_places at x r is h = subst HasPlaces (ap (λ (r : PlacedEmitted). r.place) is) h.places
 
 pub leaf_done :
-    (at to : Place) (k j : FlatClock) (v w : Scalar) (s : State) (below : List ℕ)
+    (at to : Cursor) (k j : FlatClock) (v w : Scalar) (s : State) (below : List ℕ)
     (new : Emitted) (r : PlacedEmitted) → r ≡ placed at (constant k s v) → to ≡ at →
     new ≡ pushed j (Constant w) (gives s below) → j ≡ k → w ≡ v →
     placed to new ≡ stacked below r
@@ -305,7 +305,7 @@ leaf_done at to k j v w s below new r is place h clock value =
     ∙ sym (ap (stacked below) is)
 
 pub variable_done :
-    (at to : Place) (is js below : List ℕ) (s : State) (new : Emitted) (r : PlacedEmitted) →
+    (at to : Cursor) (is js below : List ℕ) (s : State) (new : Emitted) (r : PlacedEmitted) →
     r ≡ placed at (gives s js) → to ≡ at → new ≡ onto below (gives s is) → is ≡ js →
     placed to new ≡ stacked below r
 variable_done at to is js below s new r form place h same =

@@ -13,7 +13,7 @@ use Rattle.lb_static.specs.declared.table.Table.{Table}
 use Rattle.lb_check.proofs.Every.{Every-first, Every-second}
 use Rattle.lb_flat.specs.Emit.{State}
 use Rattle.lb_flat.specs.EmitRows.{with_body, body_in, bodies, IsCounted}
-use Rattle.lb_flat.specs.EmitTerms.{Context, Place, PlacedState, first_place, emit_statement}
+use Rattle.lb_flat.specs.EmitTerms.{Context, Cursor, PlacedState, first_place, emit_statement}
 use Rattle.lb_flat.specs.EmitTerms.{emit_statements, emit_rows}
 use Rattle.lb_flat.specs.Frames.{HasPlaces, placed_state}
 use Rattle.lb_flat.specs.TableClocks.{node_at}
@@ -25,13 +25,13 @@ use Rattle.lb_flat.proofs.EmittedWalks.{places_before}
 
 module _ (ctx : Context) where
   -- the place after a statement, and after some, is not before it
-  statement_later : (at : Place) (s : State) (x : ResolvedStatement) →
+  statement_later : (at : Cursor) (s : State) (x : ResolvedStatement) →
       IsNotAfter at (emit_statement ctx at s x).place
   unfolding emit_statement
   statement_later at s (statement.Equation lefts e) = place_grows ctx at s e
   statement_later at s (statement.Assertion e) = place_grows ctx at s e
 
-  statements_later : (at : Place) (s : State) (xs : List ResolvedStatement) →
+  statements_later : (at : Cursor) (s : State) (xs : List ResolvedStatement) →
       IsNotAfter at (emit_statements ctx at s xs).place
   unfolding emit_statements
   statements_later at s [] = record { term = omega arith; call = omega arith }
@@ -41,7 +41,7 @@ module _ (ctx : Context) where
       (statement_later at s x) (statements_later r.place r.state xs)
 
   statements_more :
-      (at : Place) (s : State) (xs : List ResolvedStatement) (i : ℕ) (d : ResolvedStatement) →
+      (at : Cursor) (s : State) (xs : List ResolvedStatement) (i : ℕ) (d : ResolvedStatement) →
       i < length xs →
       emit_statements ctx at s (drop i xs)
       ≡ (let r = emit_statement ctx at s (get_or xs i d) in
@@ -51,7 +51,7 @@ module _ (ctx : Context) where
 
   -- one statement more
   pub statement_step :
-      (at to : Place) (s t : State) (xs : List ResolvedStatement) (i : ℕ)
+      (at to : Cursor) (s t : State) (xs : List ResolvedStatement) (i : ℕ)
       (x d : ResolvedStatement) (whole : PlacedState) → i < length xs → x ≡ get_or xs i d →
       placed_state to t ≡ emit_statement ctx at s x →
       emit_statements ctx at s (drop i xs) ≡ whole →
@@ -63,7 +63,7 @@ module _ (ctx : Context) where
       ∙ sym (statements_more at s xs i d lt) ∙ h
 
   pub statements_end :
-      (at : Place) (s : State) (xs : List ResolvedStatement) (i : ℕ) (whole : PlacedState) →
+      (at : Cursor) (s : State) (xs : List ResolvedStatement) (i : ℕ) (whole : PlacedState) →
       length xs ≤ i → emit_statements ctx at s (drop i xs) ≡ whole → placed_state at s ≡ whole
   unfolding emit_statements
   statements_end at s xs i whole le h =
@@ -71,7 +71,7 @@ module _ (ctx : Context) where
 
   -- a statement has room where those from it on have
   pub statement_room :
-      (at : Place) (s : State) (xs : List ResolvedStatement) (i : ℕ) (x d : ResolvedStatement)
+      (at : Cursor) (s : State) (xs : List ResolvedStatement) (i : ℕ) (x d : ResolvedStatement)
       (whole : PlacedState) → i < length xs → x ≡ get_or xs i d →
       emit_statements ctx at s (drop i xs) ≡ whole → whole.state.next < 2 ^ 32 →
       (emit_statement ctx at s x).state.next < 2 ^ 32
@@ -86,7 +86,7 @@ module _ (ctx : Context) where
       first
 
   pub statement_places :
-      (at : Place) (s : State) (xs : List ResolvedStatement) (i : ℕ) (x d : ResolvedStatement)
+      (at : Cursor) (s : State) (xs : List ResolvedStatement) (i : ℕ) (x d : ResolvedStatement)
       (whole : PlacedState) → i < length xs → x ≡ get_or xs i d →
       emit_statements ctx at s (drop i xs) ≡ whole → HasPlaces whole.place →
       HasPlaces (emit_statement ctx at s x).place

@@ -7,7 +7,7 @@ use Rattle.lb_syntax.specs.Lists.{Every}
 use Rattle.lb_static.specs.Instances.{Site}
 use Rattle.lb_check.specs.Occurrences.{Occurrence}
 use Rattle.lb_flat.specs.Emit.{State, Emitted}
-use Rattle.lb_flat.specs.EmitTerms.{Place, PlacedEmitted, next_term, next_call, placed}
+use Rattle.lb_flat.specs.EmitTerms.{Cursor, PlacedEmitted, next_term, next_call, placed}
 
 -- ## What holds along a list, by number
 
@@ -50,35 +50,35 @@ module _ {A : Type 0} (R : ℕ → A → Type 0) where
 -- ## Places
 
 -- the place after so many terms and calls
-abbrev pub past : Place → List Occurrence → ℕ → Place
+abbrev pub past : Cursor → List Occurrence → ℕ → Cursor
 past at os m = record { term = at.term + length os; call = at.call + m }
 
 same_place : (a b c d : ℕ) → a ≡ c → b ≡ d →
-    (let p : Place = record { term = a; call = b } in
-    let q : Place = record { term = c; call = d } in p ≡ q)
+    (let p : Cursor = record { term = a; call = b } in
+    let q : Cursor = record { term = c; call = d } in p ≡ q)
 same_place a b c d e f = ap₂ (λ (a b : ℕ). record { term = a; call = b }) e f
 
-pub past_none : (at : Place) → at ≡ past at [] 0
+pub past_none : (at : Cursor) → at ≡ past at [] 0
 past_none at =
     same_place at.term at.call (at.term + 0) (at.call + 0) (omega arith) (omega arith)
 
-pub past_leaf : (at : Place) (o : Occurrence) → next_term at ≡ past at (o ∷ []) 0
+pub past_leaf : (at : Cursor) (o : Occurrence) → next_term at ≡ past at (o ∷ []) 0
 past_leaf at o =
     same_place (suc at.term) at.call (at.term + 1) (at.call + 0) (omega arith) (omega arith)
 
-pub past_one : (at : Place) (o : Occurrence) (os : List Occurrence) (m : ℕ) →
+pub past_one : (at : Cursor) (o : Occurrence) (os : List Occurrence) (m : ℕ) →
     past (next_term at) os m ≡ past at (o ∷ os) m
 past_one at o os m =
     same_place (suc at.term + length os) (at.call + m) (at.term + suc (length os)) (at.call + m)
     (omega arith) refl
 
-pub past_call : (at : Place) (o : Occurrence) (os : List Occurrence) (m : ℕ) →
+pub past_call : (at : Cursor) (o : Occurrence) (os : List Occurrence) (m : ℕ) →
     past (next_call at) os m ≡ past at (o ∷ os) (suc m)
 past_call at o os m =
     same_place (suc at.term + length os) (suc at.call + m) (at.term + suc (length os))
     (at.call + suc m) (omega arith) (omega arith)
 
-pub past_both : (at : Place) (oa ob : List Occurrence) (sa sb : List Site) →
+pub past_both : (at : Cursor) (oa ob : List Occurrence) (sa sb : List Site) →
     past (past at oa (length sa)) ob (length sb) ≡ past at (oa ++ ob) (length (sa ++ sb))
 past_both at oa ob sa sb =
     let os = length-append oa ob in
@@ -91,7 +91,7 @@ past_both at oa ob sa sb =
 
 -- what is made of what was emitted for an operand
 pub with_operand :
-    (at : Place) (o : Occurrence) (os : List Occurrence) (m : ℕ) (x : PlacedEmitted)
+    (at : Cursor) (o : Occurrence) (os : List Occurrence) (m : ℕ) (x : PlacedEmitted)
     (y z : Emitted) (F : Emitted → Emitted) → x ≡ placed (past (next_term at) os m) y →
     F y ≡ z → placed x.place (F x.emitted) ≡ placed (past at (o ∷ os) m) z
 with_operand at o os m x y z F h e =
@@ -100,8 +100,8 @@ with_operand at o os m x y z F h e =
 
 -- one operand after another
 pub then_operand :
-    (at : Place) (oa ob : List Occurrence) (sa sb : List Site) (x : PlacedEmitted)
-    (f : Place → State → PlacedEmitted) (u v w : Emitted) (F : Emitted → Emitted → Emitted) →
+    (at : Cursor) (oa ob : List Occurrence) (sa sb : List Site) (x : PlacedEmitted)
+    (f : Cursor → State → PlacedEmitted) (u v w : Emitted) (F : Emitted → Emitted → Emitted) →
     x ≡ placed (past at oa (length sa)) u →
     f (past at oa (length sa)) u.state
     ≡ placed (past (past at oa (length sa)) ob (length sb)) v →
@@ -115,8 +115,8 @@ then_operand at oa ob sa sb x f u v w F h g e =
     ∙ ap₂ placed (past_both at oa ob sa sb) e
 
 pub with_operands :
-    (at : Place) (o : Occurrence) (oa ob : List Occurrence) (sa sb : List Site)
-    (x : PlacedEmitted) (f : Place → State → PlacedEmitted) (u v w : Emitted)
+    (at : Cursor) (o : Occurrence) (oa ob : List Occurrence) (sa sb : List Site)
+    (x : PlacedEmitted) (f : Cursor → State → PlacedEmitted) (u v w : Emitted)
     (F : Emitted → Emitted → Emitted) → x ≡ placed (past (next_term at) oa (length sa)) u →
     f (past (next_term at) oa (length sa)) u.state
     ≡ placed (past (past (next_term at) oa (length sa)) ob (length sb)) v →
@@ -129,8 +129,8 @@ with_operands at o oa ob sa sb x f u v w F h g e =
 
 -- a condition and two branches
 pub with_branches :
-    (at : Place) (o : Occurrence) (oc oa ob : List Occurrence) (sc sa sb : List Site)
-    (z : PlacedEmitted) (f g : Place → State → PlacedEmitted) (t u v w : Emitted)
+    (at : Cursor) (o : Occurrence) (oc oa ob : List Occurrence) (sc sa sb : List Site)
+    (z : PlacedEmitted) (f g : Cursor → State → PlacedEmitted) (t u v w : Emitted)
     (F : Emitted → Emitted → Emitted → Emitted) →
     z ≡ placed (past (next_term at) oc (length sc)) t →
     f (past (next_term at) oc (length sc)) t.state

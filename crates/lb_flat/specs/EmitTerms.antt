@@ -48,25 +48,25 @@ pub record Context : Type 0 where
   pub input : (call index variable : ℕ) → FlatClock
 
 -- how many terms and calls of a node stand before something in its text
-pub record Place : Type 0 where
+pub record Cursor : Type 0 where
   pub term : ℕ
   pub call : ℕ
 
-abbrev pub first_place : Place
+abbrev pub first_place : Cursor
 first_place = record { term = 0; call = 0 }
 
-abbrev pub next_term : Place → Place
+abbrev pub next_term : Cursor → Cursor
 next_term at = record at { term = suc at.term }
 
-abbrev pub next_call : Place → Place
+abbrev pub next_call : Cursor → Cursor
 next_call at = record { term = suc at.term; call = suc at.call }
 
 -- what was emitted for a term or for a row of terms, and the place after it
 pub record PlacedEmitted : Type 0 where
-  pub place : Place
+  pub place : Cursor
   pub emitted : Emitted
 
-abbrev pub placed : Place → Emitted → PlacedEmitted
+abbrev pub placed : Cursor → Emitted → PlacedEmitted
 placed at x = record { place = at; emitted = x }
 
 -- ## Operators
@@ -189,7 +189,7 @@ iterate ctx c it r =
 -- ## Terms
 
 -- a term at a place, from what was emitted for its one operand
-abbrev pub with_one : Context → Place → Term → Emitted → Emitted
+abbrev pub with_one : Context → Cursor → Term → Emitted → Emitted
 with_one ctx at (Unary' op p a) x = each (ctx.clock at.term) (ApplyUnary op) x
 with_one ctx at (Pre' p a) x = memory (ctx.clock at.term) (Previous first_value) x
 with_one ctx at (Current' p a) x = memory (ctx.clock at.term) (Latest first_value) x
@@ -203,7 +203,7 @@ with_one ctx at (Slice' p a i j) x =
 with_one ctx at e x = x
 
 -- from what was emitted for its second operand, where the first one has these elements
-abbrev pub with_two : Context → Place → Term → List ℕ → Emitted → Emitted
+abbrev pub with_two : Context → Cursor → Term → List ℕ → Emitted → Emitted
 with_two ctx at (Binary' op p a q b) xs y = pairs (ctx.clock at.term) (ApplyBinary op) xs y
 with_two ctx at (Arrow' p a q b) xs y = pairs (ctx.clock at.term) (FirstThen false) xs y
 with_two ctx at (Fby' p a q b) xs y =
@@ -212,7 +212,7 @@ with_two ctx at (Fby' p a q b) xs y =
 with_two ctx at e xs y = gives y.state (xs ++ y.found)
 
 -- from what was emitted for its operands in a row
-abbrev pub with_all : Context → Place → Term → Emitted → Emitted
+abbrev pub with_all : Context → Cursor → Term → Emitted → Emitted
 with_all ctx at (AtMostOne' arity all) r = emit_at_most_one (ctx.clock at.term) r.state r.found
 with_all ctx at (Nor' arity all) r = emit_nor (ctx.clock at.term) r.state r.found
 with_all ctx at (Call' c arity all) r = call ctx at.call r
@@ -222,14 +222,14 @@ with_all ctx at (IterateSymbol' it op n arity all) r =
 with_all ctx at e r = r
 
 -- the place of its operands in a row
-abbrev pub row_place : Place → Term → Place
+abbrev pub row_place : Cursor → Term → Cursor
 row_place at (Call' c arity all) = next_call at
 row_place at (IterateNode' it c arity all) = next_call at
 row_place at e = next_term at
 
 unfoldable mutual
   -- the equations of a term at a place, after those of s
-  pub emit_term : Context → Place → State → Term → PlacedEmitted
+  pub emit_term : Context → Cursor → State → Term → PlacedEmitted
   emit_term ctx at s (Literal n) =
       placed (next_term at) (constant (ctx.clock at.term) s (literal n))
   emit_term ctx at s (Truth b) =
@@ -300,7 +300,7 @@ unfoldable mutual
       placed r.place (with_all ctx at (IterateSymbol' it op n arity all) r.emitted)
 
   -- those of a row of terms from a place on, with their elements one after another
-  pub emit_row : {m : _} → Context → Place → State → Row_of-Term m → PlacedEmitted
+  pub emit_row : {m : _} → Context → Cursor → State → Row_of-Term m → PlacedEmitted
   emit_row ctx at s end_of-Term = placed at (gives s [])
   emit_row ctx at s (more_of-Term e rest) =
       let x = emit_term ctx at s e in
@@ -308,7 +308,7 @@ unfoldable mutual
       placed r.place (gives r.emitted.state (x.emitted.found ++ r.emitted.found))
 
 -- those of a list of terms
-unfoldable pub emit_list : Context → Place → State → List Term → PlacedEmitted
+unfoldable pub emit_list : Context → Cursor → State → List Term → PlacedEmitted
 emit_list ctx at s [] = placed at (gives s [])
 emit_list ctx at s (e ∷ es) =
     let x = emit_term ctx at s e in
@@ -319,7 +319,7 @@ emit_list ctx at s (e ∷ es) =
 
 -- what was emitted for a statement, and the place after it
 pub record PlacedState : Type 0 where
-  pub place : Place
+  pub place : Cursor
   pub state : State
 
 -- the elements of a left variable
@@ -327,7 +327,7 @@ abbrev pub left_targets : Context → VariableId → List Target
 left_targets ctx x =
     map (λ p. record { place = p; clock = ctx.declared x.0 }) (ctx.places x.0)
 
-unfoldable pub emit_statement : Context → Place → State → ResolvedStatement → PlacedState
+unfoldable pub emit_statement : Context → Cursor → State → ResolvedStatement → PlacedState
 emit_statement ctx at s (statement.Equation lefts e) =
     let x = emit_term ctx at s e in
     let lefts_copied = copied (flat_map (left_targets ctx) lefts.items) x.emitted.found in
@@ -335,7 +335,7 @@ emit_statement ctx at s (statement.Equation lefts e) =
 emit_statement ctx at s (statement.Assertion e) =
     let x = emit_term ctx at s e in record { place = x.place; state = assert x.emitted }
 
-unfoldable pub emit_statements : Context → Place → State → List ResolvedStatement → PlacedState
+unfoldable pub emit_statements : Context → Cursor → State → List ResolvedStatement → PlacedState
 emit_statements ctx at s [] = record { place = at; state = s }
 emit_statements ctx at s (x ∷ xs) =
     let r = emit_statement ctx at s x in emit_statements ctx r.place r.state xs

@@ -3,9 +3,9 @@
 use Rattle.std.specs.Prelude.{ℕ, ◌+◌, ◌<◌, ◌≤◌, ◌^◌, List, ◌++◌, map}
 use Rattle.std.specs.List.{range_with_len}
 use Rattle.lb_flat.specs.declared.expansion.frame.Elements.{Elements}
-use Rattle.lb_flat.specs.declared.expansion.frame.Place.{Place as CodePlace}
+use Rattle.lb_flat.specs.declared.expansion.frame.Cursor.{Cursor as CodePlace}
 use Rattle.lb_flat.specs.Emit.{State, Target}
-use Rattle.lb_flat.specs.EmitTerms.{Place, PlacedEmitted, PlacedState, placed}
+use Rattle.lb_flat.specs.EmitTerms.{Cursor, PlacedEmitted, PlacedState, placed}
 use Rattle.lb_flat.specs.Flat.{FlatClock, FlatEquation, Copy}
 use Rattle.lb_flat.specs.TermEmissions.{onto}
 
@@ -21,7 +21,7 @@ AreBefore n e = e.first + e.count ≤ n
 abbrev pub targets_of : FlatClock → List ℕ → List Target
 targets_of k is = map (λ i. record { place = i; clock = k }) is
 
-abbrev pub place_of : CodePlace → Place
+abbrev pub place_of : CodePlace → Cursor
 place_of at = record { term = at.term; call = at.call }
 
 -- an element that is a copy of another one
@@ -33,7 +33,7 @@ abbrev pub with_copies : State → List FlatEquation → State
 with_copies s qs = record s { copies = s.copies ++ qs }
 
 -- a place is one that the code can hold
-pub record HasPlaces (at : Place) : Type 0 where
+pub record HasPlaces (at : Cursor) : Type 0 where
   pub terms : at.term < 2 ^ 64
   pub calls : at.call < 2 ^ 64
 
@@ -47,5 +47,5 @@ abbrev pub stacked : List ℕ → PlacedEmitted → PlacedEmitted
 stacked below r = placed r.place (onto below r.emitted)
 
 -- what was emitted for a statement, and the place after it
-abbrev pub placed_state : Place → State → PlacedState
+abbrev pub placed_state : Cursor → State → PlacedState
 placed_state at s = record { place = at; state = s }

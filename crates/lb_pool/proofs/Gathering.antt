@@ -8,16 +8,16 @@ use Rattle.lb_flat.specs.Traces.{Recording}
 use Rattle.lb_flat.specs.declared.program.FlatProgram.{FlatProgram}
 use Rattle.lb_pool.specs.Runs.{IsJudged, AreJudged, numbers_of, numbers_drawn}
 use Rattle.lb_pool.specs.Seats.{shares_of, told_of, drawn_of}
-use Rattle.lb_pool.specs.Workers.{HasDone, IsBoth}
+use Rattle.lb_pool.specs.Workers.{HasDrained, IsBoth}
 use Rattle.lb_pool.specs.declared.batch.Judged.{Judged}
 use Rattle.lb_pool.specs.declared.board.ClaimBoard.{ClaimBoard}
-use Rattle.lb_pool.specs.declared.claims.Done.{Done}
+use Rattle.lb_pool.specs.declared.claims.Drained.{Drained}
 
 pub gathered :
     (board : ClaimBoard) (a b shares : ℕ) (p : FlatProgram) (r : Recording)
-    (batches : List (List ℕ)) (one other d : Done) → HasDone board a p r batches one →
-    HasDone board b p r batches other → min 64 (a + b) ≡ shares → IsBoth board one other d →
-    HasDone board shares p r batches d
+    (batches : List (List ℕ)) (one other d : Drained) → HasDrained board a p r batches one →
+    HasDrained board b p r batches other → min 64 (a + b) ≡ shares → IsBoth board one other d →
+    HasDrained board shares p r batches d
 gathered board a b shares p r batches one other d first second sum both = record {
   seat = both.seat;
   shares_kept =

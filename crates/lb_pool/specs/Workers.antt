@@ -6,12 +6,12 @@ use Rattle.lb_flat.specs.declared.program.FlatProgram.{FlatProgram}
 use Rattle.lb_pool.specs.Runs.{AreJudged, numbers_of, numbers_drawn}
 use Rattle.lb_pool.specs.Seats.{IsSeatOf, shares_of, told_of, drawn_of}
 use Rattle.lb_pool.specs.declared.board.ClaimBoard.{ClaimBoard}
-use Rattle.lb_pool.specs.declared.claims.Done.{Done}
+use Rattle.lb_pool.specs.declared.claims.Drained.{Drained}
 
 -- the seat has its shares, and was told that no batch is left; there is a verdict for each trace of
 -- the batches that it has drawn, and for no other
-pub record HasDone (board : ClaimBoard) (shares : ℕ) (p : FlatProgram) (r : Recording)
-    (batches : List (List ℕ)) (d : Done) : Type 0 where
+pub record HasDrained (board : ClaimBoard) (shares : ℕ) (p : FlatProgram) (r : Recording)
+    (batches : List (List ℕ)) (d : Drained) : Type 0 where
   pub seat : IsSeatOf board d.seat
   pub shares_kept : shares_of d.seat ≡ shares
   pub told : told_of d.seat ≡ true
@@ -19,7 +19,7 @@ pub record HasDone (board : ClaimBoard) (shares : ℕ) (p : FlatProgram) (r : Re
   pub judged : AreJudged p r d.judged.items
 
 -- what two have done, put together
-pub record IsBoth (board : ClaimBoard) (one other d : Done) : Type 0 where
+pub record IsBoth (board : ClaimBoard) (one other d : Drained) : Type 0 where
   pub seat : IsSeatOf board d.seat
   pub shares : shares_of d.seat ≡ min 64 (shares_of one.seat + shares_of other.seat)
   pub told : told_of d.seat ≡ (told_of one.seat || told_of other.seat)

@@ -7,7 +7,7 @@ ghost use Rattle.lb_flat.specs.declared.program.FlatProgram.{FlatProgram};
 ghost use Rattle.lb_pool.specs.Plans.{numbers_in};
 ghost use Rattle.lb_pool.specs.Correct.{AreVerdicts};
 ghost use Rattle.lb_pool.specs.Seats.{limit_of, IsSeatOf, shares_of, drawn_of};
-ghost use Rattle.lb_pool.specs.Workers.{HasDone, IsBoth};
+ghost use Rattle.lb_pool.specs.Workers.{HasDrained, IsBoth};
 
 use crate::batch::{Judged, Work, run_batch, verdicts_of};
 use crate::board::{ClaimBoard, ClaimSeat};
@@ -21,7 +21,7 @@ use std::thread::{Threads, join};
 
 /// What workers have done: the seat that they claimed with, and the verdicts of its batches.
 #[derive(Drop)]
-pub(crate) struct Done {
+pub(crate) struct Drained {
     pub(crate) seat: ClaimSeat,
     pub(crate) judged: Vec<Judged>,
 }
@@ -33,11 +33,11 @@ fn drain<G: Gate>(
     gate: &G,
     work: &Work<'_, '_>,
     mut seat: ClaimSeat,
-) -> Result<Done, AllocError>
+) -> Result<Drained, AllocError>
     requires board { limit_of board.now ≡ length work.now.plan.now }
     requires seat { IsSeatOf board.now seat }
     requires nothing { drawn_of seat ≡ [] }
-    ensures { IfOk result (HasDone board.now (shares_of seat) work.now.program.now.program.now
+    ensures { IfOk result (HasDrained board.now (shares_of seat) work.now.program.now.program.now
         work.now.set.now work.now.plan.now) }
 {
     let mut room = BatchRoom::new(alloc, work.program)?;
@@ -47,23 +47,23 @@ fn drain<G: Gate>(
         let again = run_batch(work, i, room, &mut judged)?;
         room = again;
     }
-    Ok(Done { seat, judged })
+    Ok(Drained { seat, judged })
 }
 
 // What two workers have done together.
-fn both_done(board: &ClaimBoard, one: Done, other: Done) -> Result<Done, AllocError>
+fn both_drained(board: &ClaimBoard, one: Drained, other: Drained) -> Result<Drained, AllocError>
     requires one { IsSeatOf board.now one.seat }
     requires other { IsSeatOf board.now other.seat }
     ensures { IfOk result (IsBoth board.now one other) }
 {
-    let Done { seat, mut judged } = one;
-    let Done {
+    let Drained { seat, mut judged } = one;
+    let Drained {
         seat: second,
         judged: more,
     } = other;
     let seat = board.join(seat, second);
     judged.extend_from_slice(more.as_slice())?;
-    Ok(Done { seat, judged })
+    Ok(Drained { seat, judged })
 }
 
 // What each worker of a run does. Those who start workers are generic over it, so that their types
@@ -81,11 +81,11 @@ trait Worker {
         alloc: Global,
         board: &ClaimBoard,
         seat: ClaimSeat,
-    ) -> Result<Done, AllocError>
+    ) -> Result<Drained, AllocError>
         requires board { limit_of board.now ≡ length (batches self.now) }
         requires seat { IsSeatOf board.now seat }
         requires nothing { drawn_of seat ≡ [] }
-        ensures { IfOk result (HasDone board.now (shares_of seat) (program self.now)
+        ensures { IfOk result (HasDrained board.now (shares_of seat) (program self.now)
             (recording self.now) (batches self.now)) };
 }
 
@@ -108,7 +108,7 @@ impl<G: Gate> Worker for GatedWorker<'_, '_, G> {
         alloc: Global,
         board: &ClaimBoard,
         seat: ClaimSeat,
-    ) -> Result<Done, AllocError> {
+    ) -> Result<Drained, AllocError> {
         drain(alloc, board, self.gate, &self.work, seat)
     }
 }
@@ -121,12 +121,12 @@ fn divide<R: Threads + Sync, W: Worker + Sync>(
     worker: &W,
     seat: ClaimSeat,
     workers: u32,
-) -> Result<Done, AllocError>
+) -> Result<Drained, AllocError>
     requires board { limit_of board.now ≡ length (W.batches worker.now) }
     requires seat { IsSeatOf board.now seat }
     requires nothing { drawn_of seat ≡ [] }
     requires workers { (0 < workers) × (workers ≤ shares_of seat) }
-    ensures { IfOk result (HasDone board.now (shares_of seat) (W.program worker.now)
+    ensures { IfOk result (HasDrained board.now (shares_of seat) (W.program worker.now)
         (W.recording worker.now) (W.batches worker.now)) }
 {
     if workers == 1 {
@@ -136,26 +136,26 @@ fn divide<R: Threads + Sync, W: Worker + Sync>(
     let half = workers / 2;
     let (one, other) = join(
         rt,
-        move || -> Result<Done, AllocError>
+        move || -> Result<Drained, AllocError>
             requires { IsSync R.row × IsSync W.row
                 × (limit_of board.now ≡ length (W.batches worker.now))
                 × IsSeatOf board.now left × (drawn_of left ≡ [])
                 × (0 < workers - half) × (workers - half ≤ shares_of left) }
-            ensures { IfOk result (HasDone board.entry.now (shares_of left)
+            ensures { IfOk result (HasDrained board.entry.now (shares_of left)
                 (W.program worker.entry.now) (W.recording worker.entry.now)
                 (W.batches worker.entry.now)) }
         { divide(rt, alloc, board, worker, left, workers - half) },
-        move || -> Result<Done, AllocError>
+        move || -> Result<Drained, AllocError>
             requires { IsSync R.row × IsSync W.row
                 × (limit_of board.now ≡ length (W.batches worker.now))
                 × IsSeatOf board.now right × (drawn_of right ≡ [])
                 × (0 < half) × (half ≤ shares_of right) }
-            ensures { IfOk result (HasDone board.entry.now (shares_of right)
+            ensures { IfOk result (HasDrained board.entry.now (shares_of right)
                 (W.program worker.entry.now) (W.recording worker.entry.now)
                 (W.batches worker.entry.now)) }
         { divide(rt, alloc, board, worker, right, half) },
     );
-    both_done(board, one?, other?)
+    both_drained(board, one?, other?)
 }
 
 // The verdicts of all traces, by workers that share a lane program.
@@ -177,7 +177,7 @@ fn run_workers<'a, 'p, R: Threads + Sync, G: Gate + Sync>(
     let work = Work { program, set, plan };
     let worker = GatedWorker { work, gate };
     let done = divide(rt, alloc, &board, &worker, seat, workers)?;
-    let Done { seat, judged } = done;
+    let Drained { seat, judged } = done;
     let told = board.close(seat);
     prove!(told);
     verdicts_of(alloc, &work, judged.as_slice())

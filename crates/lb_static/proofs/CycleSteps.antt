@@ -9,9 +9,9 @@ use Rattle.std.proofs.lemmas.List.Sums.{sum_by_push}
 use Rattle.std.proofs.lemmas.Option.{slice_get-get_or, slice_get_within}
 use Rattle.lb_syntax.specs.Lists.{In}
 use Rattle.lb_static.specs.CallGraphs.{AreWithin, IsOnCycle, Leads, called}
-use Rattle.lb_static.specs.CycleSearch.{IsAt, IsBetween, IsFrame, IsPath, IsSearch, IsSearchFrom}
+use Rattle.lb_static.specs.CycleSearch.{IsAt, IsBetween, IsVisit, IsPath, IsSearch, IsSearchFrom}
 use Rattle.lb_static.specs.CycleSearch.{Keeps, unseen, on_path}
-use Rattle.lb_static.specs.declared.cycle.Frame.{Frame}
+use Rattle.lb_static.specs.declared.cycle.Visit.{Visit}
 use Rattle.lb_static.specs.declared.cycle.Progress.{Progress}
 use Rattle.lb_static.specs.declared.cycle.Progress.TheVariants.{Unseen, Open, Done}
 
@@ -73,10 +73,10 @@ done_more ps i below j done = by (nat_eq j i) refl
 
 -- ## The path
 
-frame_kept : (g : List (List ℕ)) (before after : List Progress) (next : Option ℕ) (f : Frame)
+visit_kept : (g : List (List ℕ)) (before after : List Progress) (next : Option ℕ) (f : Visit)
     → Keeps before after
-    → IsFrame g before next f → IsFrame g after next f
-frame_kept g before after next f keeps h = record {
+    → IsVisit g before next f → IsVisit g after next f
+visit_kept g before after next f keeps h = record {
   within = h.within;
   each = λ j called. by j (h.each j called);
   left = h.left;
@@ -89,20 +89,20 @@ frame_kept g before after next f keeps h = record {
     by j (inr (inl done)) = inr (inl (keeps j done))
     by j (inr (inr is)) = inr (inr is)
 
-path_kept : (g : List (List ℕ)) (before after : List Progress) (next : Option ℕ) (fs : List Frame)
+path_kept : (g : List (List ℕ)) (before after : List Progress) (next : Option ℕ) (fs : List Visit)
     → Keeps before after
     → IsPath g before next fs → IsPath g after next fs
 path_kept g before after next [] keeps h = h
 path_kept g before after next (f ∷ fs) keeps h = (
-  frame_kept g before after next f keeps h.0,
+  visit_kept g before after next f keeps h.0,
   path_kept g before after (Some f.node) fs keeps
       h.1,
 )
 
 -- the next node on the path is done: the one before it is the end
-frame_ends : (g : List (List ℕ)) (ps : List Progress) (i : ℕ) (f : Frame) → IsAt ps i Done
-    → IsFrame g ps (Some i) f → IsFrame g ps None f
-frame_ends g ps i f done h = record {
+visit_ends : (g : List (List ℕ)) (ps : List Progress) (i : ℕ) (f : Visit) → IsAt ps i Done
+    → IsVisit g ps (Some i) f → IsVisit g ps None f
+visit_ends g ps i f done h = record {
   within = h.within;
   each = λ j called. by j (h.each j called);
   left = h.left;
@@ -115,13 +115,13 @@ frame_ends g ps i f done h = record {
     by j (inr (inl is)) = inr (inl is)
     by j (inr (inr is)) = let same : i ≡ j = cc in inr (inl (subst (λ k. IsAt ps k Done) same done))
 
-path_ends : (g : List (List ℕ)) (ps : List Progress) (i : ℕ) (fs : List Frame) → IsAt ps i Done
+path_ends : (g : List (List ℕ)) (ps : List Progress) (i : ℕ) (fs : List Visit) → IsAt ps i Done
     → IsPath g ps (Some i) fs → IsPath g ps None fs
 path_ends g ps i [] done h = h
-path_ends g ps i (f ∷ fs) done h = (frame_ends g ps i f done h.0, h.1)
+path_ends g ps i (f ∷ fs) done h = (visit_ends g ps i f done h.0, h.1)
 
 -- a call leads back onto the path: its callee is on a cycle
-comes_back : (g : List (List ℕ)) (ps : List Progress) (a c : ℕ) (ks : List ℕ) (fs : List Frame)
+comes_back : (g : List (List ℕ)) (ps : List Progress) (a c : ℕ) (ks : List ℕ) (fs : List Visit)
     → IsPath g ps (Some a) fs
     → In c (map (λ f. f.node) fs) → Leads g a ks c → IsOnCycle g c
 comes_back g ps a c ks [] path on leads = absurd on
@@ -131,7 +131,7 @@ comes_back g ps a c ks (f ∷ fs) path (inr on) leads =
     comes_back g ps f.node c (a ∷ ks) fs path.1 on (path.0.calls_next a refl, leads)
 
 -- a call of the node at the end of the path leads onto the path
-pub closes : (g : List (List ℕ)) (ps : List Progress) (f : Frame) (fs : List Frame) (c : ℕ)
+pub closes : (g : List (List ℕ)) (ps : List Progress) (f : Visit) (fs : List Visit) (c : ℕ)
     → IsSearch g ps (f ∷ fs)
     → In c f.left.now → IsAt ps c Open → IsOnCycle g c
 closes g ps f fs c searched left is_open = by (searched.open_on_path c is_open)
@@ -146,7 +146,7 @@ closes g ps f fs c searched left is_open = by (searched.open_on_path c is_open)
 -- ## The steps of a search
 
 -- a node whose calls are all followed is done
-finished : (g : List (List ℕ)) (ps : List Progress) (f : Frame) (fs : List Frame)
+finished : (g : List (List ℕ)) (ps : List Progress) (f : Visit) (fs : List Visit)
     → IsSearch g ps (f ∷ fs) → f.left.now ≡ []
     → IsSearch g (set ps f.node Done) fs
 finished g ps f fs searched ends = record {
@@ -191,17 +191,17 @@ finished g ps f fs searched ends = record {
     on_path_still i at (inr was) = still i at (searched.open_on_path i was)
 
 -- one call of a node is followed, to a node that is done or that is next on the path
-followed : (g : List (List ℕ)) (ps : List Progress) (f h : Frame) (next : Option ℕ) (c : ℕ)
+followed : (g : List (List ℕ)) (ps : List Progress) (f h : Visit) (next : Option ℕ) (c : ℕ)
     → h.node ≡ f.node → f.left.now ≡ c ∷ h.left.now
-    → (IsAt ps c Done ⊎ (next ≡ Some c)) → ((j : ℕ) → next ≡ Some j → c ≡ j) → IsFrame g ps None f
-    → IsFrame g ps next h
-followed g ps f h next c same left meets only frame = record {
-  within = subst (λ i. i < length g) (sym same) frame.within;
-  each = λ j calls. by j (frame.each j (subst (λ i. In j (called g i)) same calls));
+    → (IsAt ps c Done ⊎ (next ≡ Some c)) → ((j : ℕ) → next ≡ Some j → c ≡ j) → IsVisit g ps None f
+    → IsVisit g ps next h
+followed g ps f h next c same left meets only visit = record {
+  within = subst (λ i. i < length g) (sym same) visit.within;
+  each = λ j calls. by j (visit.each j (subst (λ i. In j (called g i)) same calls));
   left = λ j on. subst (λ i. In j (called g i)) (sym same)
-      (frame.left j (subst (λ l. In j l) (sym left) (inr on)));
+      (visit.left j (subst (λ l. In j l) (sym left) (inr on)));
   calls_next = λ j is. subst (λ i. In j (called g i)) (sym same)
-      (frame.left j (subst (λ l. In j l) (sym left) (inl (only j is))));
+      (visit.left j (subst (λ l. In j l) (sym left) (inl (only j is))));
 }
   where
     first : (j : ℕ) → (c ≡ j) ⊎ In j h.left.now
@@ -216,7 +216,7 @@ followed g ps f h next c same left meets only frame = record {
     by j (inr (inr is)) = absurd cc
 
 -- a call leads to a node that is done
-passed : (g : List (List ℕ)) (ps : List Progress) (f h : Frame) (fs : List Frame) (c : ℕ)
+passed : (g : List (List ℕ)) (ps : List Progress) (f h : Visit) (fs : List Visit) (c : ℕ)
     → IsSearch g ps (f ∷ fs)
     → h.node ≡ f.node → f.left.now ≡ c ∷ h.left.now → IsAt ps c Done → IsSearch g ps (h ∷ fs)
 passed g ps f h fs c searched same left done = record {
@@ -236,8 +236,8 @@ passed g ps f h fs c searched same left done = record {
     by i (inr on) = inr on
 
 -- nothing of a node's calls is followed yet
-fresh : (g : List (List ℕ)) (ps : List Progress) (h : Frame) → h.node < length g
-    → h.left.now ≡ called g h.node → IsFrame g ps None h
+fresh : (g : List (List ℕ)) (ps : List Progress) (h : Visit) → h.node < length g
+    → h.left.now ≡ called g h.node → IsVisit g ps None h
 fresh g ps h within left = record {
   within = within;
   each = λ j calls. inl (subst (λ l. In j l) (sym left) calls);
@@ -246,7 +246,7 @@ fresh g ps h within left = record {
 }
 
 -- a call leads to a node that was not begun
-entered : (g : List (List ℕ)) (ps : List Progress) (f h k : Frame) (fs : List Frame)
+entered : (g : List (List ℕ)) (ps : List Progress) (f h k : Visit) (fs : List Visit)
     → IsSearch g ps (f ∷ fs)
     → h.node ≡ f.node → f.left.now ≡ k.node ∷ h.left.now → k.node < length g
     → k.left.now ≡ called g k.node → IsAt ps k.node Unseen
@@ -264,7 +264,7 @@ entered g ps f h k fs searched same left within all at_first = record {
     fresh g after k within all,
     (
       followed g after f h (Some k.node) k.node same left (inr refl) (λ j is. cc)
-          (frame_kept g ps after None f kept searched.is_path.0),
+          (visit_kept g ps after None f kept searched.is_path.0),
       subst (λ i. IsPath g after (Some i) fs) (sym same)
           (path_kept g ps after (Some f.node) fs kept searched.is_path.1),
     ),
@@ -301,8 +301,8 @@ last_first : {A : Type 0} (all front : List A) (x : A) → all ≡ front ++ x �
     → reverse all ≡ x ∷ reverse front
 last_first all front x e = ap reverse e ∙ reverse-append front (x ∷ [])
 
-pub begins : (g : List (List ℕ)) (before : List Progress) (start : ℕ) (f : Frame)
-    (path : List Frame) → IsBetween g before
+pub begins : (g : List (List ℕ)) (before : List Progress) (start : ℕ) (f : Visit)
+    (path : List Visit) → IsBetween g before
     → IsAt before start Unseen → f.node ≡ start → f.left.now ≡ called g start → path ≡ f ∷ []
     → IsSearchFrom g before start (set before start Open) (reverse path)
 begins g before start f path between at_first is left alone = record {
@@ -377,15 +377,15 @@ begun_before ps start i at_first (inl is_open) = by (nat_eq start i) refl
         inl (elsewhere ps i start Open other ∙ is_open)
 
 -- the node at the end of the path is one of the graph
-pub last_within : (g : List (List ℕ)) (before ps : List Progress) (start : ℕ) (old new : List Frame)
-    (f : Frame)
+pub last_within : (g : List (List ℕ)) (before ps : List Progress) (start : ℕ) (old new : List Visit)
+    (f : Visit)
     → IsSearchFrom g before start ps (reverse old) → old ≡ new ++ f ∷ [] → f.node < length ps
 last_within g before ps start old new f from popped =
     let searched = subst (IsSearch g ps) (last_first old new f popped) from.searched in
     omega (arith, searched.as_many, searched.is_path.0.within)
 
-pub finishes : (g : List (List ℕ)) (before ps : List Progress) (start : ℕ) (old new : List Frame)
-    (f : Frame)
+pub finishes : (g : List (List ℕ)) (before ps : List Progress) (start : ℕ) (old new : List Visit)
+    (f : Visit)
     → IsSearchFrom g before start ps (reverse old) → old ≡ new ++ f ∷ [] → f.left.now ≡ []
     → IsSearchFrom g before start (set ps f.node Done) (reverse new)
 finishes g before ps start old new f from popped ends =
@@ -398,7 +398,7 @@ finishes g before ps start old new f from popped ends =
     }
 
 pub passes : (g : List (List ℕ)) (before ps : List Progress) (start c : ℕ)
-    (old front new : List Frame) (f h : Frame)
+    (old front new : List Visit) (f h : Visit)
     → IsSearchFrom g before start ps (reverse old) → old ≡ front ++ f ∷ [] → new ≡ front ++ h ∷ []
     → h.node ≡ f.node → f.left.now ≡ c ∷ h.left.now → IsAt ps c Done
     → IsSearchFrom g before start ps (reverse new)
@@ -412,7 +412,7 @@ passes g before ps start c old front new f h from popped pushed same left done =
     }
 
 enters_next : (g : List (List ℕ)) (before ps : List Progress) (start : ℕ)
-    (old front mid new : List Frame) (f h k : Frame)
+    (old front mid new : List Visit) (f h k : Visit)
     → IsSearchFrom g before start ps (reverse old) → old ≡ front ++ f ∷ [] → mid ≡ front ++ h ∷ []
     → new ≡ mid ++ k ∷ []
     → h.node ≡ f.node → f.left.now ≡ k.node ∷ h.left.now → k.node < length g
@@ -432,7 +432,7 @@ enters_next g before ps start old front mid new f h k from popped pushed entered
     }
 
 pub enters : (g : List (List ℕ)) (before ps : List Progress) (start c : ℕ)
-    (old front mid new : List Frame) (f h k : Frame)
+    (old front mid new : List Visit) (f h k : Visit)
     → IsSearchFrom g before start ps (reverse old) → old ≡ front ++ f ∷ [] → mid ≡ front ++ h ∷ []
     → new ≡ mid ++ k ∷ [] → h.node ≡ f.node
     → k.node ≡ c → f.left.now ≡ c ∷ h.left.now → c < length g → k.left.now ≡ called g c
@@ -445,7 +445,7 @@ enters g before ps start c old front mid new f h k from popped pushed entered_la
 
 -- what a node on the path calls is a node
 pub calls_node : (g : List (List ℕ)) (before ps : List Progress) (start c : ℕ) (cs : List ℕ)
-    (old front : List Frame) (f : Frame) → AreWithin g
+    (old front : List Visit) (f : Visit) → AreWithin g
     → IsSearchFrom g before start ps (reverse old) → old ≡ front ++ f ∷ [] → f.left.now ≡ c ∷ cs
     → (c < length g) × (c < length ps)
 calls_node g before ps start c cs old front f within from popped left =
@@ -460,14 +460,14 @@ pub read_at : (ps : List Progress) (i : ℕ) (p d : Progress) → i < length ps 
 read_at ps i p d below is = slice_get-get_or ps i d below ∙ ap Some is
 
 pub cycle_found : (g : List (List ℕ)) (before ps : List Progress) (start c : ℕ) (cs : List ℕ)
-    (old front : List Frame) (f : Frame)
+    (old front : List Visit) (f : Visit)
     → IsSearchFrom g before start ps (reverse old) → old ≡ front ++ f ∷ [] → f.left.now ≡ c ∷ cs
     → IsAt ps c Open → IsOnCycle g c
 cycle_found g before ps start c cs old front f from popped left is_open =
     let searched = subst (IsSearch g ps) (last_first old front f popped) from.searched in
     closes g ps f (reverse front) c searched (subst (λ l. In c l) (sym left) (inl refl)) is_open
 
-pub ends : (g : List (List ℕ)) (before ps : List Progress) (start : ℕ) (path : List Frame)
+pub ends : (g : List (List ℕ)) (before ps : List Progress) (start : ℕ) (path : List Visit)
     → IsSearchFrom g before start ps (reverse path) → path ≡ []
     → IsBetween g ps × Keeps before ps × IsAt ps start Done
 ends g before ps start path from empty = (
@@ -509,25 +509,25 @@ unseen_open (Unseen ∷ ps) (c ∷ g) (suc i) below at =
 unseen_open (Open ∷ ps) (c ∷ g) (suc i) below at = unseen_open ps g i (omega arith) at
 unseen_open (Done ∷ ps) (c ∷ g) (suc i) below at = unseen_open ps g i (omega arith) at
 
-on_path_more : (all front : List Frame) (f : Frame) → all ≡ front ++ f ∷ []
+on_path_more : (all front : List Visit) (f : Visit) → all ≡ front ++ f ∷ []
     → on_path all ≡ on_path front + (1 + length f.left.now)
 on_path_more all front f e = ap on_path e ∙ sum_by_push (λ h. 1 + length h.left.now) front f
 
-pub less_passed : (ps : List Progress) (g : List (List ℕ)) (c : ℕ) (old front new : List Frame)
-    (f h : Frame) → old ≡ front ++ f ∷ []
+pub less_passed : (ps : List Progress) (g : List (List ℕ)) (c : ℕ) (old front new : List Visit)
+    (f h : Visit) → old ≡ front ++ f ∷ []
     → new ≡ front ++ h ∷ [] → f.left.now ≡ c ∷ h.left.now
     → unseen ps g + on_path new < unseen ps g + on_path old
 less_passed ps g c old front new f h popped pushed left =
     omega (arith, on_path_more old front f popped, on_path_more new front h pushed, ap length left)
 
-pub less_finished : (ps : List Progress) (g : List (List ℕ)) (i : ℕ) (old new : List Frame)
-    (f : Frame) → old ≡ new ++ f ∷ []
+pub less_finished : (ps : List Progress) (g : List (List ℕ)) (i : ℕ) (old new : List Visit)
+    (f : Visit) → old ≡ new ++ f ∷ []
     → unseen (set ps i Done) g + on_path new < unseen ps g + on_path old
 less_finished ps g i old new f popped =
     omega (arith, unseen_done ps g i, on_path_more old new f popped)
 
-pub less_entered : (ps : List Progress) (g : List (List ℕ)) (c : ℕ) (old front mid new : List Frame)
-    (f h k : Frame) → old ≡ front ++ f ∷ []
+pub less_entered : (ps : List Progress) (g : List (List ℕ)) (c : ℕ) (old front mid new : List Visit)
+    (f h k : Visit) → old ≡ front ++ f ∷ []
     → mid ≡ front ++ h ∷ [] → new ≡ mid ++ k ∷ [] → f.left.now ≡ c ∷ h.left.now → c < length g
     → k.left.now ≡ called g c → IsAt ps c Unseen
     → unseen (set ps c Open) g + on_path new < unseen ps g + on_path old

@@ -201,8 +201,8 @@ module _ (P : Program) (r : Reached) (c : Constants) (w : IsInstantiable P r c) 
 
   module _ (i : ℕ) (s : Specialization) (found : slice_get t.specializations.items i ≡ Some s)
       (n : ResolvedNode) (at : slice_get r.nodes.items s.node.0 ≡ Some n) where
-    is : IsResolved (source_names P) n
-    is = all_item (IsResolved (source_names P)) r.nodes.items s.node.0 n w.reached.resolved at
+    resolved : IsResolved (source_names P) n
+    resolved = all_item (IsResolved (source_names P)) r.nodes.items s.node.0 n w.reached.resolved at
 
     abbrev here : Instance
     here = instance_of Root (node_of n) s.values.items
@@ -212,7 +212,7 @@ module _ (P : Program) (r : Reached) (c : Constants) (w : IsInstantiable P r c) 
         → (callee : Specialization) → slice_get t.specializations.items id.0 ≡ Some callee
         → callee_of P here site call 0 ≡ specialized_at r (Child Root call 0) callee
     callee_is call site at_site id at_id callee at_callee =
-        let k = site_is n call site is at_site in
+        let k = site_is n call site resolved at_site in
         let told = called_at r s.statics.items t.specializations.items n.calls.items s.callees.items
         call k.0 id ((linked_calls i s found).called n at) k.1 at_id in
         let same : told.0 ≡ callee =
@@ -242,7 +242,7 @@ module _ (P : Program) (r : Reached) (c : Constants) (w : IsInstantiable P r c) 
           called_as_many r s.statics.items t.specializations.items n.calls.items s.callees.items
           ((linked_calls i s found).called n at)
           ∙ sym (length-map n.calls.items (site_of (source_names P) (statics_of n)))
-          ∙ ap length is.calls
+          ∙ ap length resolved.calls
           ∙ ap (λ (h : Instance). length (node_sites h.node)) (is_here s n there at e);
     }
 

@@ -1,6 +1,6 @@
 -- The nodes that come up in the walk over what is reached by name.
 -- This file says what data of the program mean; no definition of the language stands on it.
-use Rattle.std.specs.Prelude.{◌≡◌, ◌<◌, ◌≤◌, ℕ, Bool, true, ◌&&◌, [], Option, None, Some, is_some}
+use Rattle.std.specs.Prelude.{◌≡◌, ◌<◌, ◌≤◌, ℕ, Bool, true, ◌&&◌, Option, Some, is_some}
 use Rattle.std.specs.Prelude.{option_map, List, map, length, slice_get, All, Result, Ok, Err}
 use Rattle.std.specs.List.{list_all}
 use Rattle.lb_syntax.specs.Lists.{◌>>=◌}

@@ -5,7 +5,7 @@ use Rattle.std.specs.Prelude.{slice_get}
 use Rattle.std.specs.List.{sum_by}
 use Rattle.lb_syntax.specs.Lists.{In}
 use Rattle.lb_static.specs.CallGraphs.{IsOnCycle, IsOrder, called}
-use Rattle.lb_static.specs.declared.cycle.Frame.{Frame}
+use Rattle.lb_static.specs.declared.cycle.Visit.{Visit}
 use Rattle.lb_static.specs.declared.cycle.Progress.{Progress}
 use Rattle.lb_static.specs.declared.cycle.Progress.TheVariants.{Unseen, Open, Done}
 
@@ -32,8 +32,8 @@ pub record IsBetween (graph : List (List ℕ)) (progress : List Progress) : Type
   pub none_open : IsNoneOpen progress
 
 -- a node on the path: what it calls is left to be followed, done, or the next node on the path
-pub record IsFrame (graph : List (List ℕ)) (progress : List Progress) (next : Option ℕ)
-    (f : Frame) : Type 0 where
+pub record IsVisit (graph : List (List ℕ)) (progress : List Progress) (next : Option ℕ)
+    (f : Visit) : Type 0 where
   pub within : f.node < length graph
   pub each : (j : ℕ) → In j (called graph f.node)
       → In j f.left.now ⊎ (IsAt progress j Done ⊎ (next ≡ Some j))
@@ -41,13 +41,13 @@ pub record IsFrame (graph : List (List ℕ)) (progress : List Progress) (next : 
   pub calls_next : (j : ℕ) → next ≡ Some j → In j (called graph f.node)
 
 -- the path, its end first
-abbrev pub IsPath : List (List ℕ) → List Progress → Option ℕ → List Frame → Type 0
+abbrev pub IsPath : List (List ℕ) → List Progress → Option ℕ → List Visit → Type 0
 IsPath graph progress next [] = Unit {0}
 IsPath graph progress next (f ∷ fs) =
-    IsFrame graph progress next f × IsPath graph progress (Some f.node) fs
+    IsVisit graph progress next f × IsPath graph progress (Some f.node) fs
 
 -- in a search, with the path, its end first: the nodes that are begun and not done stand on it
-pub record IsSearch (graph : List (List ℕ)) (progress : List Progress) (path : List Frame)
+pub record IsSearch (graph : List (List ℕ)) (progress : List Progress) (path : List Visit)
     : Type 0 where
   pub as_many : length progress ≡ length graph
   pub done : AreDone graph progress
@@ -56,7 +56,7 @@ pub record IsSearch (graph : List (List ℕ)) (progress : List Progress) (path :
 
 -- in a search from a node: what was done before it is done, and this node was begun
 pub record IsSearchFrom (graph : List (List ℕ)) (before : List Progress) (start : ℕ)
-    (progress : List Progress) (path : List Frame) : Type 0 where
+    (progress : List Progress) (path : List Visit) : Type 0 where
   pub searched : IsSearch graph progress path
   pub kept : Keeps before progress
   pub begun : IsAt progress start Open ⊎ IsAt progress start Done
@@ -70,7 +70,7 @@ unseen (Open ∷ progress) (calls ∷ graph) = unseen progress graph
 unseen (Done ∷ progress) (calls ∷ graph) = unseen progress graph
 
 -- how much is left on the path
-abbrev pub on_path : List Frame → ℕ
+abbrev pub on_path : List Visit → ℕ
 on_path path = sum_by (λ f. 1 + length f.left.now) path
 
 -- what a search from a node answers: a node that reaches itself; or none, and the node is done,

@@ -38,6 +38,6 @@ pub mod CalledNodes
 pub mod NamedConstants
 pub mod NodeNames
 pub mod NodeProgress
-pub mod Frames
+pub mod Nested
 pub mod Progressed
 pub mod TermForms

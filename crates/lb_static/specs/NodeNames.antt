@@ -1,6 +1,6 @@
 -- What the names of a node may stand for, and whether each name of an expression has a meaning.
 -- The tests mirror the recursion of the code; no definition of the language stands on them.
-use Rattle.std.specs.Prelude.{◌≡◌, ℕ, Bool, true, ◌&&◌, List, [], nat_eq, Some, None, map, length}
+use Rattle.std.specs.Prelude.{◌≡◌, ℕ, Bool, true, ◌&&◌, List, [], nat_eq, Some, None, length}
 use Rattle.std.specs.Prelude.{slice_get, nat_lt}
 use Rattle.std.specs.List.{list_all}
 use Rattle.lb_syntax.specs.Lists.{either_or, holds}

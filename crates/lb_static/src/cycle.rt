@@ -23,24 +23,24 @@ enum Progress {
 
 /// A node on the path.
 #[derive(Clone, Copy)]
-struct Frame<'g> {
+struct Visit<'g> {
     node: usize,
     /// Those of its calls that are still to be followed.
     left: &'g [usize],
 }
 
-impl<'g> Frame<'g> {
+impl<'g> Visit<'g> {
     ghost use Rattle.std.specs.Prelude.{◌≡◌, ◌<◌, map, length};
     ghost use Rattle.lb_static.specs.CallGraphs.{called};
 
     /// A node none of whose calls is followed yet.
-    fn new(node: usize, graph: &'g [Vec<usize>]) -> Frame<'g>
+    fn new(node: usize, graph: &'g [Vec<usize>]) -> Visit<'g>
         requires { node < length graph.now }
         ensures node { result.node ≡ node }
         ensures left { result.left.now ≡ called (map (λ v. v.items) graph.now) node }
     {
         let left = graph[node].as_slice();
-        Frame { node, left }
+        Visit { node, left }
     }
 }
 
@@ -50,7 +50,7 @@ impl<'g> Frame<'g> {
 fn search_from<'g>(
     graph: &'g [Vec<usize>],
     progress: &mut [Progress],
-    path: &mut Vec<Frame<'g>>,
+    path: &mut Vec<Visit<'g>>,
     start: usize,
 ) -> Result<Option<usize>, AllocError>
     requires within { AreWithin (map (λ v. v.items) graph.now) }
@@ -62,17 +62,17 @@ fn search_from<'g>(
     ensures none { IfOk result (λ found. found ≡ None → path.new.items ≡ []) }
 {
     progress[start] = Progress::Open;
-    path.push(Frame::new(start, graph))?;
-    while let Some(frame) = path.pop() {
-        match frame.left.split_first() {
-            None => progress[frame.node] = Progress::Done,
+    path.push(Visit::new(start, graph))?;
+    while let Some(visit) = path.pop() {
+        match visit.left.split_first() {
+            None => progress[visit.node] = Progress::Done,
             Some((&callee, left)) => {
-                let node = frame.node;
-                path.push(Frame { node, left })?;
+                let node = visit.node;
+                path.push(Visit { node, left })?;
                 match progress[callee] {
                     Progress::Unseen => {
                         progress[callee] = Progress::Open;
-                        path.push(Frame::new(callee, graph))?;
+                        path.push(Visit::new(callee, graph))?;
                     }
                     Progress::Open => return Ok(Some(callee)),
                     Progress::Done => {}
@@ -88,7 +88,7 @@ fn search_from<'g>(
 fn search_from_each<'g>(
     graph: &'g [Vec<usize>],
     progress: &mut [Progress],
-    path: &mut Vec<Frame<'g>>,
+    path: &mut Vec<Visit<'g>>,
 ) -> Result<Option<usize>, AllocError>
     requires within { AreWithin (map (λ v. v.items) graph.now) }
     requires between { IsBetween (map (λ v. v.items) graph.now) progress.old }

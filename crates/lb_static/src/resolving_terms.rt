@@ -5,7 +5,7 @@
 ghost use Rattle.std.specs.Prelude.{map};
 ghost use Rattle.lb_syntax.specs.View.{view};
 ghost use Rattle.lb_static.specs.NodeProgress.{ResolvesTerm, ResolvesTerms, ResolvesBox};
-ghost use Rattle.lb_static.specs.Frames.{ResolvesFramed, ResolvesRow};
+ghost use Rattle.lb_static.specs.Nested.{ResolvesNested, ResolvesRow};
 ghost use Rattle.lb_static.specs.Progressed.{progress};
 
 use crate::error::StaticError;
@@ -17,7 +17,7 @@ use std::alloc::Global;
 
 /// What stands before the last operand of an expression, and after it.
 #[derive(Drop)]
-enum Frame {
+enum Outer {
     Group,
     Unary(UnaryOperator),
     Binary(BinaryOperator, Box<Term>),
@@ -77,29 +77,29 @@ fn terms<'s>(
 /// The term of an expression with what stands around it.
 #[inline(always)]
 #[cycle(resolving)]
-fn framed<'s>(
+fn nested<'s>(
     alloc: Global,
     here: &mut NodeBuilder<'_, 's>,
-    frame: Frame,
+    outer: Outer,
     e: &'s Expr,
 ) -> Result<Term, StaticError>
-    ensures { ResolvesFramed (progress here.old) (progress here.new) frame (view e.now) result }
+    ensures { ResolvesNested (progress here.old) (progress here.new) outer (view e.now) result }
 {
     let operand = boxed(alloc, here, e)?;
-    match frame {
-        Frame::Group => Ok(Term::Group(operand)),
-        Frame::Unary(op) => Ok(Term::Unary(op, operand)),
-        Frame::Binary(op, first) => Ok(Term::Binary(op, first, operand)),
-        Frame::If(condition, first) => Ok(Term::If(condition, first, operand)),
-        Frame::Arrow(first) => Ok(Term::Arrow(first, operand)),
-        Frame::Fby(first) => Ok(Term::Fby(first, operand)),
-        Frame::Pre => Ok(Term::Pre(operand)),
-        Frame::Current => Ok(Term::Current(operand)),
-        Frame::When(clock, sign) => Ok(Term::When(operand, clock, sign)),
-        Frame::Replicate(size) => Ok(Term::Replicate(operand, size)),
-        Frame::Index(index) => Ok(Term::Index(operand, index)),
-        Frame::Slice(start, end) => Ok(Term::Slice(operand, start, end)),
-        Frame::Join(first) => Ok(Term::Join(first, operand)),
+    match outer {
+        Outer::Group => Ok(Term::Group(operand)),
+        Outer::Unary(op) => Ok(Term::Unary(op, operand)),
+        Outer::Binary(op, first) => Ok(Term::Binary(op, first, operand)),
+        Outer::If(condition, first) => Ok(Term::If(condition, first, operand)),
+        Outer::Arrow(first) => Ok(Term::Arrow(first, operand)),
+        Outer::Fby(first) => Ok(Term::Fby(first, operand)),
+        Outer::Pre => Ok(Term::Pre(operand)),
+        Outer::Current => Ok(Term::Current(operand)),
+        Outer::When(clock, sign) => Ok(Term::When(operand, clock, sign)),
+        Outer::Replicate(size) => Ok(Term::Replicate(operand, size)),
+        Outer::Index(index) => Ok(Term::Index(operand, index)),
+        Outer::Slice(start, end) => Ok(Term::Slice(operand, start, end)),
+        Outer::Join(first) => Ok(Term::Join(first, operand)),
     }
 }
 
@@ -140,47 +140,47 @@ pub fn term<'s>(
         Expr::Literal(n) => Ok(Term::Literal(*n)),
         Expr::Truth(b) => Ok(Term::Truth(*b)),
         Expr::Variable(x) => named(alloc, here, x),
-        Expr::Group(a) => framed(alloc, here, Frame::Group, a),
-        Expr::Unary(op, a) => framed(alloc, here, Frame::Unary(*op), a),
+        Expr::Group(a) => nested(alloc, here, Outer::Group, a),
+        Expr::Unary(op, a) => nested(alloc, here, Outer::Unary(*op), a),
         Expr::Binary(op, a, b) => {
             let first = boxed(alloc, here, a)?;
-            framed(alloc, here, Frame::Binary(*op, first), b)
+            nested(alloc, here, Outer::Binary(*op, first), b)
         }
         Expr::If(c, a, b) => {
             let condition = boxed(alloc, here, c)?;
             let first = boxed(alloc, here, a)?;
-            framed(alloc, here, Frame::If(condition, first), b)
+            nested(alloc, here, Outer::If(condition, first), b)
         }
         Expr::Arrow(a, b) => {
             let first = boxed(alloc, here, a)?;
-            framed(alloc, here, Frame::Arrow(first), b)
+            nested(alloc, here, Outer::Arrow(first), b)
         }
         Expr::Fby(a, b) => {
             let first = boxed(alloc, here, a)?;
-            framed(alloc, here, Frame::Fby(first), b)
+            nested(alloc, here, Outer::Fby(first), b)
         }
-        Expr::Pre(a) => framed(alloc, here, Frame::Pre, a),
-        Expr::Current(a) => framed(alloc, here, Frame::Current, a),
+        Expr::Pre(a) => nested(alloc, here, Outer::Pre, a),
+        Expr::Current(a) => nested(alloc, here, Outer::Current, a),
         Expr::When(a, x, sign) => {
             let clock = variable(alloc, here, x)?;
-            framed(alloc, here, Frame::When(clock, *sign), a)
+            nested(alloc, here, Outer::When(clock, *sign), a)
         }
         Expr::Replicate(a, n) => {
             let size = one_static(alloc, here, Role::Size, n)?;
-            framed(alloc, here, Frame::Replicate(size), a)
+            nested(alloc, here, Outer::Replicate(size), a)
         }
         Expr::Index(a, i) => {
             let index = one_static(alloc, here, Role::Index, i)?;
-            framed(alloc, here, Frame::Index(index), a)
+            nested(alloc, here, Outer::Index(index), a)
         }
         Expr::Slice(a, i, j) => {
             let start = one_static(alloc, here, Role::SliceStart, i)?;
             let end = one_static(alloc, here, Role::SliceEnd, j)?;
-            framed(alloc, here, Frame::Slice(start, end), a)
+            nested(alloc, here, Outer::Slice(start, end), a)
         }
         Expr::Join(a, b) => {
             let first = boxed(alloc, here, a)?;
-            framed(alloc, here, Frame::Join(first), b)
+            nested(alloc, here, Outer::Join(first), b)
         }
         Expr::Array(items) => row(alloc, here, Head::Array, items),
         Expr::AtMostOne(choices) => row(alloc, here, Head::AtMostOne, choices),

@@ -7,7 +7,7 @@ ghost use Rattle.std.specs.Prelude.{◌≡◌, ◌<◌, ◌^◌, ◌⊎◌, Cont
 ghost use Rattle.lb_syntax.specs.Correct.{Parses};
 
 use crate::error::SyntaxError;
-use crate::place::{Place, place_of};
+use crate::place::{LineColumn, place_of};
 use crate::program::program;
 use crate::read::read_tokens;
 use crate::reader::ReadError;
@@ -42,7 +42,7 @@ pub fn parse(alloc: Global, text: &[u8]) -> Result<Source, SyntaxError>
         Err(ReadError::Memory) => Err(SyntaxError::Memory),
         Err(ReadError::Syntax(left)) => {
             let offset = offset_of(text, &found.starts, left);
-            let Place { line, column } = place_of(text, offset);
+            let LineColumn { line, column } = place_of(text, offset);
             Err(SyntaxError::Syntax { line, column })
         }
     }

@@ -5,7 +5,7 @@ ghost use Rattle.lb_syntax.specs.Places.{IsPlace};
 
 /// A place in a text.
 #[derive(Clone, Copy)]
-pub struct Place {
+pub struct LineColumn {
     /// From 1; the newline alone ends a line.
     pub line: u32,
     /// In bytes, from 1; a tab is one column.
@@ -14,12 +14,12 @@ pub struct Place {
 
 /// The line and the column of the byte at an offset. An offset past the end stands for the place
 /// after the last byte.
-pub fn place_of(text: &[u8], offset: u32) -> Place
+pub fn place_of(text: &[u8], offset: u32) -> LineColumn
     requires { length text.now < u32.MAX }
     ensures { IsPlace text.now offset result.line result.column }
 {
     let before = text.split_at(text.len().min(offset as usize)).0;
-    let mut place = Place { line: 1, column: 1 };
+    let mut place = LineColumn { line: 1, column: 1 };
     for b in before {
         if *b == b'\n' {
             place.line += 1;

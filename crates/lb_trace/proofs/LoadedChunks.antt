@@ -15,7 +15,7 @@ use Rattle.lb_static.specs.Signature.{Elements}
 use Rattle.lb_flat.specs.Traces.{IsRecording, Recording}
 use Rattle.lb_flat.proofs.Recordings.{IsRecording-none}
 use Rattle.lb_trace.specs.declared.recorder.Recorder.{Recorder}
-use Rattle.lb_trace.specs.declared.table.Table.{Table}
+use Rattle.lb_trace.specs.declared.table.ColumnTable.{ColumnTable}
 use Rattle.lb_trace.specs.Chunks.{is_ended, text_of}
 use Rattle.lb_trace.specs.Loads.{AreRead, AreReadFrom, IsChunk, IsJoined, IsRead, IsRecorder}
 use Rattle.lb_trace.specs.Loads.{Loading}
@@ -30,12 +30,12 @@ use Rattle.lb_trace.proofs.Soundness.{Sound, sound}
 use Rattle.lb_trace.proofs.SpreadReadings.{zip-append, zip-right, zip-weaker}
 
 -- no chunk yet
-pub reads-none : (gives : Loading) (elements : Elements) (table : Table) (most : ℕ)
+pub reads-none : (gives : Loading) (elements : Elements) (table : ColumnTable) (most : ℕ)
     → AreReadFrom gives elements table most [] []
 reads-none gives elements table most = record { chunks = []; given = tt; spelled = tt }
 
 -- chunks, and others after them
-pub reads-append : (gives : Loading) (elements : Elements) (table : Table) (most : ℕ)
+pub reads-append : (gives : Loading) (elements : Elements) (table : ColumnTable) (most : ℕ)
     (ks js : List ℕ) (found more : List Instant)
     → AreReadFrom gives elements table most ks found
     → AreReadFrom gives elements table most js more
@@ -57,12 +57,13 @@ reads-append gives elements table most ks js found more a b =
     }
 
 -- a recorder has what chunks spell that were given for these numbers, and its traces are lawful
-abbrev pub HasRead : Loading → Elements → Table → ℕ → List ℕ → Recorder → Type 0
+abbrev pub HasRead : Loading → Elements → ColumnTable → ℕ → List ℕ → Recorder → Type 0
 HasRead gives elements table most ks one =
     IsRead gives elements table most ks one × IsRecording one.rows
 
 -- no chunk yet
-pub read-none : (gives : Loading) (elements : Elements) (table : Table) (most : ℕ) (one : Recorder)
+pub read-none : (gives : Loading) (elements : Elements) (table : ColumnTable) (most : ℕ)
+    (one : Recorder)
     → one.rows ≡ record { signature = elements; traces = [] }
     → knows one.names one.rows.traces
     → HasRead gives elements table most [] one
@@ -76,7 +77,8 @@ read-none gives elements table most one none known = (
 )
 
 -- one chunk more
-pub read-more : (gives : Loading) (elements : Elements) (table : Table) (most : ℕ) (ks : List ℕ)
+pub read-more : (gives : Loading) (elements : Elements) (table : ColumnTable) (most : ℕ)
+    (ks : List ℕ)
     (k : ℕ) (chunk : Vec ℕ Global) (text : List ℕ) (before room after : Recorder)
     → HasRead gives elements table most ks before → room ≡ before
     → gives k chunk → IsChunk most text → text ≡ chunk.items
@@ -112,7 +114,7 @@ read-more gives elements table most ks k chunk text before room after read kept 
           (sym (stays ∙ follows)) s.lawful,
     )
 
-reads-spans : (gives : Loading) (elements : Elements) (table : Table) (most : ℕ)
+reads-spans : (gives : Loading) (elements : Elements) (table : ColumnTable) (most : ℕ)
     (spans : List (List ℕ)) (read : List Recorder)
     → AllZip (IsRead gives elements table most) spans read
     → AreReadFrom gives elements table most (flat_map (λ span. span) spans)
@@ -127,7 +129,7 @@ reads-spans gives elements table most (span ∷ spans) (one ∷ read) h =
     (reads-spans gives elements table most spans read h.1)
 
 -- spans of so many numbers that were read side by side
-pub reads-round : (gives : Loading) (elements : Elements) (table : Table) (most size : ℕ)
+pub reads-round : (gives : Loading) (elements : Elements) (table : ColumnTable) (most size : ℕ)
     (ks : List ℕ) (read : List Recorder) → 0 < size
     → AllZip (IsRead gives elements table most) (chunks_of size ks) read
     → AreRead gives elements table most ks read
@@ -185,7 +187,7 @@ chunks-records (chunk ∷ more) =
     ap (λ rs. plain_records chunk.items ++ rs) (chunks-records more)
 
 -- the first chunk and what was read of the others are what their text spells
-pub loaded_spells : (gives : Loading) (elements : Elements) (table : Table) (most : ℕ)
+pub loaded_spells : (gives : Loading) (elements : Elements) (table : ColumnTable) (most : ℕ)
     (first body rest : List ℕ) (ks : List ℕ) (start found : List Instant) (set : Recording)
     → 2 < length first → is_ended first ≡ true → body ≡ strip_bom first → has_quote body ≡ false
     → is_header elements (fields_of table.header) ≡ true
@@ -237,7 +239,7 @@ loaded_spells gives elements table most first body rest ks start found set long 
     }
 
 -- the chunks that were given
-pub given-chunks : (gives : Loading) (elements : Elements) (table : Table) (most : ℕ)
+pub given-chunks : (gives : Loading) (elements : Elements) (table : ColumnTable) (most : ℕ)
     (ks : List ℕ) (found : List Instant) (reads : AreReadFrom gives elements table most ks found)
     → AllZip gives ks reads.chunks
 given-chunks gives elements table most ks found reads =
@@ -253,7 +255,7 @@ joined-under elements before parts after same h =
     IfSome_then after h (λ one joined. (joined.0, (joined.1.0 ∙ same, joined.1.1)))
 
 -- two rounds, one after the other
-pub rounds-joined : (gives : Loading) (elements : Elements) (table : Table) (most : ℕ)
+pub rounds-joined : (gives : Loading) (elements : Elements) (table : ColumnTable) (most : ℕ)
     (ks some others : List ℕ) (begun all one : Recorder) (read more : List Recorder)
     → some ++ others ≡ ks
     → AreRead gives elements table most some read → IsJoined elements begun read all

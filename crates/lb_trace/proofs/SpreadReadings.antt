@@ -12,7 +12,7 @@ use Rattle.csv.specs.Records.{fields_of}
 use Rattle.lb_flat.specs.Traces.{IsRecording, Recording, Traces}
 use Rattle.lb_flat.proofs.Recordings.{IsRecording-none}
 use Rattle.lb_trace.specs.declared.recorder.Recorder.{Recorder}
-use Rattle.lb_trace.specs.declared.table.Table.{Table}
+use Rattle.lb_trace.specs.declared.table.ColumnTable.{ColumnTable}
 use Rattle.lb_trace.specs.Mirrors.{knows}
 use Rattle.lb_trace.specs.Parts.{HaveRecordsOf}
 use Rattle.lb_trace.specs.Plain.{has_quote, plain_records}
@@ -72,7 +72,7 @@ of_collected {E = E} R xs rs all h ys worked same =
     (oks E R xs ys (subst (AllZip (λ x y. IfOk y (R x)) xs) worked h))
 
 -- what was read has the signature, and its names are known
-pub same_signatures : (elements : Elements) (table : Table) (parts : List (Bor (List ℕ)))
+pub same_signatures : (elements : Elements) (table : ColumnTable) (parts : List (Bor (List ℕ)))
     (read : List Recorder)
     → AllZip (λ part one. IsReadBy elements table (plain_records part.now) one) parts read
     → All (λ one. (one.rows.signature ≡ elements) × knows one.names one.rows.traces) read
@@ -83,7 +83,7 @@ same_signatures elements table parts read each =
     parts read each (λ part one h. (h.0.0, h.1))
 
 -- a text whose parts were read and joined spells what they spell
-pub spread_spells : (elements : Elements) (table : Table) (text : List ℕ)
+pub spread_spells : (elements : Elements) (table : ColumnTable) (text : List ℕ)
     (parts : List (Bor (List ℕ))) (read : List Recorder) (set : Recording)
     → length text ≤ 1073741824
     → is_header elements (fields_of table.header) ≡ true
@@ -131,7 +131,7 @@ headed_records header text d rest (part ∷ others) rests some have none begun l
     ∙ ap (λ (ps : List (Bor (List ℕ))). header ∷ flat_map records ps) (sym left)
 
 -- the traces of some records alone
-pub read_of : (elements : Elements) (table : Table) (records : List Record) (set : Recording)
+pub read_of : (elements : Elements) (table : ColumnTable) (records : List Record) (set : Recording)
     → set.signature ≡ elements
     → with_records elements (columns_in table) [] records ≡ Ok set.traces
     → IsReadOf elements table records set
@@ -143,7 +143,7 @@ read_of elements table records set same read =
     )
 
 -- the same of what a recorder has that began with no trace
-pub part_read : (elements : Elements) (table : Table) (records : List Record)
+pub part_read : (elements : Elements) (table : ColumnTable) (records : List Record)
     (before after set : Recording)
     → before ≡ record { signature = elements; traces = [] }
     → with_records before.signature (columns_in table) before.traces records ≡ Ok after.traces

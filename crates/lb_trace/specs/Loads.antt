@@ -5,7 +5,7 @@ use Rattle.std.specs.Global.{Global}
 use Rattle.std.specs.List.{All, AllZip}
 use Rattle.lb_static.specs.Signature.{Elements}
 use Rattle.lb_trace.specs.declared.recorder.Recorder.{Recorder}
-use Rattle.lb_trace.specs.declared.table.Table.{Table}
+use Rattle.lb_trace.specs.declared.table.ColumnTable.{ColumnTable}
 use Rattle.lb_trace.specs.Chunks.{is_ended}
 use Rattle.lb_trace.specs.Mirrors.{knows}
 use Rattle.lb_trace.specs.Plain.{has_quote, plain_records}
@@ -24,7 +24,7 @@ Loading = ℕ → Vec ℕ Global → Type 0
 
 -- instants are those that chunks spell which were given for these numbers
 pub record AreReadFrom
-    (gives : Loading) (elements : Elements) (table : Table) (most : ℕ)
+    (gives : Loading) (elements : Elements) (table : ColumnTable) (most : ℕ)
     (numbers : List ℕ) (found : List Instant)
     : Type 0 where
   pub chunks : List (Vec ℕ Global)
@@ -38,13 +38,13 @@ IsRecorder elements one =
     (one.rows.signature ≡ elements) × knows one.names one.rows.traces
 
 -- a recorder has what chunks spell that were given for these numbers
-abbrev pub IsRead : Loading → Elements → Table → ℕ → List ℕ → Recorder → Type 0
+abbrev pub IsRead : Loading → Elements → ColumnTable → ℕ → List ℕ → Recorder → Type 0
 IsRead gives elements table most numbers one =
     AreReadFrom gives elements table most numbers (instants one.rows.traces)
     × IsRecorder elements one
 
 -- the same of recorders, one after the other
-abbrev pub AreRead : Loading → Elements → Table → ℕ → List ℕ → List Recorder → Type 0
+abbrev pub AreRead : Loading → Elements → ColumnTable → ℕ → List ℕ → List Recorder → Type 0
 AreRead gives elements table most numbers read =
     AreReadFrom gives elements table most numbers
     (flat_map (λ one. instants one.rows.traces) read)

@@ -6,18 +6,18 @@ use Rattle.csv.specs.Records.{fields_of}
 use Rattle.lb_static.specs.Signature.{Elements}
 use Rattle.lb_flat.specs.Traces.{Recording}
 use Rattle.lb_trace.specs.declared.recorder.Recorder.{Recorder}
-use Rattle.lb_trace.specs.declared.table.Table.{Table}
+use Rattle.lb_trace.specs.declared.table.ColumnTable.{ColumnTable}
 use Rattle.lb_trace.specs.Mirrors.{column_of, knows}
 use Rattle.lb_trace.specs.PlainRows.{AreInOrder, ArePlaced}
 use Rattle.lb_trace.specs.TruthBits.{AreTruthTable}
 use Rattle.lb_trace.specs.Spelling.{Record, SpellsInstant, after_first, instants, is_header}
 
 -- the columns that the header of a table names
-abbrev pub columns_in : Table → Record
+abbrev pub columns_in : ColumnTable → Record
 columns_in table = after_first (fields_of table.header)
 
 -- a table has the columns that its header names, for the elements of a signature
-pub record IsTable (elements : Elements) (table : Table) : Type 0 where
+pub record IsColumnTable (elements : Elements) (table : ColumnTable) : Type 0 where
   pub columns : table.columns.items ≡ map (column_of (columns_in table)) elements
   pub count : table.count ≡ length (columns_in table)
   pub order : IsTrue table.in_order
@@ -33,12 +33,12 @@ has_header elements [] = false
 has_header elements (header ∷ rows) = is_header elements header
 
 -- traces are those of some records alone, which follow a table
-abbrev pub IsReadOf : Elements → Table → List Record → Recording → Type 0
+abbrev pub IsReadOf : Elements → ColumnTable → List Record → Recording → Type 0
 IsReadOf elements table records read =
     (read.signature ≡ elements)
     × AllZip (SpellsInstant elements (columns_in table)) records (instants read.traces)
 
 -- the same of what a recorder has, which knows its names
-abbrev pub IsReadBy : Elements → Table → List Record → Recorder → Type 0
+abbrev pub IsReadBy : Elements → ColumnTable → List Record → Recorder → Type 0
 IsReadBy elements table records recorder =
     IsReadOf elements table records recorder.rows × knows recorder.names recorder.rows.traces

@@ -5,12 +5,12 @@ ghost use Rattle.lb_trace.specs.Errors.{IsRefusal};
 ghost use Rattle.lb_trace.specs.Mirrors.{knows};
 ghost use Rattle.lb_trace.specs.Plain.{plain_records};
 ghost use Rattle.lb_trace.specs.Refusals.{with_records};
-ghost use Rattle.lb_trace.specs.Tables.{IsTable, columns_in};
+ghost use Rattle.lb_trace.specs.Tables.{IsColumnTable, columns_in};
 
 use crate::error::TraceError;
 use crate::recorder::Recorder;
 use crate::scan::skip_line_ends;
-use crate::table::Table;
+use crate::table::ColumnTable;
 use csv::ByteRecord;
 use std::alloc::Global;
 
@@ -19,12 +19,12 @@ impl Recorder {
     pub(crate) fn add_lines(
         &mut self,
         alloc: Global,
-        table: &Table,
+        table: &ColumnTable,
         text: &[u8],
         entry: &mut ByteRecord,
     ) -> Result<(), TraceError>
         requires names { knows self.old.names self.old.rows.traces }
-        requires table { IsTable self.old.rows.signature table.now }
+        requires table { IsColumnTable self.old.rows.signature table.now }
         ensures ok { OnOk result
             (with_records self.old.rows.signature (columns_in table.now) self.old.rows.traces
             (plain_records text.now) ≡ Ok self.new.rows.traces) }

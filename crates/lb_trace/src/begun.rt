@@ -4,11 +4,11 @@ ghost use Rattle.std.specs.Prelude.{◌≡◌, ◌∷◌, IfOk, MatchOption, fal
 ghost use Rattle.csv.specs.Records.{fields_of};
 ghost use Rattle.lb_trace.specs.Plain.{plain_records};
 ghost use Rattle.lb_trace.specs.Spelling.{is_header};
-ghost use Rattle.lb_trace.specs.Tables.{IsTable, has_header};
+ghost use Rattle.lb_trace.specs.Tables.{IsColumnTable, has_header};
 
 use crate::copied::copy_record;
 use crate::scan::skip_line_ends;
-use crate::table::{Table, table_of};
+use crate::table::{ColumnTable, table_of};
 use csv::ByteRecord;
 use lb_static::Signature;
 use std::alloc::{AllocError, Global};
@@ -16,7 +16,7 @@ use std::alloc::{AllocError, Global};
 /// A text whose header has been read: its table, and what follows it.
 #[derive(Drop)]
 pub(crate) struct Begun<'t> {
-    pub(crate) table: Table,
+    pub(crate) table: ColumnTable,
     pub(crate) rest: &'t [u8],
 }
 
@@ -31,7 +31,7 @@ pub(crate) fn begin<'t>(
         (λ begun. (is_header signature.now (fields_of begun.table.header) ≡ true)
         × (plain_records body.now
         ≡ fields_of begun.table.header ∷ plain_records begun.rest.now)
-        × IsTable signature.now begun.table)) }
+        × IsColumnTable signature.now begun.table)) }
 {
     let first = skip_line_ends(body);
     if first.is_empty() {

@@ -16,7 +16,7 @@ ghost use Rattle.lb_trace.specs.Chunks.{text_of};
 ghost use Rattle.lb_trace.specs.Loads.{AreRead, AreReadFrom, IsChunk, IsJoined, IsRead};
 ghost use Rattle.lb_trace.specs.Loads.{IsRecorder};
 ghost use Rattle.lb_trace.specs.Spelling.{Instant, Spells, instants};
-ghost use Rattle.lb_trace.specs.Tables.{IsTable};
+ghost use Rattle.lb_trace.specs.Tables.{IsColumnTable};
 
 use crate::begun::begin;
 use crate::error::TraceError;
@@ -25,7 +25,7 @@ use crate::read::MOST_BYTES;
 use crate::recorder::Recorder;
 use crate::scan::is_ended;
 use crate::spread::read_part;
-use crate::table::Table;
+use crate::table::ColumnTable;
 use csv::ByteRecord;
 use lb_flat::TraceSet;
 use lb_static::Signature;
@@ -39,7 +39,7 @@ use std::thread::{Threads, join};
 struct ChunkReader<'t, F> {
     alloc: Global,
     signature: &'t Signature,
-    table: &'t Table,
+    table: &'t ColumnTable,
     load: &'t F,
     /// The most bytes of a chunk.
     most: usize,
@@ -78,7 +78,7 @@ impl<F: Fn(usize) -> Option<Vec<u8>> + Sync> ChunkReader<'_, F> {
     // The traces of some chunks, one after the other. Any error says nothing of the text.
     fn read_span(&self, numbers: &[usize]) -> Result<Recorder, TraceError>
         requires load { F.IsAlwaysCallable self.now.load.now }
-        requires table { IsTable self.now.signature.now self.now.table.now }
+        requires table { IsColumnTable self.now.signature.now self.now.table.now }
         ensures { IfOk result (IsRead (λ k chunk. F.post self.now.load.now k (Some chunk))
             self.now.signature.now self.now.table.now self.now.most numbers.now) }
     {
@@ -108,7 +108,7 @@ impl<F: Fn(usize) -> Option<Vec<u8>> + Sync> ChunkReader<'_, F> {
         numbers: &[usize],
     ) -> Result<Result<Vec<Recorder>, TraceError>, AllocError>
         requires load { F.IsAlwaysCallable self.now.load.now }
-        requires table { IsTable self.now.signature.now self.now.table.now }
+        requires table { IsColumnTable self.now.signature.now self.now.table.now }
         ensures { IfOk result (λ outer. IfOk outer (λ read.
             AreRead (λ k chunk. F.post self.now.load.now k (Some chunk)) self.now.signature.now
             self.now.table.now self.now.most numbers.now read.items)) }
@@ -121,7 +121,7 @@ impl<F: Fn(usize) -> Option<Vec<u8>> + Sync> ChunkReader<'_, F> {
             .map(
                 |some: &[usize]| -> Result<Recorder, TraceError>
                     requires { F.IsAlwaysCallable self.now.load.now
-                        × IsTable self.now.signature.now self.now.table.now }
+                        × IsColumnTable self.now.signature.now self.now.table.now }
                     ensures { IfOk result (IsRead
                         (λ k chunk. F.post self.entry.now.load.now k (Some chunk))
                         self.entry.now.signature.now self.entry.now.table.now self.entry.now.most
@@ -134,7 +134,7 @@ impl<F: Fn(usize) -> Option<Vec<u8>> + Sync> ChunkReader<'_, F> {
     // The same, without what stood in the way.
     fn read_round<R: Threads + Sync>(&self, rt: &R, numbers: &[usize]) -> Option<Vec<Recorder>>
         requires load { F.IsAlwaysCallable self.now.load.now }
-        requires table { IsTable self.now.signature.now self.now.table.now }
+        requires table { IsColumnTable self.now.signature.now self.now.table.now }
         ensures { IfSome result (λ read.
             AreRead (λ k chunk. F.post self.now.load.now k (Some chunk)) self.now.signature.now
             self.now.table.now self.now.most numbers.now read.items) }
@@ -153,7 +153,7 @@ impl<F: Fn(usize) -> Option<Vec<u8>> + Sync> ChunkReader<'_, F> {
         numbers: &[usize],
     ) -> Option<Round>
         requires load { F.IsAlwaysCallable self.now.load.now }
-        requires table { IsTable self.now.signature.now self.now.table.now }
+        requires table { IsColumnTable self.now.signature.now self.now.table.now }
         requires all { IsRecorder self.now.signature.now round.all }
         requires read { All (IsRecorder self.now.signature.now) round.read.items }
         ensures joined { IfSome result
@@ -173,7 +173,7 @@ impl<F: Fn(usize) -> Option<Vec<u8>> + Sync> ChunkReader<'_, F> {
             rt,
             move || with_parts(alloc, all, read),
             || -> Option<Vec<Recorder>>
-                requires { F.IsAlwaysCallable load.now × IsTable signature.now table.now
+                requires { F.IsAlwaysCallable load.now × IsColumnTable signature.now table.now
                     × (0 < workers) }
                 ensures { IfSome result (λ read.
                     AreRead (λ k chunk. F.post load.entry.now k (Some chunk)) signature.entry.now
@@ -208,7 +208,7 @@ impl<F: Fn(usize) -> Option<Vec<u8>> + Sync> ChunkReader<'_, F> {
         numbers: &[usize],
     ) -> Option<Recorder>
         requires load { F.IsAlwaysCallable self.now.load.now }
-        requires table { IsTable self.now.signature.now self.now.table.now }
+        requires table { IsColumnTable self.now.signature.now self.now.table.now }
         requires begun { IsRecorder self.now.signature.now begun }
         ensures { IfSome result (λ all. (more : List Instant)
             × AreReadFrom (λ k chunk. F.post self.now.load.now k (Some chunk))

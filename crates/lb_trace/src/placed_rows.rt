@@ -9,14 +9,14 @@ ghost use Rattle.lb_trace.specs.PlainRows.{AreInOrder, ArePlaced};
 
 use crate::header::Column;
 use crate::plain_rows::read_line;
-use crate::table::Table;
+use crate::table::ColumnTable;
 use std::alloc::AllocError;
 
 /// Reads the cells of a record into `row`, in the order of the signature, and gives what stands
 /// after the record; None where they spell no row. `values` is room for the cells in the order of
 /// the text.
 pub(crate) fn read_cells<'t>(
-    table: &Table,
+    table: &ColumnTable,
     text: &'t [u8],
     values: &mut Vec<i32>,
     row: &mut Vec<i32>,

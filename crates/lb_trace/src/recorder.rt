@@ -27,7 +27,7 @@ use crate::placed_rows::read_cells;
 use crate::record::width;
 use crate::rows::read_row;
 use crate::scan::Cell;
-use crate::table::Table;
+use crate::table::ColumnTable;
 use crate::truth_bits::read_truths;
 use csv::ByteRecord;
 use lb_flat::{TraceRows, TraceSet};
@@ -207,7 +207,7 @@ impl Recorder {
     pub(crate) fn add_line<'t>(
         &mut self,
         alloc: Global,
-        table: &Table,
+        table: &ColumnTable,
         text: &'t [u8],
         entry: &mut ByteRecord,
         number: u64,
@@ -247,7 +247,7 @@ impl Recorder {
     fn add_row<'t>(
         &mut self,
         alloc: Global,
-        table: &Table,
+        table: &ColumnTable,
         text: &'t [u8],
         number: u64,
     ) -> Result<Option<&'t [u8]>, TraceError>
@@ -288,7 +288,7 @@ impl Recorder {
     fn add_truths<'t>(
         &mut self,
         alloc: Global,
-        table: &Table,
+        table: &ColumnTable,
         text: &[u8],
         name: Cell<'t>,
         number: u64,
@@ -332,7 +332,7 @@ impl Recorder {
     fn add_cells<'t>(
         &mut self,
         alloc: Global,
-        table: &Table,
+        table: &ColumnTable,
         text: &[u8],
         name: Named<'t>,
         number: u64,

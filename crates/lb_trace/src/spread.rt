@@ -7,14 +7,14 @@ ghost use Rattle.lb_trace.specs.Plain.{plain_records};
 ghost use Rattle.lb_trace.specs.Parts.{HaveRecordsOf};
 ghost use Rattle.lb_trace.specs.Spelling.{Spells, instants};
 ghost use Rattle.lb_trace.specs.Mirrors.{knows};
-ghost use Rattle.lb_trace.specs.Tables.{IsReadBy, IsTable};
+ghost use Rattle.lb_trace.specs.Tables.{IsReadBy, IsColumnTable};
 ghost use Rattle.std.specs.Prelude.{◌≤◌, length};
 
 use crate::begun::begin;
 use crate::error::TraceError;
 use crate::plain::are_plain;
 use crate::recorder::Recorder;
-use crate::table::Table;
+use crate::table::ColumnTable;
 use csv::ByteRecord;
 use lb_flat::TraceSet;
 use lb_static::Signature;
@@ -26,10 +26,10 @@ use std::thread::Threads;
 pub(crate) fn read_part(
     alloc: Global,
     signature: &Signature,
-    table: &Table,
+    table: &ColumnTable,
     part: &[u8],
 ) -> Result<Recorder, TraceError>
-    requires { IsTable signature.now table.now }
+    requires { IsColumnTable signature.now table.now }
     ensures { IfOk result (IsReadBy signature.now table.now (plain_records part.now)) }
 {
     let Ok(mut recorder) = Recorder::with_room(alloc, signature, part.len()) else {
@@ -45,10 +45,10 @@ fn read_parts<R: Threads + Sync>(
     rt: &R,
     alloc: Global,
     signature: &Signature,
-    table: &Table,
+    table: &ColumnTable,
     parts: &[&[u8]],
 ) -> Result<Result<Vec<Recorder>, TraceError>, AllocError>
-    requires { IsTable signature.now table.now }
+    requires { IsColumnTable signature.now table.now }
     ensures { IfOk result (λ outer. IfOk outer (λ read.
         AllZip (λ part one. IsReadBy signature.now table.now (plain_records part.now) one)
         parts.now read.items)) }
@@ -59,7 +59,7 @@ fn read_parts<R: Threads + Sync>(
         .with_min_len(1)
         .map(
             |part: &&[u8]| -> Result<Recorder, TraceError>
-                requires { IsTable signature.now table.now }
+                requires { IsColumnTable signature.now table.now }
                 ensures { IfOk result (IsReadBy signature.entry.now table.entry.now
                     (plain_records part.now.now)) }
             { read_part(alloc, signature, table, part) },

@@ -6,7 +6,7 @@ ghost use Rattle.csv.specs.Records.{fields_of};
 ghost use Rattle.lb_flat.specs.BitRows.{AreTruths};
 ghost use Rattle.lb_trace.specs.PlainRows.{AreInOrder, ArePlaced, IsPlaced};
 ghost use Rattle.lb_trace.specs.Spelling.{is_header};
-ghost use Rattle.lb_trace.specs.Tables.{IsTable};
+ghost use Rattle.lb_trace.specs.Tables.{IsColumnTable};
 
 use crate::header::{Column, columns_of};
 use crate::record::width;
@@ -17,7 +17,7 @@ use std::alloc::{AllocError, Global};
 
 /// The columns of the scalar inputs.
 #[derive(Drop)]
-pub(crate) struct Table {
+pub(crate) struct ColumnTable {
     /// The record that names them.
     pub(crate) header: ByteRecord,
     /// They in the order of the signature.
@@ -40,11 +40,11 @@ pub(crate) fn table_of(
     alloc: Global,
     signature: &Signature,
     header: ByteRecord,
-) -> Result<Option<Table>, AllocError>
+) -> Result<Option<ColumnTable>, AllocError>
     ensures { IfOk result (λ found. MatchOption found
         (is_header signature.now (fields_of header) ≡ false)
         (λ table. (is_header signature.now (fields_of header) ≡ true)
-        × (fields_of table.header ≡ fields_of header) × IsTable signature.now table)) }
+        × (fields_of table.header ≡ fields_of header) × IsColumnTable signature.now table)) }
 {
     let Some(columns) = columns_of(alloc, signature, &header)? else {
         return Ok(None);
@@ -53,7 +53,7 @@ pub(crate) fn table_of(
     let in_order = are_in_order(&columns, count);
     let placed = in_text_order(alloc, &columns, count)?;
     let is_placed = are_placed(&placed, &columns, count);
-    Ok(Some(Table {
+    Ok(Some(ColumnTable {
         header,
         columns,
         count,

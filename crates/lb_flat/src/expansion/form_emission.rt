@@ -14,7 +14,7 @@ ghost use Rattle.lb_static.specs.TermForms.{HasOne, HasTwo, HasRow};
 ghost use Rattle.lb_flat.specs.Values.{scalar_of};
 
 use crate::equation::{ElementId, Operation};
-use crate::expansion::frame::{Frame, Place};
+use crate::expansion::frame::{Cursor, Frame};
 use crate::expansion::operators::{Pair, Unary};
 use crate::expansion::term_emission::TermEmission;
 use crate::scalar::Scalar;
@@ -33,23 +33,23 @@ fn literal(value: u32) -> Scalar
 }
 
 /// The place of the term after one that has no parts, and of the first of its parts.
-fn next_term(at: Place) -> Place
+fn next_term(at: Cursor) -> Cursor
     requires { at.term + 1 < 2 ^ 64 }
     ensures { place_of result ≡ mirror.next_term (place_of at) }
 {
-    Place {
+    Cursor {
         term: at.term + 1,
         call: at.call,
     }
 }
 
 /// The place of the operands of a term in a row.
-fn row_place(at: Place, term: &Term) -> Place
+fn row_place(at: Cursor, term: &Term) -> Cursor
     requires { HasPlaces (mirror.row_place (place_of at) term.now) }
     ensures { place_of result ≡ mirror.row_place (place_of at) term.now }
 {
     match term {
-        Term::Call(_, _) | Term::IterateNode(_, _, _) => Place {
+        Term::Call(_, _) | Term::IterateNode(_, _, _) => Cursor {
             term: at.term + 1,
             call: at.call + 1,
         },
@@ -63,7 +63,7 @@ impl TermEmission {
         &mut self,
         frame: &F,
         term: &Term,
-        at: Place,
+        at: Cursor,
         from: usize,
     ) -> Result<(), AllocError>
         requires clocks { F.clocks frame.now ≡ self.old.clocks.items }
@@ -105,7 +105,7 @@ impl TermEmission {
         &mut self,
         frame: &F,
         term: &Term,
-        at: Place,
+        at: Cursor,
         from: usize,
         middle: usize,
     ) -> Result<(), AllocError>
@@ -138,7 +138,7 @@ impl TermEmission {
         &mut self,
         frame: &F,
         term: &Term,
-        at: Place,
+        at: Cursor,
         from: usize,
     ) -> Result<(), AllocError>
         requires clocks { F.clocks frame.now ≡ self.old.clocks.items }
@@ -171,8 +171,8 @@ impl TermEmission {
         &mut self,
         frame: &F,
         term: &Term,
-        at: Place,
-    ) -> Result<Place, AllocError>
+        at: Cursor,
+    ) -> Result<Cursor, AllocError>
         requires clocks { F.clocks frame.now ≡ self.old.clocks.items }
         requires variables { F.variables frame.now ≤ self.old.next }
         requires room { HasRoom (mirror.emit_term (F.context frame.now) (place_of at)
@@ -251,8 +251,8 @@ impl TermEmission {
         &mut self,
         frame: &F,
         terms: &[Term],
-        at: Place,
-    ) -> Result<Place, AllocError>
+        at: Cursor,
+    ) -> Result<Cursor, AllocError>
         requires clocks { F.clocks frame.now ≡ self.old.clocks.items }
         requires variables { F.variables frame.now ≤ self.old.next }
         requires room { HasRoom (mirror.emit_list (F.context frame.now) (place_of at)
@@ -330,8 +330,8 @@ impl TermEmission {
         &mut self,
         frame: &F,
         statement: &ResolvedStatement,
-        at: Place,
-    ) -> Result<Place, AllocError>
+        at: Cursor,
+    ) -> Result<Cursor, AllocError>
         requires clocks { F.clocks frame.now ≡ self.old.clocks.items }
         requires variables { F.variables frame.now ≤ self.old.next }
         requires elements { (mirror.emit_statement (F.context frame.now) (place_of at)

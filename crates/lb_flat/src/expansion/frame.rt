@@ -20,7 +20,7 @@ pub(crate) struct Callee {
 
 /// How many terms and calls of a node stand before something in its text.
 #[derive(Clone, Copy)]
-pub(crate) struct Place {
+pub(crate) struct Cursor {
     pub(crate) term: usize,
     pub(crate) call: usize,
 }

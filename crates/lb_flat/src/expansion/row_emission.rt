@@ -10,7 +10,7 @@ ghost use Rattle.lb_flat.specs.Programs.{numbers_of};
 ghost use Rattle.lb_flat.specs.TermEmissions.{state_of};
 
 use crate::clocks::node_at;
-use crate::expansion::frame::{Frame, Place, TableFrame};
+use crate::expansion::frame::{Cursor, Frame, TableFrame};
 use crate::expansion::term_emission::TermEmission;
 use lb_static::{Instance, Reached, ResolvedStatement, Table};
 use std::alloc::AllocError;
@@ -35,7 +35,7 @@ impl TermEmission {
             ≡ numbers_of self.old.found.items) }
         ensures clocks { OnOk result (self.new.clocks ≡ self.old.clocks) }
     {
-        let mut at = Place { term: 0, call: 0 };
+        let mut at = Cursor { term: 0, call: 0 };
         for statement in statements {
             at = self.statement(frame, statement, at)?;
         }

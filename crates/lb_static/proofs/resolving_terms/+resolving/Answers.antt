@@ -23,10 +23,10 @@ use Rattle.lb_static.specs.Instances.{Site}
 use Rattle.lb_static.specs.NameFaults.{IsNameFault}
 use Rattle.lb_static.specs.Names.{is_variable}
 use Rattle.lb_static.specs.declared.error.StaticError.{StaticError}
-use Rattle.lb_static.specs.Frames.{around, before_row, ResolvesFramed, ResolvesRow}
+use Rattle.lb_static.specs.Nested.{around, before_row, ResolvesNested, ResolvesRow}
 use Rattle.lb_static.specs.Parts.{variable_names}
-use Rattle.lb_static.specs.declared.resolving_terms.Frame.{Frame}
-use Rattle.lb_static.specs.declared.resolving_terms.Frame.TheVariants as frame
+use Rattle.lb_static.specs.declared.resolving_terms.Outer.{Outer}
+use Rattle.lb_static.specs.declared.resolving_terms.Outer.TheVariants as outer
 use Rattle.lb_static.specs.declared.resolving_terms.Head.{Head}
 use Rattle.lb_static.specs.declared.resolving_terms.Head.TheVariants as heads
 use Rattle.lb_static.specs.Progressed.{progress}
@@ -101,20 +101,20 @@ exit_refused before after e g r f same gives h =
     let p = err_from_is_err_and r gives in
     rw (p.1, p.2, same) h
 
--- ## What is framed
+-- ## What is nested
 
--- an expression whose last operand is resolved after what is in its frame
-framed_as : (before mid after : Progress) (F : Frame) (x a : Expr) (whole : tree.Expr)
+-- an expression whose last operand is resolved after what is around it
+nested_as : (before mid after : Progress) (F : Outer) (x a : Expr) (whole : tree.Expr)
     (r : Result Term StaticError) → x ≡ a
     → ((b : Box Term Global) → Done mid after (view a) b.value
     → Done before after whole (around F b))
     → ((f : StaticError) → IsNameFault f (expr_passes mid (view a))
     → IsNameFault f (expr_passes before whole))
-    → ResolvesFramed mid after F (view x) r → ResolvesTerm before after whole r
-framed_as before mid after F x a whole (Ok t) same done fault h =
+    → ResolvesNested mid after F (view x) r → ResolvesTerm before after whole r
+nested_as before mid after F x a whole (Ok t) same done fault h =
     subst (λ z. Done before after whole z) (sym h.1)
     (done h.0 (in_box mid after x a h.0.value same h.2))
-framed_as before mid after F x a whole (Err f) same done fault h =
+nested_as before mid after F x a whole (Err f) same done fault h =
     fault f (box_refused mid f x a same h)
 
 -- an expression whose operands are resolved after what stands before them
@@ -256,53 +256,53 @@ term-returns-in_err-size-in-Iterate t c =
 pub term-returns-in-Group : goal.term-returns-in-Group
 term-returns-in-Group t c =
     let before = progress c.args.here.now in
-    let after = progress c.framed.new.here in
+    let after = progress c.nested.new.here in
     let a = c.in-Group.a.value in
-    rw c.in-Group.is (framed_as before before after frame.Group _ a
-    (tree.Group (view a)) c.framed.result c.deref.ensures
-    (λ b d. (d.0, (ap tree.Group d.1.0, d.1.1, d.1.2), d.2)) (λ f h. h) c.framed.ensures)
+    rw c.in-Group.is (nested_as before before after outer.Group _ a
+    (tree.Group (view a)) c.nested.result c.deref.ensures
+    (λ b d. (d.0, (ap tree.Group d.1.0, d.1.1, d.1.2), d.2)) (λ f h. h) c.nested.ensures)
 
 pub term-returns-in-Unary : goal.term-returns-in-Unary
 term-returns-in-Unary t c =
     let before = progress c.args.here.now in
-    let after = progress c.framed-in-Unary.new.here in
+    let after = progress c.nested-in-Unary.new.here in
     let a = c.in-Unary.a.value in
-    rw c.in-Unary.is (framed_as before before after (frame.Unary c.in-Unary.op) _ a
-    (tree.Unary c.in-Unary.op (view a)) c.framed-in-Unary.result c.deref-in-Unary.ensures
+    rw c.in-Unary.is (nested_as before before after (outer.Unary c.in-Unary.op) _ a
+    (tree.Unary c.in-Unary.op (view a)) c.nested-in-Unary.result c.deref-in-Unary.ensures
     (λ b d. (d.0, (ap (tree.Unary c.in-Unary.op) d.1.0, d.1.1, d.1.2), d.2))
-    (λ f h. h) c.framed-in-Unary.ensures)
+    (λ f h. h) c.nested-in-Unary.ensures)
 
 pub term-returns-in-Pre : goal.term-returns-in-Pre
 term-returns-in-Pre t c =
     let before = progress c.args.here.now in
-    let after = progress c.framed-in-Pre.new.here in
+    let after = progress c.nested-in-Pre.new.here in
     let a = c.in-Pre.a.value in
-    rw c.in-Pre.is (framed_as before before after frame.Pre _ a
-    (tree.Pre (view a)) c.framed-in-Pre.result c.deref-in-Pre.ensures
-    (λ b d. (d.0, (ap tree.Pre d.1.0, d.1.1, d.1.2), d.2)) (λ f h. h) c.framed-in-Pre.ensures)
+    rw c.in-Pre.is (nested_as before before after outer.Pre _ a
+    (tree.Pre (view a)) c.nested-in-Pre.result c.deref-in-Pre.ensures
+    (λ b d. (d.0, (ap tree.Pre d.1.0, d.1.1, d.1.2), d.2)) (λ f h. h) c.nested-in-Pre.ensures)
 
 pub term-returns-in-Current : goal.term-returns-in-Current
 term-returns-in-Current t c =
     let before = progress c.args.here.now in
-    let after = progress c.framed-in-Current.new.here in
+    let after = progress c.nested-in-Current.new.here in
     let a = c.in-Current.a.value in
-    rw c.in-Current.is (framed_as before before after frame.Current _ a
-    (tree.Current (view a)) c.framed-in-Current.result c.deref-in-Current.ensures
+    rw c.in-Current.is (nested_as before before after outer.Current _ a
+    (tree.Current (view a)) c.nested-in-Current.result c.deref-in-Current.ensures
     (λ b d. (d.0, (ap tree.Current d.1.0, d.1.1, d.1.2), d.2))
-    (λ f h. h) c.framed-in-Current.ensures)
+    (λ f h. h) c.nested-in-Current.ensures)
 
 pub term-returns-in_ok-first-in-Binary : goal.term-returns-in_ok-first-in-Binary
 term-returns-in_ok-first-in-Binary t c =
     let before = progress c.args.here.now in
     let mid = progress c.boxed.new.here in
-    let after = progress c.framed-in-Binary.new.here in
+    let after = progress c.nested-in-Binary.new.here in
     let first = c.in_ok-first-in-Binary.first in
     let a = c.in-Binary.a.value in
     let b = c.in-Binary.b.value in
     let d = in_box before mid _ a first.value c.deref-in-Binary.ensures
     c.in_ok-first-in-Binary.ensures in
-    rw c.in-Binary.is (framed_as before mid after (frame.Binary c.in-Binary.op first) _ b
-    (tree.Binary c.in-Binary.op (view a) (view b)) c.framed-in-Binary.result
+    rw c.in-Binary.is (nested_as before mid after (outer.Binary c.in-Binary.op first) _ b
+    (tree.Binary c.in-Binary.op (view a) (view b)) c.nested-in-Binary.result
     c.deref-in-Binary-2.ensures
     (λ x g. let r = two_done before mid after (view a) (view b) first.value x.value d g in (
       r.0,
@@ -314,73 +314,73 @@ term-returns-in_ok-first-in-Binary t c =
       r.3,
     ))
     (λ f h. second_refused f (expr_passes before (view a)) _
-    (before_more before mid _ _ f (view b) d.0 h)) c.framed-in-Binary.ensures)
+    (before_more before mid _ _ f (view b) d.0 h)) c.nested-in-Binary.ensures)
 
 pub term-returns-in_ok-first-in-Arrow : goal.term-returns-in_ok-first-in-Arrow
 term-returns-in_ok-first-in-Arrow t c =
     let before = progress c.args.here.now in
     let mid = progress c.boxed-in-Arrow.new.here in
-    let after = progress c.framed-in-Arrow.new.here in
+    let after = progress c.nested-in-Arrow.new.here in
     let first = c.in_ok-first-in-Arrow.first in
     let a = c.in-Arrow.a.value in
     let b = c.in-Arrow.b.value in
     let d = in_box before mid _ a first.value c.deref-in-Arrow.ensures
     c.in_ok-first-in-Arrow.ensures in
-    rw c.in-Arrow.is (framed_as before mid after (frame.Arrow first) _ b
-    (tree.Arrow (view a) (view b)) c.framed-in-Arrow.result c.deref-in-Arrow-2.ensures
+    rw c.in-Arrow.is (nested_as before mid after (outer.Arrow first) _ b
+    (tree.Arrow (view a) (view b)) c.nested-in-Arrow.result c.deref-in-Arrow-2.ensures
     (λ x g. let r = two_done before mid after (view a) (view b) first.value x.value d g in (
       r.0,
       (same_two tree.Arrow _ _ _ _ r.1.0 r.2.0, both _ _ r.1.1 r.2.1, both _ _ r.1.2 r.2.2),
       r.3,
     ))
     (λ f h. second_refused f (expr_passes before (view a)) _
-    (before_more before mid _ _ f (view b) d.0 h)) c.framed-in-Arrow.ensures)
+    (before_more before mid _ _ f (view b) d.0 h)) c.nested-in-Arrow.ensures)
 
 pub term-returns-in_ok-first-in-Fby : goal.term-returns-in_ok-first-in-Fby
 term-returns-in_ok-first-in-Fby t c =
     let before = progress c.args.here.now in
     let mid = progress c.boxed-in-Fby.new.here in
-    let after = progress c.framed-in-Fby.new.here in
+    let after = progress c.nested-in-Fby.new.here in
     let first = c.in_ok-first-in-Fby.first in
     let a = c.in-Fby.a.value in
     let b = c.in-Fby.b.value in
     let d = in_box before mid _ a first.value c.deref-in-Fby.ensures c.in_ok-first-in-Fby.ensures in
-    rw c.in-Fby.is (framed_as before mid after (frame.Fby first) _ b
-    (tree.Fby (view a) (view b)) c.framed-in-Fby.result c.deref-in-Fby-2.ensures
+    rw c.in-Fby.is (nested_as before mid after (outer.Fby first) _ b
+    (tree.Fby (view a) (view b)) c.nested-in-Fby.result c.deref-in-Fby-2.ensures
     (λ x g. let r = two_done before mid after (view a) (view b) first.value x.value d g in (
       r.0,
       (same_two tree.Fby _ _ _ _ r.1.0 r.2.0, both _ _ r.1.1 r.2.1, both _ _ r.1.2 r.2.2),
       r.3,
     ))
     (λ f h. second_refused f (expr_passes before (view a)) _
-    (before_more before mid _ _ f (view b) d.0 h)) c.framed-in-Fby.ensures)
+    (before_more before mid _ _ f (view b) d.0 h)) c.nested-in-Fby.ensures)
 
 pub term-returns-in_ok-first-in-Join : goal.term-returns-in_ok-first-in-Join
 term-returns-in_ok-first-in-Join t c =
     let before = progress c.args.here.now in
     let mid = progress c.boxed-in-Join.new.here in
-    let after = progress c.framed-in-Join.new.here in
+    let after = progress c.nested-in-Join.new.here in
     let first = c.in_ok-first-in-Join.first in
     let a = c.in-Join.a.value in
     let b = c.in-Join.b.value in
     let d = in_box before mid _ a first.value c.deref-in-Join.ensures c.in_ok-first-in-Join.ensures
     in
-    rw c.in-Join.is (framed_as before mid after (frame.Join first) _ b
-    (tree.Join (view a) (view b)) c.framed-in-Join.result c.deref-in-Join-2.ensures
+    rw c.in-Join.is (nested_as before mid after (outer.Join first) _ b
+    (tree.Join (view a) (view b)) c.nested-in-Join.result c.deref-in-Join-2.ensures
     (λ x g. let r = two_done before mid after (view a) (view b) first.value x.value d g in (
       r.0,
       (same_two tree.Join _ _ _ _ r.1.0 r.2.0, both _ _ r.1.1 r.2.1, both _ _ r.1.2 r.2.2),
       r.3,
     ))
     (λ f h. second_refused f (expr_passes before (view a)) _
-    (before_more before mid _ _ f (view b) d.0 h)) c.framed-in-Join.ensures)
+    (before_more before mid _ _ f (view b) d.0 h)) c.nested-in-Join.ensures)
 
 pub term-returns-in_ok-first-in-If : goal.term-returns-in_ok-first-in-If
 term-returns-in_ok-first-in-If t c =
     let before = progress c.args.here.now in
     let mid = progress c.boxed-in-If.new.here in
     let next = progress c.boxed-in-If-2.new.here in
-    let after = progress c.framed-in-If.new.here in
+    let after = progress c.nested-in-If.new.here in
     let condition = c.in_ok-condition-in-If.condition in
     let first = c.in_ok-first-in-If.first in
     let test = c.in-If.c.value in
@@ -389,8 +389,8 @@ term-returns-in_ok-first-in-If t c =
     let d = in_box before mid _ test condition.value c.deref-in-If.ensures
     c.in_ok-condition-in-If.ensures in
     let g = in_box mid next _ a first.value c.deref-in-If-2.ensures c.in_ok-first-in-If.ensures in
-    rw c.in-If.is (framed_as before next after (frame.If condition first) _ b
-    (tree.If (view test) (view a) (view b)) c.framed-in-If.result c.deref-in-If-3.ensures
+    rw c.in-If.is (nested_as before next after (outer.If condition first) _ b
+    (tree.If (view test) (view a) (view b)) c.nested-in-If.result c.deref-in-If-3.ensures
     (λ x last.
     let q = two_done mid next after (view a) (view b) first.value x.value g last in
     let r = three_done before mid after (view test) (view a)
@@ -407,20 +407,20 @@ term-returns-in_ok-first-in-If t c =
     (λ f h. second_refused f (expr_passes before (view test)) _
     (second_refused f (expr_passes before (view a)) _
     (before_more before mid _ _ f (view b) d.0 (before_more mid next _ _ f (view b) g.0 h))))
-    c.framed-in-If.ensures)
+    c.nested-in-If.ensures)
 
 pub term-returns-in_ok-clock-in-When : goal.term-returns-in_ok-clock-in-When
 term-returns-in_ok-clock-in-When t c =
     let before = progress c.args.here.now in
-    let after = progress c.framed-in-When.new.here in
+    let after = progress c.nested-in-When.new.here in
     let clock = c.in_ok-clock-in-When.clock in
     let sign = c.in-When.sign in
     let a = c.in-When.a.value in
     let x = c.in-When.x in
     let found = c.in_ok-clock-in-When.ensures.found in
     let is = c.in_ok-clock-in-When.ensures.is_declared in
-    rw c.in-When.is (framed_as before before after (frame.When clock sign) _ a
-    (tree.When (view a) x sign) c.framed-in-When.result c.deref-in-When.ensures
+    rw c.in-When.is (nested_as before before after (outer.When clock sign) _ a
+    (tree.When (view a) x sign) c.nested-in-When.result c.deref-in-When.ensures
     (λ b d.
     let node = ap (λ s. s.node) d.0 in (
       d.0,
@@ -433,48 +433,48 @@ term-returns-in_ok-clock-in-When t c =
       both _ _ is d.2,
     ))
     (λ f h. second_refused f (is_variable (program_of before) before.node x) _ h)
-    c.framed-in-When.ensures)
+    c.nested-in-When.ensures)
 
 pub term-returns-in_ok-size-in-Replicate : goal.term-returns-in_ok-size-in-Replicate
 term-returns-in_ok-size-in-Replicate t c =
     let before = progress c.args.here.now in
     let mid = progress c.one_static.new.here in
-    let after = progress c.framed-in-Replicate.new.here in
+    let after = progress c.nested-in-Replicate.new.here in
     let id = c.in_ok-size-in-Replicate.size in
     let n = view_static c.in-Replicate.n in
     let a = c.in-Replicate.a.value in
     let s = c.in_ok-size-in-Replicate.ensures in
-    rw c.in-Replicate.is (framed_as before mid after (frame.Replicate id) _ a
-    (tree.Replicate (view a) n) c.framed-in-Replicate.result c.deref-in-Replicate.ensures
+    rw c.in-Replicate.is (nested_as before mid after (outer.Replicate id) _ a
+    (tree.Replicate (view a) n) c.nested-in-Replicate.result c.deref-in-Replicate.ensures
     (λ b d. let r = static_done before mid after _ n (view a) id b.value s d in
     (r.0, (same_two tree.Replicate _ _ _ _ r.2.0 r.1.0, both _ _ r.1.1 r.2.1, r.2.2), r.3))
     (λ f h. second_refused f (static_fits before n) _
     (before_more before mid _ _ f (view a) s.0 h))
-    c.framed-in-Replicate.ensures)
+    c.nested-in-Replicate.ensures)
 
 pub term-returns-in_ok-index-in-Index : goal.term-returns-in_ok-index-in-Index
 term-returns-in_ok-index-in-Index t c =
     let before = progress c.args.here.now in
     let mid = progress c.one_static-in-Index.new.here in
-    let after = progress c.framed-in-Index.new.here in
+    let after = progress c.nested-in-Index.new.here in
     let id = c.in_ok-index-in-Index.index in
     let n = view_static c.in-Index.i in
     let a = c.in-Index.a.value in
     let s = c.in_ok-index-in-Index.ensures in
-    rw c.in-Index.is (framed_as before mid after (frame.Index id) _ a
-    (tree.Index (view a) n) c.framed-in-Index.result c.deref-in-Index.ensures
+    rw c.in-Index.is (nested_as before mid after (outer.Index id) _ a
+    (tree.Index (view a) n) c.nested-in-Index.result c.deref-in-Index.ensures
     (λ b d. let r = static_done before mid after _ n (view a) id b.value s d in
     (r.0, (same_two tree.Index _ _ _ _ r.2.0 r.1.0, both _ _ r.1.1 r.2.1, r.2.2), r.3))
     (λ f h. second_refused f (static_fits before n) _
     (before_more before mid _ _ f (view a) s.0 h))
-    c.framed-in-Index.ensures)
+    c.nested-in-Index.ensures)
 
 pub term-returns-in_ok-end-in-Slice : goal.term-returns-in_ok-end-in-Slice
 term-returns-in_ok-end-in-Slice t c =
     let before = progress c.args.here.now in
     let mid = progress c.one_static-in-Slice.new.here in
     let next = progress c.one_static-in-Slice-2.new.here in
-    let after = progress c.framed-in-Slice.new.here in
+    let after = progress c.nested-in-Slice.new.here in
     let start = c.in_ok-start-in-Slice.start in
     let end = c.in_ok-end-in-Slice.end in
     let a = c.in-Slice.a.value in
@@ -482,8 +482,8 @@ term-returns-in_ok-end-in-Slice t c =
     let j = view_static c.in-Slice.j in
     let s = c.in_ok-start-in-Slice.ensures in
     let p = c.in_ok-end-in-Slice.ensures in
-    rw c.in-Slice.is (framed_as before next after (frame.Slice start end) _ a
-    (tree.Slice (view a) i j) c.framed-in-Slice.result c.deref-in-Slice.ensures
+    rw c.in-Slice.is (nested_as before next after (outer.Slice start end) _ a
+    (tree.Slice (view a) i j) c.nested-in-Slice.result c.deref-in-Slice.ensures
     (λ b d.
     let q = static_done mid next after SliceEnd j (view a) end b.value p d in
     let r = statics_done before mid after SliceStart SliceEnd i j (view a) start end b.value s q
@@ -500,7 +500,7 @@ term-returns-in_ok-end-in-Slice t c =
     ))
     (λ f h. second_refused f (static_fits before i) _ (second_refused f (static_fits before j) _
     (before_more before mid _ _ f (view a) s.0 (before_more mid next _ _ f (view a) p.0 h))))
-    c.framed-in-Slice.ensures)
+    c.nested-in-Slice.ensures)
 
 pub term-returns-in-Array : goal.term-returns-in-Array
 term-returns-in-Array t c =
@@ -601,56 +601,56 @@ term-returns-in-Symbol t c =
     (size_done before mid after Size (view_static n) (map view es.items) id ts size g))
     (λ e h. fault_after_symbol before mid e it op n es _ _ size.0 h) c.row-in-Symbol.ensures)
 
-pub framed-returns-in-Group : goal.framed-returns-in-Group
-framed-returns-in-Group t c =
+pub nested-returns-in-Group : goal.nested-returns-in-Group
+nested-returns-in-Group t c =
     rw c.in-Group.is (c.in_ok-operand.operand, refl, c.in_ok-operand.ensures)
 
-pub framed-returns-in-Unary : goal.framed-returns-in-Unary
-framed-returns-in-Unary t c =
+pub nested-returns-in-Unary : goal.nested-returns-in-Unary
+nested-returns-in-Unary t c =
     rw c.in-Unary.is (c.in_ok-operand.operand, refl, c.in_ok-operand.ensures)
 
-pub framed-returns-in-Binary : goal.framed-returns-in-Binary
-framed-returns-in-Binary t c =
+pub nested-returns-in-Binary : goal.nested-returns-in-Binary
+nested-returns-in-Binary t c =
     rw c.in-Binary.is (c.in_ok-operand.operand, refl, c.in_ok-operand.ensures)
 
-pub framed-returns-in-If : goal.framed-returns-in-If
-framed-returns-in-If t c =
+pub nested-returns-in-If : goal.nested-returns-in-If
+nested-returns-in-If t c =
     rw c.in-If.is (c.in_ok-operand.operand, refl, c.in_ok-operand.ensures)
 
-pub framed-returns-in-Arrow : goal.framed-returns-in-Arrow
-framed-returns-in-Arrow t c =
+pub nested-returns-in-Arrow : goal.nested-returns-in-Arrow
+nested-returns-in-Arrow t c =
     rw c.in-Arrow.is (c.in_ok-operand.operand, refl, c.in_ok-operand.ensures)
 
-pub framed-returns-in-Fby : goal.framed-returns-in-Fby
-framed-returns-in-Fby t c =
+pub nested-returns-in-Fby : goal.nested-returns-in-Fby
+nested-returns-in-Fby t c =
     rw c.in-Fby.is (c.in_ok-operand.operand, refl, c.in_ok-operand.ensures)
 
-pub framed-returns-in-Pre : goal.framed-returns-in-Pre
-framed-returns-in-Pre t c =
+pub nested-returns-in-Pre : goal.nested-returns-in-Pre
+nested-returns-in-Pre t c =
     rw c.in-Pre.is (c.in_ok-operand.operand, refl, c.in_ok-operand.ensures)
 
-pub framed-returns-in-Current : goal.framed-returns-in-Current
-framed-returns-in-Current t c =
+pub nested-returns-in-Current : goal.nested-returns-in-Current
+nested-returns-in-Current t c =
     rw c.in-Current.is (c.in_ok-operand.operand, refl, c.in_ok-operand.ensures)
 
-pub framed-returns-in-When : goal.framed-returns-in-When
-framed-returns-in-When t c =
+pub nested-returns-in-When : goal.nested-returns-in-When
+nested-returns-in-When t c =
     rw c.in-When.is (c.in_ok-operand.operand, refl, c.in_ok-operand.ensures)
 
-pub framed-returns-in-Replicate : goal.framed-returns-in-Replicate
-framed-returns-in-Replicate t c =
+pub nested-returns-in-Replicate : goal.nested-returns-in-Replicate
+nested-returns-in-Replicate t c =
     rw c.in-Replicate.is (c.in_ok-operand.operand, refl, c.in_ok-operand.ensures)
 
-pub framed-returns-in-Index : goal.framed-returns-in-Index
-framed-returns-in-Index t c =
+pub nested-returns-in-Index : goal.nested-returns-in-Index
+nested-returns-in-Index t c =
     rw c.in-Index.is (c.in_ok-operand.operand, refl, c.in_ok-operand.ensures)
 
-pub framed-returns-in-Slice : goal.framed-returns-in-Slice
-framed-returns-in-Slice t c =
+pub nested-returns-in-Slice : goal.nested-returns-in-Slice
+nested-returns-in-Slice t c =
     rw c.in-Slice.is (c.in_ok-operand.operand, refl, c.in_ok-operand.ensures)
 
-pub framed-returns-in-Join : goal.framed-returns-in-Join
-framed-returns-in-Join t c =
+pub nested-returns-in-Join : goal.nested-returns-in-Join
+nested-returns-in-Join t c =
     rw c.in-Join.is (c.in_ok-operand.operand, refl, c.in_ok-operand.ensures)
 
 pub row-returns-in-Array : goal.row-returns-in-Array

@@ -15,7 +15,7 @@ use Rattle.lb_static.specs.ResolvedNodes.{IsResolved, node_of, statics_of}
 use Rattle.lb_static.specs.DataTypes.{DataType, variables, variable_type, input_types, output_types}
 use Rattle.lb_static.specs.StoredTypes.{declared_type, declared_types}
 use Rattle.lb_static.proofs.DeclaredTypes.{types_are}
-use Rattle.lb_check.specs.TermTypes.{Signature, signature_of}
+use Rattle.lb_check.specs.TermTypes.{CallTypes, call_types_of}
 
 take_first : {A B : Type 0} → (f : A → B) (xs ys : List A) →
     take (length xs) (map f (xs ++ ys)) ≡ map f xs
@@ -28,8 +28,8 @@ drop_first f [] ys = refl
 drop_first f (x ∷ xs) ys = drop_first f xs ys
 
 -- the types of the inputs and of the outputs of an instance
-abbrev pub signature : Program → Option Instance → Option Signature
-signature P o = o >>= λ n. input_types P n >>= λ ins. output_types P n >>= λ outs. Some
+abbrev pub call_types : Program → Option Instance → Option CallTypes
+call_types P o = o >>= λ n. input_types P n >>= λ ins. output_types P n >>= λ outs. Some
     (ins, outs)
 
 module _ (P : Program) (names : List Name) (n : ResolvedNode) (resolved : IsResolved names n)
@@ -69,8 +69,8 @@ module _ (P : Program) (names : List Name) (n : ResolvedNode) (resolved : IsReso
       ∙ ap (take n.outputs) (drop-map (declared_type values) n.inputs n.variables.items)
       ∙ take-map (declared_type values) n.outputs (drop n.inputs n.variables.items)
 
-  pub signature_is : signature P (Some here) ≡ signature_of values n
-  signature_is =
+  pub call_types_are : call_types P (Some here) ≡ call_types_of values n
+  call_types_are =
       ap (λ m. all_some (map (variable_type P here) m.inputs) >>= λ ins. all_some
       (map (variable_type P here) m.outputs) >>= λ outs. Some (ins, outs)) same
       ∙ ap (λ l. all_some l >>= λ ins. all_some
@@ -82,15 +82,16 @@ module _ (P : Program) (names : List Name) (n : ResolvedNode) (resolved : IsReso
 -- what a call calls has the same types wherever it stands
 pub same_callee : (P : Program) (p q : Path) (n : Node) (values : List ℤ) (site : Site)
     (call index : ℕ)
-    → signature P (callee_of P (instance_of p n values) (call_site site.callee site.arguments) 0 0)
-    ≡ signature P (callee_of P (instance_of q n values) site call index)
+    → call_types P (callee_of P (instance_of p n values) (call_site site.callee site.arguments) 0 0)
+    ≡ call_types P (callee_of P (instance_of q n values) site call index)
 same_callee P p q n values site call index =
     by (node_named P site.callee)
     (all_some (map (static_value P (instance_of p n values)) site.arguments))
   where
     by : (o : Option Node) (vs : Option (List ℤ))
-        → signature P (o >>= λ m. vs >>= λ values. Some (instance_of (Child p 0 0) m values))
-        ≡ signature P (o >>= λ m. vs >>= λ values. Some (instance_of (Child q call index) m values))
+        → call_types P (o >>= λ m. vs >>= λ values. Some (instance_of (Child p 0 0) m values))
+        ≡ call_types P
+        (o >>= λ m. vs >>= λ values. Some (instance_of (Child q call index) m values))
     by None vs = refl
     by (Some m) None = refl
     by (Some m) (Some values) = refl

@@ -9,17 +9,17 @@ use Rattle.lb_static.specs.NodeProgress.{exprs_pass}
 use Rattle.lb_static.specs.declared.error.StaticError.{StaticError}
 use Rattle.lb_static.specs.declared.resolved.Term as term
 use Rattle.lb_static.specs.declared.resolved.Term.{Term}
-use Rattle.lb_static.specs.declared.resolving_terms.Frame.{Frame}
-use Rattle.lb_static.specs.declared.resolving_terms.Frame.TheVariants.{Group, Unary, Binary, If}
-use Rattle.lb_static.specs.declared.resolving_terms.Frame.TheVariants.{Arrow, Fby, Pre, Current}
-use Rattle.lb_static.specs.declared.resolving_terms.Frame.TheVariants.{When, Replicate, Index}
-use Rattle.lb_static.specs.declared.resolving_terms.Frame.TheVariants.{Slice, Join}
+use Rattle.lb_static.specs.declared.resolving_terms.Outer.{Outer}
+use Rattle.lb_static.specs.declared.resolving_terms.Outer.TheVariants.{Group, Unary, Binary, If}
+use Rattle.lb_static.specs.declared.resolving_terms.Outer.TheVariants.{Arrow, Fby, Pre, Current}
+use Rattle.lb_static.specs.declared.resolving_terms.Outer.TheVariants.{When, Replicate, Index}
+use Rattle.lb_static.specs.declared.resolving_terms.Outer.TheVariants.{Slice, Join}
 use Rattle.lb_static.specs.declared.resolving_terms.Head.{Head}
 use Rattle.lb_static.specs.declared.resolving_terms.Head.TheVariants.{Array, AtMostOne, Nor, Call}
 use Rattle.lb_static.specs.declared.resolving_terms.Head.TheVariants.{IterateNode, IterateSymbol}
 
 -- the term with this last operand
-abbrev pub around : Frame → Box Term Global → Term
+abbrev pub around : Outer → Box Term Global → Term
 around Group a = term.Group a
 around (Unary op) a = term.Unary op a
 around (Binary op first) a = term.Binary op first a
@@ -44,11 +44,11 @@ before_row (IterateNode iterator site) all = term.IterateNode iterator site all
 before_row (IterateSymbol iterator op size) all = term.IterateSymbol iterator op size all
 
 -- the term whose last operand stands for an expression, or why there is none
-abbrev pub ResolvesFramed :
-    (before after : Progress) → Frame → Expr → Result Term StaticError → Type 0
-ResolvesFramed before after frame e (Ok t) =
-    (a : Box Term Global) × (t ≡ around frame a) × ResolvesTerm before after e (Ok a.value)
-ResolvesFramed before after frame e (Err f) = IsNameFault f (expr_passes before e)
+abbrev pub ResolvesNested :
+    (before after : Progress) → Outer → Expr → Result Term StaticError → Type 0
+ResolvesNested before after outer e (Ok t) =
+    (a : Box Term Global) × (t ≡ around outer a) × ResolvesTerm before after e (Ok a.value)
+ResolvesNested before after outer e (Err f) = IsNameFault f (expr_passes before e)
 
 -- the term whose operands stand for some expressions, or why there is none
 abbrev pub ResolvesRow :
