@@ -11,10 +11,6 @@ use Rattle.std.proofs.lemmas.List.Elements.{Contains-append_left, Contains-appen
 use Rattle.std.proofs.lemmas.List.Elements.{Contains-append_cases}
 use Rattle.std.proofs.lemmas.List.FromFn.{length-range_with_len, get_or-range_with_len}
 use Rattle.std.proofs.lemmas.List.Sorted.{All-permutation, Contains-permutation}
-use Rattle.lb_check.specs.declared.verdict.Verdict.{Verdict}
-use Rattle.lb_flat.specs.Programs.{program_of}
-use Rattle.lb_flat.specs.Traces.{Recording}
-use Rattle.lb_flat.specs.declared.program.FlatProgram.{FlatProgram}
 use Rattle.lb_pool.specs.Draws.{times, once_below, AreAllBelow}
 use Rattle.lb_pool.specs.Plans.{numbers_in, IsLawful}
 use Rattle.lb_pool.specs.Runs.{numbers_drawn}

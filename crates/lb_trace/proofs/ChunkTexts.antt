@@ -1,21 +1,16 @@
 -- The text of chunks, of which each but the last ends with a line.
-use Rattle.std.proofs.Common.{ℕ, zero, suc, ◌≡◌, ◌+◌, ◌-◌, ◌<◌, ◌≤◌, ◌||◌, Bool, true, false}
+use Rattle.std.proofs.Common.{ℕ, zero, suc, ◌≡◌, ◌+◌, ◌-◌, ◌<◌, ◌||◌, Bool, true, false}
 use Rattle.std.proofs.Common.{List, [], ◌∷◌, ◌++◌, length, refl, sym, ap, ◌∙◌, arith}
-use Rattle.std.proofs.Common.{get_or, map, take, drop}
-use Rattle.std.proofs.Common.{append_assoc, if◌then◌else◌, length-append, subst, ⊎_elim}
+use Rattle.std.proofs.Common.{get_or, map, take}
+use Rattle.std.proofs.Common.{append_assoc}
 use Rattle.std.specs.Prelude.{Vec, flat_map}
-use Rattle.std.specs.Borrow.{Bor}
 use Rattle.std.specs.Global.{Global}
 use Rattle.std.specs.List.{list_any}
 use Rattle.std.proofs.lemmas.Bool.Decides.{nat_tests}
-use Rattle.std.proofs.lemmas.Grind.{flat_map-append}
-use Rattle.std.proofs.lemmas.Bool.{cases_lt}
-use Rattle.std.proofs.lemmas.List.{append-nil, drop_all, drop_more, map-append, take-append-drop}
-use Rattle.std.proofs.lemmas.List.{length-map, take_all, take_more, take_rest}
+use Rattle.std.proofs.lemmas.List.{append-nil, drop_all, drop_more, take-append-drop}
 use Rattle.std.proofs.lemmas.List.Folds.{list_any-append}
-use Rattle.csv.specs.Reading.{default_config, is_bom, records as records_by, strip_bom}
+use Rattle.csv.specs.Reading.{is_bom, strip_bom}
 use Rattle.lb_trace.specs.Chunks.{is_ended, text_of}
-use Rattle.lb_trace.specs.Parts.{HaveRecordsOf}
 use Rattle.lb_trace.specs.Plain.{ends_line, has_quote, is_quote, plain_records}
 use Rattle.lb_trace.specs.Spelling.{records_of}
 use Rattle.lb_trace.proofs.CutTexts.{plain-cut}

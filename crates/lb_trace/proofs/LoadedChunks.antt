@@ -1,7 +1,7 @@
 -- What is read of chunks, one after the other, is what their text spells.
 use Rattle.std.proofs.Common.{ℕ, zero, suc, ◌≡◌, ◌+◌, ◌*◌, ◌-◌, ◌<◌, ◌≤◌, ◌||◌, true, false}
-use Rattle.std.proofs.Common.{List, [], ◌∷◌, ◌++◌, length, refl, sym, ap, ◌∙◌, arith, get_or, map}
-use Rattle.std.proofs.Common.{append-nil, append_assoc, length-append, subst, Option, Some, Ok}
+use Rattle.std.proofs.Common.{List, [], ◌∷◌, ◌++◌, length, refl, sym, ap, ◌∙◌, arith, map}
+use Rattle.std.proofs.Common.{append-nil, append_assoc, length-append, subst, Option, Ok}
 use Rattle.std.specs.Prelude.{Vec, IfSome, flat_map}
 use Rattle.std.specs.Global.{Global}
 use Rattle.std.proofs.lemmas.Option.{IfSome_then}

@@ -1,6 +1,6 @@
 -- A text that is loaded in chunks, each of which is read by itself.
 -- This file says what data of the program mean; no definition of the language stands on it.
-use Rattle.std.specs.Prelude.{ℕ, ◌≡◌, ◌≤◌, ◌++◌, false, true, List, Vec, [], ◌∷◌, length, flat_map}
+use Rattle.std.specs.Prelude.{ℕ, ◌≡◌, ◌≤◌, ◌++◌, false, true, List, Vec, length, flat_map}
 use Rattle.std.specs.Global.{Global}
 use Rattle.std.specs.List.{All, AllZip}
 use Rattle.lb_static.specs.Signature.{Elements}
