@@ -31,6 +31,6 @@ returns g t c =
       c.args.seat.view.0,
       c.args.seat.part.1,
     ) in
-    IfOk-weaker c.both_done.result (IsBoth board one other) (HasDrained board all p r batches)
+    IfOk-weaker c.both_drained.result (IsBoth board one other) (HasDrained board all p r batches)
     (λ d both. gathered board a b all p r batches one other d first second sum both)
-    c.both_done.ensures
+    c.both_drained.ensures
