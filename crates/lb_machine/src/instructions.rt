@@ -21,6 +21,9 @@ use crate::instruction::{Comparison, Instruction, PlaneId, WordId};
 use std::alloc::{AllocError, Global};
 use std::mem::replace;
 
+// How many of the last choices are looked at for one that is the same.
+const LAST_CHOICES: usize = 64;
+
 /// [`Instruction::Select`] alone, without the plane that is written.
 #[derive(Clone, Copy)]
 pub struct Choice {
@@ -120,13 +123,13 @@ impl Instructions {
         Ok(())
     }
 
-    /// The plane of the same choice among the last 16, if there is one behind the last block.
+    /// The plane of the same choice among the last ones, if there is one behind the last block.
     pub(crate) fn last_choice(&self, c: Choice) -> Option<PlaneId>
         ensures { IfSome result (λ p. (s : Lane) → AllByRecursion (IsDone s) (listed self.now)
             → IsDone s (select_at p.0 c)) }
     {
         let count = self.choices.len();
-        for j in 0..count.min(16) {
+        for j in 0..count.min(LAST_CHOICES) {
             let k = count - 1 - j;
             let out = self.first as usize + k;
             if are_same(self.choices[k], c) && out < 4294967296 {

@@ -40,7 +40,7 @@ use Rattle.lb_sim.specs.declared.allotted.Allotted.{Allotted}
 use Rattle.lb_sim.specs.declared.place.Holding.{Holding}
 use Rattle.lb_sim.specs.declared.place.Place.{Place}
 use Rattle.lb_sim.specs.declared.place.Value.{Value}
-use Rattle.lb_sim.specs.declared.place.Value.TheVariants.{Truth, Number}
+use Rattle.lb_sim.specs.declared.place.Value.TheVariants.{Truth, Negated, Number}
 use Rattle.lb_sim.specs.declared.place.Watched.{Watched}
 use Rattle.lb_sim.specs.declared.program.LaneCode.{LaneCode}
 use Rattle.lb_sim.proofs.FirstPlaces.{all_on}
@@ -50,6 +50,7 @@ use Rattle.lb_sim.proofs.FirstPlaces.{all_on}
 value_in : (code : Code) (v : Value) → plane_in v < code.planes → word_in v < code.words →
     IsValueIn code v
 value_in code (Truth p) h g = h
+value_in code (Negated p) h g = h
 value_in code (Number w) h g = g
 
 inputs_there :
@@ -138,6 +139,7 @@ home_value :
     (code : Code) (mp mw : ℕ) (v : Value) → IsHomeAt mp code.first_plane (plane_in v) →
     IsHomeAt mw code.first_word (word_in v) → IsHomeValue code mp mw v
 home_value code mp mw (Truth p) h g = h
+home_value code mp mw (Negated p) h g = h
 home_value code mp mw (Number w) h g = g
 
 plane_grown : (a b : Code) (v : Lane → Bool) (p : PlaneId) → IsGrown a b → IsPlaneFor a v p →

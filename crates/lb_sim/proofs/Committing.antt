@@ -16,7 +16,7 @@ use Rattle.lb_sim.specs.Showing.{shown, value_at, scalar_at, row_at}
 use Rattle.lb_sim.specs.States.{IsMoved, holding_of, present_at, kept_at, flag_at, with_memory}
 use Rattle.lb_sim.specs.States.{equation_in}
 use Rattle.lb_sim.specs.declared.place.Value.{Value}
-use Rattle.lb_sim.specs.declared.place.Value.TheVariants.{Truth, Number}
+use Rattle.lb_sim.specs.declared.place.Value.TheVariants.{Truth, Negated, Number}
 use Rattle.lb_sim.specs.declared.place.Holding.{Holding}
 use Rattle.lb_sim.specs.declared.place.Place.{Place}
 use Rattle.lb_sim.proofs.RowsAt.{cell_is}
@@ -104,6 +104,7 @@ sound_value : (s : Lane) (n : Bool) (v : Value) →
     is_bad (Some (Some (shown false n (value_at s v)))) ≡ false
 sound_value s true v = refl
 sound_value s false (Truth p) = refl
+sound_value s false (Negated p) = refl
 sound_value s false (Number w) = refl
 
 -- a holding with no bit there is no fault

@@ -167,7 +167,7 @@ pub room_for_code :
     ≡ true →
     (a : Allotted) → AreAllotted (program_of p) a →
     length a.preset.planes.items + length a.preset.words.items
-    + (24 * length p.equations.items + 10 * length p.clocks.items + 76 * p.size + 18)
+    + (25 * length p.equations.items + 10 * length p.clocks.items + 76 * p.size + 18)
     ≤ 4294967295
 room_for_code p bounded order a allotted =
     let ready = ready_of p.size (flat_equations p.clocks.items p.equations.items) order in

@@ -16,7 +16,7 @@ use Rattle.lb_sim.specs.Showing.{shown, value_at, scalar_at}
 use Rattle.lb_sim.specs.States.{flag_of}
 use Rattle.lb_sim.specs.declared.place.Holding.{Holding}
 use Rattle.lb_sim.specs.declared.place.Value.{Value}
-use Rattle.lb_sim.specs.declared.place.Value.TheVariants.{Truth, Number}
+use Rattle.lb_sim.specs.declared.place.Value.TheVariants.{Truth, Negated, Number}
 use Rattle.lb_sim.specs.declared.preset.Preset.{Preset}
 use Rattle.lb_sim.proofs.HomeRows.{row_append, row_homes, home_below}
 
@@ -73,6 +73,7 @@ module _ (old new : Preset) where
       word_in x < length old.words.items →
       value_at (first_lane new i) x ≡ value_at (first_lane old i) x
   value_more m i (Truth p) lt _ = ap (λ n. Boolean (on n i)) (m.same_planes p.0 lt)
+  value_more m i (Negated p) lt _ = ap (λ n. Boolean (not (on n i))) (m.same_planes p.0 lt)
   value_more m i (Number w) _ lt = ap Integer (m.same_words w.0 lt)
 
   pub scalar_more :

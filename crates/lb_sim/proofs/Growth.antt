@@ -4,7 +4,7 @@ use Rattle.lb_machine.specs.Correct.{IsGrown}
 use Rattle.lb_machine.specs.declared.code.Code.{Code}
 use Rattle.lb_sim.specs.Holdings.{IsIn, IsValueIn, IsPlaceIn}
 use Rattle.lb_sim.specs.declared.place.Value.{Value}
-use Rattle.lb_sim.specs.declared.place.Value.TheVariants.{Truth, Number}
+use Rattle.lb_sim.specs.declared.place.Value.TheVariants.{Truth, Negated, Number}
 use Rattle.lb_sim.specs.declared.place.Holding.{Holding}
 use Rattle.lb_sim.specs.declared.place.Place.{Place}
 
@@ -29,6 +29,7 @@ grown_then a b c g h = record {
 -- a place of the code is one still
 pub value_grown : (a b : Code) (v : Value) → IsGrown a b → IsValueIn a v → IsValueIn b v
 value_grown a b (Truth p) g h = omega (arith, h, g.planes)
+value_grown a b (Negated p) g h = omega (arith, h, g.planes)
 value_grown a b (Number w) g h = omega (arith, h, g.words)
 
 pub holding_grown : (a b : Code) (h : Holding) → IsGrown a b → IsIn a h → IsIn b h

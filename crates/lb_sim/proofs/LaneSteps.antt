@@ -1,6 +1,6 @@
 -- One instant of one lane that stands for a trace: where it is live it stands for the trace and its
 -- row of inputs, and where it is not for the trace as before.
-use Rattle.std.proofs.Common.{◌≡◌, ◌+◌, ℕ, zero, suc, Bool, true, false, ◌&&◌, List, []}
+use Rattle.std.proofs.Common.{◌≡◌, ◌+◌, ℕ, zero, suc, Bool, true, false, not, ◌&&◌, List, []}
 use Rattle.std.proofs.Common.{◌∷◌, ◌++◌, map, length, All, refl, sym, ap, ap₂, ◌∙◌}
 use Rattle.std.proofs.Common.{subst, inl, arith, ℤ}
 use Rattle.std.proofs.lemmas.Bool.{true≢false}
@@ -30,7 +30,7 @@ use Rattle.lb_sim.specs.Watching.{lane_judged}
 use Rattle.lb_sim.specs.declared.place.Holding.{Holding}
 use Rattle.lb_sim.specs.declared.place.Place.{Place}
 use Rattle.lb_sim.specs.declared.place.Value.{Value}
-use Rattle.lb_sim.specs.declared.place.Value.TheVariants.{Truth, Number}
+use Rattle.lb_sim.specs.declared.place.Value.TheVariants.{Truth, Negated, Number}
 use Rattle.lb_sim.specs.declared.place.Watched.{Watched}
 use Rattle.lb_flat.specs.Flat.{Operation, Input, Constant, Copy, ApplyUnary, ApplyBinary, Choose}
 use Rattle.lb_flat.specs.Flat.{FirstThen, Previous, Latest, Sample}
@@ -43,6 +43,7 @@ use Rattle.lb_sim.proofs.Standing.{judged_one}
 module _ (code : Code) (mp mw : ℕ) (s s' : Lane) (same : HoldSame code mp mw s s') where
   value_same : (v : Value) → IsHomeValue code mp mw v → value_at s' v ≡ value_at s v
   value_same (Truth p) h = ap Boolean (same.planes p.0 h)
+  value_same (Negated p) h = ap (λ b. Boolean (not b)) (same.planes p.0 h)
   value_same (Number w) h = ap Integer (same.words w.0 h)
 
   -- a memory shows the same

@@ -1,6 +1,7 @@
 pub mod Shown
 pub mod Growth
 pub mod IntegerHoldings
+pub mod TruthHoldings
 pub mod Comparisons
 pub mod RowsAt
 pub mod ClockPlanes

@@ -28,7 +28,7 @@ use Rattle.lb_sim.specs.InputRows.{member_cell}
 use Rattle.lb_sim.specs.ReadInputs.{AreAlike, IsLoadedAt}
 use Rattle.lb_sim.specs.Showing.{value_at}
 use Rattle.lb_sim.specs.declared.place.Value.{Value}
-use Rattle.lb_sim.specs.declared.place.Value.TheVariants.{Truth, Number}
+use Rattle.lb_sim.specs.declared.place.Value.TheVariants.{Truth, Negated, Number}
 use Rattle.lb_sim.proofs.InputColumns.{row_shown, row_moved}
 
 -- as many kinds as elements
@@ -103,11 +103,22 @@ place_in j p w (Bool_kind ∷ kinds) (suc k) plane e =
 place_in j p w (Int_kind ∷ kinds) zero plane e = absurd (cc)
 place_in j p w (Int_kind ∷ kinds) (suc k) plane e = place_in (suc j) p (suc w) kinds k plane e
 
+-- and no input stands there as a negation
+no_negation :
+    (p w : ℕ) (kinds : List Kind) (k : ℕ) (plane : PlaneId) →
+    slice_get (places_of p w kinds) k ≡ Some (Negated plane) → ⊥
+no_negation p w [] k plane e = cc
+no_negation p w (Bool_kind ∷ kinds) zero plane e = cc
+no_negation p w (Bool_kind ∷ kinds) (suc k) plane e = no_negation (suc p) w kinds k plane e
+no_negation p w (Int_kind ∷ kinds) zero plane e = cc
+no_negation p w (Int_kind ∷ kinds) (suc k) plane e = no_negation p (suc w) kinds k plane e
+
 -- no lane and no row of a trace shows a fault
 no_fault : (s : Lane) (places : List Value) (k : ℕ) →
     is_bad (Some (slice_get (map (value_at s) places) k)) ≡ false
 no_fault s [] k = refl
 no_fault s (Truth p ∷ places) zero = refl
+no_fault s (Negated p ∷ places) zero = refl
 no_fault s (Number w ∷ places) zero = refl
 no_fault s (v ∷ places) (suc k) = no_fault s places k
 
@@ -169,6 +180,7 @@ module _ (r : Recording) (members : List ℕ) (t i : ℕ) (kinds : List Kind) (p
   value_same j (Truth p) at loaded =
       let within = place_in 0 2 1 kinds j p at in
       ap Boolean (bits loaded (p.0 - 2) (omega (arith, within.0, within.1)))
+  value_same j (Negated p) at loaded = absurd (no_negation 2 1 kinds j p at)
   value_same j (Number w) at (k, lt, e) =
       let place : w.0 - 1 ≡ get_or numbers k 0 = omega (arith, e) in
       ap Integer

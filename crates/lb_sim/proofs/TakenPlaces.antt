@@ -26,13 +26,13 @@ use Rattle.lb_sim.specs.Homes.{plane_in, word_in, IsSet, IsRow, IsFlagHome, IsCe
 use Rattle.lb_sim.specs.Passing.{AreCopies, IsPlaneSource, IsWordSource, IsTaken, AreTaken}
 use Rattle.lb_sim.specs.Passing.{IsNextOf}
 use Rattle.lb_sim.proofs.Growth.{grown_then}
-use Rattle.lb_sim.specs.Showing.{shown, value_at, value_kind, scalar_at, kind_of, row_at}
+use Rattle.lb_sim.specs.Showing.{shown, value_at, value_kind, scalar_at, kind_of, row_at, IsPlain}
 use Rattle.lb_sim.specs.States.{flag_of, flag_at, holding_of, present_at, IsMoved}
 use Rattle.lb_sim.specs.Steady.{IsHeldFor, ShowsMemory}
 use Rattle.lb_sim.specs.declared.place.Holding.{Holding}
 use Rattle.lb_sim.specs.declared.place.Place.{Place}
 use Rattle.lb_sim.specs.declared.place.Value.{Value}
-use Rattle.lb_sim.specs.declared.place.Value.TheVariants.{Truth, Number}
+use Rattle.lb_sim.specs.declared.place.Value.TheVariants.{Truth, Negated, Number}
 use Rattle.lb_sim.specs.declared.sources.Copies.{Copies}
 use Rattle.lb_sim.proofs.Committing.{carried_holding, named_moved, IsKeptIn}
 use Rattle.lb_sim.proofs.HomeRows.{row_passes, row_takes}
@@ -67,8 +67,10 @@ pub next_grown : (a b : Code) (places : List Place) (home : Holding) (o : Operat
     IsGrown a b → IsNextOf a places home o g → IsNextOf b places home o g
 next_grown a b places home (FirstThen s x y) g more h =
     record { kind_is = h.kind_is; means = λ s r. h.means s (more.runs s r) }
-next_grown a b places home (Previous v x) g more h = λ e. for_grown a b _ _ g more (h e)
-next_grown a b places home (Latest v x) g more h = λ e. for_grown a b _ _ g more (h e)
+next_grown a b places home (Previous v x) g more h =
+    record { plain = h.plain; is_for = λ e. for_grown a b _ _ g more (h.is_for e) }
+next_grown a b places home (Latest v x) g more h =
+    record { plain = h.plain; is_for = λ e. for_grown a b _ _ g more (h.is_for e) }
 next_grown a b places home (Input j) g more h = tt
 next_grown a b places home (Constant v) g more h = tt
 next_grown a b places home (Copy x) g more h = tt
@@ -188,33 +190,49 @@ pub record IsHandedOver (s s' : Lane) (h g : Holding) : Type 0 where
   pub after : s'.bits 0 ≡ false
 
 value_handed :
-    (s s' : Lane) (x y : Value) → value_kind x ≡ value_kind y → IsSet x →
+    (s s' : Lane) (x y : Value) → value_kind x ≡ value_kind y → IsSet x → IsPlain y →
     (plane_in x ≢ 0 → s'.bits (plane_in x) ≡ s.bits (plane_in y)) →
     (word_in x ≢ 0 → s'.ints (word_in x) ≡ s.ints (word_in y)) → value_at s' x ≡ value_at s y
-value_handed s s' (Truth p) (Truth q) e n bits ints = ap Boolean (bits n)
-value_handed s s' (Number v) (Number w) e n bits ints = ap Integer (ints n)
-value_handed s s' (Truth p) (Number w) e n bits ints = absurd (cc)
-value_handed s s' (Number v) (Truth q) e n bits ints = absurd (cc)
+value_handed s s' (Truth p) (Truth q) e n b bits ints = ap Boolean (bits n)
+value_handed s s' (Number v) (Number w) e n b bits ints = ap Integer (ints n)
+value_handed s s' (Truth p) (Number w) e n b bits ints = absurd (cc)
+value_handed s s' (Number v) (Truth q) e n b bits ints = absurd (cc)
+value_handed s s' (Negated p) y e n b bits ints = absurd n
+value_handed s s' (Truth p) (Negated q) e n b bits ints = absurd b
+value_handed s s' (Number v) (Negated q) e n b bits ints = absurd b
 
-flag_cases : (s : Lane) (x : Value) (b n : Bool) → value_kind x ≡ Bool_kind → b ≡ false →
-    n ≡ false → flag_of (shown b n (value_at s x)) ≡ s.bits (plane_in x)
-flag_cases s (Truth p) b n k e f = ap₂ (λ b n. flag_of (shown b n (Boolean (s.bits p.0)))) e f
-flag_cases s (Number w) b n k e f = absurd (cc)
+flag_cases : (s : Lane) (x : Value) (b n : Bool) → value_kind x ≡ Bool_kind → IsPlain x →
+    b ≡ false → n ≡ false → flag_of (shown b n (value_at s x)) ≡ s.bits (plane_in x)
+flag_cases s (Truth p) b n k d e f = ap₂ (λ b n. flag_of (shown b n (Boolean (s.bits p.0)))) e f
+flag_cases s (Negated p) b n k d e f = absurd d
+flag_cases s (Number w) b n k d e f = absurd (cc)
 
 set_plane : (x : Value) → value_kind x ≡ Bool_kind → IsSet x → plane_in x ≢ 0
 set_plane (Truth p) k n = n
+set_plane (Negated p) k n = absurd n
 set_plane (Number w) k n = absurd (cc)
+
+-- what takes a place as it is is no negation
+set_plain : (x : Value) → IsSet x → IsPlain x
+set_plain (Truth p) n = tt
+set_plain (Negated p) n = n
+set_plain (Number w) n = tt
 
 -- a flag is its plane
 flag_is : (s : Lane) (h : Holding) → IsFlagHolding h → s.bits 0 ≡ false →
     flag_at s h ≡ s.bits (plane_in h.value)
 flag_is s h f e =
-    flag_cases s h.value (s.bits h.bad.0) (s.bits h.nil.0) f.kind_is (ap s.bits f.no_bad ∙ e)
-    (ap s.bits f.no_nil ∙ e)
+    flag_cases s h.value (s.bits h.bad.0) (s.bits h.nil.0) f.kind_is f.plain
+    (ap s.bits f.no_bad ∙ e) (ap s.bits f.no_nil ∙ e)
 
 -- the memory of `->` is a flag
 pub flag_holding : (h : Holding) → IsFlagHome h → IsFlagHolding h
-flag_holding h f = record { kind_is = f.kind_is; no_nil = f.nil; no_bad = f.bad }
+flag_holding h f = record {
+  kind_is = f.kind_is;
+  plain = set_plain h.value f.is_set;
+  no_nil = f.nil;
+  no_bad = f.bad;
+}
 
 module _ (code : Code) (s s' : Lane) (run : HasRun (listed code.instructions) s)
     (places : List Place) (named : List ℕ)
@@ -230,13 +248,13 @@ module _ (code : Code) (s s' : Lane) (run : HasRun (listed code.instructions) s)
   cell_moves kind v a h held g lt same of home alike shows over next =
       let kept_kind : kind_of h ≡ kind = home.kind_is of in
       let from_kind : kind_of (holding_of places a) ≡ kind = kinds a lt ∙ same in
-      let is = next (from_kind ∙ sym (alike ∙ kept_kind)) in
+      let is = next.is_for (from_kind ∙ sym (alike ∙ kept_kind)) in
       let from : Scalar = scalar_at s (holding_of places a) in
       let means : scalar_at s g ≡ cond (present_at s places a) from (scalar_at s h) =
       is.means s run ∙ ap (cond (present_at s places a) from) shows in
       let value : value_at s' h.value ≡ value_at s g.value =
       value_handed s s' h.value g.value (kept_kind ∙ sym from_kind ∙ sym is.kind_is) home.is_set
-      over.value over.word in
+      next.plain over.value over.word in
       by home.bad means value
     where
       by : (h.bad.0 ≢ 0) ⊎ ((h.bad.0 ≡ 0) × In a named) →

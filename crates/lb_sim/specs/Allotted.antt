@@ -11,7 +11,7 @@ use Rattle.lb_flat.specs.Judging.{FlatProgram}
 use Rattle.lb_machine.specs.Meaning.{Lane}
 use Rattle.lb_machine.specs.declared.code.Code.{Code}
 use Rattle.lb_sim.specs.Holdings.{IsIn, IsValueIn}
-use Rattle.lb_sim.specs.Showing.{scalar_at, kind_of, value_kind}
+use Rattle.lb_sim.specs.Showing.{scalar_at, kind_of, value_kind, IsPlain}
 use Rattle.lb_sim.specs.States.{kept_at}
 use Rattle.lb_sim.specs.declared.place.Holding.{Holding}
 use Rattle.lb_sim.specs.declared.place.Value.{Value}
@@ -19,6 +19,7 @@ use Rattle.lb_sim.specs.declared.place.Value.{Value}
 -- the truth value of a memory of `->`, which is never nil and no fault
 pub record IsFlagHolding (h : Holding) : Type 0 where
   pub kind_is : kind_of h ≡ Bool_kind
+  pub plain : IsPlain h.value
   pub no_nil : h.nil.0 ≡ 0
   pub no_bad : h.bad.0 ≡ 0
 

@@ -21,7 +21,7 @@ use Rattle.lb_sim.specs.Watching.{AreWatched}
 use Rattle.lb_sim.specs.declared.place.Holding.{Holding}
 use Rattle.lb_sim.specs.declared.place.Place.{Place}
 use Rattle.lb_sim.specs.declared.place.Value.{Value}
-use Rattle.lb_sim.specs.declared.place.Value.TheVariants.{Truth, Number}
+use Rattle.lb_sim.specs.declared.place.Value.TheVariants.{Truth, Negated, Number}
 use Rattle.lb_sim.specs.declared.place.Watched.{Watched}
 
 -- the scalars that a lane is given
@@ -35,6 +35,7 @@ IsHomeAt m first k = (k ≡ 0) ⊎ ((m ≤ k) × (k < first))
 -- a value, and a holding, stand among the memories
 abbrev pub IsHomeValue : Code → ℕ → ℕ → Value → Type 0
 IsHomeValue code mp mw (Truth p) = IsHomeAt mp code.first_plane p.0
+IsHomeValue code mp mw (Negated p) = IsHomeAt mp code.first_plane p.0
 IsHomeValue code mp mw (Number w) = IsHomeAt mw code.first_word w.0
 
 pub record IsHome (code : Code) (mp mw : ℕ) (h : Holding) : Type 0 where

@@ -1,20 +1,23 @@
 -- What holdings of code are, and what they are for.
 -- This file says what data of the program mean.
-use Rattle.std.specs.Prelude.{◌≡◌, ◌<◌}
+use Rattle.std.specs.Prelude.{◌≡◌, ◌<◌, Bool}
 use Rattle.lb_syntax.specs.declared.tree.Kind.{Kind}
-use Rattle.lb_check.specs.Scalars.{Scalar}
+use Rattle.lb_syntax.specs.declared.tree.Kind.TheVariants.{Bool as Bool_kind}
+use Rattle.lb_check.specs.Scalars.{Scalar, Boolean}
 use Rattle.lb_machine.specs.Listed.{listed}
 use Rattle.lb_machine.specs.Meaning.{Lane, HasRun}
 use Rattle.lb_machine.specs.declared.code.Code.{Code}
-use Rattle.lb_sim.specs.Showing.{scalar_at, kind_of, value_at, value_kind}
+use Rattle.lb_sim.specs.Showing.{scalar_at, kind_of, truth_at, value_at, value_kind}
 use Rattle.lb_sim.specs.declared.place.Value.{Value}
-use Rattle.lb_sim.specs.declared.place.Value.TheVariants.{Truth, Number}
+use Rattle.lb_sim.specs.declared.place.Value.TheVariants.{Truth, Negated, Number}
 use Rattle.lb_sim.specs.declared.place.Holding.{Holding}
 use Rattle.lb_sim.specs.declared.place.Place.{Place}
+use Rattle.lb_sim.specs.declared.signed.Signed.{Signed}
 
 -- a value stands at a place of the code
 abbrev pub IsValueIn : Code → Value → Type 0
 IsValueIn code (Truth p) = p.0 < code.planes
+IsValueIn code (Negated p) = p.0 < code.planes
 IsValueIn code (Number w) = w.0 < code.words
 
 -- a holding has places of the code
@@ -33,6 +36,18 @@ pub record IsValueFor (code : Code) (kind : Kind) (scalar : Lane → Scalar) (v 
     Type 0 where
   pub kind_is : value_kind v ≡ kind
   pub means : (s : Lane) → HasRun (listed code.instructions) s → value_at s v ≡ scalar s
+
+-- and of a truth
+pub record IsTruthFor (code : Code) (value : Lane → Bool) (x : Signed) : Type 0 where
+  pub within : x.plane.0 < code.planes
+  pub means : (s : Lane) → HasRun (listed code.instructions) s → truth_at s x ≡ value s
+
+-- a value is this truth
+pub record IsTruth (v : Value) (x : Signed) : Type 0 where
+  pub kind_is : value_kind v ≡ Bool_kind
+  pub shows : (s : Lane) → value_at s v ≡ Boolean (truth_at s x)
+  pub within : (code : Code) → IsValueIn code v → x.plane.0 < code.planes
+  pub stands : (code : Code) → x.plane.0 < code.planes → IsValueIn code v
 
 -- a place of the code
 pub record IsPlaceIn (code : Code) (p : Place) : Type 0 where

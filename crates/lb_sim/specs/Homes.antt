@@ -11,17 +11,19 @@ use Rattle.lb_sim.specs.Showing.{kind_of}
 use Rattle.lb_sim.specs.States.{kept_at}
 use Rattle.lb_sim.specs.declared.place.Holding.{Holding}
 use Rattle.lb_sim.specs.declared.place.Value.{Value}
-use Rattle.lb_sim.specs.declared.place.Value.TheVariants.{Truth, Number}
+use Rattle.lb_sim.specs.declared.place.Value.TheVariants.{Truth, Negated, Number}
 
 -- ## Places side by side
 
 -- the plane that a value takes, and the word; 0 is none
 abbrev pub plane_in : Value → ℕ
 plane_in (Truth p) = p.0
+plane_in (Negated p) = p.0
 plane_in (Number w) = 0
 
 abbrev pub word_in : Value → ℕ
 word_in (Truth p) = 0
+word_in (Negated p) = 0
 word_in (Number w) = w.0
 
 -- places that are there stand side by side, from one up to another; 0 is none
@@ -60,9 +62,10 @@ abbrev pub is_bad_scalar : Scalar → Bool
 is_bad_scalar Bad = true
 is_bad_scalar v = false
 
--- a value takes a place
+-- a value takes a place, as it is
 abbrev pub IsSet : Value → Type 0
 IsSet (Truth p) = p.0 ≢ 0
+IsSet (Negated p) = ⊥
 IsSet (Number w) = w.0 ≢ 0
 
 -- the memory of `->`: a truth value

@@ -18,7 +18,7 @@ use Rattle.lb_machine.specs.declared.instruction.PlaneId.{PlaneId}
 use Rattle.lb_machine.specs.declared.instruction.WordId.{WordId}
 use Rattle.lb_sim.specs.Holdings.{IsFor}
 use Rattle.lb_sim.specs.Homes.{plane_in, word_in}
-use Rattle.lb_sim.specs.Showing.{scalar_at, kind_of, row_at}
+use Rattle.lb_sim.specs.Showing.{scalar_at, kind_of, row_at, IsPlain}
 use Rattle.lb_sim.specs.States.{no_place, holding_of, present_at, kept_at, IsMoved, IsCarriedOver}
 use Rattle.lb_sim.specs.Steady.{ShowsMemories}
 use Rattle.lb_sim.specs.declared.place.Holding.{Holding}
@@ -71,18 +71,21 @@ pub record IsNextFlag (code : Code) (held : Holding) (present : ℕ) (g : Holdin
       (s : Lane) → HasRun (listed code.instructions) s →
       s.bits (plane_in g.value) ≡ (s.bits (plane_in held.value) || s.bits present)
 
+-- which cell is to be held next, as it is
+pub record IsNextCell (code : Code) (places : List Place) (a : ℕ) (held g : Holding) : Type 0 where
+  pub plain : IsPlain g.value
+  pub is_for :
+      kind_of (holding_of places a) ≡ kind_of held →
+      IsFor code (kind_of (holding_of places a))
+      (λ s. if present_at s places a then scalar_at s (holding_of places a) else scalar_at s held)
+      g
+
 -- what the memory of an operation is to hold next, where a holding shows what it holds now
 abbrev pub IsNextOf : Code → List Place → Holding → Operation → Holding → Type 0
 IsNextOf code places held (FirstThen started a b) g =
     IsNextFlag code held (get_or places a no_place).present.0 g
-IsNextOf code places held (Previous v a) g =
-    kind_of (holding_of places a) ≡ kind_of held →
-    IsFor code (kind_of (holding_of places a))
-    (λ s. if present_at s places a then scalar_at s (holding_of places a) else scalar_at s held) g
-IsNextOf code places held (Latest v a) g =
-    kind_of (holding_of places a) ≡ kind_of held →
-    IsFor code (kind_of (holding_of places a))
-    (λ s. if present_at s places a then scalar_at s (holding_of places a) else scalar_at s held) g
+IsNextOf code places held (Previous v a) g = IsNextCell code places a held g
+IsNextOf code places held (Latest v a) g = IsNextCell code places a held g
 IsNextOf code places held o g = Unit {0}
 
 -- all memories of a program, whose places stand from a plane and a word on, where holdings show

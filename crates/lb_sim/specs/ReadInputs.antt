@@ -15,7 +15,7 @@ use Rattle.lb_flat.specs.declared.equation.ClockId.{ClockId}
 use Rattle.lb_flat.specs.declared.equation.Equation.{Equation}
 use Rattle.lb_flat.specs.declared.program.FlatProgram as declared
 use Rattle.lb_sim.specs.declared.place.Value.{Value}
-use Rattle.lb_sim.specs.declared.place.Value.TheVariants.{Truth, Number}
+use Rattle.lb_sim.specs.declared.place.Value.TheVariants.{Truth, Negated, Number}
 
 -- ## Elements that are read
 
@@ -66,6 +66,7 @@ pub record MarksReads (p : declared.FlatProgram) (marks : List Bool) : Type 0 wh
 -- and Booleans all or none
 abbrev pub IsLoadedAt : List ℕ → Bool → Value → Type 0
 IsLoadedAt numbers truths (Truth p) = truths ≡ true
+IsLoadedAt numbers truths (Negated p) = truths ≡ true
 IsLoadedAt numbers truths (Number w) =
     (k : ℕ) × (k < length numbers) × (get_or numbers k 0 + 1 ≡ w.0)
 
@@ -77,6 +78,7 @@ LoadsStill old new old_truths new_truths =
 -- an input stands at a plane, or at a word that is not the first
 abbrev pub IsInputPlace : Value → Type 0
 IsInputPlace (Truth p) = Unit {0}
+IsInputPlace (Negated p) = Unit {0}
 IsInputPlace (Number w) = 0 < w.0
 
 -- where the element of an input is read, the input is loaded

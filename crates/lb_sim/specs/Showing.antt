@@ -1,20 +1,21 @@
 -- What a lane shows at a place, and the row of cells that it shows at all of them.
 -- Source: this project's rule. No lane occurs beside it.
-use Rattle.std.specs.Prelude.{Bool, true, false, List, map}
+use Rattle.std.specs.Prelude.{Bool, true, false, not, List, map}
 use Rattle.lb_syntax.specs.declared.tree.Kind.{Kind}
 use Rattle.lb_syntax.specs.declared.tree.Kind.TheVariants.{Int as Int_kind, Bool as Bool_kind}
 use Rattle.lb_syntax.specs.declared.tree.BinaryOperator.{BinaryOperator}
 use Rattle.lb_syntax.specs.declared.tree.BinaryOperator.TheVariants.{Plus, Minus, Times, Divide}
 use Rattle.lb_syntax.specs.declared.tree.BinaryOperator.TheVariants.{Modulo}
-use Rattle.lb_check.specs.Scalars.{Scalar, Integer, Boolean, Nil, Bad, Cell}
+use Rattle.lb_check.specs.Scalars.{Scalar, Integer, Boolean, Nil, Bad, Cell, same}
 use Rattle.lb_check.specs.Streams.{held}
 use Rattle.lb_lanes.specs.declared.int_operator.IntOperator.{IntOperator}
 use Rattle.lb_lanes.specs.declared.int_operator.IntOperator.TheVariants.{Add, Sub, Mul, Div, Rem}
 use Rattle.lb_machine.specs.Meaning.{Lane}
 use Rattle.lb_sim.specs.declared.place.Value.{Value}
-use Rattle.lb_sim.specs.declared.place.Value.TheVariants.{Truth, Number}
+use Rattle.lb_sim.specs.declared.place.Value.TheVariants.{Truth, Negated, Number}
 use Rattle.lb_sim.specs.declared.place.Holding.{Holding}
 use Rattle.lb_sim.specs.declared.place.Place.{Place}
+use Rattle.lb_sim.specs.declared.signed.Signed.{Signed}
 
 -- the value of a fault, or nil, or this
 abbrev pub shown : (bad nil : Bool) → Scalar → Scalar
@@ -25,7 +26,12 @@ shown false false v = v
 -- the value in a lane
 abbrev pub value_at : Lane → Value → Scalar
 value_at s (Truth p) = Boolean (s.bits p.0)
+value_at s (Negated p) = Boolean (not (s.bits p.0))
 value_at s (Number w) = Integer (s.ints w.0)
+
+-- the truth in a lane
+abbrev pub truth_at : Lane → Signed → Bool
+truth_at s x = same x.sign (s.bits x.plane.0)
 
 -- the scalar that is held in a lane
 abbrev pub scalar_at : Lane → Holding → Scalar
@@ -42,7 +48,13 @@ row_at s places = map (cell_at s) places
 -- the kind of a value
 abbrev pub value_kind : Value → Kind
 value_kind (Truth p) = Bool_kind
+value_kind (Negated p) = Bool_kind
 value_kind (Number w) = Int_kind
+
+-- a value is no negation
+abbrev pub IsPlain : Value → Type 0
+IsPlain (Negated p) = ⊥
+IsPlain v = Unit {0}
 
 abbrev pub kind_of : Holding → Kind
 kind_of h = value_kind h.value

@@ -53,9 +53,9 @@ fn of_kind(h: Holding, kind: Kind) -> Holding
     ensures within { (code : Code) → IsIn code h → IsIn code result }
 {
     match (h.value, kind) {
-        (Value::Truth(_), Kind::Bool) => h,
+        (Value::Truth(_) | Value::Negated(_), Kind::Bool) => h,
         (Value::Number(_), Kind::Int) => h,
-        (Value::Truth(_), Kind::Int) => nothing(kind),
+        (Value::Truth(_) | Value::Negated(_), Kind::Int) => nothing(kind),
         (Value::Number(_), Kind::Bool) => nothing(kind),
     }
 }
@@ -83,9 +83,9 @@ fn first_then(code: &mut Code, kept: Holding, a: Holding, b: Holding) -> Result<
     requires kept { IsIn code.old kept }
     requires left { IsIn code.old a }
     requires right { IsIn code.old b }
-    requires room { HasRoom code.old 3 }
+    requires room { HasRoom code.old 4 }
     ensures grown { OnOk result (IsGrown code.old code.new) }
-    ensures few { OnOk result (AddsAtMost code.old code.new 3) }
+    ensures few { OnOk result (AddsAtMost code.old code.new 4) }
     ensures within { IfOk result (IsIn code.new) }
     ensures holding { IfOk result (λ h. IsFlagHolding kept → kind_of b ≡ kind_of a →
         IsFor code.new (kind_of b)
@@ -114,9 +114,9 @@ fn emit_any(
     requires inputs { All (IsValueIn code.old) inputs.now }
     requires constant { IsIn code.old constant }
     requires kept { IsIn code.old kept }
-    requires room { HasRoom code.old 9 }
+    requires room { HasRoom code.old 10 }
     ensures grown { OnOk result (IsGrown code.old code.new) }
-    ensures few { OnOk result (AddsAtMost code.old code.new 9) }
+    ensures few { OnOk result (AddsAtMost code.old code.new 10) }
     ensures within { IfOk result (IsIn code.new) }
     ensures emitted { IfOk result (λ h. (kind : Kind) →
         IsEmitted code.new places.now inputs.now constant kept (operation_of operation) kind h) }
@@ -167,9 +167,9 @@ pub(crate) fn emit(
     requires inputs { All (IsValueIn code.old) inputs.now }
     requires constant { IsIn code.old constant }
     requires kept { IsIn code.old kept }
-    requires room { HasRoom code.old 9 }
+    requires room { HasRoom code.old 10 }
     ensures grown { OnOk result (IsGrown code.old code.new) }
-    ensures few { OnOk result (AddsAtMost code.old code.new 9) }
+    ensures few { OnOk result (AddsAtMost code.old code.new 10) }
     ensures within { IfOk result (IsIn code.new) }
     ensures kind { IfOk result (λ h. kind_of h ≡ kind) }
     ensures emitted { IfOk result

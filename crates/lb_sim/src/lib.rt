@@ -31,6 +31,7 @@ mod program;
 mod read_inputs;
 mod room;
 mod running;
+mod signed;
 mod sources;
 mod steady;
 mod truths;

@@ -5,24 +5,26 @@ ghost use Rattle.lb_syntax.specs.declared.tree.Kind.{Kind};
 ghost use Rattle.lb_check.specs.Scalars.{one_scalar, two_integers, two_scalars};
 ghost use Rattle.lb_flat.specs.Fitting.{binary_kind, integers_kind, unary_kind};
 ghost use Rattle.lb_machine.specs.Correct.{AddsAtMost, HasRoom, IsGrown};
-ghost use Rattle.lb_sim.specs.Holdings.{IsFor, IsIn};
+ghost use Rattle.lb_sim.specs.Holdings.{IsFor, IsIn, IsTruth};
 ghost use Rattle.lb_sim.specs.Showing.{kind_of, scalar_at, shown};
-ghost use Rattle.lb_sim.specs.declared.place.Value.TheVariants.{Truth};
 
 use crate::numbers::{arithmetic, negated};
 use crate::place::{Holding, Value};
-use crate::truths::{compared, not_plane, two_truths};
+use crate::signed::{Signed, truth_of};
+use crate::truths::{compared, two_truths};
 use lb_lanes::IntOperator;
 use lb_machine::{Code, PlaneId, PlaneOperator, WordId};
 use lb_syntax::{BinaryOperator, UnaryOperator};
 use std::alloc::AllocError;
 
 // A truth value that is nil and a fault where its operands are.
-fn truth(value: PlaneId, nil: PlaneId, bad: PlaneId) -> Holding
-    ensures { result ≡ record { value = Truth value; nil = nil; bad = bad } }
+fn truth(x: Signed, nil: PlaneId, bad: PlaneId) -> Holding
+    ensures value { IsTruth result.value x }
+    ensures nil { result.nil ≡ nil }
+    ensures bad { result.bad ≡ bad }
 {
     Holding {
-        value: Value::Truth(value),
+        value: x.value(),
         nil,
         bad,
     }
@@ -90,15 +92,15 @@ pub(crate) fn two_holdings(
         IsFor code.new kind (λ s. two_scalars op (scalar_at s a) (scalar_at s b)) h) }
 {
     let nil = code.combine(PlaneOperator::Or, a.nil, b.nil)?;
-    match (a.value, b.value) {
-        (Value::Truth(x), Value::Truth(y)) => {
-            let bad = code.combine(PlaneOperator::Or, a.bad, b.bad)?;
-            let value = two_truths(code, op, x, y)?;
-            Ok(truth(value, nil, bad))
-        }
-        (Value::Number(x), Value::Number(y)) => { Ok(integers(code, op, x, y, nil, a.bad, b.bad)?) }
-        _ => Ok(a),
+    if let (Value::Number(x), Value::Number(y)) = (a.value, b.value) {
+        return Ok(integers(code, op, x, y, nil, a.bad, b.bad)?);
     }
+    let (Some(x), Some(y)) = (truth_of(a.value), truth_of(b.value)) else {
+        return Ok(a);
+    };
+    let bad = code.combine(PlaneOperator::Or, a.bad, b.bad)?;
+    let value = two_truths(code, op, x, y)?;
+    Ok(truth(value, nil, bad))
 }
 
 /// An operator with one operand, of a kind that it takes.
@@ -117,10 +119,16 @@ pub(crate) fn one_holding(
         IsFor code.new kind (λ s. one_scalar op (scalar_at s a)) h) }
 {
     match (op, a.value) {
-        (UnaryOperator::Not, Value::Truth(x)) => {
-            let value = not_plane(code, x)?;
-            Ok(truth(value, a.nil, a.bad))
-        }
+        (UnaryOperator::Not, Value::Truth(x)) => Ok(Holding {
+            value: Value::Negated(x),
+            nil: a.nil,
+            bad: a.bad,
+        }),
+        (UnaryOperator::Not, Value::Negated(x)) => Ok(Holding {
+            value: Value::Truth(x),
+            nil: a.nil,
+            bad: a.bad,
+        }),
         (UnaryOperator::Negate, Value::Number(x)) => { Ok(negated(code, x, a.nil, a.bad)?) }
         _ => Ok(a),
     }

@@ -1,19 +1,74 @@
 //! Choices between what places hold, and the planes of clocks.
 
 ghost use Rattle.std.specs.Prelude.{◌≡◌, ◌<◌, ◌&&◌, false, IfOk, OnOk, if◌then◌else◌};
-ghost use Rattle.lb_check.specs.Scalars.{chosen};
+ghost use Rattle.lb_check.specs.Scalars.{chosen, same};
 ghost use Rattle.lb_check.specs.Streams.{shows};
 ghost use Rattle.lb_machine.specs.Correct.{AddsAtMost, HasRoom, IsGrown, IsPlaneFor};
 ghost use Rattle.lb_machine.specs.Listed.{listed};
 ghost use Rattle.lb_machine.specs.Meaning.{Lane, HasRun};
 ghost use Rattle.lb_machine.specs.declared.code.Code.{Code};
-ghost use Rattle.lb_sim.specs.Holdings.{IsFor, IsIn, IsPlaceIn, IsValueFor, IsValueIn};
-ghost use Rattle.lb_sim.specs.Showing.{cell_at, kind_of, scalar_at, value_at, value_kind};
+ghost use Rattle.lb_sim.specs.Holdings.{IsFor, IsIn, IsPlaceIn, IsTruthFor, IsValueFor, IsValueIn};
+ghost use Rattle.lb_sim.specs.Showing.{cell_at, kind_of, scalar_at, truth_at, value_at, value_kind};
 
 use crate::place::{Holding, Place, Value};
+use crate::signed::{Signed, truth_of};
 use crate::truths::not_plane;
-use lb_machine::{Code, NOWHERE, PlaneId, PlaneOperator};
+use lb_machine::{Code, EVERYWHERE, NOWHERE, PlaneId, PlaneOperator};
 use std::alloc::AllocError;
+
+// Whether a plane is the same in each lane.
+fn is_constant(p: PlaneId) -> bool {
+    p.0 == NOWHERE.0 || p.0 == EVERYWHERE.0
+}
+
+// The one of two truths of one sign that a mask chooses.
+#[tactic(auto, using(crate::proofs::Growth::grown_then, crate::proofs::Growth::grown_none))]
+fn pick_same(
+    code: &mut Code,
+    mask: PlaneId,
+    x: PlaneId,
+    y: PlaneId,
+    sign: bool,
+) -> Result<Signed, AllocError>
+    requires mask { mask.0 < code.old.planes }
+    requires left { x.0 < code.old.planes }
+    requires right { y.0 < code.old.planes }
+    requires room { HasRoom code.old 1 }
+    ensures grown { OnOk result (IsGrown code.old code.new) }
+    ensures few { OnOk result (AddsAtMost code.old code.new 1) }
+    ensures truth { IfOk result (IsTruthFor code.new
+        (λ s. if s.bits mask.0 then same sign (s.bits x.0) else same sign (s.bits y.0))) }
+{
+    let plane = code.select(mask, x, y)?;
+    Ok(Signed { plane, sign })
+}
+
+// The one of two truths that a mask chooses. Of two signs one is turned: that of a constant, which
+// takes no instruction, and else that of the negation.
+#[tactic(auto, using(crate::proofs::Growth::grown_then, crate::proofs::Growth::grown_none))]
+fn pick_truth(code: &mut Code, mask: PlaneId, x: Signed, y: Signed) -> Result<Signed, AllocError>
+    requires mask { mask.0 < code.old.planes }
+    requires left { x.plane.0 < code.old.planes }
+    requires right { y.plane.0 < code.old.planes }
+    requires room { HasRoom code.old 2 }
+    ensures grown { OnOk result (IsGrown code.old code.new) }
+    ensures few { OnOk result (AddsAtMost code.old code.new 2) }
+    ensures truth { IfOk result (IsTruthFor code.new
+        (λ s. if s.bits mask.0 then truth_at s x else truth_at s y)) }
+{
+    if mask.0 == EVERYWHERE.0 {
+        return Ok(x);
+    }
+    if x.sign == y.sign {
+        return pick_same(code, mask, x.plane, y.plane, x.sign);
+    }
+    if is_constant(x.plane) || (!x.sign && !is_constant(y.plane)) {
+        let other = not_plane(code, x.plane)?;
+        return pick_same(code, mask, other, y.plane, y.sign);
+    }
+    let other = not_plane(code, y.plane)?;
+    pick_same(code, mask, x.plane, other, x.sign)
+}
 
 // The one of two values of a kind that a mask chooses.
 #[tactic(auto, using(crate::proofs::Growth::grown_then, crate::proofs::Growth::grown_none))]
@@ -21,19 +76,22 @@ fn pick_value(code: &mut Code, mask: PlaneId, a: Value, b: Value) -> Result<Valu
     requires mask { mask.0 < code.old.planes }
     requires left { IsValueIn code.old a }
     requires right { IsValueIn code.old b }
-    requires room { HasRoom code.old 1 }
+    requires room { HasRoom code.old 2 }
     ensures grown { OnOk result (IsGrown code.old code.new) }
-    ensures few { OnOk result (AddsAtMost code.old code.new 1) }
+    ensures few { OnOk result (AddsAtMost code.old code.new 2) }
     ensures within { IfOk result (IsValueIn code.new) }
     ensures value { IfOk result (λ v. value_kind a ≡ value_kind b →
         IsValueFor code.new (value_kind a)
         (λ s. if s.bits mask.0 then value_at s a else value_at s b) v) }
 {
-    match (a, b) {
-        (Value::Truth(x), Value::Truth(y)) => Ok(Value::Truth(code.select(mask, x, y)?)),
-        (Value::Number(x), Value::Number(y)) => Ok(Value::Number(code.blend(mask, x, y)?)),
-        _ => Ok(a),
+    if let (Value::Number(x), Value::Number(y)) = (a, b) {
+        return Ok(Value::Number(code.blend(mask, x, y)?));
     }
+    let (Some(x), Some(y)) = (truth_of(a), truth_of(b)) else {
+        return Ok(a);
+    };
+    let picked = pick_truth(code, mask, x, y)?;
+    Ok(picked.value())
 }
 
 /// The one of two of a kind that a mask chooses.
@@ -47,9 +105,9 @@ pub(crate) fn pick(
     requires mask { mask.0 < code.old.planes }
     requires left { IsIn code.old a }
     requires right { IsIn code.old b }
-    requires room { HasRoom code.old 3 }
+    requires room { HasRoom code.old 4 }
     ensures grown { OnOk result (IsGrown code.old code.new) }
-    ensures few { OnOk result (AddsAtMost code.old code.new 3) }
+    ensures few { OnOk result (AddsAtMost code.old code.new 4) }
     ensures within { IfOk result (IsIn code.new) }
     ensures holding { IfOk result (λ h. kind_of a ≡ kind_of b →
         IsFor code.new (kind_of a)
@@ -59,6 +117,26 @@ pub(crate) fn pick(
     let nil = code.select(mask, a.nil, b.nil)?;
     let bad = code.select(mask, a.bad, b.bad)?;
     Ok(Holding { value, nil, bad })
+}
+
+// The one of two of a kind that a truth chooses.
+fn pick_by(code: &mut Code, mask: Signed, a: Holding, b: Holding) -> Result<Holding, AllocError>
+    requires mask { mask.plane.0 < code.old.planes }
+    requires left { IsIn code.old a }
+    requires right { IsIn code.old b }
+    requires room { HasRoom code.old 4 }
+    ensures grown { OnOk result (IsGrown code.old code.new) }
+    ensures few { OnOk result (AddsAtMost code.old code.new 4) }
+    ensures within { IfOk result (IsIn code.new) }
+    ensures holding { IfOk result (λ h. kind_of a ≡ kind_of b →
+        IsFor code.new (kind_of a)
+        (λ s. if truth_at s mask then scalar_at s a else scalar_at s b) h) }
+{
+    if mask.sign {
+        pick(code, mask.plane, a, b)
+    } else {
+        pick(code, mask.plane, b, a)
+    }
 }
 
 // A holding without the faults of another plane, where they are within those.
@@ -89,15 +167,15 @@ fn choose_any(
     requires condition { IsIn code.old condition }
     requires left { IsIn code.old a }
     requires right { IsIn code.old b }
-    requires room { HasRoom code.old 9 }
+    requires room { HasRoom code.old 10 }
     ensures grown { OnOk result (IsGrown code.old code.new) }
-    ensures few { OnOk result (AddsAtMost code.old code.new 9) }
+    ensures few { OnOk result (AddsAtMost code.old code.new 10) }
     ensures within { IfOk result (IsIn code.new) }
     ensures holding { IfOk result (λ h. kind_of a ≡ kind_of b →
         IsFor code.new (kind_of a)
         (λ s. chosen (scalar_at s condition) (scalar_at s a) (scalar_at s b)) h) }
 {
-    let Value::Truth(mask) = condition.value else {
+    let Some(mask) = truth_of(condition.value) else {
         let lost = not_plane(code, condition.nil)?;
         let bad = code.combine(PlaneOperator::Or, condition.bad, lost)?;
         return Ok(Holding {
@@ -106,7 +184,7 @@ fn choose_any(
             bad,
         });
     };
-    let picked = pick(code, mask, a, b)?;
+    let picked = pick_by(code, mask, a, b)?;
     let nil = code.combine(PlaneOperator::Or, condition.nil, picked.nil)?;
     let counts = code.combine(PlaneOperator::AndNot, picked.bad, condition.nil)?;
     let bad = code.combine(PlaneOperator::Or, condition.bad, counts)?;
@@ -128,9 +206,9 @@ pub(crate) fn choose(
     requires condition { IsIn code.old condition }
     requires left { IsIn code.old a }
     requires right { IsIn code.old b }
-    requires room { HasRoom code.old 9 }
+    requires room { HasRoom code.old 10 }
     ensures grown { OnOk result (IsGrown code.old code.new) }
-    ensures few { OnOk result (AddsAtMost code.old code.new 9) }
+    ensures few { OnOk result (AddsAtMost code.old code.new 10) }
     ensures within { IfOk result (IsIn code.new) }
     ensures holding { IfOk result (λ h. kind_of a ≡ kind_of b →
         IsFor code.new (kind_of a)
@@ -158,14 +236,15 @@ pub(crate) fn sign_plane(
     ensures plane { IfOk result (IsPlaneFor code.new
         (λ s. s.bits above.0 && shows sign (cell_at s place))) }
 {
-    let Value::Truth(value) = place.holding.value else {
-        let nowhere = code.combine(PlaneOperator::And, above, NOWHERE)?;
-        return Ok(nowhere);
+    let Some(value) = truth_of(place.holding.value) else {
+        return Ok(NOWHERE);
     };
-    let signed = if sign { value } else { not_plane(code, value)? };
-    let known = code.combine(PlaneOperator::AndNot, signed, place.holding.nil)?;
+    let there = code.combine(PlaneOperator::And, above, place.present)?;
+    let known = code.combine(PlaneOperator::AndNot, there, place.holding.nil)?;
     let sound = code.combine(PlaneOperator::AndNot, known, place.holding.bad)?;
-    let there = code.combine(PlaneOperator::And, place.present, sound)?;
-    let within = code.combine(PlaneOperator::And, above, there)?;
-    Ok(within)
+    if sign == value.sign {
+        code.combine(PlaneOperator::And, sound, value.plane)
+    } else {
+        code.combine(PlaneOperator::AndNot, sound, value.plane)
+    }
 }

@@ -6,6 +6,8 @@ use lb_machine::{PlaneId, WordId};
 #[derive(Clone, Copy)]
 pub enum Value {
     Truth(PlaneId),
+    /// A truth that holds where the plane is false.
+    Negated(PlaneId),
     Number(WordId),
 }
 

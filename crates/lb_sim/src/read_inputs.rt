@@ -114,7 +114,7 @@ fn load_too(found: &mut ReadInputs, place: Value) -> Result<(), AllocError>
         → All (λ w. w < words) found.new.numbers.items) }
 {
     match place {
-        Value::Truth(_) => found.truths = true,
+        Value::Truth(_) | Value::Negated(_) => found.truths = true,
         Value::Number(w) => found.numbers.push(w.0 as usize - 1)?,
     }
     Ok(())

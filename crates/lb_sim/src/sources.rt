@@ -1,24 +1,26 @@
 //! What memories take over after an instant.
 
 ghost use Rattle.std.specs.Prelude.{◌≡◌, ℕ, ◌≤◌, ◌<◌, ◌+◌, ◌*◌, length, All, IfOk, OnOk};
+ghost use Rattle.std.specs.Prelude.{if◌then◌else◌};
 ghost use Rattle.lb_flat.specs.Programs.{program_of, IsInRange};
 ghost use Rattle.lb_flat.specs.FurtherKinds.{kind_among};
 ghost use Rattle.lb_flat.specs.Run.{keeps, reads};
 ghost use Rattle.lb_flat.specs.Values.{operation_of};
 ghost use Rattle.lb_machine.specs.Correct.{AddsAtMost, HasRoom, IsGrown};
-ghost use Rattle.lb_sim.specs.Holdings.{IsIn, IsPlaceIn};
+ghost use Rattle.lb_sim.specs.Holdings.{IsFor, IsIn, IsPlaceIn};
 ghost use Rattle.lb_sim.specs.Homes.{plane_in, word_in};
 ghost use Rattle.lb_sim.specs.Passing.{AreCopies, AreSources, AreTaken, IsNextOf, IsPlaneSource};
 ghost use Rattle.lb_sim.specs.Passing.{IsTaken};
 ghost use Rattle.lb_sim.specs.Passing.{IsNextFlag, IsWordSource};
 ghost use Rattle.lb_sim.specs.Presets.{AreMemories};
-ghost use Rattle.lb_sim.specs.Showing.{kind_of};
+ghost use Rattle.lb_sim.specs.Showing.{kind_of, scalar_at, IsPlain};
 ghost use Rattle.lb_sim.specs.States.{holding_of};
 ghost use Rattle.lb_sim.specs.Steady.{AreHeldFor};
 
 use crate::allotted::Allotted;
 use crate::picks::pick;
 use crate::place::{Holding, Place, Value};
+use crate::truths::not_plane;
 use lb_flat::{FlatProgram, Operation};
 use lb_machine::{Code, EVERYWHERE, NOWHERE, PlaneId, PlaneOperator, WordId, ZERO};
 use std::alloc::{AllocError, Global};
@@ -28,7 +30,7 @@ fn plane_of(v: Value) -> PlaneId
     ensures { result.0 ≡ plane_in v }
 {
     match v {
-        Value::Truth(p) => p,
+        Value::Truth(p) | Value::Negated(p) => p,
         Value::Number(_) => NOWHERE,
     }
 }
@@ -38,7 +40,7 @@ fn word_of(v: Value) -> WordId
     ensures { result.0 ≡ word_in v }
 {
     match v {
-        Value::Truth(_) => ZERO,
+        Value::Truth(_) | Value::Negated(_) => ZERO,
         Value::Number(w) => w,
     }
 }
@@ -203,6 +205,46 @@ fn next_flag(code: &mut Code, held: Holding, present: PlaneId) -> Result<Holding
     })
 }
 
+// A holding, by a plane that holds its truth where it is a negation.
+#[tactic(auto, using(crate::proofs::Growth::grown_then, crate::proofs::Growth::grown_none))]
+fn plain(code: &mut Code, h: Holding) -> Result<Holding, AllocError>
+    requires holding { IsIn code.old h }
+    requires room { HasRoom code.old 1 }
+    ensures grown { OnOk result (IsGrown code.old code.new) }
+    ensures few { OnOk result (AddsAtMost code.old code.new 1) }
+    ensures within { IfOk result (IsIn code.new) }
+    ensures plain { IfOk result (λ g. IsPlain g.value) }
+    ensures same { IfOk result (IsFor code.new (kind_of h) (λ s. scalar_at s h)) }
+{
+    let Value::Negated(p) = h.value else {
+        return Ok(h);
+    };
+    let plane = not_plane(code, p)?;
+    Ok(Holding {
+        value: Value::Truth(plane),
+        nil: h.nil,
+        bad: h.bad,
+    })
+}
+
+// What a place shows where it is present, and elsewhere what is held.
+#[tactic(auto, using(crate::proofs::Growth::grown_then, crate::proofs::Growth::grown_none))]
+fn next_cell(code: &mut Code, place: Place, held: Holding) -> Result<Holding, AllocError>
+    requires place { IsPlaceIn code.old place }
+    requires held { IsIn code.old held }
+    requires room { HasRoom code.old 5 }
+    ensures grown { OnOk result (IsGrown code.old code.new) }
+    ensures few { OnOk result (AddsAtMost code.old code.new 5) }
+    ensures within { IfOk result (IsIn code.new) }
+    ensures plain { IfOk result (λ g. IsPlain g.value) }
+    ensures next { IfOk result (λ g. kind_of place.holding ≡ kind_of held →
+        IsFor code.new (kind_of place.holding)
+        (λ s. if s.bits place.present.0 then scalar_at s place.holding else scalar_at s held) g) }
+{
+    let picked = pick(code, place.present, place.holding, held)?;
+    plain(code, picked)
+}
+
 // What a memory holds after the instant, where this shows what it holds now.
 #[tactic(auto, using(crate::proofs::Growth::grown_then, crate::proofs::Growth::grown_none))]
 fn next_holding(
@@ -215,9 +257,9 @@ fn next_holding(
     requires held { IsIn code.old held }
     requires reads { All (λ i. i < length places.now) (reads (operation_of operation.now)) }
     requires keeps { All (λ i. i < length places.now) (keeps (operation_of operation.now)) }
-    requires room { HasRoom code.old 3 }
+    requires room { HasRoom code.old 5 }
     ensures grown { OnOk result (IsGrown code.old code.new) }
-    ensures few { OnOk result (AddsAtMost code.old code.new 3) }
+    ensures few { OnOk result (AddsAtMost code.old code.new 5) }
     ensures within { IfOk result (IsIn code.new) }
     ensures next { IfOk result (IsNextOf code.new places.now held
         (operation_of operation.now)) }
@@ -229,13 +271,11 @@ fn next_holding(
         }
         Operation::Previous(_, a) => {
             let place = places[a.0 as usize];
-            let next = pick(code, place.present, place.holding, held)?;
-            Ok(next)
+            next_cell(code, place, held)
         }
         Operation::Latest(_, a) => {
             let place = places[a.0 as usize];
-            let next = pick(code, place.present, place.holding, held)?;
-            Ok(next)
+            next_cell(code, place, held)
         }
         _ => Ok(held),
     }
@@ -272,10 +312,10 @@ pub(crate) fn all_sources(
     requires held { All (IsIn code.old) held.now }
     requires held_for { AreHeldFor allotted.now.kept.items held.now
         (program_of program.now).equations }
-    requires room { HasRoom code.old (8 * length program.now.equations.items + 2) }
+    requires room { HasRoom code.old (9 * length program.now.equations.items + 2) }
     ensures grown { OnOk result (IsGrown code.old code.new) }
     ensures few { OnOk result (AddsAtMost code.old code.new
-        (8 * length program.now.equations.items + 2)) }
+        (9 * length program.now.equations.items + 2)) }
     ensures sources { IfOk result (λ r. AreSources (program_of program.now) code.new places.now
         allotted.now.kept.items held.now allotted.now.memory_plane allotted.now.memory_word
         r.planes.items r.words.items) }

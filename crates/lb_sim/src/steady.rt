@@ -31,7 +31,7 @@ fn truth_plane(v: Value) -> PlaneId
     ensures { result.0 ≡ plane_in v }
 {
     match v {
-        Value::Truth(p) => p,
+        Value::Truth(p) | Value::Negated(p) => p,
         Value::Number(_) => NOWHERE,
     }
 }

@@ -7,20 +7,22 @@ ghost use Rattle.lb_flat.specs.Fitting.{integers_kind, truths_kind};
 ghost use Rattle.lb_machine.specs.Correct.{AddsAtMost, HasRoom, IsGrown, IsPlaneFor};
 ghost use Rattle.lb_machine.specs.Listed.{listed};
 ghost use Rattle.lb_machine.specs.Meaning.{Lane, HasRun};
+ghost use Rattle.lb_sim.specs.Showing.{truth_at};
 
-use lb_machine::{Code, Comparison, EVERYWHERE, NOWHERE, PlaneId, PlaneOperator, WordId};
+use crate::signed::{Signed, both, differing};
+use lb_machine::{Code, Comparison, EVERYWHERE, NOWHERE, PlaneId, WordId};
 use lb_syntax::BinaryOperator;
 use std::alloc::AllocError;
 
 /// A plane that is true where another is not.
 pub(crate) fn not_plane(code: &mut Code, a: PlaneId) -> Result<PlaneId, AllocError>
     requires plane { a.0 < code.old.planes }
-    requires room { HasRoom code.old 2 }
+    requires room { HasRoom code.old 1 }
     ensures grown { OnOk result (IsGrown code.old code.new) }
-    ensures few { OnOk result (AddsAtMost code.old code.new 2) }
+    ensures few { OnOk result (AddsAtMost code.old code.new 1) }
     ensures plane { IfOk result (IsPlaneFor code.new (λ s. not (s.bits a.0))) }
 {
-    let negation = code.combine(PlaneOperator::AndNot, EVERYWHERE, a)?;
+    let negation = code.select(a, NOWHERE, EVERYWHERE)?;
     Ok(negation)
 }
 
@@ -29,36 +31,35 @@ pub(crate) fn not_plane(code: &mut Code, a: PlaneId) -> Result<PlaneId, AllocErr
 pub(crate) fn two_truths(
     code: &mut Code,
     op: BinaryOperator,
-    a: PlaneId,
-    b: PlaneId,
-) -> Result<PlaneId, AllocError>
-    requires left { a.0 < code.old.planes }
-    requires right { b.0 < code.old.planes }
-    requires room { HasRoom code.old 4 }
+    a: Signed,
+    b: Signed,
+) -> Result<Signed, AllocError>
+    requires left { a.plane.0 < code.old.planes }
+    requires right { b.plane.0 < code.old.planes }
+    requires room { HasRoom code.old 2 }
     ensures grown { OnOk result (IsGrown code.old code.new) }
-    ensures few { OnOk result (AddsAtMost code.old code.new 4) }
-    ensures within { IfOk result (λ p. p.0 < code.new.planes) }
-    ensures means { IfOk result (λ p. truths_kind op ≡ Some Bool_kind →
+    ensures few { OnOk result (AddsAtMost code.old code.new 2) }
+    ensures within { IfOk result (λ x. x.plane.0 < code.new.planes) }
+    ensures means { IfOk result (λ x. truths_kind op ≡ Some Bool_kind →
         (s : Lane) → HasRun (listed code.new.instructions) s →
-        Boolean (s.bits p.0) ≡ two_booleans op (s.bits a.0) (s.bits b.0)) }
+        Boolean (truth_at s x) ≡ two_booleans op (truth_at s a) (truth_at s b)) }
 {
     match op {
-        BinaryOperator::Or => Ok(code.combine(PlaneOperator::Or, a, b)?),
-        BinaryOperator::And => Ok(code.combine(PlaneOperator::And, a, b)?),
-        BinaryOperator::Xor | BinaryOperator::Unequal => Ok(code.combine(
-            PlaneOperator::Xor,
-            a,
-            b,
-        )?),
+        BinaryOperator::Or => {
+            let neither = both(code, a.negation(), b.negation())?;
+            Ok(neither.negation())
+        }
+        BinaryOperator::And => both(code, a, b),
+        BinaryOperator::Xor | BinaryOperator::Unequal => differing(code, a, b),
         BinaryOperator::Implies => {
-            let broken = code.combine(PlaneOperator::AndNot, a, b)?;
-            Ok(not_plane(code, broken)?)
+            let broken = both(code, a, b.negation())?;
+            Ok(broken.negation())
         }
         BinaryOperator::Equal => {
-            let differs = code.combine(PlaneOperator::Xor, a, b)?;
-            Ok(not_plane(code, differs)?)
+            let differs = differing(code, a, b)?;
+            Ok(differs.negation())
         }
-        _ => Ok(NOWHERE),
+        _ => Ok(a),
     }
 }
 
@@ -69,27 +70,31 @@ pub(crate) fn compared(
     op: BinaryOperator,
     a: WordId,
     b: WordId,
-) -> Result<PlaneId, AllocError>
+) -> Result<Signed, AllocError>
     requires left { a.0 < code.old.words }
     requires right { b.0 < code.old.words }
-    requires room { HasRoom code.old 3 }
+    requires room { HasRoom code.old 1 }
     ensures grown { OnOk result (IsGrown code.old code.new) }
-    ensures few { OnOk result (AddsAtMost code.old code.new 3) }
-    ensures within { IfOk result (λ p. p.0 < code.new.planes) }
-    ensures means { IfOk result (λ p. integers_kind op ≡ Some Bool_kind →
+    ensures few { OnOk result (AddsAtMost code.old code.new 1) }
+    ensures within { IfOk result (λ x. x.plane.0 < code.new.planes) }
+    ensures means { IfOk result (λ x. integers_kind op ≡ Some Bool_kind →
         (s : Lane) → HasRun (listed code.new.instructions) s →
-        Boolean (s.bits p.0) ≡ two_integers op (s.ints a.0) (s.ints b.0)) }
+        Boolean (truth_at s x) ≡ two_integers op (s.ints a.0) (s.ints b.0)) }
 {
-    match op {
-        BinaryOperator::Equal => Ok(code.compare(Comparison::Equal, a, b)?),
+    let plane = match op {
+        BinaryOperator::Equal => code.compare(Comparison::Equal, a, b)?,
         BinaryOperator::Unequal => {
             let equal = code.compare(Comparison::Equal, a, b)?;
-            Ok(not_plane(code, equal)?)
+            return Ok(Signed {
+                plane: equal,
+                sign: false,
+            });
         }
-        BinaryOperator::Less => Ok(code.compare(Comparison::Below, a, b)?),
-        BinaryOperator::AtMost => Ok(code.compare(Comparison::AtMost, a, b)?),
-        BinaryOperator::Greater => Ok(code.compare(Comparison::Below, b, a)?),
-        BinaryOperator::AtLeast => Ok(code.compare(Comparison::AtMost, b, a)?),
-        _ => Ok(NOWHERE),
-    }
+        BinaryOperator::Less => code.compare(Comparison::Below, a, b)?,
+        BinaryOperator::AtMost => code.compare(Comparison::AtMost, a, b)?,
+        BinaryOperator::Greater => code.compare(Comparison::Below, b, a)?,
+        BinaryOperator::AtLeast => code.compare(Comparison::AtMost, b, a)?,
+        _ => NOWHERE,
+    };
+    Ok(Signed { plane, sign: true })
 }

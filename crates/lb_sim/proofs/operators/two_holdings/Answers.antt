@@ -2,16 +2,29 @@ use Rattle.std.proofs.Common.{ap₂, sym, ◌∙◌}
 use Rattle.lb_flat.specs.Fitting.{binary_kind}
 use Rattle.lb_sim.specs.Showing.{value_kind}
 use Rattle.lb_sim.proofs.IntegerHoldings.{integers_for}
+use Rattle.lb_sim.proofs.TruthHoldings.{truths_for}
 use Rattle.lb_sim.proofs.operators.two_holdings.Goals as goal
 
-pub returns-in_ok-integers-in-Number-Number-clause-holding :
-    goal.returns-in_ok-integers-in-Number-Number-clause-holding
-returns-in_ok-integers-in-Number-Number-clause-holding c kind fits =
+pub returns-in-Number-Number-clause-holding :
+    goal.returns-in-Number-Number-clause-holding
+returns-in-Number-Number-clause-holding c kind fits =
     let w = c.in-Number-Number in
-    let made = c.in_ok-integers-in-Number-Number in
+    let made = c.in_ok-integers in
     integers_for c.integers.new.code c.args.op kind c.args.a c.args.b w.x w.y c.in_ok-nil.nil
     made.field-0 w.is-0 w.is-1
     (λ s r. c.in_ok-nil.ensures.plane.means s (made.ensures.grown.runs s r))
     (made.ensures.holding kind
     (ap₂ (λ u v. binary_kind c.args.op (value_kind u) (value_kind v)) (sym w.is-0) (sym w.is-1)
     ∙ fits))
+
+pub returns-clause-holding : goal.returns-clause-holding
+returns-clause-holding c kind fits =
+    let w = c.in-Some-Some in
+    let bad = c.in_ok-bad in
+    let made = c.in_ok-value in
+    truths_for c.two_truths.new.code c.args.op kind c.args.a c.args.b w.x w.y made.value
+    c.in_ok-nil.nil bad.bad c.truth.result w.ensures.truth w.ensures'.truth c.truth.ensures.value
+    c.truth.ensures.nil c.truth.ensures.bad
+    (λ s r.
+    c.in_ok-nil.ensures.plane.means s (bad.ensures.grown.runs s (made.ensures.grown.runs s r)))
+    (λ s r. bad.ensures.plane.means s (made.ensures.grown.runs s r)) made.ensures.means fits

@@ -9,5 +9,5 @@ invariant-loop-i l = record {
   committing : IsCommitting (program_of l.program) l.places l.allotted.kept.items l.held
       l.allotted.memory_plane l.allotted.memory_word l.initial.code l.code l.planes.items
       l.words.items l.i;
-  few : AddsAtMost l.initial.code l.code (8 * l.i);
+  few : AddsAtMost l.initial.code l.code (9 * l.i);
 }
