@@ -1,11 +1,11 @@
 -- Division by a multiplication: a reciprocal of a divisor in whole numbers.
 use Rattle.std.specs.Prelude.{ℕ, ◌+◌, ◌*◌, ◌<◌, ◌≤◌, ◌^◌, Bool, true, false, ℤ, pos, negsuc}
 
--- (less + 1) / 2 ^ shift is 1 / d rounded up, so closely that it serves each number up to 2 ^ 31
-pub record IsReciprocal (d less shift : ℕ) : Type 0 where
+-- factor / 2 ^ shift is 1 / d rounded up, so closely that it serves each number up to 2 ^ 31
+pub record IsReciprocal (d factor shift : ℕ) : Type 0 where
   pub divisor : 0 < d
-  pub below : less * d < 2 ^ shift
-  pub reaches : 2 ^ shift ≤ (less + 1) * d
+  pub below : factor * d < 2 ^ shift + d
+  pub reaches : 2 ^ shift ≤ factor * d
   pub close : 2147483648 * d ≤ 2 ^ shift
   pub short : shift < 64
 

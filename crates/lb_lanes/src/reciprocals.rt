@@ -1,7 +1,8 @@
 //! Division of 32 bits by a multiplication and a shift, for a divisor that serves many lanes.
 //!
-//! A divisor d has a whole number that is 2 ^ s / d rounded up. It is at most 2 ^ 32, so that one
-//! less fits a word, and the products of it with numbers up to 2 ^ 31 have the quotients on top:
+//! A divisor d has a whole number that is 2 ^ s / d rounded up. Where d is no power of 2, that fits
+//! a word for so large a shift that the products of it with numbers up to 2 ^ 31 have the quotients
+//! on top:
 //!
 //! ```text
 //! d = 10    s = 35    2 ^ 35 / 10 = 3435973836.8    rounded up 3435973837
@@ -10,31 +11,33 @@
 //!
 //! That the quotient is right for each number and each divisor is proved, not tried.
 
-ghost use Rattle.std.specs.Prelude.{◌≡◌, ◌<◌, ◌≤◌, ◌/◌, ◌^◌, IsTrue, int_div, unsigned_abs};
+ghost use Rattle.std.specs.Prelude.{◌*◌, ◌≡◌, ◌<◌, ◌≤◌, ◌/◌, ◌^◌, IsTrue, int_div, unsigned_abs};
 ghost use Rattle.std.specs.Int.{cast_signed, w32};
 ghost use Rattle.lb_lanes.specs.Operators.{can_divide};
 ghost use Rattle.lb_lanes.specs.Planes.{differ};
 ghost use Rattle.lb_lanes.specs.Reciprocals.{IsReciprocal, is_below_zero};
 
-// The reciprocal of a divisor: one less than the multiplier, and the shift.
-pub(crate) fn reciprocal(d: u32) -> (u32, u32)
-    requires positive { 0 < d }
+// The reciprocal of a divisor between this power of 2 and the next: the multiplier, and the shift.
+pub(crate) fn reciprocal(d: u32, log: u32) -> (u32, u32)
+    requires above { 2 ^ log < d }
+    requires below { d < 2 * 2 ^ log }
     requires bound { d ≤ 2147483648 }
+    requires short { log < 32 }
     ensures { IsReciprocal d result.0 result.1 }
 {
-    let shift = 32 + d.ilog2();
-    let less = ((1u64 << shift) - 1) / u64::from(d);
-    (less as u32, shift)
+    let shift = 32 + log;
+    let factor = ((1u64 << shift) - 1) / u64::from(d) + 1;
+    (factor as u32, shift)
 }
 
 // A number up to 2 ^ 31, divided by the divisor of this reciprocal.
-fn size_divided(n: u32, d: u32, less: u32, shift: u32) -> u32
+fn size_divided(n: u32, d: u32, factor: u32, shift: u32) -> u32
     requires bound { n ≤ 2147483648 }
-    requires reciprocal { IsReciprocal d less shift }
+    requires reciprocal { IsReciprocal d factor shift }
     ensures { result ≡ n / d }
 {
     let _divisor = d;
-    ((u64::from(n) * u64::from(less) + u64::from(n)) >> shift) as u32
+    ((u64::from(n) * u64::from(factor)) >> shift) as u32
 }
 
 // Whether just one of the two integers is below 0.
@@ -74,15 +77,15 @@ pub(crate) fn word_shifted(x: u32, divisor: u32, shift: u32) -> u32
 }
 
 // The integer of the first word, divided by that of the second.
-pub(crate) fn word_divided(x: u32, divisor: u32, less: u32, shift: u32) -> u32
-    requires reciprocal { IsReciprocal (unsigned_abs (cast_signed w32 divisor)) less shift }
+pub(crate) fn word_divided(x: u32, divisor: u32, factor: u32, shift: u32) -> u32
+    requires reciprocal { IsReciprocal (unsigned_abs (cast_signed w32 divisor)) factor shift }
     requires divisible { IsTrue (can_divide (cast_signed w32 x) (cast_signed w32 divisor)) }
     ensures { cast_signed w32 result ≡ int_div (cast_signed w32 x) (cast_signed w32 divisor) }
 {
     let size = size_divided(
         x.cast_signed().unsigned_abs(),
         divisor.cast_signed().unsigned_abs(),
-        less,
+        factor,
         shift,
     );
     signed(x, divisor, size)

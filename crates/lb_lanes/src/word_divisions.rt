@@ -187,14 +187,14 @@ fn divide_by_one<K: FromQuotient>(a: &[u32; 64], divisor: u32, out: &mut [u32; 6
         → bits_lane out.new i ≡ K.divided (bits_lane a.now i) (cast_signed w32 divisor) }
 {
     let size = divisor.cast_signed().unsigned_abs();
-    let zeros = size.trailing_zeros() % 32;
-    if 1u32 << zeros == size {
-        divide_by_power::<K>(a, divisor, zeros, out);
+    let log = size.ilog2();
+    if 1u32 << log == size {
+        divide_by_power::<K>(a, divisor, log, out);
         return;
     }
-    let (less, shift) = reciprocal(size);
+    let (factor, shift) = reciprocal(size, log);
     for i in 0..64usize {
-        let quotient = word_divided(a[i], divisor, less, shift);
+        let quotient = word_divided(a[i], divisor, factor, shift);
         out[i] = K::from_quotient(a[i], divisor, quotient);
     }
 }

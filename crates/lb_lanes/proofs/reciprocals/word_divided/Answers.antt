@@ -8,7 +8,7 @@ size_divided-size-requires-clause-bound c = c.unsigned_abs.ensures.bound
 
 pub size_divided-size-requires-clause-reciprocal : goal.size_divided-size-requires-clause-reciprocal
 size_divided-size-requires-clause-reciprocal c =
-    subst (λ n. IsReciprocal n c.args.less c.args.shift)
+    subst (λ n. IsReciprocal n c.args.factor c.args.shift)
     (sym (abs_of c.args.divisor c.unsigned_abs-2.result c.cast_signed-2.result
     (record { sfits = c.cast_signed-2.type_inv }) c.cast_signed-2.ensures
     c.unsigned_abs-2.ensures.value))

@@ -6,8 +6,8 @@ use Rattle.lb_lanes.proofs.Joined.{word_joined}
 use Rattle.lb_lanes.proofs.SignedDivisions.{abs_of, abs_positive}
 use Rattle.lb_lanes.proofs.word_divisions.divide_by_one.Goals as goal
 
-pub reciprocal-less-requires-clause-positive : goal.reciprocal-less-requires-clause-positive
-reciprocal-less-requires-clause-positive g c =
+pub ilog2-log-requires : goal.ilog2-log-requires
+ilog2-log-requires g c =
     subst (λ n. 0 < n)
     (sym (abs_of c.args.divisor c.unsigned_abs-size.result c.cast_signed.result
     (record { sfits = c.cast_signed.type_inv }) c.cast_signed.ensures
@@ -20,11 +20,11 @@ loop-i-init g c = record { done = λ i h. absurd (not-suc-le-zero h); rest = λ 
 pub word_divided-quotient-requires-clause-reciprocal :
     goal.word_divided-quotient-requires-clause-reciprocal
 word_divided-quotient-requires-clause-reciprocal g c =
-    subst (λ n. IsReciprocal n c.reciprocal-less.result.0 c.reciprocal-less.result.1)
+    subst (λ n. IsReciprocal n c.reciprocal-factor.result.0 c.reciprocal-factor.result.1)
     (abs_of c.args.divisor c.unsigned_abs-size.result c.cast_signed.result
     (record { sfits = c.cast_signed.type_inv }) c.cast_signed.ensures
     c.unsigned_abs-size.ensures.value)
-    c.reciprocal-less.ensures
+    c.reciprocal-factor.ensures
 
 pub loop-i-preserved : goal.loop-i-preserved
 loop-i-preserved g c =
