@@ -26,10 +26,10 @@ module _ (row : List ℤ) (lane d : ℕ) (places : List ℕ) (old : List (List �
     pub as_long : length new ≡ length old
     pub put :
         (k : ℕ) → k < n →
-        lane_of (get_or new (64 * k + d) []) lane ≡ get_or row (get_or places k 0) (pos 0)
+        lane_of (get_or new (65 * k + d) []) lane ≡ get_or row (get_or places k 0) (pos 0)
     pub others :
         (k e i : ℕ) → e < 64 → i < 64 → (e ≢ d) ⊎ (i ≢ lane) →
-        lane_of (get_or new (64 * k + e) []) i ≡ lane_of (get_or old (64 * k + e) []) i
+        lane_of (get_or new (65 * k + e) []) i ≡ lane_of (get_or old (65 * k + e) []) i
 
 -- ## Four lanes of the words of an instant
 
@@ -38,10 +38,10 @@ module _ (first d : ℕ) (value : ℕ → ℕ → ℤ) (places : List ℕ) (old 
     pub as_long : length new ≡ length old
     pub put :
         (k i : ℕ) → k < n → first ≤ i → i < first + 4 →
-        lane_of (get_or new (64 * k + d) []) i ≡ value i (get_or places k 0)
+        lane_of (get_or new (65 * k + d) []) i ≡ value i (get_or places k 0)
     pub others :
         (k e i : ℕ) → e < 64 → i < 64 → (e ≢ d) ⊎ ((i < first) ⊎ (first + 4 ≤ i)) →
-        lane_of (get_or new (64 * k + e) []) i ≡ lane_of (get_or old (64 * k + e) []) i
+        lane_of (get_or new (65 * k + e) []) i ≡ lane_of (get_or old (65 * k + e) []) i
 
 -- ## Instants of members
 
@@ -68,7 +68,7 @@ module _ (r : Recording) (members : List ℕ) (t live : ℕ) (columns places : L
     where
       put : (i d k : ℕ) → a ≤ i → i < c → on live i ≡ true → d < count → k < length places →
           (i < b) ⊎ (b ≤ i) →
-          lane_of (get_or z (64 * k + d) []) i
+          lane_of (get_or z (65 * k + d) []) i
           ≡ member_cell r members (t + d) i (get_or columns (get_or places k 0) 0)
       put i d k ge lt e ld lk (inl before) =
           g.others k d i (omega (arith, ld, some)) (omega (arith, lt, few)) (inl before)
@@ -76,7 +76,7 @@ module _ (r : Recording) (members : List ℕ) (t live : ℕ) (columns places : L
       put i d k ge lt e ld lk (inr behind) = g.put i d k behind lt e ld lk
 
       others : (k e i : ℕ) → e < 64 → i < 64 → (i < a) ⊎ (c ≤ i) →
-          lane_of (get_or z (64 * k + e) []) i ≡ lane_of (get_or x (64 * k + e) []) i
+          lane_of (get_or z (65 * k + e) []) i ≡ lane_of (get_or x (65 * k + e) []) i
       others k e i l li (inl before) =
           g.others k e i l li (inl (omega (arith, before, le)))
           ∙ h.others k e i l li (inl before)
@@ -96,16 +96,16 @@ module _ (r : Recording) (members : List ℕ) (t live : ℕ) (columns places : L
       (n first end : ℕ) (old rows new : List (List ℤ)) → Filled n first end old rows → n < 64 →
       end ≤ 64 → length new ≡ length rows →
       ((i k : ℕ) → first ≤ i → i < end → on live i ≡ true → k < length places →
-      lane_of (get_or new (64 * k + n) []) i
+      lane_of (get_or new (65 * k + n) []) i
       ≡ member_cell r members (t + n) i (get_or columns (get_or places k 0) 0)) →
       ((k e i : ℕ) → e < 64 → i < 64 → (e ≢ n) ⊎ ((i < first) ⊎ (end ≤ i)) →
-      lane_of (get_or new (64 * k + e) []) i ≡ lane_of (get_or rows (64 * k + e) []) i) →
+      lane_of (get_or new (65 * k + e) []) i ≡ lane_of (get_or rows (65 * k + e) []) i) →
       Filled (n + 1) first end old new
   instant_more n first end old rows new h ln few long put others = record {
     room = long ∙ h.room;
     put = λ i d k ge lt live_i ld lk.
         below_more
-        (λ m. lane_of (get_or new (64 * k + m) []) i
+        (λ m. lane_of (get_or new (65 * k + m) []) i
         ≡ member_cell r members (t + m) i (get_or columns (get_or places k 0) 0)) n
         (λ m lm.
         let ne : m ≢ n = λ e. absurd (omega (arith, lm, e)) in
@@ -134,13 +134,13 @@ module _ (room : List (List ℤ)) (d : ℕ) (places : List ℕ) (old : List (Lis
     pub put :
         (i : ℕ) (value : ℕ → ℤ) →
         ((k : ℕ) → k < length places →
-        lane_of (get_or room (64 * k + d) []) i ≡ value (get_or places k 0)) →
+        lane_of (get_or room (65 * k + d) []) i ≡ value (get_or places k 0)) →
         (k : ℕ) → k < n → lane_of (get_or new (get_or places k 0) []) i ≡ value (get_or places k 0)
 
   -- one place more
   pub taken_more :
       (new : List (List ℤ)) (n : ℕ) (word : List ℤ) → Taken new n → n < length places →
-      get_or places n 0 < length old → word ≡ get_or room (64 * n + d) [] →
+      get_or places n 0 < length old → word ≡ get_or room (65 * n + d) [] →
       Taken (set new (get_or places n 0) word) (n + 1)
   taken_more new n word h lt within is_word = record {
     as_long = length-set new (get_or places n 0) word ∙ h.as_long;
@@ -154,7 +154,7 @@ module _ (room : List (List ℤ)) (d : ℕ) (places : List ℕ) (old : List (Lis
       here :
           (i : ℕ) (value : ℕ → ℤ) →
           ((k : ℕ) → k < length places →
-          lane_of (get_or room (64 * k + d) []) i ≡ value (get_or places k 0)) →
+          lane_of (get_or room (65 * k + d) []) i ≡ value (get_or places k 0)) →
           lane_of (get_or (set new (get_or places n 0) word) (get_or places n 0) []) i
           ≡ value (get_or places n 0)
       here i value is =
@@ -165,7 +165,7 @@ module _ (room : List (List ℤ)) (d : ℕ) (places : List ℕ) (old : List (Lis
       by :
           (i : ℕ) (value : ℕ → ℤ) →
           ((k : ℕ) → k < length places →
-          lane_of (get_or room (64 * k + d) []) i ≡ value (get_or places k 0)) →
+          lane_of (get_or room (65 * k + d) []) i ≡ value (get_or places k 0)) →
           (k : ℕ) → k < n →
           (get_or places k 0 ≡ get_or places n 0) ⊎ (get_or places k 0 ≢ get_or places n 0) →
           lane_of (get_or (set new (get_or places n 0) word) (get_or places k 0) []) i

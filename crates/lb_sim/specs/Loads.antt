@@ -35,26 +35,27 @@ pub record AreLoaded (r : Recording) (members : List ℕ) (t live : ℕ) (column
       (i w : ℕ) → i < 64 → (i < first) ⊎ (end ≤ i) →
       lane_of (slice_index_or new w []) i ≡ lane_of (slice_index_or old w []) i
 
--- so many instants of theirs, from one on: for each place and each of 64 instants there is a word
+-- so many instants of theirs, from one on: for each place there is a word of each of 64 instants, and
+-- one that stands for nothing
 pub record AreLoadedAhead (r : Recording) (members : List ℕ) (t count live : ℕ)
     (columns places : List ℕ) (first end : ℕ) (old new : List (List ℤ)) : Type 0 where
   pub room : length new ≡ length old
   pub put :
       (i d k : ℕ) → first ≤ i → i < end → on live i ≡ true → d < count → k < length places →
-      lane_of (slice_index_or new (64 * k + d) []) i
+      lane_of (slice_index_or new (65 * k + d) []) i
       ≡ member_cell r members (t + d) i (get_or columns (slice_index places k) 0)
   pub others :
       (k e i : ℕ) → e < 64 → i < 64 → (i < first) ⊎ (end ≤ i) →
-      lane_of (slice_index_or new (64 * k + e) []) i
-      ≡ lane_of (slice_index_or old (64 * k + e) []) i
+      lane_of (slice_index_or new (65 * k + e) []) i
+      ≡ lane_of (slice_index_or old (65 * k + e) []) i
 
--- instants of some lanes are loaded, from a first one up to another: for each place and each of 64
--- instants there is a word
+-- instants of some lanes are loaded, from a first one up to another: for each place there is a word
+-- of each of 64 instants, and one that stands for nothing
 pub record AreAhead (r : Recording) (members : List ℕ) (first until lanes : ℕ)
     (columns places : List ℕ) (room : List (List ℤ)) : Type 0 where
   pub cells :
       (i d k : ℕ) → i < 64 → on lanes i ≡ true → first + d < until → k < length places →
-      lane_of (slice_index_or room (64 * k + d) []) i
+      lane_of (slice_index_or room (65 * k + d) []) i
       ≡ member_cell r members (first + d) i (get_or columns (slice_index places k) 0)
 
 -- words stand in four lanes of as many words of all lanes, from a first lane on; no other lane has

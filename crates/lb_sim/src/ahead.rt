@@ -5,8 +5,11 @@
 //! integers those are loaded that stand at some places, if there is room for so many.
 //!
 //! ```text
-//! room    place 0: instant 0, instant 1, ... instant 63; then place 1; each a word of 64 lanes
+//! room    place 0: instant 0, instant 1, ... instant 63, and a word that stands for nothing; then
+//!         place 1; each a word of 64 lanes
 //! ```
+//!
+//! Without those that stand for nothing the words of an instant would share few lines of a cache.
 
 ghost use Rattle.std.specs.Prelude.{◌≡◌, ◌≢◌, ℕ, ◌<◌, ◌≤◌, ◌+◌, ◌*◌, ◌⊎◌, true, length, get_or};
 ghost use Rattle.std.specs.Prelude.{ℤ, pos, slice_index, slice_index_or, [], All};
@@ -69,18 +72,18 @@ pub(crate) fn nothing() -> Loaded
 fn put_row(row: &[i32], lane: u32, d: usize, places: &[usize], room: &mut [LaneWord])
     requires lane { lane < 64 }
     requires instant { d < 64 }
-    requires room { 64 * length places.now ≤ length room.old }
+    requires room { 65 * length places.now ≤ length room.old }
     requires within { All (λ w. w < length row.now) places.now }
     ensures room { length room.new ≡ length room.old }
     ensures put { (k : ℕ) → k < length places.now
-        → lane_of (slice_index_or room.new (64 * k + d) []) lane
+        → lane_of (slice_index_or room.new (65 * k + d) []) lane
         ≡ get_or row.now (slice_index places.now k) (pos 0) }
     ensures others { (k e i : ℕ) → e < 64 → i < 64 → (e ≢ d) ⊎ (i ≢ lane)
-        → lane_of (slice_index_or room.new (64 * k + e) []) i
-        ≡ lane_of (slice_index_or room.old (64 * k + e) []) i }
+        → lane_of (slice_index_or room.new (65 * k + e) []) i
+        ≡ lane_of (slice_index_or room.old (65 * k + e) []) i }
 {
     for k in 0..places.len() {
-        room[64 * k + d].set(lane, row[places[k]]);
+        room[65 * k + d].set(lane, row[places[k]]);
     }
 }
 
@@ -105,7 +108,7 @@ fn put_member(at: &Stretch<'_, '_>, i: usize, count: usize, places: &[usize], ro
     requires member { i < length at.now.at.members.now }
     requires count { at.now.at.t + count ≤ at.now.until }
     requires few { count ≤ 64 }
-    requires room { 64 * length places.now ≤ length room.old }
+    requires room { 65 * length places.now ≤ length room.old }
     requires within { All (λ w. w < length (number_columns 0
         (kinds_of at.now.at.set.now.signature))) places.now }
     ensures { AreLoadedAhead at.now.at.set.now at.now.at.members.now at.now.at.t count
@@ -134,7 +137,7 @@ fn put_each(
     requires members { end ≤ length at.now.at.members.now }
     requires count { at.now.at.t + count ≤ at.now.until }
     requires few { count ≤ 64 }
-    requires room { 64 * length places.now ≤ length room.old }
+    requires room { 65 * length places.now ≤ length room.old }
     requires within { All (λ w. w < length (number_columns 0
         (kinds_of at.now.at.set.now.signature))) places.now }
     ensures { AreLoadedAhead at.now.at.set.now at.now.at.members.now at.now.at.t count
@@ -157,7 +160,7 @@ fn put_four_members(
     requires members { first + 4 ≤ length at.now.at.members.now }
     requires count { at.now.at.t + count ≤ at.now.until }
     requires few { count ≤ 64 }
-    requires room { 64 * length places.now ≤ length room.old }
+    requires room { 65 * length places.now ≤ length room.old }
     requires within { All (λ w. w < length (number_columns 0
         (kinds_of at.now.at.set.now.signature))) places.now }
     ensures { AreLoadedAhead at.now.at.set.now at.now.at.members.now at.now.at.t count
@@ -186,7 +189,7 @@ fn put_four_members(
 fn fill(at: &Stretch<'_, '_>, count: usize, places: &[usize], room: &mut [LaneWord])
     requires count { at.now.at.t + count ≤ at.now.until }
     requires few { count ≤ 64 }
-    requires room { 64 * length places.now ≤ length room.old }
+    requires room { 65 * length places.now ≤ length room.old }
     requires within { All (λ w. w < length (number_columns 0
         (kinds_of at.now.at.set.now.signature))) places.now }
     ensures room { length room.new ≡ length room.old }
@@ -204,7 +207,7 @@ fn fill(at: &Stretch<'_, '_>, count: usize, places: &[usize], room: &mut [LaneWo
 
 // What is loaded, with the instant: as before, or from the instant on.
 fn renewed(at: &Stretch<'_, '_>, places: &[usize], room: &mut [LaneWord], last: Ahead) -> Ahead
-    requires room { 64 * length places.now ≤ length room.old }
+    requires room { 65 * length places.now ≤ length room.old }
     requires within { All (λ w. w < length (number_columns 0
         (kinds_of at.now.at.set.now.signature))) places.now }
     requires begun { last.first ≤ at.now.at.t }
@@ -237,17 +240,17 @@ fn renewed(at: &Stretch<'_, '_>, places: &[usize], room: &mut [LaneWord], last: 
 // Copies the integers of an instant that is loaded to their places.
 fn take(room: &[LaneWord], d: usize, places: &[usize], words: &mut [LaneWord])
     requires instant { d < 64 }
-    requires room { 64 * length places.now ≤ length room.now }
+    requires room { 65 * length places.now ≤ length room.now }
     requires within { All (λ w. w < length words.old) places.now }
     ensures words { length words.new ≡ length words.old }
     ensures put { (i : ℕ) (value : ℕ → ℤ) → ((k : ℕ) → k < length places.now
-        → lane_of (slice_index_or room.now (64 * k + d) []) i ≡ value (slice_index places.now k))
+        → lane_of (slice_index_or room.now (65 * k + d) []) i ≡ value (slice_index places.now k))
         → (k : ℕ) → k < length places.now
         → lane_of (slice_index_or words.new (slice_index places.now k) []) i
         ≡ value (slice_index places.now k) }
 {
     for k in 0..places.len() {
-        words[places[k]].copy_from(&room[64 * k + d]);
+        words[places[k]].copy_from(&room[65 * k + d]);
     }
 }
 
@@ -281,7 +284,7 @@ pub(crate) fn load_ahead(
         room.new }
     ensures lanes { at.now.at.t < result.until → AreAmong at.now.at.live.0 result.lanes.0 }
 {
-    if room.len() / 64 < places.len() {
+    if room.len() / 65 < places.len() {
         load_numbers(&at.at, places, words);
         return last;
     }

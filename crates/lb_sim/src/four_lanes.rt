@@ -59,7 +59,7 @@ pub(crate) fn put_four(
 }
 
 /// Puts some integers of four rows, those at these places, into four lanes of the words of an
-/// instant, a lane for each row. For each place there are the words of 64 instants.
+/// instant, a lane for each row. For each place there are the words of 64 instants, and one more.
 pub(crate) fn put_four_ahead(
     room: &mut [LaneWord],
     instant: usize,
@@ -72,22 +72,22 @@ pub(crate) fn put_four_ahead(
 )
     requires instant { instant < 64 }
     requires lanes { first + 4 ≤ 64 }
-    requires room { 64 * length places.now ≤ length room.old }
+    requires room { 65 * length places.now ≤ length room.old }
     requires row_a { All (λ w. w < length a.now) places.now }
     requires row_b { length b.now ≡ length a.now }
     requires row_c { length c.now ≡ length a.now }
     requires row_d { length d.now ≡ length a.now }
     ensures room { length room.new ≡ length room.old }
     ensures put { (k i : ℕ) → k < length places.now → first ≤ i → i < first + 4
-        → lane_of (slice_index_or room.new (64 * k + instant) []) i
+        → lane_of (slice_index_or room.new (65 * k + instant) []) i
         ≡ four_at first a.now b.now c.now d.now (slice_index places.now k) i }
     ensures others { (k e i : ℕ) → e < 64 → i < 64
         → (e ≢ instant) ⊎ ((i < first) ⊎ (first + 4 ≤ i))
-        → lane_of (slice_index_or room.new (64 * k + e) []) i
-        ≡ lane_of (slice_index_or room.old (64 * k + e) []) i }
+        → lane_of (slice_index_or room.new (65 * k + e) []) i
+        ≡ lane_of (slice_index_or room.old (65 * k + e) []) i }
 {
     for k in 0..places.len() {
         let w = places[k];
-        set_four(&mut room[64 * k + instant], first, a[w], b[w], c[w], d[w]);
+        set_four(&mut room[65 * k + instant], first, a[w], b[w], c[w], d[w]);
     }
 }

@@ -83,7 +83,7 @@ impl Inputs {
         let width = groups_of(columns.truths);
         let reach = reach_of(width);
         let rows = vec![in alloc; 0u64; 72 * (reach as usize * width)]?;
-        let room = zeros(alloc, 64 * columns.numbers.min(MOST_AHEAD))?;
+        let room = zeros(alloc, 65 * columns.numbers.min(MOST_AHEAD))?;
         Ok(Inputs {
             columns,
             planes,

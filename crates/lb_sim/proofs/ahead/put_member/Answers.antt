@@ -31,7 +31,7 @@ loop-d-preserved c =
     let same : c.args.i ≡ j = omega (arith, ge, lt) in
     let w = get_or c.args.places.now k 0 in
     subst
-    (λ n. lane_of (get_or c.put_row.new.room (64 * k + d) []) n
+    (λ n. lane_of (get_or c.put_row.new.room (65 * k + d) []) n
     ≡ member_cell at.set.now at.members.now (at.t + d) n (get_or columns w 0))
     same
     (c.put_row.ensures.put k lk ∙ c.row_of.ensures.numbers w (c.requires.within k 0 lk)))

@@ -5,9 +5,9 @@ use Rattle.lb_sim.proofs.ahead.take.Goals as goal
 
 pub loop-k-preserved : goal.loop-k-preserved
 loop-k-preserved c =
-    let copied : c.copy_from.new.self ≡ get_or c.args.room.now (64 * c.loop-k.k + c.args.d) [] =
+    let copied : c.copy_from.new.self ≡ get_or c.args.room.now (65 * c.loop-k.k + c.args.d) [] =
     c.copy_from.ensures ∙ c.index-room-k.is
-    ∙ get_or_default c.args.room.now (64 * c.loop-k.k + c.args.d) c.index-room-k.result []
+    ∙ get_or_default c.args.room.now (65 * c.loop-k.k + c.args.d) c.index-room-k.result []
     (omega (arith, c.requires.room, c.requires.instant, c.loop-k-test.true)) in
     taken_more c.args.room.now c.args.d c.args.places.now c.args.words.now c.loop-k.words c.loop-k.k
     c.copy_from.new.self c.loop-k.invariant c.loop-k-test.true
