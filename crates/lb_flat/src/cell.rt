@@ -5,9 +5,9 @@
 //! nil operand nil; `if` takes the chosen branch alone. Where an operand is absent, so is the
 //! result.
 
-ghost use Rattle.std.specs.Prelude.{◌≡◌, Some};
-ghost use Rattle.lb_check.specs.Scalars.{two_integers, two_booleans, two_scalars, one_scalar};
-ghost use Rattle.lb_check.specs.Scalars.{or_fault};
+ghost use Rattle.std.specs.Prelude.{◌≡◌, Some, IfSome, IfNone};
+ghost use Rattle.lb_check.specs.Scalars.{Boolean, Bad, two_integers, two_booleans, two_scalars};
+ghost use Rattle.lb_check.specs.Scalars.{one_scalar, or_fault};
 ghost use Rattle.lb_check.specs.Streams.{held, one_cell, two_cells, sample, shows, newest};
 ghost use Rattle.lb_flat.specs.Run.{chosen_cell};
 ghost use Rattle.lb_flat.specs.Values.{scalar_of, cell_of};
@@ -73,16 +73,18 @@ fn two_integers(op: BinaryOperator, a: i32, b: i32) -> Cell
     }
 }
 
-fn two_booleans(op: BinaryOperator, a: bool, b: bool) -> Cell
-    ensures { cell_of result ≡ Some (two_booleans op a b) }
+/// What an operator gives on two Booleans; none where it is not one on Booleans.
+pub(crate) fn two_booleans(op: BinaryOperator, a: bool, b: bool) -> Option<bool>
+    ensures truth { IfSome result (λ c. two_booleans op a b ≡ Boolean c) }
+    ensures none { IfNone result (two_booleans op a b ≡ Bad) }
 {
     match op {
-        BinaryOperator::Or => Cell::Boolean(a || b),
-        BinaryOperator::Xor | BinaryOperator::Unequal => Cell::Boolean(a != b),
-        BinaryOperator::And => Cell::Boolean(a && b),
-        BinaryOperator::Implies => Cell::Boolean(!a || b),
-        BinaryOperator::Equal => Cell::Boolean(a == b),
-        _ => Cell::Bad,
+        BinaryOperator::Or => Some(a || b),
+        BinaryOperator::Xor | BinaryOperator::Unequal => Some(a != b),
+        BinaryOperator::And => Some(a && b),
+        BinaryOperator::Implies => Some(!a || b),
+        BinaryOperator::Equal => Some(a == b),
+        _ => None,
     }
 }
 
@@ -94,7 +96,10 @@ pub(crate) fn two_cells(op: BinaryOperator, x: Cell, y: Cell) -> Cell
         return two_integers(op, a, b);
     }
     if let (Cell::Boolean(a), Cell::Boolean(b)) = (x, y) {
-        return two_booleans(op, a, b);
+        return match two_booleans(op, a, b) {
+            Some(c) => Cell::Boolean(c),
+            None => Cell::Bad,
+        };
     }
     match (x, y) {
         (Cell::Absent, _) | (_, Cell::Absent) => Cell::Absent,

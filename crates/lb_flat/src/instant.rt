@@ -1,15 +1,20 @@
 //! One instant of a flat program: every step computes its cell from the cells before it, and after
 //! the instant the memories move on.
 
-ghost use Rattle.std.specs.Prelude.{◌≡◌, ◌<◌, ℕ, [], length, map, All};
+ghost use Rattle.std.specs.Prelude.{◌≡◌, ◌<◌, ℕ, [], Some, length, map, All, IfSome};
+ghost use Rattle.lb_check.specs.Scalars.{Boolean};
+ghost use Rattle.lb_flat.specs.Flat.{FlatClock};
 ghost use Rattle.lb_flat.specs.Run.{cell, is_now, now, filled, remembered, advanced, reads, keeps};
 ghost use Rattle.lb_flat.specs.Prepared.{memory_places};
 ghost use Rattle.lb_flat.specs.Programs.{flat_equations};
 ghost use Rattle.lb_flat.specs.Values.{cell_of, clock_of, operation_of, equation_of};
 ghost use Rattle.lb_flat.specs.Within.{IsClock, AreClocks, IsWithin};
 
-use crate::cell::{Cell, chosen_cell, held, newest, one_cell, sample, shows, two_cells};
+use crate::cell::{
+    Cell, chosen_cell, held, newest, one_cell, sample, shows, two_booleans, two_cells,
+};
 use crate::equation::{Clock, ClockId, ElementId, Equation, Operation};
+use lb_syntax::UnaryOperator;
 
 // ## Clocks
 
@@ -65,6 +70,25 @@ fn now(clocks: &[Clock], row: &[Cell], q: &Equation) -> Cell
     }
 }
 
+// What an operator gives on Booleans, where it gives one.
+fn truth(row: &[Cell], operation: &Operation) -> Option<bool>
+    requires operands { All (λ i. i < length row.now) (reads (operation_of operation.now)) }
+    ensures { IfSome result (λ b. (clock : FlatClock) →
+        Some (Boolean b) ≡ now [] (map cell_of row.now) clock (operation_of operation.now)) }
+{
+    match operation {
+        Operation::ApplyUnary(UnaryOperator::Not, a) => match cell(row, *a) {
+            Cell::Boolean(b) => Some(!b),
+            _ => None,
+        },
+        Operation::ApplyBinary(op, a, b) => match (cell(row, *a), cell(row, *b)) {
+            (Cell::Boolean(a), Cell::Boolean(b)) => two_booleans(*op, a, b),
+            _ => None,
+        },
+        _ => None,
+    }
+}
+
 /// Computes the row of an instant, whose inputs were read: each step in order gives its element.
 pub(crate) fn compute(row: &mut [Cell], clocks: &[Clock], steps: &[Equation])
     requires table { AreClocks (length row.old) clocks.now }
@@ -75,26 +99,34 @@ pub(crate) fn compute(row: &mut [Cell], clocks: &[Clock], steps: &[Equation])
 {
     for i in 0..steps.len() {
         let q = &steps[i];
-        let cell = now(clocks, row, q);
-        row[q.element.0 as usize] = cell;
+        let element = q.element.0 as usize;
+        // Most steps give a Boolean, which is written without what a cell else can hold.
+        if let Some(b) = truth(row, &q.operation) {
+            row[element] = Cell::Boolean(b);
+        } else {
+            row[element] = now(clocks, row, q);
+        }
     }
 }
 
 // ## Memories
 
-// The operation with what its memory holds after the instant of a row.
-fn remembered(row: &[Cell], operation: Operation) -> Operation
-    requires operands { All (λ i. i < length row.now) (reads (operation_of operation)) }
-    requires memory_operands { All (λ i. i < length row.now) (keeps (operation_of operation)) }
-    ensures { operation_of result ≡ remembered (map cell_of row.now) (operation_of operation) }
+// Moves the memory of an operation on, after the instant of a row.
+fn remember(row: &[Cell], operation: &mut Operation)
+    requires operands { All (λ i. i < length row.now) (reads (operation_of operation.old)) }
+    requires memory_operands { All (λ i. i < length row.now) (keeps (operation_of operation.old)) }
+    ensures { operation_of operation.new
+        ≡ remembered (map cell_of row.now) (operation_of operation.old) }
 {
     match operation {
-        Operation::FirstThen(started, a, b) => {
-            Operation::FirstThen(started || cell(row, a) != Cell::Absent, a, b)
+        Operation::FirstThen(started, a, _) => {
+            if !*started {
+                *started = cell(row, *a) != Cell::Absent;
+            }
         }
-        Operation::Previous(v, a) => Operation::Previous(newest(v, cell(row, a)), a),
-        Operation::Latest(v, a) => Operation::Latest(newest(v, cell(row, a)), a),
-        other => other,
+        Operation::Previous(v, a) => *v = newest(*v, cell(row, *a)),
+        Operation::Latest(v, a) => *v = newest(*v, cell(row, *a)),
+        _ => {}
     }
 }
 
@@ -108,7 +140,6 @@ pub(crate) fn commit(steps: &mut [Equation], memories: &[usize], row: &[Cell], c
         ≡ map (advanced (map cell_of row.now)) (flat_equations clocks.now steps.old) }
 {
     for i in 0..memories.len() {
-        let place = memories[i];
-        steps[place].operation = remembered(row, steps[place].operation);
+        remember(row, &mut steps[memories[i]].operation);
     }
 }

@@ -20,10 +20,10 @@ loop-i-preserved c =
           subst (λ n. get_or places k d < n) (sym (length-set c.loop-i.steps _ _)) (h.there k d lt);
       within =
           within_step c.args.clocks.now c.args.row.now c.loop-i.steps first places c.loop-i.i _ _ _
-          c.loop-i-test.true refl there c.remembered.ensures _ h.within;
+          c.loop-i-test.true refl there c.remember.ensures _ h.within;
       moved =
           commit_step c.args.clocks.now c.args.row.now c.loop-i.steps first places c.loop-i.i _ _ _
-          c.loop-i-test.true refl there c.remembered.ensures h.moved;
+          c.loop-i-test.true refl there c.remember.ensures h.moved;
     }
 
 pub returns-clause-memories : goal.returns-clause-memories
