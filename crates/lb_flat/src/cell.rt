@@ -79,10 +79,10 @@ pub(crate) fn two_booleans(op: BinaryOperator, a: bool, b: bool) -> Option<bool>
     ensures none { IfNone result (two_booleans op a b ≡ Bad) }
 {
     match op {
-        BinaryOperator::Or => Some(a || b),
+        BinaryOperator::Or => Some(a | b),
         BinaryOperator::Xor | BinaryOperator::Unequal => Some(a != b),
-        BinaryOperator::And => Some(a && b),
-        BinaryOperator::Implies => Some(!a || b),
+        BinaryOperator::And => Some(a & b),
+        BinaryOperator::Implies => Some(!a | b),
         BinaryOperator::Equal => Some(a == b),
         _ => None,
     }
