@@ -35,8 +35,8 @@ pub record AreLoaded (r : Recording) (members : List ℕ) (t live : ℕ) (column
       (i w : ℕ) → i < 64 → (i < first) ⊎ (end ≤ i) →
       lane_of (slice_index_or new w []) i ≡ lane_of (slice_index_or old w []) i
 
--- so many instants of theirs, from one on: for each place there is a word of each of 64 instants, and
--- one that stands for nothing
+-- so many instants of theirs, from one on: for each place there is a word of each of 64 instants,
+-- and one that stands for nothing
 pub record AreLoadedAhead (r : Recording) (members : List ℕ) (t count live : ℕ)
     (columns places : List ℕ) (first end : ℕ) (old new : List (List ℤ)) : Type 0 where
   pub room : length new ≡ length old

@@ -6,4 +6,5 @@ pub returns : goal.returns
 returns c =
     let times : ℕ → ℕ → ℕ = λ m n. m * n in
     ap (λ k. k / 2 ^ c.args.shift) (ap₂ times c.from.ensures c.from-2.ensures)
-    ∙ quotient_by c.args.d c.args.factor c.args.shift c.args.n c.requires.reciprocal c.requires.bound
+    ∙ quotient_by c.args.d c.args.factor c.args.shift c.args.n c.requires.reciprocal
+    c.requires.bound
