@@ -1,6 +1,6 @@
 //! All that is known before the code: inputs, constants and memories.
 
-ghost use Rattle.std.specs.Prelude.{◌≡◌, [], IfOk};
+ghost use Rattle.std.specs.Prelude.{[], IfOk};
 ghost use Rattle.lb_flat.specs.Bounds.{IsBounded};
 ghost use Rattle.lb_flat.specs.Programs.{flat_equations, program_of, IsInRange};
 ghost use Rattle.lb_flat.specs.Run.{Ready};

@@ -1,6 +1,6 @@
 //! The planes of clocks.
 
-ghost use Rattle.std.specs.Prelude.{◌≡◌, ◌+◌, ◌*◌, ◌≤◌, None, length, All, IfOk, OnOk};
+ghost use Rattle.std.specs.Prelude.{◌≡◌, ◌+◌, ◌*◌, ◌≤◌, length, All, IfOk, OnOk};
 ghost use Rattle.lb_flat.specs.Bounds.{AreWhole};
 ghost use Rattle.lb_flat.specs.Programs.{IsInRange};
 ghost use Rattle.lb_flat.specs.Within.{IsClock};

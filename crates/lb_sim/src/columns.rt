@@ -1,6 +1,6 @@
 //! How many columns of a signature hold Booleans, and how many hold integers.
 
-ghost use Rattle.std.specs.Prelude.{◌≡◌, ◌+◌, length, count_by, IfOk};
+ghost use Rattle.std.specs.Prelude.{◌≡◌, length, count_by, IfOk};
 ghost use Rattle.std.specs.List.{range_with_len};
 ghost use Rattle.lb_sim.specs.InputRows.{is_truth, truth_columns, number_columns};
 

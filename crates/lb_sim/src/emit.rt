@@ -11,7 +11,7 @@ ghost use Rattle.lb_sim.specs.Allotted.{IsFlagHolding};
 ghost use Rattle.lb_sim.specs.Emitted.{IsEmitted};
 ghost use Rattle.lb_sim.specs.Holdings.{IsFor, IsIn, IsPlaceIn, IsValueIn};
 ghost use Rattle.lb_sim.specs.Showing.{kind_of, scalar_at};
-ghost use Rattle.lb_sim.specs.States.{no_place, flag_at, holding_of};
+ghost use Rattle.lb_sim.specs.States.{flag_at, holding_of};
 ghost use Rattle.lb_sim.specs.declared.place.Value.{Value};
 
 use crate::operators::{one_holding, two_holdings};

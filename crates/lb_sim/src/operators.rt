@@ -118,17 +118,10 @@ pub(crate) fn one_holding(
     ensures holding { IfOk result (λ h. (kind : Kind) → unary_kind op (kind_of a) ≡ Some kind →
         IsFor code.new kind (λ s. one_scalar op (scalar_at s a)) h) }
 {
+    if let (UnaryOperator::Not, Some(x)) = (op, truth_of(a.value)) {
+        return Ok(truth(x.negation(), a.nil, a.bad));
+    }
     match (op, a.value) {
-        (UnaryOperator::Not, Value::Truth(x)) => Ok(Holding {
-            value: Value::Negated(x),
-            nil: a.nil,
-            bad: a.bad,
-        }),
-        (UnaryOperator::Not, Value::Negated(x)) => Ok(Holding {
-            value: Value::Truth(x),
-            nil: a.nil,
-            bad: a.bad,
-        }),
         (UnaryOperator::Negate, Value::Number(x)) => { Ok(negated(code, x, a.nil, a.bad)?) }
         _ => Ok(a),
     }

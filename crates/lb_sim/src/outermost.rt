@@ -5,7 +5,7 @@
 //! element 1 := a          faults 7: within those of element 0
 //! ```
 
-ghost use Rattle.std.specs.Prelude.{◌≡◌, ◌<◌, ◌≤◌, ◌*◌, ◌||◌, ℕ, true, length, All, IfOk, OnOk};
+ghost use Rattle.std.specs.Prelude.{◌≡◌, ◌<◌, ◌≤◌, ◌*◌, true, length, All, IfOk, OnOk};
 ghost use Rattle.std.specs.List.{range_with_len};
 ghost use Rattle.lb_check.specs.Verdicts.{is_bad};
 ghost use Rattle.lb_flat.specs.Judging.{some_in};

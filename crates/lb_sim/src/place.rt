@@ -1,6 +1,9 @@
 //! Where the cell of an element is found in each lane.
 
-use lb_machine::{PlaneId, WordId};
+ghost use Rattle.std.specs.Prelude.{◌≡◌};
+ghost use Rattle.lb_sim.specs.Homes.{plane_in};
+
+use lb_machine::{NOWHERE, PlaneId, WordId};
 
 /// A value in each lane.
 #[derive(Clone, Copy)]
@@ -9,6 +12,16 @@ pub enum Value {
     /// A truth that holds where the plane is false.
     Negated(PlaneId),
     Number(WordId),
+}
+
+/// The plane that a value takes, or none.
+pub(crate) fn plane_of(v: Value) -> PlaneId
+    ensures { result.0 ≡ plane_in v }
+{
+    match v {
+        Value::Truth(p) | Value::Negated(p) => p,
+        Value::Number(_) => NOWHERE,
+    }
 }
 
 /// What a place holds where it is present: the value of a fault in the lanes of one plane, else nil

@@ -8,7 +8,7 @@ ghost use Rattle.lb_flat.specs.Run.{keeps, reads};
 ghost use Rattle.lb_flat.specs.Values.{operation_of};
 ghost use Rattle.lb_machine.specs.Correct.{AddsAtMost, HasRoom, IsGrown};
 ghost use Rattle.lb_sim.specs.Holdings.{IsFor, IsIn, IsPlaceIn};
-ghost use Rattle.lb_sim.specs.Homes.{plane_in, word_in};
+ghost use Rattle.lb_sim.specs.Homes.{word_in};
 ghost use Rattle.lb_sim.specs.Passing.{AreCopies, AreSources, AreTaken, IsNextOf, IsPlaneSource};
 ghost use Rattle.lb_sim.specs.Passing.{IsTaken};
 ghost use Rattle.lb_sim.specs.Passing.{IsNextFlag, IsWordSource};
@@ -19,21 +19,11 @@ ghost use Rattle.lb_sim.specs.Steady.{AreHeldFor};
 
 use crate::allotted::Allotted;
 use crate::picks::pick;
-use crate::place::{Holding, Place, Value};
+use crate::place::{Holding, Place, Value, plane_of};
 use crate::truths::not_plane;
 use lb_flat::{FlatProgram, Operation};
 use lb_machine::{Code, EVERYWHERE, NOWHERE, PlaneId, PlaneOperator, WordId, ZERO};
 use std::alloc::{AllocError, Global};
-
-// The plane that a value takes, or none.
-fn plane_of(v: Value) -> PlaneId
-    ensures { result.0 ≡ plane_in v }
-{
-    match v {
-        Value::Truth(p) | Value::Negated(p) => p,
-        Value::Number(_) => NOWHERE,
-    }
-}
 
 // The word that a value takes, or none.
 fn word_of(v: Value) -> WordId
@@ -269,11 +259,7 @@ fn next_holding(
             let next = next_flag(code, held, places[a.0 as usize].present)?;
             Ok(next)
         }
-        Operation::Previous(_, a) => {
-            let place = places[a.0 as usize];
-            next_cell(code, place, held)
-        }
-        Operation::Latest(_, a) => {
+        Operation::Previous(_, a) | Operation::Latest(_, a) => {
             let place = places[a.0 as usize];
             next_cell(code, place, held)
         }

@@ -5,14 +5,13 @@ ghost use Rattle.std.specs.Prelude.{◌≡◌, [], length, replicate, IfOk, OnOk
 ghost use Rattle.lb_flat.specs.Programs.{flat_equations, program_of, IsInRange};
 ghost use Rattle.lb_flat.specs.Run.{Ready};
 ghost use Rattle.lb_flat.specs.Values.{operation_of};
-ghost use Rattle.lb_sim.specs.Homes.{plane_in};
 ghost use Rattle.lb_sim.specs.Layouts.{AreAllotted};
 ghost use Rattle.lb_sim.specs.States.{no_holding};
 ghost use Rattle.lb_sim.specs.Steady.{IsNotNil, IsSteadyFor, IsTableOf};
 
 use crate::allot::NOTHING;
 use crate::allotted::Allotted;
-use crate::place::{Holding, Value};
+use crate::place::{Holding, Value, plane_of};
 use lb_flat::{FlatProgram, Operation};
 use lb_machine::{EVERYWHERE, NOWHERE, PlaneId};
 use std::alloc::{AllocError, Global};
@@ -24,16 +23,6 @@ pub(crate) struct SteadyTable {
     pub(crate) held: Vec<Holding>,
     pub(crate) clear: Vec<PlaneId>,
     pub(crate) set: Vec<PlaneId>,
-}
-
-// The plane of a truth value.
-fn truth_plane(v: Value) -> PlaneId
-    ensures { result.0 ≡ plane_in v }
-{
-    match v {
-        Value::Truth(p) | Value::Negated(p) => p,
-        Value::Number(_) => NOWHERE,
-    }
 }
 
 // What stands in for the memory of `pre` or of `current`: its value, which is not nil.
@@ -60,7 +49,7 @@ fn steady_memory(
 {
     match operation {
         Operation::FirstThen(_, _, _) => {
-            set.push(truth_plane(home.value))?;
+            set.push(plane_of(home.value))?;
             Ok(Holding {
                 value: Value::Truth(EVERYWHERE),
                 nil: NOWHERE,
