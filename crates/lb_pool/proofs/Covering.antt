@@ -1,5 +1,5 @@
 -- Each trace stands in a batch that was drawn.
-use Rattle.std.proofs.Common.{◌≡◌, ℕ, zero, suc, ◌+◌, ◌<◌, ◌≤◌, ◌⊎◌, inl, inr, List, [], ◌∷◌}
+use Rattle.std.proofs.Common.{◌≡◌, ℕ, zero, suc, ◌+◌, ◌<◌, ◌⊎◌, inl, inr, List, [], ◌∷◌}
 use Rattle.std.proofs.Common.{length}
 use Rattle.std.proofs.Common.{get_or, length-append, sym, subst, arith}
 use Rattle.std.specs.List.{All, Contains, range_with_len}
@@ -50,18 +50,12 @@ batches_below n batches moved =
     omega (arith, long, inside, at)))
 
 pub batch_below :
-    (n : ℕ) (batches : List (List ℕ)) → IsLawful batches → length (numbers_in batches) ≡ n →
-    (i : ℕ) → i < length batches → All (λ k. k < n) (get_or batches i [])
-batch_below n batches lawful over_all i below =
-    batches_below n batches (all_numbers n batches lawful over_all) i [] below
-
--- no batch has more than 64
-pub batch_few :
-    (batches : List (List ℕ)) → IsLawful batches → (i : ℕ) → i < length batches →
-    length (get_or batches i []) ≤ 64
-batch_few batches lawful i below =
-    let wide = lawful.plan.not_wider i below in
-    omega (arith, wide, lawful.at_most_64)
+    (n : ℕ) (batches : List (List ℕ)) (i : ℕ) (xs : List ℕ) → IsLawful batches →
+    length (numbers_in batches) ≡ n → i < length batches → xs ≡ get_or batches i [] →
+    All (λ k. k < n) xs
+batch_below n batches i xs lawful over_all below is =
+    subst (All (λ k. k < n)) (sym is)
+    (batches_below n batches (all_numbers n batches lawful over_all) i [] below)
 
 -- ## Each trace is in a batch
 

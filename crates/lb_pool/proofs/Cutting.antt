@@ -102,14 +102,15 @@ module _ (w : ℕ) (xs : List ℕ) where
         each_once = subst (λ m. IsPermutation (range_with_len 0 m) xs) e each_once;
       }))
 
+  -- the same of the numbers of its batches
+  pub joined_plan :
+      IsCut w xs → IsPlan (length (numbers_in (batches_of w xs))) w (batches_of w xs)
+  joined_plan cut =
+      subst (λ n. IsPlan n w (batches_of w xs)) (sym (ap length (joined cut.some))) (is_plan cut)
+
   pub is_lawful : IsCut w xs → IsLawful (batches_of w xs)
-  is_lawful cut = record {
-    width = w;
-    at_most_64 = cut.at_most_64;
-    plan =
-        subst (λ n. IsPlan n w (batches_of w xs)) (sym (ap length (joined cut.some)))
-        (is_plan cut);
-  }
+  is_lawful cut =
+      record { width = w; at_most_64 = cut.at_most_64; plan = joined_plan cut }
 
 -- where a batch lies among the numbers
 pub record Lies (w : ℕ) (xs : List ℕ) (i end : ℕ) (batch : List ℕ) : Type 0 where

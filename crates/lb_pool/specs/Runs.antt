@@ -1,7 +1,7 @@
 -- Verdicts as they come in, in any order, and where they are put.
 -- Source: this project's rule.
-use Rattle.std.specs.Prelude.{◌≡◌, ℕ, ◌<◌, List, [], ◌∷◌, length, map, get_or, flat_map, slice_set}
-use Rattle.std.specs.Prelude.{All}
+use Rattle.std.specs.Prelude.{◌≡◌, ℕ, ◌<◌, List, [], ◌∷◌, ◌++◌, length, map, get_or, flat_map}
+use Rattle.std.specs.Prelude.{slice_set, All}
 use Rattle.lb_check.specs.declared.verdict.Verdict.{Verdict}
 use Rattle.lb_flat.specs.Traces.{Recording}
 use Rattle.lb_flat.specs.declared.program.FlatProgram.{FlatProgram}
@@ -29,6 +29,11 @@ pub record IsBatchOf (p : FlatProgram) (r : Recording) (batches : List (List ℕ
 -- the numbers in the batches that were drawn
 abbrev pub numbers_drawn : List (List ℕ) → List ℕ → List ℕ
 numbers_drawn batches drawn = flat_map (λ i. get_or batches i []) drawn
+
+-- these are the numbers in the batches that were drawn after those that were drawn before
+abbrev pub AreDrawnAfter : List (List ℕ) → List ℕ → List ℕ → List ℕ → Type 0
+AreDrawnAfter batches before drawn members =
+    numbers_drawn batches drawn ≡ numbers_drawn batches before ++ members
 
 -- verdicts after some were written to the places of their traces
 abbrev pub placed : List Verdict → List Judged → List Verdict

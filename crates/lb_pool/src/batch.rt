@@ -1,16 +1,18 @@
-//! What runs of all kinds share: the verdicts of a batch, and their places in the list of all.
+//! What runs of all kinds share: the verdicts of some traces, and their places in the list of all.
 
-ghost use Rattle.std.specs.Prelude.{◌≡◌, ℕ, ◌<◌, ◌++◌, [], length, get_or, All, Contains, IfOk};
-ghost use Rattle.std.specs.Prelude.{OnOk};
+ghost use Rattle.std.specs.Prelude.{◌≡◌, ℕ, ◌<◌, ◌≤◌, ◌++◌, [], length, get_or, All, Contains};
+ghost use Rattle.std.specs.Prelude.{IfOk, OnOk};
+ghost use Rattle.lb_flat.specs.Programs.{program_of};
 ghost use Rattle.lb_pool.specs.Plans.{numbers_in};
 ghost use Rattle.lb_pool.specs.Correct.{AreVerdicts};
-ghost use Rattle.lb_pool.specs.Runs.{numbers_of, AreJudged, placed};
+ghost use Rattle.lb_pool.specs.Runs.{numbers_of, placed, AreJudged};
 ghost use Rattle.lb_sim.specs.BatchRooms.{IsRoomFor};
+ghost use Rattle.lb_sim.specs.Correct.{HaveVerdicts};
 
 use crate::plan::Plan;
 use lb_check::Verdict;
 use lb_flat::TraceSet;
-use lb_sim::{BatchRoom, LaneProgram, run_batch_in};
+use lb_sim::{BatchRoom, LaneProgram, run_queue_in};
 use std::alloc::{AllocError, Global};
 
 /// A trace and its verdict.
@@ -29,31 +31,71 @@ pub(crate) struct Work<'a, 'p> {
     pub(crate) ghost over_all: { length (numbers_in plan.now) ≡ length set.now.traces },
 }
 
-/// Puts the verdicts of a batch behind those that were found before, in the room of a worker, and
-/// gives the room back.
-pub(crate) fn run_batch(
+impl Work<'_, '_> {
+    /// The numbers of a batch, which are those of traces.
+    pub(crate) fn batch(&self, i: u32) -> &[u32]
+        requires { i < length self.now.plan.now }
+        ensures numbers { result.now ≡ get_or self.now.plan.now i [] }
+        ensures within { All (λ k. k < length self.now.set.now.traces) result.now }
+        ensures few { length result.now ≤ 64 }
+    {
+        self.plan.batch(i)
+    }
+}
+
+// Puts the verdicts of some traces behind those that were found before.
+fn push_judged(
     work: &Work<'_, '_>,
-    i: u32,
+    members: &[u32],
+    verdicts: &[Verdict],
+    judged: &mut Vec<Judged>,
+) -> Result<(), AllocError>
+    requires within { All (λ k. k < length work.now.set.now.traces) members.now }
+    requires count { length verdicts.now ≡ length members.now }
+    requires found { HaveVerdicts (program_of work.now.program.now.program.now) work.now.set.now
+        members.now verdicts.now }
+    requires judged { AreJudged work.now.program.now.program.now work.now.set.now
+        judged.old.items }
+    ensures numbers { OnOk result (numbers_of judged.new.items
+        ≡ numbers_of judged.old.items ++ members.now) }
+    ensures judged { OnOk result (AreJudged work.now.program.now.program.now work.now.set.now
+        judged.new.items) }
+{
+    for j in 0..members.len() {
+        let trace = members[j];
+        let verdict = verdicts[j];
+        judged.push(Judged { trace, verdict })?;
+    }
+    Ok(())
+}
+
+/// Runs some traces in so many lanes, in the room of a worker, which it gives back, and puts their
+/// verdicts behind those that were found before. `verdicts` is a buffer of the worker.
+pub(crate) fn run_members(
+    work: &Work<'_, '_>,
+    members: &[u32],
+    lanes: u32,
     room: BatchRoom,
+    verdicts: &mut Vec<Verdict>,
     judged: &mut Vec<Judged>,
 ) -> Result<BatchRoom, AllocError>
-    requires batch { i < length work.now.plan.now }
+    requires within { All (λ k. k < length work.now.set.now.traces) members.now }
+    requires most { length members.now ≤ 4096 }
+    requires lanes { (0 < lanes) × (lanes ≤ 64) }
     requires room { IsRoomFor work.now.program.now room }
     requires judged { AreJudged work.now.program.now.program.now work.now.set.now
         judged.old.items }
     ensures room { IfOk result (IsRoomFor work.now.program.now) }
     ensures numbers { OnOk result (numbers_of judged.new.items
-        ≡ numbers_of judged.old.items ++ get_or work.now.plan.now i []) }
+        ≡ numbers_of judged.old.items ++ members.now) }
     ensures judged { OnOk result (AreJudged work.now.program.now.program.now work.now.set.now
         judged.new.items) }
 {
-    let numbers = work.plan.batch(i);
-    let done = run_batch_in(room, work.program, work.set, numbers);
-    for j in 0..numbers.len() {
-        let trace = numbers[j];
-        let verdict = done.verdict(j as u32);
-        judged.push(Judged { trace, verdict })?;
-    }
+    verdicts.clear();
+    verdicts.resize(members.len(), Verdict::Passed)?;
+    let (program, set) = (work.program, work.set);
+    let done = run_queue_in(room, program, set, members, lanes, verdicts.as_mut_slice());
+    push_judged(work, members, verdicts.as_slice(), judged)?;
     Ok(done)
 }
 

@@ -1,15 +1,17 @@
 //! Workers that draw the batches of a plan from a claim board until none is left.
 
-ghost use Rattle.std.specs.Prelude.{◌≡◌, ℕ, List, ◌-◌, ◌<◌, ◌≤◌, [], length, IfOk};
+ghost use Rattle.std.specs.Prelude.{◌≡◌, ℕ, List, ◌+◌, ◌-◌, ◌<◌, ◌≤◌, [], length, get_or, All};
+ghost use Rattle.std.specs.Prelude.{IfOk, OnOk};
 ghost use Rattle.std.specs.Thread.{IsSync};
 ghost use Rattle.lb_flat.specs.Traces.{Recording};
 ghost use Rattle.lb_flat.specs.declared.program.FlatProgram.{FlatProgram};
 ghost use Rattle.lb_pool.specs.Plans.{numbers_in};
 ghost use Rattle.lb_pool.specs.Correct.{AreVerdicts};
+ghost use Rattle.lb_pool.specs.Runs.{AreDrawnAfter};
 ghost use Rattle.lb_pool.specs.Seats.{limit_of, IsSeatOf, shares_of, drawn_of};
 ghost use Rattle.lb_pool.specs.Workers.{HasDrained, IsBoth};
 
-use crate::batch::{Judged, Work, run_batch, verdicts_of};
+use crate::batch::{Judged, Work, run_members, verdicts_of};
 use crate::board::{ClaimBoard, ClaimSeat};
 use crate::gate::Gate;
 use crate::plan::Plan;
@@ -26,25 +28,118 @@ pub(crate) struct Drained {
     pub(crate) judged: Vec<Judged>,
 }
 
-// One worker. It claims until it is told that no batch is left.
+// A run takes up to 4096 traces, and a batch has up to 64.
+const MOST_AT_ONCE: u32 = 32;
+
+// How many batches a worker draws before it runs them all as one queue, where batch i is the first
+// of them. The fewer queues there are, the fewer lanes stand idle at the end of one: so one worker
+// cuts what is left into as few parts as will do. More workers cut it into two parts at least for
+// each of them: so the parts get smaller to the end, where by length the longest traces are, and no
+// worker has much to do where the others have nothing.
+fn batches_at_once(batches: u32, workers: u32, i: u32) -> u32
+    requires batch { i < batches }
+    requires workers { (0 < workers) × (workers ≤ 64) }
+    ensures { (0 < result) × (result ≤ 32) }
+{
+    let left = batches - i;
+    let fewest = left.div_ceil(MOST_AT_ONCE);
+    let parts = if workers == 1 {
+        fewest
+    } else {
+        fewest.max(2 * workers)
+    };
+    left.div_ceil(parts)
+}
+
+// Draws one more batch, if one is left, and puts its numbers behind those of the others.
+fn draw_more<G: Gate>(
+    board: &ClaimBoard,
+    gate: &G,
+    work: &Work<'_, '_>,
+    seat: &mut ClaimSeat,
+    members: &mut Vec<u32>,
+) -> Result<(), AllocError>
+    requires board { limit_of board.now ≡ length work.now.plan.now }
+    requires seat { IsSeatOf board.now seat.old }
+    requires within { All (λ k. k < length work.now.set.now.traces) members.old.items }
+    ensures seat { IsSeatOf board.now seat.new }
+    ensures shares { shares_of seat.new ≡ shares_of seat.old }
+    ensures draws { length (drawn_of seat.old) ≤ length (drawn_of seat.new) }
+    ensures within { OnOk result (All (λ k. k < length work.now.set.now.traces)
+        members.new.items) }
+    ensures few { OnOk result (length members.new.items ≤ length members.old.items + 64) }
+    ensures members { OnOk result ((before : List ℕ)
+        → AreDrawnAfter work.now.plan.now before (drawn_of seat.old) members.old.items
+        → AreDrawnAfter work.now.plan.now before (drawn_of seat.new) members.new.items) }
+{
+    if let Some(i) = board.claim(seat) {
+        gate.enter(i);
+        members.extend_from_slice(work.batch(i))?;
+    }
+    Ok(())
+}
+
+// Draws what a worker runs together with batch i, for which it has passed the gate. Puts the
+// numbers of all these batches, in the order in which they were drawn, into a buffer of the worker.
+fn draw<G: Gate>(
+    board: &ClaimBoard,
+    gate: &G,
+    work: &Work<'_, '_>,
+    workers: u32,
+    seat: &mut ClaimSeat,
+    i: u32,
+    members: &mut Vec<u32>,
+) -> Result<(), AllocError>
+    requires board { limit_of board.now ≡ length work.now.plan.now }
+    requires workers { (0 < workers) × (workers ≤ 64) }
+    requires seat { IsSeatOf board.now seat.old }
+    requires batch { i < length work.now.plan.now }
+    ensures seat { IsSeatOf board.now seat.new }
+    ensures shares { shares_of seat.new ≡ shares_of seat.old }
+    ensures draws { length (drawn_of seat.old) ≤ length (drawn_of seat.new) }
+    ensures within { OnOk result (All (λ k. k < length work.now.set.now.traces)
+        members.new.items) }
+    ensures few { OnOk result (length members.new.items ≤ 4096) }
+    ensures members { OnOk result ((before : List ℕ)
+        → AreDrawnAfter work.now.plan.now before (drawn_of seat.old)
+        (get_or work.now.plan.now i [])
+        → AreDrawnAfter work.now.plan.now before (drawn_of seat.new) members.new.items) }
+{
+    members.clear();
+    members.extend_from_slice(work.batch(i))?;
+    for _ in 1..batches_at_once(work.plan.batches(), workers, i) {
+        draw_more(board, gate, work, seat, members)?;
+    }
+    Ok(())
+}
+
+// One worker of so many. It claims until it is told that no batch is left. It passes the gate for
+// each batch before it claims another.
 fn drain<G: Gate>(
     alloc: Global,
     board: &ClaimBoard,
     gate: &G,
     work: &Work<'_, '_>,
+    workers: u32,
     mut seat: ClaimSeat,
 ) -> Result<Drained, AllocError>
+    requires workers { (0 < workers) × (workers ≤ 64) }
     requires board { limit_of board.now ≡ length work.now.plan.now }
     requires seat { IsSeatOf board.now seat }
     requires nothing { drawn_of seat ≡ [] }
     ensures { IfOk result (HasDrained board.now (shares_of seat) work.now.program.now.program.now
         work.now.set.now work.now.plan.now) }
 {
+    let lanes = work.plan.width();
     let mut room = BatchRoom::new(alloc, work.program)?;
+    let mut members = Vec::new(alloc);
+    let mut verdicts = Vec::new(alloc);
     let mut judged = Vec::new(alloc);
     while let Some(i) = board.claim(&mut seat) {
         gate.enter(i);
-        let again = run_batch(work, i, room, &mut judged)?;
+        draw(board, gate, work, workers, &mut seat, i, &mut members)?;
+        let run = members.as_slice();
+        let again = run_members(work, run, lanes, room, &mut verdicts, &mut judged)?;
         room = again;
     }
     Ok(Drained { seat, judged })
@@ -94,6 +189,9 @@ trait Worker {
 struct GatedWorker<'a, 'p, G> {
     work: Work<'a, 'p>,
     gate: &'a G,
+    /// How many workers there are.
+    workers: u32,
+    ghost some: { (0 < workers) × (workers ≤ 64) },
 }
 
 impl<G: Gate> Worker for GatedWorker<'_, '_, G> {
@@ -109,7 +207,7 @@ impl<G: Gate> Worker for GatedWorker<'_, '_, G> {
         board: &ClaimBoard,
         seat: ClaimSeat,
     ) -> Result<Drained, AllocError> {
-        drain(alloc, board, self.gate, &self.work, seat)
+        drain(alloc, board, self.gate, &self.work, self.workers, seat)
     }
 }
 
@@ -175,7 +273,11 @@ fn run_workers<'a, 'p, R: Threads + Sync, G: Gate + Sync>(
 {
     let (board, seat) = ClaimBoard::new(alloc, plan.batches())?;
     let work = Work { program, set, plan };
-    let worker = GatedWorker { work, gate };
+    let worker = GatedWorker {
+        work,
+        gate,
+        workers,
+    };
     let done = divide(rt, alloc, &board, &worker, seat, workers)?;
     let Drained { seat, judged } = done;
     let told = board.close(seat);

@@ -81,6 +81,14 @@ impl Plan {
         Plan { numbers, width }
     }
 
+    /// How many numbers a batch has; the last may have fewer.
+    pub(crate) fn width(&self) -> u32
+        ensures bounds { (0 < result) × (result ≤ 64) }
+        ensures plan { IsPlan (length (numbers_in self.now)) result self.now }
+    {
+        self.width
+    }
+
     /// How many batches there are.
     pub fn batches(&self) -> u32
         ensures count { result ≡ length self.now }

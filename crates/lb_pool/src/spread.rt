@@ -1,13 +1,13 @@
 //! The batches of a plan, spread over threads by `rayon`.
 
-ghost use Rattle.std.specs.Prelude.{◌≡◌, ◌<◌, [], length, flat_map, IfOk};
+ghost use Rattle.std.specs.Prelude.{◌≡◌, ◌<◌, length, flat_map, IfOk};
 ghost use Rattle.std.specs.List.{AllZip, range_with_len};
 ghost use Rattle.lb_pool.specs.Plans.{numbers_in};
 ghost use Rattle.lb_pool.specs.Correct.{AreVerdicts};
 ghost use Rattle.lb_pool.specs.Runs.{IsBatchOf};
 ghost use Rattle.lb_sim.specs.BatchRooms.{IsRoomFor};
 
-use crate::batch::{Judged, Work, run_batch, verdicts_of};
+use crate::batch::{Judged, Work, run_members, verdicts_of};
 use crate::plan::Plan;
 use lb_check::Verdict;
 use lb_flat::{Ordered, TraceSet};
@@ -44,8 +44,11 @@ fn judged_batch(
         work.now.plan.now i judged.items) }
 {
     let room = room_for(alloc, work.program, kept.take())?;
+    let mut verdicts = Vec::new(alloc);
     let mut judged = Vec::new(alloc);
-    let room = run_batch(work, i, room, &mut judged)?;
+    let members = work.batch(i);
+    let lanes = work.plan.width();
+    let room = run_members(work, members, lanes, room, &mut verdicts, &mut judged)?;
     *kept = Some(room);
     Ok(judged)
 }

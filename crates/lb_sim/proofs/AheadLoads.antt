@@ -45,9 +45,9 @@ module _ (first d : ℕ) (value : ℕ → ℕ → ℤ) (places : List ℕ) (old 
 
 -- ## Instants of members
 
-module _ (r : Recording) (members : List ℕ) (t live : ℕ) (columns places : List ℕ) where
+module _ (r : Recording) (members begins : List ℕ) (t live : ℕ) (columns places : List ℕ) where
   abbrev Filled : (count first end : ℕ) → (old new : List (List ℤ)) → Type 0
-  Filled count = AreLoadedAhead r members t count live columns places
+  Filled count = AreLoadedAhead r members begins t count live columns places
 
   pub filled_none : (count first : ℕ) (room : List (List ℤ)) → Filled count first first room room
   filled_none count first room = record {
@@ -69,7 +69,7 @@ module _ (r : Recording) (members : List ℕ) (t live : ℕ) (columns places : L
       put : (i d k : ℕ) → a ≤ i → i < c → on live i ≡ true → d < count → k < length places →
           (i < b) ⊎ (b ≤ i) →
           lane_of (get_or z (65 * k + d) []) i
-          ≡ member_cell r members (t + d) i (get_or columns (get_or places k 0) 0)
+          ≡ member_cell r members begins (t + d) i (get_or columns (get_or places k 0) 0)
       put i d k ge lt e ld lk (inl before) =
           g.others k d i (omega (arith, ld, some)) (omega (arith, lt, few)) (inl before)
           ∙ h.put i d k ge before e ld lk
@@ -97,7 +97,7 @@ module _ (r : Recording) (members : List ℕ) (t live : ℕ) (columns places : L
       end ≤ 64 → length new ≡ length rows →
       ((i k : ℕ) → first ≤ i → i < end → on live i ≡ true → k < length places →
       lane_of (get_or new (65 * k + n) []) i
-      ≡ member_cell r members (t + n) i (get_or columns (get_or places k 0) 0)) →
+      ≡ member_cell r members begins (t + n) i (get_or columns (get_or places k 0) 0)) →
       ((k e i : ℕ) → e < 64 → i < 64 → (e ≢ n) ⊎ ((i < first) ⊎ (end ≤ i)) →
       lane_of (get_or new (65 * k + e) []) i ≡ lane_of (get_or rows (65 * k + e) []) i) →
       Filled (n + 1) first end old new
@@ -106,7 +106,7 @@ module _ (r : Recording) (members : List ℕ) (t live : ℕ) (columns places : L
     put = λ i d k ge lt live_i ld lk.
         below_more
         (λ m. lane_of (get_or new (65 * k + m) []) i
-        ≡ member_cell r members (t + m) i (get_or columns (get_or places k 0) 0)) n
+        ≡ member_cell r members begins (t + m) i (get_or columns (get_or places k 0) 0)) n
         (λ m lm.
         let ne : m ≢ n = λ e. absurd (omega (arith, lm, e)) in
         others k m i (omega (arith, lm, ln)) (omega (arith, lt, few)) (inl ne)
@@ -120,7 +120,7 @@ module _ (r : Recording) (members : List ℕ) (t live : ℕ) (columns places : L
   pub all_filled :
       (count n : ℕ) (old new : List (List ℤ)) → Filled count 0 n old new →
       ((i : ℕ) → i < 64 → on live i ≡ true → i < n) →
-      AreAhead r members t (t + count) live columns places new
+      AreAhead r members begins t (t + count) live columns places new
   all_filled count n old new h inside = record {
     cells = λ i d k l e lt lk.
         h.put i d k (omega arith) (inside i l e) e (omega (arith, lt)) lk;

@@ -1,10 +1,11 @@
 -- One instant of a batch, as to each of its lanes; and its start.
-use Rattle.std.proofs.Common.{◌≡◌, ◌≢◌, ◌<◌, ◌+◌, ℕ, Bool, true, false, not, ◌&&◌, List, []}
-use Rattle.std.proofs.Common.{◌∷◌, ◌++◌, get_or, length, ℤ, pos, refl, sym, ap, ap₂, ◌∙◌}
-use Rattle.std.proofs.Common.{subst, inl, inr, arith}
-use Rattle.std.proofs.Math.Bool.{and-true, and-false}
+use Rattle.std.proofs.Common.{◌≡◌, ◌≢◌, ◌<◌, ◌≤◌, ◌+◌, ◌-◌, ℕ, Bool, true, false, not, ◌&&◌}
+use Rattle.std.proofs.Common.{◌||◌, List, [], ◌∷◌, ◌++◌, get_or, length, ℤ, pos, refl, sym}
+use Rattle.std.proofs.Common.{ap, ap₂, ◌∙◌, subst, inl, inr, arith}
+use Rattle.std.proofs.Math.Bool.{and-true, and-false, or-true, or-false}
 use Rattle.std.proofs.Math.Logic.{∥∥₁_elim}
 use Rattle.std.proofs.Props.{props}
+use mathlib.Core.Path.{fun_ext}
 use Rattle.std.specs.Prelude.{slice_index, slice_index_or, if◌then◌else◌}
 use Rattle.lb_check.specs.Scalars.{Scalar}
 use Rattle.lb_check.specs.Solutions.{Inputs}
@@ -18,10 +19,12 @@ use Rattle.lb_flat.specs.Judging.{FlatProgram}
 use Rattle.lb_flat.specs.Programs.{program_of}
 use Rattle.lb_lanes.specs.Kernels.{lane_of}
 use Rattle.lb_lanes.specs.Planes.{IsPlaneOf, on}
+use Rattle.lb_lanes.proofs.OnPlanes.{on-zero}
 use Rattle.lb_machine.specs.Meaning.{Lane, HasConstants, lane_at}
 use Rattle.lb_machine.specs.declared.code.Code.{Code}
 use Rattle.lb_sim.specs.Codes.{Suits}
 use Rattle.lb_sim.specs.Compiled.{IsHomeAt, HasConstantWords, given_at}
+use Rattle.lb_sim.specs.InputRows.{begin_of, instant_in}
 use Rattle.lb_sim.specs.LaidOut.{start_lane}
 use Rattle.lb_sim.specs.LaneMoves.{IsMovedOn, StandsIn}
 use Rattle.lb_sim.specs.LaneStates.{HoldSame, IsCodeIn, IsComputed, StandsAt, is_passed}
@@ -37,24 +40,25 @@ use Rattle.lb_sim.proofs.LaneSteps as steps_of
 
 -- ## The start
 
--- the first planes and words hold what the program starts with, in each lane
-pub record IsStarted (p : LaneProgram) (planes : List ℕ) (words : List (List ℤ)) : Type 0 where
+-- a lane of the first planes and words holds what the program starts with
+pub record IsStarted (p : LaneProgram) (planes : List ℕ) (words : List (List ℤ)) (i : ℕ) :
+    Type 0 where
   pub planes_put :
       (k : ℕ) → k < length p.start_planes.items →
-      slice_index planes k ≡ slice_index p.start_planes.items k
+      on (slice_index planes k) i ≡ on (slice_index p.start_planes.items k) i
   pub words_put :
-      (k i : ℕ) → k < length p.start_words.items → i < 64 →
+      (k : ℕ) → k < length p.start_words.items →
       lane_of (slice_index_or words k []) i ≡ slice_index_or p.start_words.items k (pos 0)
 
--- the same of other names for the lists
+-- the same of other names for the planes and words
 pub started_as :
-    (p : LaneProgram) (P p0 : List ℕ) (W w0 : List (List ℤ)) → p0 ≡ P → w0 ≡ W →
-    IsStarted p P W → IsStarted p p0 w0
-started_as p P p0 W w0 a b h =
-    subst (λ x. IsStarted p p0 x) (sym b) (subst (λ x. IsStarted p x W) (sym a) h)
+    (p : LaneProgram) (P p0 : List ℕ) (W w0 : List (List ℤ)) (i : ℕ) → p0 ≡ P → w0 ≡ W →
+    IsStarted p P W i → IsStarted p p0 w0 i
+started_as p P p0 W w0 i a b h =
+    subst (λ x. IsStarted p p0 x i) (sym b) (subst (λ x. IsStarted p x W i) (sym a) h)
 
-module _ (p : LaneProgram) (planes : List ℕ) (words : List (List ℤ))
-    (started : IsStarted p planes words) (i : ℕ) (below : i < 64) where
+module _ (p : LaneProgram) (planes : List ℕ) (words : List (List ℤ)) (i : ℕ) (below : i < 64)
+    (started : IsStarted p planes words i) where
   abbrev begun : Lane
   begun = lane_at planes words i
 
@@ -66,12 +70,11 @@ module _ (p : LaneProgram) (planes : List ℕ) (words : List (List ℤ))
 
   bits_start : (k : ℕ) → k < code.first_plane → begun.bits k ≡ at_start.bits k
   bits_start k h =
-      ap (λ x. on x i)
-      (started.planes_put k (omega (arith, h, start_planes_room p p.general p.general_law)))
+      started.planes_put k (omega (arith, h, start_planes_room p p.general p.general_law))
 
   ints_start : (k : ℕ) → k < code.first_word → begun.ints k ≡ at_start.ints k
   ints_start k h =
-      started.words_put k i (omega (arith, h, start_words_room p p.general p.general_law)) below
+      started.words_put k (omega (arith, h, start_words_room p p.general p.general_law))
 
   -- what is the same everywhere is there
   pub begun_constants : HasConstants begun
@@ -103,16 +106,17 @@ module _ (p : LaneProgram) (planes : List ℕ) (words : List (List ℤ))
       word k (inl e) = ints_start k (omega (arith, e, code.zero))
       word k (inr h) = ints_start k (h.1)
 
-  -- each lane stands for the empty trace
+  -- the lane stands for the empty trace
   pub begun_stands :
-      (v : Verdict) (active : Bool) → v ≡ Passed →
-      StandsAt (program_of p.program.now) p.kept.items begun v active 0 []
-  begun_stands v active e =
+      (v : Verdict) (active : Bool) (steps : ℕ) → v ≡ Passed → steps ≡ 0 →
+      StandsAt (program_of p.program.now) p.kept.items begun v active steps []
+  begun_stands v active steps e none =
       let f = program_of p.program.now in
-      subst (λ u. StandsAt f p.kept.items begun u active 0 []) (sym e)
+      subst (λ n. StandsAt f p.kept.items begun v active n []) (sym none)
+      (subst (λ u. StandsAt f p.kept.items begun u active 0 []) (sym e)
       (∥∥₁_elim p.general_law (stands_prop f p.kept.items begun Passed active 0 [])
       (λ law. layouts.stands_empty f code p.memory_plane p.memory_word p.kept.items
-      law.compiled.homes at_start begun starts_same (law.laid_out.start_state i below) active))
+      law.compiled.homes at_start begun starts_same (law.laid_out.start_state i below) active)))
 
 not_passed : (v : Verdict) → v ≢ Passed → is_passed v ≡ false
 not_passed Passed ne = absurd (ne refl)
@@ -210,37 +214,38 @@ module _ (p : LaneProgram) (c : LaneCode) (law : IsCodeIn p c) (row : List Scala
 abbrev pub AreMovedOn :
     (p : LaneProgram) (rows : ℕ → List Scalar) (planes planes' : List ℕ)
     (words words' : List (List ℤ)) (verdicts verdicts' : List Verdict)
-    (active live active' steps : ℕ) → Type 0
+    (active live active' : ℕ) (steps : ℕ → ℕ) → Type 0
 AreMovedOn p rows planes planes' words words' verdicts verdicts' active live active' steps =
     (i : ℕ) → i < 64 →
     IsMovedOn p (rows i) (lane_at planes words i) (lane_at planes' words' i)
     (get_or verdicts i Passed) (get_or verdicts' i Passed) (on active i) (on live i)
-    (on active' i) steps
+    (on active' i) (steps i)
 
 -- the same of other names for the lists
 pub moved_as :
     (p : LaneProgram) (rows : ℕ → List Scalar) (P P' p0 p1 : List ℕ)
-    (W W' w0 w1 : List (List ℤ)) (V V' v0 v1 : List Verdict) (active live active' steps : ℕ) →
-    p0 ≡ P → p1 ≡ P' → w0 ≡ W → w1 ≡ W' → v0 ≡ V → v1 ≡ V' →
-    AreMovedOn p rows P P' W W' V V' active live active' steps →
-    AreMovedOn p rows p0 p1 w0 w1 v0 v1 active live active' steps
-moved_as p rows P P' p0 p1 W W' w0 w1 V V' v0 v1 active live active' steps a b c d e g h =
-    let h1 = subst (λ x. AreMovedOn p rows x P' W W' V V' active live active' steps) (sym a) h in
-    let h2 =
-    subst (λ x. AreMovedOn p rows p0 x W W' V V' active live active' steps) (sym b) h1 in
-    let h3 =
-    subst (λ x. AreMovedOn p rows p0 p1 x W' V V' active live active' steps) (sym c) h2 in
-    let h4 =
-    subst (λ x. AreMovedOn p rows p0 p1 w0 x V V' active live active' steps) (sym d) h3 in
-    let h5 =
-    subst (λ x. AreMovedOn p rows p0 p1 w0 w1 x V' active live active' steps) (sym e) h4 in
-    subst (λ x. AreMovedOn p rows p0 p1 w0 w1 v0 x active live active' steps) (sym g) h5
+    (W W' w0 w1 : List (List ℤ)) (V V' v0 v1 : List Verdict) (B b0 : List ℕ)
+    (active live active' t : ℕ) →
+    p0 ≡ P → p1 ≡ P' → w0 ≡ W → w1 ≡ W' → v0 ≡ V → v1 ≡ V' → b0 ≡ B →
+    AreMovedOn p rows P P' W W' V V' active live active' (instant_in B t) →
+    AreMovedOn p rows p0 p1 w0 w1 v0 v1 active live active' (instant_in b0 t)
+moved_as p rows P P' p0 p1 W W' w0 w1 V V' v0 v1 B b0 active live active' t a b c d e g k h =
+    let s = instant_in B t in
+    let h1 = subst (λ x. AreMovedOn p rows x P' W W' V V' active live active' s) (sym a) h in
+    let h2 = subst (λ x. AreMovedOn p rows p0 x W W' V V' active live active' s) (sym b) h1 in
+    let h3 = subst (λ x. AreMovedOn p rows p0 p1 x W' V V' active live active' s) (sym c) h2 in
+    let h4 = subst (λ x. AreMovedOn p rows p0 p1 w0 x V V' active live active' s) (sym d) h3 in
+    let h5 = subst (λ x. AreMovedOn p rows p0 p1 w0 w1 x V' active live active' s) (sym e) h4 in
+    let h6 = subst (λ x. AreMovedOn p rows p0 p1 w0 w1 v0 x active live active' s) (sym g) h5 in
+    subst
+    (λ (x : List ℕ).
+    AreMovedOn p rows p0 p1 w0 w1 v0 v1 active live active' (instant_in x t)) (sym k) h6
 
 module _ (p : LaneProgram) (rows : ℕ → List Scalar) (planes planes' : List ℕ)
     (words words' : List (List ℤ)) (verdicts verdicts' : List Verdict)
-    (live0 active live active' steps : ℕ)
+    (live0 active live active' : ℕ) (begins : List ℕ) (t : ℕ)
     (moved : AreMovedOn p rows planes planes' words words' verdicts verdicts' active live active'
-    steps)
+    (instant_in begins t))
     (was : IsPlaneOf (λ i. on live0 i && is_passed (get_or verdicts i Passed)) active) where
   -- a verdict that was found stays
   pub run_settled :
@@ -252,45 +257,255 @@ module _ (p : LaneProgram) (rows : ℕ → List Scalar) (planes planes' : List �
       ∙ ap (λ b. on live0 i && b) (not_passed (get_or verdicts i Passed) ne)
       ∙ and-false (on live0 i))
 
-  module _ (shrinks : (i : ℕ) → i < 64 → on live i ≡ true → on live0 i ≡ true) where
-    active_was :
-        (i : ℕ) → i < 64 → on live i ≡ true →
-        on active i ≡ is_passed (get_or verdicts i Passed)
-    active_was i h there =
-        was i h ∙ ap (λ b. b && is_passed (get_or verdicts i Passed)) (shrinks i h there)
+  module _ (begun : (i : ℕ) → i < 64 → begin_of begins i ≤ t) where
+    one_more : (i : ℕ) → i < 64 → instant_in begins t i + 1 ≡ instant_in begins (t + 1) i
+    one_more i h = omega (arith, begun i h)
 
-    -- a live lane stands for its trace and one row more
-    pub run_moves :
-        (K : ℕ → FlatClock) →
-        IsFitting (program_of p.program.now).inputs K
-        (kind_among (program_of p.program.now).kinds) (program_of p.program.now).equations →
-        (i : ℕ) (X : Inputs) → i < 64 → on live i ≡ true →
-        StandsIn p (lane_at planes words i) (get_or verdicts i Passed) (on active i) steps X →
+    -- a lane that is not live stands for what it stood for
+    pub run_stays :
+        (i : ℕ) (X : Inputs) → i < 64 → on live i ≡ false →
+        StandsIn p (lane_at planes words i) (get_or verdicts i Passed) (on active i)
+        (instant_in begins t i) X →
         StandsIn p (lane_at planes' words' i) (get_or verdicts' i Passed) (on active' i)
-        (steps + 1) (X ++ rows i ∷ [])
-    run_moves K fits i X h there stands =
-        (moved i h).moves there (active_was i h there) K fits X stands
+        (instant_in begins (t + 1) i) X
+    run_stays i X h off stands =
+        subst
+        (λ n. StandsIn p (lane_at planes' words' i) (get_or verdicts' i Passed) (on active' i) n X)
+        (one_more i h) ((moved i h).stays off X stands)
 
-    -- the lanes that are active are those that are live and have passed
-    pub run_going : IsPlaneOf (λ i. on live i && is_passed (get_or verdicts' i Passed)) active'
-    run_going i h = by (on live i) refl
-      where
-        by : (b : Bool) → on live i ≡ b →
-            on active' i ≡ (on live i && is_passed (get_or verdicts' i Passed))
-        by true e =
-            (moved i h).passes e (active_was i h e)
-            ∙ sym (ap (λ b. b && is_passed (get_or verdicts' i Passed)) e)
-        by false e =
-            (moved i h).rests e
-            ∙ sym (ap (λ b. b && is_passed (get_or verdicts' i Passed)) e)
+    module _ (shrinks : (i : ℕ) → i < 64 → on live i ≡ true → on live0 i ≡ true) where
+      active_was :
+          (i : ℕ) → i < 64 → on live i ≡ true →
+          on active i ≡ is_passed (get_or verdicts i Passed)
+      active_was i h there =
+          was i h ∙ ap (λ b. b && is_passed (get_or verdicts i Passed)) (shrinks i h there)
 
--- where no lane has a verdict, those that are live are active
-pub all_passed :
-    (verdicts vs : List Verdict) (live : ℕ) → vs ≡ verdicts →
-    ((i : ℕ) → get_or verdicts i Passed ≡ Passed) →
-    IsPlaneOf (λ i. on live i && is_passed (get_or vs i Passed)) live
-all_passed verdicts vs live same none i h =
-    sym
-    (ap (λ v. on live i && is_passed v)
-    (ap (λ (us : List Verdict). get_or us i Passed) same ∙ none i)
-    ∙ and-true (on live i))
+      -- a live lane stands for its trace and one row more
+      pub run_moves :
+          (K : ℕ → FlatClock) →
+          IsFitting (program_of p.program.now).inputs K
+          (kind_among (program_of p.program.now).kinds) (program_of p.program.now).equations →
+          (i : ℕ) (X : Inputs) → i < 64 → on live i ≡ true →
+          StandsIn p (lane_at planes words i) (get_or verdicts i Passed) (on active i)
+          (instant_in begins t i) X →
+          StandsIn p (lane_at planes' words' i) (get_or verdicts' i Passed) (on active' i)
+          (instant_in begins (t + 1) i) (X ++ rows i ∷ [])
+      run_moves K fits i X h there stands =
+          subst
+          (λ n. StandsIn p (lane_at planes' words' i) (get_or verdicts' i Passed) (on active' i)
+          n (X ++ rows i ∷ []))
+          (one_more i h) ((moved i h).moves there (active_was i h there) K fits X stands)
+
+      -- the lanes that are active are those that are live and have passed
+      pub run_going : IsPlaneOf (λ i. on live i && is_passed (get_or verdicts' i Passed)) active'
+      run_going i h = by (on live i) refl
+        where
+          by : (b : Bool) → on live i ≡ b →
+              on active' i ≡ (on live i && is_passed (get_or verdicts' i Passed))
+          by true e =
+              (moved i h).passes e (active_was i h e)
+              ∙ sym (ap (λ b. b && is_passed (get_or verdicts' i Passed)) e)
+          by false e =
+              (moved i h).rests e
+              ∙ sym (ap (λ b. b && is_passed (get_or verdicts' i Passed)) e)
+
+-- ## Lanes that begin again
+
+-- lanes hold what the program starts with, and each other lane what it held
+pub record AreRestarted (p : LaneProgram) (planes planes' : List ℕ)
+    (words words' : List (List ℤ)) (lanes : ℕ) : Type 0 where
+  pub started : (i : ℕ) → i < 64 → on lanes i ≡ true → IsStarted p planes' words' i
+  pub other_planes :
+      (k i : ℕ) → i < 64 → on lanes i ≡ false →
+      on (slice_index planes' k) i ≡ on (slice_index planes k) i
+  pub other_words :
+      (k i : ℕ) → i < 64 → on lanes i ≡ false →
+      lane_of (slice_index_or words' k []) i ≡ lane_of (slice_index_or words k []) i
+
+-- the same of other names for the lists
+pub restarted_as :
+    (p : LaneProgram) (P P' p0 p1 : List ℕ) (W W' w0 w1 : List (List ℤ)) (lanes : ℕ) →
+    p0 ≡ P → p1 ≡ P' → w0 ≡ W → w1 ≡ W' → AreRestarted p P P' W W' lanes →
+    AreRestarted p p0 p1 w0 w1 lanes
+restarted_as p P P' p0 p1 W W' w0 w1 lanes a b c d h =
+    let h1 = subst (λ x. AreRestarted p x P' W W' lanes) (sym a) h in
+    let h2 = subst (λ x. AreRestarted p p0 x W W' lanes) (sym b) h1 in
+    let h3 = subst (λ x. AreRestarted p p0 p1 x W' lanes) (sym c) h2 in
+    subst (λ x. AreRestarted p p0 p1 w0 x lanes) (sym d) h3
+
+-- lanes that hold the same are the same
+same_lane :
+    (s s' : Lane) → ((k : ℕ) → s'.bits k ≡ s.bits k) → ((k : ℕ) → s'.ints k ≡ s.ints k) →
+    s' ≡ s
+same_lane s s' bits ints = λ j. record { bits = fun_ext bits j; ints = fun_ext ints j }
+
+-- what is the same stands for the same
+stands_as :
+    (p : LaneProgram) (s s' : Lane) (v v' : Verdict) (active active' : Bool) (n n' : ℕ)
+    (X : Inputs) → s' ≡ s → v' ≡ v → active' ≡ active → n' ≡ n → StandsIn p s v active n X →
+    StandsIn p s' v' active' n' X
+stands_as p s s' v v' active active' n n' X a b c d h =
+    let h1 = subst (λ x. StandsIn p x v active n X) (sym a) h in
+    let h2 = subst (λ x. StandsIn p s' x active n X) (sym b) h1 in
+    let h3 = subst (λ x. StandsIn p s' v' x n X) (sym c) h2 in
+    subst (λ x. StandsIn p s' v' active' x X) (sym d) h3
+
+-- what lanes have, put where a plane says so
+abbrev HavePut : {A : Type 0} (z : A) (lanes : ℕ) (v : A) (old new : List A) → Type 0
+HavePut z lanes v old new =
+    (i : ℕ) → i < 64 → get_or new i z ≡ (if on lanes i then v else get_or old i z)
+
+-- the same of other names for the lists
+pub put_as :
+    {A : Type 0} (z : A) (lanes : ℕ) (v : A) (old new a b : List A) → a ≡ old → b ≡ new →
+    HavePut z lanes v old new → HavePut z lanes v a b
+put_as {A} z lanes v old new a b same same' h =
+    subst (λ x. HavePut z lanes v a x) (sym same')
+    (subst (λ x. HavePut z lanes v x new) (sym same) h)
+
+pub put_there :
+    {A : Type 0} (z : A) (lanes : ℕ) (v : A) (old new : List A) → HavePut z lanes v old new →
+    (i : ℕ) → i < 64 → on lanes i ≡ true → get_or new i z ≡ v
+put_there z lanes v old new h i below e =
+    h i below ∙ ap (λ b. if b then v else get_or old i z) e
+
+put_other :
+    {A : Type 0} (z : A) (lanes : ℕ) (v : A) (old new : List A) → HavePut z lanes v old new →
+    (i : ℕ) → i < 64 → on lanes i ≡ false → get_or new i z ≡ get_or old i z
+put_other z lanes v old new h i below e =
+    h i below ∙ ap (λ b. if b then v else get_or old i z) e
+
+-- the plane whose lanes are not those of none has all lanes
+pub every_lane :
+    (lanes : ℕ) → IsPlaneOf (λ i. not (on 0 i)) lanes → (i : ℕ) → i < 64 → on lanes i ≡ true
+every_lane lanes h i below = h i below ∙ ap not (on-zero i)
+
+-- a plane with the lanes of another
+abbrev WithLanes : (old new lanes : ℕ) → Type 0
+WithLanes old new lanes = IsPlaneOf (λ i. on old i || on lanes i) new
+
+with_lanes_there :
+    (old new lanes i : ℕ) → i < 64 → on lanes i ≡ true → WithLanes old new lanes →
+    on new i ≡ true
+with_lanes_there old new lanes i below e h =
+    h i below ∙ ap (λ b. on old i || b) e ∙ or-true (on old i)
+
+with_lanes_other :
+    (old new lanes i : ℕ) → i < 64 → on lanes i ≡ false → WithLanes old new lanes →
+    on new i ≡ on old i
+with_lanes_other old new lanes i below e h =
+    h i below ∙ ap (λ b. on old i || b) e ∙ or-false (on old i)
+
+module _ (p : LaneProgram) (planes planes' : List ℕ) (words words' : List (List ℤ)) (lanes : ℕ)
+    (restarted : AreRestarted p planes planes' words words' lanes) where
+  other_same :
+      (i : ℕ) → i < 64 → on lanes i ≡ false → lane_at planes' words' i ≡ lane_at planes words i
+  other_same i h off =
+      same_lane (lane_at planes words i) (lane_at planes' words' i)
+      (λ k. restarted.other_planes k i h off) (λ k. restarted.other_words k i h off)
+
+  -- what is the same everywhere stays so
+  pub restart_constants :
+      ((i : ℕ) → i < 64 → HasConstants (lane_at planes words i)) → (i : ℕ) → i < 64 →
+      HasConstants (lane_at planes' words' i)
+  restart_constants were i h = by (on lanes i) refl
+    where
+      by : (b : Bool) → on lanes i ≡ b → HasConstants (lane_at planes' words' i)
+      by true e = begun_constants p planes' words' i h (restarted.started i h e)
+      by false e = subst HasConstants (sym (other_same i h e)) (were i h)
+
+  abbrev Constants : Lane → Type 0
+  Constants = HasConstantWords p.constant_word p.memory_word p.start_words.items
+
+  -- and so do the constants
+  pub restart_constant_words :
+      ((i : ℕ) → i < 64 → Constants (lane_at planes words i)) → (i : ℕ) → i < 64 →
+      Constants (lane_at planes' words' i)
+  restart_constant_words were i h = by (on lanes i) refl
+    where
+      by : (b : Bool) → on lanes i ≡ b → Constants (lane_at planes' words' i)
+      by true e = begun_constant_words p planes' words' i h (restarted.started i h e)
+      by false e = subst Constants (sym (other_same i h e)) (were i h)
+
+module _ (lanes : ℕ) (begins begins' : List ℕ) (t : ℕ)
+    (begins_are : HavePut 0 lanes t begins begins') where
+  -- where all lanes begin at an instant, none begins after it
+  pub all_begun :
+      ((i : ℕ) → i < 64 → on lanes i ≡ true) → (i : ℕ) → i < 64 → begin_of begins' i ≤ t
+  all_begun every i h =
+      omega (arith, put_there 0 lanes t begins begins' begins_are i h (every i h))
+
+  pub restart_begun :
+      ((i : ℕ) → i < 64 → begin_of begins i ≤ t) → (i : ℕ) → i < 64 → begin_of begins' i ≤ t
+  restart_begun begun i h = by (on lanes i) refl
+    where
+      by : (b : Bool) → on lanes i ≡ b → begin_of begins' i ≤ t
+      by true e = omega (arith, put_there 0 lanes t begins begins' begins_are i h e)
+      by false e = omega (arith, put_other 0 lanes t begins begins' begins_are i h e, begun i h)
+
+module _ (lanes : ℕ) (verdicts verdicts' : List Verdict)
+    (verdicts_are : HavePut Passed lanes Passed verdicts verdicts') where
+  has_passed : (i : ℕ) → i < 64 → on lanes i ≡ true → get_or verdicts' i Passed ≡ Passed
+  has_passed = put_there Passed lanes Passed verdicts verdicts' verdicts_are
+
+  pub restart_verdict :
+      (i : ℕ) → i < 64 → on lanes i ≡ false →
+      get_or verdicts' i Passed ≡ get_or verdicts i Passed
+  restart_verdict = put_other Passed lanes Passed verdicts verdicts' verdicts_are
+
+  -- where all lanes have passed, those that are live are active
+  pub all_passed :
+      (live : ℕ) → ((i : ℕ) → i < 64 → on lanes i ≡ true) →
+      IsPlaneOf (λ i. on live i && is_passed (get_or verdicts' i Passed)) live
+  all_passed live every i h =
+      sym
+      (ap (λ v. on live i && is_passed v) (has_passed i h (every i h)) ∙ and-true (on live i))
+
+  -- the lanes that are active are those that are live and have passed
+  pub restart_going :
+      (live active live' active' : ℕ) →
+      IsPlaneOf (λ i. on live i && is_passed (get_or verdicts i Passed)) active →
+      WithLanes live live' lanes → WithLanes active active' lanes →
+      IsPlaneOf (λ i. on live' i && is_passed (get_or verdicts' i Passed)) active'
+  restart_going live active live' active' was lives acts i h = by (on lanes i) refl
+    where
+      by : (b : Bool) → on lanes i ≡ b →
+          on active' i ≡ (on live' i && is_passed (get_or verdicts' i Passed))
+      by true e =
+          with_lanes_there active active' lanes i h e acts
+          ∙ sym
+          (ap₂ (λ b v. b && is_passed v) (with_lanes_there live live' lanes i h e lives)
+          (has_passed i h e))
+      by false e =
+          with_lanes_other active active' lanes i h e acts
+          ∙ was i h
+          ∙ sym
+          (ap₂ (λ b v. b && is_passed v) (with_lanes_other live live' lanes i h e lives)
+          (restart_verdict i h e))
+
+  module _ (begins begins' : List ℕ) (t : ℕ)
+      (begins_are : HavePut 0 lanes t begins begins') (active active' : ℕ)
+      (acts : WithLanes active active' lanes) (p : LaneProgram) (planes planes' : List ℕ)
+      (words words' : List (List ℤ))
+      (restarted : AreRestarted p planes planes' words words' lanes) where
+    -- the lanes stand for the empty trace
+    pub restart_empty :
+        (i : ℕ) → i < 64 → on lanes i ≡ true →
+        StandsIn p (lane_at planes' words' i) (get_or verdicts' i Passed) (on active' i)
+        (instant_in begins' t i) []
+    restart_empty i h e =
+        begun_stands p planes' words' i h (restarted.started i h e) _ _ _ (has_passed i h e)
+        (omega (arith, put_there 0 lanes t begins begins' begins_are i h e))
+
+    -- and each other lane for what it stood for
+    pub restart_others :
+        (i : ℕ) (X : Inputs) → i < 64 → on lanes i ≡ false →
+        StandsIn p (lane_at planes words i) (get_or verdicts i Passed) (on active i)
+        (instant_in begins t i) X →
+        StandsIn p (lane_at planes' words' i) (get_or verdicts' i Passed) (on active' i)
+        (instant_in begins' t i) X
+    restart_others i X h off stands =
+        stands_as p (lane_at planes words i) (lane_at planes' words' i) _ _ _ _ _ _ X
+        (other_same p planes planes' words words' lanes restarted i h off)
+        (restart_verdict i h off) (with_lanes_other active active' lanes i h off acts)
+        (ap (λ b. t - b) (put_other 0 lanes t begins begins' begins_are i h off)) stands

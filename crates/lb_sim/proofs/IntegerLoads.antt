@@ -45,9 +45,9 @@ four_are first i a b c d f ea eb ec ed ge lt =
 
 -- ## Members one after the other
 
-module _ (r : Recording) (members : List ℕ) (t live : ℕ) (columns places : List ℕ) where
+module _ (r : Recording) (members begins : List ℕ) (t live : ℕ) (columns places : List ℕ) where
   abbrev Loaded : (first end : ℕ) → (old new : List (List ℤ)) → Type 0
-  Loaded = AreLoaded r members t live columns places
+  Loaded = AreLoaded r members begins t live columns places
 
   pub loaded_none : (first : ℕ) (words : List (List ℤ)) → Loaded first first words words
   loaded_none first words = record {
@@ -69,7 +69,7 @@ module _ (r : Recording) (members : List ℕ) (t live : ℕ) (columns places : L
       put : (i k : ℕ) → a ≤ i → i < c → on live i ≡ true → k < length places →
           (i < b) ⊎ (b ≤ i) →
           lane_of (get_or z (get_or places k 0) []) i
-          ≡ member_cell r members t i (get_or columns (get_or places k 0) 0)
+          ≡ member_cell r members begins t i (get_or columns (get_or places k 0) 0)
       put i k ge lt e l (inl before) =
           g.others i (get_or places k 0) (omega (arith, lt, few)) (inl before)
           ∙ h.put i k ge before e l

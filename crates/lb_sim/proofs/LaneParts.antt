@@ -1,7 +1,7 @@
 -- The parts of an instant of a batch, as to what each of them makes of one lane.
-use Rattle.std.proofs.Common.{◌≡◌, ◌≢◌, ◌<◌, ◌≤◌, ◌+◌, ℕ, true, false}
-use Rattle.std.proofs.Common.{List, [], map, length, get_or, set, ℤ, pos, sym}
-use Rattle.std.proofs.Common.{ap, ◌∙◌, arith, below_more, length-set}
+use Rattle.std.proofs.Common.{◌≡◌, ◌≢◌, ◌<◌, ◌≤◌, ◌+◌, ℕ, true, false, List, [], map, length}
+use Rattle.std.proofs.Common.{get_or, set, ℤ, sym, ap, ◌∙◌, arith}
+use Rattle.std.proofs.Common.{below_more, length-set}
 use Rattle.std.proofs.Math.Logic.{∥∥₁_elim}
 use Rattle.std.proofs.lemmas.List.{get_or-set_same, get_or-set_other}
 use Rattle.std.specs.List.{AllByRecursion}
@@ -9,8 +9,6 @@ use Rattle.std.specs.Prelude.{nat_lt, slice_index, slice_index_or, if◌then◌e
 use Rattle.std.proofs.lemmas.Bool.{le-ltb}
 use Rattle.lb_syntax.specs.declared.tree.Kind.{Kind}
 use Rattle.lb_check.specs.Scalars.{Scalar}
-use Rattle.lb_check.specs.declared.verdict.Verdict.{Verdict}
-use Rattle.lb_check.specs.declared.verdict.Verdict.TheVariants.{Passed}
 use Rattle.lb_flat.specs.Programs.{program_of}
 use Rattle.lb_lanes.specs.Kernels.{lane_of}
 use Rattle.lb_lanes.specs.Planes.{IsPlaneOf, on}
@@ -32,17 +30,16 @@ use Rattle.lb_sim.proofs.LanePrograms.{inputs_words, constants_words}
 pub lanes_none : IsPlaneOf (λ i. nat_lt i 0) 0
 lanes_none i h = on-zero i ∙ sym (le-ltb i 0 (omega arith))
 
--- the first words hold in each lane what a program starts with
-pub record StartPut (start : List ℤ) (old new : List (List ℤ)) (n : ℕ) : Type 0 where
-  pub as_long : length new ≡ length old
-  pub put :
-      (k i : ℕ) → k < n → i < 64 →
-      lane_of (slice_index_or new k []) i ≡ slice_index_or start k (pos 0)
-
--- no lane has a verdict, of the first so many
-pub record PassedPut (old new : List Verdict) (n : ℕ) : Type 0 where
-  pub as_long : length new ≡ length old
-  pub put : (i : ℕ) → i < n → get_or new i Passed ≡ Passed
+-- of lists whose elements have lanes: those of a plane are put in the first elements, and each
+-- other lane is what it was
+module _ {A B : Type 0} (z : A) (lane : A → ℕ → B) (lanes : ℕ) (given : ℕ → ℕ → B) where
+  pub record LanesTakenOver (old new : List A) (n : ℕ) : Type 0 where
+    pub as_long : length new ≡ length old
+    pub put :
+        (k i : ℕ) → k < n → i < 64 → on lanes i ≡ true → lane (get_or new k z) i ≡ given k i
+    pub others :
+        (k i : ℕ) → i < 64 → on lanes i ≡ false →
+        lane (get_or new k z) i ≡ lane (get_or old k z) i
 
 -- ## The run of the code
 
@@ -139,51 +136,50 @@ module _ (p : LaneProgram) (c : LaneCode) (law : IsCodeIn p c) (np nw : ℕ)
     same = memories_same;
   }
 
--- ## Verdicts
+-- ## What lanes have one by one
 
-module _ (lanes : ℕ) (judged : ℕ → Verdict) where
-  -- the verdicts of the first so many lanes are put, where a plane says so
-  pub record Settled (old new : List Verdict) (n : ℕ) : Type 0 where
+module _ {A : Type 0} (z : A) (lanes : ℕ) (given : ℕ → A) where
+  -- what the first so many lanes have is put, where a plane says so
+  pub record Settled (old new : List A) (n : ℕ) : Type 0 where
     pub as_long : length new ≡ length old
     pub put :
-        (i : ℕ) → i < n →
-        get_or new i Passed ≡ (if on lanes i then judged i else get_or old i Passed)
-    pub rest : (i : ℕ) → n ≤ i → get_or new i Passed ≡ get_or old i Passed
+        (i : ℕ) → i < n → get_or new i z ≡ (if on lanes i then given i else get_or old i z)
+    pub rest : (i : ℕ) → n ≤ i → get_or new i z ≡ get_or old i z
 
-  -- one lane more that is decided
+  -- one lane more that the plane has
   pub settled_on :
-      (old new : List Verdict) (n : ℕ) (v : Verdict) → Settled old new n → n < length old →
-      on lanes n ≡ true → v ≡ judged n → Settled old (set new n v) (n + 1)
+      (old new : List A) (n : ℕ) (v : A) → Settled old new n → n < length old →
+      on lanes n ≡ true → v ≡ given n → Settled old (set new n v) (n + 1)
   settled_on old new n v h lt there is =
       let within : n < length new = omega (arith, h.as_long, lt) in
       record {
         as_long = length-set new n v ∙ h.as_long;
         put =
             below_more
-            (λ i. get_or (set new n v) i Passed
-            ≡ (if on lanes i then judged i else get_or old i Passed)) n
+            (λ i. get_or (set new n v) i z
+            ≡ (if on lanes i then given i else get_or old i z)) n
             (λ i l.
             let ne : i ≢ n = λ e. absurd (omega (arith, l, e)) in
-            get_or-set_other new n i v Passed ne ∙ h.put i l)
-            (get_or-set_same new n v Passed within
+            get_or-set_other new n i v z ne ∙ h.put i l)
+            (get_or-set_same new n v z within
             ∙ is
-            ∙ sym (ap (λ b. if b then judged n else get_or old n Passed) there));
+            ∙ sym (ap (λ b. if b then given n else get_or old n z) there));
         rest = λ i l.
             let ne : i ≢ n = λ e. absurd (omega (arith, l, e)) in
-            get_or-set_other new n i v Passed ne ∙ h.rest i (omega (arith, l));
+            get_or-set_other new n i v z ne ∙ h.rest i (omega (arith, l));
       }
 
   -- one that is not
   pub settled_off :
-      (old new : List Verdict) (n : ℕ) → Settled old new n → on lanes n ≡ false →
+      (old new : List A) (n : ℕ) → Settled old new n → on lanes n ≡ false →
       Settled old new (n + 1)
   settled_off old new n h off = record {
     as_long = h.as_long;
     put =
         below_more
-        (λ i. get_or new i Passed ≡ (if on lanes i then judged i else get_or old i Passed)) n
+        (λ i. get_or new i z ≡ (if on lanes i then given i else get_or old i z)) n
         (λ i l. h.put i l)
         (h.rest n (omega arith)
-        ∙ sym (ap (λ b. if b then judged n else get_or old n Passed) off));
+        ∙ sym (ap (λ b. if b then given n else get_or old n z) off));
     rest = λ i l. h.rest i (omega (arith, l));
   }

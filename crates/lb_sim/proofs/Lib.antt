@@ -1,5 +1,6 @@
 pub mod Shown
 pub mod Growth
+pub mod Queueing
 pub mod IntegerHoldings
 pub mod TruthHoldings
 pub mod Comparisons
@@ -49,6 +50,7 @@ pub mod CommitLoop
 pub mod Assembled
 pub mod EquationsAt
 pub mod RunningBatches
+pub mod RunningQueues
 pub mod Choosing
 mod AlikeRuns
 mod ReadElements

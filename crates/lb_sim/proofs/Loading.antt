@@ -226,9 +226,10 @@ each_of_four P first i p0 p1 p2 p3 ge lt =
 
 -- ## Booleans of members
 
-module _ (r : Recording) (members : List ℕ) (first live : ℕ) (columns : List ℕ) (count : ℕ) where
+module _ (r : Recording) (members begins : List ℕ) (first live : ℕ) (columns : List ℕ)
+    (count : ℕ) where
   abbrev Loaded : (a b : ℕ) → (old new : List ℕ) → Type 0
-  Loaded = AreTruthsLoaded r members first count live columns
+  Loaded = AreTruthsLoaded r members begins first count live columns
 
   pub truths_none : (a : ℕ) (rows : List ℕ) → Loaded a a rows rows
   truths_none a rows = record {
@@ -251,7 +252,8 @@ module _ (r : Recording) (members : List ℕ) (first live : ℕ) (columns : List
           (i d g e : ℕ) → a ≤ i → i < c → on live i ≡ true → d < count → e < 64 →
           64 * g + e < length columns → (i < b) ⊎ (b ≤ i) →
           on (get_or z (72 * (d * words_of_row (length columns) + g) + i) 0) e
-          ≡ int_le (pos 1) (member_cell r members (first + d) i (get_or columns (64 * g + e) 0))
+          ≡ int_le (pos 1)
+          (member_cell r members begins (first + d) i (get_or columns (64 * g + e) 0))
       put i d g e ge lt live_i ld le lb (inl before) =
           ap (λ w. on w e)
           (k.others (d * words_of_row (length columns) + g) i (omega (arith, lt, few)) (inl before))
@@ -270,7 +272,7 @@ module _ (r : Recording) (members : List ℕ) (first live : ℕ) (columns : List
       (old rows : List ℕ) (n : ℕ) → Loaded 0 n old rows →
       72 * (count * words_of_row (length columns)) ≤ length old →
       ((i : ℕ) → i < 64 → on live i ≡ true → i < n) →
-      AreTruthsAhead r members first (first + count) live columns rows
+      AreTruthsAhead r members begins first (first + count) live columns rows
   all_gathered old rows n h enough inside = record {
     room = λ d lt.
         let width = words_of_row (length columns) in
@@ -281,18 +283,19 @@ module _ (r : Recording) (members : List ℕ) (first live : ℕ) (columns : List
         h.put i d g c (omega arith) (inside i l e) e (omega (arith, lt)) lc lb;
   }
 
-module _ (r : Recording) (members : List ℕ) (t live d : ℕ) (columns : List ℕ) where
+module _ (r : Recording) (members begins : List ℕ) (t live d : ℕ) (columns : List ℕ) where
   -- the planes of all columns
   pub truths_loaded :
       (rows planes : List ℕ) → length planes ≡ length columns →
       ((i g c : ℕ) → i < 64 → on live i ≡ true → c < 64 → 64 * g + c < length columns →
       on (get_or rows (72 * (d * words_of_row (length columns) + g) + i) 0) c
-      ≡ int_le (pos 1) (member_cell r members t i (get_or columns (64 * g + c) 0))) →
+      ≡ int_le (pos 1) (member_cell r members begins t i (get_or columns (64 * g + c) 0))) →
       ((g c i : ℕ) → c < 64 → i < 64 → 64 * g + c < length planes →
       on (get_or planes (64 * g + c) 0) i
       ≡ on (get_or rows (72 * (d * words_of_row (length columns) + g) + i) 0) c) →
       (i b : ℕ) → i < 64 → on live i ≡ true → b < length columns →
-      on (get_or planes b 0) i ≡ int_le (pos 1) (member_cell r members t i (get_or columns b 0))
+      on (get_or planes b 0) i
+      ≡ int_le (pos 1) (member_cell r members begins t i (get_or columns b 0))
   truths_loaded rows planes long gathered turned i b l e lb =
       let g = b / 64 in
       let c = b % 64 in
@@ -302,26 +305,28 @@ module _ (r : Recording) (members : List ℕ) (t live d : ℕ) (columns : List �
       let within : 64 * g + c < length planes = omega (arith, inside, long) in
       subst
       (λ k. on (get_or planes k 0) i
-      ≡ int_le (pos 1) (member_cell r members t i (get_or columns k 0)))
+      ≡ int_le (pos 1) (member_cell r members begins t i (get_or columns k 0)))
       same
       (turned g c i lc l within ∙ gathered i g c l e lc inside)
 
   -- of an instant that is loaded
   pub truths_there :
       (first until lanes : ℕ) (rows old planes : List ℕ) → length planes ≡ length old →
-      length old ≡ length columns → AreTruthsAhead r members first until lanes columns rows →
+      length old ≡ length columns → AreTruthsAhead r members begins first until lanes columns rows →
       first + d ≡ t → t < until →
       ((i : ℕ) → i < 64 → on live i ≡ true → on lanes i ≡ true) →
       ((g c i : ℕ) → c < 64 → i < 64 → 64 * g + c < length old →
       on (get_or planes (64 * g + c) 0) i
       ≡ on (get_or rows (72 * (d * words_of_row (length old) + g) + i) 0) c) →
       (i b : ℕ) → i < 64 → on live i ≡ true → b < length columns →
-      on (get_or planes b 0) i ≡ int_le (pos 1) (member_cell r members t i (get_or columns b 0))
+      on (get_or planes b 0) i
+      ≡ int_le (pos 1) (member_cell r members begins t i (get_or columns b 0))
   truths_there first until lanes rows old planes kept long h here within among turned =
       truths_loaded rows planes (kept ∙ long)
       (λ i g c l e lc lb.
       h.cells i d g c l (among i l e) (omega (arith, here, within)) lc lb
-      ∙ ap (λ s. int_le (pos 1) (member_cell r members s i (get_or columns (64 * g + c) 0))) here)
+      ∙ ap
+      (λ s. int_le (pos 1) (member_cell r members begins s i (get_or columns (64 * g + c) 0))) here)
       (λ g c i lc li lb.
       turned g c i lc li (omega (arith, lb, kept))
       ∙ ap (λ n. on (get_or rows (72 * (d * words_of_row n + g) + i) 0) c) long)

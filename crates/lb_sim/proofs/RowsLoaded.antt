@@ -1,12 +1,11 @@
 -- The row that a lane has after an instant was loaded is that of its trace.
 use Rattle.std.proofs.Common.{◌≡◌, ℕ, zero, suc, ◌+◌, ◌-◌, ◌<◌, ◌≤◌, Bool, true, false, Option}
 use Rattle.std.proofs.Common.{Some, None, List, [], ◌∷◌, ℤ, pos, get_or, length, map, refl, sym, ap}
-use Rattle.std.proofs.Common.{◌∙◌}
-use Rattle.std.proofs.Common.{subst, arith}
+use Rattle.std.proofs.Common.{◌∙◌, subst, arith, replicate}
 use Rattle.std.proofs.lemmas.Option.{slice_get-map}
 use Rattle.std.specs.Option.{option_map}
 use Rattle.std.specs.Prelude.{slice_get}
-use Rattle.std.proofs.lemmas.List.{get_or-map, length-map}
+use Rattle.std.proofs.lemmas.List.{get_or-map, get_or-replicate, length-map}
 use Rattle.std.specs.Prelude.{int_le}
 use Rattle.lb_syntax.specs.declared.tree.Kind.{Kind}
 use Rattle.lb_syntax.specs.declared.tree.Kind.TheVariants.{Int as Int_kind, Bool as Bool_kind}
@@ -15,7 +14,7 @@ use Rattle.lb_static.specs.Signature.{Element, Elements, kinds_of}
 use Rattle.lb_check.specs.Scalars.{Integer, Boolean}
 use Rattle.lb_check.specs.Verdicts.{is_bad}
 use Rattle.lb_flat.specs.Inputs.{scalar_in, scalars_in, inputs_of}
-use Rattle.lb_flat.specs.Traces.{Recording, IsRecording, trace_at}
+use Rattle.lb_flat.specs.Traces.{Recording, IsRecording, cell_at, trace_at}
 use Rattle.lb_flat.proofs.RowsFound.{row_follows}
 use Rattle.lb_flat.proofs.Storing.{length-row}
 use Rattle.lb_lanes.specs.Kernels.{lane_of}
@@ -24,12 +23,31 @@ use Rattle.lb_machine.specs.Meaning.{Lane, lane_at}
 use Rattle.lb_machine.specs.declared.instruction.PlaneId.{PlaneId}
 use Rattle.lb_sim.specs.Homes.{plane_in}
 use Rattle.lb_sim.specs.InputRows.{truth_columns, number_columns, places_of, lane_row}
-use Rattle.lb_sim.specs.InputRows.{member_cell}
+use Rattle.lb_sim.specs.InputRows.{IsAmid, begin_of, instant_in}
 use Rattle.lb_sim.specs.ReadInputs.{AreAlike, IsLoadedAt}
 use Rattle.lb_sim.specs.Showing.{value_at}
 use Rattle.lb_sim.specs.declared.place.Value.{Value}
 use Rattle.lb_sim.specs.declared.place.Value.TheVariants.{Truth, Negated, Number}
 use Rattle.lb_sim.proofs.InputColumns.{row_shown, row_moved}
+
+-- ## Lanes whose traces all began with the batch
+
+begin_at_start : (n i : ℕ) → i < n → begin_of (replicate n 0) i ≡ 0
+begin_at_start n i h = get_or-replicate n i 0 0 h
+
+pub instant_from_start : (n t i : ℕ) → i < n → instant_in (replicate n 0) t i ≡ t
+instant_from_start n t i h = omega (arith, begin_at_start n i h)
+
+pub amid_from_start :
+    (r : Recording) (members : List ℕ) (n t i : ℕ) → i < n → IsAmid r members [] t i →
+    IsAmid r members (replicate n 0) t i
+amid_from_start r members n t i h amid = record {
+  member = amid.member;
+  begun = omega (arith, begin_at_start n i h);
+  there = omega (arith, instant_from_start n t i h, amid.there);
+}
+
+-- ## A row that is loaded
 
 -- as many kinds as elements
 as_many : (elements : Elements) (kinds : List Kind) → kinds_of elements ≡ kinds →
@@ -37,23 +55,23 @@ as_many : (elements : Elements) (kinds : List Kind) → kinds_of elements ≡ ki
 as_many elements kinds same =
     ap length (sym same) ∙ length-map elements (λ (e : Element). e.1)
 
-module _ (r : Recording) (members : List ℕ) (t i : ℕ) (kinds : List Kind) (planes : List ℕ)
+module _ (r : Recording) (trace t i : ℕ) (kinds : List Kind) (planes : List ℕ)
     (words : List (List ℤ)) (truths numbers : List ℕ) (lawful : IsRecording r)
     (same : kinds_of r.signature ≡ kinds) (is_truths : truths ≡ truth_columns 0 kinds)
     (is_numbers : numbers ≡ number_columns 0 kinds)
-    (below : get_or members i 0 < length r.traces)
-    (inside : t < length (trace_at r.traces (get_or members i 0)).1)
+    (below : trace < length r.traces)
+    (inside : t < length (trace_at r.traces trace).1)
     (bits : (b : ℕ) → b < length truths →
-    on (get_or planes b 0) i ≡ int_le (pos 1) (member_cell r members t i (get_or truths b 0)))
+    on (get_or planes b 0) i ≡ int_le (pos 1) (cell_at r.traces trace t (get_or truths b 0)))
     (ints : (c : ℕ) → c < length numbers →
-    lane_of (get_or words c []) i ≡ member_cell r members t i (get_or numbers c 0)) where
+    lane_of (get_or words c []) i ≡ cell_at r.traces trace t (get_or numbers c 0)) where
   abbrev row : List ℤ
-  row = get_or (trace_at r.traces (get_or members i 0)).1 t []
+  row = get_or (trace_at r.traces trace).1 t []
 
   long : length row ≡ 0 + length kinds
   long =
       let full : length row ≡ length r.signature =
-      length-row r.signature row (row_follows r (get_or members i 0) t lawful below inside) in
+      length-row r.signature row (row_follows r trace t lawful below inside) in
       omega (arith, full, as_many r.signature kinds same)
 
   bits_there : (b : ℕ) → b < length (truth_columns 0 kinds) →
@@ -75,11 +93,11 @@ module _ (r : Recording) (members : List ℕ) (t i : ℕ) (kinds : List Kind) (p
       ∙ ap (λ xs. get_or row (get_or xs c 0) (pos 0)) is_numbers
 
   pub row_loaded :
-      lane_row kinds planes words i ≡ get_or (inputs_of r (get_or members i 0)) t []
+      lane_row kinds planes words i ≡ get_or (inputs_of r trace) t []
   row_loaded =
       row_shown (lane_at planes words i) row kinds 0 0 0 long bits_there ints_there
       ∙ ap (λ ks. zip2 scalar_in ks row) (sym same)
-      ∙ sym (get_or-map (scalars_in r.signature) (trace_at r.traces (get_or members i 0)).1 t [] []
+      ∙ sym (get_or-map (scalars_in r.signature) (trace_at r.traces trace).1 t [] []
       inside)
 
 -- ## Where some inputs are loaded
@@ -122,18 +140,18 @@ no_fault s (Negated p ∷ places) zero = refl
 no_fault s (Number w ∷ places) zero = refl
 no_fault s (v ∷ places) (suc k) = no_fault s places k
 
-module _ (r : Recording) (members : List ℕ) (t i : ℕ) (kinds : List Kind) (planes : List ℕ)
+module _ (r : Recording) (trace t i : ℕ) (kinds : List Kind) (planes : List ℕ)
     (words : List (List ℤ)) (numbers : List ℕ) (truths : Bool) (lawful : IsRecording r)
-    (same : kinds_of r.signature ≡ kinds) (below : get_or members i 0 < length r.traces)
-    (inside : t < length (trace_at r.traces (get_or members i 0)).1)
+    (same : kinds_of r.signature ≡ kinds) (below : trace < length r.traces)
+    (inside : t < length (trace_at r.traces trace).1)
     (bits : truths ≡ true → (b : ℕ) → b < length (truth_columns 0 kinds) →
     on (get_or planes b 0) i
-    ≡ int_le (pos 1) (member_cell r members t i (get_or (truth_columns 0 kinds) b 0)))
+    ≡ int_le (pos 1) (cell_at r.traces trace t (get_or (truth_columns 0 kinds) b 0)))
     (ints : (k : ℕ) → k < length numbers →
     lane_of (get_or words (get_or numbers k 0) []) i
-    ≡ member_cell r members t i (get_or (number_columns 0 kinds) (get_or numbers k 0) 0)) where
+    ≡ cell_at r.traces trace t (get_or (number_columns 0 kinds) (get_or numbers k 0) 0)) where
   abbrev whole : List ℤ
-  whole = get_or (trace_at r.traces (get_or members i 0)).1 t []
+  whole = get_or (trace_at r.traces trace).1 t []
 
   -- a lane that holds, behind two planes and a word, what is loaded, and one that holds the row
   -- of the trace
@@ -157,10 +175,10 @@ module _ (r : Recording) (members : List ℕ) (t i : ℕ) (kinds : List Kind) (p
 
   wanted_is :
       map (value_at wanted) (places_of 2 1 kinds)
-      ≡ get_or (inputs_of r (get_or members i 0)) t []
+      ≡ get_or (inputs_of r trace) t []
   wanted_is =
       let full : length whole ≡ length r.signature =
-      length-row r.signature whole (row_follows r (get_or members i 0) t lawful below inside) in
+      length-row r.signature whole (row_follows r trace t lawful below inside) in
       let long : length whole ≡ 0 + length kinds =
       omega (arith, full, as_many r.signature kinds same) in
       row_shown wanted whole kinds 0 2 1 long
@@ -171,7 +189,7 @@ module _ (r : Recording) (members : List ℕ) (t i : ℕ) (kinds : List Kind) (p
       let e : 1 + c - 1 ≡ c = omega arith in
       ap (λ n. get_or whole (get_or (number_columns 0 kinds) n 0) (pos 0)) e)
       ∙ ap (λ ks. zip2 scalar_in ks whole) (sym same)
-      ∙ sym (get_or-map (scalars_in r.signature) (trace_at r.traces (get_or members i 0)).1 t [] []
+      ∙ sym (get_or-map (scalars_in r.signature) (trace_at r.traces trace).1 t [] []
       inside)
 
   value_same :
@@ -208,12 +226,12 @@ module _ (r : Recording) (members : List ℕ) (t i : ℕ) (kinds : List Kind) (p
 
   pub row_alike :
       AreAlike (places_of 2 1 kinds) numbers truths (lane_row kinds planes words i)
-      (get_or (inputs_of r (get_or members i 0)) t [])
+      (get_or (inputs_of r trace) t [])
   row_alike =
       subst
       (λ given.
       AreAlike (places_of 2 1 kinds) numbers truths given
-      (get_or (inputs_of r (get_or members i 0)) t []))
+      (get_or (inputs_of r trace) t []))
       held_is
       (subst
       (λ other.

@@ -1,14 +1,13 @@
 -- The lanes whose traces have an instant, member by member.
 use Rattle.std.proofs.Common.{◌≡◌, ◌≢◌, ℕ, ◌+◌, ◌<◌, ◌≤◌, ◌==◌, ◌||◌, ◌&&◌, Bool, true, false, List}
 use Rattle.std.proofs.Common.{refl, sym, ap, ap₂, ◌∙◌, arith, below_more, length, ◌⊎◌, inl, inr}
-use Rattle.std.proofs.Common.{max}
 use Rattle.std.proofs.lemmas.Bool.{cases_lt, lt-ltb, le-ltb}
 use Rattle.std.specs.Prelude.{nat_lt}
 use Rattle.lb_flat.specs.Traces.{Recording}
 use Rattle.lb_lanes.specs.Planes.{on}
 use Rattle.lb_lanes.proofs.OnPlanes.{on-zero}
 use Rattle.lb_sim.proofs.LaneBits.{no_number, same_number}
-use Rattle.lb_sim.specs.BatchLanes.{length_in, AreOn, AreRunning}
+use Rattle.lb_sim.specs.BatchLanes.{end_in, AreRunning}
 
 neither : (a b : Bool) → ((a && false) || b) ≡ b
 neither true b = refl
@@ -18,12 +17,12 @@ alone : (a : Bool) → ((a && true) || false) ≡ a
 alone true = refl
 alone false = refl
 
-module _ (r : Recording) (members : List ℕ) (t : ℕ) where
+module _ (r : Recording) (members begins : List ℕ) (t : ℕ) where
   -- the lanes of the first members
   pub record RunningSoFar (lanes until n : ℕ) : Type 0 where
     pub later : t < until
     pub done :
-        (i s : ℕ) → i < n → t ≤ s → s < until → on lanes i ≡ nat_lt s (length_in r members i)
+        (i s : ℕ) → i < n → t ≤ s → s < until → on lanes i ≡ nat_lt s (end_in r members begins i)
     pub rest : (i : ℕ) → n ≤ i → i < 64 → on lanes i ≡ false
 
   pub running_none : (until : ℕ) → t < until → RunningSoFar 0 until 0
@@ -36,14 +35,14 @@ module _ (r : Recording) (members : List ℕ) (t : ℕ) where
   -- one member more
   pub running_more :
       (lanes lanes' until until' n end : ℕ) → RunningSoFar lanes until n → n < 64 →
-      end ≡ length_in r members n → (t < until → t < until') → until' ≤ until →
+      end ≡ end_in r members begins n → (t < until → t < until') → until' ≤ until →
       (t < end → until' ≤ end) →
       ((i : ℕ) → i < 64 → on lanes' i ≡ ((nat_lt t end && (i == n)) || on lanes i)) →
       RunningSoFar lanes' until' (n + 1)
   running_more lanes lanes' until until' n end h lt is_end later below_until below_end is = record {
     later = later h.later;
     done = λ i s l m k. below_more
-        (λ j. t ≤ s → s < until' → on lanes' j ≡ nat_lt s (length_in r members j)) n
+        (λ j. t ≤ s → s < until' → on lanes' j ≡ nat_lt s (end_in r members begins j)) n
         (λ j b m k. other j (omega (arith, b, lt)) (λ e. absurd (omega (arith, b, e)))
         ∙ h.done j s b m (omega (arith, k, below_until)))
         (λ m k. this s m k)
@@ -72,47 +71,16 @@ module _ (r : Recording) (members : List ℕ) (t : ℕ) where
           le-ltb t end past
           ∙ sym (le-ltb s end (omega (arith, m, past)))
 
-      this : (s : ℕ) → t ≤ s → s < until' → on lanes' n ≡ nat_lt s (length_in r members n)
+      this : (s : ℕ) → t ≤ s → s < until' → on lanes' n ≡ nat_lt s (end_in r members begins n)
       this s m k = here ∙ same s m k (cases_lt t end) ∙ ap (nat_lt s) is_end
 
   pub running_all :
       (lanes until n : ℕ) → length members ≤ n → RunningSoFar lanes until n →
-      n ≤ length members → AreRunning r members t lanes until
+      n ≤ length members → AreRunning r members begins t lanes until
   running_all lanes until n all h le = record {
     later = h.later;
     lanes = record {
       members_on = λ i s l. h.done i s (omega (arith, l, all));
       others_off = λ i l. h.rest i (omega (arith, l, le));
     };
-  }
-
-  -- and from the next instant on
-  pub on_later :
-      (lanes until : ℕ) → AreOn r members t lanes until → AreOn r members (t + 1) lanes until
-  on_later lanes until h = record {
-    members_on = λ i s l m. h.members_on i s l (omega (arith, m));
-    others_off = h.others_off;
-  }
-
--- ## The longest
-
-module _ (r : Recording) (members : List ℕ) where
-  -- the first members have no more instants than so many
-  pub record AreWithin (most n : ℕ) : Type 0 where
-    pub each : (i : ℕ) → i < n → length_in r members i ≤ most
-    pub limit : most ≤ 1000000
-
-  pub within_none : AreWithin 0 0
-  within_none = record {
-    each = λ i l. absurd (omega (arith, l));
-    limit = omega arith;
-  }
-
-  pub within_more : (most more end n : ℕ) → AreWithin most n → end ≡ length_in r members n →
-      end ≤ 1000000 → more ≡ max most end → AreWithin more (n + 1)
-  within_more most more end n h is_end few is = record {
-    each = λ i l. below_more (λ j. length_in r members j ≤ more) n
-        (λ j b. let le = h.each j b in omega (arith, le, is))
-        (omega (arith, is_end, is)) i l;
-    limit = let le = h.limit in omega (arith, le, few, is);
   }

@@ -7,6 +7,7 @@ use Rattle.lb_check.specs.declared.verdict.Verdict.TheVariants.{Passed}
 use Rattle.lb_flat.specs.Judging.{FlatProgram}
 use Rattle.lb_flat.specs.Programs.{program_of}
 use Rattle.lb_machine.specs.Meaning.{Lane, lane_at}
+use Rattle.lb_sim.specs.InputRows.{instant_in}
 use Rattle.lb_sim.specs.Showing.{scalar_at}
 use Rattle.lb_sim.specs.States.{flag_at, kept_at}
 use Rattle.lb_sim.specs.declared.batch_run.BatchRun.{BatchRun}
@@ -17,6 +18,10 @@ flat_of run = program_of run.program.now.program.now
 
 abbrev pub verdict_at : BatchRun → ℕ → Verdict
 verdict_at run i = get_or run.verdicts.items i Passed
+
+-- how many steps a lane has taken since its trace began
+abbrev pub steps_in : BatchRun → ℕ → ℕ
+steps_in run i = instant_in run.begins.items run.steps i
 
 abbrev pub lane_in : BatchRun → ℕ → Lane
 lane_in run i = lane_at run.planes.items run.words.items i

@@ -2,7 +2,7 @@
 -- gives each of its members its own verdict.
 -- This file says what data of the program mean; no definition of the language stands on it.
 use Rattle.std.specs.Prelude.{◌≡◌, ◌≢◌, ◌<◌, ◌+◌, ◌++◌, ◌∷◌, ◌&&◌, ℕ, true, false, List, [], length}
-use Rattle.std.specs.Prelude.{get_or, nat_lt}
+use Rattle.std.specs.Prelude.{get_or, nat_lt, ◌||◌, if◌then◌else◌}
 use Rattle.lb_static.specs.Instances.{Program}
 use Rattle.lb_check.specs.Scalars.{Scalar}
 use Rattle.lb_check.specs.Solutions.{Inputs}
@@ -18,7 +18,8 @@ use Rattle.lb_flat.specs.NumberedLayouts.{layout}
 use Rattle.lb_flat.specs.Traces.{Recording}
 use Rattle.lb_lanes.specs.Planes.{IsPlaneOf, on}
 use Rattle.lb_lanes.specs.declared.planes.Plane.{Plane}
-use Rattle.lb_sim.specs.BatchRuns.{flat_of, flag_in, lane_in, memory_at, verdict_at}
+use Rattle.lb_sim.specs.BatchRuns.{flat_of, flag_in, lane_in, memory_at, steps_in, verdict_at}
+use Rattle.lb_sim.specs.InputRows.{begin_of}
 use Rattle.lb_sim.specs.LaneStates.{StandsAt, is_passed}
 use Rattle.lb_sim.specs.Promise.{StandsFor}
 use Rattle.lb_sim.specs.declared.batch_run.BatchRun.{BatchRun}
@@ -30,7 +31,7 @@ use Rattle.lb_sim.specs.declared.batch_run.BatchRun.{BatchRun}
 abbrev pub Stands : BatchRun → ℕ → Inputs → Type 0
 Stands run i X =
     StandsAt (flat_of run) run.program.now.kept.items (lane_in run i) (verdict_at run i)
-    (on run.active.0 i) run.steps X
+    (on run.active.0 i) (steps_in run i) X
 
 -- and in the terms of a program that the flat one is of: its verdict is the one of the trace, and
 -- while it is active its memories are those of the one history that solves the program
@@ -38,7 +39,7 @@ abbrev pub StandsForTrace :
     (P : Program) (run : BatchRun) → IsFlatOf P (flat_of run) → ℕ → Inputs → Type 0
 StandsForTrace P run flat i X =
     StandsFor P (layout P) (kind_among (flat_of run).kinds) (flat_of run) flat.memories
-    (verdict_at run i) (on run.active.0 i) run.steps (memory_at run i) (flag_in run i) X
+    (verdict_at run i) (on run.active.0 i) (steps_in run i) (memory_at run i) (flag_in run i) X
 
 -- ## A run
 
@@ -65,6 +66,23 @@ pub record IsStep (old new : BatchRun) (rows : ℕ → List Scalar) (live : Plan
   pub active : IsPlaneOf (λ i. on live.0 i && is_passed (verdict_at new i)) new.active.0
   pub live_is : new.live ≡ live
   pub steps : new.steps ≡ old.steps + 1
+  pub begins : new.begins.items ≡ old.begins.items
+  pub program : new.program.now ≡ old.program.now
+
+-- lanes begin with other traces: each of them stands for the empty trace and is active, and each
+-- other lane stands for what it stood for
+pub record IsRestart (old new : BatchRun) (lanes : Plane) : Type 0 where
+  pub empty : (i : ℕ) → i < 64 → on lanes.0 i ≡ true → Stands new i []
+  pub others :
+      (i : ℕ) (X : Inputs) → i < 64 → on lanes.0 i ≡ false → Stands old i X → Stands new i X
+  pub verdicts :
+      (i : ℕ) → i < 64 → on lanes.0 i ≡ false → verdict_at new i ≡ verdict_at old i
+  pub active : IsPlaneOf (λ i. on old.active.0 i || on lanes.0 i) new.active.0
+  pub begins :
+      (i : ℕ) → i < 64 →
+      begin_of new.begins.items i
+      ≡ (if on lanes.0 i then old.steps else begin_of old.begins.items i)
+  pub steps : new.steps ≡ old.steps
   pub program : new.program.now ≡ old.program.now
 
 -- ## A batch

@@ -1,8 +1,8 @@
 -- The inputs of an instant in each lane: a plane for each Boolean of a signature and a word for
 -- each integer, in its order.
 -- Source: this project's rule. No lane occurs beside another.
-use Rattle.std.specs.Prelude.{◌≡◌, ℕ, suc, ◌<◌, Bool, true, false, List, [], ◌∷◌, ℤ, pos, length}
-use Rattle.std.specs.Prelude.{map, get_or, slice_index_or}
+use Rattle.std.specs.Prelude.{◌≡◌, ℕ, suc, ◌<◌, ◌≤◌, ◌-◌, Bool, true, false, List, [], ◌∷◌, ℤ, pos}
+use Rattle.std.specs.Prelude.{length, map, get_or, slice_index_or}
 use Rattle.lb_syntax.specs.declared.tree.Kind.{Kind}
 use Rattle.lb_syntax.specs.declared.tree.Kind.TheVariants.{Int as Int_kind, Bool as Bool_kind}
 use Rattle.lb_check.specs.Scalars.{Scalar, Integer, Boolean}
@@ -40,12 +40,26 @@ abbrev pub AreZero : List (List ℤ) → Type 0
 AreZero words =
     (w i : ℕ) → w < length words → i < 64 → lane_of (slice_index_or words w []) i ≡ pos 0
 
--- the cell of a member of a batch
-abbrev pub member_cell : Recording → List ℕ → ℕ → ℕ → ℕ → ℤ
-member_cell r members t i column = cell_at r.traces (get_or members i 0) t column
+-- the instant at which the trace of a lane begins, where a list has them; and the instant of that
+-- trace at an instant of the batch
+abbrev pub begin_of : List ℕ → ℕ → ℕ
+begin_of begins i = get_or begins i 0
+
+abbrev pub instant_in : List ℕ → ℕ → ℕ → ℕ
+instant_in begins t i = t - begin_of begins i
+
+-- the cell of a member of a batch at an instant of the batch
+abbrev pub member_cell : Recording → (members begins : List ℕ) → ℕ → ℕ → ℕ → ℤ
+member_cell r members begins t i column =
+    cell_at r.traces (get_or members i 0) (instant_in begins t i) column
+
+-- the trace of a lane has begun by an instant, and has an instant then
+pub record IsAmid (r : Recording) (members begins : List ℕ) (t i : ℕ) : Type 0 where
+  pub member : i < length members
+  pub begun : begin_of begins i ≤ t
+  pub there : instant_in begins t i < length (trace_at r.traces (get_or members i 0)).1
 
 -- in each of these lanes a member of a batch has this instant
-abbrev pub HaveInstant : Recording → List ℕ → ℕ → ℕ → Type 0
-HaveInstant r members t live =
-    (i : ℕ) → i < 64 → on live i ≡ true →
-    (i < length members) × (t < length (trace_at r.traces (get_or members i 0)).1)
+abbrev pub HaveInstant : Recording → (members begins : List ℕ) → ℕ → ℕ → Type 0
+HaveInstant r members begins t live =
+    (i : ℕ) → i < 64 → on live i ≡ true → IsAmid r members begins t i

@@ -13,15 +13,15 @@ inputs_row x i = lane_row x.columns.kinds.items x.planes.items x.words.items i
 
 -- of the integers at some places and of the Booleans those instants are loaded that it is said of,
 -- where such an instant comes next in all lanes of a plane
-pub record IsAhead (r : Recording) (members places : List ℕ) (x : Inputs) (t live : ℕ)
+pub record IsAhead (r : Recording) (members begins places : List ℕ) (x : Inputs) (t live : ℕ)
     (loaded : Loaded) : Type 0 where
   pub numbers_begun : loaded.numbers.first ≤ t
   pub numbers :
-      AreAhead r members loaded.numbers.first loaded.numbers.until loaded.numbers.lanes.0
+      AreAhead r members begins loaded.numbers.first loaded.numbers.until loaded.numbers.lanes.0
       (number_columns 0 x.columns.kinds.items) places x.room.items
   pub numbers_there : t < loaded.numbers.until → AreAmong live loaded.numbers.lanes.0
   pub truths_begun : loaded.truths.first ≤ t
   pub truths :
-      AreTruthsAhead r members loaded.truths.first loaded.truths.until loaded.truths.lanes.0
+      AreTruthsAhead r members begins loaded.truths.first loaded.truths.until loaded.truths.lanes.0
       (truth_columns 0 x.columns.kinds.items) x.rows.items
   pub truths_there : t < loaded.truths.until → AreAmong live loaded.truths.lanes.0

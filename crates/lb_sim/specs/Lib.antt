@@ -25,4 +25,6 @@ pub mod Presets
 pub mod Passing
 pub mod Layouts
 pub mod Correct
+pub mod Queues
+pub mod Progress
 pub mod ReadInputs

@@ -24,26 +24,26 @@ four_at first a b c d w i =
 -- the lanes of the members from a first one up to an end have their integers, where they are live:
 -- those at some places, a word for each, of the columns that hold integers; no other lane has
 -- changed
-pub record AreLoaded (r : Recording) (members : List ℕ) (t live : ℕ) (columns places : List ℕ)
-    (first end : ℕ) (old new : List (List ℤ)) : Type 0 where
+pub record AreLoaded (r : Recording) (members begins : List ℕ) (t live : ℕ)
+    (columns places : List ℕ) (first end : ℕ) (old new : List (List ℤ)) : Type 0 where
   pub words : length new ≡ length old
   pub put :
       (i k : ℕ) → first ≤ i → i < end → on live i ≡ true → k < length places →
       lane_of (slice_index_or new (slice_index places k) []) i
-      ≡ member_cell r members t i (get_or columns (slice_index places k) 0)
+      ≡ member_cell r members begins t i (get_or columns (slice_index places k) 0)
   pub others :
       (i w : ℕ) → i < 64 → (i < first) ⊎ (end ≤ i) →
       lane_of (slice_index_or new w []) i ≡ lane_of (slice_index_or old w []) i
 
 -- so many instants of theirs, from one on: for each place there is a word of each of 64 instants,
 -- and one that stands for nothing
-pub record AreLoadedAhead (r : Recording) (members : List ℕ) (t count live : ℕ)
+pub record AreLoadedAhead (r : Recording) (members begins : List ℕ) (t count live : ℕ)
     (columns places : List ℕ) (first end : ℕ) (old new : List (List ℤ)) : Type 0 where
   pub room : length new ≡ length old
   pub put :
       (i d k : ℕ) → first ≤ i → i < end → on live i ≡ true → d < count → k < length places →
       lane_of (slice_index_or new (65 * k + d) []) i
-      ≡ member_cell r members (t + d) i (get_or columns (slice_index places k) 0)
+      ≡ member_cell r members begins (t + d) i (get_or columns (slice_index places k) 0)
   pub others :
       (k e i : ℕ) → e < 64 → i < 64 → (i < first) ⊎ (end ≤ i) →
       lane_of (slice_index_or new (65 * k + e) []) i
@@ -51,12 +51,12 @@ pub record AreLoadedAhead (r : Recording) (members : List ℕ) (t count live : �
 
 -- instants of some lanes are loaded, from a first one up to another: for each place there is a word
 -- of each of 64 instants, and one that stands for nothing
-pub record AreAhead (r : Recording) (members : List ℕ) (first until lanes : ℕ)
+pub record AreAhead (r : Recording) (members begins : List ℕ) (first until lanes : ℕ)
     (columns places : List ℕ) (room : List (List ℤ)) : Type 0 where
   pub cells :
       (i d k : ℕ) → i < 64 → on lanes i ≡ true → first + d < until → k < length places →
       lane_of (slice_index_or room (65 * k + d) []) i
-      ≡ member_cell r members (first + d) i (get_or columns (slice_index places k) 0)
+      ≡ member_cell r members begins (first + d) i (get_or columns (slice_index places k) 0)
 
 -- words stand in four lanes of as many words of all lanes, from a first lane on; no other lane has
 -- changed
@@ -72,20 +72,20 @@ pub record AreFourPut (a b c d : List ℕ) (first : ℕ) (old new : List ℕ) (n
 
 -- the lanes of the members from a first one up to an end have their Booleans of so many instants,
 -- where they are live; no other lane has changed
-pub record AreTruthsLoaded (r : Recording) (members : List ℕ) (t count live : ℕ)
+pub record AreTruthsLoaded (r : Recording) (members begins : List ℕ) (t count live : ℕ)
     (columns : List ℕ) (first end : ℕ) (old new : List ℕ) : Type 0 where
   pub as_long : length new ≡ length old
   pub put :
       (i d g c : ℕ) → first ≤ i → i < end → on live i ≡ true → d < count → c < 64 →
       64 * g + c < length columns →
       on (slice_index new (72 * (d * words_of_row (length columns) + g) + i)) c
-      ≡ int_le (pos 1) (member_cell r members (t + d) i (get_or columns (64 * g + c) 0))
+      ≡ int_le (pos 1) (member_cell r members begins (t + d) i (get_or columns (64 * g + c) 0))
   pub others :
       (m k : ℕ) → k < 64 → (k < first) ⊎ (end ≤ k) →
       slice_index new (72 * m + k) ≡ slice_index old (72 * m + k)
 
 -- and so the Booleans: for each instant and each 64 of them there is a word of each lane
-pub record AreTruthsAhead (r : Recording) (members : List ℕ) (first until lanes : ℕ)
+pub record AreTruthsAhead (r : Recording) (members begins : List ℕ) (first until lanes : ℕ)
     (columns rows : List ℕ) : Type 0 where
   pub room :
       (d : ℕ) → first + d < until →
@@ -94,7 +94,7 @@ pub record AreTruthsAhead (r : Recording) (members : List ℕ) (first until lane
       (i d g c : ℕ) → i < 64 → on lanes i ≡ true → first + d < until → c < 64 →
       64 * g + c < length columns →
       on (slice_index rows (72 * (d * words_of_row (length columns) + g) + i)) c
-      ≡ int_le (pos 1) (member_cell r members (first + d) i (get_or columns (64 * g + c) 0))
+      ≡ int_le (pos 1) (member_cell r members begins (first + d) i (get_or columns (64 * g + c) 0))
 
 -- each lane of a plane is one of another plane
 abbrev pub AreAmong : ℕ → ℕ → Type 0

@@ -4,6 +4,9 @@
 //! lane the rows of up to 64 instants are read in one go, those of four lanes at a time. Of its
 //! integers those are loaded that stand at some places, if there is room for so many.
 //!
+//! The instants are those of the batch: a lane whose trace began later has the rows of as many
+//! instants earlier.
+//!
 //! ```text
 //! room    place 0: instant 0, instant 1, ... instant 63, and a word that stands for nothing; then
 //!         place 1; each a word of 64 lanes
@@ -33,7 +36,7 @@ pub(crate) struct Stretch<'a, 'b> {
     pub(crate) until: u32,
     pub(crate) ghost later: { at.t < until },
     pub(crate) ghost further: { (s : ℕ) → at.t ≤ s → s < until
-        → HaveInstant at.set.now at.members.now s at.live.0 },
+        → HaveInstant at.set.now at.members.now at.begins.now s at.live.0 },
 }
 
 /// Which instants of which lanes are loaded.
@@ -97,10 +100,11 @@ fn row_of<'a>(at: &Stretch<'a, '_>, i: usize, d: usize) -> &'a [i32]
     ensures numbers { (w : ℕ)
         → w < length (number_columns 0 (kinds_of at.now.at.set.now.signature))
         → get_or result.now w (pos 0)
-        ≡ member_cell at.now.at.set.now at.now.at.members.now (at.now.at.t + d) i
-        (get_or (number_columns 0 (kinds_of at.now.at.set.now.signature)) w 0) }
+        ≡ member_cell at.now.at.set.now at.now.at.members.now at.now.at.begins.now (at.now.at.t + d)
+        i (get_or (number_columns 0 (kinds_of at.now.at.set.now.signature)) w 0) }
 {
-    at.at.set.numbers(at.at.members[i], at.at.t + d as u32)
+    let t = at.at.t - at.at.begins[i] + d as u32;
+    at.at.set.numbers(at.at.members[i], t)
 }
 
 // Puts the integers of so many instants of a member into its lane if that is live.
@@ -111,9 +115,10 @@ fn put_member(at: &Stretch<'_, '_>, i: usize, count: usize, places: &[usize], ro
     requires room { 65 * length places.now ≤ length room.old }
     requires within { All (λ w. w < length (number_columns 0
         (kinds_of at.now.at.set.now.signature))) places.now }
-    ensures { AreLoadedAhead at.now.at.set.now at.now.at.members.now at.now.at.t count
-        at.now.at.live.0 (number_columns 0 (kinds_of at.now.at.set.now.signature)) places.now
-        i (i + 1) room.old room.new }
+    ensures { AreLoadedAhead at.now.at.set.now at.now.at.members.now at.now.at.begins.now
+        at.now.at.t count at.now.at.live.0
+        (number_columns 0 (kinds_of at.now.at.set.now.signature)) places.now i (i + 1)
+        room.old room.new }
 {
     if !at.at.live.get(i as u32) {
         return;
@@ -140,9 +145,10 @@ fn put_each(
     requires room { 65 * length places.now ≤ length room.old }
     requires within { All (λ w. w < length (number_columns 0
         (kinds_of at.now.at.set.now.signature))) places.now }
-    ensures { AreLoadedAhead at.now.at.set.now at.now.at.members.now at.now.at.t count
-        at.now.at.live.0 (number_columns 0 (kinds_of at.now.at.set.now.signature)) places.now
-        first end room.old room.new }
+    ensures { AreLoadedAhead at.now.at.set.now at.now.at.members.now at.now.at.begins.now
+        at.now.at.t count at.now.at.live.0
+        (number_columns 0 (kinds_of at.now.at.set.now.signature)) places.now first end
+        room.old room.new }
 {
     for i in first..end {
         put_member(at, i, count, places, room);
@@ -163,9 +169,10 @@ fn put_four_members(
     requires room { 65 * length places.now ≤ length room.old }
     requires within { All (λ w. w < length (number_columns 0
         (kinds_of at.now.at.set.now.signature))) places.now }
-    ensures { AreLoadedAhead at.now.at.set.now at.now.at.members.now at.now.at.t count
-        at.now.at.live.0 (number_columns 0 (kinds_of at.now.at.set.now.signature)) places.now
-        first (first + 4) room.old room.new }
+    ensures { AreLoadedAhead at.now.at.set.now at.now.at.members.now at.now.at.begins.now
+        at.now.at.t count at.now.at.live.0
+        (number_columns 0 (kinds_of at.now.at.set.now.signature)) places.now first (first + 4)
+        room.old room.new }
 {
     if !are_live(&at.at, first as u32) {
         put_each(at, first, first + 4, count, places, room);
@@ -193,8 +200,8 @@ fn fill(at: &Stretch<'_, '_>, count: usize, places: &[usize], room: &mut [LaneWo
     requires within { All (λ w. w < length (number_columns 0
         (kinds_of at.now.at.set.now.signature))) places.now }
     ensures room { length room.new ≡ length room.old }
-    ensures ahead { AreAhead at.now.at.set.now at.now.at.members.now at.now.at.t
-        (at.now.at.t + count) at.now.at.live.0
+    ensures ahead { AreAhead at.now.at.set.now at.now.at.members.now at.now.at.begins.now
+        at.now.at.t (at.now.at.t + count) at.now.at.live.0
         (number_columns 0 (kinds_of at.now.at.set.now.signature)) places.now room.new }
 {
     let members = at.at.members.len();
@@ -212,16 +219,17 @@ fn renewed(at: &Stretch<'_, '_>, places: &[usize], room: &mut [LaneWord], last: 
         (kinds_of at.now.at.set.now.signature))) places.now }
     requires begun { last.first ≤ at.now.at.t }
     requires few { last.until ≤ last.first + 64 }
-    requires last { AreAhead at.now.at.set.now at.now.at.members.now last.first last.until
-        last.lanes.0 (number_columns 0 (kinds_of at.now.at.set.now.signature)) places.now room.old }
+    requires last { AreAhead at.now.at.set.now at.now.at.members.now at.now.at.begins.now
+        last.first last.until last.lanes.0
+        (number_columns 0 (kinds_of at.now.at.set.now.signature)) places.now room.old }
     requires lanes { at.now.at.t < last.until → AreAmong at.now.at.live.0 last.lanes.0 }
     ensures room { length room.new ≡ length room.old }
     ensures begun { result.first ≤ at.now.at.t }
     ensures until { at.now.at.t < result.until }
     ensures few { result.until ≤ result.first + 64 }
-    ensures ahead { AreAhead at.now.at.set.now at.now.at.members.now result.first result.until
-        result.lanes.0 (number_columns 0 (kinds_of at.now.at.set.now.signature)) places.now
-        room.new }
+    ensures ahead { AreAhead at.now.at.set.now at.now.at.members.now at.now.at.begins.now
+        result.first result.until result.lanes.0
+        (number_columns 0 (kinds_of at.now.at.set.now.signature)) places.now room.new }
     ensures lanes { AreAmong at.now.at.live.0 result.lanes.0 }
 {
     let first = at.at.t;
@@ -268,20 +276,21 @@ pub(crate) fn load_ahead(
     requires within { All (λ w. w < length words.old) places.now }
     requires begun { last.first ≤ at.now.at.t }
     requires few { last.until ≤ last.first + 64 }
-    requires last { AreAhead at.now.at.set.now at.now.at.members.now last.first last.until
-        last.lanes.0 (number_columns 0 (kinds_of at.now.at.set.now.signature)) places.now room.old }
+    requires last { AreAhead at.now.at.set.now at.now.at.members.now at.now.at.begins.now
+        last.first last.until last.lanes.0
+        (number_columns 0 (kinds_of at.now.at.set.now.signature)) places.now room.old }
     requires lanes { at.now.at.t < last.until → AreAmong at.now.at.live.0 last.lanes.0 }
     ensures words { length words.new ≡ length words.old }
     ensures put { (i k : ℕ) → i < 64 → on at.now.at.live.0 i ≡ true → k < length places.now
         → lane_of (slice_index_or words.new (slice_index places.now k) []) i
-        ≡ member_cell at.now.at.set.now at.now.at.members.now at.now.at.t i
+        ≡ member_cell at.now.at.set.now at.now.at.members.now at.now.at.begins.now at.now.at.t i
         (get_or (number_columns 0 (kinds_of at.now.at.set.now.signature))
         (slice_index places.now k) 0) }
     ensures begun { result.first ≤ at.now.at.t }
     ensures few { result.until ≤ result.first + 64 }
-    ensures ahead { AreAhead at.now.at.set.now at.now.at.members.now result.first result.until
-        result.lanes.0 (number_columns 0 (kinds_of at.now.at.set.now.signature)) places.now
-        room.new }
+    ensures ahead { AreAhead at.now.at.set.now at.now.at.members.now at.now.at.begins.now
+        result.first result.until result.lanes.0
+        (number_columns 0 (kinds_of at.now.at.set.now.signature)) places.now room.new }
     ensures lanes { at.now.at.t < result.until → AreAmong at.now.at.live.0 result.lanes.0 }
 {
     if room.len() / 65 < places.len() {

@@ -5,10 +5,11 @@ ghost use Rattle.lb_check.specs.declared.verdict.Verdict.TheVariants.{Passed};
 ghost use Rattle.lb_lanes.specs.Planes.{IsPlaneOf, on};
 ghost use Rattle.lb_machine.specs.Meaning.{HasConstants, lane_at};
 ghost use Rattle.lb_sim.specs.Compiled.{HasConstantWords};
+ghost use Rattle.lb_sim.specs.InputRows.{begin_of};
 ghost use Rattle.lb_sim.specs.LaneStates.{is_passed};
 
 use crate::inputs::Inputs;
-use crate::instant::{advance, first_lanes, pass_all, start};
+use crate::instant::{advance, begin_again, first_lanes, start_lanes};
 use crate::lane_bits::zeros;
 use crate::program::LaneProgram;
 use lb_check::Verdict;
@@ -31,9 +32,13 @@ pub struct BatchRun<'a> {
     pub live: Plane,
     pub active: Plane,
     pub steps: u32,
+    /// How many steps had been taken when the trace of each lane began.
+    pub begins: Vec<u32>,
     pub ghost planes_room: { length planes.items ≡ program.now.planes },
     pub ghost words_room: { length words.items ≡ program.now.words },
     pub ghost verdicts_room: { length verdicts.items ≡ 64 },
+    pub ghost begins_room: { length begins.items ≡ 64 },
+    pub ghost begun: { (i : ℕ) → i < 64 → begin_of begins.items i ≤ steps },
     pub ghost constants: { (i : ℕ) → i < 64 → HasConstants
         (lane_at planes.items words.items i) },
     pub ghost constant_words: { (i : ℕ) → i < 64 → HasConstantWords
@@ -45,7 +50,7 @@ pub struct BatchRun<'a> {
 
 impl<'a> BatchRun<'a> {
     ghost use Rattle.lb_sim.specs.BatchRuns.{flat_of, verdict_at};
-    ghost use Rattle.lb_sim.specs.Correct.{IsFresh, IsStep};
+    ghost use Rattle.lb_sim.specs.Correct.{IsFresh, IsRestart, IsStep};
     ghost use Rattle.lb_sim.specs.Inputs.{inputs_row};
 
     /// A run of 1 to 64 lanes, before the first instant.
@@ -62,7 +67,8 @@ impl<'a> BatchRun<'a> {
         let planes = vec![in alloc; 0u64; program.planes as usize]?;
         let words = zeros(alloc, program.words as usize)?;
         let verdicts = vec![in alloc; Verdict::Passed; 64]?;
-        Ok(BatchRun::begun(program, planes, words, verdicts, lanes))
+        let begins = vec![in alloc; 0u32; 64]?;
+        Ok(BatchRun::begun(program, planes, words, verdicts, begins, lanes))
     }
 
     // A run of so many lanes, before the first instant, in planes and words that may hold anything.
@@ -71,18 +77,21 @@ impl<'a> BatchRun<'a> {
         mut planes: Vec<u64>,
         mut words: Vec<LaneWord>,
         mut verdicts: Vec<Verdict>,
+        mut begins: Vec<u32>,
         lanes: u32,
     ) -> BatchRun<'a>
         requires planes { length planes.items ≡ program.now.planes }
         requires words { length words.items ≡ program.now.words }
         requires verdicts { length verdicts.items ≡ 64 }
+        requires begins { length begins.items ≡ 64 }
         requires few { lanes ≤ 64 }
         ensures fresh { IsFresh result lanes }
         ensures live { result.live ≡ result.active }
         ensures program { result.program.now ≡ program.now }
     {
-        start(program, planes.as_mut_slice(), words.as_mut_slice());
-        pass_all(verdicts.as_mut_slice());
+        let every = Plane(0).not();
+        start_lanes(program, planes.as_mut_slice(), words.as_mut_slice(), every);
+        begin_again(verdicts.as_mut_slice(), begins.as_mut_slice(), every, 0);
         let live = first_lanes(lanes);
         BatchRun {
             program,
@@ -92,14 +101,35 @@ impl<'a> BatchRun<'a> {
             live,
             active: live,
             steps: 0,
+            begins,
         }
+    }
+
+    // Lets these lanes stand for the empty trace. It takes no memory.
+    pub(crate) fn restart(&mut self, lanes: Plane)
+        ensures { IsRestart self.old self.new lanes }
+    {
+        start_lanes(
+            self.program,
+            self.planes.as_mut_slice(),
+            self.words.as_mut_slice(),
+            lanes,
+        );
+        begin_again(
+            self.verdicts.as_mut_slice(),
+            self.begins.as_mut_slice(),
+            lanes,
+            self.steps,
+        );
+        self.live = self.live.or(lanes);
+        self.active = self.active.or(lanes);
     }
 
     /// One instant of the lanes that are live. It takes no memory.
     pub fn step(&mut self, inputs: &Inputs, live: Plane)
         requires shrinks { (i : ℕ) → i < 64 → on live.0 i ≡ true
             → on self.old.live.0 i ≡ true }
-        requires few { self.old.steps < 1000000 }
+        requires few { self.old.steps < 4294967295 }
         requires signature { inputs.now.columns.kinds.items ≡ (flat_of self.old).inputs }
         ensures { IsStep self.old self.new (inputs_row inputs.now) live }
     {
@@ -111,6 +141,7 @@ impl<'a> BatchRun<'a> {
             self.verdicts.as_mut_slice(),
             self.active,
             live,
+            self.begins.as_slice(),
             self.steps,
         );
         self.live = live;

@@ -7,7 +7,8 @@ ghost use Rattle.lb_flat.specs.Inputs.{inputs_of};
 ghost use Rattle.lb_flat.specs.Packed.{words_of_row};
 ghost use Rattle.lb_lanes.specs.Planes.{on};
 ghost use Rattle.lb_machine.specs.Meaning.{lane_at};
-ghost use Rattle.lb_sim.specs.InputRows.{HaveInstant, number_columns, places_of, zero_of};
+ghost use Rattle.lb_sim.specs.InputRows.{HaveInstant, instant_in, number_columns, places_of};
+ghost use Rattle.lb_sim.specs.InputRows.{zero_of};
 ghost use Rattle.lb_sim.specs.ReadInputs.{AreAlike};
 ghost use Rattle.lb_sim.specs.Showing.{value_at};
 
@@ -99,15 +100,17 @@ impl Inputs {
         requires kinds { kinds_of set.now.signature ≡ self.old.columns.kinds.items }
         requires members { All (λ k. k < length set.now.traces) members.now }
         requires few { length members.now ≤ 64 }
-        requires live { HaveInstant set.now members.now t live.0 }
+        requires live { HaveInstant set.now members.now [] t live.0 }
         ensures rows { (i : ℕ) → i < 64 → on live.0 i ≡ true
             → inputs_row self.new i ≡ get_or (inputs_of set.now (get_or members.now i 0)) t [] }
         ensures kinds { self.new.columns ≡ self.old.columns }
     {
         let _ = set.signature();
+        let begins = [0u32; 64];
         let at = Instant {
             set,
             members,
+            begins: &begins,
             t,
             live,
         };
@@ -128,16 +131,16 @@ impl Inputs {
         requires kinds { kinds_of at.now.at.set.now.signature ≡ self.old.columns.kinds.items }
         requires within { All (λ w. w < length (number_columns 0 self.old.columns.kinds.items))
             read.now.numbers.items }
-        requires last { IsAhead at.now.at.set.now at.now.at.members.now read.now.numbers.items
-            self.old at.now.at.t at.now.at.live.0 last }
+        requires last { IsAhead at.now.at.set.now at.now.at.members.now at.now.at.begins.now
+            read.now.numbers.items self.old at.now.at.t at.now.at.live.0 last }
         ensures rows { (i : ℕ) → i < 64 → on at.now.at.live.0 i ≡ true
             → AreAlike (places_of 2 1 self.old.columns.kinds.items) read.now.numbers.items
             read.now.truths (inputs_row self.new i)
             (get_or (inputs_of at.now.at.set.now (get_or at.now.at.members.now i 0))
-            at.now.at.t []) }
+            (instant_in at.now.at.begins.now at.now.at.t i) []) }
         ensures kinds { self.new.columns ≡ self.old.columns }
-        ensures ahead { IsAhead at.now.at.set.now at.now.at.members.now read.now.numbers.items
-            self.new at.now.at.t at.now.at.live.0 result }
+        ensures ahead { IsAhead at.now.at.set.now at.now.at.members.now at.now.at.begins.now
+            read.now.numbers.items self.new at.now.at.t at.now.at.live.0 result }
     {
         let _ = at.at.set.signature();
         let reach = self.reach;

@@ -1,7 +1,7 @@
 //! The parts of an instant of a batch: its start, the run of its code, what it decides, and the
 //! memories of the next instant.
 
-ghost use Rattle.std.specs.Prelude.{◌≡◌, ℕ, ◌<◌, ◌≤◌, not, ◌&&◌, [], length, get_or};
+ghost use Rattle.std.specs.Prelude.{◌≡◌, ℕ, ◌<◌, ◌≤◌, true, false, not, ◌&&◌, [], length, get_or};
 ghost use Rattle.std.specs.Prelude.{nat_lt, pos, slice_index, slice_index_or};
 ghost use Rattle.std.specs.Prelude.{if◌then◌else◌};
 ghost use Rattle.lb_check.specs.declared.verdict.Verdict.TheVariants.{Passed};
@@ -9,6 +9,7 @@ ghost use Rattle.lb_lanes.specs.Kernels.{lane_of};
 ghost use Rattle.lb_lanes.specs.Planes.{IsPlaneOf, on};
 ghost use Rattle.lb_machine.specs.Meaning.{HasConstants, lane_at};
 ghost use Rattle.lb_sim.specs.Compiled.{HasConstantWords};
+ghost use Rattle.lb_sim.specs.InputRows.{begin_of, instant_in};
 ghost use Rattle.lb_sim.specs.Inputs.{inputs_row};
 ghost use Rattle.lb_sim.specs.LaneMoves.{IsMovedOn};
 ghost use Rattle.lb_sim.specs.LaneStates.{IsCodeIn, IsComputed, is_passed};
@@ -17,7 +18,7 @@ ghost use Rattle.lb_sim.specs.Watching.{lane_judged};
 
 use crate::choice::code_for;
 use crate::inputs::Inputs;
-use crate::lane_bits::{copy_planes, with_lane};
+use crate::lane_bits::with_lane;
 use crate::place::Watched;
 use crate::program::{LaneCode, LaneProgram};
 use lb_check::Verdict;
@@ -36,41 +37,79 @@ pub(crate) fn first_lanes(lanes: u32) -> Plane
     Plane(plane)
 }
 
-// Puts numbers into the first words, each in all lanes.
-fn put_start(words: &mut [LaneWord], start: &[i32])
-    requires { length start.now ≤ length words.old }
+// Puts numbers into the first words, each in these lanes.
+fn put_start_in(words: &mut [LaneWord], start: &[i32], lanes: Plane)
+    requires room { length start.now ≤ length words.old }
     ensures words { length words.new ≡ length words.old }
-    ensures put { (k i : ℕ) → k < length start.now → i < 64
+    ensures put { (k i : ℕ) → k < length start.now → i < 64 → on lanes.0 i ≡ true
         → lane_of (slice_index_or words.new k []) i ≡ slice_index_or start.now k (pos 0) }
+    ensures others { (k i : ℕ) → i < 64 → on lanes.0 i ≡ false
+        → lane_of (slice_index_or words.new k []) i ≡ lane_of (slice_index_or words.old k []) i }
 {
     for k in 0..start.len() {
-        words[k] = LaneWord::splat(start[k]);
+        let number = LaneWord::splat(start[k]);
+        let mut word = LaneWord::splat(0);
+        word.set_blend(lanes, &number, &words[k]);
+        words[k].copy_from(&word);
     }
 }
 
-// Puts what a program starts with into the first places of all lanes. The rest may hold anything.
-pub(crate) fn start(program: &LaneProgram, planes: &mut [u64], words: &mut [LaneWord])
+// The first planes take over these lanes from other planes.
+fn copy_lanes(planes: &mut [u64], from: &[u64], lanes: Plane)
+    requires room { length from.now ≤ length planes.old }
+    ensures planes { length planes.new ≡ length planes.old }
+    ensures put { (k i : ℕ) → k < length from.now → i < 64 → on lanes.0 i ≡ true
+        → on (slice_index planes.new k) i ≡ on (slice_index from.now k) i }
+    ensures others { (k i : ℕ) → i < 64 → on lanes.0 i ≡ false
+        → on (slice_index planes.new k) i ≡ on (slice_index planes.old k) i }
+{
+    for k in 0..from.len() {
+        planes[k] = Plane::select(lanes, Plane(from[k]), Plane(planes[k])).0;
+    }
+}
+
+// Puts what a program starts with into the first places of these lanes.
+pub(crate) fn start_lanes(
+    program: &LaneProgram,
+    planes: &mut [u64],
+    words: &mut [LaneWord],
+    lanes: Plane,
+)
     requires planes { length planes.old ≡ program.now.planes }
     requires words { length words.old ≡ program.now.words }
     ensures planes { length planes.new ≡ length planes.old }
     ensures words { length words.new ≡ length words.old }
-    ensures first_planes { (k : ℕ) → k < length program.now.start_planes.items
-        → slice_index planes.new k ≡ slice_index program.now.start_planes.items k }
+    ensures first_planes { (k i : ℕ) → k < length program.now.start_planes.items → i < 64
+        → on lanes.0 i ≡ true
+        → on (slice_index planes.new k) i ≡ on (slice_index program.now.start_planes.items k) i }
     ensures first_words { (k i : ℕ) → k < length program.now.start_words.items → i < 64
-        → lane_of (slice_index_or words.new k []) i
+        → on lanes.0 i ≡ true → lane_of (slice_index_or words.new k []) i
         ≡ slice_index_or program.now.start_words.items k (pos 0) }
+    ensures other_planes { (k i : ℕ) → i < 64 → on lanes.0 i ≡ false
+        → on (slice_index planes.new k) i ≡ on (slice_index planes.old k) i }
+    ensures other_words { (k i : ℕ) → i < 64 → on lanes.0 i ≡ false
+        → lane_of (slice_index_or words.new k []) i ≡ lane_of (slice_index_or words.old k []) i }
 {
-    copy_planes(planes, 0, program.start_planes.as_slice());
-    put_start(words, program.start_words.as_slice());
+    copy_lanes(planes, program.start_planes.as_slice(), lanes);
+    put_start_in(words, program.start_words.as_slice(), lanes);
 }
 
-// No lane has a verdict.
-pub(crate) fn pass_all(verdicts: &mut [Verdict])
-    ensures verdicts { length verdicts.new ≡ length verdicts.old }
-    ensures passed { (i : ℕ) → get_or verdicts.new i Passed ≡ Passed }
+// No verdict of these lanes is left, and their traces begin at instant `t`.
+pub(crate) fn begin_again(verdicts: &mut [Verdict], begins: &mut [u32], lanes: Plane, t: u32)
+    requires verdicts { length verdicts.old ≡ 64 }
+    requires begins { length begins.old ≡ 64 }
+    ensures verdicts { length verdicts.new ≡ 64 }
+    ensures begins { length begins.new ≡ 64 }
+    ensures passed { (i : ℕ) → i < 64 → get_or verdicts.new i Passed
+        ≡ (if on lanes.0 i then Passed else get_or verdicts.old i Passed) }
+    ensures begun { (i : ℕ) → i < 64 → begin_of begins.new i
+        ≡ (if on lanes.0 i then t else begin_of begins.old i) }
 {
-    for i in 0..verdicts.len() {
-        verdicts[i] = Verdict::Passed;
+    for lane in 0..64u32 {
+        if lanes.get(lane) {
+            verdicts[lane as usize] = Verdict::Passed;
+            begins[lane as usize] = t;
+        }
     }
 }
 
@@ -146,45 +185,66 @@ fn passing(planes: &[u64], watched: Watched, going: Plane) -> Plane
     going.and(faults.or(undefined).or(failed.or(violated)).not())
 }
 
-// Puts the verdicts of the lanes that an instant decides.
-fn settle(verdicts: &mut [Verdict], planes: &[u64], watched: Watched, lanes: Plane, t: u32)
+// Puts the verdicts of the lanes that an instant of the batch decides.
+fn give_verdicts(
+    verdicts: &mut [Verdict],
+    planes: &[u64],
+    watched: Watched,
+    lanes: Plane,
+    begins: &[u32],
+    t: u32,
+)
     requires verdicts { length verdicts.old ≡ 64 }
+    requires begins { length begins.now ≡ 64 }
+    requires begun { (i : ℕ) → i < 64 → begin_of begins.now i ≤ t }
     requires faults { watched.faults.0 < length planes.now }
     requires undefined { watched.undefined.0 < length planes.now }
     requires failed { watched.failed.0 < length planes.now }
     requires violated { watched.violated.0 < length planes.now }
     ensures verdicts { length verdicts.new ≡ 64 }
     ensures put { (i : ℕ) → i < 64 → get_or verdicts.new i Passed
-        ≡ (if on lanes.0 i then lane_judged watched t (lane_at planes.now [] i)
+        ≡ (if on lanes.0 i
+        then lane_judged watched (instant_in begins.now t i) (lane_at planes.now [] i)
         else get_or verdicts.old i Passed) }
 {
     for lane in 0..64u32 {
         if lanes.get(lane) {
-            verdicts[lane as usize] = decided(planes, watched, lane, t);
+            let at = t - begins[lane as usize];
+            verdicts[lane as usize] = decided(planes, watched, lane, at);
         }
     }
 }
 
 // The lanes that pass the instant, of those that take part in it; the others of these get their
 // verdicts.
-fn judge(code: &LaneCode, planes: &[u64], verdicts: &mut [Verdict], going: Plane, t: u32) -> Plane
+fn judge(
+    code: &LaneCode,
+    planes: &[u64],
+    verdicts: &mut [Verdict],
+    going: Plane,
+    begins: &[u32],
+    t: u32,
+) -> Plane
     requires faults { code.now.watched.faults.0 < length planes.now }
     requires undefined { code.now.watched.undefined.0 < length planes.now }
     requires failed { code.now.watched.failed.0 < length planes.now }
     requires violated { code.now.watched.violated.0 < length planes.now }
     requires verdicts { length verdicts.old ≡ 64 }
+    requires begins { length begins.now ≡ 64 }
+    requires begun { (i : ℕ) → i < 64 → begin_of begins.now i ≤ t }
     ensures verdicts { length verdicts.new ≡ 64 }
     ensures passed { IsPlaneOf (λ i. on going.0 i
-        && is_passed (lane_judged code.now.watched t (lane_at planes.now [] i))) result.0 }
+        && is_passed (lane_judged code.now.watched (instant_in begins.now t i)
+        (lane_at planes.now [] i))) result.0 }
     ensures put { (i : ℕ) → i < 64 → get_or verdicts.new i Passed
         ≡ (if on going.0 i && not (on result.0 i)
-        then lane_judged code.now.watched t (lane_at planes.now [] i)
+        then lane_judged code.now.watched (instant_in begins.now t i) (lane_at planes.now [] i)
         else get_or verdicts.old i Passed) }
 {
     let passed = passing(planes, code.watched, going);
     let decided = going.and(passed.not());
     if decided.0 != 0 {
-        settle(verdicts, planes, code.watched, decided, t);
+        give_verdicts(verdicts, planes, code.watched, decided, begins, t);
     }
     passed
 }
@@ -213,11 +273,14 @@ pub(crate) fn advance(
     verdicts: &mut [Verdict],
     active: Plane,
     live: Plane,
+    begins: &[u32],
     t: u32,
 ) -> Plane
     requires planes { length planes.old ≡ program.now.planes }
     requires words { length words.old ≡ program.now.words }
     requires verdicts { length verdicts.old ≡ 64 }
+    requires begins { length begins.now ≡ 64 }
+    requires begun { (i : ℕ) → i < 64 → begin_of begins.now i ≤ t }
     requires signature { inputs.now.columns.kinds.items ≡ program.now.program.now.inputs.items }
     requires constants { (i : ℕ) → i < 64 → HasConstants (lane_at planes.old words.old i) }
     requires constant_words { (i : ℕ) → i < 64 → HasConstantWords program.now.constant_word
@@ -229,12 +292,12 @@ pub(crate) fn advance(
     ensures moved { (i : ℕ) → i < 64 → IsMovedOn program.now (inputs_row inputs.now i)
         (lane_at planes.old words.old i) (lane_at planes.new words.new i)
         (get_or verdicts.old i Passed) (get_or verdicts.new i Passed)
-        (on active.0 i) (on live.0 i) (on result.0 i) t }
+        (on active.0 i) (on live.0 i) (on result.0 i) (instant_in begins.now t i) }
 {
     let going = active.and(live);
     let code = code_for(program, planes, going);
     compute(program, code, inputs, planes, words);
-    let passed = judge(code, planes, verdicts, going, t);
+    let passed = judge(code, planes, verdicts, going, begins, t);
     commit(program, code, planes, words);
     passed
 }

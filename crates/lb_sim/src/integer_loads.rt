@@ -4,7 +4,7 @@
 //! all four have the instant, and else one by one. Of its integers those are loaded that stand at
 //! some places.
 
-ghost use Rattle.std.specs.Prelude.{◌≡◌, ◌≢◌, ℕ, ◌<◌, ◌≤◌, ◌+◌, true, length, get_or};
+ghost use Rattle.std.specs.Prelude.{◌≡◌, ℕ, ◌<◌, ◌≤◌, ◌+◌, true, length, get_or};
 ghost use Rattle.std.specs.Prelude.{pos, slice_index, slice_index_or, [], All};
 ghost use Rattle.lb_static.specs.Signature.{kinds_of};
 ghost use Rattle.lb_flat.specs.Packed.{number_columns};
@@ -25,10 +25,11 @@ fn numbers_of<'a>(at: &Instant<'a, '_>, i: usize) -> &'a [i32]
     ensures count { length result.now
         ≡ length (number_columns 0 (kinds_of at.now.set.now.signature)) }
     ensures numbers { (w : ℕ) → w < length (number_columns 0 (kinds_of at.now.set.now.signature))
-        → get_or result.now w (pos 0) ≡ member_cell at.now.set.now at.now.members.now at.now.t i
+        → get_or result.now w (pos 0)
+        ≡ member_cell at.now.set.now at.now.members.now at.now.begins.now at.now.t i
         (get_or (number_columns 0 (kinds_of at.now.set.now.signature)) w 0) }
 {
-    at.set.numbers(at.members[i], at.t)
+    at.set.numbers(at.members[i], at.t - at.begins[i])
 }
 
 // Puts the integers of a member into its lane if that is live.
@@ -37,7 +38,7 @@ fn put_member(at: &Instant<'_, '_>, places: &[usize], i: usize, words: &mut [Lan
     requires room { length words.old
         ≡ length (number_columns 0 (kinds_of at.now.set.now.signature)) }
     requires within { All (λ w. w < length words.old) places.now }
-    ensures { AreLoaded at.now.set.now at.now.members.now at.now.t at.now.live.0
+    ensures { AreLoaded at.now.set.now at.now.members.now at.now.begins.now at.now.t at.now.live.0
         (number_columns 0 (kinds_of at.now.set.now.signature)) places.now i (i + 1) words.old
         words.new }
 {
@@ -60,7 +61,7 @@ fn put_each(
     requires room { length words.old
         ≡ length (number_columns 0 (kinds_of at.now.set.now.signature)) }
     requires within { All (λ w. w < length words.old) places.now }
-    ensures { AreLoaded at.now.set.now at.now.members.now at.now.t at.now.live.0
+    ensures { AreLoaded at.now.set.now at.now.members.now at.now.begins.now at.now.t at.now.live.0
         (number_columns 0 (kinds_of at.now.set.now.signature)) places.now first end words.old
         words.new }
 {
@@ -84,7 +85,7 @@ fn put_four_members(at: &Instant<'_, '_>, places: &[usize], first: usize, words:
     requires room { length words.old
         ≡ length (number_columns 0 (kinds_of at.now.set.now.signature)) }
     requires within { All (λ w. w < length words.old) places.now }
-    ensures { AreLoaded at.now.set.now at.now.members.now at.now.t at.now.live.0
+    ensures { AreLoaded at.now.set.now at.now.members.now at.now.begins.now at.now.t at.now.live.0
         (number_columns 0 (kinds_of at.now.set.now.signature)) places.now first (first + 4)
         words.old words.new }
 {
@@ -111,7 +112,7 @@ pub(crate) fn load_numbers(at: &Instant<'_, '_>, places: &[usize], words: &mut [
     ensures words { length words.new ≡ length words.old }
     ensures put { (i k : ℕ) → i < 64 → on at.now.live.0 i ≡ true → k < length places.now
         → lane_of (slice_index_or words.new (slice_index places.now k) []) i
-        ≡ member_cell at.now.set.now at.now.members.now at.now.t i
+        ≡ member_cell at.now.set.now at.now.members.now at.now.begins.now at.now.t i
         (get_or (number_columns 0 (kinds_of at.now.set.now.signature))
         (slice_index places.now k) 0) }
 {

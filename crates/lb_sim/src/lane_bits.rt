@@ -50,8 +50,8 @@ fn words_from(rows: &[u64], first: usize) -> [u64; 64]
     words
 }
 
-// The plane with one more lane, where the bit is set.
-fn with_bit(plane: u64, lane: u32, bit: bool) -> u64
+/// The plane with one more lane, where the bit is set.
+pub(crate) fn with_bit(plane: u64, lane: u32, bit: bool) -> u64
     requires { lane < 64 }
     ensures { (i : ℕ) → i < 64 → on result i ≡ ((bit && (i == lane)) || on plane i) }
 {

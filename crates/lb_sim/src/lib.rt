@@ -28,6 +28,7 @@ mod picks;
 mod place;
 mod preset;
 mod program;
+mod queue;
 mod read_inputs;
 mod room;
 mod running;
@@ -38,7 +39,7 @@ mod truths;
 mod watch;
 mod watched;
 
-pub use batch::{Done, has_kinds, run_batch, run_batch_in};
+pub use batch::{Done, has_kinds, run_batch, run_queue_in};
 pub use batch_run::BatchRun;
 pub use compiler::compile;
 pub use inputs::Inputs;

@@ -3,6 +3,9 @@
 //! Of 64 Boolean columns a trace set keeps the cells of a row as the bits of one word. The words of
 //! all lanes stand side by side, and a transposition turns them into planes.
 //!
+//! Each lane is at an instant of its own: where the batch is at instant 7 and the trace of a lane
+//! began at instant 5, its cells are those of instant 2.
+//!
 //! The rows of a trace lie side by side in memory, and those of another trace elsewhere. So of each
 //! lane the words of some instants are read in one go, those of four lanes at a time.
 //!
@@ -33,11 +36,14 @@ use lb_lanes::Plane;
 pub(crate) struct Instant<'a, 'b> {
     pub(crate) set: &'a TraceSet,
     pub(crate) members: &'b [u32],
+    /// The instant of the batch at which the trace of each lane begins.
+    pub(crate) begins: &'b [u32],
     pub(crate) t: u32,
     pub(crate) live: Plane,
     pub(crate) ghost within: { All (λ k. k < length set.now.traces) members.now },
     pub(crate) ghost few: { length members.now ≤ 64 },
-    pub(crate) ghost there: { HaveInstant set.now members.now t live.0 },
+    pub(crate) ghost begins_room: { length begins.now ≡ 64 },
+    pub(crate) ghost there: { HaveInstant set.now members.now begins.now t live.0 },
 }
 
 // Words into a lane of as many words of all lanes.
@@ -77,29 +83,33 @@ fn bits_of<'a>(at: &Instant<'a, '_>, i: usize, count: u32) -> &'a [u64]
     requires member { i < length at.now.members.now }
     requires live { on at.now.live.0 i ≡ true }
     requires there { (d : ℕ) → d < count
-        → HaveInstant at.now.set.now at.now.members.now (at.now.t + d) at.now.live.0 }
+        → HaveInstant at.now.set.now at.now.members.now at.now.begins.now (at.now.t + d)
+        at.now.live.0 }
     ensures words { length result.now ≡ count
         * words_of_row (length (truth_columns 0 (kinds_of at.now.set.now.signature))) }
     ensures bits { (d g c : ℕ) → d < count → c < 64
         → 64 * g + c < length (truth_columns 0 (kinds_of at.now.set.now.signature))
         → on (slice_index result.now (d
         * words_of_row (length (truth_columns 0 (kinds_of at.now.set.now.signature))) + g)) c
-        ≡ int_le (pos 1) (member_cell at.now.set.now at.now.members.now (at.now.t + d) i
+        ≡ int_le (pos 1)
+        (member_cell at.now.set.now at.now.members.now at.now.begins.now (at.now.t + d) i
         (get_or (truth_columns 0 (kinds_of at.now.set.now.signature)) (64 * g + c) 0)) }
 {
-    at.set.bits(at.members[i], at.t, count)
+    at.set.bits(at.members[i], at.t - at.begins[i], count)
 }
 
 // The Booleans of so many instants of a member, into the words of its lane if that is live.
 fn put_bits(at: &Instant<'_, '_>, i: usize, count: u32, rows: &mut [u64])
     requires member { i < length at.now.members.now }
     requires there { (d : ℕ) → d < count
-        → HaveInstant at.now.set.now at.now.members.now (at.now.t + d) at.now.live.0 }
+        → HaveInstant at.now.set.now at.now.members.now at.now.begins.now (at.now.t + d)
+        at.now.live.0 }
     requires room { 72 * (count
         * words_of_row (length (truth_columns 0 (kinds_of at.now.set.now.signature))))
         ≤ length rows.old }
-    ensures { AreTruthsLoaded at.now.set.now at.now.members.now at.now.t count at.now.live.0
-        (truth_columns 0 (kinds_of at.now.set.now.signature)) i (i + 1) rows.old rows.new }
+    ensures { AreTruthsLoaded at.now.set.now at.now.members.now at.now.begins.now at.now.t count
+        at.now.live.0 (truth_columns 0 (kinds_of at.now.set.now.signature)) i (i + 1)
+        rows.old rows.new }
 {
     if !at.live.get(i as u32) {
         return;
@@ -112,12 +122,14 @@ fn put_each(at: &Instant<'_, '_>, first: usize, end: usize, count: u32, rows: &m
     requires order { first ≤ end }
     requires members { end ≤ length at.now.members.now }
     requires there { (d : ℕ) → d < count
-        → HaveInstant at.now.set.now at.now.members.now (at.now.t + d) at.now.live.0 }
+        → HaveInstant at.now.set.now at.now.members.now at.now.begins.now (at.now.t + d)
+        at.now.live.0 }
     requires room { 72 * (count
         * words_of_row (length (truth_columns 0 (kinds_of at.now.set.now.signature))))
         ≤ length rows.old }
-    ensures { AreTruthsLoaded at.now.set.now at.now.members.now at.now.t count at.now.live.0
-        (truth_columns 0 (kinds_of at.now.set.now.signature)) first end rows.old rows.new }
+    ensures { AreTruthsLoaded at.now.set.now at.now.members.now at.now.begins.now at.now.t count
+        at.now.live.0 (truth_columns 0 (kinds_of at.now.set.now.signature)) first end
+        rows.old rows.new }
 {
     for i in first..end {
         put_bits(at, i, count, rows);
@@ -128,12 +140,14 @@ fn put_each(at: &Instant<'_, '_>, first: usize, end: usize, count: u32, rows: &m
 fn put_four_members(at: &Instant<'_, '_>, first: usize, count: u32, rows: &mut [u64])
     requires members { first + 4 ≤ length at.now.members.now }
     requires there { (d : ℕ) → d < count
-        → HaveInstant at.now.set.now at.now.members.now (at.now.t + d) at.now.live.0 }
+        → HaveInstant at.now.set.now at.now.members.now at.now.begins.now (at.now.t + d)
+        at.now.live.0 }
     requires room { 72 * (count
         * words_of_row (length (truth_columns 0 (kinds_of at.now.set.now.signature))))
         ≤ length rows.old }
-    ensures { AreTruthsLoaded at.now.set.now at.now.members.now at.now.t count at.now.live.0
-        (truth_columns 0 (kinds_of at.now.set.now.signature)) first (first + 4) rows.old rows.new }
+    ensures { AreTruthsLoaded at.now.set.now at.now.members.now at.now.begins.now at.now.t count
+        at.now.live.0 (truth_columns 0 (kinds_of at.now.set.now.signature)) first (first + 4)
+        rows.old rows.new }
 {
     if !are_live(at, first as u32) {
         put_each(at, first, first + 4, count, rows);
@@ -152,13 +166,15 @@ fn put_four_members(at: &Instant<'_, '_>, first: usize, count: u32, rows: &mut [
 // The Booleans of so many instants of all members, into the words of the lanes that are live.
 fn gather(at: &Instant<'_, '_>, count: u32, rows: &mut [u64])
     requires there { (d : ℕ) → d < count
-        → HaveInstant at.now.set.now at.now.members.now (at.now.t + d) at.now.live.0 }
+        → HaveInstant at.now.set.now at.now.members.now at.now.begins.now (at.now.t + d)
+        at.now.live.0 }
     requires room { 72 * (count
         * words_of_row (length (truth_columns 0 (kinds_of at.now.set.now.signature))))
         ≤ length rows.old }
     ensures rows { length rows.new ≡ length rows.old }
-    ensures put { AreTruthsAhead at.now.set.now at.now.members.now at.now.t (at.now.t + count)
-        at.now.live.0 (truth_columns 0 (kinds_of at.now.set.now.signature)) rows.new }
+    ensures put { AreTruthsAhead at.now.set.now at.now.members.now at.now.begins.now at.now.t
+        (at.now.t + count) at.now.live.0
+        (truth_columns 0 (kinds_of at.now.set.now.signature)) rows.new }
 {
     let members = at.members.len();
     let fours = members / 4;
@@ -194,7 +210,7 @@ pub(crate) fn load_truths(at: &Instant<'_, '_>, rows: &mut [u64], planes: &mut [
     ensures put { (i b : ℕ) → i < 64 → on at.now.live.0 i ≡ true
         → b < length (truth_columns 0 (kinds_of at.now.set.now.signature))
         → on (slice_index planes.new b) i ≡ int_le (pos 1)
-        (member_cell at.now.set.now at.now.members.now at.now.t i
+        (member_cell at.now.set.now at.now.members.now at.now.begins.now at.now.t i
         (get_or (truth_columns 0 (kinds_of at.now.set.now.signature)) b 0)) }
 {
     let _t = at.t;
@@ -209,15 +225,16 @@ fn renewed(at: &Stretch<'_, '_>, reach: u32, rows: &mut [u64], last: Ahead) -> A
         * words_of_row (length (truth_columns 0 (kinds_of at.now.at.set.now.signature))))
         ≤ length rows.old }
     requires begun { last.first ≤ at.now.at.t }
-    requires last { AreTruthsAhead at.now.at.set.now at.now.at.members.now last.first last.until
-        last.lanes.0 (truth_columns 0 (kinds_of at.now.at.set.now.signature)) rows.old }
+    requires last { AreTruthsAhead at.now.at.set.now at.now.at.members.now at.now.at.begins.now
+        last.first last.until last.lanes.0
+        (truth_columns 0 (kinds_of at.now.at.set.now.signature)) rows.old }
     requires lanes { at.now.at.t < last.until → AreAmong at.now.at.live.0 last.lanes.0 }
     ensures rows { length rows.new ≡ length rows.old }
     ensures begun { result.first ≤ at.now.at.t }
     ensures until { at.now.at.t < result.until }
-    ensures ahead { AreTruthsAhead at.now.at.set.now at.now.at.members.now result.first
-        result.until result.lanes.0 (truth_columns 0 (kinds_of at.now.at.set.now.signature))
-        rows.new }
+    ensures ahead { AreTruthsAhead at.now.at.set.now at.now.at.members.now at.now.at.begins.now
+        result.first result.until result.lanes.0
+        (truth_columns 0 (kinds_of at.now.at.set.now.signature)) rows.new }
     ensures lanes { AreAmong at.now.at.live.0 result.lanes.0 }
 {
     let first = at.at.t;
@@ -248,20 +265,21 @@ pub(crate) fn load_truths_ahead(
     requires room { length planes.old
         ≡ length (truth_columns 0 (kinds_of at.now.at.set.now.signature)) }
     requires begun { last.first ≤ at.now.at.t }
-    requires last { AreTruthsAhead at.now.at.set.now at.now.at.members.now last.first last.until
-        last.lanes.0 (truth_columns 0 (kinds_of at.now.at.set.now.signature)) rows.old }
+    requires last { AreTruthsAhead at.now.at.set.now at.now.at.members.now at.now.at.begins.now
+        last.first last.until last.lanes.0
+        (truth_columns 0 (kinds_of at.now.at.set.now.signature)) rows.old }
     requires lanes { at.now.at.t < last.until → AreAmong at.now.at.live.0 last.lanes.0 }
     ensures rows { length rows.new ≡ length rows.old }
     ensures planes { length planes.new ≡ length planes.old }
     ensures put { wanted ≡ true → (i b : ℕ) → i < 64 → on at.now.at.live.0 i ≡ true
         → b < length (truth_columns 0 (kinds_of at.now.at.set.now.signature))
         → on (slice_index planes.new b) i ≡ int_le (pos 1)
-        (member_cell at.now.at.set.now at.now.at.members.now at.now.at.t i
+        (member_cell at.now.at.set.now at.now.at.members.now at.now.at.begins.now at.now.at.t i
         (get_or (truth_columns 0 (kinds_of at.now.at.set.now.signature)) b 0)) }
     ensures begun { result.first ≤ at.now.at.t }
-    ensures ahead { AreTruthsAhead at.now.at.set.now at.now.at.members.now result.first
-        result.until result.lanes.0 (truth_columns 0 (kinds_of at.now.at.set.now.signature))
-        rows.new }
+    ensures ahead { AreTruthsAhead at.now.at.set.now at.now.at.members.now at.now.at.begins.now
+        result.first result.until result.lanes.0
+        (truth_columns 0 (kinds_of at.now.at.set.now.signature)) rows.new }
     ensures lanes { at.now.at.t < result.until → AreAmong at.now.at.live.0 result.lanes.0 }
 {
     if !wanted {

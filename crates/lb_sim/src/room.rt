@@ -1,7 +1,6 @@
 //! The room of a worker: planes, words, verdicts and inputs, which it takes once for all batches.
 
-ghost use Rattle.std.specs.Prelude.{◌≡◌, ◌≢◌, ◌<◌, ◌≤◌, true, false, length, get_or, IfOk};
-ghost use Rattle.lb_check.specs.declared.verdict.Verdict.TheVariants.{Passed};
+ghost use Rattle.std.specs.Prelude.{◌≡◌, ◌≢◌, ◌<◌, ◌≤◌, true, false, length, IfOk};
 
 use crate::batch_run::BatchRun;
 use crate::inputs::Inputs;
@@ -17,16 +16,17 @@ use std::alloc::{AllocError, Global};
 ///
 /// ```text
 /// let room = BatchRoom::new(alloc, &program)?;
-/// let room = run_batch_in(room, &program, &set, &[0, 1, 2]);
-/// let verdict = room.verdict(1);
+/// let room = run_queue_in(room, &program, &set, &[0, 1, 2], 2, &mut verdicts);
 /// ```
 #[derive(Drop)]
 pub struct BatchRoom {
     pub(crate) planes: Vec<u64>,
     pub(crate) words: Vec<LaneWord>,
     pub(crate) verdicts: Vec<Verdict>,
+    pub(crate) begins: Vec<u32>,
     pub(crate) inputs: Inputs,
     pub(crate) ghost verdicts_room: { length verdicts.items ≡ 64 },
+    pub(crate) ghost begins_room: { length begins.items ≡ 64 },
 }
 
 // Whether two kinds are the same.
@@ -73,11 +73,13 @@ impl BatchRoom {
         let planes = vec![in alloc; 0u64; program.planes as usize]?;
         let words = zeros(alloc, program.words as usize)?;
         let verdicts = vec![in alloc; Verdict::Passed; 64]?;
+        let begins = vec![in alloc; 0u32; 64]?;
         let inputs = Inputs::new(alloc, program)?;
         Ok(BatchRoom {
             planes,
             words,
             verdicts,
+            begins,
             inputs,
         })
     }
@@ -93,14 +95,6 @@ impl BatchRoom {
                 self.inputs.columns.kinds.as_slice(),
                 program.program.inputs.as_slice(),
             )
-    }
-
-    /// The verdict of a lane in the batch that was run last.
-    pub fn verdict(&self, lane: u32) -> Verdict
-        requires { lane < 64 }
-        ensures { result ≡ get_or self.now.verdicts.items lane Passed }
-    {
-        self.verdicts[lane as usize]
     }
 
     // So many lanes before the first instant, and their inputs, in this room.
@@ -119,19 +113,17 @@ impl BatchRoom {
             planes,
             words,
             verdicts,
+            begins,
             inputs,
         } = self;
-        (
-            BatchRun::begun(program, planes, words, verdicts, lanes),
-            inputs,
-        )
+        let run = BatchRun::begun(program, planes, words, verdicts, begins, lanes);
+        (run, inputs)
     }
 
     // The room of lanes that were run, and of their inputs.
     pub(crate) fn of_run(run: BatchRun<'_>, inputs: Inputs) -> BatchRoom
         requires { inputs.columns.kinds.items ≡ run.program.now.program.now.inputs.items }
-        ensures room { IsRoomFor run.entry.program.now result }
-        ensures verdicts { result.verdicts ≡ run.entry.verdicts }
+        ensures { IsRoomFor run.entry.program.now result }
     {
         let BatchRun {
             program: _,
@@ -141,11 +133,13 @@ impl BatchRoom {
             live: _,
             active: _,
             steps: _,
+            begins,
         } = run;
         BatchRoom {
             planes,
             words,
             verdicts,
+            begins,
             inputs,
         }
     }

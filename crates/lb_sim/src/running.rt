@@ -3,7 +3,8 @@
 ghost use Rattle.std.specs.Prelude.{◌≡◌, ℕ, ◌<◌, ◌≤◌, ◌==◌, ◌&&◌, ◌||◌, length};
 ghost use Rattle.std.specs.Prelude.{All, nat_lt};
 ghost use Rattle.lb_lanes.specs.Planes.{on};
-ghost use Rattle.lb_sim.specs.BatchLanes.{length_in, AreOn, AreRunning};
+ghost use Rattle.lb_sim.specs.BatchLanes.{AreRunning};
+ghost use Rattle.lb_sim.specs.InputRows.{begin_of};
 
 use crate::lane_bits::with_lane;
 use lb_flat::TraceSet;
@@ -36,46 +37,21 @@ fn sooner(until: u32, end: u32, t: u32) -> u32
     if t < end && end < until { end } else { until }
 }
 
-/// The lanes whose traces have instant `t`.
-pub(crate) fn running_at(set: &TraceSet, members: &[u32], t: u32) -> Running
+/// The lanes whose traces have instant `t`, where each began at an instant of the batch.
+pub(crate) fn running_at(set: &TraceSet, members: &[u32], begins: &[u32], t: u32) -> Running
     requires few { length members.now ≤ 64 }
     requires members { All (λ k. k < length set.now.traces) members.now }
-    requires instant { t < 4294967295 }
-    ensures { AreRunning set.now members.now t result.lanes result.until }
+    requires begins { length begins.now ≡ 64 }
+    requires begun { (i : ℕ) → i < 64 → begin_of begins.now i ≤ t }
+    requires instant { t ≤ 4293967295 }
+    ensures { AreRunning set.now members.now begins.now t result.lanes result.until }
 {
     let mut lanes = 0u64;
     let mut until = u32::MAX;
     for i in 0..members.len() {
-        let end = set.length(members[i]);
+        let end = begins[i] + set.length(members[i]);
         lanes = with_running(lanes, i as u32, end, t);
         until = sooner(until, end, t);
     }
     Running { lanes, until }
-}
-
-/// The lanes whose traces have instant `t`, where it is known up to an instant which they are.
-pub(crate) fn still(set: &TraceSet, members: &[u32], t: u32, last: Running) -> Running
-    requires few { length members.now ≤ 64 }
-    requires members { All (λ k. k < length set.now.traces) members.now }
-    requires instant { t < 4294967295 }
-    requires last { AreOn set.now members.now t last.lanes last.until }
-    ensures { AreRunning set.now members.now t result.lanes result.until }
-{
-    if t < last.until {
-        return last;
-    }
-    running_at(set, members, t)
-}
-
-/// The greatest number of instants that a member has.
-pub(crate) fn longest(set: &TraceSet, members: &[u32]) -> u32
-    requires { All (λ k. k < length set.now.traces) members.now }
-    ensures each { (i : ℕ) → i < length members.now → length_in set.now members.now i ≤ result }
-    ensures limit { result ≤ 1000000 }
-{
-    let mut most = 0u32;
-    for i in 0..members.len() {
-        most = most.max(set.length(members[i]));
-    }
-    most
 }

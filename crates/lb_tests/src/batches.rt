@@ -1,6 +1,6 @@
 //! Batches of traces in lanes, beside the same traces one after the other.
 
-ghost use Rattle.std.specs.Prelude.{◌≡◌, ◌<◌, ◌≤◌, All, length, true};
+ghost use Rattle.std.specs.Prelude.{◌≡◌, ◌<◌, ◌≤◌, [], All, length, true};
 ghost use Rattle.lb_static.specs.Signature.{kinds_of};
 ghost use Rattle.lb_sim.specs.BatchRuns.{flat_of};
 ghost use Rattle.lb_sim.specs.InputRows.{HaveInstant};
@@ -11,7 +11,9 @@ use lb_check::{Verdict, check as check_rules};
 use lb_flat::{Ordered, TraceSet, eval_trace, expand, order};
 use lb_lanes::Plane;
 use lb_report::split_case;
-use lb_sim::{BatchRun, Inputs, LaneProgram, compile, has_kinds, run_batch};
+use lb_sim::{
+    BatchRoom, BatchRun, Inputs, LaneProgram, compile, has_kinds, run_batch, run_queue_in,
+};
 use lb_static::{Signature, elaborate};
 use lb_syntax::{Source, parse};
 use lb_trace::read_traces;
@@ -22,7 +24,7 @@ use std::alloc::{AllocError, Global};
 /// What is asked of the lanes of a case.
 #[derive(Clone, Copy)]
 enum Question<'a> {
-    /// The verdicts of all traces, in batches of 64.
+    /// The verdicts of all traces, 64 at a time, about three of them in each lane.
     All,
     /// The verdicts of these traces, batch by batch.
     Members(&'a str),
@@ -68,7 +70,26 @@ fn are_members(set: &TraceSet, numbers: &[u32]) -> bool
 
 // ## Whole batches
 
-// The verdict of each member in its lane, and `alone` where the trace has another one by itself.
+// The verdict of a trace in a lane, and that it is another one than alone.
+fn push_judged(
+    alloc: Global,
+    ordered: &Ordered,
+    set: &TraceSet,
+    member: u32,
+    verdict: Verdict,
+    said: &mut String,
+) -> Result<(), AllocError>
+    requires { member < length set.now.traces }
+{
+    write!(said, "{} ", set.name(member))?;
+    push_verdict(verdict, said)?;
+    if parts(verdict) != parts(eval_trace(alloc, ordered, set, member)?) {
+        said.push_str(", and not alone")?;
+    }
+    said.push('\n')
+}
+
+// The verdict of each member in its lane.
 fn push_members(
     alloc: Global,
     ordered: &Ordered,
@@ -85,18 +106,49 @@ fn push_members(
         return said.push_str("another count");
     }
     for i in 0..members.len() {
-        let verdict = done.verdicts()[i];
-        write!(said, "{} ", set.name(members[i]))?;
-        push_verdict(verdict, said)?;
-        if parts(verdict) != parts(eval_trace(alloc, ordered, set, members[i])?) {
-            said.push_str(", and not alone")?;
-        }
-        said.push('\n')?;
+        push_judged(alloc, ordered, set, members[i], done.verdicts()[i], said)?;
+    }
+    Ok(())
+}
+
+// The verdict of each member where about three of them run in each lane, one after the other.
+fn push_queue(
+    alloc: Global,
+    ordered: &Ordered,
+    program: &LaneProgram<'_>,
+    set: &TraceSet,
+    members: &[u32],
+    said: &mut String,
+) -> Result<(), AllocError>
+    requires members { All (λ k. k < length set.now.traces) members.now }
+    requires few { length members.now ≤ 64 }
+{
+    let mut verdicts = vec![in alloc; Verdict::Passed; members.len()]?;
+    let lanes = members.len() as u32 / 3 + 1;
+    let room = BatchRoom::new(alloc, program)?;
+    run_queue_in(room, program, set, members, lanes, verdicts.as_mut_slice());
+    for i in 0..members.len() {
+        push_judged(alloc, ordered, set, members[i], verdicts[i], said)?;
     }
     Ok(())
 }
 
 // The same of members that are given by number, if there are such traces.
+fn push_waiting(
+    alloc: Global,
+    ordered: &Ordered,
+    program: &LaneProgram<'_>,
+    set: &TraceSet,
+    numbers: &[u32],
+    said: &mut String,
+) -> Result<(), AllocError> {
+    if !are_members(set, numbers) {
+        return said.push_str("no members");
+    }
+    push_queue(alloc, ordered, program, set, numbers, said)
+}
+
+// The verdicts of members that are given by number, if there are such traces.
 fn push_numbers(
     alloc: Global,
     ordered: &Ordered,
@@ -111,7 +163,7 @@ fn push_numbers(
     push_members(alloc, ordered, program, set, numbers, said)
 }
 
-// The same of all traces, in batches of 64.
+// The same of all traces, 64 at a time.
 fn push_all(
     alloc: Global,
     ordered: &Ordered,
@@ -123,11 +175,11 @@ fn push_all(
     for k in 0..set.len() {
         members.push(k)?;
         if members.len() == 64 {
-            push_numbers(alloc, ordered, program, set, members.as_slice(), said)?;
+            push_waiting(alloc, ordered, program, set, members.as_slice(), said)?;
             members.clear();
         }
     }
-    push_numbers(alloc, ordered, program, set, members.as_slice(), said)
+    push_waiting(alloc, ordered, program, set, members.as_slice(), said)
 }
 
 // The numbers that a text spells.
@@ -175,7 +227,7 @@ fn lanes_at(set: &TraceSet, members: &[u32], t: u32) -> Plane
 fn have_instant(set: &TraceSet, members: &[u32], t: u32, live: Plane) -> bool
     requires members { All (λ k. k < length set.now.traces) members.now }
     requires few { length members.now ≤ 64 }
-    ensures { result ≡ true → HaveInstant set.now members.now t live.0 }
+    ensures { result ≡ true → HaveInstant set.now members.now [] t live.0 }
 {
     for i in 0..64u32 {
         if live.get(i) && (i as usize >= members.len() || t >= set.length(members[i as usize])) {

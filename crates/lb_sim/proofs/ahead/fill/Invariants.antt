@@ -6,5 +6,6 @@ use Rattle.lb_sim.proofs.ahead.fill.Given as goal
 
 abbrev pub invariant-loop-f : goal.invariant-loop-f
 invariant-loop-f l =
-    AreLoadedAhead l.at.at.set.now l.at.at.members.now l.at.at.t l.count l.at.at.live.0
-    (number_columns 0 (kinds_of l.at.at.set.now.signature)) l.places 0 (4 * l.f) l.fn.room l.room
+    AreLoadedAhead l.at.at.set.now l.at.at.members.now l.at.at.begins.now l.at.at.t l.count
+    l.at.at.live.0 (number_columns 0 (kinds_of l.at.at.set.now.signature)) l.places 0 (4 * l.f)
+    l.fn.room l.room

@@ -11,12 +11,12 @@ returns-clause-put c i k li e l =
     let promised = c.renewed-ahead.ensures in
     let here : ahead.first + (at.t - ahead.first) ≡ at.t = omega (arith, promised.begun) in
     c.take.ensures.put i
-    (λ w. member_cell at.set.now at.members.now at.t i (get_or columns w 0))
+    (λ w. member_cell at.set.now at.members.now at.begins.now at.t i (get_or columns w 0))
     (λ m lm.
     promised.ahead.cells i (at.t - ahead.first) m li (promised.lanes i li e)
     (omega (arith, here, promised.until)) lm
     ∙ ap
-    (λ t. member_cell at.set.now at.members.now t i
+    (λ t. member_cell at.set.now at.members.now at.begins.now t i
     (get_or columns (get_or c.args.places.now m 0) 0))
     here)
     k l

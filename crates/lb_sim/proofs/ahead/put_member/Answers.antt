@@ -14,7 +14,7 @@ another d i e j (inr (inr behind)) = inr (λ s. absurd (omega (arith, behind, s)
 pub loop-d-init : goal.loop-d-init
 loop-d-init c =
     let at = c.args.at.now.at in
-    instants_none at.set.now at.members.now at.t at.live.0
+    instants_none at.set.now at.members.now at.begins.now at.t at.live.0
     (number_columns 0 (kinds_of at.set.now.signature)) c.args.places.now c.args.i (c.args.i + 1)
     c.args.room.now
 
@@ -23,8 +23,8 @@ loop-d-preserved c =
     let at = c.args.at.now.at in
     let columns = number_columns 0 (kinds_of at.set.now.signature) in
     let d = c.loop-d.d in
-    instant_more at.set.now at.members.now at.t at.live.0 columns c.args.places.now d c.args.i
-    (c.args.i + 1) c.args.room.now c.loop-d.room c.put_row.new.room c.loop-d.invariant
+    instant_more at.set.now at.members.now at.begins.now at.t at.live.0 columns c.args.places.now d
+    c.args.i (c.args.i + 1) c.args.room.now c.loop-d.room c.put_row.new.room c.loop-d.invariant
     (omega (arith, c.loop-d-test.true, c.requires.few)) (omega (arith, c.requires.member, at.few))
     c.put_row.ensures.room
     (λ j k ge lt e lk.
@@ -32,7 +32,7 @@ loop-d-preserved c =
     let w = get_or c.args.places.now k 0 in
     subst
     (λ n. lane_of (get_or c.put_row.new.room (65 * k + d) []) n
-    ≡ member_cell at.set.now at.members.now (at.t + d) n (get_or columns w 0))
+    ≡ member_cell at.set.now at.members.now at.begins.now (at.t + d) n (get_or columns w 0))
     same
     (c.put_row.ensures.put k lk ∙ c.row_of.ensures.numbers w (c.requires.within k 0 lk)))
     (λ k e j le lj o. c.put_row.ensures.others k e j le lj (another d c.args.i e j o))

@@ -4,6 +4,7 @@ use Rattle.lb_check.specs.declared.verdict.Verdict.TheVariants.{Passed}
 use Rattle.lb_lanes.specs.Planes.{on}
 use Rattle.lb_lanes.proofs.OnPlanes.{on-zero}
 use Rattle.lb_machine.specs.Meaning.{lane_at}
+use Rattle.lb_sim.specs.InputRows.{instant_in}
 use Rattle.lb_sim.specs.Watching.{lane_judged}
 use Rattle.lb_sim.proofs.instant.judge.Goals as goal
 
@@ -18,5 +19,6 @@ returns-else-decided-ne0-clause-put c i h =
     sym
     (ap
     (λ b. if b
-    then lane_judged c.args.code.now.watched c.args.t (lane_at c.args.planes.now [] i)
+    then lane_judged c.args.code.now.watched (instant_in c.args.begins.now c.args.t i)
+    (lane_at c.args.planes.now [] i)
     else get_or c.args.verdicts.now i Passed) off)

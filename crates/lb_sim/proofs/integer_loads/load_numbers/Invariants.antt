@@ -6,5 +6,5 @@ use Rattle.lb_sim.proofs.integer_loads.load_numbers.Given as goal
 
 abbrev pub invariant-loop-f : goal.invariant-loop-f
 invariant-loop-f l =
-    AreLoaded l.at.set.now l.at.members.now l.at.t l.at.live.0
+    AreLoaded l.at.set.now l.at.members.now l.at.begins.now l.at.t l.at.live.0
     (number_columns 0 (kinds_of l.at.set.now.signature)) l.places 0 (4 * l.f) l.fn.words l.words

@@ -5,5 +5,5 @@ use Rattle.lb_sim.proofs.integer_loads.put_each.Given as goal
 
 abbrev pub invariant-loop-i : goal.invariant-loop-i
 invariant-loop-i l =
-    AreLoaded l.at.set.now l.at.members.now l.at.t l.at.live.0
+    AreLoaded l.at.set.now l.at.members.now l.at.begins.now l.at.t l.at.live.0
     (number_columns 0 (kinds_of l.at.set.now.signature)) l.places l.first l.i l.fn.words l.words

@@ -17,7 +17,7 @@ returns c =
           subst (λ n. w < n) c.requires.room (c.requires.within k 0 l) in
           c.put_four.ensures.put k i l ge lt
           ∙ four_are c.args.first i _ _ _ _
-          (λ m. member_cell at.set.now at.members.now at.t m (get_or columns w 0))
+          (λ m. member_cell at.set.now at.members.now at.begins.now at.t m (get_or columns w 0))
           (c.numbers_of.ensures.numbers w inside) (c.numbers_of-2.ensures.numbers w inside)
           (c.numbers_of-3.ensures.numbers w inside) (c.numbers_of-4.ensures.numbers w inside) ge lt;
       others = λ i w h o. c.put_four.ensures.others w i h o;

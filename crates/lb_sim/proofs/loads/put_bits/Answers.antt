@@ -32,7 +32,7 @@ returns c =
           omega (arith, product, under, c.bits_of.ensures.words) in
           subst
           (λ n. on (get_or c.put_words.new.rows (72 * (d * width + g) + n) 0) k
-          ≡ int_le (pos 1) (member_cell at.set.now at.members.now (at.t + d) n
+          ≡ int_le (pos 1) (member_cell at.set.now at.members.now at.begins.now (at.t + d) n
           (get_or columns (64 * g + k) 0)))
           same
           (ap (λ w. on w k) (c.put_words.ensures.put (d * width + g) inside)

@@ -7,13 +7,13 @@ use Rattle.lb_sim.proofs.loads.put_each.Goals as goal
 pub loop-i-init : goal.loop-i-init
 loop-i-init c =
     let at = c.args.at.now in
-    truths_none at.set.now at.members.now at.t at.live.0
+    truths_none at.set.now at.members.now at.begins.now at.t at.live.0
     (truth_columns 0 (kinds_of at.set.now.signature)) c.args.count c.args.first c.args.rows.now
 
 pub loop-i-preserved : goal.loop-i-preserved
 loop-i-preserved c =
     let at = c.args.at.now in
-    truths_then at.set.now at.members.now at.t at.live.0
+    truths_then at.set.now at.members.now at.begins.now at.t at.live.0
     (truth_columns 0 (kinds_of at.set.now.signature)) c.args.count c.args.first c.loop-i.i
     (c.loop-i.i + 1) _ _ _ (omega arith) (omega arith)
     (omega (arith, at.few, c.loop-i-test.true, c.requires.members)) c.loop-i.invariant

@@ -1,12 +1,14 @@
 use Rattle.std.proofs.Common.{◌≡◌, ◌+◌, ◌<◌, ℕ, List, [], get_or, length, sym, ap, ap₂, ◌∙◌, arith}
-use Rattle.std.proofs.Common.{rules, subst}
+use Rattle.std.proofs.Common.{replicate, rules, subst}
 use Rattle.std.proofs.lemmas.List.{with_items_is, places}
 use Rattle.std.proofs.lemmas.List.FromFn.{get_or-range_with_len, length-range_with_len}
 use Rattle.std.specs.List.{range_with_len}
 use Rattle.lb_static.specs.Signature.{kinds_of}
+use Rattle.lb_flat.specs.Inputs.{inputs_of}
+use Rattle.lb_flat.specs.Traces.{cell_at}
 use Rattle.lb_lanes.specs.Kernels.{lane_of}
-use Rattle.lb_sim.specs.InputRows.{truth_columns, number_columns, lane_row, member_cell}
-use Rattle.lb_sim.proofs.RowsLoaded.{row_loaded}
+use Rattle.lb_sim.specs.InputRows.{truth_columns, number_columns, lane_row, instant_in}
+use Rattle.lb_sim.proofs.RowsLoaded.{amid_from_start, instant_from_start, row_loaded}
 use Rattle.lb_sim.proofs.inputs.Inputs.load.Goals as goal
 
 number_at : (n k : ℕ) → k < n → get_or (range_with_len 0 n) k 0 ≡ k
@@ -48,19 +50,26 @@ load_numbers-requires-clause-room c =
     same ∙ x.words_room ∙ x.columns.all_numbers
     ∙ ap (λ kinds. length (number_columns 0 kinds)) (sym c.requires.kinds)
 
+-- each lane began with the batch
+pub invariant_of-at-clause-there : goal.invariant_of-at-clause-there
+invariant_of-at-clause-there c i h e =
+    amid_from_start c.args.set.now c.args.members.now 64 c.args.t i h (c.requires.live i h e)
+
 pub returns-clause-rows : goal.returns-clause-rows
 returns-clause-rows c i h e =
     let x = c.args.self.now in
     let set = c.args.set.now in
-    let members = c.args.members.now in
+    let member = get_or c.args.members.now i 0 in
     let there = c.requires.live i h e in
+    let s = instant_in (replicate 64 0) c.args.t i in
+    let same : s ≡ c.args.t = instant_from_start 64 c.args.t i h in
     let planes_are = with_items_is x.planes c.load_truths.new.planes (search (rules, places)) in
     let words_are = with_items_is x.words c.load_numbers.new.words (search (rules, places)) in
     ap₂ (λ ps ws. lane_row x.columns.kinds.items ps ws i) planes_are words_are
-    ∙ row_loaded set members c.args.t i x.columns.kinds.items _ _ _ _
-    c.signature.ensures.lawful c.requires.kinds (ap (truth_columns 0) c.requires.kinds)
-    (ap (number_columns 0) c.requires.kinds)
-    (c.requires.members i 0 there.0) there.1 (λ b l. c.load_truths.ensures.put i b h e l)
+    ∙ row_loaded set member s i x.columns.kinds.items _ _ _ _ c.signature.ensures.lawful
+    c.requires.kinds (ap (truth_columns 0) c.requires.kinds)
+    (ap (number_columns 0) c.requires.kinds) (c.requires.members i 0 there.member)
+    (omega (arith, same, there.there)) (λ b l. c.load_truths.ensures.put i b h e l)
     (λ w l.
     let is = c.as_slice-places.ensures.value ∙ x.columns.in_order in
     let below : w < x.columns.numbers =
@@ -77,6 +86,7 @@ returns-clause-rows c i h e =
     subst
     (λ n.
     lane_of (get_or c.load_numbers.new.words n []) i
-    ≡ member_cell set members c.args.t i
+    ≡ cell_at set.traces member s
     (get_or (number_columns 0 (kinds_of set.signature)) n 0))
     at (c.load_numbers.ensures.put i w h e long))
+    ∙ ap (λ n. get_or (inputs_of set member) n []) same
